@@ -1,0 +1,5 @@
+pub mod Reading
+pub mod PointLemmas
+pub mod DirectionLemmas
+pub mod Ring
+pub mod KnownWrites

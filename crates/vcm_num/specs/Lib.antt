@@ -1,0 +1,6 @@
+pub mod Number
+pub mod Literals
+pub mod Texts
+pub mod Point
+pub mod Axis
+pub mod Written

@@ -1,0 +1,24 @@
+//! Numbers, points and directions: the vocabulary of a coordinate measuring machine. Lengths are whole micrometres.
+#![tactic(auto)]
+
+mod arith;
+mod axis;
+mod memory;
+mod number;
+mod point;
+mod read;
+mod text;
+mod writing;
+
+pub use arith::{add, div, mul, neg, scale, sub};
+pub use axis::Axis;
+pub use memory::{NoMemory, WriteFault};
+pub use number::{Fault, Kind, Literal};
+pub use point::Point;
+pub use read::{NumFault, read_number};
+pub use sqlite_items::Items;
+pub use text::{Text, int_text, thousandths_text, write_int, write_thousandths};
+pub use writing::{write_all, write_pieces};
+
+#[cfg(test)]
+mod tests;
