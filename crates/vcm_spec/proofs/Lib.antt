@@ -1,0 +1,15 @@
+pub mod Postfix
+pub mod Steps
+pub mod Stops
+pub mod Frames
+pub mod Fractions
+pub mod FirstOf
+pub mod Starts
+pub mod Entries
+pub mod Contacts
+pub mod Touches
+pub mod Unique
+pub mod PhaseLemmas
+pub mod TouchUnique
+pub mod Turns
+pub mod FramesStay
