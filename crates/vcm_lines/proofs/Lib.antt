@@ -1,0 +1,10 @@
+pub mod PieceLemmas
+pub mod Scanning
+pub mod WordLemmas
+pub mod Cutting
+pub mod Joining
+pub mod Reading
+pub mod PieceLaw
+pub mod OneReading
+pub mod CutLemmas
+pub mod CutLaws

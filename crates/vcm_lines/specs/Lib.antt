@@ -1,0 +1,10 @@
+pub mod Fault
+pub mod Bytes
+pub mod Pieces
+pub mod Words
+pub mod Statements
+pub mod Taking
+pub mod Holding
+pub mod Laws
+pub mod Lexemes
+pub mod Cuts

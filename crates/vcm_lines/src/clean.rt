@@ -1,0 +1,122 @@
+//! What a line gives its statement.
+
+ghost use Rattle.std.specs.Prelude.{◌≡◌, IfOk, IfErr, OnOk, ◌≤◌, ◌++◌, true, ◌==◌, length};
+ghost use Rattle.std.specs.List.{list_all, position};
+ghost use Rattle.vcm_lines.specs.Fault.{NoMemoryOr};
+ghost use Rattle.vcm_lines.specs.Bytes.{is_plain, is_inner, is_blank, upper};
+ghost use Rattle.vcm_lines.specs.Pieces.{text_of, continues, pieces_from};
+ghost use Rattle.vcm_lines.specs.Taking.{TakesPiece, BreaksFirst};
+ghost use Rattle.vcm_lines.specs.Statements.{BreaksLine};
+ghost use Rattle.vcm_lines.specs.declared.fault.FaultCode.{FaultCode};
+
+use crate::fault::{FaultCode, SourceFault};
+
+/// Whether a byte may stand outside texts and comments.
+fn is_plain(b: u8) -> bool
+    ensures { result ≡ is_plain b }
+{
+    matches!(b, b' '..=b'~' | b'\t')
+}
+
+/// Whether a byte may stand in a text or a comment.
+fn is_inner(b: u8) -> bool
+    ensures { result ≡ is_inner b }
+{
+    is_plain(b) || b >= 128
+}
+
+/// Whether a byte falls away outside texts.
+fn is_blank(b: u8) -> bool
+    ensures { result ≡ is_blank b }
+{
+    b == b' ' || b == b'\t'
+}
+
+/// A letter in upper case.
+fn upper(b: u8) -> u8
+    ensures { result ≡ upper b }
+{
+    b.to_ascii_uppercase()
+}
+
+/// Whether all bytes may stand in a text or a comment.
+fn all_inner(bytes: &[u8]) -> bool
+    ensures { result ≡ list_all is_inner bytes.now }
+{
+    bytes.iter().all(|b| is_inner(*b))
+}
+
+/// Where the text ends that `after` is in: its apostrophe.
+fn text_end(after: &[u8]) -> Option<usize>
+    ensures { result ≡ position (λ b. b == 39) after.now }
+{
+    after.iter().position(|b| *b == b'\'')
+}
+
+/// Adds the text that stands before `after`'s first apostrophe to the statement, with its apostrophes, and gives what stands behind it.
+fn take_text<'a>(kept: &mut Vec<u8>, after: &'a [u8], number: u32) -> Result<&'a [u8], SourceFault>
+    ensures shorter { IfOk result (λ left. length left.now ≤ length after.now) }
+    ensures taken { IfOk result (λ left. TakesPiece (pieces_from true after.now) kept.old.items kept.new.items left.now) }
+    ensures fault { IfErr result (NoMemoryOr (λ f. (f.line ≡ number) × BreaksFirst (pieces_from true after.now) f.code)) }
+{
+    let Some(end) = text_end(after) else {
+        return Err(SourceFault {
+            code: FaultCode::BadSyntax,
+            line: number,
+        });
+    };
+    let text = &after[..end];
+    if !all_inner(text) {
+        return Err(SourceFault {
+            code: FaultCode::BadByte,
+            line: number,
+        });
+    }
+    kept.push(b'\'')?;
+    kept.extend_from_slice(text)?;
+    kept.push(b'\'')?;
+    Ok(&after[end + 1..])
+}
+
+/// Adds the bytes of a line to its statement, and says whether the line goes on. `number` is the line's. The leftmost fault of the line is told.
+pub(crate) fn read_line(kept: &mut Vec<u8>, line: &[u8], number: u32) -> Result<bool, SourceFault>
+    ensures unbroken { OnOk result ((code : FaultCode) → BreaksLine line.now code → ⊥) }
+    ensures text { OnOk result (kept.new.items ≡ kept.old.items ++ text_of line.now) }
+    ensures goes_on { IfOk result (λ c. c ≡ continues line.now) }
+    ensures fault { IfErr result (NoMemoryOr (λ f. (f.line ≡ number) × BreaksLine line.now f.code)) }
+{
+    let bad_byte = SourceFault {
+        code: FaultCode::BadByte,
+        line: number,
+    };
+    let bad_syntax = SourceFault {
+        code: FaultCode::BadSyntax,
+        line: number,
+    };
+    let mut continued = false;
+    let mut rest = line;
+    'pieces: while let [first, after @ ..] = rest {
+        let byte = *first;
+        if is_blank(byte) {
+            rest = after;
+        } else if rest.starts_with(b"$$") {
+            if !all_inner(&rest[2..]) {
+                return Err(bad_byte);
+            }
+            rest = &[];
+        } else if continued {
+            return Err(bad_syntax);
+        } else if byte == b'$' {
+            continued = true;
+            rest = after;
+        } else if byte == b'\'' {
+            rest = take_text(kept, after, number)?;
+        } else if is_plain(byte) {
+            kept.push(upper(byte))?;
+            rest = after;
+        } else {
+            return Err(bad_byte);
+        }
+    }
+    Ok(continued)
+}

@@ -1,0 +1,19 @@
+//! Cuts a program's text into statements: comments, blanks and empty lines fall away, lines that end in a dollar are joined with the next,
+//! and each statement is cut into words.
+#![tactic(auto)]
+
+mod clean;
+mod fault;
+pub mod laws;
+mod lines;
+mod logical;
+mod phrase;
+mod words;
+
+pub use fault::{FaultCode, SourceFault};
+pub use lines::logical_lines;
+pub use logical::{Lines, Logical, Text, Word, WordKind, Words};
+pub use phrase::{Cutter, Phrase, Token, cuts_are_whole};
+
+#[cfg(test)]
+mod tests;

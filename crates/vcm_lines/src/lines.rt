@@ -1,0 +1,188 @@
+//! The statements of a text.
+
+ghost use Rattle.std.specs.Prelude.{◌≡◌, ◌<◌, ◌∷◌, ◌==◌, length, IfOk, IfErr};
+ghost use Rattle.std.specs.List.{position};
+ghost use Rattle.std.specs.Option.{option_map_or};
+ghost use Rattle.std.specs.Str.Lines.{lines, strip_carriage_return};
+ghost use Rattle.vcm_lines.specs.Fault.{NoMemoryOr};
+ghost use Rattle.vcm_spec.specs.Phase.{IsClean, FirstFault};
+ghost use Rattle.vcm_lines.specs.Statements.{lines_of, rows_of, joined, AreLogical, Breaks, told_line};
+
+use crate::clean::read_line;
+use crate::fault::{FaultCode, SourceFault};
+use crate::logical::{Lines, Logical, Text};
+use crate::words::words_of;
+use std::alloc::{AllocError, Global};
+
+/// The most bytes of a line, without its ending.
+const MAX_LINE: usize = 1024;
+
+/// The most bytes of a statement.
+const MAX_STATEMENT: usize = 4096;
+
+/// The most lines of a text.
+const MAX_LINES: u32 = 20_000;
+
+/// A line without the carriage return of its ending.
+fn without_return(line: &[u8]) -> &[u8]
+    ensures { result.now ≡ strip_carriage_return line.now }
+{
+    match line {
+        [front @ .., b'\r'] => front,
+        _ => line,
+    }
+}
+
+/// Where the first line feed stands.
+fn newline(text: &[u8]) -> Option<usize>
+    ensures { result ≡ position (λ b. b == 10) text.now }
+{
+    text.iter().position(|b| *b == b'\n')
+}
+
+/// The first line, and what stands behind its ending.
+fn first_line(text: &[u8]) -> (&[u8], &[u8])
+    requires { 0 < length text.now }
+    ensures cut { lines text.now ≡ result.0.now ∷ lines result.1.now }
+    ensures shorter { length result.1.now < length text.now }
+{
+    match newline(text) {
+        None => (text, &[]),
+        Some(end) => (without_return(&text[..end]), &text[end + 1..]),
+    }
+}
+
+/// A text without its byte order mark.
+fn without_mark(text: &[u8]) -> &[u8]
+    ensures { lines result.now ≡ lines_of text.now }
+{
+    if text.starts_with(&[0xEF, 0xBB, 0xBF]) {
+        &text[3..]
+    } else {
+        text
+    }
+}
+
+/// The first line of a span, or this line where there is none yet.
+fn first_or(span: Option<(u32, u32)>, line: u32) -> u32
+    ensures { result ≡ option_map_or (λ s. s.0) span line }
+{
+    span.map_or(line, |span| span.0)
+}
+
+/// A statement that the lines so far begin.
+#[derive(Drop)]
+struct Unfinished {
+    bytes: Vec<u8>,
+    /// The line of each byte.
+    lines: Vec<u32>,
+    /// The first line and the last one, where there is a line.
+    span: Option<(u32, u32)>,
+}
+
+impl Unfinished {
+    ghost use Rattle.std.specs.Prelude.{◌≡◌, ◌≤◌, ◌<◌, ◌⊎◌, ◌++◌, ◌∷◌, [], List, length, IsTrue, true, false, not, ◌&&◌, OnOk, IfOk, IfErr, MatchOption};
+    ghost use Rattle.vcm_lines.specs.Pieces.{text_of, continues};
+    ghost use Rattle.vcm_lines.specs.Statements.{Row, row_of, is_empty, IsLogical, BreaksLine};
+    ghost use Rattle.vcm_lines.specs.Holding.{Holds};
+    ghost use Rattle.vcm_lines.specs.declared.fault.FaultCode.{FaultCode};
+
+    fn new(alloc: Global) -> Self
+        ensures { Holds result [] }
+    {
+        Unfinished {
+            bytes: Vec::new(alloc),
+            lines: Vec::new(alloc),
+            span: None,
+        }
+    }
+
+    /// Adds a line, and says whether the statement ends with it. A line that is empty adds nothing.
+    fn add(&mut self, line: &[u8], number: u32) -> Result<bool, SourceFault>
+        ensures unbroken { OnOk result ((code : FaultCode) → BreaksLine line.now code → ⊥) }
+        ensures short { OnOk result (length (self.old.bytes.items ++ text_of line.now) ≤ MAX_STATEMENT) }
+        ensures ends { IfOk result (λ e. e ≡ (not (continues line.now) && not (is_empty line.now))) }
+        ensures empty { OnOk result ((rows : List Row) → is_empty line.now ≡ true → Holds self.old rows → Holds self.new rows) }
+        ensures row { OnOk result ((rows : List Row) → is_empty line.now ≡ false → Holds self.old rows → Holds self.new (rows ++ row_of number line.now ∷ [])) }
+        ensures fault { IfErr result (NoMemoryOr (λ f. (f.line ≡ number) × (BreaksLine line.now f.code
+            ⊎ ((f.code ≡ FaultCode.LineTooLong) × (MAX_STATEMENT < length (self.old.bytes.items ++ text_of line.now)))))) }
+    {
+        let had = self.bytes.len();
+        let goes_on = read_line(&mut self.bytes, line, number)?;
+        let len = self.bytes.len();
+        if len > MAX_STATEMENT {
+            return Err(SourceFault {
+                code: FaultCode::LineTooLong,
+                line: number,
+            });
+        }
+        if !goes_on && len == had {
+            return Ok(false);
+        }
+        self.lines.resize(len, number)?;
+        self.span = Some((first_or(self.span, number), number));
+        Ok(!goes_on)
+    }
+
+    /// The statement, if there is a line.
+    fn finish(self, alloc: Global) -> Result<Option<Logical>, AllocError>
+        requires { length self.lines.items ≡ length self.bytes.items }
+        ensures { IfOk result (λ found. (rows : List Row) → Holds self rows → MatchOption found (rows ≡ []) (IsLogical rows)) }
+    {
+        let Some((line, _)) = self.span else {
+            return Ok(None);
+        };
+        let words = words_of(alloc, &self.bytes, &self.lines)?;
+        let text = Text { bytes: self.bytes };
+        Ok(Some(Logical { line, text, words }))
+    }
+}
+
+/// The statements of a text, in order.
+///
+/// # Errors
+///
+/// The first line with a fault is told, and of several faults in one line the leftmost: more than 20,000 lines; a line of more than 1,024
+/// bytes, its ending left out; a byte that may not stand where it does; a text that isn't closed, and a single dollar that isn't last on its
+/// line (bad syntax); then a statement of more than 4,096 bytes. At the end of the text it is a last line that goes on. Want of memory has
+/// line 0.
+pub fn logical_lines(alloc: Global, text: &[u8]) -> Result<Lines, SourceFault>
+    ensures unbroken { IfOk result (λ _. IsClean Breaks (lines_of text.now)) }
+    ensures statements { IfOk result (AreLogical (joined (rows_of (lines_of text.now)))) }
+    ensures fault { IfErr result (NoMemoryOr (λ f. FirstFault Breaks told_line (lines_of text.now) f.code f.line)) }
+{
+    let mut items = Vec::new(alloc);
+    let mut statement = Unfinished::new(alloc);
+    let mut number = 0;
+    let mut rest = without_mark(text);
+    'lines: while !rest.is_empty() {
+        let (line, after) = first_line(rest);
+        if number >= MAX_LINES {
+            return Err(SourceFault {
+                code: FaultCode::TooManyLines,
+                line: number + 1,
+            });
+        }
+        number += 1;
+        if line.len() > MAX_LINE {
+            return Err(SourceFault {
+                code: FaultCode::LineTooLong,
+                line: number,
+            });
+        }
+        if statement.add(line, number)? {
+            if let Some(logical) = statement.finish(alloc)? {
+                items.push(logical)?;
+            }
+            statement = Unfinished::new(alloc);
+        }
+        rest = after;
+    }
+    match statement.span {
+        None => Ok(Lines { items }),
+        Some((_, last)) => Err(SourceFault {
+            code: FaultCode::DanglingContinuation,
+            line: last,
+        }),
+    }
+}

@@ -1,0 +1,115 @@
+//! A statement before it is parsed: its bytes and its words.
+
+ghost use Rattle.std.specs.Prelude.{◌≡◌};
+
+use std::marker::Model;
+
+/// What a word is made of.
+#[derive(Clone, Copy, Debug, PartialEq, Eq)]
+pub enum WordKind {
+    /// Letters, digits and underscores; digits alone too.
+    Run,
+    /// Digits with a point before, between or behind them.
+    Number,
+    /// A point, letters, and the point behind them if there is one.
+    Dotted,
+    /// A text with its apostrophes.
+    Quoted,
+    /// Any other byte, alone.
+    Mark,
+}
+
+/// A word of a statement: its bytes are those of the statement's text from `start` to before `end`.
+#[derive(Clone, Copy, Debug, PartialEq, Eq)]
+pub struct Word {
+    /// Where its first byte stands in the statement's text, from 0 on.
+    pub start: usize,
+    /// Where its last byte has been passed.
+    pub end: usize,
+    /// The line of its first byte, from 1 on.
+    pub line: u32,
+    /// What it is made of.
+    pub kind: WordKind,
+}
+
+/// The bytes of a statement: without blanks and comments, its letters in upper case but for those in texts.
+#[derive(Debug, Drop)]
+pub struct Text {
+    pub(crate) bytes: Vec<u8>,
+}
+
+impl Model for Text {
+    ghost use Rattle.std.specs.Prelude.{List, ℕ};
+
+    ghost Value = { List ℕ };
+
+    ghost view = { λ t. t.bytes.items };
+}
+
+impl Text {
+    /// The bytes as a slice.
+    pub fn as_bytes(&self) -> &[u8]
+        ensures { result.now ≡ self.now }
+    {
+        &self.bytes
+    }
+}
+
+/// The words of a statement, in order.
+#[derive(Debug, Drop)]
+pub struct Words {
+    pub(crate) items: Vec<Word>,
+}
+
+impl Model for Words {
+    ghost use Rattle.std.specs.Prelude.{List};
+    ghost use Rattle.vcm_lines.specs.declared.logical.Word.{Word};
+
+    ghost Value = { List Word };
+
+    ghost view = { λ w. w.items.items };
+}
+
+impl Words {
+    /// The words as a slice.
+    pub fn as_slice(&self) -> &[Word]
+        ensures { result.now ≡ self.now }
+    {
+        &self.items
+    }
+}
+
+/// A statement before it is parsed.
+#[derive(Debug, Drop)]
+pub struct Logical {
+    /// The line that it begins on, from 1 on.
+    pub line: u32,
+    /// Its bytes.
+    pub text: Text,
+    /// Its words, which are all of its bytes.
+    pub words: Words,
+}
+
+/// The statements of a text, in order.
+#[derive(Debug, Drop)]
+pub struct Lines {
+    pub(crate) items: Vec<Logical>,
+}
+
+impl Model for Lines {
+    ghost use Rattle.std.specs.Prelude.{List};
+    ghost use Rattle.vcm_lines.specs.declared.logical.Logical.{Logical};
+
+    ghost Value = { List Logical };
+
+    ghost view = { λ l. l.items.items };
+}
+
+impl Lines {
+    /// The statements as a slice.
+    pub fn as_slice(&self) -> &[Logical]
+        ensures { result.now ≡ self.now }
+    {
+        &self.items
+    }
+}

@@ -1,0 +1,284 @@
+//! Words that stand side by side.
+
+ghost use Rattle.std.specs.Prelude.{◌≡◌, ◌∷◌, ◌++◌, [], List, false, IfOk, MatchOption};
+ghost use Rattle.std.specs.List.{position, list_all, list_any};
+ghost use Rattle.std.specs.Str.{bytes_eq};
+ghost use Rattle.vcm_lines.specs.declared.phrase.Cutter.{Cutter};
+ghost use Rattle.vcm_lines.specs.Cuts.{cuts, before, after, fields_of, last_of, front_of, uncut, joined, has_cut};
+ghost use Rattle.vcm_lines.specs.Lexemes.{Lexeme, lexemes, lexeme, word_bytes, unquoted, word_lexeme, mark_of, mark_in, is_relation, is_logical, is_spelled};
+
+use crate::logical::{Logical, Text, Word, WordKind};
+use std::alloc::{AllocError, Global};
+use std::marker::Model;
+
+/// A word of a statement.
+#[derive(Clone, Copy, Debug)]
+pub enum Token<'a> {
+    /// Letters, digits and underscores.
+    Run(&'a [u8]),
+    /// Digits with a point.
+    Number(&'a [u8]),
+    /// A point and letters, and the point behind them if there is one.
+    Dotted(&'a [u8]),
+    /// What stands between the apostrophes of a text.
+    Quoted(&'a [u8]),
+    Slash,
+    Comma,
+    Equals,
+    Open,
+    Close,
+    Plus,
+    Minus,
+    Star,
+    /// Any other mark.
+    Other,
+}
+
+fn is(bytes: &[u8], word: &[u8]) -> bool
+    ensures { result ≡ bytes_eq bytes.now word.now }
+{
+    bytes == word
+}
+
+fn is_relation(bytes: &[u8]) -> bool
+    ensures { result ≡ is_relation bytes.now }
+{
+    is(bytes, b".EQ.")
+        || is(bytes, b".NE.")
+        || is(bytes, b".LT.")
+        || is(bytes, b".LE.")
+        || is(bytes, b".GT.")
+        || is(bytes, b".GE.")
+}
+
+fn is_logical(bytes: &[u8]) -> bool
+    ensures { result ≡ is_logical bytes.now }
+{
+    is(bytes, b".NOT.")
+        || is(bytes, b".AND.")
+        || is(bytes, b".OR.")
+        || is(bytes, b".TRUE.")
+        || is(bytes, b".FALSE.")
+}
+
+impl<'a> Token<'a> {
+    /// Whether the word, if it is a dotted one, is a relation, a logical operator or a logical constant.
+    pub fn is_spelled(self) -> bool
+        ensures { result ≡ is_spelled (lexeme self.entry) }
+    {
+        match self {
+            Token::Dotted(bytes) => is_relation(bytes) || is_logical(bytes),
+            _ => true,
+        }
+    }
+}
+
+impl Text {
+    /// A text of these bytes.
+    ///
+    /// # Errors
+    /// Out of memory.
+    pub fn copied(alloc: Global, bytes: &[u8]) -> Result<Text, AllocError>
+        ensures { IfOk result (λ t. t ≡ bytes.now) }
+    {
+        let mut kept = Vec::new(alloc);
+        kept.extend_from_slice(bytes)?;
+        Ok(Text { bytes: kept })
+    }
+}
+
+fn bytes_of(text: &[u8], word: Word) -> &[u8]
+    ensures { result.now ≡ word_bytes text.now word }
+{
+    if word.start <= word.end && word.end <= text.len() {
+        &text[word.start..word.end]
+    } else {
+        &[]
+    }
+}
+
+fn unquoted(bytes: &[u8]) -> &[u8]
+    ensures { result.now ≡ unquoted bytes.now }
+{
+    if bytes.len() >= 2 {
+        &bytes[1..bytes.len() - 1]
+    } else {
+        &[]
+    }
+}
+
+fn mark_of<'a>(byte: u8) -> Token<'a>
+    ensures { lexeme result ≡ mark_of byte }
+{
+    if byte == b'/' {
+        Token::Slash
+    } else if byte == b',' {
+        Token::Comma
+    } else if byte == b'=' {
+        Token::Equals
+    } else if byte == b'(' {
+        Token::Open
+    } else if byte == b')' {
+        Token::Close
+    } else if byte == b'+' {
+        Token::Plus
+    } else if byte == b'-' {
+        Token::Minus
+    } else if byte == b'*' {
+        Token::Star
+    } else {
+        Token::Other
+    }
+}
+
+fn mark_in(bytes: &[u8]) -> Token<'_>
+    ensures { lexeme result ≡ mark_in bytes.now }
+{
+    match bytes.first() {
+        None => Token::Other,
+        Some(byte) => mark_of(*byte),
+    }
+}
+
+fn token_of(text: &[u8], word: Word) -> Token<'_>
+    ensures { lexeme result ≡ word_lexeme text.now word }
+{
+    let bytes = bytes_of(text, word);
+    match word.kind {
+        WordKind::Run => Token::Run(bytes),
+        WordKind::Number => Token::Number(bytes),
+        WordKind::Quoted => Token::Quoted(unquoted(bytes)),
+        WordKind::Dotted => Token::Dotted(bytes),
+        WordKind::Mark => mark_in(bytes),
+    }
+}
+
+/// What words are cut at.
+#[derive(Clone, Copy)]
+pub enum Cutter {
+    AtSlash,
+    AtComma,
+}
+
+fn cuts(text: &[u8], cutter: Cutter, word: Word) -> bool
+    ensures { result ≡ cuts cutter (word_lexeme text.now word) }
+{
+    match cutter {
+        Cutter::AtSlash => matches!(token_of(text, word), Token::Slash),
+        Cutter::AtComma => matches!(token_of(text, word), Token::Comma),
+    }
+}
+
+fn find(text: &[u8], cutter: Cutter, words: &[Word]) -> Option<usize>
+    ensures { result ≡ position (λ w. cuts cutter (word_lexeme text.now w)) words.now }
+{
+    words.iter().position(|word| cuts(text, cutter, *word))
+}
+
+fn all_spelled(text: &[u8], words: &[Word]) -> bool
+    ensures { result ≡ list_all (λ w. is_spelled (word_lexeme text.now w)) words.now }
+{
+    words.iter().all(|word| token_of(text, *word).is_spelled())
+}
+
+/// Words that stand side by side in a statement. A contract sees them as the list of what they say.
+#[derive(Drop)]
+pub struct Phrase<'a> {
+    text: &'a [u8],
+    words: &'a [Word],
+}
+
+impl<'a> Model for Phrase<'a> {
+    ghost use Rattle.std.specs.Prelude.{List};
+    ghost use Rattle.vcm_lines.specs.Lexemes.{Lexeme, lexemes};
+
+    ghost Value = { List Lexeme };
+
+    ghost view = { λ p. lexemes p.text.now p.words.now };
+}
+
+impl<'a> Phrase<'a> {
+    /// The words of a statement.
+    pub fn of(logical: &'a Logical) -> Phrase<'a>
+        ensures { result ≡ lexemes logical.now.text logical.now.words }
+    {
+        Phrase {
+            text: logical.text.as_bytes(),
+            words: logical.words.as_slice(),
+        }
+    }
+
+    /// Whether each dotted word is a relation, a logical operator or a logical constant.
+    pub fn is_spelled(&self) -> bool
+        ensures { result ≡ list_all is_spelled self.now }
+    {
+        all_spelled(self.text, self.words)
+    }
+
+    /// The first word, and those after it.
+    pub fn split_first(&self) -> Option<(Token<'a>, Phrase<'a>)>
+        ensures { MatchOption result (self.now ≡ []) (λ r. self.now ≡ lexeme r.0 ∷ r.1) }
+    {
+        let text = self.text;
+        match self.words.split_first() {
+            None => None,
+            Some((word, words)) => Some((token_of(text, *word), Phrase { text, words })),
+        }
+    }
+
+    /// The words before the last one, and that one.
+    pub fn split_last(&self) -> Option<(Phrase<'a>, Token<'a>)>
+        ensures { MatchOption result (self.now ≡ []) (λ r. (front_of self.now ≡ r.0) × (last_of self.now ≡ lexeme r.1)) }
+    {
+        let text = self.text;
+        match self.words.split_last() {
+            None => None,
+            Some((word, words)) => Some((Phrase { text, words }, token_of(text, *word))),
+        }
+    }
+
+    /// The words before the last one, and that one; where there is none, no words and another mark.
+    pub fn ends(&self) -> (Phrase<'a>, Token<'a>)
+        ensures front { result.0 ≡ front_of self.now }
+        ensures last { lexeme result.1 ≡ last_of self.now }
+    {
+        let text = self.text;
+        match self.split_last() {
+            Some(ends) => ends,
+            None => (Phrase { text, words: &[] }, Token::Other),
+        }
+    }
+
+    /// The words before the first mark of this kind, and those after it.
+    pub fn cut_at(&self, cutter: Cutter) -> (Phrase<'a>, Option<Phrase<'a>>)
+        ensures front { result.0 ≡ before cutter self.now }
+        ensures rest { result.1 ≡ after cutter self.now }
+    {
+        let text = self.text;
+        let words = self.words;
+        match find(text, cutter, words) {
+            None => (Phrase { text, words }, None),
+            Some(place) => {
+                let front = Phrase {
+                    text,
+                    words: &words[..place],
+                };
+                let rest = Phrase {
+                    text,
+                    words: &words[place + 1..],
+                };
+                (front, Some(rest))
+            }
+        }
+    }
+}
+
+/// The words before and after a mark, and the fields between commas, are what the words are cut into: put together they are the words
+/// again, and no part has a mark that they are cut at. So are the last word and those before it.
+pub fn cuts_are_whole()
+    ensures parts { (m : Cutter) (ws : List Lexeme) → uncut m (before m ws) (after m ws) ≡ ws }
+    ensures first { (m : Cutter) (ws : List Lexeme) → has_cut m (before m ws) ≡ false }
+    ensures fields { (ws : List Lexeme) → joined (fields_of ws) ≡ ws }
+    ensures each { (ws : List Lexeme) → list_any (has_cut Cutter.AtComma) (fields_of ws) ≡ false }
+    ensures ends { (w : Lexeme) (ws : List Lexeme) → front_of (w ∷ ws) ++ last_of (w ∷ ws) ∷ [] ≡ w ∷ ws }
+{}
