@@ -1,0 +1,126 @@
+-- The form of each statement: what its words say, and the rules that they break. A statement's words are what stands before the last
+-- word of its head, that word, and the fields between commas after the slash.
+use Rattle.std.specs.Prelude.{◌≡◌, ◌⊎◌, ℕ, codes, List, [], ◌∷◌}
+use Rattle.vcm_lines.specs.declared.fault.FaultCode.{FaultCode}
+use Rattle.vcm_lines.specs.declared.fault.FaultCode.TheVariants.{BadSyntax}
+use Rattle.vcm_lines.specs.Lexemes.{Lexeme}
+use Rattle.vcm_syntax.specs.declared.statement.Major.{Major}
+use Rattle.vcm_syntax.specs.declared.statement.Major.TheVariants.{Dmismn, Units, Goto, Text, Endfil, Passed}
+use Rattle.vcm_syntax.specs.declared.statement.Notice.{Notice}
+use Rattle.vcm_syntax.specs.declared.statement.Notice.TheVariants.{Snsdef, Vform}
+use Rattle.vcm_syntax.specs.declared.statement.Spot.{Spot}
+use Rattle.vcm_syntax.specs.declared.statement.Form.{Form}
+use Rattle.vcm_syntax.specs.declared.statement.Form.TheVariants.{Opening, Measures, Ignored, Move, Say, Ending}
+use Rattle.vcm_syntax.specs.Places.{IsBare, BreaksBare, IsWord, BreaksWord, BreaksOffered, IsSingle, BreaksSingle, IsText, BreaksText, IsRest, BreaksRest, IsEnd, BreaksEnd, IsTitle, BreaksTitle, IsLength, BreaksLength}
+
+-- DMISMN/'text'[,..]
+abbrev pub IsDmismn : List Lexeme → List (List Lexeme) → Form → Type 0
+IsDmismn front (t ∷ more) Opening = IsBare front × ((name : List ℕ) × IsText t name) × IsRest more
+IsDmismn front _ _ = ⊥
+
+abbrev pub BreaksDmismn : List Lexeme → List (List Lexeme) → FaultCode → Type 0
+BreaksDmismn front (t ∷ more) code = BreaksBare front code ⊎ (BreaksText t code ⊎ BreaksRest more code)
+BreaksDmismn front [] code = BreaksBare front code ⊎ (code ≡ BadSyntax)
+
+-- MM,ANGDEC
+abbrev pub IsMetric : List Lexeme → List Lexeme → Type 0
+IsMetric unit angle = IsWord (codes "MM") unit × IsWord (codes "ANGDEC") angle
+
+abbrev pub BreaksMetric : List Lexeme → List Lexeme → FaultCode → Type 0
+BreaksMetric unit angle code = BreaksOffered (codes "MM") unit code ⊎ BreaksOffered (codes "ANGDEC") angle code
+
+-- UNITS/MM,ANGDEC[,word]
+abbrev pub IsUnits : List Lexeme → List (List Lexeme) → Form → Type 0
+IsUnits front (u ∷ a ∷ []) Measures = IsBare front × IsMetric u a
+IsUnits front (u ∷ a ∷ w ∷ more) Measures = IsBare front × IsMetric u a × IsSingle w × IsEnd more
+IsUnits front _ _ = ⊥
+
+abbrev pub BreaksUnits : List Lexeme → List (List Lexeme) → FaultCode → Type 0
+BreaksUnits front [] code = BreaksBare front code ⊎ (code ≡ BadSyntax)
+BreaksUnits front (u ∷ []) code = BreaksBare front code ⊎ (BreaksOffered (codes "MM") u code ⊎ (code ≡ BadSyntax))
+BreaksUnits front (u ∷ a ∷ []) code = BreaksBare front code ⊎ BreaksMetric u a code
+BreaksUnits front (u ∷ a ∷ w ∷ more) code = BreaksBare front code ⊎ (BreaksMetric u a code ⊎ (BreaksSingle w code ⊎ BreaksEnd more code))
+
+-- three lengths
+abbrev pub IsSpot : List Lexeme → List Lexeme → List Lexeme → Spot → Type 0
+IsSpot a b c p = IsLength a p.x × IsLength b p.y × IsLength c p.z
+
+abbrev pub BreaksSpot : List Lexeme → List Lexeme → List Lexeme → FaultCode → Type 0
+BreaksSpot a b c code = BreaksLength a code ⊎ (BreaksLength b code ⊎ BreaksLength c code)
+
+-- L,L,L
+abbrev pub IsPlace : List (List Lexeme) → Spot → Type 0
+IsPlace (a ∷ b ∷ c ∷ more) p = IsSpot a b c p × IsEnd more
+IsPlace _ p = ⊥
+
+abbrev pub BreaksPlace : List (List Lexeme) → FaultCode → Type 0
+BreaksPlace [] code = code ≡ BadSyntax
+BreaksPlace (a ∷ []) code = BreaksLength a code ⊎ (code ≡ BadSyntax)
+BreaksPlace (a ∷ b ∷ []) code = BreaksLength a code ⊎ (BreaksLength b code ⊎ (code ≡ BadSyntax))
+BreaksPlace (a ∷ b ∷ c ∷ more) code = BreaksSpot a b c code ⊎ BreaksEnd more code
+
+-- GOTO/[CART,]L,L,L, where the word is read before three fields and more
+abbrev pub IsGoto : List Lexeme → List (List Lexeme) → Form → Type 0
+IsGoto front (w ∷ a ∷ b ∷ c ∷ more) (Move p) = IsBare front × IsWord (codes "CART") w × IsPlace (a ∷ b ∷ c ∷ more) p
+IsGoto front fields (Move p) = IsBare front × IsPlace fields p
+IsGoto front _ _ = ⊥
+
+abbrev pub BreaksGoto : List Lexeme → List (List Lexeme) → FaultCode → Type 0
+BreaksGoto front (w ∷ a ∷ b ∷ c ∷ more) code = BreaksBare front code ⊎ (BreaksWord (codes "CART") w code ⊎ BreaksPlace (a ∷ b ∷ c ∷ more) code)
+BreaksGoto front fields code = BreaksBare front code ⊎ BreaksPlace fields code
+
+-- TEXT/OPER,'text'
+abbrev pub IsSay : List Lexeme → List (List Lexeme) → Form → Type 0
+IsSay front (w ∷ t ∷ more) (Say text) = IsBare front × IsWord (codes "OPER") w × IsText t text × IsEnd more
+IsSay front _ _ = ⊥
+
+abbrev pub BreaksSay : List Lexeme → List (List Lexeme) → FaultCode → Type 0
+BreaksSay front [] code = BreaksBare front code ⊎ (code ≡ BadSyntax)
+BreaksSay front (w ∷ []) code = BreaksBare front code ⊎ (BreaksOffered (codes "OPER") w code ⊎ (code ≡ BadSyntax))
+BreaksSay front (w ∷ t ∷ more) code = BreaksBare front code ⊎ (BreaksOffered (codes "OPER") w code ⊎ (BreaksText t code ⊎ BreaksEnd more code))
+
+-- ENDFIL: nothing stands before it or behind it
+abbrev pub IsEndfil : List Lexeme → List (List Lexeme) → Form → Type 0
+IsEndfil front fields Ending = IsBare front × IsEnd fields
+IsEndfil front fields _ = ⊥
+
+abbrev pub BreaksAlone : List Lexeme → List (List Lexeme) → FaultCode → Type 0
+BreaksAlone front fields code = BreaksBare front code ⊎ BreaksEnd fields code
+
+-- what stands before a word without effect: S(l)= and V(l)= before two of them
+abbrev pub IsPrefix : Notice → List Lexeme → Type 0
+IsPrefix Snsdef front = (l : List ℕ) × IsTitle (codes "S") front l
+IsPrefix Vform front = (l : List ℕ) × IsTitle (codes "V") front l
+IsPrefix _ front = IsBare front
+
+abbrev pub BreaksPrefix : Notice → List Lexeme → FaultCode → Type 0
+BreaksPrefix Snsdef front code = BreaksTitle (codes "S") front code
+BreaksPrefix Vform front code = BreaksTitle (codes "V") front code
+BreaksPrefix _ front code = BreaksBare front code
+
+-- a word without effect, a slash, and anything
+abbrev pub IsPassed : Notice → List Lexeme → List (List Lexeme) → Form → Type 0
+IsPassed n front (f ∷ fs) (Ignored m) = IsPrefix n front × (m ≡ n)
+IsPassed n front _ _ = ⊥
+
+abbrev pub BreaksPassed : Notice → List Lexeme → List (List Lexeme) → FaultCode → Type 0
+BreaksPassed n front (f ∷ fs) code = BreaksPrefix n front code
+BreaksPassed n front [] code = BreaksPrefix n front code ⊎ (code ≡ BadSyntax)
+
+-- the words of each statement's form spell it
+abbrev pub IsForm : Major → List Lexeme → List (List Lexeme) → Form → Type 0
+IsForm Dmismn = IsDmismn
+IsForm Units = IsUnits
+IsForm Goto = IsGoto
+IsForm Text = IsSay
+IsForm Endfil = IsEndfil
+IsForm (Passed n) = IsPassed n
+
+-- and break the rule with this code
+abbrev pub BreaksForm : Major → List Lexeme → List (List Lexeme) → FaultCode → Type 0
+BreaksForm Dmismn = BreaksDmismn
+BreaksForm Units = BreaksUnits
+BreaksForm Goto = BreaksGoto
+BreaksForm Text = BreaksSay
+BreaksForm Endfil = BreaksAlone
+BreaksForm (Passed n) = BreaksPassed n

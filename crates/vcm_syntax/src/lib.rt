@@ -1,0 +1,15 @@
+//! Statements: which words spell them, and which rule words break that spell none.
+#![tactic(auto)]
+
+mod forms;
+pub mod laws;
+mod majors;
+mod parse;
+mod places;
+mod statement;
+
+pub use parse::parse_statement;
+pub use statement::{Form, Notice, Spot, Statement};
+
+#[cfg(test)]
+mod tests;

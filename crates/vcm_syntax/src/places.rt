@@ -1,0 +1,257 @@
+//! Reads what stands at one place of a statement.
+
+ghost use Rattle.std.specs.Prelude.{◌≡◌, ◌^◌, ◌<◌, ◌∷◌, [], IfOk, IfErr, MatchOption, MatchResult};
+ghost use Rattle.std.specs.List.{list_all};
+ghost use Rattle.std.specs.Str.{bytes_eq};
+ghost use Rattle.vcm_num.specs.Literals.{Reads};
+ghost use Rattle.vcm_lines.specs.Fault.{NoMemoryOr};
+ghost use Rattle.vcm_lines.specs.Lexemes.{Lexeme, lexeme, is_spelled};
+ghost use Rattle.vcm_syntax.specs.Refusals.{At};
+ghost use Rattle.vcm_syntax.specs.Places.{IsBare, BreaksBare, IsWord, BreaksWord, BreaksOffered, IsSingle, BreaksSingle, IsText, BreaksText, IsRest, BreaksRest, IsEnd, BreaksEnd, is_label, IsTitle, BreaksTitle, unread_code, code_of, IsConstant, BreaksConstant, BreaksDigits, negated, size_of, IsLength, BreaksLength};
+
+use std::alloc::Global;
+use vcm_lines::{FaultCode, Phrase, SourceFault, Text, Token};
+use vcm_num::{Literal, NumFault, read_number};
+
+pub(crate) fn is(bytes: &[u8], word: &[u8]) -> bool
+    ensures { result ≡ bytes_eq bytes.now word.now }
+{
+    bytes == word
+}
+
+pub(crate) fn bad_syntax(line: u32) -> SourceFault
+    ensures { result ≡ record { code = FaultCode.BadSyntax; line = line } }
+{
+    SourceFault {
+        code: FaultCode::BadSyntax,
+        line,
+    }
+}
+
+/// Nothing.
+pub(crate) fn bare(line: u32, words: &Phrase<'_>) -> Result<(), SourceFault>
+    ensures { MatchResult result (λ _. IsBare words.now) (At line (BreaksBare words.now)) }
+{
+    match words.split_first() {
+        None => Ok(()),
+        Some(_) => Err(bad_syntax(line)),
+    }
+}
+
+/// The one word, where there is one.
+fn only<'a>(words: &Phrase<'a>) -> Option<Token<'a>>
+    ensures { MatchOption result ((w : Lexeme) → words.now ≡ w ∷ [] → ⊥) (λ t. words.now ≡ lexeme t ∷ []) }
+{
+    let (first, rest) = words.split_first()?;
+    match rest.split_first() {
+        None => Some(first),
+        Some(_) => None,
+    }
+}
+
+/// A word that has to stand there.
+pub(crate) fn word(line: u32, words: &Phrase<'_>, wanted: &[u8]) -> Result<(), SourceFault>
+    ensures { MatchResult result (λ _. IsWord wanted.now words.now) (At line (BreaksWord wanted.now words.now)) }
+{
+    match only(words) {
+        Some(Token::Run(bytes)) if is(bytes, wanted) => Ok(()),
+        _ => Err(bad_syntax(line)),
+    }
+}
+
+/// The only word that is read there.
+pub(crate) fn offered(line: u32, words: &Phrase<'_>, wanted: &[u8]) -> Result<(), SourceFault>
+    ensures { MatchResult result (λ _. IsWord wanted.now words.now) (At line (BreaksOffered wanted.now words.now)) }
+{
+    match only(words) {
+        Some(Token::Run(bytes)) => {
+            if is(bytes, wanted) {
+                Ok(())
+            } else {
+                Err(SourceFault {
+                    code: FaultCode::Unsupported,
+                    line,
+                })
+            }
+        }
+        _ => Err(bad_syntax(line)),
+    }
+}
+
+/// Any word.
+pub(crate) fn single(line: u32, words: &Phrase<'_>) -> Result<(), SourceFault>
+    ensures { MatchResult result (λ _. IsSingle words.now) (At line (BreaksSingle words.now)) }
+{
+    match only(words) {
+        Some(Token::Run(_)) => Ok(()),
+        _ => Err(bad_syntax(line)),
+    }
+}
+
+/// What stands between the apostrophes of a text.
+pub(crate) fn quoted<'a>(line: u32, words: &Phrase<'a>) -> Result<&'a [u8], SourceFault>
+    ensures { MatchResult result (λ t. IsText words.now t.now) (At line (BreaksText words.now)) }
+{
+    match only(words) {
+        Some(Token::Quoted(bytes)) => Ok(bytes),
+        _ => Err(bad_syntax(line)),
+    }
+}
+
+/// A text.
+pub(crate) fn text(alloc: Global, line: u32, words: &Phrase<'_>) -> Result<Text, SourceFault>
+    ensures ok { IfOk result (IsText words.now) }
+    ensures fault { IfErr result (NoMemoryOr (At line (BreaksText words.now))) }
+{
+    let bytes = quoted(line, words)?;
+    Ok(Text::copied(alloc, bytes)?)
+}
+
+fn all_spelled(fields: &[Phrase<'_>]) -> bool
+    ensures { result ≡ list_all (list_all is_spelled) fields.now }
+{
+    fields.iter().all(|field| field.is_spelled())
+}
+
+/// Fields that aren't used.
+pub(crate) fn unused(line: u32, fields: &[Phrase<'_>]) -> Result<(), SourceFault>
+    ensures { MatchResult result (λ _. IsRest fields.now) (At line (BreaksRest fields.now)) }
+{
+    if all_spelled(fields) {
+        Ok(())
+    } else {
+        Err(bad_syntax(line))
+    }
+}
+
+/// No field.
+pub(crate) fn end(line: u32, fields: &[Phrase<'_>]) -> Result<(), SourceFault>
+    ensures { MatchResult result (λ _. IsEnd fields.now) (At line (BreaksEnd fields.now)) }
+{
+    match fields {
+        [] => Ok(()),
+        [_, ..] => Err(bad_syntax(line)),
+    }
+}
+
+fn is_label(bytes: &[u8]) -> bool
+    ensures { result ≡ is_label bytes.now }
+{
+    1 <= bytes.len() && bytes.len() <= 16
+}
+
+/// The label of a prefix such as `S(l)=`.
+pub(crate) fn title<'a>(
+    line: u32,
+    words: &Phrase<'a>,
+    letter: &[u8],
+) -> Result<&'a [u8], SourceFault>
+    ensures { MatchResult result (λ l. IsTitle letter.now words.now l.now) (At line (BreaksTitle letter.now words.now)) }
+{
+    let Some((Token::Run(first), rest)) = words.split_first() else {
+        return Err(bad_syntax(line));
+    };
+    let Some((Token::Open, rest)) = rest.split_first() else {
+        return Err(bad_syntax(line));
+    };
+    let Some((Token::Run(label), rest)) = rest.split_first() else {
+        return Err(bad_syntax(line));
+    };
+    let Some((Token::Close, rest)) = rest.split_first() else {
+        return Err(bad_syntax(line));
+    };
+    match only(&rest) {
+        Some(Token::Equals) => {
+            if is(first, letter) && is_label(label) {
+                Ok(label)
+            } else {
+                Err(bad_syntax(line))
+            }
+        }
+        _ => Err(bad_syntax(line)),
+    }
+}
+
+fn unread_code(spelled: bool) -> FaultCode
+    ensures { result ≡ unread_code spelled }
+{
+    if spelled {
+        FaultCode::Unsupported
+    } else {
+        FaultCode::BadSyntax
+    }
+}
+
+/// What words are that are no number: `spelled` says whether each of them is a word at all.
+fn unread(line: u32, spelled: bool) -> SourceFault
+    ensures { result ≡ record { code = unread_code spelled; line = line } }
+{
+    SourceFault {
+        code: unread_code(spelled),
+        line,
+    }
+}
+
+fn code_of(fault: NumFault) -> FaultCode
+    ensures { result ≡ code_of fault }
+{
+    match fault {
+        NumFault::BadNumber => FaultCode::Unsupported,
+        NumFault::TooFine => FaultCode::TooFine,
+        NumFault::TooLarge => FaultCode::NumberTooLarge,
+    }
+}
+
+fn digits(line: u32, bytes: &[u8]) -> Result<Literal, SourceFault>
+    ensures { MatchResult result (λ x. Reads bytes.now (Ok x)) (At line (BreaksDigits bytes.now)) }
+{
+    match read_number(bytes) {
+        Ok(literal) => Ok(literal),
+        Err(fault) => Err(SourceFault {
+            code: code_of(fault),
+            line,
+        }),
+    }
+}
+
+/// A number without a sign.
+fn constant(line: u32, token: Token<'_>) -> Result<Literal, SourceFault>
+    ensures { MatchResult result (IsConstant (lexeme token.entry)) (At line (BreaksConstant (lexeme token.entry))) }
+{
+    match token {
+        Token::Run(bytes) => digits(line, bytes),
+        Token::Number(bytes) => digits(line, bytes),
+        _ => Err(unread(line, token.is_spelled())),
+    }
+}
+
+/// The number with the other sign.
+fn negated(literal: Literal) -> Literal
+    requires { size_of literal < 2 ^ 63 }
+    ensures { result ≡ negated literal }
+{
+    match literal {
+        Literal::Int(number) => Literal::Int(-number),
+        Literal::Thousandths(number) => Literal::Thousandths(-number),
+    }
+}
+
+/// A length: a number with an optional sign.
+pub(crate) fn length(line: u32, words: &Phrase<'_>) -> Result<Literal, SourceFault>
+    ensures { MatchResult result (IsLength words.now) (At line (BreaksLength words.now)) }
+{
+    let Some((first, rest)) = words.split_first() else {
+        return Err(bad_syntax(line));
+    };
+    let Some((second, rest)) = rest.split_first() else {
+        return constant(line, first);
+    };
+    if let Some(_) = rest.split_first() {
+        return Err(unread(line, words.is_spelled()));
+    }
+    match first {
+        Token::Minus => Ok(negated(constant(line, second)?)),
+        Token::Plus => constant(line, second),
+        _ => Err(unread(line, words.is_spelled())),
+    }
+}

@@ -1,0 +1,103 @@
+//! What a statement is.
+
+ghost use Rattle.std.specs.Prelude.{◌≡◌};
+ghost use Rattle.vcm_syntax.specs.Majors.{word_of};
+
+use vcm_lines::Text;
+use vcm_num::Literal;
+
+/// A statement that has no effect, by its major word.
+#[derive(Clone, Copy, Debug, PartialEq, Eq)]
+pub enum Notice {
+    Mode,
+    Fedrat,
+    Aclrat,
+    Finpos,
+    Prcomp,
+    Decpl,
+    Filnam,
+    Disply,
+    Wkplan,
+    Snslct,
+    Snsdef,
+    Vform,
+}
+
+impl Notice {
+    /// The major word, in upper case.
+    pub fn word(self) -> &'static [u8]
+        ensures { result.now ≡ word_of self }
+    {
+        match self {
+            Notice::Mode => b"MODE",
+            Notice::Fedrat => b"FEDRAT",
+            Notice::Aclrat => b"ACLRAT",
+            Notice::Finpos => b"FINPOS",
+            Notice::Prcomp => b"PRCOMP",
+            Notice::Decpl => b"DECPL",
+            Notice::Filnam => b"FILNAM",
+            Notice::Disply => b"DISPLY",
+            Notice::Wkplan => b"WKPLAN",
+            Notice::Snslct => b"SNSLCT",
+            Notice::Snsdef => b"SNSDEF",
+            Notice::Vform => b"VFORM",
+        }
+    }
+}
+
+/// What the last word of a statement's head says.
+#[derive(Clone, Copy, Debug, PartialEq, Eq)]
+pub enum Major {
+    Dmismn,
+    Units,
+    Goto,
+    Text,
+    Endfil,
+    Passed(Notice),
+}
+
+/// A place by its three lengths: a whole number of millimetres, or a number of micrometres.
+#[derive(Clone, Copy, Debug, PartialEq, Eq)]
+pub struct Spot {
+    pub x: Literal,
+    pub y: Literal,
+    pub z: Literal,
+}
+
+/// What a statement says.
+#[derive(Debug, Drop)]
+pub enum Form {
+    /// `DMISMN`, with which a program begins.
+    Opening,
+    /// `UNITS`: millimetres and decimal degrees.
+    Measures,
+    /// A statement without effect.
+    Ignored(Notice),
+    /// `GOTO`: the place to go to.
+    Move(Spot),
+    /// `TEXT`: what stands between the apostrophes.
+    Say(Text),
+    /// `ENDFIL`, with which a program ends.
+    Ending,
+}
+
+impl Form {
+    ghost use Rattle.vcm_syntax.specs.Statements.{is_counted};
+
+    /// Whether the statement has a number: it is one step of the machine.
+    pub fn is_counted(&self) -> bool
+        ensures { result ≡ is_counted self.now }
+    {
+        match self {
+            Form::Opening | Form::Measures | Form::Ignored(_) => false,
+            Form::Move(_) | Form::Say(_) | Form::Ending => true,
+        }
+    }
+}
+
+/// A statement, and the line that it begins on, the first being 1.
+#[derive(Debug, Drop)]
+pub struct Statement {
+    pub line: u32,
+    pub form: Form,
+}
