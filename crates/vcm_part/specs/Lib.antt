@@ -1,0 +1,5 @@
+pub mod Reading
+pub mod PartFile
+pub mod Halts
+pub mod Laws
+pub mod Samples

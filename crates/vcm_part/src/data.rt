@@ -1,0 +1,48 @@
+//! A valid workpiece.
+
+ghost use Rattle.std.specs.Prelude.{◌≡◌};
+ghost use Rattle.vcm_spec.specs.Workpiece.{Workpiece, IsValid};
+
+use std::marker::Model;
+use vcm_spec::{Block3, Bounds};
+
+/// A valid workpiece on its machine, in micrometres of machine coordinates: at most 4,096 blocks, counted from 1, each coordinate of them and
+/// of the limits at most 1,000,000,000 from 0, no low corner above its high one, and home within the limits and in no block.
+#[derive(Debug, Drop)]
+pub struct PartData {
+    bounds: Bounds,
+    blocks: Vec<Block3>,
+}
+
+impl Model for PartData {
+    ghost Value = { Workpiece };
+
+    ghost view = { λ p. record { bounds = p.bounds; blocks = p.blocks.items } };
+
+    ghost invariant = { λ p. IsValid (record { bounds = p.bounds; blocks = p.blocks.items }) };
+}
+
+impl PartData {
+    pub(crate) fn new(bounds: Bounds, blocks: Vec<Block3>) -> PartData
+        requires { IsValid (record { bounds = bounds; blocks = blocks.items }) }
+        ensures { result ≡ record { bounds = bounds; blocks = blocks.items } }
+    {
+        PartData { bounds, blocks }
+    }
+
+    /// The limits of the machine and its home.
+    pub fn bounds(&self) -> Bounds
+        ensures bounds { result ≡ self.now.bounds }
+        ensures valid { IsValid self.now }
+    {
+        self.bounds
+    }
+
+    /// The blocks of material: block 1 first.
+    pub fn blocks(&self) -> &[Block3]
+        ensures blocks { result.now ≡ self.now.blocks }
+        ensures valid { IsValid self.now }
+    {
+        &self.blocks
+    }
+}

@@ -1,0 +1,55 @@
+//! Why a part file is refused.
+
+ghost use Rattle.std.specs.Prelude.{◌≡◌};
+ghost use Rattle.vcm_part.specs.declared.fault.Halt.TheVariants.{Memory};
+
+use std::alloc::{AllocError, AllocFailed};
+
+/// The kind of a refusal.
+#[derive(Clone, Copy, Debug, PartialEq, Eq)]
+pub enum PartCode {
+    /// A growth of memory was refused.
+    NoMemory,
+    /// The bytes are no UTF-8, or no TOML.
+    NotToml,
+    /// A key is absent, or its value isn't what it has to be: three whole numbers, or for `block` an array of tables.
+    BadKey,
+    /// A coordinate is more than 1,000,000,000 micrometres from 0.
+    OutOfRange,
+    /// A coordinate of a low corner is above that of its high corner.
+    LowAboveHigh,
+    /// There are more than 4,096 blocks.
+    TooManyBlocks,
+    /// Home is outside the limits or in a block.
+    HomeNotClear,
+}
+
+/// A refusal of a part file. `block` is the number of the block whose `low` or `high` is at fault, otherwise 0.
+#[derive(Clone, Copy, Debug, PartialEq, Eq)]
+pub struct PartFault {
+    pub code: PartCode,
+    pub block: u32,
+}
+
+/// What ends the reading.
+#[derive(Clone, Copy, Debug)]
+pub(crate) enum Halt {
+    Memory,
+    Fault(PartFault),
+}
+
+impl From<AllocError> for Halt {
+    ghost from_gives = { λ _ halt. halt ≡ Memory };
+
+    fn from(_: AllocError) -> Halt {
+        Halt::Memory
+    }
+}
+
+impl<T: Drop> From<AllocFailed<T>> for Halt {
+    ghost from_gives = { λ _ halt. halt ≡ Memory };
+
+    fn from(_: AllocFailed<T>) -> Halt {
+        Halt::Memory
+    }
+}

@@ -1,0 +1,33 @@
+//! Laws of the definitions, each the contract of a function without a body.
+
+ghost use Rattle.vcm_part.specs.Laws.{OtherBytesAreRefused, OtherTextsAreRefused, TablesDecide, PartsAreValid, BytesTakeNoMemory, OneAnswer};
+ghost use Rattle.vcm_part.specs.Samples.{NoBlocks, OneBlock, TwoBlocks, HomeOnAnEdge, TooFar, NoWholeNumber, LowAbove};
+
+/// The table that the bytes' TOML text denotes decides what a part file gives; other bytes are refused.
+pub fn tables_decide()
+    ensures bytes { OtherBytesAreRefused }
+    ensures texts { OtherTextsAreRefused }
+    ensures tables { TablesDecide }
+{}
+
+/// What the bytes of a part file give is a valid workpiece.
+pub fn parts_are_valid()
+    ensures { PartsAreValid }
+{}
+
+/// The bytes of a part file give one answer, which isn't want of memory.
+pub fn part_files_give_one_answer()
+    ensures one { OneAnswer }
+    ensures memory { BytesTakeNoMemory }
+{}
+
+/// Worked examples.
+pub fn part_examples()
+    ensures no_blocks { NoBlocks }
+    ensures one_block { OneBlock }
+    ensures two_blocks { TwoBlocks }
+    ensures home_on_an_edge { HomeOnAnEdge }
+    ensures too_far { TooFar }
+    ensures no_whole_number { NoWholeNumber }
+    ensures low_above { LowAbove }
+{}
