@@ -1,0 +1,9 @@
+pub mod Crossings
+pub mod Reached
+pub mod Commons
+pub mod Axes
+pub mod Search
+pub mod Inside
+pub mod InOrder
+pub mod Ahead
+pub mod Faces

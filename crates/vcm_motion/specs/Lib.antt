@@ -1,0 +1,4 @@
+pub mod Faces
+pub mod Stretches
+pub mod Order
+pub mod Laws
