@@ -1,0 +1,71 @@
+-- What a move does.
+use Rattle.std.proofs.Common.{◌≡◌, ◌<◌, ◌++◌, [], ◌∷◌, ℤ, Bool, true, false, List, ℕ, length, arith, Option, refl, sym, ap, ◌∙◌}
+use Rattle.std.specs.Prelude.{nat_lt}
+use Rattle.vcm_num.specs.declared.point.Point.{Point}
+use Rattle.vcm_num.specs.Number.{fits_i64}
+use Rattle.vcm_num.specs.Point.{point, coordinate}
+use Rattle.vcm_spec.specs.declared.workpiece.Hit.{Hit}
+use Rattle.vcm_spec.specs.declared.stop.Stop.{Stop}
+use Rattle.vcm_spec.specs.declared.stop.Stop.TheVariants.{Travel, OutputFull}
+use Rattle.vcm_spec.specs.declared.stop.StopPlace.{StopPlace}
+use Rattle.vcm_spec.specs.declared.words.MovePhase.TheVariants.{Move}
+use Rattle.vcm_spec.specs.Setup.{Setup}
+use Rattle.vcm_spec.specs.Workpiece.{Workpiece, is_within}
+use Rattle.vcm_spec.specs.World.{World}
+use Rattle.vcm_spec.specs.Contact.{IsContact}
+use Rattle.vcm_spec.specs.FirstContact.{contact}
+use Rattle.vcm_spec.specs.FirstTouch.{free_of, free_move}
+use Rattle.vcm_spec.specs.Outcome.{Outcome, Gives, Stops, ◌>>=◌, demand}
+use Rattle.vcm_spec.specs.Simple.{Goto, Text}
+use Rattle.vcm_spec.specs.Effect.{carried_out, go}
+use Rattle.vcm_spec.proofs.Unique.{contact_unique}
+use Rattle.vcm_state.specs.Begun.{begun}
+use Rattle.vcm_state.proofs.Places.{opening_point}
+
+module _ (part : Workpiece) (x y : ℕ → ℤ) where
+  pub moves_outside : is_within part.bounds y ≡ false → free_move Move part x y ≡ Stops (Travel Move)
+  moves_outside e = ap (λ b. demand b (Travel Move) >>= (λ _. free_of Move (contact part.blocks x y))) e
+
+  pub moves_within : is_within part.bounds y ≡ true → (o : Option Hit) → IsContact part.blocks x y o → free_move Move part x y ≡ free_of Move o
+  moves_within e o h =
+      ap (λ b. demand b (Travel Move) >>= (λ _. free_of Move (contact part.blocks x y))) e ∙ ap (free_of Move) (sym (contact_unique part.blocks x y o h))
+
+-- a GOTO in the opening frame
+abbrev moved : World → Point → Outcome (Unit {0}) → Outcome World
+moved w target o = o >>= (λ _. Gives (record w { position = target }))
+
+goto_is : (setup : Setup) (p : Point) (ls : List (List ℕ)) (s : Option StopPlace) (x y z : ℤ) → fits_i64 x ≡ true → fits_i64 y ≡ true → fits_i64 z ≡ true
+    → carried_out setup (begun p ls s) (Goto x y z) ≡ moved (begun p ls s) (point x y z) (free_move Move setup.part (coordinate p) (coordinate (point x y z)))
+unfolding carried_out
+goto_is setup p ls s x y z fx fy fz = ap (λ o. o >>= go setup (begun p ls s)) (opening_point x y z fx fy fz)
+
+module _ (setup : Setup) (p : Point) (ls : List (List ℕ)) (s : Option StopPlace) (x y z : ℤ) (fx : fits_i64 x ≡ true) (fy : fits_i64 y ≡ true) (fz : fits_i64 z ≡ true)
+    (target : Point) (is : target ≡ point x y z) where
+  pub goto_goes : (u : Unit {0}) → free_move Move setup.part (coordinate p) (coordinate target) ≡ Gives u
+      → carried_out setup (begun p ls s) (Goto x y z) ≡ Gives (begun target ls s)
+  goto_goes u e = rw is (goto_is setup p ls s x y z fx fy fz ∙ ap (moved (begun p ls s) (point x y z)) (rw is at e))
+
+  pub goto_stops : (why : Stop) → free_move Move setup.part (coordinate p) (coordinate target) ≡ Stops why
+      → carried_out setup (begun p ls s) (Goto x y z) ≡ Stops why
+  goto_stops why e = goto_is setup p ls s x y z fx fy fz ∙ ap (moved (begun p ls s) (point x y z)) (rw is at e)
+
+-- ---- output lines
+
+module _ (setup : Setup) (w : World) (bytes : List ℕ) where
+  pub text_full : ¬ (length w.lines < 100000) → carried_out setup w (Text bytes) ≡ Stops OutputFull
+  unfolding carried_out
+  text_full n = ap (λ b. demand b OutputFull >>= (λ _. Gives (record w { lines = w.lines ++ bytes ∷ [] }))) (full (length w.lines) n)
+    where
+      full : (n : ℕ) → ¬ (n < 100000) → nat_lt n 100000 ≡ false
+      full n h = by (nat_lt n 100000) refl
+        where
+          by : (b : Bool) → nat_lt n 100000 ≡ b → b ≡ false
+          by true e = absurd (h (grind arith))
+          by false e = refl
+
+  pub text_goes : length w.lines < 100000 → carried_out setup w (Text bytes) ≡ Gives (record w { lines = w.lines ++ bytes ∷ [] })
+  unfolding carried_out
+  text_goes h = ap (λ b. demand b OutputFull >>= (λ _. Gives (record w { lines = w.lines ++ bytes ∷ [] }))) (room (length w.lines) h)
+    where
+      room : (n : ℕ) → n < 100000 → nat_lt n 100000 ≡ true
+      room n h = grind arith

@@ -1,0 +1,12 @@
+//! The state of the machine, and what each simple statement does to it.
+#![tactic(auto)]
+
+mod stop;
+mod world;
+
+pub use stop::Halt;
+pub use vcm_spec::{Missing, MovePhase, Stop, StopPlace};
+pub use world::World;
+
+#[cfg(test)]
+mod tests;
