@@ -1,0 +1,167 @@
+-- From runs to the answers of jobs.
+use Rattle.std.proofs.Common.{◌≡◌, ℕ, zero, suc, ◌+◌, ◌<◌, ◌≤◌, List, [], ◌∷◌, length, take, Option, Some, None, Result, Ok, Err, refl, sym, ap, ◌∙◌, subst, arith, length-append}
+use Rattle.std.specs.Prelude.{IfSome}
+use Rattle.std.specs.Io.KnownBytes.{Appends, Consumes, Keeps}
+use Rattle.vcm_num.specs.Written.{AppendsFront}
+use Rattle.vcm_part.specs.PartFile.{part_of}
+use Rattle.vcm_spec.specs.Workpiece.{Workpiece}
+use Rattle.vcm_spec.specs.Table.{State, steps, effective}
+use Rattle.vcm_spec.proofs.Steps.{steps-effective}
+use Rattle.vcm_state.specs.Begun.{no_names}
+use Rattle.vcm_state.specs.Carried.{setup_of}
+use Rattle.vcm_tree.specs.declared.program.Noticed.{Noticed}
+use Rattle.vcm.specs.declared.job.Done.{Done}
+use Rattle.vcm.specs.declared.job.JobFault.{JobFault}
+use Rattle.vcm.specs.declared.job.JobFault.TheVariants.{Refused, Memory, Read, Write, TooLong}
+use Rattle.vcm.specs.declared.run.End.{End}
+use Rattle.vcm.specs.declared.run.End.TheVariants as ends
+use Rattle.vcm.specs.declared.run.Refusal.{Refusal}
+use Rattle.vcm.specs.declared.run.Refusal.TheVariants.{Source, Part, NoMemory}
+use Rattle.vcm.specs.declared.run.Summary.{Summary}
+use Rattle.vcm.specs.Run.{Ended}
+use Rattle.vcm.specs.Programs.{IsSummary, IsRefusal}
+use Rattle.vcm.specs.Summaries.{world_of, ran_of, notices_of}
+use Rattle.vcm.specs.Printed.{result_text}
+use Rattle.vcm.specs.Jobs.{most_steps, most_bytes, start_of, part_text, program_text, status_of, IsJob}
+use Rattle.vcm.specs.Results.{IsJobRun, IsHalted, IsJobRefusal, IsReadFault, ReadsLittle, IsDone, IsCutOff, IsNotDone, AnswersLong}
+
+-- ---- what is known of an input
+
+pub too_long : (a b : Option (List ℕ)) (bytes : List ℕ) → Consumes a b bytes → 33554432 < length bytes → IfSome a (λ input. most_bytes < length input)
+unfolding most_bytes
+too_long None b bytes h l = tt
+too_long (Some x) None bytes h l = absurd h
+too_long (Some x) (Some y) bytes h l = (let e = ap length h in omega (arith, length-append bytes y))
+
+take_le : (n : ℕ) (xs : List ℕ) → length (take n xs) ≤ n
+take_le zero xs = omega arith
+take_le (suc n) [] = omega arith
+take_le (suc n) (x ∷ xs) = (let t = take_le n xs in omega arith)
+
+-- so many bytes were read, and then no more
+pub little : (a b c : Option (List ℕ)) (bytes : List ℕ) → Consumes a b bytes → Keeps b c → length bytes ≤ 33554433 → ReadsLittle a c
+unfolding most_bytes
+little None b c bytes h k l = tt
+little (Some x) None c bytes h k l = absurd h
+little (Some x) (Some y) None bytes h k l = absurd k
+little (Some x) (Some y) (Some z) bytes h k l = (let e = ap length h in let f = ap length k in omega (arith, length-append bytes y))
+
+-- so many bytes were read, and then some more
+pub little_more : (a b c : Option (List ℕ)) (bytes buf : List ℕ) (n : ℕ) → Consumes a b bytes → Consumes b c (take n buf) → length bytes + n ≤ 33554433 → ReadsLittle a c
+unfolding most_bytes
+little_more None b c bytes buf n h k l = tt
+little_more (Some x) None c bytes buf n h k l = absurd h
+little_more (Some x) (Some y) None bytes buf n h k l = absurd k
+little_more (Some x) (Some y) (Some z) bytes buf n h k l =
+    (let e = ap length h in let f = ap length k in let t = take_le n buf in omega (arith, length-append bytes y, length-append (take n buf) z))
+
+pub known : (a : Option (List ℕ)) (P Q : List ℕ → Type 0) → IfSome a P → ((x : List ℕ) → P x → Q x) → IfSome a Q
+known None P Q h f = tt
+known (Some x) P Q h f = f x h
+
+-- ---- runs of as many steps as a job has
+
+pub steps_of_jobs : 1000000 ≡ most_steps
+unfolding most_steps
+steps_of_jobs = refl
+
+module _ (n : ℕ) (is : n ≡ most_steps) (input : List ℕ) (part : Workpiece) (part_is : part_of (part_text input) ≡ Ok part) (s : Summary)
+    (h : IsSummary (setup_of part no_names) (program_text input) n s) where
+  abbrev start : State
+  start = start_of part h.program
+
+  -- the steps that were done lead to the state after n steps, and they are the effective ones
+  settled : (same : steps (setup_of part no_names) (ran_of s).done start ≡ steps (setup_of part no_names) n start) → (ran_of s).done ≡ effective (setup_of part no_names) n start → IsJobRun input s
+  settled same count = record {
+    part = part;
+    program = h.program;
+    job = record { part_is = part_is; accepted = h.accepted };
+    text = ap (λ w. result_text w (ran_of s).done) (h.run.world_is ∙ ap (λ x. x.world) same) ∙ ap (λ d. result_text (steps (setup_of part no_names) n start).world d) count
+        ∙ ap (λ k. result_text (steps (setup_of part no_names) k start).world (effective (setup_of part no_names) k start)) is;
+    stop = ap (λ w. w.stop) (h.run.world_is ∙ ap (λ x. x.world) same) ∙ ap (λ k. (steps (setup_of part no_names) k start).world.stop) is;
+  }
+
+  pub job_run : ((ran_of s).end ≡ ends.NoMemory → ⊥) → IsJobRun input s
+  job_run ample = by (ran_of s).end refl h.run.ended
+    where
+      by : (end : End) → (ran_of s).end ≡ end → Ended (setup_of part no_names) n start (steps (setup_of part no_names) (ran_of s).done start) (ran_of s).done end → IsJobRun input s
+      by ends.Stopped e (count, stop) = settled (ap (λ d. steps (setup_of part no_names) d start) count ∙ sym (steps-effective (setup_of part no_names) n start)) count
+      by ends.Count e (all, count, none) = settled (ap (λ d. steps (setup_of part no_names) d start) all) (all ∙ count)
+      by ends.NoMemory e x = absurd (ample e)
+
+  pub job_halted : (ran_of s).end ≡ ends.NoMemory → IsHalted input (ran_of s).done
+  job_halted e = record {
+    part = part;
+    program = h.program;
+    notices = notices_of s;
+    job = record { part_is = part_is; accepted = h.accepted };
+    halted = subst (λ k. Ended (setup_of part no_names) k start (steps (setup_of part no_names) (ran_of s).done start) (ran_of s).done ends.NoMemory) is
+        (subst (λ end. Ended (setup_of part no_names) n start (steps (setup_of part no_names) (ran_of s).done start) (ran_of s).done end) e h.run.ended);
+  }
+
+-- a refused program
+pub program_refused : (input : List ℕ) (part : Workpiece) (r : Refusal) → part_of (part_text input) ≡ Ok part → IsRefusal (program_text input) r → IsJobRefusal input (Refused r)
+program_refused input part (Source f) e h = ((part, e), h)
+program_refused input part (Part f) e h = absurd h
+program_refused input part NoMemory e h = tt
+
+-- ---- what was written
+
+module _ (a : Option (List ℕ)) (bytes : List ℕ) (all : IfSome a (λ input. bytes ≡ input)) (s : Summary) (run : IsJobRun bytes s) (old new : Option (List ℕ)) where
+  pub job_done : (status : ℕ) (notices : List Noticed) → status ≡ status_of (world_of s).stop → notices ≡ notices_of s
+      → Appends old new (result_text (world_of s) (ran_of s).done) → IfSome a (λ input. IsDone input status notices old new)
+  job_done status notices e f w = known a _ _ all (λ input is. subst (λ i. IsDone i status notices old new) is (record {
+    part = run.part;
+    program = run.program;
+    job = subst (λ ns. IsJob bytes run.part run.program ns) (sym f) run.job;
+    status_is = e ∙ ap status_of run.stop;
+    written = subst (λ t. Appends old new t) run.text w;
+  }))
+
+  pub job_cut_off : AppendsFront old new (result_text (world_of s) (ran_of s).done) → IfSome a (λ input. IsCutOff input old new)
+  job_cut_off w = known a _ _ all (λ input is. subst (λ i. IsCutOff i old new) is (record {
+    part = run.part;
+    program = run.program;
+    notices = notices_of s;
+    job = run.job;
+    front = subst (λ t. AppendsFront old new t) run.text w;
+  }))
+
+-- ---- faults before anything is written
+
+pub not_read : (a : Option (List ℕ)) (f : JobFault) (old new : Option (List ℕ)) → IsReadFault a f → Keeps old new → IsNotDone a f old new
+not_read a (Refused (Source f)) old new h k = absurd h
+not_read a (Refused (Part f)) old new h k = absurd h
+not_read None (Refused NoMemory) old new h k = (tt, k)
+not_read (Some x) (Refused NoMemory) old new h k = (tt, k)
+not_read a (Memory n) old new h k = absurd h
+not_read a Read old new h k = k
+not_read a Write old new h k = absurd h
+not_read a TooLong old new h k = (h, k)
+
+pub not_run : (a : Option (List ℕ)) (bytes : List ℕ) (f : JobFault) (old new : Option (List ℕ)) → IfSome a (λ input. bytes ≡ input) → IsJobRefusal bytes f → Keeps old new → IsNotDone a f old new
+not_run a bytes (Refused r) old new all h k = (known a _ _ all (λ input is. subst (λ i. IsJobRefusal i (Refused r)) is h), k)
+not_run a bytes (Memory n) old new all h k = (known a _ _ all (λ input is. subst (λ i. IsJobRefusal i (Memory n)) is h), k)
+not_run a bytes Read old new all h k = absurd h
+not_run a bytes Write old new all h k = absurd h
+not_run a bytes TooLong old new all h k = absurd h
+
+-- ---- inputs over their limit
+
+pub not_long : (bytes : List ℕ) → length bytes ≤ 33554432 → length bytes ≤ most_bytes
+unfolding most_bytes
+not_long bytes h = h
+
+pub read_whole : (a : Option (List ℕ)) (bytes : List ℕ) (answer : Result Done JobFault) → IfSome a (λ input. bytes ≡ input) → length bytes ≤ most_bytes → AnswersLong a answer
+read_whole None bytes answer all h = tt
+read_whole (Some x) bytes answer all h = λ l. absurd (let e = ap length all in omega arith)
+
+pub read_failed : (a : Option (List ℕ)) (f : JobFault) → IsReadFault a f → AnswersLong a (Err f)
+read_failed None f h = tt
+read_failed (Some x) (Refused (Source f)) h = absurd h
+read_failed (Some x) (Refused (Part f)) h = absurd h
+read_failed (Some x) (Refused NoMemory) h = λ l. tt
+read_failed (Some x) (Memory n) h = absurd h
+read_failed (Some x) Read h = λ l. tt
+read_failed (Some x) Write h = absurd h
+read_failed (Some x) TooLong h = λ l. tt

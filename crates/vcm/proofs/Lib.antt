@@ -1,0 +1,7 @@
+pub mod Evaluating
+pub mod Runs
+pub mod Reaching
+pub mod Printing
+pub mod JobLines
+pub mod CutJobs
+pub mod JobLemmas

@@ -1,0 +1,71 @@
+-- Jobs: a part text and a program text in one input.
+use Rattle.std.specs.Prelude.{◌≡◌, ℕ, ◌==◌, Bool, List, [], ◌∷◌, ◌++◌, if◌then◌else◌, ◌||◌, codes, Option, Some, None, Ok}
+use Rattle.std.specs.List.{onto_first, flat_map}
+use Rattle.std.specs.Str.{bytes_eq}
+use Rattle.vcm_part.specs.PartFile.{part_of}
+use Rattle.vcm_spec.specs.declared.stop.Stop.TheVariants.{Ended}
+use Rattle.vcm_spec.specs.declared.stop.StopPlace.{StopPlace}
+use Rattle.vcm_spec.specs.Workpiece.{Workpiece}
+use Rattle.vcm_spec.specs.Program.{Block}
+use Rattle.vcm_spec.specs.Table.{State, steps, effective, opening}
+use Rattle.vcm_state.specs.Begun.{no_names}
+use Rattle.vcm_state.specs.Carried.{setup_of}
+use Rattle.vcm_tree.specs.declared.program.Noticed.{Noticed}
+use Rattle.vcm_tree.specs.Acceptance.{IsAccepted}
+use Rattle.vcm.specs.Printed.{result_text}
+
+-- the lines of an input, each with its line feed, which the last one may lack
+abbrev pub raw_lines : List ℕ → List (List ℕ)
+raw_lines [] = []
+raw_lines (b ∷ bs) = if b == 10 then (b ∷ []) ∷ raw_lines bs else onto_first b (raw_lines bs)
+
+-- whether a line is exactly two per cent signs, ended by a line feed, by a carriage return and a line feed, or by the input's end
+abbrev pub is_mark : List ℕ → Bool
+is_mark line = bytes_eq line (codes "%%") || (bytes_eq line (codes "%%\n") || bytes_eq line (codes "%%\r\n"))
+
+-- the part text: the lines before the first mark
+abbrev pub before_mark : List (List ℕ) → List ℕ
+before_mark [] = []
+before_mark (l ∷ ls) = if is_mark l then [] else l ++ before_mark ls
+
+-- the program text: the lines behind the first mark
+abbrev pub behind_mark : List (List ℕ) → List ℕ
+behind_mark [] = []
+behind_mark (l ∷ ls) = if is_mark l then flat_map (λ k. k) ls else behind_mark ls
+
+-- the part text of an input, and its program text
+abbrev pub part_text : List ℕ → List ℕ
+part_text input = before_mark (raw_lines input)
+
+abbrev pub program_text : List ℕ → List ℕ
+program_text input = behind_mark (raw_lines input)
+
+-- the exit status that a stop gives: 0 at the program's end, 3 at another stop, 4 where there is none
+abbrev pub status_of : Option StopPlace → ℕ
+status_of None = 4
+status_of (Some p) = elim p.stop [ Ended ↦ 0 | _ ↦ 3 ]
+
+-- the most steps of a job
+unfoldable pub most_steps : ℕ
+most_steps = 1000000
+
+-- the most bytes of a job's input
+unfoldable pub most_bytes : ℕ
+most_bytes = 33554432
+
+-- a program's state beside a workpiece at the start
+abbrev pub start_of : Workpiece → Block → State
+start_of part program = opening (setup_of part no_names) program
+
+-- and after the steps of a job
+abbrev pub last_state : Workpiece → Block → State
+last_state part program = steps (setup_of part no_names) most_steps (start_of part program)
+
+-- the standard output of a job: that of its program after so many steps
+abbrev pub job_text : Workpiece → Block → List ℕ
+job_text part program = result_text (last_state part program).world (effective (setup_of part no_names) most_steps (start_of part program))
+
+-- the part text gives this workpiece, and the program text is accepted as this program, with these notices
+pub record IsJob (input : List ℕ) (part : Workpiece) (program : Block) (notices : List Noticed) : Type 0 where
+  pub part_is : part_of (part_text input) ≡ Ok part
+  pub accepted : IsAccepted (program_text input) program notices
