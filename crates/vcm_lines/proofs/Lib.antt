@@ -8,3 +8,4 @@ pub mod PieceLaw
 pub mod OneReading
 pub mod CutLemmas
 pub mod CutLaws
+pub mod PartLemmas

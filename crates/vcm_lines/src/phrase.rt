@@ -1,6 +1,6 @@
 //! Words that stand side by side.
 
-ghost use Rattle.std.specs.Prelude.{◌≡◌, ◌∷◌, ◌++◌, [], List, false, IfOk, MatchOption};
+ghost use Rattle.std.specs.Prelude.{◌≡◌, ◌≤◌, ◌∷◌, ◌++◌, [], List, length, slice_range, false, IfOk, MatchOption};
 ghost use Rattle.std.specs.List.{position, list_all, list_any};
 ghost use Rattle.std.specs.Str.{bytes_eq};
 ghost use Rattle.vcm_lines.specs.declared.phrase.Cutter.{Cutter};
@@ -181,6 +181,14 @@ fn all_spelled(text: &[u8], words: &[Word]) -> bool
     words.iter().all(|word| token_of(text, *word).is_spelled())
 }
 
+/// The words from the place `from` to before the place `to`.
+fn between(words: &[Word], from: usize, to: usize) -> &[Word]
+    requires { (from ≤ to) × (to ≤ length words.now) }
+    ensures { result.now ≡ slice_range words.now from to }
+{
+    &words[from..to]
+}
+
 /// Words that stand side by side in a statement. A contract sees them as the list of what they say.
 #[derive(Drop)]
 pub struct Phrase<'a> {
@@ -205,6 +213,27 @@ impl<'a> Phrase<'a> {
         Phrase {
             text: logical.text.as_bytes(),
             words: logical.words.as_slice(),
+        }
+    }
+
+    /// The same words.
+    pub fn copy(&self) -> Phrase<'a>
+        ensures { result ≡ self.now }
+    {
+        Phrase {
+            text: self.text,
+            words: self.words,
+        }
+    }
+
+    /// The words from the place `from` to before the place `to`; the first word stands at 0.
+    pub fn part(&self, from: usize, to: usize) -> Phrase<'a>
+        requires { (from ≤ to) × (to ≤ length self.now) }
+        ensures { result ≡ slice_range self.now from to }
+    {
+        Phrase {
+            text: self.text,
+            words: between(self.words, from, to),
         }
     }
 

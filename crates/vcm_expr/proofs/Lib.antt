@@ -1,0 +1,15 @@
+pub mod Runs
+pub mod PostfixKinds
+pub mod Truths
+pub mod NameLemmas
+pub mod TypedKinds
+pub mod NumberReading
+pub mod ParserRanks
+pub mod Fronts
+pub mod Chains
+pub mod Complete
+pub mod Ladder
+pub mod Sound
+pub mod Causes
+pub mod Whole
+pub mod SpellLaws

@@ -1,0 +1,127 @@
+-- Parts spell one expression at most, and parts that spell one break no rule.
+use Rattle.std.proofs.Common.{Bool, true, false, ◌≡◌, inl, inr, ⊎_elim, List, [], ◌∷◌, ◌++◌, Result, Ok, Err, refl, sym, ap, ◌∙◌, arith}
+use Rattle.std.specs.Prelude.{◌||◌}
+use Rattle.std.specs.List.{list_any}
+use Rattle.std.proofs.lemmas.List.{append-nil}
+use Rattle.vcm_lines.specs.declared.fault.FaultCode.{FaultCode}
+use Rattle.vcm_lines.specs.declared.fault.FaultCode.TheVariants.{BadSyntax, TooFine, NumberTooLarge, TooDeep}
+use Rattle.vcm_lines.specs.Lexemes.{Lexeme}
+use Rattle.vcm_spec.specs.declared.expression.BinaryOp.{BinaryOp}
+use Rattle.vcm_spec.specs.declared.expression.BinaryOp.TheVariants.{Add, Sub, Mul, Div, And, Or, Compare}
+use Rattle.vcm_expr.specs.declared.expression.Prefix.{Prefix}
+use Rattle.vcm_expr.specs.declared.expression.Prefix.TheVariants.{Minus, Plus, Not}
+use Rattle.vcm_expr.specs.declared.expression.Term.TheVariants.{Truth}
+use Rattle.vcm_expr.specs.declared.part.Part.{Part}
+use Rattle.vcm_expr.specs.declared.part.Part.TheVariants.{Operand, Closing}
+use Rattle.vcm_expr.specs.Parts.{parts_of}
+use Rattle.vcm_expr.specs.Source.{Source, Plain, is_small}
+use Rattle.vcm_expr.specs.Grammar.{Written, Leaf, Paren, Signed, Joined, word_of, sign_word, spelled, meant, IsRead, Spells, HasFlaw}
+use Rattle.vcm_expr.specs.Parsing.{IsExpr, BreaksExpr}
+use Rattle.vcm_expr.specs.Reading.{Phrase, phrase, disjunction_by, expression}
+use Rattle.vcm_expr.proofs.Complete.{TooBig}
+use Rattle.vcm_expr.proofs.Ladder.{complete}
+use Rattle.vcm_expr.proofs.Whole.{read_not_bad}
+
+-- without a limit
+abbrev any_size : Source → Bool
+any_size t = true
+
+never_big : (s : Written) → TooBig any_size s → ⊥
+never_big (Leaf o) h = h
+never_big (Paren s) h = never_big s h
+never_big (Signed op s) (inl e) = cc
+never_big (Signed op s) (inr h) = never_big s h
+never_big (Joined op a b) (inl e) = cc
+never_big (Joined op a b) (inr (inl h)) = never_big a h
+never_big (Joined op a b) (inr (inr h)) = never_big b h
+
+abbrev unlimited : List Part → Result Phrase FaultCode
+unlimited ps = disjunction_by any_size (expression any_size 32) ps
+
+-- parts that spell an expression are read as that
+is_read : (ps : List Part) (e : Source) → Spells ps e → unlimited ps ≡ phrase e []
+is_read ps e s =
+    let flat : ps ≡ spelled s.written ++ [] = s.parts ∙ sym (append-nil (spelled s.written)) in
+    ap unlimited flat
+    ∙ ⊎_elim
+    (λ r. r)
+    (λ r. absurd (⊎_elim (λ b. ⊎_elim (λ n. omega (arith, n, s.nests)) (λ g. never_big s.written g) b.1) (λ b. read_not_bad s.written r.0 s.read b) r.2))
+    ((complete any_size 32).by s.written [] s.fits tt)
+    ∙ ap (λ t. phrase t []) s.is
+
+abbrev tree_in : Result Phrase FaultCode → Source
+tree_in (Ok p) = p.tree
+tree_in (Err e) = Plain (Truth false)
+
+pub one_expression : (ps : List Part) (e f : Source) → Spells ps e → Spells ps f → e ≡ f
+one_expression ps e f s t =
+    let both : phrase e [] ≡ phrase f [] = sym (is_read ps e s) ∙ is_read ps f t in
+    ap tree_in both
+
+-- ---- an expression whose leaves have values has no flaw
+
+abbrev is_flaw : Part → Bool
+is_flaw (Operand (Err c)) = true
+is_flaw _ = false
+
+abbrev flawed : List Part → Bool
+flawed ps = list_any is_flaw ps
+
+or_nothing : (b c d : Bool) → b ≡ false → c ≡ d → (b || c) ≡ d
+or_nothing false c d e f = f
+or_nothing true c d e f = absurd cc
+
+sign_fine : (op : Prefix) → is_flaw (sign_word op) ≡ false
+sign_fine Minus = refl
+sign_fine Plus = refl
+sign_fine Not = refl
+
+word_fine : (op : BinaryOp) → is_flaw (word_of op) ≡ false
+word_fine Add = refl
+word_fine Sub = refl
+word_fine Mul = refl
+word_fine Div = refl
+word_fine And = refl
+word_fine Or = refl
+word_fine (Compare r) = refl
+
+any_append : (ps qs : List Part) → flawed ps ≡ false → flawed (ps ++ qs) ≡ flawed qs
+any_append [] qs e = refl
+any_append (p ∷ ps) qs e = by (is_flaw p) (flawed ps) e (any_append ps qs)
+  where
+    by : (b c : Bool) → (b || c) ≡ false → (c ≡ false → flawed (ps ++ qs) ≡ flawed qs) → (b || flawed (ps ++ qs)) ≡ flawed qs
+    by false c e h = h e
+    by true c e h = absurd cc
+
+spelled_fine : (s : Written) → IsRead s → flawed (spelled s) ≡ false
+spelled_fine (Leaf (Ok t)) i = refl
+spelled_fine (Leaf (Err c)) i = absurd i
+spelled_fine (Paren s) i = any_append (spelled s) (Closing ∷ []) (spelled_fine s i)
+spelled_fine (Signed op s) i = or_nothing _ _ _ (sign_fine op) (spelled_fine s i)
+spelled_fine (Joined op a b) i =
+    any_append (spelled a) (word_of op ∷ spelled b) (spelled_fine a i.0) ∙ or_nothing _ _ _ (word_fine op) (spelled_fine b i.1)
+
+has_flaw : (front back : List Part) (c : FaultCode) → flawed (front ++ (Operand (Err c) ∷ back)) ≡ true
+has_flaw [] back c = refl
+has_flaw (p ∷ front) back c = by (is_flaw p) _ (has_flaw front back c)
+  where
+    by : (b c : Bool) → c ≡ true → (b || c) ≡ true
+    by true c e = refl
+    by false c e = e
+
+no_flaw : (ps : List Part) (e : Source) (c : FaultCode) → Spells ps e → HasFlaw c ps → ⊥
+no_flaw ps e c s f =
+    let fine : flawed ps ≡ false = ap flawed s.parts ∙ spelled_fine s.written s.read in
+    let bad : flawed ps ≡ true = ap flawed f.cut ∙ has_flaw f.front f.back c in
+    cc
+
+pub spell_or_break : (ws : List Lexeme) (e : Source) (code : FaultCode) → IsExpr ws e → BreaksExpr ws code → ⊥
+spell_or_break ws e BadSyntax s b = b s.0.written s.0.parts s.0.fits
+spell_or_break ws e TooFine s b = no_flaw (parts_of ws) e TooFine s.0 b
+spell_or_break ws e NumberTooLarge s b = no_flaw (parts_of ws) e NumberTooLarge s.0 b
+spell_or_break ws e TooDeep s b =
+    ⊎_elim
+    (λ n. omega (arith, n, s.0.nests))
+    (λ g. let small : is_small (meant s.0.written) ≡ true = ap is_small s.0.is ∙ s.1 in cc)
+    (b.1 s.0.written s.0.parts s.0.fits)
+spell_or_break ws e _ s b = b

@@ -1,0 +1,233 @@
+-- From what the parser answers on all parts to what they spell.
+use Rattle.std.proofs.Common.{Bool, true, false, cond, ◌≡◌, ◌≢◌, ℕ, ◌≤◌, ◌⊎◌, inl, inr, ⊎_elim, List, [], ◌∷◌, ◌++◌, length, Result, Ok, Err, refl, sym, ap, ◌∙◌, subst, arith}
+use Rattle.std.specs.Prelude.{nat_le, codes}
+use Rattle.std.proofs.lemmas.Bool.{and_parts}
+use Rattle.std.proofs.lemmas.List.{append-nil, nil_from_length}
+use Rattle.vcm_num.specs.declared.number.Literal.{Literal}
+use Rattle.vcm_num.specs.declared.read.NumFault.{NumFault}
+use Rattle.vcm_num.specs.declared.read.NumFault.TheVariants.{BadNumber, TooFine as FineNumber, TooLarge as LargeNumber}
+use Rattle.vcm_lines.specs.declared.fault.FaultCode.{FaultCode}
+use Rattle.vcm_lines.specs.declared.fault.FaultCode.TheVariants.{BadSyntax, TooFine, NumberTooLarge, TooDeep}
+use Rattle.std.specs.Str.{bytes_eq}
+use Rattle.vcm_lines.specs.Lexemes.{Lexeme, Run, Number, Dotted}
+use Rattle.vcm_expr.specs.declared.expression.Term.{Term}
+use Rattle.vcm_expr.specs.declared.part.Part.{Part}
+use Rattle.vcm_expr.specs.declared.part.Part.TheVariants.{Operand}
+use Rattle.vcm_expr.specs.Digits.{read_of}
+use Rattle.vcm_expr.specs.Parts.{parts_of, part_of, number_term, run_term, dotted_part, is_name}
+use Rattle.vcm_expr.specs.Source.{Source, Prefixed, Pair, depth_of, nodes_of, is_small}
+use Rattle.vcm_expr.specs.Grammar.{Written, Leaf, Paren, Signed, Joined, spelled, IsOperand, Fits, meant, IsRead, Spells, IsDeep, NestsDeep, HasBigPart, HasFlaw, BreaksParts}
+use Rattle.vcm_expr.specs.Reading.{Phrase, phrase, disjunction_by, expression}
+use Rattle.vcm_expr.specs.Levels.{Told}
+use Rattle.vcm_expr.specs.Parsing.{At, Refuses}
+use Rattle.vcm_lines.specs.Fault.{NoMemoryOr}
+use Rattle.vcm_lines.specs.declared.fault.SourceFault.{SourceFault}
+use Rattle.vcm_expr.proofs.Complete.{HasBad, TooBig, Blames}
+use Rattle.vcm_expr.proofs.Ladder.{complete}
+use Rattle.vcm_expr.proofs.Sound.{all_sound}
+use Rattle.vcm_expr.proofs.Causes.{Cause, all_caused}
+
+-- what the parser reads of all parts
+abbrev pub reading : List Part → Result Phrase FaultCode
+reading ps = disjunction_by is_small (expression is_small 32) ps
+
+-- ---- limits
+
+small_facts : (t : Source) → is_small t ≡ true → (depth_of t ≤ 32) × (nodes_of t ≤ 512)
+small_facts t e = let p = and_parts (nat_le (depth_of t) 32) (nat_le (nodes_of t) 512) e in (grind arith, grind arith)
+
+small_from : (t : Source) → depth_of t ≤ 32 → nodes_of t ≤ 512 → is_small t ≡ true
+small_from t d n = grind arith
+
+-- a part of what is small is small
+big_whole : (t u : Source) → depth_of t ≤ depth_of u → nodes_of t ≤ nodes_of u → is_small t ≡ false → is_small u ≡ false
+big_whole t u d n big = by (is_small u) refl
+  where
+    by : (b : Bool) → is_small u ≡ b → is_small u ≡ false
+    by true e = let f = small_facts u e in let s = small_from t (omega (arith, f.0)) (omega (arith, f.1)) in absurd cc
+    by false e = e
+
+big_is : (s : Written) → TooBig is_small s → is_small (meant s) ≡ false
+big_is (Leaf o) h = absurd h
+big_is (Paren s) h = big_is s h
+big_is (Signed op s) (inl w) = w
+big_is (Signed op s) (inr h) = big_whole (meant s) (Prefixed op (meant s)) (omega arith) (omega arith) (big_is s h)
+big_is (Joined op a b) (inl w) = w
+big_is (Joined op a b) (inr (inl h)) = big_whole (meant a) (Pair op (meant a) (meant b)) (omega arith) (omega arith) (big_is a h)
+big_is (Joined op a b) (inr (inr h)) = big_whole (meant b) (Pair op (meant a) (meant b)) (omega arith) (omega arith) (big_is b h)
+
+-- ---- leaves without a value
+
+abbrev IsValueFault : FaultCode → Type 0
+IsValueFault c = (c ≡ TooFine) ⊎ (c ≡ NumberTooLarge)
+
+operand_fault : (d : FaultCode) → IsOperand (Err d) → IsValueFault d
+operand_fault TooFine h = inl refl
+operand_fault NumberTooLarge h = inr refl
+operand_fault _ h = absurd h
+
+bad_is : (l : ℕ) (s : Written) (c : FaultCode) → Fits l s → HasBad c s → IsValueFault c
+bad_is l (Leaf (Ok t)) c f h = absurd h
+bad_is l (Leaf (Err d)) c f h = subst IsValueFault (sym h) (operand_fault d f)
+bad_is l (Paren s) c f h = bad_is 1 s c f h
+bad_is l (Signed op s) c f h = bad_is _ s c f.1 h
+bad_is l (Joined op a b) c f (inl h) = bad_is _ a c f.1 h
+bad_is l (Joined op a b) c f (inr h) = bad_is _ b c f.2 h
+
+not_syntax : IsValueFault BadSyntax → ⊥
+not_syntax (inl e) = cc
+not_syntax (inr e) = cc
+
+not_deep : IsValueFault TooDeep → ⊥
+not_deep (inl e) = cc
+not_deep (inr e) = cc
+
+pub read_not_bad : (s : Written) (c : FaultCode) → IsRead s → HasBad c s → ⊥
+read_not_bad (Leaf (Ok t)) c i h = h
+read_not_bad (Leaf (Err d)) c i h = i
+read_not_bad (Paren s) c i h = read_not_bad s c i h
+read_not_bad (Signed op s) c i h = read_not_bad s c i h
+read_not_bad (Joined op a b) c i (inl h) = read_not_bad a c i.0 h
+read_not_bad (Joined op a b) c i (inr h) = read_not_bad b c i.1 h
+
+-- ---- what an expression is answered
+
+-- parts that spell an expression are read, or there is a reason
+answer : (ps : List Part) (s : Written) → ps ≡ spelled s → Fits 1 s → (reading ps ≡ phrase (meant s) []) ⊎ ((c : FaultCode) × (reading ps ≡ Err c) × Blames is_small 32 c s)
+answer ps s e f =
+    let flat : ps ≡ spelled s ++ [] = e ∙ sym (append-nil (spelled s)) in
+    ⊎_elim
+    (λ r. inl (ap reading flat ∙ r))
+    (λ r. inr (r.0, ap reading flat ∙ r.1, r.2))
+    ((complete is_small 32).by s [] f tt)
+
+-- the parts after a phrase
+abbrev rest_of : Result Phrase FaultCode → List Part
+rest_of (Ok p) = p.rest
+rest_of (Err e) = []
+
+pub reads_spells : (ps : List Part) (t : Source) (r : List Part) → reading ps ≡ phrase t r → length r ≡ 0 → Spells ps t × (is_small t ≡ true)
+reads_spells ps t r e h =
+    let q = (all_sound 32).disjunctions ps (record { tree = t; rest = r }) e in
+    let nil = nil_from_length r h in
+    (record { written = q.written; parts = q.parts ∙ ap (λ l. spelled q.written ++ l) nil ∙ append-nil (spelled q.written); fits = q.fits; read = q.read; nests = q.shallow; is = q.tree }, q.sized)
+
+-- parts are left over
+pub extra_parts : (ps : List Part) (t : Source) (r : List Part) → reading ps ≡ phrase t r → length r ≢ 0 → BreaksParts ps BadSyntax
+extra_parts ps t r e h s spells f =
+    ⊎_elim
+    (λ a. let both : phrase t r ≡ phrase (meant s) [] = sym e ∙ a in let nil : r ≡ [] = ap rest_of both in h (ap length nil))
+    (λ a. let both : phrase t r ≡ Err a.0 = sym e ∙ a.1 in cc)
+    (answer ps s spells f)
+
+same_code : (o : Result Phrase FaultCode) (c d : FaultCode) → o ≡ Err c → o ≡ Err d → c ≡ d
+same_code o c d e f = let both : Err c ≡ Err d = sym e ∙ f in code both
+  where
+    code : ◌≡◌ {A = Result Phrase FaultCode} (Err c) (Err d) → c ≡ d
+    code e = cc
+
+no_syntax : (ps : List Part) → reading ps ≡ Err BadSyntax → BreaksParts ps BadSyntax
+no_syntax ps e s spells f =
+    ⊎_elim
+    (λ a. let both : Err BadSyntax ≡ phrase (meant s) [] = sym e ∙ a in cc)
+    (λ a.
+    let same = same_code (reading ps) BadSyntax a.0 e a.1 in
+    ⊎_elim
+    (λ b. let none : BadSyntax ≡ TooDeep = same ∙ b.0 in cc)
+    (λ b. not_syntax (bad_is 1 s BadSyntax f (subst (λ c. HasBad c s) (sym same) b)))
+    a.2)
+    (answer ps s spells f)
+
+all_deep : (ps : List Part) → reading ps ≡ Err TooDeep → (s : Written) → ps ≡ spelled s → Fits 1 s → IsDeep s
+all_deep ps e s spells f =
+    ⊎_elim
+    (λ a. let both : Err TooDeep ≡ phrase (meant s) [] = sym e ∙ a in absurd cc)
+    (λ a.
+    let same = same_code (reading ps) TooDeep a.0 e a.1 in
+    ⊎_elim
+    (λ b. ⊎_elim (λ n. inl n) (λ g. inr (big_is s g)) b.1)
+    (λ b. absurd (not_deep (bad_is 1 s TooDeep f (subst (λ c. HasBad c s) (sym same) b))))
+    a.2)
+    (answer ps s spells f)
+
+-- ---- the faults of words
+
+number_fault : (r : Result Literal NumFault) (c : FaultCode) → number_term r ≡ Err c → (c ≡ BadSyntax) ⊎ IsValueFault c
+number_fault (Ok x) c e = absurd cc
+number_fault (Err BadNumber) c e = let same : BadSyntax ≡ c = cc in inl (sym same)
+number_fault (Err FineNumber) c e = let same : TooFine ≡ c = cc in inr (inl (sym same))
+number_fault (Err LargeNumber) c e = let same : NumberTooLarge ≡ c = cc in inr (inr (sym same))
+
+-- what both cases have, a choice has
+choose : {A : Type 0} (P : A → Type 0) (b : Bool) (x y : A) → P x → P y → P (cond b x y)
+choose P true x y p q = p
+choose P false x y p q = q
+
+-- a part that is an operand without a value tells why
+abbrev FaultOf : FaultCode → Part → Type 0
+FaultOf c p = p ≡ Operand (Err c) → (c ≡ BadSyntax) ⊎ IsValueFault c
+
+plain_fault : (c : FaultCode) (t : Term) → FaultOf c (Operand (Ok t))
+plain_fault c t e = absurd cc
+
+dotted_fault : (c : FaultCode) (bs : List ℕ) → FaultOf c (dotted_part bs)
+dotted_fault c bs =
+    choose (FaultOf c) (bytes_eq bs (codes ".EQ.")) _ _ (λ e. absurd cc)
+    (choose (FaultOf c) (bytes_eq bs (codes ".NE.")) _ _ (λ e. absurd cc)
+    (choose (FaultOf c) (bytes_eq bs (codes ".LT.")) _ _ (λ e. absurd cc)
+    (choose (FaultOf c) (bytes_eq bs (codes ".LE.")) _ _ (λ e. absurd cc)
+    (choose (FaultOf c) (bytes_eq bs (codes ".GT.")) _ _ (λ e. absurd cc)
+    (choose (FaultOf c) (bytes_eq bs (codes ".GE.")) _ _ (λ e. absurd cc)
+    (choose (FaultOf c) (bytes_eq bs (codes ".NOT.")) _ _ (λ e. absurd cc)
+    (choose (FaultOf c) (bytes_eq bs (codes ".AND.")) _ _ (λ e. absurd cc)
+    (choose (FaultOf c) (bytes_eq bs (codes ".OR.")) _ _ (λ e. absurd cc)
+    (choose (FaultOf c) (bytes_eq bs (codes ".TRUE.")) _ _ (plain_fault c _)
+    (choose (FaultOf c) (bytes_eq bs (codes ".FALSE.")) _ _ (plain_fault c _) (λ e. absurd cc)))))))))))
+
+term_fault : (c : FaultCode) (o : Result Term FaultCode) → (o ≡ Err c → (c ≡ BadSyntax) ⊎ IsValueFault c) → FaultOf c (Operand o)
+term_fault c o h e = h cc
+
+run_fault : (c : FaultCode) (bs : List ℕ) → run_term bs ≡ Err c → (c ≡ BadSyntax) ⊎ IsValueFault c
+run_fault c bs = choose (λ o. o ≡ Err c → (c ≡ BadSyntax) ⊎ IsValueFault c) (is_name bs) _ _ (λ e. absurd cc) (number_fault (read_of bs) c)
+
+part_fault : (c : FaultCode) (w : Lexeme) → FaultOf c (part_of w)
+part_fault c (Run bs) = term_fault c (run_term bs) (run_fault c bs)
+part_fault c (Number bs) = term_fault c (number_term (read_of bs)) (number_fault (read_of bs) c)
+part_fault c (Dotted bs) = dotted_fault c bs
+part_fault c _ = λ e. absurd cc
+
+flaw_in : (ws : List Lexeme) (front back : List Part) (c : FaultCode) → parts_of ws ≡ front ++ (Operand (Err c) ∷ back) → (c ≡ BadSyntax) ⊎ IsValueFault c
+flaw_in [] [] back c e = absurd cc
+flaw_in [] (x ∷ front) back c e = absurd cc
+flaw_in (w ∷ ws) [] back c e = part_fault c w cc
+flaw_in (w ∷ ws) (x ∷ front) back c e = flaw_in ws front back c cc
+
+-- what the parser refuses breaks the rule of that name
+refused : (ws : List Lexeme) (c : FaultCode) → reading (parts_of ws) ≡ Err c → (c ≡ BadSyntax) ⊎ (((c ≡ TooDeep) × (NestsDeep (parts_of ws) ⊎ HasBigPart (parts_of ws))) ⊎ (IsValueFault c × HasFlaw c (parts_of ws)))
+refused ws c e = by (all_caused 32 (parts_of ws) c e)
+  where
+    by : Cause 32 0 c (parts_of ws) → (c ≡ BadSyntax) ⊎ (((c ≡ TooDeep) × (NestsDeep (parts_of ws) ⊎ HasBigPart (parts_of ws))) ⊎ (IsValueFault c × HasFlaw c (parts_of ws)))
+    by (inl b) = inl b
+    by (inr (inl (t, inl d))) = inr (inl (t, inl (record { front = d.front; back = d.back; cut = d.cut; deep = d.deep })))
+    by (inr (inl (t, inr g))) = inr (inl (t, inr g))
+    by (inr (inr f)) = ⊎_elim (λ b. inl b) (λ v. inr (inr (v, f))) (flaw_in ws f.front f.back c f.cut)
+
+pub fails_breaks : (ws : List Lexeme) (c : FaultCode) → reading (parts_of ws) ≡ Err c → BreaksParts (parts_of ws) c
+fails_breaks ws c e = by (refused ws c e) e
+  where
+    by : {d : FaultCode} → (d ≡ BadSyntax) ⊎ (((d ≡ TooDeep) × (NestsDeep (parts_of ws) ⊎ HasBigPart (parts_of ws))) ⊎ (IsValueFault d × HasFlaw d (parts_of ws))) → reading (parts_of ws) ≡ Err d → BreaksParts (parts_of ws) d
+    by {d = d} (inl b) e = subst (BreaksParts (parts_of ws)) (sym b) (no_syntax (parts_of ws) (e ∙ ap Err b))
+    by {d = d} (inr (inl t)) e = subst (BreaksParts (parts_of ws)) (sym t.0) (t.1, all_deep (parts_of ws) (e ∙ ap Err t.0))
+    by {d = d} (inr (inr (inl v, f))) e = subst (BreaksParts (parts_of ws)) (sym v) (subst (λ c. HasFlaw c (parts_of ws)) v f)
+    by {d = d} (inr (inr (inr v, f))) e = subst (BreaksParts (parts_of ws)) (sym v) (subst (λ c. HasFlaw c (parts_of ws)) v f)
+
+-- ---- the exits of the parser
+
+pub whole_refuses : (line : ℕ) (ps : List Part) (f : SourceFault) → NoMemoryOr (Told line (reading ps)) f → NoMemoryOr (At line (Refuses ps)) f
+whole_refuses line ps f (inl m) = inl m
+whole_refuses line ps f (inr t) = inr (t.0, λ ws e. fails_breaks ws f.code (ap reading e ∙ t.1))
+
+pub whole_extra : (ps : List Part) (t : Source) (r : List Part) (k : Part) (q : List Part) → reading ps ≡ phrase t r → r ≡ k ∷ q → Refuses ps BadSyntax
+whole_extra ps t r k q e more ws is =
+    let some : length r ≢ 0 = λ none. let size = ap length more in omega arith in
+    extra_parts (parts_of ws) t r (ap reading is ∙ e) some

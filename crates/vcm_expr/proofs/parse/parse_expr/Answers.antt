@@ -1,0 +1,6 @@
+use Rattle.std.proofs.Common.{arith}
+use Rattle.vcm_lines.proofs.PartLemmas.{length-lexemes}
+use Rattle.vcm_expr.proofs.parse.parse_expr.Goals as goal
+
+pub part-requires : goal.part-requires
+part-requires c = rw c.of.ensures (c.requires.0, omega (arith, c.requires.1, length-lexemes c.args.logical.now.text c.args.logical.now.words))

@@ -1,0 +1,15 @@
+use Rattle.std.proofs.Common.{◌≡◌, ◌≤◌, length}
+use Rattle.vcm_expr.specs.Source.{is_small}
+use Rattle.vcm_expr.specs.Reading.{Parser, fronted_by, with_fronts}
+use Rattle.vcm_expr.specs.Levels.{front_of}
+use Rattle.vcm_expr.proofs.parser.take_signs.Given as goal
+
+-- the signs so far stand before what is read next
+abbrev pub invariant-signs : goal.invariant-signs
+invariant-signs l = record {
+  reads : (operand : Parser) → fronted_by is_small operand (front_of l.front) l.fn.words ≡ with_fronts is_small l.signs.items (fronted_by is_small operand (front_of l.front) l.rest);
+  shorter : length l.rest ≤ length l.fn.words;
+}
+
+abbrev pub decreases-signs : goal.decreases-signs
+decreases-signs l = length l.rest

@@ -1,0 +1,14 @@
+pub mod Codes
+pub mod Typed
+pub mod Slots
+pub mod Run
+pub mod Names
+pub mod Source
+pub mod SourceCodes
+pub mod Typing
+pub mod Digits
+pub mod Parts
+pub mod Grammar
+pub mod Reading
+pub mod Levels
+pub mod Parsing

@@ -1,0 +1,32 @@
+//! Expressions: as they are written, typed, and as postfix items; their kinds and values.
+#![tactic(auto)]
+
+mod expression;
+pub mod laws;
+mod name;
+mod names;
+mod operators;
+mod parse;
+mod parser;
+mod part;
+mod postfix;
+mod stack;
+mod typed;
+mod typing;
+mod value;
+
+pub use expression::{Expr, ExprNode, Prefix, Term};
+pub use name::Name;
+pub use names::Names;
+pub use parse::{parse_expr, read_expr};
+pub use part::{Part, is_name};
+pub use postfix::{eval_postfix, pop_value, postfix_kind, step_kind, step_value, to_postfix};
+pub use stack::Stack;
+pub use typed::{Typed, TypedNode};
+pub use typing::{Want, type_expr};
+pub use value::eval;
+pub use vcm_num::{Fault, Kind};
+pub use vcm_spec::{BinaryOp, Item, Operand, Relation, UnaryOp};
+
+#[cfg(test)]
+mod tests;

@@ -1,0 +1,314 @@
+//! The parser of expressions.
+
+ghost use Rattle.std.specs.Prelude.{◌≡◌, ◌∷◌, ◌≤◌, [], List, Some, None, true, Err, length, IfOk, IfErr, IfSome, IfNone, MatchOption};
+ghost use Rattle.vcm_lines.specs.Fault.{NoMemoryOr, no_memory};
+ghost use Rattle.vcm_lines.specs.declared.fault.FaultCode.{FaultCode};
+ghost use Rattle.vcm_expr.specs.Source.{is_small};
+ghost use Rattle.vcm_expr.specs.Grammar.{Spells};
+ghost use Rattle.vcm_expr.specs.Parsing.{At, Refuses};
+ghost use Rattle.vcm_expr.specs.Reading.{Parser, phrase, fronted_by, with_fronts, relation_op, leaf_by, sign_of, negation_of, product_op, sum_op, and_op, or_op};
+ghost use Rattle.vcm_expr.specs.Levels.{chain_in, chain_op, link_in, front_in, front_of as finds_front, fronted_in, relation_in, primary_in, group_in, NextOf, NoNext, NotClosing, Told};
+ghost use Rattle.vcm_expr.specs.declared.part.Part.{Part};
+
+use crate::expression::{Expr, Prefix, Term, too_deep};
+use crate::part::{Part, Parts};
+use std::alloc::Global;
+use vcm_lines::{FaultCode, SourceFault};
+use vcm_spec::BinaryOp;
+
+/// A level whose operators stand between any number of operands.
+#[derive(Clone, Copy, PartialEq, Eq, Debug)]
+enum Chain {
+    /// `.OR.`
+    Disjunction,
+    /// `.AND.`
+    Conjunction,
+    /// `+` and `-`
+    Sum,
+    /// `*` and `/`
+    Product,
+}
+
+/// A level whose words stand before an operand.
+#[derive(Clone, Copy, PartialEq, Eq, Debug)]
+enum Front {
+    /// `.NOT.`
+    Negation,
+    /// `+` and `-`
+    Sign,
+}
+
+/// The most pairs of parentheses that may be open at once.
+const MOST_OPEN: u32 = 32;
+
+/// The expression that all the words spell.
+pub(crate) fn whole(alloc: Global, line: u32, words: Parts<'_>) -> Result<Expr, SourceFault>
+    ensures ok { IfOk result (λ e. Spells words.entry e × (is_small e ≡ true)) }
+    ensures fault { IfErr result (NoMemoryOr (At line (Refuses words.entry))) }
+{
+    let (e, rest) = chained(alloc, line, words, MOST_OPEN, Chain::Disjunction)?;
+    match rest.split_first() {
+        None => Ok(e),
+        Some(_) => Err(bad_syntax(line)),
+    }
+}
+
+/// Operands of a level, with its operators between them. `room` pairs of parentheses may be opened.
+#[cycle(parser)]
+fn chained<'a>(
+    alloc: Global,
+    line: u32,
+    words: Parts<'a>,
+    room: u32,
+    level: Chain,
+) -> Result<(Expr, Parts<'a>), SourceFault>
+    ensures ok { IfOk result (λ p. chain_in level room words.entry ≡ phrase p.0 p.1) }
+    ensures fault { IfErr result (NoMemoryOr (Told line (chain_in level room words.entry))) }
+    ensures shorter { IfOk result (λ p. length p.1 ≤ length words.entry) }
+{
+    let (mut left, mut rest) = link(alloc, line, words, room, level)?;
+    while let Some((op, after)) = next_operator(&rest, level) {
+        let (right, behind) = link(alloc, line, after, room, level)?;
+        left = Expr::joined(alloc, line, op, left, right)?;
+        rest = behind;
+    }
+    Ok((left, rest))
+}
+
+/// An operand of a level.
+#[cycle(parser)]
+fn link<'a>(
+    alloc: Global,
+    line: u32,
+    words: Parts<'a>,
+    room: u32,
+    level: Chain,
+) -> Result<(Expr, Parts<'a>), SourceFault>
+    ensures ok { IfOk result (λ p. link_in level room words.entry ≡ phrase p.0 p.1) }
+    ensures fault { IfErr result (NoMemoryOr (Told line (link_in level room words.entry))) }
+    ensures shorter { IfOk result (λ p. length p.1 ≤ length words.entry) }
+{
+    match level {
+        Chain::Disjunction => chained(alloc, line, words, room, Chain::Conjunction),
+        Chain::Conjunction => fronted(alloc, line, words, room, Front::Negation),
+        Chain::Sum => chained(alloc, line, words, room, Chain::Product),
+        Chain::Product => fronted(alloc, line, words, room, Front::Sign),
+    }
+}
+
+/// An operand with signs or negations before it.
+#[cycle(parser)]
+fn fronted<'a>(
+    alloc: Global,
+    line: u32,
+    words: Parts<'a>,
+    room: u32,
+    front: Front,
+) -> Result<(Expr, Parts<'a>), SourceFault>
+    ensures ok { IfOk result (λ p. front_in front room words.entry ≡ phrase p.0 p.1) }
+    ensures fault { IfErr result (NoMemoryOr (Told line (front_in front room words.entry))) }
+    ensures shorter { IfOk result (λ p. length p.1 ≤ length words.entry) }
+{
+    let (signs, rest) = take_signs(alloc, words, front)?;
+    let (e, rest) = under(alloc, line, rest, room, front)?;
+    Ok((with_signs(alloc, line, signs, e)?, rest))
+}
+
+/// What signs or negations stand before.
+#[cycle(parser)]
+fn under<'a>(
+    alloc: Global,
+    line: u32,
+    words: Parts<'a>,
+    room: u32,
+    front: Front,
+) -> Result<(Expr, Parts<'a>), SourceFault>
+    ensures ok { IfOk result (λ p. fronted_in front room words.entry ≡ phrase p.0 p.1) }
+    ensures fault { IfErr result (NoMemoryOr (Told line (fronted_in front room words.entry))) }
+    ensures shorter { IfOk result (λ p. length p.1 ≤ length words.entry) }
+{
+    match front {
+        Front::Negation => relation(alloc, line, words, room),
+        Front::Sign => primary(alloc, line, words, room),
+    }
+}
+
+/// A sum, or two with a relation between them.
+#[cycle(parser)]
+fn relation<'a>(
+    alloc: Global,
+    line: u32,
+    words: Parts<'a>,
+    room: u32,
+) -> Result<(Expr, Parts<'a>), SourceFault>
+    ensures ok { IfOk result (λ p. relation_in room words.entry ≡ phrase p.0 p.1) }
+    ensures fault { IfErr result (NoMemoryOr (Told line (relation_in room words.entry))) }
+    ensures shorter { IfOk result (λ p. length p.1 ≤ length words.entry) }
+{
+    let (left, rest) = chained(alloc, line, words, room, Chain::Sum)?;
+    let Some((op, after)) = next_relation(&rest) else {
+        return Ok((left, rest));
+    };
+    let (right, behind) = chained(alloc, line, after, room, Chain::Sum)?;
+    Ok((Expr::joined(alloc, line, op, left, right)?, behind))
+}
+
+/// A number, a truth value or a name, or an expression in parentheses.
+#[cycle(parser)]
+fn primary<'a>(
+    alloc: Global,
+    line: u32,
+    words: Parts<'a>,
+    room: u32,
+) -> Result<(Expr, Parts<'a>), SourceFault>
+    ensures ok { IfOk result (λ p. primary_in room words.entry ≡ phrase p.0 p.1) }
+    ensures fault { IfErr result (NoMemoryOr (Told line (primary_in room words.entry))) }
+    ensures shorter { IfOk result (λ p. length p.1 ≤ length words.entry) }
+{
+    let Some((first, rest)) = words.split_first() else {
+        return Err(bad_syntax(line));
+    };
+    match first {
+        Part::Operand(term) => Ok((leaf(line, term)?, rest)),
+        Part::Opening => group(alloc, line, rest, room),
+        _ => Err(bad_syntax(line)),
+    }
+}
+
+/// What follows an opening parenthesis.
+#[cycle(parser)]
+fn group<'a>(
+    alloc: Global,
+    line: u32,
+    words: Parts<'a>,
+    room: u32,
+) -> Result<(Expr, Parts<'a>), SourceFault>
+    ensures ok { IfOk result (λ p. group_in room words.entry ≡ phrase p.0 p.1) }
+    ensures fault { IfErr result (NoMemoryOr (Told line (group_in room words.entry))) }
+    ensures shorter { IfOk result (λ p. length p.1 ≤ length words.entry) }
+{
+    if room == 0 {
+        return Err(too_deep(line));
+    }
+    let (e, rest) = chained(alloc, line, words, room - 1, Chain::Disjunction)?;
+    let Some(after) = after_closing(&rest) else {
+        return Err(bad_syntax(line));
+    };
+    Ok((e, after))
+}
+
+/// A leaf, or what is wrong with it.
+fn leaf(line: u32, term: Result<Term, FaultCode>) -> Result<Expr, SourceFault>
+    ensures ok { IfOk result (λ e. (r : List Part) → leaf_by term r ≡ phrase e r) }
+    ensures fault { IfErr result (λ f. (f.line ≡ line) × ((r : List Part) → leaf_by term r ≡ Err f.code)) }
+{
+    match term {
+        Ok(term) => Ok(Expr::leaf(term)),
+        Err(code) => Err(SourceFault { code, line }),
+    }
+}
+
+/// The signs or negations that stand first, and the words after them.
+fn take_signs<'a>(
+    alloc: Global,
+    words: Parts<'a>,
+    front: Front,
+) -> Result<(Vec<Prefix>, Parts<'a>), SourceFault>
+    ensures ok { IfOk result (λ p. (operand : Parser) → fronted_by is_small operand (finds_front front) words.entry ≡ with_fronts is_small p.0.items (operand p.1)) }
+    ensures fault { IfErr result (λ f. f ≡ no_memory) }
+    ensures shorter { IfOk result (λ p. length p.1 ≤ length words.entry) }
+{
+    let mut signs = Vec::new(alloc);
+    let mut rest = words;
+    'signs: while let Some((sign, after)) = next_front(&rest, front) {
+        signs.push(sign)?;
+        rest = after;
+    }
+    Ok((signs, rest))
+}
+
+/// An expression with signs or negations before it.
+fn with_signs(alloc: Global, line: u32, signs: Vec<Prefix>, e: Expr) -> Result<Expr, SourceFault>
+    ensures ok { IfOk result (λ t. (r : List Part) → with_fronts is_small signs.items (phrase e r) ≡ phrase t r) }
+    ensures fault { IfErr result (NoMemoryOr (λ f. (f.line ≡ line) × ((r : List Part) → with_fronts is_small signs.items (phrase e r) ≡ Err f.code))) }
+{
+    let mut signs = signs;
+    let mut e = e;
+    'signs: while let Some(sign) = signs.pop() {
+        e = Expr::prefixed(alloc, line, sign, e)?;
+    }
+    Ok(e)
+}
+
+/// The words after a closing parenthesis.
+fn after_closing<'a>(words: &Parts<'a>) -> Option<Parts<'a>>
+    ensures some { IfSome result (λ r. words.now ≡ Part.Closing ∷ r) }
+    ensures none { IfNone result (NotClosing words.now) }
+{
+    let (first, rest) = words.split_first()?;
+    match first {
+        Part::Closing => Some(rest),
+        _ => None,
+    }
+}
+
+/// The operator of a level, and the words after it.
+fn next_operator<'a>(words: &Parts<'a>, level: Chain) -> Option<(BinaryOp, Parts<'a>)>
+    ensures some { IfSome result (λ p. NextOf (chain_op level) words.now p.0 p.1) }
+    ensures none { IfNone result (NoNext (chain_op level) words.now) }
+{
+    let (first, rest) = words.split_first()?;
+    let op = operator(&first, level)?;
+    Some((op, rest))
+}
+
+/// The operator that a word is at a level.
+fn operator(part: &Part, level: Chain) -> Option<BinaryOp>
+    ensures { result ≡ chain_op level part.now }
+{
+    match (level, part) {
+        (Chain::Disjunction, Part::OrWord) => Some(BinaryOp::Or),
+        (Chain::Conjunction, Part::AndWord) => Some(BinaryOp::And),
+        (Chain::Sum, Part::Cross) => Some(BinaryOp::Add),
+        (Chain::Sum, Part::Dash) => Some(BinaryOp::Sub),
+        (Chain::Product, Part::Star) => Some(BinaryOp::Mul),
+        (Chain::Product, Part::Slash) => Some(BinaryOp::Div),
+        _ => None,
+    }
+}
+
+/// The relation that stands first, and the words after it.
+fn next_relation<'a>(words: &Parts<'a>) -> Option<(BinaryOp, Parts<'a>)>
+    ensures some { IfSome result (λ p. NextOf relation_op words.now p.0 p.1) }
+    ensures none { IfNone result (NoNext relation_op words.now) }
+{
+    let (first, rest) = words.split_first()?;
+    match first {
+        Part::RelationWord(relation) => Some((BinaryOp::Compare(relation), rest)),
+        _ => None,
+    }
+}
+
+/// The sign or negation that stands first, and the words after it.
+fn next_front<'a>(words: &Parts<'a>, front: Front) -> Option<(Prefix, Parts<'a>)>
+    ensures some { IfSome result (λ p. NextOf (finds_front front) words.now p.0 p.1) }
+    ensures none { IfNone result (NoNext (finds_front front) words.now) }
+{
+    let (first, rest) = words.split_first()?;
+    match (front, first) {
+        (Front::Negation, Part::NotWord) => Some((Prefix::Not, rest)),
+        (Front::Sign, Part::Dash) => Some((Prefix::Minus, rest)),
+        (Front::Sign, Part::Cross) => Some((Prefix::Plus, rest)),
+        _ => None,
+    }
+}
+
+/// The refusal of words that are no expression.
+fn bad_syntax(line: u32) -> SourceFault
+    ensures { result ≡ record { code = FaultCode.BadSyntax; line = line } }
+{
+    SourceFault {
+        code: FaultCode::BadSyntax,
+        line,
+    }
+}

@@ -1,0 +1,43 @@
+//! The value of a typed expression.
+
+ghost use Rattle.std.specs.Prelude.{◌≡◌, length, Some, List, IfOk};
+ghost use Rattle.vcm_num.specs.declared.number.Kind.{Kind};
+ghost use Rattle.vcm_spec.specs.Expression.{kind_of};
+ghost use Rattle.vcm_spec.specs.Value.{value_of};
+ghost use Rattle.vcm_expr.specs.Typed.{tree_of, VariablesBelow};
+ghost use Rattle.vcm_expr.specs.Slots.{IsTruth, SlotsFit};
+
+use crate::operators;
+use crate::typed::{Typed, TypedNode};
+use vcm_num::Fault;
+
+/// The value of a typed expression, where the variables have the values of `slots`: a number of thousandths for a `Real`, 0 or 1 for a
+/// `Bool`. Takes no memory.
+///
+/// # Errors
+///
+/// The first fault, all operands being evaluated, the left one first: an exact result outside 64 bits, or a zero divisor.
+pub fn eval(e: &Typed, slots: &[i64]) -> Result<i64, Fault>
+    requires { VariablesBelow (length slots.now) e.now }
+    ensures value { result ≡ value_of slots.now e.now }
+    ensures truth { IfOk result (λ v. (kinds : List Kind) → SlotsFit kinds slots.now
+        → kind_of kinds e.now ≡ Some Kind.Bool → IsTruth v) }
+{
+    value(e.node(), slots)
+}
+
+/// The value of a node.
+fn value(e: &TypedNode, slots: &[i64]) -> Result<i64, Fault>
+    requires { VariablesBelow (length slots.now) (tree_of e.now) }
+    ensures { result ≡ value_of slots.now (tree_of e.now) }
+{
+    match e {
+        TypedNode::Leaf(x) => Ok(operators::operand(*x, slots)),
+        TypedNode::Unary(op, a) => operators::unary(*op, value(a, slots)?),
+        TypedNode::Binary(op, a, b) => {
+            let x = value(a, slots)?;
+            let y = value(b, slots)?;
+            operators::binary(*op, x, y)
+        }
+    }
+}
