@@ -5,10 +5,11 @@ use Rattle.std.specs.Io.KnownBytes.{Appends, Consumes, Keeps}
 use Rattle.vcm_num.specs.Written.{AppendsFront}
 use Rattle.vcm_part.specs.PartFile.{part_of}
 use Rattle.vcm_spec.specs.Workpiece.{Workpiece}
+use Rattle.vcm_spec.specs.Setup.{Tables, Setup}
+use Rattle.vcm_spec.specs.World.{World}
 use Rattle.vcm_spec.specs.Table.{State, steps, effective}
 use Rattle.vcm_spec.proofs.Steps.{steps-effective}
-use Rattle.vcm_state.specs.Begun.{no_names}
-use Rattle.vcm_state.specs.Carried.{setup_of}
+use Rattle.vcm_state.specs.Held.{Held}
 use Rattle.vcm_tree.specs.declared.program.Noticed.{Noticed}
 use Rattle.vcm.specs.declared.job.Done.{Done}
 use Rattle.vcm.specs.declared.job.JobFault.{JobFault}
@@ -20,9 +21,9 @@ use Rattle.vcm.specs.declared.run.Refusal.TheVariants.{Source, Part, NoMemory}
 use Rattle.vcm.specs.declared.run.Summary.{Summary}
 use Rattle.vcm.specs.Run.{Ended}
 use Rattle.vcm.specs.Programs.{IsSummary, IsRefusal}
-use Rattle.vcm.specs.Summaries.{world_of, ran_of, notices_of}
+use Rattle.vcm.specs.Summaries.{held_of, world_of, ran_of, notices_of}
 use Rattle.vcm.specs.Printed.{result_text}
-use Rattle.vcm.specs.Jobs.{most_steps, most_bytes, start_of, part_text, program_text, status_of, IsJob}
+use Rattle.vcm.specs.Jobs.{most_steps, most_bytes, job_setup, start_of, held, part_text, program_text, status_of}
 use Rattle.vcm.specs.Results.{IsJobRun, IsHalted, IsJobRefusal, IsReadFault, ReadsLittle, IsDone, IsCutOff, IsNotDone, AnswersLong}
 
 -- ---- what is known of an input
@@ -66,37 +67,47 @@ unfolding most_steps
 steps_of_jobs = refl
 
 module _ (n : ℕ) (is : n ≡ most_steps) (input : List ℕ) (part : Workpiece) (part_is : part_of (part_text input) ≡ Ok part) (s : Summary)
-    (h : IsSummary (setup_of part no_names) (program_text input) n s) where
+    (h : IsSummary part (program_text input) n s) where
+  abbrev setup : Setup
+  setup = job_setup part h.parsed
+
   abbrev start : State
-  start = start_of part h.program
+  start = start_of part h.parsed
+
+  abbrev shown : Tables → World → Held
+  shown tables w = record { tables = tables; state = w }
 
   -- the steps that were done lead to the state after n steps, and they are the effective ones
-  settled : (same : steps (setup_of part no_names) (ran_of s).done start ≡ steps (setup_of part no_names) n start) → (ran_of s).done ≡ effective (setup_of part no_names) n start → IsJobRun input s
-  settled same count = record {
-    part = part;
-    program = h.program;
-    job = record { part_is = part_is; accepted = h.accepted };
-    text = ap (λ w. result_text w (ran_of s).done) (h.run.world_is ∙ ap (λ x. x.world) same) ∙ ap (λ d. result_text (steps (setup_of part no_names) n start).world d) count
-        ∙ ap (λ k. result_text (steps (setup_of part no_names) k start).world (effective (setup_of part no_names) k start)) is;
-    stop = ap (λ w. w.stop) (h.run.world_is ∙ ap (λ x. x.world) same) ∙ ap (λ k. (steps (setup_of part no_names) k start).world.stop) is;
-  }
+  settled : (same : steps setup (ran_of s).done start ≡ steps setup n start) → (ran_of s).done ≡ effective setup n start → IsJobRun input s
+  settled same count =
+      let reached : world_of s ≡ (steps setup n start).world = h.run.world_is ∙ ap (λ x. x.world) same in
+      record {
+        part = part;
+        parsed = h.parsed;
+        job = record { part_is = part_is; accepted = h.accepted };
+        notices = h.notices;
+        text = ap (λ t. result_text (shown t (world_of s)) (ran_of s).done) h.tables
+            ∙ ap (λ w. result_text (shown h.parsed.tables w) (ran_of s).done) reached
+            ∙ ap (λ d. result_text (held h.parsed (steps setup n start)) d) count
+            ∙ ap (λ k. result_text (held h.parsed (steps setup k start)) (effective setup k start)) is;
+        stop = ap (λ w. w.stop) reached ∙ ap (λ k. (steps setup k start).world.stop) is;
+      }
 
   pub job_run : ((ran_of s).end ≡ ends.NoMemory → ⊥) → IsJobRun input s
   job_run ample = by (ran_of s).end refl h.run.ended
     where
-      by : (end : End) → (ran_of s).end ≡ end → Ended (setup_of part no_names) n start (steps (setup_of part no_names) (ran_of s).done start) (ran_of s).done end → IsJobRun input s
-      by ends.Stopped e (count, stop) = settled (ap (λ d. steps (setup_of part no_names) d start) count ∙ sym (steps-effective (setup_of part no_names) n start)) count
-      by ends.Count e (all, count, none) = settled (ap (λ d. steps (setup_of part no_names) d start) all) (all ∙ count)
+      by : (end : End) → (ran_of s).end ≡ end → Ended setup n start (steps setup (ran_of s).done start) (ran_of s).done end → IsJobRun input s
+      by ends.Stopped e (count, stop) = settled (ap (λ d. steps setup d start) count ∙ sym (steps-effective setup n start)) count
+      by ends.Count e (all, count, none) = settled (ap (λ d. steps setup d start) all) (all ∙ count)
       by ends.NoMemory e x = absurd (ample e)
 
   pub job_halted : (ran_of s).end ≡ ends.NoMemory → IsHalted input (ran_of s).done
   job_halted e = record {
     part = part;
-    program = h.program;
-    notices = notices_of s;
+    parsed = h.parsed;
     job = record { part_is = part_is; accepted = h.accepted };
-    halted = subst (λ k. Ended (setup_of part no_names) k start (steps (setup_of part no_names) (ran_of s).done start) (ran_of s).done ends.NoMemory) is
-        (subst (λ end. Ended (setup_of part no_names) n start (steps (setup_of part no_names) (ran_of s).done start) (ran_of s).done end) e h.run.ended);
+    halted = subst (λ k. Ended setup k start (steps setup (ran_of s).done start) (ran_of s).done ends.NoMemory) is
+        (subst (λ end. Ended setup n start (steps setup (ran_of s).done start) (ran_of s).done end) e h.run.ended);
   }
 
 -- a refused program
@@ -109,20 +120,20 @@ program_refused input part NoMemory e h = tt
 
 module _ (a : Option (List ℕ)) (bytes : List ℕ) (all : IfSome a (λ input. bytes ≡ input)) (s : Summary) (run : IsJobRun bytes s) (old new : Option (List ℕ)) where
   pub job_done : (status : ℕ) (notices : List Noticed) → status ≡ status_of (world_of s).stop → notices ≡ notices_of s
-      → Appends old new (result_text (world_of s) (ran_of s).done) → IfSome a (λ input. IsDone input status notices old new)
+      → Appends old new (result_text (held_of s) (ran_of s).done) → IfSome a (λ input. IsDone input status notices old new)
   job_done status notices e f w = known a _ _ all (λ input is. subst (λ i. IsDone i status notices old new) is (record {
     part = run.part;
-    program = run.program;
-    job = subst (λ ns. IsJob bytes run.part run.program ns) (sym f) run.job;
+    parsed = run.parsed;
+    job = run.job;
     status_is = e ∙ ap status_of run.stop;
+    notices_are = f ∙ run.notices;
     written = subst (λ t. Appends old new t) run.text w;
   }))
 
-  pub job_cut_off : AppendsFront old new (result_text (world_of s) (ran_of s).done) → IfSome a (λ input. IsCutOff input old new)
+  pub job_cut_off : AppendsFront old new (result_text (held_of s) (ran_of s).done) → IfSome a (λ input. IsCutOff input old new)
   job_cut_off w = known a _ _ all (λ input is. subst (λ i. IsCutOff i old new) is (record {
     part = run.part;
-    program = run.program;
-    notices = notices_of s;
+    parsed = run.parsed;
     job = run.job;
     front = subst (λ t. AppendsFront old new t) run.text w;
   }))

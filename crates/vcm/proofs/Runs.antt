@@ -1,83 +1,51 @@
 -- Runs of straight programs, step by step.
 use Rattle.std.proofs.Common.{◌≡◌, ℕ, zero, suc, ◌+◌, ◌<◌, ◌≤◌, true, false, List, [], ◌∷◌, length, Option, Some, None, refl, sym, ap, ◌∙◌, subst, arith}
 use Rattle.std.specs.Prelude.{IsTrue, slice_get}
-use Rattle.std.specs.List.{list_all}
-use Rattle.std.proofs.lemmas.Bool.{and_parts}
 use Rattle.vcm_spec.specs.declared.stop.StopPlace.{StopPlace}
-use Rattle.vcm_spec.specs.Setup.{Setup}
+use Rattle.vcm_spec.specs.Setup.{Tables, Setup}
+use Rattle.vcm_spec.specs.Fitting.{NodeFits, BlockFits}
 use Rattle.vcm_spec.specs.Program.{Node, Block, size, node_at, number_at}
 use Rattle.vcm_spec.specs.World.{World}
 use Rattle.vcm_spec.specs.Table.{Rest, State, state, front, drop_if_none, act, at_node, unless_stopped, step, steps, effective, next_number, number_of}
 use Rattle.vcm_spec.proofs.Steps.{steps-add}
-use Rattle.vcm_syntax.specs.declared.statement.Form.{Form}
-use Rattle.vcm_syntax.specs.declared.statement.Form.TheVariants.{Opening, Measures, Ignored, Move, Say, Ending}
-use Rattle.vcm_syntax.specs.declared.statement.Statement.{Statement}
-use Rattle.vcm_syntax.specs.Statements.{is_counted}
-use Rattle.vcm_tree.specs.Order.{is_ending}
-use Rattle.vcm_tree.specs.Program.{node_of, onto, program_of, is_ended}
+use Rattle.vcm_tree.specs.declared.node.Node.{Node as Kept}
+use Rattle.vcm_tree.specs.declared.node.Node.TheVariants as kept
+use Rattle.vcm_tree.specs.Nodes.{node_of, block_of}
+use Rattle.vcm_tree.specs.Program.{is_end, is_closed}
 
 -- ---- the nodes of a straight program
 
-abbrev pub AllCounted : List Statement → Type 0
-AllCounted ss = IsTrue (list_all (λ s. is_counted s.form) ss)
+pub one_statement : (n : Kept) → size (node_of n) ≡ 1
+one_statement (kept.Simple line what) = refl
+one_statement (kept.Ending line) = refl
 
--- a counted statement has one node of one statement
-pub record IsOne (o : Option Node) : Type 0 where
-  pub node : Node
-  pub is : o ≡ Some node
-  pub one : size node ≡ 1
+pub node_at-block : (ns : List Kept) (i : ℕ) (n : Kept) → slice_get ns i ≡ Some n → node_at (block_of ns) i ≡ Some (node_of n)
+node_at-block [] i n e = absurd cc
+node_at-block (m ∷ ns) zero n e = (let same : m ≡ n = cc in ap (λ x. Some (node_of x)) same)
+node_at-block (m ∷ ns) (suc i) n e = node_at-block ns i n e
 
-one_node : (line : ℕ) (form : Form) → is_counted form ≡ true → IsOne (node_of line form)
-one_node line Opening e = absurd cc
-one_node line Measures e = absurd cc
-one_node line (Ignored n) e = absurd cc
-one_node line (Move p) e = record { node = _; is = refl; one = refl }
-one_node line (Say t) e = record { node = _; is = refl; one = refl }
-one_node line Ending e = record { node = _; is = refl; one = refl }
+pub number_at-block : (ns : List Kept) (base i : ℕ) → i ≤ length ns → number_at (block_of ns) base i ≡ base + i
+number_at-block [] base i l = (let z : i ≡ 0 = omega arith in omega arith)
+number_at-block (m ∷ ns) base zero l = omega arith
+number_at-block (m ∷ ns) base (suc i) l = ap (λ k. number_at (block_of ns) (base + k) i) (one_statement m) ∙ number_at-block ns (base + 1) i (omega arith) ∙ omega arith
 
-pub node_at-program : (ss : List Statement) (i : ℕ) (s : Statement) → AllCounted ss → slice_get ss i ≡ Some s → node_at (program_of ss) i ≡ node_of s.line s.form
-node_at-program [] i s all e = absurd cc
-node_at-program (t ∷ ss) zero s all e =
-    let one = one_node t.line t.form (and_parts (is_counted t.form) _ all).0 in
-    let same : t ≡ s = cc in
-    ap (λ o. node_at (onto o (program_of ss)) 0) one.is ∙ sym one.is ∙ ap (λ x. node_of x.line x.form) same
-node_at-program (t ∷ ss) (suc i) s all e =
-    let parts = and_parts (is_counted t.form) _ all in
-    let one = one_node t.line t.form parts.0 in
-    ap (λ o. node_at (onto o (program_of ss)) (suc i)) one.is ∙ node_at-program ss i s parts.1 e
+-- each node of a program fits its tables
+pub fits_at : (tables : Tables) (ns : List Kept) (i : ℕ) (n : Kept) → BlockFits tables (block_of ns) → slice_get ns i ≡ Some n → NodeFits tables (node_of n)
+fits_at tables [] i n h e = absurd cc
+fits_at tables (m ∷ ns) zero n h e = (let same : m ≡ n = cc in subst (λ x. NodeFits tables (node_of x)) same h.0)
+fits_at tables (m ∷ ns) (suc i) n h e = fits_at tables ns i n h.1 e
 
-pub number_at-program : (ss : List Statement) (base i : ℕ) → AllCounted ss → i ≤ length ss → number_at (program_of ss) base i ≡ base + i
-number_at-program [] base i all l = (let z : i ≡ 0 = omega arith in omega arith)
-number_at-program (t ∷ ss) base zero all l =
-    let one = one_node t.line t.form (and_parts (is_counted t.form) _ all).0 in
-    ap (λ o. number_at (onto o (program_of ss)) base 0) one.is ∙ omega arith
-number_at-program (t ∷ ss) base (suc i) all l =
-    let parts = and_parts (is_counted t.form) _ all in
-    let one = one_node t.line t.form parts.0 in
-    ap (λ o. number_at (onto o (program_of ss)) base (suc i)) one.is ∙ ap (λ n. number_at (program_of ss) (base + n) i) one.one
-    ∙ number_at-program ss (base + 1) i parts.1 (omega arith) ∙ omega arith
+-- a node that is no ENDFIL has one behind it
+pub one_behind : (ns : List Kept) (i : ℕ) (n : Kept) → IsTrue (is_closed (block_of ns)) → slice_get ns i ≡ Some n → is_end (node_of n) ≡ false → i + 1 < length ns
+one_behind [] i n h e f = absurd cc
+one_behind (m ∷ []) zero n h e f = absurd (let same : m ≡ n = cc in let both : true ≡ false = sym h ∙ ap (λ x. is_end (node_of x)) same ∙ f in cc)
+one_behind (m ∷ []) (suc i) n h e f = absurd cc
+one_behind (m ∷ k ∷ ns) zero n h e f = omega arith
+one_behind (m ∷ k ∷ ns) (suc i) n h e f = (let r = one_behind (k ∷ ns) i n h e f in omega arith)
 
-pub some_node : (ss : List Statement) (i : ℕ) (s : Statement) → AllCounted ss → slice_get ss i ≡ Some s → IsOne (node_of s.line s.form)
-some_node [] i s all e = absurd cc
-some_node (t ∷ ss) zero s all e = let same : t ≡ s = cc in subst (λ x. IsOne (node_of x.line x.form)) same (one_node t.line t.form (and_parts (is_counted t.form) _ all).0)
-some_node (t ∷ ss) (suc i) s all e = some_node ss i s (and_parts (is_counted t.form) _ all).1 e
-
-pub is_counted_at : (ss : List Statement) (i : ℕ) (s : Statement) → AllCounted ss → slice_get ss i ≡ Some s → IsTrue (is_counted s.form)
-is_counted_at [] i s all e = absurd cc
-is_counted_at (t ∷ ss) zero s all e = let same : t ≡ s = cc in subst (λ x. IsTrue (is_counted x.form)) same (and_parts (is_counted t.form) _ all).0
-is_counted_at (t ∷ ss) (suc i) s all e = is_counted_at ss i s (and_parts (is_counted t.form) _ all).1 e
-
--- a statement that is no ENDFIL has one behind it
-pub one_behind : (ss : List Statement) (i : ℕ) (s : Statement) → IsTrue (is_ended ss) → slice_get ss i ≡ Some s → is_ending s ≡ false → i + 1 < length ss
-one_behind [] i s h e n = absurd cc
-one_behind (t ∷ []) zero s h e n = absurd (let same : t ≡ s = cc in let both : true ≡ false = sym h ∙ ap is_ending same ∙ n in cc)
-one_behind (t ∷ []) (suc i) s h e n = absurd cc
-one_behind (t ∷ u ∷ ss) zero s h e n = omega arith
-one_behind (t ∷ u ∷ ss) (suc i) s h e n = (let r = one_behind (u ∷ ss) i s h e n in omega arith)
-
-pub some_statement : (ss : List Statement) → IsTrue (is_ended ss) → 0 < length ss
-some_statement [] h = absurd cc
-some_statement (s ∷ ss) h = omega arith
+pub some_node : (ns : List Kept) → IsTrue (is_closed (block_of ns)) → 0 < length ns
+some_node [] h = absurd cc
+some_node (n ∷ ns) h = omega arith
 
 -- ---- a step at the i-th node
 
@@ -94,11 +62,9 @@ step_is setup w b i n none e =
     ap (λ o. unless_stopped o (at_place w b i) (act setup (front (Rest b 0 i ∷ [])) w (Rest b 0 i ∷ []))) none
     ∙ ap (λ es. act setup es w (Rest b 0 i ∷ [])) (front_is b i n e)
 
-pub next_is : (w : World) (ss : List Statement) (i : ℕ) (s : Statement) → AllCounted ss → slice_get ss i ≡ Some s → i ≤ length ss
-    → next_number (Rest (program_of ss) 0 i ∷ []) ≡ i
-next_is w ss i s all e l =
-    let one = some_node ss i s all e in
-    ap number_of (front_is (program_of ss) i one.node (node_at-program ss i s all e ∙ one.is)) ∙ number_at-program ss 0 i all l ∙ omega arith
+pub next_is : (w : World) (ns : List Kept) (i : ℕ) (n : Kept) → slice_get ns i ≡ Some n → i ≤ length ns
+    → next_number (Rest (block_of ns) 0 i ∷ []) ≡ i
+next_is w ns i n e l = ap number_of (front_is (block_of ns) i (node_of n) (node_at-block ns i n e)) ∙ number_at-block ns 0 i l ∙ omega arith
 
 -- ---- steps that count
 
@@ -138,7 +104,7 @@ effective-add setup (suc m) n s e = by s.world.stop refl (effective-add setup m 
         let r = ih (omega arith) in
         ap (λ x. effective setup x s) k ∙ ap (λ o. unless_stopped o 0 (suc (effective setup (m + n) (step setup s)))) f ∙ omega (arith, r)
 
-pub statement_at : (ss : List Statement) (i : ℕ) → i < length ss → (s : Statement) × (slice_get ss i ≡ Some s)
-statement_at [] i l = absurd (omega arith)
-statement_at (s ∷ ss) zero l = (s, refl)
-statement_at (s ∷ ss) (suc i) l = statement_at ss i (omega arith)
+pub there : (ns : List Kept) (i : ℕ) → i < length ns → (n : Kept) × (slice_get ns i ≡ Some n)
+there [] i l = absurd (omega arith)
+there (n ∷ ns) zero l = (n, refl)
+there (n ∷ ns) (suc i) l = there ns i (omega arith)

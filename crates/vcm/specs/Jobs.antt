@@ -6,11 +6,11 @@ use Rattle.vcm_part.specs.PartFile.{part_of}
 use Rattle.vcm_spec.specs.declared.stop.Stop.TheVariants.{Ended}
 use Rattle.vcm_spec.specs.declared.stop.StopPlace.{StopPlace}
 use Rattle.vcm_spec.specs.Workpiece.{Workpiece}
-use Rattle.vcm_spec.specs.Program.{Block}
+use Rattle.vcm_spec.specs.Setup.{Setup}
 use Rattle.vcm_spec.specs.Table.{State, steps, effective, opening}
-use Rattle.vcm_state.specs.Begun.{no_names}
+use Rattle.vcm_state.specs.Held.{Held}
 use Rattle.vcm_state.specs.Carried.{setup_of}
-use Rattle.vcm_tree.specs.declared.program.Noticed.{Noticed}
+use Rattle.vcm_tree.specs.Program.{Parsed}
 use Rattle.vcm_tree.specs.Acceptance.{IsAccepted}
 use Rattle.vcm.specs.Printed.{result_text}
 
@@ -53,19 +53,27 @@ most_steps = 1000000
 unfoldable pub most_bytes : ℕ
 most_bytes = 33554432
 
+-- what a program is carried out on
+abbrev pub job_setup : Workpiece → Parsed → Setup
+job_setup part p = setup_of part p.tables
+
 -- a program's state beside a workpiece at the start
-abbrev pub start_of : Workpiece → Block → State
-start_of part program = opening (setup_of part no_names) program
+abbrev pub start_of : Workpiece → Parsed → State
+start_of part p = opening (job_setup part p) p.program
 
 -- and after the steps of a job
-abbrev pub last_state : Workpiece → Block → State
-last_state part program = steps (setup_of part no_names) most_steps (start_of part program)
+abbrev pub last_state : Workpiece → Parsed → State
+last_state part p = steps (job_setup part p) most_steps (start_of part p)
+
+-- a state with the tables of its program
+abbrev pub held : Parsed → State → Held
+held p s = record { tables = p.tables; state = s.world }
 
 -- the standard output of a job: that of its program after so many steps
-abbrev pub job_text : Workpiece → Block → List ℕ
-job_text part program = result_text (last_state part program).world (effective (setup_of part no_names) most_steps (start_of part program))
+abbrev pub job_text : Workpiece → Parsed → List ℕ
+job_text part p = result_text (held p (last_state part p)) (effective (job_setup part p) most_steps (start_of part p))
 
--- the part text gives this workpiece, and the program text is accepted as this program, with these notices
-pub record IsJob (input : List ℕ) (part : Workpiece) (program : Block) (notices : List Noticed) : Type 0 where
+-- the part text gives this workpiece, and the program text is accepted as this program
+pub record IsJob (input : List ℕ) (part : Workpiece) (p : Parsed) : Type 0 where
   pub part_is : part_of (part_text input) ≡ Ok part
-  pub accepted : IsAccepted (program_text input) program notices
+  pub accepted : IsAccepted (program_text input) p

@@ -1,3 +1,4 @@
+pub mod Tabled
 pub mod Steps
 pub mod Run
 pub mod Summaries

@@ -11,8 +11,7 @@ use Rattle.vcm_spec.specs.declared.stop.StopPlace.{StopPlace}
 use Rattle.vcm_spec.specs.declared.words.MovePhase.{MovePhase}
 use Rattle.vcm_spec.specs.declared.words.MovePhase.TheVariants.{Move, Approach, Search, Retract}
 use Rattle.vcm_spec.specs.Setup.{Tables}
-use Rattle.vcm_spec.specs.World.{World}
-use Rattle.vcm_state.specs.Begun.{no_names}
+use Rattle.vcm_state.specs.Held.{Held}
 
 -- texts one after another
 abbrev pub in_a_row : List (List ℕ) → List ℕ
@@ -76,5 +75,5 @@ end_lines position done =
     ∷ codes "steps " ∷ decimal done ∷ codes "\n" ∷ [])
 
 -- the standard output of a run that shows this state after so many steps
-abbrev pub result_text : World → ℕ → List ℕ
-result_text w done = output_lines w.lines ++ (stop_line no_names w.stop done ++ end_lines w.position done)
+abbrev pub result_text : Held → ℕ → List ℕ
+result_text h done = output_lines h.state.lines ++ (stop_line h.tables h.state.stop done ++ end_lines h.state.position done)

@@ -7,12 +7,10 @@ use Rattle.vcm_part.specs.declared.fault.PartCode.TheVariants as part_codes
 use Rattle.vcm_part.specs.Reading.{fault}
 use Rattle.vcm_part.specs.PartFile.{part_of}
 use Rattle.vcm_spec.specs.Workpiece.{Workpiece}
-use Rattle.vcm_spec.specs.Program.{Block}
 use Rattle.vcm_spec.specs.Table.{steps}
-use Rattle.vcm_state.specs.Begun.{no_names}
-use Rattle.vcm_state.specs.Carried.{setup_of}
 use Rattle.vcm_tree.specs.declared.program.Noticed.{Noticed}
 use Rattle.vcm_tree.specs.Acceptance.{IsRefused}
+use Rattle.vcm_tree.specs.Program.{Parsed}
 use Rattle.vcm.specs.declared.job.Done.{Done}
 use Rattle.vcm.specs.declared.job.JobFault.{JobFault}
 use Rattle.vcm.specs.declared.job.JobFault.TheVariants.{Refused, Memory, Read, Write, TooLong}
@@ -20,25 +18,25 @@ use Rattle.vcm.specs.declared.run.Refusal.TheVariants.{Source, Part, NoMemory}
 use Rattle.vcm.specs.declared.run.End.TheVariants as ends
 use Rattle.vcm.specs.declared.run.Summary.{Summary}
 use Rattle.vcm.specs.Run.{Ended}
-use Rattle.vcm.specs.Summaries.{world_of, ran_of, notices_of}
+use Rattle.vcm.specs.Summaries.{held_of, world_of, ran_of, notices_of}
 use Rattle.vcm.specs.Printed.{result_text}
-use Rattle.vcm.specs.Jobs.{most_steps, most_bytes, start_of, part_text, program_text, job_text, last_state, status_of, IsJob}
+use Rattle.vcm.specs.Jobs.{most_steps, most_bytes, job_setup, start_of, part_text, program_text, job_text, last_state, status_of, IsJob}
 
 -- the summary shows the last state of the job's program
 pub record IsJobRun (input : List ℕ) (s : Summary) : Type 0 where
   pub part : Workpiece
-  pub program : Block
-  pub job : IsJob input part program (notices_of s)
-  pub text : result_text (world_of s) (ran_of s).done ≡ job_text part program
-  pub stop : (world_of s).stop ≡ (last_state part program).world.stop
+  pub parsed : Parsed
+  pub job : IsJob input part parsed
+  pub notices : notices_of s ≡ parsed.notices
+  pub text : result_text (held_of s) (ran_of s).done ≡ job_text part parsed
+  pub stop : (world_of s).stop ≡ (last_state part parsed).world.stop
 
 -- the run was refused memory after so many steps, where its next statement makes an output line and would not stop
 pub record IsHalted (input : List ℕ) (done : ℕ) : Type 0 where
   pub part : Workpiece
-  pub program : Block
-  pub notices : List Noticed
-  pub job : IsJob input part program notices
-  pub halted : Ended (setup_of part no_names) most_steps (start_of part program) (steps (setup_of part no_names) done (start_of part program)) done ends.NoMemory
+  pub parsed : Parsed
+  pub job : IsJob input part parsed
+  pub halted : Ended (job_setup part parsed) most_steps (start_of part parsed) (steps (job_setup part parsed) done (start_of part parsed)) done ends.NoMemory
 
 -- why there is no run: the part is refused; or the part gives a workpiece, and the program is refused; or memory was refused
 abbrev pub IsJobRefusal : List ℕ → JobFault → Type 0
@@ -62,18 +60,18 @@ ReadsLittle before after = IfSome before (λ input. IfSome after (λ rest. lengt
 -- the job's result was written and nothing else, and this is its status
 pub record IsDone (input : List ℕ) (status : ℕ) (notices : List Noticed) (old new : Option (List ℕ)) : Type 0 where
   pub part : Workpiece
-  pub program : Block
-  pub job : IsJob input part program notices
-  pub status_is : status ≡ status_of (last_state part program).world.stop
-  pub written : Appends old new (job_text part program)
+  pub parsed : Parsed
+  pub job : IsJob input part parsed
+  pub status_is : status ≡ status_of (last_state part parsed).world.stop
+  pub notices_are : notices ≡ parsed.notices
+  pub written : Appends old new (job_text part parsed)
 
 -- a front of the job's result was written
 pub record IsCutOff (input : List ℕ) (old new : Option (List ℕ)) : Type 0 where
   pub part : Workpiece
-  pub program : Block
-  pub notices : List Noticed
-  pub job : IsJob input part program notices
-  pub front : AppendsFront old new (job_text part program)
+  pub parsed : Parsed
+  pub job : IsJob input part parsed
+  pub front : AppendsFront old new (job_text part parsed)
 
 -- a failed write cut the result off; else nothing was written
 abbrev pub IsNotDone : Option (List ℕ) → JobFault → Option (List ℕ) → Option (List ℕ) → Type 0

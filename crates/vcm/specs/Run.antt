@@ -2,7 +2,7 @@
 use Rattle.std.specs.Prelude.{◌≡◌, ℕ, ◌<◌, Bool, true, false, IsTrue, List, [], ◌∷◌, Option, Some, None}
 use Rattle.vcm_spec.specs.declared.stop.StopPlace.{StopPlace}
 use Rattle.vcm_spec.specs.Setup.{Setup}
-use Rattle.vcm_spec.specs.Simple.{Output, Text}
+use Rattle.vcm_spec.specs.Simple.{Simple, Output, Text}
 use Rattle.vcm_spec.specs.World.{World}
 use Rattle.vcm_spec.specs.Program.{Node, Block, simple, node_at}
 use Rattle.vcm_spec.specs.Table.{Entry, Rest, EndIf, EndMeas, Loop, State, front, next_number, step, steps, effective, opening}
@@ -18,10 +18,15 @@ next_node (EndIf n ∷ es) = None
 next_node (EndMeas n ∷ es) = None
 next_node (Loop at v b close limit increment ∷ es) = None
 
--- whether it is one that takes memory: an output line
+-- whether a statement makes an output line
+abbrev pub prints : {E : Type 0} → Simple E → Bool
+prints (Output source i) = true
+prints (Text bytes) = true
+prints _ = false
+
+-- whether a node is one that takes memory: an output line
 abbrev pub takes_memory : Option Node → Bool
-takes_memory (Some (simple line (Output source i))) = true
-takes_memory (Some (simple line (Text bytes))) = true
+takes_memory (Some (simple line what)) = prints what
 takes_memory _ = false
 
 -- how a run ended, asked for n steps from the state `start`, at the state `reached` after `done` steps: it has stopped, so that these are the

@@ -2,12 +2,16 @@
 //! text, a line that is exactly `%%`, and the program text; it writes the result of the run on standard output.
 #![tactic(auto)]
 
+mod acting;
 mod cutting;
+#[cfg(test)]
+mod expression_tests;
 mod job;
 mod messages;
 mod output;
 mod run;
 mod stepping;
+mod tables;
 #[cfg(test)]
 mod tests;
 

@@ -1,16 +1,16 @@
 //! The printed result of a run. Nothing here takes memory.
 
-ghost use Rattle.std.specs.Prelude.{◌≡◌, ◌∷◌, [], codes};
+ghost use Rattle.std.specs.Prelude.{◌≡◌};
 ghost use Rattle.vcm_num.specs.Written.{Wrote};
-ghost use Rattle.vcm_state.specs.Begun.{no_names};
-ghost use Rattle.vcm.specs.Printed.{in_a_row, missing_text, phase_text, stop_text, ended_place, stop_line, output_lines, end_lines, result_text};
+ghost use Rattle.vcm.specs.Printed.{name_at, missing_text, phase_text, stop_text, ended_place, stop_line, output_lines, end_lines, result_text};
 
 use crate::run::Ran;
 use itoa::Buffer;
 use std::io::Write;
+use vcm_expr::Name;
 use vcm_num::{Items, Point, WriteFault, thousandths_text, write_pieces};
 use vcm_spec::{Missing, MovePhase, Stop, StopPlace};
-use vcm_state::World;
+use vcm_state::{Tables, World};
 
 // The word of a part of a motion.
 fn phase_text(phase: MovePhase) -> &'static [u8]
@@ -24,20 +24,40 @@ fn phase_text(phase: MovePhase) -> &'static [u8]
     }
 }
 
-// The letters in front of the name of what isn't there. No names are kept yet.
-fn missing_letters(missing: Missing) -> &'static [u8]
-    ensures { in_a_row (result.now ∷ codes ")" ∷ []) ≡ missing_text no_names missing }
+// The name at an index.
+fn name_at(names: &[Name], index: u16) -> &[u8]
+    ensures { result.now ≡ name_at names.now index }
+{
+    match names.get(index as usize) {
+        Some(name) => name.as_bytes(),
+        None => &[],
+    }
+}
+
+// Writes what isn't there yet, by its name.
+fn write_missing<W: Write>(
+    tables: &Tables,
+    missing: Missing,
+    writer: &mut W,
+) -> Result<(), WriteFault>
+    ensures { Wrote (W.contents writer.old) (W.contents writer.new) (missing_text tables.now missing) result }
 {
     match missing {
-        Missing::Nominal(_) => b"F(",
-        Missing::Actual(_) => b"FA(",
-        Missing::Frame(_) => b"D(",
+        Missing::Nominal(index) => {
+            write_pieces(writer, &[b"F(", name_at(tables.features(), index), b")"])
+        }
+        Missing::Actual(index) => {
+            write_pieces(writer, &[b"FA(", name_at(tables.features(), index), b")"])
+        }
+        Missing::Frame(index) => {
+            write_pieces(writer, &[b"D(", name_at(tables.frames(), index), b")"])
+        }
     }
 }
 
 // Writes why a run stopped.
-fn write_stop<W: Write>(stop: Stop, writer: &mut W) -> Result<(), WriteFault>
-    ensures { Wrote (W.contents writer.old) (W.contents writer.new) (stop_text no_names stop) result }
+fn write_stop<W: Write>(tables: &Tables, stop: Stop, writer: &mut W) -> Result<(), WriteFault>
+    ensures { Wrote (W.contents writer.old) (W.contents writer.new) (stop_text tables.now stop) result }
 {
     match stop {
         Stop::Ended => write_pieces(writer, &[b"stop ENDED"]),
@@ -63,10 +83,10 @@ fn write_stop<W: Write>(stop: Stop, writer: &mut W) -> Result<(), WriteFault>
         Stop::Overflow => write_pieces(writer, &[b"stop OVERFLOW"]),
         Stop::DivZero => write_pieces(writer, &[b"stop DIVZERO"]),
         Stop::ZeroStep => write_pieces(writer, &[b"stop ZEROSTEP"]),
-        Stop::Undefined(missing) => write_pieces(
-            writer,
-            &[b"stop UNDEFINED ", missing_letters(missing), b")"],
-        ),
+        Stop::Undefined(missing) => {
+            write_pieces(writer, &[b"stop UNDEFINED "])?;
+            write_missing(tables, missing, writer)
+        }
         Stop::BadSetting => write_pieces(writer, &[b"stop BADSETTING"]),
         Stop::OutputFull => write_pieces(writer, &[b"stop OUTPUTFULL"]),
     }
@@ -88,15 +108,16 @@ fn write_place<W: Write>(place: StopPlace, writer: &mut W) -> Result<(), WriteFa
 
 // Writes the line of the stop, or of the steps that were done where there is none.
 fn write_stop_line<W: Write>(
+    tables: &Tables,
     stop: Option<StopPlace>,
     done: u64,
     writer: &mut W,
 ) -> Result<(), WriteFault>
-    ensures { Wrote (W.contents writer.old) (W.contents writer.new) (stop_line no_names stop done) result }
+    ensures { Wrote (W.contents writer.old) (W.contents writer.new) (stop_line tables.now stop done) result }
 {
     match stop {
         Some(place) => {
-            write_stop(place.stop, writer)?;
+            write_stop(tables, place.stop, writer)?;
             write_place(place, writer)
         }
         None => {
@@ -151,6 +172,6 @@ pub fn write_result<W: Write>(world: &World, ran: &Ran, writer: &mut W) -> Resul
     ensures { Wrote (W.contents writer.old) (W.contents writer.new) (result_text world.now ran.now.done) result }
 {
     write_lines(world.lines(), writer)?;
-    write_stop_line(world.stop(), ran.done, writer)?;
+    write_stop_line(world.tables(), world.stop(), ran.done, writer)?;
     write_end(world.position(), ran.done, writer)
 }

@@ -1,20 +1,23 @@
 //! Runs of programs from their text.
 
-ghost use Rattle.std.specs.Prelude.{IfOk, IfErr};
-ghost use Rattle.vcm_state.specs.Begun.{no_names};
+ghost use Rattle.std.specs.Prelude.{◌≡◌, IfOk, IfErr};
+ghost use Rattle.vcm_spec.specs.World.{opening_world};
 ghost use Rattle.vcm_state.specs.Carried.{setup_of};
-ghost use Rattle.vcm_tree.specs.Program.{program_of, IsStraight};
+ghost use Rattle.vcm_tree.specs.Nodes.{block_of};
+ghost use Rattle.vcm_tree.specs.Program.{IsWhole, tables_of};
 ghost use Rattle.vcm.specs.Run.{IsRun};
 ghost use Rattle.vcm.specs.Programs.{IsSummary, IsRefusal};
 
 use crate::stepping::{Stepped, take_step};
+use crate::tables::tables_of;
 use std::alloc::Global;
+use vcm_expr::Names;
 use vcm_lines::SourceFault;
 use vcm_motion::Part;
+use vcm_num::NoMemory;
 use vcm_part::PartFault;
 use vcm_state::World;
-use vcm_syntax::Statement;
-use vcm_tree::{Noticed, accept};
+use vcm_tree::{Node, Noticed, accept};
 
 /// How a run ended.
 #[derive(Clone, Copy, Debug, PartialEq, Eq)]
@@ -56,11 +59,11 @@ pub struct Summary {
 
 impl Summary {
     ghost use Rattle.std.specs.Prelude.{◌≡◌};
-    ghost use Rattle.vcm.specs.Summaries.{world_of, next_of, ran_of, notices_of};
+    ghost use Rattle.vcm.specs.Summaries.{held_of, next_of, ran_of, notices_of};
 
-    /// The state of the machine.
+    /// The state of the machine, with the tables of its names.
     pub fn world(&self) -> &World
-        ensures { result.now ≡ world_of self.now }
+        ensures { result.now ≡ held_of self.now }
     {
         &self.world
     }
@@ -94,37 +97,47 @@ impl Summary {
     }
 }
 
-// Carries out the statements from the opening state, for at most n steps.
-fn carry_on<P: Part>(alloc: Global, part: &P, statements: &[Statement], n: u64) -> (World, u32, Ran)
-    requires { IsStraight statements.now }
-    ensures { IsRun (setup_of (P.part part.now) no_names) (program_of statements.now) n result.0 result.1 result.2 }
+// Carries out the nodes from the opening state, for at most n steps: the next number, and the steps done.
+fn carry_on<P: Part>(
+    alloc: Global,
+    part: &P,
+    world: &mut World,
+    nodes: &[Node],
+    n: u64,
+) -> (u32, Ran)
+    requires whole { IsWhole (block_of nodes.now) world.old.tables }
+    requires opening { world.old.state ≡ opening_world (setup_of (P.part part.now) world.old.tables) }
+    ensures run { IsRun (setup_of (P.part part.now) world.old.tables) (block_of nodes.now) n world.new.state result.0 result.1 }
+    ensures tables { world.new.tables ≡ world.old.tables }
 {
-    let mut world = World::opening(alloc, part.bounds().home);
     let mut next = 0;
     let mut done = 0;
     while done < n {
-        match take_step(alloc, part, &mut world, &statements[next as usize], next) {
+        match take_step(alloc, part, world, &nodes[next as usize], next) {
             Stepped::Next => next += 1,
             Stepped::Stopped => {
                 let end = End::Stopped;
-                return (
-                    world,
-                    next,
-                    Ran {
-                        done: done + 1,
-                        end,
-                    },
-                );
+                let done = done + 1;
+                return (next, Ran { done, end });
             }
             Stepped::NoMemory => {
                 let end = End::NoMemory;
-                return (world, next, Ran { done, end });
+                return (next, Ran { done, end });
             }
         }
         done += 1;
     }
     let end = End::Count;
-    (world, next, Ran { done, end })
+    (next, Ran { done, end })
+}
+
+// The state at the start, for a program with these names.
+fn opened<P: Part>(alloc: Global, part: &P, names: &Names) -> Result<World, NoMemory>
+    ensures tables { IfOk result (λ w. w.tables ≡ tables_of names.now) }
+    ensures state { IfOk result (λ w. w.state ≡ opening_world (setup_of (P.part part.now) (tables_of names.now))) }
+{
+    let tables = tables_of(alloc, names)?;
+    World::opening(alloc, &tables, part.bounds().home)
 }
 
 /// Runs a program from its text for at most n steps, beside a workpiece.
@@ -137,20 +150,22 @@ pub fn run_text<P: Part>(
     program: &[u8],
     n: u64,
 ) -> Result<Summary, Refusal>
-    ensures run { IfOk result (IsSummary (setup_of (P.part part.now) no_names) program.now n) }
+    ensures run { IfOk result (IsSummary (P.part part.now) program.now n) }
     ensures refused { IfErr result (IsRefusal program.now) }
 {
-    match accept(alloc, program) {
-        Ok(accepted) => {
-            let (world, next, ran) = carry_on(alloc, part, accepted.statements(), n);
-            let notices = accepted.into_notices();
-            Ok(Summary {
-                world,
-                next,
-                ran,
-                notices,
-            })
-        }
-        Err(fault) => Err(Refusal::Source(fault)),
-    }
+    let accepted = match accept(alloc, program) {
+        Ok(accepted) => accepted,
+        Err(fault) => return Err(Refusal::Source(fault)),
+    };
+    let Ok(mut world) = opened(alloc, part, accepted.variables()) else {
+        return Err(Refusal::NoMemory);
+    };
+    let (next, ran) = carry_on(alloc, part, &mut world, accepted.nodes(), n);
+    let notices = accepted.into_notices();
+    Ok(Summary {
+        world,
+        next,
+        ran,
+        notices,
+    })
 }

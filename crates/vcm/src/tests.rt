@@ -13,13 +13,13 @@ use vcm_motion::Blocks;
 use vcm_part::{PartCode, PartFault, read_part};
 use vcm_syntax::Notice;
 
-const BOUNDS: &str = "low = [-500000, -500000, -500000]
+pub(crate) const BOUNDS: &str = "low = [-500000, -500000, -500000]
 high = [500000, 500000, 500000]
 home = [0, 0, 100000]
 ";
 
 // One block on the table.
-const ONE_BLOCK: &str = "[[block]]
+pub(crate) const ONE_BLOCK: &str = "[[block]]
 low = [10000, 10000, 0]
 high = [30000, 30000, 20000]
 ";
@@ -34,7 +34,7 @@ high = [30000, 30000, 20000]
 ";
 
 // The program with these statements between its head and its end.
-fn program_of(alloc: Global, statements: &str) -> Result<String, AllocError> {
+pub(crate) fn program_of(alloc: Global, statements: &str) -> Result<String, AllocError> {
     let mut text = String::new(alloc);
     text.push_str("DMISMN/'T'\nUNITS/MM,ANGDEC\n")?;
     text.push_str(statements)?;
@@ -43,7 +43,7 @@ fn program_of(alloc: Global, statements: &str) -> Result<String, AllocError> {
 }
 
 // The job of a part and a program.
-fn job_of(alloc: Global, blocks: &str, program: &str) -> Result<String, AllocError> {
+pub(crate) fn job_of(alloc: Global, blocks: &str, program: &str) -> Result<String, AllocError> {
     let mut text = String::new(alloc);
     text.push_str(BOUNDS)?;
     text.push_str(blocks)?;
@@ -53,7 +53,7 @@ fn job_of(alloc: Global, blocks: &str, program: &str) -> Result<String, AllocErr
 }
 
 // What a job of these statements beside these blocks answers, and what it writes.
-fn answer_of(
+pub(crate) fn answer_of(
     alloc: Global,
     blocks: &str,
     statements: &str,
@@ -67,7 +67,7 @@ fn answer_of(
 }
 
 // The refusal of a program.
-fn refusal_of(alloc: Global, program: &str) -> Result<Option<Message>, AllocError> {
+pub(crate) fn refusal_of(alloc: Global, program: &str) -> Result<Option<Message>, AllocError> {
     let text = job_of(alloc, ONE_BLOCK, program)?;
     let mut input = text.as_bytes();
     let mut out = Vec::new(alloc);
@@ -78,7 +78,7 @@ fn refusal_of(alloc: Global, program: &str) -> Result<Option<Message>, AllocErro
 }
 
 // The refusal of a text at a line.
-fn refused(code: FaultCode, line: u32) -> Option<Message> {
+pub(crate) fn refused(code: FaultCode, line: u32) -> Option<Message> {
     Some(source_message(SourceFault { code, line }))
 }
 
@@ -241,7 +241,6 @@ fn notices(rt: HostRuntime) -> Result<(), Fail> {
 #[test]
 fn refused_statements(rt: HostRuntime) -> Result<(), Fail> {
     for (statements, code) in [
-        ("GOTO/1+1,0,0\n", FaultCode::Unsupported),
         ("DATSET/MCS\n", FaultCode::UnknownStatement),
         ("GOTO/12.3456,0,0\n", FaultCode::TooFine),
         ("GOTO/99999999999999999999,0,0\n", FaultCode::NumberTooLarge),

@@ -1,6 +1,6 @@
--- What a move does.
+-- What statements do to the state of the machine.
 use Rattle.std.proofs.Common.{◌≡◌, ◌<◌, ◌++◌, [], ◌∷◌, ℤ, Bool, true, false, List, ℕ, length, arith, Option, refl, sym, ap, ◌∙◌}
-use Rattle.std.specs.Prelude.{nat_lt}
+use Rattle.std.specs.Prelude.{nat_lt, slice_set}
 use Rattle.vcm_num.specs.declared.point.Point.{Point}
 use Rattle.vcm_num.specs.Number.{fits_i64}
 use Rattle.vcm_num.specs.Point.{point, coordinate}
@@ -11,15 +11,15 @@ use Rattle.vcm_spec.specs.declared.stop.StopPlace.{StopPlace}
 use Rattle.vcm_spec.specs.declared.words.MovePhase.TheVariants.{Move}
 use Rattle.vcm_spec.specs.Setup.{Setup}
 use Rattle.vcm_spec.specs.Workpiece.{Workpiece, is_within}
-use Rattle.vcm_spec.specs.World.{World}
+use Rattle.vcm_spec.specs.World.{World, with_variable}
 use Rattle.vcm_spec.specs.Contact.{IsContact}
 use Rattle.vcm_spec.specs.FirstContact.{contact}
 use Rattle.vcm_spec.specs.FirstTouch.{free_of, free_move}
 use Rattle.vcm_spec.specs.Outcome.{Outcome, Gives, Stops, ◌>>=◌, demand}
-use Rattle.vcm_spec.specs.Simple.{Goto, Text}
+use Rattle.vcm_spec.specs.Simple.{Goto, GoHome, Assign, Text}
 use Rattle.vcm_spec.specs.Effect.{carried_out, go}
 use Rattle.vcm_spec.proofs.Unique.{contact_unique}
-use Rattle.vcm_state.specs.Begun.{begun}
+use Rattle.vcm_state.specs.Held.{begun}
 use Rattle.vcm_state.proofs.Places.{opening_point}
 
 module _ (part : Workpiece) (x y : ℕ → ℤ) where
@@ -30,24 +30,49 @@ module _ (part : Workpiece) (x y : ℕ → ℤ) where
   moves_within e o h =
       ap (λ b. demand b (Travel Move) >>= (λ _. free_of Move (contact part.blocks x y))) e ∙ ap (free_of Move) (sym (contact_unique part.blocks x y o h))
 
--- a GOTO in the opening frame
+-- the state after a move, or its stop
 abbrev moved : World → Point → Outcome (Unit {0}) → Outcome World
 moved w target o = o >>= (λ _. Gives (record w { position = target }))
 
-goto_is : (setup : Setup) (p : Point) (ls : List (List ℕ)) (s : Option StopPlace) (x y z : ℤ) → fits_i64 x ≡ true → fits_i64 y ≡ true → fits_i64 z ≡ true
-    → carried_out setup (begun p ls s) (Goto x y z) ≡ moved (begun p ls s) (point x y z) (free_move Move setup.part (coordinate p) (coordinate (point x y z)))
-unfolding carried_out
-goto_is setup p ls s x y z fx fy fz = ap (λ o. o >>= go setup (begun p ls s)) (opening_point x y z fx fy fz)
+module _ (setup : Setup) (p : Point) (values : List ℤ) (ls : List (List ℕ)) (s : Option StopPlace) where
+  -- the state with the probe at a point
+  abbrev with_probe_at : Point → World
+  with_probe_at q = begun setup.tables q values ls s
 
-module _ (setup : Setup) (p : Point) (ls : List (List ℕ)) (s : Option StopPlace) (x y z : ℤ) (fx : fits_i64 x ≡ true) (fy : fits_i64 y ≡ true) (fz : fits_i64 z ≡ true)
-    (target : Point) (is : target ≡ point x y z) where
-  pub goto_goes : (u : Unit {0}) → free_move Move setup.part (coordinate p) (coordinate target) ≡ Gives u
-      → carried_out setup (begun p ls s) (Goto x y z) ≡ Gives (begun target ls s)
-  goto_goes u e = rw is (goto_is setup p ls s x y z fx fy fz ∙ ap (moved (begun p ls s) (point x y z)) (rw is at e))
+  goto_is : (x y z : ℤ) → fits_i64 x ≡ true → fits_i64 y ≡ true → fits_i64 z ≡ true
+      → carried_out setup (with_probe_at p) (Goto x y z) ≡ moved (with_probe_at p) (point x y z) (free_move Move setup.part (coordinate p) (coordinate (point x y z)))
+  unfolding carried_out
+  goto_is x y z fx fy fz = ap (λ o. o >>= go setup (with_probe_at p)) (opening_point x y z fx fy fz)
 
-  pub goto_stops : (why : Stop) → free_move Move setup.part (coordinate p) (coordinate target) ≡ Stops why
-      → carried_out setup (begun p ls s) (Goto x y z) ≡ Stops why
-  goto_stops why e = goto_is setup p ls s x y z fx fy fz ∙ ap (moved (begun p ls s) (point x y z)) (rw is at e)
+  module _ (x y z : ℤ) (fx : fits_i64 x ≡ true) (fy : fits_i64 y ≡ true) (fz : fits_i64 z ≡ true) (target : Point) (is : target ≡ point x y z) where
+    pub goto_goes : (u : Unit {0}) → free_move Move setup.part (coordinate p) (coordinate target) ≡ Gives u
+        → carried_out setup (with_probe_at p) (Goto x y z) ≡ Gives (with_probe_at target)
+    goto_goes u e = rw is (goto_is x y z fx fy fz ∙ ap (moved (with_probe_at p) (point x y z)) (rw is at e))
+
+    pub goto_stops : (why : Stop) → free_move Move setup.part (coordinate p) (coordinate target) ≡ Stops why
+        → carried_out setup (with_probe_at p) (Goto x y z) ≡ Stops why
+    goto_stops why e = goto_is x y z fx fy fz ∙ ap (moved (with_probe_at p) (point x y z)) (rw is at e)
+
+  home_is : carried_out setup (with_probe_at p) GoHome
+      ≡ moved (with_probe_at p) setup.part.bounds.home (free_move Move setup.part (coordinate p) (coordinate setup.part.bounds.home))
+  unfolding carried_out
+  home_is = refl
+
+  module _ (target : Point) (is : target ≡ setup.part.bounds.home) where
+    pub home_goes : (u : Unit {0}) → free_move Move setup.part (coordinate p) (coordinate target) ≡ Gives u
+        → carried_out setup (with_probe_at p) GoHome ≡ Gives (with_probe_at target)
+    home_goes u e = rw is (home_is ∙ ap (moved (with_probe_at p) setup.part.bounds.home) (rw is at e))
+
+    pub home_stops : (why : Stop) → free_move Move setup.part (coordinate p) (coordinate target) ≡ Stops why
+        → carried_out setup (with_probe_at p) GoHome ≡ Stops why
+    home_stops why e = home_is ∙ ap (moved (with_probe_at p) setup.part.bounds.home) (rw is at e)
+
+-- ---- values of variables
+
+-- a variable gets a value
+pub assigned : (setup : Setup) (w : World) (v : ℕ) (x : ℤ) → carried_out setup w (Assign v x) ≡ Gives (record w { variables = slice_set w.variables v x })
+unfolding carried_out with_variable
+assigned setup w v x = refl
 
 -- ---- output lines
 

@@ -1,27 +1,30 @@
 //! The state of the machine.
 
-ghost use Rattle.std.specs.Prelude.{IsTrue, OnOk};
+ghost use Rattle.std.specs.Prelude.{◌≡◌, pos, replicate, IsTrue, IfOk, OnOk};
 ghost use Rattle.vcm_num.specs.Point.{coordinate, is_near};
 ghost use Rattle.vcm_spec.specs.declared.words.MovePhase.TheVariants.{Move};
 ghost use Rattle.vcm_spec.specs.FirstTouch.{free_move};
 ghost use Rattle.vcm_state.specs.Carried.{Answers};
-ghost use Rattle.std.specs.Prelude.{◌≡◌, IsTrue};
 
 use crate::stop::Halt;
+use crate::tables::Tables;
 use std::alloc::Global;
 use std::marker::Model;
 use vcm_motion::Part;
-use vcm_num::{Items, Point};
+use vcm_num::{Items, NoMemory, Point};
 use vcm_part::is_within;
 use vcm_spec::{MovePhase, Stop, StopPlace};
 
 /// The most output lines of a run.
 const MAX_LINES: usize = 100_000;
 
-/// The state of the machine: where the probe is, in micrometres of machine coordinates, the output lines, and the stop if there is one.
+/// The state of the machine: where the probe is, in micrometres of machine coordinates, the values of the variables, the output lines, and the
+/// stop if there is one; and the tables of names that it goes by.
 #[derive(Debug, Drop)]
 pub struct World {
+    tables: Tables,
     position: Point,
+    variables: Items<i64>,
     lines: Items<Items<u8>>,
     stop: Option<StopPlace>,
 }
@@ -29,56 +32,79 @@ pub struct World {
 impl Model for World {
     ghost use Rattle.std.specs.Prelude.{IsTrue};
     ghost use Rattle.vcm_num.specs.Point.{is_near};
-    ghost use Rattle.vcm_spec.specs.World.{World as State};
-    ghost use Rattle.vcm_state.specs.Begun.{begun};
+    ghost use Rattle.vcm_expr.specs.Slots.{SlotsFit};
+    ghost use Rattle.vcm_spec.specs.Fitting.{kinds};
+    ghost use Rattle.vcm_state.specs.Held.{Held, begun};
 
-    ghost Value = { State };
+    ghost Value = { Held };
 
-    ghost view = { λ w. begun w.position w.lines w.stop };
+    ghost view = { λ w. record { tables = w.tables; state = begun w.tables w.position w.variables w.lines w.stop } };
 
-    ghost invariant = { λ w. IsTrue (is_near w.position) };
+    ghost invariant = { λ w. IsTrue (is_near w.position) × SlotsFit (kinds w.tables) w.variables };
 }
 
 impl World {
-    ghost use Rattle.std.specs.Prelude.{◌≡◌, IsTrue, Option};
+    ghost use Rattle.std.specs.Prelude.{◌≡◌, IsTrue, IfOk};
     ghost use Rattle.vcm_num.specs.Point.{is_near};
-    ghost use Rattle.vcm_spec.specs.Setup.{Tables};
     ghost use Rattle.vcm_spec.specs.Workpiece.{Workpiece};
     ghost use Rattle.vcm_spec.specs.World.{opening_world, stopped};
-    ghost use Rattle.vcm_spec.specs.Simple.{Goto, Text};
-    ghost use Rattle.vcm_spec.specs.Effect.{carried_out};
-    ghost use Rattle.vcm_state.specs.Begun.{no_names};
-    ghost use Rattle.vcm_state.specs.Carried.{setup_of, Carried, CarriedOrHalted};
+    ghost use Rattle.vcm_spec.specs.Simple.{Goto, GoHome, Assign, Text};
+    ghost use Rattle.vcm_expr.specs.Slots.{SlotsFit};
+    ghost use Rattle.vcm_spec.specs.Fitting.{kinds};
+    ghost use Rattle.vcm_state.specs.Held.{MayHave};
+    ghost use Rattle.vcm_state.specs.Carried.{setup_of, Carries, CarriesOrHalts};
 
-    /// The state at the start, at home, for programs without names.
-    pub fn opening(alloc: Global, home: Point) -> World
+    /// The state at the start: at home, every variable 0 or .FALSE., and nothing printed.
+    ///
+    /// Errors: want of memory.
+    pub fn opening(alloc: Global, tables: &Tables, home: Point) -> Result<World, NoMemory>
         requires { IsTrue (is_near home) }
-        ensures { (part : Workpiece) → part.bounds.home ≡ home → result ≡ opening_world (setup_of part no_names) }
+        ensures tables { IfOk result (λ w. w.tables ≡ tables.now) }
+        ensures state { IfOk result (λ w. (part : Workpiece) → part.bounds.home ≡ home → w.state ≡ opening_world (setup_of part tables.now)) }
     {
-        World {
+        let variables = zeros(alloc, tables.variables().len())?;
+        let own = tables.copy(alloc)?;
+        Ok(World {
+            tables: own,
             position: home,
+            variables,
             lines: Items::new(alloc),
             stop: None,
-        }
+        })
+    }
+
+    /// The tables of names.
+    pub fn tables(&self) -> &Tables
+        ensures { result.now ≡ self.now.tables }
+    {
+        &self.tables
     }
 
     /// Where the probe is, in micrometres of machine coordinates.
     pub fn position(&self) -> Point
-        ensures { result ≡ self.now.position }
+        ensures { result ≡ self.now.state.position }
     {
         self.position
     }
 
+    /// The values of the variables: a `Real` as a number of thousandths, a truth value as 0 or 1.
+    pub fn variables(&self) -> &[i64]
+        ensures values { result.now ≡ self.now.state.variables }
+        ensures fit { SlotsFit (kinds self.now.tables) self.now.state.variables }
+    {
+        self.variables.as_slice()
+    }
+
     /// The output lines.
     pub fn lines(&self) -> &[Items<u8>]
-        ensures { result.now ≡ self.now.lines }
+        ensures { result.now ≡ self.now.state.lines }
     {
         self.lines.as_slice()
     }
 
     /// The stop and its place, if the run has stopped.
     pub fn stop(&self) -> Option<StopPlace>
-        ensures { result ≡ self.now.stop }
+        ensures { result ≡ self.now.state.stop }
     {
         self.stop
     }
@@ -87,7 +113,7 @@ impl World {
     ///
     /// Errors: `Travel` where the point lies outside the limits, `Collision` where the straight move meets a block. The state is then as it was.
     pub fn goto<P: Part>(&mut self, part: &P, x: i64, y: i64, z: i64) -> Result<(), Stop>
-        ensures { (tables : Tables) → Carried (carried_out (setup_of (P.part part.now) tables) self.old (Goto x y z)) self.old self.new result }
+        ensures { Carries (P.part part.now) (Goto x y z) self.old self.new result }
     {
         let target = Point::new(x, y, z);
         free_move(part, self.position, target)?;
@@ -95,11 +121,33 @@ impl World {
         Ok(())
     }
 
+    /// A move to the machine's home.
+    ///
+    /// Errors: `Collision` where the straight move meets a block. The state is then as it was.
+    pub fn go_home<P: Part>(&mut self, part: &P) -> Result<(), Stop>
+        ensures { Carries (P.part part.now) GoHome self.old self.new result }
+    {
+        let home = part.bounds().home;
+        free_move(part, self.position, home)?;
+        self.position = home;
+        Ok(())
+    }
+
+    /// A variable, given by its index, gets a value: a number of thousandths if it is a `Real`, 0 or 1 if it is a truth value. It always answers
+    /// `Ok`.
+    pub fn assign(&mut self, variable: u16, value: i64) -> Result<(), Stop>
+        requires { MayHave (kinds self.old.tables) variable value }
+        ensures { (part : Workpiece) → Carries part (Assign variable value) self.old self.new result }
+    {
+        self.variables.set(usize::from(variable), value);
+        Ok(())
+    }
+
     /// One more output line.
     ///
     /// Errors: the stop `OutputFull` where there are 100,000 lines, or want of memory. The state is then as it was.
     pub fn text(&mut self, alloc: Global, bytes: &[u8]) -> Result<(), Halt>
-        ensures { (part : Workpiece) → (tables : Tables) → CarriedOrHalted (carried_out (setup_of part tables) self.old (Text bytes.now)) self.old self.new result }
+        ensures { (part : Workpiece) → CarriesOrHalts part (Text bytes.now) self.old self.new result }
     {
         if self.lines.len() >= MAX_LINES {
             return Err(Halt::Stop(Stop::OutputFull));
@@ -111,10 +159,18 @@ impl World {
 
     /// The run stops at a statement, given by its number and source line; all else stays.
     pub fn set_stop(&mut self, stop: Stop, number: u32, line: u32)
-        ensures { self.new ≡ stopped self.old stop number line }
+        ensures { self.new ≡ record { tables = self.old.tables; state = stopped self.old.state stop number line } }
     {
         self.stop = Some(StopPlace { stop, number, line });
     }
+}
+
+// So many zeros.
+fn zeros(alloc: Global, count: usize) -> Result<Items<i64>, NoMemory>
+    ensures { IfOk result (λ values. values ≡ replicate count (pos 0)) }
+{
+    let values = vec![in alloc; 0; count]?;
+    Ok(Items::from_vec(values))
 }
 
 // A straight move within the limits, without contact on the way.

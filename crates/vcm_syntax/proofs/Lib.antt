@@ -1,5 +1,6 @@
 pub mod Fields
-pub mod NumberLemmas
+pub mod Naming
+pub mod GotoWords
 pub mod PlaceLaws
 pub mod FormLaws
 pub mod OnceLaws

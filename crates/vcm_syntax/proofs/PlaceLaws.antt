@@ -1,12 +1,9 @@
 -- Words that may stand at a place break no rule there, and say one thing.
-use Rattle.std.proofs.Common.{◌≡◌, ℕ, inl, inr, List, [], ◌∷◌, Ok, sym, ap, ◌∙◌}
-use Rattle.vcm_num.specs.declared.number.Literal.{Literal}
-use Rattle.vcm_num.specs.Literals.{Reads}
+use Rattle.std.proofs.Common.{◌≡◌, ℕ, List, [], ◌∷◌, Some, inl, inr, refl, sym, ◌∙◌}
+use Rattle.vcm_num.specs.declared.number.Kind.{Kind}
 use Rattle.vcm_lines.specs.declared.fault.FaultCode.{FaultCode}
-use Rattle.vcm_lines.specs.declared.fault.FaultCode.TheVariants.{TooFine, NumberTooLarge, Unsupported}
-use Rattle.vcm_lines.specs.Lexemes.{Lexeme, Run, Number, Quoted, Equals, Open, Close, Plus, Minus}
-use Rattle.vcm_syntax.specs.Places.{IsBare, BreaksBare, IsWord, BreaksWord, BreaksOffered, IsSingle, BreaksSingle, IsText, BreaksText, IsRest, BreaksRest, IsEnd, BreaksEnd, IsTitle, BreaksTitle, IsConstant, BreaksConstant, BreaksDigits, negated, IsLength, BreaksLength}
-use Rattle.vcm_syntax.proofs.NumberLemmas.{reads_well, reads_once}
+use Rattle.vcm_lines.specs.Lexemes.{Lexeme, Run, Quoted, Equals, Open, Close}
+use Rattle.vcm_syntax.specs.Places.{IsBare, BreaksBare, IsWord, BreaksWord, BreaksOffered, IsSingle, BreaksSingle, IsText, BreaksText, IsRest, BreaksRest, IsEnd, BreaksEnd, IsTitle, BreaksTitle, IsVariable, BreaksVariable, AreVariables, BreaksVariables, IsTarget, BreaksTarget, IsKind, BreaksKind}
 
 pub bare_law : (f : List Lexeme) (code : FaultCode) → IsBare f → BreaksBare f code → ⊥
 bare_law [] code h b = b
@@ -39,36 +36,45 @@ pub title_law : (letter : List ℕ) (f : List Lexeme) (l : List ℕ) (code : Fau
 title_law letter (Run bs ∷ Open ∷ Run label ∷ Close ∷ Equals ∷ []) l code h b = let p = h.0 in let q = b.0 in cc
 title_law letter _ l code h b = h
 
-digits_law : (bs : List ℕ) (x : Literal) (code : FaultCode) → Reads bs (Ok x) → BreaksDigits bs code → ⊥
-digits_law bs x TooFine h b = reads_well bs x h (inl b)
-digits_law bs x NumberTooLarge h b = reads_well bs x h (inr b)
-digits_law bs x Unsupported h b = b h.0 h.1
-digits_law bs x _ h b = b
+variable_law : (f : List Lexeme) (name : List ℕ) (code : FaultCode) → IsVariable f name → BreaksVariable f code → ⊥
+variable_law (Run bs ∷ []) name code h b = let p = h.0 in let q = b.0 in cc
+variable_law _ name code h b = h
 
-constant_law : (w : Lexeme) (x : Literal) (code : FaultCode) → IsConstant w x → BreaksConstant w code → ⊥
-constant_law (Run bs) x code h b = digits_law bs x code h b
-constant_law (Number bs) x code h b = digits_law bs x code h b
-constant_law _ x code h b = h
+pub variables_law : (fs : List (List Lexeme)) (names : List (List ℕ)) (code : FaultCode) → AreVariables fs names → BreaksVariables fs code → ⊥
+variables_law [] names code h b = b
+variables_law (f ∷ fs) [] code h b = h
+variables_law (f ∷ fs) (n ∷ ns) code h (inl b) = variable_law f n code h.0 b
+variables_law (f ∷ fs) (n ∷ ns) code h (inr b) = variables_law fs ns code h.1 b
 
-pub length_law : (f : List Lexeme) (x : Literal) (code : FaultCode) → IsLength f x → BreaksLength f code → ⊥
-length_law [] x code h b = h
-length_law (Minus ∷ w ∷ []) x code h b = constant_law w h.0 code h.1 b
-length_law (Plus ∷ w ∷ []) x code h b = constant_law w x code h b
-length_law (w ∷ []) x code h b = constant_law w x code h b
-length_law _ x code h b = h
+pub target_law : (f : List Lexeme) (name : List ℕ) (code : FaultCode) → IsTarget f name → BreaksTarget f code → ⊥
+target_law (Run bs ∷ Equals ∷ []) name code h b = let p = h.0 in let q = b.0 in cc
+target_law _ name code h b = h
+
+pub kind_law : (f : List Lexeme) (kind : Kind) (code : FaultCode) → IsKind f kind → BreaksKind f code → ⊥
+kind_law (Run bs ∷ []) kind code h b = let q = b.0 in cc
+kind_law _ kind code h b = h
 
 pub text_once : (f : List Lexeme) (t u : List ℕ) → IsText f t → IsText f u → t ≡ u
 text_once (Quoted bs ∷ []) t u h g = h ∙ sym g
 text_once _ t u h g = absurd h
 
-constant_once : (w : Lexeme) (x y : Literal) → IsConstant w x → IsConstant w y → x ≡ y
-constant_once (Run bs) x y h g = reads_once bs x y h g
-constant_once (Number bs) x y h g = reads_once bs x y h g
-constant_once _ x y h g = absurd h
+variable_once : (f : List Lexeme) (n m : List ℕ) → IsVariable f n → IsVariable f m → n ≡ m
+variable_once (Run bs ∷ []) n m h g = h.1 ∙ sym g.1
+variable_once _ n m h g = absurd h
 
-pub length_once : (f : List Lexeme) (x y : Literal) → IsLength f x → IsLength f y → x ≡ y
-length_once [] x y h g = absurd h
-length_once (Minus ∷ w ∷ []) x y h g = h.2 ∙ ap negated (constant_once w h.0 g.0 h.1 g.1) ∙ sym g.2
-length_once (Plus ∷ w ∷ []) x y h g = constant_once w x y h g
-length_once (w ∷ []) x y h g = constant_once w x y h g
-length_once _ x y h g = absurd h
+pub variables_once : (fs : List (List Lexeme)) (ns ms : List (List ℕ)) → AreVariables fs ns → AreVariables fs ms → ns ≡ ms
+variables_once [] ns ms h g = h ∙ sym g
+variables_once (f ∷ fs) [] ms h g = absurd h
+variables_once (f ∷ fs) (n ∷ ns) [] h g = absurd g
+variables_once (f ∷ fs) (n ∷ ns) (m ∷ ms) h g = rw (variable_once f n m h.0 g.0, variables_once fs ns ms h.1 g.1) refl
+
+pub target_once : (f : List Lexeme) (n m : List ℕ) → IsTarget f n → IsTarget f m → n ≡ m
+target_once (Run bs ∷ Equals ∷ []) n m h g = h.1 ∙ sym g.1
+target_once _ n m h g = absurd h
+
+some_once : (k l : Kind) → Some k ≡ Some l → k ≡ l
+some_once k l e = cc
+
+pub kind_once : (f : List Lexeme) (k l : Kind) → IsKind f k → IsKind f l → k ≡ l
+kind_once (Run bs ∷ []) k l h g = some_once k l (sym h ∙ g)
+kind_once _ k l h g = absurd h

@@ -4,14 +4,15 @@ use Rattle.std.specs.Prelude.{◌≡◌, ◌⊎◌, ℕ, codes, List, [], ◌∷
 use Rattle.vcm_lines.specs.declared.fault.FaultCode.{FaultCode}
 use Rattle.vcm_lines.specs.declared.fault.FaultCode.TheVariants.{BadSyntax}
 use Rattle.vcm_lines.specs.Lexemes.{Lexeme}
+use Rattle.vcm_expr.specs.Parsing.{IsExpr, BreaksExpr}
 use Rattle.vcm_syntax.specs.declared.statement.Major.{Major}
-use Rattle.vcm_syntax.specs.declared.statement.Major.TheVariants.{Dmismn, Units, Goto, Text, Endfil, Passed}
+use Rattle.vcm_syntax.specs.declared.statement.Major.TheVariants.{Dmismn, Units, Decl, Assign, Goto, Gohome, Text, Endfil, Passed}
 use Rattle.vcm_syntax.specs.declared.statement.Notice.{Notice}
 use Rattle.vcm_syntax.specs.declared.statement.Notice.TheVariants.{Snsdef, Vform}
 use Rattle.vcm_syntax.specs.declared.statement.Spot.{Spot}
 use Rattle.vcm_syntax.specs.declared.statement.Form.{Form}
-use Rattle.vcm_syntax.specs.declared.statement.Form.TheVariants.{Opening, Measures, Ignored, Move, Say, Ending}
-use Rattle.vcm_syntax.specs.Places.{IsBare, BreaksBare, IsWord, BreaksWord, BreaksOffered, IsSingle, BreaksSingle, IsText, BreaksText, IsRest, BreaksRest, IsEnd, BreaksEnd, IsTitle, BreaksTitle, IsLength, BreaksLength}
+use Rattle.vcm_syntax.specs.declared.statement.Form.TheVariants.{Opening, Measures, Ignored, Declaration, Assignment, Move, Home, Say, Ending}
+use Rattle.vcm_syntax.specs.Places.{IsBare, BreaksBare, IsWord, BreaksWord, BreaksOffered, IsSingle, BreaksSingle, IsText, BreaksText, IsRest, BreaksRest, IsEnd, BreaksEnd, IsTitle, BreaksTitle, IsTarget, BreaksTarget, IsKind, BreaksKind, AreVariables, BreaksVariables, unscoped}
 
 -- DMISMN/'text'[,..]
 abbrev pub IsDmismn : List Lexeme → List (List Lexeme) → Form → Type 0
@@ -41,25 +42,51 @@ BreaksUnits front (u ∷ []) code = BreaksBare front code ⊎ (BreaksOffered (co
 BreaksUnits front (u ∷ a ∷ []) code = BreaksBare front code ⊎ BreaksMetric u a code
 BreaksUnits front (u ∷ a ∷ w ∷ more) code = BreaksBare front code ⊎ (BreaksMetric u a code ⊎ (BreaksSingle w code ⊎ BreaksEnd more code))
 
--- three lengths
+-- kind,v{,v}
+abbrev pub IsDeclaration : List (List Lexeme) → Form → Type 0
+IsDeclaration (k ∷ v ∷ vs) (Declaration kind names) = IsKind k kind × AreVariables (v ∷ vs) names
+IsDeclaration _ _ = ⊥
+
+abbrev pub BreaksDeclaration : List (List Lexeme) → FaultCode → Type 0
+BreaksDeclaration [] code = code ≡ BadSyntax
+BreaksDeclaration (k ∷ []) code = BreaksKind k code ⊎ (code ≡ BadSyntax)
+BreaksDeclaration (k ∷ v ∷ vs) code = BreaksKind k code ⊎ BreaksVariables (v ∷ vs) code
+
+-- DECL/[COMMON,|GLOBAL,|LOCAL,]kind,v{,v}
+abbrev pub IsDecl : List Lexeme → List (List Lexeme) → Form → Type 0
+IsDecl front fields form = IsBare front × IsDeclaration (unscoped fields) form
+
+abbrev pub BreaksDecl : List Lexeme → List (List Lexeme) → FaultCode → Type 0
+BreaksDecl front fields code = BreaksBare front code ⊎ BreaksDeclaration (unscoped fields) code
+
+-- v=ASSIGN/e
+abbrev pub IsAssign : List Lexeme → List (List Lexeme) → Form → Type 0
+IsAssign front (e ∷ more) (Assignment name value) = IsTarget front name × IsExpr e value × IsEnd more
+IsAssign front _ _ = ⊥
+
+abbrev pub BreaksAssign : List Lexeme → List (List Lexeme) → FaultCode → Type 0
+BreaksAssign front [] code = BreaksTarget front code ⊎ (code ≡ BadSyntax)
+BreaksAssign front (e ∷ more) code = BreaksTarget front code ⊎ (BreaksExpr e code ⊎ BreaksEnd more code)
+
+-- three expressions
 abbrev pub IsSpot : List Lexeme → List Lexeme → List Lexeme → Spot → Type 0
-IsSpot a b c p = IsLength a p.x × IsLength b p.y × IsLength c p.z
+IsSpot a b c p = IsExpr a p.x × IsExpr b p.y × IsExpr c p.z
 
 abbrev pub BreaksSpot : List Lexeme → List Lexeme → List Lexeme → FaultCode → Type 0
-BreaksSpot a b c code = BreaksLength a code ⊎ (BreaksLength b code ⊎ BreaksLength c code)
+BreaksSpot a b c code = BreaksExpr a code ⊎ (BreaksExpr b code ⊎ BreaksExpr c code)
 
--- L,L,L
+-- e,e,e
 abbrev pub IsPlace : List (List Lexeme) → Spot → Type 0
 IsPlace (a ∷ b ∷ c ∷ more) p = IsSpot a b c p × IsEnd more
 IsPlace _ p = ⊥
 
 abbrev pub BreaksPlace : List (List Lexeme) → FaultCode → Type 0
 BreaksPlace [] code = code ≡ BadSyntax
-BreaksPlace (a ∷ []) code = BreaksLength a code ⊎ (code ≡ BadSyntax)
-BreaksPlace (a ∷ b ∷ []) code = BreaksLength a code ⊎ (BreaksLength b code ⊎ (code ≡ BadSyntax))
+BreaksPlace (a ∷ []) code = BreaksExpr a code ⊎ (code ≡ BadSyntax)
+BreaksPlace (a ∷ b ∷ []) code = BreaksExpr a code ⊎ (BreaksExpr b code ⊎ (code ≡ BadSyntax))
 BreaksPlace (a ∷ b ∷ c ∷ more) code = BreaksSpot a b c code ⊎ BreaksEnd more code
 
--- GOTO/[CART,]L,L,L, where the word is read before three fields and more
+-- GOTO/[CART,]e,e,e, where the word is read before three fields and more
 abbrev pub IsGoto : List Lexeme → List (List Lexeme) → Form → Type 0
 IsGoto front (w ∷ a ∷ b ∷ c ∷ more) (Move p) = IsBare front × IsWord (codes "CART") w × IsPlace (a ∷ b ∷ c ∷ more) p
 IsGoto front fields (Move p) = IsBare front × IsPlace fields p
@@ -68,6 +95,11 @@ IsGoto front _ _ = ⊥
 abbrev pub BreaksGoto : List Lexeme → List (List Lexeme) → FaultCode → Type 0
 BreaksGoto front (w ∷ a ∷ b ∷ c ∷ more) code = BreaksBare front code ⊎ (BreaksWord (codes "CART") w code ⊎ BreaksPlace (a ∷ b ∷ c ∷ more) code)
 BreaksGoto front fields code = BreaksBare front code ⊎ BreaksPlace fields code
+
+-- GOHOME
+abbrev pub IsGohome : List Lexeme → List (List Lexeme) → Form → Type 0
+IsGohome front fields Home = IsBare front × IsEnd fields
+IsGohome front fields _ = ⊥
 
 -- TEXT/OPER,'text'
 abbrev pub IsSay : List Lexeme → List (List Lexeme) → Form → Type 0
@@ -79,11 +111,12 @@ BreaksSay front [] code = BreaksBare front code ⊎ (code ≡ BadSyntax)
 BreaksSay front (w ∷ []) code = BreaksBare front code ⊎ (BreaksOffered (codes "OPER") w code ⊎ (code ≡ BadSyntax))
 BreaksSay front (w ∷ t ∷ more) code = BreaksBare front code ⊎ (BreaksOffered (codes "OPER") w code ⊎ (BreaksText t code ⊎ BreaksEnd more code))
 
--- ENDFIL: nothing stands before it or behind it
+-- ENDFIL
 abbrev pub IsEndfil : List Lexeme → List (List Lexeme) → Form → Type 0
 IsEndfil front fields Ending = IsBare front × IsEnd fields
 IsEndfil front fields _ = ⊥
 
+-- a word alone: nothing stands before it or behind it
 abbrev pub BreaksAlone : List Lexeme → List (List Lexeme) → FaultCode → Type 0
 BreaksAlone front fields code = BreaksBare front code ⊎ BreaksEnd fields code
 
@@ -111,7 +144,10 @@ BreaksPassed n front [] code = BreaksPrefix n front code ⊎ (code ≡ BadSyntax
 abbrev pub IsForm : Major → List Lexeme → List (List Lexeme) → Form → Type 0
 IsForm Dmismn = IsDmismn
 IsForm Units = IsUnits
+IsForm Decl = IsDecl
+IsForm Assign = IsAssign
 IsForm Goto = IsGoto
+IsForm Gohome = IsGohome
 IsForm Text = IsSay
 IsForm Endfil = IsEndfil
 IsForm (Passed n) = IsPassed n
@@ -120,7 +156,10 @@ IsForm (Passed n) = IsPassed n
 abbrev pub BreaksForm : Major → List Lexeme → List (List Lexeme) → FaultCode → Type 0
 BreaksForm Dmismn = BreaksDmismn
 BreaksForm Units = BreaksUnits
+BreaksForm Decl = BreaksDecl
+BreaksForm Assign = BreaksAssign
 BreaksForm Goto = BreaksGoto
+BreaksForm Gohome = BreaksAlone
 BreaksForm Text = BreaksSay
 BreaksForm Endfil = BreaksAlone
 BreaksForm (Passed n) = BreaksPassed n

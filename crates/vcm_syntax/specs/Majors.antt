@@ -5,7 +5,7 @@ use Rattle.vcm_lines.specs.declared.fault.FaultCode.{FaultCode}
 use Rattle.vcm_lines.specs.declared.fault.FaultCode.TheVariants.{UnknownStatement, BadSyntax, Unsupported}
 use Rattle.vcm_lines.specs.Lexemes.{Lexeme, Run, Close}
 use Rattle.vcm_syntax.specs.declared.statement.Major.{Major}
-use Rattle.vcm_syntax.specs.declared.statement.Major.TheVariants.{Dmismn, Units, Goto, Text, Endfil, Passed}
+use Rattle.vcm_syntax.specs.declared.statement.Major.TheVariants.{Dmismn, Units, Decl, Assign, Goto, Gohome, Text, Endfil, Passed}
 use Rattle.vcm_syntax.specs.declared.statement.Notice.{Notice}
 use Rattle.vcm_syntax.specs.declared.statement.Notice.TheVariants.{Mode, Fedrat, Aclrat, Finpos, Prcomp, Decpl, Filnam, Disply, Wkplan, Snslct, Snsdef, Vform}
 
@@ -29,7 +29,10 @@ abbrev pub read_word : List ℕ → Option Major
 read_word w =
     if bytes_eq w (codes "DMISMN") then Some Dmismn
     else if bytes_eq w (codes "UNITS") then Some Units
+    else if bytes_eq w (codes "DECL") then Some Decl
+    else if bytes_eq w (codes "ASSIGN") then Some Assign
     else if bytes_eq w (codes "GOTO") then Some Goto
+    else if bytes_eq w (codes "GOHOME") then Some Gohome
     else if bytes_eq w (codes "TEXT") then Some Text
     else if bytes_eq w (codes "ENDFIL") then Some Endfil
     else None
@@ -51,16 +54,15 @@ passed_word w =
     else if bytes_eq w (codes "VFORM") then Some Vform
     else None
 
--- those of them that are of variables, blocks and macros
+-- those that are of blocks and macros
 abbrev pub is_block_word : List ℕ → Bool
-is_block_word w = bytes_eq w (codes "DECL") || bytes_eq w (codes "ASSIGN") || bytes_eq w (codes "IF") || bytes_eq w (codes "ELSE")
-    || bytes_eq w (codes "ENDIF") || bytes_eq w (codes "DO") || bytes_eq w (codes "ENDDO") || bytes_eq w (codes "JUMPTO")
+is_block_word w = bytes_eq w (codes "IF") || bytes_eq w (codes "ELSE") || bytes_eq w (codes "ENDIF") || bytes_eq w (codes "DO") || bytes_eq w (codes "ENDDO") || bytes_eq w (codes "JUMPTO")
     || bytes_eq w (codes "MACRO") || bytes_eq w (codes "ENDMAC") || bytes_eq w (codes "CALL") || bytes_eq w (codes "SELECT")
     || bytes_eq w (codes "CASE") || bytes_eq w (codes "ENDCAS") || bytes_eq w (codes "DFTCAS") || bytes_eq w (codes "ENDSEL")
 
 -- those that are of the machine, its frames and its features
 abbrev pub is_measuring_word : List ℕ → Bool
-is_measuring_word w = bytes_eq w (codes "GOHOME") || bytes_eq w (codes "FEAT") || bytes_eq w (codes "MEAS") || bytes_eq w (codes "ENDMES")
+is_measuring_word w = bytes_eq w (codes "FEAT") || bytes_eq w (codes "MEAS") || bytes_eq w (codes "ENDMES")
     || bytes_eq w (codes "PTMEAS") || bytes_eq w (codes "SNSET") || bytes_eq w (codes "TRANS") || bytes_eq w (codes "ROTATE")
     || bytes_eq w (codes "RECALL") || bytes_eq w (codes "OBTAIN") || bytes_eq w (codes "OUTPUT")
 

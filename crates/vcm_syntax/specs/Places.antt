@@ -1,15 +1,13 @@
 -- What may stand at one place of a statement, and the rules that words break there.
-use Rattle.std.specs.Prelude.{◌≡◌, ℕ, ◌&&◌, nat_le, Bool, true, false, neg_ℤ, unsigned_abs, List, [], ◌∷◌, length, Ok, Err}
+use Rattle.std.specs.Prelude.{◌≡◌, ◌⊎◌, ℕ, ◌&&◌, ◌||◌, if◌then◌else◌, nat_le, Bool, true, false, codes, List, [], ◌∷◌, length, Option, Some, None}
 use Rattle.std.specs.List.{list_all}
 use Rattle.std.specs.Str.{bytes_eq}
-use Rattle.vcm_num.specs.declared.number.Literal.{Literal}
-use Rattle.vcm_num.specs.declared.number.Literal.TheVariants.{Int, Thousandths}
-use Rattle.vcm_num.specs.declared.read.NumFault.{NumFault}
-use Rattle.vcm_num.specs.declared.read.NumFault.TheVariants.{BadNumber, TooFine as FineNumber, TooLarge as LargeNumber}
-use Rattle.vcm_num.specs.Literals.{Reads}
+use Rattle.vcm_num.specs.declared.number.Kind.{Kind}
+use Rattle.vcm_num.specs.declared.number.Kind.TheVariants.{Int as IntKind, Real as RealKind, Bool as BoolKind}
 use Rattle.vcm_lines.specs.declared.fault.FaultCode.{FaultCode}
-use Rattle.vcm_lines.specs.declared.fault.FaultCode.TheVariants.{BadSyntax, TooFine, NumberTooLarge, Unsupported}
-use Rattle.vcm_lines.specs.Lexemes.{Lexeme, Run, Number, Quoted, Equals, Open, Close, Plus, Minus, is_spelled}
+use Rattle.vcm_lines.specs.declared.fault.FaultCode.TheVariants.{BadSyntax, Unsupported}
+use Rattle.vcm_lines.specs.Lexemes.{Lexeme, Run, Quoted, Equals, Open, Close, is_spelled}
+use Rattle.vcm_expr.specs.Parts.{is_name}
 
 -- nothing stands there
 abbrev pub IsBare : List Lexeme → Type 0
@@ -81,54 +79,58 @@ abbrev pub BreaksTitle : List ℕ → List Lexeme → FaultCode → Type 0
 BreaksTitle letter (Run bs ∷ Open ∷ Run label ∷ Close ∷ Equals ∷ []) code = ((bytes_eq bs letter && is_label label) ≡ false) × (code ≡ BadSyntax)
 BreaksTitle letter _ code = code ≡ BadSyntax
 
--- the rule that words break which are no number: an expression is left out, and a dotted word that there isn't is bad syntax
-abbrev pub unread_code : Bool → FaultCode
-unread_code true = Unsupported
-unread_code false = BadSyntax
+-- a variable's name
+abbrev pub IsVariable : List Lexeme → List ℕ → Type 0
+IsVariable (Run bs ∷ []) name = (is_name bs ≡ true) × (name ≡ bs)
+IsVariable _ name = ⊥
 
--- a number without a sign
-abbrev pub IsConstant : Lexeme → Literal → Type 0
-IsConstant (Run bs) x = Reads bs (Ok x)
-IsConstant (Number bs) x = Reads bs (Ok x)
-IsConstant _ x = ⊥
+abbrev pub BreaksVariable : List Lexeme → FaultCode → Type 0
+BreaksVariable (Run bs ∷ []) code = (is_name bs ≡ false) × (code ≡ BadSyntax)
+BreaksVariable _ code = code ≡ BadSyntax
 
--- what is told of a word that is no number as it should be; one that is none at all may stand in an expression
-abbrev pub code_of : NumFault → FaultCode
-code_of BadNumber = Unsupported
-code_of FineNumber = TooFine
-code_of LargeNumber = NumberTooLarge
+-- variables' names, one in each field
+abbrev pub AreVariables : List (List Lexeme) → List (List ℕ) → Type 0
+AreVariables [] names = names ≡ []
+AreVariables (f ∷ fs) [] = ⊥
+AreVariables (f ∷ fs) (n ∷ ns) = IsVariable f n × AreVariables fs ns
 
-abbrev pub BreaksDigits : List ℕ → FaultCode → Type 0
-BreaksDigits bs TooFine = Reads bs (Err FineNumber)
-BreaksDigits bs NumberTooLarge = Reads bs (Err LargeNumber)
-BreaksDigits bs Unsupported = Reads bs (Err BadNumber)
-BreaksDigits bs _ = ⊥
+abbrev pub BreaksVariables : List (List Lexeme) → FaultCode → Type 0
+BreaksVariables [] code = ⊥
+BreaksVariables (f ∷ fs) code = BreaksVariable f code ⊎ BreaksVariables fs code
 
-abbrev pub BreaksConstant : Lexeme → FaultCode → Type 0
-BreaksConstant (Run bs) code = BreaksDigits bs code
-BreaksConstant (Number bs) code = BreaksDigits bs code
-BreaksConstant w code = code ≡ unread_code (is_spelled w)
+-- a variable's name and an equals sign
+abbrev pub IsTarget : List Lexeme → List ℕ → Type 0
+IsTarget (Run bs ∷ Equals ∷ []) name = (is_name bs ≡ true) × (name ≡ bs)
+IsTarget _ name = ⊥
 
--- the number with the other sign
-abbrev pub negated : Literal → Literal
-negated (Int x) = Int (neg_ℤ x)
-negated (Thousandths x) = Thousandths (neg_ℤ x)
+abbrev pub BreaksTarget : List Lexeme → FaultCode → Type 0
+BreaksTarget (Run bs ∷ Equals ∷ []) code = (is_name bs ≡ false) × (code ≡ BadSyntax)
+BreaksTarget _ code = code ≡ BadSyntax
 
--- the number without its sign
-abbrev pub size_of : Literal → ℕ
-size_of (Int x) = unsigned_abs x
-size_of (Thousandths x) = unsigned_abs x
+-- the words of the kinds of variables
+abbrev pub kind_word : List ℕ → Option Kind
+kind_word w =
+    if bytes_eq w (codes "INTGR") then Some IntKind
+    else if bytes_eq w (codes "LONG") then Some IntKind
+    else if bytes_eq w (codes "REAL") then Some RealKind
+    else if bytes_eq w (codes "DOUBLE") then Some RealKind
+    else if bytes_eq w (codes "BOOL") then Some BoolKind
+    else None
 
--- a length: a number with an optional sign, where any other expression is left out
-abbrev pub IsLength : List Lexeme → Literal → Type 0
-IsLength (Minus ∷ w ∷ []) x = (size : Literal) × IsConstant w size × (x ≡ negated size)
-IsLength (Plus ∷ w ∷ []) x = IsConstant w x
-IsLength (w ∷ []) x = IsConstant w x
-IsLength _ x = ⊥
+-- the word of a kind; another word is a kind that is left out
+abbrev pub IsKind : List Lexeme → Kind → Type 0
+IsKind (Run bs ∷ []) kind = kind_word bs ≡ Some kind
+IsKind _ kind = ⊥
 
-abbrev pub BreaksLength : List Lexeme → FaultCode → Type 0
-BreaksLength [] code = code ≡ BadSyntax
-BreaksLength (Minus ∷ w ∷ []) code = BreaksConstant w code
-BreaksLength (Plus ∷ w ∷ []) code = BreaksConstant w code
-BreaksLength (w ∷ []) code = BreaksConstant w code
-BreaksLength ws code = code ≡ unread_code (list_all is_spelled ws)
+abbrev pub BreaksKind : List Lexeme → FaultCode → Type 0
+BreaksKind (Run bs ∷ []) code = (kind_word bs ≡ None) × (code ≡ Unsupported)
+BreaksKind _ code = code ≡ BadSyntax
+
+-- the words of scopes, which all mean the same
+abbrev pub is_scope : List ℕ → Bool
+is_scope w = bytes_eq w (codes "COMMON") || bytes_eq w (codes "GLOBAL") || bytes_eq w (codes "LOCAL")
+
+-- the fields behind the word of a scope, which may be left out
+abbrev pub unscoped : List (List Lexeme) → List (List Lexeme)
+unscoped ((Run bs ∷ []) ∷ fs) = if is_scope bs then fs else (Run bs ∷ []) ∷ fs
+unscoped fs = fs

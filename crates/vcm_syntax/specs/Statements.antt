@@ -6,7 +6,7 @@ use Rattle.vcm_lines.specs.Lexemes.{Lexeme}
 use Rattle.vcm_lines.specs.Cuts.{before, after, fields_of, last_of, front_of}
 use Rattle.vcm_syntax.specs.declared.statement.Major.{Major}
 use Rattle.vcm_syntax.specs.declared.statement.Form.{Form}
-use Rattle.vcm_syntax.specs.declared.statement.Form.TheVariants.{Opening, Measures, Ignored, Move, Say, Ending}
+use Rattle.vcm_syntax.specs.declared.statement.Form.TheVariants.{Opening, Measures, Ignored, Declaration, Assignment, Move, Home, Say, Ending}
 use Rattle.vcm_syntax.specs.Majors.{major_of}
 use Rattle.vcm_syntax.specs.Forms.{IsForm, BreaksForm}
 
@@ -38,6 +38,9 @@ abbrev pub is_counted : Form → Bool
 is_counted Opening = false
 is_counted Measures = false
 is_counted (Ignored n) = false
+is_counted (Declaration kind names) = false
+is_counted (Assignment name value) = true
 is_counted (Move p) = true
+is_counted Home = true
 is_counted (Say t) = true
 is_counted Ending = true

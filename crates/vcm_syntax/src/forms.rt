@@ -2,14 +2,14 @@
 
 ghost use Rattle.std.specs.Prelude.{IfOk, IfErr, MatchResult};
 ghost use Rattle.vcm_lines.specs.Fault.{NoMemoryOr};
-ghost use Rattle.vcm_syntax.specs.Refusals.{At};
-ghost use Rattle.vcm_syntax.specs.Forms.{IsDmismn, BreaksDmismn, IsMetric, BreaksMetric, IsUnits, BreaksUnits, IsSpot, BreaksSpot, IsPlace, BreaksPlace, IsGoto, BreaksGoto, IsSay, BreaksSay, IsEndfil, BreaksAlone, IsPrefix, BreaksPrefix, IsPassed, BreaksPassed, IsForm, BreaksForm};
+ghost use Rattle.vcm_expr.specs.Parsing.{At};
+ghost use Rattle.vcm_syntax.specs.Forms.{IsDmismn, BreaksDmismn, IsMetric, BreaksMetric, IsUnits, BreaksUnits, IsDeclaration, BreaksDeclaration, IsDecl, BreaksDecl, IsAssign, BreaksAssign, IsSpot, BreaksSpot, IsPlace, BreaksPlace, IsGoto, BreaksGoto, IsGohome, IsSay, BreaksSay, IsEndfil, BreaksAlone, IsPrefix, BreaksPrefix, IsPassed, BreaksPassed, IsForm, BreaksForm};
 
-use crate::places::{
-    bad_syntax, bare, end, length, offered, quoted, single, text, title, unused, word,
-};
+use crate::places::{bad_syntax, bare, end, offered, quoted, single, text, title, unused, word};
 use crate::statement::{Form, Major, Notice, Spot};
+use crate::variables::{kind, target, unscoped, variables};
 use std::alloc::Global;
+use vcm_expr::read_expr;
 use vcm_lines::{Phrase, SourceFault};
 
 fn dmismn(line: u32, front: &Phrase<'_>, fields: &[Phrase<'_>]) -> Result<Form, SourceFault>
@@ -56,49 +56,123 @@ fn units(line: u32, front: &Phrase<'_>, fields: &[Phrase<'_>]) -> Result<Form, S
     }
 }
 
-fn spot(line: u32, x: &Phrase<'_>, y: &Phrase<'_>, z: &Phrase<'_>) -> Result<Spot, SourceFault>
-    ensures { MatchResult result (IsSpot x.now y.now z.now) (At line (BreaksSpot x.now y.now z.now)) }
+/// A kind, and the names of variables.
+fn declaration(alloc: Global, line: u32, fields: &[Phrase<'_>]) -> Result<Form, SourceFault>
+    ensures ok { IfOk result (IsDeclaration fields.now) }
+    ensures fault { IfErr result (NoMemoryOr (At line (BreaksDeclaration fields.now))) }
 {
-    let x = length(line, x)?;
-    let y = length(line, y)?;
-    let z = length(line, z)?;
+    match fields {
+        [] => Err(bad_syntax(line)),
+        [first] => {
+            kind(line, first)?;
+            Err(bad_syntax(line))
+        }
+        [first, names @ ..] => {
+            let kind = kind(line, first)?;
+            let names = variables(alloc, line, names)?;
+            Ok(Form::Declaration(kind, names))
+        }
+    }
+}
+
+fn decl(
+    alloc: Global,
+    line: u32,
+    front: &Phrase<'_>,
+    fields: &[Phrase<'_>],
+) -> Result<Form, SourceFault>
+    ensures ok { IfOk result (IsDecl front.now fields.now) }
+    ensures fault { IfErr result (NoMemoryOr (At line (BreaksDecl front.now fields.now))) }
+{
+    bare(line, front)?;
+    declaration(alloc, line, unscoped(fields))
+}
+
+fn assign(
+    alloc: Global,
+    line: u32,
+    front: &Phrase<'_>,
+    fields: &[Phrase<'_>],
+) -> Result<Form, SourceFault>
+    ensures ok { IfOk result (IsAssign front.now fields.now) }
+    ensures fault { IfErr result (NoMemoryOr (At line (BreaksAssign front.now fields.now))) }
+{
+    let name = target(line, front)?;
+    match fields {
+        [] => Err(bad_syntax(line)),
+        [value, rest @ ..] => {
+            let value = read_expr(alloc, line, value)?;
+            end(line, rest)?;
+            Ok(Form::Assignment(name, value))
+        }
+    }
+}
+
+fn spot(
+    alloc: Global,
+    line: u32,
+    x: &Phrase<'_>,
+    y: &Phrase<'_>,
+    z: &Phrase<'_>,
+) -> Result<Spot, SourceFault>
+    ensures ok { IfOk result (IsSpot x.now y.now z.now) }
+    ensures fault { IfErr result (NoMemoryOr (At line (BreaksSpot x.now y.now z.now))) }
+{
+    let x = read_expr(alloc, line, x)?;
+    let y = read_expr(alloc, line, y)?;
+    let z = read_expr(alloc, line, z)?;
     Ok(Spot { x, y, z })
 }
 
-/// Three lengths, and nothing more.
-fn place(line: u32, fields: &[Phrase<'_>]) -> Result<Spot, SourceFault>
-    ensures { MatchResult result (IsPlace fields.now) (At line (BreaksPlace fields.now)) }
+/// Three expressions, and nothing more.
+fn place(alloc: Global, line: u32, fields: &[Phrase<'_>]) -> Result<Spot, SourceFault>
+    ensures ok { IfOk result (IsPlace fields.now) }
+    ensures fault { IfErr result (NoMemoryOr (At line (BreaksPlace fields.now))) }
 {
     match fields {
         [] => Err(bad_syntax(line)),
         [x] => {
-            length(line, x)?;
+            read_expr(alloc, line, x)?;
             Err(bad_syntax(line))
         }
         [x, y] => {
-            length(line, x)?;
-            length(line, y)?;
+            read_expr(alloc, line, x)?;
+            read_expr(alloc, line, y)?;
             Err(bad_syntax(line))
         }
         [x, y, z, rest @ ..] => {
-            let spot = spot(line, x, y, z)?;
+            let spot = spot(alloc, line, x, y, z)?;
             end(line, rest)?;
             Ok(spot)
         }
     }
 }
 
-fn goto(line: u32, front: &Phrase<'_>, fields: &[Phrase<'_>]) -> Result<Form, SourceFault>
-    ensures { MatchResult result (IsGoto front.now fields.now) (At line (BreaksGoto front.now fields.now)) }
+fn goto(
+    alloc: Global,
+    line: u32,
+    front: &Phrase<'_>,
+    fields: &[Phrase<'_>],
+) -> Result<Form, SourceFault>
+    ensures ok { IfOk result (IsGoto front.now fields.now) }
+    ensures fault { IfErr result (NoMemoryOr (At line (BreaksGoto front.now fields.now))) }
 {
     bare(line, front)?;
     match fields {
-        [kind, lengths @ ..] if lengths.len() >= 3 => {
-            word(line, kind, b"CART")?;
-            Ok(Form::Move(place(line, lengths)?))
+        [system, lengths @ ..] if lengths.len() >= 3 => {
+            word(line, system, b"CART")?;
+            Ok(Form::Move(place(alloc, line, lengths)?))
         }
-        _ => Ok(Form::Move(place(line, fields)?)),
+        _ => Ok(Form::Move(place(alloc, line, fields)?)),
     }
+}
+
+fn gohome(line: u32, front: &Phrase<'_>, fields: &[Phrase<'_>]) -> Result<Form, SourceFault>
+    ensures { MatchResult result (IsGohome front.now fields.now) (At line (BreaksAlone front.now fields.now)) }
+{
+    bare(line, front)?;
+    end(line, fields)?;
+    Ok(Form::Home)
 }
 
 fn say(
@@ -179,7 +253,10 @@ pub(crate) fn read_form(
     match major {
         Major::Dmismn => dmismn(line, front, fields),
         Major::Units => units(line, front, fields),
-        Major::Goto => goto(line, front, fields),
+        Major::Decl => decl(alloc, line, front, fields),
+        Major::Assign => assign(alloc, line, front, fields),
+        Major::Goto => goto(alloc, line, front, fields),
+        Major::Gohome => gohome(line, front, fields),
         Major::Text => say(alloc, line, front, fields),
         Major::Endfil => endfil(line, front, fields),
         Major::Passed(notice) => passed(line, notice, front, fields),

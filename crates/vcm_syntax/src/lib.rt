@@ -7,6 +7,7 @@ mod majors;
 mod parse;
 mod places;
 mod statement;
+mod variables;
 
 pub use parse::parse_statement;
 pub use statement::{Form, Notice, Spot, Statement};

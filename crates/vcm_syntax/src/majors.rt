@@ -16,8 +16,14 @@ fn read_word(word: &[u8]) -> Option<Major>
         Some(Major::Dmismn)
     } else if is(word, b"UNITS") {
         Some(Major::Units)
+    } else if is(word, b"DECL") {
+        Some(Major::Decl)
+    } else if is(word, b"ASSIGN") {
+        Some(Major::Assign)
     } else if is(word, b"GOTO") {
         Some(Major::Goto)
+    } else if is(word, b"GOHOME") {
+        Some(Major::Gohome)
     } else if is(word, b"TEXT") {
         Some(Major::Text)
     } else if is(word, b"ENDFIL") {
@@ -62,9 +68,7 @@ fn passed_word(word: &[u8]) -> Option<Notice>
 fn is_block_word(word: &[u8]) -> bool
     ensures { result ≡ is_block_word word.now }
 {
-    is(word, b"DECL")
-        || is(word, b"ASSIGN")
-        || is(word, b"IF")
+    is(word, b"IF")
         || is(word, b"ELSE")
         || is(word, b"ENDIF")
         || is(word, b"DO")
@@ -83,8 +87,7 @@ fn is_block_word(word: &[u8]) -> bool
 fn is_measuring_word(word: &[u8]) -> bool
     ensures { result ≡ is_measuring_word word.now }
 {
-    is(word, b"GOHOME")
-        || is(word, b"FEAT")
+    is(word, b"FEAT")
         || is(word, b"MEAS")
         || is(word, b"ENDMES")
         || is(word, b"PTMEAS")

@@ -1,17 +1,15 @@
 //! Reads what stands at one place of a statement.
 
-ghost use Rattle.std.specs.Prelude.{◌≡◌, ◌^◌, ◌<◌, ◌∷◌, [], IfOk, IfErr, MatchOption, MatchResult};
+ghost use Rattle.std.specs.Prelude.{◌≡◌, ◌∷◌, [], IfOk, IfErr, MatchOption, MatchResult};
 ghost use Rattle.std.specs.List.{list_all};
 ghost use Rattle.std.specs.Str.{bytes_eq};
-ghost use Rattle.vcm_num.specs.Literals.{Reads};
 ghost use Rattle.vcm_lines.specs.Fault.{NoMemoryOr};
 ghost use Rattle.vcm_lines.specs.Lexemes.{Lexeme, lexeme, is_spelled};
-ghost use Rattle.vcm_syntax.specs.Refusals.{At};
-ghost use Rattle.vcm_syntax.specs.Places.{IsBare, BreaksBare, IsWord, BreaksWord, BreaksOffered, IsSingle, BreaksSingle, IsText, BreaksText, IsRest, BreaksRest, IsEnd, BreaksEnd, is_label, IsTitle, BreaksTitle, unread_code, code_of, IsConstant, BreaksConstant, BreaksDigits, negated, size_of, IsLength, BreaksLength};
+ghost use Rattle.vcm_expr.specs.Parsing.{At};
+ghost use Rattle.vcm_syntax.specs.Places.{IsBare, BreaksBare, IsWord, BreaksWord, BreaksOffered, IsSingle, BreaksSingle, IsText, BreaksText, IsRest, BreaksRest, IsEnd, BreaksEnd, is_label, IsTitle, BreaksTitle};
 
 use std::alloc::Global;
 use vcm_lines::{FaultCode, Phrase, SourceFault, Text, Token};
-use vcm_num::{Literal, NumFault, read_number};
 
 pub(crate) fn is(bytes: &[u8], word: &[u8]) -> bool
     ensures { result ≡ bytes_eq bytes.now word.now }
@@ -28,6 +26,16 @@ pub(crate) fn bad_syntax(line: u32) -> SourceFault
     }
 }
 
+/// The refusal of a form that is left out.
+pub(crate) fn unsupported(line: u32) -> SourceFault
+    ensures { result ≡ record { code = FaultCode.Unsupported; line = line } }
+{
+    SourceFault {
+        code: FaultCode::Unsupported,
+        line,
+    }
+}
+
 /// Nothing.
 pub(crate) fn bare(line: u32, words: &Phrase<'_>) -> Result<(), SourceFault>
     ensures { MatchResult result (λ _. IsBare words.now) (At line (BreaksBare words.now)) }
@@ -39,7 +47,7 @@ pub(crate) fn bare(line: u32, words: &Phrase<'_>) -> Result<(), SourceFault>
 }
 
 /// The one word, where there is one.
-fn only<'a>(words: &Phrase<'a>) -> Option<Token<'a>>
+pub(crate) fn only<'a>(words: &Phrase<'a>) -> Option<Token<'a>>
     ensures { MatchOption result ((w : Lexeme) → words.now ≡ w ∷ [] → ⊥) (λ t. words.now ≡ lexeme t ∷ []) }
 {
     let (first, rest) = words.split_first()?;
@@ -68,10 +76,7 @@ pub(crate) fn offered(line: u32, words: &Phrase<'_>, wanted: &[u8]) -> Result<()
             if is(bytes, wanted) {
                 Ok(())
             } else {
-                Err(SourceFault {
-                    code: FaultCode::Unsupported,
-                    line,
-                })
+                Err(unsupported(line))
             }
         }
         _ => Err(bad_syntax(line)),
@@ -169,89 +174,5 @@ pub(crate) fn title<'a>(
             }
         }
         _ => Err(bad_syntax(line)),
-    }
-}
-
-fn unread_code(spelled: bool) -> FaultCode
-    ensures { result ≡ unread_code spelled }
-{
-    if spelled {
-        FaultCode::Unsupported
-    } else {
-        FaultCode::BadSyntax
-    }
-}
-
-/// What words are that are no number: `spelled` says whether each of them is a word at all.
-fn unread(line: u32, spelled: bool) -> SourceFault
-    ensures { result ≡ record { code = unread_code spelled; line = line } }
-{
-    SourceFault {
-        code: unread_code(spelled),
-        line,
-    }
-}
-
-fn code_of(fault: NumFault) -> FaultCode
-    ensures { result ≡ code_of fault }
-{
-    match fault {
-        NumFault::BadNumber => FaultCode::Unsupported,
-        NumFault::TooFine => FaultCode::TooFine,
-        NumFault::TooLarge => FaultCode::NumberTooLarge,
-    }
-}
-
-fn digits(line: u32, bytes: &[u8]) -> Result<Literal, SourceFault>
-    ensures { MatchResult result (λ x. Reads bytes.now (Ok x)) (At line (BreaksDigits bytes.now)) }
-{
-    match read_number(bytes) {
-        Ok(literal) => Ok(literal),
-        Err(fault) => Err(SourceFault {
-            code: code_of(fault),
-            line,
-        }),
-    }
-}
-
-/// A number without a sign.
-fn constant(line: u32, token: Token<'_>) -> Result<Literal, SourceFault>
-    ensures { MatchResult result (IsConstant (lexeme token.entry)) (At line (BreaksConstant (lexeme token.entry))) }
-{
-    match token {
-        Token::Run(bytes) => digits(line, bytes),
-        Token::Number(bytes) => digits(line, bytes),
-        _ => Err(unread(line, token.is_spelled())),
-    }
-}
-
-/// The number with the other sign.
-fn negated(literal: Literal) -> Literal
-    requires { size_of literal < 2 ^ 63 }
-    ensures { result ≡ negated literal }
-{
-    match literal {
-        Literal::Int(number) => Literal::Int(-number),
-        Literal::Thousandths(number) => Literal::Thousandths(-number),
-    }
-}
-
-/// A length: a number with an optional sign.
-pub(crate) fn length(line: u32, words: &Phrase<'_>) -> Result<Literal, SourceFault>
-    ensures { MatchResult result (IsLength words.now) (At line (BreaksLength words.now)) }
-{
-    let Some((first, rest)) = words.split_first() else {
-        return Err(bad_syntax(line));
-    };
-    let Some((second, rest)) = rest.split_first() else {
-        return constant(line, first);
-    };
-    if let Some(_) = rest.split_first() {
-        return Err(unread(line, words.is_spelled()));
-    }
-    match first {
-        Token::Minus => Ok(negated(constant(line, second)?)),
-        Token::Plus => constant(line, second),
-        _ => Err(unread(line, words.is_spelled())),
     }
 }

@@ -3,8 +3,9 @@
 ghost use Rattle.std.specs.Prelude.{◌≡◌};
 ghost use Rattle.vcm_syntax.specs.Majors.{word_of};
 
+use vcm_expr::{Expr, Name};
 use vcm_lines::Text;
-use vcm_num::Literal;
+use vcm_num::{Items, Kind};
 
 /// A statement that has no effect, by its major word.
 #[derive(Clone, Copy, Debug, PartialEq, Eq)]
@@ -50,18 +51,21 @@ impl Notice {
 pub enum Major {
     Dmismn,
     Units,
+    Decl,
+    Assign,
     Goto,
+    Gohome,
     Text,
     Endfil,
     Passed(Notice),
 }
 
-/// A place by its three lengths: a whole number of millimetres, or a number of micrometres.
-#[derive(Clone, Copy, Debug, PartialEq, Eq)]
+/// A place by its three coordinates, each an expression.
+#[derive(Debug, Drop)]
 pub struct Spot {
-    pub x: Literal,
-    pub y: Literal,
-    pub z: Literal,
+    pub x: Expr,
+    pub y: Expr,
+    pub z: Expr,
 }
 
 /// What a statement says.
@@ -73,8 +77,14 @@ pub enum Form {
     Measures,
     /// A statement without effect.
     Ignored(Notice),
+    /// `DECL`: the kind of variables, and their names.
+    Declaration(Kind, Items<Name>),
+    /// `ASSIGN`: a variable's name, and the value that it gets.
+    Assignment(Name, Expr),
     /// `GOTO`: the place to go to.
     Move(Spot),
+    /// `GOHOME`.
+    Home,
     /// `TEXT`: what stands between the apostrophes.
     Say(Text),
     /// `ENDFIL`, with which a program ends.
@@ -89,8 +99,10 @@ impl Form {
         ensures { result ≡ is_counted self.now }
     {
         match self {
-            Form::Opening | Form::Measures | Form::Ignored(_) => false,
-            Form::Move(_) | Form::Say(_) | Form::Ending => true,
+            Form::Opening | Form::Measures | Form::Ignored(_) | Form::Declaration(_, _) => false,
+            Form::Assignment(_, _) | Form::Move(_) | Form::Home | Form::Say(_) | Form::Ending => {
+                true
+            }
         }
     }
 }

@@ -4,17 +4,16 @@ use Rattle.vcm_lines.proofs.OneReading.{one_statements}
 use Rattle.vcm_lines.specs.declared.fault.SourceFault.{SourceFault}
 use Rattle.vcm_lines.specs.declared.logical.Logical.{Logical}
 use Rattle.vcm_lines.specs.Statements.{lines_of, rows_of, joined, Breaks, told_line}
-use Rattle.vcm_spec.specs.Program.{Block}
 use Rattle.vcm_spec.specs.Phase.{FirstFault}
 use Rattle.vcm_spec.proofs.PhaseLemmas.{clean_or_fault, one_line}
 use Rattle.vcm_syntax.specs.declared.statement.Form.{Form}
 use Rattle.vcm_syntax.specs.declared.statement.Statement.{Statement}
 use Rattle.vcm_syntax.proofs.OnceLaws.{statement_once}
-use Rattle.vcm_tree.specs.declared.program.Noticed.{Noticed}
 use Rattle.vcm_tree.specs.Statements.{IsSpelled, AreSpelled, BreaksStatements, statement_line}
 use Rattle.vcm_tree.specs.Order.{BreaksOrder, order_line}
-use Rattle.vcm_tree.specs.Program.{program_of, notices_of}
-use Rattle.vcm_tree.specs.Acceptance.{ReadsLines, ReadsStatements, IsAccepted, IsRefused, in_lines, in_statements, in_order}
+use Rattle.vcm_tree.specs.Resolving.{BreaksNames, names_line}
+use Rattle.vcm_tree.specs.Program.{Parsed, parsed_of}
+use Rattle.vcm_tree.specs.Acceptance.{ReadsLines, ReadsStatements, ReadsText, IsAccepted, IsRefused, in_lines, in_statements, in_order, in_names}
 
 abbrev stated : ℕ → Form → Statement
 stated n form = record { line = n; form = form }
@@ -42,13 +41,12 @@ one_list : (text : List ℕ) (ls ms : List Logical) (ss ts : List Statement) →
 one_list text ls ms ss ts p q r s =
     one_spelling ms ss ts (subst (λ l. AreSpelled l ss) (one_reading text ls ms p q) r.statements) s.statements
 
-pub one_program : (text : List ℕ) (p q : Block) (n m : List Noticed) → IsAccepted text p n → IsAccepted text q m → p ≡ q
-one_program text p q n m a b =
-    a.program_is ∙ ap program_of (one_list text a.lines b.lines a.statements b.statements a.read b.read a.spelled b.spelled) ∙ sym b.program_is
+-- the same of all that was read
+one_text : (text : List ℕ) (ls ms : List Logical) (ss ts : List Statement) → ReadsText text ls ss → ReadsText text ms ts → ss ≡ ts
+one_text text ls ms ss ts p q = one_list text ls ms ss ts p.read q.read p.spelled q.spelled
 
-pub one_notices : (text : List ℕ) (p q : Block) (n m : List Noticed) → IsAccepted text p n → IsAccepted text q m → n ≡ m
-one_notices text p q n m a b =
-    a.notices_are ∙ ap notices_of (one_list text a.lines b.lines a.statements b.statements a.read b.read a.spelled b.spelled) ∙ sym b.notices_are
+pub one_program : (text : List ℕ) (p q : Parsed) → IsAccepted text p → IsAccepted text q → p ≡ q
+one_program text p q a b = a.is ∙ ap parsed_of (one_text text a.lines b.lines a.statements b.statements a.read b.read) ∙ sym b.is
 
 -- ---- refusals
 
@@ -63,24 +61,41 @@ not_statements text ls ms ss f read spelled other fault =
     clean_or_fault BreaksStatements statement_line ls f.code f.line spelled.clean
     (subst (λ l. FirstFault BreaksStatements statement_line l f.code f.line) (one_reading text ms ls other read) fault)
 
-pub not_refused : (text : List ℕ) (program : Block) (notices : List Noticed) (f : SourceFault) → IsAccepted text program notices → IsRefused text f → ⊥
-not_refused text program notices f a (in_lines fault) = not_lines text a.lines f a.read fault
-not_refused text program notices f a (in_statements ls read fault) = not_statements text a.lines ls a.statements f a.read a.spelled read fault
-not_refused text program notices f a (in_order ls ss read spelled fault) =
-    clean_or_fault BreaksOrder order_line a.statements f.code f.line a.order
-    (subst (λ l. FirstFault BreaksOrder order_line l f.code f.line) (one_list text ls a.lines ss a.statements read a.read spelled a.spelled) fault)
+-- one whose order breaks none isn't refused for its order
+not_order : (text : List ℕ) (ls ms : List Logical) (ss ts : List Statement) (f : SourceFault) → ReadsText text ls ss → ReadsLines text ms → ReadsStatements ms ts
+    → FirstFault BreaksOrder order_line ts f.code f.line → ⊥
+not_order text ls ms ss ts f read other spelled fault =
+    clean_or_fault BreaksOrder order_line ss f.code f.line read.order
+    (subst (λ l. FirstFault BreaksOrder order_line l f.code f.line) (one_list text ms ls ts ss other read.read spelled read.spelled) fault)
+
+pub not_refused : (text : List ℕ) (p : Parsed) (f : SourceFault) → IsAccepted text p → IsRefused text f → ⊥
+not_refused text p f a (in_lines fault) = not_lines text a.lines f a.read.read fault
+not_refused text p f a (in_statements ls read fault) = not_statements text a.lines ls a.statements f a.read.read a.read.spelled read fault
+not_refused text p f a (in_order ls ss read spelled fault) = not_order text a.lines ls a.statements ss f a.read read spelled fault
+not_refused text p f a (in_names ls ss read fault) =
+    clean_or_fault BreaksNames names_line a.statements f.code f.line a.names
+    (subst (λ l. FirstFault BreaksNames names_line l f.code f.line) (one_text text ls a.lines ss a.statements read a.read) fault)
 
 pub one_refusal : (text : List ℕ) (f g : SourceFault) → IsRefused text f → IsRefused text g → f.line ≡ g.line
 one_refusal text f g (in_lines p) (in_lines q) = one_line Breaks told_line (lines_of text) f.code g.code f.line g.line p q
 one_refusal text f g (in_lines p) (in_statements ms read q) = absurd (not_lines text ms f read p)
 one_refusal text f g (in_lines p) (in_order ms ts read spelled q) = absurd (not_lines text ms f read p)
+one_refusal text f g (in_lines p) (in_names ms ts read q) = absurd (not_lines text ms f read.read p)
 one_refusal text f g (in_statements ls read p) (in_lines q) = absurd (not_lines text ls g read q)
 one_refusal text f g (in_statements ls read p) (in_statements ms other q) =
     one_line BreaksStatements statement_line ms f.code g.code f.line g.line
     (subst (λ l. FirstFault BreaksStatements statement_line l f.code f.line) (one_reading text ls ms read other) p) q
 one_refusal text f g (in_statements ls read p) (in_order ms ts other spelled q) = absurd (not_statements text ms ls ts f other spelled read p)
+one_refusal text f g (in_statements ls read p) (in_names ms ts other q) = absurd (not_statements text ms ls ts f other.read other.spelled read p)
 one_refusal text f g (in_order ls ss read spelled p) (in_lines q) = absurd (not_lines text ls g read q)
 one_refusal text f g (in_order ls ss read spelled p) (in_statements ms other q) = absurd (not_statements text ls ms ss g read spelled other q)
 one_refusal text f g (in_order ls ss read spelled p) (in_order ms ts other spelt q) =
     one_line BreaksOrder order_line ts f.code g.code f.line g.line
     (subst (λ l. FirstFault BreaksOrder order_line l f.code f.line) (one_list text ls ms ss ts read other spelled spelt) p) q
+one_refusal text f g (in_order ls ss read spelled p) (in_names ms ts other q) = absurd (not_order text ms ls ts ss f other read spelled p)
+one_refusal text f g (in_names ls ss read p) (in_lines q) = absurd (not_lines text ls g read.read q)
+one_refusal text f g (in_names ls ss read p) (in_statements ms other q) = absurd (not_statements text ls ms ss g read.read read.spelled other q)
+one_refusal text f g (in_names ls ss read p) (in_order ms ts other spelled q) = absurd (not_order text ls ms ss ts g read other spelled q)
+one_refusal text f g (in_names ls ss read p) (in_names ms ts other q) =
+    one_line BreaksNames names_line ts f.code g.code f.line g.line
+    (subst (λ l. FirstFault BreaksNames names_line l f.code f.line) (one_text text ls ms ss ts read other) p) q

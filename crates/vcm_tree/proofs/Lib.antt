@@ -1,6 +1,10 @@
 pub mod Ordering
 pub mod Spelling
-pub mod Sorting
-pub mod Straight
+pub mod FewStatements
+pub mod Tables
+pub mod Meanings
+pub mod Walking
+pub mod Wholeness
+pub mod Counting
+pub mod Accepting
 pub mod AcceptanceLaws
-pub mod EndingLaws

@@ -4,12 +4,11 @@ use Rattle.vcm_lines.specs.declared.fault.SourceFault.{SourceFault}
 use Rattle.vcm_lines.specs.declared.logical.Logical.{Logical}
 use Rattle.vcm_lines.specs.Statements.{lines_of, rows_of, joined, AreLogical, Breaks, told_line}
 use Rattle.vcm_spec.specs.Phase.{IsClean, FirstFault}
-use Rattle.vcm_spec.specs.Program.{Block}
 use Rattle.vcm_syntax.specs.declared.statement.Statement.{Statement}
-use Rattle.vcm_tree.specs.declared.program.Noticed.{Noticed}
 use Rattle.vcm_tree.specs.Statements.{AreSpelled, BreaksStatements, statement_line}
 use Rattle.vcm_tree.specs.Order.{BreaksOrder, order_line}
-use Rattle.vcm_tree.specs.Program.{program_of, notices_of}
+use Rattle.vcm_tree.specs.Resolving.{BreaksNames, names_line}
+use Rattle.vcm_tree.specs.Program.{Parsed, parsed_of}
 
 -- these are the statements of the text before they are read, and no rule of lines is broken
 pub record ReadsLines (text : List ℕ) (ls : List Logical) : Type 0 where
@@ -21,15 +20,19 @@ pub record ReadsStatements (ls : List Logical) (ss : List Statement) : Type 0 wh
   pub clean : IsClean BreaksStatements ls
   pub statements : AreSpelled ls ss
 
--- no rule is broken, and the text is this program with these notices
-pub record IsAccepted (text : List ℕ) (program : Block) (notices : List Noticed) : Type 0 where
+-- these are the statements of the text, and no rule of lines, statements and order is broken
+pub record ReadsText (text : List ℕ) (ls : List Logical) (ss : List Statement) : Type 0 where
+  pub read : ReadsLines text ls
+  pub spelled : ReadsStatements ls ss
+  pub order : IsClean BreaksOrder ss
+
+-- no rule is broken, and the text is this program with these tables and notices
+pub record IsAccepted (text : List ℕ) (p : Parsed) : Type 0 where
   pub lines : List Logical
   pub statements : List Statement
-  pub read : ReadsLines text lines
-  pub spelled : ReadsStatements lines statements
-  pub order : IsClean BreaksOrder statements
-  pub program_is : program ≡ program_of statements
-  pub notices_are : notices ≡ notices_of statements
+  pub read : ReadsText text lines statements
+  pub names : IsClean BreaksNames statements
+  pub is : p ≡ parsed_of statements
 
 -- the first phase that has a fault has its first fault here
 pub data IsRefused (text : List ℕ) (f : SourceFault) : Type 0 where
@@ -37,3 +40,4 @@ pub data IsRefused (text : List ℕ) (f : SourceFault) : Type 0 where
   in_statements : (ls : List Logical) → ReadsLines text ls → FirstFault BreaksStatements statement_line ls f.code f.line → IsRefused text f
   in_order : (ls : List Logical) (ss : List Statement) → ReadsLines text ls → ReadsStatements ls ss → FirstFault BreaksOrder order_line ss f.code f.line
       → IsRefused text f
+  in_names : (ls : List Logical) (ss : List Statement) → ReadsText text ls ss → FirstFault BreaksNames names_line ss f.code f.line → IsRefused text f

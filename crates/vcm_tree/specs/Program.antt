@@ -1,41 +1,39 @@
--- What the statements of a text are: the nodes of a structured program, and notices.
-use Rattle.std.specs.Prelude.{ℕ, ◌≤◌, Bool, false, IsTrue, length, List, [], ◌∷◌, Option, Some, None}
-use Rattle.std.specs.List.{flat_map, filter, list_all}
-use Rattle.vcm_num.specs.declared.number.Literal.{Literal}
-use Rattle.vcm_num.specs.declared.number.Literal.TheVariants.{Int, Thousandths as Exact}
-use Rattle.vcm_spec.specs.declared.expression.Operand.TheVariants.{Integer, Thousandths}
-use Rattle.vcm_spec.specs.declared.expression.UnaryOp.TheVariants.{Scale}
-use Rattle.vcm_spec.specs.Expression.{Tree, Value, One}
-use Rattle.vcm_spec.specs.Simple.{Goto, Text}
-use Rattle.vcm_spec.specs.Program.{Node, Block, simple, ending, done, then}
-use Rattle.vcm_syntax.specs.declared.statement.Form.{Form}
-use Rattle.vcm_syntax.specs.declared.statement.Form.TheVariants.{Ignored, Move, Say, Ending}
+-- What the statements of a text are: a structured program with the tables of its names, and notices.
+use Rattle.std.specs.Prelude.{ℕ, ◌≤◌, Bool, true, false, IsTrue, List, [], ◌∷◌, map, Option, Some, None, Result, Ok}
+use Rattle.std.specs.List.{flat_map}
+use Rattle.vcm_lines.specs.declared.fault.FaultCode.{FaultCode}
+use Rattle.vcm_spec.specs.Setup.{Tables}
+use Rattle.vcm_spec.specs.Program.{Node, Block, simple, ending, done, then, sizes}
+use Rattle.vcm_spec.specs.Fitting.{BlockFits}
+use Rattle.vcm_expr.specs.Names.{Variable}
+use Rattle.vcm_syntax.specs.declared.statement.Form.TheVariants.{Ignored}
 use Rattle.vcm_syntax.specs.declared.statement.Statement.{Statement}
-use Rattle.vcm_syntax.specs.Statements.{is_counted}
 use Rattle.vcm_tree.specs.declared.program.Noticed.{Noticed}
-use Rattle.vcm_tree.specs.Order.{is_ending}
+use Rattle.vcm_tree.specs.Resolving.{Meaning, Acts, Ends, resolved, table_after, declared_by}
 
--- a number in a length place: a whole one is one of millimetres, and scaled
-abbrev pub length_tree : Literal → Tree
-length_tree (Int n) = One Scale (Value (Integer n))
-length_tree (Exact n) = Value (Thousandths n)
-
--- the nodes of a statement: one where it is counted, otherwise none
-abbrev pub node_of : ℕ → Form → Option Node
-node_of line (Move p) = Some (simple line (Goto (length_tree p.x) (length_tree p.y) (length_tree p.z)))
-node_of line (Say bytes) = Some (simple line (Text bytes))
-node_of line Ending = Some (ending line)
-node_of line _ = None
+-- the node of a statement of this meaning: one where it is counted, otherwise none
+abbrev pub node_by : ℕ → Result Meaning FaultCode → Option Node
+node_by line (Ok (Acts what)) = Some (simple line what)
+node_by line (Ok Ends) = Some (ending line)
+node_by line _ = None
 
 -- a node in front of a block, if there is one
 abbrev pub onto : Option Node → Block → Block
 onto None b = b
 onto (Some n) b = then n b
 
+-- the program of the statements behind these variables
+abbrev pub program_from : List Variable → List Statement → Block
+program_from vs [] = done
+program_from vs (s ∷ ss) = onto (node_by s.line (resolved vs s.form)) (program_from (table_after vs s) ss)
+
 -- the program of the statements
 abbrev pub program_of : List Statement → Block
-program_of [] = done
-program_of (s ∷ ss) = onto (node_of s.line s.form) (program_of ss)
+program_of ss = program_from [] ss
+
+-- the tables of a program with these variables, in the order of their declarations; features and frames are still to come
+abbrev pub tables_of : List Variable → Tables
+tables_of vs = record { variables = map (λ v. record { name = v.0.1; kind = v.1; expansion = v.0.0 }) vs; features = []; frames = [] }
 
 -- the notice of a statement that has no effect
 abbrev pub notice_of : Statement → List Noticed
@@ -45,23 +43,29 @@ notice_of s = elim s.form [ Ignored w ↦ record { line = s.line; word = w } ∷
 abbrev pub notices_of : List Statement → List Noticed
 notices_of ss = flat_map notice_of ss
 
--- the statements that are counted
-abbrev pub counted : List Statement → List Statement
-counted ss = filter (λ s. is_counted s.form) ss
-
--- whether the last one is ENDFIL
-abbrev pub is_ended : List Statement → Bool
-is_ended [] = false
-is_ended (s ∷ []) = is_ending s
-is_ended (s ∷ t ∷ ss) = is_ended (t ∷ ss)
-
--- a list of counted statements, at most 20,000, the last one being ENDFIL
-pub record IsStraight (ss : List Statement) : Type 0 where
-  pub counted : IsTrue (list_all (λ s. is_counted s.form) ss)
-  pub ended : IsTrue (is_ended ss)
-  pub few : length ss ≤ 20000
-
--- an accepted program: its counted statements, and its notices
-pub record Straight : Type 0 where
-  pub statements : List Statement
+-- what a text is: a program, the tables of its names, and notices
+pub record Parsed : Type 0 where
+  pub program : Block
+  pub tables : Tables
   pub notices : List Noticed
+
+-- what the statements are
+abbrev pub parsed_of : List Statement → Parsed
+parsed_of ss = record { program = program_of ss; tables = tables_of (declared_by [] ss); notices = notices_of ss }
+
+-- whether a node is ENDFIL
+abbrev pub is_end : Node → Bool
+is_end (ending line) = true
+is_end _ = false
+
+-- whether the last node is ENDFIL
+abbrev pub is_closed : Block → Bool
+is_closed done = false
+is_closed (then n done) = is_end n
+is_closed (then n (then m b)) = is_closed (then m b)
+
+-- a whole program: its last node is ENDFIL, it has at most 20,000 statements, and they fit its tables
+pub record IsWhole (program : Block) (tables : Tables) : Type 0 where
+  pub closed : IsTrue (is_closed program)
+  pub few : sizes program ≤ 20000
+  pub fits : BlockFits tables program

@@ -1,4 +1,6 @@
-use Rattle.std.proofs.Common.{sym, ◌∙◌}
+use Rattle.std.proofs.Common.{refl, sym, ◌∙◌}
+use Rattle.std.proofs.lemmas.Result.{err_from_is_err_and}
+use Rattle.vcm_num.proofs.KnownWrites.{front_first, wrote_then}
 use Rattle.vcm.proofs.output.write_stop.Goals as goal
 
 pub returns-in-Collision : goal.returns-in-Collision
@@ -27,5 +29,10 @@ returns-in-BadSetting g c = rw c.in-BadSetting.is c.write_pieces-in-BadSetting.e
 pub returns-in-OutputFull : goal.returns-in-OutputFull
 returns-in-OutputFull g c = rw c.in-OutputFull.is c.write_pieces-in-OutputFull.ensures
 
-pub returns-in-Undefined : goal.returns-in-Undefined
-returns-in-Undefined g c = rw (c.in-Undefined.is, sym c.missing_letters.ensures) c.write_pieces-in-Undefined.ensures
+pub returns-in_err-write_pieces-in-Undefined : goal.returns-in_err-write_pieces-in-Undefined
+returns-in_err-write_pieces-in-Undefined g c =
+    let p = err_from_is_err_and c.from_residual.result c.from_residual.ensures.1 in
+    rw (p.1, c.in-Undefined.is) (front_first _ _ _ _ _ refl c.in_err-write_pieces-in-Undefined.ensures)
+
+pub returns-in_ok-write_pieces-in-Undefined : goal.returns-in_ok-write_pieces-in-Undefined
+returns-in_ok-write_pieces-in-Undefined g c = rw c.in-Undefined.is (wrote_then _ _ _ _ _ _ _ refl c.in_ok-write_pieces-in-Undefined.ensures c.write_missing.ensures)

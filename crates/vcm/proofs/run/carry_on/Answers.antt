@@ -1,38 +1,54 @@
-use Rattle.std.proofs.Common.{refl, sym, ap}
+use Rattle.std.proofs.Common.{◌+◌, ◌≤◌, refl, arith, rules, ◌∙◌}
 use Rattle.std.proofs.lemmas.Option.{slice_get_read}
-use Rattle.vcm_state.specs.Begun.{no_names}
 use Rattle.vcm_state.specs.Carried.{setup_of}
-use Rattle.vcm_state.proofs.Places.{within_is_near}
-use Rattle.vcm_tree.specs.Program.{program_of}
-use Rattle.vcm.proofs.Runs.{at_place}
-use Rattle.vcm.proofs.Reaching.{begins, counts, goes, stops, refused}
+use Rattle.vcm_tree.proofs.Meanings.{block_size}
+use Rattle.vcm.specs.declared.stepping.Stepped.TheVariants as stepped
+use Rattle.vcm.proofs.Runs.{fits_at}
+use Rattle.vcm.proofs.Reaching.{counts, goes, stops, refused, at_step}
 use Rattle.vcm.proofs.run.carry_on.Goals as goal
 
-pub opening-world-requires : goal.opening-world-requires
-opening-world-requires g c =
-    let valid = g.met.P.Part.valid c.args.part.now in
-    rw c.bounds.ensures (within_is_near (g.P.Part.part c.args.part.now) valid (g.P.Part.part c.args.part.now).bounds.home valid.home)
+pub take_step-requires : goal.take_step-requires
+take_step-requires g c =
+    let i = c.loop-done.invariant in
+    rw i.tables (fits_at c.args.world.now.tables c.args.nodes.now c.loop-done.next c.index-nodes-next.result c.requires.whole.fits
+    (slice_get_read c.args.nodes.now _ c.loop-done.next _ refl i.reached.within c.index-nodes-next.is))
 
-pub loop-done-init : goal.loop-done-init
-loop-done-init g c =
-    let is = c.opening-world.ensures (g.P.Part.part c.args.part.now) (ap (λ b. b.home) (sym c.bounds.ensures)) in
-    begins (setup_of (g.P.Part.part c.args.part.now) no_names) c.args.statements.now c.args.n c.requires c.opening-world.result (ap (λ w. at_place w (program_of c.args.statements.now) 0) (sym is)) (ap (λ w. w.stop) is)
+pub overflow_add-next : goal.overflow_add-next
+overflow_add-next g c =
+    let size = block_size c.args.nodes.now in
+    let within = c.loop-done.invariant.reached.within in
+    let few = c.requires.whole.few in
+    let small : c.loop-done.next + 1 ≤ 20000 = omega (arith, size, within, few) in
+    search rules
 
-pub returns-in-Stopped : goal.returns-in-Stopped
-returns-in-Stopped g c =
-    stops (setup_of (g.P.Part.part c.args.part.now) no_names) c.args.statements.now c.args.n c.requires c.loop-done.world c.loop-done.next c.loop-done.done c.loop-done.invariant
-    c.index-statements-next.result (slice_get_read c.args.statements.now _ c.loop-done.next _ refl c.loop-done.invariant.within c.index-statements-next.is) c.take_step.new.world c.loop-done-test.true (c.in-Stopped.ensures.stepped _ _ _)
+pub returns-in-Stopped-clause-run : goal.returns-in-Stopped-clause-run
+returns-in-Stopped-clause-run g c =
+    let i = c.loop-done.invariant in
+    stops (setup_of (g.P.Part.part c.args.part.now) c.args.world.now.tables) c.args.nodes.now c.args.n c.requires.whole.closed c.loop-done.world.state c.loop-done.next c.loop-done.done i.reached
+    c.index-nodes-next.result (slice_get_read c.args.nodes.now _ c.loop-done.next _ refl i.reached.within c.index-nodes-next.is) c.take_step.new.world.state c.loop-done-test.true
+    (at_step (g.P.Part.part c.args.part.now) c.loop-done.world.tables c.args.world.now.tables c.args.nodes.now c.loop-done.next c.index-nodes-next.result
+    c.loop-done.world.state c.take_step.new.world.state stepped.Stopped i.tables c.in-Stopped.ensures.stepped)
 
-pub returns-in-NoMemory : goal.returns-in-NoMemory
-returns-in-NoMemory g c =
-    refused (setup_of (g.P.Part.part c.args.part.now) no_names) c.args.statements.now c.args.n c.requires c.loop-done.world c.loop-done.next c.loop-done.done c.loop-done.invariant
-    c.index-statements-next.result (slice_get_read c.args.statements.now _ c.loop-done.next _ refl c.loop-done.invariant.within c.index-statements-next.is) c.take_step.new.world c.loop-done-test.true (c.in-NoMemory.ensures.stepped _ _ _) (c.in-NoMemory.ensures.memory refl)
+pub returns-in-NoMemory-clause-run : goal.returns-in-NoMemory-clause-run
+returns-in-NoMemory-clause-run g c =
+    let i = c.loop-done.invariant in
+    refused (setup_of (g.P.Part.part c.args.part.now) c.args.world.now.tables) c.args.nodes.now c.args.n c.requires.whole.closed c.loop-done.world.state c.loop-done.next c.loop-done.done i.reached
+    c.index-nodes-next.result (slice_get_read c.args.nodes.now _ c.loop-done.next _ refl i.reached.within c.index-nodes-next.is) c.take_step.new.world.state c.loop-done-test.true
+    (at_step (g.P.Part.part c.args.part.now) c.loop-done.world.tables c.args.world.now.tables c.args.nodes.now c.loop-done.next c.index-nodes-next.result
+    c.loop-done.world.state c.take_step.new.world.state stepped.NoMemory i.tables c.in-NoMemory.ensures.stepped) (c.in-NoMemory.ensures.memory refl)
 
 pub loop-done-preserved : goal.loop-done-preserved
 loop-done-preserved g c =
-    goes (setup_of (g.P.Part.part c.args.part.now) no_names) c.args.statements.now c.args.n c.requires c.loop-done.world c.loop-done.next c.loop-done.done c.loop-done.invariant
-    c.index-statements-next.result (slice_get_read c.args.statements.now _ c.loop-done.next _ refl c.loop-done.invariant.within c.index-statements-next.is) c.take_step.new.world c.loop-done-test.true (c.in-Next.ensures.stepped _ _ _) (c.in-Next.ensures.goes_on refl)
+    let i = c.loop-done.invariant in
+    record {
+      reached = goes (setup_of (g.P.Part.part c.args.part.now) c.args.world.now.tables) c.args.nodes.now c.args.n c.requires.whole.closed c.loop-done.world.state c.loop-done.next c.loop-done.done i.reached
+          c.index-nodes-next.result (slice_get_read c.args.nodes.now _ c.loop-done.next _ refl i.reached.within c.index-nodes-next.is) c.take_step.new.world.state c.loop-done-test.true
+          (at_step (g.P.Part.part c.args.part.now) c.loop-done.world.tables c.args.world.now.tables c.args.nodes.now c.loop-done.next c.index-nodes-next.result
+          c.loop-done.world.state c.take_step.new.world.state stepped.Next i.tables c.in-Next.ensures.stepped) (c.in-Next.ensures.goes_on refl);
+      tables = c.in-Next.ensures.tables ∙ i.tables;
+    }
 
-pub returns : goal.returns
-returns g c =
-    counts (setup_of (g.P.Part.part c.args.part.now) no_names) c.args.statements.now c.args.n c.requires c.loop-done.world c.loop-done.next c.loop-done.done c.loop-done.invariant c.loop-done-test.false
+pub returns-clause-run : goal.returns-clause-run
+returns-clause-run g c =
+    counts (setup_of (g.P.Part.part c.args.part.now) c.args.world.now.tables) c.args.nodes.now c.args.n c.requires.whole.closed c.loop-done.world.state c.loop-done.next c.loop-done.done
+    c.loop-done.invariant.reached c.loop-done-test.false

@@ -1,5 +1,5 @@
-use Rattle.vcm_tree.proofs.EndingLaws.{straight_length}
+use Rattle.vcm_tree.proofs.Counting.{clean_counted}
 use Rattle.vcm_tree.proofs.laws.statements_are_counted.Goals as goal
 
 pub returns : goal.returns
-returns c = straight_length
+returns c = clean_counted
