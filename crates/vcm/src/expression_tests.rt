@@ -1,17 +1,16 @@
 //! Runs of programs with variables and expressions, from their text.
 
 use crate::run::run_text;
-use crate::tests::{BOUNDS, ONE_BLOCK, answer_of, program_of, refusal_of, refused};
+use crate::tests::{BOUNDS, ONE_BLOCK, are_refused, is_refused, prints, program_of};
 use itoa::Buffer;
-use std::alloc::{AllocError, Global};
-use std::test::Fail;
+use std::alloc::Global;
 use vcm_lines::FaultCode;
 use vcm_motion::Blocks;
 use vcm_num::Items;
 use vcm_part::read_part;
 
 #[test]
-fn moves_and_assignments(rt: HostRuntime) -> Result<(), Fail> {
+fn moves_and_assignments(rt: HostRuntime) {
     for (statements, output, status) in [
         (
             "DECL/REAL,X\nX=ASSIGN/20\nGOTO/X,X+0,50.0\n",
@@ -54,21 +53,17 @@ fn moves_and_assignments(rt: HostRuntime) -> Result<(), Fail> {
             3,
         ),
     ] {
-        let (answer, out) = answer_of(rt.alloc(), ONE_BLOCK, statements)?;
-        assert_eq!(rt; out.as_slice(), output.as_bytes(), "{statements}");
-        assert_eq!(rt;
-            answer.ok().map(|done| done.status),
-            Some(status),
+        assert!(rt;
+            prints(rt.alloc(), ONE_BLOCK, statements, output, status),
             "{statements}"
         );
     }
-    Ok(())
 }
 
 // The values of the variables behind all steps of a program.
 fn values_after(alloc: Global, statements: &str) -> Option<Items<i64>> {
     let part = read_part(alloc, BOUNDS.as_bytes()).ok()?;
-    let program = program_of(alloc, statements).ok()?;
+    let program = program_of(alloc, statements)?;
     let summary = run_text(alloc, &Blocks::new(&part), program.as_bytes(), 100).ok()?;
     Items::from_slice(alloc, summary.world().variables()).ok()
 }
@@ -101,7 +96,7 @@ fn values(rt: HostRuntime) {
 }
 
 #[test]
-fn refused_names(rt: HostRuntime) -> Result<(), Fail> {
+fn refused_names(rt: HostRuntime) {
     for (statements, code, line) in [
         ("DECL/INTGR,I\nDECL/REAL,I\n", FaultCode::DuplicateName, 4),
         ("DECL/INTGR,I,J,I\n", FaultCode::DuplicateName, 3),
@@ -118,88 +113,68 @@ fn refused_names(rt: HostRuntime) -> Result<(), Fail> {
         ("DECL/BOOL,B\nGOTO/0,0,B\n", FaultCode::BadType, 4),
         ("Y=ASSIGN/1*.TRUE.\n", FaultCode::UnknownName, 3),
     ] {
-        let program = program_of(rt.alloc(), statements)?;
-        assert_eq!(rt;
-            refusal_of(rt.alloc(), program.as_str())?,
-            refused(code, line),
+        assert!(rt;
+            are_refused(rt.alloc(), statements, code, line),
             "{statements}"
         );
     }
-    Ok(())
 }
 
 #[test]
-fn refused_expressions(rt: HostRuntime) -> Result<(), Fail> {
-    for (statement, code) in [
-        ("X=ASSIGN/12.3456\n", FaultCode::TooFine),
+fn refused_expressions(rt: HostRuntime) {
+    for (statements, code) in [
+        ("DECL/REAL,X\nX=ASSIGN/12.3456\n", FaultCode::TooFine),
         (
-            "X=ASSIGN/12.3456+99999999999999999999\n",
+            "DECL/REAL,X\nX=ASSIGN/12.3456+99999999999999999999\n",
             FaultCode::TooFine,
         ),
         (
-            "X=ASSIGN/99999999999999999999+12.3456\n",
+            "DECL/REAL,X\nX=ASSIGN/99999999999999999999+12.3456\n",
             FaultCode::NumberTooLarge,
         ),
-        ("X=ASSIGN/1+\n", FaultCode::BadSyntax),
-        ("X=ASSIGN/1.FOO.2\n", FaultCode::BadSyntax),
-        ("DECL/CHAR,10,C\n", FaultCode::Unsupported),
-        ("SNSET/OTHER,5\n", FaultCode::Unsupported),
+        ("DECL/REAL,X\nX=ASSIGN/1+\n", FaultCode::BadSyntax),
+        ("DECL/REAL,X\nX=ASSIGN/1.FOO.2\n", FaultCode::BadSyntax),
+        ("DECL/REAL,X\nDECL/CHAR,10,C\n", FaultCode::Unsupported),
     ] {
-        let mut statements = String::new(rt.alloc());
-        statements.push_str("DECL/REAL,X\n")?;
-        statements.push_str(statement)?;
-        let program = program_of(rt.alloc(), statements.as_str())?;
-        assert_eq!(rt;
-            refusal_of(rt.alloc(), program.as_str())?,
-            refused(code, 4),
-            "{statement}"
+        assert!(rt;
+            are_refused(rt.alloc(), statements, code, 4),
+            "{statements}"
         );
     }
-    let program = program_of(rt.alloc(), "SNSET/OTHER,5\n")?;
-    assert_eq!(rt;
-        refusal_of(rt.alloc(), program.as_str())?,
-        refused(FaultCode::Unsupported, 3)
-    );
-    Ok(())
+    assert!(rt; are_refused(rt.alloc(), "SNSET/OTHER,5\n", FaultCode::Unsupported, 3));
 }
 
 #[test]
-fn earlier_phases_first(rt: HostRuntime) -> Result<(), Fail> {
-    let statements = program_of(rt.alloc(), "DECL/INTGR,I\nDECL/INTGR,I\nI=ASSIGN/1+\n")?;
-    assert_eq!(rt;
-        refusal_of(rt.alloc(), statements.as_str())?,
-        refused(FaultCode::BadSyntax, 5)
-    );
+fn earlier_phases_first(rt: HostRuntime) {
+    let statements = "DECL/INTGR,I\nDECL/INTGR,I\nI=ASSIGN/1+\n";
+    assert!(rt; are_refused(rt.alloc(), statements, FaultCode::BadSyntax, 5));
     let order = "DMISMN/'T'\nUNITS/MM,ANGDEC\nDECL/INTGR,I\nDECL/INTGR,I\n";
-    assert_eq!(rt;
-        refusal_of(rt.alloc(), order)?,
-        refused(FaultCode::BadOrder, 4)
-    );
-    Ok(())
+    assert!(rt; is_refused(rt.alloc(), order, FaultCode::BadOrder, 4));
 }
 
 // Declarations of so many variables, one on each line.
-fn declarations(alloc: Global, count: u32) -> Result<String, AllocError> {
+fn declarations(alloc: Global, count: u32) -> Option<String> {
     let mut text = String::new(alloc);
     for number in 0..count {
         let mut digits = Buffer::new();
-        text.push_str("DECL/INTGR,V")?;
-        text.push_str(digits.format(number))?;
-        text.push_str("\n")?;
+        text.push_str("DECL/INTGR,V").ok()?;
+        text.push_str(digits.format(number)).ok()?;
+        text.push_str("\n").ok()?;
     }
-    Ok(text)
+    Some(text)
 }
 
 #[test]
-fn as_many_variables_as_may_be(rt: HostRuntime) -> Result<(), Fail> {
-    let most = declarations(rt.alloc(), 4_096)?;
-    let program = program_of(rt.alloc(), most.as_str())?;
-    assert_eq!(rt; refusal_of(rt.alloc(), program.as_str())?, None);
-    let more = declarations(rt.alloc(), 4_097)?;
-    let program = program_of(rt.alloc(), more.as_str())?;
-    assert_eq!(rt;
-        refusal_of(rt.alloc(), program.as_str())?,
-        refused(FaultCode::TooManyNames, 4_099)
-    );
-    Ok(())
+fn as_many_variables_as_may_be(rt: HostRuntime) {
+    let output = "stop ENDED\nposition 0.000 0.000 100.000\nsteps 1\n";
+    let is_taken = match declarations(rt.alloc(), 4_096) {
+        Some(most) => prints(rt.alloc(), ONE_BLOCK, most.as_str(), output, 0),
+        None => false,
+    };
+    assert!(rt; is_taken);
+    let is_more = match declarations(rt.alloc(), 4_097) {
+        Some(more) => are_refused(rt.alloc(), more.as_str(), FaultCode::TooManyNames, 4_099),
+        None => false,
+    };
+    assert!(rt; is_more);
 }

@@ -3,8 +3,8 @@
 use crate::job::{Done, JobFault, job};
 use crate::messages::{Message, job_message, part_message, source_message, status_of};
 use crate::output::write_result;
-use crate::run::{End, Ran, Refusal, run_text};
-use std::alloc::{AllocError, Global};
+use crate::run::{End, Ran, Refusal, Summary, run_text};
+use std::alloc::Global;
 use std::io;
 use std::io::{ErrorKind, Read, Write};
 use std::test::Fail;
@@ -12,6 +12,7 @@ use vcm_lines::{FaultCode, SourceFault};
 use vcm_motion::Blocks;
 use vcm_part::{PartCode, PartFault, read_part};
 use vcm_syntax::Notice;
+use vcm_tree::Noticed;
 
 pub(crate) const BOUNDS: &str = "low = [-500000, -500000, -500000]
 high = [500000, 500000, 500000]
@@ -34,56 +35,78 @@ high = [30000, 30000, 20000]
 ";
 
 // The program with these statements between its head and its end.
-pub(crate) fn program_of(alloc: Global, statements: &str) -> Result<String, AllocError> {
+pub(crate) fn program_of(alloc: Global, statements: &str) -> Option<String> {
     let mut text = String::new(alloc);
-    text.push_str("DMISMN/'T'\nUNITS/MM,ANGDEC\n")?;
-    text.push_str(statements)?;
-    text.push_str("ENDFIL\n")?;
-    Ok(text)
+    text.push_str("DMISMN/'T'\nUNITS/MM,ANGDEC\n").ok()?;
+    text.push_str(statements).ok()?;
+    text.push_str("ENDFIL\n").ok()?;
+    Some(text)
 }
 
 // The job of a part and a program.
-pub(crate) fn job_of(alloc: Global, blocks: &str, program: &str) -> Result<String, AllocError> {
+pub(crate) fn job_of(alloc: Global, blocks: &str, program: &str) -> Option<String> {
     let mut text = String::new(alloc);
-    text.push_str(BOUNDS)?;
-    text.push_str(blocks)?;
-    text.push_str("%%\n")?;
-    text.push_str(program)?;
-    Ok(text)
+    text.push_str(BOUNDS).ok()?;
+    text.push_str(blocks).ok()?;
+    text.push_str("%%\n").ok()?;
+    text.push_str(program).ok()?;
+    Some(text)
 }
 
-// What a job of these statements beside these blocks answers, and what it writes.
-pub(crate) fn answer_of(
+// What a job answers, and what it writes.
+fn answer_of(
     alloc: Global,
     blocks: &str,
-    statements: &str,
-) -> Result<(Result<Done, JobFault>, Vec<u8>), AllocError> {
-    let program = program_of(alloc, statements)?;
-    let text = job_of(alloc, blocks, program.as_str())?;
+    program: &str,
+) -> Option<(Result<Done, JobFault>, Vec<u8>)> {
+    let text = job_of(alloc, blocks, program)?;
     let mut input = text.as_bytes();
     let mut out = Vec::new(alloc);
     let answer = job(alloc, &mut input, &mut out);
-    Ok((answer, out))
+    Some((answer, out))
 }
 
-// The refusal of a program.
-pub(crate) fn refusal_of(alloc: Global, program: &str) -> Result<Option<Message>, AllocError> {
-    let text = job_of(alloc, ONE_BLOCK, program)?;
-    let mut input = text.as_bytes();
-    let mut out = Vec::new(alloc);
-    match job(alloc, &mut input, &mut out) {
-        Ok(_) => Ok(None),
-        Err(fault) => Ok(Some(job_message(fault))),
+// Whether a job of these statements beside these blocks prints this, with this exit status.
+pub(crate) fn prints(
+    alloc: Global,
+    blocks: &str,
+    statements: &str,
+    output: &str,
+    status: u8,
+) -> bool {
+    let Some(program) = program_of(alloc, statements) else {
+        return false;
+    };
+    let Some((answer, out)) = answer_of(alloc, blocks, program.as_str()) else {
+        return false;
+    };
+    let is_same = out.as_slice() == output.as_bytes();
+    match answer {
+        Ok(done) => is_same && done.status == status,
+        Err(_) => false,
     }
 }
 
-// The refusal of a text at a line.
-pub(crate) fn refused(code: FaultCode, line: u32) -> Option<Message> {
-    Some(source_message(SourceFault { code, line }))
+// Whether a program is refused with this code at this line, and its job writes nothing.
+pub(crate) fn is_refused(alloc: Global, program: &str, code: FaultCode, line: u32) -> bool {
+    match answer_of(alloc, ONE_BLOCK, program) {
+        Some((Err(fault), out)) => {
+            out.is_empty() && job_message(fault) == source_message(SourceFault { code, line })
+        }
+        _ => false,
+    }
+}
+
+// Whether the program of these statements is refused so.
+pub(crate) fn are_refused(alloc: Global, statements: &str, code: FaultCode, line: u32) -> bool {
+    match program_of(alloc, statements) {
+        Some(program) => is_refused(alloc, program.as_str(), code, line),
+        None => false,
+    }
 }
 
 #[test]
-fn moves_beside_one_block(rt: HostRuntime) -> Result<(), Fail> {
+fn moves_beside_one_block(rt: HostRuntime) {
     for (statements, output, status) in [
         ("", "stop ENDED\nposition 0.000 0.000 100.000\nsteps 1\n", 0),
         (
@@ -147,40 +170,45 @@ fn moves_beside_one_block(rt: HostRuntime) -> Result<(), Fail> {
             3,
         ),
     ] {
-        let (answer, out) = answer_of(rt.alloc(), ONE_BLOCK, statements)?;
-        assert_eq!(rt; out.as_slice(), output.as_bytes(), "{statements}");
-        assert_eq!(rt;
-            answer.ok().map(|done| done.status),
-            Some(status),
+        assert!(rt;
+            prints(rt.alloc(), ONE_BLOCK, statements, output, status),
             "{statements}"
         );
     }
-    Ok(())
 }
 
 #[test]
-fn the_plane_between_two_halves(rt: HostRuntime) -> Result<(), Fail> {
-    let (answer, out) = answer_of(
-        rt.alloc(),
-        TWO_HALVES,
-        "GOTO/20,0,50\nGOTO/20,0,10\nGOTO/20,40,10\n",
-    )?;
-    assert_eq!(rt;
-        out.as_slice(),
-        b"stop COLLISION MOVE block 1 permille 250 at 2 line 5\nposition 20.000 0.000 10.000\nsteps 3\n".as_slice()
-    );
-    assert_eq!(rt; answer.ok().map(|done| done.status), Some(3));
-    Ok(())
+fn the_plane_between_two_halves(rt: HostRuntime) {
+    let statements = "GOTO/20,0,50\nGOTO/20,0,10\nGOTO/20,40,10\n";
+    let output =
+        "stop COLLISION MOVE block 1 permille 250 at 2 line 5\nposition 20.000 0.000 10.000\nsteps 3\n";
+    assert!(rt; prints(rt.alloc(), TWO_HALVES, statements, output, 3));
 }
 
-#[test]
-fn so_many_steps(rt: HostRuntime) -> Result<(), Fail> {
-    let alloc = rt.alloc();
+// Whether a summary shows these steps, this next number, one notice, and prints this.
+fn shows(alloc: Global, summary: &Summary, ran: Ran, next: u32, output: &str) -> bool {
+    let mut out = Vec::new(alloc);
+    let is_written = write_result(summary.world(), &summary.ran(), &mut out).is_ok();
+    summary.ran() == ran
+        && summary.next() == next
+        && summary.notices().len() == 1
+        && is_written
+        && out.as_slice() == output.as_bytes()
+}
+
+// The summary of a move beside one block, after so many steps.
+fn after_steps(alloc: Global, n: u64) -> Option<Summary> {
     let mut file = String::new(alloc);
-    file.push_str(BOUNDS)?;
-    file.push_str(ONE_BLOCK)?;
-    let part = read_part(alloc, file.as_bytes()).ok().ok_or("a part")?;
+    file.push_str(BOUNDS).ok()?;
+    file.push_str(ONE_BLOCK).ok()?;
+    let part = read_part(alloc, file.as_bytes()).ok()?;
     let program = program_of(alloc, "MODE/MAN\nGOTO/20,20,50\n")?;
+    run_text(alloc, &Blocks::new(&part), program.as_bytes(), n).ok()
+}
+
+#[test]
+fn so_many_steps(rt: HostRuntime) {
+    let alloc = rt.alloc();
     for (n, done, end, next, output) in [
         (
             0,
@@ -211,35 +239,38 @@ fn so_many_steps(rt: HostRuntime) -> Result<(), Fail> {
             "stop ENDED\nposition 20.000 20.000 50.000\nsteps 2\n",
         ),
     ] {
-        let summary = run_text(alloc, &Blocks::new(&part), program.as_bytes(), n)
-            .ok()
-            .ok_or("a run")?;
-        assert_eq!(rt; summary.ran(), Ran { done, end });
-        assert_eq!(rt; summary.next(), next);
-        assert_eq!(rt; summary.notices().len(), 1);
-        let mut out = Vec::new(alloc);
-        assert!(rt; write_result(summary.world(), &summary.ran(), &mut out).is_ok());
-        assert_eq!(rt; out.as_slice(), output.as_bytes());
+        let is_shown = match after_steps(alloc, n) {
+            Some(summary) => shows(alloc, &summary, Ran { done, end }, next, output),
+            None => false,
+        };
+        assert!(rt; is_shown, "{output}");
     }
-    Ok(())
+}
+
+// The notices of a job of these statements.
+fn notices_of(alloc: Global, statements: &str) -> Option<Vec<Noticed>> {
+    let program = program_of(alloc, statements)?;
+    let (answer, _) = answer_of(alloc, ONE_BLOCK, program.as_str())?;
+    Some(answer.ok()?.notices)
 }
 
 #[test]
-fn notices(rt: HostRuntime) -> Result<(), Fail> {
-    let (answer, out) = answer_of(rt.alloc(), ONE_BLOCK, "MODE/MAN\n")?;
-    assert_eq!(rt;
-        out.as_slice(),
-        b"stop ENDED\nposition 0.000 0.000 100.000\nsteps 1\n".as_slice()
-    );
-    let done = answer.ok().ok_or("a run")?;
-    let notice = done.notices.first().ok_or("a notice")?;
-    assert_eq!(rt; notice.line, 3);
-    assert_eq!(rt; notice.word, Notice::Mode);
-    Ok(())
+fn notices(rt: HostRuntime) {
+    let notice = Noticed {
+        line: 3,
+        word: Notice::Mode,
+    };
+    let told = match notices_of(rt.alloc(), "MODE/MAN\n") {
+        Some(notices) => notices.as_slice() == [notice].as_slice(),
+        None => false,
+    };
+    assert!(rt; told);
+    let output = "stop ENDED\nposition 0.000 0.000 100.000\nsteps 1\n";
+    assert!(rt; prints(rt.alloc(), ONE_BLOCK, "MODE/MAN\n", output, 0));
 }
 
 #[test]
-fn refused_statements(rt: HostRuntime) -> Result<(), Fail> {
+fn refused_statements(rt: HostRuntime) {
     for (statements, code) in [
         ("DATSET/MCS\n", FaultCode::UnknownStatement),
         ("GOTO/12.3456,0,0\n", FaultCode::TooFine),
@@ -247,18 +278,15 @@ fn refused_statements(rt: HostRuntime) -> Result<(), Fail> {
         ("GOTO/0,0\n", FaultCode::BadSyntax),
         ("SNSET/OTHER,5\n", FaultCode::Unsupported),
     ] {
-        let program = program_of(rt.alloc(), statements)?;
-        assert_eq!(rt;
-            refusal_of(rt.alloc(), program.as_str())?,
-            refused(code, 3),
+        assert!(rt;
+            are_refused(rt.alloc(), statements, code, 3),
             "{statements}"
         );
     }
-    Ok(())
 }
 
 #[test]
-fn refused_orders(rt: HostRuntime) -> Result<(), Fail> {
+fn refused_orders(rt: HostRuntime) {
     for (program, line) in [
         ("UNITS/MM,ANGDEC\nENDFIL\n", 1),
         ("DMISMN/'T'\nGOTO/0,0,50\nUNITS/MM,ANGDEC\nENDFIL\n", 2),
@@ -268,17 +296,15 @@ fn refused_orders(rt: HostRuntime) -> Result<(), Fail> {
         ("DMISMN/'T'\nUNITS/MM,ANGDEC\nENDFIL\nMODE/MAN\n", 4),
         ("", 1),
     ] {
-        assert_eq!(rt;
-            refusal_of(rt.alloc(), program)?,
-            refused(FaultCode::BadOrder, line),
+        assert!(rt;
+            is_refused(rt.alloc(), program, FaultCode::BadOrder, line),
             "{program}"
         );
     }
-    Ok(())
 }
 
 #[test]
-fn parts_are_judged_first(rt: HostRuntime) -> Result<(), Fail> {
+fn parts_are_judged_first(rt: HostRuntime) {
     let alloc = rt.alloc();
     let mut input: &[u8] = b"low = [0, 0, 0]\n%%\nDATSET/MCS\n";
     let mut out = Vec::new(alloc);
@@ -291,12 +317,29 @@ fn parts_are_judged_first(rt: HostRuntime) -> Result<(), Fail> {
         Some(JobFault::Refused(Refusal::Part(refusal)))
     );
     assert!(rt; out.is_empty());
-    Ok(())
+}
+
+// The job of an empty program behind this mark, or of none behind the mark at the end.
+fn marked(alloc: Global, mark: &str) -> Option<String> {
+    let mut text = String::new(alloc);
+    text.push_str(BOUNDS).ok()?;
+    text.push_str(mark).ok()?;
+    if mark.len() > 2 {
+        text.push_str("DMISMN/'T'\nUNITS/MM,ANGDEC\nENDFIL\n").ok()?;
+    }
+    Some(text)
+}
+
+// The refusal of such a job.
+fn mark_refusal(alloc: Global, mark: &str) -> Option<Message> {
+    let text = marked(alloc, mark)?;
+    let mut input = text.as_bytes();
+    let mut out = Vec::new(alloc);
+    job(alloc, &mut input, &mut out).err().map(job_message)
 }
 
 #[test]
-fn marks_of_jobs(rt: HostRuntime) -> Result<(), Fail> {
-    let alloc = rt.alloc();
+fn marks_of_jobs(rt: HostRuntime) {
     for (mark, refusal) in [
         ("%%\n", None),
         ("%%\r\n", None),
@@ -314,21 +357,9 @@ fn marks_of_jobs(rt: HostRuntime) -> Result<(), Fail> {
             }),
         ),
     ] {
-        let mut text = String::new(alloc);
-        text.push_str(BOUNDS)?;
-        text.push_str(mark)?;
-        if mark.len() > 2 {
-            text.push_str("DMISMN/'T'\nUNITS/MM,ANGDEC\nENDFIL\n")?;
-        }
-        let mut input = text.as_bytes();
-        let mut out = Vec::new(alloc);
-        assert_eq!(rt;
-            job(alloc, &mut input, &mut out).err().map(job_message),
-            refusal,
-            "{mark}"
-        );
+        assert!(rt; marked(rt.alloc(), mark).is_some());
+        assert_eq!(rt; mark_refusal(rt.alloc(), mark), refusal, "{mark}");
     }
-    Ok(())
 }
 
 #[test]
@@ -432,8 +463,8 @@ impl Write for Full {
 #[test]
 fn each_read_fails(rt: HostRuntime) -> Result<(), Fail> {
     let alloc = rt.alloc();
-    let program = program_of(alloc, "TEXT/OPER,'A'\n")?;
-    let text = job_of(alloc, ONE_BLOCK, program.as_str())?;
+    let program = program_of(alloc, "TEXT/OPER,'A'\n").ok_or("a program")?;
+    let text = job_of(alloc, ONE_BLOCK, program.as_str()).ok_or("a job")?;
     for failing in 1..=10usize {
         let mut reader = Failing {
             bytes: text.as_bytes(),
@@ -454,8 +485,8 @@ fn each_read_fails(rt: HostRuntime) -> Result<(), Fail> {
 #[test]
 fn each_write_fails(rt: HostRuntime) -> Result<(), Fail> {
     let alloc = rt.alloc();
-    let program = program_of(alloc, "TEXT/OPER,'A'\n")?;
-    let text = job_of(alloc, ONE_BLOCK, program.as_str())?;
+    let program = program_of(alloc, "TEXT/OPER,'A'\n").ok_or("a program")?;
+    let text = job_of(alloc, ONE_BLOCK, program.as_str()).ok_or("a job")?;
     let whole = b"A\nstop ENDED\nposition 0.000 0.000 100.000\nsteps 2\n";
     for failing in 1..=30usize {
         let mut input = text.as_bytes();

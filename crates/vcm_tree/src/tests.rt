@@ -1,6 +1,6 @@
 use super::*;
 use std::test::*;
-use vcm_expr::{Typed, TypedNode};
+use vcm_expr::{Names, Typed, TypedNode};
 use vcm_lines::{FaultCode, SourceFault};
 use vcm_num::Kind;
 use vcm_spec::{Operand, UnaryOp};
@@ -14,7 +14,7 @@ fn fault(code: FaultCode, line: u32) -> Option<SourceFault> {
     Some(SourceFault { code, line })
 }
 
-// Whether the expression is the whole number of millimetres, scaled to micrometres.
+// Whether an expression is a whole number of millimetres, scaled to micrometres.
 fn is_length(e: &Typed, millimetres: i64) -> bool {
     match e.node() {
         TypedNode::Unary(UnaryOp::Scale, inner) => matches!(
@@ -25,65 +25,98 @@ fn is_length(e: &Typed, millimetres: i64) -> bool {
     }
 }
 
+// Whether a statement is a move to a point of whole millimetres.
+fn is_move(action: &Action, x: i64, y: i64, z: i64) -> bool {
+    match action {
+        Action::Goto(a, b, c) => is_length(a, x) && is_length(b, y) && is_length(c, z),
+        _ => false,
+    }
+}
+
+// Whether a statement prints this line.
+fn is_line(action: &Action, line: &[u8]) -> bool {
+    match action {
+        Action::Text(text) => text.as_bytes() == line,
+        _ => false,
+    }
+}
+
+// Whether a statement assigns whole millimetres to the variable at an index.
+fn is_assignment(action: &Action, index: u16, millimetres: i64) -> bool {
+    match action {
+        Action::Assign(variable, value) => *variable == index && is_length(value, millimetres),
+        _ => false,
+    }
+}
+
+// Whether these are a move on line 4, an output line on line 5, and the end on line 6.
+fn goes_and_says(nodes: &[Node]) -> bool {
+    match nodes {
+        [
+            Node::Simple(4, goto),
+            Node::Simple(5, line),
+            Node::Ending(6),
+        ] => { is_move(goto, 20, 20, 50) && is_line(line, b"a $$ b") }
+        _ => false,
+    }
+}
+
 #[test]
-fn program(rt: HostRuntime) -> Result<(), Fail> {
+fn program(rt: HostRuntime) {
     let text = b"DMISMN/'T'\nUNITS/MM,ANGDEC\nMODE/MAN\nGOTO/20,20,50\nTEXT/OPER,'a $$ b'\nENDFIL";
-    let program = accept(rt.alloc(), text).ok().ok_or("refused")?;
-    assert_eq!(rt; program.count(), 3);
-    assert_eq!(rt; program.variables().len(), 0);
-    let [
-        Node::Simple(first, goto),
-        Node::Simple(second, line),
-        Node::Ending(last),
-    ] = program.nodes()
-    else {
-        return Err("not these three statements".into());
-    };
-    assert_eq!(rt; (*first, *second, *last), (4, 5, 6));
-    let Action::Goto(x, y, z) = goto else {
-        return Err("not a move".into());
-    };
-    assert!(rt; is_length(x, 20) && is_length(y, 20) && is_length(z, 50));
-    let Action::Text(text) = line else {
-        return Err("not a line".into());
-    };
-    assert_eq!(rt; text.as_bytes(), b"a $$ b".as_slice());
     let mode = Noticed {
         line: 3,
         word: Notice::Mode,
     };
-    assert_eq!(rt; program.notices(), [mode].as_slice());
-    assert_eq!(rt; program.into_notices().as_slice(), [mode].as_slice());
-    Ok(())
+    match accept(rt.alloc(), text) {
+        Ok(program) => {
+            assert!(rt; goes_and_says(program.nodes()));
+            assert_eq!(rt; program.count(), 3);
+            assert_eq!(rt; program.variables().len(), 0);
+            assert_eq!(rt; program.notices(), [mode].as_slice());
+            assert_eq!(rt; program.into_notices().as_slice(), [mode].as_slice());
+        }
+        Err(_) => assert!(rt; false, "refused"),
+    }
+}
+
+// Whether these are an assignment on line 5, GOHOME on line 6, and the end on line 7.
+fn assigns_and_goes_home(nodes: &[Node]) -> bool {
+    match nodes {
+        [
+            Node::Simple(5, assignment),
+            Node::Simple(6, Action::GoHome),
+            Node::Ending(7),
+        ] => { is_assignment(assignment, 1, 20) }
+        _ => false,
+    }
+}
+
+// Whether the variable at an index has this name and kind, outside macros.
+fn has_variable(names: &Names, index: usize, bytes: &[u8], kind: Kind) -> bool {
+    match names.get(index) {
+        Some((expansion, name, found)) => {
+            expansion == 0 && name.as_bytes() == bytes && found == kind
+        }
+        None => false,
+    }
 }
 
 #[test]
-fn variables(rt: HostRuntime) -> Result<(), Fail> {
+fn variables(rt: HostRuntime) {
     let text =
         b"DMISMN/'T'\nUNITS/MM,ANGDEC\nDECL/INTGR,I\nDECL/REAL,X\nX=ASSIGN/20\nGOHOME\nENDFIL";
-    let program = accept(rt.alloc(), text).ok().ok_or("refused")?;
-    assert_eq!(rt; program.count(), 3);
-    let names = program.variables();
-    assert_eq!(rt; names.len(), 2);
-    let (expansion, name, kind) = names.get(1).ok_or("a second variable")?;
-    assert_eq!(rt; expansion, 0);
-    assert_eq!(rt; name.as_bytes(), b"X".as_slice());
-    assert_eq!(rt; kind, Kind::Real);
-    let [
-        Node::Simple(5, assignment),
-        Node::Simple(6, home),
-        Node::Ending(7),
-    ] = program.nodes()
-    else {
-        return Err("not these three statements".into());
-    };
-    let Action::Assign(variable, value) = assignment else {
-        return Err("not an assignment".into());
-    };
-    assert_eq!(rt; *variable, 1);
-    assert!(rt; is_length(value, 20));
-    assert!(rt; matches!(home, Action::GoHome));
-    Ok(())
+    match accept(rt.alloc(), text) {
+        Ok(program) => {
+            assert!(rt; assigns_and_goes_home(program.nodes()));
+            assert_eq!(rt; program.count(), 3);
+            let names = program.variables();
+            assert_eq!(rt; names.len(), 2);
+            assert!(rt; has_variable(names, 0, b"I", Kind::Int));
+            assert!(rt; has_variable(names, 1, b"X", Kind::Real));
+        }
+        Err(_) => assert!(rt; false, "refused"),
+    }
 }
 
 #[test]
