@@ -14,7 +14,7 @@ use Rattle.vcm_expr.specs.declared.expression.Term.{Term}
 use Rattle.vcm_expr.specs.declared.part.Part.{Part}
 use Rattle.vcm_expr.specs.declared.part.Part.TheVariants.{Operand}
 use Rattle.vcm_expr.specs.Digits.{read_of}
-use Rattle.vcm_expr.specs.Parts.{parts_of, part_of, number_term, run_term, dotted_part, is_name}
+use Rattle.vcm_expr.specs.Parts.{parts_of, part_of, number_term, run_term, dotted_part, is_variable_name}
 use Rattle.vcm_expr.specs.Source.{Source, Prefixed, Pair, depth_of, nodes_of, is_small}
 use Rattle.vcm_expr.specs.Grammar.{Written, Leaf, Paren, Signed, Joined, spelled, IsOperand, Fits, meant, IsRead, Spells, IsDeep, NestsDeep, HasBigPart, HasFlaw, BreaksParts}
 use Rattle.vcm_expr.specs.Reading.{Phrase, phrase, disjunction_by, expression}
@@ -188,7 +188,7 @@ term_fault : (c : FaultCode) (o : Result Term FaultCode) → (o ≡ Err c → (c
 term_fault c o h e = h cc
 
 run_fault : (c : FaultCode) (bs : List ℕ) → run_term bs ≡ Err c → (c ≡ BadSyntax) ⊎ IsValueFault c
-run_fault c bs = choose (λ o. o ≡ Err c → (c ≡ BadSyntax) ⊎ IsValueFault c) (is_name bs) _ _ (λ e. absurd cc) (number_fault (read_of bs) c)
+run_fault c bs = choose (λ o. o ≡ Err c → (c ≡ BadSyntax) ⊎ IsValueFault c) (is_variable_name bs) _ _ (λ e. absurd cc) (number_fault (read_of bs) c)
 
 part_fault : (c : FaultCode) (w : Lexeme) → FaultOf c (part_of w)
 part_fault c (Run bs) = term_fault c (run_term bs) (run_fault c bs)

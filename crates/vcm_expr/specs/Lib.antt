@@ -2,6 +2,7 @@ pub mod Codes
 pub mod Typed
 pub mod Slots
 pub mod Run
+pub mod NameBytes
 pub mod Names
 pub mod Source
 pub mod SourceCodes

@@ -1,7 +1,7 @@
 -- The words of a statement as parts of an expression.
-use Rattle.std.specs.Prelude.{ℕ, ◌&&◌, nat_le, if◌then◌else◌, Bool, true, false, codes, List, [], ◌∷◌, length, map, Result, Ok, Err}
+use Rattle.std.specs.Prelude.{ℕ, ◌&&◌, if◌then◌else◌, Bool, true, false, codes, List, [], ◌∷◌, map, Result, Ok, Err}
 use Rattle.std.specs.Str.{bytes_eq}
-use Rattle.std.specs.Char.{is_ascii_alphabetic}
+use Rattle.std.specs.Char.{is_ascii_uppercase}
 use Rattle.vcm_num.specs.declared.number.Literal.{Literal}
 use Rattle.vcm_num.specs.declared.read.NumFault.{NumFault}
 use Rattle.vcm_num.specs.declared.read.NumFault.TheVariants.{BadNumber, TooFine, TooLarge}
@@ -14,11 +14,12 @@ use Rattle.vcm_expr.specs.declared.expression.Term.TheVariants.{Number as Figure
 use Rattle.vcm_expr.specs.declared.part.Part.{Part}
 use Rattle.vcm_expr.specs.declared.part.Part.TheVariants.{Operand, Dash, Cross, Star, Slash, NotWord, AndWord, OrWord, RelationWord, Opening, Closing, Other}
 use Rattle.vcm_expr.specs.Digits.{read_of}
+use Rattle.vcm_expr.specs.NameBytes.{is_name}
 
--- a run of letters, digits and underscores is a variable's name
-abbrev pub is_name : List ℕ → Bool
-is_name [] = false
-is_name (b ∷ bs) = is_ascii_alphabetic b && nat_le (length (b ∷ bs)) 16
+-- whether bytes are a variable's name: a name that begins with a letter
+abbrev pub is_variable_name : List ℕ → Bool
+is_variable_name [] = false
+is_variable_name (b ∷ bs) = is_ascii_uppercase b && is_name (b ∷ bs)
 
 -- what digits mean, or the code of what is wrong with them
 abbrev pub number_term : Result Literal NumFault → Result Term FaultCode
@@ -29,7 +30,7 @@ number_term (Err TooLarge) = Err NumberTooLarge
 
 -- what a run means: a name, outside macros as far as is known here, or a number
 abbrev pub run_term : List ℕ → Result Term FaultCode
-run_term bs = if is_name bs then Ok (Variable bs 0) else number_term (read_of bs)
+run_term bs = if is_variable_name bs then Ok (Variable bs 0) else number_term (read_of bs)
 
 -- what a dotted word is
 abbrev pub dotted_part : List ℕ → Part

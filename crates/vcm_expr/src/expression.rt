@@ -19,7 +19,7 @@ const DEEPEST: u32 = 32;
 const MOST_NODES: u32 = 512;
 
 /// What may stand before an expression.
-#[derive(Clone, Copy, PartialEq, Eq, Debug)]
+#[derive(Clone, Copy, PartialEq, Eq)]
 pub enum Prefix {
     Minus,
     Plus,
@@ -27,7 +27,7 @@ pub enum Prefix {
 }
 
 /// A leaf as it is written.
-#[derive(Debug, Drop)]
+#[derive(Drop)]
 pub enum Term {
     /// A number without a sign.
     Number(Literal),
@@ -38,7 +38,7 @@ pub enum Term {
 }
 
 /// What an expression is made of. Parentheses leave no node; a plus before an expression is a node.
-#[derive(Debug, Drop)]
+#[derive(Drop)]
 pub enum ExprNode {
     /// A number, a truth value or a variable.
     Leaf(Term),
@@ -49,7 +49,7 @@ pub enum ExprNode {
 }
 
 /// An expression as it is written, at most 32 deep and of at most 512 nodes. Contracts see it as a `Source`.
-#[derive(Debug, Drop)]
+#[derive(Drop)]
 pub struct Expr {
     node: ExprNode,
     depth: u32,

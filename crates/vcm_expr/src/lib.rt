@@ -16,10 +16,10 @@ mod typing;
 mod value;
 
 pub use expression::{Expr, ExprNode, Prefix, Term};
-pub use name::Name;
+pub use name::{Name, is_name};
 pub use names::Names;
 pub use parse::{parse_expr, read_expr};
-pub use part::{Part, is_name};
+pub use part::{Part, is_variable_name};
 pub use postfix::{eval_postfix, pop_value, postfix_kind, step_kind, step_value, to_postfix};
 pub use stack::Stack;
 pub use typed::{Typed, TypedNode};
@@ -27,6 +27,3 @@ pub use typing::{Want, type_expr};
 pub use value::eval;
 pub use vcm_num::{Fault, Kind};
 pub use vcm_spec::{BinaryOp, Item, Operand, Relation, UnaryOp};
-
-#[cfg(test)]
-mod tests;

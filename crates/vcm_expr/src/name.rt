@@ -1,11 +1,13 @@
-//! Names of at most 16 bytes.
+//! Names: 1 to 16 upper-case letters, digits or underscores.
 
 ghost use Rattle.std.specs.Prelude.{◌≡◌, ◌≤◌, length, nat_eq};
+ghost use Rattle.std.specs.List.{list_all};
 ghost use Rattle.std.specs.Cmp.Lexicographic.{pointwise, nat_list_eq_equiv};
 ghost use Rattle.std.specs.Cmp.{partial_equiv_from_equiv};
 ghost use Rattle.std.specs.Cmp.Rules.{hashing};
 ghost use Rattle.std.specs.Hash as fed;
 ghost use Rattle.std.proofs.Common.{rules};
+ghost use Rattle.vcm_expr.specs.NameBytes.{is_name_byte, is_name, IsName};
 
 use std::hash::{Hash, Hasher};
 use std::marker::Model;
@@ -13,7 +15,28 @@ use std::marker::Model;
 /// The most bytes of a name.
 const LONGEST: usize = 16;
 
-/// A name of at most 16 bytes, which takes no memory. Contracts see it as the list of its bytes.
+/// Whether a byte may stand in a name.
+fn is_name_byte(byte: u8) -> bool
+    ensures { result ≡ is_name_byte byte }
+{
+    byte.is_ascii_uppercase() || byte.is_ascii_digit() || byte == b'_'
+}
+
+/// Whether all of these bytes may stand in a name.
+fn are_name_bytes(bytes: &[u8]) -> bool
+    ensures { result ≡ list_all is_name_byte bytes.now }
+{
+    bytes.iter().all(|byte| is_name_byte(*byte))
+}
+
+/// Whether bytes are a name: 1 to 16 upper-case letters, digits or underscores.
+pub fn is_name(bytes: &[u8]) -> bool
+    ensures { result ≡ is_name bytes.now }
+{
+    1 <= bytes.len() && bytes.len() <= LONGEST && are_name_bytes(bytes)
+}
+
+/// A name, which takes no memory. Contracts see it as the list of its bytes.
 #[derive(Debug, Drop)]
 pub struct Name {
     bytes: [u8; LONGEST],
@@ -22,18 +45,19 @@ pub struct Name {
 
 impl Model for Name {
     ghost use Rattle.std.specs.Prelude.{ℕ, List, take, ◌≤◌};
+    ghost use Rattle.vcm_expr.specs.NameBytes.{IsName};
 
     ghost Value = { List ℕ };
 
     ghost view = { λ n. take n.len n.bytes };
 
-    ghost invariant = { λ n. n.len ≤ 16 };
+    ghost invariant = { λ n. (n.len ≤ 16) × IsName (take n.len n.bytes) };
 }
 
 impl Name {
     /// The name with these bytes.
     pub fn new(bytes: &[u8]) -> Name
-        requires { length bytes.now ≤ 16 }
+        requires { IsName bytes.now }
         ensures { result ≡ bytes.now }
     {
         let mut own = [0; LONGEST];
@@ -47,6 +71,7 @@ impl Name {
     /// The bytes as a slice.
     pub fn as_bytes(&self) -> &[u8]
         ensures is { result.now ≡ self.now }
+        ensures name { IsName self.now }
         ensures short { length self.now ≤ 16 }
     {
         &self.bytes[..self.len]

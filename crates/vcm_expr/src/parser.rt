@@ -17,7 +17,7 @@ use vcm_lines::{FaultCode, SourceFault};
 use vcm_spec::BinaryOp;
 
 /// A level whose operators stand between any number of operands.
-#[derive(Clone, Copy, PartialEq, Eq, Debug)]
+#[derive(Clone, Copy)]
 enum Chain {
     /// `.OR.`
     Disjunction,
@@ -30,7 +30,7 @@ enum Chain {
 }
 
 /// A level whose words stand before an operand.
-#[derive(Clone, Copy, PartialEq, Eq, Debug)]
+#[derive(Clone, Copy)]
 enum Front {
     /// `.NOT.`
     Negation,

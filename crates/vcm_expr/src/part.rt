@@ -1,21 +1,22 @@
 //! The words of an expression.
 
-ghost use Rattle.std.specs.Prelude.{◌≡◌, ◌∷◌, [], MatchOption, Ok};
+ghost use Rattle.std.specs.Prelude.{◌≡◌, ◌∷◌, [], true, MatchOption, Ok};
 ghost use Rattle.std.specs.Str.{bytes_eq};
 ghost use Rattle.vcm_num.specs.Literals.{Reads};
 ghost use Rattle.vcm_lines.specs.Lexemes.{lexeme};
-ghost use Rattle.vcm_expr.specs.Parts.{is_name, number_term, run_term, dotted_part, part_of};
+ghost use Rattle.vcm_expr.specs.Parts.{is_variable_name, number_term, run_term, dotted_part, part_of};
 ghost use Rattle.vcm_expr.specs.Digits.{read_of};
+ghost use Rattle.vcm_expr.specs.NameBytes.{IsName};
 
 use crate::expression::Term;
-use crate::name::Name;
+use crate::name::{Name, is_name};
 use std::marker::Model;
 use vcm_lines::{FaultCode, Phrase, Token};
 use vcm_num::{Literal, NumFault, read_number};
 use vcm_spec::Relation;
 
 /// A word of an expression.
-#[derive(Debug, Drop)]
+#[derive(Drop)]
 pub enum Part {
     /// A number, a truth value or a name; or digits that are no number, and why.
     Operand(Result<Term, FaultCode>),
@@ -49,13 +50,14 @@ fn is(bytes: &[u8], word: &[u8]) -> bool
     bytes == word
 }
 
-/// Whether a run of letters, digits and underscores is a variable's name: it begins with a letter and has at most 16 bytes.
-pub fn is_name(bytes: &[u8]) -> bool
-    ensures { result ≡ is_name bytes.now }
+/// Whether bytes are a variable's name: a name that begins with a letter.
+pub fn is_variable_name(bytes: &[u8]) -> bool
+    ensures value { result ≡ is_variable_name bytes.now }
+    ensures name { result ≡ true → IsName bytes.now }
 {
     match bytes {
         [] => false,
-        [b, ..] => b.is_ascii_alphabetic() && bytes.len() <= 16,
+        [first, ..] => first.is_ascii_uppercase() && is_name(bytes),
     }
 }
 
@@ -83,7 +85,7 @@ fn digits_term(bytes: &[u8]) -> Result<Term, FaultCode>
 fn run_term(bytes: &[u8]) -> Result<Term, FaultCode>
     ensures { result ≡ run_term bytes.now }
 {
-    if is_name(bytes) {
+    if is_variable_name(bytes) {
         Ok(Term::Variable(Name::new(bytes), 0))
     } else {
         digits_term(bytes)

@@ -19,7 +19,7 @@ use vcm_num::{Kind, Literal};
 use vcm_spec::{BinaryOp, Operand, UnaryOp};
 
 /// What the place of an expression takes.
-#[derive(Clone, Copy, PartialEq, Eq, Debug)]
+#[derive(Clone, Copy, PartialEq, Eq)]
 pub enum Want {
     /// A whole number.
     Int,

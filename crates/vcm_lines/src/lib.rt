@@ -14,6 +14,3 @@ pub use fault::{FaultCode, SourceFault};
 pub use lines::logical_lines;
 pub use logical::{Lines, Logical, Text, Word, WordKind, Words};
 pub use phrase::{Cutter, Phrase, Token, cuts_are_whole};
-
-#[cfg(test)]
-mod tests;

@@ -19,6 +19,3 @@ pub use query::{contact_of, is_free};
 pub use vcm_num::{Axis, Point};
 pub use vcm_part::{Block3, Bounds, PartData};
 pub use vcm_spec::Hit;
-
-#[cfg(test)]
-mod tests;

@@ -1,5 +1,5 @@
 -- Known bytes of a writer, step by step.
-use Rattle.std.proofs.Common.{◌≡◌, ℕ, ◌+◌, ◌-◌, ◌≤◌, ◌<◌, List, [], ◌∷◌, ◌++◌, length, take, drop, Option, Some, None, refl, sym, ap, ◌∙◌, append_assoc, zero, suc, arith, length-drop, take-add, subst, get_or, Bor}
+use Rattle.std.proofs.Common.{◌≡◌, ℕ, ◌+◌, ◌-◌, ◌≤◌, ◌<◌, List, [], ◌∷◌, ◌++◌, length, take, drop, Option, Some, None, refl, sym, ap, ◌∙◌, append_assoc, zero, suc, arith, length-append, length-drop, take-add, subst, get_or, Bor}
 use Rattle.std.proofs.lemmas.List.{append-nil, take_all}
 use Rattle.std.specs.Prelude.{flat_map, Result, Ok, Err, IsErr}
 use Rattle.std.specs.Io.KnownBytes.{Appends}
@@ -21,22 +21,16 @@ front_more bs at n =
     let short : length (drop at bs) ≤ length bs - at = omega (arith, length-drop at bs) in
     rw (take_all (length bs - at) (drop at bs) short) (sym (take-add at n bs))
 
--- nothing is in front of nothing
-abbrev nothing : List ℕ
-nothing = []
-
-take_none : (k : ℕ) → nothing ≡ take k nothing
-take_none zero = refl
-take_none (suc k) = refl
-
 -- a front of what comes first is a front of all
-pub front_append : (k : ℕ) (xs ys : List ℕ) → (m : ℕ) × (take m (xs ++ ys) ≡ take k xs)
-front_append k [] ys = (0, take_none k)
-front_append zero (x ∷ xs) ys = (0, refl)
-front_append (suc k) (x ∷ xs) ys = let rest = front_append k xs ys in (suc rest.0, ap (λ l. x ∷ l) rest.1)
+front_append : (k : ℕ) (xs ys : List ℕ) → k < length xs → take k (xs ++ ys) ≡ take k xs
+front_append k [] ys l = absurd (omega arith)
+front_append zero (x ∷ xs) ys l = refl
+front_append (suc k) (x ∷ xs) ys l = ap (λ l. x ∷ l) (front_append k xs ys (omega arith))
 
 pub front_first : (a b : Option (List ℕ)) (xs ys zs : List ℕ) → xs ++ ys ≡ zs → AppendsFront a b xs → AppendsFront a b zs
-front_first a b xs ys zs e h = let f = front_append h.0 xs ys in (f.0, subst (λ l. Appends a b l) (sym f.1 ∙ ap (take f.0) e) h.1)
+front_first a b xs ys zs e h =
+    let below : h.0 < length zs = rw (← e) (omega (arith, length-append xs ys, h.1)) in
+    (h.0, below, subst (λ l. Appends a b l) (sym (front_append h.0 xs ys h.1) ∙ ap (take h.0) e) h.2)
 
 -- all of what comes first, and a front of what comes then
 take_after : (xs ys : List ℕ) (k : ℕ) → take (length xs + k) (xs ++ ys) ≡ xs ++ take k ys
@@ -45,11 +39,8 @@ take_after (x ∷ xs) ys k = ap (λ n. take n (x ∷ xs ++ ys)) (let e : suc (le
 
 pub front_then : (a b c : Option (List ℕ)) (xs ys zs : List ℕ) → xs ++ ys ≡ zs → Appends a b xs → AppendsFront b c ys → AppendsFront a c zs
 front_then a b c xs ys zs e h k =
-    (length xs + k.0, appends_more a b c xs (take k.0 ys) _ (sym (take_after xs ys k.0) ∙ ap (take (length xs + k.0)) e) h k.1)
-
--- all is a front
-pub front_whole : (a b : Option (List ℕ)) (xs : List ℕ) → Appends a b xs → AppendsFront a b xs
-front_whole a b xs h = (length xs, subst (λ l. Appends a b l) (sym (take_all (length xs) xs (omega arith))) h)
+    let below : length xs + k.0 < length zs = rw (← e) (omega (arith, length-append xs ys, k.1)) in
+    (length xs + k.0, below, appends_more a b c xs (take k.0 ys) _ (sym (take_after xs ys k.0) ∙ ap (take (length xs + k.0)) e) h k.2)
 
 -- the pieces before the i-th, that one, and those after it
 pub pieces_cut : (ps : List (Bor (List ℕ))) (i : ℕ) (d : Bor (List ℕ)) → i < length ps

@@ -19,6 +19,3 @@ pub use read::{NumFault, read_number};
 pub use sqlite_items::Items;
 pub use text::{Text, int_text, thousandths_text, write_int, write_thousandths};
 pub use writing::{write_all, write_pieces};
-
-#[cfg(test)]
-mod tests;

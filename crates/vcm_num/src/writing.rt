@@ -6,7 +6,8 @@ ghost use Rattle.vcm_num.specs.Written.{Wrote};
 use crate::memory::WriteFault;
 use std::io::Write;
 
-/// Writes all of the bytes, or a front of them where a write fails or takes no byte.
+/// Writes all of the bytes. Where a write fails or takes no byte, a front of them that is not all has been written: so a call with no bytes
+/// never fails.
 pub fn write_all<W: Write>(writer: &mut W, bytes: &[u8]) -> Result<(), WriteFault>
     ensures { Wrote (W.contents writer.old) (W.contents writer.new) bytes.now result }
 {
@@ -21,7 +22,7 @@ pub fn write_all<W: Write>(writer: &mut W, bytes: &[u8]) -> Result<(), WriteFaul
     Ok(())
 }
 
-/// Writes the pieces one after another, or a front of them where a write fails or takes no byte.
+/// Writes the pieces one after another. Where a write fails or takes no byte, a front of them that is not all has been written.
 pub fn write_pieces<W: Write>(writer: &mut W, pieces: &[&[u8]]) -> Result<(), WriteFault>
     ensures { Wrote (W.contents writer.old) (W.contents writer.new) (flat_map (λ p. p.now) pieces.now) result }
 {

@@ -13,6 +13,3 @@ pub use inside::{is_in, is_in_some, is_within};
 pub use reading::read_part;
 pub use vcm_num::Point;
 pub use vcm_spec::{Block3, Bounds};
-
-#[cfg(test)]
-mod tests;

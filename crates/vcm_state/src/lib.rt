@@ -9,6 +9,3 @@ pub use stop::Halt;
 pub use tables::{Tables, Variable};
 pub use vcm_spec::{Missing, MovePhase, Stop, StopPlace};
 pub use world::World;
-
-#[cfg(test)]
-mod tests;

@@ -1,5 +1,5 @@
 -- What may stand at one place of a statement, and the rules that words break there.
-use Rattle.std.specs.Prelude.{◌≡◌, ◌⊎◌, ℕ, ◌&&◌, ◌||◌, if◌then◌else◌, nat_le, Bool, true, false, codes, List, [], ◌∷◌, length, Option, Some, None}
+use Rattle.std.specs.Prelude.{◌≡◌, ◌⊎◌, ℕ, ◌&&◌, ◌||◌, if◌then◌else◌, Bool, true, false, codes, List, [], ◌∷◌, Option, Some, None}
 use Rattle.std.specs.List.{list_all}
 use Rattle.std.specs.Str.{bytes_eq}
 use Rattle.vcm_num.specs.declared.number.Kind.{Kind}
@@ -7,7 +7,11 @@ use Rattle.vcm_num.specs.declared.number.Kind.TheVariants.{Int as IntKind, Real 
 use Rattle.vcm_lines.specs.declared.fault.FaultCode.{FaultCode}
 use Rattle.vcm_lines.specs.declared.fault.FaultCode.TheVariants.{BadSyntax, Unsupported}
 use Rattle.vcm_lines.specs.Lexemes.{Lexeme, Run, Quoted, Equals, Open, Close, is_spelled}
-use Rattle.vcm_expr.specs.Parts.{is_name}
+use Rattle.vcm_lines.specs.Cuts.{last_of, front_of}
+use Rattle.vcm_expr.specs.NameBytes.{is_name}
+use Rattle.vcm_expr.specs.Parts.{is_variable_name}
+use Rattle.vcm_expr.specs.Source.{Source}
+use Rattle.vcm_expr.specs.Parsing.{IsExpr, BreaksExpr}
 
 -- nothing stands there
 abbrev pub IsBare : List Lexeme → Type 0
@@ -66,26 +70,22 @@ abbrev pub BreaksEnd : List (List Lexeme) → FaultCode → Type 0
 BreaksEnd [] code = ⊥
 BreaksEnd _ code = code ≡ BadSyntax
 
--- a label has 1 to 16 letters, digits or underscores, of which a run is made
-abbrev pub is_label : List ℕ → Bool
-is_label bs = nat_le 1 (length bs) && nat_le (length bs) 16
-
 -- this letter, a label in parentheses and an equals sign
 abbrev pub IsTitle : List ℕ → List Lexeme → List ℕ → Type 0
-IsTitle letter (Run bs ∷ Open ∷ Run label ∷ Close ∷ Equals ∷ []) l = ((bytes_eq bs letter && is_label label) ≡ true) × (l ≡ label)
+IsTitle letter (Run bs ∷ Open ∷ Run label ∷ Close ∷ Equals ∷ []) l = ((bytes_eq bs letter && is_name label) ≡ true) × (l ≡ label)
 IsTitle letter _ l = ⊥
 
 abbrev pub BreaksTitle : List ℕ → List Lexeme → FaultCode → Type 0
-BreaksTitle letter (Run bs ∷ Open ∷ Run label ∷ Close ∷ Equals ∷ []) code = ((bytes_eq bs letter && is_label label) ≡ false) × (code ≡ BadSyntax)
+BreaksTitle letter (Run bs ∷ Open ∷ Run label ∷ Close ∷ Equals ∷ []) code = ((bytes_eq bs letter && is_name label) ≡ false) × (code ≡ BadSyntax)
 BreaksTitle letter _ code = code ≡ BadSyntax
 
 -- a variable's name
 abbrev pub IsVariable : List Lexeme → List ℕ → Type 0
-IsVariable (Run bs ∷ []) name = (is_name bs ≡ true) × (name ≡ bs)
+IsVariable (Run bs ∷ []) name = (is_variable_name bs ≡ true) × (name ≡ bs)
 IsVariable _ name = ⊥
 
 abbrev pub BreaksVariable : List Lexeme → FaultCode → Type 0
-BreaksVariable (Run bs ∷ []) code = (is_name bs ≡ false) × (code ≡ BadSyntax)
+BreaksVariable (Run bs ∷ []) code = (is_variable_name bs ≡ false) × (code ≡ BadSyntax)
 BreaksVariable _ code = code ≡ BadSyntax
 
 -- variables' names, one in each field
@@ -100,11 +100,11 @@ BreaksVariables (f ∷ fs) code = BreaksVariable f code ⊎ BreaksVariables fs c
 
 -- a variable's name and an equals sign
 abbrev pub IsTarget : List Lexeme → List ℕ → Type 0
-IsTarget (Run bs ∷ Equals ∷ []) name = (is_name bs ≡ true) × (name ≡ bs)
+IsTarget (Run bs ∷ Equals ∷ []) name = (is_variable_name bs ≡ true) × (name ≡ bs)
 IsTarget _ name = ⊥
 
 abbrev pub BreaksTarget : List Lexeme → FaultCode → Type 0
-BreaksTarget (Run bs ∷ Equals ∷ []) code = (is_name bs ≡ false) × (code ≡ BadSyntax)
+BreaksTarget (Run bs ∷ Equals ∷ []) code = (is_variable_name bs ≡ false) × (code ≡ BadSyntax)
 BreaksTarget _ code = code ≡ BadSyntax
 
 -- the words of the kinds of variables
@@ -134,3 +134,68 @@ is_scope w = bytes_eq w (codes "COMMON") || bytes_eq w (codes "GLOBAL") || bytes
 abbrev pub unscoped : List (List Lexeme) → List (List Lexeme)
 unscoped ((Run bs ∷ []) ∷ fs) = if is_scope bs then fs else (Run bs ∷ []) ∷ fs
 unscoped fs = fs
+
+-- what stands before a closing parenthesis
+abbrev pub closed_by : Lexeme → List Lexeme → Option (List Lexeme)
+closed_by Close ws = Some ws
+closed_by _ ws = None
+
+-- what stands in parentheses, where the first word opens them and the last one closes them
+abbrev pub within : List Lexeme → Option (List Lexeme)
+within (Open ∷ ws) = closed_by (last_of ws) (front_of ws)
+within _ = None
+
+-- an expression in parentheses
+abbrev pub IsTestBy : Option (List Lexeme) → Source → Type 0
+IsTestBy None e = ⊥
+IsTestBy (Some ws) e = IsExpr ws e
+
+abbrev pub IsTest : List Lexeme → Source → Type 0
+IsTest f e = IsTestBy (within f) e
+
+-- what is read of words that are not in parentheses: those behind an opening one, else the first word alone
+abbrev pub begun : List Lexeme → List Lexeme
+begun [] = []
+begun (Open ∷ ws) = ws
+begun (w ∷ ws) = w ∷ []
+
+-- a fault of the expression; without parentheses one of what is read of it, or that they are missing
+abbrev pub BreaksTestBy : List Lexeme → Option (List Lexeme) → FaultCode → Type 0
+BreaksTestBy f None code = BreaksExpr (begun f) code ⊎ (code ≡ BadSyntax)
+BreaksTestBy f (Some ws) code = BreaksExpr ws code
+
+abbrev pub BreaksTest : List Lexeme → FaultCode → Type 0
+BreaksTest f code = BreaksTestBy f (within f) code
+
+-- a label
+abbrev pub IsLabel : List Lexeme → List ℕ → Type 0
+IsLabel (Run bs ∷ []) l = (is_name bs ≡ true) × (l ≡ bs)
+IsLabel _ l = ⊥
+
+abbrev pub BreaksLabel : List Lexeme → FaultCode → Type 0
+BreaksLabel (Run bs ∷ []) code = (is_name bs ≡ false) × (code ≡ BadSyntax)
+BreaksLabel _ code = code ≡ BadSyntax
+
+-- a label behind an opening parenthesis
+abbrev pub IsOpened : List Lexeme → List ℕ → Type 0
+IsOpened (Open ∷ ws) l = IsLabel ws l
+IsOpened _ l = ⊥
+
+abbrev pub BreaksOpened : List Lexeme → FaultCode → Type 0
+BreaksOpened (Open ∷ ws) code = BreaksLabel ws code
+BreaksOpened _ code = code ≡ BadSyntax
+
+-- a label in parentheses
+abbrev pub IsAimBy : Option (List Lexeme) → List ℕ → Type 0
+IsAimBy None l = ⊥
+IsAimBy (Some ws) l = IsLabel ws l
+
+abbrev pub IsAim : List Lexeme → List ℕ → Type 0
+IsAim f l = IsAimBy (within f) l
+
+abbrev pub BreaksAimBy : Option (List Lexeme) → FaultCode → Type 0
+BreaksAimBy None code = code ≡ BadSyntax
+BreaksAimBy (Some ws) code = BreaksLabel ws code
+
+abbrev pub BreaksAim : List Lexeme → FaultCode → Type 0
+BreaksAim f code = BreaksAimBy (within f) code

@@ -1,13 +1,15 @@
 //! Reads a statement's fields, each statement in its form, from the left: of several faults the leftmost is told.
 
-ghost use Rattle.std.specs.Prelude.{IfOk, IfErr, MatchResult};
+ghost use Rattle.std.specs.Prelude.{◌≡◌, ◌∷◌, None, IfOk, IfErr, MatchResult};
 ghost use Rattle.vcm_lines.specs.Fault.{NoMemoryOr};
 ghost use Rattle.vcm_expr.specs.Parsing.{At};
-ghost use Rattle.vcm_syntax.specs.Forms.{IsDmismn, BreaksDmismn, IsMetric, BreaksMetric, IsUnits, BreaksUnits, IsDeclaration, BreaksDeclaration, IsDecl, BreaksDecl, IsAssign, BreaksAssign, IsSpot, BreaksSpot, IsPlace, BreaksPlace, IsGoto, BreaksGoto, IsGohome, IsSay, BreaksSay, IsEndfil, BreaksAlone, IsPrefix, BreaksPrefix, IsPassed, BreaksPassed, IsForm, BreaksForm};
+ghost use Rattle.vcm_syntax.specs.Forms.{IsDmismn, BreaksDmismn, IsMetric, BreaksMetric, IsUnits, BreaksUnits, IsDeclaration, BreaksDeclaration, IsDecl, BreaksDecl, IsAssign, BreaksAssign, IsSpot, BreaksSpot, IsPlace, BreaksPlace, IsGoto, BreaksGoto, IsGohome, IsSay, BreaksSay, IsEndfil, BreaksAlone, IsIf, BreaksIf, IsElse, IsEndif, IsStep, IsRange, BreaksRange, IsStepped, BreaksStepped, IsRounds, BreaksRounds, IsDo, BreaksDo, IsEnddo, IsMark, BreaksMark, IsJumpto, BreaksJumpto, IsPrefix, BreaksPrefix, IsPassed, BreaksPassed, IsForm, BreaksForm};
 
-use crate::places::{bad_syntax, bare, end, offered, quoted, single, text, title, unused, word};
-use crate::statement::{Form, Major, Notice, Spot};
-use crate::variables::{kind, target, unscoped, variables};
+use crate::places::{
+    aim, bad_syntax, bare, end, offered, opened, quoted, single, test, text, title, unused, word,
+};
+use crate::statement::{Form, Major, Notice, Rounds, Spot};
+use crate::variables::{kind, target, unscoped, variable, variables};
 use std::alloc::Global;
 use vcm_expr::read_expr;
 use vcm_lines::{Phrase, SourceFault};
@@ -124,6 +126,23 @@ fn spot(
     Ok(Spot { x, y, z })
 }
 
+/// Three expressions, and no field behind them.
+fn spot_alone(
+    alloc: Global,
+    line: u32,
+    x: &Phrase<'_>,
+    y: &Phrase<'_>,
+    z: &Phrase<'_>,
+    rest: &[Phrase<'_>],
+) -> Result<Spot, SourceFault>
+    ensures ok { IfOk result (IsPlace (x.now ∷ y.now ∷ z.now ∷ rest.now)) }
+    ensures fault { IfErr result (NoMemoryOr (At line (BreaksPlace (x.now ∷ y.now ∷ z.now ∷ rest.now)))) }
+{
+    let spot = spot(alloc, line, x, y, z)?;
+    end(line, rest)?;
+    Ok(spot)
+}
+
 /// Three expressions, and nothing more.
 fn place(alloc: Global, line: u32, fields: &[Phrase<'_>]) -> Result<Spot, SourceFault>
     ensures ok { IfOk result (IsPlace fields.now) }
@@ -140,11 +159,7 @@ fn place(alloc: Global, line: u32, fields: &[Phrase<'_>]) -> Result<Spot, Source
             read_expr(alloc, line, y)?;
             Err(bad_syntax(line))
         }
-        [x, y, z, rest @ ..] => {
-            let spot = spot(alloc, line, x, y, z)?;
-            end(line, rest)?;
-            Ok(spot)
-        }
+        [x, y, z, rest @ ..] => spot_alone(alloc, line, x, y, z, rest),
     }
 }
 
@@ -208,6 +223,176 @@ fn endfil(line: u32, front: &Phrase<'_>, fields: &[Phrase<'_>]) -> Result<Form, 
     Ok(Form::Ending)
 }
 
+fn iff(
+    alloc: Global,
+    line: u32,
+    front: &Phrase<'_>,
+    fields: &[Phrase<'_>],
+) -> Result<Form, SourceFault>
+    ensures ok { IfOk result (IsIf front.now fields.now) }
+    ensures fault { IfErr result (NoMemoryOr (At line (BreaksIf front.now fields.now))) }
+{
+    bare(line, front)?;
+    match fields {
+        [] => Err(bad_syntax(line)),
+        [condition, rest @ ..] => {
+            let condition = test(alloc, line, condition)?;
+            end(line, rest)?;
+            Ok(Form::Test(condition))
+        }
+    }
+}
+
+fn otherwise(line: u32, front: &Phrase<'_>, fields: &[Phrase<'_>]) -> Result<Form, SourceFault>
+    ensures { MatchResult result (IsElse front.now fields.now) (At line (BreaksAlone front.now fields.now)) }
+{
+    bare(line, front)?;
+    end(line, fields)?;
+    Ok(Form::Otherwise)
+}
+
+fn endif(line: u32, front: &Phrase<'_>, fields: &[Phrase<'_>]) -> Result<Form, SourceFault>
+    ensures { MatchResult result (IsEndif front.now fields.now) (At line (BreaksAlone front.now fields.now)) }
+{
+    bare(line, front)?;
+    end(line, fields)?;
+    Ok(Form::TestEnd)
+}
+
+/// A variable, the first value, and the last one.
+fn range(
+    alloc: Global,
+    line: u32,
+    index: &Phrase<'_>,
+    initial: &Phrase<'_>,
+    limit: &Phrase<'_>,
+) -> Result<Rounds, SourceFault>
+    ensures ok { IfOk result (IsRange index.now initial.now limit.now) }
+    ensures alone { IfOk result (λ r. r.increment ≡ None) }
+    ensures fault { IfErr result (NoMemoryOr (At line (BreaksRange index.now initial.now limit.now))) }
+{
+    let variable = variable(line, index)?;
+    let initial = read_expr(alloc, line, initial)?;
+    let limit = read_expr(alloc, line, limit)?;
+    Ok(Rounds {
+        variable,
+        initial,
+        limit,
+        increment: None,
+    })
+}
+
+/// A range, and an increment.
+fn stepped(
+    alloc: Global,
+    line: u32,
+    index: &Phrase<'_>,
+    initial: &Phrase<'_>,
+    limit: &Phrase<'_>,
+    increment: &Phrase<'_>,
+) -> Result<Rounds, SourceFault>
+    ensures ok { IfOk result (IsStepped index.now initial.now limit.now increment.now) }
+    ensures fault { IfErr result (NoMemoryOr (At line (BreaksStepped index.now initial.now limit.now increment.now))) }
+{
+    let variable = variable(line, index)?;
+    let initial = read_expr(alloc, line, initial)?;
+    let limit = read_expr(alloc, line, limit)?;
+    let increment = read_expr(alloc, line, increment)?;
+    Ok(Rounds {
+        variable,
+        initial,
+        limit,
+        increment: Some(increment),
+    })
+}
+
+/// A range and an increment, and no field behind them.
+fn stepped_alone(
+    alloc: Global,
+    line: u32,
+    index: &Phrase<'_>,
+    initial: &Phrase<'_>,
+    limit: &Phrase<'_>,
+    increment: &Phrase<'_>,
+    rest: &[Phrase<'_>],
+) -> Result<Rounds, SourceFault>
+    ensures ok { IfOk result (IsRounds (index.now ∷ initial.now ∷ limit.now ∷ increment.now ∷ rest.now)) }
+    ensures fault { IfErr result (NoMemoryOr (At line (BreaksRounds (index.now ∷ initial.now ∷ limit.now ∷ increment.now ∷ rest.now)))) }
+{
+    let rounds = stepped(alloc, line, index, initial, limit, increment)?;
+    end(line, rest)?;
+    Ok(rounds)
+}
+
+/// A range, and perhaps an increment.
+fn rounds(alloc: Global, line: u32, fields: &[Phrase<'_>]) -> Result<Rounds, SourceFault>
+    ensures ok { IfOk result (IsRounds fields.now) }
+    ensures fault { IfErr result (NoMemoryOr (At line (BreaksRounds fields.now))) }
+{
+    match fields {
+        [] => Err(bad_syntax(line)),
+        [index] => {
+            variable(line, index)?;
+            Err(bad_syntax(line))
+        }
+        [index, initial] => {
+            variable(line, index)?;
+            read_expr(alloc, line, initial)?;
+            Err(bad_syntax(line))
+        }
+        [index, initial, limit] => {
+            let rounds = range(alloc, line, index, initial, limit)?;
+            Ok(rounds)
+        }
+        [index, initial, limit, increment, rest @ ..] => {
+            stepped_alone(alloc, line, index, initial, limit, increment, rest)
+        }
+    }
+}
+
+fn repeat(
+    alloc: Global,
+    line: u32,
+    front: &Phrase<'_>,
+    fields: &[Phrase<'_>],
+) -> Result<Form, SourceFault>
+    ensures ok { IfOk result (IsDo front.now fields.now) }
+    ensures fault { IfErr result (NoMemoryOr (At line (BreaksDo front.now fields.now))) }
+{
+    bare(line, front)?;
+    Ok(Form::Repeat(rounds(alloc, line, fields)?))
+}
+
+fn enddo(line: u32, front: &Phrase<'_>, fields: &[Phrase<'_>]) -> Result<Form, SourceFault>
+    ensures { MatchResult result (IsEnddo front.now fields.now) (At line (BreaksAlone front.now fields.now)) }
+{
+    bare(line, front)?;
+    end(line, fields)?;
+    Ok(Form::RepeatEnd)
+}
+
+fn mark(line: u32, front: &Phrase<'_>, fields: &[Phrase<'_>]) -> Result<Form, SourceFault>
+    ensures { MatchResult result (IsMark front.now fields.now) (At line (BreaksMark front.now fields.now)) }
+{
+    let name = opened(line, front)?;
+    end(line, fields)?;
+    Ok(Form::Mark(name))
+}
+
+fn jumpto(line: u32, front: &Phrase<'_>, fields: &[Phrase<'_>]) -> Result<Form, SourceFault>
+    ensures { MatchResult result (IsJumpto front.now fields.now) (At line (BreaksJumpto front.now fields.now)) }
+{
+    bare(line, front)?;
+    match fields {
+        [] => Err(bad_syntax(line)),
+        [name, rest @ ..] => {
+            let name = aim(line, name)?;
+            end(line, rest)?;
+            Ok(Form::Leap(name))
+        }
+    }
+}
+
 fn prefix(line: u32, notice: Notice, front: &Phrase<'_>) -> Result<(), SourceFault>
     ensures { MatchResult result (λ _. IsPrefix notice front.now) (At line (BreaksPrefix notice front.now)) }
 {
@@ -259,6 +444,13 @@ pub(crate) fn read_form(
         Major::Gohome => gohome(line, front, fields),
         Major::Text => say(alloc, line, front, fields),
         Major::Endfil => endfil(line, front, fields),
+        Major::If => iff(alloc, line, front, fields),
+        Major::Else => otherwise(line, front, fields),
+        Major::Endif => endif(line, front, fields),
+        Major::Do => repeat(alloc, line, front, fields),
+        Major::Enddo => enddo(line, front, fields),
+        Major::Label => mark(line, front, fields),
+        Major::Jumpto => jumpto(line, front, fields),
         Major::Passed(notice) => passed(line, notice, front, fields),
     }
 }

@@ -10,7 +10,4 @@ mod statement;
 mod variables;
 
 pub use parse::parse_statement;
-pub use statement::{Form, Notice, Spot, Statement};
-
-#[cfg(test)]
-mod tests;
+pub use statement::{Form, Notice, Rounds, Spot, Statement};

@@ -6,9 +6,10 @@ ghost use Rattle.std.specs.Str.{bytes_eq};
 ghost use Rattle.vcm_lines.specs.Fault.{NoMemoryOr};
 ghost use Rattle.vcm_lines.specs.Lexemes.{Lexeme, lexeme, is_spelled};
 ghost use Rattle.vcm_expr.specs.Parsing.{At};
-ghost use Rattle.vcm_syntax.specs.Places.{IsBare, BreaksBare, IsWord, BreaksWord, BreaksOffered, IsSingle, BreaksSingle, IsText, BreaksText, IsRest, BreaksRest, IsEnd, BreaksEnd, is_label, IsTitle, BreaksTitle};
+ghost use Rattle.vcm_syntax.specs.Places.{IsBare, BreaksBare, IsWord, BreaksWord, BreaksOffered, IsSingle, BreaksSingle, IsText, BreaksText, IsRest, BreaksRest, IsEnd, BreaksEnd, IsTitle, BreaksTitle, IsLabel, BreaksLabel, within, begun, IsTest, BreaksTest, IsOpened, BreaksOpened, IsAim, BreaksAim};
 
 use std::alloc::Global;
+use vcm_expr::{Expr, Name, is_name, read_expr};
 use vcm_lines::{FaultCode, Phrase, SourceFault, Text, Token};
 
 pub(crate) fn is(bytes: &[u8], word: &[u8]) -> bool
@@ -139,12 +140,6 @@ pub(crate) fn end(line: u32, fields: &[Phrase<'_>]) -> Result<(), SourceFault>
     }
 }
 
-fn is_label(bytes: &[u8]) -> bool
-    ensures { result ≡ is_label bytes.now }
-{
-    1 <= bytes.len() && bytes.len() <= 16
-}
-
 /// The label of a prefix such as `S(l)=`.
 pub(crate) fn title<'a>(
     line: u32,
@@ -167,12 +162,89 @@ pub(crate) fn title<'a>(
     };
     match only(&rest) {
         Some(Token::Equals) => {
-            if is(first, letter) && is_label(label) {
+            if is(first, letter) && is_name(label) {
                 Ok(label)
             } else {
                 Err(bad_syntax(line))
             }
         }
         _ => Err(bad_syntax(line)),
+    }
+}
+
+/// What stands in parentheses, where the first word opens them and the last one closes them.
+fn within<'a>(words: &Phrase<'a>) -> Option<Phrase<'a>>
+    ensures { result ≡ within words.now }
+{
+    match words.split_first() {
+        Some((Token::Open, rest)) => {
+            let (inner, last) = rest.ends();
+            match last {
+                Token::Close => Some(inner),
+                _ => None,
+            }
+        }
+        _ => None,
+    }
+}
+
+/// What is read of words that are not in parentheses: those behind an opening one, else the first word alone.
+fn begun<'a>(words: &Phrase<'a>) -> Phrase<'a>
+    ensures { result ≡ begun words.now }
+{
+    match words.split_first() {
+        None => words.copy(),
+        Some((Token::Open, rest)) => rest,
+        Some(_) => words.part(0, 1),
+    }
+}
+
+/// An expression in parentheses.
+pub(crate) fn test(alloc: Global, line: u32, words: &Phrase<'_>) -> Result<Expr, SourceFault>
+    ensures ok { IfOk result (IsTest words.now) }
+    ensures fault { IfErr result (NoMemoryOr (At line (BreaksTest words.now))) }
+{
+    match within(words) {
+        Some(inner) => read_expr(alloc, line, &inner),
+        None => {
+            read_expr(alloc, line, &begun(words))?;
+            Err(bad_syntax(line))
+        }
+    }
+}
+
+/// A label.
+fn label(line: u32, words: &Phrase<'_>) -> Result<Name, SourceFault>
+    ensures { MatchResult result (IsLabel words.now) (At line (BreaksLabel words.now)) }
+{
+    match only(words) {
+        Some(Token::Run(bytes)) => {
+            if is_name(bytes) {
+                Ok(Name::new(bytes))
+            } else {
+                Err(bad_syntax(line))
+            }
+        }
+        _ => Err(bad_syntax(line)),
+    }
+}
+
+/// A label behind an opening parenthesis.
+pub(crate) fn opened(line: u32, words: &Phrase<'_>) -> Result<Name, SourceFault>
+    ensures { MatchResult result (IsOpened words.now) (At line (BreaksOpened words.now)) }
+{
+    match words.split_first() {
+        Some((Token::Open, rest)) => label(line, &rest),
+        _ => Err(bad_syntax(line)),
+    }
+}
+
+/// A label in parentheses.
+pub(crate) fn aim(line: u32, words: &Phrase<'_>) -> Result<Name, SourceFault>
+    ensures { MatchResult result (IsAim words.now) (At line (BreaksAim words.now)) }
+{
+    match within(words) {
+        Some(inner) => label(line, &inner),
+        None => Err(bad_syntax(line)),
     }
 }

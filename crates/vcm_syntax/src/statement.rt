@@ -47,7 +47,7 @@ impl Notice {
 }
 
 /// What the last word of a statement's head says.
-#[derive(Clone, Copy, Debug, PartialEq, Eq)]
+#[derive(Clone, Copy)]
 pub enum Major {
     Dmismn,
     Units,
@@ -57,19 +57,37 @@ pub enum Major {
     Gohome,
     Text,
     Endfil,
+    If,
+    Else,
+    Endif,
+    Do,
+    Enddo,
+    Jumpto,
+    /// A jump label, which has no major word.
+    Label,
     Passed(Notice),
 }
 
 /// A place by its three coordinates, each an expression.
-#[derive(Debug, Drop)]
+#[derive(Drop)]
 pub struct Spot {
     pub x: Expr,
     pub y: Expr,
     pub z: Expr,
 }
 
+/// How often a block is repeated, from the words of `DO`.
+#[derive(Drop)]
+pub struct Rounds {
+    pub variable: Name,
+    pub initial: Expr,
+    pub limit: Expr,
+    /// 1 where it is left out.
+    pub increment: Option<Expr>,
+}
+
 /// What a statement says.
-#[derive(Debug, Drop)]
+#[derive(Drop)]
 pub enum Form {
     /// `DMISMN`, with which a program begins.
     Opening,
@@ -87,6 +105,20 @@ pub enum Form {
     Home,
     /// `TEXT`: what stands between the apostrophes.
     Say(Text),
+    /// `IF`: the test.
+    Test(Expr),
+    /// `ELSE`.
+    Otherwise,
+    /// `ENDIF`.
+    TestEnd,
+    /// `DO`.
+    Repeat(Rounds),
+    /// `ENDDO`.
+    RepeatEnd,
+    /// A jump label.
+    Mark(Name),
+    /// `JUMPTO`: the name of a jump label.
+    Leap(Name),
     /// `ENDFIL`, with which a program ends.
     Ending,
 }
@@ -103,12 +135,14 @@ impl Form {
             Form::Assignment(_, _) | Form::Move(_) | Form::Home | Form::Say(_) | Form::Ending => {
                 true
             }
+            Form::Test(_) | Form::Otherwise | Form::TestEnd => true,
+            Form::Repeat(_) | Form::RepeatEnd | Form::Mark(_) | Form::Leap(_) => true,
         }
     }
 }
 
 /// A statement, and the line that it begins on, the first being 1.
-#[derive(Debug, Drop)]
+#[derive(Drop)]
 pub struct Statement {
     pub line: u32,
     pub form: Form,

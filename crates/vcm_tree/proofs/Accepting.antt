@@ -1,6 +1,5 @@
 -- From the phases to acceptance.
-use Rattle.std.proofs.Common.{◌≡◌, ℕ, ◌≤◌, List, length, Result, Ok, Err, inl, inr, subst, sym}
-use Rattle.std.specs.Prelude.{IfOk, IfErr}
+use Rattle.std.proofs.Common.{ℕ, ◌≤◌, List, length, inl, inr}
 use Rattle.vcm_lines.specs.declared.fault.SourceFault.{SourceFault}
 use Rattle.vcm_lines.specs.declared.logical.Logical.{Logical}
 use Rattle.vcm_lines.specs.Fault.{NoMemoryOr}
@@ -9,30 +8,33 @@ use Rattle.vcm_spec.specs.Phase.{IsClean, FirstFault}
 use Rattle.vcm_syntax.specs.declared.statement.Statement.{Statement}
 use Rattle.vcm_tree.specs.Statements.{BreaksStatements, statement_line}
 use Rattle.vcm_tree.specs.Resolving.{BreaksNames, names_line}
-use Rattle.vcm_tree.specs.Program.{Parsed, IsWhole, parsed_of}
-use Rattle.vcm_tree.specs.Nodes.{Listed, parsed}
-use Rattle.vcm_tree.specs.Acceptance.{ReadsLines, ReadsText, IsAccepted, IsRefused, in_statements, in_names}
+use Rattle.vcm_tree.specs.Jumps.{labels_of, jumps_of, BreaksJumps, jumps_line}
+use Rattle.vcm_tree.specs.Program.{Parsed, IsWhole, tables_of}
+use Rattle.vcm_tree.specs.Acceptance.{ReadsLines, ReadsText, ReadsProgram, IsAccepted, IsRefused, in_statements, in_names, in_jumps}
 use Rattle.vcm_tree.proofs.FewStatements.{few_statements, ended_of}
-use Rattle.vcm_tree.proofs.Wholeness.{program_whole}
-
-pub accepted : (text : List ℕ) (ls : List Logical) (ss : List Statement) (r : Result Listed SourceFault) → ReadsText text ls ss
-    → IfOk r (λ _. IsClean BreaksNames ss) → IfOk r (λ a. parsed a ≡ parsed_of ss) → IfOk r (λ a. IsAccepted text (parsed a))
-accepted text ls ss (Err f) read clean is = tt
-accepted text ls ss (Ok a) read clean is = record { lines = ls; statements = ss; read = read; names = clean; is = is }
+use Rattle.vcm_tree.proofs.Wholeness.{parsed_whole}
 
 pub statements_refused : (text : List ℕ) (ls : List Logical) (f : SourceFault) → ReadsLines text ls
     → NoMemoryOr (λ f. FirstFault BreaksStatements statement_line ls f.code f.line) f → NoMemoryOr (IsRefused text) f
 statements_refused text ls f read (inl e) = inl e
 statements_refused text ls f read (inr p) = inr (in_statements ls read p)
 
-pub names_refused : (text : List ℕ) (ls : List Logical) (ss : List Statement) (r : Result Listed SourceFault) → ReadsText text ls ss
-    → IfErr r (NoMemoryOr (λ f. FirstFault BreaksNames names_line ss f.code f.line)) → IfErr r (NoMemoryOr (IsRefused text))
-names_refused text ls ss (Ok a) read h = tt
-names_refused text ls ss (Err f) read (inl e) = inl e
-names_refused text ls ss (Err f) read (inr p) = inr (in_names ls ss read p)
+pub names_refused : (text : List ℕ) (ls : List Logical) (ss : List Statement) (f : SourceFault) → ReadsText text ls ss
+    → NoMemoryOr (λ f. FirstFault BreaksNames names_line ss f.code f.line) f → NoMemoryOr (IsRefused text) f
+names_refused text ls ss f read (inl e) = inl e
+names_refused text ls ss f read (inr p) = inr (in_names ls ss read p)
 
--- an accepted program is whole
-pub accepted_whole : (text : List ℕ) (p : Parsed) → IsAccepted text p → IsWhole p.program p.tables
-accepted_whole text p a =
-    let few : length a.statements ≤ 20000 = few_statements (lines_of text) a.lines a.statements a.read.read.clean a.read.read.lines a.read.spelled.statements in
-    subst (λ q. IsWhole q.program q.tables) (sym a.is) (program_whole a.statements (ended_of a.statements a.read.order) few)
+pub jumps_refused : (text : List ℕ) (ls : List Logical) (ss : List Statement) (p : Parsed) (f : SourceFault) → ReadsText text ls ss → ReadsProgram ss p
+    → NoMemoryOr (λ f. FirstFault (BreaksJumps (labels_of p.program)) jumps_line (jumps_of p.program) f.code f.line) f → NoMemoryOr (IsRefused text) f
+jumps_refused text ls ss p f read program (inl e) = inl e
+jumps_refused text ls ss p f read program (inr q) = inr (in_jumps ls ss p read program q)
+
+-- a program that is read as the text says is whole
+pub read_whole : (text : List ℕ) (ls : List Logical) (ss : List Statement) (p : Parsed) → ReadsText text ls ss → ReadsProgram ss p
+    → IsClean (BreaksJumps (labels_of p.program)) (jumps_of p.program) → IsWhole p.program (tables_of p.variables)
+read_whole text ls ss p read program jumps =
+    let few : length ss ≤ 20000 = few_statements (lines_of text) ls ss read.read.clean read.read.lines read.spelled.statements in
+    parsed_whole ss p (ended_of ss read.order) few program.clean program.is jumps
+
+pub accepted_whole : (text : List ℕ) (p : Parsed) → IsAccepted text p → IsWhole p.program (tables_of p.variables)
+accepted_whole text p a = read_whole text a.lines a.statements p a.read a.program a.jumps

@@ -1,109 +1,173 @@
 -- The walk over the statements whose names are looked up, one more at a time.
-use Rattle.std.proofs.Common.{◌≡◌, ℕ, zero, suc, ◌+◌, ◌≤◌, List, [], ◌∷◌, ◌++◌, length, take, drop, Option, Some, None, Result, Ok, Err, refl, sym, ap, ◌∙◌, subst, append_assoc, inl, inr, arith}
-use Rattle.std.specs.Prelude.{option_map}
+use Rattle.std.proofs.Common.{◌≡◌, ℕ, zero, suc, ◌+◌, ◌≤◌, ◌<◌, true, List, [], ◌∷◌, ◌++◌, length, take, drop, Some, Result, Ok, Err, refl, sym, ap, ◌∙◌, subst, append_assoc, inl, inr, arith}
+use Rattle.std.specs.Prelude.{IsTrue, slice_get}
 use Rattle.std.proofs.lemmas.List.{append-nil, take_all}
 use Rattle.vcm_lines.specs.declared.fault.FaultCode.{FaultCode}
+use Rattle.vcm_lines.specs.declared.fault.FaultCode.TheVariants.{Unbalanced}
 use Rattle.vcm_lines.specs.declared.fault.SourceFault.{SourceFault}
 use Rattle.vcm_lines.specs.Fault.{NoMemoryOr}
 use Rattle.vcm_spec.specs.Phase.{IsClean, IsCleanBelow, FirstFault}
-use Rattle.vcm_spec.specs.Program.{Block, done, then}
+use Rattle.vcm_spec.specs.Program.{done}
 use Rattle.vcm_spec.proofs.PhaseLemmas.{place_at, clean_none, clean_more, clean_done, fault_at}
-use Rattle.vcm_expr.specs.Names.{Variable}
+use Rattle.vcm_syntax.specs.declared.statement.Form.{Form}
+use Rattle.vcm_syntax.specs.declared.statement.Form.TheVariants.{Opening, Measures, Ignored, Declaration, Assignment, Move, Home, Say, Test, Otherwise, TestEnd, Repeat, RepeatEnd, Mark, Leap, Ending}
 use Rattle.vcm_syntax.specs.declared.statement.Statement.{Statement}
-use Rattle.vcm_tree.specs.declared.node.Node.{Node as Kept}
 use Rattle.vcm_tree.specs.declared.program.Noticed.{Noticed}
-use Rattle.vcm_tree.specs.Resolving.{Meaning, resolved, table_by, table_after, declared_by, BreaksNames, names_line, ToldAt}
-use Rattle.vcm_tree.specs.Program.{Parsed, node_by, onto, program_from, program_of, tables_of, notice_of, notices_of, parsed_of}
-use Rattle.vcm_tree.specs.Nodes.{node_of, block_of, one_or_none, HasMeaning}
+use Rattle.vcm_tree.specs.declared.builder.Open.{Open}
+use Rattle.vcm_tree.specs.declared.resolving.Progress.{Progress}
+use Rattle.vcm_tree.specs.Order.{is_ending, is_ended}
+use Rattle.vcm_tree.specs.Pieces.{pieces}
+use Rattle.vcm_tree.specs.Resolving.{Behind, behind, Opened, Meaning, counts, ended, resolved, behind_by, behind_one, behind_all, start, pieces_by, pieces_from, BreaksNames, names_line, ToldAt}
+use Rattle.vcm_tree.specs.Program.{IsParsed, notice_of, notices_of}
+use Rattle.vcm_tree.specs.Building.{blocks_of, opens_pieces, written}
+use Rattle.vcm_tree.specs.Taking.{behind_of, Takes}
+use Rattle.vcm_tree.proofs.Builders.{blocks_length}
 
--- nodes in front of a block
-abbrev pub behind : List Kept → Block → Block
-behind [] b = b
-behind (n ∷ ns) b = then (node_of n) (behind ns b)
+pub behind_push : (b : Behind) (ss : List Statement) (s : Statement) → behind_all b (ss ++ s ∷ []) ≡ behind_one (behind_all b ss) s
+behind_push b [] s = refl
+behind_push b (t ∷ ss) s = behind_push (behind_one b t) ss s
 
-behind-done : (ns : List Kept) → behind ns done ≡ block_of ns
-behind-done [] = refl
-behind-done (n ∷ ns) = ap (then (node_of n)) (behind-done ns)
-
-behind-push : (ns ms : List Kept) (b : Block) → behind (ns ++ ms) b ≡ behind ns (behind ms b)
-behind-push [] ms b = refl
-behind-push (n ∷ ns) ms b = ap (then (node_of n)) (behind-push ns ms b)
-
-onto-one : (o : Option Kept) (b : Block) → onto (option_map node_of o) b ≡ behind (one_or_none o) b
-onto-one None b = refl
-onto-one (Some n) b = refl
-
-pub declared_by-push : (vs : List Variable) (ss : List Statement) (s : Statement) → declared_by vs (ss ++ s ∷ []) ≡ table_after (declared_by vs ss) s
-declared_by-push vs [] s = refl
-declared_by-push vs (t ∷ ss) s = declared_by-push (table_after vs t) ss s
-
-drop_nil : {X : Type 0} → (n : ℕ) (xs : List X) → drop n xs ≡ [] → length xs ≤ n
+pub drop_nil : {X : Type 0} → (n : ℕ) (xs : List X) → drop n xs ≡ [] → length xs ≤ n
 drop_nil n [] e = omega arith
 drop_nil zero (x ∷ xs) e = absurd cc
 drop_nil (suc n) (x ∷ xs) e = (let r = drop_nil n xs e in omega arith)
 
--- so many statements are read: these variables, nodes and notices are theirs, and these statements are left
-pub record IsWalked (all : List Statement) (vs : List Variable) (nodes : List Kept) (notices : List Noticed) (rest : List Statement) : Type 0 where
+-- so many statements are read, and these are left
+pub record IsWalked (all : List Statement) (p : Progress) (notices : List Noticed) (rest : List Statement) : Type 0 where
   pub place : ℕ
   pub left : drop place all ≡ rest
   pub clean : IsCleanBelow BreaksNames all place
-  pub table : vs ≡ declared_by [] (take place all)
-  pub program : program_of all ≡ behind nodes (program_from vs rest)
+  pub behind : behind_of p ≡ behind_all start (take place all)
+  pub writes : pieces_from start all ≡ written p.builder ++ pieces_from (behind_of p) rest
   pub noticed : notices_of all ≡ notices ++ notices_of rest
 
-pub walk_begins : (all : List Statement) → IsWalked all [] [] [] all
-walk_begins all = record { place = 0; left = refl; clean = clean_none BreaksNames all; table = refl; program = refl; noticed = refl }
+pub walk_begins : (all : List Statement) (p : Progress) → p.names ≡ [] → p.labels ≡ [] → p.builder.opens.items ≡ [] → p.builder.block ≡ done → IsWalked all p [] all
+walk_begins all p names labels opens block =
+    let nothing : behind_of p ≡ start =
+    ap (λ vs. behind vs (blocks_of p.builder.opens.items) p.labels) names ∙ ap (λ os. behind [] (blocks_of os) p.labels) opens ∙ ap (behind [] []) labels in
+    let unwritten : written p.builder ≡ [] = ap (λ os. opens_pieces os ++ pieces p.builder.block) opens ∙ ap pieces block in
+    record {
+      place = 0;
+      left = refl;
+      clean = clean_none BreaksNames all;
+      behind = nothing;
+      writes = sym (ap (λ l. l ++ pieces_from (behind_of p) all) unwritten ∙ ap (λ b. pieces_from b all) nothing);
+      noticed = refl;
+    }
 
 abbrev means : Meaning → Result Meaning FaultCode
 means m = Ok m
 
 -- what has a meaning breaks no rule
-unbroken : (vs ws : List Variable) (s : Statement) (m : Meaning) (code : FaultCode) → vs ≡ ws → resolved vs s.form ≡ Ok m → resolved ws s.form ≡ Err code → ⊥
-unbroken vs ws s m code same is broken = (let both : means m ≡ Err code = sym is ∙ ap (λ t. resolved t s.form) same ∙ broken in absurd cc)
+unbroken : (b c : Behind) (s : Statement) (m : Meaning) (code : FaultCode) → b ≡ c → resolved b s.form ≡ Ok m → resolved c s.form ≡ Err code → ⊥
+unbroken b c s m code same is broken = (let both : means m ≡ Err code = sym is ∙ ap (λ t. resolved t s.form) same ∙ broken in absurd cc)
 
-one_more : (vs ws : List Variable) (s : Statement) (o : Option Kept) (rest : List Statement) → HasMeaning vs ws s o
-    → program_from vs (s ∷ rest) ≡ behind (one_or_none o) (program_from ws rest)
-one_more vs ws s o rest m =
-    ap (λ r. onto (node_by s.line r) (program_from (table_by vs r) rest)) m.is
-    ∙ ap (λ n. onto n (program_from (table_by vs (Ok m.meaning)) rest)) m.node
-    ∙ ap (λ t. onto (option_map node_of o) (program_from t rest)) (sym m.table)
-    ∙ onto-one o (program_from ws rest)
+one_more : (s : Statement) (old new : Progress) (rest : List Statement) → Takes s old new
+    → written old.builder ++ pieces_from (behind_of old) (s ∷ rest) ≡ written new.builder ++ pieces_from (behind_of new) rest
+one_more s old new rest t =
+    ap (λ r. written old.builder ++ (pieces_by s.line r ++ pieces_from (behind_by (behind_of old) r) rest)) t.is
+    ∙ ap (λ b. written old.builder ++ (pieces_by s.line (Ok t.meaning) ++ pieces_from b rest)) (sym t.after)
+    ∙ sym (append_assoc (written old.builder) (pieces_by s.line (Ok t.meaning)) (pieces_from (behind_of new) rest))
+    ∙ ap (λ l. l ++ pieces_from (behind_of new) rest) (sym t.pieces)
 
-pub walk_goes : (all : List Statement) (vs ws : List Variable) (nodes : List Kept) (notices : List Noticed) (s : Statement) (rest : List Statement) (o : Option Kept)
-    → IsWalked all vs nodes notices (s ∷ rest) → HasMeaning vs ws s o → IsWalked all ws (nodes ++ one_or_none o) (notices ++ notice_of s) rest
-walk_goes all vs ws nodes notices s rest o w m =
+pub walk_goes : (all : List Statement) (old new : Progress) (notices : List Noticed) (s : Statement) (rest : List Statement)
+    → IsWalked all old notices (s ∷ rest) → Takes s old new → IsWalked all new (notices ++ notice_of s) rest
+walk_goes all old new notices s rest w t =
     let p = place_at all w.place s rest w.left in
     record {
       place = w.place + 1;
       left = p.3;
-      clean = clean_more BreaksNames all w.place w.clean (λ code b. unbroken vs (declared_by [] (take w.place all)) s m.meaning code w.table m.is (rw p.1 at b));
-      table =
-          m.table ∙ ap (table_by vs) (sym m.is) ∙ ap (λ t. table_after t s) w.table ∙ sym (declared_by-push [] (take w.place all) s)
-          ∙ ap (declared_by []) (sym p.2);
-      program = w.program ∙ ap (behind nodes) (one_more vs ws s o rest m) ∙ sym (behind-push nodes (one_or_none o) (program_from ws rest));
+      clean = clean_more BreaksNames all w.place w.clean (λ code b. unbroken (behind_of old) (behind_all start (take w.place all)) s t.meaning code w.behind t.is (rw p.1 at b));
+      behind =
+          t.after ∙ ap (behind_by (behind_of old)) (sym t.is) ∙ ap (λ b. behind_one b s) w.behind ∙ sym (behind_push start (take w.place all) s)
+          ∙ ap (behind_all start) (sym p.2);
+      writes = w.writes ∙ one_more s old new rest t;
       noticed = w.noticed ∙ sym (append_assoc notices (notice_of s) (notices_of rest));
     }
 
-pub walk_fails : (all : List Statement) (vs : List Variable) (nodes : List Kept) (notices : List Noticed) (s : Statement) (rest : List Statement) (code : FaultCode)
-    → IsWalked all vs nodes notices (s ∷ rest) → resolved vs s.form ≡ Err code → FirstFault BreaksNames names_line all code s.line
-walk_fails all vs nodes notices s rest code w e =
-    fault_at BreaksNames names_line all w.place s rest code s.line w.left w.clean (ap (λ t. resolved t s.form) (sym w.table) ∙ e) refl
+walk_fails : (all : List Statement) (p : Progress) (notices : List Noticed) (s : Statement) (rest : List Statement) (code : FaultCode)
+    → IsWalked all p notices (s ∷ rest) → resolved (behind_of p) s.form ≡ Err code → FirstFault BreaksNames names_line all code s.line
+walk_fails all p notices s rest code w e =
+    fault_at BreaksNames names_line all w.place s rest code s.line w.left w.clean (ap (λ t. resolved t s.form) (sym w.behind) ∙ e) refl
 
-pub walk_clean : (all : List Statement) (vs : List Variable) (nodes : List Kept) (notices : List Noticed) → IsWalked all vs nodes notices [] → IsClean BreaksNames all
-walk_clean all vs nodes notices w = clean_done BreaksNames all w.place (drop_nil w.place all w.left) w.clean (λ code b. b)
+pub walk_told : (all : List Statement) (p : Progress) (notices : List Noticed) (s : Statement) (rest : List Statement) (f : SourceFault)
+    → IsWalked all p notices (s ∷ rest) → NoMemoryOr (ToldAt s.line (resolved (behind_of p) s.form)) f → NoMemoryOr (λ f. FirstFault BreaksNames names_line all f.code f.line) f
+walk_told all p notices s rest f w (inl e) = inl e
+walk_told all p notices s rest f w (inr q) = inr (subst (λ line. FirstFault BreaksNames names_line all f.code line) (sym q.0) (walk_fails all p notices s rest f.code w q.1))
 
-pub walk_ends : (all : List Statement) (vs : List Variable) (nodes : List Kept) (notices : List Noticed) → IsWalked all vs nodes notices []
-    → record { program = block_of nodes; tables = tables_of vs; notices = notices } ≡ parsed_of all
-walk_ends all vs nodes notices w =
-    let program : block_of nodes ≡ program_of all = sym (w.program ∙ behind-done nodes) in
-    let table : vs ≡ declared_by [] all = w.table ∙ ap (declared_by []) (take_all w.place all (drop_nil w.place all w.left)) in
-    let noticed : notices ≡ notices_of all = sym (w.noticed ∙ append-nil notices) in
-    ap (λ b. parsed b vs notices) program ∙ ap (λ t. parsed (program_of all) t notices) table ∙ ap (parsed (program_of all) (declared_by [] all)) noticed
+pub walk_clean : (all : List Statement) (p : Progress) (notices : List Noticed) → IsWalked all p notices [] → IsClean BreaksNames all
+walk_clean all p notices w = clean_done BreaksNames all w.place (drop_nil w.place all w.left) w.clean (λ code b. b)
+
+-- ---- each statement has a meaning behind the ones above it
+
+abbrev pub AllMean : Behind → List Statement → Type 0
+AllMean b [] = Unit {0}
+AllMean b (s ∷ ss) = ((m : Meaning) × (resolved b s.form ≡ Ok m)) × AllMean (behind_one b s) ss
+
+place : (before : List Statement) (s : Statement) (ss : List Statement) → (take (length before) (before ++ s ∷ ss) ≡ before) × (slice_get (before ++ s ∷ ss) (length before) ≡ Some s) × (length before < length (before ++ s ∷ ss))
+place [] s ss = (refl, refl, omega arith)
+place (b ∷ before) s ss = (let r = place before s ss in (ap (λ l. b ∷ l) r.0, r.1, (let l = r.2 in omega arith)))
+
+meaning : (b : Behind) (s : Statement) → ((code : FaultCode) → resolved b s.form ≡ Err code → ⊥) → (m : Meaning) × (resolved b s.form ≡ Ok m)
+meaning b s none = by (resolved b s.form) refl
   where
-    parsed : Block → List Variable → List Noticed → Parsed
-    parsed b t n = record { program = b; tables = tables_of t; notices = n }
+    by : (r : Result Meaning FaultCode) → resolved b s.form ≡ r → (m : Meaning) × (resolved b s.form ≡ Ok m)
+    by (Ok m) e = (m, e)
+    by (Err code) e = absurd (none code e)
 
-pub walk_told : (all : List Statement) (vs : List Variable) (nodes : List Kept) (notices : List Noticed) (s : Statement) (rest : List Statement) (f : SourceFault)
-    → IsWalked all vs nodes notices (s ∷ rest) → NoMemoryOr (ToldAt s.line (resolved vs s.form)) f → NoMemoryOr (λ f. FirstFault BreaksNames names_line all f.code f.line) f
-walk_told all vs nodes notices s rest f w (inl e) = inl e
-walk_told all vs nodes notices s rest f w (inr p) = inr (subst (λ line. FirstFault BreaksNames names_line all f.code line) (sym p.0) (walk_fails all vs nodes notices s rest f.code w p.1))
+pub all_mean : (before ss : List Statement) → IsClean BreaksNames (before ++ ss) → AllMean (behind_all start before) ss
+all_mean before [] clean = tt
+all_mean before (s ∷ ss) clean =
+    let p = place before s ss in
+    let here = meaning (behind_all start before) s (λ code e. clean.unbroken (length before) code (let l = p.2 in omega arith) (rw (p.0, p.1) e)) in
+    let rest = all_mean (before ++ s ∷ []) ss (subst (IsClean BreaksNames) (sym (append_assoc before (s ∷ []) ss)) clean) in
+    (here, subst (λ b. AllMean b ss) (behind_push start before s) rest)
+
+-- ---- no block is open behind ENDFIL
+
+shut : (b : Behind) (m : Meaning) → counts (ended b.blocks) ≡ Ok m → (behind_by b (counts (ended b.blocks))).blocks ≡ []
+shut b m e = by b.blocks refl
+  where
+    by : (bs : List Opened) → b.blocks ≡ bs → (behind_by b (counts (ended b.blocks))).blocks ≡ []
+    by [] f = ap (λ l. (behind_by b (counts (ended l))).blocks) f ∙ f
+    by (o ∷ bs) f = (let both : means m ≡ Err Unbalanced = sym e ∙ ap (λ l. counts (ended l)) f in absurd cc)
+
+ending_shuts : (b : Behind) (line : ℕ) (form : Form) (m : Meaning) → is_ending (record { line = line; form = form }) ≡ true → resolved b form ≡ Ok m
+    → (behind_by b (resolved b form)).blocks ≡ []
+ending_shuts b line Opening m e h = absurd cc
+ending_shuts b line Measures m e h = absurd cc
+ending_shuts b line (Ignored w) m e h = absurd cc
+ending_shuts b line (Declaration k ns) m e h = absurd cc
+ending_shuts b line (Assignment n x) m e h = absurd cc
+ending_shuts b line (Move p) m e h = absurd cc
+ending_shuts b line Home m e h = absurd cc
+ending_shuts b line (Say t) m e h = absurd cc
+ending_shuts b line (Test x) m e h = absurd cc
+ending_shuts b line Otherwise m e h = absurd cc
+ending_shuts b line TestEnd m e h = absurd cc
+ending_shuts b line (Repeat r) m e h = absurd cc
+ending_shuts b line RepeatEnd m e h = absurd cc
+ending_shuts b line (Mark l) m e h = absurd cc
+ending_shuts b line (Leap l) m e h = absurd cc
+ending_shuts b line Ending m e h = shut b m h
+
+pub last_shuts : (b : Behind) (ss : List Statement) → is_ended ss ≡ true → AllMean b ss → (behind_all b ss).blocks ≡ []
+last_shuts b [] e h = absurd cc
+last_shuts b (s ∷ []) e h = ending_shuts b s.line s.form h.0.0 e h.0.1
+last_shuts b (s ∷ t ∷ ss) e h = last_shuts (behind_one b s) (t ∷ ss) e h.1
+
+no_opens : (os : List Open) → blocks_of os ≡ [] → os ≡ []
+no_opens [] e = refl
+no_opens (o ∷ os) e = (let l = blocks_length (o ∷ os) in let z : length (blocks_of (o ∷ os)) ≡ 0 = ap length e in absurd (omega (arith, l, z)))
+
+pub walk_ends : (all : List Statement) (p : Progress) (notices : List Noticed) → IsTrue (is_ended all) → IsWalked all p notices []
+    → IsParsed all (record { program = p.builder.block; variables = p.names; notices = notices })
+walk_ends all p notices last w =
+    let whole : behind_of p ≡ behind_all start all = w.behind ∙ ap (behind_all start) (take_all w.place all (drop_nil w.place all w.left)) in
+    let shut_all : blocks_of p.builder.opens.items ≡ [] = ap (λ (b : Behind). b.blocks) whole ∙ last_shuts start all last (all_mean [] all (walk_clean all p notices w)) in
+    let none : p.builder.opens.items ≡ [] = no_opens p.builder.opens.items shut_all in
+    record {
+      program = sym (w.writes ∙ append-nil (written p.builder) ∙ ap (λ os. opens_pieces os ++ pieces p.builder.block) none);
+      variables = ap (λ (b : Behind). b.variables) whole;
+      notices = sym (w.noticed ∙ append-nil notices);
+    }

@@ -1,13 +1,15 @@
 -- Statements about acceptance. Each is the contract of a law in src/laws.rt.
-use Rattle.std.specs.Prelude.{◌≡◌, ℕ, List, length}
+use Rattle.std.specs.Prelude.{◌≡◌, ℕ, IsTrue, List, length}
+use Rattle.vcm_tree.specs.Order.{is_ended}
 use Rattle.std.specs.List.{filter}
 use Rattle.vcm_lines.specs.declared.fault.SourceFault.{SourceFault}
 use Rattle.vcm_spec.specs.Phase.{IsClean}
 use Rattle.vcm_spec.specs.Program.{sizes}
+use Rattle.vcm_spec.specs.Whole.{AlwaysSteps}
 use Rattle.vcm_syntax.specs.declared.statement.Statement.{Statement}
 use Rattle.vcm_syntax.specs.Statements.{is_counted}
 use Rattle.vcm_tree.specs.Resolving.{BreaksNames}
-use Rattle.vcm_tree.specs.Program.{Parsed, IsWhole, program_of}
+use Rattle.vcm_tree.specs.Program.{Parsed, IsParsed, IsWhole, tables_of}
 use Rattle.vcm_tree.specs.Acceptance.{IsAccepted, IsRefused}
 
 -- a text that is accepted isn't refused
@@ -22,10 +24,18 @@ IsOneProgram = (text : List ℕ) (p q : Parsed) → IsAccepted text p → IsAcce
 abbrev pub IsRefusedAtOneLine : Type 0
 IsRefusedAtOneLine = (text : List ℕ) (f g : SourceFault) → IsRefused text f → IsRefused text g → f.line ≡ g.line
 
--- an accepted program ends, has at most 20,000 statements, and fits its tables
+-- an accepted program is whole
 abbrev pub AcceptedIsWhole : Type 0
-AcceptedIsWhole = (text : List ℕ) (p : Parsed) → IsAccepted text p → IsWhole p.program p.tables
+AcceptedIsWhole = (text : List ℕ) (p : Parsed) → IsAccepted text p → IsWhole p.program (tables_of p.variables)
 
 -- statements that break no rule of names have as many counted ones as their program has statements
 abbrev pub CountsStatements : Type 0
-CountsStatements = (ss : List Statement) → IsClean BreaksNames ss → sizes (program_of ss) ≡ length (filter (λ s. is_counted s.form) ss)
+CountsStatements = (ss : List Statement) (p : Parsed) → IsClean BreaksNames ss → IsParsed ss p → sizes p.program ≡ length (filter (λ s. is_counted s.form) ss)
+
+-- statements of which ENDFIL is the last one, and that break no rule of names and blocks, are a program
+abbrev pub CleanIsProgram : Type 0
+CleanIsProgram = (ss : List Statement) → IsTrue (is_ended ss) → IsClean BreaksNames ss → (p : Parsed) × IsParsed ss p
+
+-- an accepted program always has a next step until it stops: its last statement is ENDFIL, and each jump has its label around it
+abbrev pub AcceptedAlwaysSteps : Type 0
+AcceptedAlwaysSteps = (text : List ℕ) (p : Parsed) → IsAccepted text p → AlwaysSteps p.program

@@ -1,7 +1,15 @@
+pub mod Codes
+pub mod SameLabels
 pub mod Statements
 pub mod Order
+pub mod Pieces
 pub mod Resolving
+pub mod Jumps
+pub mod Judging
 pub mod Program
 pub mod Nodes
+pub mod Falls
+pub mod Building
+pub mod Taking
 pub mod Acceptance
 pub mod Laws

@@ -1,35 +1,18 @@
 -- What the statements of a text are: a structured program with the tables of its names, and notices.
-use Rattle.std.specs.Prelude.{ℕ, ◌≤◌, Bool, true, false, IsTrue, List, [], ◌∷◌, map, Option, Some, None, Result, Ok}
+use Rattle.std.specs.Prelude.{◌≡◌, ℕ, ◌+◌, ◌<◌, ◌≤◌, IsTrue, not, List, [], ◌∷◌, map}
 use Rattle.std.specs.List.{flat_map}
-use Rattle.vcm_lines.specs.declared.fault.FaultCode.{FaultCode}
 use Rattle.vcm_spec.specs.Setup.{Tables}
-use Rattle.vcm_spec.specs.Program.{Node, Block, simple, ending, done, then, sizes}
+use Rattle.vcm_spec.specs.Program.{Label, Node, Block, choice, choice_else, do_loop, meas, done, then, sizes}
+use Rattle.vcm_spec.specs.Whole.{is_closed}
+use Rattle.vcm_spec.specs.Phase.{IsClean}
 use Rattle.vcm_spec.specs.Fitting.{BlockFits}
 use Rattle.vcm_expr.specs.Names.{Variable}
 use Rattle.vcm_syntax.specs.declared.statement.Form.TheVariants.{Ignored}
 use Rattle.vcm_syntax.specs.declared.statement.Statement.{Statement}
 use Rattle.vcm_tree.specs.declared.program.Noticed.{Noticed}
-use Rattle.vcm_tree.specs.Resolving.{Meaning, Acts, Ends, resolved, table_after, declared_by}
-
--- the node of a statement of this meaning: one where it is counted, otherwise none
-abbrev pub node_by : ℕ → Result Meaning FaultCode → Option Node
-node_by line (Ok (Acts what)) = Some (simple line what)
-node_by line (Ok Ends) = Some (ending line)
-node_by line _ = None
-
--- a node in front of a block, if there is one
-abbrev pub onto : Option Node → Block → Block
-onto None b = b
-onto (Some n) b = then n b
-
--- the program of the statements behind these variables
-abbrev pub program_from : List Variable → List Statement → Block
-program_from vs [] = done
-program_from vs (s ∷ ss) = onto (node_by s.line (resolved vs s.form)) (program_from (table_after vs s) ss)
-
--- the program of the statements
-abbrev pub program_of : List Statement → Block
-program_of ss = program_from [] ss
+use Rattle.vcm_tree.specs.Pieces.{pieces}
+use Rattle.vcm_tree.specs.Resolving.{start, behind_all, pieces_from}
+use Rattle.vcm_tree.specs.Jumps.{is_among, labels_of, jumps_of, BreaksJumps}
 
 -- the tables of a program with these variables, in the order of their declarations; features and frames are still to come
 abbrev pub tables_of : List Variable → Tables
@@ -46,26 +29,43 @@ notices_of ss = flat_map notice_of ss
 -- what a text is: a program, the tables of its names, and notices
 pub record Parsed : Type 0 where
   pub program : Block
-  pub tables : Tables
+  pub variables : List Variable
   pub notices : List Noticed
 
--- what the statements are
-abbrev pub parsed_of : List Statement → Parsed
-parsed_of ss = record { program = program_of ss; tables = tables_of (declared_by [] ss); notices = notices_of ss }
+-- the tables of what a text is
+abbrev pub tables : Parsed → Tables
+tables p = tables_of p.variables
 
--- whether a node is ENDFIL
-abbrev pub is_end : Node → Bool
-is_end (ending line) = true
-is_end _ = false
+-- the statements are this: a program which is written by the counted ones, their variables, their notices
+pub record IsParsed (ss : List Statement) (p : Parsed) : Type 0 where
+  pub program : pieces p.program ≡ pieces_from start ss
+  pub variables : p.variables ≡ (behind_all start ss).variables
+  pub notices : p.notices ≡ notices_of ss
 
--- whether the last node is ENDFIL
-abbrev pub is_closed : Block → Bool
-is_closed done = false
-is_closed (then n done) = is_end n
-is_closed (then n (then m b)) = is_closed (then m b)
+-- where so many blocks are around a node, or a block, those in it nest at most 32 deep
+abbrev mutual
+  pub NodeNests : ℕ → Node → Type 0
+  NodeNests d (choice line test first close) = (d < 32) × BlockNests (d + 1) first
+  NodeNests d (choice_else line test first mid second close) = (d < 32) × BlockNests (d + 1) first × BlockNests (d + 1) second
+  NodeNests d (do_loop line v initial limit increment body close) = (d < 32) × BlockNests (d + 1) body
+  NodeNests d (meas line feature body close) = (d < 32) × BlockNests (d + 1) body
+  NodeNests d _ = Unit {0}
 
--- a whole program: its last node is ENDFIL, it has at most 20,000 statements, and they fit its tables
-pub record IsWhole (program : Block) (tables : Tables) : Type 0 where
+  pub BlockNests : ℕ → Block → Type 0
+  BlockNests d done = Unit {0}
+  BlockNests d (then n b) = NodeNests d n × BlockNests d b
+
+-- no label stands twice
+abbrev pub AreDistinct : List Label → Type 0
+AreDistinct [] = Unit {0}
+AreDistinct (l ∷ ls) = IsTrue (not (is_among ls l)) × AreDistinct ls
+
+-- A whole program: its last node is ENDFIL, it has at most 20,000 statements, they fit its tables, its blocks nest at most 32 deep, no jump
+-- label stands twice, and each jump reaches its label.
+pub record IsWhole (program : Block) (ts : Tables) : Type 0 where
   pub closed : IsTrue (is_closed program)
   pub few : sizes program ≤ 20000
-  pub fits : BlockFits tables program
+  pub fits : BlockFits ts program
+  pub nested : BlockNests 0 program
+  pub once : AreDistinct (labels_of program)
+  pub jumps : IsClean (BreaksJumps (labels_of program)) (jumps_of program)

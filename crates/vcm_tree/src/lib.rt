@@ -1,6 +1,11 @@
-//! Which texts are programs: all phases of acceptance, one behind the other, for straight programs of moves, assignments and output lines.
+//! Which texts are programs: all phases of acceptance, one behind the other, for programs of moves, assignments, output lines, blocks, loops
+//! and jumps.
 #![tactic(auto)]
 
+mod builder;
+mod count;
+mod jumps;
+mod labels;
 pub mod laws;
 mod node;
 mod order;
@@ -9,9 +14,6 @@ mod program;
 mod resolving;
 mod statements;
 
-pub use node::{Action, Node};
+pub use node::{Action, Block, Label, Node};
 pub use phases::accept;
 pub use program::{Accepted, Noticed};
-
-#[cfg(test)]
-mod tests;

@@ -1,16 +1,22 @@
 //! Looks names up: what each statement does to a program.
 
-ghost use Rattle.std.specs.Prelude.{◌≡◌, Ok, Err, OnOk, IfOk, IfErr};
+ghost use Rattle.std.specs.Prelude.{◌≡◌, ◌∷◌, ◌++◌, [], Ok, Err, OnOk, IfOk, IfErr, MatchResult};
 ghost use Rattle.vcm_lines.specs.Fault.{NoMemoryOr};
-ghost use Rattle.vcm_tree.specs.Nodes.{action_of, HasMeaning};
-ghost use Rattle.vcm_tree.specs.Resolving.{ToldAt, is_declared, with_one, with_all, want_of, assigned, moved, resolved};
+ghost use Rattle.vcm_tree.specs.Nodes.{action_of};
+ghost use Rattle.vcm_tree.specs.Pieces.{piece, Marks};
+ghost use Rattle.vcm_tree.specs.Resolving.{ToldAt, is_declared, with_one, with_all, want_of, assigned, moved, indexed, increment_of, repeated, nested, tested, marked, resolved};
+ghost use Rattle.vcm_tree.specs.Building.{blocks_of, written, Reads};
+ghost use Rattle.vcm_tree.specs.Taking.{IsBody, behind_of, Takes};
 
-use crate::node::{Action, Node};
+use crate::builder::{Builder, Head};
+use crate::labels::Labels;
+use crate::node::{Action, Label};
 use std::alloc::Global;
-use vcm_expr::{Expr, Name, Names, Want, type_expr};
+use vcm_expr::{Expr, Name, Names, Typed, Want, type_expr};
 use vcm_lines::{FaultCode, SourceFault};
 use vcm_num::Kind;
-use vcm_syntax::{Form, Spot, Statement};
+use vcm_spec::Operand;
+use vcm_syntax::{Form, Rounds, Spot, Statement};
 
 /// The most variables of a program.
 const MAX_VARIABLES: usize = 4096;
@@ -101,32 +107,183 @@ fn go_to(alloc: Global, line: u32, names: &Names, place: &Spot) -> Result<Action
     Ok(Action::Goto(x, y, z))
 }
 
-/// The node of a statement, if it has one; the variables that it declares are added to the table.
-pub(crate) fn resolve(
+/// The variable of a loop.
+fn index(line: u32, names: &Names, name: &Name) -> Result<u16, SourceFault>
+    ensures { MatchResult result (λ i. indexed names.now name.now ≡ Ok i) (ToldAt line (indexed names.now name.now)) }
+{
+    match names.find(0, name) {
+        None => Err(SourceFault {
+            code: FaultCode::UnknownName,
+            line,
+        }),
+        Some((variable, Kind::Int)) => Ok(variable),
+        Some(_) => Err(SourceFault {
+            code: FaultCode::BadType,
+            line,
+        }),
+    }
+}
+
+/// The increment of a loop.
+fn increment(
     alloc: Global,
-    names: &mut Names,
+    line: u32,
+    names: &Names,
+    value: &Option<Expr>,
+) -> Result<Typed, SourceFault>
+    ensures ok { IfOk result (λ t. increment_of names.now value.now ≡ Ok t) }
+    ensures fault { IfErr result (NoMemoryOr (ToldAt line (increment_of names.now value.now))) }
+{
+    match value {
+        None => Ok(Typed::leaf(Operand::Integer(1))),
+        Some(value) => type_expr(alloc, value, line, names, Want::Int),
+    }
+}
+
+/// What opens the body of a loop.
+fn body(alloc: Global, line: u32, names: &Names, rounds: &Rounds) -> Result<Head, SourceFault>
+    ensures ok { IfOk result (λ h. IsBody names.now rounds.now line h) }
+    ensures fault { IfErr result (NoMemoryOr (ToldAt line (repeated names.now rounds.now))) }
+{
+    let variable = index(line, names, &rounds.variable)?;
+    let initial = type_expr(alloc, &rounds.initial, line, names, Want::Int)?;
+    let limit = type_expr(alloc, &rounds.limit, line, names, Want::Int)?;
+    let increment = increment(alloc, line, names, &rounds.increment)?;
+    Ok(Head::Body(line, variable, initial, limit, increment))
+}
+
+/// `IF`.
+fn test(
+    alloc: Global,
+    line: u32,
+    names: &Names,
+    builder: &mut Builder,
+    condition: &Expr,
+) -> Result<(), SourceFault>
+    ensures ok { OnOk result (Reads (nested (blocks_of builder.old.opens.items) (tested names.now condition.now)) line builder.old builder.new) }
+    ensures fault { IfErr result (NoMemoryOr (ToldAt line (nested (blocks_of builder.old.opens.items) (tested names.now condition.now)))) }
+{
+    builder.room(line)?;
+    let test = type_expr(alloc, condition, line, names, Want::Bool)?;
+    builder.open(alloc, Head::First(line, test))?;
+    Ok(())
+}
+
+/// `DO`.
+fn repeat(
+    alloc: Global,
+    line: u32,
+    names: &Names,
+    builder: &mut Builder,
+    rounds: &Rounds,
+) -> Result<(), SourceFault>
+    ensures ok { OnOk result (Reads (nested (blocks_of builder.old.opens.items) (repeated names.now rounds.now)) line builder.old builder.new) }
+    ensures fault { IfErr result (NoMemoryOr (ToldAt line (nested (blocks_of builder.old.opens.items) (repeated names.now rounds.now)))) }
+{
+    builder.room(line)?;
+    let head = body(alloc, line, names, rounds)?;
+    builder.open(alloc, head)?;
+    Ok(())
+}
+
+/// A jump label.
+fn mark(
+    line: u32,
+    labels: &mut Labels,
+    builder: &mut Builder,
+    label: Label,
+) -> Result<(), SourceFault>
+    ensures new { OnOk result (marked labels.old label ≡ Ok (Marks label)) }
+    ensures labels { OnOk result (labels.new ≡ labels.old ++ label ∷ []) }
+    ensures pieces { OnOk result (written builder.new ≡ written builder.old ++ piece line (Marks label) ∷ []) }
+    ensures around { OnOk result (blocks_of builder.new.opens.items ≡ blocks_of builder.old.opens.items) }
+    ensures fault { IfErr result (NoMemoryOr (ToldAt line (marked labels.old label))) }
+{
+    let is_new = labels.add(label.copy())?;
+    if !is_new {
+        return Err(SourceFault {
+            code: FaultCode::DuplicateName,
+            line,
+        });
+    }
+    builder.mark(line, label)?;
+    Ok(())
+}
+
+/// What is read of a program: its variables, its jump labels, its blocks.
+#[derive(Drop)]
+pub(crate) struct Progress {
+    pub(crate) names: Names,
+    pub(crate) labels: Labels,
+    pub(crate) builder: Builder,
+}
+
+/// Reads one statement more.
+pub(crate) fn take(
+    alloc: Global,
+    read: &mut Progress,
     statement: Statement,
-) -> Result<Option<Node>, SourceFault>
-    ensures ok { IfOk result (HasMeaning names.old names.new statement) }
-    ensures fault { IfErr result (NoMemoryOr (ToldAt statement.line (resolved names.old statement.form))) }
+) -> Result<(), SourceFault>
+    ensures ok { OnOk result (Takes statement read.old read.new) }
+    ensures fault { IfErr result (NoMemoryOr (ToldAt statement.line (resolved (behind_of read.old) statement.form))) }
 {
     let line = statement.line;
     match statement.form {
-        Form::Opening | Form::Measures | Form::Ignored(_) => Ok(None),
+        Form::Opening | Form::Measures | Form::Ignored(_) => Ok(()),
         Form::Declaration(kind, declared) => {
-            declare_all(line, names, kind, declared.as_slice())?;
-            Ok(None)
+            declare_all(line, &mut read.names, kind, declared.as_slice())?;
+            Ok(())
         }
         Form::Assignment(name, value) => {
-            let action = assign(alloc, line, names, &name, &value)?;
-            Ok(Some(Node::Simple(line, action)))
+            let action = assign(alloc, line, &read.names, &name, &value)?;
+            read.builder.act(line, action)?;
+            Ok(())
         }
         Form::Move(place) => {
-            let action = go_to(alloc, line, names, &place)?;
-            Ok(Some(Node::Simple(line, action)))
+            let action = go_to(alloc, line, &read.names, &place)?;
+            read.builder.act(line, action)?;
+            Ok(())
         }
-        Form::Home => Ok(Some(Node::Simple(line, Action::GoHome))),
-        Form::Say(text) => Ok(Some(Node::Simple(line, Action::Text(text)))),
-        Form::Ending => Ok(Some(Node::Ending(line))),
+        Form::Home => {
+            read.builder.act(line, Action::GoHome)?;
+            Ok(())
+        }
+        Form::Say(text) => {
+            read.builder.act(line, Action::Text(text))?;
+            Ok(())
+        }
+        Form::Test(condition) => {
+            test(alloc, line, &read.names, &mut read.builder, &condition)?;
+            Ok(())
+        }
+        Form::Otherwise => {
+            read.builder.divide(alloc, line)?;
+            Ok(())
+        }
+        Form::TestEnd => {
+            read.builder.end_test(line)?;
+            Ok(())
+        }
+        Form::Repeat(rounds) => {
+            repeat(alloc, line, &read.names, &mut read.builder, &rounds)?;
+            Ok(())
+        }
+        Form::RepeatEnd => {
+            read.builder.end_repeat(line)?;
+            Ok(())
+        }
+        Form::Mark(name) => {
+            let label = Label::new(name, 0);
+            mark(line, &mut read.labels, &mut read.builder, label)?;
+            Ok(())
+        }
+        Form::Leap(name) => {
+            read.builder.leap(line, Label::new(name, 0))?;
+            Ok(())
+        }
+        Form::Ending => {
+            read.builder.end(line)?;
+            Ok(())
+        }
     }
 }

@@ -41,3 +41,6 @@ returns-then-is_before-clause-missed c = never_met c.args.block.now c.args.from 
 
 pub returns-else-is_before-clause-met : goal.returns-else-is_before-clause-met
 returns-else-is_before-clause-met c = entered_at c.args.block.now c.args.from c.args.to _ c.loop-axis.stretch (omega arith) c.loop-axis.invariant (grind arith)
+
+pub returns-else-is_before-clause-missed : goal.returns-else-is_before-clause-missed
+returns-else-is_before-clause-missed c = search rules

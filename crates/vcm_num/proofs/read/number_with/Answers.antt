@@ -1,7 +1,14 @@
-use Rattle.std.proofs.Common.{arith}
+use Rattle.std.proofs.Common.{arith, rules}
+use Rattle.std.proofs.lemmas.Grind.{common_steps}
 use Rattle.vcm_num.proofs.Reading.{too_large}
 use Rattle.vcm_num.proofs.read.number_with.Goals as goal
 
 pub returns-then-number-digit : goal.returns-then-number-digit
 returns-then-number-digit c =
     too_large c.loop-byte.number _ _ _ c.loop-byte-test.true c.loop-byte.invariant.same (omega (arith, c.if-number-digit.true))
+
+pub loop-byte-preserved : goal.loop-byte-preserved
+loop-byte-preserved c = grind (arith, common_steps)
+
+pub overflow_mul-number : goal.overflow_mul-number
+overflow_mul-number c = search rules

@@ -1,8 +1,0 @@
-pub mod Evaluating
-pub mod Tabling
-pub mod Runs
-pub mod Reaching
-pub mod Printing
-pub mod JobLines
-pub mod CutJobs
-pub mod JobLemmas

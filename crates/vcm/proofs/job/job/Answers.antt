@@ -1,5 +1,0 @@
-use Rattle.vcm.proofs.JobLemmas.{steps_of_jobs}
-use Rattle.vcm.proofs.job.job.Goals as goal
-
-pub summary_of-requires : goal.summary_of-requires
-summary_of-requires g c = steps_of_jobs

@@ -1,0 +1,14 @@
+//! The commands of vcm: its command line, what each command does, and what it tells on standard error.
+#![tactic(auto)]
+
+mod checking;
+mod command_line;
+mod message;
+mod program;
+
+pub use checking::{CheckFault, check};
+pub use command_line::{Request, request_of};
+pub use message::{
+    Message, NoticeLine, check_message, job_message, part_message, source_message, status_of,
+};
+pub use program::status;

@@ -1,0 +1,147 @@
+//! What the program says on standard error, and its exit statuses.
+
+use crate::checking::CheckFault;
+use thiserror::Error;
+use vcm_job::JobFault;
+use vcm_lines::{FaultCode, SourceFault};
+use vcm_part::{PartCode, PartFault};
+use vcm_run::Refusal;
+
+/// A fault as it is printed.
+#[derive(Clone, Copy, Debug, PartialEq, Eq, Error)]
+pub enum Message<'a> {
+    #[error("{words} line {line}")]
+    Source { words: &'static str, line: u32 },
+    #[error("{words} block {block}")]
+    Block { words: &'static str, block: u32 },
+    #[error("{words}")]
+    Part { words: &'static str },
+    #[error("no memory")]
+    NoMemory,
+    #[error("no memory after {done} steps")]
+    Halted { done: u64 },
+    #[error("cannot read {name}")]
+    Read { name: &'a str },
+    #[error("cannot write {name}")]
+    Write { name: &'a str },
+    #[error("input too long")]
+    TooLong,
+    #[error("usage: a word of the command line is no text")]
+    Usage,
+}
+
+/// A line of a program that has no effect, as it is printed.
+#[derive(Clone, Copy, Debug, PartialEq, Eq, Error)]
+#[error("notice line {line}: {word} has no effect")]
+pub struct NoticeLine<'a> {
+    pub line: u32,
+    pub word: &'a str,
+}
+
+// The code and name of a refusal of a text.
+fn source_words(code: FaultCode) -> &'static str {
+    match code {
+        FaultCode::NoMemory => "E00 NoMemory",
+        FaultCode::BadByte => "E01 BadByte",
+        FaultCode::LineTooLong => "E02 LineTooLong",
+        FaultCode::TooManyLines => "E03 TooManyLines",
+        FaultCode::DanglingContinuation => "E04 DanglingContinuation",
+        FaultCode::UnknownStatement => "E05 UnknownStatement",
+        FaultCode::BadSyntax => "E06 BadSyntax",
+        FaultCode::TooFine => "E07 TooFine",
+        FaultCode::NumberTooLarge => "E08 NumberTooLarge",
+        FaultCode::TooDeep => "E09 TooDeep",
+        FaultCode::NotQuarterTurn => "E10 NotQuarterTurn",
+        FaultCode::NotAxis => "E11 NotAxis",
+        FaultCode::BadOrder => "E12 BadOrder",
+        FaultCode::DuplicateName => "E13 DuplicateName",
+        FaultCode::UnknownName => "E14 UnknownName",
+        FaultCode::BadType => "E15 BadType",
+        FaultCode::Unbalanced => "E16 Unbalanced",
+        FaultCode::JumpInward => "E17 JumpInward",
+        FaultCode::MeasBody => "E18 MeasBody",
+        FaultCode::BadArguments => "E19 BadArguments",
+        FaultCode::TooLong => "E20 TooLong",
+        FaultCode::TooManyNames => "E21 TooManyNames",
+        FaultCode::Unsupported => "E22 Unsupported",
+    }
+}
+
+// The code and name of a refusal of a part file.
+fn part_words(code: PartCode) -> &'static str {
+    match code {
+        PartCode::NoMemory => "P00 NoMemory",
+        PartCode::NotToml => "P01 NotToml",
+        PartCode::BadKey => "P02 BadKey",
+        PartCode::OutOfRange => "P03 OutOfRange",
+        PartCode::LowAboveHigh => "P04 LowAboveHigh",
+        PartCode::TooManyBlocks => "P05 TooManyBlocks",
+        PartCode::HomeNotClear => "P06 HomeNotClear",
+    }
+}
+
+/// How a refused text is told.
+pub fn source_message(fault: SourceFault) -> Message<'static> {
+    match fault.code {
+        FaultCode::NoMemory => Message::NoMemory,
+        code => Message::Source {
+            words: source_words(code),
+            line: fault.line,
+        },
+    }
+}
+
+/// How a refused part file is told.
+pub fn part_message(fault: PartFault) -> Message<'static> {
+    match (fault.code, fault.block) {
+        (PartCode::NoMemory, _) => Message::NoMemory,
+        (code, 0) => Message::Part {
+            words: part_words(code),
+        },
+        (code, block) => Message::Block {
+            words: part_words(code),
+            block,
+        },
+    }
+}
+
+/// How the fault of a job is told.
+pub fn job_message(fault: JobFault) -> Message<'static> {
+    match fault {
+        JobFault::Refused(Refusal::Source(fault)) => source_message(fault),
+        JobFault::Refused(Refusal::Part(fault)) => part_message(fault),
+        JobFault::Refused(Refusal::NoMemory) => Message::NoMemory,
+        JobFault::Memory { done } => Message::Halted { done },
+        JobFault::NoMemory => Message::NoMemory,
+        JobFault::Read => Message::Read {
+            name: "standard input",
+        },
+        JobFault::Write { .. } => Message::Write {
+            name: "standard output",
+        },
+        JobFault::TooLong => Message::TooLong,
+    }
+}
+
+/// How the fault of a check is told, of the file with this name.
+pub fn check_message<'a>(fault: CheckFault, name: &'a str) -> Message<'a> {
+    match fault {
+        CheckFault::Refused(fault) => source_message(fault),
+        CheckFault::NoMemory => Message::NoMemory,
+        CheckFault::Read => Message::Read { name },
+        CheckFault::Write => Message::Write {
+            name: "standard output",
+        },
+        CheckFault::TooLong => Message::TooLong,
+    }
+}
+
+/// The exit status of a fault: 1 refused, 2 usage, 5 want of memory, 6 a device.
+pub fn status_of(message: Message<'_>) -> u8 {
+    match message {
+        Message::Source { .. } | Message::Block { .. } | Message::Part { .. } => 1,
+        Message::Usage => 2,
+        Message::NoMemory | Message::Halted { .. } => 5,
+        Message::Read { .. } | Message::Write { .. } | Message::TooLong => 6,
+    }
+}

@@ -1,0 +1,94 @@
+//! The program: its words are read, and the command is carried out on the standard devices and files.
+
+use crate::checking::check;
+use crate::command_line::{Request, request_of};
+use crate::message::{Message, NoticeLine, check_message, job_message, status_of};
+use clap::Error;
+use clap::error::ErrorKind;
+use std::io;
+use std::rt::{Env, Files};
+use vcm_job::job;
+use vcm_tree::Noticed;
+
+// Tells a fault on standard error, and gives its exit status.
+fn fails<R: Eprint>(rt: &R, message: Message<'_>) -> u8 {
+    let _ = eprintln!(rt; "{message}");
+    status_of(message)
+}
+
+// Tells the lines that have no effect on standard error.
+fn tell_notices<R: Eprint>(rt: &R, notices: &[Noticed]) {
+    for notice in notices {
+        let line = notice.line;
+        let word = std::str::from_utf8(notice.word.word()).unwrap_or("");
+        let notice = NoticeLine { line, word };
+        let _ = eprintln!(rt; "{notice}");
+    }
+}
+
+// Runs the job of standard input, and gives the exit status.
+fn run_job<R: Input + Print + Eprint + AllocGlobal>(rt: &R) -> u8 {
+    match job(rt.alloc(), &mut rt.reader(), &mut io::writer(rt)) {
+        Ok(done) => {
+            tell_notices(rt, done.notices.as_slice());
+            done.status
+        }
+        Err(fault) => fails(rt, job_message(fault)),
+    }
+}
+
+// Checks the program of a file, and gives the exit status.
+fn check_file<R: Files + Print + Eprint + AllocGlobal>(rt: &R, name: &str) -> u8 {
+    let Ok(mut file) = std::fs::open(rt, name) else {
+        return fails(rt, Message::Read { name });
+    };
+    match check(rt.alloc(), &mut file, &mut io::writer(rt)) {
+        Ok(notices) => {
+            tell_notices(rt, notices.as_slice());
+            0
+        }
+        Err(fault) => fails(rt, check_message(fault, name)),
+    }
+}
+
+// Answers a request for help or the version on standard output, tells a wrong command line on standard error, and gives the exit status.
+fn tell_usage<R: Print + Eprint>(rt: &R, error: &Error) -> u8 {
+    if error.kind() == ErrorKind::OutOfMemory {
+        return fails(rt, Message::NoMemory);
+    }
+    match (error.print(rt), error.use_stderr()) {
+        (_, true) => 2,
+        (Ok(()), false) => 0,
+        (Err(_), false) => fails(
+            rt,
+            Message::Write {
+                name: "standard output",
+            },
+        ),
+    }
+}
+
+// The words of the command line, the program's name first.
+fn words_of<R: Env + AllocGlobal>(rt: &R) -> Result<Vec<String>, Message<'static>> {
+    match std::env::args(rt) {
+        Ok(args) => args.collect(rt.alloc()).map_err(|_| Message::NoMemory),
+        Err(error) => match error.kind() {
+            io::ErrorKind::OutOfMemory => Err(Message::NoMemory),
+            _ => Err(Message::Usage),
+        },
+    }
+}
+
+/// Carries out what the command line asks for, and gives the exit status: 0 done, or the program ended; 1 refused; 2 a wrong command line; 3
+/// another stop; 4 the step limit; 5 want of memory; 6 a device.
+pub fn status<R: Env + Files + Input + Print + Eprint + AllocGlobal>(rt: &R) -> u8 {
+    let words = match words_of(rt) {
+        Ok(words) => words,
+        Err(message) => return fails(rt, message),
+    };
+    match request_of(rt.alloc(), words.as_slice()) {
+        Ok(Request::Job) => run_job(rt),
+        Ok(Request::Check { program }) => check_file(rt, program),
+        Err(error) => tell_usage(rt, &error),
+    }
+}

@@ -1,0 +1,57 @@
+-- What is left of an input behind lines that are no mark.
+use Rattle.std.proofs.Common.{◌≡◌, ℕ, ◌-◌, Bool, true, false, List, [], ◌∷◌, ◌++◌, length, take, refl, sym, ap, ◌∙◌, append_assoc, length-append, arith, subst}
+use Rattle.std.specs.Prelude.{if◌then◌else◌, flat_map}
+use Rattle.vcm_job.specs.Jobs.{raw_lines, is_mark, before_mark, behind_mark, part_text, program_text}
+use Rattle.vcm_job.proofs.JobLines.{lines_all}
+use Rattle.std.proofs.lemmas.List.{append-nil}
+
+-- the input is some lines that are no mark, and then the rest
+pub record IsLeft (input rest : List ℕ) : Type 0 where
+  pub front : List ℕ
+  pub cut : input ≡ front ++ rest
+  pub part : part_text input ≡ front ++ part_text rest
+  pub program : program_text input ≡ program_text rest
+
+pub all_left : (input : List ℕ) → IsLeft input input
+all_left input = record { front = []; cut = refl; part = refl; program = refl }
+
+-- behind one more line
+pub less_left : (input rest line after : List ℕ) → IsLeft input rest → raw_lines rest ≡ line ∷ raw_lines after → rest ≡ line ++ after → is_mark line ≡ false → IsLeft input after
+less_left input rest line after h lines cut no_mark = record {
+  front = h.front ++ line;
+  cut = h.cut ∙ ap (λ l. h.front ++ l) cut ∙ sym (append_assoc h.front line after);
+  part = h.part ∙ ap (λ l. h.front ++ l) (ap before_mark lines ∙ before) ∙ sym (append_assoc h.front line (part_text after));
+  program = h.program ∙ ap behind_mark lines ∙ behind;
+}
+  where
+    before : before_mark (line ∷ raw_lines after) ≡ line ++ part_text after
+    before = ap (λ (b : Bool). if b then [] else (line ++ part_text after)) no_mark
+
+    behind : behind_mark (line ∷ raw_lines after) ≡ program_text after
+    behind = ap (λ (b : Bool). if b then flat_map (λ k. k) (raw_lines after) else program_text after) no_mark
+
+take_front : (xs ys : List ℕ) → take (length (xs ++ ys) - length ys) (xs ++ ys) ≡ xs
+take_front xs ys = (let l : length (xs ++ ys) - length ys ≡ length xs = omega (arith, length-append xs ys) in rw l (take_all_of xs ys))
+  where
+    take_all_of : (xs ys : List ℕ) → take (length xs) (xs ++ ys) ≡ xs
+    take_all_of [] ys = refl
+    take_all_of (x ∷ xs) ys = ap (λ l. x ∷ l) (take_all_of xs ys)
+
+-- at a mark
+pub part_at_mark : (input rest line after : List ℕ) → IsLeft input rest → raw_lines rest ≡ line ∷ raw_lines after → is_mark line ≡ true
+    → take (length input - length rest) input ≡ part_text input
+part_at_mark input rest line after h lines mark =
+    subst (λ i. take (length i - length rest) i ≡ h.front) (sym h.cut) (take_front h.front rest)
+    ∙ sym (h.part ∙ ap (λ l. h.front ++ l) (ap before_mark lines ∙ ap (λ (b : Bool). if b then [] else (line ++ part_text after)) mark) ∙ append-nil h.front)
+
+pub program_at_mark : (input rest line after : List ℕ) → IsLeft input rest → raw_lines rest ≡ line ∷ raw_lines after → is_mark line ≡ true → after ≡ program_text input
+program_at_mark input rest line after h lines mark =
+    sym (h.program ∙ ap behind_mark lines ∙ ap (λ (b : Bool). if b then flat_map (λ k. k) (raw_lines after) else program_text after) mark ∙ lines_all after)
+
+-- where there is none
+pub part_is_all : (input rest : List ℕ) → IsLeft input rest → rest ≡ [] → input ≡ part_text input
+part_is_all input rest h none =
+    h.cut ∙ ap (λ l. h.front ++ l) none ∙ sym (h.part ∙ ap (λ l. h.front ++ part_text l) none)
+
+pub no_program : (input rest : List ℕ) → IsLeft input rest → rest ≡ [] → [] ≡ program_text input
+no_program input rest h none = sym (h.program ∙ ap program_text none)

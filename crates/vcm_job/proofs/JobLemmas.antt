@@ -1,0 +1,184 @@
+-- From runs to the answers of jobs.
+use Rattle.std.proofs.Common.{◌≡◌, ℕ, zero, suc, ◌+◌, ◌<◌, ◌≤◌, List, [], ◌∷◌, length, take, Option, Some, None, Result, Ok, Err, refl, sym, ap, ◌∙◌, subst, arith, length-append}
+use Rattle.std.specs.Prelude.{IfSome}
+use Rattle.std.specs.Io.KnownBytes.{Appends, Consumes, Keeps}
+use Rattle.vcm_num.specs.Written.{AppendsFront}
+use Rattle.vcm_part.specs.PartFile.{part_of}
+use Rattle.vcm_spec.specs.Workpiece.{Workpiece}
+use Rattle.vcm_spec.specs.Setup.{Tables, Setup}
+use Rattle.vcm_spec.specs.World.{World}
+use Rattle.vcm_spec.specs.Table.{State, steps, effective}
+use Rattle.vcm_spec.proofs.Steps.{steps-effective}
+use Rattle.vcm_state.specs.Held.{Held}
+use Rattle.vcm_tree.specs.declared.program.Noticed.{Noticed}
+use Rattle.vcm_tree.specs.Program.{tables}
+use Rattle.vcm_run.specs.declared.run.End.{End}
+use Rattle.vcm_run.specs.declared.run.End.TheVariants as ends
+use Rattle.vcm_run.specs.declared.run.Refusal.{Refusal}
+use Rattle.vcm_run.specs.declared.run.Refusal.TheVariants.{Source, Part}
+use Rattle.vcm_run.specs.declared.run.Refusal.TheVariants as refusals
+use Rattle.vcm_run.specs.Run.{Ended}
+use Rattle.vcm_run.specs.Programs.{IsSummary, IsRefusal}
+use Rattle.vcm_run.specs.Summaries.{Shown}
+use Rattle.vcm_run.specs.Printed.{result_text}
+use Rattle.vcm_job.specs.declared.running.Done.{Done}
+use Rattle.vcm_job.specs.declared.running.JobFault.{JobFault}
+use Rattle.vcm_job.specs.declared.running.JobFault.TheVariants.{Refused, Memory, NoMemory, Read, Write, TooLong}
+use Rattle.vcm_job.specs.declared.reading.ReadFault.{ReadFault}
+use Rattle.vcm_job.specs.declared.reading.ReadFault.TheVariants as read_faults
+use Rattle.vcm_job.specs.Reading.{most_bytes, ReadsAtMost, ReadsLittle, IsReadFault}
+use Rattle.vcm_job.specs.Jobs.{most_steps, job_setup, start_of, held, part_text, program_text, status_of}
+use Rattle.vcm_job.specs.Results.{IsJobRun, IsHalted, IsJobRefusal, not_read, IsDone, IsCutOff, IsNotDone, AnswersLong}
+
+-- ---- what is known of an input
+
+pub too_long : (a b : Option (List ℕ)) (bytes : List ℕ) → Consumes a b bytes → 33554432 < length bytes → IfSome a (λ input. most_bytes < length input)
+unfolding most_bytes
+too_long None b bytes h l = tt
+too_long (Some x) None bytes h l = absurd h
+too_long (Some x) (Some y) bytes h l = (let e = ap length h in omega (arith, length-append bytes y))
+
+take_le : (n : ℕ) (xs : List ℕ) → length (take n xs) ≤ n
+take_le zero xs = omega arith
+take_le (suc n) [] = omega arith
+take_le (suc n) (x ∷ xs) = (let t = take_le n xs in omega arith)
+
+-- so many bytes were read, and then no more
+pub little : (a b c : Option (List ℕ)) (bytes : List ℕ) → Consumes a b bytes → Keeps b c → length bytes ≤ 33554433 → ReadsLittle a c
+unfolding most_bytes
+little None b c bytes h k l = tt
+little (Some x) None c bytes h k l = absurd h
+little (Some x) (Some y) None bytes h k l = absurd k
+little (Some x) (Some y) (Some z) bytes h k l = (let e = ap length h in let f = ap length k in omega (arith, length-append bytes y))
+
+-- so many bytes were read, and no more than an input may have
+pub few : (a b c : Option (List ℕ)) (bytes : List ℕ) → Consumes a b bytes → Keeps b c → length bytes ≤ 33554432 → ReadsAtMost most_bytes a c
+unfolding most_bytes
+few None b c bytes h k l = tt
+few (Some x) None c bytes h k l = absurd h
+few (Some x) (Some y) None bytes h k l = absurd k
+few (Some x) (Some y) (Some z) bytes h k l = (let e = ap length h in let f = ap length k in omega (arith, length-append bytes y))
+
+-- so many bytes were read, and then some more
+pub little_more : (a b c : Option (List ℕ)) (bytes buf : List ℕ) (n : ℕ) → Consumes a b bytes → Consumes b c (take n buf) → length bytes + n ≤ 33554433 → ReadsLittle a c
+unfolding most_bytes
+little_more None b c bytes buf n h k l = tt
+little_more (Some x) None c bytes buf n h k l = absurd h
+little_more (Some x) (Some y) None bytes buf n h k l = absurd k
+little_more (Some x) (Some y) (Some z) bytes buf n h k l =
+    (let e = ap length h in let f = ap length k in let t = take_le n buf in omega (arith, length-append bytes y, length-append (take n buf) z))
+
+pub known : (a : Option (List ℕ)) (P Q : List ℕ → Type 0) → IfSome a P → ((x : List ℕ) → P x → Q x) → IfSome a Q
+known None P Q h f = tt
+known (Some x) P Q h f = f x h
+
+-- ---- runs of as many steps as a job has
+
+pub steps_of_jobs : 1000000 ≡ most_steps
+unfolding most_steps
+steps_of_jobs = refl
+
+module _ (n : ℕ) (is : n ≡ most_steps) (input : List ℕ) (part : Workpiece) (part_is : part_of (part_text input) ≡ Ok part) (s : Shown)
+    (h : IsSummary part (program_text input) n s) where
+  abbrev setup : Setup
+  setup = job_setup part h.parsed
+
+  abbrev start : State
+  start = start_of part h.parsed
+
+  abbrev shown : Tables → World → Held
+  shown tables w = record { tables = tables; state = w }
+
+  -- the steps that were done lead to the state after n steps, and they are the effective ones
+  settled : (same : steps setup s.ran.done start ≡ steps setup n start) → s.ran.done ≡ effective setup n start → IsJobRun input s
+  settled same count =
+      let reached : s.held.state ≡ (steps setup n start).world = h.run.world_is ∙ ap (λ x. x.world) same in
+      record {
+        part = part;
+        parsed = h.parsed;
+        job = record { part_is = part_is; accepted = h.accepted };
+        notices = h.notices;
+        count = count ∙ ap (λ k. effective setup k start) is;
+        text = ap (λ t. result_text (shown t s.held.state) s.ran.done) h.tables_are
+            ∙ ap (λ w. result_text (shown (tables h.parsed) w) s.ran.done) reached
+            ∙ ap (λ d. result_text (held h.parsed (steps setup n start)) d) count
+            ∙ ap (λ k. result_text (held h.parsed (steps setup k start)) (effective setup k start)) is;
+        stop = ap (λ w. w.stop) reached ∙ ap (λ k. (steps setup k start).world.stop) is;
+      }
+
+  pub job_run : (s.ran.end ≡ ends.NoMemory → ⊥) → IsJobRun input s
+  job_run ample = by s.ran.end refl h.run.ended
+    where
+      by : (end : End) → s.ran.end ≡ end → Ended setup n start (steps setup s.ran.done start) s.ran.done end → IsJobRun input s
+      by ends.Stopped e (count, stop) = settled (ap (λ d. steps setup d start) count ∙ sym (steps-effective setup n start)) count
+      by ends.Count e (all, count, none) = settled (ap (λ d. steps setup d start) all) (all ∙ count)
+      by ends.NoMemory e x = absurd (ample e)
+
+  pub job_halted : s.ran.end ≡ ends.NoMemory → IsHalted input s.ran.done
+  job_halted e = record {
+    part = part;
+    parsed = h.parsed;
+    job = record { part_is = part_is; accepted = h.accepted };
+    halted = subst (λ k. Ended setup k start (steps setup s.ran.done start) s.ran.done ends.NoMemory) is
+        (subst (λ end. Ended setup n start (steps setup s.ran.done start) s.ran.done end) e h.run.ended);
+  }
+
+-- a refused program
+pub program_refused : (input : List ℕ) (part : Workpiece) (r : Refusal) → part_of (part_text input) ≡ Ok part → IsRefusal (program_text input) r → IsJobRefusal input (Refused r)
+program_refused input part (Source f) e h = ((part, e), h)
+program_refused input part (Part f) e h = absurd h
+program_refused input part refusals.NoMemory e h = ((part, e), h)
+
+-- ---- what was written
+
+module _ (a : Option (List ℕ)) (bytes : List ℕ) (all : IfSome a (λ input. bytes ≡ input)) (s : Shown) (run : IsJobRun bytes s) (old new : Option (List ℕ)) where
+  pub job_done : (status : ℕ) (notices : List Noticed) → status ≡ status_of s.held.state.stop → notices ≡ s.notices
+      → Appends old new (result_text s.held s.ran.done) → IfSome a (λ input. IsDone input status notices old new)
+  job_done status notices e f w = known a _ _ all (λ input is. subst (λ i. IsDone i status notices old new) is (record {
+    part = run.part;
+    parsed = run.parsed;
+    job = run.job;
+    status_is = e ∙ ap status_of run.stop;
+    notices_are = f ∙ run.notices;
+    written = subst (λ t. Appends old new t) run.text w;
+  }))
+
+  pub job_cut_off : AppendsFront old new (result_text s.held s.ran.done) → IfSome a (λ input. IsCutOff input s.ran.done old new)
+  job_cut_off w = known a _ _ all (λ input is. subst (λ i. IsCutOff i s.ran.done old new) is (record {
+    part = run.part;
+    parsed = run.parsed;
+    job = run.job;
+    count = run.count;
+    front = subst (λ t. AppendsFront old new t) run.text w;
+  }))
+
+-- ---- faults before anything is written
+
+pub none_read : (a b : Option (List ℕ)) (f : ReadFault) (old new : Option (List ℕ)) → IsReadFault a b f → Keeps old new → IsNotDone a b (not_read f) old new
+none_read a b read_faults.NoMemory old new h k = k
+none_read a b read_faults.Device old new h k = (h, k)
+none_read a b read_faults.TooLong old new h k = (h, k)
+
+pub not_run : (a b : Option (List ℕ)) (bytes : List ℕ) (f : JobFault) (old new : Option (List ℕ)) → IfSome a (λ input. bytes ≡ input) → IsJobRefusal bytes f → Keeps old new → IsNotDone a b f old new
+not_run a b bytes (Refused r) old new all h k = (known a _ _ all (λ input is. subst (λ i. IsJobRefusal i (Refused r)) is h), k)
+not_run a b bytes (Memory n) old new all h k = (known a _ _ all (λ input is. subst (λ i. IsJobRefusal i (Memory n)) is h), k)
+not_run a b bytes NoMemory old new all h k = absurd h
+not_run a b bytes Read old new all h k = absurd h
+not_run a b bytes (Write n) old new all h k = absurd h
+not_run a b bytes TooLong old new all h k = absurd h
+
+-- ---- inputs over their limit
+
+pub not_long : (bytes : List ℕ) → length bytes ≤ 33554432 → length bytes ≤ most_bytes
+unfolding most_bytes
+not_long bytes h = h
+
+pub read_whole : (a : Option (List ℕ)) (bytes : List ℕ) (answer : Result Done JobFault) → IfSome a (λ input. bytes ≡ input) → length bytes ≤ most_bytes → AnswersLong a answer
+read_whole None bytes answer all h = tt
+read_whole (Some x) bytes answer all h = λ l. absurd (let e = ap length all in omega arith)
+
+pub read_failed : (a b : Option (List ℕ)) (f : ReadFault) → IsReadFault a b f → AnswersLong a (Err (not_read f))
+read_failed None b f h = tt
+read_failed (Some x) b read_faults.NoMemory h = λ l. tt
+read_failed (Some x) b read_faults.Device h = λ l. tt
+read_failed (Some x) b read_faults.TooLong h = λ l. tt

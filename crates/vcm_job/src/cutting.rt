@@ -1,0 +1,55 @@
+//! The two texts of a job.
+
+ghost use Rattle.std.specs.Prelude.{◌≡◌, ◌<◌, ◌∷◌, ◌++◌, length, position, ◌==◌};
+ghost use Rattle.std.specs.Str.{bytes_eq};
+ghost use Rattle.vcm_job.specs.Jobs.{raw_lines, is_mark, part_text, program_text};
+
+// Where the first line feed stands.
+fn line_feed(text: &[u8]) -> Option<usize>
+    ensures { result ≡ position (λ b. b == 10) text.now }
+{
+    text.iter().position(|b| *b == b'\n')
+}
+
+// The first line with its line feed, and what stands behind it.
+fn first_line(text: &[u8]) -> (&[u8], &[u8])
+    requires { 0 < length text.now }
+    ensures lines { raw_lines text.now ≡ result.0.now ∷ raw_lines result.1.now }
+    ensures cut { text.now ≡ result.0.now ++ result.1.now }
+    ensures shorter { length result.1.now < length text.now }
+{
+    match line_feed(text) {
+        None => (text, &[]),
+        Some(end) => (&text[..end + 1], &text[end + 1..]),
+    }
+}
+
+// Whether a line has these bytes.
+fn is(line: &[u8], bytes: &[u8]) -> bool
+    ensures { result ≡ bytes_eq line.now bytes.now }
+{
+    line == bytes
+}
+
+// Whether a line is the mark between the two texts.
+fn is_mark(line: &[u8]) -> bool
+    ensures { result ≡ is_mark line.now }
+{
+    is(line, b"%%") || is(line, b"%%\n") || is(line, b"%%\r\n")
+}
+
+/// The part text of a job's input, and its program text, which is empty where no line is exactly `%%`.
+pub(crate) fn texts_of(input: &[u8]) -> (&[u8], &[u8])
+    ensures part { result.0.now ≡ part_text input.now }
+    ensures program { result.1.now ≡ program_text input.now }
+{
+    let mut rest = input;
+    while !rest.is_empty() {
+        let (line, after) = first_line(rest);
+        if is_mark(line) {
+            return (&input[..input.len() - rest.len()], after);
+        }
+        rest = after;
+    }
+    (input, &[])
+}

@@ -1,0 +1,21 @@
+//! The tests of the layers, each by itself: happy paths, and values that were worked out by hand.
+#![tactic(auto)]
+
+#[cfg(test)]
+mod expr_tests;
+#[cfg(test)]
+mod lines_tests;
+#[cfg(test)]
+mod motion_tests;
+#[cfg(test)]
+mod num_tests;
+#[cfg(test)]
+mod part_tests;
+#[cfg(test)]
+mod parts;
+#[cfg(test)]
+mod state_tests;
+#[cfg(test)]
+mod syntax_tests;
+#[cfg(test)]
+mod tree_tests;

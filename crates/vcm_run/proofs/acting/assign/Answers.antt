@@ -1,0 +1,23 @@
+use Rattle.std.proofs.Common.{refl, sym, subst, rules, FitsSigned, w64, to_z-of_z}
+use Rattle.std.proofs.lemmas.Result.{err_from_is_err_and}
+use Rattle.vcm_state.specs.Carried.{setup_of, Carried}
+use Rattle.vcm_run.proofs.Evaluating.{value_fault, value_given}
+use Rattle.vcm_run.proofs.acting.assign.Goals as goal
+
+pub returns-in_err-value-clause-carried : goal.returns-in_err-value-clause-carried
+returns-in_err-value-clause-carried g c =
+    let p = err_from_is_err_and c.from_residual.result c.from_residual.ensures.1 in
+    rw (p.1, p.2) (
+      value_fault (setup_of (g.P.Part.part c.args.part.now) c.args.world.now.tables) c.args.world.now.state c.args.variable c.args.e.now _ c.in_err-value.ensures.answer,
+      refl,
+    )
+
+pub returns-clause-carried : goal.returns-clause-carried
+returns-clause-carried g c =
+    let given = value_given (setup_of (g.P.Part.part c.args.part.now) c.args.world.now.tables) c.args.world.now.state c.args.variable c.args.e.now _ c.in_ok-value.ensures.answer in
+    let fv : FitsSigned w64 c.in_ok-value.value = search rules in
+    subst (λ o. Carried o c.args.world.now.state c.assign.new.self.state c.assign.result) (sym given)
+    (rw (to_z-of_z fv) at (c.assign.ensures (g.P.Part.part c.args.part.now)).0)
+
+pub returns-clause-tables : goal.returns-clause-tables
+returns-clause-tables g c = (c.assign.ensures (g.P.Part.part c.args.part.now)).1

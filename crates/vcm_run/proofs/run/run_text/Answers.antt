@@ -1,0 +1,5 @@
+use Rattle.vcm_run.proofs.Refusing.{text_refused}
+use Rattle.vcm_run.proofs.run.run_text.Goals as goal
+
+pub returns-in-Err-clause-refused : goal.returns-in-Err-clause-refused
+returns-in-Err-clause-refused g c = text_refused c.args.program.now c.in-Err.fault c.in-Err.ensures.refused

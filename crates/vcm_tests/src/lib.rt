@@ -1,0 +1,13 @@
+//! The tests of runs, jobs and commands, from their texts.
+#![tactic(auto)]
+
+#[cfg(test)]
+mod command_tests;
+#[cfg(test)]
+mod fault_tests;
+#[cfg(test)]
+mod job_tests;
+#[cfg(test)]
+mod run_tests;
+#[cfg(test)]
+mod texts;

@@ -1,0 +1,210 @@
+-- Blocks that are put together: what is written, one statement more at a time.
+use Rattle.std.proofs.Common.{◌≡◌, ℕ, suc, ◌≤◌, ◌<◌, Bool, true, false, List, [], ◌∷◌, ◌++◌, length, Result, Ok, Err, refl, sym, ap, ◌∙◌, append_assoc, arith, nat_lt}
+use Rattle.std.proofs.lemmas.List.{append-nil}
+use Rattle.vcm_lines.specs.declared.fault.FaultCode.{FaultCode}
+use Rattle.vcm_lines.specs.declared.fault.FaultCode.TheVariants.{Unbalanced}
+use Rattle.vcm_spec.specs.Expression.{Tree}
+use Rattle.vcm_spec.specs.Program.{Label, Node, Block, done, then, choice, choice_else, do_loop, ending}
+use Rattle.vcm_tree.specs.declared.builder.Head.{Head}
+use Rattle.vcm_tree.specs.declared.builder.Head.TheVariants.{First, Second, Body}
+use Rattle.vcm_tree.specs.declared.builder.Open.{Open}
+use Rattle.vcm_tree.specs.declared.builder.Builder.{Builder}
+use Rattle.vcm_tree.specs.Nodes.{snoc}
+use Rattle.vcm_tree.specs.Pieces.{Step, Piece, piece, Tests, Divides, EndsTest, EndsRepeat, Ends, node_pieces, pieces}
+use Rattle.vcm_tree.specs.Resolving.{Opened, room, room_by, nested, then_ok, labels_after, divided, test_ended, repeat_ended, ended, blocks_after}
+use Rattle.vcm_tree.specs.Building.{opened_by, blocks_of, head_pieces, opens_pieces, written, Reads}
+
+-- ---- lists
+
+pub regroup : {X : Type 0} (as' bs cs ds es : List X) → as' ++ (bs ++ (cs ++ (ds ++ es))) ≡ ((as' ++ (bs ++ cs)) ++ ds) ++ es
+regroup [] [] [] ds es = refl
+regroup [] [] (c ∷ cs) ds es = ap (λ l. c ∷ l) (regroup [] [] cs ds es)
+regroup [] (b ∷ bs) cs ds es = ap (λ l. b ∷ l) (regroup [] bs cs ds es)
+regroup (a ∷ as') bs cs ds es = ap (λ l. a ∷ l) (regroup as' bs cs ds es)
+
+pub pieces_push : (b : Block) (n : Node) → pieces (snoc b n) ≡ pieces b ++ node_pieces n
+pieces_push done n = append-nil (node_pieces n)
+pieces_push (then m b) n = ap (λ l. node_pieces m ++ l) (pieces_push b n) ∙ sym (append_assoc (node_pieces m) (pieces b) (node_pieces n))
+
+pub blocks_push : (os : List Open) (o : Open) → blocks_of (os ++ o ∷ []) ≡ opened_by o.head ∷ blocks_of os
+blocks_push [] o = refl
+blocks_push (p ∷ os) o = ap (λ l. l ++ opened_by p.head ∷ []) (blocks_push os o)
+
+pub blocks_length : (os : List Open) → length (blocks_of os) ≡ length os
+blocks_length [] = refl
+blocks_length (o ∷ os) = longer (blocks_of os) (opened_by o.head) (length os) (blocks_length os)
+  where
+    longer : (bs : List Opened) (b : Opened) (n : ℕ) → length bs ≡ n → length (bs ++ b ∷ []) ≡ suc n
+    longer [] b n e = ap suc e
+    longer (c ∷ bs) b n e = ap suc (longer bs b (length bs) refl) ∙ ap suc e
+
+opens_push : (os : List Open) (o : Open) → opens_pieces (os ++ o ∷ []) ≡ opens_pieces os ++ (pieces o.outer ++ head_pieces o.head)
+opens_push [] o = append-nil (pieces o.outer ++ head_pieces o.head)
+opens_push (p ∷ os) o =
+    ap (λ l. (pieces p.outer ++ head_pieces p.head) ++ l) (opens_push os o)
+    ∙ sym (append_assoc (pieces p.outer ++ head_pieces p.head) (opens_pieces os) (pieces o.outer ++ head_pieces o.head))
+
+-- ---- what is written
+
+-- with these open blocks and this innermost one
+abbrev wrote : List Open → Block → List Piece
+wrote os b = opens_pieces os ++ pieces b
+
+-- one node more
+pub added : (old new : Builder) (n : Node) → new.opens.items ≡ old.opens.items → new.block ≡ snoc old.block n → written new ≡ written old ++ node_pieces n
+added old new n same more =
+    ap (λ os. wrote os new.block) same ∙ ap (wrote old.opens.items) more ∙ ap (λ l. opens_pieces old.opens.items ++ l) (pieces_push old.block n)
+    ∙ sym (append_assoc (opens_pieces old.opens.items) (pieces old.block) (node_pieces n))
+
+-- one open block more
+pub opened : (old new : Builder) (head : Head) → new.opens.items ≡ old.opens.items ++ record { outer = old.block; head = head } ∷ [] → new.block ≡ done
+    → written new ≡ written old ++ head_pieces head
+opened old new head more none =
+    ap (λ os. wrote os new.block) more ∙ ap (wrote (old.opens.items ++ record { outer = old.block; head = head } ∷ [])) none
+    ∙ append-nil (opens_pieces (old.opens.items ++ record { outer = old.block; head = head } ∷ []))
+    ∙ opens_push old.opens.items (record { outer = old.block; head = head })
+    ∙ sym (append_assoc (opens_pieces old.opens.items) (pieces old.block) (head_pieces head))
+
+module _ (os : List Open) (o : Open) (old new : Builder) (was : old.opens.items ≡ os ++ o ∷ []) where
+  -- what was written before the innermost block closes
+  before_close : written old ≡ (opens_pieces os ++ (pieces o.outer ++ head_pieces o.head)) ++ pieces old.block
+  before_close = ap (λ l. wrote l old.block) was ∙ ap (λ l. l ++ pieces old.block) (opens_push os o)
+
+  -- the innermost block closes
+  closed : (n : Node) (p : Piece) → new.opens.items ≡ os → new.block ≡ snoc o.outer n → node_pieces n ≡ head_pieces o.head ++ (pieces old.block ++ p ∷ [])
+      → written new ≡ written old ++ p ∷ []
+  closed n p same more writes =
+      ap (λ l. wrote l new.block) same ∙ ap (wrote os) more ∙ ap (λ l. opens_pieces os ++ l) (pieces_push o.outer n ∙ ap (λ l. pieces o.outer ++ l) writes)
+      ∙ regroup (opens_pieces os) (pieces o.outer) (head_pieces o.head) (pieces old.block) (p ∷ [])
+      ∙ ap (λ l. l ++ p ∷ []) (sym before_close)
+
+  -- the innermost block makes way for another one
+  turned : (head : Head) (p : Piece) → new.opens.items ≡ os ++ record { outer = o.outer; head = head } ∷ [] → new.block ≡ done
+      → head_pieces head ≡ head_pieces o.head ++ (pieces old.block ++ p ∷ []) → written new ≡ written old ++ p ∷ []
+  turned head p more none writes =
+      ap (λ l. wrote l new.block) more ∙ ap (wrote (os ++ record { outer = o.outer; head = head } ∷ [])) none
+      ∙ append-nil (opens_pieces (os ++ record { outer = o.outer; head = head } ∷ []))
+      ∙ opens_push os (record { outer = o.outer; head = head })
+      ∙ ap (λ l. opens_pieces os ++ (pieces o.outer ++ l)) writes
+      ∙ regroup (opens_pieces os) (pieces o.outer) (head_pieces o.head) (pieces old.block) (p ∷ [])
+      ∙ ap (λ l. l ++ p ∷ []) (sym before_close)
+
+  innermost : (h : Head) → o.head ≡ h → blocks_of old.opens.items ≡ opened_by h ∷ blocks_of os
+  innermost h e = ap blocks_of was ∙ blocks_push os o ∙ ap (λ x. opened_by x ∷ blocks_of os) e
+
+  pub reads_divide : (line start : ℕ) (test : Tree) → o.head ≡ First start test
+      → new.opens.items ≡ os ++ record { outer = o.outer; head = Second start test old.block line } ∷ [] → new.block ≡ done
+      → Reads (divided (blocks_of old.opens.items)) line old new
+  reads_divide line start test e more none = record {
+    step = Divides;
+    is = ap divided (innermost (First start test) e);
+    pieces = turned (Second start test old.block line) (piece line Divides) more none (sym (ap (λ h. head_pieces h ++ (pieces old.block ++ piece line Divides ∷ [])) e));
+    blocks =
+        ap blocks_of more ∙ blocks_push os (record { outer = o.outer; head = Second start test old.block line })
+        ∙ sym (ap (λ bs. blocks_after bs Divides) (innermost (First start test) e));
+    labels = λ ls. refl;
+  }
+
+  pub reads_test_end : (line start : ℕ) (test : Tree) → o.head ≡ First start test → new.opens.items ≡ os → new.block ≡ snoc o.outer (choice start test old.block line)
+      → Reads (test_ended (blocks_of old.opens.items)) line old new
+  reads_test_end line start test e same more = record {
+    step = EndsTest;
+    is = ap test_ended (innermost (First start test) e);
+    pieces = closed (choice start test old.block line) (piece line EndsTest) same more (sym (ap (λ h. head_pieces h ++ (pieces old.block ++ piece line EndsTest ∷ [])) e));
+    blocks = ap blocks_of same ∙ sym (ap (λ bs. blocks_after bs EndsTest) (innermost (First start test) e));
+    labels = λ ls. refl;
+  }
+
+  pub reads_else_end : (line start mid : ℕ) (test : Tree) (first : Block) → o.head ≡ Second start test first mid → new.opens.items ≡ os
+      → new.block ≡ snoc o.outer (choice_else start test first mid old.block line) → Reads (test_ended (blocks_of old.opens.items)) line old new
+  reads_else_end line start mid test first e same more =
+      let h : Head = Second start test first mid in
+      let after = pieces old.block ++ piece line EndsTest ∷ [] in
+      let regrouped : node_pieces (choice_else start test first mid old.block line) ≡ head_pieces h ++ after =
+      ap (λ l. piece start (Tests test) ∷ l) (sym (append_assoc (pieces first) (piece mid Divides ∷ []) after)) in
+      record {
+        step = EndsTest;
+        is = ap test_ended (innermost h e);
+        pieces = closed (choice_else start test first mid old.block line) (piece line EndsTest) same more (regrouped ∙ sym (ap (λ x. head_pieces x ++ after) e));
+        blocks = ap blocks_of same ∙ sym (ap (λ bs. blocks_after bs EndsTest) (innermost h e));
+        labels = λ ls. refl;
+      }
+
+  pub reads_repeat_end : (line start v : ℕ) (a b c : Tree) → o.head ≡ Body start v a b c → new.opens.items ≡ os
+      → new.block ≡ snoc o.outer (do_loop start v a b c old.block line) → Reads (repeat_ended (blocks_of old.opens.items)) line old new
+  reads_repeat_end line start v a b c e same more = record {
+    step = EndsRepeat;
+    is = ap repeat_ended (innermost (Body start v a b c) e);
+    pieces = closed (do_loop start v a b c old.block line) (piece line EndsRepeat) same more (sym (ap (λ h. head_pieces h ++ (pieces old.block ++ piece line EndsRepeat ∷ [])) e));
+    blocks = ap blocks_of same ∙ sym (ap (λ bs. blocks_after bs EndsRepeat) (innermost (Body start v a b c) e));
+    labels = λ ls. refl;
+  }
+
+  abbrev failed : Result Step FaultCode
+  failed = Err Unbalanced
+
+  -- an end, or ELSE, that doesn't fit the innermost block
+  pub divide_fails : (h : Head) → o.head ≡ h → divided (opened_by h ∷ blocks_of os) ≡ failed → divided (blocks_of old.opens.items) ≡ failed
+  divide_fails h e f = ap divided (innermost h e) ∙ f
+
+  pub test_end_fails : (h : Head) → o.head ≡ h → test_ended (opened_by h ∷ blocks_of os) ≡ failed → test_ended (blocks_of old.opens.items) ≡ failed
+  test_end_fails h e f = ap test_ended (innermost h e) ∙ f
+
+  pub repeat_end_fails : (h : Head) → o.head ≡ h → repeat_ended (opened_by h ∷ blocks_of os) ≡ failed → repeat_ended (blocks_of old.opens.items) ≡ failed
+  repeat_end_fails h e f = ap repeat_ended (innermost h e) ∙ f
+
+-- ENDFIL outside all blocks
+pub reads_end : (line : ℕ) (old new : Builder) → old.opens.items ≡ [] → new.opens.items ≡ old.opens.items → new.block ≡ snoc old.block (ending line)
+    → Reads (ended (blocks_of old.opens.items)) line old new
+reads_end line old new none same more = record {
+  step = Ends;
+  is = ap (λ os. ended (blocks_of os)) none;
+  pieces = added old new (ending line) same more;
+  blocks = ap blocks_of same;
+  labels = λ ls. refl;
+}
+
+pub end_fails : (os : List Open) (n : ℕ) → length os ≡ n → 0 < n → ended (blocks_of os) ≡ Err Unbalanced
+end_fails [] n e l = absurd (omega (arith, e, l))
+end_fails (o ∷ os) n e l = some (blocks_of os) (opened_by o.head)
+  where
+    some : (bs : List Opened) (b : Opened) → ended (bs ++ b ∷ []) ≡ Err Unbalanced
+    some [] b = refl
+    some (c ∷ bs) b = refl
+
+room_true : (b : Bool) → b ≡ true → room_by b ≡ Ok tt
+room_true true e = refl
+room_true false e = absurd cc
+
+room_false : (b : Bool) → b ≡ false → room_by b ≡ Err Unbalanced
+room_false false e = refl
+room_false true e = absurd cc
+
+pub has_room : (os : List Open) → length os < 32 → room (blocks_of os) ≡ Ok tt
+has_room os l = room_true (nat_lt (length (blocks_of os)) 32) (let e = blocks_length os in grind (arith, e))
+
+pub no_room : (os : List Open) → 32 ≤ length os → room (blocks_of os) ≡ Err Unbalanced
+no_room os l = room_false (nat_lt (length (blocks_of os)) 32) (let e = blocks_length os in grind (arith, e))
+
+-- a node that is one statement
+pub reads_node : (old new : Builder) (n : Node) (line : ℕ) (step : Step) → new.opens.items ≡ old.opens.items → new.block ≡ snoc old.block n → node_pieces n ≡ piece line step ∷ []
+    → ((bs : List Opened) → blocks_after bs step ≡ bs) → ((ls : List Label) → labels_after ls step ≡ ls) → Reads (Ok step) line old new
+reads_node old new n line step same more writes inside unmarked = record {
+  step = step;
+  is = refl;
+  pieces = added old new n same more ∙ ap (λ l. written old ++ l) writes;
+  blocks = ap blocks_of same ∙ sym (inside (blocks_of old.opens.items));
+  labels = unmarked;
+}
+
+-- a block that is opened
+pub reads_nested : (old new : Builder) (r : Result Step FaultCode) (head : Head) (line : ℕ) (step : Step) → room (blocks_of old.opens.items) ≡ Ok tt → r ≡ Ok step
+    → new.opens.items ≡ old.opens.items ++ record { outer = old.block; head = head } ∷ [] → new.block ≡ done → head_pieces head ≡ piece line step ∷ []
+    → ((bs : List Opened) → blocks_after bs step ≡ opened_by head ∷ bs) → ((ls : List Label) → labels_after ls step ≡ ls) → Reads (nested (blocks_of old.opens.items) r) line old new
+reads_nested old new r head line step room_is r_is more none writes inside unmarked = record {
+  step = step;
+  is = ap (λ q. then_ok q (λ _. r)) room_is ∙ r_is;
+  pieces = opened old new head more none ∙ ap (λ l. written old ++ l) writes;
+  blocks = ap blocks_of more ∙ blocks_push old.opens.items (record { outer = old.block; head = head }) ∙ sym (inside (blocks_of old.opens.items));
+  labels = unmarked;
+}

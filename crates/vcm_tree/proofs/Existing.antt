@@ -1,0 +1,279 @@
+-- Statements that break no rule of names and blocks are a program.
+use Rattle.std.proofs.Common.{◌≡◌, ℕ, Bool, true, false, List, [], ◌∷◌, ◌++◌, Result, Ok, Err, refl, sym, ap, ◌∙◌, subst, append_assoc}
+use Rattle.std.specs.Prelude.{IsTrue, if◌then◌else◌}
+use Rattle.std.specs.List.{list_any}
+use Rattle.std.proofs.lemmas.List.{append-nil}
+use Rattle.vcm_lines.specs.declared.fault.FaultCode.{FaultCode}
+use Rattle.vcm_lines.specs.declared.fault.FaultCode.TheVariants.{DuplicateName}
+use Rattle.vcm_spec.specs.Phase.{IsClean}
+use Rattle.vcm_spec.specs.Expression.{Tree}
+use Rattle.vcm_spec.specs.Simple.{Simple, GoHome, Text}
+use Rattle.vcm_spec.specs.Program.{Label, is_same_label, Node, Block, simple, label, jump, choice, choice_else, do_loop, ending, done}
+use Rattle.vcm_expr.specs.Names.{Variable}
+use Rattle.vcm_expr.specs.Typing.{typed_for}
+use Rattle.vcm_expr.specs.declared.typing.Want.TheVariants as wants
+use Rattle.vcm_syntax.specs.declared.statement.Rounds.{Rounds}
+use Rattle.vcm_syntax.specs.declared.statement.Form.{Form}
+use Rattle.vcm_syntax.specs.declared.statement.Form.TheVariants.{Opening, Measures as Units, Ignored, Declaration, Assignment, Move, Home, Say, Test, Otherwise, TestEnd, Repeat, RepeatEnd, Mark, Leap, Ending}
+use Rattle.vcm_syntax.specs.declared.statement.Statement.{Statement}
+use Rattle.vcm_tree.specs.Order.{is_ended}
+use Rattle.vcm_tree.specs.Nodes.{snoc}
+use Rattle.vcm_tree.specs.Pieces.{Step, Piece, piece, Does, Marks, Leaps, Tests, Divides, EndsTest, Repeats, EndsRepeat, Measures, EndsMeasure, Ends, node_pieces, pieces}
+use Rattle.vcm_tree.specs.Program.{Parsed, IsParsed, notices_of}
+use Rattle.vcm_tree.specs.Resolving.{Behind, Opened, InFirst, InSecond, InBody, InMeasure, Meaning, Declares, then_ok, with_all, assigned, moved, room, nested, tested, indexed, increment_of, repeated, divided, test_ended, repeat_ended, ended, marked, label_of, does, counts, resolved, blocks_after, behind_by, behind_one, behind_all, start, pieces_by, pieces_from, BreaksNames}
+use Rattle.vcm_tree.proofs.Walking.{AllMean, all_mean, last_shuts}
+use Rattle.vcm_tree.proofs.Builders.{pieces_push, regroup}
+
+-- ---- a statement fits the blocks that are open
+
+abbrev FitDivides : List Opened → Type 0
+FitDivides (InFirst ∷ bs) = Unit {0}
+FitDivides _ = ⊥
+
+abbrev FitTestEnd : List Opened → Type 0
+FitTestEnd (InFirst ∷ bs) = Unit {0}
+FitTestEnd (InSecond ∷ bs) = Unit {0}
+FitTestEnd _ = ⊥
+
+abbrev FitRepeatEnd : List Opened → Type 0
+FitRepeatEnd (InBody ∷ bs) = Unit {0}
+FitRepeatEnd _ = ⊥
+
+abbrev Fit : List Opened → Step → Type 0
+Fit bs Divides = FitDivides bs
+Fit bs EndsTest = FitTestEnd bs
+Fit bs EndsRepeat = FitRepeatEnd bs
+Fit bs (Measures f) = ⊥
+Fit bs EndsMeasure = ⊥
+Fit bs _ = Unit {0}
+
+abbrev FitResult : List Opened → Result Step FaultCode → Type 0
+FitResult bs (Ok s) = Fit bs s
+FitResult bs (Err e) = Unit {0}
+
+does_fit : (bs : List Opened) (r : Result (Simple Tree) FaultCode) → FitResult bs (does r)
+does_fit bs (Ok what) = tt
+does_fit bs (Err e) = tt
+
+divided_fit : (bs : List Opened) → FitResult bs (divided bs)
+divided_fit [] = tt
+divided_fit (InFirst ∷ bs) = tt
+divided_fit (InSecond ∷ bs) = tt
+divided_fit (InBody ∷ bs) = tt
+divided_fit (InMeasure ∷ bs) = tt
+
+test_ended_fit : (bs : List Opened) → FitResult bs (test_ended bs)
+test_ended_fit [] = tt
+test_ended_fit (InFirst ∷ bs) = tt
+test_ended_fit (InSecond ∷ bs) = tt
+test_ended_fit (InBody ∷ bs) = tt
+test_ended_fit (InMeasure ∷ bs) = tt
+
+repeat_ended_fit : (bs : List Opened) → FitResult bs (repeat_ended bs)
+repeat_ended_fit [] = tt
+repeat_ended_fit (InFirst ∷ bs) = tt
+repeat_ended_fit (InSecond ∷ bs) = tt
+repeat_ended_fit (InBody ∷ bs) = tt
+repeat_ended_fit (InMeasure ∷ bs) = tt
+
+ended_fit : (bs cs : List Opened) → FitResult cs (ended bs)
+ended_fit [] cs = tt
+ended_fit (b ∷ bs) cs = tt
+
+then_fit : {A : Type 0} (bs : List Opened) (r : Result A FaultCode) (go : A → Result Step FaultCode) → ((a : A) → FitResult bs (go a)) → FitResult bs (then_ok r go)
+then_fit bs (Ok a) go u = u a
+then_fit bs (Err e) go u = tt
+
+marked_fit : (bs : List Opened) (ls : List Label) (l : Label) → FitResult bs (marked ls l)
+marked_fit bs ls l = by (list_any (is_same_label l) ls)
+  where
+    by : (b : Bool) → FitResult bs (if b then Err DuplicateName else Ok (Marks l))
+    by true = tt
+    by false = tt
+
+repeated_fit : (bs : List Opened) (vs : List Variable) (r : Rounds) → FitResult bs (repeated vs r)
+repeated_fit bs vs r =
+    then_fit bs (indexed vs r.variable) _ (λ i. then_fit bs (typed_for vs wants.Int r.initial) _ (λ a. then_fit bs (typed_for vs wants.Int r.limit) _ (λ b.
+    then_fit bs (increment_of vs r.increment) (λ c. Ok (Repeats i a b c)) (λ c. tt))))
+
+-- ---- blocks that are open, the innermost first
+
+-- what opened a block, and the nodes before it in the block around it
+data Around : Type 0 where
+  AroundFirst : (outer : Block) (line : ℕ) (test : Tree) → Around
+  AroundSecond : (outer : Block) (line : ℕ) (test : Tree) (first : Block) (mid : ℕ) → Around
+  AroundBody : (outer : Block) (line v : ℕ) (a b c : Tree) → Around
+
+abbrev kind : Around → Opened
+kind (AroundFirst out line test) = InFirst
+kind (AroundSecond out line test first mid) = InSecond
+kind (AroundBody out line v x y z) = InBody
+
+abbrev kinds : List Around → List Opened
+kinds [] = []
+kinds (a ∷ as') = kind a ∷ kinds as'
+
+abbrev outer_pieces : Around → List Piece
+outer_pieces (AroundFirst out line test) = pieces out
+outer_pieces (AroundSecond out line test first mid) = pieces out
+outer_pieces (AroundBody out line v x y z) = pieces out
+
+abbrev opener_pieces : Around → List Piece
+opener_pieces (AroundFirst out line test) = piece line (Tests test) ∷ []
+opener_pieces (AroundSecond out line test first mid) = piece line (Tests test) ∷ (pieces first ++ piece mid Divides ∷ [])
+opener_pieces (AroundBody out line v x y z) = piece line (Repeats v x y z) ∷ []
+
+abbrev before : List Around → List Piece
+before [] = []
+before (a ∷ as') = before as' ++ (outer_pieces a ++ opener_pieces a)
+
+abbrev wrote : List Around → Block → List Piece
+wrote as' b = before as' ++ pieces b
+
+-- what comes behind one statement more
+record Grows (as' : List Around) (b : Block) (line : ℕ) (s : Step) : Type 0 where
+  opens : List Around
+  block : Block
+  writes : wrote opens block ≡ wrote as' b ++ piece line s ∷ []
+  around : kinds opens ≡ blocks_after (kinds as') s
+
+node_more : (as' : List Around) (b : Block) (line : ℕ) (s : Step) (n : Node) → node_pieces n ≡ piece line s ∷ [] → kinds as' ≡ blocks_after (kinds as') s → Grows as' b line s
+node_more as' b line s n e k = record {
+  opens = as';
+  block = snoc b n;
+  writes = ap (λ l. before as' ++ l) (pieces_push b n ∙ ap (λ l. pieces b ++ l) e) ∙ sym (append_assoc (before as') (pieces b) (piece line s ∷ []));
+  around = k;
+}
+
+opening : (as' : List Around) (b : Block) (line : ℕ) (s : Step) (a : Around) → outer_pieces a ≡ pieces b → opener_pieces a ≡ piece line s ∷ [] → kind a ∷ kinds as' ≡ blocks_after (kinds as') s
+    → Grows as' b line s
+opening as' b line s a o e k = record {
+  opens = a ∷ as';
+  block = done;
+  writes =
+      append-nil (before as' ++ (outer_pieces a ++ opener_pieces a)) ∙ ap (λ l. before as' ++ (l ++ opener_pieces a)) o ∙ ap (λ l. before as' ++ (pieces b ++ l)) e
+      ∙ sym (append_assoc (before as') (pieces b) (piece line s ∷ []));
+  around = k;
+}
+
+closing : (out : Block) (a : Around) (as' : List Around) (b : Block) (line : ℕ) (s : Step) (n : Node) → outer_pieces a ≡ pieces out → node_pieces n ≡ opener_pieces a ++ (pieces b ++ piece line s ∷ [])
+    → kinds as' ≡ blocks_after (kinds (a ∷ as')) s → Grows (a ∷ as') b line s
+closing out a as' b line s n o e k = record {
+  opens = as';
+  block = snoc out n;
+  writes =
+      ap (λ l. before as' ++ l) (pieces_push out n ∙ ap (λ l. pieces out ++ l) e ∙ ap (λ l. l ++ (opener_pieces a ++ (pieces b ++ piece line s ∷ []))) (sym o))
+      ∙ regroup (before as') (outer_pieces a) (opener_pieces a) (pieces b) (piece line s ∷ []);
+  around = k;
+}
+
+divide : (as' : List Around) (b : Block) (line : ℕ) → Fit (kinds as') Divides → Grows as' b line Divides
+divide [] b line f = absurd f
+divide (AroundFirst out from test ∷ as') b line f = record {
+  opens = AroundSecond out from test b line ∷ as';
+  block = done;
+  writes =
+      append-nil (before as' ++ (pieces out ++ opener_pieces (AroundSecond out from test b line)))
+      ∙ regroup (before as') (pieces out) (opener_pieces (AroundFirst out from test)) (pieces b) (piece line Divides ∷ []);
+  around = refl;
+}
+divide (AroundSecond out from test first mid ∷ as') b line f = absurd f
+divide (AroundBody out from v x y z ∷ as') b line f = absurd f
+
+end_test : (as' : List Around) (b : Block) (line : ℕ) → Fit (kinds as') EndsTest → Grows as' b line EndsTest
+end_test [] b line f = absurd f
+end_test (AroundFirst out from test ∷ as') b line f = closing out (AroundFirst out from test) as' b line EndsTest (choice from test b line) refl refl refl
+end_test (AroundSecond out from test first mid ∷ as') b line f =
+    closing out (AroundSecond out from test first mid) as' b line EndsTest (choice_else from test first mid b line) refl
+    (ap (λ l. piece from (Tests test) ∷ l) (sym (append_assoc (pieces first) (piece mid Divides ∷ []) (pieces b ++ piece line EndsTest ∷ [])))) refl
+end_test (AroundBody out from v x y z ∷ as') b line f = absurd f
+
+end_repeat : (as' : List Around) (b : Block) (line : ℕ) → Fit (kinds as') EndsRepeat → Grows as' b line EndsRepeat
+end_repeat [] b line f = absurd f
+end_repeat (AroundFirst out from test ∷ as') b line f = absurd f
+end_repeat (AroundSecond out from test first mid ∷ as') b line f = absurd f
+end_repeat (AroundBody out from v x y z ∷ as') b line f = closing out (AroundBody out from v x y z) as' b line EndsRepeat (do_loop from v x y z b line) refl refl refl
+
+grow : (as' : List Around) (b : Block) (line : ℕ) (s : Step) → Fit (kinds as') s → Grows as' b line s
+grow as' b line (Does what) f = node_more as' b line (Does what) (simple line what) refl refl
+grow as' b line (Marks l) f = node_more as' b line (Marks l) (label line l) refl refl
+grow as' b line (Leaps l) f = node_more as' b line (Leaps l) (jump line l) refl refl
+grow as' b line (Tests t) f = opening as' b line (Tests t) (AroundFirst b line t) refl refl refl
+grow as' b line Divides f = divide as' b line f
+grow as' b line EndsTest f = end_test as' b line f
+grow as' b line (Repeats v x y z) f = opening as' b line (Repeats v x y z) (AroundBody b line v x y z) refl refl refl
+grow as' b line EndsRepeat f = end_repeat as' b line f
+grow as' b line (Measures g) f = absurd f
+grow as' b line EndsMeasure f = absurd f
+grow as' b line Ends f = node_more as' b line Ends (ending line) refl refl
+
+-- ---- all statements
+
+-- what comes behind statements
+record Reaches (as' : List Around) (b : Block) (ps : List Piece) (bs : List Opened) : Type 0 where
+  opens : List Around
+  block : Block
+  writes : wrote opens block ≡ wrote as' b ++ ps
+  around : kinds opens ≡ bs
+
+reach_none : (as' : List Around) (b : Block) (bs : List Opened) → kinds as' ≡ bs → Reaches as' b [] bs
+reach_none as' b bs k = record { opens = as'; block = b; writes = sym (append-nil (wrote as' b)); around = k }
+
+reach_one : (as' : List Around) (x : Block) (b : Behind) (line : ℕ) (r : Result Step FaultCode) (m : Meaning) → counts r ≡ Ok m → FitResult b.blocks r → kinds as' ≡ b.blocks
+    → Reaches as' x (pieces_by line (counts r)) (behind_by b (counts r)).blocks
+reach_one as' x b line (Ok s) m e f k =
+    let g = grow as' x line s (subst (λ bs. Fit bs s) (sym k) f) in
+    record { opens = g.opens; block = g.block; writes = g.writes; around = g.around ∙ ap (λ bs. blocks_after bs s) k }
+reach_one as' x b line (Err c) m e f k = absurd cc
+
+reach_declares : (as' : List Around) (x : Block) (b : Behind) (line : ℕ) (r : Result (List Variable) FaultCode) → kinds as' ≡ b.blocks
+    → Reaches as' x (pieces_by line (then_ok r (λ ws. Ok (Declares ws)))) (behind_by b (then_ok r (λ ws. Ok (Declares ws)))).blocks
+reach_declares as' x b line (Ok ws) k = reach_none as' x b.blocks k
+reach_declares as' x b line (Err c) k = reach_none as' x b.blocks k
+
+reach_by : (as' : List Around) (x : Block) (b : Behind) (line : ℕ) (form : Form) (m : Meaning) → resolved b form ≡ Ok m → kinds as' ≡ b.blocks
+    → Reaches as' x (pieces_by line (resolved b form)) (behind_by b (resolved b form)).blocks
+reach_by as' x b line Opening m e k = reach_none as' x b.blocks k
+reach_by as' x b line Units m e k = reach_none as' x b.blocks k
+reach_by as' x b line (Ignored w) m e k = reach_none as' x b.blocks k
+reach_by as' x b line (Declaration kd names) m e k = reach_declares as' x b line (with_all b.variables kd names) k
+reach_by as' x b line (Assignment n v) m e k = reach_one as' x b line (does (assigned b.variables n v)) m e (does_fit b.blocks (assigned b.variables n v)) k
+reach_by as' x b line (Move p) m e k = reach_one as' x b line (does (moved b.variables p.x p.y p.z)) m e (does_fit b.blocks (moved b.variables p.x p.y p.z)) k
+reach_by as' x b line Home m e k = reach_one as' x b line (Ok (Does GoHome)) m e tt k
+reach_by as' x b line (Say t) m e k = reach_one as' x b line (Ok (Does (Text t))) m e tt k
+reach_by as' x b line (Test v) m e k =
+    reach_one as' x b line (nested b.blocks (tested b.variables v)) m e
+    (then_fit b.blocks (room b.blocks) (λ _. tested b.variables v) (λ _. then_fit b.blocks (typed_for b.variables wants.Bool v) (λ t. Ok (Tests t)) (λ t. tt))) k
+reach_by as' x b line Otherwise m e k = reach_one as' x b line (divided b.blocks) m e (divided_fit b.blocks) k
+reach_by as' x b line TestEnd m e k = reach_one as' x b line (test_ended b.blocks) m e (test_ended_fit b.blocks) k
+reach_by as' x b line (Repeat r) m e k =
+    reach_one as' x b line (nested b.blocks (repeated b.variables r)) m e (then_fit b.blocks (room b.blocks) (λ _. repeated b.variables r) (λ _. repeated_fit b.blocks b.variables r)) k
+reach_by as' x b line RepeatEnd m e k = reach_one as' x b line (repeat_ended b.blocks) m e (repeat_ended_fit b.blocks) k
+reach_by as' x b line (Mark l) m e k = reach_one as' x b line (marked b.labels (label_of l)) m e (marked_fit b.blocks b.labels (label_of l)) k
+reach_by as' x b line (Leap l) m e k = reach_one as' x b line (Ok (Leaps (label_of l))) m e tt k
+reach_by as' x b line Ending m e k = reach_one as' x b line (ended b.blocks) m e (ended_fit b.blocks b.blocks) k
+
+reach_all : (as' : List Around) (x : Block) (b : Behind) (ss : List Statement) → AllMean b ss → kinds as' ≡ b.blocks → Reaches as' x (pieces_from b ss) (behind_all b ss).blocks
+reach_all as' x b [] h k = reach_none as' x b.blocks k
+reach_all as' x b (s ∷ ss) h k =
+    let one = reach_by as' x b s.line s.form h.0.0 h.0.1 k in
+    let all = reach_all one.opens one.block (behind_one b s) ss h.1 one.around in
+    record {
+      opens = all.opens;
+      block = all.block;
+      writes = all.writes ∙ ap (λ l. l ++ pieces_from (behind_one b s) ss) one.writes ∙ append_assoc (wrote as' x) (pieces_by s.line (resolved b s.form)) (pieces_from (behind_one b s) ss);
+      around = all.around;
+    }
+
+none_open : (as' : List Around) → kinds as' ≡ [] → as' ≡ []
+none_open [] e = refl
+none_open (a ∷ as') e = absurd cc
+
+pub program_exists : (ss : List Statement) → IsTrue (is_ended ss) → IsClean BreaksNames ss → (p : Parsed) × IsParsed ss p
+program_exists ss last clean =
+    let mean = all_mean [] ss clean in
+    let r = reach_all [] done start ss mean refl in
+    let shut = none_open r.opens (r.around ∙ last_shuts start ss last mean) in (
+      record { program = r.block; variables = (behind_all start ss).variables; notices = notices_of ss },
+      record { program = sym (ap (λ os. wrote os r.block) shut) ∙ r.writes; variables = refl; notices = refl },
+    )

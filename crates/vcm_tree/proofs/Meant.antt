@@ -1,0 +1,386 @@
+-- The counted statements of a text that breaks no rule of names and blocks: how many, their labels, their nesting, their names.
+use Rattle.std.proofs.Common.{◌≡◌, ℕ, ◌+◌, ◌<◌, ◌≤◌, Bool, true, false, List, [], ◌∷◌, ◌++◌, length, Result, Ok, Err, refl, sym, ap, ◌∙◌, subst, append_assoc, arith, nat_lt}
+use Rattle.std.specs.Prelude.{not, ◌||◌, if◌then◌else◌}
+use Rattle.std.specs.List.{filter, list_any}
+use Rattle.std.proofs.lemmas.List.{append-nil}
+use Rattle.vcm_lines.specs.declared.fault.FaultCode.{FaultCode}
+use Rattle.vcm_lines.specs.declared.fault.FaultCode.TheVariants.{DuplicateName}
+use Rattle.vcm_spec.specs.Expression.{Tree}
+use Rattle.vcm_spec.specs.Simple.{Simple}
+use Rattle.vcm_spec.specs.Program.{Label, is_same_label}
+use Rattle.vcm_expr.specs.Names.{Variable}
+use Rattle.vcm_expr.specs.Source.{Source}
+use Rattle.vcm_expr.specs.Typing.{typed_for}
+use Rattle.vcm_expr.specs.declared.typing.Want.TheVariants as wants
+use Rattle.vcm_syntax.specs.declared.statement.Rounds.{Rounds}
+use Rattle.vcm_syntax.specs.declared.statement.Form.{Form}
+use Rattle.vcm_syntax.specs.declared.statement.Form.TheVariants.{Opening, Measures as Units, Ignored, Declaration, Assignment, Move, Home, Say, Test, Otherwise, TestEnd, Repeat, RepeatEnd, Mark, Leap, Ending}
+use Rattle.vcm_syntax.specs.declared.statement.Statement.{Statement}
+use Rattle.vcm_syntax.specs.Statements.{is_counted}
+use Rattle.vcm_tree.specs.Order.{is_ending, is_ended}
+use Rattle.vcm_tree.specs.Pieces.{Step, Piece, Does, Marks, Leaps, Tests, Divides, EndsTest, Repeats, EndsRepeat, Measures, EndsMeasure, Ends}
+use Rattle.vcm_tree.specs.Jumps.{is_among}
+use Rattle.vcm_tree.specs.Program.{AreDistinct}
+use Rattle.vcm_tree.specs.SameLabels.{label_sym}
+use Rattle.vcm_tree.specs.Resolving.{Behind, Opened, InFirst, InSecond, InBody, Meaning, Silent, Declares, Counts, then_ok, with_all, assigned, moved, room, room_by, nested, tested, indexed, increment_of, repeated, divided, test_ended, repeat_ended, ended, marked, label_of, does, counts, resolved, blocks_after, labels_after, behind_by, behind_one, behind_all, pieces_by, pieces_from}
+use Rattle.vcm_tree.proofs.Walking.{AllMean}
+use Rattle.vcm_tree.proofs.Written.{step_labels, piece_labels, labels_append, depth_after, opens, PiecesNest, ends_last}
+
+-- ---- labels
+
+labels_step : (ls : List Label) (s : Step) → labels_after ls s ≡ ls ++ step_labels s
+labels_step ls (Does what) = sym (append-nil ls)
+labels_step ls (Marks l) = refl
+labels_step ls (Leaps l) = sym (append-nil ls)
+labels_step ls (Tests t) = sym (append-nil ls)
+labels_step ls Divides = sym (append-nil ls)
+labels_step ls EndsTest = sym (append-nil ls)
+labels_step ls (Repeats v a b c) = sym (append-nil ls)
+labels_step ls EndsRepeat = sym (append-nil ls)
+labels_step ls (Measures f) = sym (append-nil ls)
+labels_step ls EndsMeasure = sym (append-nil ls)
+labels_step ls Ends = sym (append-nil ls)
+
+labels_by : (b : Behind) (line : ℕ) (r : Result Meaning FaultCode) → (behind_by b r).labels ≡ b.labels ++ piece_labels (pieces_by line r)
+labels_by b line (Ok Silent) = sym (append-nil b.labels)
+labels_by b line (Ok (Declares ws)) = sym (append-nil b.labels)
+labels_by b line (Ok (Counts s)) = labels_step b.labels s ∙ ap (λ l. b.labels ++ l) (sym (append-nil (step_labels s)))
+labels_by b line (Err e) = sym (append-nil b.labels)
+
+pub labels_all : (b : Behind) (ss : List Statement) → (behind_all b ss).labels ≡ b.labels ++ piece_labels (pieces_from b ss)
+labels_all b [] = sym (append-nil b.labels)
+labels_all b (s ∷ ss) =
+    labels_all (behind_one b s) ss
+    ∙ ap (λ l. l ++ piece_labels (pieces_from (behind_one b s) ss)) (labels_by b s.line (resolved b s.form))
+    ∙ append_assoc b.labels (piece_labels (pieces_by s.line (resolved b s.form))) (piece_labels (pieces_from (behind_one b s) ss))
+    ∙ ap (λ l. b.labels ++ l) (sym (labels_append (pieces_by s.line (resolved b s.form)) (pieces_from (behind_one b s) ss)))
+
+-- ---- how many
+
+abbrev one : Bool → ℕ
+one true = 1
+one false = 0
+
+abbrev counted : List Statement → List Statement
+counted ss = filter (λ s. is_counted s.form) ss
+
+one_step : (line : ℕ) (r : Result Step FaultCode) (m : Meaning) → counts r ≡ Ok m → length (pieces_by line (counts r)) ≡ 1
+one_step line (Ok s) m e = refl
+one_step line (Err c) m e = absurd cc
+
+declares_none : (line : ℕ) (r : Result (List Variable) FaultCode) → length (pieces_by line (then_ok r (λ ws. Ok (Declares ws)))) ≡ 0
+declares_none line (Ok ws) = refl
+declares_none line (Err c) = refl
+
+one_more : (b : Behind) (line : ℕ) (form : Form) (m : Meaning) → resolved b form ≡ Ok m → length (pieces_by line (resolved b form)) ≡ one (is_counted form)
+one_more b line Opening m e = refl
+one_more b line Units m e = refl
+one_more b line (Ignored w) m e = refl
+one_more b line (Declaration k names) m e = declares_none line (with_all b.variables k names)
+one_more b line (Assignment n x) m e = one_step line (does (assigned b.variables n x)) m e
+one_more b line (Move p) m e = one_step line (does (moved b.variables p.x p.y p.z)) m e
+one_more b line Home m e = refl
+one_more b line (Say t) m e = refl
+one_more b line (Test x) m e = one_step line (nested b.blocks (tested b.variables x)) m e
+one_more b line Otherwise m e = one_step line (divided b.blocks) m e
+one_more b line TestEnd m e = one_step line (test_ended b.blocks) m e
+one_more b line (Repeat r) m e = one_step line (nested b.blocks (repeated b.variables r)) m e
+one_more b line RepeatEnd m e = one_step line (repeat_ended b.blocks) m e
+one_more b line (Mark l) m e = one_step line (marked b.labels (label_of l)) m e
+one_more b line (Leap l) m e = refl
+one_more b line Ending m e = one_step line (ended b.blocks) m e
+
+append_length : {X : Type 0} (xs ys : List X) → length (xs ++ ys) ≡ length xs + length ys
+append_length [] ys = omega arith
+append_length (x ∷ xs) ys = (let h = append_length xs ys in omega (arith, h))
+
+counted_more : (s : Statement) (ss : List Statement) → length (counted (s ∷ ss)) ≡ one (is_counted s.form) + length (counted ss)
+counted_more s ss = by (is_counted s.form) refl
+  where
+    by : (b : Bool) → is_counted s.form ≡ b → length (counted (s ∷ ss)) ≡ one b + length (counted ss)
+    by true e = rw e (omega arith)
+    by false e = rw e (omega arith)
+
+pub counted_all : (b : Behind) (ss : List Statement) → AllMean b ss → length (pieces_from b ss) ≡ length (counted ss)
+counted_all b [] h = refl
+counted_all b (s ∷ ss) h =
+    let x = append_length (pieces_by s.line (resolved b s.form)) (pieces_from (behind_one b s) ss) in
+    let y = one_more b s.line s.form h.0.0 h.0.1 in
+    let z = counted_all (behind_one b s) ss h.1 in
+    let w = counted_more s ss in
+    omega (arith, x, y, z, w)
+
+few_by : (line : ℕ) (r : Result Meaning FaultCode) → length (pieces_by line r) ≤ 1
+few_by line (Ok Silent) = omega arith
+few_by line (Ok (Declares ws)) = omega arith
+few_by line (Ok (Counts s)) = omega arith
+few_by line (Err e) = omega arith
+
+pub few_pieces : (b : Behind) (ss : List Statement) → length (pieces_from b ss) ≤ length ss
+few_pieces b [] = omega arith
+few_pieces b (s ∷ ss) =
+    let x = append_length (pieces_by s.line (resolved b s.form)) (pieces_from (behind_one b s) ss) in
+    let y = few_by s.line (resolved b s.form) in
+    let z = few_pieces (behind_one b s) ss in
+    omega (arith, x, y, z)
+
+-- ---- the last one
+
+shut_ends : (line : ℕ) (bs : List Opened) (m : Meaning) → counts (ended bs) ≡ Ok m → ends_last (pieces_by line (counts (ended bs))) ≡ true
+shut_ends line [] m e = refl
+shut_ends line (b ∷ bs) m e = absurd cc
+
+ending_ends : (b : Behind) (line : ℕ) (form : Form) (m : Meaning) → is_ending (record { line = line; form = form }) ≡ true → resolved b form ≡ Ok m
+    → ends_last (pieces_by line (resolved b form)) ≡ true
+ending_ends b line Opening m e h = absurd cc
+ending_ends b line Units m e h = absurd cc
+ending_ends b line (Ignored w) m e h = absurd cc
+ending_ends b line (Declaration k ns) m e h = absurd cc
+ending_ends b line (Assignment n x) m e h = absurd cc
+ending_ends b line (Move p) m e h = absurd cc
+ending_ends b line Home m e h = absurd cc
+ending_ends b line (Say t) m e h = absurd cc
+ending_ends b line (Test x) m e h = absurd cc
+ending_ends b line Otherwise m e h = absurd cc
+ending_ends b line TestEnd m e h = absurd cc
+ending_ends b line (Repeat r) m e h = absurd cc
+ending_ends b line RepeatEnd m e h = absurd cc
+ending_ends b line (Mark l) m e h = absurd cc
+ending_ends b line (Leap l) m e h = absurd cc
+ending_ends b line Ending m e h = shut_ends line b.blocks m h
+
+last_behind : (ps qs : List Piece) → ends_last qs ≡ true → ends_last (ps ++ qs) ≡ true
+last_behind [] qs e = e
+last_behind (p ∷ []) [] e = absurd cc
+last_behind (p ∷ []) (q ∷ qs) e = e
+last_behind (p ∷ r ∷ ps) qs e = last_behind (r ∷ ps) qs e
+
+pub last_ends : (b : Behind) (ss : List Statement) → is_ended ss ≡ true → AllMean b ss → ends_last (pieces_from b ss) ≡ true
+last_ends b [] e h = absurd cc
+last_ends b (s ∷ []) e h = ap ends_last (append-nil (pieces_by s.line (resolved b s.form))) ∙ ending_ends b s.line s.form h.0.0 e h.0.1
+last_ends b (s ∷ t ∷ ss) e h = last_behind (pieces_by s.line (resolved b s.form)) (pieces_from (behind_one b s) (t ∷ ss)) (last_ends (behind_one b s) (t ∷ ss) e h.1)
+
+-- ---- nesting
+
+depth_step : (bs : List Opened) (s : Step) → length (blocks_after bs s) ≡ depth_after (length bs) s
+depth_step bs (Does what) = refl
+depth_step bs (Marks l) = refl
+depth_step bs (Leaps l) = refl
+depth_step bs (Tests t) = refl
+depth_step [] Divides = refl
+depth_step (b ∷ bs) Divides = refl
+depth_step [] EndsTest = refl
+depth_step (b ∷ bs) EndsTest = refl
+depth_step bs (Repeats v a b c) = refl
+depth_step [] EndsRepeat = refl
+depth_step (b ∷ bs) EndsRepeat = refl
+depth_step bs (Measures f) = refl
+depth_step [] EndsMeasure = refl
+depth_step (b ∷ bs) EndsMeasure = refl
+depth_step bs Ends = refl
+
+-- a step that opens no block
+abbrev Plain : Result Step FaultCode → Type 0
+Plain (Ok s) = opens s ≡ false
+Plain (Err e) = Unit {0}
+
+does_plain : (r : Result (Simple Tree) FaultCode) → Plain (does r)
+does_plain (Ok what) = refl
+does_plain (Err e) = tt
+
+divided_plain : (bs : List Opened) → Plain (divided bs)
+divided_plain [] = tt
+divided_plain (InFirst ∷ bs) = refl
+divided_plain (_ ∷ bs) = tt
+
+test_ended_plain : (bs : List Opened) → Plain (test_ended bs)
+test_ended_plain [] = tt
+test_ended_plain (InFirst ∷ bs) = refl
+test_ended_plain (InSecond ∷ bs) = refl
+test_ended_plain (_ ∷ bs) = tt
+
+repeat_ended_plain : (bs : List Opened) → Plain (repeat_ended bs)
+repeat_ended_plain [] = tt
+repeat_ended_plain (InBody ∷ bs) = refl
+repeat_ended_plain (_ ∷ bs) = tt
+
+ended_plain : (bs : List Opened) → Plain (ended bs)
+ended_plain [] = refl
+ended_plain (b ∷ bs) = tt
+
+marked_plain : (ls : List Label) (l : Label) → Plain (marked ls l)
+marked_plain ls l = by (list_any (is_same_label l) ls)
+  where
+    by : (b : Bool) → Plain (if b then Err DuplicateName else Ok (Marks l))
+    by true = tt
+    by false = refl
+
+-- 32 are open at most where one more may be opened
+room_small : (bs : List Opened) (r : Result Step FaultCode) (m : Meaning) → counts (nested bs r) ≡ Ok m → length bs < 32
+room_small bs r m e = by (nat_lt (length bs) 32) refl e
+  where
+    by : (b : Bool) → nat_lt (length bs) 32 ≡ b → counts (then_ok (room_by b) (λ _. r)) ≡ Ok m → length bs < 32
+    by true f g = grind (arith, f)
+    by false f g = absurd cc
+
+nest_one : (b : Behind) (line : ℕ) (r : Result Step FaultCode) (rest : List Piece) (m : Meaning) → counts r ≡ Ok m → ((s : Step) → r ≡ Ok s → opens s ≡ true → length b.blocks < 32)
+    → PiecesNest (length (behind_by b (counts r)).blocks) rest → PiecesNest (length b.blocks) (pieces_by line (counts r) ++ rest)
+nest_one b line (Ok s) rest m e small h = (small s refl, subst (λ (d : ℕ). PiecesNest d rest) (depth_step b.blocks s) h)
+nest_one b line (Err c) rest m e small h = absurd cc
+
+nest_plain : (b : Behind) (line : ℕ) (r : Result Step FaultCode) (rest : List Piece) (m : Meaning) → Plain r → counts r ≡ Ok m
+    → PiecesNest (length (behind_by b (counts r)).blocks) rest → PiecesNest (length b.blocks) (pieces_by line (counts r) ++ rest)
+nest_plain b line (Ok s) rest m p e h = ((λ o. (let both : true ≡ false = sym o ∙ p in absurd cc)), subst (λ (d : ℕ). PiecesNest d rest) (depth_step b.blocks s) h)
+nest_plain b line (Err c) rest m p e h = absurd cc
+
+nest_declares : (b : Behind) (line : ℕ) (r : Result (List Variable) FaultCode) (rest : List Piece)
+    → PiecesNest (length (behind_by b (then_ok r (λ ws. Ok (Declares ws)))).blocks) rest → PiecesNest (length b.blocks) (pieces_by line (then_ok r (λ ws. Ok (Declares ws))) ++ rest)
+nest_declares b line (Ok ws) rest h = h
+nest_declares b line (Err c) rest h = h
+
+nest_by : (b : Behind) (line : ℕ) (form : Form) (rest : List Piece) (m : Meaning) → resolved b form ≡ Ok m → PiecesNest (length (behind_by b (resolved b form)).blocks) rest
+    → PiecesNest (length b.blocks) (pieces_by line (resolved b form) ++ rest)
+nest_by b line Opening rest m e h = h
+nest_by b line Units rest m e h = h
+nest_by b line (Ignored w) rest m e h = h
+nest_by b line (Declaration k names) rest m e h = nest_declares b line (with_all b.variables k names) rest h
+nest_by b line (Assignment n x) rest m e h = nest_plain b line (does (assigned b.variables n x)) rest m (does_plain (assigned b.variables n x)) e h
+nest_by b line (Move p) rest m e h = nest_plain b line (does (moved b.variables p.x p.y p.z)) rest m (does_plain (moved b.variables p.x p.y p.z)) e h
+nest_by b line Home rest m e h = ((λ o. absurd cc), h)
+nest_by b line (Say t) rest m e h = ((λ o. absurd cc), h)
+nest_by b line (Test x) rest m e h = nest_one b line (nested b.blocks (tested b.variables x)) rest m e (λ s f o. room_small b.blocks (tested b.variables x) m e) h
+nest_by b line Otherwise rest m e h = nest_plain b line (divided b.blocks) rest m (divided_plain b.blocks) e h
+nest_by b line TestEnd rest m e h = nest_plain b line (test_ended b.blocks) rest m (test_ended_plain b.blocks) e h
+nest_by b line (Repeat r) rest m e h = nest_one b line (nested b.blocks (repeated b.variables r)) rest m e (λ s f o. room_small b.blocks (repeated b.variables r) m e) h
+nest_by b line RepeatEnd rest m e h = nest_plain b line (repeat_ended b.blocks) rest m (repeat_ended_plain b.blocks) e h
+nest_by b line (Mark l) rest m e h = nest_plain b line (marked b.labels (label_of l)) rest m (marked_plain b.labels (label_of l)) e h
+nest_by b line (Leap l) rest m e h = ((λ o. absurd cc), h)
+nest_by b line Ending rest m e h = nest_plain b line (ended b.blocks) rest m (ended_plain b.blocks) e h
+
+pub nest_all : (b : Behind) (ss : List Statement) → AllMean b ss → PiecesNest (length b.blocks) (pieces_from b ss)
+nest_all b [] h = tt
+nest_all b (s ∷ ss) h = nest_by b s.line s.form (pieces_from (behind_one b s) ss) h.0.0 h.0.1 (nest_all (behind_one b s) ss h.1)
+
+-- ---- no label stands twice
+
+or_left : (b c : Bool) → (b || c) ≡ false → b ≡ false
+or_left true c e = e
+or_left false c e = refl
+
+or_right : (b c : Bool) → (b || c) ≡ false → c ≡ false
+or_right true c e = absurd cc
+or_right false c e = e
+
+or_both : (b c : Bool) → b ≡ false → c ≡ false → (b || c) ≡ false
+or_both true c e f = e
+or_both false c e f = f
+
+from_not : (b : Bool) → not b ≡ true → b ≡ false
+from_not false e = refl
+from_not true e = absurd cc
+
+among_push : (ls : List Label) (k l : Label) → is_among ls k ≡ false → is_same_label k l ≡ false → is_among (ls ++ l ∷ []) k ≡ false
+among_push [] k l e f = or_both (is_same_label k l) false f refl
+among_push (m ∷ ls) k l e f = or_both (is_same_label k m) (is_among (ls ++ l ∷ []) k) (or_left (is_same_label k m) (is_among ls k) e) (among_push ls k l (or_right (is_same_label k m) (is_among ls k) e) f)
+
+distinct_push : (ls : List Label) (l : Label) → AreDistinct ls → is_among ls l ≡ false → AreDistinct (ls ++ l ∷ [])
+distinct_push [] l h e = (refl, tt)
+distinct_push (k ∷ ls) l h e = (
+  ap not (among_push ls k l (from_not (is_among ls k) h.0) (label_sym k l ∙ or_left (is_same_label l k) (is_among ls l) e)),
+  distinct_push ls l h.1 (or_right (is_same_label l k) (is_among ls l) e),
+)
+
+marked_fresh : (ls : List Label) (l : Label) (m : Meaning) → counts (marked ls l) ≡ Ok m → is_among ls l ≡ false
+marked_fresh ls l m e = by (is_among ls l) refl e
+  where
+    by : (b : Bool) → is_among ls l ≡ b → counts (if b then Err DuplicateName else Ok (Marks l)) ≡ Ok m → is_among ls l ≡ false
+    by true f g = absurd cc
+    by false f g = f
+
+distinct_marked : (b : Behind) (l : Label) (m : Meaning) → counts (marked b.labels l) ≡ Ok m → AreDistinct b.labels → AreDistinct (behind_by b (counts (marked b.labels l))).labels
+distinct_marked b l m e h = by (is_among b.labels l) refl
+  where
+    fresh : is_among b.labels l ≡ false
+    fresh = marked_fresh b.labels l m e
+
+    by : (t : Bool) → is_among b.labels l ≡ t → AreDistinct (behind_by b (counts (if t then Err DuplicateName else Ok (Marks l)))).labels
+    by true f = h
+    by false f = distinct_push b.labels l h fresh
+
+-- other statements leave the labels
+abbrev Unmarked : Result Step FaultCode → Type 0
+Unmarked (Ok s) = step_labels s ≡ []
+Unmarked (Err e) = Unit {0}
+
+unmarked_labels : (b : Behind) (r : Result Step FaultCode) → Unmarked r → AreDistinct b.labels → AreDistinct (behind_by b (counts r)).labels
+unmarked_labels b (Ok s) u h = subst AreDistinct (sym (labels_step b.labels s ∙ ap (λ l. b.labels ++ l) u ∙ append-nil b.labels)) h
+unmarked_labels b (Err e) u h = h
+
+does_unmarked : (r : Result (Simple Tree) FaultCode) → Unmarked (does r)
+does_unmarked (Ok what) = refl
+does_unmarked (Err e) = tt
+
+divided_unmarked : (bs : List Opened) → Unmarked (divided bs)
+divided_unmarked [] = tt
+divided_unmarked (InFirst ∷ bs) = refl
+divided_unmarked (_ ∷ bs) = tt
+
+test_ended_unmarked : (bs : List Opened) → Unmarked (test_ended bs)
+test_ended_unmarked [] = tt
+test_ended_unmarked (InFirst ∷ bs) = refl
+test_ended_unmarked (InSecond ∷ bs) = refl
+test_ended_unmarked (_ ∷ bs) = tt
+
+repeat_ended_unmarked : (bs : List Opened) → Unmarked (repeat_ended bs)
+repeat_ended_unmarked [] = tt
+repeat_ended_unmarked (InBody ∷ bs) = refl
+repeat_ended_unmarked (_ ∷ bs) = tt
+
+ended_unmarked : (bs : List Opened) → Unmarked (ended bs)
+ended_unmarked [] = refl
+ended_unmarked (b ∷ bs) = tt
+
+nested_unmarked : (bs : List Opened) (r : Result Step FaultCode) → Unmarked r → Unmarked (nested bs r)
+nested_unmarked bs r u = by (room bs)
+  where
+    by : (q : Result (Unit {0}) FaultCode) → Unmarked (then_ok q (λ _. r))
+    by (Ok x) = u
+    by (Err e) = tt
+
+then_unmarked : {A : Type 0} (r : Result A FaultCode) (go : A → Result Step FaultCode) → ((a : A) → Unmarked (go a)) → Unmarked (then_ok r go)
+then_unmarked (Ok a) go u = u a
+then_unmarked (Err e) go u = tt
+
+tested_unmarked : (vs : List Variable) (x : Source) → Unmarked (tested vs x)
+tested_unmarked vs x = then_unmarked (typed_for vs wants.Bool x) (λ t. Ok (Tests t)) (λ t. refl)
+
+repeated_unmarked : (vs : List Variable) (r : Rounds) → Unmarked (repeated vs r)
+repeated_unmarked vs r =
+    then_unmarked (indexed vs r.variable) _ (λ i. then_unmarked (typed_for vs wants.Int r.initial) _ (λ a. then_unmarked (typed_for vs wants.Int r.limit) _ (λ b.
+    then_unmarked (increment_of vs r.increment) (λ c. Ok (Repeats i a b c)) (λ c. refl))))
+
+declares_labels : (b : Behind) (r : Result (List Variable) FaultCode) → AreDistinct b.labels → AreDistinct (behind_by b (then_ok r (λ ws. Ok (Declares ws)))).labels
+declares_labels b (Ok ws) h = h
+declares_labels b (Err e) h = h
+
+distinct_by : (b : Behind) (form : Form) (m : Meaning) → resolved b form ≡ Ok m → AreDistinct b.labels → AreDistinct (behind_by b (resolved b form)).labels
+distinct_by b Opening m e h = h
+distinct_by b Units m e h = h
+distinct_by b (Ignored w) m e h = h
+distinct_by b (Declaration k names) m e h = declares_labels b (with_all b.variables k names) h
+distinct_by b (Assignment n x) m e h = unmarked_labels b (does (assigned b.variables n x)) (does_unmarked (assigned b.variables n x)) h
+distinct_by b (Move p) m e h = unmarked_labels b (does (moved b.variables p.x p.y p.z)) (does_unmarked (moved b.variables p.x p.y p.z)) h
+distinct_by b Home m e h = h
+distinct_by b (Say t) m e h = h
+distinct_by b (Test x) m e h = unmarked_labels b (nested b.blocks (tested b.variables x)) (nested_unmarked b.blocks (tested b.variables x) (tested_unmarked b.variables x)) h
+distinct_by b Otherwise m e h = unmarked_labels b (divided b.blocks) (divided_unmarked b.blocks) h
+distinct_by b TestEnd m e h = unmarked_labels b (test_ended b.blocks) (test_ended_unmarked b.blocks) h
+distinct_by b (Repeat r) m e h = unmarked_labels b (nested b.blocks (repeated b.variables r)) (nested_unmarked b.blocks (repeated b.variables r) (repeated_unmarked b.variables r)) h
+distinct_by b RepeatEnd m e h = unmarked_labels b (repeat_ended b.blocks) (repeat_ended_unmarked b.blocks) h
+distinct_by b (Mark l) m e h = distinct_marked b (label_of l) m e h
+distinct_by b (Leap l) m e h = h
+distinct_by b Ending m e h = unmarked_labels b (ended b.blocks) (ended_unmarked b.blocks) h
+
+pub distinct_all : (b : Behind) (ss : List Statement) → AllMean b ss → AreDistinct b.labels → AreDistinct (behind_all b ss).labels
+distinct_all b [] h d = d
+distinct_all b (s ∷ ss) h d = distinct_all (behind_one b s) ss h.1 (distinct_by b s.form h.0.0 h.0.1 d)

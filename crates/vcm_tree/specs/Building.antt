@@ -1,0 +1,44 @@
+-- A program of which some statements are read: the blocks that are open, and what stands in them.
+use Rattle.std.specs.Prelude.{◌≡◌, ℕ, List, [], ◌∷◌, ◌++◌, Result, Ok}
+use Rattle.vcm_lines.specs.declared.fault.FaultCode.{FaultCode}
+use Rattle.vcm_spec.specs.Program.{Label}
+use Rattle.vcm_tree.specs.declared.builder.Head.{Head}
+use Rattle.vcm_tree.specs.declared.builder.Head.TheVariants.{First, Second, Body}
+use Rattle.vcm_tree.specs.declared.builder.Open.{Open}
+use Rattle.vcm_tree.specs.declared.builder.Builder.{Builder}
+use Rattle.vcm_tree.specs.Pieces.{Step, Piece, piece, Tests, Divides, Repeats, pieces}
+use Rattle.vcm_tree.specs.Resolving.{Opened, InFirst, InSecond, InBody, blocks_after, labels_after}
+
+-- which block was opened
+abbrev pub opened_by : Head → Opened
+opened_by (First line test) = InFirst
+opened_by (Second line test first mid) = InSecond
+opened_by (Body line v a b c) = InBody
+
+-- the blocks that are open, the innermost first
+abbrev pub blocks_of : List Open → List Opened
+blocks_of [] = []
+blocks_of (o ∷ os) = blocks_of os ++ opened_by o.head ∷ []
+
+-- the statements by which a block was opened
+abbrev pub head_pieces : Head → List Piece
+head_pieces (First line test) = piece line (Tests test) ∷ []
+head_pieces (Second line test first mid) = piece line (Tests test) ∷ (pieces first ++ piece mid Divides ∷ [])
+head_pieces (Body line v a b c) = piece line (Repeats v a b c) ∷ []
+
+-- the statements before the innermost block
+abbrev pub opens_pieces : List Open → List Piece
+opens_pieces [] = []
+opens_pieces (o ∷ os) = (pieces o.outer ++ head_pieces o.head) ++ opens_pieces os
+
+-- all statements that are read, in writing
+abbrev pub written : Builder → List Piece
+written b = opens_pieces b.opens.items ++ pieces b.block
+
+-- the outcome is a counted statement, no jump label, which is read behind the others
+pub record Reads (outcome : Result Step FaultCode) (line : ℕ) (old new : Builder) : Type 0 where
+  pub step : Step
+  pub is : outcome ≡ Ok step
+  pub pieces : written new ≡ written old ++ piece line step ∷ []
+  pub blocks : blocks_of new.opens.items ≡ blocks_after (blocks_of old.opens.items) step
+  pub labels : (ls : List Label) → labels_after ls step ≡ ls

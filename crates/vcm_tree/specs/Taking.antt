@@ -1,0 +1,32 @@
+-- What is read of a program, and one statement more.
+use Rattle.std.specs.Prelude.{◌≡◌, ℕ, List, ◌++◌, Ok}
+use Rattle.vcm_expr.specs.Names.{Variable}
+use Rattle.vcm_syntax.specs.declared.statement.Rounds.{Rounds}
+use Rattle.vcm_syntax.specs.declared.statement.Statement.{Statement}
+use Rattle.vcm_spec.specs.Expression.{Tree}
+use Rattle.vcm_tree.specs.declared.builder.Head.{Head}
+use Rattle.vcm_tree.specs.declared.builder.Head.TheVariants.{Body}
+use Rattle.vcm_tree.specs.declared.resolving.Progress.{Progress}
+use Rattle.vcm_tree.specs.Pieces.{Repeats}
+use Rattle.vcm_tree.specs.Resolving.{Behind, behind, Meaning, repeated, resolved, behind_by, pieces_by}
+use Rattle.vcm_tree.specs.Building.{blocks_of, written}
+
+-- the rounds are these, and open a body by this
+pub record IsBody (vs : List Variable) (r : Rounds) (line : ℕ) (h : Head) : Type 0 where
+  pub variable : ℕ
+  pub initial : Tree
+  pub limit : Tree
+  pub increment : Tree
+  pub is : h ≡ Body line variable initial limit increment
+  pub rounds : repeated vs r ≡ Ok (Repeats variable initial limit increment)
+
+-- what the statements that are read leave behind them
+abbrev pub behind_of : Progress → Behind
+behind_of p = behind p.names (blocks_of p.builder.opens.items) p.labels
+
+-- the statement has a meaning behind the others, and is read
+pub record Takes (s : Statement) (old new : Progress) : Type 0 where
+  pub meaning : Meaning
+  pub is : resolved (behind_of old) s.form ≡ Ok meaning
+  pub after : behind_of new ≡ behind_by (behind_of old) (Ok meaning)
+  pub pieces : written new.builder ≡ written old.builder ++ pieces_by s.line (Ok meaning)
