@@ -1,8 +1,14 @@
--- What a map of variables says of the list of them.
-use Rattle.std.proofs.Common.{◌≡◌, ℕ, ◌+◌, Bool, true, false, cond, not, ◌||◌, List, [], ◌∷◌, length, suc, Option, Some, None, refl, ap, ◌∙◌}
+-- What a map of variables says of the list of them, and what their names are.
+use Rattle.std.proofs.Common.{◌≡◌, ◌<◌, ◌≤◌, ℕ, ◌+◌, Bool, true, false, cond, not, ◌||◌, List, [], ◌∷◌, ◌++◌, length, suc, Option, Some, None, refl, ap, ◌∙◌, arith}
 use Rattle.std.specs.Prelude.{nat_lt, is_some}
 use Rattle.std.specs.List.{position, position_or_len, list_any}
 use Rattle.std.specs.Map.{keys_of, lookup}
+use Rattle.std.specs.Char.{is_ascii_uppercase}
+use Rattle.std.proofs.lemmas.Bool.{and_parts}
+use Rattle.std.proofs.lemmas.List.{length-append}
+use Rattle.vcm_expr.specs.NameBytes.{is_name, IsName}
+use Rattle.vcm_expr.specs.Names.{Variable, AreNamed}
+use Rattle.vcm_expr.specs.Parts.{IsVariableName}
 
 step_place : (b : Bool) (m n : ℕ) → m ≡ n → cond (not b) (1 + m) 0 ≡ cond (not b) (1 + n) 0
 step_place b m n e = ap (λ (k : ℕ). cond (not b) (1 + k) 0) e
@@ -38,3 +44,18 @@ lookup_none p es e = none (lookup p es) e
     none : {X : Type 0} (o : Option X) → is_some o ≡ false → o ≡ None
     none None e = refl
     none (Some x) e = absurd cc
+
+-- a variable's name is a name
+pub variable_name_is_name : (bs : List ℕ) → IsVariableName bs → IsName bs
+variable_name_is_name [] e = absurd cc
+variable_name_is_name (b ∷ bs) e = (and_parts (is_ascii_uppercase b) (is_name (b ∷ bs)) e).1
+
+-- one variable more that has a variable's name
+pub one_more_named : (vs : List Variable) (v : Variable) → AreNamed vs → IsVariableName v.0.1 → AreNamed (vs ++ v ∷ [])
+one_more_named [] v h n = (n, tt)
+one_more_named (w ∷ vs) v h n = (h.0, one_more_named vs v h.1 n)
+
+-- and where there is room for it
+pub one_more : (vs : List Variable) (v : Variable) → length vs < 4096 → AreNamed vs → IsVariableName v.0.1
+    → (length (vs ++ v ∷ []) ≤ 4096) × AreNamed (vs ++ v ∷ [])
+one_more vs v room h n = (rw (length-append vs (v ∷ [])) (omega (arith, room)), one_more_named vs v h n)

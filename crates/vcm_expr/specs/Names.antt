@@ -1,12 +1,17 @@
 -- The variables of a program.
 use Rattle.std.specs.Prelude.{ℕ, Bool, ◌&&◌, nat_eq, List, map, Option, Some, None}
-use Rattle.std.specs.List.{position}
+use Rattle.std.specs.List.{AllByRecursion, position}
 use Rattle.std.specs.Cmp.Lexicographic.{pointwise}
 use Rattle.vcm_num.specs.declared.number.Kind.{Kind}
+use Rattle.vcm_expr.specs.Parts.{IsVariableName}
 
 -- a variable: the number of its expansion (0 outside macros) and its name, and its kind
 abbrev pub Variable : Type 0
 Variable = (ℕ × List ℕ) × Kind
+
+-- each of these variables has a variable's name
+abbrev pub AreNamed : List Variable → Type 0
+AreNamed vs = AllByRecursion (λ v. IsVariableName v.0.1) vs
 
 -- the variable has this name in this expansion
 abbrev pub is_named : ℕ → List ℕ → Variable → Bool

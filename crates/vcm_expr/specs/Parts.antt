@@ -1,5 +1,5 @@
 -- The words of a statement as parts of an expression.
-use Rattle.std.specs.Prelude.{ℕ, ◌&&◌, if◌then◌else◌, Bool, true, false, codes, List, [], ◌∷◌, map, Result, Ok, Err}
+use Rattle.std.specs.Prelude.{◌≡◌, ℕ, ◌&&◌, if◌then◌else◌, Bool, true, false, codes, List, [], ◌∷◌, map, Result, Ok, Err}
 use Rattle.std.specs.Str.{bytes_eq}
 use Rattle.std.specs.Char.{is_ascii_uppercase}
 use Rattle.vcm_num.specs.declared.number.Literal.{Literal}
@@ -20,6 +20,10 @@ use Rattle.vcm_expr.specs.NameBytes.{is_name}
 abbrev pub is_variable_name : List ℕ → Bool
 is_variable_name [] = false
 is_variable_name (b ∷ bs) = is_ascii_uppercase b && is_name (b ∷ bs)
+
+-- the bytes are a variable's name
+abbrev pub IsVariableName : List ℕ → Type 0
+IsVariableName bs = is_variable_name bs ≡ true
 
 -- what digits mean, or the code of what is wrong with them
 abbrev pub number_term : Result Literal NumFault → Result Term FaultCode

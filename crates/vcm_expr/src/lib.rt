@@ -14,6 +14,7 @@ mod stack;
 mod typed;
 mod typing;
 mod value;
+mod variable_name;
 
 pub use expression::{Expr, ExprNode, Prefix, Term};
 pub use name::{Name, is_name};
@@ -25,5 +26,6 @@ pub use stack::Stack;
 pub use typed::{Typed, TypedNode};
 pub use typing::{Want, type_expr};
 pub use value::eval;
+pub use variable_name::VariableName;
 pub use vcm_num::{Fault, Kind};
 pub use vcm_spec::{BinaryOp, Item, Operand, Relation, UnaryOp};

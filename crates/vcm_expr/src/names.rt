@@ -2,15 +2,17 @@
 
 ghost use Rattle.std.specs.Prelude.{◌≡◌, ◌<◌, ◌≤◌, ◌∷◌, ◌++◌, [], length, slice_get, not, if◌then◌else◌, Some, None, IfOk, OnErr, IfSome, IfNone, MatchOption};
 ghost use Rattle.std.specs.List.{list_any, position};
-ghost use Rattle.vcm_expr.specs.Names.{is_named, variable_of, first_of, kinds_of};
+ghost use Rattle.vcm_expr.specs.Names.{AreNamed, is_named, variable_of, first_of, kinds_of};
 
 use crate::name::Name;
+use crate::variable_name::VariableName;
 use indexmap::IndexMap;
 use std::alloc::Global;
 use std::marker::Model;
 use vcm_num::{Kind, NoMemory};
 
-/// The variables that are declared, at most 4,096, in the order of their declarations. Contracts see them as a list of `Variable`s.
+/// The variables that are declared, at most 4,096, in the order of their declarations. Each has a variable's name. Contracts see them as a list
+/// of `Variable`s.
 #[derive(Drop)]
 pub struct Names {
     variables: IndexMap<(u32, Name), Kind>,
@@ -18,13 +20,13 @@ pub struct Names {
 
 impl Model for Names {
     ghost use Rattle.std.specs.Prelude.{List, length, ◌≤◌};
-    ghost use Rattle.vcm_expr.specs.Names.{Variable};
+    ghost use Rattle.vcm_expr.specs.Names.{Variable, AreNamed};
 
     ghost Value = { List Variable };
 
     ghost view = { λ n. n.variables.entries };
 
-    ghost invariant = { λ n. length n.variables.entries ≤ 4096 };
+    ghost invariant = { λ n. (length n.variables.entries ≤ 4096) × AreNamed n.variables.entries };
 }
 
 impl Names {
@@ -41,6 +43,7 @@ impl Names {
     pub fn len(&self) -> usize
         ensures count { result ≡ length self.now }
         ensures few { length self.now ≤ 4096 }
+        ensures named { AreNamed self.now }
     {
         self.variables.len()
     }
@@ -59,13 +62,18 @@ impl Names {
     /// # Errors
     ///
     /// Want of memory; then nothing is added.
-    pub fn declare(&mut self, expansion: u32, name: Name, kind: Kind) -> Result<bool, NoMemory>
+    pub fn declare(
+        &mut self,
+        expansion: u32,
+        name: VariableName,
+        kind: Kind,
+    ) -> Result<bool, NoMemory>
         requires { length self.old < 4096 }
         ensures new { IfOk result (λ is_new. is_new ≡ not (list_any (is_named expansion name) self.old)) }
         ensures added { IfOk result (λ is_new. self.new ≡ (if is_new then self.old ++ ((expansion, name), kind) ∷ [] else self.old)) }
         ensures unchanged { OnErr result (self.new ≡ self.old) }
     {
-        let key = (expansion, name);
+        let key = (expansion, name.into_name());
         if self.variables.contains_key(&key) {
             return Ok(false);
         }

@@ -1,8 +1,9 @@
 -- From runs to the answers of jobs.
-use Rattle.std.proofs.Common.{◌≡◌, ℕ, zero, suc, ◌+◌, ◌<◌, ◌≤◌, List, [], ◌∷◌, length, take, Option, Some, None, Result, Ok, Err, refl, sym, ap, ◌∙◌, subst, arith, length-append}
+use Rattle.std.proofs.Common.{◌≡◌, ℕ, zero, suc, ◌+◌, ◌<◌, ◌≤◌, true, List, [], ◌∷◌, length, take, Option, Some, None, Result, Ok, Err, refl, sym, ap, ◌∙◌, subst, arith, length-append}
 use Rattle.std.specs.Prelude.{IfSome}
+use Rattle.std.specs.Result.{is_err}
 use Rattle.std.specs.Io.KnownBytes.{Appends, Consumes, Keeps}
-use Rattle.vcm_num.specs.Written.{AppendsFront}
+use Rattle.vcm_num.specs.Written.{AppendsFront, Wrote}
 use Rattle.vcm_part.specs.PartFile.{part_of}
 use Rattle.vcm_spec.specs.Workpiece.{Workpiece}
 use Rattle.vcm_spec.specs.Setup.{Tables, Setup}
@@ -151,6 +152,11 @@ module _ (a : Option (List ℕ)) (bytes : List ℕ) (all : IfSome a (λ input. b
     count = run.count;
     front = subst (λ t. AppendsFront old new t) run.text w;
   }))
+
+-- a call that failed wrote a front
+pub failed_front : {A E : Type 0} (old new : Option (List ℕ)) (text : List ℕ) (r : Result A E) → is_err r ≡ true → Wrote old new text r → AppendsFront old new text
+failed_front old new text (Ok x) e w = absurd cc
+failed_front old new text (Err f) e w = w
 
 -- ---- faults before anything is written
 

@@ -4,8 +4,8 @@ ghost use Rattle.std.specs.Prelude.{◌≡◌, ◌<◌, length};
 
 use std::test::*;
 use vcm_expr::{
-    BinaryOp, Expr, Fault, Item, Kind, Name, Names, Operand, Relation, Typed, UnaryOp, Want, eval,
-    eval_postfix, parse_expr, postfix_kind, to_postfix, type_expr,
+    BinaryOp, Expr, Fault, Item, Kind, Name, Names, Operand, Relation, Typed, UnaryOp,
+    VariableName, Want, eval, eval_postfix, parse_expr, postfix_kind, to_postfix, type_expr,
 };
 use vcm_lines::{FaultCode, Logical, SourceFault, logical_lines};
 use vcm_num::Items;
@@ -335,9 +335,9 @@ fn declared(names: &mut Names, expansion: u32, is_b: bool, kind: Kind) -> Option
         return None;
     }
     let name = if is_b {
-        Name::new(b"B")
+        VariableName::new(b"B")
     } else {
-        Name::new(b"A")
+        VariableName::new(b"A")
     };
     names.declare(expansion, name, kind).ok()
 }

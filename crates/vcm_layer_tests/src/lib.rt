@@ -2,6 +2,8 @@
 #![tactic(auto)]
 
 #[cfg(test)]
+mod assembler_tests;
+#[cfg(test)]
 mod expr_tests;
 #[cfg(test)]
 mod lines_tests;

@@ -7,7 +7,8 @@ use vcm_motion::Blocks;
 use vcm_num::{Items, Point};
 use vcm_part::{PartData, read_part};
 use vcm_spec::Hit;
-use vcm_state::{Halt, MovePhase, Stop, StopPlace, Tables, Variable, World};
+use vcm_state::{Halt, MovePhase, Stop, StopPlace, World};
+use vcm_tables::{Tables, Variable};
 
 /// The variables X of kind REAL, I of kind INT and, of an expansion, B of kind BOOL.
 fn some_variables(alloc: Global, expansion: u32) -> Option<Items<Variable>> {
@@ -24,7 +25,7 @@ fn some_tables(alloc: Global, expansion: u32) -> Option<Tables> {
     let frames = vec![in alloc; Name::new(b"F")].ok()?;
     let features = Items::from_vec(features);
     let frames = Items::from_vec(frames);
-    Some(Tables::new(variables, features, frames))
+    Tables::new(alloc, variables, features, frames).ok()
 }
 
 const HOME: Point = Point([0, 0, 100_000]);

@@ -1,7 +1,7 @@
 //! Statements: what they say, and which code is told of those that are refused.
 
 use std::test::*;
-use vcm_expr::{Expr, ExprNode, Name, Prefix, Term};
+use vcm_expr::{Expr, ExprNode, Prefix, Term, VariableName};
 use vcm_lines::{FaultCode, Logical, SourceFault, logical_lines};
 use vcm_num::{Items, Kind, Literal};
 use vcm_syntax::{Form, Notice, Rounds, Statement, parse_statement};
@@ -103,9 +103,9 @@ fn goes_by(rt: &HostRuntime, text: &[u8], x: &[u8], y: &[u8], z: &[u8]) -> bool 
 }
 
 /// Whether this name stands at a place, from 0 on.
-fn has_name(names: &Items<Name>, place: usize, bytes: &[u8]) -> bool {
+fn has_name(names: &Items<VariableName>, place: usize, bytes: &[u8]) -> bool {
     match names.get(place) {
-        Some(name) => name.as_bytes() == bytes,
+        Some(name) => name.name().as_bytes() == bytes,
         None => false,
     }
 }
@@ -166,7 +166,7 @@ fn repeats(
 ) -> bool {
     match form(rt, text) {
         Some(Form::Repeat(rounds)) => {
-            rounds.variable.as_bytes() == name
+            rounds.variable.name().as_bytes() == name
                 && is_whole(&rounds.initial, from)
                 && is_whole(&rounds.limit, to)
                 && steps_by(&rounds, by)

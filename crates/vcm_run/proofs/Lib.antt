@@ -1,5 +1,5 @@
 pub mod Evaluating
-pub mod Tabling
+pub mod Opened
 pub mod Runs
 pub mod Reaching
 pub mod Printing

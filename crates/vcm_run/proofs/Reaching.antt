@@ -15,8 +15,10 @@ use Rattle.vcm_run.specs.declared.stepping.Stepped.{Stepped}
 use Rattle.vcm_run.specs.declared.stepping.Stepped.TheVariants as stepped
 use Rattle.vcm_run.specs.LeftOut.{first_left_out}
 use Rattle.vcm_run.specs.Steps.{HasStepped}
-use Rattle.vcm_run.specs.Run.{next_node, takes_memory, IsRun}
-use Rattle.vcm_run.proofs.Runs.{node_at-block, number_at-block, one_behind, some_node, there, at_place, front_is, step_is, next_is, one_more_step, one_more_effective, stopped_effective, effective-add}
+use Rattle.vcm_spec.specs.Printing.{next_node, takes_memory}
+use Rattle.vcm_run.specs.Run.{IsRun}
+use Rattle.vcm_spec.proofs.Steps.{one_more_step, one_more_effective, stopped_effective, effective-add}
+use Rattle.vcm_run.proofs.Runs.{node_at-block, number_at-block, one_behind, some_node, there, at_place, front_is, step_is, next_is}
 
 -- after `done` steps of at most n the run has come to the i-th node, and has not stopped
 pub record IsReached (setup : Setup) (ns : List Kept) (n : ℕ) (w : World) (i done : ℕ) : Type 0 where

@@ -1,13 +1,11 @@
 -- Runs of straight programs, step by step.
 use Rattle.std.proofs.Common.{◌≡◌, ℕ, zero, suc, ◌+◌, ◌<◌, ◌≤◌, true, false, List, [], ◌∷◌, length, Option, Some, None, refl, sym, ap, ◌∙◌, subst, arith}
 use Rattle.std.specs.Prelude.{IsTrue, slice_get}
-use Rattle.vcm_spec.specs.declared.stop.StopPlace.{StopPlace}
 use Rattle.vcm_spec.specs.Setup.{Tables, Setup}
 use Rattle.vcm_spec.specs.Fitting.{NodeFits, BlockFits}
 use Rattle.vcm_spec.specs.Program.{Node, Block, size, sizes, node_at, number_at}
 use Rattle.vcm_spec.specs.World.{World}
-use Rattle.vcm_spec.specs.Table.{Rest, State, state, front, drop_if_none, act, at_node, unless_stopped, step, steps, effective, next_number, number_of}
-use Rattle.vcm_spec.proofs.Steps.{steps-add}
+use Rattle.vcm_spec.specs.Table.{Rest, State, state, front, drop_if_none, act, at_node, unless_stopped, step, next_number, number_of}
 use Rattle.vcm_tree.specs.declared.node.Node.{Node as Kept}
 use Rattle.vcm_tree.specs.declared.node.Node.TheVariants as kept
 use Rattle.vcm_tree.specs.Nodes.{node_of, block_of}
@@ -94,44 +92,6 @@ step_is setup w b i n none e =
 pub next_is : (w : World) (ns : List Kept) (i : ℕ) (n : Kept) → first_left_out (block_of ns) ≡ None → slice_get ns i ≡ Some n → i ≤ length ns
     → next_number (Rest (block_of ns) 0 i ∷ []) ≡ i
 next_is w ns i n h e l = ap number_of (front_is (block_of ns) i (node_of n) (node_at-block ns i n e)) ∙ number_at-block ns 0 i h l ∙ omega arith
-
--- ---- steps that count
-
-pub one_more_step : (setup : Setup) (n : ℕ) (s : State) → steps setup (n + 1) s ≡ step setup (steps setup n s)
-one_more_step setup n s = steps-add setup n 1 s
-
--- all of n steps count, and the next one does where there is no stop
-pub one_more_effective : (setup : Setup) (n : ℕ) (s : State) → effective setup n s ≡ n → (steps setup n s).world.stop ≡ None → effective setup (n + 1) s ≡ n + 1
-one_more_effective setup zero s e none = ap (λ o. unless_stopped o 0 (suc 0)) none
-one_more_effective setup (suc n) s e none = by s.world.stop refl (one_more_effective setup n (step setup s))
-  where
-    by : (o : Option StopPlace) → s.world.stop ≡ o
-        → (effective setup n (step setup s) ≡ n → (steps setup n (step setup s)).world.stop ≡ None → effective setup (n + 1) (step setup s) ≡ n + 1)
-        → effective setup (suc n + 1) s ≡ suc n + 1
-    by (Some p) f ih = absurd (let z : 0 ≡ suc n = sym (ap (λ o. unless_stopped o 0 (suc (effective setup n (step setup s)))) f) ∙ e in omega arith)
-    by None f ih =
-        let m : suc (effective setup n (step setup s)) ≡ suc n = sym (ap (λ o. unless_stopped o 0 (suc (effective setup n (step setup s)))) f) ∙ e in
-        let k : suc n + 1 ≡ suc (n + 1) = omega arith in
-        ap (λ x. effective setup x s) k ∙ ap (λ o. unless_stopped o 0 (suc (effective setup (n + 1) (step setup s)))) f ∙ ap suc (ih (omega arith) none) ∙ sym k
-
--- behind a stop no step counts
-pub stopped_effective : (setup : Setup) (n : ℕ) (s : State) (p : StopPlace) → s.world.stop ≡ Some p → effective setup n s ≡ 0
-stopped_effective setup zero s p e = refl
-stopped_effective setup (suc n) s p e = ap (λ o. unless_stopped o 0 (suc (effective setup n (step setup s)))) e
-
-pub effective-add : (setup : Setup) (m n : ℕ) (s : State) → effective setup m s ≡ m → effective setup (m + n) s ≡ m + effective setup n (steps setup m s)
-effective-add setup zero n s e = (let k : zero + n ≡ n = omega arith in ap (λ x. effective setup x s) k ∙ omega arith)
-effective-add setup (suc m) n s e = by s.world.stop refl (effective-add setup m n (step setup s))
-  where
-    by : (o : Option StopPlace) → s.world.stop ≡ o
-        → (effective setup m (step setup s) ≡ m → effective setup (m + n) (step setup s) ≡ m + effective setup n (steps setup m (step setup s)))
-        → effective setup (suc m + n) s ≡ suc m + effective setup n (steps setup (suc m) s)
-    by (Some p) f ih = absurd (let z : 0 ≡ suc m = sym (ap (λ o. unless_stopped o 0 (suc (effective setup m (step setup s)))) f) ∙ e in omega arith)
-    by None f ih =
-        let q : suc (effective setup m (step setup s)) ≡ suc m = sym (ap (λ o. unless_stopped o 0 (suc (effective setup m (step setup s)))) f) ∙ e in
-        let k : suc m + n ≡ suc (m + n) = omega arith in
-        let r = ih (omega arith) in
-        ap (λ x. effective setup x s) k ∙ ap (λ o. unless_stopped o 0 (suc (effective setup (m + n) (step setup s)))) f ∙ omega (arith, r)
 
 pub there : (ns : List Kept) (i : ℕ) → i < length ns → (n : Kept) × (slice_get ns i ≡ Some n)
 there [] i l = absurd (omega arith)

@@ -1,4 +1,3 @@
-pub mod Tabled
 pub mod Steps
 pub mod Run
 pub mod LeftOut

@@ -1,5 +1,5 @@
 -- What the run of a program's text gives.
-use Rattle.std.specs.Prelude.{◌≡◌, ℕ, List, ◌⊎◌, None}
+use Rattle.std.specs.Prelude.{◌≡◌, ℕ, List, ◌⊎◌}
 use Rattle.vcm_lines.specs.declared.fault.SourceFault.{SourceFault}
 use Rattle.vcm_lines.specs.Fault.{NoMemoryOr}
 use Rattle.vcm_spec.specs.Workpiece.{Workpiece}

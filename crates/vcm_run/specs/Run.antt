@@ -1,33 +1,14 @@
 -- What a run of so many steps shows.
-use Rattle.std.specs.Prelude.{◌≡◌, ℕ, ◌<◌, Bool, true, false, IsTrue, List, [], ◌∷◌, Option, Some, None}
+use Rattle.std.specs.Prelude.{◌≡◌, ℕ, ◌<◌, IsTrue, Some, None}
 use Rattle.vcm_spec.specs.declared.stop.StopPlace.{StopPlace}
 use Rattle.vcm_spec.specs.Setup.{Setup}
-use Rattle.vcm_spec.specs.Simple.{Simple, Output, Text}
 use Rattle.vcm_spec.specs.World.{World}
-use Rattle.vcm_spec.specs.Program.{Node, Block, simple, node_at}
-use Rattle.vcm_spec.specs.Table.{Entry, Rest, EndIf, EndMeas, Loop, State, front, next_number, step, steps, effective, opening}
+use Rattle.vcm_spec.specs.Program.{Block}
+use Rattle.vcm_spec.specs.Table.{State, front, next_number, step, steps, effective, opening}
+use Rattle.vcm_spec.specs.Printing.{takes_memory, next_node}
 use Rattle.vcm_run.specs.declared.run.End.{End}
 use Rattle.vcm_run.specs.declared.run.End.TheVariants.{Count, Stopped, NoMemory}
 use Rattle.vcm_run.specs.declared.run.Ran.{Ran}
-
--- the node that is next, if a block's node is
-abbrev pub next_node : List Entry → Option Node
-next_node [] = None
-next_node (Rest b base i ∷ es) = node_at b i
-next_node (EndIf n ∷ es) = None
-next_node (EndMeas n ∷ es) = None
-next_node (Loop at v b close limit increment ∷ es) = None
-
--- whether a statement makes an output line
-abbrev pub prints : {E : Type 0} → Simple E → Bool
-prints (Output source i) = true
-prints (Text bytes) = true
-prints _ = false
-
--- whether a node is one that takes memory: an output line
-abbrev pub takes_memory : Option Node → Bool
-takes_memory (Some (simple line what)) = prints what
-takes_memory _ = false
 
 -- how a run ended, asked for n steps from the state `start`, at the state `reached` after `done` steps: it has stopped, so that these are the
 -- effective steps; or all n were taken, and it has not; or memory was refused to a statement that makes an output line and would not stop

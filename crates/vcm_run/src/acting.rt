@@ -8,11 +8,11 @@ ghost use Rattle.vcm_spec.specs.Outcome.{Outcome, calculated};
 ghost use Rattle.vcm_spec.specs.Simple.{Goto, Assign};
 ghost use Rattle.vcm_spec.specs.World.{World as State};
 ghost use Rattle.vcm_spec.specs.Effect.{effect};
+ghost use Rattle.vcm_spec.specs.Printing.{prints};
 ghost use Rattle.vcm_spec.specs.Fitting.{kinds, AreLengths, Fits, HasKindIn};
 ghost use Rattle.vcm_expr.specs.Slots.{IsTruth};
 ghost use Rattle.vcm_state.specs.Carried.{setup_of, Answers, Carried, CarriedOrHalted};
 ghost use Rattle.vcm_tree.specs.Nodes.{action_of};
-ghost use Rattle.vcm_run.specs.Run.{prints};
 
 use std::alloc::Global;
 use vcm_expr::{Typed, eval};

@@ -6,7 +6,6 @@ mod left_out;
 mod output;
 mod run;
 mod stepping;
-mod tables;
 
 pub use output::write_result;
 pub use run::{End, Ran, Refusal, Summary, run_text};

@@ -10,7 +10,8 @@ use std::io::Write;
 use vcm_expr::Name;
 use vcm_num::{Items, Point, WriteFault, thousandths_text, write_pieces};
 use vcm_spec::{Missing, MovePhase, Stop, StopPlace};
-use vcm_state::{Tables, World};
+use vcm_state::World;
+use vcm_tables::Tables;
 
 // The word of a part of a motion.
 fn phase_text(phase: MovePhase) -> &'static [u8]

@@ -4,23 +4,21 @@ ghost use Rattle.std.specs.Prelude.{◌≡◌, None, IfOk, IfErr};
 ghost use Rattle.vcm_spec.specs.World.{opening_world};
 ghost use Rattle.vcm_state.specs.Carried.{setup_of};
 ghost use Rattle.vcm_tree.specs.Nodes.{block_of};
-ghost use Rattle.vcm_tree.specs.Program.{IsWhole, tables_of};
+ghost use Rattle.vcm_tree.specs.Program.{IsWhole, tables};
 ghost use Rattle.vcm_run.specs.LeftOut.{first_left_out};
 ghost use Rattle.vcm_run.specs.Run.{IsRun};
 ghost use Rattle.vcm_run.specs.Programs.{IsSummary, IsRefusal};
 
 use crate::left_out::first_left_out;
 use crate::stepping::{Stepped, take_step};
-use crate::tables::tables_of;
 use std::alloc::Global;
 use std::marker::Model;
-use vcm_expr::Names;
 use vcm_lines::{FaultCode, SourceFault};
 use vcm_motion::Part;
 use vcm_num::NoMemory;
 use vcm_part::PartFault;
 use vcm_state::World;
-use vcm_tree::{Node, Noticed, accept};
+use vcm_tree::{Accepted, Node, Noticed, accept};
 
 /// How a run ended.
 #[derive(Clone, Copy, Debug, PartialEq, Eq)]
@@ -142,12 +140,12 @@ fn carry_on<P: Part>(
     (next, Ran { done, end })
 }
 
-// The state at the start, for a program with these names.
-fn opened<P: Part>(alloc: Global, part: &P, names: &Names) -> Result<World, NoMemory>
-    ensures tables { IfOk result (λ w. w.tables ≡ tables_of names.now) }
-    ensures state { IfOk result (λ w. w.state ≡ opening_world (setup_of (P.part part.now) (tables_of names.now))) }
+// The state at the start of a program.
+fn opened<P: Part>(alloc: Global, part: &P, accepted: &Accepted) -> Result<World, NoMemory>
+    ensures tables { IfOk result (λ w. w.tables ≡ tables accepted.now) }
+    ensures state { IfOk result (λ w. w.state ≡ opening_world (setup_of (P.part part.now) (tables accepted.now))) }
 {
-    let tables = tables_of(alloc, names)?;
+    let tables = accepted.tables(alloc)?;
     World::opening(alloc, &tables, part.bounds().home)
 }
 
@@ -173,7 +171,7 @@ pub fn run_text<P: Part>(
         let code = FaultCode::Unsupported;
         return Err(Refusal::Source(SourceFault { code, line }));
     }
-    let Ok(mut world) = opened(alloc, part, accepted.variables()) else {
+    let Ok(mut world) = opened(alloc, part, &accepted) else {
         return Err(Refusal::NoMemory);
     };
     let (next, ran) = carry_on(alloc, part, &mut world, accepted.tree().nodes(), n);

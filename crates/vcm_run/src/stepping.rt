@@ -2,12 +2,12 @@
 
 ghost use Rattle.std.specs.Prelude.{◌≡◌, List, IsTrue, Some, None, false};
 ghost use Rattle.vcm_spec.specs.Fitting.{NodeFits};
+ghost use Rattle.vcm_spec.specs.Printing.{takes_memory};
 ghost use Rattle.vcm_spec.specs.Table.{Entry, at_node};
 ghost use Rattle.vcm_state.specs.Carried.{setup_of};
 ghost use Rattle.vcm_tree.specs.Nodes.{node_of};
 ghost use Rattle.vcm_spec.specs.Whole.{is_end};
 ghost use Rattle.vcm_run.specs.LeftOut.{left_out};
-ghost use Rattle.vcm_run.specs.Run.{takes_memory};
 ghost use Rattle.vcm_run.specs.Steps.{HasStepped};
 
 use crate::acting::act;

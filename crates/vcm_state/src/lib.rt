@@ -2,10 +2,8 @@
 #![tactic(auto)]
 
 mod stop;
-mod tables;
 mod world;
 
 pub use stop::Halt;
-pub use tables::{Tables, Variable};
 pub use vcm_spec::{Missing, MovePhase, Stop, StopPlace};
 pub use world::World;

@@ -7,13 +7,13 @@ ghost use Rattle.vcm_spec.specs.FirstTouch.{free_move};
 ghost use Rattle.vcm_state.specs.Carried.{Answers};
 
 use crate::stop::Halt;
-use crate::tables::Tables;
 use std::alloc::Global;
 use std::marker::Model;
 use vcm_motion::Part;
 use vcm_num::{Items, NoMemory, Point};
 use vcm_part::is_within;
 use vcm_spec::{MovePhase, Stop, StopPlace};
+use vcm_tables::Tables;
 
 /// The most output lines of a run.
 const MAX_LINES: usize = 100_000;

@@ -8,6 +8,7 @@ use Rattle.vcm_lines.specs.declared.fault.FaultCode.{FaultCode}
 use Rattle.vcm_lines.specs.declared.fault.FaultCode.TheVariants.{BadSyntax, Unsupported}
 use Rattle.vcm_lines.specs.Lexemes.{Lexeme, Run, Quoted, Equals, Open, Close, is_spelled}
 use Rattle.vcm_lines.specs.Cuts.{last_of, front_of}
+use Rattle.vcm_spec.specs.TextBytes.{is_text}
 use Rattle.vcm_expr.specs.NameBytes.{is_name}
 use Rattle.vcm_expr.specs.Parts.{is_variable_name}
 use Rattle.vcm_expr.specs.Source.{Source}
@@ -53,6 +54,15 @@ IsText _ t = ⊥
 abbrev pub BreaksText : List Lexeme → FaultCode → Type 0
 BreaksText (Quoted bs ∷ []) code = ⊥
 BreaksText _ code = code ≡ BadSyntax
+
+-- what TEXT shows: a text of at most 1,024 bytes, each of which may stand in one
+abbrev pub IsMessage : List Lexeme → List ℕ → Type 0
+IsMessage (Quoted bs ∷ []) t = (is_text bs ≡ true) × (t ≡ bs)
+IsMessage _ t = ⊥
+
+abbrev pub BreaksMessage : List Lexeme → FaultCode → Type 0
+BreaksMessage (Quoted bs ∷ []) code = (is_text bs ≡ false) × (code ≡ BadSyntax)
+BreaksMessage _ code = code ≡ BadSyntax
 
 -- anything, but no dotted word that there isn't
 abbrev pub IsRest : List (List Lexeme) → Type 0

@@ -6,7 +6,7 @@ ghost use Rattle.vcm_expr.specs.Parsing.{At};
 ghost use Rattle.vcm_syntax.specs.Forms.{IsDmismn, BreaksDmismn, IsMetric, BreaksMetric, IsUnits, BreaksUnits, IsDeclaration, BreaksDeclaration, IsDecl, BreaksDecl, IsAssign, BreaksAssign, IsSpot, BreaksSpot, IsPlace, BreaksPlace, IsGoto, BreaksGoto, IsGohome, IsSay, BreaksSay, IsEndfil, BreaksAlone, IsIf, BreaksIf, IsElse, IsEndif, IsStep, IsRange, BreaksRange, IsStepped, BreaksStepped, IsRounds, BreaksRounds, IsDo, BreaksDo, IsEnddo, IsMark, BreaksMark, IsJumpto, BreaksJumpto, IsPrefix, BreaksPrefix, IsPassed, BreaksPassed, IsForm, BreaksForm};
 
 use crate::places::{
-    aim, bad_syntax, bare, end, offered, opened, quoted, single, test, text, title, unused, word,
+    aim, bad_syntax, bare, end, message, offered, opened, quoted, single, test, title, unused, word,
 };
 use crate::statement::{Form, Major, Notice, Rounds, Spot};
 use crate::variables::{kind, target, unscoped, variable, variables};
@@ -208,9 +208,9 @@ fn say(
         }
         [to, words, rest @ ..] => {
             offered(line, to, b"OPER")?;
-            let text = text(alloc, line, words)?;
+            let message = message(alloc, line, words)?;
             end(line, rest)?;
-            Ok(Form::Say(text))
+            Ok(Form::Say(message))
         }
     }
 }

@@ -6,11 +6,12 @@ ghost use Rattle.std.specs.Str.{bytes_eq};
 ghost use Rattle.vcm_lines.specs.Fault.{NoMemoryOr};
 ghost use Rattle.vcm_lines.specs.Lexemes.{Lexeme, lexeme, is_spelled};
 ghost use Rattle.vcm_expr.specs.Parsing.{At};
-ghost use Rattle.vcm_syntax.specs.Places.{IsBare, BreaksBare, IsWord, BreaksWord, BreaksOffered, IsSingle, BreaksSingle, IsText, BreaksText, IsRest, BreaksRest, IsEnd, BreaksEnd, IsTitle, BreaksTitle, IsLabel, BreaksLabel, within, begun, IsTest, BreaksTest, IsOpened, BreaksOpened, IsAim, BreaksAim};
+ghost use Rattle.vcm_syntax.specs.Places.{IsBare, BreaksBare, IsWord, BreaksWord, BreaksOffered, IsSingle, BreaksSingle, IsText, BreaksText, IsMessage, BreaksMessage, IsRest, BreaksRest, IsEnd, BreaksEnd, IsTitle, BreaksTitle, IsLabel, BreaksLabel, within, begun, IsTest, BreaksTest, IsOpened, BreaksOpened, IsAim, BreaksAim};
 
+use crate::message::{Message, is_text};
 use std::alloc::Global;
 use vcm_expr::{Expr, Name, is_name, read_expr};
-use vcm_lines::{FaultCode, Phrase, SourceFault, Text, Token};
+use vcm_lines::{FaultCode, Phrase, SourceFault, Token};
 
 pub(crate) fn is(bytes: &[u8], word: &[u8]) -> bool
     ensures { result ≡ bytes_eq bytes.now word.now }
@@ -104,13 +105,21 @@ pub(crate) fn quoted<'a>(line: u32, words: &Phrase<'a>) -> Result<&'a [u8], Sour
     }
 }
 
-/// A text.
-pub(crate) fn text(alloc: Global, line: u32, words: &Phrase<'_>) -> Result<Text, SourceFault>
-    ensures ok { IfOk result (IsText words.now) }
-    ensures fault { IfErr result (NoMemoryOr (At line (BreaksText words.now))) }
+/// What `TEXT` shows.
+pub(crate) fn message(alloc: Global, line: u32, words: &Phrase<'_>) -> Result<Message, SourceFault>
+    ensures ok { IfOk result (IsMessage words.now) }
+    ensures fault { IfErr result (NoMemoryOr (At line (BreaksMessage words.now))) }
 {
-    let bytes = quoted(line, words)?;
-    Ok(Text::copied(alloc, bytes)?)
+    match only(words) {
+        Some(Token::Quoted(bytes)) => {
+            if is_text(bytes) {
+                Ok(Message::copied(alloc, bytes)?)
+            } else {
+                Err(bad_syntax(line))
+            }
+        }
+        _ => Err(bad_syntax(line)),
+    }
 }
 
 fn all_spelled(fields: &[Phrase<'_>]) -> bool

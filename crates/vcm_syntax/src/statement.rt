@@ -3,8 +3,8 @@
 ghost use Rattle.std.specs.Prelude.{◌≡◌};
 ghost use Rattle.vcm_syntax.specs.Majors.{word_of};
 
-use vcm_expr::{Expr, Name};
-use vcm_lines::Text;
+use crate::message::Message;
+use vcm_expr::{Expr, Name, VariableName};
 use vcm_num::{Items, Kind};
 
 /// A statement that has no effect, by its major word.
@@ -79,7 +79,7 @@ pub struct Spot {
 /// How often a block is repeated, from the words of `DO`.
 #[derive(Drop)]
 pub struct Rounds {
-    pub variable: Name,
+    pub variable: VariableName,
     pub initial: Expr,
     pub limit: Expr,
     /// 1 where it is left out.
@@ -96,15 +96,15 @@ pub enum Form {
     /// A statement without effect.
     Ignored(Notice),
     /// `DECL`: the kind of variables, and their names.
-    Declaration(Kind, Items<Name>),
+    Declaration(Kind, Items<VariableName>),
     /// `ASSIGN`: a variable's name, and the value that it gets.
     Assignment(Name, Expr),
     /// `GOTO`: the place to go to.
     Move(Spot),
     /// `GOHOME`.
     Home,
-    /// `TEXT`: what stands between the apostrophes.
-    Say(Text),
+    /// `TEXT`: what it shows.
+    Say(Message),
     /// `IF`: the test.
     Test(Expr),
     /// `ELSE`.

@@ -7,11 +7,12 @@ use Rattle.vcm_lines.specs.Statements.{lines_of}
 use Rattle.vcm_spec.specs.Phase.{IsClean, FirstFault}
 use Rattle.vcm_syntax.specs.declared.statement.Statement.{Statement}
 use Rattle.vcm_tree.specs.Statements.{BreaksStatements, statement_line}
-use Rattle.vcm_tree.specs.Resolving.{BreaksNames, names_line}
+use Rattle.vcm_tree.specs.Resolving.{start, BreaksNames, names_line}
 use Rattle.vcm_tree.specs.Jumps.{labels_of, jumps_of, BreaksJumps, jumps_line}
 use Rattle.vcm_tree.specs.Program.{Parsed, IsWhole, tables_of}
 use Rattle.vcm_tree.specs.Acceptance.{ReadsLines, ReadsText, ReadsProgram, IsAccepted, IsRefused, in_statements, in_names, in_jumps}
 use Rattle.vcm_tree.proofs.FewStatements.{few_statements, ended_of}
+use Rattle.vcm_tree.proofs.NamedVariables.{spelled_named}
 use Rattle.vcm_tree.proofs.Wholeness.{parsed_whole}
 
 pub statements_refused : (text : List ℕ) (ls : List Logical) (f : SourceFault) → ReadsLines text ls
@@ -34,7 +35,7 @@ pub read_whole : (text : List ℕ) (ls : List Logical) (ss : List Statement) (p 
     → IsClean (BreaksJumps (labels_of p.program)) (jumps_of p.program) → IsWhole p.program (tables_of p.variables)
 read_whole text ls ss p read program jumps =
     let few : length ss ≤ 20000 = few_statements (lines_of text) ls ss read.read.clean read.read.lines read.spelled.statements in
-    parsed_whole ss p (ended_of ss read.order) few program.clean program.is jumps
+    parsed_whole ss p (ended_of ss read.order) few program.clean program.is (spelled_named start ls ss read.spelled.statements tt) jumps
 
 pub accepted_whole : (text : List ℕ) (p : Parsed) → IsAccepted text p → IsWhole p.program (tables_of p.variables)
 accepted_whole text p a = read_whole text a.lines a.statements p a.read a.program a.jumps

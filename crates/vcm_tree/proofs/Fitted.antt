@@ -29,7 +29,7 @@ use Rattle.vcm_tree.proofs.Written.{StepFits, PiecesFit}
 
 -- ---- the table grows
 
-then_ok-Ok : {A B : Type 0} (o : Result A FaultCode) (go : A → Result B FaultCode) (b : B) → then_ok o go ≡ Ok b → (a : A) × (o ≡ Ok a) × (go a ≡ Ok b)
+pub then_ok-Ok : {A B : Type 0} (o : Result A FaultCode) (go : A → Result B FaultCode) (b : B) → then_ok o go ≡ Ok b → (a : A) × (o ≡ Ok a) × (go a ≡ Ok b)
 then_ok-Ok (Ok a) go b e = (a, refl, e)
 then_ok-Ok (Err d) go b e = absurd cc
 

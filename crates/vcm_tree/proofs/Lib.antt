@@ -1,7 +1,7 @@
 pub mod Ordering
 pub mod Spelling
 pub mod FewStatements
-pub mod Tables
+pub mod DeclaredNames
 pub mod Builders
 pub mod Repeats
 pub mod Takings
@@ -14,9 +14,11 @@ pub mod Written
 pub mod Meant
 pub mod Ending
 pub mod Fitted
+pub mod NamedVariables
 pub mod OneProgram
 pub mod Wholeness
 pub mod Accepting
 pub mod AcceptanceLaws
 pub mod Existing
 pub mod Reaching
+pub mod Tabling

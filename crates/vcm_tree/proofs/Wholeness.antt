@@ -5,6 +5,7 @@ use Rattle.std.specs.List.{filter}
 use Rattle.std.proofs.lemmas.List.{append-nil}
 use Rattle.vcm_spec.specs.Phase.{IsClean}
 use Rattle.vcm_spec.specs.Program.{sizes}
+use Rattle.vcm_expr.specs.Names.{AreNamed}
 use Rattle.vcm_syntax.specs.declared.statement.Statement.{Statement}
 use Rattle.vcm_syntax.specs.Statements.{is_counted}
 use Rattle.vcm_tree.specs.Order.{is_ended}
@@ -16,10 +17,11 @@ use Rattle.vcm_tree.proofs.Walking.{all_mean}
 use Rattle.vcm_tree.proofs.Written.{piece_labels, PiecesNest, PiecesFit, ends_last, pieces_length, pieces_marks, pieces_nests, closed_last, pieces_fit}
 use Rattle.vcm_tree.proofs.Meant.{labels_all, counted_all, few_pieces, last_ends, nest_all, distinct_all}
 use Rattle.vcm_tree.proofs.Fitted.{fit_all}
+use Rattle.vcm_tree.proofs.NamedVariables.{tables_named}
 
-pub parsed_whole : (ss : List Statement) (p : Parsed) → IsTrue (is_ended ss) → length ss ≤ 20000 → IsClean BreaksNames ss → IsParsed ss p
+pub parsed_whole : (ss : List Statement) (p : Parsed) → IsTrue (is_ended ss) → length ss ≤ 20000 → IsClean BreaksNames ss → IsParsed ss p → AreNamed (behind_all start ss).variables
     → IsClean (BreaksJumps (labels_of p.program)) (jumps_of p.program) → IsWhole p.program (tables_of p.variables)
-parsed_whole ss p last few clean is jumps =
+parsed_whole ss p last few clean is named jumps =
     let mean = all_mean [] ss clean in
     let short = few_pieces start ss in
     let long = sym (pieces_length p.program) ∙ ap (λ (l : List Piece). length l) is.program in
@@ -30,6 +32,7 @@ parsed_whole ss p last few clean is jumps =
       closed = sym (closed_last p.program) ∙ ap ends_last is.program ∙ last_ends start ss last mean;
       few = omega (arith, short, long, few);
       fits = pieces_fit (tables_of p.variables) p.program (subst (λ vs. PiecesFit (tables_of vs) (pieces p.program)) (sym is.variables) fits);
+      named = tables_named p.variables (subst AreNamed (sym is.variables) named);
       nested = (pieces_nests p.program 0 [] nests).0;
       once = subst AreDistinct labels (distinct_all start ss mean tt);
       jumps = jumps;

@@ -1,86 +1,14 @@
 -- Structured programs as stored data, by which two of them are told apart.
-use Rattle.std.specs.Prelude.{◌≡◌, ℕ, List, Option, refl}
-use Rattle.vcm_num.specs.declared.axis.Axis.{Axis}
-use Rattle.std.specs.Coded.{Coded, coded_ℕ, coded_list, coded_option}
+use Rattle.std.specs.Prelude.{◌≡◌, ℕ, List, refl}
+use Rattle.std.specs.Coded.{Coded, coded_ℕ, coded_list}
 use base.Stored.{Gv, gnil, gnum, gcons}
-use Rattle.vcm_num.specs.contracts.axis.Axis as axis
-use Rattle.vcm_spec.specs.contracts.words.Setting as setting
-use Rattle.vcm_spec.specs.contracts.words.Source as source
-use Rattle.vcm_spec.specs.Expression.{Tree}
-use Rattle.vcm_spec.specs.Simple.{Simple, Goto, GoHome, Assign, Feat, PtMeas, SnSet, Trans, Rotate, Recall, Obtain, Output, Text}
 use Rattle.vcm_spec.specs.Program.{Label, Node, Block, simple, label, jump, choice, choice_else, do_loop, meas, ending, done, then}
-use Rattle.vcm_expr.specs.Codes.{tree_code, tree_inj}
-
--- the code of a direction that may be left out
-abbrev pub axes : Coded (Option Axis)
-axes = coded_option axis.the_row.coded
+use Rattle.vcm_spec.specs.SimpleCodes.{simple_code, simple_inj}
+use Rattle.vcm_expr.specs.Codes.{tree_code, tree_inj, tree_coded}
 
 -- the code of a text
 abbrev pub bytes : Coded (List ℕ)
 bytes = coded_list coded_ℕ
-
--- a simple statement as stored data
-abbrev pub simple_code : Simple Tree → Gv
-simple_code (Goto x0 x1 x2) = gcons (gcons gnil (gcons gnil (gcons gnil gnil))) (gcons (tree_code x0) (gcons (tree_code x1) (gcons (tree_code x2) gnil)))
-simple_code GoHome = gcons (gcons (gcons gnil gnil) (gcons gnil (gcons gnil gnil))) gnil
-simple_code (Assign x0 x1) = gcons (gcons gnil (gcons (gcons gnil gnil) (gcons gnil gnil))) (gcons (gnum x0) (gcons (tree_code x1) gnil))
-simple_code (Feat x0 x1 x2 x3 x4) = gcons (gcons (gcons gnil gnil) (gcons (gcons gnil gnil) (gcons gnil gnil))) (gcons (gnum x0) (gcons (tree_code x1) (gcons (tree_code x2) (gcons (tree_code x3) (gcons (axis.the_row.coded.code x4) gnil)))))
-simple_code (PtMeas x0 x1 x2 x3 x4) = gcons (gcons gnil (gcons gnil (gcons (gcons gnil gnil) gnil))) (gcons (gnum x0) (gcons (tree_code x1) (gcons (tree_code x2) (gcons (tree_code x3) (gcons (axes.code x4) gnil)))))
-simple_code (SnSet x0 x1) = gcons (gcons (gcons gnil gnil) (gcons gnil (gcons (gcons gnil gnil) gnil))) (gcons (setting.the_row.coded.code x0) (gcons (tree_code x1) gnil))
-simple_code (Trans x0 x1 x2 x3) = gcons (gcons gnil (gcons (gcons gnil gnil) (gcons (gcons gnil gnil) gnil))) (gcons (gnum x0) (gcons (tree_code x1) (gcons (tree_code x2) (gcons (tree_code x3) gnil))))
-simple_code (Rotate x0 x1 x2) = gcons (gcons (gcons gnil gnil) (gcons (gcons gnil gnil) (gcons (gcons gnil gnil) gnil))) (gcons (gnum x0) (gcons (gnum x1) (gcons (gnum x2) gnil)))
-simple_code (Recall x0) = gcons (gcons gnil (gcons gnil (gcons gnil (gcons gnil gnil)))) (gcons (gnum x0) gnil)
-simple_code (Obtain x0 x1 x2 x3) = gcons (gcons (gcons gnil gnil) (gcons gnil (gcons gnil (gcons gnil gnil)))) (gcons (gnum x0) (gcons (source.the_row.coded.code x1) (gcons (gnum x2) (gcons (gnum x3) gnil))))
-simple_code (Output x0 x1) = gcons (gcons gnil (gcons (gcons gnil gnil) (gcons gnil (gcons gnil gnil)))) (gcons (source.the_row.coded.code x0) (gcons (gnum x1) gnil))
-simple_code (Text x0) = gcons (gcons (gcons gnil gnil) (gcons (gcons gnil gnil) (gcons gnil (gcons gnil gnil)))) (gcons (bytes.code x0) gnil)
-
--- those that are stored alike are equal
-pub simple_inj : (x y : Simple Tree) → simple_code x ≡ simple_code y → x ≡ y
-simple_inj (Goto x0 x1 x2) (Goto y0 y1 y2) e =
-    let g0 : (tree_code x0) ≡ (tree_code y0) = cc in let h0 = tree_inj x0 y0 g0 in
-    let g1 : (tree_code x1) ≡ (tree_code y1) = cc in let h1 = tree_inj x1 y1 g1 in
-    let g2 : (tree_code x2) ≡ (tree_code y2) = cc in let h2 = tree_inj x2 y2 g2 in cc
-simple_inj GoHome GoHome e = refl
-simple_inj (Assign x0 x1) (Assign y0 y1) e =
-    let h0 : x0 ≡ y0 = cc in
-    let g1 : (tree_code x1) ≡ (tree_code y1) = cc in let h1 = tree_inj x1 y1 g1 in cc
-simple_inj (Feat x0 x1 x2 x3 x4) (Feat y0 y1 y2 y3 y4) e =
-    let h0 : x0 ≡ y0 = cc in
-    let g1 : (tree_code x1) ≡ (tree_code y1) = cc in let h1 = tree_inj x1 y1 g1 in
-    let g2 : (tree_code x2) ≡ (tree_code y2) = cc in let h2 = tree_inj x2 y2 g2 in
-    let g3 : (tree_code x3) ≡ (tree_code y3) = cc in let h3 = tree_inj x3 y3 g3 in
-    let g4 : (axis.the_row.coded.code x4) ≡ (axis.the_row.coded.code y4) = cc in let h4 = axis.the_row.coded.inj x4 y4 g4 in cc
-simple_inj (PtMeas x0 x1 x2 x3 x4) (PtMeas y0 y1 y2 y3 y4) e =
-    let h0 : x0 ≡ y0 = cc in
-    let g1 : (tree_code x1) ≡ (tree_code y1) = cc in let h1 = tree_inj x1 y1 g1 in
-    let g2 : (tree_code x2) ≡ (tree_code y2) = cc in let h2 = tree_inj x2 y2 g2 in
-    let g3 : (tree_code x3) ≡ (tree_code y3) = cc in let h3 = tree_inj x3 y3 g3 in
-    let g4 : (axes.code x4) ≡ (axes.code y4) = cc in let h4 = axes.inj x4 y4 g4 in cc
-simple_inj (SnSet x0 x1) (SnSet y0 y1) e =
-    let g0 : (setting.the_row.coded.code x0) ≡ (setting.the_row.coded.code y0) = cc in let h0 = setting.the_row.coded.inj x0 y0 g0 in
-    let g1 : (tree_code x1) ≡ (tree_code y1) = cc in let h1 = tree_inj x1 y1 g1 in cc
-simple_inj (Trans x0 x1 x2 x3) (Trans y0 y1 y2 y3) e =
-    let h0 : x0 ≡ y0 = cc in
-    let g1 : (tree_code x1) ≡ (tree_code y1) = cc in let h1 = tree_inj x1 y1 g1 in
-    let g2 : (tree_code x2) ≡ (tree_code y2) = cc in let h2 = tree_inj x2 y2 g2 in
-    let g3 : (tree_code x3) ≡ (tree_code y3) = cc in let h3 = tree_inj x3 y3 g3 in cc
-simple_inj (Rotate x0 x1 x2) (Rotate y0 y1 y2) e =
-    let h0 : x0 ≡ y0 = cc in
-    let h1 : x1 ≡ y1 = cc in
-    let h2 : x2 ≡ y2 = cc in cc
-simple_inj (Recall x0) (Recall y0) e =
-    let h0 : x0 ≡ y0 = cc in cc
-simple_inj (Obtain x0 x1 x2 x3) (Obtain y0 y1 y2 y3) e =
-    let h0 : x0 ≡ y0 = cc in
-    let g1 : (source.the_row.coded.code x1) ≡ (source.the_row.coded.code y1) = cc in let h1 = source.the_row.coded.inj x1 y1 g1 in
-    let h2 : x2 ≡ y2 = cc in
-    let h3 : x3 ≡ y3 = cc in cc
-simple_inj (Output x0 x1) (Output y0 y1) e =
-    let g0 : (source.the_row.coded.code x0) ≡ (source.the_row.coded.code y0) = cc in let h0 = source.the_row.coded.inj x0 y0 g0 in
-    let h1 : x1 ≡ y1 = cc in cc
-simple_inj (Text x0) (Text y0) e =
-    let g0 : (bytes.code x0) ≡ (bytes.code y0) = cc in let h0 = bytes.inj x0 y0 g0 in cc
-simple_inj _ _ e = cc
 
 -- a label as stored data
 abbrev pub label_code : Label → Gv
@@ -101,7 +29,7 @@ label_inj x y e =
 -- a node as stored data, and a block
 abbrev mutual
   pub node_code : Node → Gv
-  node_code (simple x0 x1) = gcons (gcons gnil (gcons gnil (gcons gnil gnil))) (gcons (gnum x0) (gcons (simple_code x1) gnil))
+  node_code (simple x0 x1) = gcons (gcons gnil (gcons gnil (gcons gnil gnil))) (gcons (gnum x0) (gcons (simple_code tree_coded x1) gnil))
   node_code (label x0 x1) = gcons (gcons (gcons gnil gnil) (gcons gnil (gcons gnil gnil))) (gcons (gnum x0) (gcons (label_code x1) gnil))
   node_code (jump x0 x1) = gcons (gcons gnil (gcons (gcons gnil gnil) (gcons gnil gnil))) (gcons (gnum x0) (gcons (label_code x1) gnil))
   node_code (choice x0 x1 x2 x3) = gcons (gcons (gcons gnil gnil) (gcons (gcons gnil gnil) (gcons gnil gnil))) (gcons (gnum x0) (gcons (tree_code x1) (gcons (block_code x2) (gcons (gnum x3) gnil))))
@@ -119,7 +47,7 @@ mutual
   pub node_inj : (x y : Node) → node_code x ≡ node_code y → x ≡ y
   node_inj (simple x0 x1) (simple y0 y1) e =
       let h0 : x0 ≡ y0 = cc in
-      let g1 : (simple_code x1) ≡ (simple_code y1) = cc in let h1 = simple_inj x1 y1 g1 in cc
+      let g1 : (simple_code tree_coded x1) ≡ (simple_code tree_coded y1) = cc in let h1 = simple_inj tree_coded x1 y1 g1 in cc
   node_inj (label x0 x1) (label y0 y1) e =
       let h0 : x0 ≡ y0 = cc in
       let g1 : (label_code x1) ≡ (label_code y1) = cc in let h1 = label_inj x1 y1 g1 in cc

@@ -13,3 +13,4 @@ pub mod Building
 pub mod Taking
 pub mod Acceptance
 pub mod Laws
+pub mod Tabled

@@ -1,12 +1,13 @@
 -- What the statements of a text are: a structured program with the tables of its names, and notices.
 use Rattle.std.specs.Prelude.{◌≡◌, ℕ, ◌+◌, ◌<◌, ◌≤◌, IsTrue, not, List, [], ◌∷◌, map}
-use Rattle.std.specs.List.{flat_map}
+use Rattle.std.specs.List.{AllByRecursion, flat_map}
 use Rattle.vcm_spec.specs.Setup.{Tables}
 use Rattle.vcm_spec.specs.Program.{Label, Node, Block, choice, choice_else, do_loop, meas, done, then, sizes}
 use Rattle.vcm_spec.specs.Whole.{is_closed}
 use Rattle.vcm_spec.specs.Phase.{IsClean}
 use Rattle.vcm_spec.specs.Fitting.{BlockFits}
 use Rattle.vcm_expr.specs.Names.{Variable}
+use Rattle.vcm_expr.specs.Parts.{IsVariableName}
 use Rattle.vcm_syntax.specs.declared.statement.Form.TheVariants.{Ignored}
 use Rattle.vcm_syntax.specs.declared.statement.Statement.{Statement}
 use Rattle.vcm_tree.specs.declared.program.Noticed.{Noticed}
@@ -60,12 +61,17 @@ abbrev pub AreDistinct : List Label → Type 0
 AreDistinct [] = Unit {0}
 AreDistinct (l ∷ ls) = IsTrue (not (is_among ls l)) × AreDistinct ls
 
--- A whole program: its last node is ENDFIL, it has at most 20,000 statements, they fit its tables, its blocks nest at most 32 deep, no jump
--- label stands twice, and each jump reaches its label.
+-- each variable of the tables has a variable's name
+abbrev pub HaveVariableNames : Tables → Type 0
+HaveVariableNames ts = AllByRecursion (λ v. IsVariableName v.name) ts.variables
+
+-- A whole program: its last node is ENDFIL, it has at most 20,000 statements, they fit its tables, whose variables have the names of
+-- variables, its blocks nest at most 32 deep, no jump label stands twice, and each jump reaches its label.
 pub record IsWhole (program : Block) (ts : Tables) : Type 0 where
   pub closed : IsTrue (is_closed program)
   pub few : sizes program ≤ 20000
   pub fits : BlockFits ts program
+  pub named : HaveVariableNames ts
   pub nested : BlockNests 0 program
   pub once : AreDistinct (labels_of program)
   pub jumps : IsClean (BreaksJumps (labels_of program)) (jumps_of program)

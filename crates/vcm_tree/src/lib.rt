@@ -13,6 +13,7 @@ mod phases;
 mod program;
 mod resolving;
 mod statements;
+mod tables;
 
 pub use node::{Action, Block, Label, Node};
 pub use phases::accept;

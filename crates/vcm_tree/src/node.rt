@@ -8,7 +8,7 @@ use std::alloc::{AllocError, Global};
 use std::hash::{Hash, Hasher};
 use std::marker::Model;
 use vcm_expr::{Name, Typed};
-use vcm_lines::Text;
+use vcm_syntax::Message;
 
 /// A simple statement: its expressions are typed, and variables go by their indexes.
 #[derive(Drop)]
@@ -20,7 +20,7 @@ pub enum Action {
     /// `ASSIGN`: a variable, and its new value, which has the variable's kind.
     Assign(u16, Typed),
     /// `TEXT`: an output line.
-    Text(Text),
+    Text(Message),
 }
 
 /// A jump label: its name, and the number of the macro expansion that it belongs to, 0 outside macros. Contracts see it as that of the

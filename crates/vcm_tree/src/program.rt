@@ -13,11 +13,14 @@ use crate::count::count;
 use crate::labels::Labels;
 use crate::node::Block;
 use crate::resolving::{Progress, take};
+use crate::tables::tables_of;
 use std::alloc::{AllocError, Global};
 use std::marker::Model;
 use vcm_expr::{Name, Names};
 use vcm_lines::SourceFault;
+use vcm_num::NoMemory;
 use vcm_syntax::{Form, Notice, Statement};
+use vcm_tables::Tables;
 
 /// A line that has no effect, by its number and its major word.
 #[derive(Clone, Copy, Debug, PartialEq, Eq)]
@@ -99,7 +102,7 @@ impl Model for Accepted {
 }
 
 impl Accepted {
-    ghost use Rattle.std.specs.Prelude.{◌≡◌};
+    ghost use Rattle.std.specs.Prelude.{◌≡◌, ◌≤◌, IfOk, OnOk, length};
     ghost use Rattle.vcm_spec.specs.Program.{sizes};
     ghost use Rattle.vcm_tree.specs.Program.{Parsed, IsWhole, tables, tables_of};
 
@@ -142,6 +145,16 @@ impl Accepted {
         ensures { result.now ≡ (tables self.now).frames }
     {
         &[]
+    }
+
+    /// The names of the program, each at its index: those that the readers above give, at most 4,096 variables.
+    ///
+    /// Errors: want of memory.
+    pub fn tables(&self, alloc: Global) -> Result<Tables, NoMemory>
+        ensures tables { IfOk result (λ t. t ≡ tables self.now) }
+        ensures few { OnOk result (length self.now.variables ≤ 4096) }
+    {
+        tables_of(alloc, &self.names)
     }
 
     /// The lines that have no effect, in order.

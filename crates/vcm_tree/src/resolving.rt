@@ -12,7 +12,7 @@ use crate::builder::{Builder, Head};
 use crate::labels::Labels;
 use crate::node::{Action, Label};
 use std::alloc::Global;
-use vcm_expr::{Expr, Name, Names, Typed, Want, type_expr};
+use vcm_expr::{Expr, Name, Names, Typed, VariableName, Want, type_expr};
 use vcm_lines::{FaultCode, SourceFault};
 use vcm_num::Kind;
 use vcm_spec::Operand;
@@ -29,11 +29,11 @@ fn is_declared(names: &Names, name: &Name) -> bool
 }
 
 // A variable more in the table.
-fn declare(line: u32, names: &mut Names, kind: Kind, name: &Name) -> Result<(), SourceFault>
+fn declare(line: u32, names: &mut Names, kind: Kind, name: &VariableName) -> Result<(), SourceFault>
     ensures ok { OnOk result (with_one names.old kind name.now ≡ Ok names.new) }
     ensures fault { IfErr result (NoMemoryOr (ToldAt line (with_one names.old kind name.now))) }
 {
-    if is_declared(names, name) {
+    if is_declared(names, name.name()) {
         let code = FaultCode::DuplicateName;
         return Err(SourceFault { code, line });
     }
@@ -55,7 +55,7 @@ fn declare_all(
     line: u32,
     names: &mut Names,
     kind: Kind,
-    declared: &[Name],
+    declared: &[VariableName],
 ) -> Result<(), SourceFault>
     ensures ok { OnOk result (with_all names.old kind declared.now ≡ Ok names.new) }
     ensures fault { IfErr result (NoMemoryOr (ToldAt line (with_all names.old kind declared.now))) }
@@ -145,7 +145,7 @@ fn body(alloc: Global, line: u32, names: &Names, rounds: &Rounds) -> Result<Head
     ensures ok { IfOk result (λ h. IsBody names.now rounds.now line h) }
     ensures fault { IfErr result (NoMemoryOr (ToldAt line (repeated names.now rounds.now))) }
 {
-    let variable = index(line, names, &rounds.variable)?;
+    let variable = index(line, names, rounds.variable.name())?;
     let initial = type_expr(alloc, &rounds.initial, line, names, Want::Int)?;
     let limit = type_expr(alloc, &rounds.limit, line, names, Want::Int)?;
     let increment = increment(alloc, line, names, &rounds.increment)?;

@@ -1,4 +1,4 @@
-use Rattle.std.proofs.Common.{refl, sym, ◌∙◌, ap, Ok}
+use Rattle.std.proofs.Common.{rules, refl, sym, ◌∙◌, ap, Ok}
 use Rattle.vcm_job.proofs.JobLemmas.{job_run, program_refused}
 use Rattle.vcm_job.proofs.running.summary_of.Goals as goal
 
@@ -11,3 +11,6 @@ returns-clause-run c =
     let part_is = (rw c.texts_of.ensures.part at c.in-Ok.ensures) ∙ ap Ok (sym c.new.ensures) in
     job_run c.args.steps c.requires c.args.input.now _ part_is c.in-Ok-run_text.summary (rw c.texts_of.ensures.program at c.in-Ok-run_text.ensures.run)
     (λ e. c.if-is_halted.ensures.ample refl (ap (λ r. r.end) c.ran-ran.ensures ∙ e))
+
+pub returns-in-Err-clause-fault : goal.returns-in-Err-clause-fault
+returns-in-Err-clause-fault c = search rules

@@ -19,7 +19,7 @@ pub returns-in-Text-clause-carried : goal.returns-in-Text-clause-carried
 returns-in-Text-clause-carried g c =
     let said = text_effect (setup_of (g.P.Part.part c.args.part.now) c.args.world.now.tables) c.args.world.now.state c.in-Text.text in
     rw c.in-Text.is (subst (λ o. CarriedOrHalted o c.args.world.now.state c.text.new.self.state c.text.result) (sym said)
-    (rw c.as_bytes.ensures at (c.text.ensures (g.P.Part.part c.args.part.now))).0)
+    (rw c.as_bytes.ensures.is at (c.text.ensures (g.P.Part.part c.args.part.now))).0)
 
 pub returns-in-Text-clause-tables : goal.returns-in-Text-clause-tables
 returns-in-Text-clause-tables g c = (c.text.ensures (g.P.Part.part c.args.part.now)).1

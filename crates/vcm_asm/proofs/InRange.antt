@@ -1,0 +1,68 @@
+-- The fields of a whole program's code are in the ranges of an image.
+use Rattle.std.proofs.Common.{ℕ, suc, ◌+◌, ◌≤◌, List, [], ◌∷◌, ◌++◌, length, arith, length-append}
+use Rattle.vcm_num.specs.declared.number.Kind.{Kind}
+use Rattle.vcm_spec.specs.declared.expression.Item.TheVariants.{Apply, Combine}
+use Rattle.vcm_spec.specs.Expression.{Tree, Value, One, Two, spelling}
+use Rattle.vcm_spec.specs.Simple.{Simple, Goto, GoHome, Assign, Feat, PtMeas, SnSet, Trans, Rotate, Recall, Obtain, Output, Text, with_form}
+use Rattle.vcm_spec.specs.Setup.{Tables}
+use Rattle.vcm_spec.specs.Fitting.{kinds, Fits, HasKindIn, NodeFits, BlockFits}
+use Rattle.vcm_spec.specs.Program.{Label as Name, Node, Block, simple, label, jump, choice, choice_else, do_loop, meas, ending, done, then, size, sizes}
+use Rattle.vcm_code.specs.Code.{Statement}
+use Rattle.vcm_code.specs.Ranges.{IsShort, SimpleInRange, AllInRange}
+use Rattle.vcm_asm.specs.Spelled.{Keeps, SimpleKeeps, NodeKeeps, BlockKeeps}
+use Rattle.vcm_asm.specs.Depth.{NodeDeep, Deep}
+use Rattle.vcm_asm.specs.Assembled.{node_code, block_code}
+
+-- an expression has items
+spelled : (t : Tree) → 1 ≤ length (spelling t)
+spelled (Value x) = omega arith
+spelled (One op a) = omega (arith, length-append (spelling a) (Apply op ∷ []))
+spelled (Two op a b) = omega (arith, length-append (spelling a) (spelling b ++ Combine op ∷ []), length-append (spelling b) (Combine op ∷ []))
+
+range_join : (a b : List Statement) → AllInRange a → AllInRange b → AllInRange (a ++ b)
+range_join [] b h k = k
+range_join (x ∷ a) b h k = (h.0, range_join a b h.1 k)
+
+module _ (tables : Tables) where
+  short : (t : Tree) (k : Kind) → HasKindIn tables t k → Keeps t → IsShort (spelling t)
+  short t k h kept = (spelled t, (kept (kinds tables) k h).1)
+
+  simple_range : (what : Simple Tree) → Fits (HasKindIn tables) tables what → SimpleKeeps what → SimpleInRange (with_form spelling what)
+  simple_range (Goto x y z) h m = (short x _ h.0 m.0, short y _ h.1 m.1, short z _ h.2 m.2)
+  simple_range GoHome h m = tt
+  simple_range (Assign v e) h m = short e h.0 h.2 m
+  simple_range (Feat i x y z d) h m = absurd m
+  simple_range (PtMeas i x y z d) h m = absurd m
+  simple_range (SnSet which e) h m = absurd m
+  simple_range (Trans i x y z) h m = absurd m
+  simple_range (Rotate i axis n) h m = absurd m
+  simple_range (Recall i) h m = absurd m
+  simple_range (Obtain v source i word) h m = absurd m
+  simple_range (Output source i) h m = absurd m
+  simple_range (Text bytes) h m = m
+
+  module _ (to : Name → ℕ) where
+    mutual
+      node_range : (n : Node) (d base : ℕ) → NodeFits tables n → NodeKeeps n → NodeDeep n d → AllInRange (node_code to n d base)
+      node_range (simple line what) d base h m deep = (simple_range what h m, tt)
+      node_range (label line l) d base h m deep = (tt, tt)
+      node_range (jump line l) d base h m deep = (tt, tt)
+      node_range (choice line test first close) d base h m deep =
+          (short test _ h.0 m.0, range_join (block_code to first d (base + 1)) _ (block_range first d (base + 1) h.1 m.1 deep) (tt, tt))
+      node_range (choice_else line test first mid second close) d base h m deep = (
+        short test _ h.0 m.0,
+        range_join (block_code to first d (base + 1)) _ (block_range first d (base + 1) h.1 m.1 deep.0)
+            (tt, range_join (block_code to second d (base + 1 + sizes first + 1)) _ (block_range second d (base + 1 + sizes first + 1) h.2 m.2 deep.1) (tt, tt)),
+      )
+      node_range (do_loop line v a b c body close) d base h m deep = (
+        (deep.0, short a _ h.1 m.0, short b _ h.2 m.1, short c _ h.3 m.2),
+        range_join (block_code to body (suc d) (base + 1)) _ (block_range body (suc d) (base + 1) h.4 m.3 deep.1) (deep.0, tt),
+      )
+      node_range (meas line feature body close) d base h m deep =
+          (tt, range_join (block_code to body d (base + 1)) _ (block_range body d (base + 1) h.1 m deep) (tt, tt))
+      node_range (ending line) d base h m deep = (tt, tt)
+
+      pub block_range : (b : Block) (d base : ℕ) → BlockFits tables b → BlockKeeps b → Deep b d → AllInRange (block_code to b d base)
+      block_range done d base h m deep = tt
+      block_range (then n b) d base h m deep =
+          range_join (node_code to n d base) _ (node_range n d base h.0 m.0 deep.0) (block_range b d (base + size n) h.1 m.1 deep.1)

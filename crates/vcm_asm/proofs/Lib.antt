@@ -1,0 +1,10 @@
+pub mod Structured
+pub mod Place
+pub mod Follow
+pub mod Lines
+pub mod Numbering
+pub mod Targeted
+pub mod Emits
+pub mod ValidCode
+pub mod InRange
+pub mod Whole

@@ -1,0 +1,196 @@
+-- The flat code of a whole program is valid.
+use Rattle.std.proofs.Common.{ℕ, suc, ◌+◌, ◌<◌, ◌≤◌, List, [], ◌∷◌, ◌++◌, Bool, true, false, sym, subst, arith}
+use Rattle.std.specs.Prelude.{IsTrue}
+use Rattle.vcm_num.specs.declared.number.Kind.{Kind}
+use Rattle.vcm_spec.specs.Expression.{Tree, spelling}
+use Rattle.vcm_spec.specs.Simple.{Simple, Goto, GoHome, Assign, Feat, PtMeas, SnSet, Trans, Rotate, Recall, Obtain, Output, Text, with_form}
+use Rattle.vcm_spec.specs.Setup.{Tables}
+use Rattle.vcm_spec.specs.Fitting.{kinds, Fits, HasKindIn, NodeFits, BlockFits}
+use Rattle.vcm_spec.specs.Program.{Label as Name, Node, Block, simple, label, jump, choice, choice_else, do_loop, meas, ending, done, then, size, sizes, is_same_label}
+use Rattle.vcm_spec.specs.Table.{if_true}
+use Rattle.vcm_spec.specs.Whole.{is_end, is_closed}
+use Rattle.vcm_tree.specs.Program.{IsWhole}
+use Rattle.vcm_code.specs.Code.{Statement}
+use Rattle.vcm_code.specs.Valid.{HasItems, AllFit, Ends, IsValid, PairsBelow}
+use Rattle.vcm_asm.specs.Spelled.{Keeps, SimpleKeeps, NodeKeeps, BlockKeeps}
+use Rattle.vcm_asm.specs.Depth.{NodeDeep, Deep}
+use Rattle.vcm_asm.specs.Assembled.{Mark, node_marks, marks, node_code, block_code, place_in, flat_code}
+use Rattle.vcm_asm.proofs.Place.{block_length}
+
+size_positive : (n : Node) → 0 < size n
+size_positive (simple line what) = omega arith
+size_positive (label line l) = omega arith
+size_positive (jump line l) = omega arith
+size_positive (choice line test first close) = omega arith
+size_positive (choice_else line test first mid second close) = omega arith
+size_positive (do_loop line v a b c body close) = omega arith
+size_positive (meas line feature body close) = omega arith
+size_positive (ending line) = omega arith
+
+-- the labels' numbers are numbers of statements
+abbrev MarksBelow : List Mark → ℕ → Type 0
+MarksBelow [] s = Unit {0}
+MarksBelow (m ∷ ms) s = (m.1 < s) × MarksBelow ms s
+
+marks_join : (a b : List Mark) (s : ℕ) → MarksBelow a s → MarksBelow b s → MarksBelow (a ++ b) s
+marks_join [] b s h k = k
+marks_join (m ∷ a) b s h k = (h.0, marks_join a b s h.1 k)
+
+mutual
+  node_marks_below : (n : Node) (base s : ℕ) → base + size n ≤ s → MarksBelow (node_marks n base) s
+  node_marks_below (simple line what) base s le = tt
+  node_marks_below (label line l) base s le = (omega arith, tt)
+  node_marks_below (jump line l) base s le = tt
+  node_marks_below (choice line test first close) base s le = marks_below first (base + 1) s (omega arith)
+  node_marks_below (choice_else line test first mid second close) base s le =
+      marks_join (marks first (base + 1)) _ s (marks_below first (base + 1) s (omega arith)) (marks_below second (base + 1 + sizes first + 1) s (omega arith))
+  node_marks_below (do_loop line v a b c body close) base s le = marks_below body (base + 1) s (omega arith)
+  node_marks_below (meas line feature body close) base s le = marks_below body (base + 1) s (omega arith)
+  node_marks_below (ending line) base s le = tt
+
+  marks_below : (b : Block) (base s : ℕ) → base + sizes b ≤ s → MarksBelow (marks b base) s
+  marks_below done base s le = tt
+  marks_below (then n b) base s le =
+      marks_join (node_marks n base) _ s (node_marks_below n base s (omega arith)) (marks_below b (base + size n) s (omega arith))
+
+place_below : (ms : List Mark) (s : ℕ) (l : Name) → 0 < s → MarksBelow ms s → place_in ms l < s
+place_below [] s l pos h = pos
+place_below (m ∷ ms) s l pos h = here (is_same_label m.0 l) (place_below ms s l pos h.1)
+  where
+    here : (t : Bool) → place_in ms l < s → if_true t m.1 (place_in ms l) < s
+    here true r = h.0
+    here false r = r
+
+module _ (tables : Tables) where
+  -- an expression keeps its kind
+  keeps : (t : Tree) (k : Kind) → HasKindIn tables t k → Keeps t → HasItems tables (spelling t) k
+  keeps t k h kept = (kept (kinds tables) k h).0
+
+  simple_fits : (what : Simple Tree) → Fits (HasKindIn tables) tables what → SimpleKeeps what → Fits (HasItems tables) tables (with_form spelling what)
+  simple_fits (Goto x y z) h s = (keeps x _ h.0 s.0, keeps y _ h.1 s.1, keeps z _ h.2 s.2)
+  simple_fits GoHome h s = tt
+  simple_fits (Assign v e) h s = (h.0, h.1, keeps e h.0 h.2 s)
+  simple_fits (Feat i x y z d) h s = absurd s
+  simple_fits (PtMeas i x y z d) h s = absurd s
+  simple_fits (SnSet which e) h s = absurd s
+  simple_fits (Trans i x y z) h s = absurd s
+  simple_fits (Rotate i axis n) h s = absurd s
+  simple_fits (Recall i) h s = absurd s
+  simple_fits (Obtain v source i word) h s = absurd s
+  simple_fits (Output source i) h s = absurd s
+  simple_fits (Text bytes) h s = tt
+
+  fits_join : (s : ℕ) (a b : List Statement) → AllFit tables s a → AllFit tables s b → AllFit tables s (a ++ b)
+  fits_join s [] b h k = k
+  fits_join s (x ∷ a) b h k = (h.0, fits_join s a b h.1 k)
+
+  module _ (to : Name → ℕ) (s : ℕ) (places : (l : Name) → to l < s) where
+    mutual
+      node_fits : (n : Node) (d base : ℕ) → base + size n < s → NodeFits tables n → NodeKeeps n → AllFit tables s (node_code to n d base)
+      node_fits (simple line what) d base lt h m = (simple_fits what h m, tt)
+      node_fits (label line l) d base lt h m = (tt, tt)
+      node_fits (jump line l) d base lt h m = (places l, tt)
+      node_fits (choice line test first close) d base lt h m =
+          ((keeps test _ h.0 m.0, omega arith), fits_join s (block_code to first d (base + 1)) _ (block_fits first d (base + 1) (omega arith) h.1 m.1) (tt, tt))
+      node_fits (choice_else line test first mid second close) d base lt h m = (
+        (keeps test _ h.0 m.0, omega arith),
+        fits_join s (block_code to first d (base + 1)) _ (block_fits first d (base + 1) (omega arith) h.1 m.1)
+            (omega arith, fits_join s (block_code to second d (base + 1 + sizes first + 1)) _ (block_fits second d (base + 1 + sizes first + 1) (omega arith) h.2 m.2) (tt, tt)),
+      )
+      node_fits (do_loop line v a b c body close) d base lt h m = (
+        (h.0, keeps a _ h.1 m.0, keeps b _ h.2 m.1, keeps c _ h.3 m.2, omega arith),
+        fits_join s (block_code to body (suc d) (base + 1)) _ (block_fits body (suc d) (base + 1) (omega arith) h.4 m.3) ((h.0, omega arith), tt),
+      )
+      node_fits (meas line feature body close) d base lt h m =
+          (h.0, fits_join s (block_code to body d (base + 1)) _ (block_fits body d (base + 1) (omega arith) h.1 m) (tt, tt))
+      node_fits (ending line) d base lt h m = (tt, tt)
+
+      block_fits : (b : Block) (d base : ℕ) → base + sizes b < s → BlockFits tables b → BlockKeeps b → AllFit tables s (block_code to b d base)
+      block_fits done d base lt h m = tt
+      block_fits (then n b) d base lt h m =
+          fits_join s (node_code to n d base) _ (node_fits n d base (omega arith) h.0 m.0) (block_fits b d (base + size n) (omega arith) h.1 m.1)
+
+    -- the program, whose last node is ENDFIL
+    whole_fits : (b : Block) (base : ℕ) → IsTrue (is_closed b) → base + sizes b ≤ s → BlockFits tables b → BlockKeeps b → AllFit tables s (block_code to b 0 base)
+    whole_fits done base c le h m = tt
+    whole_fits (then n done) base c le h m = last n c
+      where
+        last : (n : Node) → IsTrue (is_end n) → AllFit tables s (node_code to n 0 base ++ [])
+        last (ending line) c = (tt, tt)
+        last (simple line what) c = absurd cc
+        last (label line l) c = absurd cc
+        last (jump line l) c = absurd cc
+        last (choice line test first close) c = absurd cc
+        last (choice_else line test first mid second close) c = absurd cc
+        last (do_loop line v x y z body close) c = absurd cc
+        last (meas line feature body close) c = absurd cc
+    whole_fits (then n (then n' b)) base c le h m =
+        let pos = size_positive n' in
+        fits_join s (node_code to n 0 base) _ (node_fits n 0 base (omega arith) h.0 m.0) (whole_fits (then n' b) (base + size n) c (omega arith) h.1 m.1)
+
+last_join : (a : List Statement) (y : Statement) (b : List Statement) → Ends (y ∷ b) → Ends (a ++ y ∷ b)
+last_join [] y b h = h
+last_join (x ∷ []) y b h = h
+last_join (x ∷ (x' ∷ a)) y b h = last_join (x' ∷ a) y b h
+
+last_after : (a b : List Statement) → Ends b → Ends (a ++ b)
+last_after a [] h = absurd h
+last_after a (y ∷ b) h = last_join a y b h
+
+last_ends : (to : Name → ℕ) (b : Block) (base : ℕ) → IsTrue (is_closed b) → Ends (block_code to b 0 base)
+last_ends to done base c = absurd cc
+last_ends to (then n done) base c = last n c
+  where
+    last : (n : Node) → IsTrue (is_end n) → Ends (node_code to n 0 base ++ [])
+    last (ending line) c = tt
+    last (simple line what) c = absurd cc
+    last (label line l) c = absurd cc
+    last (jump line l) c = absurd cc
+    last (choice line test first close) c = absurd cc
+    last (choice_else line test first mid second close) c = absurd cc
+    last (do_loop line v x y z body close) c = absurd cc
+    last (meas line feature body close) c = absurd cc
+last_ends to (then n (then n' b)) base c =
+    last_after (node_code to n 0 base) _ (last_ends to (then n' b) (base + size n) c)
+
+closed_positive : (b : Block) → IsTrue (is_closed b) → 0 < sizes b
+closed_positive done c = absurd cc
+closed_positive (then n b) c = let pos = size_positive n in omega arith
+
+-- the pairs of a program's code
+pairs_join : (a b : List Statement) → PairsBelow a → PairsBelow b → PairsBelow (a ++ b)
+pairs_join [] b h k = k
+pairs_join (x ∷ a) b h k = (h.0, pairs_join a b h.1 k)
+
+mutual
+  node_pairs : (to : Name → ℕ) (n : Node) (d base : ℕ) → NodeDeep n d → PairsBelow (node_code to n d base)
+  node_pairs to (simple line what) d base h = (tt, tt)
+  node_pairs to (label line l) d base h = (tt, tt)
+  node_pairs to (jump line l) d base h = (tt, tt)
+  node_pairs to (choice line test first close) d base h =
+      (tt, pairs_join (block_code to first d (base + 1)) _ (block_pairs to first d (base + 1) h) (tt, tt))
+  node_pairs to (choice_else line test first mid second close) d base h =
+      (tt, pairs_join (block_code to first d (base + 1)) _ (block_pairs to first d (base + 1) h.0) (tt, pairs_join (block_code to second d (base + 1 + sizes first + 1)) _ (block_pairs to second d (base + 1 + sizes first + 1) h.1) (tt, tt)))
+  node_pairs to (do_loop line v a b c body close) d base h =
+      (h.0, pairs_join (block_code to body (suc d) (base + 1)) _ (block_pairs to body (suc d) (base + 1) h.1) (h.0, tt))
+  node_pairs to (meas line feature body close) d base h =
+      (tt, pairs_join (block_code to body d (base + 1)) _ (block_pairs to body d (base + 1) h) (tt, tt))
+  node_pairs to (ending line) d base h = (tt, tt)
+
+  block_pairs : (to : Name → ℕ) (b : Block) (d base : ℕ) → Deep b d → PairsBelow (block_code to b d base)
+  block_pairs to done d base h = tt
+  block_pairs to (then n b) d base h = pairs_join (node_code to n d base) _ (node_pairs to n d base h.0) (block_pairs to b d (base + size n) h.1)
+
+pub pairs : (program : Block) → Deep program 0 → PairsBelow (flat_code program)
+pairs program h = block_pairs (place_in (marks program 0)) program 0 0 h
+
+pub valid : (program : Block) (tables : Tables) → IsWhole program tables → BlockKeeps program
+    → IsValid (record { tables = tables; statements = flat_code program })
+valid program tables a small =
+    let to = place_in (marks program 0) in
+    let len = block_length to program 0 0 in
+    let places = λ (l : Name). place_below (marks program 0) (sizes program) l (closed_positive program a.closed) (marks_below program 0 (sizes program) (omega arith)) in
+    record {
+      fit = subst (λ n. AllFit tables n (flat_code program)) (sym len) (whole_fits tables to (sizes program) places program 0 a.closed (omega arith) a.fits small);
+      ends = last_ends to program 0 a.closed;
+    }

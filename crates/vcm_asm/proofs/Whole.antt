@@ -1,0 +1,58 @@
+-- The statement code of a whole program.
+use Rattle.std.proofs.Common.{◌≡◌, ◌≤◌, suc, List, [], ◌∷◌, length, refl, sym, ap, subst, arith}
+use Rattle.vcm_spec.specs.Setup.{Tables, setup_of}
+use Rattle.vcm_spec.specs.Program.{Block}
+use Rattle.vcm_expr.specs.Names.{Variable}
+use Rattle.vcm_tree.specs.Program.{IsWhole, tables_of}
+use Rattle.vcm_code.specs.Code.{Statement, Code}
+use Rattle.vcm_code.specs.Valid.{IsValid}
+use Rattle.vcm_code.specs.Ranges.{AllInRange, AreNames, IsInRange}
+use Rattle.vcm_asm.specs.Spelled.{BlockKeeps}
+use Rattle.vcm_asm.specs.Assembled.{marks, place_in, flat_code}
+use Rattle.vcm_asm.specs.Headline.{IsAssembled}
+use Rattle.vcm_asm.proofs.Structured.{structured}
+use Rattle.vcm_asm.proofs.Place.{block_length}
+use Rattle.vcm_asm.proofs.Follow.{same}
+use Rattle.vcm_asm.proofs.Lines.{lines_are}
+use Rattle.vcm_asm.proofs.ValidCode.{valid}
+use Rattle.vcm_asm.proofs.InRange.{block_range}
+
+-- the tables of so many variables have as many
+pub table_length : (vs : List Variable) → length (tables_of vs).variables ≡ length vs
+table_length [] = refl
+table_length (v ∷ vs) = ap suc (table_length vs)
+
+module _ (program : Block) (tables : Tables) (whole : IsWhole program tables) where
+  -- the code with these tables and statements
+  abbrev with_statements : List Statement → Code
+  with_statements ss = record { tables = tables; statements = ss }
+
+  pub assembled : IsAssembled program tables (with_statements (flat_code program))
+  assembled = record {
+    follows = λ part n. same (setup_of part tables) program whole.closed (structured program tables whole) n;
+    tables_are = refl;
+    lines_are = lines_are (place_in (marks program 0)) program 0 0;
+  }
+
+  pub all_valid : BlockKeeps program → IsValid (with_statements (flat_code program))
+  all_valid kept = valid program tables whole kept
+
+  few_statements : length (flat_code program) ≤ 20000
+  few_statements = (let l = block_length (place_in (marks program 0)) program 0 0 in let few = whole.few in omega (arith, l, few))
+
+  all_in_range : BlockKeeps program → AllInRange (flat_code program)
+  all_in_range kept = block_range tables (place_in (marks program 0)) program 0 0 whole.fits kept (structured program tables whole).deep
+
+  -- where there are few variables, and no features and frames yet
+  pub in_range : length tables.variables ≤ 4096 → tables.features ≡ [] → tables.frames ≡ [] → BlockKeeps program → IsInRange (with_statements (flat_code program))
+  in_range few no_features no_frames kept = record {
+    variables = (few, whole.named);
+    features = subst (λ ns. (length ns ≤ 4096) × AreNames ns) (sym no_features) (omega arith, tt);
+    frames = subst (λ ns. (length ns ≤ 4096) × AreNames ns) (sym no_frames) (omega arith, tt);
+    statements = (few_statements, all_in_range kept);
+  }
+
+  -- what holds of that code holds of one with these tables and statements, where they are the same
+  pub with_code : (P : Code → Type 0) (ts : Tables) (ss : List Statement) → ts ≡ tables → ss ≡ flat_code program → P (with_statements (flat_code program))
+      → P (record { tables = ts; statements = ss })
+  with_code P ts ss e f h = subst (λ x. P (record { tables = x; statements = ss })) (sym e) (subst (λ x. P (with_statements x)) (sym f) h)

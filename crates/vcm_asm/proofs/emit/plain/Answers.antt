@@ -1,0 +1,14 @@
+use Rattle.std.proofs.Common.{rules}
+use Rattle.vcm_asm.proofs.emit.plain.Goals as goal
+
+pub returns-in_ok-z-in-Goto-clause-keeps : goal.returns-in_ok-z-in-Goto-clause-keeps
+returns-in_ok-z-in-Goto-clause-keeps c = rw c.in-Goto.is (c.in_ok-x-in-Goto.ensures.keeps, c.in_ok-y-in-Goto.ensures.keeps, c.in_ok-z-in-Goto.ensures.keeps)
+
+pub returns-in_ok-e-in-Assign-clause-keeps : goal.returns-in_ok-e-in-Assign-clause-keeps
+returns-in_ok-e-in-Assign-clause-keeps c = rw c.in-Assign.is c.in_ok-e-in-Assign.ensures.keeps
+
+pub returns-in_ok-bytes-in-Text-clause-keeps : goal.returns-in_ok-bytes-in-Text-clause-keeps
+returns-in_ok-bytes-in-Text-clause-keeps c = rw c.in-Text.is c.as_bytes.ensures.text
+
+pub returns-in_ok-e-in-Assign-clause-op : goal.returns-in_ok-e-in-Assign-clause-op
+returns-in_ok-e-in-Assign-clause-op c = search rules

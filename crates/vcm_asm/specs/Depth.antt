@@ -1,0 +1,19 @@
+-- How deep the loops of a program nest.
+use Rattle.std.specs.Prelude.{ℕ, suc, ◌<◌}
+use Rattle.vcm_spec.specs.Program.{Node, Block, simple, label, jump, choice, choice_else, do_loop, meas, ending, done, then}
+
+-- where d DO stand around a node, or a block, at most 32 stand around each of its statements
+abbrev mutual
+  pub NodeDeep : Node → ℕ → Type 0
+  NodeDeep (simple line what) d = Unit {0}
+  NodeDeep (label line l) d = Unit {0}
+  NodeDeep (jump line l) d = Unit {0}
+  NodeDeep (choice line test first close) d = Deep first d
+  NodeDeep (choice_else line test first mid second close) d = Deep first d × Deep second d
+  NodeDeep (do_loop line v initial limit increment body close) d = (d < 32) × Deep body (suc d)
+  NodeDeep (meas line feature body close) d = Deep body d
+  NodeDeep (ending line) d = Unit {0}
+
+  pub Deep : Block → ℕ → Type 0
+  Deep done d = Unit {0}
+  Deep (then n b) d = NodeDeep n d × Deep b d

@@ -1,0 +1,8 @@
+pub mod Assembled
+pub mod Once
+pub mod Depth
+pub mod Spelled
+pub mod Targets
+pub mod OpCodes
+pub mod Headline
+pub mod Samples

@@ -1,0 +1,39 @@
+-- Expressions whose postfix spelling keeps their kind and is short enough for an image.
+use Rattle.std.specs.Prelude.{◌≡◌, ◌≤◌, List, length, Some}
+use Rattle.vcm_num.specs.declared.number.Kind.{Kind}
+use Rattle.vcm_spec.specs.Expression.{Tree, kind_of, spelling, HasKind}
+use Rattle.vcm_spec.specs.TextBytes.{IsText}
+use Rattle.vcm_spec.specs.Simple.{Simple, Goto, GoHome, Assign, Text}
+use Rattle.vcm_spec.specs.Program.{Node, Block, simple, label, jump, choice, choice_else, do_loop, meas, ending, done, then}
+
+-- whatever the kinds of the variables are, the spelling has the kind of the tree, and at most 1,024 items if it has one
+abbrev pub Keeps : Tree → Type 0
+Keeps t = (kinds : List Kind) (k : Kind) → kind_of kinds t ≡ Some k → HasKind kinds (spelling t) k × (length (spelling t) ≤ 1024)
+
+-- so of three
+abbrev pub KeepThree : Tree → Tree → Tree → Type 0
+KeepThree x y z = Keeps x × Keeps y × Keeps z
+
+-- so of the expressions of a simple statement that acceptance gives, whose text is one; of the others nothing is known
+abbrev pub SimpleKeeps : Simple Tree → Type 0
+SimpleKeeps (Goto x y z) = KeepThree x y z
+SimpleKeeps GoHome = Unit {0}
+SimpleKeeps (Assign v e) = Keeps e
+SimpleKeeps (Text bytes) = IsText bytes
+SimpleKeeps _ = ⊥
+
+-- so of all expressions and texts of a node, and of a block
+abbrev mutual
+  pub NodeKeeps : Node → Type 0
+  NodeKeeps (simple line what) = SimpleKeeps what
+  NodeKeeps (label line l) = Unit {0}
+  NodeKeeps (jump line l) = Unit {0}
+  NodeKeeps (choice line test first close) = Keeps test × BlockKeeps first
+  NodeKeeps (choice_else line test first mid second close) = Keeps test × BlockKeeps first × BlockKeeps second
+  NodeKeeps (do_loop line v initial limit increment body close) = Keeps initial × Keeps limit × Keeps increment × BlockKeeps body
+  NodeKeeps (meas line feature body close) = BlockKeeps body
+  NodeKeeps (ending line) = Unit {0}
+
+  pub BlockKeeps : Block → Type 0
+  BlockKeeps done = Unit {0}
+  BlockKeeps (then n b) = NodeKeeps n × BlockKeeps b

@@ -1,0 +1,86 @@
+//! Statements as they are written.
+
+ghost use Rattle.std.specs.Prelude.{◌≡◌, ◌≤◌, ◌<◌, [], ◌∷◌, ◌++◌, length, OnOk};
+ghost use Rattle.vcm_code.specs.Code.{statement};
+ghost use Rattle.vcm_code.specs.Ops.{op_of, statement_of, statements_of};
+ghost use Rattle.vcm_asm.specs.Targets.{with_target, Retargets};
+
+use std::alloc::Global;
+use std::marker::Model;
+use vcm_code::{Op, OwnedOp, OwnedStatement, Statement};
+use vcm_num::{Items, NoMemory};
+
+/// The statements that are written so far. Contracts see them as those of the code table.
+#[derive(Drop)]
+pub(crate) struct Emitted {
+    statements: Vec<OwnedStatement>,
+}
+
+impl Model for Emitted {
+    ghost use Rattle.std.specs.Prelude.{List};
+    ghost use Rattle.std.specs.Coded.{codes};
+    ghost use Rattle.vcm_code.specs.Code.{Statement as Meaning};
+    ghost use Rattle.vcm_asm.specs.OpCodes.{statement_coded};
+    ghost use Rattle.vcm_code.specs.Ops.{statements_of};
+
+    ghost Value = { List Meaning };
+
+    ghost coded = { Prim.hlevel (codes, statement_coded) };
+
+    ghost view = { λ e. statements_of e.statements.items };
+}
+
+impl Emitted {
+    /// No statements.
+    pub(crate) fn new(alloc: Global) -> Emitted
+        ensures { result ≡ [] }
+    {
+        Emitted {
+            statements: Vec::new(alloc),
+        }
+    }
+
+    /// The number of the next statement.
+    pub(crate) fn next(&self) -> u32
+        requires { length self.now ≤ 20000 }
+        ensures { result ≡ length self.now }
+    {
+        self.statements.len() as u32
+    }
+
+    /// One more statement, with its source line.
+    pub(crate) fn put(&mut self, line: u32, op: OwnedOp) -> Result<(), NoMemory>
+        ensures { OnOk result (self.new ≡ self.old ++ statement line (op_of op) ∷ []) }
+    {
+        self.statements.push(Statement { line, op })?;
+        Ok(())
+    }
+
+    /// Writes the target of a statement again.
+    pub(crate) fn set_target(&mut self, number: u32, target: u32)
+        requires { number < length self.old }
+        ensures length_same { length self.new ≡ length self.old }
+        ensures writes { Retargets self.old number target self.new }
+    {
+        retarget(&mut self.statements[number as usize], target);
+    }
+
+    /// The statements alone.
+    pub(crate) fn into_statements(self) -> Items<OwnedStatement>
+        ensures { statements_of result ≡ self }
+    {
+        Items::from_vec(self.statements)
+    }
+}
+
+// The same statement with another target.
+fn retarget(statement: &mut OwnedStatement, target: u32)
+    ensures { statement_of statement.new ≡ with_target (statement_of statement.old) target }
+{
+    match &mut statement.op {
+        Op::If(_, to) => *to = target,
+        Op::Else(to) => *to = target,
+        Op::Do(_, _, _, _, _, to) => *to = target,
+        _ => {}
+    }
+}

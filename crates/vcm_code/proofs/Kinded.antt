@@ -1,0 +1,67 @@
+-- Items have one kind at most; statements that fit, one by one; the last one.
+use Rattle.std.proofs.Common.{◌≡◌, ℕ, zero, suc, ◌+◌, ◌-◌, List, [], ◌∷◌, length, Bool, true, false, Some, refl, sym, ap, ◌∙◌, subst, drop, arith}
+use Rattle.std.specs.Prelude.{slice_get}
+use Rattle.vcm_num.specs.declared.number.Kind.{Kind}
+use Rattle.vcm_spec.specs.declared.expression.Item.{Item}
+use Rattle.vcm_spec.specs.Expression.{HasKind, kind_of}
+use Rattle.vcm_spec.specs.Setup.{Tables}
+use Rattle.vcm_spec.proofs.Postfix.{one_tree}
+use Rattle.vcm_code.specs.declared.op.Statement.{Statement as KeptStatement}
+use Rattle.vcm_code.specs.Ops.{statement_of, statements_of}
+use Rattle.vcm_code.specs.Valid.{OpFits, AllFit, IsLast, Ends}
+use Rattle.vcm_code.specs.Deciding.{Tells}
+
+pub one_kind : (kinds : List Kind) (items : List Item) (k l : Kind) → HasKind kinds items k → HasKind kinds items l → k ≡ l
+one_kind kinds items k l a b =
+    let e = one_tree a.tree b.tree (sym a.spelled ∙ b.spelled) in
+    let f = sym a.typed ∙ ap (kind_of kinds) e ∙ b.typed in cc
+
+pub same_kind : (kinds : List Kind) (items : List Item) (k want : Kind) (r : Bool) → HasKind kinds items k → Tells r (k ≡ want) → Tells r (HasKind kinds items want)
+same_kind kinds items k want r h t = record {
+  so = λ e. subst (HasKind kinds items) (t.so e) h;
+  only = λ a. t.only (one_kind kinds items k want h a);
+}
+
+pub no_kind : (kinds : List Kind) (items : List Item) (want : Kind) → ((k : Kind) → HasKind kinds items k → ⊥) → Tells false (HasKind kinds items want)
+no_kind kinds items want not = record { so = λ e. absurd cc; only = λ a. absurd (not want a) }
+
+-- statements in memory
+abbrev pub Kept : Type 0
+Kept = KeptStatement (List Item) (List ℕ)
+
+-- whether all fit, in a code of so many statements, hangs on those from the k-th on
+pub record Left (tables : Tables) (count : ℕ) (ss : List Kept) (k : ℕ) : Type 0 where
+  pub on : AllFit tables count (statements_of (drop k ss)) → AllFit tables count (statements_of ss)
+  pub back : AllFit tables count (statements_of ss) → AllFit tables count (statements_of (drop k ss))
+
+module _ (tables : Tables) (count : ℕ) (ss : List Kept) (k : ℕ) where
+  module _ (s : Kept) (split : drop k ss ≡ s ∷ drop (k + 1) ss) (left : Left tables count ss k) where
+    both : AllFit tables count (statements_of ss) → OpFits tables count (statement_of s).op × AllFit tables count (statements_of (drop (k + 1) ss))
+    both h = subst (λ l. AllFit tables count (statements_of l)) split (left.back h)
+
+    pub left_next : OpFits tables count (statement_of s).op → Left tables count ss (k + 1)
+    left_next fit = record {
+      on = λ h. left.on (subst (λ l. AllFit tables count (statements_of l)) (sym split) (fit, h));
+      back = λ h. (both h).1;
+    }
+
+    pub left_fails : (r : Bool) → r ≡ false → Tells r (OpFits tables count (statement_of s).op) → Tells false (AllFit tables count (statements_of ss))
+    left_fails r e t = record { so = λ f. absurd cc; only = λ h. absurd (differ (sym e ∙ t.only (both h).0)) }
+      where
+        differ : false ≡ true → ⊥
+        differ e = cc
+
+  pub left_end : drop k ss ≡ [] → Left tables count ss k → Tells true (AllFit tables count (statements_of ss))
+  left_end e left = record { so = λ t. left.on (subst (λ l. AllFit tables count (statements_of l)) (sym e) tt); only = λ h. refl }
+
+-- it is the last one that ends them
+ends_at : (ss : List Kept) (k : ℕ) (s : Kept) → slice_get ss k ≡ Some s → k + 1 ≡ length ss → Ends (statements_of ss) ≡ IsLast (statement_of s).op
+ends_at [] k s e l = absurd cc
+ends_at (x ∷ []) zero s e l = (let same : x ≡ s = cc in ap (λ y. IsLast (statement_of y).op) same)
+ends_at (x ∷ []) (suc k) s e l = absurd (omega arith)
+ends_at (x ∷ y ∷ ss) zero s e l = absurd (omega arith)
+ends_at (x ∷ y ∷ ss) (suc k) s e l = ends_at (y ∷ ss) k s e (omega arith)
+
+pub tells_end : (ss : List Kept) (s : Kept) (r : Bool) → Some s ≡ slice_get ss (length ss - 1) → Tells r (IsLast (statement_of s).op) → Tells r (Ends (statements_of ss))
+tells_end [] s r e t = absurd cc
+tells_end (x ∷ ss) s r e t = subst (Tells r) (sym (ends_at (x ∷ ss) (length (x ∷ ss) - 1) s (sym e) (omega arith))) t

@@ -1,0 +1,4 @@
+pub mod CodeRulesHold
+pub mod CodeRulesComputed
+pub mod CodeNeverStuck
+pub mod Kinded

@@ -1,0 +1,12 @@
+//! The statement code of a program.
+
+use crate::op::OwnedStatement;
+use vcm_num::Items;
+use vcm_tables::Tables;
+
+/// The statement code of a program: the tables of its names, and its statements, numbered from 0.
+#[derive(Drop)]
+pub struct Code {
+    pub tables: Tables,
+    pub statements: Items<OwnedStatement>,
+}

@@ -1,0 +1,14 @@
+//! The statement code of a program: tables of names and numbered statements, what one step of it does, and whether it is valid.
+#![tactic(auto)]
+
+mod code;
+mod fitting;
+pub mod laws;
+mod op;
+mod pair;
+mod validity;
+
+pub use code::Code;
+pub use op::{Op, OwnedOp, OwnedStatement, Statement};
+pub use pair::Pair;
+pub use validity::is_valid;

@@ -1,0 +1,24 @@
+-- Which statements make an output line, and so take memory.
+use Rattle.std.specs.Prelude.{Bool, true, false, Option, Some, None, List, [], ◌∷◌}
+use Rattle.vcm_spec.specs.Simple.{Simple, Output, Text}
+use Rattle.vcm_spec.specs.Program.{Node, simple, node_at}
+use Rattle.vcm_spec.specs.Table.{Entry, Rest, EndIf, EndMeas, Loop}
+
+-- whether a simple statement makes an output line
+abbrev pub prints : {E : Type 0} → Simple E → Bool
+prints (Output source i) = true
+prints (Text bytes) = true
+prints _ = false
+
+-- whether a node makes an output line, and so takes memory
+abbrev pub takes_memory : Option Node → Bool
+takes_memory (Some (simple line what)) = prints what
+takes_memory _ = false
+
+-- the node that is next, if a block's node is
+abbrev pub next_node : List Entry → Option Node
+next_node [] = None
+next_node (Rest b base i ∷ es) = node_at b i
+next_node (EndIf n ∷ es) = None
+next_node (EndMeas n ∷ es) = None
+next_node (Loop at v b close limit increment ∷ es) = None
