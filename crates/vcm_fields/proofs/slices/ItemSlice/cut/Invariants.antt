@@ -1,0 +1,6 @@
+use Rattle.vcm_fields.specs.Reading.{item_at}
+use Rattle.vcm_fields.proofs.Inverse.{Progress}
+use Rattle.vcm_fields.proofs.slices.ItemSlice.cut.Given as goal
+
+abbrev pub invariant-loop : goal.invariant-loop
+invariant-loop l = Progress item_at l.count l.counter l.bytes l.rest

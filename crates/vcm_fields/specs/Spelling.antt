@@ -1,0 +1,183 @@
+-- The one spelling of each part of a code.
+use Rattle.std.specs.Prelude.{ℕ, ◌<◌, ◌≤◌, ◌^◌, ◌==◌, ◌&&◌, ◌||◌, Bool, true, false, nat_le, IsTrue, not, ℤ, List, [], ◌∷◌, ◌++◌, length, FitsSigned, Option, Some, None}
+use Rattle.std.specs.List.{flat_map, AllByRecursion}
+use Rattle.std.specs.Int.{w16, w32, w64, to_le_bytes, cast_unsigned}
+use Rattle.vcm_num.specs.declared.number.Kind.{Kind}
+use Rattle.vcm_num.specs.declared.number.Kind.TheVariants.{Int, Real, Bool as Truths}
+use Rattle.vcm_spec.specs.declared.expression.Operand.{Operand}
+use Rattle.vcm_spec.specs.declared.expression.Operand.TheVariants.{Integer, Thousandths, Truth, Variable}
+use Rattle.vcm_spec.specs.declared.expression.UnaryOp.{UnaryOp}
+use Rattle.vcm_spec.specs.declared.expression.UnaryOp.TheVariants.{Neg, Scale, Not}
+use Rattle.vcm_spec.specs.declared.expression.BinaryOp.{BinaryOp}
+use Rattle.vcm_spec.specs.declared.expression.BinaryOp.TheVariants.{Add, Sub, Mul, Div, And, Or, Compare}
+use Rattle.vcm_spec.specs.declared.expression.Relation.TheVariants.{Equal, NotEqual, Less, LessEqual, Greater, GreaterEqual}
+use Rattle.vcm_spec.specs.declared.expression.Item.{Item}
+use Rattle.vcm_spec.specs.declared.expression.Item.TheVariants.{Push, Apply, Combine}
+use Rattle.vcm_code.specs.declared.op.Op.TheVariants.{EndFil, Goto, GoHome, Assign, If, Else, EndIf, Do, EndDo, Label, JumpTo, Feat, Meas, PtMeas, EndMes, SnSet, Trans, Rotate, Recall, Obtain, Output, Text}
+use Rattle.vcm_spec.specs.Setup.{Variable as Entry}
+use Rattle.vcm_fields.specs.declared.word.Word.{Word}
+use Rattle.vcm_fields.specs.declared.word.Word.TheVariants as words
+use Rattle.vcm_fields.specs.Parts.{Operation, Line}
+use Rattle.vcm_fields.specs.Words.{word_of}
+use Rattle.vcm_num.specs.declared.axis.Axis.{Axis}
+use Rattle.vcm_num.specs.declared.axis.Axis.TheVariants.{PlusX, MinusX, PlusY, MinusY, PlusZ, MinusZ}
+use Rattle.vcm_spec.specs.declared.words.Setting.{Setting}
+use Rattle.vcm_spec.specs.declared.words.Setting.TheVariants.{Approach, Retract, Search, Depth}
+use Rattle.vcm_spec.specs.declared.words.Source.{Source}
+use Rattle.vcm_spec.specs.declared.words.Source.TheVariants.{Nominal, Actual}
+
+-- fields: a byte, two and four bytes, a signed number in eight
+abbrev pub byte : ℕ → List ℕ
+byte n = n ∷ []
+
+abbrev pub short : ℕ → List ℕ
+short n = to_le_bytes w16 n
+
+abbrev pub long : ℕ → List ℕ
+long n = to_le_bytes w32 n
+
+abbrev pub signed : ℤ → List ℕ
+signed z = to_le_bytes w64 (cast_unsigned w64 z)
+
+abbrev pub truth_byte : Bool → List ℕ
+truth_byte false = byte 0
+truth_byte true = byte 1
+
+-- ---- items
+
+abbrev pub operand : Operand → List ℕ
+operand (Integer n) = 1 ∷ signed n
+operand (Thousandths n) = 2 ∷ signed n
+operand (Truth b) = 3 ∷ truth_byte b
+operand (Variable v) = 4 ∷ short v
+
+abbrev pub unary : UnaryOp → ℕ
+unary Neg = 16
+unary Scale = 21
+unary Not = 48
+
+abbrev pub binary : BinaryOp → ℕ
+binary Add = 17
+binary Sub = 18
+binary Mul = 19
+binary Div = 20
+binary (Compare Equal) = 32
+binary (Compare NotEqual) = 33
+binary (Compare Less) = 34
+binary (Compare LessEqual) = 35
+binary (Compare Greater) = 36
+binary (Compare GreaterEqual) = 37
+binary And = 49
+binary Or = 50
+
+abbrev pub item : Item → List ℕ
+item (Push x) = operand x
+item (Apply op) = byte (unary op)
+item (Combine op) = byte (binary op)
+
+abbrev pub expression : List Item → List ℕ
+expression items = short (length items) ++ flat_map item items
+
+-- ---- names and texts
+
+abbrev pub name : List ℕ → List ℕ
+name bs = byte (length bs) ++ bs
+
+abbrev pub text : List ℕ → List ℕ
+text bs = short (length bs) ++ bs
+
+-- ---- statements
+
+abbrev pub axis_byte : Axis → ℕ
+axis_byte PlusX = 0
+axis_byte MinusX = 1
+axis_byte PlusY = 2
+axis_byte MinusY = 3
+axis_byte PlusZ = 4
+axis_byte MinusZ = 5
+
+abbrev pub direction_byte : Option Axis → ℕ
+direction_byte (Some PlusX) = 0
+direction_byte (Some MinusX) = 1
+direction_byte (Some PlusY) = 2
+direction_byte (Some MinusY) = 3
+direction_byte (Some PlusZ) = 4
+direction_byte (Some MinusZ) = 5
+direction_byte None = 6
+
+abbrev pub setting_byte : Setting → ℕ
+setting_byte Approach = 0
+setting_byte Retract = 1
+setting_byte Search = 2
+setting_byte Depth = 3
+
+abbrev pub source_byte : Source → ℕ
+source_byte Nominal = 0
+source_byte Actual = 1
+
+abbrev pub word_byte : Word → ℕ
+word_byte words.EndFil = 0
+word_byte words.Goto = 1
+word_byte words.GoHome = 2
+word_byte words.Assign = 3
+word_byte words.If = 4
+word_byte words.Else = 5
+word_byte words.EndIf = 6
+word_byte words.Do = 7
+word_byte words.EndDo = 8
+word_byte words.Label = 9
+word_byte words.JumpTo = 10
+word_byte words.Feat = 11
+word_byte words.Meas = 12
+word_byte words.PtMeas = 13
+word_byte words.EndMes = 14
+word_byte words.SnSet = 15
+word_byte words.Trans = 16
+word_byte words.Rotate = 17
+word_byte words.Recall = 18
+word_byte words.Obtain = 19
+word_byte words.Output = 20
+word_byte words.Text = 21
+
+-- three expressions
+abbrev pub three : List Item → List Item → List Item → List ℕ
+three x y z = expression x ++ (expression y ++ expression z)
+
+-- the operands of each statement, in order
+abbrev pub operands : Operation → List ℕ
+operands EndFil = []
+operands (Goto x y z) = three x y z
+operands GoHome = []
+operands (Assign v e) = short v ++ expression e
+operands (If e to) = expression e ++ long to
+operands (Else to) = long to
+operands EndIf = []
+operands (Do v p a b c exit) = short v ++ (byte p ++ (three a b c ++ long exit))
+operands (EndDo v p back) = short v ++ (byte p ++ long back)
+operands Label = []
+operands (JumpTo to) = long to
+operands (Feat f x y z toward) = short f ++ (three x y z ++ byte (axis_byte toward))
+operands (Meas f) = short f
+operands (PtMeas f x y z toward) = short f ++ (three x y z ++ byte (direction_byte toward))
+operands EndMes = []
+operands (SnSet which e) = byte (setting_byte which) ++ expression e
+operands (Trans f x y z) = short f ++ three x y z
+operands (Rotate f axis quarters) = short f ++ (byte axis ++ byte quarters)
+operands (Recall f) = short f
+operands (Obtain v source f word) = short v ++ (byte (source_byte source) ++ (short f ++ byte word))
+operands (Output source f) = byte (source_byte source) ++ short f
+operands (Text bs) = text bs
+
+-- the kind, the line, the operands
+abbrev pub line : Line → List ℕ
+line s = byte (word_byte (word_of s.op)) ++ (long s.line ++ operands s.op)
+
+-- ---- tables
+
+abbrev pub kind_byte : Kind → ℕ
+kind_byte Int = 0
+kind_byte Real = 1
+kind_byte Truths = 2
+
+abbrev pub entry : Entry → List ℕ
+entry v = byte (kind_byte v.kind) ++ (long v.expansion ++ name v.name)

@@ -1,0 +1,20 @@
+//! The fields of an image: numbers, names, texts, expressions, statements and variables as bytes. They are read in place and take no memory.
+#![tactic(auto)]
+
+mod fault;
+mod fields;
+mod items;
+mod slices;
+mod statements;
+mod tags;
+mod texts;
+mod variables;
+mod word;
+
+pub use fault::ImageFault;
+pub use fields::{long, short};
+pub use slices::{ItemSlice, TextSlice};
+pub use statements::{BorrowedOp, BorrowedStatement, statement};
+pub use texts::{is_text, name};
+pub use variables::{BorrowedVariable, variable};
+pub use word::Word;

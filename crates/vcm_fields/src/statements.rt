@@ -1,0 +1,239 @@
+//! Statements, whose items and texts are slices of the image.
+
+ghost use Rattle.vcm_fields.specs.Reading.{Gives, expression_at, three_at, operands_at, line_at};
+ghost use Rattle.vcm_fields.specs.declared.word.Word.TheVariants as words;
+
+use crate::fault::ImageFault;
+use crate::fields::{byte_below, long, short};
+use crate::slices::{ItemSlice, TextSlice};
+use crate::tags::{axis, direction, part, setting, source, word};
+use crate::texts::text;
+use crate::word::Word;
+use vcm_code::{Op, Statement};
+
+/// What a statement of an image does.
+pub type BorrowedOp<'a> = Op<ItemSlice<'a>, TextSlice<'a>>;
+
+/// A statement of an image.
+pub type BorrowedStatement<'a> = Statement<ItemSlice<'a>, TextSlice<'a>>;
+
+/// The most items of an expression.
+const LONGEST: u16 = 1024;
+
+// An expression: the number of its items, and the items.
+#[tactic(auto, unfolding(crate::specs::Reading::expression_at))]
+fn expression(bytes: &[u8]) -> Result<(ItemSlice<'_>, &[u8]), ImageFault>
+    ensures { Gives (λ x. (x.0, x.1.now)) result (expression_at bytes.now) }
+{
+    let (count, rest) = short(bytes)?;
+    if count < 1 || count > LONGEST {
+        return Err(ImageFault::BadField);
+    }
+    ItemSlice::cut(count, rest)
+}
+
+// Triple expressions.
+#[derive(Drop)]
+struct Triple<'a> {
+    x: ItemSlice<'a>,
+    y: ItemSlice<'a>,
+    z: ItemSlice<'a>,
+}
+
+#[tactic(auto, unfolding(crate::specs::Reading::three_at))]
+fn three(bytes: &[u8]) -> Result<(Triple<'_>, &[u8]), ImageFault>
+    ensures { Gives (λ t. ((t.0.x, (t.0.y, t.0.z)), t.1.now)) result (three_at bytes.now) }
+{
+    let (x, rest) = expression(bytes)?;
+    let (y, rest) = expression(rest)?;
+    let (z, rest) = expression(rest)?;
+    Ok((Triple { x, y, z }, rest))
+}
+
+// The operands of GOTO.
+#[tactic(auto, unfolding(crate::specs::Reading::operands_at))]
+fn goto(bytes: &[u8]) -> Result<(BorrowedOp<'_>, &[u8]), ImageFault>
+    ensures { Gives (λ x. (x.0, x.1.now)) result (operands_at words.Goto bytes.now) }
+{
+    let (to, rest) = three(bytes)?;
+    Ok((Op::Goto(to.x, to.y, to.z), rest))
+}
+
+// The operands of ASSIGN.
+#[tactic(auto, unfolding(crate::specs::Reading::operands_at))]
+fn assign(bytes: &[u8]) -> Result<(BorrowedOp<'_>, &[u8]), ImageFault>
+    ensures { Gives (λ x. (x.0, x.1.now)) result (operands_at words.Assign bytes.now) }
+{
+    let (variable, rest) = short(bytes)?;
+    let (value, rest) = expression(rest)?;
+    Ok((Op::Assign(variable, value), rest))
+}
+
+// The operands of IF.
+#[tactic(auto, unfolding(crate::specs::Reading::operands_at))]
+fn choice(bytes: &[u8]) -> Result<(BorrowedOp<'_>, &[u8]), ImageFault>
+    ensures { Gives (λ x. (x.0, x.1.now)) result (operands_at words.If bytes.now) }
+{
+    let (test, rest) = expression(bytes)?;
+    let (target, rest) = long(rest)?;
+    Ok((Op::If(test, target), rest))
+}
+
+// The operands of DO.
+#[tactic(auto, unfolding(crate::specs::Reading::operands_at))]
+fn looping(bytes: &[u8]) -> Result<(BorrowedOp<'_>, &[u8]), ImageFault>
+    ensures { Gives (λ x. (x.0, x.1.now)) result (operands_at words.Do bytes.now) }
+{
+    let (variable, rest) = short(bytes)?;
+    let (pair, rest) = byte_below(32, rest)?;
+    let (values, rest) = three(rest)?;
+    let (exit, rest) = long(rest)?;
+    Ok((Op::Do(variable, pair, values.x, values.y, values.z, exit), rest))
+}
+
+// The operands of ENDDO.
+#[tactic(auto, unfolding(crate::specs::Reading::operands_at))]
+fn turning(bytes: &[u8]) -> Result<(BorrowedOp<'_>, &[u8]), ImageFault>
+    ensures { Gives (λ x. (x.0, x.1.now)) result (operands_at words.EndDo bytes.now) }
+{
+    let (variable, rest) = short(bytes)?;
+    let (pair, rest) = byte_below(32, rest)?;
+    let (target, rest) = long(rest)?;
+    Ok((Op::EndDo(variable, pair, target), rest))
+}
+
+// The operands of FEAT.
+#[tactic(auto, unfolding(crate::specs::Reading::operands_at))]
+fn feat(bytes: &[u8]) -> Result<(BorrowedOp<'_>, &[u8]), ImageFault>
+    ensures { Gives (λ x. (x.0, x.1.now)) result (operands_at words.Feat bytes.now) }
+{
+    let (feature, rest) = short(bytes)?;
+    let (point, rest) = three(rest)?;
+    let (toward, rest) = axis(rest)?;
+    Ok((Op::Feat(feature, point.x, point.y, point.z, toward), rest))
+}
+
+// The operands of PTMEAS.
+#[tactic(auto, unfolding(crate::specs::Reading::operands_at))]
+fn point(bytes: &[u8]) -> Result<(BorrowedOp<'_>, &[u8]), ImageFault>
+    ensures { Gives (λ x. (x.0, x.1.now)) result (operands_at words.PtMeas bytes.now) }
+{
+    let (feature, rest) = short(bytes)?;
+    let (point, rest) = three(rest)?;
+    let (toward, rest) = direction(rest)?;
+    Ok((Op::PtMeas(feature, point.x, point.y, point.z, toward), rest))
+}
+
+// The operands of SNSET.
+#[tactic(auto, unfolding(crate::specs::Reading::operands_at))]
+fn set(bytes: &[u8]) -> Result<(BorrowedOp<'_>, &[u8]), ImageFault>
+    ensures { Gives (λ x. (x.0, x.1.now)) result (operands_at words.SnSet bytes.now) }
+{
+    let (setting, rest) = setting(bytes)?;
+    let (length, rest) = expression(rest)?;
+    Ok((Op::SnSet(setting, length), rest))
+}
+
+// The operands of TRANS.
+#[tactic(auto, unfolding(crate::specs::Reading::operands_at))]
+fn shift(bytes: &[u8]) -> Result<(BorrowedOp<'_>, &[u8]), ImageFault>
+    ensures { Gives (λ x. (x.0, x.1.now)) result (operands_at words.Trans bytes.now) }
+{
+    let (frame, rest) = short(bytes)?;
+    let (by, rest) = three(rest)?;
+    Ok((Op::Trans(frame, by.x, by.y, by.z), rest))
+}
+
+// The operands of ROTATE.
+#[tactic(auto, unfolding(crate::specs::Reading::operands_at))]
+fn turn(bytes: &[u8]) -> Result<(BorrowedOp<'_>, &[u8]), ImageFault>
+    ensures { Gives (λ x. (x.0, x.1.now)) result (operands_at words.Rotate bytes.now) }
+{
+    let (frame, rest) = short(bytes)?;
+    let (axis, rest) = byte_below(3, rest)?;
+    let (quarters, rest) = byte_below(4, rest)?;
+    Ok((Op::Rotate(frame, axis, quarters), rest))
+}
+
+// The operands of OBTAIN.
+#[tactic(auto, unfolding(crate::specs::Reading::operands_at))]
+fn obtain(bytes: &[u8]) -> Result<(BorrowedOp<'_>, &[u8]), ImageFault>
+    ensures { Gives (λ x. (x.0, x.1.now)) result (operands_at words.Obtain bytes.now) }
+{
+    let (variable, rest) = short(bytes)?;
+    let (source, rest) = source(rest)?;
+    let (feature, rest) = short(rest)?;
+    let (part, rest) = part(rest)?;
+    Ok((Op::Obtain(variable, source, feature, part), rest))
+}
+
+// The operands of OUTPUT.
+#[tactic(auto, unfolding(crate::specs::Reading::operands_at))]
+fn output(bytes: &[u8]) -> Result<(BorrowedOp<'_>, &[u8]), ImageFault>
+    ensures { Gives (λ x. (x.0, x.1.now)) result (operands_at words.Output bytes.now) }
+{
+    let (source, rest) = source(bytes)?;
+    let (feature, rest) = short(rest)?;
+    Ok((Op::Output(source, feature), rest))
+}
+
+// The operands behind a word.
+#[tactic(auto, unfolding(crate::specs::Reading::operands_at))]
+fn operands<'a>(word: Word, bytes: &'a [u8]) -> Result<(BorrowedOp<'a>, &'a [u8]), ImageFault>
+    ensures { Gives (λ x. (x.0, x.1.now)) result (operands_at word bytes.now) }
+{
+    match word {
+        Word::EndFil => Ok((Op::EndFil, bytes)),
+        Word::Goto => goto(bytes),
+        Word::GoHome => Ok((Op::GoHome, bytes)),
+        Word::Assign => assign(bytes),
+        Word::If => choice(bytes),
+        Word::Else => {
+            let (target, rest) = long(bytes)?;
+            Ok((Op::Else(target), rest))
+        }
+        Word::EndIf => Ok((Op::EndIf, bytes)),
+        Word::Do => looping(bytes),
+        Word::EndDo => turning(bytes),
+        Word::Label => Ok((Op::Label, bytes)),
+        Word::JumpTo => {
+            let (target, rest) = long(bytes)?;
+            Ok((Op::JumpTo(target), rest))
+        }
+        Word::Feat => feat(bytes),
+        Word::Meas => {
+            let (feature, rest) = short(bytes)?;
+            Ok((Op::Meas(feature), rest))
+        }
+        Word::PtMeas => point(bytes),
+        Word::EndMes => Ok((Op::EndMes, bytes)),
+        Word::SnSet => set(bytes),
+        Word::Trans => shift(bytes),
+        Word::Rotate => turn(bytes),
+        Word::Recall => {
+            let (frame, rest) = short(bytes)?;
+            Ok((Op::Recall(frame), rest))
+        }
+        Word::Obtain => obtain(bytes),
+        Word::Output => output(bytes),
+        Word::Text => {
+            let (text, rest) = text(bytes)?;
+            Ok((Op::Text(text), rest))
+        }
+    }
+}
+
+/// A statement, and the bytes behind it.
+///
+/// # Errors
+///
+/// Short; BadField where a field is out of its range.
+#[tactic(auto, unfolding(crate::specs::Reading::line_at))]
+pub fn statement(bytes: &[u8]) -> Result<(BorrowedStatement<'_>, &[u8]), ImageFault>
+    ensures { Gives (λ x. (x.0, x.1.now)) result (line_at bytes.now) }
+{
+    let (word, rest) = word(bytes)?;
+    let (line, rest) = long(rest)?;
+    let (op, rest) = operands(word, rest)?;
+    Ok((Statement { line, op }, rest))
+}

@@ -1,0 +1,126 @@
+//! Bytes that stand for a word of the language: each is read by its table.
+
+ghost use Rattle.vcm_fields.specs.Reading.{Gives, word_at, kind_at, axis_at, direction_at, setting_at, source_at, part_at};
+
+use crate::fault::ImageFault;
+use crate::fields::byte;
+use crate::word::Word;
+use vcm_num::{Axis, Kind};
+use vcm_spec::{Setting, Source};
+
+/// The word of a statement.
+#[tactic(auto, unfolding(crate::specs::Reading::word_at))]
+pub(crate) fn word(bytes: &[u8]) -> Result<(Word, &[u8]), ImageFault>
+    ensures { Gives (λ x. (x.0, x.1.now)) result (word_at bytes.now) }
+{
+    let (number, rest) = byte(bytes)?;
+    match number {
+        0 => Ok((Word::EndFil, rest)),
+        1 => Ok((Word::Goto, rest)),
+        2 => Ok((Word::GoHome, rest)),
+        3 => Ok((Word::Assign, rest)),
+        4 => Ok((Word::If, rest)),
+        5 => Ok((Word::Else, rest)),
+        6 => Ok((Word::EndIf, rest)),
+        7 => Ok((Word::Do, rest)),
+        8 => Ok((Word::EndDo, rest)),
+        9 => Ok((Word::Label, rest)),
+        10 => Ok((Word::JumpTo, rest)),
+        11 => Ok((Word::Feat, rest)),
+        12 => Ok((Word::Meas, rest)),
+        13 => Ok((Word::PtMeas, rest)),
+        14 => Ok((Word::EndMes, rest)),
+        15 => Ok((Word::SnSet, rest)),
+        16 => Ok((Word::Trans, rest)),
+        17 => Ok((Word::Rotate, rest)),
+        18 => Ok((Word::Recall, rest)),
+        19 => Ok((Word::Obtain, rest)),
+        20 => Ok((Word::Output, rest)),
+        21 => Ok((Word::Text, rest)),
+        _ => Err(ImageFault::BadField),
+    }
+}
+
+/// A variable's kind.
+#[tactic(auto, unfolding(crate::specs::Reading::kind_at))]
+pub(crate) fn kind(bytes: &[u8]) -> Result<(Kind, &[u8]), ImageFault>
+    ensures { Gives (λ x. (x.0, x.1.now)) result (kind_at bytes.now) }
+{
+    let (number, rest) = byte(bytes)?;
+    match number {
+        0 => Ok((Kind::Int, rest)),
+        1 => Ok((Kind::Real, rest)),
+        2 => Ok((Kind::Bool, rest)),
+        _ => Err(ImageFault::BadField),
+    }
+}
+
+/// The direction of a feature.
+pub(crate) fn axis(bytes: &[u8]) -> Result<(Axis, &[u8]), ImageFault>
+    ensures { Gives (λ x. (x.0, x.1.now)) result (axis_at bytes.now) }
+{
+    let (number, rest) = byte(bytes)?;
+    match number {
+        0 => Ok((Axis::PlusX, rest)),
+        1 => Ok((Axis::MinusX, rest)),
+        2 => Ok((Axis::PlusY, rest)),
+        3 => Ok((Axis::MinusY, rest)),
+        4 => Ok((Axis::PlusZ, rest)),
+        5 => Ok((Axis::MinusZ, rest)),
+        _ => Err(ImageFault::BadField),
+    }
+}
+
+/// The direction of a measurement; 6 stands for that of the nominal feature.
+pub(crate) fn direction(bytes: &[u8]) -> Result<(Option<Axis>, &[u8]), ImageFault>
+    ensures { Gives (λ x. (x.0, x.1.now)) result (direction_at bytes.now) }
+{
+    let (number, rest) = byte(bytes)?;
+    match number {
+        0 => Ok((Some(Axis::PlusX), rest)),
+        1 => Ok((Some(Axis::MinusX), rest)),
+        2 => Ok((Some(Axis::PlusY), rest)),
+        3 => Ok((Some(Axis::MinusY), rest)),
+        4 => Ok((Some(Axis::PlusZ), rest)),
+        5 => Ok((Some(Axis::MinusZ), rest)),
+        6 => Ok((None, rest)),
+        _ => Err(ImageFault::BadField),
+    }
+}
+
+/// A setting of the probe.
+pub(crate) fn setting(bytes: &[u8]) -> Result<(Setting, &[u8]), ImageFault>
+    ensures { Gives (λ x. (x.0, x.1.now)) result (setting_at bytes.now) }
+{
+    let (number, rest) = byte(bytes)?;
+    match number {
+        0 => Ok((Setting::Approach, rest)),
+        1 => Ok((Setting::Retract, rest)),
+        2 => Ok((Setting::Search, rest)),
+        3 => Ok((Setting::Depth, rest)),
+        _ => Err(ImageFault::BadField),
+    }
+}
+
+/// Whether the nominal or the actual feature is meant.
+pub(crate) fn source(bytes: &[u8]) -> Result<(Source, &[u8]), ImageFault>
+    ensures { Gives (λ x. (x.0, x.1.now)) result (source_at bytes.now) }
+{
+    let (number, rest) = byte(bytes)?;
+    match number {
+        0 => Ok((Source::Nominal, rest)),
+        1 => Ok((Source::Actual, rest)),
+        _ => Err(ImageFault::BadField),
+    }
+}
+
+/// The number of a word of a feature: 3 to 8.
+pub(crate) fn part(bytes: &[u8]) -> Result<(u8, &[u8]), ImageFault>
+    ensures { Gives (λ x. (x.0, x.1.now)) result (part_at bytes.now) }
+{
+    let (number, rest) = byte(bytes)?;
+    if number < 3 || number > 8 {
+        return Err(ImageFault::BadField);
+    }
+    Ok((number, rest))
+}
