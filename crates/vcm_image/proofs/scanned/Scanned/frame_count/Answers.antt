@@ -1,0 +1,11 @@
+use Rattle.std.proofs.Common.{length, ap, arith}
+use Rattle.vcm_code.specs.declared.code.Code.{Code}
+use Rattle.vcm_fields.specs.Reading.{name_at}
+use Rattle.vcm_image.proofs.Tables.{Begin-length}
+use Rattle.vcm_image.proofs.scanned.Scanned.frame_count.Goals as goal
+
+pub returns : goal.returns
+returns c =
+    let l = Begin-length name_at _ _ _ c.self.invariant.frames_begin in
+    let v = ap (λ (d : Code). length d.tables.frames) c.self.view_is in
+    omega (arith, c.len.ensures, l, v)

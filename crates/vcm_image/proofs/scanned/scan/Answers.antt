@@ -1,0 +1,42 @@
+use Rattle.std.proofs.Common.{sym, ◌∙◌, arith}
+use Rattle.std.proofs.lemmas.Result.{err_from_is_err_and}
+use Rattle.std.proofs.lemmas.Bool.{eqb-true}
+use Rattle.vcm_image.proofs.Tables.{header_end, header_fails, variables_fail, features_fail, frames_fail, statements_fail, left_over, indexed, not_zero}
+use Rattle.vcm_image.proofs.scanned.scan.Goals as goal
+
+pub returns-in_err-counts : goal.returns-in_err-counts
+returns-in_err-counts c =
+    let p = err_from_is_err_and c.from_residual.result c.from_residual.ensures.1 in
+    rw (p.1, p.2) (header_fails _ _ c.in_err-counts.ensures)
+
+pub variables-requires : goal.variables-requires
+variables-requires c = header_end _ _ (λ i. omega (arith, c.type_inv.bytes i)) c.in_ok-counts.ensures
+
+pub returns-in_err-variables : goal.returns-in_err-variables
+returns-in_err-variables c =
+    let p = err_from_is_err_and c.from_residual-in_err-variables.result c.from_residual-in_err-variables.ensures.1 in
+    rw (p.1, p.2) (variables_fail _ _ _ c.in_ok-counts.ensures _ c.in_err-variables.ensures.err)
+
+pub returns-in_err-features : goal.returns-in_err-features
+returns-in_err-features c =
+    let p = err_from_is_err_and c.from_residual-in_err-features.result c.from_residual-in_err-features.ensures.1 in
+    rw (p.1, p.2) (features_fail _ _ _ c.in_ok-counts.ensures _ _ c.in_ok-variables.ensures.ok _ c.in_err-features.ensures.err)
+
+pub returns-in_err-frames : goal.returns-in_err-frames
+returns-in_err-frames c =
+    let p = err_from_is_err_and c.from_residual-in_err-frames.result c.from_residual-in_err-frames.ensures.1 in
+    rw (p.1, p.2) (frames_fail _ _ _ c.in_ok-counts.ensures _ _ c.in_ok-variables.ensures.ok _ _ c.in_ok-features.ensures.ok _ c.in_err-frames.ensures.err)
+
+pub returns-in_err-statements : goal.returns-in_err-statements
+returns-in_err-statements c =
+    let p = err_from_is_err_and c.from_residual-in_err-statements.result c.from_residual-in_err-statements.ensures.1 in
+    rw (p.1, p.2) (statements_fail _ _ _ c.in_ok-counts.ensures _ _ c.in_ok-variables.ensures.ok _ _ c.in_ok-features.ensures.ok _ _ c.in_ok-frames.ensures.ok _ c.in_err-statements.ensures.err)
+
+pub returns-then-not-is_empty : goal.returns-then-not-is_empty
+returns-then-not-is_empty c = left_over _ _ _ c.in_ok-counts.ensures _ _ c.in_ok-variables.ensures.ok _ _ c.in_ok-features.ensures.ok _ _ c.in_ok-frames.ensures.ok _ _ c.in_ok-statements.ensures.ok (not_zero _ (sym c.is_empty.ensures ∙ c.if-not-is_empty.true))
+
+pub invariant_of-result : goal.invariant_of-result
+invariant_of-result c = indexed _ _ _ c.in_ok-counts.ensures _ _ c.in_ok-variables.ensures.ok _ _ c.in_ok-features.ensures.ok _ _ c.in_ok-frames.ensures.ok _ _ c.in_ok-statements.ensures.ok (eqb-true _ _ (sym c.is_empty.ensures ∙ c.if-not-is_empty.false))
+
+pub returns : goal.returns
+returns c = (indexed _ _ _ c.in_ok-counts.ensures _ _ c.in_ok-variables.ensures.ok _ _ c.in_ok-features.ensures.ok _ _ c.in_ok-frames.ensures.ok _ _ c.in_ok-statements.ensures.ok (eqb-true _ _ (sym c.is_empty.ensures ∙ c.if-not-is_empty.false))).is

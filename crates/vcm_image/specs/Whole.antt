@@ -1,0 +1,69 @@
+-- The image of a code: bytes and code are one grammar.
+use Rattle.std.specs.Prelude.{◌≤◌, ◌==◌, ℕ, nat_le, Bool, List, ◌++◌, length, Result, Ok, Err, if◌then◌else◌}
+use Rattle.std.specs.List.{flat_map, AllByRecursion}
+use Rattle.std.specs.Int.{w16, w32}
+use Rattle.vcm_expr.specs.NameBytes.{IsName}
+use Rattle.vcm_code.specs.declared.code.Code.{Code}
+use Rattle.vcm_fields.specs.declared.fault.ImageFault.{ImageFault}
+use Rattle.vcm_fields.specs.declared.fault.ImageFault.TheVariants.{BadMagic, BadVersion, BadField, Trailing}
+use Rattle.vcm_fields.specs.Fitting.{FitsEntry, FitsLine}
+use Rattle.vcm_fields.specs.Spelling.{short, long, entry, name, line}
+use Rattle.vcm_fields.specs.Reading.{◌>>=◌, Reader, both, via, tested, after, times, number_at, entry_at, name_at, line_at}
+use Rattle.vcm_image.specs.declared.counts.Counts.{Counts}
+
+-- no table is too long, and each field is in range
+pub record Fits (c : Code) : Type 0 where
+  pub variables : (length c.tables.variables ≤ 4096) × AllByRecursion FitsEntry c.tables.variables
+  pub features : (length c.tables.features ≤ 4096) × AllByRecursion IsName c.tables.features
+  pub frames : (length c.tables.frames ≤ 4096) × AllByRecursion IsName c.tables.frames
+  pub statements : (length c.statements ≤ 20000) × AllByRecursion FitsLine c.statements
+
+-- how many variables, features, frames and statements there are
+abbrev pub counts_of : Code → Counts
+counts_of c = record { variables = length c.tables.variables; features = length c.tables.features; frames = length c.tables.frames; statements = length c.statements }
+
+-- `VCMI`, as a number of four bytes
+abbrev pub magic : ℕ
+magic = 1229800278
+
+-- the magic bytes, the version 1, and the numbers of variables, features, frames and statements
+abbrev pub header : Counts → List ℕ
+header n = long magic ++ (short 1 ++ (short n.variables ++ (short n.features ++ (short n.frames ++ long n.statements))))
+
+-- the one spelling of a code
+abbrev pub spelling : Code → List ℕ
+spelling c = header (counts_of c) ++ (flat_map entry c.tables.variables ++ (flat_map name c.tables.features ++ (flat_map name c.tables.frames ++ flat_map line c.statements)))
+
+-- a number is this one
+abbrev pub is_number : ℕ → ℕ → Bool
+is_number m n = n == m
+
+-- a number is not above this one
+abbrev pub at_most : ℕ → ℕ → Bool
+at_most m n = nat_le n m
+
+-- a number of two bytes, not above a limit
+abbrev pub count_at : ℕ → Reader ℕ
+count_at limit = tested BadField (at_most limit) (number_at w16)
+
+-- reading the header
+unfoldable pub header_at : Reader Counts
+header_at =
+    via (λ h. record { variables = h.1.1.0; features = h.1.1.1.0; frames = h.1.1.1.1.0; statements = h.1.1.1.1.1 })
+    (both (tested BadMagic (is_number magic) (number_at w32))
+    (both (tested BadVersion (is_number 1) (number_at w16))
+    (both (count_at 4096) (both (count_at 4096) (both (count_at 4096) (tested BadField (at_most 20000) (number_at w32)))))))
+
+-- reading so many variables, features, frames and statements
+unfoldable pub body_at : Counts → Reader Code
+body_at n =
+    via (λ c. record { tables = record { variables = c.0; features = c.1.0; frames = c.1.1.0 }; statements = c.1.1.1 })
+    (both (times entry_at n.variables) (both (times name_at n.features) (both (times name_at n.frames) (times line_at n.statements))))
+
+-- no byte is left over
+abbrev pub ended : {A : Type 0} → A × List ℕ → Result A ImageFault
+ended x = if length x.1 == 0 then Ok x.0 else Err Trailing
+
+-- reading an image: its code, or the first refusal from the front
+unfoldable pub code_at : List ℕ → Result Code ImageFault
+code_at bytes = after header_at body_at bytes >>= ended

@@ -1,0 +1,10 @@
+//! The header of an image.
+
+/// How many variables, features, frames and statements an image has.
+#[derive(Clone, Copy, Debug, PartialEq, Eq)]
+pub struct Counts {
+    pub variables: u16,
+    pub features: u16,
+    pub frames: u16,
+    pub statements: u32,
+}

@@ -1,0 +1,281 @@
+//! An image whose fields are all in range, and where each of its parts begins.
+
+ghost use Rattle.std.specs.Prelude.{◌≡◌, ◌<◌, ◌≤◌, drop, Ok, Some, IfOk, IfErr, length, slice_get};
+ghost use Rattle.std.specs.Int.{w16, w32};
+ghost use Rattle.vcm_expr.specs.NameBytes.{IsName};
+ghost use Rattle.vcm_code.specs.declared.code.Code.{Code};
+ghost use Rattle.vcm_fields.specs.Reading.{Gives, Fails, GivesOrNoMemory, times, name_at, line_at, entry_at};
+ghost use Rattle.vcm_image.specs.Whole.{Fits, spelling, header_at, count_at, code_at};
+ghost use Rattle.vcm_image.specs.Places.{Table, IsEnd};
+
+use crate::counts::Counts;
+use std::alloc::Global;
+use std::marker::Model;
+use vcm_fields::{BorrowedStatement, BorrowedVariable, ImageFault, TextSlice};
+use vcm_fields::{long, name, short, statement, variable};
+
+/// The bytes `VCMI` as a number of four bytes.
+const MAGIC: u32 = 1_229_800_278;
+
+/// The version of an image.
+const VERSION: u16 = 1;
+
+/// The most variables, features or frames.
+const MOST_NAMES: u16 = 4096;
+
+/// The most statements.
+const MOST_STATEMENTS: u32 = 20_000;
+
+/// The bytes of an image whose fields are all in range, and where its variables, names and statements begin. Contracts see it as the code
+/// that the bytes spell.
+#[derive(Drop)]
+pub struct Scanned<'a> {
+    bytes: &'a [u8],
+    variables: Vec<usize>,
+    features: Vec<usize>,
+    frames: Vec<usize>,
+    statements: Vec<usize>,
+}
+
+impl<'a> Model for Scanned<'a> {
+    ghost use Rattle.vcm_code.specs.declared.code.Code.{Code};
+
+    ghost Value = { Code };
+
+    ghost use Rattle.vcm_image.specs.Places.{code_in, Indexed};
+
+    ghost view = { λ s. code_in s.bytes.now };
+
+    ghost invariant = { λ s. Indexed s.bytes.now s.variables.items s.features.items s.frames.items s.statements.items };
+}
+
+// Where so many variables begin, and the bytes behind them.
+fn variables<'a>(
+    alloc: Global,
+    count: u16,
+    whole: &[u8],
+    bytes: &'a [u8],
+) -> Result<(Vec<usize>, &'a [u8]), ImageFault>
+    requires { IsEnd whole.now bytes.now }
+    ensures ok { IfOk result (λ x. Table entry_at count whole.now bytes.now x.0.items x.1.now) }
+    ensures err { IfErr result (λ e. Fails e (times entry_at count bytes.now)) }
+{
+    let mut starts = Vec::new(alloc);
+    let mut rest = bytes;
+    for _ in 0..count {
+        let start = whole.len() - rest.len();
+        let (_variable, after) = variable(rest)?;
+        starts.push(start)?;
+        rest = after;
+    }
+    Ok((starts, rest))
+}
+
+// Where so many names begin, and the bytes behind them.
+fn names<'a>(
+    alloc: Global,
+    count: u16,
+    whole: &[u8],
+    bytes: &'a [u8],
+) -> Result<(Vec<usize>, &'a [u8]), ImageFault>
+    requires { IsEnd whole.now bytes.now }
+    ensures ok { IfOk result (λ x. Table name_at count whole.now bytes.now x.0.items x.1.now) }
+    ensures err { IfErr result (λ e. Fails e (times name_at count bytes.now)) }
+{
+    let mut starts = Vec::new(alloc);
+    let mut rest = bytes;
+    for _ in 0..count {
+        let start = whole.len() - rest.len();
+        let (_name, after) = name(rest)?;
+        starts.push(start)?;
+        rest = after;
+    }
+    Ok((starts, rest))
+}
+
+// Where so many statements begin, and the bytes behind them.
+fn statements<'a>(
+    alloc: Global,
+    count: u32,
+    whole: &[u8],
+    bytes: &'a [u8],
+) -> Result<(Vec<usize>, &'a [u8]), ImageFault>
+    requires { IsEnd whole.now bytes.now }
+    ensures ok { IfOk result (λ x. Table line_at count whole.now bytes.now x.0.items x.1.now) }
+    ensures err { IfErr result (λ e. Fails e (times line_at count bytes.now)) }
+{
+    let mut starts = Vec::new(alloc);
+    let mut rest = bytes;
+    for _ in 0..count {
+        let start = whole.len() - rest.len();
+        let (_statement, after) = statement(rest)?;
+        starts.push(start)?;
+        rest = after;
+    }
+    Ok((starts, rest))
+}
+
+// A number of two bytes, not above a limit.
+fn count(limit: u16, bytes: &[u8]) -> Result<(u16, &[u8]), ImageFault>
+    ensures { Gives (λ x. (x.0, x.1.now)) result (count_at limit bytes.now) }
+{
+    let (number, rest) = short(bytes)?;
+    if number > limit {
+        return Err(ImageFault::BadField);
+    }
+    Ok((number, rest))
+}
+
+// The header, and the bytes behind it.
+#[tactic(auto, unfolding(crate::specs::Whole::header_at))]
+fn header(bytes: &[u8]) -> Result<(Counts, &[u8]), ImageFault>
+    ensures { Gives (λ x. (x.0, x.1.now)) result (header_at bytes.now) }
+{
+    let (magic, rest) = long(bytes)?;
+    if magic != MAGIC {
+        return Err(ImageFault::BadMagic);
+    }
+    let (version, rest) = short(rest)?;
+    if version != VERSION {
+        return Err(ImageFault::BadVersion);
+    }
+    let (variables, rest) = count(MOST_NAMES, rest)?;
+    let (features, rest) = count(MOST_NAMES, rest)?;
+    let (frames, rest) = count(MOST_NAMES, rest)?;
+    let (statements, rest) = long(rest)?;
+    if statements > MOST_STATEMENTS {
+        return Err(ImageFault::BadField);
+    }
+    let counts = Counts {
+        variables,
+        features,
+        frames,
+        statements,
+    };
+    Ok((counts, rest))
+}
+
+// The image that the bytes are.
+fn scan(alloc: Global, bytes: &[u8]) -> Result<Scanned<'_>, ImageFault>
+    ensures { GivesOrNoMemory (λ s. s) result (code_at bytes.now) }
+{
+    let (counts, rest) = header(bytes)?;
+    let (variables, rest) = variables(alloc, counts.variables, bytes, rest)?;
+    let (features, rest) = names(alloc, counts.features, bytes, rest)?;
+    let (frames, rest) = names(alloc, counts.frames, bytes, rest)?;
+    let (statements, rest) = statements(alloc, counts.statements, bytes, rest)?;
+    if !rest.is_empty() {
+        return Err(ImageFault::Trailing);
+    }
+    Ok(Scanned {
+        bytes,
+        variables,
+        features,
+        frames,
+        statements,
+    })
+}
+
+/// The code whose one spelling the bytes are, read in place.
+///
+/// # Errors
+///
+/// The first refusal from the front: Short where the bytes of a field are missing, BadMagic, BadVersion or BadField where a field is out of its
+/// range, Trailing where bytes are left over. Want of memory.
+pub fn open(alloc: Global, bytes: &[u8]) -> Result<Scanned<'_>, ImageFault>
+    // What is read is spelled so.
+    ensures found { IfOk result (λ s. Fits s × (bytes.now ≡ spelling s)) }
+    // What is spelled so is read, unless memory runs out.
+    ensures only { (c : Code) → Fits c → bytes.now ≡ spelling c → GivesOrNoMemory (λ s. s) result (Ok c) }
+    // Which refusal it is.
+    ensures exact { GivesOrNoMemory (λ s. s) result (code_at bytes.now) }
+{
+    scan(alloc, bytes)
+}
+
+// The bytes from there on.
+fn after(bytes: &[u8], start: usize) -> &[u8]
+    requires { start ≤ length bytes.now }
+    ensures { result.now ≡ drop start bytes.now }
+{
+    let (_front, back) = bytes.split_at(start);
+    back
+}
+
+impl<'a> Scanned<'a> {
+    /// How many variables there are.
+    pub fn variable_count(&self) -> usize
+        ensures { result ≡ length self.now.tables.variables }
+    {
+        self.variables.len()
+    }
+
+    /// A variable, whose name is a slice of the image.
+    pub fn variable(&self, n: usize) -> BorrowedVariable<'a>
+        requires { n < length self.now.tables.variables }
+        ensures { slice_get self.now.tables.variables n ≡ Some result }
+    {
+        let start = self.variables[n];
+        match variable(after(self.bytes, start)) {
+            Ok((variable, _)) => variable,
+            Err(_) => unreachable!(),
+        }
+    }
+
+    /// How many features there are.
+    pub fn feature_count(&self) -> usize
+        ensures { result ≡ length self.now.tables.features }
+    {
+        self.features.len()
+    }
+
+    /// The name of a feature, a slice of the image.
+    pub fn feature(&self, n: usize) -> TextSlice<'a>
+        requires { n < length self.now.tables.features }
+        ensures { slice_get self.now.tables.features n ≡ Some result }
+    {
+        let start = self.features[n];
+        match name(after(self.bytes, start)) {
+            Ok((name, _)) => name,
+            Err(_) => unreachable!(),
+        }
+    }
+
+    /// How many frames there are.
+    pub fn frame_count(&self) -> usize
+        ensures { result ≡ length self.now.tables.frames }
+    {
+        self.frames.len()
+    }
+
+    /// The name of a frame, a slice of the image.
+    pub fn frame(&self, n: usize) -> TextSlice<'a>
+        requires { n < length self.now.tables.frames }
+        ensures { slice_get self.now.tables.frames n ≡ Some result }
+    {
+        let start = self.frames[n];
+        match name(after(self.bytes, start)) {
+            Ok((name, _)) => name,
+            Err(_) => unreachable!(),
+        }
+    }
+
+    /// How many statements there are.
+    pub fn statement_count(&self) -> usize
+        ensures { result ≡ length self.now.statements }
+    {
+        self.statements.len()
+    }
+
+    /// A statement, whose items and text are slices of the image. It is decoded where it stands, without a look at any other.
+    pub fn statement(&self, n: usize) -> BorrowedStatement<'a>
+        requires { n < length self.now.statements }
+        ensures { slice_get self.now.statements n ≡ Some result }
+    {
+        let start = self.statements[n];
+        match statement(after(self.bytes, start)) {
+            Ok((statement, _)) => statement,
+            Err(_) => unreachable!(),
+        }
+    }
+}
