@@ -1,6 +1,7 @@
 -- Tables of the places where values begin.
 use Rattle.std.proofs.Common.{◌≡◌, ℕ, zero, suc, ◌+◌, ◌-◌, ◌<◌, ◌≤◌, List, [], ◌∷◌, ◌++◌, length, drop, slice_get, slice_index_or, false, if◌then◌else◌, ◌==◌, Some, Result, Ok, Err, refl, sym, ap, subst, ◌∙◌, append_assoc, arith}
 use Rattle.std.proofs.lemmas.List.{drop_at, length-append}
+use Rattle.std.specs.List.{AllByRecursion}
 use Rattle.vcm_fields.specs.declared.fault.ImageFault.{ImageFault}
 use Rattle.vcm_fields.specs.declared.fault.ImageFault.TheVariants.{NoMemory}
 use Rattle.vcm_code.specs.declared.code.Code.{Code}
@@ -9,7 +10,7 @@ use Rattle.vcm_fields.specs.declared.fault.ImageFault.TheVariants.{Trailing}
 use Rattle.vcm_fields.specs.Reading.{Reader, Fails, times, entry_at, name_at, line_at}
 use Rattle.vcm_image.specs.Whole.{header, header_at, body_at, ended, code_at}
 use Rattle.vcm_image.specs.Places.{IsEnd, Begin, Table, code_or_none, code_in, Indexed}
-use Rattle.vcm_image.proofs.Wholes.{reads_header}
+use Rattle.vcm_image.proofs.Wholes.{reads_header, code_takes}
 use Rattle.vcm_fields.proofs.Inverse.{IsBytes, Reads, Progress, begun, goes_on, stops, is_done, ok_is}
 
 pub Begin-push : {A : Type 0} (a : Reader A) (whole os : List ℕ) (xs : List A) (o : ℕ) (x : A) (rest : List ℕ) → Begin a whole os xs → o ≤ length whole → a (drop o whole) ≡ Ok (x, rest) → Begin a whole (os ++ o ∷ []) (xs ++ x ∷ [])
@@ -156,12 +157,13 @@ module _ (bytes : List ℕ) (n : Counts) (r : List ℕ) (h : header_at bytes ≡
               over : (k : ℕ) → k ≡ 0 → (if k == 0 then Ok whole_code else Err Trailing) ≡ Ok whole_code
               over k e' = rw e' refl
 
-          pub indexed : length r4 ≡ 0 → Indexed bytes vs fs ds ss
-          indexed e =
+          pub indexed : IsBytes bytes → length r4 ≡ 0 → Indexed bytes vs fs ds ss
+          indexed b e =
               let c = none_left e in
               let same : whole_code ≡ code_in bytes = sym (ap code_or_none c) in
               record {
                 is = c ∙ ap Ok same;
+                fits = (code_takes bytes (code_in bytes) b (c ∙ ap Ok same)).0;
                 variables_begin = subst (λ (d : Code). Begin entry_at bytes vs d.tables.variables) same tv.begin;
                 features_begin = subst (λ (d : Code). Begin name_at bytes fs d.tables.features) same tf.begin;
                 frames_begin = subst (λ (d : Code). Begin name_at bytes ds d.tables.frames) same td.begin;
@@ -170,3 +172,9 @@ module _ (bytes : List ℕ) (n : Counts) (r : List ℕ) (h : header_at bytes ≡
 
 pub not_zero : (k : ℕ) → (k == 0) ≡ false → k ≡ 0 → ⊥
 not_zero k e z = grind arith
+
+-- what holds of all holds of each
+pub all_at : {A : Type 0} (P : A → Type 0) (xs : List A) (i : ℕ) (x : A) → AllByRecursion P xs → slice_get xs i ≡ Some x → P x
+all_at P [] i x h e = absurd cc
+all_at P (y ∷ ys) zero x h e = let same : y ≡ x = cc in subst P same h.0
+all_at P (y ∷ ys) (suc i) x h e = all_at P ys i x h.1 e

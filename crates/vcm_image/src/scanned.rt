@@ -8,11 +8,14 @@ ghost use Rattle.vcm_fields.specs.Reading.{Gives, Fails, GivesOrNoMemory, times,
 ghost use Rattle.vcm_image.specs.Whole.{Fits, spelling, header_at, count_at, code_at};
 ghost use Rattle.vcm_image.specs.Places.{Table, IsEnd};
 
+use crate::copying;
 use crate::counts::Counts;
 use std::alloc::Global;
 use std::marker::Model;
 use vcm_fields::{BorrowedStatement, BorrowedVariable, ImageFault, TextSlice};
 use vcm_fields::{long, name, short, statement, variable};
+use vcm_num::NoMemory;
+use vcm_tables::Tables;
 
 /// The bytes `VCMI` as a number of four bytes.
 const MAGIC: u32 = 1_229_800_278;
@@ -203,6 +206,8 @@ fn after(bytes: &[u8], start: usize) -> &[u8]
 }
 
 impl<'a> Scanned<'a> {
+    ghost use Rattle.vcm_expr.specs.Parts.{IsVariableName};
+
     /// How many variables there are.
     pub fn variable_count(&self) -> usize
         ensures { result ≡ length self.now.tables.variables }
@@ -213,7 +218,8 @@ impl<'a> Scanned<'a> {
     /// A variable, whose name is a slice of the image.
     pub fn variable(&self, n: usize) -> BorrowedVariable<'a>
         requires { n < length self.now.tables.variables }
-        ensures { slice_get self.now.tables.variables n ≡ Some result }
+        ensures is { slice_get self.now.tables.variables n ≡ Some result }
+        ensures name { IsVariableName result.name }
     {
         let start = self.variables[n];
         match variable(after(self.bytes, start)) {
@@ -232,7 +238,8 @@ impl<'a> Scanned<'a> {
     /// The name of a feature, a slice of the image.
     pub fn feature(&self, n: usize) -> TextSlice<'a>
         requires { n < length self.now.tables.features }
-        ensures { slice_get self.now.tables.features n ≡ Some result }
+        ensures is { slice_get self.now.tables.features n ≡ Some result }
+        ensures name { IsName result }
     {
         let start = self.features[n];
         match name(after(self.bytes, start)) {
@@ -251,7 +258,8 @@ impl<'a> Scanned<'a> {
     /// The name of a frame, a slice of the image.
     pub fn frame(&self, n: usize) -> TextSlice<'a>
         requires { n < length self.now.tables.frames }
-        ensures { slice_get self.now.tables.frames n ≡ Some result }
+        ensures is { slice_get self.now.tables.frames n ≡ Some result }
+        ensures name { IsName result }
     {
         let start = self.frames[n];
         match name(after(self.bytes, start)) {
@@ -277,5 +285,15 @@ impl<'a> Scanned<'a> {
             Ok((statement, _)) => statement,
             Err(_) => unreachable!(),
         }
+    }
+    /// The tables of names, on their own.
+    ///
+    /// # Errors
+    ///
+    /// Want of memory.
+    pub fn tables(&self, alloc: Global) -> Result<Tables, NoMemory>
+        ensures { IfOk result (λ t. t ≡ self.now.tables) }
+    {
+        copying::tables(alloc, self)
     }
 }

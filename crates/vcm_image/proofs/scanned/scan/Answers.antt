@@ -36,7 +36,7 @@ pub returns-then-not-is_empty : goal.returns-then-not-is_empty
 returns-then-not-is_empty c = left_over _ _ _ c.in_ok-counts.ensures _ _ c.in_ok-variables.ensures.ok _ _ c.in_ok-features.ensures.ok _ _ c.in_ok-frames.ensures.ok _ _ c.in_ok-statements.ensures.ok (not_zero _ (sym c.is_empty.ensures ∙ c.if-not-is_empty.true))
 
 pub invariant_of-result : goal.invariant_of-result
-invariant_of-result c = indexed _ _ _ c.in_ok-counts.ensures _ _ c.in_ok-variables.ensures.ok _ _ c.in_ok-features.ensures.ok _ _ c.in_ok-frames.ensures.ok _ _ c.in_ok-statements.ensures.ok (eqb-true _ _ (sym c.is_empty.ensures ∙ c.if-not-is_empty.false))
+invariant_of-result c = indexed _ _ _ c.in_ok-counts.ensures _ _ c.in_ok-variables.ensures.ok _ _ c.in_ok-features.ensures.ok _ _ c.in_ok-frames.ensures.ok _ _ c.in_ok-statements.ensures.ok (λ i. omega (arith, c.type_inv.bytes i)) (eqb-true _ _ (sym c.is_empty.ensures ∙ c.if-not-is_empty.false))
 
 pub returns : goal.returns
-returns c = (indexed _ _ _ c.in_ok-counts.ensures _ _ c.in_ok-variables.ensures.ok _ _ c.in_ok-features.ensures.ok _ _ c.in_ok-frames.ensures.ok _ _ c.in_ok-statements.ensures.ok (eqb-true _ _ (sym c.is_empty.ensures ∙ c.if-not-is_empty.false))).is
+returns c = (indexed _ _ _ c.in_ok-counts.ensures _ _ c.in_ok-variables.ensures.ok _ _ c.in_ok-features.ensures.ok _ _ c.in_ok-frames.ensures.ok _ _ c.in_ok-statements.ensures.ok (λ i. omega (arith, c.type_inv.bytes i)) (eqb-true _ _ (sym c.is_empty.ensures ∙ c.if-not-is_empty.false))).is

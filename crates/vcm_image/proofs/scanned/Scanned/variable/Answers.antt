@@ -1,7 +1,8 @@
+use Rattle.vcm_fields.specs.Fitting.{FitsEntry}
 use Rattle.std.proofs.Common.{◌<◌, ◌≡◌, length, slice_get, Some, sym, subst, arith}
 use Rattle.vcm_code.specs.declared.code.Code.{Code}
 use Rattle.vcm_fields.specs.Reading.{entry_at}
-use Rattle.vcm_image.proofs.Tables.{Begin-length, Begin-index, Found-ok, Found-err}
+use Rattle.vcm_image.proofs.Tables.{Begin-length, Begin-index, Found-ok, Found-err, all_at}
 use Rattle.vcm_image.proofs.scanned.Scanned.variable.Goals as goal
 
 pub index-start-requires : goal.index-start-requires
@@ -13,5 +14,8 @@ after-requires c = (Begin-index entry_at _ _ _ _ _ _ c.self.invariant.variables_
 pub unreachable-requires : goal.unreachable-requires
 unreachable-requires c = Found-err entry_at _ _ _ _ _ _ (Begin-index entry_at _ _ _ _ _ _ c.self.invariant.variables_begin (subst (λ (d : Code). c.args.n < length d.tables.variables) (sym c.self.view_is) c.requires) c.index-start.ensures) c.after.ensures c.in-Err.ensures
 
-pub returns : goal.returns
-returns c = subst (λ (d : Code). slice_get d.tables.variables c.args.n ≡ Some c.in-Ok.variable) c.self.view_is (Found-ok entry_at _ _ _ _ _ _ _ (Begin-index entry_at _ _ _ _ _ _ c.self.invariant.variables_begin (subst (λ (d : Code). c.args.n < length d.tables.variables) (sym c.self.view_is) c.requires) c.index-start.ensures) c.after.ensures c.in-Ok.ensures)
+pub returns-clause-is : goal.returns-clause-is
+returns-clause-is c = subst (λ (d : Code). slice_get d.tables.variables c.args.n ≡ Some c.in-Ok.variable) c.self.view_is (Found-ok entry_at _ _ _ _ _ _ _ (Begin-index entry_at _ _ _ _ _ _ c.self.invariant.variables_begin (subst (λ (d : Code). c.args.n < length d.tables.variables) (sym c.self.view_is) c.requires) c.index-start.ensures) c.after.ensures c.in-Ok.ensures)
+
+pub returns-clause-name : goal.returns-clause-name
+returns-clause-name c = (all_at FitsEntry _ _ _ c.self.invariant.fits.variables.1 (Found-ok entry_at _ _ _ _ _ _ _ (Begin-index entry_at _ _ _ _ _ _ c.self.invariant.variables_begin (subst (λ (d : Code). c.args.n < length d.tables.variables) (sym c.self.view_is) c.requires) c.index-start.ensures) c.after.ensures c.in-Ok.ensures)).1

@@ -1,0 +1,12 @@
+//! Valid images, read where they lie.
+#![tactic(auto)]
+
+mod loaded;
+mod loading;
+mod places;
+mod walking;
+
+pub use loaded::Loaded;
+pub use loading::load;
+pub use vcm_fields::{BorrowedOp, BorrowedStatement, BorrowedVariable, ImageFault, ItemSlice, TextSlice};
+pub use walking::{items_kind, items_value};
