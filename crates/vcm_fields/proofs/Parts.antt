@@ -1,10 +1,8 @@
 -- Each part of an image is read as it is spelled.
-use Rattle.std.proofs.Common.{◌≡◌, ℕ, zero, suc, ◌-◌, ◌^◌, ◌<◌, ◌≤◌, ◌&&◌, ◌==◌, Bool, true, false, nat_le, nat_lt, IsTrue, List, [], ◌∷◌, ◌++◌, length, take, drop, Option, Some, None, Result, Ok, Err, refl, sym, ap, subst, ◌∙◌, arith, FitsSigned, to_z-of_z}
-use Rattle.std.proofs.lemmas.Bool.{eqb-true}
-use Rattle.std.proofs.lemmas.List.{append-nil, nil_from_length}
+use Rattle.std.proofs.Common.{◌≡◌, ℕ, zero, suc, ◌-◌, ◌<◌, ◌≤◌, ◌&&◌, Bool, true, false, nat_le, nat_lt, IsTrue, List, [], ◌∷◌, ◌++◌, length, take, drop, Option, Some, None, Ok, Err, refl, sym, ap, subst, ◌∙◌, arith, FitsSigned, to_z-of_z}
 use mir.ValLaws.{of_z_fits, to_z-Fits, of_z-to_z}
-use Rattle.std.specs.List.{flat_map, AllByRecursion}
-use Rattle.std.specs.Int.{Width, w16, w32, w64, to_le_bytes, cast_signed, cast_unsigned}
+use Rattle.std.specs.List.{AllByRecursion}
+use Rattle.std.specs.Int.{w32, w64, to_le_bytes, cast_signed, cast_unsigned}
 use Rattle.vcm_num.specs.declared.number.Kind.{Kind}
 use Rattle.vcm_num.specs.declared.number.Kind.TheVariants.{Int, Real, Bool as Truths}
 use Rattle.vcm_spec.specs.declared.expression.Operand.TheVariants.{Integer, Thousandths, Truth, Variable}
@@ -20,7 +18,7 @@ use Rattle.vcm_spec.specs.TextBytes.{is_text_byte, is_text, IsText}
 use Rattle.vcm_expr.proofs.NameLemmas.{variable_name_is_name}
 use Rattle.vcm_expr.specs.NameBytes.{is_name, is_name_byte, IsName}
 use Rattle.vcm_expr.specs.Parts.{is_variable_name, IsVariableName}
-use Rattle.vcm_fields.specs.Parts.{Operation, Line}
+use Rattle.vcm_fields.specs.Parts.{Operation}
 use Rattle.vcm_fields.specs.declared.word.Word.{Word}
 use Rattle.vcm_fields.specs.declared.word.Word.TheVariants as words
 use Rattle.vcm_fields.specs.declared.fault.ImageFault.{ImageFault}
@@ -28,16 +26,16 @@ use Rattle.vcm_fields.specs.declared.fault.ImageFault.TheVariants.{BadField}
 use Rattle.std.specs.List.{list_all}
 use Rattle.vcm_fields.specs.Words.{word_of}
 use Rattle.vcm_fields.specs.Fitting.{FitsItem, FitsExpression, FitThree, within, FitsOperation, FitsLine, FitsEntry}
-use Rattle.vcm_fields.specs.Spelling.{byte, short, long, signed, truth_byte, unary, binary, item, expression, three, name, text, axis_byte, direction_byte, setting_byte, source_byte, word_byte, operands, line, kind_byte, entry}
+use Rattle.vcm_fields.specs.Spelling.{byte, long, signed, truth_byte, unary, binary, item, expression, three, name, text, axis_byte, direction_byte, setting_byte, source_byte, word_byte, operands, line, kind_byte, entry}
 use Rattle.vcm_num.specs.declared.axis.Axis.{Axis}
 use Rattle.vcm_num.specs.declared.axis.Axis.TheVariants.{PlusX, MinusX, PlusY, MinusY, PlusZ, MinusZ}
 use Rattle.vcm_spec.specs.declared.words.Setting.{Setting}
 use Rattle.vcm_spec.specs.declared.words.Setting.TheVariants.{Approach, Retract, Search, Depth}
 use Rattle.vcm_spec.specs.declared.words.Source.{Source}
 use Rattle.vcm_spec.specs.declared.words.Source.TheVariants.{Nominal, Actual}
-use Rattle.vcm_fields.specs.Reading.{both, via, tested, after, times, found, byte_at, number_at, signed_at, bytes_at, is_one, truth_at, item_rows, tagged_item, item_at, expression_at, name_at, variable_name_at, text_at, variable_at, byte_below_at, pair_at, target_at, axis_rows, axis_at, direction_rows, direction_at, setting_rows, setting_at, source_rows, source_at, part_at, word_rows, word_at, three_at, operands_at, line_at, kind_rows, kind_at, entry_at}
+use Rattle.vcm_fields.specs.Reading.{both, via, tested, after, times, found, byte_at, number_at, signed_at, bytes_at, is_one, truth_at, item_rows, tagged_item, item_at, expression_at, name_at, variable_name_at, text_at, byte_below_at, axis_rows, axis_at, direction_rows, direction_at, setting_rows, setting_at, source_rows, source_at, part_at, word_rows, word_at, three_at, operands_at, line_at, kind_rows, kind_at, entry_at}
 use Rattle.vcm_fields.specs.Slices.{read_or_nil, items_in, AreItems}
-use Rattle.vcm_fields.proofs.Inverse.{Cut, times_first, times_none, IsBytes, Takes, Reads, Row, bind_ok, guard_met, ok_is, reads_as, reads_both, via_takes, via_again, reads_via, reads_tested, reads_after, reads_times, tagged_takes, now_row, reads_byte, reads_short, reads_long, reads_eight, reads_bytes}
+use Rattle.vcm_fields.proofs.Inverse.{Cut, times_first, times_none, IsBytes, Takes, Reads, Row, ok_is, reads_as, reads_both, via_takes, via_again, reads_via, reads_tested, reads_after, reads_times, tagged_takes, now_row, reads_byte, reads_short, reads_long, reads_eight, reads_bytes}
 
 -- ---- items
 
@@ -167,7 +165,7 @@ pub reads_item : Reads item_at item FitsItem
 reads_item = record { takes = item_takes; again = item_again }
 
 -- a test of a range
-in_range : (low high n : ℕ) → within low high n ≡ true → (low ≤ n) × (n ≤ high)
+pub in_range : (low high n : ℕ) → within low high n ≡ true → (low ≤ n) × (n ≤ high)
 in_range low high n e = split (nat_le low n) (nat_le n high) refl refl e
   where
     split : (a b : Bool) → nat_le low n ≡ a → nat_le n high ≡ b → (a && b) ≡ true → (low ≤ n) × (n ≤ high)
@@ -496,4 +494,3 @@ First-read count bytes x after f e =
 
 pub First-fails : (count : ℕ) (bytes : List ℕ) (e : ImageFault) → First count bytes → item_at bytes ≡ Err e → ⊥
 First-fails count bytes e f h = let both = sym f.read ∙ h in cc
-

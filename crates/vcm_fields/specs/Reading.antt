@@ -1,5 +1,5 @@
 -- Reading from the front, with the first fault that is met.
-use Rattle.std.specs.Prelude.{◌≡◌, ℕ, zero, suc, ℤ, Bool, List, [], ◌∷◌, length, take, drop, Option, Some, None, ◌&&◌, Result, Ok, Err, nat_lt, nat_le, ◌==◌, if◌then◌else◌}
+use Rattle.std.specs.Prelude.{◌≡◌, ℕ, zero, suc, ℤ, Bool, List, [], ◌∷◌, length, take, drop, Option, Some, None, Result, Ok, Err, nat_lt, nat_le, ◌==◌, if◌then◌else◌}
 use Rattle.std.specs.Int.{Width, w16, w32, w64, byte_len, from_le_bytes, cast_signed}
 use Rattle.vcm_num.specs.declared.number.Kind.{Kind}
 use Rattle.vcm_num.specs.declared.number.Kind.TheVariants.{Int, Real, Bool as Truths}

@@ -56,7 +56,10 @@ fn tagged(tag: u8, rest: &[u8]) -> Result<(Item, &[u8]), ImageFault>
         34 => Ok((Item::Combine(BinaryOp::Compare(Relation::Less)), rest)),
         35 => Ok((Item::Combine(BinaryOp::Compare(Relation::LessEqual)), rest)),
         36 => Ok((Item::Combine(BinaryOp::Compare(Relation::Greater)), rest)),
-        37 => Ok((Item::Combine(BinaryOp::Compare(Relation::GreaterEqual)), rest)),
+        37 => Ok((
+            Item::Combine(BinaryOp::Compare(Relation::GreaterEqual)),
+            rest,
+        )),
         48 => Ok((Item::Apply(UnaryOp::Not), rest)),
         49 => Ok((Item::Combine(BinaryOp::And), rest)),
         50 => Ok((Item::Combine(BinaryOp::Or), rest)),

@@ -88,7 +88,10 @@ fn looping(bytes: &[u8]) -> Result<(BorrowedOp<'_>, &[u8]), ImageFault>
     let (pair, rest) = byte_below(32, rest)?;
     let (values, rest) = three(rest)?;
     let (exit, rest) = long(rest)?;
-    Ok((Op::Do(variable, pair, values.x, values.y, values.z, exit), rest))
+    Ok((
+        Op::Do(variable, pair, values.x, values.y, values.z, exit),
+        rest,
+    ))
 }
 
 // The operands of ENDDO.

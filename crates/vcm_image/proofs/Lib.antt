@@ -1,3 +1,4 @@
 pub mod Wholes
 pub mod Tables
 pub mod Copies
+pub mod ImageLaws

@@ -12,22 +12,24 @@ use crate::copying;
 use crate::counts::Counts;
 use std::alloc::Global;
 use std::marker::Model;
-use vcm_fields::{BorrowedStatement, BorrowedVariable, ImageFault, TextSlice};
-use vcm_fields::{long, name, short, statement, variable};
+use vcm_fields::{
+    BorrowedStatement, BorrowedVariable, ImageFault, TextSlice, long, name, short, statement,
+    variable,
+};
 use vcm_num::NoMemory;
 use vcm_tables::Tables;
 
 /// The bytes `VCMI` as a number of four bytes.
-const MAGIC: u32 = 1_229_800_278;
+pub(crate) const MAGIC: u32 = 1_229_800_278;
 
 /// The version of an image.
-const VERSION: u16 = 1;
+pub(crate) const VERSION: u16 = 1;
 
 /// The most variables, features or frames.
-const MOST_NAMES: u16 = 4096;
+pub(crate) const MOST_NAMES: u16 = 4096;
 
 /// The most statements.
-const MOST_STATEMENTS: u32 = 20_000;
+pub(crate) const MOST_STATEMENTS: u32 = 20_000;
 
 /// The bytes of an image whose fields are all in range, and where its variables, names and statements begin. Contracts see it as the code
 /// that the bytes spell.

@@ -1,0 +1,79 @@
+-- The laws of images.
+use Rattle.std.proofs.Common.{◌≡◌, ◌≢◌, ℕ, ◌<◌, ◌≤◌, ◌⊎◌, inl, inr, List, [], ◌∷◌, length, suc, get_or, Result, Ok, Err, refl, sym, ap, ◌∙◌, subst}
+use Rattle.std.specs.List.{AllByRecursion}
+use Rattle.vcm_spec.specs.declared.expression.Item.{Item}
+use Rattle.vcm_spec.specs.Setup.{Variable as Entry}
+use Rattle.vcm_code.specs.declared.code.Code.{Code}
+use Rattle.vcm_code.specs.declared.op.Op.TheVariants.{EndFil, Goto, GoHome, Assign, If, Else, EndIf, Do, EndDo, Label, JumpTo, Feat, Meas, PtMeas, EndMes, SnSet, Trans, Rotate, Recall, Obtain, Output, Text}
+use Rattle.vcm_code.specs.Ops.{op_of, statements_of, code_of}
+use Rattle.vcm_code.specs.Ranges.{IsShort, OpInRange, AllInRange, AreVariables, IsInRange}
+use Rattle.vcm_fields.specs.declared.fault.ImageFault.{ImageFault}
+use Rattle.vcm_fields.specs.Parts.{Operation, Line}
+use Rattle.vcm_fields.specs.Fitting.{FitsExpression, FitsOperation, FitsLine, FitsEntry}
+use Rattle.vcm_fields.proofs.Parts.{in_range}
+use Rattle.vcm_image.specs.Whole.{Fits, spelling, code_at}
+use Rattle.vcm_image.proofs.Wholes.{code_takes, code_again}
+
+one_code : (c d : Code) → (r : Result Code ImageFault) → r ≡ Ok c → r ≡ Ok d → c ≡ d
+one_code c d r e f = let both : Ok c ≡ Ok d = sym e ∙ f in cc
+
+pub one_image : (c d : Code) → Fits c → Fits d → spelling c ≡ spelling d → c ≡ d
+one_image c d f g e = one_code c d (code_at (spelling c)) (code_again c f) (ap code_at e ∙ code_again d g)
+
+-- ---- ranges
+
+short : (items : List Item) → FitsExpression items → IsShort items
+short items h = in_range 1 1024 (length items) h.0
+
+op_range : (o : Operation) → FitsOperation o → OpInRange (op_of o)
+op_range EndFil h = tt
+op_range (Goto x y z) h = (short x h.0, short y h.1.0, short z h.1.1)
+op_range GoHome h = tt
+op_range (Assign v e) h = short e h.1
+op_range (If e to) h = short e h.0
+op_range (Else to) h = tt
+op_range EndIf h = tt
+op_range (Do v p a b c exit) h = (h.1.0, short a h.1.1.0.0, short b h.1.1.0.1.0, short c h.1.1.0.1.1)
+op_range (EndDo v p to) h = h.1.0
+op_range Label h = tt
+op_range (JumpTo to) h = tt
+op_range (Feat f x y z toward) h = (short x h.1.0.0, short y h.1.0.1.0, short z h.1.0.1.1)
+op_range (Meas f) h = tt
+op_range (PtMeas f x y z toward) h = (short x h.1.0.0, short y h.1.0.1.0, short z h.1.0.1.1)
+op_range EndMes h = tt
+op_range (SnSet which e) h = short e h.1
+op_range (Trans f x y z) h = (short x h.1.0, short y h.1.1.0, short z h.1.1.1)
+op_range (Rotate f axis quarters) h = (h.1.0, h.1.1)
+op_range (Recall f) h = tt
+op_range (Obtain v source f word) h = in_range 3 8 word h.1.1.1
+op_range (Output source f) h = tt
+op_range (Text bytes) h = h
+
+lines_range : (ss : List Line) → AllByRecursion FitsLine ss → AllInRange (statements_of ss)
+lines_range [] h = tt
+lines_range (s ∷ ss) h = (op_range s.op h.0.1, lines_range ss h.1)
+
+variables_range : (vs : List Entry) → AllByRecursion FitsEntry vs → AreVariables vs
+variables_range [] h = tt
+variables_range (v ∷ vs) h = (h.0.1, variables_range vs h.1)
+
+statements_length : (ss : List Line) → length (statements_of ss) ≡ length ss
+statements_length [] = refl
+statements_length (s ∷ ss) = ap (λ n. suc n) (statements_length ss)
+
+pub range_of : (c : Code) → Fits c → IsInRange (code_of c)
+range_of c h = record {
+  variables = (h.variables.0, variables_range c.tables.variables h.variables.1);
+  features = h.features;
+  frames = h.frames;
+  statements = (subst (λ n. n ≤ 20000) (sym (statements_length c.statements)) h.statements.0, lines_range c.statements h.statements.1);
+}
+
+-- ---- changes
+
+pub changed : (c : Code) (bytes : List ℕ) → ((i : ℕ) → get_or bytes i 0 < 256) → bytes ≢ spelling c → ((e : ImageFault) × (code_at bytes ≡ Err e)) ⊎ ((d : Code) × Fits d × (bytes ≡ spelling d) × (d ≢ c))
+changed c bytes b differ = split (code_at bytes) refl
+  where
+    split : (r : Result Code ImageFault) → code_at bytes ≡ r → ((e : ImageFault) × (code_at bytes ≡ Err e)) ⊎ ((d : Code) × Fits d × (bytes ≡ spelling d) × (d ≢ c))
+    split (Err e) h = inl (e, h)
+    split (Ok d) h = let t = code_takes bytes d b h in inr (d, t.0, t.1, λ same. differ (t.1 ∙ ap spelling same))
