@@ -1,6 +1,6 @@
 //! Statements, whose items and texts are slices of the image.
 
-ghost use Rattle.vcm_fields.specs.Reading.{Gives, expression_at, three_at, operands_at, line_at};
+ghost use Rattle.vcm_fields.specs.Reading.{Gives, expression_at, pair_at, three_at, operands_at, line_at};
 ghost use Rattle.vcm_fields.specs.declared.word.Word.TheVariants as words;
 
 use crate::fault::ImageFault;
@@ -79,13 +79,20 @@ fn choice(bytes: &[u8]) -> Result<(BorrowedOp<'_>, &[u8]), ImageFault>
     Ok((Op::If(test, target), rest))
 }
 
+// The number of a loop's pair: 0 to 31.
+fn pair(bytes: &[u8]) -> Result<(u8, &[u8]), ImageFault>
+    ensures { Gives (λ x. (x.0, x.1.now)) result (pair_at bytes.now) }
+{
+    byte_below(32, bytes)
+}
+
 // The operands of DO.
 #[tactic(auto, unfolding(crate::specs::Reading::operands_at))]
 fn looping(bytes: &[u8]) -> Result<(BorrowedOp<'_>, &[u8]), ImageFault>
     ensures { Gives (λ x. (x.0, x.1.now)) result (operands_at words.Do bytes.now) }
 {
     let (variable, rest) = short(bytes)?;
-    let (pair, rest) = byte_below(32, rest)?;
+    let (pair, rest) = pair(rest)?;
     let (values, rest) = three(rest)?;
     let (exit, rest) = long(rest)?;
     Ok((
@@ -100,7 +107,7 @@ fn turning(bytes: &[u8]) -> Result<(BorrowedOp<'_>, &[u8]), ImageFault>
     ensures { Gives (λ x. (x.0, x.1.now)) result (operands_at words.EndDo bytes.now) }
 {
     let (variable, rest) = short(bytes)?;
-    let (pair, rest) = byte_below(32, rest)?;
+    let (pair, rest) = pair(rest)?;
     let (target, rest) = long(rest)?;
     Ok((Op::EndDo(variable, pair, target), rest))
 }

@@ -1,4 +1,4 @@
-//! The tests of runs, jobs and commands, from their texts.
+//! The tests of images, runs, jobs and commands, from their texts.
 #![tactic(auto)]
 
 #[cfg(test)]
@@ -6,7 +6,13 @@ mod command_tests;
 #[cfg(test)]
 mod fault_tests;
 #[cfg(test)]
+mod image_tests;
+#[cfg(test)]
 mod job_tests;
+#[cfg(test)]
+mod loader_tests;
+#[cfg(test)]
+mod plain;
 #[cfg(test)]
 mod run_tests;
 #[cfg(test)]
