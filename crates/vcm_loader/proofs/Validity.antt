@@ -1,5 +1,5 @@
 -- What validity says of one statement and its expressions.
-use Rattle.std.proofs.Common.{◌≡◌, ℕ, zero, suc, ◌<◌, List, [], ◌∷◌, length, Some, slice_get, refl, sym, ap, subst}
+use Rattle.std.proofs.Common.{◌≡◌, ℕ, zero, suc, List, [], ◌∷◌, length, Some, slice_get, refl, ap, subst}
 use Rattle.std.specs.Prelude.{map}
 use Rattle.vcm_num.specs.declared.number.Kind.{Kind}
 use Rattle.vcm_num.specs.declared.number.Kind.TheVariants.{Int, Real, Bool}
@@ -55,7 +55,7 @@ typed_at ks [] i e h f = absurd cc
 typed_at ks (d ∷ es) zero e h f = let same : d ≡ e = cc in subst (λ (is : List Item). (k : Kind) × HasKind ks is k) same h.0
 typed_at ks (d ∷ es) (suc i) e h f = typed_at ks es i e h.1 f
 
-statements_length : (ss : List Line) → length (statements_of ss) ≡ length ss
+pub statements_length : (ss : List Line) → length (statements_of ss) ≡ length ss
 statements_length [] = refl
 statements_length (s ∷ ss) = ap suc (statements_length ss)
 

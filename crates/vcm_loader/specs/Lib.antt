@@ -1,3 +1,4 @@
 pub mod Checks
 pub mod Loading
 pub mod Expressions
+pub mod Laws

@@ -1,6 +1,8 @@
 //! Valid images, read where they lie.
 #![tactic(auto)]
 
+mod judging;
+pub mod laws;
 mod loaded;
 mod loading;
 mod places;
@@ -8,5 +10,7 @@ mod walking;
 
 pub use loaded::Loaded;
 pub use loading::load;
-pub use vcm_fields::{BorrowedOp, BorrowedStatement, BorrowedVariable, ImageFault, ItemSlice, TextSlice};
+pub use vcm_fields::{
+    BorrowedOp, BorrowedStatement, BorrowedVariable, ImageFault, ItemSlice, TextSlice,
+};
 pub use walking::{items_kind, items_value};

@@ -132,13 +132,7 @@ impl<'a> Loaded<'a> {
     /// # Errors
     ///
     /// The first fault: an exact result outside 64 bits, or a zero divisor.
-    pub fn value(
-        &self,
-        alloc: Global,
-        n: usize,
-        place: usize,
-        slots: &[i64],
-    ) -> Result<i64, Fault>
+    pub fn value(&self, alloc: Global, n: usize, place: usize, slots: &[i64]) -> Result<i64, Fault>
         requires statement { n < length self.now.statements }
         requires place { (s : Line) → slice_get self.now.statements n ≡ Some s → place < length (expressions s.op) }
         requires slots { length slots.now ≡ length self.now.tables.variables }

@@ -47,7 +47,11 @@ fn eight(bytes: &[u8]) -> Result<&[u8], u8> {
 // A count of at most this.
 fn count(bytes: &[u8], most: u32) -> Result<(u32, &[u8]), u8> {
     let (number, rest) = short(bytes)?;
-    if number > most { Err(4) } else { Ok((number, rest)) }
+    if number > most {
+        Err(4)
+    } else {
+        Ok((number, rest))
+    }
 }
 
 // A name, of a variable or another.

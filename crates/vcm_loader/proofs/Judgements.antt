@@ -1,0 +1,45 @@
+-- Checks, one list after the other.
+use Rattle.std.proofs.Common.{◌≡◌, inl, inr, ℕ, List, [], ◌∷◌, ◌++◌, slice_get, Some, sym, ◌∙◌, subst}
+use Rattle.vcm_num.specs.declared.number.Kind.{Kind}
+use Rattle.vcm_spec.specs.declared.expression.Item.{Item}
+use Rattle.vcm_spec.specs.Expression.{HasKind}
+use Rattle.vcm_fields.specs.declared.fault.ImageFault.{ImageFault}
+use Rattle.vcm_loader.specs.Checks.{Check, indexes, typed, assigned, ItemsBelow, AllHold}
+use Rattle.vcm_loader.specs.Loading.{FirstFault}
+
+pub hold_append : (cs ds : List Check) → AllHold cs → AllHold ds → AllHold (cs ++ ds)
+hold_append [] ds h g = g
+hold_append (c ∷ cs) ds h g = (h.0, hold_append cs ds h.1 g)
+
+pub hold_front : (cs ds : List Check) → AllHold (cs ++ ds) → AllHold cs
+hold_front [] ds h = tt
+hold_front (c ∷ cs) ds h = (h.0, hold_front cs ds h.1)
+
+pub hold_back : (cs ds : List Check) → AllHold (cs ++ ds) → AllHold ds
+hold_back [] ds h = h
+hold_back (c ∷ cs) ds h = hold_back cs ds h.1
+
+-- what is told of the first list is told of both
+pub first_here : (cs ds : List Check) (e : ImageFault) → FirstFault cs e → FirstFault (cs ++ ds) e
+first_here [] ds e h = absurd h
+first_here (c ∷ cs) ds e (inl h) = inl (h.0, first_here cs ds e h.1)
+first_here (c ∷ cs) ds e (inr h) = inr h
+
+-- where all of the first list hold, what is told of the second is
+pub first_later : (cs ds : List Check) (e : ImageFault) → AllHold cs → FirstFault ds e → FirstFault (cs ++ ds) e
+first_later [] ds e h g = g
+first_later (c ∷ cs) ds e h g = inl (h.0, first_later cs ds e h.1 g)
+
+-- an expression of the variable's kind
+pub assigned_ok : (kinds : List Kind) (v n : ℕ) (items : List Item) (k : Kind) → slice_get kinds v ≡ Some k → AllHold (indexes items n ∷ typed kinds items k ∷ []) → AllHold (indexes items n ∷ assigned kinds v items ∷ [])
+assigned_ok kinds v n items k e h = (h.0, ((k, e, h.1.0), tt))
+
+pub assigned_err : (kinds : List Kind) (v n : ℕ) (items : List Item) (k : Kind) (f : ImageFault) → slice_get kinds v ≡ Some k → FirstFault (indexes items n ∷ typed kinds items k ∷ []) f → FirstFault (indexes items n ∷ assigned kinds v items ∷ []) f
+assigned_err kinds v n items k f e (inl (a, inl (b, c))) = absurd c
+assigned_err kinds v n items k f e (inl (a, inr (b, c))) = inl (a, inr (λ g. let same : Some g.0 ≡ Some k = sym g.1 ∙ e in let one : g.0 ≡ k = cc in b (subst (HasKind kinds items) one g.2), c))
+assigned_err kinds v n items k f e (inr h) = inr h
+
+-- whether all variables of an expression are below a count hangs on the items that are left
+pub record Below (n : ℕ) (items rest : List Item) : Type 0 where
+  pub on : ItemsBelow n rest → ItemsBelow n items
+  pub back : ItemsBelow n items → ItemsBelow n rest
