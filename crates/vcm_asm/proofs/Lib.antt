@@ -7,4 +7,5 @@ pub mod Targeted
 pub mod Emits
 pub mod ValidCode
 pub mod InRange
+pub mod CarriedOut
 pub mod Whole

@@ -7,6 +7,7 @@ use Rattle.vcm_tree.specs.Program.{IsWhole, tables_of}
 use Rattle.vcm_code.specs.Code.{Statement, Code}
 use Rattle.vcm_code.specs.Valid.{IsValid}
 use Rattle.vcm_code.specs.Ranges.{AllInRange, AreNames, IsInRange}
+use Rattle.vcm_code.specs.CarriedOut.{AllCarriedOut}
 use Rattle.vcm_asm.specs.Spelled.{BlockKeeps}
 use Rattle.vcm_asm.specs.Assembled.{marks, place_in, flat_code}
 use Rattle.vcm_asm.specs.Headline.{IsAssembled}
@@ -16,11 +17,15 @@ use Rattle.vcm_asm.proofs.Follow.{same}
 use Rattle.vcm_asm.proofs.Lines.{lines_are}
 use Rattle.vcm_asm.proofs.ValidCode.{valid}
 use Rattle.vcm_asm.proofs.InRange.{block_range}
+use Rattle.vcm_asm.proofs.CarriedOut.{block_out}
 
 -- the tables of so many variables have as many
 pub table_length : (vs : List Variable) → length (tables_of vs).variables ≡ length vs
 table_length [] = refl
 table_length (v ∷ vs) = ap suc (table_length vs)
+
+pub carried_out : (program : Block) → BlockKeeps program → AllCarriedOut (flat_code program)
+carried_out program kept = block_out (place_in (marks program 0)) program 0 0 kept
 
 module _ (program : Block) (tables : Tables) (whole : IsWhole program tables) where
   -- the code with these tables and statements

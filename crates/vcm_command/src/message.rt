@@ -2,7 +2,8 @@
 
 use crate::checking::CheckFault;
 use thiserror::Error;
-use vcm_job::JobFault;
+use vcm_fields::ImageFault;
+use vcm_job::{BuildFault, JobFault, PartFileFault, RunFault};
 use vcm_lines::{FaultCode, SourceFault};
 use vcm_part::{PartCode, PartFault};
 use vcm_run::Refusal;
@@ -16,6 +17,8 @@ pub enum Message<'a> {
     Block { words: &'static str, block: u32 },
     #[error("{words}")]
     Part { words: &'static str },
+    #[error("{words}")]
+    Image { words: &'static str },
     #[error("no memory")]
     NoMemory,
     #[error("no memory after {done} steps")]
@@ -28,6 +31,8 @@ pub enum Message<'a> {
     TooLong,
     #[error("usage: a word of the command line is no text")]
     Usage,
+    #[error("usage: --steps wants decimal digits, a number from 0 to 1000000000")]
+    Steps,
 }
 
 /// A line of a program that has no effect, as it is printed.
@@ -80,6 +85,32 @@ fn part_words(code: PartCode) -> &'static str {
     }
 }
 
+// The code and name of a refusal of an image.
+fn image_words(fault: ImageFault) -> &'static str {
+    match fault {
+        ImageFault::NoMemory => "I00 NoMemory",
+        ImageFault::BadMagic => "I01 BadMagic",
+        ImageFault::Short => "I02 Short",
+        ImageFault::BadVersion => "I03 BadVersion",
+        ImageFault::BadField => "I04 BadField",
+        ImageFault::Trailing => "I05 Trailing",
+        ImageFault::BadIndex => "I06 BadIndex",
+        ImageFault::BadTarget => "I07 BadTarget",
+        ImageFault::BadOperand => "I08 BadOperand",
+        ImageFault::RunsOff => "I09 RunsOff",
+    }
+}
+
+/// How a refused image is told.
+pub fn image_message(fault: ImageFault) -> Message<'static> {
+    match fault {
+        ImageFault::NoMemory => Message::NoMemory,
+        fault => Message::Image {
+            words: image_words(fault),
+        },
+    }
+}
+
 /// How a refused text is told.
 pub fn source_message(fault: SourceFault) -> Message<'static> {
     match fault.code {
@@ -105,12 +136,54 @@ pub fn part_message(fault: PartFault) -> Message<'static> {
     }
 }
 
+// How a refusal is told.
+fn refusal_message(refusal: Refusal) -> Message<'static> {
+    match refusal {
+        Refusal::Source(fault) => source_message(fault),
+        Refusal::Part(fault) => part_message(fault),
+        Refusal::NoMemory => Message::NoMemory,
+    }
+}
+
+/// How the fault of a part file is told, of the file with this name.
+pub fn part_file_message<'a>(fault: PartFileFault, name: &'a str) -> Message<'a> {
+    match fault {
+        PartFileFault::Refused(fault) => part_message(fault),
+        PartFileFault::NoMemory => Message::NoMemory,
+        PartFileFault::Read => Message::Read { name },
+        PartFileFault::TooLong => Message::TooLong,
+    }
+}
+
+/// How the fault of a build is told, of the program's file with this name.
+pub fn build_message<'a>(fault: BuildFault, name: &'a str) -> Message<'a> {
+    match fault {
+        BuildFault::Refused(refusal) => refusal_message(refusal),
+        BuildFault::NoMemory => Message::NoMemory,
+        BuildFault::Read => Message::Read { name },
+        BuildFault::TooLong => Message::TooLong,
+    }
+}
+
+/// How the fault of a run is told, of the input's file with this name.
+pub fn run_message<'a>(fault: RunFault, name: &'a str) -> Message<'a> {
+    match fault {
+        RunFault::Refused(refusal) => refusal_message(refusal),
+        RunFault::Image(fault) => image_message(fault),
+        RunFault::Memory { done } => Message::Halted { done },
+        RunFault::NoMemory => Message::NoMemory,
+        RunFault::Read => Message::Read { name },
+        RunFault::Write { .. } => Message::Write {
+            name: "standard output",
+        },
+        RunFault::TooLong => Message::TooLong,
+    }
+}
+
 /// How the fault of a job is told.
 pub fn job_message(fault: JobFault) -> Message<'static> {
     match fault {
-        JobFault::Refused(Refusal::Source(fault)) => source_message(fault),
-        JobFault::Refused(Refusal::Part(fault)) => part_message(fault),
-        JobFault::Refused(Refusal::NoMemory) => Message::NoMemory,
+        JobFault::Refused(refusal) => refusal_message(refusal),
         JobFault::Memory { done } => Message::Halted { done },
         JobFault::NoMemory => Message::NoMemory,
         JobFault::Read => Message::Read {
@@ -139,8 +212,9 @@ pub fn check_message<'a>(fault: CheckFault, name: &'a str) -> Message<'a> {
 /// The exit status of a fault: 1 refused, 2 usage, 5 want of memory, 6 a device.
 pub fn status_of(message: Message<'_>) -> u8 {
     match message {
-        Message::Source { .. } | Message::Block { .. } | Message::Part { .. } => 1,
-        Message::Usage => 2,
+        Message::Source { .. } | Message::Block { .. } => 1,
+        Message::Part { .. } | Message::Image { .. } => 1,
+        Message::Usage | Message::Steps => 2,
         Message::NoMemory | Message::Halted { .. } => 5,
         Message::Read { .. } | Message::Write { .. } | Message::TooLong => 6,
     }

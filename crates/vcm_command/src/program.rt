@@ -1,13 +1,19 @@
 //! The program: its words are read, and the command is carried out on the standard devices and files.
 
 use crate::checking::check;
-use crate::command_line::{Request, request_of};
-use crate::message::{Message, NoticeLine, check_message, job_message, status_of};
+use crate::command_line::{Request, request_of, steps_of};
+use crate::message::{
+    Message, NoticeLine, build_message, check_message, job_message, part_file_message, run_message,
+    status_of,
+};
 use clap::Error;
 use clap::error::ErrorKind;
 use std::io;
 use std::rt::{Env, Files};
-use vcm_job::job;
+use vcm_job::{build, job, part_from, run};
+use vcm_num::write_all;
+use vcm_part::PartData;
+use vcm_run::Built;
 use vcm_tree::Noticed;
 
 // Tells a fault on standard error, and gives its exit status.
@@ -51,6 +57,77 @@ fn check_file<R: Files + Print + Eprint + AllocGlobal>(rt: &R, name: &str) -> u8
     }
 }
 
+// Writes the bytes of an image to a file, and gives the exit status. Where the write fails, a front of the image stands there, which is none.
+fn write_image<R: Files + Eprint>(rt: &R, name: &str, built: &Built) -> u8 {
+    let Ok(mut file) = std::fs::create(rt, name) else {
+        return fails(rt, Message::Write { name });
+    };
+    match write_all(&mut file, &built.image) {
+        Ok(()) => {
+            tell_notices(rt, built.notices.as_slice());
+            0
+        }
+        Err(_) => fails(rt, Message::Write { name }),
+    }
+}
+
+// Writes the image of a file's program to another file, and gives the exit status.
+fn build_file<R: Files + Eprint + AllocGlobal>(rt: &R, name: &str, image: &str) -> u8 {
+    let Ok(mut file) = std::fs::open(rt, name) else {
+        return fails(rt, Message::Read { name });
+    };
+    match build(rt.alloc(), &mut file) {
+        Ok(built) => write_image(rt, image, &built),
+        Err(fault) => fails(rt, build_message(fault, name)),
+    }
+}
+
+// The workpiece of a file.
+fn part_of<'a, R: Files + AllocGlobal>(rt: &R, name: &'a str) -> Result<PartData, Message<'a>> {
+    let Ok(mut file) = std::fs::open(rt, name) else {
+        return Err(Message::Read { name });
+    };
+    match part_from(rt.alloc(), &mut file) {
+        Ok(part) => Ok(part),
+        Err(fault) => Err(part_file_message(fault, name)),
+    }
+}
+
+// Runs the program or image of a file beside a workpiece, and gives the exit status.
+fn run_beside<R: Files + Print + Eprint + AllocGlobal>(
+    rt: &R,
+    name: &str,
+    part: &PartData,
+    steps: u64,
+) -> u8 {
+    let Ok(mut file) = std::fs::open(rt, name) else {
+        return fails(rt, Message::Read { name });
+    };
+    match run(rt.alloc(), part, &mut file, steps, &mut io::writer(rt)) {
+        Ok(done) => {
+            tell_notices(rt, done.notices.as_slice());
+            done.status
+        }
+        Err(fault) => fails(rt, run_message(fault, name)),
+    }
+}
+
+// Runs a file beside the workpiece of another one, which is judged first, and gives the exit status.
+fn run_file<R: Files + Print + Eprint + AllocGlobal>(
+    rt: &R,
+    input: &str,
+    part: &str,
+    steps: &str,
+) -> u8 {
+    let Some(steps) = steps_of(steps) else {
+        return fails(rt, Message::Steps);
+    };
+    match part_of(rt, part) {
+        Ok(part) => run_beside(rt, input, &part, steps),
+        Err(message) => fails(rt, message),
+    }
+}
+
 // Answers a request for help or the version on standard output, tells a wrong command line on standard error, and gives the exit status.
 fn tell_usage<R: Print + Eprint>(rt: &R, error: &Error) -> u8 {
     if error.kind() == ErrorKind::OutOfMemory {
@@ -89,6 +166,8 @@ pub fn status<R: Env + Files + Input + Print + Eprint + AllocGlobal>(rt: &R) -> 
     match request_of(rt.alloc(), words.as_slice()) {
         Ok(Request::Job) => run_job(rt),
         Ok(Request::Check { program }) => check_file(rt, program),
+        Ok(Request::Build { program, image }) => build_file(rt, program, image),
+        Ok(Request::Run { input, part, steps }) => run_file(rt, input, part, steps),
         Err(error) => tell_usage(rt, &error),
     }
 }

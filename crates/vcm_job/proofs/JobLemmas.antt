@@ -13,8 +13,8 @@ use Rattle.vcm_spec.proofs.Steps.{steps-effective}
 use Rattle.vcm_state.specs.Held.{Held}
 use Rattle.vcm_tree.specs.declared.program.Noticed.{Noticed}
 use Rattle.vcm_tree.specs.Program.{tables}
-use Rattle.vcm_run.specs.declared.run.End.{End}
-use Rattle.vcm_run.specs.declared.run.End.TheVariants as ends
+use Rattle.vcm_machine.specs.declared.ran.End.{End}
+use Rattle.vcm_machine.specs.declared.ran.End.TheVariants as ends
 use Rattle.vcm_run.specs.declared.run.Refusal.{Refusal}
 use Rattle.vcm_run.specs.declared.run.Refusal.TheVariants.{Source, Part}
 use Rattle.vcm_run.specs.declared.run.Refusal.TheVariants as refusals

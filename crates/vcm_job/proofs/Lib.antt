@@ -1,3 +1,4 @@
 pub mod JobLines
 pub mod CutJobs
 pub mod JobLemmas
+pub mod InputLemmas

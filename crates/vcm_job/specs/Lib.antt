@@ -1,3 +1,5 @@
 pub mod Reading
 pub mod Jobs
 pub mod Results
+pub mod Files
+pub mod Inputs

@@ -10,7 +10,7 @@ use Rattle.vcm_spec.specs.Table.{steps}
 use Rattle.vcm_tree.specs.declared.program.Noticed.{Noticed}
 use Rattle.vcm_tree.specs.Program.{Parsed}
 use Rattle.vcm_run.specs.declared.run.Refusal.TheVariants.{Part}
-use Rattle.vcm_run.specs.declared.run.End.TheVariants as ends
+use Rattle.vcm_machine.specs.declared.ran.End.TheVariants as ends
 use Rattle.vcm_run.specs.Programs.{IsRefusal}
 use Rattle.vcm_run.specs.Run.{Ended}
 use Rattle.vcm_run.specs.Summaries.{Shown}

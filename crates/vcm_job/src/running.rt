@@ -54,8 +54,8 @@ fn not_read(fault: ReadFault) -> JobFault
     }
 }
 
-// The exit status that a stop gives.
-fn status_of(stop: Option<StopPlace>) -> u8
+/// The exit status that a stop gives.
+pub(crate) fn status_of(stop: Option<StopPlace>) -> u8
     ensures { result ≡ status_of stop }
 {
     match stop {
@@ -68,8 +68,8 @@ fn status_of(stop: Option<StopPlace>) -> u8
     }
 }
 
-// Whether a run was refused memory.
-fn is_halted(ran: Ran) -> bool
+/// Whether a run was refused memory.
+pub(crate) fn is_halted(ran: Ran) -> bool
     ensures halted { result ≡ true → ran.end ≡ End.NoMemory }
     ensures ample { result ≡ false → ran.end ≢ End.NoMemory }
 {

@@ -1,6 +1,6 @@
-pub mod Steps
 pub mod Run
-pub mod LeftOut
 pub mod Summaries
 pub mod Programs
+pub mod Images
+pub mod Laws
 pub mod Printed

@@ -1,14 +1,19 @@
 -- What the run of a program's text gives.
-use Rattle.std.specs.Prelude.{◌≡◌, ℕ, List, ◌⊎◌}
-use Rattle.vcm_lines.specs.declared.fault.SourceFault.{SourceFault}
+use Rattle.std.specs.Prelude.{◌≡◌, ℕ, List}
 use Rattle.vcm_lines.specs.Fault.{NoMemoryOr}
 use Rattle.vcm_spec.specs.Workpiece.{Workpiece}
 use Rattle.vcm_state.specs.Carried.{setup_of}
 use Rattle.vcm_tree.specs.Acceptance.{IsAccepted, IsRefused}
 use Rattle.vcm_tree.specs.Program.{Parsed, tables}
+use Rattle.vcm_tree.specs.declared.program.Noticed.{Noticed}
+use Rattle.vcm_code.specs.declared.code.Code.{Code}
+use Rattle.vcm_code.specs.Ops.{code_of}
+use Rattle.vcm_code.specs.Valid.{IsValid}
+use Rattle.vcm_code.specs.CarriedOut.{AllCarriedOut}
+use Rattle.vcm_image.specs.Whole.{Fits, spelling}
+use Rattle.vcm_asm.specs.Headline.{IsAssembled}
 use Rattle.vcm_run.specs.declared.run.Refusal.{Refusal}
 use Rattle.vcm_run.specs.declared.run.Refusal.TheVariants.{Source, Part, NoMemory}
-use Rattle.vcm_run.specs.LeftOut.{IsLeftOut}
 use Rattle.vcm_run.specs.Run.{IsRun}
 use Rattle.vcm_run.specs.Summaries.{Shown}
 
@@ -20,12 +25,24 @@ pub record IsSummary (part : Workpiece) (text : List ℕ) (n : ℕ) (s : Shown) 
   pub notices : s.notices ≡ parsed.notices
   pub run : IsRun (setup_of part (tables parsed)) parsed.program n s.held.state s.next s.ran
 
--- the text is refused so, or it is accepted and this is its first statement that isn't carried out yet
-abbrev pub IsTextRefusal : List ℕ → SourceFault → Type 0
-IsTextRefusal text f = IsRefused text f ⊎ IsLeftOut text f
+-- the bytes are the image of the code of this program: a code that does what the program does, is valid, and is carried out
+pub record IsImageOf (parsed : Parsed) (bytes : List ℕ) : Type 0 where
+  pub code : Code
+  pub assembled : IsAssembled parsed.program (tables parsed) (code_of code)
+  pub valid : IsValid (code_of code)
+  pub fits : Fits code
+  pub carried_out : AllCarriedOut (code_of code).statements
+  pub spelled : bytes ≡ spelling code
+
+-- the text is accepted as a program, whose image the bytes are, and these are its notices
+pub record IsBuilt (text bytes : List ℕ) (notices : List Noticed) : Type 0 where
+  pub parsed : Parsed
+  pub accepted : IsAccepted text parsed
+  pub image : IsImageOf parsed bytes
+  pub notices_are : notices ≡ parsed.notices
 
 -- why a text isn't run: it is refused, or memory was refused to its acceptance, at line 0; or it is accepted, and memory was refused behind that
 abbrev pub IsRefusal : List ℕ → Refusal → Type 0
-IsRefusal text (Source f) = NoMemoryOr (IsTextRefusal text) f
+IsRefusal text (Source f) = NoMemoryOr (IsRefused text) f
 IsRefusal text (Part f) = ⊥
 IsRefusal text NoMemory = (p : Parsed) × IsAccepted text p

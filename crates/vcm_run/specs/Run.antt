@@ -6,9 +6,9 @@ use Rattle.vcm_spec.specs.World.{World}
 use Rattle.vcm_spec.specs.Program.{Block}
 use Rattle.vcm_spec.specs.Table.{State, front, next_number, step, steps, effective, opening}
 use Rattle.vcm_spec.specs.Printing.{takes_memory, next_node}
-use Rattle.vcm_run.specs.declared.run.End.{End}
-use Rattle.vcm_run.specs.declared.run.End.TheVariants.{Count, Stopped, NoMemory}
-use Rattle.vcm_run.specs.declared.run.Ran.{Ran}
+use Rattle.vcm_machine.specs.declared.ran.End.{End}
+use Rattle.vcm_machine.specs.declared.ran.End.TheVariants.{Count, Stopped, NoMemory}
+use Rattle.vcm_machine.specs.declared.ran.Ran.{Ran}
 
 -- how a run ended, asked for n steps from the state `start`, at the state `reached` after `done` steps: it has stopped, so that these are the
 -- effective steps; or all n were taken, and it has not; or memory was refused to a statement that makes an output line and would not stop

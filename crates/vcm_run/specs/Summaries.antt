@@ -2,7 +2,7 @@
 use Rattle.std.specs.Prelude.{ℕ, List}
 use Rattle.vcm_state.specs.Held.{Held}
 use Rattle.vcm_tree.specs.declared.program.Noticed.{Noticed}
-use Rattle.vcm_run.specs.declared.run.Ran.{Ran}
+use Rattle.vcm_machine.specs.declared.ran.Ran.{Ran}
 
 -- the state of the machine with the tables of its names, the next statement's number, how many steps were done and how the run ended, and
 -- the lines of the program that have no effect

@@ -1,11 +1,14 @@
-//! Runs of programs from their text, beside a workpiece, and the printed result of a run.
+//! Runs of programs and images beside a workpiece, and the printed result of a run.
 #![tactic(auto)]
 
-mod acting;
-mod left_out;
+mod image;
+pub mod laws;
 mod output;
+mod program;
 mod run;
-mod stepping;
 
+pub use image::run_image;
 pub use output::write_result;
-pub use run::{End, Ran, Refusal, Summary, run_text};
+pub use program::{Built, build_image, run_text};
+pub use run::{Refusal, Summary};
+pub use vcm_machine::{End, Ran};

@@ -4,10 +4,10 @@ ghost use Rattle.std.specs.Prelude.{◌≡◌};
 ghost use Rattle.vcm_num.specs.Written.{Wrote};
 ghost use Rattle.vcm_run.specs.Printed.{name_at, missing_text, phase_text, stop_text, has_place, ended_place, stop_line, output_lines, end_lines, result_text};
 
-use crate::run::Ran;
 use itoa::Buffer;
 use std::io::Write;
 use vcm_expr::Name;
+use vcm_machine::Ran;
 use vcm_num::{Items, Point, WriteFault, thousandths_text, write_pieces};
 use vcm_spec::{Missing, MovePhase, Stop, StopPlace};
 use vcm_state::World;

@@ -4,10 +4,12 @@ use crate::texts::program_of;
 use clap::error::ErrorKind;
 use std::alloc::Global;
 use vcm_command::{
-    CheckFault, Message, NoticeLine, Request, check, check_message, job_message, part_message,
-    request_of, source_message, status_of,
+    CheckFault, Message, NoticeLine, Request, build_message, check, check_message, image_message,
+    job_message, part_file_message, part_message, request_of, run_message, source_message,
+    status_of, steps_of,
 };
-use vcm_job::JobFault;
+use vcm_fields::ImageFault;
+use vcm_job::{BuildFault, JobFault, PartFileFault, RunFault};
 use vcm_lines::{FaultCode, SourceFault};
 use vcm_part::{PartCode, PartFault};
 use vcm_run::Refusal;
@@ -68,6 +70,101 @@ fn refusals_of_parts(rt: HostRuntime) {
     ] {
         let message = part_message(PartFault { code, block });
         assert!(rt; is_told(rt.alloc(), message, text, 1), "{text}");
+    }
+}
+
+#[test]
+fn refusals_of_images(rt: HostRuntime) {
+    for (fault, text, status) in [
+        (ImageFault::NoMemory, "no memory", 5),
+        (ImageFault::BadMagic, "I01 BadMagic", 1),
+        (ImageFault::Short, "I02 Short", 1),
+        (ImageFault::BadVersion, "I03 BadVersion", 1),
+        (ImageFault::BadField, "I04 BadField", 1),
+        (ImageFault::Trailing, "I05 Trailing", 1),
+        (ImageFault::BadIndex, "I06 BadIndex", 1),
+        (ImageFault::BadTarget, "I07 BadTarget", 1),
+        (ImageFault::BadOperand, "I08 BadOperand", 1),
+        (ImageFault::RunsOff, "I09 RunsOff", 1),
+    ] {
+        assert!(rt;
+            is_told(rt.alloc(), image_message(fault), text, status),
+            "{text}"
+        );
+    }
+}
+
+#[test]
+fn faults_of_files(rt: HostRuntime) {
+    let code = FaultCode::BadOrder;
+    let refused = Refusal::Source(SourceFault { code, line: 3 });
+    let code = PartCode::NotToml;
+    let no_part = PartFileFault::Refused(PartFault { code, block: 0 });
+    let steps = "usage: --steps wants decimal digits, a number from 0 to 1000000000";
+    let read = "cannot read a";
+    let written = "cannot write standard output";
+    for (message, text, status) in [
+        (part_file_message(no_part, "a"), "P01 NotToml", 1),
+        (
+            part_file_message(PartFileFault::NoMemory, "a"),
+            "no memory",
+            5,
+        ),
+        (part_file_message(PartFileFault::Read, "a"), read, 6),
+        (
+            part_file_message(PartFileFault::TooLong, "a"),
+            "input too long",
+            6,
+        ),
+        (
+            build_message(BuildFault::Refused(refused), "a"),
+            "E12 BadOrder line 3",
+            1,
+        ),
+        (build_message(BuildFault::NoMemory, "a"), "no memory", 5),
+        (build_message(BuildFault::Read, "a"), read, 6),
+        (build_message(BuildFault::TooLong, "a"), "input too long", 6),
+        (
+            run_message(RunFault::Refused(refused), "a"),
+            "E12 BadOrder line 3",
+            1,
+        ),
+        (
+            run_message(RunFault::Image(ImageFault::Short), "a"),
+            "I02 Short",
+            1,
+        ),
+        (
+            run_message(RunFault::Memory { done: 3 }, "a"),
+            "no memory after 3 steps",
+            5,
+        ),
+        (run_message(RunFault::NoMemory, "a"), "no memory", 5),
+        (run_message(RunFault::Read, "a"), read, 6),
+        (run_message(RunFault::Write { done: 3 }, "a"), written, 6),
+        (run_message(RunFault::TooLong, "a"), "input too long", 6),
+        (Message::Steps, steps, 2),
+    ] {
+        assert!(rt; is_told(rt.alloc(), message, text, status), "{text}");
+    }
+}
+
+#[test]
+fn numbers_of_steps(rt: HostRuntime) {
+    for (text, steps) in [
+        ("0", Some(0)),
+        ("3", Some(3)),
+        ("007", Some(7)),
+        ("1000000000", Some(1_000_000_000)),
+        ("1000000001", None),
+        ("99999999999999999999999", None),
+        ("", None),
+        ("+5", None),
+        ("-1", None),
+        ("5 ", None),
+        ("1e3", None),
+    ] {
+        assert!(rt; steps_of(text) == steps, "{text}");
     }
 }
 
@@ -228,7 +325,7 @@ fn words(alloc: Global, texts: &[&str]) -> Option<Vec<String>> {
     Some(words)
 }
 
-// Whether a command line asks for a job, or for the check of a file.
+// Whether a command line asks for this.
 fn asks_for(alloc: Global, texts: &[&str], request: Request<'_>) -> bool {
     let Some(words) = words(alloc, texts) else {
         return false;
@@ -259,17 +356,40 @@ fn requests(rt: HostRuntime) {
             Request::Check { program }
         )
     );
+    let image = "b";
+    assert!(rt;
+        asks_for(
+            rt.alloc(),
+            &["vcm", "build", "a.dmi", "b"],
+            Request::Build { program, image }
+        )
+    );
+    let input = "a.dmi";
+    let part = "b";
+    for (texts, steps) in [
+        (["vcm", "run", "a.dmi", "b", "--steps=3"].as_slice(), "3"),
+        (["vcm", "run", "--steps", "3", "a.dmi", "b"].as_slice(), "3"),
+        (["vcm", "run", "a.dmi", "b"].as_slice(), "1000000"),
+    ] {
+        assert!(rt; asks_for(rt.alloc(), texts, Request::Run { input, part, steps }));
+    }
 }
 
 #[test]
 fn wrong_command_lines(rt: HostRuntime) {
-    let rows: [(&[&str], ErrorKind, i32); 6] = [
+    let rows: [(&[&str], ErrorKind, i32); 8] = [
         (&["vcm", "--help"], ErrorKind::DisplayHelp, 0),
         (&["vcm", "-h"], ErrorKind::DisplayHelp, 0),
         (&["vcm", "help"], ErrorKind::DisplayHelp, 0),
         (&["vcm", "--version"], ErrorKind::DisplayVersion, 0),
         (&["vcm", "check"], ErrorKind::MissingRequiredArgument, 2),
         (&["vcm", "check", "a", "b"], ErrorKind::UnknownArgument, 2),
+        (&["vcm", "run", "a"], ErrorKind::MissingRequiredArgument, 2),
+        (
+            &["vcm", "build", "a"],
+            ErrorKind::MissingRequiredArgument,
+            2,
+        ),
     ];
     for (texts, kind, status) in rows {
         assert!(rt; fault_of(rt.alloc(), texts) == Some((kind, status)));

@@ -8,6 +8,8 @@ mod fault_tests;
 #[cfg(test)]
 mod image_tests;
 #[cfg(test)]
+mod input_tests;
+#[cfg(test)]
 mod job_tests;
 #[cfg(test)]
 mod loader_tests;

@@ -1,11 +1,13 @@
 //! Runs of whole programs, from their text, for so many steps.
 
+use crate::image_tests::{MOVE, changed, image_of};
 use crate::texts::{BOUNDS, ONE_BLOCK, joined, program_of};
 use std::alloc::Global;
+use vcm_fields::ImageFault;
 use vcm_lines::{FaultCode, SourceFault};
 use vcm_motion::Blocks;
 use vcm_part::{PartData, read_part};
-use vcm_run::{End, Ran, Refusal, Summary, run_text, write_result};
+use vcm_run::{End, Ran, Refusal, Summary, run_image, run_text, write_result};
 
 // The part with one block.
 fn part(alloc: Global) -> Option<PartData> {
@@ -87,6 +89,131 @@ fn values(rt: HostRuntime) {
     }
 }
 
+// The loop of three rounds, and the same with other values of its DO.
+const ROUNDS: &str = "DECL/INTGR,I\nDO/I,1,3,1\nTEXT/OPER,'A'\nENDDO\n";
+
+const NO_ROUND: &str = "DECL/INTGR,I\nDO/I,3,1\nTEXT/OPER,'A'\nENDDO\n";
+
+const NO_STEP: &str = "DECL/INTGR,I\nDO/I,1,3,0\nTEXT/OPER,'A'\nENDDO\n";
+
+const LAST_NUMBERS: &str =
+    "DECL/INTGR,I\nDO/I,9223372036854775806,9223372036854775807\nTEXT/OPER,'A'\nENDDO\n";
+
+const MANY_ROUNDS: &str = "DECL/INTGR,I\nDO/I,1,100001\nTEXT/OPER,'A'\nENDDO\n";
+
+// A loop in a loop, with a jump out of both.
+const AGAIN: &str =
+    "DECL/INTGR,I,J,K\n(AGAIN)\nDO/I,1,2\nDO/J,1,2+K\nIF/(K.EQ.0)\nK=ASSIGN/1\nJUMPTO/(AGAIN)\nENDIF\nTEXT/OPER,'X'\nENDDO\nENDDO\n";
+
+// A jump out of a loop.
+const PAST: &str = "DECL/INTGR,I\nDO/I,1,5\nJUMPTO/(PAST)\nENDDO\n(PAST)\n";
+
+// Whether the run of these statements prints this after so many steps at most.
+fn prints(alloc: Global, statements: &str, n: u64, output: &str) -> bool {
+    let Some(summary) = after_steps(alloc, statements, n) else {
+        return false;
+    };
+    let mut out = Vec::new(alloc);
+    write_result(summary.world(), &summary.ran(), &mut out).is_ok()
+        && out.as_slice() == output.as_bytes()
+}
+
+#[test]
+fn loops_and_jumps(rt: HostRuntime) {
+    for (statements, n, output) in [
+        (
+            ROUNDS,
+            100,
+            "A\nA\nA\nstop ENDED\nposition 0.000 0.000 100.000\nsteps 8\n",
+        ),
+        (
+            ROUNDS,
+            3,
+            "A\nno stop after 3 steps\nposition 0.000 0.000 100.000\nsteps 3\n",
+        ),
+        (
+            NO_ROUND,
+            100,
+            "stop ENDED\nposition 0.000 0.000 100.000\nsteps 2\n",
+        ),
+        (
+            NO_STEP,
+            100,
+            "stop ZEROSTEP at 0 line 4\nposition 0.000 0.000 100.000\nsteps 1\n",
+        ),
+        (
+            LAST_NUMBERS,
+            100,
+            "A\nA\nstop OVERFLOW at 2 line 6\nposition 0.000 0.000 100.000\nsteps 5\n",
+        ),
+        (
+            AGAIN,
+            100,
+            "X\nX\nX\nX\nX\nX\nstop ENDED\nposition 0.000 0.000 100.000\nsteps 37\n",
+        ),
+        (
+            PAST,
+            100,
+            "stop ENDED\nposition 0.000 0.000 100.000\nsteps 4\n",
+        ),
+    ] {
+        assert!(rt; prints(rt.alloc(), statements, n, output), "{output}");
+    }
+}
+
+#[test]
+fn values_behind_loops_and_jumps(rt: HostRuntime) {
+    let rows: [(&str, &[i64]); 6] = [
+        (ROUNDS, &[4]),
+        (NO_ROUND, &[3]),
+        (NO_STEP, &[0]),
+        (LAST_NUMBERS, &[9_223_372_036_854_775_807]),
+        (AGAIN, &[3, 4, 1]),
+        (PAST, &[1]),
+    ];
+    for (statements, values) in rows {
+        assert!(rt; has_values(rt.alloc(), statements, values), "{statements}");
+    }
+}
+
+// The number of lines that a run prints, the number and line of its stop, and its steps, where there is a stop.
+fn stopped(alloc: Global, statements: &str, n: u64) -> Option<(usize, u32, u32, u64)> {
+    let summary = after_steps(alloc, statements, n)?;
+    let place = summary.world().stop()?;
+    let lines = summary.world().lines().len();
+    Some((lines, place.number, place.line, summary.ran().done))
+}
+
+#[test]
+fn too_many_lines(rt: HostRuntime) {
+    let found = stopped(rt.alloc(), MANY_ROUNDS, 1_000_000);
+    assert!(rt; found == Some((100_000, 1, 5, 200_002)));
+}
+
+// The number of the next statement after so many steps, and whether the run has stopped.
+fn next_after(alloc: Global, statements: &str, n: u64) -> Option<(u32, bool)> {
+    let summary = after_steps(alloc, statements, n)?;
+    Some((summary.next(), summary.world().stop().is_some()))
+}
+
+#[test]
+fn both_ways_of_a_choice(rt: HostRuntime) {
+    let chosen = "IF/(.TRUE.)\nTEXT/OPER,'A'\nELSE\nTEXT/OPER,'B'\nENDIF\n";
+    let other = "IF/(.FALSE.)\nTEXT/OPER,'A'\nELSE\nTEXT/OPER,'B'\nENDIF\n";
+    for (statements, n, next, is_stopped) in [
+        (chosen, 1, 1, false),
+        (chosen, 2, 2, false),
+        (chosen, 3, 5, false),
+        (chosen, 4, 5, true),
+        (other, 1, 3, false),
+        (other, 2, 4, false),
+        (other, 3, 5, false),
+        (other, 4, 5, true),
+    ] {
+        assert!(rt; next_after(rt.alloc(), statements, n) == Some((next, is_stopped)));
+    }
+}
+
 // The refusal of a run of these statements.
 fn refusal(alloc: Global, statements: &str) -> Option<Refusal> {
     let part = part(alloc)?;
@@ -95,15 +222,53 @@ fn refusal(alloc: Global, statements: &str) -> Option<Refusal> {
 }
 
 #[test]
-fn statements_not_carried_out_yet(rt: HostRuntime) {
-    let code = FaultCode::Unsupported;
-    for (statements, line) in [
-        ("GOHOME\n(A)\nIF/(.TRUE.)\nENDIF\n", 4),
-        ("JUMPTO/(A)\n(A)\n", 3),
-        ("GOHOME\nGOHOME\nIF/(.TRUE.)\nGOHOME\nENDIF\n", 5),
-        ("DECL/INTGR,I\nDO/I,1,3\nENDDO\n", 4),
+fn a_jump_into_a_loop(rt: HostRuntime) {
+    let statements = "DECL/INTGR,I\nJUMPTO/(IN)\nDO/I,1,2\n(IN)\nENDDO\n";
+    let code = FaultCode::JumpInward;
+    let told = Some(Refusal::Source(SourceFault { code, line: 4 }));
+    assert!(rt; refusal(rt.alloc(), statements) == told);
+}
+
+// The output of the run of a program's image beside one block.
+fn image_prints(alloc: Global, statements: &str, output: &str) -> Option<bool> {
+    let part = part(alloc)?;
+    let image = image_of(alloc, statements)?;
+    let summary = run_image(alloc, &Blocks::new(&part), &image, 100).ok()?;
+    let mut out = Vec::new(alloc);
+    write_result(summary.world(), &summary.ran(), &mut out).ok()?;
+    Some(out.as_slice() == output.as_bytes() && summary.notices().is_empty())
+}
+
+#[test]
+fn runs_of_images(rt: HostRuntime) {
+    for (statements, output) in [
+        (
+            ROUNDS,
+            "A\nA\nA\nstop ENDED\nposition 0.000 0.000 100.000\nsteps 8\n",
+        ),
+        (
+            "GOTO/20,20,10\n",
+            "stop COLLISION MOVE block 1 permille 888 at 0 line 3\nposition 0.000 0.000 100.000\nsteps 1\n",
+        ),
     ] {
-        let told = Some(Refusal::Source(SourceFault { code, line }));
-        assert!(rt; refusal(rt.alloc(), statements) == told, "{statements}");
+        assert!(rt; image_prints(rt.alloc(), statements, output) == Some(true));
+    }
+}
+
+// The refusal of the run of the image of a move with a byte in another one's place.
+fn image_refusal(alloc: Global, place: usize, byte: u8) -> Option<ImageFault> {
+    let part = part(alloc)?;
+    let image = changed(alloc, &MOVE, place, byte)?;
+    run_image(alloc, &Blocks::new(&part), &image, 9).err()
+}
+
+#[test]
+fn images_that_are_not_run(rt: HostRuntime) {
+    for (place, byte, fault) in [
+        (0, 0x57, ImageFault::BadMagic),
+        (23, 2, ImageFault::BadOperand),
+        (57, 2, ImageFault::RunsOff),
+    ] {
+        assert!(rt; image_refusal(rt.alloc(), place, byte) == Some(fault));
     }
 }

@@ -1,0 +1,76 @@
+-- What the run of an input gives, beside a workpiece.
+use Rattle.std.specs.Prelude.{◌≡◌, ℕ, ◌<◌, Bool, true, false, List, length, take, Option, IfSome, codes}
+use Rattle.std.specs.Str.{bytes_eq}
+use Rattle.std.specs.Io.KnownBytes.{Appends, Keeps}
+use Rattle.vcm_num.specs.Written.{AppendsFront}
+use Rattle.vcm_spec.specs.Workpiece.{Workpiece}
+use Rattle.vcm_tree.specs.declared.program.Noticed.{Noticed}
+use Rattle.vcm_machine.specs.declared.ran.End.TheVariants as ends
+use Rattle.vcm_run.specs.Programs.{IsSummary, IsRefusal}
+use Rattle.vcm_run.specs.Images.{IsImageRun, IsImageRefusal}
+use Rattle.vcm_run.specs.Summaries.{Shown}
+use Rattle.vcm_run.specs.Printed.{result_text}
+use Rattle.vcm_job.specs.declared.reading.ReadFault.{ReadFault}
+use Rattle.vcm_job.specs.declared.reading.ReadFault.TheVariants as read_faults
+use Rattle.vcm_job.specs.declared.inputs.RunFault.{RunFault}
+use Rattle.vcm_job.specs.declared.inputs.RunFault.TheVariants.{Refused, Image, Memory, NoMemory, Read, Write, TooLong}
+use Rattle.vcm_job.specs.Reading.{most_bytes, ReadsAtMost}
+use Rattle.vcm_job.specs.Jobs.{status_of}
+
+-- whether an input is an image: its first four bytes are `VCMI`
+abbrev pub is_image : List ℕ → Bool
+is_image input = bytes_eq (take 4 input) (codes "VCMI")
+
+-- of an image its run, of any other input the run of the program that its text is
+abbrev pub RunAs : Bool → Workpiece → List ℕ → ℕ → Shown → Type 0
+RunAs true part input n s = IsImageRun part input n s
+RunAs false part input n s = IsSummary part input n s
+
+-- this is a run of the input for n steps
+abbrev pub IsInputRun : Workpiece → List ℕ → ℕ → Shown → Type 0
+IsInputRun part input n s = RunAs (is_image input) part input n s
+
+-- why an input isn't run: it is an image and refused, or a text and refused
+abbrev pub IsRefusedInput : List ℕ → RunFault → Type 0
+IsRefusedInput input (Image e) = (is_image input ≡ true) × IsImageRefusal input e
+IsRefusedInput input (Refused r) = (is_image input ≡ false) × IsRefusal input r
+IsRefusedInput input _ = ⊥
+
+-- the fault of an input that wasn't read whole
+abbrev pub input_not_read : ReadFault → RunFault
+input_not_read read_faults.NoMemory = NoMemory
+input_not_read read_faults.Device = Read
+input_not_read read_faults.TooLong = TooLong
+
+-- the result of a run of the input was written and nothing else, and this is its status; the run wasn't refused memory
+pub record IsWritten (part : Workpiece) (input : List ℕ) (n : ℕ) (status : ℕ) (notices : List Noticed) (old new : Option (List ℕ)) : Type 0 where
+  pub shown : Shown
+  pub run : IsInputRun part input n shown
+  pub ample : shown.ran.end ≡ ends.NoMemory → ⊥
+  pub status_is : status ≡ status_of shown.held.state.stop
+  pub notices_are : notices ≡ shown.notices
+  pub written : Appends old new (result_text shown.held shown.ran.done)
+
+-- a run of the input was refused memory after so many steps
+pub record IsHaltedRun (part : Workpiece) (input : List ℕ) (n done : ℕ) : Type 0 where
+  pub shown : Shown
+  pub run : IsInputRun part input n shown
+  pub halted : shown.ran.end ≡ ends.NoMemory
+  pub count : done ≡ shown.ran.done
+
+-- a front of the result of a run was written, and not all of it, after so many steps
+pub record IsRunCutOff (part : Workpiece) (input : List ℕ) (n done : ℕ) (old new : Option (List ℕ)) : Type 0 where
+  pub shown : Shown
+  pub run : IsInputRun part input n shown
+  pub ample : shown.ran.end ≡ ends.NoMemory → ⊥
+  pub count : done ≡ shown.ran.done
+  pub front : AppendsFront old new (result_text shown.held shown.ran.done)
+
+-- a failed write cut the result off; else nothing was written
+abbrev pub IsNotWritten : Workpiece → ℕ → Option (List ℕ) → Option (List ℕ) → RunFault → Option (List ℕ) → Option (List ℕ) → Type 0
+IsNotWritten part n before after (Write done) old new = IfSome before (λ input. IsRunCutOff part input n done old new)
+IsNotWritten part n before after (Memory done) old new = IfSome before (λ input. IsHaltedRun part input n done) × Keeps old new
+IsNotWritten part n before after Read old new = ReadsAtMost most_bytes before after × Keeps old new
+IsNotWritten part n before after NoMemory old new = Keeps old new
+IsNotWritten part n before after TooLong old new = IfSome before (λ input. most_bytes < length input) × Keeps old new
+IsNotWritten part n before after f old new = IfSome before (λ input. IsRefusedInput input f) × Keeps old new

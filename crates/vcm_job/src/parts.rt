@@ -1,0 +1,52 @@
+//! Part files, read whole and judged.
+
+ghost use Rattle.std.specs.Prelude.{◌≡◌, IfOk, IfErr, IfSome};
+ghost use Rattle.vcm_job.specs.Reading.{ReadsLittle};
+ghost use Rattle.vcm_job.specs.Files.{IsPartIn, IsNoPart, part_not_read};
+
+use crate::reading::{ReadFault, read_all};
+use std::alloc::Global;
+use std::io::Read;
+use vcm_part::{PartData, PartFault, read_part};
+
+/// Why a part file gives no workpiece.
+#[derive(Clone, Copy, Debug, PartialEq, Eq)]
+pub enum PartFileFault {
+    /// The file is refused.
+    Refused(PartFault),
+    /// A growth of memory was refused while the file was read.
+    NoMemory,
+    /// The reader failed, before more was read than a file may have.
+    Read,
+    /// The file is longer than 33,554,432 bytes.
+    TooLong,
+}
+
+// The fault of a part file that wasn't read whole.
+fn part_not_read(fault: ReadFault) -> PartFileFault
+    ensures { result ≡ part_not_read fault }
+{
+    match fault {
+        ReadFault::NoMemory => PartFileFault::NoMemory,
+        ReadFault::Device => PartFileFault::Read,
+        ReadFault::TooLong => PartFileFault::TooLong,
+    }
+}
+
+/// The workpiece of a part file.
+///
+/// Errors: see `PartFileFault`.
+pub fn part_from<R: Read>(alloc: Global, reader: &mut R) -> Result<PartData, PartFileFault>
+    ensures part { IfOk result (λ p. IfSome (R.remaining reader.old) (λ file. IsPartIn file p)) }
+    ensures fault { IfErr result (λ f. IsNoPart (R.remaining reader.old) (R.remaining reader.new) f) }
+    ensures little { ReadsLittle (R.remaining reader.old) (R.remaining reader.new) }
+{
+    let file = match read_all(alloc, reader) {
+        Ok(file) => file,
+        Err(fault) => return Err(part_not_read(fault)),
+    };
+    match read_part(alloc, &file) {
+        Ok(part) => Ok(part),
+        Err(fault) => Err(PartFileFault::Refused(fault)),
+    }
+}

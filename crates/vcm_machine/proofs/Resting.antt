@@ -1,0 +1,93 @@
+-- The probe at rest is within the limits and in no block.
+use Rattle.std.proofs.Common.{◌≡◌, ◌∙◌, ℕ, suc, ℤ, ◌≤ℤ◌, Bool, true, false, ◌&&◌, List, [], ◌∷◌, Option, Some, None, slice_get, refl, sym, ap, arith}
+use Rattle.std.specs.Prelude.{IsTrue, not, int_le, ◌||◌}
+use Rattle.std.specs.List.{list_any}
+use Rattle.std.proofs.lemmas.Bool.{and_parts}
+use Rattle.std.proofs.lemmas.Int.{ints}
+use Rattle.vcm_num.specs.Point.{coordinate, is_below, on_each}
+use Rattle.vcm_spec.specs.declared.workpiece.Block3.{Block3}
+use Rattle.vcm_spec.specs.declared.workpiece.Hit.{Hit}
+use Rattle.vcm_spec.specs.declared.stop.Stop.{Stop}
+use Rattle.vcm_spec.specs.declared.stop.Stop.TheVariants.{Travel}
+use Rattle.vcm_spec.specs.declared.words.MovePhase.{MovePhase}
+use Rattle.vcm_spec.specs.Workpiece.{Workpiece, is_in, is_in_some, is_within}
+use Rattle.vcm_spec.specs.Contact.{IsBetween, Meets, MeetsLater, IsClear, IsContact}
+use Rattle.vcm_spec.specs.FirstContact.{contact}
+use Rattle.vcm_spec.specs.FirstTouch.{free_of, free_move}
+use Rattle.vcm_spec.specs.Outcome.{Gives, Stops, ◌>>=◌, demand}
+use Rattle.vcm_spec.proofs.Entries.{le_true, below_three}
+use Rattle.vcm_spec.proofs.Contacts.{contact_is}
+
+record Standing (test : Block3 → Bool) (bs : List Block3) : Type 0 where
+  index : ℕ
+  block : Block3
+  stands : slice_get bs index ≡ Some block
+  passes : test block ≡ true
+
+-- the block that passes a test which some block passes
+standing : (test : Block3 → Bool) (bs : List Block3) → list_any test bs ≡ true → Standing test bs
+standing test [] e = absurd (cc e)
+standing test (b ∷ bs) e = by (test b) refl (λ f. standing test bs (ap (λ c. c || list_any test bs) (sym f) ∙ e))
+  where
+    next : Standing test bs → Standing test (b ∷ bs)
+    next s = record { index = suc s.index; block = s.block; stands = s.stands; passes = s.passes }
+
+    by : (c : Bool) → test b ≡ c → (test b ≡ false → Standing test bs) → Standing test (b ∷ bs)
+    by true f later = record { index = 0; block = b; stands = refl; passes = f }
+    by false f later = next (later f)
+
+-- an end that no block is met at lies in no block
+clear_end : (blocks : List Block3) (M : Block3 → ℕ → ℕ → Type 0) (y : ℕ → ℤ) → ((b : Block3) → is_in b y ≡ true → M b 1 1) → IsClear blocks M
+    → IsTrue (not (is_in_some blocks y))
+clear_end blocks M y met clear = by (is_in_some blocks y) refl
+  where
+    by : (c : Bool) → is_in_some blocks y ≡ c → IsTrue (not (is_in_some blocks y))
+    by true e = let s = standing (λ b. is_in b y) blocks e in absurd (clear s.index s.block s.stands 1 1 (met s.block s.passes))
+    by false e = rw e refl
+
+between_end : (low high p q : ℤ) → low ≤ℤ q → q ≤ℤ high → IsBetween low high p q 1 1
+between_end low high p q l h = record { above = omega (arith, ints); below = omega (arith, ints) }
+
+three : (test : ℕ → Bool) → IsTrue (on_each test) → (test 0 ≡ true) × (test 1 ≡ true) × (test 2 ≡ true)
+three test h =
+    let a = and_parts (test 0 && test 1) (test 2) h in
+    let b = and_parts (test 0) (test 1) a.0 in
+    (b.0, b.1, a.1)
+
+-- a block that the end lies in is met there
+met_end : (x y : ℕ → ℤ) (b : Block3) → is_in b y ≡ true → Meets x y b 1 1
+met_end x y b e =
+    let parts = and_parts (is_below (coordinate b.low) y) (is_below y (coordinate b.high)) e in
+    let l = three (λ k. int_le (coordinate b.low k) (y k)) parts.0 in
+    let h = three (λ k. int_le (y k) (coordinate b.high k)) parts.1 in
+    record {
+      fraction = record { positive = omega arith; within = omega arith };
+      on_axis = below_three (λ k. IsBetween (coordinate b.low k) (coordinate b.high k) (x k) (y k) 1 1)
+          (between_end _ _ _ _ (le_true _ _ l.0) (le_true _ _ h.0)) (between_end _ _ _ _ (le_true _ _ l.1) (le_true _ _ h.1)) (between_end _ _ _ _ (le_true _ _ l.2) (le_true _ _ h.2));
+    }
+
+pub record Free (part : Workpiece) (y : ℕ → ℤ) : Type 0 where
+  pub within : IsTrue (is_within part.bounds y)
+  pub clear : IsTrue (not (is_in_some part.blocks y))
+
+-- so where a move may go, the probe may rest
+pub free_rests : (phase : MovePhase) (part : Workpiece) (x y : ℕ → ℤ) (u : Unit {0}) → free_move phase part x y ≡ Gives u → Free part y
+free_rests phase part x y u = by (is_within part.bounds y) refl (contact part.blocks x y) (contact_is part.blocks x y)
+  where
+    by : (b : Bool) → is_within part.bounds y ≡ b → (o : Option Hit) → IsContact part.blocks x y o → demand b (Travel phase) >>= (λ _. free_of phase o) ≡ Gives u → Free part y
+    by true w None clear e = record { within = w; clear = clear_end part.blocks (Meets x y) y (met_end x y) clear }
+    by true w (Some hit) clear e = absurd (stops_not _ e)
+      where
+        stops_not : (s : Stop) → Stops s ≡ Gives u → ⊥
+        stops_not s f = cc
+    by false w o clear e = absurd (stops_not _ e)
+      where
+        stops_not : (s : Stop) → Stops s ≡ Gives u → ⊥
+        stops_not s f = cc
+
+-- and so it may at the retract point
+pub back_rests : (part : Workpiece) (x y : ℕ → ℤ) → IsTrue (is_within part.bounds y) → IsClear part.blocks (MeetsLater x y) → Free part y
+back_rests part x y within clear = record {
+  within = within;
+  clear = clear_end part.blocks (MeetsLater x y) y (λ b e. record { meets = met_end x y b e; later = omega arith }) clear;
+}

@@ -1,0 +1,127 @@
+-- A run of an assembled code is a run of its program.
+use Rattle.std.specs.Prelude.{◌<◌, slice_get, IsTrue}
+use Rattle.std.proofs.Common.{◌≡◌, ℕ, zero, suc, ◌+◌, List, Bool, true, Option, Some, None, refl, sym, ap, ◌∙◌, subst, arith}
+use Rattle.vcm_spec.specs.declared.stop.StopPlace.{StopPlace}
+use Rattle.vcm_spec.specs.Workpiece.{Workpiece}
+use Rattle.vcm_spec.specs.Setup.{Setup, Tables, setup_of}
+use Rattle.vcm_spec.specs.World.{World}
+use Rattle.vcm_spec.specs.Program.{Block}
+use Rattle.vcm_spec.specs.Table.{State, front, next_number, step, steps, effective, opening}
+use Rattle.vcm_spec.proofs.Steps.{steps-add}
+use Rattle.vcm_code.specs.Code.{Statement, Code}
+use Rattle.vcm_code.specs.CodeTable.{Place, code_step, code_steps, code_effective, start, next_prints}
+use Rattle.vcm_spec.specs.Stepping.{unless_stopped}
+use Rattle.vcm_spec.specs.Printing.{takes_memory, next_node}
+use Rattle.vcm_asm.specs.Headline.{SameAfter, IsAssembled}
+use Rattle.vcm_machine.specs.declared.ran.End.{End}
+use Rattle.vcm_machine.specs.declared.ran.End.TheVariants as ends
+use Rattle.vcm_machine.specs.declared.ran.Ran.{Ran}
+use Rattle.vcm_machine.specs.Running.{Running, setup, started, later, WantsMemory, RunEnded, HasRun}
+use Rattle.std.specs.Prelude.{Result, Ok, Err, IfOk}
+use Rattle.vcm_num.specs.declared.memory.NoMemory.{NoMemory}
+use Rattle.vcm_tree.specs.Program.{Parsed, tables as tables_of}
+use Rattle.vcm_tree.specs.declared.program.Noticed.{Noticed}
+use Rattle.vcm_code.specs.declared.code.Code.{Code as Kept}
+use Rattle.vcm_code.specs.Ops.{code_of, statements_of}
+use Rattle.vcm_code.specs.CarriedOut.{AllCarriedOut}
+use Rattle.vcm_image.specs.Whole.{Fits, spelling}
+use Rattle.vcm_image.proofs.ImageLaws.{one_image}
+use Rattle.vcm_run.specs.Run.{Ended, IsRun}
+use Rattle.vcm_run.specs.Summaries.{Shown}
+use Rattle.vcm_run.specs.Programs.{IsSummary, IsImageOf, IsBuilt}
+use Rattle.vcm_run.specs.Images.{IsCodeRun}
+
+module _ (part : Workpiece) (program : Block) (c : Code) (same : (k : ℕ) → SameAfter (setup_of part c.tables) program c.statements k) where
+  abbrev su : Setup
+  su = setup_of part c.tables
+
+  abbrev code : List Statement
+  code = c.statements
+
+  -- the steps that count are as many
+  effective_from : (k : ℕ) (m : Place) (s : State) → ((j : ℕ) → (code_steps su code j m).world ≡ (steps su j s).world) → code_effective su code k m ≡ effective su k s
+  effective_from zero m s h = refl
+  effective_from (suc k) m s h =
+      ap (λ w. unless_stopped w.stop 0 (suc (code_effective su code k (code_step su code m)))) (h 0)
+      ∙ ap (λ x. unless_stopped s.world.stop 0 (suc x)) (effective_from k (code_step su code m) (step su s) (λ j. h (suc j)))
+
+  same_effective : (k : ℕ) → code_effective su code k (start su) ≡ effective su k (opening su program)
+  same_effective k = effective_from k (start su) (opening su program) (λ j. (same j).world)
+
+  code-add : (k : ℕ) (m : Place) → code_steps su code (k + 1) m ≡ code_step su code (code_steps su code k m)
+  code-add zero m = refl
+  code-add (suc k) m = ap (λ j. code_steps su code j m) (let e : suc k + 1 ≡ suc (k + 1) = omega arith in e) ∙ code-add k (code_step su code m)
+
+  -- the step behind so many has one world
+  next_world : (k : ℕ) → (code_step su code (code_steps su code k (start su))).world ≡ (step su (steps su k (opening su program))).world
+  next_world k = ap (λ p. p.world) (sym (code-add k (start su))) ∙ (same (k + 1)).world ∙ ap (λ s. s.world) (steps-add su k 1 (opening su program))
+
+  module _ (n : ℕ) (m : Running) (done : ℕ) (e : m ≡ later done (started part c)) where
+    abbrev reached : State
+    reached = steps su done (opening su program)
+
+    stop_is : m.place.world.stop ≡ reached.world.stop
+    stop_is = ap (λ x. x.place.world.stop) e ∙ ap (λ w. w.stop) (same done).world
+
+    prints_is : WantsMemory m → takes_memory (next_node (front reached.entries)) ≡ true
+    prints_is w = sym (same done).prints ∙ sym (ap (λ x. next_prints (slice_get x.code.statements x.place.next)) e) ∙ w.prints
+
+    goes_is : WantsMemory m → (step su reached).world.stop ≡ None
+    goes_is w = sym (ap (λ x. x.stop) (next_world done)) ∙ sym (ap (λ x. (code_step (setup x) x.code.statements x.place).world.stop) e) ∙ w.goes_on
+
+    ends_so : (end : End) → RunEnded n (started part c) m done end → Ended su n (opening su program) reached done end
+    ends_so ends.Stopped h = (h.0 ∙ same_effective n, (h.1.0, sym stop_is ∙ h.1.1))
+    ends_so ends.Count h = (h.0, h.1 ∙ same_effective n, sym stop_is ∙ h.2)
+    ends_so ends.NoMemory h = (h.0, h.1 ∙ same_effective done, sym stop_is ∙ (h.2).running, prints_is h.2, goes_is h.2)
+
+  run_is : (n : ℕ) (m : Running) (ran : Ran) → HasRun n (started part c) m ran → IsRun su program n m.place.world m.place.next ran
+  run_is n m ran h = record {
+    world_is = ap (λ x. x.place.world) h.new_is ∙ (same ran.done).world;
+    next_is = ap (λ x. x.place.next) h.new_is ∙ (same ran.done).next;
+    ended = ends_so n m ran.done h.new_is ran.end h.ended;
+  }
+
+-- a run of an assembled code
+pub assembled_run : (part : Workpiece) (program : Block) (tables : Tables) (c : Code) (n : ℕ) (m : Running) (ran : Ran) → IsAssembled program tables c
+    → HasRun n (started part c) m ran → IsRun (setup_of part tables) program n m.place.world m.place.next ran
+assembled_run part program tables c n m ran a h =
+    subst (λ t. IsRun (setup_of part t) program n m.place.world m.place.next ran) a.tables_are
+    (run_is part program c (λ k. subst (λ t. SameAfter (setup_of part t) program c.statements k) (sym a.tables_are) (a.follows part k)) n m ran h)
+
+-- ---- the calls one by one
+
+-- codes that fit and have one image run alike
+pub calls_show : (part : Workpiece) (program : Block) (tables : Tables) (written loaded : Kept) (n : ℕ) (m : Running) (ran : Ran)
+    → IsAssembled program tables (code_of written) → Fits written → Fits loaded → spelling written ≡ spelling loaded
+    → HasRun n (started part (code_of loaded)) m ran → IsRun (setup_of part tables) program n m.place.world m.place.next ran
+calls_show part program tables written loaded n m ran a f g e h =
+    assembled_run part program tables (code_of loaded) n m ran (subst (λ k. IsAssembled program tables (code_of k)) (one_image written loaded f g e) a) h
+
+-- the image of a program is loaded as its code
+loaded_code : (p : Parsed) (bytes : List ℕ) (l : Kept) (i : IsImageOf p bytes) → Fits l → bytes ≡ spelling l → i.code ≡ l
+loaded_code p bytes l i f e = one_image i.code l i.fits f (sym i.spelled ∙ e)
+
+-- and so it is carried out
+pub loaded_carried_out : (p : Parsed) (bytes : List ℕ) (l : Kept) → IsImageOf p bytes → Fits l → bytes ≡ spelling l → AllCarriedOut (statements_of l.statements)
+loaded_carried_out p bytes l i f e = subst (λ (k : Kept). AllCarriedOut (statements_of k.statements)) (loaded_code p bytes l i f e) i.carried_out
+
+-- a run of what was loaded is a run of the text
+pub text_run : (part : Workpiece) (text bytes : List ℕ) (notices : List Noticed) (n : ℕ) (s : Shown) (l : Kept) → IsBuilt text bytes notices → Fits l → bytes ≡ spelling l
+    → IsCodeRun part l n s → s.notices ≡ notices → IsSummary part text n s
+text_run part text bytes notices n s l b f e r ns =
+    let a = subst (λ (k : Kept). IsAssembled b.parsed.program (tables_of b.parsed) (code_of k)) (loaded_code b.parsed bytes l b.image f e) b.image.assembled in
+    let run = assembled_run part b.parsed.program (tables_of b.parsed) (code_of l) n r.machine s.ran a r.has_run in
+    record {
+      parsed = b.parsed;
+      accepted = b.accepted;
+      tables_are = r.tables_are ∙ a.tables_are;
+      notices = ns ∙ b.notices_are;
+      run = subst (λ w. IsRun (setup_of part (tables_of b.parsed)) b.parsed.program n w s.next s.ran) (sym r.world_is)
+          (subst (λ k. IsRun (setup_of part (tables_of b.parsed)) b.parsed.program n r.machine.place.world k s.ran) (sym r.next_is) run);
+    }
+
+-- the same of what a call returned
+pub built_runs : (part : Workpiece) (bytes : List ℕ) (notices : List Noticed) (n : ℕ) (l : Kept) (r : Result Shown NoMemory) → Fits l → bytes ≡ spelling l
+    → IfOk r (IsCodeRun part l n) → IfOk r (λ s. s.notices ≡ notices) → IfOk r (λ s. (text : List ℕ) → IsBuilt text bytes notices → IsSummary part text n s)
+built_runs part bytes notices n l (Ok s) f e h k = λ text b. text_run part text bytes notices n s l b f e h k
+built_runs part bytes notices n l (Err x) f e h k = tt

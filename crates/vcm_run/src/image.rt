@@ -1,0 +1,32 @@
+//! Runs of images.
+
+ghost use Rattle.std.specs.Prelude.{IfOk, IfErr};
+ghost use Rattle.vcm_run.specs.Images.{IsImageRun, IsImageRefusal};
+
+use crate::run::{Summary, run_loaded};
+use std::alloc::Global;
+use vcm_fields::ImageFault;
+use vcm_loader::load;
+use vcm_machine::is_carried_out;
+use vcm_motion::Part;
+
+/// Runs an image for at most n steps, beside a workpiece. Its summary has no notices.
+///
+/// Errors: the refusal of the loader; BadField where the image has a statement that isn't carried out yet (of features, frames or settings); want
+/// of memory.
+pub fn run_image<P: Part>(
+    alloc: Global,
+    part: &P,
+    image: &[u8],
+    n: u64,
+) -> Result<Summary, ImageFault>
+    ensures run { IfOk result (IsImageRun (P.part part.now) image.now n) }
+    ensures refused { IfErr result (IsImageRefusal image.now) }
+{
+    let loaded = load(alloc, image)?;
+    if !is_carried_out(&loaded) {
+        return Err(ImageFault::BadField);
+    }
+    let summary = run_loaded(alloc, part, &loaded, n, Vec::new(alloc))?;
+    Ok(summary)
+}
