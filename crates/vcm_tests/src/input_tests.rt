@@ -32,13 +32,13 @@ fn prints(
     status: u8,
     notices: usize,
 ) -> bool {
-    match answer_of(alloc, input, steps) {
-        Some((Ok(done), out)) => {
-            out.as_slice() == output.as_bytes()
-                && done.status == status
-                && done.notices.len() == notices
-        }
-        _ => false,
+    let Some((answer, out)) = answer_of(alloc, input, steps) else {
+        return false;
+    };
+    let is_same = out.as_slice() == output.as_bytes();
+    match answer {
+        Ok(done) => is_same && done.status == status && done.notices.len() == notices,
+        Err(_) => false,
     }
 }
 
@@ -87,10 +87,11 @@ fn programs_and_their_images(rt: HostRuntime) {
 // The refusal of the image of a move with a byte in another one's place, where nothing is written.
 fn refusal_of(alloc: Global, place: usize, byte: u8) -> Option<RunFault> {
     let image = changed(alloc, &MOVE, place, byte)?;
-    match answer_of(alloc, &image, 9) {
-        Some((Err(fault), out)) if out.is_empty() => Some(fault),
-        _ => None,
+    let (answer, out) = answer_of(alloc, &image, 9)?;
+    if !out.is_empty() {
+        return None;
     }
+    answer.err()
 }
 
 #[test]
