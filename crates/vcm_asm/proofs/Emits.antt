@@ -3,11 +3,11 @@ use Rattle.std.proofs.Common.{◌≡◌, ℕ, ◌+◌, ◌≤◌, Option, Some, 
 use Rattle.std.specs.Prelude.{OnOk}
 use Rattle.vcm_spec.specs.declared.expression.Item.{Item}
 use Rattle.vcm_spec.specs.Expression.{Tree, spelling}
-use Rattle.vcm_spec.specs.Program.{Label as Name, Node, Block, then, size, sizes, choice, choice_else, do_loop}
+use Rattle.vcm_spec.specs.Program.{Label as Name, Node, Block, then, size, sizes, choice, choice_else, do_loop, meas}
 use Rattle.vcm_tree.specs.Nodes.{choice_by}
 use Rattle.vcm_code.specs.declared.op.Op.{Op as Kept}
 use Rattle.vcm_code.specs.Ops.{op_of}
-use Rattle.vcm_code.specs.Code.{If, Else, EndIf, Do, EndDo, Statement, statement}
+use Rattle.vcm_code.specs.Code.{If, Else, EndIf, Do, EndDo, Meas, EndMes, Statement, statement}
 use Rattle.vcm_asm.specs.Targets.{Retargets}
 use Rattle.vcm_asm.specs.Assembled.{node_code, block_code}
 use Rattle.vcm_asm.proofs.Place.{node_length, block_length}
@@ -31,6 +31,15 @@ opened to b d old c1 c2 s e1 e2 =
 pub opened_length : (to : Name → ℕ) (b : Block) (d : ℕ) (old c2 : List Statement) (s : Statement) → c2 ≡ old ++ s ∷ block_code to b d (length old + 1) → length c2 ≡ length old + 1 + sizes b
 opened_length to b d old c2 s e =
     omega (arith, ap length e, length-append old (s ∷ block_code to b d (length old + 1)), block_length to b d (length old + 1))
+
+-- a MEAS block
+pub wrote_meas : (to : Name → ℕ) (body : Block) (d line feature close : ℕ) (old c1 c2 c3 : List Statement) → c1 ≡ old ++ statement line (Meas feature) ∷ []
+    → c2 ≡ c1 ++ block_code to body d (length c1) → c3 ≡ c2 ++ statement close EndMes ∷ [] → c3 ≡ old ++ node_code to (meas line feature body close) d (length old)
+wrote_meas to body d line feature close old c1 c2 c3 e1 e2 e3 =
+    let s = statement line (Meas feature) in
+    let last = statement close EndMes in
+    e3 ∙ ap (λ l. l ++ last ∷ []) (opened to body d old c1 c2 s e1 e2)
+    ∙ append_assoc old (s ∷ block_code to body d (length old + 1)) (last ∷ [])
 
 -- an opening statement's placeholder, in the form in which the program's meaning writes it
 pub wrote_if : (to : Name → ℕ) (first : Block) (d line : ℕ) (test : Tree) (close : ℕ) (items : List Item) (old c1 c2 c3 c4 : List Statement) (start end : ℕ) → items ≡ spelling test → start ≡ length old → c1 ≡ old ++ statement line (If items 0) ∷ [] → c2 ≡ c1 ++ block_code to first d (length c1) → end ≡ length c2 → Retargets c2 start end c3 → c4 ≡ c3 ++ statement close EndIf ∷ [] → c4 ≡ old ++ node_code to (choice line test first close) d (length old)

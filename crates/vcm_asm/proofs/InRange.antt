@@ -31,14 +31,14 @@ module _ (tables : Tables) where
   simple_range (Goto x y z) h m = (short x _ h.0 m.0, short y _ h.1 m.1, short z _ h.2 m.2)
   simple_range GoHome h m = tt
   simple_range (Assign v e) h m = short e h.0 h.2 m
-  simple_range (Feat i x y z d) h m = absurd m
-  simple_range (PtMeas i x y z d) h m = absurd m
-  simple_range (SnSet which e) h m = absurd m
-  simple_range (Trans i x y z) h m = absurd m
-  simple_range (Rotate i axis n) h m = absurd m
-  simple_range (Recall i) h m = absurd m
-  simple_range (Obtain v source i word) h m = absurd m
-  simple_range (Output source i) h m = absurd m
+  simple_range (Feat i x y z d) h m = (short x _ h.1.0 m.0, short y _ h.1.1 m.1, short z _ h.1.2 m.2)
+  simple_range (PtMeas i x y z d) h m = (short x _ h.1.0 m.0, short y _ h.1.1 m.1, short z _ h.1.2 m.2)
+  simple_range (SnSet which e) h m = short e _ h m
+  simple_range (Trans i x y z) h m = (short x _ h.1.0 m.0, short y _ h.1.1 m.1, short z _ h.1.2 m.2)
+  simple_range (Rotate i axis n) h m = m
+  simple_range (Recall i) h m = tt
+  simple_range (Obtain v source i word) h m = m
+  simple_range (Output source i) h m = tt
   simple_range (Text bytes) h m = m
 
   module _ (to : Name → ℕ) where

@@ -7,5 +7,4 @@ pub mod Targeted
 pub mod Emits
 pub mod ValidCode
 pub mod InRange
-pub mod CarriedOut
 pub mod Whole

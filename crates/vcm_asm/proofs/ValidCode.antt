@@ -70,14 +70,14 @@ module _ (tables : Tables) where
   simple_fits (Goto x y z) h s = (keeps x _ h.0 s.0, keeps y _ h.1 s.1, keeps z _ h.2 s.2)
   simple_fits GoHome h s = tt
   simple_fits (Assign v e) h s = (h.0, h.1, keeps e h.0 h.2 s)
-  simple_fits (Feat i x y z d) h s = absurd s
-  simple_fits (PtMeas i x y z d) h s = absurd s
-  simple_fits (SnSet which e) h s = absurd s
-  simple_fits (Trans i x y z) h s = absurd s
-  simple_fits (Rotate i axis n) h s = absurd s
-  simple_fits (Recall i) h s = absurd s
-  simple_fits (Obtain v source i word) h s = absurd s
-  simple_fits (Output source i) h s = absurd s
+  simple_fits (Feat i x y z d) h s = (h.0, (keeps x _ h.1.0 s.0, keeps y _ h.1.1 s.1, keeps z _ h.1.2 s.2))
+  simple_fits (PtMeas i x y z d) h s = (h.0, (keeps x _ h.1.0 s.0, keeps y _ h.1.1 s.1, keeps z _ h.1.2 s.2))
+  simple_fits (SnSet which e) h s = keeps e _ h s
+  simple_fits (Trans i x y z) h s = (h.0, (keeps x _ h.1.0 s.0, keeps y _ h.1.1 s.1, keeps z _ h.1.2 s.2))
+  simple_fits (Rotate i axis n) h s = h
+  simple_fits (Recall i) h s = h
+  simple_fits (Obtain v source i word) h s = h
+  simple_fits (Output source i) h s = h
   simple_fits (Text bytes) h s = tt
 
   fits_join : (s : ℕ) (a b : List Statement) → AllFit tables s a → AllFit tables s b → AllFit tables s (a ++ b)

@@ -1,13 +1,12 @@
 -- The statement code of a whole program.
-use Rattle.std.proofs.Common.{◌≡◌, ◌≤◌, suc, List, [], ◌∷◌, length, refl, sym, ap, subst, arith}
+use Rattle.std.proofs.Common.{◌≡◌, ◌≤◌, ℕ, suc, List, [], ◌∷◌, length, refl, sym, ap, subst, arith}
 use Rattle.vcm_spec.specs.Setup.{Tables, setup_of}
 use Rattle.vcm_spec.specs.Program.{Block}
 use Rattle.vcm_expr.specs.Names.{Variable}
-use Rattle.vcm_tree.specs.Program.{IsWhole, tables_of}
+use Rattle.vcm_tree.specs.Program.{IsWhole, AreNames as AreFewNames, listed, tables_of}
 use Rattle.vcm_code.specs.Code.{Statement, Code}
 use Rattle.vcm_code.specs.Valid.{IsValid}
-use Rattle.vcm_code.specs.Ranges.{AllInRange, AreNames, IsInRange}
-use Rattle.vcm_code.specs.CarriedOut.{AllCarriedOut}
+use Rattle.vcm_code.specs.Ranges.{AllInRange, IsInRange}
 use Rattle.vcm_asm.specs.Spelled.{BlockKeeps}
 use Rattle.vcm_asm.specs.Assembled.{marks, place_in, flat_code}
 use Rattle.vcm_asm.specs.Headline.{IsAssembled}
@@ -17,15 +16,11 @@ use Rattle.vcm_asm.proofs.Follow.{same}
 use Rattle.vcm_asm.proofs.Lines.{lines_are}
 use Rattle.vcm_asm.proofs.ValidCode.{valid}
 use Rattle.vcm_asm.proofs.InRange.{block_range}
-use Rattle.vcm_asm.proofs.CarriedOut.{block_out}
 
 -- the tables of so many variables have as many
-pub table_length : (vs : List Variable) → length (tables_of vs).variables ≡ length vs
-table_length [] = refl
-table_length (v ∷ vs) = ap suc (table_length vs)
-
-pub carried_out : (program : Block) → BlockKeeps program → AllCarriedOut (flat_code program)
-carried_out program kept = block_out (place_in (marks program 0)) program 0 0 kept
+pub table_length : (vs : List Variable) (fs ds : List (List ℕ)) → length (tables_of (listed vs fs ds)).variables ≡ length vs
+table_length [] fs ds = refl
+table_length (v ∷ vs) fs ds = ap suc (table_length vs fs ds)
 
 module _ (program : Block) (tables : Tables) (whole : IsWhole program tables) where
   -- the code with these tables and statements
@@ -48,12 +43,12 @@ module _ (program : Block) (tables : Tables) (whole : IsWhole program tables) wh
   all_in_range : BlockKeeps program → AllInRange (flat_code program)
   all_in_range kept = block_range tables (place_in (marks program 0)) program 0 0 whole.fits kept (structured program tables whole).deep
 
-  -- where there are few variables, and no features and frames yet
-  pub in_range : length tables.variables ≤ 4096 → tables.features ≡ [] → tables.frames ≡ [] → BlockKeeps program → IsInRange (with_statements (flat_code program))
-  in_range few no_features no_frames kept = record {
+  -- where there are few variables, features and frames
+  pub in_range : length tables.variables ≤ 4096 → AreFewNames tables.features → AreFewNames tables.frames → BlockKeeps program → IsInRange (with_statements (flat_code program))
+  in_range few features frames kept = record {
     variables = (few, whole.named);
-    features = subst (λ ns. (length ns ≤ 4096) × AreNames ns) (sym no_features) (omega arith, tt);
-    frames = subst (λ ns. (length ns ≤ 4096) × AreNames ns) (sym no_frames) (omega arith, tt);
+    features = (features.few, features.named);
+    frames = (frames.few, frames.named);
     statements = (few_statements, all_in_range kept);
   }
 

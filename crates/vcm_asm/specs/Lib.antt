@@ -3,6 +3,5 @@ pub mod Once
 pub mod Depth
 pub mod Spelled
 pub mod Targets
-pub mod OpCodes
 pub mod Headline
 pub mod Samples

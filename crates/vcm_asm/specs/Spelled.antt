@@ -1,9 +1,9 @@
 -- Expressions whose postfix spelling keeps their kind and is short enough for an image.
-use Rattle.std.specs.Prelude.{◌≡◌, ◌≤◌, List, length, Some}
+use Rattle.std.specs.Prelude.{◌≡◌, ◌<◌, ◌≤◌, List, length, Some}
 use Rattle.vcm_num.specs.declared.number.Kind.{Kind}
 use Rattle.vcm_spec.specs.Expression.{Tree, kind_of, spelling, HasKind}
 use Rattle.vcm_spec.specs.TextBytes.{IsText}
-use Rattle.vcm_spec.specs.Simple.{Simple, Goto, GoHome, Assign, Text}
+use Rattle.vcm_spec.specs.Simple.{Simple, Goto, GoHome, Assign, Feat, PtMeas, SnSet, Trans, Rotate, Recall, Obtain, Output, Text}
 use Rattle.vcm_spec.specs.Program.{Node, Block, simple, label, jump, choice, choice_else, do_loop, meas, ending, done, then}
 
 -- whatever the kinds of the variables are, the spelling has the kind of the tree, and at most 1,024 items if it has one
@@ -14,13 +14,21 @@ Keeps t = (kinds : List Kind) (k : Kind) → kind_of kinds t ≡ Some k → HasK
 abbrev pub KeepThree : Tree → Tree → Tree → Type 0
 KeepThree x y z = Keeps x × Keeps y × Keeps z
 
--- so of the expressions of a simple statement that acceptance gives, whose text is one; of the others nothing is known
+-- so of the expressions of a simple statement that acceptance gives, whose text is one, whose axis is one of three, whose quarter turns are
+-- fewer than four, and whose word of a feature is the third to the eighth
 abbrev pub SimpleKeeps : Simple Tree → Type 0
 SimpleKeeps (Goto x y z) = KeepThree x y z
 SimpleKeeps GoHome = Unit {0}
 SimpleKeeps (Assign v e) = Keeps e
+SimpleKeeps (Feat i x y z d) = KeepThree x y z
+SimpleKeeps (PtMeas i x y z d) = KeepThree x y z
+SimpleKeeps (SnSet which e) = Keeps e
+SimpleKeeps (Trans i x y z) = KeepThree x y z
+SimpleKeeps (Rotate i axis n) = (axis < 3) × (n < 4)
+SimpleKeeps (Recall i) = Unit {0}
+SimpleKeeps (Obtain v source i word) = (3 ≤ word) × (word ≤ 8)
+SimpleKeeps (Output source i) = Unit {0}
 SimpleKeeps (Text bytes) = IsText bytes
-SimpleKeeps _ = ⊥
 
 -- so of all expressions and texts of a node, and of a block
 abbrev mutual

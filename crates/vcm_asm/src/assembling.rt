@@ -5,7 +5,6 @@ ghost use Rattle.vcm_tree.specs.Program.{tables};
 ghost use Rattle.vcm_code.specs.Ops.{code_of};
 ghost use Rattle.vcm_code.specs.Valid.{IsValid};
 ghost use Rattle.vcm_code.specs.Ranges.{IsInRange};
-ghost use Rattle.vcm_code.specs.CarriedOut.{AllCarriedOut};
 ghost use Rattle.vcm_asm.specs.Headline.{IsAssembled};
 
 use crate::emit::emit_block;
@@ -25,7 +24,6 @@ pub fn assemble(alloc: Global, program: &Accepted) -> Result<Code, NoMemory>
     ensures assembled { IfOk result (λ c. IsAssembled program.now.program (tables program.now) (code_of c)) }
     ensures valid { IfOk result (λ c. IsValid (code_of c)) }
     ensures in_range { IfOk result (λ c. IsInRange (code_of c)) }
-    ensures carried_out { IfOk result (λ c. AllCarriedOut (code_of c).statements) }
 {
     let tree = program.tree();
     let mut numbers = Numbers::new(alloc);

@@ -28,6 +28,22 @@ fn postfix(alloc: Global, e: &Typed) -> Result<Items<Item>, NoMemory>
     to_postfix(alloc, e)
 }
 
+// The postfix items of three expressions.
+fn three(
+    alloc: Global,
+    x: &Typed,
+    y: &Typed,
+    z: &Typed,
+) -> Result<(Items<Item>, Items<Item>, Items<Item>), NoMemory>
+    ensures items { IfOk result (λ t. (t.0 ≡ spelling x.now) × (t.1 ≡ spelling y.now) × (t.2 ≡ spelling z.now)) }
+    ensures keeps { OnOk result (KeepThree x.now y.now z.now) }
+{
+    let x = postfix(alloc, x)?;
+    let y = postfix(alloc, y)?;
+    let z = postfix(alloc, z)?;
+    Ok((x, y, z))
+}
+
 // What a simple statement does, with its expressions as postfix items.
 fn plain(alloc: Global, action: &Action) -> Result<OwnedOp, NoMemory>
     ensures op { IfOk result (λ op. op_of op ≡ Plain (with_form spelling (action_of action.now))) }
@@ -35,9 +51,7 @@ fn plain(alloc: Global, action: &Action) -> Result<OwnedOp, NoMemory>
 {
     match action {
         Action::Goto(x, y, z) => {
-            let x = postfix(alloc, x)?;
-            let y = postfix(alloc, y)?;
-            let z = postfix(alloc, z)?;
+            let (x, y, z) = three(alloc, x, y, z)?;
             Ok(Op::Goto(x, y, z))
         }
         Action::GoHome => Ok(Op::GoHome),
@@ -45,6 +59,30 @@ fn plain(alloc: Global, action: &Action) -> Result<OwnedOp, NoMemory>
             let e = postfix(alloc, e)?;
             Ok(Op::Assign(*variable, e))
         }
+        Action::Feat(feature, x, y, z, toward) => {
+            let (x, y, z) = three(alloc, x, y, z)?;
+            Ok(Op::Feat(*feature, x, y, z, *toward))
+        }
+        Action::PtMeas(feature, x, y, z, toward) => {
+            let (x, y, z) = three(alloc, x, y, z)?;
+            Ok(Op::PtMeas(*feature, x, y, z, *toward))
+        }
+        Action::SnSet(setting, e) => {
+            let e = postfix(alloc, e)?;
+            Ok(Op::SnSet(*setting, e))
+        }
+        Action::Trans(frame, x, y, z) => {
+            let (x, y, z) = three(alloc, x, y, z)?;
+            Ok(Op::Trans(*frame, x, y, z))
+        }
+        Action::Rotate(frame, axis, quarters) => {
+            Ok(Op::Rotate(*frame, axis.number(), quarters.number()))
+        }
+        Action::Recall(frame) => Ok(Op::Recall(*frame)),
+        Action::Obtain(variable, source, feature, word) => {
+            Ok(Op::Obtain(*variable, *source, *feature, word.number()))
+        }
+        Action::Output(source, feature) => Ok(Op::Output(*source, *feature)),
         Action::Text(text) => {
             let bytes = Items::from_slice(alloc, text.as_bytes())?;
             Ok(Op::Text(bytes))
@@ -136,6 +174,11 @@ fn emit_node(
             let end = code.next();
             code.set_target(start, end + 1);
             code.put(*close, Op::EndDo(*variable, depth, start + 1))
+        }
+        Node::Measure(line, feature, body, close) => {
+            code.put(*line, Op::Meas(*feature))?;
+            emit_block(alloc, code, numbers, body, depth)?;
+            code.put(*close, Op::EndMes)
         }
         Node::Ending(line) => code.put(*line, Op::EndFil),
     }

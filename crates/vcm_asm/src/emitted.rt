@@ -20,7 +20,7 @@ impl Model for Emitted {
     ghost use Rattle.std.specs.Prelude.{List};
     ghost use Rattle.std.specs.Coded.{codes};
     ghost use Rattle.vcm_code.specs.Code.{Statement as Meaning};
-    ghost use Rattle.vcm_asm.specs.OpCodes.{statement_coded};
+    ghost use Rattle.vcm_code.specs.OpCodes.{statement_coded};
     ghost use Rattle.vcm_code.specs.Ops.{statements_of};
 
     ghost Value = { List Meaning };

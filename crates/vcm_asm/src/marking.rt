@@ -53,5 +53,9 @@ fn mark_node(numbers: &mut Numbers, node: &Node, base: u32) -> Result<u32, Alloc
             let end = mark_block(numbers, body, base + 1)?;
             Ok(end + 1)
         }
+        Node::Measure(_, _, body, _) => {
+            let end = mark_block(numbers, body, base + 1)?;
+            Ok(end + 1)
+        }
     }
 }

@@ -9,6 +9,7 @@ use vcm_num::{Fault, Kind, add, div, mul, neg, scale, sub};
 use vcm_spec::{BinaryOp, Operand, Relation, UnaryOp};
 
 /// A truth value as a number: 1 or 0.
+#[inline(always)]
 fn truth_number(b: bool) -> i64
     ensures { result ≡ truth b }
 {
@@ -16,6 +17,7 @@ fn truth_number(b: bool) -> i64
 }
 
 /// The value of an operand, where the variables have these values.
+#[inline(always)]
 pub(crate) fn operand(x: Operand, slots: &[i64]) -> i64
     requires { VariableBelow (length slots.now) x }
     ensures { result ≡ operand_value slots.now x }
@@ -29,6 +31,7 @@ pub(crate) fn operand(x: Operand, slots: &[i64]) -> i64
 }
 
 /// An operator on one value.
+#[inline(always)]
 pub(crate) fn unary(op: UnaryOp, x: i64) -> Result<i64, Fault>
     ensures { result ≡ unary_value op x }
 {
@@ -40,6 +43,7 @@ pub(crate) fn unary(op: UnaryOp, x: i64) -> Result<i64, Fault>
 }
 
 /// Whether two numbers are so related.
+#[inline(always)]
 fn holds(relation: Relation, x: i64, y: i64) -> bool
     ensures { result ≡ relation_holds relation x y }
 {
@@ -54,6 +58,7 @@ fn holds(relation: Relation, x: i64, y: i64) -> bool
 }
 
 /// An operator on two values.
+#[inline(always)]
 pub(crate) fn binary(op: BinaryOp, x: i64, y: i64) -> Result<i64, Fault>
     ensures { result ≡ binary_value op x y }
 {

@@ -27,6 +27,7 @@ use Rattle.vcm_spec.specs.declared.words.Setting.TheVariants.{Approach, Retract,
 use Rattle.vcm_spec.specs.declared.words.Source.{Source}
 use Rattle.vcm_spec.specs.declared.words.Source.TheVariants.{Nominal, Actual}
 
+-- what comes after a step that did not fail
 infixl 10 ◌>>=◌
 abbrev pub ◌>>=◌ : {A B : Type 0} → Result A ImageFault → (A → Result B ImageFault) → Result B ImageFault
 (Ok x) >>= f = f x
@@ -37,11 +38,12 @@ abbrev pub Gives : {X Y : Type 0} → (X → Y) → Result X ImageFault → Resu
 Gives view (Ok x) read = read ≡ Ok (view x)
 Gives view (Err e) read = read ≡ Err e
 
--- the same, unless memory ran out
+-- what a call refused is what reading refuses; of want of memory nothing is said
 abbrev pub Fails : {Y : Type 0} → ImageFault → Result Y ImageFault → Type 0
 Fails NoMemory read = Unit {0}
 Fails e read = read ≡ Err e
 
+-- what a call returned, seen by view, is what reading gives, unless memory ran out
 abbrev pub GivesOrNoMemory : {X Y : Type 0} → (X → Y) → Result X ImageFault → Result Y ImageFault → Type 0
 GivesOrNoMemory view (Ok x) read = read ≡ Ok (view x)
 GivesOrNoMemory view (Err e) read = Fails e read
@@ -50,6 +52,7 @@ GivesOrNoMemory view (Err e) read = Fails e read
 abbrev pub Reader : Type 0 → Type 0
 Reader A = List ℕ → Result (A × List ℕ) ImageFault
 
+-- a value that takes no bytes
 abbrev pub now : {A : Type 0} → A → Reader A
 now x bytes = Ok (x, bytes)
 
@@ -57,6 +60,7 @@ now x bytes = Ok (x, bytes)
 abbrev pub both : {A B : Type 0} → Reader A → Reader B → Reader (A × B)
 both a b bytes = a bytes >>= λ x. b x.1 >>= λ y. Ok ((x.0, y.0), y.1)
 
+-- a value made of what is read by a function
 abbrev pub via : {A B : Type 0} → (A → B) → Reader A → Reader B
 via f a bytes = a bytes >>= λ x. Ok (f x.0, x.1)
 
@@ -68,6 +72,7 @@ tested fault test a bytes = a bytes >>= λ x. if test x.0 then Ok x else Err fau
 abbrev pub after : {A B : Type 0} → Reader A → (A → Reader B) → Reader B
 after a f bytes = a bytes >>= λ x. f x.0 x.1
 
+-- so many values, one after the other
 unfoldable pub times : {A : Type 0} → Reader A → ℕ → Reader (List A)
 times a zero bytes = Ok ([], bytes)
 times a (suc n) bytes = a bytes >>= λ x. times a n x.1 >>= λ xs. Ok (x.0 ∷ xs.0, xs.1)
@@ -79,27 +84,34 @@ found (row ∷ rows) k bytes = if k == row.0 then row.1 bytes else found rows k 
 
 -- ---- fields
 
+-- one byte
 abbrev pub byte_at : Reader ℕ
 byte_at [] = Err Short
 byte_at (b ∷ rest) = Ok (b, rest)
 
+-- a number of so many bytes, the lowest one first
 abbrev pub number_at : Width → Reader ℕ
 number_at w bytes = if nat_lt (length bytes) (byte_len w) then Err Short else Ok (from_le_bytes w (take (byte_len w) bytes), drop (byte_len w) bytes)
 
+-- a number of eight bytes with its sign, as a two's complement
 abbrev pub signed_at : Reader ℤ
 signed_at = via (cast_signed w64) (number_at w64)
 
+-- so many bytes, as they are
 abbrev pub bytes_at : ℕ → Reader (List ℕ)
 bytes_at n bytes = if nat_lt (length bytes) n then Err Short else Ok (take n bytes, drop n bytes)
 
+-- a byte as a truth value
 abbrev pub is_one : ℕ → Bool
 is_one b = b == 1
 
+-- a truth value: a byte that is 0 or 1
 abbrev pub truth_at : Reader Bool
 truth_at = via is_one (tested BadField (λ b. nat_lt b 2) byte_at)
 
 -- ---- items
 
+-- what stands behind each tag of an item
 abbrev pub item_rows : List (ℕ × Reader Item)
 item_rows =
     (1, via (λ n. Push (Integer n)) signed_at)
@@ -123,12 +135,15 @@ item_rows =
     ∷ (50, now (Combine Or))
     ∷ []
 
+-- the item with a tag
 unfoldable pub tagged_item : ℕ → Reader Item
 tagged_item tag = found item_rows tag
 
+-- an item: its tag, and what it pushes
 unfoldable pub item_at : Reader Item
 item_at = after byte_at tagged_item
 
+-- an expression: the number of its items, 1 to 1,024, and the items
 unfoldable pub expression_at : Reader (List Item)
 expression_at = after (tested BadField (within 1 1024) (number_at w16)) (times item_at)
 
@@ -152,39 +167,51 @@ text_at = after (tested BadField (λ n. nat_le n 1024) (number_at w16)) (λ n. t
 
 -- ---- statements
 
+-- the index of a variable, feature or frame
 abbrev pub variable_at : Reader ℕ
 variable_at = number_at w16
 
+-- a byte below a limit
 abbrev pub byte_below_at : ℕ → Reader ℕ
 byte_below_at limit = tested BadField (λ n. nat_lt n limit) byte_at
 
+-- the number of a loop's pair
 abbrev pub pair_at : Reader ℕ
 pair_at = byte_below_at 32
 
+-- the number of a statement
 abbrev pub target_at : Reader ℕ
 target_at = number_at w32
 
+-- the byte of each direction of a feature
 abbrev pub axis_rows : List (ℕ × Reader Axis)
 axis_rows = (0, now PlusX) ∷ (1, now MinusX) ∷ (2, now PlusY) ∷ (3, now MinusY) ∷ (4, now PlusZ) ∷ (5, now MinusZ) ∷ []
 
+-- the direction of a feature
 abbrev pub axis_at : Reader Axis
 axis_at = after byte_at (found axis_rows)
 
+-- the byte of each direction of a measurement; 6 stands for the nominal feature's
 abbrev pub direction_rows : List (ℕ × Reader (Option Axis))
 direction_rows = (0, now (Some PlusX)) ∷ (1, now (Some MinusX)) ∷ (2, now (Some PlusY)) ∷ (3, now (Some MinusY)) ∷ (4, now (Some PlusZ)) ∷ (5, now (Some MinusZ)) ∷ (6, now None) ∷ []
 
+-- the direction of a measurement
 abbrev pub direction_at : Reader (Option Axis)
 direction_at = after byte_at (found direction_rows)
 
+-- the byte of each setting
 abbrev pub setting_rows : List (ℕ × Reader Setting)
 setting_rows = (0, now Approach) ∷ (1, now Retract) ∷ (2, now Search) ∷ (3, now Depth) ∷ []
 
+-- a setting of the probe
 abbrev pub setting_at : Reader Setting
 setting_at = after byte_at (found setting_rows)
 
+-- the byte of each source
 abbrev pub source_rows : List (ℕ × Reader Source)
 source_rows = (0, now Nominal) ∷ (1, now Actual) ∷ []
 
+-- whether the nominal or the actual feature is meant
 abbrev pub source_at : Reader Source
 source_at = after byte_at (found source_rows)
 
@@ -192,6 +219,7 @@ source_at = after byte_at (found source_rows)
 abbrev pub part_at : Reader ℕ
 part_at = tested BadField (within 3 8) byte_at
 
+-- the byte of each word of a statement
 abbrev pub word_rows : List (ℕ × Reader Word)
 word_rows =
     (0, now words.EndFil)
@@ -218,6 +246,7 @@ word_rows =
     ∷ (21, now words.Text)
     ∷ []
 
+-- the word of a statement
 unfoldable pub word_at : Reader Word
 word_at = after byte_at (found word_rows)
 
@@ -250,16 +279,20 @@ operands_at words.Obtain = via (λ o. Obtain o.0 o.1.0 o.1.1.0 o.1.1.1) (both va
 operands_at words.Output = via (λ o. Output o.0 o.1) (both source_at variable_at)
 operands_at words.Text = via Text text_at
 
+-- a statement: its word, its source line, and its operands
 unfoldable pub line_at : Reader Line
 line_at = after word_at (λ k. via (λ o. record { line = o.0; op = o.1 }) (both (number_at w32) (operands_at k)))
 
 -- ---- tables
 
+-- the byte of each kind
 abbrev pub kind_rows : List (ℕ × Reader Kind)
 kind_rows = (0, now Int) ∷ (1, now Real) ∷ (2, now Truths) ∷ []
 
+-- the kind of a variable
 unfoldable pub kind_at : Reader Kind
 kind_at = after byte_at (found kind_rows)
 
+-- a variable: its kind, its expansion, and its name
 unfoldable pub entry_at : Reader Entry
 entry_at = via (λ v. record { kind = v.0; expansion = v.1.0; name = v.1.1 }) (both kind_at (both (number_at w32) variable_name_at))

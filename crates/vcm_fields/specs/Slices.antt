@@ -13,5 +13,6 @@ read_or_nil (Err e) = []
 abbrev pub items_in : ℕ → List ℕ → List Item
 items_in count bytes = read_or_nil (times item_at count bytes)
 
+-- the bytes spell so many items, and no more
 abbrev pub AreItems : ℕ → List ℕ → Type 0
 AreItems count bytes = times item_at count bytes ≡ Ok (items_in count bytes, [])

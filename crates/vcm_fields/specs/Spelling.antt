@@ -26,36 +26,43 @@ use Rattle.vcm_spec.specs.declared.words.Setting.TheVariants.{Approach, Retract,
 use Rattle.vcm_spec.specs.declared.words.Source.{Source}
 use Rattle.vcm_spec.specs.declared.words.Source.TheVariants.{Nominal, Actual}
 
--- fields: a byte, two and four bytes, a signed number in eight
+-- a byte
 abbrev pub byte : ℕ → List ℕ
 byte n = n ∷ []
 
+-- a number in two bytes
 abbrev pub short : ℕ → List ℕ
 short n = to_le_bytes w16 n
 
+-- a number in four bytes
 abbrev pub long : ℕ → List ℕ
 long n = to_le_bytes w32 n
 
+-- a number with its sign in eight bytes, as a two's complement
 abbrev pub signed : ℤ → List ℕ
 signed z = to_le_bytes w64 (cast_unsigned w64 z)
 
+-- a truth value as a byte: 1 or 0
 abbrev pub truth_byte : Bool → List ℕ
 truth_byte false = byte 0
 truth_byte true = byte 1
 
 -- ---- items
 
+-- an operand: its tag, and its value
 abbrev pub operand : Operand → List ℕ
 operand (Integer n) = 1 ∷ signed n
 operand (Thousandths n) = 2 ∷ signed n
 operand (Truth b) = 3 ∷ truth_byte b
 operand (Variable v) = 4 ∷ short v
 
+-- the tag of an operator on one value
 abbrev pub unary : UnaryOp → ℕ
 unary Neg = 16
 unary Scale = 21
 unary Not = 48
 
+-- the tag of an operator on two values
 abbrev pub binary : BinaryOp → ℕ
 binary Add = 17
 binary Sub = 18
@@ -70,24 +77,29 @@ binary (Compare GreaterEqual) = 37
 binary And = 49
 binary Or = 50
 
+-- an item: an operand, or the tag of an operator
 abbrev pub item : Item → List ℕ
 item (Push x) = operand x
 item (Apply op) = byte (unary op)
 item (Combine op) = byte (binary op)
 
+-- an expression: the number of its items, and the items
 abbrev pub expression : List Item → List ℕ
 expression items = short (length items) ++ flat_map item items
 
 -- ---- names and texts
 
+-- a name: its length, and its bytes
 abbrev pub name : List ℕ → List ℕ
 name bs = byte (length bs) ++ bs
 
+-- a text: its length, and its bytes
 abbrev pub text : List ℕ → List ℕ
 text bs = short (length bs) ++ bs
 
 -- ---- statements
 
+-- the byte of the direction of a feature
 abbrev pub axis_byte : Axis → ℕ
 axis_byte PlusX = 0
 axis_byte MinusX = 1
@@ -96,6 +108,7 @@ axis_byte MinusY = 3
 axis_byte PlusZ = 4
 axis_byte MinusZ = 5
 
+-- the byte of the direction of a measurement; 6 stands for the nominal feature's
 abbrev pub direction_byte : Option Axis → ℕ
 direction_byte (Some PlusX) = 0
 direction_byte (Some MinusX) = 1
@@ -105,16 +118,19 @@ direction_byte (Some PlusZ) = 4
 direction_byte (Some MinusZ) = 5
 direction_byte None = 6
 
+-- the byte of a setting of the probe
 abbrev pub setting_byte : Setting → ℕ
 setting_byte Approach = 0
 setting_byte Retract = 1
 setting_byte Search = 2
 setting_byte Depth = 3
 
+-- the byte that says whether the nominal or the actual feature is meant
 abbrev pub source_byte : Source → ℕ
 source_byte Nominal = 0
 source_byte Actual = 1
 
+-- the byte of the word of a statement
 abbrev pub word_byte : Word → ℕ
 word_byte words.EndFil = 0
 word_byte words.Goto = 1
@@ -174,10 +190,12 @@ line s = byte (word_byte (word_of s.op)) ++ (long s.line ++ operands s.op)
 
 -- ---- tables
 
+-- the byte of a kind
 abbrev pub kind_byte : Kind → ℕ
 kind_byte Int = 0
 kind_byte Real = 1
 kind_byte Truths = 2
 
+-- a variable: its kind, its expansion, and its name
 abbrev pub entry : Entry → List ℕ
 entry v = byte (kind_byte v.kind) ++ (long v.expansion ++ name v.name)

@@ -7,6 +7,7 @@ ghost use Rattle.vcm_fields.specs.Reading.{Gives, byte_at, byte_below_at, number
 use crate::fault::ImageFault;
 
 /// A byte.
+#[inline(always)]
 pub(crate) fn byte(bytes: &[u8]) -> Result<(u8, &[u8]), ImageFault>
     ensures { Gives (λ x. (x.0, x.1.now)) result (byte_at bytes.now) }
 {
@@ -17,6 +18,7 @@ pub(crate) fn byte(bytes: &[u8]) -> Result<(u8, &[u8]), ImageFault>
 }
 
 /// A byte below a limit.
+#[inline(always)]
 pub(crate) fn byte_below(limit: u8, bytes: &[u8]) -> Result<(u8, &[u8]), ImageFault>
     ensures { Gives (λ x. (x.0, x.1.now)) result (byte_below_at limit bytes.now) }
 {
@@ -32,6 +34,7 @@ pub(crate) fn byte_below(limit: u8, bytes: &[u8]) -> Result<(u8, &[u8]), ImageFa
 /// # Errors
 ///
 /// Short.
+#[inline(always)]
 pub fn short(bytes: &[u8]) -> Result<(u16, &[u8]), ImageFault>
     ensures { Gives (λ x. (x.0, x.1.now)) result (number_at w16 bytes.now) }
 {
@@ -48,6 +51,7 @@ pub fn short(bytes: &[u8]) -> Result<(u16, &[u8]), ImageFault>
 /// # Errors
 ///
 /// Short.
+#[inline(always)]
 pub fn long(bytes: &[u8]) -> Result<(u32, &[u8]), ImageFault>
     ensures { Gives (λ x. (x.0, x.1.now)) result (number_at w32 bytes.now) }
 {
@@ -60,6 +64,7 @@ pub fn long(bytes: &[u8]) -> Result<(u32, &[u8]), ImageFault>
 }
 
 // A number of eight bytes.
+#[inline(always)]
 fn eight(bytes: &[u8]) -> Result<(u64, &[u8]), ImageFault>
     ensures { Gives (λ x. (x.0, x.1.now)) result (number_at w64 bytes.now) }
 {
@@ -74,6 +79,7 @@ fn eight(bytes: &[u8]) -> Result<(u64, &[u8]), ImageFault>
 }
 
 /// A number of eight bytes with its sign, as a two's complement.
+#[inline(always)]
 pub(crate) fn signed(bytes: &[u8]) -> Result<(i64, &[u8]), ImageFault>
     ensures { Gives (λ x. (x.0, x.1.now)) result (signed_at bytes.now) }
 {

@@ -8,6 +8,7 @@ use vcm_spec::{BinaryOp, Item, Operand, Relation, UnaryOp};
 
 /// A postfix item: its tag, and what it pushes.
 #[tactic(auto, unfolding(crate::specs::Reading::item_at))]
+#[inline(always)]
 pub(crate) fn item(bytes: &[u8]) -> Result<(Item, &[u8]), ImageFault>
     ensures { Gives (λ x. (x.0, x.1.now)) result (item_at bytes.now) }
 {
@@ -16,6 +17,7 @@ pub(crate) fn item(bytes: &[u8]) -> Result<(Item, &[u8]), ImageFault>
 }
 
 // A truth value: a byte that is 0 or 1.
+#[inline(always)]
 fn truth(bytes: &[u8]) -> Result<(bool, &[u8]), ImageFault>
     ensures { Gives (λ x. (x.0, x.1.now)) result (truth_at bytes.now) }
 {
@@ -25,6 +27,7 @@ fn truth(bytes: &[u8]) -> Result<(bool, &[u8]), ImageFault>
 
 // The item with a tag.
 #[tactic(auto, unfolding(crate::specs::Reading::tagged_item))]
+#[inline(always)]
 fn tagged(tag: u8, rest: &[u8]) -> Result<(Item, &[u8]), ImageFault>
     ensures { Gives (λ x. (x.0, x.1.now)) result (tagged_item tag rest.now) }
 {

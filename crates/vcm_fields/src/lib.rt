@@ -1,4 +1,5 @@
 //! The fields of an image: numbers, names, texts, expressions, statements and variables as bytes. They are read in place and take no memory.
+//! A reader of a statement is inlined where it is called, so that no value is made that the caller leaves alone.
 #![tactic(auto)]
 
 mod fault;

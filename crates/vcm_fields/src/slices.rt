@@ -30,6 +30,7 @@ impl<'a> Model for ItemSlice<'a> {
 
 impl<'a> ItemSlice<'a> {
     /// The first so many items, and the bytes behind them.
+    #[inline(always)]
     pub(crate) fn cut(count: u16, bytes: &'a [u8]) -> Result<(ItemSlice<'a>, &'a [u8]), ImageFault>
         ensures { Gives (λ x. (x.0, x.1.now)) result (times item_at count bytes.now) }
     {
@@ -60,6 +61,7 @@ impl<'a> ItemSlice<'a> {
     }
 
     /// The first item and those after it, if there is one.
+    #[inline(always)]
     pub fn split_first(&self) -> Option<(Item, ItemSlice<'a>)>
         ensures { MatchOption result (self.now ≡ []) (λ x. self.now ≡ x.0 ∷ x.1) }
     {

@@ -22,6 +22,7 @@ const LONGEST: u16 = 1024;
 
 // An expression: the number of its items, and the items.
 #[tactic(auto, unfolding(crate::specs::Reading::expression_at))]
+#[inline(always)]
 fn expression(bytes: &[u8]) -> Result<(ItemSlice<'_>, &[u8]), ImageFault>
     ensures { Gives (λ x. (x.0, x.1.now)) result (expression_at bytes.now) }
 {
@@ -52,6 +53,7 @@ fn three(bytes: &[u8]) -> Result<(Triple<'_>, &[u8]), ImageFault>
 
 // The operands of GOTO.
 #[tactic(auto, unfolding(crate::specs::Reading::operands_at))]
+#[inline(always)]
 fn goto(bytes: &[u8]) -> Result<(BorrowedOp<'_>, &[u8]), ImageFault>
     ensures { Gives (λ x. (x.0, x.1.now)) result (operands_at words.Goto bytes.now) }
 {
@@ -61,6 +63,7 @@ fn goto(bytes: &[u8]) -> Result<(BorrowedOp<'_>, &[u8]), ImageFault>
 
 // The operands of ASSIGN.
 #[tactic(auto, unfolding(crate::specs::Reading::operands_at))]
+#[inline(always)]
 fn assign(bytes: &[u8]) -> Result<(BorrowedOp<'_>, &[u8]), ImageFault>
     ensures { Gives (λ x. (x.0, x.1.now)) result (operands_at words.Assign bytes.now) }
 {
@@ -71,6 +74,7 @@ fn assign(bytes: &[u8]) -> Result<(BorrowedOp<'_>, &[u8]), ImageFault>
 
 // The operands of IF.
 #[tactic(auto, unfolding(crate::specs::Reading::operands_at))]
+#[inline(always)]
 fn choice(bytes: &[u8]) -> Result<(BorrowedOp<'_>, &[u8]), ImageFault>
     ensures { Gives (λ x. (x.0, x.1.now)) result (operands_at words.If bytes.now) }
 {
@@ -80,6 +84,7 @@ fn choice(bytes: &[u8]) -> Result<(BorrowedOp<'_>, &[u8]), ImageFault>
 }
 
 // The number of a loop's pair: 0 to 31.
+#[inline(always)]
 fn pair(bytes: &[u8]) -> Result<(u8, &[u8]), ImageFault>
     ensures { Gives (λ x. (x.0, x.1.now)) result (pair_at bytes.now) }
 {
@@ -88,6 +93,7 @@ fn pair(bytes: &[u8]) -> Result<(u8, &[u8]), ImageFault>
 
 // The operands of DO.
 #[tactic(auto, unfolding(crate::specs::Reading::operands_at))]
+#[inline(always)]
 fn looping(bytes: &[u8]) -> Result<(BorrowedOp<'_>, &[u8]), ImageFault>
     ensures { Gives (λ x. (x.0, x.1.now)) result (operands_at words.Do bytes.now) }
 {
@@ -103,6 +109,7 @@ fn looping(bytes: &[u8]) -> Result<(BorrowedOp<'_>, &[u8]), ImageFault>
 
 // The operands of ENDDO.
 #[tactic(auto, unfolding(crate::specs::Reading::operands_at))]
+#[inline(always)]
 fn turning(bytes: &[u8]) -> Result<(BorrowedOp<'_>, &[u8]), ImageFault>
     ensures { Gives (λ x. (x.0, x.1.now)) result (operands_at words.EndDo bytes.now) }
 {
@@ -114,6 +121,7 @@ fn turning(bytes: &[u8]) -> Result<(BorrowedOp<'_>, &[u8]), ImageFault>
 
 // The operands of FEAT.
 #[tactic(auto, unfolding(crate::specs::Reading::operands_at))]
+#[inline(always)]
 fn feat(bytes: &[u8]) -> Result<(BorrowedOp<'_>, &[u8]), ImageFault>
     ensures { Gives (λ x. (x.0, x.1.now)) result (operands_at words.Feat bytes.now) }
 {
@@ -125,6 +133,7 @@ fn feat(bytes: &[u8]) -> Result<(BorrowedOp<'_>, &[u8]), ImageFault>
 
 // The operands of PTMEAS.
 #[tactic(auto, unfolding(crate::specs::Reading::operands_at))]
+#[inline(always)]
 fn point(bytes: &[u8]) -> Result<(BorrowedOp<'_>, &[u8]), ImageFault>
     ensures { Gives (λ x. (x.0, x.1.now)) result (operands_at words.PtMeas bytes.now) }
 {
@@ -136,6 +145,7 @@ fn point(bytes: &[u8]) -> Result<(BorrowedOp<'_>, &[u8]), ImageFault>
 
 // The operands of SNSET.
 #[tactic(auto, unfolding(crate::specs::Reading::operands_at))]
+#[inline(always)]
 fn set(bytes: &[u8]) -> Result<(BorrowedOp<'_>, &[u8]), ImageFault>
     ensures { Gives (λ x. (x.0, x.1.now)) result (operands_at words.SnSet bytes.now) }
 {
@@ -146,6 +156,7 @@ fn set(bytes: &[u8]) -> Result<(BorrowedOp<'_>, &[u8]), ImageFault>
 
 // The operands of TRANS.
 #[tactic(auto, unfolding(crate::specs::Reading::operands_at))]
+#[inline(always)]
 fn shift(bytes: &[u8]) -> Result<(BorrowedOp<'_>, &[u8]), ImageFault>
     ensures { Gives (λ x. (x.0, x.1.now)) result (operands_at words.Trans bytes.now) }
 {
@@ -156,6 +167,7 @@ fn shift(bytes: &[u8]) -> Result<(BorrowedOp<'_>, &[u8]), ImageFault>
 
 // The operands of ROTATE.
 #[tactic(auto, unfolding(crate::specs::Reading::operands_at))]
+#[inline(always)]
 fn turn(bytes: &[u8]) -> Result<(BorrowedOp<'_>, &[u8]), ImageFault>
     ensures { Gives (λ x. (x.0, x.1.now)) result (operands_at words.Rotate bytes.now) }
 {
@@ -167,6 +179,7 @@ fn turn(bytes: &[u8]) -> Result<(BorrowedOp<'_>, &[u8]), ImageFault>
 
 // The operands of OBTAIN.
 #[tactic(auto, unfolding(crate::specs::Reading::operands_at))]
+#[inline(always)]
 fn obtain(bytes: &[u8]) -> Result<(BorrowedOp<'_>, &[u8]), ImageFault>
     ensures { Gives (λ x. (x.0, x.1.now)) result (operands_at words.Obtain bytes.now) }
 {
@@ -179,6 +192,7 @@ fn obtain(bytes: &[u8]) -> Result<(BorrowedOp<'_>, &[u8]), ImageFault>
 
 // The operands of OUTPUT.
 #[tactic(auto, unfolding(crate::specs::Reading::operands_at))]
+#[inline(always)]
 fn output(bytes: &[u8]) -> Result<(BorrowedOp<'_>, &[u8]), ImageFault>
     ensures { Gives (λ x. (x.0, x.1.now)) result (operands_at words.Output bytes.now) }
 {
@@ -189,6 +203,7 @@ fn output(bytes: &[u8]) -> Result<(BorrowedOp<'_>, &[u8]), ImageFault>
 
 // The operands behind a word.
 #[tactic(auto, unfolding(crate::specs::Reading::operands_at))]
+#[inline(always)]
 fn operands<'a>(word: Word, bytes: &'a [u8]) -> Result<(BorrowedOp<'a>, &'a [u8]), ImageFault>
     ensures { Gives (λ x. (x.0, x.1.now)) result (operands_at word bytes.now) }
 {
@@ -239,6 +254,7 @@ fn operands<'a>(word: Word, bytes: &'a [u8]) -> Result<(BorrowedOp<'a>, &'a [u8]
 ///
 /// Short; BadField where a field is out of its range.
 #[tactic(auto, unfolding(crate::specs::Reading::line_at))]
+#[inline(always)]
 pub fn statement(bytes: &[u8]) -> Result<(BorrowedStatement<'_>, &[u8]), ImageFault>
     ensures { Gives (λ x. (x.0, x.1.now)) result (line_at bytes.now) }
 {

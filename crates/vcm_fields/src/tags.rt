@@ -10,6 +10,7 @@ use vcm_spec::{Setting, Source};
 
 /// The word of a statement.
 #[tactic(auto, unfolding(crate::specs::Reading::word_at))]
+#[inline(always)]
 pub(crate) fn word(bytes: &[u8]) -> Result<(Word, &[u8]), ImageFault>
     ensures { Gives (λ x. (x.0, x.1.now)) result (word_at bytes.now) }
 {

@@ -72,9 +72,6 @@ pub filling : {A : Type 0} (a : Reader A) (count : ℕ) (whole bytes : List ℕ)
 unfolding begun
 filling a count whole bytes end fits = record { progress = begun a count bytes; begin = tt; end = end; fits = fits }
 
-pub end_shorter : (whole rest : List ℕ) → IsEnd whole rest → length rest ≤ length whole
-end_shorter whole rest end = omega (arith, ap length end.1, length-append end.0 rest)
-
 pub end_drop : (whole rest : List ℕ) → IsEnd whole rest → drop (length whole - length rest) whole ≡ rest
 end_drop whole rest end =
     let n : length end.0 ≡ length whole - length rest = omega (arith, ap length end.1, length-append end.0 rest) in

@@ -487,7 +487,7 @@ fn other_faults(rt: HostRuntime) {
 fn leftmost_of_heads(rt: HostRuntime) {
     let unknown = b"FOO/12.3456
         FOO/'x',.BAR.";
-    let unsupported = b"SNSET/12.3456
+    let unsupported = b"SNSET/OTHER,12.3456
         CALL/1X,12.3456
         UNITS/INCH,'x'
         UNITS/MM,RAD,'x'";
@@ -502,6 +502,47 @@ fn leftmost_of_heads(rt: HostRuntime) {
         all_refused(&rt, unknown, FaultCode::UnknownStatement, 2)
             && all_refused(&rt, unsupported, FaultCode::Unsupported, 4)
             && all_refused(&rt, bad, FaultCode::BadSyntax, 7)
+    );
+}
+
+#[test]
+fn leftmost_of_measurements(rt: HostRuntime) {
+    let unsupported = b"F(P)=FEAT/LINE,CART,1.2345,0,0,0,1,1
+        F(P)=FEAT/POINT,POL,1.2345,0,0,0,1,1
+        MEAS/POINT,F(P),2,.FOO.
+        OUTPUT/F(P),1.2345
+        X=OBTAIN/F(P),9,1.2345";
+    let too_fine = b"F(P)=FEAT/POINT,CART,1.2345,0,0,0,1,1
+        F(P)=FEAT/POINT,CART,0,0,0,0,1.2345,99999999999999999999
+        PTMEAS/CART,1.2345,0
+        PTMEAS/CART,0,0,0,1.2345,1
+        D(D)=ROTATE/ZAXIS,45.0001
+        D(D)=TRANS/XORIG,1.2345,XORIG,1
+        SNSET/DEPTH,1.2345,1";
+    let bad = b"F(P)=FEAT/POINT,XYZ,1.2345,0,0,0,0,1
+        D(D)=TRANS/XORIG,1,XORIG,1.2345
+        D(D)=TRANS/ORIG,1.2345
+        D(D)=ROTATE/AAXIS,45
+        RECALL/D(D),1.2345
+        X=OBTAIN/D(D),9
+        MEAS/LINE,F(P),2
+        PTMEAS/POL,1.2345,0,0";
+    assert!(rt;
+        all_refused(&rt, unsupported, FaultCode::Unsupported, 5)
+            && all_refused(&rt, too_fine, FaultCode::TooFine, 7)
+            && all_refused(&rt, bad, FaultCode::BadSyntax, 8)
+            && all_refused(
+                &rt,
+                b"F(P)=FEAT/POINT,CART,0,0,0,0,1,1,1.2345",
+                FaultCode::NotAxis,
+                1
+            )
+            && all_refused(
+                &rt,
+                b"D(D)=ROTATE/ZAXIS,45,1.2345",
+                FaultCode::NotQuarterTurn,
+                1
+            )
     );
 }
 

@@ -384,8 +384,8 @@ fn is_straight(program: &Accepted) -> bool {
     goes_and_says(program.tree().nodes())
         && program.count() == 3
         && program.variables().len() == 0
-        && program.features().is_empty()
-        && program.frames().is_empty()
+        && program.features().len() == 0
+        && program.frames().len() == 0
         && is_mode(program.notices())
 }
 

@@ -119,6 +119,7 @@ impl<'a> Loaded<'a> {
     }
 
     /// A statement, whose items and text are slices of the image. It is decoded where it stands, without a look at any other.
+    #[inline(always)]
     pub fn statement(&self, n: usize) -> BorrowedStatement<'a>
         requires { n < length self.now.statements }
         ensures { slice_get self.now.statements n ≡ Some result }

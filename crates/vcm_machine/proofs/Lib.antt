@@ -1,9 +1,8 @@
 pub mod Codes
 pub mod Evaluating
+pub mod Effects
 pub mod LoopBranches
 pub mod StepLemmas
 pub mod RunLemmas
 pub mod LawLemmas
-pub mod Resting
-pub mod StayingAtRest
 pub mod RestsAlong

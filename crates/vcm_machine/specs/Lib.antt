@@ -1,5 +1,5 @@
+pub mod Lengths
 pub mod Going
-pub mod OpCodes
 pub mod Running
 pub mod Laws
-pub mod Rests
+pub mod RestsAlways

@@ -1,18 +1,19 @@
-//! Carrying out a simple statement: its expressions are evaluated, and then it has its effect.
+//! Carrying out a simple statement: its expressions are evaluated, and then it has its effect. Moves, assignments and texts.
 
 ghost use Rattle.std.specs.Prelude.{◌≡◌, Some, IfOk, slice_get};
 ghost use Rattle.vcm_num.specs.declared.number.Kind.{Kind};
 ghost use Rattle.vcm_spec.specs.Workpiece.{Workpiece};
 ghost use Rattle.vcm_spec.specs.Setup.{setup_of};
 ghost use Rattle.vcm_spec.specs.Value.{items_value, is_true};
-ghost use Rattle.vcm_spec.specs.Outcome.{calculated};
+ghost use Rattle.vcm_spec.specs.Outcome.{Answers, calculated};
 ghost use Rattle.vcm_spec.specs.Simple.{Goto, GoHome, Assign, Text};
 ghost use Rattle.vcm_spec.specs.Effect.{effect};
 ghost use Rattle.vcm_spec.specs.Control.{test_in};
 ghost use Rattle.vcm_spec.specs.Fitting.{kinds, AreLengths};
 ghost use Rattle.vcm_expr.specs.Slots.{IsTruth};
-ghost use Rattle.vcm_state.specs.Carried.{Answers, Carried, CarriedOrHalted};
+ghost use Rattle.vcm_state.specs.Carried.{Carried, CarriedOrHalted};
 ghost use Rattle.vcm_code.specs.Valid.{HasItems};
+ghost use Rattle.vcm_machine.specs.Lengths.{lengths_in};
 
 use std::alloc::Global;
 use vcm_fields::{ItemSlice, TextSlice};
@@ -55,6 +56,33 @@ fn is_true(value: i64) -> bool
     value != 0
 }
 
+/// Three lengths along x, y and z, in micrometres.
+#[derive(Clone, Copy)]
+pub(crate) struct Lengths {
+    pub(crate) x: i64,
+    pub(crate) y: i64,
+    pub(crate) z: i64,
+}
+
+/// The values of three expressions, which are evaluated in the order x, y, z.
+///
+/// Errors: `Overflow` or `DivZero`, whichever comes first.
+pub(crate) fn three_lengths(
+    alloc: Global,
+    world: &World,
+    x: &ItemSlice<'_>,
+    y: &ItemSlice<'_>,
+    z: &ItemSlice<'_>,
+) -> Result<Lengths, Stop>
+    requires { AreLengths (HasItems world.now.tables) x.now y.now z.now }
+    ensures { Answers (lengths_in world.now.state x.now y.now z.now) result }
+{
+    let x = value(alloc, world, x)?;
+    let y = value(alloc, world, y)?;
+    let z = value(alloc, world, z)?;
+    Ok(Lengths { x, y, z })
+}
+
 /// GOTO: x, y and z are evaluated in this order, and the first fault wins.
 ///
 /// Errors: a fault of an expression, and those of the move. The state is then as it was.
@@ -70,10 +98,8 @@ pub(crate) fn go_to<P: Part>(
     ensures carried { Carried (effect items_value (setup_of (P.part part.now) world.old.tables) world.old.state (Goto x.now y.now z.now)) world.old.state world.new.state result }
     ensures tables { world.new.tables ≡ world.old.tables }
 {
-    let x = value(alloc, world, x)?;
-    let y = value(alloc, world, y)?;
-    let z = value(alloc, world, z)?;
-    world.goto(part, x, y, z)
+    let to = three_lengths(alloc, world, x, y, z)?;
+    world.goto(part, to.x, to.y, to.z)
 }
 
 /// GOHOME.

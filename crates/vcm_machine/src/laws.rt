@@ -1,7 +1,7 @@
 //! Laws of runs, each the contract of a function without a body.
 
 ghost use Rattle.vcm_machine.specs.Laws.{RunIsOne, RunsAddUp};
-ghost use Rattle.vcm_machine.specs.Rests.{RestsAlways};
+ghost use Rattle.vcm_machine.specs.RestsAlways.{RestsAlways};
 
 /// Runs of the same number of steps from one state come to one state after as many steps, unless memory is refused.
 pub fn run_is_one()

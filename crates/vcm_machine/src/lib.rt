@@ -2,13 +2,14 @@
 #![tactic(auto)]
 
 mod acting;
-mod choosing;
+mod framing;
 pub mod laws;
 mod looping;
 mod machine;
+mod measuring;
 mod ran;
+mod reporting;
 mod stepping;
 
-pub use choosing::is_carried_out;
 pub use machine::Machine;
 pub use ran::{End, Ran};

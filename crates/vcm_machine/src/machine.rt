@@ -27,9 +27,9 @@ impl<'a, P: Part> Model for Machine<'a, P> {
     ghost use Rattle.std.specs.Coded.{codes};
     ghost use Rattle.vcm_code.specs.CodeTable.{place};
     ghost use Rattle.vcm_code.specs.Ops.{code_of};
-    ghost use Rattle.vcm_machine.specs.OpCodes.{statement_coded};
+    ghost use Rattle.vcm_code.specs.OpCodes.{statement_coded};
     ghost use Rattle.vcm_machine.specs.Running.{Running, IsRunnable};
-    ghost use Rattle.vcm_machine.specs.Rests.{Rests};
+    ghost use Rattle.vcm_spec.specs.Rests.{Rests};
 
     ghost Value = { Running };
 
@@ -42,12 +42,11 @@ impl<'a, P: Part> Model for Machine<'a, P> {
 
 impl<'a, P: Part> Machine<'a, P> {
     ghost use Rattle.std.specs.Prelude.{◌≡◌, None, IfOk, OnOk, OnErr};
-    ghost use Rattle.vcm_code.specs.CarriedOut.{AllCarriedOut};
-    ghost use Rattle.vcm_code.specs.Ops.{statements_of, code_of};
+    ghost use Rattle.vcm_code.specs.Ops.{code_of};
     ghost use Rattle.vcm_machine.specs.Running.{started, later, WantsMemory, HasRun};
-    ghost use Rattle.vcm_machine.specs.Rests.{Rests};
+    ghost use Rattle.vcm_spec.specs.Rests.{Rests};
 
-    /// A machine at the start of a code all of whose statements are carried out (`is_carried_out`).
+    /// A machine at the start of a code.
     ///
     /// Errors: want of memory.
     pub fn new(
@@ -55,10 +54,9 @@ impl<'a, P: Part> Machine<'a, P> {
         loaded: &'a Loaded<'a>,
         part: &'a P,
     ) -> Result<Machine<'a, P>, NoMemory>
-        requires { AllCarriedOut (statements_of loaded.now.statements) }
         ensures { IfOk result (λ m. m ≡ started (P.part part.now) (code_of loaded.now)) }
     {
-        // It is called for what it tells of the code: that it is valid, and how long it may be.
+        // It is called for what it tells of the code: that it is valid, and in range.
         let _count = loaded.statement_count();
         let tables = loaded.tables(alloc)?;
         let world = World::opening(alloc, &tables, part.bounds().home)?;

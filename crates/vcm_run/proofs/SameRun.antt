@@ -23,7 +23,6 @@ use Rattle.vcm_tree.specs.Program.{Parsed, tables as tables_of}
 use Rattle.vcm_tree.specs.declared.program.Noticed.{Noticed}
 use Rattle.vcm_code.specs.declared.code.Code.{Code as Kept}
 use Rattle.vcm_code.specs.Ops.{code_of, statements_of}
-use Rattle.vcm_code.specs.CarriedOut.{AllCarriedOut}
 use Rattle.vcm_image.specs.Whole.{Fits, spelling}
 use Rattle.vcm_image.proofs.ImageLaws.{one_image}
 use Rattle.vcm_run.specs.Run.{Ended, IsRun}
@@ -100,10 +99,6 @@ calls_show part program tables written loaded n m ran a f g e h =
 -- the image of a program is loaded as its code
 loaded_code : (p : Parsed) (bytes : List ℕ) (l : Kept) (i : IsImageOf p bytes) → Fits l → bytes ≡ spelling l → i.code ≡ l
 loaded_code p bytes l i f e = one_image i.code l i.fits f (sym i.spelled ∙ e)
-
--- and so it is carried out
-pub loaded_carried_out : (p : Parsed) (bytes : List ℕ) (l : Kept) → IsImageOf p bytes → Fits l → bytes ≡ spelling l → AllCarriedOut (statements_of l.statements)
-loaded_carried_out p bytes l i f e = subst (λ (k : Kept). AllCarriedOut (statements_of k.statements)) (loaded_code p bytes l i f e) i.carried_out
 
 -- a run of what was loaded is a run of the text
 pub text_run : (part : Workpiece) (text bytes : List ℕ) (notices : List Noticed) (n : ℕ) (s : Shown) (l : Kept) → IsBuilt text bytes notices → Fits l → bytes ≡ spelling l

@@ -1,12 +1,10 @@
 -- What the run of an image gives.
-use Rattle.std.specs.Prelude.{◌≡◌, ◌⊎◌, ℕ, List, []}
+use Rattle.std.specs.Prelude.{◌≡◌, ℕ, List, []}
 use Rattle.vcm_spec.specs.Workpiece.{Workpiece}
 use Rattle.vcm_code.specs.declared.code.Code.{Code}
-use Rattle.vcm_code.specs.Ops.{code_of, statements_of}
+use Rattle.vcm_code.specs.Ops.{code_of}
 use Rattle.vcm_code.specs.Valid.{IsValid}
-use Rattle.vcm_code.specs.CarriedOut.{AllCarriedOut}
 use Rattle.vcm_fields.specs.declared.fault.ImageFault.{ImageFault}
-use Rattle.vcm_fields.specs.declared.fault.ImageFault.TheVariants.{NoMemory, BadField}
 use Rattle.vcm_image.specs.Whole.{Fits, spelling, code_at}
 use Rattle.vcm_loader.specs.Loading.{LoadFault}
 use Rattle.vcm_machine.specs.Running.{Running, started, HasRun}
@@ -29,13 +27,6 @@ pub record IsImageRun (part : Workpiece) (bytes : List ℕ) (n : ℕ) (s : Shown
   pub run : IsCodeRun part code n s
   pub notices : s.notices ≡ []
 
--- the bytes are the image of a valid code with a statement that isn't carried out yet, which is told as a field out of range
-pub record IsLeftOut (bytes : List ℕ) (e : ImageFault) : Type 0 where
-  pub code : Code
-  pub spelled : bytes ≡ spelling code
-  pub left_out : AllCarriedOut (statements_of code.statements) → ⊥
-  pub told : e ≡ BadField
-
--- why an image isn't run: it is refused by the loader, or has a statement that isn't carried out yet. Of want of memory nothing is said
+-- why an image isn't run: it is refused by the loader. Of want of memory nothing is said
 abbrev pub IsImageRefusal : List ℕ → ImageFault → Type 0
-IsImageRefusal bytes e = LoadFault (code_at bytes) e ⊎ IsLeftOut bytes e
+IsImageRefusal bytes e = LoadFault (code_at bytes) e

@@ -9,7 +9,6 @@ use Rattle.vcm_tree.specs.declared.program.Noticed.{Noticed}
 use Rattle.vcm_code.specs.declared.code.Code.{Code}
 use Rattle.vcm_code.specs.Ops.{code_of}
 use Rattle.vcm_code.specs.Valid.{IsValid}
-use Rattle.vcm_code.specs.CarriedOut.{AllCarriedOut}
 use Rattle.vcm_image.specs.Whole.{Fits, spelling}
 use Rattle.vcm_asm.specs.Headline.{IsAssembled}
 use Rattle.vcm_run.specs.declared.run.Refusal.{Refusal}
@@ -25,13 +24,12 @@ pub record IsSummary (part : Workpiece) (text : List ℕ) (n : ℕ) (s : Shown) 
   pub notices : s.notices ≡ parsed.notices
   pub run : IsRun (setup_of part (tables parsed)) parsed.program n s.held.state s.next s.ran
 
--- the bytes are the image of the code of this program: a code that does what the program does, is valid, and is carried out
+-- the bytes are the image of the code of this program: a code that does what the program does, and is valid
 pub record IsImageOf (parsed : Parsed) (bytes : List ℕ) : Type 0 where
   pub code : Code
   pub assembled : IsAssembled parsed.program (tables parsed) (code_of code)
   pub valid : IsValid (code_of code)
   pub fits : Fits code
-  pub carried_out : AllCarriedOut (code_of code).statements
   pub spelled : bytes ≡ spelling code
 
 -- the text is accepted as a program, whose image the bytes are, and these are its notices

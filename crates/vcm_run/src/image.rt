@@ -7,13 +7,11 @@ use crate::run::{Summary, run_loaded};
 use std::alloc::Global;
 use vcm_fields::ImageFault;
 use vcm_loader::load;
-use vcm_machine::is_carried_out;
 use vcm_motion::Part;
 
 /// Runs an image for at most n steps, beside a workpiece. Its summary has no notices.
 ///
-/// Errors: the refusal of the loader; BadField where the image has a statement that isn't carried out yet (of features, frames or settings); want
-/// of memory.
+/// Errors: the refusal of the loader; want of memory.
 pub fn run_image<P: Part>(
     alloc: Global,
     part: &P,
@@ -24,9 +22,6 @@ pub fn run_image<P: Part>(
     ensures refused { IfErr result (IsImageRefusal image.now) }
 {
     let loaded = load(alloc, image)?;
-    if !is_carried_out(&loaded) {
-        return Err(ImageFault::BadField);
-    }
     let summary = run_loaded(alloc, part, &loaded, n, Vec::new(alloc))?;
     Ok(summary)
 }

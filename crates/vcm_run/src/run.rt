@@ -1,8 +1,6 @@
 //! What a run shows, and a run of a loaded code.
 
 ghost use Rattle.std.specs.Prelude.{◌≡◌, IfOk};
-ghost use Rattle.vcm_code.specs.Ops.{statements_of};
-ghost use Rattle.vcm_code.specs.CarriedOut.{AllCarriedOut};
 ghost use Rattle.vcm_run.specs.Images.{IsCodeRun};
 
 use std::alloc::Global;
@@ -93,7 +91,6 @@ pub(crate) fn run_loaded<P: Part>(
     n: u64,
     notices: Vec<Noticed>,
 ) -> Result<Summary, NoMemory>
-    requires { AllCarriedOut (statements_of loaded.now.statements) }
     ensures run { IfOk result (IsCodeRun (P.part part.now) loaded.now n) }
     ensures notices { IfOk result (λ s. s.notices ≡ notices.items) }
 {

@@ -1,6 +1,11 @@
 //! The state of the machine, and what each simple statement does to it.
 #![tactic(auto)]
 
+mod framing;
+mod indexed;
+mod measuring;
+mod printed;
+mod reporting;
 mod stop;
 mod world;
 

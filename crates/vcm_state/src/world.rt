@@ -1,46 +1,69 @@
 //! The state of the machine.
 
-ghost use Rattle.std.specs.Prelude.{◌≡◌, pos, replicate, IsTrue, IfOk, OnOk};
+ghost use Rattle.std.specs.Prelude.{◌≡◌, IsTrue, OnOk};
 ghost use Rattle.vcm_num.specs.Point.{coordinate, is_near};
 ghost use Rattle.vcm_spec.specs.declared.words.MovePhase.TheVariants.{Move};
 ghost use Rattle.vcm_spec.specs.FirstTouch.{free_move};
-ghost use Rattle.vcm_state.specs.Carried.{Answers};
+ghost use Rattle.vcm_spec.specs.Outcome.{Answers};
 
+use crate::indexed::{nones, zeros};
 use crate::stop::Halt;
 use std::alloc::Global;
 use std::marker::Model;
+use vcm_frame::Frame;
 use vcm_motion::Part;
 use vcm_num::{Items, NoMemory, Point};
 use vcm_part::is_within;
-use vcm_spec::{MovePhase, Stop, StopPlace};
+use vcm_probe::Settings;
+use vcm_spec::{Feature, MovePhase, Stop, StopPlace};
 use vcm_tables::Tables;
 
 /// The most output lines of a run.
-const MAX_LINES: usize = 100_000;
+pub(crate) const MAX_LINES: usize = 100_000;
 
-/// The state of the machine: where the probe is, in micrometres of machine coordinates, the values of the variables, the output lines, and the
-/// stop if there is one; and the tables of names that it goes by.
+/// The state of the machine: where the probe is, in micrometres of machine coordinates, the current frame, the settings of the probe, the values
+/// of the variables, the saved frames, the features as they were declared and as they were measured, the output lines, and the stop if there is
+/// one; and the tables of names that it goes by.
 #[derive(Debug, Drop)]
 pub struct World {
-    tables: Tables,
-    position: Point,
-    variables: Items<i64>,
-    lines: Items<Items<u8>>,
-    stop: Option<StopPlace>,
+    pub(crate) tables: Tables,
+    pub(crate) position: Point,
+    pub(crate) frame: Frame,
+    pub(crate) settings: Settings,
+    pub(crate) variables: Items<i64>,
+    pub(crate) saved: Items<Option<Frame>>,
+    pub(crate) nominal: Items<Option<Feature>>,
+    pub(crate) actual: Items<Option<Feature>>,
+    pub(crate) lines: Items<Items<u8>>,
+    pub(crate) stop: Option<StopPlace>,
 }
 
 impl Model for World {
-    ghost use Rattle.std.specs.Prelude.{IsTrue};
+    ghost use Rattle.std.specs.Prelude.{◌≡◌, length, IsTrue};
     ghost use Rattle.vcm_num.specs.Point.{is_near};
     ghost use Rattle.vcm_expr.specs.Slots.{SlotsFit};
     ghost use Rattle.vcm_spec.specs.Fitting.{kinds};
-    ghost use Rattle.vcm_state.specs.Held.{Held, begun};
+    ghost use Rattle.vcm_state.specs.Held.{Held};
 
     ghost Value = { Held };
 
-    ghost view = { λ w. record { tables = w.tables; state = begun w.tables w.position w.variables w.lines w.stop } };
+    ghost view = { λ w. record {
+      tables = w.tables;
+      state = record {
+        position = w.position;
+        frame = w.frame;
+        settings = w.settings;
+        variables = w.variables;
+        saved = w.saved;
+        nominal = w.nominal;
+        actual = w.actual;
+        lines = w.lines;
+        stop = w.stop;
+      };
+    } };
 
-    ghost invariant = { λ w. IsTrue (is_near w.position) × SlotsFit (kinds w.tables) w.variables };
+    ghost invariant = { λ w. IsTrue (is_near w.position) × SlotsFit (kinds w.tables) w.variables × (length w.saved ≡ length w.tables.frames)
+        × (length w.nominal ≡ length w.tables.features) × (length w.actual ≡ length w.tables.features) };
 }
 
 impl World {
@@ -54,7 +77,8 @@ impl World {
     ghost use Rattle.vcm_state.specs.Held.{MayHave};
     ghost use Rattle.vcm_state.specs.Carried.{setup_of, Carries, CarriesOrHalts};
 
-    /// The state at the start: at home, every variable 0 or .FALSE., and nothing printed.
+    /// The state at the start: at home, part coordinates are the machine's, every variable is 0 or .FALSE., and nothing is saved, declared,
+    /// measured or printed.
     ///
     /// Errors: want of memory.
     pub fn opening(alloc: Global, tables: &Tables, home: Point) -> Result<World, NoMemory>
@@ -63,11 +87,19 @@ impl World {
         ensures state { IfOk result (λ w. (part : Workpiece) → part.bounds.home ≡ home → w.state ≡ opening_world (setup_of part tables.now)) }
     {
         let variables = zeros(alloc, tables.variables().len())?;
+        let saved = nones(alloc, tables.frames().len())?;
+        let nominal = nones(alloc, tables.features().len())?;
+        let actual = nones(alloc, tables.features().len())?;
         let own = tables.copy(alloc)?;
         Ok(World {
             tables: own,
             position: home,
+            frame: Frame::opening(),
+            settings: Settings::opening(),
             variables,
+            saved,
+            nominal,
+            actual,
             lines: Items::new(alloc),
             stop: None,
         })
@@ -87,12 +119,47 @@ impl World {
         self.position
     }
 
+    /// The current frame: what part coordinates are in the machine's.
+    pub fn frame(&self) -> Frame
+        ensures { result ≡ self.now.state.frame }
+    {
+        self.frame
+    }
+
+    /// The settings of the probe, in micrometres.
+    pub fn settings(&self) -> Settings
+        ensures { result ≡ self.now.state.settings }
+    {
+        self.settings
+    }
+
     /// The values of the variables: a `Real` as a number of thousandths, a truth value as 0 or 1.
     pub fn variables(&self) -> &[i64]
         ensures values { result.now ≡ self.now.state.variables }
         ensures fit { SlotsFit (kinds self.now.tables) self.now.state.variables }
     {
         self.variables.as_slice()
+    }
+
+    /// The saved frames, each at its index, where one is saved.
+    pub fn saved(&self) -> &[Option<Frame>]
+        ensures { result.now ≡ self.now.state.saved }
+    {
+        self.saved.as_slice()
+    }
+
+    /// The features as they were declared, each at its index, in micrometres of part coordinates.
+    pub fn nominal(&self) -> &[Option<Feature>]
+        ensures { result.now ≡ self.now.state.nominal }
+    {
+        self.nominal.as_slice()
+    }
+
+    /// The features as they were measured, each at its index, in micrometres of part coordinates.
+    pub fn actual(&self) -> &[Option<Feature>]
+        ensures { result.now ≡ self.now.state.actual }
+    {
+        self.actual.as_slice()
     }
 
     /// The output lines.
@@ -111,11 +178,12 @@ impl World {
 
     /// A move to a point, in micrometres of part coordinates.
     ///
-    /// Errors: `Travel` where the point lies outside the limits, `Collision` where the straight move meets a block. The state is then as it was.
+    /// Errors: `Overflow` where a machine coordinate of the point has no 64 bits, `Travel` where the point lies outside the limits, `Collision`
+    /// where the straight move meets a block. The state is then as it was.
     pub fn goto<P: Part>(&mut self, part: &P, x: i64, y: i64, z: i64) -> Result<(), Stop>
         ensures { Carries (P.part part.now) (Goto x y z) self.old self.new result }
     {
-        let target = Point::new(x, y, z);
+        let target = self.frame.apply(Point::new(x, y, z))?;
         free_move(part, self.position, target)?;
         self.position = target;
         Ok(())
@@ -163,14 +231,6 @@ impl World {
     {
         self.stop = Some(StopPlace { stop, number, line });
     }
-}
-
-// So many zeros.
-fn zeros(alloc: Global, count: usize) -> Result<Items<i64>, NoMemory>
-    ensures { IfOk result (λ values. values ≡ replicate count (pos 0)) }
-{
-    let values = vec![in alloc; 0; count]?;
-    Ok(Items::from_vec(values))
 }
 
 // A straight move within the limits, without contact on the way.

@@ -1,6 +1,11 @@
 pub mod Fields
 pub mod Naming
+pub mod NamedPlaces
+pub mod Shifting
+pub mod Telling
 pub mod GotoWords
 pub mod PlaceLaws
+pub mod MeasuringLaws
+pub mod MeasuringOnce
 pub mod FormLaws
 pub mod OnceLaws

@@ -3,11 +3,13 @@
 ghost use Rattle.std.specs.Prelude.{◌≡◌, ◌∷◌, None, IfOk, IfErr, MatchResult};
 ghost use Rattle.vcm_lines.specs.Fault.{NoMemoryOr};
 ghost use Rattle.vcm_expr.specs.Parsing.{At};
-ghost use Rattle.vcm_syntax.specs.Forms.{IsDmismn, BreaksDmismn, IsMetric, BreaksMetric, IsUnits, BreaksUnits, IsDeclaration, BreaksDeclaration, IsDecl, BreaksDecl, IsAssign, BreaksAssign, IsSpot, BreaksSpot, IsPlace, BreaksPlace, IsGoto, BreaksGoto, IsGohome, IsSay, BreaksSay, IsEndfil, BreaksAlone, IsIf, BreaksIf, IsElse, IsEndif, IsStep, IsRange, BreaksRange, IsStepped, BreaksStepped, IsRounds, BreaksRounds, IsDo, BreaksDo, IsEnddo, IsMark, BreaksMark, IsJumpto, BreaksJumpto, IsPrefix, BreaksPrefix, IsPassed, BreaksPassed, IsForm, BreaksForm};
+ghost use Rattle.vcm_syntax.specs.Forms.{IsDmismn, BreaksDmismn, IsMetric, BreaksMetric, IsUnits, BreaksUnits, IsDeclaration, BreaksDeclaration, IsDecl, BreaksDecl, IsAssign, BreaksAssign, IsPlace, BreaksPlace, IsGoto, BreaksGoto, IsGohome, IsSay, BreaksSay, IsEndfil, BreaksAlone, IsIf, BreaksIf, IsElse, IsEndif, IsStep, IsRange, BreaksRange, IsStepped, BreaksStepped, IsRounds, BreaksRounds, IsDo, BreaksDo, IsEnddo, IsMark, BreaksMark, IsJumpto, BreaksJumpto, IsPrefix, BreaksPrefix, IsPassed, BreaksPassed, IsForm, BreaksForm};
 
+use crate::measuring::{endmes, feat, meas, obtain, output, ptmeas, recall, rotate, snset, trans};
 use crate::places::{
     aim, bad_syntax, bare, end, message, offered, opened, quoted, single, test, title, unused, word,
 };
+use crate::spots::spot;
 use crate::statement::{Form, Major, Notice, Rounds, Spot};
 use crate::variables::{kind, target, unscoped, variable, variables};
 use std::alloc::Global;
@@ -108,22 +110,6 @@ fn assign(
             Ok(Form::Assignment(name, value))
         }
     }
-}
-
-fn spot(
-    alloc: Global,
-    line: u32,
-    x: &Phrase<'_>,
-    y: &Phrase<'_>,
-    z: &Phrase<'_>,
-) -> Result<Spot, SourceFault>
-    ensures ok { IfOk result (IsSpot x.now y.now z.now) }
-    ensures fault { IfErr result (NoMemoryOr (At line (BreaksSpot x.now y.now z.now))) }
-{
-    let x = read_expr(alloc, line, x)?;
-    let y = read_expr(alloc, line, y)?;
-    let z = read_expr(alloc, line, z)?;
-    Ok(Spot { x, y, z })
 }
 
 /// Three expressions, and no field behind them.
@@ -451,6 +437,16 @@ pub(crate) fn read_form(
         Major::Enddo => enddo(line, front, fields),
         Major::Label => mark(line, front, fields),
         Major::Jumpto => jumpto(line, front, fields),
+        Major::Feat => feat(alloc, line, front, fields),
+        Major::Meas => meas(line, front, fields),
+        Major::Ptmeas => ptmeas(alloc, line, front, fields),
+        Major::Endmes => endmes(line, front, fields),
+        Major::Snset => snset(alloc, line, front, fields),
+        Major::Trans => trans(alloc, line, front, fields),
+        Major::Rotate => rotate(line, front, fields),
+        Major::Recall => recall(line, front, fields),
+        Major::Obtain => obtain(line, front, fields),
+        Major::Output => output(line, front, fields),
         Major::Passed(notice) => passed(line, notice, front, fields),
     }
 }

@@ -1,15 +1,22 @@
 //! Statements: which words spell them, and which rule words break that spell none.
 #![tactic(auto)]
 
+mod figures;
 mod forms;
 pub mod laws;
 mod majors;
+mod measuring;
 mod message;
+mod named;
+mod offsets;
 mod parse;
 mod places;
+mod spots;
 mod statement;
 mod variables;
 
 pub use message::{Message, is_text};
 pub use parse::parse_statement;
-pub use statement::{Form, Notice, Rounds, Spot, Statement};
+pub use statement::{Form, Notice, Offset, Rounds, Spot, Statement};
+pub use vcm_num::Axis;
+pub use vcm_spec::{FeatureWord, FrameAxis, Quarters, Setting, Source};

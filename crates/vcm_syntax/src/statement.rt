@@ -5,7 +5,8 @@ ghost use Rattle.vcm_syntax.specs.Majors.{word_of};
 
 use crate::message::Message;
 use vcm_expr::{Expr, Name, VariableName};
-use vcm_num::{Items, Kind};
+use vcm_num::{Axis, Items, Kind};
+use vcm_spec::{FeatureWord, FrameAxis, Quarters, Setting, Source};
 
 /// A statement that has no effect, by its major word.
 #[derive(Clone, Copy, Debug, PartialEq, Eq)]
@@ -63,6 +64,16 @@ pub enum Major {
     Do,
     Enddo,
     Jumpto,
+    Feat,
+    Meas,
+    Ptmeas,
+    Endmes,
+    Snset,
+    Trans,
+    Rotate,
+    Recall,
+    Obtain,
+    Output,
     /// A jump label, which has no major word.
     Label,
     Passed(Notice),
@@ -84,6 +95,13 @@ pub struct Rounds {
     pub limit: Expr,
     /// 1 where it is left out.
     pub increment: Option<Expr>,
+}
+
+/// How far the origin of a frame is shifted along one of its axes, from the words of `TRANS`.
+#[derive(Drop)]
+pub struct Offset {
+    pub axis: FrameAxis,
+    pub length: Expr,
 }
 
 /// What a statement says.
@@ -119,6 +137,26 @@ pub enum Form {
     Mark(Name),
     /// `JUMPTO`: the name of a jump label.
     Leap(Name),
+    /// `FEAT`: a feature's name, its place, and the direction out of the material there.
+    Feature(Name, Spot, Axis),
+    /// `MEAS`: the name of the feature that is measured.
+    Measure(Name),
+    /// `PTMEAS`: the place to touch, and the direction out of the material if it is given.
+    Touch(Spot, Option<Axis>),
+    /// `ENDMES`.
+    MeasureEnd,
+    /// `SNSET`: a setting of the probe, and its length.
+    Configure(Setting, Expr),
+    /// `TRANS`: a frame's name, and its shifts in the order in which they are written, at most one along each axis.
+    Shift(Name, Items<Offset>),
+    /// `ROTATE`: a frame's name, and its turn.
+    Rotation(Name, FrameAxis, Quarters),
+    /// `RECALL`: a frame's name.
+    Restore(Name),
+    /// `OBTAIN`: a variable's name, and the word of a feature that it gets.
+    Query(Name, Source, Name, FeatureWord),
+    /// `OUTPUT`: the feature that is told.
+    Report(Source, Name),
     /// `ENDFIL`, with which a program ends.
     Ending,
 }
@@ -137,6 +175,11 @@ impl Form {
             }
             Form::Test(_) | Form::Otherwise | Form::TestEnd => true,
             Form::Repeat(_) | Form::RepeatEnd | Form::Mark(_) | Form::Leap(_) => true,
+            Form::Feature(_, _, _) | Form::Measure(_) | Form::Touch(_, _) | Form::MeasureEnd => {
+                true
+            }
+            Form::Configure(_, _) | Form::Shift(_, _) | Form::Rotation(_, _, _) => true,
+            Form::Restore(_) | Form::Query(_, _, _, _) | Form::Report(_, _) => true,
         }
     }
 }

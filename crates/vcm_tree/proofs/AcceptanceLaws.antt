@@ -13,8 +13,7 @@ use Rattle.vcm_tree.specs.Statements.{IsSpelled, AreSpelled, BreaksStatements, s
 use Rattle.vcm_tree.specs.Order.{BreaksOrder, order_line}
 use Rattle.vcm_tree.specs.Resolving.{BreaksNames, names_line}
 use Rattle.vcm_tree.specs.Jumps.{labels_of, jumps_of, BreaksJumps, jumps_line}
-use Rattle.vcm_tree.specs.Program.{Parsed, IsParsed}
-use Rattle.vcm_expr.specs.Names.{Variable}
+use Rattle.vcm_tree.specs.Program.{Listed, Parsed, IsParsed}
 use Rattle.vcm_spec.specs.Program.{Block}
 use Rattle.vcm_tree.specs.declared.program.Noticed.{Noticed}
 use Rattle.vcm_tree.proofs.OneProgram.{one_writing}
@@ -50,15 +49,15 @@ one_list text ls ms ss ts p q r s =
 one_text : (text : List ℕ) (ls ms : List Logical) (ss ts : List Statement) → ReadsText text ls ss → ReadsText text ms ts → ss ≡ ts
 one_text text ls ms ss ts p q = one_list text ls ms ss ts p.read q.read p.spelled q.spelled
 
-abbrev parsed : Block → List Variable → List Noticed → Parsed
-parsed b vs ns = record { program = b; variables = vs; notices = ns }
+abbrev parsed : Block → Listed → List Noticed → Parsed
+parsed b vs ns = record { program = b; names = vs; notices = ns }
 
 -- statements are one program
 pub one_parsed : (ss : List Statement) (p q : Parsed) → IsParsed ss p → IsParsed ss q → p ≡ q
 one_parsed ss p q a b =
     let program : p.program ≡ q.program = one_writing p.program q.program (a.program ∙ sym b.program) in
-    let e : parsed p.program p.variables p.notices ≡ parsed q.program q.variables q.notices =
-    ap (λ x. parsed x p.variables p.notices) program ∙ ap (λ x. parsed q.program x p.notices) (a.variables ∙ sym b.variables) ∙ ap (parsed q.program q.variables) (a.notices ∙ sym b.notices) in
+    let e : parsed p.program p.names p.notices ≡ parsed q.program q.names q.notices =
+    ap (λ x. parsed x p.names p.notices) program ∙ ap (λ x. parsed q.program x p.notices) (a.names ∙ sym b.names) ∙ ap (parsed q.program q.names) (a.notices ∙ sym b.notices) in
     e
 
 -- the same of all that was read

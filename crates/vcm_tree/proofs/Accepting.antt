@@ -9,7 +9,7 @@ use Rattle.vcm_syntax.specs.declared.statement.Statement.{Statement}
 use Rattle.vcm_tree.specs.Statements.{BreaksStatements, statement_line}
 use Rattle.vcm_tree.specs.Resolving.{start, BreaksNames, names_line}
 use Rattle.vcm_tree.specs.Jumps.{labels_of, jumps_of, BreaksJumps, jumps_line}
-use Rattle.vcm_tree.specs.Program.{Parsed, IsWhole, tables_of}
+use Rattle.vcm_tree.specs.Program.{Parsed, IsWhole, tables}
 use Rattle.vcm_tree.specs.Acceptance.{ReadsLines, ReadsText, ReadsProgram, IsAccepted, IsRefused, in_statements, in_names, in_jumps}
 use Rattle.vcm_tree.proofs.FewStatements.{few_statements, ended_of}
 use Rattle.vcm_tree.proofs.NamedVariables.{spelled_named}
@@ -32,10 +32,10 @@ jumps_refused text ls ss p f read program (inr q) = inr (in_jumps ls ss p read p
 
 -- a program that is read as the text says is whole
 pub read_whole : (text : List ℕ) (ls : List Logical) (ss : List Statement) (p : Parsed) → ReadsText text ls ss → ReadsProgram ss p
-    → IsClean (BreaksJumps (labels_of p.program)) (jumps_of p.program) → IsWhole p.program (tables_of p.variables)
+    → IsClean (BreaksJumps (labels_of p.program)) (jumps_of p.program) → IsWhole p.program (tables p)
 read_whole text ls ss p read program jumps =
     let few : length ss ≤ 20000 = few_statements (lines_of text) ls ss read.read.clean read.read.lines read.spelled.statements in
     parsed_whole ss p (ended_of ss read.order) few program.clean program.is (spelled_named start ls ss read.spelled.statements tt) jumps
 
-pub accepted_whole : (text : List ℕ) (p : Parsed) → IsAccepted text p → IsWhole p.program (tables_of p.variables)
+pub accepted_whole : (text : List ℕ) (p : Parsed) → IsAccepted text p → IsWhole p.program (tables p)
 accepted_whole text p a = read_whole text a.lines a.statements p a.read a.program a.jumps

@@ -1,17 +1,17 @@
 -- Blocks that are put together: what is written, one statement more at a time.
-use Rattle.std.proofs.Common.{◌≡◌, ℕ, suc, ◌≤◌, ◌<◌, Bool, true, false, List, [], ◌∷◌, ◌++◌, length, Result, Ok, Err, refl, sym, ap, ◌∙◌, append_assoc, arith, nat_lt}
+use Rattle.std.proofs.Common.{◌≡◌, ℕ, zero, suc, ◌-◌, ◌≤◌, ◌<◌, Option, Some, None, slice_get, Bool, true, false, List, [], ◌∷◌, ◌++◌, length, Result, Ok, Err, refl, sym, ap, subst, ◌∙◌, append_assoc, arith, nat_lt}
 use Rattle.std.proofs.lemmas.List.{append-nil}
 use Rattle.vcm_lines.specs.declared.fault.FaultCode.{FaultCode}
 use Rattle.vcm_lines.specs.declared.fault.FaultCode.TheVariants.{Unbalanced}
 use Rattle.vcm_spec.specs.Expression.{Tree}
-use Rattle.vcm_spec.specs.Program.{Label, Node, Block, done, then, choice, choice_else, do_loop, ending}
+use Rattle.vcm_spec.specs.Program.{Label, Node, Block, done, then, choice, choice_else, do_loop, meas, ending}
 use Rattle.vcm_tree.specs.declared.builder.Head.{Head}
-use Rattle.vcm_tree.specs.declared.builder.Head.TheVariants.{First, Second, Body}
+use Rattle.vcm_tree.specs.declared.builder.Head.TheVariants.{First, Second, Body, Measuring}
 use Rattle.vcm_tree.specs.declared.builder.Open.{Open}
 use Rattle.vcm_tree.specs.declared.builder.Builder.{Builder}
 use Rattle.vcm_tree.specs.Nodes.{snoc}
-use Rattle.vcm_tree.specs.Pieces.{Step, Piece, piece, Tests, Divides, EndsTest, EndsRepeat, Ends, node_pieces, pieces}
-use Rattle.vcm_tree.specs.Resolving.{Opened, room, room_by, nested, then_ok, labels_after, divided, test_ended, repeat_ended, ended, blocks_after}
+use Rattle.vcm_tree.specs.Pieces.{Step, Piece, piece, Tests, Divides, EndsTest, EndsRepeat, EndsMeasure, Ends, node_pieces, pieces}
+use Rattle.vcm_tree.specs.Resolving.{Opened, InFirst, InSecond, InBody, InMeasure, room, room_by, nested, then_ok, labels_after, divided, test_ended, repeat_ended, measure_ended, measuring, ended, blocks_after}
 use Rattle.vcm_tree.specs.Building.{opened_by, blocks_of, head_pieces, opens_pieces, written, Reads}
 
 -- ---- lists
@@ -140,6 +140,25 @@ module _ (os : List Open) (o : Open) (old new : Builder) (was : old.opens.items 
     labels = λ ls. refl;
   }
 
+  pub reads_measure_end : (line start feature : ℕ) → o.head ≡ Measuring start feature → new.opens.items ≡ os → new.block ≡ snoc o.outer (meas start feature old.block line)
+      → Reads (measure_ended (blocks_of old.opens.items) true) line old new
+  reads_measure_end line start feature e same more = record {
+    step = EndsMeasure;
+    is = ap (λ bs. measure_ended bs true) (innermost (Measuring start feature) e);
+    pieces = closed (meas start feature old.block line) (piece line EndsMeasure) same more (sym (ap (λ h. head_pieces h ++ (pieces old.block ++ piece line EndsMeasure ∷ [])) e));
+    blocks = ap blocks_of same ∙ sym (ap (λ bs. blocks_after bs EndsMeasure) (innermost (Measuring start feature) e));
+    labels = λ ls. refl;
+  }
+
+  -- the feature of the innermost block
+  pub measuring_is : (h : Head) → o.head ≡ h → measuring (blocks_of old.opens.items) ≡ measuring (opened_by h ∷ blocks_of os)
+  measuring_is h e = ap measuring (innermost h e)
+
+  -- ENDMES that doesn't fit
+  pub measure_end_fails : (h : Head) (t : Bool) (code : FaultCode) → o.head ≡ h → measure_ended (opened_by h ∷ blocks_of os) t ≡ Err code
+      → measure_ended (blocks_of old.opens.items) t ≡ Err code
+  measure_end_fails h t code e f = ap (λ bs. measure_ended bs t) (innermost h e) ∙ f
+
   abbrev failed : Result Step FaultCode
   failed = Err Unbalanced
 
@@ -208,3 +227,27 @@ reads_nested old new r head line step room_is r_is more none writes inside unmar
   blocks = ap blocks_of more ∙ blocks_push old.opens.items (record { outer = old.block; head = head }) ∙ sym (inside (blocks_of old.opens.items));
   labels = unmarked;
 }
+
+-- the innermost block alone says whether it is that of a MEAS
+measuring_head : (b : Opened) (xs ys : List Opened) → measuring (b ∷ xs) ≡ measuring (b ∷ ys)
+measuring_head InFirst xs ys = refl
+measuring_head InSecond xs ys = refl
+measuring_head InBody xs ys = refl
+measuring_head (InMeasure f) xs ys = refl
+
+measuring_front : (bs : List Opened) (b c : Opened) → measuring ((bs ++ b ∷ []) ++ c ∷ []) ≡ measuring (bs ++ b ∷ [])
+measuring_front [] b c = measuring_head b (c ∷ []) []
+measuring_front (x ∷ bs) b c = measuring_head x ((bs ++ b ∷ []) ++ c ∷ []) (bs ++ b ∷ [])
+
+last_at : (os : List Open) (o : Open) (n : ℕ) → length os ≡ suc n → Some o ≡ slice_get os n → measuring (blocks_of os) ≡ measuring (opened_by o.head ∷ [])
+last_at [] o n l e = absurd (omega (arith, l))
+last_at (p ∷ []) o zero l e = (let same : o ≡ p = cc in ap (λ (x : Open). measuring (opened_by x.head ∷ [])) (sym same))
+last_at (p ∷ []) o (suc n) l e = absurd (omega (arith, l))
+last_at (p ∷ q ∷ os) o zero l e = absurd (omega (arith, l))
+last_at (p ∷ q ∷ os) o (suc n) l e = measuring_front (blocks_of os) (opened_by q.head) (opened_by p.head) ∙ last_at (q ∷ os) o n (omega (arith, l)) e
+
+pub last_opened : (os : List Open) (o : Open) → Some o ≡ slice_get os (length os - 1) → measuring (blocks_of os) ≡ measuring (opened_by o.head ∷ [])
+last_opened [] o e = absurd cc
+last_opened (p ∷ os) o e =
+    let one : length (p ∷ os) - 1 ≡ length os = omega arith in
+    last_at (p ∷ os) o (length os) refl (subst (λ (k : ℕ). Some o ≡ slice_get (p ∷ os) k) one e)

@@ -8,19 +8,20 @@ use Rattle.vcm_lines.specs.declared.fault.FaultCode.TheVariants.{DuplicateName}
 use Rattle.vcm_spec.specs.Phase.{IsClean}
 use Rattle.vcm_spec.specs.Expression.{Tree}
 use Rattle.vcm_spec.specs.Simple.{Simple, GoHome, Text}
-use Rattle.vcm_spec.specs.Program.{Label, is_same_label, Node, Block, simple, label, jump, choice, choice_else, do_loop, ending, done}
+use Rattle.vcm_spec.specs.Program.{Label, is_same_label, Node, Block, simple, label, jump, choice, choice_else, do_loop, meas, ending, done}
 use Rattle.vcm_expr.specs.Names.{Variable}
 use Rattle.vcm_expr.specs.Typing.{typed_for}
 use Rattle.vcm_expr.specs.declared.typing.Want.TheVariants as wants
 use Rattle.vcm_syntax.specs.declared.statement.Rounds.{Rounds}
 use Rattle.vcm_syntax.specs.declared.statement.Form.{Form}
-use Rattle.vcm_syntax.specs.declared.statement.Form.TheVariants.{Opening, Measures as Units, Ignored, Declaration, Assignment, Move, Home, Say, Test, Otherwise, TestEnd, Repeat, RepeatEnd, Mark, Leap, Ending}
+use Rattle.vcm_syntax.specs.declared.statement.Form.TheVariants.{Opening, Measures as Units, Ignored, Declaration, Assignment, Move, Home, Say, Test, Otherwise, TestEnd, Repeat, RepeatEnd, Mark, Leap, Feature, Measure, Touch, MeasureEnd, Configure, Shift, Rotation, Restore, Query, Report, Ending}
 use Rattle.vcm_syntax.specs.declared.statement.Statement.{Statement}
 use Rattle.vcm_tree.specs.Order.{is_ended}
 use Rattle.vcm_tree.specs.Nodes.{snoc}
 use Rattle.vcm_tree.specs.Pieces.{Step, Piece, piece, Does, Marks, Leaps, Tests, Divides, EndsTest, Repeats, EndsRepeat, Measures, EndsMeasure, Ends, node_pieces, pieces}
-use Rattle.vcm_tree.specs.Program.{Parsed, IsParsed, notices_of}
-use Rattle.vcm_tree.specs.Resolving.{Behind, Opened, InFirst, InSecond, InBody, InMeasure, Meaning, Declares, then_ok, with_all, assigned, moved, room, nested, tested, indexed, increment_of, repeated, divided, test_ended, repeat_ended, ended, marked, label_of, does, counts, resolved, blocks_after, behind_by, behind_one, behind_all, start, pieces_by, pieces_from, BreaksNames}
+use Rattle.vcm_tree.specs.Program.{Parsed, IsParsed, names_of, notices_of}
+use Rattle.vcm_tree.specs.Resolving.{Behind, Opened, InFirst, InSecond, InBody, InMeasure, Meaning, Declares, then_ok, with_all, assigned, moved, room, nested, tested, indexed, increment_of, repeated, divided, test_ended, repeat_ended, ended, marked, label_of, known, declared, opened_measure, touched, measure_ended, configured, shifted, rotated, recalled, obtained, reported, does, counts, stated, resolved, blocks_after, behind_by, behind_one, behind_all, start, pieces_by, pieces_from, BreaksNames}
+use Rattle.vcm_tree.proofs.Standing.{standing, standing_ok}
 use Rattle.vcm_tree.proofs.Walking.{AllMean, all_mean, last_shuts}
 use Rattle.vcm_tree.proofs.Builders.{pieces_push, regroup}
 
@@ -39,12 +40,15 @@ abbrev FitRepeatEnd : List Opened → Type 0
 FitRepeatEnd (InBody ∷ bs) = Unit {0}
 FitRepeatEnd _ = ⊥
 
+abbrev FitMeasureEnd : List Opened → Type 0
+FitMeasureEnd (InMeasure f ∷ bs) = Unit {0}
+FitMeasureEnd _ = ⊥
+
 abbrev Fit : List Opened → Step → Type 0
 Fit bs Divides = FitDivides bs
 Fit bs EndsTest = FitTestEnd bs
 Fit bs EndsRepeat = FitRepeatEnd bs
-Fit bs (Measures f) = ⊥
-Fit bs EndsMeasure = ⊥
+Fit bs EndsMeasure = FitMeasureEnd bs
 Fit bs _ = Unit {0}
 
 abbrev FitResult : List Opened → Result Step FaultCode → Type 0
@@ -60,21 +64,29 @@ divided_fit [] = tt
 divided_fit (InFirst ∷ bs) = tt
 divided_fit (InSecond ∷ bs) = tt
 divided_fit (InBody ∷ bs) = tt
-divided_fit (InMeasure ∷ bs) = tt
+divided_fit (InMeasure f ∷ bs) = tt
 
 test_ended_fit : (bs : List Opened) → FitResult bs (test_ended bs)
 test_ended_fit [] = tt
 test_ended_fit (InFirst ∷ bs) = tt
 test_ended_fit (InSecond ∷ bs) = tt
 test_ended_fit (InBody ∷ bs) = tt
-test_ended_fit (InMeasure ∷ bs) = tt
+test_ended_fit (InMeasure f ∷ bs) = tt
 
 repeat_ended_fit : (bs : List Opened) → FitResult bs (repeat_ended bs)
 repeat_ended_fit [] = tt
 repeat_ended_fit (InFirst ∷ bs) = tt
 repeat_ended_fit (InSecond ∷ bs) = tt
 repeat_ended_fit (InBody ∷ bs) = tt
-repeat_ended_fit (InMeasure ∷ bs) = tt
+repeat_ended_fit (InMeasure f ∷ bs) = tt
+
+measure_ended_fit : (bs : List Opened) (t : Bool) → FitResult bs (measure_ended bs t)
+measure_ended_fit [] t = tt
+measure_ended_fit (InFirst ∷ bs) t = tt
+measure_ended_fit (InSecond ∷ bs) t = tt
+measure_ended_fit (InBody ∷ bs) t = tt
+measure_ended_fit (InMeasure f ∷ bs) true = tt
+measure_ended_fit (InMeasure f ∷ bs) false = tt
 
 ended_fit : (bs cs : List Opened) → FitResult cs (ended bs)
 ended_fit [] cs = tt
@@ -103,11 +115,13 @@ data Around : Type 0 where
   AroundFirst : (outer : Block) (line : ℕ) (test : Tree) → Around
   AroundSecond : (outer : Block) (line : ℕ) (test : Tree) (first : Block) (mid : ℕ) → Around
   AroundBody : (outer : Block) (line v : ℕ) (a b c : Tree) → Around
+  AroundMeasure : (outer : Block) (line feature : ℕ) → Around
 
 abbrev kind : Around → Opened
 kind (AroundFirst out line test) = InFirst
 kind (AroundSecond out line test first mid) = InSecond
 kind (AroundBody out line v x y z) = InBody
+kind (AroundMeasure out line g) = InMeasure g
 
 abbrev kinds : List Around → List Opened
 kinds [] = []
@@ -117,11 +131,13 @@ abbrev outer_pieces : Around → List Piece
 outer_pieces (AroundFirst out line test) = pieces out
 outer_pieces (AroundSecond out line test first mid) = pieces out
 outer_pieces (AroundBody out line v x y z) = pieces out
+outer_pieces (AroundMeasure out line g) = pieces out
 
 abbrev opener_pieces : Around → List Piece
 opener_pieces (AroundFirst out line test) = piece line (Tests test) ∷ []
 opener_pieces (AroundSecond out line test first mid) = piece line (Tests test) ∷ (pieces first ++ piece mid Divides ∷ [])
 opener_pieces (AroundBody out line v x y z) = piece line (Repeats v x y z) ∷ []
+opener_pieces (AroundMeasure out line g) = piece line (Measures g) ∷ []
 
 abbrev before : List Around → List Piece
 before [] = []
@@ -179,6 +195,7 @@ divide (AroundFirst out from test ∷ as') b line f = record {
 }
 divide (AroundSecond out from test first mid ∷ as') b line f = absurd f
 divide (AroundBody out from v x y z ∷ as') b line f = absurd f
+divide (AroundMeasure out from g ∷ as') b line f = absurd f
 
 end_test : (as' : List Around) (b : Block) (line : ℕ) → Fit (kinds as') EndsTest → Grows as' b line EndsTest
 end_test [] b line f = absurd f
@@ -187,12 +204,21 @@ end_test (AroundSecond out from test first mid ∷ as') b line f =
     closing out (AroundSecond out from test first mid) as' b line EndsTest (choice_else from test first mid b line) refl
     (ap (λ l. piece from (Tests test) ∷ l) (sym (append_assoc (pieces first) (piece mid Divides ∷ []) (pieces b ++ piece line EndsTest ∷ [])))) refl
 end_test (AroundBody out from v x y z ∷ as') b line f = absurd f
+end_test (AroundMeasure out from g ∷ as') b line f = absurd f
 
 end_repeat : (as' : List Around) (b : Block) (line : ℕ) → Fit (kinds as') EndsRepeat → Grows as' b line EndsRepeat
 end_repeat [] b line f = absurd f
 end_repeat (AroundFirst out from test ∷ as') b line f = absurd f
 end_repeat (AroundSecond out from test first mid ∷ as') b line f = absurd f
+end_repeat (AroundMeasure out from g ∷ as') b line f = absurd f
 end_repeat (AroundBody out from v x y z ∷ as') b line f = closing out (AroundBody out from v x y z) as' b line EndsRepeat (do_loop from v x y z b line) refl refl refl
+
+end_measure : (as' : List Around) (b : Block) (line : ℕ) → Fit (kinds as') EndsMeasure → Grows as' b line EndsMeasure
+end_measure [] b line f = absurd f
+end_measure (AroundFirst out from test ∷ as') b line f = absurd f
+end_measure (AroundSecond out from test first mid ∷ as') b line f = absurd f
+end_measure (AroundBody out from v x y z ∷ as') b line f = absurd f
+end_measure (AroundMeasure out from g ∷ as') b line f = closing out (AroundMeasure out from g) as' b line EndsMeasure (meas from g b line) refl refl refl
 
 grow : (as' : List Around) (b : Block) (line : ℕ) (s : Step) → Fit (kinds as') s → Grows as' b line s
 grow as' b line (Does what) f = node_more as' b line (Does what) (simple line what) refl refl
@@ -203,8 +229,8 @@ grow as' b line Divides f = divide as' b line f
 grow as' b line EndsTest f = end_test as' b line f
 grow as' b line (Repeats v x y z) f = opening as' b line (Repeats v x y z) (AroundBody b line v x y z) refl refl refl
 grow as' b line EndsRepeat f = end_repeat as' b line f
-grow as' b line (Measures g) f = absurd f
-grow as' b line EndsMeasure f = absurd f
+grow as' b line (Measures g) f = opening as' b line (Measures g) (AroundMeasure b line g) refl refl refl
+grow as' b line EndsMeasure f = end_measure as' b line f
 grow as' b line Ends f = node_more as' b line Ends (ending line) refl refl
 
 -- ---- all statements
@@ -219,44 +245,57 @@ record Reaches (as' : List Around) (b : Block) (ps : List Piece) (bs : List Open
 reach_none : (as' : List Around) (b : Block) (bs : List Opened) → kinds as' ≡ bs → Reaches as' b [] bs
 reach_none as' b bs k = record { opens = as'; block = b; writes = sym (append-nil (wrote as' b)); around = k }
 
-reach_one : (as' : List Around) (x : Block) (b : Behind) (line : ℕ) (r : Result Step FaultCode) (m : Meaning) → counts r ≡ Ok m → FitResult b.blocks r → kinds as' ≡ b.blocks
-    → Reaches as' x (pieces_by line (counts r)) (behind_by b (counts r)).blocks
-reach_one as' x b line (Ok s) m e f k =
+reach_one : (as' : List Around) (x : Block) (b : Behind) (form : Form) (line : ℕ) (r : Result Step FaultCode) (m : Meaning) → counts r ≡ Ok m → FitResult b.blocks r → kinds as' ≡ b.blocks
+    → Reaches as' x (pieces_by line (counts r)) (behind_by b form (counts r)).blocks
+reach_one as' x b form line (Ok s) m e f k =
     let g = grow as' x line s (subst (λ bs. Fit bs s) (sym k) f) in
     record { opens = g.opens; block = g.block; writes = g.writes; around = g.around ∙ ap (λ bs. blocks_after bs s) k }
-reach_one as' x b line (Err c) m e f k = absurd cc
+reach_one as' x b form line (Err c) m e f k = absurd cc
 
-reach_declares : (as' : List Around) (x : Block) (b : Behind) (line : ℕ) (r : Result (List Variable) FaultCode) → kinds as' ≡ b.blocks
-    → Reaches as' x (pieces_by line (then_ok r (λ ws. Ok (Declares ws)))) (behind_by b (then_ok r (λ ws. Ok (Declares ws)))).blocks
-reach_declares as' x b line (Ok ws) k = reach_none as' x b.blocks k
-reach_declares as' x b line (Err c) k = reach_none as' x b.blocks k
+reach_declares : (as' : List Around) (x : Block) (b : Behind) (form : Form) (line : ℕ) (r : Result (List Variable) FaultCode) → kinds as' ≡ b.blocks
+    → Reaches as' x (pieces_by line (then_ok r (λ ws. Ok (Declares ws)))) (behind_by b form (then_ok r (λ ws. Ok (Declares ws)))).blocks
+reach_declares as' x b form line (Ok ws) k = reach_none as' x b.blocks k
+reach_declares as' x b form line (Err c) k = reach_none as' x b.blocks k
 
-reach_by : (as' : List Around) (x : Block) (b : Behind) (line : ℕ) (form : Form) (m : Meaning) → resolved b form ≡ Ok m → kinds as' ≡ b.blocks
-    → Reaches as' x (pieces_by line (resolved b form)) (behind_by b (resolved b form)).blocks
+reach_by : (as' : List Around) (x : Block) (b : Behind) (line : ℕ) (form : Form) (m : Meaning) → stated b form ≡ Ok m → kinds as' ≡ b.blocks
+    → Reaches as' x (pieces_by line (stated b form)) (behind_by b form (stated b form)).blocks
 reach_by as' x b line Opening m e k = reach_none as' x b.blocks k
 reach_by as' x b line Units m e k = reach_none as' x b.blocks k
 reach_by as' x b line (Ignored w) m e k = reach_none as' x b.blocks k
-reach_by as' x b line (Declaration kd names) m e k = reach_declares as' x b line (with_all b.variables kd names) k
-reach_by as' x b line (Assignment n v) m e k = reach_one as' x b line (does (assigned b.variables n v)) m e (does_fit b.blocks (assigned b.variables n v)) k
-reach_by as' x b line (Move p) m e k = reach_one as' x b line (does (moved b.variables p.x p.y p.z)) m e (does_fit b.blocks (moved b.variables p.x p.y p.z)) k
-reach_by as' x b line Home m e k = reach_one as' x b line (Ok (Does GoHome)) m e tt k
-reach_by as' x b line (Say t) m e k = reach_one as' x b line (Ok (Does (Text t))) m e tt k
+reach_by as' x b line (Declaration kd names) m e k = reach_declares as' x b (Declaration kd names) line (with_all b.variables kd names) k
+reach_by as' x b line (Assignment n v) m e k = reach_one as' x b (Assignment n v) line (does (assigned b.variables n v)) m e (does_fit b.blocks (assigned b.variables n v)) k
+reach_by as' x b line (Move p) m e k = reach_one as' x b (Move p) line (does (moved b.variables p.x p.y p.z)) m e (does_fit b.blocks (moved b.variables p.x p.y p.z)) k
+reach_by as' x b line Home m e k = reach_one as' x b Home line (Ok (Does GoHome)) m e tt k
+reach_by as' x b line (Say t) m e k = reach_one as' x b (Say t) line (Ok (Does (Text t))) m e tt k
 reach_by as' x b line (Test v) m e k =
-    reach_one as' x b line (nested b.blocks (tested b.variables v)) m e
+    reach_one as' x b (Test v) line (nested b.blocks (tested b.variables v)) m e
     (then_fit b.blocks (room b.blocks) (λ _. tested b.variables v) (λ _. then_fit b.blocks (typed_for b.variables wants.Bool v) (λ t. Ok (Tests t)) (λ t. tt))) k
-reach_by as' x b line Otherwise m e k = reach_one as' x b line (divided b.blocks) m e (divided_fit b.blocks) k
-reach_by as' x b line TestEnd m e k = reach_one as' x b line (test_ended b.blocks) m e (test_ended_fit b.blocks) k
+reach_by as' x b line Otherwise m e k = reach_one as' x b Otherwise line (divided b.blocks) m e (divided_fit b.blocks) k
+reach_by as' x b line TestEnd m e k = reach_one as' x b TestEnd line (test_ended b.blocks) m e (test_ended_fit b.blocks) k
 reach_by as' x b line (Repeat r) m e k =
-    reach_one as' x b line (nested b.blocks (repeated b.variables r)) m e (then_fit b.blocks (room b.blocks) (λ _. repeated b.variables r) (λ _. repeated_fit b.blocks b.variables r)) k
-reach_by as' x b line RepeatEnd m e k = reach_one as' x b line (repeat_ended b.blocks) m e (repeat_ended_fit b.blocks) k
-reach_by as' x b line (Mark l) m e k = reach_one as' x b line (marked b.labels (label_of l)) m e (marked_fit b.blocks b.labels (label_of l)) k
-reach_by as' x b line (Leap l) m e k = reach_one as' x b line (Ok (Leaps (label_of l))) m e tt k
-reach_by as' x b line Ending m e k = reach_one as' x b line (ended b.blocks) m e (ended_fit b.blocks b.blocks) k
+    reach_one as' x b (Repeat r) line (nested b.blocks (repeated b.variables r)) m e (then_fit b.blocks (room b.blocks) (λ _. repeated b.variables r) (λ _. repeated_fit b.blocks b.variables r)) k
+reach_by as' x b line RepeatEnd m e k = reach_one as' x b RepeatEnd line (repeat_ended b.blocks) m e (repeat_ended_fit b.blocks) k
+reach_by as' x b line (Mark l) m e k = reach_one as' x b (Mark l) line (marked b.labels (label_of l)) m e (marked_fit b.blocks b.labels (label_of l)) k
+reach_by as' x b line (Leap l) m e k = reach_one as' x b (Leap l) line (Ok (Leaps (label_of l))) m e tt k
+reach_by as' x b line (Feature l p d) m e k = reach_one as' x b (Feature l p d) line (does (declared b.measured.features b.variables l p d)) m e (does_fit b.blocks (declared b.measured.features b.variables l p d)) k
+reach_by as' x b line (Touch p given) m e k = reach_one as' x b (Touch p given) line (does (touched b.blocks b.measured.touched b.variables p given)) m e (does_fit b.blocks (touched b.blocks b.measured.touched b.variables p given)) k
+reach_by as' x b line (Configure which v) m e k = reach_one as' x b (Configure which v) line (does (configured b.variables which v)) m e (does_fit b.blocks (configured b.variables which v)) k
+reach_by as' x b line (Shift l os) m e k = reach_one as' x b (Shift l os) line (does (shifted b.measured.frames b.variables l os)) m e (does_fit b.blocks (shifted b.measured.frames b.variables l os)) k
+reach_by as' x b line (Rotation l axis n) m e k = reach_one as' x b (Rotation l axis n) line (does (rotated b.measured.frames l axis n)) m e (does_fit b.blocks (rotated b.measured.frames l axis n)) k
+reach_by as' x b line (Restore l) m e k = reach_one as' x b (Restore l) line (does (recalled b.measured.frames l)) m e (does_fit b.blocks (recalled b.measured.frames l)) k
+reach_by as' x b line (Query v side l word) m e k = reach_one as' x b (Query v side l word) line (does (obtained b.measured.features b.variables v side l word)) m e (does_fit b.blocks (obtained b.measured.features b.variables v side l word)) k
+reach_by as' x b line (Report side l) m e k = reach_one as' x b (Report side l) line (does (reported b.measured.features side l)) m e (does_fit b.blocks (reported b.measured.features side l)) k
+reach_by as' x b line (Measure l) m e k =
+    reach_one as' x b (Measure l) line (nested b.blocks (opened_measure b.measured.features l)) m e
+    (then_fit b.blocks (room b.blocks) (λ _. opened_measure b.measured.features l) (λ _. then_fit b.blocks (known b.measured.features l) (λ i. Ok (Measures i)) (λ i. tt))) k
+reach_by as' x b line MeasureEnd m e k = reach_one as' x b MeasureEnd line (measure_ended b.blocks b.measured.touched) m e (measure_ended_fit b.blocks b.measured.touched) k
+reach_by as' x b line Ending m e k = reach_one as' x b Ending line (ended b.blocks) m e (ended_fit b.blocks b.blocks) k
 
 reach_all : (as' : List Around) (x : Block) (b : Behind) (ss : List Statement) → AllMean b ss → kinds as' ≡ b.blocks → Reaches as' x (pieces_from b ss) (behind_all b ss).blocks
 reach_all as' x b [] h k = reach_none as' x b.blocks k
 reach_all as' x b (s ∷ ss) h k =
-    let one = reach_by as' x b s.line s.form h.0.0 h.0.1 k in
+    let one = subst (λ r. Reaches as' x (pieces_by s.line r) (behind_by b s.form r).blocks) (sym (standing b s.form h.0.0 h.0.1))
+    (reach_by as' x b s.line s.form h.0.0 (standing_ok b s.form h.0.0 h.0.1) k) in
     let all = reach_all one.opens one.block (behind_one b s) ss h.1 one.around in
     record {
       opens = all.opens;
@@ -274,6 +313,6 @@ program_exists ss last clean =
     let mean = all_mean [] ss clean in
     let r = reach_all [] done start ss mean refl in
     let shut = none_open r.opens (r.around ∙ last_shuts start ss last mean) in (
-      record { program = r.block; variables = (behind_all start ss).variables; notices = notices_of ss },
-      record { program = sym (ap (λ os. wrote os r.block) shut) ∙ r.writes; variables = refl; notices = refl },
+      record { program = r.block; names = names_of (behind_all start ss); notices = notices_of ss },
+      record { program = sym (ap (λ os. wrote os r.block) shut) ∙ r.writes; names = refl; notices = refl },
     )

@@ -1,5 +1,5 @@
--- The counted statements of a text fit the table of its variables.
-use Rattle.std.proofs.Common.{◌≡◌, ℕ, zero, suc, Bool, true, false, List, [], ◌∷◌, ◌++◌, length, Option, Some, None, Result, Ok, Err, refl, sym, ap, ◌∙◌, subst, append_assoc, nat_lt}
+-- The counted statements of a text fit the tables of its names.
+use Rattle.std.proofs.Common.{◌≡◌, ℕ, zero, suc, ◌<◌, ◌≤◌, Bool, true, false, List, [], ◌∷◌, ◌++◌, length, Option, Some, None, Result, Ok, Err, refl, sym, ap, ◌∙◌, subst, append_assoc, nat_lt, ◌&&◌, arith}
 use Rattle.std.specs.Prelude.{slice_get, if◌then◌else◌, pos}
 use Rattle.std.proofs.lemmas.List.{append-nil}
 use Rattle.vcm_num.specs.declared.number.Kind.{Kind}
@@ -8,7 +8,15 @@ use Rattle.vcm_lines.specs.declared.fault.FaultCode.{FaultCode}
 use Rattle.vcm_lines.specs.declared.fault.FaultCode.TheVariants.{DuplicateName, TooManyNames}
 use Rattle.vcm_spec.specs.declared.expression.Operand.TheVariants.{Integer, Thousandths, Truth, Variable as Place}
 use Rattle.vcm_spec.specs.Expression.{Tree, Value, One, Two, kind_of, kind_after_one, kind_after_two, unary_kind, binary_kind}
-use Rattle.vcm_spec.specs.Simple.{Simple, Goto, Assign}
+use Rattle.vcm_spec.specs.Simple.{Simple, Goto, Assign, Feat, PtMeas, SnSet, Trans, Rotate, Recall, Obtain, Output}
+use Rattle.vcm_spec.specs.Words.{axis_number, quarters_number, word_number}
+use Rattle.vcm_spec.specs.declared.words.FrameAxis.{FrameAxis}
+use Rattle.vcm_spec.specs.declared.words.FrameAxis.TheVariants as axes
+use Rattle.vcm_spec.specs.declared.words.FeatureWord.{FeatureWord}
+use Rattle.vcm_spec.specs.declared.words.Quarters.{Quarters}
+use Rattle.vcm_spec.specs.declared.words.Setting.{Setting}
+use Rattle.vcm_spec.specs.declared.words.Source.{Source as Side}
+use Rattle.vcm_num.specs.declared.axis.Axis.{Axis}
 use Rattle.vcm_spec.specs.Program.{Label, is_same_label}
 use Rattle.vcm_spec.specs.Fitting.{kinds, Fits, HasKindIn}
 use Rattle.std.specs.List.{list_any}
@@ -18,14 +26,17 @@ use Rattle.vcm_expr.specs.Source.{Source}
 use Rattle.vcm_expr.specs.Typing.{typed_for, wanted_kind}
 use Rattle.vcm_expr.proofs.Runs.{kind_after_one-Some, kind_after_two-Some}
 use Rattle.vcm_expr.proofs.TypedKinds.{typed_for_fine}
+use Rattle.vcm_syntax.specs.declared.statement.Offset.{Offset}
+use Rattle.vcm_syntax.specs.declared.statement.Spot.{Spot}
 use Rattle.vcm_syntax.specs.declared.statement.Rounds.{Rounds}
 use Rattle.vcm_syntax.specs.declared.statement.Form.{Form}
-use Rattle.vcm_syntax.specs.declared.statement.Form.TheVariants.{Opening, Measures as Units, Ignored, Declaration, Assignment, Move, Home, Say, Test, Otherwise, TestEnd, Repeat, RepeatEnd, Mark, Leap, Ending}
+use Rattle.vcm_syntax.specs.declared.statement.Form.TheVariants.{Opening, Measures as Units, Ignored, Declaration, Assignment, Move, Home, Say, Test, Otherwise, TestEnd, Repeat, RepeatEnd, Mark, Leap, Feature, Measure, Touch, MeasureEnd, Configure, Shift, Rotation, Restore, Query, Report, Ending}
 use Rattle.vcm_syntax.specs.declared.statement.Statement.{Statement}
-use Rattle.vcm_tree.specs.Pieces.{Step, Piece, Marks, Tests, Repeats}
-use Rattle.vcm_tree.specs.Resolving.{Behind, Opened, InFirst, InSecond, InBody, Declares, then_ok, is_declared, with_one, with_all, want_of, assigned, assigned_by, assigned_to, moved, room, nested, tested, indexed, index_by, index_to, increment_of, repeated, divided, test_ended, repeat_ended, ended, marked, label_of, does, counts, resolved, behind_by, behind_one, behind_all, pieces_by, pieces_from}
-use Rattle.vcm_tree.specs.Program.{tables_of}
+use Rattle.vcm_tree.specs.Pieces.{Step, Piece, Does, Marks, Leaps, Tests, Divides, EndsTest, Repeats, EndsRepeat, Measures, EndsMeasure, Ends}
+use Rattle.vcm_tree.specs.Resolving.{Behind, Opened, InFirst, InSecond, InBody, InMeasure, Meaning, Silent, Declares, Counts, Measured, measured_after, outer, blocks_after, lengths, declared_at, touched_by, touched_in, measuring, Shifts, no_shifts, with_shift, shifts_of, real_to, real_by, real_named, unless_barred, is_measuring, is_barred, known, entered, with_name, declared, opened_measure, touched, measure_ended, configured, shifted, rotated, recalled, obtained, reported, stated, then_ok, is_declared, with_one, with_all, want_of, assigned, assigned_by, assigned_to, moved, room, nested, tested, indexed, index_by, index_to, increment_of, repeated, divided, test_ended, repeat_ended, ended, marked, label_of, does, counts, resolved, behind_by, behind_one, behind_all, start, pieces_by, pieces_from}
+use Rattle.vcm_tree.specs.Program.{Listed, names_of, tables_of}
 use Rattle.vcm_tree.proofs.Written.{StepFits, PiecesFit}
+use Rattle.vcm_tree.proofs.Titled.{known_below, entered_below, with_name_longer, measured_is}
 
 -- ---- the table grows
 
@@ -61,36 +72,106 @@ all_grown vs k (name ∷ names) ws e =
     twice_grown vs q.0 ws (one_grown vs k name q.0 q.1) (all_grown q.0 k names ws q.2)
 
 -- a statement that declares grows the table
-declares_grown : (vs : List Variable) (k : Kind) (names : List (List ℕ)) (r : Result (List Variable) FaultCode) → with_all vs k names ≡ r → (b : Behind) → b.variables ≡ vs
-    → Grown vs (behind_by b (then_ok r (λ ws. Ok (Declares ws)))).variables
-declares_grown vs k names (Ok ws) e b f = all_grown vs k names ws e
-declares_grown vs k names (Err c) e b f = rw f (same_grown vs)
+declares_grown : (vs : List Variable) (k : Kind) (names : List (List ℕ)) (r : Result (List Variable) FaultCode) → with_all vs k names ≡ r → (b : Behind) (form : Form) → b.variables ≡ vs
+    → Grown vs (behind_by b form (then_ok r (λ ws. Ok (Declares ws)))).variables
+declares_grown vs k names (Ok ws) e b form f = all_grown vs k names ws e
+declares_grown vs k names (Err c) e b form f = rw f (same_grown vs)
 
-counts_grown : (b : Behind) (r : Result Step FaultCode) → Grown b.variables (behind_by b (counts r)).variables
-counts_grown b (Ok s) = same_grown b.variables
-counts_grown b (Err e) = same_grown b.variables
+counts_grown : (b : Behind) (form : Form) (r : Result Step FaultCode) → Grown b.variables (behind_by b form (counts r)).variables
+counts_grown b form (Ok s) = same_grown b.variables
+counts_grown b form (Err e) = same_grown b.variables
 
-form_grown : (b : Behind) (form : Form) → Grown b.variables (behind_by b (resolved b form)).variables
-form_grown b Opening = same_grown b.variables
-form_grown b Units = same_grown b.variables
-form_grown b (Ignored w) = same_grown b.variables
-form_grown b (Declaration k names) = declares_grown b.variables k names (with_all b.variables k names) refl b refl
-form_grown b (Assignment n x) = counts_grown b (does (assigned b.variables n x))
-form_grown b (Move p) = counts_grown b (does (moved b.variables p.x p.y p.z))
-form_grown b Home = same_grown b.variables
-form_grown b (Say t) = same_grown b.variables
-form_grown b (Test x) = counts_grown b (nested b.blocks (tested b.variables x))
-form_grown b Otherwise = counts_grown b (divided b.blocks)
-form_grown b TestEnd = counts_grown b (test_ended b.blocks)
-form_grown b (Repeat r) = counts_grown b (nested b.blocks (repeated b.variables r))
-form_grown b RepeatEnd = counts_grown b (repeat_ended b.blocks)
-form_grown b (Mark l) = counts_grown b (marked b.labels (label_of l))
-form_grown b (Leap l) = same_grown b.variables
-form_grown b Ending = counts_grown b (ended b.blocks)
+stated_grown : (b : Behind) (form : Form) → Grown b.variables (behind_by b form (stated b form)).variables
+stated_grown b Opening = same_grown b.variables
+stated_grown b Units = same_grown b.variables
+stated_grown b (Ignored w) = same_grown b.variables
+stated_grown b (Declaration k names) = declares_grown b.variables k names (with_all b.variables k names) refl b (Declaration k names) refl
+stated_grown b (Assignment n x) = counts_grown b (Assignment n x) (does (assigned b.variables n x))
+stated_grown b (Move p) = counts_grown b (Move p) (does (moved b.variables p.x p.y p.z))
+stated_grown b Home = same_grown b.variables
+stated_grown b (Say t) = same_grown b.variables
+stated_grown b (Test x) = counts_grown b (Test x) (nested b.blocks (tested b.variables x))
+stated_grown b Otherwise = counts_grown b Otherwise (divided b.blocks)
+stated_grown b TestEnd = counts_grown b TestEnd (test_ended b.blocks)
+stated_grown b (Repeat r) = counts_grown b (Repeat r) (nested b.blocks (repeated b.variables r))
+stated_grown b RepeatEnd = counts_grown b RepeatEnd (repeat_ended b.blocks)
+stated_grown b (Mark l) = counts_grown b (Mark l) (marked b.labels (label_of l))
+stated_grown b (Leap l) = same_grown b.variables
+stated_grown b (Feature l p d) = counts_grown b (Feature l p d) (does (declared b.measured.features b.variables l p d))
+stated_grown b (Touch p given) = counts_grown b (Touch p given) (does (touched b.blocks b.measured.touched b.variables p given))
+stated_grown b (Configure which x) = counts_grown b (Configure which x) (does (configured b.variables which x))
+stated_grown b (Shift l os) = counts_grown b (Shift l os) (does (shifted b.measured.frames b.variables l os))
+stated_grown b (Rotation l axis n) = counts_grown b (Rotation l axis n) (does (rotated b.measured.frames l axis n))
+stated_grown b (Restore l) = counts_grown b (Restore l) (does (recalled b.measured.frames l))
+stated_grown b (Query v side l word) = counts_grown b (Query v side l word) (does (obtained b.measured.features b.variables v side l word))
+stated_grown b (Report side l) = counts_grown b (Report side l) (does (reported b.measured.features side l))
+stated_grown b (Measure l) = counts_grown b (Measure l) (nested b.blocks (opened_measure b.measured.features l))
+stated_grown b MeasureEnd = counts_grown b MeasureEnd (measure_ended b.blocks b.measured.touched)
+stated_grown b Ending = counts_grown b Ending (ended b.blocks)
+
+form_grown : (b : Behind) (form : Form) → Grown b.variables (behind_by b form (resolved b form)).variables
+form_grown b form = by (is_measuring b.blocks && is_barred form)
+  where
+    by : (t : Bool) → Grown b.variables (behind_by b form (unless_barred t (stated b form))).variables
+    by true = same_grown b.variables
+    by false = stated_grown b form
 
 all_statements_grown : (b : Behind) (ss : List Statement) → Grown b.variables (behind_all b ss).variables
 all_statements_grown b [] = same_grown b.variables
 all_statements_grown b (s ∷ ss) = twice_grown b.variables (behind_one b s).variables (behind_all (behind_one b s) ss).variables (form_grown b s.form) (all_statements_grown (behind_one b s) ss)
+
+-- ---- the names of features and frames grow
+
+-- as many features and frames, or more
+record AtLeast (old new : Measured) : Type 0 where
+  features : length old.features ≤ length new.features
+  frames : length old.frames ≤ length new.frames
+
+same_least : (ms : Measured) → AtLeast ms ms
+same_least ms = record { features = omega arith; frames = omega arith }
+
+twice_least : (a b c : Measured) → AtLeast a b → AtLeast b c → AtLeast a c
+twice_least a b c p q = record { features = (let f = p.features in let g = q.features in omega (arith, f, g)); frames = (let f = p.frames in let g = q.frames in omega (arith, f, g)) }
+
+after_least : (ms : Measured) (form : Form) → AtLeast ms (measured_after ms form)
+after_least ms (Feature l p d) = record { features = with_name_longer ms.features l; frames = omega arith }
+after_least ms (Shift l os) = record { features = omega arith; frames = with_name_longer ms.frames l }
+after_least ms (Rotation l axis n) = record { features = omega arith; frames = with_name_longer ms.frames l }
+after_least ms (Measure l) = record { features = omega arith; frames = omega arith }
+after_least ms (Touch p given) = record { features = omega arith; frames = omega arith }
+after_least ms _ = same_least ms
+
+one_least : (b : Behind) (s : Statement) → AtLeast (measured_after b.measured s.form) (behind_one b s).measured
+one_least b s = subst (λ ms. AtLeast (measured_after b.measured s.form) ms) (sym (measured_is b s.form (resolved b s.form))) (same_least (measured_after b.measured s.form))
+
+all_least : (b : Behind) (ss : List Statement) → AtLeast b.measured (behind_all b ss).measured
+all_least b [] = same_least b.measured
+all_least b (s ∷ ss) =
+    twice_least b.measured (behind_one b s).measured (behind_all (behind_one b s) ss).measured
+    (twice_least b.measured (measured_after b.measured s.form) (behind_one b s).measured (after_least b.measured s.form) (one_least b s)) (all_least (behind_one b s) ss)
+
+-- the features of MEAS blocks that are open stand below a number
+abbrev Within : ℕ → List Opened → Type 0
+Within n [] = Unit {0}
+Within n (InMeasure f ∷ bs) = (f < n) × Within n bs
+Within n (InFirst ∷ bs) = Within n bs
+Within n (InSecond ∷ bs) = Within n bs
+Within n (InBody ∷ bs) = Within n bs
+
+outer_within : (n : ℕ) (bs : List Opened) → Within n bs → Within n (outer bs)
+outer_within n [] h = tt
+outer_within n (InMeasure f ∷ bs) h = h.1
+outer_within n (InFirst ∷ bs) h = h
+outer_within n (InSecond ∷ bs) h = h
+outer_within n (InBody ∷ bs) h = h
+
+touched_below : (n : ℕ) (bs : List Opened) (t : Bool) (i : ℕ) → touched_in bs t ≡ Ok i → Within n bs → i < n
+touched_below n [] t i e h = absurd cc
+touched_below n (InMeasure f ∷ bs) true i e h = absurd cc
+touched_below n (InMeasure f ∷ bs) false i e h = (let same : f ≡ i = cc in subst (λ (k : ℕ). k < n) same h.0)
+touched_below n (InFirst ∷ bs) t i e h = absurd cc
+touched_below n (InSecond ∷ bs) t i e h = absurd cc
+touched_below n (InBody ∷ bs) t i e h = absurd cc
 
 -- ---- kinds in a table that grows
 
@@ -112,18 +193,18 @@ kind_grown ks more (Two op a b) k e =
     ap (λ o. kind_after_two (binary_kind op) o (kind_of (ks ++ more) b)) (kind_grown ks more a q.0 q.2)
     ∙ ap (kind_after_two (binary_kind op) (Some q.0)) (kind_grown ks more b q.1 q.3) ∙ q.4
 
-kinds_same : (vs : List Variable) → kinds (tables_of vs) ≡ kinds_of vs
-kinds_same [] = refl
-kinds_same (v ∷ vs) = ap (λ l. v.1 ∷ l) (kinds_same vs)
+kinds_same : (vs : List Variable) (fs ds : List (List ℕ)) → kinds (tables_of (record { variables = vs; features = fs; frames = ds })) ≡ kinds_of vs
+kinds_same [] fs ds = refl
+kinds_same (v ∷ vs) fs ds = ap (λ l. v.1 ∷ l) (kinds_same vs fs ds)
 
 kinds_push : (vs ws : List Variable) → kinds_of (vs ++ ws) ≡ kinds_of vs ++ kinds_of ws
 kinds_push [] ws = refl
 kinds_push (v ∷ vs) ws = ap (λ l. v.1 ∷ l) (kinds_push vs ws)
 
-kinds_grown : (vs ws : List Variable) → Grown vs ws → (more : List Kind) × (kinds (tables_of ws) ≡ kinds_of vs ++ more)
-kinds_grown vs ws g = (kinds_of g.0, kinds_same ws ∙ ap kinds_of g.1 ∙ kinds_push vs g.0)
+kinds_grown : (vs : List Variable) (ws : Listed) → Grown vs ws.variables → (more : List Kind) × (kinds (tables_of ws) ≡ kinds_of vs ++ more)
+kinds_grown vs ws g = (kinds_of g.0, kinds_same ws.variables ws.features ws.frames ∙ ap kinds_of g.1 ∙ kinds_push vs g.0)
 
-module _ (vs ws : List Variable) (g : Grown vs ws) where
+module _ (vs : List Variable) (ws : Listed) (g : Grown vs ws.variables) where
   -- an expression that has a kind behind the first variables has it in the table
   has_kind : (t : Tree) (k : Kind) → kind_of (kinds_of vs) t ≡ Some k → HasKindIn (tables_of ws) t k
   has_kind t k e = (let m = kinds_grown vs ws g in ap (λ ks. kind_of ks t) m.1 ∙ kind_grown (kinds_of vs) m.0 t k e)
@@ -161,6 +242,127 @@ module _ (vs ws : List Variable) (g : Grown vs ws) where
       let r = then_ok-Ok (typed_for vs wants.Length z) (λ c. Ok (Goto p.0 q.0 c)) what q.2 in
       let same : Goto p.0 q.0 r.0 ≡ what = cc in
       subst (Fits (HasKindIn (tables_of ws)) (tables_of ws)) same (length_fits x p.0 p.1, length_fits y q.0 q.1, length_fits z r.0 r.1)
+
+  -- three lengths
+  record AreLong (t : Tree × Tree × Tree) : Type 0 where
+    x : HasKindIn (tables_of ws) t.0 kind.Real
+    y : HasKindIn (tables_of ws) t.1 kind.Real
+    z : HasKindIn (tables_of ws) t.2 kind.Real
+
+  abbrev three : Tree → Tree → Tree → Result (Tree × Tree × Tree) FaultCode
+  three a b c = Ok (a, b, c)
+
+  lengths_fit : (p : Spot) (t : Tree × Tree × Tree) → lengths vs p ≡ Ok t → AreLong t
+  lengths_fit p t e =
+      let h = then_ok-Ok (typed_for vs wants.Length p.x) (λ a. then_ok (typed_for vs wants.Length p.y) (λ b. then_ok (typed_for vs wants.Length p.z) (λ c. three a b c))) t e in
+      let i = then_ok-Ok (typed_for vs wants.Length p.y) (λ b. then_ok (typed_for vs wants.Length p.z) (λ c. three h.0 b c)) t h.2 in
+      let j = then_ok-Ok (typed_for vs wants.Length p.z) (λ c. three h.0 i.0 c) t i.2 in
+      let same : (h.0, i.0, j.0) ≡ t = cc in
+      subst AreLong same (record { x = length_fits p.x h.0 h.1; y = length_fits p.y i.0 i.1; z = length_fits p.z j.0 j.1 })
+
+  abbrev FitsHere : Simple Tree → Type 0
+  FitsHere what = Fits (HasKindIn (tables_of ws)) (tables_of ws) what
+
+  abbrev done : Simple Tree → Result (Simple Tree) FaultCode
+  done what = Ok what
+
+  declared_fits : (fs : List (List ℕ)) (l : List ℕ) (p : Spot) (d : Axis) (what : Simple Tree) → length (with_name fs l) ≤ length ws.features
+      → declared fs vs l p d ≡ Ok what → FitsHere what
+  declared_fits fs l p d what few e =
+      let h = then_ok-Ok (entered fs l) (declared_at vs p d) what e in
+      let i = then_ok-Ok (lengths vs p) (λ t. done (Feat h.0 t.0 t.1 t.2 d)) what h.2 in
+      let long = lengths_fit p i.0 i.1 in
+      let low = entered_below fs l h.0 h.1 in
+      let same : Feat h.0 i.0.0 i.0.1 i.0.2 d ≡ what = cc in
+      subst FitsHere same (omega (arith, few, low), (long.x, long.y, long.z))
+
+  touched_fits : (bs : List Opened) (t : Bool) (p : Spot) (given : Option Axis) (what : Simple Tree) → Within (length ws.features) bs
+      → touched bs t vs p given ≡ Ok what → FitsHere what
+  touched_fits bs t p given what in_blocks e =
+      let h = then_ok-Ok (touched_in bs t) (λ i. then_ok (lengths vs p) (λ u. done (PtMeas i u.0 u.1 u.2 given))) what e in
+      let i = then_ok-Ok (lengths vs p) (λ u. done (PtMeas h.0 u.0 u.1 u.2 given)) what h.2 in
+      let long = lengths_fit p i.0 i.1 in
+      let same : PtMeas h.0 i.0.0 i.0.1 i.0.2 given ≡ what = cc in
+      subst FitsHere same (touched_below (length ws.features) bs t h.0 h.1 in_blocks, (long.x, long.y, long.z))
+
+  configured_fits : (which : Setting) (x : Source) (what : Simple Tree) → configured vs which x ≡ Ok what → FitsHere what
+  configured_fits which x what e =
+      let h = then_ok-Ok (typed_for vs wants.Length x) (λ t. done (SnSet which t)) what e in
+      let same : SnSet which h.0 ≡ what = cc in
+      subst FitsHere same (length_fits x h.0 h.1)
+
+  record AreShifts (s : Shifts) : Type 0 where
+    x : HasKindIn (tables_of ws) s.x kind.Real
+    y : HasKindIn (tables_of ws) s.y kind.Real
+    z : HasKindIn (tables_of ws) s.z kind.Real
+
+  one_shift : (s : Shifts) (axis : FrameAxis) (t : Tree) → AreShifts s → HasKindIn (tables_of ws) t kind.Real → AreShifts (with_shift s axis t)
+  one_shift s axes.X t h k = record { x = k; y = h.y; z = h.z }
+  one_shift s axes.Y t h k = record { x = h.x; y = k; z = h.z }
+  one_shift s axes.Z t h k = record { x = h.x; y = h.y; z = k }
+
+  abbrev all_shifts : Shifts → Result Shifts FaultCode
+  all_shifts s = Ok s
+
+  shifts_fit : (s r : Shifts) (os : List Offset) → AreShifts s → shifts_of vs s os ≡ Ok r → AreShifts r
+  shifts_fit s r [] h e = (let same : s ≡ r = cc in subst AreShifts same h)
+  shifts_fit s r (o ∷ os) h e =
+      let q = then_ok-Ok (typed_for vs wants.Length o.length) (λ t. shifts_of vs (with_shift s o.axis t) os) r e in
+      shifts_fit (with_shift s o.axis q.0) r os (one_shift s o.axis q.0 h (length_fits o.length q.0 q.1)) q.2
+
+  shifted_fits : (ds : List (List ℕ)) (l : List ℕ) (os : List Offset) (what : Simple Tree) → length (with_name ds l) ≤ length ws.frames
+      → shifted ds vs l os ≡ Ok what → FitsHere what
+  shifted_fits ds l os what few e =
+      let h = then_ok-Ok (entered ds l) (λ i. then_ok (shifts_of vs no_shifts os) (λ s. done (Trans i s.x s.y s.z))) what e in
+      let i = then_ok-Ok (shifts_of vs no_shifts os) (λ s. done (Trans h.0 s.x s.y s.z)) what h.2 in
+      let fit = shifts_fit no_shifts i.0 os (record { x = refl; y = refl; z = refl }) i.1 in
+      let low = entered_below ds l h.0 h.1 in
+      let same : Trans h.0 i.0.x i.0.y i.0.z ≡ what = cc in
+      subst FitsHere same (omega (arith, few, low), (fit.x, fit.y, fit.z))
+
+  rotated_fits : (ds : List (List ℕ)) (l : List ℕ) (axis : FrameAxis) (n : Quarters) (what : Simple Tree) → length (with_name ds l) ≤ length ws.frames
+      → rotated ds l axis n ≡ Ok what → FitsHere what
+  rotated_fits ds l axis n what few e =
+      let h = then_ok-Ok (entered ds l) (λ i. done (Rotate i (axis_number axis) (quarters_number n))) what e in
+      let low = entered_below ds l h.0 h.1 in
+      let same : Rotate h.0 (axis_number axis) (quarters_number n) ≡ what = cc in
+      subst FitsHere same (omega (arith, few, low))
+
+  recalled_fits : (ds : List (List ℕ)) (l : List ℕ) (what : Simple Tree) → length ds ≤ length ws.frames → recalled ds l ≡ Ok what → FitsHere what
+  recalled_fits ds l what few e =
+      let h = then_ok-Ok (known ds l) (λ i. done (Recall i)) what e in
+      let low = known_below ds l h.0 h.1 in
+      let same : Recall h.0 ≡ what = cc in
+      subst FitsHere same (omega (arith, few, low))
+
+  real_fits : (name : List ℕ) (i : ℕ) → real_named vs name ≡ Ok i → slice_get (kinds (tables_of ws)) i ≡ Some kind.Real
+  real_fits name i e = by (variable_of vs 0 name) e
+    where
+      at : (j : ℕ) (o : Option Kind) → slice_get (kinds_of vs) j ≡ o → real_to j o ≡ Ok i → slice_get (kinds (tables_of ws)) i ≡ Some kind.Real
+      at j None h f = absurd cc
+      at j (Some kind.Int) h f = absurd cc
+      at j (Some kind.Bool) h f = absurd cc
+      at j (Some kind.Real) h f = (let q : j ≡ i = cc in subst (λ (n : ℕ). slice_get (kinds (tables_of ws)) n ≡ Some kind.Real) q (has_place j kind.Real h))
+
+      by : (o : Option ℕ) → real_by vs o ≡ Ok i → slice_get (kinds (tables_of ws)) i ≡ Some kind.Real
+      by None f = absurd cc
+      by (Some j) f = at j (slice_get (kinds_of vs) j) refl f
+
+  obtained_fits : (fs : List (List ℕ)) (name : List ℕ) (side : Side) (l : List ℕ) (word : FeatureWord) (what : Simple Tree) → length fs ≤ length ws.features
+      → obtained fs vs name side l word ≡ Ok what → FitsHere what
+  obtained_fits fs name side l word what few e =
+      let h = then_ok-Ok (real_named vs name) (λ v. then_ok (known fs l) (λ i. done (Obtain v side i (word_number word)))) what e in
+      let i = then_ok-Ok (known fs l) (λ i. done (Obtain h.0 side i (word_number word))) what h.2 in
+      let low = known_below fs l i.0 i.1 in
+      let same : Obtain h.0 side i.0 (word_number word) ≡ what = cc in
+      subst FitsHere same (real_fits name h.0 h.1, omega (arith, few, low))
+
+  reported_fits : (fs : List (List ℕ)) (side : Side) (l : List ℕ) (what : Simple Tree) → length fs ≤ length ws.features → reported fs side l ≡ Ok what → FitsHere what
+  reported_fits fs side l what few e =
+      let h = then_ok-Ok (known fs l) (λ i. done (Output side i)) what e in
+      let low = known_below fs l h.0 h.1 in
+      let same : Output side h.0 ≡ what = cc in
+      subst FitsHere same (omega (arith, few, low))
 
   -- the outcome fits, if it is a statement
   abbrev Fitting : Result Step FaultCode → Type 0
@@ -226,6 +428,15 @@ module _ (vs ws : List Variable) (g : Grown vs ws) where
   repeat_ended_fit (InBody ∷ bs) = tt
   repeat_ended_fit (_ ∷ bs) = tt
 
+  measure_ended_fit : (bs : List Opened) (t : Bool) → Fitting (measure_ended bs t)
+  measure_ended_fit [] t = tt
+  measure_ended_fit (InMeasure f ∷ bs) true = tt
+  measure_ended_fit (InMeasure f ∷ bs) false = tt
+  measure_ended_fit (_ ∷ bs) t = tt
+
+  opened_measure_fit : (fs : List (List ℕ)) (l : List ℕ) → length fs ≤ length ws.features → Fitting (opened_measure fs l)
+  opened_measure_fit fs l few = then_fit (known fs l) (λ i. Ok (Measures i)) (λ i e. (let low = known_below fs l i e in omega (arith, few, low)))
+
   ended_fit : (bs : List Opened) → Fitting (ended bs)
   ended_fit [] = tt
   ended_fit (b ∷ bs) = tt
@@ -245,31 +456,88 @@ module _ (vs ws : List Variable) (g : Grown vs ws) where
   declares_fit line (Ok xs) = tt
   declares_fit line (Err e) = tt
 
-  form_fits : (b : Behind) → b.variables ≡ vs → (line : ℕ) (form : Form) → PiecesFit (tables_of ws) (pieces_by line (resolved b form))
-  form_fits b e line Opening = tt
-  form_fits b e line Units = tt
-  form_fits b e line (Ignored w) = tt
-  form_fits b e line (Declaration k names) = declares_fit line (with_all b.variables k names)
-  form_fits b e line (Assignment n x) = counts_fit line (does (assigned b.variables n x)) (rw e (does_fit (assigned vs n x) (assigned_fits n x)))
-  form_fits b e line (Move p) = counts_fit line (does (moved b.variables p.x p.y p.z)) (rw e (does_fit (moved vs p.x p.y p.z) (moved_fits p.x p.y p.z)))
-  form_fits b e line Home = (tt, tt)
-  form_fits b e line (Say t) = (tt, tt)
-  form_fits b e line (Test x) = counts_fit line (nested b.blocks (tested b.variables x)) (rw e (nested_fit b.blocks (tested vs x) (tested_fit x)))
-  form_fits b e line Otherwise = counts_fit line (divided b.blocks) (divided_fit b.blocks)
-  form_fits b e line TestEnd = counts_fit line (test_ended b.blocks) (test_ended_fit b.blocks)
-  form_fits b e line (Repeat r) = counts_fit line (nested b.blocks (repeated b.variables r)) (rw e (nested_fit b.blocks (repeated vs r) (repeated_fit r)))
-  form_fits b e line RepeatEnd = counts_fit line (repeat_ended b.blocks) (repeat_ended_fit b.blocks)
-  form_fits b e line (Mark l) = counts_fit line (marked b.labels (label_of l)) (marked_fit b.labels (label_of l))
-  form_fits b e line (Leap l) = (tt, tt)
-  form_fits b e line Ending = counts_fit line (ended b.blocks) (ended_fit b.blocks)
+  stated_fits : (b : Behind) → b.variables ≡ vs → (line : ℕ) (form : Form) → Within (length ws.features) b.blocks → length (measured_after b.measured form).features ≤ length ws.features
+      → length (measured_after b.measured form).frames ≤ length ws.frames → PiecesFit (tables_of ws) (pieces_by line (stated b form))
+  stated_fits b e line Opening bs fs ds = tt
+  stated_fits b e line Units bs fs ds = tt
+  stated_fits b e line (Ignored w) bs fs ds = tt
+  stated_fits b e line (Declaration k names) bs fs ds = declares_fit line (with_all b.variables k names)
+  stated_fits b e line (Assignment n x) bs fs ds = counts_fit line (does (assigned b.variables n x)) (rw e (does_fit (assigned vs n x) (assigned_fits n x)))
+  stated_fits b e line (Move p) bs fs ds = counts_fit line (does (moved b.variables p.x p.y p.z)) (rw e (does_fit (moved vs p.x p.y p.z) (moved_fits p.x p.y p.z)))
+  stated_fits b e line Home bs fs ds = (tt, tt)
+  stated_fits b e line (Say t) bs fs ds = (tt, tt)
+  stated_fits b e line (Test x) bs fs ds = counts_fit line (nested b.blocks (tested b.variables x)) (rw e (nested_fit b.blocks (tested vs x) (tested_fit x)))
+  stated_fits b e line Otherwise bs fs ds = counts_fit line (divided b.blocks) (divided_fit b.blocks)
+  stated_fits b e line TestEnd bs fs ds = counts_fit line (test_ended b.blocks) (test_ended_fit b.blocks)
+  stated_fits b e line (Repeat r) bs fs ds = counts_fit line (nested b.blocks (repeated b.variables r)) (rw e (nested_fit b.blocks (repeated vs r) (repeated_fit r)))
+  stated_fits b e line RepeatEnd bs fs ds = counts_fit line (repeat_ended b.blocks) (repeat_ended_fit b.blocks)
+  stated_fits b e line (Mark l) bs fs ds = counts_fit line (marked b.labels (label_of l)) (marked_fit b.labels (label_of l))
+  stated_fits b e line (Leap l) bs fs ds = (tt, tt)
+  stated_fits b e line (Feature l p d) bs fs ds =
+      counts_fit line (does (declared b.measured.features b.variables l p d)) (rw e (does_fit (declared b.measured.features vs l p d) (λ what. declared_fits b.measured.features l p d what fs)))
+  stated_fits b e line (Measure l) bs fs ds =
+      counts_fit line (nested b.blocks (opened_measure b.measured.features l)) (nested_fit b.blocks (opened_measure b.measured.features l) (opened_measure_fit b.measured.features l fs))
+  stated_fits b e line (Touch p given) bs fs ds =
+      counts_fit line (does (touched b.blocks b.measured.touched b.variables p given))
+      (rw e (does_fit (touched b.blocks b.measured.touched vs p given) (λ what. touched_fits b.blocks b.measured.touched p given what bs)))
+  stated_fits b e line MeasureEnd bs fs ds = counts_fit line (measure_ended b.blocks b.measured.touched) (measure_ended_fit b.blocks b.measured.touched)
+  stated_fits b e line (Configure which x) bs fs ds = counts_fit line (does (configured b.variables which x)) (rw e (does_fit (configured vs which x) (configured_fits which x)))
+  stated_fits b e line (Shift l os) bs fs ds =
+      counts_fit line (does (shifted b.measured.frames b.variables l os)) (rw e (does_fit (shifted b.measured.frames vs l os) (λ what. shifted_fits b.measured.frames l os what ds)))
+  stated_fits b e line (Rotation l axis n) bs fs ds =
+      counts_fit line (does (rotated b.measured.frames l axis n)) (does_fit (rotated b.measured.frames l axis n) (λ what. rotated_fits b.measured.frames l axis n what ds))
+  stated_fits b e line (Restore l) bs fs ds =
+      counts_fit line (does (recalled b.measured.frames l)) (does_fit (recalled b.measured.frames l) (λ what. recalled_fits b.measured.frames l what ds))
+  stated_fits b e line (Query v side l word) bs fs ds =
+      counts_fit line (does (obtained b.measured.features b.variables v side l word))
+      (rw e (does_fit (obtained b.measured.features vs v side l word) (λ what. obtained_fits b.measured.features v side l word what fs)))
+  stated_fits b e line (Report side l) bs fs ds =
+      counts_fit line (does (reported b.measured.features side l)) (does_fit (reported b.measured.features side l) (λ what. reported_fits b.measured.features side l what fs))
+  stated_fits b e line Ending bs fs ds = counts_fit line (ended b.blocks) (ended_fit b.blocks)
 
-both_fit : (ws : List Variable) (ps qs : List Piece) → PiecesFit (tables_of ws) ps → PiecesFit (tables_of ws) qs → PiecesFit (tables_of ws) (ps ++ qs)
+  form_fits : (b : Behind) → b.variables ≡ vs → (line : ℕ) (form : Form) → Within (length ws.features) b.blocks → length (measured_after b.measured form).features ≤ length ws.features
+      → length (measured_after b.measured form).frames ≤ length ws.frames → PiecesFit (tables_of ws) (pieces_by line (resolved b form))
+  form_fits b e line form bs fs ds = by (is_measuring b.blocks && is_barred form)
+    where
+      by : (t : Bool) → PiecesFit (tables_of ws) (pieces_by line (unless_barred t (stated b form)))
+      by true = tt
+      by false = stated_fits b e line form bs fs ds
+
+both_fit : (ws : Listed) (ps qs : List Piece) → PiecesFit (tables_of ws) ps → PiecesFit (tables_of ws) qs → PiecesFit (tables_of ws) (ps ++ qs)
 both_fit ws [] qs f g = g
 both_fit ws (p ∷ ps) qs f g = (f.0, both_fit ws ps qs f.1 g)
 
-pub fit_all : (b : Behind) (ss : List Statement) → PiecesFit (tables_of (behind_all b ss).variables) (pieces_from b ss)
-fit_all b [] = tt
-fit_all b (s ∷ ss) =
-    both_fit (behind_all (behind_one b s) ss).variables (pieces_by s.line (resolved b s.form)) (pieces_from (behind_one b s) ss)
-    (form_fits b.variables (behind_all (behind_one b s) ss).variables (all_statements_grown b (s ∷ ss)) b refl s.line s.form)
-    (fit_all (behind_one b s) ss)
+-- a statement that fits opens a MEAS block of a feature of the tables
+step_within : (ws : Listed) (bs : List Opened) (s : Step) → StepFits (tables_of ws) s → Within (length ws.features) bs → Within (length ws.features) (blocks_after bs s)
+step_within ws bs (Does what) f h = h
+step_within ws bs (Marks l) f h = h
+step_within ws bs (Leaps l) f h = h
+step_within ws bs (Tests t) f h = h
+step_within ws bs Divides f h = outer_within (length ws.features) bs h
+step_within ws bs EndsTest f h = outer_within (length ws.features) bs h
+step_within ws bs (Repeats v a b c) f h = h
+step_within ws bs EndsRepeat f h = outer_within (length ws.features) bs h
+step_within ws bs (Measures i) f h = (f, h)
+step_within ws bs EndsMeasure f h = outer_within (length ws.features) bs h
+step_within ws bs Ends f h = h
+
+within_next : (ws : Listed) (b : Behind) (form : Form) (line : ℕ) (r : Result Meaning FaultCode) → PiecesFit (tables_of ws) (pieces_by line r) → Within (length ws.features) b.blocks
+    → Within (length ws.features) (behind_by b form r).blocks
+within_next ws b form line (Ok Silent) f h = h
+within_next ws b form line (Ok (Declares vs)) f h = h
+within_next ws b form line (Ok (Counts s)) f h = step_within ws b.blocks s f.0 h
+within_next ws b form line (Err e) f h = h
+
+fit_in : (ws : Listed) (b : Behind) (ss : List Statement) → names_of (behind_all b ss) ≡ ws → Within (length ws.features) b.blocks → PiecesFit (tables_of ws) (pieces_from b ss)
+fit_in ws b [] e h = tt
+fit_in ws b (s ∷ ss) e h =
+    let grown = subst (λ (n : Listed). Grown b.variables n.variables) e (all_statements_grown b (s ∷ ss)) in
+    let next = behind_one b s in
+    let least = twice_least (measured_after b.measured s.form) next.measured (behind_all next ss).measured (one_least b s) (all_least next ss) in
+    let fs = subst (λ (n : Listed). length (measured_after b.measured s.form).features ≤ length n.features) e least.features in
+    let ds = subst (λ (n : Listed). length (measured_after b.measured s.form).frames ≤ length n.frames) e least.frames in
+    let here = form_fits b.variables ws grown b refl s.line s.form h fs ds in
+    both_fit ws (pieces_by s.line (resolved b s.form)) (pieces_from next ss) here (fit_in ws next ss e (within_next ws b s.form s.line (resolved b s.form) here h))
+
+pub fit_all : (ss : List Statement) → PiecesFit (tables_of (names_of (behind_all start ss))) (pieces_from start ss)
+fit_all ss = fit_in (names_of (behind_all start ss)) start ss refl tt

@@ -22,3 +22,5 @@ pub mod AcceptanceLaws
 pub mod Existing
 pub mod Reaching
 pub mod Tabling
+pub mod Standing
+pub mod Titled

@@ -1,5 +1,5 @@
 -- The variables that statements declare have the names of variables.
-use Rattle.std.proofs.Common.{◌≡◌, ℕ, Bool, true, false, List, [], ◌∷◌, ◌++◌, length, Result, Ok, Err, refl, sym, subst, nat_lt}
+use Rattle.std.proofs.Common.{◌≡◌, ℕ, Bool, true, false, ◌&&◌, List, [], ◌∷◌, ◌++◌, length, Result, Ok, Err, refl, sym, subst, nat_lt}
 use Rattle.std.specs.Prelude.{if◌then◌else◌}
 use Rattle.std.specs.List.{AllByRecursion}
 use Rattle.vcm_num.specs.declared.number.Kind.{Kind}
@@ -13,15 +13,15 @@ use Rattle.vcm_expr.proofs.NameLemmas.{one_more_named}
 use Rattle.vcm_syntax.specs.declared.statement.Major.{Major}
 use Rattle.vcm_syntax.specs.declared.statement.Major.TheVariants as major
 use Rattle.vcm_syntax.specs.declared.statement.Form.{Form}
-use Rattle.vcm_syntax.specs.declared.statement.Form.TheVariants.{Opening, Measures as Units, Ignored, Declaration, Assignment, Move, Home, Say, Test, Otherwise, TestEnd, Repeat, RepeatEnd, Mark, Leap, Ending}
+use Rattle.vcm_syntax.specs.declared.statement.Form.TheVariants.{Opening, Measures as Units, Ignored, Declaration, Assignment, Move, Home, Say, Test, Otherwise, TestEnd, Repeat, RepeatEnd, Mark, Leap, Feature, Measure, Touch, MeasureEnd, Configure, Shift, Rotation, Restore, Query, Report, Ending}
 use Rattle.vcm_syntax.specs.declared.statement.Statement.{Statement}
 use Rattle.vcm_syntax.specs.Places.{IsVariable, AreVariables, unscoped}
 use Rattle.vcm_syntax.specs.Forms.{IsDeclaration, IsForm}
 use Rattle.vcm_syntax.specs.Statements.{SpellsBy}
 use Rattle.vcm_tree.specs.Statements.{AreSpelled}
 use Rattle.vcm_tree.specs.Pieces.{Step}
-use Rattle.vcm_tree.specs.Resolving.{Behind, Declares, then_ok, is_declared, with_one, with_all, assigned, moved, nested, tested, repeated, divided, test_ended, repeat_ended, ended, marked, label_of, does, counts, resolved, behind_by, behind_one, behind_all}
-use Rattle.vcm_tree.specs.Program.{HaveVariableNames, tables_of}
+use Rattle.vcm_tree.specs.Resolving.{Behind, Declares, then_ok, is_declared, with_one, with_all, assigned, moved, nested, tested, repeated, divided, test_ended, repeat_ended, ended, marked, label_of, declared, opened_measure, touched, measure_ended, configured, shifted, rotated, recalled, obtained, reported, does, counts, stated, unless_barred, is_measuring, is_barred, resolved, behind_by, behind_one, behind_all}
+use Rattle.vcm_tree.specs.Program.{listed, HaveVariableNames, tables_of}
 use Rattle.vcm_tree.proofs.Fitted.{then_ok-Ok}
 
 -- ---- words that declare
@@ -71,6 +71,17 @@ form_lettered major.Endif front fs k names h = absurd h
 form_lettered major.Do front fs k names h = absurd h
 form_lettered major.Enddo front fs k names h = absurd h
 form_lettered major.Label front fs k names h = absurd h
+form_lettered major.Feat front fs k names h = absurd h
+form_lettered major.Meas front fs k names h = absurd h
+form_lettered major.Ptmeas front fs k names h = absurd h
+form_lettered major.Endmes front fs k names h = absurd h
+form_lettered major.Snset front fs k names h = absurd h
+form_lettered major.Trans front [] k names h = absurd h
+form_lettered major.Trans front (f ∷ fs) k names h = absurd h
+form_lettered major.Rotate front fs k names h = absurd h
+form_lettered major.Recall front fs k names h = absurd h
+form_lettered major.Obtain front fs k names h = absurd h
+form_lettered major.Output front fs k names h = absurd h
 form_lettered major.Jumpto front [] k names h = absurd h
 form_lettered major.Jumpto front (f ∷ fs) k names h = absurd h
 form_lettered (major.Passed n) front [] k names h = absurd h
@@ -108,32 +119,49 @@ all_named vs k (name ∷ names) ws e h n =
     let q = then_ok-Ok (with_one vs k name) (λ xs. with_all xs k names) ws e in
     all_named q.0 k names ws q.2 (one_named vs k name q.0 q.1 h n.0) n.1
 
-declares_named : (b : Behind) (k : Kind) (names : List (List ℕ)) (r : Result (List Variable) FaultCode) → with_all b.variables k names ≡ r → AreNamed b.variables → Letters names
-    → AreNamed (behind_by b (then_ok r (λ ws. Ok (Declares ws)))).variables
-declares_named b k names (Ok ws) e h n = all_named b.variables k names ws e h n
-declares_named b k names (Err c) e h n = h
+declares_named : (b : Behind) (form : Form) (k : Kind) (names : List (List ℕ)) (r : Result (List Variable) FaultCode) → with_all b.variables k names ≡ r → AreNamed b.variables → Letters names
+    → AreNamed (behind_by b form (then_ok r (λ ws. Ok (Declares ws)))).variables
+declares_named b form k names (Ok ws) e h n = all_named b.variables k names ws e h n
+declares_named b form k names (Err c) e h n = h
 
-counts_named : (b : Behind) (r : Result Step FaultCode) → AreNamed b.variables → AreNamed (behind_by b (counts r)).variables
-counts_named b (Ok s) h = h
-counts_named b (Err e) h = h
+counts_named : (b : Behind) (form : Form) (r : Result Step FaultCode) → AreNamed b.variables → AreNamed (behind_by b form (counts r)).variables
+counts_named b form (Ok s) h = h
+counts_named b form (Err e) h = h
 
-form_named : (b : Behind) (form : Form) → AreNamed b.variables → DeclaresLettered form → AreNamed (behind_by b (resolved b form)).variables
-form_named b Opening h n = h
-form_named b Units h n = h
-form_named b (Ignored w) h n = h
-form_named b (Declaration k names) h n = declares_named b k names (with_all b.variables k names) refl h n
-form_named b (Assignment x e) h n = counts_named b (does (assigned b.variables x e)) h
-form_named b (Move p) h n = counts_named b (does (moved b.variables p.x p.y p.z)) h
-form_named b Home h n = h
-form_named b (Say t) h n = h
-form_named b (Test e) h n = counts_named b (nested b.blocks (tested b.variables e)) h
-form_named b Otherwise h n = counts_named b (divided b.blocks) h
-form_named b TestEnd h n = counts_named b (test_ended b.blocks) h
-form_named b (Repeat r) h n = counts_named b (nested b.blocks (repeated b.variables r)) h
-form_named b RepeatEnd h n = counts_named b (repeat_ended b.blocks) h
-form_named b (Mark l) h n = counts_named b (marked b.labels (label_of l)) h
-form_named b (Leap l) h n = h
-form_named b Ending h n = counts_named b (ended b.blocks) h
+stated_named : (b : Behind) (form : Form) → AreNamed b.variables → DeclaresLettered form → AreNamed (behind_by b form (stated b form)).variables
+stated_named b Opening h n = h
+stated_named b Units h n = h
+stated_named b (Ignored w) h n = h
+stated_named b (Declaration k names) h n = declares_named b (Declaration k names) k names (with_all b.variables k names) refl h n
+stated_named b (Assignment x e) h n = counts_named b (Assignment x e) (does (assigned b.variables x e)) h
+stated_named b (Move p) h n = counts_named b (Move p) (does (moved b.variables p.x p.y p.z)) h
+stated_named b Home h n = h
+stated_named b (Say t) h n = h
+stated_named b (Test e) h n = counts_named b (Test e) (nested b.blocks (tested b.variables e)) h
+stated_named b Otherwise h n = counts_named b Otherwise (divided b.blocks) h
+stated_named b TestEnd h n = counts_named b TestEnd (test_ended b.blocks) h
+stated_named b (Repeat r) h n = counts_named b (Repeat r) (nested b.blocks (repeated b.variables r)) h
+stated_named b RepeatEnd h n = counts_named b RepeatEnd (repeat_ended b.blocks) h
+stated_named b (Mark l) h n = counts_named b (Mark l) (marked b.labels (label_of l)) h
+stated_named b (Leap l) h n = h
+stated_named b (Feature l p d) h n = counts_named b (Feature l p d) (does (declared b.measured.features b.variables l p d)) h
+stated_named b (Touch p given) h n = counts_named b (Touch p given) (does (touched b.blocks b.measured.touched b.variables p given)) h
+stated_named b (Configure which x) h n = counts_named b (Configure which x) (does (configured b.variables which x)) h
+stated_named b (Shift l os) h n = counts_named b (Shift l os) (does (shifted b.measured.frames b.variables l os)) h
+stated_named b (Rotation l axis q) h n = counts_named b (Rotation l axis q) (does (rotated b.measured.frames l axis q)) h
+stated_named b (Restore l) h n = counts_named b (Restore l) (does (recalled b.measured.frames l)) h
+stated_named b (Query v side l word) h n = counts_named b (Query v side l word) (does (obtained b.measured.features b.variables v side l word)) h
+stated_named b (Report side l) h n = counts_named b (Report side l) (does (reported b.measured.features side l)) h
+stated_named b (Measure l) h n = counts_named b (Measure l) (nested b.blocks (opened_measure b.measured.features l)) h
+stated_named b MeasureEnd h n = counts_named b MeasureEnd (measure_ended b.blocks b.measured.touched) h
+stated_named b Ending h n = counts_named b Ending (ended b.blocks) h
+
+form_named : (b : Behind) (form : Form) → AreNamed b.variables → DeclaresLettered form → AreNamed (behind_by b form (resolved b form)).variables
+form_named b form h n = by (is_measuring b.blocks && is_barred form)
+  where
+    by : (t : Bool) → AreNamed (behind_by b form (unless_barred t (stated b form))).variables
+    by true = h
+    by false = stated_named b form h n
 
 -- the variables behind statements that lines spell have the names of variables, where those before them have
 pub spelled_named : (b : Behind) (ls : List Logical) (ss : List Statement) → AreSpelled ls ss → AreNamed b.variables → AreNamed (behind_all b ss).variables
@@ -144,6 +172,6 @@ spelled_named b (l ∷ ls) (s ∷ ss) e h =
     spelled_named (behind_one b s) ls ss e.1 (form_named b s.form h (lettered_by _ _ _ s.form e.0.form))
 
 -- tables keep the names
-pub tables_named : (vs : List Variable) → AreNamed vs → HaveVariableNames (tables_of vs)
-tables_named [] h = tt
-tables_named (v ∷ vs) h = (h.0, tables_named vs h.1)
+pub tables_named : (vs : List Variable) (fs ds : List (List ℕ)) → AreNamed vs → HaveVariableNames (tables_of (listed vs fs ds))
+tables_named [] fs ds h = tt
+tables_named (v ∷ vs) fs ds h = (h.0, tables_named vs fs ds h.1)

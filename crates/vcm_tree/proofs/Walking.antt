@@ -1,5 +1,5 @@
 -- The walk over the statements whose names are looked up, one more at a time.
-use Rattle.std.proofs.Common.{◌≡◌, ℕ, zero, suc, ◌+◌, ◌≤◌, ◌<◌, true, List, [], ◌∷◌, ◌++◌, length, take, drop, Some, Result, Ok, Err, refl, sym, ap, ◌∙◌, subst, append_assoc, inl, inr, arith}
+use Rattle.std.proofs.Common.{◌≡◌, ℕ, zero, suc, ◌+◌, ◌≤◌, ◌<◌, Bool, true, false, List, [], ◌∷◌, ◌++◌, length, take, drop, Some, Result, Ok, Err, refl, sym, ap, ◌∙◌, subst, append_assoc, inl, inr, arith}
 use Rattle.std.specs.Prelude.{IsTrue, slice_get}
 use Rattle.std.proofs.lemmas.List.{append-nil, take_all}
 use Rattle.vcm_lines.specs.declared.fault.FaultCode.{FaultCode}
@@ -10,18 +10,19 @@ use Rattle.vcm_spec.specs.Phase.{IsClean, IsCleanBelow, FirstFault}
 use Rattle.vcm_spec.specs.Program.{done}
 use Rattle.vcm_spec.proofs.PhaseLemmas.{place_at, clean_none, clean_more, clean_done, fault_at}
 use Rattle.vcm_syntax.specs.declared.statement.Form.{Form}
-use Rattle.vcm_syntax.specs.declared.statement.Form.TheVariants.{Opening, Measures, Ignored, Declaration, Assignment, Move, Home, Say, Test, Otherwise, TestEnd, Repeat, RepeatEnd, Mark, Leap, Ending}
+use Rattle.vcm_syntax.specs.declared.statement.Form.TheVariants.{Opening, Measures, Ignored, Declaration, Assignment, Move, Home, Say, Test, Otherwise, TestEnd, Repeat, RepeatEnd, Mark, Leap, Feature, Measure, Touch, MeasureEnd, Configure, Shift, Rotation, Restore, Query, Report, Ending}
 use Rattle.vcm_syntax.specs.declared.statement.Statement.{Statement}
 use Rattle.vcm_tree.specs.declared.program.Noticed.{Noticed}
 use Rattle.vcm_tree.specs.declared.builder.Open.{Open}
 use Rattle.vcm_tree.specs.declared.resolving.Progress.{Progress}
 use Rattle.vcm_tree.specs.Order.{is_ending, is_ended}
 use Rattle.vcm_tree.specs.Pieces.{pieces}
-use Rattle.vcm_tree.specs.Resolving.{Behind, behind, Opened, Meaning, counts, ended, resolved, behind_by, behind_one, behind_all, start, pieces_by, pieces_from, BreaksNames, names_line, ToldAt}
-use Rattle.vcm_tree.specs.Program.{IsParsed, notice_of, notices_of}
+use Rattle.vcm_tree.specs.Resolving.{Behind, behind, measured, Opened, Meaning, counts, ended, stated, resolved, behind_by, behind_one, behind_all, start, pieces_by, pieces_from, BreaksNames, names_line, ToldAt}
+use Rattle.vcm_tree.specs.Program.{IsParsed, names_of, listed, notice_of, notices_of}
 use Rattle.vcm_tree.specs.Building.{blocks_of, opens_pieces, written}
-use Rattle.vcm_tree.specs.Taking.{behind_of, Takes}
+use Rattle.vcm_tree.specs.Taking.{measured_of, behind_of, Takes}
 use Rattle.vcm_tree.proofs.Builders.{blocks_length}
+use Rattle.vcm_tree.proofs.Standing.{standing, standing_ok}
 
 pub behind_push : (b : Behind) (ss : List Statement) (s : Statement) → behind_all b (ss ++ s ∷ []) ≡ behind_one (behind_all b ss) s
 behind_push b [] s = refl
@@ -41,10 +42,14 @@ pub record IsWalked (all : List Statement) (p : Progress) (notices : List Notice
   pub writes : pieces_from start all ≡ written p.builder ++ pieces_from (behind_of p) rest
   pub noticed : notices_of all ≡ notices ++ notices_of rest
 
-pub walk_begins : (all : List Statement) (p : Progress) → p.names ≡ [] → p.labels ≡ [] → p.builder.opens.items ≡ [] → p.builder.block ≡ done → IsWalked all p [] all
-walk_begins all p names labels opens block =
+pub walk_begins : (all : List Statement) (p : Progress) → p.names ≡ [] → p.features ≡ [] → p.frames ≡ [] → p.touched ≡ false → p.labels ≡ []
+    → p.builder.opens.items ≡ [] → p.builder.block ≡ done → IsWalked all p [] all
+walk_begins all p names features frames touched labels opens block =
+    let unmeasured : measured_of p ≡ measured [] [] false =
+    ap (λ fs. measured fs p.frames p.touched) features ∙ ap (λ ds. measured [] ds p.touched) frames ∙ ap (measured [] []) touched in
     let nothing : behind_of p ≡ start =
-    ap (λ vs. behind vs (blocks_of p.builder.opens.items) p.labels) names ∙ ap (λ os. behind [] (blocks_of os) p.labels) opens ∙ ap (behind [] []) labels in
+    ap (λ vs. behind vs (blocks_of p.builder.opens.items) p.labels (measured_of p)) names ∙ ap (λ os. behind [] (blocks_of os) p.labels (measured_of p)) opens
+    ∙ ap (λ ls. behind [] [] ls (measured_of p)) labels ∙ ap (behind [] [] []) unmeasured in
     let unwritten : written p.builder ≡ [] = ap (λ os. opens_pieces os ++ pieces p.builder.block) opens ∙ ap pieces block in
     record {
       place = 0;
@@ -65,7 +70,7 @@ unbroken b c s m code same is broken = (let both : means m ≡ Err code = sym is
 one_more : (s : Statement) (old new : Progress) (rest : List Statement) → Takes s old new
     → written old.builder ++ pieces_from (behind_of old) (s ∷ rest) ≡ written new.builder ++ pieces_from (behind_of new) rest
 one_more s old new rest t =
-    ap (λ r. written old.builder ++ (pieces_by s.line r ++ pieces_from (behind_by (behind_of old) r) rest)) t.is
+    ap (λ r. written old.builder ++ (pieces_by s.line r ++ pieces_from (behind_by (behind_of old) s.form r) rest)) t.is
     ∙ ap (λ b. written old.builder ++ (pieces_by s.line (Ok t.meaning) ++ pieces_from b rest)) (sym t.after)
     ∙ sym (append_assoc (written old.builder) (pieces_by s.line (Ok t.meaning)) (pieces_from (behind_of new) rest))
     ∙ ap (λ l. l ++ pieces_from (behind_of new) rest) (sym t.pieces)
@@ -79,7 +84,7 @@ walk_goes all old new notices s rest w t =
       left = p.3;
       clean = clean_more BreaksNames all w.place w.clean (λ code b. unbroken (behind_of old) (behind_all start (take w.place all)) s t.meaning code w.behind t.is (rw p.1 at b));
       behind =
-          t.after ∙ ap (behind_by (behind_of old)) (sym t.is) ∙ ap (λ b. behind_one b s) w.behind ∙ sym (behind_push start (take w.place all) s)
+          t.after ∙ ap (behind_by (behind_of old) s.form) (sym t.is) ∙ ap (λ b. behind_one b s) w.behind ∙ sym (behind_push start (take w.place all) s)
           ∙ ap (behind_all start) (sym p.2);
       writes = w.writes ∙ one_more s old new rest t;
       noticed = w.noticed ∙ sym (append_assoc notices (notice_of s) (notices_of rest));
@@ -125,15 +130,15 @@ all_mean before (s ∷ ss) clean =
 
 -- ---- no block is open behind ENDFIL
 
-shut : (b : Behind) (m : Meaning) → counts (ended b.blocks) ≡ Ok m → (behind_by b (counts (ended b.blocks))).blocks ≡ []
-shut b m e = by b.blocks refl
+shut : (b : Behind) (form : Form) (m : Meaning) → counts (ended b.blocks) ≡ Ok m → (behind_by b form (counts (ended b.blocks))).blocks ≡ []
+shut b form m e = by b.blocks refl
   where
-    by : (bs : List Opened) → b.blocks ≡ bs → (behind_by b (counts (ended b.blocks))).blocks ≡ []
-    by [] f = ap (λ l. (behind_by b (counts (ended l))).blocks) f ∙ f
+    by : (bs : List Opened) → b.blocks ≡ bs → (behind_by b form (counts (ended b.blocks))).blocks ≡ []
+    by [] f = ap (λ l. (behind_by b form (counts (ended l))).blocks) f ∙ f
     by (o ∷ bs) f = (let both : means m ≡ Err Unbalanced = sym e ∙ ap (λ l. counts (ended l)) f in absurd cc)
 
-ending_shuts : (b : Behind) (line : ℕ) (form : Form) (m : Meaning) → is_ending (record { line = line; form = form }) ≡ true → resolved b form ≡ Ok m
-    → (behind_by b (resolved b form)).blocks ≡ []
+ending_shuts : (b : Behind) (line : ℕ) (form : Form) (m : Meaning) → is_ending (record { line = line; form = form }) ≡ true → stated b form ≡ Ok m
+    → (behind_by b form (stated b form)).blocks ≡ []
 ending_shuts b line Opening m e h = absurd cc
 ending_shuts b line Measures m e h = absurd cc
 ending_shuts b line (Ignored w) m e h = absurd cc
@@ -149,11 +154,22 @@ ending_shuts b line (Repeat r) m e h = absurd cc
 ending_shuts b line RepeatEnd m e h = absurd cc
 ending_shuts b line (Mark l) m e h = absurd cc
 ending_shuts b line (Leap l) m e h = absurd cc
-ending_shuts b line Ending m e h = shut b m h
+ending_shuts b line (Feature l p d) m e h = absurd cc
+ending_shuts b line (Measure l) m e h = absurd cc
+ending_shuts b line (Touch p given) m e h = absurd cc
+ending_shuts b line MeasureEnd m e h = absurd cc
+ending_shuts b line (Configure which x) m e h = absurd cc
+ending_shuts b line (Shift l os) m e h = absurd cc
+ending_shuts b line (Rotation l axis n) m e h = absurd cc
+ending_shuts b line (Restore l) m e h = absurd cc
+ending_shuts b line (Query v side l word) m e h = absurd cc
+ending_shuts b line (Report side l) m e h = absurd cc
+ending_shuts b line Ending m e h = shut b Ending m h
 
 pub last_shuts : (b : Behind) (ss : List Statement) → is_ended ss ≡ true → AllMean b ss → (behind_all b ss).blocks ≡ []
 last_shuts b [] e h = absurd cc
-last_shuts b (s ∷ []) e h = ending_shuts b s.line s.form h.0.0 e h.0.1
+last_shuts b (s ∷ []) e h =
+    ap (λ r. (behind_by b s.form r).blocks) (standing b s.form h.0.0 h.0.1) ∙ ending_shuts b s.line s.form h.0.0 e (standing_ok b s.form h.0.0 h.0.1)
 last_shuts b (s ∷ t ∷ ss) e h = last_shuts (behind_one b s) (t ∷ ss) e h.1
 
 no_opens : (os : List Open) → blocks_of os ≡ [] → os ≡ []
@@ -161,13 +177,13 @@ no_opens [] e = refl
 no_opens (o ∷ os) e = (let l = blocks_length (o ∷ os) in let z : length (blocks_of (o ∷ os)) ≡ 0 = ap length e in absurd (omega (arith, l, z)))
 
 pub walk_ends : (all : List Statement) (p : Progress) (notices : List Noticed) → IsTrue (is_ended all) → IsWalked all p notices []
-    → IsParsed all (record { program = p.builder.block; variables = p.names; notices = notices })
+    → IsParsed all (record { program = p.builder.block; names = listed p.names p.features p.frames; notices = notices })
 walk_ends all p notices last w =
     let whole : behind_of p ≡ behind_all start all = w.behind ∙ ap (behind_all start) (take_all w.place all (drop_nil w.place all w.left)) in
     let shut_all : blocks_of p.builder.opens.items ≡ [] = ap (λ (b : Behind). b.blocks) whole ∙ last_shuts start all last (all_mean [] all (walk_clean all p notices w)) in
     let none : p.builder.opens.items ≡ [] = no_opens p.builder.opens.items shut_all in
     record {
       program = sym (w.writes ∙ append-nil (written p.builder) ∙ ap (λ os. opens_pieces os ++ pieces p.builder.block) none);
-      variables = ap (λ (b : Behind). b.variables) whole;
+      names = ap names_of whole;
       notices = sym (w.noticed ∙ append-nil notices);
     }

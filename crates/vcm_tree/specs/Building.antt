@@ -3,17 +3,18 @@ use Rattle.std.specs.Prelude.{◌≡◌, ℕ, List, [], ◌∷◌, ◌++◌, Res
 use Rattle.vcm_lines.specs.declared.fault.FaultCode.{FaultCode}
 use Rattle.vcm_spec.specs.Program.{Label}
 use Rattle.vcm_tree.specs.declared.builder.Head.{Head}
-use Rattle.vcm_tree.specs.declared.builder.Head.TheVariants.{First, Second, Body}
+use Rattle.vcm_tree.specs.declared.builder.Head.TheVariants.{First, Second, Body, Measuring}
 use Rattle.vcm_tree.specs.declared.builder.Open.{Open}
 use Rattle.vcm_tree.specs.declared.builder.Builder.{Builder}
-use Rattle.vcm_tree.specs.Pieces.{Step, Piece, piece, Tests, Divides, Repeats, pieces}
-use Rattle.vcm_tree.specs.Resolving.{Opened, InFirst, InSecond, InBody, blocks_after, labels_after}
+use Rattle.vcm_tree.specs.Pieces.{Step, Piece, piece, Tests, Divides, Repeats, Measures, pieces}
+use Rattle.vcm_tree.specs.Resolving.{Opened, InFirst, InSecond, InBody, InMeasure, blocks_after, labels_after}
 
 -- which block was opened
 abbrev pub opened_by : Head → Opened
 opened_by (First line test) = InFirst
 opened_by (Second line test first mid) = InSecond
 opened_by (Body line v a b c) = InBody
+opened_by (Measuring line f) = InMeasure f
 
 -- the blocks that are open, the innermost first
 abbrev pub blocks_of : List Open → List Opened
@@ -25,6 +26,7 @@ abbrev pub head_pieces : Head → List Piece
 head_pieces (First line test) = piece line (Tests test) ∷ []
 head_pieces (Second line test first mid) = piece line (Tests test) ∷ (pieces first ++ piece mid Divides ∷ [])
 head_pieces (Body line v a b c) = piece line (Repeats v a b c) ∷ []
+head_pieces (Measuring line f) = piece line (Measures f) ∷ []
 
 -- the statements before the innermost block
 abbrev pub opens_pieces : List Open → List Piece

@@ -5,7 +5,7 @@ use denote.Param.Weighed.{most}
 use Rattle.vcm_spec.specs.Program.{then, size, sizes}
 use Rattle.vcm_tree.specs.Nodes.{node_of, block_of, snoc}
 use Rattle.vcm_tree.specs.declared.node.Node.{Node}
-use Rattle.vcm_tree.specs.declared.node.Node.TheVariants.{Simple, Label, Jump, Choice, Repeat, Ending}
+use Rattle.vcm_tree.specs.declared.node.Node.TheVariants.{Simple, Label, Jump, Choice, Repeat, Measure, Ending}
 use Rattle.vcm_tree.specs.declared.node.Block.TheDeep.{deep-Node}
 
 -- the deepest block in a node is no larger than the node
@@ -16,6 +16,7 @@ node_falls (Jump line l) = omega arith
 node_falls (Choice line test first None close) = omega arith
 node_falls (Choice line test first (Some p) close) = omega arith
 node_falls (Repeat line v a b c body close) = omega arith
+node_falls (Measure line f body close) = omega arith
 node_falls (Ending line) = omega arith
 
 -- the deepest block in a list of nodes is no larger than the list

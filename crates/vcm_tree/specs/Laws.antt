@@ -9,7 +9,7 @@ use Rattle.vcm_spec.specs.Whole.{AlwaysSteps}
 use Rattle.vcm_syntax.specs.declared.statement.Statement.{Statement}
 use Rattle.vcm_syntax.specs.Statements.{is_counted}
 use Rattle.vcm_tree.specs.Resolving.{BreaksNames}
-use Rattle.vcm_tree.specs.Program.{Parsed, IsParsed, IsWhole, tables_of}
+use Rattle.vcm_tree.specs.Program.{Parsed, IsParsed, IsWhole, tables}
 use Rattle.vcm_tree.specs.Acceptance.{IsAccepted, IsRefused}
 
 -- a text that is accepted isn't refused
@@ -26,7 +26,7 @@ IsRefusedAtOneLine = (text : List ℕ) (f g : SourceFault) → IsRefused text f 
 
 -- an accepted program is whole
 abbrev pub AcceptedIsWhole : Type 0
-AcceptedIsWhole = (text : List ℕ) (p : Parsed) → IsAccepted text p → IsWhole p.program (tables_of p.variables)
+AcceptedIsWhole = (text : List ℕ) (p : Parsed) → IsAccepted text p → IsWhole p.program (tables p)
 
 -- statements that break no rule of names have as many counted ones as their program has statements
 abbrev pub CountsStatements : Type 0

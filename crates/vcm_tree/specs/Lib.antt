@@ -14,3 +14,4 @@ pub mod Taking
 pub mod Acceptance
 pub mod Laws
 pub mod Tabled
+pub mod Shifting

@@ -1,5 +1,5 @@
 -- What the statements of a text are: a structured program with the tables of its names, and notices.
-use Rattle.std.specs.Prelude.{◌≡◌, ℕ, ◌+◌, ◌<◌, ◌≤◌, IsTrue, not, List, [], ◌∷◌, map}
+use Rattle.std.specs.Prelude.{◌≡◌, ℕ, ◌+◌, ◌<◌, ◌≤◌, IsTrue, not, true, List, [], ◌∷◌, length, map}
 use Rattle.std.specs.List.{AllByRecursion, flat_map}
 use Rattle.vcm_spec.specs.Setup.{Tables}
 use Rattle.vcm_spec.specs.Program.{Label, Node, Block, choice, choice_else, do_loop, meas, done, then, sizes}
@@ -7,17 +7,33 @@ use Rattle.vcm_spec.specs.Whole.{is_closed}
 use Rattle.vcm_spec.specs.Phase.{IsClean}
 use Rattle.vcm_spec.specs.Fitting.{BlockFits}
 use Rattle.vcm_expr.specs.Names.{Variable}
+use Rattle.vcm_expr.specs.NameBytes.{is_name}
 use Rattle.vcm_expr.specs.Parts.{IsVariableName}
 use Rattle.vcm_syntax.specs.declared.statement.Form.TheVariants.{Ignored}
 use Rattle.vcm_syntax.specs.declared.statement.Statement.{Statement}
 use Rattle.vcm_tree.specs.declared.program.Noticed.{Noticed}
 use Rattle.vcm_tree.specs.Pieces.{pieces}
-use Rattle.vcm_tree.specs.Resolving.{start, behind_all, pieces_from}
+use Rattle.vcm_tree.specs.Resolving.{Behind, start, behind_all, pieces_from}
 use Rattle.vcm_tree.specs.Jumps.{is_among, labels_of, jumps_of, BreaksJumps}
 
--- the tables of a program with these variables, in the order of their declarations; features and frames are still to come
-abbrev pub tables_of : List Variable → Tables
-tables_of vs = record { variables = map (λ v. record { name = v.0.1; kind = v.1; expansion = v.0.0 }) vs; features = []; frames = [] }
+-- the names of a program: its variables in the order of their declarations, its features in that of their first FEAT, its frames in that of
+-- their first TRANS or ROTATE
+pub record Listed : Type 0 where
+  pub variables : List Variable
+  pub features : List (List ℕ)
+  pub frames : List (List ℕ)
+
+-- these names
+abbrev pub listed : List Variable → List (List ℕ) → List (List ℕ) → Listed
+listed vs fs ds = record { variables = vs; features = fs; frames = ds }
+
+-- what statements leave behind them of names
+abbrev pub names_of : Behind → Listed
+names_of b = listed b.variables b.measured.features b.measured.frames
+
+-- the tables of a program with these names
+abbrev pub tables_of : Listed → Tables
+tables_of n = record { variables = map (λ v. record { name = v.0.1; kind = v.1; expansion = v.0.0 }) n.variables; features = n.features; frames = n.frames }
 
 -- the notice of a statement that has no effect
 abbrev pub notice_of : Statement → List Noticed
@@ -30,17 +46,17 @@ notices_of ss = flat_map notice_of ss
 -- what a text is: a program, the tables of its names, and notices
 pub record Parsed : Type 0 where
   pub program : Block
-  pub variables : List Variable
+  pub names : Listed
   pub notices : List Noticed
 
 -- the tables of what a text is
 abbrev pub tables : Parsed → Tables
-tables p = tables_of p.variables
+tables p = tables_of p.names
 
--- the statements are this: a program which is written by the counted ones, their variables, their notices
+-- the statements are this: a program which is written by the counted ones, their names, their notices
 pub record IsParsed (ss : List Statement) (p : Parsed) : Type 0 where
   pub program : pieces p.program ≡ pieces_from start ss
-  pub variables : p.variables ≡ (behind_all start ss).variables
+  pub names : p.names ≡ names_of (behind_all start ss)
   pub notices : p.notices ≡ notices_of ss
 
 -- where so many blocks are around a node, or a block, those in it nest at most 32 deep
@@ -64,6 +80,11 @@ AreDistinct (l ∷ ls) = IsTrue (not (is_among ls l)) × AreDistinct ls
 -- each variable of the tables has a variable's name
 abbrev pub HaveVariableNames : Tables → Type 0
 HaveVariableNames ts = AllByRecursion (λ v. IsVariableName v.name) ts.variables
+
+-- at most 4,096 names
+pub record AreNames (names : List (List ℕ)) : Type 0 where
+  pub few : length names ≤ 4096
+  pub named : AllByRecursion (λ n. is_name n ≡ true) names
 
 -- A whole program: its last node is ENDFIL, it has at most 20,000 statements, they fit its tables, whose variables have the names of
 -- variables, its blocks nest at most 32 deep, no jump label stands twice, and each jump reaches its label.

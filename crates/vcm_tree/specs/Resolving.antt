@@ -1,31 +1,37 @@
--- What statements mean once their names are looked up. The variables stand in a table in the order of their declarations; all of them are
--- outside macros.
-use Rattle.std.specs.Prelude.{◌≡◌, ℕ, pos, nat_lt, Bool, true, false, if◌then◌else◌, List, [], ◌∷◌, ◌++◌, length, slice_get, Option, Some, None, Result, Ok, Err}
-use Rattle.std.specs.List.{list_any}
+-- What statements mean once their names are looked up. The variables stand in a table in the order of their declarations, the features in that
+-- of their first FEAT, the frames in that of their first TRANS or ROTATE; all of them are outside macros.
+use Rattle.std.specs.Prelude.{◌≡◌, ℕ, pos, nat_lt, ◌&&◌, is_some, Bool, true, false, if◌then◌else◌, List, [], ◌∷◌, ◌++◌, length, slice_get, Option, Some, None, Result, Ok, Err}
+use Rattle.std.specs.List.{list_any, position}
+use Rattle.vcm_num.specs.declared.axis.Axis.{Axis}
 use Rattle.vcm_num.specs.declared.number.Kind.{Kind}
 use Rattle.vcm_num.specs.declared.number.Kind.TheVariants as kinds
 use Rattle.vcm_lines.specs.declared.fault.FaultCode.{FaultCode}
-use Rattle.vcm_lines.specs.declared.fault.FaultCode.TheVariants.{DuplicateName, UnknownName, BadType, Unbalanced, TooManyNames}
+use Rattle.vcm_lines.specs.declared.fault.FaultCode.TheVariants.{DuplicateName, UnknownName, BadType, Unbalanced, MeasBody, TooManyNames}
 use Rattle.vcm_lines.specs.declared.fault.SourceFault.{SourceFault}
 use Rattle.vcm_spec.specs.Expression.{Tree, Value}
-use Rattle.vcm_spec.specs.declared.expression.Operand.TheVariants.{Integer}
-use Rattle.vcm_spec.specs.Simple.{Simple, Goto, GoHome, Assign, Text}
-use Rattle.vcm_spec.specs.Program.{Label, is_same_label}
+use Rattle.vcm_spec.specs.declared.expression.Operand.TheVariants.{Integer, Thousandths}
+use Rattle.vcm_spec.specs.declared.words.FrameAxis.{FrameAxis}
+use Rattle.vcm_spec.specs.declared.words.FrameAxis.TheVariants as axes
+use Rattle.vcm_spec.specs.declared.words.FeatureWord.{FeatureWord}
+use Rattle.vcm_spec.specs.declared.words.Quarters.{Quarters}
+use Rattle.vcm_spec.specs.declared.words.Setting.{Setting}
+use Rattle.vcm_spec.specs.declared.words.Source.{Source as Side}
+use Rattle.vcm_spec.specs.Words.{axis_number, quarters_number, word_number}
+use Rattle.vcm_spec.specs.Simple.{Simple, Goto, GoHome, Assign, Feat, PtMeas, SnSet, Trans, Rotate, Recall, Obtain, Output, Text}
+use Rattle.vcm_spec.specs.Program.{Label, is_same_label, is_same_name}
 use Rattle.vcm_expr.specs.declared.typing.Want.{Want}
 use Rattle.vcm_expr.specs.declared.typing.Want.TheVariants as wants
 use Rattle.vcm_expr.specs.Names.{Variable, is_named, variable_of, kinds_of}
 use Rattle.vcm_expr.specs.Source.{Source}
 use Rattle.vcm_expr.specs.Typing.{typed_for}
+use Rattle.vcm_syntax.specs.declared.statement.Offset.{Offset}
 use Rattle.vcm_syntax.specs.declared.statement.Rounds.{Rounds}
+use Rattle.vcm_syntax.specs.declared.statement.Spot.{Spot}
 use Rattle.vcm_syntax.specs.declared.statement.Form.{Form}
-use Rattle.vcm_syntax.specs.declared.statement.Form.TheVariants.{Declaration, Assignment, Move, Home, Say, Test, Otherwise, TestEnd, Repeat, RepeatEnd, Mark, Leap, Ending}
+use Rattle.vcm_syntax.specs.declared.statement.Form.TheVariants.{Declaration, Assignment, Move, Home, Say, Test, Otherwise, TestEnd, Repeat, RepeatEnd, Mark, Leap, Feature, Measure, Touch, MeasureEnd, Configure, Shift, Rotation, Restore, Query, Report, Ending}
 use Rattle.vcm_syntax.specs.declared.statement.Statement.{Statement}
+pub use Rattle.vcm_syntax.specs.Figures.{then_ok, or_fault}
 use Rattle.vcm_tree.specs.Pieces.{Step, Piece, piece, Does, Marks, Leaps, Tests, Divides, EndsTest, Repeats, EndsRepeat, Measures, EndsMeasure, Ends}
-
--- what comes after, or the fault
-abbrev pub then_ok : {A B : Type 0} → Result A FaultCode → (A → Result B FaultCode) → Result B FaultCode
-then_ok (Ok x) go = go x
-then_ok (Err e) go = Err e
 
 -- ---- variables
 
@@ -74,22 +80,34 @@ moved vs x y z =
 
 -- ---- blocks and labels
 
--- a block that is open: the first one of an IF, the second one, the body of a DO, that of a MEAS (which no statement opens yet)
+-- a block that is open: the first one of an IF, the second one, the body of a DO, that of a MEAS of a feature
 pub data Opened : Type 0 where
   InFirst : Opened
   InSecond : Opened
   InBody : Opened
-  InMeasure : Opened
+  InMeasure : (feature : ℕ) → Opened
 
--- what statements leave behind them: the variables, the blocks that are open (the innermost first), the labels that stand above
+-- the features and frames that stand above, and whether the MEAS block that is open has its PTMEAS
+pub record Measured : Type 0 where
+  pub features : List (List ℕ)
+  pub frames : List (List ℕ)
+  pub touched : Bool
+
+-- these features and frames, with a PTMEAS or without
+abbrev pub measured : List (List ℕ) → List (List ℕ) → Bool → Measured
+measured fs ds t = record { features = fs; frames = ds; touched = t }
+
+-- what statements leave behind them: the variables, the blocks that are open (the innermost first), the labels that stand above, and what
+-- they say of features and frames
 pub record Behind : Type 0 where
   pub variables : List Variable
   pub blocks : List Opened
   pub labels : List Label
+  pub measured : Measured
 
--- these variables, open blocks and labels
-abbrev pub behind : List Variable → List Opened → List Label → Behind
-behind vs bs ls = record { variables = vs; blocks = bs; labels = ls }
+-- these variables, open blocks, labels, features and frames
+abbrev pub behind : List Variable → List Opened → List Label → Measured → Behind
+behind vs bs ls ms = record { variables = vs; blocks = bs; labels = ls; measured = ms }
 
 -- one more block may be opened, or not
 abbrev pub room_by : Bool → Result (Unit {0}) FaultCode
@@ -163,6 +181,131 @@ label_of name = record { name = name; expansion = 0 }
 abbrev pub marked : List Label → Label → Result Step FaultCode
 marked ls l = if list_any (is_same_label l) ls then Err DuplicateName else Ok (Marks l)
 
+-- ---- features and frames
+
+-- the index of a name, if it is there
+abbrev pub index_of : List (List ℕ) → List ℕ → Option ℕ
+index_of names l = position (λ n. is_same_name l n) names
+
+-- the index of a name that is declared above
+abbrev pub known : List (List ℕ) → List ℕ → Result ℕ FaultCode
+known names l = or_fault UnknownName (index_of names l)
+
+-- the index of a name that is entered: its own, or the next one; there are 4,096 at most
+abbrev pub entered_by : List (List ℕ) → Option ℕ → Result ℕ FaultCode
+entered_by names (Some i) = Ok i
+entered_by names None = if nat_lt (length names) 4096 then Ok (length names) else Err TooManyNames
+
+abbrev pub entered : List (List ℕ) → List ℕ → Result ℕ FaultCode
+entered names l = entered_by names (index_of names l)
+
+-- the names with this one, which is added where it isn't there
+abbrev pub with_name_by : List (List ℕ) → List ℕ → Option ℕ → List (List ℕ)
+with_name_by names l (Some i) = names
+with_name_by names l None = names ++ l ∷ []
+
+abbrev pub with_name : List (List ℕ) → List ℕ → List (List ℕ)
+with_name names l = with_name_by names l (index_of names l)
+
+-- three lengths, from the left
+abbrev pub lengths : List Variable → Spot → Result (Tree × Tree × Tree) FaultCode
+lengths vs p =
+    then_ok (typed_for vs wants.Length p.x) (λ a. then_ok (typed_for vs wants.Length p.y) (λ b. then_ok (typed_for vs wants.Length p.z) (λ c. Ok (a, b, c))))
+
+-- FEAT of the feature at this index
+abbrev pub declared_at : List Variable → Spot → Axis → ℕ → Result (Simple Tree) FaultCode
+declared_at vs p d i = then_ok (lengths vs p) (λ t. Ok (Feat i t.0 t.1 t.2 d))
+
+-- FEAT
+abbrev pub declared : List (List ℕ) → List Variable → List ℕ → Spot → Axis → Result (Simple Tree) FaultCode
+declared fs vs l p d = then_ok (entered fs l) (declared_at vs p d)
+
+-- MEAS of a feature that is declared above
+abbrev pub opened_measure : List (List ℕ) → List ℕ → Result Step FaultCode
+opened_measure fs l = then_ok (known fs l) (λ i. Ok (Measures i))
+
+-- the feature of the innermost block, if it is that of a MEAS
+abbrev pub measuring : List Opened → Option ℕ
+measuring (InMeasure f ∷ bs) = Some f
+measuring _ = None
+
+-- PTMEAS stands in a MEAS block, once
+abbrev pub touched_by : Option ℕ → Bool → Result ℕ FaultCode
+touched_by (Some f) false = Ok f
+touched_by _ _ = Err MeasBody
+
+abbrev pub touched_in : List Opened → Bool → Result ℕ FaultCode
+touched_in bs t = touched_by (measuring bs) t
+
+-- PTMEAS
+abbrev pub touched : List Opened → Bool → List Variable → Spot → Option Axis → Result (Simple Tree) FaultCode
+touched bs t vs p given = then_ok (touched_in bs t) (λ i. then_ok (lengths vs p) (λ t. Ok (PtMeas i t.0 t.1 t.2 given)))
+
+-- ENDMES stands at the end of a MEAS block, which has a PTMEAS
+abbrev pub measure_ended : List Opened → Bool → Result Step FaultCode
+measure_ended (InMeasure f ∷ bs) true = Ok EndsMeasure
+measure_ended (InMeasure f ∷ bs) false = Err MeasBody
+measure_ended _ _ = Err Unbalanced
+
+-- SNSET
+abbrev pub configured : List Variable → Setting → Source → Result (Simple Tree) FaultCode
+configured vs which e = then_ok (typed_for vs wants.Length e) (λ t. Ok (SnSet which t))
+
+-- three shifts, along x, y and z
+pub record Shifts : Type 0 where
+  pub x : Tree
+  pub y : Tree
+  pub z : Tree
+
+-- no shift
+abbrev pub no_shifts : Shifts
+no_shifts = record { x = Value (Thousandths (pos 0)); y = Value (Thousandths (pos 0)); z = Value (Thousandths (pos 0)) }
+
+-- the shifts with this one along an axis
+abbrev pub with_shift : Shifts → FrameAxis → Tree → Shifts
+with_shift s axes.X t = record s { x = t }
+with_shift s axes.Y t = record s { y = t }
+with_shift s axes.Z t = record s { z = t }
+
+-- the shifts with those of TRANS, in the order in which they are written
+abbrev pub shifts_of : List Variable → Shifts → List Offset → Result Shifts FaultCode
+shifts_of vs s [] = Ok s
+shifts_of vs s (o ∷ os) = then_ok (typed_for vs wants.Length o.length) (λ t. shifts_of vs (with_shift s o.axis t) os)
+
+-- TRANS
+abbrev pub shifted : List (List ℕ) → List Variable → List ℕ → List Offset → Result (Simple Tree) FaultCode
+shifted ds vs l os = then_ok (entered ds l) (λ i. then_ok (shifts_of vs no_shifts os) (λ s. Ok (Trans i s.x s.y s.z)))
+
+-- ROTATE
+abbrev pub rotated : List (List ℕ) → List ℕ → FrameAxis → Quarters → Result (Simple Tree) FaultCode
+rotated ds l axis n = then_ok (entered ds l) (λ i. Ok (Rotate i (axis_number axis) (quarters_number n)))
+
+-- RECALL
+abbrev pub recalled : List (List ℕ) → List ℕ → Result (Simple Tree) FaultCode
+recalled ds l = then_ok (known ds l) (λ i. Ok (Recall i))
+
+-- the variable of an OBTAIN is the one at this place of the table, if it is a REAL
+abbrev pub real_to : ℕ → Option Kind → Result ℕ FaultCode
+real_to i (Some kinds.Real) = Ok i
+real_to i (Some _) = Err BadType
+real_to i None = Err UnknownName
+
+abbrev pub real_by : List Variable → Option ℕ → Result ℕ FaultCode
+real_by vs None = Err UnknownName
+real_by vs (Some i) = real_to i (slice_get (kinds_of vs) i)
+
+abbrev pub real_named : List Variable → List ℕ → Result ℕ FaultCode
+real_named vs name = real_by vs (variable_of vs 0 name)
+
+-- OBTAIN
+abbrev pub obtained : List (List ℕ) → List Variable → List ℕ → Side → List ℕ → FeatureWord → Result (Simple Tree) FaultCode
+obtained fs vs name side l word =
+    then_ok (real_named vs name) (λ v. then_ok (known fs l) (λ i. Ok (Obtain v side i (word_number word))))
+
+-- OUTPUT
+abbrev pub reported : List (List ℕ) → Side → List ℕ → Result (Simple Tree) FaultCode
+reported fs side l = then_ok (known fs l) (λ i. Ok (Output side i))
+
 -- ---- statements
 
 -- what a statement does to a program: nothing, new variables in its table, a counted statement
@@ -179,22 +322,63 @@ counts r = then_ok r (λ s. Ok (Counts s))
 abbrev pub does : Result (Simple Tree) FaultCode → Result Step FaultCode
 does r = then_ok r (λ s. Ok (Does s))
 
--- the meaning of a statement behind others, or the code of the leftmost rule that it breaks
+-- the meaning of a statement behind others where it may stand there, or the code of the leftmost rule that it breaks
+abbrev pub stated : Behind → Form → Result Meaning FaultCode
+stated b (Declaration kind names) = then_ok (with_all b.variables kind names) (λ ws. Ok (Declares ws))
+stated b (Assignment name value) = counts (does (assigned b.variables name value))
+stated b (Move p) = counts (does (moved b.variables p.x p.y p.z))
+stated b Home = counts (Ok (Does GoHome))
+stated b (Say bytes) = counts (Ok (Does (Text bytes)))
+stated b (Test e) = counts (nested b.blocks (tested b.variables e))
+stated b Otherwise = counts (divided b.blocks)
+stated b TestEnd = counts (test_ended b.blocks)
+stated b (Repeat r) = counts (nested b.blocks (repeated b.variables r))
+stated b RepeatEnd = counts (repeat_ended b.blocks)
+stated b (Mark name) = counts (marked b.labels (label_of name))
+stated b (Leap name) = counts (Ok (Leaps (label_of name)))
+stated b (Feature l p d) = counts (does (declared b.measured.features b.variables l p d))
+stated b (Measure l) = counts (nested b.blocks (opened_measure b.measured.features l))
+stated b (Touch p given) = counts (does (touched b.blocks b.measured.touched b.variables p given))
+stated b MeasureEnd = counts (measure_ended b.blocks b.measured.touched)
+stated b (Configure which e) = counts (does (configured b.variables which e))
+stated b (Shift l os) = counts (does (shifted b.measured.frames b.variables l os))
+stated b (Rotation l axis n) = counts (does (rotated b.measured.frames l axis n))
+stated b (Restore l) = counts (does (recalled b.measured.frames l))
+stated b (Query name side l word) = counts (does (obtained b.measured.features b.variables name side l word))
+stated b (Report side l) = counts (does (reported b.measured.features side l))
+stated b Ending = counts (ended b.blocks)
+stated b _ = Ok Silent
+
+-- whether the innermost block is that of a MEAS
+abbrev pub is_measuring : List Opened → Bool
+is_measuring bs = is_some (measuring bs)
+
+-- whether a statement is one that doesn't stand in a MEAS block: all counted ones but GOTO, GOHOME and PTMEAS, and the words that close blocks
+abbrev pub is_barred : Form → Bool
+is_barred (Assignment name value) = true
+is_barred (Say bytes) = true
+is_barred (Test e) = true
+is_barred (Repeat r) = true
+is_barred (Mark name) = true
+is_barred (Leap name) = true
+is_barred (Feature l p d) = true
+is_barred (Measure l) = true
+is_barred (Configure which e) = true
+is_barred (Shift l os) = true
+is_barred (Rotation l axis n) = true
+is_barred (Restore l) = true
+is_barred (Query name side l word) = true
+is_barred (Report side l) = true
+is_barred _ = false
+
+-- a statement that may not stand there has no meaning
+abbrev pub unless_barred : Bool → Result Meaning FaultCode → Result Meaning FaultCode
+unless_barred true r = Err MeasBody
+unless_barred false r = r
+
+-- the meaning of a statement behind others, or the code of a rule that it breaks
 abbrev pub resolved : Behind → Form → Result Meaning FaultCode
-resolved b (Declaration kind names) = then_ok (with_all b.variables kind names) (λ ws. Ok (Declares ws))
-resolved b (Assignment name value) = counts (does (assigned b.variables name value))
-resolved b (Move p) = counts (does (moved b.variables p.x p.y p.z))
-resolved b Home = counts (Ok (Does GoHome))
-resolved b (Say bytes) = counts (Ok (Does (Text bytes)))
-resolved b (Test e) = counts (nested b.blocks (tested b.variables e))
-resolved b Otherwise = counts (divided b.blocks)
-resolved b TestEnd = counts (test_ended b.blocks)
-resolved b (Repeat r) = counts (nested b.blocks (repeated b.variables r))
-resolved b RepeatEnd = counts (repeat_ended b.blocks)
-resolved b (Mark name) = counts (marked b.labels (label_of name))
-resolved b (Leap name) = counts (Ok (Leaps (label_of name)))
-resolved b Ending = counts (ended b.blocks)
-resolved b _ = Ok Silent
+resolved b form = unless_barred (is_measuring b.blocks && is_barred form) (stated b form)
 
 -- all but the innermost block
 abbrev pub outer : List Opened → List Opened
@@ -208,7 +392,7 @@ blocks_after bs Divides = InSecond ∷ outer bs
 blocks_after bs EndsTest = outer bs
 blocks_after bs (Repeats v a b c) = InBody ∷ bs
 blocks_after bs EndsRepeat = outer bs
-blocks_after bs (Measures f) = InMeasure ∷ bs
+blocks_after bs (Measures f) = InMeasure f ∷ bs
 blocks_after bs EndsMeasure = outer bs
 blocks_after bs _ = bs
 
@@ -217,15 +401,24 @@ abbrev pub labels_after : List Label → Step → List Label
 labels_after ls (Marks l) = ls ++ l ∷ []
 labels_after ls _ = ls
 
+-- the features and frames behind a statement
+abbrev pub measured_after : Measured → Form → Measured
+measured_after ms (Feature l p d) = measured (with_name ms.features l) ms.frames ms.touched
+measured_after ms (Shift l os) = measured ms.features (with_name ms.frames l) ms.touched
+measured_after ms (Rotation l axis n) = measured ms.features (with_name ms.frames l) ms.touched
+measured_after ms (Measure l) = measured ms.features ms.frames false
+measured_after ms (Touch p given) = measured ms.features ms.frames true
+measured_after ms _ = ms
+
 -- what a statement of this meaning leaves behind it
-abbrev pub behind_by : Behind → Result Meaning FaultCode → Behind
-behind_by b (Ok (Declares ws)) = behind ws b.blocks b.labels
-behind_by b (Ok (Counts s)) = behind b.variables (blocks_after b.blocks s) (labels_after b.labels s)
-behind_by b _ = b
+abbrev pub behind_by : Behind → Form → Result Meaning FaultCode → Behind
+behind_by b form (Ok (Declares ws)) = behind ws b.blocks b.labels (measured_after b.measured form)
+behind_by b form (Ok (Counts s)) = behind b.variables (blocks_after b.blocks s) (labels_after b.labels s) (measured_after b.measured form)
+behind_by b form _ = behind b.variables b.blocks b.labels (measured_after b.measured form)
 
 -- what a statement leaves behind it
 abbrev pub behind_one : Behind → Statement → Behind
-behind_one b s = behind_by b (resolved b s.form)
+behind_one b s = behind_by b s.form (resolved b s.form)
 
 -- what statements leave behind them
 abbrev pub behind_all : Behind → List Statement → Behind
@@ -234,7 +427,7 @@ behind_all b (s ∷ ss) = behind_all (behind_one b s) ss
 
 -- nothing is declared, open or marked at the start
 abbrev pub start : Behind
-start = behind [] [] []
+start = behind [] [] [] (measured [] [] false)
 
 -- the counted statement of a meaning, if there is one
 abbrev pub pieces_by : ℕ → Result Meaning FaultCode → List Piece

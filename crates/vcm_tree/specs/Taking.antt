@@ -8,7 +8,7 @@ use Rattle.vcm_tree.specs.declared.builder.Head.{Head}
 use Rattle.vcm_tree.specs.declared.builder.Head.TheVariants.{Body}
 use Rattle.vcm_tree.specs.declared.resolving.Progress.{Progress}
 use Rattle.vcm_tree.specs.Pieces.{Repeats}
-use Rattle.vcm_tree.specs.Resolving.{Behind, behind, Meaning, repeated, resolved, behind_by, pieces_by}
+use Rattle.vcm_tree.specs.Resolving.{Measured, measured, Behind, behind, Meaning, repeated, stated, resolved, behind_by, pieces_by}
 use Rattle.vcm_tree.specs.Building.{blocks_of, written}
 
 -- the rounds are these, and open a body by this
@@ -20,13 +20,24 @@ pub record IsBody (vs : List Variable) (r : Rounds) (line : ℕ) (h : Head) : Ty
   pub is : h ≡ Body line variable initial limit increment
   pub rounds : repeated vs r ≡ Ok (Repeats variable initial limit increment)
 
+-- what the statements that are read say of features and frames
+abbrev pub measured_of : Progress → Measured
+measured_of p = measured p.features p.frames p.touched
+
 -- what the statements that are read leave behind them
 abbrev pub behind_of : Progress → Behind
-behind_of p = behind p.names (blocks_of p.builder.opens.items) p.labels
+behind_of p = behind p.names (blocks_of p.builder.opens.items) p.labels (measured_of p)
 
 -- the statement has a meaning behind the others, and is read
 pub record Takes (s : Statement) (old new : Progress) : Type 0 where
   pub meaning : Meaning
   pub is : resolved (behind_of old) s.form ≡ Ok meaning
-  pub after : behind_of new ≡ behind_by (behind_of old) (Ok meaning)
+  pub after : behind_of new ≡ behind_by (behind_of old) s.form (Ok meaning)
+  pub pieces : written new.builder ≡ written old.builder ++ pieces_by s.line (Ok meaning)
+
+-- the same of a statement that may stand there
+pub record TakesStated (s : Statement) (old new : Progress) : Type 0 where
+  pub meaning : Meaning
+  pub is : stated (behind_of old) s.form ≡ Ok meaning
+  pub after : behind_of new ≡ behind_by (behind_of old) s.form (Ok meaning)
   pub pieces : written new.builder ≡ written old.builder ++ pieces_by s.line (Ok meaning)

@@ -87,6 +87,10 @@ fn check_node(all: &Labels, reach: &mut Labels, node: &Node) -> Result<(), Sourc
             check_block(all, reach, body)?;
             Ok(())
         }
+        Node::Measure(_, _, body, _) => {
+            check_block(all, reach, body)?;
+            Ok(())
+        }
     }
 }
 

@@ -1,5 +1,4 @@
-//! Which texts are programs: all phases of acceptance, one behind the other, for programs of moves, assignments, output lines, blocks, loops
-//! and jumps.
+//! Which texts are programs: all phases of acceptance, one behind the other, for programs without macros.
 #![tactic(auto)]
 
 mod builder;
@@ -7,6 +6,7 @@ mod count;
 mod jumps;
 mod labels;
 pub mod laws;
+mod measuring;
 mod node;
 mod order;
 mod phases;
@@ -14,7 +14,9 @@ mod program;
 mod resolving;
 mod statements;
 mod tables;
+mod titles;
 
 pub use node::{Action, Block, Label, Node};
 pub use phases::accept;
 pub use program::{Accepted, Noticed};
+pub use titles::Titles;

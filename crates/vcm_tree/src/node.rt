@@ -8,9 +8,11 @@ use std::alloc::{AllocError, Global};
 use std::hash::{Hash, Hasher};
 use std::marker::Model;
 use vcm_expr::{Name, Typed};
+use vcm_num::Axis;
+use vcm_spec::{FeatureWord, FrameAxis, Quarters, Setting, Source};
 use vcm_syntax::Message;
 
-/// A simple statement: its expressions are typed, and variables go by their indexes.
+/// A simple statement: its expressions are typed, and variables, features and frames go by their indexes. Lengths are in micrometres.
 #[derive(Drop)]
 pub enum Action {
     /// `GOTO`: x, y and z, lengths in micrometres of part coordinates.
@@ -19,6 +21,22 @@ pub enum Action {
     GoHome,
     /// `ASSIGN`: a variable, and its new value, which has the variable's kind.
     Assign(u16, Typed),
+    /// `FEAT`: the feature, its place in part coordinates, and its direction out of the material.
+    Feat(u16, Typed, Typed, Typed, Axis),
+    /// `PTMEAS`: the feature, the place to touch in part coordinates, and the direction out of the material if it is given.
+    PtMeas(u16, Typed, Typed, Typed, Option<Axis>),
+    /// `SNSET`: a setting of the probe, and its length.
+    SnSet(Setting, Typed),
+    /// `TRANS`: the frame, and the shifts along its axes.
+    Trans(u16, Typed, Typed, Typed),
+    /// `ROTATE`: the frame, the axis, and the quarter turns.
+    Rotate(u16, FrameAxis, Quarters),
+    /// `RECALL`: the frame.
+    Recall(u16),
+    /// `OBTAIN`: the variable, and the word of a feature that it gets.
+    Obtain(u16, Source, u16, FeatureWord),
+    /// `OUTPUT`: the feature that is told.
+    Output(Source, u16),
     /// `TEXT`: an output line.
     Text(Message),
 }
@@ -110,6 +128,8 @@ pub enum Node {
     Choice(u32, Typed, Block, Option<(u32, Block)>, u32),
     /// `DO`: its line, its variable, the first value, the limit, the increment, the body, the line of `ENDDO`.
     Repeat(u32, u16, Typed, Typed, Typed, Block, u32),
+    /// `MEAS`: its line, its feature, the body, the line of `ENDMES`.
+    Measure(u32, u16, Block, u32),
     /// `ENDFIL`, with which a program ends.
     Ending(u32),
 }

@@ -14,9 +14,10 @@ use crate::labels::Labels;
 use crate::node::Block;
 use crate::resolving::{Progress, take};
 use crate::tables::tables_of;
+use crate::titles::Titles;
 use std::alloc::{AllocError, Global};
 use std::marker::Model;
-use vcm_expr::{Name, Names};
+use vcm_expr::Names;
 use vcm_lines::SourceFault;
 use vcm_num::NoMemory;
 use vcm_syntax::{Form, Notice, Statement};
@@ -29,12 +30,28 @@ pub struct Noticed {
     pub word: Notice,
 }
 
-/// A program whose jumps are not judged yet, its jump labels, its variables, and its notices.
+/// The names of a program: its variables, its features and its frames. Contracts see them as `Listed`.
+#[derive(Drop)]
+pub(crate) struct Listing {
+    pub(crate) variables: Names,
+    pub(crate) features: Titles,
+    pub(crate) frames: Titles,
+}
+
+impl Model for Listing {
+    ghost use Rattle.vcm_tree.specs.Program.{Listed, listed};
+
+    ghost Value = { Listed };
+
+    ghost view = { λ l. listed l.variables l.features l.frames };
+}
+
+/// A program whose jumps are not judged yet, its jump labels, its names, and its notices.
 #[derive(Drop)]
 pub(crate) struct Draft {
     pub(crate) tree: Block,
     pub(crate) labels: Labels,
-    pub(crate) names: Names,
+    pub(crate) names: Listing,
     pub(crate) notices: Vec<Noticed>,
 }
 
@@ -53,12 +70,15 @@ fn note(notices: &mut Vec<Noticed>, statement: &Statement) -> Result<(), AllocEr
 pub(crate) fn drafted(alloc: Global, all: Vec<Statement>) -> Result<Draft, SourceFault>
     requires ended { IsTrue (is_ended all.items) }
     ensures clean { IfOk result (λ _. IsClean BreaksNames all.items) }
-    ensures program { IfOk result (λ d. IsParsed all.items (record { program = d.tree; variables = d.names; notices = d.notices.items })) }
+    ensures program { IfOk result (λ d. IsParsed all.items (record { program = d.tree; names = d.names; notices = d.notices.items })) }
     ensures labels { IfOk result (λ d. d.labels ≡ labels_of d.tree) }
     ensures fault { IfErr result (NoMemoryOr (λ f. FirstFault BreaksNames names_line all.items f.code f.line)) }
 {
     let mut read = Progress {
         names: Names::new(alloc),
+        features: Titles::new(alloc),
+        frames: Titles::new(alloc),
+        touched: false,
         labels: Labels::new(alloc),
         builder: Builder::new(alloc),
     };
@@ -67,7 +87,11 @@ pub(crate) fn drafted(alloc: Global, all: Vec<Statement>) -> Result<Draft, Sourc
         note(&mut notices, &statement)?;
         take(alloc, &mut read, statement)?;
     }
-    let names = read.names;
+    let names = Listing {
+        variables: read.names,
+        features: read.features,
+        frames: read.frames,
+    };
     let labels = read.labels;
     let builder = read.builder;
     let tree = builder.block;
@@ -79,11 +103,11 @@ pub(crate) fn drafted(alloc: Global, all: Vec<Statement>) -> Result<Draft, Sourc
     })
 }
 
-/// An accepted program, its variables, and its notices. Contracts see it as a `Parsed`.
+/// An accepted program, its names, and its notices. Contracts see it as a `Parsed`.
 #[derive(Drop)]
 pub struct Accepted {
     tree: Block,
-    names: Names,
+    names: Listing,
     notices: Vec<Noticed>,
 }
 
@@ -96,7 +120,7 @@ impl Model for Accepted {
 
     ghost coded = { Prim.hlevel (codes, block_coded) };
 
-    ghost view = { λ a. record { program = a.tree; variables = a.names; notices = a.notices.items } };
+    ghost view = { λ a. record { program = a.tree; names = a.names; notices = a.notices.items } };
 
     ghost invariant = { λ a. IsWhole a.tree (tables_of a.names) };
 }
@@ -104,12 +128,12 @@ impl Model for Accepted {
 impl Accepted {
     ghost use Rattle.std.specs.Prelude.{◌≡◌, ◌≤◌, IfOk, OnOk, length};
     ghost use Rattle.vcm_spec.specs.Program.{sizes};
-    ghost use Rattle.vcm_tree.specs.Program.{Parsed, IsWhole, tables, tables_of};
+    ghost use Rattle.vcm_tree.specs.Program.{Parsed, IsWhole, AreNames, tables, tables_of};
 
     /// A whole program.
-    pub(crate) fn new(tree: Block, names: Names, notices: Vec<Noticed>) -> Accepted
+    pub(crate) fn new(tree: Block, names: Listing, notices: Vec<Noticed>) -> Accepted
         requires { IsWhole tree (tables_of names) }
-        ensures { result ≡ record { program = tree; variables = names; notices = notices.items } }
+        ensures { result ≡ record { program = tree; names = names; notices = notices.items } }
     {
         Accepted {
             tree,
@@ -121,40 +145,47 @@ impl Accepted {
     /// The program.
     pub fn tree(&self) -> &Block
         ensures tree { result.now ≡ self.now.program }
-        ensures whole { IsWhole self.now.program (tables_of self.now.variables) }
+        ensures whole { IsWhole self.now.program (tables self.now) }
     {
         &self.tree
     }
 
     /// The variables, in the order of their declarations.
     pub fn variables(&self) -> &Names
-        ensures { result.now ≡ self.now.variables }
+        ensures { result.now ≡ self.now.names.variables }
     {
-        &self.names
+        &self.names.variables
     }
 
-    /// The names of the features: no statement gives one yet.
-    pub fn features(&self) -> &[Name]
-        ensures { result.now ≡ (tables self.now).features }
+    /// The features, in the order of the first `FEAT` of each.
+    pub fn features(&self) -> &Titles
+        ensures { result.now ≡ self.now.names.features }
     {
-        &[]
+        &self.names.features
     }
 
-    /// The names of the frames: no statement gives one yet.
-    pub fn frames(&self) -> &[Name]
-        ensures { result.now ≡ (tables self.now).frames }
+    /// The frames, in the order of the first `TRANS` or `ROTATE` of each.
+    pub fn frames(&self) -> &Titles
+        ensures { result.now ≡ self.now.names.frames }
     {
-        &[]
+        &self.names.frames
     }
 
-    /// The names of the program, each at its index: those that the readers above give, at most 4,096 variables.
+    /// The names of the program, each at its index: those that the readers above give, at most 4,096 of each kind.
     ///
     /// Errors: want of memory.
     pub fn tables(&self, alloc: Global) -> Result<Tables, NoMemory>
         ensures tables { IfOk result (λ t. t ≡ tables self.now) }
-        ensures few { OnOk result (length self.now.variables ≤ 4096) }
+        ensures variables { OnOk result (length self.now.names.variables ≤ 4096) }
+        ensures features { OnOk result (AreNames self.now.names.features) }
+        ensures frames { OnOk result (AreNames self.now.names.frames) }
     {
-        tables_of(alloc, &self.names)
+        tables_of(
+            alloc,
+            &self.names.variables,
+            &self.names.features,
+            &self.names.frames,
+        )
     }
 
     /// The lines that have no effect, in order.

@@ -4,13 +4,17 @@ ghost use Rattle.std.specs.Prelude.{◌≡◌, ◌∷◌, ◌++◌, [], Ok, Err,
 ghost use Rattle.vcm_lines.specs.Fault.{NoMemoryOr};
 ghost use Rattle.vcm_tree.specs.Nodes.{action_of};
 ghost use Rattle.vcm_tree.specs.Pieces.{piece, Marks};
-ghost use Rattle.vcm_tree.specs.Resolving.{ToldAt, is_declared, with_one, with_all, want_of, assigned, moved, indexed, increment_of, repeated, nested, tested, marked, resolved};
+ghost use Rattle.vcm_tree.specs.Resolving.{ToldAt, is_declared, with_one, with_all, want_of, assigned, moved, indexed, increment_of, repeated, nested, tested, marked, is_barred, stated, resolved};
 ghost use Rattle.vcm_tree.specs.Building.{blocks_of, written, Reads};
-ghost use Rattle.vcm_tree.specs.Taking.{IsBody, behind_of, Takes};
+ghost use Rattle.vcm_tree.specs.Taking.{IsBody, behind_of, Takes, TakesStated};
 
-use crate::builder::{Builder, Head};
+use crate::builder::{Builder, Head, bad_body};
 use crate::labels::Labels;
+use crate::measuring::{
+    configure, declare_feature, lengths, measure, obtain, recall, report, rotate, shift, touch,
+};
 use crate::node::{Action, Label};
+use crate::titles::Titles;
 use std::alloc::Global;
 use vcm_expr::{Expr, Name, Names, Typed, VariableName, Want, type_expr};
 use vcm_lines::{FaultCode, SourceFault};
@@ -101,9 +105,7 @@ fn go_to(alloc: Global, line: u32, names: &Names, place: &Spot) -> Result<Action
     ensures ok { IfOk result (λ a. moved names.now place.now.x place.now.y place.now.z ≡ Ok (action_of a)) }
     ensures fault { IfErr result (NoMemoryOr (ToldAt line (moved names.now place.now.x place.now.y place.now.z))) }
 {
-    let x = type_expr(alloc, &place.x, line, names, Want::Length)?;
-    let y = type_expr(alloc, &place.y, line, names, Want::Length)?;
-    let z = type_expr(alloc, &place.z, line, names, Want::Length)?;
+    let (x, y, z) = lengths(alloc, line, names, place)?;
     Ok(Action::Goto(x, y, z))
 }
 
@@ -210,12 +212,29 @@ fn mark(
     Ok(())
 }
 
-/// What is read of a program: its variables, its jump labels, its blocks.
+/// What is read of a program: its variables, its features and frames, its jump labels, its blocks, and whether the `MEAS` block that is open
+/// has its `PTMEAS`.
 #[derive(Drop)]
 pub(crate) struct Progress {
     pub(crate) names: Names,
+    pub(crate) features: Titles,
+    pub(crate) frames: Titles,
+    pub(crate) touched: bool,
     pub(crate) labels: Labels,
     pub(crate) builder: Builder,
+}
+
+// Whether a statement is one that doesn't stand in a `MEAS` block.
+fn is_barred(form: &Form) -> bool
+    ensures { result ≡ is_barred form.now }
+{
+    match form {
+        Form::Assignment(_, _) | Form::Say(_) | Form::Test(_) | Form::Repeat(_) => true,
+        Form::Mark(_) | Form::Leap(_) | Form::Feature(_, _, _) | Form::Measure(_) => true,
+        Form::Configure(_, _) | Form::Shift(_, _) | Form::Rotation(_, _, _) => true,
+        Form::Restore(_) | Form::Query(_, _, _, _) | Form::Report(_, _) => true,
+        _ => false,
+    }
 }
 
 /// Reads one statement more.
@@ -226,6 +245,17 @@ pub(crate) fn take(
 ) -> Result<(), SourceFault>
     ensures ok { OnOk result (Takes statement read.old read.new) }
     ensures fault { IfErr result (NoMemoryOr (ToldAt statement.line (resolved (behind_of read.old) statement.form))) }
+{
+    if read.builder.measuring().is_some() && is_barred(&statement.form) {
+        return Err(bad_body(statement.line));
+    }
+    take_stated(alloc, read, statement)
+}
+
+// Reads one statement more where it may stand.
+fn take_stated(alloc: Global, read: &mut Progress, statement: Statement) -> Result<(), SourceFault>
+    ensures ok { OnOk result (TakesStated statement read.old read.new) }
+    ensures fault { IfErr result (NoMemoryOr (ToldAt statement.line (stated (behind_of read.old) statement.form))) }
 {
     let line = statement.line;
     match statement.form {
@@ -279,6 +309,81 @@ pub(crate) fn take(
         }
         Form::Leap(name) => {
             read.builder.leap(line, Label::new(name, 0))?;
+            Ok(())
+        }
+        Form::Feature(name, place, toward) => {
+            let action = declare_feature(
+                alloc,
+                line,
+                &mut read.features,
+                &read.names,
+                name,
+                &place,
+                toward,
+            )?;
+            read.builder.act(line, action)?;
+            Ok(())
+        }
+        Form::Measure(name) => {
+            measure(alloc, line, &read.features, &mut read.builder, &name)?;
+            read.touched = false;
+            Ok(())
+        }
+        Form::Touch(place, toward) => {
+            let action = touch(
+                alloc,
+                line,
+                &read.builder,
+                read.touched,
+                &read.names,
+                &place,
+                toward,
+            )?;
+            read.builder.act(line, action)?;
+            read.touched = true;
+            Ok(())
+        }
+        Form::MeasureEnd => {
+            read.builder.end_measure(line, read.touched)?;
+            Ok(())
+        }
+        Form::Configure(setting, length) => {
+            let action = configure(alloc, line, &read.names, setting, &length)?;
+            read.builder.act(line, action)?;
+            Ok(())
+        }
+        Form::Shift(name, offsets) => {
+            let offsets = offsets.as_slice();
+            let action = shift(alloc, line, &mut read.frames, &read.names, name, offsets)?;
+            read.builder.act(line, action)?;
+            Ok(())
+        }
+        Form::Rotation(name, axis, quarters) => {
+            let action = rotate(line, &mut read.frames, name, axis, quarters)?;
+            read.builder.act(line, action)?;
+            Ok(())
+        }
+        Form::Restore(name) => {
+            let action = recall(line, &read.frames, &name)?;
+            read.builder.act(line, action)?;
+            Ok(())
+        }
+        Form::Query(variable, source, name, word) => {
+            let action = obtain(
+                line,
+                &read.features,
+                &read.names,
+                &variable,
+                source,
+                &name,
+                word,
+            )?;
+            read.builder.act(line, action)?;
+            Ok(())
+        }
+        Form::Report(source, name) => {
+            let action = report(line, &read.features, source, &name)?;
+            read.builder.act(line, action)?;
             Ok(())
         }
         Form::Ending => {

@@ -1,11 +1,12 @@
 //! The tables of a program's names.
 
 ghost use Rattle.std.specs.Prelude.{◌≡◌, Some, IfOk, OnOk, IfSome, IfNone, length, ◌≤◌, slice_get};
-ghost use Rattle.vcm_tree.specs.Program.{tables_of};
-ghost use Rattle.vcm_tree.specs.Tabled.{variable_of};
+ghost use Rattle.vcm_tree.specs.Program.{listed, tables_of, AreNames};
+ghost use Rattle.vcm_tree.specs.Tabled.{variable_of, entries_of};
 
+use crate::titles::Titles;
 use std::alloc::Global;
-use vcm_expr::Names;
+use vcm_expr::{Name, Names};
 use vcm_num::{Items, NoMemory};
 use vcm_tables::{Tables, Variable};
 
@@ -18,11 +19,9 @@ fn variable_at(names: &Names, index: usize) -> Option<Variable>
     Some(Variable::new(name.copy(), kind, expansion))
 }
 
-/// The tables of a program with these variables.
-///
-/// Errors: want of memory.
-pub(crate) fn tables_of(alloc: Global, names: &Names) -> Result<Tables, NoMemory>
-    ensures tables { IfOk result (λ t. t ≡ tables_of names.now) }
+// The variables in their order.
+fn variables_of(alloc: Global, names: &Names) -> Result<Items<Variable>, NoMemory>
+    ensures entries { IfOk result (λ vs. vs ≡ entries_of names.now) }
     ensures few { OnOk result (length names.now ≤ 4096) }
 {
     let mut variables = Items::from_vec(Vec::with_capacity(alloc, names.len())?);
@@ -31,5 +30,39 @@ pub(crate) fn tables_of(alloc: Global, names: &Names) -> Result<Tables, NoMemory
         variables.push(variable)?;
         index += 1;
     }
-    Tables::new(alloc, variables, Items::new(alloc), Items::new(alloc))
+    Ok(variables)
+}
+
+// The names in their order.
+fn names_of(alloc: Global, titles: &Titles) -> Result<Items<Name>, NoMemory>
+    ensures same { IfOk result (λ ns. ns ≡ titles.now) }
+    ensures names { OnOk result (AreNames titles.now) }
+{
+    let mut names = Items::from_vec(Vec::with_capacity(alloc, titles.len())?);
+    let mut index = 0;
+    while let Some(name) = titles.get(index) {
+        names.push(name.copy())?;
+        index += 1;
+    }
+    Ok(names)
+}
+
+/// The tables of a program with these variables, features and frames.
+///
+/// Errors: want of memory.
+pub(crate) fn tables_of(
+    alloc: Global,
+    names: &Names,
+    features: &Titles,
+    frames: &Titles,
+) -> Result<Tables, NoMemory>
+    ensures tables { IfOk result (λ t. t ≡ tables_of (listed names.now features.now frames.now)) }
+    ensures variables { OnOk result (length names.now ≤ 4096) }
+    ensures features { OnOk result (AreNames features.now) }
+    ensures frames { OnOk result (AreNames frames.now) }
+{
+    let variables = variables_of(alloc, names)?;
+    let features = names_of(alloc, features)?;
+    let frames = names_of(alloc, frames)?;
+    Tables::new(alloc, variables, features, frames)
 }

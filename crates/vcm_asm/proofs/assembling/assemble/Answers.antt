@@ -2,12 +2,11 @@ use Rattle.std.proofs.Common.{◌++◌, length, ap, ◌∙◌, subst, refl, arit
 use Rattle.vcm_tree.specs.Program.{tables}
 use Rattle.vcm_code.specs.Valid.{IsValid}
 use Rattle.vcm_code.specs.Ranges.{IsInRange}
-use Rattle.vcm_code.specs.CarriedOut.{AllCarriedOut}
 use Rattle.vcm_asm.specs.Assembled.{marks, block_code, place_in, flat_code}
 use Rattle.vcm_asm.specs.Spelled.{BlockKeeps}
 use Rattle.vcm_asm.specs.Headline.{IsAssembled}
 use Rattle.vcm_asm.proofs.Structured.{structured}
-use Rattle.vcm_asm.proofs.Whole.{table_length, assembled, all_valid, in_range, carried_out, with_code}
+use Rattle.vcm_asm.proofs.Whole.{table_length, assembled, all_valid, in_range, with_code}
 use Rattle.vcm_asm.proofs.assembling.assemble.Goals as goal
 
 pub mark_block-requires-clause-once : goal.mark_block-requires-clause-once
@@ -56,20 +55,8 @@ returns-clause-in_range c =
     ∙ ap (λ l. l ++ block_code (place_in c.mark_block.new.numbers) c.tree-tree.result.now 0 (length l)) c.new-code.ensures
     ∙ ap (λ ms. block_code (place_in ms) c.tree-tree.result.now 0 0) marked
     ∙ ap flat_code tree in
-    let few = c.in_ok-tables.ensures.few in
-    let same = table_length c.args.program.now.variables in
+    let few = c.in_ok-tables.ensures.variables in
+    let names = c.args.program.now.names in
+    let same = table_length names.variables names.features names.frames in
     with_code program (tables c.args.program.now) c.tree-tree.ensures.whole IsInRange _ _ c.in_ok-tables.ensures.tables written
-    (in_range program (tables c.args.program.now) c.tree-tree.ensures.whole (omega arith) refl refl (subst BlockKeeps tree c.in_ok-emit_block.ensures.keeps))
-
-pub returns-clause-carried_out : goal.returns-clause-carried_out
-returns-clause-carried_out c =
-    let program = c.args.program.now.program in
-    let tree = c.tree-tree.ensures.tree in
-    let marked = c.in_ok-mark_block.ensures.marks ∙ ap (λ ms. ms ++ marks c.tree-tree.result.now 0) c.new-numbers.ensures in
-    let written =
-    c.into_statements-statements.ensures ∙ c.in_ok-emit_block.ensures.code
-    ∙ ap (λ l. l ++ block_code (place_in c.mark_block.new.numbers) c.tree-tree.result.now 0 (length l)) c.new-code.ensures
-    ∙ ap (λ ms. block_code (place_in ms) c.tree-tree.result.now 0 0) marked
-    ∙ ap flat_code tree in
-    with_code program (tables c.args.program.now) c.tree-tree.ensures.whole (λ d. AllCarriedOut d.statements) _ _ c.in_ok-tables.ensures.tables written
-    (carried_out program (subst BlockKeeps tree c.in_ok-emit_block.ensures.keeps))
+    (in_range program (tables c.args.program.now) c.tree-tree.ensures.whole (omega arith) c.in_ok-tables.ensures.features c.in_ok-tables.ensures.frames (subst BlockKeeps tree c.in_ok-emit_block.ensures.keeps))

@@ -5,7 +5,7 @@ use Rattle.vcm_asm.specs.Depth.{NodeDeep, Deep}
 use Rattle.vcm_asm.specs.Spelled.{NodeKeeps, BlockKeeps}
 use Rattle.vcm_asm.specs.Assembled.{node_code, block_code, place_in}
 use Rattle.vcm_asm.proofs.Place.{node_length}
-use Rattle.vcm_asm.proofs.Emits.{block_grows, wrote_if, wrote_if_else, wrote_do, put_length, block_written, choice_size, on_ok, ok_too}
+use Rattle.vcm_asm.proofs.Emits.{block_grows, wrote_if, wrote_if_else, wrote_do, wrote_meas, put_length, block_written, choice_size, on_ok, ok_too}
 use Rattle.vcm_asm.proofs.emit.+emit.Goals as goal
 
 pub emit_block-loop-node-preserved : goal.emit_block-loop-node-preserved
@@ -144,3 +144,15 @@ pub emit_node-returns-in_ok-emit_block-in-Repeat-clause-keeps : goal.emit_node-r
 emit_node-returns-in_ok-emit_block-in-Repeat-clause-keeps t c =
     let k = c.in_ok-op-in-Repeat.ensures.keeps in
     ok_too c.put-in-Repeat-2.result (rw c.in-Repeat.is (k.0, k.1, k.2, c.in_ok-emit_block-in-Repeat.ensures.keeps))
+
+pub emit_node-returns-in_ok-emit_block-in-Measure-clause-code : goal.emit_node-returns-in_ok-emit_block-in-Measure-clause-code
+emit_node-returns-in_ok-emit_block-in-Measure-clause-code t c =
+    let to = place_in c.args.numbers.now in
+    let old = c.args.code.now in
+    on_ok c.put-in-Measure-2.result c.put-in-Measure-2.ensures (λ put.
+    wrote_meas to c.in-Measure.body c.args.depth c.in-Measure.line c.in-Measure.feature c.in-Measure.close old _ _ _ c.in_ok-put-in-Measure.ensures c.in_ok-emit_block-in-Measure.ensures.code put
+    ∙ ap (λ n. old ++ node_code to (node_of n) c.args.depth (length old)) (sym c.in-Measure.is))
+
+pub emit_node-returns-in_ok-emit_block-in-Measure-clause-keeps : goal.emit_node-returns-in_ok-emit_block-in-Measure-clause-keeps
+emit_node-returns-in_ok-emit_block-in-Measure-clause-keeps t c =
+    ok_too c.put-in-Measure-2.result (rw c.in-Measure.is c.in_ok-emit_block-in-Measure.ensures.keeps)

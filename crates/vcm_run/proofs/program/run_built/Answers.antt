@@ -1,10 +1,7 @@
 use Rattle.std.proofs.Common.{List, ℕ}
 use Rattle.std.specs.Prelude.{Result, Ok, Err, IfOk}
-use Rattle.vcm_run.proofs.SameRun.{loaded_carried_out, built_runs}
+use Rattle.vcm_run.proofs.SameRun.{built_runs}
 use Rattle.vcm_run.proofs.program.run_built.Goals as goal
-
-pub run_loaded-requires : goal.run_loaded-requires
-run_loaded-requires g c = let b = c.requires.1 in loaded_carried_out b.parsed c.args.image.now c.in-Ok.loaded b.image c.in-Ok.ensures.found.0 c.in-Ok.ensures.found.1.1
 
 pub returns-in-Ok : goal.returns-in-Ok
 returns-in-Ok g c =

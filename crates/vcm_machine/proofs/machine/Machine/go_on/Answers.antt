@@ -1,10 +1,10 @@
 use Rattle.std.proofs.Common.{◌≡◌, ◌<◌, None, sym, ap, ◌∙◌, subst}
 use Rattle.std.specs.Prelude.{Err}
 use Rattle.vcm_code.specs.Ops.{statement_of, code_of}
-use Rattle.vcm_machine.specs.Rests.{Rests}
+use Rattle.vcm_spec.specs.Rests.{Rests}
 use Rattle.vcm_machine.proofs.Codes.{kept_at, kept_length}
 use Rattle.vcm_machine.proofs.RestsAlong.{later_rests}
-use Rattle.vcm_machine.proofs.StepLemmas.{fits, pair_is, carried_is, goes, goes_below, stops, wants}
+use Rattle.vcm_machine.proofs.StepLemmas.{fits, range_is, goes, goes_below, stops, wants}
 use Rattle.vcm_machine.proofs.machine.Machine.go_on.Goals as goal
 
 pub carry_out-requires-clause-fits : goal.carry_out-requires-clause-fits
@@ -15,21 +15,13 @@ carry_out-requires-clause-fits g c =
     let at = kept_at m.loaded.now.statements m.next s c.statement-statement.ensures in
     fits (g.P.Part.part m.part.now) (code_of m.loaded.now) m.world m.next m.pairs i.0 i.1 (statement_of s) at
 
-pub carry_out-requires-clause-pair : goal.carry_out-requires-clause-pair
-carry_out-requires-clause-pair g c =
+pub carry_out-requires-clause-range : goal.carry_out-requires-clause-range
+carry_out-requires-clause-range g c =
     let m = c.self.inside in
     let i = c.self.invariant in
     let s = c.statement-statement.result in
     let at = kept_at m.loaded.now.statements m.next s c.statement-statement.ensures in
-    pair_is (g.P.Part.part m.part.now) (code_of m.loaded.now) m.world m.next m.pairs i.0 i.1 (statement_of s) at
-
-pub carry_out-requires-clause-carried : goal.carry_out-requires-clause-carried
-carry_out-requires-clause-carried g c =
-    let m = c.self.inside in
-    let i = c.self.invariant in
-    let s = c.statement-statement.result in
-    let at = kept_at m.loaded.now.statements m.next s c.statement-statement.ensures in
-    carried_is (g.P.Part.part m.part.now) (code_of m.loaded.now) m.world m.next m.pairs i.0 i.1 (statement_of s) at
+    range_is (g.P.Part.part m.part.now) (code_of m.loaded.now) m.world m.next m.pairs i.0 i.1 (statement_of s) at
 
 pub invariant_of-self : goal.invariant_of-self
 invariant_of-self g c =

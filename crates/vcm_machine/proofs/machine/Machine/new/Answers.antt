@@ -17,7 +17,7 @@ invariant_of-result g c =
     let valid = g.met.P.Part.valid c.args.part.now in
     let known = c.statement_count-count.ensures in (
       c.in_ok-world.ensures.tables ∙ c.in_ok-tables.ensures,
-      runnable c.args.loaded.now known.fits known.valid c.requires,
+      runnable c.args.loaded.now known.fits known.valid,
       some_first c.args.loaded.now.statements (known.valid).ends,
       opened_rests part c.in_ok-tables.tables c.in_ok-world.world.state valid (c.in_ok-world.ensures.state part (ap (λ b. b.home) (sym c.bounds.ensures))),
     )

@@ -1,13 +1,15 @@
-use Rattle.std.proofs.Common.{rules}
-use Rattle.vcm_state.proofs.Values.{zeros_fit}
+use Rattle.std.proofs.Common.{length, refl}
+use Rattle.vcm_state.proofs.Values.{zeros_fit, nones_long}
 use Rattle.vcm_state.proofs.world.World.opening.Goals as goal
 
 pub invariant_of-result : goal.invariant_of-result
 invariant_of-result c =
-    rw (c.in_ok-own.ensures, c.in_ok-variables.ensures, c.variables.ensures) (c.requires, zeros_fit c.args.tables.now.variables)
+    rw (c.in_ok-own.ensures, c.in_ok-variables.ensures, c.variables.ensures, c.in_ok-saved.ensures, c.in_ok-nominal.ensures, c.in_ok-actual.ensures, c.frames.ensures, c.features.ensures, c.features-2.ensures)
+    (c.requires, zeros_fit c.args.tables.now.variables, nones_long _ (length c.args.tables.now.frames), nones_long _ (length c.args.tables.now.features), nones_long _ (length c.args.tables.now.features))
 
 pub returns-clause-tables : goal.returns-clause-tables
-returns-clause-tables c = search rules
+returns-clause-tables c = c.in_ok-own.ensures
 
 pub returns-clause-state : goal.returns-clause-state
-returns-clause-state c = search rules
+returns-clause-state c part home =
+    rw (c.opening.ensures, c.opening-2.ensures, c.in_ok-variables.ensures, c.variables.ensures, c.in_ok-saved.ensures, c.frames.ensures, c.in_ok-nominal.ensures, c.features.ensures, c.in_ok-actual.ensures, c.features-2.ensures, c.new.ensures, home) refl

@@ -1,0 +1,5 @@
+pub mod Rows
+pub mod Taken
+pub mod Quarters
+pub mod Repeated
+pub mod RoundTrip

@@ -1,0 +1,12 @@
+-- The probe at rest in every state of a code.
+use Rattle.std.specs.Prelude.{ℕ, List}
+use Rattle.vcm_spec.specs.Setup.{Setup}
+use Rattle.vcm_spec.specs.Workpiece.{IsValid}
+use Rattle.vcm_spec.specs.Rests.{Rests}
+use Rattle.vcm_code.specs.Code.{Statement}
+use Rattle.vcm_code.specs.CodeTable.{code_steps, start}
+
+-- the probe is within the limits and in no block in every state of a code table, also at a stop
+abbrev pub RestsAlways : Type 0
+RestsAlways =
+    (setup : Setup) → IsValid setup.part → (code : List Statement) (n : ℕ) → Rests setup.part (code_steps setup code n (start setup)).world

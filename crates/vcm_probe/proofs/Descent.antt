@@ -1,0 +1,227 @@
+-- A touch, line by line, and the first face on the way down.
+use Rattle.std.proofs.Common.{◌≡◌, ℕ, zero, suc, ◌+◌, ◌*◌, ◌==◌, ℤ, pos, negsuc, ◌+ℤ◌, ◌*ℤ◌, Bool, true, false, ◌&&◌, cond, List, Option, Some, None, Result, Ok, Err, refl, sym, ap, ◌∙◌, arith, inl, inr}
+use Rattle.std.specs.Prelude.{IsTrue, not, neg_ℤ}
+use Rattle.std.proofs.lemmas.Bool.{cases_order}
+use Rattle.std.proofs.lemmas.Int.{ints}
+use Rattle.vcm_num.specs.declared.point.Point.{Point}
+use Rattle.vcm_num.specs.declared.axis.Axis.{Axis}
+use Rattle.vcm_num.specs.declared.axis.Axis.TheVariants.{PlusX, MinusX, PlusY, MinusY, PlusZ, MinusZ}
+use borrow.Author.Differences.{neg_is}
+use Rattle.vcm_num.specs.Point.{coordinate, is_near}
+use Rattle.vcm_num.specs.Axis.{unit, opposite, along}
+use Rattle.vcm_spec.specs.declared.workpiece.Block3.{Block3}
+use Rattle.vcm_spec.specs.declared.feature.Touch.{Touch}
+use Rattle.vcm_spec.specs.declared.stop.Stop.{Stop}
+use Rattle.vcm_spec.specs.declared.stop.Stop.TheVariants.{Overflow, Travel, Missed}
+use Rattle.vcm_spec.specs.declared.words.MovePhase.TheVariants.{Approach, Search}
+use Rattle.vcm_spec.specs.Workpiece.{Workpiece, IsValid, is_in_some, is_within}
+use Rattle.vcm_spec.specs.World.{Settings}
+use Rattle.vcm_spec.specs.FirstContact.{contact, later_contact}
+use Rattle.vcm_spec.specs.Touch.{approach_of, end_of, down_of, past}
+use Rattle.vcm_spec.specs.FirstTouch.{first_from, first_inside, free_of, free_move, touch}
+use Rattle.vcm_spec.specs.Outcome.{Outcome, Gives, Stops, Answers, ◌>>=◌, demand, found, fits_place, point_of}
+use Rattle.vcm_spec.proofs.Entries.{both_true}
+use Rattle.vcm_spec.proofs.Touches.{IsSearchOf, search_is}
+use Rattle.vcm_motion.specs.declared.face.Face.{Face}
+use Rattle.vcm_motion.specs.Faces.{IsFace, IsFirstFace}
+use Rattle.vcm_motion.proofs.Inside.{one_of, some_of}
+use Rattle.vcm_motion.proofs.Ahead.{in_same}
+use Rattle.vcm_probe.specs.Places.{fitting_point, retreat}
+use Rattle.vcm_probe.proofs.Fitted.{there, not_there}
+use Rattle.vcm_probe.proofs.WayBack.{face_at}
+use Rattle.vcm_probe.proofs.Nearness.{inside_is_near}
+
+-- ---- directions
+
+cond_neg : (b : Bool) (u : ℤ) → cond b (neg_ℤ u) (pos 0) ≡ neg_ℤ (cond b u (pos 0))
+cond_neg true u = refl
+cond_neg false u = refl
+
+-- the unit vector back
+unit_back : (d : Axis) (k : ℕ) → unit (opposite d) k ≡ neg_ℤ (unit d k)
+unit_back PlusX k = cond_neg (k == 0) (pos 1)
+unit_back MinusX k = cond_neg (k == 0) (negsuc 0)
+unit_back PlusY k = cond_neg (k == 1) (pos 1)
+unit_back MinusY k = cond_neg (k == 1) (negsuc 0)
+unit_back PlusZ k = cond_neg (k == 2) (pos 1)
+unit_back MinusZ k = cond_neg (k == 2) (negsuc 0)
+
+mul-neg : (k : ℕ) (u : ℤ) → pos k *ℤ neg_ℤ u ≡ neg_ℤ (pos k *ℤ u)
+mul-neg k u = let n = neg_is u in omega (arith, ints, ap (λ (t : ℕ). k * t) n.0, ap (λ (t : ℕ). k * t) n.1)
+
+-- some steps back and then one up
+one_less : (x u w : ℤ) (t : ℕ) → w ≡ neg_ℤ u → (x +ℤ (pos (suc t) *ℤ w)) +ℤ (pos 1 *ℤ u) ≡ x +ℤ (pos t *ℤ w)
+one_less x u w t e = rw e (omega (arith, ints, mul-neg (suc t) u, mul-neg t u))
+
+-- ---- the first face is the first distance that a search finds
+
+abbrev inside : List Block3 → (ℕ → ℤ) → Axis → ℕ → Bool
+inside blocks x d t = is_in_some blocks (along x d t)
+
+module _ (blocks : List Block3) (x : ℕ → ℤ) (d : Axis) (n : ℕ) where
+  finds : (face : Face) → IsFace blocks x d n face → (o : Option ℕ) → IsSearchOf (inside blocks x d) 0 (n + 1) o → o ≡ Some face.distance
+  finds face is (Some u) h =
+      let here : inside blocks x d face.distance ≡ true = some_of blocks (along x d face.distance) is.index is.block is.stands is.holds in
+      let least = is.least u (let l = h.below in omega arith) h.passes in
+      elim (cases_order u face.distance) [
+        | inl e ↦ ap Some e
+        | inr (inl l) ↦ absurd (omega arith)
+        | inr (inr l) ↦ (let fails = h.before face.distance (omega arith) l in cc)
+      ]
+  finds face is None h =
+      let here : inside blocks x d face.distance ≡ true = some_of blocks (along x d face.distance) is.index is.block is.stands is.holds in
+      let within = is.within in
+      let fails = h face.distance (omega arith) (omega arith) in
+      cc
+
+  finds_none : IsFirstFace blocks x d n None → (o : Option ℕ) → IsSearchOf (inside blocks x d) 0 (n + 1) o → o ≡ None
+  finds_none none (Some u) h = absurd (none u (let l = h.below in omega arith) h.passes)
+  finds_none none None h = refl
+
+  pub face_is_first : (face : Face) → IsFace blocks x d n face → first_from (inside blocks x d) 0 (n + 1) ≡ Some face.distance
+  face_is_first face is = finds face is (first_from (inside blocks x d) 0 (n + 1)) (search_is (inside blocks x d) 0 (n + 1))
+
+  pub none_is_first : IsFirstFace blocks x d n None → first_from (inside blocks x d) 0 (n + 1) ≡ None
+  none_is_first none = finds_none none (first_from (inside blocks x d) 0 (n + 1)) (search_is (inside blocks x d) 0 (n + 1))
+
+-- ---- the touch, line by line
+
+met : {A : Type 0} (b : Bool) (why : Stop) (f : Unit {0} → Outcome A) → b ≡ true → (demand b why >>= f) ≡ f tt
+met b why f e = ap (λ t. demand t why >>= f) e
+
+unmet : {A : Type 0} (b : Bool) (why : Stop) (f : Unit {0} → Outcome A) → b ≡ false → (demand b why >>= f) ≡ Stops why
+unmet b why f e = ap (λ t. demand t why >>= f) e
+
+same_contact : (blocks : List Block3) (x y : ℕ → ℤ) → contact blocks x (coordinate (point_of y)) ≡ contact blocks x y
+unfolding contact
+same_contact blocks x y = refl
+
+same_later : (blocks : List Block3) (x : ℕ → ℤ) (d : Axis) (n : ℕ) → later_contact blocks (coordinate (point_of x)) (along (coordinate (point_of x)) d n) ≡ later_contact blocks x (along x d n)
+unfolding later_contact
+same_later blocks x d n = refl
+
+-- the approach point and the end of the search, as the code has them
+pub record AreAimed (s : Settings) (nominal : ℕ → ℤ) (d : Axis) (approach end : Point) : Type 0 where
+  pub up : fits_place (approach_of s nominal d) ≡ true
+  pub down : fits_place (end_of s nominal d) ≡ true
+  pub approach_is : approach ≡ point_of (approach_of s nominal d)
+  pub end_is : end ≡ point_of (end_of s nominal d)
+
+pub up_to : (s : Settings) (nominal : ℕ → ℤ) (d : Axis) (n : ℕ) (o : Option Point) → n ≡ s.approach → o ≡ fitting_point (along nominal d n) → o ≡ fitting_point (approach_of s nominal d)
+up_to s nominal d n o e f = f ∙ ap (λ k. fitting_point (along nominal d k)) e
+
+pub down_to : (s : Settings) (nominal : ℕ → ℤ) (d back : Axis) (n : ℕ) (o : Option Point) → back ≡ opposite d → n ≡ past s → o ≡ fitting_point (along nominal back n) → o ≡ fitting_point (end_of s nominal d)
+down_to s nominal d back n o e f g = g ∙ ap (λ b. fitting_point (along nominal b n)) e ∙ ap (λ k. fitting_point (along nominal (opposite d) k)) f
+
+pub aimed : (s : Settings) (nominal : ℕ → ℤ) (d : Axis) (approach end : Point) → Some approach ≡ fitting_point (approach_of s nominal d) → Some end ≡ fitting_point (end_of s nominal d) →
+    AreAimed s nominal d approach end
+aimed s nominal d approach end e f =
+    let a = there (fits_place (approach_of s nominal d)) approach (point_of (approach_of s nominal d)) e in
+    let b = there (fits_place (end_of s nominal d)) end (point_of (end_of s nominal d)) f in
+    record { up = a.holds; down = b.holds; approach_is = a.same; end_is = b.same }
+
+module _ (part : Workpiece) (s : Settings) (from nominal : ℕ → ℤ) (d : Axis) where
+  abbrev answer : Outcome Touch
+  answer = touch part s from nominal d
+
+  abbrev high : ℕ → ℤ
+  high = approach_of s nominal d
+
+  abbrev low : ℕ → ℤ
+  low = end_of s nominal d
+
+  abbrev length : ℕ
+  length = s.approach + past s
+
+  abbrev retreats : ℕ → Outcome Touch
+  retreats t = retreat part (point_of (down_of s nominal d t)) d s.retract
+
+  abbrev searches : Outcome Touch
+  searches = demand (is_within part.bounds low) (Travel Search) >>= (λ _. found (first_inside part s nominal d) Missed >>= retreats)
+
+  abbrev moves : Outcome Touch
+  moves = free_move Approach part from high >>= (λ _. searches)
+
+  answer_is : answer ≡ (demand (fits_place high && fits_place low) Overflow >>= (λ _. moves))
+  unfolding touch later_contact
+  answer_is = refl
+
+  pub too_high : None ≡ fitting_point high → answer ≡ Stops Overflow
+  too_high e = answer_is ∙ unmet _ _ _ (ap (λ b. b && fits_place low) (not_there (fits_place high) (point_of high) None refl e))
+
+  pub too_low : (approach : Point) → Some approach ≡ fitting_point high → None ≡ fitting_point low → answer ≡ Stops Overflow
+  too_low approach e f =
+      let a = there (fits_place high) approach (point_of high) e in
+      answer_is ∙ unmet _ _ _ (ap (λ b. b && fits_place low) a.holds ∙ not_there (fits_place low) (point_of low) None refl f)
+
+  module _ (approach end : Point) (h : AreAimed s nominal d approach end) where
+    same_move : free_move Approach part from high ≡ free_move Approach part from (coordinate approach)
+    same_move = sym (
+        ap (λ p. free_move Approach part from (coordinate p)) h.approach_is
+        ∙ ap (λ o. demand (is_within part.bounds high) (Travel Approach) >>= (λ _. free_of Approach o)) (same_contact part.blocks from high))
+
+    on_move : answer ≡ moves
+    on_move = answer_is ∙ met _ _ _ (both_true _ _ h.up h.down)
+
+    pub stopped : (why : Stop) → free_move Approach part from (coordinate approach) ≡ Stops why → answer ≡ Stops why
+    stopped why e = on_move ∙ ap (λ o. o >>= (λ _. searches)) (same_move ∙ e)
+
+    module _ (u : Unit {0}) (free : free_move Approach part from (coordinate approach) ≡ Gives u) where
+      on_search : answer ≡ searches
+      on_search = on_move ∙ ap (λ o. o >>= (λ _. searches)) (same_move ∙ free)
+
+      pub too_deep : is_within part.bounds (coordinate end) ≡ false → answer ≡ Stops (Travel Search)
+      too_deep e = on_search ∙ unmet _ _ _ (ap (λ p. is_within part.bounds (coordinate p)) (sym h.end_is) ∙ e)
+
+      module _ (within : is_within part.bounds (coordinate end) ≡ true) where
+        on_descent : answer ≡ (found (first_inside part s nominal d) Missed >>= retreats)
+        on_descent = on_search ∙ met _ _ _ (ap (λ p. is_within part.bounds (coordinate p)) (sym h.end_is) ∙ within)
+
+        pub missed : IsFirstFace part.blocks (coordinate approach) (opposite d) length None → answer ≡ Stops Missed
+        missed none = on_descent ∙ ap (λ o. found o Missed >>= retreats) (none_is_first part.blocks high (opposite d) length (rw h.approach_is at none))
+
+        pub touched : (face : Face) → IsFace part.blocks (coordinate approach) (opposite d) length face → (at : Point) → at ≡ point_of (along (coordinate approach) (opposite d) face.distance) →
+            answer ≡ retreat part at d s.retract
+        touched face is at here =
+            let seen : IsFace part.blocks (coordinate (point_of high)) (opposite d) length face = rw h.approach_is at is in
+            let there : at ≡ point_of (down_of s nominal d face.distance) = rw h.approach_is at here in
+            on_descent ∙ ap (λ o. found o Missed >>= retreats) (face_is_first part.blocks high (opposite d) length face (face_at part.blocks high (opposite d) length face seen))
+            ∙ ap (λ p. retreat part p d s.retract) (sym there)
+
+-- what answers one of two equal outcomes answers the other
+pub answers_too : (o p : Outcome Touch) (r : Result Touch Stop) → o ≡ p → Answers p r → Answers o r
+answers_too o p (Ok t) e h = e ∙ h
+answers_too o p (Err why) e h = e ∙ h
+
+-- ---- the point of the touch
+
+pub not_in_some : (b : Bool) → IsTrue (not b) → b ≡ false
+not_in_some true h = cc
+not_in_some false h = refl
+
+module _ (part : Workpiece) (x : ℕ → ℤ) (d : Axis) (n : ℕ) (face : Face) (is : IsFace part.blocks x (opposite d) n face) (at : Point) (here : at ≡ point_of (along x (opposite d) face.distance)) where
+  in_block : is_in_some part.blocks (along x (opposite d) face.distance) ≡ true
+  in_block = some_of part.blocks (along x (opposite d) face.distance) is.index is.block is.stands is.holds
+
+  pub touch_is_near : IsValid part → is_near at ≡ true
+  touch_is_near valid = inside_is_near part valid at (rw here in_block)
+
+  some_same : (y z : ℕ → ℤ) → ((k : ℕ) → y k ≡ z k) → is_in_some part.blocks y ≡ true → is_in_some part.blocks z ≡ true
+  some_same y z e some =
+      let o = one_of part.blocks y some in
+      some_of part.blocks z o.index o.block o.stands (in_same o.block y z (λ k l. e k) o.holds)
+
+  step_off : (t : ℕ) → face.distance ≡ t → is_in_some part.blocks x ≡ false → ¬ IsTrue (is_in_some part.blocks (along (along x (opposite d) t) d 1))
+  step_off zero e clear some =
+      let start : is_in_some part.blocks x ≡ true = some_same (along x (opposite d) 0) x (λ k. omega (arith, ints)) (rw e at in_block) in
+      cc
+  step_off (suc u) e clear some =
+      let before : is_in_some part.blocks (along x (opposite d) u) ≡ true =
+      some_same (along (along x (opposite d) (suc u)) d 1) (along x (opposite d) u) (λ k. one_less (x k) (unit d k) (unit (opposite d) k) u (unit_back d k)) some in
+      let within = is.within in
+      let least = is.least u (omega arith) before in
+      omega arith
+
+  -- one step back from it the probe lies in no block, if it lies in none at the start
+  pub off : is_in_some part.blocks x ≡ false → ¬ IsTrue (is_in_some part.blocks (along (coordinate at) d 1))
+  off clear = rw here (step_off face.distance refl clear)

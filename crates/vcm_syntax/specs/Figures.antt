@@ -1,0 +1,116 @@
+-- Number literals that stand for whole numbers: counts, angles, words of features and components of directions.
+use Rattle.std.specs.Prelude.{ℤ, pos, negsuc, neg_ℤ, ◌*ℤ◌, ◌&&◌, ◌||◌, if◌then◌else◌, Bool, true, false, List, [], ◌∷◌, Option, Some, None, Result, Ok, Err}
+use Rattle.std.specs.Ordering.{int_eq}
+use Rattle.vcm_num.specs.declared.axis.Axis.{Axis}
+use Rattle.vcm_num.specs.declared.axis.Axis.TheVariants.{PlusX, MinusX, PlusY, MinusY, PlusZ, MinusZ}
+use Rattle.vcm_num.specs.declared.number.Literal.{Literal}
+use Rattle.vcm_num.specs.declared.number.Literal.TheVariants.{Int, Thousandths}
+use Rattle.vcm_num.specs.declared.read.NumFault.{NumFault}
+use Rattle.vcm_num.specs.declared.read.NumFault.TheVariants as number
+use Rattle.vcm_lines.specs.declared.fault.FaultCode.{FaultCode}
+use Rattle.vcm_lines.specs.declared.fault.FaultCode.TheVariants.{BadSyntax, TooFine, NumberTooLarge, NotQuarterTurn, NotAxis, Unsupported}
+use Rattle.vcm_lines.specs.Lexemes.{Lexeme, Run, Number, Plus, Minus}
+use Rattle.vcm_spec.specs.declared.words.Quarters.{Quarters}
+use Rattle.vcm_spec.specs.declared.words.Quarters.TheVariants as turns
+use Rattle.vcm_spec.specs.declared.words.FeatureWord.{FeatureWord}
+use Rattle.vcm_spec.specs.declared.words.FeatureWord.TheVariants as words
+use Rattle.vcm_expr.specs.Digits.{read_of}
+use Rattle.vcm_syntax.specs.declared.figures.Figure.{Figure}
+
+-- what comes after, or the fault
+abbrev pub then_ok : {A B : Type 0} → Result A FaultCode → (A → Result B FaultCode) → Result B FaultCode
+then_ok (Ok x) go = go x
+then_ok (Err e) go = Err e
+
+-- what is there, or the fault
+abbrev pub or_fault : {A : Type 0} → FaultCode → Option A → Result A FaultCode
+or_fault e (Some x) = Ok x
+or_fault e None = Err e
+
+-- digits behind a sign, or what is wrong with them
+abbrev pub figure_by : Bool → Result Literal NumFault → Result Figure FaultCode
+figure_by minus (Ok x) = Ok (record { minus = minus; literal = x })
+figure_by minus (Err number.BadNumber) = Err BadSyntax
+figure_by minus (Err number.TooFine) = Err TooFine
+figure_by minus (Err number.TooLarge) = Err NumberTooLarge
+
+-- a figure with nothing behind it
+abbrev pub alone : List Lexeme → Figure → Result Figure FaultCode
+alone [] f = Ok f
+alone (w ∷ ws) f = Err BadSyntax
+
+-- digits, and nothing behind them
+abbrev pub digits_of : Bool → List Lexeme → Result Figure FaultCode
+digits_of minus (Run bs ∷ ws) = then_ok (figure_by minus (read_of bs)) (alone ws)
+digits_of minus (Number bs ∷ ws) = then_ok (figure_by minus (read_of bs)) (alone ws)
+digits_of minus _ = Err BadSyntax
+
+-- a number literal with a sign or without
+abbrev pub figure_of : List Lexeme → Result Figure FaultCode
+figure_of (Minus ∷ ws) = digits_of true ws
+figure_of (Plus ∷ ws) = digits_of false ws
+figure_of ws = digits_of false ws
+
+-- whether a literal is this whole number; its decimals may be zeros
+abbrev pub is_plain : Literal → ℤ → Bool
+is_plain (Int m) n = int_eq m n
+is_plain (Thousandths t) n = int_eq t (n *ℤ pos 1000)
+
+-- whether a figure is this whole number
+abbrev pub is_whole : Figure → ℤ → Bool
+is_whole f n = is_plain f.literal (if f.minus then neg_ℤ n else n)
+
+-- whether three figures are these whole numbers
+abbrev pub are_whole : Figure → Figure → Figure → ℤ → ℤ → ℤ → Bool
+are_whole x y z i j k = is_whole x i && (is_whole y j && is_whole z k)
+
+-- the direction with these components, of which one is 1 or -1 and the others are 0
+abbrev pub direction_by : Figure → Figure → Figure → Option Axis
+direction_by x y z =
+    if are_whole x y z (pos 1) (pos 0) (pos 0) then Some PlusX
+    else if are_whole x y z (negsuc 0) (pos 0) (pos 0) then Some MinusX
+    else if are_whole x y z (pos 0) (pos 1) (pos 0) then Some PlusY
+    else if are_whole x y z (pos 0) (negsuc 0) (pos 0) then Some MinusY
+    else if are_whole x y z (pos 0) (pos 0) (pos 1) then Some PlusZ
+    else if are_whole x y z (pos 0) (pos 0) (negsuc 0) then Some MinusZ
+    else None
+
+-- a direction of three fields, or the leftmost fault
+abbrev pub vector_of : List Lexeme → List Lexeme → List Lexeme → Result Axis FaultCode
+vector_of a b c = then_ok (figure_of a) (λ x. then_ok (figure_of b) (λ y. then_ok (figure_of c) (λ z. or_fault NotAxis (direction_by x y z))))
+
+-- the quarter turns of an angle in degrees
+abbrev pub quarters_by : Figure → Option Quarters
+quarters_by f =
+    if is_whole f (pos 0) then Some turns.Zero
+    else if is_whole f (pos 90) || is_whole f (negsuc 269) then Some turns.One
+    else if is_whole f (pos 180) || is_whole f (negsuc 179) then Some turns.Two
+    else if is_whole f (pos 270) || is_whole f (negsuc 89) then Some turns.Three
+    else None
+
+-- an angle, or the leftmost fault
+abbrev pub angle_of : List Lexeme → Result Quarters FaultCode
+angle_of ws = then_ok (figure_of ws) (λ f. or_fault NotQuarterTurn (quarters_by f))
+
+-- the word of a feature at this place of its line
+abbrev pub word_by : Figure → Option FeatureWord
+word_by f =
+    if is_whole f (pos 3) then Some words.X
+    else if is_whole f (pos 4) then Some words.Y
+    else if is_whole f (pos 5) then Some words.Z
+    else if is_whole f (pos 6) then Some words.I
+    else if is_whole f (pos 7) then Some words.J
+    else if is_whole f (pos 8) then Some words.K
+    else None
+
+-- a word of a feature, or the leftmost fault; other words are left out
+abbrev pub feature_word_of : List Lexeme → Result FeatureWord FaultCode
+feature_word_of ws = then_ok (figure_of ws) (λ f. or_fault Unsupported (word_by f))
+
+-- whether a figure is 1
+abbrev pub one_by : Figure → Option (Unit {0})
+one_by f = if is_whole f (pos 1) then Some tt else None
+
+-- the count 1, or the leftmost fault; other counts are left out
+abbrev pub one_of : List Lexeme → Result (Unit {0}) FaultCode
+one_of ws = then_ok (figure_of ws) (λ f. or_fault Unsupported (one_by f))

@@ -1,0 +1,139 @@
+//! Reads the shifts of a frame.
+
+ghost use Rattle.std.specs.Prelude.{◌≡◌, [], Some, IfOk, IfErr};
+ghost use Rattle.vcm_lines.specs.Fault.{NoMemoryOr};
+ghost use Rattle.vcm_expr.specs.Parsing.{IsExpr, At};
+ghost use Rattle.vcm_syntax.specs.Measuring.{origin_word, is_taken, with_taken, none_taken, free_axis, origin_of, AreOffsets, BreaksOffset, BreaksOffsets};
+
+use crate::places::{bad_syntax, is, only};
+use crate::statement::Offset;
+use std::alloc::Global;
+use vcm_expr::read_expr;
+use vcm_lines::{Phrase, SourceFault, Token};
+use vcm_num::Items;
+use vcm_spec::FrameAxis;
+
+/// The axes that have their shift already.
+#[derive(Clone, Copy)]
+pub struct Taken {
+    pub x: bool,
+    pub y: bool,
+    pub z: bool,
+}
+
+impl Taken {
+    fn none() -> Taken
+        ensures { result ≡ none_taken }
+    {
+        Taken {
+            x: false,
+            y: false,
+            z: false,
+        }
+    }
+
+    fn is_taken(self, axis: FrameAxis) -> bool
+        ensures { result ≡ is_taken self axis }
+    {
+        match axis {
+            FrameAxis::X => self.x,
+            FrameAxis::Y => self.y,
+            FrameAxis::Z => self.z,
+        }
+    }
+
+    /// One axis more.
+    fn with(self, axis: FrameAxis) -> Taken
+        ensures { result ≡ with_taken self axis }
+    {
+        match axis {
+            FrameAxis::X => Taken { x: true, ..self },
+            FrameAxis::Y => Taken { y: true, ..self },
+            FrameAxis::Z => Taken { z: true, ..self },
+        }
+    }
+}
+
+fn origin_word(word: &[u8]) -> Option<FrameAxis>
+    ensures { result ≡ origin_word word.now }
+{
+    if is(word, b"XORIG") {
+        Some(FrameAxis::X)
+    } else if is(word, b"YORIG") {
+        Some(FrameAxis::Y)
+    } else if is(word, b"ZORIG") {
+        Some(FrameAxis::Z)
+    } else {
+        None
+    }
+}
+
+fn free_axis(taken: Taken, axis: Option<FrameAxis>) -> Option<FrameAxis>
+    ensures { result ≡ free_axis taken axis }
+{
+    match axis {
+        None => None,
+        Some(axis) => {
+            if taken.is_taken(axis) {
+                None
+            } else {
+                Some(axis)
+            }
+        }
+    }
+}
+
+/// The axis of a word, which has no shift yet.
+fn origin_of(taken: Taken, words: &Phrase<'_>) -> Option<FrameAxis>
+    ensures { result ≡ origin_of taken words.now }
+{
+    match only(words) {
+        Some(Token::Run(word)) => free_axis(taken, origin_word(word)),
+        _ => None,
+    }
+}
+
+/// A shift along an axis that has none yet.
+fn offset(
+    alloc: Global,
+    line: u32,
+    taken: Taken,
+    word: &Phrase<'_>,
+    length: &Phrase<'_>,
+) -> Result<Offset, SourceFault>
+    ensures axis { IfOk result (λ o. origin_of taken word.now ≡ Some o.axis) }
+    ensures length { IfOk result (λ o. IsExpr length.now o.length) }
+    ensures fault { IfErr result (NoMemoryOr (At line (BreaksOffset (origin_of taken word.now) length.now (λ _. ⊥)))) }
+{
+    match origin_of(taken, word) {
+        None => Err(bad_syntax(line)),
+        Some(axis) => {
+            let length = read_expr(alloc, line, length)?;
+            Ok(Offset { axis, length })
+        }
+    }
+}
+
+/// The shifts of a frame, at most one along each axis.
+pub(crate) fn offsets(
+    alloc: Global,
+    line: u32,
+    fields: &[Phrase<'_>],
+) -> Result<Items<Offset>, SourceFault>
+    ensures ok { IfOk result (AreOffsets none_taken fields.now) }
+    ensures fault { IfErr result (NoMemoryOr (At line (BreaksOffsets none_taken fields.now))) }
+{
+    let mut offsets = Items::new(alloc);
+    let mut taken = Taken::none();
+    let mut place = 0;
+    'shifts: while place < fields.len() {
+        if fields.len() - place < 2 {
+            return Err(bad_syntax(line));
+        }
+        let offset = offset(alloc, line, taken, &fields[place], &fields[place + 1])?;
+        taken = taken.with(offset.axis);
+        offsets.push(offset)?;
+        place += 2;
+    }
+    Ok(offsets)
+}

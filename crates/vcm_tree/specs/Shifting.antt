@@ -1,0 +1,7 @@
+-- The shifts of a frame, as they are read.
+use Rattle.vcm_tree.specs.declared.measuring.Along.{Along}
+use Rattle.vcm_tree.specs.Resolving.{Shifts}
+
+-- the three shifts
+abbrev pub shifts : Along → Shifts
+shifts a = record { x = a.x; y = a.y; z = a.z }
