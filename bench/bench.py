@@ -9,18 +9,17 @@ import sys
 import tempfile
 
 HERE = os.path.dirname(os.path.abspath(__file__))
-PART = """low = [-500000, -500000, -500000]
+LIMITS = """low = [-500000, -500000, -500000]
 high = [500000, 500000, 500000]
 home = [0, 0, 100000]
-[[block]]
-low = [10000, 10000, 0]
-high = [30000, 30000, 20000]
 """
+BLOCK = ([10000, 10000, 0], [30000, 30000, 20000])
 
 
-def job(lines):
-    """The job of a part with one block and the program with these lines."""
-    return PART + "%%\n" + "\n".join(["DMISMN/'bench'", "UNITS/MM,ANGDEC", *lines, "ENDFIL"]) + "\n"
+def job(lines, blocks=(BLOCK,)):
+    """The job of a part with these blocks and the program with these lines."""
+    part = LIMITS + "".join(f"[[block]]\nlow = {low}\nhigh = {high}\n" for low, high in blocks)
+    return part + "%%\n" + "\n".join(["DMISMN/'bench'", "UNITS/MM,ANGDEC", *lines, "ENDFIL"]) + "\n"
 
 
 def loop():
@@ -31,6 +30,16 @@ def loop():
 def moves():
     around = ["GOTO/5,5,Z", "GOTO/35,5,Z", "GOTO/35,35,Z", "GOTO/5,35,Z", "GOTO/0,0,50"]
     return job(["DECL/INTGR,I", "DECL/REAL,Z", "Z=ASSIGN/25.5", "DO/I,1,140000", *around, "ENDDO"])
+
+
+def touches():
+    corners = [(20000 * column - 400000, 20000 * row - 250000) for row in range(25) for column in range(40)]
+    blocks = [([x, y, -10000], [x + 12000, y + 12000, 8000 + 7 * place % 2000]) for place, (x, y) in enumerate(corners)]
+    body = ["DO/I,0,24", "DO/J,0,39", "X=ASSIGN/20*J-396", "Y=ASSIGN/20*I-246", "DO/K,1,4"]
+    measurement = ["MEAS/POINT,F(TOP),1", "GOTO/X,Y,30", "PTMEAS/CART,X,Y,9", "ENDMES", "X=ASSIGN/X+2"]
+    settings = ["SNSET/APPRCH,10", "SNSET/RETRCT,10", "SNSET/SEARCH,5"]
+    start = ["DECL/INTGR,I,J,K", "DECL/REAL,X,Y", "F(TOP)=FEAT/POINT,CART,0,0,9,0,0,1", *settings]
+    return job([*start, *body, *measurement, "ENDDO", "ENDDO", "ENDDO", "OUTPUT/FA(TOP)"], blocks)
 
 
 def texts():
@@ -51,7 +60,7 @@ def lines():
     return job(out)
 
 
-JOBS = {"loop": loop, "moves": moves, "texts": texts, "lines": lines, "tiny": lambda: job(["GOTO/20,20,50"])}
+JOBS = {"loop": loop, "moves": moves, "touches": touches, "texts": texts, "lines": lines, "tiny": lambda: job(["GOTO/20,20,50"])}
 
 
 def once(command, path):

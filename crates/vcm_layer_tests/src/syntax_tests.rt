@@ -41,15 +41,15 @@ fn counts(rt: &HostRuntime, logical: &Logical) -> Option<bool> {
 
 /// The word of a statement that has no effect.
 fn notice(rt: &HostRuntime, text: &[u8]) -> Option<Notice> {
-    match form(rt, text)? {
-        Form::Ignored(notice) => Some(notice),
+    match &form(rt, text)? {
+        Form::Ignored(notice) => Some(*notice),
         _ => None,
     }
 }
 
 /// Whether a statement prints this line.
 fn says(rt: &HostRuntime, text: &[u8], line: &[u8]) -> bool {
-    match form(rt, text) {
+    match &form(rt, text) {
         Some(Form::Say(found)) => found.as_bytes() == line,
         _ => false,
     }
@@ -82,7 +82,7 @@ fn is_variable(e: &Expr, bytes: &[u8]) -> bool {
 /// Whether a statement is a move to three numbers, each with its sign if it has one.
 fn goes_to(rt: &HostRuntime, text: &[u8], numbers: [(Option<Prefix>, Literal); 3]) -> bool {
     let [x, y, z] = numbers;
-    match form(rt, text) {
+    match &form(rt, text) {
         Some(Form::Move(place)) => {
             is_number(&place.x, x.0, x.1)
                 && is_number(&place.y, y.0, y.1)
@@ -94,7 +94,7 @@ fn goes_to(rt: &HostRuntime, text: &[u8], numbers: [(Option<Prefix>, Literal); 3
 
 /// Whether a statement is a move to the values of three variables.
 fn goes_by(rt: &HostRuntime, text: &[u8], x: &[u8], y: &[u8], z: &[u8]) -> bool {
-    match form(rt, text) {
+    match &form(rt, text) {
         Some(Form::Move(place)) => {
             is_variable(&place.x, x) && is_variable(&place.y, y) && is_variable(&place.z, z)
         }
@@ -110,6 +110,14 @@ fn has_name(names: &Items<VariableName>, place: usize, bytes: &[u8]) -> bool {
     }
 }
 
+/// Whether names end with this second one, or with the first.
+fn ends(names: &Items<VariableName>, second: Option<&[u8]>) -> bool {
+    match second {
+        Some(name) => names.len() == 2 && has_name(names, 1, name),
+        None => names.len() == 1,
+    }
+}
+
 /// Whether a statement declares variables of this kind with these two names, or with the first one alone.
 fn declares(
     rt: &HostRuntime,
@@ -118,21 +126,19 @@ fn declares(
     first: &[u8],
     second: Option<&[u8]>,
 ) -> bool {
-    let Some(Form::Declaration(found, names)) = form(rt, text) else {
-        return false;
-    };
-    let ends = match second {
-        Some(name) => names.len() == 2 && has_name(&names, 1, name),
-        None => names.len() == 1,
-    };
-    found == kind && has_name(&names, 0, first) && ends
+    match &form(rt, text) {
+        Some(Form::Declaration(found, names)) => {
+            *found == kind && has_name(names, 0, first) && ends(names, second)
+        }
+        _ => false,
+    }
 }
 
 /// Whether a statement assigns this number to a variable of this name.
 fn assigns(rt: &HostRuntime, text: &[u8], name: &[u8], number: Literal) -> bool {
-    match form(rt, text) {
+    match &form(rt, text) {
         Some(Form::Assignment(found, value)) => {
-            found.as_bytes() == name && is_number(&value, None, number)
+            found.as_bytes() == name && is_number(value, None, number)
         }
         _ => false,
     }
@@ -140,8 +146,8 @@ fn assigns(rt: &HostRuntime, text: &[u8], name: &[u8], number: Literal) -> bool 
 
 /// Whether a statement tests this variable.
 fn tests(rt: &HostRuntime, text: &[u8], name: &[u8]) -> bool {
-    match form(rt, text) {
-        Some(Form::Test(e)) => is_variable(&e, name),
+    match &form(rt, text) {
+        Some(Form::Test(e)) => is_variable(e, name),
         _ => false,
     }
 }
@@ -164,12 +170,12 @@ fn repeats(
     to: i64,
     by: Option<i64>,
 ) -> bool {
-    match form(rt, text) {
+    match &form(rt, text) {
         Some(Form::Repeat(rounds)) => {
             rounds.variable.name().as_bytes() == name
                 && is_whole(&rounds.initial, from)
                 && is_whole(&rounds.limit, to)
-                && steps_by(&rounds, by)
+                && steps_by(rounds, by)
         }
         _ => false,
     }

@@ -11,7 +11,7 @@ use crate::stop::Halt;
 use std::alloc::Global;
 use std::marker::Model;
 use vcm_frame::Frame;
-use vcm_motion::Part;
+use vcm_motion::{Part, contact_of};
 use vcm_num::{Items, NoMemory, Point};
 use vcm_part::is_within;
 use vcm_probe::Settings;
@@ -242,7 +242,7 @@ fn free_move<P: Part>(part: &P, from: Point, to: Point) -> Result<(), Stop>
     if !is_within(&part.bounds(), to) {
         return Err(Stop::Travel(MovePhase::Move));
     }
-    match part.first_hit(from, to) {
+    match contact_of(part, from, to) {
         Some(hit) => Err(Stop::Collision(MovePhase::Move, hit)),
         None => Ok(()),
     }

@@ -22,28 +22,28 @@ told_as line f go (inr p) = inr (p.0, go f.code p.1)
 
 -- ---- FEAT
 
-pub feat_reads : (front point cart x y z : List Lexeme) (fs : List (List Lexeme)) (l : List ℕ) (p : Spot) (d : Axis)
-    → point ≡ field fs 0 → cart ≡ field fs 1 → x ≡ field fs 2 → y ≡ field fs 3 → z ≡ field fs 4
-    → IsTitle (codes "F") front l → IsWord (codes "POINT") point → IsWord (codes "CART") cart → IsSpot x y z p
+pub feat_reads : (front point cart : List Lexeme) (fs : List (List Lexeme)) (l : List ℕ) (p : Spot) (d : Axis)
+    → point ≡ field fs 0 → cart ≡ field fs 1
+    → IsTitle (codes "F") front l → IsWord (codes "POINT") point → IsWord (codes "CART") cart → IsSpot (field fs 2) (field fs 3) (field fs 4) p
     → (vector_of (field fs 5) (field fs 6) (field fs 7) ≡ Ok d) × IsEnd (drop 8 fs) → IsFeat front fs (Feature l p d)
-feat_reads front point cart x y z fs l p d e f a b c title first second spot last = (title, rw e at first, rw f at second, rw (a, b, c) at spot, last.0, last.1)
+feat_reads front point cart fs l p d e f title first second spot last = (title, rw e at first, rw f at second, spot, last.0, last.1)
 
-pub feat_told : (front x y z : List Lexeme) (fs : List (List Lexeme)) (line : ℕ) (f : SourceFault) → x ≡ field fs 2 → y ≡ field fs 3 → z ≡ field fs 4
-    → NoMemoryOr (At line (BreaksSpot x y z)) f → NoMemoryOr (At line (BreaksFeat front fs)) f
-feat_told front x y z fs line f a b c p =
-    told_as {P = BreaksSpot (field fs 2) (field fs 3) (field fs 4)} {Q = BreaksFeat front fs} line f (λ code h. inr (inr (inr (inl h)))) (rw (a, b, c) at p)
+pub feat_told : (front : List Lexeme) (fs : List (List Lexeme)) (line : ℕ) (f : SourceFault)
+    → NoMemoryOr (At line (BreaksSpot (field fs 2) (field fs 3) (field fs 4))) f → NoMemoryOr (At line (BreaksFeat front fs)) f
+feat_told front fs line f p =
+    told_as {P = BreaksSpot (field fs 2) (field fs 3) (field fs 4)} {Q = BreaksFeat front fs} line f (λ code h. inr (inr (inr (inl h)))) p
 
 -- ---- PTMEAS
 
-pub ptmeas_reads : (front cart x y z : List Lexeme) (fs rest : List (List Lexeme)) (p : Spot) (given : Option Axis)
-    → cart ≡ field fs 0 → x ≡ field fs 1 → y ≡ field fs 2 → z ≡ field fs 3 → rest ≡ drop 4 fs
-    → IsBare front → IsWord (codes "CART") cart → IsSpot x y z p → IsGiven rest given → IsPtmeas front fs (Touch p given)
-ptmeas_reads front cart x y z fs rest p given e a b c r bare word spot last = (bare, rw e at word, rw (a, b, c) at spot, rw r at last)
+pub ptmeas_reads : (front cart : List Lexeme) (fs rest : List (List Lexeme)) (p : Spot) (given : Option Axis)
+    → cart ≡ field fs 0 → rest ≡ drop 4 fs
+    → IsBare front → IsWord (codes "CART") cart → IsSpot (field fs 1) (field fs 2) (field fs 3) p → IsGiven rest given → IsPtmeas front fs (Touch p given)
+ptmeas_reads front cart fs rest p given e r bare word spot last = (bare, rw e at word, spot, rw r at last)
 
-pub ptmeas_told : (front x y z : List Lexeme) (fs : List (List Lexeme)) (line : ℕ) (f : SourceFault) → x ≡ field fs 1 → y ≡ field fs 2 → z ≡ field fs 3
-    → NoMemoryOr (At line (BreaksSpot x y z)) f → NoMemoryOr (At line (BreaksPtmeas front fs)) f
-ptmeas_told front x y z fs line f a b c p =
-    told_as {P = BreaksSpot (field fs 1) (field fs 2) (field fs 3)} {Q = BreaksPtmeas front fs} line f (λ code h. inr (inr (inl h))) (rw (a, b, c) at p)
+pub ptmeas_told : (front : List Lexeme) (fs : List (List Lexeme)) (line : ℕ) (f : SourceFault)
+    → NoMemoryOr (At line (BreaksSpot (field fs 1) (field fs 2) (field fs 3))) f → NoMemoryOr (At line (BreaksPtmeas front fs)) f
+ptmeas_told front fs line f p =
+    told_as {P = BreaksSpot (field fs 1) (field fs 2) (field fs 3)} {Q = BreaksPtmeas front fs} line f (λ code h. inr (inr (inl h))) p
 
 pub ptmeas_given : (front : List Lexeme) (fs rest : List (List Lexeme)) (line : ℕ) (f : SourceFault) → rest ≡ drop 4 fs
     → At line (BreaksGiven rest) f → NoMemoryOr (At line (BreaksPtmeas front fs)) f

@@ -1,13 +1,16 @@
 //! Reads a statement's fields, each statement in its form, from the left: of several faults the leftmost is told.
 
-ghost use Rattle.std.specs.Prelude.{◌≡◌, ◌∷◌, None, IfOk, IfErr, MatchResult};
+ghost use Rattle.std.specs.Prelude.{◌≡◌, ◌⊎◌, ◌∷◌, codes, None, IfOk, IfErr, MatchResult};
 ghost use Rattle.vcm_lines.specs.Fault.{NoMemoryOr};
 ghost use Rattle.vcm_expr.specs.Parsing.{At};
+ghost use Rattle.vcm_syntax.specs.Places.{IsWord, BreaksOffered, IsSingle, BreaksSingle, IsMessage, BreaksMessage, IsEnd, BreaksEnd};
 ghost use Rattle.vcm_syntax.specs.Forms.{IsDmismn, BreaksDmismn, IsMetric, BreaksMetric, IsUnits, BreaksUnits, IsDeclaration, BreaksDeclaration, IsDecl, BreaksDecl, IsAssign, BreaksAssign, IsPlace, BreaksPlace, IsGoto, BreaksGoto, IsGohome, IsSay, BreaksSay, IsEndfil, BreaksAlone, IsIf, BreaksIf, IsElse, IsEndif, IsStep, IsRange, BreaksRange, IsStepped, BreaksStepped, IsRounds, BreaksRounds, IsDo, BreaksDo, IsEnddo, IsMark, BreaksMark, IsJumpto, BreaksJumpto, IsPrefix, BreaksPrefix, IsPassed, BreaksPassed, IsForm, BreaksForm};
 
 use crate::measuring::{endmes, feat, meas, obtain, output, ptmeas, recall, rotate, snset, trans};
+use crate::message::Message;
 use crate::places::{
-    aim, bad_syntax, bare, end, message, offered, opened, quoted, single, test, title, unused, word,
+    aim, alone, bad_syntax, bare, closed, end, lacking, message, offered, opened, quoted, single,
+    test, title, unused, word,
 };
 use crate::spots::spot;
 use crate::statement::{Form, Major, Notice, Rounds, Spot};
@@ -37,6 +40,22 @@ fn metric(line: u32, unit: &Phrase<'_>, angle: &Phrase<'_>) -> Result<(), Source
     offered(line, angle, b"ANGDEC")
 }
 
+/// Millimetres, decimal degrees and the word of a temperature, and no field behind it.
+fn tempered(
+    line: u32,
+    unit: &Phrase<'_>,
+    angle: &Phrase<'_>,
+    temperature: &Phrase<'_>,
+    rest: &[Phrase<'_>],
+) -> Result<(), SourceFault>
+    ensures { MatchResult result (λ _. IsMetric unit.now angle.now × IsSingle temperature.now × IsEnd rest.now)
+        (At line (λ code. BreaksMetric unit.now angle.now code ⊎ (BreaksSingle temperature.now code ⊎ BreaksEnd rest.now code))) }
+{
+    metric(line, unit, angle)?;
+    single(line, temperature)?;
+    end(line, rest)
+}
+
 fn units(line: u32, front: &Phrase<'_>, fields: &[Phrase<'_>]) -> Result<Form, SourceFault>
     ensures { MatchResult result (IsUnits front.now fields.now) (At line (BreaksUnits front.now fields.now)) }
 {
@@ -52,9 +71,7 @@ fn units(line: u32, front: &Phrase<'_>, fields: &[Phrase<'_>]) -> Result<Form, S
             Ok(Form::Measures)
         }
         [unit, angle, temperature, rest @ ..] => {
-            metric(line, unit, angle)?;
-            single(line, temperature)?;
-            end(line, rest)?;
+            tempered(line, unit, angle, temperature, rest)?;
             Ok(Form::Measures)
         }
     }
@@ -106,8 +123,7 @@ fn assign(
         [] => Err(bad_syntax(line)),
         [value, rest @ ..] => {
             let value = read_expr(alloc, line, value)?;
-            end(line, rest)?;
-            Ok(Form::Assignment(name, value))
+            Ok(Form::Assignment(name, closed(line, rest, value)?))
         }
     }
 }
@@ -125,8 +141,7 @@ fn spot_alone(
     ensures fault { IfErr result (NoMemoryOr (At line (BreaksPlace (x.now ∷ y.now ∷ z.now ∷ rest.now)))) }
 {
     let spot = spot(alloc, line, x, y, z)?;
-    end(line, rest)?;
-    Ok(spot)
+    closed(line, rest, spot)
 }
 
 /// Three expressions, and nothing more.
@@ -136,14 +151,10 @@ fn place(alloc: Global, line: u32, fields: &[Phrase<'_>]) -> Result<Spot, Source
 {
     match fields {
         [] => Err(bad_syntax(line)),
-        [x] => {
-            read_expr(alloc, line, x)?;
-            Err(bad_syntax(line))
-        }
+        [x] => Err(lacking(alloc, line, x)),
         [x, y] => {
             read_expr(alloc, line, x)?;
-            read_expr(alloc, line, y)?;
-            Err(bad_syntax(line))
+            Err(lacking(alloc, line, y))
         }
         [x, y, z, rest @ ..] => spot_alone(alloc, line, x, y, z, rest),
     }
@@ -171,9 +182,25 @@ fn goto(
 fn gohome(line: u32, front: &Phrase<'_>, fields: &[Phrase<'_>]) -> Result<Form, SourceFault>
     ensures { MatchResult result (IsGohome front.now fields.now) (At line (BreaksAlone front.now fields.now)) }
 {
-    bare(line, front)?;
-    end(line, fields)?;
+    alone(line, front, fields)?;
     Ok(Form::Home)
+}
+
+/// The word of the operator and a message, and no field behind them.
+fn shown(
+    alloc: Global,
+    line: u32,
+    to: &Phrase<'_>,
+    words: &Phrase<'_>,
+    rest: &[Phrase<'_>],
+) -> Result<Message, SourceFault>
+    ensures ok { IfOk result (λ m. IsWord (codes "OPER") to.now × IsMessage words.now m × IsEnd rest.now) }
+    ensures fault { IfErr result (NoMemoryOr
+        (At line (λ code. BreaksOffered (codes "OPER") to.now code ⊎ (BreaksMessage words.now code ⊎ BreaksEnd rest.now code)))) }
+{
+    offered(line, to, b"OPER")?;
+    let message = message(alloc, line, words)?;
+    closed(line, rest, message)
 }
 
 fn say(
@@ -192,20 +219,14 @@ fn say(
             offered(line, to, b"OPER")?;
             Err(bad_syntax(line))
         }
-        [to, words, rest @ ..] => {
-            offered(line, to, b"OPER")?;
-            let message = message(alloc, line, words)?;
-            end(line, rest)?;
-            Ok(Form::Say(message))
-        }
+        [to, words, rest @ ..] => Ok(Form::Say(shown(alloc, line, to, words, rest)?)),
     }
 }
 
 fn endfil(line: u32, front: &Phrase<'_>, fields: &[Phrase<'_>]) -> Result<Form, SourceFault>
     ensures { MatchResult result (IsEndfil front.now fields.now) (At line (BreaksAlone front.now fields.now)) }
 {
-    bare(line, front)?;
-    end(line, fields)?;
+    alone(line, front, fields)?;
     Ok(Form::Ending)
 }
 
@@ -223,8 +244,7 @@ fn iff(
         [] => Err(bad_syntax(line)),
         [condition, rest @ ..] => {
             let condition = test(alloc, line, condition)?;
-            end(line, rest)?;
-            Ok(Form::Test(condition))
+            Ok(Form::Test(closed(line, rest, condition)?))
         }
     }
 }
@@ -232,16 +252,14 @@ fn iff(
 fn otherwise(line: u32, front: &Phrase<'_>, fields: &[Phrase<'_>]) -> Result<Form, SourceFault>
     ensures { MatchResult result (IsElse front.now fields.now) (At line (BreaksAlone front.now fields.now)) }
 {
-    bare(line, front)?;
-    end(line, fields)?;
+    alone(line, front, fields)?;
     Ok(Form::Otherwise)
 }
 
 fn endif(line: u32, front: &Phrase<'_>, fields: &[Phrase<'_>]) -> Result<Form, SourceFault>
     ensures { MatchResult result (IsEndif front.now fields.now) (At line (BreaksAlone front.now fields.now)) }
 {
-    bare(line, front)?;
-    end(line, fields)?;
+    alone(line, front, fields)?;
     Ok(Form::TestEnd)
 }
 
@@ -306,8 +324,7 @@ fn stepped_alone(
     ensures fault { IfErr result (NoMemoryOr (At line (BreaksRounds (index.now ∷ initial.now ∷ limit.now ∷ increment.now ∷ rest.now)))) }
 {
     let rounds = stepped(alloc, line, index, initial, limit, increment)?;
-    end(line, rest)?;
-    Ok(rounds)
+    closed(line, rest, rounds)
 }
 
 /// A range, and perhaps an increment.
@@ -323,13 +340,9 @@ fn rounds(alloc: Global, line: u32, fields: &[Phrase<'_>]) -> Result<Rounds, Sou
         }
         [index, initial] => {
             variable(line, index)?;
-            read_expr(alloc, line, initial)?;
-            Err(bad_syntax(line))
+            Err(lacking(alloc, line, initial))
         }
-        [index, initial, limit] => {
-            let rounds = range(alloc, line, index, initial, limit)?;
-            Ok(rounds)
-        }
+        [index, initial, limit] => { range(alloc, line, index, initial, limit) }
         [index, initial, limit, increment, rest @ ..] => {
             stepped_alone(alloc, line, index, initial, limit, increment, rest)
         }
@@ -352,8 +365,7 @@ fn repeat(
 fn enddo(line: u32, front: &Phrase<'_>, fields: &[Phrase<'_>]) -> Result<Form, SourceFault>
     ensures { MatchResult result (IsEnddo front.now fields.now) (At line (BreaksAlone front.now fields.now)) }
 {
-    bare(line, front)?;
-    end(line, fields)?;
+    alone(line, front, fields)?;
     Ok(Form::RepeatEnd)
 }
 

@@ -4,6 +4,7 @@ ghost use Rattle.std.specs.Prelude.{◌≡◌, ◌⊎◌, ◌∷◌, drop, Ok, E
 ghost use Rattle.vcm_lines.specs.Fault.{NoMemoryOr};
 ghost use Rattle.vcm_expr.specs.Parsing.{At};
 ghost use Rattle.vcm_syntax.specs.Places.{IsEnd, BreaksEnd};
+ghost use Rattle.vcm_syntax.specs.Spots.{IsSpot, BreaksSpot};
 ghost use Rattle.vcm_syntax.specs.Figures.{vector_of};
 ghost use Rattle.vcm_syntax.specs.Forms.{BreaksAlone};
 ghost use Rattle.vcm_syntax.specs.Measuring.{field, IsGiven, BreaksGiven, IsFeat, BreaksFeat, IsMeas, BreaksMeas, IsPtmeas, BreaksPtmeas, IsEndmes, IsSnset, BreaksSnset, IsTrans, BreaksTrans, IsRotate, BreaksRotate, IsRecall, BreaksRecall, IsObtain, BreaksObtain, IsOutput, BreaksOutput};
@@ -11,14 +12,45 @@ ghost use Rattle.vcm_syntax.specs.Measuring.{field, IsGiven, BreaksGiven, IsFeat
 use crate::figures::{angle, feature_word, one, vector};
 use crate::named::{behind, field, named, no_more, setting, source, system, titled, turned_axis};
 use crate::offsets::offsets;
-use crate::places::{bad_syntax, bare, end, offered, word};
+use crate::places::{alone, bad_syntax, bare, end, offered, word};
 use crate::spots::spot;
-use crate::statement::Form;
+use crate::statement::{Form, Spot};
 use crate::variables::target;
 use std::alloc::Global;
 use vcm_expr::read_expr;
 use vcm_lines::{Phrase, SourceFault};
 use vcm_num::Axis;
+
+/// The place whose coordinates stand in three fields.
+fn spot_at(
+    alloc: Global,
+    line: u32,
+    front: &Phrase<'_>,
+    fields: &[Phrase<'_>],
+    x: usize,
+    y: usize,
+    z: usize,
+) -> Result<Spot, SourceFault>
+    ensures ok { IfOk result (IsSpot (field fields.now x) (field fields.now y) (field fields.now z)) }
+    ensures fault { IfErr result (NoMemoryOr (At line (BreaksSpot (field fields.now x) (field fields.now y) (field fields.now z)))) }
+{
+    let x = field(front, fields, x);
+    let y = field(front, fields, y);
+    let z = field(front, fields, z);
+    spot(alloc, line, &x, &y, &z)
+}
+
+/// The direction whose components stand in the sixth field and the two behind it.
+fn outward_axis(line: u32, front: &Phrase<'_>, fields: &[Phrase<'_>]) -> Result<Axis, SourceFault>
+    ensures { MatchResult result
+        (λ d. vector_of (field fields.now 5) (field fields.now 6) (field fields.now 7) ≡ Ok d)
+        (At line (λ code. vector_of (field fields.now 5) (field fields.now 6) (field fields.now 7) ≡ Err code)) }
+{
+    let x = field(front, fields, 5);
+    let y = field(front, fields, 6);
+    let z = field(front, fields, 7);
+    vector(line, &x, &y, &z)
+}
 
 /// The direction of a feature, and no field behind it.
 fn outward(line: u32, front: &Phrase<'_>, fields: &[Phrase<'_>]) -> Result<Axis, SourceFault>
@@ -26,10 +58,7 @@ fn outward(line: u32, front: &Phrase<'_>, fields: &[Phrase<'_>]) -> Result<Axis,
         (λ d. (vector_of (field fields.now 5) (field fields.now 6) (field fields.now 7) ≡ Ok d) × IsEnd (drop 8 fields.now))
         (At line (λ code. (vector_of (field fields.now 5) (field fields.now 6) (field fields.now 7) ≡ Err code) ⊎ BreaksEnd (drop 8 fields.now) code)) }
 {
-    let x = field(front, fields, 5);
-    let y = field(front, fields, 6);
-    let z = field(front, fields, 7);
-    let axis = vector(line, &x, &y, &z)?;
+    let axis = outward_axis(line, front, fields)?;
     end(line, behind(fields, 8))?;
     Ok(axis)
 }
@@ -47,10 +76,7 @@ pub(crate) fn feat(
     let name = titled(line, front, b"F")?;
     offered(line, &field(front, fields, 0), b"POINT")?;
     system(line, &field(front, fields, 1))?;
-    let x = field(front, fields, 2);
-    let y = field(front, fields, 3);
-    let z = field(front, fields, 4);
-    let place = spot(alloc, line, &x, &y, &z)?;
+    let place = spot_at(alloc, line, front, fields, 2, 3, 4)?;
     let out = outward(line, front, fields)?;
     Ok(Form::Feature(name, place, out))
 }
@@ -109,10 +135,7 @@ pub(crate) fn ptmeas(
 {
     bare(line, front)?;
     word(line, &field(front, fields, 0), b"CART")?;
-    let x = field(front, fields, 1);
-    let y = field(front, fields, 2);
-    let z = field(front, fields, 3);
-    let place = spot(alloc, line, &x, &y, &z)?;
+    let place = spot_at(alloc, line, front, fields, 1, 2, 3)?;
     let out = given(line, front, behind(fields, 4))?;
     Ok(Form::Touch(place, out))
 }
@@ -125,8 +148,7 @@ pub(crate) fn endmes(
 ) -> Result<Form, SourceFault>
     ensures { MatchResult result (IsEndmes front.now fields.now) (At line (BreaksAlone front.now fields.now)) }
 {
-    bare(line, front)?;
-    end(line, fields)?;
+    alone(line, front, fields)?;
     Ok(Form::MeasureEnd)
 }
 

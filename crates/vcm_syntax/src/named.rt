@@ -6,7 +6,7 @@ ghost use Rattle.vcm_expr.specs.Parsing.{At};
 ghost use Rattle.vcm_syntax.specs.Places.{IsWord, IsEnd, IsTitle, BreaksTitle};
 ghost use Rattle.vcm_syntax.specs.Measuring.{field, BreaksSystem, IsNamed, BreaksNamed, source_by, IsSource, BreaksSource, setting_word, IsSetting, BreaksSetting, axis_word, IsAxisWord, BreaksAxisWord, BreaksMore};
 
-use crate::places::{bad_syntax, is, only, title, unsupported};
+use crate::places::{bad_syntax, is, only, parenthesized, title, unsupported};
 use vcm_expr::{Name, is_name};
 use vcm_lines::{Phrase, SourceFault, Token};
 use vcm_spec::{FrameAxis, Setting, Source};
@@ -64,18 +64,10 @@ fn labelled<'a>(words: &Phrase<'a>) -> Option<(&'a [u8], &'a [u8])>
     ensures { MatchOption result ((bs label : List ℕ) → words.now ≡ Run bs ∷ Open ∷ Run label ∷ Close ∷ [] → ⊥)
         (λ r. words.now ≡ Run r.0.now ∷ Open ∷ Run r.1.now ∷ Close ∷ []) }
 {
-    let Some((Token::Run(first), rest)) = words.split_first() else {
-        return None;
-    };
-    let Some((Token::Open, rest)) = rest.split_first() else {
-        return None;
-    };
-    let Some((Token::Run(label), rest)) = rest.split_first() else {
-        return None;
-    };
-    match only(&rest) {
-        Some(Token::Close) => Some((first, label)),
-        _ => None,
+    let (first, label, rest) = parenthesized(words)?;
+    match rest.split_first() {
+        None => Some((first, label)),
+        Some(_) => None,
     }
 }
 

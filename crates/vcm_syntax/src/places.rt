@@ -1,11 +1,11 @@
 //! Reads what stands at one place of a statement.
 
-ghost use Rattle.std.specs.Prelude.{◌≡◌, ◌∷◌, [], IfOk, IfErr, MatchOption, MatchResult};
+ghost use Rattle.std.specs.Prelude.{◌≡◌, ◌⊎◌, ◌∷◌, [], ℕ, List, IfOk, IfErr, MatchOption, MatchResult};
 ghost use Rattle.std.specs.List.{list_all};
 ghost use Rattle.std.specs.Str.{bytes_eq};
 ghost use Rattle.vcm_lines.specs.Fault.{NoMemoryOr};
-ghost use Rattle.vcm_lines.specs.Lexemes.{Lexeme, lexeme, is_spelled};
-ghost use Rattle.vcm_expr.specs.Parsing.{At};
+ghost use Rattle.vcm_lines.specs.Lexemes.{Lexeme, Run, Open, Close, lexeme, is_spelled};
+ghost use Rattle.vcm_expr.specs.Parsing.{BreaksExpr, At};
 ghost use Rattle.vcm_syntax.specs.Places.{IsBare, BreaksBare, IsWord, BreaksWord, BreaksOffered, IsSingle, BreaksSingle, IsText, BreaksText, IsMessage, BreaksMessage, IsRest, BreaksRest, IsEnd, BreaksEnd, IsTitle, BreaksTitle, IsLabel, BreaksLabel, within, begun, IsTest, BreaksTest, IsOpened, BreaksOpened, IsAim, BreaksAim};
 
 use crate::message::{Message, is_text};
@@ -149,7 +149,57 @@ pub(crate) fn end(line: u32, fields: &[Phrase<'_>]) -> Result<(), SourceFault>
     }
 }
 
+/// A value, where no field is left behind those that it was read from.
+pub(crate) fn closed<T: Drop>(line: u32, fields: &[Phrase<'_>], value: T) -> Result<T, SourceFault>
+    ensures { MatchResult result (λ v. (v ≡ value) × IsEnd fields.now) (At line (BreaksEnd fields.now)) }
+{
+    match fields {
+        [] => Ok(value),
+        [_, ..] => Err(bad_syntax(line)),
+    }
+}
+
+/// Nothing before a major word, and no field behind it.
+pub(crate) fn alone(line: u32, front: &Phrase<'_>, fields: &[Phrase<'_>]) -> Result<(), SourceFault>
+    ensures { MatchResult result (λ _. IsBare front.now × IsEnd fields.now)
+        (At line (λ code. BreaksBare front.now code ⊎ BreaksEnd fields.now code)) }
+{
+    bare(line, front)?;
+    end(line, fields)
+}
+
+/// What is wrong with an expression behind which a field is missing: a fault of its own, or that.
+pub(crate) fn lacking(alloc: Global, line: u32, words: &Phrase<'_>) -> SourceFault
+    ensures { NoMemoryOr (At line (λ code. BreaksExpr words.now code ⊎ (code ≡ FaultCode.BadSyntax))) result }
+{
+    match read_expr(alloc, line, words) {
+        Ok(_) => bad_syntax(line),
+        Err(fault) => fault,
+    }
+}
+
+/// A word, the one in parentheses behind it, and what stands behind these.
+pub(crate) fn parenthesized<'a>(words: &Phrase<'a>) -> Option<(&'a [u8], &'a [u8], Phrase<'a>)>
+    ensures { MatchOption result ((bs label : List ℕ) (ws : List Lexeme) → words.now ≡ Run bs ∷ Open ∷ Run label ∷ Close ∷ ws → ⊥)
+        (λ r. words.now ≡ Run r.0.now ∷ Open ∷ Run r.1.now ∷ Close ∷ r.2) }
+{
+    let Some((Token::Run(first), rest)) = words.split_first() else {
+        return None;
+    };
+    let Some((Token::Open, rest)) = rest.split_first() else {
+        return None;
+    };
+    let Some((Token::Run(label), rest)) = rest.split_first() else {
+        return None;
+    };
+    match rest.split_first() {
+        Some((Token::Close, rest)) => Some((first, label, rest)),
+        _ => None,
+    }
+}
+
 /// The label of a prefix such as `S(l)=`.
+#[tactic(auto, using(crate::proofs::NamedPlaces::untitled))]
 pub(crate) fn title<'a>(
     line: u32,
     words: &Phrase<'a>,
@@ -157,16 +207,7 @@ pub(crate) fn title<'a>(
 ) -> Result<&'a [u8], SourceFault>
     ensures { MatchResult result (λ l. IsTitle letter.now words.now l.now) (At line (BreaksTitle letter.now words.now)) }
 {
-    let Some((Token::Run(first), rest)) = words.split_first() else {
-        return Err(bad_syntax(line));
-    };
-    let Some((Token::Open, rest)) = rest.split_first() else {
-        return Err(bad_syntax(line));
-    };
-    let Some((Token::Run(label), rest)) = rest.split_first() else {
-        return Err(bad_syntax(line));
-    };
-    let Some((Token::Close, rest)) = rest.split_first() else {
+    let Some((first, label, rest)) = parenthesized(words) else {
         return Err(bad_syntax(line));
     };
     match only(&rest) {
@@ -215,10 +256,7 @@ pub(crate) fn test(alloc: Global, line: u32, words: &Phrase<'_>) -> Result<Expr,
 {
     match within(words) {
         Some(inner) => read_expr(alloc, line, &inner),
-        None => {
-            read_expr(alloc, line, &begun(words))?;
-            Err(bad_syntax(line))
-        }
+        None => Err(lacking(alloc, line, &begun(words))),
     }
 }
 

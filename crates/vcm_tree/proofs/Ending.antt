@@ -4,7 +4,7 @@ use Rattle.std.specs.Prelude.{IsTrue}
 use Rattle.std.proofs.lemmas.List.{take_all}
 use Rattle.vcm_syntax.specs.declared.statement.Statement.{Statement}
 use Rattle.vcm_tree.specs.declared.program.Noticed.{Noticed}
-use Rattle.vcm_tree.specs.declared.resolving.Progress.{Progress}
+use Rattle.vcm_tree.specs.declared.taking.Progress.{Progress}
 use Rattle.vcm_tree.specs.Order.{is_ended}
 use Rattle.vcm_tree.specs.Jumps.{labels_of}
 use Rattle.vcm_tree.specs.Resolving.{Behind, behind_all, start}

@@ -1,5 +1,5 @@
 -- One statement more, from what its parts mean.
-use Rattle.std.proofs.Common.{◌≡◌, ℕ, List, [], ◌∷◌, ◌++◌, Result, Ok, sym, ap, ◌∙◌, inl, inr}
+use Rattle.std.proofs.Common.{◌≡◌, ℕ, List, [], ◌∷◌, ◌++◌, Result, Ok, Err, OnOk, refl, sym, ap, ◌∙◌, subst, inl, inr}
 use Rattle.std.proofs.lemmas.List.{append-nil}
 use Rattle.vcm_num.specs.declared.number.Kind.{Kind}
 use Rattle.vcm_lines.specs.declared.fault.FaultCode.{FaultCode}
@@ -12,12 +12,12 @@ use Rattle.vcm_syntax.specs.declared.statement.Form.{Form}
 use Rattle.vcm_syntax.specs.declared.statement.Form.TheVariants.{Declaration, Mark}
 use Rattle.vcm_syntax.specs.declared.statement.Statement.{Statement}
 use Rattle.vcm_tree.specs.declared.builder.Builder.{Builder}
-use Rattle.vcm_tree.specs.declared.resolving.Progress.{Progress}
+use Rattle.vcm_tree.specs.declared.taking.Progress.{Progress}
 use Rattle.vcm_tree.specs.Pieces.{Step, piece, Does, Marks}
 use Rattle.vcm_spec.specs.Program.{Label}
-use Rattle.vcm_tree.specs.Resolving.{Behind, behind, Measured, measured_after, Declares, Counts, then_ok, with_all, marked, label_of, does, counts, stated, blocks_after, labels_after, ToldAt}
+use Rattle.vcm_tree.specs.Resolving.{Behind, behind, Measured, measured_after, Declares, Counts, then_ok, with_all, marked, label_of, counts, stated, stated_by, blocks_after, labels_after, ToldAt}
 use Rattle.vcm_tree.specs.Building.{blocks_of, written, Reads}
-use Rattle.vcm_tree.specs.Taking.{measured_of, behind_of, TakesStated}
+use Rattle.vcm_tree.specs.Taking.{measured_of, behind_of, ActsSo, ActedAt, TakesStated}
 
 -- a refusal of a counted statement is one of its meaning
 pub counted_told : (line : ℕ) (b : Behind) (form : Form) (r : Result Step FaultCode) (f : SourceFault) → stated b form ≡ counts r → NoMemoryOr (ToldAt line r) f
@@ -26,10 +26,9 @@ counted_told line b form r f e (inl none) = inl none
 counted_told line b form r f e (inr p) = inr (p.0, e ∙ ap counts p.1)
 
 -- a refusal of a simple statement is one of its meaning
-pub simple_told : (line : ℕ) (b : Behind) (form : Form) (r : Result (Simple Tree) FaultCode) (f : SourceFault) → stated b form ≡ counts (does r) → NoMemoryOr (ToldAt line r) f
-    → NoMemoryOr (ToldAt line (stated b form)) f
-simple_told line b form r f e (inl none) = inl none
-simple_told line b form r f e (inr p) = inr (p.0, e ∙ ap (λ q. counts (does q)) p.1)
+pub acted_told : (s : Statement) (b : Behind) (f : SourceFault) → NoMemoryOr (ActedAt s b) f → NoMemoryOr (ToldAt s.line (stated b s.form)) f
+acted_told s b f (inl none) = inl none
+acted_told s b f (inr p) = inr (p.0, ap (stated_by b s.form) p.1)
 
 -- what is read behind others, by its parts
 abbrev parts : List Variable → Builder → List Label → Measured → Behind
@@ -50,11 +49,12 @@ module _ (s : Statement) (old new : Progress) where
     pieces = reads.pieces;
   }
 
-  -- a simple statement
-  pub simple_takes : (r : Result (Simple Tree) FaultCode) (what : Simple Tree) → stated (behind_of old) s.form ≡ counts (does r) → r ≡ Ok what
-      → Reads (Ok (Does what)) s.line old.builder new.builder → new.names ≡ old.names → new.labels ≡ old.labels → measured_of new ≡ measured_after (measured_of old) s.form
-      → TakesStated s old new
-  simple_takes r what e h reads names labels measures = counted_takes (Ok (Does what)) (e ∙ ap (λ q. counts (does q)) h) reads names labels measures
+  -- a simple statement, which stands behind what is read of its names
+  pub simple_takes : (mid : Progress) (what : Simple Tree) → ActsSo s old mid what → Reads (Ok (Does what)) s.line mid.builder new.builder → new.names ≡ mid.names
+      → new.labels ≡ mid.labels → measured_of new ≡ measured_of mid → TakesStated s old new
+  simple_takes mid what acts reads names labels measures =
+      counted_takes (Ok (Does what)) (ap (stated_by (behind_of old) s.form) acts.is) (subst (λ b. Reads (Ok (Does what)) s.line b new.builder) acts.builder reads)
+      (names ∙ acts.names) (labels ∙ acts.labels) (measures ∙ acts.measures)
 
   pub declaration_takes : (ws : List Variable) (kind : Kind) (names : List (List ℕ)) → s.form ≡ Declaration kind names → with_all old.names kind names ≡ Ok ws
       → new.names ≡ ws → new.labels ≡ old.labels → new.builder ≡ old.builder → measured_of new ≡ measured_of old → TakesStated s old new
@@ -84,3 +84,22 @@ module _ (s : Statement) (old new : Progress) where
         ∙ ap (λ form. behind old.names (blocks_of old.builder.opens.items) (old.labels ++ label_of name ∷ []) (measured_after (measured_of old) form)) (sym e);
     pieces = pieces;
   }
+
+  -- the same where the outcome of a call is handed on
+  pub counted_on : (result : Result (Unit {0}) SourceFault) (r : Result Step FaultCode) → stated (behind_of old) s.form ≡ counts r → OnOk result (Reads r s.line old.builder new.builder)
+      → new.names ≡ old.names → new.labels ≡ old.labels → measured_of new ≡ measured_after (measured_of old) s.form → OnOk result (TakesStated s old new)
+  counted_on (Ok x) r e reads names labels measures = counted_takes r e reads names labels measures
+  counted_on (Err f) r e reads names labels measures = tt
+
+  pub declaration_on : (result : Result (Unit {0}) SourceFault) (kind : Kind) (names : List (List ℕ)) → s.form ≡ Declaration kind names
+      → OnOk result (with_all old.names kind names ≡ Ok new.names) → new.labels ≡ old.labels → new.builder ≡ old.builder → measured_of new ≡ measured_of old
+      → OnOk result (TakesStated s old new)
+  declaration_on (Ok x) kind names e h labels builder measures = declaration_takes new.names kind names e h refl labels builder measures
+  declaration_on (Err f) kind names e h labels builder measures = tt
+
+  pub mark_on : (result : Result (Unit {0}) SourceFault) (name : List ℕ) → s.form ≡ Mark name → OnOk result (marked old.labels (label_of name) ≡ Ok (Marks (label_of name)))
+      → OnOk result (new.labels ≡ old.labels ++ label_of name ∷ []) → OnOk result (written new.builder ≡ written old.builder ++ piece s.line (Marks (label_of name)) ∷ [])
+      → OnOk result (blocks_of new.builder.opens.items ≡ blocks_of old.builder.opens.items) → new.names ≡ old.names → measured_of new ≡ measured_of old
+      → OnOk result (TakesStated s old new)
+  mark_on (Ok x) name e fresh labels pieces blocks names measures = mark_takes name e fresh labels pieces blocks names measures
+  mark_on (Err f) name e fresh labels pieces blocks names measures = tt

@@ -14,7 +14,7 @@ use Rattle.vcm_syntax.specs.declared.statement.Form.TheVariants.{Opening, Measur
 use Rattle.vcm_syntax.specs.declared.statement.Statement.{Statement}
 use Rattle.vcm_tree.specs.declared.program.Noticed.{Noticed}
 use Rattle.vcm_tree.specs.declared.builder.Open.{Open}
-use Rattle.vcm_tree.specs.declared.resolving.Progress.{Progress}
+use Rattle.vcm_tree.specs.declared.taking.Progress.{Progress}
 use Rattle.vcm_tree.specs.Order.{is_ending, is_ended}
 use Rattle.vcm_tree.specs.Pieces.{pieces}
 use Rattle.vcm_tree.specs.Resolving.{Behind, behind, measured, Opened, Meaning, counts, ended, stated, resolved, behind_by, behind_one, behind_all, start, pieces_by, pieces_from, BreaksNames, names_line, ToldAt}

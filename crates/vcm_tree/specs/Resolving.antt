@@ -322,32 +322,45 @@ counts r = then_ok r (λ s. Ok (Counts s))
 abbrev pub does : Result (Simple Tree) FaultCode → Result Step FaultCode
 does r = then_ok r (λ s. Ok (Does s))
 
+-- a simple statement behind others where it may stand there, or the code of the leftmost rule that it breaks; nothing for any other statement
+abbrev pub acted : Behind → Form → Option (Result (Simple Tree) FaultCode)
+acted b (Assignment name value) = Some (assigned b.variables name value)
+acted b (Move p) = Some (moved b.variables p.x p.y p.z)
+acted b Home = Some (Ok GoHome)
+acted b (Say bytes) = Some (Ok (Text bytes))
+acted b (Feature l p d) = Some (declared b.measured.features b.variables l p d)
+acted b (Touch p given) = Some (touched b.blocks b.measured.touched b.variables p given)
+acted b (Configure which e) = Some (configured b.variables which e)
+acted b (Shift l os) = Some (shifted b.measured.frames b.variables l os)
+acted b (Rotation l axis n) = Some (rotated b.measured.frames l axis n)
+acted b (Restore l) = Some (recalled b.measured.frames l)
+acted b (Query name side l word) = Some (obtained b.measured.features b.variables name side l word)
+acted b (Report side l) = Some (reported b.measured.features side l)
+acted b _ = None
+
+-- the meaning of a statement that isn't simple
+abbrev pub structured : Behind → Form → Result Meaning FaultCode
+structured b (Declaration kind names) = then_ok (with_all b.variables kind names) (λ ws. Ok (Declares ws))
+structured b (Test e) = counts (nested b.blocks (tested b.variables e))
+structured b Otherwise = counts (divided b.blocks)
+structured b TestEnd = counts (test_ended b.blocks)
+structured b (Repeat r) = counts (nested b.blocks (repeated b.variables r))
+structured b RepeatEnd = counts (repeat_ended b.blocks)
+structured b (Mark name) = counts (marked b.labels (label_of name))
+structured b (Leap name) = counts (Ok (Leaps (label_of name)))
+structured b (Measure l) = counts (nested b.blocks (opened_measure b.measured.features l))
+structured b MeasureEnd = counts (measure_ended b.blocks b.measured.touched)
+structured b Ending = counts (ended b.blocks)
+structured b _ = Ok Silent
+
+-- the meaning of a simple statement, or of another one
+abbrev pub stated_by : Behind → Form → Option (Result (Simple Tree) FaultCode) → Result Meaning FaultCode
+stated_by b form (Some r) = counts (does r)
+stated_by b form None = structured b form
+
 -- the meaning of a statement behind others where it may stand there, or the code of the leftmost rule that it breaks
 abbrev pub stated : Behind → Form → Result Meaning FaultCode
-stated b (Declaration kind names) = then_ok (with_all b.variables kind names) (λ ws. Ok (Declares ws))
-stated b (Assignment name value) = counts (does (assigned b.variables name value))
-stated b (Move p) = counts (does (moved b.variables p.x p.y p.z))
-stated b Home = counts (Ok (Does GoHome))
-stated b (Say bytes) = counts (Ok (Does (Text bytes)))
-stated b (Test e) = counts (nested b.blocks (tested b.variables e))
-stated b Otherwise = counts (divided b.blocks)
-stated b TestEnd = counts (test_ended b.blocks)
-stated b (Repeat r) = counts (nested b.blocks (repeated b.variables r))
-stated b RepeatEnd = counts (repeat_ended b.blocks)
-stated b (Mark name) = counts (marked b.labels (label_of name))
-stated b (Leap name) = counts (Ok (Leaps (label_of name)))
-stated b (Feature l p d) = counts (does (declared b.measured.features b.variables l p d))
-stated b (Measure l) = counts (nested b.blocks (opened_measure b.measured.features l))
-stated b (Touch p given) = counts (does (touched b.blocks b.measured.touched b.variables p given))
-stated b MeasureEnd = counts (measure_ended b.blocks b.measured.touched)
-stated b (Configure which e) = counts (does (configured b.variables which e))
-stated b (Shift l os) = counts (does (shifted b.measured.frames b.variables l os))
-stated b (Rotation l axis n) = counts (does (rotated b.measured.frames l axis n))
-stated b (Restore l) = counts (does (recalled b.measured.frames l))
-stated b (Query name side l word) = counts (does (obtained b.measured.features b.variables name side l word))
-stated b (Report side l) = counts (does (reported b.measured.features side l))
-stated b Ending = counts (ended b.blocks)
-stated b _ = Ok Silent
+stated b form = stated_by b form (acted b form)
 
 -- whether the innermost block is that of a MEAS
 abbrev pub is_measuring : List Opened → Bool

@@ -1,14 +1,18 @@
 -- What is read of a program, and one statement more.
-use Rattle.std.specs.Prelude.{◌≡◌, ℕ, List, ◌++◌, Ok}
+use Rattle.std.specs.Prelude.{◌≡◌, ℕ, List, ◌++◌, Option, Some, None, Ok, Err}
 use Rattle.vcm_expr.specs.Names.{Variable}
 use Rattle.vcm_syntax.specs.declared.statement.Rounds.{Rounds}
 use Rattle.vcm_syntax.specs.declared.statement.Statement.{Statement}
+use Rattle.vcm_lines.specs.declared.fault.SourceFault.{SourceFault}
 use Rattle.vcm_spec.specs.Expression.{Tree}
+use Rattle.vcm_spec.specs.Simple.{Simple}
 use Rattle.vcm_tree.specs.declared.builder.Head.{Head}
 use Rattle.vcm_tree.specs.declared.builder.Head.TheVariants.{Body}
-use Rattle.vcm_tree.specs.declared.resolving.Progress.{Progress}
+use Rattle.vcm_tree.specs.declared.taking.Progress.{Progress}
+use Rattle.vcm_tree.specs.declared.node.Action.{Action}
+use Rattle.vcm_tree.specs.Nodes.{action_of}
 use Rattle.vcm_tree.specs.Pieces.{Repeats}
-use Rattle.vcm_tree.specs.Resolving.{Measured, measured, Behind, behind, Meaning, repeated, stated, resolved, behind_by, pieces_by}
+use Rattle.vcm_tree.specs.Resolving.{Measured, measured, measured_after, Behind, behind, Meaning, repeated, acted, stated, resolved, behind_by, pieces_by}
 use Rattle.vcm_tree.specs.Building.{blocks_of, written}
 
 -- the rounds are these, and open a body by this
@@ -27,6 +31,23 @@ measured_of p = measured p.features p.frames p.touched
 -- what the statements that are read leave behind them
 abbrev pub behind_of : Progress → Behind
 behind_of p = behind p.names (blocks_of p.builder.opens.items) p.labels (measured_of p)
+
+-- the statement is this simple one behind the others, and leaves what it says of features and frames
+pub record ActsSo (s : Statement) (old new : Progress) (what : Simple Tree) : Type 0 where
+  pub is : acted (behind_of old) s.form ≡ Some (Ok what)
+  pub measures : measured_of new ≡ measured_after (measured_of old) s.form
+  pub names : new.names ≡ old.names
+  pub labels : new.labels ≡ old.labels
+  pub builder : new.builder ≡ old.builder
+
+-- the statement is this simple one, or none
+abbrev pub Acts : Statement → Progress → Progress → Option Action → Type 0
+Acts s old new (Some action) = ActsSo s old new (action_of action)
+Acts s old new None = (acted (behind_of old) s.form ≡ None) × (new ≡ old)
+
+-- the refusal tells the line of a simple statement, and the rule that it breaks
+abbrev pub ActedAt : Statement → Behind → SourceFault → Type 0
+ActedAt s b f = (f.line ≡ s.line) × (acted b s.form ≡ Some (Err f.code))
 
 -- the statement has a meaning behind the others, and is read
 pub record Takes (s : Statement) (old new : Progress) : Type 0 where

@@ -14,6 +14,7 @@ mod program;
 mod resolving;
 mod statements;
 mod tables;
+mod taking;
 mod titles;
 
 pub use node::{Action, Block, Label, Node};

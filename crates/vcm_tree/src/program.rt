@@ -12,8 +12,8 @@ use crate::builder::Builder;
 use crate::count::count;
 use crate::labels::Labels;
 use crate::node::Block;
-use crate::resolving::{Progress, take};
 use crate::tables::tables_of;
+use crate::taking::{Progress, take};
 use crate::titles::Titles;
 use std::alloc::{AllocError, Global};
 use std::marker::Model;
@@ -67,12 +67,12 @@ fn note(notices: &mut Vec<Noticed>, statement: &Statement) -> Result<(), AllocEr
 }
 
 /// The program of the statements, or the first fault among their names and blocks.
-pub(crate) fn drafted(alloc: Global, all: Vec<Statement>) -> Result<Draft, SourceFault>
-    requires ended { IsTrue (is_ended all.items) }
-    ensures clean { IfOk result (λ _. IsClean BreaksNames all.items) }
-    ensures program { IfOk result (λ d. IsParsed all.items (record { program = d.tree; names = d.names; notices = d.notices.items })) }
+pub(crate) fn drafted(alloc: Global, all: &[Statement]) -> Result<Draft, SourceFault>
+    requires ended { IsTrue (is_ended all.now) }
+    ensures clean { IfOk result (λ _. IsClean BreaksNames all.now) }
+    ensures program { IfOk result (λ d. IsParsed all.now (record { program = d.tree; names = d.names; notices = d.notices.items })) }
     ensures labels { IfOk result (λ d. d.labels ≡ labels_of d.tree) }
-    ensures fault { IfErr result (NoMemoryOr (λ f. FirstFault BreaksNames names_line all.items f.code f.line)) }
+    ensures fault { IfErr result (NoMemoryOr (λ f. FirstFault BreaksNames names_line all.now f.code f.line)) }
 {
     let mut read = Progress {
         names: Names::new(alloc),
@@ -84,7 +84,7 @@ pub(crate) fn drafted(alloc: Global, all: Vec<Statement>) -> Result<Draft, Sourc
     };
     let mut notices = Vec::new(alloc);
     for statement in all {
-        note(&mut notices, &statement)?;
+        note(&mut notices, statement)?;
         take(alloc, &mut read, statement)?;
     }
     let names = Listing {

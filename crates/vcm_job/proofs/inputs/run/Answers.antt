@@ -20,8 +20,7 @@ returns-then-is_err-clause-fault g c =
 
 pub returns-then-is_halted-clause-fault : goal.returns-then-is_halted-clause-fault
 returns-then-is_halted-clause-fault g c =
-    let run = rw c.deref.ensures.value at c.in_ok-summary.ensures.run in
-    (
+    let run = rw c.deref.ensures.value at c.in_ok-summary.ensures.run in (
       run_halted _ _ c.in-Ok.ensures.all _ _ c.in_ok-summary.summary run ((rw c.ran-ran.ensures at c.if-is_halted.ensures.halted) refl) _ (ap (λ r. r.done) c.ran-ran.ensures),
       keeps_same _,
     )

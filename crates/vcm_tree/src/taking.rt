@@ -1,0 +1,167 @@
+//! Reads statements, one behind the other: what each of them does to a program.
+
+ghost use Rattle.std.specs.Prelude.{◌≡◌, None, IfOk, IfErr, OnOk};
+ghost use Rattle.vcm_lines.specs.Fault.{NoMemoryOr};
+ghost use Rattle.vcm_tree.specs.Resolving.{ToldAt, is_barred, acted, stated, resolved};
+ghost use Rattle.vcm_tree.specs.Taking.{behind_of, Acts, ActedAt, Takes, TakesStated};
+
+use crate::builder::{Builder, bad_body};
+use crate::labels::Labels;
+use crate::measuring::{
+    configure, declare_feature, measure, obtain, recall, report, rotate, shift, touch,
+};
+use crate::node::{Action, Label};
+use crate::resolving::{assign, declare_all, go_to, mark, repeat, test};
+use crate::titles::Titles;
+use std::alloc::Global;
+use vcm_expr::Names;
+use vcm_lines::SourceFault;
+use vcm_syntax::{Form, Message, Statement};
+
+/// What is read of a program: its variables, its features and frames, its jump labels, its blocks, and whether the `MEAS` block that is open
+/// has its `PTMEAS`.
+#[derive(Drop)]
+pub(crate) struct Progress {
+    pub(crate) names: Names,
+    pub(crate) features: Titles,
+    pub(crate) frames: Titles,
+    pub(crate) touched: bool,
+    pub(crate) labels: Labels,
+    pub(crate) builder: Builder,
+}
+
+// Whether a statement is one that doesn't stand in a `MEAS` block.
+fn is_barred(form: &Form) -> bool
+    ensures { result ≡ is_barred form.now }
+{
+    match form {
+        Form::Assignment(_, _) | Form::Say(_) | Form::Test(_) | Form::Repeat(_) => true,
+        Form::Mark(_) | Form::Leap(_) | Form::Feature(_, _, _) | Form::Measure(_) => true,
+        Form::Configure(_, _) | Form::Shift(_, _) | Form::Rotation(_, _, _) => true,
+        Form::Restore(_) | Form::Query(_, _, _, _) | Form::Report(_, _) => true,
+        _ => false,
+    }
+}
+
+/// Reads one statement more.
+pub(crate) fn take(
+    alloc: Global,
+    read: &mut Progress,
+    statement: &Statement,
+) -> Result<(), SourceFault>
+    ensures ok { OnOk result (Takes statement.now read.old read.new) }
+    ensures fault { IfErr result (NoMemoryOr (ToldAt statement.now.line (resolved (behind_of read.old) statement.now.form))) }
+{
+    if read.builder.measuring().is_some() && is_barred(&statement.form) {
+        return Err(bad_body(statement.line));
+    }
+    take_stated(alloc, read, statement)
+}
+
+// Reads one statement more where it may stand.
+fn take_stated(alloc: Global, read: &mut Progress, statement: &Statement) -> Result<(), SourceFault>
+    ensures ok { OnOk result (TakesStated statement.now read.old read.new) }
+    ensures fault { IfErr result (NoMemoryOr (ToldAt statement.now.line (stated (behind_of read.old) statement.now.form))) }
+{
+    match simple(alloc, read, statement)? {
+        Some(action) => {
+            read.builder.act(statement.line, action)?;
+            Ok(())
+        }
+        None => take_structured(alloc, read, statement),
+    }
+}
+
+// The simple statement that a statement is, if it is one.
+fn simple(
+    alloc: Global,
+    read: &mut Progress,
+    statement: &Statement,
+) -> Result<Option<Action>, SourceFault>
+    ensures ok { IfOk result (Acts statement.now read.old read.new) }
+    ensures fault { IfErr result (NoMemoryOr (ActedAt statement.now (behind_of read.old))) }
+{
+    let line = statement.line;
+    let names = &read.names;
+    match &statement.form {
+        Form::Assignment(name, value) => Ok(Some(assign(alloc, line, names, name, value)?)),
+        Form::Move(place) => Ok(Some(go_to(alloc, line, names, place)?)),
+        Form::Home => Ok(Some(Action::GoHome)),
+        Form::Say(text) => {
+            let text = Message::copied(alloc, text.as_bytes())?;
+            Ok(Some(Action::Text(text)))
+        }
+        Form::Feature(name, place, toward) => {
+            let features = &mut read.features;
+            let name = name.copy();
+            let action = declare_feature(alloc, line, features, names, name, place, *toward)?;
+            Ok(Some(action))
+        }
+        Form::Touch(place, toward) => {
+            let builder = &read.builder;
+            let action = touch(alloc, line, builder, read.touched, names, place, *toward)?;
+            read.touched = true;
+            Ok(Some(action))
+        }
+        Form::Configure(which, length) => {
+            Ok(Some(configure(alloc, line, names, *which, length)?))
+        }
+        Form::Shift(name, offsets) => {
+            let frames = &mut read.frames;
+            let offsets = offsets.as_slice();
+            let action = shift(alloc, line, frames, names, name.copy(), offsets)?;
+            Ok(Some(action))
+        }
+        Form::Rotation(name, axis, quarters) => {
+            let frames = &mut read.frames;
+            Ok(Some(rotate(line, frames, name.copy(), *axis, *quarters)?))
+        }
+        Form::Restore(name) => Ok(Some(recall(line, &read.frames, name)?)),
+        Form::Query(variable, source, name, word) => {
+            let features = &read.features;
+            let action = obtain(line, features, names, variable, *source, name, *word)?;
+            Ok(Some(action))
+        }
+        Form::Report(source, name) => Ok(Some(report(line, &read.features, *source, name)?)),
+        _ => Ok(None),
+    }
+}
+
+// Reads a statement that isn't simple.
+fn take_structured(
+    alloc: Global,
+    read: &mut Progress,
+    statement: &Statement,
+) -> Result<(), SourceFault>
+    requires { acted (behind_of read.old) statement.now.form ≡ None }
+    ensures ok { OnOk result (TakesStated statement.now read.old read.new) }
+    ensures fault { IfErr result (NoMemoryOr (ToldAt statement.now.line (stated (behind_of read.old) statement.now.form))) }
+{
+    let line = statement.line;
+    match &statement.form {
+        Form::Declaration(kind, declared) => {
+            declare_all(line, &mut read.names, *kind, declared.as_slice())
+        }
+        Form::Test(condition) => test(alloc, line, &read.names, &mut read.builder, condition),
+        Form::Otherwise => read.builder.divide(alloc, line),
+        Form::TestEnd => read.builder.end_test(line),
+        Form::Repeat(rounds) => repeat(alloc, line, &read.names, &mut read.builder, rounds),
+        Form::RepeatEnd => read.builder.end_repeat(line),
+        Form::Mark(name) => {
+            let label = Label::new(name.copy(), 0);
+            mark(line, &mut read.labels, &mut read.builder, label)
+        }
+        Form::Leap(name) => {
+            read.builder.leap(line, Label::new(name.copy(), 0))?;
+            Ok(())
+        }
+        Form::Measure(name) => {
+            measure(alloc, line, &read.features, &mut read.builder, name)?;
+            read.touched = false;
+            Ok(())
+        }
+        Form::MeasureEnd => read.builder.end_measure(line, read.touched),
+        Form::Ending => read.builder.end(line),
+        _ => Ok(()),
+    }
+}
