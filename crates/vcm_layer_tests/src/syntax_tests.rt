@@ -137,8 +137,8 @@ fn declares(
 /// Whether a statement assigns this number to a variable of this name.
 fn assigns(rt: &HostRuntime, text: &[u8], name: &[u8], number: Literal) -> bool {
     match &form(rt, text) {
-        Some(Form::Assignment(found, value)) => {
-            found.as_bytes() == name && is_number(value, None, number)
+        Some(Form::Assignment(target, value)) => {
+            target.name.as_bytes() == name && is_number(value, None, number)
         }
         _ => false,
     }
@@ -172,7 +172,7 @@ fn repeats(
 ) -> bool {
     match &form(rt, text) {
         Some(Form::Repeat(rounds)) => {
-            rounds.variable.name().as_bytes() == name
+            rounds.variable.name.as_bytes() == name
                 && is_whole(&rounds.initial, from)
                 && is_whole(&rounds.limit, to)
                 && steps_by(rounds, by)
@@ -467,7 +467,7 @@ fn other_faults(rt: HostRuntime) {
     let unsupported = b"SNSET/OTHER,5
         UNITS/INCH,ANGDEC
         UNITS/INCH
-        CALL/M(A)
+        SELECT/X
         TEXT/MAN,'a'
         DECL/CHAR,10,C
         DECL/CHAR,1X
@@ -494,7 +494,7 @@ fn leftmost_of_heads(rt: HostRuntime) {
     let unknown = b"FOO/12.3456
         FOO/'x',.BAR.";
     let unsupported = b"SNSET/OTHER,12.3456
-        CALL/1X,12.3456
+        CASE/1X,12.3456
         UNITS/INCH,'x'
         UNITS/MM,RAD,'x'";
     let bad = b"X=DMISMN/12.3456

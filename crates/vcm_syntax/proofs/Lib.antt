@@ -7,5 +7,8 @@ pub mod GotoWords
 pub mod PlaceLaws
 pub mod MeasuringLaws
 pub mod MeasuringOnce
+pub mod MacroLaws
+pub mod MacroOnce
+pub mod Calling
 pub mod FormLaws
 pub mod OnceLaws

@@ -33,7 +33,7 @@ system_law : (f : List Lexeme) (code : FaultCode) → IsWord (codes "CART") f �
 system_law (Run bs ∷ []) code h b = let p = b.0 in cc
 system_law _ code h b = h
 
-named_law : (letter : List ℕ) (f : List Lexeme) (l : List ℕ) (code : FaultCode) → IsNamed letter f l → BreaksNamed letter f code → ⊥
+pub named_law : (letter : List ℕ) (f : List Lexeme) (l : List ℕ) (code : FaultCode) → IsNamed letter f l → BreaksNamed letter f code → ⊥
 named_law letter (Run bs ∷ Open ∷ Run label ∷ Close ∷ []) l code h b = let p = h.0 in let q = b.0 in cc
 named_law letter _ l code h b = h
 

@@ -11,6 +11,7 @@ use Rattle.vcm_spec.specs.declared.words.Source.{Source as Which}
 use Rattle.vcm_expr.specs.Source.{Source}
 use Rattle.vcm_syntax.specs.declared.statement.Form.{Form}
 use Rattle.vcm_syntax.specs.declared.statement.Form.TheVariants.{Feature, Measure, Touch, MeasureEnd, Configure, Shift, Rotation, Restore, Query, Report}
+use Rattle.vcm_syntax.specs.declared.statement.Target.{Target}
 use Rattle.vcm_syntax.specs.declared.statement.Spot.{Spot}
 use Rattle.vcm_syntax.specs.declared.statement.Offset.{Offset}
 use Rattle.vcm_syntax.specs.declared.offsets.Taken.{Taken}
@@ -35,11 +36,11 @@ spot_eq p q x y z = let e : spot_of p.x p.y p.z ≡ spot_of q.x q.y q.z = rw (x,
 pub spot_once : (a b c : List Lexeme) (p q : Spot) → IsSpot a b c p → IsSpot a b c q → p ≡ q
 spot_once a b c p q h g = spot_eq p q (expr_once a p.x q.x h.0 g.0) (expr_once b p.y q.y h.1 g.1) (expr_once c p.z q.z h.2 g.2)
 
-title_once : (letter : List ℕ) (f : List Lexeme) (l m : List ℕ) → IsTitle letter f l → IsTitle letter f m → l ≡ m
+pub title_once : (letter : List ℕ) (f : List Lexeme) (l m : List ℕ) → IsTitle letter f l → IsTitle letter f m → l ≡ m
 title_once letter (Run bs ∷ Open ∷ Run label ∷ Close ∷ Equals ∷ []) l m h g = h.1 ∙ sym g.1
 title_once letter _ l m h g = absurd h
 
-named_once : (letter : List ℕ) (f : List Lexeme) (l m : List ℕ) → IsNamed letter f l → IsNamed letter f m → l ≡ m
+pub named_once : (letter : List ℕ) (f : List Lexeme) (l m : List ℕ) → IsNamed letter f l → IsNamed letter f m → l ≡ m
 named_once letter (Run bs ∷ Open ∷ Run label ∷ Close ∷ []) l m h g = h.1 ∙ sym g.1
 named_once letter _ l m h g = absurd h
 
@@ -100,7 +101,7 @@ shift_eq l m os ps e f = rw (e, f) refl
 rotation_eq : (l m : List ℕ) (a b : FrameAxis) (n k : Quarters) → l ≡ m → a ≡ b → n ≡ k → Rotation l a n ≡ Rotation m b k
 rotation_eq l m a b n k e f g = rw (e, f, g) refl
 
-query_eq : (v u : List ℕ) (s r : Which) (l m : List ℕ) (a b : FeatureWord) → v ≡ u → s ≡ r → l ≡ m → a ≡ b → Query v s l a ≡ Query u r m b
+query_eq : (v u : Target) (s r : Which) (l m : List ℕ) (a b : FeatureWord) → v ≡ u → s ≡ r → l ≡ m → a ≡ b → Query v s l a ≡ Query u r m b
 query_eq v u s r l m a b d e f g = rw (d, e, f, g) refl
 
 report_eq : (s r : Which) (l m : List ℕ) → s ≡ r → l ≡ m → Report s l ≡ Report r m

@@ -13,6 +13,7 @@ use Rattle.vcm_expr.specs.NameBytes.{is_name}
 use Rattle.vcm_expr.specs.Parts.{is_variable_name}
 use Rattle.vcm_expr.specs.Source.{Source}
 use Rattle.vcm_expr.specs.Parsing.{IsExpr, BreaksExpr}
+use Rattle.vcm_syntax.specs.declared.statement.Target.{Target}
 
 -- nothing stands there
 abbrev pub IsBare : List Lexeme → Type 0
@@ -108,10 +109,19 @@ abbrev pub BreaksVariables : List (List Lexeme) → FaultCode → Type 0
 BreaksVariables [] code = ⊥
 BreaksVariables (f ∷ fs) code = BreaksVariable f code ⊎ BreaksVariables fs code
 
+-- the variable of this name, in no expansion of a macro as far as it is known here
+abbrev pub as_read : List ℕ → Target
+as_read name = record { name = name; expansion = 0 }
+
+-- the variable that counts rounds
+abbrev pub IsIndex : List Lexeme → Target → Type 0
+IsIndex (Run bs ∷ []) t = (is_variable_name bs ≡ true) × (t ≡ as_read bs)
+IsIndex _ t = ⊥
+
 -- a variable's name and an equals sign
-abbrev pub IsTarget : List Lexeme → List ℕ → Type 0
-IsTarget (Run bs ∷ Equals ∷ []) name = (is_variable_name bs ≡ true) × (name ≡ bs)
-IsTarget _ name = ⊥
+abbrev pub IsTarget : List Lexeme → Target → Type 0
+IsTarget (Run bs ∷ Equals ∷ []) t = (is_variable_name bs ≡ true) × (t ≡ as_read bs)
+IsTarget _ t = ⊥
 
 abbrev pub BreaksTarget : List Lexeme → FaultCode → Type 0
 BreaksTarget (Run bs ∷ Equals ∷ []) code = (is_variable_name bs ≡ false) × (code ≡ BadSyntax)

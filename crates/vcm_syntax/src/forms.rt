@@ -6,6 +6,7 @@ ghost use Rattle.vcm_expr.specs.Parsing.{At};
 ghost use Rattle.vcm_syntax.specs.Places.{IsWord, BreaksOffered, IsSingle, BreaksSingle, IsMessage, BreaksMessage, IsEnd, BreaksEnd};
 ghost use Rattle.vcm_syntax.specs.Forms.{IsDmismn, BreaksDmismn, IsMetric, BreaksMetric, IsUnits, BreaksUnits, IsDeclaration, BreaksDeclaration, IsDecl, BreaksDecl, IsAssign, BreaksAssign, IsPlace, BreaksPlace, IsGoto, BreaksGoto, IsGohome, IsSay, BreaksSay, IsEndfil, BreaksAlone, IsIf, BreaksIf, IsElse, IsEndif, IsStep, IsRange, BreaksRange, IsStepped, BreaksStepped, IsRounds, BreaksRounds, IsDo, BreaksDo, IsEnddo, IsMark, BreaksMark, IsJumpto, BreaksJumpto, IsPrefix, BreaksPrefix, IsPassed, BreaksPassed, IsForm, BreaksForm};
 
+use crate::macros::{call, endmac, macro_form};
 use crate::measuring::{endmes, feat, meas, obtain, output, ptmeas, recall, rotate, snset, trans};
 use crate::message::Message;
 use crate::places::{
@@ -14,7 +15,7 @@ use crate::places::{
 };
 use crate::spots::spot;
 use crate::statement::{Form, Major, Notice, Rounds, Spot};
-use crate::variables::{kind, target, unscoped, variable, variables};
+use crate::variables::{index, kind, target, unscoped, variable, variables};
 use std::alloc::Global;
 use vcm_expr::read_expr;
 use vcm_lines::{Phrase, SourceFault};
@@ -267,15 +268,15 @@ fn endif(line: u32, front: &Phrase<'_>, fields: &[Phrase<'_>]) -> Result<Form, S
 fn range(
     alloc: Global,
     line: u32,
-    index: &Phrase<'_>,
+    counter: &Phrase<'_>,
     initial: &Phrase<'_>,
     limit: &Phrase<'_>,
 ) -> Result<Rounds, SourceFault>
-    ensures ok { IfOk result (IsRange index.now initial.now limit.now) }
+    ensures ok { IfOk result (IsRange counter.now initial.now limit.now) }
     ensures alone { IfOk result (λ r. r.increment ≡ None) }
-    ensures fault { IfErr result (NoMemoryOr (At line (BreaksRange index.now initial.now limit.now))) }
+    ensures fault { IfErr result (NoMemoryOr (At line (BreaksRange counter.now initial.now limit.now))) }
 {
-    let variable = variable(line, index)?;
+    let variable = index(line, counter)?;
     let initial = read_expr(alloc, line, initial)?;
     let limit = read_expr(alloc, line, limit)?;
     Ok(Rounds {
@@ -290,15 +291,15 @@ fn range(
 fn stepped(
     alloc: Global,
     line: u32,
-    index: &Phrase<'_>,
+    counter: &Phrase<'_>,
     initial: &Phrase<'_>,
     limit: &Phrase<'_>,
     increment: &Phrase<'_>,
 ) -> Result<Rounds, SourceFault>
-    ensures ok { IfOk result (IsStepped index.now initial.now limit.now increment.now) }
-    ensures fault { IfErr result (NoMemoryOr (At line (BreaksStepped index.now initial.now limit.now increment.now))) }
+    ensures ok { IfOk result (IsStepped counter.now initial.now limit.now increment.now) }
+    ensures fault { IfErr result (NoMemoryOr (At line (BreaksStepped counter.now initial.now limit.now increment.now))) }
 {
-    let variable = variable(line, index)?;
+    let variable = index(line, counter)?;
     let initial = read_expr(alloc, line, initial)?;
     let limit = read_expr(alloc, line, limit)?;
     let increment = read_expr(alloc, line, increment)?;
@@ -459,6 +460,9 @@ pub(crate) fn read_form(
         Major::Recall => recall(line, front, fields),
         Major::Obtain => obtain(line, front, fields),
         Major::Output => output(line, front, fields),
+        Major::Macro => macro_form(alloc, line, front, fields),
+        Major::Endmac => endmac(line, front, fields),
+        Major::Call => call(alloc, line, front, fields),
         Major::Passed(notice) => passed(line, notice, front, fields),
     }
 }

@@ -4,6 +4,7 @@
 mod figures;
 mod forms;
 pub mod laws;
+mod macros;
 mod majors;
 mod measuring;
 mod message;
@@ -17,6 +18,6 @@ mod variables;
 
 pub use message::{Message, is_text};
 pub use parse::parse_statement;
-pub use statement::{Form, Notice, Offset, Rounds, Spot, Statement};
+pub use statement::{Argument, Form, Notice, Offset, Parameter, Rounds, Spot, Statement, Target};
 pub use vcm_num::Axis;
 pub use vcm_spec::{FeatureWord, FrameAxis, Quarters, Setting, Source};

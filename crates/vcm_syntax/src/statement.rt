@@ -74,6 +74,9 @@ pub enum Major {
     Recall,
     Obtain,
     Output,
+    Macro,
+    Endmac,
+    Call,
     /// A jump label, which has no major word.
     Label,
     Passed(Notice),
@@ -87,10 +90,31 @@ pub struct Spot {
     pub z: Expr,
 }
 
+/// A variable that is assigned: its name, and the number of the macro expansion that it stands in, 0 as it is read.
+#[derive(Drop)]
+pub struct Target {
+    pub name: Name,
+    pub expansion: u32,
+}
+
+/// A parameter of a macro: a quoted one stands for a name, any other for an expression.
+#[derive(Drop)]
+pub struct Parameter {
+    pub name: Name,
+    pub quoted: bool,
+}
+
+/// An argument of a call, in each way in which it can be read: as a name, as an expression.
+#[derive(Drop)]
+pub struct Argument {
+    pub name: Option<Name>,
+    pub value: Option<Expr>,
+}
+
 /// How often a block is repeated, from the words of `DO`.
 #[derive(Drop)]
 pub struct Rounds {
-    pub variable: VariableName,
+    pub variable: Target,
     pub initial: Expr,
     pub limit: Expr,
     /// 1 where it is left out.
@@ -115,8 +139,8 @@ pub enum Form {
     Ignored(Notice),
     /// `DECL`: the kind of variables, and their names.
     Declaration(Kind, Items<VariableName>),
-    /// `ASSIGN`: a variable's name, and the value that it gets.
-    Assignment(Name, Expr),
+    /// `ASSIGN`: a variable, and the value that it gets.
+    Assignment(Target, Expr),
     /// `GOTO`: the place to go to.
     Move(Spot),
     /// `GOHOME`.
@@ -153,10 +177,16 @@ pub enum Form {
     Rotation(Name, FrameAxis, Quarters),
     /// `RECALL`: a frame's name.
     Restore(Name),
-    /// `OBTAIN`: a variable's name, and the word of a feature that it gets.
-    Query(Name, Source, Name, FeatureWord),
+    /// `OBTAIN`: a variable, and the word of a feature that it gets.
+    Query(Target, Source, Name, FeatureWord),
     /// `OUTPUT`: the feature that is told.
     Report(Source, Name),
+    /// `MACRO`: a macro's name, and its parameters.
+    Macro(Name, Items<Parameter>),
+    /// `ENDMAC`.
+    MacroEnd,
+    /// `CALL`: a macro's name, and the arguments.
+    Call(Name, Items<Argument>),
     /// `ENDFIL`, with which a program ends.
     Ending,
 }
@@ -170,6 +200,7 @@ impl Form {
     {
         match self {
             Form::Opening | Form::Measures | Form::Ignored(_) | Form::Declaration(_, _) => false,
+            Form::Macro(_, _) | Form::MacroEnd | Form::Call(_, _) => false,
             Form::Assignment(_, _) | Form::Move(_) | Form::Home | Form::Say(_) | Form::Ending => {
                 true
             }

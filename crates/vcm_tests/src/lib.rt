@@ -14,6 +14,8 @@ mod job_tests;
 #[cfg(test)]
 mod loader_tests;
 #[cfg(test)]
+mod macro_tests;
+#[cfg(test)]
 mod measuring_tests;
 #[cfg(test)]
 mod plain;

@@ -10,14 +10,16 @@ use Rattle.vcm_syntax.specs.declared.statement.Form.{Form}
 use Rattle.vcm_syntax.specs.declared.statement.Statement.{Statement}
 use Rattle.vcm_syntax.proofs.OnceLaws.{statement_once}
 use Rattle.vcm_tree.specs.Statements.{IsSpelled, AreSpelled, BreaksStatements, statement_line}
-use Rattle.vcm_tree.specs.Order.{BreaksOrder, order_line}
+use Rattle.vcm_macro.specs.declared.placed.Placed.{Placed}
+use Rattle.vcm_macro.specs.Expansion.{IsExpanded, IsRefused as IsUnexpanded}
+use Rattle.vcm_macro.proofs.Answered.{either as no_refusal, line as one_told, expansion as one_expanded}
 use Rattle.vcm_tree.specs.Resolving.{BreaksNames, names_line}
 use Rattle.vcm_tree.specs.Jumps.{labels_of, jumps_of, BreaksJumps, jumps_line}
 use Rattle.vcm_tree.specs.Program.{Listed, Parsed, IsParsed}
 use Rattle.vcm_spec.specs.Program.{Block}
 use Rattle.vcm_tree.specs.declared.program.Noticed.{Noticed}
 use Rattle.vcm_tree.proofs.OneProgram.{one_writing}
-use Rattle.vcm_tree.specs.Acceptance.{ReadsLines, ReadsStatements, ReadsText, ReadsProgram, IsAccepted, IsRefused, in_lines, in_statements, in_order, in_names, in_jumps}
+use Rattle.vcm_tree.specs.Acceptance.{ReadsLines, ReadsStatements, ReadsText, ReadsProgram, IsAccepted, IsRefused, in_lines, in_statements, in_expansion, in_names, in_jumps}
 
 abbrev stated : ℕ → Form → Statement
 stated n form = record { line = n; form = form }
@@ -46,26 +48,34 @@ one_list text ls ms ss ts p q r s =
     one_spelling ms ss ts (subst (λ l. AreSpelled l ss) (one_reading text ls ms p q) r.statements) s.statements
 
 -- the same of all that was read
-one_text : (text : List ℕ) (ls ms : List Logical) (ss ts : List Statement) → ReadsText text ls ss → ReadsText text ms ts → ss ≡ ts
-one_text text ls ms ss ts p q = one_list text ls ms ss ts p.read q.read p.spelled q.spelled
+one_text : (text : List ℕ) (ls ms : List Logical) (ss ts : List Statement) (all more : List Placed) → ReadsText text ls ss all → ReadsText text ms ts more → ss ≡ ts
+one_text text ls ms ss ts all more p q = one_list text ls ms ss ts p.read q.read p.spelled q.spelled
+
+-- and one program that they expand to
+one_expansion : (text : List ℕ) (ls ms : List Logical) (ss ts : List Statement) (all more : List Placed) → ReadsText text ls ss all → ReadsText text ms ts more → all ≡ more
+one_expansion text ls ms ss ts all more p q =
+    one_expanded ts all more (subst (λ l. IsExpanded l all) (one_text text ls ms ss ts all more p q) p.expanded) q.expanded
 
 abbrev parsed : Block → Listed → List Noticed → Parsed
 parsed b vs ns = record { program = b; names = vs; notices = ns }
 
--- statements are one program
-pub one_parsed : (ss : List Statement) (p q : Parsed) → IsParsed ss p → IsParsed ss q → p ≡ q
-one_parsed ss p q a b =
+-- statements and what they expand to are one program
+pub one_parsed : (ss : List Statement) (all : List Placed) (p q : Parsed) → IsParsed ss all p → IsParsed ss all q → p ≡ q
+one_parsed ss all p q a b =
     let program : p.program ≡ q.program = one_writing p.program q.program (a.program ∙ sym b.program) in
     let e : parsed p.program p.names p.notices ≡ parsed q.program q.names q.notices =
     ap (λ x. parsed x p.names p.notices) program ∙ ap (λ x. parsed q.program x p.notices) (a.names ∙ sym b.names) ∙ ap (parsed q.program q.names) (a.notices ∙ sym b.notices) in
     e
 
 -- the same of all that was read
-one_read : (text : List ℕ) (ls ms : List Logical) (ss ts : List Statement) (p q : Parsed) → ReadsText text ls ss → ReadsText text ms ts → ReadsProgram ss p → ReadsProgram ts q → p ≡ q
-one_read text ls ms ss ts p q r s a b = one_parsed ts p q (subst (λ l. IsParsed l p) (one_text text ls ms ss ts r s) a.is) b.is
+one_read : (text : List ℕ) (ls ms : List Logical) (ss ts : List Statement) (all more : List Placed) (p q : Parsed) → ReadsText text ls ss all → ReadsText text ms ts more
+    → ReadsProgram ss all p → ReadsProgram ts more q → p ≡ q
+one_read text ls ms ss ts all more p q r s a b =
+    one_parsed ts more p q
+    (subst (λ l. IsParsed ts l p) (one_expansion text ls ms ss ts all more r s) (subst (λ l. IsParsed l all p) (one_text text ls ms ss ts all more r s) a.is)) b.is
 
 pub one_program : (text : List ℕ) (p q : Parsed) → IsAccepted text p → IsAccepted text q → p ≡ q
-one_program text p q a b = one_read text a.lines b.lines a.statements b.statements p q a.read b.read a.program b.program
+one_program text p q a b = one_read text a.lines b.lines a.statements b.statements a.expanded b.expanded p q a.read b.read a.program b.program
 
 -- ---- refusals
 
@@ -80,19 +90,18 @@ not_statements text ls ms ss f read spelled other fault =
     clean_or_fault BreaksStatements statement_line ls f.code f.line spelled.clean
     (subst (λ l. FirstFault BreaksStatements statement_line l f.code f.line) (one_reading text ms ls other read) fault)
 
--- one whose order breaks none isn't refused for its order
-not_order : (text : List ℕ) (ls ms : List Logical) (ss ts : List Statement) (f : SourceFault) → ReadsText text ls ss → ReadsLines text ms → ReadsStatements ms ts
-    → FirstFault BreaksOrder order_line ts f.code f.line → ⊥
-not_order text ls ms ss ts f read other spelled fault =
-    clean_or_fault BreaksOrder order_line ss f.code f.line read.order
-    (subst (λ l. FirstFault BreaksOrder order_line l f.code f.line) (one_list text ms ls ts ss other read.read spelled read.spelled) fault)
+-- a text that expands to a program isn't refused for its order or macros
+not_expansion : (text : List ℕ) (ls ms : List Logical) (ss ts : List Statement) (all : List Placed) (f : SourceFault) → ReadsText text ls ss all → ReadsLines text ms → ReadsStatements ms ts
+    → IsUnexpanded ts f → ⊥
+not_expansion text ls ms ss ts all f read other spelled fault =
+    no_refusal ss all f read.expanded (subst (λ l. IsUnexpanded l f) (one_list text ms ls ts ss other read.read spelled read.spelled) fault)
 
 -- one whose names break none isn't refused for its names
-not_names : (text : List ℕ) (ls ms : List Logical) (ss ts : List Statement) (p : Parsed) (f : SourceFault) → ReadsText text ls ss → ReadsProgram ss p → ReadsText text ms ts
-    → FirstFault BreaksNames names_line ts f.code f.line → ⊥
-not_names text ls ms ss ts p f read program other fault =
-    clean_or_fault BreaksNames names_line ss f.code f.line program.clean
-    (subst (λ l. FirstFault BreaksNames names_line l f.code f.line) (one_text text ms ls ts ss other read) fault)
+not_names : (text : List ℕ) (ls ms : List Logical) (ss ts : List Statement) (all more : List Placed) (p : Parsed) (f : SourceFault) → ReadsText text ls ss all → ReadsProgram ss all p
+    → ReadsText text ms ts more → FirstFault BreaksNames names_line more f.code f.line → ⊥
+not_names text ls ms ss ts all more p f read program other fault =
+    clean_or_fault BreaksNames names_line all f.code f.line program.clean
+    (subst (λ l. FirstFault BreaksNames names_line l f.code f.line) (one_expansion text ms ls ts ss more all other read) fault)
 
 abbrev JumpsFault : Parsed → SourceFault → Type 0
 JumpsFault p f = FirstFault (BreaksJumps (labels_of p.program)) jumps_line (jumps_of p.program) f.code f.line
@@ -100,43 +109,42 @@ JumpsFault p f = FirstFault (BreaksJumps (labels_of p.program)) jumps_line (jump
 pub not_refused : (text : List ℕ) (p : Parsed) (f : SourceFault) → IsAccepted text p → IsRefused text f → ⊥
 not_refused text p f a (in_lines fault) = not_lines text a.lines f a.read.read fault
 not_refused text p f a (in_statements ls read fault) = not_statements text a.lines ls a.statements f a.read.read a.read.spelled read fault
-not_refused text p f a (in_order ls ss read spelled fault) = not_order text a.lines ls a.statements ss f a.read read spelled fault
-not_refused text p f a (in_names ls ss read fault) = not_names text a.lines ls a.statements ss p f a.read a.program read fault
-not_refused text p f a (in_jumps ls ss q read program fault) =
+not_refused text p f a (in_expansion ls ss read spelled fault) = not_expansion text a.lines ls a.statements ss a.expanded f a.read read spelled fault
+not_refused text p f a (in_names ls ss all read fault) = not_names text a.lines ls a.statements ss a.expanded all p f a.read a.program read fault
+not_refused text p f a (in_jumps ls ss all q read program fault) =
     clean_or_fault (BreaksJumps (labels_of p.program)) jumps_line (jumps_of p.program) f.code f.line a.jumps
-    (subst (λ x. JumpsFault x f) (one_read text ls a.lines ss a.statements q p read a.read program a.program) fault)
+    (subst (λ x. JumpsFault x f) (one_read text ls a.lines ss a.statements all a.expanded q p read a.read program a.program) fault)
 
 pub one_refusal : (text : List ℕ) (f g : SourceFault) → IsRefused text f → IsRefused text g → f.line ≡ g.line
 one_refusal text f g (in_lines p) (in_lines q) = one_line Breaks told_line (lines_of text) f.code g.code f.line g.line p q
 one_refusal text f g (in_lines p) (in_statements ms read q) = absurd (not_lines text ms f read p)
-one_refusal text f g (in_lines p) (in_order ms ts read spelled q) = absurd (not_lines text ms f read p)
-one_refusal text f g (in_lines p) (in_names ms ts read q) = absurd (not_lines text ms f read.read p)
-one_refusal text f g (in_lines p) (in_jumps ms ts b read program q) = absurd (not_lines text ms f read.read p)
+one_refusal text f g (in_lines p) (in_expansion ms ts read spelled q) = absurd (not_lines text ms f read p)
+one_refusal text f g (in_lines p) (in_names ms ts more read q) = absurd (not_lines text ms f read.read p)
+one_refusal text f g (in_lines p) (in_jumps ms ts more b read program q) = absurd (not_lines text ms f read.read p)
 one_refusal text f g (in_statements ls read p) (in_lines q) = absurd (not_lines text ls g read q)
 one_refusal text f g (in_statements ls read p) (in_statements ms other q) =
     one_line BreaksStatements statement_line ms f.code g.code f.line g.line
     (subst (λ l. FirstFault BreaksStatements statement_line l f.code f.line) (one_reading text ls ms read other) p) q
-one_refusal text f g (in_statements ls read p) (in_order ms ts other spelled q) = absurd (not_statements text ms ls ts f other spelled read p)
-one_refusal text f g (in_statements ls read p) (in_names ms ts other q) = absurd (not_statements text ms ls ts f other.read other.spelled read p)
-one_refusal text f g (in_statements ls read p) (in_jumps ms ts b other program q) = absurd (not_statements text ms ls ts f other.read other.spelled read p)
-one_refusal text f g (in_order ls ss read spelled p) (in_lines q) = absurd (not_lines text ls g read q)
-one_refusal text f g (in_order ls ss read spelled p) (in_statements ms other q) = absurd (not_statements text ls ms ss g read spelled other q)
-one_refusal text f g (in_order ls ss read spelled p) (in_order ms ts other spelt q) =
-    one_line BreaksOrder order_line ts f.code g.code f.line g.line
-    (subst (λ l. FirstFault BreaksOrder order_line l f.code f.line) (one_list text ls ms ss ts read other spelled spelt) p) q
-one_refusal text f g (in_order ls ss read spelled p) (in_names ms ts other q) = absurd (not_order text ms ls ts ss f other read spelled p)
-one_refusal text f g (in_order ls ss read spelled p) (in_jumps ms ts b other program q) = absurd (not_order text ms ls ts ss f other read spelled p)
-one_refusal text f g (in_names ls ss read p) (in_lines q) = absurd (not_lines text ls g read.read q)
-one_refusal text f g (in_names ls ss read p) (in_statements ms other q) = absurd (not_statements text ls ms ss g read.read read.spelled other q)
-one_refusal text f g (in_names ls ss read p) (in_order ms ts other spelled q) = absurd (not_order text ls ms ss ts g read other spelled q)
-one_refusal text f g (in_names ls ss read p) (in_names ms ts other q) =
-    one_line BreaksNames names_line ts f.code g.code f.line g.line
-    (subst (λ l. FirstFault BreaksNames names_line l f.code f.line) (one_text text ls ms ss ts read other) p) q
-one_refusal text f g (in_names ls ss read p) (in_jumps ms ts b other program q) = absurd (not_names text ms ls ts ss b f other program read p)
-one_refusal text f g (in_jumps ls ss a read program p) (in_lines q) = absurd (not_lines text ls g read.read q)
-one_refusal text f g (in_jumps ls ss a read program p) (in_statements ms other q) = absurd (not_statements text ls ms ss g read.read read.spelled other q)
-one_refusal text f g (in_jumps ls ss a read program p) (in_order ms ts other spelled q) = absurd (not_order text ls ms ss ts g read other spelled q)
-one_refusal text f g (in_jumps ls ss a read program p) (in_names ms ts other q) = absurd (not_names text ls ms ss ts a g read program other q)
-one_refusal text f g (in_jumps ls ss a read program p) (in_jumps ms ts b other parsed_too q) =
+one_refusal text f g (in_statements ls read p) (in_expansion ms ts other spelled q) = absurd (not_statements text ms ls ts f other spelled read p)
+one_refusal text f g (in_statements ls read p) (in_names ms ts more other q) = absurd (not_statements text ms ls ts f other.read other.spelled read p)
+one_refusal text f g (in_statements ls read p) (in_jumps ms ts more b other program q) = absurd (not_statements text ms ls ts f other.read other.spelled read p)
+one_refusal text f g (in_expansion ls ss read spelled p) (in_lines q) = absurd (not_lines text ls g read q)
+one_refusal text f g (in_expansion ls ss read spelled p) (in_statements ms other q) = absurd (not_statements text ls ms ss g read spelled other q)
+one_refusal text f g (in_expansion ls ss read spelled p) (in_expansion ms ts other spelt q) =
+    one_told ts f g (subst (λ l. IsUnexpanded l f) (one_list text ls ms ss ts read other spelled spelt) p) q
+one_refusal text f g (in_expansion ls ss read spelled p) (in_names ms ts more other q) = absurd (not_expansion text ms ls ts ss more f other read spelled p)
+one_refusal text f g (in_expansion ls ss read spelled p) (in_jumps ms ts more b other program q) = absurd (not_expansion text ms ls ts ss more f other read spelled p)
+one_refusal text f g (in_names ls ss all read p) (in_lines q) = absurd (not_lines text ls g read.read q)
+one_refusal text f g (in_names ls ss all read p) (in_statements ms other q) = absurd (not_statements text ls ms ss g read.read read.spelled other q)
+one_refusal text f g (in_names ls ss all read p) (in_expansion ms ts other spelled q) = absurd (not_expansion text ls ms ss ts all g read other spelled q)
+one_refusal text f g (in_names ls ss all read p) (in_names ms ts more other q) =
+    one_line BreaksNames names_line more f.code g.code f.line g.line
+    (subst (λ l. FirstFault BreaksNames names_line l f.code f.line) (one_expansion text ls ms ss ts all more read other) p) q
+one_refusal text f g (in_names ls ss all read p) (in_jumps ms ts more b other program q) = absurd (not_names text ms ls ts ss more all b f other program read p)
+one_refusal text f g (in_jumps ls ss all a read program p) (in_lines q) = absurd (not_lines text ls g read.read q)
+one_refusal text f g (in_jumps ls ss all a read program p) (in_statements ms other q) = absurd (not_statements text ls ms ss g read.read read.spelled other q)
+one_refusal text f g (in_jumps ls ss all a read program p) (in_expansion ms ts other spelled q) = absurd (not_expansion text ls ms ss ts all g read other spelled q)
+one_refusal text f g (in_jumps ls ss all a read program p) (in_names ms ts more other q) = absurd (not_names text ls ms ss ts all more a g read program other q)
+one_refusal text f g (in_jumps ls ss all a read program p) (in_jumps ms ts more b other parsed_too q) =
     one_line (BreaksJumps (labels_of b.program)) jumps_line (jumps_of b.program) f.code g.code f.line g.line
-    (subst (λ x. JumpsFault x f) (one_read text ls ms ss ts a b read other program parsed_too) p) q
+    (subst (λ x. JumpsFault x f) (one_read text ls ms ss ts all more a b read other program parsed_too) p) q

@@ -2,10 +2,9 @@
 use Rattle.std.proofs.Common.{◌≡◌, [], List, sym, ap, ◌∙◌}
 use Rattle.std.specs.Prelude.{IsTrue}
 use Rattle.std.proofs.lemmas.List.{take_all}
-use Rattle.vcm_syntax.specs.declared.statement.Statement.{Statement}
-use Rattle.vcm_tree.specs.declared.program.Noticed.{Noticed}
+use Rattle.vcm_macro.specs.declared.placed.Placed.{Placed}
 use Rattle.vcm_tree.specs.declared.taking.Progress.{Progress}
-use Rattle.vcm_tree.specs.Order.{is_ended}
+use Rattle.vcm_tree.specs.Ended.{is_ended}
 use Rattle.vcm_tree.specs.Jumps.{labels_of}
 use Rattle.vcm_tree.specs.Resolving.{Behind, behind_all, start}
 use Rattle.vcm_tree.specs.Taking.{behind_of}
@@ -13,8 +12,8 @@ use Rattle.vcm_tree.proofs.Walking.{IsWalked, drop_nil, walk_ends}
 use Rattle.vcm_tree.proofs.Written.{piece_labels, pieces_marks}
 use Rattle.vcm_tree.proofs.Meant.{labels_all}
 
-pub walk_labels : (all : List Statement) (p : Progress) (notices : List Noticed) → IsTrue (is_ended all) → IsWalked all p notices [] → p.labels ≡ labels_of p.builder.block
-walk_labels all p notices last w =
-    let parsed = walk_ends all p notices last w in
+pub walk_labels : (all : List Placed) (p : Progress) → IsTrue (is_ended all) → IsWalked all p [] → p.labels ≡ labels_of p.builder.block
+walk_labels all p last w =
+    let parsed = walk_ends [] all p last w in
     let whole : behind_of p ≡ behind_all start all = w.behind ∙ ap (behind_all start) (take_all w.place all (drop_nil w.place all w.left)) in
     ap (λ (b : Behind). b.labels) whole ∙ labels_all start all ∙ ap piece_labels (sym parsed.program) ∙ pieces_marks p.builder.block

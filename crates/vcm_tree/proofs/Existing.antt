@@ -14,13 +14,14 @@ use Rattle.vcm_expr.specs.Typing.{typed_for}
 use Rattle.vcm_expr.specs.declared.typing.Want.TheVariants as wants
 use Rattle.vcm_syntax.specs.declared.statement.Rounds.{Rounds}
 use Rattle.vcm_syntax.specs.declared.statement.Form.{Form}
-use Rattle.vcm_syntax.specs.declared.statement.Form.TheVariants.{Opening, Measures as Units, Ignored, Declaration, Assignment, Move, Home, Say, Test, Otherwise, TestEnd, Repeat, RepeatEnd, Mark, Leap, Feature, Measure, Touch, MeasureEnd, Configure, Shift, Rotation, Restore, Query, Report, Ending}
+use Rattle.vcm_syntax.specs.declared.statement.Form.TheVariants.{Opening, Measures as Units, Ignored, Declaration, Assignment, Move, Home, Say, Test, Otherwise, TestEnd, Repeat, RepeatEnd, Mark, Leap, Feature, Measure, Touch, MeasureEnd, Configure, Shift, Rotation, Restore, Query, Report, Macro, MacroEnd, Call, Ending}
 use Rattle.vcm_syntax.specs.declared.statement.Statement.{Statement}
-use Rattle.vcm_tree.specs.Order.{is_ended}
+use Rattle.vcm_macro.specs.declared.placed.Placed.{Placed}
+use Rattle.vcm_tree.specs.Ended.{is_ended}
 use Rattle.vcm_tree.specs.Nodes.{snoc}
 use Rattle.vcm_tree.specs.Pieces.{Step, Piece, piece, Does, Marks, Leaps, Tests, Divides, EndsTest, Repeats, EndsRepeat, Measures, EndsMeasure, Ends, node_pieces, pieces}
 use Rattle.vcm_tree.specs.Program.{Parsed, IsParsed, names_of, notices_of}
-use Rattle.vcm_tree.specs.Resolving.{Behind, Opened, InFirst, InSecond, InBody, InMeasure, Meaning, Declares, then_ok, with_all, assigned, moved, room, nested, tested, indexed, increment_of, repeated, divided, test_ended, repeat_ended, ended, marked, label_of, known, declared, opened_measure, touched, measure_ended, configured, shifted, rotated, recalled, obtained, reported, does, counts, stated, resolved, blocks_after, behind_by, behind_one, behind_all, start, pieces_by, pieces_from, BreaksNames}
+use Rattle.vcm_tree.specs.Resolving.{Behind, Opened, InFirst, InSecond, InBody, InMeasure, Meaning, Declares, then_ok, with_all, assigned, moved, room, nested, tested, indexed, increment_of, repeated, divided, test_ended, repeat_ended, ended, marked, label_of, known, declared, opened_measure, touched, measure_ended, configured, shifted, rotated, recalled, obtained, reported, does, counts, stated, resolved_here, blocks_after, behind_by, behind_one, behind_all, start, pieces_by, pieces_from, BreaksNames}
 use Rattle.vcm_tree.proofs.Standing.{standing, standing_ok}
 use Rattle.vcm_tree.proofs.Walking.{AllMean, all_mean, last_shuts}
 use Rattle.vcm_tree.proofs.Builders.{pieces_push, regroup}
@@ -257,62 +258,68 @@ reach_declares : (as' : List Around) (x : Block) (b : Behind) (form : Form) (lin
 reach_declares as' x b form line (Ok ws) k = reach_none as' x b.blocks k
 reach_declares as' x b form line (Err c) k = reach_none as' x b.blocks k
 
-reach_by : (as' : List Around) (x : Block) (b : Behind) (line : ℕ) (form : Form) (m : Meaning) → stated b form ≡ Ok m → kinds as' ≡ b.blocks
-    → Reaches as' x (pieces_by line (stated b form)) (behind_by b form (stated b form)).blocks
-reach_by as' x b line Opening m e k = reach_none as' x b.blocks k
-reach_by as' x b line Units m e k = reach_none as' x b.blocks k
-reach_by as' x b line (Ignored w) m e k = reach_none as' x b.blocks k
-reach_by as' x b line (Declaration kd names) m e k = reach_declares as' x b (Declaration kd names) line (with_all b.variables kd names) k
-reach_by as' x b line (Assignment n v) m e k = reach_one as' x b (Assignment n v) line (does (assigned b.variables n v)) m e (does_fit b.blocks (assigned b.variables n v)) k
-reach_by as' x b line (Move p) m e k = reach_one as' x b (Move p) line (does (moved b.variables p.x p.y p.z)) m e (does_fit b.blocks (moved b.variables p.x p.y p.z)) k
-reach_by as' x b line Home m e k = reach_one as' x b Home line (Ok (Does GoHome)) m e tt k
-reach_by as' x b line (Say t) m e k = reach_one as' x b (Say t) line (Ok (Does (Text t))) m e tt k
-reach_by as' x b line (Test v) m e k =
+reach_by : (as' : List Around) (x : Block) (b : Behind) (ex line : ℕ) (form : Form) (m : Meaning) → stated b ex form ≡ Ok m → kinds as' ≡ b.blocks
+    → Reaches as' x (pieces_by line (stated b ex form)) (behind_by b form (stated b ex form)).blocks
+reach_by as' x b ex line Opening m e k = reach_none as' x b.blocks k
+reach_by as' x b ex line Units m e k = reach_none as' x b.blocks k
+reach_by as' x b ex line (Ignored w) m e k = reach_none as' x b.blocks k
+reach_by as' x b ex line (Declaration kd names) m e k = reach_declares as' x b (Declaration kd names) line (with_all b.variables ex kd names) k
+reach_by as' x b ex line (Assignment n v) m e k = reach_one as' x b (Assignment n v) line (does (assigned b.variables n v)) m e (does_fit b.blocks (assigned b.variables n v)) k
+reach_by as' x b ex line (Move p) m e k = reach_one as' x b (Move p) line (does (moved b.variables p.x p.y p.z)) m e (does_fit b.blocks (moved b.variables p.x p.y p.z)) k
+reach_by as' x b ex line Home m e k = reach_one as' x b Home line (Ok (Does GoHome)) m e tt k
+reach_by as' x b ex line (Say t) m e k = reach_one as' x b (Say t) line (Ok (Does (Text t))) m e tt k
+reach_by as' x b ex line (Test v) m e k =
     reach_one as' x b (Test v) line (nested b.blocks (tested b.variables v)) m e
     (then_fit b.blocks (room b.blocks) (λ _. tested b.variables v) (λ _. then_fit b.blocks (typed_for b.variables wants.Bool v) (λ t. Ok (Tests t)) (λ t. tt))) k
-reach_by as' x b line Otherwise m e k = reach_one as' x b Otherwise line (divided b.blocks) m e (divided_fit b.blocks) k
-reach_by as' x b line TestEnd m e k = reach_one as' x b TestEnd line (test_ended b.blocks) m e (test_ended_fit b.blocks) k
-reach_by as' x b line (Repeat r) m e k =
+reach_by as' x b ex line Otherwise m e k = reach_one as' x b Otherwise line (divided b.blocks) m e (divided_fit b.blocks) k
+reach_by as' x b ex line TestEnd m e k = reach_one as' x b TestEnd line (test_ended b.blocks) m e (test_ended_fit b.blocks) k
+reach_by as' x b ex line (Repeat r) m e k =
     reach_one as' x b (Repeat r) line (nested b.blocks (repeated b.variables r)) m e (then_fit b.blocks (room b.blocks) (λ _. repeated b.variables r) (λ _. repeated_fit b.blocks b.variables r)) k
-reach_by as' x b line RepeatEnd m e k = reach_one as' x b RepeatEnd line (repeat_ended b.blocks) m e (repeat_ended_fit b.blocks) k
-reach_by as' x b line (Mark l) m e k = reach_one as' x b (Mark l) line (marked b.labels (label_of l)) m e (marked_fit b.blocks b.labels (label_of l)) k
-reach_by as' x b line (Leap l) m e k = reach_one as' x b (Leap l) line (Ok (Leaps (label_of l))) m e tt k
-reach_by as' x b line (Feature l p d) m e k = reach_one as' x b (Feature l p d) line (does (declared b.measured.features b.variables l p d)) m e (does_fit b.blocks (declared b.measured.features b.variables l p d)) k
-reach_by as' x b line (Touch p given) m e k = reach_one as' x b (Touch p given) line (does (touched b.blocks b.measured.touched b.variables p given)) m e (does_fit b.blocks (touched b.blocks b.measured.touched b.variables p given)) k
-reach_by as' x b line (Configure which v) m e k = reach_one as' x b (Configure which v) line (does (configured b.variables which v)) m e (does_fit b.blocks (configured b.variables which v)) k
-reach_by as' x b line (Shift l os) m e k = reach_one as' x b (Shift l os) line (does (shifted b.measured.frames b.variables l os)) m e (does_fit b.blocks (shifted b.measured.frames b.variables l os)) k
-reach_by as' x b line (Rotation l axis n) m e k = reach_one as' x b (Rotation l axis n) line (does (rotated b.measured.frames l axis n)) m e (does_fit b.blocks (rotated b.measured.frames l axis n)) k
-reach_by as' x b line (Restore l) m e k = reach_one as' x b (Restore l) line (does (recalled b.measured.frames l)) m e (does_fit b.blocks (recalled b.measured.frames l)) k
-reach_by as' x b line (Query v side l word) m e k = reach_one as' x b (Query v side l word) line (does (obtained b.measured.features b.variables v side l word)) m e (does_fit b.blocks (obtained b.measured.features b.variables v side l word)) k
-reach_by as' x b line (Report side l) m e k = reach_one as' x b (Report side l) line (does (reported b.measured.features side l)) m e (does_fit b.blocks (reported b.measured.features side l)) k
-reach_by as' x b line (Measure l) m e k =
+reach_by as' x b ex line RepeatEnd m e k = reach_one as' x b RepeatEnd line (repeat_ended b.blocks) m e (repeat_ended_fit b.blocks) k
+reach_by as' x b ex line (Mark l) m e k = reach_one as' x b (Mark l) line (marked b.labels (label_of ex l)) m e (marked_fit b.blocks b.labels (label_of ex l)) k
+reach_by as' x b ex line (Leap l) m e k = reach_one as' x b (Leap l) line (Ok (Leaps (label_of ex l))) m e tt k
+reach_by as' x b ex line (Feature l p d) m e k = reach_one as' x b (Feature l p d) line (does (declared b.measured.features b.variables l p d)) m e (does_fit b.blocks (declared b.measured.features b.variables l p d)) k
+reach_by as' x b ex line (Touch p given) m e k = reach_one as' x b (Touch p given) line (does (touched b.blocks b.measured.touched b.variables p given)) m e (does_fit b.blocks (touched b.blocks b.measured.touched b.variables p given)) k
+reach_by as' x b ex line (Configure which v) m e k = reach_one as' x b (Configure which v) line (does (configured b.variables which v)) m e (does_fit b.blocks (configured b.variables which v)) k
+reach_by as' x b ex line (Shift l os) m e k = reach_one as' x b (Shift l os) line (does (shifted b.measured.frames b.variables l os)) m e (does_fit b.blocks (shifted b.measured.frames b.variables l os)) k
+reach_by as' x b ex line (Rotation l axis n) m e k = reach_one as' x b (Rotation l axis n) line (does (rotated b.measured.frames l axis n)) m e (does_fit b.blocks (rotated b.measured.frames l axis n)) k
+reach_by as' x b ex line (Restore l) m e k = reach_one as' x b (Restore l) line (does (recalled b.measured.frames l)) m e (does_fit b.blocks (recalled b.measured.frames l)) k
+reach_by as' x b ex line (Query v side l word) m e k = reach_one as' x b (Query v side l word) line (does (obtained b.measured.features b.variables v side l word)) m e (does_fit b.blocks (obtained b.measured.features b.variables v side l word)) k
+reach_by as' x b ex line (Report side l) m e k = reach_one as' x b (Report side l) line (does (reported b.measured.features side l)) m e (does_fit b.blocks (reported b.measured.features side l)) k
+reach_by as' x b ex line (Measure l) m e k =
     reach_one as' x b (Measure l) line (nested b.blocks (opened_measure b.measured.features l)) m e
     (then_fit b.blocks (room b.blocks) (λ _. opened_measure b.measured.features l) (λ _. then_fit b.blocks (known b.measured.features l) (λ i. Ok (Measures i)) (λ i. tt))) k
-reach_by as' x b line MeasureEnd m e k = reach_one as' x b MeasureEnd line (measure_ended b.blocks b.measured.touched) m e (measure_ended_fit b.blocks b.measured.touched) k
-reach_by as' x b line Ending m e k = reach_one as' x b Ending line (ended b.blocks) m e (ended_fit b.blocks b.blocks) k
+reach_by as' x b ex line MeasureEnd m e k = reach_one as' x b MeasureEnd line (measure_ended b.blocks b.measured.touched) m e (measure_ended_fit b.blocks b.measured.touched) k
+reach_by as' x b ex line (Macro l ps) m e k = reach_none as' x b.blocks k
+reach_by as' x b ex line MacroEnd m e k = reach_none as' x b.blocks k
+reach_by as' x b ex line (Call l args) m e k = reach_none as' x b.blocks k
+reach_by as' x b ex line Ending m e k = reach_one as' x b Ending line (ended b.blocks) m e (ended_fit b.blocks b.blocks) k
 
-reach_all : (as' : List Around) (x : Block) (b : Behind) (ss : List Statement) → AllMean b ss → kinds as' ≡ b.blocks → Reaches as' x (pieces_from b ss) (behind_all b ss).blocks
+reach_both : (as' : List Around) (x : Block) (ps qs : List Piece) (bs cs : List Opened) (one : Reaches as' x ps bs) → Reaches one.opens one.block qs cs → Reaches as' x (ps ++ qs) cs
+reach_both as' x ps qs bs cs one all = record {
+  opens = all.opens;
+  block = all.block;
+  writes = all.writes ∙ ap (λ l. l ++ qs) one.writes ∙ append_assoc (wrote as' x) ps qs;
+  around = all.around;
+}
+
+reach_all : (as' : List Around) (x : Block) (b : Behind) (ss : List Placed) → AllMean b ss → kinds as' ≡ b.blocks → Reaches as' x (pieces_from b ss) (behind_all b ss).blocks
 reach_all as' x b [] h k = reach_none as' x b.blocks k
 reach_all as' x b (s ∷ ss) h k =
-    let one = subst (λ r. Reaches as' x (pieces_by s.line r) (behind_by b s.form r).blocks) (sym (standing b s.form h.0.0 h.0.1))
-    (reach_by as' x b s.line s.form h.0.0 (standing_ok b s.form h.0.0 h.0.1) k) in
-    let all = reach_all one.opens one.block (behind_one b s) ss h.1 one.around in
-    record {
-      opens = all.opens;
-      block = all.block;
-      writes = all.writes ∙ ap (λ l. l ++ pieces_from (behind_one b s) ss) one.writes ∙ append_assoc (wrote as' x) (pieces_by s.line (resolved b s.form)) (pieces_from (behind_one b s) ss);
-      around = all.around;
-    }
+    let one = subst (λ r. Reaches as' x (pieces_by s.statement.line r) (behind_by b s.statement.form r).blocks) (sym (standing b s.expansion s.statement.form h.0.0 h.0.1))
+    (reach_by as' x b s.expansion s.statement.line s.statement.form h.0.0 (standing_ok b s.expansion s.statement.form h.0.0 h.0.1) k) in
+    reach_both as' x (pieces_by s.statement.line (resolved_here b s)) (pieces_from (behind_one b s) ss) (behind_one b s).blocks (behind_all (behind_one b s) ss).blocks
+    one (reach_all one.opens one.block (behind_one b s) ss h.1 one.around)
 
 none_open : (as' : List Around) → kinds as' ≡ [] → as' ≡ []
 none_open [] e = refl
 none_open (a ∷ as') e = absurd cc
 
-pub program_exists : (ss : List Statement) → IsTrue (is_ended ss) → IsClean BreaksNames ss → (p : Parsed) × IsParsed ss p
-program_exists ss last clean =
-    let mean = all_mean [] ss clean in
-    let r = reach_all [] done start ss mean refl in
-    let shut = none_open r.opens (r.around ∙ last_shuts start ss last mean) in (
-      record { program = r.block; names = names_of (behind_all start ss); notices = notices_of ss },
+pub program_exists : (ss : List Statement) (all : List Placed) → IsTrue (is_ended all) → IsClean BreaksNames all → (p : Parsed) × IsParsed ss all p
+program_exists ss all last clean =
+    let mean = all_mean [] all clean in
+    let r = reach_all [] done start all mean refl in
+    let shut = none_open r.opens (r.around ∙ last_shuts start all last mean) in (
+      record { program = r.block; names = names_of (behind_all start all); notices = notices_of ss },
       record { program = sym (ap (λ os. wrote os r.block) shut) ∙ r.writes; names = refl; notices = refl },
     )

@@ -21,19 +21,20 @@ use Rattle.vcm_spec.specs.Program.{Label, is_same_label}
 use Rattle.vcm_spec.specs.Fitting.{kinds, Fits, HasKindIn}
 use Rattle.std.specs.List.{list_any}
 use Rattle.vcm_expr.specs.declared.typing.Want.TheVariants as wants
-use Rattle.vcm_expr.specs.Names.{Variable, variable_of, kinds_of}
+use Rattle.vcm_expr.specs.Names.{Variable, kinds_of}
 use Rattle.vcm_expr.specs.Source.{Source}
 use Rattle.vcm_expr.specs.Typing.{typed_for, wanted_kind}
 use Rattle.vcm_expr.proofs.Runs.{kind_after_one-Some, kind_after_two-Some}
 use Rattle.vcm_expr.proofs.TypedKinds.{typed_for_fine}
 use Rattle.vcm_syntax.specs.declared.statement.Offset.{Offset}
 use Rattle.vcm_syntax.specs.declared.statement.Spot.{Spot}
+use Rattle.vcm_syntax.specs.declared.statement.Target.{Target}
 use Rattle.vcm_syntax.specs.declared.statement.Rounds.{Rounds}
 use Rattle.vcm_syntax.specs.declared.statement.Form.{Form}
-use Rattle.vcm_syntax.specs.declared.statement.Form.TheVariants.{Opening, Measures as Units, Ignored, Declaration, Assignment, Move, Home, Say, Test, Otherwise, TestEnd, Repeat, RepeatEnd, Mark, Leap, Feature, Measure, Touch, MeasureEnd, Configure, Shift, Rotation, Restore, Query, Report, Ending}
-use Rattle.vcm_syntax.specs.declared.statement.Statement.{Statement}
+use Rattle.vcm_syntax.specs.declared.statement.Form.TheVariants.{Opening, Measures as Units, Ignored, Declaration, Assignment, Move, Home, Say, Test, Otherwise, TestEnd, Repeat, RepeatEnd, Mark, Leap, Feature, Measure, Touch, MeasureEnd, Configure, Shift, Rotation, Restore, Query, Report, Macro, MacroEnd, Call, Ending}
+use Rattle.vcm_macro.specs.declared.placed.Placed.{Placed}
 use Rattle.vcm_tree.specs.Pieces.{Step, Piece, Does, Marks, Leaps, Tests, Divides, EndsTest, Repeats, EndsRepeat, Measures, EndsMeasure, Ends}
-use Rattle.vcm_tree.specs.Resolving.{Behind, Opened, InFirst, InSecond, InBody, InMeasure, Meaning, Silent, Declares, Counts, Measured, measured_after, outer, blocks_after, lengths, declared_at, touched_by, touched_in, measuring, Shifts, no_shifts, with_shift, shifts_of, real_to, real_by, real_named, unless_barred, is_measuring, is_barred, known, entered, with_name, declared, opened_measure, touched, measure_ended, configured, shifted, rotated, recalled, obtained, reported, stated, then_ok, is_declared, with_one, with_all, want_of, assigned, assigned_by, assigned_to, moved, room, nested, tested, indexed, index_by, index_to, increment_of, repeated, divided, test_ended, repeat_ended, ended, marked, label_of, does, counts, resolved, behind_by, behind_one, behind_all, start, pieces_by, pieces_from}
+use Rattle.vcm_tree.specs.Resolving.{Behind, Opened, InFirst, InSecond, InBody, InMeasure, Meaning, Silent, Declares, Counts, Measured, measured_after, outer, blocks_after, lengths, declared_at, touched_in, Shifts, no_shifts, with_shift, shifts_of, real_to, real_by, real_named, unless_barred, is_measuring, is_barred, known, entered, with_name, declared, opened_measure, touched, measure_ended, configured, shifted, rotated, recalled, obtained, reported, stated, then_ok, is_declared, with_one, with_all, want_of, target_of, assigned, assigned_by, assigned_to, moved, room, nested, tested, indexed, index_by, index_to, increment_of, repeated, divided, test_ended, repeat_ended, ended, marked, label_of, does, counts, resolved, resolved_here, behind_by, behind_one, behind_all, start, pieces_by, pieces_from}
 use Rattle.vcm_tree.specs.Program.{Listed, names_of, tables_of}
 use Rattle.vcm_tree.proofs.Written.{StepFits, PiecesFit}
 use Rattle.vcm_tree.proofs.Titled.{known_below, entered_below, with_name_longer, measured_is}
@@ -57,68 +58,71 @@ twice_grown vs ws xs g h = (g.0 ++ h.0, h.1 ∙ ap (λ l. l ++ h.0) g.1 ∙ appe
 abbrev tabled : List Variable → Result (List Variable) FaultCode
 tabled ws = Ok ws
 
-one_grown : (vs : List Variable) (k : Kind) (name : List ℕ) (ws : List Variable) → with_one vs k name ≡ Ok ws → Grown vs ws
-one_grown vs k name ws e = by (is_declared vs name) (nat_lt (length vs) 4096) e
+one_grown : (vs : List Variable) (ex : ℕ) (k : Kind) (name : List ℕ) (ws : List Variable) → with_one vs ex k name ≡ Ok ws → Grown vs ws
+one_grown vs ex k name ws e = by (is_declared vs ex name) (nat_lt (length vs) 4096) e
   where
-    by : (b c : Bool) → (if b then Err DuplicateName else if c then tabled (vs ++ ((0, name), k) ∷ []) else Err TooManyNames) ≡ tabled ws → Grown vs ws
+    by : (b c : Bool) → (if b then Err DuplicateName else if c then tabled (vs ++ ((ex, name), k) ∷ []) else Err TooManyNames) ≡ tabled ws → Grown vs ws
     by true c f = absurd cc
-    by false true f = (((0, name), k) ∷ [], (let g : vs ++ ((0, name), k) ∷ [] ≡ ws = cc in sym g))
+    by false true f = (((ex, name), k) ∷ [], (let g : vs ++ ((ex, name), k) ∷ [] ≡ ws = cc in sym g))
     by false false f = absurd cc
 
-all_grown : (vs : List Variable) (k : Kind) (names : List (List ℕ)) (ws : List Variable) → with_all vs k names ≡ Ok ws → Grown vs ws
-all_grown vs k [] ws e = (let g : vs ≡ ws = cc in ([], sym g ∙ sym (append-nil vs)))
-all_grown vs k (name ∷ names) ws e =
-    let q = then_ok-Ok (with_one vs k name) (λ xs. with_all xs k names) ws e in
-    twice_grown vs q.0 ws (one_grown vs k name q.0 q.1) (all_grown q.0 k names ws q.2)
+all_grown : (vs : List Variable) (ex : ℕ) (k : Kind) (names : List (List ℕ)) (ws : List Variable) → with_all vs ex k names ≡ Ok ws → Grown vs ws
+all_grown vs ex k [] ws e = (let g : vs ≡ ws = cc in ([], sym g ∙ sym (append-nil vs)))
+all_grown vs ex k (name ∷ names) ws e =
+    let q = then_ok-Ok (with_one vs ex k name) (λ xs. with_all xs ex k names) ws e in
+    twice_grown vs q.0 ws (one_grown vs ex k name q.0 q.1) (all_grown q.0 ex k names ws q.2)
 
 -- a statement that declares grows the table
-declares_grown : (vs : List Variable) (k : Kind) (names : List (List ℕ)) (r : Result (List Variable) FaultCode) → with_all vs k names ≡ r → (b : Behind) (form : Form) → b.variables ≡ vs
+declares_grown : (vs : List Variable) (ex : ℕ) (k : Kind) (names : List (List ℕ)) (r : Result (List Variable) FaultCode) → with_all vs ex k names ≡ r → (b : Behind) (form : Form) → b.variables ≡ vs
     → Grown vs (behind_by b form (then_ok r (λ ws. Ok (Declares ws)))).variables
-declares_grown vs k names (Ok ws) e b form f = all_grown vs k names ws e
-declares_grown vs k names (Err c) e b form f = rw f (same_grown vs)
+declares_grown vs ex k names (Ok ws) e b form f = all_grown vs ex k names ws e
+declares_grown vs ex k names (Err c) e b form f = rw f (same_grown vs)
 
 counts_grown : (b : Behind) (form : Form) (r : Result Step FaultCode) → Grown b.variables (behind_by b form (counts r)).variables
 counts_grown b form (Ok s) = same_grown b.variables
 counts_grown b form (Err e) = same_grown b.variables
 
-stated_grown : (b : Behind) (form : Form) → Grown b.variables (behind_by b form (stated b form)).variables
-stated_grown b Opening = same_grown b.variables
-stated_grown b Units = same_grown b.variables
-stated_grown b (Ignored w) = same_grown b.variables
-stated_grown b (Declaration k names) = declares_grown b.variables k names (with_all b.variables k names) refl b (Declaration k names) refl
-stated_grown b (Assignment n x) = counts_grown b (Assignment n x) (does (assigned b.variables n x))
-stated_grown b (Move p) = counts_grown b (Move p) (does (moved b.variables p.x p.y p.z))
-stated_grown b Home = same_grown b.variables
-stated_grown b (Say t) = same_grown b.variables
-stated_grown b (Test x) = counts_grown b (Test x) (nested b.blocks (tested b.variables x))
-stated_grown b Otherwise = counts_grown b Otherwise (divided b.blocks)
-stated_grown b TestEnd = counts_grown b TestEnd (test_ended b.blocks)
-stated_grown b (Repeat r) = counts_grown b (Repeat r) (nested b.blocks (repeated b.variables r))
-stated_grown b RepeatEnd = counts_grown b RepeatEnd (repeat_ended b.blocks)
-stated_grown b (Mark l) = counts_grown b (Mark l) (marked b.labels (label_of l))
-stated_grown b (Leap l) = same_grown b.variables
-stated_grown b (Feature l p d) = counts_grown b (Feature l p d) (does (declared b.measured.features b.variables l p d))
-stated_grown b (Touch p given) = counts_grown b (Touch p given) (does (touched b.blocks b.measured.touched b.variables p given))
-stated_grown b (Configure which x) = counts_grown b (Configure which x) (does (configured b.variables which x))
-stated_grown b (Shift l os) = counts_grown b (Shift l os) (does (shifted b.measured.frames b.variables l os))
-stated_grown b (Rotation l axis n) = counts_grown b (Rotation l axis n) (does (rotated b.measured.frames l axis n))
-stated_grown b (Restore l) = counts_grown b (Restore l) (does (recalled b.measured.frames l))
-stated_grown b (Query v side l word) = counts_grown b (Query v side l word) (does (obtained b.measured.features b.variables v side l word))
-stated_grown b (Report side l) = counts_grown b (Report side l) (does (reported b.measured.features side l))
-stated_grown b (Measure l) = counts_grown b (Measure l) (nested b.blocks (opened_measure b.measured.features l))
-stated_grown b MeasureEnd = counts_grown b MeasureEnd (measure_ended b.blocks b.measured.touched)
-stated_grown b Ending = counts_grown b Ending (ended b.blocks)
+stated_grown : (b : Behind) (ex : ℕ) (form : Form) → Grown b.variables (behind_by b form (stated b ex form)).variables
+stated_grown b ex Opening = same_grown b.variables
+stated_grown b ex Units = same_grown b.variables
+stated_grown b ex (Ignored w) = same_grown b.variables
+stated_grown b ex (Declaration k names) = declares_grown b.variables ex k names (with_all b.variables ex k names) refl b (Declaration k names) refl
+stated_grown b ex (Assignment n x) = counts_grown b (Assignment n x) (does (assigned b.variables n x))
+stated_grown b ex (Move p) = counts_grown b (Move p) (does (moved b.variables p.x p.y p.z))
+stated_grown b ex Home = same_grown b.variables
+stated_grown b ex (Say t) = same_grown b.variables
+stated_grown b ex (Test x) = counts_grown b (Test x) (nested b.blocks (tested b.variables x))
+stated_grown b ex Otherwise = counts_grown b Otherwise (divided b.blocks)
+stated_grown b ex TestEnd = counts_grown b TestEnd (test_ended b.blocks)
+stated_grown b ex (Repeat r) = counts_grown b (Repeat r) (nested b.blocks (repeated b.variables r))
+stated_grown b ex RepeatEnd = counts_grown b RepeatEnd (repeat_ended b.blocks)
+stated_grown b ex (Mark l) = counts_grown b (Mark l) (marked b.labels (label_of ex l))
+stated_grown b ex (Leap l) = same_grown b.variables
+stated_grown b ex (Feature l p d) = counts_grown b (Feature l p d) (does (declared b.measured.features b.variables l p d))
+stated_grown b ex (Touch p given) = counts_grown b (Touch p given) (does (touched b.blocks b.measured.touched b.variables p given))
+stated_grown b ex (Configure which x) = counts_grown b (Configure which x) (does (configured b.variables which x))
+stated_grown b ex (Shift l os) = counts_grown b (Shift l os) (does (shifted b.measured.frames b.variables l os))
+stated_grown b ex (Rotation l axis n) = counts_grown b (Rotation l axis n) (does (rotated b.measured.frames l axis n))
+stated_grown b ex (Restore l) = counts_grown b (Restore l) (does (recalled b.measured.frames l))
+stated_grown b ex (Query v side l word) = counts_grown b (Query v side l word) (does (obtained b.measured.features b.variables v side l word))
+stated_grown b ex (Report side l) = counts_grown b (Report side l) (does (reported b.measured.features side l))
+stated_grown b ex (Measure l) = counts_grown b (Measure l) (nested b.blocks (opened_measure b.measured.features l))
+stated_grown b ex MeasureEnd = counts_grown b MeasureEnd (measure_ended b.blocks b.measured.touched)
+stated_grown b ex (Macro l ps) = same_grown b.variables
+stated_grown b ex MacroEnd = same_grown b.variables
+stated_grown b ex (Call l args) = same_grown b.variables
+stated_grown b ex Ending = counts_grown b Ending (ended b.blocks)
 
-form_grown : (b : Behind) (form : Form) → Grown b.variables (behind_by b form (resolved b form)).variables
-form_grown b form = by (is_measuring b.blocks && is_barred form)
+form_grown : (b : Behind) (ex : ℕ) (form : Form) → Grown b.variables (behind_by b form (resolved b ex form)).variables
+form_grown b ex form = by (is_measuring b.blocks && is_barred form)
   where
-    by : (t : Bool) → Grown b.variables (behind_by b form (unless_barred t (stated b form))).variables
+    by : (t : Bool) → Grown b.variables (behind_by b form (unless_barred t (stated b ex form))).variables
     by true = same_grown b.variables
-    by false = stated_grown b form
+    by false = stated_grown b ex form
 
-all_statements_grown : (b : Behind) (ss : List Statement) → Grown b.variables (behind_all b ss).variables
+all_statements_grown : (b : Behind) (ss : List Placed) → Grown b.variables (behind_all b ss).variables
 all_statements_grown b [] = same_grown b.variables
-all_statements_grown b (s ∷ ss) = twice_grown b.variables (behind_one b s).variables (behind_all (behind_one b s) ss).variables (form_grown b s.form) (all_statements_grown (behind_one b s) ss)
+all_statements_grown b (s ∷ ss) = twice_grown b.variables (behind_one b s).variables (behind_all (behind_one b s) ss).variables (form_grown b s.expansion s.statement.form) (all_statements_grown (behind_one b s) ss)
 
 -- ---- the names of features and frames grow
 
@@ -141,14 +145,14 @@ after_least ms (Measure l) = record { features = omega arith; frames = omega ari
 after_least ms (Touch p given) = record { features = omega arith; frames = omega arith }
 after_least ms _ = same_least ms
 
-one_least : (b : Behind) (s : Statement) → AtLeast (measured_after b.measured s.form) (behind_one b s).measured
-one_least b s = subst (λ ms. AtLeast (measured_after b.measured s.form) ms) (sym (measured_is b s.form (resolved b s.form))) (same_least (measured_after b.measured s.form))
+one_least : (b : Behind) (s : Placed) → AtLeast (measured_after b.measured s.statement.form) (behind_one b s).measured
+one_least b s = subst (λ ms. AtLeast (measured_after b.measured s.statement.form) ms) (sym (measured_is b s.statement.form (resolved_here b s))) (same_least (measured_after b.measured s.statement.form))
 
-all_least : (b : Behind) (ss : List Statement) → AtLeast b.measured (behind_all b ss).measured
+all_least : (b : Behind) (ss : List Placed) → AtLeast b.measured (behind_all b ss).measured
 all_least b [] = same_least b.measured
 all_least b (s ∷ ss) =
     twice_least b.measured (behind_one b s).measured (behind_all (behind_one b s) ss).measured
-    (twice_least b.measured (measured_after b.measured s.form) (behind_one b s).measured (after_least b.measured s.form) (one_least b s)) (all_least (behind_one b s) ss)
+    (twice_least b.measured (measured_after b.measured s.statement.form) (behind_one b s).measured (after_least b.measured s.statement.form) (one_least b s)) (all_least (behind_one b s) ss)
 
 -- the features of MEAS blocks that are open stand below a number
 abbrev Within : ℕ → List Opened → Type 0
@@ -217,13 +221,13 @@ module _ (vs : List Variable) (ws : Listed) (g : Grown vs ws.variables) where
   wanted kind.Real = refl
   wanted kind.Bool = refl
 
-  assigned_fits : (name : List ℕ) (value : Source) (what : Simple Tree) → assigned vs name value ≡ Ok what → Fits (HasKindIn (tables_of ws)) (tables_of ws) what
-  assigned_fits name value what e = by (variable_of vs 0 name) e
+  assigned_fits : (t : Target) (value : Source) (what : Simple Tree) → assigned vs t value ≡ Ok what → Fits (HasKindIn (tables_of ws)) (tables_of ws) what
+  assigned_fits t value what e = by (target_of vs t) e
     where
       at : (i : ℕ) (o : Option Kind) → slice_get (kinds_of vs) i ≡ o → assigned_to vs value i o ≡ Ok what → Fits (HasKindIn (tables_of ws)) (tables_of ws) what
       at i None h f = absurd cc
       at i (Some k) h f =
-          let q = then_ok-Ok (typed_for vs (want_of k) value) (λ t. Ok (Assign i t)) what f in
+          let q = then_ok-Ok (typed_for vs (want_of k) value) (λ a. Ok (Assign i a)) what f in
           let same : Assign i q.0 ≡ what = cc in
           let fine = typed_for_fine vs (want_of k) value q.0 q.1 in
           subst (Fits (HasKindIn (tables_of ws)) (tables_of ws)) same (k, has_place i k h, has_kind q.0 k (fine.typed ∙ ap (λ j. Some j) (wanted k)))
@@ -335,8 +339,8 @@ module _ (vs : List Variable) (ws : Listed) (g : Grown vs ws.variables) where
       let same : Recall h.0 ≡ what = cc in
       subst FitsHere same (omega (arith, few, low))
 
-  real_fits : (name : List ℕ) (i : ℕ) → real_named vs name ≡ Ok i → slice_get (kinds (tables_of ws)) i ≡ Some kind.Real
-  real_fits name i e = by (variable_of vs 0 name) e
+  real_fits : (t : Target) (i : ℕ) → real_named vs t ≡ Ok i → slice_get (kinds (tables_of ws)) i ≡ Some kind.Real
+  real_fits t i e = by (target_of vs t) e
     where
       at : (j : ℕ) (o : Option Kind) → slice_get (kinds_of vs) j ≡ o → real_to j o ≡ Ok i → slice_get (kinds (tables_of ws)) i ≡ Some kind.Real
       at j None h f = absurd cc
@@ -348,14 +352,14 @@ module _ (vs : List Variable) (ws : Listed) (g : Grown vs ws.variables) where
       by None f = absurd cc
       by (Some j) f = at j (slice_get (kinds_of vs) j) refl f
 
-  obtained_fits : (fs : List (List ℕ)) (name : List ℕ) (side : Side) (l : List ℕ) (word : FeatureWord) (what : Simple Tree) → length fs ≤ length ws.features
-      → obtained fs vs name side l word ≡ Ok what → FitsHere what
-  obtained_fits fs name side l word what few e =
-      let h = then_ok-Ok (real_named vs name) (λ v. then_ok (known fs l) (λ i. done (Obtain v side i (word_number word)))) what e in
+  obtained_fits : (fs : List (List ℕ)) (t : Target) (side : Side) (l : List ℕ) (word : FeatureWord) (what : Simple Tree) → length fs ≤ length ws.features
+      → obtained fs vs t side l word ≡ Ok what → FitsHere what
+  obtained_fits fs t side l word what few e =
+      let h = then_ok-Ok (real_named vs t) (λ v. then_ok (known fs l) (λ i. done (Obtain v side i (word_number word)))) what e in
       let i = then_ok-Ok (known fs l) (λ i. done (Obtain h.0 side i (word_number word))) what h.2 in
       let low = known_below fs l i.0 i.1 in
       let same : Obtain h.0 side i.0 (word_number word) ≡ what = cc in
-      subst FitsHere same (real_fits name h.0 h.1, omega (arith, few, low))
+      subst FitsHere same (real_fits t h.0 h.1, omega (arith, few, low))
 
   reported_fits : (fs : List (List ℕ)) (side : Side) (l : List ℕ) (what : Simple Tree) → length fs ≤ length ws.features → reported fs side l ≡ Ok what → FitsHere what
   reported_fits fs side l what few e =
@@ -390,8 +394,8 @@ module _ (vs : List Variable) (ws : Listed) (g : Grown vs ws.variables) where
   tested_fit : (x : Source) → Fitting (tested vs x)
   tested_fit x = then_fit (typed_for vs wants.Bool x) (λ t. Ok (Tests t)) (λ t e. has_kind t kind.Bool (typed_for_fine vs wants.Bool x t e).typed)
 
-  index_fits : (name : List ℕ) (i : ℕ) → indexed vs name ≡ Ok i → slice_get (kinds (tables_of ws)) i ≡ Some kind.Int
-  index_fits name i e = by (variable_of vs 0 name) e
+  index_fits : (t : Target) (i : ℕ) → indexed vs t ≡ Ok i → slice_get (kinds (tables_of ws)) i ≡ Some kind.Int
+  index_fits t i e = by (target_of vs t) e
     where
       at : (j : ℕ) (o : Option Kind) → slice_get (kinds_of vs) j ≡ o → index_to j o ≡ Ok i → slice_get (kinds (tables_of ws)) i ≡ Some kind.Int
       at j None h f = absurd cc
@@ -456,52 +460,55 @@ module _ (vs : List Variable) (ws : Listed) (g : Grown vs ws.variables) where
   declares_fit line (Ok xs) = tt
   declares_fit line (Err e) = tt
 
-  stated_fits : (b : Behind) → b.variables ≡ vs → (line : ℕ) (form : Form) → Within (length ws.features) b.blocks → length (measured_after b.measured form).features ≤ length ws.features
-      → length (measured_after b.measured form).frames ≤ length ws.frames → PiecesFit (tables_of ws) (pieces_by line (stated b form))
-  stated_fits b e line Opening bs fs ds = tt
-  stated_fits b e line Units bs fs ds = tt
-  stated_fits b e line (Ignored w) bs fs ds = tt
-  stated_fits b e line (Declaration k names) bs fs ds = declares_fit line (with_all b.variables k names)
-  stated_fits b e line (Assignment n x) bs fs ds = counts_fit line (does (assigned b.variables n x)) (rw e (does_fit (assigned vs n x) (assigned_fits n x)))
-  stated_fits b e line (Move p) bs fs ds = counts_fit line (does (moved b.variables p.x p.y p.z)) (rw e (does_fit (moved vs p.x p.y p.z) (moved_fits p.x p.y p.z)))
-  stated_fits b e line Home bs fs ds = (tt, tt)
-  stated_fits b e line (Say t) bs fs ds = (tt, tt)
-  stated_fits b e line (Test x) bs fs ds = counts_fit line (nested b.blocks (tested b.variables x)) (rw e (nested_fit b.blocks (tested vs x) (tested_fit x)))
-  stated_fits b e line Otherwise bs fs ds = counts_fit line (divided b.blocks) (divided_fit b.blocks)
-  stated_fits b e line TestEnd bs fs ds = counts_fit line (test_ended b.blocks) (test_ended_fit b.blocks)
-  stated_fits b e line (Repeat r) bs fs ds = counts_fit line (nested b.blocks (repeated b.variables r)) (rw e (nested_fit b.blocks (repeated vs r) (repeated_fit r)))
-  stated_fits b e line RepeatEnd bs fs ds = counts_fit line (repeat_ended b.blocks) (repeat_ended_fit b.blocks)
-  stated_fits b e line (Mark l) bs fs ds = counts_fit line (marked b.labels (label_of l)) (marked_fit b.labels (label_of l))
-  stated_fits b e line (Leap l) bs fs ds = (tt, tt)
-  stated_fits b e line (Feature l p d) bs fs ds =
+  stated_fits : (b : Behind) → b.variables ≡ vs → (ex line : ℕ) (form : Form) → Within (length ws.features) b.blocks → length (measured_after b.measured form).features ≤ length ws.features
+      → length (measured_after b.measured form).frames ≤ length ws.frames → PiecesFit (tables_of ws) (pieces_by line (stated b ex form))
+  stated_fits b e ex line Opening bs fs ds = tt
+  stated_fits b e ex line Units bs fs ds = tt
+  stated_fits b e ex line (Ignored w) bs fs ds = tt
+  stated_fits b e ex line (Declaration k names) bs fs ds = declares_fit line (with_all b.variables ex k names)
+  stated_fits b e ex line (Assignment n x) bs fs ds = counts_fit line (does (assigned b.variables n x)) (rw e (does_fit (assigned vs n x) (assigned_fits n x)))
+  stated_fits b e ex line (Move p) bs fs ds = counts_fit line (does (moved b.variables p.x p.y p.z)) (rw e (does_fit (moved vs p.x p.y p.z) (moved_fits p.x p.y p.z)))
+  stated_fits b e ex line Home bs fs ds = (tt, tt)
+  stated_fits b e ex line (Say t) bs fs ds = (tt, tt)
+  stated_fits b e ex line (Test x) bs fs ds = counts_fit line (nested b.blocks (tested b.variables x)) (rw e (nested_fit b.blocks (tested vs x) (tested_fit x)))
+  stated_fits b e ex line Otherwise bs fs ds = counts_fit line (divided b.blocks) (divided_fit b.blocks)
+  stated_fits b e ex line TestEnd bs fs ds = counts_fit line (test_ended b.blocks) (test_ended_fit b.blocks)
+  stated_fits b e ex line (Repeat r) bs fs ds = counts_fit line (nested b.blocks (repeated b.variables r)) (rw e (nested_fit b.blocks (repeated vs r) (repeated_fit r)))
+  stated_fits b e ex line RepeatEnd bs fs ds = counts_fit line (repeat_ended b.blocks) (repeat_ended_fit b.blocks)
+  stated_fits b e ex line (Mark l) bs fs ds = counts_fit line (marked b.labels (label_of ex l)) (marked_fit b.labels (label_of ex l))
+  stated_fits b e ex line (Leap l) bs fs ds = (tt, tt)
+  stated_fits b e ex line (Feature l p d) bs fs ds =
       counts_fit line (does (declared b.measured.features b.variables l p d)) (rw e (does_fit (declared b.measured.features vs l p d) (λ what. declared_fits b.measured.features l p d what fs)))
-  stated_fits b e line (Measure l) bs fs ds =
+  stated_fits b e ex line (Measure l) bs fs ds =
       counts_fit line (nested b.blocks (opened_measure b.measured.features l)) (nested_fit b.blocks (opened_measure b.measured.features l) (opened_measure_fit b.measured.features l fs))
-  stated_fits b e line (Touch p given) bs fs ds =
+  stated_fits b e ex line (Touch p given) bs fs ds =
       counts_fit line (does (touched b.blocks b.measured.touched b.variables p given))
       (rw e (does_fit (touched b.blocks b.measured.touched vs p given) (λ what. touched_fits b.blocks b.measured.touched p given what bs)))
-  stated_fits b e line MeasureEnd bs fs ds = counts_fit line (measure_ended b.blocks b.measured.touched) (measure_ended_fit b.blocks b.measured.touched)
-  stated_fits b e line (Configure which x) bs fs ds = counts_fit line (does (configured b.variables which x)) (rw e (does_fit (configured vs which x) (configured_fits which x)))
-  stated_fits b e line (Shift l os) bs fs ds =
+  stated_fits b e ex line MeasureEnd bs fs ds = counts_fit line (measure_ended b.blocks b.measured.touched) (measure_ended_fit b.blocks b.measured.touched)
+  stated_fits b e ex line (Configure which x) bs fs ds = counts_fit line (does (configured b.variables which x)) (rw e (does_fit (configured vs which x) (configured_fits which x)))
+  stated_fits b e ex line (Shift l os) bs fs ds =
       counts_fit line (does (shifted b.measured.frames b.variables l os)) (rw e (does_fit (shifted b.measured.frames vs l os) (λ what. shifted_fits b.measured.frames l os what ds)))
-  stated_fits b e line (Rotation l axis n) bs fs ds =
+  stated_fits b e ex line (Rotation l axis n) bs fs ds =
       counts_fit line (does (rotated b.measured.frames l axis n)) (does_fit (rotated b.measured.frames l axis n) (λ what. rotated_fits b.measured.frames l axis n what ds))
-  stated_fits b e line (Restore l) bs fs ds =
+  stated_fits b e ex line (Restore l) bs fs ds =
       counts_fit line (does (recalled b.measured.frames l)) (does_fit (recalled b.measured.frames l) (λ what. recalled_fits b.measured.frames l what ds))
-  stated_fits b e line (Query v side l word) bs fs ds =
+  stated_fits b e ex line (Query v side l word) bs fs ds =
       counts_fit line (does (obtained b.measured.features b.variables v side l word))
       (rw e (does_fit (obtained b.measured.features vs v side l word) (λ what. obtained_fits b.measured.features v side l word what fs)))
-  stated_fits b e line (Report side l) bs fs ds =
+  stated_fits b e ex line (Report side l) bs fs ds =
       counts_fit line (does (reported b.measured.features side l)) (does_fit (reported b.measured.features side l) (λ what. reported_fits b.measured.features side l what fs))
-  stated_fits b e line Ending bs fs ds = counts_fit line (ended b.blocks) (ended_fit b.blocks)
+  stated_fits b e ex line (Macro l ps) bs fs ds = tt
+  stated_fits b e ex line MacroEnd bs fs ds = tt
+  stated_fits b e ex line (Call l args) bs fs ds = tt
+  stated_fits b e ex line Ending bs fs ds = counts_fit line (ended b.blocks) (ended_fit b.blocks)
 
-  form_fits : (b : Behind) → b.variables ≡ vs → (line : ℕ) (form : Form) → Within (length ws.features) b.blocks → length (measured_after b.measured form).features ≤ length ws.features
-      → length (measured_after b.measured form).frames ≤ length ws.frames → PiecesFit (tables_of ws) (pieces_by line (resolved b form))
-  form_fits b e line form bs fs ds = by (is_measuring b.blocks && is_barred form)
+  form_fits : (b : Behind) → b.variables ≡ vs → (ex line : ℕ) (form : Form) → Within (length ws.features) b.blocks → length (measured_after b.measured form).features ≤ length ws.features
+      → length (measured_after b.measured form).frames ≤ length ws.frames → PiecesFit (tables_of ws) (pieces_by line (resolved b ex form))
+  form_fits b e ex line form bs fs ds = by (is_measuring b.blocks && is_barred form)
     where
-      by : (t : Bool) → PiecesFit (tables_of ws) (pieces_by line (unless_barred t (stated b form)))
+      by : (t : Bool) → PiecesFit (tables_of ws) (pieces_by line (unless_barred t (stated b ex form)))
       by true = tt
-      by false = stated_fits b e line form bs fs ds
+      by false = stated_fits b e ex line form bs fs ds
 
 both_fit : (ws : Listed) (ps qs : List Piece) → PiecesFit (tables_of ws) ps → PiecesFit (tables_of ws) qs → PiecesFit (tables_of ws) (ps ++ qs)
 both_fit ws [] qs f g = g
@@ -528,16 +535,16 @@ within_next ws b form line (Ok (Declares vs)) f h = h
 within_next ws b form line (Ok (Counts s)) f h = step_within ws b.blocks s f.0 h
 within_next ws b form line (Err e) f h = h
 
-fit_in : (ws : Listed) (b : Behind) (ss : List Statement) → names_of (behind_all b ss) ≡ ws → Within (length ws.features) b.blocks → PiecesFit (tables_of ws) (pieces_from b ss)
+fit_in : (ws : Listed) (b : Behind) (ss : List Placed) → names_of (behind_all b ss) ≡ ws → Within (length ws.features) b.blocks → PiecesFit (tables_of ws) (pieces_from b ss)
 fit_in ws b [] e h = tt
 fit_in ws b (s ∷ ss) e h =
     let grown = subst (λ (n : Listed). Grown b.variables n.variables) e (all_statements_grown b (s ∷ ss)) in
     let next = behind_one b s in
-    let least = twice_least (measured_after b.measured s.form) next.measured (behind_all next ss).measured (one_least b s) (all_least next ss) in
-    let fs = subst (λ (n : Listed). length (measured_after b.measured s.form).features ≤ length n.features) e least.features in
-    let ds = subst (λ (n : Listed). length (measured_after b.measured s.form).frames ≤ length n.frames) e least.frames in
-    let here = form_fits b.variables ws grown b refl s.line s.form h fs ds in
-    both_fit ws (pieces_by s.line (resolved b s.form)) (pieces_from next ss) here (fit_in ws next ss e (within_next ws b s.form s.line (resolved b s.form) here h))
+    let least = twice_least (measured_after b.measured s.statement.form) next.measured (behind_all next ss).measured (one_least b s) (all_least next ss) in
+    let fs = subst (λ (n : Listed). length (measured_after b.measured s.statement.form).features ≤ length n.features) e least.features in
+    let ds = subst (λ (n : Listed). length (measured_after b.measured s.statement.form).frames ≤ length n.frames) e least.frames in
+    let here = form_fits b.variables ws grown b refl s.expansion s.statement.line s.statement.form h fs ds in
+    both_fit ws (pieces_by s.statement.line (resolved_here b s)) (pieces_from next ss) here (fit_in ws next ss e (within_next ws b s.statement.form s.statement.line (resolved_here b s) here h))
 
-pub fit_all : (ss : List Statement) → PiecesFit (tables_of (names_of (behind_all start ss))) (pieces_from start ss)
+pub fit_all : (ss : List Placed) → PiecesFit (tables_of (names_of (behind_all start ss))) (pieces_from start ss)
 fit_all ss = fit_in (names_of (behind_all start ss)) start ss refl tt

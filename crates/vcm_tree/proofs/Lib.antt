@@ -1,6 +1,6 @@
-pub mod Ordering
 pub mod Spelling
-pub mod FewStatements
+pub mod Cutting
+pub mod Kept
 pub mod DeclaredNames
 pub mod Builders
 pub mod Repeats

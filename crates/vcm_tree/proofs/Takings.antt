@@ -10,7 +10,7 @@ use Rattle.vcm_spec.specs.Simple.{Simple}
 use Rattle.vcm_expr.specs.Names.{Variable}
 use Rattle.vcm_syntax.specs.declared.statement.Form.{Form}
 use Rattle.vcm_syntax.specs.declared.statement.Form.TheVariants.{Declaration, Mark}
-use Rattle.vcm_syntax.specs.declared.statement.Statement.{Statement}
+use Rattle.vcm_macro.specs.declared.placed.Placed.{Placed}
 use Rattle.vcm_tree.specs.declared.builder.Builder.{Builder}
 use Rattle.vcm_tree.specs.declared.taking.Progress.{Progress}
 use Rattle.vcm_tree.specs.Pieces.{Step, piece, Does, Marks}
@@ -20,24 +20,24 @@ use Rattle.vcm_tree.specs.Building.{blocks_of, written, Reads}
 use Rattle.vcm_tree.specs.Taking.{measured_of, behind_of, ActsSo, ActedAt, TakesStated}
 
 -- a refusal of a counted statement is one of its meaning
-pub counted_told : (line : ℕ) (b : Behind) (form : Form) (r : Result Step FaultCode) (f : SourceFault) → stated b form ≡ counts r → NoMemoryOr (ToldAt line r) f
-    → NoMemoryOr (ToldAt line (stated b form)) f
-counted_told line b form r f e (inl none) = inl none
-counted_told line b form r f e (inr p) = inr (p.0, e ∙ ap counts p.1)
+pub counted_told : (line : ℕ) (b : Behind) (ex : ℕ) (form : Form) (r : Result Step FaultCode) (f : SourceFault) → stated b ex form ≡ counts r → NoMemoryOr (ToldAt line r) f
+    → NoMemoryOr (ToldAt line (stated b ex form)) f
+counted_told line b ex form r f e (inl none) = inl none
+counted_told line b ex form r f e (inr p) = inr (p.0, e ∙ ap counts p.1)
 
 -- a refusal of a simple statement is one of its meaning
-pub acted_told : (s : Statement) (b : Behind) (f : SourceFault) → NoMemoryOr (ActedAt s b) f → NoMemoryOr (ToldAt s.line (stated b s.form)) f
+pub acted_told : (s : Placed) (b : Behind) (f : SourceFault) → NoMemoryOr (ActedAt s b) f → NoMemoryOr (ToldAt s.statement.line (stated b s.expansion s.statement.form)) f
 acted_told s b f (inl none) = inl none
-acted_told s b f (inr p) = inr (p.0, ap (stated_by b s.form) p.1)
+acted_told s b f (inr p) = inr (p.0, ap (stated_by b s.expansion s.statement.form) p.1)
 
 -- what is read behind others, by its parts
 abbrev parts : List Variable → Builder → List Label → Measured → Behind
 parts vs b ls ms = behind vs (blocks_of b.opens.items) ls ms
 
-module _ (s : Statement) (old new : Progress) where
+module _ (s : Placed) (old new : Progress) where
   -- a counted statement
-  pub counted_takes : (r : Result Step FaultCode) → stated (behind_of old) s.form ≡ counts r → Reads r s.line old.builder new.builder → new.names ≡ old.names
-      → new.labels ≡ old.labels → measured_of new ≡ measured_after (measured_of old) s.form → TakesStated s old new
+  pub counted_takes : (r : Result Step FaultCode) → stated (behind_of old) s.expansion s.statement.form ≡ counts r → Reads r s.statement.line old.builder new.builder → new.names ≡ old.names
+      → new.labels ≡ old.labels → measured_of new ≡ measured_after (measured_of old) s.statement.form → TakesStated s old new
   counted_takes r e reads names labels measures = record {
     meaning = Counts reads.step;
     is = e ∙ ap counts reads.is;
@@ -50,17 +50,17 @@ module _ (s : Statement) (old new : Progress) where
   }
 
   -- a simple statement, which stands behind what is read of its names
-  pub simple_takes : (mid : Progress) (what : Simple Tree) → ActsSo s old mid what → Reads (Ok (Does what)) s.line mid.builder new.builder → new.names ≡ mid.names
+  pub simple_takes : (mid : Progress) (what : Simple Tree) → ActsSo s old mid what → Reads (Ok (Does what)) s.statement.line mid.builder new.builder → new.names ≡ mid.names
       → new.labels ≡ mid.labels → measured_of new ≡ measured_of mid → TakesStated s old new
   simple_takes mid what acts reads names labels measures =
-      counted_takes (Ok (Does what)) (ap (stated_by (behind_of old) s.form) acts.is) (subst (λ b. Reads (Ok (Does what)) s.line b new.builder) acts.builder reads)
+      counted_takes (Ok (Does what)) (ap (stated_by (behind_of old) s.expansion s.statement.form) acts.is) (subst (λ b. Reads (Ok (Does what)) s.statement.line b new.builder) acts.builder reads)
       (names ∙ acts.names) (labels ∙ acts.labels) (measures ∙ acts.measures)
 
-  pub declaration_takes : (ws : List Variable) (kind : Kind) (names : List (List ℕ)) → s.form ≡ Declaration kind names → with_all old.names kind names ≡ Ok ws
+  pub declaration_takes : (ws : List Variable) (kind : Kind) (names : List (List ℕ)) → s.statement.form ≡ Declaration kind names → with_all old.names s.expansion kind names ≡ Ok ws
       → new.names ≡ ws → new.labels ≡ old.labels → new.builder ≡ old.builder → measured_of new ≡ measured_of old → TakesStated s old new
   declaration_takes ws kind names e h same labels builder measures = record {
     meaning = Declares ws;
-    is = ap (stated (behind_of old)) e ∙ ap (λ r. then_ok r (λ xs. Ok (Declares xs))) h;
+    is = ap (stated (behind_of old) s.expansion) e ∙ ap (λ r. then_ok r (λ xs. Ok (Declares xs))) h;
     after =
         ap (λ vs. parts vs new.builder new.labels (measured_of new)) same
         ∙ ap (λ b. parts ws b new.labels (measured_of new)) builder
@@ -70,35 +70,35 @@ module _ (s : Statement) (old new : Progress) where
     pieces = ap written builder ∙ sym (append-nil (written old.builder));
   }
 
-  pub mark_takes : (name : List ℕ) → s.form ≡ Mark name → marked old.labels (label_of name) ≡ Ok (Marks (label_of name))
-      → new.labels ≡ old.labels ++ label_of name ∷ [] → written new.builder ≡ written old.builder ++ piece s.line (Marks (label_of name)) ∷ []
+  pub mark_takes : (name : List ℕ) → s.statement.form ≡ Mark name → marked old.labels (label_of s.expansion name) ≡ Ok (Marks (label_of s.expansion name))
+      → new.labels ≡ old.labels ++ label_of s.expansion name ∷ [] → written new.builder ≡ written old.builder ++ piece s.statement.line (Marks (label_of s.expansion name)) ∷ []
       → blocks_of new.builder.opens.items ≡ blocks_of old.builder.opens.items → new.names ≡ old.names → measured_of new ≡ measured_of old → TakesStated s old new
   mark_takes name e fresh labels pieces blocks names measures = record {
-    meaning = Counts (Marks (label_of name));
-    is = ap (stated (behind_of old)) e ∙ ap counts fresh;
+    meaning = Counts (Marks (label_of s.expansion name));
+    is = ap (stated (behind_of old) s.expansion) e ∙ ap counts fresh;
     after =
         ap (λ vs. behind vs (blocks_of new.builder.opens.items) new.labels (measured_of new)) names
         ∙ ap (λ bs. behind old.names bs new.labels (measured_of new)) blocks
         ∙ ap (λ ls. behind old.names (blocks_of old.builder.opens.items) ls (measured_of new)) labels
-        ∙ ap (behind old.names (blocks_of old.builder.opens.items) (old.labels ++ label_of name ∷ [])) measures
-        ∙ ap (λ form. behind old.names (blocks_of old.builder.opens.items) (old.labels ++ label_of name ∷ []) (measured_after (measured_of old) form)) (sym e);
+        ∙ ap (behind old.names (blocks_of old.builder.opens.items) (old.labels ++ label_of s.expansion name ∷ [])) measures
+        ∙ ap (λ form. behind old.names (blocks_of old.builder.opens.items) (old.labels ++ label_of s.expansion name ∷ []) (measured_after (measured_of old) form)) (sym e);
     pieces = pieces;
   }
 
   -- the same where the outcome of a call is handed on
-  pub counted_on : (result : Result (Unit {0}) SourceFault) (r : Result Step FaultCode) → stated (behind_of old) s.form ≡ counts r → OnOk result (Reads r s.line old.builder new.builder)
-      → new.names ≡ old.names → new.labels ≡ old.labels → measured_of new ≡ measured_after (measured_of old) s.form → OnOk result (TakesStated s old new)
+  pub counted_on : (result : Result (Unit {0}) SourceFault) (r : Result Step FaultCode) → stated (behind_of old) s.expansion s.statement.form ≡ counts r → OnOk result (Reads r s.statement.line old.builder new.builder)
+      → new.names ≡ old.names → new.labels ≡ old.labels → measured_of new ≡ measured_after (measured_of old) s.statement.form → OnOk result (TakesStated s old new)
   counted_on (Ok x) r e reads names labels measures = counted_takes r e reads names labels measures
   counted_on (Err f) r e reads names labels measures = tt
 
-  pub declaration_on : (result : Result (Unit {0}) SourceFault) (kind : Kind) (names : List (List ℕ)) → s.form ≡ Declaration kind names
-      → OnOk result (with_all old.names kind names ≡ Ok new.names) → new.labels ≡ old.labels → new.builder ≡ old.builder → measured_of new ≡ measured_of old
+  pub declaration_on : (result : Result (Unit {0}) SourceFault) (kind : Kind) (names : List (List ℕ)) → s.statement.form ≡ Declaration kind names
+      → OnOk result (with_all old.names s.expansion kind names ≡ Ok new.names) → new.labels ≡ old.labels → new.builder ≡ old.builder → measured_of new ≡ measured_of old
       → OnOk result (TakesStated s old new)
   declaration_on (Ok x) kind names e h labels builder measures = declaration_takes new.names kind names e h refl labels builder measures
   declaration_on (Err f) kind names e h labels builder measures = tt
 
-  pub mark_on : (result : Result (Unit {0}) SourceFault) (name : List ℕ) → s.form ≡ Mark name → OnOk result (marked old.labels (label_of name) ≡ Ok (Marks (label_of name)))
-      → OnOk result (new.labels ≡ old.labels ++ label_of name ∷ []) → OnOk result (written new.builder ≡ written old.builder ++ piece s.line (Marks (label_of name)) ∷ [])
+  pub mark_on : (result : Result (Unit {0}) SourceFault) (name : List ℕ) → s.statement.form ≡ Mark name → OnOk result (marked old.labels (label_of s.expansion name) ≡ Ok (Marks (label_of s.expansion name)))
+      → OnOk result (new.labels ≡ old.labels ++ label_of s.expansion name ∷ []) → OnOk result (written new.builder ≡ written old.builder ++ piece s.statement.line (Marks (label_of s.expansion name)) ∷ [])
       → OnOk result (blocks_of new.builder.opens.items ≡ blocks_of old.builder.opens.items) → new.names ≡ old.names → measured_of new ≡ measured_of old
       → OnOk result (TakesStated s old new)
   mark_on (Ok x) name e fresh labels pieces blocks names measures = mark_takes name e fresh labels pieces blocks names measures

@@ -1,6 +1,6 @@
 -- The walk over the statements whose names are looked up, one more at a time.
-use Rattle.std.proofs.Common.{◌≡◌, ℕ, zero, suc, ◌+◌, ◌≤◌, ◌<◌, Bool, true, false, List, [], ◌∷◌, ◌++◌, length, take, drop, Some, Result, Ok, Err, refl, sym, ap, ◌∙◌, subst, append_assoc, inl, inr, arith}
-use Rattle.std.specs.Prelude.{IsTrue, slice_get}
+use Rattle.std.proofs.Common.{◌≡◌, ℕ, zero, suc, ◌+◌, ◌≤◌, true, false, List, [], ◌∷◌, ◌++◌, length, take, drop, Result, Ok, Err, refl, sym, ap, ◌∙◌, subst, append_assoc, inl, inr, arith}
+use Rattle.std.specs.Prelude.{IsTrue}
 use Rattle.std.proofs.lemmas.List.{append-nil, take_all}
 use Rattle.vcm_lines.specs.declared.fault.FaultCode.{FaultCode}
 use Rattle.vcm_lines.specs.declared.fault.FaultCode.TheVariants.{Unbalanced}
@@ -10,21 +10,23 @@ use Rattle.vcm_spec.specs.Phase.{IsClean, IsCleanBelow, FirstFault}
 use Rattle.vcm_spec.specs.Program.{done}
 use Rattle.vcm_spec.proofs.PhaseLemmas.{place_at, clean_none, clean_more, clean_done, fault_at}
 use Rattle.vcm_syntax.specs.declared.statement.Form.{Form}
-use Rattle.vcm_syntax.specs.declared.statement.Form.TheVariants.{Opening, Measures, Ignored, Declaration, Assignment, Move, Home, Say, Test, Otherwise, TestEnd, Repeat, RepeatEnd, Mark, Leap, Feature, Measure, Touch, MeasureEnd, Configure, Shift, Rotation, Restore, Query, Report, Ending}
+use Rattle.vcm_syntax.specs.declared.statement.Form.TheVariants.{Opening, Measures, Ignored, Declaration, Assignment, Move, Home, Say, Test, Otherwise, TestEnd, Repeat, RepeatEnd, Mark, Leap, Feature, Measure, Touch, MeasureEnd, Configure, Shift, Rotation, Restore, Query, Report, Macro, MacroEnd, Call, Ending}
 use Rattle.vcm_syntax.specs.declared.statement.Statement.{Statement}
-use Rattle.vcm_tree.specs.declared.program.Noticed.{Noticed}
+use Rattle.vcm_macro.specs.declared.placed.Placed.{Placed}
 use Rattle.vcm_tree.specs.declared.builder.Open.{Open}
 use Rattle.vcm_tree.specs.declared.taking.Progress.{Progress}
-use Rattle.vcm_tree.specs.Order.{is_ending, is_ended}
+use Rattle.vcm_macro.specs.Order.{is_ending}
+use Rattle.vcm_tree.specs.Ended.{is_ended}
 use Rattle.vcm_tree.specs.Pieces.{pieces}
-use Rattle.vcm_tree.specs.Resolving.{Behind, behind, measured, Opened, Meaning, counts, ended, stated, resolved, behind_by, behind_one, behind_all, start, pieces_by, pieces_from, BreaksNames, names_line, ToldAt}
-use Rattle.vcm_tree.specs.Program.{IsParsed, names_of, listed, notice_of, notices_of}
+use Rattle.vcm_tree.specs.Resolving.{Behind, behind, measured, Opened, Meaning, counts, ended, stated, resolved_here, behind_by, behind_one, behind_all, start, pieces_by, pieces_from, BreaksNames, names_line, ToldAt}
+use Rattle.vcm_tree.specs.Program.{IsParsed, names_of, listed, notices_of}
 use Rattle.vcm_tree.specs.Building.{blocks_of, opens_pieces, written}
 use Rattle.vcm_tree.specs.Taking.{measured_of, behind_of, Takes}
 use Rattle.vcm_tree.proofs.Builders.{blocks_length}
 use Rattle.vcm_tree.proofs.Standing.{standing, standing_ok}
+use Rattle.vcm_tree.proofs.Cutting.{place}
 
-pub behind_push : (b : Behind) (ss : List Statement) (s : Statement) → behind_all b (ss ++ s ∷ []) ≡ behind_one (behind_all b ss) s
+pub behind_push : (b : Behind) (ss : List Placed) (s : Placed) → behind_all b (ss ++ s ∷ []) ≡ behind_one (behind_all b ss) s
 behind_push b [] s = refl
 behind_push b (t ∷ ss) s = behind_push (behind_one b t) ss s
 
@@ -34,16 +36,15 @@ drop_nil zero (x ∷ xs) e = absurd cc
 drop_nil (suc n) (x ∷ xs) e = (let r = drop_nil n xs e in omega arith)
 
 -- so many statements are read, and these are left
-pub record IsWalked (all : List Statement) (p : Progress) (notices : List Noticed) (rest : List Statement) : Type 0 where
+pub record IsWalked (all : List Placed) (p : Progress) (rest : List Placed) : Type 0 where
   pub place : ℕ
   pub left : drop place all ≡ rest
   pub clean : IsCleanBelow BreaksNames all place
   pub behind : behind_of p ≡ behind_all start (take place all)
   pub writes : pieces_from start all ≡ written p.builder ++ pieces_from (behind_of p) rest
-  pub noticed : notices_of all ≡ notices ++ notices_of rest
 
-pub walk_begins : (all : List Statement) (p : Progress) → p.names ≡ [] → p.features ≡ [] → p.frames ≡ [] → p.touched ≡ false → p.labels ≡ []
-    → p.builder.opens.items ≡ [] → p.builder.block ≡ done → IsWalked all p [] all
+pub walk_begins : (all : List Placed) (p : Progress) → p.names ≡ [] → p.features ≡ [] → p.frames ≡ [] → p.touched ≡ false → p.labels ≡ []
+    → p.builder.opens.items ≡ [] → p.builder.block ≡ done → IsWalked all p all
 walk_begins all p names features frames touched labels opens block =
     let unmeasured : measured_of p ≡ measured [] [] false =
     ap (λ fs. measured fs p.frames p.touched) features ∙ ap (λ ds. measured [] ds p.touched) frames ∙ ap (measured [] []) touched in
@@ -57,70 +58,64 @@ walk_begins all p names features frames touched labels opens block =
       clean = clean_none BreaksNames all;
       behind = nothing;
       writes = sym (ap (λ l. l ++ pieces_from (behind_of p) all) unwritten ∙ ap (λ b. pieces_from b all) nothing);
-      noticed = refl;
     }
 
 abbrev means : Meaning → Result Meaning FaultCode
 means m = Ok m
 
 -- what has a meaning breaks no rule
-unbroken : (b c : Behind) (s : Statement) (m : Meaning) (code : FaultCode) → b ≡ c → resolved b s.form ≡ Ok m → resolved c s.form ≡ Err code → ⊥
-unbroken b c s m code same is broken = (let both : means m ≡ Err code = sym is ∙ ap (λ t. resolved t s.form) same ∙ broken in absurd cc)
+unbroken : (b c : Behind) (s : Placed) (m : Meaning) (code : FaultCode) → b ≡ c → resolved_here b s ≡ Ok m → resolved_here c s ≡ Err code → ⊥
+unbroken b c s m code same is broken = (let both : means m ≡ Err code = sym is ∙ ap (λ t. resolved_here t s) same ∙ broken in absurd cc)
 
-one_more : (s : Statement) (old new : Progress) (rest : List Statement) → Takes s old new
+one_more : (s : Placed) (old new : Progress) (rest : List Placed) → Takes s old new
     → written old.builder ++ pieces_from (behind_of old) (s ∷ rest) ≡ written new.builder ++ pieces_from (behind_of new) rest
 one_more s old new rest t =
-    ap (λ r. written old.builder ++ (pieces_by s.line r ++ pieces_from (behind_by (behind_of old) s.form r) rest)) t.is
-    ∙ ap (λ b. written old.builder ++ (pieces_by s.line (Ok t.meaning) ++ pieces_from b rest)) (sym t.after)
-    ∙ sym (append_assoc (written old.builder) (pieces_by s.line (Ok t.meaning)) (pieces_from (behind_of new) rest))
+    ap (λ r. written old.builder ++ (pieces_by s.statement.line r ++ pieces_from (behind_by (behind_of old) s.statement.form r) rest)) t.is
+    ∙ ap (λ b. written old.builder ++ (pieces_by s.statement.line (Ok t.meaning) ++ pieces_from b rest)) (sym t.after)
+    ∙ sym (append_assoc (written old.builder) (pieces_by s.statement.line (Ok t.meaning)) (pieces_from (behind_of new) rest))
     ∙ ap (λ l. l ++ pieces_from (behind_of new) rest) (sym t.pieces)
 
-pub walk_goes : (all : List Statement) (old new : Progress) (notices : List Noticed) (s : Statement) (rest : List Statement)
-    → IsWalked all old notices (s ∷ rest) → Takes s old new → IsWalked all new (notices ++ notice_of s) rest
-walk_goes all old new notices s rest w t =
+pub walk_goes : (all : List Placed) (old new : Progress) (s : Placed) (rest : List Placed)
+    → IsWalked all old (s ∷ rest) → Takes s old new → IsWalked all new rest
+walk_goes all old new s rest w t =
     let p = place_at all w.place s rest w.left in
     record {
       place = w.place + 1;
       left = p.3;
       clean = clean_more BreaksNames all w.place w.clean (λ code b. unbroken (behind_of old) (behind_all start (take w.place all)) s t.meaning code w.behind t.is (rw p.1 at b));
       behind =
-          t.after ∙ ap (behind_by (behind_of old) s.form) (sym t.is) ∙ ap (λ b. behind_one b s) w.behind ∙ sym (behind_push start (take w.place all) s)
+          t.after ∙ ap (behind_by (behind_of old) s.statement.form) (sym t.is) ∙ ap (λ b. behind_one b s) w.behind ∙ sym (behind_push start (take w.place all) s)
           ∙ ap (behind_all start) (sym p.2);
       writes = w.writes ∙ one_more s old new rest t;
-      noticed = w.noticed ∙ sym (append_assoc notices (notice_of s) (notices_of rest));
     }
 
-walk_fails : (all : List Statement) (p : Progress) (notices : List Noticed) (s : Statement) (rest : List Statement) (code : FaultCode)
-    → IsWalked all p notices (s ∷ rest) → resolved (behind_of p) s.form ≡ Err code → FirstFault BreaksNames names_line all code s.line
-walk_fails all p notices s rest code w e =
-    fault_at BreaksNames names_line all w.place s rest code s.line w.left w.clean (ap (λ t. resolved t s.form) (sym w.behind) ∙ e) refl
+walk_fails : (all : List Placed) (p : Progress) (s : Placed) (rest : List Placed) (code : FaultCode)
+    → IsWalked all p (s ∷ rest) → resolved_here (behind_of p) s ≡ Err code → FirstFault BreaksNames names_line all code s.statement.line
+walk_fails all p s rest code w e =
+    fault_at BreaksNames names_line all w.place s rest code s.statement.line w.left w.clean (ap (λ t. resolved_here t s) (sym w.behind) ∙ e) refl
 
-pub walk_told : (all : List Statement) (p : Progress) (notices : List Noticed) (s : Statement) (rest : List Statement) (f : SourceFault)
-    → IsWalked all p notices (s ∷ rest) → NoMemoryOr (ToldAt s.line (resolved (behind_of p) s.form)) f → NoMemoryOr (λ f. FirstFault BreaksNames names_line all f.code f.line) f
-walk_told all p notices s rest f w (inl e) = inl e
-walk_told all p notices s rest f w (inr q) = inr (subst (λ line. FirstFault BreaksNames names_line all f.code line) (sym q.0) (walk_fails all p notices s rest f.code w q.1))
+pub walk_told : (all : List Placed) (p : Progress) (s : Placed) (rest : List Placed) (f : SourceFault)
+    → IsWalked all p (s ∷ rest) → NoMemoryOr (ToldAt s.statement.line (resolved_here (behind_of p) s)) f → NoMemoryOr (λ f. FirstFault BreaksNames names_line all f.code f.line) f
+walk_told all p s rest f w (inl e) = inl e
+walk_told all p s rest f w (inr q) = inr (subst (λ line. FirstFault BreaksNames names_line all f.code line) (sym q.0) (walk_fails all p s rest f.code w q.1))
 
-pub walk_clean : (all : List Statement) (p : Progress) (notices : List Noticed) → IsWalked all p notices [] → IsClean BreaksNames all
-walk_clean all p notices w = clean_done BreaksNames all w.place (drop_nil w.place all w.left) w.clean (λ code b. b)
+pub walk_clean : (all : List Placed) (p : Progress) → IsWalked all p [] → IsClean BreaksNames all
+walk_clean all p w = clean_done BreaksNames all w.place (drop_nil w.place all w.left) w.clean (λ code b. b)
 
 -- ---- each statement has a meaning behind the ones above it
 
-abbrev pub AllMean : Behind → List Statement → Type 0
+abbrev pub AllMean : Behind → List Placed → Type 0
 AllMean b [] = Unit {0}
-AllMean b (s ∷ ss) = ((m : Meaning) × (resolved b s.form ≡ Ok m)) × AllMean (behind_one b s) ss
+AllMean b (s ∷ ss) = ((m : Meaning) × (resolved_here b s ≡ Ok m)) × AllMean (behind_one b s) ss
 
-place : (before : List Statement) (s : Statement) (ss : List Statement) → (take (length before) (before ++ s ∷ ss) ≡ before) × (slice_get (before ++ s ∷ ss) (length before) ≡ Some s) × (length before < length (before ++ s ∷ ss))
-place [] s ss = (refl, refl, omega arith)
-place (b ∷ before) s ss = (let r = place before s ss in (ap (λ l. b ∷ l) r.0, r.1, (let l = r.2 in omega arith)))
-
-meaning : (b : Behind) (s : Statement) → ((code : FaultCode) → resolved b s.form ≡ Err code → ⊥) → (m : Meaning) × (resolved b s.form ≡ Ok m)
-meaning b s none = by (resolved b s.form) refl
+meaning : (b : Behind) (s : Placed) → ((code : FaultCode) → resolved_here b s ≡ Err code → ⊥) → (m : Meaning) × (resolved_here b s ≡ Ok m)
+meaning b s none = by (resolved_here b s) refl
   where
-    by : (r : Result Meaning FaultCode) → resolved b s.form ≡ r → (m : Meaning) × (resolved b s.form ≡ Ok m)
+    by : (r : Result Meaning FaultCode) → resolved_here b s ≡ r → (m : Meaning) × (resolved_here b s ≡ Ok m)
     by (Ok m) e = (m, e)
     by (Err code) e = absurd (none code e)
 
-pub all_mean : (before ss : List Statement) → IsClean BreaksNames (before ++ ss) → AllMean (behind_all start before) ss
+pub all_mean : (before ss : List Placed) → IsClean BreaksNames (before ++ ss) → AllMean (behind_all start before) ss
 all_mean before [] clean = tt
 all_mean before (s ∷ ss) clean =
     let p = place before s ss in
@@ -137,53 +132,56 @@ shut b form m e = by b.blocks refl
     by [] f = ap (λ l. (behind_by b form (counts (ended l))).blocks) f ∙ f
     by (o ∷ bs) f = (let both : means m ≡ Err Unbalanced = sym e ∙ ap (λ l. counts (ended l)) f in absurd cc)
 
-ending_shuts : (b : Behind) (line : ℕ) (form : Form) (m : Meaning) → is_ending (record { line = line; form = form }) ≡ true → stated b form ≡ Ok m
-    → (behind_by b form (stated b form)).blocks ≡ []
-ending_shuts b line Opening m e h = absurd cc
-ending_shuts b line Measures m e h = absurd cc
-ending_shuts b line (Ignored w) m e h = absurd cc
-ending_shuts b line (Declaration k ns) m e h = absurd cc
-ending_shuts b line (Assignment n x) m e h = absurd cc
-ending_shuts b line (Move p) m e h = absurd cc
-ending_shuts b line Home m e h = absurd cc
-ending_shuts b line (Say t) m e h = absurd cc
-ending_shuts b line (Test x) m e h = absurd cc
-ending_shuts b line Otherwise m e h = absurd cc
-ending_shuts b line TestEnd m e h = absurd cc
-ending_shuts b line (Repeat r) m e h = absurd cc
-ending_shuts b line RepeatEnd m e h = absurd cc
-ending_shuts b line (Mark l) m e h = absurd cc
-ending_shuts b line (Leap l) m e h = absurd cc
-ending_shuts b line (Feature l p d) m e h = absurd cc
-ending_shuts b line (Measure l) m e h = absurd cc
-ending_shuts b line (Touch p given) m e h = absurd cc
-ending_shuts b line MeasureEnd m e h = absurd cc
-ending_shuts b line (Configure which x) m e h = absurd cc
-ending_shuts b line (Shift l os) m e h = absurd cc
-ending_shuts b line (Rotation l axis n) m e h = absurd cc
-ending_shuts b line (Restore l) m e h = absurd cc
-ending_shuts b line (Query v side l word) m e h = absurd cc
-ending_shuts b line (Report side l) m e h = absurd cc
-ending_shuts b line Ending m e h = shut b Ending m h
+ending_shuts : (b : Behind) (ex : ℕ) (form : Form) (m : Meaning) → is_ending form ≡ true → stated b ex form ≡ Ok m
+    → (behind_by b form (stated b ex form)).blocks ≡ []
+ending_shuts b ex Opening m e h = absurd cc
+ending_shuts b ex Measures m e h = absurd cc
+ending_shuts b ex (Ignored w) m e h = absurd cc
+ending_shuts b ex (Declaration k ns) m e h = absurd cc
+ending_shuts b ex (Assignment n x) m e h = absurd cc
+ending_shuts b ex (Move p) m e h = absurd cc
+ending_shuts b ex Home m e h = absurd cc
+ending_shuts b ex (Say t) m e h = absurd cc
+ending_shuts b ex (Test x) m e h = absurd cc
+ending_shuts b ex Otherwise m e h = absurd cc
+ending_shuts b ex TestEnd m e h = absurd cc
+ending_shuts b ex (Repeat r) m e h = absurd cc
+ending_shuts b ex RepeatEnd m e h = absurd cc
+ending_shuts b ex (Mark l) m e h = absurd cc
+ending_shuts b ex (Leap l) m e h = absurd cc
+ending_shuts b ex (Feature l p d) m e h = absurd cc
+ending_shuts b ex (Measure l) m e h = absurd cc
+ending_shuts b ex (Touch p given) m e h = absurd cc
+ending_shuts b ex MeasureEnd m e h = absurd cc
+ending_shuts b ex (Configure which x) m e h = absurd cc
+ending_shuts b ex (Shift l os) m e h = absurd cc
+ending_shuts b ex (Rotation l axis n) m e h = absurd cc
+ending_shuts b ex (Restore l) m e h = absurd cc
+ending_shuts b ex (Query v side l word) m e h = absurd cc
+ending_shuts b ex (Report side l) m e h = absurd cc
+ending_shuts b ex (Macro l ps) m e h = absurd cc
+ending_shuts b ex MacroEnd m e h = absurd cc
+ending_shuts b ex (Call l args) m e h = absurd cc
+ending_shuts b ex Ending m e h = shut b Ending m h
 
-pub last_shuts : (b : Behind) (ss : List Statement) → is_ended ss ≡ true → AllMean b ss → (behind_all b ss).blocks ≡ []
+pub last_shuts : (b : Behind) (ss : List Placed) → is_ended ss ≡ true → AllMean b ss → (behind_all b ss).blocks ≡ []
 last_shuts b [] e h = absurd cc
 last_shuts b (s ∷ []) e h =
-    ap (λ r. (behind_by b s.form r).blocks) (standing b s.form h.0.0 h.0.1) ∙ ending_shuts b s.line s.form h.0.0 e (standing_ok b s.form h.0.0 h.0.1)
+    ap (λ r. (behind_by b s.statement.form r).blocks) (standing b s.expansion s.statement.form h.0.0 h.0.1) ∙ ending_shuts b s.expansion s.statement.form h.0.0 e (standing_ok b s.expansion s.statement.form h.0.0 h.0.1)
 last_shuts b (s ∷ t ∷ ss) e h = last_shuts (behind_one b s) (t ∷ ss) e h.1
 
 no_opens : (os : List Open) → blocks_of os ≡ [] → os ≡ []
 no_opens [] e = refl
 no_opens (o ∷ os) e = (let l = blocks_length (o ∷ os) in let z : length (blocks_of (o ∷ os)) ≡ 0 = ap length e in absurd (omega (arith, l, z)))
 
-pub walk_ends : (all : List Statement) (p : Progress) (notices : List Noticed) → IsTrue (is_ended all) → IsWalked all p notices []
-    → IsParsed all (record { program = p.builder.block; names = listed p.names p.features p.frames; notices = notices })
-walk_ends all p notices last w =
+pub walk_ends : (ss : List Statement) (all : List Placed) (p : Progress) → IsTrue (is_ended all) → IsWalked all p []
+    → IsParsed ss all (record { program = p.builder.block; names = listed p.names p.features p.frames; notices = notices_of ss })
+walk_ends ss all p last w =
     let whole : behind_of p ≡ behind_all start all = w.behind ∙ ap (behind_all start) (take_all w.place all (drop_nil w.place all w.left)) in
-    let shut_all : blocks_of p.builder.opens.items ≡ [] = ap (λ (b : Behind). b.blocks) whole ∙ last_shuts start all last (all_mean [] all (walk_clean all p notices w)) in
+    let shut_all : blocks_of p.builder.opens.items ≡ [] = ap (λ (b : Behind). b.blocks) whole ∙ last_shuts start all last (all_mean [] all (walk_clean all p w)) in
     let none : p.builder.opens.items ≡ [] = no_opens p.builder.opens.items shut_all in
     record {
       program = sym (w.writes ∙ append-nil (written p.builder) ∙ ap (λ os. opens_pieces os ++ pieces p.builder.block) none);
       names = ap names_of whole;
-      notices = sym (w.noticed ∙ append-nil notices);
+      notices = refl;
     }

@@ -6,7 +6,8 @@ use Rattle.vcm_lines.specs.Statements.{lines_of, rows_of, joined, AreLogical, Br
 use Rattle.vcm_spec.specs.Phase.{IsClean, FirstFault}
 use Rattle.vcm_syntax.specs.declared.statement.Statement.{Statement}
 use Rattle.vcm_tree.specs.Statements.{AreSpelled, BreaksStatements, statement_line}
-use Rattle.vcm_tree.specs.Order.{BreaksOrder, order_line}
+use Rattle.vcm_macro.specs.declared.placed.Placed.{Placed}
+use Rattle.vcm_macro.specs.Expansion.{IsExpanded, IsRefused as IsUnexpanded}
 use Rattle.vcm_tree.specs.Resolving.{BreaksNames, names_line}
 use Rattle.vcm_tree.specs.Jumps.{labels_of, jumps_of, BreaksJumps, jumps_line}
 use Rattle.vcm_tree.specs.Program.{Parsed, IsParsed}
@@ -21,31 +22,32 @@ pub record ReadsStatements (ls : List Logical) (ss : List Statement) : Type 0 wh
   pub clean : IsClean BreaksStatements ls
   pub statements : AreSpelled ls ss
 
--- these are the statements of the text, and no rule of lines, statements and order is broken
-pub record ReadsText (text : List ℕ) (ls : List Logical) (ss : List Statement) : Type 0 where
+-- these are the statements of the text and the program that they expand to, and no rule of lines, statements, order and macros is broken
+pub record ReadsText (text : List ℕ) (ls : List Logical) (ss : List Statement) (all : List Placed) : Type 0 where
   pub read : ReadsLines text ls
   pub spelled : ReadsStatements ls ss
-  pub order : IsClean BreaksOrder ss
+  pub expanded : IsExpanded ss all
 
--- the statements are this program with these variables and notices, and no rule of names and blocks is broken
-pub record ReadsProgram (ss : List Statement) (p : Parsed) : Type 0 where
-  pub clean : IsClean BreaksNames ss
-  pub is : IsParsed ss p
+-- the expanded statements are this program with these variables, the written ones have these notices, and no rule of names and blocks is broken
+pub record ReadsProgram (ss : List Statement) (all : List Placed) (p : Parsed) : Type 0 where
+  pub clean : IsClean BreaksNames all
+  pub is : IsParsed ss all p
 
 -- no rule is broken, and the text is this program with these tables and notices
 pub record IsAccepted (text : List ℕ) (p : Parsed) : Type 0 where
   pub lines : List Logical
   pub statements : List Statement
-  pub read : ReadsText text lines statements
-  pub program : ReadsProgram statements p
+  pub expanded : List Placed
+  pub read : ReadsText text lines statements expanded
+  pub program : ReadsProgram statements expanded p
   pub jumps : IsClean (BreaksJumps (labels_of p.program)) (jumps_of p.program)
 
--- the first phase that has a fault has its first fault here
+-- the first phase that has a fault has its first fault here: lines, statements, order, macros, names and blocks of the expanded program, jumps
 pub data IsRefused (text : List ℕ) (f : SourceFault) : Type 0 where
   in_lines : FirstFault Breaks told_line (lines_of text) f.code f.line → IsRefused text f
   in_statements : (ls : List Logical) → ReadsLines text ls → FirstFault BreaksStatements statement_line ls f.code f.line → IsRefused text f
-  in_order : (ls : List Logical) (ss : List Statement) → ReadsLines text ls → ReadsStatements ls ss → FirstFault BreaksOrder order_line ss f.code f.line
+  in_expansion : (ls : List Logical) (ss : List Statement) → ReadsLines text ls → ReadsStatements ls ss → IsUnexpanded ss f → IsRefused text f
+  in_names : (ls : List Logical) (ss : List Statement) (all : List Placed) → ReadsText text ls ss all → FirstFault BreaksNames names_line all f.code f.line
       → IsRefused text f
-  in_names : (ls : List Logical) (ss : List Statement) → ReadsText text ls ss → FirstFault BreaksNames names_line ss f.code f.line → IsRefused text f
-  in_jumps : (ls : List Logical) (ss : List Statement) (p : Parsed) → ReadsText text ls ss → ReadsProgram ss p
+  in_jumps : (ls : List Logical) (ss : List Statement) (all : List Placed) (p : Parsed) → ReadsText text ls ss all → ReadsProgram ss all p
       → FirstFault (BreaksJumps (labels_of p.program)) jumps_line (jumps_of p.program) f.code f.line → IsRefused text f

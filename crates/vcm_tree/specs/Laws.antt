@@ -1,6 +1,6 @@
 -- Statements about acceptance. Each is the contract of a law in src/laws.rt.
 use Rattle.std.specs.Prelude.{◌≡◌, ℕ, IsTrue, List, length}
-use Rattle.vcm_tree.specs.Order.{is_ended}
+use Rattle.vcm_tree.specs.Ended.{is_ended}
 use Rattle.std.specs.List.{filter}
 use Rattle.vcm_lines.specs.declared.fault.SourceFault.{SourceFault}
 use Rattle.vcm_spec.specs.Phase.{IsClean}
@@ -8,6 +8,7 @@ use Rattle.vcm_spec.specs.Program.{sizes}
 use Rattle.vcm_spec.specs.Whole.{AlwaysSteps}
 use Rattle.vcm_syntax.specs.declared.statement.Statement.{Statement}
 use Rattle.vcm_syntax.specs.Statements.{is_counted}
+use Rattle.vcm_macro.specs.declared.placed.Placed.{Placed}
 use Rattle.vcm_tree.specs.Resolving.{BreaksNames}
 use Rattle.vcm_tree.specs.Program.{Parsed, IsParsed, IsWhole, tables}
 use Rattle.vcm_tree.specs.Acceptance.{IsAccepted, IsRefused}
@@ -28,13 +29,14 @@ IsRefusedAtOneLine = (text : List ℕ) (f g : SourceFault) → IsRefused text f 
 abbrev pub AcceptedIsWhole : Type 0
 AcceptedIsWhole = (text : List ℕ) (p : Parsed) → IsAccepted text p → IsWhole p.program (tables p)
 
--- statements that break no rule of names have as many counted ones as their program has statements
+-- expanded statements that break no rule of names have as many counted ones as their program has statements
 abbrev pub CountsStatements : Type 0
-CountsStatements = (ss : List Statement) (p : Parsed) → IsClean BreaksNames ss → IsParsed ss p → sizes p.program ≡ length (filter (λ s. is_counted s.form) ss)
+CountsStatements = (ss : List Statement) (all : List Placed) (p : Parsed) → IsClean BreaksNames all → IsParsed ss all p
+    → sizes p.program ≡ length (filter (λ s. is_counted s.statement.form) all)
 
--- statements of which ENDFIL is the last one, and that break no rule of names and blocks, are a program
+-- expanded statements of which ENDFIL is the last one, and that break no rule of names and blocks, are a program
 abbrev pub CleanIsProgram : Type 0
-CleanIsProgram = (ss : List Statement) → IsTrue (is_ended ss) → IsClean BreaksNames ss → (p : Parsed) × IsParsed ss p
+CleanIsProgram = (ss : List Statement) (all : List Placed) → IsTrue (is_ended all) → IsClean BreaksNames all → (p : Parsed) × IsParsed ss all p
 
 -- an accepted program always has a next step until it stops: its last statement is ENDFIL, and each jump has its label around it
 abbrev pub AcceptedAlwaysSteps : Type 0

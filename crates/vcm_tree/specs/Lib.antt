@@ -1,7 +1,7 @@
 pub mod Codes
 pub mod SameLabels
 pub mod Statements
-pub mod Order
+pub mod Ended
 pub mod Pieces
 pub mod Resolving
 pub mod Jumps

@@ -11,6 +11,7 @@ use Rattle.vcm_expr.specs.NameBytes.{is_name}
 use Rattle.vcm_expr.specs.Parts.{IsVariableName}
 use Rattle.vcm_syntax.specs.declared.statement.Form.TheVariants.{Ignored}
 use Rattle.vcm_syntax.specs.declared.statement.Statement.{Statement}
+use Rattle.vcm_macro.specs.declared.placed.Placed.{Placed}
 use Rattle.vcm_tree.specs.declared.program.Noticed.{Noticed}
 use Rattle.vcm_tree.specs.Pieces.{pieces}
 use Rattle.vcm_tree.specs.Resolving.{Behind, start, behind_all, pieces_from}
@@ -53,10 +54,10 @@ pub record Parsed : Type 0 where
 abbrev pub tables : Parsed → Tables
 tables p = tables_of p.names
 
--- the statements are this: a program which is written by the counted ones, their names, their notices
-pub record IsParsed (ss : List Statement) (p : Parsed) : Type 0 where
-  pub program : pieces p.program ≡ pieces_from start ss
-  pub names : p.names ≡ names_of (behind_all start ss)
+-- what expanded statements are, with the notices of those that are written: a program which is written by the counted ones, their names
+pub record IsParsed (ss : List Statement) (all : List Placed) (p : Parsed) : Type 0 where
+  pub program : pieces p.program ≡ pieces_from start all
+  pub names : p.names ≡ names_of (behind_all start all)
   pub notices : p.notices ≡ notices_of ss
 
 -- where so many blocks are around a node, or a block, those in it nest at most 32 deep

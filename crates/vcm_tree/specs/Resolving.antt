@@ -1,5 +1,6 @@
--- What statements mean once their names are looked up. The variables stand in a table in the order of their declarations, the features in that
--- of their first FEAT, the frames in that of their first TRANS or ROTATE; all of them are outside macros.
+-- What the statements of an expanded program mean once their names are looked up. The variables stand in a table in the order of their
+-- declarations, each with the macro expansion that it belongs to, the features in that of their first FEAT, the frames in that of their first
+-- TRANS or ROTATE.
 use Rattle.std.specs.Prelude.{◌≡◌, ℕ, pos, nat_lt, ◌&&◌, is_some, Bool, true, false, if◌then◌else◌, List, [], ◌∷◌, ◌++◌, length, slice_get, Option, Some, None, Result, Ok, Err}
 use Rattle.std.specs.List.{list_any, position}
 use Rattle.vcm_num.specs.declared.axis.Axis.{Axis}
@@ -29,27 +30,28 @@ use Rattle.vcm_syntax.specs.declared.statement.Rounds.{Rounds}
 use Rattle.vcm_syntax.specs.declared.statement.Spot.{Spot}
 use Rattle.vcm_syntax.specs.declared.statement.Form.{Form}
 use Rattle.vcm_syntax.specs.declared.statement.Form.TheVariants.{Declaration, Assignment, Move, Home, Say, Test, Otherwise, TestEnd, Repeat, RepeatEnd, Mark, Leap, Feature, Measure, Touch, MeasureEnd, Configure, Shift, Rotation, Restore, Query, Report, Ending}
-use Rattle.vcm_syntax.specs.declared.statement.Statement.{Statement}
+use Rattle.vcm_syntax.specs.declared.statement.Target.{Target}
+use Rattle.vcm_macro.specs.declared.placed.Placed.{Placed}
 pub use Rattle.vcm_syntax.specs.Figures.{then_ok, or_fault}
 use Rattle.vcm_tree.specs.Pieces.{Step, Piece, piece, Does, Marks, Leaps, Tests, Divides, EndsTest, Repeats, EndsRepeat, Measures, EndsMeasure, Ends}
 
 -- ---- variables
 
--- whether a variable of the table has this name
-abbrev pub is_declared : List Variable → List ℕ → Bool
-is_declared vs name = list_any (is_named 0 name) vs
+-- whether a variable of this very expansion has this name
+abbrev pub is_declared : List Variable → ℕ → List ℕ → Bool
+is_declared vs e name = list_any (is_named e name) vs
 
--- the table with one more variable, whose name has to be new; it holds 4,096 at most
-abbrev pub with_one : List Variable → Kind → List ℕ → Result (List Variable) FaultCode
-with_one vs kind name =
-    if is_declared vs name then Err DuplicateName
-    else if nat_lt (length vs) 4096 then Ok (vs ++ ((0, name), kind) ∷ [])
+-- the table with one more variable of an expansion, whose name has to be new there; it holds 4,096 at most
+abbrev pub with_one : List Variable → ℕ → Kind → List ℕ → Result (List Variable) FaultCode
+with_one vs e kind name =
+    if is_declared vs e name then Err DuplicateName
+    else if nat_lt (length vs) 4096 then Ok (vs ++ ((e, name), kind) ∷ [])
     else Err TooManyNames
 
 -- the table with all variables of a declaration
-abbrev pub with_all : List Variable → Kind → List (List ℕ) → Result (List Variable) FaultCode
-with_all vs kind [] = Ok vs
-with_all vs kind (name ∷ names) = then_ok (with_one vs kind name) (λ ws. with_all ws kind names)
+abbrev pub with_all : List Variable → ℕ → Kind → List (List ℕ) → Result (List Variable) FaultCode
+with_all vs e kind [] = Ok vs
+with_all vs e kind (name ∷ names) = then_ok (with_one vs e kind name) (λ ws. with_all ws e kind names)
 
 -- ---- simple statements
 
@@ -69,9 +71,13 @@ abbrev pub assigned_by : List Variable → Source → Option ℕ → Result (Sim
 assigned_by vs value None = Err UnknownName
 assigned_by vs value (Some i) = assigned_to vs value i (slice_get (kinds_of vs) i)
 
--- an assignment to the variable of this name
-abbrev pub assigned : List Variable → List ℕ → Source → Result (Simple Tree) FaultCode
-assigned vs name value = assigned_by vs value (variable_of vs 0 name)
+-- the variable that a target is: that of its expansion, or else the one outside macros
+abbrev pub target_of : List Variable → Target → Option ℕ
+target_of vs t = variable_of vs t.expansion t.name
+
+-- an assignment to a variable
+abbrev pub assigned : List Variable → Target → Source → Result (Simple Tree) FaultCode
+assigned vs t value = assigned_by vs value (target_of vs t)
 
 -- a move: its three lengths from the left
 abbrev pub moved : List Variable → (x y z : Source) → Result (Simple Tree) FaultCode
@@ -158,9 +164,9 @@ abbrev pub index_by : List Variable → Option ℕ → Result ℕ FaultCode
 index_by vs None = Err UnknownName
 index_by vs (Some i) = index_to i (slice_get (kinds_of vs) i)
 
--- the index of a DO is the variable of this name, which is one of whole numbers
-abbrev pub indexed : List Variable → List ℕ → Result ℕ FaultCode
-indexed vs name = index_by vs (variable_of vs 0 name)
+-- the index of a DO is a variable of whole numbers
+abbrev pub indexed : List Variable → Target → Result ℕ FaultCode
+indexed vs t = index_by vs (target_of vs t)
 
 -- an increment that is left out is 1
 abbrev pub increment_of : List Variable → Option Source → Result Tree FaultCode
@@ -173,9 +179,9 @@ repeated vs r =
     then_ok (indexed vs r.variable) (λ i. then_ok (typed_for vs wants.Int r.initial) (λ a. then_ok (typed_for vs wants.Int r.limit) (λ b.
     then_ok (increment_of vs r.increment) (λ c. Ok (Repeats i a b c)))))
 
--- a label outside macros
-abbrev pub label_of : List ℕ → Label
-label_of name = record { name = name; expansion = 0 }
+-- a label of an expansion
+abbrev pub label_of : ℕ → List ℕ → Label
+label_of e name = record { name = name; expansion = e }
 
 -- a jump label is new
 abbrev pub marked : List Label → Label → Result Step FaultCode
@@ -294,13 +300,13 @@ abbrev pub real_by : List Variable → Option ℕ → Result ℕ FaultCode
 real_by vs None = Err UnknownName
 real_by vs (Some i) = real_to i (slice_get (kinds_of vs) i)
 
-abbrev pub real_named : List Variable → List ℕ → Result ℕ FaultCode
-real_named vs name = real_by vs (variable_of vs 0 name)
+abbrev pub real_named : List Variable → Target → Result ℕ FaultCode
+real_named vs t = real_by vs (target_of vs t)
 
 -- OBTAIN
-abbrev pub obtained : List (List ℕ) → List Variable → List ℕ → Side → List ℕ → FeatureWord → Result (Simple Tree) FaultCode
-obtained fs vs name side l word =
-    then_ok (real_named vs name) (λ v. then_ok (known fs l) (λ i. Ok (Obtain v side i (word_number word))))
+abbrev pub obtained : List (List ℕ) → List Variable → Target → Side → List ℕ → FeatureWord → Result (Simple Tree) FaultCode
+obtained fs vs t side l word =
+    then_ok (real_named vs t) (λ v. then_ok (known fs l) (λ i. Ok (Obtain v side i (word_number word))))
 
 -- OUTPUT
 abbrev pub reported : List (List ℕ) → Side → List ℕ → Result (Simple Tree) FaultCode
@@ -324,7 +330,7 @@ does r = then_ok r (λ s. Ok (Does s))
 
 -- a simple statement behind others where it may stand there, or the code of the leftmost rule that it breaks; nothing for any other statement
 abbrev pub acted : Behind → Form → Option (Result (Simple Tree) FaultCode)
-acted b (Assignment name value) = Some (assigned b.variables name value)
+acted b (Assignment t value) = Some (assigned b.variables t value)
 acted b (Move p) = Some (moved b.variables p.x p.y p.z)
 acted b Home = Some (Ok GoHome)
 acted b (Say bytes) = Some (Ok (Text bytes))
@@ -334,33 +340,33 @@ acted b (Configure which e) = Some (configured b.variables which e)
 acted b (Shift l os) = Some (shifted b.measured.frames b.variables l os)
 acted b (Rotation l axis n) = Some (rotated b.measured.frames l axis n)
 acted b (Restore l) = Some (recalled b.measured.frames l)
-acted b (Query name side l word) = Some (obtained b.measured.features b.variables name side l word)
+acted b (Query t side l word) = Some (obtained b.measured.features b.variables t side l word)
 acted b (Report side l) = Some (reported b.measured.features side l)
 acted b _ = None
 
--- the meaning of a statement that isn't simple
-abbrev pub structured : Behind → Form → Result Meaning FaultCode
-structured b (Declaration kind names) = then_ok (with_all b.variables kind names) (λ ws. Ok (Declares ws))
-structured b (Test e) = counts (nested b.blocks (tested b.variables e))
-structured b Otherwise = counts (divided b.blocks)
-structured b TestEnd = counts (test_ended b.blocks)
-structured b (Repeat r) = counts (nested b.blocks (repeated b.variables r))
-structured b RepeatEnd = counts (repeat_ended b.blocks)
-structured b (Mark name) = counts (marked b.labels (label_of name))
-structured b (Leap name) = counts (Ok (Leaps (label_of name)))
-structured b (Measure l) = counts (nested b.blocks (opened_measure b.measured.features l))
-structured b MeasureEnd = counts (measure_ended b.blocks b.measured.touched)
-structured b Ending = counts (ended b.blocks)
-structured b _ = Ok Silent
+-- the meaning of a statement of an expansion that isn't simple
+abbrev pub structured : Behind → ℕ → Form → Result Meaning FaultCode
+structured b e (Declaration kind names) = then_ok (with_all b.variables e kind names) (λ ws. Ok (Declares ws))
+structured b e (Test condition) = counts (nested b.blocks (tested b.variables condition))
+structured b e Otherwise = counts (divided b.blocks)
+structured b e TestEnd = counts (test_ended b.blocks)
+structured b e (Repeat r) = counts (nested b.blocks (repeated b.variables r))
+structured b e RepeatEnd = counts (repeat_ended b.blocks)
+structured b e (Mark name) = counts (marked b.labels (label_of e name))
+structured b e (Leap name) = counts (Ok (Leaps (label_of e name)))
+structured b e (Measure l) = counts (nested b.blocks (opened_measure b.measured.features l))
+structured b e MeasureEnd = counts (measure_ended b.blocks b.measured.touched)
+structured b e Ending = counts (ended b.blocks)
+structured b e _ = Ok Silent
 
 -- the meaning of a simple statement, or of another one
-abbrev pub stated_by : Behind → Form → Option (Result (Simple Tree) FaultCode) → Result Meaning FaultCode
-stated_by b form (Some r) = counts (does r)
-stated_by b form None = structured b form
+abbrev pub stated_by : Behind → ℕ → Form → Option (Result (Simple Tree) FaultCode) → Result Meaning FaultCode
+stated_by b e form (Some r) = counts (does r)
+stated_by b e form None = structured b e form
 
--- the meaning of a statement behind others where it may stand there, or the code of the leftmost rule that it breaks
-abbrev pub stated : Behind → Form → Result Meaning FaultCode
-stated b form = stated_by b form (acted b form)
+-- the meaning of a statement of an expansion behind others where it may stand there, or the code of the leftmost rule that it breaks
+abbrev pub stated : Behind → ℕ → Form → Result Meaning FaultCode
+stated b e form = stated_by b e form (acted b form)
 
 -- whether the innermost block is that of a MEAS
 abbrev pub is_measuring : List Opened → Bool
@@ -368,7 +374,7 @@ is_measuring bs = is_some (measuring bs)
 
 -- whether a statement is one that doesn't stand in a MEAS block: all counted ones but GOTO, GOHOME and PTMEAS, and the words that close blocks
 abbrev pub is_barred : Form → Bool
-is_barred (Assignment name value) = true
+is_barred (Assignment t value) = true
 is_barred (Say bytes) = true
 is_barred (Test e) = true
 is_barred (Repeat r) = true
@@ -380,7 +386,7 @@ is_barred (Configure which e) = true
 is_barred (Shift l os) = true
 is_barred (Rotation l axis n) = true
 is_barred (Restore l) = true
-is_barred (Query name side l word) = true
+is_barred (Query t side l word) = true
 is_barred (Report side l) = true
 is_barred _ = false
 
@@ -390,8 +396,12 @@ unless_barred true r = Err MeasBody
 unless_barred false r = r
 
 -- the meaning of a statement behind others, or the code of a rule that it breaks
-abbrev pub resolved : Behind → Form → Result Meaning FaultCode
-resolved b form = unless_barred (is_measuring b.blocks && is_barred form) (stated b form)
+abbrev pub resolved : Behind → ℕ → Form → Result Meaning FaultCode
+resolved b e form = unless_barred (is_measuring b.blocks && is_barred form) (stated b e form)
+
+-- the same of a statement of an expanded program
+abbrev pub resolved_here : Behind → Placed → Result Meaning FaultCode
+resolved_here b p = resolved b p.expansion p.statement.form
 
 -- all but the innermost block
 abbrev pub outer : List Opened → List Opened
@@ -430,13 +440,13 @@ behind_by b form (Ok (Counts s)) = behind b.variables (blocks_after b.blocks s) 
 behind_by b form _ = behind b.variables b.blocks b.labels (measured_after b.measured form)
 
 -- what a statement leaves behind it
-abbrev pub behind_one : Behind → Statement → Behind
-behind_one b s = behind_by b s.form (resolved b s.form)
+abbrev pub behind_one : Behind → Placed → Behind
+behind_one b p = behind_by b p.statement.form (resolved_here b p)
 
 -- what statements leave behind them
-abbrev pub behind_all : Behind → List Statement → Behind
+abbrev pub behind_all : Behind → List Placed → Behind
 behind_all b [] = b
-behind_all b (s ∷ ss) = behind_all (behind_one b s) ss
+behind_all b (p ∷ ps) = behind_all (behind_one b p) ps
 
 -- nothing is declared, open or marked at the start
 abbrev pub start : Behind
@@ -448,19 +458,19 @@ pieces_by line (Ok (Counts s)) = piece line s ∷ []
 pieces_by line _ = []
 
 -- the counted statements, in writing
-abbrev pub pieces_from : Behind → List Statement → List Piece
+abbrev pub pieces_from : Behind → List Placed → List Piece
 pieces_from b [] = []
-pieces_from b (s ∷ ss) = pieces_by s.line (resolved b s.form) ++ pieces_from (behind_one b s) ss
+pieces_from b (p ∷ ps) = pieces_by p.statement.line (resolved_here b p) ++ pieces_from (behind_one b p) ps
 
 -- the phase of names and blocks: a statement that has no meaning behind those above it, and nothing at the end
-abbrev pub BreaksNames : List Statement → Option Statement → FaultCode → Type 0
+abbrev pub BreaksNames : List Placed → Option Placed → FaultCode → Type 0
 BreaksNames before None code = ⊥
-BreaksNames before (Some s) code = resolved (behind_all start before) s.form ≡ Err code
+BreaksNames before (Some p) code = resolved_here (behind_all start before) p ≡ Err code
 
 -- a fault is told at the line of its statement
-abbrev pub names_line : List Statement → Option Statement → ℕ
+abbrev pub names_line : List Placed → Option Placed → ℕ
 names_line before None = 0
-names_line before (Some s) = s.line
+names_line before (Some p) = p.statement.line
 
 -- the refusal tells this line, and the fault of the outcome
 abbrev pub ToldAt : {A : Type 0} → ℕ → Result A FaultCode → SourceFault → Type 0

@@ -2,7 +2,7 @@
 use Rattle.std.specs.Prelude.{◌≡◌, ℕ, List, ◌++◌, Option, Some, None, Ok, Err}
 use Rattle.vcm_expr.specs.Names.{Variable}
 use Rattle.vcm_syntax.specs.declared.statement.Rounds.{Rounds}
-use Rattle.vcm_syntax.specs.declared.statement.Statement.{Statement}
+use Rattle.vcm_macro.specs.declared.placed.Placed.{Placed}
 use Rattle.vcm_lines.specs.declared.fault.SourceFault.{SourceFault}
 use Rattle.vcm_spec.specs.Expression.{Tree}
 use Rattle.vcm_spec.specs.Simple.{Simple}
@@ -12,7 +12,7 @@ use Rattle.vcm_tree.specs.declared.taking.Progress.{Progress}
 use Rattle.vcm_tree.specs.declared.node.Action.{Action}
 use Rattle.vcm_tree.specs.Nodes.{action_of}
 use Rattle.vcm_tree.specs.Pieces.{Repeats}
-use Rattle.vcm_tree.specs.Resolving.{Measured, measured, measured_after, Behind, behind, Meaning, repeated, acted, stated, resolved, behind_by, pieces_by}
+use Rattle.vcm_tree.specs.Resolving.{Measured, measured, measured_after, Behind, behind, Meaning, repeated, acted, stated, resolved_here, behind_by, pieces_by}
 use Rattle.vcm_tree.specs.Building.{blocks_of, written}
 
 -- the rounds are these, and open a body by this
@@ -26,39 +26,39 @@ pub record IsBody (vs : List Variable) (r : Rounds) (line : ℕ) (h : Head) : Ty
 
 -- what the statements that are read say of features and frames
 abbrev pub measured_of : Progress → Measured
-measured_of p = measured p.features p.frames p.touched
+measured_of r = measured r.features r.frames r.touched
 
 -- what the statements that are read leave behind them
 abbrev pub behind_of : Progress → Behind
-behind_of p = behind p.names (blocks_of p.builder.opens.items) p.labels (measured_of p)
+behind_of r = behind r.names (blocks_of r.builder.opens.items) r.labels (measured_of r)
 
 -- the statement is this simple one behind the others, and leaves what it says of features and frames
-pub record ActsSo (s : Statement) (old new : Progress) (what : Simple Tree) : Type 0 where
-  pub is : acted (behind_of old) s.form ≡ Some (Ok what)
-  pub measures : measured_of new ≡ measured_after (measured_of old) s.form
+pub record ActsSo (p : Placed) (old new : Progress) (what : Simple Tree) : Type 0 where
+  pub is : acted (behind_of old) p.statement.form ≡ Some (Ok what)
+  pub measures : measured_of new ≡ measured_after (measured_of old) p.statement.form
   pub names : new.names ≡ old.names
   pub labels : new.labels ≡ old.labels
   pub builder : new.builder ≡ old.builder
 
 -- the statement is this simple one, or none
-abbrev pub Acts : Statement → Progress → Progress → Option Action → Type 0
-Acts s old new (Some action) = ActsSo s old new (action_of action)
-Acts s old new None = (acted (behind_of old) s.form ≡ None) × (new ≡ old)
+abbrev pub Acts : Placed → Progress → Progress → Option Action → Type 0
+Acts p old new (Some action) = ActsSo p old new (action_of action)
+Acts p old new None = (acted (behind_of old) p.statement.form ≡ None) × (new ≡ old)
 
 -- the refusal tells the line of a simple statement, and the rule that it breaks
-abbrev pub ActedAt : Statement → Behind → SourceFault → Type 0
-ActedAt s b f = (f.line ≡ s.line) × (acted b s.form ≡ Some (Err f.code))
+abbrev pub ActedAt : Placed → Behind → SourceFault → Type 0
+ActedAt p b f = (f.line ≡ p.statement.line) × (acted b p.statement.form ≡ Some (Err f.code))
 
 -- the statement has a meaning behind the others, and is read
-pub record Takes (s : Statement) (old new : Progress) : Type 0 where
+pub record Takes (p : Placed) (old new : Progress) : Type 0 where
   pub meaning : Meaning
-  pub is : resolved (behind_of old) s.form ≡ Ok meaning
-  pub after : behind_of new ≡ behind_by (behind_of old) s.form (Ok meaning)
-  pub pieces : written new.builder ≡ written old.builder ++ pieces_by s.line (Ok meaning)
+  pub is : resolved_here (behind_of old) p ≡ Ok meaning
+  pub after : behind_of new ≡ behind_by (behind_of old) p.statement.form (Ok meaning)
+  pub pieces : written new.builder ≡ written old.builder ++ pieces_by p.statement.line (Ok meaning)
 
 -- the same of a statement that may stand there
-pub record TakesStated (s : Statement) (old new : Progress) : Type 0 where
+pub record TakesStated (p : Placed) (old new : Progress) : Type 0 where
   pub meaning : Meaning
-  pub is : stated (behind_of old) s.form ≡ Ok meaning
-  pub after : behind_of new ≡ behind_by (behind_of old) s.form (Ok meaning)
-  pub pieces : written new.builder ≡ written old.builder ++ pieces_by s.line (Ok meaning)
+  pub is : stated (behind_of old) p.expansion p.statement.form ≡ Ok meaning
+  pub after : behind_of new ≡ behind_by (behind_of old) p.statement.form (Ok meaning)
+  pub pieces : written new.builder ≡ written old.builder ++ pieces_by p.statement.line (Ok meaning)

@@ -1,4 +1,4 @@
-//! Which texts are programs: all phases of acceptance, one behind the other, for programs without macros.
+//! Which texts are programs: all phases of acceptance, one behind the other.
 #![tactic(auto)]
 
 mod builder;
@@ -8,7 +8,6 @@ mod labels;
 pub mod laws;
 mod measuring;
 mod node;
-mod order;
 mod phases;
 mod program;
 mod resolving;

@@ -15,7 +15,7 @@ use vcm_expr::{Expr, Name, Names, Typed, Want, type_expr};
 use vcm_lines::{FaultCode, SourceFault};
 use vcm_num::{Axis, Kind};
 use vcm_spec::{FeatureWord, FrameAxis, Operand, Quarters, Setting, Source};
-use vcm_syntax::{Offset, Spot};
+use vcm_syntax::{Offset, Spot, Target};
 
 /// Three lengths, from the left.
 pub(crate) fn lengths(
@@ -200,10 +200,10 @@ pub(crate) fn recall(line: u32, frames: &Titles, name: &Name) -> Result<Action, 
 }
 
 /// The variable of an `OBTAIN`.
-fn real(line: u32, names: &Names, name: &Name) -> Result<u16, SourceFault>
-    ensures { MatchResult result (λ i. real_named names.now name.now ≡ Ok i) (ToldAt line (real_named names.now name.now)) }
+fn real(line: u32, names: &Names, target: &Target) -> Result<u16, SourceFault>
+    ensures { MatchResult result (λ i. real_named names.now target.now ≡ Ok i) (ToldAt line (real_named names.now target.now)) }
 {
-    match names.find(0, name) {
+    match names.find(target.expansion, &target.name) {
         None => Err(SourceFault {
             code: FaultCode::UnknownName,
             line,
@@ -221,15 +221,15 @@ pub(crate) fn obtain(
     line: u32,
     features: &Titles,
     names: &Names,
-    variable: &Name,
+    target: &Target,
     source: Source,
     name: &Name,
     word: FeatureWord,
 ) -> Result<Action, SourceFault>
-    ensures { MatchResult result (λ a. obtained features.now names.now variable.now source name.now word ≡ Ok (action_of a))
-        (ToldAt line (obtained features.now names.now variable.now source name.now word)) }
+    ensures { MatchResult result (λ a. obtained features.now names.now target.now source name.now word ≡ Ok (action_of a))
+        (ToldAt line (obtained features.now names.now target.now source name.now word)) }
 {
-    let variable = real(line, names, variable)?;
+    let variable = real(line, names, target)?;
     let feature = features.known(line, name)?;
     Ok(Action::Obtain(variable, source, feature, word))
 }

@@ -4,8 +4,8 @@ ghost use Rattle.std.specs.Prelude.{◌≡◌, ◌≤◌, ◌++◌, IfOk, IfErr,
 ghost use Rattle.vcm_lines.specs.Fault.{NoMemoryOr};
 ghost use Rattle.vcm_spec.specs.Phase.{IsClean, FirstFault};
 ghost use Rattle.vcm_tree.specs.Jumps.{labels_of};
-ghost use Rattle.vcm_tree.specs.Order.{is_ended};
-ghost use Rattle.vcm_tree.specs.Program.{notice_of, IsParsed};
+ghost use Rattle.vcm_tree.specs.Ended.{is_ended};
+ghost use Rattle.vcm_tree.specs.Program.{notice_of, notices_of, IsParsed};
 ghost use Rattle.vcm_tree.specs.Resolving.{BreaksNames, names_line};
 
 use crate::builder::Builder;
@@ -19,6 +19,7 @@ use std::alloc::{AllocError, Global};
 use std::marker::Model;
 use vcm_expr::Names;
 use vcm_lines::SourceFault;
+use vcm_macro::Placed;
 use vcm_num::NoMemory;
 use vcm_syntax::{Form, Notice, Statement};
 use vcm_tables::Tables;
@@ -66,11 +67,26 @@ fn note(notices: &mut Vec<Noticed>, statement: &Statement) -> Result<(), AllocEr
     Ok(())
 }
 
-/// The program of the statements, or the first fault among their names and blocks.
-pub(crate) fn drafted(alloc: Global, all: &[Statement]) -> Result<Draft, SourceFault>
+// The notices of the statements that are written.
+fn noted(alloc: Global, written: &[Statement]) -> Result<Vec<Noticed>, AllocError>
+    ensures { IfOk result (λ notices. notices.items ≡ notices_of written.now) }
+{
+    let mut notices = Vec::new(alloc);
+    for statement in written {
+        note(&mut notices, statement)?;
+    }
+    Ok(notices)
+}
+
+/// The program of the expanded statements, with the notices of those that are written, or the first fault among their names and blocks.
+pub(crate) fn drafted(
+    alloc: Global,
+    written: &[Statement],
+    all: &[Placed],
+) -> Result<Draft, SourceFault>
     requires ended { IsTrue (is_ended all.now) }
     ensures clean { IfOk result (λ _. IsClean BreaksNames all.now) }
-    ensures program { IfOk result (λ d. IsParsed all.now (record { program = d.tree; names = d.names; notices = d.notices.items })) }
+    ensures program { IfOk result (λ d. IsParsed written.now all.now (record { program = d.tree; names = d.names; notices = d.notices.items })) }
     ensures labels { IfOk result (λ d. d.labels ≡ labels_of d.tree) }
     ensures fault { IfErr result (NoMemoryOr (λ f. FirstFault BreaksNames names_line all.now f.code f.line)) }
 {
@@ -82,11 +98,10 @@ pub(crate) fn drafted(alloc: Global, all: &[Statement]) -> Result<Draft, SourceF
         labels: Labels::new(alloc),
         builder: Builder::new(alloc),
     };
-    let mut notices = Vec::new(alloc);
-    for statement in all {
-        note(&mut notices, statement)?;
-        take(alloc, &mut read, statement)?;
+    for placed in all {
+        take(alloc, &mut read, placed)?;
     }
+    let notices = noted(alloc, written)?;
     let names = Listing {
         variables: read.names,
         features: read.features,

@@ -17,24 +17,36 @@ use vcm_expr::{Expr, Name, Names, Typed, VariableName, Want, type_expr};
 use vcm_lines::{FaultCode, SourceFault};
 use vcm_num::Kind;
 use vcm_spec::Operand;
-use vcm_syntax::{Rounds, Spot};
+use vcm_syntax::{Rounds, Spot, Target};
 
 /// The most variables of a program.
 const MAX_VARIABLES: usize = 4096;
 
-// Whether a variable of the table has this name.
-fn is_declared(names: &Names, name: &Name) -> bool
-    ensures { result ≡ is_declared names.now name.now }
+// Whether a variable of this very expansion has this name.
+fn is_declared(names: &Names, expansion: u32, name: &Name) -> bool
+    ensures { result ≡ is_declared names.now expansion name.now }
 {
-    names.find(0, name).is_some()
+    let Some((index, _)) = names.find(expansion, name) else {
+        return false;
+    };
+    match names.get(usize::from(index)) {
+        Some((found, _, _)) => found == expansion,
+        None => false,
+    }
 }
 
 // A variable more in the table.
-fn declare(line: u32, names: &mut Names, kind: Kind, name: &VariableName) -> Result<(), SourceFault>
-    ensures ok { OnOk result (with_one names.old kind name.now ≡ Ok names.new) }
-    ensures fault { IfErr result (NoMemoryOr (ToldAt line (with_one names.old kind name.now))) }
+fn declare(
+    line: u32,
+    names: &mut Names,
+    expansion: u32,
+    kind: Kind,
+    name: &VariableName,
+) -> Result<(), SourceFault>
+    ensures ok { OnOk result (with_one names.old expansion kind name.now ≡ Ok names.new) }
+    ensures fault { IfErr result (NoMemoryOr (ToldAt line (with_one names.old expansion kind name.now))) }
 {
-    if is_declared(names, name.name()) {
+    if is_declared(names, expansion, name.name()) {
         let code = FaultCode::DuplicateName;
         return Err(SourceFault { code, line });
     }
@@ -42,7 +54,7 @@ fn declare(line: u32, names: &mut Names, kind: Kind, name: &VariableName) -> Res
         let code = FaultCode::TooManyNames;
         return Err(SourceFault { code, line });
     }
-    match names.declare(0, name.copy(), kind) {
+    match names.declare(expansion, name.copy(), kind) {
         Ok(_) => Ok(()),
         Err(_) => Err(SourceFault {
             code: FaultCode::NoMemory,
@@ -55,14 +67,15 @@ fn declare(line: u32, names: &mut Names, kind: Kind, name: &VariableName) -> Res
 pub(crate) fn declare_all(
     line: u32,
     names: &mut Names,
+    expansion: u32,
     kind: Kind,
     declared: &[VariableName],
 ) -> Result<(), SourceFault>
-    ensures ok { OnOk result (with_all names.old kind declared.now ≡ Ok names.new) }
-    ensures fault { IfErr result (NoMemoryOr (ToldAt line (with_all names.old kind declared.now))) }
+    ensures ok { OnOk result (with_all names.old expansion kind declared.now ≡ Ok names.new) }
+    ensures fault { IfErr result (NoMemoryOr (ToldAt line (with_all names.old expansion kind declared.now))) }
 {
     for name in declared {
-        declare(line, names, kind, name)?;
+        declare(line, names, expansion, kind, name)?;
     }
     Ok(())
 }
@@ -78,18 +91,18 @@ fn want_of(kind: Kind) -> Want
     }
 }
 
-/// An assignment to the variable of this name.
+/// An assignment to a variable.
 pub(crate) fn assign(
     alloc: Global,
     line: u32,
     names: &Names,
-    name: &Name,
+    target: &Target,
     value: &Expr,
 ) -> Result<Action, SourceFault>
-    ensures ok { IfOk result (λ a. assigned names.now name.now value.now ≡ Ok (action_of a)) }
-    ensures fault { IfErr result (NoMemoryOr (ToldAt line (assigned names.now name.now value.now))) }
+    ensures ok { IfOk result (λ a. assigned names.now target.now value.now ≡ Ok (action_of a)) }
+    ensures fault { IfErr result (NoMemoryOr (ToldAt line (assigned names.now target.now value.now))) }
 {
-    let Some((variable, kind)) = names.find(0, name) else {
+    let Some((variable, kind)) = names.find(target.expansion, &target.name) else {
         let code = FaultCode::UnknownName;
         return Err(SourceFault { code, line });
     };
@@ -112,10 +125,10 @@ pub(crate) fn go_to(
 }
 
 /// The variable of a loop.
-fn index(line: u32, names: &Names, name: &Name) -> Result<u16, SourceFault>
-    ensures { MatchResult result (λ i. indexed names.now name.now ≡ Ok i) (ToldAt line (indexed names.now name.now)) }
+fn index(line: u32, names: &Names, target: &Target) -> Result<u16, SourceFault>
+    ensures { MatchResult result (λ i. indexed names.now target.now ≡ Ok i) (ToldAt line (indexed names.now target.now)) }
 {
-    match names.find(0, name) {
+    match names.find(target.expansion, &target.name) {
         None => Err(SourceFault {
             code: FaultCode::UnknownName,
             line,
@@ -149,7 +162,7 @@ fn body(alloc: Global, line: u32, names: &Names, rounds: &Rounds) -> Result<Head
     ensures ok { IfOk result (λ h. IsBody names.now rounds.now line h) }
     ensures fault { IfErr result (NoMemoryOr (ToldAt line (repeated names.now rounds.now))) }
 {
-    let variable = index(line, names, rounds.variable.name())?;
+    let variable = index(line, names, &rounds.variable)?;
     let initial = type_expr(alloc, &rounds.initial, line, names, Want::Int)?;
     let limit = type_expr(alloc, &rounds.limit, line, names, Want::Int)?;
     let increment = increment(alloc, line, names, &rounds.increment)?;

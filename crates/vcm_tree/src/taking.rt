@@ -2,7 +2,7 @@
 
 ghost use Rattle.std.specs.Prelude.{◌≡◌, None, IfOk, IfErr, OnOk};
 ghost use Rattle.vcm_lines.specs.Fault.{NoMemoryOr};
-ghost use Rattle.vcm_tree.specs.Resolving.{ToldAt, is_barred, acted, stated, resolved};
+ghost use Rattle.vcm_tree.specs.Resolving.{ToldAt, is_barred, acted, stated, resolved_here};
 ghost use Rattle.vcm_tree.specs.Taking.{behind_of, Acts, ActedAt, Takes, TakesStated};
 
 use crate::builder::{Builder, bad_body};
@@ -16,7 +16,8 @@ use crate::titles::Titles;
 use std::alloc::Global;
 use vcm_expr::Names;
 use vcm_lines::SourceFault;
-use vcm_syntax::{Form, Message, Statement};
+use vcm_macro::Placed;
+use vcm_syntax::{Form, Message};
 
 /// What is read of a program: its variables, its features and frames, its jump labels, its blocks, and whether the `MEAS` block that is open
 /// has its `PTMEAS`.
@@ -44,31 +45,27 @@ fn is_barred(form: &Form) -> bool
 }
 
 /// Reads one statement more.
-pub(crate) fn take(
-    alloc: Global,
-    read: &mut Progress,
-    statement: &Statement,
-) -> Result<(), SourceFault>
-    ensures ok { OnOk result (Takes statement.now read.old read.new) }
-    ensures fault { IfErr result (NoMemoryOr (ToldAt statement.now.line (resolved (behind_of read.old) statement.now.form))) }
+pub(crate) fn take(alloc: Global, read: &mut Progress, placed: &Placed) -> Result<(), SourceFault>
+    ensures ok { OnOk result (Takes placed.now read.old read.new) }
+    ensures fault { IfErr result (NoMemoryOr (ToldAt placed.now.statement.line (resolved_here (behind_of read.old) placed.now))) }
 {
-    if read.builder.measuring().is_some() && is_barred(&statement.form) {
-        return Err(bad_body(statement.line));
+    if read.builder.measuring().is_some() && is_barred(&placed.statement.form) {
+        return Err(bad_body(placed.statement.line));
     }
-    take_stated(alloc, read, statement)
+    take_stated(alloc, read, placed)
 }
 
 // Reads one statement more where it may stand.
-fn take_stated(alloc: Global, read: &mut Progress, statement: &Statement) -> Result<(), SourceFault>
-    ensures ok { OnOk result (TakesStated statement.now read.old read.new) }
-    ensures fault { IfErr result (NoMemoryOr (ToldAt statement.now.line (stated (behind_of read.old) statement.now.form))) }
+fn take_stated(alloc: Global, read: &mut Progress, placed: &Placed) -> Result<(), SourceFault>
+    ensures ok { OnOk result (TakesStated placed.now read.old read.new) }
+    ensures fault { IfErr result (NoMemoryOr (ToldAt placed.now.statement.line (stated (behind_of read.old) placed.now.expansion placed.now.statement.form))) }
 {
-    match simple(alloc, read, statement)? {
+    match simple(alloc, read, placed)? {
         Some(action) => {
-            read.builder.act(statement.line, action)?;
+            read.builder.act(placed.statement.line, action)?;
             Ok(())
         }
-        None => take_structured(alloc, read, statement),
+        None => take_structured(alloc, read, placed),
     }
 }
 
@@ -76,15 +73,15 @@ fn take_stated(alloc: Global, read: &mut Progress, statement: &Statement) -> Res
 fn simple(
     alloc: Global,
     read: &mut Progress,
-    statement: &Statement,
+    placed: &Placed,
 ) -> Result<Option<Action>, SourceFault>
-    ensures ok { IfOk result (Acts statement.now read.old read.new) }
-    ensures fault { IfErr result (NoMemoryOr (ActedAt statement.now (behind_of read.old))) }
+    ensures ok { IfOk result (Acts placed.now read.old read.new) }
+    ensures fault { IfErr result (NoMemoryOr (ActedAt placed.now (behind_of read.old))) }
 {
-    let line = statement.line;
+    let line = placed.statement.line;
     let names = &read.names;
-    match &statement.form {
-        Form::Assignment(name, value) => Ok(Some(assign(alloc, line, names, name, value)?)),
+    match &placed.statement.form {
+        Form::Assignment(target, value) => Ok(Some(assign(alloc, line, names, target, value)?)),
         Form::Move(place) => Ok(Some(go_to(alloc, line, names, place)?)),
         Form::Home => Ok(Some(Action::GoHome)),
         Form::Say(text) => {
@@ -117,9 +114,9 @@ fn simple(
             Ok(Some(rotate(line, frames, name.copy(), *axis, *quarters)?))
         }
         Form::Restore(name) => Ok(Some(recall(line, &read.frames, name)?)),
-        Form::Query(variable, source, name, word) => {
+        Form::Query(target, source, name, word) => {
             let features = &read.features;
-            let action = obtain(line, features, names, variable, *source, name, *word)?;
+            let action = obtain(line, features, names, target, *source, name, *word)?;
             Ok(Some(action))
         }
         Form::Report(source, name) => Ok(Some(report(line, &read.features, *source, name)?)),
@@ -128,19 +125,21 @@ fn simple(
 }
 
 // Reads a statement that isn't simple.
-fn take_structured(
-    alloc: Global,
-    read: &mut Progress,
-    statement: &Statement,
-) -> Result<(), SourceFault>
-    requires { acted (behind_of read.old) statement.now.form ≡ None }
-    ensures ok { OnOk result (TakesStated statement.now read.old read.new) }
-    ensures fault { IfErr result (NoMemoryOr (ToldAt statement.now.line (stated (behind_of read.old) statement.now.form))) }
+fn take_structured(alloc: Global, read: &mut Progress, placed: &Placed) -> Result<(), SourceFault>
+    requires { acted (behind_of read.old) placed.now.statement.form ≡ None }
+    ensures ok { OnOk result (TakesStated placed.now read.old read.new) }
+    ensures fault { IfErr result (NoMemoryOr (ToldAt placed.now.statement.line (stated (behind_of read.old) placed.now.expansion placed.now.statement.form))) }
 {
-    let line = statement.line;
-    match &statement.form {
+    let line = placed.statement.line;
+    match &placed.statement.form {
         Form::Declaration(kind, declared) => {
-            declare_all(line, &mut read.names, *kind, declared.as_slice())
+            declare_all(
+                line,
+                &mut read.names,
+                placed.expansion,
+                *kind,
+                declared.as_slice(),
+            )
         }
         Form::Test(condition) => test(alloc, line, &read.names, &mut read.builder, condition),
         Form::Otherwise => read.builder.divide(alloc, line),
@@ -148,11 +147,12 @@ fn take_structured(
         Form::Repeat(rounds) => repeat(alloc, line, &read.names, &mut read.builder, rounds),
         Form::RepeatEnd => read.builder.end_repeat(line),
         Form::Mark(name) => {
-            let label = Label::new(name.copy(), 0);
+            let label = Label::new(name.copy(), placed.expansion);
             mark(line, &mut read.labels, &mut read.builder, label)
         }
         Form::Leap(name) => {
-            read.builder.leap(line, Label::new(name.copy(), 0))?;
+            read.builder
+                .leap(line, Label::new(name.copy(), placed.expansion))?;
             Ok(())
         }
         Form::Measure(name) => {

@@ -1,4 +1,4 @@
-use Rattle.std.proofs.Common.{◌∙◌, sym, ap}
+use Rattle.std.proofs.Common.{◌∙◌, sym}
 use Rattle.vcm_tree.proofs.SameNames.{same_name}
 use Rattle.vcm_tree.proofs.Titled.{position_same}
 use Rattle.vcm_tree.proofs.titles.Titles.find.Goals as goal

@@ -1,0 +1,14 @@
+pub mod Finding
+pub mod Walks
+pub mod Skipping
+pub mod Places
+pub mod Bodies
+pub mod Calling
+pub mod Lists
+pub mod Insides
+pub mod Texts
+pub mod Phases
+pub mod Orders
+pub mod Computing
+pub mod Answered
+pub mod CodesAt

@@ -1,0 +1,9 @@
+pub mod Substitution
+pub mod Order
+pub mod Walk
+pub mod Rules
+pub mod Computed
+pub mod Samples
+pub mod Expanding
+pub mod Expansion
+pub mod Laws

@@ -1,0 +1,243 @@
+-- The rules of the phase of macros.
+use Rattle.std.specs.Prelude.{◌≡◌, ℕ, ◌+◌, Bool, true, false, IsTrue, not, ◌&&◌, ◌||◌, nat_lt, nat_le, if◌then◌else◌, List, [], ◌∷◌, ◌++◌, drop, length, map, Option, Some, None}
+use Rattle.std.specs.List.{list_any, list_all}
+use Rattle.vcm_lines.specs.declared.fault.FaultCode.{FaultCode}
+use Rattle.vcm_lines.specs.declared.fault.FaultCode.TheVariants.{TooDeep, DuplicateName, UnknownName, Unbalanced, BadArguments, TooLong}
+use Rattle.vcm_lines.specs.declared.fault.SourceFault.{SourceFault}
+use Rattle.vcm_expr.specs.Source.{Source, is_small}
+use Rattle.vcm_syntax.specs.declared.statement.Parameter.{Parameter}
+use Rattle.vcm_syntax.specs.declared.statement.Argument.{Argument}
+use Rattle.vcm_syntax.specs.declared.statement.Form.{Form}
+use Rattle.vcm_syntax.specs.declared.statement.Form.TheVariants.{Declaration, Assignment, Move, Test, Otherwise, TestEnd, Repeat, RepeatEnd, Feature, Measure, Touch, MeasureEnd, Configure, Shift, Query, Macro, MacroEnd}
+use Rattle.vcm_syntax.specs.declared.statement.Statement.{Statement}
+use Rattle.vcm_syntax.specs.declared.statement.Spot.{Spot}
+use Rattle.vcm_syntax.specs.declared.statement.Rounds.{Rounds}
+use Rattle.vcm_syntax.specs.declared.statement.Offset.{Offset}
+use Rattle.vcm_syntax.specs.Statements.{is_counted}
+use Rattle.vcm_macro.specs.declared.placed.Placed.{Placed}
+use Rattle.vcm_macro.specs.declared.fitting.Wanted.{Wanted}
+use Rattle.vcm_macro.specs.declared.fitting.Wanted.TheVariants.{Name as AName, Variable as AVariable, Value as AValue}
+use Rattle.vcm_macro.specs.declared.blocks.Opener.{Opener}
+use Rattle.vcm_macro.specs.declared.blocks.Opener.TheVariants.{If, Else, Do, Meas}
+use Rattle.vcm_macro.specs.Substitution.{is_same, variable_of}
+use Rattle.vcm_macro.specs.Walk.{Defined, Place, Opens, Inside, Stands, Calls}
+
+-- ---- a macro is defined once, and so is each of its parameters
+
+-- whether a parameter of these has the name
+abbrev pub is_parameter : List Parameter → List ℕ → Bool
+is_parameter ps name = list_any (λ p. is_same p.name name) ps
+
+-- whether two of these parameters have one name
+abbrev pub has_twins : List Parameter → Bool
+has_twins [] = false
+has_twins (p ∷ ps) = is_parameter ps p.name || has_twins ps
+
+-- whether MACRO gives a name again, that of a macro above or that of a parameter
+abbrev pub is_taken : List Defined → Form → Bool
+is_taken ms (Macro name ps) = list_any (λ m. is_same m.name name) ms || has_twins ps
+is_taken ms form = false
+
+-- whether a declaration takes the name of a parameter
+abbrev pub redeclares : List Parameter → Form → Bool
+redeclares ps (Declaration kind names) = list_any (is_parameter ps) names
+redeclares ps form = false
+
+-- ---- the blocks of a body
+
+-- the blocks that are open behind a statement, the innermost first
+abbrev pub blocks_behind : List Opener → Form → List Opener
+blocks_behind os (Test s) = If ∷ os
+blocks_behind os Otherwise = Else ∷ drop 1 os
+blocks_behind os TestEnd = drop 1 os
+blocks_behind os (Repeat r) = Do ∷ os
+blocks_behind os RepeatEnd = drop 1 os
+blocks_behind os (Measure n) = Meas ∷ os
+blocks_behind os MeasureEnd = drop 1 os
+blocks_behind os form = os
+
+-- the blocks that are open behind statements
+abbrev pub blocks_after : List Opener → List Statement → List Opener
+blocks_after os [] = os
+blocks_after os (s ∷ ss) = blocks_after (blocks_behind os s.form) ss
+
+-- whether ELSE goes on with the innermost block
+abbrev pub takes_else : List Opener → Bool
+takes_else (If ∷ os) = true
+takes_else os = false
+
+-- whether ENDIF ends it
+abbrev pub takes_endif : List Opener → Bool
+takes_endif (If ∷ os) = true
+takes_endif (Else ∷ os) = true
+takes_endif os = false
+
+-- whether ENDDO does
+abbrev pub takes_enddo : List Opener → Bool
+takes_enddo (Do ∷ os) = true
+takes_enddo os = false
+
+-- whether ENDMES does
+abbrev pub takes_endmes : List Opener → Bool
+takes_endmes (Meas ∷ os) = true
+takes_endmes os = false
+
+-- whether ENDMAC may stand here, where no block is open
+abbrev pub takes_endmac : List Opener → Bool
+takes_endmac [] = true
+takes_endmac (o ∷ os) = false
+
+-- whether a statement goes on with or ends a block that isn't the innermost one, or ENDMAC comes before one is ended
+abbrev pub unbalances : List Opener → Form → Bool
+unbalances os Otherwise = not (takes_else os)
+unbalances os TestEnd = not (takes_endif os)
+unbalances os RepeatEnd = not (takes_enddo os)
+unbalances os MeasureEnd = not (takes_endmes os)
+unbalances os MacroEnd = not (takes_endmac os)
+unbalances os form = false
+
+-- ---- arguments
+
+-- whether a statement assigns the variable of this name
+abbrev pub assigns : List ℕ → Form → Bool
+assigns name (Assignment t s) = is_same t.name name
+assigns name (Query t which n word) = is_same t.name name
+assigns name (Repeat r) = is_same r.variable.name name
+assigns name form = false
+
+-- whether there is something
+abbrev pub is_there : {A : Type 0} → Option A → Bool
+is_there None = false
+is_there (Some x) = true
+
+-- what has to be given for a parameter of this body: a name for a quoted one, a variable for a plain one that the body assigns, and an
+-- expression for any other
+abbrev pub wanted_by : List Statement → Parameter → Wanted
+wanted_by body p = if p.quoted then AName else if list_any (λ s. assigns p.name s.form) body then AVariable else AValue
+
+-- whether an argument is that
+abbrev pub suits : Wanted → Argument → Bool
+suits AName a = is_there a.name
+suits AVariable a = is_there (variable_of a.value)
+suits AValue a = is_there a.value
+
+-- whether arguments are, one by one
+abbrev pub all_suit : List Wanted → List Argument → Bool
+all_suit [] [] = true
+all_suit (w ∷ ws) (a ∷ bs) = suits w a && all_suit ws bs
+all_suit ws bs = false
+
+-- whether a macro may be called with these: it has 16 parameters at most, and each gets its argument
+abbrev pub takes : Defined → List Argument → Bool
+takes m bs = nat_le (length m.parameters) 16 && all_suit (map (wanted_by m.body) m.parameters) bs
+
+-- whether there is a macro and it may not be called with these
+abbrev pub misfits : Option Defined → List Argument → Bool
+misfits None bs = false
+misfits (Some m) bs = not (takes m bs)
+
+-- ---- sizes
+
+-- whether an expression is small enough, where there is one
+abbrev pub is_small_option : Option Source → Bool
+is_small_option None = true
+is_small_option (Some s) = is_small s
+
+-- whether what each argument is as an expression is small enough
+abbrev pub are_small_arguments : List Argument → Bool
+are_small_arguments bs = list_all (λ b. is_small_option b.value) bs
+
+-- whether all coordinates of a place are
+abbrev pub is_small_spot : Spot → Bool
+is_small_spot p = is_small p.x && (is_small p.y && is_small p.z)
+
+-- whether all expressions of DO are
+abbrev pub are_small_rounds : Rounds → Bool
+are_small_rounds r = is_small r.initial && (is_small r.limit && is_small_option r.increment)
+
+-- whether all lengths of shifts are
+abbrev pub are_small_offsets : List Offset → Bool
+are_small_offsets os = list_all (λ o. is_small o.length) os
+
+-- whether all expressions of a statement are
+abbrev pub are_small : Form → Bool
+are_small (Assignment t s) = is_small s
+are_small (Move p) = is_small_spot p
+are_small (Test s) = is_small s
+are_small (Repeat r) = are_small_rounds r
+are_small (Feature n p d) = is_small_spot p
+are_small (Touch p d) = is_small_spot p
+are_small (Configure which s) = is_small s
+are_small (Shift n os) = are_small_offsets os
+are_small form = true
+
+-- the refusal tells at this line that something is too deep or too large, and it isn't small
+abbrev pub IsTooDeep : ℕ → Bool → SourceFault → Type 0
+IsTooDeep line small f = (f ≡ record { code = TooDeep; line = line }) × (small ≡ false)
+
+-- whether a statement is one of the expanded program, and counts there: a step of the machine, or DECL
+abbrev pub is_kept : Form → Bool
+is_kept (Declaration kind names) = true
+is_kept form = is_counted form
+
+-- one where it is so
+abbrev pub one_if : Bool → ℕ
+one_if true = 1
+one_if false = 0
+
+-- whether a place counts: a statement that does, and each CALL that is carried out
+abbrev pub weight : Place → ℕ
+weight (Stands e s) = one_if (is_kept s.form)
+weight (Calls line depth m args) = 1
+weight p = 0
+
+-- what is left of a place in the expanded program
+abbrev pub kept_of : Place → List Placed
+kept_of (Stands e s) = if is_kept s.form then record { statement = s; expansion = e } ∷ [] else []
+kept_of p = []
+
+-- the expanded program: the statements that count, each with its expansion
+abbrev pub kept : List Place → List Placed
+kept [] = []
+kept (p ∷ ps) = kept_of p ++ kept ps
+
+-- how much places count
+abbrev pub weigh : List Place → ℕ
+weigh [] = 0
+weigh (p ∷ ps) = weight p + weigh ps
+
+-- whether one more counted place may stand behind so many
+abbrev pub is_full : ℕ → Bool
+is_full n = nat_le 20000 n
+
+-- ---- the phase
+
+-- the rules, behind places that count so much
+abbrev pub BreaksBehind : ℕ → Place → FaultCode → Type 0
+BreaksBehind n (Opens ms s) DuplicateName = IsTrue (is_taken ms s.form)
+BreaksBehind n (Inside m s) DuplicateName = IsTrue (redeclares m.parameters s.form)
+BreaksBehind n (Inside m s) Unbalanced = IsTrue (unbalances (blocks_after [] m.body) s.form)
+BreaksBehind n (Stands e s) TooDeep = IsTrue (not (are_small s.form))
+BreaksBehind n (Stands e s) TooLong = IsTrue (is_kept s.form && is_full n)
+BreaksBehind n (Calls line depth m args) UnknownName = IsTrue (not (is_there m))
+BreaksBehind n (Calls line depth m args) BadArguments = IsTrue (misfits m args)
+BreaksBehind n (Calls line depth m args) TooDeep = IsTrue (not (are_small_arguments args))
+BreaksBehind n (Calls line depth m args) TooLong = IsTrue (nat_lt 16 depth || is_full n)
+BreaksBehind n p code = ⊥
+
+-- the phase: each place by what stands before it, and nothing at the end
+abbrev pub BreaksMacros : List Place → Option Place → FaultCode → Type 0
+BreaksMacros before None code = ⊥
+BreaksMacros before (Some p) code = BreaksBehind (weigh before) p code
+
+-- the line of a place
+abbrev pub line_at : Place → ℕ
+line_at (Opens ms s) = s.line
+line_at (Inside m s) = s.line
+line_at (Stands e s) = s.line
+line_at (Calls line depth m args) = line
+
+-- a fault is told at its place's line
+abbrev pub macros_line : List Place → Option Place → ℕ
+macros_line before None = 0
+macros_line before (Some p) = line_at p

@@ -1,0 +1,80 @@
+-- The places of the phase of macros: the statements of a program, each CALL with the body of its macro behind it.
+use Rattle.std.specs.Prelude.{ℕ, suc, ◌+◌, true, false, List, [], ◌∷◌, ◌++◌, map, Option, Some, None}
+use Rattle.vcm_syntax.specs.declared.statement.Parameter.{Parameter}
+use Rattle.vcm_syntax.specs.declared.statement.Argument.{Argument}
+use Rattle.vcm_syntax.specs.declared.statement.Form.{Form}
+use Rattle.vcm_syntax.specs.declared.statement.Form.TheVariants.{Macro, MacroEnd, Call}
+use Rattle.vcm_syntax.specs.declared.statement.Statement.{Statement}
+use Rattle.vcm_macro.specs.Substitution.{Scope, outside, is_same, put_form, put_argument}
+
+-- a macro
+pub record Defined : Type 0 where
+  pub name : List ℕ
+  pub parameters : List Parameter
+  pub body : List Statement
+
+-- a place of the walk
+pub data Place : Type 0 where
+  -- MACRO, behind these macros
+  Opens : List Defined → Statement → Place
+  -- a statement of a macro, or its ENDMAC, behind what is written of that macro above
+  Inside : Defined → Statement → Place
+  -- a statement of the expanded program, in this expansion
+  Stands : ℕ → Statement → Place
+  -- a CALL that is carried out: its line, how deep calls are nested here, its macro if there is one above, and what it is called with
+  Calls : (line depth : ℕ) → Option Defined → List Argument → Place
+
+-- how many CALLs these places carry out
+abbrev pub calls_in : List Place → ℕ
+calls_in [] = 0
+calls_in (Calls line depth m args ∷ ps) = suc (calls_in ps)
+calls_in (p ∷ ps) = calls_in ps
+
+-- how a CALL goes on: its line and depth, how many were carried out before it, the name and the arguments
+abbrev pub Caller : Type 0
+Caller = (line depth done : ℕ) → List ℕ → List Argument → List Place
+
+-- a statement of a body
+abbrev pub statement_in : Caller → Scope → (depth done line : ℕ) → Form → List Place
+statement_in call sc depth done line (Call name args) = call line depth done name (map (put_argument sc) args)
+statement_in call sc depth done line form = Stands sc.expansion (record { line = line; form = put_form sc form }) ∷ []
+
+-- places, and behind them what goes on
+abbrev pub behind : List Place → ℕ → (ℕ → List Place) → List Place
+behind ps done on = ps ++ on (done + calls_in ps)
+
+-- the statements of a body
+abbrev pub body_in : Caller → Scope → (depth done : ℕ) → List Statement → List Place
+body_in call sc depth done [] = []
+body_in call sc depth done (s ∷ ss) = behind (statement_in call sc depth done s.line s.form) done (λ n. body_in call sc depth n ss)
+
+-- a CALL where these macros stand above, the latest first: expansions are numbered in the order in which CALLs are carried out, and in a
+-- macro's body those macros are known that stand above it
+abbrev pub call_in : List Defined → Caller
+call_in [] line depth done name args = Calls line depth None args ∷ []
+call_in (m ∷ ms) line depth done name args = elim (is_same m.name name) [
+  | true ↦ Calls line depth (Some m) args
+      ∷ body_in (call_in ms) (record { parameters = m.parameters; arguments = args; expansion = suc done }) (suc depth) (suc done) m.body
+  | false ↦ call_in ms line depth done name args
+]
+
+-- a macro with one more statement
+abbrev pub with_statement : Defined → Statement → Defined
+with_statement m s = record { name = m.name; parameters = m.parameters; body = m.body ++ s ∷ [] }
+
+-- a statement of the text: outside macros, or inside the one that is open; then what goes on, behind these macros, with this one open, after
+-- so many CALLs
+abbrev pub text_from : List Defined → Option Defined → ℕ → Statement → Form → (List Defined → Option Defined → ℕ → List Place) → List Place
+text_from ms None done s (Macro name ps) on = Opens ms s ∷ on ms (Some (record { name = name; parameters = ps; body = [] })) done
+text_from ms None done s form on = behind (statement_in (call_in ms) outside 1 done s.line form) done (on ms None)
+text_from ms (Some m) done s MacroEnd on = Inside m s ∷ on (m ∷ ms) None done
+text_from ms (Some m) done s form on = Inside m s ∷ on ms (Some (with_statement m s)) done
+
+-- the statements of the text
+abbrev pub walk_from : List Defined → Option Defined → ℕ → List Statement → List Place
+walk_from ms current done [] = []
+walk_from ms current done (s ∷ ss) = text_from ms current done s s.form (λ ns m n. walk_from ns m n ss)
+
+-- the walk of a program
+abbrev pub walk : List Statement → List Place
+walk ss = walk_from [] None 0 ss

@@ -1,0 +1,243 @@
+//! What a body is expanded with, and substitution in expressions and names.
+
+ghost use Rattle.std.specs.Prelude.{◌≡◌, true, false, IfOk, OnOk, IfErr};
+ghost use Rattle.std.specs.Option.{option_copied};
+ghost use Rattle.vcm_lines.specs.Fault.{NoMemoryOr, no_memory};
+ghost use Rattle.vcm_expr.specs.Source.{source_of, is_small};
+ghost use Rattle.vcm_macro.specs.Rules.{IsTooDeep, is_small_option};
+ghost use Rattle.vcm_macro.specs.Substitution.{put, put_variable, put_target, put_name, put_argument, variable_in, variable_of, value_of, name_of, argument_for, is_meant};
+
+use std::alloc::Global;
+use std::marker::Model;
+use vcm_expr::{Expr, ExprNode, Name, Term};
+use vcm_lines::{FaultCode, SourceFault};
+use vcm_syntax::{Argument, Parameter, Target};
+
+/// What a body is expanded with. Contracts see it as a `Scope`.
+#[derive(Drop)]
+pub(crate) struct Bindings<'a> {
+    parameters: &'a [Parameter],
+    arguments: &'a [Argument],
+    expansion: u32,
+}
+
+impl<'a> Model for Bindings<'a> {
+    ghost use Rattle.vcm_macro.specs.Substitution.{Scope};
+    ghost use Rattle.std.specs.Coded.{codes};
+    ghost use Rattle.vcm_syntax.specs.contracts.statement.Parameter as parameter;
+    ghost use Rattle.vcm_syntax.specs.contracts.statement.Argument as argument;
+
+    ghost Value = { Scope };
+
+    ghost coded = { Prim.hlevel (codes, parameter.the_row.coded, argument.the_row.coded) };
+
+    ghost view = { λ b. record { parameters = b.parameters.now; arguments = b.arguments.now; expansion = b.expansion } };
+}
+
+// Whether a parameter is the quoted, or else the plain, one of this name.
+fn is_meant(quoted: bool, name: &Name, parameter: &Parameter) -> bool
+    ensures { result ≡ is_meant quoted name.now parameter.now }
+{
+    if quoted {
+        parameter.quoted && parameter.name == *name
+    } else {
+        !parameter.quoted && parameter.name == *name
+    }
+}
+
+// The argument for the quoted, or else the plain, parameter of this name.
+fn argument_for<'a>(
+    quoted: bool,
+    name: &Name,
+    parameters: &[Parameter],
+    arguments: &'a [Argument],
+) -> Option<&'a Argument>
+    ensures { option_copied result ≡ argument_for quoted name.now parameters.now arguments.now }
+{
+    let mut parameters = parameters;
+    let mut arguments = arguments;
+    'found: while let Some((parameter, others)) = parameters.split_first() {
+        let (argument, rest) = arguments.split_first()?;
+        if is_meant(quoted, name, parameter) {
+            return Some(argument);
+        }
+        parameters = others;
+        arguments = rest;
+    }
+    None
+}
+
+// The refusal of a growth of memory.
+fn no_memory() -> SourceFault
+    ensures { result ≡ no_memory }
+{
+    SourceFault {
+        code: FaultCode::NoMemory,
+        line: 0,
+    }
+}
+
+// The same expression.
+fn copied(alloc: Global, e: &Expr) -> Result<Expr, SourceFault>
+    ensures ok { IfOk result (λ c. c ≡ e.now) }
+    ensures small { is_small e.now ≡ true }
+    ensures fault { IfErr result (λ f. f ≡ no_memory) }
+{
+    let _ = e.node();
+    match e.copy(alloc) {
+        Ok(copy) => Ok(copy),
+        Err(_) => Err(no_memory()),
+    }
+}
+
+// The expression that an argument is.
+fn value_of(argument: Option<&Argument>) -> Option<&Expr>
+    ensures { option_copied result ≡ value_of (option_copied argument.entry) }
+{
+    argument?.value.as_ref()
+}
+
+// The variable that an expression is, where it is one.
+fn variable_in(node: &ExprNode) -> Option<Target>
+    ensures { result ≡ variable_in (source_of node.now) }
+{
+    match node {
+        ExprNode::Leaf(Term::Variable(name, expansion)) => Some(Target {
+            name: name.copy(),
+            expansion: *expansion,
+        }),
+        _ => None,
+    }
+}
+
+/// The variable that an argument is, where it is one.
+pub(crate) fn variable_of(value: Option<&Expr>) -> Option<Target>
+    ensures { result ≡ variable_of (option_copied value.entry) }
+{
+    variable_in(value?.node())
+}
+
+// The name that an argument is.
+fn name_of(argument: Option<&Argument>) -> Option<&Name>
+    ensures { option_copied result ≡ name_of (option_copied argument.entry) }
+{
+    argument?.name.as_ref()
+}
+
+impl<'a> Bindings<'a> {
+    /// What a body is expanded with.
+    pub(crate) fn new(
+        parameters: &'a [Parameter],
+        arguments: &'a [Argument],
+        expansion: u32,
+    ) -> Bindings<'a>
+        ensures { result ≡ record { parameters = parameters.now; arguments = arguments.now; expansion = expansion } }
+    {
+        Bindings {
+            parameters,
+            arguments,
+            expansion,
+        }
+    }
+
+    /// The number of the expansion.
+    pub(crate) fn expansion(&self) -> u32
+        ensures { result ≡ self.now.expansion }
+    {
+        self.expansion
+    }
+
+    // The expression that stands for a variable.
+    fn put_variable(&self, alloc: Global, name: &Name) -> Result<Expr, SourceFault>
+        ensures ok { IfOk result (λ e. e ≡ put_variable self.now name.now) }
+        ensures small { OnOk result (is_small (put_variable self.now name.now) ≡ true) }
+        ensures fault { IfErr result (λ f. f ≡ no_memory) }
+    {
+        match value_of(argument_for(false, name, self.parameters, self.arguments)) {
+            Some(value) => copied(alloc, value),
+            None => Ok(Expr::leaf(Term::Variable(name.copy(), self.expansion))),
+        }
+    }
+
+    // What an expression says in the expansion.
+    fn put_node(&self, alloc: Global, line: u32, node: &ExprNode) -> Result<Expr, SourceFault>
+        ensures ok { IfOk result (λ e. e ≡ put self.now (source_of node.now)) }
+        ensures small { OnOk result (is_small (put self.now (source_of node.now)) ≡ true) }
+        ensures fault { IfErr result (NoMemoryOr (IsTooDeep line (is_small (put self.now (source_of node.now))))) }
+    {
+        match node {
+            ExprNode::Leaf(Term::Number(n)) => Ok(Expr::leaf(Term::Number(*n))),
+            ExprNode::Leaf(Term::Truth(b)) => Ok(Expr::leaf(Term::Truth(*b))),
+            ExprNode::Leaf(Term::Variable(name, _)) => self.put_variable(alloc, name),
+            ExprNode::Prefixed(prefix, a) => {
+                let a = self.put_node(alloc, line, a)?;
+                Expr::prefixed(alloc, line, *prefix, a)
+            }
+            ExprNode::Binary(op, a, b) => {
+                let a = self.put_node(alloc, line, a)?;
+                let b = self.put_node(alloc, line, b)?;
+                Expr::joined(alloc, line, *op, a, b)
+            }
+        }
+    }
+
+    /// What an expression says in the expansion.
+    pub(crate) fn put(&self, alloc: Global, line: u32, e: &Expr) -> Result<Expr, SourceFault>
+        ensures ok { IfOk result (λ s. s ≡ put self.now e.now) }
+        ensures small { OnOk result (is_small (put self.now e.now) ≡ true) }
+        ensures fault { IfErr result (NoMemoryOr (IsTooDeep line (is_small (put self.now e.now)))) }
+    {
+        self.put_node(alloc, line, e.node())
+    }
+
+    /// The variable that is assigned in the expansion.
+    pub(crate) fn put_target(&self, target: &Target) -> Target
+        ensures { result ≡ put_target self.now target.now }
+    {
+        let found = argument_for(false, &target.name, self.parameters, self.arguments);
+        match variable_of(value_of(found)) {
+            Some(variable) => variable,
+            None => Target {
+                name: target.name.copy(),
+                expansion: self.expansion,
+            },
+        }
+    }
+
+    /// The name that stands in the place of a name.
+    pub(crate) fn put_name(&self, name: &Name) -> Name
+        ensures { result ≡ put_name self.now name.now }
+    {
+        match name_of(argument_for(true, name, self.parameters, self.arguments)) {
+            Some(other) => other.copy(),
+            None => name.copy(),
+        }
+    }
+
+    /// What an argument says in the expansion.
+    pub(crate) fn put_argument(
+        &self,
+        alloc: Global,
+        line: u32,
+        argument: &Argument,
+    ) -> Result<Argument, SourceFault>
+        ensures ok { IfOk result (λ a. a ≡ put_argument self.now argument.now) }
+        ensures small { OnOk result (is_small_option (put_argument self.now argument.now).value ≡ true) }
+        ensures fault { IfErr result (NoMemoryOr (IsTooDeep line (is_small_option (put_argument self.now argument.now).value))) }
+    {
+        let name = match &argument.name {
+            None => None,
+            Some(name) => Some(self.put_name(name)),
+        };
+        match &argument.value {
+            None => Ok(Argument { name, value: None }),
+            Some(value) => {
+                let value = self.put(alloc, line, value)?;
+                Ok(Argument {
+                    name,
+                    value: Some(value),
+                })
+            }
+        }
+    }
+}

@@ -1,0 +1,116 @@
+//! Macros as they are written.
+
+ghost use Rattle.std.specs.Prelude.{◌≡◌, None, reverse, IfOk, MatchOption};
+ghost use Rattle.std.specs.List.{list_any};
+ghost use Rattle.vcm_macro.specs.Substitution.{is_same};
+ghost use Rattle.vcm_macro.specs.Rules.{takes};
+ghost use Rattle.vcm_macro.specs.Expanding.{found, IsFoundAt, active_of, referred};
+
+use crate::fitting::{Wanted, all_suit, all_wanted};
+use crate::kept::active_of;
+use std::alloc::{AllocError, Global};
+use std::marker::Model;
+use vcm_expr::Name;
+use vcm_syntax::{Argument, Parameter, Statement};
+
+/// A macro, with what has to be given for each of its parameters, and the statements of its body that leave something in an expansion.
+/// Contracts see it as a `Defined`.
+#[derive(Drop)]
+pub(crate) struct Definition<'a> {
+    name: &'a Name,
+    parameters: &'a [Parameter],
+    body: &'a [Statement],
+    wanted: Vec<Wanted>,
+    active: Vec<&'a Statement>,
+}
+
+impl<'a> Model for Definition<'a> {
+    ghost use Rattle.std.specs.Prelude.{◌≡◌, map};
+    ghost use Rattle.std.specs.Coded.{codes};
+    ghost use Rattle.vcm_macro.specs.Walk.{Defined};
+    ghost use Rattle.vcm_macro.specs.Rules.{wanted_by};
+    ghost use Rattle.vcm_macro.specs.Expanding.{active_of, referred};
+    ghost use Rattle.vcm_syntax.specs.contracts.statement.Parameter as parameter;
+    ghost use Rattle.vcm_syntax.specs.contracts.statement.Statement as statement;
+
+    ghost Value = { Defined };
+
+    ghost coded = { Prim.hlevel (codes, parameter.the_row.coded, statement.the_row.coded) };
+
+    ghost view = { λ d. record { name = d.name.now; parameters = d.parameters.now; body = d.body.now } };
+
+    ghost invariant = { λ d. (d.wanted.items ≡ map (wanted_by d.body.now) d.parameters.now) × (referred d.active.items ≡ active_of d.body.now) };
+}
+
+impl<'a> Definition<'a> {
+    /// The macro of this name.
+    ///
+    /// # Errors
+    ///
+    /// Want of memory.
+    pub(crate) fn new(
+        alloc: Global,
+        name: &'a Name,
+        parameters: &'a [Parameter],
+        body: &'a [Statement],
+    ) -> Result<Definition<'a>, AllocError>
+        ensures { IfOk result (λ d. d ≡ record { name = name.now; parameters = parameters.now; body = body.now }) }
+    {
+        let wanted = all_wanted(alloc, body, parameters)?;
+        let active = active_of(alloc, body)?;
+        Ok(Definition {
+            name,
+            parameters,
+            body,
+            wanted,
+            active,
+        })
+    }
+
+    pub(crate) fn name(&self) -> &'a Name
+        ensures { result.now ≡ self.now.name }
+    {
+        self.name
+    }
+
+    pub(crate) fn parameters(&self) -> &'a [Parameter]
+        ensures { result.now ≡ self.now.parameters }
+    {
+        self.parameters
+    }
+
+    /// The statements of the body that leave something in an expansion.
+    pub(crate) fn active(&self) -> &[&'a Statement]
+        ensures { referred result.now ≡ active_of self.now.body }
+    {
+        &self.active
+    }
+
+    /// Whether the macro may be called with these arguments.
+    pub(crate) fn takes(&self, arguments: &[Argument]) -> bool
+        ensures { result ≡ takes self.now arguments.now }
+    {
+        self.parameters.len() <= 16 && all_suit(&self.wanted, arguments)
+    }
+}
+
+/// The place of the macro of this name, the last one if there are several.
+pub(crate) fn find(macros: &[Definition<'_>], name: &Name) -> Option<usize>
+    ensures { MatchOption result (found (reverse macros.now) name.now ≡ None) (λ i. IsFoundAt macros.now name.now i) }
+{
+    let mut place = macros.len();
+    'found: while place > 0 {
+        place -= 1;
+        if macros[place].name() == name {
+            return Some(place);
+        }
+    }
+    None
+}
+
+/// Whether one of the macros has this name.
+pub(crate) fn is_defined(macros: &[Definition<'_>], name: &Name) -> bool
+    ensures { result ≡ list_any (λ m. is_same m.name name.now) (reverse macros.now) }
+{
+    find(macros, name).is_some()
+}

@@ -1,0 +1,132 @@
+//! What has been expanded.
+
+ghost use Rattle.std.specs.Prelude.{◌≡◌, ◌≤◌, ◌∷◌, [], suc, true, false, OnOk, IfErr};
+ghost use Rattle.vcm_lines.specs.Fault.{NoMemoryOr};
+ghost use Rattle.vcm_lines.specs.declared.fault.FaultCode.{FaultCode};
+ghost use Rattle.vcm_macro.specs.Rules.{is_full};
+ghost use Rattle.vcm_macro.specs.Expanding.{Walked, TellsFirst, stands};
+
+use crate::bindings::Bindings;
+use crate::kept::is_kept;
+use crate::placed::Placed;
+use crate::putting::put_form;
+use std::alloc::Global;
+use std::marker::Model;
+use vcm_lines::{FaultCode, SourceFault};
+use vcm_syntax::Statement;
+
+/// The most that may count in an expanded program.
+const MOST: u32 = 20000;
+
+/// What has been expanded. Contracts see it as a `Done`.
+#[derive(Drop)]
+pub(crate) struct Expansion {
+    placed: Vec<Placed>,
+    count: u32,
+    calls: u32,
+}
+
+impl Model for Expansion {
+    ghost use Rattle.std.specs.Prelude.{◌≤◌};
+    ghost use Rattle.std.specs.Coded.{codes};
+    ghost use Rattle.vcm_macro.specs.Expanding.{Done};
+    ghost use Rattle.vcm_macro.specs.contracts.placed.Placed as statement;
+
+    ghost Value = { Done };
+
+    ghost coded = { Prim.hlevel (codes, statement.the_row.coded) };
+
+    ghost view = { λ e. record { placed = e.placed.items; count = e.count; calls = e.calls } };
+
+    ghost invariant = { λ e. (e.calls ≤ e.count) × (e.count ≤ 20000) };
+}
+
+// The refusal of a program that becomes too long.
+fn too_long(line: u32) -> SourceFault
+    ensures { result ≡ record { code = FaultCode.TooLong; line = line } }
+{
+    SourceFault {
+        code: FaultCode::TooLong,
+        line,
+    }
+}
+
+impl Expansion {
+    /// Nothing yet.
+    pub(crate) fn new(alloc: Global) -> Expansion
+        ensures { result ≡ record { placed = []; count = 0; calls = 0 } }
+    {
+        Expansion {
+            placed: Vec::new(alloc),
+            count: 0,
+            calls: 0,
+        }
+    }
+
+    /// The expanded statements.
+    pub(crate) fn into_placed(self) -> Vec<Placed>
+        ensures all { result.items ≡ self.placed }
+        ensures few { self.count ≤ 20000 }
+    {
+        self.placed
+    }
+
+    /// How many calls were carried out.
+    pub(crate) fn calls(&self) -> u32
+        ensures { result ≡ self.now.calls }
+    {
+        self.calls
+    }
+
+    /// One more statement that counts.
+    fn count_statement(&mut self, line: u32) -> Result<(), SourceFault>
+        ensures ok { OnOk result (self.new ≡ record { placed = self.old.placed; count = suc self.old.count; calls = self.old.calls }) }
+        ensures room { OnOk result (is_full self.old.count ≡ false) }
+        ensures fault { IfErr result (λ f. (f ≡ record { code = FaultCode.TooLong; line = line }) × (is_full self.old.count ≡ true)) }
+    {
+        if self.count >= MOST {
+            return Err(too_long(line));
+        }
+        self.count += 1;
+        Ok(())
+    }
+
+    /// One more call.
+    pub(crate) fn count_call(&mut self, line: u32) -> Result<(), SourceFault>
+        ensures ok { OnOk result (self.new ≡ record { placed = self.old.placed; count = suc self.old.count; calls = suc self.old.calls }) }
+        ensures room { OnOk result (is_full self.old.count ≡ false) }
+        ensures fault { IfErr result (λ f. (f ≡ record { code = FaultCode.TooLong; line = line }) × (is_full self.old.count ≡ true)) }
+    {
+        if self.count >= MOST {
+            return Err(too_long(line));
+        }
+        self.count += 1;
+        self.calls += 1;
+        Ok(())
+    }
+
+    /// A statement that is no call.
+    pub(crate) fn stand(
+        &mut self,
+        alloc: Global,
+        bindings: &Bindings<'_>,
+        statement: &Statement,
+    ) -> Result<(), SourceFault>
+        ensures ok { OnOk result (Walked self.old self.new (stands bindings.now statement.now ∷ [])) }
+        ensures fault { IfErr result (NoMemoryOr (TellsFirst self.old.count (stands bindings.now statement.now ∷ []))) }
+    {
+        let line = statement.line;
+        if !is_kept(&statement.form) {
+            return Ok(());
+        }
+        self.count_statement(line)?;
+        let form = put_form(alloc, line, bindings, &statement.form)?;
+        let expansion = bindings.expansion();
+        let statement = Statement { line, form };
+        self.placed.push(Placed {
+            statement,
+            expansion,
+        })?;
+        Ok(())
+    }
+}

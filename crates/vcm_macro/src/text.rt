@@ -1,0 +1,120 @@
+//! Expands a program.
+
+ghost use Rattle.std.specs.Prelude.{◌≡◌, ◌≤◌, ◌∷◌, ℕ, [], None, Some, length, drop, suc, reverse, IfOk, IfErr};
+ghost use Rattle.vcm_lines.specs.Fault.{NoMemoryOr};
+ghost use Rattle.vcm_spec.specs.Phase.{IsClean, FirstFault};
+ghost use Rattle.vcm_macro.specs.Walk.{walk, walk_from};
+ghost use Rattle.vcm_macro.specs.Rules.{BreaksMacros, macros_line, kept};
+ghost use Rattle.vcm_macro.specs.Order.{BreaksOrder};
+ghost use Rattle.vcm_macro.specs.Computed.{macro_fault};
+ghost use Rattle.vcm_macro.specs.Expansion.{IsExpanded, IsRefused};
+ghost use Rattle.vcm_macro.specs.Expanding.{TellsFirst, IsNew, IsRead, defines, behind_macro};
+
+use crate::bindings::Bindings;
+use crate::defining::body_size;
+use crate::definition::{Definition, is_defined};
+use crate::expanding::call;
+use crate::expansion::Expansion;
+use crate::order::check_order;
+use crate::parameters::has_twins;
+use crate::placed::Placed;
+use std::alloc::Global;
+use vcm_expr::Name;
+use vcm_lines::{FaultCode, SourceFault};
+use vcm_syntax::{Form, Parameter, Statement};
+
+// The macro that is defined here, behind the statement MACRO.
+fn define<'a>(
+    alloc: Global,
+    macros: &[Definition<'a>],
+    line: u32,
+    name: &'a Name,
+    parameters: &'a [Parameter],
+    statements: &'a [Statement],
+) -> Result<usize, SourceFault>
+    ensures ok { IfOk result (IsNew macros.now line name.now parameters.now statements.now) }
+    ensures fault { IfErr result (NoMemoryOr (λ f. (k : ℕ) → TellsFirst k (defines macros.now line name.now parameters.now statements.now) f)) }
+{
+    if is_defined(macros, name) || has_twins(parameters) {
+        let code = FaultCode::DuplicateName;
+        return Err(SourceFault { code, line });
+    }
+    body_size(alloc, name, parameters, statements)
+}
+
+// What stands behind so many statements and one more.
+fn behind(statements: &[Statement], size: usize) -> &[Statement]
+    ensures { result.now ≡ drop (suc size) statements.now }
+{
+    if size < statements.len() {
+        &statements[size + 1..]
+    } else {
+        &[]
+    }
+}
+
+// One statement outside macros, or a whole macro: what is left behind it.
+fn read<'a>(
+    alloc: Global,
+    macros: &mut Vec<Definition<'a>>,
+    done: &mut Expansion,
+    statement: &'a Statement,
+    others: &'a [Statement],
+) -> Result<&'a [Statement], SourceFault>
+    ensures ok { IfOk result (λ rest. IsRead macros.old.items done.old (statement.now ∷ others.now) macros.new.items done.new rest.now) }
+    ensures shorter { IfOk result (λ rest. length rest.now ≤ length others.now) }
+    ensures fault { IfErr result (NoMemoryOr (TellsFirst done.old.count (walk_from (reverse macros.old.items) None done.old.calls (statement.now ∷ others.now)))) }
+{
+    let outside = Bindings::new(&[], &[], 0);
+    let line = statement.line;
+    match &statement.form {
+        Form::Macro(name, parameters) => {
+            let parameters = parameters.as_slice();
+            let size = define(alloc, macros, line, name, parameters, others)?;
+            let definition = Definition::new(alloc, name, parameters, &others[..size])?;
+            macros.push(definition)?;
+            Ok(behind(others, size))
+        }
+        Form::Call(name, written) => {
+            let written = written.as_slice();
+            call(alloc, macros, &outside, line, 1, name, written, done)?;
+            Ok(others)
+        }
+        _ => {
+            done.stand(alloc, &outside, statement)?;
+            Ok(others)
+        }
+    }
+}
+
+/// The expanded program, whose statements stand in order, or the first fault of its macros.
+fn expanded(alloc: Global, statements: &[Statement]) -> Result<Vec<Placed>, SourceFault>
+    ensures clean { IfOk result (λ _. IsClean BreaksMacros (walk statements.now)) }
+    ensures ok { IfOk result (λ all. all.items ≡ kept (walk statements.now)) }
+    ensures few { IfOk result (λ all. length all.items ≤ 20000) }
+    ensures fault { IfErr result (NoMemoryOr (λ f. FirstFault BreaksMacros macros_line (walk statements.now) f.code f.line)) }
+    ensures leftmost { IfErr result (NoMemoryOr (λ f. macro_fault statements.now ≡ Some f)) }
+{
+    let mut macros = Vec::new(alloc);
+    let mut done = Expansion::new(alloc);
+    let mut rest = statements;
+    'text: while let Some((statement, others)) = rest.split_first() {
+        rest = read(alloc, &mut macros, &mut done, statement, others)?;
+    }
+    Ok(done.into_placed())
+}
+
+/// The expanded program: its statements that are counted and its declarations, each with the number of its expansion.
+///
+/// # Errors
+///
+/// The first fault of the first phase that has one, that of the order of statements or that of macros. Want of memory.
+pub fn expand(alloc: Global, statements: &[Statement]) -> Result<Vec<Placed>, SourceFault>
+    ensures ok { IfOk result (λ all. IsExpanded statements.now all.items) }
+    ensures few { IfOk result (λ all. length all.items ≤ 20000) }
+    ensures fault { IfErr result (NoMemoryOr (IsRefused statements.now)) }
+    ensures leftmost { IfErr result (NoMemoryOr (λ f. IsClean BreaksOrder statements.now → macro_fault statements.now ≡ Some f)) }
+{
+    check_order(statements)?;
+    expanded(alloc, statements)
+}

@@ -1,0 +1,244 @@
+//! Macros, in whole programs.
+
+use crate::texts::{BOUNDS, ONE_BLOCK, joined, program_of};
+use std::alloc::Global;
+use vcm_lines::{FaultCode, SourceFault};
+use vcm_motion::Blocks;
+use vcm_part::read_part;
+use vcm_run::{Summary, run_text, write_result};
+use vcm_tree::accept;
+
+// The summary of these statements beside one block, after 1,000,000 steps.
+fn summary(alloc: Global, statements: &str) -> Option<Summary> {
+    let file = joined(alloc, &[BOUNDS, ONE_BLOCK])?;
+    let part = read_part(alloc, file.as_bytes()).ok()?;
+    let program = program_of(alloc, statements)?;
+    run_text(alloc, &Blocks::new(&part), program.as_bytes(), 1_000_000).ok()
+}
+
+// Whether the run of these statements prints this.
+fn prints(alloc: Global, statements: &str, output: &str) -> bool {
+    let Some(summary) = summary(alloc, statements) else {
+        return false;
+    };
+    let mut out = Vec::new(alloc);
+    write_result(summary.world(), &summary.ran(), &mut out).is_ok()
+        && out.as_slice() == output.as_bytes()
+}
+
+// Whether the variables have these values behind all steps of a program.
+fn has_values(alloc: Global, statements: &str, values: &[i64]) -> bool {
+    match summary(alloc, statements) {
+        Some(summary) => summary.world().variables() == values,
+        None => false,
+    }
+}
+
+// The refusal of these statements.
+fn refusal(alloc: Global, statements: &str) -> Option<SourceFault> {
+    let program = program_of(alloc, statements)?;
+    accept(alloc, program.as_bytes()).err()
+}
+
+// How many statements these are, behind their expansion.
+fn count_of(alloc: Global, statements: &str) -> Option<usize> {
+    let program = program_of(alloc, statements)?;
+    let accepted = accept(alloc, program.as_bytes()).ok()?;
+    Some(accepted.count())
+}
+
+// A macro that adds twice its argument to R, with a jump of its own, and two calls of it.
+const DOUBLED: &str =
+    "DECL/INTGR,R\nM(DBL)=MACRO/A\nJUMPTO/(OUT)\nTEXT/OPER,'SKIPPED'\n(OUT)\nR=ASSIGN/R+A*2\nENDMAC\nCALL/M(DBL),1+2\nCALL/M(DBL),R\n";
+
+// A macro with a variable of its own, and two calls of it.
+const COUNTED: &str = "M(C)=MACRO\nDECL/INTGR,T\nT=ASSIGN/T+1\nENDMAC\nCALL/M(C)\nCALL/M(C)\n";
+
+#[test]
+fn two_expansions(rt: HostRuntime) {
+    for (statements, steps, values) in [
+        (DOUBLED, "steps 7\n", [18].as_slice()),
+        (COUNTED, "steps 3\n", [1, 1].as_slice()),
+    ] {
+        let Some(output) = joined(
+            rt.alloc(),
+            &["stop ENDED\nposition 0.000 0.000 100.000\n", steps],
+        ) else {
+            panic!(rt; "want of memory");
+        };
+        assert!(rt; prints(rt.alloc(), statements, &output), "{statements}");
+        assert!(rt; has_values(rt.alloc(), statements, values), "{statements}");
+    }
+}
+
+#[test]
+fn counts(rt: HostRuntime) {
+    for (statements, count) in [
+        (DOUBLED, 9),
+        ("M(A)=MACRO\nCALL/M(B)\nENDMAC\nM(B)=MACRO\nENDMAC\n", 1),
+        (
+            "M(A)=MACRO/'P'\nRECALL/D(P)\nENDMAC\nD(D1)=ROTATE/ZAXIS,0\nCALL/M(A),'d1'\n",
+            3,
+        ),
+        (
+            "DECL/INTGR,R\nM(A)=MACRO/X\nX=ASSIGN/1\nENDMAC\nCALL/M(A),(R)\n",
+            2,
+        ),
+    ] {
+        assert_eq!(rt;
+            count_of(rt.alloc(), statements),
+            Some(count),
+            "{statements}"
+        );
+    }
+}
+
+#[test]
+fn refused_macros(rt: HostRuntime) {
+    for (statements, code, line) in [
+        ("CALL/M(A)\nM(A)=MACRO\nENDMAC\n", FaultCode::UnknownName, 3),
+        (
+            "M(A)=MACRO\nCALL/M(B)\nENDMAC\nM(B)=MACRO\nENDMAC\nCALL/M(A)\n",
+            FaultCode::UnknownName,
+            4,
+        ),
+        (
+            "M(A)=MACRO\nCALL/M(A)\nENDMAC\nCALL/M(A)\n",
+            FaultCode::UnknownName,
+            4,
+        ),
+        (
+            "M(A)=MACRO\nIF/(1.EQ.1)\nENDMAC\n",
+            FaultCode::Unbalanced,
+            5,
+        ),
+        ("M(A)=MACRO\nENDDO\nENDMAC\n", FaultCode::Unbalanced, 4),
+        (
+            "M(A)=MACRO\nENDMAC\nM(A)=MACRO\nENDMAC\n",
+            FaultCode::DuplicateName,
+            5,
+        ),
+        ("M(A)=MACRO/X,X\nENDMAC\n", FaultCode::DuplicateName, 3),
+        (
+            "M(A)=MACRO/X\nDECL/INTGR,X\nENDMAC\n",
+            FaultCode::DuplicateName,
+            4,
+        ),
+        (
+            "M(A)=MACRO\nM(B)=MACRO\nENDMAC\nENDMAC\n",
+            FaultCode::BadOrder,
+            4,
+        ),
+        ("ENDMAC\n", FaultCode::BadOrder, 3),
+        ("M(A)=MACRO\n", FaultCode::BadOrder, 4),
+        (
+            "M(A)=MACRO\nENDMAC\nCALL/M(A),1\n",
+            FaultCode::BadArguments,
+            5,
+        ),
+        (
+            "M(A)=MACRO/'P'\nENDMAC\nCALL/M(A),1+2\n",
+            FaultCode::BadArguments,
+            5,
+        ),
+        (
+            "DECL/INTGR,R\nM(A)=MACRO/X\nX=ASSIGN/1\nENDMAC\nCALL/M(A),R+0\n",
+            FaultCode::BadArguments,
+            7,
+        ),
+        (
+            "M(A)=MACRO\nT=ASSIGN/1\nENDMAC\nCALL/M(A)\n",
+            FaultCode::UnknownName,
+            4,
+        ),
+        (
+            "M(A)=MACRO\nDECL/INTGR,T\nENDMAC\nCALL/M(A)\nT=ASSIGN/1\n",
+            FaultCode::UnknownName,
+            7,
+        ),
+        (
+            "M(A)=MACRO\nJUMPTO/(L)\nENDMAC\n(L)\nCALL/M(A)\n",
+            FaultCode::UnknownName,
+            4,
+        ),
+        ("M(A)=MACRO/1X\nENDMAC\n", FaultCode::BadSyntax, 3),
+        (
+            "M(A)=MACRO\nENDMAC\nCALL/M(A),'a b'\n",
+            FaultCode::BadSyntax,
+            5,
+        ),
+    ] {
+        assert_eq!(rt;
+            refusal(rt.alloc(), statements),
+            Some(SourceFault { code, line }),
+            "{statements}"
+        );
+    }
+}
+
+// So many macros, the first one empty, each after it with these calls of the one above, and a call of the last one.
+fn tower(
+    alloc: Global,
+    macros: u32,
+    parameter: &str,
+    calls: &[&str],
+    argument: &str,
+) -> Option<String> {
+    let mut text = String::new(alloc);
+    text.push_str(
+        format!(in alloc; "M(A1)=MACRO{parameter}\nENDMAC\n")
+            .ok()?
+            .as_str(),
+    )
+    .ok()?;
+    for number in 2..macros + 1 {
+        text.push_str(
+            format!(in alloc; "M(A{number})=MACRO{parameter}\n")
+                .ok()?
+                .as_str(),
+        )
+        .ok()?;
+        for call in calls {
+            let above = number - 1;
+            text.push_str(format!(in alloc; "CALL/M(A{above}){call}\n").ok()?.as_str())
+                .ok()?;
+        }
+        text.push_str("ENDMAC\n").ok()?;
+    }
+    text.push_str(
+        format!(in alloc; "CALL/M(A{macros}){argument}\n")
+            .ok()?
+            .as_str(),
+    )
+    .ok()?;
+    Some(text)
+}
+
+// The refusal of such macros.
+fn toppled(
+    alloc: Global,
+    macros: u32,
+    parameter: &str,
+    calls: &[&str],
+    argument: &str,
+) -> Option<SourceFault> {
+    refusal(alloc, &tower(alloc, macros, parameter, calls, argument)?)
+}
+
+// How many statements are left of a chain of so many macros, each with one call of the one above it.
+fn chained(alloc: Global, macros: u32) -> Option<usize> {
+    count_of(alloc, &tower(alloc, macros, "", &[""], "")?)
+}
+
+#[test]
+fn towers_of_macros(rt: HostRuntime) {
+    assert_eq!(rt; chained(rt.alloc(), 16), Some(1));
+    for (macros, parameter, calls, argument, code, line) in [
+        (17, "", [""].as_slice(), "", FaultCode::TooLong, 6),
+        (16, "", ["", ""].as_slice(), "", FaultCode::TooLong, 10),
+        (16, "/A", [",A*A"].as_slice(), ",1", FaultCode::TooDeep, 24),
+    ] {
+        let found = toppled(rt.alloc(), macros, parameter, calls, argument);
+        assert_eq!(rt; found, Some(SourceFault { code, line }), "{line}");
+    }
+}
