@@ -40,11 +40,18 @@ fn framed(alloc: Global, lines: &[u8]) -> Option<Vec<u8>> {
     Some(text)
 }
 
-// The code of the program with these lines from 3 on.
-fn code_of(alloc: Global, lines: &[u8]) -> Option<Code> {
+// Whether the program with these lines from 3 on has a valid code that passes a test. No other function here owns a code.
+fn has_code<F: Fn(&Code) -> bool>(alloc: Global, lines: &[u8], test: F) -> Option<bool>
+    requires { F.IsAlwaysCallable test }
+{
     let text = framed(alloc, lines)?;
-    let program = accept(alloc, &text).ok()?;
-    assemble(alloc, &program).ok()
+    match &accept(alloc, &text) {
+        Ok(program) => match &assemble(alloc, program) {
+            Ok(code) => Some(is_valid(alloc, code) && test(code)),
+            Err(_) => None,
+        },
+        Err(_) => None,
+    }
 }
 
 // Whether the statements of a code are these.
@@ -63,8 +70,7 @@ fn are_rows(code: &Code, rows: &[Row]) -> bool {
 
 // Whether the program with these lines from 3 on has a valid code with these statements.
 fn is_assembled(alloc: Global, lines: &[u8], rows: &[Row]) -> Option<bool> {
-    let code = code_of(alloc, lines)?;
-    Some(is_valid(alloc, &code) && are_rows(&code, rows))
+    has_code(alloc, lines, |code| are_rows(code, rows))
 }
 
 #[test]
@@ -149,26 +155,36 @@ fn nested(alloc: Global, count: usize) -> Option<Vec<u8>> {
     Some(lines)
 }
 
-// Whether the loops of 32, each in the one before, have the pairs 0 to 31 from the outside in, and back.
-fn each_has_its_pair(alloc: Global) -> Option<bool> {
-    let lines = nested(alloc, 32)?;
-    let code = code_of(alloc, &lines)?;
+// Whether the statement at a place of 32 loops, each in the one before, is the one that stands there: the pairs are 0 to 31 from the outside
+// in, and back.
+fn is_in_its_place(op: &OwnedOp, place: usize) -> bool {
+    let (word, target, pair) = parts(op);
+    let wanted: (&[u8], usize, usize) = match place {
+        0..32 => (b"DO", 64 - place, place),
+        32..64 => (b"ENDDO", 64 - place, 63 - place),
+        _ => (b"ENDFIL", 0, 0),
+    };
+    (word, target as usize, usize::from(pair)) == wanted
+}
+
+// Whether the statements of a code are such loops.
+fn each_has_its_pair(code: &Code) -> bool {
     let statements = code.statements.as_slice();
-    for (depth, statement) in statements.iter().enumerate() {
-        let (word, target, pair) = parts(&statement.op);
-        let wanted: (&[u8], usize, usize) = match depth {
-            0..32 => (b"DO", 64 - depth, depth),
-            32..64 => (b"ENDDO", 64 - depth, 63 - depth),
-            _ => (b"ENDFIL", 0, 0),
-        };
-        if (word, target as usize, usize::from(pair)) != wanted {
-            return Some(false);
+    for (place, statement) in statements.iter().enumerate() {
+        if !is_in_its_place(&statement.op, place) {
+            return false;
         }
     }
-    Some(statements.len() == 65 && is_valid(alloc, &code))
+    statements.len() == 65
+}
+
+// Whether the program of so many loops has such a code.
+fn pairs_of(alloc: Global, count: usize) -> Option<bool> {
+    let lines = nested(alloc, count)?;
+    has_code(alloc, &lines, |code| each_has_its_pair(code))
 }
 
 #[test]
 fn pairs(rt: HostRuntime) {
-    assert_eq!(rt; each_has_its_pair(rt.alloc()), Some(true));
+    assert_eq!(rt; pairs_of(rt.alloc(), 32), Some(true));
 }

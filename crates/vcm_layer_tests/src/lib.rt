@@ -16,8 +16,6 @@ mod part_tests;
 #[cfg(test)]
 mod parts;
 #[cfg(test)]
-mod state_tests;
-#[cfg(test)]
 mod syntax_tests;
 #[cfg(test)]
 mod tree_tests;

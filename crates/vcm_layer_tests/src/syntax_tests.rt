@@ -6,51 +6,58 @@ use vcm_lines::{FaultCode, Logical, SourceFault, logical_lines};
 use vcm_num::{Items, Kind, Literal};
 use vcm_syntax::{Form, Notice, Rounds, Statement, parse_statement};
 
-/// What the statement at a place of a text is, the first one being 0.
-fn parsed(rt: &HostRuntime, text: &[u8], place: usize) -> Option<Result<Statement, SourceFault>> {
-    let lines = logical_lines(rt.alloc(), text).ok()?;
-    let logical = lines.as_slice().get(place)?;
-    Some(parse_statement(rt.alloc(), logical))
+/// Whether the reading of a statement passes a test. No other function here owns a statement.
+fn judged<F: Fn(&Result<Statement, SourceFault>) -> bool>(
+    rt: &HostRuntime,
+    logical: &Logical,
+    test: F,
+) -> bool
+    requires { F.IsAlwaysCallable test }
+{
+    test(&parse_statement(rt.alloc(), logical))
 }
 
-/// The form of a statement that is taken.
-fn form(rt: &HostRuntime, text: &[u8]) -> Option<Form> {
-    Some(parsed(rt, text, 0)?.ok()?.form)
+/// Whether a reading is this refusal.
+fn is_fault(reading: &Result<Statement, SourceFault>, code: FaultCode, line: u32) -> bool {
+    match reading {
+        Ok(_) => false,
+        Err(fault) => *fault == SourceFault { code, line },
+    }
 }
 
-/// The refusal of the statement at a place.
-fn refusal(rt: &HostRuntime, text: &[u8], place: usize) -> Option<SourceFault> {
-    parsed(rt, text, place)?.err()
+/// Whether the first statement of a text is taken, and what it says passes a test.
+fn says<F: Fn(&Form) -> bool>(rt: &HostRuntime, text: &[u8], test: F) -> bool
+    requires { F.IsAlwaysCallable test }
+{
+    let Ok(lines) = logical_lines(rt.alloc(), text) else {
+        return false;
+    };
+    match lines.as_slice().first() {
+        Some(logical) => judged(rt, logical, |reading| match reading {
+            Ok(statement) => test(&statement.form),
+            Err(_) => false,
+        }),
+        None => false,
+    }
 }
 
 /// Whether a statement is taken.
 fn is_taken(rt: &HostRuntime, text: &[u8]) -> bool {
-    form(rt, text).is_some()
+    says(rt, text, |_form| true)
 }
 
-/// Whether a statement is refused with this code, on line 1.
-fn is_refused(rt: &HostRuntime, text: &[u8], code: FaultCode) -> bool {
-    refusal(rt, text, 0) == Some(SourceFault { code, line: 1 })
-}
-
-/// Whether a statement is counted, where it is taken.
-fn counts(rt: &HostRuntime, logical: &Logical) -> Option<bool> {
-    let statement = parse_statement(rt.alloc(), logical).ok()?;
-    Some(statement.form.is_counted())
-}
-
-/// The word of a statement that has no effect.
-fn notice(rt: &HostRuntime, text: &[u8]) -> Option<Notice> {
-    match &form(rt, text)? {
-        Form::Ignored(notice) => Some(*notice),
-        _ => None,
+/// Whether a form is ignored, with this word.
+fn is_notice(form: &Form, word: Notice) -> bool {
+    match form {
+        Form::Ignored(found) => *found == word,
+        _ => false,
     }
 }
 
-/// Whether a statement prints this line.
-fn says(rt: &HostRuntime, text: &[u8], line: &[u8]) -> bool {
-    match &form(rt, text) {
-        Some(Form::Say(found)) => found.as_bytes() == line,
+/// Whether a form prints this line.
+fn is_line(form: &Form, line: &[u8]) -> bool {
+    match form {
+        Form::Say(found) => found.as_bytes() == line,
         _ => false,
     }
 }
@@ -79,11 +86,11 @@ fn is_variable(e: &Expr, bytes: &[u8]) -> bool {
     }
 }
 
-/// Whether a statement is a move to three numbers, each with its sign if it has one.
-fn goes_to(rt: &HostRuntime, text: &[u8], numbers: [(Option<Prefix>, Literal); 3]) -> bool {
+/// Whether a form is a move to three numbers, each with its sign if it has one.
+fn goes_to(form: &Form, numbers: [(Option<Prefix>, Literal); 3]) -> bool {
     let [x, y, z] = numbers;
-    match &form(rt, text) {
-        Some(Form::Move(place)) => {
+    match form {
+        Form::Move(place) => {
             is_number(&place.x, x.0, x.1)
                 && is_number(&place.y, y.0, y.1)
                 && is_number(&place.z, z.0, z.1)
@@ -92,10 +99,10 @@ fn goes_to(rt: &HostRuntime, text: &[u8], numbers: [(Option<Prefix>, Literal); 3
     }
 }
 
-/// Whether a statement is a move to the values of three variables.
-fn goes_by(rt: &HostRuntime, text: &[u8], x: &[u8], y: &[u8], z: &[u8]) -> bool {
-    match &form(rt, text) {
-        Some(Form::Move(place)) => {
+/// Whether a form is a move to the values of three variables.
+fn goes_by(form: &Form, x: &[u8], y: &[u8], z: &[u8]) -> bool {
+    match form {
+        Form::Move(place) => {
             is_variable(&place.x, x) && is_variable(&place.y, y) && is_variable(&place.z, z)
         }
         _ => false,
@@ -118,36 +125,30 @@ fn ends(names: &Items<VariableName>, second: Option<&[u8]>) -> bool {
     }
 }
 
-/// Whether a statement declares variables of this kind with these two names, or with the first one alone.
-fn declares(
-    rt: &HostRuntime,
-    text: &[u8],
-    kind: Kind,
-    first: &[u8],
-    second: Option<&[u8]>,
-) -> bool {
-    match &form(rt, text) {
-        Some(Form::Declaration(found, names)) => {
+/// Whether a form declares variables of this kind with these two names, or with the first one alone.
+fn declares(form: &Form, kind: Kind, first: &[u8], second: Option<&[u8]>) -> bool {
+    match form {
+        Form::Declaration(found, names) => {
             *found == kind && has_name(names, 0, first) && ends(names, second)
         }
         _ => false,
     }
 }
 
-/// Whether a statement assigns this number to a variable of this name.
-fn assigns(rt: &HostRuntime, text: &[u8], name: &[u8], number: Literal) -> bool {
-    match &form(rt, text) {
-        Some(Form::Assignment(target, value)) => {
+/// Whether a form assigns this number to a variable of this name.
+fn assigns(form: &Form, name: &[u8], number: Literal) -> bool {
+    match form {
+        Form::Assignment(target, value) => {
             target.name.as_bytes() == name && is_number(value, None, number)
         }
         _ => false,
     }
 }
 
-/// Whether a statement tests this variable.
-fn tests(rt: &HostRuntime, text: &[u8], name: &[u8]) -> bool {
-    match &form(rt, text) {
-        Some(Form::Test(e)) => is_variable(e, name),
+/// Whether a form tests this variable.
+fn tests(form: &Form, name: &[u8]) -> bool {
+    match form {
+        Form::Test(e) => is_variable(e, name),
         _ => false,
     }
 }
@@ -161,17 +162,10 @@ fn steps_by(rounds: &Rounds, increment: Option<i64>) -> bool {
     }
 }
 
-/// Whether a statement repeats by a variable, from one whole number to another.
-fn repeats(
-    rt: &HostRuntime,
-    text: &[u8],
-    name: &[u8],
-    from: i64,
-    to: i64,
-    by: Option<i64>,
-) -> bool {
-    match &form(rt, text) {
-        Some(Form::Repeat(rounds)) => {
+/// Whether a form repeats by a variable, from one whole number to another.
+fn repeats(form: &Form, name: &[u8], from: i64, to: i64, by: Option<i64>) -> bool {
+    match form {
+        Form::Repeat(rounds) => {
             rounds.variable.name.as_bytes() == name
                 && is_whole(&rounds.initial, from)
                 && is_whole(&rounds.limit, to)
@@ -197,59 +191,59 @@ fn is_leap(form: &Form, name: &[u8]) -> bool {
     }
 }
 
-/// Whether a statement is a jump label of this name.
-fn marks(rt: &HostRuntime, text: &[u8], name: &[u8]) -> bool {
-    match form(rt, text) {
-        Some(form) => is_mark(&form, name),
-        None => false,
-    }
-}
-
-/// Whether a statement goes to the jump label of this name.
-fn leaps(rt: &HostRuntime, text: &[u8], name: &[u8]) -> bool {
-    match form(rt, text) {
-        Some(form) => is_leap(&form, name),
-        None => false,
-    }
-}
-
 #[test]
 fn statements(rt: HostRuntime) {
     assert!(rt;
-        matches!(form(&rt, b"DMISMN/'part', 1 .EQ. ("), Some(Form::Opening))
-            && matches!(form(&rt, b"units / mm, angdec, temp"), Some(Form::Measures))
-            && matches!(form(&rt, b"ENDFIL"), Some(Form::Ending))
-            && matches!(form(&rt, b"GOHOME"), Some(Form::Home))
-            && says(&rt, b"TEXT/OPER,'a $$ b'", b"a $$ b")
+        says(
+            &rt,
+            b"DMISMN/'part', 1 .EQ. (",
+            |form| matches!(form, Form::Opening)
+        ) && says(
+            &rt,
+            b"units / mm, angdec, temp",
+            |form| matches!(form, Form::Measures)
+        ) && says(&rt, b"ENDFIL", |form| matches!(form, Form::Ending))
+            && says(&rt, b"GOHOME", |form| matches!(form, Form::Home))
+            && says(&rt, b"TEXT/OPER,'a $$ b'", |form| is_line(form, b"a $$ b"))
     );
 }
 
 #[test]
 fn blocks(rt: HostRuntime) {
     assert!(rt;
-        tests(&rt, b"IF/(A)", b"A")
-            && matches!(form(&rt, b"ELSE"), Some(Form::Otherwise))
-            && matches!(form(&rt, b"ENDIF"), Some(Form::TestEnd))
-            && matches!(form(&rt, b"ENDDO"), Some(Form::RepeatEnd))
-    );
-}
-
-#[test]
-fn loops(rt: HostRuntime) {
-    assert!(rt;
-        repeats(&rt, b"DO/I,1,3", b"I", 1, 3, None)
-            && repeats(&rt, b"do/i_1, 1, 3, 2", b"I_1", 1, 3, Some(2))
+        says(&rt, b"IF/(A)", |form| tests(form, b"A"))
+            && says(&rt, b"ELSE", |form| matches!(form, Form::Otherwise))
+            && says(&rt, b"ENDIF", |form| matches!(form, Form::TestEnd))
+            && says(&rt, b"DO/I,1,3", |form| repeats(form, b"I", 1, 3, None))
+            && says(
+                &rt,
+                b"do/i_1, 1, 3, 2",
+                |form| repeats(form, b"I_1", 1, 3, Some(2))
+            )
+            && says(&rt, b"ENDDO", |form| matches!(form, Form::RepeatEnd))
     );
 }
 
 #[test]
 fn labels(rt: HostRuntime) {
     assert!(rt;
-        marks(&rt, b"(AGAIN)", b"AGAIN")
-            && marks(&rt, b"( 1_long_label_123 )", b"1_LONG_LABEL_123")
-            && leaps(&rt, b"JUMPTO/(1)", b"1")
-            && leaps(&rt, b"jumpto / (again)", b"AGAIN")
+        says(&rt, b"(AGAIN)", |form| is_mark(form, b"AGAIN"))
+            && says(
+                &rt,
+                b"( 1_long_label_123 )",
+                |form| is_mark(form, b"1_LONG_LABEL_123")
+            )
+            && says(&rt, b"JUMPTO/(1)", |form| is_leap(form, b"1"))
+            && says(&rt, b"jumpto / (again)", |form| is_leap(form, b"AGAIN"))
     );
+}
+
+/// Whether a statement is taken, and counted or not.
+fn counts(rt: &HostRuntime, logical: &Logical, is_counted: bool) -> bool {
+    judged(rt, logical, |reading| match reading {
+        Ok(statement) => statement.form.is_counted() == is_counted,
+        Err(_) => false,
+    })
 }
 
 /// Whether all statements of a text, one on each line, are taken, and counted or not.
@@ -258,7 +252,7 @@ fn all_counted(rt: &HostRuntime, text: &[u8], is_counted: bool, count: usize) ->
         return false;
     };
     for logical in lines.as_slice() {
-        if counts(rt, logical) != Some(is_counted) {
+        if !counts(rt, logical, is_counted) {
             return false;
         }
     }
@@ -286,26 +280,28 @@ fn counted(rt: HostRuntime) {
     assert!(rt; all_counted(&rt, others, false, 4) && all_counted(&rt, steps, true, 12));
 }
 
-/// Whether three numbers are read, each with its sign and its decimals.
-fn numbers_are_read(rt: &HostRuntime) -> bool {
-    let whole = [
-        (None, Literal::Int(20)),
-        (None, Literal::Int(20)),
-        (None, Literal::Int(50)),
-    ];
-    let parts = [
-        (Some(Prefix::Minus), Literal::Thousandths(1500)),
-        (Some(Prefix::Plus), Literal::Int(2)),
-        (None, Literal::Thousandths(500)),
-    ];
-    goes_to(rt, b"GOTO/20,20,50", whole) && goes_to(rt, b"GOTO/CART,-1.5,+2,.5", parts)
-}
+const WHOLE: [(Option<Prefix>, Literal); 3] = [
+    (None, Literal::Int(20)),
+    (None, Literal::Int(20)),
+    (None, Literal::Int(50)),
+];
+
+const PARTS: [(Option<Prefix>, Literal); 3] = [
+    (Some(Prefix::Minus), Literal::Thousandths(1500)),
+    (Some(Prefix::Plus), Literal::Int(2)),
+    (None, Literal::Thousandths(500)),
+];
 
 #[test]
 fn moves(rt: HostRuntime) {
     assert!(rt;
-        numbers_are_read(&rt)
-            && goes_by(&rt, b"GOTO/CART,A,B", b"CART", b"A", b"B")
+        says(&rt, b"GOTO/20,20,50", |form| goes_to(form, WHOLE))
+            && says(&rt, b"GOTO/CART,-1.5,+2,.5", |form| goes_to(form, PARTS))
+            && says(
+                &rt,
+                b"GOTO/CART,A,B",
+                |form| goes_by(form, b"CART", b"A", b"B")
+            )
             && is_taken(&rt, b"GOTO/X,X+0,50.0")
             && is_taken(&rt, b"GOTO/1+1,0,0")
     );
@@ -314,27 +310,46 @@ fn moves(rt: HostRuntime) {
 #[test]
 fn declarations(rt: HostRuntime) {
     assert!(rt;
-        declares(&rt, b"DECL/REAL,X", Kind::Real, b"X", None)
-            && declares(&rt, b"DECL/LONG,I", Kind::Int, b"I", None)
-            && declares(&rt, b"DECL/DOUBLE,D", Kind::Real, b"D", None)
-            && declares(&rt, b"DECL/COMMON,INTGR,I_", Kind::Int, b"I_", None)
-            && declares(
-                &rt,
-                b"decl/local,bool,flag_1,b",
-                Kind::Bool,
-                b"FLAG_1",
-                Some(b"B")
-            )
+        says(
+            &rt,
+            b"DECL/REAL,X",
+            |form| declares(form, Kind::Real, b"X", None)
+        ) && says(
+            &rt,
+            b"DECL/LONG,I",
+            |form| declares(form, Kind::Int, b"I", None)
+        ) && says(
+            &rt,
+            b"DECL/DOUBLE,D",
+            |form| declares(form, Kind::Real, b"D", None)
+        ) && says(
+            &rt,
+            b"DECL/COMMON,INTGR,I_",
+            |form| declares(form, Kind::Int, b"I_", None)
+        ) && says(
+            &rt,
+            b"decl/local,bool,flag_1,b",
+            |form| declares(form, Kind::Bool, b"FLAG_1", Some(b"B"))
+        )
     );
 }
 
 #[test]
 fn assignments(rt: HostRuntime) {
     assert!(rt;
-        assigns(&rt, b"X=ASSIGN/12.3450", b"X", Literal::Thousandths(12345))
-            && assigns(&rt, b"X=ASSIGN/.5", b"X", Literal::Thousandths(500))
-            && assigns(&rt, b"X=ASSIGN/12.", b"X", Literal::Thousandths(12000))
-            && is_taken(&rt, b"I=ASSIGN/1/0")
+        says(
+            &rt,
+            b"X=ASSIGN/12.3450",
+            |form| assigns(form, b"X", Literal::Thousandths(12345))
+        ) && says(
+            &rt,
+            b"X=ASSIGN/.5",
+            |form| assigns(form, b"X", Literal::Thousandths(500))
+        ) && says(
+            &rt,
+            b"X=ASSIGN/12.",
+            |form| assigns(form, b"X", Literal::Thousandths(12000))
+        ) && is_taken(&rt, b"I=ASSIGN/1/0")
     );
 }
 
@@ -360,35 +375,47 @@ fn nested_test(rt: &HostRuntime, count: usize) -> Option<Vec<u8>> {
     repeated(rt, &front, b")", count, b")")
 }
 
+/// Whether so many additions behind a number are taken.
+fn adds(rt: &HostRuntime, count: usize) -> Option<bool> {
+    Some(is_taken(rt, &repeated(rt, b"X=ASSIGN/1", b"+1", count, b"")?))
+}
+
+/// Whether a test in so many pairs of parentheses is taken.
+fn nests(rt: &HostRuntime, count: usize) -> Option<bool> {
+    Some(is_taken(rt, &nested_test(rt, count)?))
+}
+
+/// Whether one addition more, and one pair more, are too deep.
+fn are_too_deep(rt: &HostRuntime) -> Option<bool> {
+    let adding = repeated(rt, b"X=ASSIGN/1", b"+1", 32, b"")?;
+    let nesting = nested_test(rt, 33)?;
+    let code = FaultCode::TooDeep;
+    Some(all_refused(rt, &adding, code, 1) && all_refused(rt, &nesting, code, 1))
+}
+
 #[test]
 fn deepest(rt: HostRuntime) {
-    assert!(rt;
-        repeated(&rt, b"X=ASSIGN/1", b"+1", 31, b"").is_some_and(|text| is_taken(&rt, &text))
-            && repeated(&rt, b"X=ASSIGN/1", b"+1", 32, b"").is_some_and(|text| is_refused(
-                &rt,
-                &text,
-                FaultCode::TooDeep
-            ))
-            && nested_test(&rt, 32).is_some_and(|text| tests(&rt, &text, b"A"))
-            && nested_test(&rt, 33).is_some_and(|text| is_refused(&rt, &text, FaultCode::TooDeep))
-    );
+    let taken = adds(&rt, 31) == Some(true) && nests(&rt, 32) == Some(true);
+    assert!(rt; taken && are_too_deep(&rt) == Some(true));
 }
 
 #[test]
 fn notices(rt: HostRuntime) {
     assert!(rt;
-        notice(&rt, b"MODE/MAN") == Some(Notice::Mode)
+        says(&rt, b"MODE/MAN", |form| is_notice(form, Notice::Mode))
             && Notice::Mode.word() == b"MODE".as_slice()
-            && notice(&rt, b"S(P_1)=SNSDEF/.FOO.,'x'") == Some(Notice::Snsdef)
-            && notice(&rt, b"V(1)=VFORM/ALL") == Some(Notice::Vform)
+            && says(
+                &rt,
+                b"S(P_1)=SNSDEF/.FOO.,'x'",
+                |form| is_notice(form, Notice::Snsdef)
+            )
+            && says(
+                &rt,
+                b"V(1)=VFORM/ALL",
+                |form| is_notice(form, Notice::Vform)
+            )
             && Notice::Vform.word() == b"VFORM".as_slice()
     );
-}
-
-/// Whether a statement is refused with this code, at its line.
-fn is_told(rt: &HostRuntime, logical: &Logical, code: FaultCode) -> bool {
-    let line = logical.line;
-    parse_statement(rt.alloc(), logical).err() == Some(SourceFault { code, line })
 }
 
 /// Whether so many statements stand in a text, one on each line, and all are refused with this code, each at its line.
@@ -397,7 +424,8 @@ fn all_refused(rt: &HostRuntime, text: &[u8], code: FaultCode, count: usize) -> 
         return false;
     };
     for logical in lines.as_slice() {
-        if !is_told(rt, logical, code) {
+        let line = logical.line;
+        if !judged(rt, logical, |reading| is_fault(reading, code, line)) {
             return false;
         }
     }
@@ -653,12 +681,19 @@ fn leftmost_of_labels_and_texts(rt: HostRuntime) {
     );
 }
 
+/// Whether the last statement of a text is refused with this code and line.
+fn last_is_refused(rt: &HostRuntime, text: &[u8], code: FaultCode, line: u32) -> bool {
+    let Ok(lines) = logical_lines(rt.alloc(), text) else {
+        return false;
+    };
+    match lines.as_slice().last() {
+        Some(logical) => judged(rt, logical, |reading| is_fault(reading, code, line)),
+        None => false,
+    }
+}
+
 #[test]
 fn lines_of_faults(rt: HostRuntime) {
-    let unsupported = SourceFault {
-        code: FaultCode::Unsupported,
-        line: 3,
-    };
     let text = b"DMISMN/'A'\nUNITS/MM,ANGDEC\nDECL/CHAR,10,C";
-    assert!(rt; refusal(&rt, text, 2) == Some(unsupported));
+    assert!(rt; last_is_refused(&rt, text, FaultCode::Unsupported, 3));
 }

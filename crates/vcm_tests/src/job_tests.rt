@@ -9,17 +9,20 @@ use vcm_lines::{FaultCode, SourceFault};
 use vcm_syntax::Notice;
 use vcm_tree::Noticed;
 
-// What a job answers, and what it writes.
-fn answer_of(
+// Whether what a job answers and writes passes a test. No other function here owns an answer.
+fn judged<F: Fn(&Result<Done, JobFault>, &[u8]) -> bool>(
     alloc: Global,
     blocks: &str,
     program: &str,
-) -> Option<(Result<Done, JobFault>, Vec<u8>)> {
+    test: F,
+) -> Option<bool>
+    requires { F.IsAlwaysCallable test }
+{
     let text = job_of(alloc, blocks, program)?;
     let mut input = text.as_bytes();
     let mut out = Vec::new(alloc);
     let answer = job(alloc, &mut input, &mut out);
-    Some((answer, out))
+    Some(test(&answer, &out))
 }
 
 // Whether a job of these statements beside these blocks prints this, with this exit status.
@@ -27,24 +30,26 @@ fn prints(alloc: Global, blocks: &str, statements: &str, output: &str, status: u
     let Some(program) = program_of(alloc, statements) else {
         return false;
     };
-    let Some((answer, out)) = answer_of(alloc, blocks, program.as_str()) else {
-        return false;
-    };
-    let is_same = out.as_slice() == output.as_bytes();
-    match answer {
-        Ok(done) => is_same && done.status == status,
-        Err(_) => false,
-    }
+    let found = judged(
+        alloc,
+        blocks,
+        program.as_str(),
+        |answer, out| match answer {
+            Ok(done) => done.status == status && out == output.as_bytes(),
+            Err(_) => false,
+        },
+    );
+    found == Some(true)
 }
 
 // Whether a program is refused with this code at this line, and its job writes nothing.
 fn is_refused(alloc: Global, program: &str, code: FaultCode, line: u32) -> bool {
-    match answer_of(alloc, ONE_BLOCK, program) {
-        Some((Err(fault), out)) => {
-            out.is_empty() && job_message(fault) == source_message(SourceFault { code, line })
-        }
-        _ => false,
-    }
+    let told = source_message(SourceFault { code, line });
+    let found = judged(alloc, ONE_BLOCK, program, |answer, out| match answer {
+        Ok(_) => false,
+        Err(fault) => job_message(*fault) == told && out.is_empty(),
+    });
+    found == Some(true)
 }
 
 // Whether the program of these statements is refused so.
@@ -174,6 +179,11 @@ fn moves_and_assignments(rt: HostRuntime) {
             3,
         ),
         (
+            "GOTO/50,0,100\nGOTO/50,50,-100\nGOHOME\n",
+            "stop COLLISION MOVE block 1 permille 500 at 2 line 5\nposition 50.000 50.000 -100.000\nsteps 3\n",
+            3,
+        ),
+        (
             "GOTO/20,20,10\nGOHOME\n",
             "stop COLLISION MOVE block 1 permille 888 at 0 line 3\nposition 0.000 0.000 100.000\nsteps 1\n",
             3,
@@ -186,26 +196,25 @@ fn moves_and_assignments(rt: HostRuntime) {
     }
 }
 
-// The notices of a job of these statements.
-fn notices_of(alloc: Global, statements: &str) -> Option<Vec<Noticed>> {
-    let program = program_of(alloc, statements)?;
-    let (answer, _) = answer_of(alloc, ONE_BLOCK, program.as_str())?;
-    Some(answer.ok()?.notices)
-}
-
 // Whether a job of these statements gives one notice, of this line and word.
-fn notices(alloc: Global, statements: &str, notice: Noticed) -> bool {
-    match notices_of(alloc, statements) {
-        Some(notices) => notices.as_slice() == [notice].as_slice(),
-        None => false,
-    }
+fn notices(alloc: Global, statements: &str, notice: Noticed) -> Option<bool> {
+    let program = program_of(alloc, statements)?;
+    judged(
+        alloc,
+        ONE_BLOCK,
+        program.as_str(),
+        |answer, _out| match answer {
+            Ok(done) => done.notices.as_slice() == [notice].as_slice(),
+            Err(_) => false,
+        },
+    )
 }
 
 #[test]
 fn a_line_without_effect(rt: HostRuntime) {
     let line = 3;
     let word = Notice::Mode;
-    assert!(rt; notices(rt.alloc(), "MODE/MAN\n", Noticed { line, word }));
+    assert!(rt; notices(rt.alloc(), "MODE/MAN\n", Noticed { line, word }) == Some(true));
     let output = "stop ENDED\nposition 0.000 0.000 100.000\nsteps 1\n";
     assert!(rt; prints(rt.alloc(), ONE_BLOCK, "MODE/MAN\n", output, 0));
 }

@@ -22,4 +22,6 @@ mod plain;
 #[cfg(test)]
 mod run_tests;
 #[cfg(test)]
+mod runs;
+#[cfg(test)]
 mod texts;

@@ -1,44 +1,10 @@
 //! Macros, in whole programs.
 
-use crate::texts::{BOUNDS, ONE_BLOCK, joined, program_of};
+use crate::runs::{has_values, is_refused, prints};
+use crate::texts::{ONE_BLOCK, joined, program_of};
 use std::alloc::Global;
 use vcm_lines::{FaultCode, SourceFault};
-use vcm_motion::Blocks;
-use vcm_part::read_part;
-use vcm_run::{Summary, run_text, write_result};
 use vcm_tree::accept;
-
-// The summary of these statements beside one block, after 1,000,000 steps.
-fn summary(alloc: Global, statements: &str) -> Option<Summary> {
-    let file = joined(alloc, &[BOUNDS, ONE_BLOCK])?;
-    let part = read_part(alloc, file.as_bytes()).ok()?;
-    let program = program_of(alloc, statements)?;
-    run_text(alloc, &Blocks::new(&part), program.as_bytes(), 1_000_000).ok()
-}
-
-// Whether the run of these statements prints this.
-fn prints(alloc: Global, statements: &str, output: &str) -> bool {
-    let Some(summary) = summary(alloc, statements) else {
-        return false;
-    };
-    let mut out = Vec::new(alloc);
-    write_result(summary.world(), &summary.ran(), &mut out).is_ok()
-        && out.as_slice() == output.as_bytes()
-}
-
-// Whether the variables have these values behind all steps of a program.
-fn has_values(alloc: Global, statements: &str, values: &[i64]) -> bool {
-    match summary(alloc, statements) {
-        Some(summary) => summary.world().variables() == values,
-        None => false,
-    }
-}
-
-// The refusal of these statements.
-fn refusal(alloc: Global, statements: &str) -> Option<SourceFault> {
-    let program = program_of(alloc, statements)?;
-    accept(alloc, program.as_bytes()).err()
-}
 
 // How many statements these are, behind their expansion.
 fn count_of(alloc: Global, statements: &str) -> Option<usize> {
@@ -66,8 +32,14 @@ fn two_expansions(rt: HostRuntime) {
         ) else {
             panic!(rt; "want of memory");
         };
-        assert!(rt; prints(rt.alloc(), statements, &output), "{statements}");
-        assert!(rt; has_values(rt.alloc(), statements, values), "{statements}");
+        assert!(rt;
+            prints(rt.alloc(), ONE_BLOCK, statements, 100, &output),
+            "{statements}"
+        );
+        assert!(rt;
+            has_values(rt.alloc(), ONE_BLOCK, statements, values),
+            "{statements}"
+        );
     }
 }
 
@@ -168,9 +140,8 @@ fn refused_macros(rt: HostRuntime) {
             5,
         ),
     ] {
-        assert_eq!(rt;
-            refusal(rt.alloc(), statements),
-            Some(SourceFault { code, line }),
+        assert!(rt;
+            is_refused(rt.alloc(), statements, SourceFault { code, line }),
             "{statements}"
         );
     }
@@ -214,15 +185,17 @@ fn tower(
     Some(text)
 }
 
-// The refusal of such macros.
-fn toppled(
+// Whether such macros are refused so.
+fn is_toppled(
     alloc: Global,
     macros: u32,
     parameter: &str,
     calls: &[&str],
     argument: &str,
-) -> Option<SourceFault> {
-    refusal(alloc, &tower(alloc, macros, parameter, calls, argument)?)
+    fault: SourceFault,
+) -> Option<bool> {
+    let text = tower(alloc, macros, parameter, calls, argument)?;
+    Some(is_refused(alloc, &text, fault))
 }
 
 // How many statements are left of a chain of so many macros, each with one call of the one above it.
@@ -238,7 +211,61 @@ fn towers_of_macros(rt: HostRuntime) {
         (16, "", ["", ""].as_slice(), "", FaultCode::TooLong, 10),
         (16, "/A", [",A*A"].as_slice(), ",1", FaultCode::TooDeep, 24),
     ] {
-        let found = toppled(rt.alloc(), macros, parameter, calls, argument);
-        assert_eq!(rt; found, Some(SourceFault { code, line }), "{line}");
+        let fault = SourceFault { code, line };
+        let found = is_toppled(rt.alloc(), macros, parameter, calls, argument, fault);
+        assert!(rt; found == Some(true), "{line}");
     }
+}
+
+// A macro whose body is this line so many times, and so many calls of it.
+fn stretched(
+    alloc: Global,
+    head: &str,
+    line: &str,
+    lines: u32,
+    call: &str,
+    calls: u32,
+) -> Option<String> {
+    let mut text = String::new(alloc);
+    text.push_str(head).ok()?;
+    for _ in 0..lines {
+        text.push_str(line).ok()?;
+    }
+    text.push_str("ENDMAC\n").ok()?;
+    for _ in 0..calls {
+        text.push_str(call).ok()?;
+    }
+    Some(text)
+}
+
+// How many statements are left of so many calls of a macro with so many lines that have no effect.
+fn without_effect(alloc: Global, lines: u32, calls: u32) -> Option<usize> {
+    let text = stretched(
+        alloc,
+        "M(A)=MACRO\n",
+        "MODE/MAN\n",
+        lines,
+        "CALL/M(A)\n",
+        calls,
+    )?;
+    count_of(alloc, &text)
+}
+
+// Whether so many calls of a macro with so many assignments of its sixteen parameters are refused so.
+fn are_too_many(alloc: Global, lines: u32, calls: u32, fault: SourceFault) -> Option<bool> {
+    let head = "DECL/INTGR,R\nM(A)=MACRO/A,B,C,D,E,F,G,H,I,J,K,L,M,N,O,P\n";
+    let call = "CALL/M(A),R,R,R,R,R,R,R,R,R,R,R,R,R,R,R,R\n";
+    let text = stretched(alloc, head, "P=ASSIGN/1\n", lines, call, calls)?;
+    Some(is_refused(alloc, &text, fault))
+}
+
+// Bodies are gone through once for each definition, and not for each call beyond what the limits allow.
+#[test]
+fn long_bodies(rt: HostRuntime) {
+    assert_eq!(rt; without_effect(rt.alloc(), 9_900, 9_900), Some(1));
+    let fault = SourceFault {
+        code: FaultCode::TooLong,
+        line: 2001,
+    };
+    assert!(rt; are_too_many(rt.alloc(), 9_000, 9_000, fault) == Some(true));
 }

@@ -1,32 +1,18 @@
 //! Frames, settings, features and measurements, in whole programs.
 
-use crate::texts::{BOUNDS, ONE_BLOCK, joined, program_of};
+use crate::runs::{has_values, is_refused, prints};
+use crate::texts::{ONE_BLOCK, joined};
 use std::alloc::Global;
 use vcm_lines::{FaultCode, SourceFault};
-use vcm_motion::Blocks;
-use vcm_part::read_part;
-use vcm_run::{Refusal, Summary, run_text, write_result};
 
-// A second block, ten millimetres above the first one.
-const ROOF: &str = "[[block]]\nlow = [10000, 10000, 30000]\nhigh = [30000, 30000, 40000]\n";
-
-// The summary of these statements beside a part, after 100 steps.
-fn summary(alloc: Global, blocks: &[&str], statements: &str) -> Option<Summary> {
-    let file = joined(alloc, blocks)?;
-    let part = read_part(alloc, file.as_bytes()).ok()?;
-    let program = program_of(alloc, statements)?;
-    run_text(alloc, &Blocks::new(&part), program.as_bytes(), 100).ok()
-}
-
-// Whether the run of these statements beside a part prints this.
-fn prints(alloc: Global, blocks: &[&str], statements: &str, output: &str) -> bool {
-    let Some(summary) = summary(alloc, blocks, statements) else {
-        return false;
-    };
-    let mut out = Vec::new(alloc);
-    write_result(summary.world(), &summary.ran(), &mut out).is_ok()
-        && out.as_slice() == output.as_bytes()
-}
+// The block on the table, and a second one ten millimetres above it.
+const ROOFED: &str = "[[block]]
+low = [10000, 10000, 0]
+high = [30000, 30000, 20000]
+[[block]]
+low = [10000, 10000, 30000]
+high = [30000, 30000, 40000]
+";
 
 const TOUCHED: &str =
     "FA(P1)=FEAT/POINT,CART,20.000,20.000,20.000,0,0,1\nstop ENDED\nposition 20.000 20.000 22.000\nsteps 6\n";
@@ -64,7 +50,7 @@ fn a_measured_point(rt: HostRuntime) {
         ),
     ] {
         assert!(rt;
-            prints(rt.alloc(), &[BOUNDS, ONE_BLOCK], statements, output),
+            prints(rt.alloc(), ONE_BLOCK, statements, 100, output),
             "{statements}"
         );
     }
@@ -76,7 +62,7 @@ fn the_way_back_meets_another_block(rt: HostRuntime) {
         "SNSET/RETRCT,15\nF(P1)=FEAT/POINT,CART,20,20,20.5,0,0,1\nGOTO/0,20,25\nMEAS/POINT,F(P1),1\nPTMEAS/CART,20,20,20.5\nENDMES\n";
     let output =
         "stop COLLISION RETRACT block 2 permille 666 at 4 line 7\nposition 0.000 20.000 25.000\nsteps 5\n";
-    assert!(rt; prints(rt.alloc(), &[BOUNDS, ONE_BLOCK, ROOF], statements, output));
+    assert!(rt; prints(rt.alloc(), ROOFED, statements, 100, output));
 }
 
 #[test]
@@ -112,17 +98,9 @@ fn frames_and_settings(rt: HostRuntime) {
         ),
     ] {
         assert!(rt;
-            prints(rt.alloc(), &[BOUNDS, ONE_BLOCK], statements, output),
+            prints(rt.alloc(), ONE_BLOCK, statements, 100, output),
             "{statements}"
         );
-    }
-}
-
-// Whether the variables have these values behind the steps of a program.
-fn has_values(alloc: Global, statements: &str, values: &[i64]) -> bool {
-    match summary(alloc, &[BOUNDS, ONE_BLOCK], statements) {
-        Some(summary) => summary.world().variables() == values,
-        None => false,
     }
 }
 
@@ -143,21 +121,10 @@ fn words_of_features(rt: HostRuntime) {
         ),
     ];
     for (statements, values) in rows {
-        assert!(rt; has_values(rt.alloc(), statements, values), "{statements}");
-    }
-}
-
-// The refusal of these statements.
-fn refusal(alloc: Global, statements: &str) -> Option<SourceFault> {
-    let file = joined(alloc, &[BOUNDS, ONE_BLOCK])?;
-    let part = read_part(alloc, file.as_bytes()).ok()?;
-    let program = program_of(alloc, statements)?;
-    let Err(refusal) = run_text(alloc, &Blocks::new(&part), program.as_bytes(), 100) else {
-        return None;
-    };
-    match refusal {
-        Refusal::Source(fault) => Some(fault),
-        _ => None,
+        assert!(rt;
+            has_values(rt.alloc(), ONE_BLOCK, statements, values),
+            "{statements}"
+        );
     }
 }
 
@@ -198,8 +165,8 @@ fn refused_forms(rt: HostRuntime) {
         ("RECALL/F(P1)\n", FaultCode::BadSyntax, 3),
         ("SELECT/X\n", FaultCode::Unsupported, 3),
     ] {
-        let found = refusal(rt.alloc(), statements);
-        assert!(rt; found == Some(SourceFault { code, line }), "{statements}");
+        let fault = SourceFault { code, line };
+        assert!(rt; is_refused(rt.alloc(), statements, fault), "{statements}");
     }
 }
 
@@ -226,18 +193,18 @@ fn refused_names(rt: HostRuntime) {
         ),
         ("SNSET/APPRCH,1.EQ.1\n", FaultCode::BadType, 3),
     ] {
-        let found = refusal(rt.alloc(), statements);
-        assert!(rt; found == Some(SourceFault { code, line }), "{statements}");
+        let fault = SourceFault { code, line };
+        assert!(rt; is_refused(rt.alloc(), statements, fault), "{statements}");
     }
 }
 
 // What opens a measurement.
 const OPENED: &str = "F(P1)=FEAT/POINT,CART,0,0,0,0,0,1.0000\nMEAS/POINT,F(P1),1\n";
 
-// The refusal of a measurement with this body.
-fn body_refusal(alloc: Global, body: &str) -> Option<SourceFault> {
+// Whether a measurement with this body is refused so.
+fn is_refused_body(alloc: Global, body: &str, fault: SourceFault) -> Option<bool> {
     let statements = joined(alloc, &[OPENED, body])?;
-    refusal(alloc, statements.as_str())
+    Some(is_refused(alloc, statements.as_str(), fault))
 }
 
 #[test]
@@ -269,7 +236,10 @@ fn bodies_of_measurements(rt: HostRuntime) {
         ),
         ("PTMEAS/CART,0,0,0\n(L)\n", FaultCode::MeasBody, 6),
     ] {
-        let found = body_refusal(rt.alloc(), body);
-        assert!(rt; found == Some(SourceFault { code, line }), "{body}");
+        let fault = SourceFault { code, line };
+        assert!(rt;
+            is_refused_body(rt.alloc(), body, fault) == Some(true),
+            "{body}"
+        );
     }
 }

@@ -1,44 +1,33 @@
 //! Runs of whole programs, from their text, for so many steps.
 
 use crate::image_tests::{MOVE, changed, image_of};
-use crate::texts::{BOUNDS, ONE_BLOCK, joined, program_of};
+use crate::runs::{has_values, is_printed, is_refused, prints, shows};
+use crate::texts::{BOUNDS, ONE_BLOCK, joined};
 use std::alloc::Global;
 use vcm_fields::ImageFault;
 use vcm_lines::{FaultCode, SourceFault};
 use vcm_motion::Blocks;
-use vcm_part::{PartData, read_part};
-use vcm_run::{End, Ran, Refusal, Summary, run_image, run_text, write_result};
-
-// The part with one block.
-fn part(alloc: Global) -> Option<PartData> {
-    let file = joined(alloc, &[BOUNDS, ONE_BLOCK])?;
-    read_part(alloc, file.as_bytes()).ok()
-}
-
-// The summary of these statements beside one block, after so many steps.
-fn after_steps(alloc: Global, statements: &str, n: u64) -> Option<Summary> {
-    let part = part(alloc)?;
-    let program = program_of(alloc, statements)?;
-    run_text(alloc, &Blocks::new(&part), program.as_bytes(), n).ok()
-}
+use vcm_part::read_part;
+use vcm_run::{End, Ran, Summary, run_image};
+use vcm_spec::{Stop, StopPlace};
 
 // Whether a summary is that of these steps, this next number and one notice, and prints this.
 fn is_shown(alloc: Global, summary: &Summary, ran: Ran, next: u32, output: &str) -> bool {
-    let mut out = Vec::new(alloc);
-    let is_written = write_result(summary.world(), &summary.ran(), &mut out).is_ok();
     summary.ran() == ran
         && summary.next() == next
         && summary.notices().len() == 1
-        && is_written
-        && out.as_slice() == output.as_bytes()
+        && is_printed(alloc, summary, output)
 }
 
 // Whether the run of a move shows this after so many steps.
-fn shows(alloc: Global, n: u64, ran: Ran, next: u32, output: &str) -> bool {
-    match after_steps(alloc, "MODE/MAN\nGOTO/20,20,50\n", n) {
-        Some(summary) => is_shown(alloc, &summary, ran, next, output),
-        None => false,
-    }
+fn moves(alloc: Global, n: u64, ran: Ran, next: u32, output: &str) -> bool {
+    shows(
+        alloc,
+        ONE_BLOCK,
+        "MODE/MAN\nGOTO/20,20,50\n",
+        n,
+        |summary| { is_shown(alloc, summary, ran, next, output) },
+    )
 }
 
 #[test]
@@ -53,17 +42,9 @@ fn so_many_steps(rt: HostRuntime) {
         (5, 2, End::Stopped, 1, ended),
     ] {
         assert!(rt;
-            shows(rt.alloc(), n, Ran { done, end }, next, output),
+            moves(rt.alloc(), n, Ran { done, end }, next, output),
             "{output}"
         );
-    }
-}
-
-// Whether the variables have these values behind all steps of a program.
-fn has_values(alloc: Global, statements: &str, values: &[i64]) -> bool {
-    match after_steps(alloc, statements, 100) {
-        Some(summary) => summary.world().variables() == values,
-        None => false,
     }
 }
 
@@ -85,7 +66,10 @@ fn values(rt: HostRuntime) {
         ("DECL/BOOL,A\nA=ASSIGN/.TRUE.\nA=ASSIGN/.NOT.A\n", &[0]),
     ];
     for (statements, values) in rows {
-        assert!(rt; has_values(rt.alloc(), statements, values), "{statements}");
+        assert!(rt;
+            has_values(rt.alloc(), ONE_BLOCK, statements, values),
+            "{statements}"
+        );
     }
 }
 
@@ -107,16 +91,6 @@ const AGAIN: &str =
 
 // A jump out of a loop.
 const PAST: &str = "DECL/INTGR,I\nDO/I,1,5\nJUMPTO/(PAST)\nENDDO\n(PAST)\n";
-
-// Whether the run of these statements prints this after so many steps at most.
-fn prints(alloc: Global, statements: &str, n: u64, output: &str) -> bool {
-    let Some(summary) = after_steps(alloc, statements, n) else {
-        return false;
-    };
-    let mut out = Vec::new(alloc);
-    write_result(summary.world(), &summary.ran(), &mut out).is_ok()
-        && out.as_slice() == output.as_bytes()
-}
 
 #[test]
 fn loops_and_jumps(rt: HostRuntime) {
@@ -157,7 +131,10 @@ fn loops_and_jumps(rt: HostRuntime) {
             "stop ENDED\nposition 0.000 0.000 100.000\nsteps 4\n",
         ),
     ] {
-        assert!(rt; prints(rt.alloc(), statements, n, output), "{output}");
+        assert!(rt;
+            prints(rt.alloc(), ONE_BLOCK, statements, n, output),
+            "{output}"
+        );
     }
 }
 
@@ -172,28 +149,48 @@ fn values_behind_loops_and_jumps(rt: HostRuntime) {
         (PAST, &[1]),
     ];
     for (statements, values) in rows {
-        assert!(rt; has_values(rt.alloc(), statements, values), "{statements}");
+        assert!(rt;
+            has_values(rt.alloc(), ONE_BLOCK, statements, values),
+            "{statements}"
+        );
     }
 }
 
-// The number of lines that a run prints, the number and line of its stop, and its steps, where there is a stop.
-fn stopped(alloc: Global, statements: &str, n: u64) -> Option<(usize, u32, u32, u64)> {
-    let summary = after_steps(alloc, statements, n)?;
-    let place = summary.world().stop()?;
-    let lines = summary.world().lines().len();
-    Some((lines, place.number, place.line, summary.ran().done))
+// Whether a run has filled the output, and stopped at the text on line 5.
+fn is_full(summary: &Summary) -> bool {
+    let place = StopPlace {
+        stop: Stop::OutputFull,
+        number: 1,
+        line: 5,
+    };
+    summary.world().stop() == Some(place)
+        && summary.world().lines().len() == 100_000
+        && summary.ran().done == 200_002
 }
 
 #[test]
 fn too_many_lines(rt: HostRuntime) {
-    let found = stopped(rt.alloc(), MANY_ROUNDS, 1_000_000);
-    assert!(rt; found == Some((100_000, 1, 5, 200_002)));
+    assert!(rt;
+        shows(
+            rt.alloc(),
+            ONE_BLOCK,
+            MANY_ROUNDS,
+            1_000_000,
+            |summary| is_full(summary)
+        )
+    );
 }
 
-// The number of the next statement after so many steps, and whether the run has stopped.
-fn next_after(alloc: Global, statements: &str, n: u64) -> Option<(u32, bool)> {
-    let summary = after_steps(alloc, statements, n)?;
-    Some((summary.next(), summary.world().stop().is_some()))
+// Whether this is the number of the next statement, and whether the run has stopped.
+fn is_next(summary: &Summary, next: u32, is_stopped: bool) -> bool {
+    summary.next() == next && summary.world().stop().is_some() == is_stopped
+}
+
+// Whether a run goes on so after so many steps.
+fn goes_on(alloc: Global, statements: &str, n: u64, next: u32, is_stopped: bool) -> bool {
+    shows(alloc, ONE_BLOCK, statements, n, |summary| {
+        is_next(summary, next, is_stopped)
+    })
 }
 
 #[test]
@@ -210,33 +207,38 @@ fn both_ways_of_a_choice(rt: HostRuntime) {
         (other, 3, 5, false),
         (other, 4, 5, true),
     ] {
-        assert!(rt; next_after(rt.alloc(), statements, n) == Some((next, is_stopped)));
+        assert!(rt; goes_on(rt.alloc(), statements, n, next, is_stopped));
     }
-}
-
-// The refusal of a run of these statements.
-fn refusal(alloc: Global, statements: &str) -> Option<Refusal> {
-    let part = part(alloc)?;
-    let program = program_of(alloc, statements)?;
-    run_text(alloc, &Blocks::new(&part), program.as_bytes(), 9).err()
 }
 
 #[test]
 fn a_jump_into_a_loop(rt: HostRuntime) {
     let statements = "DECL/INTGR,I\nJUMPTO/(IN)\nDO/I,1,2\n(IN)\nENDDO\n";
     let code = FaultCode::JumpInward;
-    let told = Some(Refusal::Source(SourceFault { code, line: 4 }));
-    assert!(rt; refusal(rt.alloc(), statements) == told);
+    assert!(rt; is_refused(rt.alloc(), statements, SourceFault { code, line: 4 }));
 }
 
-// The output of the run of a program's image beside one block.
+// Whether the run of an image beside one block passes a test. No other function owns the summary of an image.
+fn judged<F: Fn(&Result<Summary, ImageFault>) -> bool>(
+    alloc: Global,
+    image: &[u8],
+    test: F,
+) -> Option<bool>
+    requires { F.IsAlwaysCallable test }
+{
+    let file = joined(alloc, &[BOUNDS, ONE_BLOCK])?;
+    let part = read_part(alloc, file.as_bytes()).ok()?;
+    let answer = run_image(alloc, &Blocks::new(&part), image, 100);
+    Some(test(&answer))
+}
+
+// Whether the run of a program's image prints this, and gives no notice.
 fn image_prints(alloc: Global, statements: &str, output: &str) -> Option<bool> {
-    let part = part(alloc)?;
     let image = image_of(alloc, statements)?;
-    let summary = run_image(alloc, &Blocks::new(&part), &image, 100).ok()?;
-    let mut out = Vec::new(alloc);
-    write_result(summary.world(), &summary.ran(), &mut out).ok()?;
-    Some(out.as_slice() == output.as_bytes() && summary.notices().is_empty())
+    judged(alloc, &image, |answer| match answer {
+        Ok(summary) => is_printed(alloc, summary, output) && summary.notices().is_empty(),
+        Err(_) => false,
+    })
 }
 
 #[test]
@@ -255,11 +257,13 @@ fn runs_of_images(rt: HostRuntime) {
     }
 }
 
-// The refusal of the run of the image of a move with a byte in another one's place.
-fn image_refusal(alloc: Global, place: usize, byte: u8) -> Option<ImageFault> {
-    let part = part(alloc)?;
+// Whether the run of the image of a move with a byte in another one's place is refused so.
+fn is_refused_image(alloc: Global, place: usize, byte: u8, fault: ImageFault) -> Option<bool> {
     let image = changed(alloc, &MOVE, place, byte)?;
-    run_image(alloc, &Blocks::new(&part), &image, 9).err()
+    judged(alloc, &image, |answer| match answer {
+        Ok(_) => false,
+        Err(found) => *found == fault,
+    })
 }
 
 #[test]
@@ -269,6 +273,6 @@ fn images_that_are_not_run(rt: HostRuntime) {
         (23, 2, ImageFault::BadOperand),
         (57, 2, ImageFault::RunsOff),
     ] {
-        assert!(rt; image_refusal(rt.alloc(), place, byte) == Some(fault));
+        assert!(rt; is_refused_image(rt.alloc(), place, byte, fault) == Some(true));
     }
 }
