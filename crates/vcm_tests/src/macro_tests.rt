@@ -162,7 +162,8 @@ fn tower(
             .as_str(),
     )
     .ok()?;
-    for number in 2..macros + 1 {
+    for above in 1..macros {
+        let number = above + 1;
         text.push_str(
             format!(in alloc; "M(A{number})=MACRO{parameter}\n")
                 .ok()?
@@ -170,7 +171,6 @@ fn tower(
         )
         .ok()?;
         for call in calls {
-            let above = number - 1;
             text.push_str(format!(in alloc; "CALL/M(A{above}){call}\n").ok()?.as_str())
                 .ok()?;
         }
