@@ -23,6 +23,20 @@ pub enum Request<'a> {
         part: &'a str,
         steps: &'a str,
     },
+    /// `debug INPUT PART`: a session of the debugger on the program or image in this file, beside the workpiece in that one.
+    Debug {
+        input: &'a str,
+        part: &'a str,
+    },
+    /// `list INPUT`: the listing of the program or image in this file.
+    List {
+        input: &'a str,
+    },
+    /// `asm LISTING IMAGE`: the image of the listing in this file, written to that one.
+    Asm {
+        listing: &'a str,
+        image: &'a str,
+    },
 }
 
 /// The number of steps where `--steps` isn't given.
@@ -90,6 +104,45 @@ fn run_command<'a>(alloc: Global) -> Result<Command<'a>, Error> {
     Ok(run)
 }
 
+// `debug INPUT PART`.
+fn debug_command<'a>(alloc: Global) -> Result<Command<'a>, Error> {
+    let input = required(
+        alloc,
+        "INPUT",
+        "The measuring program, a DMIS text, or its image",
+    );
+    let part = required(alloc, "PART", "The workpiece, a TOML text");
+    let debug = Command::new(alloc, "debug")
+        .about("Answers the commands of standard input, a line each, on a program or an image")
+        .arg(input)?
+        .arg(part)?;
+    Ok(debug)
+}
+
+// `list INPUT`.
+fn list_command<'a>(alloc: Global) -> Result<Command<'a>, Error> {
+    let input = required(
+        alloc,
+        "INPUT",
+        "The measuring program, a DMIS text, or its image",
+    );
+    let list = Command::new(alloc, "list")
+        .about("Prints the listing of a program or an image")
+        .arg(input)?;
+    Ok(list)
+}
+
+// `asm LISTING IMAGE`.
+fn asm_command<'a>(alloc: Global) -> Result<Command<'a>, Error> {
+    let listing = required(alloc, "LISTING", "The listing of a code");
+    let image = required(alloc, "IMAGE", "The file that the image is written to");
+    let asm = Command::new(alloc, "asm")
+        .about("Writes the image of a listing")
+        .arg(listing)?
+        .arg(image)?;
+    Ok(asm)
+}
+
 // The commands, and the words behind each.
 fn command_of<'a>(alloc: Global) -> Result<Command<'a>, Error> {
     let vcm = Command::new(alloc, "vcm")
@@ -99,7 +152,10 @@ fn command_of<'a>(alloc: Global) -> Result<Command<'a>, Error> {
         )
         .subcommand(check_command(alloc)?)?
         .subcommand(build_command(alloc)?)?
-        .subcommand(run_command(alloc)?)?;
+        .subcommand(run_command(alloc)?)?
+        .subcommand(debug_command(alloc)?)?
+        .subcommand(list_command(alloc)?)?
+        .subcommand(asm_command(alloc)?)?;
     Ok(vcm)
 }
 
@@ -127,6 +183,20 @@ pub fn request_of<'a>(alloc: Global, words: &'a [String]) -> Result<Request<'a>,
         let part = word(run, "PART");
         let steps = run.get_str("steps").unwrap_or(STEPS);
         return Ok(Request::Run { input, part, steps });
+    }
+    if let Some(debug) = matches.subcommand_matches("debug") {
+        let input = word(debug, "INPUT");
+        let part = word(debug, "PART");
+        return Ok(Request::Debug { input, part });
+    }
+    if let Some(list) = matches.subcommand_matches("list") {
+        let input = word(list, "INPUT");
+        return Ok(Request::List { input });
+    }
+    if let Some(asm) = matches.subcommand_matches("asm") {
+        let listing = word(asm, "LISTING");
+        let image = word(asm, "IMAGE");
+        return Ok(Request::Asm { listing, image });
     }
     Ok(Request::Job)
 }

@@ -2,9 +2,11 @@
 
 use crate::checking::CheckFault;
 use thiserror::Error;
+use vcm_debug::ServeFault;
 use vcm_fields::ImageFault;
-use vcm_job::{BuildFault, JobFault, PartFileFault, RunFault};
+use vcm_job::{AsmFault, BuildFault, DebugFault, JobFault, PartFileFault, PrintFault, RunFault};
 use vcm_lines::{FaultCode, SourceFault};
+use vcm_listing::{ListCode, ListFault};
 use vcm_part::{PartCode, PartFault};
 use vcm_run::Refusal;
 
@@ -111,6 +113,28 @@ pub fn image_message(fault: ImageFault) -> Message<'static> {
     }
 }
 
+// The code and name of a refusal of a listing.
+fn listing_words(code: ListCode) -> &'static str {
+    match code {
+        ListCode::NoMemory => "L00 NoMemory",
+        ListCode::BadLine => "L01 BadLine",
+        ListCode::BadNumber => "L02 BadNumber",
+        ListCode::OutOfOrder => "L03 OutOfOrder",
+        ListCode::NotValid => "L04 NotValid",
+    }
+}
+
+/// How a refused listing is told.
+pub fn listing_message(fault: ListFault) -> Message<'static> {
+    match fault.code {
+        ListCode::NoMemory => Message::NoMemory,
+        code => Message::Source {
+            words: listing_words(code),
+            line: fault.line,
+        },
+    }
+}
+
 /// How a refused text is told.
 pub fn source_message(fault: SourceFault) -> Message<'static> {
     match fault.code {
@@ -177,6 +201,55 @@ pub fn run_message<'a>(fault: RunFault, name: &'a str) -> Message<'a> {
             name: "standard output",
         },
         RunFault::TooLong => Message::TooLong,
+    }
+}
+
+/// How the fault of a listing's print is told, of the input's file with this name.
+pub fn list_message<'a>(fault: PrintFault, name: &'a str) -> Message<'a> {
+    match fault {
+        PrintFault::Refused(refusal) => refusal_message(refusal),
+        PrintFault::Image(fault) => image_message(fault),
+        PrintFault::NoMemory => Message::NoMemory,
+        PrintFault::Read => Message::Read { name },
+        PrintFault::Write => Message::Write {
+            name: "standard output",
+        },
+        PrintFault::TooLong => Message::TooLong,
+    }
+}
+
+/// How the fault of a listing that gave no image is told, of the listing's file with this name.
+pub fn asm_message<'a>(fault: AsmFault, name: &'a str) -> Message<'a> {
+    match fault {
+        AsmFault::Refused(fault) => listing_message(fault),
+        AsmFault::NoMemory => Message::NoMemory,
+        AsmFault::Read => Message::Read { name },
+        AsmFault::TooLong => Message::TooLong,
+    }
+}
+
+// How the fault of a session's commands and replies is told.
+fn serve_message(fault: ServeFault) -> Message<'static> {
+    match fault {
+        ServeFault::Read => Message::Read {
+            name: "standard input",
+        },
+        ServeFault::Write => Message::Write {
+            name: "standard output",
+        },
+        ServeFault::TooMuch => Message::TooLong,
+    }
+}
+
+/// How the fault of a session is told, of the input's file with this name.
+pub fn debug_message<'a>(fault: DebugFault, name: &'a str) -> Message<'a> {
+    match fault {
+        DebugFault::Refused(refusal) => refusal_message(refusal),
+        DebugFault::Image(fault) => image_message(fault),
+        DebugFault::NoMemory => Message::NoMemory,
+        DebugFault::Read => Message::Read { name },
+        DebugFault::TooLong => Message::TooLong,
+        DebugFault::Serve(fault) => serve_message(fault),
     }
 }
 

@@ -3,17 +3,16 @@
 use crate::checking::check;
 use crate::command_line::{Request, request_of, steps_of};
 use crate::message::{
-    Message, NoticeLine, build_message, check_message, job_message, part_file_message, run_message,
-    status_of,
+    Message, NoticeLine, asm_message, build_message, check_message, debug_message, job_message,
+    list_message, part_file_message, run_message, status_of,
 };
 use clap::Error;
 use clap::error::ErrorKind;
 use std::io;
 use std::rt::{Env, Files};
-use vcm_job::{build, job, part_from, run};
+use vcm_job::{asm, build, debug, job, list, part_from, run};
 use vcm_num::write_all;
 use vcm_part::PartData;
-use vcm_run::Built;
 use vcm_tree::Noticed;
 
 // Tells a fault on standard error, and gives its exit status.
@@ -57,14 +56,15 @@ fn check_file<R: Files + Print + Eprint + AllocGlobal>(rt: &R, name: &str) -> u8
     }
 }
 
-// Writes the bytes of an image to a file, and gives the exit status. Where the write fails, a front of the image stands there, which is none.
-fn write_image<R: Files + Eprint>(rt: &R, name: &str, built: &Built) -> u8 {
+// Writes an image to a file, tells the lines that have no effect, and gives the exit status. Where the write fails, a front of the image stands
+// in the file, which is none.
+fn write_image<R: Files + Eprint>(rt: &R, name: &str, image: &[u8], notices: &[Noticed]) -> u8 {
     let Ok(mut file) = std::fs::create(rt, name) else {
         return fails(rt, Message::Write { name });
     };
-    match write_all(&mut file, &built.image) {
+    match write_all(&mut file, image) {
         Ok(()) => {
-            tell_notices(rt, built.notices.as_slice());
+            tell_notices(rt, notices);
             0
         }
         Err(_) => fails(rt, Message::Write { name }),
@@ -77,8 +77,33 @@ fn build_file<R: Files + Eprint + AllocGlobal>(rt: &R, name: &str, image: &str) 
         return fails(rt, Message::Read { name });
     };
     match build(rt.alloc(), &mut file) {
-        Ok(built) => write_image(rt, image, &built),
+        Ok(built) => write_image(rt, image, &built.image, built.notices.as_slice()),
         Err(fault) => fails(rt, build_message(fault, name)),
+    }
+}
+
+// Prints the listing of a file's program or image, and gives the exit status.
+fn list_file<R: Files + Print + Eprint + AllocGlobal>(rt: &R, name: &str) -> u8 {
+    let Ok(mut file) = std::fs::open(rt, name) else {
+        return fails(rt, Message::Read { name });
+    };
+    match list(rt.alloc(), &mut file, &mut io::writer(rt)) {
+        Ok(notices) => {
+            tell_notices(rt, notices.as_slice());
+            0
+        }
+        Err(fault) => fails(rt, list_message(fault, name)),
+    }
+}
+
+// Writes the image of a file's listing to another file, and gives the exit status.
+fn asm_file<R: Files + Eprint + AllocGlobal>(rt: &R, name: &str, image: &str) -> u8 {
+    let Ok(mut file) = std::fs::open(rt, name) else {
+        return fails(rt, Message::Read { name });
+    };
+    match asm(rt.alloc(), &mut file) {
+        Ok(bytes) => write_image(rt, image, &bytes, &[]),
+        Err(fault) => fails(rt, asm_message(fault, name)),
     }
 }
 
@@ -128,6 +153,42 @@ fn run_file<R: Files + Print + Eprint + AllocGlobal>(
     }
 }
 
+// Answers the commands of standard input on the program or image of a file beside a workpiece, and gives the exit status.
+fn debug_beside<R: Files + Input + Print + Eprint + AllocGlobal>(
+    rt: &R,
+    name: &str,
+    part: &PartData,
+) -> u8 {
+    let Ok(mut file) = std::fs::open(rt, name) else {
+        return fails(rt, Message::Read { name });
+    };
+    match debug(
+        rt.alloc(),
+        part,
+        &mut file,
+        &mut rt.reader(),
+        &mut io::writer(rt),
+    ) {
+        Ok(notices) => {
+            tell_notices(rt, notices.as_slice());
+            0
+        }
+        Err(fault) => fails(rt, debug_message(fault, name)),
+    }
+}
+
+// Debugs a file beside the workpiece of another one, which is judged first, and gives the exit status.
+fn debug_file<R: Files + Input + Print + Eprint + AllocGlobal>(
+    rt: &R,
+    input: &str,
+    part: &str,
+) -> u8 {
+    match part_of(rt, part) {
+        Ok(part) => debug_beside(rt, input, &part),
+        Err(message) => fails(rt, message),
+    }
+}
+
 // Answers a request for help or the version on standard output, tells a wrong command line on standard error, and gives the exit status.
 fn tell_usage<R: Print + Eprint>(rt: &R, error: &Error) -> u8 {
     if error.kind() == ErrorKind::OutOfMemory {
@@ -168,6 +229,9 @@ pub fn status<R: Env + Files + Input + Print + Eprint + AllocGlobal>(rt: &R) -> 
         Ok(Request::Check { program }) => check_file(rt, program),
         Ok(Request::Build { program, image }) => build_file(rt, program, image),
         Ok(Request::Run { input, part, steps }) => run_file(rt, input, part, steps),
+        Ok(Request::Debug { input, part }) => debug_file(rt, input, part),
+        Ok(Request::List { input }) => list_file(rt, input),
+        Ok(Request::Asm { listing, image }) => asm_file(rt, listing, image),
         Err(error) => tell_usage(rt, &error),
     }
 }

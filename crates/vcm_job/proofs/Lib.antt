@@ -2,3 +2,5 @@ pub mod JobLines
 pub mod CutJobs
 pub mod JobLemmas
 pub mod InputLemmas
+pub mod ListLemmas
+pub mod DebugLemmas

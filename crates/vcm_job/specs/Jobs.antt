@@ -33,10 +33,11 @@ abbrev pub behind_mark : List (List ℕ) → List ℕ
 behind_mark [] = []
 behind_mark (l ∷ ls) = if is_mark l then flat_map (λ k. k) ls else behind_mark ls
 
--- the part text of an input, and its program text
+-- the part text of an input: what stands before its first mark
 abbrev pub part_text : List ℕ → List ℕ
 part_text input = before_mark (raw_lines input)
 
+-- the program text of an input: what stands behind its first mark
 abbrev pub program_text : List ℕ → List ℕ
 program_text input = behind_mark (raw_lines input)
 

@@ -3,3 +3,5 @@ pub mod Jobs
 pub mod Results
 pub mod Files
 pub mod Inputs
+pub mod Listings
+pub mod Debugged

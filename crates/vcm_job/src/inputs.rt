@@ -44,8 +44,8 @@ fn input_not_read(fault: ReadFault) -> RunFault
     }
 }
 
-// Whether an input is an image: its first four bytes are `VCMI`.
-fn is_image(input: &[u8]) -> bool
+/// Whether an input is an image: its first four bytes are `VCMI`.
+pub(crate) fn is_image(input: &[u8]) -> bool
     ensures { result ≡ is_image input.now }
 {
     input.starts_with(b"VCMI")

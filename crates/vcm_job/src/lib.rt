@@ -1,15 +1,19 @@
-//! Jobs, runs of inputs and images of programs: inputs read whole, run, and the result written.
+//! Jobs, runs of inputs, images of programs and of listings, listings, and sessions of the debugger: inputs read whole, and the result written.
 #![tactic(auto)]
 
 mod building;
 mod cutting;
+mod debugging;
 mod inputs;
+mod listing;
 mod parts;
 mod reading;
 mod running;
 
 pub use building::{BuildFault, build};
+pub use debugging::{DebugFault, debug};
 pub use inputs::{RunFault, run};
+pub use listing::{AsmFault, PrintFault, asm, list};
 pub use parts::{PartFileFault, part_from};
 pub use reading::{ReadFault, read_all};
 pub use running::{Done, JobFault, job};

@@ -41,7 +41,7 @@ impl<'a, P: Part> Model for Machine<'a, P> {
 }
 
 impl<'a, P: Part> Machine<'a, P> {
-    ghost use Rattle.std.specs.Prelude.{◌≡◌, None, IfOk, OnOk, OnErr};
+    ghost use Rattle.std.specs.Prelude.{◌≡◌, ◌<◌, length, None, IfOk, OnOk, OnErr};
     ghost use Rattle.vcm_code.specs.Ops.{code_of};
     ghost use Rattle.vcm_machine.specs.Running.{started, later, WantsMemory, HasRun};
     ghost use Rattle.vcm_spec.specs.Rests.{Rests};
@@ -73,9 +73,26 @@ impl<'a, P: Part> Machine<'a, P> {
         })
     }
 
+    /// A machine that stands where this one does, with what its loops keep.
+    ///
+    /// Errors: want of memory.
+    pub fn copy(&self, alloc: Global) -> Result<Machine<'a, P>, NoMemory>
+        ensures { IfOk result (λ m. m ≡ self.now) }
+    {
+        let world = self.world.copy(alloc)?;
+        Ok(Machine {
+            loaded: self.loaded,
+            part: self.part,
+            world,
+            next: self.next,
+            pairs: self.pairs,
+        })
+    }
+
     /// The number of the next statement: at a stop that of the statement which stopped.
     pub fn next(&self) -> u32
-        ensures { result ≡ self.now.place.next }
+        ensures is { result ≡ self.now.place.next }
+        ensures within { result < length self.now.code.statements }
     {
         self.next
     }

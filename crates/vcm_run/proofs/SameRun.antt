@@ -1,12 +1,10 @@
 -- A run of an assembled code is a run of its program.
-use Rattle.std.specs.Prelude.{◌<◌, slice_get, IsTrue}
-use Rattle.std.proofs.Common.{◌≡◌, ℕ, zero, suc, ◌+◌, List, Bool, true, Option, Some, None, refl, sym, ap, ◌∙◌, subst, arith}
-use Rattle.vcm_spec.specs.declared.stop.StopPlace.{StopPlace}
+use Rattle.std.specs.Prelude.{slice_get}
+use Rattle.std.proofs.Common.{◌≡◌, ℕ, zero, suc, ◌+◌, List, true, None, refl, sym, ap, ◌∙◌, subst, arith}
 use Rattle.vcm_spec.specs.Workpiece.{Workpiece}
 use Rattle.vcm_spec.specs.Setup.{Setup, Tables, setup_of}
-use Rattle.vcm_spec.specs.World.{World}
 use Rattle.vcm_spec.specs.Program.{Block}
-use Rattle.vcm_spec.specs.Table.{State, front, next_number, step, steps, effective, opening}
+use Rattle.vcm_spec.specs.Table.{State, front, step, steps, effective, opening}
 use Rattle.vcm_spec.proofs.Steps.{steps-add}
 use Rattle.vcm_code.specs.Code.{Statement, Code}
 use Rattle.vcm_code.specs.CodeTable.{Place, code_step, code_steps, code_effective, start, next_prints}
@@ -22,7 +20,7 @@ use Rattle.vcm_num.specs.declared.memory.NoMemory.{NoMemory}
 use Rattle.vcm_tree.specs.Program.{Parsed, tables as tables_of}
 use Rattle.vcm_tree.specs.declared.program.Noticed.{Noticed}
 use Rattle.vcm_code.specs.declared.code.Code.{Code as Kept}
-use Rattle.vcm_code.specs.Ops.{code_of, statements_of}
+use Rattle.vcm_code.specs.Ops.{code_of}
 use Rattle.vcm_image.specs.Whole.{Fits, spelling}
 use Rattle.vcm_image.proofs.ImageLaws.{one_image}
 use Rattle.vcm_run.specs.Run.{Ended, IsRun}

@@ -1,5 +1,5 @@
 -- Statements about runs. Each is the contract of a law in src/laws.rt.
-use Rattle.std.specs.Prelude.{◌≡◌, ℕ, List}
+use Rattle.std.specs.Prelude.{◌≡◌, ℕ}
 use Rattle.vcm_spec.specs.Workpiece.{Workpiece}
 use Rattle.vcm_spec.specs.Setup.{Tables, setup_of}
 use Rattle.vcm_spec.specs.Program.{Block}

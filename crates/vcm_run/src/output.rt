@@ -1,121 +1,19 @@
 //! The printed result of a run. Nothing here takes memory.
 
-ghost use Rattle.std.specs.Prelude.{◌≡◌};
 ghost use Rattle.vcm_num.specs.Written.{Wrote};
-ghost use Rattle.vcm_run.specs.Printed.{name_at, missing_text, phase_text, stop_text, has_place, ended_place, stop_line, output_lines, end_lines, result_text};
+ghost use Rattle.vcm_run.specs.Printed.{stop_line, end_lines, result_text};
 
 use itoa::Buffer;
 use std::io::Write;
-use vcm_expr::Name;
 use vcm_machine::Ran;
-use vcm_num::{Items, Point, WriteFault, thousandths_text, write_pieces};
-use vcm_spec::{Missing, MovePhase, Stop, StopPlace};
+use vcm_num::{Point, WriteFault, thousandths_text, write_pieces};
+use vcm_report::{write_lines, write_stop_line};
+use vcm_spec::StopPlace;
 use vcm_state::World;
 use vcm_tables::Tables;
 
-// The word of a part of a motion.
-fn phase_text(phase: MovePhase) -> &'static [u8]
-    ensures { result.now ≡ phase_text phase }
-{
-    match phase {
-        MovePhase::Move => b"MOVE",
-        MovePhase::Approach => b"APPROACH",
-        MovePhase::Search => b"SEARCH",
-        MovePhase::Retract => b"RETRACT",
-    }
-}
-
-// The name at an index.
-fn name_at(names: &[Name], index: u16) -> &[u8]
-    ensures { result.now ≡ name_at names.now index }
-{
-    match names.get(index as usize) {
-        Some(name) => name.as_bytes(),
-        None => &[],
-    }
-}
-
-// Writes what isn't there yet, by its name.
-fn write_missing<W: Write>(
-    tables: &Tables,
-    missing: Missing,
-    writer: &mut W,
-) -> Result<(), WriteFault>
-    ensures { Wrote (W.contents writer.old) (W.contents writer.new) (missing_text tables.now missing) result }
-{
-    match missing {
-        Missing::Nominal(index) => {
-            write_pieces(writer, &[b"F(", name_at(tables.features(), index), b")"])
-        }
-        Missing::Actual(index) => {
-            write_pieces(writer, &[b"FA(", name_at(tables.features(), index), b")"])
-        }
-        Missing::Frame(index) => {
-            write_pieces(writer, &[b"D(", name_at(tables.frames(), index), b")"])
-        }
-    }
-}
-
-// Writes why a run stopped.
-fn write_stop<W: Write>(tables: &Tables, stop: Stop, writer: &mut W) -> Result<(), WriteFault>
-    ensures { Wrote (W.contents writer.old) (W.contents writer.new) (stop_text tables.now stop) result }
-{
-    match stop {
-        Stop::Ended => write_pieces(writer, &[b"stop ENDED"]),
-        Stop::Collision(phase, hit) => {
-            let mut block = Buffer::new();
-            let mut permille = Buffer::new();
-            let block = block.format(hit.block).as_bytes();
-            let permille = permille.format(hit.permille).as_bytes();
-            write_pieces(
-                writer,
-                &[
-                    b"stop COLLISION ",
-                    phase_text(phase),
-                    b" block ",
-                    block,
-                    b" permille ",
-                    permille,
-                ],
-            )
-        }
-        Stop::Missed => write_pieces(writer, &[b"stop MISSED"]),
-        Stop::Travel(phase) => write_pieces(writer, &[b"stop TRAVEL ", phase_text(phase)]),
-        Stop::Overflow => write_pieces(writer, &[b"stop OVERFLOW"]),
-        Stop::DivZero => write_pieces(writer, &[b"stop DIVZERO"]),
-        Stop::ZeroStep => write_pieces(writer, &[b"stop ZEROSTEP"]),
-        Stop::Undefined(missing) => {
-            write_pieces(writer, &[b"stop UNDEFINED "])?;
-            write_missing(tables, missing, writer)
-        }
-        Stop::BadSetting => write_pieces(writer, &[b"stop BADSETTING"]),
-        Stop::OutputFull => write_pieces(writer, &[b"stop OUTPUTFULL"]),
-    }
-}
-
-// Whether the place of a stop is told.
-fn has_place(stop: Stop) -> bool
-    ensures { result ≡ has_place stop }
-{
-    !matches!(stop, Stop::Ended)
-}
-
-// Writes where a run stopped, and ends the line.
-fn write_place<W: Write>(place: StopPlace, writer: &mut W) -> Result<(), WriteFault>
-    ensures { Wrote (W.contents writer.old) (W.contents writer.new) (ended_place place) result }
-{
-    if !has_place(place.stop) {
-        return write_pieces(writer, &[b"\n"]);
-    }
-    let mut number = Buffer::new();
-    let mut line = Buffer::new();
-    let number = number.format(place.number).as_bytes();
-    let line = line.format(place.line).as_bytes();
-    write_pieces(writer, &[b" at ", number, b" line ", line, b"\n"])
-}
-
 // Writes the line of the stop, or of the steps that were done where there is none.
-fn write_stop_line<W: Write>(
+fn write_stop_or_steps<W: Write>(
     tables: &Tables,
     stop: Option<StopPlace>,
     done: u64,
@@ -124,26 +22,13 @@ fn write_stop_line<W: Write>(
     ensures { Wrote (W.contents writer.old) (W.contents writer.new) (stop_line tables.now stop done) result }
 {
     match stop {
-        Some(place) => {
-            write_stop(tables, place.stop, writer)?;
-            write_place(place, writer)
-        }
+        Some(place) => write_stop_line(tables, place, writer),
         None => {
             let mut steps = Buffer::new();
             let steps = steps.format(done).as_bytes();
             write_pieces(writer, &[b"no stop after ", steps, b" steps\n"])
         }
     }
-}
-
-// Writes the output lines.
-fn write_lines<W: Write>(lines: &[Items<u8>], writer: &mut W) -> Result<(), WriteFault>
-    ensures { Wrote (W.contents writer.old) (W.contents writer.new) (output_lines lines.now) result }
-{
-    for line in lines {
-        write_pieces(writer, &[line.as_slice(), b"\n"])?;
-    }
-    Ok(())
 }
 
 // Writes where the probe is, and how many steps were done.
@@ -180,6 +65,6 @@ pub fn write_result<W: Write>(world: &World, ran: &Ran, writer: &mut W) -> Resul
     ensures { Wrote (W.contents writer.old) (W.contents writer.new) (result_text world.now ran.now.done) result }
 {
     write_lines(world.lines(), writer)?;
-    write_stop_line(world.tables(), world.stop(), ran.done, writer)?;
+    write_stop_or_steps(world.tables(), world.stop(), ran.done, writer)?;
     write_end(world.position(), ran.done, writer)
 }

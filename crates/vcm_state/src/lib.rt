@@ -1,6 +1,7 @@
 //! The state of the machine, and what each simple statement does to it.
 #![tactic(auto)]
 
+mod copying;
 mod framing;
 mod indexed;
 mod measuring;

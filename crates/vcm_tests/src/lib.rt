@@ -4,6 +4,8 @@
 #[cfg(test)]
 mod command_tests;
 #[cfg(test)]
+mod debug_tests;
+#[cfg(test)]
 mod fault_tests;
 #[cfg(test)]
 mod image_tests;
@@ -11,6 +13,8 @@ mod image_tests;
 mod input_tests;
 #[cfg(test)]
 mod job_tests;
+#[cfg(test)]
+mod listing_tests;
 #[cfg(test)]
 mod loader_tests;
 #[cfg(test)]

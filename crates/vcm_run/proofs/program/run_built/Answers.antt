@@ -1,5 +1,3 @@
-use Rattle.std.proofs.Common.{List, ℕ}
-use Rattle.std.specs.Prelude.{Result, Ok, Err, IfOk}
 use Rattle.vcm_run.proofs.SameRun.{built_runs}
 use Rattle.vcm_run.proofs.program.run_built.Goals as goal
 

@@ -1,0 +1,4 @@
+pub mod LinesRead
+pub mod LineRoom
+pub mod RaisedNames
+pub mod ListedLine

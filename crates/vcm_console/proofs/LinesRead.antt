@@ -1,0 +1,145 @@
+-- Lines that are read byte by byte.
+use Rattle.std.proofs.Common.{◌≡◌, ◌≢◌, ℕ, zero, suc, ◌+◌, ◌<◌, ◌≤◌, true, false, List, [], ◌∷◌, ◌++◌, length, take, drop, Option, Some, None, Err, refl, sym, ap, ◌∙◌, subst, arith, append_assoc, length-append}
+use Rattle.std.proofs.lemmas.List.{append-nil, drop_at}
+use Rattle.std.specs.Prelude.{IfSome}
+use Rattle.std.specs.Io.KnownBytes.{Keeps}
+use Rattle.vcm_console.specs.declared.reply.ServeFault.{ServeFault}
+use Rattle.vcm_console.specs.declared.reply.ServeFault.TheVariants.{Read}
+use Rattle.vcm_console.specs.Reading.{TakesAtMost, IsNextOf, AllPlain, IsLong, kept_of, HasLine, Reads}
+
+-- these bytes of a line were read, and this is left
+pub record HasRead (input : List ℕ) (after : Option (List ℕ)) (kept : List ℕ) (used : ℕ) : Type 0 where
+  pub seen : List ℕ
+  pub rest : List ℕ
+  pub cut : input ≡ seen ++ rest
+  pub plain : AllPlain seen
+  pub used_is : used ≡ length seen
+  pub kept_is : kept ≡ kept_of seen
+  pub after_is : after ≡ Some rest
+
+-- the same of a reader that may tell nothing
+abbrev pub HasReadOf : Option (List ℕ) → Option (List ℕ) → List ℕ → ℕ → Type 0
+HasReadOf known after kept used = IfSome known (λ input. HasRead input after kept used)
+
+pub none_read : (known : Option (List ℕ)) → HasReadOf known known [] 0
+none_read None = tt
+none_read (Some input) = record {
+  seen = [];
+  rest = input;
+  cut = refl;
+  plain = tt;
+  used_is = refl;
+  kept_is = refl;
+  after_is = refl;
+}
+
+plain_more : (xs : List ℕ) (b : ℕ) → AllPlain xs → b ≢ 10 → AllPlain (xs ++ b ∷ [])
+plain_more [] b h n = (n, tt)
+plain_more (x ∷ xs) b h n = (h.0, plain_more xs b h.1 n)
+
+-- what is kept of one byte more
+kept_from : (n : ℕ) (xs : List ℕ) (b : ℕ) → take n (take n xs ++ b ∷ []) ≡ take n (xs ++ b ∷ [])
+kept_from zero xs b = refl
+kept_from (suc n) [] b = refl
+kept_from (suc n) (x ∷ xs) b = ap (λ l. x ∷ l) (kept_from n xs b)
+
+some_is : {A : Type 0} (x y : A) → Some x ≡ Some y → x ≡ y
+some_is x y e = cc
+
+one_read : (input : List ℕ) (after later : Option (List ℕ)) (kept more : List ℕ) (used b : ℕ) → HasRead input after kept used
+    → IfSome after (λ i. IsNextOf i later (Some b)) → b ≢ 10 → more ≡ take 258 (kept ++ b ∷ []) → HasRead input later more (used + 1)
+one_read input after later kept more used b h next n m =
+    let k = subst (λ a. IfSome a (λ i. IsNextOf i later (Some b))) h.after_is next in
+    let long = length-append h.seen (b ∷ []) in
+    let u = h.used_is in
+    record {
+      seen = h.seen ++ b ∷ [];
+      rest = k.0;
+      cut = h.cut ∙ ap (λ l. h.seen ++ l) k.1 ∙ sym (append_assoc h.seen (b ∷ []) k.0);
+      plain = plain_more h.seen b h.plain n;
+      used_is = omega (arith, long, u);
+      kept_is = m ∙ ap (λ l. take 258 (l ++ b ∷ [])) h.kept_is ∙ kept_from 258 h.seen b;
+      after_is = k.2;
+    }
+
+pub one_more_read : (known after later : Option (List ℕ)) (kept more : List ℕ) (used b : ℕ) → HasReadOf known after kept used
+    → IfSome after (λ i. IsNextOf i later (Some b)) → b ≢ 10 → more ≡ take 258 (kept ++ b ∷ []) → HasReadOf known later more (used + 1)
+one_more_read None after later kept more used b h next n m = tt
+one_more_read (Some input) after later kept more used b h next n m = one_read input after later kept more used b h next n m
+
+-- a line feed
+pub line_read : (left : ℕ) (known after later : Option (List ℕ)) (kept : List ℕ) (used : ℕ) → used < left → HasReadOf known after kept used
+    → IfSome after (λ i. IsNextOf i later (Some 10)) → IfSome known (λ input. HasLine left input later kept true (used + 1))
+line_read left None after later kept used l h next = tt
+line_read left (Some input) after later kept used l h next =
+    let k = subst (λ a. IfSome a (λ i. IsNextOf i later (Some 10))) h.after_is next in
+    let u = h.used_is in
+    record {
+      raw = h.seen;
+      rest = k.0;
+      begins = (h.cut ∙ ap (λ l. h.seen ++ l) k.1, h.plain);
+      kept_is = h.kept_is;
+      used_is = omega (arith, u);
+      fits = omega arith;
+      after_is = k.2;
+    }
+
+-- a byte too many
+pub too_long : (left : ℕ) (known after later : Option (List ℕ)) (kept : List ℕ) (used b : ℕ) → used ≡ left → HasReadOf known after kept used
+    → IfSome after (λ i. IsNextOf i later (Some b)) → IfSome known (λ input. IsLong left input × (later ≡ Some (drop (left + 1) input)))
+too_long left None after later kept used b e h next = tt
+too_long left (Some input) after later kept used b e h next =
+    let k = subst (λ a. IfSome a (λ i. IsNextOf i later (Some b))) h.after_is next in
+    let u = h.used_is in
+    let some : length h.rest ≡ suc (length k.0) = ap length k.1 in
+    let n : length (h.seen ++ b ∷ []) ≡ left + 1 = omega (arith, length-append h.seen (b ∷ []), u, e) in
+    let cut : input ≡ (h.seen ++ b ∷ []) ++ k.0 = h.cut ∙ ap (λ l. h.seen ++ l) k.1 ∙ sym (append_assoc h.seen (b ∷ []) k.0) in (
+      record { seen = h.seen; rest = h.rest; cut = h.cut; plain = h.plain; long = omega (arith, u, e); more = omega (arith, some) },
+      k.2 ∙ ap Some (sym (ap (drop (left + 1)) cut ∙ drop_at (h.seen ++ b ∷ []) k.0 (left + 1) n)),
+    )
+
+-- the reader failed
+kept_is_same : (input : List ℕ) (later : Option (List ℕ)) → Keeps (Some input) later → later ≡ Some input
+kept_is_same input None k = absurd k
+kept_is_same input (Some rest) k = ap Some k
+
+pub read_failed : (left : ℕ) (known after later : Option (List ℕ)) (kept : List ℕ) (used : ℕ) → used ≤ left → HasReadOf known after kept used
+    → Keeps after later → IfSome known (λ input. TakesAtMost left input later)
+read_failed left None after later kept used l h k = tt
+read_failed left (Some input) after later kept used l h k =
+    let u = h.used_is in
+    let same = kept_is_same h.rest later (subst (λ a. Keeps a later) h.after_is k) in
+    (length h.seen, omega (arith, u, l), same ∙ ap Some (sym (ap (drop (length h.seen)) h.cut ∙ drop_at h.seen h.rest (length h.seen) refl)))
+
+pub fault_found : (left : ℕ) (known later : Option (List ℕ)) (f : ServeFault) → f ≡ Read → IfSome known (λ input. TakesAtMost left input later)
+    → IfSome known (λ input. Reads left input later (Err f))
+fault_found left known later f e h = subst (λ g. IfSome known (λ input. Reads left input later (Err g))) (sym e) h
+
+-- the input's end
+pub none_left : (known after later : Option (List ℕ)) (kept : List ℕ) (used : ℕ) → used ≡ 0 → HasReadOf known after kept used
+    → IfSome after (λ i. IsNextOf i later None) → IfSome known (λ input. (input ≡ []) × (later ≡ Some []))
+none_left None after later kept used e h next = tt
+none_left (Some input) after later kept used e h next =
+    let k = subst (λ a. IfSome a (λ i. IsNextOf i later None)) h.after_is next in
+    let u = h.used_is in
+    (h.cut ∙ ap (λ l. h.seen ++ l) k.0 ∙ append-nil h.seen ∙ nothing h.seen (omega (arith, e, u)), k.1 ∙ ap Some k.0)
+  where
+    nothing : (xs : List ℕ) → length xs ≡ 0 → xs ≡ []
+    nothing [] e = refl
+    nothing (x ∷ xs) e = absurd (omega arith)
+
+pub last_read : (left : ℕ) (known after later : Option (List ℕ)) (kept : List ℕ) (used : ℕ) → used ≤ left → (used ≡ 0 → ⊥) → HasReadOf known after kept used
+    → IfSome after (λ i. IsNextOf i later None) → IfSome known (λ input. HasLine left input later kept false used)
+last_read left None after later kept used l z h next = tt
+last_read left (Some input) after later kept used l z h next =
+    let k = subst (λ a. IfSome a (λ i. IsNextOf i later None)) h.after_is next in
+    let u = h.used_is in
+    record {
+      raw = h.seen;
+      rest = [];
+      begins = (h.cut ∙ ap (λ l. h.seen ++ l) k.0 ∙ append-nil h.seen, refl, h.plain, omega (arith, u, z));
+      kept_is = h.kept_is;
+      used_is = u;
+      fits = l;
+      after_is = k.1 ∙ ap Some k.0;
+    }

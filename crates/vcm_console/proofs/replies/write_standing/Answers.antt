@@ -1,0 +1,12 @@
+use Rattle.std.proofs.Common.{refl, ◌∙◌}
+use Rattle.std.proofs.lemmas.Result.{err_from_is_err_and}
+use Rattle.vcm_num.proofs.KnownWrites.{front_first, wrote_then}
+use Rattle.vcm_console.proofs.replies.write_standing.Goals as goal
+
+pub returns-in_err-write_pieces : goal.returns-in_err-write_pieces
+returns-in_err-write_pieces g c =
+    let p = err_from_is_err_and c.from_residual.result c.from_residual.ensures.1 in
+    rw p.1 (front_first _ _ _ _ _ refl (rw (c.as_bytes-steps.ensures.value ∙ c.format.ensures.text) at c.in_err-write_pieces.ensures))
+
+pub returns : goal.returns
+returns g c = wrote_then _ _ _ _ _ _ _ refl (rw (c.as_bytes-steps.ensures.value ∙ c.format.ensures.text) at c.in_ok-write_pieces.ensures) c.write_standing_end.ensures

@@ -1,0 +1,16 @@
+//! The console of the debugger: lines of input as commands, and replies as text. Nothing here takes memory.
+#![tactic(auto)]
+
+mod command;
+mod line;
+mod parsing;
+mod reading;
+mod replies;
+mod reply;
+
+pub use command::{Command, Wanted};
+pub use line::{Line, RawLine};
+pub use parsing::parse_command;
+pub use reading::{next_byte, read_line};
+pub use replies::{write_halt, write_reply};
+pub use reply::{Halted, Reason, Refusal, Reply, ServeFault, Standing};

@@ -1,0 +1,282 @@
+//! Lines as commands. Nothing here takes memory.
+
+ghost use Rattle.std.specs.Prelude.{◌≡◌, ◌==◌, ◌<◌, ◌≤◌, length, map, not, true, IfOk};
+ghost use Rattle.std.specs.List.{list_all, prefix_len};
+ghost use Rattle.std.specs.Char.{is_ascii_digit};
+ghost use Rattle.std.specs.Str.{bytes_eq};
+ghost use Rattle.vcm_num.specs.Literals.{AllDigits, number_after};
+ghost use Rattle.vcm_console.specs.Parsing.{steps_of, first_word, behind_word, number_of, optional_number, count_of, is_letter_or_digit, label_of, begins_with_letter, name_of, expansion_of, name_len, wanted_of, alone, command_of_words, refusal_of, command_of};
+ghost use Rattle.vcm_lines.specs.Bytes.{upper};
+
+use crate::command::{Command, Wanted};
+use crate::reply::{Refusal, Reply};
+use vcm_expr::Name;
+
+/// The most bytes of a line.
+const MAX_LINE: usize = 256;
+
+/// The most steps or lines of a command.
+const MOST: u64 = 1_000_000;
+
+// How many blanks are in front.
+fn blanks(bytes: &[u8]) -> usize
+    ensures { result ≡ prefix_len (λ b. b == 32) bytes.now }
+{
+    bytes.iter().take_while(|b| **b == b' ').count()
+}
+
+// How many bytes are before the first blank.
+fn word_len(bytes: &[u8]) -> usize
+    ensures { result ≡ prefix_len (λ b. not (b == 32)) bytes.now }
+{
+    bytes.iter().take_while(|b| **b != b' ').count()
+}
+
+// The first word, and what follows it.
+fn cut_word(bytes: &[u8]) -> (&[u8], &[u8])
+    ensures word { result.0.now ≡ first_word bytes.now }
+    ensures rest { result.1.now ≡ behind_word bytes.now }
+{
+    let (_, rest) = bytes.split_at(blanks(bytes));
+    rest.split_at(word_len(rest))
+}
+
+// Whether all bytes are digits.
+fn all_digits(bytes: &[u8]) -> bool
+    ensures { result ≡ list_all is_ascii_digit bytes.now }
+{
+    bytes.iter().all(|byte| byte.is_ascii_digit())
+}
+
+// The number that at most ten digits spell.
+fn value_of(digits: &[u8]) -> u64
+    requires few { length digits.now ≤ 10 }
+    requires digits { AllDigits digits.now }
+    ensures { result ≡ number_after 0 digits.now }
+{
+    let mut value = 0;
+    for byte in digits {
+        value = value * 10 + u64::from(*byte - b'0');
+    }
+    value
+}
+
+// A number of one to ten digits.
+fn number(word: &[u8]) -> Result<u64, Refusal>
+    ensures { result ≡ number_of word.now }
+{
+    if word.is_empty() || word.len() > 10 || !all_digits(word) {
+        return Err(Refusal::UnknownCommand);
+    }
+    Ok(value_of(word))
+}
+
+// A number that may be absent.
+fn optional(word: &[u8]) -> Result<Option<u64>, Refusal>
+    ensures { result ≡ optional_number word.now }
+{
+    if word.is_empty() {
+        return Ok(None);
+    }
+    match number(word) {
+        Ok(n) => Ok(Some(n)),
+        Err(refusal) => Err(refusal),
+    }
+}
+
+// A count from 1 to 1,000,000, or the one for none.
+fn count(absent: u32, word: &[u8]) -> Result<u32, Refusal>
+    requires { absent ≤ 1000000 }
+    ensures is { result ≡ count_of absent word.now }
+    ensures few { IfOk result (λ n. n ≤ 1000000) }
+{
+    if word.is_empty() {
+        return Ok(absent);
+    }
+    match number(word) {
+        Ok(n) => {
+            if n > 0 && n <= MOST {
+                Ok(n as u32)
+            } else {
+                Err(Refusal::CountOutOfRange)
+            }
+        }
+        Err(refusal) => Err(refusal),
+    }
+}
+
+// Whether all bytes are letters, digits and underscores.
+fn is_plain(bytes: &[u8]) -> bool
+    ensures { result ≡ list_all is_letter_or_digit bytes.now }
+{
+    bytes
+        .iter()
+        .all(|byte| byte.is_ascii_alphanumeric() || *byte == b'_')
+}
+
+// A letter in upper case.
+fn upper(byte: u8) -> u8
+    ensures { result ≡ upper byte }
+{
+    byte.to_ascii_uppercase()
+}
+
+// A name with its letters in upper case.
+fn raised(bytes: &[u8]) -> Name
+    requires some { 0 < length bytes.now }
+    requires short { length bytes.now ≤ 16 }
+    requires plain { list_all is_letter_or_digit bytes.now ≡ true }
+    ensures { result ≡ map upper bytes.now }
+{
+    let mut own = [0; 16];
+    for (index, byte) in bytes.iter().enumerate() {
+        own[index] = upper(*byte);
+    }
+    Name::new(&own[..bytes.len()])
+}
+
+// The name of a feature.
+fn label(word: &[u8]) -> Result<Name, Refusal>
+    ensures { result ≡ label_of word.now }
+{
+    if word.is_empty() || word.len() > 16 || !is_plain(word) {
+        return Err(Refusal::UnknownCommand);
+    }
+    Ok(raised(word))
+}
+
+// Whether a letter stands first.
+fn begins_with_letter(word: &[u8]) -> bool
+    ensures { result ≡ begins_with_letter word.now }
+{
+    match word {
+        [] => false,
+        [first, ..] => first.is_ascii_alphabetic(),
+    }
+}
+
+// The name of a variable.
+fn name(word: &[u8]) -> Result<Name, Refusal>
+    ensures { result ≡ name_of word.now }
+{
+    if begins_with_letter(word) {
+        label(word)
+    } else {
+        Err(Refusal::UnknownCommand)
+    }
+}
+
+// The number of an expansion, behind its sign.
+fn expansion(bytes: &[u8]) -> Result<u64, Refusal>
+    ensures { result ≡ expansion_of bytes.now }
+{
+    match bytes {
+        [] => Ok(0),
+        [_, digits @ ..] => number(digits),
+    }
+}
+
+// How many bytes are before the number sign.
+fn name_len(bytes: &[u8]) -> usize
+    ensures { result ≡ name_len bytes.now }
+{
+    bytes.iter().take_while(|b| **b != b'#').count()
+}
+
+// A variable's name and its expansion.
+fn wanted(word: &[u8]) -> Result<Wanted, Refusal>
+    ensures { result ≡ wanted_of word.now }
+{
+    let (front, back) = word.split_at(name_len(word));
+    match name(front) {
+        Ok(name) => match expansion(back) {
+            Ok(expansion) => Ok(Wanted { name, expansion }),
+            Err(refusal) => Err(refusal),
+        },
+        Err(refusal) => Err(refusal),
+    }
+}
+
+// Whether these are the same bytes.
+fn is(word: &[u8], other: &[u8]) -> bool
+    ensures { result ≡ bytes_eq word.now other.now }
+{
+    word == other
+}
+
+// A command without an argument.
+fn alone(what: Command, argument: &[u8]) -> Result<Command, Refusal>
+    ensures is { result ≡ alone what argument.now }
+    ensures same { IfOk result (λ w. w ≡ what) }
+{
+    if argument.is_empty() {
+        Ok(what)
+    } else {
+        Err(Refusal::UnknownCommand)
+    }
+}
+
+// The command of a word and its argument.
+fn command_of(word: &[u8], argument: &[u8]) -> Result<Command, Refusal>
+    ensures is { result ≡ command_of_words word.now argument.now }
+    ensures few { IfOk result (λ w. steps_of w ≤ 1000000) }
+{
+    if is(word, b"break") {
+        Ok(Command::Break(number(argument)?))
+    } else if is(word, b"clear") {
+        Ok(Command::Clear(number(argument)?))
+    } else if is(word, b"line") {
+        Ok(Command::Line(number(argument)?))
+    } else if is(word, b"step") {
+        Ok(Command::Step(count(1, argument)?))
+    } else if is(word, b"run") {
+        Ok(Command::Run(count(1_000_000, argument)?))
+    } else if is(word, b"watch") {
+        Ok(Command::Watch(wanted(argument)?))
+    } else if is(word, b"unwatch") {
+        Ok(Command::Unwatch(wanted(argument)?))
+    } else if is(word, b"where") {
+        alone(Command::Where, argument)
+    } else if is(word, b"show") {
+        Ok(Command::Show(wanted(argument)?))
+    } else if is(word, b"feat") {
+        Ok(Command::Feat(label(argument)?))
+    } else if is(word, b"list") {
+        Ok(Command::List(optional(argument)?))
+    } else if is(word, b"out") {
+        Ok(Command::Out(count(10, argument)?))
+    } else if is(word, b"back") {
+        Ok(Command::Back(count(1, argument)?))
+    } else if is(word, b"quit") {
+        alone(Command::Quit, argument)
+    } else {
+        Err(Refusal::UnknownCommand)
+    }
+}
+
+// The command that a line spells.
+fn parsed(line: &[u8]) -> Result<Command, Refusal>
+    ensures is { result ≡ refusal_of line.now }
+    ensures few { IfOk result (λ w. steps_of w ≤ 1000000) }
+{
+    let (word, rest) = cut_word(line);
+    let (argument, rest) = cut_word(rest);
+    let (more, _) = cut_word(rest);
+    if line.len() > MAX_LINE || !more.is_empty() {
+        return Err(Refusal::UnknownCommand);
+    }
+    command_of(word, argument)
+}
+
+/// The command that a line spells, without its ending.
+///
+/// Errors: the reply that refuses the line, `UnknownCommand` or `CountOutOfRange`.
+pub fn parse_command(line: &[u8]) -> Result<Command, Reply>
+    ensures is { result ≡ command_of line.now }
+    ensures few { IfOk result (λ w. steps_of w ≤ 1000000) }
+{
+    match parsed(line) {
+        Ok(command) => Ok(command),
+        Err(refusal) => Err(Reply::Refused(refusal)),
+    }
+}

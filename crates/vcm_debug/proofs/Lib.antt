@@ -1,0 +1,10 @@
+pub mod Changes
+pub mod Stepping
+pub mod Coming
+pub mod Lines
+pub mod Sessions
+pub mod RunEnding
+pub mod Copies
+pub mod KeptLines
+pub mod Turns
+pub mod ServedLines

@@ -1,0 +1,87 @@
+-- Runs that haven't ended.
+use Rattle.std.proofs.Common.{◌≡◌, ℕ, zero, suc, ◌+◌, ◌-◌, ◌<◌, ◌≤◌, Bool, List, Option, Some, None, Ok, Err, refl, sym, ap, ◌∙◌, subst, arith, below_more}
+use Rattle.vcm_machine.specs.Running.{Running, later, WantsMemory}
+use Rattle.vcm_machine.proofs.LawLemmas.{add_up}
+use Rattle.vcm_console.specs.declared.reply.Reason.{Reason}
+use Rattle.vcm_console.specs.declared.reply.Reason.TheVariants.{Count}
+use Rattle.vcm_debug.specs.Halting.{reason, reason_after, halt, run_end}
+use Rattle.vcm_debug.specs.Going.{HasRun}
+
+-- one step more
+pub one_more : (n : ℕ) (m : Running) → later (n + 1) m ≡ later 1 (later n m)
+one_more n m = sym (add_up n 1 m)
+
+module _ (breakpoints watches : List Bool) (k : ℕ) (old : Running) where
+  -- a run of at most k steps has come to this machine after `done` of them, and hasn't ended
+  pub record HasCome (new : Running) (done : ℕ) : Type 0 where
+    pub new_is : new ≡ later done old
+    pub within : done ≤ k
+    pub none_ends : (i : ℕ) → i < done → reason_after breakpoints watches old i ≡ None
+    pub rest : run_end breakpoints watches (k - done) done (later done old) ≡ run_end breakpoints watches k 0 old
+
+  pub begins : HasCome old 0
+  begins = record {
+    new_is = refl;
+    within = omega arith;
+    none_ends = λ i l. absurd (omega arith);
+    rest = (let e : k - 0 ≡ k = omega arith in ap (λ m. run_end breakpoints watches m 0 old) e);
+  }
+
+  module _ (new after : Running) (done : ℕ) (come : HasCome new done) (l : done < k) (stepped : after ≡ later 1 new) where
+    abbrev s : Running
+    s = later done old
+
+    abbrev t : Running
+    t = later 1 s
+
+    after_is : after ≡ t
+    after_is = stepped ∙ ap (λ h. later 1 h) come.new_is
+
+    one_on : t ≡ later (done + 1) old
+    one_on = sym (one_more done old)
+
+    same_reason : reason breakpoints watches new after ≡ reason breakpoints watches s t
+    same_reason = ap (λ x. reason breakpoints watches new x) after_is ∙ ap (λ h. reason breakpoints watches h t) come.new_is
+
+    found : reason breakpoints watches new after ≡ reason_after breakpoints watches old done
+    found = same_reason ∙ ap (λ x. reason breakpoints watches s x) (one_on ∙ ap (λ n. later n old) (let e : done + 1 ≡ suc done = omega arith in e))
+
+    turn : (r : Option Reason) → reason breakpoints watches s t ≡ r
+        → run_end breakpoints watches (k - done) done s ≡ elim r [ Some why ↦ halt (suc done) why | None ↦ run_end breakpoints watches (k - suc done) (suc done) t ]
+    turn r e =
+        let n : k - done ≡ suc (k - suc done) = omega arith in
+        ap (λ m. run_end breakpoints watches m done s) n
+        ∙ ap (λ x. elim x [ Some why ↦ halt (suc done) why | None ↦ run_end breakpoints watches (k - suc done) (suc done) t ]) e
+
+    -- the run goes on
+    pub goes : reason breakpoints watches new after ≡ None → HasCome after (done + 1)
+    goes e = record {
+      new_is = after_is ∙ one_on;
+      within = omega arith;
+      none_ends = below_more _ _ come.none_ends (sym found ∙ e);
+      rest =
+          let n : done + 1 ≡ suc done = omega arith in
+          ap (λ m. run_end breakpoints watches (k - m) m (later (done + 1) old)) n
+          ∙ ap (λ x. run_end breakpoints watches (k - suc done) (suc done) x) (sym one_on)
+          ∙ sym (turn None (sym same_reason ∙ e)) ∙ come.rest;
+    }
+
+    -- it ends
+    pub ends : (why : Reason) → reason breakpoints watches new after ≡ Some why → HasRun breakpoints watches k old after (Ok (done + 1, why))
+    ends why e =
+        let n : done + 1 ≡ suc done = omega arith in
+        (after_is ∙ one_on, ap (λ m. halt m why) n ∙ sym (turn (Some why) (sym same_reason ∙ e)) ∙ come.rest, omega arith)
+
+    pub come_is : after ≡ later (done + 1) old
+    come_is = after_is ∙ one_on
+
+  module _ (new : Running) (done : ℕ) (come : HasCome new done) where
+    -- all steps are taken
+    pub counts : k ≤ done → HasRun breakpoints watches k old new (Ok (done, Count))
+    counts l =
+        let z : k - done ≡ zero = omega arith in
+        (come.new_is, sym (ap (λ m. run_end breakpoints watches m done (later done old)) z) ∙ come.rest, come.within)
+
+    -- memory was refused
+    pub refused : (next : Running) → done < k → next ≡ new → WantsMemory new → HasRun breakpoints watches k old next (Err done)
+    refused next l e wants = record { new_is = e ∙ come.new_is; within = l; none_ends = come.none_ends; wants = subst WantsMemory (sym e) wants }

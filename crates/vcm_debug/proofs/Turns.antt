@@ -1,0 +1,72 @@
+-- Answers to lines.
+use Rattle.std.proofs.Common.{◌≡◌, ℕ, ◌<◌, ◌==◌, Bool, true, false, List, [], ◌∷◌, length, Option, Result, Ok, Err, refl, sym, ◌∙◌, subst, arith}
+use Rattle.std.proofs.Common.{inl, inr}
+use Rattle.std.specs.Io.KnownBytes.{Appends, Keeps}
+use Rattle.std.proofs.KnownBytes.{Appends-kept}
+use Rattle.vcm_num.specs.Written.{AppendsFront}
+use Rattle.vcm_num.specs.declared.memory.WriteFault.{WriteFault}
+use Rattle.vcm_code.specs.declared.code.Code.{Code}
+use Rattle.vcm_console.specs.declared.command.Command.{Command}
+use Rattle.vcm_console.specs.declared.reply.Halted.{Halted}
+use Rattle.vcm_console.specs.declared.reply.Refusal.{Refusal}
+use Rattle.vcm_console.specs.declared.reply.Reply.{Reply}
+use Rattle.vcm_console.specs.declared.reply.Reply.TheVariants.{Refused}
+use Rattle.vcm_console.specs.Parsing.{refusal_of, replied, command_of}
+use Rattle.vcm_console.specs.Replies.{Fits}
+use Rattle.vcm_debug.specs.Debugging.{Debugging}
+use Rattle.vcm_debug.specs.Session.{Carries}
+use Rattle.vcm_debug.specs.Serving.{answer_text, AnswersTo, is_bye, Turn, IsTurn, HasTurned}
+
+turn_of : (old new : Debugging) (line text : List ℕ) (last : Bool) → 0 < length line → Turn old line new text last → IsTurn old line new text last
+turn_of old new [] text last l t = absurd (omega arith)
+turn_of old new (b ∷ bs) text last l t = t
+
+-- a line was answered
+told_turn : (old new : Debugging) (line : List ℕ) (told : Result Reply Halted) → 0 < length line → AnswersTo old (command_of line) new told
+    → IsTurn old line new (answer_text new told) (is_bye told)
+told_turn old new line told l a = turn_of old new line _ _ l (record { told = told; answers = a; text_is = refl; last_is = refl })
+
+-- the answer was written and handed on
+pub turn_told : (old new : Debugging) (line : List ℕ) (told : Result Reply Halted) (before written after : Option (List ℕ)) (last : Bool) → 0 < length line
+    → AnswersTo old (command_of line) new told → Appends before written (answer_text new told) → Keeps written after → last ≡ is_bye told
+    → HasTurned old line new before after (Ok last)
+turn_told old new line told before written after last l a w k e =
+    subst (λ b. HasTurned old line new before after (Ok b)) (sym e)
+    (answer_text new told, told_turn old new line told l a, Appends-kept before written after (answer_text new told) w k)
+
+-- it was written and not handed on
+pub turn_kept : (old new : Debugging) (line : List ℕ) (told : Result Reply Halted) (before written after : Option (List ℕ)) (e : WriteFault) → 0 < length line
+    → AnswersTo old (command_of line) new told → Appends before written (answer_text new told) → Keeps written after → HasTurned old line new before after (Err e)
+turn_kept old new line told before written after e l a w k =
+    (answer_text new told, is_bye told, told_turn old new line told l a, inr (Appends-kept before written after (answer_text new told) w k))
+
+-- it was not written
+pub turn_cut : (old new : Debugging) (line : List ℕ) (told : Result Reply Halted) (before after : Option (List ℕ)) (e : WriteFault) → 0 < length line
+    → AnswersTo old (command_of line) new told → AppendsFront before after (answer_text new told) → HasTurned old line new before after (Err e)
+turn_cut old new line told before after e l a w = (answer_text new told, is_bye told, told_turn old new line told l a, inl w)
+
+-- a command is carried out, and a line that spells none is refused
+pub carried : (old new : Debugging) (line : List ℕ) (what : Command) (told : Result Reply Halted) → Ok what ≡ command_of line → Carries old what new told
+    → AnswersTo old (command_of line) new told
+carried old new line what told e c = subst (λ r. AnswersTo old r new told) e c
+
+pub refused : (d : Debugging) (line : List ℕ) (reply : Reply) → Err reply ≡ command_of line → AnswersTo d (command_of line) d (Ok reply)
+refused d line reply e = subst (λ r. AnswersTo d r d (Ok reply)) e (refl, refl)
+
+abbrev refusal : Reply → Result Command Reply
+refusal reply = Err reply
+
+same_reply : (a b : Reply) → refusal a ≡ refusal b → a ≡ b
+same_reply a b e = cc
+
+-- such a reply names nothing
+pub refused_fits : (code : Code) (lines : List (List ℕ)) (line : List ℕ) (reply : Reply) → Err reply ≡ command_of line → Fits code lines reply
+refused_fits code lines line reply e = by (refusal_of line) e
+  where
+    by : (r : Result Command Refusal) → Err reply ≡ replied r → Fits code lines reply
+    by (Ok what) e = absurd cc
+    by (Err f) e = subst (Fits code lines) (sym (same_reply reply (Refused f) e)) tt
+
+pub nonempty : (line : List ℕ) (b : Bool) → b ≡ (length line == 0) → b ≡ false → 0 < length line
+nonempty [] b e f = absurd (let t : true ≡ false = sym e ∙ f in cc)
+nonempty (x ∷ xs) b e f = omega arith

@@ -1,0 +1,79 @@
+-- Where a run of the debugger ends, and why.
+use Rattle.std.specs.Prelude.{◌≡◌, ℕ, zero, suc, ◌+◌, ◌<◌, ℤ, Bool, true, false, List, [], ◌∷◌, Option, Some, None, slice_get, if◌then◌else◌}
+use Rattle.std.specs.Ordering.{int_eq}
+use Rattle.vcm_spec.specs.declared.stop.StopPlace.{StopPlace}
+use Rattle.vcm_code.specs.CodeTable.{code_effective}
+use Rattle.vcm_machine.specs.Running.{Running, setup, later}
+use Rattle.vcm_console.specs.declared.reply.Reason.{Reason}
+use Rattle.vcm_console.specs.declared.reply.Reason.TheVariants.{Stopped, Break, Watch, Count}
+
+-- the lowest-numbered variable from `index` on that has a watch and whose value differs
+abbrev pub changed_from : ℕ → List Bool → List ℤ → List ℤ → Option ℕ
+changed_from index [] before now = None
+changed_from index (w ∷ ws) [] now = None
+changed_from index (w ∷ ws) (b ∷ bs) [] = None
+changed_from index (true ∷ ws) (b ∷ bs) (n ∷ ns) = if int_eq b n then changed_from (index + 1) ws bs ns else Some index
+changed_from index (false ∷ ws) (b ∷ bs) (n ∷ ns) = changed_from (index + 1) ws bs ns
+
+-- a watched variable that has changed is a reason to end
+abbrev pub watch_reason : Option ℕ → Option Reason
+watch_reason None = None
+watch_reason (Some v) = Some (Watch v)
+
+-- a breakpoint at the next statement is a reason before any other
+abbrev pub break_reason : Option Bool → Option Reason → Option Reason
+break_reason (Some true) other = Some Break
+break_reason (Some false) other = other
+break_reason None other = other
+
+-- a stop is a reason before any other
+abbrev pub stop_reason : Option StopPlace → Option Reason → Option Reason
+stop_reason (Some p) other = Some Stopped
+stop_reason None other = other
+
+-- why a run ends at the machine `now`, one step after `before`, if it does: the first that applies of a stop, a breakpoint at the next statement,
+-- and a watched variable whose value differs
+abbrev pub reason : List Bool → List Bool → Running → Running → Option Reason
+reason breakpoints watches before now =
+    stop_reason now.place.world.stop
+    (break_reason (slice_get breakpoints now.place.next)
+    (watch_reason (changed_from 0 watches before.place.world.variables now.place.world.variables)))
+
+-- why a run from the machine `start` ends after j + 1 steps, if it does
+abbrev pub reason_after : List Bool → List Bool → Running → ℕ → Option Reason
+reason_after breakpoints watches start j = reason breakpoints watches (later j start) (later (suc j) start)
+
+-- why a run of at most k steps ends after j of them, where this is what is found there: for that reason, or, where there is none, since all k
+-- were taken
+abbrev pub EndsBy : ℕ → ℕ → Option Reason → Reason → Type 0
+EndsBy k j (Some found) why = why ≡ found
+EndsBy k j None why = (j ≡ k) × (why ≡ Count)
+
+-- A run of at most k steps from the machine `start` ends after j + 1 of them: this is the least number of steps after which there is a reason, or
+-- there is none, and all k are taken
+pub record RunEnds (breakpoints watches : List Bool) (start : Running) (k j : ℕ) (why : Reason) : Type 0 where
+  pub within : j < k
+  pub none_earlier : (i : ℕ) → i < j → reason_after breakpoints watches start i ≡ None
+  pub ends : EndsBy k (suc j) (reason_after breakpoints watches start j) why
+
+-- after how many steps a run ends, and why
+pub record Halt : Type 0 where
+  pub steps : ℕ
+  pub why : Reason
+
+-- a run that ends after j steps for this reason
+abbrev pub halt : ℕ → Reason → Halt
+halt j why = record { steps = j; why = why }
+
+-- the same, computed: at most k more steps from the machine `now`, after `done` of them
+abbrev pub run_end : List Bool → List Bool → ℕ → ℕ → Running → Halt
+run_end breakpoints watches zero done now = halt done Count
+run_end breakpoints watches (suc k) done now =
+    elim (reason breakpoints watches now (later 1 now)) [
+      | Some why ↦ halt (suc done) why
+      | None ↦ run_end breakpoints watches k (suc done) (later 1 now)
+    ]
+
+-- how many of k steps are taken at a machine that has not stopped
+abbrev pub effective : ℕ → Running → ℕ
+effective k m = code_effective (setup m) m.code.statements k m.place

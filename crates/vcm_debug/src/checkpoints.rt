@@ -1,0 +1,106 @@
+//! Copies of a machine that a session keeps on its way, so that going back need not begin at the start. They change no answer.
+
+ghost use Rattle.std.specs.Prelude.{◌≡◌, ◌≤◌, All, IfOk};
+ghost use Rattle.vcm_code.specs.declared.code.Code.{Code};
+ghost use Rattle.vcm_spec.specs.Workpiece.{Workpiece};
+ghost use Rattle.vcm_machine.specs.Running.{Running};
+ghost use Rattle.vcm_debug.specs.Debugging.{after};
+ghost use Rattle.vcm_debug.specs.Going.{begun};
+
+use std::alloc::Global;
+use vcm_loader::Loaded;
+use vcm_machine::Machine;
+use vcm_motion::Part;
+use vcm_num::NoMemory;
+
+/// The most copies that are kept.
+const MOST: usize = 64;
+
+/// How many steps lie between two copies at first.
+const FIRST_SPACING: u64 = 16;
+
+/// A copy of a machine, and how many steps it has taken.
+#[derive(Drop)]
+pub(crate) struct Checkpoint<'a, P: Part> {
+    pub(crate) count: u64,
+    pub(crate) machine: Machine<'a, P>,
+}
+
+/// The copies that are kept, at multiples of the spacing.
+#[derive(Drop)]
+pub(crate) struct Checkpoints<'a, P: Part> {
+    pub(crate) kept: Vec<Checkpoint<'a, P>>,
+    pub(crate) spacing: u64,
+}
+
+impl<'a, P: Part> Checkpoints<'a, P> {
+    // No copies, and room for as many as may be kept.
+    pub(crate) fn new(alloc: Global) -> Result<Checkpoints<'a, P>, NoMemory>
+        ensures { (part : Workpiece) (code : Code) → IfOk result (λ c. All (λ k. k.machine ≡ after part code k.count) c.kept.items) }
+    {
+        Ok(Checkpoints {
+            kept: Vec::with_capacity(alloc, MOST)?,
+            spacing: FIRST_SPACING,
+        })
+    }
+
+    // Whether it is time for a copy after so many steps: the spacing goes into them, and no copy is as far.
+    fn is_due(&self, count: u64) -> bool {
+        count.is_multiple_of(self.spacing) && self.kept.last().is_none_or(|last| last.count < count)
+    }
+
+    // Lets go of the copies that don't stand at multiples of twice the spacing.
+    fn thin(&mut self)
+        ensures { (m : Running) → All (λ k. k.machine ≡ begun m k.count) self.old.kept.items → All (λ k. k.machine ≡ begun m k.count) self.new.kept.items }
+    {
+        let spacing = self.spacing.saturating_mul(2);
+        self.kept.retain(|kept| kept.count.is_multiple_of(spacing));
+        self.spacing = spacing;
+    }
+
+    // Keeps a copy of a machine that has taken so many steps, if it is time for one. A copy that is refused is left out.
+    pub(crate) fn pass(&mut self, alloc: Global, machine: &Machine<'a, P>, count: u64)
+        ensures { (m : Running) → machine.now ≡ begun m count → All (λ k. k.machine ≡ begun m k.count) self.old.kept.items
+            → All (λ k. k.machine ≡ begun m k.count) self.new.kept.items }
+    {
+        if !self.is_due(count) {
+            return;
+        }
+        if self.kept.len() >= MOST {
+            self.thin();
+        }
+        if self.kept.len() < MOST
+            && self.is_due(count)
+            && let Ok(machine) = machine.copy(alloc)
+        {
+            let _ = self.kept.push(Checkpoint { count, machine });
+        }
+    }
+
+    // A machine after at most so many steps, with how many: a copy of the kept one that is the farthest of these, or a
+    // machine at the start.
+    pub(crate) fn nearest(
+        &self,
+        alloc: Global,
+        loaded: &'a Loaded<'a>,
+        part: &'a P,
+        count: u64,
+    ) -> Result<Checkpoint<'a, P>, NoMemory>
+        requires kept { All (λ k. k.machine ≡ after (P.part part.now) loaded.now k.count) self.now.kept.items }
+        ensures held { IfOk result (λ k. k.machine ≡ after (P.part part.now) loaded.now k.count) }
+        ensures within { IfOk result (λ k. k.count ≤ count) }
+    {
+        for kept in self.kept.iter().rev() {
+            if kept.count <= count {
+                return Ok(Checkpoint {
+                    count: kept.count,
+                    machine: kept.machine.copy(alloc)?,
+                });
+            }
+        }
+        Ok(Checkpoint {
+            count: 0,
+            machine: Machine::new(alloc, loaded, part)?,
+        })
+    }
+}

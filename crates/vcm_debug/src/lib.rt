@@ -1,0 +1,14 @@
+//! The debugger: a session steps a machine forwards and back, with breakpoints and watches.
+#![tactic(auto)]
+
+mod checkpoints;
+mod forward;
+pub mod laws;
+mod serving;
+mod session;
+
+pub use serving::serve;
+pub use session::Session;
+pub use vcm_console::{
+    Command, Halted, Reason, Refusal, Reply, ServeFault, Standing, Wanted, parse_command,
+};

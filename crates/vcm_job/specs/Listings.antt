@@ -1,0 +1,91 @@
+-- Listings of inputs, and images of listings.
+use Rattle.std.specs.Prelude.{◌≡◌, ℕ, ◌<◌, Bool, true, false, List, [], length, Option, IfSome}
+use Rattle.std.specs.Io.KnownBytes.{Appends, Keeps}
+use Rattle.vcm_num.specs.Written.{AppendsFront}
+use Rattle.vcm_tree.specs.declared.program.Noticed.{Noticed}
+use Rattle.vcm_code.specs.declared.code.Code.{Code}
+use Rattle.vcm_code.specs.Ops.{code_of}
+use Rattle.vcm_code.specs.Valid.{IsValid}
+use Rattle.vcm_image.specs.Whole.{Fits, spelling, code_at}
+use Rattle.vcm_loader.specs.Loading.{LoadFault}
+use Rattle.vcm_words.specs.Rows.{listing}
+use Rattle.vcm_words.specs.Outcomes.{FaultOrWant}
+use Rattle.vcm_run.specs.Programs.{IsBuilt, IsRefusal}
+use Rattle.vcm_job.specs.declared.reading.ReadFault.{ReadFault}
+use Rattle.vcm_job.specs.declared.reading.ReadFault.TheVariants as read_faults
+use Rattle.vcm_job.specs.declared.listing.PrintFault.{PrintFault}
+use Rattle.vcm_job.specs.declared.listing.PrintFault.TheVariants.{Refused, Image, NoMemory, Read, Write, TooLong}
+use Rattle.vcm_job.specs.declared.listing.AsmFault.{AsmFault}
+use Rattle.vcm_job.specs.declared.listing.AsmFault.TheVariants as asms
+use Rattle.vcm_job.specs.Reading.{most_bytes, ReadsAtMost}
+use Rattle.vcm_job.specs.Inputs.{is_image}
+
+-- the bytes are the image of a valid code, and the text is that code's listing
+pub record IsPrinted (image text : List ℕ) : Type 0 where
+  pub code : Code
+  pub valid : IsValid (code_of code)
+  pub fits : Fits code
+  pub spelled : image ≡ spelling code
+  pub listed : text ≡ listing code
+
+-- why an image has no listing: it is refused, or memory was refused
+abbrev pub IsNotPrinted : List ℕ → PrintFault → Type 0
+IsNotPrinted image (Image e) = LoadFault (code_at image) e
+IsNotPrinted image NoMemory = Unit {0}
+IsNotPrinted image _ = ⊥
+
+-- of an image its listing, without notices; of any other input that of its program's image
+abbrev pub ListedAs : Bool → List ℕ → List ℕ → List Noticed → Type 0
+ListedAs true input text notices = IsPrinted input text × (notices ≡ [])
+ListedAs false input text notices = (image : List ℕ) × (IsBuilt input image notices × IsPrinted image text)
+
+-- this is the listing of an input, and these are its notices
+abbrev pub IsListed : List ℕ → List ℕ → List Noticed → Type 0
+IsListed input text notices = ListedAs (is_image input) input text notices
+
+-- why an input has no listing: it is an image and refused, or a text and refused, or memory was refused
+abbrev pub IsListRefusal : List ℕ → PrintFault → Type 0
+IsListRefusal input (Image e) = (is_image input ≡ true) × LoadFault (code_at input) e
+IsListRefusal input (Refused r) = (is_image input ≡ false) × IsRefusal input r
+IsListRefusal input NoMemory = Unit {0}
+IsListRefusal input _ = ⊥
+
+-- the fault of an input that wasn't read whole
+abbrev pub list_not_read : ReadFault → PrintFault
+list_not_read read_faults.NoMemory = NoMemory
+list_not_read read_faults.Device = Read
+list_not_read read_faults.TooLong = TooLong
+
+-- the listing of an input was written, and nothing else
+pub record IsWrittenOut (input : List ℕ) (notices : List Noticed) (old new : Option (List ℕ)) : Type 0 where
+  pub text : List ℕ
+  pub listed : IsListed input text notices
+  pub written : Appends old new text
+
+-- a front of the listing of an input was written, and not all of it
+pub record IsListCutOff (input : List ℕ) (old new : Option (List ℕ)) : Type 0 where
+  pub text : List ℕ
+  pub notices : List Noticed
+  pub listed : IsListed input text notices
+  pub front : AppendsFront old new text
+
+-- a failed write cut the listing off; else nothing was written
+abbrev pub IsNotListed : Option (List ℕ) → Option (List ℕ) → PrintFault → Option (List ℕ) → Option (List ℕ) → Type 0
+IsNotListed before after Write old new = IfSome before (λ input. IsListCutOff input old new)
+IsNotListed before after Read old new = ReadsAtMost most_bytes before after × Keeps old new
+IsNotListed before after NoMemory old new = Keeps old new
+IsNotListed before after TooLong old new = IfSome before (λ input. most_bytes < length input) × Keeps old new
+IsNotListed before after f old new = IfSome before (λ input. IsListRefusal input f) × Keeps old new
+
+-- the fault of a listing that wasn't read whole
+abbrev pub asm_not_read : ReadFault → AsmFault
+asm_not_read read_faults.NoMemory = asms.NoMemory
+asm_not_read read_faults.Device = asms.Read
+asm_not_read read_faults.TooLong = asms.TooLong
+
+-- why a listing gave no image: it is refused, or memory was refused; or it wasn't read whole
+abbrev pub IsNotAssembled : Option (List ℕ) → Option (List ℕ) → AsmFault → Type 0
+IsNotAssembled before after (asms.Refused f) = IfSome before (λ text. FaultOrWant text f)
+IsNotAssembled before after asms.NoMemory = Unit {0}
+IsNotAssembled before after asms.Read = ReadsAtMost most_bytes before after
+IsNotAssembled before after asms.TooLong = IfSome before (λ text. most_bytes < length text)

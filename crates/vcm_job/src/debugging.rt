@@ -1,0 +1,132 @@
+//! Sessions of the debugger on programs and images.
+
+ghost use Rattle.std.specs.Prelude.{◌≡◌, IfOk, IfErr, IfSome};
+ghost use Rattle.vcm_job.specs.Reading.{ReadsLittle};
+ghost use Rattle.vcm_job.specs.Debugged.{IsSession, IsNoSession, IsServedOn, IsNotServed, IsDebugged, IsInputFault, IsNotDebugged, debug_not_read};
+
+use crate::inputs::is_image;
+use crate::reading::{ReadFault, read_all};
+use std::alloc::Global;
+use std::io::{Read, Write};
+use vcm_debug::{ServeFault, Session, serve};
+use vcm_fields::ImageFault;
+use vcm_loader::{Loaded, load};
+use vcm_motion::{Blocks, Part};
+use vcm_part::PartData;
+use vcm_run::{Built, Refusal, build_image};
+use vcm_tree::Noticed;
+
+/// Why a session didn't come to its end.
+#[derive(Clone, Copy, Debug, PartialEq, Eq)]
+pub enum DebugFault {
+    /// The program is refused, or a growth of memory was refused behind acceptance.
+    Refused(Refusal),
+    /// The image is refused, or a growth of memory was refused while it was judged.
+    Image(ImageFault),
+    /// A growth of memory was refused while the input was read, or before the first command.
+    NoMemory,
+    /// The reader of the input failed, before more was read than an input may have.
+    Read,
+    /// The input is longer than 33,554,432 bytes.
+    TooLong,
+    /// The commands could not be read, or the replies not written, or there are too many commands.
+    Serve(ServeFault),
+}
+
+// The fault of an input that wasn't read whole.
+fn debug_not_read(fault: ReadFault) -> DebugFault
+    ensures { result ≡ debug_not_read fault }
+{
+    match fault {
+        ReadFault::NoMemory => DebugFault::NoMemory,
+        ReadFault::Device => DebugFault::Read,
+        ReadFault::TooLong => DebugFault::TooLong,
+    }
+}
+
+// Serves a session on what was loaded.
+fn serve_loaded<'a, P: Part, R: Read, W: Write>(
+    alloc: Global,
+    loaded: &'a Loaded<'a>,
+    part: &'a P,
+    commands: &mut R,
+    writer: &mut W,
+) -> Result<(), DebugFault>
+    ensures done { IfOk result (λ v. IfSome (R.remaining commands.old) (λ lines. IsSession (P.part part.now) loaded.now lines (R.remaining commands.new) (W.contents writer.old) (W.contents writer.new) (Ok v))) }
+    ensures fault { IfErr result (λ f. IsNoSession (P.part part.now) loaded.now (R.remaining commands.old) (R.remaining commands.new) f (W.contents writer.old) (W.contents writer.new)) }
+{
+    let mut session = match Session::new(alloc, loaded, part) {
+        Ok(session) => session,
+        Err(_) => return Err(DebugFault::NoMemory),
+    };
+    match serve(alloc, &mut session, commands, writer) {
+        Ok(()) => Ok(()),
+        Err(fault) => Err(DebugFault::Serve(fault)),
+    }
+}
+
+// Serves a session on an image.
+fn serve_image<R: Read, W: Write>(
+    alloc: Global,
+    part: &PartData,
+    image: &[u8],
+    commands: &mut R,
+    writer: &mut W,
+) -> Result<(), DebugFault>
+    ensures done { IfOk result (λ v. IfSome (R.remaining commands.old) (λ lines. IsServedOn part.now image.now lines (R.remaining commands.new) (W.contents writer.old) (W.contents writer.new) (Ok v))) }
+    ensures fault { IfErr result (λ f. IsNotServed part.now image.now (R.remaining commands.old) (R.remaining commands.new) f (W.contents writer.old) (W.contents writer.new)) }
+{
+    match load(alloc, image) {
+        Ok(loaded) => serve_loaded(alloc, &loaded, &Blocks::new(part), commands, writer),
+        Err(fault) => Err(DebugFault::Image(fault)),
+    }
+}
+
+// Serves a session on an input.
+fn serve_input<R: Read, W: Write>(
+    alloc: Global,
+    part: &PartData,
+    input: &[u8],
+    commands: &mut R,
+    writer: &mut W,
+) -> Result<Vec<Noticed>, DebugFault>
+    ensures done { IfOk result (λ v. IfSome (R.remaining commands.old) (λ lines. IsDebugged part.now input.now lines (R.remaining commands.new) v.items (W.contents writer.old) (W.contents writer.new))) }
+    ensures fault { IfErr result (λ f. IsInputFault part.now input.now (R.remaining commands.old) (R.remaining commands.new) f (W.contents writer.old) (W.contents writer.new)) }
+{
+    if is_image(input) {
+        serve_image(alloc, part, input, commands, writer)?;
+        return Ok(Vec::new(alloc));
+    }
+    let Built { image, notices } = match build_image(alloc, input) {
+        Ok(built) => built,
+        Err(refusal) => return Err(DebugFault::Refused(refusal)),
+    };
+    match serve_image(alloc, part, &image, commands, writer) {
+        Ok(()) => Ok(notices),
+        Err(DebugFault::Serve(fault)) => Err(DebugFault::Serve(fault)),
+        Err(_) => Err(DebugFault::NoMemory),
+    }
+}
+
+/// Reads an input whole, opens a session of the debugger on it beside a workpiece, and answers the lines of commands up to `quit` or their end. An
+/// input whose first four bytes are `VCMI` is an image, any other the text of a program. Nothing is written where the input is refused. It answers
+/// the lines of the program that have no effect.
+///
+/// Errors: see `DebugFault`. After a failed write the writer has taken a front of the replies.
+pub fn debug<I: Read, R: Read, W: Write>(
+    alloc: Global,
+    part: &PartData,
+    reader: &mut I,
+    commands: &mut R,
+    writer: &mut W,
+) -> Result<Vec<Noticed>, DebugFault>
+    ensures done { IfOk result (λ v. IfSome (I.remaining reader.old) (λ input. IfSome (R.remaining commands.old) (λ lines. IsDebugged part.now input lines (R.remaining commands.new) v.items (W.contents writer.old) (W.contents writer.new)))) }
+    ensures fault { IfErr result (λ f. IsNotDebugged part.now (I.remaining reader.old) (I.remaining reader.new) (R.remaining commands.old) (R.remaining commands.new) f (W.contents writer.old) (W.contents writer.new)) }
+    ensures little { ReadsLittle (I.remaining reader.old) (I.remaining reader.new) }
+{
+    let input = match read_all(alloc, reader) {
+        Ok(input) => input,
+        Err(fault) => return Err(debug_not_read(fault)),
+    };
+    serve_input(alloc, part, &input, commands, writer)
+}

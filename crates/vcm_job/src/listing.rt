@@ -1,0 +1,158 @@
+//! Listings of programs and images, and images of listings.
+
+ghost use Rattle.std.specs.Prelude.{◌≡◌, IfOk, IfErr, IfSome};
+ghost use Rattle.vcm_job.specs.Reading.{ReadsLittle};
+ghost use Rattle.vcm_job.specs.Listings.{IsPrinted, IsNotPrinted, IsListed, IsListRefusal, IsWrittenOut, IsNotListed, IsNotAssembled, list_not_read, asm_not_read};
+
+use crate::inputs::is_image;
+use crate::reading::{ReadFault, read_all};
+use std::alloc::Global;
+use std::io::{Read, Write};
+use vcm_fields::ImageFault;
+use vcm_image::write;
+use vcm_listing::{ListFault, print, read_listing};
+use vcm_loader::load;
+use vcm_num::write_all;
+use vcm_run::{Built, Refusal, build_image};
+use vcm_tree::Noticed;
+
+/// Why no listing was written.
+#[derive(Clone, Copy, Debug, PartialEq, Eq)]
+pub enum PrintFault {
+    /// The program is refused, or a growth of memory was refused behind acceptance.
+    Refused(Refusal),
+    /// The image is refused, or a growth of memory was refused while it was judged.
+    Image(ImageFault),
+    /// A growth of memory was refused while the input was read, or the listing made.
+    NoMemory,
+    /// The reader failed, before more was read than an input may have.
+    Read,
+    /// The writer failed, or took no byte, before all was written.
+    Write,
+    /// The input is longer than 33,554,432 bytes.
+    TooLong,
+}
+
+/// Why a listing gave no image.
+#[derive(Clone, Copy, Debug, PartialEq, Eq)]
+pub enum AsmFault {
+    /// The listing is refused, or a growth of memory was refused while it was read.
+    Refused(ListFault),
+    /// A growth of memory was refused while the text was read whole, or the image made.
+    NoMemory,
+    /// The reader failed, before more was read than a text may have.
+    Read,
+    /// The text is longer than 33,554,432 bytes.
+    TooLong,
+}
+
+/// A listing, and the lines without effect of the program that it is of.
+#[derive(Drop)]
+struct Listed {
+    text: Vec<u8>,
+    notices: Vec<Noticed>,
+}
+
+// The fault of an input that wasn't read whole.
+fn list_not_read(fault: ReadFault) -> PrintFault
+    ensures { result ≡ list_not_read fault }
+{
+    match fault {
+        ReadFault::NoMemory => PrintFault::NoMemory,
+        ReadFault::Device => PrintFault::Read,
+        ReadFault::TooLong => PrintFault::TooLong,
+    }
+}
+
+// The fault of a listing that wasn't read whole.
+fn asm_not_read(fault: ReadFault) -> AsmFault
+    ensures { result ≡ asm_not_read fault }
+{
+    match fault {
+        ReadFault::NoMemory => AsmFault::NoMemory,
+        ReadFault::Device => AsmFault::Read,
+        ReadFault::TooLong => AsmFault::TooLong,
+    }
+}
+
+// The listing of an image.
+fn printed(alloc: Global, image: &[u8]) -> Result<Vec<u8>, PrintFault>
+    ensures printed { IfOk result (λ text. IsPrinted image.now text.items) }
+    ensures refused { IfErr result (IsNotPrinted image.now) }
+{
+    let loaded = match load(alloc, image) {
+        Ok(loaded) => loaded,
+        Err(fault) => return Err(PrintFault::Image(fault)),
+    };
+    match print(alloc, &loaded) {
+        Ok(text) => Ok(text),
+        Err(_) => Err(PrintFault::NoMemory),
+    }
+}
+
+// The listing of an input.
+fn listing_of(alloc: Global, input: &[u8]) -> Result<Listed, PrintFault>
+    ensures listed { IfOk result (λ l. IsListed input.now l.text.items l.notices.items) }
+    ensures refused { IfErr result (IsListRefusal input.now) }
+{
+    if is_image(input) {
+        let text = printed(alloc, input)?;
+        let notices = Vec::new(alloc);
+        return Ok(Listed { text, notices });
+    }
+    let Built { image, notices } = match build_image(alloc, input) {
+        Ok(built) => built,
+        Err(refusal) => return Err(PrintFault::Refused(refusal)),
+    };
+    match printed(alloc, &image) {
+        Ok(text) => Ok(Listed { text, notices }),
+        Err(_) => Err(PrintFault::NoMemory),
+    }
+}
+
+/// Reads an input whole, and writes its listing and nothing else: of an image that of its code, of any other input that of the program's image.
+/// An input whose first four bytes are `VCMI` is an image. It answers the lines of the program that have no effect.
+///
+/// Errors: see `PrintFault`. After a failed write the writer has taken a front of the listing, and not all of it; else nothing was written.
+pub fn list<R: Read, W: Write>(
+    alloc: Global,
+    reader: &mut R,
+    writer: &mut W,
+) -> Result<Vec<Noticed>, PrintFault>
+    ensures done { IfOk result (λ v. IfSome (R.remaining reader.old) (λ input. IsWrittenOut input v.items (W.contents writer.old) (W.contents writer.new))) }
+    ensures fault { IfErr result (λ f. IsNotListed (R.remaining reader.old) (R.remaining reader.new) f (W.contents writer.old) (W.contents writer.new)) }
+    ensures little { ReadsLittle (R.remaining reader.old) (R.remaining reader.new) }
+{
+    let input = match read_all(alloc, reader) {
+        Ok(input) => input,
+        Err(fault) => return Err(list_not_read(fault)),
+    };
+    let Listed { text, notices } = listing_of(alloc, &input)?;
+    match write_all(writer, &text) {
+        Ok(()) => Ok(notices),
+        Err(_) => Err(PrintFault::Write),
+    }
+}
+
+/// Reads a listing whole, and gives the image of its code.
+///
+/// Errors: see `AsmFault`.
+#[tactic(auto, using(vcm_image::proofs::ImageLaws::range_of))]
+pub fn asm<R: Read>(alloc: Global, reader: &mut R) -> Result<Vec<u8>, AsmFault>
+    ensures image { IfOk result (λ v. IfSome (R.remaining reader.old) (λ text. IsPrinted v.items text)) }
+    ensures fault { IfErr result (λ f. IsNotAssembled (R.remaining reader.old) (R.remaining reader.new) f) }
+    ensures little { ReadsLittle (R.remaining reader.old) (R.remaining reader.new) }
+{
+    let text = match read_all(alloc, reader) {
+        Ok(text) => text,
+        Err(fault) => return Err(asm_not_read(fault)),
+    };
+    let code = match read_listing(alloc, &text) {
+        Ok(code) => code,
+        Err(fault) => return Err(AsmFault::Refused(fault)),
+    };
+    match write(alloc, &code) {
+        Ok(image) => Ok(image),
+        Err(_) => Err(AsmFault::NoMemory),
+    }
+}

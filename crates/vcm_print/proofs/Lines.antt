@@ -1,0 +1,147 @@
+-- What is written of a line is what the listing says.
+use Rattle.std.proofs.Common.{◌≡◌, ℕ, ◌+◌, List, [], ◌∷◌, ◌++◌, refl, sym, ap, ◌∙◌, append_assoc, codes, subst, arith, Option, Some}
+use Rattle.std.specs.Prelude.{flat_map, decimal, Result}
+use Rattle.std.proofs.lemmas.List.{append-nil}
+use Rattle.std.proofs.lemmas.Fmt.{decimal_digit}
+use Rattle.vcm_num.specs.Written.{Wrote}
+use Rattle.vcm_spec.specs.declared.expression.Item.{Item}
+use Rattle.vcm_spec.specs.Setup.{Variable as Entry}
+use Rattle.vcm_code.specs.declared.op.Op.TheVariants as ops
+use Rattle.vcm_fields.specs.Parts.{Operation, Line}
+use Rattle.vcm_fields.specs.Words.{word_of}
+use Rattle.vcm_words.specs.declared.row.Row.TheVariants as rows
+use Rattle.vcm_words.specs.Cutting.{split}
+use Rattle.vcm_words.specs.Items.{item_text, closed_words, expression}
+use Rattle.vcm_words.specs.Operands.{operands, single, number_text, lettered, text, direction_text, setting_text, source_text, turn_text, word_text}
+use Rattle.vcm_words.specs.Rows.{row_text, kind_text}
+use Rattle.vcm_print.specs.declared.part.Part.TheVariants.{Nothing, Variable, Feature, Frame, Pair, Target, Number, Turn, Direction, Setting, Source, Items, Three, Text}
+use Rattle.vcm_print.specs.Parts.{Piece, parts}
+use Rattle.vcm_print.specs.Written.{more_items, items_bytes, three_bytes, part_bytes, parts_bytes, statement_bytes, variable_bytes, name_bytes, listed}
+use Rattle.vcm_print.proofs.Joining.{blanked, blanked_append, joined_is, text_is}
+
+-- the words of a part
+abbrev part_words : Piece → List (List ℕ)
+part_words Nothing = []
+part_words (Variable n) = lettered 86 n
+part_words (Feature n) = lettered 70 n
+part_words (Frame n) = lettered 68 n
+part_words (Pair n) = lettered 76 n
+part_words (Target n) = lettered 64 n
+part_words (Number n) = number_text n
+part_words (Turn axis) = single (turn_text axis)
+part_words (Direction toward) = single (direction_text toward)
+part_words (Setting which) = single (setting_text which)
+part_words (Source which) = single (source_text which)
+part_words (Items items) = expression items
+part_words (Three x y z) = expression x ++ (expression y ++ expression z)
+part_words (Text bs) = text bs
+
+-- items behind the first one
+closed_is : (i : Item) (is : List Item) → blanked (closed_words (i ∷ is)) ≡ (32 ∷ item_text i) ++ (more_items is ++ codes "]")
+closed_is i [] = ap (λ l. 32 ∷ l) (append-nil (item_text i ++ codes "]"))
+closed_is i (j ∷ is) = ap (λ l. (32 ∷ item_text i) ++ l) (closed_is j is ∙ sym (append_assoc (32 ∷ item_text j) (more_items is) (codes "]")))
+
+items_are : (is : List Item) → blanked (expression is) ≡ items_bytes is
+items_are [] = refl
+items_are (i ∷ []) = ap (λ l. 32 ∷ 91 ∷ l) (append-nil (item_text i ++ codes "]"))
+items_are (i ∷ j ∷ is) = ap (λ l. 32 ∷ 91 ∷ item_text i ++ l) (closed_is j is ∙ sym (append_assoc (32 ∷ item_text j) (more_items is) (codes "]")))
+
+three_are : (x y z : List Item) → blanked (expression x ++ (expression y ++ expression z)) ≡ three_bytes x y z
+three_are x y z =
+    blanked_append (expression x) (expression y ++ expression z)
+    ∙ ap (λ l. l ++ blanked (expression y ++ expression z)) (items_are x)
+    ∙ ap (λ l. items_bytes x ++ l) (blanked_append (expression y) (expression z) ∙ ap (λ l. l ++ blanked (expression z)) (items_are y) ∙ ap (λ l. items_bytes y ++ l) (items_are z))
+
+one_is : (w : List ℕ) → blanked (single w) ≡ 32 ∷ w
+one_is w = ap (λ l. 32 ∷ l) (append-nil w)
+
+part_is : (p : Piece) → blanked (part_words p) ≡ part_bytes p
+unfolding part_bytes
+part_is Nothing = refl
+part_is (Variable n) = one_is (86 ∷ decimal n)
+part_is (Feature n) = one_is (70 ∷ decimal n)
+part_is (Frame n) = one_is (68 ∷ decimal n)
+part_is (Pair n) = one_is (76 ∷ decimal n)
+part_is (Target n) = one_is (64 ∷ decimal n)
+part_is (Number n) = one_is (decimal n)
+part_is (Turn axis) = one_is (turn_text axis)
+part_is (Direction toward) = one_is (direction_text toward)
+part_is (Setting which) = one_is (setting_text which)
+part_is (Source which) = one_is (source_text which)
+part_is (Items is) = items_are is
+part_is (Three x y z) = three_are x y z
+part_is (Text bs) = text_is (39 ∷ bs ++ 39 ∷ [])
+
+parts_are : (ps : List Piece) → blanked (flat_map part_words ps) ≡ parts_bytes ps
+parts_are [] = refl
+parts_are (p ∷ ps) = blanked_append (part_words p) (flat_map part_words ps) ∙ ap (λ l. l ++ blanked (flat_map part_words ps)) (part_is p) ∙ ap (λ l. part_bytes p ++ l) (parts_are ps)
+
+-- the words of the parts are the operands
+operands_are : (op : Operation) → flat_map part_words (parts op) ≡ operands op
+unfolding parts
+operands_are ops.EndFil = refl
+operands_are (ops.Goto x y z) = append-nil (expression x ++ (expression y ++ expression z))
+operands_are ops.GoHome = refl
+operands_are (ops.Assign v e) = ap (λ l. (86 ∷ decimal v) ∷ l) (append-nil (expression e))
+operands_are (ops.If e to) = refl
+operands_are (ops.Else to) = refl
+operands_are ops.EndIf = refl
+operands_are (ops.Do v p a b c to) = refl
+operands_are (ops.EndDo v p to) = refl
+operands_are ops.Label = refl
+operands_are (ops.JumpTo to) = refl
+operands_are (ops.Feat f x y z d) = refl
+operands_are (ops.Meas f) = refl
+operands_are (ops.PtMeas f x y z d) = refl
+operands_are ops.EndMes = refl
+operands_are (ops.SnSet which e) = ap (λ l. setting_text which ∷ l) (append-nil (expression e))
+operands_are (ops.Trans f x y z) = ap (λ l. (68 ∷ decimal f) ∷ l) (append-nil (expression x ++ (expression y ++ expression z)))
+operands_are (ops.Rotate f axis quarters) = refl
+operands_are (ops.Recall f) = refl
+operands_are (ops.Obtain v source f word) = refl
+operands_are (ops.Output source f) = refl
+operands_are (ops.Text bs) = append-nil (split 32 (39 ∷ bs ++ 39 ∷ []))
+
+assoc : (a b c p e : List ℕ) → (a ++ (b ++ (c ++ p))) ++ e ≡ (a ++ (b ++ c)) ++ (p ++ e)
+assoc a b c p e =
+    append_assoc a (b ++ (c ++ p)) e
+    ∙ ap (λ l. a ++ l) (ap (λ l. l ++ e) (sym (append_assoc b c p)) ∙ append_assoc (b ++ c) p e)
+    ∙ sym (append_assoc a (b ++ c) (p ++ e))
+
+-- a statement's line is written as it is listed
+pub line_is : (n : ℕ) (s : Line) → statement_bytes n s ≡ listed (rows.Numbered n s)
+unfolding listed row_text
+line_is n s =
+    let words : List (List ℕ) = decimal s.line ∷ word_text (word_of s.op) ∷ operands s.op in
+    let same : blanked (operands s.op) ≡ parts_bytes (parts s.op) = ap (λ ws. blanked ws) (sym (operands_are s.op)) ∙ parts_are (parts s.op) in
+    sym (ap (λ l. l ++ codes "\n") (joined_is (decimal n) words ∙ ap (λ l. decimal n ++ (32 ∷ decimal s.line ++ (32 ∷ word_text (word_of s.op) ++ l))) same)
+    ∙ assoc (decimal n) (32 ∷ decimal s.line) (32 ∷ word_text (word_of s.op)) (parts_bytes (parts s.op)) (codes "\n"))
+
+-- the line of a feature, and that of a frame
+pub feature_is : (n : ℕ) (name : List ℕ) → name_bytes (codes "FEATURE ") n name ≡ listed (rows.Feature n name)
+unfolding listed row_text
+feature_is n name = sym (ap (λ l. codes "FEATURE " ++ l) (append_assoc (decimal n) (32 ∷ name) (codes "\n")))
+
+pub frame_is : (n : ℕ) (name : List ℕ) → name_bytes (codes "FRAME ") n name ≡ listed (rows.Frame n name)
+unfolding listed row_text
+frame_is n name = sym (ap (λ l. codes "FRAME " ++ l) (append_assoc (decimal n) (32 ∷ name) (codes "\n")))
+
+-- the line of a variable
+pub variable_is : (n : ℕ) (v : Entry) → variable_bytes n v.kind v.name v.expansion ≡ listed (rows.Variable n v)
+unfolding listed row_text
+variable_is n v =
+    sym (ap (λ l. codes "VAR " ++ l) (append_assoc (decimal n) (32 ∷ kind_text v.kind ++ (32 ∷ v.name ++ (32 ∷ decimal v.expansion))) (codes "\n")
+    ∙ ap (λ l. decimal n ++ (32 ∷ l)) (append_assoc (kind_text v.kind) (32 ∷ v.name ++ (32 ∷ decimal v.expansion)) (codes "\n")
+    ∙ ap (λ l. kind_text v.kind ++ (32 ∷ l)) (append_assoc v.name (32 ∷ decimal v.expansion) (codes "\n")))))
+
+-- the first line
+pub head_is : codes "VCM-LISTING 1\n" ≡ listed rows.Head
+unfolding listed row_text
+head_is = sym (ap (λ d. codes "VCM-LISTING " ++ (d ++ codes "\n")) (decimal_digit 1 (omega arith)))
+
+same_line : (o : Option Line) (s t : Line) → o ≡ Some s → o ≡ Some t → s ≡ t
+same_line o s t e f = cc
+
+-- the line that was written is that of the statement at this place
+pub wrote_listed : {A E : Type 0} (a b : Option (List ℕ)) (n : ℕ) (t s : Line) (r : Result A E) (o : Option Line) → o ≡ Some t → o ≡ Some s → Wrote a b (statement_bytes n t) r → Wrote a b (listed (rows.Numbered n s)) r
+wrote_listed a b n t s r o e f h = subst (λ l. Wrote a b l r) (ap (λ x. statement_bytes n x) (same_line o t s e f) ∙ line_is n s) h

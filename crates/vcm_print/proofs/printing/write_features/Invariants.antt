@@ -1,0 +1,8 @@
+use Rattle.std.proofs.Common.{drop}
+use Rattle.vcm_words.specs.declared.row.Row.TheVariants.{Feature}
+use Rattle.vcm_print.specs.Written.{lines}
+use Rattle.vcm_print.proofs.Steps.{TookUpTo}
+use Rattle.vcm_print.proofs.printing.write_features.Given as goal
+
+abbrev pub invariant-loop-n : goal.invariant-loop-n
+invariant-loop-n g l = TookUpTo (g.W.Write.contents l.fn.writer) (g.W.Write.contents l.writer) (lines Feature l.n (drop l.n l.loaded.tables.features)) (lines Feature 0 l.loaded.tables.features)

@@ -1,0 +1,15 @@
+//! The writing of listings: a statement's line, which takes no memory, and the whole listing of a valid image.
+#![tactic(auto)]
+
+mod items;
+mod names;
+mod part;
+mod parts;
+mod printing;
+mod statement;
+mod tables;
+mod words;
+mod writer;
+
+pub use printing::print;
+pub use statement::write_statement;

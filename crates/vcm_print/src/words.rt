@@ -1,0 +1,38 @@
+//! The words of statements.
+
+ghost use Rattle.std.specs.Prelude.{◌≡◌};
+ghost use Rattle.vcm_fields.specs.Words.{word_of};
+ghost use Rattle.vcm_words.specs.Operands.{word_text};
+
+use vcm_code::Op;
+use vcm_fields::BorrowedOp;
+
+/// The word of a statement.
+pub(crate) fn word(op: &BorrowedOp<'_>) -> &'static [u8]
+    ensures { result.now ≡ word_text (word_of op.now) }
+{
+    match op {
+        Op::EndFil => b"ENDFIL",
+        Op::Goto(_, _, _) => b"GOTO",
+        Op::GoHome => b"GOHOME",
+        Op::Assign(_, _) => b"ASSIGN",
+        Op::If(_, _) => b"IF",
+        Op::Else(_) => b"ELSE",
+        Op::EndIf => b"ENDIF",
+        Op::Do(_, _, _, _, _, _) => b"DO",
+        Op::EndDo(_, _, _) => b"ENDDO",
+        Op::Label => b"LABEL",
+        Op::JumpTo(_) => b"JUMPTO",
+        Op::Feat(_, _, _, _, _) => b"FEAT",
+        Op::Meas(_) => b"MEAS",
+        Op::PtMeas(_, _, _, _, _) => b"PTMEAS",
+        Op::EndMes => b"ENDMES",
+        Op::SnSet(_, _) => b"SNSET",
+        Op::Trans(_, _, _, _) => b"TRANS",
+        Op::Rotate(_, _, _) => b"ROTATE",
+        Op::Recall(_) => b"RECALL",
+        Op::Obtain(_, _, _, _) => b"OBTAIN",
+        Op::Output(_, _) => b"OUTPUT",
+        Op::Text(_) => b"TEXT",
+    }
+}

@@ -1,0 +1,71 @@
+-- Printed texts of stops, output lines and features.
+use Rattle.std.specs.Prelude.{ℕ, Bool, true, false, if◌then◌else◌, List, [], ◌∷◌, ◌++◌, flat_map, unwrap_or, slice_get, Option, Some, None, decimal, codes}
+use Rattle.vcm_spec.specs.declared.feature.Feature.{Feature}
+use Rattle.vcm_spec.specs.declared.stop.Missing.{Missing}
+use Rattle.vcm_spec.specs.declared.stop.Missing.TheVariants as missing
+use Rattle.vcm_spec.specs.declared.stop.Stop.{Stop}
+use Rattle.vcm_spec.specs.declared.stop.Stop.TheVariants.{Ended, Collision, Missed, Travel, Overflow, DivZero, ZeroStep, Undefined, BadSetting, OutputFull}
+use Rattle.vcm_spec.specs.declared.stop.StopPlace.{StopPlace}
+use Rattle.vcm_spec.specs.declared.words.MovePhase.{MovePhase}
+use Rattle.vcm_spec.specs.declared.words.MovePhase.TheVariants.{Move, Approach, Search, Retract}
+use Rattle.vcm_spec.specs.declared.words.Source.{Source}
+use Rattle.vcm_spec.specs.Setup.{Tables}
+use Rattle.vcm_spec.specs.Texts.{letters, feature_line}
+
+-- texts one after another
+abbrev pub in_a_row : List (List ℕ) → List ℕ
+in_a_row texts = flat_map (λ t. t) texts
+
+-- the word of a part of a motion
+abbrev pub phase_text : MovePhase → List ℕ
+phase_text Move = codes "MOVE"
+phase_text Approach = codes "APPROACH"
+phase_text Search = codes "SEARCH"
+phase_text Retract = codes "RETRACT"
+
+-- the name at an index
+abbrev pub name_at : List (List ℕ) → ℕ → List ℕ
+name_at names i = unwrap_or (slice_get names i) []
+
+-- what isn't there yet, by its name
+abbrev pub missing_text : Tables → Missing → List ℕ
+missing_text tables (missing.Nominal i) = in_a_row (codes "F(" ∷ name_at tables.features i ∷ codes ")" ∷ [])
+missing_text tables (missing.Actual i) = in_a_row (codes "FA(" ∷ name_at tables.features i ∷ codes ")" ∷ [])
+missing_text tables (missing.Frame i) = in_a_row (codes "D(" ∷ name_at tables.frames i ∷ codes ")" ∷ [])
+
+-- why a run stopped
+abbrev pub stop_text : Tables → Stop → List ℕ
+stop_text tables Ended = codes "stop ENDED"
+stop_text tables (Collision phase hit) =
+    in_a_row (codes "stop COLLISION " ∷ phase_text phase ∷ codes " block " ∷ decimal hit.block ∷ codes " permille " ∷ decimal hit.permille ∷ [])
+stop_text tables Missed = codes "stop MISSED"
+stop_text tables (Travel phase) = in_a_row (codes "stop TRAVEL " ∷ phase_text phase ∷ [])
+stop_text tables Overflow = codes "stop OVERFLOW"
+stop_text tables DivZero = codes "stop DIVZERO"
+stop_text tables ZeroStep = codes "stop ZEROSTEP"
+stop_text tables (Undefined what) = codes "stop UNDEFINED " ++ missing_text tables what
+stop_text tables BadSetting = codes "stop BADSETTING"
+stop_text tables OutputFull = codes "stop OUTPUTFULL"
+
+-- whether the place of a stop is told: at the end of the program it isn't
+abbrev pub has_place : Stop → Bool
+has_place Ended = false
+has_place _ = true
+
+-- where it stopped, the statement's number and its source line, and the end of the line
+abbrev pub ended_place : StopPlace → List ℕ
+ended_place p =
+    if has_place p.stop then in_a_row (codes " at " ∷ decimal p.number ∷ codes " line " ∷ decimal p.line ∷ codes "\n" ∷ []) else codes "\n"
+
+-- the line of a stop
+abbrev pub stopped_line : Tables → StopPlace → List ℕ
+stopped_line tables p = stop_text tables p.stop ++ ended_place p
+
+-- the output lines
+abbrev pub output_lines : List (List ℕ) → List ℕ
+output_lines lines = flat_map (λ line. line ++ codes "\n") lines
+
+-- the line of a feature of this index: as OUTPUT prints it, or that it has none
+abbrev pub feature_text : Tables → Source → ℕ → Option Feature → List ℕ
+feature_text tables source i (Some f) = feature_line source (name_at tables.features i) f ++ codes "\n"
+feature_text tables source i None = letters source ++ (name_at tables.features i ++ codes ") undefined\n")

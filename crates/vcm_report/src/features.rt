@@ -1,0 +1,123 @@
+//! Features as text.
+
+ghost use Rattle.std.specs.Prelude.{◌≡◌, [], ◌∷◌, codes};
+ghost use Rattle.std.specs.Fmt.{signed_decimal};
+ghost use Rattle.vcm_num.specs.Axis.{unit};
+ghost use Rattle.vcm_num.specs.Point.{coordinate};
+ghost use Rattle.vcm_num.specs.Texts.{thousandths};
+ghost use Rattle.vcm_num.specs.Written.{Wrote};
+ghost use Rattle.vcm_report.specs.Printed.{in_a_row, feature_text};
+ghost use Rattle.vcm_spec.specs.Texts.{three_texts, feature_line, letters};
+
+use crate::names::name_at;
+use std::io::Write;
+use vcm_num::{Axis, Point, Text, WriteFault, int_text, thousandths_text, write_all, write_pieces};
+use vcm_spec::{Feature, Source};
+use vcm_tables::Tables;
+
+// What stands before the name of a feature.
+fn letters(source: Source) -> &'static [u8]
+    ensures { result.now ≡ letters source }
+{
+    match source {
+        Source::Nominal => b"F(",
+        Source::Actual => b"FA(",
+    }
+}
+
+// A coordinate of a direction's unit vector: 0 is x, 1 is y, 2 is z.
+fn component(toward: Axis, axis: usize) -> i64
+    ensures { result ≡ unit toward axis }
+{
+    if axis == toward.index() {
+        if toward.is_forward() { 1 } else { -1 }
+    } else {
+        0
+    }
+}
+
+// A coordinate of a direction's unit vector as text.
+fn component_text(toward: Axis, axis: usize) -> Text
+    ensures { result ≡ signed_decimal (unit toward axis) }
+{
+    int_text(component(toward, axis))
+}
+
+// Writes three texts with commas between them.
+fn write_three<W: Write>(x: &Text, y: &Text, z: &Text, writer: &mut W) -> Result<(), WriteFault>
+    ensures { Wrote (W.contents writer.old) (W.contents writer.new) (in_a_row (x.now ∷ codes "," ∷ y.now ∷ codes "," ∷ z.now ∷ [])) result }
+{
+    write_pieces(
+        writer,
+        &[x.as_slice(), b",", y.as_slice(), b",", z.as_slice()],
+    )
+}
+
+// Writes a point in millimetres.
+fn write_point<W: Write>(at: Point, writer: &mut W) -> Result<(), WriteFault>
+    ensures { Wrote (W.contents writer.old) (W.contents writer.new) (three_texts (λ k. thousandths (coordinate at k))) result }
+{
+    let Point([x, y, z]) = at;
+    write_three(
+        &thousandths_text(x),
+        &thousandths_text(y),
+        &thousandths_text(z),
+        writer,
+    )
+}
+
+// Writes a direction as its unit vector.
+fn write_direction<W: Write>(toward: Axis, writer: &mut W) -> Result<(), WriteFault>
+    ensures { Wrote (W.contents writer.old) (W.contents writer.new) (three_texts (λ k. signed_decimal (unit toward k))) result }
+{
+    write_three(
+        &component_text(toward, 0),
+        &component_text(toward, 1),
+        &component_text(toward, 2),
+        writer,
+    )
+}
+
+// Writes the text of a feature as `OUTPUT` prints it, without a line feed.
+fn write_feature_line<W: Write>(
+    source: Source,
+    name: &[u8],
+    feature: Feature,
+    writer: &mut W,
+) -> Result<(), WriteFault>
+    ensures { Wrote (W.contents writer.old) (W.contents writer.new) (feature_line source name.now feature) result }
+{
+    write_all(writer, letters(source))?;
+    write_all(writer, name)?;
+    write_all(writer, b")=FEAT/POINT,CART,")?;
+    write_point(feature.at, writer)?;
+    write_all(writer, b",")?;
+    write_direction(feature.toward, writer)
+}
+
+/// Writes the line of the feature of this index, or that it is not defined.
+///
+/// Errors: the writer failed, or took no byte; then it has taken a front of the line, and not all of it.
+pub fn write_feature<W: Write>(
+    tables: &Tables,
+    source: Source,
+    index: u16,
+    feature: Option<Feature>,
+    writer: &mut W,
+) -> Result<(), WriteFault>
+    ensures { Wrote (W.contents writer.old) (W.contents writer.new) (feature_text tables.now source index feature) result }
+{
+    match feature {
+        Some(feature) => {
+            write_feature_line(source, name_at(tables.features(), index), feature, writer)?;
+            write_all(writer, b"\n")
+        }
+        None => {
+            write_all(writer, letters(source))?;
+            write_pieces(
+                writer,
+                &[name_at(tables.features(), index), b") undefined\n"],
+            )
+        }
+    }
+}

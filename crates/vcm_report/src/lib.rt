@@ -1,0 +1,11 @@
+//! Stops, output lines and features as text. Nothing here takes memory.
+#![tactic(auto)]
+
+mod features;
+mod lines;
+mod names;
+mod stops;
+
+pub use features::write_feature;
+pub use lines::write_lines;
+pub use stops::write_stop_line;

@@ -1,0 +1,248 @@
+-- Lines: what is read is spelled so, and what is spelled so is read again.
+use Rattle.std.proofs.Common.{◌≡◌, ℕ, zero, suc, ◌<◌, ◌≤◌, ◌^◌, ◌==◌, ◌&&◌, nat_le, Bool, true, false, cond, List, [], ◌∷◌, ◌++◌, length, Option, Some, None, refl, sym, ap, ◌∙◌, subst, arith, IsTrue}
+use Rattle.std.specs.Prelude.{decimal, codes}
+use Rattle.std.specs.List.{AllByRecursion, list_all}
+use Rattle.std.specs.Char.{is_ascii_digit}
+use Rattle.std.proofs.lemmas.Bool.{eqb-true}
+use Rattle.std.proofs.lemmas.List.{append-nil}
+use Rattle.std.proofs.lemmas.Fmt.{decimal_nonempty, decimal_digit}
+use Rattle.vcm_num.specs.Literals.{AllDigits}
+use Rattle.vcm_num.specs.declared.number.Kind.{Kind}
+use Rattle.vcm_num.specs.declared.number.Kind.TheVariants.{Int, Real, Bool as Truth}
+use Rattle.vcm_spec.specs.Setup.{Variable as Entry}
+use Rattle.vcm_expr.specs.NameBytes.{is_name_byte, is_name, IsName}
+use Rattle.vcm_expr.specs.Parts.{is_variable_name, IsVariableName}
+use Rattle.vcm_expr.proofs.NameLemmas.{variable_name_is_name}
+use Rattle.vcm_fields.specs.Parts.{Line}
+use Rattle.vcm_fields.specs.Fitting.{FitsEntry, FitsLine}
+use Rattle.vcm_words.specs.declared.row.Row.TheVariants.{Head, Variable, Feature, Frame, Numbered}
+use Rattle.vcm_words.specs.declared.row.Heading.{Heading}
+use Rattle.vcm_words.specs.declared.row.Heading.TheVariants as headings
+use Rattle.vcm_words.specs.Cutting.{split, joined, Without, IsWord}
+use Rattle.vcm_words.specs.Numbers.{natural, number, counted, only_if}
+use Rattle.vcm_words.specs.Reading.{◌>>=◌, Reader, one, both, via, ended, named}
+use Rattle.vcm_words.specs.Operands.{single, number_text, number_at, line, line_at}
+use Rattle.vcm_words.specs.Rows.{ListRow, kind_text, row_words, row_text, kind_rows, heading_rows, name_at, variable_name_at, version_at, entry_at, indexed_at, numbered_at, row_after, row_at, row_of, FitsRow}
+use Rattle.vcm_words.proofs.Cuts.{joined-split, split-joined, split_without, split_some}
+use Rattle.vcm_words.proofs.Inverse.{Means, Reads, Ends, Bare, ends, bind_some, some_is, only_met, all_append, reads_one, reads_both, via_takes, via_again, ends_via, ends_both}
+use Rattle.vcm_words.proofs.NumberLaws.{means_number, both_true, decimal_digits}
+use Rattle.vcm_words.proofs.WordLaws.{means_named, named_takes}
+use Rattle.vcm_words.proofs.PlaceLaws.{Any, reads_number}
+use Rattle.vcm_rows.proofs.LineLaws.{ends_line}
+
+-- ---- names
+
+name_byte_plain : (mark b : ℕ) → mark < 48 → is_name_byte b ≡ true → (b == mark) ≡ false
+name_byte_plain mark b l h = grind arith
+
+name_plain : (mark : ℕ) (bs : List ℕ) → mark < 48 → list_all is_name_byte bs ≡ true → Without mark bs
+name_plain mark [] l h = tt
+name_plain mark (b ∷ bs) l h = let t = both_true (is_name_byte b) (list_all is_name_byte bs) h in (name_byte_plain mark b l t.0, name_plain mark bs l t.1)
+
+name_word : (bs : List ℕ) → IsName bs → IsWord bs
+name_word bs h = let t = both_true (nat_le 1 (length bs) && nat_le (length bs) 16) (list_all is_name_byte bs) h in (name_plain 32 bs (omega arith) t.1, name_plain 10 bs (omega arith) t.1)
+
+means_name : Means (λ w. only_if (is_name w) w) (λ w. w) IsName
+means_name = record {
+  takes = λ w x e. let g = only_met (is_name w) w x e in subst (λ (v : List ℕ). (w ≡ v) × IsName v) g.1 (refl, g.0);
+  again = λ x h. rw h refl;
+  words = λ x h. name_word x h;
+}
+
+means_variable_name : Means (λ w. only_if (is_variable_name w) w) (λ w. w) IsVariableName
+means_variable_name = record {
+  takes = λ w x e. let g = only_met (is_variable_name w) w x e in subst (λ (v : List ℕ). (w ≡ v) × IsVariableName v) g.1 (refl, g.0);
+  again = λ x h. rw h refl;
+  words = λ x h. name_word x (variable_name_is_name x h);
+}
+
+-- ---- tables
+
+kind_again : (x : Kind) → Any x → named kind_rows (kind_text x) ≡ Some x
+kind_again Int h = refl
+kind_again Real h = refl
+kind_again Truth h = refl
+
+kind_words : (x : Kind) → Any x → IsWord (kind_text x)
+kind_words Int h = ((refl, (refl, (refl, (refl, (refl, tt))))), (refl, (refl, (refl, (refl, (refl, tt))))))
+kind_words Real h = ((refl, (refl, (refl, (refl, tt)))), (refl, (refl, (refl, (refl, tt)))))
+kind_words Truth h = ((refl, (refl, (refl, (refl, tt)))), (refl, (refl, (refl, (refl, tt)))))
+
+reads_kind : Reads (one (named kind_rows)) (λ x. single (kind_text x)) Any
+unfolding Any
+reads_kind = reads_one (means_named kind_text Any kind_rows ((refl, tt), ((refl, tt), ((refl, tt), tt))) kind_again kind_words)
+
+heading_text : Heading → List ℕ
+heading_text headings.Head = codes "VCM-LISTING"
+heading_text headings.Variables = codes "VAR"
+heading_text headings.Features = codes "FEATURE"
+heading_text headings.Frames = codes "FRAME"
+
+heading_takes : (w : List ℕ) (x : Heading) → named heading_rows w ≡ Some x → w ≡ heading_text x
+unfolding heading_text Any
+heading_takes w x e = (named_takes heading_text Any heading_rows w x ((refl, tt), ((refl, tt), ((refl, tt), ((refl, tt), tt)))) e).0
+
+digit_isnt : (b m : ℕ) → is_ascii_digit b ≡ true → 57 < m → (b == m) ≡ false
+digit_isnt b m e h = grind arith
+
+no_heading : (w : List ℕ) → AllDigits w → 0 < length w → named heading_rows w ≡ None
+no_heading [] d h = absurd (omega arith)
+no_heading (b ∷ bs) d h = rw (digit_isnt b 86 d.0 (omega arith), digit_isnt b 70 d.0 (omega arith)) refl
+
+-- ---- lines
+
+IsOne : ℕ → Type 0
+IsOne n = n ≡ 1
+
+means_version : Means (λ w. number true 2 w >>= λ n. only_if (counted true (n == 1)) n) decimal IsOne
+unfolding IsOne
+means_version = record {
+  takes = λ w n e.
+      let m = means_number 2 (omega arith) in
+      let p = bind_some (number true 2 w) (λ k. only_if (counted true (k == 1)) k) n e in
+      let g = only_met (p.0 == 1) p.0 n p.2 in
+      let t = m.takes w p.0 p.1 in
+      (t.0 ∙ ap decimal g.1, sym g.1 ∙ eqb-true p.0 1 g.0);
+  again = λ n h.
+      let m = means_number 2 (omega arith) in
+      let same : (n == 1) ≡ true = grind arith in
+      rw (m.again n (omega (arith, h)), same) refl;
+  words = λ n h. let m = means_number 2 (omega arith) in m.words n (omega (arith, h));
+}
+
+ends_version : Ends (version_at true) number_text IsOne
+ends_version = ends (reads_one means_version)
+
+FitsPair : ℕ × Entry → Type 0
+FitsPair o = (o.0 < 2 ^ 16) × FitsEntry o.1
+
+ends_entry : Ends (entry_at true) (λ o. number_text o.0 ++ (single (kind_text o.1.kind) ++ (single o.1.name ++ number_text o.1.expansion))) FitsPair
+unfolding entry_at FitsPair Any
+ends_entry = ends_via (ends (reads_both (reads_number (2 ^ 16) (omega arith)) (reads_both reads_kind (reads_both (reads_one means_variable_name) (reads_number (2 ^ 32) (omega arith))))))
+    (λ o. (o.0, record { name = o.1.1.0; kind = o.1.0; expansion = o.1.1.1 })) (λ o. (o.0, (o.1.kind, (o.1.name, o.1.expansion))))
+    (λ o. number_text o.0 ++ (single (kind_text o.1.kind) ++ (single o.1.name ++ number_text o.1.expansion))) FitsPair
+    (λ o h. refl) (λ o h. (h.0, (h.1.1.1, h.1.1.0))) (λ o h. (refl, refl, (h.0, (tt, (h.1.1, h.1.0)))))
+
+FitsIndexed : ℕ × List ℕ → Type 0
+FitsIndexed o = (o.0 < 2 ^ 16) × IsName o.1
+
+ends_indexed : Ends (indexed_at true) (λ o. number_text o.0 ++ single o.1) FitsIndexed
+unfolding indexed_at FitsIndexed
+ends_indexed = ends (reads_both (reads_number (2 ^ 16) (omega arith)) (reads_one means_name))
+
+FitsNumbered : ℕ × Line → Type 0
+FitsNumbered o = (o.0 < 2 ^ 32) × FitsLine o.1
+
+ends_numbered : Ends (numbered_at true) (λ o. number_text o.0 ++ line o.1) FitsNumbered
+unfolding numbered_at FitsNumbered
+ends_numbered = ends_both (reads_number (2 ^ 32) (omega arith)) ends_line
+
+-- all of the words
+ended_takes : {A : Type 0} (o : Option (A × List (List ℕ))) (x : A) → ended o ≡ Some x → o ≡ Some (x, [])
+ended_takes None x e = absurd cc
+ended_takes (Some (y, [])) x e = ap (λ z. Some (z, [])) (some_is _ _ e)
+ended_takes (Some (y, w ∷ ws)) x e = absurd cc
+
+whole_takes : {A B : Type 0} {a : Reader A} {s : A → List (List ℕ)} {P : A → Type 0} → Ends a s P → (f : A → B) (ws : List (List ℕ)) (y : B) → Bare ws → ended (via f a ws) ≡ Some y → (x : A) × (f x ≡ y) × (ws ≡ s x) × P x
+whole_takes {A} {B} {a} {s} {P} r f ws y bare e =
+    let all = ended_takes (via f a ws) y e in
+    let p = bind_some (a ws) (λ u. Some (f u.0, u.1)) (y, []) all in
+    let t = r.takes ws p.0 bare p.1 in
+    let made : B × List (List ℕ) = (f p.0.0, p.0.1) in
+    let same : made ≡ (y, []) = some_is _ _ p.2 in
+    let left : p.0.1 ≡ [] = ap (λ (z : B × List (List ℕ)). z.1) same in
+    (p.0.0, ap (λ (z : B × List (List ℕ)). z.0) same, t.0 ∙ ap (λ r. s p.0.0 ++ r) left ∙ append-nil (s p.0.0), t.1)
+
+whole_again : {A B : Type 0} {a : Reader A} {s : A → List (List ℕ)} {P : A → Type 0} → Ends a s P → (f : A → B) (x : A) → P x → ended (via f a (s x)) ≡ Some (f x)
+whole_again {A} {B} {a} {s} {P} r f x h = ap (λ ws. ended (via f a ws)) (sym (append-nil (s x))) ∙ ap ended (via_again r f x h)
+
+Spelled : List (List ℕ) → ListRow → Type 0
+Spelled ws r = (ws ≡ row_words r) × FitsRow r
+
+cons_is : {w v : List ℕ} {ws vs : List (List ℕ)} → w ≡ v → ws ≡ vs → w ∷ ws ≡ v ∷ vs
+cons_is {w} {v} {ws} {vs} e f = ap (λ u. u ∷ ws) e ∙ ap (λ us. v ∷ us) f
+
+after_takes : (o : Option Heading) (w : List ℕ) (ws : List (List ℕ)) (r : ListRow) → named heading_rows w ≡ o → Bare (w ∷ ws) → row_after true o w ws ≡ Some r → Spelled (w ∷ ws) r
+unfolding row_after Spelled IsOne FitsPair FitsIndexed FitsNumbered heading_text
+after_takes (Some headings.Head) w ws r n bare e =
+    let t = whole_takes ends_version (λ n. Head) ws r bare.1 e in
+    let one : ws ≡ number_text 1 = t.2 ∙ ap number_text t.3 in
+    subst (Spelled (w ∷ ws)) t.1 (cons_is (heading_takes w headings.Head n) one, tt)
+after_takes (Some headings.Variables) w ws r n bare e =
+    let t = whole_takes ends_entry (λ o. Variable o.0 o.1) ws r bare.1 e in
+    subst (Spelled (w ∷ ws)) t.1 (cons_is (heading_takes w headings.Variables n) t.2, t.3)
+after_takes (Some headings.Features) w ws r n bare e =
+    let t = whole_takes ends_indexed (λ o. Feature o.0 o.1) ws r bare.1 e in
+    subst (Spelled (w ∷ ws)) t.1 (cons_is (heading_takes w headings.Features n) t.2, t.3)
+after_takes (Some headings.Frames) w ws r n bare e =
+    let t = whole_takes ends_indexed (λ o. Frame o.0 o.1) ws r bare.1 e in
+    subst (Spelled (w ∷ ws)) t.1 (cons_is (heading_takes w headings.Frames n) t.2, t.3)
+after_takes None w ws r n bare e =
+    let t = whole_takes ends_numbered (λ o. Numbered o.0 o.1) (w ∷ ws) r bare e in
+    subst (Spelled (w ∷ ws)) t.1 (t.2, t.3)
+
+at_takes : (ws : List (List ℕ)) (r : ListRow) → Bare ws → row_at true ws ≡ Some r → Spelled ws r
+at_takes [] r bare e = absurd cc
+at_takes (w ∷ ws) r bare e = after_takes (named heading_rows w) w ws r refl bare e
+
+-- what is read is spelled so
+pub row_takes : (bytes : List ℕ) (r : ListRow) → row_of true bytes ≡ Some r → (bytes ≡ row_text r) × FitsRow r
+unfolding row_of row_text Spelled
+row_takes bytes r e =
+    let t = at_takes (split 32 bytes) r (split_without 32 bytes) e in
+    (sym (joined-split 32 bytes) ∙ ap (joined 32) t.0, t.1)
+
+at_again : (r : ListRow) → FitsRow r → row_at true (row_words r) ≡ Some r
+unfolding row_after IsOne FitsPair FitsIndexed FitsNumbered
+at_again Head h = whole_again ends_version (λ n. Head) 1 refl
+at_again (Variable i v) h = whole_again ends_entry (λ o. Variable o.0 o.1) (i, v) h
+at_again (Feature i name) h = whole_again ends_indexed (λ o. Feature o.0 o.1) (i, name) h
+at_again (Frame i name) h = whole_again ends_indexed (λ o. Frame o.0 o.1) (i, name) h
+at_again (Numbered n s) h =
+    let small : n < 2 ^ 64 = omega (arith, h.0) in
+    rw (no_heading (decimal n) (decimal_digits n small) (decimal_nonempty n small)) (whole_again ends_numbered (λ o. Numbered o.0 o.1) (n, s) h)
+
+heading_word : (x : Heading) → IsWord (heading_text x)
+unfolding heading_text
+heading_word headings.Head = ((refl, (refl, (refl, (refl, (refl, (refl, (refl, (refl, (refl, (refl, (refl, tt))))))))))), (refl, (refl, (refl, (refl, (refl, (refl, (refl, (refl, (refl, (refl, (refl, tt))))))))))))
+heading_word headings.Variables = ((refl, (refl, (refl, tt))), (refl, (refl, (refl, tt))))
+heading_word headings.Features = ((refl, (refl, (refl, (refl, (refl, (refl, (refl, tt))))))), (refl, (refl, (refl, (refl, (refl, (refl, (refl, tt))))))))
+heading_word headings.Frames = ((refl, (refl, (refl, (refl, (refl, tt))))), (refl, (refl, (refl, (refl, (refl, tt))))))
+
+row_are_words : (r : ListRow) → FitsRow r → AllByRecursion IsWord (row_words r)
+unfolding IsOne FitsPair FitsIndexed FitsNumbered heading_text
+row_are_words Head h = (heading_word headings.Head, ends_version.words 1 refl)
+row_are_words (Variable i v) h = (heading_word headings.Variables, ends_entry.words (i, v) h)
+row_are_words (Feature i name) h = (heading_word headings.Features, ends_indexed.words (i, name) h)
+row_are_words (Frame i name) h = (heading_word headings.Frames, ends_indexed.words (i, name) h)
+row_are_words (Numbered n s) h = ends_numbered.words (n, s) h
+
+all_left : (ws : List (List ℕ)) → AllByRecursion IsWord ws → AllByRecursion (Without 32) ws
+all_left [] h = tt
+all_left (w ∷ ws) h = (h.0.0, all_left ws h.1)
+
+joined_plain : (ws : List (List ℕ)) → AllByRecursion IsWord ws → Without 10 (joined 32 ws)
+joined_plain [] h = tt
+joined_plain (w ∷ []) h = h.0.1
+joined_plain (w ∷ v ∷ ws) h = all_append _ w (32 ∷ joined 32 (v ∷ ws)) h.0.1 (refl, joined_plain (v ∷ ws) h.1)
+
+cut_again : (ws : List (List ℕ)) → 0 < length ws → AllByRecursion IsWord ws → split 32 (joined 32 ws) ≡ ws
+cut_again [] l h = absurd (omega arith)
+cut_again (w ∷ ws) l h = split-joined 32 w ws (all_left (w ∷ ws) h)
+
+row_some : (r : ListRow) → 0 < length (row_words r)
+row_some Head = omega arith
+row_some (Variable i v) = omega arith
+row_some (Feature i name) = omega arith
+row_some (Frame i name) = omega arith
+row_some (Numbered n s) = omega arith
+
+-- what is spelled so is read again
+pub row_again : (r : ListRow) → FitsRow r → row_of true (row_text r) ≡ Some r
+unfolding row_of row_text
+row_again r h = ap (row_at true) (cut_again (row_words r) (row_some r) (row_are_words r h)) ∙ at_again r h
+
+-- a line has no end in it
+pub row_plain : (r : ListRow) → FitsRow r → Without 10 (row_text r)
+unfolding row_text
+row_plain r h = joined_plain (row_words r) (row_are_words r h)

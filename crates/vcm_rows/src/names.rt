@@ -1,0 +1,73 @@
+//! The tables of names in a listing.
+
+ghost use Rattle.std.specs.Prelude.{◌≡◌};
+ghost use Rattle.vcm_words.specs.Reading.{one, named};
+ghost use Rattle.vcm_words.specs.Rows.{kind_rows, name_at, variable_name_at, entry_at, indexed_at};
+
+use vcm_expr::{Name, is_name, is_variable_name};
+use vcm_num::Kind;
+use vcm_tables::Variable;
+use vcm_words::{Words, count, index, is};
+
+// A name, and the words behind it.
+fn name<'a>(words: &Words<'a>) -> Option<(Name, Words<'a>)>
+    ensures { result ≡ name_at words.now }
+{
+    let (word, rest) = words.split_first()?;
+    if is_name(word) {
+        Some((Name::new(word), rest))
+    } else {
+        None
+    }
+}
+
+// The name of a variable, and the words behind it.
+#[tactic(auto, using(vcm_expr::proofs::NameLemmas::variable_name_is_name))]
+fn variable_name<'a>(words: &Words<'a>) -> Option<(Name, Words<'a>)>
+    ensures { result ≡ variable_name_at words.now }
+{
+    let (word, rest) = words.split_first()?;
+    if is_variable_name(word) {
+        Some((Name::new(word), rest))
+    } else {
+        None
+    }
+}
+
+// A kind, and the words behind it.
+fn kind<'a>(words: &Words<'a>) -> Option<(Kind, Words<'a>)>
+    ensures { result ≡ one (named kind_rows) words.now }
+{
+    let (word, rest) = words.split_first()?;
+    if is(word, b"INTGR") {
+        Some((Kind::Int, rest))
+    } else if is(word, b"REAL") {
+        Some((Kind::Real, rest))
+    } else if is(word, b"BOOL") {
+        Some((Kind::Bool, rest))
+    } else {
+        None
+    }
+}
+
+/// A variable with its index, and the words behind it.
+#[tactic(auto, unfolding(vcm_words::specs::Rows::entry_at))]
+pub(crate) fn entry<'a>(exact: bool, words: &Words<'a>) -> Option<((u16, Variable), Words<'a>)>
+    ensures { result ≡ entry_at exact words.now }
+{
+    let (index, rest) = index(exact, words)?;
+    let (kind, rest) = kind(&rest)?;
+    let (name, rest) = variable_name(&rest)?;
+    let (expansion, rest) = count(exact, &rest)?;
+    Some(((index, Variable::new(name, kind, expansion)), rest))
+}
+
+/// The name of a feature or a frame with its index, and the words behind it.
+#[tactic(auto, unfolding(vcm_words::specs::Rows::indexed_at))]
+pub(crate) fn indexed<'a>(exact: bool, words: &Words<'a>) -> Option<((u16, Name), Words<'a>)>
+    ensures { result ≡ indexed_at exact words.now }
+{
+    let (index, rest) = index(exact, words)?;
+    let (name, rest) = name(&rest)?;
+    Some(((index, name), rest))
+}

@@ -1,0 +1,140 @@
+//! The lines of a listing.
+
+ghost use Rattle.std.specs.Prelude.{◌≡◌, ◌∷◌, [], ℕ, List, Some, None, true, false};
+ghost use Rattle.vcm_words.specs.declared.row.Heading.TheVariants as headings;
+ghost use Rattle.vcm_words.specs.Reading.{named};
+ghost use Rattle.vcm_words.specs.Rows.{heading_rows, version_at, numbered_at, row_after, row_of};
+
+use crate::names::{entry, indexed};
+use crate::statements::{BorrowedStatement, line};
+use vcm_words::{Heading, ItemWords, Row, TextWords, Words, count, is, small};
+
+/// A line of a listing.
+pub type BorrowedRow<'a> = Row<ItemWords<'a>, TextWords<'a>>;
+
+// The number of the form, which is 1, and the words behind it.
+fn version<'a>(exact: bool, words: &Words<'a>) -> Option<(u8, Words<'a>)>
+    ensures { result ≡ version_at exact words.now }
+{
+    let (word, rest) = words.split_first()?;
+    let number = small(exact, 2, word)?;
+    if exact && number != 1 {
+        return None;
+    }
+    Some((number, rest))
+}
+
+// A statement with its number, and the words behind it.
+#[tactic(auto, unfolding(vcm_words::specs::Rows::numbered_at))]
+fn numbered<'a>(exact: bool, words: &Words<'a>) -> Option<((u32, BorrowedStatement<'a>), Words<'a>)>
+    ensures { result ≡ numbered_at exact words.now }
+{
+    let (number, rest) = count(exact, words)?;
+    let (statement, rest) = line(exact, &rest)?;
+    Some(((number, statement), rest))
+}
+
+// The word that a line begins with, where it is no statement.
+fn heading(word: &[u8]) -> Option<Heading>
+    ensures { result ≡ named heading_rows word.now }
+{
+    if is(word, b"VCM-LISTING") {
+        Some(Heading::Head)
+    } else if is(word, b"VAR") {
+        Some(Heading::Variables)
+    } else if is(word, b"FEATURE") {
+        Some(Heading::Features)
+    } else if is(word, b"FRAME") {
+        Some(Heading::Frames)
+    } else {
+        None
+    }
+}
+
+// Whether no words are left.
+fn is_end(words: &Words<'_>) -> bool
+    ensures so { result ≡ true → words.now ≡ [] }
+    ensures not { result ≡ false → (w : List ℕ) × (ws : List (List ℕ)) × (words.now ≡ w ∷ ws) }
+{
+    match words.split_first() {
+        None => true,
+        Some(_) => false,
+    }
+}
+
+// The first line, behind its word.
+#[tactic(auto, unfolding(vcm_words::specs::Rows::row_after))]
+fn head<'a>(exact: bool, word: &[u8], words: &Words<'a>) -> Option<BorrowedRow<'a>>
+    ensures { result ≡ row_after exact (Some headings.Head) word.now words.now }
+{
+    let (_number, rest) = version(exact, words)?;
+    if is_end(&rest) { Some(Row::Head) } else { None }
+}
+
+// A variable's line, behind its word.
+#[tactic(auto, unfolding(vcm_words::specs::Rows::row_after))]
+fn variable<'a>(exact: bool, word: &[u8], words: &Words<'a>) -> Option<BorrowedRow<'a>>
+    ensures { result ≡ row_after exact (Some headings.Variables) word.now words.now }
+{
+    let ((index, variable), rest) = entry(exact, words)?;
+    if is_end(&rest) {
+        Some(Row::Variable(index, variable))
+    } else {
+        None
+    }
+}
+
+// A feature's line, behind its word.
+#[tactic(auto, unfolding(vcm_words::specs::Rows::row_after))]
+fn feature<'a>(exact: bool, word: &[u8], words: &Words<'a>) -> Option<BorrowedRow<'a>>
+    ensures { result ≡ row_after exact (Some headings.Features) word.now words.now }
+{
+    let ((index, name), rest) = indexed(exact, words)?;
+    if is_end(&rest) {
+        Some(Row::Feature(index, name))
+    } else {
+        None
+    }
+}
+
+// A frame's line, behind its word.
+#[tactic(auto, unfolding(vcm_words::specs::Rows::row_after))]
+fn frame<'a>(exact: bool, word: &[u8], words: &Words<'a>) -> Option<BorrowedRow<'a>>
+    ensures { result ≡ row_after exact (Some headings.Frames) word.now words.now }
+{
+    let ((index, name), rest) = indexed(exact, words)?;
+    if is_end(&rest) {
+        Some(Row::Frame(index, name))
+    } else {
+        None
+    }
+}
+
+// A statement's line.
+#[tactic(auto, unfolding(vcm_words::specs::Rows::row_after))]
+fn statement<'a>(exact: bool, words: &Words<'a>) -> Option<BorrowedRow<'a>>
+    ensures { (w : List ℕ) (ws : List (List ℕ)) → words.now ≡ w ∷ ws → result ≡ row_after exact None w ws }
+{
+    let ((number, statement), rest) = numbered(exact, words)?;
+    if is_end(&rest) {
+        Some(Row::Numbered(number, statement))
+    } else {
+        None
+    }
+}
+
+/// A line, without its end; read exactly, or for its shape alone: then anything stands for a number.
+#[tactic(auto, unfolding(vcm_words::specs::Rows::row_of))]
+pub fn row<'a>(exact: bool, line: &'a [u8]) -> Option<BorrowedRow<'a>>
+    ensures { result ≡ row_of exact line.now }
+{
+    let words = Words::new(line);
+    let (first, after) = words.split_first()?;
+    match heading(first) {
+        Some(Heading::Head) => head(exact, first, &after),
+        Some(Heading::Variables) => variable(exact, first, &after),
+        Some(Heading::Features) => feature(exact, first, &after),
+        Some(Heading::Frames) => frame(exact, first, &after),
+        None => statement(exact, &words),
+    }
+}

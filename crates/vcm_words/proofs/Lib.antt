@@ -1,0 +1,9 @@
+pub mod Cuts
+pub mod FirstCut
+pub mod Inverse
+pub mod NumberLaws
+pub mod WordLaws
+pub mod ItemLaws
+pub mod PlaceLaws
+pub mod SliceLaws
+pub mod TextLaws

@@ -1,0 +1,86 @@
+-- Single words and their meanings.
+use Rattle.std.proofs.Common.{◌≡◌, ◌⊎◌, ℕ, ◌<◌, ◌==◌, eqb, Bool, true, false, cond, inl, inr, List, [], ◌∷◌, ◌++◌, Option, Some, None, refl, sym, ap, ◌∙◌, subst, arith}
+use Rattle.std.specs.Str.{bytes_eq}
+use Rattle.std.specs.List.{AllByRecursion}
+use Rattle.std.proofs.lemmas.Bool.{eqb-true}
+use Rattle.std.proofs.lemmas.Slice.Eq.{bytes_eq-Decides}
+use Rattle.vcm_words.specs.Cutting.{Without, IsWord}
+use Rattle.vcm_words.specs.Reading.{named, marked, mapped, or_else, in_front, ending}
+use Rattle.vcm_words.proofs.Inverse.{Means, some_is}
+
+pub or_else_takes : {A : Type 0} (o p : Option A) (x : A) → or_else o p ≡ Some x → (o ≡ Some x) ⊎ (p ≡ Some x)
+or_else_takes (Some y) p x e = inl e
+or_else_takes None p x e = inr e
+
+pub mapped_takes : {A B : Type 0} (f : A → B) (o : Option A) (y : B) → mapped f o ≡ Some y → (x : A) × (o ≡ Some x) × (f x ≡ y)
+mapped_takes f None y e = absurd cc
+mapped_takes f (Some x) y e = (x, refl, some_is _ _ e)
+
+pub marked_takes : {A : Type 0} (mark : ℕ) (f : List ℕ → Option A) (w : List ℕ) (x : A) → marked mark f w ≡ Some x → (bs : List ℕ) × (w ≡ mark ∷ bs) × (f bs ≡ Some x)
+marked_takes mark f [] x e = absurd cc
+marked_takes mark f (b ∷ bs) x e = split (b == mark) refl e
+  where
+    split : (t : Bool) → (b == mark) ≡ t → cond t (f bs) None ≡ Some x → (cs : List ℕ) × (b ∷ bs ≡ mark ∷ cs) × (f cs ≡ Some x)
+    split true t g = (bs, ap (λ c. c ∷ bs) (eqb-true b mark t), g)
+    split false t g = absurd cc
+
+pub means_marked : {A : Type 0} {f : List ℕ → Option A} {s : A → List ℕ} {P : A → Type 0} (mark : ℕ) → (mark == 32) ≡ false → (mark == 10) ≡ false → Means f s P → Means (marked mark f) (λ x. mark ∷ s x) P
+means_marked {A} {f} {s} {P} mark h g m = record {
+  takes = λ w x e. let p = marked_takes mark f w x e in let t = m.takes p.0 x p.2 in (p.1 ∙ ap (λ r. mark ∷ r) t.0, t.1);
+  again = λ x q. let same : (mark == mark) ≡ true = grind arith in rw same (m.again x q);
+  words = λ x q. let w = m.words x q in ((h, w.0), (g, w.1));
+}
+
+-- the rows of a table
+pub named_takes : {A : Type 0} (s : A → List ℕ) (P : A → Type 0) (rows : List (List ℕ × A)) (w : List ℕ) (x : A) → AllByRecursion (λ row. (row.0 ≡ s row.1) × P row.1) rows → named rows w ≡ Some x → (w ≡ s x) × P x
+named_takes s P [] w x h e = absurd cc
+named_takes {A} s P (row ∷ rows) w x h e = split (λ g. named_takes s P rows w x h.1 g) (bytes_eq w row.0) refl e
+  where
+    split : (named rows w ≡ Some x → (w ≡ s x) × P x) → (t : Bool) → bytes_eq w row.0 ≡ t → cond t (Some row.1) (named rows w) ≡ Some x → (w ≡ s x) × P x
+    split more true t g = subst (λ (y : A). (w ≡ s y) × P y) (some_is _ _ g) ((bytes_eq-Decides _ _).0 t ∙ h.0.0, h.0.1)
+    split more false t g = more g
+
+pub means_named : {A : Type 0} (s : A → List ℕ) (P : A → Type 0) (rows : List (List ℕ × A)) → AllByRecursion (λ row. (row.0 ≡ s row.1) × P row.1) rows → ((x : A) → P x → named rows (s x) ≡ Some x) → ((x : A) → P x → IsWord (s x)) → Means (named rows) s P
+means_named s P rows h again words = record {
+  takes = λ w x e. named_takes s P rows w x h e;
+  again = again;
+  words = words;
+}
+
+-- ---- a mark at the end
+
+pub ending_none : (mark : ℕ) (w : List ℕ) → Without mark w → ending mark w ≡ None
+ending_none mark [] h = refl
+ending_none mark (b ∷ []) h = rw h.0 refl
+ending_none mark (b ∷ c ∷ bs) h = rw (ending_none mark (c ∷ bs) h.1) refl
+
+pub ending_some : (mark : ℕ) (w : List ℕ) → ending mark (w ++ mark ∷ []) ≡ Some w
+ending_some mark [] = let same : (mark == mark) ≡ true = grind arith in rw same refl
+ending_some mark (b ∷ []) = let same : (mark == mark) ≡ true = grind arith in rw same refl
+ending_some mark (b ∷ c ∷ bs) = rw (ending_some mark (c ∷ bs)) refl
+
+front_takes : (b : ℕ) (o : Option (List ℕ)) (v : List ℕ) → in_front b o ≡ Some v → (w : List ℕ) × (o ≡ Some w) × (b ∷ w ≡ v)
+front_takes b None v e = absurd cc
+front_takes b (Some w) v e = (w, refl, some_is _ _ e)
+
+pub ending_takes : (mark : ℕ) (w v : List ℕ) → ending mark w ≡ Some v → w ≡ v ++ mark ∷ []
+ending_takes mark [] v e = absurd cc
+ending_takes mark (b ∷ []) v e = split (b == mark) refl e
+  where
+    split : (t : Bool) → (b == mark) ≡ t → cond t (Some []) None ≡ Some v → b ∷ [] ≡ v ++ mark ∷ []
+    split true t f = subst (λ (u : List ℕ). b ∷ [] ≡ u ++ mark ∷ []) (some_is _ _ f) (ap (λ c. c ∷ []) (eqb-true b mark t))
+    split false t f = absurd cc
+ending_takes mark (b ∷ c ∷ bs) v e =
+    let p = front_takes b (ending mark (c ∷ bs)) v e in
+    subst (λ (u : List ℕ). b ∷ c ∷ bs ≡ u ++ mark ∷ []) p.2 (ap (λ r. b ∷ r) (ending_takes mark (c ∷ bs) p.0 p.1))
+
+pub ending_is : (mark b : ℕ) (w front : List ℕ) → w ≡ front ++ b ∷ [] → b ≡ mark → ending mark w ≡ Some front
+ending_is mark b w front e same = ap (ending mark) (e ∙ ap (λ c. front ++ c ∷ []) same) ∙ ending_some mark front
+
+ending_other : (mark b : ℕ) (front : List ℕ) → (b == mark) ≡ false → ending mark (front ++ b ∷ []) ≡ None
+ending_other mark b [] e = rw e refl
+ending_other mark b (c ∷ []) e = rw e refl
+ending_other mark b (c ∷ d ∷ front) e = rw (ending_other mark b (d ∷ front) e) refl
+
+pub ending_isnt : (mark b : ℕ) (w front : List ℕ) → w ≡ front ++ b ∷ [] → (b == mark) ≡ false → ending mark w ≡ None
+ending_isnt mark b w front e other = ap (ending mark) e ∙ ending_other mark b front other

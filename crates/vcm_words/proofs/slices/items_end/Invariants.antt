@@ -1,0 +1,9 @@
+use Rattle.std.proofs.Common.{length}
+use Rattle.vcm_words.proofs.SliceLaws.{IsRead}
+use Rattle.vcm_words.proofs.slices.items_end.Given as goal
+
+abbrev pub decreases-loop-word : goal.decreases-loop-word
+decreases-loop-word l = length l.rest
+
+abbrev pub invariant-loop-word : goal.invariant-loop-word
+invariant-loop-word l = IsRead l.exact l.words l.rest l.count

@@ -1,0 +1,136 @@
+-- Expressions in a listing: their items between brackets.
+use Rattle.std.specs.Prelude.{◌≡◌, ℕ, ◌==◌, ◌^◌, Bool, true, false, if◌then◌else◌, List, [], ◌∷◌, ◌++◌, length, Option, Some, None, ℤ, decimal, codes}
+use Rattle.std.specs.Fmt.{signed_decimal}
+use Rattle.vcm_spec.specs.declared.expression.Operand.{Operand}
+use Rattle.vcm_spec.specs.declared.expression.Operand.TheVariants.{Integer, Thousandths, Truth, Variable}
+use Rattle.vcm_spec.specs.declared.expression.UnaryOp.{UnaryOp}
+use Rattle.vcm_spec.specs.declared.expression.UnaryOp.TheVariants.{Neg, Scale, Not}
+use Rattle.vcm_spec.specs.declared.expression.Relation.TheVariants.{Equal, NotEqual, Less, LessEqual, Greater, GreaterEqual}
+use Rattle.vcm_spec.specs.declared.expression.BinaryOp.{BinaryOp}
+use Rattle.vcm_spec.specs.declared.expression.BinaryOp.TheVariants.{Add, Sub, Mul, Div, And, Or, Compare}
+use Rattle.vcm_spec.specs.declared.expression.Item.{Item}
+use Rattle.vcm_spec.specs.declared.expression.Item.TheVariants.{Push, Apply, Combine}
+use Rattle.vcm_fields.specs.Fitting.{within}
+use Rattle.vcm_words.specs.Numbers.{number, signed, counted}
+use Rattle.vcm_words.specs.Reading.{◌>>=◌, Reader, one, marked, named, or_else, mapped, tested, ending}
+
+-- ---- writing
+
+-- a truth value: B0 or B1
+abbrev pub truth_text : Bool → List ℕ
+truth_text false = codes "B0"
+truth_text true = codes "B1"
+
+-- a leaf: I and a whole number, R and thousandths, a truth value, or V and the index of a variable
+abbrev pub operand_text : Operand → List ℕ
+operand_text (Integer n) = 73 ∷ signed_decimal n
+operand_text (Thousandths n) = 82 ∷ signed_decimal n
+operand_text (Truth b) = truth_text b
+operand_text (Variable v) = 86 ∷ decimal v
+
+-- the word of an operator on one value
+abbrev pub unary_text : UnaryOp → List ℕ
+unary_text Neg = codes "NEG"
+unary_text Scale = codes "SCALE"
+unary_text Not = codes "NOT"
+
+-- the word of an operator on two values
+abbrev pub binary_text : BinaryOp → List ℕ
+binary_text Add = codes "ADD"
+binary_text Sub = codes "SUB"
+binary_text Mul = codes "MUL"
+binary_text Div = codes "DIV"
+binary_text And = codes "AND"
+binary_text Or = codes "OR"
+binary_text (Compare Equal) = codes "EQ"
+binary_text (Compare NotEqual) = codes "NE"
+binary_text (Compare Less) = codes "LT"
+binary_text (Compare LessEqual) = codes "LE"
+binary_text (Compare Greater) = codes "GT"
+binary_text (Compare GreaterEqual) = codes "GE"
+
+-- an item
+abbrev pub item_text : Item → List ℕ
+item_text (Push x) = operand_text x
+item_text (Apply op) = unary_text op
+item_text (Combine op) = binary_text op
+
+-- the items' words, the last one with a bracket behind it
+abbrev pub closed_words : List Item → List (List ℕ)
+closed_words [] = codes "]" ∷ []
+closed_words (i ∷ []) = (item_text i ++ codes "]") ∷ []
+closed_words (i ∷ j ∷ is) = item_text i ∷ closed_words (j ∷ is)
+
+-- a bracket before the first word
+abbrev pub opened : List (List ℕ) → List (List ℕ)
+opened [] = []
+opened (w ∷ ws) = (91 ∷ w) ∷ ws
+
+-- an expression's words: [I20 SCALE]
+abbrev pub expression : List Item → List (List ℕ)
+expression items = opened (closed_words items)
+
+-- ---- reading
+
+-- the word of each operator
+abbrev pub operator_rows : List (List ℕ × Item)
+operator_rows =
+    (codes "NEG", Apply Neg)
+    ∷ (codes "SCALE", Apply Scale)
+    ∷ (codes "NOT", Apply Not)
+    ∷ (codes "ADD", Combine Add)
+    ∷ (codes "SUB", Combine Sub)
+    ∷ (codes "MUL", Combine Mul)
+    ∷ (codes "DIV", Combine Div)
+    ∷ (codes "AND", Combine And)
+    ∷ (codes "OR", Combine Or)
+    ∷ (codes "EQ", Combine (Compare Equal))
+    ∷ (codes "NE", Combine (Compare NotEqual))
+    ∷ (codes "LT", Combine (Compare Less))
+    ∷ (codes "LE", Combine (Compare LessEqual))
+    ∷ (codes "GT", Combine (Compare Greater))
+    ∷ (codes "GE", Combine (Compare GreaterEqual))
+    ∷ []
+
+-- the truth value of 0 or 1
+abbrev pub truth_of : ℕ → Bool
+truth_of n = n == 1
+
+-- the leaf that a word is, by its first letter
+unfoldable pub operand_in : Bool → List ℕ → Option Operand
+operand_in exact w =
+    or_else (mapped Integer (marked 73 (signed exact) w))
+    (or_else (mapped Thousandths (marked 82 (signed exact) w))
+    (or_else (mapped (λ n. Truth (truth_of n)) (marked 66 (number exact 2) w))
+    (mapped Variable (marked 86 (number exact (2 ^ 16)) w))))
+
+-- the item that a word is
+unfoldable pub item_in : Bool → List ℕ → Option Item
+item_in exact w = or_else (named operator_rows w) (mapped Push (operand_in exact w))
+
+-- the last item of an expression, or one with more behind it
+abbrev pub last_or_more : Bool → List ℕ → List (List ℕ) → Option (List ℕ) → Option (List Item × List (List ℕ)) → Option (List Item × List (List ℕ))
+last_or_more exact w ws (Some last) more = item_in exact last >>= λ i. Some (i ∷ [], ws)
+last_or_more exact w ws None more = item_in exact w >>= λ i. more >>= λ is. Some (i ∷ is.0, is.1)
+
+-- items up to the closing bracket
+unfoldable pub items_at : Bool → Reader (List Item)
+items_at exact [] = None
+items_at exact (w ∷ ws) = last_or_more exact w ws (ending 93 w) (items_at exact ws)
+
+-- what stands behind the opening bracket of a word
+abbrev pub opening : List ℕ → Option (List ℕ)
+opening w = marked 91 (λ bs. Some bs) w
+
+-- the words without the bracket before the first
+abbrev pub unopened : List (List ℕ) → Option (List (List ℕ))
+unopened [] = None
+unopened (w ∷ ws) = opening w >>= λ v. Some (v ∷ ws)
+
+-- items between brackets
+unfoldable pub bracketed_at : Bool → Reader (List Item)
+bracketed_at exact ws = unopened ws >>= items_at exact
+
+-- an expression: 1 to 1,024 items between brackets
+unfoldable pub expression_at : Bool → Reader (List Item)
+expression_at exact = tested (λ is. counted exact (within 1 1024 (length is))) (bracketed_at exact)

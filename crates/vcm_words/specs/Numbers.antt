@@ -1,0 +1,44 @@
+-- Numbers as they are written in a listing: in decimal, with no plus and no leading zeros.
+use Rattle.std.specs.Prelude.{ℕ, zero, suc, ◌^◌, ◌+◌, ◌==◌, ◌&&◌, nat_lt, if◌then◌else◌, Bool, true, false, ℤ, pos, negsuc, List, [], ◌∷◌, Option, Some, None, decimal}
+use Rattle.std.specs.Str.{bytes_eq}
+use Rattle.vcm_num.specs.Literals.{number_after}
+
+-- the value, if the test holds
+abbrev pub only_if : {A : Type 0} → Bool → A → Option A
+only_if true x = Some x
+only_if false x = None
+
+-- the number below the limit whose decimal text this is
+unfoldable pub natural : ℕ → List ℕ → Option ℕ
+natural limit bs = only_if (nat_lt (number_after 0 bs) limit && bytes_eq (decimal (number_after 0 bs)) bs) (number_after 0 bs)
+
+-- a number behind a minus: not 0
+abbrev pub negated : Option ℕ → Option ℤ
+negated None = None
+negated (Some zero) = None
+negated (Some (suc n)) = Some (negsuc n)
+
+-- a number without a sign
+abbrev pub unsigned : Option ℕ → Option ℤ
+unsigned None = None
+unsigned (Some n) = Some (pos n)
+
+-- the whole number of 64 bits whose text this is
+unfoldable pub whole : List ℕ → Option ℤ
+whole [] = None
+whole (b ∷ bs) = if b == 45 then negated (natural (2 ^ 63 + 1) bs) else unsigned (natural (2 ^ 63) (b ∷ bs))
+
+-- a number below the limit; a line is read exactly, or only for its shape, and then anything stands for a number
+abbrev pub number : Bool → ℕ → List ℕ → Option ℕ
+number true limit bs = natural limit bs
+number false limit bs = Some 0
+
+-- a whole number of 64 bits, or anything in its place
+abbrev pub signed : Bool → List ℕ → Option ℤ
+signed true bs = whole bs
+signed false bs = Some (pos 0)
+
+-- a count within its limits, or any
+abbrev pub counted : Bool → Bool → Bool
+counted true test = test
+counted false test = true

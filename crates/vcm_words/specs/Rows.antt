@@ -1,0 +1,119 @@
+-- The lines of a listing.
+use Rattle.std.specs.Prelude.{◌≡◌, ℕ, suc, ◌<◌, ◌^◌, ◌==◌, ◌&&◌, nat_lt, Bool, true, false, if◌then◌else◌, List, [], ◌∷◌, ◌++◌, length, map, flat_map, Option, Some, None, Result, Ok, Err, codes, IsTrue}
+use Rattle.vcm_num.specs.declared.number.Kind.{Kind}
+use Rattle.vcm_num.specs.declared.number.Kind.TheVariants.{Int, Real, Bool as Truth}
+use Rattle.vcm_spec.specs.declared.expression.Item.{Item}
+use Rattle.vcm_code.specs.declared.code.Code.{Code}
+use Rattle.vcm_spec.specs.Setup.{Variable as Entry}
+use Rattle.vcm_expr.specs.NameBytes.{is_name, IsName}
+use Rattle.vcm_expr.specs.Parts.{is_variable_name}
+use Rattle.vcm_fields.specs.Parts.{Line}
+use Rattle.vcm_fields.specs.Fitting.{FitsEntry, FitsLine}
+use Rattle.vcm_words.specs.declared.row.Row.{Row}
+use Rattle.vcm_words.specs.declared.row.Row.TheVariants.{Head, Variable, Feature, Frame, Numbered}
+use Rattle.vcm_words.specs.declared.row.Heading.{Heading}
+use Rattle.vcm_words.specs.declared.row.Heading.TheVariants as headings
+use Rattle.vcm_words.specs.Cutting.{split, joined}
+use Rattle.vcm_words.specs.Numbers.{number, counted, only_if}
+use Rattle.vcm_words.specs.Reading.{◌>>=◌, Reader, one, both, via, ended, named}
+use Rattle.vcm_words.specs.Operands.{single, number_text, number_at, line, line_at}
+
+-- a line, with its items and texts as lists
+abbrev pub ListRow : Type 0
+ListRow = Row (List Item) (List ℕ)
+
+-- ---- writing
+
+-- the word of a kind
+abbrev pub kind_text : Kind → List ℕ
+kind_text Int = codes "INTGR"
+kind_text Real = codes "REAL"
+kind_text Truth = codes "BOOL"
+
+-- the words of a line
+abbrev pub row_words : ListRow → List (List ℕ)
+row_words Head = codes "VCM-LISTING" ∷ number_text 1
+row_words (Variable i v) = codes "VAR" ∷ (number_text i ++ (single (kind_text v.kind) ++ (single v.name ++ number_text v.expansion)))
+row_words (Feature i name) = codes "FEATURE" ∷ (number_text i ++ single name)
+row_words (Frame i name) = codes "FRAME" ∷ (number_text i ++ single name)
+row_words (Numbered n s) = number_text n ++ line s
+
+-- a line, without its end
+unfoldable pub row_text : ListRow → List ℕ
+row_text r = joined 32 (row_words r)
+
+-- each with its index
+abbrev pub numbered : {A : Type 0} → (ℕ → A → ListRow) → ℕ → List A → List ListRow
+numbered f n [] = []
+numbered f n (x ∷ xs) = f n x ∷ numbered f (suc n) xs
+
+-- the lines of a code: the head, the tables, the statements
+abbrev pub rows : Code → List ListRow
+rows c = Head ∷ (numbered Variable 0 c.tables.variables ++ (numbered Feature 0 c.tables.features ++ (numbered Frame 0 c.tables.frames ++ numbered Numbered 0 c.statements)))
+
+-- the lines with their ends
+abbrev pub text_of : List ListRow → List ℕ
+text_of rs = flat_map (λ r. row_text r ++ 10 ∷ []) rs
+
+-- the listing of a code
+abbrev pub listing : Code → List ℕ
+listing c = text_of (rows c)
+
+-- ---- reading
+
+-- the kinds by their words
+abbrev pub kind_rows : List (List ℕ × Kind)
+kind_rows = (codes "INTGR", Int) ∷ (codes "REAL", Real) ∷ (codes "BOOL", Truth) ∷ []
+
+-- the words that a line begins with, where it is no statement
+abbrev pub heading_rows : List (List ℕ × Heading)
+heading_rows = (codes "VCM-LISTING", headings.Head) ∷ (codes "VAR", headings.Variables) ∷ (codes "FEATURE", headings.Features) ∷ (codes "FRAME", headings.Frames) ∷ []
+
+-- reading a name
+abbrev pub name_at : Reader (List ℕ)
+name_at = one (λ w. only_if (is_name w) w)
+
+-- reading the name of a variable
+abbrev pub variable_name_at : Reader (List ℕ)
+variable_name_at = one (λ w. only_if (is_variable_name w) w)
+
+-- reading the number of the form: 1
+abbrev pub version_at : Bool → Reader ℕ
+version_at exact = one (λ w. number exact 2 w >>= λ n. only_if (counted exact (n == 1)) n)
+
+-- reading a variable behind its word: its index, its kind, its name, its expansion
+unfoldable pub entry_at : Bool → Reader (ℕ × Entry)
+entry_at exact = via (λ o. (o.0, record { name = o.1.1.0; kind = o.1.0; expansion = o.1.1.1 })) (both (number_at exact (2 ^ 16)) (both (one (named kind_rows)) (both variable_name_at (number_at exact (2 ^ 32)))))
+
+-- reading the index and the name of a feature or a frame
+unfoldable pub indexed_at : Bool → Reader (ℕ × List ℕ)
+indexed_at exact = both (number_at exact (2 ^ 16)) name_at
+
+-- reading a statement and its number
+unfoldable pub numbered_at : Bool → Reader (ℕ × Line)
+numbered_at exact = both (number_at exact (2 ^ 32)) (line_at exact)
+
+-- the line whose first word has this heading, or none: then it is a statement's
+unfoldable pub row_after : Bool → Option Heading → List ℕ → List (List ℕ) → Option ListRow
+row_after exact (Some headings.Head) w ws = ended (via (λ n. Head) (version_at exact) ws)
+row_after exact (Some headings.Variables) w ws = ended (via (λ o. Variable o.0 o.1) (entry_at exact) ws)
+row_after exact (Some headings.Features) w ws = ended (via (λ o. Feature o.0 o.1) (indexed_at exact) ws)
+row_after exact (Some headings.Frames) w ws = ended (via (λ o. Frame o.0 o.1) (indexed_at exact) ws)
+row_after exact None w ws = ended (via (λ o. Numbered o.0 o.1) (numbered_at exact) (w ∷ ws))
+
+-- the line of these words
+abbrev pub row_at : Bool → List (List ℕ) → Option ListRow
+row_at exact [] = None
+row_at exact (w ∷ ws) = row_after exact (named heading_rows w) w ws
+
+-- a line, read exactly or only for its shape
+unfoldable pub row_of : Bool → List ℕ → Option ListRow
+row_of exact bytes = row_at exact (split 32 bytes)
+
+-- which lines have all their fields in range, so that they have a spelling
+abbrev pub FitsRow : ListRow → Type 0
+FitsRow Head = Unit {0}
+FitsRow (Variable i v) = (i < 2 ^ 16) × FitsEntry v
+FitsRow (Feature i name) = (i < 2 ^ 16) × IsName name
+FitsRow (Frame i name) = (i < 2 ^ 16) × IsName name
+FitsRow (Numbered n s) = (n < 2 ^ 32) × FitsLine s

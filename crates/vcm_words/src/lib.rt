@@ -1,0 +1,21 @@
+//! The words of listings, read in place: cuts, numbers, items, expressions, and the places of operands. They take no memory.
+#![tactic(auto)]
+
+mod fault;
+mod items;
+mod numbers;
+mod places;
+mod row;
+mod slices;
+mod words;
+
+pub use fault::{ListCode, ListFault};
+pub use items::is;
+pub use numbers::small;
+pub use places::{
+    axis, count, direction, index, lettered, pair, part, quarters, setting, source, target, text,
+    turn,
+};
+pub use row::{Heading, Row};
+pub use slices::{ItemWords, TextWords, expression};
+pub use words::{Words, cut};

@@ -1,0 +1,245 @@
+//! The places of a statement's operands. Each is read exactly, or for its shape alone: then anything stands for a number.
+
+ghost use Rattle.std.specs.Prelude.{◌≡◌, ◌^◌, ◌<◌, ◌==◌, nat_le, Some};
+ghost use Rattle.std.specs.List.{list_all};
+ghost use Rattle.vcm_spec.specs.TextBytes.{is_text_byte};
+ghost use Rattle.vcm_words.specs.Numbers.{number, counted, only_if};
+ghost use Rattle.vcm_words.specs.Reading.{one, named, marked};
+ghost use Rattle.vcm_words.specs.Operands.{lettered_at, number_at, axis_rows, direction_rows, setting_rows, source_rows, turn_rows, part_at, quoted_in, text_at, word_at};
+
+use crate::items::{before_end, is};
+use crate::numbers::{long, short, small};
+use crate::slices::TextWords;
+use crate::words::Words;
+use vcm_num::Axis;
+use vcm_spec::{Setting, Source};
+
+/// The most bytes of a text.
+const LONGEST_TEXT: usize = 1024;
+
+/// An index of 16 bits behind a letter, and the words behind it.
+pub fn lettered<'a>(exact: bool, letter: u8, words: &Words<'a>) -> Option<(u16, Words<'a>)>
+    ensures { result ≡ lettered_at exact letter (2 ^ 16) words.now }
+{
+    let (word, rest) = words.split_first()?;
+    match word {
+        [] => None,
+        [first, digits @ ..] => {
+            if *first == letter {
+                Some((short(exact, digits)?, rest))
+            } else {
+                None
+            }
+        }
+    }
+}
+
+/// The number of a statement, as a target, and the words behind it.
+pub fn target<'a>(exact: bool, words: &Words<'a>) -> Option<(u32, Words<'a>)>
+    ensures { result ≡ lettered_at exact 64 (2 ^ 32) words.now }
+{
+    let (word, rest) = words.split_first()?;
+    match word {
+        [] => None,
+        [first, digits @ ..] => {
+            if *first == b'@' {
+                Some((long(exact, digits)?, rest))
+            } else {
+                None
+            }
+        }
+    }
+}
+
+/// The number of a loop's pair, 0 to 31, and the words behind it.
+pub fn pair<'a>(exact: bool, words: &Words<'a>) -> Option<(u8, Words<'a>)>
+    ensures { result ≡ lettered_at exact 76 32 words.now }
+{
+    let (word, rest) = words.split_first()?;
+    match word {
+        [] => None,
+        [first, digits @ ..] => {
+            if *first == b'L' {
+                Some((small(exact, 32, digits)?, rest))
+            } else {
+                None
+            }
+        }
+    }
+}
+
+/// A number of 16 bits, and the words behind it.
+pub fn index<'a>(exact: bool, words: &Words<'a>) -> Option<(u16, Words<'a>)>
+    ensures { result ≡ number_at exact (2 ^ 16) words.now }
+{
+    let (word, rest) = words.split_first()?;
+    Some((short(exact, word)?, rest))
+}
+
+/// A number of 32 bits, and the words behind it.
+pub fn count<'a>(exact: bool, words: &Words<'a>) -> Option<(u32, Words<'a>)>
+    ensures { result ≡ number_at exact (2 ^ 32) words.now }
+{
+    let (word, rest) = words.split_first()?;
+    Some((long(exact, word)?, rest))
+}
+
+/// A number of quarter turns, 0 to 3, and the words behind it.
+pub fn quarters<'a>(exact: bool, words: &Words<'a>) -> Option<(u8, Words<'a>)>
+    ensures { result ≡ number_at exact 4 words.now }
+{
+    let (word, rest) = words.split_first()?;
+    Some((small(exact, 4, word)?, rest))
+}
+
+/// The number of a feature's word, 3 to 8, and the words behind it.
+pub fn part<'a>(exact: bool, words: &Words<'a>) -> Option<(u8, Words<'a>)>
+    ensures { result ≡ part_at exact words.now }
+{
+    let (word, rest) = words.split_first()?;
+    let number = small(exact, 9, word)?;
+    if exact && number < 3 {
+        return None;
+    }
+    Some((number, rest))
+}
+
+/// A direction, and the words behind it.
+pub fn axis<'a>(words: &Words<'a>) -> Option<(Axis, Words<'a>)>
+    ensures { result ≡ one (named axis_rows) words.now }
+{
+    let (word, rest) = words.split_first()?;
+    if is(word, b"+X") {
+        Some((Axis::PlusX, rest))
+    } else if is(word, b"-X") {
+        Some((Axis::MinusX, rest))
+    } else if is(word, b"+Y") {
+        Some((Axis::PlusY, rest))
+    } else if is(word, b"-Y") {
+        Some((Axis::MinusY, rest))
+    } else if is(word, b"+Z") {
+        Some((Axis::PlusZ, rest))
+    } else if is(word, b"-Z") {
+        Some((Axis::MinusZ, rest))
+    } else {
+        None
+    }
+}
+
+/// The direction of a measurement, none where it is the nominal feature's, and the words behind it.
+pub fn direction<'a>(words: &Words<'a>) -> Option<(Option<Axis>, Words<'a>)>
+    ensures { result ≡ one (named direction_rows) words.now }
+{
+    let (word, rest) = words.split_first()?;
+    if is(word, b"NOM") {
+        Some((None, rest))
+    } else if is(word, b"+X") {
+        Some((Some(Axis::PlusX), rest))
+    } else if is(word, b"-X") {
+        Some((Some(Axis::MinusX), rest))
+    } else if is(word, b"+Y") {
+        Some((Some(Axis::PlusY), rest))
+    } else if is(word, b"-Y") {
+        Some((Some(Axis::MinusY), rest))
+    } else if is(word, b"+Z") {
+        Some((Some(Axis::PlusZ), rest))
+    } else if is(word, b"-Z") {
+        Some((Some(Axis::MinusZ), rest))
+    } else {
+        None
+    }
+}
+
+/// A setting of the probe, and the words behind it.
+pub fn setting<'a>(words: &Words<'a>) -> Option<(Setting, Words<'a>)>
+    ensures { result ≡ one (named setting_rows) words.now }
+{
+    let (word, rest) = words.split_first()?;
+    if is(word, b"APPRCH") {
+        Some((Setting::Approach, rest))
+    } else if is(word, b"RETRCT") {
+        Some((Setting::Retract, rest))
+    } else if is(word, b"SEARCH") {
+        Some((Setting::Search, rest))
+    } else if is(word, b"DEPTH") {
+        Some((Setting::Depth, rest))
+    } else {
+        None
+    }
+}
+
+/// Whether the nominal or the actual feature is meant, and the words behind it.
+pub fn source<'a>(words: &Words<'a>) -> Option<(Source, Words<'a>)>
+    ensures { result ≡ one (named source_rows) words.now }
+{
+    let (word, rest) = words.split_first()?;
+    if is(word, b"NOMINAL") {
+        Some((Source::Nominal, rest))
+    } else if is(word, b"ACTUAL") {
+        Some((Source::Actual, rest))
+    } else {
+        None
+    }
+}
+
+/// The axis of a turn, 0 to 2 for x, y and z, and the words behind it.
+pub fn turn<'a>(words: &Words<'a>) -> Option<(u8, Words<'a>)>
+    ensures { result ≡ one (named turn_rows) words.now }
+{
+    let (word, rest) = words.split_first()?;
+    if is(word, b"X") {
+        Some((0, rest))
+    } else if is(word, b"Y") {
+        Some((1, rest))
+    } else if is(word, b"Z") {
+        Some((2, rest))
+    } else {
+        None
+    }
+}
+
+// Whether a byte may stand in a text.
+fn is_text_byte(byte: u8) -> bool
+    ensures { result ≡ is_text_byte byte }
+{
+    byte == b'\t' || (32 <= byte && byte != b'\'' && byte != 127)
+}
+
+// Whether all of these bytes may stand in a text.
+fn are_text_bytes(bytes: &[u8]) -> bool
+    ensures { result ≡ list_all is_text_byte bytes.now }
+{
+    bytes.iter().all(|byte| is_text_byte(*byte))
+}
+
+// What stands between apostrophes.
+#[tactic(auto, unfolding(crate::specs::Operands::quoted_in))]
+fn quoted<'a>(exact: bool, bytes: &'a [u8]) -> Option<TextWords<'a>>
+    ensures { result ≡ quoted_in exact bytes.now }
+{
+    match bytes {
+        [] => None,
+        [first, rest @ ..] => {
+            if *first != b'\'' {
+                return None;
+            }
+            let inside = before_end(b'\'', rest)?;
+            if exact && inside.len() > LONGEST_TEXT {
+                return None;
+            }
+            if !are_text_bytes(inside) {
+                return None;
+            }
+            Some(TextWords::new(inside))
+        }
+    }
+}
+
+/// A text, which takes all words that are left.
+pub fn text<'a>(exact: bool, words: &Words<'a>) -> Option<(TextWords<'a>, Words<'a>)>
+    ensures { result ≡ text_at exact words.now }
+{
+    let bytes = words.whole()?;
+    let text = quoted(exact, bytes)?;
+    Some((text, Words::none()))
+}

@@ -1,0 +1,33 @@
+//! The lines of a listing.
+
+use vcm_code::Statement;
+use vcm_expr::Name;
+use vcm_tables::Variable;
+
+/// A line of a listing, with expressions of the form `E` and texts of the form `T`.
+#[derive(Drop)]
+pub enum Row<E, T> {
+    /// The first line.
+    Head,
+    /// A variable with its index.
+    Variable(u16, Variable),
+    /// The name of a feature with its index.
+    Feature(u16, Name),
+    /// The name of a frame with its index.
+    Frame(u16, Name),
+    /// A statement with its number.
+    Numbered(u32, Statement<E, T>),
+}
+
+/// The word that a line begins with, where it is no statement.
+#[derive(Clone, Copy, Debug, PartialEq, Eq)]
+pub enum Heading {
+    /// `VCM-LISTING`.
+    Head,
+    /// `VAR`.
+    Variables,
+    /// `FEATURE`.
+    Features,
+    /// `FRAME`.
+    Frames,
+}
