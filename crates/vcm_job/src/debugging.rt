@@ -11,7 +11,7 @@ use std::io::{Read, Write};
 use vcm_debug::{ServeFault, Session, serve};
 use vcm_fields::ImageFault;
 use vcm_loader::{Loaded, load};
-use vcm_motion::{Blocks, Part};
+use vcm_motion::{AnyPart, Part};
 use vcm_part::PartData;
 use vcm_run::{Built, Refusal, build_image};
 use vcm_tree::Noticed;
@@ -65,6 +65,21 @@ fn serve_loaded<'a, P: Part, R: Read, W: Write>(
     }
 }
 
+// Serves a session on what was loaded, beside the workpiece of a part file.
+fn serve_beside<R: Read, W: Write>(
+    alloc: Global,
+    loaded: &Loaded<'_>,
+    part: &PartData,
+    commands: &mut R,
+    writer: &mut W,
+) -> Result<(), DebugFault>
+    ensures done { IfOk result (λ v. IfSome (R.remaining commands.old) (λ lines. IsSession part.now loaded.now lines (R.remaining commands.new) (W.contents writer.old) (W.contents writer.new) (Ok v))) }
+    ensures fault { IfErr result (λ f. IsNoSession part.now loaded.now (R.remaining commands.old) (R.remaining commands.new) f (W.contents writer.old) (W.contents writer.new)) }
+{
+    let workpiece = AnyPart::of(alloc, part);
+    serve_loaded(alloc, loaded, &workpiece, commands, writer)
+}
+
 // Serves a session on an image.
 fn serve_image<R: Read, W: Write>(
     alloc: Global,
@@ -77,7 +92,7 @@ fn serve_image<R: Read, W: Write>(
     ensures fault { IfErr result (λ f. IsNotServed part.now image.now (R.remaining commands.old) (R.remaining commands.new) f (W.contents writer.old) (W.contents writer.new)) }
 {
     match load(alloc, image) {
-        Ok(loaded) => serve_loaded(alloc, &loaded, &Blocks::new(part), commands, writer),
+        Ok(loaded) => serve_beside(alloc, &loaded, part, commands, writer),
         Err(fault) => Err(DebugFault::Image(fault)),
     }
 }

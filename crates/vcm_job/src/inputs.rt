@@ -10,7 +10,7 @@ use crate::running::{Done, is_halted, status_of};
 use std::alloc::Global;
 use std::io::{Read, Write};
 use vcm_fields::ImageFault;
-use vcm_motion::Blocks;
+use vcm_motion::AnyPart;
 use vcm_part::PartData;
 use vcm_run::{Refusal, Summary, run_image, run_text, write_result};
 
@@ -56,14 +56,14 @@ fn summary_of(alloc: Global, part: &PartData, input: &[u8], steps: u64) -> Resul
     ensures run { IfOk result (IsInputRun part.now input.now steps) }
     ensures refused { IfErr result (IsRefusedInput input.now) }
 {
-    let blocks = Blocks::new(part);
+    let workpiece = AnyPart::of(alloc, part);
     if is_image(input) {
-        match run_image(alloc, &blocks, input, steps) {
+        match run_image(alloc, &workpiece, input, steps) {
             Ok(summary) => Ok(summary),
             Err(fault) => Err(RunFault::Image(fault)),
         }
     } else {
-        match run_text(alloc, &blocks, input, steps) {
+        match run_text(alloc, &workpiece, input, steps) {
             Ok(summary) => Ok(summary),
             Err(refusal) => Err(RunFault::Refused(refusal)),
         }

@@ -9,7 +9,7 @@ use crate::cutting::texts_of;
 use crate::reading::{ReadFault, read_all};
 use std::alloc::Global;
 use std::io::{Read, Write};
-use vcm_motion::Blocks;
+use vcm_motion::AnyPart;
 use vcm_part::read_part;
 use vcm_run::{End, Ran, Refusal, Summary, run_text, write_result};
 use vcm_spec::{Stop, StopPlace};
@@ -91,7 +91,8 @@ fn summary_of(alloc: Global, input: &[u8], steps: u64) -> Result<Summary, JobFau
         Ok(part) => part,
         Err(fault) => return Err(JobFault::Refused(Refusal::Part(fault))),
     };
-    let summary = match run_text(alloc, &Blocks::new(&part), program, steps) {
+    let workpiece = AnyPart::of(alloc, &part);
+    let summary = match run_text(alloc, &workpiece, program, steps) {
         Ok(summary) => summary,
         Err(refusal) => return Err(JobFault::Refused(refusal)),
     };

@@ -7,3 +7,7 @@ pub mod Inside
 pub mod InOrder
 pub mod Ahead
 pub mod Faces
+pub mod BoxLemmas
+pub mod Passed
+pub mod StripLemmas
+pub mod StripLists

@@ -5,16 +5,19 @@ ghost use Rattle.std.specs.List.{list_all};
 ghost use Rattle.vcm_num.specs.Point.{coordinate, is_near};
 ghost use Rattle.vcm_spec.specs.Workpiece.{is_block};
 ghost use Rattle.vcm_spec.specs.Contact.{Meets, IsContact};
+ghost use Rattle.vcm_motion.specs.Boxes.{IsBoxOf};
 ghost use Rattle.vcm_motion.specs.Order.{IsLeastOf};
 
+use crate::area::{box_of, is_touching};
 use crate::axis::between;
 use crate::entered::{Entered, sooner};
 use crate::fraction::{Fraction, Stretch};
 use vcm_num::Point;
 use vcm_spec::{Block3, Hit};
 
-// The fraction at which a move enters a block.
-fn entry(block: &Block3, from: Point, to: Point) -> Option<Fraction>
+// The fraction at which a move enters a block, axis by axis.
+#[inline(never)]
+fn crossing(block: &Block3, from: Point, to: Point) -> Option<Fraction>
     requires block { IsTrue (is_block block.now) }
     requires from { IsTrue (is_near from) }
     requires to { IsTrue (is_near to) }
@@ -38,6 +41,23 @@ fn entry(block: &Block3, from: Point, to: Point) -> Option<Fraction>
     }
 }
 
+/// The fraction at which a move enters a block, where `area` is the box of the move: a block that it does not touch is not met.
+#[inline(always)]
+pub(crate) fn entry(block: &Block3, area: &Block3, from: Point, to: Point) -> Option<Fraction>
+    requires block { IsTrue (is_block block.now) }
+    requires area { IsBoxOf from to area.now }
+    requires from { IsTrue (is_near from) }
+    requires to { IsTrue (is_near to) }
+    ensures met { IfSome result (λ f. IsLeastOf (Meets (coordinate from) (coordinate to) block.now) f.num f.den) }
+    ensures missed { IfNone result ((a b : ℕ) → Meets (coordinate from) (coordinate to) block.now a b → ⊥) }
+{
+    if is_touching(block, area) {
+        crossing(block, from, to)
+    } else {
+        None
+    }
+}
+
 /// The first block that a move meets: of those entered at the least fraction the one that stands first.
 pub(crate) fn first_hit(blocks: &[Block3], from: Point, to: Point) -> Option<Hit>
     requires few { length blocks.now ≤ 4096 }
@@ -46,9 +66,10 @@ pub(crate) fn first_hit(blocks: &[Block3], from: Point, to: Point) -> Option<Hit
     requires to { IsTrue (is_near to) }
     ensures { IsContact blocks.now (coordinate from) (coordinate to) result }
 {
+    let area = box_of(from, to);
     let mut first: Option<Entered> = None;
     for (index, block) in blocks.iter().enumerate() {
-        if let Some(at) = entry(block, from, to) {
+        if let Some(at) = entry(block, &area, from, to) {
             first = Some(sooner(first, Entered { index, at }));
         }
     }

@@ -1,7 +1,9 @@
 //! Straight moves among the blocks of a workpiece: what a machine asks of a workpiece, and the answers, exact on fractions of the move. Lengths
-//! are whole micrometres. Nothing here takes memory.
+//! are whole micrometres. Only strips take memory, when they are built.
 #![tactic(auto)]
 
+mod any_part;
+mod area;
 mod axis;
 mod blocks;
 mod entered;
@@ -9,13 +11,18 @@ mod face;
 mod fraction;
 mod hit;
 pub mod laws;
+mod layout;
+mod listed;
 mod part;
 mod query;
+mod strips;
 
+pub use any_part::AnyPart;
 pub use blocks::Blocks;
 pub use face::Face;
 pub use part::Part;
 pub use query::{contact_of, is_free};
-pub use vcm_num::{Axis, Point};
+pub use strips::Strips;
+pub use vcm_num::{Axis, NoMemory, Point};
 pub use vcm_part::{Block3, Bounds, PartData};
 pub use vcm_spec::Hit;

@@ -8,7 +8,7 @@ use vcm_num::Point;
 use vcm_spec::{Block3, Bounds};
 
 /// Whether no coordinate of `low` is above that of `high`.
-pub(crate) fn is_below(low: Point, high: Point) -> bool
+pub fn is_below(low: Point, high: Point) -> bool
     ensures { result ≡ is_below (coordinate low) (coordinate high) }
 {
     low.0[0] <= high.0[0] && low.0[1] <= high.0[1] && low.0[2] <= high.0[2]

@@ -5,8 +5,9 @@ use std::alloc::Global;
 use std::io;
 use std::io::{ErrorKind, Read, Write};
 use vcm_command::{CheckFault, Message, check, job_message};
-use vcm_job::{JobFault, job};
-use vcm_part::{PartCode, PartFault};
+use vcm_debug::ServeFault;
+use vcm_job::{DebugFault, JobFault, debug, job};
+use vcm_part::{PartCode, PartFault, read_part};
 use vcm_run::Refusal;
 
 // Whether a part is judged before the program.
@@ -218,4 +219,69 @@ fn checks_fail(alloc: Global) -> bool {
 #[test]
 fn devices_of_checks(rt: HostRuntime) {
     assert!(rt; checks_fail(rt.alloc()));
+}
+
+// The commands of a short session, and what it replies.
+const COMMANDS: &str = "where\nstep\nout\nquit\n";
+
+const REPLIES: &str = "step 0 next 0 line 3\nstep 1 next 1 line 4\nlines 1\nA\nbye\n";
+
+// What a session on a program of one output line answers, between these devices.
+fn session<R: Read, W: Write>(
+    alloc: Global,
+    commands: &mut R,
+    writer: &mut W,
+) -> Option<Option<DebugFault>> {
+    let file = joined(alloc, &[BOUNDS, ONE_BLOCK])?;
+    let part = read_part(alloc, file.as_bytes()).ok()?;
+    let program = program_of(alloc, "TEXT/OPER,'A'\n")?;
+    let mut input = program.as_bytes();
+    Some(debug(alloc, &part, &mut input, commands, writer).err())
+}
+
+// Whether a session whose commands fail at this call tells that, and has written a front of its replies.
+fn commands_fail(alloc: Global, failing: usize) -> bool {
+    let mut commands = Failing {
+        bytes: COMMANDS.as_bytes(),
+        calls: 0,
+        failing,
+    };
+    let mut out = Vec::new(alloc);
+    let told = session(alloc, &mut commands, &mut out);
+    told == Some(Some(DebugFault::Serve(ServeFault::Read)))
+        && REPLIES.as_bytes().starts_with(out.as_slice())
+}
+
+#[test]
+fn each_read_of_commands_fails(rt: HostRuntime) {
+    for failing in 1..=3usize {
+        assert!(rt; commands_fail(rt.alloc(), failing), "{failing}");
+    }
+}
+
+// Whether a session whose replies fail at this call writes all, where the call never comes, or tells it and wrote a front that is not all.
+fn replies_fail(alloc: Global, failing: usize) -> bool {
+    let mut commands = COMMANDS.as_bytes();
+    let mut writer = Full {
+        taken: Vec::new(alloc),
+        calls: 0,
+        failing,
+    };
+    let told = session(alloc, &mut commands, &mut writer);
+    let whole = REPLIES.as_bytes();
+    let taken = writer.taken.as_slice();
+    if writer.calls < failing {
+        told == Some(None) && taken == whole
+    } else {
+        told == Some(Some(DebugFault::Serve(ServeFault::Write)))
+            && taken.len() < whole.len()
+            && whole.starts_with(taken)
+    }
+}
+
+#[test]
+fn each_write_of_replies_fails(rt: HostRuntime) {
+    for failing in 1..=40usize {
+        assert!(rt; replies_fail(rt.alloc(), failing), "{failing}");
+    }
 }

@@ -28,4 +28,6 @@ mod run_tests;
 #[cfg(test)]
 mod runs;
 #[cfg(test)]
+mod strip_tests;
+#[cfg(test)]
 mod texts;

@@ -3,11 +3,25 @@
 use crate::texts::{BOUNDS, ONE_BLOCK, joined, program_of};
 use std::alloc::Global;
 use vcm_lines::SourceFault;
-use vcm_motion::Blocks;
+use vcm_motion::{Blocks, Part, Strips};
 use vcm_part::read_part;
 use vcm_run::{Refusal, Summary, run_text, write_result};
 
-// Whether the run of these statements beside these blocks passes a test after so many steps. No other function owns the summary of a text.
+// Whether the run of a program beside a workpiece passes a test after so many steps. No other function owns the summary of a text.
+fn passes<P: Part, F: Fn(&Result<Summary, Refusal>) -> bool>(
+    alloc: Global,
+    part: &P,
+    program: &[u8],
+    steps: u64,
+    test: &F,
+) -> bool
+    requires { F.IsAlwaysCallable test.now }
+{
+    let answer = run_text(alloc, part, program, steps);
+    test(&answer)
+}
+
+// Whether the run of these statements beside these blocks passes a test, with the blocks one by one and with the blocks in strips.
 fn judged<F: Fn(&Result<Summary, Refusal>) -> bool>(
     alloc: Global,
     blocks: &str,
@@ -20,8 +34,10 @@ fn judged<F: Fn(&Result<Summary, Refusal>) -> bool>(
     let file = joined(alloc, &[BOUNDS, blocks])?;
     let part = read_part(alloc, file.as_bytes()).ok()?;
     let program = program_of(alloc, statements)?;
-    let answer = run_text(alloc, &Blocks::new(&part), program.as_bytes(), steps);
-    Some(test(&answer))
+    let program = program.as_bytes();
+    let strips = Strips::build(alloc, &part).ok()?;
+    let one_by_one = passes(alloc, &Blocks::new(&part), program, steps, &test);
+    Some(one_by_one && passes(alloc, &strips, program, steps, &test))
 }
 
 // Whether these statements are run so, and their summary passes a test.

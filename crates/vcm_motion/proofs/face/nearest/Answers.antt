@@ -1,5 +1,10 @@
 use Rattle.std.proofs.Common.{rules}
+use Rattle.vcm_num.specs.Point.{coordinate}
+use Rattle.vcm_motion.proofs.Ahead.{line_touches}
 use Rattle.vcm_motion.proofs.face.nearest.Goals as goal
 
-pub returns-then-reach-distance-clause-missed : goal.returns-then-reach-distance-clause-missed
-returns-then-reach-distance-clause-missed c = search rules
+pub returns-else-is_touching-clause-missed : goal.returns-else-is_touching-clause-missed
+returns-else-is_touching-clause-missed c = λ t b m.
+    let touches = line_touches c.args.block.now c.args.line.now (coordinate c.args.from) c.args.toward t c.requires.block c.requires.line m.holds in
+    let e = c.is_touching.ensures in
+    let n = c.if-is_touching.false in absurd (grind (rules, touches, e, n))

@@ -1,0 +1,73 @@
+//! The kind of workpiece that suits the number of its blocks.
+
+ghost use Rattle.std.specs.Prelude.{◌≡◌};
+ghost use Rattle.vcm_spec.specs.Workpiece.{IsValid};
+ghost use Rattle.vcm_motion.specs.declared.any_part.AnyPart.TheVariants.{Few, Many};
+
+use crate::blocks::Blocks;
+use crate::face::Face;
+use crate::part::Part;
+use crate::strips::Strips;
+use std::alloc::Global;
+use vcm_num::{Axis, Point};
+use vcm_part::PartData;
+use vcm_spec::{Bounds, Hit};
+
+// How many blocks are compared one by one.
+const FEW: usize = 16;
+
+/// A workpiece with few blocks, which are compared one by one, or with many, in strips.
+#[derive(Drop)]
+pub enum AnyPart<'a> {
+    Few(Blocks<'a>),
+    Many(Strips<'a>),
+}
+
+impl<'a> AnyPart<'a> {
+    /// The workpiece of a part file: strips for more than 16 blocks, where there is memory for them.
+    pub fn of(alloc: Global, part: &'a PartData) -> AnyPart<'a>
+        ensures { ⟦<AnyPart<'a> as Part>⟧.part result ≡ part.now }
+    {
+        if part.blocks().len() <= FEW {
+            return AnyPart::Few(Blocks::new(part));
+        }
+        match Strips::build(alloc, part) {
+            Ok(strips) => AnyPart::Many(strips),
+            Err(_) => AnyPart::Few(Blocks::new(part)),
+        }
+    }
+}
+
+impl<'a> Part for AnyPart<'a> {
+    ghost part = { λ p. elim p [ Few b ↦ ⟦<Blocks<'a> as Part>⟧.part b | Many s ↦ ⟦<Strips<'a> as Part>⟧.part s ] };
+
+    ghost valid = { λ p. elim p as (λ k. IsValid (elim k [ Few b ↦ ⟦<Blocks<'a> as Part>⟧.part b | Many s ↦ ⟦<Strips<'a> as Part>⟧.part s ])) [ Few b ↦ b.valid | Many s ↦ s.valid ] };
+
+    fn bounds(&self) -> Bounds {
+        match self {
+            AnyPart::Few(blocks) => blocks.bounds(),
+            AnyPart::Many(strips) => strips.bounds(),
+        }
+    }
+
+    fn inside(&self, at: Point) -> bool {
+        match self {
+            AnyPart::Few(blocks) => blocks.inside(at),
+            AnyPart::Many(strips) => strips.inside(at),
+        }
+    }
+
+    fn first_hit(&self, from: Point, to: Point) -> Option<Hit> {
+        match self {
+            AnyPart::Few(blocks) => blocks.first_hit(from, to),
+            AnyPart::Many(strips) => strips.first_hit(from, to),
+        }
+    }
+
+    fn first_face(&self, from: Point, toward: Axis, length: u32) -> Option<Face> {
+        match self {
+            AnyPart::Few(blocks) => blocks.first_face(from, toward, length),
+            AnyPart::Many(strips) => strips.first_face(from, toward, length),
+        }
+    }
+}
