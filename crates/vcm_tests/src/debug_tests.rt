@@ -265,7 +265,9 @@ fn steps_on<P: Part>(
     part: &Counting<P>,
     back: u32,
 ) -> Option<u32> {
-    let mut session = Session::new(alloc, loaded, part).ok()?;
+    let Ok(mut session) = Session::new(alloc, loaded, part) else {
+        return None;
+    };
     session.command(alloc, &Command::Step(5000)).ok()?;
     part.moves.set(0);
     session.command(alloc, &Command::Back(back)).ok()?;

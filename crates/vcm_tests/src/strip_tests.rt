@@ -1,5 +1,8 @@
 //! Parts with many blocks, and how many of them a move is compared with.
 
+ghost use Rattle.std.specs.Prelude.{IsTrue};
+ghost use Rattle.vcm_num.specs.Point.{is_near};
+
 use crate::runs::prints;
 use crate::texts::{BOUNDS, joined};
 use itoa::Buffer;
@@ -190,7 +193,10 @@ fn many_blocks(rt: HostRuntime) {
 }
 
 // How many blocks of a layout are compared with a move, where it meets none.
-fn compared(alloc: Global, layout: &Layout, from: Point, to: Point) -> Option<u32> {
+fn compared(alloc: Global, layout: &Layout, from: Point, to: Point) -> Option<u32>
+    requires from { IsTrue (is_near from) }
+    requires to { IsTrue (is_near to) }
+{
     let blocks = blocks_of(alloc, layout)?;
     let file = joined(alloc, &[BOUNDS, blocks.as_str()])?;
     let part = read_part(alloc, file.as_bytes()).ok()?;
