@@ -28,7 +28,7 @@ pub fn assemble(alloc: Global, program: &Accepted) -> Result<Code, NoMemory>
     let tree = program.tree();
     let mut numbers = Numbers::new(alloc);
     mark_block(&mut numbers, tree, 0)?;
-    let mut code = Emitted::new(alloc);
+    let mut code = Emitted::with_capacity(alloc, program.count())?;
     emit_block(alloc, &mut code, &numbers, tree, 0)?;
     let tables = program.tables(alloc)?;
     let statements = code.into_statements();

@@ -1,6 +1,6 @@
 //! Statements as they are written.
 
-ghost use Rattle.std.specs.Prelude.{◌≡◌, ◌≤◌, ◌<◌, [], ◌∷◌, ◌++◌, length, OnOk};
+ghost use Rattle.std.specs.Prelude.{◌≡◌, ◌≤◌, ◌<◌, [], ◌∷◌, ◌++◌, length, IfOk, OnOk};
 ghost use Rattle.vcm_code.specs.Code.{statement};
 ghost use Rattle.vcm_code.specs.Ops.{op_of, statement_of, statements_of};
 ghost use Rattle.vcm_asm.specs.Targets.{with_target, Retargets};
@@ -31,13 +31,12 @@ impl Model for Emitted {
 }
 
 impl Emitted {
-    /// No statements.
-    pub(crate) fn new(alloc: Global) -> Emitted
-        ensures { result ≡ [] }
+    /// No statements, and memory for so many.
+    pub(crate) fn with_capacity(alloc: Global, capacity: usize) -> Result<Emitted, NoMemory>
+        ensures { IfOk result (λ e. e ≡ []) }
     {
-        Emitted {
-            statements: Vec::new(alloc),
-        }
+        let statements = Vec::with_capacity(alloc, capacity)?;
+        Ok(Emitted { statements })
     }
 
     /// The number of the next statement.

@@ -8,9 +8,11 @@ use crate::message::{
 };
 use clap::Error;
 use clap::error::ErrorKind;
-use std::io;
+use std::alloc::Global;
+use std::fmt::{self, Write as _};
+use std::io::{self, BufWriter, Printer, Write};
 use std::rt::{Env, Files};
-use vcm_job::{asm, build, debug, job, list, part_from, run};
+use vcm_job::{Done, asm, build, debug, job, list, part_from, run};
 use vcm_num::write_all;
 use vcm_part::PartData;
 use vcm_tree::Noticed;
@@ -21,44 +23,113 @@ fn fails<R: Eprint>(rt: &R, message: Message<'_>) -> u8 {
     status_of(message)
 }
 
-// Tells the lines that have no effect on standard error.
-fn tell_notices<R: Eprint>(rt: &R, notices: &[Noticed]) {
-    for notice in notices {
-        let line = notice.line;
-        let word = std::str::from_utf8(notice.word.word()).unwrap_or("");
-        let notice = NoticeLine { line, word };
-        let _ = eprintln!(rt; "{notice}");
+// How many bytes of standard output are held back.
+const BUFFER: usize = 65_536;
+
+// Standard output, through a buffer.
+fn output<R: Print + AllocGlobal>(rt: &R) -> Result<BufWriter<Printer<'_, R>>, Message<'static>> {
+    BufWriter::with_capacity(rt.alloc(), BUFFER, io::writer(rt)).map_err(|_| Message::NoMemory)
+}
+
+// What was done. The buffer is written before it is told, behind a fault too; where only that fails, it is the fault.
+fn written<'a, T: Drop, W: Write>(
+    out: &mut W,
+    done: Result<T, Message<'a>>,
+) -> Result<T, Message<'a>> {
+    let flushed = out.flush();
+    let done = done?;
+    match flushed {
+        Ok(()) => Ok(done),
+        Err(_) => Err(Message::Write {
+            name: "standard output",
+        }),
     }
 }
 
-// Runs the job of standard input, and gives the exit status.
-fn run_job<R: Input + Print + Eprint + AllocGlobal>(rt: &R) -> u8 {
-    match job(rt.alloc(), &mut rt.reader(), &mut io::writer(rt)) {
+// A line that has no effect, as it is printed.
+fn notice_line(notice: &Noticed) -> NoticeLine<'static> {
+    NoticeLine {
+        line: notice.line,
+        word: std::str::from_utf8(notice.word.word()).unwrap_or(""),
+    }
+}
+
+// The lines that have no effect, as they are printed.
+fn notice_text(alloc: Global, notices: &[Noticed]) -> Result<String, fmt::Error> {
+    let mut text = String::new(alloc);
+    for notice in notices {
+        writeln!(text, "{}", notice_line(notice))?;
+    }
+    Ok(text)
+}
+
+// Tells the lines that have no effect on standard error, at once where there is memory.
+fn tell_notices<R: Eprint + AllocGlobal>(rt: &R, notices: &[Noticed]) {
+    match notice_text(rt.alloc(), notices) {
+        Ok(text) => {
+            let _ = eprint!(rt; "{text}");
+        }
+        Err(_) => {
+            for notice in notices {
+                let _ = eprintln!(rt; "{}", notice_line(notice));
+            }
+        }
+    }
+}
+
+// The exit status of a run that was done, whose lines without effect are told.
+fn status_after<R: Eprint + AllocGlobal>(rt: &R, done: Result<Done, Message<'_>>) -> u8 {
+    match done {
         Ok(done) => {
             tell_notices(rt, done.notices.as_slice());
             done.status
         }
-        Err(fault) => fails(rt, job_message(fault)),
+        Err(message) => fails(rt, message),
     }
 }
 
-// Checks the program of a file, and gives the exit status.
-fn check_file<R: Files + Print + Eprint + AllocGlobal>(rt: &R, name: &str) -> u8 {
-    let Ok(mut file) = std::fs::open(rt, name) else {
-        return fails(rt, Message::Read { name });
-    };
-    match check(rt.alloc(), &mut file, &mut io::writer(rt)) {
+// The exit status where no run was asked for, the lines without effect being told.
+fn status_of_notices<R: Eprint + AllocGlobal>(
+    rt: &R,
+    done: Result<Vec<Noticed>, Message<'_>>,
+) -> u8 {
+    match done {
         Ok(notices) => {
             tell_notices(rt, notices.as_slice());
             0
         }
-        Err(fault) => fails(rt, check_message(fault, name)),
+        Err(message) => fails(rt, message),
     }
+}
+
+// Runs the job of standard input.
+fn run_job<R: Input + Print + AllocGlobal>(rt: &R) -> Result<Done, Message<'static>> {
+    let mut out = output(rt)?;
+    let done = job(rt.alloc(), &mut rt.reader(), &mut out).map_err(job_message);
+    written(&mut out, done)
+}
+
+// Checks the program of a file, and gives its lines that have no effect.
+fn check_file<'a, R: Files + Print + AllocGlobal>(
+    rt: &R,
+    name: &'a str,
+) -> Result<Vec<Noticed>, Message<'a>> {
+    let Ok(mut file) = std::fs::open(rt, name) else {
+        return Err(Message::Read { name });
+    };
+    let mut out = output(rt)?;
+    let done = check(rt.alloc(), &mut file, &mut out).map_err(|fault| check_message(fault, name));
+    written(&mut out, done)
 }
 
 // Writes an image to a file, tells the lines that have no effect, and gives the exit status. Where the write fails, a front of the image stands
 // in the file, which is none.
-fn write_image<R: Files + Eprint>(rt: &R, name: &str, image: &[u8], notices: &[Noticed]) -> u8 {
+fn write_image<R: Files + Eprint + AllocGlobal>(
+    rt: &R,
+    name: &str,
+    image: &[u8],
+    notices: &[Noticed],
+) -> u8 {
     let Ok(mut file) = std::fs::create(rt, name) else {
         return fails(rt, Message::Write { name });
     };
@@ -82,18 +153,17 @@ fn build_file<R: Files + Eprint + AllocGlobal>(rt: &R, name: &str, image: &str) 
     }
 }
 
-// Prints the listing of a file's program or image, and gives the exit status.
-fn list_file<R: Files + Print + Eprint + AllocGlobal>(rt: &R, name: &str) -> u8 {
+// Prints the listing of a file's program or image, and gives the program's lines that have no effect.
+fn list_file<'a, R: Files + Print + AllocGlobal>(
+    rt: &R,
+    name: &'a str,
+) -> Result<Vec<Noticed>, Message<'a>> {
     let Ok(mut file) = std::fs::open(rt, name) else {
-        return fails(rt, Message::Read { name });
+        return Err(Message::Read { name });
     };
-    match list(rt.alloc(), &mut file, &mut io::writer(rt)) {
-        Ok(notices) => {
-            tell_notices(rt, notices.as_slice());
-            0
-        }
-        Err(fault) => fails(rt, list_message(fault, name)),
-    }
+    let mut out = output(rt)?;
+    let done = list(rt.alloc(), &mut file, &mut out).map_err(|fault| list_message(fault, name));
+    written(&mut out, done)
 }
 
 // Writes the image of a file's listing to another file, and gives the exit status.
@@ -118,75 +188,39 @@ fn part_of<'a, R: Files + AllocGlobal>(rt: &R, name: &'a str) -> Result<PartData
     }
 }
 
-// Runs the program or image of a file beside a workpiece, and gives the exit status.
-fn run_beside<R: Files + Print + Eprint + AllocGlobal>(
+// Runs the program or image of a file beside the workpiece of another one, which is judged first.
+fn run_file<'a, R: Files + Print + AllocGlobal>(
     rt: &R,
-    name: &str,
-    part: &PartData,
-    steps: u64,
-) -> u8 {
-    let Ok(mut file) = std::fs::open(rt, name) else {
-        return fails(rt, Message::Read { name });
-    };
-    match run(rt.alloc(), part, &mut file, steps, &mut io::writer(rt)) {
-        Ok(done) => {
-            tell_notices(rt, done.notices.as_slice());
-            done.status
-        }
-        Err(fault) => fails(rt, run_message(fault, name)),
-    }
-}
-
-// Runs a file beside the workpiece of another one, which is judged first, and gives the exit status.
-fn run_file<R: Files + Print + Eprint + AllocGlobal>(
-    rt: &R,
-    input: &str,
-    part: &str,
+    name: &'a str,
+    part: &'a str,
     steps: &str,
-) -> u8 {
+) -> Result<Done, Message<'a>> {
     let Some(steps) = steps_of(steps) else {
-        return fails(rt, Message::Steps);
+        return Err(Message::Steps);
     };
-    match part_of(rt, part) {
-        Ok(part) => run_beside(rt, input, &part, steps),
-        Err(message) => fails(rt, message),
-    }
-}
-
-// Answers the commands of standard input on the program or image of a file beside a workpiece, and gives the exit status.
-fn debug_beside<R: Files + Input + Print + Eprint + AllocGlobal>(
-    rt: &R,
-    name: &str,
-    part: &PartData,
-) -> u8 {
+    let part = part_of(rt, part)?;
     let Ok(mut file) = std::fs::open(rt, name) else {
-        return fails(rt, Message::Read { name });
+        return Err(Message::Read { name });
     };
-    match debug(
-        rt.alloc(),
-        part,
-        &mut file,
-        &mut rt.reader(),
-        &mut io::writer(rt),
-    ) {
-        Ok(notices) => {
-            tell_notices(rt, notices.as_slice());
-            0
-        }
-        Err(fault) => fails(rt, debug_message(fault, name)),
-    }
+    let mut out = output(rt)?;
+    let done = run(rt.alloc(), &part, &mut file, steps, &mut out);
+    written(&mut out, done.map_err(|fault| run_message(fault, name)))
 }
 
-// Debugs a file beside the workpiece of another one, which is judged first, and gives the exit status.
-fn debug_file<R: Files + Input + Print + Eprint + AllocGlobal>(
+// Answers the commands of standard input on the program or image of a file beside the workpiece of another one, which is judged first. Each
+// reply is handed on at once.
+fn debug_file<'a, R: Files + Input + Print + AllocGlobal>(
     rt: &R,
-    input: &str,
-    part: &str,
-) -> u8 {
-    match part_of(rt, part) {
-        Ok(part) => debug_beside(rt, input, &part),
-        Err(message) => fails(rt, message),
-    }
+    name: &'a str,
+    part: &'a str,
+) -> Result<Vec<Noticed>, Message<'a>> {
+    let part = part_of(rt, part)?;
+    let Ok(mut file) = std::fs::open(rt, name) else {
+        return Err(Message::Read { name });
+    };
+    let mut out = output(rt)?;
+    let done = debug(rt.alloc(), &part, &mut file, &mut rt.reader(), &mut out);
+    written(&mut out, done.map_err(|fault| debug_message(fault, name)))
 }
 
 // Answers a request for help or the version on standard output, tells a wrong command line on standard error, and gives the exit status.
@@ -225,12 +259,15 @@ pub fn status<R: Env + Files + Input + Print + Eprint + AllocGlobal>(rt: &R) -> 
         Err(message) => return fails(rt, message),
     };
     match request_of(rt.alloc(), words.as_slice()) {
-        Ok(Request::Job) => run_job(rt),
-        Ok(Request::Check { program }) => check_file(rt, program),
+        Ok(Request::Job) => status_after(rt, run_job(rt)),
+        Ok(Request::Check { program }) => status_of_notices(rt, check_file(rt, program)),
         Ok(Request::Build { program, image }) => build_file(rt, program, image),
-        Ok(Request::Run { input, part, steps }) => run_file(rt, input, part, steps),
-        Ok(Request::Debug { input, part }) => debug_file(rt, input, part),
-        Ok(Request::List { input }) => list_file(rt, input),
+        Ok(Request::Run { input, part, steps }) => status_after(
+            rt,
+            run_file(rt, input, part, steps),
+        ),
+        Ok(Request::Debug { input, part }) => status_of_notices(rt, debug_file(rt, input, part)),
+        Ok(Request::List { input }) => status_of_notices(rt, list_file(rt, input)),
         Ok(Request::Asm { listing, image }) => asm_file(rt, listing, image),
         Err(error) => tell_usage(rt, &error),
     }

@@ -1,5 +1,5 @@
 -- The words of a statement as parts of an expression.
-use Rattle.std.specs.Prelude.{◌≡◌, ℕ, ◌&&◌, if◌then◌else◌, Bool, true, false, codes, List, [], ◌∷◌, map, Result, Ok, Err}
+use Rattle.std.specs.Prelude.{◌≡◌, ⊤, ℕ, ◌&&◌, if◌then◌else◌, Bool, true, false, codes, List, [], ◌∷◌, map, Result, Ok, Err}
 use Rattle.std.specs.Str.{bytes_eq}
 use Rattle.std.specs.Char.{is_ascii_uppercase}
 use Rattle.vcm_num.specs.declared.number.Literal.{Literal}
@@ -71,3 +71,19 @@ part_of OtherMark = Other
 -- what the words of a statement are, one by one
 abbrev pub parts_of : List Lexeme → List Part
 parts_of ws = map part_of ws
+
+-- no mark stands first: nothing does, or an operand
+abbrev pub NoMark : List Part → Type 0
+NoMark [] = ⊤
+NoMark (Operand t ∷ ps) = ⊤
+NoMark (Dash ∷ ps) = ⊥
+NoMark (Cross ∷ ps) = ⊥
+NoMark (Star ∷ ps) = ⊥
+NoMark (Slash ∷ ps) = ⊥
+NoMark (NotWord ∷ ps) = ⊥
+NoMark (AndWord ∷ ps) = ⊥
+NoMark (OrWord ∷ ps) = ⊥
+NoMark (RelationWord r ∷ ps) = ⊥
+NoMark (Opening ∷ ps) = ⊥
+NoMark (Closing ∷ ps) = ⊥
+NoMark (Other ∷ ps) = ⊥

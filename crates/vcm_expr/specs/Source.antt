@@ -15,7 +15,7 @@ pub data Source : Type 0 where
 abbrev pub source_of : ExprNode → Source
 source_of (Leaf t) = Plain t
 source_of (Prefixed' op p a) = Prefixed op (source_of a)
-source_of (Binary' op p a q b) = Pair op (source_of a) (source_of b)
+source_of (Binary' op p a b) = Pair op (source_of a) (source_of b)
 
 -- how deep it is: a leaf has 1
 abbrev pub depth_of : Source → ℕ

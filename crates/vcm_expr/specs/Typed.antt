@@ -9,7 +9,7 @@ use Rattle.vcm_expr.specs.declared.typed.TypedNode.{TypedNode, Leaf, Unary', Bin
 abbrev pub tree_of : TypedNode → Tree
 tree_of (Leaf x) = Value x
 tree_of (Unary' op p a) = One op (tree_of a)
-tree_of (Binary' op p a q b) = Two op (tree_of a) (tree_of b)
+tree_of (Binary' op p a b) = Two op (tree_of a) (tree_of b)
 
 -- a variable has a place among so many
 abbrev pub VariableBelow : ℕ → Operand → Type 0

@@ -45,7 +45,7 @@ pub enum ExprNode {
     /// A sign or a negation, and what it stands before.
     Prefixed(Prefix, Box<ExprNode>),
     /// An operator on two values, the left one first.
-    Binary(BinaryOp, Box<ExprNode>, Box<ExprNode>),
+    Binary(BinaryOp, Box<(ExprNode, ExprNode)>),
 }
 
 /// An expression as it is written, at most 32 deep and of at most 512 nodes. Contracts see it as a `Source`.
@@ -124,7 +124,7 @@ impl Expr {
         if depth > DEEPEST || nodes > MOST_NODES {
             return Err(too_deep(line));
         }
-        let node = ExprNode::Binary(op, Box::new(alloc, a.node)?, Box::new(alloc, b.node)?);
+        let node = ExprNode::Binary(op, Box::new(alloc, (a.node, b.node))?);
         Ok(Expr { node, depth, nodes })
     }
 
@@ -175,10 +175,10 @@ fn copy_node(alloc: Global, node: &ExprNode) -> Result<ExprNode, NoMemory>
             let a = Box::new(alloc, copy_node(alloc, a)?)?;
             Ok(ExprNode::Prefixed(*prefix, a))
         }
-        ExprNode::Binary(op, a, b) => {
-            let a = Box::new(alloc, copy_node(alloc, a)?)?;
-            let b = Box::new(alloc, copy_node(alloc, b)?)?;
-            Ok(ExprNode::Binary(*op, a, b))
+        ExprNode::Binary(op, operands) => {
+            let a = copy_node(alloc, &operands.0)?;
+            let b = copy_node(alloc, &operands.1)?;
+            Ok(ExprNode::Binary(*op, Box::new(alloc, (a, b))?))
         }
     }
 }

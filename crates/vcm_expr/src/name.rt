@@ -40,7 +40,7 @@ pub fn is_name(bytes: &[u8]) -> bool
 #[derive(Debug, Drop)]
 pub struct Name {
     bytes: [u8; LONGEST],
-    len: usize,
+    len: u8,
 }
 
 impl Model for Name {
@@ -64,7 +64,7 @@ impl Name {
         own[..bytes.len()].copy_from_slice(bytes);
         Name {
             bytes: own,
-            len: bytes.len(),
+            len: bytes.len() as u8,
         }
     }
 
@@ -74,7 +74,7 @@ impl Name {
         ensures name { IsName self.now }
         ensures short { length self.now ≤ 16 }
     {
-        &self.bytes[..self.len]
+        &self.bytes[..usize::from(self.len)]
     }
 
     /// The same name.

@@ -77,6 +77,7 @@ fn chained<'a>(
 
 /// An operand of a level.
 #[cycle(parser)]
+#[inline(always)]
 fn link<'a>(
     alloc: Global,
     line: u32,
@@ -98,6 +99,7 @@ fn link<'a>(
 
 /// An operand with signs or negations before it.
 #[cycle(parser)]
+#[inline(always)]
 fn fronted<'a>(
     alloc: Global,
     line: u32,
@@ -116,6 +118,7 @@ fn fronted<'a>(
 
 /// What signs or negations stand before.
 #[cycle(parser)]
+#[inline(always)]
 fn under<'a>(
     alloc: Global,
     line: u32,
@@ -135,6 +138,7 @@ fn under<'a>(
 
 /// A sum, or two with a relation between them.
 #[cycle(parser)]
+#[inline(always)]
 fn relation<'a>(
     alloc: Global,
     line: u32,
@@ -198,6 +202,7 @@ fn group<'a>(
 }
 
 /// A leaf, or what is wrong with it.
+#[inline(always)]
 fn leaf(line: u32, term: Result<Term, FaultCode>) -> Result<Expr, SourceFault>
     ensures ok { IfOk result (λ e. (r : List Part) → leaf_by term r ≡ phrase e r) }
     ensures fault { IfErr result (λ f. (f.line ≡ line) × ((r : List Part) → leaf_by term r ≡ Err f.code)) }
@@ -209,6 +214,7 @@ fn leaf(line: u32, term: Result<Term, FaultCode>) -> Result<Expr, SourceFault>
 }
 
 /// The signs or negations that stand first, and the words after them.
+#[inline(always)]
 fn take_signs<'a>(
     alloc: Global,
     words: Parts<'a>,
@@ -228,6 +234,7 @@ fn take_signs<'a>(
 }
 
 /// An expression with signs or negations before it.
+#[inline(always)]
 fn with_signs(alloc: Global, line: u32, signs: Vec<Prefix>, e: Expr) -> Result<Expr, SourceFault>
     ensures ok { IfOk result (λ t. (r : List Part) → with_fronts is_small signs.items (phrase e r) ≡ phrase t r) }
     ensures fault { IfErr result (NoMemoryOr (λ f. (f.line ≡ line) × ((r : List Part) → with_fronts is_small signs.items (phrase e r) ≡ Err f.code))) }
@@ -241,11 +248,12 @@ fn with_signs(alloc: Global, line: u32, signs: Vec<Prefix>, e: Expr) -> Result<E
 }
 
 /// The words after a closing parenthesis.
+#[inline(always)]
 fn after_closing<'a>(words: &Parts<'a>) -> Option<Parts<'a>>
     ensures some { IfSome result (λ r. words.now ≡ Part.Closing ∷ r) }
     ensures none { IfNone result (NotClosing words.now) }
 {
-    let (first, rest) = words.split_first()?;
+    let (first, rest) = words.split_mark()?;
     match first {
         Part::Closing => Some(rest),
         _ => None,
@@ -253,16 +261,18 @@ fn after_closing<'a>(words: &Parts<'a>) -> Option<Parts<'a>>
 }
 
 /// The operator of a level, and the words after it.
+#[inline(always)]
 fn next_operator<'a>(words: &Parts<'a>, level: Chain) -> Option<(BinaryOp, Parts<'a>)>
     ensures some { IfSome result (λ p. NextOf (chain_op level) words.now p.0 p.1) }
     ensures none { IfNone result (NoNext (chain_op level) words.now) }
 {
-    let (first, rest) = words.split_first()?;
+    let (first, rest) = words.split_mark()?;
     let op = operator(&first, level)?;
     Some((op, rest))
 }
 
 /// The operator that a word is at a level.
+#[inline(always)]
 fn operator(part: &Part, level: Chain) -> Option<BinaryOp>
     ensures { result ≡ chain_op level part.now }
 {
@@ -278,11 +288,12 @@ fn operator(part: &Part, level: Chain) -> Option<BinaryOp>
 }
 
 /// The relation that stands first, and the words after it.
+#[inline(always)]
 fn next_relation<'a>(words: &Parts<'a>) -> Option<(BinaryOp, Parts<'a>)>
     ensures some { IfSome result (λ p. NextOf relation_op words.now p.0 p.1) }
     ensures none { IfNone result (NoNext relation_op words.now) }
 {
-    let (first, rest) = words.split_first()?;
+    let (first, rest) = words.split_mark()?;
     match first {
         Part::RelationWord(relation) => Some((BinaryOp::Compare(relation), rest)),
         _ => None,
@@ -290,11 +301,12 @@ fn next_relation<'a>(words: &Parts<'a>) -> Option<(BinaryOp, Parts<'a>)>
 }
 
 /// The sign or negation that stands first, and the words after it.
+#[inline(always)]
 fn next_front<'a>(words: &Parts<'a>, front: Front) -> Option<(Prefix, Parts<'a>)>
     ensures some { IfSome result (λ p. NextOf (finds_front front) words.now p.0 p.1) }
     ensures none { IfNone result (NoNext (finds_front front) words.now) }
 {
-    let (first, rest) = words.split_first()?;
+    let (first, rest) = words.split_mark()?;
     match (front, first) {
         (Front::Negation, Part::NotWord) => Some((Prefix::Not, rest)),
         (Front::Sign, Part::Dash) => Some((Prefix::Minus, rest)),

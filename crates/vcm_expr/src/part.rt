@@ -1,6 +1,6 @@
 //! The words of an expression.
 
-ghost use Rattle.std.specs.Prelude.{◌≡◌, ◌∷◌, [], true, MatchOption, Ok};
+ghost use Rattle.std.specs.Prelude.{◌≡◌, ◌∷◌, [], true, MatchOption, IfSome, IfNone, Ok};
 ghost use Rattle.std.specs.Str.{bytes_eq};
 ghost use Rattle.vcm_num.specs.Literals.{Reads};
 ghost use Rattle.vcm_lines.specs.Lexemes.{lexeme};
@@ -158,13 +158,25 @@ impl<'a> Model for Parts<'a> {
 }
 
 impl<'a> Parts<'a> {
-    ghost use Rattle.vcm_expr.specs.Parts.{parts_of};
+    ghost use Rattle.vcm_expr.specs.Parts.{parts_of, NoMark};
 
     /// The words, as parts of an expression.
     pub(crate) fn new(words: Phrase<'a>) -> Parts<'a>
         ensures { result ≡ parts_of words.entry }
     {
         Parts { words }
+    }
+
+    /// The first word where it is a mark or a dotted word, and those after it. A name or a number is not looked into.
+    #[inline(always)]
+    pub(crate) fn split_mark(&self) -> Option<(Part, Parts<'a>)>
+        ensures some { IfSome result (λ r. self.now ≡ r.0 ∷ r.1) }
+        ensures none { IfNone result (NoMark self.now) }
+    {
+        match self.words.split_first() {
+            None | Some((Token::Run(_) | Token::Number(_), _)) => None,
+            Some((token, words)) => Some((part_of(token), Parts { words })),
+        }
     }
 
     /// The first word, and those after it.

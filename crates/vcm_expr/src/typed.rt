@@ -15,7 +15,7 @@ pub enum TypedNode {
     /// An operator on one value.
     Unary(UnaryOp, Box<TypedNode>),
     /// An operator on two values, the left one first.
-    Binary(BinaryOp, Box<TypedNode>, Box<TypedNode>),
+    Binary(BinaryOp, Box<(TypedNode, TypedNode)>),
 }
 
 /// An expression whose kinds are known and whose scalings are written out, at most 32 deep and of at most 512 nodes, scalings left out.

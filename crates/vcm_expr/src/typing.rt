@@ -88,9 +88,9 @@ fn typed(
             let (t, k) = typed(alloc, a, line, names)?;
             prefixed(alloc, *prefix, t, k, line)
         }
-        ExprNode::Binary(op, a, b) => {
-            let (t, k) = typed(alloc, a, line, names)?;
-            let (u, l) = typed(alloc, b, line, names)?;
+        ExprNode::Binary(op, operands) => {
+            let (t, k) = typed(alloc, &operands.0, line, names)?;
+            let (u, l) = typed(alloc, &operands.1, line, names)?;
             pair(alloc, *op, t, k, u, l, line)
         }
     }
@@ -276,9 +276,7 @@ fn binary(alloc: Global, op: BinaryOp, t: TypedNode, u: TypedNode) -> Result<Typ
     ensures ok { IfOk result (λ r. tree_of r ≡ Two op (tree_of t) (tree_of u)) }
     ensures fault { IfErr result (λ f. f ≡ no_memory) }
 {
-    let left = Box::new(alloc, t)?;
-    let right = Box::new(alloc, u)?;
-    Ok(TypedNode::Binary(op, left, right))
+    Ok(TypedNode::Binary(op, Box::new(alloc, (t, u))?))
 }
 
 /// The refusal of an operator or a place that doesn't take a value of this kind.

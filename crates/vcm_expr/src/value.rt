@@ -34,9 +34,9 @@ fn value(e: &TypedNode, slots: &[i64]) -> Result<i64, Fault>
     match e {
         TypedNode::Leaf(x) => Ok(operators::operand(*x, slots)),
         TypedNode::Unary(op, a) => operators::unary(*op, value(a, slots)?),
-        TypedNode::Binary(op, a, b) => {
-            let x = value(a, slots)?;
-            let y = value(b, slots)?;
+        TypedNode::Binary(op, operands) => {
+            let x = value(&operands.0, slots)?;
+            let y = value(&operands.1, slots)?;
             operators::binary(*op, x, y)
         }
     }

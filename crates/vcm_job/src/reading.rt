@@ -30,7 +30,7 @@ pub fn read_all<R: Read>(alloc: Global, reader: &mut R) -> Result<Vec<u8>, ReadF
     ensures little { ReadsLittle (R.remaining reader.old) (R.remaining reader.new) }
 {
     let mut bytes = Vec::new(alloc);
-    let mut chunk = [0; 4096];
+    let mut chunk = [0; 65_536];
     while bytes.len() <= LIMIT {
         let most = chunk.len().min(LIMIT + 1 - bytes.len());
         let Ok(n) = reader.read(&mut chunk[..most]) else {

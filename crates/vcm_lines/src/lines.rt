@@ -108,6 +108,7 @@ impl Unfinished {
             ⊎ ((f.code ≡ FaultCode.LineTooLong) × (MAX_STATEMENT < length (self.old.bytes.items ++ text_of line.now)))))) }
     {
         let had = self.bytes.len();
+        self.bytes.reserve(line.len())?;
         let goes_on = read_line(&mut self.bytes, line, number)?;
         let len = self.bytes.len();
         if len > MAX_STATEMENT {

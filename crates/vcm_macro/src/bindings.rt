@@ -173,9 +173,9 @@ impl<'a> Bindings<'a> {
                 let a = self.put_node(alloc, line, a)?;
                 Expr::prefixed(alloc, line, *prefix, a)
             }
-            ExprNode::Binary(op, a, b) => {
-                let a = self.put_node(alloc, line, a)?;
-                let b = self.put_node(alloc, line, b)?;
+            ExprNode::Binary(op, operands) => {
+                let a = self.put_node(alloc, line, &operands.0)?;
+                let b = self.put_node(alloc, line, &operands.1)?;
                 Expr::joined(alloc, line, *op, a, b)
             }
         }

@@ -26,7 +26,7 @@ returns-clause-assembled c =
     let marked = c.in_ok-mark_block.ensures.marks ∙ ap (λ ms. ms ++ marks c.tree-tree.result.now 0) c.new-numbers.ensures in
     let written =
     c.into_statements-statements.ensures ∙ c.in_ok-emit_block.ensures.code
-    ∙ ap (λ l. l ++ block_code (place_in c.mark_block.new.numbers) c.tree-tree.result.now 0 (length l)) c.new-code.ensures
+    ∙ ap (λ l. l ++ block_code (place_in c.mark_block.new.numbers) c.tree-tree.result.now 0 (length l)) c.in_ok-code.ensures
     ∙ ap (λ ms. block_code (place_in ms) c.tree-tree.result.now 0 0) marked
     ∙ ap flat_code tree in
     with_code program (tables c.args.program.now) c.tree-tree.ensures.whole (IsAssembled program (tables c.args.program.now)) _ _ c.in_ok-tables.ensures.tables written
@@ -39,7 +39,7 @@ returns-clause-valid c =
     let marked = c.in_ok-mark_block.ensures.marks ∙ ap (λ ms. ms ++ marks c.tree-tree.result.now 0) c.new-numbers.ensures in
     let written =
     c.into_statements-statements.ensures ∙ c.in_ok-emit_block.ensures.code
-    ∙ ap (λ l. l ++ block_code (place_in c.mark_block.new.numbers) c.tree-tree.result.now 0 (length l)) c.new-code.ensures
+    ∙ ap (λ l. l ++ block_code (place_in c.mark_block.new.numbers) c.tree-tree.result.now 0 (length l)) c.in_ok-code.ensures
     ∙ ap (λ ms. block_code (place_in ms) c.tree-tree.result.now 0 0) marked
     ∙ ap flat_code tree in
     with_code program (tables c.args.program.now) c.tree-tree.ensures.whole IsValid _ _ c.in_ok-tables.ensures.tables written
@@ -52,7 +52,7 @@ returns-clause-in_range c =
     let marked = c.in_ok-mark_block.ensures.marks ∙ ap (λ ms. ms ++ marks c.tree-tree.result.now 0) c.new-numbers.ensures in
     let written =
     c.into_statements-statements.ensures ∙ c.in_ok-emit_block.ensures.code
-    ∙ ap (λ l. l ++ block_code (place_in c.mark_block.new.numbers) c.tree-tree.result.now 0 (length l)) c.new-code.ensures
+    ∙ ap (λ l. l ++ block_code (place_in c.mark_block.new.numbers) c.tree-tree.result.now 0 (length l)) c.in_ok-code.ensures
     ∙ ap (λ ms. block_code (place_in ms) c.tree-tree.result.now 0 0) marked
     ∙ ap flat_code tree in
     let few = c.in_ok-tables.ensures.variables in
