@@ -25,8 +25,8 @@ use Rattle.vcm_code.specs.declared.pair.Pair.{Pair}
 use Rattle.vcm_code.specs.Code.{Op, Plain, If, Else, EndIf as OpEndIf, Do, EndDo, Label, JumpTo, Meas, EndMes, EndFil, Statement, statement}
 use Rattle.vcm_code.specs.CodeTable.{pair, Place, place, or_halt, turn, do_op, fetched, code_step, code_steps, start, op_prints, next_prints}
 use Rattle.vcm_asm.specs.Headline.{SameAfter}
-use Rattle.vcm_asm.specs.Depth.{NodeDeep, Deep}
-use Rattle.vcm_asm.specs.Assembled.{node_marks, marks, node_code, block_code, place_in, flat_code}
+use Rattle.vcm_asm.specs.inner.Depth.{NodeDeep, Deep}
+use Rattle.vcm_asm.specs.inner.Assembled.{node_marks, marks, node_code, block_code, place_in, flat_code}
 use Rattle.vcm_asm.proofs.Structured.{IsStructured}
 use Rattle.vcm_asm.proofs.Place.{HasAt, has_front, has_back, has_all, block_length, number_zero, past_end, number_next, has_node, jumps_at, deep_at, Marked, marked_front, marked_back, marked_at, label_at, once_marked, closed_next}
 

@@ -9,9 +9,9 @@ use Rattle.vcm_spec.specs.Fitting.{kinds, Fits, HasKindIn, NodeFits, BlockFits}
 use Rattle.vcm_spec.specs.Program.{Label as Name, Node, Block, simple, label, jump, choice, choice_else, do_loop, meas, ending, done, then, size, sizes}
 use Rattle.vcm_code.specs.Code.{Statement}
 use Rattle.vcm_code.specs.Ranges.{IsShort, SimpleInRange, AllInRange}
-use Rattle.vcm_asm.specs.Spelled.{Keeps, SimpleKeeps, NodeKeeps, BlockKeeps}
-use Rattle.vcm_asm.specs.Depth.{NodeDeep, Deep}
-use Rattle.vcm_asm.specs.Assembled.{node_code, block_code}
+use Rattle.vcm_asm.specs.inner.Spelled.{Keeps, SimpleKeeps, NodeKeeps, BlockKeeps}
+use Rattle.vcm_asm.specs.inner.Depth.{NodeDeep, Deep}
+use Rattle.vcm_asm.specs.inner.Assembled.{node_code, block_code}
 
 -- an expression has items
 spelled : (t : Tree) → 1 ≤ length (spelling t)

@@ -3,7 +3,7 @@ use Rattle.std.proofs.Common.{◌≡◌, ℕ, suc, ◌+◌, List, [], ◌∷◌,
 use Rattle.std.specs.Prelude.{map}
 use Rattle.vcm_spec.specs.Program.{Label as Name, Node, Block, simple, label, jump, choice, choice_else, do_loop, meas, ending, done, then, size, sizes}
 use Rattle.vcm_code.specs.Code.{Statement, Else, EndIf, EndDo, EndMes, statement}
-use Rattle.vcm_asm.specs.Assembled.{node_code, block_code}
+use Rattle.vcm_asm.specs.inner.Assembled.{node_code, block_code}
 use Rattle.vcm_asm.specs.Headline.{node_lines, lines}
 
 lines_join : (a b : List Statement) → map (λ s. s.line) (a ++ b) ≡ map (λ s. s.line) a ++ map (λ s. s.line) b

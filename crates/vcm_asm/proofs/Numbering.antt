@@ -7,10 +7,10 @@ use Rattle.vcm_spec.specs.Expression.{Tree}
 use Rattle.vcm_spec.specs.Program.{Label, Block, sizes, is_same_label}
 use Rattle.vcm_spec.specs.Table.{if_true}
 use Rattle.vcm_spec.proofs.Labels.{same_label}
-use Rattle.vcm_tree.specs.SameLabels.{label_sym}
+use Rattle.vcm_tree.specs.inner.SameLabels.{label_sym}
 use Rattle.vcm_tree.specs.Nodes.{choice_by}
-use Rattle.vcm_asm.specs.Assembled.{Mark, node_marks, marks, place_in}
-use Rattle.vcm_asm.specs.Once.{Absent, Once}
+use Rattle.vcm_asm.specs.inner.Assembled.{Mark, node_marks, marks, place_in}
+use Rattle.vcm_asm.specs.inner.Once.{Absent, Once}
 
 -- a label that isn't there is added behind the others
 pub insert_absent : (ms : List Mark) (l : Label) (n : ℕ) → Absent l ms → insert_entry is_same_label ms l n ≡ ms ++ (l, n) ∷ []

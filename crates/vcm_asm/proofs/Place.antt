@@ -5,12 +5,12 @@ use Rattle.std.proofs.Math.Seq.{get_or-append_seam}
 use Rattle.std.proofs.lemmas.Option.{slice_get-get_or}
 use Rattle.vcm_spec.specs.Program.{Label as Name, Node, Block, simple, label, jump, choice, choice_else, do_loop, meas, ending, done, then, size, sizes, node_at, number_at, label_index, is_same_label}
 use Rattle.vcm_spec.specs.Table.{if_true}
-use Rattle.vcm_asm.specs.Once.{Absent, Once}
-use Rattle.vcm_asm.specs.Depth.{NodeDeep, Deep}
+use Rattle.vcm_asm.specs.inner.Once.{Absent, Once}
+use Rattle.vcm_asm.specs.inner.Depth.{NodeDeep, Deep}
 use Rattle.vcm_spec.specs.Whole.{is_end, is_closed, NodeJumps, Jumps}
 use Rattle.vcm_spec.proofs.Labels.{same_label, label_itself, found_stands}
 use Rattle.vcm_code.specs.Code.{Else, EndIf, EndDo, EndMes, Statement, statement}
-use Rattle.vcm_asm.specs.Assembled.{Mark, node_marks, marks, node_code, block_code, place_in}
+use Rattle.vcm_asm.specs.inner.Assembled.{Mark, node_marks, marks, node_code, block_code, place_in}
 
 -- the statements stand in the code at this place
 abbrev pub HasAt : List Statement → ℕ → List Statement → Type 0

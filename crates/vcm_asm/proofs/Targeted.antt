@@ -5,7 +5,7 @@ use Rattle.vcm_spec.specs.declared.expression.Item.{Item}
 use Rattle.vcm_code.specs.declared.op.Statement.{Statement as Kept}
 use Rattle.vcm_code.specs.Code.{Statement}
 use Rattle.vcm_code.specs.Ops.{statement_of}
-use Rattle.vcm_asm.specs.Targets.{with_target}
+use Rattle.vcm_asm.specs.inner.Targets.{with_target}
 
 abbrev pub Owned : Type 0
 Owned = Kept (List Item) (List ℕ)

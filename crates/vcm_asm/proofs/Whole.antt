@@ -7,8 +7,8 @@ use Rattle.vcm_tree.specs.Program.{IsWhole, AreNames as AreFewNames, listed, tab
 use Rattle.vcm_code.specs.Code.{Statement, Code}
 use Rattle.vcm_code.specs.Valid.{IsValid}
 use Rattle.vcm_code.specs.Ranges.{AllInRange, IsInRange}
-use Rattle.vcm_asm.specs.Spelled.{BlockKeeps}
-use Rattle.vcm_asm.specs.Assembled.{marks, place_in, flat_code}
+use Rattle.vcm_asm.specs.inner.Spelled.{BlockKeeps}
+use Rattle.vcm_asm.specs.inner.Assembled.{marks, place_in, flat_code}
 use Rattle.vcm_asm.specs.Headline.{IsAssembled}
 use Rattle.vcm_asm.proofs.Structured.{structured}
 use Rattle.vcm_asm.proofs.Place.{block_length}

@@ -1,7 +1,2 @@
-pub mod Assembled
-pub mod Once
-pub mod Depth
-pub mod Spelled
-pub mod Targets
+pub mod inner
 pub mod Headline
-pub mod Samples

@@ -3,7 +3,7 @@
 ghost use Rattle.std.specs.Prelude.{◌≡◌, ◌≤◌, ◌<◌, [], ◌∷◌, ◌++◌, length, IfOk, OnOk};
 ghost use Rattle.vcm_code.specs.Code.{statement};
 ghost use Rattle.vcm_code.specs.Ops.{op_of, statement_of, statements_of};
-ghost use Rattle.vcm_asm.specs.Targets.{with_target, Retargets};
+ghost use Rattle.vcm_asm.specs.inner.Targets.{with_target, Retargets};
 
 use std::alloc::Global;
 use std::marker::Model;
@@ -20,7 +20,7 @@ impl Model for Emitted {
     ghost use Rattle.std.specs.Prelude.{List};
     ghost use Rattle.std.specs.Coded.{codes};
     ghost use Rattle.vcm_code.specs.Code.{Statement as Meaning};
-    ghost use Rattle.vcm_code.specs.OpCodes.{statement_coded};
+    ghost use Rattle.vcm_code.specs.inner.OpCodes.{statement_coded};
     ghost use Rattle.vcm_code.specs.Ops.{statements_of};
 
     ghost Value = { List Meaning };

@@ -120,7 +120,8 @@ pub data CodeSteps (setup : Setup) (code : List Statement) : Place → Place →
 -- n steps
 pub data CodeReaches (setup : Setup) (code : List Statement) : ℕ → Place → Place → Type 0 where
   at_once : {m : Place} → CodeReaches setup code zero m m
-  by_a_step : {n : ℕ} {m next last : Place} → CodeSteps setup code m next → CodeReaches setup code n next last → CodeReaches setup code (suc n) m last
+  by_a_step : {n : ℕ} {m next last : Place} → CodeSteps setup code m next → CodeReaches setup code n next last
+      → CodeReaches setup code (suc n) m last
 
 -- a statement is next, and if it is an ENDDO, there is its pair
 pub record CanStep (code : List Statement) (m : Place) : Type 0 where
@@ -134,8 +135,11 @@ CodeStepIsComputed = (setup : Setup) (code : List Statement) (m : Place) → Can
 
 -- what the rules say is the computed step
 abbrev pub CodeStepIsUnique : Type 0
-CodeStepIsUnique = (setup : Setup) (code : List Statement) (before after : Place) → CodeSteps setup code before after → after ≡ code_step setup code before
+CodeStepIsUnique =
+    (setup : Setup) (code : List Statement) (before after : Place) → CodeSteps setup code before after → after ≡ code_step setup code before
 
 -- so of n steps
 abbrev pub CodeRunIsUnique : Type 0
-CodeRunIsUnique = (setup : Setup) (code : List Statement) (n : ℕ) (before after : Place) → CodeReaches setup code n before after → after ≡ code_steps setup code n before
+CodeRunIsUnique =
+    (setup : Setup) (code : List Statement) (n : ℕ) (before after : Place) → CodeReaches setup code n before after
+    → after ≡ code_steps setup code n before

@@ -6,4 +6,4 @@ pub mod Ranges
 pub mod CodeLaws
 pub mod Ops
 pub mod Deciding
-pub mod OpCodes
+pub mod inner

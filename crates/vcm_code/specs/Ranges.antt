@@ -7,7 +7,7 @@ use Rattle.vcm_spec.specs.Setup.{Variable}
 use Rattle.vcm_spec.specs.Simple.{Simple, Goto, GoHome, Assign, Feat, PtMeas, SnSet, Trans, Rotate, Recall, Obtain, Output, Text}
 use Rattle.vcm_spec.specs.TextBytes.{IsText}
 use Rattle.vcm_expr.specs.NameBytes.{IsName}
-use Rattle.vcm_expr.specs.Parts.{IsVariableName}
+use Rattle.vcm_expr.specs.Symbols.{IsVariableName}
 use Rattle.vcm_code.specs.Code.{Op, Plain, If, Do, EndDo, Statement, Code}
 
 -- an expression has at least one item and at most 1,024

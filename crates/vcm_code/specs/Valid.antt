@@ -18,7 +18,8 @@ OpFits tables count (Plain what) = Fits (HasItems tables) tables what
 OpFits tables count (If test target) = HasItems tables test Bool × (target < count)
 OpFits tables count (Else target) = target < count
 OpFits tables count (Do v p initial limit increment target) =
-    (slice_get (kinds tables) v ≡ Some Int) × HasItems tables initial Int × HasItems tables limit Int × HasItems tables increment Int × (target < count)
+    (slice_get (kinds tables) v ≡ Some Int) × HasItems tables initial Int × HasItems tables limit Int × HasItems tables increment Int
+    × (target < count)
 OpFits tables count (EndDo v p target) = (slice_get (kinds tables) v ≡ Some Int) × (target < count)
 OpFits tables count (JumpTo target) = target < count
 OpFits tables count (Meas feature) = feature < length tables.features

@@ -7,8 +7,6 @@ use Rattle.vcm_spec.specs.Program.{sizes}
 use Rattle.vcm_tree.specs.declared.program.Noticed.{Noticed}
 use Rattle.vcm_tree.specs.Acceptance.{IsAccepted, IsRefused}
 use Rattle.vcm_tree.specs.Program.{Parsed}
-use Rattle.vcm_job.specs.declared.reading.ReadFault.{ReadFault}
-use Rattle.vcm_job.specs.declared.reading.ReadFault.TheVariants as read_faults
 use Rattle.vcm_job.specs.Reading.{most_bytes, ReadsAtMost}
 use Rattle.vcm_command.specs.declared.checking.CheckFault.{CheckFault}
 use Rattle.vcm_command.specs.declared.checking.CheckFault.TheVariants.{Refused, NoMemory, Read, Write, TooLong}
@@ -16,13 +14,6 @@ use Rattle.vcm_command.specs.declared.checking.CheckFault.TheVariants.{Refused, 
 -- the line that tells how many statements a program has
 abbrev pub count_line : ℕ → List ℕ
 count_line count = flat_map (λ t. t) (codes "ok " ∷ decimal count ∷ codes " statements\n" ∷ [])
-
--- the text is accepted as a program of so many statements, with these notices
-pub record IsCounted (text : List ℕ) (count : ℕ) (notices : List Noticed) : Type 0 where
-  pub parsed : Parsed
-  pub accepted : IsAccepted text parsed
-  pub count_is : count ≡ sizes parsed.program
-  pub notices_are : notices ≡ parsed.notices
 
 -- the text is accepted as a program with these notices, and its number of statements was written, and nothing else
 pub record IsChecked (text : List ℕ) (notices : List Noticed) (old new : Option (List ℕ)) : Type 0 where
@@ -36,12 +27,6 @@ pub record IsCheckCutOff (text : List ℕ) (old new : Option (List ℕ)) : Type 
   pub parsed : Parsed
   pub accepted : IsAccepted text parsed
   pub front : AppendsFront old new (count_line (sizes parsed.program))
-
--- the fault of a check whose text wasn't read whole
-abbrev pub not_read : ReadFault → CheckFault
-not_read read_faults.NoMemory = NoMemory
-not_read read_faults.Device = Read
-not_read read_faults.TooLong = TooLong
 
 -- a failed write cut the line off; else nothing was written
 abbrev pub IsNotChecked : Option (List ℕ) → Option (List ℕ) → CheckFault → Option (List ℕ) → Option (List ℕ) → Type 0

@@ -5,7 +5,8 @@ ghost use Rattle.vcm_num.specs.Written.{Wrote};
 ghost use Rattle.vcm_lines.specs.Fault.{NoMemoryOr};
 ghost use Rattle.vcm_tree.specs.Acceptance.{IsRefused};
 ghost use Rattle.vcm_job.specs.Reading.{ReadsLittle};
-ghost use Rattle.vcm_command.specs.Checks.{IsCounted, count_line, IsChecked, IsNotChecked, not_read};
+ghost use Rattle.vcm_command.specs.Checks.{count_line, IsChecked, IsNotChecked};
+ghost use Rattle.vcm_command.specs.inner.Counting.{IsCounted, not_read};
 
 use itoa::Buffer;
 use std::alloc::Global;

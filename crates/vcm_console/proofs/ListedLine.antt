@@ -3,7 +3,7 @@ use Rattle.std.proofs.Common.{◌≡◌, ℕ, zero, suc, ◌<◌, List, [], ◌�
 use Rattle.vcm_num.specs.Written.{Wrote}
 use Rattle.vcm_fields.specs.Parts.{Line}
 use Rattle.vcm_words.specs.declared.row.Row.TheVariants.{Numbered}
-use Rattle.vcm_print.specs.Written.{listed}
+use Rattle.vcm_print.specs.Listed.{listed}
 use Rattle.vcm_console.specs.Replies.{statement_line}
 
 none_within : {X : Type 0} (xs : List X) (n : ℕ) → n < length xs → slice_get xs n ≡ None → ⊥

@@ -117,7 +117,9 @@ has_two_words line = nat_lt (length (first_word (behind_word (behind_word line))
 -- the command that a line spells, or why it is refused
 abbrev pub refusal_of : List ℕ → Result Command Refusal
 refusal_of line =
-    if nat_le (length line) 256 && has_two_words line then command_of_words (first_word line) (first_word (behind_word line)) else Err UnknownCommand
+    if nat_le (length line) 256 && has_two_words line
+    then command_of_words (first_word line) (first_word (behind_word line))
+    else Err UnknownCommand
 
 -- the same, with the reply that refuses it
 abbrev pub command_of : List ℕ → Result Command Reply

@@ -18,7 +18,7 @@ use Rattle.vcm_console.specs.declared.reply.Reply.TheVariants.{Set, Cleared, Fou
 use Rattle.vcm_code.specs.declared.code.Code.{Code}
 use Rattle.vcm_fields.specs.Parts.{Line}
 use Rattle.vcm_words.specs.declared.row.Row.TheVariants.{Numbered}
-use Rattle.vcm_print.specs.Written.{listed}
+use Rattle.vcm_print.specs.Listed.{listed}
 use Rattle.vcm_report.specs.Printed.{in_a_row, stopped_line, output_lines, feature_text}
 
 -- the number of an expansion behind a number sign; nothing outside macros
@@ -87,7 +87,8 @@ reply_text code lines (Stands s) = standing_text code.tables s
 reply_text code lines (Ran why s) = reason_text code.tables why ++ standing_text code.tables s
 reply_text code lines (Watched v) = codes "watch " ++ (variable_name code.tables v ++ codes " set\n")
 reply_text code lines (Unwatched v) = codes "watch " ++ (variable_name code.tables v ++ codes " cleared\n")
-reply_text code lines (Value v z) = variable_name code.tables v ++ (codes " " ++ (value_text (slice_get code.tables.variables v) z ++ codes "\n"))
+reply_text code lines (Value v z) =
+    variable_name code.tables v ++ (codes " " ++ (value_text (slice_get code.tables.variables v) z ++ codes "\n"))
 reply_text code lines (Features f n a) = feature_text code.tables Nominal f n ++ feature_text code.tables Actual f a
 reply_text code lines (Listed n) = statement_line (slice_get code.statements n) n
 reply_text code lines (Lines n k) = lines_head n ++ output_lines (drop (length lines - k) lines)

@@ -3,7 +3,6 @@
 ghost use Rattle.std.specs.Prelude.{◌≡◌, ◌==◌, ◌<◌, ◌≤◌, length, map, not, true, IfOk};
 ghost use Rattle.std.specs.List.{list_all, prefix_len};
 ghost use Rattle.std.specs.Char.{is_ascii_digit};
-ghost use Rattle.std.specs.Str.{bytes_eq};
 ghost use Rattle.vcm_num.specs.Literals.{AllDigits, number_after};
 ghost use Rattle.vcm_console.specs.Parsing.{steps_of, first_word, behind_word, number_of, optional_number, count_of, is_letter_or_digit, label_of, begins_with_letter, name_of, expansion_of, name_len, wanted_of, alone, command_of_words, refusal_of, command_of};
 ghost use Rattle.vcm_lines.specs.Bytes.{upper};
@@ -11,6 +10,8 @@ ghost use Rattle.vcm_lines.specs.Bytes.{upper};
 use crate::command::{Command, Wanted};
 use crate::reply::{Refusal, Reply};
 use vcm_expr::Name;
+use vcm_lines::upper;
+use vcm_num::is;
 
 /// The most bytes of a line.
 const MAX_LINE: usize = 256;
@@ -114,13 +115,6 @@ fn is_plain(bytes: &[u8]) -> bool
         .all(|byte| byte.is_ascii_alphanumeric() || *byte == b'_')
 }
 
-// A letter in upper case.
-fn upper(byte: u8) -> u8
-    ensures { result ≡ upper byte }
-{
-    byte.to_ascii_uppercase()
-}
-
 // A name with its letters in upper case.
 fn raised(bytes: &[u8]) -> Name
     requires some { 0 < length bytes.now }
@@ -195,13 +189,6 @@ fn wanted(word: &[u8]) -> Result<Wanted, Refusal>
         },
         Err(refusal) => Err(refusal),
     }
-}
-
-// Whether these are the same bytes.
-fn is(word: &[u8], other: &[u8]) -> bool
-    ensures { result ≡ bytes_eq word.now other.now }
-{
-    word == other
 }
 
 // A command without an argument.

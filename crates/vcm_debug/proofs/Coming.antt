@@ -11,7 +11,7 @@ use Rattle.vcm_code.specs.CodeTable.{Place, place_stop, code_step, fetched}
 use Rattle.vcm_machine.specs.Running.{Running, setup, moved, started, later, WantsMemory}
 use Rattle.vcm_machine.proofs.LawLemmas.{add_up}
 use Rattle.vcm_debug.specs.Halting.{effective}
-use Rattle.vcm_debug.specs.Going.{begun, HasStepped}
+use Rattle.vcm_debug.specs.inner.Going.{begun, HasStepped}
 use Rattle.vcm_debug.proofs.Stepping.{one_more}
 
 -- a machine after `count` steps, and `done` more

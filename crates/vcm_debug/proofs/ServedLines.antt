@@ -10,7 +10,8 @@ use Rattle.vcm_console.specs.declared.reply.ServeFault.{ServeFault}
 use Rattle.vcm_console.specs.declared.reply.ServeFault.TheVariants.{Read, Write, TooMuch}
 use Rattle.vcm_console.specs.Reading.{TakesAtMost, IsNextOf, IsNext, Begins, size, HasLine, Reads, IsReadOrMuch}
 use Rattle.vcm_debug.specs.Debugging.{Debugging}
-use Rattle.vcm_debug.specs.Serving.{content, IsTurn, Serves, input_ends, no_line, no_byte, no_read, last_line, one_line, WritesSome, Writes, Served, HasTurned, IsBye}
+use Rattle.vcm_debug.specs.Serving.{content, IsTurn, Serves, input_ends, no_line, no_byte, no_read, last_line, one_line, WritesSome, Writes, Served}
+use Rattle.vcm_debug.specs.inner.Turns.{HasTurned, IsBye}
 use Rattle.vcm_debug.proofs.KeptLines.{kept_turn}
 
 -- what was written before, and then some of a text

@@ -11,7 +11,7 @@ use Rattle.vcm_machine.proofs.Codes.{kept_length}
 use Rattle.vcm_debug.specs.Debugging.{Debugging, after, shown}
 use Rattle.vcm_debug.specs.Halting.{reason_after}
 use Rattle.vcm_debug.specs.Session.{HaltsAfter}
-use Rattle.vcm_debug.specs.Going.{IsSession, begun, IsHaltedRun, HasStepped}
+use Rattle.vcm_debug.specs.inner.Going.{IsSession, begun, IsHaltedRun, HasStepped}
 use Rattle.vcm_debug.proofs.Coming.{later_effective}
 
 -- so many steps more

@@ -5,7 +5,7 @@ use Rattle.vcm_machine.proofs.LawLemmas.{add_up}
 use Rattle.vcm_console.specs.declared.reply.Reason.{Reason}
 use Rattle.vcm_console.specs.declared.reply.Reason.TheVariants.{Count}
 use Rattle.vcm_debug.specs.Halting.{reason, reason_after, halt, run_end}
-use Rattle.vcm_debug.specs.Going.{HasRun}
+use Rattle.vcm_debug.specs.inner.Going.{HasRun}
 
 -- one step more
 pub one_more : (n : ℕ) (m : Running) → later (n + 1) m ≡ later 1 (later n m)

@@ -15,7 +15,8 @@ use Rattle.vcm_console.specs.Parsing.{refusal_of, replied, command_of}
 use Rattle.vcm_console.specs.Replies.{Fits}
 use Rattle.vcm_debug.specs.Debugging.{Debugging}
 use Rattle.vcm_debug.specs.Session.{Carries}
-use Rattle.vcm_debug.specs.Serving.{answer_text, AnswersTo, is_bye, Turn, IsTurn, HasTurned}
+use Rattle.vcm_debug.specs.Serving.{answer_text, AnswersTo, is_bye, Turn, IsTurn}
+use Rattle.vcm_debug.specs.inner.Turns.{HasTurned}
 
 turn_of : (old new : Debugging) (line text : List ℕ) (last : Bool) → 0 < length line → Turn old line new text last → IsTurn old line new text last
 turn_of old new [] text last l t = absurd (omega arith)

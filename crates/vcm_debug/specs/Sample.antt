@@ -55,8 +55,10 @@ ended = record { steps = 8; next = 3; line = 7; stop = Some (record { stop = End
 
 -- the replies to a session with a breakpoint, a watch and steps back
 pub a_session : replies (opened one_block looping) (
-    c.Break 1 ∷ c.Run 10 ∷ c.Run 10 ∷ c.Watch i ∷ c.Run 10 ∷ c.Clear 1 ∷ c.Run 10 ∷ c.Run 10 ∷ c.Run 10 ∷ c.Out 10 ∷ c.Back 8 ∷ c.Back 1 ∷ c.Show i ∷ c.Break 4 ∷ c.Line 6 ∷ c.Step 3 ∷ [])
+    c.Break 1 ∷ c.Run 10 ∷ c.Run 10 ∷ c.Watch i ∷ c.Run 10 ∷ c.Clear 1 ∷ c.Run 10 ∷ c.Run 10 ∷ c.Run 10 ∷ c.Out 10 ∷ c.Back 8 ∷ c.Back 1
+    ∷ c.Show i ∷ c.Break 4 ∷ c.Line 6 ∷ c.Step 3 ∷ [])
     ≡ Set 1 ∷ Ran Break (at 1 1 5) ∷ Ran Break (at 3 1 5) ∷ Watched 0 ∷ Ran Break (at 5 1 5) ∷ Cleared 1 ∷ Ran (Watch 0) (at 7 3 7)
-    ∷ Ran Stopped ended ∷ Ran Stopped ended ∷ Lines 3 3 ∷ Stands (at 0 0 4) ∷ Refused BeforeStart ∷ Value 0 (pos 0) ∷ Refused NoSuchStatement ∷ Found 6 2 ∷ Stands (at 3 1 5) ∷ []
+    ∷ Ran Stopped ended ∷ Ran Stopped ended ∷ Lines 3 3 ∷ Stands (at 0 0 4) ∷ Refused BeforeStart ∷ Value 0 (pos 0)
+    ∷ Refused NoSuchStatement ∷ Found 6 2 ∷ Stands (at 3 1 5) ∷ []
 unfolding with_variable value_in items_value is_zero is_past effect carried_out next_index
 a_session = refl

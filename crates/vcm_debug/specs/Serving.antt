@@ -2,7 +2,6 @@
 use Rattle.std.specs.Prelude.{◌≡◌, ℕ, zero, suc, ◌+◌, ◌-◌, ◌≤◌, ◌==◌, Bool, true, false, List, [], ◌∷◌, ◌++◌, length, take, slice_index_or, if◌then◌else◌, codes, Option, Result, Ok, Err, ◌⊎◌}
 use Rattle.std.specs.Io.KnownBytes.{Appends}
 use Rattle.vcm_num.specs.Written.{AppendsFront}
-use Rattle.vcm_num.specs.declared.memory.WriteFault.{WriteFault}
 use Rattle.vcm_console.specs.declared.command.Command.{Command}
 use Rattle.vcm_console.specs.declared.reply.Halted.{Halted}
 use Rattle.vcm_console.specs.declared.reply.Reply.{Reply}
@@ -72,10 +71,13 @@ pub data Serves : ℕ → ℕ → Debugging → List ℕ → List ℕ → Result
   -- the reader failed
   no_read : {n left : ℕ} {d : Debugging} {input : List ℕ} → Serves n left d input [] (Err Read) d
   -- a line that is the last one
-  last_line : {n left : ℕ} {d : Debugging} {input text : List ℕ} {r : Result (Unit {0}) ServeFault} (new : Debugging) (raw rest : List ℕ) (ended last : Bool)
-      → Begins input raw ended rest → size raw ended ≤ left → IsTurn d (content raw ended) new text last → MayEnd last r → Serves (suc n) left d input text r new
+  last_line : {n left : ℕ} {d : Debugging} {input text : List ℕ} {r : Result (Unit {0}) ServeFault} (new : Debugging) (raw rest : List ℕ)
+      (ended last : Bool)
+      → Begins input raw ended rest → size raw ended ≤ left → IsTurn d (content raw ended) new text last → MayEnd last r
+      → Serves (suc n) left d input text r new
   -- a line, and the others
-  one_line : {n left : ℕ} {d end : Debugging} {input : List ℕ} {r : Result (Unit {0}) ServeFault} (new : Debugging) (raw rest text more : List ℕ) (ended : Bool)
+  one_line : {n left : ℕ} {d end : Debugging} {input : List ℕ} {r : Result (Unit {0}) ServeFault} (new : Debugging)
+      (raw rest text more : List ℕ) (ended : Bool)
       → Begins input raw ended rest → size raw ended ≤ left → IsTurn d (content raw ended) new text false
       → Serves n (left - size raw ended) new rest more r end → Serves (suc n) left d input (text ++ more) r end
 
@@ -91,17 +93,9 @@ Writes (Err e) old new text = Appends old new text
 
 -- A session served at most n lines of at most `left` bytes of an input, and ended at another session: what it wrote is what it serves, and at most
 -- one byte is taken that it may not have
-pub record Served (n left : ℕ) (old : Debugging) (input : List ℕ) (after before written : Option (List ℕ)) (r : Result (Unit {0}) ServeFault) (new : Debugging) : Type 0 where
+pub record Served (n left : ℕ) (old : Debugging) (input : List ℕ) (after before written : Option (List ℕ))
+    (r : Result (Unit {0}) ServeFault) (new : Debugging) : Type 0 where
   pub text : List ℕ
   pub serves : Serves n left old input text r new
   pub writes : Writes r before written text
   pub little : TakesAtMost (left + 1) input after
-
--- what answering a line did
-abbrev pub HasTurned : Debugging → List ℕ → Debugging → Option (List ℕ) → Option (List ℕ) → Result Bool WriteFault → Type 0
-HasTurned old line new before after (Ok last) = (text : List ℕ) × IsTurn old line new text last × Appends before after text
-HasTurned old line new before after (Err e) = (text : List ℕ) × (last : Bool) × IsTurn old line new text last × WritesSome before after text
-
--- the last reply was written, or a front of it
-abbrev pub IsBye : Result (Unit {0}) ServeFault → Option (List ℕ) → Option (List ℕ) → Type 0
-IsBye r old new = MayEnd true r × Writes r old new (codes "bye\n")

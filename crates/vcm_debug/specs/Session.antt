@@ -111,11 +111,16 @@ answer d (c.Clear n) = at_statement d n (answers (record d { breakpoints = slice
 answer d (c.Line line) = where_found d (statement_on d line) NoSuchStatement (λ n. answers d (Found line n))
 answer d (c.Step k) = stands (at_count d (d.count + effective k (shown d)))
 answer d (c.Run k) = ran d (run_of d k)
-answer d (c.Watch v) = where_found d (variable_of d v) NoSuchName (λ i. answers (record d { watches = slice_set d.watches i true }) (Watched i))
-answer d (c.Unwatch v) = where_found d (variable_of d v) NoSuchName (λ i. answers (record d { watches = slice_set d.watches i false }) (Unwatched i))
+answer d (c.Watch v) =
+    where_found d (variable_of d v) NoSuchName (λ i. answers (record d { watches = slice_set d.watches i true }) (Watched i))
+answer d (c.Unwatch v) =
+    where_found d (variable_of d v) NoSuchName (λ i. answers (record d { watches = slice_set d.watches i false }) (Unwatched i))
 answer d c.Where = stands d
-answer d (c.Show v) = where_found d (variable_of d v) NoSuchName (λ i. answers d (Value i (slice_index_or (now d).world.variables i (pos 0))))
-answer d (c.Feat name) = where_found d (feature_of d name) NoSuchName (λ i. answers d (Features i (recorded (now d).world.nominal i) (recorded (now d).world.actual i)))
+answer d (c.Show v) =
+    where_found d (variable_of d v) NoSuchName (λ i. answers d (Value i (slice_index_or (now d).world.variables i (pos 0))))
+answer d (c.Feat name) =
+    where_found d (feature_of d name) NoSuchName
+    (λ i. answers d (Features i (recorded (now d).world.nominal i) (recorded (now d).world.actual i)))
 answer d (c.List None) = answers d (Listed (now d).next)
 answer d (c.List (Some n)) = at_statement d n (answers d (Listed n))
 answer d (c.Out k) = answers d (Lines (length (now d).world.lines) (min k (length (now d).world.lines)))

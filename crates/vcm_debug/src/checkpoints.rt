@@ -5,11 +5,11 @@ ghost use Rattle.vcm_code.specs.declared.code.Code.{Code};
 ghost use Rattle.vcm_spec.specs.Workpiece.{Workpiece};
 ghost use Rattle.vcm_machine.specs.Running.{Running};
 ghost use Rattle.vcm_debug.specs.Debugging.{after};
-ghost use Rattle.vcm_debug.specs.Going.{begun};
+ghost use Rattle.vcm_debug.specs.inner.Going.{begun};
 
 use std::alloc::Global;
 use vcm_loader::Loaded;
-use vcm_machine::Machine;
+use vcm_machine::{End, Machine};
 use vcm_motion::Part;
 use vcm_num::NoMemory;
 
@@ -102,5 +102,25 @@ impl<'a, P: Part> Checkpoints<'a, P> {
             count: 0,
             machine: Machine::new(alloc, loaded, part)?,
         })
+    }
+}
+
+/// A machine of a code after so many steps, begun at the nearest copy.
+pub(crate) fn machine_at<'a, P: Part>(
+    alloc: Global,
+    loaded: &'a Loaded<'a>,
+    part: &'a P,
+    checkpoints: &Checkpoints<'a, P>,
+    count: u64,
+) -> Result<Machine<'a, P>, NoMemory>
+    requires { All (λ c. c.machine ≡ after (P.part part.now) loaded.now c.count) checkpoints.now.kept.items }
+    ensures { IfOk result (λ m. m ≡ after (P.part part.now) loaded.now count) }
+{
+    let mut nearest = checkpoints.nearest(alloc, loaded, part, count)?;
+    let left = count - nearest.count;
+    match nearest.machine.run(alloc, left).end {
+        End::NoMemory => Err(NoMemory),
+        End::Count => Ok(nearest.machine),
+        End::Stopped => Ok(nearest.machine),
     }
 }

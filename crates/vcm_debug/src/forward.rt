@@ -4,7 +4,7 @@ ghost use Rattle.std.specs.Prelude.{◌≡◌, ◌≤◌, ◌<◌, ◌+◌, ◌^
 ghost use Rattle.std.specs.Ordering.{int_eq};
 ghost use Rattle.vcm_machine.specs.Running.{Running};
 ghost use Rattle.vcm_debug.specs.Halting.{changed_from, reason};
-ghost use Rattle.vcm_debug.specs.Going.{begun, some_watched, HasRun, HasStepped};
+ghost use Rattle.vcm_debug.specs.inner.Going.{begun, some_watched, HasRun, HasStepped};
 
 use crate::checkpoints::Checkpoints;
 use std::alloc::Global;

@@ -2,6 +2,8 @@
 #![tactic(auto)]
 
 mod checkpoints;
+mod commands;
+mod finding;
 mod forward;
 pub mod laws;
 mod serving;

@@ -6,7 +6,8 @@ ghost use Rattle.vcm_num.specs.Written.{Wrote};
 ghost use Rattle.vcm_console.specs.Parsing.{command_of};
 ghost use Rattle.vcm_console.specs.Replies.{Fits};
 ghost use Rattle.vcm_debug.specs.Debugging.{now};
-ghost use Rattle.vcm_debug.specs.Serving.{without_return, content, answer_text, is_bye, AnswersTo, HasTurned, IsBye, Served};
+ghost use Rattle.vcm_debug.specs.Serving.{without_return, content, answer_text, is_bye, AnswersTo, Served};
+ghost use Rattle.vcm_debug.specs.inner.Turns.{HasTurned, IsBye};
 
 use crate::session::Session;
 use std::alloc::Global;

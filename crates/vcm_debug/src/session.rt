@@ -1,44 +1,39 @@
 //! A session of the debugger.
 
-ghost use Rattle.std.specs.Prelude.{◌≡◌, ◌==◌, ◌<◌, ◌≤◌, length, position, IfSome, IfOk, All};
-ghost use Rattle.std.specs.List.{position_from};
+ghost use Rattle.std.specs.Prelude.{◌≡◌, ◌<◌, ◌≤◌, length, position, IfSome, IfOk, All};
 ghost use Rattle.std.specs.Str.{bytes_eq};
 ghost use Rattle.vcm_debug.specs.Debugging.{after};
-ghost use Rattle.vcm_debug.specs.Session.{is_wanted, recorded};
+ghost use Rattle.vcm_debug.specs.Session.{is_wanted};
 
 use crate::checkpoints::Checkpoints;
-use crate::forward::{run_on, step_on, values};
+use crate::finding::{feature_of, variable_of};
 use std::alloc::Global;
 use std::io::Write;
 use std::marker::Model;
-use vcm_console::{
-    Command, Halted, Reason, Refusal, Reply, Standing, Wanted, write_halt, write_reply,
-};
+use vcm_console::{Command, Halted, Reply, Standing, Wanted, write_halt, write_reply};
 use vcm_expr::Name;
 use vcm_loader::Loaded;
-use vcm_machine::{End, Machine};
+use vcm_machine::Machine;
 use vcm_motion::Part;
 use vcm_num::{NoMemory, WriteFault};
-use vcm_spec::Feature;
-use vcm_tables::{Tables, Variable};
 
 /// A session on a code and a workpiece: a machine, how many steps it has taken, breakpoints and watches. Contracts see it as a `Debugging`.
 #[derive(Drop)]
 pub struct Session<'a, P: Part> {
-    loaded: &'a Loaded<'a>,
-    part: &'a P,
-    machine: Machine<'a, P>,
-    count: u64,
-    breakpoints: Vec<bool>,
-    watches: Vec<bool>,
-    before: Vec<i64>,
-    checkpoints: Checkpoints<'a, P>,
+    pub(crate) loaded: &'a Loaded<'a>,
+    pub(crate) part: &'a P,
+    pub(crate) machine: Machine<'a, P>,
+    pub(crate) count: u64,
+    pub(crate) breakpoints: Vec<bool>,
+    pub(crate) watches: Vec<bool>,
+    pub(crate) before: Vec<i64>,
+    pub(crate) checkpoints: Checkpoints<'a, P>,
 }
 
 impl<'a, P: Part> Model for Session<'a, P> {
     ghost use Rattle.std.specs.Prelude.{◌≡◌, All};
     ghost use Rattle.vcm_debug.specs.Debugging.{Debugging, after};
-    ghost use Rattle.vcm_debug.specs.Going.{IsSession};
+    ghost use Rattle.vcm_debug.specs.inner.Going.{IsSession};
 
     ghost Value = { Debugging };
 
@@ -55,7 +50,7 @@ impl<'a, P: Part> Session<'a, P> {
     ghost use Rattle.vcm_console.specs.Parsing.{steps_of};
     ghost use Rattle.vcm_console.specs.declared.command.Command.TheVariants as c;
     ghost use Rattle.vcm_debug.specs.Debugging.{opened, now};
-    ghost use Rattle.vcm_debug.specs.Session.{Carries, answer, standing};
+    ghost use Rattle.vcm_debug.specs.Session.{Carries, standing};
 
     /// A session at the start of a code, without breakpoints and watches. All room for these is made here.
     ///
@@ -120,23 +115,23 @@ impl<'a, P: Part> Session<'a, P> {
         write_reply(self.loaded, world.tables(), world.lines(), *reply, writer)
     }
 
-    // Writes that memory was refused, and where it stands.
+    /// Writes that memory was refused, and where it stands.
     pub(crate) fn write_halted<W: Write>(&self, writer: &mut W) -> Result<(), WriteFault>
         ensures { Wrote (W.contents writer.old) (W.contents writer.new) (halt_text self.now.code.tables (standing self.now.code self.now.count (now self.now))) result }
     {
         write_halt(self.machine.world().tables(), self.standing(), writer)
     }
 
-    // The number of the next statement.
-    fn next(&self) -> u32
+    /// The number of the next statement.
+    pub(crate) fn next(&self) -> u32
         ensures is { result ≡ (now self.now).next }
         ensures within { result < length self.now.code.statements }
     {
         self.machine.next()
     }
 
-    // Where it stands.
-    fn standing(&self) -> Standing
+    /// Where it stands.
+    pub(crate) fn standing(&self) -> Standing
         ensures { result ≡ standing self.now.code self.now.count (now self.now) }
     {
         let next = self.next();
@@ -148,8 +143,8 @@ impl<'a, P: Part> Session<'a, P> {
         }
     }
 
-    // The statement of this number, if there is one.
-    fn statement(&self, number: u64) -> Option<u32>
+    /// The statement of this number, if there is one.
+    pub(crate) fn statement(&self, number: u64) -> Option<u32>
         ensures { result ≡ (if nat_lt number (length self.now.code.statements) then Some number else None) }
     {
         if number < self.loaded.statement_count() as u64 {
@@ -159,318 +154,19 @@ impl<'a, P: Part> Session<'a, P> {
         }
     }
 
-    // The lowest variable of this name.
-    fn variable(&self, wanted: &Wanted) -> Option<u16>
+    /// The lowest variable of this name.
+    pub(crate) fn variable(&self, wanted: &Wanted) -> Option<u16>
         ensures place { result ≡ position (is_wanted wanted.now) self.now.code.tables.variables }
         ensures within { IfSome result (λ i. i < length self.now.code.tables.variables) }
     {
         variable_of(self.machine.world().tables(), wanted)
     }
 
-    // The lowest feature of this name.
-    fn feature(&self, name: &Name) -> Option<u16>
+    /// The lowest feature of this name.
+    pub(crate) fn feature(&self, name: &Name) -> Option<u16>
         ensures place { result ≡ position (λ x. bytes_eq x name.now) self.now.code.tables.features }
         ensures within { IfSome result (λ i. i < length self.now.code.tables.features) }
     {
         feature_of(self.machine.world().tables(), name)
-    }
-
-    // Sets a breakpoint.
-    fn set_break(&mut self, number: u64) -> Reply
-        ensures is { record { reply = result; session = self.new } ≡ answer self.old (c.Break number) }
-        ensures same { self.new.count ≡ self.old.count }
-        ensures fits { Fits self.new.code (now self.new).world.lines result }
-    {
-        match self.statement(number) {
-            Some(n) => {
-                self.breakpoints[n as usize] = true;
-                Reply::Set(n)
-            }
-            None => Reply::Refused(Refusal::NoSuchStatement),
-        }
-    }
-
-    // Takes a breakpoint away.
-    fn clear_break(&mut self, number: u64) -> Reply
-        ensures is { record { reply = result; session = self.new } ≡ answer self.old (c.Clear number) }
-        ensures same { self.new.count ≡ self.old.count }
-        ensures fits { Fits self.new.code (now self.new).world.lines result }
-    {
-        match self.statement(number) {
-            Some(n) => {
-                self.breakpoints[n as usize] = false;
-                Reply::Cleared(n)
-            }
-            None => Reply::Refused(Refusal::NoSuchStatement),
-        }
-    }
-
-    // The lowest statement of a source line.
-    fn find_line(&self, line: u64) -> Reply
-        ensures is { record { reply = result; session = self.now } ≡ answer self.now (c.Line line) }
-        ensures fits { Fits self.now.code (now self.now).world.lines result }
-    {
-        match statement_on(self.loaded, line) {
-            Some(n) => Reply::Found(line, n),
-            None => Reply::Refused(Refusal::NoSuchStatement),
-        }
-    }
-
-    // Watches a variable.
-    fn watch(&mut self, wanted: &Wanted) -> Reply
-        ensures is { record { reply = result; session = self.new } ≡ answer self.old (c.Watch wanted.now) }
-        ensures same { self.new.count ≡ self.old.count }
-        ensures fits { Fits self.new.code (now self.new).world.lines result }
-    {
-        match self.variable(wanted) {
-            Some(v) => {
-                self.watches[v as usize] = true;
-                Reply::Watched(v)
-            }
-            None => Reply::Refused(Refusal::NoSuchName),
-        }
-    }
-
-    // No longer watches a variable.
-    fn unwatch(&mut self, wanted: &Wanted) -> Reply
-        ensures is { record { reply = result; session = self.new } ≡ answer self.old (c.Unwatch wanted.now) }
-        ensures same { self.new.count ≡ self.old.count }
-        ensures fits { Fits self.new.code (now self.new).world.lines result }
-    {
-        match self.variable(wanted) {
-            Some(v) => {
-                self.watches[v as usize] = false;
-                Reply::Unwatched(v)
-            }
-            None => Reply::Refused(Refusal::NoSuchName),
-        }
-    }
-
-    // The value of a variable.
-    fn show(&self, wanted: &Wanted) -> Reply
-        ensures is { record { reply = result; session = self.now } ≡ answer self.now (c.Show wanted.now) }
-        ensures fits { Fits self.now.code (now self.now).world.lines result }
-    {
-        match self.variable(wanted) {
-            Some(v) => Reply::Value(v, values(&self.machine)[v as usize]),
-            None => Reply::Refused(Refusal::NoSuchName),
-        }
-    }
-
-    // A feature, nominal and actual.
-    fn feat(&self, name: &Name) -> Reply
-        ensures is { record { reply = result; session = self.now } ≡ answer self.now (c.Feat name.now) }
-        ensures fits { Fits self.now.code (now self.now).world.lines result }
-    {
-        let world = self.machine.world();
-        match self.feature(name) {
-            Some(f) => Reply::Features(
-                f,
-                recorded(world.nominal(), f),
-                recorded(world.actual(), f),
-            ),
-            None => Reply::Refused(Refusal::NoSuchName),
-        }
-    }
-
-    // The listing line of a statement, or of the next one.
-    fn list(&self, number: Option<u64>) -> Reply
-        ensures is { record { reply = result; session = self.now } ≡ answer self.now (c.List number) }
-        ensures fits { Fits self.now.code (now self.now).world.lines result }
-    {
-        match number {
-            Some(number) => match self.statement(number) {
-                Some(n) => Reply::Listed(n),
-                None => Reply::Refused(Refusal::NoSuchStatement),
-            },
-            None => Reply::Listed(self.next()),
-        }
-    }
-
-    // Takes steps.
-    fn step(&mut self, alloc: Global, k: u32) -> Result<Reply, Halted>
-        requires { self.old.count + k < 2 ^ 64 }
-        ensures carried { Carries self.old (c.Step k) self.new result }
-        ensures few { self.new.count ≤ self.old.count + k }
-        ensures fits { IfOk result (Fits self.new.code (now self.new).world.lines) }
-    {
-        match step_on(
-            alloc,
-            &mut self.machine,
-            &mut self.checkpoints,
-            self.count,
-            k,
-        ) {
-            Ok(done) => {
-                self.count += u64::from(done);
-                Ok(Reply::Stands(self.standing()))
-            }
-            Err(done) => {
-                self.count += u64::from(done);
-                Err(Halted {
-                    done: u64::from(done),
-                })
-            }
-        }
-    }
-
-    // Runs to the least step that ends the run.
-    fn run(&mut self, alloc: Global, k: u32) -> Result<Reply, Halted>
-        requires { self.old.count + k < 2 ^ 64 }
-        ensures carried { Carries self.old (c.Run k) self.new result }
-        ensures few { self.new.count ≤ self.old.count + k }
-        ensures fits { IfOk result (Fits self.new.code (now self.new).world.lines) }
-    {
-        if self.machine.world().stop().is_some() {
-            return Ok(Reply::Ran(Reason::Stopped, self.standing()));
-        }
-        match run_on(
-            alloc,
-            &mut self.machine,
-            &mut self.checkpoints,
-            &self.breakpoints,
-            &self.watches,
-            &mut self.before,
-            self.count,
-            k,
-        ) {
-            Ok((done, why)) => {
-                self.count += u64::from(done);
-                Ok(Reply::Ran(why, self.standing()))
-            }
-            Err(done) => {
-                self.count += u64::from(done);
-                Err(Halted {
-                    done: u64::from(done),
-                })
-            }
-        }
-    }
-
-    // Goes back. Where memory is refused, all is as it was.
-    fn back(&mut self, alloc: Global, k: u32) -> Result<Reply, Halted>
-        ensures carried { Carries self.old (c.Back k) self.new result }
-        ensures few { self.new.count ≤ self.old.count }
-        ensures fits { IfOk result (Fits self.new.code (now self.new).world.lines) }
-    {
-        if u64::from(k) > self.count {
-            return Ok(Reply::Refused(Refusal::BeforeStart));
-        }
-        let count = self.count - u64::from(k);
-        match machine_at(alloc, self.loaded, self.part, &self.checkpoints, count) {
-            Ok(machine) => {
-                self.machine = machine;
-                self.count = count;
-                Ok(Reply::Stands(self.standing()))
-            }
-            Err(NoMemory) => Err(Halted { done: 0 }),
-        }
-    }
-
-    // The last output lines.
-    fn out(&self, k: u32) -> Reply
-        ensures is { record { reply = result; session = self.now } ≡ answer self.now (c.Out k) }
-        ensures fits { Fits self.now.code (now self.now).world.lines result }
-    {
-        let lines = self.machine.world().lines().len();
-        Reply::Lines(lines, lines.min(k as usize))
-    }
-}
-
-// A machine of a code after so many steps, begun at the nearest copy.
-fn machine_at<'a, P: Part>(
-    alloc: Global,
-    loaded: &'a Loaded<'a>,
-    part: &'a P,
-    checkpoints: &Checkpoints<'a, P>,
-    count: u64,
-) -> Result<Machine<'a, P>, NoMemory>
-    requires { All (λ c. c.machine ≡ after (P.part part.now) loaded.now c.count) checkpoints.now.kept.items }
-    ensures { IfOk result (λ m. m ≡ after (P.part part.now) loaded.now count) }
-{
-    let mut nearest = checkpoints.nearest(alloc, loaded, part, count)?;
-    let left = count - nearest.count;
-    match nearest.machine.run(alloc, left).end {
-        End::NoMemory => Err(NoMemory),
-        End::Count => Ok(nearest.machine),
-        End::Stopped => Ok(nearest.machine),
-    }
-}
-
-// The lowest statement of a source line.
-fn statement_on(loaded: &Loaded<'_>, line: u64) -> Option<u32>
-    ensures { result ≡ position_from (λ s. s.line == line) 0 loaded.now.statements }
-{
-    let count = loaded.statement_count();
-    for n in 0..count {
-        if u64::from(loaded.statement(n).line) == line {
-            return Some(n as u32);
-        }
-    }
-    None
-}
-
-// The feature that is recorded at an index.
-fn recorded(features: &[Option<Feature>], index: u16) -> Option<Feature>
-    ensures { result ≡ recorded features.now index }
-{
-    match features.get(index as usize) {
-        Some(feature) => *feature,
-        None => None,
-    }
-}
-
-// Whether a variable has this name.
-fn is_wanted(wanted: &Wanted, variable: &Variable) -> bool
-    ensures { result ≡ is_wanted wanted.now variable.now }
-{
-    variable.name().as_bytes() == wanted.name.as_bytes()
-        && u64::from(variable.expansion()) == wanted.expansion
-}
-
-// The place of the first variable of this name.
-fn place_of_variable(wanted: &Wanted, variables: &[Variable]) -> Option<usize>
-    ensures place { result ≡ position (is_wanted wanted.now) variables.now }
-    ensures within { IfSome result (λ i. i < length variables.now) }
-{
-    variables.iter().position(|v| is_wanted(wanted, v))
-}
-
-// The lowest variable of this name, of at most 4,096.
-fn variable_of(tables: &Tables, wanted: &Wanted) -> Option<u16>
-    requires { length tables.now.variables ≤ 4096 }
-    ensures place { result ≡ position (is_wanted wanted.now) tables.now.variables }
-    ensures within { IfSome result (λ i. i < length tables.now.variables) }
-{
-    match place_of_variable(wanted, tables.variables()) {
-        Some(index) => Some(index as u16),
-        None => None,
-    }
-}
-
-// Whether these are the same bytes.
-fn is_named(name: &Name, other: &Name) -> bool
-    ensures { result ≡ bytes_eq other.now name.now }
-{
-    other.as_bytes() == name.as_bytes()
-}
-
-// The place of the first of these names that is the wanted one.
-fn place_of_name(name: &Name, names: &[Name]) -> Option<usize>
-    ensures place { result ≡ position (λ x. bytes_eq x name.now) names.now }
-    ensures within { IfSome result (λ i. i < length names.now) }
-{
-    names.iter().position(|x| is_named(name, x))
-}
-
-// The lowest feature of this name, of at most 4,096.
-fn feature_of(tables: &Tables, name: &Name) -> Option<u16>
-    requires { length tables.now.features ≤ 4096 }
-    ensures place { result ≡ position (λ x. bytes_eq x name.now) tables.now.features }
-    ensures within { IfSome result (λ i. i < length tables.now.features) }
-{
-    match place_of_name(name, tables.features()) {
-        Some(index) => Some(index as u16),
-        None => None,
     }
 }

@@ -6,17 +6,17 @@ use Rattle.vcm_spec.specs.declared.expression.BinaryOp.{BinaryOp}
 use Rattle.vcm_spec.specs.declared.expression.BinaryOp.TheVariants.{Add, Sub, Mul, Div, And, Or, Compare}
 use Rattle.vcm_expr.specs.declared.expression.Prefix.{Prefix}
 use Rattle.vcm_expr.specs.declared.expression.Prefix.TheVariants.{Minus, Plus, Not}
-use Rattle.vcm_expr.specs.declared.part.Part.{Part}
-use Rattle.vcm_expr.specs.declared.part.Part.TheVariants.{Operand, Opening, Closing}
+use Rattle.vcm_expr.specs.declared.symbol.Symbol.{Symbol}
+use Rattle.vcm_expr.specs.declared.symbol.Symbol.TheVariants.{Operand, Opening, Closing}
 use Rattle.vcm_expr.specs.Source.{Source, Prefixed, Pair, is_small}
 use Rattle.vcm_expr.specs.Grammar.{Written, Leaf, Paren, Signed, Joined, word_of, sign_word, spelled, Fits, meant, open_after, HasBigPart, HasFlaw}
-use Rattle.vcm_expr.specs.Reading.{Phrase, Parser, and_then, phrase, made, made_if, closed, primary_by, sign_of, negation_of, found_if, fronted_by, product_op, sum_op, relation_op, and_op, or_op, more, chain_by, once, once_by, signed_by, product_by, sum_by, relation_by, negation_by, conjunction_by, disjunction_by, expression}
+use Rattle.vcm_expr.specs.inner.Parser.{Taken, Parser, and_then, phrase, made, made_if, closed, primary_by, sign_of, negation_of, found_if, fronted_by, product_op, sum_op, relation_op, and_op, or_op, more, chain_by, once, once_by, signed_by, product_by, sum_by, relation_by, negation_by, conjunction_by, disjunction_by, expression}
 use Rattle.vcm_expr.proofs.Chains.{expression-zero, expression-suc}
 use Rattle.vcm_expr.proofs.Complete.{Ops, Fronts}
 use Rattle.vcm_expr.proofs.Ladder.{product_ops, sum_ops, and_ops, or_ops, sign_fronts, negation_fronts, relation_says}
 use Rattle.vcm_expr.proofs.Sound.{Sound, all_sound, Fits-weaker}
 
-word_plain : (op : BinaryOp) (n : ℕ) (r : List Part) → open_after n (word_of op ∷ r) ≡ open_after n r
+word_plain : (op : BinaryOp) (n : ℕ) (r : List Symbol) → open_after n (word_of op ∷ r) ≡ open_after n r
 word_plain Add n r = refl
 word_plain Sub n r = refl
 word_plain Mul n r = refl
@@ -25,13 +25,13 @@ word_plain And n r = refl
 word_plain Or n r = refl
 word_plain (Compare q) n r = refl
 
-sign_plain : (op : Prefix) (n : ℕ) (r : List Part) → open_after n (sign_word op ∷ r) ≡ open_after n r
+sign_plain : (op : Prefix) (n : ℕ) (r : List Symbol) → open_after n (sign_word op ∷ r) ≡ open_after n r
 sign_plain Minus n r = refl
 sign_plain Plus n r = refl
 sign_plain Not n r = refl
 
 -- an expression closes what it opens
-balanced : (s : Written) (n : ℕ) (r : List Part) → open_after n (spelled s ++ r) ≡ open_after n r
+balanced : (s : Written) (n : ℕ) (r : List Symbol) → open_after n (spelled s ++ r) ≡ open_after n r
 balanced (Leaf o) n r = refl
 balanced (Paren s) n r =
     let back : n + 1 - 1 ≡ n = omega arith in
@@ -44,18 +44,18 @@ balanced (Joined op a b) n r =
     ∙ balanced b n r
 
 -- some parts in front leave more than so many parentheses open
-pub record DeepIn (total n : ℕ) (ts : List Part) : Type 0 where
-  pub front : List Part
-  pub back : List Part
+pub record DeepIn (total n : ℕ) (ts : List Symbol) : Type 0 where
+  pub front : List Symbol
+  pub back : List Symbol
   pub cut : ts ≡ front ++ back
   pub deep : total < open_after n front
 
 -- why the parts may be refused with this code, where n parentheses are open before them
-abbrev pub Cause : ℕ → ℕ → FaultCode → List Part → Type 0
+abbrev pub Cause : ℕ → ℕ → FaultCode → List Symbol → Type 0
 Cause total n c ts = (c ≡ BadSyntax) ⊎ (((c ≡ TooDeep) × (DeepIn total n ts ⊎ HasBigPart ts)) ⊎ HasFlaw c ts)
 
 -- the same behind parts that leave m of n parentheses open
-behind : (total n m : ℕ) (c : FaultCode) (x ts : List Part) → ((r : List Part) → open_after n (x ++ r) ≡ open_after m r) → Cause total m c ts → Cause total n c (x ++ ts)
+behind : (total n m : ℕ) (c : FaultCode) (x ts : List Symbol) → ((r : List Symbol) → open_after n (x ++ r) ≡ open_after m r) → Cause total m c ts → Cause total n c (x ++ ts)
 behind total n m c x ts same (inl e) = inl e
 behind total n m c x ts same (inr (inl (e, inl d))) =
     inr (inl (e, inl (record { front = x ++ d.front; back = d.back; cut = ap (λ l. x ++ l) d.cut ∙ sym (append_assoc x d.front d.back); deep = omega (arith, d.deep, same d.front) })))
@@ -65,21 +65,21 @@ behind total n m c x ts same (inr (inr f)) =
     inr (inr (record { front = x ++ f.front; back = f.back; cut = ap (λ l. x ++ l) f.cut ∙ sym (append_assoc x f.front (Operand (Err c) ∷ f.back)) }))
 
 -- an expression that is too big stands in front
-big_first : (total n l : ℕ) (c : FaultCode) (s : Written) (r ts : List Part) → 1 ≤ l → Fits l s → (c ≡ TooDeep) × (is_small (meant s) ≡ false) → spelled s ++ r ≡ ts → Cause total n c ts
+big_first : (total n l : ℕ) (c : FaultCode) (s : Written) (r ts : List Symbol) → 1 ≤ l → Fits l s → (c ≡ TooDeep) × (is_small (meant s) ≡ false) → spelled s ++ r ≡ ts → Cause total n c ts
 big_first total n l c s r ts h f b e = inr (inl (b.0, inr (record { front = []; back = r; written = s; cut = sym e; fits = Fits-weaker 1 l s h f; big = b.1 })))
 
-and_then-Err : (o : Result Phrase FaultCode) (go : Source → List Part → Result Phrase FaultCode) (d : FaultCode) → and_then o go ≡ Err d → (o ≡ Err d) ⊎ ((q : Phrase) × (o ≡ Ok q) × (go q.tree q.rest ≡ Err d))
+and_then-Err : (o : Result Taken FaultCode) (go : Source → List Symbol → Result Taken FaultCode) (d : FaultCode) → and_then o go ≡ Err d → (o ≡ Err d) ⊎ ((q : Taken) × (o ≡ Ok q) × (go q.tree q.rest ≡ Err d))
 and_then-Err (Ok q) go d e = inr (q, refl, e)
 and_then-Err (Err f) go d e = inl e
 
-made-Err : (t : Source) (r : List Part) (c : FaultCode) → made is_small t r ≡ Err c → (c ≡ TooDeep) × (is_small t ≡ false)
+made-Err : (t : Source) (r : List Symbol) (c : FaultCode) → made is_small t r ≡ Err c → (c ≡ TooDeep) × (is_small t ≡ false)
 made-Err t r c e = by_test (is_small t) refl e
   where
     by_test : (b : Bool) → is_small t ≡ b → made_if b t r ≡ Err c → (c ≡ TooDeep) × (is_small t ≡ false)
     by_test true w e = absurd cc
     by_test false w e = let same : TooDeep ≡ c = cc in (sym same, w)
 
-made-Ok : (t : Source) (r : List Part) (p : Phrase) → made is_small t r ≡ Ok p → record { tree = t; rest = r } ≡ p
+made-Ok : (t : Source) (r : List Symbol) (p : Taken) → made is_small t r ≡ Ok p → record { tree = t; rest = r } ≡ p
 made-Ok t r p e = by_test (is_small t) e
   where
     by_test : (b : Bool) → made_if b t r ≡ Ok p → record { tree = t; rest = r } ≡ p
@@ -87,26 +87,26 @@ made-Ok t r p e = by_test (is_small t) e
     by_test false e = cc
 
 abbrev pub Caused : ℕ → ℕ → Parser → Type 0
-Caused total room P = (n : ℕ) → room + n ≡ total → (ts : List Part) (c : FaultCode) → P ts ≡ Err c → Cause total n c ts
+Caused total room P = (n : ℕ) → room + n ≡ total → (ts : List Symbol) (c : FaultCode) → P ts ≡ Err c → Cause total n c ts
 
 -- behind an expression and an operator
-after_word : (total n : ℕ) (c : FaultCode) (s : Written) (op : BinaryOp) (r : List Part) → Cause total n c r → Cause total n c (spelled s ++ word_of op ∷ r)
+after_word : (total n : ℕ) (c : FaultCode) (s : Written) (op : BinaryOp) (r : List Symbol) → Cause total n c r → Cause total n c (spelled s ++ word_of op ∷ r)
 after_word total n c s op r h =
     let x = spelled s ++ word_of op ∷ [] in
-    let same = λ (q : List Part). ap (open_after n) (append_assoc (spelled s) (word_of op ∷ []) q) ∙ balanced s n (word_of op ∷ q) ∙ word_plain op n q in
+    let same = λ (q : List Symbol). ap (open_after n) (append_assoc (spelled s) (word_of op ∷ []) q) ∙ balanced s n (word_of op ∷ q) ∙ word_plain op n q in
     subst (Cause total n c) (append_assoc (spelled s) (word_of op ∷ []) r) (behind total n n c x r same h)
 
 -- a pair, flat
-flat_pair : (s b : Written) (op : BinaryOp) (k : Part) (r q : List Part) → k ≡ word_of op → r ≡ spelled b ++ q → spelled (Joined op s b) ++ q ≡ spelled s ++ k ∷ r
+flat_pair : (s b : Written) (op : BinaryOp) (k : Symbol) (r q : List Symbol) → k ≡ word_of op → r ≡ spelled b ++ q → spelled (Joined op s b) ++ q ≡ spelled s ++ k ∷ r
 flat_pair s b op k r q word parts = append_assoc (spelled s) (word_of op ∷ spelled b) q ∙ ap (λ w. spelled s ++ w ∷ (spelled b ++ q)) (sym word) ∙ ap (λ r. spelled s ++ k ∷ r) (sym parts)
 
-module _ (l total room : ℕ) (P : Parser) (op_of : Part → Option BinaryOp) (ops : Ops l op_of) (operands : Caused total room P) (sound : Sound (l + 1) room P) (some : 1 ≤ l) where
-  more_caused : (n : ℕ) → room + n ≡ total → (m : ℕ) (s : Written) (ts : List Part) (c : FaultCode) → Fits l s → more is_small P op_of m (meant s) ts ≡ Err c → Cause total n c (spelled s ++ ts)
+module _ (l total room : ℕ) (P : Parser) (op_of : Symbol → Option BinaryOp) (ops : Ops l op_of) (operands : Caused total room P) (sound : Sound (l + 1) room P) (some : 1 ≤ l) where
+  more_caused : (n : ℕ) → room + n ≡ total → (m : ℕ) (s : Written) (ts : List Symbol) (c : FaultCode) → Fits l s → more is_small P op_of m (meant s) ts ≡ Err c → Cause total n c (spelled s ++ ts)
   more_caused n h m s [] c f e = cc
   more_caused n h zero s (k ∷ r) c f e = cc
   more_caused n h (suc m) s (k ∷ r) c f e = by_op (op_of k) refl e (more_caused n h m)
     where
-      by_op : (o : Option BinaryOp) → op_of k ≡ o → found_if o (λ op. and_then (P r) (λ u q. and_then (made is_small (Pair op (meant s) u) q) (more is_small P op_of m))) (phrase (meant s) (k ∷ r)) ≡ Err c → ((s' : Written) (ts : List Part) (c : FaultCode) → Fits l s' → more is_small P op_of m (meant s') ts ≡ Err c → Cause total n c (spelled s' ++ ts)) → Cause total n c (spelled s ++ k ∷ r)
+      by_op : (o : Option BinaryOp) → op_of k ≡ o → found_if o (λ op. and_then (P r) (λ u q. and_then (made is_small (Pair op (meant s) u) q) (more is_small P op_of m))) (phrase (meant s) (k ∷ r)) ≡ Err c → ((s' : Written) (ts : List Symbol) (c : FaultCode) → Fits l s' → more is_small P op_of m (meant s') ts ≡ Err c → Cause total n c (spelled s' ++ ts)) → Cause total n c (spelled s ++ k ∷ r)
       by_op None is e again = cc
       by_op (Some op) is e again =
           let word = ops.says k op is in
@@ -136,8 +136,8 @@ module _ (l total room : ℕ) (P : Parser) (op_of : Part → Option BinaryOp) (o
       subst (Cause total n c) (sym a.parts) (more_caused n h (length q.0.rest) a.written q.0.rest c (Fits-weaker l (l + 1) a.written (omega arith) a.fits) step))
       (and_then-Err (P ts) (λ t r. more is_small P op_of (length r) t r) c e)
 
-module _ (l total room : ℕ) (P : Parser) (find : Part → Option Prefix) (fs : Fronts l find) (operands : Caused total room P) (sound : Sound l room (fronted_by is_small P find)) (some : 1 ≤ l) where
-  pub fronted_caused : (n : ℕ) → room + n ≡ total → (ts : List Part) (c : FaultCode) → fronted_by is_small P find ts ≡ Err c → Cause total n c ts
+module _ (l total room : ℕ) (P : Parser) (find : Symbol → Option Prefix) (fs : Fronts l find) (operands : Caused total room P) (sound : Sound l room (fronted_by is_small P find)) (some : 1 ≤ l) where
+  pub fronted_caused : (n : ℕ) → room + n ≡ total → (ts : List Symbol) (c : FaultCode) → fronted_by is_small P find ts ≡ Err c → Cause total n c ts
   fronted_caused n h [] c e = operands n h [] c e
   fronted_caused n h (k ∷ r) c e = by_word (find k) refl e (fronted_caused n h r c)
     where
@@ -155,7 +155,7 @@ module _ (l total room : ℕ) (P : Parser) (find : Part → Option Prefix) (fs :
           (and_then-Err (fronted_by is_small P find r) (λ t s. made is_small (Prefixed op t) s) c e)
 
 module _ (total room : ℕ) (P : Parser) (operands : Caused total room P) (sound : Sound 5 room P) where
-  once_caused_after : (n : ℕ) → room + n ≡ total → (s : Written) (ts : List Part) (c : FaultCode) → Fits 5 s → once is_small P relation_op (meant s) ts ≡ Err c → Cause total n c (spelled s ++ ts)
+  once_caused_after : (n : ℕ) → room + n ≡ total → (s : Written) (ts : List Symbol) (c : FaultCode) → Fits 5 s → once is_small P relation_op (meant s) ts ≡ Err c → Cause total n c (spelled s ++ ts)
   once_caused_after n h s [] c f e = cc
   once_caused_after n h s (k ∷ r) c f e = by_op (relation_op k) refl e
     where
@@ -182,14 +182,14 @@ module _ (total room : ℕ) (P : Parser) (operands : Caused total room P) (sound
       subst (Cause total n c) (sym a.parts) (once_caused_after n h a.written q.0.rest c a.fits step))
       (and_then-Err (P ts) (once is_small P relation_op) c e)
 
-not_closed : (t : Source) (r : List Part) (c : FaultCode) → closed t r ≡ Err c → c ≡ BadSyntax
+not_closed : (t : Source) (r : List Symbol) (c : FaultCode) → closed t r ≡ Err c → c ≡ BadSyntax
 not_closed t [] c e = let same : BadSyntax ≡ c = cc in sym same
 not_closed t (Closing ∷ r) c e = cc
 not_closed t (_ ∷ r) c e = let same : BadSyntax ≡ c = cc in sym same
 
 -- what stands in parentheses, where n were open before
 abbrev InnerCaused : ℕ → ℕ → Type 0
-InnerCaused total room = (n : ℕ) → room + n ≡ total → (ts : List Part) (c : FaultCode) → expression is_small room ts ≡ Err c → Cause total (n + 1) c ts
+InnerCaused total room = (n : ℕ) → room + n ≡ total → (ts : List Symbol) (c : FaultCode) → expression is_small room ts ≡ Err c → Cause total (n + 1) c ts
 
 primary_caused : (total room : ℕ) → InnerCaused total room → Caused total room (primary_by (expression is_small room))
 primary_caused total room inner n h [] c e = let same : BadSyntax ≡ c = cc in inl (sym same)
@@ -223,5 +223,5 @@ inner total zero n h ts c e =
     inr (inl (sym same, inl (record { front = []; back = ts; cut = refl; deep = omega arith })))
 inner total (suc room) n h ts c e = levels total room (inner total room) (n + 1) (omega arith) ts c (sym (expression-suc is_small room ts) ∙ e)
 
-pub all_caused : (room : ℕ) (ts : List Part) (c : FaultCode) → disjunction_by is_small (expression is_small room) ts ≡ Err c → Cause room 0 c ts
+pub all_caused : (room : ℕ) (ts : List Symbol) (c : FaultCode) → disjunction_by is_small (expression is_small room) ts ≡ Err c → Cause room 0 c ts
 all_caused room ts c e = levels room room (inner room room) 0 (omega arith) ts c e

@@ -5,178 +5,178 @@ use Rattle.vcm_lines.specs.declared.fault.FaultCode.{FaultCode}
 use Rattle.vcm_lines.specs.declared.fault.FaultCode.TheVariants.{BadSyntax, TooDeep}
 use Rattle.vcm_lines.specs.declared.fault.SourceFault.{SourceFault}
 use Rattle.vcm_spec.specs.declared.expression.BinaryOp.{BinaryOp}
-use Rattle.vcm_expr.specs.declared.part.Part.{Part}
-use Rattle.vcm_expr.specs.declared.part.Part.TheVariants.{Closing}
+use Rattle.vcm_expr.specs.declared.symbol.Symbol.{Symbol}
+use Rattle.vcm_expr.specs.declared.symbol.Symbol.TheVariants.{Closing}
 use Rattle.vcm_expr.specs.declared.parser.Chain.{Chain}
 use Rattle.vcm_expr.specs.declared.parser.Chain.TheVariants.{Disjunction, Conjunction, Sum, Product}
 use Rattle.vcm_expr.specs.declared.parser.Front.{Front}
 use Rattle.vcm_expr.specs.declared.parser.Front.TheVariants.{Negation, Sign}
 use Rattle.vcm_expr.specs.Source.{Source, Pair, is_small}
-use Rattle.vcm_expr.specs.Reading.{Phrase, Parser, and_then, phrase, made, made_if, closed, found_if, fronted_by, with_fronts, more, chain_by, once, once_by, disjunction_by, expression}
-use Rattle.vcm_expr.specs.Levels.{group_in, chain_in, chain_op, link_in, front_in, front_of, fronted_in, NextOf, NoNext, NotClosing, Told}
+use Rattle.vcm_expr.specs.inner.Parser.{Taken, Parser, and_then, phrase, made, made_if, closed, found_if, fronted_by, with_fronts, more, chain_by, once, once_by, disjunction_by, expression}
+use Rattle.vcm_expr.specs.inner.Levels.{group_in, chain_in, chain_op, link_in, front_in, front_of, fronted_in, NextOf, NoNext, NotClosing, Told}
 use Rattle.vcm_expr.proofs.Fronts.{with_fronts-Err}
 
 module _ (small : Source → Bool) where
   -- ---- a chain
 
   -- one more pair, and then the rest of the chain
-  abbrev pub join : Parser → (Part → Option BinaryOp) → ℕ → Source → BinaryOp → Source → List Part → Result Phrase FaultCode
+  abbrev pub join : Parser → (Symbol → Option BinaryOp) → ℕ → Source → BinaryOp → Source → List Symbol → Result Taken FaultCode
   join P op_of n t op u s = and_then (made small (Pair op t u) s) (more small P op_of n)
 
   -- no operator: the chain ends
-  pub more_stops : (P : Parser) (op_of : Part → Option BinaryOp) (n : ℕ) (t : Source) (ts : List Part) → NoNext op_of ts → more small P op_of n t ts ≡ phrase t ts
+  pub more_stops : (P : Parser) (op_of : Symbol → Option BinaryOp) (n : ℕ) (t : Source) (ts : List Symbol) → NoNext op_of ts → more small P op_of n t ts ≡ phrase t ts
   more_stops P op_of n t [] h = refl
   more_stops P op_of zero t (k ∷ r) h = refl
   more_stops P op_of (suc n) t (k ∷ r) h =
       ap (λ (o : Option BinaryOp). found_if o (λ op. and_then (P r) (join P op_of n t op)) (phrase t (k ∷ r))) h
 
   -- an operator: what the next operand does
-  pub more_next : (P : Parser) (op_of : Part → Option BinaryOp) (n : ℕ) (t : Source) (ts : List Part) (op : BinaryOp) (after : List Part) → NextOf op_of ts op after → length ts ≤ n
+  pub more_next : (P : Parser) (op_of : Symbol → Option BinaryOp) (n : ℕ) (t : Source) (ts : List Symbol) (op : BinaryOp) (after : List Symbol) → NextOf op_of ts op after → length ts ≤ n
       → (m : ℕ) × (length after ≤ m) × (more small P op_of n t ts ≡ and_then (P after) (join P op_of m t op))
   more_next P op_of n t [] op after h le = absurd h
   more_next P op_of zero t (k ∷ r) op after h le = absurd (omega arith)
   more_next P op_of (suc n) t (k ∷ r) op after h le =
       let size = ap length h.1 in
-      (n, omega arith, ap (λ (o : Option BinaryOp). found_if o (λ op. and_then (P r) (join P op_of n t op)) (phrase t (k ∷ r))) h.0 ∙ ap (λ (l : List Part). and_then (P l) (join P op_of n t op)) h.1)
+      (n, omega arith, ap (λ (o : Option BinaryOp). found_if o (λ op. and_then (P r) (join P op_of n t op)) (phrase t (k ∷ r))) h.0 ∙ ap (λ (l : List Symbol). and_then (P l) (join P op_of n t op)) h.1)
 
   -- it is read, and the pair is within the limits
-  pub more_on : (P : Parser) (op_of : Part → Option BinaryOp) (n : ℕ) (t : Source) (ts : List Part) (op : BinaryOp) (after : List Part) (u : Source) (s : List Part) → NextOf op_of ts op after → length ts ≤ n → P after ≡ phrase u s → small (Pair op t u) ≡ true → length s ≤ length after
+  pub more_on : (P : Parser) (op_of : Symbol → Option BinaryOp) (n : ℕ) (t : Source) (ts : List Symbol) (op : BinaryOp) (after : List Symbol) (u : Source) (s : List Symbol) → NextOf op_of ts op after → length ts ≤ n → P after ≡ phrase u s → small (Pair op t u) ≡ true → length s ≤ length after
       → (m : ℕ) × (length s ≤ m) × (more small P op_of n t ts ≡ more small P op_of m (Pair op t u) s)
   more_on P op_of n t ts op after u s h le e w short =
       let a = more_next P op_of n t ts op after h le in
-      (a.0, omega (arith, a.1), a.2 ∙ ap (λ (o : Result Phrase FaultCode). and_then o (join P op_of a.0 t op)) e ∙ ap (λ (b : Bool). and_then (made_if b (Pair op t u) s) (more small P op_of a.0)) w)
+      (a.0, omega (arith, a.1), a.2 ∙ ap (λ (o : Result Taken FaultCode). and_then o (join P op_of a.0 t op)) e ∙ ap (λ (b : Bool). and_then (made_if b (Pair op t u) s) (more small P op_of a.0)) w)
 
   -- the pair is too deep
-  pub more_big : (P : Parser) (op_of : Part → Option BinaryOp) (n : ℕ) (t : Source) (ts : List Part) (op : BinaryOp) (after : List Part) (u : Source) (s : List Part) → NextOf op_of ts op after → length ts ≤ n → P after ≡ phrase u s → small (Pair op t u) ≡ false
+  pub more_big : (P : Parser) (op_of : Symbol → Option BinaryOp) (n : ℕ) (t : Source) (ts : List Symbol) (op : BinaryOp) (after : List Symbol) (u : Source) (s : List Symbol) → NextOf op_of ts op after → length ts ≤ n → P after ≡ phrase u s → small (Pair op t u) ≡ false
       → more small P op_of n t ts ≡ Err TooDeep
   more_big P op_of n t ts op after u s h le e w =
       let a = more_next P op_of n t ts op after h le in
-      a.2 ∙ ap (λ (o : Result Phrase FaultCode). and_then o (join P op_of a.0 t op)) e ∙ ap (λ (b : Bool). and_then (made_if b (Pair op t u) s) (more small P op_of a.0)) w
+      a.2 ∙ ap (λ (o : Result Taken FaultCode). and_then o (join P op_of a.0 t op)) e ∙ ap (λ (b : Bool). and_then (made_if b (Pair op t u) s) (more small P op_of a.0)) w
 
   -- it fails
-  pub more_fails : (P : Parser) (op_of : Part → Option BinaryOp) (n : ℕ) (t : Source) (ts : List Part) (op : BinaryOp) (after : List Part) (c : FaultCode) → NextOf op_of ts op after → length ts ≤ n → P after ≡ Err c → more small P op_of n t ts ≡ Err c
+  pub more_fails : (P : Parser) (op_of : Symbol → Option BinaryOp) (n : ℕ) (t : Source) (ts : List Symbol) (op : BinaryOp) (after : List Symbol) (c : FaultCode) → NextOf op_of ts op after → length ts ≤ n → P after ≡ Err c → more small P op_of n t ts ≡ Err c
   more_fails P op_of n t ts op after c h le f =
       let a = more_next P op_of n t ts op after h le in
-      a.2 ∙ ap (λ (o : Result Phrase FaultCode). and_then o (join P op_of a.0 t op)) f
+      a.2 ∙ ap (λ (o : Result Taken FaultCode). and_then o (join P op_of a.0 t op)) f
 
   -- ---- a relation
 
-  pub once_stops : (P : Parser) (op_of : Part → Option BinaryOp) (ts : List Part) (t : Source) (r : List Part) → P ts ≡ phrase t r → NoNext op_of r → once_by small P op_of ts ≡ phrase t r
-  once_stops P op_of ts t r e h = ap (λ (o : Result Phrase FaultCode). and_then o (once small P op_of)) e ∙ stop r h
+  pub once_stops : (P : Parser) (op_of : Symbol → Option BinaryOp) (ts : List Symbol) (t : Source) (r : List Symbol) → P ts ≡ phrase t r → NoNext op_of r → once_by small P op_of ts ≡ phrase t r
+  once_stops P op_of ts t r e h = ap (λ (o : Result Taken FaultCode). and_then o (once small P op_of)) e ∙ stop r h
     where
-      stop : (r : List Part) → NoNext op_of r → once small P op_of t r ≡ phrase t r
+      stop : (r : List Symbol) → NoNext op_of r → once small P op_of t r ≡ phrase t r
       stop [] h = refl
       stop (k ∷ s) h = ap (λ (o : Option BinaryOp). found_if o (λ op. and_then (P s) (λ u s. made small (Pair op t u) s)) (phrase t (k ∷ s))) h
 
-  once_next : (P : Parser) (op_of : Part → Option BinaryOp) (t : Source) (r : List Part) (op : BinaryOp) (after : List Part) → NextOf op_of r op after → once small P op_of t r ≡ and_then (P after) (λ u s. made small (Pair op t u) s)
+  once_next : (P : Parser) (op_of : Symbol → Option BinaryOp) (t : Source) (r : List Symbol) (op : BinaryOp) (after : List Symbol) → NextOf op_of r op after → once small P op_of t r ≡ and_then (P after) (λ u s. made small (Pair op t u) s)
   once_next P op_of t [] op after h = absurd h
   once_next P op_of t (k ∷ s) op after h =
-      ap (λ (o : Option BinaryOp). found_if o (λ op. and_then (P s) (λ u s. made small (Pair op t u) s)) (phrase t (k ∷ s))) h.0 ∙ ap (λ (l : List Part). and_then (P l) (λ u s. made small (Pair op t u) s)) h.1
+      ap (λ (o : Option BinaryOp). found_if o (λ op. and_then (P s) (λ u s. made small (Pair op t u) s)) (phrase t (k ∷ s))) h.0 ∙ ap (λ (l : List Symbol). and_then (P l) (λ u s. made small (Pair op t u) s)) h.1
 
-  pub once_goes : (P : Parser) (op_of : Part → Option BinaryOp) (ts : List Part) (t : Source) (r : List Part) (op : BinaryOp) (after : List Part) → P ts ≡ phrase t r → NextOf op_of r op after → once_by small P op_of ts ≡ and_then (P after) (λ u s. made small (Pair op t u) s)
-  once_goes P op_of ts t r op after e h = ap (λ (o : Result Phrase FaultCode). and_then o (once small P op_of)) e ∙ once_next P op_of t r op after h
+  pub once_goes : (P : Parser) (op_of : Symbol → Option BinaryOp) (ts : List Symbol) (t : Source) (r : List Symbol) (op : BinaryOp) (after : List Symbol) → P ts ≡ phrase t r → NextOf op_of r op after → once_by small P op_of ts ≡ and_then (P after) (λ u s. made small (Pair op t u) s)
+  once_goes P op_of ts t r op after e h = ap (λ (o : Result Taken FaultCode). and_then o (once small P op_of)) e ∙ once_next P op_of t r op after h
 
-  pub once_made : (P : Parser) (op_of : Part → Option BinaryOp) (ts : List Part) (t : Source) (r : List Part) (op : BinaryOp) (after : List Part) (u v : Source) (s : List Part) → P ts ≡ phrase t r → NextOf op_of r op after → P after ≡ phrase u s → small (Pair op t u) ≡ true → v ≡ Pair op t u
+  pub once_made : (P : Parser) (op_of : Symbol → Option BinaryOp) (ts : List Symbol) (t : Source) (r : List Symbol) (op : BinaryOp) (after : List Symbol) (u v : Source) (s : List Symbol) → P ts ≡ phrase t r → NextOf op_of r op after → P after ≡ phrase u s → small (Pair op t u) ≡ true → v ≡ Pair op t u
       → once_by small P op_of ts ≡ phrase v s
   once_made P op_of ts t r op after u v s e h f w is =
-      once_goes P op_of ts t r op after e h ∙ ap (λ (o : Result Phrase FaultCode). and_then o (λ u s. made small (Pair op t u) s)) f ∙ ap (λ (b : Bool). made_if b (Pair op t u) s) w ∙ ap (λ (x : Source). phrase x s) (sym is)
+      once_goes P op_of ts t r op after e h ∙ ap (λ (o : Result Taken FaultCode). and_then o (λ u s. made small (Pair op t u) s)) f ∙ ap (λ (b : Bool). made_if b (Pair op t u) s) w ∙ ap (λ (x : Source). phrase x s) (sym is)
 
-  pub once_big : (P : Parser) (op_of : Part → Option BinaryOp) (ts : List Part) (t : Source) (r : List Part) (op : BinaryOp) (after : List Part) (u : Source) (s : List Part) → P ts ≡ phrase t r → NextOf op_of r op after → P after ≡ phrase u s → small (Pair op t u) ≡ false
+  pub once_big : (P : Parser) (op_of : Symbol → Option BinaryOp) (ts : List Symbol) (t : Source) (r : List Symbol) (op : BinaryOp) (after : List Symbol) (u : Source) (s : List Symbol) → P ts ≡ phrase t r → NextOf op_of r op after → P after ≡ phrase u s → small (Pair op t u) ≡ false
       → once_by small P op_of ts ≡ Err TooDeep
   once_big P op_of ts t r op after u s e h f big =
-      once_goes P op_of ts t r op after e h ∙ ap (λ (o : Result Phrase FaultCode). and_then o (λ u s. made small (Pair op t u) s)) f ∙ ap (λ (b : Bool). made_if b (Pair op t u) s) big
+      once_goes P op_of ts t r op after e h ∙ ap (λ (o : Result Taken FaultCode). and_then o (λ u s. made small (Pair op t u) s)) f ∙ ap (λ (b : Bool). made_if b (Pair op t u) s) big
 
-  pub once_fails : (P : Parser) (op_of : Part → Option BinaryOp) (ts : List Part) (t : Source) (r : List Part) (op : BinaryOp) (after : List Part) (c : FaultCode) → P ts ≡ phrase t r → NextOf op_of r op after → P after ≡ Err c → once_by small P op_of ts ≡ Err c
-  once_fails P op_of ts t r op after c e h f = once_goes P op_of ts t r op after e h ∙ ap (λ (o : Result Phrase FaultCode). and_then o (λ u s. made small (Pair op t u) s)) f
+  pub once_fails : (P : Parser) (op_of : Symbol → Option BinaryOp) (ts : List Symbol) (t : Source) (r : List Symbol) (op : BinaryOp) (after : List Symbol) (c : FaultCode) → P ts ≡ phrase t r → NextOf op_of r op after → P after ≡ Err c → once_by small P op_of ts ≡ Err c
+  once_fails P op_of ts t r op after c e h f = once_goes P op_of ts t r op after e h ∙ ap (λ (o : Result Taken FaultCode). and_then o (λ u s. made small (Pair op t u) s)) f
 
 -- each chain is one of its operands
-pub chain_is : (l : Chain) (room : ℕ) (ts : List Part) → chain_in l room ts ≡ chain_by is_small (link_in l room) (chain_op l) ts
+pub chain_is : (l : Chain) (room : ℕ) (ts : List Symbol) → chain_in l room ts ≡ chain_by is_small (link_in l room) (chain_op l) ts
 chain_is Disjunction room ts = refl
 chain_is Conjunction room ts = refl
 chain_is Sum room ts = refl
 chain_is Product room ts = refl
 
 -- what has signs before it
-pub front_is : (f : Front) (room : ℕ) (ts : List Part) → front_in f room ts ≡ fronted_by is_small (fronted_in f room) (front_of f) ts
+pub front_is : (f : Front) (room : ℕ) (ts : List Symbol) → front_in f room ts ≡ fronted_by is_small (fronted_in f room) (front_of f) ts
 front_is Negation room ts = refl
 front_is Sign room ts = refl
 
 -- a chain begins with its first operand
-pub chain_begins : (l : Chain) (room : ℕ) (ts : List Part) (t : Source) (r : List Part) → link_in l room ts ≡ phrase t r → (n : ℕ) × (length r ≤ n) × (chain_in l room ts ≡ more is_small (link_in l room) (chain_op l) n t r)
-chain_begins l room ts t r e = (length r, omega arith, chain_is l room ts ∙ ap (λ (o : Result Phrase FaultCode). and_then o (λ t r. more is_small (link_in l room) (chain_op l) (length r) t r)) e)
+pub chain_begins : (l : Chain) (room : ℕ) (ts : List Symbol) (t : Source) (r : List Symbol) → link_in l room ts ≡ phrase t r → (n : ℕ) × (length r ≤ n) × (chain_in l room ts ≡ more is_small (link_in l room) (chain_op l) n t r)
+chain_begins l room ts t r e = (length r, omega arith, chain_is l room ts ∙ ap (λ (o : Result Taken FaultCode). and_then o (λ t r. more is_small (link_in l room) (chain_op l) (length r) t r)) e)
 
 -- ---- refusals
 
-pub told_same : (line : ℕ) (o p : Result Phrase FaultCode) (f : SourceFault) → ((c : FaultCode) → o ≡ Err c → p ≡ Err c) → NoMemoryOr (Told line o) f → NoMemoryOr (Told line p) f
+pub told_same : (line : ℕ) (o p : Result Taken FaultCode) (f : SourceFault) → ((c : FaultCode) → o ≡ Err c → p ≡ Err c) → NoMemoryOr (Told line o) f → NoMemoryOr (Told line p) f
 told_same line o p f pass (inl m) = inl m
 told_same line o p f pass (inr t) = inr (t.0, pass f.code t.1)
 
 -- the first operand of a chain is refused
-pub chain_fails : (l : Chain) (room : ℕ) (ts : List Part) (c : FaultCode) → link_in l room ts ≡ Err c → chain_in l room ts ≡ Err c
-chain_fails l room ts c e = chain_is l room ts ∙ ap (λ (o : Result Phrase FaultCode). and_then o (λ t r. more is_small (link_in l room) (chain_op l) (length r) t r)) e
+pub chain_fails : (l : Chain) (room : ℕ) (ts : List Symbol) (c : FaultCode) → link_in l room ts ≡ Err c → chain_in l room ts ≡ Err c
+chain_fails l room ts c e = chain_is l room ts ∙ ap (λ (o : Result Taken FaultCode). and_then o (λ t r. more is_small (link_in l room) (chain_op l) (length r) t r)) e
 
 -- a pair is refused
 abbrev pub RefusesBig : ℕ → Source → SourceFault → Type 0
 RefusesBig line s f = (f ≡ record { code = TooDeep; line = line }) × (is_small s ≡ false)
 
-pub told_big : (line : ℕ) (s : Source) (p : Result Phrase FaultCode) (f : SourceFault) → (is_small s ≡ false → p ≡ Err TooDeep) → NoMemoryOr (RefusesBig line s) f → NoMemoryOr (Told line p) f
+pub told_big : (line : ℕ) (s : Source) (p : Result Taken FaultCode) (f : SourceFault) → (is_small s ≡ false → p ≡ Err TooDeep) → NoMemoryOr (RefusesBig line s) f → NoMemoryOr (Told line p) f
 told_big line s p f pass (inl m) = inl m
 told_big line s p f pass (inr q) = inr (ap (λ (g : SourceFault). g.line) q.0, pass q.1 ∙ ap (λ (g : SourceFault). Err g.code) (sym q.0))
 
 -- ---- signs and what they stand before
 
-pub front_reads : (f : Front) (room : ℕ) (ts rest : List Part) (ops : _) (t u : Source) (r : List Part) → front_in f room ts ≡ with_fronts is_small ops (fronted_in f room rest) → fronted_in f room rest ≡ phrase t r → with_fronts is_small ops (phrase t r) ≡ phrase u r → front_in f room ts ≡ phrase u r
+pub front_reads : (f : Front) (room : ℕ) (ts rest : List Symbol) (ops : _) (t u : Source) (r : List Symbol) → front_in f room ts ≡ with_fronts is_small ops (fronted_in f room rest) → fronted_in f room rest ≡ phrase t r → with_fronts is_small ops (phrase t r) ≡ phrase u r → front_in f room ts ≡ phrase u r
 front_reads f room ts rest ops t u r e g h = e ∙ ap (with_fronts is_small ops) g ∙ h
 
-pub front_fails : (f : Front) (room : ℕ) (ts rest : List Part) (ops : _) (c : FaultCode) → front_in f room ts ≡ with_fronts is_small ops (fronted_in f room rest) → fronted_in f room rest ≡ Err c → front_in f room ts ≡ Err c
+pub front_fails : (f : Front) (room : ℕ) (ts rest : List Symbol) (ops : _) (c : FaultCode) → front_in f room ts ≡ with_fronts is_small ops (fronted_in f room rest) → fronted_in f room rest ≡ Err c → front_in f room ts ≡ Err c
 front_fails f room ts rest ops c e g = e ∙ ap (with_fronts is_small ops) g ∙ with_fronts-Err is_small ops c
 
 -- the exit where what stands under the signs is refused
-pub front_told : (f : Front) (room : ℕ) (ts rest : List Part) (ops : _) (line : ℕ) (g : SourceFault) → front_in f room ts ≡ with_fronts is_small ops (fronted_in f room rest) → NoMemoryOr (Told line (fronted_in f room rest)) g → NoMemoryOr (Told line (front_in f room ts)) g
+pub front_told : (f : Front) (room : ℕ) (ts rest : List Symbol) (ops : _) (line : ℕ) (g : SourceFault) → front_in f room ts ≡ with_fronts is_small ops (fronted_in f room rest) → NoMemoryOr (Told line (fronted_in f room rest)) g → NoMemoryOr (Told line (front_in f room ts)) g
 front_told f room ts rest ops line g e h = told_same line _ _ g (λ c. front_fails f room ts rest ops c e) h
 
 -- the exit where a sign makes the expression too deep
-pub front_big : (f : Front) (room : ℕ) (ts rest r : List Part) (ops : _) (t : Source) (line : ℕ) (g : SourceFault) → front_in f room ts ≡ with_fronts is_small ops (fronted_in f room rest) → fronted_in f room rest ≡ phrase t r
-    → NoMemoryOr (λ g. (g.line ≡ line) × ((r : List Part) → with_fronts is_small ops (phrase t r) ≡ Err g.code)) g → NoMemoryOr (Told line (front_in f room ts)) g
+pub front_big : (f : Front) (room : ℕ) (ts rest r : List Symbol) (ops : _) (t : Source) (line : ℕ) (g : SourceFault) → front_in f room ts ≡ with_fronts is_small ops (fronted_in f room rest) → fronted_in f room rest ≡ phrase t r
+    → NoMemoryOr (λ g. (g.line ≡ line) × ((r : List Symbol) → with_fronts is_small ops (phrase t r) ≡ Err g.code)) g → NoMemoryOr (Told line (front_in f room ts)) g
 front_big f room ts rest r ops t line g e h (inl m) = inl m
 front_big f room ts rest r ops t line g e h (inr p) = inr (p.0, e ∙ ap (with_fronts is_small ops) h ∙ p.1 r)
 
 -- ---- parentheses
 
-pub expression-zero : (small : Source → Bool) (ts : List Part) → expression small 0 ts ≡ Err TooDeep
+pub expression-zero : (small : Source → Bool) (ts : List Symbol) → expression small 0 ts ≡ Err TooDeep
 unfolding expression
 expression-zero small ts = refl
 
-pub expression-suc : (small : Source → Bool) (room : ℕ) (ts : List Part) → expression small (suc room) ts ≡ disjunction_by small (expression small room) ts
+pub expression-suc : (small : Source → Bool) (room : ℕ) (ts : List Symbol) → expression small (suc room) ts ≡ disjunction_by small (expression small room) ts
 unfolding expression
 expression-suc small room ts = refl
 
 -- within room
-pub expression_within : (room : ℕ) (ts : List Part) → 0 < room → expression is_small room ts ≡ chain_in Disjunction (room - 1) ts
+pub expression_within : (room : ℕ) (ts : List Symbol) → 0 < room → expression is_small room ts ≡ chain_in Disjunction (room - 1) ts
 expression_within zero ts h = absurd (omega arith)
 expression_within (suc room) ts h =
     let e : suc room - 1 ≡ room = omega arith in
     expression-suc is_small room ts ∙ ap (λ (n : ℕ). chain_in Disjunction n ts) (sym e)
 
 -- no room for parentheses
-pub group_full : (room : ℕ) (ts : List Part) → room ≡ 0 → group_in room ts ≡ Err TooDeep
-group_full room ts e = ap (λ (n : ℕ). group_in n ts) e ∙ ap (λ (o : Result Phrase FaultCode). and_then o closed) (expression-zero is_small ts)
+pub group_full : (room : ℕ) (ts : List Symbol) → room ≡ 0 → group_in room ts ≡ Err TooDeep
+group_full room ts e = ap (λ (n : ℕ). group_in n ts) e ∙ ap (λ (o : Result Taken FaultCode). and_then o closed) (expression-zero is_small ts)
 
 -- what stands in them fails
-pub group_fails : (room : ℕ) (ts : List Part) (c : FaultCode) → 0 < room → chain_in Disjunction (room - 1) ts ≡ Err c → group_in room ts ≡ Err c
-group_fails room ts c h f = ap (λ (o : Result Phrase FaultCode). and_then o closed) (expression_within room ts h ∙ f)
+pub group_fails : (room : ℕ) (ts : List Symbol) (c : FaultCode) → 0 < room → chain_in Disjunction (room - 1) ts ≡ Err c → group_in room ts ≡ Err c
+group_fails room ts c h f = ap (λ (o : Result Taken FaultCode). and_then o closed) (expression_within room ts h ∙ f)
 
 -- what stands in them is read
-group_reads : (room : ℕ) (ts : List Part) (t : Source) (r : List Part) → 0 < room → chain_in Disjunction (room - 1) ts ≡ phrase t r → group_in room ts ≡ closed t r
-group_reads room ts t r h f = ap (λ (o : Result Phrase FaultCode). and_then o closed) (expression_within room ts h ∙ f)
+group_reads : (room : ℕ) (ts : List Symbol) (t : Source) (r : List Symbol) → 0 < room → chain_in Disjunction (room - 1) ts ≡ phrase t r → group_in room ts ≡ closed t r
+group_reads room ts t r h f = ap (λ (o : Result Taken FaultCode). and_then o closed) (expression_within room ts h ∙ f)
 
-pub group_closed : (room : ℕ) (ts : List Part) (t : Source) (r after : List Part) → 0 < room → chain_in Disjunction (room - 1) ts ≡ phrase t r → r ≡ Closing ∷ after → group_in room ts ≡ phrase t after
+pub group_closed : (room : ℕ) (ts : List Symbol) (t : Source) (r after : List Symbol) → 0 < room → chain_in Disjunction (room - 1) ts ≡ phrase t r → r ≡ Closing ∷ after → group_in room ts ≡ phrase t after
 group_closed room ts t r after h f e = group_reads room ts t r h f ∙ ap (closed t) e
 
-not_closed : (t : Source) (r : List Part) → NotClosing r → closed t r ≡ Err BadSyntax
+not_closed : (t : Source) (r : List Symbol) → NotClosing r → closed t r ≡ Err BadSyntax
 not_closed t [] h = refl
 not_closed t (Closing ∷ r) h = absurd h
 not_closed t (_ ∷ r) h = refl
 
-pub group_open : (room : ℕ) (ts : List Part) (t : Source) (r : List Part) → 0 < room → chain_in Disjunction (room - 1) ts ≡ phrase t r → NotClosing r → group_in room ts ≡ Err BadSyntax
+pub group_open : (room : ℕ) (ts : List Symbol) (t : Source) (r : List Symbol) → 0 < room → chain_in Disjunction (room - 1) ts ≡ phrase t r → NotClosing r → group_in room ts ≡ Err BadSyntax
 group_open room ts t r h f e = group_reads room ts t r h f ∙ not_closed t r e

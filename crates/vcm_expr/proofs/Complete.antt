@@ -8,17 +8,17 @@ use Rattle.vcm_spec.specs.declared.expression.BinaryOp.TheVariants.{Add, Sub, Mu
 use Rattle.vcm_expr.specs.declared.expression.Prefix.{Prefix}
 use Rattle.vcm_expr.specs.declared.expression.Prefix.TheVariants.{Minus, Plus, Not}
 use Rattle.vcm_expr.specs.declared.expression.Term.{Term}
-use Rattle.vcm_expr.specs.declared.part.Part.{Part}
-use Rattle.vcm_expr.specs.declared.part.Part.TheVariants.{Operand, Dash, Cross, Star, Slash, AndWord, OrWord, RelationWord, Opening}
+use Rattle.vcm_expr.specs.declared.symbol.Symbol.{Symbol}
+use Rattle.vcm_expr.specs.declared.symbol.Symbol.TheVariants.{Operand, Dash, Cross, Star, Slash, AndWord, OrWord, RelationWord, Opening}
 use Rattle.vcm_expr.specs.Source.{Source, Prefixed, Pair}
 use Rattle.vcm_expr.specs.Grammar.{Written, Leaf, Paren, Signed, Joined, word_of, sign_word, level, sign_level, left_level, spelled, Fits, meant, nesting}
-use Rattle.vcm_expr.specs.Reading.{Parser, and_then, phrase, made, made_if, fronted_by, more, chain_by}
-use Rattle.vcm_expr.specs.Levels.{NoNext}
+use Rattle.vcm_expr.specs.inner.Parser.{Parser, and_then, phrase, made, made_if, fronted_by, more, chain_by}
+use Rattle.vcm_expr.specs.inner.Levels.{NoNext}
 use Rattle.vcm_expr.proofs.Fronts.{fronted-next, fronted-none}
 use Rattle.vcm_expr.proofs.Chains.{more_on, more_big, more_fails, more_stops}
 
 -- how tight a part binds as an operator between two
-abbrev pub part_level : Part → ℕ
+abbrev pub part_level : Symbol → ℕ
 part_level OrWord = 1
 part_level AndWord = 2
 part_level (RelationWord r) = 4
@@ -29,22 +29,22 @@ part_level Slash = 6
 part_level _ = 0
 
 -- what follows can't go on with an expression of this level
-abbrev pub Stops : ℕ → List Part → Type 0
+abbrev pub Stops : ℕ → List Symbol → Type 0
 Stops m [] = Unit {0}
 Stops m (k ∷ r) = part_level k < m
 
 -- these are the operators of a level at which operands are chained
-pub record Ops (l : ℕ) (op_of : Part → Option BinaryOp) : Type 0 where
+pub record Ops (l : ℕ) (op_of : Symbol → Option BinaryOp) : Type 0 where
   pub found : (op : BinaryOp) → level op ≡ l → op_of (word_of op) ≡ Some op
-  pub says : (k : Part) (op : BinaryOp) → op_of k ≡ Some op → (k ≡ word_of op) × (level op ≡ l)
-  pub others : (k : Part) → part_level k < l → op_of k ≡ None
+  pub says : (k : Symbol) (op : BinaryOp) → op_of k ≡ Some op → (k ≡ word_of op) × (level op ≡ l)
+  pub others : (k : Symbol) → part_level k < l → op_of k ≡ None
   pub left : (op : BinaryOp) → level op ≡ l → left_level op ≡ l
   pub signs : (op : Prefix) → l ≤ sign_level op → l + 1 ≤ sign_level op
 
 -- these are the words of a level that stand before an operand
-pub record Fronts (l : ℕ) (find : Part → Option Prefix) : Type 0 where
+pub record Fronts (l : ℕ) (find : Symbol → Option Prefix) : Type 0 where
   pub found : (op : Prefix) → sign_level op ≡ l → find (sign_word op) ≡ Some op
-  pub says : (k : Part) (op : Prefix) → find k ≡ Some op → (k ≡ sign_word op) × (sign_level op ≡ l)
+  pub says : (k : Symbol) (op : Prefix) → find k ≡ Some op → (k ≡ sign_word op) × (sign_level op ≡ l)
   pub tighter : (op : Prefix) → l + 1 ≤ sign_level op → find (sign_word op) ≡ None
   pub leaf : (o : Result Term FaultCode) → find (Operand o) ≡ None
   pub opening : find Opening ≡ None
@@ -100,10 +100,10 @@ part_level-is Or = refl
 part_level-is (Compare r) = refl
 
 -- an operator stops what is tighter
-word_stops : (op : BinaryOp) (m : ℕ) (r : List Part) → level op < m → Stops m (word_of op ∷ r)
+word_stops : (op : BinaryOp) (m : ℕ) (r : List Symbol) → level op < m → Stops m (word_of op ∷ r)
 word_stops op m r h = omega (arith, h, part_level-is op)
 
-pub Stops-weaker : (l m : ℕ) (r : List Part) → l ≤ m → Stops l r → Stops m r
+pub Stops-weaker : (l m : ℕ) (r : List Symbol) → l ≤ m → Stops l r → Stops m r
 Stops-weaker l m [] h s = tt
 Stops-weaker l m (k ∷ r) h s = omega arith
 
@@ -112,17 +112,17 @@ pub either : (b : Bool) → (b ≡ true) ⊎ (b ≡ false)
 either true = inl refl
 either false = inr refl
 
-stops_none : (l : ℕ) (op_of : Part → Option BinaryOp) → ((k : Part) → part_level k < l → op_of k ≡ None) → (r : List Part) → Stops l r → NoNext op_of r
+stops_none : (l : ℕ) (op_of : Symbol → Option BinaryOp) → ((k : Symbol) → part_level k < l → op_of k ≡ None) → (r : List Symbol) → Stops l r → NoNext op_of r
 stops_none l op_of o [] s = tt
 stops_none l op_of o (k ∷ r) s = o k s
 
 -- no word of a level stands before an expression of a tighter one
-none_first : (l : ℕ) (find : Part → Option Prefix) → Fronts l find → (m : ℕ) (s : Written) (r : List Part) → l + 1 ≤ m → Fits m s → NoNext find (spelled s ++ r)
+none_first : (l : ℕ) (find : Symbol → Option Prefix) → Fronts l find → (m : ℕ) (s : Written) (r : List Symbol) → l + 1 ≤ m → Fits m s → NoNext find (spelled s ++ r)
 none_first l find fs m (Leaf o) r h f = fs.leaf o
 none_first l find fs m (Paren s) r h f = fs.opening
 none_first l find fs m (Signed op s) r h f = fs.tighter op (omega (arith, f.0))
 none_first l find fs m (Joined op a b) r h f =
-    subst (λ (ts : List Part). NoNext find ts) (sym (append_assoc (spelled a) (word_of op ∷ spelled b) r)) (none_first l find fs (left_level op) a (word_of op ∷ (spelled b ++ r)) (omega (arith, f.0, left-le op)) f.1)
+    subst (λ (ts : List Symbol). NoNext find ts) (sym (append_assoc (spelled a) (word_of op ∷ spelled b) r)) (none_first l find fs (left_level op) a (word_of op ∷ (spelled b ++ r)) (omega (arith, f.0, left-le op)) f.1)
 
 module _ (small : Source → Bool) where
   -- some part of the expression is too big
@@ -137,12 +137,12 @@ module _ (small : Source → Bool) where
   Blames room c s = ((c ≡ TooDeep) × ((room < nesting s) ⊎ TooBig s)) ⊎ HasBad c s
 
   -- the expression is read, or refused for a reason
-  abbrev pub Ends : Parser → ℕ → Written → List Part → Type 0
+  abbrev pub Ends : Parser → ℕ → Written → List Symbol → Type 0
   Ends P room s r = (P (spelled s ++ r) ≡ phrase (meant s) r) ⊎ ((c : FaultCode) × (P (spelled s ++ r) ≡ Err c) × Blames room c s)
 
   -- each expression of a level is
   pub record Complete (m room : ℕ) (P : Parser) : Type 0 where
-    pub by : (s : Written) (r : List Part) → Fits m s → Stops m r → (P (spelled s ++ r) ≡ phrase (meant s) r) ⊎ ((c : FaultCode) × (P (spelled s ++ r) ≡ Err c) × Blames room c s)
+    pub by : (s : Written) (r : List Symbol) → Fits m s → Stops m r → (P (spelled s ++ r) ≡ phrase (meant s) r) ⊎ ((c : FaultCode) × (P (spelled s ++ r) ≡ Err c) × Blames room c s)
 
   pub blames_left : (room : ℕ) (c : FaultCode) (op : BinaryOp) (a b : Written) → Blames room c a → Blames room c (Joined op a b)
   blames_left room c op a b (inl (e, inl n)) = inl (e, inl (omega arith))
@@ -159,21 +159,21 @@ module _ (small : Source → Bool) where
   blames_signed room c op s (inl (e, inr g)) = inl (e, inr (inr g))
   blames_signed room c op s (inr h) = inr h
 
-  module _ (l room : ℕ) (P : Parser) (op_of : Part → Option BinaryOp) (ops : Ops l op_of) (operands : Complete (l + 1) room P) where
+  module _ (l room : ℕ) (P : Parser) (op_of : Symbol → Option BinaryOp) (ops : Ops l op_of) (operands : Complete (l + 1) room P) where
     -- the chain has come past s, and goes on
-    abbrev Past : Written → List Part → Type 0
+    abbrev Past : Written → List Symbol → Type 0
     Past s r =
         ((n : ℕ) × (length r ≤ n) × (chain_by small P op_of (spelled s ++ r) ≡ more small P op_of n (meant s) r))
         ⊎ ((c : FaultCode) × (chain_by small P op_of (spelled s ++ r) ≡ Err c) × Blames room c s)
 
-    one : (s : Written) (r : List Part) → Fits (l + 1) s → Stops (l + 1) r → Past s r
+    one : (s : Written) (r : List Symbol) → Fits (l + 1) s → Stops (l + 1) r → Past s r
     one s r f st =
         ⊎_elim
         (λ e. inl (length r, omega arith, ap (λ o. and_then o (λ t r. more small P op_of (length r) t r)) e))
         (λ e. inr (e.0, ap (λ o. and_then o (λ t r. more small P op_of (length r) t r)) e.1, e.2))
         (operands.by s r f st)
 
-    past : (s : Written) (r : List Part) → Fits l s → Stops (l + 1) r → Past s r
+    past : (s : Written) (r : List Symbol) → Fits l s → Stops (l + 1) r → Past s r
     past (Leaf o) r f st = one (Leaf o) r f st
     past (Paren s) r f st = one (Paren s) r f st
     past (Signed op s) r f st = one (Signed op s) r (ops.signs op f.0, f.1) st
@@ -187,7 +187,7 @@ module _ (small : Source → Bool) where
         let x = word_of op ∷ (spelled b ++ r) in
         let st_a : Stops (l + 1) x = word_stops op (l + 1) (spelled b ++ r) (omega arith) in
         let flat : spelled (Joined op a b) ++ r ≡ spelled a ++ x = append_assoc (spelled a) (word_of op ∷ spelled b) r in
-        let at = λ (ts : List Part). chain_by small P op_of ts in
+        let at = λ (ts : List Symbol). chain_by small P op_of ts in
         ⊎_elim
         (λ pa.
         ⊎_elim
@@ -211,9 +211,9 @@ module _ (small : Source → Bool) where
           (past s r f (Stops-weaker l (l + 1) r (omega arith) st));
     }
 
-  module _ (l room : ℕ) (P : Parser) (find : Part → Option Prefix) (fs : Fronts l find) (operands : Complete (l + 1) room P) where
+  module _ (l room : ℕ) (P : Parser) (find : Symbol → Option Prefix) (fs : Fronts l find) (operands : Complete (l + 1) room P) where
     -- no word of the level stands first
-    bare : (s : Written) (r : List Part) → Fits (l + 1) s → Stops l r → Ends (fronted_by small P find) room s r
+    bare : (s : Written) (r : List Symbol) → Fits (l + 1) s → Stops l r → Ends (fronted_by small P find) room s r
     bare s r f st =
         let pass = fronted-none small P find (spelled s ++ r) (none_first l find fs (l + 1) s r (omega arith) f) in
         ⊎_elim
@@ -221,7 +221,7 @@ module _ (small : Source → Bool) where
         (λ e. inr (e.0, pass ∙ e.1, e.2))
         (operands.by s r f (Stops-weaker l (l + 1) r (omega arith) st))
 
-    fronted : (s : Written) (r : List Part) → Fits l s → Stops l r → Ends (fronted_by small P find) room s r
+    fronted : (s : Written) (r : List Symbol) → Fits l s → Stops l r → Ends (fronted_by small P find) room s r
     fronted (Leaf o) r f st = bare (Leaf o) r f st
     fronted (Paren s) r f st = bare (Paren s) r f st
     fronted (Joined op a b) r f st = bare (Joined op a b) r (fs.joins op f.0, f.1, f.2) st

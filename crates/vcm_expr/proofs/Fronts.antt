@@ -5,69 +5,69 @@ use Rattle.vcm_lines.specs.declared.fault.FaultCode.{FaultCode}
 use Rattle.vcm_lines.specs.declared.fault.FaultCode.TheVariants.{TooDeep}
 use Rattle.vcm_lines.specs.declared.fault.SourceFault.{SourceFault}
 use Rattle.vcm_expr.specs.declared.expression.Prefix.{Prefix}
-use Rattle.vcm_expr.specs.declared.part.Part.{Part}
+use Rattle.vcm_expr.specs.declared.symbol.Symbol.{Symbol}
 use Rattle.vcm_expr.specs.Source.{Source, Prefixed, is_small}
-use Rattle.vcm_expr.specs.Reading.{Phrase, Parser, and_then, phrase, made, made_if, found_if, fronted_by, with_fronts}
-use Rattle.vcm_expr.specs.Levels.{NextOf, NoNext}
+use Rattle.vcm_expr.specs.inner.Parser.{Taken, Parser, and_then, phrase, made, made_if, found_if, fronted_by, with_fronts}
+use Rattle.vcm_expr.specs.inner.Levels.{NextOf, NoNext}
 
 module _ (small : Source → Bool) where
   -- one more sign before an expression
-  abbrev pub put : Prefix → Source → List Part → Result Phrase FaultCode
+  abbrev pub put : Prefix → Source → List Symbol → Result Taken FaultCode
   put op t s = made small (Prefixed op t) s
 
-  pub with_fronts-push : (ops : List Prefix) (op : Prefix) (o : Result Phrase FaultCode) → with_fronts small (ops ++ op ∷ []) o ≡ with_fronts small ops (and_then o (put op))
+  pub with_fronts-push : (ops : List Prefix) (op : Prefix) (o : Result Taken FaultCode) → with_fronts small (ops ++ op ∷ []) o ≡ with_fronts small ops (and_then o (put op))
   with_fronts-push [] op o = refl
-  with_fronts-push (p ∷ ops) op o = ap (λ (q : Result Phrase FaultCode). and_then q (put p)) (with_fronts-push ops op o)
+  with_fronts-push (p ∷ ops) op o = ap (λ (q : Result Taken FaultCode). and_then q (put p)) (with_fronts-push ops op o)
 
   -- a fault passes
   pub with_fronts-Err : (ops : List Prefix) (c : FaultCode) → with_fronts small ops (Err c) ≡ Err c
   with_fronts-Err [] c = refl
-  with_fronts-Err (p ∷ ops) c = ap (λ (q : Result Phrase FaultCode). and_then q (put p)) (with_fronts-Err ops c)
+  with_fronts-Err (p ∷ ops) c = ap (λ (q : Result Taken FaultCode). and_then q (put p)) (with_fronts-Err ops c)
 
   -- a sign stands first
-  pub fronted-next : (operand : Parser) (find : Part → Option Prefix) (ts : List Part) (op : Prefix) (after : List Part) → NextOf find ts op after → fronted_by small operand find ts ≡ and_then (fronted_by small operand find after) (put op)
+  pub fronted-next : (operand : Parser) (find : Symbol → Option Prefix) (ts : List Symbol) (op : Prefix) (after : List Symbol) → NextOf find ts op after → fronted_by small operand find ts ≡ and_then (fronted_by small operand find after) (put op)
   fronted-next operand find [] op after h = absurd h
   fronted-next operand find (k ∷ r) op after h =
-      ap (λ (o : Option Prefix). found_if o (λ op. and_then (fronted_by small operand find r) (put op)) (operand (k ∷ r))) h.0 ∙ ap (λ (l : List Part). and_then (fronted_by small operand find l) (put op)) h.1
+      ap (λ (o : Option Prefix). found_if o (λ op. and_then (fronted_by small operand find r) (put op)) (operand (k ∷ r))) h.0 ∙ ap (λ (l : List Symbol). and_then (fronted_by small operand find l) (put op)) h.1
 
   -- none stands first
-  pub fronted-none : (operand : Parser) (find : Part → Option Prefix) (ts : List Part) → NoNext find ts → fronted_by small operand find ts ≡ operand ts
+  pub fronted-none : (operand : Parser) (find : Symbol → Option Prefix) (ts : List Symbol) → NoNext find ts → fronted_by small operand find ts ≡ operand ts
   fronted-none operand find [] h = refl
   fronted-none operand find (k ∷ r) h = ap (λ (o : Option Prefix). found_if o (λ op. and_then (fronted_by small operand find r) (put op)) (operand (k ∷ r))) h
 
   -- one more sign is taken
-  pub take_step : (operand : Parser) (find : Part → Option Prefix) (words rest : List Part) (ops : List Prefix) (op : Prefix) (after : List Part) → NextOf find rest op after
+  pub take_step : (operand : Parser) (find : Symbol → Option Prefix) (words rest : List Symbol) (ops : List Prefix) (op : Prefix) (after : List Symbol) → NextOf find rest op after
       → fronted_by small operand find words ≡ with_fronts small ops (fronted_by small operand find rest) → fronted_by small operand find words ≡ with_fronts small (ops ++ op ∷ []) (fronted_by small operand find after)
   take_step operand find words rest ops op after h e =
       e ∙ ap (with_fronts small ops) (fronted-next operand find rest op after h) ∙ sym (with_fronts-push ops op (fronted_by small operand find after))
 
   -- all signs are taken
-  pub take_done : (operand : Parser) (find : Part → Option Prefix) (words rest : List Part) (ops : List Prefix) → NoNext find rest
+  pub take_done : (operand : Parser) (find : Symbol → Option Prefix) (words rest : List Symbol) (ops : List Prefix) → NoNext find rest
       → fronted_by small operand find words ≡ with_fronts small ops (fronted_by small operand find rest) → fronted_by small operand find words ≡ with_fronts small ops (operand rest)
   take_done operand find words rest ops h e = e ∙ ap (with_fronts small ops) (fronted-none operand find rest h)
 
   -- the last sign is put before an expression
-  pub put_step : (o : Result Phrase FaultCode) (all ops : List Prefix) (op : Prefix) (t u : Source) (r : List Part) → all ≡ ops ++ op ∷ [] → u ≡ Prefixed op t → small (Prefixed op t) ≡ true
+  pub put_step : (o : Result Taken FaultCode) (all ops : List Prefix) (op : Prefix) (t u : Source) (r : List Symbol) → all ≡ ops ++ op ∷ [] → u ≡ Prefixed op t → small (Prefixed op t) ≡ true
       → o ≡ with_fronts small all (phrase t r) → o ≡ with_fronts small ops (phrase u r)
   put_step o all ops op t u r cut is w e =
       e ∙ ap (λ (l : List Prefix). with_fronts small l (phrase t r)) cut ∙ with_fronts-push ops op (phrase t r)
       ∙ ap (λ (b : Bool). with_fronts small ops (made_if b (Prefixed op t) r)) w ∙ ap (λ (v : Source). with_fronts small ops (phrase v r)) (sym is)
 
   -- it makes the expression too deep
-  pub put_deep : (o : Result Phrase FaultCode) (all ops : List Prefix) (op : Prefix) (t : Source) (r : List Part) → all ≡ ops ++ op ∷ [] → small (Prefixed op t) ≡ false
+  pub put_deep : (o : Result Taken FaultCode) (all ops : List Prefix) (op : Prefix) (t : Source) (r : List Symbol) → all ≡ ops ++ op ∷ [] → small (Prefixed op t) ≡ false
       → o ≡ with_fronts small all (phrase t r) → o ≡ Err TooDeep
   put_deep o all ops op t r cut big e =
       e ∙ ap (λ (l : List Prefix). with_fronts small l (phrase t r)) cut ∙ with_fronts-push ops op (phrase t r)
       ∙ ap (λ (b : Bool). with_fronts small ops (made_if b (Prefixed op t) r)) big ∙ with_fronts-Err ops TooDeep
 
 -- the exit where a sign makes the expression too deep
-pub put_fault : (line : _) (whole all ops : List Prefix) (op : Prefix) (s t : Source) (f : SourceFault) → all ≡ ops ++ op ∷ [] → ((r : List Part) → with_fronts is_small whole (phrase s r) ≡ with_fronts is_small all (phrase t r))
-    → NoMemoryOr (λ f. (f ≡ record { code = TooDeep; line = line }) × (is_small (Prefixed op t) ≡ false)) f → NoMemoryOr (λ f. (f.line ≡ line) × ((r : List Part) → with_fronts is_small whole (phrase s r) ≡ Err f.code)) f
+pub put_fault : (line : _) (whole all ops : List Prefix) (op : Prefix) (s t : Source) (f : SourceFault) → all ≡ ops ++ op ∷ [] → ((r : List Symbol) → with_fronts is_small whole (phrase s r) ≡ with_fronts is_small all (phrase t r))
+    → NoMemoryOr (λ f. (f ≡ record { code = TooDeep; line = line }) × (is_small (Prefixed op t) ≡ false)) f → NoMemoryOr (λ f. (f.line ≡ line) × ((r : List Symbol) → with_fronts is_small whole (phrase s r) ≡ Err f.code)) f
 put_fault line whole all ops op s t f cut e (inl m) = inl m
 put_fault line whole all ops op s t f cut e (inr p) =
     inr (ap (λ (g : SourceFault). g.line) p.0, λ r. put_deep is_small _ all ops op t r cut p.1 (e r) ∙ ap (λ (g : SourceFault). Err g.code) (sym p.0))
 
 -- what follows a word that is found is shorter
-pub next_shorter : {X : Type 0} (find : Part → Option X) (ts : List Part) (x : X) (after : List Part) → NextOf find ts x after → length after < length ts
+pub next_shorter : {X : Type 0} (find : Symbol → Option X) (ts : List Symbol) (x : X) (after : List Symbol) → NextOf find ts x after → length after < length ts
 next_shorter find [] x after h = absurd h
 next_shorter find (k ∷ r) x after h = let size = ap length h.1 in omega arith

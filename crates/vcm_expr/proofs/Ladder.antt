@@ -6,12 +6,12 @@ use Rattle.vcm_spec.specs.declared.expression.BinaryOp.{BinaryOp}
 use Rattle.vcm_spec.specs.declared.expression.BinaryOp.TheVariants.{Add, Sub, Mul, Div, And, Or, Compare}
 use Rattle.vcm_expr.specs.declared.expression.Prefix.{Prefix}
 use Rattle.vcm_expr.specs.declared.expression.Prefix.TheVariants.{Minus, Plus, Not}
-use Rattle.vcm_expr.specs.declared.part.Part.{Part}
-use Rattle.vcm_expr.specs.declared.part.Part.TheVariants.{Dash, Cross, Star, Slash, NotWord, AndWord, OrWord, RelationWord, Closing}
+use Rattle.vcm_expr.specs.declared.symbol.Symbol.{Symbol}
+use Rattle.vcm_expr.specs.declared.symbol.Symbol.TheVariants.{Dash, Cross, Star, Slash, NotWord, AndWord, OrWord, RelationWord, Closing}
 use Rattle.vcm_expr.specs.Source.{Source, Pair}
 use Rattle.vcm_expr.specs.Grammar.{Written, Leaf, Paren, Signed, Joined, word_of, sign_word, level, sign_level, left_level, spelled, Fits, meant}
-use Rattle.vcm_expr.specs.Reading.{Parser, and_then, phrase, made, made_if, closed, primary_by, sign_of, negation_of, product_op, sum_op, relation_op, and_op, or_op, once, once_by, signed_by, product_by, sum_by, relation_by, negation_by, conjunction_by, disjunction_by, expression}
-use Rattle.vcm_expr.specs.Levels.{NoNext}
+use Rattle.vcm_expr.specs.inner.Parser.{Parser, and_then, phrase, made, made_if, closed, primary_by, sign_of, negation_of, product_op, sum_op, relation_op, and_op, or_op, once, once_by, signed_by, product_by, sum_by, relation_by, negation_by, conjunction_by, disjunction_by, expression}
+use Rattle.vcm_expr.specs.inner.Levels.{NoNext}
 use Rattle.vcm_expr.proofs.Chains.{once_stops, once_goes, expression-zero, expression-suc}
 use Rattle.vcm_expr.proofs.Complete.{part_level, Stops, Ops, Fronts, level-le, sign-le, Stops-weaker, either, Blames, Ends, Complete, blames_left, blames_right, chain_complete, fronted_complete}
 
@@ -22,12 +22,12 @@ product_found Mul h = refl
 product_found Div h = refl
 product_found _ h = absurd (omega arith)
 
-product_says : (k : Part) (op : BinaryOp) → product_op k ≡ Some op → (k ≡ word_of op) × (level op ≡ 6)
+product_says : (k : Symbol) (op : BinaryOp) → product_op k ≡ Some op → (k ≡ word_of op) × (level op ≡ 6)
 product_says Star op e = let same : Mul ≡ op = cc in (ap word_of same, sym (ap level same))
 product_says Slash op e = let same : Div ≡ op = cc in (ap word_of same, sym (ap level same))
 product_says _ op e = cc
 
-product_others : (k : Part) → part_level k < 6 → product_op k ≡ None
+product_others : (k : Symbol) → part_level k < 6 → product_op k ≡ None
 product_others Star h = absurd (omega arith)
 product_others Slash h = absurd (omega arith)
 product_others _ h = refl
@@ -42,12 +42,12 @@ sum_found Add h = refl
 sum_found Sub h = refl
 sum_found _ h = absurd (omega arith)
 
-sum_says : (k : Part) (op : BinaryOp) → sum_op k ≡ Some op → (k ≡ word_of op) × (level op ≡ 5)
+sum_says : (k : Symbol) (op : BinaryOp) → sum_op k ≡ Some op → (k ≡ word_of op) × (level op ≡ 5)
 sum_says Cross op e = let same : Add ≡ op = cc in (ap word_of same, sym (ap level same))
 sum_says Dash op e = let same : Sub ≡ op = cc in (ap word_of same, sym (ap level same))
 sum_says _ op e = cc
 
-sum_others : (k : Part) → part_level k < 5 → sum_op k ≡ None
+sum_others : (k : Symbol) → part_level k < 5 → sum_op k ≡ None
 sum_others Cross h = absurd (omega arith)
 sum_others Dash h = absurd (omega arith)
 sum_others _ h = refl
@@ -61,11 +61,11 @@ and_found : (op : BinaryOp) → level op ≡ 2 → and_op (word_of op) ≡ Some 
 and_found And h = refl
 and_found _ h = absurd (omega arith)
 
-and_says : (k : Part) (op : BinaryOp) → and_op k ≡ Some op → (k ≡ word_of op) × (level op ≡ 2)
+and_says : (k : Symbol) (op : BinaryOp) → and_op k ≡ Some op → (k ≡ word_of op) × (level op ≡ 2)
 and_says AndWord op e = let same : And ≡ op = cc in (ap word_of same, sym (ap level same))
 and_says _ op e = cc
 
-and_others : (k : Part) → part_level k < 2 → and_op k ≡ None
+and_others : (k : Symbol) → part_level k < 2 → and_op k ≡ None
 and_others AndWord h = absurd (omega arith)
 and_others _ h = refl
 
@@ -77,11 +77,11 @@ or_found : (op : BinaryOp) → level op ≡ 1 → or_op (word_of op) ≡ Some op
 or_found Or h = refl
 or_found _ h = absurd (omega arith)
 
-or_says : (k : Part) (op : BinaryOp) → or_op k ≡ Some op → (k ≡ word_of op) × (level op ≡ 1)
+or_says : (k : Symbol) (op : BinaryOp) → or_op k ≡ Some op → (k ≡ word_of op) × (level op ≡ 1)
 or_says OrWord op e = let same : Or ≡ op = cc in (ap word_of same, sym (ap level same))
 or_says _ op e = cc
 
-or_others : (k : Part) → part_level k < 1 → or_op k ≡ None
+or_others : (k : Symbol) → part_level k < 1 → or_op k ≡ None
 or_others OrWord h = absurd (omega arith)
 or_others _ h = refl
 
@@ -117,7 +117,7 @@ sign_found Minus h = refl
 sign_found Plus h = refl
 sign_found Not h = absurd (omega arith)
 
-sign_says : (k : Part) (op : Prefix) → sign_of k ≡ Some op → (k ≡ sign_word op) × (sign_level op ≡ 7)
+sign_says : (k : Symbol) (op : Prefix) → sign_of k ≡ Some op → (k ≡ sign_word op) × (sign_level op ≡ 7)
 sign_says Dash op e = let same : Minus ≡ op = cc in (ap sign_word same, sym (ap sign_level same))
 sign_says Cross op e = let same : Plus ≡ op = cc in (ap sign_word same, sym (ap sign_level same))
 sign_says _ op e = cc
@@ -127,7 +127,7 @@ negation_found Minus h = absurd (omega arith)
 negation_found Plus h = absurd (omega arith)
 negation_found Not h = refl
 
-negation_says : (k : Part) (op : Prefix) → negation_of k ≡ Some op → (k ≡ sign_word op) × (sign_level op ≡ 3)
+negation_says : (k : Symbol) (op : Prefix) → negation_of k ≡ Some op → (k ≡ sign_word op) × (sign_level op ≡ 3)
 negation_says NotWord op e = let same : Not ≡ op = cc in (ap sign_word same, sym (ap sign_level same))
 negation_says _ op e = cc
 
@@ -164,15 +164,15 @@ negation_fronts = record {
   joins = negation_joins;
 }
 
-relation_others : (k : Part) → part_level k < 4 → relation_op k ≡ None
+relation_others : (k : Symbol) → part_level k < 4 → relation_op k ≡ None
 relation_others (RelationWord r) h = absurd (omega arith)
 relation_others _ h = refl
 
-relation_stops : (r : List Part) → Stops 4 r → NoNext relation_op r
+relation_stops : (r : List Symbol) → Stops 4 r → NoNext relation_op r
 relation_stops [] s = tt
 relation_stops (k ∷ r) s = relation_others k s
 
-pub relation_says : (k : Part) (op : BinaryOp) → relation_op k ≡ Some op → (k ≡ word_of op) × (level op ≡ 4) × (left_level op ≡ 5)
+pub relation_says : (k : Symbol) (op : BinaryOp) → relation_op k ≡ Some op → (k ≡ word_of op) × (level op ≡ 4) × (left_level op ≡ 5)
 relation_says (RelationWord q) op e = let same : Compare q ≡ op = cc in (ap word_of same, sym (ap level same), sym (ap left_level same))
 relation_says _ op e = cc
 
@@ -186,14 +186,14 @@ relation_signs Not h = absurd (omega arith)
 module _ (small : Source → Bool) where
   module _ (room : ℕ) (P : Parser) (operands : Complete small 5 room P) where
     -- no relation follows
-    lone : (s : Written) (r : List Part) → Fits 5 s → Stops 4 r → Ends small (once_by small P relation_op) room s r
+    lone : (s : Written) (r : List Symbol) → Fits 5 s → Stops 4 r → Ends small (once_by small P relation_op) room s r
     lone s r f st =
         ⊎_elim
         (λ e. inl (once_stops small P relation_op (spelled s ++ r) (meant s) r e (relation_stops r st)))
         (λ e. inr (e.0, ap (λ o. and_then o (once small P relation_op)) e.1, e.2))
         (operands.by s r f (Stops-weaker 4 5 r (omega arith) st))
 
-    related : (s : Written) (r : List Part) → Fits 4 s → Stops 4 r → Ends small (once_by small P relation_op) room s r
+    related : (s : Written) (r : List Symbol) → Fits 4 s → Stops 4 r → Ends small (once_by small P relation_op) room s r
     related (Leaf o) r f st = lone (Leaf o) r f st
     related (Paren s) r f st = lone (Paren s) r f st
     related (Signed op s) r f st = lone (Signed op s) r (relation_signs op f.0, f.1) st
@@ -201,7 +201,7 @@ module _ (small : Source → Bool) where
         let op = Compare q in
         let x = word_of op ∷ (spelled b ++ r) in
         let flat : spelled (Joined op a b) ++ r ≡ spelled a ++ x = append_assoc (spelled a) (word_of op ∷ spelled b) r in
-        let at = λ (ts : List Part). once_by small P relation_op ts in
+        let at = λ (ts : List Symbol). once_by small P relation_op ts in
         ⊎_elim
         (λ e.
         let goes = ap at flat ∙ once_goes small P relation_op (spelled a ++ x) (meant a) x op (spelled b ++ r) e (refl, refl) in
@@ -229,16 +229,16 @@ module _ (small : Source → Bool) where
   -- what stands in parentheses is read up to its end, or there is a reason
   abbrev Inner : ℕ → Type 0
   Inner room =
-      (s : Written) (r : List Part) → Fits 1 s
+      (s : Written) (r : List Symbol) → Fits 1 s
       → (expression small room (spelled s ++ Closing ∷ r) ≡ phrase (meant s) (Closing ∷ r))
       ⊎ ((c : FaultCode) × (expression small room (spelled s ++ Closing ∷ r) ≡ Err c) × Blames small room c (Paren s))
 
-  primary : (room : ℕ) → Inner room → (s : Written) (r : List Part) → Fits 8 s → Ends small (primary_by (expression small room)) room s r
+  primary : (room : ℕ) → Inner room → (s : Written) (r : List Symbol) → Fits 8 s → Ends small (primary_by (expression small room)) room s r
   primary room inner (Leaf (Ok t)) r f = inl refl
   primary room inner (Leaf (Err d)) r f = inr (d, refl, inr refl)
   primary room inner (Paren s) r f =
       let flat : (spelled s ++ Closing ∷ []) ++ r ≡ spelled s ++ Closing ∷ r = append_assoc (spelled s) (Closing ∷ []) r in
-      let at = ap (λ (ts : List Part). and_then (expression small room ts) closed) flat in
+      let at = ap (λ (ts : List Symbol). and_then (expression small room ts) closed) flat in
       ⊎_elim
       (λ e. inl (at ∙ ap (λ o. and_then o closed) e))
       (λ e. inr (e.0, at ∙ ap (λ o. and_then o closed) e.1, e.2))

@@ -8,7 +8,7 @@ use Rattle.std.proofs.lemmas.Bool.{and_parts}
 use Rattle.std.proofs.lemmas.List.{length-append}
 use Rattle.vcm_expr.specs.NameBytes.{is_name, IsName}
 use Rattle.vcm_expr.specs.Names.{Variable, AreNamed}
-use Rattle.vcm_expr.specs.Parts.{IsVariableName}
+use Rattle.vcm_expr.specs.Symbols.{IsVariableName}
 
 step_place : (b : Bool) (m n : ℕ) → m ≡ n → cond (not b) (1 + m) 0 ≡ cond (not b) (1 + n) 0
 step_place b m n e = ap (λ (k : ℕ). cond (not b) (1 + k) 0) e

@@ -6,7 +6,8 @@ use Rattle.std.proofs.lemmas.Bool.{eqb-true, eqb-false, ltb-true, ltb-false}
 use Rattle.vcm_num.specs.declared.number.Literal.{Literal}
 use Rattle.vcm_num.specs.declared.read.NumFault.{NumFault}
 use Rattle.vcm_num.specs.declared.read.NumFault.TheVariants.{BadNumber, TooFine, TooLarge}
-use Rattle.vcm_num.specs.Literals.{AllDigits, NoDigitFirst, Parts, point_part, digits_after, Spells, Reads, is_fine, magnitude_of, literal_of, has_minus, after_sign}
+use Rattle.vcm_num.specs.Literals.{AllDigits, Parts, point_part, digits_after, SpellsNumber, Reads, is_fine, magnitude_of, literal_of, has_minus, after_sign}
+use Rattle.vcm_num.specs.inner.Digits.{NoDigitFirst}
 use Rattle.vcm_num.proofs.Reading.{cut_once, spells_whole, spells_decimals, no_digits, no_point, bare_point, bad_decimals}
 use Rattle.vcm_expr.specs.Digits.{front_digits, past_digits, sized, read_after, read_of}
 
@@ -23,15 +24,15 @@ decimals_once (Some ds) None e = absurd cc
 decimals_once (Some ds) (Some es) e = let same : ds ≡ es = cc in ap Some same
 
 -- bytes spell a number in one way
-parts_once : (bytes : List ℕ) (p q : Parts) → Spells bytes p → Spells bytes q → (p.whole ≡ q.whole) × (p.decimals ≡ q.decimals)
+parts_once : (bytes : List ℕ) (p q : Parts) → SpellsNumber bytes p → SpellsNumber bytes q → (p.whole ≡ q.whole) × (p.decimals ≡ q.decimals)
 parts_once bytes p q s t =
     let c = cut_once p.whole q.whole (point_part p.decimals) (point_part q.decimals) s.whole_digits t.whole_digits (no_digit p.decimals) (no_digit q.decimals) (sym s.cut ∙ t.cut) in
     (c.0, decimals_once p.decimals q.decimals c.1)
 
-same_fine : (bytes : List ℕ) (p q : Parts) → Spells bytes p → Spells bytes q → is_fine p ≡ is_fine q
+same_fine : (bytes : List ℕ) (p q : Parts) → SpellsNumber bytes p → SpellsNumber bytes q → is_fine p ≡ is_fine q
 same_fine bytes p q s t = let e = parts_once bytes p q s t in ap (λ o. list_all (λ d. d == 48) (drop 3 (digits_after o))) e.1
 
-same_magnitude : (bytes : List ℕ) (p q : Parts) → Spells bytes p → Spells bytes q → magnitude_of p.whole p.decimals ≡ magnitude_of q.whole q.decimals
+same_magnitude : (bytes : List ℕ) (p q : Parts) → SpellsNumber bytes p → SpellsNumber bytes q → magnitude_of p.whole p.decimals ≡ magnitude_of q.whole q.decimals
 same_magnitude bytes p q s t = let e = parts_once bytes p q s t in rw (e.0, e.1) refl
 
 -- two readings of the same bytes are equal
@@ -79,7 +80,7 @@ past_none [] = tt
 past_none (b ∷ bs) = choose NoDigitFirst (is_ascii_digit b) _ _ (λ e. past_none bs) (λ e. e)
 
 -- parts that are spelled, and fine, are read by their size
-sized_reads : (bytes w : List ℕ) (o : Option (List ℕ)) → Spells bytes (record { whole = w; decimals = o }) → is_fine (record { whole = w; decimals = o }) ≡ true → Reads bytes (sized (has_minus bytes) w o)
+sized_reads : (bytes w : List ℕ) (o : Option (List ℕ)) → SpellsNumber bytes (record { whole = w; decimals = o }) → is_fine (record { whole = w; decimals = o }) ≡ true → Reads bytes (sized (has_minus bytes) w o)
 sized_reads bytes w o s f =
     choose (Reads bytes) (nat_lt (magnitude_of w o) (2 ^ 63)) _ _
     (λ e. (record { whole = w; decimals = o }, s, f, ltb-true _ _ e, refl))

@@ -3,17 +3,17 @@ use Rattle.std.proofs.Common.{Bool, true, false, ◌≡◌, ℕ, zero, suc, ◌+
 use Rattle.vcm_lines.specs.declared.fault.FaultCode.{FaultCode}
 use Rattle.vcm_spec.specs.declared.expression.BinaryOp.{BinaryOp}
 use Rattle.vcm_expr.specs.declared.expression.Prefix.{Prefix}
-use Rattle.vcm_expr.specs.declared.part.Part.{Part}
-use Rattle.vcm_expr.specs.declared.part.Part.TheVariants.{Operand, Opening, Closing}
+use Rattle.vcm_expr.specs.declared.symbol.Symbol.{Symbol}
+use Rattle.vcm_expr.specs.declared.symbol.Symbol.TheVariants.{Operand, Opening, Closing}
 use Rattle.vcm_expr.specs.Source.{Source, Plain, Prefixed, Pair, is_small}
 use Rattle.vcm_expr.specs.Grammar.{Written, Leaf, Paren, Signed, Joined, word_of, sign_word, spelled, Fits, meant, IsRead, nesting}
-use Rattle.vcm_expr.specs.Reading.{Phrase, Parser, and_then, phrase, made, made_if, closed, primary_by, sign_of, negation_of, found_if, fronted_by, product_op, sum_op, relation_op, and_op, or_op, more, chain_by, once, once_by, signed_by, product_by, sum_by, relation_by, negation_by, conjunction_by, disjunction_by, expression}
+use Rattle.vcm_expr.specs.inner.Parser.{Taken, Parser, and_then, phrase, made, made_if, closed, primary_by, sign_of, negation_of, found_if, fronted_by, product_op, sum_op, relation_op, and_op, or_op, more, chain_by, once, once_by, signed_by, product_by, sum_by, relation_by, negation_by, conjunction_by, disjunction_by, expression}
 use Rattle.vcm_expr.proofs.Chains.{expression-zero, expression-suc}
 use Rattle.vcm_expr.proofs.Complete.{Ops, Fronts}
 use Rattle.vcm_expr.proofs.Ladder.{product_ops, sum_ops, and_ops, or_ops, sign_fronts, negation_fronts, relation_says}
 
 -- an expression of a level stands in front, and the phrase is its tree and the rest
-pub record Read (m room : ℕ) (ts : List Part) (p : Phrase) : Type 0 where
+pub record Read (m room : ℕ) (ts : List Symbol) (p : Taken) : Type 0 where
   pub written : Written
   pub fits : Fits m written
   pub parts : ts ≡ spelled written ++ p.rest
@@ -23,13 +23,13 @@ pub record Read (m room : ℕ) (ts : List Part) (p : Phrase) : Type 0 where
   pub sized : is_small p.tree ≡ true
 
 abbrev pub Sound : ℕ → ℕ → Parser → Type 0
-Sound m room P = (ts : List Part) (p : Phrase) → P ts ≡ Ok p → Read m room ts p
+Sound m room P = (ts : List Symbol) (p : Taken) → P ts ≡ Ok p → Read m room ts p
 
-pub and_then-Ok : (o : Result Phrase FaultCode) (go : Source → List Part → Result Phrase FaultCode) (p : Phrase) → and_then o go ≡ Ok p → (q : Phrase) × (o ≡ Ok q) × (go q.tree q.rest ≡ Ok p)
+pub and_then-Ok : (o : Result Taken FaultCode) (go : Source → List Symbol → Result Taken FaultCode) (p : Taken) → and_then o go ≡ Ok p → (q : Taken) × (o ≡ Ok q) × (go q.tree q.rest ≡ Ok p)
 and_then-Ok (Ok q) go p e = (q, refl, e)
 and_then-Ok (Err d) go p e = cc
 
-made-Ok : (t : Source) (r : List Part) (p : Phrase) → made is_small t r ≡ Ok p → (is_small t ≡ true) × (record { tree = t; rest = r } ≡ p)
+made-Ok : (t : Source) (r : List Symbol) (p : Taken) → made is_small t r ≡ Ok p → (is_small t ≡ true) × (record { tree = t; rest = r } ≡ p)
 made-Ok t r p e = by_test (is_small t) refl e
   where
     by_test : (b : Bool) → is_small t ≡ b → made_if b t r ≡ Ok p → (is_small t ≡ true) × (record { tree = t; rest = r } ≡ p)
@@ -42,24 +42,24 @@ Fits-weaker l m (Paren s) h f = f
 Fits-weaker l m (Signed op s) h f = (omega (arith, f.0), f.1)
 Fits-weaker l m (Joined op a b) h f = (omega (arith, f.0), f.1, f.2)
 
-weaker : (l m room : ℕ) (ts : List Part) (p : Phrase) → l ≤ m → Read m room ts p → Read l room ts p
+weaker : (l m room : ℕ) (ts : List Symbol) (p : Taken) → l ≤ m → Read m room ts p → Read l room ts p
 weaker l m room ts p h q = record { written = q.written; fits = Fits-weaker l m q.written h q.fits; parts = q.parts; read = q.read; tree = q.tree; shallow = q.shallow; sized = q.sized }
 
 -- the expression s is all that is read
-read_all : (l room : ℕ) (s : Written) (ts : List Part) (p : Phrase) → Fits l s → IsRead s → nesting s ≤ room → is_small (meant s) ≡ true → phrase (meant s) ts ≡ Ok p → Read l room (spelled s ++ ts) p
+read_all : (l room : ℕ) (s : Written) (ts : List Symbol) (p : Taken) → Fits l s → IsRead s → nesting s ≤ room → is_small (meant s) ≡ true → phrase (meant s) ts ≡ Ok p → Read l room (spelled s ++ ts) p
 read_all l room s ts p f i h w e =
     let tree : meant s ≡ p.tree = cc in
     let rest : ts ≡ p.rest = cc in
     record { written = s; fits = f; parts = ap (λ r. spelled s ++ r) rest; read = i; tree = tree; shallow = h; sized = subst (λ u. is_small u ≡ true) tree w }
 
-module _ (l room : ℕ) (P : Parser) (op_of : Part → Option BinaryOp) (ops : Ops l op_of) (operands : Sound (l + 1) room P) where
+module _ (l room : ℕ) (P : Parser) (op_of : Symbol → Option BinaryOp) (ops : Ops l op_of) (operands : Sound (l + 1) room P) where
   -- a chain with s in front of it
-  more_sound : (n : ℕ) (s : Written) (ts : List Part) (p : Phrase) → Fits l s → IsRead s → nesting s ≤ room → is_small (meant s) ≡ true → more is_small P op_of n (meant s) ts ≡ Ok p → Read l room (spelled s ++ ts) p
+  more_sound : (n : ℕ) (s : Written) (ts : List Symbol) (p : Taken) → Fits l s → IsRead s → nesting s ≤ room → is_small (meant s) ≡ true → more is_small P op_of n (meant s) ts ≡ Ok p → Read l room (spelled s ++ ts) p
   more_sound n s [] p f i h w e = read_all l room s [] p f i h w e
   more_sound zero s (k ∷ r) p f i h w e = read_all l room s (k ∷ r) p f i h w e
   more_sound (suc n) s (k ∷ r) p f i h w e = by_op (op_of k) refl e (more_sound n)
     where
-      by_op : (o : Option BinaryOp) → op_of k ≡ o → found_if o (λ op. and_then (P r) (λ u q. and_then (made is_small (Pair op (meant s) u) q) (more is_small P op_of n))) (phrase (meant s) (k ∷ r)) ≡ Ok p → ((s' : Written) (ts : List Part) (q : Phrase) → Fits l s' → IsRead s' → nesting s' ≤ room → is_small (meant s') ≡ true → more is_small P op_of n (meant s') ts ≡ Ok q → Read l room (spelled s' ++ ts) q) → Read l room (spelled s ++ k ∷ r) p
+      by_op : (o : Option BinaryOp) → op_of k ≡ o → found_if o (λ op. and_then (P r) (λ u q. and_then (made is_small (Pair op (meant s) u) q) (more is_small P op_of n))) (phrase (meant s) (k ∷ r)) ≡ Ok p → ((s' : Written) (ts : List Symbol) (q : Taken) → Fits l s' → IsRead s' → nesting s' ≤ room → is_small (meant s') ≡ true → more is_small P op_of n (meant s') ts ≡ Ok q → Read l room (spelled s' ++ ts) q) → Read l room (spelled s ++ k ∷ r) p
       by_op None is e again = read_all l room s (k ∷ r) p f i h w e
       by_op (Some op) is e again =
           let word = ops.says k op is in
@@ -83,12 +83,12 @@ module _ (l room : ℕ) (P : Parser) (op_of : Part → Option BinaryOp) (ops : O
       let read = more_sound (length q.0.rest) a.written q.0.rest p (Fits-weaker l (l + 1) a.written (omega arith) a.fits) a.read a.shallow (ap is_small a.tree ∙ a.sized) step in
       subst (λ ts. Read l room ts p) (sym a.parts) read
 
-module _ (l room : ℕ) (P : Parser) (find : Part → Option Prefix) (fs : Fronts l find) (operands : Sound (l + 1) room P) where
+module _ (l room : ℕ) (P : Parser) (find : Symbol → Option Prefix) (fs : Fronts l find) (operands : Sound (l + 1) room P) where
   pub fronted_sound : Sound l room (fronted_by is_small P find)
   fronted_sound [] p e = weaker l (l + 1) room [] p (omega arith) (operands [] p e)
   fronted_sound (k ∷ r) p e = by_word (find k) refl e (fronted_sound r)
     where
-      by_word : (o : Option Prefix) → find k ≡ o → found_if o (λ op. and_then (fronted_by is_small P find r) (λ t s. made is_small (Prefixed op t) s)) (P (k ∷ r)) ≡ Ok p → ((q : Phrase) → fronted_by is_small P find r ≡ Ok q → Read l room r q) → Read l room (k ∷ r) p
+      by_word : (o : Option Prefix) → find k ≡ o → found_if o (λ op. and_then (fronted_by is_small P find r) (λ t s. made is_small (Prefixed op t) s)) (P (k ∷ r)) ≡ Ok p → ((q : Taken) → fronted_by is_small P find r ≡ Ok q → Read l room r q) → Read l room (k ∷ r) p
       by_word None is e again = weaker l (l + 1) room (k ∷ r) p (omega arith) (operands (k ∷ r) p e)
       by_word (Some op) is e again =
           let word = fs.says k op is in
@@ -108,7 +108,7 @@ module _ (l room : ℕ) (P : Parser) (find : Part → Option Prefix) (fs : Front
           }
 
 module _ (room : ℕ) (P : Parser) (operands : Sound 5 room P) where
-  once_after : (s : Written) (ts : List Part) (p : Phrase) → Fits 5 s → IsRead s → nesting s ≤ room → is_small (meant s) ≡ true → once is_small P relation_op (meant s) ts ≡ Ok p → Read 4 room (spelled s ++ ts) p
+  once_after : (s : Written) (ts : List Symbol) (p : Taken) → Fits 5 s → IsRead s → nesting s ≤ room → is_small (meant s) ≡ true → once is_small P relation_op (meant s) ts ≡ Ok p → Read 4 room (spelled s ++ ts) p
   once_after s [] p f i h w e = read_all 4 room s [] p (Fits-weaker 4 5 s (omega arith) f) i h w e
   once_after s (k ∷ r) p f i h w e = by_op (relation_op k) refl e
     where
@@ -140,7 +140,7 @@ module _ (room : ℕ) (P : Parser) (operands : Sound 5 room P) where
       let read = once_after a.written q.0.rest p a.fits a.read a.shallow (ap is_small a.tree ∙ a.sized) step in
       subst (λ ts. Read 4 room ts p) (sym a.parts) read
 
-closed-Ok : (t : Source) (r : List Part) (p : Phrase) → closed t r ≡ Ok p → (r ≡ Closing ∷ p.rest) × (t ≡ p.tree)
+closed-Ok : (t : Source) (r : List Symbol) (p : Taken) → closed t r ≡ Ok p → (r ≡ Closing ∷ p.rest) × (t ≡ p.tree)
 closed-Ok t [] p e = cc
 closed-Ok t (Closing ∷ r) p e =
     let rest : r ≡ p.rest = cc in
@@ -150,7 +150,7 @@ closed-Ok t (_ ∷ r) p e = cc
 
 -- what stands in parentheses is an expression
 abbrev pub InnerSound : ℕ → Type 0
-InnerSound room = (ts : List Part) (p : Phrase) → expression is_small room ts ≡ Ok p → (q : Read 1 room ts p) × (nesting q.written + 1 ≤ room)
+InnerSound room = (ts : List Symbol) (p : Taken) → expression is_small room ts ≡ Ok p → (q : Read 1 room ts p) × (nesting q.written + 1 ≤ room)
 
 primary_sound : (room : ℕ) → InnerSound room → Sound 8 room (primary_by (expression is_small room))
 primary_sound room inner [] p e = cc

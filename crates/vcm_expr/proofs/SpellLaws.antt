@@ -1,4 +1,4 @@
--- Parts spell one expression at most, and parts that spell one break no rule.
+-- Symbols spell one expression at most, and parts that spell one break no rule.
 use Rattle.std.proofs.Common.{Bool, true, false, ◌≡◌, inl, inr, ⊎_elim, List, [], ◌∷◌, ◌++◌, Result, Ok, Err, refl, sym, ap, ◌∙◌, arith}
 use Rattle.std.specs.Prelude.{◌||◌}
 use Rattle.std.specs.List.{list_any}
@@ -11,13 +11,13 @@ use Rattle.vcm_spec.specs.declared.expression.BinaryOp.TheVariants.{Add, Sub, Mu
 use Rattle.vcm_expr.specs.declared.expression.Prefix.{Prefix}
 use Rattle.vcm_expr.specs.declared.expression.Prefix.TheVariants.{Minus, Plus, Not}
 use Rattle.vcm_expr.specs.declared.expression.Term.TheVariants.{Truth}
-use Rattle.vcm_expr.specs.declared.part.Part.{Part}
-use Rattle.vcm_expr.specs.declared.part.Part.TheVariants.{Operand, Closing}
-use Rattle.vcm_expr.specs.Parts.{parts_of}
+use Rattle.vcm_expr.specs.declared.symbol.Symbol.{Symbol}
+use Rattle.vcm_expr.specs.declared.symbol.Symbol.TheVariants.{Operand, Closing}
+use Rattle.vcm_expr.specs.Symbols.{symbols_of}
 use Rattle.vcm_expr.specs.Source.{Source, Plain, is_small}
-use Rattle.vcm_expr.specs.Grammar.{Written, Leaf, Paren, Signed, Joined, word_of, sign_word, spelled, meant, IsRead, Spells, HasFlaw}
+use Rattle.vcm_expr.specs.Grammar.{Written, Leaf, Paren, Signed, Joined, word_of, sign_word, spelled, meant, IsRead, SpellsExpr, HasFlaw}
 use Rattle.vcm_expr.specs.Parsing.{IsExpr, BreaksExpr}
-use Rattle.vcm_expr.specs.Reading.{Phrase, phrase, disjunction_by, expression}
+use Rattle.vcm_expr.specs.inner.Parser.{Taken, phrase, disjunction_by, expression}
 use Rattle.vcm_expr.proofs.Complete.{TooBig}
 use Rattle.vcm_expr.proofs.Ladder.{complete}
 use Rattle.vcm_expr.proofs.Whole.{read_not_bad}
@@ -35,11 +35,11 @@ never_big (Joined op a b) (inl e) = cc
 never_big (Joined op a b) (inr (inl h)) = never_big a h
 never_big (Joined op a b) (inr (inr h)) = never_big b h
 
-abbrev unlimited : List Part → Result Phrase FaultCode
+abbrev unlimited : List Symbol → Result Taken FaultCode
 unlimited ps = disjunction_by any_size (expression any_size 32) ps
 
 -- parts that spell an expression are read as that
-is_read : (ps : List Part) (e : Source) → Spells ps e → unlimited ps ≡ phrase e []
+is_read : (ps : List Symbol) (e : Source) → SpellsExpr ps e → unlimited ps ≡ phrase e []
 is_read ps e s =
     let flat : ps ≡ spelled s.written ++ [] = s.parts ∙ sym (append-nil (spelled s.written)) in
     ap unlimited flat
@@ -49,22 +49,22 @@ is_read ps e s =
     ((complete any_size 32).by s.written [] s.fits tt)
     ∙ ap (λ t. phrase t []) s.is
 
-abbrev tree_in : Result Phrase FaultCode → Source
+abbrev tree_in : Result Taken FaultCode → Source
 tree_in (Ok p) = p.tree
 tree_in (Err e) = Plain (Truth false)
 
-pub one_expression : (ps : List Part) (e f : Source) → Spells ps e → Spells ps f → e ≡ f
+pub one_expression : (ps : List Symbol) (e f : Source) → SpellsExpr ps e → SpellsExpr ps f → e ≡ f
 one_expression ps e f s t =
     let both : phrase e [] ≡ phrase f [] = sym (is_read ps e s) ∙ is_read ps f t in
     ap tree_in both
 
 -- ---- an expression whose leaves have values has no flaw
 
-abbrev is_flaw : Part → Bool
+abbrev is_flaw : Symbol → Bool
 is_flaw (Operand (Err c)) = true
 is_flaw _ = false
 
-abbrev flawed : List Part → Bool
+abbrev flawed : List Symbol → Bool
 flawed ps = list_any is_flaw ps
 
 or_nothing : (b c d : Bool) → b ≡ false → c ≡ d → (b || c) ≡ d
@@ -85,7 +85,7 @@ word_fine And = refl
 word_fine Or = refl
 word_fine (Compare r) = refl
 
-any_append : (ps qs : List Part) → flawed ps ≡ false → flawed (ps ++ qs) ≡ flawed qs
+any_append : (ps qs : List Symbol) → flawed ps ≡ false → flawed (ps ++ qs) ≡ flawed qs
 any_append [] qs e = refl
 any_append (p ∷ ps) qs e = by (is_flaw p) (flawed ps) e (any_append ps qs)
   where
@@ -101,7 +101,7 @@ spelled_fine (Signed op s) i = or_nothing _ _ _ (sign_fine op) (spelled_fine s i
 spelled_fine (Joined op a b) i =
     any_append (spelled a) (word_of op ∷ spelled b) (spelled_fine a i.0) ∙ or_nothing _ _ _ (word_fine op) (spelled_fine b i.1)
 
-has_flaw : (front back : List Part) (c : FaultCode) → flawed (front ++ (Operand (Err c) ∷ back)) ≡ true
+has_flaw : (front back : List Symbol) (c : FaultCode) → flawed (front ++ (Operand (Err c) ∷ back)) ≡ true
 has_flaw [] back c = refl
 has_flaw (p ∷ front) back c = by (is_flaw p) _ (has_flaw front back c)
   where
@@ -109,7 +109,7 @@ has_flaw (p ∷ front) back c = by (is_flaw p) _ (has_flaw front back c)
     by true c e = refl
     by false c e = e
 
-no_flaw : (ps : List Part) (e : Source) (c : FaultCode) → Spells ps e → HasFlaw c ps → ⊥
+no_flaw : (ps : List Symbol) (e : Source) (c : FaultCode) → SpellsExpr ps e → HasFlaw c ps → ⊥
 no_flaw ps e c s f =
     let fine : flawed ps ≡ false = ap flawed s.parts ∙ spelled_fine s.written s.read in
     let bad : flawed ps ≡ true = ap flawed f.cut ∙ has_flaw f.front f.back c in
@@ -117,8 +117,8 @@ no_flaw ps e c s f =
 
 pub spell_or_break : (ws : List Lexeme) (e : Source) (code : FaultCode) → IsExpr ws e → BreaksExpr ws code → ⊥
 spell_or_break ws e BadSyntax s b = b s.0.written s.0.parts s.0.fits
-spell_or_break ws e TooFine s b = no_flaw (parts_of ws) e TooFine s.0 b
-spell_or_break ws e NumberTooLarge s b = no_flaw (parts_of ws) e NumberTooLarge s.0 b
+spell_or_break ws e TooFine s b = no_flaw (symbols_of ws) e TooFine s.0 b
+spell_or_break ws e NumberTooLarge s b = no_flaw (symbols_of ws) e NumberTooLarge s.0 b
 spell_or_break ws e TooDeep s b =
     ⊎_elim
     (λ n. omega (arith, n, s.0.nests))

@@ -11,15 +11,16 @@ use Rattle.vcm_lines.specs.declared.fault.FaultCode.TheVariants.{BadSyntax, TooF
 use Rattle.std.specs.Str.{bytes_eq}
 use Rattle.vcm_lines.specs.Lexemes.{Lexeme, Run, Number, Dotted}
 use Rattle.vcm_expr.specs.declared.expression.Term.{Term}
-use Rattle.vcm_expr.specs.declared.part.Part.{Part}
-use Rattle.vcm_expr.specs.declared.part.Part.TheVariants.{Operand}
+use Rattle.vcm_expr.specs.declared.symbol.Symbol.{Symbol}
+use Rattle.vcm_expr.specs.declared.symbol.Symbol.TheVariants.{Operand}
 use Rattle.vcm_expr.specs.Digits.{read_of}
-use Rattle.vcm_expr.specs.Parts.{parts_of, part_of, number_term, run_term, dotted_part, is_variable_name}
+use Rattle.vcm_expr.specs.Symbols.{symbols_of, symbol_of, number_term, run_term, dotted_symbol, is_variable_name}
 use Rattle.vcm_expr.specs.Source.{Source, Prefixed, Pair, depth_of, nodes_of, is_small}
-use Rattle.vcm_expr.specs.Grammar.{Written, Leaf, Paren, Signed, Joined, spelled, IsOperand, Fits, meant, IsRead, Spells, IsDeep, NestsDeep, HasBigPart, HasFlaw, BreaksParts}
-use Rattle.vcm_expr.specs.Reading.{Phrase, phrase, disjunction_by, expression}
-use Rattle.vcm_expr.specs.Levels.{Told}
-use Rattle.vcm_expr.specs.Parsing.{At, Refuses}
+use Rattle.vcm_expr.specs.Grammar.{Written, Leaf, Paren, Signed, Joined, spelled, IsOperand, Fits, meant, IsRead, SpellsExpr, IsDeep, NestsDeep, HasBigPart, HasFlaw, BreaksParts}
+use Rattle.vcm_expr.specs.inner.Parser.{Taken, phrase, disjunction_by, expression}
+use Rattle.vcm_expr.specs.inner.Levels.{Told}
+use Rattle.vcm_expr.specs.Parsing.{At}
+use Rattle.vcm_expr.specs.inner.Refusals.{Refuses}
 use Rattle.vcm_lines.specs.Fault.{NoMemoryOr}
 use Rattle.vcm_lines.specs.declared.fault.SourceFault.{SourceFault}
 use Rattle.vcm_expr.proofs.Complete.{HasBad, TooBig, Blames}
@@ -28,7 +29,7 @@ use Rattle.vcm_expr.proofs.Sound.{all_sound}
 use Rattle.vcm_expr.proofs.Causes.{Cause, all_caused}
 
 -- what the parser reads of all parts
-abbrev pub reading : List Part → Result Phrase FaultCode
+abbrev pub reading : List Symbol → Result Taken FaultCode
 reading ps = disjunction_by is_small (expression is_small 32) ps
 
 -- ---- limits
@@ -93,7 +94,7 @@ read_not_bad (Joined op a b) c i (inr h) = read_not_bad b c i.1 h
 -- ---- what an expression is answered
 
 -- parts that spell an expression are read, or there is a reason
-answer : (ps : List Part) (s : Written) → ps ≡ spelled s → Fits 1 s → (reading ps ≡ phrase (meant s) []) ⊎ ((c : FaultCode) × (reading ps ≡ Err c) × Blames is_small 32 c s)
+answer : (ps : List Symbol) (s : Written) → ps ≡ spelled s → Fits 1 s → (reading ps ≡ phrase (meant s) []) ⊎ ((c : FaultCode) × (reading ps ≡ Err c) × Blames is_small 32 c s)
 answer ps s e f =
     let flat : ps ≡ spelled s ++ [] = e ∙ sym (append-nil (spelled s)) in
     ⊎_elim
@@ -102,31 +103,31 @@ answer ps s e f =
     ((complete is_small 32).by s [] f tt)
 
 -- the parts after a phrase
-abbrev rest_of : Result Phrase FaultCode → List Part
+abbrev rest_of : Result Taken FaultCode → List Symbol
 rest_of (Ok p) = p.rest
 rest_of (Err e) = []
 
-pub reads_spells : (ps : List Part) (t : Source) (r : List Part) → reading ps ≡ phrase t r → length r ≡ 0 → Spells ps t × (is_small t ≡ true)
+pub reads_spells : (ps : List Symbol) (t : Source) (r : List Symbol) → reading ps ≡ phrase t r → length r ≡ 0 → SpellsExpr ps t × (is_small t ≡ true)
 reads_spells ps t r e h =
     let q = (all_sound 32).disjunctions ps (record { tree = t; rest = r }) e in
     let nil = nil_from_length r h in
     (record { written = q.written; parts = q.parts ∙ ap (λ l. spelled q.written ++ l) nil ∙ append-nil (spelled q.written); fits = q.fits; read = q.read; nests = q.shallow; is = q.tree }, q.sized)
 
 -- parts are left over
-pub extra_parts : (ps : List Part) (t : Source) (r : List Part) → reading ps ≡ phrase t r → length r ≢ 0 → BreaksParts ps BadSyntax
+pub extra_parts : (ps : List Symbol) (t : Source) (r : List Symbol) → reading ps ≡ phrase t r → length r ≢ 0 → BreaksParts ps BadSyntax
 extra_parts ps t r e h s spells f =
     ⊎_elim
     (λ a. let both : phrase t r ≡ phrase (meant s) [] = sym e ∙ a in let nil : r ≡ [] = ap rest_of both in h (ap length nil))
     (λ a. let both : phrase t r ≡ Err a.0 = sym e ∙ a.1 in cc)
     (answer ps s spells f)
 
-same_code : (o : Result Phrase FaultCode) (c d : FaultCode) → o ≡ Err c → o ≡ Err d → c ≡ d
+same_code : (o : Result Taken FaultCode) (c d : FaultCode) → o ≡ Err c → o ≡ Err d → c ≡ d
 same_code o c d e f = let both : Err c ≡ Err d = sym e ∙ f in code both
   where
-    code : ◌≡◌ {A = Result Phrase FaultCode} (Err c) (Err d) → c ≡ d
+    code : ◌≡◌ {A = Result Taken FaultCode} (Err c) (Err d) → c ≡ d
     code e = cc
 
-no_syntax : (ps : List Part) → reading ps ≡ Err BadSyntax → BreaksParts ps BadSyntax
+no_syntax : (ps : List Symbol) → reading ps ≡ Err BadSyntax → BreaksParts ps BadSyntax
 no_syntax ps e s spells f =
     ⊎_elim
     (λ a. let both : Err BadSyntax ≡ phrase (meant s) [] = sym e ∙ a in cc)
@@ -138,7 +139,7 @@ no_syntax ps e s spells f =
     a.2)
     (answer ps s spells f)
 
-all_deep : (ps : List Part) → reading ps ≡ Err TooDeep → (s : Written) → ps ≡ spelled s → Fits 1 s → IsDeep s
+all_deep : (ps : List Symbol) → reading ps ≡ Err TooDeep → (s : Written) → ps ≡ spelled s → Fits 1 s → IsDeep s
 all_deep ps e s spells f =
     ⊎_elim
     (λ a. let both : Err TooDeep ≡ phrase (meant s) [] = sym e ∙ a in absurd cc)
@@ -164,13 +165,13 @@ choose P true x y p q = p
 choose P false x y p q = q
 
 -- a part that is an operand without a value tells why
-abbrev FaultOf : FaultCode → Part → Type 0
+abbrev FaultOf : FaultCode → Symbol → Type 0
 FaultOf c p = p ≡ Operand (Err c) → (c ≡ BadSyntax) ⊎ IsValueFault c
 
 plain_fault : (c : FaultCode) (t : Term) → FaultOf c (Operand (Ok t))
 plain_fault c t e = absurd cc
 
-dotted_fault : (c : FaultCode) (bs : List ℕ) → FaultOf c (dotted_part bs)
+dotted_fault : (c : FaultCode) (bs : List ℕ) → FaultOf c (dotted_symbol bs)
 dotted_fault c bs =
     choose (FaultOf c) (bytes_eq bs (codes ".EQ.")) _ _ (λ e. absurd cc)
     (choose (FaultOf c) (bytes_eq bs (codes ".NE.")) _ _ (λ e. absurd cc)
@@ -190,44 +191,44 @@ term_fault c o h e = h cc
 run_fault : (c : FaultCode) (bs : List ℕ) → run_term bs ≡ Err c → (c ≡ BadSyntax) ⊎ IsValueFault c
 run_fault c bs = choose (λ o. o ≡ Err c → (c ≡ BadSyntax) ⊎ IsValueFault c) (is_variable_name bs) _ _ (λ e. absurd cc) (number_fault (read_of bs) c)
 
-part_fault : (c : FaultCode) (w : Lexeme) → FaultOf c (part_of w)
+part_fault : (c : FaultCode) (w : Lexeme) → FaultOf c (symbol_of w)
 part_fault c (Run bs) = term_fault c (run_term bs) (run_fault c bs)
 part_fault c (Number bs) = term_fault c (number_term (read_of bs)) (number_fault (read_of bs) c)
 part_fault c (Dotted bs) = dotted_fault c bs
 part_fault c _ = λ e. absurd cc
 
-flaw_in : (ws : List Lexeme) (front back : List Part) (c : FaultCode) → parts_of ws ≡ front ++ (Operand (Err c) ∷ back) → (c ≡ BadSyntax) ⊎ IsValueFault c
+flaw_in : (ws : List Lexeme) (front back : List Symbol) (c : FaultCode) → symbols_of ws ≡ front ++ (Operand (Err c) ∷ back) → (c ≡ BadSyntax) ⊎ IsValueFault c
 flaw_in [] [] back c e = absurd cc
 flaw_in [] (x ∷ front) back c e = absurd cc
 flaw_in (w ∷ ws) [] back c e = part_fault c w cc
 flaw_in (w ∷ ws) (x ∷ front) back c e = flaw_in ws front back c cc
 
 -- what the parser refuses breaks the rule of that name
-refused : (ws : List Lexeme) (c : FaultCode) → reading (parts_of ws) ≡ Err c → (c ≡ BadSyntax) ⊎ (((c ≡ TooDeep) × (NestsDeep (parts_of ws) ⊎ HasBigPart (parts_of ws))) ⊎ (IsValueFault c × HasFlaw c (parts_of ws)))
-refused ws c e = by (all_caused 32 (parts_of ws) c e)
+refused : (ws : List Lexeme) (c : FaultCode) → reading (symbols_of ws) ≡ Err c → (c ≡ BadSyntax) ⊎ (((c ≡ TooDeep) × (NestsDeep (symbols_of ws) ⊎ HasBigPart (symbols_of ws))) ⊎ (IsValueFault c × HasFlaw c (symbols_of ws)))
+refused ws c e = by (all_caused 32 (symbols_of ws) c e)
   where
-    by : Cause 32 0 c (parts_of ws) → (c ≡ BadSyntax) ⊎ (((c ≡ TooDeep) × (NestsDeep (parts_of ws) ⊎ HasBigPart (parts_of ws))) ⊎ (IsValueFault c × HasFlaw c (parts_of ws)))
+    by : Cause 32 0 c (symbols_of ws) → (c ≡ BadSyntax) ⊎ (((c ≡ TooDeep) × (NestsDeep (symbols_of ws) ⊎ HasBigPart (symbols_of ws))) ⊎ (IsValueFault c × HasFlaw c (symbols_of ws)))
     by (inl b) = inl b
     by (inr (inl (t, inl d))) = inr (inl (t, inl (record { front = d.front; back = d.back; cut = d.cut; deep = d.deep })))
     by (inr (inl (t, inr g))) = inr (inl (t, inr g))
     by (inr (inr f)) = ⊎_elim (λ b. inl b) (λ v. inr (inr (v, f))) (flaw_in ws f.front f.back c f.cut)
 
-pub fails_breaks : (ws : List Lexeme) (c : FaultCode) → reading (parts_of ws) ≡ Err c → BreaksParts (parts_of ws) c
+pub fails_breaks : (ws : List Lexeme) (c : FaultCode) → reading (symbols_of ws) ≡ Err c → BreaksParts (symbols_of ws) c
 fails_breaks ws c e = by (refused ws c e) e
   where
-    by : {d : FaultCode} → (d ≡ BadSyntax) ⊎ (((d ≡ TooDeep) × (NestsDeep (parts_of ws) ⊎ HasBigPart (parts_of ws))) ⊎ (IsValueFault d × HasFlaw d (parts_of ws))) → reading (parts_of ws) ≡ Err d → BreaksParts (parts_of ws) d
-    by {d = d} (inl b) e = subst (BreaksParts (parts_of ws)) (sym b) (no_syntax (parts_of ws) (e ∙ ap Err b))
-    by {d = d} (inr (inl t)) e = subst (BreaksParts (parts_of ws)) (sym t.0) (t.1, all_deep (parts_of ws) (e ∙ ap Err t.0))
-    by {d = d} (inr (inr (inl v, f))) e = subst (BreaksParts (parts_of ws)) (sym v) (subst (λ c. HasFlaw c (parts_of ws)) v f)
-    by {d = d} (inr (inr (inr v, f))) e = subst (BreaksParts (parts_of ws)) (sym v) (subst (λ c. HasFlaw c (parts_of ws)) v f)
+    by : {d : FaultCode} → (d ≡ BadSyntax) ⊎ (((d ≡ TooDeep) × (NestsDeep (symbols_of ws) ⊎ HasBigPart (symbols_of ws))) ⊎ (IsValueFault d × HasFlaw d (symbols_of ws))) → reading (symbols_of ws) ≡ Err d → BreaksParts (symbols_of ws) d
+    by {d = d} (inl b) e = subst (BreaksParts (symbols_of ws)) (sym b) (no_syntax (symbols_of ws) (e ∙ ap Err b))
+    by {d = d} (inr (inl t)) e = subst (BreaksParts (symbols_of ws)) (sym t.0) (t.1, all_deep (symbols_of ws) (e ∙ ap Err t.0))
+    by {d = d} (inr (inr (inl v, f))) e = subst (BreaksParts (symbols_of ws)) (sym v) (subst (λ c. HasFlaw c (symbols_of ws)) v f)
+    by {d = d} (inr (inr (inr v, f))) e = subst (BreaksParts (symbols_of ws)) (sym v) (subst (λ c. HasFlaw c (symbols_of ws)) v f)
 
 -- ---- the exits of the parser
 
-pub whole_refuses : (line : ℕ) (ps : List Part) (f : SourceFault) → NoMemoryOr (Told line (reading ps)) f → NoMemoryOr (At line (Refuses ps)) f
+pub whole_refuses : (line : ℕ) (ps : List Symbol) (f : SourceFault) → NoMemoryOr (Told line (reading ps)) f → NoMemoryOr (At line (Refuses ps)) f
 whole_refuses line ps f (inl m) = inl m
 whole_refuses line ps f (inr t) = inr (t.0, λ ws e. fails_breaks ws f.code (ap reading e ∙ t.1))
 
-pub whole_extra : (ps : List Part) (t : Source) (r : List Part) (k : Part) (q : List Part) → reading ps ≡ phrase t r → r ≡ k ∷ q → Refuses ps BadSyntax
+pub whole_extra : (ps : List Symbol) (t : Source) (r : List Symbol) (k : Symbol) (q : List Symbol) → reading ps ≡ phrase t r → r ≡ k ∷ q → Refuses ps BadSyntax
 whole_extra ps t r k q e more ws is =
     let some : length r ≢ 0 = λ none. let size = ap length more in omega arith in
-    extra_parts (parts_of ws) t r (ap reading is ∙ e) some
+    extra_parts (symbols_of ws) t r (ap reading is ∙ e) some

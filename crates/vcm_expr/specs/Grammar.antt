@@ -1,4 +1,4 @@
--- The grammar of expressions: expressions with their parentheses, and the parts that spell them.
+-- The grammar of expressions: expressions with their parentheses, and the symbols that spell them.
 use Rattle.std.specs.Prelude.{◌≡◌, ℕ, ◌+◌, ◌-◌, ◌<◌, ◌≤◌, ◌⊎◌, max, false, List, [], ◌∷◌, ◌++◌, Result, Ok, Err}
 use Rattle.vcm_lines.specs.declared.fault.FaultCode.{FaultCode}
 use Rattle.vcm_lines.specs.declared.fault.FaultCode.TheVariants.{BadSyntax, TooFine, NumberTooLarge, TooDeep}
@@ -8,8 +8,8 @@ use Rattle.vcm_expr.specs.declared.expression.Prefix.{Prefix}
 use Rattle.vcm_expr.specs.declared.expression.Prefix.TheVariants.{Minus, Plus, Not}
 use Rattle.vcm_expr.specs.declared.expression.Term.{Term}
 use Rattle.vcm_expr.specs.declared.expression.Term.TheVariants.{Truth}
-use Rattle.vcm_expr.specs.declared.part.Part.{Part}
-use Rattle.vcm_expr.specs.declared.part.Part.TheVariants.{Operand, Dash, Cross, Star, Slash, NotWord, AndWord, OrWord, RelationWord, Opening, Closing}
+use Rattle.vcm_expr.specs.declared.symbol.Symbol.{Symbol}
+use Rattle.vcm_expr.specs.declared.symbol.Symbol.TheVariants.{Operand, Dash, Cross, Star, Slash, NotWord, AndWord, OrWord, RelationWord, Opening, Closing}
 use Rattle.vcm_expr.specs.Source.{Source, Plain, Prefixed, Pair, is_small}
 
 -- an expression as it is written, with its parentheses; a leaf is a term, or a number that has no value, and why
@@ -20,7 +20,7 @@ pub data Written : Type 0 where
   Joined : BinaryOp → Written → Written → Written
 
 -- how an operator is written
-abbrev pub word_of : BinaryOp → Part
+abbrev pub word_of : BinaryOp → Symbol
 word_of Add = Cross
 word_of Sub = Dash
 word_of Mul = Star
@@ -30,7 +30,7 @@ word_of Or = OrWord
 word_of (Compare r) = RelationWord r
 
 -- how a sign or a negation is written
-abbrev pub sign_word : Prefix → Part
+abbrev pub sign_word : Prefix → Symbol
 sign_word Minus = Dash
 sign_word Plus = Cross
 sign_word Not = NotWord
@@ -56,8 +56,8 @@ abbrev pub left_level : BinaryOp → ℕ
 left_level (Compare r) = 5
 left_level op = level op
 
--- the parts that spell an expression
-abbrev pub spelled : Written → List Part
+-- the symbols that spell an expression
+abbrev pub spelled : Written → List Symbol
 spelled (Leaf o) = Operand o ∷ []
 spelled (Paren s) = Opening ∷ (spelled s ++ Closing ∷ [])
 spelled (Signed op s) = sign_word op ∷ spelled s
@@ -100,8 +100,8 @@ nesting (Paren s) = nesting s + 1
 nesting (Signed op s) = nesting s
 nesting (Joined op a b) = max (nesting a) (nesting b)
 
--- the parts spell this expression, with parentheses at most 32 deep
-pub record Spells (ps : List Part) (e : Source) : Type 0 where
+-- the symbols spell this expression, with parentheses at most 32 deep
+pub record SpellsExpr (ps : List Symbol) (e : Source) : Type 0 where
   pub written : Written
   pub parts : ps ≡ spelled written
   pub fits : Fits 1 written
@@ -113,38 +113,38 @@ pub record Spells (ps : List Part) (e : Source) : Type 0 where
 abbrev pub IsDeep : Written → Type 0
 IsDeep s = (32 < nesting s) ⊎ (is_small (meant s) ≡ false)
 
--- how many parentheses are open after these parts, where n were open before
-abbrev pub open_after : ℕ → List Part → ℕ
+-- how many parentheses are open after these symbols, where n were open before
+abbrev pub open_after : ℕ → List Symbol → ℕ
 open_after n [] = n
 open_after n (Opening ∷ r) = open_after (n + 1) r
 open_after n (Closing ∷ r) = open_after (n - 1) r
 open_after n (_ ∷ r) = open_after n r
 
 -- more than 32 parentheses are open at once
-pub record NestsDeep (ps : List Part) : Type 0 where
-  pub front : List Part
-  pub back : List Part
+pub record NestsDeep (ps : List Symbol) : Type 0 where
+  pub front : List Symbol
+  pub back : List Symbol
   pub cut : ps ≡ front ++ back
   pub deep : 32 < open_after 0 front
 
--- some of the parts, side by side, spell an expression that is too deep or too large
-pub record HasBigPart (ps : List Part) : Type 0 where
-  pub front : List Part
-  pub back : List Part
+-- some of the symbols, side by side, spell an expression that is too deep or too large
+pub record HasBigPart (ps : List Symbol) : Type 0 where
+  pub front : List Symbol
+  pub back : List Symbol
   pub written : Written
   pub cut : ps ≡ front ++ (spelled written ++ back)
   pub fits : Fits 1 written
   pub big : is_small (meant written) ≡ false
 
--- one of the parts is a number that has no value, for this reason
-pub record HasFlaw (c : FaultCode) (ps : List Part) : Type 0 where
-  pub front : List Part
-  pub back : List Part
+-- one of the symbols is a number that has no value, for this reason
+pub record HasFlaw (c : FaultCode) (ps : List Symbol) : Type 0 where
+  pub front : List Symbol
+  pub back : List Symbol
   pub cut : ps ≡ front ++ (Operand (Err c) ∷ back)
 
--- the parts break the rule with this code. Bad syntax: no expression is spelled so, whatever its numbers and however deep. Too deep: more
--- than 32 parentheses are open at once or some parts spell too large an expression, and every expression that is spelled so is too deep
-abbrev pub BreaksParts : List Part → FaultCode → Type 0
+-- the symbols break the rule with this code. Bad syntax: no expression is spelled so, whatever its numbers and however deep. Too deep: more
+-- than 32 parentheses are open at once or some symbols spell too large an expression, and every expression that is spelled so is too deep
+abbrev pub BreaksParts : List Symbol → FaultCode → Type 0
 BreaksParts ps BadSyntax = (s : Written) → ps ≡ spelled s → Fits 1 s → ⊥
 BreaksParts ps TooFine = HasFlaw TooFine ps
 BreaksParts ps NumberTooLarge = HasFlaw NumberTooLarge ps

@@ -1,15 +1,12 @@
-pub mod Codes
 pub mod Typed
 pub mod Slots
 pub mod Run
 pub mod NameBytes
 pub mod Names
 pub mod Source
-pub mod SourceCodes
 pub mod Typing
 pub mod Digits
-pub mod Parts
+pub mod Symbols
 pub mod Grammar
-pub mod Reading
-pub mod Levels
 pub mod Parsing
+pub mod inner

@@ -3,7 +3,7 @@ use Rattle.std.specs.Prelude.{ℕ, Bool, ◌&&◌, nat_eq, List, map, Option, So
 use Rattle.std.specs.List.{AllByRecursion, position}
 use Rattle.std.specs.Cmp.Lexicographic.{pointwise}
 use Rattle.vcm_num.specs.declared.number.Kind.{Kind}
-use Rattle.vcm_expr.specs.Parts.{IsVariableName}
+use Rattle.vcm_expr.specs.Symbols.{IsVariableName}
 
 -- a variable: the number of its expansion (0 outside macros) and its name, and its kind
 abbrev pub Variable : Type 0

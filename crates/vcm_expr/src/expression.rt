@@ -59,7 +59,7 @@ pub struct Expr {
 impl Model for Expr {
     ghost use Rattle.std.specs.Prelude.{◌≡◌, ◌≤◌};
     ghost use Rattle.vcm_expr.specs.Source.{Source, depth_of, nodes_of};
-    ghost use Rattle.vcm_expr.specs.SourceCodes.{source_coded};
+    ghost use Rattle.vcm_expr.specs.inner.SourceCodes.{source_coded};
 
     ghost Value = { Source };
 

@@ -6,18 +6,18 @@ ghost use Rattle.vcm_lines.specs.Lexemes.{Lexeme};
 ghost use Rattle.vcm_lines.specs.declared.fault.FaultCode.{FaultCode};
 ghost use Rattle.vcm_expr.specs.Digits.{read_of};
 ghost use Rattle.vcm_expr.specs.Source.{Source};
-ghost use Rattle.vcm_expr.specs.Grammar.{Spells};
+ghost use Rattle.vcm_expr.specs.Grammar.{SpellsExpr};
 ghost use Rattle.vcm_expr.specs.Parsing.{IsExpr, BreaksExpr};
-ghost use Rattle.vcm_expr.specs.declared.part.Part.{Part};
+ghost use Rattle.vcm_expr.specs.declared.symbol.Symbol.{Symbol};
 
 /// The reading of a number, as a function, is what the relation says of its bytes.
 pub fn numbers_are_read()
     ensures { (bytes : List ℕ) → Reads bytes (read_of bytes) }
 {}
 
-/// Parts spell one expression at most, however deep and large it is.
-pub fn parts_spell_one_expression()
-    ensures { (ps : List Part) (e f : Source) → Spells ps e → Spells ps f → e ≡ f }
+/// Symbols spell one expression at most, however deep and large it is.
+pub fn symbols_spell_one_expression()
+    ensures { (ps : List Symbol) (e f : Source) → SpellsExpr ps e → SpellsExpr ps f → e ≡ f }
 {}
 
 /// No words both spell an expression and break a rule.

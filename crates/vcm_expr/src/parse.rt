@@ -7,7 +7,7 @@ ghost use Rattle.vcm_expr.specs.Parsing.{IsExpr, BreaksExpr, At};
 
 use crate::expression::Expr;
 use crate::parser::whole;
-use crate::part::Parts;
+use crate::symbol::Symbols;
 use std::alloc::Global;
 use vcm_lines::{Logical, Phrase, SourceFault};
 
@@ -40,5 +40,5 @@ pub fn read_expr(alloc: Global, line: u32, words: &Phrase<'_>) -> Result<Expr, S
     ensures ok { IfOk result (IsExpr words.now) }
     ensures fault { IfErr result (NoMemoryOr (At line (BreaksExpr words.now))) }
 {
-    whole(alloc, line, Parts::new(words.copy()))
+    whole(alloc, line, Symbols::new(words.copy()))
 }

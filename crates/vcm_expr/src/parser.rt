@@ -4,16 +4,17 @@ ghost use Rattle.std.specs.Prelude.{◌≡◌, ◌∷◌, ◌≤◌, [], List, S
 ghost use Rattle.vcm_lines.specs.Fault.{NoMemoryOr, no_memory};
 ghost use Rattle.vcm_lines.specs.declared.fault.FaultCode.{FaultCode};
 ghost use Rattle.vcm_expr.specs.Source.{is_small};
-ghost use Rattle.vcm_expr.specs.Grammar.{Spells};
-ghost use Rattle.vcm_expr.specs.Parsing.{At, Refuses};
-ghost use Rattle.vcm_expr.specs.Reading.{Parser, phrase, fronted_by, with_fronts, relation_op, leaf_by, sign_of, negation_of, product_op, sum_op, and_op, or_op};
-ghost use Rattle.vcm_expr.specs.Levels.{chain_in, chain_op, link_in, front_in, front_of as finds_front, fronted_in, relation_in, primary_in, group_in, NextOf, NoNext, NotClosing, Told};
-ghost use Rattle.vcm_expr.specs.declared.part.Part.{Part};
+ghost use Rattle.vcm_expr.specs.Grammar.{SpellsExpr};
+ghost use Rattle.vcm_expr.specs.Parsing.{At};
+ghost use Rattle.vcm_expr.specs.inner.Refusals.{Refuses};
+ghost use Rattle.vcm_expr.specs.inner.Parser.{Parser, phrase, fronted_by, with_fronts, relation_op, leaf_by, sign_of, negation_of, product_op, sum_op, and_op, or_op};
+ghost use Rattle.vcm_expr.specs.inner.Levels.{chain_in, chain_op, link_in, front_in, front_of as finds_front, fronted_in, relation_in, primary_in, group_in, NextOf, NoNext, NotClosing, Told};
+ghost use Rattle.vcm_expr.specs.declared.symbol.Symbol.{Symbol};
 
 use crate::expression::{Expr, Prefix, Term, too_deep};
-use crate::part::{Part, Parts};
+use crate::symbol::{Symbol, Symbols};
 use std::alloc::Global;
-use vcm_lines::{FaultCode, SourceFault};
+use vcm_lines::{FaultCode, SourceFault, bad_syntax};
 use vcm_spec::BinaryOp;
 
 /// A level whose operators stand between any number of operands.
@@ -42,8 +43,8 @@ enum Front {
 const MOST_OPEN: u32 = 32;
 
 /// The expression that all the words spell.
-pub(crate) fn whole(alloc: Global, line: u32, words: Parts<'_>) -> Result<Expr, SourceFault>
-    ensures ok { IfOk result (λ e. Spells words.entry e × (is_small e ≡ true)) }
+pub(crate) fn whole(alloc: Global, line: u32, words: Symbols<'_>) -> Result<Expr, SourceFault>
+    ensures ok { IfOk result (λ e. SpellsExpr words.entry e × (is_small e ≡ true)) }
     ensures fault { IfErr result (NoMemoryOr (At line (Refuses words.entry))) }
 {
     let (e, rest) = chained(alloc, line, words, MOST_OPEN, Chain::Disjunction)?;
@@ -58,10 +59,10 @@ pub(crate) fn whole(alloc: Global, line: u32, words: Parts<'_>) -> Result<Expr, 
 fn chained<'a>(
     alloc: Global,
     line: u32,
-    words: Parts<'a>,
+    words: Symbols<'a>,
     room: u32,
     level: Chain,
-) -> Result<(Expr, Parts<'a>), SourceFault>
+) -> Result<(Expr, Symbols<'a>), SourceFault>
     ensures ok { IfOk result (λ p. chain_in level room words.entry ≡ phrase p.0 p.1) }
     ensures fault { IfErr result (NoMemoryOr (Told line (chain_in level room words.entry))) }
     ensures shorter { IfOk result (λ p. length p.1 ≤ length words.entry) }
@@ -81,10 +82,10 @@ fn chained<'a>(
 fn link<'a>(
     alloc: Global,
     line: u32,
-    words: Parts<'a>,
+    words: Symbols<'a>,
     room: u32,
     level: Chain,
-) -> Result<(Expr, Parts<'a>), SourceFault>
+) -> Result<(Expr, Symbols<'a>), SourceFault>
     ensures ok { IfOk result (λ p. link_in level room words.entry ≡ phrase p.0 p.1) }
     ensures fault { IfErr result (NoMemoryOr (Told line (link_in level room words.entry))) }
     ensures shorter { IfOk result (λ p. length p.1 ≤ length words.entry) }
@@ -103,10 +104,10 @@ fn link<'a>(
 fn fronted<'a>(
     alloc: Global,
     line: u32,
-    words: Parts<'a>,
+    words: Symbols<'a>,
     room: u32,
     front: Front,
-) -> Result<(Expr, Parts<'a>), SourceFault>
+) -> Result<(Expr, Symbols<'a>), SourceFault>
     ensures ok { IfOk result (λ p. front_in front room words.entry ≡ phrase p.0 p.1) }
     ensures fault { IfErr result (NoMemoryOr (Told line (front_in front room words.entry))) }
     ensures shorter { IfOk result (λ p. length p.1 ≤ length words.entry) }
@@ -122,10 +123,10 @@ fn fronted<'a>(
 fn under<'a>(
     alloc: Global,
     line: u32,
-    words: Parts<'a>,
+    words: Symbols<'a>,
     room: u32,
     front: Front,
-) -> Result<(Expr, Parts<'a>), SourceFault>
+) -> Result<(Expr, Symbols<'a>), SourceFault>
     ensures ok { IfOk result (λ p. fronted_in front room words.entry ≡ phrase p.0 p.1) }
     ensures fault { IfErr result (NoMemoryOr (Told line (fronted_in front room words.entry))) }
     ensures shorter { IfOk result (λ p. length p.1 ≤ length words.entry) }
@@ -142,9 +143,9 @@ fn under<'a>(
 fn relation<'a>(
     alloc: Global,
     line: u32,
-    words: Parts<'a>,
+    words: Symbols<'a>,
     room: u32,
-) -> Result<(Expr, Parts<'a>), SourceFault>
+) -> Result<(Expr, Symbols<'a>), SourceFault>
     ensures ok { IfOk result (λ p. relation_in room words.entry ≡ phrase p.0 p.1) }
     ensures fault { IfErr result (NoMemoryOr (Told line (relation_in room words.entry))) }
     ensures shorter { IfOk result (λ p. length p.1 ≤ length words.entry) }
@@ -162,9 +163,9 @@ fn relation<'a>(
 fn primary<'a>(
     alloc: Global,
     line: u32,
-    words: Parts<'a>,
+    words: Symbols<'a>,
     room: u32,
-) -> Result<(Expr, Parts<'a>), SourceFault>
+) -> Result<(Expr, Symbols<'a>), SourceFault>
     ensures ok { IfOk result (λ p. primary_in room words.entry ≡ phrase p.0 p.1) }
     ensures fault { IfErr result (NoMemoryOr (Told line (primary_in room words.entry))) }
     ensures shorter { IfOk result (λ p. length p.1 ≤ length words.entry) }
@@ -173,8 +174,8 @@ fn primary<'a>(
         return Err(bad_syntax(line));
     };
     match first {
-        Part::Operand(term) => Ok((leaf(line, term)?, rest)),
-        Part::Opening => group(alloc, line, rest, room),
+        Symbol::Operand(term) => Ok((leaf(line, term)?, rest)),
+        Symbol::Opening => group(alloc, line, rest, room),
         _ => Err(bad_syntax(line)),
     }
 }
@@ -184,9 +185,9 @@ fn primary<'a>(
 fn group<'a>(
     alloc: Global,
     line: u32,
-    words: Parts<'a>,
+    words: Symbols<'a>,
     room: u32,
-) -> Result<(Expr, Parts<'a>), SourceFault>
+) -> Result<(Expr, Symbols<'a>), SourceFault>
     ensures ok { IfOk result (λ p. group_in room words.entry ≡ phrase p.0 p.1) }
     ensures fault { IfErr result (NoMemoryOr (Told line (group_in room words.entry))) }
     ensures shorter { IfOk result (λ p. length p.1 ≤ length words.entry) }
@@ -204,8 +205,8 @@ fn group<'a>(
 /// A leaf, or what is wrong with it.
 #[inline(always)]
 fn leaf(line: u32, term: Result<Term, FaultCode>) -> Result<Expr, SourceFault>
-    ensures ok { IfOk result (λ e. (r : List Part) → leaf_by term r ≡ phrase e r) }
-    ensures fault { IfErr result (λ f. (f.line ≡ line) × ((r : List Part) → leaf_by term r ≡ Err f.code)) }
+    ensures ok { IfOk result (λ e. (r : List Symbol) → leaf_by term r ≡ phrase e r) }
+    ensures fault { IfErr result (λ f. (f.line ≡ line) × ((r : List Symbol) → leaf_by term r ≡ Err f.code)) }
 {
     match term {
         Ok(term) => Ok(Expr::leaf(term)),
@@ -217,9 +218,9 @@ fn leaf(line: u32, term: Result<Term, FaultCode>) -> Result<Expr, SourceFault>
 #[inline(always)]
 fn take_signs<'a>(
     alloc: Global,
-    words: Parts<'a>,
+    words: Symbols<'a>,
     front: Front,
-) -> Result<(Vec<Prefix>, Parts<'a>), SourceFault>
+) -> Result<(Vec<Prefix>, Symbols<'a>), SourceFault>
     ensures ok { IfOk result (λ p. (operand : Parser) → fronted_by is_small operand (finds_front front) words.entry ≡ with_fronts is_small p.0.items (operand p.1)) }
     ensures fault { IfErr result (λ f. f ≡ no_memory) }
     ensures shorter { IfOk result (λ p. length p.1 ≤ length words.entry) }
@@ -236,8 +237,8 @@ fn take_signs<'a>(
 /// An expression with signs or negations before it.
 #[inline(always)]
 fn with_signs(alloc: Global, line: u32, signs: Vec<Prefix>, e: Expr) -> Result<Expr, SourceFault>
-    ensures ok { IfOk result (λ t. (r : List Part) → with_fronts is_small signs.items (phrase e r) ≡ phrase t r) }
-    ensures fault { IfErr result (NoMemoryOr (λ f. (f.line ≡ line) × ((r : List Part) → with_fronts is_small signs.items (phrase e r) ≡ Err f.code))) }
+    ensures ok { IfOk result (λ t. (r : List Symbol) → with_fronts is_small signs.items (phrase e r) ≡ phrase t r) }
+    ensures fault { IfErr result (NoMemoryOr (λ f. (f.line ≡ line) × ((r : List Symbol) → with_fronts is_small signs.items (phrase e r) ≡ Err f.code))) }
 {
     let mut signs = signs;
     let mut e = e;
@@ -249,20 +250,20 @@ fn with_signs(alloc: Global, line: u32, signs: Vec<Prefix>, e: Expr) -> Result<E
 
 /// The words after a closing parenthesis.
 #[inline(always)]
-fn after_closing<'a>(words: &Parts<'a>) -> Option<Parts<'a>>
-    ensures some { IfSome result (λ r. words.now ≡ Part.Closing ∷ r) }
+fn after_closing<'a>(words: &Symbols<'a>) -> Option<Symbols<'a>>
+    ensures some { IfSome result (λ r. words.now ≡ Symbol.Closing ∷ r) }
     ensures none { IfNone result (NotClosing words.now) }
 {
     let (first, rest) = words.split_mark()?;
     match first {
-        Part::Closing => Some(rest),
+        Symbol::Closing => Some(rest),
         _ => None,
     }
 }
 
 /// The operator of a level, and the words after it.
 #[inline(always)]
-fn next_operator<'a>(words: &Parts<'a>, level: Chain) -> Option<(BinaryOp, Parts<'a>)>
+fn next_operator<'a>(words: &Symbols<'a>, level: Chain) -> Option<(BinaryOp, Symbols<'a>)>
     ensures some { IfSome result (λ p. NextOf (chain_op level) words.now p.0 p.1) }
     ensures none { IfNone result (NoNext (chain_op level) words.now) }
 {
@@ -273,54 +274,44 @@ fn next_operator<'a>(words: &Parts<'a>, level: Chain) -> Option<(BinaryOp, Parts
 
 /// The operator that a word is at a level.
 #[inline(always)]
-fn operator(part: &Part, level: Chain) -> Option<BinaryOp>
+fn operator(part: &Symbol, level: Chain) -> Option<BinaryOp>
     ensures { result ≡ chain_op level part.now }
 {
     match (level, part) {
-        (Chain::Disjunction, Part::OrWord) => Some(BinaryOp::Or),
-        (Chain::Conjunction, Part::AndWord) => Some(BinaryOp::And),
-        (Chain::Sum, Part::Cross) => Some(BinaryOp::Add),
-        (Chain::Sum, Part::Dash) => Some(BinaryOp::Sub),
-        (Chain::Product, Part::Star) => Some(BinaryOp::Mul),
-        (Chain::Product, Part::Slash) => Some(BinaryOp::Div),
+        (Chain::Disjunction, Symbol::OrWord) => Some(BinaryOp::Or),
+        (Chain::Conjunction, Symbol::AndWord) => Some(BinaryOp::And),
+        (Chain::Sum, Symbol::Cross) => Some(BinaryOp::Add),
+        (Chain::Sum, Symbol::Dash) => Some(BinaryOp::Sub),
+        (Chain::Product, Symbol::Star) => Some(BinaryOp::Mul),
+        (Chain::Product, Symbol::Slash) => Some(BinaryOp::Div),
         _ => None,
     }
 }
 
 /// The relation that stands first, and the words after it.
 #[inline(always)]
-fn next_relation<'a>(words: &Parts<'a>) -> Option<(BinaryOp, Parts<'a>)>
+fn next_relation<'a>(words: &Symbols<'a>) -> Option<(BinaryOp, Symbols<'a>)>
     ensures some { IfSome result (λ p. NextOf relation_op words.now p.0 p.1) }
     ensures none { IfNone result (NoNext relation_op words.now) }
 {
     let (first, rest) = words.split_mark()?;
     match first {
-        Part::RelationWord(relation) => Some((BinaryOp::Compare(relation), rest)),
+        Symbol::RelationWord(relation) => Some((BinaryOp::Compare(relation), rest)),
         _ => None,
     }
 }
 
 /// The sign or negation that stands first, and the words after it.
 #[inline(always)]
-fn next_front<'a>(words: &Parts<'a>, front: Front) -> Option<(Prefix, Parts<'a>)>
+fn next_front<'a>(words: &Symbols<'a>, front: Front) -> Option<(Prefix, Symbols<'a>)>
     ensures some { IfSome result (λ p. NextOf (finds_front front) words.now p.0 p.1) }
     ensures none { IfNone result (NoNext (finds_front front) words.now) }
 {
     let (first, rest) = words.split_mark()?;
     match (front, first) {
-        (Front::Negation, Part::NotWord) => Some((Prefix::Not, rest)),
-        (Front::Sign, Part::Dash) => Some((Prefix::Minus, rest)),
-        (Front::Sign, Part::Cross) => Some((Prefix::Plus, rest)),
+        (Front::Negation, Symbol::NotWord) => Some((Prefix::Not, rest)),
+        (Front::Sign, Symbol::Dash) => Some((Prefix::Minus, rest)),
+        (Front::Sign, Symbol::Cross) => Some((Prefix::Plus, rest)),
         _ => None,
-    }
-}
-
-/// The refusal of words that are no expression.
-fn bad_syntax(line: u32) -> SourceFault
-    ensures { result ≡ record { code = FaultCode.BadSyntax; line = line } }
-{
-    SourceFault {
-        code: FaultCode::BadSyntax,
-        line,
     }
 }

@@ -2,7 +2,7 @@
 
 ghost use Rattle.std.specs.Prelude.{◌≡◌, ◌≤◌};
 ghost use Rattle.vcm_spec.specs.Expression.{Value, depth, nodes};
-ghost use Rattle.vcm_expr.specs.Typed.{tree_of};
+ghost use Rattle.vcm_expr.specs.inner.Trees.{tree_of};
 
 use std::marker::Model;
 use vcm_spec::{BinaryOp, Operand, UnaryOp};
@@ -28,13 +28,13 @@ pub struct Typed {
 impl Model for Typed {
     ghost use Rattle.std.specs.Prelude.{◌≤◌};
     ghost use Rattle.vcm_spec.specs.Expression.{Tree, depth, nodes};
-    ghost use Rattle.vcm_expr.specs.Codes.{tree_coded};
+    ghost use Rattle.vcm_expr.specs.inner.Codes.{tree_coded};
 
     ghost Value = { Tree };
 
     ghost coded = { tree_coded };
 
-    ghost use Rattle.vcm_expr.specs.Typed.{tree_of};
+    ghost use Rattle.vcm_expr.specs.inner.Trees.{tree_of};
 
     ghost view = { λ t. tree_of t.node };
 
@@ -60,7 +60,7 @@ impl Typed {
     }
 
     /// What the expression is made of.
-    pub fn node(&self) -> &TypedNode
+    pub(crate) fn node(&self) -> &TypedNode
         ensures is { tree_of result.now ≡ self.now }
         ensures shallow { depth self.now ≤ 32 }
         ensures small { nodes self.now ≤ 512 }

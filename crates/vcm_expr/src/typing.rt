@@ -4,7 +4,7 @@ ghost use Rattle.std.specs.Prelude.{◌≡◌, ◌≤◌, ◌∷◌, Some, None,
 ghost use Rattle.vcm_lines.specs.Fault.{NoMemoryOr, no_memory};
 ghost use Rattle.vcm_lines.specs.declared.fault.FaultCode.{FaultCode};
 ghost use Rattle.vcm_spec.specs.Expression.{One, Two, kind_of};
-ghost use Rattle.vcm_expr.specs.Typed.{tree_of};
+ghost use Rattle.vcm_expr.specs.inner.Trees.{tree_of};
 ghost use Rattle.vcm_expr.specs.Names.{kinds_of};
 ghost use Rattle.vcm_expr.specs.Source.{source_of};
 ghost use Rattle.vcm_expr.specs.Typing.{Rule, kinded, leaf_of, named_by, prefixed_by, pair_by, rule_of, product_rule, quotient_rule, truth_rule, scaled, typed_of, typed_for, wanted_by, wanted_kind, and_then, meeting as numbers_meeting};

@@ -4,7 +4,8 @@ ghost use Rattle.std.specs.Prelude.{◌≡◌, length, Some, List, IfOk};
 ghost use Rattle.vcm_num.specs.declared.number.Kind.{Kind};
 ghost use Rattle.vcm_spec.specs.Expression.{kind_of};
 ghost use Rattle.vcm_spec.specs.Value.{value_of};
-ghost use Rattle.vcm_expr.specs.Typed.{tree_of, VariablesBelow};
+ghost use Rattle.vcm_expr.specs.Typed.{VariablesBelow};
+ghost use Rattle.vcm_expr.specs.inner.Trees.{tree_of};
 ghost use Rattle.vcm_expr.specs.Slots.{IsTruth, SlotsFit};
 
 use crate::operators;

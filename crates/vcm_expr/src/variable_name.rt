@@ -1,7 +1,7 @@
 //! The names of variables.
 
 ghost use Rattle.std.specs.Prelude.{◌≡◌};
-ghost use Rattle.vcm_expr.specs.Parts.{IsVariableName};
+ghost use Rattle.vcm_expr.specs.Symbols.{IsVariableName};
 
 use crate::name::Name;
 use std::marker::Model;
@@ -14,7 +14,7 @@ pub struct VariableName {
 
 impl Model for VariableName {
     ghost use Rattle.std.specs.Prelude.{ℕ, List};
-    ghost use Rattle.vcm_expr.specs.Parts.{IsVariableName};
+    ghost use Rattle.vcm_expr.specs.Symbols.{IsVariableName};
 
     ghost Value = { List ℕ };
 

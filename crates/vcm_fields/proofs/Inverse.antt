@@ -8,7 +8,8 @@ use Rattle.std.proofs.lemmas.List.Concat.{flat_map-cons}
 use Rattle.std.proofs.lemmas.Nat.{le_bytes_2, le_bytes_4, le_bytes_8, from_le_bytes-to_le_bytes_2, from_le_bytes-to_le_bytes_4, from_le_bytes-to_le_bytes_8}
 use Rattle.vcm_fields.specs.declared.fault.ImageFault.{ImageFault}
 use Rattle.vcm_fields.specs.declared.fault.ImageFault.TheVariants.{Short}
-use Rattle.vcm_fields.specs.Reading.{◌>>=◌, Reader, now, both, via, tested, after, times, found, byte_at, number_at, bytes_at}
+use Rattle.vcm_spec.specs.Results.{◌>>=◌}
+use Rattle.vcm_fields.specs.Readers.{Reader, now, both, via, tested, after, times, found, byte_at, number_at, bytes_at}
 
 abbrev pub IsBytes : List ℕ → Type 0
 IsBytes bytes = (i : ℕ) → get_or bytes i 0 < 256

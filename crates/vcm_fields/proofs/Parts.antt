@@ -17,7 +17,7 @@ use Rattle.vcm_code.specs.declared.op.Op.TheVariants.{EndFil, Goto, GoHome, Assi
 use Rattle.vcm_spec.specs.TextBytes.{is_text_byte, is_text, IsText}
 use Rattle.vcm_expr.proofs.NameLemmas.{variable_name_is_name}
 use Rattle.vcm_expr.specs.NameBytes.{is_name, is_name_byte, IsName}
-use Rattle.vcm_expr.specs.Parts.{is_variable_name, IsVariableName}
+use Rattle.vcm_expr.specs.Symbols.{is_variable_name, IsVariableName}
 use Rattle.vcm_fields.specs.Parts.{Operation}
 use Rattle.vcm_fields.specs.declared.word.Word.{Word}
 use Rattle.vcm_fields.specs.declared.word.Word.TheVariants as words
@@ -33,8 +33,8 @@ use Rattle.vcm_spec.specs.declared.words.Setting.{Setting}
 use Rattle.vcm_spec.specs.declared.words.Setting.TheVariants.{Approach, Retract, Search, Depth}
 use Rattle.vcm_spec.specs.declared.words.Source.{Source}
 use Rattle.vcm_spec.specs.declared.words.Source.TheVariants.{Nominal, Actual}
-use Rattle.vcm_fields.specs.Reading.{both, via, tested, after, times, found, byte_at, number_at, signed_at, bytes_at, is_one, truth_at, item_rows, tagged_item, item_at, expression_at, name_at, variable_name_at, text_at, byte_below_at, axis_rows, axis_at, direction_rows, direction_at, setting_rows, setting_at, source_rows, source_at, part_at, word_rows, word_at, three_at, operands_at, line_at, kind_rows, kind_at, entry_at}
-use Rattle.vcm_fields.specs.Slices.{read_or_nil, items_in, AreItems}
+use Rattle.vcm_fields.specs.Readers.{both, via, tested, after, times, found, byte_at, number_at, signed_at, bytes_at, is_one, truth_at, item_rows, tagged_item, item_at, expression_at, name_at, variable_name_at, text_at, byte_below_at, axis_rows, axis_at, direction_rows, direction_at, setting_rows, setting_at, source_rows, source_at, part_at, word_rows, word_at, three_at, operands_at, line_at, kind_rows, kind_at, entry_at}
+use Rattle.vcm_fields.specs.inner.Slices.{read_or_nil, items_in, AreItems}
 use Rattle.vcm_fields.proofs.Inverse.{Cut, times_first, times_none, IsBytes, Takes, Reads, Row, ok_is, reads_as, reads_both, via_takes, via_again, reads_via, reads_tested, reads_after, reads_times, tagged_takes, now_row, reads_byte, reads_short, reads_long, reads_eight, reads_bytes}
 
 -- ---- items

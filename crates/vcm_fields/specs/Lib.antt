@@ -2,5 +2,5 @@ pub mod Parts
 pub mod Words
 pub mod Fitting
 pub mod Spelling
-pub mod Reading
-pub mod Slices
+pub mod Readers
+pub mod inner

@@ -2,7 +2,7 @@
 
 ghost use Rattle.std.specs.Prelude.{◌≡◌};
 ghost use Rattle.std.specs.Int.{w16, w32, w64};
-ghost use Rattle.vcm_fields.specs.Reading.{Gives, byte_at, byte_below_at, number_at, signed_at, bytes_at};
+ghost use Rattle.vcm_fields.specs.Readers.{Gives, byte_at, byte_below_at, number_at, signed_at, bytes_at};
 
 use crate::fault::ImageFault;
 

@@ -1,13 +1,13 @@
 //! Postfix items.
 
-ghost use Rattle.vcm_fields.specs.Reading.{Gives, item_at, tagged_item, truth_at};
+ghost use Rattle.vcm_fields.specs.Readers.{Gives, item_at, tagged_item, truth_at};
 
 use crate::fault::ImageFault;
 use crate::fields::{byte, byte_below, short, signed};
 use vcm_spec::{BinaryOp, Item, Operand, Relation, UnaryOp};
 
 /// A postfix item: its tag, and what it pushes.
-#[tactic(auto, unfolding(crate::specs::Reading::item_at))]
+#[tactic(auto, unfolding(crate::specs::Readers::item_at))]
 #[inline(always)]
 pub(crate) fn item(bytes: &[u8]) -> Result<(Item, &[u8]), ImageFault>
     ensures { Gives (λ x. (x.0, x.1.now)) result (item_at bytes.now) }
@@ -26,7 +26,7 @@ fn truth(bytes: &[u8]) -> Result<(bool, &[u8]), ImageFault>
 }
 
 // The item with a tag.
-#[tactic(auto, unfolding(crate::specs::Reading::tagged_item))]
+#[tactic(auto, unfolding(crate::specs::Readers::tagged_item))]
 #[inline(always)]
 fn tagged(tag: u8, rest: &[u8]) -> Result<(Item, &[u8]), ImageFault>
     ensures { Gives (λ x. (x.0, x.1.now)) result (tagged_item tag rest.now) }

@@ -16,6 +16,6 @@ pub use fault::ImageFault;
 pub use fields::{long, short};
 pub use slices::{ItemSlice, TextSlice};
 pub use statements::{BorrowedOp, BorrowedStatement, statement};
-pub use texts::{is_text, name};
+pub use texts::name;
 pub use variables::{BorrowedVariable, variable};
 pub use word::Word;

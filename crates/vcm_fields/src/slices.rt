@@ -1,7 +1,7 @@
 //! Parts of an image that contracts see as what they spell.
 
 ghost use Rattle.std.specs.Prelude.{◌≡◌, ◌∷◌, [], MatchOption};
-ghost use Rattle.vcm_fields.specs.Reading.{Gives, times, item_at};
+ghost use Rattle.vcm_fields.specs.Readers.{Gives, times, item_at};
 
 use crate::fault::ImageFault;
 use crate::items::item;
@@ -21,7 +21,7 @@ impl<'a> Model for ItemSlice<'a> {
 
     ghost Value = { List Item };
 
-    ghost use Rattle.vcm_fields.specs.Slices.{items_in, AreItems};
+    ghost use Rattle.vcm_fields.specs.inner.Slices.{items_in, AreItems};
 
     ghost view = { λ s. items_in s.count s.bytes.now };
 

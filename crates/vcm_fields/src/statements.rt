@@ -1,6 +1,6 @@
 //! Statements, whose items and texts are slices of the image.
 
-ghost use Rattle.vcm_fields.specs.Reading.{Gives, expression_at, pair_at, three_at, operands_at, line_at};
+ghost use Rattle.vcm_fields.specs.Readers.{Gives, expression_at, pair_at, three_at, operands_at, line_at};
 ghost use Rattle.vcm_fields.specs.declared.word.Word.TheVariants as words;
 
 use crate::fault::ImageFault;
@@ -21,7 +21,7 @@ pub type BorrowedStatement<'a> = Statement<ItemSlice<'a>, TextSlice<'a>>;
 const LONGEST: u16 = 1024;
 
 // An expression: the number of its items, and the items.
-#[tactic(auto, unfolding(crate::specs::Reading::expression_at))]
+#[tactic(auto, unfolding(crate::specs::Readers::expression_at))]
 #[inline(always)]
 fn expression(bytes: &[u8]) -> Result<(ItemSlice<'_>, &[u8]), ImageFault>
     ensures { Gives (λ x. (x.0, x.1.now)) result (expression_at bytes.now) }
@@ -41,7 +41,7 @@ struct Triple<'a> {
     z: ItemSlice<'a>,
 }
 
-#[tactic(auto, unfolding(crate::specs::Reading::three_at))]
+#[tactic(auto, unfolding(crate::specs::Readers::three_at))]
 fn three(bytes: &[u8]) -> Result<(Triple<'_>, &[u8]), ImageFault>
     ensures { Gives (λ t. ((t.0.x, (t.0.y, t.0.z)), t.1.now)) result (three_at bytes.now) }
 {
@@ -52,7 +52,7 @@ fn three(bytes: &[u8]) -> Result<(Triple<'_>, &[u8]), ImageFault>
 }
 
 // The operands of GOTO.
-#[tactic(auto, unfolding(crate::specs::Reading::operands_at))]
+#[tactic(auto, unfolding(crate::specs::Readers::operands_at))]
 #[inline(always)]
 fn goto(bytes: &[u8]) -> Result<(BorrowedOp<'_>, &[u8]), ImageFault>
     ensures { Gives (λ x. (x.0, x.1.now)) result (operands_at words.Goto bytes.now) }
@@ -62,7 +62,7 @@ fn goto(bytes: &[u8]) -> Result<(BorrowedOp<'_>, &[u8]), ImageFault>
 }
 
 // The operands of ASSIGN.
-#[tactic(auto, unfolding(crate::specs::Reading::operands_at))]
+#[tactic(auto, unfolding(crate::specs::Readers::operands_at))]
 #[inline(always)]
 fn assign(bytes: &[u8]) -> Result<(BorrowedOp<'_>, &[u8]), ImageFault>
     ensures { Gives (λ x. (x.0, x.1.now)) result (operands_at words.Assign bytes.now) }
@@ -73,7 +73,7 @@ fn assign(bytes: &[u8]) -> Result<(BorrowedOp<'_>, &[u8]), ImageFault>
 }
 
 // The operands of IF.
-#[tactic(auto, unfolding(crate::specs::Reading::operands_at))]
+#[tactic(auto, unfolding(crate::specs::Readers::operands_at))]
 #[inline(always)]
 fn choice(bytes: &[u8]) -> Result<(BorrowedOp<'_>, &[u8]), ImageFault>
     ensures { Gives (λ x. (x.0, x.1.now)) result (operands_at words.If bytes.now) }
@@ -92,7 +92,7 @@ fn pair(bytes: &[u8]) -> Result<(u8, &[u8]), ImageFault>
 }
 
 // The operands of DO.
-#[tactic(auto, unfolding(crate::specs::Reading::operands_at))]
+#[tactic(auto, unfolding(crate::specs::Readers::operands_at))]
 #[inline(always)]
 fn looping(bytes: &[u8]) -> Result<(BorrowedOp<'_>, &[u8]), ImageFault>
     ensures { Gives (λ x. (x.0, x.1.now)) result (operands_at words.Do bytes.now) }
@@ -108,7 +108,7 @@ fn looping(bytes: &[u8]) -> Result<(BorrowedOp<'_>, &[u8]), ImageFault>
 }
 
 // The operands of ENDDO.
-#[tactic(auto, unfolding(crate::specs::Reading::operands_at))]
+#[tactic(auto, unfolding(crate::specs::Readers::operands_at))]
 #[inline(always)]
 fn turning(bytes: &[u8]) -> Result<(BorrowedOp<'_>, &[u8]), ImageFault>
     ensures { Gives (λ x. (x.0, x.1.now)) result (operands_at words.EndDo bytes.now) }
@@ -120,7 +120,7 @@ fn turning(bytes: &[u8]) -> Result<(BorrowedOp<'_>, &[u8]), ImageFault>
 }
 
 // The operands of FEAT.
-#[tactic(auto, unfolding(crate::specs::Reading::operands_at))]
+#[tactic(auto, unfolding(crate::specs::Readers::operands_at))]
 #[inline(always)]
 fn feat(bytes: &[u8]) -> Result<(BorrowedOp<'_>, &[u8]), ImageFault>
     ensures { Gives (λ x. (x.0, x.1.now)) result (operands_at words.Feat bytes.now) }
@@ -132,7 +132,7 @@ fn feat(bytes: &[u8]) -> Result<(BorrowedOp<'_>, &[u8]), ImageFault>
 }
 
 // The operands of PTMEAS.
-#[tactic(auto, unfolding(crate::specs::Reading::operands_at))]
+#[tactic(auto, unfolding(crate::specs::Readers::operands_at))]
 #[inline(always)]
 fn point(bytes: &[u8]) -> Result<(BorrowedOp<'_>, &[u8]), ImageFault>
     ensures { Gives (λ x. (x.0, x.1.now)) result (operands_at words.PtMeas bytes.now) }
@@ -144,7 +144,7 @@ fn point(bytes: &[u8]) -> Result<(BorrowedOp<'_>, &[u8]), ImageFault>
 }
 
 // The operands of SNSET.
-#[tactic(auto, unfolding(crate::specs::Reading::operands_at))]
+#[tactic(auto, unfolding(crate::specs::Readers::operands_at))]
 #[inline(always)]
 fn set(bytes: &[u8]) -> Result<(BorrowedOp<'_>, &[u8]), ImageFault>
     ensures { Gives (λ x. (x.0, x.1.now)) result (operands_at words.SnSet bytes.now) }
@@ -155,7 +155,7 @@ fn set(bytes: &[u8]) -> Result<(BorrowedOp<'_>, &[u8]), ImageFault>
 }
 
 // The operands of TRANS.
-#[tactic(auto, unfolding(crate::specs::Reading::operands_at))]
+#[tactic(auto, unfolding(crate::specs::Readers::operands_at))]
 #[inline(always)]
 fn shift(bytes: &[u8]) -> Result<(BorrowedOp<'_>, &[u8]), ImageFault>
     ensures { Gives (λ x. (x.0, x.1.now)) result (operands_at words.Trans bytes.now) }
@@ -166,7 +166,7 @@ fn shift(bytes: &[u8]) -> Result<(BorrowedOp<'_>, &[u8]), ImageFault>
 }
 
 // The operands of ROTATE.
-#[tactic(auto, unfolding(crate::specs::Reading::operands_at))]
+#[tactic(auto, unfolding(crate::specs::Readers::operands_at))]
 #[inline(always)]
 fn turn(bytes: &[u8]) -> Result<(BorrowedOp<'_>, &[u8]), ImageFault>
     ensures { Gives (λ x. (x.0, x.1.now)) result (operands_at words.Rotate bytes.now) }
@@ -178,7 +178,7 @@ fn turn(bytes: &[u8]) -> Result<(BorrowedOp<'_>, &[u8]), ImageFault>
 }
 
 // The operands of OBTAIN.
-#[tactic(auto, unfolding(crate::specs::Reading::operands_at))]
+#[tactic(auto, unfolding(crate::specs::Readers::operands_at))]
 #[inline(always)]
 fn obtain(bytes: &[u8]) -> Result<(BorrowedOp<'_>, &[u8]), ImageFault>
     ensures { Gives (λ x. (x.0, x.1.now)) result (operands_at words.Obtain bytes.now) }
@@ -191,7 +191,7 @@ fn obtain(bytes: &[u8]) -> Result<(BorrowedOp<'_>, &[u8]), ImageFault>
 }
 
 // The operands of OUTPUT.
-#[tactic(auto, unfolding(crate::specs::Reading::operands_at))]
+#[tactic(auto, unfolding(crate::specs::Readers::operands_at))]
 #[inline(always)]
 fn output(bytes: &[u8]) -> Result<(BorrowedOp<'_>, &[u8]), ImageFault>
     ensures { Gives (λ x. (x.0, x.1.now)) result (operands_at words.Output bytes.now) }
@@ -202,7 +202,7 @@ fn output(bytes: &[u8]) -> Result<(BorrowedOp<'_>, &[u8]), ImageFault>
 }
 
 // The operands behind a word.
-#[tactic(auto, unfolding(crate::specs::Reading::operands_at))]
+#[tactic(auto, unfolding(crate::specs::Readers::operands_at))]
 #[inline(always)]
 fn operands<'a>(word: Word, bytes: &'a [u8]) -> Result<(BorrowedOp<'a>, &'a [u8]), ImageFault>
     ensures { Gives (λ x. (x.0, x.1.now)) result (operands_at word bytes.now) }
@@ -253,7 +253,7 @@ fn operands<'a>(word: Word, bytes: &'a [u8]) -> Result<(BorrowedOp<'a>, &'a [u8]
 /// # Errors
 ///
 /// Short; BadField where a field is out of its range.
-#[tactic(auto, unfolding(crate::specs::Reading::line_at))]
+#[tactic(auto, unfolding(crate::specs::Readers::line_at))]
 #[inline(always)]
 pub fn statement(bytes: &[u8]) -> Result<(BorrowedStatement<'_>, &[u8]), ImageFault>
     ensures { Gives (λ x. (x.0, x.1.now)) result (line_at bytes.now) }

@@ -1,6 +1,6 @@
 //! Bytes that stand for a word of the language: each is read by its table.
 
-ghost use Rattle.vcm_fields.specs.Reading.{Gives, word_at, kind_at, axis_at, direction_at, setting_at, source_at, part_at};
+ghost use Rattle.vcm_fields.specs.Readers.{Gives, word_at, kind_at, axis_at, direction_at, setting_at, source_at, part_at};
 
 use crate::fault::ImageFault;
 use crate::fields::byte;
@@ -9,7 +9,7 @@ use vcm_num::{Axis, Kind};
 use vcm_spec::{Setting, Source};
 
 /// The word of a statement.
-#[tactic(auto, unfolding(crate::specs::Reading::word_at))]
+#[tactic(auto, unfolding(crate::specs::Readers::word_at))]
 #[inline(always)]
 pub(crate) fn word(bytes: &[u8]) -> Result<(Word, &[u8]), ImageFault>
     ensures { Gives (λ x. (x.0, x.1.now)) result (word_at bytes.now) }
@@ -43,7 +43,7 @@ pub(crate) fn word(bytes: &[u8]) -> Result<(Word, &[u8]), ImageFault>
 }
 
 /// A variable's kind.
-#[tactic(auto, unfolding(crate::specs::Reading::kind_at))]
+#[tactic(auto, unfolding(crate::specs::Readers::kind_at))]
 pub(crate) fn kind(bytes: &[u8]) -> Result<(Kind, &[u8]), ImageFault>
     ensures { Gives (λ x. (x.0, x.1.now)) result (kind_at bytes.now) }
 {

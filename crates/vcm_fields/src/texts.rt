@@ -1,41 +1,19 @@
 //! Names and texts.
 
 ghost use Rattle.std.specs.Prelude.{◌≡◌};
-ghost use Rattle.std.specs.List.{list_all};
-ghost use Rattle.vcm_spec.specs.TextBytes.{is_text_byte, is_text};
-ghost use Rattle.vcm_fields.specs.Reading.{Gives, length_at, name_at, variable_name_at, text_at};
+ghost use Rattle.vcm_fields.specs.Readers.{Gives, length_at, name_at, variable_name_at, text_at};
 
 use crate::fault::ImageFault;
 use crate::fields::{byte, short, some_bytes};
 use crate::slices::TextSlice;
 use vcm_expr::{is_name, is_variable_name};
+use vcm_spec::is_text;
 
 /// The most bytes of a name.
 const LONGEST_NAME: u8 = 16;
 
 /// The most bytes of a text.
 const LONGEST_TEXT: u16 = 1024;
-
-// Whether a byte may stand in a text.
-fn is_text_byte(byte: u8) -> bool
-    ensures { result ≡ is_text_byte byte }
-{
-    byte == b'\t' || (32 <= byte && byte != b'\'' && byte != 127)
-}
-
-// Whether all of these bytes may stand in a text.
-fn are_text_bytes(bytes: &[u8]) -> bool
-    ensures { result ≡ list_all is_text_byte bytes.now }
-{
-    bytes.iter().all(|byte| is_text_byte(*byte))
-}
-
-/// Whether bytes are a text: at most 1,024, each the tab or one from 32 to 255 but the apostrophe and 127.
-pub fn is_text(bytes: &[u8]) -> bool
-    ensures { result ≡ is_text bytes.now }
-{
-    bytes.len() <= usize::from(LONGEST_TEXT) && are_text_bytes(bytes)
-}
 
 // The length of a name: 1 to 16.
 fn length(bytes: &[u8]) -> Result<(u8, &[u8]), ImageFault>
@@ -53,7 +31,7 @@ fn length(bytes: &[u8]) -> Result<(u8, &[u8]), ImageFault>
 /// # Errors
 ///
 /// Short; BadField where the length is not 1 to 16, or a byte is no upper-case letter, digit or underscore.
-#[tactic(auto, unfolding(crate::specs::Reading::name_at))]
+#[tactic(auto, unfolding(crate::specs::Readers::name_at))]
 pub fn name(bytes: &[u8]) -> Result<(TextSlice<'_>, &[u8]), ImageFault>
     ensures { Gives (λ x. (x.0, x.1.now)) result (name_at bytes.now) }
 {
@@ -66,7 +44,7 @@ pub fn name(bytes: &[u8]) -> Result<(TextSlice<'_>, &[u8]), ImageFault>
 }
 
 /// A variable's name.
-#[tactic(auto, unfolding(crate::specs::Reading::variable_name_at))]
+#[tactic(auto, unfolding(crate::specs::Readers::variable_name_at))]
 pub(crate) fn variable_name(bytes: &[u8]) -> Result<(TextSlice<'_>, &[u8]), ImageFault>
     ensures { Gives (λ x. (x.0, x.1.now)) result (variable_name_at bytes.now) }
 {
@@ -79,7 +57,7 @@ pub(crate) fn variable_name(bytes: &[u8]) -> Result<(TextSlice<'_>, &[u8]), Imag
 }
 
 /// A text.
-#[tactic(auto, unfolding(crate::specs::Reading::text_at))]
+#[tactic(auto, unfolding(crate::specs::Readers::text_at))]
 pub(crate) fn text(bytes: &[u8]) -> Result<(TextSlice<'_>, &[u8]), ImageFault>
     ensures { Gives (λ x. (x.0, x.1.now)) result (text_at bytes.now) }
 {

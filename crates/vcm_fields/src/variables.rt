@@ -1,7 +1,7 @@
 //! The variables of an image.
 
 ghost use Rattle.std.specs.Prelude.{◌≡◌};
-ghost use Rattle.vcm_fields.specs.Reading.{Gives, entry_at};
+ghost use Rattle.vcm_fields.specs.Readers.{Gives, entry_at};
 
 use crate::fault::ImageFault;
 use crate::fields::long;
@@ -55,7 +55,7 @@ impl<'a> BorrowedVariable<'a> {
 /// # Errors
 ///
 /// Short; BadField where a byte is no kind, or the name is none of a variable.
-#[tactic(auto, unfolding(crate::specs::Reading::entry_at))]
+#[tactic(auto, unfolding(crate::specs::Readers::entry_at))]
 pub fn variable(bytes: &[u8]) -> Result<(BorrowedVariable<'_>, &[u8]), ImageFault>
     ensures { Gives (λ x. (x.0, x.1.now)) result (entry_at bytes.now) }
 {

@@ -6,7 +6,7 @@ use Rattle.vcm_num.specs.declared.axis.Axis.TheVariants.{PlusX, PlusY, PlusZ}
 use Rattle.vcm_spec.specs.Frame.{rows, product, quarter, quarters, is_turn, turn_back, direction}
 use Rattle.vcm_spec.proofs.Frames.{every, every_at, is_same_turn, same_turn, or_second}
 use Rattle.vcm_spec.proofs.Turns.{quarters_turn}
-use Rattle.vcm_frame.specs.Rows.{unit_row, turn_of, times}
+use Rattle.vcm_frame.specs.inner.Rows.{unit_row, turn_of, times}
 
 one_quarter : (axis : ℕ) → axis < 3 → quarters axis 1 ≡ quarter axis
 one_quarter zero l = refl

@@ -3,7 +3,7 @@ use Rattle.std.proofs.Common.{◌≡◌, ◌∙◌, ℕ, ℤ, pos, negsuc, ◌+�
 use Rattle.std.proofs.lemmas.Int.{ints}
 use Rattle.vcm_num.specs.declared.axis.Axis.TheVariants.{PlusX, MinusX, PlusY, MinusY, PlusZ, MinusZ}
 use Rattle.vcm_num.specs.Number.{checked}
-use Rattle.vcm_frame.specs.Rows.{unit_row, dot}
+use Rattle.vcm_frame.specs.inner.Rows.{unit_row, dot}
 
 one_x : (a b c : ℤ) → pos 1 *ℤ a +ℤ pos 0 *ℤ b +ℤ pos 0 *ℤ c ≡ a
 one_x a b c = omega (arith, ints)

@@ -6,7 +6,7 @@ use Rattle.vcm_num.specs.declared.axis.Axis.TheVariants.{PlusX, MinusX, PlusY, M
 use Rattle.vcm_num.specs.Axis.{axis_of, is_forward}
 use Rattle.vcm_spec.specs.Frame.{is_turn, direction}
 use Rattle.vcm_spec.proofs.Frames.{every, every_at, or_second}
-use Rattle.vcm_frame.specs.Rows.{turn_of, taken}
+use Rattle.vcm_frame.specs.inner.Rows.{turn_of, taken}
 
 abbrev same : Axis → Axis → Bool
 same d e = (axis_of d == axis_of e) && (if is_forward d then is_forward e else not (is_forward e))

@@ -12,8 +12,12 @@ pub record IsPoint (p : Point) : Type 0 where
 
 -- a point that has machine coordinates is the one that these have in part coordinates
 abbrev pub ThereAndBack : Type 0
-ThereAndBack = (f : Frame) (p q : Point) → IsTrue (is_turn f.turn) → IsPoint p → point_at (to_machine f (coordinate p)) ≡ Gives q → point_at (to_part f (coordinate q)) ≡ Gives p
+ThereAndBack =
+    (f : Frame) (p q : Point) → IsTrue (is_turn f.turn) → IsPoint p → point_at (to_machine f (coordinate p)) ≡ Gives q
+    → point_at (to_part f (coordinate q)) ≡ Gives p
 
 -- a machine point that has part coordinates is the one that these have in machine coordinates
 abbrev pub BackAndThere : Type 0
-BackAndThere = (f : Frame) (p q : Point) → IsTrue (is_turn f.turn) → IsPoint p → point_at (to_part f (coordinate p)) ≡ Gives q → point_at (to_machine f (coordinate q)) ≡ Gives p
+BackAndThere =
+    (f : Frame) (p q : Point) → IsTrue (is_turn f.turn) → IsPoint p → point_at (to_part f (coordinate p)) ≡ Gives q
+    → point_at (to_machine f (coordinate q)) ≡ Gives p

@@ -1,3 +1,2 @@
-pub mod Rows
-pub mod RowsBack
+pub mod inner
 pub mod Laws

@@ -4,7 +4,7 @@ ghost use Rattle.std.specs.Prelude.{◌≡◌, ℕ, ℤ, ◌+ℤ◌, ◌-ℤ◌}
 ghost use Rattle.vcm_num.specs.Number.{checked};
 ghost use Rattle.vcm_num.specs.Point.{coordinate};
 ghost use Rattle.vcm_spec.specs.Outcome.{Answers, point_at};
-ghost use Rattle.vcm_frame.specs.Rows.{unit_row, dot};
+ghost use Rattle.vcm_frame.specs.inner.Rows.{unit_row, dot};
 
 use vcm_num::{Axis, Fault, Point, add, sub};
 use vcm_spec::Stop;

@@ -2,7 +2,7 @@
 
 ghost use Rattle.std.specs.Prelude.{◌≡◌, ◌<◌};
 ghost use Rattle.vcm_spec.specs.Frame.{no_turn, product, quarter, quarters, direction, turn_back};
-ghost use Rattle.vcm_frame.specs.Rows.{taken, way, turn_of};
+ghost use Rattle.vcm_frame.specs.inner.Rows.{taken, way, turn_of};
 
 use crate::quarter::quartered;
 use std::marker::Model;
@@ -20,8 +20,8 @@ pub struct Turn {
 impl Model for Turn {
     ghost use Rattle.std.specs.Prelude.{IsTrue};
     ghost use Rattle.vcm_spec.specs.Frame.{Turn as Meaning, is_turn};
-    ghost use Rattle.vcm_frame.specs.Rows.{turn_of, axis_in};
-    ghost use Rattle.vcm_frame.specs.RowsBack.{fields_back};
+    ghost use Rattle.vcm_frame.specs.inner.Rows.{turn_of, axis_in};
+    ghost use Rattle.vcm_frame.specs.inner.RowsBack.{fields_back};
 
     ghost Value = { Meaning };
 

@@ -7,9 +7,9 @@ use Rattle.vcm_fields.specs.declared.fault.ImageFault.TheVariants.{NoMemory}
 use Rattle.vcm_code.specs.declared.code.Code.{Code}
 use Rattle.vcm_image.specs.declared.counts.Counts.{Counts}
 use Rattle.vcm_fields.specs.declared.fault.ImageFault.TheVariants.{Trailing}
-use Rattle.vcm_fields.specs.Reading.{Reader, Fails, times, entry_at, name_at, line_at}
+use Rattle.vcm_fields.specs.Readers.{Reader, Fails, times, entry_at, name_at, line_at}
 use Rattle.vcm_image.specs.Whole.{header, header_at, body_at, ended, code_at}
-use Rattle.vcm_image.specs.Places.{IsEnd, Begin, Table, code_or_none, code_in, Indexed}
+use Rattle.vcm_image.specs.inner.Places.{IsEnd, Begin, Table, code_or_none, code_in, Indexed}
 use Rattle.vcm_image.proofs.Wholes.{reads_header, code_takes}
 use Rattle.vcm_fields.proofs.Inverse.{IsBytes, Reads, Progress, begun, goes_on, stops, is_done, ok_is}
 

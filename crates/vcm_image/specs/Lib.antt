@@ -1,3 +1,3 @@
 pub mod Whole
-pub mod Places
+pub mod inner
 pub mod Laws

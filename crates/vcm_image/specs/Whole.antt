@@ -8,7 +8,8 @@ use Rattle.vcm_fields.specs.declared.fault.ImageFault.{ImageFault}
 use Rattle.vcm_fields.specs.declared.fault.ImageFault.TheVariants.{BadMagic, BadVersion, BadField, Trailing}
 use Rattle.vcm_fields.specs.Fitting.{FitsEntry, FitsLine}
 use Rattle.vcm_fields.specs.Spelling.{short, long, entry, name, line}
-use Rattle.vcm_fields.specs.Reading.{◌>>=◌, Reader, both, via, tested, after, times, number_at, entry_at, name_at, line_at}
+use Rattle.vcm_spec.specs.Results.{◌>>=◌}
+use Rattle.vcm_fields.specs.Readers.{Reader, both, via, tested, after, times, number_at, entry_at, name_at, line_at}
 use Rattle.vcm_image.specs.declared.counts.Counts.{Counts}
 
 -- no table is too long, and each field is in range
@@ -20,7 +21,13 @@ pub record Fits (c : Code) : Type 0 where
 
 -- how many variables, features, frames and statements there are
 abbrev pub counts_of : Code → Counts
-counts_of c = record { variables = length c.tables.variables; features = length c.tables.features; frames = length c.tables.frames; statements = length c.statements }
+counts_of c =
+    record {
+      variables = length c.tables.variables;
+      features = length c.tables.features;
+      frames = length c.tables.frames;
+      statements = length c.statements;
+    }
 
 -- `VCMI`, as a number of four bytes
 abbrev pub magic : ℕ
@@ -32,7 +39,9 @@ header n = long magic ++ (short 1 ++ (short n.variables ++ (short n.features ++ 
 
 -- the one spelling of a code
 abbrev pub spelling : Code → List ℕ
-spelling c = header (counts_of c) ++ (flat_map entry c.tables.variables ++ (flat_map name c.tables.features ++ (flat_map name c.tables.frames ++ flat_map line c.statements)))
+spelling c =
+    header (counts_of c) ++ (flat_map entry c.tables.variables
+    ++ (flat_map name c.tables.features ++ (flat_map name c.tables.frames ++ flat_map line c.statements)))
 
 -- a number is this one
 abbrev pub is_number : ℕ → ℕ → Bool

@@ -2,7 +2,7 @@
 
 ghost use Rattle.std.specs.Prelude.{◌≡◌, IfOk};
 ghost use Rattle.vcm_expr.specs.NameBytes.{IsName};
-ghost use Rattle.vcm_expr.specs.Parts.{IsVariableName};
+ghost use Rattle.vcm_expr.specs.Symbols.{IsVariableName};
 
 use crate::scanned::Scanned;
 use std::alloc::Global;

@@ -10,9 +10,8 @@ ghost use Rattle.vcm_code.specs.Deciding.{Tells};
 use crate::scanned::{MOST_NAMES, MOST_STATEMENTS};
 use vcm_code::{Code, Op, OwnedOp, OwnedStatement};
 use vcm_expr::{Name, is_name, is_variable_name};
-use vcm_fields::is_text;
 use vcm_num::Items;
-use vcm_spec::Item;
+use vcm_spec::{Item, is_text};
 use vcm_tables::Variable;
 
 /// The most items of an expression.

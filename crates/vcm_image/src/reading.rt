@@ -2,7 +2,7 @@
 
 ghost use Rattle.std.specs.Prelude.{◌≡◌, Ok, IfOk};
 ghost use Rattle.vcm_code.specs.declared.code.Code.{Code as CodeOf};
-ghost use Rattle.vcm_fields.specs.Reading.{GivesOrNoMemory};
+ghost use Rattle.vcm_fields.specs.Readers.{GivesOrNoMemory};
 ghost use Rattle.vcm_image.specs.Whole.{Fits, spelling, code_at};
 
 use crate::copying::statements;

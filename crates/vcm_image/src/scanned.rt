@@ -4,9 +4,9 @@ ghost use Rattle.std.specs.Prelude.{◌≡◌, ◌<◌, ◌≤◌, drop, Ok, Som
 ghost use Rattle.std.specs.Int.{w16, w32};
 ghost use Rattle.vcm_expr.specs.NameBytes.{IsName};
 ghost use Rattle.vcm_code.specs.declared.code.Code.{Code};
-ghost use Rattle.vcm_fields.specs.Reading.{Gives, Fails, GivesOrNoMemory, times, name_at, line_at, entry_at};
+ghost use Rattle.vcm_fields.specs.Readers.{Gives, Fails, GivesOrNoMemory, times, name_at, line_at, entry_at};
 ghost use Rattle.vcm_image.specs.Whole.{Fits, spelling, header_at, count_at, code_at};
-ghost use Rattle.vcm_image.specs.Places.{Table, IsEnd};
+ghost use Rattle.vcm_image.specs.inner.Places.{Table, IsEnd};
 
 use crate::copying;
 use crate::counts::Counts;
@@ -47,7 +47,7 @@ impl<'a> Model for Scanned<'a> {
 
     ghost Value = { Code };
 
-    ghost use Rattle.vcm_image.specs.Places.{code_in, Indexed};
+    ghost use Rattle.vcm_image.specs.inner.Places.{code_in, Indexed};
 
     ghost view = { λ s. code_in s.bytes.now };
 
@@ -208,7 +208,7 @@ fn after(bytes: &[u8], start: usize) -> &[u8]
 }
 
 impl<'a> Scanned<'a> {
-    ghost use Rattle.vcm_expr.specs.Parts.{IsVariableName};
+    ghost use Rattle.vcm_expr.specs.Symbols.{IsVariableName};
 
     /// How many variables there are.
     pub fn variable_count(&self) -> usize

@@ -3,7 +3,7 @@
 ghost use Rattle.std.specs.Prelude.{◌≡◌, ◌++◌, ◌≤◌, length, IfOk, OnOk};
 ghost use Rattle.std.specs.List.{flat_map, AllByRecursion};
 ghost use Rattle.vcm_expr.specs.NameBytes.{IsName};
-ghost use Rattle.vcm_expr.specs.Parts.{IsVariableName};
+ghost use Rattle.vcm_expr.specs.Symbols.{IsVariableName};
 ghost use Rattle.vcm_code.specs.Ops.{statements_of, code_of};
 ghost use Rattle.vcm_code.specs.Ranges.{AllInRange, AreVariables, IsInRange};
 ghost use Rattle.vcm_fields.specs.Fitting.{FitsLine, FitsEntry};

@@ -29,7 +29,8 @@ use Rattle.vcm_job.specs.declared.reading.ReadFault.{ReadFault}
 use Rattle.vcm_job.specs.declared.reading.ReadFault.TheVariants as read_faults
 use Rattle.vcm_job.specs.Reading.{most_bytes, ReadsAtMost, ReadsLittle, IsReadFault}
 use Rattle.vcm_job.specs.Jobs.{most_steps, job_setup, start_of, held, part_text, program_text, status_of}
-use Rattle.vcm_job.specs.Results.{IsJobRun, IsHalted, IsJobRefusal, not_read, IsDone, IsCutOff, IsNotDone, AnswersLong}
+use Rattle.vcm_job.specs.Results.{IsHalted, IsJobRefusal, IsDone, IsCutOff, IsNotDone, AnswersLong}
+use Rattle.vcm_job.specs.inner.Running.{IsJobRun, not_read}
 
 -- ---- what is known of an input
 

@@ -14,8 +14,6 @@ use Rattle.vcm_debug.specs.Serving.{Served}
 use Rattle.vcm_run.specs.Programs.{IsBuilt, IsRefusal}
 use Rattle.vcm_job.specs.declared.debugging.DebugFault.{DebugFault}
 use Rattle.vcm_job.specs.declared.debugging.DebugFault.TheVariants.{Refused, Image, NoMemory, Read, TooLong, Serve}
-use Rattle.vcm_job.specs.declared.reading.ReadFault.{ReadFault}
-use Rattle.vcm_job.specs.declared.reading.ReadFault.TheVariants as read_faults
 use Rattle.vcm_job.specs.Reading.{most_bytes, ReadsAtMost}
 use Rattle.vcm_job.specs.Inputs.{is_image}
 
@@ -29,45 +27,29 @@ abbrev pub IsImageOf : List ℕ → List ℕ → List Noticed → Type 0
 IsImageOf input image notices = ImageAs (is_image input) input image notices
 
 -- a session at the start of a code served these lines, and ended so
-abbrev pub IsSession : Workpiece → Code → List ℕ → Option (List ℕ) → Option (List ℕ) → Option (List ℕ) → Result (Unit {0}) ServeFault → Type 0
+abbrev pub IsSession : Workpiece → Code → List ℕ → Option (List ℕ) → Option (List ℕ) → Option (List ℕ) → Result (Unit {0}) ServeFault
+    → Type 0
 IsSession part code lines after old new r = (last : Debugging) × Served 10000 1048576 (opened part code) lines after old new r last
 
--- memory was refused before the first line, and nothing was written; or the session ended with a fault
-abbrev pub IsNoSession : Workpiece → Code → Option (List ℕ) → Option (List ℕ) → DebugFault → Option (List ℕ) → Option (List ℕ) → Type 0
-IsNoSession part code known after NoMemory old new = Keeps old new
-IsNoSession part code known after (Serve e) old new = IfSome known (λ lines. IsSession part code lines after old new (Err e))
-IsNoSession part code known after _ old new = ⊥
-
 -- the bytes are the image of a valid code, and a session at its start served these lines, and ended so
-pub record IsServedOn (part : Workpiece) (image lines : List ℕ) (after old new : Option (List ℕ)) (r : Result (Unit {0}) ServeFault) : Type 0 where
+pub record IsServedOn (part : Workpiece) (image lines : List ℕ) (after old new : Option (List ℕ)) (r : Result (Unit {0}) ServeFault)
+    : Type 0 where
   pub code : Code
   pub valid : IsValid (code_of code)
   pub fits : Fits code
   pub spelled : image ≡ spelling code
   pub session : IsSession part code lines after old new r
 
--- the image is refused, or memory was, and nothing was written; or the session ended with a fault. `known` are the lines, and `after` what of them
--- wasn't read
-abbrev pub IsNotServed : Workpiece → List ℕ → Option (List ℕ) → Option (List ℕ) → DebugFault → Option (List ℕ) → Option (List ℕ) → Type 0
-IsNotServed part image known after (Image e) old new = LoadFault (code_at image) e × Keeps old new
-IsNotServed part image known after NoMemory old new = Keeps old new
-IsNotServed part image known after (Serve e) old new = IfSome known (λ lines. IsServedOn part image lines after old new (Err e))
-IsNotServed part image known after _ old new = ⊥
-
--- the fault of an input that wasn't read whole
-abbrev pub debug_not_read : ReadFault → DebugFault
-debug_not_read read_faults.NoMemory = NoMemory
-debug_not_read read_faults.Device = Read
-debug_not_read read_faults.TooLong = TooLong
-
 -- the replies of a session on the input were written, and nothing else, up to its end
-pub record IsDebugged (part : Workpiece) (input lines : List ℕ) (after : Option (List ℕ)) (notices : List Noticed) (old new : Option (List ℕ)) : Type 0 where
+pub record IsDebugged (part : Workpiece) (input lines : List ℕ) (after : Option (List ℕ)) (notices : List Noticed)
+    (old new : Option (List ℕ)) : Type 0 where
   pub image : List ℕ
   pub image_is : IsImageOf input image notices
   pub served : IsServedOn part image lines after old new (Ok tt)
 
 -- a session on the input ended with a fault
-pub record IsCutShort (part : Workpiece) (input lines : List ℕ) (after : Option (List ℕ)) (fault : ServeFault) (old new : Option (List ℕ)) : Type 0 where
+pub record IsCutShort (part : Workpiece) (input lines : List ℕ) (after : Option (List ℕ)) (fault : ServeFault) (old new : Option (List ℕ))
+    : Type 0 where
   pub image : List ℕ
   pub notices : List Noticed
   pub image_is : IsImageOf input image notices
@@ -83,7 +65,8 @@ IsInputFault part input known after (Serve e) old new = IfSome known (λ lines. 
 IsInputFault part input known after _ old new = ⊥
 
 -- the same, or the input wasn't read whole, and nothing was written
-abbrev pub IsNotDebugged : Workpiece → Option (List ℕ) → Option (List ℕ) → Option (List ℕ) → Option (List ℕ) → DebugFault → Option (List ℕ) → Option (List ℕ) → Type 0
+abbrev pub IsNotDebugged : Workpiece → Option (List ℕ) → Option (List ℕ) → Option (List ℕ) → Option (List ℕ) → DebugFault
+    → Option (List ℕ) → Option (List ℕ) → Type 0
 IsNotDebugged part before behind known after Read old new = ReadsAtMost most_bytes before behind × Keeps old new
 IsNotDebugged part before behind known after NoMemory old new = Keeps old new
 IsNotDebugged part before behind known after TooLong old new = IfSome before (λ input. most_bytes < length input) × Keeps old new

@@ -1,12 +1,10 @@
 -- What part files and texts of programs give that are read whole.
 use Rattle.std.specs.Prelude.{◌≡◌, ℕ, ◌<◌, ◌⊎◌, List, length, Option, Ok, Err, IfSome}
 use Rattle.vcm_part.specs.declared.fault.PartCode.TheVariants as part_codes
-use Rattle.vcm_part.specs.Reading.{fault}
+use Rattle.vcm_part.specs.Faults.{fault}
 use Rattle.vcm_part.specs.PartFile.{part_of}
 use Rattle.vcm_spec.specs.Workpiece.{Workpiece}
 use Rattle.vcm_run.specs.Programs.{IsRefusal}
-use Rattle.vcm_job.specs.declared.reading.ReadFault.{ReadFault}
-use Rattle.vcm_job.specs.declared.reading.ReadFault.TheVariants as read_faults
 use Rattle.vcm_job.specs.declared.parts.PartFileFault.{PartFileFault}
 use Rattle.vcm_job.specs.declared.parts.PartFileFault.TheVariants as parts
 use Rattle.vcm_job.specs.declared.building.BuildFault.{BuildFault}
@@ -17,24 +15,12 @@ use Rattle.vcm_job.specs.Reading.{most_bytes, ReadsAtMost}
 abbrev pub IsPartIn : List ℕ → Workpiece → Type 0
 IsPartIn file part = part_of file ≡ Ok part
 
--- the fault of a part file that wasn't read whole
-abbrev pub part_not_read : ReadFault → PartFileFault
-part_not_read read_faults.NoMemory = parts.NoMemory
-part_not_read read_faults.Device = parts.Read
-part_not_read read_faults.TooLong = parts.TooLong
-
 -- why a part file gives no workpiece: it is refused, or memory was refused; or it wasn't read whole
 abbrev pub IsNoPart : Option (List ℕ) → Option (List ℕ) → PartFileFault → Type 0
 IsNoPart before after (parts.Refused e) = (e ≡ fault part_codes.NoMemory 0) ⊎ IfSome before (λ file. part_of file ≡ Err e)
 IsNoPart before after parts.NoMemory = Unit {0}
 IsNoPart before after parts.Read = ReadsAtMost most_bytes before after
 IsNoPart before after parts.TooLong = IfSome before (λ file. most_bytes < length file)
-
--- the fault of a text that wasn't read whole
-abbrev pub build_not_read : ReadFault → BuildFault
-build_not_read read_faults.NoMemory = builds.NoMemory
-build_not_read read_faults.Device = builds.Read
-build_not_read read_faults.TooLong = builds.TooLong
 
 -- why no image was built: the text is refused, or memory was refused; or it wasn't read whole
 abbrev pub IsNotBuilt : Option (List ℕ) → Option (List ℕ) → BuildFault → Type 0

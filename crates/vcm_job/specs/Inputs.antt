@@ -10,8 +10,6 @@ use Rattle.vcm_run.specs.Programs.{IsSummary, IsRefusal}
 use Rattle.vcm_run.specs.Images.{IsImageRun, IsImageRefusal}
 use Rattle.vcm_run.specs.Summaries.{Shown}
 use Rattle.vcm_run.specs.Printed.{result_text}
-use Rattle.vcm_job.specs.declared.reading.ReadFault.{ReadFault}
-use Rattle.vcm_job.specs.declared.reading.ReadFault.TheVariants as read_faults
 use Rattle.vcm_job.specs.declared.inputs.RunFault.{RunFault}
 use Rattle.vcm_job.specs.declared.inputs.RunFault.TheVariants.{Refused, Image, Memory, NoMemory, Read, Write, TooLong}
 use Rattle.vcm_job.specs.Reading.{most_bytes, ReadsAtMost}
@@ -36,14 +34,9 @@ IsRefusedInput input (Image e) = (is_image input ≡ true) × IsImageRefusal inp
 IsRefusedInput input (Refused r) = (is_image input ≡ false) × IsRefusal input r
 IsRefusedInput input _ = ⊥
 
--- the fault of an input that wasn't read whole
-abbrev pub input_not_read : ReadFault → RunFault
-input_not_read read_faults.NoMemory = NoMemory
-input_not_read read_faults.Device = Read
-input_not_read read_faults.TooLong = TooLong
-
 -- the result of a run of the input was written and nothing else, and this is its status; the run wasn't refused memory
-pub record IsWritten (part : Workpiece) (input : List ℕ) (n : ℕ) (status : ℕ) (notices : List Noticed) (old new : Option (List ℕ)) : Type 0 where
+pub record IsWritten (part : Workpiece) (input : List ℕ) (n : ℕ) (status : ℕ) (notices : List Noticed) (old new : Option (List ℕ))
+    : Type 0 where
   pub shown : Shown
   pub run : IsInputRun part input n shown
   pub ample : shown.ran.end ≡ ends.NoMemory → ⊥

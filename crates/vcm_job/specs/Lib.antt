@@ -5,3 +5,4 @@ pub mod Files
 pub mod Inputs
 pub mod Listings
 pub mod Debugged
+pub mod inner

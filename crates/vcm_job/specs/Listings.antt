@@ -11,8 +11,6 @@ use Rattle.vcm_loader.specs.Loading.{LoadFault}
 use Rattle.vcm_words.specs.Rows.{listing}
 use Rattle.vcm_words.specs.Outcomes.{FaultOrWant}
 use Rattle.vcm_run.specs.Programs.{IsBuilt, IsRefusal}
-use Rattle.vcm_job.specs.declared.reading.ReadFault.{ReadFault}
-use Rattle.vcm_job.specs.declared.reading.ReadFault.TheVariants as read_faults
 use Rattle.vcm_job.specs.declared.listing.PrintFault.{PrintFault}
 use Rattle.vcm_job.specs.declared.listing.PrintFault.TheVariants.{Refused, Image, NoMemory, Read, Write, TooLong}
 use Rattle.vcm_job.specs.declared.listing.AsmFault.{AsmFault}
@@ -27,12 +25,6 @@ pub record IsPrinted (image text : List ℕ) : Type 0 where
   pub fits : Fits code
   pub spelled : image ≡ spelling code
   pub listed : text ≡ listing code
-
--- why an image has no listing: it is refused, or memory was refused
-abbrev pub IsNotPrinted : List ℕ → PrintFault → Type 0
-IsNotPrinted image (Image e) = LoadFault (code_at image) e
-IsNotPrinted image NoMemory = Unit {0}
-IsNotPrinted image _ = ⊥
 
 -- of an image its listing, without notices; of any other input that of its program's image
 abbrev pub ListedAs : Bool → List ℕ → List ℕ → List Noticed → Type 0
@@ -49,12 +41,6 @@ IsListRefusal input (Image e) = (is_image input ≡ true) × LoadFault (code_at 
 IsListRefusal input (Refused r) = (is_image input ≡ false) × IsRefusal input r
 IsListRefusal input NoMemory = Unit {0}
 IsListRefusal input _ = ⊥
-
--- the fault of an input that wasn't read whole
-abbrev pub list_not_read : ReadFault → PrintFault
-list_not_read read_faults.NoMemory = NoMemory
-list_not_read read_faults.Device = Read
-list_not_read read_faults.TooLong = TooLong
 
 -- the listing of an input was written, and nothing else
 pub record IsWrittenOut (input : List ℕ) (notices : List Noticed) (old new : Option (List ℕ)) : Type 0 where
@@ -76,12 +62,6 @@ IsNotListed before after Read old new = ReadsAtMost most_bytes before after × K
 IsNotListed before after NoMemory old new = Keeps old new
 IsNotListed before after TooLong old new = IfSome before (λ input. most_bytes < length input) × Keeps old new
 IsNotListed before after f old new = IfSome before (λ input. IsListRefusal input f) × Keeps old new
-
--- the fault of a listing that wasn't read whole
-abbrev pub asm_not_read : ReadFault → AsmFault
-asm_not_read read_faults.NoMemory = asms.NoMemory
-asm_not_read read_faults.Device = asms.Read
-asm_not_read read_faults.TooLong = asms.TooLong
 
 -- why a listing gave no image: it is refused, or memory was refused; or it wasn't read whole
 abbrev pub IsNotAssembled : Option (List ℕ) → Option (List ℕ) → AsmFault → Type 0

@@ -3,7 +3,7 @@ use Rattle.std.specs.Prelude.{◌≡◌, ℕ, ◌<◌, List, length, Option, Res
 use Rattle.std.specs.Io.KnownBytes.{Appends, Keeps}
 use Rattle.vcm_num.specs.Written.{AppendsFront}
 use Rattle.vcm_part.specs.declared.fault.PartCode.TheVariants as part_codes
-use Rattle.vcm_part.specs.Reading.{fault}
+use Rattle.vcm_part.specs.Faults.{fault}
 use Rattle.vcm_part.specs.PartFile.{part_of}
 use Rattle.vcm_spec.specs.Workpiece.{Workpiece}
 use Rattle.vcm_spec.specs.Table.{steps}
@@ -13,32 +13,19 @@ use Rattle.vcm_run.specs.declared.run.Refusal.TheVariants.{Part}
 use Rattle.vcm_machine.specs.declared.ran.End.TheVariants as ends
 use Rattle.vcm_run.specs.Programs.{IsRefusal}
 use Rattle.vcm_run.specs.Run.{Ended}
-use Rattle.vcm_run.specs.Summaries.{Shown}
-use Rattle.vcm_run.specs.Printed.{result_text}
 use Rattle.vcm_job.specs.declared.running.Done.{Done}
 use Rattle.vcm_job.specs.declared.running.JobFault.{JobFault}
 use Rattle.vcm_job.specs.declared.running.JobFault.TheVariants.{Refused, Memory, NoMemory, Read, Write, TooLong}
-use Rattle.vcm_job.specs.declared.reading.ReadFault.{ReadFault}
-use Rattle.vcm_job.specs.declared.reading.ReadFault.TheVariants as read_faults
 use Rattle.vcm_job.specs.Reading.{most_bytes, ReadsAtMost}
 use Rattle.vcm_job.specs.Jobs.{most_steps, job_setup, start_of, part_text, program_text, job_count, job_text, last_state, status_of, IsJob}
-
--- the summary shows the last state of the job's program, after its effective steps
-pub record IsJobRun (input : List ℕ) (s : Shown) : Type 0 where
-  pub part : Workpiece
-  pub parsed : Parsed
-  pub job : IsJob input part parsed
-  pub notices : s.notices ≡ parsed.notices
-  pub count : s.ran.done ≡ job_count part parsed
-  pub text : result_text s.held s.ran.done ≡ job_text part parsed
-  pub stop : s.held.state.stop ≡ (last_state part parsed).world.stop
 
 -- the run was refused memory after so many steps, where its next statement makes an output line and would not stop
 pub record IsHalted (input : List ℕ) (done : ℕ) : Type 0 where
   pub part : Workpiece
   pub parsed : Parsed
   pub job : IsJob input part parsed
-  pub halted : Ended (job_setup part parsed) most_steps (start_of part parsed) (steps (job_setup part parsed) done (start_of part parsed)) done ends.NoMemory
+  pub halted : Ended (job_setup part parsed) most_steps (start_of part parsed) (steps (job_setup part parsed) done (start_of part parsed))
+      done ends.NoMemory
 
 -- why there is no run: the part is refused; or the part gives a workpiece, and the program is refused; or memory was refused
 abbrev pub IsJobRefusal : List ℕ → JobFault → Type 0
@@ -46,12 +33,6 @@ IsJobRefusal input (Refused (Part e)) = (e ≡ fault part_codes.NoMemory 0) ⊎ 
 IsJobRefusal input (Refused r) = ((part : Workpiece) × (part_of (part_text input) ≡ Ok part)) × IsRefusal (program_text input) r
 IsJobRefusal input (Memory done) = IsHalted input done
 IsJobRefusal input _ = ⊥
-
--- the fault of a job whose input wasn't read whole
-abbrev pub not_read : ReadFault → JobFault
-not_read read_faults.NoMemory = NoMemory
-not_read read_faults.Device = Read
-not_read read_faults.TooLong = TooLong
 
 -- the job's result was written and nothing else, and this is its status
 pub record IsDone (input : List ℕ) (status : ℕ) (notices : List Noticed) (old new : Option (List ℕ)) : Type 0 where

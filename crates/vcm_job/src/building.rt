@@ -3,7 +3,8 @@
 ghost use Rattle.std.specs.Prelude.{◌≡◌, IfOk, IfErr, IfSome};
 ghost use Rattle.vcm_run.specs.Programs.{IsBuilt};
 ghost use Rattle.vcm_job.specs.Reading.{ReadsLittle};
-ghost use Rattle.vcm_job.specs.Files.{IsNotBuilt, build_not_read};
+ghost use Rattle.vcm_job.specs.Files.{IsNotBuilt};
+ghost use Rattle.vcm_job.specs.inner.Unread.{build_not_read};
 
 use crate::reading::{ReadFault, read_all};
 use std::alloc::Global;

@@ -1,18 +1,12 @@
 //! The two texts of a job.
 
-ghost use Rattle.std.specs.Prelude.{◌≡◌, ◌<◌, ◌∷◌, ◌++◌, length, position, ◌==◌};
-ghost use Rattle.std.specs.Str.{bytes_eq};
+ghost use Rattle.std.specs.Prelude.{◌≡◌, ◌<◌, ◌∷◌, ◌++◌, length, ◌==◌};
 ghost use Rattle.vcm_job.specs.Jobs.{raw_lines, is_mark, part_text, program_text};
 
-// Where the first line feed stands.
-fn line_feed(text: &[u8]) -> Option<usize>
-    ensures { result ≡ position (λ b. b == 10) text.now }
-{
-    text.iter().position(|b| *b == b'\n')
-}
+use vcm_num::{is, line_feed};
 
 // The first line with its line feed, and what stands behind it.
-fn first_line(text: &[u8]) -> (&[u8], &[u8])
+fn raw_line(text: &[u8]) -> (&[u8], &[u8])
     requires { 0 < length text.now }
     ensures lines { raw_lines text.now ≡ result.0.now ∷ raw_lines result.1.now }
     ensures cut { text.now ≡ result.0.now ++ result.1.now }
@@ -22,13 +16,6 @@ fn first_line(text: &[u8]) -> (&[u8], &[u8])
         None => (text, &[]),
         Some(end) => (&text[..end + 1], &text[end + 1..]),
     }
-}
-
-// Whether a line has these bytes.
-fn is(line: &[u8], bytes: &[u8]) -> bool
-    ensures { result ≡ bytes_eq line.now bytes.now }
-{
-    line == bytes
 }
 
 // Whether a line is the mark between the two texts.
@@ -45,7 +32,7 @@ pub(crate) fn texts_of(input: &[u8]) -> (&[u8], &[u8])
 {
     let mut rest = input;
     while !rest.is_empty() {
-        let (line, after) = first_line(rest);
+        let (line, after) = raw_line(rest);
         if is_mark(line) {
             return (&input[..input.len() - rest.len()], after);
         }

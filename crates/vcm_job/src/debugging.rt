@@ -2,7 +2,8 @@
 
 ghost use Rattle.std.specs.Prelude.{◌≡◌, IfOk, IfErr, IfSome};
 ghost use Rattle.vcm_job.specs.Reading.{ReadsLittle};
-ghost use Rattle.vcm_job.specs.Debugged.{IsSession, IsNoSession, IsServedOn, IsNotServed, IsDebugged, IsInputFault, IsNotDebugged, debug_not_read};
+ghost use Rattle.vcm_job.specs.Debugged.{IsSession, IsServedOn, IsDebugged, IsInputFault, IsNotDebugged};
+ghost use Rattle.vcm_job.specs.inner.Sessions.{IsNoSession, IsNotServed, debug_not_read};
 
 use crate::inputs::is_image;
 use crate::reading::{ReadFault, read_all};

@@ -3,7 +3,8 @@
 ghost use Rattle.std.specs.Prelude.{◌≡◌, ◌≢◌, take, IfOk, IfErr, IfSome, codes};
 ghost use Rattle.std.specs.Str.{bytes_eq};
 ghost use Rattle.vcm_job.specs.Reading.{ReadsLittle};
-ghost use Rattle.vcm_job.specs.Inputs.{is_image, IsInputRun, IsRefusedInput, IsWritten, IsNotWritten, input_not_read};
+ghost use Rattle.vcm_job.specs.Inputs.{is_image, IsInputRun, IsRefusedInput, IsWritten, IsNotWritten};
+ghost use Rattle.vcm_job.specs.inner.UnreadInputs.{input_not_read};
 
 use crate::reading::{ReadFault, read_all};
 use crate::running::{Done, is_halted, status_of};

@@ -2,7 +2,8 @@
 
 ghost use Rattle.std.specs.Prelude.{◌≡◌, IfOk, IfErr, IfSome};
 ghost use Rattle.vcm_job.specs.Reading.{ReadsLittle};
-ghost use Rattle.vcm_job.specs.Listings.{IsPrinted, IsNotPrinted, IsListed, IsListRefusal, IsWrittenOut, IsNotListed, IsNotAssembled, list_not_read, asm_not_read};
+ghost use Rattle.vcm_job.specs.Listings.{IsPrinted, IsListed, IsListRefusal, IsWrittenOut, IsNotListed, IsNotAssembled};
+ghost use Rattle.vcm_job.specs.inner.Printing.{IsNotPrinted, list_not_read, asm_not_read};
 
 use crate::inputs::is_image;
 use crate::reading::{ReadFault, read_all};

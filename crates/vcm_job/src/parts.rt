@@ -2,7 +2,8 @@
 
 ghost use Rattle.std.specs.Prelude.{◌≡◌, IfOk, IfErr, IfSome};
 ghost use Rattle.vcm_job.specs.Reading.{ReadsLittle};
-ghost use Rattle.vcm_job.specs.Files.{IsPartIn, IsNoPart, part_not_read};
+ghost use Rattle.vcm_job.specs.Files.{IsPartIn, IsNoPart};
+ghost use Rattle.vcm_job.specs.inner.Unread.{part_not_read};
 
 use crate::reading::{ReadFault, read_all};
 use std::alloc::Global;

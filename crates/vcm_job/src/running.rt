@@ -3,7 +3,8 @@
 ghost use Rattle.std.specs.Prelude.{◌≡◌, ◌≢◌, true, false, IfOk, IfErr, IfSome};
 ghost use Rattle.vcm_job.specs.Jobs.{status_of, most_steps};
 ghost use Rattle.vcm_job.specs.Reading.{ReadsLittle};
-ghost use Rattle.vcm_job.specs.Results.{IsJobRun, IsJobRefusal, IsDone, IsNotDone, AnswersLong, not_read};
+ghost use Rattle.vcm_job.specs.Results.{IsJobRefusal, IsDone, IsNotDone, AnswersLong};
+ghost use Rattle.vcm_job.specs.inner.Running.{IsJobRun, not_read};
 
 use crate::cutting::texts_of;
 use crate::reading::{ReadFault, read_all};

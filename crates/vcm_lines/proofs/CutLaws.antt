@@ -4,7 +4,7 @@ use Rattle.std.specs.List.{list_any}
 use Rattle.vcm_lines.specs.declared.phrase.Cutter.{Cutter}
 use Rattle.vcm_lines.specs.declared.phrase.Cutter.TheVariants.{AtSlash, AtComma}
 use Rattle.vcm_lines.specs.Lexemes.{Lexeme, Slash, Comma}
-use Rattle.vcm_lines.specs.Cuts.{cuts, before, after, onto, fields_of, last_of, front_of, mark_at, uncut, joined, has_cut}
+use Rattle.vcm_lines.specs.Cuts.{cuts, before, after, onto, fields_of, last_of, front_of, mark_at, uncut, with_commas, has_cut}
 
 -- the mark that words are cut at
 cut_is : (m : Cutter) (w : Lexeme) → cuts m w ≡ true → mark_at m ≡ w
@@ -30,26 +30,26 @@ pub first_uncut : (m : Cutter) (ws : List Lexeme) → has_cut m (before m ws) �
 first_uncut m [] = refl
 first_uncut m (w ∷ ws) = step_uncut (cuts m w) m w (before m ws) refl (first_uncut m ws)
 
-joined_onto : (w : Lexeme) (fs : List (List Lexeme)) → joined (onto w fs) ≡ w ∷ joined fs
+joined_onto : (w : Lexeme) (fs : List (List Lexeme)) → with_commas (onto w fs) ≡ w ∷ with_commas fs
 joined_onto w [] = refl
 joined_onto w (f ∷ []) = refl
 joined_onto w (f ∷ g ∷ fs) = refl
 
 -- there is always a field
-some_field : (b : Bool) (w : Lexeme) (fs : List (List Lexeme)) → joined ([] ∷ cond b ([] ∷ fs) (onto w fs)) ≡ Comma ∷ joined (cond b ([] ∷ fs) (onto w fs))
+some_field : (b : Bool) (w : Lexeme) (fs : List (List Lexeme)) → with_commas ([] ∷ cond b ([] ∷ fs) (onto w fs)) ≡ Comma ∷ with_commas (cond b ([] ∷ fs) (onto w fs))
 some_field true w fs = refl
 some_field false w [] = refl
 some_field false w (f ∷ fs) = refl
 
-empty_first : (ws : List Lexeme) → joined ([] ∷ fields_of ws) ≡ Comma ∷ joined (fields_of ws)
+empty_first : (ws : List Lexeme) → with_commas ([] ∷ fields_of ws) ≡ Comma ∷ with_commas (fields_of ws)
 empty_first [] = refl
 empty_first (w ∷ ws) = some_field (cuts AtComma w) w (fields_of ws)
 
-step_joined : (b : Bool) (w : Lexeme) (ws : List Lexeme) → (b ≡ true → mark_at AtComma ≡ w) → joined (fields_of ws) ≡ ws → joined (cond b ([] ∷ fields_of ws) (onto w (fields_of ws))) ≡ w ∷ ws
-step_joined true w ws k e = empty_first ws ∙ ap (λ (x : Lexeme). x ∷ joined (fields_of ws)) (k refl) ∙ ap (λ (x : List Lexeme). w ∷ x) e
+step_joined : (b : Bool) (w : Lexeme) (ws : List Lexeme) → (b ≡ true → mark_at AtComma ≡ w) → with_commas (fields_of ws) ≡ ws → with_commas (cond b ([] ∷ fields_of ws) (onto w (fields_of ws))) ≡ w ∷ ws
+step_joined true w ws k e = empty_first ws ∙ ap (λ (x : Lexeme). x ∷ with_commas (fields_of ws)) (k refl) ∙ ap (λ (x : List Lexeme). w ∷ x) e
 step_joined false w ws k e = joined_onto w (fields_of ws) ∙ ap (λ (x : List Lexeme). w ∷ x) e
 
-pub fields_whole : (ws : List Lexeme) → joined (fields_of ws) ≡ ws
+pub fields_whole : (ws : List Lexeme) → with_commas (fields_of ws) ≡ ws
 fields_whole [] = refl
 fields_whole (w ∷ ws) = step_joined (cuts AtComma w) w ws (cut_is AtComma w) (fields_whole ws)
 

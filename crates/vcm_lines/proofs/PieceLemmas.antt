@@ -8,7 +8,7 @@ use Rattle.std.proofs.lemmas.List.Sums.{fails_before_first}
 use Rattle.vcm_lines.specs.Bytes.{is_inner}
 use Rattle.vcm_lines.specs.declared.fault.FaultCode.TheVariants.{BadByte, BadSyntax}
 use Rattle.vcm_lines.specs.Pieces.{Plain, Quoted, Open, Comment, pieces_from, pieces_of}
-use Rattle.vcm_lines.specs.Taking.{BreaksFirst, TakesPiece}
+use Rattle.vcm_lines.specs.inner.Taking.{BreaksFirst, TakesPiece}
 
 pub neq-eqb : (b c : ℕ) → (b ≡ c → ⊥) → eqb b c ≡ false
 neq-eqb b c ne = grind arith

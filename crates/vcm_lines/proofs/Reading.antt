@@ -7,8 +7,8 @@ use Rattle.std.proofs.lemmas.List.{append-nil, take_all, length-take, length-dro
 use Rattle.vcm_lines.specs.Fault.{NoMemoryOr}
 use Rattle.vcm_spec.specs.Phase.{IsCleanBelow, IsClean, FirstFault}
 use Rattle.vcm_lines.specs.Pieces.{text_of, continues}
-use Rattle.vcm_lines.specs.Statements.{Row, row_of, is_empty, rows_from, rows_of, joined, unfinished, last_line, IsLogical, AreLogical, BreaksLine, Breaks, told_line}
-use Rattle.vcm_lines.specs.Holding.{span_of, Holds}
+use Rattle.vcm_lines.specs.Statements.{Row, row_of, is_empty, rows_from, rows_of, grouped, unfinished, last_line, IsLogical, AreLogical, BreaksLine, Breaks, told_line}
+use Rattle.vcm_lines.specs.inner.Holding.{span_of, Holds}
 use Rattle.vcm_lines.specs.declared.lines.Unfinished.{Unfinished}
 use Rattle.vcm_lines.specs.declared.logical.Logical.{Logical}
 use Rattle.vcm_lines.specs.declared.fault.SourceFault.{SourceFault}
@@ -28,7 +28,7 @@ pub record IsRead (ls : List (List ℕ)) (n : ℕ) (rest : List ℕ) (u : Unfini
   pub few : n ≤ 20000
   pub clean : IsCleanBelow Breaks ls n
   pub holds : Holds u (begun ls n)
-  pub done : (more : List Logical) → AreLogical (joined (begun ls n ++ rows_from (n + 1) (drop n ls))) more → AreLogical (joined (rows_of ls)) (items ++ more)
+  pub done : (more : List Logical) → AreLogical (grouped (begun ls n ++ rows_from (n + 1) (drop n ls))) more → AreLogical (grouped (rows_of ls)) (items ++ more)
 
 pub read_begins : (ls : List (List ℕ)) (rest : List ℕ) (u : Unfinished) → lines rest ≡ ls → Holds u [] → IsRead ls 0 rest u []
 read_begins ls rest u e h = record { ahead = sym e; within = omega arith; few = omega arith; clean = clean_none Breaks ls; holds = h; done = λ more m. m }
@@ -87,7 +87,7 @@ same_goes ls n l after e some goes =
     let b : begun ls (n + 1) ≡ begun ls n ++ row_of (n + 1) l ∷ [] = begun_row ls n l after e some ∙ ap (λ (g : Bool). cond g (begun ls n ++ row_of (n + 1) l ∷ []) []) goes in
     rw (b, q.3, e, some) (append_assoc (begun ls n) (row_of (n + 1) l ∷ []) (rows_from (n + 1 + 1) after))
 
-joined_ends : (ls : List (List ℕ)) (n : ℕ) (l : List ℕ) (after : List (List ℕ)) → drop n ls ≡ l ∷ after → is_empty l ≡ false → continues l ≡ false → joined (rows_at ls n) ≡ (begun ls n ++ row_of (n + 1) l ∷ []) ∷ joined (rows_at ls (n + 1))
+joined_ends : (ls : List (List ℕ)) (n : ℕ) (l : List ℕ) (after : List (List ℕ)) → drop n ls ≡ l ∷ after → is_empty l ≡ false → continues l ≡ false → grouped (rows_at ls n) ≡ (begun ls n ++ row_of (n + 1) l ∷ []) ∷ grouped (rows_at ls (n + 1))
 joined_ends ls n l after e some ends =
     let q = place_at ls n l after e in
     let b : begun ls (n + 1) ≡ [] = begun_row ls n l after e some ∙ ap (λ (g : Bool). cond g (begun ls n ++ row_of (n + 1) l ∷ []) []) ends in
@@ -198,11 +198,11 @@ end_clean ls n rest u items none e s =
     let k = at_end ls n rest u items none s in
     clean_all Breaks ls (subst (IsCleanBelow Breaks ls) k s.clean) (no_end_fault ls (sym (begun_all ls n rest u items none s) ∙ span_none (begun ls n) (sym s.holds.span ∙ e)))
 
-pub end_done : (ls : List (List ℕ)) (n : ℕ) (rest : List ℕ) (u : Unfinished) (items : List Logical) → length rest ≡ 0 → u.span ≡ None → IsRead ls n rest u items → AreLogical (joined (rows_of ls)) items
+pub end_done : (ls : List (List ℕ)) (n : ℕ) (rest : List ℕ) (u : Unfinished) (items : List Logical) → length rest ≡ 0 → u.span ≡ None → IsRead ls n rest u items → AreLogical (grouped (rows_of ls)) items
 end_done ls n rest u items none e s =
     let nothing : rows_at ls n ≡ [] = rw (span_none (begun ls n) (sym s.holds.span ∙ e), s.ahead, lines_nil rest none) refl in
-    let start : AreLogical (joined (rows_at ls n)) [] = rw nothing refl in
-    subst (AreLogical (joined (rows_of ls))) (append-nil items) (s.done [] start)
+    let start : AreLogical (grouped (rows_at ls n)) [] = rw nothing refl in
+    subst (AreLogical (grouped (rows_of ls))) (append-nil items) (s.done [] start)
 
 pub end_dangling : (ls : List (List ℕ)) (n : ℕ) (rest : List ℕ) (u : Unfinished) (items : List Logical) (first last : ℕ) → length rest ≡ 0 → u.span ≡ Some (first, last) → IsRead ls n rest u items → FirstFault Breaks told_line ls DanglingContinuation last
 end_dangling ls n rest u items first last none e s =

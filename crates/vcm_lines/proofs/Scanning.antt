@@ -6,7 +6,7 @@ use Rattle.vcm_lines.specs.Bytes.{is_blank, is_plain, is_inner, upper}
 use Rattle.std.proofs.lemmas.Bool.{or_left, or_right, or_from, or_cases, and_parts, eqb-true, cases_eq}
 use Rattle.std.proofs.lemmas.List.{append-nil}
 use Rattle.vcm_lines.specs.Pieces.{Piece, Plain, Quoted, Open, Comment, pieces_from, pieces_of, kept, text_of, has_bad_byte, is_open, is_dollar, is_skipped, has_stray_dollar, continues}
-use Rattle.vcm_lines.specs.Taking.{BreaksFirst, TakesPiece}
+use Rattle.vcm_lines.specs.inner.Taking.{BreaksFirst, TakesPiece}
 use Rattle.vcm_lines.specs.Statements.{BreaksLine}
 use Rattle.vcm_lines.specs.declared.fault.FaultCode.{FaultCode}
 use Rattle.vcm_lines.specs.declared.fault.FaultCode.TheVariants.{BadByte, BadSyntax}

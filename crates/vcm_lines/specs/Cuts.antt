@@ -53,10 +53,10 @@ uncut m front None = front
 uncut m front (Some rest) = front ++ mark_at m ∷ rest
 
 -- what the parts between commas are cut from
-abbrev pub joined : List (List Lexeme) → List Lexeme
-joined [] = []
-joined (f ∷ []) = f
-joined (f ∷ g ∷ fs) = f ++ Comma ∷ joined (g ∷ fs)
+abbrev pub with_commas : List (List Lexeme) → List Lexeme
+with_commas [] = []
+with_commas (f ∷ []) = f
+with_commas (f ∷ g ∷ fs) = f ++ Comma ∷ with_commas (g ∷ fs)
 
 -- whether one of the words is a mark that they are cut at
 abbrev pub has_cut : Cutter → List Lexeme → Bool

@@ -3,8 +3,7 @@ pub mod Bytes
 pub mod Pieces
 pub mod Words
 pub mod Statements
-pub mod Taking
-pub mod Holding
 pub mod Laws
 pub mod Lexemes
 pub mod Cuts
+pub mod inner

@@ -36,9 +36,9 @@ abbrev pub rows_of : List (List ℕ) → List Row
 rows_of ls = rows_from 1 ls
 
 -- the rows of each statement: a row that goes on is put before the next one
-abbrev pub joined : List Row → List (List Row)
-joined [] = []
-joined (r ∷ rs) = if r.goes_on then onto_first r (joined rs) else (r ∷ []) ∷ joined rs
+abbrev pub grouped : List Row → List (List Row)
+grouped [] = []
+grouped (r ∷ rs) = if r.goes_on then onto_first r (grouped rs) else (r ∷ []) ∷ grouped rs
 
 -- the rows at the end that all go on: those of a statement that isn't finished
 abbrev pub unfinished : List Row → List Row

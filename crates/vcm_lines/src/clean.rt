@@ -5,7 +5,7 @@ ghost use Rattle.std.specs.List.{list_all, position};
 ghost use Rattle.vcm_lines.specs.Fault.{NoMemoryOr};
 ghost use Rattle.vcm_lines.specs.Bytes.{is_plain, is_inner, is_blank, upper};
 ghost use Rattle.vcm_lines.specs.Pieces.{text_of, continues, pieces_from};
-ghost use Rattle.vcm_lines.specs.Taking.{TakesPiece, BreaksFirst};
+ghost use Rattle.vcm_lines.specs.inner.Taking.{TakesPiece, BreaksFirst};
 ghost use Rattle.vcm_lines.specs.Statements.{BreaksLine};
 ghost use Rattle.vcm_lines.specs.declared.fault.FaultCode.{FaultCode};
 
@@ -32,8 +32,8 @@ fn is_blank(b: u8) -> bool
     b == b' ' || b == b'\t'
 }
 
-/// A letter in upper case.
-fn upper(b: u8) -> u8
+/// A letter in upper case; another byte as it is.
+pub fn upper(b: u8) -> u8
     ensures { result ≡ upper b }
 {
     b.to_ascii_uppercase()

@@ -65,6 +65,16 @@ pub struct SourceFault {
     pub line: u32,
 }
 
+/// The refusal of words that are not of the form that their place wants.
+pub fn bad_syntax(line: u32) -> SourceFault
+    ensures { result ≡ record { code = FaultCode.BadSyntax; line = line } }
+{
+    SourceFault {
+        code: FaultCode::BadSyntax,
+        line,
+    }
+}
+
 impl From<AllocError> for SourceFault {
     ghost from_gives = { λ _ f. f ≡ no_memory };
 

@@ -10,7 +10,8 @@ mod logical;
 mod phrase;
 mod words;
 
-pub use fault::{FaultCode, SourceFault};
+pub use clean::upper;
+pub use fault::{FaultCode, SourceFault, bad_syntax};
 pub use lines::logical_lines;
-pub use logical::{Lines, Logical, Text, Word, WordKind, Words};
+pub use logical::{Lines, Logical, OwnedBytes, Word, WordKind, Words};
 pub use phrase::{Cutter, Phrase, Token, cuts_are_whole};

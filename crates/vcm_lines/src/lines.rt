@@ -1,18 +1,18 @@
 //! The statements of a text.
 
 ghost use Rattle.std.specs.Prelude.{◌≡◌, ◌<◌, ◌∷◌, ◌==◌, length, IfOk, IfErr};
-ghost use Rattle.std.specs.List.{position};
 ghost use Rattle.std.specs.Option.{option_map_or};
 ghost use Rattle.std.specs.Str.Lines.{lines, strip_carriage_return};
 ghost use Rattle.vcm_lines.specs.Fault.{NoMemoryOr};
 ghost use Rattle.vcm_spec.specs.Phase.{IsClean, FirstFault};
-ghost use Rattle.vcm_lines.specs.Statements.{lines_of, rows_of, joined, AreLogical, Breaks, told_line};
+ghost use Rattle.vcm_lines.specs.Statements.{lines_of, rows_of, grouped, AreLogical, Breaks, told_line};
 
 use crate::clean::read_line;
 use crate::fault::{FaultCode, SourceFault};
-use crate::logical::{Lines, Logical, Text};
+use crate::logical::{Lines, Logical, OwnedBytes};
 use crate::words::words_of;
 use std::alloc::{AllocError, Global};
+use vcm_num::line_feed;
 
 /// The most bytes of a line, without its ending.
 const MAX_LINE: usize = 1024;
@@ -33,20 +33,13 @@ fn without_return(line: &[u8]) -> &[u8]
     }
 }
 
-/// Where the first line feed stands.
-fn newline(text: &[u8]) -> Option<usize>
-    ensures { result ≡ position (λ b. b == 10) text.now }
-{
-    text.iter().position(|b| *b == b'\n')
-}
-
 /// The first line, and what stands behind its ending.
-fn first_line(text: &[u8]) -> (&[u8], &[u8])
+fn split_line(text: &[u8]) -> (&[u8], &[u8])
     requires { 0 < length text.now }
     ensures cut { lines text.now ≡ result.0.now ∷ lines result.1.now }
     ensures shorter { length result.1.now < length text.now }
 {
-    match newline(text) {
+    match line_feed(text) {
         None => (text, &[]),
         Some(end) => (without_return(&text[..end]), &text[end + 1..]),
     }
@@ -84,7 +77,7 @@ impl Unfinished {
     ghost use Rattle.std.specs.Prelude.{◌≡◌, ◌≤◌, ◌<◌, ◌⊎◌, ◌++◌, ◌∷◌, [], List, length, IsTrue, true, false, not, ◌&&◌, OnOk, IfOk, IfErr, MatchOption};
     ghost use Rattle.vcm_lines.specs.Pieces.{text_of, continues};
     ghost use Rattle.vcm_lines.specs.Statements.{Row, row_of, is_empty, IsLogical, BreaksLine};
-    ghost use Rattle.vcm_lines.specs.Holding.{Holds};
+    ghost use Rattle.vcm_lines.specs.inner.Holding.{Holds};
     ghost use Rattle.vcm_lines.specs.declared.fault.FaultCode.{FaultCode};
 
     fn new(alloc: Global) -> Self
@@ -134,7 +127,7 @@ impl Unfinished {
             return Ok(None);
         };
         let words = words_of(alloc, &self.bytes, &self.lines)?;
-        let text = Text { bytes: self.bytes };
+        let text = OwnedBytes { bytes: self.bytes };
         Ok(Some(Logical { line, text, words }))
     }
 }
@@ -149,7 +142,7 @@ impl Unfinished {
 /// line 0.
 pub fn logical_lines(alloc: Global, text: &[u8]) -> Result<Lines, SourceFault>
     ensures unbroken { IfOk result (λ _. IsClean Breaks (lines_of text.now)) }
-    ensures statements { IfOk result (AreLogical (joined (rows_of (lines_of text.now)))) }
+    ensures statements { IfOk result (AreLogical (grouped (rows_of (lines_of text.now)))) }
     ensures fault { IfErr result (NoMemoryOr (λ f. FirstFault Breaks told_line (lines_of text.now) f.code f.line)) }
 {
     let mut items = Vec::new(alloc);
@@ -157,7 +150,7 @@ pub fn logical_lines(alloc: Global, text: &[u8]) -> Result<Lines, SourceFault>
     let mut number = 0;
     let mut rest = without_mark(text);
     'lines: while !rest.is_empty() {
-        let (line, after) = first_line(rest);
+        let (line, after) = split_line(rest);
         if number >= MAX_LINES {
             return Err(SourceFault {
                 code: FaultCode::TooManyLines,

@@ -34,11 +34,11 @@ pub struct Word {
 
 /// The bytes of a statement: without blanks and comments, its letters in upper case but for those in texts.
 #[derive(Debug, Drop)]
-pub struct Text {
+pub struct OwnedBytes {
     pub(crate) bytes: Vec<u8>,
 }
 
-impl Model for Text {
+impl Model for OwnedBytes {
     ghost use Rattle.std.specs.Prelude.{List, ℕ};
 
     ghost Value = { List ℕ };
@@ -46,7 +46,7 @@ impl Model for Text {
     ghost view = { λ t. t.bytes.items };
 }
 
-impl Text {
+impl OwnedBytes {
     /// The bytes as a slice.
     pub fn as_bytes(&self) -> &[u8]
         ensures { result.now ≡ self.now }
@@ -85,7 +85,7 @@ pub struct Logical {
     /// The line that it begins on, from 1 on.
     pub line: u32,
     /// Its bytes.
-    pub text: Text,
+    pub text: OwnedBytes,
     /// Its words, which are all of its bytes.
     pub words: Words,
 }

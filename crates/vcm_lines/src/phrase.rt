@@ -2,14 +2,14 @@
 
 ghost use Rattle.std.specs.Prelude.{◌≡◌, ◌≤◌, ◌∷◌, ◌++◌, [], List, length, slice_range, false, IfOk, MatchOption};
 ghost use Rattle.std.specs.List.{position, list_all, list_any};
-ghost use Rattle.std.specs.Str.{bytes_eq};
 ghost use Rattle.vcm_lines.specs.declared.phrase.Cutter.{Cutter};
-ghost use Rattle.vcm_lines.specs.Cuts.{cuts, before, after, fields_of, last_of, front_of, uncut, joined, has_cut};
+ghost use Rattle.vcm_lines.specs.Cuts.{cuts, before, after, fields_of, last_of, front_of, uncut, with_commas, has_cut};
 ghost use Rattle.vcm_lines.specs.Lexemes.{Lexeme, lexemes, lexeme, word_bytes, unquoted, word_lexeme, mark_of, mark_in, is_relation, is_logical, is_spelled};
 
-use crate::logical::{Logical, Text, Word, WordKind};
+use crate::logical::{Logical, OwnedBytes, Word, WordKind};
 use std::alloc::{AllocError, Global};
 use std::marker::Model;
+use vcm_num::is;
 
 /// A word of a statement.
 #[derive(Clone, Copy, Debug)]
@@ -32,12 +32,6 @@ pub enum Token<'a> {
     Star,
     /// Any other mark.
     Other,
-}
-
-fn is(bytes: &[u8], word: &[u8]) -> bool
-    ensures { result ≡ bytes_eq bytes.now word.now }
-{
-    bytes == word
 }
 
 fn is_relation(bytes: &[u8]) -> bool
@@ -73,17 +67,17 @@ impl<'a> Token<'a> {
     }
 }
 
-impl Text {
+impl OwnedBytes {
     /// A text of these bytes.
     ///
     /// # Errors
     /// Out of memory.
-    pub fn copied(alloc: Global, bytes: &[u8]) -> Result<Text, AllocError>
+    pub fn copied(alloc: Global, bytes: &[u8]) -> Result<OwnedBytes, AllocError>
         ensures { IfOk result (λ t. t ≡ bytes.now) }
     {
         let mut kept = Vec::new(alloc);
         kept.extend_from_slice(bytes)?;
-        Ok(Text { bytes: kept })
+        Ok(OwnedBytes { bytes: kept })
     }
 }
 
@@ -307,7 +301,7 @@ impl<'a> Phrase<'a> {
 pub fn cuts_are_whole()
     ensures parts { (m : Cutter) (ws : List Lexeme) → uncut m (before m ws) (after m ws) ≡ ws }
     ensures first { (m : Cutter) (ws : List Lexeme) → has_cut m (before m ws) ≡ false }
-    ensures fields { (ws : List Lexeme) → joined (fields_of ws) ≡ ws }
+    ensures fields { (ws : List Lexeme) → with_commas (fields_of ws) ≡ ws }
     ensures each { (ws : List Lexeme) → list_any (has_cut Cutter.AtComma) (fields_of ws) ≡ false }
     ensures ends { (w : Lexeme) (ws : List Lexeme) → front_of (w ∷ ws) ++ last_of (w ∷ ws) ∷ [] ≡ w ∷ ws }
 {}

@@ -14,8 +14,10 @@ use Rattle.vcm_words.specs.declared.row.Row.TheVariants.{Head, Variable, Feature
 use Rattle.vcm_words.specs.declared.fault.ListCode.{ListCode}
 use Rattle.vcm_words.specs.declared.fault.ListCode.TheVariants.{BadLine, BadNumber, OutOfOrder}
 use Rattle.vcm_words.specs.declared.fault.ListFault.{ListFault}
-use Rattle.vcm_words.specs.Cutting.{split, joined, Without}
-use Rattle.vcm_words.specs.Rows.{ListRow, row_text, numbered, rows, text_of, listing, row_of, FitsRow}
+use Rattle.vcm_words.specs.Cutting.{split, joined}
+use Rattle.vcm_words.specs.inner.Marks.{Without}
+use Rattle.vcm_words.specs.Rows.{ListRow, row_text, numbered, rows, text_of, listing, row_of}
+use Rattle.vcm_words.specs.inner.Fitting.{FitsRow}
 use Rattle.vcm_words.specs.Listing.{is_empty, with_tables, placed, added, unread, after_line, unread_head, empty, after_head, told, on, lines_read, parts_read, code_listed}
 use Rattle.vcm_words.proofs.Cuts.{joined-split, split-word}
 use Rattle.vcm_words.proofs.Inverse.{all_append}

@@ -11,7 +11,8 @@ use Rattle.vcm_words.specs.declared.fault.ListFault.{ListFault}
 use Rattle.vcm_words.specs.Cutting.{split, joined}
 use Rattle.vcm_words.specs.Rows.{ListRow, numbered, rows, listing, row_of}
 use Rattle.vcm_words.specs.Listing.{is_empty, after_line, after_head, empty, told, on, lines_read, parts_read, code_listed}
-use Rattle.vcm_words.specs.Outcomes.{IsWant, GivesOrWants, FailsLine}
+use Rattle.vcm_words.specs.Outcomes.{IsWant, GivesOrWants}
+use Rattle.vcm_words.specs.inner.Failing.{FailsLine}
 use Rattle.vcm_words.proofs.Cuts.{joined-split, split_some}
 use Rattle.vcm_rows.proofs.RowLaws.{row_takes}
 use Rattle.vcm_listing.proofs.ListingLaws.{Grows, added_takes, line_takes, empty_fits, code_takes, code_again}

@@ -3,7 +3,7 @@
 ghost use Rattle.std.specs.Prelude.{◌≡◌, ◌<◌, ◌==◌, ◌&&◌, Ok, Err, IfOk, IfErr, OnOk};
 ghost use Rattle.vcm_words.specs.declared.row.Row.TheVariants as rows;
 ghost use Rattle.vcm_words.specs.Listing.{added, empty};
-ghost use Rattle.vcm_words.specs.Outcomes.{FailsLine};
+ghost use Rattle.vcm_words.specs.inner.Failing.{FailsLine};
 
 use std::alloc::Global;
 use std::marker::Model;

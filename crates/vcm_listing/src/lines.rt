@@ -5,7 +5,8 @@ ghost use Rattle.vcm_words.specs.declared.fault.ListCode.TheVariants.{NoMemory a
 ghost use Rattle.vcm_words.specs.Cutting.{split};
 ghost use Rattle.vcm_words.specs.Rows.{row_of};
 ghost use Rattle.vcm_words.specs.Listing.{unread, after_line, after_head, empty, told};
-ghost use Rattle.vcm_words.specs.Outcomes.{IsWant, FailsLine};
+ghost use Rattle.vcm_words.specs.Outcomes.{IsWant};
+ghost use Rattle.vcm_words.specs.inner.Failing.{FailsLine};
 
 use crate::growing::Growing;
 use std::alloc::Global;

@@ -8,7 +8,7 @@ use Rattle.vcm_spec.specs.declared.expression.Item.TheVariants.{Push, Apply, Com
 use Rattle.vcm_spec.specs.Expression.{HasKind}
 use Rattle.vcm_spec.specs.Setup.{Tables}
 use Rattle.vcm_spec.specs.Fitting.{kinds}
-use Rattle.vcm_expr.specs.Run.{ItemsFit}
+use Rattle.vcm_expr.specs.inner.Runs.{ItemsFit}
 use Rattle.vcm_expr.proofs.Runs.{ItemsFit-typed}
 use Rattle.vcm_code.specs.declared.op.Op.TheVariants.{EndFil, Goto, GoHome, Assign, If, Else, EndIf, Do, EndDo, Label, JumpTo, Feat, Meas, PtMeas, EndMes, SnSet, Trans, Rotate, Recall, Obtain, Output, Text}
 use Rattle.vcm_code.specs.declared.code.Code.{Code}

@@ -20,7 +20,13 @@ pub record Counts : Type 0 where
 
 -- those of a code
 abbrev pub counts_of : Code → Counts
-counts_of c = record { kinds = kinds_of c.tables; features = length c.tables.features; frames = length c.tables.frames; statements = length c.statements }
+counts_of c =
+    record {
+      kinds = kinds_of c.tables;
+      features = length c.tables.features;
+      frames = length c.tables.frames;
+      statements = length c.statements;
+    }
 
 -- one thing that has to hold: an index or a target is below a count, all variables of an expression are, an expression has a kind, a variable
 -- has one, or a variable and an expression have the same

@@ -13,4 +13,4 @@ pub use loading::load;
 pub use vcm_fields::{
     BorrowedOp, BorrowedStatement, BorrowedVariable, ImageFault, ItemSlice, TextSlice,
 };
-pub use walking::{items_kind, items_value};
+pub use walking::items_value;

@@ -1,5 +1,4 @@
-pub mod Lengths
-pub mod Going
 pub mod Running
 pub mod Laws
 pub mod RestsAlways
+pub mod inner

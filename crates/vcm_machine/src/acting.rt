@@ -13,7 +13,7 @@ ghost use Rattle.vcm_spec.specs.Fitting.{kinds, AreLengths};
 ghost use Rattle.vcm_expr.specs.Slots.{IsTruth};
 ghost use Rattle.vcm_state.specs.Carried.{Carried, CarriedOrHalted};
 ghost use Rattle.vcm_code.specs.Valid.{HasItems};
-ghost use Rattle.vcm_machine.specs.Lengths.{lengths_in};
+ghost use Rattle.vcm_machine.specs.inner.Lengths.{lengths_in};
 
 use std::alloc::Global;
 use vcm_fields::{ItemSlice, TextSlice};

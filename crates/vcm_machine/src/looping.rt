@@ -10,7 +10,7 @@ ghost use Rattle.vcm_state.specs.Carried.{Carried};
 ghost use Rattle.vcm_code.specs.Code.{Do, EndDo};
 ghost use Rattle.vcm_code.specs.CodeTable.{pair as saved_pair, do_op};
 ghost use Rattle.vcm_code.specs.Valid.{HasItems};
-ghost use Rattle.vcm_machine.specs.Going.{HasTurned};
+ghost use Rattle.vcm_machine.specs.inner.Going.{HasTurned};
 
 use crate::acting::value;
 use std::alloc::Global;

@@ -27,8 +27,9 @@ impl<'a, P: Part> Model for Machine<'a, P> {
     ghost use Rattle.std.specs.Coded.{codes};
     ghost use Rattle.vcm_code.specs.CodeTable.{place};
     ghost use Rattle.vcm_code.specs.Ops.{code_of};
-    ghost use Rattle.vcm_code.specs.OpCodes.{statement_coded};
-    ghost use Rattle.vcm_machine.specs.Running.{Running, IsRunnable};
+    ghost use Rattle.vcm_code.specs.inner.OpCodes.{statement_coded};
+    ghost use Rattle.vcm_machine.specs.Running.{Running};
+    ghost use Rattle.vcm_machine.specs.inner.Runnable.{IsRunnable};
     ghost use Rattle.vcm_spec.specs.Rests.{Rests};
 
     ghost Value = { Running };

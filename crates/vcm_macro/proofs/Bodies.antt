@@ -10,7 +10,7 @@ use Rattle.vcm_syntax.specs.declared.statement.Form.{Form}
 use Rattle.vcm_syntax.specs.declared.statement.Form.TheVariants.{Call}
 use Rattle.vcm_macro.specs.Substitution.{Scope, put_form, put_argument}
 use Rattle.vcm_macro.specs.Walk.{Place, Stands, Caller, behind, statement_in, body_in}
-use Rattle.vcm_macro.specs.Expanding.{Done, TellsFirst, Walked, stands}
+use Rattle.vcm_macro.specs.inner.Expanding.{Done, TellsFirst, Walked, stands}
 use Rattle.vcm_macro.proofs.Lists.{drop_here, drop_past}
 use Rattle.vcm_macro.proofs.Walks.{walked_none, walked_more, told_front, told_more}
 

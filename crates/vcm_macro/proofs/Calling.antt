@@ -12,7 +12,7 @@ use Rattle.vcm_syntax.specs.declared.statement.Argument.{Argument}
 use Rattle.vcm_syntax.specs.declared.statement.Statement.{Statement}
 use Rattle.vcm_macro.specs.Substitution.{Scope}
 use Rattle.vcm_macro.specs.Walk.{Defined, Calls, call_in, body_in}
-use Rattle.vcm_macro.specs.Expanding.{Done, IsFine, TellsOf, TellsFirst, Walked, found, IsFoundAt, active_of}
+use Rattle.vcm_macro.specs.inner.Expanding.{Done, IsFine, TellsOf, TellsFirst, Walked, found, IsFoundAt, active_of}
 use Rattle.vcm_macro.proofs.Walks.{walked_more, told_more}
 use Rattle.vcm_macro.proofs.Finding.{call_found}
 use Rattle.vcm_macro.proofs.Skipping.{active_leave, walked_over}

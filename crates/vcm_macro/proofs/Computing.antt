@@ -8,7 +8,7 @@ use Rattle.vcm_syntax.specs.declared.statement.Statement.{Statement}
 use Rattle.vcm_macro.specs.Walk.{Place, walk}
 use Rattle.vcm_macro.specs.Rules.{BreaksMacros, macros_line, weight, line_at}
 use Rattle.vcm_macro.specs.Computed.{code_at, fault_or, fault_among, macro_fault}
-use Rattle.vcm_macro.specs.Expanding.{AreFine, TellsFirst}
+use Rattle.vcm_macro.specs.inner.Expanding.{AreFine, TellsFirst}
 use Rattle.vcm_macro.proofs.Phases.{all_clean, first_told}
 
 fault_is : (n : ℕ) (ps : List Place) (f : SourceFault) → fault_among n ps ≡ Some f → TellsFirst n ps f

@@ -9,7 +9,7 @@ use Rattle.vcm_syntax.specs.declared.statement.Statement.{Statement}
 use Rattle.vcm_macro.specs.declared.blocks.Opener.{Opener}
 use Rattle.vcm_macro.specs.Walk.{Defined, Place, Inside, with_statement}
 use Rattle.vcm_macro.specs.Rules.{weigh, redeclares, unbalances, blocks_behind, blocks_after}
-use Rattle.vcm_macro.specs.Expanding.{AreFine, IsFine, TellsOf, TellsFirst, is_macro_end, inside, size_of, begun, IsBody}
+use Rattle.vcm_macro.specs.inner.Expanding.{AreFine, IsFine, TellsOf, TellsFirst, is_macro_end, inside, size_of, begun, IsBody}
 use Rattle.vcm_macro.proofs.Walks.{weigh_append, fine_append, told_behind}
 use Rattle.vcm_macro.proofs.Lists.{drop_here, drop_past, take_next}
 

@@ -12,7 +12,7 @@ use Rattle.vcm_spec.specs.Phase.{IsClean, FirstFault}
 use Rattle.vcm_macro.specs.Walk.{Defined, Place, Opens, Inside, Stands, Calls, walk}
 use Rattle.vcm_macro.specs.Rules.{BreaksMacros, macros_line, weight, weigh, kept, is_kept, one_if}
 use Rattle.vcm_macro.proofs.CodesAt.{breaks_so, fine_so}
-use Rattle.vcm_macro.specs.Expanding.{Done, Walked, IsRead, AreFine, IsFine, TellsOf, TellsFirst}
+use Rattle.vcm_macro.specs.inner.Expanding.{Done, Walked, IsRead, AreFine, IsFine, TellsOf, TellsFirst}
 
 -- the k-th place breaks no rule
 fine_at : (n : ℕ) (ps : List Place) (k : ℕ) (p : Place) → AreFine n ps → slice_get ps k ≡ Some p → IsFine (n + weigh (take k ps)) p

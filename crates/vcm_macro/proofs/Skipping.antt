@@ -10,7 +10,7 @@ use Rattle.vcm_macro.specs.declared.placed.Placed.{Placed}
 use Rattle.vcm_macro.specs.Substitution.{Scope, put_form}
 use Rattle.vcm_macro.specs.Walk.{Place, Opens, Inside, Stands, Calls, Caller, calls_in, behind, statement_in, body_in}
 use Rattle.vcm_macro.specs.Rules.{weight, weigh, kept, kept_of, is_kept, are_small, one_if}
-use Rattle.vcm_macro.specs.Expanding.{Done, IsFine, AreFine, TellsFirst, Walked, is_active, active_of, referred}
+use Rattle.vcm_macro.specs.inner.Expanding.{Done, IsFine, AreFine, TellsFirst, Walked, is_active, active_of, referred}
 
 -- with the first places walked, the second ones are: they leave the same, and tell the same
 pub record Leaves (ps qs : List Place) : Type 0 where

@@ -5,7 +5,7 @@ use Rattle.vcm_lines.specs.declared.fault.SourceFault.{SourceFault}
 use Rattle.vcm_macro.specs.declared.placed.Placed.{Placed}
 use Rattle.vcm_macro.specs.Walk.{Place, Opens, Inside, Stands, Calls, calls_in}
 use Rattle.vcm_macro.specs.Rules.{weight, weigh, kept, kept_of}
-use Rattle.vcm_macro.specs.Expanding.{Done, AreFine, TellsFirst, Walked}
+use Rattle.vcm_macro.specs.inner.Expanding.{Done, AreFine, TellsFirst, Walked}
 
 pub weigh_append : (ps qs : List Place) → weigh (ps ++ qs) ≡ weigh ps + weigh qs
 weigh_append [] qs = omega arith

@@ -15,11 +15,13 @@ code_if false code next = next
 -- the leftmost code of the rules that a place breaks
 abbrev pub code_at : ℕ → Place → Option FaultCode
 code_at n (Opens ms s) = code_if (is_taken ms s.form) DuplicateName None
-code_at n (Inside m s) = code_if (redeclares m.parameters s.form) DuplicateName (code_if (unbalances (blocks_after [] m.body) s.form) Unbalanced None)
+code_at n (Inside m s) =
+    code_if (redeclares m.parameters s.form) DuplicateName (code_if (unbalances (blocks_after [] m.body) s.form) Unbalanced None)
 code_at n (Stands e s) = code_if (is_kept s.form && is_full n) TooLong (code_if (not (are_small s.form)) TooDeep None)
 code_at n (Calls line depth m bs) =
     code_if (not (is_there m)) UnknownName
-    (code_if (not (are_small_arguments bs)) TooDeep (code_if (misfits m bs) BadArguments (code_if (nat_lt 16 depth || is_full n) TooLong None)))
+    (code_if (not (are_small_arguments bs)) TooDeep
+    (code_if (misfits m bs) BadArguments (code_if (nat_lt 16 depth || is_full n) TooLong None)))
 
 -- the refusal at a place, or else what comes behind it
 abbrev pub fault_or : Option FaultCode → ℕ → Option SourceFault → Option SourceFault

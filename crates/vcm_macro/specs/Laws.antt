@@ -11,7 +11,8 @@ use Rattle.vcm_macro.specs.Expansion.{IsExpanded, IsRefused}
 
 -- the fault that is computed is the first one of the walk
 abbrev pub ComputedIsFirst : Type 0
-ComputedIsFirst = (ss : List Statement) (f : SourceFault) → macro_fault ss ≡ Some f → FirstFault BreaksMacros macros_line (walk ss) f.code f.line
+ComputedIsFirst =
+    (ss : List Statement) (f : SourceFault) → macro_fault ss ≡ Some f → FirstFault BreaksMacros macros_line (walk ss) f.code f.line
 
 -- where none is computed there is none
 abbrev pub NoneIsClean : Type 0

@@ -4,6 +4,6 @@ pub mod Walk
 pub mod Rules
 pub mod Computed
 pub mod Samples
-pub mod Expanding
 pub mod Expansion
+pub mod inner
 pub mod Laws

@@ -1,9 +1,8 @@
 -- The rules of the phase of macros.
-use Rattle.std.specs.Prelude.{◌≡◌, ℕ, ◌+◌, Bool, true, false, IsTrue, not, ◌&&◌, ◌||◌, nat_lt, nat_le, if◌then◌else◌, List, [], ◌∷◌, ◌++◌, drop, length, map, Option, Some, None}
+use Rattle.std.specs.Prelude.{ℕ, ◌+◌, Bool, true, false, IsTrue, not, ◌&&◌, ◌||◌, nat_lt, nat_le, if◌then◌else◌, List, [], ◌∷◌, ◌++◌, drop, length, map, Option, Some, None}
 use Rattle.std.specs.List.{list_any, list_all}
 use Rattle.vcm_lines.specs.declared.fault.FaultCode.{FaultCode}
 use Rattle.vcm_lines.specs.declared.fault.FaultCode.TheVariants.{TooDeep, DuplicateName, UnknownName, Unbalanced, BadArguments, TooLong}
-use Rattle.vcm_lines.specs.declared.fault.SourceFault.{SourceFault}
 use Rattle.vcm_expr.specs.Source.{Source, is_small}
 use Rattle.vcm_syntax.specs.declared.statement.Parameter.{Parameter}
 use Rattle.vcm_syntax.specs.declared.statement.Argument.{Argument}
@@ -170,10 +169,6 @@ are_small (Touch p d) = is_small_spot p
 are_small (Configure which s) = is_small s
 are_small (Shift n os) = are_small_offsets os
 are_small form = true
-
--- the refusal tells at this line that something is too deep or too large, and it isn't small
-abbrev pub IsTooDeep : ℕ → Bool → SourceFault → Type 0
-IsTooDeep line small f = (f ≡ record { code = TooDeep; line = line }) × (small ≡ false)
 
 -- whether a statement is one of the expanded program, and counts there: a step of the machine, or DECL
 abbrev pub is_kept : Form → Bool

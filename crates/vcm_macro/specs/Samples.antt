@@ -87,16 +87,19 @@ pub no_argument : macro_fault (doubling [] (run (codes "R") ∷ [])) ≡ Some (r
 no_argument = refl
 
 -- a body calls a macro that is defined below it, but above the CALL of that body
-pub defined_below : macro_fault (on_lines 3 (says.Macro (codes "A") [] ∷ says.Call (codes "B") [] ∷ says.MacroEnd ∷ says.Macro (codes "B") [] ∷ says.MacroEnd ∷ says.Call (codes "A") [] ∷ says.Ending ∷ []))
+pub defined_below : macro_fault (on_lines 3 (says.Macro (codes "A") [] ∷ says.Call (codes "B") [] ∷ says.MacroEnd
+    ∷ says.Macro (codes "B") [] ∷ says.MacroEnd ∷ says.Call (codes "A") [] ∷ says.Ending ∷ []))
     ≡ Some (record { code = UnknownName; line = 4 })
 defined_below = refl
 
 -- without that CALL nothing is refused
-pub never_called : macro_fault (on_lines 3 (says.Macro (codes "A") [] ∷ says.Call (codes "B") [] ∷ says.MacroEnd ∷ says.Macro (codes "B") [] ∷ says.MacroEnd ∷ says.Ending ∷ [])) ≡ None
+pub never_called : macro_fault (on_lines 3 (says.Macro (codes "A") [] ∷ says.Call (codes "B") [] ∷ says.MacroEnd
+    ∷ says.Macro (codes "B") [] ∷ says.MacroEnd ∷ says.Ending ∷ [])) ≡ None
 never_called = refl
 
 -- a CALL above its macro
-pub called_above : macro_fault (on_lines 3 (says.Call (codes "A") [] ∷ says.Macro (codes "A") [] ∷ says.MacroEnd ∷ says.Ending ∷ [])) ≡ Some (record { code = UnknownName; line = 3 })
+pub called_above : macro_fault (on_lines 3 (says.Call (codes "A") [] ∷ says.Macro (codes "A") [] ∷ says.MacroEnd ∷ says.Ending ∷ []))
+    ≡ Some (record { code = UnknownName; line = 3 })
 called_above = refl
 
 -- a plain parameter
@@ -170,11 +173,13 @@ abbrev pub body_fault : List Form → Option SourceFault
 body_fault fs = macro_fault (on_lines 3 (says.Macro (codes "A") (plain (codes "P") ∷ []) ∷ (fs ++ says.MacroEnd ∷ says.Ending ∷ [])))
 
 -- ENDMES where a test is open in the measurement
-pub crossed : body_fault (says.Measure (codes "N") ∷ says.Test (var (codes "P") 0) ∷ says.MeasureEnd ∷ []) ≡ Some (record { code = Unbalanced; line = 6 })
+pub crossed : body_fault (says.Measure (codes "N") ∷ says.Test (var (codes "P") 0) ∷ says.MeasureEnd ∷ [])
+    ≡ Some (record { code = Unbalanced; line = 6 })
 crossed = refl
 
 -- a measurement that is open at ENDMAC
-pub open_at_end : body_fault (says.Test (var (codes "P") 0) ∷ says.Otherwise ∷ says.TestEnd ∷ says.Measure (codes "N") ∷ []) ≡ Some (record { code = Unbalanced; line = 8 })
+pub open_at_end : body_fault (says.Test (var (codes "P") 0) ∷ says.Otherwise ∷ says.TestEnd ∷ says.Measure (codes "N") ∷ [])
+    ≡ Some (record { code = Unbalanced; line = 8 })
 open_at_end = refl
 
 -- a parameter that is declared again
@@ -182,13 +187,15 @@ pub declared_again : body_fault (says.Declaration IntKind (codes "P" ∷ []) ∷
 declared_again = refl
 
 -- two parameters of one name
-pub twins : macro_fault (on_lines 3 (says.Macro (codes "A") (plain (codes "P") ∷ quoted (codes "P") ∷ []) ∷ says.MacroEnd ∷ says.Ending ∷ [])) ≡ Some (record { code = DuplicateName; line = 3 })
+pub twins : macro_fault (on_lines 3 (says.Macro (codes "A") (plain (codes "P") ∷ quoted (codes "P") ∷ []) ∷ says.MacroEnd ∷ says.Ending
+    ∷ [])) ≡ Some (record { code = DuplicateName; line = 3 })
 twins = refl
 
 -- macros, of which each but the first calls the one above it, with this argument
 abbrev pub macros_with : Source → ℕ → List Form
 macros_with s zero = says.Macro (0 ∷ []) (plain (codes "A") ∷ []) ∷ says.MacroEnd ∷ []
-macros_with s (suc n) = macros_with s n ++ (says.Macro (suc n ∷ []) (plain (codes "A") ∷ []) ∷ says.Call (n ∷ []) (expression s ∷ []) ∷ says.MacroEnd ∷ [])
+macros_with s (suc n) =
+    macros_with s n ++ (says.Macro (suc n ∷ []) (plain (codes "A") ∷ []) ∷ says.Call (n ∷ []) (expression s ∷ []) ∷ says.MacroEnd ∷ [])
 
 -- and a CALL of the last one
 abbrev pub chained : Source → ℕ → List Statement
@@ -217,7 +224,8 @@ pub first : misplaced [] says.Measures ∷ misplaced [] says.Opening ∷ [] ≡ 
 first = refl
 
 -- a CALL wants a UNITS above it, and MACRO doesn't
-pub unmeasured : misplaced (says.Opening ∷ []) (says.Call (codes "A") []) ∷ misplaced (says.Opening ∷ []) (says.Macro (codes "A") []) ∷ [] ≡ true ∷ false ∷ []
+pub unmeasured : misplaced (says.Opening ∷ []) (says.Call (codes "A") []) ∷ misplaced (says.Opening ∷ []) (says.Macro (codes "A") []) ∷ []
+    ≡ true ∷ false ∷ []
 unmeasured = refl
 
 -- the first statements of a program, with a macro that is open
@@ -225,10 +233,12 @@ abbrev pub opened : List Form
 opened = says.Opening ∷ says.Measures ∷ says.Macro (codes "A") [] ∷ []
 
 -- no MACRO and no ENDFIL stands in a macro, but ENDMAC does
-pub in_a_macro : misplaced opened (says.Macro (codes "B") []) ∷ misplaced opened says.Ending ∷ misplaced opened says.MacroEnd ∷ [] ≡ true ∷ true ∷ false ∷ []
+pub in_a_macro : misplaced opened (says.Macro (codes "B") []) ∷ misplaced opened says.Ending ∷ misplaced opened says.MacroEnd ∷ []
+    ≡ true ∷ true ∷ false ∷ []
 in_a_macro = refl
 
 -- behind ENDMAC it is the other way round
-pub behind_a_macro : misplaced (opened ++ says.MacroEnd ∷ []) (says.Macro (codes "B") []) ∷ misplaced (opened ++ says.MacroEnd ∷ []) says.Ending ∷ misplaced (opened ++ says.MacroEnd ∷ []) says.MacroEnd ∷ []
+pub behind_a_macro : misplaced (opened ++ says.MacroEnd ∷ []) (says.Macro (codes "B") [])
+    ∷ misplaced (opened ++ says.MacroEnd ∷ []) says.Ending ∷ misplaced (opened ++ says.MacroEnd ∷ []) says.MacroEnd ∷ []
     ≡ false ∷ false ∷ true ∷ []
 behind_a_macro = refl

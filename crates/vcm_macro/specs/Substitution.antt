@@ -112,7 +112,13 @@ put_spot sc p = record { x = put sc p.x; y = put sc p.y; z = put sc p.z }
 
 -- how often a block is repeated
 abbrev pub put_rounds : Scope → Rounds → Rounds
-put_rounds sc r = record { variable = put_target sc r.variable; initial = put sc r.initial; limit = put sc r.limit; increment = within (put sc) r.increment }
+put_rounds sc r =
+    record {
+      variable = put_target sc r.variable;
+      initial = put sc r.initial;
+      limit = put sc r.limit;
+      increment = within (put sc) r.increment;
+    }
 
 -- how far the origin of a frame is shifted along an axis
 abbrev pub put_offset : Scope → Offset → Offset

@@ -4,7 +4,8 @@ ghost use Rattle.std.specs.Prelude.{◌≡◌, true, false, IfOk, OnOk, IfErr};
 ghost use Rattle.std.specs.Option.{option_copied};
 ghost use Rattle.vcm_lines.specs.Fault.{NoMemoryOr, no_memory};
 ghost use Rattle.vcm_expr.specs.Source.{source_of, is_small};
-ghost use Rattle.vcm_macro.specs.Rules.{IsTooDeep, is_small_option};
+ghost use Rattle.vcm_macro.specs.Rules.{is_small_option};
+ghost use Rattle.vcm_macro.specs.inner.Limits.{IsTooDeep};
 ghost use Rattle.vcm_macro.specs.Substitution.{put, put_variable, put_target, put_name, put_argument, variable_in, variable_of, value_of, name_of, argument_for, is_meant};
 
 use std::alloc::Global;

@@ -2,7 +2,7 @@
 
 ghost use Rattle.std.specs.Prelude.{◌≡◌, ℕ, IfOk, IfErr};
 ghost use Rattle.vcm_lines.specs.Fault.{NoMemoryOr};
-ghost use Rattle.vcm_macro.specs.Expanding.{is_macro_end, inside, begun, IsBody, TellsFirst};
+ghost use Rattle.vcm_macro.specs.inner.Expanding.{is_macro_end, inside, begun, IsBody, TellsFirst};
 
 use crate::blocks::Blocks;
 use crate::parameters::redeclares;

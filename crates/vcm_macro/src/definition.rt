@@ -4,7 +4,7 @@ ghost use Rattle.std.specs.Prelude.{◌≡◌, None, reverse, IfOk, MatchOption}
 ghost use Rattle.std.specs.List.{list_any};
 ghost use Rattle.vcm_macro.specs.Substitution.{is_same};
 ghost use Rattle.vcm_macro.specs.Rules.{takes};
-ghost use Rattle.vcm_macro.specs.Expanding.{found, IsFoundAt, active_of, referred};
+ghost use Rattle.vcm_macro.specs.inner.Expanding.{found, IsFoundAt, active_of, referred};
 
 use crate::fitting::{Wanted, all_suit, all_wanted};
 use crate::kept::active_of;
@@ -29,7 +29,7 @@ impl<'a> Model for Definition<'a> {
     ghost use Rattle.std.specs.Coded.{codes};
     ghost use Rattle.vcm_macro.specs.Walk.{Defined};
     ghost use Rattle.vcm_macro.specs.Rules.{wanted_by};
-    ghost use Rattle.vcm_macro.specs.Expanding.{active_of, referred};
+    ghost use Rattle.vcm_macro.specs.inner.Expanding.{active_of, referred};
     ghost use Rattle.vcm_syntax.specs.contracts.statement.Parameter as parameter;
     ghost use Rattle.vcm_syntax.specs.contracts.statement.Statement as statement;
 

@@ -2,10 +2,11 @@
 
 ghost use Rattle.std.specs.Prelude.{◌≡◌, ◌≤◌, ◌∷◌, [], suc, true, Some, map, reverse, OnOk, IfOk, IfErr};
 ghost use Rattle.vcm_lines.specs.Fault.{NoMemoryOr};
-ghost use Rattle.vcm_macro.specs.Rules.{IsTooDeep, are_small_arguments};
+ghost use Rattle.vcm_macro.specs.Rules.{are_small_arguments};
+ghost use Rattle.vcm_macro.specs.inner.Limits.{IsTooDeep};
 ghost use Rattle.vcm_macro.specs.Substitution.{put_argument};
 ghost use Rattle.vcm_macro.specs.Walk.{Calls, call_in, body_in};
-ghost use Rattle.vcm_macro.specs.Expanding.{Walked, TellsOf, TellsFirst, IsFine, referred};
+ghost use Rattle.vcm_macro.specs.inner.Expanding.{Walked, TellsOf, TellsFirst, IsFine, referred};
 
 use crate::bindings::Bindings;
 use crate::definition::{Definition, find};

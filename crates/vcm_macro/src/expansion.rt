@@ -4,7 +4,7 @@ ghost use Rattle.std.specs.Prelude.{◌≡◌, ◌≤◌, ◌∷◌, [], suc, tr
 ghost use Rattle.vcm_lines.specs.Fault.{NoMemoryOr};
 ghost use Rattle.vcm_lines.specs.declared.fault.FaultCode.{FaultCode};
 ghost use Rattle.vcm_macro.specs.Rules.{is_full};
-ghost use Rattle.vcm_macro.specs.Expanding.{Walked, TellsFirst, stands};
+ghost use Rattle.vcm_macro.specs.inner.Expanding.{Walked, TellsFirst, stands};
 
 use crate::bindings::Bindings;
 use crate::kept::is_kept;
@@ -29,7 +29,7 @@ pub(crate) struct Expansion {
 impl Model for Expansion {
     ghost use Rattle.std.specs.Prelude.{◌≤◌};
     ghost use Rattle.std.specs.Coded.{codes};
-    ghost use Rattle.vcm_macro.specs.Expanding.{Done};
+    ghost use Rattle.vcm_macro.specs.inner.Expanding.{Done};
     ghost use Rattle.vcm_macro.specs.contracts.placed.Placed as statement;
 
     ghost Value = { Done };

@@ -2,7 +2,7 @@
 
 ghost use Rattle.std.specs.Prelude.{◌≡◌, IfOk};
 ghost use Rattle.vcm_macro.specs.Rules.{is_kept};
-ghost use Rattle.vcm_macro.specs.Expanding.{is_active, active_of, referred};
+ghost use Rattle.vcm_macro.specs.inner.Expanding.{is_active, active_of, referred};
 
 use std::alloc::{AllocError, Global};
 use vcm_syntax::{Form, Statement};

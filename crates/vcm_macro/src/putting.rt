@@ -2,9 +2,10 @@
 
 ghost use Rattle.std.specs.Prelude.{◌≡◌, true, map, IfOk, OnOk, IfErr};
 ghost use Rattle.vcm_lines.specs.Fault.{NoMemoryOr, no_memory};
-ghost use Rattle.vcm_macro.specs.Rules.{IsTooDeep, is_small_option, is_small_spot, are_small_rounds, are_small_offsets, are_small, is_kept};
+ghost use Rattle.vcm_macro.specs.Rules.{is_small_option, is_small_spot, are_small_rounds, are_small_offsets, are_small, is_kept};
+ghost use Rattle.vcm_macro.specs.inner.Limits.{IsTooDeep};
 ghost use Rattle.vcm_macro.specs.Substitution.{put, put_name, put_spot, put_rounds, put_offset, put_form, within};
-ghost use Rattle.vcm_macro.specs.Expanding.{is_plain};
+ghost use Rattle.vcm_macro.specs.inner.Expanding.{is_plain};
 ghost use Rattle.vcm_syntax.specs.declared.statement.Form.{Form};
 
 use crate::bindings::Bindings;

@@ -8,7 +8,7 @@ ghost use Rattle.vcm_macro.specs.Rules.{BreaksMacros, macros_line, kept};
 ghost use Rattle.vcm_macro.specs.Order.{BreaksOrder};
 ghost use Rattle.vcm_macro.specs.Computed.{macro_fault};
 ghost use Rattle.vcm_macro.specs.Expansion.{IsExpanded, IsRefused};
-ghost use Rattle.vcm_macro.specs.Expanding.{TellsFirst, IsNew, IsRead, defines, behind_macro};
+ghost use Rattle.vcm_macro.specs.inner.Expanding.{TellsFirst, IsNew, IsRead, defines, behind_macro};
 
 use crate::bindings::Bindings;
 use crate::defining::body_size;

@@ -7,8 +7,8 @@ use Rattle.vcm_num.specs.Point.{coordinate, is_below}
 use Rattle.vcm_spec.specs.declared.workpiece.Block3.{Block3}
 use Rattle.vcm_spec.specs.Contact.{IsFraction, IsBetween, Meets}
 use Rattle.vcm_spec.proofs.Entries.{both_true}
-use Rattle.vcm_motion.specs.Stretches.{IsReached}
-use Rattle.vcm_motion.specs.Boxes.{IsSpan, IsBoxOf}
+use Rattle.vcm_motion.specs.inner.Stretches.{IsReached}
+use Rattle.vcm_motion.specs.inner.Boxes.{IsSpan, IsBoxOf}
 use Rattle.vcm_motion.proofs.Crossings.{rising, falling}
 use Rattle.vcm_motion.proofs.Inside.{each_below}
 

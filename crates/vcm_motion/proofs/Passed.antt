@@ -3,7 +3,7 @@ use Rattle.std.proofs.Common.{◌≡◌, ◌⊎◌, ℕ, ◌+◌, ◌≤◌, Lis
 use Rattle.std.proofs.lemmas.Bool.{cases_lt}
 use Rattle.vcm_spec.specs.declared.workpiece.Block3.{Block3}
 use Rattle.vcm_motion.proofs.Search.{HasSeenAll}
-use Rattle.vcm_motion.specs.Listed.{IsListed, IsCovered}
+use Rattle.vcm_motion.specs.inner.Listed.{IsListed, IsCovered}
 
 -- one more is listed
 pub next_passed : (order : List ℕ) (n i : ℕ) → get_or order n 0 ≡ i → (j : ℕ) → IsListed order 0 (n + 1) j → IsListed order 0 n j ⊎ (j ≡ i)

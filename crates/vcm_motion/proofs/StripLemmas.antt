@@ -10,10 +10,10 @@ use Rattle.vcm_spec.specs.Workpiece.{is_block}
 use Rattle.vcm_spec.specs.Contact.{IsFraction, IsBetween, Meets}
 use Rattle.std.proofs.lemmas.Bool.{and_parts}
 use Rattle.vcm_motion.proofs.Inside.{block_at, below_each}
-use Rattle.vcm_motion.specs.Boxes.{IsSpan}
+use Rattle.vcm_motion.specs.inner.Boxes.{IsSpan}
 use Rattle.vcm_motion.proofs.BoxLemmas.{span_met}
 use Rattle.vcm_motion.specs.Strips.{nat_part, rise, strip_at, start_of}
-use Rattle.vcm_motion.specs.Listed.{AreStrips, IsCovered}
+use Rattle.vcm_motion.specs.inner.Listed.{AreStrips, IsCovered}
 
 nat_part_le : (y z : ℤ) → y ≤ℤ z → nat_part y ≤ nat_part z
 nat_part_le (pos m) (pos n) h = omega (arith, ints)

@@ -8,7 +8,7 @@ use Rattle.std.proofs.lemmas.Bool.{cases_lt, le-leb}
 use Rattle.vcm_spec.specs.declared.workpiece.Block3.{Block3}
 use Rattle.vcm_spec.proofs.Entries.{both_true}
 use Rattle.vcm_motion.specs.Strips.{stands_in, numbered, standing, listed_below, starts_to, start_of, compared_in}
-use Rattle.vcm_motion.specs.Listed.{IsListed, AreStrips}
+use Rattle.vcm_motion.specs.inner.Listed.{IsListed, AreStrips}
 use Rattle.vcm_motion.proofs.InOrder.{no_block, read_at}
 
 -- no more stand in a strip than there are

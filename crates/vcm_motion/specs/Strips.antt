@@ -20,7 +20,8 @@ strip_at low width x = min 63 (rise low x / width)
 
 -- whether a block stands in the strip s
 abbrev pub stands_in : ℤ → ℕ → ℕ → Block3 → Bool
-stands_in low width s block = nat_le (strip_at low width (coordinate block.low 0)) s && nat_le s (strip_at low width (coordinate block.high 0))
+stands_in low width s block =
+    nat_le (strip_at low width (coordinate block.low 0)) s && nat_le s (strip_at low width (coordinate block.high 0))
 
 -- n stands before the rest where the test holds
 abbrev pub numbered : Bool → ℕ → List ℕ → List ℕ

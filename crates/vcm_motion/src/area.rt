@@ -2,7 +2,7 @@
 
 ghost use Rattle.std.specs.Prelude.{◌≡◌, ◌&&◌, IsTrue};
 ghost use Rattle.vcm_num.specs.Point.{coordinate, is_below, is_near};
-ghost use Rattle.vcm_motion.specs.Boxes.{IsBoxOf, IsLineBox};
+ghost use Rattle.vcm_motion.specs.inner.Boxes.{IsBoxOf, IsLineBox};
 
 use vcm_num::{Axis, Point};
 use vcm_part::is_below;

@@ -5,8 +5,8 @@ ghost use Rattle.std.specs.List.{list_all};
 ghost use Rattle.vcm_num.specs.Point.{coordinate, is_near};
 ghost use Rattle.vcm_spec.specs.Workpiece.{is_block};
 ghost use Rattle.vcm_spec.specs.Contact.{Meets, IsContact};
-ghost use Rattle.vcm_motion.specs.Boxes.{IsBoxOf};
-ghost use Rattle.vcm_motion.specs.Order.{IsLeastOf};
+ghost use Rattle.vcm_motion.specs.inner.Boxes.{IsBoxOf};
+ghost use Rattle.vcm_motion.specs.inner.Sooner.{IsLeastOf};
 
 use crate::area::{box_of, is_touching};
 use crate::axis::between;

@@ -5,7 +5,7 @@ ghost use Rattle.std.specs.List.{list_all};
 ghost use Rattle.vcm_num.specs.Point.{coordinate, is_near, IsNear};
 ghost use Rattle.vcm_spec.specs.Workpiece.{is_block};
 ghost use Rattle.vcm_spec.specs.Contact.{Meets, IsContact};
-ghost use Rattle.vcm_motion.specs.Listed.{AreStrips, IsCovered};
+ghost use Rattle.vcm_motion.specs.inner.Listed.{AreStrips, IsCovered};
 ghost use Rattle.vcm_motion.specs.Strips.{start_of, strip_at};
 
 use crate::area::box_of;

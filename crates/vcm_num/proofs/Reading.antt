@@ -3,7 +3,8 @@ use Rattle.std.proofs.Common.{◌≡◌, ◌≢◌, ℕ, suc, ◌+◌, ◌-◌, 
 use Rattle.std.specs.List.{list_all}
 use Rattle.std.specs.Char.{is_ascii_digit}
 use Rattle.std.proofs.Math.Nat.{pow-suc}
-use Rattle.vcm_num.specs.Literals.{digits_value, AllDigits, has_minus, after_sign, Parts, point_part, digits_after, Spells, three_decimals, number_after, NoDigitFirst, signed, Reads}
+use Rattle.vcm_num.specs.Literals.{digits_value, AllDigits, has_minus, after_sign, Parts, point_part, digits_after, SpellsNumber, three_decimals, number_after, signed, Reads}
+use Rattle.vcm_num.specs.inner.Digits.{NoDigitFirst}
 use Rattle.vcm_num.specs.declared.number.Literal.TheVariants.{Int, Thousandths}
 use Rattle.vcm_num.specs.declared.read.NumFault.TheVariants.{TooFine, TooLarge}
 use Rattle.std.proofs.lemmas.List.{at_drop_more}
@@ -73,44 +74,44 @@ point_part-no_digit (Some ds) = refl
 
 module _ (bytes w r : List ℕ) (cut : after_sign bytes ≡ w ++ r) (digits : AllDigits w) (ends : NoDigitFirst r) where
   -- any parts that the bytes spell are these
-  parts_are : (p : Parts) → Spells bytes p → (p.whole ≡ w) × (point_part p.decimals ≡ r)
+  parts_are : (p : Parts) → SpellsNumber bytes p → (p.whole ≡ w) × (point_part p.decimals ≡ r)
   parts_are p h = cut_once p.whole w (point_part p.decimals) r h.whole_digits digits (point_part-no_digit p.decimals) ends (sym h.cut ∙ cut)
 
-  pub spells_whole : r ≡ [] → 0 < length w → Spells bytes (record { whole = w; decimals = None })
+  pub spells_whole : r ≡ [] → 0 < length w → SpellsNumber bytes (record { whole = w; decimals = None })
   spells_whole e h = record { cut = cut ∙ ap (λ l. w ++ l) e; whole_digits = digits; decimal_digits = tt; has_digit = omega arith }
 
-  pub spells_decimals : (ds : List ℕ) → r ≡ 46 ∷ ds → list_all is_ascii_digit ds ≡ true → 0 < length w + length ds → Spells bytes (record { whole = w; decimals = Some ds })
+  pub spells_decimals : (ds : List ℕ) → r ≡ 46 ∷ ds → list_all is_ascii_digit ds ≡ true → 0 < length w + length ds → SpellsNumber bytes (record { whole = w; decimals = Some ds })
   spells_decimals ds e t h = record { cut = cut ∙ ap (λ l. w ++ l) e; whole_digits = digits; decimal_digits = AllDigits-from_test ds t; has_digit = h }
 
-  pub no_digits : r ≡ [] → length w ≡ 0 → (p : Parts) → ¬ Spells bytes p
+  pub no_digits : r ≡ [] → length w ≡ 0 → (p : Parts) → ¬ SpellsNumber bytes p
   no_digits e h p s = let a = parts_are p s in none p.decimals (a.1 ∙ e) s.has_digit
     where
       none : (o : Option (List ℕ)) → point_part o ≡ [] → 0 < length p.whole + length (digits_after o) → ⊥
       none None f k = let same = ap length (parts_are p s).0 in omega arith
       none (Some ds) f k = cc
 
-  pub no_point : (b : ℕ) (ds : List ℕ) → r ≡ b ∷ ds → b ≢ 46 → (p : Parts) → ¬ Spells bytes p
+  pub no_point : (b : ℕ) (ds : List ℕ) → r ≡ b ∷ ds → b ≢ 46 → (p : Parts) → ¬ SpellsNumber bytes p
   no_point b ds e h p s = none p.decimals ((parts_are p s).1 ∙ e)
     where
       none : (o : Option (List ℕ)) → point_part o ≡ b ∷ ds → ⊥
       none None f = cc
       none (Some es) f = let same : 46 ≡ b = cc in h (sym same)
 
-  decimals_are : (ds : List ℕ) → r ≡ 46 ∷ ds → (p : Parts) → Spells bytes p → digits_after p.decimals ≡ ds
+  decimals_are : (ds : List ℕ) → r ≡ 46 ∷ ds → (p : Parts) → SpellsNumber bytes p → digits_after p.decimals ≡ ds
   decimals_are ds e p s = which p.decimals ((parts_are p s).1 ∙ e)
     where
       which : (o : Option (List ℕ)) → point_part o ≡ 46 ∷ ds → digits_after o ≡ ds
       which None f = cc
       which (Some es) f = cc
 
-  pub bare_point : (ds : List ℕ) → r ≡ 46 ∷ ds → length w ≡ 0 → length ds ≡ 0 → (p : Parts) → ¬ Spells bytes p
+  pub bare_point : (ds : List ℕ) → r ≡ 46 ∷ ds → length w ≡ 0 → length ds ≡ 0 → (p : Parts) → ¬ SpellsNumber bytes p
   bare_point ds e hw hd p s =
       let one = ap length (parts_are p s).0 in
       let two = ap length (decimals_are ds e p s) in
       let some = s.has_digit in
       omega arith
 
-  pub bad_decimals : (ds : List ℕ) → r ≡ 46 ∷ ds → list_all is_ascii_digit ds ≡ false → (p : Parts) → ¬ Spells bytes p
+  pub bad_decimals : (ds : List ℕ) → r ≡ 46 ∷ ds → list_all is_ascii_digit ds ≡ false → (p : Parts) → ¬ SpellsNumber bytes p
   bad_decimals ds e h p s =
       let all = AllDigits-test ds (subst AllDigits (decimals_are ds e p s) s.decimal_digits) in
       cc

@@ -4,3 +4,4 @@ pub mod Texts
 pub mod Point
 pub mod Axis
 pub mod Written
+pub mod inner

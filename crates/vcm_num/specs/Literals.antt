@@ -41,7 +41,7 @@ digits_after None = []
 digits_after (Some ds) = ds
 
 -- the bytes are perhaps a sign, digits, and perhaps a point with digits, and there is a digit
-pub record Spells (bytes : List ℕ) (p : Parts) : Type 0 where
+pub record SpellsNumber (bytes : List ℕ) (p : Parts) : Type 0 where
   pub cut : after_sign bytes ≡ p.whole ++ point_part p.decimals
   pub whole_digits : AllDigits p.whole
   pub decimal_digits : AllDigits (digits_after p.decimals)
@@ -72,19 +72,14 @@ literal_of minus n (Some ds) = Thousandths (signed minus n)
 -- what the reading of these bytes gives
 abbrev pub Reads : List ℕ → Result Literal NumFault → Type 0
 Reads bytes (Ok x) =
-    (p : Parts) × Spells bytes p × (is_fine p ≡ true) × (magnitude_of p.whole p.decimals < 2 ^ 63)
+    (p : Parts) × SpellsNumber bytes p × (is_fine p ≡ true) × (magnitude_of p.whole p.decimals < 2 ^ 63)
     × (x ≡ literal_of (has_minus bytes) (magnitude_of p.whole p.decimals) p.decimals)
-Reads bytes (Err BadNumber) = (p : Parts) → ¬ Spells bytes p
-Reads bytes (Err TooFine) = (p : Parts) × Spells bytes p × (is_fine p ≡ false)
+Reads bytes (Err BadNumber) = (p : Parts) → ¬ SpellsNumber bytes p
+Reads bytes (Err TooFine) = (p : Parts) × SpellsNumber bytes p × (is_fine p ≡ false)
 Reads bytes (Err TooLarge) =
-    (p : Parts) × Spells bytes p × (is_fine p ≡ true) × (2 ^ 63 ≤ magnitude_of p.whole p.decimals)
+    (p : Parts) × SpellsNumber bytes p × (is_fine p ≡ true) × (2 ^ 63 ≤ magnitude_of p.whole p.decimals)
 
 -- a number, and digits after it
 abbrev pub number_after : ℕ → List ℕ → ℕ
 number_after n [] = n
 number_after n (d ∷ ds) = number_after (n * 10 + (d - 48)) ds
-
--- no digit stands first
-abbrev pub NoDigitFirst : List ℕ → Type 0
-NoDigitFirst [] = Unit {0}
-NoDigitFirst (b ∷ bs) = is_ascii_digit b ≡ false

@@ -1,7 +1,7 @@
 //! The six directions of the axes.
 
 ghost use Rattle.std.specs.Prelude.{◌≡◌, ◌<◌};
-ghost use Rattle.vcm_num.specs.Axis.{axis_of, is_forward, opposite};
+ghost use Rattle.vcm_num.specs.Axis.{axis_of, is_forward, opposite, unit};
 
 /// A direction along an axis.
 #[derive(Clone, Copy, PartialEq, Eq, Debug)]
@@ -34,6 +34,17 @@ impl Axis {
         match self {
             Axis::PlusX | Axis::PlusY | Axis::PlusZ => true,
             Axis::MinusX | Axis::MinusY | Axis::MinusZ => false,
+        }
+    }
+
+    /// A coordinate of its unit vector: 0 for x, 1 for y, 2 for z.
+    pub fn component(self, axis: usize) -> i64
+        ensures { result ≡ unit self axis }
+    {
+        if axis == self.index() {
+            if self.is_forward() { 1 } else { -1 }
+        } else {
+            0
         }
     }
 

@@ -3,6 +3,7 @@
 
 mod arith;
 mod axis;
+mod bytes;
 mod memory;
 mod number;
 mod point;
@@ -12,6 +13,7 @@ mod writing;
 
 pub use arith::{add, div, mul, neg, scale, sub};
 pub use axis::Axis;
+pub use bytes::{is, line_feed};
 pub use memory::{NoMemory, WriteFault};
 pub use number::{Fault, Kind, Literal};
 pub use point::Point;

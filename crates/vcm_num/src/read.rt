@@ -2,7 +2,8 @@
 
 ghost use Rattle.std.specs.Prelude.{◌≡◌, ◌+◌, ◌^◌, ◌<◌, ◌==◌, ◌++◌, length, drop, Some, SomeIff};
 ghost use Rattle.std.specs.List.{list_all};
-ghost use Rattle.vcm_num.specs.Literals.{Reads, AllDigits, NoDigitFirst, has_minus, after_sign, number_after, signed, three_decimals, magnitude_of};
+ghost use Rattle.vcm_num.specs.Literals.{Reads, AllDigits, has_minus, after_sign, number_after, signed, three_decimals, magnitude_of};
+ghost use Rattle.vcm_num.specs.inner.Digits.{NoDigitFirst};
 ghost use Rattle.std.specs.Char.{is_ascii_digit};
 
 use crate::number::Literal;

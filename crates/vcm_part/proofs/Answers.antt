@@ -3,7 +3,7 @@ use Rattle.std.proofs.Common.{◌≡◌, ◌≢◌, ℕ, List, Result, Ok, Err, 
 use Rattle.vcm_spec.specs.Workpiece.{Workpiece}
 use Rattle.vcm_part.specs.declared.fault.PartCode.TheVariants.{NoMemory}
 use Rattle.vcm_part.specs.declared.fault.PartFault.{PartFault}
-use Rattle.vcm_part.specs.Reading.{fault}
+use Rattle.vcm_part.specs.Faults.{fault}
 use Rattle.vcm_part.specs.PartFile.{part_of, IsPartRead}
 
 -- an answer that isn't want of memory is what the bytes give

@@ -7,7 +7,7 @@ use Rattle.std.specs.Prelude.{nat_lt, if◌then◌else◌}
 use Rattle.std.specs.Str.{IsUtf8, is_utf8}
 use Rattle.std.proofs.lemmas.Str.{IsUtf8-from_is_utf8, IsUtf8-from_ascii, is_utf8-from_IsUtf8}
 use Rattle.vcm_part.specs.declared.fault.PartCode.TheVariants.{NotToml}
-use Rattle.vcm_part.specs.Reading.{fault}
+use Rattle.vcm_part.specs.Faults.{fault}
 use Rattle.toml.specs.Parse.{parse_document}
 use Rattle.vcm_spec.specs.Workpiece.{Workpiece}
 use Rattle.vcm_part.specs.declared.fault.PartFault.{PartFault}

@@ -9,7 +9,7 @@ use Rattle.vcm_num.specs.declared.point.Point.{Point}
 use Rattle.vcm_num.specs.Point.{coordinate, is_below, is_near}
 use Rattle.vcm_part.specs.declared.fault.PartCode.TheVariants.{NoMemory, OutOfRange}
 use Rattle.vcm_part.specs.declared.fault.PartFault.{PartFault}
-use Rattle.vcm_part.specs.Reading.{fault}
+use Rattle.vcm_part.specs.Faults.{fault}
 use Rattle.vcm_part.specs.PartFile.{near_point, point_at, point_of, are_tables, count, table_rows, rows_of, block_in, block_of, blocks_from, blocks_at, is_clear, bounds_of, part_of_table, part_of_document, part_of}
 use Rattle.vcm_part.proofs.Steps.{TakesNone, then_none, if_none, none_of}
 

@@ -13,9 +13,9 @@ use Rattle.vcm_part.specs.declared.fault.Halt.{Halt}
 use Rattle.vcm_part.specs.declared.fault.Halt.TheVariants as halts
 use Rattle.std.specs.List.{list_all}
 use Rattle.vcm_spec.specs.Workpiece.{is_block}
-use Rattle.vcm_part.specs.Reading.{◌>>=◌}
+use Rattle.vcm_spec.specs.Results.{◌>>=◌}
 use Rattle.vcm_part.specs.PartFile.{are_tables, block_of, blocks_from, count}
-use Rattle.vcm_part.specs.Halts.{Fails}
+use Rattle.vcm_part.specs.inner.Halts.{Fails}
 
 pub tables_go_on : (vs : List Value) (i : ℕ) (v : Value) (all : Bool) → i < length vs → get_or vs i v ≡ v → is_some (as_table (view v)) ≡ true → are_tables (items_view (drop i vs)) ≡ all → are_tables (items_view (drop (i + 1) vs)) ≡ all
 tables_go_on vs i v all lt at t so_far = sym (rw (items_view-drop vs i v lt, at, t) refl) ∙ so_far

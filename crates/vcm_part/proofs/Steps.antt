@@ -3,7 +3,7 @@ use Rattle.std.proofs.Common.{◌≡◌, ◌≢◌, Bool, true, false, Result, O
 use Rattle.std.specs.Prelude.{if◌then◌else◌}
 use Rattle.vcm_part.specs.declared.fault.PartCode.TheVariants.{NoMemory}
 use Rattle.vcm_part.specs.declared.fault.PartFault.{PartFault}
-use Rattle.vcm_part.specs.Reading.{◌>>=◌}
+use Rattle.vcm_spec.specs.Results.{◌>>=◌}
 
 -- both steps went well
 pub record IsBoth {A B : Type 0} (r : Result A PartFault) (f : A → Result B PartFault) (b : B) : Type 0 where

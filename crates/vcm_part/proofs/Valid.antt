@@ -13,7 +13,8 @@ use Rattle.vcm_spec.specs.declared.workpiece.Block3.{Block3}
 use Rattle.vcm_spec.specs.Workpiece.{Workpiece, is_block, IsValid}
 use Rattle.vcm_part.specs.declared.fault.PartCode.TheVariants.{NotToml, BadKey, OutOfRange, LowAboveHigh, TooManyBlocks, HomeNotClear}
 use Rattle.vcm_part.specs.declared.fault.PartFault.{PartFault}
-use Rattle.vcm_part.specs.Reading.{◌>>=◌, fault}
+use Rattle.vcm_spec.specs.Results.{◌>>=◌}
+use Rattle.vcm_part.specs.Faults.{fault}
 use Rattle.vcm_part.specs.PartFile.{near_point, point_at, point_of, count, rows_of, block_in, block_of, blocks_from, blocks_at, is_clear, assembled, bounds_of, part_of_table, part_of_document, part_of}
 use Rattle.vcm_part.proofs.Steps.{both, kept}
 

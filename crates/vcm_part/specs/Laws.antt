@@ -6,7 +6,7 @@ use Rattle.toml.specs.Parse.{parse_document}
 use Rattle.vcm_spec.specs.Workpiece.{Workpiece, IsValid}
 use Rattle.vcm_part.specs.declared.fault.PartCode.TheVariants.{NoMemory, NotToml}
 use Rattle.vcm_part.specs.declared.fault.PartFault.{PartFault}
-use Rattle.vcm_part.specs.Reading.{fault}
+use Rattle.vcm_part.specs.Faults.{fault}
 use Rattle.vcm_part.specs.PartFile.{part_of, part_of_table, IsPartRead}
 
 -- bytes that are the UTF-8 of no text are refused

@@ -1,5 +1,5 @@
-pub mod Reading
+pub mod Faults
 pub mod PartFile
-pub mod Halts
+pub mod inner
 pub mod Laws
 pub mod Samples

@@ -11,7 +11,8 @@ use Rattle.vcm_spec.specs.declared.workpiece.Bounds.{Bounds}
 use Rattle.vcm_spec.specs.Workpiece.{Workpiece, is_in_some, is_within}
 use Rattle.vcm_part.specs.declared.fault.PartCode.TheVariants.{NoMemory, NotToml, BadKey, OutOfRange, LowAboveHigh, TooManyBlocks, HomeNotClear}
 use Rattle.vcm_part.specs.declared.fault.PartFault.{PartFault}
-use Rattle.vcm_part.specs.Reading.{◌>>=◌, fault}
+use Rattle.vcm_spec.specs.Results.{◌>>=◌}
+use Rattle.vcm_part.specs.Faults.{fault}
 
 -- the point of three whole numbers
 abbrev pub point_of_three : Option ℤ → Option ℤ → Option ℤ → Option Point

@@ -4,7 +4,7 @@ use Rattle.vcm_spec.specs.Workpiece.{Workpiece}
 use Rattle.vcm_spec.specs.Samples.Parts.{bounds, one_block, two_halves}
 use Rattle.vcm_part.specs.declared.fault.PartCode.TheVariants.{BadKey, OutOfRange, LowAboveHigh, HomeNotClear}
 use Rattle.vcm_part.specs.declared.fault.PartFault.{PartFault}
-use Rattle.vcm_part.specs.Reading.{fault}
+use Rattle.vcm_part.specs.Faults.{fault}
 use Rattle.vcm_part.specs.PartFile.{part_of}
 
 -- a text gives this answer
@@ -25,7 +25,9 @@ OneBlock = Gives (limits ++ codes "[[block]]\nlow = [10000, 10000, 0]\nhigh = [3
 
 -- two blocks in order
 abbrev pub TwoBlocks : Type 0
-TwoBlocks = Gives (limits ++ codes "[[block]]\nlow = [10000, 10000, 0]\nhigh = [20000, 30000, 20000]\n[[block]]\nlow = [20000, 10000, 0]\nhigh = [30000, 30000, 20000]\n") (Ok two_halves)
+TwoBlocks =
+    Gives (limits
+    ++ codes "[[block]]\nlow = [10000, 10000, 0]\nhigh = [20000, 30000, 20000]\n[[block]]\nlow = [20000, 10000, 0]\nhigh = [30000, 30000, 20000]\n") (Ok two_halves)
 
 -- home on an edge of the block
 abbrev pub HomeOnAnEdge : Type 0
@@ -33,7 +35,10 @@ HomeOnAnEdge = Gives (limits ++ codes "[[block]]\nlow = [-5, 0, 0]\nhigh = [5, 9
 
 -- a corner of the second block is a micrometre too far
 abbrev pub TooFar : Type 0
-TooFar = Gives (limits ++ codes "[[block]]\nlow = [1, 1, 1]\nhigh = [2, 2, 2]\n[[block]]\nlow = [1, 1, 1]\nhigh = [2, 2, 1000000001]\n") (Err (fault OutOfRange 2))
+TooFar =
+    Gives (limits
+    ++ codes "[[block]]\nlow = [1, 1, 1]\nhigh = [2, 2, 2]\n[[block]]\nlow = [1, 1, 1]\nhigh = [2, 2, 1000000001]\n")
+    (Err (fault OutOfRange 2))
 
 -- a number with a point is no whole number
 abbrev pub NoWholeNumber : Type 0

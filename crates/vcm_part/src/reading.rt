@@ -7,7 +7,7 @@ ghost use Rattle.toml.specs.Data.{get_member};
 ghost use Rattle.vcm_num.specs.Point.{is_near};
 ghost use Rattle.vcm_spec.specs.Workpiece.{is_block};
 ghost use Rattle.vcm_part.specs.PartFile.{point_of, point_at, are_tables, block_of, blocks_from, blocks_at, is_clear, part_of_table, part_of, IsPartRead};
-ghost use Rattle.vcm_part.specs.Halts.{Gives};
+ghost use Rattle.vcm_part.specs.inner.Halts.{Gives};
 
 use crate::data::PartData;
 use crate::fault::{Halt, PartCode, PartFault};

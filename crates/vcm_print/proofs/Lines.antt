@@ -15,8 +15,9 @@ use Rattle.vcm_words.specs.Items.{item_text, closed_words, expression}
 use Rattle.vcm_words.specs.Operands.{operands, single, number_text, lettered, text, direction_text, setting_text, source_text, turn_text, word_text}
 use Rattle.vcm_words.specs.Rows.{row_text, kind_text}
 use Rattle.vcm_print.specs.declared.part.Part.TheVariants.{Nothing, Variable, Feature, Frame, Pair, Target, Number, Turn, Direction, Setting, Source, Items, Three, Text}
-use Rattle.vcm_print.specs.Parts.{Piece, parts}
-use Rattle.vcm_print.specs.Written.{more_items, items_bytes, three_bytes, part_bytes, parts_bytes, statement_bytes, variable_bytes, name_bytes, listed}
+use Rattle.vcm_print.specs.inner.Parts.{Piece, parts}
+use Rattle.vcm_print.specs.inner.Written.{more_items, items_bytes, three_bytes, part_bytes, parts_bytes, statement_bytes, variable_bytes, name_bytes}
+use Rattle.vcm_print.specs.Listed.{listed}
 use Rattle.vcm_print.proofs.Joining.{blanked, blanked_append, joined_is, text_is}
 
 -- the words of a part

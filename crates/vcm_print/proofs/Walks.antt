@@ -4,7 +4,8 @@ use Rattle.std.specs.Prelude.{slice_get}
 use Rattle.std.specs.Io.KnownBytes.{Appends}
 use Rattle.vcm_num.specs.Written.{AppendsFront}
 use Rattle.vcm_words.specs.Rows.{ListRow}
-use Rattle.vcm_print.specs.Written.{listed, lines}
+use Rattle.vcm_print.specs.inner.Written.{lines}
+use Rattle.vcm_print.specs.Listed.{listed}
 use Rattle.vcm_print.proofs.Steps.{TookUpTo, took_more, took_front}
 
 first_line : {A : Type 0} (f : ℕ → A → ListRow) (k : ℕ) (x : A) (xs : List A) → lines f k (x ∷ xs) ≡ listed (f k x) ++ lines f (k + 1) xs

@@ -8,7 +8,8 @@ use Rattle.vcm_num.specs.Written.{AppendsFront, Wrote}
 use Rattle.vcm_num.proofs.KnownWrites.{front_first, front_then, wrote_then}
 use Rattle.vcm_words.specs.declared.row.Row.TheVariants.{Head, Variable, Feature, Frame, Numbered}
 use Rattle.vcm_words.specs.Rows.{ListRow, row_text, text_of, numbered, listing}
-use Rattle.vcm_print.specs.Written.{listed, lines}
+use Rattle.vcm_print.specs.inner.Written.{lines}
+use Rattle.vcm_print.specs.Listed.{listed}
 use Rattle.vcm_print.proofs.Lines.{head_is}
 
 -- the first line as it is written

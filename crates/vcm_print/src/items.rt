@@ -3,7 +3,7 @@
 ghost use Rattle.std.specs.Prelude.{◌≡◌, ◌++◌};
 ghost use Rattle.vcm_num.specs.Written.{Wrote};
 ghost use Rattle.vcm_words.specs.Items.{item_text, operand_text, unary_text, binary_text, truth_text};
-ghost use Rattle.vcm_print.specs.Written.{items_bytes, more_items};
+ghost use Rattle.vcm_print.specs.inner.Written.{items_bytes, more_items};
 
 use crate::writer::{write_marked, write_two};
 use itoa::Buffer;

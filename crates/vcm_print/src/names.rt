@@ -3,7 +3,7 @@
 ghost use Rattle.std.specs.Prelude.{◌≡◌};
 ghost use Rattle.vcm_num.specs.Written.{Wrote};
 ghost use Rattle.vcm_words.specs.Rows.{kind_text};
-ghost use Rattle.vcm_print.specs.Written.{variable_bytes, name_bytes};
+ghost use Rattle.vcm_print.specs.inner.Written.{variable_bytes, name_bytes};
 
 use itoa::Buffer;
 use std::io::Write;

@@ -2,7 +2,7 @@
 
 ghost use Rattle.std.specs.Prelude.{◌≡◌};
 ghost use Rattle.vcm_print.specs.declared.part.Part.TheVariants as pieces;
-ghost use Rattle.vcm_print.specs.Parts.{parts};
+ghost use Rattle.vcm_print.specs.inner.Parts.{parts};
 
 use crate::part::Part::{
     self, Direction, Feature, Frame, Items, Nothing, Number, Pair, Setting, Source, Target, Text,
@@ -22,7 +22,7 @@ fn three<'a>(x: &ItemSlice<'a>, y: &ItemSlice<'a>, z: &ItemSlice<'a>) -> Borrowe
 }
 
 /// The operands of a statement, four at the most where three expressions are one.
-#[tactic(auto, unfolding(crate::specs::Parts::parts))]
+#[tactic(auto, unfolding(crate::specs::inner::Parts::parts))]
 pub(crate) fn parts<'a>(op: &BorrowedOp<'a>) -> [BorrowedPart<'a>; 4]
     ensures { result ≡ parts op.now }
 {

@@ -4,7 +4,7 @@ ghost use Rattle.std.specs.Prelude.{◌≡◌, IfOk};
 ghost use Rattle.vcm_num.specs.Written.{Wrote};
 ghost use Rattle.vcm_words.specs.declared.row.Row.TheVariants.{Variable, Feature, Frame, Numbered};
 ghost use Rattle.vcm_words.specs.Rows.{listing};
-ghost use Rattle.vcm_print.specs.Written.{lines};
+ghost use Rattle.vcm_print.specs.inner.Written.{lines};
 
 use crate::names::{write_name, write_variable};
 use crate::statement::write_statement;

@@ -4,7 +4,8 @@ ghost use Rattle.std.specs.Prelude.{◌≡◌, ◌<◌, ◌++◌, ◌∷◌, Som
 ghost use Rattle.vcm_num.specs.Written.{Wrote};
 ghost use Rattle.vcm_fields.specs.Parts.{Line};
 ghost use Rattle.vcm_words.specs.declared.row.Row.TheVariants.{Numbered};
-ghost use Rattle.vcm_print.specs.Written.{three_bytes, part_bytes, parts_bytes, statement_bytes, listed};
+ghost use Rattle.vcm_print.specs.inner.Written.{three_bytes, part_bytes, parts_bytes, statement_bytes};
+ghost use Rattle.vcm_print.specs.Listed.{listed};
 
 use crate::items::write_items;
 use crate::part::Part;
@@ -49,7 +50,7 @@ fn write_three<W: Write>(
 }
 
 // Writes a part with a blank in front of each of its words.
-#[tactic(auto, unfolding(crate::specs::Written::part_bytes))]
+#[tactic(auto, unfolding(crate::specs::inner::Written::part_bytes))]
 fn write_part<W: Write>(part: &BorrowedPart<'_>, writer: &mut W) -> Result<(), WriteFault>
     ensures { Wrote (W.contents writer.old) (W.contents writer.new) (part_bytes part.now) result }
 {

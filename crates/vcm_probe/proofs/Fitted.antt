@@ -5,7 +5,7 @@ use Rattle.vcm_num.specs.Number.{fits_i64}
 use Rattle.vcm_num.specs.Point.{point}
 use Rattle.vcm_spec.specs.Outcome.{fits_place}
 use Rattle.vcm_spec.proofs.Entries.{both_true}
-use Rattle.vcm_probe.specs.Places.{fitting, fitting_point}
+use Rattle.vcm_probe.specs.inner.Places.{fitting, fitting_point}
 
 -- an option that is there where a test holds
 pub record IsThere {A : Type 0} (b : Bool) (x y : A) : Type 0 where

@@ -12,7 +12,7 @@ use Rattle.vcm_num.proofs.Ring.{mul-add}
 use Rattle.vcm_spec.specs.declared.workpiece.Block3.{Block3}
 use Rattle.vcm_spec.specs.Contact.{IsBetween, Meets, MeetsLater}
 use Rattle.vcm_spec.proofs.Entries.{mul_le}
-use Rattle.vcm_motion.specs.Stretches.{IsReached}
+use Rattle.vcm_motion.specs.inner.Stretches.{IsReached}
 use Rattle.vcm_motion.proofs.Crossings.{rising, falling}
 use Rattle.vcm_motion.proofs.Inside.{Holds}
 

@@ -4,7 +4,7 @@ ghost use Rattle.std.specs.Prelude.{◌≡◌, pos, ◌+ℤ◌, ◌*ℤ◌, IsTr
 ghost use Rattle.vcm_num.specs.Axis.{unit, along};
 ghost use Rattle.vcm_num.specs.Point.{coordinate, is_near};
 ghost use Rattle.vcm_spec.specs.Outcome.{point_of};
-ghost use Rattle.vcm_probe.specs.Places.{fitting, fitting_point};
+ghost use Rattle.vcm_probe.specs.inner.Places.{fitting, fitting_point};
 
 use vcm_num::{Axis, Point};
 

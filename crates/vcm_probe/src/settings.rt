@@ -20,7 +20,7 @@ pub struct Settings {
 
 impl Model for Settings {
     ghost use Rattle.vcm_spec.specs.World.{Settings as Meaning};
-    ghost use Rattle.vcm_probe.specs.Ranges.{InRange};
+    ghost use Rattle.vcm_probe.specs.inner.Ranges.{InRange};
 
     ghost Value = { Meaning };
 

@@ -37,7 +37,8 @@ missing_text tables (missing.Frame i) = in_a_row (codes "D(" ∷ name_at tables.
 abbrev pub stop_text : Tables → Stop → List ℕ
 stop_text tables Ended = codes "stop ENDED"
 stop_text tables (Collision phase hit) =
-    in_a_row (codes "stop COLLISION " ∷ phase_text phase ∷ codes " block " ∷ decimal hit.block ∷ codes " permille " ∷ decimal hit.permille ∷ [])
+    in_a_row (codes "stop COLLISION " ∷ phase_text phase ∷ codes " block " ∷ decimal hit.block ∷ codes " permille " ∷ decimal hit.permille
+    ∷ [])
 stop_text tables Missed = codes "stop MISSED"
 stop_text tables (Travel phase) = in_a_row (codes "stop TRAVEL " ∷ phase_text phase ∷ [])
 stop_text tables Overflow = codes "stop OVERFLOW"

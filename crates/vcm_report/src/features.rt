@@ -7,7 +7,7 @@ ghost use Rattle.vcm_num.specs.Point.{coordinate};
 ghost use Rattle.vcm_num.specs.Texts.{thousandths};
 ghost use Rattle.vcm_num.specs.Written.{Wrote};
 ghost use Rattle.vcm_report.specs.Printed.{in_a_row, feature_text};
-ghost use Rattle.vcm_spec.specs.Texts.{three_texts, feature_line, letters};
+ghost use Rattle.vcm_spec.specs.Texts.{three_texts, feature_line};
 
 use crate::names::name_at;
 use std::io::Write;
@@ -15,32 +15,11 @@ use vcm_num::{Axis, Point, Text, WriteFault, int_text, thousandths_text, write_a
 use vcm_spec::{Feature, Source};
 use vcm_tables::Tables;
 
-// What stands before the name of a feature.
-fn letters(source: Source) -> &'static [u8]
-    ensures { result.now ≡ letters source }
-{
-    match source {
-        Source::Nominal => b"F(",
-        Source::Actual => b"FA(",
-    }
-}
-
-// A coordinate of a direction's unit vector: 0 is x, 1 is y, 2 is z.
-fn component(toward: Axis, axis: usize) -> i64
-    ensures { result ≡ unit toward axis }
-{
-    if axis == toward.index() {
-        if toward.is_forward() { 1 } else { -1 }
-    } else {
-        0
-    }
-}
-
 // A coordinate of a direction's unit vector as text.
 fn component_text(toward: Axis, axis: usize) -> Text
     ensures { result ≡ signed_decimal (unit toward axis) }
 {
-    int_text(component(toward, axis))
+    int_text(toward.component(axis))
 }
 
 // Writes three texts with commas between them.
@@ -87,7 +66,7 @@ fn write_feature_line<W: Write>(
 ) -> Result<(), WriteFault>
     ensures { Wrote (W.contents writer.old) (W.contents writer.new) (feature_line source name.now feature) result }
 {
-    write_all(writer, letters(source))?;
+    write_all(writer, source.letters())?;
     write_all(writer, name)?;
     write_all(writer, b")=FEAT/POINT,CART,")?;
     write_point(feature.at, writer)?;
@@ -113,7 +92,7 @@ pub fn write_feature<W: Write>(
             write_all(writer, b"\n")
         }
         None => {
-            write_all(writer, letters(source))?;
+            write_all(writer, source.letters())?;
             write_pieces(
                 writer,
                 &[name_at(tables.features(), index), b") undefined\n"],

@@ -8,7 +8,7 @@ use Rattle.vcm_code.specs.declared.op.Op.TheVariants.{EndFil, Goto, GoHome, Assi
 use Rattle.vcm_fields.specs.Parts.{Operation, Line}
 use Rattle.vcm_fields.specs.Words.{word_of}
 use Rattle.vcm_fields.specs.Fitting.{FitThree, FitsOperation, FitsLine}
-use Rattle.vcm_words.specs.Cutting.{IsWord}
+use Rattle.vcm_words.specs.inner.Marks.{IsWord}
 use Rattle.vcm_words.specs.Operands.{single, three, three_at, word_text, operands, operands_at, line, op_at, line_at}
 use Rattle.vcm_words.proofs.Inverse.{Reads, Ends, Bare, ends, some_is, reads_both, via_takes, via_again, ends_via, ends_both, ends_tag}
 use Rattle.vcm_words.proofs.ItemLaws.{reads_expression}

@@ -11,18 +11,20 @@ use Rattle.vcm_num.specs.declared.number.Kind.{Kind}
 use Rattle.vcm_num.specs.declared.number.Kind.TheVariants.{Int, Real, Bool as Truth}
 use Rattle.vcm_spec.specs.Setup.{Variable as Entry}
 use Rattle.vcm_expr.specs.NameBytes.{is_name_byte, is_name, IsName}
-use Rattle.vcm_expr.specs.Parts.{is_variable_name, IsVariableName}
+use Rattle.vcm_expr.specs.Symbols.{is_variable_name, IsVariableName}
 use Rattle.vcm_expr.proofs.NameLemmas.{variable_name_is_name}
 use Rattle.vcm_fields.specs.Parts.{Line}
 use Rattle.vcm_fields.specs.Fitting.{FitsEntry, FitsLine}
 use Rattle.vcm_words.specs.declared.row.Row.TheVariants.{Head, Variable, Feature, Frame, Numbered}
 use Rattle.vcm_words.specs.declared.row.Heading.{Heading}
 use Rattle.vcm_words.specs.declared.row.Heading.TheVariants as headings
-use Rattle.vcm_words.specs.Cutting.{split, joined, Without, IsWord}
+use Rattle.vcm_words.specs.Cutting.{split, joined}
+use Rattle.vcm_words.specs.inner.Marks.{Without, IsWord}
 use Rattle.vcm_words.specs.Numbers.{natural, number, counted, only_if}
-use Rattle.vcm_words.specs.Reading.{◌>>=◌, Reader, one, both, via, ended, named}
+use Rattle.vcm_words.specs.WordReaders.{◌>>=◌, Reader, one, both, via, ended, named}
 use Rattle.vcm_words.specs.Operands.{single, number_text, number_at, line, line_at}
-use Rattle.vcm_words.specs.Rows.{ListRow, kind_text, row_words, row_text, kind_rows, heading_rows, name_at, variable_name_at, version_at, entry_at, indexed_at, numbered_at, row_after, row_at, row_of, FitsRow}
+use Rattle.vcm_words.specs.Rows.{ListRow, kind_text, row_words, row_text, kind_rows, heading_rows, name_at, variable_name_at, version_at, entry_at, indexed_at, numbered_at, row_after, row_at, row_of}
+use Rattle.vcm_words.specs.inner.Fitting.{FitsRow}
 use Rattle.vcm_words.proofs.Cuts.{joined-split, split-joined, split_without, split_some}
 use Rattle.vcm_words.proofs.Inverse.{Means, Reads, Ends, Bare, ends, bind_some, some_is, only_met, all_append, reads_one, reads_both, via_takes, via_again, ends_via, ends_both}
 use Rattle.vcm_words.proofs.NumberLaws.{means_number, both_true, decimal_digits}

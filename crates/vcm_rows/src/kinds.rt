@@ -4,7 +4,8 @@ ghost use Rattle.std.specs.Prelude.{◌≡◌};
 ghost use Rattle.vcm_words.specs.Operands.{word_at};
 
 use vcm_fields::Word;
-use vcm_words::{Words, is};
+use vcm_num::is;
+use vcm_words::Words;
 
 /// The word of a statement, and the words behind it.
 pub(crate) fn kind<'a>(words: &Words<'a>) -> Option<(Word, Words<'a>)>

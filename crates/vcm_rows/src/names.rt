@@ -1,13 +1,13 @@
 //! The tables of names in a listing.
 
 ghost use Rattle.std.specs.Prelude.{◌≡◌};
-ghost use Rattle.vcm_words.specs.Reading.{one, named};
+ghost use Rattle.vcm_words.specs.WordReaders.{one, named};
 ghost use Rattle.vcm_words.specs.Rows.{kind_rows, name_at, variable_name_at, entry_at, indexed_at};
 
 use vcm_expr::{Name, is_name, is_variable_name};
-use vcm_num::Kind;
+use vcm_num::{Kind, is};
 use vcm_tables::Variable;
-use vcm_words::{Words, count, index, is};
+use vcm_words::{Words, count, index};
 
 // A name, and the words behind it.
 fn name<'a>(words: &Words<'a>) -> Option<(Name, Words<'a>)>

@@ -2,12 +2,13 @@
 
 ghost use Rattle.std.specs.Prelude.{◌≡◌, ◌∷◌, [], ℕ, List, Some, None, true, false};
 ghost use Rattle.vcm_words.specs.declared.row.Heading.TheVariants as headings;
-ghost use Rattle.vcm_words.specs.Reading.{named};
+ghost use Rattle.vcm_words.specs.WordReaders.{named};
 ghost use Rattle.vcm_words.specs.Rows.{heading_rows, version_at, numbered_at, row_after, row_of};
 
 use crate::names::{entry, indexed};
 use crate::statements::{BorrowedStatement, line};
-use vcm_words::{Heading, ItemWords, Row, TextWords, Words, count, is, small};
+use vcm_num::is;
+use vcm_words::{Heading, ItemWords, Row, TextWords, Words, count, small};
 
 /// A line of a listing.
 pub type BorrowedRow<'a> = Row<ItemWords<'a>, TextWords<'a>>;

@@ -16,7 +16,8 @@ stop_line tables None done = in_a_row (codes "no stop after " ∷ decimal done �
 -- where the probe is, in millimetres with three decimals, and how many steps were done
 abbrev pub end_lines : Point → ℕ → List ℕ
 end_lines position done =
-    in_a_row (codes "position " ∷ thousandths (coordinate position 0) ∷ codes " " ∷ thousandths (coordinate position 1) ∷ codes " " ∷ thousandths (coordinate position 2) ∷ codes "\n"
+    in_a_row (codes "position " ∷ thousandths (coordinate position 0) ∷ codes " " ∷ thousandths (coordinate position 1) ∷ codes " "
+    ∷ thousandths (coordinate position 2) ∷ codes "\n"
     ∷ codes "steps " ∷ decimal done ∷ codes "\n" ∷ [])
 
 -- the standard output of a run that shows this state after so many steps

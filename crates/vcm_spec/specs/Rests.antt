@@ -20,4 +20,5 @@ OpensAtRest = (setup : Setup) → IsValid setup.part → Rests setup.part (openi
 
 -- each simple statement that doesn't stop leaves it so
 abbrev pub StaysAtRest : Type 0
-StaysAtRest = (setup : Setup) (w after : World) (s : Simple ℤ) → Rests setup.part w → carried_out setup w s ≡ Gives after → Rests setup.part after
+StaysAtRest =
+    (setup : Setup) (w after : World) (s : Simple ℤ) → Rests setup.part w → carried_out setup w s ≡ Gives after → Rests setup.part after

@@ -1,24 +1,12 @@
 //! What programs read of features.
 
 ghost use Rattle.std.specs.Prelude.{◌≡◌, ◌<◌, ◌≤◌, IfOk};
-ghost use Rattle.vcm_num.specs.Axis.{unit};
 ghost use Rattle.vcm_spec.specs.Effect.{word_of};
-ghost use Rattle.vcm_spec.specs.Texts.{feature_line, letters};
+ghost use Rattle.vcm_spec.specs.Texts.{feature_line};
 
 use std::alloc::Global;
-use vcm_num::{Axis, Items, NoMemory, write_int, write_thousandths};
+use vcm_num::{Items, NoMemory, write_int, write_thousandths};
 use vcm_spec::{Feature, Source};
-
-// A coordinate of a direction's unit vector.
-fn component(toward: Axis, axis: usize) -> i64
-    ensures { result ≡ unit toward axis }
-{
-    if axis == toward.index() {
-        if toward.is_forward() { 1 } else { -1 }
-    } else {
-        0
-    }
-}
 
 /// A word of a feature: words 3 to 5 are its coordinates, in micrometres, words 6 to 8 those of its direction, in thousandths.
 pub(crate) fn word_of(feature: Feature, word: u8) -> i64
@@ -28,17 +16,7 @@ pub(crate) fn word_of(feature: Feature, word: u8) -> i64
     if word < 6 {
         feature.at.0[usize::from(word - 3)]
     } else {
-        component(feature.toward, usize::from(word - 6)) * 1000
-    }
-}
-
-// What stands before the name of a feature.
-fn letters(source: Source) -> &'static [u8]
-    ensures { result.now ≡ letters source }
-{
-    match source {
-        Source::Nominal => b"F(",
-        Source::Actual => b"FA(",
+        feature.toward.component(usize::from(word - 6)) * 1000
     }
 }
 
@@ -54,7 +32,7 @@ pub(crate) fn feature_line(
     ensures { IfOk result (λ line. line ≡ feature_line source name.now feature) }
 {
     let mut out = Vec::new(alloc);
-    out.extend_from_slice(letters(source))?;
+    out.extend_from_slice(source.letters())?;
     out.extend_from_slice(name)?;
     out.extend_from_slice(b")=FEAT/POINT,CART,")?;
     write_thousandths(feature.at.0[0], &mut out)?;
@@ -63,10 +41,10 @@ pub(crate) fn feature_line(
     out.extend_from_slice(b",")?;
     write_thousandths(feature.at.0[2], &mut out)?;
     out.extend_from_slice(b",")?;
-    write_int(component(feature.toward, 0), &mut out)?;
+    write_int(feature.toward.component(0), &mut out)?;
     out.extend_from_slice(b",")?;
-    write_int(component(feature.toward, 1), &mut out)?;
+    write_int(feature.toward.component(1), &mut out)?;
     out.extend_from_slice(b",")?;
-    write_int(component(feature.toward, 2), &mut out)?;
+    write_int(feature.toward.component(2), &mut out)?;
     Ok(Items::from_vec(out))
 }

@@ -77,7 +77,8 @@ direction_by x y z =
 
 -- a direction of three fields, or the leftmost fault
 abbrev pub vector_of : List Lexeme → List Lexeme → List Lexeme → Result Axis FaultCode
-vector_of a b c = then_ok (figure_of a) (λ x. then_ok (figure_of b) (λ y. then_ok (figure_of c) (λ z. or_fault NotAxis (direction_by x y z))))
+vector_of a b c =
+    then_ok (figure_of a) (λ x. then_ok (figure_of b) (λ y. then_ok (figure_of c) (λ z. or_fault NotAxis (direction_by x y z))))
 
 -- the quarter turns of an angle in degrees
 abbrev pub quarters_by : Figure → Option Quarters

@@ -5,7 +5,7 @@ use Rattle.vcm_lines.specs.declared.fault.FaultCode.TheVariants.{BadSyntax}
 use Rattle.vcm_lines.specs.Bytes.{upper}
 use Rattle.vcm_lines.specs.Lexemes.{Lexeme, Run, Quoted}
 use Rattle.vcm_expr.specs.NameBytes.{is_name}
-use Rattle.vcm_expr.specs.Parts.{is_variable_name}
+use Rattle.vcm_expr.specs.Symbols.{is_variable_name}
 use Rattle.vcm_expr.specs.Source.{Source}
 use Rattle.vcm_expr.specs.Parsing.{IsExpr, BreaksExpr}
 use Rattle.vcm_syntax.specs.declared.statement.Argument.{Argument}

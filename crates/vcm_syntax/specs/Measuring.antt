@@ -30,7 +30,8 @@ field fs k = unwrap_or (slice_get fs k) []
 
 -- the word of Cartesian coordinates; that of polar ones is left out, another one is bad syntax
 abbrev pub BreaksSystem : List Lexeme → FaultCode → Type 0
-BreaksSystem (Run bs ∷ []) code = (bytes_eq bs (codes "CART") ≡ false) × (code ≡ (if bytes_eq bs (codes "POL") then Unsupported else BadSyntax))
+BreaksSystem (Run bs ∷ []) code =
+    (bytes_eq bs (codes "CART") ≡ false) × (code ≡ (if bytes_eq bs (codes "POL") then Unsupported else BadSyntax))
 BreaksSystem _ code = code ≡ BadSyntax
 
 -- a label behind this letter, in parentheses
@@ -171,12 +172,14 @@ IsFeat front fs _ = ⊥
 abbrev pub BreaksFeat : List Lexeme → List (List Lexeme) → FaultCode → Type 0
 BreaksFeat front fs code =
     BreaksTitle (codes "F") front code ⊎ (BreaksOffered (codes "POINT") (field fs 0) code ⊎ (BreaksSystem (field fs 1) code
-    ⊎ (BreaksSpot (field fs 2) (field fs 3) (field fs 4) code ⊎ ((vector_of (field fs 5) (field fs 6) (field fs 7) ≡ Err code) ⊎ BreaksEnd (drop 8 fs) code))))
+    ⊎ (BreaksSpot (field fs 2) (field fs 3) (field fs 4) code
+    ⊎ ((vector_of (field fs 5) (field fs 6) (field fs 7) ≡ Err code) ⊎ BreaksEnd (drop 8 fs) code))))
 
 -- MEAS/POINT,F(l),n
 abbrev pub IsMeas : List Lexeme → List (List Lexeme) → Form → Type 0
 IsMeas front fs (Measure l) =
-    IsBare front × IsWord (codes "POINT") (field fs 0) × IsNamed (codes "F") (field fs 1) l × (one_of (field fs 2) ≡ Ok tt) × IsEnd (drop 3 fs)
+    IsBare front × IsWord (codes "POINT") (field fs 0) × IsNamed (codes "F") (field fs 1) l × (one_of (field fs 2) ≡ Ok tt)
+    × IsEnd (drop 3 fs)
 IsMeas front fs _ = ⊥
 
 abbrev pub BreaksMeas : List Lexeme → List (List Lexeme) → FaultCode → Type 0
@@ -192,7 +195,8 @@ IsPtmeas front fs _ = ⊥
 
 abbrev pub BreaksPtmeas : List Lexeme → List (List Lexeme) → FaultCode → Type 0
 BreaksPtmeas front fs code =
-    BreaksBare front code ⊎ (BreaksWord (codes "CART") (field fs 0) code ⊎ (BreaksSpot (field fs 1) (field fs 2) (field fs 3) code ⊎ BreaksGiven (drop 4 fs) code))
+    BreaksBare front code ⊎ (BreaksWord (codes "CART") (field fs 0) code
+    ⊎ (BreaksSpot (field fs 1) (field fs 2) (field fs 3) code ⊎ BreaksGiven (drop 4 fs) code))
 
 -- ENDMES
 abbrev pub IsEndmes : List Lexeme → List (List Lexeme) → Form → Type 0
@@ -205,7 +209,8 @@ IsSnset front fs (Configure which e) = IsBare front × IsSetting (field fs 0) wh
 IsSnset front fs _ = ⊥
 
 abbrev pub BreaksSnset : List Lexeme → List (List Lexeme) → FaultCode → Type 0
-BreaksSnset front fs code = BreaksBare front code ⊎ (BreaksSetting (field fs 0) code ⊎ (BreaksExpr (field fs 1) code ⊎ BreaksEnd (drop 2 fs) code))
+BreaksSnset front fs code =
+    BreaksBare front code ⊎ (BreaksSetting (field fs 0) code ⊎ (BreaksExpr (field fs 1) code ⊎ BreaksEnd (drop 2 fs) code))
 
 -- D(l)=TRANS/word,e{,word,e}
 abbrev pub IsTrans : List Lexeme → List (List Lexeme) → Form → Type 0
@@ -224,7 +229,8 @@ IsRotate front fs _ = ⊥
 
 abbrev pub BreaksRotate : List Lexeme → List (List Lexeme) → FaultCode → Type 0
 BreaksRotate front fs code =
-    BreaksTitle (codes "D") front code ⊎ (BreaksAxisWord (field fs 0) code ⊎ ((angle_of (field fs 1) ≡ Err code) ⊎ BreaksEnd (drop 2 fs) code))
+    BreaksTitle (codes "D") front code ⊎ (BreaksAxisWord (field fs 0) code
+    ⊎ ((angle_of (field fs 1) ≡ Err code) ⊎ BreaksEnd (drop 2 fs) code))
 
 -- RECALL/D(l)
 abbrev pub IsRecall : List Lexeme → List (List Lexeme) → Form → Type 0

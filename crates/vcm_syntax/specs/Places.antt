@@ -10,7 +10,7 @@ use Rattle.vcm_lines.specs.Lexemes.{Lexeme, Run, Quoted, Equals, Open, Close, is
 use Rattle.vcm_lines.specs.Cuts.{last_of, front_of}
 use Rattle.vcm_spec.specs.TextBytes.{is_text}
 use Rattle.vcm_expr.specs.NameBytes.{is_name}
-use Rattle.vcm_expr.specs.Parts.{is_variable_name}
+use Rattle.vcm_expr.specs.Symbols.{is_variable_name}
 use Rattle.vcm_expr.specs.Source.{Source}
 use Rattle.vcm_expr.specs.Parsing.{IsExpr, BreaksExpr}
 use Rattle.vcm_syntax.specs.declared.statement.Target.{Target}
@@ -87,7 +87,8 @@ IsTitle letter (Run bs ∷ Open ∷ Run label ∷ Close ∷ Equals ∷ []) l = (
 IsTitle letter _ l = ⊥
 
 abbrev pub BreaksTitle : List ℕ → List Lexeme → FaultCode → Type 0
-BreaksTitle letter (Run bs ∷ Open ∷ Run label ∷ Close ∷ Equals ∷ []) code = ((bytes_eq bs letter && is_name label) ≡ false) × (code ≡ BadSyntax)
+BreaksTitle letter (Run bs ∷ Open ∷ Run label ∷ Close ∷ Equals ∷ []) code =
+    ((bytes_eq bs letter && is_name label) ≡ false) × (code ≡ BadSyntax)
 BreaksTitle letter _ code = code ≡ BadSyntax
 
 -- a variable's name

@@ -1,6 +1,7 @@
 //! Statements: which words spell them, and which rule words break that spell none.
 #![tactic(auto)]
 
+mod control;
 mod figures;
 mod forms;
 pub mod laws;
@@ -16,7 +17,7 @@ mod spots;
 mod statement;
 mod variables;
 
-pub use message::{Message, is_text};
+pub use message::Message;
 pub use parse::parse_statement;
 pub use statement::{Argument, Form, Notice, Offset, Parameter, Rounds, Spot, Statement, Target};
 pub use vcm_num::Axis;

@@ -9,11 +9,11 @@ ghost use Rattle.vcm_syntax.specs.Forms.{BreaksAlone};
 ghost use Rattle.vcm_syntax.specs.Macros.{raised, IsParameter, BreaksParameter, AreParameters, BreaksParameters, IsValue, MayBeValue, IsArgument, BreaksArgument, AreArguments, BreaksArguments, IsMacro, BreaksMacro, IsEndmac, IsCall, BreaksCall};
 
 use crate::named::{named, titled};
-use crate::places::{alone, bad_syntax, bare, only};
+use crate::places::{alone, bare, only};
 use crate::statement::{Argument, Form, Parameter};
 use std::alloc::Global;
 use vcm_expr::{Expr, Name, is_name, is_variable_name, read_expr};
-use vcm_lines::{FaultCode, Phrase, SourceFault, Token};
+use vcm_lines::{FaultCode, Phrase, SourceFault, Token, bad_syntax};
 use vcm_num::Items;
 
 /// The most bytes of a name.

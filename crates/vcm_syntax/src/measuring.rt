@@ -12,13 +12,13 @@ ghost use Rattle.vcm_syntax.specs.Measuring.{field, IsGiven, BreaksGiven, IsFeat
 use crate::figures::{angle, feature_word, one, vector};
 use crate::named::{behind, field, named, no_more, setting, source, system, titled, turned_axis};
 use crate::offsets::offsets;
-use crate::places::{alone, bad_syntax, bare, end, offered, word};
+use crate::places::{alone, bare, end, offered, word};
 use crate::spots::spot;
 use crate::statement::{Form, Spot};
 use crate::variables::target;
 use std::alloc::Global;
 use vcm_expr::read_expr;
-use vcm_lines::{Phrase, SourceFault};
+use vcm_lines::{Phrase, SourceFault, bad_syntax};
 use vcm_num::Axis;
 
 /// The place whose coordinates stand in three fields.

@@ -1,42 +1,17 @@
 //! What `TEXT` shows.
 
 ghost use Rattle.std.specs.Prelude.{◌≡◌, IfOk};
-ghost use Rattle.std.specs.List.{list_all};
-ghost use Rattle.vcm_spec.specs.TextBytes.{is_text_byte, is_text, IsText};
+ghost use Rattle.vcm_spec.specs.TextBytes.{IsText};
 
 use std::alloc::{AllocError, Global};
 use std::marker::Model;
-use vcm_lines::Text;
-
-/// The most bytes of a message.
-const LONGEST: usize = 1024;
-
-/// Whether a byte may stand in a message.
-fn is_text_byte(byte: u8) -> bool
-    ensures { result ≡ is_text_byte byte }
-{
-    byte == b'\t' || (32 <= byte && byte != b'\'' && byte != 127)
-}
-
-/// Whether all of these bytes may stand in a message.
-fn are_text_bytes(bytes: &[u8]) -> bool
-    ensures { result ≡ list_all is_text_byte bytes.now }
-{
-    bytes.iter().all(|byte| is_text_byte(*byte))
-}
-
-/// Whether bytes are a message: at most 1,024, each the tab or one from 32 to 255 but the apostrophe and 127.
-pub fn is_text(bytes: &[u8]) -> bool
-    ensures { result ≡ is_text bytes.now }
-{
-    bytes.len() <= LONGEST && are_text_bytes(bytes)
-}
+use vcm_lines::OwnedBytes;
 
 /// What `TEXT` shows: at most 1,024 bytes, each the tab or one from 32 to 255 but the apostrophe and 127. Contracts see it as the list of its
 /// bytes.
 #[derive(Debug, Drop)]
 pub struct Message {
-    text: Text,
+    text: OwnedBytes,
 }
 
 impl Model for Message {
@@ -60,7 +35,7 @@ impl Message {
         requires { IsText bytes.now }
         ensures { IfOk result (λ m. m ≡ bytes.now) }
     {
-        let text = Text::copied(alloc, bytes)?;
+        let text = OwnedBytes::copied(alloc, bytes)?;
         Ok(Message { text })
     }
 

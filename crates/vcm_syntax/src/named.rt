@@ -6,9 +6,10 @@ ghost use Rattle.vcm_expr.specs.Parsing.{At};
 ghost use Rattle.vcm_syntax.specs.Places.{IsWord, IsEnd, IsTitle, BreaksTitle};
 ghost use Rattle.vcm_syntax.specs.Measuring.{field, BreaksSystem, IsNamed, BreaksNamed, source_by, IsSource, BreaksSource, setting_word, IsSetting, BreaksSetting, axis_word, IsAxisWord, BreaksAxisWord, BreaksMore};
 
-use crate::places::{bad_syntax, is, only, parenthesized, title, unsupported};
+use crate::places::{only, parenthesized, title, unsupported};
 use vcm_expr::{Name, is_name};
-use vcm_lines::{Phrase, SourceFault, Token};
+use vcm_lines::{Phrase, SourceFault, Token, bad_syntax};
+use vcm_num::is;
 use vcm_spec::{FrameAxis, Setting, Source};
 
 /// The field at a place; where there is none, a phrase without words, cut from `front`.

@@ -5,12 +5,12 @@ ghost use Rattle.vcm_lines.specs.Fault.{NoMemoryOr};
 ghost use Rattle.vcm_expr.specs.Parsing.{IsExpr, At};
 ghost use Rattle.vcm_syntax.specs.Measuring.{origin_word, is_taken, with_taken, none_taken, free_axis, origin_of, AreOffsets, BreaksOffset, BreaksOffsets};
 
-use crate::places::{bad_syntax, is, only};
+use crate::places::only;
 use crate::statement::Offset;
 use std::alloc::Global;
 use vcm_expr::read_expr;
-use vcm_lines::{Phrase, SourceFault, Token};
-use vcm_num::Items;
+use vcm_lines::{Phrase, SourceFault, Token, bad_syntax};
+use vcm_num::{Items, is};
 use vcm_spec::FrameAxis;
 
 /// The axes that have their shift already.

@@ -2,31 +2,17 @@
 
 ghost use Rattle.std.specs.Prelude.{◌≡◌, ◌⊎◌, ◌∷◌, [], ℕ, List, IfOk, IfErr, MatchOption, MatchResult};
 ghost use Rattle.std.specs.List.{list_all};
-ghost use Rattle.std.specs.Str.{bytes_eq};
 ghost use Rattle.vcm_lines.specs.Fault.{NoMemoryOr};
 ghost use Rattle.vcm_lines.specs.Lexemes.{Lexeme, Run, Open, Close, lexeme, is_spelled};
 ghost use Rattle.vcm_expr.specs.Parsing.{BreaksExpr, At};
 ghost use Rattle.vcm_syntax.specs.Places.{IsBare, BreaksBare, IsWord, BreaksWord, BreaksOffered, IsSingle, BreaksSingle, IsText, BreaksText, IsMessage, BreaksMessage, IsRest, BreaksRest, IsEnd, BreaksEnd, IsTitle, BreaksTitle, IsLabel, BreaksLabel, within, begun, IsTest, BreaksTest, IsOpened, BreaksOpened, IsAim, BreaksAim};
 
-use crate::message::{Message, is_text};
+use crate::message::Message;
 use std::alloc::Global;
 use vcm_expr::{Expr, Name, is_name, read_expr};
-use vcm_lines::{FaultCode, Phrase, SourceFault, Token};
-
-pub(crate) fn is(bytes: &[u8], word: &[u8]) -> bool
-    ensures { result ≡ bytes_eq bytes.now word.now }
-{
-    bytes == word
-}
-
-pub(crate) fn bad_syntax(line: u32) -> SourceFault
-    ensures { result ≡ record { code = FaultCode.BadSyntax; line = line } }
-{
-    SourceFault {
-        code: FaultCode::BadSyntax,
-        line,
-    }
-}
+use vcm_lines::{FaultCode, Phrase, SourceFault, Token, bad_syntax};
+use vcm_num::is;
+use vcm_spec::is_text;
 
 /// The refusal of a form that is left out.
 pub(crate) fn unsupported(line: u32) -> SourceFault

@@ -1,7 +1,7 @@
 //! The names of a program, each at its index.
 
 ghost use Rattle.std.specs.Prelude.{◌≡◌, IfOk, map};
-ghost use Rattle.vcm_tables.specs.Kinds.{kinds_in};
+ghost use Rattle.vcm_tables.specs.inner.Kinds.{kinds_in};
 
 use crate::variable::Variable;
 use std::alloc::Global;
@@ -22,7 +22,7 @@ pub struct Tables {
 impl Model for Tables {
     ghost use Rattle.std.specs.Prelude.{◌≡◌};
     ghost use Rattle.vcm_spec.specs.Setup.{Tables as Meaning};
-    ghost use Rattle.vcm_tables.specs.Kinds.{kinds_in};
+    ghost use Rattle.vcm_tables.specs.inner.Kinds.{kinds_in};
 
     ghost Value = { Meaning };
 

@@ -12,7 +12,7 @@ use Rattle.vcm_tree.specs.declared.builder.Builder.{Builder}
 use Rattle.vcm_tree.specs.Nodes.{snoc}
 use Rattle.vcm_tree.specs.Pieces.{Step, Piece, piece, Tests, Divides, EndsTest, EndsRepeat, EndsMeasure, Ends, node_pieces, pieces}
 use Rattle.vcm_tree.specs.Resolving.{Opened, InFirst, InSecond, InBody, InMeasure, room, room_by, nested, then_ok, labels_after, divided, test_ended, repeat_ended, measure_ended, measuring, ended, blocks_after}
-use Rattle.vcm_tree.specs.Building.{opened_by, blocks_of, head_pieces, opens_pieces, written, Reads}
+use Rattle.vcm_tree.specs.inner.Building.{opened_by, blocks_of, head_pieces, opens_pieces, written, Reads}
 
 -- ---- lists
 

@@ -7,9 +7,9 @@ use Rattle.vcm_lines.specs.declared.fault.SourceFault.{SourceFault}
 use Rattle.vcm_lines.specs.Fault.{NoMemoryOr}
 use Rattle.vcm_spec.specs.Program.{Label, Node, Block, simple, label, jump, choice, choice_else, do_loop, meas, ending, done, is_same_label}
 use Rattle.vcm_spec.specs.Program.{then as chain}
-use Rattle.vcm_tree.specs.SameLabels.{same_label}
+use Rattle.vcm_tree.specs.inner.SameLabels.{same_label}
 use Rattle.vcm_tree.specs.Jumps.{Jump, own_labels, node_jumps, jumps_in, is_among, BreaksJumps}
-use Rattle.vcm_tree.specs.Judging.{AllReach, IsFirst, with_label, with_labels}
+use Rattle.vcm_tree.specs.inner.Judging.{AllReach, IsFirst, with_label, with_labels}
 
 -- ---- what is among labels with others
 

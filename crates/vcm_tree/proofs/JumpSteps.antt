@@ -10,7 +10,7 @@ use Rattle.vcm_tree.specs.declared.node.Node.TheVariants as kept
 use Rattle.vcm_tree.specs.Nodes.{node_of, block_of}
 use Rattle.vcm_spec.specs.Phase.{IsClean, FirstFault}
 use Rattle.vcm_tree.specs.Jumps.{Jump, own_labels, node_jumps, jumps_in, labels_of, jumps_of, BreaksJumps, jumps_line}
-use Rattle.vcm_tree.specs.Judging.{AllReach, IsFirst}
+use Rattle.vcm_tree.specs.inner.Judging.{AllReach, IsFirst}
 use Rattle.vcm_tree.proofs.Jumping.{IsJudged, judged_more, judged_fault, judged_all, all_append, second_fault, all_clean, phase_fault}
 
 block_next : (ns : List Kept) (i : ℕ) (n : Kept) → i < length ns → n ≡ get_or ns i n → block_of (drop i ns) ≡ then (node_of n) (block_of (drop (i + 1) ns))

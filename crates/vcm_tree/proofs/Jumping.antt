@@ -10,7 +10,7 @@ use Rattle.vcm_spec.specs.Phase.{IsClean, IsCleanBelow, FirstFault}
 use Rattle.vcm_spec.specs.Program.{Label, Node, Block, done, then}
 use Rattle.vcm_spec.proofs.PhaseLemmas.{clean_done, fault_at}
 use Rattle.vcm_tree.specs.Jumps.{Jump, node_jumps, jumps_in, is_among, BreaksJumps, jumps_line}
-use Rattle.vcm_tree.specs.Judging.{AllReach, IsFirst}
+use Rattle.vcm_tree.specs.inner.Judging.{AllReach, IsFirst}
 
 pub all_append : (all : List Label) (js ks : List Jump) → AllReach all js → AllReach all ks → AllReach all (js ++ ks)
 all_append all [] ks h k = k

@@ -22,7 +22,7 @@ use Rattle.vcm_tree.specs.Ended.{is_ended}
 use Rattle.vcm_tree.specs.Pieces.{Step, Piece, Does, Marks, Leaps, Tests, Divides, EndsTest, Repeats, EndsRepeat, Measures, EndsMeasure, Ends}
 use Rattle.vcm_tree.specs.Jumps.{is_among}
 use Rattle.vcm_tree.specs.Program.{AreDistinct}
-use Rattle.vcm_tree.specs.SameLabels.{label_sym}
+use Rattle.vcm_tree.specs.inner.SameLabels.{label_sym}
 use Rattle.vcm_tree.specs.Resolving.{Behind, Opened, InFirst, InSecond, InBody, InMeasure, Meaning, Silent, Declares, Counts, then_ok, with_all, assigned, moved, room, room_by, nested, tested, indexed, increment_of, repeated, divided, test_ended, repeat_ended, ended, marked, label_of, known, declared, opened_measure, touched, measure_ended, configured, shifted, rotated, recalled, obtained, reported, does, counts, stated, resolved_here, blocks_after, labels_after, behind_by, behind_one, behind_all, pieces_by, pieces_from}
 use Rattle.vcm_tree.proofs.Standing.{standing, standing_ok}
 use Rattle.vcm_tree.proofs.Walking.{AllMean}

@@ -7,7 +7,7 @@ use Rattle.vcm_lines.specs.declared.fault.FaultCode.TheVariants.{DuplicateName, 
 use Rattle.vcm_lines.specs.declared.logical.Logical.{Logical}
 use Rattle.vcm_lines.specs.Lexemes.{Lexeme, Run}
 use Rattle.vcm_expr.specs.Names.{Variable, AreNamed}
-use Rattle.vcm_expr.specs.Parts.{IsVariableName}
+use Rattle.vcm_expr.specs.Symbols.{IsVariableName}
 use Rattle.vcm_expr.proofs.NameLemmas.{one_more_named}
 use Rattle.vcm_syntax.specs.declared.statement.Major.{Major}
 use Rattle.vcm_syntax.specs.declared.statement.Major.TheVariants as major

@@ -7,8 +7,8 @@ use Rattle.vcm_tree.specs.declared.builder.Head.{Head}
 use Rattle.vcm_tree.specs.declared.builder.Builder.{Builder}
 use Rattle.vcm_tree.specs.Pieces.{Repeats}
 use Rattle.vcm_tree.specs.Resolving.{room, nested, repeated}
-use Rattle.vcm_tree.specs.Building.{opened_by, blocks_of, head_pieces, Reads}
-use Rattle.vcm_tree.specs.Taking.{IsBody}
+use Rattle.vcm_tree.specs.inner.Building.{opened_by, blocks_of, head_pieces, Reads}
+use Rattle.vcm_tree.specs.inner.Taking.{IsBody}
 use Rattle.vcm_tree.proofs.Builders.{reads_nested}
 
 pub reads_repeat : (old new : Builder) (vs : List Variable) (r : Rounds) (head : Head) (line : ℕ) → room (blocks_of old.opens.items) ≡ Ok tt → IsBody vs r line head

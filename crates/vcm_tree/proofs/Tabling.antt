@@ -4,7 +4,7 @@ use Rattle.std.specs.Prelude.{map, slice_get}
 use Rattle.std.proofs.lemmas.List.{take_all}
 use Rattle.vcm_spec.specs.Setup.{Variable as Entry}
 use Rattle.vcm_expr.specs.Names.{Variable}
-use Rattle.vcm_tree.specs.Tabled.{variable_of, entries_of}
+use Rattle.vcm_tree.specs.inner.Tabled.{variable_of, entries_of}
 
 map_push : (vs : List Entry) (v : Entry) → map variable_of (vs ++ v ∷ []) ≡ map variable_of vs ++ variable_of v ∷ []
 map_push [] v = refl

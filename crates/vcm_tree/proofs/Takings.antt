@@ -15,9 +15,10 @@ use Rattle.vcm_tree.specs.declared.builder.Builder.{Builder}
 use Rattle.vcm_tree.specs.declared.taking.Progress.{Progress}
 use Rattle.vcm_tree.specs.Pieces.{Step, piece, Does, Marks}
 use Rattle.vcm_spec.specs.Program.{Label}
-use Rattle.vcm_tree.specs.Resolving.{Behind, behind, Measured, measured_after, Declares, Counts, then_ok, with_all, marked, label_of, counts, stated, stated_by, blocks_after, labels_after, ToldAt}
-use Rattle.vcm_tree.specs.Building.{blocks_of, written, Reads}
-use Rattle.vcm_tree.specs.Taking.{measured_of, behind_of, ActsSo, ActedAt, TakesStated}
+use Rattle.vcm_tree.specs.Resolving.{Behind, behind, Measured, measured_after, Declares, Counts, then_ok, with_all, marked, label_of, counts, stated, stated_by, blocks_after, labels_after}
+use Rattle.vcm_tree.specs.inner.Telling.{ToldAt}
+use Rattle.vcm_tree.specs.inner.Building.{blocks_of, written, Reads}
+use Rattle.vcm_tree.specs.inner.Taking.{measured_of, behind_of, ActsSo, ActedAt, TakesStated}
 
 -- a refusal of a counted statement is one of its meaning
 pub counted_told : (line : ℕ) (b : Behind) (ex : ℕ) (form : Form) (r : Result Step FaultCode) (f : SourceFault) → stated b ex form ≡ counts r → NoMemoryOr (ToldAt line r) f

@@ -18,10 +18,11 @@ use Rattle.vcm_tree.specs.declared.taking.Progress.{Progress}
 use Rattle.vcm_macro.specs.Order.{is_ending}
 use Rattle.vcm_tree.specs.Ended.{is_ended}
 use Rattle.vcm_tree.specs.Pieces.{pieces}
-use Rattle.vcm_tree.specs.Resolving.{Behind, behind, measured, Opened, Meaning, counts, ended, stated, resolved_here, behind_by, behind_one, behind_all, start, pieces_by, pieces_from, BreaksNames, names_line, ToldAt}
+use Rattle.vcm_tree.specs.Resolving.{Behind, behind, measured, Opened, Meaning, counts, ended, stated, resolved_here, behind_by, behind_one, behind_all, start, pieces_by, pieces_from, BreaksNames, names_line}
+use Rattle.vcm_tree.specs.inner.Telling.{ToldAt}
 use Rattle.vcm_tree.specs.Program.{IsParsed, names_of, listed, notices_of}
-use Rattle.vcm_tree.specs.Building.{blocks_of, opens_pieces, written}
-use Rattle.vcm_tree.specs.Taking.{measured_of, behind_of, Takes}
+use Rattle.vcm_tree.specs.inner.Building.{blocks_of, opens_pieces, written}
+use Rattle.vcm_tree.specs.inner.Taking.{measured_of, behind_of, Takes}
 use Rattle.vcm_tree.proofs.Builders.{blocks_length}
 use Rattle.vcm_tree.proofs.Standing.{standing, standing_ok}
 use Rattle.vcm_tree.proofs.Cutting.{place}

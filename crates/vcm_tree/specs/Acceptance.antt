@@ -2,7 +2,7 @@
 use Rattle.std.specs.Prelude.{ℕ, List}
 use Rattle.vcm_lines.specs.declared.fault.SourceFault.{SourceFault}
 use Rattle.vcm_lines.specs.declared.logical.Logical.{Logical}
-use Rattle.vcm_lines.specs.Statements.{lines_of, rows_of, joined, AreLogical, Breaks, told_line}
+use Rattle.vcm_lines.specs.Statements.{lines_of, rows_of, grouped, AreLogical, Breaks, told_line}
 use Rattle.vcm_spec.specs.Phase.{IsClean, FirstFault}
 use Rattle.vcm_syntax.specs.declared.statement.Statement.{Statement}
 use Rattle.vcm_tree.specs.Statements.{AreSpelled, BreaksStatements, statement_line}
@@ -15,7 +15,7 @@ use Rattle.vcm_tree.specs.Program.{Parsed, IsParsed}
 -- these are the statements of the text before they are read, and no rule of lines is broken
 pub record ReadsLines (text : List ℕ) (ls : List Logical) : Type 0 where
   pub clean : IsClean Breaks (lines_of text)
-  pub lines : AreLogical (joined (rows_of (lines_of text))) ls
+  pub lines : AreLogical (grouped (rows_of (lines_of text))) ls
 
 -- these are the statements, and no rule of statements is broken
 pub record ReadsStatements (ls : List Logical) (ss : List Statement) : Type 0 where
@@ -46,8 +46,10 @@ pub record IsAccepted (text : List ℕ) (p : Parsed) : Type 0 where
 pub data IsRefused (text : List ℕ) (f : SourceFault) : Type 0 where
   in_lines : FirstFault Breaks told_line (lines_of text) f.code f.line → IsRefused text f
   in_statements : (ls : List Logical) → ReadsLines text ls → FirstFault BreaksStatements statement_line ls f.code f.line → IsRefused text f
-  in_expansion : (ls : List Logical) (ss : List Statement) → ReadsLines text ls → ReadsStatements ls ss → IsUnexpanded ss f → IsRefused text f
-  in_names : (ls : List Logical) (ss : List Statement) (all : List Placed) → ReadsText text ls ss all → FirstFault BreaksNames names_line all f.code f.line
+  in_expansion : (ls : List Logical) (ss : List Statement) → ReadsLines text ls → ReadsStatements ls ss → IsUnexpanded ss f
+      → IsRefused text f
+  in_names : (ls : List Logical) (ss : List Statement) (all : List Placed) → ReadsText text ls ss all
+      → FirstFault BreaksNames names_line all f.code f.line
       → IsRefused text f
   in_jumps : (ls : List Logical) (ss : List Statement) (all : List Placed) (p : Parsed) → ReadsText text ls ss all → ReadsProgram ss all p
       → FirstFault (BreaksJumps (labels_of p.program)) jumps_line (jumps_of p.program) f.code f.line → IsRefused text f

@@ -36,7 +36,8 @@ CountsStatements = (ss : List Statement) (all : List Placed) (p : Parsed) → Is
 
 -- expanded statements of which ENDFIL is the last one, and that break no rule of names and blocks, are a program
 abbrev pub CleanIsProgram : Type 0
-CleanIsProgram = (ss : List Statement) (all : List Placed) → IsTrue (is_ended all) → IsClean BreaksNames all → (p : Parsed) × IsParsed ss all p
+CleanIsProgram =
+    (ss : List Statement) (all : List Placed) → IsTrue (is_ended all) → IsClean BreaksNames all → (p : Parsed) × IsParsed ss all p
 
 -- an accepted program always has a next step until it stops: its last statement is ENDFIL, and each jump has its label around it
 abbrev pub AcceptedAlwaysSteps : Type 0

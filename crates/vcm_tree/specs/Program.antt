@@ -8,7 +8,7 @@ use Rattle.vcm_spec.specs.Phase.{IsClean}
 use Rattle.vcm_spec.specs.Fitting.{BlockFits}
 use Rattle.vcm_expr.specs.Names.{Variable}
 use Rattle.vcm_expr.specs.NameBytes.{is_name}
-use Rattle.vcm_expr.specs.Parts.{IsVariableName}
+use Rattle.vcm_expr.specs.Symbols.{IsVariableName}
 use Rattle.vcm_syntax.specs.declared.statement.Form.TheVariants.{Ignored}
 use Rattle.vcm_syntax.specs.declared.statement.Statement.{Statement}
 use Rattle.vcm_macro.specs.declared.placed.Placed.{Placed}
@@ -34,7 +34,8 @@ names_of b = listed b.variables b.measured.features b.measured.frames
 
 -- the tables of a program with these names
 abbrev pub tables_of : Listed → Tables
-tables_of n = record { variables = map (λ v. record { name = v.0.1; kind = v.1; expansion = v.0.0 }) n.variables; features = n.features; frames = n.frames }
+tables_of n =
+    record { variables = map (λ v. record { name = v.0.1; kind = v.1; expansion = v.0.0 }) n.variables; features = n.features; frames = n.frames }
 
 -- the notice of a statement that has no effect
 abbrev pub notice_of : Statement → List Noticed

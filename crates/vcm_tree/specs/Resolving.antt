@@ -8,7 +8,6 @@ use Rattle.vcm_num.specs.declared.number.Kind.{Kind}
 use Rattle.vcm_num.specs.declared.number.Kind.TheVariants as kinds
 use Rattle.vcm_lines.specs.declared.fault.FaultCode.{FaultCode}
 use Rattle.vcm_lines.specs.declared.fault.FaultCode.TheVariants.{DuplicateName, UnknownName, BadType, Unbalanced, MeasBody, TooManyNames}
-use Rattle.vcm_lines.specs.declared.fault.SourceFault.{SourceFault}
 use Rattle.vcm_spec.specs.Expression.{Tree, Value}
 use Rattle.vcm_spec.specs.declared.expression.Operand.TheVariants.{Integer, Thousandths}
 use Rattle.vcm_spec.specs.declared.words.FrameAxis.{FrameAxis}
@@ -82,7 +81,8 @@ assigned vs t value = assigned_by vs value (target_of vs t)
 -- a move: its three lengths from the left
 abbrev pub moved : List Variable → (x y z : Source) → Result (Simple Tree) FaultCode
 moved vs x y z =
-    then_ok (typed_for vs wants.Length x) (λ a. then_ok (typed_for vs wants.Length y) (λ b. then_ok (typed_for vs wants.Length z) (λ c. Ok (Goto a b c))))
+    then_ok (typed_for vs wants.Length x) (λ a. then_ok (typed_for vs wants.Length y)
+    (λ b. then_ok (typed_for vs wants.Length z) (λ c. Ok (Goto a b c))))
 
 -- ---- blocks and labels
 
@@ -216,7 +216,8 @@ with_name names l = with_name_by names l (index_of names l)
 -- three lengths, from the left
 abbrev pub lengths : List Variable → Spot → Result (Tree × Tree × Tree) FaultCode
 lengths vs p =
-    then_ok (typed_for vs wants.Length p.x) (λ a. then_ok (typed_for vs wants.Length p.y) (λ b. then_ok (typed_for vs wants.Length p.z) (λ c. Ok (a, b, c))))
+    then_ok (typed_for vs wants.Length p.x) (λ a. then_ok (typed_for vs wants.Length p.y)
+    (λ b. then_ok (typed_for vs wants.Length p.z) (λ c. Ok (a, b, c))))
 
 -- FEAT of the feature at this index
 abbrev pub declared_at : List Variable → Spot → Axis → ℕ → Result (Simple Tree) FaultCode
@@ -471,7 +472,3 @@ BreaksNames before (Some p) code = resolved_here (behind_all start before) p ≡
 abbrev pub names_line : List Placed → Option Placed → ℕ
 names_line before None = 0
 names_line before (Some p) = p.statement.line
-
--- the refusal tells this line, and the fault of the outcome
-abbrev pub ToldAt : {A : Type 0} → ℕ → Result A FaultCode → SourceFault → Type 0
-ToldAt line outcome f = (f.line ≡ line) × (outcome ≡ Err f.code)

@@ -5,7 +5,7 @@ ghost use Rattle.vcm_lines.specs.Fault.{NoMemoryOr};
 ghost use Rattle.vcm_spec.specs.Phase.{IsClean, FirstFault};
 ghost use Rattle.vcm_tree.specs.Nodes.{node_of};
 ghost use Rattle.vcm_tree.specs.Jumps.{own_labels, node_jumps, jumps_in, jumps_of, labels_of, BreaksJumps, jumps_line};
-ghost use Rattle.vcm_tree.specs.Judging.{AllReach, IsFirst, jump, with_labels};
+ghost use Rattle.vcm_tree.specs.inner.Judging.{AllReach, IsFirst, jump, with_labels};
 
 use crate::labels::Labels;
 use crate::node::{Block, Label, Node};

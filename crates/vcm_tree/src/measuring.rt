@@ -3,9 +3,10 @@
 ghost use Rattle.std.specs.Prelude.{◌≡◌, Ok, OnOk, IfOk, IfErr, MatchResult};
 ghost use Rattle.vcm_lines.specs.Fault.{NoMemoryOr};
 ghost use Rattle.vcm_tree.specs.Nodes.{action_of};
-ghost use Rattle.vcm_tree.specs.Resolving.{ToldAt, lengths, declared, opened_measure, nested, touched, configured, shifts_of, no_shifts, with_shift, shifted, rotated, recalled, real_named, obtained, reported, with_name};
-ghost use Rattle.vcm_tree.specs.Building.{blocks_of, Reads};
-ghost use Rattle.vcm_tree.specs.Shifting.{shifts};
+ghost use Rattle.vcm_tree.specs.Resolving.{lengths, declared, opened_measure, nested, touched, configured, shifts_of, no_shifts, with_shift, shifted, rotated, recalled, real_named, obtained, reported, with_name};
+ghost use Rattle.vcm_tree.specs.inner.Telling.{ToldAt};
+ghost use Rattle.vcm_tree.specs.inner.Building.{blocks_of, Reads};
+ghost use Rattle.vcm_tree.specs.inner.Shifting.{shifts};
 
 use crate::builder::{Builder, Head, bad_body};
 use crate::node::Action;

@@ -79,7 +79,7 @@ impl Label {
 impl PartialEq for Label {
     ghost use Rattle.std.specs.Cmp.{partial_equiv_from_equiv};
     ghost use Rattle.vcm_spec.specs.Program.{is_same_label};
-    ghost use Rattle.vcm_tree.specs.SameLabels.{label_equiv};
+    ghost use Rattle.vcm_tree.specs.inner.SameLabels.{label_equiv};
 
     ghost eq = { is_same_label };
 
@@ -91,7 +91,7 @@ impl PartialEq for Label {
 }
 
 impl Eq for Label {
-    ghost use Rattle.vcm_tree.specs.SameLabels.{label_equiv};
+    ghost use Rattle.vcm_tree.specs.inner.SameLabels.{label_equiv};
 
     ghost laws = { label_equiv };
 }
@@ -101,7 +101,7 @@ impl Hash for Label {
     ghost use Rattle.std.proofs.Common.{ap};
     ghost use Rattle.std.specs.Hash as fed;
     ghost use Rattle.vcm_spec.specs.Program.{Label as Named};
-    ghost use Rattle.vcm_tree.specs.SameLabels.{same_label};
+    ghost use Rattle.vcm_tree.specs.inner.SameLabels.{same_label};
 
     ghost hash_input = { λ l. fed.u32 l.expansion ++ fed.slice fed.u8 l.name };
 
@@ -143,7 +143,7 @@ pub struct Block {
 
 impl Model for Block {
     ghost use Rattle.vcm_spec.specs.Program.{Block as Tree, sizes};
-    ghost use Rattle.vcm_tree.specs.Codes.{block_coded};
+    ghost use Rattle.vcm_tree.specs.inner.Codes.{block_coded};
 
     ghost Value = { Tree };
 
@@ -156,7 +156,7 @@ impl Model for Block {
     ghost size = { sizes };
 
     ghost use Rattle.std.proofs.Common.{arith};
-    ghost use Rattle.vcm_tree.specs.Falls.{block_falls};
+    ghost use Rattle.vcm_tree.specs.inner.Falls.{block_falls};
 
     ghost size_decreases = { λ a h. omega (arith, block_falls a.nodes.items) };
 }

@@ -128,7 +128,7 @@ pub struct Accepted {
 
 impl Model for Accepted {
     ghost use Rattle.vcm_tree.specs.Program.{Parsed, IsWhole, tables_of};
-    ghost use Rattle.vcm_tree.specs.Codes.{block_coded};
+    ghost use Rattle.vcm_tree.specs.inner.Codes.{block_coded};
     ghost use Rattle.std.specs.Coded.{codes};
 
     ghost Value = { Parsed };

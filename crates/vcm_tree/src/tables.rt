@@ -2,7 +2,7 @@
 
 ghost use Rattle.std.specs.Prelude.{◌≡◌, Some, IfOk, OnOk, IfSome, IfNone, length, ◌≤◌, slice_get};
 ghost use Rattle.vcm_tree.specs.Program.{listed, tables_of, AreNames};
-ghost use Rattle.vcm_tree.specs.Tabled.{variable_of, entries_of};
+ghost use Rattle.vcm_tree.specs.inner.Tabled.{variable_of, entries_of};
 
 use crate::titles::Titles;
 use std::alloc::Global;

@@ -2,8 +2,9 @@
 
 ghost use Rattle.std.specs.Prelude.{◌≡◌, None, IfOk, IfErr, OnOk};
 ghost use Rattle.vcm_lines.specs.Fault.{NoMemoryOr};
-ghost use Rattle.vcm_tree.specs.Resolving.{ToldAt, is_barred, acted, stated, resolved_here};
-ghost use Rattle.vcm_tree.specs.Taking.{behind_of, Acts, ActedAt, Takes, TakesStated};
+ghost use Rattle.vcm_tree.specs.Resolving.{is_barred, acted, stated, resolved_here};
+ghost use Rattle.vcm_tree.specs.inner.Telling.{ToldAt};
+ghost use Rattle.vcm_tree.specs.inner.Taking.{behind_of, Acts, ActedAt, Takes, TakesStated};
 
 use crate::builder::{Builder, bad_body};
 use crate::labels::Labels;

@@ -3,9 +3,9 @@ use Rattle.std.proofs.Common.{◌≡◌, ℕ, ◌==◌, Bool, true, false, cond,
 use Rattle.std.specs.List.{AllByRecursion}
 use Rattle.std.specs.Str.{bytes_eq}
 use Rattle.std.proofs.lemmas.Slice.Eq.{bytes_eq-Decides}
-use Rattle.vcm_words.specs.Cutting.{Without, IsWord}
+use Rattle.vcm_words.specs.inner.Marks.{Without, IsWord}
 use Rattle.vcm_words.specs.Numbers.{only_if}
-use Rattle.vcm_words.specs.Reading.{◌>>=◌, Reader, now, one, both, via, after, tested, named, marked, mapped, or_else}
+use Rattle.vcm_words.specs.WordReaders.{◌>>=◌, Reader, now, one, both, via, after, tested, named, marked, mapped, or_else}
 
 abbrev pub found : {A : Type 0} → A → Option A
 found x = Some x

@@ -13,9 +13,9 @@ use Rattle.vcm_spec.specs.declared.expression.BinaryOp.TheVariants.{Add, Sub, Mu
 use Rattle.vcm_spec.specs.declared.expression.Item.{Item}
 use Rattle.vcm_spec.specs.declared.expression.Item.TheVariants.{Push, Apply, Combine}
 use Rattle.vcm_fields.specs.Fitting.{within, FitsOperand, FitsItem, FitsExpression}
-use Rattle.vcm_words.specs.Cutting.{Without, IsWord}
+use Rattle.vcm_words.specs.inner.Marks.{Without, IsWord}
 use Rattle.vcm_words.specs.Numbers.{natural, number, signed, counted}
-use Rattle.vcm_words.specs.Reading.{◌>>=◌, Reader, marked, mapped, named, or_else, ending}
+use Rattle.vcm_words.specs.WordReaders.{◌>>=◌, Reader, marked, mapped, named, or_else, ending}
 use Rattle.vcm_words.specs.Items.{truth_text, operand_text, item_text, closed_words, opened, expression, operator_rows, truth_of, operand_in, item_in, last_or_more, items_at, opening, unopened, bracketed_at, expression_at}
 use Rattle.vcm_words.proofs.Inverse.{Means, Reads, bind_some, some_is, only_met, reads_tested, all_append}
 use Rattle.vcm_words.proofs.NumberLaws.{natural_takes, natural_again, whole_again, means_number, means_signed, decimal_word, decimal_without_high, signed_without_high}

@@ -12,7 +12,7 @@ use Rattle.std.proofs.lemmas.Slice.Eq.{bytes_eq-Decides}
 use Rattle.std.proofs.lemmas.Str.Parse.{IsNumeralModel, numerals_by_fold}
 use Rattle.std.proofs.lemmas.Fmt.{digits_decimal, digits_value-decimal, decimal_nonempty}
 use Rattle.vcm_num.specs.Literals.{AllDigits, number_after}
-use Rattle.vcm_words.specs.Cutting.{Without, IsWord}
+use Rattle.vcm_words.specs.inner.Marks.{Without, IsWord}
 use Rattle.vcm_words.specs.Numbers.{only_if, natural, negated, unsigned, whole, number, signed}
 use Rattle.vcm_words.proofs.Inverse.{Means, some_is, only_met}
 

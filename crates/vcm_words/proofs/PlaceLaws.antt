@@ -16,9 +16,10 @@ use Rattle.vcm_code.specs.declared.op.Op.TheVariants.{EndFil, Goto, GoHome, Assi
 use Rattle.vcm_fields.specs.Parts.{Operation, Line}
 use Rattle.vcm_fields.specs.Words.{word_of}
 use Rattle.vcm_fields.specs.Fitting.{within}
-use Rattle.vcm_words.specs.Cutting.{split, joined, Without, IsWord}
+use Rattle.vcm_words.specs.Cutting.{split, joined}
+use Rattle.vcm_words.specs.inner.Marks.{Without, IsWord}
 use Rattle.vcm_words.specs.Numbers.{number, counted, only_if}
-use Rattle.vcm_words.specs.Reading.{◌>>=◌, Reader, now, one, both, via, after, marked, named, ending}
+use Rattle.vcm_words.specs.WordReaders.{◌>>=◌, Reader, now, one, both, via, after, marked, named, ending}
 use Rattle.vcm_words.specs.Items.{expression, expression_at}
 use Rattle.vcm_words.specs.Operands.{single, number_text, number_at, lettered, lettered_at, variable, feature, frame, pair, target, variable_at, feature_at, frame_at, pair_at, target_at, axis_text, axis_rows, direction_text, direction_rows, setting_text, setting_rows, source_text, source_rows, turn_text, turn_rows, part_at, text, text_at, word_text, word_rows, operands, operands_at, word_at, line, op_at, line_at}
 use Rattle.vcm_words.proofs.Cuts.{joined-split, split-joined, split_without, split_keeps}

@@ -3,10 +3,10 @@ use Rattle.std.proofs.Common.{◌≡◌, ℕ, zero, suc, ◌+◌, ◌<◌, ◌�
 use Rattle.std.proofs.lemmas.List.{length-append, append-nil}
 use Rattle.vcm_spec.specs.declared.expression.Item.{Item}
 use Rattle.vcm_words.specs.Cutting.{onto, split, joined, parts_left}
-use Rattle.vcm_words.specs.Reading.{◌>>=◌, ending}
+use Rattle.vcm_words.specs.WordReaders.{◌>>=◌, ending}
 use Rattle.vcm_words.specs.Items.{item_in, last_or_more, items_at, opening, unopened}
-use Rattle.vcm_words.specs.Slices.{read_or_nil, items_left, AreLeft, Found}
-use Rattle.vcm_words.specs.Counting.{IsCount, Next}
+use Rattle.vcm_words.specs.inner.Slices.{read_or_nil, items_left, AreLeft, Found}
+use Rattle.vcm_words.specs.inner.Counting.{IsCount, Next}
 use Rattle.vcm_words.proofs.Inverse.{bind_some, some_is}
 use Rattle.vcm_words.proofs.Cuts.{split_some, joined-split}
 

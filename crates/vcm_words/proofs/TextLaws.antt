@@ -3,9 +3,10 @@ use Rattle.std.proofs.Common.{◌≡◌, ℕ, ◌<◌, ◌≤◌, ◌==◌, ◌&
 use Rattle.std.specs.List.{AllByRecursion, list_all}
 use Rattle.std.proofs.lemmas.List.{append-nil}
 use Rattle.vcm_spec.specs.TextBytes.{is_text_byte, is_text, IsText}
-use Rattle.vcm_words.specs.Cutting.{split, joined, Without, IsWord}
+use Rattle.vcm_words.specs.Cutting.{split, joined}
+use Rattle.vcm_words.specs.inner.Marks.{Without, IsWord}
 use Rattle.vcm_words.specs.Numbers.{counted, only_if}
-use Rattle.vcm_words.specs.Reading.{◌>>=◌, marked, ending}
+use Rattle.vcm_words.specs.WordReaders.{◌>>=◌, marked, ending}
 use Rattle.vcm_words.specs.Operands.{text, quoted_in, text_at}
 use Rattle.vcm_words.proofs.Cuts.{split_some, joined-split, split-joined, split_without, split_keeps}
 use Rattle.vcm_words.proofs.Inverse.{Ends, Bare, bind_some, some_is, only_met}

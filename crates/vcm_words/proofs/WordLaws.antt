@@ -4,8 +4,8 @@ use Rattle.std.specs.Str.{bytes_eq}
 use Rattle.std.specs.List.{AllByRecursion}
 use Rattle.std.proofs.lemmas.Bool.{eqb-true}
 use Rattle.std.proofs.lemmas.Slice.Eq.{bytes_eq-Decides}
-use Rattle.vcm_words.specs.Cutting.{Without, IsWord}
-use Rattle.vcm_words.specs.Reading.{named, marked, mapped, or_else, in_front, ending}
+use Rattle.vcm_words.specs.inner.Marks.{Without, IsWord}
+use Rattle.vcm_words.specs.WordReaders.{named, marked, mapped, or_else, in_front, ending}
 use Rattle.vcm_words.proofs.Inverse.{Means, some_is}
 
 pub or_else_takes : {A : Type 0} (o p : Option A) (x : A) → or_else o p ≡ Some x → (o ≡ Some x) ⊎ (p ≡ Some x)

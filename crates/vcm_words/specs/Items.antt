@@ -12,7 +12,7 @@ use Rattle.vcm_spec.specs.declared.expression.Item.{Item}
 use Rattle.vcm_spec.specs.declared.expression.Item.TheVariants.{Push, Apply, Combine}
 use Rattle.vcm_fields.specs.Fitting.{within}
 use Rattle.vcm_words.specs.Numbers.{number, signed, counted}
-use Rattle.vcm_words.specs.Reading.{◌>>=◌, Reader, one, marked, named, or_else, mapped, tested, ending}
+use Rattle.vcm_words.specs.WordReaders.{◌>>=◌, Reader, one, marked, named, or_else, mapped, tested, ending}
 
 -- ---- writing
 
@@ -109,7 +109,8 @@ unfoldable pub item_in : Bool → List ℕ → Option Item
 item_in exact w = or_else (named operator_rows w) (mapped Push (operand_in exact w))
 
 -- the last item of an expression, or one with more behind it
-abbrev pub last_or_more : Bool → List ℕ → List (List ℕ) → Option (List ℕ) → Option (List Item × List (List ℕ)) → Option (List Item × List (List ℕ))
+abbrev pub last_or_more : Bool → List ℕ → List (List ℕ) → Option (List ℕ) → Option (List Item × List (List ℕ))
+    → Option (List Item × List (List ℕ))
 last_or_more exact w ws (Some last) more = item_in exact last >>= λ i. Some (i ∷ [], ws)
 last_or_more exact w ws None more = item_in exact w >>= λ i. more >>= λ is. Some (i ∷ is.0, is.1)
 

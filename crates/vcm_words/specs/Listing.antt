@@ -26,9 +26,15 @@ placed count limit i in_order c =
 -- the code with one more line
 unfoldable pub added : Code → ListRow → Result Code ListCode
 added c Head = Err OutOfOrder
-added c (Variable i v) = placed (length c.tables.variables) 4096 i (is_empty c.tables.features && (is_empty c.tables.frames && is_empty c.statements)) (with_tables c (record { variables = c.tables.variables ++ v ∷ []; features = c.tables.features; frames = c.tables.frames }))
-added c (Feature i name) = placed (length c.tables.features) 4096 i (is_empty c.tables.frames && is_empty c.statements) (with_tables c (record { variables = c.tables.variables; features = c.tables.features ++ name ∷ []; frames = c.tables.frames }))
-added c (Frame i name) = placed (length c.tables.frames) 4096 i (is_empty c.statements) (with_tables c (record { variables = c.tables.variables; features = c.tables.features; frames = c.tables.frames ++ name ∷ [] }))
+added c (Variable i v) =
+    placed (length c.tables.variables) 4096 i (is_empty c.tables.features && (is_empty c.tables.frames && is_empty c.statements))
+    (with_tables c (record c.tables { variables = c.tables.variables ++ v ∷ [] }))
+added c (Feature i name) =
+    placed (length c.tables.features) 4096 i (is_empty c.tables.frames && is_empty c.statements)
+    (with_tables c (record c.tables { features = c.tables.features ++ name ∷ [] }))
+added c (Frame i name) =
+    placed (length c.tables.frames) 4096 i (is_empty c.statements)
+    (with_tables c (record c.tables { frames = c.tables.frames ++ name ∷ [] }))
 added c (Numbered n s) = placed (length c.statements) 20000 n true (record { tables = c.tables; statements = c.statements ++ s ∷ [] })
 
 -- a line that can't be read has the shape of a line with other numbers, or no shape

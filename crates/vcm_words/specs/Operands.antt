@@ -16,7 +16,7 @@ use Rattle.vcm_spec.specs.TextBytes.{is_text_byte}
 use Rattle.vcm_spec.specs.declared.expression.Item.{Item}
 use Rattle.vcm_words.specs.Cutting.{split, joined}
 use Rattle.vcm_words.specs.Numbers.{number, counted, only_if}
-use Rattle.vcm_words.specs.Reading.{◌>>=◌, Reader, now, one, both, via, after, marked, named, ending}
+use Rattle.vcm_words.specs.WordReaders.{◌>>=◌, Reader, now, one, both, via, after, marked, named, ending}
 use Rattle.vcm_words.specs.Items.{expression, expression_at}
 
 -- ---- single words
@@ -94,7 +94,9 @@ axis_text MinusZ = codes "-Z"
 
 -- the directions by their words
 abbrev pub axis_rows : List (List ℕ × Axis)
-axis_rows = (codes "+X", PlusX) ∷ (codes "-X", MinusX) ∷ (codes "+Y", PlusY) ∷ (codes "-Y", MinusY) ∷ (codes "+Z", PlusZ) ∷ (codes "-Z", MinusZ) ∷ []
+axis_rows =
+    (codes "+X", PlusX) ∷ (codes "-X", MinusX) ∷ (codes "+Y", PlusY) ∷ (codes "-Y", MinusY) ∷ (codes "+Z", PlusZ) ∷ (codes "-Z", MinusZ)
+    ∷ []
 
 -- the word of a direction of a measurement; NOM stands for the nominal feature's
 abbrev pub direction_text : Option Axis → List ℕ
@@ -103,7 +105,9 @@ direction_text (Some d) = axis_text d
 
 -- the directions of a measurement by their words
 abbrev pub direction_rows : List (List ℕ × Option Axis)
-direction_rows = (codes "NOM", None) ∷ (codes "+X", Some PlusX) ∷ (codes "-X", Some MinusX) ∷ (codes "+Y", Some PlusY) ∷ (codes "-Y", Some MinusY) ∷ (codes "+Z", Some PlusZ) ∷ (codes "-Z", Some MinusZ) ∷ []
+direction_rows =
+    (codes "NOM", None) ∷ (codes "+X", Some PlusX) ∷ (codes "-X", Some MinusX) ∷ (codes "+Y", Some PlusY) ∷ (codes "-Y", Some MinusY)
+    ∷ (codes "+Z", Some PlusZ) ∷ (codes "-Z", Some MinusZ) ∷ []
 
 -- the word of a setting of the probe
 abbrev pub setting_text : Setting → List ℕ
@@ -145,7 +149,8 @@ text bs = split 32 (39 ∷ bs ++ 39 ∷ [])
 
 -- what stands between apostrophes: at most 1,024 bytes of a text
 unfoldable pub quoted_in : Bool → List ℕ → Option (List ℕ)
-quoted_in exact bytes = marked 39 (ending 39) bytes >>= λ bs. only_if (counted exact (nat_le (length bs) 1024) && list_all is_text_byte bs) bs
+quoted_in exact bytes =
+    marked 39 (ending 39) bytes >>= λ bs. only_if (counted exact (nat_le (length bs) 1024) && list_all is_text_byte bs) bs
 
 -- reading a text: it takes all words that are left
 unfoldable pub text_at : Bool → Reader (List ℕ)
@@ -248,19 +253,26 @@ operands_at exact words.Assign = via (λ o. Assign o.0 o.1) (both (variable_at e
 operands_at exact words.If = via (λ o. If o.0 o.1) (both (expression_at exact) (target_at exact))
 operands_at exact words.Else = via Else (target_at exact)
 operands_at exact words.EndIf = now EndIf
-operands_at exact words.Do = via (λ o. Do o.0 o.1.0 o.1.1.0.0 o.1.1.0.1.0 o.1.1.0.1.1 o.1.1.1) (both (variable_at exact) (both (pair_at exact) (both (three_at exact) (target_at exact))))
+operands_at exact words.Do =
+    via (λ o. Do o.0 o.1.0 o.1.1.0.0 o.1.1.0.1.0 o.1.1.0.1.1 o.1.1.1)
+    (both (variable_at exact) (both (pair_at exact) (both (three_at exact) (target_at exact))))
 operands_at exact words.EndDo = via (λ o. EndDo o.0 o.1.0 o.1.1) (both (variable_at exact) (both (pair_at exact) (target_at exact)))
 operands_at exact words.Label = now Label
 operands_at exact words.JumpTo = via JumpTo (target_at exact)
-operands_at exact words.Feat = via (λ o. Feat o.0 o.1.0.0 o.1.0.1.0 o.1.0.1.1 o.1.1) (both (feature_at exact) (both (three_at exact) (one (named axis_rows))))
+operands_at exact words.Feat =
+    via (λ o. Feat o.0 o.1.0.0 o.1.0.1.0 o.1.0.1.1 o.1.1) (both (feature_at exact) (both (three_at exact) (one (named axis_rows))))
 operands_at exact words.Meas = via Meas (feature_at exact)
-operands_at exact words.PtMeas = via (λ o. PtMeas o.0 o.1.0.0 o.1.0.1.0 o.1.0.1.1 o.1.1) (both (feature_at exact) (both (three_at exact) (one (named direction_rows))))
+operands_at exact words.PtMeas =
+    via (λ o. PtMeas o.0 o.1.0.0 o.1.0.1.0 o.1.0.1.1 o.1.1) (both (feature_at exact) (both (three_at exact) (one (named direction_rows))))
 operands_at exact words.EndMes = now EndMes
 operands_at exact words.SnSet = via (λ o. SnSet o.0 o.1) (both (one (named setting_rows)) (expression_at exact))
 operands_at exact words.Trans = via (λ o. Trans o.0 o.1.0 o.1.1.0 o.1.1.1) (both (frame_at exact) (three_at exact))
-operands_at exact words.Rotate = via (λ o. Rotate o.0 o.1.0 o.1.1) (both (frame_at exact) (both (one (named turn_rows)) (number_at exact 4)))
+operands_at exact words.Rotate =
+    via (λ o. Rotate o.0 o.1.0 o.1.1) (both (frame_at exact) (both (one (named turn_rows)) (number_at exact 4)))
 operands_at exact words.Recall = via Recall (frame_at exact)
-operands_at exact words.Obtain = via (λ o. Obtain o.0 o.1.0 o.1.1.0 o.1.1.1) (both (variable_at exact) (both (one (named source_rows)) (both (feature_at exact) (part_at exact))))
+operands_at exact words.Obtain =
+    via (λ o. Obtain o.0 o.1.0 o.1.1.0 o.1.1.1) (both (variable_at exact)
+    (both (one (named source_rows)) (both (feature_at exact) (part_at exact))))
 operands_at exact words.Output = via (λ o. Output o.0 o.1) (both (one (named source_rows)) (feature_at exact))
 operands_at exact words.Text = via Text (text_at exact)
 

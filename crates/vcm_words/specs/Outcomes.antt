@@ -3,7 +3,6 @@ use Rattle.std.specs.Prelude.{◌≡◌, ◌⊎◌, ◌-◌, ℕ, List, length, 
 use Rattle.vcm_code.specs.declared.code.Code.{Code}
 use Rattle.vcm_code.specs.Ops.{code_of}
 use Rattle.vcm_code.specs.Valid.{IsValid}
-use Rattle.vcm_words.specs.declared.fault.ListCode.{ListCode}
 use Rattle.vcm_words.specs.declared.fault.ListCode.TheVariants.{NoMemory, NotValid}
 use Rattle.vcm_words.specs.declared.fault.ListFault.{ListFault}
 use Rattle.vcm_words.specs.Cutting.{split}
@@ -18,17 +17,15 @@ abbrev pub GivesOrWants : Result Code ListFault → Result Code ListFault → Ty
 GivesOrWants (Ok c) read = read ≡ Ok c
 GivesOrWants (Err f) read = IsWant f ⊎ (read ≡ Err f)
 
--- the same of one line
-abbrev pub FailsLine : ListCode → Result Code ListCode → Type 0
-FailsLine e read = (e ≡ NoMemory) ⊎ (read ≡ Err e)
-
 -- the number of the last line: how many ends of lines there are
 abbrev pub last_line : List ℕ → ℕ
 last_line bytes = length (split 10 bytes) - 1
 
 -- what the reading of these bytes refuses: the first line with a fault, or at the last line a code that is not valid
 abbrev pub ListingFault : List ℕ → ListFault → Type 0
-ListingFault bytes f = (code_listed bytes ≡ Err f) ⊎ ((c : Code) × (code_listed bytes ≡ Ok c) × (¬ IsValid (code_of c)) × (f ≡ told (last_line bytes) NotValid))
+ListingFault bytes f =
+    (code_listed bytes ≡ Err f) ⊎ ((c : Code) × (code_listed bytes ≡ Ok c) × (¬ IsValid (code_of c))
+    × (f ≡ told (last_line bytes) NotValid))
 
 -- bytes are refused so, or memory ran out
 abbrev pub FaultOrWant : List ℕ → ListFault → Type 0

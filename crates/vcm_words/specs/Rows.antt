@@ -1,21 +1,20 @@
 -- The lines of a listing.
-use Rattle.std.specs.Prelude.{◌≡◌, ℕ, suc, ◌<◌, ◌^◌, ◌==◌, ◌&&◌, nat_lt, Bool, true, false, if◌then◌else◌, List, [], ◌∷◌, ◌++◌, length, map, flat_map, Option, Some, None, Result, Ok, Err, codes, IsTrue}
+use Rattle.std.specs.Prelude.{ℕ, suc, ◌^◌, ◌==◌, Bool, List, [], ◌∷◌, ◌++◌, flat_map, Option, Some, None, codes}
 use Rattle.vcm_num.specs.declared.number.Kind.{Kind}
 use Rattle.vcm_num.specs.declared.number.Kind.TheVariants.{Int, Real, Bool as Truth}
 use Rattle.vcm_spec.specs.declared.expression.Item.{Item}
 use Rattle.vcm_code.specs.declared.code.Code.{Code}
 use Rattle.vcm_spec.specs.Setup.{Variable as Entry}
-use Rattle.vcm_expr.specs.NameBytes.{is_name, IsName}
-use Rattle.vcm_expr.specs.Parts.{is_variable_name}
+use Rattle.vcm_expr.specs.NameBytes.{is_name}
+use Rattle.vcm_expr.specs.Symbols.{is_variable_name}
 use Rattle.vcm_fields.specs.Parts.{Line}
-use Rattle.vcm_fields.specs.Fitting.{FitsEntry, FitsLine}
 use Rattle.vcm_words.specs.declared.row.Row.{Row}
 use Rattle.vcm_words.specs.declared.row.Row.TheVariants.{Head, Variable, Feature, Frame, Numbered}
 use Rattle.vcm_words.specs.declared.row.Heading.{Heading}
 use Rattle.vcm_words.specs.declared.row.Heading.TheVariants as headings
 use Rattle.vcm_words.specs.Cutting.{split, joined}
 use Rattle.vcm_words.specs.Numbers.{number, counted, only_if}
-use Rattle.vcm_words.specs.Reading.{◌>>=◌, Reader, one, both, via, ended, named}
+use Rattle.vcm_words.specs.WordReaders.{◌>>=◌, Reader, one, both, via, ended, named}
 use Rattle.vcm_words.specs.Operands.{single, number_text, number_at, line, line_at}
 
 -- a line, with its items and texts as lists
@@ -49,7 +48,9 @@ numbered f n (x ∷ xs) = f n x ∷ numbered f (suc n) xs
 
 -- the lines of a code: the head, the tables, the statements
 abbrev pub rows : Code → List ListRow
-rows c = Head ∷ (numbered Variable 0 c.tables.variables ++ (numbered Feature 0 c.tables.features ++ (numbered Frame 0 c.tables.frames ++ numbered Numbered 0 c.statements)))
+rows c =
+    Head ∷ (numbered Variable 0 c.tables.variables
+    ++ (numbered Feature 0 c.tables.features ++ (numbered Frame 0 c.tables.frames ++ numbered Numbered 0 c.statements)))
 
 -- the lines with their ends
 abbrev pub text_of : List ListRow → List ℕ
@@ -67,7 +68,9 @@ kind_rows = (codes "INTGR", Int) ∷ (codes "REAL", Real) ∷ (codes "BOOL", Tru
 
 -- the words that a line begins with, where it is no statement
 abbrev pub heading_rows : List (List ℕ × Heading)
-heading_rows = (codes "VCM-LISTING", headings.Head) ∷ (codes "VAR", headings.Variables) ∷ (codes "FEATURE", headings.Features) ∷ (codes "FRAME", headings.Frames) ∷ []
+heading_rows =
+    (codes "VCM-LISTING", headings.Head) ∷ (codes "VAR", headings.Variables) ∷ (codes "FEATURE", headings.Features)
+    ∷ (codes "FRAME", headings.Frames) ∷ []
 
 -- reading a name
 abbrev pub name_at : Reader (List ℕ)
@@ -83,7 +86,9 @@ version_at exact = one (λ w. number exact 2 w >>= λ n. only_if (counted exact 
 
 -- reading a variable behind its word: its index, its kind, its name, its expansion
 unfoldable pub entry_at : Bool → Reader (ℕ × Entry)
-entry_at exact = via (λ o. (o.0, record { name = o.1.1.0; kind = o.1.0; expansion = o.1.1.1 })) (both (number_at exact (2 ^ 16)) (both (one (named kind_rows)) (both variable_name_at (number_at exact (2 ^ 32)))))
+entry_at exact =
+    via (λ o. (o.0, record { name = o.1.1.0; kind = o.1.0; expansion = o.1.1.1 }))
+    (both (number_at exact (2 ^ 16)) (both (one (named kind_rows)) (both variable_name_at (number_at exact (2 ^ 32)))))
 
 -- reading the index and the name of a feature or a frame
 unfoldable pub indexed_at : Bool → Reader (ℕ × List ℕ)
@@ -109,11 +114,3 @@ row_at exact (w ∷ ws) = row_after exact (named heading_rows w) w ws
 -- a line, read exactly or only for its shape
 unfoldable pub row_of : Bool → List ℕ → Option ListRow
 row_of exact bytes = row_at exact (split 32 bytes)
-
--- which lines have all their fields in range, so that they have a spelling
-abbrev pub FitsRow : ListRow → Type 0
-FitsRow Head = Unit {0}
-FitsRow (Variable i v) = (i < 2 ^ 16) × FitsEntry v
-FitsRow (Feature i name) = (i < 2 ^ 16) × IsName name
-FitsRow (Frame i name) = (i < 2 ^ 16) × IsName name
-FitsRow (Numbered n s) = (n < 2 ^ 32) × FitsLine s

@@ -1,19 +1,12 @@
 //! Items of a line.
 
 ghost use Rattle.std.specs.Prelude.{◌≡◌, MatchOption, Some, None};
-ghost use Rattle.std.specs.Str.{bytes_eq};
-ghost use Rattle.vcm_words.specs.Reading.{named, ending};
+ghost use Rattle.vcm_words.specs.WordReaders.{named, ending};
 ghost use Rattle.vcm_words.specs.Items.{operand_in, item_in, operator_rows};
 
 use crate::numbers::{short, signed, small};
+use vcm_num::is;
 use vcm_spec::{BinaryOp, Item, Operand, Relation, UnaryOp};
-
-/// Whether bytes are the word.
-pub fn is(bytes: &[u8], word: &[u8]) -> bool
-    ensures { result ≡ bytes_eq bytes.now word.now }
-{
-    bytes == word
-}
 
 // A leaf goes by its first letter.
 #[tactic(auto, unfolding(crate::specs::Items::operand_in))]

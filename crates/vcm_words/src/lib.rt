@@ -10,7 +10,6 @@ mod slices;
 mod words;
 
 pub use fault::{ListCode, ListFault};
-pub use items::is;
 pub use numbers::small;
 pub use places::{
     axis, count, direction, index, lettered, pair, part, quarters, setting, source, target, text,

@@ -1,18 +1,16 @@
 //! The places of a statement's operands. Each is read exactly, or for its shape alone: then anything stands for a number.
 
 ghost use Rattle.std.specs.Prelude.{◌≡◌, ◌^◌, ◌<◌, ◌==◌, nat_le, Some};
-ghost use Rattle.std.specs.List.{list_all};
-ghost use Rattle.vcm_spec.specs.TextBytes.{is_text_byte};
 ghost use Rattle.vcm_words.specs.Numbers.{number, counted, only_if};
-ghost use Rattle.vcm_words.specs.Reading.{one, named, marked};
+ghost use Rattle.vcm_words.specs.WordReaders.{one, named, marked};
 ghost use Rattle.vcm_words.specs.Operands.{lettered_at, number_at, axis_rows, direction_rows, setting_rows, source_rows, turn_rows, part_at, quoted_in, text_at, word_at};
 
-use crate::items::{before_end, is};
+use crate::items::before_end;
 use crate::numbers::{long, short, small};
 use crate::slices::TextWords;
 use crate::words::Words;
-use vcm_num::Axis;
-use vcm_spec::{Setting, Source};
+use vcm_num::{Axis, is};
+use vcm_spec::{Setting, Source, are_text_bytes};
 
 /// The most bytes of a text.
 const LONGEST_TEXT: usize = 1024;
@@ -196,20 +194,6 @@ pub fn turn<'a>(words: &Words<'a>) -> Option<(u8, Words<'a>)>
     } else {
         None
     }
-}
-
-// Whether a byte may stand in a text.
-fn is_text_byte(byte: u8) -> bool
-    ensures { result ≡ is_text_byte byte }
-{
-    byte == b'\t' || (32 <= byte && byte != b'\'' && byte != 127)
-}
-
-// Whether all of these bytes may stand in a text.
-fn are_text_bytes(bytes: &[u8]) -> bool
-    ensures { result ≡ list_all is_text_byte bytes.now }
-{
-    bytes.iter().all(|byte| is_text_byte(*byte))
 }
 
 // What stands between apostrophes.

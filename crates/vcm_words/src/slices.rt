@@ -2,8 +2,8 @@
 
 ghost use Rattle.std.specs.Prelude.{◌≡◌, ◌∷◌, [], MatchOption, IfSome, IfNone, Some, None};
 ghost use Rattle.vcm_words.specs.Items.{items_at, expression_at};
-ghost use Rattle.vcm_words.specs.Slices.{Found};
-ghost use Rattle.vcm_words.specs.Counting.{Next};
+ghost use Rattle.vcm_words.specs.inner.Slices.{Found};
+ghost use Rattle.vcm_words.specs.inner.Counting.{Next};
 
 use crate::items::{before_end, item};
 use crate::words::Words;
@@ -21,7 +21,7 @@ pub struct ItemWords<'a> {
 impl<'a> Model for ItemWords<'a> {
     ghost use Rattle.std.specs.Prelude.{List};
     ghost use Rattle.vcm_spec.specs.declared.expression.Item.{Item};
-    ghost use Rattle.vcm_words.specs.Slices.{items_left, AreLeft};
+    ghost use Rattle.vcm_words.specs.inner.Slices.{items_left, AreLeft};
 
     ghost Value = { List Item };
 

@@ -64,7 +64,7 @@ impl<'a> Words<'a> {
     }
 
     /// The words without the bracket before the first.
-    pub fn unopened(&self) -> Option<Words<'a>>
+    pub(crate) fn unopened(&self) -> Option<Words<'a>>
         ensures { result ≡ unopened self.now }
     {
         let bytes = self.left?;

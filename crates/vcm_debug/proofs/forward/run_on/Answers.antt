@@ -1,5 +1,5 @@
 use Rattle.std.proofs.Common.{◌+◌, sym, ◌∙◌, ap}
-use Rattle.vcm_debug.specs.Going.{begun}
+use Rattle.vcm_debug.specs.inner.Going.{begun}
 use Rattle.vcm_debug.proofs.Stepping.{goes, ends, come_is}
 use Rattle.vcm_debug.proofs.Coming.{arrived}
 use Rattle.vcm_debug.proofs.forward.run_on.Goals as goal

@@ -1,6 +1,6 @@
 use Rattle.std.proofs.Common.{◌≡◌, length, ◌-◌}
 use Rattle.std.specs.Prelude.{All}
-use Rattle.vcm_debug.specs.Going.{begun}
+use Rattle.vcm_debug.specs.inner.Going.{begun}
 use Rattle.vcm_debug.proofs.Stepping.{HasCome}
 use Rattle.vcm_debug.proofs.forward.run_on.Given as goal
 

@@ -1,5 +1,5 @@
 use Rattle.std.proofs.Common.{◌+◌, ◌≡◌, None, sym, ◌∙◌, ap}
-use Rattle.vcm_debug.specs.Going.{begun}
+use Rattle.vcm_debug.specs.inner.Going.{begun}
 use Rattle.vcm_debug.proofs.Coming.{arrived, goes_on, gone_is, none_of}
 use Rattle.vcm_debug.proofs.forward.step_on.Goals as goal
 

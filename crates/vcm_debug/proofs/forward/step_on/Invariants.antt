@@ -1,6 +1,6 @@
 use Rattle.std.proofs.Common.{◌≡◌, ◌-◌}
 use Rattle.std.specs.Prelude.{All}
-use Rattle.vcm_debug.specs.Going.{begun}
+use Rattle.vcm_debug.specs.inner.Going.{begun}
 use Rattle.vcm_debug.proofs.Coming.{HasGone}
 use Rattle.vcm_debug.proofs.forward.step_on.Given as goal
 

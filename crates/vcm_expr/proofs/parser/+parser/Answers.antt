@@ -2,8 +2,8 @@ use Rattle.std.proofs.Common.{◌∙◌, refl, inr, arith}
 use Rattle.std.proofs.lemmas.Result.{err_from_is_err_and}
 use Rattle.vcm_expr.specs.declared.parser.Chain.TheVariants.{Sum}
 use Rattle.vcm_expr.specs.Source.{Pair, is_small}
-use Rattle.vcm_expr.specs.Reading.{relation_op}
-use Rattle.vcm_expr.specs.Levels.{chain_in, fronted_in}
+use Rattle.vcm_expr.specs.inner.Parser.{relation_op}
+use Rattle.vcm_expr.specs.inner.Levels.{chain_in, fronted_in}
 use Rattle.vcm_expr.proofs.Chains.{chain_begins, chain_fails, told_same, told_big, front_is, front_reads, front_told, front_big, once_made, once_big, once_fails, group_full, group_fails, group_closed, group_open}
 use Rattle.vcm_expr.proofs.parser.+parser.Goals as goal
 

@@ -1,7 +1,7 @@
 use Rattle.std.proofs.Common.{◌≡◌, ◌≤◌, ◌+◌, ◌*◌, length, ℕ}
 use Rattle.vcm_expr.specs.Source.{is_small}
-use Rattle.vcm_expr.specs.Reading.{more}
-use Rattle.vcm_expr.specs.Levels.{chain_in, chain_op, link_in}
+use Rattle.vcm_expr.specs.inner.Parser.{more}
+use Rattle.vcm_expr.specs.inner.Levels.{chain_in, chain_op, link_in}
 use Rattle.vcm_expr.proofs.ParserRanks.{link_rank, under_rank}
 use Rattle.vcm_expr.proofs.parser.+parser.Given as goal
 

@@ -1,4 +1,4 @@
-use Rattle.vcm_fields.specs.Reading.{name_at}
+use Rattle.vcm_fields.specs.Readers.{name_at}
 use Rattle.vcm_image.proofs.Tables.{Filling}
 use Rattle.vcm_image.proofs.scanned.names.Given as goal
 

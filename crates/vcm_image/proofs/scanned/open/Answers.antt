@@ -1,5 +1,5 @@
 use Rattle.std.proofs.Common.{ap, subst, ◌∙◌, arith}
-use Rattle.vcm_fields.specs.Reading.{GivesOrNoMemory}
+use Rattle.vcm_fields.specs.Readers.{GivesOrNoMemory}
 use Rattle.vcm_image.specs.Whole.{code_at}
 use Rattle.vcm_image.proofs.Wholes.{is_found, code_again}
 use Rattle.vcm_image.proofs.scanned.open.Goals as goal

@@ -1,4 +1,4 @@
-use Rattle.vcm_fields.specs.Reading.{line_at}
+use Rattle.vcm_fields.specs.Readers.{line_at}
 use Rattle.vcm_image.proofs.Tables.{Filling}
 use Rattle.vcm_image.proofs.scanned.statements.Given as goal
 

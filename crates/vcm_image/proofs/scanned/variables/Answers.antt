@@ -1,6 +1,6 @@
 use Rattle.std.proofs.Common.{arith}
 use Rattle.std.proofs.lemmas.Result.{err_from_is_err_and}
-use Rattle.vcm_fields.specs.Reading.{entry_at}
+use Rattle.vcm_fields.specs.Readers.{entry_at}
 use Rattle.vcm_fields.proofs.Parts.{reads_entry}
 use Rattle.vcm_image.proofs.Tables.{filling, filled_more, filled_fails, filled}
 use Rattle.vcm_image.proofs.scanned.variables.Goals as goal

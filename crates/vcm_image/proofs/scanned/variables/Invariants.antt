@@ -1,4 +1,4 @@
-use Rattle.vcm_fields.specs.Reading.{entry_at}
+use Rattle.vcm_fields.specs.Readers.{entry_at}
 use Rattle.vcm_image.proofs.Tables.{Filling}
 use Rattle.vcm_image.proofs.scanned.variables.Given as goal
 

@@ -5,7 +5,7 @@ use Rattle.vcm_macro.specs.Substitution.{put_argument}
 use Rattle.std.proofs.lemmas.Result.{err_from_is_err_and}
 use Rattle.vcm_macro.proofs.Calling.{call_unknown, call_refused, call_carried, call_told, on_ok}
 use Rattle.vcm_macro.proofs.Bodies.{called_more, called_told, stood_more, stood_told}
-use Rattle.vcm_macro.specs.Expanding.{referred}
+use Rattle.vcm_macro.specs.inner.Expanding.{referred}
 use Rattle.vcm_macro.proofs.Skipping.{referred_here, referred_within}
 use Rattle.vcm_macro.proofs.expanding.+expanding.Goals as goal
 use Rattle.vcm_macro.proofs.expanding.+expanding.Goals.{body-in-Call+in_ok-call-in-Call, body-in_default+in_ok-stand-in_default}

@@ -1,7 +1,7 @@
 use Rattle.std.proofs.Common.{◌+◌, ◌*◌, length}
 use Rattle.std.specs.Prelude.{reverse}
 use Rattle.vcm_macro.specs.Walk.{call_in}
-use Rattle.vcm_macro.specs.Expanding.{referred}
+use Rattle.vcm_macro.specs.inner.Expanding.{referred}
 use Rattle.vcm_macro.proofs.Bodies.{IsDone}
 use Rattle.vcm_macro.proofs.expanding.+expanding.Given as goal
 

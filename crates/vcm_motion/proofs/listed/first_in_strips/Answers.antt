@@ -1,7 +1,7 @@
 use Rattle.std.proofs.Common.{◌+◌, subst, sym, arith}
 use Rattle.vcm_num.specs.Point.{coordinate}
 use Rattle.vcm_num.proofs.PointLemmas.{near_again, near_read}
-use Rattle.vcm_motion.specs.Listed.{IsCovered}
+use Rattle.vcm_motion.specs.inner.Listed.{IsCovered}
 use Rattle.vcm_spec.specs.Contact.{Meets}
 use Rattle.vcm_motion.proofs.Inside.{reachable}
 use Rattle.vcm_motion.proofs.StripLemmas.{IsRange, strips_cover, strip_same}

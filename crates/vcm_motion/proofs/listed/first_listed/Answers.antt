@@ -4,7 +4,7 @@ use Rattle.vcm_num.specs.Point.{coordinate}
 use Rattle.vcm_spec.specs.Contact.{Meets}
 use Rattle.vcm_motion.proofs.Search.{fewer, skip_block, add_block, clear_of_all, hit_of_all}
 use Rattle.vcm_motion.proofs.InOrder.{block_read, read_at, stands_at}
-use Rattle.vcm_motion.specs.Listed.{IsListed}
+use Rattle.vcm_motion.specs.inner.Listed.{IsListed}
 use Rattle.vcm_motion.proofs.Passed.{next_passed, all_passed}
 use Rattle.vcm_motion.proofs.listed.first_listed.Goals as goal
 use Rattle.vcm_motion.proofs.listed.first_listed.Goals.{in-Some, in_default}

@@ -1,7 +1,7 @@
 use Rattle.vcm_num.specs.Point.{coordinate}
 use Rattle.vcm_spec.specs.Contact.{Meets}
 use Rattle.vcm_motion.proofs.Search.{IsSoFar}
-use Rattle.vcm_motion.specs.Listed.{IsListed}
+use Rattle.vcm_motion.specs.inner.Listed.{IsListed}
 use Rattle.vcm_motion.proofs.listed.first_listed.Given as goal
 
 abbrev pub invariant-loop-number : goal.invariant-loop-number

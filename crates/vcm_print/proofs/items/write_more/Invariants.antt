@@ -1,6 +1,6 @@
 use Rattle.std.proofs.Common.{length}
 use Rattle.vcm_print.proofs.Steps.{TookUpTo}
-use Rattle.vcm_print.specs.Written.{more_items}
+use Rattle.vcm_print.specs.inner.Written.{more_items}
 use Rattle.vcm_print.proofs.items.write_more.Given as goal
 
 abbrev pub invariant-loop-item : goal.invariant-loop-item

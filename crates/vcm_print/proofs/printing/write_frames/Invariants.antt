@@ -1,6 +1,6 @@
 use Rattle.std.proofs.Common.{drop}
 use Rattle.vcm_words.specs.declared.row.Row.TheVariants.{Frame}
-use Rattle.vcm_print.specs.Written.{lines}
+use Rattle.vcm_print.specs.inner.Written.{lines}
 use Rattle.vcm_print.proofs.Steps.{TookUpTo}
 use Rattle.vcm_print.proofs.printing.write_frames.Given as goal
 

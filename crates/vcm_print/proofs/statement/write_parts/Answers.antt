@@ -1,7 +1,7 @@
 use Rattle.std.proofs.Common.{drop, ◌+◌}
 use Rattle.std.proofs.lemmas.List.{at_drop_more}
 use Rattle.std.proofs.lemmas.Result.{err_from_is_err_and}
-use Rattle.vcm_print.specs.Written.{parts_bytes}
+use Rattle.vcm_print.specs.inner.Written.{parts_bytes}
 use Rattle.vcm_print.proofs.Steps.{took_more, took_front}
 use Rattle.vcm_print.proofs.statement.write_parts.Goals as goal
 

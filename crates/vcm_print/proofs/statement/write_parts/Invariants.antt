@@ -1,6 +1,6 @@
 use Rattle.std.proofs.Common.{drop}
 use Rattle.vcm_print.proofs.Steps.{TookUpTo}
-use Rattle.vcm_print.specs.Written.{parts_bytes}
+use Rattle.vcm_print.specs.inner.Written.{parts_bytes}
 use Rattle.vcm_print.proofs.statement.write_parts.Given as goal
 
 abbrev pub invariant-loop-part : goal.invariant-loop-part

@@ -1,5 +1,5 @@
 use Rattle.std.proofs.Common.{◌≡◌, ◌++◌, drop}
-use Rattle.vcm_tables.specs.Kinds.{kinds_in}
+use Rattle.vcm_tables.specs.inner.Kinds.{kinds_in}
 use Rattle.vcm_tables.proofs.tables.kinds_in.Given as goal
 
 abbrev pub invariant-loop-variable : goal.invariant-loop-variable

@@ -1,7 +1,7 @@
 use Rattle.std.proofs.Common.{◌∙◌, ◌≤◌, length, rules}
 use Rattle.std.proofs.lemmas.Result.{err_from_is_err_and}
 use Rattle.vcm_tree.specs.Jumps.{own_labels}
-use Rattle.vcm_tree.specs.Judging.{with_labels}
+use Rattle.vcm_tree.specs.inner.Judging.{with_labels}
 use Rattle.vcm_tree.proofs.Entering.{given_up, entered_reach, entered_told}
 use Rattle.vcm_tree.proofs.JumpSteps.{judged_step, judged_told, judged_end, choice_reach, choice_told}
 use Rattle.vcm_tree.proofs.jumps.+jumps.Goals as goal

@@ -1,7 +1,7 @@
 use Rattle.std.proofs.Common.{◌≡◌, drop}
 use Rattle.vcm_tree.specs.Nodes.{block_of}
 use Rattle.vcm_tree.specs.Jumps.{own_labels}
-use Rattle.vcm_tree.specs.Judging.{with_labels}
+use Rattle.vcm_tree.specs.inner.Judging.{with_labels}
 use Rattle.vcm_tree.proofs.Jumping.{IsJudged}
 use Rattle.vcm_tree.proofs.jumps.+jumps.Given as goal
 

@@ -1,5 +1,5 @@
 use Rattle.std.proofs.Common.{refl, sym, ◌∙◌, rules}
-use Rattle.vcm_tree.specs.Judging.{jump}
+use Rattle.vcm_tree.specs.inner.Judging.{jump}
 use Rattle.vcm_tree.proofs.Jumping.{first_here, is_unknown, is_inward}
 use Rattle.vcm_tree.proofs.jumps.check_jump.Goals as goal
 

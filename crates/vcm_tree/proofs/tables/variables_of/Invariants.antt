@@ -1,6 +1,6 @@
 use Rattle.std.proofs.Common.{◌≡◌, ◌≤◌, ◌-◌, length, take}
 use Rattle.std.specs.Prelude.{map}
-use Rattle.vcm_tree.specs.Tabled.{variable_of}
+use Rattle.vcm_tree.specs.inner.Tabled.{variable_of}
 use Rattle.vcm_tree.proofs.tables.variables_of.Given as goal
 
 abbrev pub invariant-loop-variable : goal.invariant-loop-variable

@@ -1,5 +1,5 @@
 use Rattle.std.proofs.Common.{◌++◌, ◌∷◌, [], sym, ap, ◌∙◌, subst}
-use Rattle.vcm_asm.specs.Once.{Absent}
+use Rattle.vcm_asm.specs.inner.Once.{Absent}
 use Rattle.vcm_asm.proofs.Numbering.{insert_absent}
 use Rattle.vcm_asm.proofs.numbers.Numbers.add.Goals as goal
 

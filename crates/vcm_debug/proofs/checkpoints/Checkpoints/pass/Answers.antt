@@ -1,6 +1,6 @@
 use Rattle.std.proofs.Common.{◌≡◌, sym, ◌∙◌, subst}
 use Rattle.std.specs.Prelude.{All}
-use Rattle.vcm_debug.specs.Going.{begun}
+use Rattle.vcm_debug.specs.inner.Going.{begun}
 use Rattle.vcm_debug.proofs.Copies.{pushed}
 use Rattle.vcm_debug.proofs.checkpoints.Checkpoints.pass.Goals as goal
 use Rattle.vcm_debug.proofs.checkpoints.Checkpoints.pass.Goals.{then-len-ge-MOST, else-len-ge-MOST}

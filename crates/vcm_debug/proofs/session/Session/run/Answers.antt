@@ -1,6 +1,6 @@
 use Rattle.std.proofs.Common.{◌≡◌, ◌<◌, ◌+◌, ◌^◌, ap, subst, rules, arith}
 use Rattle.std.specs.Prelude.{All}
-use Rattle.vcm_debug.specs.Going.{begun}
+use Rattle.vcm_debug.specs.inner.Going.{begun}
 use Rattle.vcm_debug.proofs.Sessions.{moved_on, run_halts}
 use Rattle.vcm_debug.proofs.session.Session.run.Goals as goal
 

@@ -1,5 +1,5 @@
 use Rattle.std.proofs.Common.{◌<◌, length, not, ap, sym, ◌∙◌, subst}
-use Rattle.vcm_expr.specs.Parts.{IsVariableName}
+use Rattle.vcm_expr.specs.Symbols.{IsVariableName}
 use Rattle.indexmap.proofs.CallerLemmas.{insert_entry-new}
 use Rattle.vcm_expr.proofs.NameLemmas.{lookup_any, lookup_none, one_more}
 use Rattle.vcm_expr.proofs.names.Names.declare.Goals as goal

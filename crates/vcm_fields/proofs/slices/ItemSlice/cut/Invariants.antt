@@ -1,4 +1,4 @@
-use Rattle.vcm_fields.specs.Reading.{item_at}
+use Rattle.vcm_fields.specs.Readers.{item_at}
 use Rattle.vcm_fields.proofs.Inverse.{Progress}
 use Rattle.vcm_fields.proofs.slices.ItemSlice.cut.Given as goal
 

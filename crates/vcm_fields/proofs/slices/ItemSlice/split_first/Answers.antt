@@ -1,5 +1,5 @@
 use Rattle.std.proofs.Common.{sym, ◌∙◌, subst, arith, [], ◌≡◌}
-use Rattle.vcm_fields.specs.Slices.{items_in, AreItems}
+use Rattle.vcm_fields.specs.inner.Slices.{items_in, AreItems}
 use Rattle.vcm_fields.proofs.Parts.{slice_first, slice_none, First-read, First-fails}
 use Rattle.vcm_fields.proofs.slices.ItemSlice.split_first.Goals as goal
 

@@ -2,7 +2,7 @@ use Rattle.std.proofs.Common.{◌∙◌, ℕ, ℤ, ◌+ℤ◌, ap, sym, rules, F
 use Rattle.vcm_num.specs.Number.{checked}
 use Rattle.vcm_num.specs.Point.{coordinate}
 use Rattle.vcm_spec.specs.Frame.{turned}
-use Rattle.vcm_frame.specs.Rows.{unit_row, dot}
+use Rattle.vcm_frame.specs.inner.Rows.{unit_row, dot}
 use Rattle.vcm_frame.proofs.frame.Frame.apply.Goals as goal
 
 pub returns : goal.returns

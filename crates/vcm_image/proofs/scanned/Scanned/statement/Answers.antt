@@ -1,6 +1,6 @@
 use Rattle.std.proofs.Common.{◌<◌, ◌≡◌, length, slice_get, Some, sym, subst, arith}
 use Rattle.vcm_code.specs.declared.code.Code.{Code}
-use Rattle.vcm_fields.specs.Reading.{line_at}
+use Rattle.vcm_fields.specs.Readers.{line_at}
 use Rattle.vcm_image.proofs.Tables.{Begin-length, Begin-index, Found-ok, Found-err}
 use Rattle.vcm_image.proofs.scanned.Scanned.statement.Goals as goal
 

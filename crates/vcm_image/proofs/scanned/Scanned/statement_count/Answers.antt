@@ -1,6 +1,6 @@
 use Rattle.std.proofs.Common.{length, ap, arith}
 use Rattle.vcm_code.specs.declared.code.Code.{Code}
-use Rattle.vcm_fields.specs.Reading.{line_at}
+use Rattle.vcm_fields.specs.Readers.{line_at}
 use Rattle.vcm_image.proofs.Tables.{Begin-length}
 use Rattle.vcm_image.proofs.scanned.Scanned.statement_count.Goals as goal
 

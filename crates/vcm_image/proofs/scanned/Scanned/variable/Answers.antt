@@ -1,7 +1,7 @@
 use Rattle.vcm_fields.specs.Fitting.{FitsEntry}
 use Rattle.std.proofs.Common.{◌<◌, ◌≡◌, length, slice_get, Some, sym, subst, arith}
 use Rattle.vcm_code.specs.declared.code.Code.{Code}
-use Rattle.vcm_fields.specs.Reading.{entry_at}
+use Rattle.vcm_fields.specs.Readers.{entry_at}
 use Rattle.vcm_image.proofs.Tables.{Begin-length, Begin-index, Found-ok, Found-err, all_at}
 use Rattle.vcm_image.proofs.scanned.Scanned.variable.Goals as goal
 

@@ -1,5 +1,5 @@
 use Rattle.std.proofs.Common.{[], ◌∷◌, ap, sym, ◌∙◌}
-use Rattle.vcm_tree.specs.Building.{opened_by}
+use Rattle.vcm_tree.specs.inner.Building.{opened_by}
 use Rattle.vcm_tree.specs.Resolving.{measuring}
 use Rattle.vcm_tree.proofs.Builders.{last_opened}
 use Rattle.vcm_tree.proofs.builder.Builder.measuring.Goals as goal

@@ -1,5 +1,0 @@
-use Rattle.vcm_expr.proofs.SpellLaws.{one_expression}
-use Rattle.vcm_expr.proofs.laws.parts_spell_one_expression.Goals as goal
-
-pub returns : goal.returns
-returns c = one_expression

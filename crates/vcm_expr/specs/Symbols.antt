@@ -1,0 +1,73 @@
+-- The words of a statement as symbols of an expression.
+use Rattle.std.specs.Prelude.{◌≡◌, ℕ, ◌&&◌, if◌then◌else◌, Bool, true, false, codes, List, [], ◌∷◌, map, Result, Ok, Err}
+use Rattle.std.specs.Str.{bytes_eq}
+use Rattle.std.specs.Char.{is_ascii_uppercase}
+use Rattle.vcm_num.specs.declared.number.Literal.{Literal}
+use Rattle.vcm_num.specs.declared.read.NumFault.{NumFault}
+use Rattle.vcm_num.specs.declared.read.NumFault.TheVariants.{BadNumber, TooFine, TooLarge}
+use Rattle.vcm_lines.specs.declared.fault.FaultCode.{FaultCode}
+use Rattle.vcm_lines.specs.declared.fault.FaultCode.TheVariants.{BadSyntax, TooFine as TooFineCode, NumberTooLarge}
+use Rattle.vcm_lines.specs.Lexemes.{Lexeme, Run, Number, Dotted, Quoted, Slash as SlashMark, Comma, Equals, Open, Close, Plus, Minus, Star as StarMark, Other as OtherMark}
+use Rattle.vcm_spec.specs.declared.expression.Relation.TheVariants.{Equal, NotEqual, Less, LessEqual, Greater, GreaterEqual}
+use Rattle.vcm_expr.specs.declared.expression.Term.{Term}
+use Rattle.vcm_expr.specs.declared.expression.Term.TheVariants.{Number as Figure, Truth, Variable}
+use Rattle.vcm_expr.specs.declared.symbol.Symbol.{Symbol}
+use Rattle.vcm_expr.specs.declared.symbol.Symbol.TheVariants.{Operand, Dash, Cross, Star, Slash, NotWord, AndWord, OrWord, RelationWord, Opening, Closing, Other}
+use Rattle.vcm_expr.specs.Digits.{read_of}
+use Rattle.vcm_expr.specs.NameBytes.{is_name}
+
+-- whether bytes are a variable's name: a name that begins with a letter
+abbrev pub is_variable_name : List ℕ → Bool
+is_variable_name [] = false
+is_variable_name (b ∷ bs) = is_ascii_uppercase b && is_name (b ∷ bs)
+
+-- the bytes are a variable's name
+abbrev pub IsVariableName : List ℕ → Type 0
+IsVariableName bs = is_variable_name bs ≡ true
+
+-- what digits mean, or the code of what is wrong with them
+abbrev pub number_term : Result Literal NumFault → Result Term FaultCode
+number_term (Ok x) = Ok (Figure x)
+number_term (Err BadNumber) = Err BadSyntax
+number_term (Err TooFine) = Err TooFineCode
+number_term (Err TooLarge) = Err NumberTooLarge
+
+-- what a run means: a name, outside macros as far as is known here, or a number
+abbrev pub run_term : List ℕ → Result Term FaultCode
+run_term bs = if is_variable_name bs then Ok (Variable bs 0) else number_term (read_of bs)
+
+-- what a dotted word is
+abbrev pub dotted_symbol : List ℕ → Symbol
+dotted_symbol bs =
+    if bytes_eq bs (codes ".EQ.") then RelationWord Equal
+    else if bytes_eq bs (codes ".NE.") then RelationWord NotEqual
+    else if bytes_eq bs (codes ".LT.") then RelationWord Less
+    else if bytes_eq bs (codes ".LE.") then RelationWord LessEqual
+    else if bytes_eq bs (codes ".GT.") then RelationWord Greater
+    else if bytes_eq bs (codes ".GE.") then RelationWord GreaterEqual
+    else if bytes_eq bs (codes ".NOT.") then NotWord
+    else if bytes_eq bs (codes ".AND.") then AndWord
+    else if bytes_eq bs (codes ".OR.") then OrWord
+    else if bytes_eq bs (codes ".TRUE.") then Operand (Ok (Truth true))
+    else if bytes_eq bs (codes ".FALSE.") then Operand (Ok (Truth false))
+    else Other
+
+-- what a word of a statement is in an expression
+abbrev pub symbol_of : Lexeme → Symbol
+symbol_of (Run bs) = Operand (run_term bs)
+symbol_of (Number bs) = Operand (number_term (read_of bs))
+symbol_of (Dotted bs) = dotted_symbol bs
+symbol_of (Quoted t) = Other
+symbol_of SlashMark = Slash
+symbol_of Comma = Other
+symbol_of Equals = Other
+symbol_of Open = Opening
+symbol_of Close = Closing
+symbol_of Plus = Cross
+symbol_of Minus = Dash
+symbol_of StarMark = Star
+symbol_of OtherMark = Other
+
+-- what the words of a statement are, one by one
+abbrev pub symbols_of : List Lexeme → List Symbol
+symbols_of ws = map symbol_of ws

@@ -1,0 +1,20 @@
+-- Symbols that are only looked at.
+use Rattle.std.specs.Prelude.{⊤, List, [], ◌∷◌}
+use Rattle.vcm_expr.specs.declared.symbol.Symbol.{Symbol}
+use Rattle.vcm_expr.specs.declared.symbol.Symbol.TheVariants.{Operand, Dash, Cross, Star, Slash, NotWord, AndWord, OrWord, RelationWord, Opening, Closing, Other}
+
+-- no mark stands first: nothing does, or an operand
+abbrev pub NoMark : List Symbol → Type 0
+NoMark [] = ⊤
+NoMark (Operand t ∷ ps) = ⊤
+NoMark (Dash ∷ ps) = ⊥
+NoMark (Cross ∷ ps) = ⊥
+NoMark (Star ∷ ps) = ⊥
+NoMark (Slash ∷ ps) = ⊥
+NoMark (NotWord ∷ ps) = ⊥
+NoMark (AndWord ∷ ps) = ⊥
+NoMark (OrWord ∷ ps) = ⊥
+NoMark (RelationWord r ∷ ps) = ⊥
+NoMark (Opening ∷ ps) = ⊥
+NoMark (Closing ∷ ps) = ⊥
+NoMark (Other ∷ ps) = ⊥

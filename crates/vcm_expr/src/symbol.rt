@@ -1,0 +1,185 @@
+//! The words of an expression.
+
+ghost use Rattle.std.specs.Prelude.{◌≡◌, ◌∷◌, [], true, MatchOption, IfSome, IfNone, Ok};
+ghost use Rattle.vcm_num.specs.Literals.{Reads};
+ghost use Rattle.vcm_lines.specs.Lexemes.{lexeme};
+ghost use Rattle.vcm_expr.specs.Symbols.{is_variable_name, number_term, run_term, dotted_symbol, symbol_of};
+ghost use Rattle.vcm_expr.specs.Digits.{read_of};
+ghost use Rattle.vcm_expr.specs.NameBytes.{IsName};
+
+use crate::expression::Term;
+use crate::name::{Name, is_name};
+use std::marker::Model;
+use vcm_lines::{FaultCode, Phrase, Token};
+use vcm_num::{Literal, NumFault, is, read_number};
+use vcm_spec::Relation;
+
+/// A word of an expression.
+#[derive(Drop)]
+pub enum Symbol {
+    /// A number, a truth value or a name; or digits that are no number, and why.
+    Operand(Result<Term, FaultCode>),
+    /// `-`, before an expression or between two.
+    Dash,
+    /// `+`, before an expression or between two.
+    Cross,
+    /// `*`
+    Star,
+    /// `/`
+    Slash,
+    /// `.NOT.`
+    NotWord,
+    /// `.AND.`
+    AndWord,
+    /// `.OR.`
+    OrWord,
+    /// `.EQ.` and its like.
+    RelationWord(Relation),
+    /// `(`
+    Opening,
+    /// `)`
+    Closing,
+    /// A word that stands in no expression.
+    Other,
+}
+
+/// Whether bytes are a variable's name: a name that begins with a letter.
+pub fn is_variable_name(bytes: &[u8]) -> bool
+    ensures value { result ≡ is_variable_name bytes.now }
+    ensures name { result ≡ true → IsName bytes.now }
+{
+    match bytes {
+        [] => false,
+        [first, ..] => first.is_ascii_uppercase() && is_name(bytes),
+    }
+}
+
+/// What digits mean, or the code of what is wrong with them.
+fn number_term(read: Result<Literal, NumFault>) -> Result<Term, FaultCode>
+    ensures { result ≡ number_term read }
+{
+    match read {
+        Ok(literal) => Ok(Term::Number(literal)),
+        Err(NumFault::BadNumber) => Err(FaultCode::BadSyntax),
+        Err(NumFault::TooFine) => Err(FaultCode::TooFine),
+        Err(NumFault::TooLarge) => Err(FaultCode::NumberTooLarge),
+    }
+}
+
+/// What a number means.
+#[tactic(auto, using(crate::proofs::NumberReading::read_is))]
+fn digits_term(bytes: &[u8]) -> Result<Term, FaultCode>
+    ensures { result ≡ number_term (read_of bytes.now) }
+{
+    number_term(read_number(bytes))
+}
+
+/// What a run means: a name or a number.
+fn run_term(bytes: &[u8]) -> Result<Term, FaultCode>
+    ensures { result ≡ run_term bytes.now }
+{
+    if is_variable_name(bytes) {
+        Ok(Term::Variable(Name::new(bytes), 0))
+    } else {
+        digits_term(bytes)
+    }
+}
+
+/// What a dotted word is.
+fn dotted_symbol(bytes: &[u8]) -> Symbol
+    ensures { result ≡ dotted_symbol bytes.now }
+{
+    if is(bytes, b".EQ.") {
+        Symbol::RelationWord(Relation::Equal)
+    } else if is(bytes, b".NE.") {
+        Symbol::RelationWord(Relation::NotEqual)
+    } else if is(bytes, b".LT.") {
+        Symbol::RelationWord(Relation::Less)
+    } else if is(bytes, b".LE.") {
+        Symbol::RelationWord(Relation::LessEqual)
+    } else if is(bytes, b".GT.") {
+        Symbol::RelationWord(Relation::Greater)
+    } else if is(bytes, b".GE.") {
+        Symbol::RelationWord(Relation::GreaterEqual)
+    } else if is(bytes, b".NOT.") {
+        Symbol::NotWord
+    } else if is(bytes, b".AND.") {
+        Symbol::AndWord
+    } else if is(bytes, b".OR.") {
+        Symbol::OrWord
+    } else if is(bytes, b".TRUE.") {
+        Symbol::Operand(Ok(Term::Truth(true)))
+    } else if is(bytes, b".FALSE.") {
+        Symbol::Operand(Ok(Term::Truth(false)))
+    } else {
+        Symbol::Other
+    }
+}
+
+/// What a word of a statement is in an expression.
+fn symbol_of(token: Token<'_>) -> Symbol
+    ensures { result ≡ symbol_of (lexeme token.entry) }
+{
+    match token {
+        Token::Run(bytes) => Symbol::Operand(run_term(bytes)),
+        Token::Number(bytes) => Symbol::Operand(digits_term(bytes)),
+        Token::Dotted(bytes) => dotted_symbol(bytes),
+        Token::Minus => Symbol::Dash,
+        Token::Plus => Symbol::Cross,
+        Token::Star => Symbol::Star,
+        Token::Slash => Symbol::Slash,
+        Token::Open => Symbol::Opening,
+        Token::Close => Symbol::Closing,
+        Token::Quoted(_) | Token::Comma | Token::Equals | Token::Other => Symbol::Other,
+    }
+}
+
+/// Words that are read as an expression. Contracts see them as a list of `Symbol`s.
+#[derive(Drop)]
+pub(crate) struct Symbols<'a> {
+    words: Phrase<'a>,
+}
+
+impl<'a> Model for Symbols<'a> {
+    ghost use Rattle.std.specs.Prelude.{List};
+    ghost use Rattle.vcm_expr.specs.Symbols.{symbols_of};
+    ghost use Rattle.vcm_expr.specs.declared.symbol.Symbol.{Symbol};
+
+    ghost Value = { List Symbol };
+
+    ghost view = { λ p. symbols_of p.words };
+}
+
+impl<'a> Symbols<'a> {
+    ghost use Rattle.vcm_expr.specs.Symbols.{symbols_of};
+    ghost use Rattle.vcm_expr.specs.inner.Marks.{NoMark};
+
+    /// The words, as symbols of an expression.
+    pub(crate) fn new(words: Phrase<'a>) -> Symbols<'a>
+        ensures { result ≡ symbols_of words.entry }
+    {
+        Symbols { words }
+    }
+
+    /// The first word where it is a mark or a dotted word, and those after it. A name or a number is not looked into.
+    #[inline(always)]
+    pub(crate) fn split_mark(&self) -> Option<(Symbol, Symbols<'a>)>
+        ensures some { IfSome result (λ r. self.now ≡ r.0 ∷ r.1) }
+        ensures none { IfNone result (NoMark self.now) }
+    {
+        match self.words.split_first() {
+            None | Some((Token::Run(_) | Token::Number(_), _)) => None,
+            Some((token, words)) => Some((symbol_of(token), Symbols { words })),
+        }
+    }
+
+    /// The first word, and those after it.
+    pub(crate) fn split_first(&self) -> Option<(Symbol, Symbols<'a>)>
+        ensures { MatchOption result (self.now ≡ []) (λ r. self.now ≡ r.0 ∷ r.1) }
+    {
+        match self.words.split_first() {
+            None => None,
+            Some((token, words)) => Some((symbol_of(token), Symbols { words })),
+        }
+    }
+}

@@ -1,0 +1,42 @@
+-- Where the parts of an image begin.
+use Rattle.std.specs.Prelude.{◌≡◌, ℕ, ◌≤◌, ◌++◌, List, [], ◌∷◌, length, drop, Result, Ok, Err}
+use Rattle.vcm_code.specs.declared.code.Code.{Code}
+use Rattle.vcm_fields.specs.declared.fault.ImageFault.{ImageFault}
+use Rattle.vcm_fields.specs.Readers.{Reader, times, entry_at, name_at, line_at}
+use Rattle.vcm_image.specs.Whole.{Fits, code_at}
+
+-- the code that the bytes spell, or an empty one
+abbrev pub code_or_none : Result Code ImageFault → Code
+code_or_none (Ok c) = c
+code_or_none (Err e) = record { tables = record { variables = []; features = []; frames = [] }; statements = [] }
+
+-- the code of an image
+abbrev pub code_in : List ℕ → Code
+code_in bytes = code_or_none (code_at bytes)
+
+-- these bytes stand at the end of the whole
+abbrev pub IsEnd : List ℕ → List ℕ → Type 0
+IsEnd whole bytes = (front : List ℕ) × (whole ≡ front ++ bytes)
+
+-- where each of these values begins
+abbrev pub Begin : {A : Type 0} → Reader A → List ℕ → List ℕ → List A → Type 0
+Begin a whole [] [] = Unit {0}
+Begin a whole [] (x ∷ xs) = ⊥
+Begin a whole (o ∷ os) [] = ⊥
+Begin a whole (o ∷ os) (x ∷ xs) = ((o ≤ length whole) × ((rest : List ℕ) × (a (drop o whole) ≡ Ok (x, rest)))) × Begin a whole os xs
+
+-- the values that were read, where each of them begins, and the bytes after them
+pub record Table {A : Type 0} (a : Reader A) (count : ℕ) (whole bytes starts rest : List ℕ) : Type 0 where
+  pub values : List A
+  pub is : times a count bytes ≡ Ok (values, rest)
+  pub begin : Begin a whole starts values
+  pub end : IsEnd whole rest
+
+-- the bytes spell a code, and its parts begin at these places
+pub record Indexed (bytes variables features frames statements : List ℕ) : Type 0 where
+  pub is : code_at bytes ≡ Ok (code_in bytes)
+  pub fits : Fits (code_in bytes)
+  pub variables_begin : Begin entry_at bytes variables (code_in bytes).tables.variables
+  pub features_begin : Begin name_at bytes features (code_in bytes).tables.features
+  pub frames_begin : Begin name_at bytes frames (code_in bytes).tables.frames
+  pub statements_begin : Begin line_at bytes statements (code_in bytes).statements

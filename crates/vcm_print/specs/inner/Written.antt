@@ -1,0 +1,66 @@
+-- The bytes of a listing, as they are written: a blank in front of each word.
+use Rattle.std.specs.Prelude.{ℕ, List, [], ◌∷◌, ◌++◌, flat_map, codes, decimal}
+use Rattle.vcm_num.specs.declared.number.Kind.{Kind}
+use Rattle.vcm_spec.specs.declared.expression.Item.{Item}
+use Rattle.vcm_fields.specs.Parts.{Line}
+use Rattle.vcm_fields.specs.Words.{word_of}
+use Rattle.vcm_words.specs.Items.{item_text}
+use Rattle.vcm_words.specs.Operands.{direction_text, setting_text, source_text, turn_text, word_text}
+use Rattle.vcm_words.specs.Rows.{ListRow, text_of, numbered, kind_text}
+use Rattle.vcm_print.specs.declared.part.Part.TheVariants.{Nothing, Variable, Feature, Frame, Pair, Target, Number, Turn, Direction, Setting, Source, Items, Three, Text}
+use Rattle.vcm_print.specs.inner.Parts.{Piece, parts}
+
+-- items behind the first one, with a blank in front of each
+abbrev pub more_items : List Item → List ℕ
+more_items items = flat_map (λ i. 32 ∷ item_text i) items
+
+-- an expression with a blank in front of it
+abbrev pub items_bytes : List Item → List ℕ
+items_bytes [] = codes " []"
+items_bytes (i ∷ is) = (codes " [" ++ item_text i) ++ (more_items is ++ codes "]")
+
+-- three expressions, with a blank in front of each
+abbrev pub three_bytes : List Item → List Item → List Item → List ℕ
+three_bytes x y z = items_bytes x ++ (items_bytes y ++ items_bytes z)
+
+-- a part with a blank in front of each of its words
+unfoldable pub part_bytes : Piece → List ℕ
+part_bytes Nothing = []
+part_bytes (Variable n) = 32 ∷ 86 ∷ decimal n
+part_bytes (Feature n) = 32 ∷ 70 ∷ decimal n
+part_bytes (Frame n) = 32 ∷ 68 ∷ decimal n
+part_bytes (Pair n) = 32 ∷ 76 ∷ decimal n
+part_bytes (Target n) = 32 ∷ 64 ∷ decimal n
+part_bytes (Number n) = 32 ∷ decimal n
+part_bytes (Turn axis) = 32 ∷ turn_text axis
+part_bytes (Direction toward) = 32 ∷ direction_text toward
+part_bytes (Setting which) = 32 ∷ setting_text which
+part_bytes (Source which) = 32 ∷ source_text which
+part_bytes (Items items) = items_bytes items
+part_bytes (Three x y z) = three_bytes x y z
+part_bytes (Text bs) = codes " '" ++ (bs ++ codes "'")
+
+-- parts, one behind the other
+abbrev pub parts_bytes : List Piece → List ℕ
+parts_bytes ps = flat_map part_bytes ps
+
+-- the number of a statement, its source line, and its word
+abbrev pub head_bytes : ℕ → Line → List ℕ
+head_bytes n s = decimal n ++ (32 ∷ decimal s.line ++ (32 ∷ word_text (word_of s.op)))
+
+-- a statement's line and its end
+abbrev pub statement_bytes : ℕ → Line → List ℕ
+statement_bytes n s = head_bytes n s ++ (parts_bytes (parts s.op) ++ codes "\n")
+
+-- a variable's line and its end
+abbrev pub variable_bytes : ℕ → Kind → List ℕ → ℕ → List ℕ
+variable_bytes n kind name expansion =
+    codes "VAR " ++ (decimal n ++ (32 ∷ kind_text kind ++ (32 ∷ name ++ (32 ∷ decimal expansion ++ codes "\n"))))
+
+-- a line of a heading, an index and a name, and its end
+abbrev pub name_bytes : List ℕ → ℕ → List ℕ → List ℕ
+name_bytes heading n name = heading ++ (decimal n ++ (32 ∷ name ++ codes "\n"))
+
+-- lines of the listing and their ends, each with its index, the first one being n
+abbrev pub lines : {A : Type 0} → (ℕ → A → ListRow) → ℕ → List A → List ℕ
+lines f n xs = text_of (numbered f n xs)

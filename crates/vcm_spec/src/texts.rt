@@ -1,0 +1,29 @@
+//! The bytes of output lines.
+
+ghost use Rattle.std.specs.Prelude.{◌≡◌};
+ghost use Rattle.std.specs.List.{list_all};
+ghost use Rattle.vcm_spec.specs.TextBytes.{is_text_byte, is_text};
+
+/// The most bytes of a text.
+const LONGEST: usize = 1024;
+
+// Whether a byte may stand in a text.
+fn is_text_byte(byte: u8) -> bool
+    ensures { result ≡ is_text_byte byte }
+{
+    byte == b'\t' || (32 <= byte && byte != b'\'' && byte != 127)
+}
+
+/// Whether all of these bytes may stand in a text.
+pub fn are_text_bytes(bytes: &[u8]) -> bool
+    ensures { result ≡ list_all is_text_byte bytes.now }
+{
+    bytes.iter().all(|byte| is_text_byte(*byte))
+}
+
+/// Whether bytes are a text: at most 1,024, each the tab or one from 32 to 255 but the apostrophe and 127.
+pub fn is_text(bytes: &[u8]) -> bool
+    ensures { result ≡ is_text bytes.now }
+{
+    bytes.len() <= LONGEST && are_text_bytes(bytes)
+}
