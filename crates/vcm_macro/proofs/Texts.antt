@@ -10,10 +10,10 @@ use Rattle.vcm_syntax.specs.declared.statement.Argument.{Argument}
 use Rattle.vcm_syntax.specs.declared.statement.Form.{Form}
 use Rattle.vcm_syntax.specs.declared.statement.Form.TheVariants.{Macro, MacroEnd, Call}
 use Rattle.vcm_syntax.specs.declared.statement.Statement.{Statement}
-use Rattle.vcm_macro.specs.Substitution.{is_same, outside, put_form, put_argument}
+use Rattle.vcm_macro.specs.Substitution.{is_same, outside, put_argument}
 use Rattle.vcm_macro.specs.Walk.{Defined, Place, Opens, Inside, Stands, calls_in, call_in, text_from, walk_from, with_statement}
 use Rattle.vcm_macro.specs.Rules.{kept, weigh}
-use Rattle.vcm_macro.specs.inner.Expanding.{Done, Walked, TellsFirst, found, IsFoundAt, is_macro_end, inside, size_of, begun, macro_of, behind_macro, defines, IsNew, IsRead, stands}
+use Rattle.vcm_macro.specs.inner.Expanding.{Done, Walked, TellsFirst, found, IsFoundAt, is_macro_end, inside, size_of, begun, macro_of, behind_macro, defines, IsNew, IsRead}
 use Rattle.vcm_macro.proofs.Walks.{walked_none, walked_more, told_front, told_more}
 
 -- a macro with more statements
@@ -52,12 +52,12 @@ call_is ms done s ss name bs e = ap (λ (f : Form). text_from (reverse ms) None 
 -- any other statement
 pub other_is : (ms : List Defined) (done : ℕ) (s : Statement) (ss : List Statement) → ((name : List ℕ) (ps : List Parameter) → s.form ≡ Macro name ps → ⊥)
     → ((name : List ℕ) (bs : List Argument) → s.form ≡ Call name bs → ⊥)
-    → walk_from (reverse ms) None done (s ∷ ss) ≡ (stands outside s ∷ []) ++ walk_from (reverse ms) None (done + 0) ss
+    → walk_from (reverse ms) None done (s ∷ ss) ≡ (Stands 0 s ∷ []) ++ walk_from (reverse ms) None (done + 0) ss
 other_is ms done s ss no_macro no_call = by_form s.form no_macro no_call
   where
     by_form : (form : Form) → ((name : List ℕ) (ps : List Parameter) → form ≡ Macro name ps → ⊥) → ((name : List ℕ) (bs : List Argument) → form ≡ Call name bs → ⊥)
         → text_from (reverse ms) None done s form (λ ns m k. walk_from ns m k ss)
-        ≡ (Stands 0 (record { line = s.line; form = put_form outside form }) ∷ []) ++ walk_from (reverse ms) None (done + 0) ss
+        ≡ (Stands 0 s ∷ []) ++ walk_from (reverse ms) None (done + 0) ss
     by_form (Macro name ps) a b = absurd (a name ps refl)
     by_form (Call name bs) a b = absurd (b name bs refl)
     by_form _ a b = refl
@@ -108,15 +108,15 @@ call_told ms old s ss name bs written f is same (inr t) =
 
 -- any other statement is read
 pub other_read : (ms : List Defined) (old new : Done) (s : Statement) (ss : List Statement) → ((name : List ℕ) (ps : List Parameter) → s.form ≡ Macro name ps → ⊥)
-    → ((name : List ℕ) (bs : List Argument) → s.form ≡ Call name bs → ⊥) → Walked old new (stands outside s ∷ []) → IsRead ms old (s ∷ ss) ms new ss
+    → ((name : List ℕ) (bs : List Argument) → s.form ≡ Call name bs → ⊥) → Walked old new (Stands 0 s ∷ []) → IsRead ms old (s ∷ ss) ms new ss
 other_read ms old new s ss a b w =
-    record { places = stands outside s ∷ []; walked = w; is = other_is ms old.calls s ss a b ∙ ap (λ (n : ℕ). (stands outside s ∷ []) ++ walk_from (reverse ms) None n ss) (sym w.calls) }
+    record { places = Stands 0 s ∷ []; walked = w; is = other_is ms old.calls s ss a b ∙ ap (λ (n : ℕ). (Stands 0 s ∷ []) ++ walk_from (reverse ms) None n ss) (sym w.calls) }
 
 pub other_told : (ms : List Defined) (old : Done) (s : Statement) (ss : List Statement) (f : SourceFault) → ((name : List ℕ) (ps : List Parameter) → s.form ≡ Macro name ps → ⊥)
-    → ((name : List ℕ) (bs : List Argument) → s.form ≡ Call name bs → ⊥) → NoMemoryOr (TellsFirst old.count (stands outside s ∷ [])) f
+    → ((name : List ℕ) (bs : List Argument) → s.form ≡ Call name bs → ⊥) → NoMemoryOr (TellsFirst old.count (Stands 0 s ∷ [])) f
     → NoMemoryOr (TellsFirst old.count (walk_from (reverse ms) None old.calls (s ∷ ss))) f
 other_told ms old s ss f a b (inl e) = inl e
-other_told ms old s ss f a b (inr t) = inr (rw (other_is ms old.calls s ss a b) (told_front old.count (stands outside s ∷ []) _ f t))
+other_told ms old s ss f a b (inr t) = inr (rw (other_is ms old.calls s ss a b) (told_front old.count (Stands 0 s ∷ []) _ f t))
 
 -- ---- one part behind the other
 

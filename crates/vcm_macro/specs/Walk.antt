@@ -62,11 +62,16 @@ call_in (m ∷ ms) line depth done name args = elim (is_same m.name name) [
 abbrev pub with_statement : Defined → Statement → Defined
 with_statement m s = record { name = m.name; parameters = m.parameters; body = m.body ++ s ∷ [] }
 
+-- a statement outside macros, after so many CALLs: a CALL, or one that stands as it is written
+abbrev pub outside_in : Caller → ℕ → Statement → Form → List Place
+outside_in call done s (Call name args) = call s.line 1 done name (map (put_argument outside) args)
+outside_in call done s form = Stands 0 s ∷ []
+
 -- a statement of the text: outside macros, or inside the one that is open; then what goes on, behind these macros, with this one open, after
 -- so many CALLs
 abbrev pub text_from : List Defined → Option Defined → ℕ → Statement → Form → (List Defined → Option Defined → ℕ → List Place) → List Place
 text_from ms None done s (Macro name ps) on = Opens ms s ∷ on ms (Some (record { name = name; parameters = ps; body = [] })) done
-text_from ms None done s form on = behind (statement_in (call_in ms) outside 1 done s.line form) done (on ms None)
+text_from ms None done s form on = behind (outside_in (call_in ms) done s form) done (on ms None)
 text_from ms (Some m) done s MacroEnd on = Inside m s ∷ on (m ∷ ms) None done
 text_from ms (Some m) done s form on = Inside m s ∷ on ms (Some (with_statement m s)) done
 

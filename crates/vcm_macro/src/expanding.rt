@@ -53,7 +53,7 @@ fn enter(
     line: u32,
     depth: u32,
     written: &[Argument],
-    done: &mut Expansion,
+    done: &mut Expansion<'_>,
 ) -> Result<Vec<Argument>, SourceFault>
     ensures ok { IfOk result (λ a. a.items ≡ map (put_argument bindings.now) written.now) }
     ensures counted { OnOk result (done.new ≡ record { placed = done.old.placed; count = suc done.old.count; calls = suc done.old.calls }) }
@@ -82,7 +82,7 @@ pub(crate) fn call(
     depth: u32,
     name: &Name,
     written: &[Argument],
-    done: &mut Expansion,
+    done: &mut Expansion<'_>,
 ) -> Result<(), SourceFault>
     ensures ok { OnOk result (Walked done.old done.new (call_in (reverse macros.now) line depth done.old.calls name.now (map (put_argument bindings.now) written.now))) }
     ensures fault { IfErr result (NoMemoryOr (TellsFirst done.old.count (call_in (reverse macros.now) line depth done.old.calls name.now (map (put_argument bindings.now) written.now)))) }
@@ -111,7 +111,7 @@ fn body(
     bindings: &Bindings<'_>,
     depth: u32,
     statements: &[&Statement],
-    done: &mut Expansion,
+    done: &mut Expansion<'_>,
 ) -> Result<(), SourceFault>
     ensures ok { OnOk result (Walked done.old done.new (body_in (call_in (reverse macros.now)) bindings.now depth done.old.calls (referred statements.now))) }
     ensures fault { IfErr result (NoMemoryOr (TellsFirst done.old.count (body_in (call_in (reverse macros.now)) bindings.now depth done.old.calls (referred statements.now)))) }

@@ -3,13 +3,15 @@
 ghost use Rattle.std.specs.Prelude.{◌≡◌, ◌≤◌, ◌∷◌, [], suc, true, false, OnOk, IfErr};
 ghost use Rattle.vcm_lines.specs.Fault.{NoMemoryOr};
 ghost use Rattle.vcm_lines.specs.declared.fault.FaultCode.{FaultCode};
+ghost use Rattle.vcm_macro.specs.Walk.{Stands};
 ghost use Rattle.vcm_macro.specs.Rules.{is_full};
 ghost use Rattle.vcm_macro.specs.inner.Expanding.{Walked, TellsFirst, stands};
 
 use crate::bindings::Bindings;
 use crate::kept::is_kept;
-use crate::placed::Placed;
+use crate::placed::{Origin, Placed, Said};
 use crate::putting::put_form;
+use crate::small::are_small;
 use std::alloc::Global;
 use std::marker::Model;
 use vcm_lines::{FaultCode, SourceFault};
@@ -20,21 +22,22 @@ const MOST: u32 = 20000;
 
 /// What has been expanded. Contracts see it as a `Done`.
 #[derive(Drop)]
-pub(crate) struct Expansion {
-    placed: Vec<Placed>,
+pub(crate) struct Expansion<'a> {
+    placed: Vec<Placed<'a>>,
     count: u32,
     calls: u32,
 }
 
-impl Model for Expansion {
-    ghost use Rattle.std.specs.Prelude.{◌≤◌};
+impl<'a> Model for Expansion<'a> {
+    ghost use Rattle.std.specs.Prelude.{◌≤◌, []};
     ghost use Rattle.std.specs.Coded.{codes};
     ghost use Rattle.vcm_macro.specs.inner.Expanding.{Done};
+    ghost use mir.Syntax.{named};
     ghost use Rattle.vcm_macro.specs.contracts.placed.Placed as statement;
 
     ghost Value = { Done };
 
-    ghost coded = { Prim.hlevel (codes, statement.the_row.coded) };
+    ghost coded = { Prim.hlevel (codes, (statement.the_row (record { mir = named 1; lft = [] })).coded) };
 
     ghost view = { λ e. record { placed = e.placed.items; count = e.count; calls = e.calls } };
 
@@ -51,9 +54,9 @@ fn too_long(line: u32) -> SourceFault
     }
 }
 
-impl Expansion {
+impl<'a> Expansion<'a> {
     /// Nothing yet.
-    pub(crate) fn new(alloc: Global) -> Expansion
+    pub(crate) fn new(alloc: Global) -> Expansion<'a>
         ensures { result ≡ record { placed = []; count = 0; calls = 0 } }
     {
         Expansion {
@@ -64,9 +67,9 @@ impl Expansion {
     }
 
     /// The expanded statements.
-    pub(crate) fn into_placed(self) -> Vec<Placed>
-        ensures all { result.items ≡ self.placed }
-        ensures few { self.count ≤ 20000 }
+    pub(crate) fn into_placed(self) -> Vec<Placed<'a>>
+        ensures all { result.items ≡ self.entry.placed }
+        ensures few { self.entry.count ≤ 20000 }
     {
         self.placed
     }
@@ -105,7 +108,26 @@ impl Expansion {
         Ok(())
     }
 
-    /// A statement that is no call.
+    /// A statement outside macros that is no call.
+    pub(crate) fn stand_written(&mut self, statement: &'a Statement) -> Result<(), SourceFault>
+        ensures ok { OnOk result (Walked self.old self.new (Stands 0 statement.now ∷ [])) }
+        ensures fault { IfErr result (NoMemoryOr (TellsFirst self.old.count (Stands 0 statement.now ∷ []))) }
+    {
+        are_small(&statement.form);
+        if !is_kept(&statement.form) {
+            return Ok(());
+        }
+        self.count_statement(statement.line)?;
+        self.placed.push(Placed {
+            statement: Said {
+                origin: Origin::Written(statement),
+            },
+            expansion: 0,
+        })?;
+        Ok(())
+    }
+
+    /// A statement of a macro that is no call.
     pub(crate) fn stand(
         &mut self,
         alloc: Global,
@@ -122,7 +144,8 @@ impl Expansion {
         self.count_statement(line)?;
         let form = put_form(alloc, line, bindings, &statement.form)?;
         let expansion = bindings.expansion();
-        let statement = Statement { line, form };
+        let origin = Origin::Put(Statement { line, form });
+        let statement = Said { origin };
         self.placed.push(Placed {
             statement,
             expansion,

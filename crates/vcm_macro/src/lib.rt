@@ -14,6 +14,7 @@ mod order;
 mod parameters;
 mod placed;
 mod putting;
+mod small;
 mod text;
 
 pub use placed::Placed;

@@ -57,7 +57,7 @@ fn behind(statements: &[Statement], size: usize) -> &[Statement]
 fn read<'a>(
     alloc: Global,
     macros: &mut Vec<Definition<'a>>,
-    done: &mut Expansion,
+    done: &mut Expansion<'a>,
     statement: &'a Statement,
     others: &'a [Statement],
 ) -> Result<&'a [Statement], SourceFault>
@@ -81,14 +81,14 @@ fn read<'a>(
             Ok(others)
         }
         _ => {
-            done.stand(alloc, &outside, statement)?;
+            done.stand_written(statement)?;
             Ok(others)
         }
     }
 }
 
 /// The expanded program, whose statements stand in order, or the first fault of its macros.
-fn expanded(alloc: Global, statements: &[Statement]) -> Result<Vec<Placed>, SourceFault>
+fn expanded<'a>(alloc: Global, statements: &'a [Statement]) -> Result<Vec<Placed<'a>>, SourceFault>
     ensures clean { IfOk result (λ _. IsClean BreaksMacros (walk statements.now)) }
     ensures ok { IfOk result (λ all. all.items ≡ kept (walk statements.now)) }
     ensures few { IfOk result (λ all. length all.items ≤ 20000) }
@@ -109,7 +109,10 @@ fn expanded(alloc: Global, statements: &[Statement]) -> Result<Vec<Placed>, Sour
 /// # Errors
 ///
 /// The first fault of the first phase that has one, that of the order of statements or that of macros. Want of memory.
-pub fn expand(alloc: Global, statements: &[Statement]) -> Result<Vec<Placed>, SourceFault>
+pub fn expand<'a>(
+    alloc: Global,
+    statements: &'a [Statement],
+) -> Result<Vec<Placed<'a>>, SourceFault>
     ensures ok { IfOk result (λ all. IsExpanded statements.now all.items) }
     ensures few { IfOk result (λ all. length all.items ≤ 20000) }
     ensures fault { IfErr result (NoMemoryOr (IsRefused statements.now)) }

@@ -15,7 +15,7 @@ use Rattle.vcm_macro.specs.Expansion.{IsExpanded}
 use Rattle.vcm_macro.specs.Order.{nothing_before, is_ending, is_open_behind, order_after, wants_units, is_misplaced, BreaksOrder}
 use Rattle.vcm_macro.specs.Rules.{is_there, is_kept, one_if, is_full, weight, weigh, kept, BreaksBehind, BreaksMacros}
 use Rattle.vcm_macro.specs.Substitution.{Scope, outside, is_same, put_argument}
-use Rattle.vcm_macro.specs.Walk.{Defined, Place, Opens, Inside, Stands, Calls, calls_in, Caller, statement_in, body_in, call_in, with_statement, text_from, walk_from, walk}
+use Rattle.vcm_macro.specs.Walk.{Defined, Place, Opens, Inside, Stands, Calls, calls_in, Caller, statement_in, body_in, call_in, with_statement, text_from, walk_from, walk, outside_in}
 use Rattle.std.proofs.lemmas.List.{append-nil}
 use Rattle.vcm_macro.proofs.Orders.{order_push}
 use Rattle.vcm_macro.proofs.Phases.{kept_few}
@@ -103,13 +103,22 @@ call_lettered (m ∷ ms) h line depth done name args = by_name (is_same m.name n
     by_name true g c = body_lettered (call_in ms) (record { parameters = m.parameters; arguments = args; expansion = suc done }) (suc depth) (suc done) m.body c g
     by_name false g c = c line depth done name args
 
+-- a statement outside macros stays as it is
+stands_lettered : (s : Statement) (b : Bool) → DeclaresLettered s.form → AllLettered ((if b then record { statement = s; expansion = 0 } ∷ [] else []) ++ [])
+stands_lettered s true h = (h, tt)
+stands_lettered s false h = tt
+
+outside_lettered : (call : Caller) (done : ℕ) (s : Statement) (form : Form) → CallsLettered call → DeclaresLettered s.form → LeavesLettered (outside_in call done s form)
+outside_lettered call done s (Call name args) c h = c s.line 1 done name (map (put_argument outside) args)
+outside_lettered call done s _ c h = stands_lettered s (is_kept s.form) h
+
 text_lettered : (ms : List Defined) (current : Option Defined) (done : ℕ) (s : Statement) (form : Form) (on : List Defined → Option Defined → ℕ → List Place) → BodiesLettered ms
     → OpenLettered current → DeclaresLettered form → DeclaresLettered s.form
     → ((ns : List Defined) (m : Option Defined) (n : ℕ) → BodiesLettered ns → OpenLettered m → LeavesLettered (on ns m n)) → LeavesLettered (text_from ms current done s form on)
 text_lettered ms None done s (Macro name ps) on h o d e go = go ms (Some (record { name = name; parameters = ps; body = [] })) done h tt
 text_lettered ms None done s form on h o d e go =
-    let here = statement_in (call_in ms) outside 1 done s.line form in
-    left_append here (on ms None (done + calls_in here)) (statement_lettered (call_in ms) outside 1 done s.line form (call_lettered ms h) d) (go ms None (done + calls_in here) h tt)
+    let here = outside_in (call_in ms) done s form in
+    left_append here (on ms None (done + calls_in here)) (outside_lettered (call_in ms) done s form (call_lettered ms h) e) (go ms None (done + calls_in here) h tt)
 text_lettered ms (Some m) done s MacroEnd on h o d e go = go (m ∷ ms) None done (o, h) tt
 text_lettered ms (Some m) done s form on h o d e go = go ms (Some (with_statement m s)) done h (one_more m.body s o e)
 
@@ -171,7 +180,7 @@ goes_on : (ms : List Defined) (current : Option Defined) (done : ℕ) (s : State
 goes_on ms None done s (Macro name ps) on =
     record { places = Opens ms s ∷ []; macros = ms; current = Some (record { name = name; parameters = ps; body = [] }); calls = done; is = refl; opens = refl }
 goes_on ms None done s form on =
-    let here = statement_in (call_in ms) outside 1 done s.line form in
+    let here = outside_in (call_in ms) done s form in
     record { places = here; macros = ms; current = None; calls = done + calls_in here; is = refl; opens = refl }
 goes_on ms (Some m) done s MacroEnd on = record { places = Inside m s ∷ []; macros = m ∷ ms; current = None; calls = done; is = refl; opens = refl }
 goes_on ms (Some m) done s form on = record { places = Inside m s ∷ []; macros = ms; current = Some (with_statement m s); calls = done; is = refl; opens = refl }
@@ -206,8 +215,8 @@ ended_here : (ms : List Defined) (current : Option Defined) (done : ℕ) (s : St
     → is_ended (kept (walk_from ms current done (s ∷ ss))) ≡ true
 ended_here ms (Some m) done s ss c f e = absurd cc
 ended_here ms None done s ss c f e =
-    ap (λ (form : Form). is_ended (kept (text_from ms None done s form (λ ns m n. walk_from ns m n ss)))) f
-    ∙ ap (λ (l : List Statement). is_ended (kept (text_from ms None done s Ending (λ ns m n. walk_from ns m n l)))) e
+    ap (λ (form : Form). is_ended (kept (text_from ms None done (record { line = s.line; form = form }) form (λ ns m n. walk_from ns m n ss)))) f
+    ∙ ap (λ (l : List Statement). is_ended (kept (text_from ms None done (record { line = s.line; form = Ending }) Ending (λ ns m n. walk_from ns m n l)))) e
 
 ended_by : (ms : List Defined) (current : Option Defined) (done : ℕ) (before : List Statement) (s : Statement) (ss : List Statement) (b : Bool) → is_ending s.form ≡ b
     → is_there current ≡ (order_after nothing_before before).opened → (order_after nothing_before before).ended ≡ false → InOrder before (s ∷ ss)

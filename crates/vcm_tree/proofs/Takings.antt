@@ -27,7 +27,7 @@ counted_told line b ex form r f e (inl none) = inl none
 counted_told line b ex form r f e (inr p) = inr (p.0, e ∙ ap counts p.1)
 
 -- a refusal of a simple statement is one of its meaning
-pub acted_told : (s : Placed) (b : Behind) (f : SourceFault) → NoMemoryOr (ActedAt s b) f → NoMemoryOr (ToldAt s.statement.line (stated b s.expansion s.statement.form)) f
+pub acted_told : (s : Placed) (b : Behind) (f : SourceFault) → NoMemoryOr (ActedAt s.statement b) f → NoMemoryOr (ToldAt s.statement.line (stated b s.expansion s.statement.form)) f
 acted_told s b f (inl none) = inl none
 acted_told s b f (inr p) = inr (p.0, ap (stated_by b s.expansion s.statement.form) p.1)
 
@@ -51,7 +51,7 @@ module _ (s : Placed) (old new : Progress) where
   }
 
   -- a simple statement, which stands behind what is read of its names
-  pub simple_takes : (mid : Progress) (what : Simple Tree) → ActsSo s old mid what → Reads (Ok (Does what)) s.statement.line mid.builder new.builder → new.names ≡ mid.names
+  pub simple_takes : (mid : Progress) (what : Simple Tree) → ActsSo s.statement old mid what → Reads (Ok (Does what)) s.statement.line mid.builder new.builder → new.names ≡ mid.names
       → new.labels ≡ mid.labels → measured_of new ≡ measured_of mid → TakesStated s old new
   simple_takes mid what acts reads names labels measures =
       counted_takes (Ok (Does what)) (ap (stated_by (behind_of old) s.expansion s.statement.form) acts.is) (subst (λ b. Reads (Ok (Does what)) s.statement.line b new.builder) acts.builder reads)

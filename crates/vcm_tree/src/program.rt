@@ -82,7 +82,7 @@ fn noted(alloc: Global, written: &[Statement]) -> Result<Vec<Noticed>, AllocErro
 pub(crate) fn drafted(
     alloc: Global,
     written: &[Statement],
-    all: &[Placed],
+    all: &[Placed<'_>],
 ) -> Result<Draft, SourceFault>
     requires ended { IsTrue (is_ended all.now) }
     ensures clean { IfOk result (λ _. IsClean BreaksNames all.now) }
@@ -99,7 +99,7 @@ pub(crate) fn drafted(
         builder: Builder::new(alloc),
     };
     for placed in all {
-        take(alloc, &mut read, placed)?;
+        take(alloc, &mut read, placed.statement(), placed.expansion)?;
     }
     let notices = noted(alloc, written)?;
     let names = Listing {

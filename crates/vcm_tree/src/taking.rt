@@ -17,8 +17,7 @@ use crate::titles::Titles;
 use std::alloc::Global;
 use vcm_expr::Names;
 use vcm_lines::SourceFault;
-use vcm_macro::Placed;
-use vcm_syntax::{Form, Message};
+use vcm_syntax::{Form, Message, Statement};
 
 /// What is read of a program: its variables, its features and frames, its jump labels, its blocks, and whether the `MEAS` block that is open
 /// has its `PTMEAS`.
@@ -46,27 +45,37 @@ fn is_barred(form: &Form) -> bool
 }
 
 /// Reads one statement more.
-pub(crate) fn take(alloc: Global, read: &mut Progress, placed: &Placed) -> Result<(), SourceFault>
-    ensures ok { OnOk result (Takes placed.now read.old read.new) }
-    ensures fault { IfErr result (NoMemoryOr (ToldAt placed.now.statement.line (resolved_here (behind_of read.old) placed.now))) }
+pub(crate) fn take(
+    alloc: Global,
+    read: &mut Progress,
+    statement: &Statement,
+    expansion: u32,
+) -> Result<(), SourceFault>
+    ensures ok { OnOk result (Takes (record { statement = statement.now; expansion = expansion }) read.old read.new) }
+    ensures fault { IfErr result (NoMemoryOr (ToldAt statement.now.line (resolved_here (behind_of read.old) (record { statement = statement.now; expansion = expansion })))) }
 {
-    if read.builder.measuring().is_some() && is_barred(&placed.statement.form) {
-        return Err(bad_body(placed.statement.line));
+    if read.builder.measuring().is_some() && is_barred(&statement.form) {
+        return Err(bad_body(statement.line));
     }
-    take_stated(alloc, read, placed)
+    take_stated(alloc, read, statement, expansion)
 }
 
 // Reads one statement more where it may stand.
-fn take_stated(alloc: Global, read: &mut Progress, placed: &Placed) -> Result<(), SourceFault>
-    ensures ok { OnOk result (TakesStated placed.now read.old read.new) }
-    ensures fault { IfErr result (NoMemoryOr (ToldAt placed.now.statement.line (stated (behind_of read.old) placed.now.expansion placed.now.statement.form))) }
+fn take_stated(
+    alloc: Global,
+    read: &mut Progress,
+    statement: &Statement,
+    expansion: u32,
+) -> Result<(), SourceFault>
+    ensures ok { OnOk result (TakesStated (record { statement = statement.now; expansion = expansion }) read.old read.new) }
+    ensures fault { IfErr result (NoMemoryOr (ToldAt statement.now.line (stated (behind_of read.old) expansion statement.now.form))) }
 {
-    match simple(alloc, read, placed)? {
+    match simple(alloc, read, statement)? {
         Some(action) => {
-            read.builder.act(placed.statement.line, action)?;
+            read.builder.act(statement.line, action)?;
             Ok(())
         }
-        None => take_structured(alloc, read, placed),
+        None => take_structured(alloc, read, statement, expansion),
     }
 }
 
@@ -74,14 +83,14 @@ fn take_stated(alloc: Global, read: &mut Progress, placed: &Placed) -> Result<()
 fn simple(
     alloc: Global,
     read: &mut Progress,
-    placed: &Placed,
+    statement: &Statement,
 ) -> Result<Option<Action>, SourceFault>
-    ensures ok { IfOk result (Acts placed.now read.old read.new) }
-    ensures fault { IfErr result (NoMemoryOr (ActedAt placed.now (behind_of read.old))) }
+    ensures ok { IfOk result (Acts statement.now read.old read.new) }
+    ensures fault { IfErr result (NoMemoryOr (ActedAt statement.now (behind_of read.old))) }
 {
-    let line = placed.statement.line;
+    let line = statement.line;
     let names = &read.names;
-    match &placed.statement.form {
+    match &statement.form {
         Form::Assignment(target, value) => Ok(Some(assign(alloc, line, names, target, value)?)),
         Form::Move(place) => Ok(Some(go_to(alloc, line, names, place)?)),
         Form::Home => Ok(Some(Action::GoHome)),
@@ -126,21 +135,20 @@ fn simple(
 }
 
 // Reads a statement that isn't simple.
-fn take_structured(alloc: Global, read: &mut Progress, placed: &Placed) -> Result<(), SourceFault>
-    requires { acted (behind_of read.old) placed.now.statement.form ≡ None }
-    ensures ok { OnOk result (TakesStated placed.now read.old read.new) }
-    ensures fault { IfErr result (NoMemoryOr (ToldAt placed.now.statement.line (stated (behind_of read.old) placed.now.expansion placed.now.statement.form))) }
+fn take_structured(
+    alloc: Global,
+    read: &mut Progress,
+    statement: &Statement,
+    expansion: u32,
+) -> Result<(), SourceFault>
+    requires { acted (behind_of read.old) statement.now.form ≡ None }
+    ensures ok { OnOk result (TakesStated (record { statement = statement.now; expansion = expansion }) read.old read.new) }
+    ensures fault { IfErr result (NoMemoryOr (ToldAt statement.now.line (stated (behind_of read.old) expansion statement.now.form))) }
 {
-    let line = placed.statement.line;
-    match &placed.statement.form {
+    let line = statement.line;
+    match &statement.form {
         Form::Declaration(kind, declared) => {
-            declare_all(
-                line,
-                &mut read.names,
-                placed.expansion,
-                *kind,
-                declared.as_slice(),
-            )
+            declare_all(line, &mut read.names, expansion, *kind, declared.as_slice())
         }
         Form::Test(condition) => test(alloc, line, &read.names, &mut read.builder, condition),
         Form::Otherwise => read.builder.divide(alloc, line),
@@ -148,12 +156,11 @@ fn take_structured(alloc: Global, read: &mut Progress, placed: &Placed) -> Resul
         Form::Repeat(rounds) => repeat(alloc, line, &read.names, &mut read.builder, rounds),
         Form::RepeatEnd => read.builder.end_repeat(line),
         Form::Mark(name) => {
-            let label = Label::new(name.copy(), placed.expansion);
+            let label = Label::new(name.copy(), expansion);
             mark(line, &mut read.labels, &mut read.builder, label)
         }
         Form::Leap(name) => {
-            read.builder
-                .leap(line, Label::new(name.copy(), placed.expansion))?;
+            read.builder.leap(line, Label::new(name.copy(), expansion))?;
             Ok(())
         }
         Form::Measure(name) => {

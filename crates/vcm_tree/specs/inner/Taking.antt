@@ -2,6 +2,7 @@
 use Rattle.std.specs.Prelude.{◌≡◌, ℕ, List, ◌++◌, Option, Some, None, Ok, Err}
 use Rattle.vcm_expr.specs.Names.{Variable}
 use Rattle.vcm_syntax.specs.declared.statement.Rounds.{Rounds}
+use Rattle.vcm_syntax.specs.declared.statement.Statement.{Statement}
 use Rattle.vcm_macro.specs.declared.placed.Placed.{Placed}
 use Rattle.vcm_lines.specs.declared.fault.SourceFault.{SourceFault}
 use Rattle.vcm_spec.specs.Expression.{Tree}
@@ -33,21 +34,21 @@ abbrev pub behind_of : Progress → Behind
 behind_of r = behind r.names (blocks_of r.builder.opens.items) r.labels (measured_of r)
 
 -- the statement is this simple one behind the others, and leaves what it says of features and frames
-pub record ActsSo (p : Placed) (old new : Progress) (what : Simple Tree) : Type 0 where
-  pub is : acted (behind_of old) p.statement.form ≡ Some (Ok what)
-  pub measures : measured_of new ≡ measured_after (measured_of old) p.statement.form
+pub record ActsSo (s : Statement) (old new : Progress) (what : Simple Tree) : Type 0 where
+  pub is : acted (behind_of old) s.form ≡ Some (Ok what)
+  pub measures : measured_of new ≡ measured_after (measured_of old) s.form
   pub names : new.names ≡ old.names
   pub labels : new.labels ≡ old.labels
   pub builder : new.builder ≡ old.builder
 
 -- the statement is this simple one, or none
-abbrev pub Acts : Placed → Progress → Progress → Option Action → Type 0
-Acts p old new (Some action) = ActsSo p old new (action_of action)
-Acts p old new None = (acted (behind_of old) p.statement.form ≡ None) × (new ≡ old)
+abbrev pub Acts : Statement → Progress → Progress → Option Action → Type 0
+Acts s old new (Some action) = ActsSo s old new (action_of action)
+Acts s old new None = (acted (behind_of old) s.form ≡ None) × (new ≡ old)
 
 -- the refusal tells the line of a simple statement, and the rule that it breaks
-abbrev pub ActedAt : Placed → Behind → SourceFault → Type 0
-ActedAt p b f = (f.line ≡ p.statement.line) × (acted b p.statement.form ≡ Some (Err f.code))
+abbrev pub ActedAt : Statement → Behind → SourceFault → Type 0
+ActedAt s b f = (f.line ≡ s.line) × (acted b s.form ≡ Some (Err f.code))
 
 -- the statement has a meaning behind the others, and is read
 pub record Takes (p : Placed) (old new : Progress) : Type 0 where

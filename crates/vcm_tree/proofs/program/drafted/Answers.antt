@@ -12,14 +12,14 @@ returns-in_err-take-clause-fault c =
     let l = c.loop-placed in
     let here = c.placed-item.result in
     let left = drop_more c.args.all.now l.placed-index here c.loop-placed-test.true ∙ ap (λ (s : Placed). s ∷ drop (l.placed-index + 1) c.args.all.now) (sym c.placed-item.is) in
-    rw (p.1, p.2) (walk_told c.args.all.now l.read here (drop (l.placed-index + 1) c.args.all.now) _ (rw left at l.invariant) c.in_err-take.ensures.fault)
+    rw (p.1, p.2) (walk_told c.args.all.now l.read here (drop (l.placed-index + 1) c.args.all.now) _ (rw left at l.invariant) (rw c.statement.ensures at c.in_err-take.ensures.fault))
 
 pub loop-placed-preserved : goal.loop-placed-preserved
 loop-placed-preserved c =
     let l = c.loop-placed in
     let here = c.placed-item.result in
     let left = drop_more c.args.all.now l.placed-index here c.loop-placed-test.true ∙ ap (λ (s : Placed). s ∷ drop (l.placed-index + 1) c.args.all.now) (sym c.placed-item.is) in
-    walk_goes c.args.all.now l.read c.take.new.read here (drop (l.placed-index + 1) c.args.all.now) (rw left at l.invariant) c.in_ok-take.ensures.ok
+    walk_goes c.args.all.now l.read c.take.new.read here (drop (l.placed-index + 1) c.args.all.now) (rw left at l.invariant) (rw c.statement.ensures at c.in_ok-take.ensures.ok)
 
 pub returns-clause-clean : goal.returns-clause-clean
 returns-clause-clean c =
