@@ -1,9 +1,8 @@
 -- The statement code of a whole program.
-use Rattle.std.proofs.Common.{◌≡◌, ◌≤◌, ℕ, suc, List, [], ◌∷◌, length, refl, sym, ap, subst, arith}
+use Rattle.std.proofs.Common.{◌≡◌, ◌≤◌, List, length, refl, sym, subst, arith}
 use Rattle.vcm_spec.specs.Setup.{Tables, setup_of}
 use Rattle.vcm_spec.specs.Program.{Block}
-use Rattle.vcm_expr.specs.Names.{Variable}
-use Rattle.vcm_tree.specs.Program.{IsWhole, AreNames as AreFewNames, listed, tables_of}
+use Rattle.vcm_tree.specs.Program.{IsWhole, AreNames as AreFewNames}
 use Rattle.vcm_code.specs.Code.{Statement, Code}
 use Rattle.vcm_code.specs.Valid.{IsValid}
 use Rattle.vcm_code.specs.Ranges.{AllInRange, IsInRange}
@@ -16,11 +15,6 @@ use Rattle.vcm_asm.proofs.Follow.{same}
 use Rattle.vcm_asm.proofs.Lines.{lines_are}
 use Rattle.vcm_asm.proofs.ValidCode.{valid}
 use Rattle.vcm_asm.proofs.InRange.{block_range}
-
--- the tables of so many variables have as many
-pub table_length : (vs : List Variable) (fs ds : List (List ℕ)) → length (tables_of (listed vs fs ds)).variables ≡ length vs
-table_length [] fs ds = refl
-table_length (v ∷ vs) fs ds = ap suc (table_length vs fs ds)
 
 module _ (program : Block) (tables : Tables) (whole : IsWhole program tables) where
   -- the code with these tables and statements

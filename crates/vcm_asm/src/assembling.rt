@@ -1,7 +1,6 @@
 //! The assembler.
 
 ghost use Rattle.std.specs.Prelude.{IfOk};
-ghost use Rattle.vcm_tree.specs.Program.{tables};
 ghost use Rattle.vcm_code.specs.Ops.{code_of};
 ghost use Rattle.vcm_code.specs.Valid.{IsValid};
 ghost use Rattle.vcm_code.specs.Ranges.{IsInRange};
@@ -21,7 +20,7 @@ use vcm_tree::Accepted;
 ///
 /// Errors: want of memory.
 pub fn assemble(alloc: Global, program: &Accepted) -> Result<Code, NoMemory>
-    ensures assembled { IfOk result (λ c. IsAssembled program.now.program (tables program.now) (code_of c)) }
+    ensures assembled { IfOk result (λ c. IsAssembled program.now.program program.now.tables (code_of c)) }
     ensures valid { IfOk result (λ c. IsValid (code_of c)) }
     ensures in_range { IfOk result (λ c. IsInRange (code_of c)) }
 {

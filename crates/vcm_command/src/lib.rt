@@ -1,12 +1,10 @@
 //! The commands of vcm: its command line, what each command does, and what it tells on standard error.
 #![tactic(auto)]
 
-mod checking;
 mod command_line;
 mod message;
 mod program;
 
-pub use checking::{CheckFault, check};
 pub use command_line::{Request, request_of, steps_of};
 pub use message::{
     Message, NoticeLine, build_message, check_message, image_message, job_message,

@@ -1,10 +1,11 @@
 //! What the program says on standard error, and its exit statuses.
 
-use crate::checking::CheckFault;
 use thiserror::Error;
 use vcm_debug::ServeFault;
 use vcm_fields::ImageFault;
-use vcm_job::{AsmFault, BuildFault, DebugFault, JobFault, PartFileFault, PrintFault, RunFault};
+use vcm_job::{
+    AsmFault, BuildFault, CheckFault, DebugFault, JobFault, PartFileFault, PrintFault, RunFault,
+};
 use vcm_lines::{FaultCode, SourceFault};
 use vcm_listing::{ListCode, ListFault};
 use vcm_part::{PartCode, PartFault};

@@ -1,6 +1,5 @@
 //! The program: its words are read, and the command is carried out on the standard devices and files.
 
-use crate::checking::check;
 use crate::command_line::{Request, request_of, steps_of};
 use crate::message::{
     Message, NoticeLine, asm_message, build_message, check_message, debug_message, job_message,
@@ -12,7 +11,7 @@ use std::alloc::Global;
 use std::fmt::{self, Write as _};
 use std::io::{self, BufWriter, Printer, Write};
 use std::rt::{Env, Files};
-use vcm_job::{Done, asm, build, debug, job, list, part_from, run};
+use vcm_job::{Done, asm, build, check, debug, job, list, part_from, run};
 use vcm_num::write_all;
 use vcm_part::PartData;
 use vcm_tree::Noticed;

@@ -7,10 +7,10 @@ use Rattle.vcm_lines.specs.declared.fault.SourceFault.{SourceFault}
 use Rattle.vcm_spec.specs.declared.expression.BinaryOp.{BinaryOp}
 use Rattle.vcm_expr.specs.declared.symbol.Symbol.{Symbol}
 use Rattle.vcm_expr.specs.declared.symbol.Symbol.TheVariants.{Closing}
-use Rattle.vcm_expr.specs.declared.parser.Chain.{Chain}
-use Rattle.vcm_expr.specs.declared.parser.Chain.TheVariants.{Disjunction, Conjunction, Sum, Product}
-use Rattle.vcm_expr.specs.declared.parser.Front.{Front}
-use Rattle.vcm_expr.specs.declared.parser.Front.TheVariants.{Negation, Sign}
+use Rattle.vcm_expr.specs.declared.levels.Chain.{Chain}
+use Rattle.vcm_expr.specs.declared.levels.Chain.TheVariants.{Disjunction, Conjunction, Sum, Product}
+use Rattle.vcm_expr.specs.declared.levels.Front.{Front}
+use Rattle.vcm_expr.specs.declared.levels.Front.TheVariants.{Negation, Sign}
 use Rattle.vcm_expr.specs.Source.{Source, Pair, is_small}
 use Rattle.vcm_expr.specs.inner.Parser.{Taken, Parser, and_then, phrase, made, made_if, closed, found_if, fronted_by, with_fronts, more, chain_by, once, once_by, disjunction_by, expression}
 use Rattle.vcm_expr.specs.inner.Levels.{group_in, chain_in, chain_op, link_in, front_in, front_of, fronted_in, NextOf, NoNext, NotClosing, Told}

@@ -1,9 +1,9 @@
 -- In which order the parser's functions call one another on the same words.
 use Rattle.std.proofs.Common.{ℕ}
-use Rattle.vcm_expr.specs.declared.parser.Chain.{Chain}
-use Rattle.vcm_expr.specs.declared.parser.Chain.TheVariants.{Disjunction, Conjunction, Sum, Product}
-use Rattle.vcm_expr.specs.declared.parser.Front.{Front}
-use Rattle.vcm_expr.specs.declared.parser.Front.TheVariants.{Negation, Sign}
+use Rattle.vcm_expr.specs.declared.levels.Chain.{Chain}
+use Rattle.vcm_expr.specs.declared.levels.Chain.TheVariants.{Disjunction, Conjunction, Sum, Product}
+use Rattle.vcm_expr.specs.declared.levels.Front.{Front}
+use Rattle.vcm_expr.specs.declared.levels.Front.TheVariants.{Negation, Sign}
 
 -- what a chain's operands have
 abbrev pub link_rank : Chain → ℕ

@@ -8,7 +8,7 @@ use Rattle.vcm_lines.specs.declared.fault.FaultCode.{FaultCode}
 use Rattle.vcm_spec.specs.declared.expression.Operand.TheVariants.{Integer, Thousandths, Truth as TruthValue, Variable as TheVariable}
 use Rattle.vcm_spec.specs.declared.expression.UnaryOp.TheVariants.{Neg, Scale, Not as Negation}
 use Rattle.vcm_spec.specs.declared.expression.BinaryOp.{BinaryOp}
-use Rattle.vcm_spec.specs.declared.expression.BinaryOp.TheVariants.{Add, Sub, Mul, Div, And, Or, Compare}
+use Rattle.vcm_spec.specs.declared.expression.BinaryOp.TheVariants.{Mul, Div}
 use Rattle.vcm_spec.specs.Expression.{Tree, Value, One, Two, unary_kind, binary_kind, kind_after_one, kind_after_two, kind_of, depth, nodes}
 use Rattle.vcm_expr.specs.declared.expression.Prefix.{Prefix}
 use Rattle.vcm_expr.specs.declared.expression.Prefix.TheVariants.{Minus, Plus, Not}
@@ -17,50 +17,30 @@ use Rattle.vcm_expr.specs.declared.expression.Term.TheVariants.{Number, Truth as
 use Rattle.vcm_expr.specs.declared.typing.Want.{Want}
 use Rattle.vcm_expr.specs.declared.typing.Want.TheVariants.{Int as WantInt, Length, Bool as WantBool}
 use Rattle.vcm_expr.specs.Source.{Source, Plain, Prefixed, Pair, depth_of, nodes_of}
-use Rattle.vcm_expr.specs.Names.{Variable, variable_of, kinds_of}
-use Rattle.vcm_expr.specs.Typing.{Kinded, kinded, variable_by, named_by, leaf_of, prefixed_by, Rule, rule_of, scaled, pair_by, and_then, typed_of, wanted_by, wanted_kind, typed_for}
+use Rattle.vcm_spec.specs.Setup.{Variable, kinds_of}
+use Rattle.vcm_expr.specs.Names.{variable_of}
+use Rattle.vcm_expr.specs.Typing.{Kinded, kinded, variable_by, named_by, leaf_of, prefixed_by, typed_as, is_scaled, scaled, scaled_kind, pair_by, and_then, typed_of, wanted_by, wanted_kind, typed_for}
 
--- the kind of an operand that is scaled or not
-abbrev scaled_kind : Bool → Kind → Option Kind
-scaled_kind true k = unary_kind Scale k
-scaled_kind false k = Some k
+-- only whole numbers are scaled
+scaled_whole : (op : BinaryOp) (k l : Kind) → is_scaled op k l ≡ true → k ≡ Int
+scaled_whole op Int l e = refl
+scaled_whole Mul k l e = absurd cc
+scaled_whole Div k l e = absurd cc
+scaled_whole _ _ l e = absurd cc
 
--- the operator takes the operands that the rule makes
-abbrev Fitted : BinaryOp → Kind → Kind → Option Rule → Type 0
-Fitted op k l None = Unit {0}
-Fitted op k l (Some r) = kind_after_two (binary_kind op) (scaled_kind r.left k) (scaled_kind r.right l) ≡ Some r.kind
+scaled-kind : (kinds : List Kind) (b : Bool) (t : Tree) (k : Kind) → (b ≡ true → k ≡ Int) → kind_of kinds t ≡ Some k → kind_of kinds (scaled b t) ≡ Some (scaled_kind b k)
+scaled-kind kinds true t k whole e = ap (kind_after_one (unary_kind Scale)) (e ∙ ap (λ j. Some j) (whole refl))
+scaled-kind kinds false t k whole e = e
 
-rule_fits : (op : BinaryOp) (k l : Kind) → Fitted op k l (rule_of op k l)
-rule_fits Add Int Int = refl
-rule_fits Add Real Real = refl
-rule_fits Add Int Real = refl
-rule_fits Add Real Int = refl
-rule_fits Add _ _ = tt
-rule_fits Sub Int Int = refl
-rule_fits Sub Real Real = refl
-rule_fits Sub Int Real = refl
-rule_fits Sub Real Int = refl
-rule_fits Sub _ _ = tt
-rule_fits (Compare r) Int Int = refl
-rule_fits (Compare r) Real Real = refl
-rule_fits (Compare r) Int Real = refl
-rule_fits (Compare r) Real Int = refl
-rule_fits (Compare r) _ _ = tt
-rule_fits Mul Int Int = refl
-rule_fits Mul Int Real = refl
-rule_fits Mul Real Int = refl
-rule_fits Mul _ _ = tt
-rule_fits Div Int Int = refl
-rule_fits Div Real Int = refl
-rule_fits Div _ _ = tt
-rule_fits And Truth Truth = refl
-rule_fits And _ _ = tt
-rule_fits Or Truth Truth = refl
-rule_fits Or _ _ = tt
+-- a sign leaves the kind of a number
+sign_kind : (k j : Kind) → unary_kind Neg k ≡ Some j → k ≡ j
+sign_kind Int j e = cc
+sign_kind Real j e = cc
+sign_kind Truth j e = absurd cc
 
-scaled-kind : (kinds : List Kind) (b : Bool) (t : Tree) (k : Kind) → kind_of kinds t ≡ Some k → kind_of kinds (scaled b t) ≡ scaled_kind b k
-scaled-kind kinds true t k e = ap (kind_after_one (unary_kind Scale)) e
-scaled-kind kinds false t k e = e
+typed_as-Ok : (o : Option Kind) (t : Tree) (p : Kinded) → typed_as o t ≡ Ok p → (k : Kind) × (o ≡ Some k) × (kinded t k ≡ Ok p)
+typed_as-Ok None t p e = absurd cc
+typed_as-Ok (Some k) t p e = (k, refl, e)
 
 scaled-depth : (b : Bool) (t : Tree) → depth (scaled b t) ≡ depth t
 scaled-depth true t = omega arith
@@ -100,18 +80,25 @@ leaf_fine vs (Constant b) p e = fine_same (kinds_of vs) 1 1 (Value (TruthValue b
 leaf_fine vs (Named name expansion) p e = named_fine vs (variable_of vs expansion name) p e
 
 prefixed_fine : (kinds : List Kind) (d n : ℕ) (op : Prefix) (t : Tree) (k : Kind) (p : Kinded) → Fine kinds d n t k → prefixed_by op t k ≡ Ok p → Fine kinds (d + 1) (n + 1) p.tree p.kind
-prefixed_fine kinds d n Minus t Int p f e = fine_same kinds (d + 1) (n + 1) (One Neg t) Int p e (ap (kind_after_one (unary_kind Neg)) f.typed) (omega (arith, f.shallow)) (omega (arith, f.few))
-prefixed_fine kinds d n Minus t Real p f e = fine_same kinds (d + 1) (n + 1) (One Neg t) Real p e (ap (kind_after_one (unary_kind Neg)) f.typed) (omega (arith, f.shallow)) (omega (arith, f.few))
-prefixed_fine kinds d n Plus t Int p f e = fine_same kinds (d + 1) (n + 1) t Int p e f.typed (omega (arith, f.shallow)) (omega (arith, f.few))
-prefixed_fine kinds d n Plus t Real p f e = fine_same kinds (d + 1) (n + 1) t Real p e f.typed (omega (arith, f.shallow)) (omega (arith, f.few))
-prefixed_fine kinds d n Not t Truth p f e = fine_same kinds (d + 1) (n + 1) (One Negation t) Truth p e (ap (kind_after_one (unary_kind Negation)) f.typed) (omega (arith, f.shallow)) (omega (arith, f.few))
-prefixed_fine kinds d n _ t k p f e = cc
+prefixed_fine kinds d n Minus t k p f e =
+    let q = typed_as-Ok (unary_kind Neg k) (One Neg t) p e in
+    fine_same kinds (d + 1) (n + 1) (One Neg t) q.0 p q.2 (ap (kind_after_one (unary_kind Neg)) f.typed ∙ q.1) (omega (arith, f.shallow)) (omega (arith, f.few))
+prefixed_fine kinds d n Plus t k p f e =
+    let q = typed_as-Ok (unary_kind Neg k) t p e in
+    fine_same kinds (d + 1) (n + 1) t q.0 p q.2 (f.typed ∙ ap (λ j. Some j) (sign_kind k q.0 q.1)) (omega (arith, f.shallow)) (omega (arith, f.few))
+prefixed_fine kinds d n Not t k p f e =
+    let q = typed_as-Ok (unary_kind Negation k) (One Negation t) p e in
+    fine_same kinds (d + 1) (n + 1) (One Negation t) q.0 p q.2 (ap (kind_after_one (unary_kind Negation)) f.typed ∙ q.1) (omega (arith, f.shallow)) (omega (arith, f.few))
 
-pair_fine : (kinds : List Kind) (c d m n : ℕ) (op : BinaryOp) (t u : Tree) (k l : Kind) (o : Option Rule) (p : Kinded) → Fitted op k l o → Fine kinds c m t k → Fine kinds d n u l → pair_by o op t u ≡ Ok p → Fine kinds (max c d + 1) (m + n + 1) p.tree p.kind
-pair_fine kinds c d m n op t u k l None p fits f g e = cc
-pair_fine kinds c d m n op t u k l (Some r) p fits f g e =
-    let typed : kind_of kinds (Two op (scaled r.left t) (scaled r.right u)) ≡ Some r.kind = ap (λ o. kind_after_two (binary_kind op) o (kind_of kinds (scaled r.right u))) (scaled-kind kinds r.left t k f.typed) ∙ ap (kind_after_two (binary_kind op) (scaled_kind r.left k)) (scaled-kind kinds r.right u l g.typed) ∙ fits in
-    fine_same kinds (max c d + 1) (m + n + 1) (Two op (scaled r.left t) (scaled r.right u)) r.kind p e typed (omega (arith, scaled-depth r.left t, scaled-depth r.right u, f.shallow, g.shallow)) (omega (arith, scaled-nodes r.left t, scaled-nodes r.right u, f.few, g.few))
+pair_fine : (kinds : List Kind) (c d m n : ℕ) (op : BinaryOp) (t u : Tree) (k l : Kind) (p : Kinded) → Fine kinds c m t k → Fine kinds d n u l → pair_by op t k u l ≡ Ok p → Fine kinds (max c d + 1) (m + n + 1) p.tree p.kind
+pair_fine kinds c d m n op t u k l p f g e =
+    let a = is_scaled op k l in
+    let b = is_scaled op l k in
+    let q = typed_as-Ok (binary_kind op (scaled_kind a k) (scaled_kind b l)) (Two op (scaled a t) (scaled b u)) p e in
+    let left = scaled-kind kinds a t k (scaled_whole op k l) f.typed in
+    let right = scaled-kind kinds b u l (scaled_whole op l k) g.typed in
+    let typed : kind_of kinds (Two op (scaled a t) (scaled b u)) ≡ Some q.0 = ap (λ o. kind_after_two (binary_kind op) o (kind_of kinds (scaled b u))) left ∙ ap (kind_after_two (binary_kind op) (Some (scaled_kind a k))) right ∙ q.1 in
+    fine_same kinds (max c d + 1) (m + n + 1) (Two op (scaled a t) (scaled b u)) q.0 p q.2 typed (omega (arith, scaled-depth a t, scaled-depth b u, f.shallow, g.shallow)) (omega (arith, scaled-nodes a t, scaled-nodes b u, f.few, g.few))
 
 pub typed_fine : (vs : List Variable) (s : Source) (p : Kinded) → typed_of vs s ≡ Ok p → Fine (kinds_of vs) (depth_of s) (nodes_of s) p.tree p.kind
 typed_fine vs (Plain t) p e = leaf_fine vs t p e
@@ -119,9 +106,9 @@ typed_fine vs (Prefixed op a) p e =
     let q = and_then-Ok (typed_of vs a) (prefixed_by op) p e in
     prefixed_fine (kinds_of vs) (depth_of a) (nodes_of a) op q.0.tree q.0.kind p (typed_fine vs a q.0 q.1) q.2
 typed_fine vs (Pair op a b) p e =
-    let q = and_then-Ok (typed_of vs a) (λ t k. and_then (typed_of vs b) (λ u l. pair_by (rule_of op k l) op t u)) p e in
-    let r = and_then-Ok (typed_of vs b) (λ u l. pair_by (rule_of op q.0.kind l) op q.0.tree u) p q.2 in
-    pair_fine (kinds_of vs) (depth_of a) (depth_of b) (nodes_of a) (nodes_of b) op q.0.tree r.0.tree q.0.kind r.0.kind (rule_of op q.0.kind r.0.kind) p (rule_fits op q.0.kind r.0.kind) (typed_fine vs a q.0 q.1) (typed_fine vs b r.0 r.1) r.2
+    let q = and_then-Ok (typed_of vs a) (λ t k. and_then (typed_of vs b) (pair_by op t k)) p e in
+    let r = and_then-Ok (typed_of vs b) (pair_by op q.0.tree q.0.kind) p q.2 in
+    pair_fine (kinds_of vs) (depth_of a) (depth_of b) (nodes_of a) (nodes_of b) op q.0.tree r.0.tree q.0.kind r.0.kind p (typed_fine vs a q.0 q.1) (typed_fine vs b r.0 r.1) r.2
 
 abbrev done : Tree → Result Tree FaultCode
 done t = Ok t

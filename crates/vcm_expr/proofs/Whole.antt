@@ -1,6 +1,6 @@
 -- From what the parser answers on all parts to what they spell.
 use Rattle.std.proofs.Common.{Bool, true, false, cond, ◌≡◌, ◌≢◌, ℕ, ◌≤◌, ◌⊎◌, inl, inr, ⊎_elim, List, [], ◌∷◌, ◌++◌, length, Result, Ok, Err, refl, sym, ap, ◌∙◌, subst, arith}
-use Rattle.std.specs.Prelude.{nat_le, codes}
+use Rattle.std.specs.Prelude.{nat_le, Option, Some}
 use Rattle.std.proofs.lemmas.Bool.{and_parts}
 use Rattle.std.proofs.lemmas.List.{append-nil, nil_from_length}
 use Rattle.vcm_num.specs.declared.number.Literal.{Literal}
@@ -8,7 +8,10 @@ use Rattle.vcm_num.specs.declared.read.NumFault.{NumFault}
 use Rattle.vcm_num.specs.declared.read.NumFault.TheVariants.{BadNumber, TooFine as FineNumber, TooLarge as LargeNumber}
 use Rattle.vcm_lines.specs.declared.fault.FaultCode.{FaultCode}
 use Rattle.vcm_lines.specs.declared.fault.FaultCode.TheVariants.{BadSyntax, TooFine, NumberTooLarge, TooDeep}
-use Rattle.std.specs.Str.{bytes_eq}
+use Rattle.vcm_num.specs.Words.{look_up}
+use Rattle.vcm_lines.specs.Dotted.{dotted_words}
+use Rattle.vcm_lines.specs.declared.dotted.DottedWord.{DottedWord}
+use Rattle.vcm_lines.specs.declared.dotted.DottedWord.TheVariants.{Truth}
 use Rattle.vcm_lines.specs.Lexemes.{Lexeme, Run, Number, Dotted}
 use Rattle.vcm_expr.specs.declared.expression.Term.{Term}
 use Rattle.vcm_expr.specs.declared.symbol.Symbol.{Symbol}
@@ -171,19 +174,9 @@ FaultOf c p = p ≡ Operand (Err c) → (c ≡ BadSyntax) ⊎ IsValueFault c
 plain_fault : (c : FaultCode) (t : Term) → FaultOf c (Operand (Ok t))
 plain_fault c t e = absurd cc
 
-dotted_fault : (c : FaultCode) (bs : List ℕ) → FaultOf c (dotted_symbol bs)
-dotted_fault c bs =
-    choose (FaultOf c) (bytes_eq bs (codes ".EQ.")) _ _ (λ e. absurd cc)
-    (choose (FaultOf c) (bytes_eq bs (codes ".NE.")) _ _ (λ e. absurd cc)
-    (choose (FaultOf c) (bytes_eq bs (codes ".LT.")) _ _ (λ e. absurd cc)
-    (choose (FaultOf c) (bytes_eq bs (codes ".LE.")) _ _ (λ e. absurd cc)
-    (choose (FaultOf c) (bytes_eq bs (codes ".GT.")) _ _ (λ e. absurd cc)
-    (choose (FaultOf c) (bytes_eq bs (codes ".GE.")) _ _ (λ e. absurd cc)
-    (choose (FaultOf c) (bytes_eq bs (codes ".NOT.")) _ _ (λ e. absurd cc)
-    (choose (FaultOf c) (bytes_eq bs (codes ".AND.")) _ _ (λ e. absurd cc)
-    (choose (FaultOf c) (bytes_eq bs (codes ".OR.")) _ _ (λ e. absurd cc)
-    (choose (FaultOf c) (bytes_eq bs (codes ".TRUE.")) _ _ (plain_fault c _)
-    (choose (FaultOf c) (bytes_eq bs (codes ".FALSE.")) _ _ (plain_fault c _) (λ e. absurd cc)))))))))))
+dotted_fault : (c : FaultCode) (word : Option DottedWord) → FaultOf c (dotted_symbol word)
+dotted_fault c (Some (Truth b)) = plain_fault c _
+dotted_fault c _ = λ e. absurd cc
 
 term_fault : (c : FaultCode) (o : Result Term FaultCode) → (o ≡ Err c → (c ≡ BadSyntax) ⊎ IsValueFault c) → FaultOf c (Operand o)
 term_fault c o h e = h cc
@@ -194,7 +187,7 @@ run_fault c bs = choose (λ o. o ≡ Err c → (c ≡ BadSyntax) ⊎ IsValueFaul
 part_fault : (c : FaultCode) (w : Lexeme) → FaultOf c (symbol_of w)
 part_fault c (Run bs) = term_fault c (run_term bs) (run_fault c bs)
 part_fault c (Number bs) = term_fault c (number_term (read_of bs)) (number_fault (read_of bs) c)
-part_fault c (Dotted bs) = dotted_fault c bs
+part_fault c (Dotted bs) = dotted_fault c (look_up dotted_words bs)
 part_fault c _ = λ e. absurd cc
 
 flaw_in : (ws : List Lexeme) (front back : List Symbol) (c : FaultCode) → symbols_of ws ≡ front ++ (Operand (Err c) ∷ back) → (c ≡ BadSyntax) ⊎ IsValueFault c

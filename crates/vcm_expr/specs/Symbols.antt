@@ -1,14 +1,16 @@
 -- The words of a statement as symbols of an expression.
-use Rattle.std.specs.Prelude.{◌≡◌, ℕ, ◌&&◌, if◌then◌else◌, Bool, true, false, codes, List, [], ◌∷◌, map, Result, Ok, Err}
-use Rattle.std.specs.Str.{bytes_eq}
+use Rattle.std.specs.Prelude.{◌≡◌, ℕ, ◌&&◌, if◌then◌else◌, Bool, true, false, List, [], ◌∷◌, map, Option, Some, None, Result, Ok, Err}
 use Rattle.std.specs.Char.{is_ascii_uppercase}
+use Rattle.vcm_num.specs.Words.{look_up}
 use Rattle.vcm_num.specs.declared.number.Literal.{Literal}
 use Rattle.vcm_num.specs.declared.read.NumFault.{NumFault}
 use Rattle.vcm_num.specs.declared.read.NumFault.TheVariants.{BadNumber, TooFine, TooLarge}
 use Rattle.vcm_lines.specs.declared.fault.FaultCode.{FaultCode}
 use Rattle.vcm_lines.specs.declared.fault.FaultCode.TheVariants.{BadSyntax, TooFine as TooFineCode, NumberTooLarge}
 use Rattle.vcm_lines.specs.Lexemes.{Lexeme, Run, Number, Dotted, Quoted, Slash as SlashMark, Comma, Equals, Open, Close, Plus, Minus, Star as StarMark, Other as OtherMark}
-use Rattle.vcm_spec.specs.declared.expression.Relation.TheVariants.{Equal, NotEqual, Less, LessEqual, Greater, GreaterEqual}
+use Rattle.vcm_lines.specs.Dotted.{dotted_words}
+use Rattle.vcm_lines.specs.declared.dotted.DottedWord.{DottedWord}
+use Rattle.vcm_lines.specs.declared.dotted.DottedWord.TheVariants.{Compare, Not, And, Or, Truth as TruthWord}
 use Rattle.vcm_expr.specs.declared.expression.Term.{Term}
 use Rattle.vcm_expr.specs.declared.expression.Term.TheVariants.{Number as Figure, Truth, Variable}
 use Rattle.vcm_expr.specs.declared.symbol.Symbol.{Symbol}
@@ -36,27 +38,20 @@ number_term (Err TooLarge) = Err NumberTooLarge
 abbrev pub run_term : List ℕ → Result Term FaultCode
 run_term bs = if is_variable_name bs then Ok (Variable bs 0) else number_term (read_of bs)
 
--- what a dotted word is
-abbrev pub dotted_symbol : List ℕ → Symbol
-dotted_symbol bs =
-    if bytes_eq bs (codes ".EQ.") then RelationWord Equal
-    else if bytes_eq bs (codes ".NE.") then RelationWord NotEqual
-    else if bytes_eq bs (codes ".LT.") then RelationWord Less
-    else if bytes_eq bs (codes ".LE.") then RelationWord LessEqual
-    else if bytes_eq bs (codes ".GT.") then RelationWord Greater
-    else if bytes_eq bs (codes ".GE.") then RelationWord GreaterEqual
-    else if bytes_eq bs (codes ".NOT.") then NotWord
-    else if bytes_eq bs (codes ".AND.") then AndWord
-    else if bytes_eq bs (codes ".OR.") then OrWord
-    else if bytes_eq bs (codes ".TRUE.") then Operand (Ok (Truth true))
-    else if bytes_eq bs (codes ".FALSE.") then Operand (Ok (Truth false))
-    else Other
+-- what a dotted word is in an expression
+abbrev pub dotted_symbol : Option DottedWord → Symbol
+dotted_symbol (Some (Compare r)) = RelationWord r
+dotted_symbol (Some Not) = NotWord
+dotted_symbol (Some And) = AndWord
+dotted_symbol (Some Or) = OrWord
+dotted_symbol (Some (TruthWord b)) = Operand (Ok (Truth b))
+dotted_symbol None = Other
 
 -- what a word of a statement is in an expression
 abbrev pub symbol_of : Lexeme → Symbol
 symbol_of (Run bs) = Operand (run_term bs)
 symbol_of (Number bs) = Operand (number_term (read_of bs))
-symbol_of (Dotted bs) = dotted_symbol bs
+symbol_of (Dotted bs) = dotted_symbol (look_up dotted_words bs)
 symbol_of (Quoted t) = Other
 symbol_of SlashMark = Slash
 symbol_of Comma = Other

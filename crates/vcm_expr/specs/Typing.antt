@@ -8,8 +8,8 @@ use Rattle.vcm_lines.specs.declared.fault.FaultCode.TheVariants.{UnknownName, Ba
 use Rattle.vcm_spec.specs.declared.expression.Operand.TheVariants.{Integer, Thousandths, Truth as TruthValue, Variable as TheVariable}
 use Rattle.vcm_spec.specs.declared.expression.UnaryOp.TheVariants.{Neg, Scale, Not as Negation}
 use Rattle.vcm_spec.specs.declared.expression.BinaryOp.{BinaryOp}
-use Rattle.vcm_spec.specs.declared.expression.BinaryOp.TheVariants.{Add, Sub, Mul, Div, And, Or, Compare}
-use Rattle.vcm_spec.specs.Expression.{Tree, Value, One, Two}
+use Rattle.vcm_spec.specs.declared.expression.BinaryOp.TheVariants.{Mul, Div}
+use Rattle.vcm_spec.specs.Expression.{Tree, Value, One, Two, unary_kind, binary_kind}
 use Rattle.vcm_expr.specs.declared.expression.Prefix.{Prefix}
 use Rattle.vcm_expr.specs.declared.expression.Prefix.TheVariants.{Minus, Plus, Not}
 use Rattle.vcm_expr.specs.declared.expression.Term.{Term}
@@ -17,7 +17,8 @@ use Rattle.vcm_expr.specs.declared.expression.Term.TheVariants.{Number, Truth as
 use Rattle.vcm_expr.specs.declared.typing.Want.{Want}
 use Rattle.vcm_expr.specs.declared.typing.Want.TheVariants.{Int as WantInt, Length, Bool as WantBool}
 use Rattle.vcm_expr.specs.Source.{Source, Plain, Prefixed, Pair}
-use Rattle.vcm_expr.specs.Names.{Variable, variable_of, kinds_of}
+use Rattle.vcm_spec.specs.Setup.{Variable, kinds_of}
+use Rattle.vcm_expr.specs.Names.{variable_of}
 
 -- a typed tree and its kind
 pub record Kinded : Type 0 where
@@ -45,70 +46,40 @@ leaf_of vs (Number (Exact n)) = kinded (Value (Thousandths n)) Real
 leaf_of vs (Constant b) = kinded (Value (TruthValue b)) Truth
 leaf_of vs (Named name expansion) = named_by vs (variable_of vs expansion name)
 
+-- a tree of this kind, if it has one
+abbrev pub typed_as : Option Kind → Tree → Result Kinded FaultCode
+typed_as None t = Err BadType
+typed_as (Some k) t = kinded t k
+
 -- what stands under a sign or a negation: a sign takes a number, a plus leaves it as it is, a negation takes a truth value
 abbrev pub prefixed_by : Prefix → Tree → Kind → Result Kinded FaultCode
-prefixed_by Minus t Int = kinded (One Neg t) Int
-prefixed_by Minus t Real = kinded (One Neg t) Real
-prefixed_by Plus t Int = kinded t Int
-prefixed_by Plus t Real = kinded t Real
-prefixed_by Not t Truth = kinded (One Negation t) Truth
-prefixed_by _ t k = Err BadType
+prefixed_by Minus t k = typed_as (unary_kind Neg k) (One Neg t)
+prefixed_by Plus t k = typed_as (unary_kind Neg k) t
+prefixed_by Not t k = typed_as (unary_kind Negation k) (One Negation t)
 
--- what an operator makes of its operands' kinds: which of them it scales, and the kind of the result
-pub record Rule : Type 0 where
-  pub left : Bool
-  pub right : Bool
-  pub kind : Kind
-
--- no operand is scaled
-abbrev pub as_they_are : Kind → Option Rule
-as_they_are k = Some (record { left = false; right = false; kind = k })
-
--- two numbers that meet: a whole number that meets one of thousandths is scaled
-abbrev pub meeting : Kind → Kind → Kind → Kind → Option Rule
-meeting of_wholes of_exacts Int Int = as_they_are of_wholes
-meeting of_wholes of_exacts Real Real = as_they_are of_exacts
-meeting of_wholes of_exacts Int Real = Some (record { left = true; right = false; kind = of_exacts })
-meeting of_wholes of_exacts Real Int = Some (record { left = false; right = true; kind = of_exacts })
-meeting of_wholes of_exacts _ _ = None
-
--- a product: no operand is scaled, and two numbers of thousandths have none
-abbrev pub product_rule : Kind → Kind → Option Rule
-product_rule Int Int = as_they_are Int
-product_rule Int Real = as_they_are Real
-product_rule Real Int = as_they_are Real
-product_rule _ _ = None
-
--- a quotient: only a whole number divides
-abbrev pub quotient_rule : Kind → Kind → Option Rule
-quotient_rule Int Int = as_they_are Int
-quotient_rule Real Int = as_they_are Real
-quotient_rule _ _ = None
-
--- two truth values
-abbrev pub truth_rule : Kind → Kind → Option Rule
-truth_rule Truth Truth = as_they_are Truth
-truth_rule _ _ = None
-
--- what each operator makes of its operands' kinds
-abbrev pub rule_of : BinaryOp → Kind → Kind → Option Rule
-rule_of Add k l = meeting Int Real k l
-rule_of Sub k l = meeting Int Real k l
-rule_of Mul k l = product_rule k l
-rule_of Div k l = quotient_rule k l
-rule_of And k l = truth_rule k l
-rule_of Or k l = truth_rule k l
-rule_of (Compare r) k l = meeting Truth Truth k l
+-- whether an operand of the first kind is scaled beside one of the second: a whole number beside one of thousandths is, but for products and
+-- quotients
+abbrev pub is_scaled : BinaryOp → Kind → Kind → Bool
+is_scaled Mul k l = false
+is_scaled Div k l = false
+is_scaled op Int Real = true
+is_scaled op k l = false
 
 -- an operand as it stands, or scaled
 abbrev pub scaled : Bool → Tree → Tree
 scaled true t = One Scale t
 scaled false t = t
 
--- two operands under an operator
-abbrev pub pair_by : Option Rule → BinaryOp → Tree → Tree → Result Kinded FaultCode
-pair_by None op t u = Err BadType
-pair_by (Some r) op t u = kinded (Two op (scaled r.left t) (scaled r.right u)) r.kind
+-- and its kind
+abbrev pub scaled_kind : Bool → Kind → Kind
+scaled_kind true k = Real
+scaled_kind false k = k
+
+-- two operands under an operator, each scaled where it has to be
+abbrev pub pair_by : BinaryOp → Tree → Kind → Tree → Kind → Result Kinded FaultCode
+pair_by op t k u l =
+    typed_as (binary_kind op (scaled_kind (is_scaled op k l) k) (scaled_kind (is_scaled op l k) l))
+    (Two op (scaled (is_scaled op k l) t) (scaled (is_scaled op l k) u))
 
 -- what comes after a typed tree, or its fault
 abbrev pub and_then : {A : Type 0} → Result Kinded FaultCode → (Tree → Kind → Result A FaultCode) → Result A FaultCode
@@ -120,7 +91,7 @@ abbrev pub typed_of : List Variable → Source → Result Kinded FaultCode
 typed_of vs (Plain t) = leaf_of vs t
 typed_of vs (Prefixed op a) = and_then (typed_of vs a) (prefixed_by op)
 typed_of vs (Pair op a b) =
-    and_then (typed_of vs a) (λ t k. and_then (typed_of vs b) (λ u l. pair_by (rule_of op k l) op t u))
+    and_then (typed_of vs a) (λ t k. and_then (typed_of vs b) (pair_by op t k))
 
 -- what a place takes: a length takes a number of thousandths, and a whole number scaled
 abbrev pub wanted_by : Want → Tree → Kind → Result Tree FaultCode

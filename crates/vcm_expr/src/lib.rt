@@ -3,6 +3,7 @@
 
 mod expression;
 pub mod laws;
+mod levels;
 mod name;
 mod names;
 mod operators;

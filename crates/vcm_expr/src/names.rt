@@ -2,7 +2,8 @@
 
 ghost use Rattle.std.specs.Prelude.{◌≡◌, ◌<◌, ◌≤◌, ◌∷◌, ◌++◌, [], length, slice_get, not, if◌then◌else◌, Some, None, IfOk, OnErr, IfSome, IfNone, MatchOption};
 ghost use Rattle.std.specs.List.{list_any, position};
-ghost use Rattle.vcm_expr.specs.Names.{AreNamed, is_named, variable_of, first_of, kinds_of};
+ghost use Rattle.vcm_spec.specs.Setup.{kinds_of};
+ghost use Rattle.vcm_expr.specs.Names.{AreNamed, is_named, variable_of, first_of};
 
 use crate::name::Name;
 use crate::variable_name::VariableName;
@@ -19,14 +20,15 @@ pub struct Names {
 }
 
 impl Model for Names {
-    ghost use Rattle.std.specs.Prelude.{List, length, ◌≤◌};
-    ghost use Rattle.vcm_expr.specs.Names.{Variable, AreNamed};
+    ghost use Rattle.std.specs.Prelude.{List, length, map, ◌≤◌};
+    ghost use Rattle.vcm_spec.specs.Setup.{Variable};
+    ghost use Rattle.vcm_expr.specs.Names.{variable_in, AreNamed};
 
     ghost Value = { List Variable };
 
-    ghost view = { λ n. n.variables.entries };
+    ghost view = { λ n. map variable_in n.variables.entries };
 
-    ghost invariant = { λ n. (length n.variables.entries ≤ 4096) × AreNamed n.variables.entries };
+    ghost invariant = { λ n. (length n.variables.entries ≤ 4096) × AreNamed (map variable_in n.variables.entries) };
 }
 
 impl Names {
@@ -50,7 +52,7 @@ impl Names {
 
     /// The variable at an index: its expansion, its name and its kind.
     pub fn get(&self, index: usize) -> Option<(u32, &Name, Kind)>
-        ensures some { IfSome result (λ v. slice_get self.now index ≡ Some ((v.0, v.1.now), v.2)) }
+        ensures some { IfSome result (λ v. slice_get self.now index ≡ Some (record { name = v.1.now; kind = v.2; expansion = v.0 })) }
         ensures none { IfNone result (length self.now ≤ index) }
     {
         let (key, kind) = self.variables.get_index(index)?;
@@ -70,7 +72,7 @@ impl Names {
     ) -> Result<bool, NoMemory>
         requires { length self.old < 4096 }
         ensures new { IfOk result (λ is_new. is_new ≡ not (list_any (is_named expansion name) self.old)) }
-        ensures added { IfOk result (λ is_new. self.new ≡ (if is_new then self.old ++ ((expansion, name), kind) ∷ [] else self.old)) }
+        ensures added { IfOk result (λ is_new. self.new ≡ (if is_new then self.old ++ record { name = name; kind = kind; expansion = expansion } ∷ [] else self.old)) }
         ensures unchanged { OnErr result (self.new ≡ self.old) }
     {
         let key = (expansion, name.into_name());

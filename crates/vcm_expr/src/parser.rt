@@ -1,43 +1,21 @@
 //! The parser of expressions.
 
-ghost use Rattle.std.specs.Prelude.{◌≡◌, ◌∷◌, ◌≤◌, [], List, Some, None, true, Err, length, IfOk, IfErr, IfSome, IfNone, MatchOption};
+ghost use Rattle.std.specs.Prelude.{◌≡◌, ◌≤◌, List, true, Err, length, IfOk, IfErr};
 ghost use Rattle.vcm_lines.specs.Fault.{NoMemoryOr, no_memory};
 ghost use Rattle.vcm_lines.specs.declared.fault.FaultCode.{FaultCode};
 ghost use Rattle.vcm_expr.specs.Source.{is_small};
 ghost use Rattle.vcm_expr.specs.Grammar.{SpellsExpr};
 ghost use Rattle.vcm_expr.specs.Parsing.{At};
 ghost use Rattle.vcm_expr.specs.inner.Refusals.{Refuses};
-ghost use Rattle.vcm_expr.specs.inner.Parser.{Parser, phrase, fronted_by, with_fronts, relation_op, leaf_by, sign_of, negation_of, product_op, sum_op, and_op, or_op};
-ghost use Rattle.vcm_expr.specs.inner.Levels.{chain_in, chain_op, link_in, front_in, front_of as finds_front, fronted_in, relation_in, primary_in, group_in, NextOf, NoNext, NotClosing, Told};
+ghost use Rattle.vcm_expr.specs.inner.Parser.{Parser, phrase, fronted_by, with_fronts, leaf_by};
+ghost use Rattle.vcm_expr.specs.inner.Levels.{chain_in, link_in, front_in, front_of as finds_front, fronted_in, relation_in, primary_in, group_in, Told};
 ghost use Rattle.vcm_expr.specs.declared.symbol.Symbol.{Symbol};
 
 use crate::expression::{Expr, Prefix, Term, too_deep};
+use crate::levels::{Chain, Front, after_closing, next_front, next_operator, next_relation};
 use crate::symbol::{Symbol, Symbols};
 use std::alloc::Global;
 use vcm_lines::{FaultCode, SourceFault, bad_syntax};
-use vcm_spec::BinaryOp;
-
-/// A level whose operators stand between any number of operands.
-#[derive(Clone, Copy)]
-enum Chain {
-    /// `.OR.`
-    Disjunction,
-    /// `.AND.`
-    Conjunction,
-    /// `+` and `-`
-    Sum,
-    /// `*` and `/`
-    Product,
-}
-
-/// A level whose words stand before an operand.
-#[derive(Clone, Copy)]
-enum Front {
-    /// `.NOT.`
-    Negation,
-    /// `+` and `-`
-    Sign,
-}
 
 /// The most pairs of parentheses that may be open at once.
 const MOST_OPEN: u32 = 32;
@@ -246,72 +224,4 @@ fn with_signs(alloc: Global, line: u32, signs: Vec<Prefix>, e: Expr) -> Result<E
         e = Expr::prefixed(alloc, line, sign, e)?;
     }
     Ok(e)
-}
-
-/// The words after a closing parenthesis.
-#[inline(always)]
-fn after_closing<'a>(words: &Symbols<'a>) -> Option<Symbols<'a>>
-    ensures some { IfSome result (λ r. words.now ≡ Symbol.Closing ∷ r) }
-    ensures none { IfNone result (NotClosing words.now) }
-{
-    let (first, rest) = words.split_mark()?;
-    match first {
-        Symbol::Closing => Some(rest),
-        _ => None,
-    }
-}
-
-/// The operator of a level, and the words after it.
-#[inline(always)]
-fn next_operator<'a>(words: &Symbols<'a>, level: Chain) -> Option<(BinaryOp, Symbols<'a>)>
-    ensures some { IfSome result (λ p. NextOf (chain_op level) words.now p.0 p.1) }
-    ensures none { IfNone result (NoNext (chain_op level) words.now) }
-{
-    let (first, rest) = words.split_mark()?;
-    let op = operator(&first, level)?;
-    Some((op, rest))
-}
-
-/// The operator that a word is at a level.
-#[inline(always)]
-fn operator(part: &Symbol, level: Chain) -> Option<BinaryOp>
-    ensures { result ≡ chain_op level part.now }
-{
-    match (level, part) {
-        (Chain::Disjunction, Symbol::OrWord) => Some(BinaryOp::Or),
-        (Chain::Conjunction, Symbol::AndWord) => Some(BinaryOp::And),
-        (Chain::Sum, Symbol::Cross) => Some(BinaryOp::Add),
-        (Chain::Sum, Symbol::Dash) => Some(BinaryOp::Sub),
-        (Chain::Product, Symbol::Star) => Some(BinaryOp::Mul),
-        (Chain::Product, Symbol::Slash) => Some(BinaryOp::Div),
-        _ => None,
-    }
-}
-
-/// The relation that stands first, and the words after it.
-#[inline(always)]
-fn next_relation<'a>(words: &Symbols<'a>) -> Option<(BinaryOp, Symbols<'a>)>
-    ensures some { IfSome result (λ p. NextOf relation_op words.now p.0 p.1) }
-    ensures none { IfNone result (NoNext relation_op words.now) }
-{
-    let (first, rest) = words.split_mark()?;
-    match first {
-        Symbol::RelationWord(relation) => Some((BinaryOp::Compare(relation), rest)),
-        _ => None,
-    }
-}
-
-/// The sign or negation that stands first, and the words after it.
-#[inline(always)]
-fn next_front<'a>(words: &Symbols<'a>, front: Front) -> Option<(Prefix, Symbols<'a>)>
-    ensures some { IfSome result (λ p. NextOf (finds_front front) words.now p.0 p.1) }
-    ensures none { IfNone result (NoNext (finds_front front) words.now) }
-{
-    let (first, rest) = words.split_mark()?;
-    match (front, first) {
-        (Front::Negation, Symbol::NotWord) => Some((Prefix::Not, rest)),
-        (Front::Sign, Symbol::Dash) => Some((Prefix::Minus, rest)),
-        (Front::Sign, Symbol::Cross) => Some((Prefix::Plus, rest)),
-        _ => None,
-    }
 }

@@ -10,8 +10,8 @@ ghost use Rattle.vcm_expr.specs.NameBytes.{IsName};
 use crate::expression::Term;
 use crate::name::{Name, is_name};
 use std::marker::Model;
-use vcm_lines::{FaultCode, Phrase, Token};
-use vcm_num::{Literal, NumFault, is, read_number};
+use vcm_lines::{DottedWord, FaultCode, Phrase, Token, dotted_word};
+use vcm_num::{Literal, NumFault, read_number};
 use vcm_spec::Relation;
 
 /// A word of an expression.
@@ -85,34 +85,17 @@ fn run_term(bytes: &[u8]) -> Result<Term, FaultCode>
     }
 }
 
-/// What a dotted word is.
-fn dotted_symbol(bytes: &[u8]) -> Symbol
-    ensures { result ≡ dotted_symbol bytes.now }
+/// What a dotted word is in an expression.
+fn dotted_symbol(word: Option<DottedWord>) -> Symbol
+    ensures { result ≡ dotted_symbol word }
 {
-    if is(bytes, b".EQ.") {
-        Symbol::RelationWord(Relation::Equal)
-    } else if is(bytes, b".NE.") {
-        Symbol::RelationWord(Relation::NotEqual)
-    } else if is(bytes, b".LT.") {
-        Symbol::RelationWord(Relation::Less)
-    } else if is(bytes, b".LE.") {
-        Symbol::RelationWord(Relation::LessEqual)
-    } else if is(bytes, b".GT.") {
-        Symbol::RelationWord(Relation::Greater)
-    } else if is(bytes, b".GE.") {
-        Symbol::RelationWord(Relation::GreaterEqual)
-    } else if is(bytes, b".NOT.") {
-        Symbol::NotWord
-    } else if is(bytes, b".AND.") {
-        Symbol::AndWord
-    } else if is(bytes, b".OR.") {
-        Symbol::OrWord
-    } else if is(bytes, b".TRUE.") {
-        Symbol::Operand(Ok(Term::Truth(true)))
-    } else if is(bytes, b".FALSE.") {
-        Symbol::Operand(Ok(Term::Truth(false)))
-    } else {
-        Symbol::Other
+    match word {
+        Some(DottedWord::Compare(relation)) => Symbol::RelationWord(relation),
+        Some(DottedWord::Not) => Symbol::NotWord,
+        Some(DottedWord::And) => Symbol::AndWord,
+        Some(DottedWord::Or) => Symbol::OrWord,
+        Some(DottedWord::Truth(truth)) => Symbol::Operand(Ok(Term::Truth(truth))),
+        None => Symbol::Other,
     }
 }
 
@@ -123,7 +106,7 @@ fn symbol_of(token: Token<'_>) -> Symbol
     match token {
         Token::Run(bytes) => Symbol::Operand(run_term(bytes)),
         Token::Number(bytes) => Symbol::Operand(digits_term(bytes)),
-        Token::Dotted(bytes) => dotted_symbol(bytes),
+        Token::Dotted(bytes) => dotted_symbol(dotted_word(bytes)),
         Token::Minus => Symbol::Dash,
         Token::Plus => Symbol::Cross,
         Token::Star => Symbol::Star,

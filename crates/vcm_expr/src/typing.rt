@@ -5,13 +5,14 @@ ghost use Rattle.vcm_lines.specs.Fault.{NoMemoryOr, no_memory};
 ghost use Rattle.vcm_lines.specs.declared.fault.FaultCode.{FaultCode};
 ghost use Rattle.vcm_spec.specs.Expression.{One, Two, kind_of};
 ghost use Rattle.vcm_expr.specs.inner.Trees.{tree_of};
-ghost use Rattle.vcm_expr.specs.Names.{kinds_of};
+ghost use Rattle.vcm_spec.specs.Setup.{kinds_of};
 ghost use Rattle.vcm_expr.specs.Source.{source_of};
-ghost use Rattle.vcm_expr.specs.Typing.{Rule, kinded, leaf_of, named_by, prefixed_by, pair_by, rule_of, product_rule, quotient_rule, truth_rule, scaled, typed_of, typed_for, wanted_by, wanted_kind, and_then, meeting as numbers_meeting};
+ghost use Rattle.vcm_expr.specs.Typing.{kinded, leaf_of, named_by, prefixed_by, pair_by, is_scaled, scaled, scaled_kind, typed_of, typed_for, wanted_by, wanted_kind, and_then};
 
 use crate::expression::{Expr, ExprNode, Prefix, Term};
 use crate::name::Name;
 use crate::names::Names;
+use crate::operators::kind_of_binary;
 use crate::typed::{Typed, TypedNode};
 use std::alloc::Global;
 use vcm_lines::{FaultCode, SourceFault};
@@ -150,105 +151,34 @@ fn pair(
     l: Kind,
     line: u32,
 ) -> Result<(TypedNode, Kind), SourceFault>
-    ensures ok { IfOk result (λ p. pair_by (rule_of op k l) op (tree_of t) (tree_of u) ≡ kinded (tree_of p.0) p.1) }
-    ensures fault { IfErr result (NoMemoryOr (λ f. (f.line ≡ line) × (pair_by (rule_of op k l) op (tree_of t) (tree_of u) ≡ Err f.code))) }
+    ensures ok { IfOk result (λ p. pair_by op (tree_of t) k (tree_of u) l ≡ kinded (tree_of p.0) p.1) }
+    ensures fault { IfErr result (NoMemoryOr (λ f. (f.line ≡ line) × (pair_by op (tree_of t) k (tree_of u) l ≡ Err f.code))) }
 {
-    let Some(rule) = rule(op, k, l) else {
+    let left = is_scaled(op, k, l);
+    let right = is_scaled(op, l, k);
+    let Some(kind) = kind_of_binary(op, scaled_kind(left, k), scaled_kind(right, l)) else {
         return Err(bad_type(line));
     };
-    let t = scale_if(alloc, rule.left, t)?;
-    let u = scale_if(alloc, rule.right, u)?;
-    Ok((binary(alloc, op, t, u)?, rule.kind))
+    let t = scale_if(alloc, left, t)?;
+    let u = scale_if(alloc, right, u)?;
+    Ok((binary(alloc, op, t, u)?, kind))
 }
 
-/// What an operator makes of its operands' kinds: which of them it scales, and the kind of the result.
-#[derive(Clone, Copy)]
-struct Scalings {
-    left: bool,
-    right: bool,
-    kind: Kind,
-}
-
-/// What an operator makes of its operands' kinds.
-fn rule(op: BinaryOp, k: Kind, l: Kind) -> Option<Scalings>
-    ensures some { IfSome result (λ r. rule_of op k l ≡ Some (record { left = r.left; right = r.right; kind = r.kind })) }
-    ensures none { IfNone result (rule_of op k l ≡ None) }
+/// Whether an operand of the first kind is scaled beside one of the second.
+fn is_scaled(op: BinaryOp, k: Kind, l: Kind) -> bool
+    ensures { result ≡ is_scaled op k l }
 {
     match op {
-        BinaryOp::Add | BinaryOp::Sub => meeting(Kind::Int, Kind::Real, k, l),
-        BinaryOp::Mul => product(k, l),
-        BinaryOp::Div => quotient(k, l),
-        BinaryOp::And | BinaryOp::Or => truths(k, l),
-        BinaryOp::Compare(_) => meeting(Kind::Bool, Kind::Bool, k, l),
+        BinaryOp::Mul | BinaryOp::Div => false,
+        _ => matches!((k, l), (Kind::Int, Kind::Real)),
     }
 }
 
-/// No operand is scaled.
-fn as_they_are(kind: Kind) -> Option<Scalings>
-    ensures { result ≡ Some (record { left = false; right = false; kind = kind }) }
+/// The kind of an operand as it stands, or scaled.
+fn scaled_kind(is_scaled: bool, k: Kind) -> Kind
+    ensures { result ≡ scaled_kind is_scaled k }
 {
-    Some(Scalings {
-        left: false,
-        right: false,
-        kind,
-    })
-}
-
-/// Two numbers that meet.
-fn meeting(of_wholes: Kind, of_exacts: Kind, k: Kind, l: Kind) -> Option<Scalings>
-    ensures some { IfSome result (λ r. numbers_meeting of_wholes of_exacts k l ≡ Some (record { left = r.left; right = r.right; kind = r.kind })) }
-    ensures none { IfNone result (numbers_meeting of_wholes of_exacts k l ≡ None) }
-{
-    match (k, l) {
-        (Kind::Int, Kind::Int) => as_they_are(of_wholes),
-        (Kind::Real, Kind::Real) => as_they_are(of_exacts),
-        (Kind::Int, Kind::Real) => Some(Scalings {
-            left: true,
-            right: false,
-            kind: of_exacts,
-        }),
-        (Kind::Real, Kind::Int) => Some(Scalings {
-            left: false,
-            right: true,
-            kind: of_exacts,
-        }),
-        _ => None,
-    }
-}
-
-/// The factors of a product.
-fn product(k: Kind, l: Kind) -> Option<Scalings>
-    ensures some { IfSome result (λ r. product_rule k l ≡ Some (record { left = r.left; right = r.right; kind = r.kind })) }
-    ensures none { IfNone result (product_rule k l ≡ None) }
-{
-    match (k, l) {
-        (Kind::Int, Kind::Int) => as_they_are(Kind::Int),
-        (Kind::Int, Kind::Real) | (Kind::Real, Kind::Int) => as_they_are(Kind::Real),
-        _ => None,
-    }
-}
-
-/// The parts of a quotient.
-fn quotient(k: Kind, l: Kind) -> Option<Scalings>
-    ensures some { IfSome result (λ r. quotient_rule k l ≡ Some (record { left = r.left; right = r.right; kind = r.kind })) }
-    ensures none { IfNone result (quotient_rule k l ≡ None) }
-{
-    match (k, l) {
-        (Kind::Int, Kind::Int) => as_they_are(Kind::Int),
-        (Kind::Real, Kind::Int) => as_they_are(Kind::Real),
-        _ => None,
-    }
-}
-
-/// Two truth values.
-fn truths(k: Kind, l: Kind) -> Option<Scalings>
-    ensures some { IfSome result (λ r. truth_rule k l ≡ Some (record { left = r.left; right = r.right; kind = r.kind })) }
-    ensures none { IfNone result (truth_rule k l ≡ None) }
-{
-    match (k, l) {
-        (Kind::Bool, Kind::Bool) => as_they_are(Kind::Bool),
-        _ => None,
-    }
+    if is_scaled { Kind::Real } else { k }
 }
 
 /// An operand, scaled where it has to be.

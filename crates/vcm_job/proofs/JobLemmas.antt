@@ -12,7 +12,6 @@ use Rattle.vcm_spec.specs.Table.{State, steps, effective}
 use Rattle.vcm_spec.proofs.Steps.{steps-effective}
 use Rattle.vcm_state.specs.Held.{Held}
 use Rattle.vcm_tree.specs.declared.program.Noticed.{Noticed}
-use Rattle.vcm_tree.specs.Program.{tables}
 use Rattle.vcm_machine.specs.declared.ran.End.{End}
 use Rattle.vcm_machine.specs.declared.ran.End.TheVariants as ends
 use Rattle.vcm_run.specs.declared.run.Refusal.{Refusal}
@@ -30,7 +29,8 @@ use Rattle.vcm_job.specs.declared.reading.ReadFault.TheVariants as read_faults
 use Rattle.vcm_job.specs.Reading.{most_bytes, ReadsAtMost, ReadsLittle, IsReadFault}
 use Rattle.vcm_job.specs.Jobs.{most_steps, job_setup, start_of, held, part_text, program_text, status_of}
 use Rattle.vcm_job.specs.Results.{IsHalted, IsJobRefusal, IsDone, IsCutOff, IsNotDone, AnswersLong}
-use Rattle.vcm_job.specs.inner.Running.{IsJobRun, not_read}
+use Rattle.vcm_job.specs.inner.Running.{IsJobRun}
+use Rattle.vcm_job.specs.Unread.{job_not_read}
 
 -- ---- what is known of an input
 
@@ -102,7 +102,7 @@ module _ (n : ℕ) (is : n ≡ most_steps) (input : List ℕ) (part : Workpiece)
         notices = h.notices;
         count = count ∙ ap (λ k. effective setup k start) is;
         text = ap (λ t. result_text (shown t s.held.state) s.ran.done) h.tables_are
-            ∙ ap (λ w. result_text (shown (tables h.parsed) w) s.ran.done) reached
+            ∙ ap (λ w. result_text (shown h.parsed.tables w) s.ran.done) reached
             ∙ ap (λ d. result_text (held h.parsed (steps setup n start)) d) count
             ∙ ap (λ k. result_text (held h.parsed (steps setup k start)) (effective setup k start)) is;
         stop = ap (λ w. w.stop) reached ∙ ap (λ k. (steps setup k start).world.stop) is;
@@ -161,7 +161,7 @@ failed_front old new text (Err f) e w = w
 
 -- ---- faults before anything is written
 
-pub none_read : (a b : Option (List ℕ)) (f : ReadFault) (old new : Option (List ℕ)) → IsReadFault a b f → Keeps old new → IsNotDone a b (not_read f) old new
+pub none_read : (a b : Option (List ℕ)) (f : ReadFault) (old new : Option (List ℕ)) → IsReadFault a b f → Keeps old new → IsNotDone a b (job_not_read f) old new
 none_read a b read_faults.NoMemory old new h k = k
 none_read a b read_faults.Device old new h k = (h, k)
 none_read a b read_faults.TooLong old new h k = (h, k)
@@ -184,7 +184,7 @@ pub read_whole : (a : Option (List ℕ)) (bytes : List ℕ) (answer : Result Don
 read_whole None bytes answer all h = tt
 read_whole (Some x) bytes answer all h = λ l. absurd (let e = ap length all in omega arith)
 
-pub read_failed : (a b : Option (List ℕ)) (f : ReadFault) → IsReadFault a b f → AnswersLong a (Err (not_read f))
+pub read_failed : (a b : Option (List ℕ)) (f : ReadFault) → IsReadFault a b f → AnswersLong a (Err (job_not_read f))
 read_failed None b f h = tt
 read_failed (Some x) b read_faults.NoMemory h = λ l. tt
 read_failed (Some x) b read_faults.Device h = λ l. tt

@@ -10,7 +10,7 @@ use Rattle.vcm_spec.specs.Setup.{Setup}
 use Rattle.vcm_spec.specs.Table.{State, steps, effective, opening}
 use Rattle.vcm_state.specs.Held.{Held}
 use Rattle.vcm_state.specs.Carried.{setup_of}
-use Rattle.vcm_tree.specs.Program.{Parsed, tables}
+use Rattle.vcm_tree.specs.Program.{Parsed}
 use Rattle.vcm_tree.specs.Acceptance.{IsAccepted}
 use Rattle.vcm_run.specs.Printed.{result_text}
 
@@ -52,7 +52,7 @@ most_steps = 1000000
 
 -- what a program is carried out on
 abbrev pub job_setup : Workpiece → Parsed → Setup
-job_setup part p = setup_of part (tables p)
+job_setup part p = setup_of part p.tables
 
 -- a program's state beside a workpiece at the start
 abbrev pub start_of : Workpiece → Parsed → State
@@ -64,7 +64,7 @@ last_state part p = steps (job_setup part p) most_steps (start_of part p)
 
 -- a state with the tables of its program
 abbrev pub held : Parsed → State → Held
-held p s = record { tables = tables p; state = s.world }
+held p s = record { tables = p.tables; state = s.world }
 
 -- how many of these steps are taken at a state without a stop
 abbrev pub job_count : Workpiece → Parsed → ℕ

@@ -1,8 +1,10 @@
 pub mod Reading
+pub mod Unread
 pub mod Jobs
 pub mod Results
 pub mod Files
 pub mod Inputs
 pub mod Listings
+pub mod Checks
 pub mod Debugged
 pub mod inner

@@ -4,7 +4,6 @@ ghost use Rattle.std.specs.Prelude.{◌≡◌, IfOk, IfErr, IfSome};
 ghost use Rattle.vcm_run.specs.Programs.{IsBuilt};
 ghost use Rattle.vcm_job.specs.Reading.{ReadsLittle};
 ghost use Rattle.vcm_job.specs.Files.{IsNotBuilt};
-ghost use Rattle.vcm_job.specs.inner.Unread.{build_not_read};
 
 use crate::reading::{ReadFault, read_all};
 use std::alloc::Global;
@@ -24,14 +23,18 @@ pub enum BuildFault {
     TooLong,
 }
 
-// The fault of a text that wasn't read whole.
-fn build_not_read(fault: ReadFault) -> BuildFault
-    ensures { result ≡ build_not_read fault }
-{
-    match fault {
-        ReadFault::NoMemory => BuildFault::NoMemory,
-        ReadFault::Device => BuildFault::Read,
-        ReadFault::TooLong => BuildFault::TooLong,
+impl From<ReadFault> for BuildFault {
+    ghost use Rattle.std.specs.Prelude.{◌≡◌};
+    ghost use Rattle.vcm_job.specs.Unread.{build_not_read};
+
+    ghost from_gives = { λ read fault. fault ≡ build_not_read read };
+
+    fn from(fault: ReadFault) -> BuildFault {
+        match fault {
+            ReadFault::NoMemory => BuildFault::NoMemory,
+            ReadFault::Device => BuildFault::Read,
+            ReadFault::TooLong => BuildFault::TooLong,
+        }
     }
 }
 
@@ -43,10 +46,7 @@ pub fn build<R: Read>(alloc: Global, reader: &mut R) -> Result<Built, BuildFault
     ensures fault { IfErr result (λ f. IsNotBuilt (R.remaining reader.old) (R.remaining reader.new) f) }
     ensures little { ReadsLittle (R.remaining reader.old) (R.remaining reader.new) }
 {
-    let text = match read_all(alloc, reader) {
-        Ok(text) => text,
-        Err(fault) => return Err(build_not_read(fault)),
-    };
+    let text = read_all(alloc, reader)?;
     match build_image(alloc, &text) {
         Ok(built) => Ok(built),
         Err(refusal) => Err(BuildFault::Refused(refusal)),

@@ -3,7 +3,7 @@
 ghost use Rattle.std.specs.Prelude.{◌≡◌, IfOk, IfErr, IfSome};
 ghost use Rattle.vcm_job.specs.Reading.{ReadsLittle};
 ghost use Rattle.vcm_job.specs.Debugged.{IsSession, IsServedOn, IsDebugged, IsInputFault, IsNotDebugged};
-ghost use Rattle.vcm_job.specs.inner.Sessions.{IsNoSession, IsNotServed, debug_not_read};
+ghost use Rattle.vcm_job.specs.inner.Sessions.{IsNoSession, IsNotServed};
 
 use crate::inputs::is_image;
 use crate::reading::{ReadFault, read_all};
@@ -34,14 +34,18 @@ pub enum DebugFault {
     Serve(ServeFault),
 }
 
-// The fault of an input that wasn't read whole.
-fn debug_not_read(fault: ReadFault) -> DebugFault
-    ensures { result ≡ debug_not_read fault }
-{
-    match fault {
-        ReadFault::NoMemory => DebugFault::NoMemory,
-        ReadFault::Device => DebugFault::Read,
-        ReadFault::TooLong => DebugFault::TooLong,
+impl From<ReadFault> for DebugFault {
+    ghost use Rattle.std.specs.Prelude.{◌≡◌};
+    ghost use Rattle.vcm_job.specs.Unread.{debug_not_read};
+
+    ghost from_gives = { λ read fault. fault ≡ debug_not_read read };
+
+    fn from(fault: ReadFault) -> DebugFault {
+        match fault {
+            ReadFault::NoMemory => DebugFault::NoMemory,
+            ReadFault::Device => DebugFault::Read,
+            ReadFault::TooLong => DebugFault::TooLong,
+        }
     }
 }
 
@@ -140,9 +144,6 @@ pub fn debug<I: Read, R: Read, W: Write>(
     ensures fault { IfErr result (λ f. IsNotDebugged part.now (I.remaining reader.old) (I.remaining reader.new) (R.remaining commands.old) (R.remaining commands.new) f (W.contents writer.old) (W.contents writer.new)) }
     ensures little { ReadsLittle (I.remaining reader.old) (I.remaining reader.new) }
 {
-    let input = match read_all(alloc, reader) {
-        Ok(input) => input,
-        Err(fault) => return Err(debug_not_read(fault)),
-    };
+    let input = read_all(alloc, reader)?;
     serve_input(alloc, part, &input, commands, writer)
 }

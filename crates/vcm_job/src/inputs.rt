@@ -4,7 +4,6 @@ ghost use Rattle.std.specs.Prelude.{◌≡◌, ◌≢◌, take, IfOk, IfErr, IfS
 ghost use Rattle.std.specs.Str.{bytes_eq};
 ghost use Rattle.vcm_job.specs.Reading.{ReadsLittle};
 ghost use Rattle.vcm_job.specs.Inputs.{is_image, IsInputRun, IsRefusedInput, IsWritten, IsNotWritten};
-ghost use Rattle.vcm_job.specs.inner.UnreadInputs.{input_not_read};
 
 use crate::reading::{ReadFault, read_all};
 use crate::running::{Done, is_halted, status_of};
@@ -34,14 +33,18 @@ pub enum RunFault {
     TooLong,
 }
 
-// The fault of an input that wasn't read whole.
-fn input_not_read(fault: ReadFault) -> RunFault
-    ensures { result ≡ input_not_read fault }
-{
-    match fault {
-        ReadFault::NoMemory => RunFault::NoMemory,
-        ReadFault::Device => RunFault::Read,
-        ReadFault::TooLong => RunFault::TooLong,
+impl From<ReadFault> for RunFault {
+    ghost use Rattle.std.specs.Prelude.{◌≡◌};
+    ghost use Rattle.vcm_job.specs.Unread.{input_not_read};
+
+    ghost from_gives = { λ read fault. fault ≡ input_not_read read };
+
+    fn from(fault: ReadFault) -> RunFault {
+        match fault {
+            ReadFault::NoMemory => RunFault::NoMemory,
+            ReadFault::Device => RunFault::Read,
+            ReadFault::TooLong => RunFault::TooLong,
+        }
     }
 }
 
@@ -86,10 +89,7 @@ pub fn run<R: Read, W: Write>(
     ensures fault { IfErr result (λ f. IsNotWritten part.now steps (R.remaining reader.old) (R.remaining reader.new) f (W.contents writer.old) (W.contents writer.new)) }
     ensures little { ReadsLittle (R.remaining reader.old) (R.remaining reader.new) }
 {
-    let input = match read_all(alloc, reader) {
-        Ok(input) => input,
-        Err(fault) => return Err(input_not_read(fault)),
-    };
+    let input = read_all(alloc, reader)?;
     let summary = summary_of(alloc, part, &input, steps)?;
     let ran = summary.ran();
     let done = ran.done;

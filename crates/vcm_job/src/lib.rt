@@ -1,7 +1,9 @@
-//! Jobs, runs of inputs, images of programs and of listings, listings, and sessions of the debugger: inputs read whole, and the result written.
+//! Checks, jobs, runs of inputs, images of programs and of listings, listings, and sessions of the debugger: inputs read whole, and the result
+//! written.
 #![tactic(auto)]
 
 mod building;
+mod checking;
 mod cutting;
 mod debugging;
 mod inputs;
@@ -11,6 +13,7 @@ mod reading;
 mod running;
 
 pub use building::{BuildFault, build};
+pub use checking::{CheckFault, check};
 pub use debugging::{DebugFault, debug};
 pub use inputs::{RunFault, run};
 pub use listing::{AsmFault, PrintFault, asm, list};

@@ -3,7 +3,7 @@
 ghost use Rattle.std.specs.Prelude.{◌≡◌, IfOk, IfErr, IfSome};
 ghost use Rattle.vcm_job.specs.Reading.{ReadsLittle};
 ghost use Rattle.vcm_job.specs.Listings.{IsPrinted, IsListed, IsListRefusal, IsWrittenOut, IsNotListed, IsNotAssembled};
-ghost use Rattle.vcm_job.specs.inner.Printing.{IsNotPrinted, list_not_read, asm_not_read};
+ghost use Rattle.vcm_job.specs.inner.Printing.{IsNotPrinted};
 
 use crate::inputs::is_image;
 use crate::reading::{ReadFault, read_all};
@@ -54,25 +54,33 @@ struct Listed {
     notices: Vec<Noticed>,
 }
 
-// The fault of an input that wasn't read whole.
-fn list_not_read(fault: ReadFault) -> PrintFault
-    ensures { result ≡ list_not_read fault }
-{
-    match fault {
-        ReadFault::NoMemory => PrintFault::NoMemory,
-        ReadFault::Device => PrintFault::Read,
-        ReadFault::TooLong => PrintFault::TooLong,
+impl From<ReadFault> for PrintFault {
+    ghost use Rattle.std.specs.Prelude.{◌≡◌};
+    ghost use Rattle.vcm_job.specs.Unread.{list_not_read};
+
+    ghost from_gives = { λ read fault. fault ≡ list_not_read read };
+
+    fn from(fault: ReadFault) -> PrintFault {
+        match fault {
+            ReadFault::NoMemory => PrintFault::NoMemory,
+            ReadFault::Device => PrintFault::Read,
+            ReadFault::TooLong => PrintFault::TooLong,
+        }
     }
 }
 
-// The fault of a listing that wasn't read whole.
-fn asm_not_read(fault: ReadFault) -> AsmFault
-    ensures { result ≡ asm_not_read fault }
-{
-    match fault {
-        ReadFault::NoMemory => AsmFault::NoMemory,
-        ReadFault::Device => AsmFault::Read,
-        ReadFault::TooLong => AsmFault::TooLong,
+impl From<ReadFault> for AsmFault {
+    ghost use Rattle.std.specs.Prelude.{◌≡◌};
+    ghost use Rattle.vcm_job.specs.Unread.{asm_not_read};
+
+    ghost from_gives = { λ read fault. fault ≡ asm_not_read read };
+
+    fn from(fault: ReadFault) -> AsmFault {
+        match fault {
+            ReadFault::NoMemory => AsmFault::NoMemory,
+            ReadFault::Device => AsmFault::Read,
+            ReadFault::TooLong => AsmFault::TooLong,
+        }
     }
 }
 
@@ -124,10 +132,7 @@ pub fn list<R: Read, W: Write>(
     ensures fault { IfErr result (λ f. IsNotListed (R.remaining reader.old) (R.remaining reader.new) f (W.contents writer.old) (W.contents writer.new)) }
     ensures little { ReadsLittle (R.remaining reader.old) (R.remaining reader.new) }
 {
-    let input = match read_all(alloc, reader) {
-        Ok(input) => input,
-        Err(fault) => return Err(list_not_read(fault)),
-    };
+    let input = read_all(alloc, reader)?;
     let Listed { text, notices } = listing_of(alloc, &input)?;
     match write_all(writer, &text) {
         Ok(()) => Ok(notices),
@@ -144,10 +149,7 @@ pub fn asm<R: Read>(alloc: Global, reader: &mut R) -> Result<Vec<u8>, AsmFault>
     ensures fault { IfErr result (λ f. IsNotAssembled (R.remaining reader.old) (R.remaining reader.new) f) }
     ensures little { ReadsLittle (R.remaining reader.old) (R.remaining reader.new) }
 {
-    let text = match read_all(alloc, reader) {
-        Ok(text) => text,
-        Err(fault) => return Err(asm_not_read(fault)),
-    };
+    let text = read_all(alloc, reader)?;
     let code = match read_listing(alloc, &text) {
         Ok(code) => code,
         Err(fault) => return Err(AsmFault::Refused(fault)),

@@ -3,7 +3,6 @@
 ghost use Rattle.std.specs.Prelude.{◌≡◌, IfOk, IfErr, IfSome};
 ghost use Rattle.vcm_job.specs.Reading.{ReadsLittle};
 ghost use Rattle.vcm_job.specs.Files.{IsPartIn, IsNoPart};
-ghost use Rattle.vcm_job.specs.inner.Unread.{part_not_read};
 
 use crate::reading::{ReadFault, read_all};
 use std::alloc::Global;
@@ -23,14 +22,18 @@ pub enum PartFileFault {
     TooLong,
 }
 
-// The fault of a part file that wasn't read whole.
-fn part_not_read(fault: ReadFault) -> PartFileFault
-    ensures { result ≡ part_not_read fault }
-{
-    match fault {
-        ReadFault::NoMemory => PartFileFault::NoMemory,
-        ReadFault::Device => PartFileFault::Read,
-        ReadFault::TooLong => PartFileFault::TooLong,
+impl From<ReadFault> for PartFileFault {
+    ghost use Rattle.std.specs.Prelude.{◌≡◌};
+    ghost use Rattle.vcm_job.specs.Unread.{part_not_read};
+
+    ghost from_gives = { λ read fault. fault ≡ part_not_read read };
+
+    fn from(fault: ReadFault) -> PartFileFault {
+        match fault {
+            ReadFault::NoMemory => PartFileFault::NoMemory,
+            ReadFault::Device => PartFileFault::Read,
+            ReadFault::TooLong => PartFileFault::TooLong,
+        }
     }
 }
 
@@ -42,10 +45,7 @@ pub fn part_from<R: Read>(alloc: Global, reader: &mut R) -> Result<PartData, Par
     ensures fault { IfErr result (λ f. IsNoPart (R.remaining reader.old) (R.remaining reader.new) f) }
     ensures little { ReadsLittle (R.remaining reader.old) (R.remaining reader.new) }
 {
-    let file = match read_all(alloc, reader) {
-        Ok(file) => file,
-        Err(fault) => return Err(part_not_read(fault)),
-    };
+    let file = read_all(alloc, reader)?;
     match read_part(alloc, &file) {
         Ok(part) => Ok(part),
         Err(fault) => Err(PartFileFault::Refused(fault)),

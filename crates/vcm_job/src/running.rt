@@ -4,7 +4,7 @@ ghost use Rattle.std.specs.Prelude.{◌≡◌, ◌≢◌, true, false, IfOk, IfE
 ghost use Rattle.vcm_job.specs.Jobs.{status_of, most_steps};
 ghost use Rattle.vcm_job.specs.Reading.{ReadsLittle};
 ghost use Rattle.vcm_job.specs.Results.{IsJobRefusal, IsDone, IsNotDone, AnswersLong};
-ghost use Rattle.vcm_job.specs.inner.Running.{IsJobRun, not_read};
+ghost use Rattle.vcm_job.specs.inner.Running.{IsJobRun};
 
 use crate::cutting::texts_of;
 use crate::reading::{ReadFault, read_all};
@@ -44,14 +44,18 @@ pub enum JobFault {
     TooLong,
 }
 
-// The fault of a job whose input wasn't read whole.
-fn not_read(fault: ReadFault) -> JobFault
-    ensures { result ≡ not_read fault }
-{
-    match fault {
-        ReadFault::NoMemory => JobFault::NoMemory,
-        ReadFault::Device => JobFault::Read,
-        ReadFault::TooLong => JobFault::TooLong,
+impl From<ReadFault> for JobFault {
+    ghost use Rattle.std.specs.Prelude.{◌≡◌};
+    ghost use Rattle.vcm_job.specs.Unread.{job_not_read};
+
+    ghost from_gives = { λ read fault. fault ≡ job_not_read read };
+
+    fn from(fault: ReadFault) -> JobFault {
+        match fault {
+            ReadFault::NoMemory => JobFault::NoMemory,
+            ReadFault::Device => JobFault::Read,
+            ReadFault::TooLong => JobFault::TooLong,
+        }
     }
 }
 
@@ -119,10 +123,7 @@ pub fn job<R: Read, W: Write>(
     ensures long { AnswersLong (R.remaining reader.old) result }
     ensures little { ReadsLittle (R.remaining reader.old) (R.remaining reader.new) }
 {
-    let input = match read_all(alloc, reader) {
-        Ok(input) => input,
-        Err(fault) => return Err(not_read(fault)),
-    };
+    let input = read_all(alloc, reader)?;
     let summary = summary_of(alloc, &input, MAX_STEPS)?;
     let done = summary.ran().done;
     if write_result(summary.world(), &summary.ran(), writer).is_err() {

@@ -1,6 +1,8 @@
 -- The words of a statement as a list: what each of them says, without its place in the text.
-use Rattle.std.specs.Prelude.{ℕ, ◌-◌, ◌==◌, ◌&&◌, ◌||◌, Bool, true, nat_le, if◌then◌else◌, codes, List, [], ◌∷◌, length, slice_range}
-use Rattle.std.specs.Str.{bytes_eq}
+use Rattle.std.specs.Prelude.{ℕ, ◌-◌, ◌==◌, ◌&&◌, Bool, true, nat_le, if◌then◌else◌, List, [], ◌∷◌, length, slice_range}
+use Rattle.std.specs.Option.{is_some}
+use Rattle.vcm_num.specs.Words.{look_up}
+use Rattle.vcm_lines.specs.Dotted.{dotted_words}
 use Rattle.vcm_lines.specs.declared.logical.Word.{Word}
 use Rattle.vcm_lines.specs.declared.logical.WordKind.{WordKind}
 use Rattle.vcm_lines.specs.declared.logical.WordKind.TheVariants.{Run as RunKind, Number as NumberKind, Quoted as QuotedKind, Mark as MarkKind, Dotted as DottedKind}
@@ -84,16 +86,7 @@ lexeme MinusToken = Minus
 lexeme StarToken = Star
 lexeme OtherToken = Other
 
--- the dotted words that there are
-abbrev pub is_relation : List ℕ → Bool
-is_relation bs = bytes_eq bs (codes ".EQ.") || bytes_eq bs (codes ".NE.") || bytes_eq bs (codes ".LT.")
-    || bytes_eq bs (codes ".LE.") || bytes_eq bs (codes ".GT.") || bytes_eq bs (codes ".GE.")
-
-abbrev pub is_logical : List ℕ → Bool
-is_logical bs = bytes_eq bs (codes ".NOT.") || bytes_eq bs (codes ".AND.") || bytes_eq bs (codes ".OR.")
-    || bytes_eq bs (codes ".TRUE.") || bytes_eq bs (codes ".FALSE.")
-
 -- whether a word, if it is a dotted one, is one that there is
 abbrev pub is_spelled : Lexeme → Bool
-is_spelled (Dotted bs) = is_relation bs || is_logical bs
+is_spelled (Dotted bs) = is_some (look_up dotted_words bs)
 is_spelled _ = true

@@ -4,6 +4,7 @@ pub mod Pieces
 pub mod Words
 pub mod Statements
 pub mod Laws
+pub mod Dotted
 pub mod Lexemes
 pub mod Cuts
 pub mod inner

@@ -3,6 +3,7 @@
 #![tactic(auto)]
 
 mod clean;
+mod dotted;
 mod fault;
 pub mod laws;
 mod lines;
@@ -11,6 +12,7 @@ mod phrase;
 mod words;
 
 pub use clean::upper;
+pub use dotted::{DottedWord, dotted_word};
 pub use fault::{FaultCode, SourceFault, bad_syntax};
 pub use lines::logical_lines;
 pub use logical::{Lines, Logical, OwnedBytes, Word, WordKind, Words};

@@ -4,12 +4,12 @@ ghost use Rattle.std.specs.Prelude.{◌≡◌, ◌≤◌, ◌∷◌, ◌++◌, [
 ghost use Rattle.std.specs.List.{position, list_all, list_any};
 ghost use Rattle.vcm_lines.specs.declared.phrase.Cutter.{Cutter};
 ghost use Rattle.vcm_lines.specs.Cuts.{cuts, before, after, fields_of, last_of, front_of, uncut, with_commas, has_cut};
-ghost use Rattle.vcm_lines.specs.Lexemes.{Lexeme, lexemes, lexeme, word_bytes, unquoted, word_lexeme, mark_of, mark_in, is_relation, is_logical, is_spelled};
+ghost use Rattle.vcm_lines.specs.Lexemes.{Lexeme, lexemes, lexeme, word_bytes, unquoted, word_lexeme, mark_of, mark_in, is_spelled};
 
+use crate::dotted::dotted_word;
 use crate::logical::{Logical, OwnedBytes, Word, WordKind};
 use std::alloc::{AllocError, Global};
 use std::marker::Model;
-use vcm_num::is;
 
 /// A word of a statement.
 #[derive(Clone, Copy, Debug)]
@@ -34,34 +34,13 @@ pub enum Token<'a> {
     Other,
 }
 
-fn is_relation(bytes: &[u8]) -> bool
-    ensures { result ≡ is_relation bytes.now }
-{
-    is(bytes, b".EQ.")
-        || is(bytes, b".NE.")
-        || is(bytes, b".LT.")
-        || is(bytes, b".LE.")
-        || is(bytes, b".GT.")
-        || is(bytes, b".GE.")
-}
-
-fn is_logical(bytes: &[u8]) -> bool
-    ensures { result ≡ is_logical bytes.now }
-{
-    is(bytes, b".NOT.")
-        || is(bytes, b".AND.")
-        || is(bytes, b".OR.")
-        || is(bytes, b".TRUE.")
-        || is(bytes, b".FALSE.")
-}
-
 impl<'a> Token<'a> {
-    /// Whether the word, if it is a dotted one, is a relation, a logical operator or a logical constant.
+    /// Whether the word, if it is a dotted one, is one that there is.
     pub fn is_spelled(self) -> bool
         ensures { result ≡ is_spelled (lexeme self.entry) }
     {
         match self {
-            Token::Dotted(bytes) => is_relation(bytes) || is_logical(bytes),
+            Token::Dotted(bytes) => dotted_word(bytes).is_some(),
             _ => true,
         }
     }
@@ -231,7 +210,7 @@ impl<'a> Phrase<'a> {
         }
     }
 
-    /// Whether each dotted word is a relation, a logical operator or a logical constant.
+    /// Whether each dotted word is one that there is.
     pub fn is_spelled(&self) -> bool
         ensures { result ≡ list_all is_spelled self.now }
     {

@@ -1,6 +1,5 @@
 -- What the reading of a listing refuses.
-use Rattle.std.proofs.Common.{◌≡◌, ◌⊎◌, inl, inr, ℕ, suc, ◌+◌, ◌-◌, Bool, true, false, List, [], ◌∷◌, length, Result, Ok, Err, refl, sym, ap, ◌∙◌, subst, arith}
-use Rattle.std.specs.Prelude.{IfOk, map}
+use Rattle.std.proofs.Common.{◌≡◌, ◌⊎◌, inl, inr, ℕ, ◌+◌, Bool, true, false, List, [], ◌∷◌, length, Result, Ok, Err, refl, sym, ap, ◌∙◌, subst, arith}
 use Rattle.vcm_code.specs.declared.code.Code.{Code}
 use Rattle.vcm_code.specs.Ops.{code_of}
 use Rattle.vcm_code.specs.Valid.{IsValid}
@@ -9,7 +8,7 @@ use Rattle.vcm_image.specs.Whole.{Fits}
 use Rattle.vcm_words.specs.declared.fault.ListCode.TheVariants.{NotValid}
 use Rattle.vcm_words.specs.declared.fault.ListFault.{ListFault}
 use Rattle.vcm_words.specs.Cutting.{split}
-use Rattle.vcm_words.specs.Rows.{ListRow, row_text, rows, text_of, listing}
+use Rattle.vcm_words.specs.Rows.{ListRow, rows, listing}
 use Rattle.vcm_words.specs.Listing.{told, code_listed}
 use Rattle.vcm_words.specs.Outcomes.{IsWant, GivesOrWants, last_line, ListingFault, FaultOrWant}
 use Rattle.vcm_listing.proofs.ListingLaws.{ended_lines, code_takes, code_again, rows_fit, cut_lines}

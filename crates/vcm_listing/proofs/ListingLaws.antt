@@ -1,6 +1,6 @@
 -- Listings: what is read is spelled so, and what is spelled so is read again.
-use Rattle.std.proofs.Common.{◌≡◌, ℕ, zero, suc, ◌+◌, ◌<◌, ◌≤◌, ◌==◌, ◌&&◌, nat_lt, Bool, true, false, cond, List, [], ◌∷◌, ◌++◌, length, Option, Some, None, Result, Ok, Err, refl, sym, ap, ◌∙◌, subst, arith, IsTrue, append_assoc}
-use Rattle.std.specs.Prelude.{map, flat_map}
+use Rattle.std.proofs.Common.{◌≡◌, ℕ, suc, ◌+◌, ◌<◌, ◌≤◌, ◌==◌, ◌&&◌, nat_lt, Bool, true, false, cond, List, [], ◌∷◌, ◌++◌, length, Option, Some, None, Result, Ok, Err, refl, sym, ap, ◌∙◌, subst, arith, append_assoc}
+use Rattle.std.specs.Prelude.{map}
 use Rattle.std.specs.List.{AllByRecursion}
 use Rattle.std.proofs.lemmas.Bool.{eqb-true, ltb-true}
 use Rattle.std.proofs.lemmas.List.{append-nil, length-append}
@@ -15,10 +15,9 @@ use Rattle.vcm_words.specs.declared.fault.ListCode.{ListCode}
 use Rattle.vcm_words.specs.declared.fault.ListCode.TheVariants.{BadLine, BadNumber, OutOfOrder}
 use Rattle.vcm_words.specs.declared.fault.ListFault.{ListFault}
 use Rattle.vcm_words.specs.Cutting.{split, joined}
-use Rattle.vcm_words.specs.inner.Marks.{Without}
 use Rattle.vcm_words.specs.Rows.{ListRow, row_text, numbered, rows, text_of, listing, row_of}
 use Rattle.vcm_words.specs.inner.Fitting.{FitsRow}
-use Rattle.vcm_words.specs.Listing.{is_empty, with_tables, placed, added, unread, after_line, unread_head, empty, after_head, told, on, lines_read, parts_read, code_listed}
+use Rattle.vcm_words.specs.Listing.{is_empty, placed, added, after_line, empty, after_head, told, on, lines_read, parts_read, code_listed}
 use Rattle.vcm_words.proofs.Cuts.{joined-split, split-word}
 use Rattle.vcm_words.proofs.Inverse.{all_append}
 use Rattle.vcm_words.proofs.NumberLaws.{both_true, lt_true}

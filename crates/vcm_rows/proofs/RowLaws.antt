@@ -1,11 +1,11 @@
 -- Lines: what is read is spelled so, and what is spelled so is read again.
-use Rattle.std.proofs.Common.{◌≡◌, ℕ, zero, suc, ◌<◌, ◌≤◌, ◌^◌, ◌==◌, ◌&&◌, nat_le, Bool, true, false, cond, List, [], ◌∷◌, ◌++◌, length, Option, Some, None, refl, sym, ap, ◌∙◌, subst, arith, IsTrue}
+use Rattle.std.proofs.Common.{◌≡◌, ℕ, ◌<◌, ◌^◌, ◌==◌, ◌&&◌, nat_le, true, false, List, [], ◌∷◌, ◌++◌, length, Option, Some, None, refl, sym, ap, ◌∙◌, subst, arith}
 use Rattle.std.specs.Prelude.{decimal, codes}
 use Rattle.std.specs.List.{AllByRecursion, list_all}
 use Rattle.std.specs.Char.{is_ascii_digit}
 use Rattle.std.proofs.lemmas.Bool.{eqb-true}
 use Rattle.std.proofs.lemmas.List.{append-nil}
-use Rattle.std.proofs.lemmas.Fmt.{decimal_nonempty, decimal_digit}
+use Rattle.std.proofs.lemmas.Fmt.{decimal_nonempty}
 use Rattle.vcm_num.specs.Literals.{AllDigits}
 use Rattle.vcm_num.specs.declared.number.Kind.{Kind}
 use Rattle.vcm_num.specs.declared.number.Kind.TheVariants.{Int, Real, Bool as Truth}
@@ -20,13 +20,14 @@ use Rattle.vcm_words.specs.declared.row.Heading.{Heading}
 use Rattle.vcm_words.specs.declared.row.Heading.TheVariants as headings
 use Rattle.vcm_words.specs.Cutting.{split, joined}
 use Rattle.vcm_words.specs.inner.Marks.{Without, IsWord}
-use Rattle.vcm_words.specs.Numbers.{natural, number, counted, only_if}
-use Rattle.vcm_words.specs.WordReaders.{◌>>=◌, Reader, one, both, via, ended, named}
-use Rattle.vcm_words.specs.Operands.{single, number_text, number_at, line, line_at}
-use Rattle.vcm_words.specs.Rows.{ListRow, kind_text, row_words, row_text, kind_rows, heading_rows, name_at, variable_name_at, version_at, entry_at, indexed_at, numbered_at, row_after, row_at, row_of}
+use Rattle.vcm_words.specs.Numbers.{number, counted, only_if}
+use Rattle.vcm_num.specs.Words.{look_up}
+use Rattle.vcm_words.specs.WordReaders.{◌>>=◌, Reader, one, via, ended}
+use Rattle.vcm_words.specs.Operands.{single, number_text, line}
+use Rattle.vcm_words.specs.Rows.{ListRow, kind_text, row_words, row_text, kind_rows, heading_rows, version_at, entry_at, indexed_at, numbered_at, row_after, row_at, row_of}
 use Rattle.vcm_words.specs.inner.Fitting.{FitsRow}
-use Rattle.vcm_words.proofs.Cuts.{joined-split, split-joined, split_without, split_some}
-use Rattle.vcm_words.proofs.Inverse.{Means, Reads, Ends, Bare, ends, bind_some, some_is, only_met, all_append, reads_one, reads_both, via_takes, via_again, ends_via, ends_both}
+use Rattle.vcm_words.proofs.Cuts.{joined-split, split-joined, split_without}
+use Rattle.vcm_words.proofs.Inverse.{Means, Reads, Ends, Bare, ends, bind_some, some_is, only_met, all_append, reads_one, reads_both, via_again, ends_via, ends_both}
 use Rattle.vcm_words.proofs.NumberLaws.{means_number, both_true, decimal_digits}
 use Rattle.vcm_words.proofs.WordLaws.{means_named, named_takes}
 use Rattle.vcm_words.proofs.PlaceLaws.{Any, reads_number}
@@ -60,7 +61,7 @@ means_variable_name = record {
 
 -- ---- tables
 
-kind_again : (x : Kind) → Any x → named kind_rows (kind_text x) ≡ Some x
+kind_again : (x : Kind) → Any x → look_up kind_rows (kind_text x) ≡ Some x
 kind_again Int h = refl
 kind_again Real h = refl
 kind_again Truth h = refl
@@ -70,7 +71,7 @@ kind_words Int h = ((refl, (refl, (refl, (refl, (refl, tt))))), (refl, (refl, (r
 kind_words Real h = ((refl, (refl, (refl, (refl, tt)))), (refl, (refl, (refl, (refl, tt)))))
 kind_words Truth h = ((refl, (refl, (refl, (refl, tt)))), (refl, (refl, (refl, (refl, tt)))))
 
-reads_kind : Reads (one (named kind_rows)) (λ x. single (kind_text x)) Any
+reads_kind : Reads (one (look_up kind_rows)) (λ x. single (kind_text x)) Any
 unfolding Any
 reads_kind = reads_one (means_named kind_text Any kind_rows ((refl, tt), ((refl, tt), ((refl, tt), tt))) kind_again kind_words)
 
@@ -80,14 +81,14 @@ heading_text headings.Variables = codes "VAR"
 heading_text headings.Features = codes "FEATURE"
 heading_text headings.Frames = codes "FRAME"
 
-heading_takes : (w : List ℕ) (x : Heading) → named heading_rows w ≡ Some x → w ≡ heading_text x
+heading_takes : (w : List ℕ) (x : Heading) → look_up heading_rows w ≡ Some x → w ≡ heading_text x
 unfolding heading_text Any
 heading_takes w x e = (named_takes heading_text Any heading_rows w x ((refl, tt), ((refl, tt), ((refl, tt), ((refl, tt), tt)))) e).0
 
 digit_isnt : (b m : ℕ) → is_ascii_digit b ≡ true → 57 < m → (b == m) ≡ false
 digit_isnt b m e h = grind arith
 
-no_heading : (w : List ℕ) → AllDigits w → 0 < length w → named heading_rows w ≡ None
+no_heading : (w : List ℕ) → AllDigits w → 0 < length w → look_up heading_rows w ≡ None
 no_heading [] d h = absurd (omega arith)
 no_heading (b ∷ bs) d h = rw (digit_isnt b 86 d.0 (omega arith), digit_isnt b 70 d.0 (omega arith)) refl
 
@@ -164,7 +165,7 @@ Spelled ws r = (ws ≡ row_words r) × FitsRow r
 cons_is : {w v : List ℕ} {ws vs : List (List ℕ)} → w ≡ v → ws ≡ vs → w ∷ ws ≡ v ∷ vs
 cons_is {w} {v} {ws} {vs} e f = ap (λ u. u ∷ ws) e ∙ ap (λ us. v ∷ us) f
 
-after_takes : (o : Option Heading) (w : List ℕ) (ws : List (List ℕ)) (r : ListRow) → named heading_rows w ≡ o → Bare (w ∷ ws) → row_after true o w ws ≡ Some r → Spelled (w ∷ ws) r
+after_takes : (o : Option Heading) (w : List ℕ) (ws : List (List ℕ)) (r : ListRow) → look_up heading_rows w ≡ o → Bare (w ∷ ws) → row_after true o w ws ≡ Some r → Spelled (w ∷ ws) r
 unfolding row_after Spelled IsOne FitsPair FitsIndexed FitsNumbered heading_text
 after_takes (Some headings.Head) w ws r n bare e =
     let t = whole_takes ends_version (λ n. Head) ws r bare.1 e in
@@ -185,7 +186,7 @@ after_takes None w ws r n bare e =
 
 at_takes : (ws : List (List ℕ)) (r : ListRow) → Bare ws → row_at true ws ≡ Some r → Spelled ws r
 at_takes [] r bare e = absurd cc
-at_takes (w ∷ ws) r bare e = after_takes (named heading_rows w) w ws r refl bare e
+at_takes (w ∷ ws) r bare e = after_takes (look_up heading_rows w) w ws r refl bare e
 
 -- what is read is spelled so
 pub row_takes : (bytes : List ℕ) (r : ListRow) → row_of true bytes ≡ Some r → (bytes ≡ row_text r) × FitsRow r

@@ -1,13 +1,14 @@
 //! The tables of names in a listing.
 
 ghost use Rattle.std.specs.Prelude.{◌≡◌};
-ghost use Rattle.vcm_words.specs.WordReaders.{one, named};
+ghost use Rattle.vcm_num.specs.Words.{look_up};
+ghost use Rattle.vcm_words.specs.WordReaders.{one};
 ghost use Rattle.vcm_words.specs.Rows.{kind_rows, name_at, variable_name_at, entry_at, indexed_at};
 
 use vcm_expr::{Name, is_name, is_variable_name};
-use vcm_num::{Kind, is};
+use vcm_num::Kind;
 use vcm_tables::Variable;
-use vcm_words::{Words, count, index};
+use vcm_words::{Words, count, index, table_word};
 
 // A name, and the words behind it.
 fn name<'a>(words: &Words<'a>) -> Option<(Name, Words<'a>)>
@@ -36,18 +37,16 @@ fn variable_name<'a>(words: &Words<'a>) -> Option<(Name, Words<'a>)>
 
 // A kind, and the words behind it.
 fn kind<'a>(words: &Words<'a>) -> Option<(Kind, Words<'a>)>
-    ensures { result ≡ one (named kind_rows) words.now }
+    ensures { result ≡ one (look_up kind_rows) words.now }
 {
-    let (word, rest) = words.split_first()?;
-    if is(word, b"INTGR") {
-        Some((Kind::Int, rest))
-    } else if is(word, b"REAL") {
-        Some((Kind::Real, rest))
-    } else if is(word, b"BOOL") {
-        Some((Kind::Bool, rest))
-    } else {
-        None
-    }
+    table_word(
+        &[
+            (b"INTGR", Kind::Int),
+            (b"REAL", Kind::Real),
+            (b"BOOL", Kind::Bool),
+        ],
+        words,
+    )
 }
 
 /// A variable with its index, and the words behind it.

@@ -2,12 +2,12 @@
 
 ghost use Rattle.std.specs.Prelude.{◌≡◌, ◌∷◌, [], ℕ, List, Some, None, true, false};
 ghost use Rattle.vcm_words.specs.declared.row.Heading.TheVariants as headings;
-ghost use Rattle.vcm_words.specs.WordReaders.{named};
+ghost use Rattle.vcm_num.specs.Words.{look_up};
 ghost use Rattle.vcm_words.specs.Rows.{heading_rows, version_at, numbered_at, row_after, row_of};
 
 use crate::names::{entry, indexed};
 use crate::statements::{BorrowedStatement, line};
-use vcm_num::is;
+use vcm_num::look_up;
 use vcm_words::{Heading, ItemWords, Row, TextWords, Words, count, small};
 
 /// A line of a listing.
@@ -37,19 +37,17 @@ fn numbered<'a>(exact: bool, words: &Words<'a>) -> Option<((u32, BorrowedStateme
 
 // The word that a line begins with, where it is no statement.
 fn heading(word: &[u8]) -> Option<Heading>
-    ensures { result ≡ named heading_rows word.now }
+    ensures { result ≡ look_up heading_rows word.now }
 {
-    if is(word, b"VCM-LISTING") {
-        Some(Heading::Head)
-    } else if is(word, b"VAR") {
-        Some(Heading::Variables)
-    } else if is(word, b"FEATURE") {
-        Some(Heading::Features)
-    } else if is(word, b"FRAME") {
-        Some(Heading::Frames)
-    } else {
-        None
-    }
+    look_up(
+        &[
+            (b"VCM-LISTING", Heading::Head),
+            (b"VAR", Heading::Variables),
+            (b"FEATURE", Heading::Features),
+            (b"FRAME", Heading::Frames),
+        ],
+        word,
+    )
 }
 
 // Whether no words are left.

@@ -17,7 +17,7 @@ use Rattle.vcm_machine.specs.declared.ran.Ran.{Ran}
 use Rattle.vcm_machine.specs.Running.{Running, setup, started, later, WantsMemory, RunEnded, HasRun}
 use Rattle.std.specs.Prelude.{Result, Ok, Err, IfOk}
 use Rattle.vcm_num.specs.declared.memory.NoMemory.{NoMemory}
-use Rattle.vcm_tree.specs.Program.{Parsed, tables as tables_of}
+use Rattle.vcm_tree.specs.Program.{Parsed}
 use Rattle.vcm_tree.specs.declared.program.Noticed.{Noticed}
 use Rattle.vcm_code.specs.declared.code.Code.{Code as Kept}
 use Rattle.vcm_code.specs.Ops.{code_of}
@@ -102,15 +102,15 @@ loaded_code p bytes l i f e = one_image i.code l i.fits f (sym i.spelled ∙ e)
 pub text_run : (part : Workpiece) (text bytes : List ℕ) (notices : List Noticed) (n : ℕ) (s : Shown) (l : Kept) → IsBuilt text bytes notices → Fits l → bytes ≡ spelling l
     → IsCodeRun part l n s → s.notices ≡ notices → IsSummary part text n s
 text_run part text bytes notices n s l b f e r ns =
-    let a = subst (λ (k : Kept). IsAssembled b.parsed.program (tables_of b.parsed) (code_of k)) (loaded_code b.parsed bytes l b.image f e) b.image.assembled in
-    let run = assembled_run part b.parsed.program (tables_of b.parsed) (code_of l) n r.machine s.ran a r.has_run in
+    let a = subst (λ (k : Kept). IsAssembled b.parsed.program b.parsed.tables (code_of k)) (loaded_code b.parsed bytes l b.image f e) b.image.assembled in
+    let run = assembled_run part b.parsed.program b.parsed.tables (code_of l) n r.machine s.ran a r.has_run in
     record {
       parsed = b.parsed;
       accepted = b.accepted;
       tables_are = r.tables_are ∙ a.tables_are;
       notices = ns ∙ b.notices_are;
-      run = subst (λ w. IsRun (setup_of part (tables_of b.parsed)) b.parsed.program n w s.next s.ran) (sym r.world_is)
-          (subst (λ k. IsRun (setup_of part (tables_of b.parsed)) b.parsed.program n r.machine.place.world k s.ran) (sym r.next_is) run);
+      run = subst (λ w. IsRun (setup_of part b.parsed.tables) b.parsed.program n w s.next s.ran) (sym r.world_is)
+          (subst (λ k. IsRun (setup_of part b.parsed.tables) b.parsed.program n r.machine.place.world k s.ran) (sym r.next_is) run);
     }
 
 -- the same of what a call returned

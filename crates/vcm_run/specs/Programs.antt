@@ -4,7 +4,7 @@ use Rattle.vcm_lines.specs.Fault.{NoMemoryOr}
 use Rattle.vcm_spec.specs.Workpiece.{Workpiece}
 use Rattle.vcm_state.specs.Carried.{setup_of}
 use Rattle.vcm_tree.specs.Acceptance.{IsAccepted, IsRefused}
-use Rattle.vcm_tree.specs.Program.{Parsed, tables}
+use Rattle.vcm_tree.specs.Program.{Parsed}
 use Rattle.vcm_tree.specs.declared.program.Noticed.{Noticed}
 use Rattle.vcm_code.specs.declared.code.Code.{Code}
 use Rattle.vcm_code.specs.Ops.{code_of}
@@ -20,14 +20,14 @@ use Rattle.vcm_run.specs.Summaries.{Shown}
 pub record IsSummary (part : Workpiece) (text : List ℕ) (n : ℕ) (s : Shown) : Type 0 where
   pub parsed : Parsed
   pub accepted : IsAccepted text parsed
-  pub tables_are : s.held.tables ≡ tables parsed
+  pub tables_are : s.held.tables ≡ parsed.tables
   pub notices : s.notices ≡ parsed.notices
-  pub run : IsRun (setup_of part (tables parsed)) parsed.program n s.held.state s.next s.ran
+  pub run : IsRun (setup_of part parsed.tables) parsed.program n s.held.state s.next s.ran
 
 -- the bytes are the image of the code of this program: a code that does what the program does, and is valid
 pub record IsImageOf (parsed : Parsed) (bytes : List ℕ) : Type 0 where
   pub code : Code
-  pub assembled : IsAssembled parsed.program (tables parsed) (code_of code)
+  pub assembled : IsAssembled parsed.program parsed.tables (code_of code)
   pub valid : IsValid (code_of code)
   pub fits : Fits code
   pub spelled : bytes ≡ spelling code

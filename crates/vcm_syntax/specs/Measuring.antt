@@ -2,6 +2,7 @@
 -- has no words.
 use Rattle.std.specs.Prelude.{◌≡◌, ◌⊎◌, ℕ, ◌&&◌, if◌then◌else◌, Bool, true, false, codes, List, [], ◌∷◌, drop, slice_get, unwrap_or, Option, Some, None, Ok, Err}
 use Rattle.std.specs.Str.{bytes_eq}
+use Rattle.vcm_num.specs.Words.{look_up}
 use Rattle.vcm_num.specs.declared.axis.Axis.{Axis}
 use Rattle.vcm_lines.specs.declared.fault.FaultCode.{FaultCode}
 use Rattle.vcm_lines.specs.declared.fault.FaultCode.TheVariants.{BadSyntax, Unsupported}
@@ -45,7 +46,7 @@ BreaksNamed letter _ code = code ≡ BadSyntax
 
 -- the letters of a feature as it was declared, and as it was measured
 abbrev pub source_by : List ℕ → Option Source
-source_by w = if bytes_eq w (codes "F") then Some Nominal else if bytes_eq w (codes "FA") then Some Actual else None
+source_by w = look_up ((codes "F", Nominal) ∷ (codes "FA", Actual) ∷ []) w
 
 -- the source of a feature whose label is a name
 abbrev pub source_of : List ℕ → List ℕ → Option Source
@@ -62,12 +63,8 @@ BreaksSource _ code = code ≡ BadSyntax
 
 -- the words of the settings
 abbrev pub setting_word : List ℕ → Option Setting
-setting_word w =
-    if bytes_eq w (codes "APPRCH") then Some settings.Approach
-    else if bytes_eq w (codes "RETRCT") then Some settings.Retract
-    else if bytes_eq w (codes "SEARCH") then Some settings.Search
-    else if bytes_eq w (codes "DEPTH") then Some settings.Depth
-    else None
+setting_word w = look_up ((codes "APPRCH", settings.Approach) ∷ (codes "RETRCT", settings.Retract) ∷ (codes "SEARCH", settings.Search)
+    ∷ (codes "DEPTH", settings.Depth) ∷ []) w
 
 -- the word of a setting; another word is a setting that is left out
 abbrev pub IsSetting : List Lexeme → Setting → Type 0
@@ -80,11 +77,7 @@ BreaksSetting _ code = code ≡ BadSyntax
 
 -- the words of the axes about which a frame is turned
 abbrev pub axis_word : List ℕ → Option FrameAxis
-axis_word w =
-    if bytes_eq w (codes "XAXIS") then Some axes.X
-    else if bytes_eq w (codes "YAXIS") then Some axes.Y
-    else if bytes_eq w (codes "ZAXIS") then Some axes.Z
-    else None
+axis_word w = look_up ((codes "XAXIS", axes.X) ∷ (codes "YAXIS", axes.Y) ∷ (codes "ZAXIS", axes.Z) ∷ []) w
 
 -- the word of an axis; any other is bad syntax
 abbrev pub IsAxisWord : List Lexeme → FrameAxis → Type 0
@@ -97,11 +90,7 @@ BreaksAxisWord _ code = code ≡ BadSyntax
 
 -- the words of the axes along which a frame is shifted
 abbrev pub origin_word : List ℕ → Option FrameAxis
-origin_word w =
-    if bytes_eq w (codes "XORIG") then Some axes.X
-    else if bytes_eq w (codes "YORIG") then Some axes.Y
-    else if bytes_eq w (codes "ZORIG") then Some axes.Z
-    else None
+origin_word w = look_up ((codes "XORIG", axes.X) ∷ (codes "YORIG", axes.Y) ∷ (codes "ZORIG", axes.Z) ∷ []) w
 
 -- whether an axis has its shift already
 abbrev pub is_taken : Taken → FrameAxis → Bool

@@ -2,6 +2,7 @@
 use Rattle.std.specs.Prelude.{◌≡◌, ◌⊎◌, ℕ, ◌&&◌, ◌||◌, if◌then◌else◌, Bool, true, false, codes, List, [], ◌∷◌, Option, Some, None}
 use Rattle.std.specs.List.{list_all}
 use Rattle.std.specs.Str.{bytes_eq}
+use Rattle.vcm_num.specs.Words.{look_up}
 use Rattle.vcm_num.specs.declared.number.Kind.{Kind}
 use Rattle.vcm_num.specs.declared.number.Kind.TheVariants.{Int as IntKind, Real as RealKind, Bool as BoolKind}
 use Rattle.vcm_lines.specs.declared.fault.FaultCode.{FaultCode}
@@ -130,13 +131,8 @@ BreaksTarget _ code = code ≡ BadSyntax
 
 -- the words of the kinds of variables
 abbrev pub kind_word : List ℕ → Option Kind
-kind_word w =
-    if bytes_eq w (codes "INTGR") then Some IntKind
-    else if bytes_eq w (codes "LONG") then Some IntKind
-    else if bytes_eq w (codes "REAL") then Some RealKind
-    else if bytes_eq w (codes "DOUBLE") then Some RealKind
-    else if bytes_eq w (codes "BOOL") then Some BoolKind
-    else None
+kind_word w = look_up ((codes "INTGR", IntKind) ∷ (codes "LONG", IntKind) ∷ (codes "REAL", RealKind) ∷ (codes "DOUBLE", RealKind)
+    ∷ (codes "BOOL", BoolKind) ∷ []) w
 
 -- the word of a kind; another word is a kind that is left out
 abbrev pub IsKind : List Lexeme → Kind → Type 0

@@ -3,80 +3,21 @@
 ghost use Rattle.std.specs.Prelude.{◌⊎◌, ◌∷◌, codes, IfOk, IfErr, MatchResult};
 ghost use Rattle.vcm_lines.specs.Fault.{NoMemoryOr};
 ghost use Rattle.vcm_expr.specs.Parsing.{At};
-ghost use Rattle.vcm_syntax.specs.Places.{IsWord, BreaksOffered, IsSingle, BreaksSingle, IsMessage, BreaksMessage, IsEnd, BreaksEnd};
-ghost use Rattle.vcm_syntax.specs.Forms.{IsDmismn, BreaksDmismn, IsMetric, BreaksMetric, IsUnits, BreaksUnits, IsDeclaration, BreaksDeclaration, IsDecl, BreaksDecl, IsAssign, BreaksAssign, IsPlace, BreaksPlace, IsGoto, BreaksGoto, IsGohome, IsSay, BreaksSay, IsEndfil, BreaksAlone, IsPrefix, BreaksPrefix, IsPassed, BreaksPassed, IsForm, BreaksForm};
+ghost use Rattle.vcm_syntax.specs.Places.{IsWord, BreaksOffered, IsMessage, BreaksMessage, IsEnd, BreaksEnd};
+ghost use Rattle.vcm_syntax.specs.Forms.{IsDeclaration, BreaksDeclaration, IsDecl, BreaksDecl, IsAssign, BreaksAssign, IsPlace, BreaksPlace, IsGoto, BreaksGoto, IsGohome, IsSay, BreaksSay, IsEndfil, BreaksAlone, IsPrefix, BreaksPrefix, IsPassed, BreaksPassed, IsForm, BreaksForm};
 
 use crate::control::{enddo, endif, iff, jumpto, mark, otherwise, repeat};
 use crate::macros::{call, endmac, macro_form};
 use crate::measuring::{endmes, feat, meas, obtain, output, ptmeas, recall, rotate, snset, trans};
 use crate::message::Message;
-use crate::places::{
-    alone, bare, closed, end, lacking, message, offered, quoted, single, title, unused, word,
-};
+use crate::opening::{dmismn, units};
+use crate::places::{alone, bare, closed, lacking, message, offered, title, word};
 use crate::spots::spot;
 use crate::statement::{Form, Major, Notice, Spot};
 use crate::variables::{kind, target, unscoped, variables};
 use std::alloc::Global;
 use vcm_expr::read_expr;
 use vcm_lines::{Phrase, SourceFault, bad_syntax};
-
-fn dmismn(line: u32, front: &Phrase<'_>, fields: &[Phrase<'_>]) -> Result<Form, SourceFault>
-    ensures { MatchResult result (IsDmismn front.now fields.now) (At line (BreaksDmismn front.now fields.now)) }
-{
-    bare(line, front)?;
-    match fields {
-        [] => Err(bad_syntax(line)),
-        [name, rest @ ..] => {
-            quoted(line, name)?;
-            unused(line, rest)?;
-            Ok(Form::Opening)
-        }
-    }
-}
-
-fn metric(line: u32, unit: &Phrase<'_>, angle: &Phrase<'_>) -> Result<(), SourceFault>
-    ensures { MatchResult result (λ _. IsMetric unit.now angle.now) (At line (BreaksMetric unit.now angle.now)) }
-{
-    offered(line, unit, b"MM")?;
-    offered(line, angle, b"ANGDEC")
-}
-
-/// Millimetres, decimal degrees and the word of a temperature, and no field behind it.
-fn tempered(
-    line: u32,
-    unit: &Phrase<'_>,
-    angle: &Phrase<'_>,
-    temperature: &Phrase<'_>,
-    rest: &[Phrase<'_>],
-) -> Result<(), SourceFault>
-    ensures { MatchResult result (λ _. IsMetric unit.now angle.now × IsSingle temperature.now × IsEnd rest.now)
-        (At line (λ code. BreaksMetric unit.now angle.now code ⊎ (BreaksSingle temperature.now code ⊎ BreaksEnd rest.now code))) }
-{
-    metric(line, unit, angle)?;
-    single(line, temperature)?;
-    end(line, rest)
-}
-
-fn units(line: u32, front: &Phrase<'_>, fields: &[Phrase<'_>]) -> Result<Form, SourceFault>
-    ensures { MatchResult result (IsUnits front.now fields.now) (At line (BreaksUnits front.now fields.now)) }
-{
-    bare(line, front)?;
-    match fields {
-        [] => Err(bad_syntax(line)),
-        [unit] => {
-            offered(line, unit, b"MM")?;
-            Err(bad_syntax(line))
-        }
-        [unit, angle] => {
-            metric(line, unit, angle)?;
-            Ok(Form::Measures)
-        }
-        [unit, angle, temperature, rest @ ..] => {
-            tempered(line, unit, angle, temperature, rest)?;
-            Ok(Form::Measures)
-        }
-    }
-}
 
 /// A kind, and the names of variables.
 fn declaration(alloc: Global, line: u32, fields: &[Phrase<'_>]) -> Result<Form, SourceFault>

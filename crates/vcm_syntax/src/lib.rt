@@ -11,6 +11,7 @@ mod measuring;
 mod message;
 mod named;
 mod offsets;
+mod opening;
 mod parse;
 mod places;
 mod spots;

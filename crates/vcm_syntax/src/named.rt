@@ -9,7 +9,7 @@ ghost use Rattle.vcm_syntax.specs.Measuring.{field, BreaksSystem, IsNamed, Break
 use crate::places::{only, parenthesized, title, unsupported};
 use vcm_expr::{Name, is_name};
 use vcm_lines::{Phrase, SourceFault, Token, bad_syntax};
-use vcm_num::is;
+use vcm_num::{is, look_up};
 use vcm_spec::{FrameAxis, Setting, Source};
 
 /// The field at a place; where there is none, a phrase without words, cut from `front`.
@@ -92,13 +92,7 @@ pub(crate) fn named(line: u32, words: &Phrase<'_>, letter: &[u8]) -> Result<Name
 fn source_by(word: &[u8]) -> Option<Source>
     ensures { result ≡ source_by word.now }
 {
-    if is(word, b"F") {
-        Some(Source::Nominal)
-    } else if is(word, b"FA") {
-        Some(Source::Actual)
-    } else {
-        None
-    }
+    look_up(&[(b"F", Source::Nominal), (b"FA", Source::Actual)], word)
 }
 
 /// A feature as it was declared or as it was measured, and its name.
@@ -124,17 +118,15 @@ pub(crate) fn source(line: u32, words: &Phrase<'_>) -> Result<(Source, Name), So
 fn setting_word(word: &[u8]) -> Option<Setting>
     ensures { result ≡ setting_word word.now }
 {
-    if is(word, b"APPRCH") {
-        Some(Setting::Approach)
-    } else if is(word, b"RETRCT") {
-        Some(Setting::Retract)
-    } else if is(word, b"SEARCH") {
-        Some(Setting::Search)
-    } else if is(word, b"DEPTH") {
-        Some(Setting::Depth)
-    } else {
-        None
-    }
+    look_up(
+        &[
+            (b"APPRCH", Setting::Approach),
+            (b"RETRCT", Setting::Retract),
+            (b"SEARCH", Setting::Search),
+            (b"DEPTH", Setting::Depth),
+        ],
+        word,
+    )
 }
 
 /// The setting that a word names.
@@ -153,15 +145,14 @@ pub(crate) fn setting(line: u32, words: &Phrase<'_>) -> Result<Setting, SourceFa
 fn axis_word(word: &[u8]) -> Option<FrameAxis>
     ensures { result ≡ axis_word word.now }
 {
-    if is(word, b"XAXIS") {
-        Some(FrameAxis::X)
-    } else if is(word, b"YAXIS") {
-        Some(FrameAxis::Y)
-    } else if is(word, b"ZAXIS") {
-        Some(FrameAxis::Z)
-    } else {
-        None
-    }
+    look_up(
+        &[
+            (b"XAXIS", FrameAxis::X),
+            (b"YAXIS", FrameAxis::Y),
+            (b"ZAXIS", FrameAxis::Z),
+        ],
+        word,
+    )
 }
 
 /// The axis about which a frame is turned.

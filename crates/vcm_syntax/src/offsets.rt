@@ -10,7 +10,7 @@ use crate::statement::Offset;
 use std::alloc::Global;
 use vcm_expr::read_expr;
 use vcm_lines::{Phrase, SourceFault, Token, bad_syntax};
-use vcm_num::{Items, is};
+use vcm_num::{Items, look_up};
 use vcm_spec::FrameAxis;
 
 /// The axes that have their shift already.
@@ -57,15 +57,14 @@ impl Taken {
 fn origin_word(word: &[u8]) -> Option<FrameAxis>
     ensures { result ≡ origin_word word.now }
 {
-    if is(word, b"XORIG") {
-        Some(FrameAxis::X)
-    } else if is(word, b"YORIG") {
-        Some(FrameAxis::Y)
-    } else if is(word, b"ZORIG") {
-        Some(FrameAxis::Z)
-    } else {
-        None
-    }
+    look_up(
+        &[
+            (b"XORIG", FrameAxis::X),
+            (b"YORIG", FrameAxis::Y),
+            (b"ZORIG", FrameAxis::Z),
+        ],
+        word,
+    )
 }
 
 fn free_axis(taken: Taken, axis: Option<FrameAxis>) -> Option<FrameAxis>

@@ -1,7 +1,7 @@
 //! The names of a program, each at its index.
 
-ghost use Rattle.std.specs.Prelude.{◌≡◌, IfOk, map};
-ghost use Rattle.vcm_tables.specs.inner.Kinds.{kinds_in};
+ghost use Rattle.std.specs.Prelude.{◌≡◌, IfOk};
+ghost use Rattle.vcm_spec.specs.Setup.{kinds_of};
 
 use crate::variable::Variable;
 use std::alloc::Global;
@@ -21,14 +21,13 @@ pub struct Tables {
 
 impl Model for Tables {
     ghost use Rattle.std.specs.Prelude.{◌≡◌};
-    ghost use Rattle.vcm_spec.specs.Setup.{Tables as Meaning};
-    ghost use Rattle.vcm_tables.specs.inner.Kinds.{kinds_in};
+    ghost use Rattle.vcm_spec.specs.Setup.{Tables as Meaning, kinds_of};
 
     ghost Value = { Meaning };
 
     ghost view = { λ t. record { variables = t.variables; features = t.features; frames = t.frames } };
 
-    ghost invariant = { λ t. t.kinds ≡ kinds_in t.variables };
+    ghost invariant = { λ t. t.kinds ≡ kinds_of t.variables };
 }
 
 impl Tables {
@@ -45,7 +44,7 @@ impl Tables {
     ) -> Result<Tables, NoMemory>
         ensures { IfOk result (λ t. t ≡ record { variables = variables; features = features; frames = frames }) }
     {
-        let kinds = kinds_in(alloc, variables.as_slice())?;
+        let kinds = kinds_of(alloc, variables.as_slice())?;
         Ok(Tables {
             variables,
             kinds,
@@ -96,8 +95,8 @@ impl Tables {
 }
 
 // The kinds of variables.
-fn kinds_in(alloc: Global, variables: &[Variable]) -> Result<Items<Kind>, NoMemory>
-    ensures { IfOk result (λ kinds. kinds ≡ kinds_in variables.now) }
+fn kinds_of(alloc: Global, variables: &[Variable]) -> Result<Items<Kind>, NoMemory>
+    ensures { IfOk result (λ kinds. kinds ≡ kinds_of variables.now) }
 {
     let mut kinds = Items::new(alloc);
     for variable in variables {

@@ -4,12 +4,11 @@ use crate::texts::program_of;
 use clap::error::ErrorKind;
 use std::alloc::Global;
 use vcm_command::{
-    CheckFault, Message, NoticeLine, Request, build_message, check, check_message, image_message,
-    job_message, part_file_message, part_message, request_of, run_message, source_message,
-    status_of, steps_of,
+    Message, NoticeLine, Request, build_message, check_message, image_message, job_message,
+    part_file_message, part_message, request_of, run_message, source_message, status_of, steps_of,
 };
 use vcm_fields::ImageFault;
-use vcm_job::{BuildFault, JobFault, PartFileFault, RunFault};
+use vcm_job::{BuildFault, CheckFault, JobFault, PartFileFault, RunFault, check};
 use vcm_lines::{FaultCode, SourceFault};
 use vcm_part::{PartCode, PartFault};
 use vcm_run::Refusal;

@@ -4,9 +4,9 @@ use crate::texts::{BOUNDS, ONE_BLOCK, job_of, joined, program_of};
 use std::alloc::Global;
 use std::io;
 use std::io::{ErrorKind, Read, Write};
-use vcm_command::{CheckFault, Message, check, job_message};
+use vcm_command::{Message, job_message};
 use vcm_debug::ServeFault;
-use vcm_job::{DebugFault, JobFault, debug, job};
+use vcm_job::{CheckFault, DebugFault, JobFault, check, debug, job};
 use vcm_part::{PartCode, PartFault, read_part};
 use vcm_run::Refusal;
 

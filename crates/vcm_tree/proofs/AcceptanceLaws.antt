@@ -15,7 +15,8 @@ use Rattle.vcm_macro.specs.Expansion.{IsExpanded, IsRefused as IsUnexpanded}
 use Rattle.vcm_macro.proofs.Answered.{either as no_refusal, line as one_told, expansion as one_expanded}
 use Rattle.vcm_tree.specs.Resolving.{BreaksNames, names_line}
 use Rattle.vcm_tree.specs.Jumps.{labels_of, jumps_of, BreaksJumps, jumps_line}
-use Rattle.vcm_tree.specs.Program.{Listed, Parsed, IsParsed}
+use Rattle.vcm_spec.specs.Setup.{Tables}
+use Rattle.vcm_tree.specs.Program.{Parsed, IsParsed}
 use Rattle.vcm_spec.specs.Program.{Block}
 use Rattle.vcm_tree.specs.declared.program.Noticed.{Noticed}
 use Rattle.vcm_tree.proofs.OneProgram.{one_writing}
@@ -56,15 +57,15 @@ one_expansion : (text : List ℕ) (ls ms : List Logical) (ss ts : List Statement
 one_expansion text ls ms ss ts all more p q =
     one_expanded ts all more (subst (λ l. IsExpanded l all) (one_text text ls ms ss ts all more p q) p.expanded) q.expanded
 
-abbrev parsed : Block → Listed → List Noticed → Parsed
-parsed b vs ns = record { program = b; names = vs; notices = ns }
+abbrev parsed : Block → Tables → List Noticed → Parsed
+parsed b ts ns = record { program = b; tables = ts; notices = ns }
 
 -- statements and what they expand to are one program
 pub one_parsed : (ss : List Statement) (all : List Placed) (p q : Parsed) → IsParsed ss all p → IsParsed ss all q → p ≡ q
 one_parsed ss all p q a b =
     let program : p.program ≡ q.program = one_writing p.program q.program (a.program ∙ sym b.program) in
-    let e : parsed p.program p.names p.notices ≡ parsed q.program q.names q.notices =
-    ap (λ x. parsed x p.names p.notices) program ∙ ap (λ x. parsed q.program x p.notices) (a.names ∙ sym b.names) ∙ ap (parsed q.program q.names) (a.notices ∙ sym b.notices) in
+    let e : parsed p.program p.tables p.notices ≡ parsed q.program q.tables q.notices =
+    ap (λ x. parsed x p.tables p.notices) program ∙ ap (λ x. parsed q.program x p.notices) (a.tables ∙ sym b.tables) ∙ ap (parsed q.program q.tables) (a.notices ∙ sym b.notices) in
     e
 
 -- the same of all that was read

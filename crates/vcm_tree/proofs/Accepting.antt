@@ -10,7 +10,7 @@ use Rattle.vcm_macro.specs.Expansion.{IsRefused as IsUnexpanded}
 use Rattle.vcm_tree.specs.Statements.{BreaksStatements, statement_line}
 use Rattle.vcm_tree.specs.Resolving.{start, BreaksNames, names_line}
 use Rattle.vcm_tree.specs.Jumps.{labels_of, jumps_of, BreaksJumps, jumps_line}
-use Rattle.vcm_tree.specs.Program.{Parsed, IsWhole, tables}
+use Rattle.vcm_tree.specs.Program.{Parsed, IsWhole}
 use Rattle.vcm_tree.specs.Acceptance.{ReadsLines, ReadsStatements, ReadsText, ReadsProgram, IsAccepted, IsRefused, in_statements, in_expansion, in_names, in_jumps}
 use Rattle.vcm_tree.proofs.Kept.{ended_all, few_all, lettered_all}
 use Rattle.vcm_tree.proofs.NamedVariables.{all_spelled, all_behind_named}
@@ -38,10 +38,10 @@ jumps_refused text ls ss all p f read program (inr q) = inr (in_jumps ls ss all 
 
 -- a program that is read as the text says is whole
 pub read_whole : (text : List ℕ) (ls : List Logical) (ss : List Statement) (all : List Placed) (p : Parsed) → ReadsText text ls ss all → ReadsProgram ss all p
-    → IsClean (BreaksJumps (labels_of p.program)) (jumps_of p.program) → IsWhole p.program (tables p)
+    → IsClean (BreaksJumps (labels_of p.program)) (jumps_of p.program) → IsWhole p.program p.tables
 read_whole text ls ss all p read program jumps =
     let named = all_behind_named start all (lettered_all ss all read.expanded (all_spelled ls ss read.spelled.statements)) tt in
     parsed_whole ss all p (ended_all ss all read.expanded) (few_all ss all read.expanded) program.clean program.is named jumps
 
-pub accepted_whole : (text : List ℕ) (p : Parsed) → IsAccepted text p → IsWhole p.program (tables p)
+pub accepted_whole : (text : List ℕ) (p : Parsed) → IsAccepted text p → IsWhole p.program p.tables
 accepted_whole text p a = read_whole text a.lines a.statements a.expanded p a.read a.program a.jumps

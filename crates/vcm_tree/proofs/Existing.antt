@@ -9,7 +9,7 @@ use Rattle.vcm_spec.specs.Phase.{IsClean}
 use Rattle.vcm_spec.specs.Expression.{Tree}
 use Rattle.vcm_spec.specs.Simple.{Simple, GoHome, Text}
 use Rattle.vcm_spec.specs.Program.{Label, is_same_label, Node, Block, simple, label, jump, choice, choice_else, do_loop, meas, ending, done}
-use Rattle.vcm_expr.specs.Names.{Variable}
+use Rattle.vcm_spec.specs.Setup.{Variable}
 use Rattle.vcm_expr.specs.Typing.{typed_for}
 use Rattle.vcm_expr.specs.declared.typing.Want.TheVariants as wants
 use Rattle.vcm_syntax.specs.declared.statement.Rounds.{Rounds}
@@ -20,7 +20,7 @@ use Rattle.vcm_macro.specs.declared.placed.Placed.{Placed}
 use Rattle.vcm_tree.specs.Ended.{is_ended}
 use Rattle.vcm_tree.specs.Nodes.{snoc}
 use Rattle.vcm_tree.specs.Pieces.{Step, Piece, piece, Does, Marks, Leaps, Tests, Divides, EndsTest, Repeats, EndsRepeat, Measures, EndsMeasure, Ends, node_pieces, pieces}
-use Rattle.vcm_tree.specs.Program.{Parsed, IsParsed, names_of, notices_of}
+use Rattle.vcm_tree.specs.Program.{Parsed, IsParsed, tables_of, notices_of}
 use Rattle.vcm_tree.specs.Resolving.{Behind, Opened, InFirst, InSecond, InBody, InMeasure, Meaning, Declares, then_ok, with_all, assigned, moved, room, nested, tested, indexed, increment_of, repeated, divided, test_ended, repeat_ended, ended, marked, label_of, known, declared, opened_measure, touched, measure_ended, configured, shifted, rotated, recalled, obtained, reported, does, counts, stated, resolved_here, blocks_after, behind_by, behind_one, behind_all, start, pieces_by, pieces_from, BreaksNames}
 use Rattle.vcm_tree.proofs.Standing.{standing, standing_ok}
 use Rattle.vcm_tree.proofs.Walking.{AllMean, all_mean, last_shuts}
@@ -320,6 +320,6 @@ program_exists ss all last clean =
     let mean = all_mean [] all clean in
     let r = reach_all [] done start all mean refl in
     let shut = none_open r.opens (r.around ∙ last_shuts start all last mean) in (
-      record { program = r.block; names = names_of (behind_all start all); notices = notices_of ss },
-      record { program = sym (ap (λ os. wrote os r.block) shut) ∙ r.writes; names = refl; notices = refl },
+      record { program = r.block; tables = tables_of (behind_all start all); notices = notices_of ss },
+      record { program = sym (ap (λ os. wrote os r.block) shut) ∙ r.writes; tables = refl; notices = refl },
     )

@@ -21,7 +21,7 @@ use Rattle.vcm_spec.specs.Program.{Label, is_same_label}
 use Rattle.vcm_spec.specs.Fitting.{kinds, Fits, HasKindIn}
 use Rattle.std.specs.List.{list_any}
 use Rattle.vcm_expr.specs.declared.typing.Want.TheVariants as wants
-use Rattle.vcm_expr.specs.Names.{Variable, kinds_of}
+use Rattle.vcm_spec.specs.Setup.{Variable, Tables, kinds_of}
 use Rattle.vcm_expr.specs.Source.{Source}
 use Rattle.vcm_expr.specs.Typing.{typed_for, wanted_kind}
 use Rattle.vcm_expr.proofs.Runs.{kind_after_one-Some, kind_after_two-Some}
@@ -35,7 +35,7 @@ use Rattle.vcm_syntax.specs.declared.statement.Form.TheVariants.{Opening, Measur
 use Rattle.vcm_macro.specs.declared.placed.Placed.{Placed}
 use Rattle.vcm_tree.specs.Pieces.{Step, Piece, Does, Marks, Leaps, Tests, Divides, EndsTest, Repeats, EndsRepeat, Measures, EndsMeasure, Ends}
 use Rattle.vcm_tree.specs.Resolving.{Behind, Opened, InFirst, InSecond, InBody, InMeasure, Meaning, Silent, Declares, Counts, Measured, measured_after, outer, blocks_after, lengths, declared_at, touched_in, Shifts, no_shifts, with_shift, shifts_of, real_to, real_by, real_named, unless_barred, is_measuring, is_barred, known, entered, with_name, declared, opened_measure, touched, measure_ended, configured, shifted, rotated, recalled, obtained, reported, stated, then_ok, is_declared, with_one, with_all, want_of, target_of, assigned, assigned_by, assigned_to, moved, room, nested, tested, indexed, index_by, index_to, increment_of, repeated, divided, test_ended, repeat_ended, ended, marked, label_of, does, counts, resolved, resolved_here, behind_by, behind_one, behind_all, start, pieces_by, pieces_from}
-use Rattle.vcm_tree.specs.Program.{Listed, names_of, tables_of}
+use Rattle.vcm_tree.specs.Program.{tables_of}
 use Rattle.vcm_tree.proofs.Written.{StepFits, PiecesFit}
 use Rattle.vcm_tree.proofs.Titled.{known_below, entered_below, with_name_longer, measured_is}
 
@@ -61,9 +61,9 @@ tabled ws = Ok ws
 one_grown : (vs : List Variable) (ex : ℕ) (k : Kind) (name : List ℕ) (ws : List Variable) → with_one vs ex k name ≡ Ok ws → Grown vs ws
 one_grown vs ex k name ws e = by (is_declared vs ex name) (nat_lt (length vs) 4096) e
   where
-    by : (b c : Bool) → (if b then Err DuplicateName else if c then tabled (vs ++ ((ex, name), k) ∷ []) else Err TooManyNames) ≡ tabled ws → Grown vs ws
+    by : (b c : Bool) → (if b then Err DuplicateName else if c then tabled (vs ++ record { name = name; kind = k; expansion = ex } ∷ []) else Err TooManyNames) ≡ tabled ws → Grown vs ws
     by true c f = absurd cc
-    by false true f = (((ex, name), k) ∷ [], (let g : vs ++ ((ex, name), k) ∷ [] ≡ ws = cc in sym g))
+    by false true f = (record { name = name; kind = k; expansion = ex } ∷ [], (let g : vs ++ record { name = name; kind = k; expansion = ex } ∷ [] ≡ ws = cc in sym g))
     by false false f = absurd cc
 
 all_grown : (vs : List Variable) (ex : ℕ) (k : Kind) (names : List (List ℕ)) (ws : List Variable) → with_all vs ex k names ≡ Ok ws → Grown vs ws
@@ -197,23 +197,19 @@ kind_grown ks more (Two op a b) k e =
     ap (λ o. kind_after_two (binary_kind op) o (kind_of (ks ++ more) b)) (kind_grown ks more a q.0 q.2)
     ∙ ap (kind_after_two (binary_kind op) (Some q.0)) (kind_grown ks more b q.1 q.3) ∙ q.4
 
-kinds_same : (vs : List Variable) (fs ds : List (List ℕ)) → kinds (tables_of (record { variables = vs; features = fs; frames = ds })) ≡ kinds_of vs
-kinds_same [] fs ds = refl
-kinds_same (v ∷ vs) fs ds = ap (λ l. v.1 ∷ l) (kinds_same vs fs ds)
-
 kinds_push : (vs ws : List Variable) → kinds_of (vs ++ ws) ≡ kinds_of vs ++ kinds_of ws
 kinds_push [] ws = refl
-kinds_push (v ∷ vs) ws = ap (λ l. v.1 ∷ l) (kinds_push vs ws)
+kinds_push (v ∷ vs) ws = ap (λ l. v.kind ∷ l) (kinds_push vs ws)
 
-kinds_grown : (vs : List Variable) (ws : Listed) → Grown vs ws.variables → (more : List Kind) × (kinds (tables_of ws) ≡ kinds_of vs ++ more)
-kinds_grown vs ws g = (kinds_of g.0, kinds_same ws.variables ws.features ws.frames ∙ ap kinds_of g.1 ∙ kinds_push vs g.0)
+kinds_grown : (vs : List Variable) (ws : Tables) → Grown vs ws.variables → (more : List Kind) × (kinds ws ≡ kinds_of vs ++ more)
+kinds_grown vs ws g = (kinds_of g.0, ap kinds_of g.1 ∙ kinds_push vs g.0)
 
-module _ (vs : List Variable) (ws : Listed) (g : Grown vs ws.variables) where
+module _ (vs : List Variable) (ws : Tables) (g : Grown vs ws.variables) where
   -- an expression that has a kind behind the first variables has it in the table
-  has_kind : (t : Tree) (k : Kind) → kind_of (kinds_of vs) t ≡ Some k → HasKindIn (tables_of ws) t k
+  has_kind : (t : Tree) (k : Kind) → kind_of (kinds_of vs) t ≡ Some k → HasKindIn ws t k
   has_kind t k e = (let m = kinds_grown vs ws g in ap (λ ks. kind_of ks t) m.1 ∙ kind_grown (kinds_of vs) m.0 t k e)
 
-  has_place : (i : ℕ) (k : Kind) → slice_get (kinds_of vs) i ≡ Some k → slice_get (kinds (tables_of ws)) i ≡ Some k
+  has_place : (i : ℕ) (k : Kind) → slice_get (kinds_of vs) i ≡ Some k → slice_get (kinds ws) i ≡ Some k
   has_place i k e = (let m = kinds_grown vs ws g in ap (λ ks. slice_get ks i) m.1 ∙ get_grown (kinds_of vs) m.0 i k e)
 
   wanted : (k : Kind) → wanted_kind (want_of k) ≡ k
@@ -221,37 +217,37 @@ module _ (vs : List Variable) (ws : Listed) (g : Grown vs ws.variables) where
   wanted kind.Real = refl
   wanted kind.Bool = refl
 
-  assigned_fits : (t : Target) (value : Source) (what : Simple Tree) → assigned vs t value ≡ Ok what → Fits (HasKindIn (tables_of ws)) (tables_of ws) what
+  assigned_fits : (t : Target) (value : Source) (what : Simple Tree) → assigned vs t value ≡ Ok what → Fits (HasKindIn ws) ws what
   assigned_fits t value what e = by (target_of vs t) e
     where
-      at : (i : ℕ) (o : Option Kind) → slice_get (kinds_of vs) i ≡ o → assigned_to vs value i o ≡ Ok what → Fits (HasKindIn (tables_of ws)) (tables_of ws) what
+      at : (i : ℕ) (o : Option Kind) → slice_get (kinds_of vs) i ≡ o → assigned_to vs value i o ≡ Ok what → Fits (HasKindIn ws) ws what
       at i None h f = absurd cc
       at i (Some k) h f =
           let q = then_ok-Ok (typed_for vs (want_of k) value) (λ a. Ok (Assign i a)) what f in
           let same : Assign i q.0 ≡ what = cc in
           let fine = typed_for_fine vs (want_of k) value q.0 q.1 in
-          subst (Fits (HasKindIn (tables_of ws)) (tables_of ws)) same (k, has_place i k h, has_kind q.0 k (fine.typed ∙ ap (λ j. Some j) (wanted k)))
+          subst (Fits (HasKindIn ws) ws) same (k, has_place i k h, has_kind q.0 k (fine.typed ∙ ap (λ j. Some j) (wanted k)))
 
-      by : (o : Option ℕ) → assigned_by vs value o ≡ Ok what → Fits (HasKindIn (tables_of ws)) (tables_of ws) what
+      by : (o : Option ℕ) → assigned_by vs value o ≡ Ok what → Fits (HasKindIn ws) ws what
       by None f = absurd cc
       by (Some i) f = at i (slice_get (kinds_of vs) i) refl f
 
-  length_fits : (e : Source) (t : Tree) → typed_for vs wants.Length e ≡ Ok t → HasKindIn (tables_of ws) t kind.Real
+  length_fits : (e : Source) (t : Tree) → typed_for vs wants.Length e ≡ Ok t → HasKindIn ws t kind.Real
   length_fits e t h = has_kind t kind.Real (typed_for_fine vs wants.Length e t h).typed
 
-  moved_fits : (x y z : Source) (what : Simple Tree) → moved vs x y z ≡ Ok what → Fits (HasKindIn (tables_of ws)) (tables_of ws) what
+  moved_fits : (x y z : Source) (what : Simple Tree) → moved vs x y z ≡ Ok what → Fits (HasKindIn ws) ws what
   moved_fits x y z what e =
       let p = then_ok-Ok (typed_for vs wants.Length x) (λ a. then_ok (typed_for vs wants.Length y) (λ b. then_ok (typed_for vs wants.Length z) (λ c. Ok (Goto a b c)))) what e in
       let q = then_ok-Ok (typed_for vs wants.Length y) (λ b. then_ok (typed_for vs wants.Length z) (λ c. Ok (Goto p.0 b c))) what p.2 in
       let r = then_ok-Ok (typed_for vs wants.Length z) (λ c. Ok (Goto p.0 q.0 c)) what q.2 in
       let same : Goto p.0 q.0 r.0 ≡ what = cc in
-      subst (Fits (HasKindIn (tables_of ws)) (tables_of ws)) same (length_fits x p.0 p.1, length_fits y q.0 q.1, length_fits z r.0 r.1)
+      subst (Fits (HasKindIn ws) ws) same (length_fits x p.0 p.1, length_fits y q.0 q.1, length_fits z r.0 r.1)
 
   -- three lengths
   record AreLong (t : Tree × Tree × Tree) : Type 0 where
-    x : HasKindIn (tables_of ws) t.0 kind.Real
-    y : HasKindIn (tables_of ws) t.1 kind.Real
-    z : HasKindIn (tables_of ws) t.2 kind.Real
+    x : HasKindIn ws t.0 kind.Real
+    y : HasKindIn ws t.1 kind.Real
+    z : HasKindIn ws t.2 kind.Real
 
   abbrev three : Tree → Tree → Tree → Result (Tree × Tree × Tree) FaultCode
   three a b c = Ok (a, b, c)
@@ -265,7 +261,7 @@ module _ (vs : List Variable) (ws : Listed) (g : Grown vs ws.variables) where
       subst AreLong same (record { x = length_fits p.x h.0 h.1; y = length_fits p.y i.0 i.1; z = length_fits p.z j.0 j.1 })
 
   abbrev FitsHere : Simple Tree → Type 0
-  FitsHere what = Fits (HasKindIn (tables_of ws)) (tables_of ws) what
+  FitsHere what = Fits (HasKindIn ws) ws what
 
   abbrev done : Simple Tree → Result (Simple Tree) FaultCode
   done what = Ok what
@@ -296,11 +292,11 @@ module _ (vs : List Variable) (ws : Listed) (g : Grown vs ws.variables) where
       subst FitsHere same (length_fits x h.0 h.1)
 
   record AreShifts (s : Shifts) : Type 0 where
-    x : HasKindIn (tables_of ws) s.x kind.Real
-    y : HasKindIn (tables_of ws) s.y kind.Real
-    z : HasKindIn (tables_of ws) s.z kind.Real
+    x : HasKindIn ws s.x kind.Real
+    y : HasKindIn ws s.y kind.Real
+    z : HasKindIn ws s.z kind.Real
 
-  one_shift : (s : Shifts) (axis : FrameAxis) (t : Tree) → AreShifts s → HasKindIn (tables_of ws) t kind.Real → AreShifts (with_shift s axis t)
+  one_shift : (s : Shifts) (axis : FrameAxis) (t : Tree) → AreShifts s → HasKindIn ws t kind.Real → AreShifts (with_shift s axis t)
   one_shift s axes.X t h k = record { x = k; y = h.y; z = h.z }
   one_shift s axes.Y t h k = record { x = h.x; y = k; z = h.z }
   one_shift s axes.Z t h k = record { x = h.x; y = h.y; z = k }
@@ -339,16 +335,16 @@ module _ (vs : List Variable) (ws : Listed) (g : Grown vs ws.variables) where
       let same : Recall h.0 ≡ what = cc in
       subst FitsHere same (omega (arith, few, low))
 
-  real_fits : (t : Target) (i : ℕ) → real_named vs t ≡ Ok i → slice_get (kinds (tables_of ws)) i ≡ Some kind.Real
+  real_fits : (t : Target) (i : ℕ) → real_named vs t ≡ Ok i → slice_get (kinds ws) i ≡ Some kind.Real
   real_fits t i e = by (target_of vs t) e
     where
-      at : (j : ℕ) (o : Option Kind) → slice_get (kinds_of vs) j ≡ o → real_to j o ≡ Ok i → slice_get (kinds (tables_of ws)) i ≡ Some kind.Real
+      at : (j : ℕ) (o : Option Kind) → slice_get (kinds_of vs) j ≡ o → real_to j o ≡ Ok i → slice_get (kinds ws) i ≡ Some kind.Real
       at j None h f = absurd cc
       at j (Some kind.Int) h f = absurd cc
       at j (Some kind.Bool) h f = absurd cc
-      at j (Some kind.Real) h f = (let q : j ≡ i = cc in subst (λ (n : ℕ). slice_get (kinds (tables_of ws)) n ≡ Some kind.Real) q (has_place j kind.Real h))
+      at j (Some kind.Real) h f = (let q : j ≡ i = cc in subst (λ (n : ℕ). slice_get (kinds ws) n ≡ Some kind.Real) q (has_place j kind.Real h))
 
-      by : (o : Option ℕ) → real_by vs o ≡ Ok i → slice_get (kinds (tables_of ws)) i ≡ Some kind.Real
+      by : (o : Option ℕ) → real_by vs o ≡ Ok i → slice_get (kinds ws) i ≡ Some kind.Real
       by None f = absurd cc
       by (Some j) f = at j (slice_get (kinds_of vs) j) refl f
 
@@ -370,10 +366,10 @@ module _ (vs : List Variable) (ws : Listed) (g : Grown vs ws.variables) where
 
   -- the outcome fits, if it is a statement
   abbrev Fitting : Result Step FaultCode → Type 0
-  Fitting (Ok s) = StepFits (tables_of ws) s
+  Fitting (Ok s) = StepFits ws s
   Fitting (Err e) = Unit {0}
 
-  does_fit : (r : Result (Simple Tree) FaultCode) → ((what : Simple Tree) → r ≡ Ok what → Fits (HasKindIn (tables_of ws)) (tables_of ws) what) → Fitting (does r)
+  does_fit : (r : Result (Simple Tree) FaultCode) → ((what : Simple Tree) → r ≡ Ok what → Fits (HasKindIn ws) ws what) → Fitting (does r)
   does_fit (Ok what) f = f what refl
   does_fit (Err e) f = tt
 
@@ -388,27 +384,27 @@ module _ (vs : List Variable) (ws : Listed) (g : Grown vs ws.variables) where
   then_fit (Ok a) go u = u a refl
   then_fit (Err e) go u = tt
 
-  whole_fits : (e : Source) (t : Tree) → typed_for vs wants.Int e ≡ Ok t → HasKindIn (tables_of ws) t kind.Int
+  whole_fits : (e : Source) (t : Tree) → typed_for vs wants.Int e ≡ Ok t → HasKindIn ws t kind.Int
   whole_fits e t h = has_kind t kind.Int (typed_for_fine vs wants.Int e t h).typed
 
   tested_fit : (x : Source) → Fitting (tested vs x)
   tested_fit x = then_fit (typed_for vs wants.Bool x) (λ t. Ok (Tests t)) (λ t e. has_kind t kind.Bool (typed_for_fine vs wants.Bool x t e).typed)
 
-  index_fits : (t : Target) (i : ℕ) → indexed vs t ≡ Ok i → slice_get (kinds (tables_of ws)) i ≡ Some kind.Int
+  index_fits : (t : Target) (i : ℕ) → indexed vs t ≡ Ok i → slice_get (kinds ws) i ≡ Some kind.Int
   index_fits t i e = by (target_of vs t) e
     where
-      at : (j : ℕ) (o : Option Kind) → slice_get (kinds_of vs) j ≡ o → index_to j o ≡ Ok i → slice_get (kinds (tables_of ws)) i ≡ Some kind.Int
+      at : (j : ℕ) (o : Option Kind) → slice_get (kinds_of vs) j ≡ o → index_to j o ≡ Ok i → slice_get (kinds ws) i ≡ Some kind.Int
       at j None h f = absurd cc
       at j (Some kind.Real) h f = absurd cc
       at j (Some kind.Bool) h f = absurd cc
-      at j (Some kind.Int) h f = (let g : j ≡ i = cc in subst (λ (n : ℕ). slice_get (kinds (tables_of ws)) n ≡ Some kind.Int) g (has_place j kind.Int h))
+      at j (Some kind.Int) h f = (let g : j ≡ i = cc in subst (λ (n : ℕ). slice_get (kinds ws) n ≡ Some kind.Int) g (has_place j kind.Int h))
 
-      by : (o : Option ℕ) → index_by vs o ≡ Ok i → slice_get (kinds (tables_of ws)) i ≡ Some kind.Int
+      by : (o : Option ℕ) → index_by vs o ≡ Ok i → slice_get (kinds ws) i ≡ Some kind.Int
       by None f = absurd cc
       by (Some j) f = at j (slice_get (kinds_of vs) j) refl f
 
-  increment_fits : (o : Option Source) (t : Tree) → increment_of vs o ≡ Ok t → HasKindIn (tables_of ws) t kind.Int
-  increment_fits None t e = (let g : Value (Integer (pos 1)) ≡ t = cc in subst (λ (u : Tree). HasKindIn (tables_of ws) u kind.Int) g refl)
+  increment_fits : (o : Option Source) (t : Tree) → increment_of vs o ≡ Ok t → HasKindIn ws t kind.Int
+  increment_fits None t e = (let g : Value (Integer (pos 1)) ≡ t = cc in subst (λ (u : Tree). HasKindIn ws u kind.Int) g refl)
   increment_fits (Some x) t e = whole_fits x t e
 
   repeated_fit : (r : Rounds) → Fitting (repeated vs r)
@@ -452,16 +448,16 @@ module _ (vs : List Variable) (ws : Listed) (g : Grown vs ws.variables) where
       by true = tt
       by false = tt
 
-  counts_fit : (line : ℕ) (r : Result Step FaultCode) → Fitting r → PiecesFit (tables_of ws) (pieces_by line (counts r))
+  counts_fit : (line : ℕ) (r : Result Step FaultCode) → Fitting r → PiecesFit ws (pieces_by line (counts r))
   counts_fit line (Ok s) f = (f, tt)
   counts_fit line (Err e) f = tt
 
-  declares_fit : (line : ℕ) (r : Result (List Variable) FaultCode) → PiecesFit (tables_of ws) (pieces_by line (then_ok r (λ xs. Ok (Declares xs))))
+  declares_fit : (line : ℕ) (r : Result (List Variable) FaultCode) → PiecesFit ws (pieces_by line (then_ok r (λ xs. Ok (Declares xs))))
   declares_fit line (Ok xs) = tt
   declares_fit line (Err e) = tt
 
   stated_fits : (b : Behind) → b.variables ≡ vs → (ex line : ℕ) (form : Form) → Within (length ws.features) b.blocks → length (measured_after b.measured form).features ≤ length ws.features
-      → length (measured_after b.measured form).frames ≤ length ws.frames → PiecesFit (tables_of ws) (pieces_by line (stated b ex form))
+      → length (measured_after b.measured form).frames ≤ length ws.frames → PiecesFit ws (pieces_by line (stated b ex form))
   stated_fits b e ex line Opening bs fs ds = tt
   stated_fits b e ex line Units bs fs ds = tt
   stated_fits b e ex line (Ignored w) bs fs ds = tt
@@ -503,19 +499,19 @@ module _ (vs : List Variable) (ws : Listed) (g : Grown vs ws.variables) where
   stated_fits b e ex line Ending bs fs ds = counts_fit line (ended b.blocks) (ended_fit b.blocks)
 
   form_fits : (b : Behind) → b.variables ≡ vs → (ex line : ℕ) (form : Form) → Within (length ws.features) b.blocks → length (measured_after b.measured form).features ≤ length ws.features
-      → length (measured_after b.measured form).frames ≤ length ws.frames → PiecesFit (tables_of ws) (pieces_by line (resolved b ex form))
+      → length (measured_after b.measured form).frames ≤ length ws.frames → PiecesFit ws (pieces_by line (resolved b ex form))
   form_fits b e ex line form bs fs ds = by (is_measuring b.blocks && is_barred form)
     where
-      by : (t : Bool) → PiecesFit (tables_of ws) (pieces_by line (unless_barred t (stated b ex form)))
+      by : (t : Bool) → PiecesFit ws (pieces_by line (unless_barred t (stated b ex form)))
       by true = tt
       by false = stated_fits b e ex line form bs fs ds
 
-both_fit : (ws : Listed) (ps qs : List Piece) → PiecesFit (tables_of ws) ps → PiecesFit (tables_of ws) qs → PiecesFit (tables_of ws) (ps ++ qs)
+both_fit : (ws : Tables) (ps qs : List Piece) → PiecesFit ws ps → PiecesFit ws qs → PiecesFit ws (ps ++ qs)
 both_fit ws [] qs f g = g
 both_fit ws (p ∷ ps) qs f g = (f.0, both_fit ws ps qs f.1 g)
 
 -- a statement that fits opens a MEAS block of a feature of the tables
-step_within : (ws : Listed) (bs : List Opened) (s : Step) → StepFits (tables_of ws) s → Within (length ws.features) bs → Within (length ws.features) (blocks_after bs s)
+step_within : (ws : Tables) (bs : List Opened) (s : Step) → StepFits ws s → Within (length ws.features) bs → Within (length ws.features) (blocks_after bs s)
 step_within ws bs (Does what) f h = h
 step_within ws bs (Marks l) f h = h
 step_within ws bs (Leaps l) f h = h
@@ -528,23 +524,23 @@ step_within ws bs (Measures i) f h = (f, h)
 step_within ws bs EndsMeasure f h = outer_within (length ws.features) bs h
 step_within ws bs Ends f h = h
 
-within_next : (ws : Listed) (b : Behind) (form : Form) (line : ℕ) (r : Result Meaning FaultCode) → PiecesFit (tables_of ws) (pieces_by line r) → Within (length ws.features) b.blocks
+within_next : (ws : Tables) (b : Behind) (form : Form) (line : ℕ) (r : Result Meaning FaultCode) → PiecesFit ws (pieces_by line r) → Within (length ws.features) b.blocks
     → Within (length ws.features) (behind_by b form r).blocks
 within_next ws b form line (Ok Silent) f h = h
 within_next ws b form line (Ok (Declares vs)) f h = h
 within_next ws b form line (Ok (Counts s)) f h = step_within ws b.blocks s f.0 h
 within_next ws b form line (Err e) f h = h
 
-fit_in : (ws : Listed) (b : Behind) (ss : List Placed) → names_of (behind_all b ss) ≡ ws → Within (length ws.features) b.blocks → PiecesFit (tables_of ws) (pieces_from b ss)
+fit_in : (ws : Tables) (b : Behind) (ss : List Placed) → tables_of (behind_all b ss) ≡ ws → Within (length ws.features) b.blocks → PiecesFit ws (pieces_from b ss)
 fit_in ws b [] e h = tt
 fit_in ws b (s ∷ ss) e h =
-    let grown = subst (λ (n : Listed). Grown b.variables n.variables) e (all_statements_grown b (s ∷ ss)) in
+    let grown = subst (λ (n : Tables). Grown b.variables n.variables) e (all_statements_grown b (s ∷ ss)) in
     let next = behind_one b s in
     let least = twice_least (measured_after b.measured s.statement.form) next.measured (behind_all next ss).measured (one_least b s) (all_least next ss) in
-    let fs = subst (λ (n : Listed). length (measured_after b.measured s.statement.form).features ≤ length n.features) e least.features in
-    let ds = subst (λ (n : Listed). length (measured_after b.measured s.statement.form).frames ≤ length n.frames) e least.frames in
+    let fs = subst (λ (n : Tables). length (measured_after b.measured s.statement.form).features ≤ length n.features) e least.features in
+    let ds = subst (λ (n : Tables). length (measured_after b.measured s.statement.form).frames ≤ length n.frames) e least.frames in
     let here = form_fits b.variables ws grown b refl s.expansion s.statement.line s.statement.form h fs ds in
     both_fit ws (pieces_by s.statement.line (resolved_here b s)) (pieces_from next ss) here (fit_in ws next ss e (within_next ws b s.statement.form s.statement.line (resolved_here b s) here h))
 
-pub fit_all : (ss : List Placed) → PiecesFit (tables_of (names_of (behind_all start ss))) (pieces_from start ss)
-fit_all ss = fit_in (names_of (behind_all start ss)) start ss refl tt
+pub fit_all : (ss : List Placed) → PiecesFit (tables_of (behind_all start ss)) (pieces_from start ss)
+fit_all ss = fit_in (tables_of (behind_all start ss)) start ss refl tt

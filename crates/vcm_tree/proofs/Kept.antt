@@ -113,20 +113,20 @@ outside_lettered call done s (Call name args) c h = c s.line 1 done name (map (p
 outside_lettered call done s _ c h = stands_lettered s (is_kept s.form) h
 
 text_lettered : (ms : List Defined) (current : Option Defined) (done : ℕ) (s : Statement) (form : Form) (on : List Defined → Option Defined → ℕ → List Place) → BodiesLettered ms
-    → OpenLettered current → DeclaresLettered form → DeclaresLettered s.form
+    → OpenLettered current → DeclaresLettered s.form
     → ((ns : List Defined) (m : Option Defined) (n : ℕ) → BodiesLettered ns → OpenLettered m → LeavesLettered (on ns m n)) → LeavesLettered (text_from ms current done s form on)
-text_lettered ms None done s (Macro name ps) on h o d e go = go ms (Some (record { name = name; parameters = ps; body = [] })) done h tt
-text_lettered ms None done s form on h o d e go =
+text_lettered ms None done s (Macro name ps) on h o e go = go ms (Some (record { name = name; parameters = ps; body = [] })) done h tt
+text_lettered ms None done s form on h o e go =
     let here = outside_in (call_in ms) done s form in
     left_append here (on ms None (done + calls_in here)) (outside_lettered (call_in ms) done s form (call_lettered ms h) e) (go ms None (done + calls_in here) h tt)
-text_lettered ms (Some m) done s MacroEnd on h o d e go = go (m ∷ ms) None done (o, h) tt
-text_lettered ms (Some m) done s form on h o d e go = go ms (Some (with_statement m s)) done h (one_more m.body s o e)
+text_lettered ms (Some m) done s MacroEnd on h o e go = go (m ∷ ms) None done (o, h) tt
+text_lettered ms (Some m) done s form on h o e go = go ms (Some (with_statement m s)) done h (one_more m.body s o e)
 
 walk_lettered : (ms : List Defined) (current : Option Defined) (done : ℕ) (ss : List Statement) → BodiesLettered ms → OpenLettered current → AreLettered ss
     → LeavesLettered (walk_from ms current done ss)
 walk_lettered ms current done [] h o l = tt
 walk_lettered ms current done (s ∷ ss) h o l =
-    text_lettered ms current done s s.form (λ ns m n. walk_from ns m n ss) h o l.0 l.0 (λ ns m n g p. walk_lettered ns m n ss g p l.1)
+    text_lettered ms current done s s.form (λ ns m n. walk_from ns m n ss) h o l.0 (λ ns m n g p. walk_lettered ns m n ss g p l.1)
 
 -- what the written statements declare has the names of variables, so what the expanded ones declare has them
 pub lettered_all : (ss : List Statement) (all : List Placed) → IsExpanded ss all → AreLettered ss → AllLettered all

@@ -8,7 +8,7 @@ use Rattle.vcm_lines.specs.declared.fault.FaultCode.TheVariants.{DuplicateName}
 use Rattle.vcm_spec.specs.Expression.{Tree}
 use Rattle.vcm_spec.specs.Simple.{Simple}
 use Rattle.vcm_spec.specs.Program.{Label, is_same_label}
-use Rattle.vcm_expr.specs.Names.{Variable}
+use Rattle.vcm_spec.specs.Setup.{Variable}
 use Rattle.vcm_expr.specs.Source.{Source}
 use Rattle.vcm_expr.specs.Typing.{typed_for}
 use Rattle.vcm_expr.specs.declared.typing.Want.TheVariants as wants

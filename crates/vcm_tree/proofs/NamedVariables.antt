@@ -6,7 +6,8 @@ use Rattle.vcm_lines.specs.declared.fault.FaultCode.{FaultCode}
 use Rattle.vcm_lines.specs.declared.fault.FaultCode.TheVariants.{DuplicateName, TooManyNames}
 use Rattle.vcm_lines.specs.declared.logical.Logical.{Logical}
 use Rattle.vcm_lines.specs.Lexemes.{Lexeme, Run}
-use Rattle.vcm_expr.specs.Names.{Variable, AreNamed}
+use Rattle.vcm_spec.specs.Setup.{Variable}
+use Rattle.vcm_expr.specs.Names.{AreNamed}
 use Rattle.vcm_expr.specs.Symbols.{IsVariableName}
 use Rattle.vcm_expr.proofs.NameLemmas.{one_more_named}
 use Rattle.vcm_syntax.specs.declared.statement.Major.{Major}
@@ -21,7 +22,6 @@ use Rattle.vcm_syntax.specs.Statements.{SpellsBy}
 use Rattle.vcm_tree.specs.Statements.{AreSpelled}
 use Rattle.vcm_tree.specs.Pieces.{Step}
 use Rattle.vcm_tree.specs.Resolving.{Behind, Declares, then_ok, is_declared, with_one, with_all, assigned, moved, nested, tested, repeated, divided, test_ended, repeat_ended, ended, marked, label_of, declared, opened_measure, touched, measure_ended, configured, shifted, rotated, recalled, obtained, reported, does, counts, stated, unless_barred, is_measuring, is_barred, resolved, behind_by, behind_one, behind_all}
-use Rattle.vcm_tree.specs.Program.{listed, HaveVariableNames, tables_of}
 use Rattle.vcm_tree.proofs.Fitted.{then_ok-Ok}
 use Rattle.vcm_tree.proofs.Kept.{Letters, DeclaresLettered, AreLettered, AllLettered}
 
@@ -75,9 +75,9 @@ tabled ws = Ok ws
 one_named : (vs : List Variable) (ex : ℕ) (k : Kind) (name : List ℕ) (ws : List Variable) → with_one vs ex k name ≡ Ok ws → AreNamed vs → IsVariableName name → AreNamed ws
 one_named vs ex k name ws e h n = by (is_declared vs ex name) (nat_lt (length vs) 4096) e
   where
-    by : (b c : Bool) → (if b then Err DuplicateName else if c then tabled (vs ++ ((ex, name), k) ∷ []) else Err TooManyNames) ≡ tabled ws → AreNamed ws
+    by : (b c : Bool) → (if b then Err DuplicateName else if c then tabled (vs ++ record { name = name; kind = k; expansion = ex } ∷ []) else Err TooManyNames) ≡ tabled ws → AreNamed ws
     by true c f = absurd cc
-    by false true f = (let g : vs ++ ((ex, name), k) ∷ [] ≡ ws = cc in subst AreNamed g (one_more_named vs ((ex, name), k) h n))
+    by false true f = (let g : vs ++ record { name = name; kind = k; expansion = ex } ∷ [] ≡ ws = cc in subst AreNamed g (one_more_named vs (record { name = name; kind = k; expansion = ex }) h n))
     by false false f = absurd cc
 
 all_named : (vs : List Variable) (ex : ℕ) (k : Kind) (names : List (List ℕ)) (ws : List Variable) → with_all vs ex k names ≡ Ok ws → AreNamed vs → Letters names → AreNamed ws
@@ -144,8 +144,3 @@ all_spelled (l ∷ ls) (s ∷ ss) e = (lettered_by _ _ _ s.form e.0.form, all_sp
 pub all_behind_named : (b : Behind) (all : List Placed) → AllLettered all → AreNamed b.variables → AreNamed (behind_all b all).variables
 all_behind_named b [] e h = h
 all_behind_named b (s ∷ ss) e h = all_behind_named (behind_one b s) ss e.1 (form_named b s.expansion s.statement.form h e.0)
-
--- tables keep the names
-pub tables_named : (vs : List Variable) (fs ds : List (List ℕ)) → AreNamed vs → HaveVariableNames (tables_of (listed vs fs ds))
-tables_named [] fs ds h = tt
-tables_named (v ∷ vs) fs ds h = (h.0, tables_named vs fs ds h.1)

@@ -1,7 +1,7 @@
 -- A loop that is opened.
 use Rattle.std.proofs.Common.{◌≡◌, ℕ, List, [], ◌∷◌, ◌++◌, Ok, refl, sym, ap}
 use Rattle.vcm_spec.specs.Program.{done}
-use Rattle.vcm_expr.specs.Names.{Variable}
+use Rattle.vcm_spec.specs.Setup.{Variable}
 use Rattle.vcm_syntax.specs.declared.statement.Rounds.{Rounds}
 use Rattle.vcm_tree.specs.declared.builder.Head.{Head}
 use Rattle.vcm_tree.specs.declared.builder.Builder.{Builder}

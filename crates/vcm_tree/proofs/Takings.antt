@@ -7,7 +7,7 @@ use Rattle.vcm_lines.specs.declared.fault.SourceFault.{SourceFault}
 use Rattle.vcm_lines.specs.Fault.{NoMemoryOr}
 use Rattle.vcm_spec.specs.Expression.{Tree}
 use Rattle.vcm_spec.specs.Simple.{Simple}
-use Rattle.vcm_expr.specs.Names.{Variable}
+use Rattle.vcm_spec.specs.Setup.{Variable}
 use Rattle.vcm_syntax.specs.declared.statement.Form.{Form}
 use Rattle.vcm_syntax.specs.declared.statement.Form.TheVariants.{Declaration, Mark}
 use Rattle.vcm_macro.specs.declared.placed.Placed.{Placed}

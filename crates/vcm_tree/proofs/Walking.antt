@@ -20,7 +20,7 @@ use Rattle.vcm_tree.specs.Ended.{is_ended}
 use Rattle.vcm_tree.specs.Pieces.{pieces}
 use Rattle.vcm_tree.specs.Resolving.{Behind, behind, measured, Opened, Meaning, counts, ended, stated, resolved_here, behind_by, behind_one, behind_all, start, pieces_by, pieces_from, BreaksNames, names_line}
 use Rattle.vcm_tree.specs.inner.Telling.{ToldAt}
-use Rattle.vcm_tree.specs.Program.{IsParsed, names_of, listed, notices_of}
+use Rattle.vcm_tree.specs.Program.{IsParsed, tables_of, notices_of}
 use Rattle.vcm_tree.specs.inner.Building.{blocks_of, opens_pieces, written}
 use Rattle.vcm_tree.specs.inner.Taking.{measured_of, behind_of, Takes}
 use Rattle.vcm_tree.proofs.Builders.{blocks_length}
@@ -176,13 +176,13 @@ no_opens [] e = refl
 no_opens (o ∷ os) e = (let l = blocks_length (o ∷ os) in let z : length (blocks_of (o ∷ os)) ≡ 0 = ap length e in absurd (omega (arith, l, z)))
 
 pub walk_ends : (ss : List Statement) (all : List Placed) (p : Progress) → IsTrue (is_ended all) → IsWalked all p []
-    → IsParsed ss all (record { program = p.builder.block; names = listed p.names p.features p.frames; notices = notices_of ss })
+    → IsParsed ss all (record { program = p.builder.block; tables = record { variables = p.names; features = p.features; frames = p.frames }; notices = notices_of ss })
 walk_ends ss all p last w =
     let whole : behind_of p ≡ behind_all start all = w.behind ∙ ap (behind_all start) (take_all w.place all (drop_nil w.place all w.left)) in
     let shut_all : blocks_of p.builder.opens.items ≡ [] = ap (λ (b : Behind). b.blocks) whole ∙ last_shuts start all last (all_mean [] all (walk_clean all p w)) in
     let none : p.builder.opens.items ≡ [] = no_opens p.builder.opens.items shut_all in
     record {
       program = sym (w.writes ∙ append-nil (written p.builder) ∙ ap (λ os. opens_pieces os ++ pieces p.builder.block) none);
-      names = ap names_of whole;
+      tables = ap tables_of whole;
       notices = refl;
     }

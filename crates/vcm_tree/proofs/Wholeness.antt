@@ -4,6 +4,7 @@ use Rattle.std.specs.Prelude.{IsTrue}
 use Rattle.std.specs.List.{filter}
 use Rattle.std.proofs.lemmas.List.{append-nil}
 use Rattle.vcm_spec.specs.Phase.{IsClean}
+use Rattle.vcm_spec.specs.Setup.{Tables}
 use Rattle.vcm_spec.specs.Program.{sizes}
 use Rattle.vcm_expr.specs.Names.{AreNamed}
 use Rattle.vcm_syntax.specs.declared.statement.Statement.{Statement}
@@ -13,28 +14,26 @@ use Rattle.vcm_tree.specs.Ended.{is_ended}
 use Rattle.vcm_tree.specs.Jumps.{labels_of, jumps_of, BreaksJumps}
 use Rattle.vcm_tree.specs.Pieces.{Piece, pieces}
 use Rattle.vcm_tree.specs.Resolving.{behind_all, start, BreaksNames}
-use Rattle.vcm_tree.specs.Program.{Parsed, IsParsed, IsWhole, HaveVariableNames, AreDistinct, names_of, tables_of, tables}
+use Rattle.vcm_tree.specs.Program.{Parsed, IsParsed, IsWhole, AreDistinct, tables_of}
 use Rattle.vcm_tree.proofs.Walking.{all_mean}
 use Rattle.vcm_tree.proofs.Written.{piece_labels, PiecesNest, PiecesFit, ends_last, pieces_length, pieces_marks, pieces_nests, closed_last, pieces_fit}
 use Rattle.vcm_tree.proofs.Meant.{labels_all, counted_all, few_pieces, last_ends, nest_all, distinct_all}
 use Rattle.vcm_tree.proofs.Fitted.{fit_all}
-use Rattle.vcm_tree.proofs.NamedVariables.{tables_named}
 
 pub parsed_whole : (ss : List Statement) (all : List Placed) (p : Parsed) → IsTrue (is_ended all) → length all ≤ 20000 → IsClean BreaksNames all → IsParsed ss all p → AreNamed (behind_all start all).variables
-    → IsClean (BreaksJumps (labels_of p.program)) (jumps_of p.program) → IsWhole p.program (tables p)
+    → IsClean (BreaksJumps (labels_of p.program)) (jumps_of p.program) → IsWhole p.program p.tables
 parsed_whole ss all p last few clean is named jumps =
     let mean = all_mean [] all clean in
     let short = few_pieces start all in
     let long = sym (pieces_length p.program) ∙ ap (λ (l : List Piece). length l) is.program in
-    let fits = subst (λ l. PiecesFit (tables_of (names_of (behind_all start all))) l) (sym is.program) (fit_all all) in
+    let fits = subst (λ l. PiecesFit (tables_of (behind_all start all)) l) (sym is.program) (fit_all all) in
     let nests = subst (PiecesNest 0) (sym (append-nil (pieces p.program) ∙ is.program)) (nest_all start all mean) in
     let labels = labels_all start all ∙ ap piece_labels (sym is.program) ∙ pieces_marks p.program in
     record {
       closed = sym (closed_last p.program) ∙ ap ends_last is.program ∙ last_ends start all last mean;
       few = omega (arith, short, long, few);
-      fits = pieces_fit (tables p) p.program (subst (λ n. PiecesFit (tables_of n) (pieces p.program)) (sym is.names) fits);
-      named = subst (λ n. HaveVariableNames (tables_of n)) (sym is.names)
-          (tables_named (behind_all start all).variables (behind_all start all).measured.features (behind_all start all).measured.frames named);
+      fits = pieces_fit p.tables p.program (subst (λ n. PiecesFit n (pieces p.program)) (sym is.tables) fits);
+      named = subst (λ (n : Tables). AreNamed n.variables) (sym is.tables) named;
       nested = (pieces_nests p.program 0 [] nests).0;
       once = subst AreDistinct labels (distinct_all start all mean tt);
       jumps = jumps;

@@ -10,7 +10,7 @@ use Rattle.vcm_syntax.specs.declared.statement.Statement.{Statement}
 use Rattle.vcm_syntax.specs.Statements.{is_counted}
 use Rattle.vcm_macro.specs.declared.placed.Placed.{Placed}
 use Rattle.vcm_tree.specs.Resolving.{BreaksNames}
-use Rattle.vcm_tree.specs.Program.{Parsed, IsParsed, IsWhole, tables}
+use Rattle.vcm_tree.specs.Program.{Parsed, IsParsed, IsWhole}
 use Rattle.vcm_tree.specs.Acceptance.{IsAccepted, IsRefused}
 
 -- a text that is accepted isn't refused
@@ -27,7 +27,7 @@ IsRefusedAtOneLine = (text : List ℕ) (f g : SourceFault) → IsRefused text f 
 
 -- an accepted program is whole
 abbrev pub AcceptedIsWhole : Type 0
-AcceptedIsWhole = (text : List ℕ) (p : Parsed) → IsAccepted text p → IsWhole p.program (tables p)
+AcceptedIsWhole = (text : List ℕ) (p : Parsed) → IsAccepted text p → IsWhole p.program p.tables
 
 -- expanded statements that break no rule of names have as many counted ones as their program has statements
 abbrev pub CountsStatements : Type 0

@@ -1,14 +1,13 @@
 -- What the statements of a text are: a structured program with the tables of its names, and notices.
-use Rattle.std.specs.Prelude.{◌≡◌, ℕ, ◌+◌, ◌<◌, ◌≤◌, IsTrue, not, true, List, [], ◌∷◌, length, map}
+use Rattle.std.specs.Prelude.{◌≡◌, ℕ, ◌+◌, ◌<◌, ◌≤◌, IsTrue, not, true, List, [], ◌∷◌, length}
 use Rattle.std.specs.List.{AllByRecursion, flat_map}
 use Rattle.vcm_spec.specs.Setup.{Tables}
 use Rattle.vcm_spec.specs.Program.{Label, Node, Block, choice, choice_else, do_loop, meas, done, then, sizes}
 use Rattle.vcm_spec.specs.Whole.{is_closed}
 use Rattle.vcm_spec.specs.Phase.{IsClean}
 use Rattle.vcm_spec.specs.Fitting.{BlockFits}
-use Rattle.vcm_expr.specs.Names.{Variable}
 use Rattle.vcm_expr.specs.NameBytes.{is_name}
-use Rattle.vcm_expr.specs.Symbols.{IsVariableName}
+use Rattle.vcm_expr.specs.Names.{AreNamed}
 use Rattle.vcm_syntax.specs.declared.statement.Form.TheVariants.{Ignored}
 use Rattle.vcm_syntax.specs.declared.statement.Statement.{Statement}
 use Rattle.vcm_macro.specs.declared.placed.Placed.{Placed}
@@ -17,25 +16,10 @@ use Rattle.vcm_tree.specs.Pieces.{pieces}
 use Rattle.vcm_tree.specs.Resolving.{Behind, start, behind_all, pieces_from}
 use Rattle.vcm_tree.specs.Jumps.{is_among, labels_of, jumps_of, BreaksJumps}
 
--- the names of a program: its variables in the order of their declarations, its features in that of their first FEAT, its frames in that of
--- their first TRANS or ROTATE
-pub record Listed : Type 0 where
-  pub variables : List Variable
-  pub features : List (List ℕ)
-  pub frames : List (List ℕ)
-
--- these names
-abbrev pub listed : List Variable → List (List ℕ) → List (List ℕ) → Listed
-listed vs fs ds = record { variables = vs; features = fs; frames = ds }
-
--- what statements leave behind them of names
-abbrev pub names_of : Behind → Listed
-names_of b = listed b.variables b.measured.features b.measured.frames
-
--- the tables of a program with these names
-abbrev pub tables_of : Listed → Tables
-tables_of n =
-    record { variables = map (λ v. record { name = v.0.1; kind = v.1; expansion = v.0.0 }) n.variables; features = n.features; frames = n.frames }
+-- the tables of the names that statements leave behind them: variables in the order of their declarations, features in that of their first
+-- FEAT, frames in that of their first TRANS or ROTATE
+abbrev pub tables_of : Behind → Tables
+tables_of b = record { variables = b.variables; features = b.measured.features; frames = b.measured.frames }
 
 -- the notice of a statement that has no effect
 abbrev pub notice_of : Statement → List Noticed
@@ -48,17 +32,13 @@ notices_of ss = flat_map notice_of ss
 -- what a text is: a program, the tables of its names, and notices
 pub record Parsed : Type 0 where
   pub program : Block
-  pub names : Listed
+  pub tables : Tables
   pub notices : List Noticed
-
--- the tables of what a text is
-abbrev pub tables : Parsed → Tables
-tables p = tables_of p.names
 
 -- what expanded statements are, with the notices of those that are written: a program which is written by the counted ones, their names
 pub record IsParsed (ss : List Statement) (all : List Placed) (p : Parsed) : Type 0 where
   pub program : pieces p.program ≡ pieces_from start all
-  pub names : p.names ≡ names_of (behind_all start all)
+  pub tables : p.tables ≡ tables_of (behind_all start all)
   pub notices : p.notices ≡ notices_of ss
 
 -- where so many blocks are around a node, or a block, those in it nest at most 32 deep
@@ -79,10 +59,6 @@ abbrev pub AreDistinct : List Label → Type 0
 AreDistinct [] = Unit {0}
 AreDistinct (l ∷ ls) = IsTrue (not (is_among ls l)) × AreDistinct ls
 
--- each variable of the tables has a variable's name
-abbrev pub HaveVariableNames : Tables → Type 0
-HaveVariableNames ts = AllByRecursion (λ v. IsVariableName v.name) ts.variables
-
 -- at most 4,096 names
 pub record AreNames (names : List (List ℕ)) : Type 0 where
   pub few : length names ≤ 4096
@@ -94,7 +70,7 @@ pub record IsWhole (program : Block) (ts : Tables) : Type 0 where
   pub closed : IsTrue (is_closed program)
   pub few : sizes program ≤ 20000
   pub fits : BlockFits ts program
-  pub named : HaveVariableNames ts
+  pub named : AreNamed ts.variables
   pub nested : BlockNests 0 program
   pub once : AreDistinct (labels_of program)
   pub jumps : IsClean (BreaksJumps (labels_of program)) (jumps_of program)

@@ -21,7 +21,8 @@ use Rattle.vcm_spec.specs.Simple.{Simple, Goto, GoHome, Assign, Feat, PtMeas, Sn
 use Rattle.vcm_spec.specs.Program.{Label, is_same_label, is_same_name}
 use Rattle.vcm_expr.specs.declared.typing.Want.{Want}
 use Rattle.vcm_expr.specs.declared.typing.Want.TheVariants as wants
-use Rattle.vcm_expr.specs.Names.{Variable, is_named, variable_of, kinds_of}
+use Rattle.vcm_spec.specs.Setup.{Variable, kinds_of}
+use Rattle.vcm_expr.specs.Names.{is_named, variable_of}
 use Rattle.vcm_expr.specs.Source.{Source}
 use Rattle.vcm_expr.specs.Typing.{typed_for}
 use Rattle.vcm_syntax.specs.declared.statement.Offset.{Offset}
@@ -44,7 +45,7 @@ is_declared vs e name = list_any (is_named e name) vs
 abbrev pub with_one : List Variable → ℕ → Kind → List ℕ → Result (List Variable) FaultCode
 with_one vs e kind name =
     if is_declared vs e name then Err DuplicateName
-    else if nat_lt (length vs) 4096 then Ok (vs ++ ((e, name), kind) ∷ [])
+    else if nat_lt (length vs) 4096 then Ok (vs ++ record { name = name; kind = kind; expansion = e } ∷ [])
     else Err TooManyNames
 
 -- the table with all variables of a declaration

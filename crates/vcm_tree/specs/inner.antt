@@ -5,6 +5,5 @@ pub mod Judging
 pub mod Falls
 pub mod Building
 pub mod Taking
-pub mod Tabled
 pub mod Shifting
 pub mod Telling

@@ -31,7 +31,7 @@ pub struct Noticed {
     pub word: Notice,
 }
 
-/// The names of a program: its variables, its features and its frames. Contracts see them as `Listed`.
+/// The names of a program: its variables, its features and its frames. Contracts see them as `Tables`.
 #[derive(Drop)]
 pub(crate) struct Listing {
     pub(crate) variables: Names,
@@ -40,11 +40,11 @@ pub(crate) struct Listing {
 }
 
 impl Model for Listing {
-    ghost use Rattle.vcm_tree.specs.Program.{Listed, listed};
+    ghost use Rattle.vcm_spec.specs.Setup.{Tables};
 
-    ghost Value = { Listed };
+    ghost Value = { Tables };
 
-    ghost view = { λ l. listed l.variables l.features l.frames };
+    ghost view = { λ l. record { variables = l.variables; features = l.features; frames = l.frames } };
 }
 
 /// A program whose jumps are not judged yet, its jump labels, its names, and its notices.
@@ -86,7 +86,7 @@ pub(crate) fn drafted(
 ) -> Result<Draft, SourceFault>
     requires ended { IsTrue (is_ended all.now) }
     ensures clean { IfOk result (λ _. IsClean BreaksNames all.now) }
-    ensures program { IfOk result (λ d. IsParsed written.now all.now (record { program = d.tree; names = d.names; notices = d.notices.items })) }
+    ensures program { IfOk result (λ d. IsParsed written.now all.now (record { program = d.tree; tables = d.names; notices = d.notices.items })) }
     ensures labels { IfOk result (λ d. d.labels ≡ labels_of d.tree) }
     ensures fault { IfErr result (NoMemoryOr (λ f. FirstFault BreaksNames names_line all.now f.code f.line)) }
 {
@@ -127,7 +127,7 @@ pub struct Accepted {
 }
 
 impl Model for Accepted {
-    ghost use Rattle.vcm_tree.specs.Program.{Parsed, IsWhole, tables_of};
+    ghost use Rattle.vcm_tree.specs.Program.{Parsed, IsWhole};
     ghost use Rattle.vcm_tree.specs.inner.Codes.{block_coded};
     ghost use Rattle.std.specs.Coded.{codes};
 
@@ -135,20 +135,20 @@ impl Model for Accepted {
 
     ghost coded = { Prim.hlevel (codes, block_coded) };
 
-    ghost view = { λ a. record { program = a.tree; names = a.names; notices = a.notices.items } };
+    ghost view = { λ a. record { program = a.tree; tables = a.names; notices = a.notices.items } };
 
-    ghost invariant = { λ a. IsWhole a.tree (tables_of a.names) };
+    ghost invariant = { λ a. IsWhole a.tree a.names };
 }
 
 impl Accepted {
     ghost use Rattle.std.specs.Prelude.{◌≡◌, ◌≤◌, IfOk, OnOk, length};
     ghost use Rattle.vcm_spec.specs.Program.{sizes};
-    ghost use Rattle.vcm_tree.specs.Program.{Parsed, IsWhole, AreNames, tables, tables_of};
+    ghost use Rattle.vcm_tree.specs.Program.{Parsed, IsWhole, AreNames};
 
     /// A whole program.
     pub(crate) fn new(tree: Block, names: Listing, notices: Vec<Noticed>) -> Accepted
-        requires { IsWhole tree (tables_of names) }
-        ensures { result ≡ record { program = tree; names = names; notices = notices.items } }
+        requires { IsWhole tree names }
+        ensures { result ≡ record { program = tree; tables = names; notices = notices.items } }
     {
         Accepted {
             tree,
@@ -160,28 +160,28 @@ impl Accepted {
     /// The program.
     pub fn tree(&self) -> &Block
         ensures tree { result.now ≡ self.now.program }
-        ensures whole { IsWhole self.now.program (tables self.now) }
+        ensures whole { IsWhole self.now.program self.now.tables }
     {
         &self.tree
     }
 
     /// The variables, in the order of their declarations.
     pub fn variables(&self) -> &Names
-        ensures { result.now ≡ self.now.names.variables }
+        ensures { result.now ≡ self.now.tables.variables }
     {
         &self.names.variables
     }
 
     /// The features, in the order of the first `FEAT` of each.
     pub fn features(&self) -> &Titles
-        ensures { result.now ≡ self.now.names.features }
+        ensures { result.now ≡ self.now.tables.features }
     {
         &self.names.features
     }
 
     /// The frames, in the order of the first `TRANS` or `ROTATE` of each.
     pub fn frames(&self) -> &Titles
-        ensures { result.now ≡ self.now.names.frames }
+        ensures { result.now ≡ self.now.tables.frames }
     {
         &self.names.frames
     }
@@ -190,10 +190,10 @@ impl Accepted {
     ///
     /// Errors: want of memory.
     pub fn tables(&self, alloc: Global) -> Result<Tables, NoMemory>
-        ensures tables { IfOk result (λ t. t ≡ tables self.now) }
-        ensures variables { OnOk result (length self.now.names.variables ≤ 4096) }
-        ensures features { OnOk result (AreNames self.now.names.features) }
-        ensures frames { OnOk result (AreNames self.now.names.frames) }
+        ensures tables { IfOk result (λ t. t ≡ self.now.tables) }
+        ensures variables { OnOk result (length self.now.tables.variables ≤ 4096) }
+        ensures features { OnOk result (AreNames self.now.tables.features) }
+        ensures frames { OnOk result (AreNames self.now.tables.frames) }
     {
         tables_of(
             alloc,

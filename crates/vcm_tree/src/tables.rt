@@ -1,8 +1,7 @@
 //! The tables of a program's names.
 
 ghost use Rattle.std.specs.Prelude.{◌≡◌, Some, IfOk, OnOk, IfSome, IfNone, length, ◌≤◌, slice_get};
-ghost use Rattle.vcm_tree.specs.Program.{listed, tables_of, AreNames};
-ghost use Rattle.vcm_tree.specs.inner.Tabled.{variable_of, entries_of};
+ghost use Rattle.vcm_tree.specs.Program.{AreNames};
 
 use crate::titles::Titles;
 use std::alloc::Global;
@@ -12,7 +11,7 @@ use vcm_tables::{Tables, Variable};
 
 // The variable at an index, if there is one.
 fn variable_at(names: &Names, index: usize) -> Option<Variable>
-    ensures some { IfSome result (λ v. slice_get names.now index ≡ Some (variable_of v)) }
+    ensures some { IfSome result (λ v. slice_get names.now index ≡ Some v) }
     ensures none { IfNone result (length names.now ≤ index) }
 {
     let (expansion, name, kind) = names.get(index)?;
@@ -21,7 +20,7 @@ fn variable_at(names: &Names, index: usize) -> Option<Variable>
 
 // The variables in their order.
 fn variables_of(alloc: Global, names: &Names) -> Result<Items<Variable>, NoMemory>
-    ensures entries { IfOk result (λ vs. vs ≡ entries_of names.now) }
+    ensures same { IfOk result (λ vs. vs ≡ names.now) }
     ensures few { OnOk result (length names.now ≤ 4096) }
 {
     let mut variables = Items::from_vec(Vec::with_capacity(alloc, names.len())?);
@@ -56,7 +55,7 @@ pub(crate) fn tables_of(
     features: &Titles,
     frames: &Titles,
 ) -> Result<Tables, NoMemory>
-    ensures tables { IfOk result (λ t. t ≡ tables_of (listed names.now features.now frames.now)) }
+    ensures tables { IfOk result (λ t. t ≡ record { variables = names.now; features = features.now; frames = frames.now }) }
     ensures variables { OnOk result (length names.now ≤ 4096) }
     ensures features { OnOk result (AreNames features.now) }
     ensures frames { OnOk result (AreNames frames.now) }

@@ -1,9 +1,9 @@
 -- Cutting and joining undo each other.
-use Rattle.std.proofs.Common.{◌≡◌, ℕ, zero, suc, ◌==◌, eqb, Bool, true, false, List, [], ◌∷◌, ◌++◌, Option, Some, None, refl, sym, ap, ◌∙◌, subst, arith}
+use Rattle.std.proofs.Common.{◌≡◌, ℕ, ◌==◌, Bool, true, false, List, [], ◌∷◌, ◌++◌, refl, sym, ap, ◌∙◌, arith}
 use Rattle.std.specs.List.{AllByRecursion}
 use Rattle.std.proofs.lemmas.Bool.{eqb-true}
 use Rattle.vcm_words.specs.Cutting.{onto, split, joined}
-use Rattle.vcm_words.specs.inner.Marks.{Without, IsWord}
+use Rattle.vcm_words.specs.inner.Marks.{Without}
 
 -- some part stands first
 pub split_some : (mark : ℕ) (bs : List ℕ) → (w : List ℕ) × (ws : List (List ℕ)) × (split mark bs ≡ w ∷ ws)

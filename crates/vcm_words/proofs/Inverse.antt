@@ -1,11 +1,9 @@
 -- A reader of words and a spelling that undo each other, and how larger ones are made of smaller ones.
-use Rattle.std.proofs.Common.{◌≡◌, ℕ, ◌==◌, Bool, true, false, cond, List, [], ◌∷◌, ◌++◌, Option, Some, None, refl, sym, ap, ◌∙◌, subst, append_assoc, arith}
+use Rattle.std.proofs.Common.{◌≡◌, ℕ, Bool, true, false, List, [], ◌∷◌, ◌++◌, Option, Some, None, refl, sym, ap, ◌∙◌, subst, append_assoc}
 use Rattle.std.specs.List.{AllByRecursion}
-use Rattle.std.specs.Str.{bytes_eq}
-use Rattle.std.proofs.lemmas.Slice.Eq.{bytes_eq-Decides}
 use Rattle.vcm_words.specs.inner.Marks.{Without, IsWord}
 use Rattle.vcm_words.specs.Numbers.{only_if}
-use Rattle.vcm_words.specs.WordReaders.{◌>>=◌, Reader, now, one, both, via, after, tested, named, marked, mapped, or_else}
+use Rattle.vcm_words.specs.WordReaders.{◌>>=◌, Reader, one, both, via, after, tested}
 
 abbrev pub found : {A : Type 0} → A → Option A
 found x = Some x

@@ -1,9 +1,8 @@
 -- Items and expressions: what is read is spelled so, and what is spelled so is read again.
-use Rattle.std.proofs.Common.{◌≡◌, ◌⊎◌, ℕ, zero, suc, ◌<◌, ◌≤◌, ◌^◌, ◌==◌, Bool, true, false, cond, inl, inr, ℤ, List, [], ◌∷◌, ◌++◌, length, Option, Some, None, refl, sym, ap, ◌∙◌, subst, arith, IsTrue}
+use Rattle.std.proofs.Common.{◌≡◌, ℕ, zero, suc, ◌<◌, ◌^◌, true, false, inl, inr, List, [], ◌∷◌, ◌++◌, length, Option, Some, None, refl, sym, ap, ◌∙◌, subst, arith, IsTrue}
 use Rattle.std.specs.Prelude.{decimal, codes}
 use Rattle.std.specs.Fmt.{signed_decimal}
 use Rattle.std.specs.List.{AllByRecursion}
-use Rattle.std.proofs.lemmas.Bool.{eqb-true}
 use Rattle.std.proofs.lemmas.Fmt.{decimal_digit}
 use Rattle.vcm_spec.specs.declared.expression.Operand.{Operand}
 use Rattle.vcm_spec.specs.declared.expression.Operand.TheVariants.{Integer, Thousandths, Truth, Variable}
@@ -15,10 +14,11 @@ use Rattle.vcm_spec.specs.declared.expression.Item.TheVariants.{Push, Apply, Com
 use Rattle.vcm_fields.specs.Fitting.{within, FitsOperand, FitsItem, FitsExpression}
 use Rattle.vcm_words.specs.inner.Marks.{Without, IsWord}
 use Rattle.vcm_words.specs.Numbers.{natural, number, signed, counted}
-use Rattle.vcm_words.specs.WordReaders.{◌>>=◌, Reader, marked, mapped, named, or_else, ending}
+use Rattle.vcm_num.specs.Words.{look_up}
+use Rattle.vcm_words.specs.WordReaders.{◌>>=◌, marked, mapped, ending}
 use Rattle.vcm_words.specs.Items.{truth_text, operand_text, item_text, closed_words, opened, expression, operator_rows, truth_of, operand_in, item_in, last_or_more, items_at, opening, unopened, bracketed_at, expression_at}
-use Rattle.vcm_words.proofs.Inverse.{Means, Reads, bind_some, some_is, only_met, reads_tested, all_append}
-use Rattle.vcm_words.proofs.NumberLaws.{natural_takes, natural_again, whole_again, means_number, means_signed, decimal_word, decimal_without_high, signed_without_high}
+use Rattle.vcm_words.proofs.Inverse.{Means, Reads, bind_some, some_is, reads_tested, all_append}
+use Rattle.vcm_words.proofs.NumberLaws.{natural_again, whole_again, means_number, means_signed, decimal_word, decimal_without_high, signed_without_high}
 use Rattle.vcm_words.proofs.WordLaws.{or_else_takes, mapped_takes, marked_takes, means_marked, named_takes, ending_none, ending_some, ending_takes}
 
 -- ---- leaves
@@ -80,14 +80,14 @@ operators_named = ((refl, tt), ((refl, tt), ((refl, tt), ((refl, tt), ((refl, tt
 
 item_takes : (w : List ℕ) (i : Item) → item_in true w ≡ Some i → (w ≡ item_text i) × FitsItem i
 unfolding item_in Leaf
-item_takes w i e = elim (or_else_takes (named operator_rows w) _ i e) [
+item_takes w i e = elim (or_else_takes (look_up operator_rows w) _ i e) [
   | inl f ↦ named_takes item_text FitsItem operator_rows w i operators_named f
   | inr f ↦
       let p = mapped_takes Push (operand_in true w) i f in
       subst (λ (j : Item). (w ≡ item_text j) × FitsItem j) p.2 (operand_takes w p.0 p.1)
 ]
 
-no_operator : (x : Operand) → named operator_rows (operand_text x) ≡ None
+no_operator : (x : Operand) → look_up operator_rows (operand_text x) ≡ None
 no_operator (Integer n) = refl
 no_operator (Thousandths n) = refl
 no_operator (Truth false) = refl

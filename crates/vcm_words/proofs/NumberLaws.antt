@@ -1,20 +1,20 @@
 -- Numbers in decimal: what is read is spelled so, and what is spelled so is read again.
-use Rattle.std.proofs.Common.{◌≡◌, ◌*◌, ◌-◌, get_or, drop, ℕ, zero, suc, ◌+◌, ◌<◌, ◌≤◌, ◌^◌, ◌==◌, ◌&&◌, nat_lt, Bool, true, false, cond, inl, inr, ℤ, pos, negsuc, List, [], ◌∷◌, ◌++◌, length, Option, Some, None, refl, sym, ap, ◌∙◌, subst, arith, rules, FitsSigned, w64}
+use Rattle.std.proofs.Common.{◌≡◌, ◌*◌, ◌-◌, get_or, drop, ℕ, zero, suc, ◌+◌, ◌<◌, ◌≤◌, ◌^◌, ◌==◌, ◌&&◌, nat_lt, Bool, true, false, cond, ℤ, pos, negsuc, List, [], ◌∷◌, length, Option, Some, None, refl, sym, ap, ◌∙◌, subst, arith, rules, FitsSigned, w64}
 use Rattle.std.specs.Prelude.{decimal}
 use Rattle.std.specs.Fmt.{signed_decimal}
 use Rattle.std.specs.Str.{bytes_eq}
 use Rattle.std.specs.Char.{is_ascii_digit}
-use Rattle.std.specs.List.{AllByRecursion, list_all}
+use Rattle.std.specs.List.{list_all}
 use Rattle.std.proofs.lemmas.List.{at_drop_more}
 use Rattle.vcm_num.proofs.Reading.{AllDigits-test, number_after-le}
-use Rattle.std.proofs.lemmas.Bool.{cases_lt, ltb-true, ltb-false, eqb-true, eqb-false}
+use Rattle.std.proofs.lemmas.Bool.{ltb-true, eqb-true}
 use Rattle.std.proofs.lemmas.Slice.Eq.{bytes_eq-Decides}
 use Rattle.std.proofs.lemmas.Str.Parse.{IsNumeralModel, numerals_by_fold}
 use Rattle.std.proofs.lemmas.Fmt.{digits_decimal, digits_value-decimal, decimal_nonempty}
 use Rattle.vcm_num.specs.Literals.{AllDigits, number_after}
 use Rattle.vcm_words.specs.inner.Marks.{Without, IsWord}
-use Rattle.vcm_words.specs.Numbers.{only_if, natural, negated, unsigned, whole, number, signed}
-use Rattle.vcm_words.proofs.Inverse.{Means, some_is, only_met}
+use Rattle.vcm_words.specs.Numbers.{natural, negated, unsigned, whole, number, signed}
+use Rattle.vcm_words.proofs.Inverse.{Means, only_met}
 
 own : IsNumeralModel AllDigits (number_after 0)
 own = numerals_by_fold AllDigits (search rules) number_after (search rules)

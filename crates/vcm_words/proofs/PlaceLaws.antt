@@ -1,9 +1,6 @@
 -- The operands of all statements: what is read is spelled so, and what is spelled so is read again.
-use Rattle.std.proofs.Common.{◌≡◌, ℕ, zero, suc, ◌<◌, ◌≤◌, ◌^◌, ◌==◌, ◌&&◌, nat_le, Bool, true, false, cond, List, [], ◌∷◌, ◌++◌, length, Option, Some, None, refl, sym, ap, ◌∙◌, subst, arith, IsTrue, append_assoc}
-use Rattle.std.specs.Prelude.{decimal, codes}
-use Rattle.std.specs.List.{AllByRecursion, list_all}
-use Rattle.std.proofs.lemmas.Bool.{eqb-true}
-use Rattle.std.proofs.lemmas.List.{append-nil}
+use Rattle.std.proofs.Common.{◌≡◌, ℕ, zero, suc, ◌<◌, ◌≤◌, ◌^◌, ◌==◌, nat_le, true, false, Option, Some, None, refl, subst, arith, IsTrue}
+use Rattle.std.specs.Prelude.{decimal}
 use Rattle.vcm_num.specs.declared.axis.Axis.{Axis}
 use Rattle.vcm_num.specs.declared.axis.Axis.TheVariants.{PlusX, MinusX, PlusY, MinusY, PlusZ, MinusZ}
 use Rattle.vcm_spec.specs.declared.words.Setting.{Setting}
@@ -13,20 +10,15 @@ use Rattle.vcm_spec.specs.declared.words.Source.TheVariants.{Nominal, Actual}
 use Rattle.vcm_fields.specs.declared.word.Word.{Word}
 use Rattle.vcm_fields.specs.declared.word.Word.TheVariants as words
 use Rattle.vcm_code.specs.declared.op.Op.TheVariants.{EndFil, Goto, GoHome, Assign, If, Else, EndIf, Do, EndDo, Label, JumpTo, Feat, Meas, PtMeas, EndMes, SnSet, Trans, Rotate, Recall, Obtain, Output, Text}
-use Rattle.vcm_fields.specs.Parts.{Operation, Line}
-use Rattle.vcm_fields.specs.Words.{word_of}
 use Rattle.vcm_fields.specs.Fitting.{within}
-use Rattle.vcm_words.specs.Cutting.{split, joined}
-use Rattle.vcm_words.specs.inner.Marks.{Without, IsWord}
+use Rattle.vcm_words.specs.inner.Marks.{IsWord}
 use Rattle.vcm_words.specs.Numbers.{number, counted, only_if}
-use Rattle.vcm_words.specs.WordReaders.{◌>>=◌, Reader, now, one, both, via, after, marked, named, ending}
-use Rattle.vcm_words.specs.Items.{expression, expression_at}
-use Rattle.vcm_words.specs.Operands.{single, number_text, number_at, lettered, lettered_at, variable, feature, frame, pair, target, variable_at, feature_at, frame_at, pair_at, target_at, axis_text, axis_rows, direction_text, direction_rows, setting_text, setting_rows, source_text, source_rows, turn_text, turn_rows, part_at, text, text_at, word_text, word_rows, operands, operands_at, word_at, line, op_at, line_at}
-use Rattle.vcm_words.proofs.Cuts.{joined-split, split-joined, split_without, split_keeps}
-use Rattle.vcm_words.proofs.Inverse.{Means, Reads, Ends, Bare, ends, bind_some, some_is, only_met, all_append, reads_one, reads_both, via_takes, via_again, ends_via, ends_both, ends_tag}
-use Rattle.vcm_words.proofs.NumberLaws.{means_number, both_true, true_both}
-use Rattle.vcm_words.proofs.WordLaws.{marked_takes, means_marked, means_named}
-use Rattle.vcm_words.proofs.ItemLaws.{reads_expression}
+use Rattle.vcm_num.specs.Words.{look_up}
+use Rattle.vcm_words.specs.WordReaders.{◌>>=◌, one, both}
+use Rattle.vcm_words.specs.Operands.{single, number_text, number_at, lettered, lettered_at, variable, feature, frame, pair, target, variable_at, feature_at, frame_at, pair_at, target_at, axis_text, axis_rows, direction_text, direction_rows, setting_text, setting_rows, source_text, source_rows, turn_text, turn_rows, part_at, word_text, word_rows, word_at}
+use Rattle.vcm_words.proofs.Inverse.{Means, Reads, bind_some, only_met, reads_one}
+use Rattle.vcm_words.proofs.NumberLaws.{means_number}
+use Rattle.vcm_words.proofs.WordLaws.{means_marked, means_named}
 
 -- ---- single words
 
@@ -57,7 +49,7 @@ reads_quarter = reads_number 4 (omega arith)
 unfoldable pub Any : {A : Type 0} → A → Type 0
 Any x = Unit {0}
 
-axis_again : (x : Axis) → Any x → named axis_rows (axis_text x) ≡ Some x
+axis_again : (x : Axis) → Any x → look_up axis_rows (axis_text x) ≡ Some x
 axis_again PlusX h = refl
 axis_again MinusX h = refl
 axis_again PlusY h = refl
@@ -73,11 +65,11 @@ axis_words MinusY h = ((refl, (refl, tt)), (refl, (refl, tt)))
 axis_words PlusZ h = ((refl, (refl, tt)), (refl, (refl, tt)))
 axis_words MinusZ h = ((refl, (refl, tt)), (refl, (refl, tt)))
 
-pub reads_axis : Reads (one (named axis_rows)) (λ x. single (axis_text x)) Any
+pub reads_axis : Reads (one (look_up axis_rows)) (λ x. single (axis_text x)) Any
 unfolding Any
 reads_axis = reads_one (means_named axis_text Any axis_rows ((refl, tt), ((refl, tt), ((refl, tt), ((refl, tt), ((refl, tt), ((refl, tt), tt)))))) axis_again axis_words)
 
-direction_again : (x : Option Axis) → Any x → named direction_rows (direction_text x) ≡ Some x
+direction_again : (x : Option Axis) → Any x → look_up direction_rows (direction_text x) ≡ Some x
 direction_again None h = refl
 direction_again (Some PlusX) h = refl
 direction_again (Some MinusX) h = refl
@@ -95,11 +87,11 @@ direction_words (Some MinusY) h = ((refl, (refl, tt)), (refl, (refl, tt)))
 direction_words (Some PlusZ) h = ((refl, (refl, tt)), (refl, (refl, tt)))
 direction_words (Some MinusZ) h = ((refl, (refl, tt)), (refl, (refl, tt)))
 
-pub reads_direction : Reads (one (named direction_rows)) (λ x. single (direction_text x)) Any
+pub reads_direction : Reads (one (look_up direction_rows)) (λ x. single (direction_text x)) Any
 unfolding Any
 reads_direction = reads_one (means_named direction_text Any direction_rows ((refl, tt), ((refl, tt), ((refl, tt), ((refl, tt), ((refl, tt), ((refl, tt), ((refl, tt), tt))))))) direction_again direction_words)
 
-setting_again : (x : Setting) → Any x → named setting_rows (setting_text x) ≡ Some x
+setting_again : (x : Setting) → Any x → look_up setting_rows (setting_text x) ≡ Some x
 setting_again Approach h = refl
 setting_again Retract h = refl
 setting_again Search h = refl
@@ -111,11 +103,11 @@ setting_words Retract h = ((refl, (refl, (refl, (refl, (refl, (refl, tt)))))), (
 setting_words Search h = ((refl, (refl, (refl, (refl, (refl, (refl, tt)))))), (refl, (refl, (refl, (refl, (refl, (refl, tt)))))))
 setting_words Depth h = ((refl, (refl, (refl, (refl, (refl, tt))))), (refl, (refl, (refl, (refl, (refl, tt))))))
 
-pub reads_setting : Reads (one (named setting_rows)) (λ x. single (setting_text x)) Any
+pub reads_setting : Reads (one (look_up setting_rows)) (λ x. single (setting_text x)) Any
 unfolding Any
 reads_setting = reads_one (means_named setting_text Any setting_rows ((refl, tt), ((refl, tt), ((refl, tt), ((refl, tt), tt)))) setting_again setting_words)
 
-source_again : (x : Source) → Any x → named source_rows (source_text x) ≡ Some x
+source_again : (x : Source) → Any x → look_up source_rows (source_text x) ≡ Some x
 source_again Nominal h = refl
 source_again Actual h = refl
 
@@ -123,14 +115,14 @@ source_words : (x : Source) → Any x → IsWord (source_text x)
 source_words Nominal h = ((refl, (refl, (refl, (refl, (refl, (refl, (refl, tt))))))), (refl, (refl, (refl, (refl, (refl, (refl, (refl, tt))))))))
 source_words Actual h = ((refl, (refl, (refl, (refl, (refl, (refl, tt)))))), (refl, (refl, (refl, (refl, (refl, (refl, tt)))))))
 
-pub reads_source : Reads (one (named source_rows)) (λ x. single (source_text x)) Any
+pub reads_source : Reads (one (look_up source_rows)) (λ x. single (source_text x)) Any
 unfolding Any
 reads_source = reads_one (means_named source_text Any source_rows ((refl, tt), ((refl, tt), tt)) source_again source_words)
 
 Three : ℕ → Type 0
 Three n = n < 3
 
-turn_again : (x : ℕ) → Three x → named turn_rows (turn_text x) ≡ Some x
+turn_again : (x : ℕ) → Three x → look_up turn_rows (turn_text x) ≡ Some x
 unfolding Three
 turn_again zero h = refl
 turn_again (suc zero) h = refl
@@ -144,7 +136,7 @@ turn_words (suc zero) h = ((refl, tt), (refl, tt))
 turn_words (suc (suc zero)) h = ((refl, tt), (refl, tt))
 turn_words (suc (suc (suc n))) h = absurd (omega (arith, h))
 
-pub reads_turn : Reads (one (named turn_rows)) (λ x. single (turn_text x)) (λ n. n < 3)
+pub reads_turn : Reads (one (look_up turn_rows)) (λ x. single (turn_text x)) (λ n. n < 3)
 unfolding Three
 reads_turn = reads_one (means_named turn_text Three turn_rows ((refl, omega arith), ((refl, omega arith), ((refl, omega arith), tt))) turn_again turn_words)
 
@@ -176,7 +168,7 @@ reads_part = reads_one means_part
 
 -- ---- the words of statements
 
-word_again : (x : Word) → Any x → named word_rows (word_text x) ≡ Some x
+word_again : (x : Word) → Any x → look_up word_rows (word_text x) ≡ Some x
 word_again words.EndFil h = refl
 word_again words.Goto h = refl
 word_again words.GoHome h = refl

@@ -1,11 +1,12 @@
 -- Single words and their meanings.
-use Rattle.std.proofs.Common.{◌≡◌, ◌⊎◌, ℕ, ◌<◌, ◌==◌, eqb, Bool, true, false, cond, inl, inr, List, [], ◌∷◌, ◌++◌, Option, Some, None, refl, sym, ap, ◌∙◌, subst, arith}
+use Rattle.std.proofs.Common.{◌≡◌, ◌⊎◌, ℕ, ◌==◌, Bool, true, false, cond, inl, inr, List, [], ◌∷◌, ◌++◌, Option, Some, None, refl, ap, ◌∙◌, subst, arith}
 use Rattle.std.specs.Str.{bytes_eq}
 use Rattle.std.specs.List.{AllByRecursion}
 use Rattle.std.proofs.lemmas.Bool.{eqb-true}
 use Rattle.std.proofs.lemmas.Slice.Eq.{bytes_eq-Decides}
 use Rattle.vcm_words.specs.inner.Marks.{Without, IsWord}
-use Rattle.vcm_words.specs.WordReaders.{named, marked, mapped, or_else, in_front, ending}
+use Rattle.vcm_num.specs.Words.{look_up}
+use Rattle.vcm_words.specs.WordReaders.{marked, mapped, or_else, in_front, ending}
 use Rattle.vcm_words.proofs.Inverse.{Means, some_is}
 
 pub or_else_takes : {A : Type 0} (o p : Option A) (x : A) → or_else o p ≡ Some x → (o ≡ Some x) ⊎ (p ≡ Some x)
@@ -32,15 +33,15 @@ means_marked {A} {f} {s} {P} mark h g m = record {
 }
 
 -- the rows of a table
-pub named_takes : {A : Type 0} (s : A → List ℕ) (P : A → Type 0) (rows : List (List ℕ × A)) (w : List ℕ) (x : A) → AllByRecursion (λ row. (row.0 ≡ s row.1) × P row.1) rows → named rows w ≡ Some x → (w ≡ s x) × P x
+pub named_takes : {A : Type 0} (s : A → List ℕ) (P : A → Type 0) (rows : List (List ℕ × A)) (w : List ℕ) (x : A) → AllByRecursion (λ row. (row.0 ≡ s row.1) × P row.1) rows → look_up rows w ≡ Some x → (w ≡ s x) × P x
 named_takes s P [] w x h e = absurd cc
 named_takes {A} s P (row ∷ rows) w x h e = split (λ g. named_takes s P rows w x h.1 g) (bytes_eq w row.0) refl e
   where
-    split : (named rows w ≡ Some x → (w ≡ s x) × P x) → (t : Bool) → bytes_eq w row.0 ≡ t → cond t (Some row.1) (named rows w) ≡ Some x → (w ≡ s x) × P x
+    split : (look_up rows w ≡ Some x → (w ≡ s x) × P x) → (t : Bool) → bytes_eq w row.0 ≡ t → cond t (Some row.1) (look_up rows w) ≡ Some x → (w ≡ s x) × P x
     split more true t g = subst (λ (y : A). (w ≡ s y) × P y) (some_is _ _ g) ((bytes_eq-Decides _ _).0 t ∙ h.0.0, h.0.1)
     split more false t g = more g
 
-pub means_named : {A : Type 0} (s : A → List ℕ) (P : A → Type 0) (rows : List (List ℕ × A)) → AllByRecursion (λ row. (row.0 ≡ s row.1) × P row.1) rows → ((x : A) → P x → named rows (s x) ≡ Some x) → ((x : A) → P x → IsWord (s x)) → Means (named rows) s P
+pub means_named : {A : Type 0} (s : A → List ℕ) (P : A → Type 0) (rows : List (List ℕ × A)) → AllByRecursion (λ row. (row.0 ≡ s row.1) × P row.1) rows → ((x : A) → P x → look_up rows (s x) ≡ Some x) → ((x : A) → P x → IsWord (s x)) → Means (look_up rows) s P
 means_named s P rows h again words = record {
   takes = λ w x e. named_takes s P rows w x h e;
   again = again;

@@ -1,5 +1,5 @@
 -- Expressions in a listing: their items between brackets.
-use Rattle.std.specs.Prelude.{◌≡◌, ℕ, ◌==◌, ◌^◌, Bool, true, false, if◌then◌else◌, List, [], ◌∷◌, ◌++◌, length, Option, Some, None, ℤ, decimal, codes}
+use Rattle.std.specs.Prelude.{ℕ, ◌==◌, ◌^◌, Bool, true, false, List, [], ◌∷◌, ◌++◌, length, Option, Some, None, decimal, codes}
 use Rattle.std.specs.Fmt.{signed_decimal}
 use Rattle.vcm_spec.specs.declared.expression.Operand.{Operand}
 use Rattle.vcm_spec.specs.declared.expression.Operand.TheVariants.{Integer, Thousandths, Truth, Variable}
@@ -12,7 +12,8 @@ use Rattle.vcm_spec.specs.declared.expression.Item.{Item}
 use Rattle.vcm_spec.specs.declared.expression.Item.TheVariants.{Push, Apply, Combine}
 use Rattle.vcm_fields.specs.Fitting.{within}
 use Rattle.vcm_words.specs.Numbers.{number, signed, counted}
-use Rattle.vcm_words.specs.WordReaders.{◌>>=◌, Reader, one, marked, named, or_else, mapped, tested, ending}
+use Rattle.vcm_num.specs.Words.{look_up}
+use Rattle.vcm_words.specs.WordReaders.{◌>>=◌, Reader, marked, or_else, mapped, tested, ending}
 
 -- ---- writing
 
@@ -106,7 +107,7 @@ operand_in exact w =
 
 -- the item that a word is
 unfoldable pub item_in : Bool → List ℕ → Option Item
-item_in exact w = or_else (named operator_rows w) (mapped Push (operand_in exact w))
+item_in exact w = or_else (look_up operator_rows w) (mapped Push (operand_in exact w))
 
 -- the last item of an expression, or one with more behind it
 abbrev pub last_or_more : Bool → List ℕ → List (List ℕ) → Option (List ℕ) → Option (List Item × List (List ℕ))

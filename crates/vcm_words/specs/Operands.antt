@@ -1,5 +1,5 @@
 -- The operands of statements in a listing.
-use Rattle.std.specs.Prelude.{◌≡◌, ℕ, ◌==◌, ◌≤◌, ◌^◌, ◌&&◌, nat_le, Bool, true, false, if◌then◌else◌, List, [], ◌∷◌, ◌++◌, length, Option, Some, None, decimal, codes}
+use Rattle.std.specs.Prelude.{ℕ, ◌==◌, ◌^◌, ◌&&◌, nat_le, Bool, if◌then◌else◌, List, [], ◌∷◌, ◌++◌, length, Option, Some, None, decimal, codes}
 use Rattle.std.specs.List.{list_all}
 use Rattle.vcm_num.specs.declared.axis.Axis.{Axis}
 use Rattle.vcm_num.specs.declared.axis.Axis.TheVariants.{PlusX, MinusX, PlusY, MinusY, PlusZ, MinusZ}
@@ -16,7 +16,8 @@ use Rattle.vcm_spec.specs.TextBytes.{is_text_byte}
 use Rattle.vcm_spec.specs.declared.expression.Item.{Item}
 use Rattle.vcm_words.specs.Cutting.{split, joined}
 use Rattle.vcm_words.specs.Numbers.{number, counted, only_if}
-use Rattle.vcm_words.specs.WordReaders.{◌>>=◌, Reader, now, one, both, via, after, marked, named, ending}
+use Rattle.vcm_num.specs.Words.{look_up}
+use Rattle.vcm_words.specs.WordReaders.{◌>>=◌, Reader, now, one, both, via, after, marked, ending}
 use Rattle.vcm_words.specs.Items.{expression, expression_at}
 
 -- ---- single words
@@ -260,25 +261,25 @@ operands_at exact words.EndDo = via (λ o. EndDo o.0 o.1.0 o.1.1) (both (variabl
 operands_at exact words.Label = now Label
 operands_at exact words.JumpTo = via JumpTo (target_at exact)
 operands_at exact words.Feat =
-    via (λ o. Feat o.0 o.1.0.0 o.1.0.1.0 o.1.0.1.1 o.1.1) (both (feature_at exact) (both (three_at exact) (one (named axis_rows))))
+    via (λ o. Feat o.0 o.1.0.0 o.1.0.1.0 o.1.0.1.1 o.1.1) (both (feature_at exact) (both (three_at exact) (one (look_up axis_rows))))
 operands_at exact words.Meas = via Meas (feature_at exact)
 operands_at exact words.PtMeas =
-    via (λ o. PtMeas o.0 o.1.0.0 o.1.0.1.0 o.1.0.1.1 o.1.1) (both (feature_at exact) (both (three_at exact) (one (named direction_rows))))
+    via (λ o. PtMeas o.0 o.1.0.0 o.1.0.1.0 o.1.0.1.1 o.1.1) (both (feature_at exact) (both (three_at exact) (one (look_up direction_rows))))
 operands_at exact words.EndMes = now EndMes
-operands_at exact words.SnSet = via (λ o. SnSet o.0 o.1) (both (one (named setting_rows)) (expression_at exact))
+operands_at exact words.SnSet = via (λ o. SnSet o.0 o.1) (both (one (look_up setting_rows)) (expression_at exact))
 operands_at exact words.Trans = via (λ o. Trans o.0 o.1.0 o.1.1.0 o.1.1.1) (both (frame_at exact) (three_at exact))
 operands_at exact words.Rotate =
-    via (λ o. Rotate o.0 o.1.0 o.1.1) (both (frame_at exact) (both (one (named turn_rows)) (number_at exact 4)))
+    via (λ o. Rotate o.0 o.1.0 o.1.1) (both (frame_at exact) (both (one (look_up turn_rows)) (number_at exact 4)))
 operands_at exact words.Recall = via Recall (frame_at exact)
 operands_at exact words.Obtain =
     via (λ o. Obtain o.0 o.1.0 o.1.1.0 o.1.1.1) (both (variable_at exact)
-    (both (one (named source_rows)) (both (feature_at exact) (part_at exact))))
-operands_at exact words.Output = via (λ o. Output o.0 o.1) (both (one (named source_rows)) (feature_at exact))
+    (both (one (look_up source_rows)) (both (feature_at exact) (part_at exact))))
+operands_at exact words.Output = via (λ o. Output o.0 o.1) (both (one (look_up source_rows)) (feature_at exact))
 operands_at exact words.Text = via Text (text_at exact)
 
 -- reading the word of a statement
 abbrev pub word_at : Reader Word
-word_at = one (named word_rows)
+word_at = one (look_up word_rows)
 
 -- the words of a statement: its source line, its word, its operands
 abbrev pub line : Line → List (List ℕ)

@@ -14,7 +14,8 @@ use Rattle.vcm_words.specs.declared.row.Heading.{Heading}
 use Rattle.vcm_words.specs.declared.row.Heading.TheVariants as headings
 use Rattle.vcm_words.specs.Cutting.{split, joined}
 use Rattle.vcm_words.specs.Numbers.{number, counted, only_if}
-use Rattle.vcm_words.specs.WordReaders.{◌>>=◌, Reader, one, both, via, ended, named}
+use Rattle.vcm_num.specs.Words.{look_up}
+use Rattle.vcm_words.specs.WordReaders.{◌>>=◌, Reader, one, both, via, ended}
 use Rattle.vcm_words.specs.Operands.{single, number_text, number_at, line, line_at}
 
 -- a line, with its items and texts as lists
@@ -88,7 +89,7 @@ version_at exact = one (λ w. number exact 2 w >>= λ n. only_if (counted exact 
 unfoldable pub entry_at : Bool → Reader (ℕ × Entry)
 entry_at exact =
     via (λ o. (o.0, record { name = o.1.1.0; kind = o.1.0; expansion = o.1.1.1 }))
-    (both (number_at exact (2 ^ 16)) (both (one (named kind_rows)) (both variable_name_at (number_at exact (2 ^ 32)))))
+    (both (number_at exact (2 ^ 16)) (both (one (look_up kind_rows)) (both variable_name_at (number_at exact (2 ^ 32)))))
 
 -- reading the index and the name of a feature or a frame
 unfoldable pub indexed_at : Bool → Reader (ℕ × List ℕ)
@@ -109,7 +110,7 @@ row_after exact None w ws = ended (via (λ o. Numbered o.0 o.1) (numbered_at exa
 -- the line of these words
 abbrev pub row_at : Bool → List (List ℕ) → Option ListRow
 row_at exact [] = None
-row_at exact (w ∷ ws) = row_after exact (named heading_rows w) w ws
+row_at exact (w ∷ ws) = row_after exact (look_up heading_rows w) w ws
 
 -- a line, read exactly or only for its shape
 unfoldable pub row_of : Bool → List ℕ → Option ListRow

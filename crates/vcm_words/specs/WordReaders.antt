@@ -1,6 +1,5 @@
 -- Readers of words, one after another.
-use Rattle.std.specs.Prelude.{◌≡◌, ℕ, ◌==◌, Bool, true, false, if◌then◌else◌, List, [], ◌∷◌, Option, Some, None}
-use Rattle.std.specs.Str.{bytes_eq}
+use Rattle.std.specs.Prelude.{ℕ, ◌==◌, Bool, if◌then◌else◌, List, [], ◌∷◌, Option, Some, None}
 use Rattle.vcm_words.specs.Numbers.{only_if}
 
 -- what comes after a value that there is
@@ -45,11 +44,6 @@ ended (Some (x, [])) = Some x
 ended (Some (x, w ∷ ws)) = None
 
 -- ---- meanings of one word
-
--- what a word stands for in a table
-abbrev pub named : {A : Type 0} → List (List ℕ × A) → List ℕ → Option A
-named [] w = None
-named (row ∷ rows) w = if bytes_eq w row.0 then Some row.1 else named rows w
 
 -- a mark, and what follows it
 abbrev pub marked : {A : Type 0} → ℕ → (List ℕ → Option A) → List ℕ → Option A

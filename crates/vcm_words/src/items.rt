@@ -1,11 +1,12 @@
 //! Items of a line.
 
 ghost use Rattle.std.specs.Prelude.{◌≡◌, MatchOption, Some, None};
-ghost use Rattle.vcm_words.specs.WordReaders.{named, ending};
+ghost use Rattle.vcm_num.specs.Words.{look_up};
+ghost use Rattle.vcm_words.specs.WordReaders.{ending};
 ghost use Rattle.vcm_words.specs.Items.{operand_in, item_in, operator_rows};
 
 use crate::numbers::{short, signed, small};
-use vcm_num::is;
+use vcm_num::look_up;
 use vcm_spec::{BinaryOp, Item, Operand, Relation, UnaryOp};
 
 // A leaf goes by its first letter.
@@ -34,41 +35,31 @@ fn operand(exact: bool, word: &[u8]) -> Option<Operand>
 
 // An operator goes by its word.
 fn operator(word: &[u8]) -> Option<Item>
-    ensures { result ≡ named operator_rows word.now }
+    ensures { result ≡ look_up operator_rows word.now }
 {
-    if is(word, b"NEG") {
-        Some(Item::Apply(UnaryOp::Neg))
-    } else if is(word, b"SCALE") {
-        Some(Item::Apply(UnaryOp::Scale))
-    } else if is(word, b"NOT") {
-        Some(Item::Apply(UnaryOp::Not))
-    } else if is(word, b"ADD") {
-        Some(Item::Combine(BinaryOp::Add))
-    } else if is(word, b"SUB") {
-        Some(Item::Combine(BinaryOp::Sub))
-    } else if is(word, b"MUL") {
-        Some(Item::Combine(BinaryOp::Mul))
-    } else if is(word, b"DIV") {
-        Some(Item::Combine(BinaryOp::Div))
-    } else if is(word, b"AND") {
-        Some(Item::Combine(BinaryOp::And))
-    } else if is(word, b"OR") {
-        Some(Item::Combine(BinaryOp::Or))
-    } else if is(word, b"EQ") {
-        Some(Item::Combine(BinaryOp::Compare(Relation::Equal)))
-    } else if is(word, b"NE") {
-        Some(Item::Combine(BinaryOp::Compare(Relation::NotEqual)))
-    } else if is(word, b"LT") {
-        Some(Item::Combine(BinaryOp::Compare(Relation::Less)))
-    } else if is(word, b"LE") {
-        Some(Item::Combine(BinaryOp::Compare(Relation::LessEqual)))
-    } else if is(word, b"GT") {
-        Some(Item::Combine(BinaryOp::Compare(Relation::Greater)))
-    } else if is(word, b"GE") {
-        Some(Item::Combine(BinaryOp::Compare(Relation::GreaterEqual)))
-    } else {
-        None
-    }
+    look_up(
+        &[
+            (b"NEG", Item::Apply(UnaryOp::Neg)),
+            (b"SCALE", Item::Apply(UnaryOp::Scale)),
+            (b"NOT", Item::Apply(UnaryOp::Not)),
+            (b"ADD", Item::Combine(BinaryOp::Add)),
+            (b"SUB", Item::Combine(BinaryOp::Sub)),
+            (b"MUL", Item::Combine(BinaryOp::Mul)),
+            (b"DIV", Item::Combine(BinaryOp::Div)),
+            (b"AND", Item::Combine(BinaryOp::And)),
+            (b"OR", Item::Combine(BinaryOp::Or)),
+            (b"EQ", Item::Combine(BinaryOp::Compare(Relation::Equal))),
+            (b"NE", Item::Combine(BinaryOp::Compare(Relation::NotEqual))),
+            (b"LT", Item::Combine(BinaryOp::Compare(Relation::Less))),
+            (b"LE", Item::Combine(BinaryOp::Compare(Relation::LessEqual))),
+            (b"GT", Item::Combine(BinaryOp::Compare(Relation::Greater))),
+            (
+                b"GE",
+                Item::Combine(BinaryOp::Compare(Relation::GreaterEqual)),
+            ),
+        ],
+        word,
+    )
 }
 
 /// The item that a word is; read exactly, or with anything for a number.

@@ -17,4 +17,4 @@ pub use places::{
 };
 pub use row::{Heading, Row};
 pub use slices::{ItemWords, TextWords, expression};
-pub use words::{Words, cut};
+pub use words::{Words, cut, table_word};

@@ -2,14 +2,15 @@
 
 ghost use Rattle.std.specs.Prelude.{◌≡◌, ◌^◌, ◌<◌, ◌==◌, nat_le, Some};
 ghost use Rattle.vcm_words.specs.Numbers.{number, counted, only_if};
-ghost use Rattle.vcm_words.specs.WordReaders.{one, named, marked};
+ghost use Rattle.vcm_num.specs.Words.{look_up};
+ghost use Rattle.vcm_words.specs.WordReaders.{one, marked};
 ghost use Rattle.vcm_words.specs.Operands.{lettered_at, number_at, axis_rows, direction_rows, setting_rows, source_rows, turn_rows, part_at, quoted_in, text_at, word_at};
 
 use crate::items::before_end;
 use crate::numbers::{long, short, small};
 use crate::slices::TextWords;
-use crate::words::Words;
-use vcm_num::{Axis, is};
+use crate::words::{Words, table_word};
+use vcm_num::Axis;
 use vcm_spec::{Setting, Source, are_text_bytes};
 
 /// The most bytes of a text.
@@ -104,96 +105,69 @@ pub fn part<'a>(exact: bool, words: &Words<'a>) -> Option<(u8, Words<'a>)>
 
 /// A direction, and the words behind it.
 pub fn axis<'a>(words: &Words<'a>) -> Option<(Axis, Words<'a>)>
-    ensures { result ≡ one (named axis_rows) words.now }
+    ensures { result ≡ one (look_up axis_rows) words.now }
 {
-    let (word, rest) = words.split_first()?;
-    if is(word, b"+X") {
-        Some((Axis::PlusX, rest))
-    } else if is(word, b"-X") {
-        Some((Axis::MinusX, rest))
-    } else if is(word, b"+Y") {
-        Some((Axis::PlusY, rest))
-    } else if is(word, b"-Y") {
-        Some((Axis::MinusY, rest))
-    } else if is(word, b"+Z") {
-        Some((Axis::PlusZ, rest))
-    } else if is(word, b"-Z") {
-        Some((Axis::MinusZ, rest))
-    } else {
-        None
-    }
+    table_word(
+        &[
+            (b"+X", Axis::PlusX),
+            (b"-X", Axis::MinusX),
+            (b"+Y", Axis::PlusY),
+            (b"-Y", Axis::MinusY),
+            (b"+Z", Axis::PlusZ),
+            (b"-Z", Axis::MinusZ),
+        ],
+        words,
+    )
 }
 
 /// The direction of a measurement, none where it is the nominal feature's, and the words behind it.
 pub fn direction<'a>(words: &Words<'a>) -> Option<(Option<Axis>, Words<'a>)>
-    ensures { result ≡ one (named direction_rows) words.now }
+    ensures { result ≡ one (look_up direction_rows) words.now }
 {
-    let (word, rest) = words.split_first()?;
-    if is(word, b"NOM") {
-        Some((None, rest))
-    } else if is(word, b"+X") {
-        Some((Some(Axis::PlusX), rest))
-    } else if is(word, b"-X") {
-        Some((Some(Axis::MinusX), rest))
-    } else if is(word, b"+Y") {
-        Some((Some(Axis::PlusY), rest))
-    } else if is(word, b"-Y") {
-        Some((Some(Axis::MinusY), rest))
-    } else if is(word, b"+Z") {
-        Some((Some(Axis::PlusZ), rest))
-    } else if is(word, b"-Z") {
-        Some((Some(Axis::MinusZ), rest))
-    } else {
-        None
-    }
+    table_word(
+        &[
+            (b"NOM", None),
+            (b"+X", Some(Axis::PlusX)),
+            (b"-X", Some(Axis::MinusX)),
+            (b"+Y", Some(Axis::PlusY)),
+            (b"-Y", Some(Axis::MinusY)),
+            (b"+Z", Some(Axis::PlusZ)),
+            (b"-Z", Some(Axis::MinusZ)),
+        ],
+        words,
+    )
 }
 
 /// A setting of the probe, and the words behind it.
 pub fn setting<'a>(words: &Words<'a>) -> Option<(Setting, Words<'a>)>
-    ensures { result ≡ one (named setting_rows) words.now }
+    ensures { result ≡ one (look_up setting_rows) words.now }
 {
-    let (word, rest) = words.split_first()?;
-    if is(word, b"APPRCH") {
-        Some((Setting::Approach, rest))
-    } else if is(word, b"RETRCT") {
-        Some((Setting::Retract, rest))
-    } else if is(word, b"SEARCH") {
-        Some((Setting::Search, rest))
-    } else if is(word, b"DEPTH") {
-        Some((Setting::Depth, rest))
-    } else {
-        None
-    }
+    table_word(
+        &[
+            (b"APPRCH", Setting::Approach),
+            (b"RETRCT", Setting::Retract),
+            (b"SEARCH", Setting::Search),
+            (b"DEPTH", Setting::Depth),
+        ],
+        words,
+    )
 }
 
 /// Whether the nominal or the actual feature is meant, and the words behind it.
 pub fn source<'a>(words: &Words<'a>) -> Option<(Source, Words<'a>)>
-    ensures { result ≡ one (named source_rows) words.now }
+    ensures { result ≡ one (look_up source_rows) words.now }
 {
-    let (word, rest) = words.split_first()?;
-    if is(word, b"NOMINAL") {
-        Some((Source::Nominal, rest))
-    } else if is(word, b"ACTUAL") {
-        Some((Source::Actual, rest))
-    } else {
-        None
-    }
+    table_word(
+        &[(b"NOMINAL", Source::Nominal), (b"ACTUAL", Source::Actual)],
+        words,
+    )
 }
 
 /// The axis of a turn, 0 to 2 for x, y and z, and the words behind it.
 pub fn turn<'a>(words: &Words<'a>) -> Option<(u8, Words<'a>)>
-    ensures { result ≡ one (named turn_rows) words.now }
+    ensures { result ≡ one (look_up turn_rows) words.now }
 {
-    let (word, rest) = words.split_first()?;
-    if is(word, b"X") {
-        Some((0, rest))
-    } else if is(word, b"Y") {
-        Some((1, rest))
-    } else if is(word, b"Z") {
-        Some((2, rest))
-    } else {
-        None
-    }
+    table_word(&[(b"X", 0), (b"Y", 1), (b"Z", 2)], words)
 }
 
 // What stands between apostrophes.

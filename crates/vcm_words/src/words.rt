@@ -1,11 +1,14 @@
 //! Bytes cut at a mark.
 
-ghost use Rattle.std.specs.Prelude.{◌≡◌, ◌∷◌, [], MatchOption, option_map, ◌==◌, ◌<◌, length};
+ghost use Rattle.std.specs.Prelude.{◌≡◌, ◌∷◌, [], MatchOption, option_map, ◌==◌, ◌<◌, length, map};
 ghost use Rattle.std.specs.List.{position};
 ghost use Rattle.vcm_words.specs.Cutting.{split, parts_left, joined};
+ghost use Rattle.vcm_num.specs.Words.{look_up};
 ghost use Rattle.vcm_words.specs.Items.{unopened};
+ghost use Rattle.vcm_words.specs.WordReaders.{one};
 
 use std::marker::Model;
+use vcm_num::look_up;
 
 // Where the first mark stands.
 fn place_of(mark: u8, bytes: &[u8]) -> Option<usize>
@@ -96,4 +99,12 @@ impl<'a> Words<'a> {
     {
         Words { left: None }
     }
+}
+
+/// What the first word stands for in a table, and the words behind it.
+pub fn table_word<'a, T: Copy>(rows: &[(&[u8], T)], words: &Words<'a>) -> Option<(T, Words<'a>)>
+    ensures { result ≡ one (look_up (map (λ row. (row.0.now, row.1)) rows.now)) words.now }
+{
+    let (word, rest) = words.split_first()?;
+    Some((look_up(rows, word)?, rest))
 }

@@ -6,10 +6,10 @@ use Rattle.vcm_spec.specs.declared.expression.BinaryOp.{BinaryOp}
 use Rattle.vcm_expr.specs.declared.expression.Prefix.{Prefix}
 use Rattle.vcm_expr.specs.declared.symbol.Symbol.{Symbol}
 use Rattle.vcm_expr.specs.declared.symbol.Symbol.TheVariants.{Closing}
-use Rattle.vcm_expr.specs.declared.parser.Chain.{Chain}
-use Rattle.vcm_expr.specs.declared.parser.Chain.TheVariants.{Disjunction, Conjunction, Sum, Product}
-use Rattle.vcm_expr.specs.declared.parser.Front.{Front}
-use Rattle.vcm_expr.specs.declared.parser.Front.TheVariants.{Negation, Sign}
+use Rattle.vcm_expr.specs.declared.levels.Chain.{Chain}
+use Rattle.vcm_expr.specs.declared.levels.Chain.TheVariants.{Disjunction, Conjunction, Sum, Product}
+use Rattle.vcm_expr.specs.declared.levels.Front.{Front}
+use Rattle.vcm_expr.specs.declared.levels.Front.TheVariants.{Negation, Sign}
 use Rattle.vcm_expr.specs.Source.{is_small}
 use Rattle.vcm_expr.specs.inner.Parser.{Taken, Parser, and_then, closed, primary_by, sign_of, negation_of, product_op, sum_op, and_op, or_op, signed_by, product_by, sum_by, relation_by, negation_by, conjunction_by, disjunction_by, expression}
 

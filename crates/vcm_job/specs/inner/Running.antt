@@ -4,10 +4,6 @@ use Rattle.vcm_spec.specs.Workpiece.{Workpiece}
 use Rattle.vcm_tree.specs.Program.{Parsed}
 use Rattle.vcm_run.specs.Summaries.{Shown}
 use Rattle.vcm_run.specs.Printed.{result_text}
-use Rattle.vcm_job.specs.declared.running.JobFault.{JobFault}
-use Rattle.vcm_job.specs.declared.running.JobFault.TheVariants.{NoMemory, Read, TooLong}
-use Rattle.vcm_job.specs.declared.reading.ReadFault.{ReadFault}
-use Rattle.vcm_job.specs.declared.reading.ReadFault.TheVariants as read_faults
 use Rattle.vcm_job.specs.Jobs.{job_count, job_text, last_state, IsJob}
 
 -- the summary shows the last state of the job's program, after its effective steps
@@ -19,9 +15,3 @@ pub record IsJobRun (input : List ℕ) (s : Shown) : Type 0 where
   pub count : s.ran.done ≡ job_count part parsed
   pub text : result_text s.held s.ran.done ≡ job_text part parsed
   pub stop : s.held.state.stop ≡ (last_state part parsed).world.stop
-
--- the fault of a job whose input wasn't read whole
-abbrev pub not_read : ReadFault → JobFault
-not_read read_faults.NoMemory = NoMemory
-not_read read_faults.Device = Read
-not_read read_faults.TooLong = TooLong

@@ -6,9 +6,7 @@ use Rattle.vcm_code.specs.declared.code.Code.{Code}
 use Rattle.vcm_image.specs.Whole.{code_at}
 use Rattle.vcm_loader.specs.Loading.{LoadFault}
 use Rattle.vcm_job.specs.declared.debugging.DebugFault.{DebugFault}
-use Rattle.vcm_job.specs.declared.debugging.DebugFault.TheVariants.{Image, NoMemory, Read, TooLong, Serve}
-use Rattle.vcm_job.specs.declared.reading.ReadFault.{ReadFault}
-use Rattle.vcm_job.specs.declared.reading.ReadFault.TheVariants as read_faults
+use Rattle.vcm_job.specs.declared.debugging.DebugFault.TheVariants.{Image, NoMemory, Serve}
 use Rattle.vcm_job.specs.Debugged.{IsSession, IsServedOn}
 
 -- memory was refused before the first line, and nothing was written; or the session ended with a fault
@@ -24,9 +22,3 @@ IsNotServed part image known after (Image e) old new = LoadFault (code_at image)
 IsNotServed part image known after NoMemory old new = Keeps old new
 IsNotServed part image known after (Serve e) old new = IfSome known (λ lines. IsServedOn part image lines after old new (Err e))
 IsNotServed part image known after _ old new = ⊥
-
--- the fault of an input that wasn't read whole
-abbrev pub debug_not_read : ReadFault → DebugFault
-debug_not_read read_faults.NoMemory = NoMemory
-debug_not_read read_faults.Device = Read
-debug_not_read read_faults.TooLong = TooLong

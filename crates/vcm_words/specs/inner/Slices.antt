@@ -1,5 +1,5 @@
 -- What parts of a line mean.
-use Rattle.std.specs.Prelude.{◌≡◌, ℕ, ◌<◌, length, Bool, true, false, List, [], ◌∷◌, Option, Some, None}
+use Rattle.std.specs.Prelude.{◌≡◌, ℕ, ◌<◌, length, Bool, true, false, List, [], Option, Some, None}
 use Rattle.vcm_spec.specs.declared.expression.Item.{Item}
 use Rattle.vcm_words.specs.inner.Counting.{IsCount}
 use Rattle.vcm_words.specs.Items.{items_at}

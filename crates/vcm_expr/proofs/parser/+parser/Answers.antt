@@ -1,6 +1,6 @@
 use Rattle.std.proofs.Common.{◌∙◌, refl, inr, arith}
 use Rattle.std.proofs.lemmas.Result.{err_from_is_err_and}
-use Rattle.vcm_expr.specs.declared.parser.Chain.TheVariants.{Sum}
+use Rattle.vcm_expr.specs.declared.levels.Chain.TheVariants.{Sum}
 use Rattle.vcm_expr.specs.Source.{Pair, is_small}
 use Rattle.vcm_expr.specs.inner.Parser.{relation_op}
 use Rattle.vcm_expr.specs.inner.Levels.{chain_in, fronted_in}

@@ -1,5 +1,5 @@
 use Rattle.std.proofs.Common.{arith}
-use Rattle.vcm_tree.proofs.Tabling.{there, next_name, all_named}
+use Rattle.vcm_tree.proofs.Tabling.{there, one_more, all_taken}
 use Rattle.vcm_tree.proofs.tables.names_of.Goals as goal
 
 pub loop-name-preserved : goal.loop-name-preserved
@@ -7,11 +7,11 @@ loop-name-preserved c =
     let l = c.loop-name in
     let below = there l.index c.args.titles.now _ c.in-Some.ensures.some in
     record {
-      done = rw (c.in_ok-push.ensures.ok, c.copy.ensures) (next_name l.names _ l.index c.args.titles.now l.invariant.done c.in-Some.ensures.some);
+      done = rw (c.in_ok-push.ensures.ok, c.copy.ensures) (one_more l.names _ l.index c.args.titles.now l.invariant.done c.in-Some.ensures.some);
       within = omega (arith, below);
     }
 
 pub returns-clause-same : goal.returns-clause-same
 returns-clause-same c =
     let l = c.loop-name in
-    all_named l.names l.index c.args.titles.now l.invariant.done c.in_default.ensures.none
+    all_taken l.names l.index c.args.titles.now l.invariant.done c.in_default.ensures.none

@@ -1,5 +1,5 @@
 use Rattle.std.proofs.Common.{arith}
-use Rattle.vcm_tree.proofs.Tabling.{there, one_more, all_tabled}
+use Rattle.vcm_tree.proofs.Tabling.{there, one_more, all_taken}
 use Rattle.vcm_tree.proofs.tables.variables_of.Goals as goal
 
 pub loop-variable-preserved : goal.loop-variable-preserved
@@ -11,7 +11,7 @@ loop-variable-preserved c =
       within = omega (arith, below);
     }
 
-pub returns-clause-entries : goal.returns-clause-entries
-returns-clause-entries c =
+pub returns-clause-same : goal.returns-clause-same
+returns-clause-same c =
     let l = c.loop-variable in
-    all_tabled l.variables l.index c.args.names.now l.invariant.done c.in_default.ensures.none
+    all_taken l.variables l.index c.args.names.now l.invariant.done c.in_default.ensures.none

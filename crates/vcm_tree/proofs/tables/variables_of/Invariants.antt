@@ -1,11 +1,9 @@
 use Rattle.std.proofs.Common.{◌≡◌, ◌≤◌, ◌-◌, length, take}
-use Rattle.std.specs.Prelude.{map}
-use Rattle.vcm_tree.specs.inner.Tabled.{variable_of}
 use Rattle.vcm_tree.proofs.tables.variables_of.Given as goal
 
 abbrev pub invariant-loop-variable : goal.invariant-loop-variable
 invariant-loop-variable l = record {
-  done : map variable_of l.variables ≡ take l.index l.names;
+  done : l.variables ≡ take l.index l.names;
   within : l.index ≤ length l.names;
 }
 

@@ -1,6 +1,5 @@
 use Rattle.std.proofs.Common.{sym, ◌∙◌, ap, [], List, ℕ, Option, Some}
 use Rattle.vcm_words.specs.WordReaders.{◌>>=◌}
-use Rattle.vcm_words.specs.Operands.{text_at}
 use Rattle.vcm_words.proofs.TextLaws.{text_from, text_none}
 use Rattle.vcm_words.proofs.places.text.Goals as goal
 

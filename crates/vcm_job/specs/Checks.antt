@@ -8,8 +8,8 @@ use Rattle.vcm_tree.specs.declared.program.Noticed.{Noticed}
 use Rattle.vcm_tree.specs.Acceptance.{IsAccepted, IsRefused}
 use Rattle.vcm_tree.specs.Program.{Parsed}
 use Rattle.vcm_job.specs.Reading.{most_bytes, ReadsAtMost}
-use Rattle.vcm_command.specs.declared.checking.CheckFault.{CheckFault}
-use Rattle.vcm_command.specs.declared.checking.CheckFault.TheVariants.{Refused, NoMemory, Read, Write, TooLong}
+use Rattle.vcm_job.specs.declared.checking.CheckFault.{CheckFault}
+use Rattle.vcm_job.specs.declared.checking.CheckFault.TheVariants.{Refused, NoMemory, Read, Write, TooLong}
 
 -- the line that tells how many statements a program has
 abbrev pub count_line : ℕ → List ℕ

@@ -5,13 +5,13 @@ ghost use Rattle.vcm_num.specs.Written.{Wrote};
 ghost use Rattle.vcm_lines.specs.Fault.{NoMemoryOr};
 ghost use Rattle.vcm_tree.specs.Acceptance.{IsRefused};
 ghost use Rattle.vcm_job.specs.Reading.{ReadsLittle};
-ghost use Rattle.vcm_command.specs.Checks.{count_line, IsChecked, IsNotChecked};
-ghost use Rattle.vcm_command.specs.inner.Counting.{IsCounted, not_read};
+ghost use Rattle.vcm_job.specs.Checks.{count_line, IsChecked, IsNotChecked};
+ghost use Rattle.vcm_job.specs.inner.Counting.{IsCounted};
 
+use crate::reading::{ReadFault, read_all};
 use itoa::Buffer;
 use std::alloc::Global;
 use std::io::{Read, Write};
-use vcm_job::{ReadFault, read_all};
 use vcm_lines::SourceFault;
 use vcm_num::{WriteFault, write_pieces};
 use vcm_tree::{Noticed, accept};
@@ -31,14 +31,18 @@ pub enum CheckFault {
     TooLong,
 }
 
-// The fault of a check whose text wasn't read whole.
-fn not_read(fault: ReadFault) -> CheckFault
-    ensures { result ≡ not_read fault }
-{
-    match fault {
-        ReadFault::NoMemory => CheckFault::NoMemory,
-        ReadFault::Device => CheckFault::Read,
-        ReadFault::TooLong => CheckFault::TooLong,
+impl From<ReadFault> for CheckFault {
+    ghost use Rattle.std.specs.Prelude.{◌≡◌};
+    ghost use Rattle.vcm_job.specs.Unread.{check_not_read};
+
+    ghost from_gives = { λ read fault. fault ≡ check_not_read read };
+
+    fn from(fault: ReadFault) -> CheckFault {
+        match fault {
+            ReadFault::NoMemory => CheckFault::NoMemory,
+            ReadFault::Device => CheckFault::Read,
+            ReadFault::TooLong => CheckFault::TooLong,
+        }
     }
 }
 
@@ -74,10 +78,7 @@ pub fn check<R: Read, W: Write>(
     ensures fault { IfErr result (λ f. IsNotChecked (R.remaining reader.old) (R.remaining reader.new) f (W.contents writer.old) (W.contents writer.new)) }
     ensures little { ReadsLittle (R.remaining reader.old) (R.remaining reader.new) }
 {
-    let text = match read_all(alloc, reader) {
-        Ok(text) => text,
-        Err(fault) => return Err(not_read(fault)),
-    };
+    let text = read_all(alloc, reader)?;
     let (count, notices) = match counted(alloc, &text) {
         Ok(found) => found,
         Err(fault) => return Err(CheckFault::Refused(fault)),

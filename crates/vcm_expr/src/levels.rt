@@ -1,0 +1,103 @@
+//! The levels of expressions: which words stand between operands and before them.
+
+ghost use Rattle.std.specs.Prelude.{◌≡◌, ◌∷◌, IfSome, IfNone};
+ghost use Rattle.vcm_expr.specs.inner.Parser.{relation_op};
+ghost use Rattle.vcm_expr.specs.inner.Levels.{chain_op, front_of as finds_front, NextOf, NoNext, NotClosing};
+ghost use Rattle.vcm_expr.specs.declared.symbol.Symbol.{Symbol};
+
+use crate::expression::Prefix;
+use crate::symbol::{Symbol, Symbols};
+use vcm_spec::BinaryOp;
+
+/// A level whose operators stand between any number of operands.
+#[derive(Clone, Copy)]
+pub(crate) enum Chain {
+    /// `.OR.`
+    Disjunction,
+    /// `.AND.`
+    Conjunction,
+    /// `+` and `-`
+    Sum,
+    /// `*` and `/`
+    Product,
+}
+
+/// A level whose words stand before an operand.
+#[derive(Clone, Copy)]
+pub(crate) enum Front {
+    /// `.NOT.`
+    Negation,
+    /// `+` and `-`
+    Sign,
+}
+
+/// The words after a closing parenthesis.
+#[inline(always)]
+pub(crate) fn after_closing<'a>(words: &Symbols<'a>) -> Option<Symbols<'a>>
+    ensures some { IfSome result (λ r. words.now ≡ Symbol.Closing ∷ r) }
+    ensures none { IfNone result (NotClosing words.now) }
+{
+    let (first, rest) = words.split_mark()?;
+    match first {
+        Symbol::Closing => Some(rest),
+        _ => None,
+    }
+}
+
+/// The operator of a level, and the words after it.
+#[inline(always)]
+pub(crate) fn next_operator<'a>(
+    words: &Symbols<'a>,
+    level: Chain,
+) -> Option<(BinaryOp, Symbols<'a>)>
+    ensures some { IfSome result (λ p. NextOf (chain_op level) words.now p.0 p.1) }
+    ensures none { IfNone result (NoNext (chain_op level) words.now) }
+{
+    let (first, rest) = words.split_mark()?;
+    let op = operator(&first, level)?;
+    Some((op, rest))
+}
+
+/// The operator that a word is at a level.
+#[inline(always)]
+fn operator(part: &Symbol, level: Chain) -> Option<BinaryOp>
+    ensures { result ≡ chain_op level part.now }
+{
+    match (level, part) {
+        (Chain::Disjunction, Symbol::OrWord) => Some(BinaryOp::Or),
+        (Chain::Conjunction, Symbol::AndWord) => Some(BinaryOp::And),
+        (Chain::Sum, Symbol::Cross) => Some(BinaryOp::Add),
+        (Chain::Sum, Symbol::Dash) => Some(BinaryOp::Sub),
+        (Chain::Product, Symbol::Star) => Some(BinaryOp::Mul),
+        (Chain::Product, Symbol::Slash) => Some(BinaryOp::Div),
+        _ => None,
+    }
+}
+
+/// The relation that stands first, and the words after it.
+#[inline(always)]
+pub(crate) fn next_relation<'a>(words: &Symbols<'a>) -> Option<(BinaryOp, Symbols<'a>)>
+    ensures some { IfSome result (λ p. NextOf relation_op words.now p.0 p.1) }
+    ensures none { IfNone result (NoNext relation_op words.now) }
+{
+    let (first, rest) = words.split_mark()?;
+    match first {
+        Symbol::RelationWord(relation) => Some((BinaryOp::Compare(relation), rest)),
+        _ => None,
+    }
+}
+
+/// The sign or negation that stands first, and the words after it.
+#[inline(always)]
+pub(crate) fn next_front<'a>(words: &Symbols<'a>, front: Front) -> Option<(Prefix, Symbols<'a>)>
+    ensures some { IfSome result (λ p. NextOf (finds_front front) words.now p.0 p.1) }
+    ensures none { IfNone result (NoNext (finds_front front) words.now) }
+{
+    let (first, rest) = words.split_mark()?;
+    match (front, first) {
+        (Front::Negation, Symbol::NotWord) => Some((Prefix::Not, rest)),
+        (Front::Sign, Symbol::Dash) => Some((Prefix::Minus, rest)),
+        (Front::Sign, Symbol::Cross) => Some((Prefix::Plus, rest)),
+        _ => None,
+    }
+}
