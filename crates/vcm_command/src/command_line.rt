@@ -56,106 +56,111 @@ pub fn steps_of(text: &str) -> Option<u64> {
     }
 }
 
-// A word behind a command that has to be there.
-fn required<'a>(alloc: Global, name: &'a str, help: &'a str) -> Arg<'a> {
+// A word behind a command: its name, and what it is.
+type Word = (&'static str, &'static str);
+
+const PROGRAM: Word = ("PROGRAM", "The measuring program, a DMIS text");
+
+const INPUT: Word = ("INPUT", "The measuring program, a DMIS text, or its image");
+
+const PART: Word = ("PART", "The workpiece, a TOML text");
+
+const LISTING: Word = ("LISTING", "The listing of a code");
+
+const IMAGE: Word = ("IMAGE", "The file that the image is written to");
+
+// A command: its name, what it does, the words behind it, which all have to be there, and whether it takes `--steps`.
+#[derive(Clone, Copy)]
+struct Form {
+    name: &'static str,
+    about: &'static str,
+    words: &'static [Word],
+    has_steps: bool,
+}
+
+const FORMS: [Form; 6] = [
+    Form {
+        name: "check",
+        about: "Tells whether a program is accepted, and how many statements it has",
+        words: &[PROGRAM],
+        has_steps: false,
+    },
+    Form {
+        name: "build",
+        about: "Writes the image of a program",
+        words: &[PROGRAM, IMAGE],
+        has_steps: false,
+    },
+    Form {
+        name: "run",
+        about: "Runs a program or an image beside a workpiece, and prints the result",
+        words: &[INPUT, PART],
+        has_steps: true,
+    },
+    Form {
+        name: "debug",
+        about: "Answers the commands of standard input, a line each, on a program or an image",
+        words: &[INPUT, PART],
+        has_steps: false,
+    },
+    Form {
+        name: "list",
+        about: "Prints the listing of a program or an image",
+        words: &[INPUT],
+        has_steps: false,
+    },
+    Form {
+        name: "asm",
+        about: "Writes the image of a listing",
+        words: &[LISTING, IMAGE],
+        has_steps: false,
+    },
+];
+
+// A word that has to be there.
+fn required<'a>(alloc: Global, word: Word) -> Arg<'a> {
+    let (name, help) = word;
     Arg::new(alloc, name)
         .required(true)
         .action(ArgAction::Set)
         .help(help)
 }
 
-// `check PROGRAM`.
-fn check_command<'a>(alloc: Global) -> Result<Command<'a>, Error> {
-    let program = required(alloc, "PROGRAM", "The measuring program, a DMIS text");
-    let check = Command::new(alloc, "check")
-        .about("Tells whether a program is accepted, and how many statements it has")
-        .arg(program)?;
-    Ok(check)
-}
-
-// `build PROGRAM IMAGE`.
-fn build_command<'a>(alloc: Global) -> Result<Command<'a>, Error> {
-    let program = required(alloc, "PROGRAM", "The measuring program, a DMIS text");
-    let image = required(alloc, "IMAGE", "The file that the image is written to");
-    let build = Command::new(alloc, "build")
-        .about("Writes the image of a program")
-        .arg(program)?
-        .arg(image)?;
-    Ok(build)
-}
-
-// `run INPUT PART [--steps N]`.
-fn run_command<'a>(alloc: Global) -> Result<Command<'a>, Error> {
-    let input = required(
-        alloc,
-        "INPUT",
-        "The measuring program, a DMIS text, or its image",
-    );
-    let part = required(alloc, "PART", "The workpiece, a TOML text");
-    let steps = Arg::new(alloc, "steps")
+// `--steps N`.
+fn steps_option<'a>(alloc: Global) -> Arg<'a> {
+    Arg::new(alloc, "steps")
         .long("steps")
         .action(ArgAction::Set)
-        .help("The most steps, 0 to 1000000000; 1000000 if not given");
-    let run = Command::new(alloc, "run")
-        .about("Runs a program or an image beside a workpiece, and prints the result")
-        .arg(input)?
-        .arg(part)?
-        .arg(steps)?;
-    Ok(run)
+        .help("The most steps, 0 to 1000000000; 1000000 if not given")
 }
 
-// `debug INPUT PART`.
-fn debug_command<'a>(alloc: Global) -> Result<Command<'a>, Error> {
-    let input = required(
-        alloc,
-        "INPUT",
-        "The measuring program, a DMIS text, or its image",
-    );
-    let part = required(alloc, "PART", "The workpiece, a TOML text");
-    let debug = Command::new(alloc, "debug")
-        .about("Answers the commands of standard input, a line each, on a program or an image")
-        .arg(input)?
-        .arg(part)?;
-    Ok(debug)
+// The command with the words behind it.
+fn with_words<'a>(alloc: Global, form: Form) -> Result<Command<'a>, Error> {
+    let mut command = Command::new(alloc, form.name).about(form.about);
+    for word in form.words {
+        command = command.arg(required(alloc, *word))?;
+    }
+    Ok(command)
 }
 
-// `list INPUT`.
-fn list_command<'a>(alloc: Global) -> Result<Command<'a>, Error> {
-    let input = required(
-        alloc,
-        "INPUT",
-        "The measuring program, a DMIS text, or its image",
-    );
-    let list = Command::new(alloc, "list")
-        .about("Prints the listing of a program or an image")
-        .arg(input)?;
-    Ok(list)
+// The command, with `--steps` where it takes it.
+fn subcommand_of<'a>(alloc: Global, form: Form) -> Result<Command<'a>, Error> {
+    let command = with_words(alloc, form)?;
+    if form.has_steps {
+        Ok(command.arg(steps_option(alloc))?)
+    } else {
+        Ok(command)
+    }
 }
 
-// `asm LISTING IMAGE`.
-fn asm_command<'a>(alloc: Global) -> Result<Command<'a>, Error> {
-    let listing = required(alloc, "LISTING", "The listing of a code");
-    let image = required(alloc, "IMAGE", "The file that the image is written to");
-    let asm = Command::new(alloc, "asm")
-        .about("Writes the image of a listing")
-        .arg(listing)?
-        .arg(image)?;
-    Ok(asm)
-}
-
-// The commands, and the words behind each.
+// The program with its commands.
 fn command_of<'a>(alloc: Global) -> Result<Command<'a>, Error> {
-    let vcm = Command::new(alloc, "vcm")
-        .version("0.1.0")
-        .about(
-            "A virtual coordinate measuring machine. Without words it reads a job from standard input",
-        )
-        .subcommand(check_command(alloc)?)?
-        .subcommand(build_command(alloc)?)?
-        .subcommand(run_command(alloc)?)?
-        .subcommand(debug_command(alloc)?)?
-        .subcommand(list_command(alloc)?)?
-        .subcommand(asm_command(alloc)?)?;
+    let mut vcm = Command::new(alloc, "vcm").version("0.1.0").about(
+        "A virtual coordinate measuring machine. Without words it reads a job from standard input",
+    );
+    for form in FORMS {
+        vcm = vcm.subcommand(subcommand_of(alloc, form)?)?;
+    }
     Ok(vcm)
 }
 
@@ -164,39 +169,43 @@ fn word<'a>(matches: &ArgMatches<'a>, name: &str) -> &'a str {
     matches.get_str(name).unwrap_or("")
 }
 
+// The request of a command with what stands behind it.
+fn request_behind<'a>(name: &str, behind: &ArgMatches<'a>) -> Request<'a> {
+    match name {
+        "check" => Request::Check {
+            program: word(behind, "PROGRAM"),
+        },
+        "build" => Request::Build {
+            program: word(behind, "PROGRAM"),
+            image: word(behind, "IMAGE"),
+        },
+        "run" => Request::Run {
+            input: word(behind, "INPUT"),
+            part: word(behind, "PART"),
+            steps: behind.get_str("steps").unwrap_or(STEPS),
+        },
+        "debug" => Request::Debug {
+            input: word(behind, "INPUT"),
+            part: word(behind, "PART"),
+        },
+        "list" => Request::List {
+            input: word(behind, "INPUT"),
+        },
+        "asm" => Request::Asm {
+            listing: word(behind, "LISTING"),
+            image: word(behind, "IMAGE"),
+        },
+        _ => Request::Job,
+    }
+}
+
 /// The request of a command line, whose first word is the program's name.
 ///
 /// Errors: a wrong command line, a request for help or the version, or want of memory.
 pub fn request_of<'a>(alloc: Global, words: &'a [String]) -> Result<Request<'a>, Error> {
     let matches = command_of(alloc)?.try_get_matches_from(words)?;
-    if let Some(check) = matches.subcommand_matches("check") {
-        let program = word(check, "PROGRAM");
-        return Ok(Request::Check { program });
+    match matches.subcommand() {
+        Some((name, behind)) => Ok(request_behind(name, behind)),
+        None => Ok(Request::Job),
     }
-    if let Some(build) = matches.subcommand_matches("build") {
-        let program = word(build, "PROGRAM");
-        let image = word(build, "IMAGE");
-        return Ok(Request::Build { program, image });
-    }
-    if let Some(run) = matches.subcommand_matches("run") {
-        let input = word(run, "INPUT");
-        let part = word(run, "PART");
-        let steps = run.get_str("steps").unwrap_or(STEPS);
-        return Ok(Request::Run { input, part, steps });
-    }
-    if let Some(debug) = matches.subcommand_matches("debug") {
-        let input = word(debug, "INPUT");
-        let part = word(debug, "PART");
-        return Ok(Request::Debug { input, part });
-    }
-    if let Some(list) = matches.subcommand_matches("list") {
-        let input = word(list, "INPUT");
-        return Ok(Request::List { input });
-    }
-    if let Some(asm) = matches.subcommand_matches("asm") {
-        let listing = word(asm, "LISTING");
-        let image = word(asm, "IMAGE");
-        return Ok(Request::Asm { listing, image });
-    }
-    Ok(Request::Job)
 }

@@ -19,7 +19,8 @@ use Rattle.vcm_code.specs.declared.code.Code.{Code}
 use Rattle.vcm_fields.specs.Parts.{Line}
 use Rattle.vcm_words.specs.declared.row.Row.TheVariants.{Numbered}
 use Rattle.vcm_print.specs.Listed.{listed}
-use Rattle.vcm_report.specs.Printed.{in_a_row, stopped_line, output_lines, feature_text}
+use Rattle.vcm_output.specs.Output.{output_lines}
+use Rattle.vcm_report.specs.Printed.{in_a_row, stopped_line, feature_text}
 
 -- the number of an expansion behind a number sign; nothing outside macros
 abbrev pub number_sign : ℕ → List ℕ

@@ -2,7 +2,8 @@
 
 ghost use Rattle.std.specs.Prelude.{◌≡◌, ◌++◌, ◌<◌, ◌≤◌, ◌-◌, codes, slice_get, length, drop};
 ghost use Rattle.vcm_num.specs.Written.{Wrote};
-ghost use Rattle.vcm_report.specs.Printed.{output_lines, feature_text};
+ghost use Rattle.vcm_output.specs.Output.{output_lines};
+ghost use Rattle.vcm_report.specs.Printed.{feature_text};
 ghost use Rattle.vcm_console.specs.Replies.{number_sign, kind_value, standing_end, standing_text, refusal_text, reason_text, variable_name, value_text, lines_head, statement_line, reply_text, halt_text, Fits};
 ghost use Rattle.vcm_spec.specs.declared.words.Source.TheVariants.{Nominal, Actual};
 
@@ -11,9 +12,10 @@ use itoa::Buffer;
 use std::io::Write;
 use vcm_expr::Kind;
 use vcm_loader::Loaded;
-use vcm_num::{Items, WriteFault, int_text, thousandths_text, write_all, write_pieces};
+use vcm_num::{WriteFault, int_text, thousandths_text, write_all, write_pieces};
+use vcm_output::Lines;
 use vcm_print::write_statement;
-use vcm_report::{write_feature, write_lines, write_stop_line};
+use vcm_report::{write_feature, write_last_lines, write_stop_line};
 use vcm_spec::{Feature, Source, StopPlace};
 use vcm_tables::{Tables, Variable};
 
@@ -195,7 +197,7 @@ fn write_features<W: Write>(
 
 // Writes how many output lines there are, and the last of them.
 fn write_last<W: Write>(
-    lines: &[Items<u8>],
+    lines: &Lines,
     count: usize,
     shown: usize,
     writer: &mut W,
@@ -204,15 +206,7 @@ fn write_last<W: Write>(
     ensures { Wrote (W.contents writer.old) (W.contents writer.new) (lines_head count ++ output_lines (drop (length lines.now - shown) lines.now)) result }
 {
     write_lines_head(count, writer)?;
-    write_lines(last(lines, shown), writer)
-}
-
-// The last of these lines.
-fn last(lines: &[Items<u8>], shown: usize) -> &[Items<u8>]
-    requires { shown ≤ length lines.now }
-    ensures { result.now ≡ drop (length lines.now - shown) lines.now }
-{
-    lines.split_at(lines.len() - shown).1
+    write_last_lines(lines, shown, writer)
 }
 
 // Writes how many output lines there are.
@@ -256,7 +250,7 @@ pub fn write_halt<W: Write>(
 pub fn write_reply<W: Write>(
     loaded: &Loaded<'_>,
     tables: &Tables,
-    lines: &[Items<u8>],
+    lines: &Lines,
     reply: Reply,
     writer: &mut W,
 ) -> Result<(), WriteFault>

@@ -1,4 +1,4 @@
--- Where the parser refuses, there is a cause among the parts.
+-- Where the parser refuses, there is a cause among the symbols.
 use Rattle.std.proofs.Common.{Bool, true, false, ◌≡◌, ℕ, zero, suc, ◌+◌, ◌-◌, ◌<◌, ◌≤◌, ◌⊎◌, inl, inr, ⊎_elim, List, [], ◌∷◌, ◌++◌, length, Option, Some, None, Result, Ok, Err, refl, sym, ap, ◌∙◌, subst, arith, append_assoc}
 use Rattle.vcm_lines.specs.declared.fault.FaultCode.{FaultCode}
 use Rattle.vcm_lines.specs.declared.fault.FaultCode.TheVariants.{BadSyntax, TooDeep}
@@ -43,18 +43,18 @@ balanced (Joined op a b) n r =
     ∙ word_plain op n (spelled b ++ r)
     ∙ balanced b n r
 
--- some parts in front leave more than so many parentheses open
+-- some symbols in front leave more than so many parentheses open
 pub record DeepIn (total n : ℕ) (ts : List Symbol) : Type 0 where
   pub front : List Symbol
   pub back : List Symbol
   pub cut : ts ≡ front ++ back
   pub deep : total < open_after n front
 
--- why the parts may be refused with this code, where n parentheses are open before them
+-- why the symbols may be refused with this code, where n parentheses are open before them
 abbrev pub Cause : ℕ → ℕ → FaultCode → List Symbol → Type 0
 Cause total n c ts = (c ≡ BadSyntax) ⊎ (((c ≡ TooDeep) × (DeepIn total n ts ⊎ HasBigPart ts)) ⊎ HasFlaw c ts)
 
--- the same behind parts that leave m of n parentheses open
+-- the same behind symbols that leave m of n parentheses open
 behind : (total n m : ℕ) (c : FaultCode) (x ts : List Symbol) → ((r : List Symbol) → open_after n (x ++ r) ≡ open_after m r) → Cause total m c ts → Cause total n c (x ++ ts)
 behind total n m c x ts same (inl e) = inl e
 behind total n m c x ts same (inr (inl (e, inl d))) =
@@ -98,7 +98,7 @@ after_word total n c s op r h =
 
 -- a pair, flat
 flat_pair : (s b : Written) (op : BinaryOp) (k : Symbol) (r q : List Symbol) → k ≡ word_of op → r ≡ spelled b ++ q → spelled (Joined op s b) ++ q ≡ spelled s ++ k ∷ r
-flat_pair s b op k r q word parts = append_assoc (spelled s) (word_of op ∷ spelled b) q ∙ ap (λ w. spelled s ++ w ∷ (spelled b ++ q)) (sym word) ∙ ap (λ r. spelled s ++ k ∷ r) (sym parts)
+flat_pair s b op k r q word symbols = append_assoc (spelled s) (word_of op ∷ spelled b) q ∙ ap (λ w. spelled s ++ w ∷ (spelled b ++ q)) (sym word) ∙ ap (λ r. spelled s ++ k ∷ r) (sym symbols)
 
 module _ (l total room : ℕ) (P : Parser) (op_of : Symbol → Option BinaryOp) (ops : Ops l op_of) (operands : Caused total room P) (sound : Sound (l + 1) room P) (some : 1 ≤ l) where
   more_caused : (n : ℕ) → room + n ≡ total → (m : ℕ) (s : Written) (ts : List Symbol) (c : FaultCode) → Fits l s → more is_small P op_of m (meant s) ts ≡ Err c → Cause total n c (spelled s ++ ts)
@@ -115,7 +115,7 @@ module _ (l total room : ℕ) (P : Parser) (op_of : Symbol → Option BinaryOp) 
           (λ q.
           let b = sound r q.0 q.1 in
           let fits : Fits l (Joined op s b.written) = (omega (arith, word.1), subst (λ j. Fits j s) (sym (ops.left op word.1)) f, subst (λ j. Fits (j + 1) b.written) (sym word.1) b.fits) in
-          let flat = flat_pair s b.written op k r q.0.rest word.0 b.parts in
+          let flat = flat_pair s b.written op k r q.0.rest word.0 b.symbols in
           let tree = ap (λ u. Pair op (meant s) u) b.tree in
           ⊎_elim
           (λ g. let big = made-Err (Pair op (meant s) q.0.tree) q.0.rest c g in big_first total n l c (Joined op s b.written) q.0.rest (spelled s ++ k ∷ r) some fits (big.0, ap is_small tree ∙ big.1) flat)
@@ -133,7 +133,7 @@ module _ (l total room : ℕ) (P : Parser) (op_of : Symbol → Option BinaryOp) 
       (λ q.
       let a = sound ts q.0 q.1 in
       let step : more is_small P op_of (length q.0.rest) (meant a.written) q.0.rest ≡ Err c = ap (λ t. more is_small P op_of (length q.0.rest) t q.0.rest) a.tree ∙ q.2 in
-      subst (Cause total n c) (sym a.parts) (more_caused n h (length q.0.rest) a.written q.0.rest c (Fits-weaker l (l + 1) a.written (omega arith) a.fits) step))
+      subst (Cause total n c) (sym a.symbols) (more_caused n h (length q.0.rest) a.written q.0.rest c (Fits-weaker l (l + 1) a.written (omega arith) a.fits) step))
       (and_then-Err (P ts) (λ t r. more is_small P op_of (length r) t r) c e)
 
 module _ (l total room : ℕ) (P : Parser) (find : Symbol → Option Prefix) (fs : Fronts l find) (operands : Caused total room P) (sound : Sound l room (fronted_by is_small P find)) (some : 1 ≤ l) where
@@ -151,7 +151,7 @@ module _ (l total room : ℕ) (P : Parser) (find : Symbol → Option Prefix) (fs
           let a = sound r q.0 q.1 in
           let big = made-Err (Prefixed op q.0.tree) q.0.rest c q.2 in
           big_first total n l c (Signed op a.written) q.0.rest (k ∷ r) some (omega (arith, word.1), subst (λ m. Fits m a.written) (sym word.1) a.fits) (big.0, ap (λ t. is_small (Prefixed op t)) a.tree ∙ big.1)
-          (ap (λ w. w ∷ (spelled a.written ++ q.0.rest)) (sym word.0) ∙ ap (λ ts. k ∷ ts) (sym a.parts)))
+          (ap (λ w. w ∷ (spelled a.written ++ q.0.rest)) (sym word.0) ∙ ap (λ ts. k ∷ ts) (sym a.symbols)))
           (and_then-Err (fronted_by is_small P find r) (λ t s. made is_small (Prefixed op t) s) c e)
 
 module _ (total room : ℕ) (P : Parser) (operands : Caused total room P) (sound : Sound 5 room P) where
@@ -169,7 +169,7 @@ module _ (total room : ℕ) (P : Parser) (operands : Caused total room P) (sound
           let b = sound r q.0 q.1 in
           let big = made-Err (Pair op (meant s) q.0.tree) q.0.rest c q.2 in
           big_first total n 4 c (Joined op s b.written) q.0.rest (spelled s ++ k ∷ r) (omega arith) (omega (arith, word.1), subst (λ m. Fits m s) (sym word.2) f, subst (λ m. Fits (m + 1) b.written) (sym word.1) b.fits) (big.0, ap (λ u. is_small (Pair op (meant s) u)) b.tree ∙ big.1)
-          (flat_pair s b.written op k r q.0.rest word.0 b.parts))
+          (flat_pair s b.written op k r q.0.rest word.0 b.symbols))
           (and_then-Err (P r) (λ u q. made is_small (Pair op (meant s) u) q) c e)
 
   pub once_caused : Caused total room (once_by is_small P relation_op)
@@ -179,7 +179,7 @@ module _ (total room : ℕ) (P : Parser) (operands : Caused total room P) (sound
       (λ q.
       let a = sound ts q.0 q.1 in
       let step : once is_small P relation_op (meant a.written) q.0.rest ≡ Err c = ap (λ t. once is_small P relation_op t q.0.rest) a.tree ∙ q.2 in
-      subst (Cause total n c) (sym a.parts) (once_caused_after n h a.written q.0.rest c a.fits step))
+      subst (Cause total n c) (sym a.symbols) (once_caused_after n h a.written q.0.rest c a.fits step))
       (and_then-Err (P ts) (once is_small P relation_op) c e)
 
 not_closed : (t : Source) (r : List Symbol) (c : FaultCode) → closed t r ≡ Err c → c ≡ BadSyntax

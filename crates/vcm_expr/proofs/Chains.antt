@@ -105,6 +105,21 @@ front_is Sign room ts = refl
 pub chain_begins : (l : Chain) (room : ℕ) (ts : List Symbol) (t : Source) (r : List Symbol) → link_in l room ts ≡ phrase t r → (n : ℕ) × (length r ≤ n) × (chain_in l room ts ≡ more is_small (link_in l room) (chain_op l) n t r)
 chain_begins l room ts t r e = (length r, omega arith, chain_is l room ts ∙ ap (λ (o : Result Taken FaultCode). and_then o (λ t r. more is_small (link_in l room) (chain_op l) (length r) t r)) e)
 
+-- one more operand is read, and the pair is within the limits
+pub chain_on : (l : Chain) (room : ℕ) (words : List Symbol) (t v : Source) (ts : List Symbol) (op : BinaryOp) (after : List Symbol) (u : Source) (s : List Symbol)
+    → (n : ℕ) × (length ts ≤ n) × (chain_in l room words ≡ more is_small (link_in l room) (chain_op l) n t ts)
+    → NextOf (chain_op l) ts op after → link_in l room after ≡ phrase u s → is_small (Pair op t u) ≡ true → v ≡ Pair op t u → length s ≤ length after
+    → (m : ℕ) × (length s ≤ m) × (chain_in l room words ≡ more is_small (link_in l room) (chain_op l) m v s)
+chain_on l room words t v ts op after u s runs h e w is short =
+    let on = more_on is_small (link_in l room) (chain_op l) runs.0 t ts op after u s h runs.1 e w short in
+    (on.0, on.1, runs.2 ∙ on.2 ∙ ap (λ (x : Source). more is_small (link_in l room) (chain_op l) on.0 x s) (sym is))
+
+-- the operand behind an operator is refused
+pub chain_stops : (l : Chain) (room : ℕ) (words : List Symbol) (t : Source) (ts : List Symbol) (op : BinaryOp) (after : List Symbol) (c : FaultCode)
+    → (n : ℕ) × (length ts ≤ n) × (chain_in l room words ≡ more is_small (link_in l room) (chain_op l) n t ts)
+    → NextOf (chain_op l) ts op after → link_in l room after ≡ Err c → chain_in l room words ≡ Err c
+chain_stops l room words t ts op after c runs h f = runs.2 ∙ more_fails is_small (link_in l room) (chain_op l) runs.0 t ts op after c h runs.1 f
+
 -- ---- refusals
 
 pub told_same : (line : ℕ) (o p : Result Taken FaultCode) (f : SourceFault) → ((c : FaultCode) → o ≡ Err c → p ≡ Err c) → NoMemoryOr (Told line o) f → NoMemoryOr (Told line p) f

@@ -16,7 +16,7 @@ use Rattle.vcm_expr.proofs.Ladder.{product_ops, sum_ops, and_ops, or_ops, sign_f
 pub record Read (m room : ℕ) (ts : List Symbol) (p : Taken) : Type 0 where
   pub written : Written
   pub fits : Fits m written
-  pub parts : ts ≡ spelled written ++ p.rest
+  pub symbols : ts ≡ spelled written ++ p.rest
   pub read : IsRead written
   pub tree : meant written ≡ p.tree
   pub shallow : nesting written ≤ room
@@ -43,14 +43,14 @@ Fits-weaker l m (Signed op s) h f = (omega (arith, f.0), f.1)
 Fits-weaker l m (Joined op a b) h f = (omega (arith, f.0), f.1, f.2)
 
 weaker : (l m room : ℕ) (ts : List Symbol) (p : Taken) → l ≤ m → Read m room ts p → Read l room ts p
-weaker l m room ts p h q = record { written = q.written; fits = Fits-weaker l m q.written h q.fits; parts = q.parts; read = q.read; tree = q.tree; shallow = q.shallow; sized = q.sized }
+weaker l m room ts p h q = record { written = q.written; fits = Fits-weaker l m q.written h q.fits; symbols = q.symbols; read = q.read; tree = q.tree; shallow = q.shallow; sized = q.sized }
 
 -- the expression s is all that is read
 read_all : (l room : ℕ) (s : Written) (ts : List Symbol) (p : Taken) → Fits l s → IsRead s → nesting s ≤ room → is_small (meant s) ≡ true → phrase (meant s) ts ≡ Ok p → Read l room (spelled s ++ ts) p
 read_all l room s ts p f i h w e =
     let tree : meant s ≡ p.tree = cc in
     let rest : ts ≡ p.rest = cc in
-    record { written = s; fits = f; parts = ap (λ r. spelled s ++ r) rest; read = i; tree = tree; shallow = h; sized = subst (λ u. is_small u ≡ true) tree w }
+    record { written = s; fits = f; symbols = ap (λ r. spelled s ++ r) rest; read = i; tree = tree; shallow = h; sized = subst (λ u. is_small u ≡ true) tree w }
 
 module _ (l room : ℕ) (P : Parser) (op_of : Symbol → Option BinaryOp) (ops : Ops l op_of) (operands : Sound (l + 1) room P) where
   -- a chain with s in front of it
@@ -72,7 +72,7 @@ module _ (l room : ℕ) (P : Parser) (op_of : Symbol → Option BinaryOp) (ops :
           let step : more is_small P op_of n (meant (Joined op s b.written)) q.0.rest ≡ Ok p = ap (λ u. more is_small P op_of n (Pair op (meant s) u) q.0.rest) b.tree ∙ ap (λ v. more is_small P op_of n v.tree v.rest) node.1 ∙ q2.2 in
           let sized : is_small (meant (Joined op s b.written)) ≡ true = ap (λ u. is_small (Pair op (meant s) u)) b.tree ∙ node.0 in
           let read = again (Joined op s b.written) q.0.rest p fits (i, b.read) shallow sized step in
-          let flat : spelled (Joined op s b.written) ++ q.0.rest ≡ spelled s ++ k ∷ r = append_assoc (spelled s) (word_of op ∷ spelled b.written) q.0.rest ∙ ap (λ w. spelled s ++ w ∷ (spelled b.written ++ q.0.rest)) (sym word.0) ∙ ap (λ r. spelled s ++ k ∷ r) (sym b.parts) in
+          let flat : spelled (Joined op s b.written) ++ q.0.rest ≡ spelled s ++ k ∷ r = append_assoc (spelled s) (word_of op ∷ spelled b.written) q.0.rest ∙ ap (λ w. spelled s ++ w ∷ (spelled b.written ++ q.0.rest)) (sym word.0) ∙ ap (λ r. spelled s ++ k ∷ r) (sym b.symbols) in
           subst (λ ts. Read l room ts p) flat read
 
   pub chain_sound : Sound l room (chain_by is_small P op_of)
@@ -81,7 +81,7 @@ module _ (l room : ℕ) (P : Parser) (op_of : Symbol → Option BinaryOp) (ops :
       let a = operands ts q.0 q.1 in
       let step : more is_small P op_of (length q.0.rest) (meant a.written) q.0.rest ≡ Ok p = ap (λ t. more is_small P op_of (length q.0.rest) t q.0.rest) a.tree ∙ q.2 in
       let read = more_sound (length q.0.rest) a.written q.0.rest p (Fits-weaker l (l + 1) a.written (omega arith) a.fits) a.read a.shallow (ap is_small a.tree ∙ a.sized) step in
-      subst (λ ts. Read l room ts p) (sym a.parts) read
+      subst (λ ts. Read l room ts p) (sym a.symbols) read
 
 module _ (l room : ℕ) (P : Parser) (find : Symbol → Option Prefix) (fs : Fronts l find) (operands : Sound (l + 1) room P) where
   pub fronted_sound : Sound l room (fronted_by is_small P find)
@@ -100,7 +100,7 @@ module _ (l room : ℕ) (P : Parser) (find : Symbol → Option Prefix) (fs : Fro
           record {
             written = Signed op a.written;
             fits = (omega (arith, word.1), subst (λ m. Fits m a.written) (sym word.1) a.fits);
-            parts = ap (λ w. w ∷ r) word.0 ∙ ap (λ ts. sign_word op ∷ ts) (a.parts ∙ ap (λ ts. spelled a.written ++ ts) rest);
+            symbols = ap (λ w. w ∷ r) word.0 ∙ ap (λ ts. sign_word op ∷ ts) (a.symbols ∙ ap (λ ts. spelled a.written ++ ts) rest);
             read = a.read;
             tree = ap (Prefixed op) a.tree ∙ tree;
             shallow = a.shallow;
@@ -121,11 +121,11 @@ module _ (room : ℕ) (P : Parser) (operands : Sound 5 room P) where
           let node = made-Ok (Pair op (meant s) q.0.tree) q.0.rest p q.2 in
           let rest : q.0.rest ≡ p.rest = ap (λ v. v.rest) node.1 in
           let tree : Pair op (meant s) q.0.tree ≡ p.tree = ap (λ v. v.tree) node.1 in
-          let flat : spelled s ++ k ∷ r ≡ spelled (Joined op s b.written) ++ p.rest = ap (λ w. spelled s ++ w ∷ r) word.0 ∙ ap (λ ts. spelled s ++ word_of op ∷ ts) (b.parts ∙ ap (λ ts. spelled b.written ++ ts) rest) ∙ sym (append_assoc (spelled s) (word_of op ∷ spelled b.written) p.rest) in
+          let flat : spelled s ++ k ∷ r ≡ spelled (Joined op s b.written) ++ p.rest = ap (λ w. spelled s ++ w ∷ r) word.0 ∙ ap (λ ts. spelled s ++ word_of op ∷ ts) (b.symbols ∙ ap (λ ts. spelled b.written ++ ts) rest) ∙ sym (append_assoc (spelled s) (word_of op ∷ spelled b.written) p.rest) in
           record {
             written = Joined op s b.written;
             fits = (omega (arith, word.1), subst (λ m. Fits m s) (sym word.2) f, subst (λ m. Fits (m + 1) b.written) (sym word.1) b.fits);
-            parts = flat;
+            symbols = flat;
             read = (i, b.read);
             tree = ap (Pair op (meant s)) b.tree ∙ tree;
             shallow = omega (arith, b.shallow);
@@ -138,7 +138,7 @@ module _ (room : ℕ) (P : Parser) (operands : Sound 5 room P) where
       let a = operands ts q.0 q.1 in
       let step : once is_small P relation_op (meant a.written) q.0.rest ≡ Ok p = ap (λ t. once is_small P relation_op t q.0.rest) a.tree ∙ q.2 in
       let read = once_after a.written q.0.rest p a.fits a.read a.shallow (ap is_small a.tree ∙ a.sized) step in
-      subst (λ ts. Read 4 room ts p) (sym a.parts) read
+      subst (λ ts. Read 4 room ts p) (sym a.symbols) read
 
 closed-Ok : (t : Source) (r : List Symbol) (p : Taken) → closed t r ≡ Ok p → (r ≡ Closing ∷ p.rest) × (t ≡ p.tree)
 closed-Ok t [] p e = cc
@@ -157,14 +157,14 @@ primary_sound room inner [] p e = cc
 primary_sound room inner (Operand (Ok t) ∷ r) p e =
     let rest : r ≡ p.rest = cc in
     let tree : Plain t ≡ p.tree = cc in
-    record { written = Leaf (Ok t); fits = tt; parts = ap (λ l. Operand (Ok t) ∷ l) rest; read = tt; tree = tree; shallow = omega arith; sized = ap is_small (sym tree) }
+    record { written = Leaf (Ok t); fits = tt; symbols = ap (λ l. Operand (Ok t) ∷ l) rest; read = tt; tree = tree; shallow = omega arith; sized = ap is_small (sym tree) }
 primary_sound room inner (Operand (Err c) ∷ r) p e = cc
 primary_sound room inner (Opening ∷ r) p e =
     let q = and_then-Ok (expression is_small room r) closed p e in
     let a = inner r q.0 q.1 in
     let c = closed-Ok q.0.tree q.0.rest p q.2 in
     let flat : spelled a.0.written ++ q.0.rest ≡ (spelled a.0.written ++ Closing ∷ []) ++ p.rest = ap (λ l. spelled a.0.written ++ l) c.0 ∙ sym (append_assoc (spelled a.0.written) (Closing ∷ []) p.rest) in
-    record { written = Paren a.0.written; fits = a.0.fits; parts = ap (λ l. Opening ∷ l) (a.0.parts ∙ flat); read = a.0.read; tree = a.0.tree ∙ c.1; shallow = a.1; sized = ap is_small (sym c.1) ∙ a.0.sized }
+    record { written = Paren a.0.written; fits = a.0.fits; symbols = ap (λ l. Opening ∷ l) (a.0.symbols ∙ flat); read = a.0.read; tree = a.0.tree ∙ c.1; shallow = a.1; sized = ap is_small (sym c.1) ∙ a.0.sized }
 primary_sound room inner (_ ∷ r) p e = cc
 
 -- the levels, where what stands in parentheses is an expression
@@ -202,7 +202,7 @@ inner_sound : (room : ℕ) → InnerSound room
 inner_sound zero ts p e = let none = expression-zero is_small ts in cc
 inner_sound (suc room) ts p e =
     let q = (levels room (inner_sound room)).disjunctions ts p (sym (expression-suc is_small room ts) ∙ e) in
-    (record { written = q.written; fits = q.fits; parts = q.parts; read = q.read; tree = q.tree; shallow = omega (arith, q.shallow); sized = q.sized }, omega (arith, q.shallow))
+    (record { written = q.written; fits = q.fits; symbols = q.symbols; read = q.read; tree = q.tree; shallow = omega (arith, q.shallow); sized = q.sized }, omega (arith, q.shallow))
 
 pub all_sound : (room : ℕ) → Levels room
 all_sound room = levels room (inner_sound room)

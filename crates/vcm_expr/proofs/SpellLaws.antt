@@ -1,4 +1,4 @@
--- Symbols spell one expression at most, and parts that spell one break no rule.
+-- Symbols spell one expression at most, and symbols that spell one break no rule.
 use Rattle.std.proofs.Common.{Bool, true, false, ◌≡◌, inl, inr, ⊎_elim, List, [], ◌∷◌, ◌++◌, Result, Ok, Err, refl, sym, ap, ◌∙◌, arith}
 use Rattle.std.specs.Prelude.{◌||◌}
 use Rattle.std.specs.List.{list_any}
@@ -38,10 +38,10 @@ never_big (Joined op a b) (inr (inr h)) = never_big b h
 abbrev unlimited : List Symbol → Result Taken FaultCode
 unlimited ps = disjunction_by any_size (expression any_size 32) ps
 
--- parts that spell an expression are read as that
+-- symbols that spell an expression are read as that
 is_read : (ps : List Symbol) (e : Source) → SpellsExpr ps e → unlimited ps ≡ phrase e []
 is_read ps e s =
-    let flat : ps ≡ spelled s.written ++ [] = s.parts ∙ sym (append-nil (spelled s.written)) in
+    let flat : ps ≡ spelled s.written ++ [] = s.symbols ∙ sym (append-nil (spelled s.written)) in
     ap unlimited flat
     ∙ ⊎_elim
     (λ r. r)
@@ -111,17 +111,17 @@ has_flaw (p ∷ front) back c = by (is_flaw p) _ (has_flaw front back c)
 
 no_flaw : (ps : List Symbol) (e : Source) (c : FaultCode) → SpellsExpr ps e → HasFlaw c ps → ⊥
 no_flaw ps e c s f =
-    let fine : flawed ps ≡ false = ap flawed s.parts ∙ spelled_fine s.written s.read in
+    let fine : flawed ps ≡ false = ap flawed s.symbols ∙ spelled_fine s.written s.read in
     let bad : flawed ps ≡ true = ap flawed f.cut ∙ has_flaw f.front f.back c in
     cc
 
 pub spell_or_break : (ws : List Lexeme) (e : Source) (code : FaultCode) → IsExpr ws e → BreaksExpr ws code → ⊥
-spell_or_break ws e BadSyntax s b = b s.0.written s.0.parts s.0.fits
+spell_or_break ws e BadSyntax s b = b s.0.written s.0.symbols s.0.fits
 spell_or_break ws e TooFine s b = no_flaw (symbols_of ws) e TooFine s.0 b
 spell_or_break ws e NumberTooLarge s b = no_flaw (symbols_of ws) e NumberTooLarge s.0 b
 spell_or_break ws e TooDeep s b =
     ⊎_elim
     (λ n. omega (arith, n, s.0.nests))
     (λ g. let small : is_small (meant s.0.written) ≡ true = ap is_small s.0.is ∙ s.1 in cc)
-    (b.1 s.0.written s.0.parts s.0.fits)
+    (b.1 s.0.written s.0.symbols s.0.fits)
 spell_or_break ws e _ s b = b

@@ -1,4 +1,4 @@
--- From what the parser answers on all parts to what they spell.
+-- From what the parser answers on all symbols to what they spell.
 use Rattle.std.proofs.Common.{Bool, true, false, cond, ◌≡◌, ◌≢◌, ℕ, ◌≤◌, ◌⊎◌, inl, inr, ⊎_elim, List, [], ◌∷◌, ◌++◌, length, Result, Ok, Err, refl, sym, ap, ◌∙◌, subst, arith}
 use Rattle.std.specs.Prelude.{nat_le, Option, Some}
 use Rattle.std.proofs.lemmas.Bool.{and_parts}
@@ -19,7 +19,7 @@ use Rattle.vcm_expr.specs.declared.symbol.Symbol.TheVariants.{Operand}
 use Rattle.vcm_expr.specs.Digits.{read_of}
 use Rattle.vcm_expr.specs.Symbols.{symbols_of, symbol_of, number_term, run_term, dotted_symbol, is_variable_name}
 use Rattle.vcm_expr.specs.Source.{Source, Prefixed, Pair, depth_of, nodes_of, is_small}
-use Rattle.vcm_expr.specs.Grammar.{Written, Leaf, Paren, Signed, Joined, spelled, IsOperand, Fits, meant, IsRead, SpellsExpr, IsDeep, NestsDeep, HasBigPart, HasFlaw, BreaksParts}
+use Rattle.vcm_expr.specs.Grammar.{Written, Leaf, Paren, Signed, Joined, spelled, IsOperand, Fits, meant, IsRead, SpellsExpr, IsDeep, NestsDeep, HasBigPart, HasFlaw, BreaksSymbols}
 use Rattle.vcm_expr.specs.inner.Parser.{Taken, phrase, disjunction_by, expression}
 use Rattle.vcm_expr.specs.inner.Levels.{Told}
 use Rattle.vcm_expr.specs.Parsing.{At}
@@ -31,7 +31,7 @@ use Rattle.vcm_expr.proofs.Ladder.{complete}
 use Rattle.vcm_expr.proofs.Sound.{all_sound}
 use Rattle.vcm_expr.proofs.Causes.{Cause, all_caused}
 
--- what the parser reads of all parts
+-- what the parser reads of all symbols
 abbrev pub reading : List Symbol → Result Taken FaultCode
 reading ps = disjunction_by is_small (expression is_small 32) ps
 
@@ -96,7 +96,7 @@ read_not_bad (Joined op a b) c i (inr h) = read_not_bad b c i.1 h
 
 -- ---- what an expression is answered
 
--- parts that spell an expression are read, or there is a reason
+-- symbols that spell an expression are read, or there is a reason
 answer : (ps : List Symbol) (s : Written) → ps ≡ spelled s → Fits 1 s → (reading ps ≡ phrase (meant s) []) ⊎ ((c : FaultCode) × (reading ps ≡ Err c) × Blames is_small 32 c s)
 answer ps s e f =
     let flat : ps ≡ spelled s ++ [] = e ∙ sym (append-nil (spelled s)) in
@@ -105,7 +105,7 @@ answer ps s e f =
     (λ r. inr (r.0, ap reading flat ∙ r.1, r.2))
     ((complete is_small 32).by s [] f tt)
 
--- the parts after a phrase
+-- the symbols after a phrase
 abbrev rest_of : Result Taken FaultCode → List Symbol
 rest_of (Ok p) = p.rest
 rest_of (Err e) = []
@@ -114,11 +114,11 @@ pub reads_spells : (ps : List Symbol) (t : Source) (r : List Symbol) → reading
 reads_spells ps t r e h =
     let q = (all_sound 32).disjunctions ps (record { tree = t; rest = r }) e in
     let nil = nil_from_length r h in
-    (record { written = q.written; parts = q.parts ∙ ap (λ l. spelled q.written ++ l) nil ∙ append-nil (spelled q.written); fits = q.fits; read = q.read; nests = q.shallow; is = q.tree }, q.sized)
+    (record { written = q.written; symbols = q.symbols ∙ ap (λ l. spelled q.written ++ l) nil ∙ append-nil (spelled q.written); fits = q.fits; read = q.read; nests = q.shallow; is = q.tree }, q.sized)
 
--- parts are left over
-pub extra_parts : (ps : List Symbol) (t : Source) (r : List Symbol) → reading ps ≡ phrase t r → length r ≢ 0 → BreaksParts ps BadSyntax
-extra_parts ps t r e h s spells f =
+-- symbols are left over
+pub extra_symbols : (ps : List Symbol) (t : Source) (r : List Symbol) → reading ps ≡ phrase t r → length r ≢ 0 → BreaksSymbols ps BadSyntax
+extra_symbols ps t r e h s spells f =
     ⊎_elim
     (λ a. let both : phrase t r ≡ phrase (meant s) [] = sym e ∙ a in let nil : r ≡ [] = ap rest_of both in h (ap length nil))
     (λ a. let both : phrase t r ≡ Err a.0 = sym e ∙ a.1 in cc)
@@ -130,7 +130,7 @@ same_code o c d e f = let both : Err c ≡ Err d = sym e ∙ f in code both
     code : ◌≡◌ {A = Result Taken FaultCode} (Err c) (Err d) → c ≡ d
     code e = cc
 
-no_syntax : (ps : List Symbol) → reading ps ≡ Err BadSyntax → BreaksParts ps BadSyntax
+no_syntax : (ps : List Symbol) → reading ps ≡ Err BadSyntax → BreaksSymbols ps BadSyntax
 no_syntax ps e s spells f =
     ⊎_elim
     (λ a. let both : Err BadSyntax ≡ phrase (meant s) [] = sym e ∙ a in cc)
@@ -206,14 +206,14 @@ refused ws c e = by (all_caused 32 (symbols_of ws) c e)
     by (inr (inl (t, inr g))) = inr (inl (t, inr g))
     by (inr (inr f)) = ⊎_elim (λ b. inl b) (λ v. inr (inr (v, f))) (flaw_in ws f.front f.back c f.cut)
 
-pub fails_breaks : (ws : List Lexeme) (c : FaultCode) → reading (symbols_of ws) ≡ Err c → BreaksParts (symbols_of ws) c
+pub fails_breaks : (ws : List Lexeme) (c : FaultCode) → reading (symbols_of ws) ≡ Err c → BreaksSymbols (symbols_of ws) c
 fails_breaks ws c e = by (refused ws c e) e
   where
-    by : {d : FaultCode} → (d ≡ BadSyntax) ⊎ (((d ≡ TooDeep) × (NestsDeep (symbols_of ws) ⊎ HasBigPart (symbols_of ws))) ⊎ (IsValueFault d × HasFlaw d (symbols_of ws))) → reading (symbols_of ws) ≡ Err d → BreaksParts (symbols_of ws) d
-    by {d = d} (inl b) e = subst (BreaksParts (symbols_of ws)) (sym b) (no_syntax (symbols_of ws) (e ∙ ap Err b))
-    by {d = d} (inr (inl t)) e = subst (BreaksParts (symbols_of ws)) (sym t.0) (t.1, all_deep (symbols_of ws) (e ∙ ap Err t.0))
-    by {d = d} (inr (inr (inl v, f))) e = subst (BreaksParts (symbols_of ws)) (sym v) (subst (λ c. HasFlaw c (symbols_of ws)) v f)
-    by {d = d} (inr (inr (inr v, f))) e = subst (BreaksParts (symbols_of ws)) (sym v) (subst (λ c. HasFlaw c (symbols_of ws)) v f)
+    by : {d : FaultCode} → (d ≡ BadSyntax) ⊎ (((d ≡ TooDeep) × (NestsDeep (symbols_of ws) ⊎ HasBigPart (symbols_of ws))) ⊎ (IsValueFault d × HasFlaw d (symbols_of ws))) → reading (symbols_of ws) ≡ Err d → BreaksSymbols (symbols_of ws) d
+    by {d = d} (inl b) e = subst (BreaksSymbols (symbols_of ws)) (sym b) (no_syntax (symbols_of ws) (e ∙ ap Err b))
+    by {d = d} (inr (inl t)) e = subst (BreaksSymbols (symbols_of ws)) (sym t.0) (t.1, all_deep (symbols_of ws) (e ∙ ap Err t.0))
+    by {d = d} (inr (inr (inl v, f))) e = subst (BreaksSymbols (symbols_of ws)) (sym v) (subst (λ c. HasFlaw c (symbols_of ws)) v f)
+    by {d = d} (inr (inr (inr v, f))) e = subst (BreaksSymbols (symbols_of ws)) (sym v) (subst (λ c. HasFlaw c (symbols_of ws)) v f)
 
 -- ---- the exits of the parser
 
@@ -224,4 +224,4 @@ whole_refuses line ps f (inr t) = inr (t.0, λ ws e. fails_breaks ws f.code (ap 
 pub whole_extra : (ps : List Symbol) (t : Source) (r : List Symbol) (k : Symbol) (q : List Symbol) → reading ps ≡ phrase t r → r ≡ k ∷ q → Refuses ps BadSyntax
 whole_extra ps t r k q e more ws is =
     let some : length r ≢ 0 = λ none. let size = ap length more in omega arith in
-    extra_parts (symbols_of ws) t r (ap reading is ∙ e) some
+    extra_symbols (symbols_of ws) t r (ap reading is ∙ e) some

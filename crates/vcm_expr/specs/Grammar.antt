@@ -103,7 +103,7 @@ nesting (Joined op a b) = max (nesting a) (nesting b)
 -- the symbols spell this expression, with parentheses at most 32 deep
 pub record SpellsExpr (ps : List Symbol) (e : Source) : Type 0 where
   pub written : Written
-  pub parts : ps ≡ spelled written
+  pub symbols : ps ≡ spelled written
   pub fits : Fits 1 written
   pub read : IsRead written
   pub nests : nesting written ≤ 32
@@ -144,9 +144,9 @@ pub record HasFlaw (c : FaultCode) (ps : List Symbol) : Type 0 where
 
 -- the symbols break the rule with this code. Bad syntax: no expression is spelled so, whatever its numbers and however deep. Too deep: more
 -- than 32 parentheses are open at once or some symbols spell too large an expression, and every expression that is spelled so is too deep
-abbrev pub BreaksParts : List Symbol → FaultCode → Type 0
-BreaksParts ps BadSyntax = (s : Written) → ps ≡ spelled s → Fits 1 s → ⊥
-BreaksParts ps TooFine = HasFlaw TooFine ps
-BreaksParts ps NumberTooLarge = HasFlaw NumberTooLarge ps
-BreaksParts ps TooDeep = (NestsDeep ps ⊎ HasBigPart ps) × ((s : Written) → ps ≡ spelled s → Fits 1 s → IsDeep s)
-BreaksParts ps _ = ⊥
+abbrev pub BreaksSymbols : List Symbol → FaultCode → Type 0
+BreaksSymbols ps BadSyntax = (s : Written) → ps ≡ spelled s → Fits 1 s → ⊥
+BreaksSymbols ps TooFine = HasFlaw TooFine ps
+BreaksSymbols ps NumberTooLarge = HasFlaw NumberTooLarge ps
+BreaksSymbols ps TooDeep = (NestsDeep ps ⊎ HasBigPart ps) × ((s : Written) → ps ≡ spelled s → Fits 1 s → IsDeep s)
+BreaksSymbols ps _ = ⊥

@@ -60,10 +60,10 @@ pub(crate) fn next_operator<'a>(
 
 /// The operator that a word is at a level.
 #[inline(always)]
-fn operator(part: &Symbol, level: Chain) -> Option<BinaryOp>
-    ensures { result ≡ chain_op level part.now }
+fn operator(symbol: &Symbol, level: Chain) -> Option<BinaryOp>
+    ensures { result ≡ chain_op level symbol.now }
 {
-    match (level, part) {
+    match (level, symbol) {
         (Chain::Disjunction, Symbol::OrWord) => Some(BinaryOp::Or),
         (Chain::Conjunction, Symbol::AndWord) => Some(BinaryOp::And),
         (Chain::Sum, Symbol::Cross) => Some(BinaryOp::Add),

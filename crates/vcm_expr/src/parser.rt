@@ -8,7 +8,8 @@ ghost use Rattle.vcm_expr.specs.Grammar.{SpellsExpr};
 ghost use Rattle.vcm_expr.specs.Parsing.{At};
 ghost use Rattle.vcm_expr.specs.inner.Refusals.{Refuses};
 ghost use Rattle.vcm_expr.specs.inner.Parser.{Parser, phrase, fronted_by, with_fronts, leaf_by};
-ghost use Rattle.vcm_expr.specs.inner.Levels.{chain_in, link_in, front_in, front_of as finds_front, fronted_in, relation_in, primary_in, group_in, Told};
+ghost use Rattle.vcm_expr.specs.declared.levels.Chain.TheVariants as levels;
+ghost use Rattle.vcm_expr.specs.inner.Levels.{chain_in, front_in, front_of as finds_front, fronted_in, relation_in, primary_in, group_in, Told};
 ghost use Rattle.vcm_expr.specs.declared.symbol.Symbol.{Symbol};
 
 use crate::expression::{Expr, Prefix, Term, too_deep};
@@ -25,55 +26,97 @@ pub(crate) fn whole(alloc: Global, line: u32, words: Symbols<'_>) -> Result<Expr
     ensures ok { IfOk result (λ e. SpellsExpr words.entry e × (is_small e ≡ true)) }
     ensures fault { IfErr result (NoMemoryOr (At line (Refuses words.entry))) }
 {
-    let (e, rest) = chained(alloc, line, words, MOST_OPEN, Chain::Disjunction)?;
+    let (e, rest) = disjunction(alloc, line, words, MOST_OPEN)?;
     match rest.split_first() {
         None => Ok(e),
         Some(_) => Err(bad_syntax(line)),
     }
 }
 
-/// Operands of a level, with its operators between them. `room` pairs of parentheses may be opened.
+/// Conjunctions with `.OR.` between them: a whole expression. `room` pairs of parentheses may be opened.
 #[cycle(parser)]
-fn chained<'a>(
+fn disjunction<'a>(
     alloc: Global,
     line: u32,
     words: Symbols<'a>,
     room: u32,
-    level: Chain,
 ) -> Result<(Expr, Symbols<'a>), SourceFault>
-    ensures ok { IfOk result (λ p. chain_in level room words.entry ≡ phrase p.0 p.1) }
-    ensures fault { IfErr result (NoMemoryOr (Told line (chain_in level room words.entry))) }
+    ensures ok { IfOk result (λ p. chain_in levels.Disjunction room words.entry ≡ phrase p.0 p.1) }
+    ensures fault { IfErr result (NoMemoryOr (Told line (chain_in levels.Disjunction room words.entry))) }
     ensures shorter { IfOk result (λ p. length p.1 ≤ length words.entry) }
 {
-    let (mut left, mut rest) = link(alloc, line, words, room, level)?;
-    while let Some((op, after)) = next_operator(&rest, level) {
-        let (right, behind) = link(alloc, line, after, room, level)?;
+    let (mut left, mut rest) = conjunction(alloc, line, words, room)?;
+    while let Some((op, after)) = next_operator(&rest, Chain::Disjunction) {
+        let (right, behind) = conjunction(alloc, line, after, room)?;
         left = Expr::joined(alloc, line, op, left, right)?;
         rest = behind;
     }
     Ok((left, rest))
 }
 
-/// An operand of a level.
+/// Negations with `.AND.` between them.
 #[cycle(parser)]
 #[inline(always)]
-fn link<'a>(
+fn conjunction<'a>(
     alloc: Global,
     line: u32,
     words: Symbols<'a>,
     room: u32,
-    level: Chain,
 ) -> Result<(Expr, Symbols<'a>), SourceFault>
-    ensures ok { IfOk result (λ p. link_in level room words.entry ≡ phrase p.0 p.1) }
-    ensures fault { IfErr result (NoMemoryOr (Told line (link_in level room words.entry))) }
+    ensures ok { IfOk result (λ p. chain_in levels.Conjunction room words.entry ≡ phrase p.0 p.1) }
+    ensures fault { IfErr result (NoMemoryOr (Told line (chain_in levels.Conjunction room words.entry))) }
     ensures shorter { IfOk result (λ p. length p.1 ≤ length words.entry) }
 {
-    match level {
-        Chain::Disjunction => chained(alloc, line, words, room, Chain::Conjunction),
-        Chain::Conjunction => fronted(alloc, line, words, room, Front::Negation),
-        Chain::Sum => chained(alloc, line, words, room, Chain::Product),
-        Chain::Product => fronted(alloc, line, words, room, Front::Sign),
+    let (mut left, mut rest) = fronted(alloc, line, words, room, Front::Negation)?;
+    while let Some((op, after)) = next_operator(&rest, Chain::Conjunction) {
+        let (right, behind) = fronted(alloc, line, after, room, Front::Negation)?;
+        left = Expr::joined(alloc, line, op, left, right)?;
+        rest = behind;
     }
+    Ok((left, rest))
+}
+
+/// Products with `+` and `-` between them.
+#[cycle(parser)]
+fn sum<'a>(
+    alloc: Global,
+    line: u32,
+    words: Symbols<'a>,
+    room: u32,
+) -> Result<(Expr, Symbols<'a>), SourceFault>
+    ensures ok { IfOk result (λ p. chain_in levels.Sum room words.entry ≡ phrase p.0 p.1) }
+    ensures fault { IfErr result (NoMemoryOr (Told line (chain_in levels.Sum room words.entry))) }
+    ensures shorter { IfOk result (λ p. length p.1 ≤ length words.entry) }
+{
+    let (mut left, mut rest) = product(alloc, line, words, room)?;
+    while let Some((op, after)) = next_operator(&rest, Chain::Sum) {
+        let (right, behind) = product(alloc, line, after, room)?;
+        left = Expr::joined(alloc, line, op, left, right)?;
+        rest = behind;
+    }
+    Ok((left, rest))
+}
+
+/// Signed operands with `*` and `/` between them.
+#[cycle(parser)]
+#[inline(always)]
+fn product<'a>(
+    alloc: Global,
+    line: u32,
+    words: Symbols<'a>,
+    room: u32,
+) -> Result<(Expr, Symbols<'a>), SourceFault>
+    ensures ok { IfOk result (λ p. chain_in levels.Product room words.entry ≡ phrase p.0 p.1) }
+    ensures fault { IfErr result (NoMemoryOr (Told line (chain_in levels.Product room words.entry))) }
+    ensures shorter { IfOk result (λ p. length p.1 ≤ length words.entry) }
+{
+    let (mut left, mut rest) = fronted(alloc, line, words, room, Front::Sign)?;
+    while let Some((op, after)) = next_operator(&rest, Chain::Product) {
+        let (right, behind) = fronted(alloc, line, after, room, Front::Sign)?;
+        left = Expr::joined(alloc, line, op, left, right)?;
+        rest = behind;
+    }
+    Ok((left, rest))
 }
 
 /// An operand with signs or negations before it.
@@ -128,16 +171,17 @@ fn relation<'a>(
     ensures fault { IfErr result (NoMemoryOr (Told line (relation_in room words.entry))) }
     ensures shorter { IfOk result (λ p. length p.1 ≤ length words.entry) }
 {
-    let (left, rest) = chained(alloc, line, words, room, Chain::Sum)?;
+    let (left, rest) = sum(alloc, line, words, room)?;
     let Some((op, after)) = next_relation(&rest) else {
         return Ok((left, rest));
     };
-    let (right, behind) = chained(alloc, line, after, room, Chain::Sum)?;
+    let (right, behind) = sum(alloc, line, after, room)?;
     Ok((Expr::joined(alloc, line, op, left, right)?, behind))
 }
 
 /// A number, a truth value or a name, or an expression in parentheses.
 #[cycle(parser)]
+#[inline(always)]
 fn primary<'a>(
     alloc: Global,
     line: u32,
@@ -173,7 +217,7 @@ fn group<'a>(
     if room == 0 {
         return Err(too_deep(line));
     }
-    let (e, rest) = chained(alloc, line, words, room - 1, Chain::Disjunction)?;
+    let (e, rest) = disjunction(alloc, line, words, room - 1)?;
     let Some(after) = after_closing(&rest) else {
         return Err(bad_syntax(line));
     };

@@ -137,7 +137,7 @@ pub(crate) fn statements(
 {
     let mut copies = Items::new(alloc);
     for n in 0..image.statement_count() {
-        copies.push(statement(alloc, &image.statement(n))?)?;
+        copies.push(statement(alloc, image.statement(n))?)?;
     }
     Ok(copies)
 }

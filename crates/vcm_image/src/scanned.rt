@@ -1,4 +1,4 @@
-//! An image whose fields are all in range, and where each of its parts begins.
+//! An image whose fields are all in range: its statements, and where each of its variables and names begins.
 
 ghost use Rattle.std.specs.Prelude.{◌≡◌, ◌<◌, ◌≤◌, drop, Ok, Some, IfOk, IfErr, length, slice_get};
 ghost use Rattle.std.specs.Int.{w16, w32};
@@ -16,7 +16,7 @@ use vcm_fields::{
     BorrowedStatement, BorrowedVariable, ImageFault, TextSlice, long, name, short, statement,
     variable,
 };
-use vcm_num::NoMemory;
+use vcm_num::{Items, NoMemory};
 use vcm_tables::Tables;
 
 /// The bytes `VCMI` as a number of four bytes.
@@ -31,15 +31,18 @@ pub(crate) const MOST_NAMES: u16 = 4096;
 /// The most statements.
 pub(crate) const MOST_STATEMENTS: u32 = 20_000;
 
-/// The bytes of an image whose fields are all in range, and where its variables, names and statements begin. Contracts see it as the code
-/// that the bytes spell.
+// The bytes of the shortest statements: a word and a source line.
+const SHORTEST: usize = 5;
+
+/// The bytes of an image whose fields are all in range, where its variables and names begin, and its statements, whose items and texts are slices
+/// of the bytes. Contracts see it as the code that the bytes spell.
 #[derive(Drop)]
 pub struct Scanned<'a> {
     bytes: &'a [u8],
     variables: Vec<usize>,
     features: Vec<usize>,
     frames: Vec<usize>,
-    statements: Vec<usize>,
+    statements: Items<BorrowedStatement<'a>>,
 }
 
 impl<'a> Model for Scanned<'a> {
@@ -51,7 +54,7 @@ impl<'a> Model for Scanned<'a> {
 
     ghost view = { λ s. code_in s.bytes.now };
 
-    ghost invariant = { λ s. Indexed s.bytes.now s.variables.items s.features.items s.frames.items s.statements.items };
+    ghost invariant = { λ s. Indexed s.bytes.now s.variables.items s.features.items s.frames.items s.statements };
 }
 
 // Where so many variables begin, and the bytes behind them.
@@ -98,26 +101,23 @@ fn names<'a>(
     Ok((starts, rest))
 }
 
-// Where so many statements begin, and the bytes behind them.
+// So many statements, and the bytes behind them. Room is made for no more of them than the bytes can hold.
 fn statements<'a>(
     alloc: Global,
     count: u32,
-    whole: &[u8],
     bytes: &'a [u8],
-) -> Result<(Vec<usize>, &'a [u8]), ImageFault>
-    requires { IsEnd whole.now bytes.now }
-    ensures ok { IfOk result (λ x. Table line_at count whole.now bytes.now x.0.items x.1.now) }
-    ensures err { IfErr result (λ e. Fails e (times line_at count bytes.now)) }
+) -> Result<(Items<BorrowedStatement<'a>>, &'a [u8]), ImageFault>
+    ensures { GivesOrNoMemory (λ x. (x.0, x.1.now)) result (times line_at count bytes.now) }
 {
-    let mut starts = Vec::new(alloc);
+    let room = (count as usize).min(bytes.len() / SHORTEST);
+    let mut read = Items::from_vec(Vec::with_capacity(alloc, room)?);
     let mut rest = bytes;
     for _ in 0..count {
-        let start = whole.len() - rest.len();
-        let (_statement, after) = statement(rest)?;
-        starts.push(start)?;
+        let (next, after) = statement(rest)?;
+        read.push(next)?;
         rest = after;
     }
-    Ok((starts, rest))
+    Ok((read, rest))
 }
 
 // A number of two bytes, not above a limit.
@@ -168,7 +168,7 @@ fn scan(alloc: Global, bytes: &[u8]) -> Result<Scanned<'_>, ImageFault>
     let (variables, rest) = variables(alloc, counts.variables, bytes, rest)?;
     let (features, rest) = names(alloc, counts.features, bytes, rest)?;
     let (frames, rest) = names(alloc, counts.frames, bytes, rest)?;
-    let (statements, rest) = statements(alloc, counts.statements, bytes, rest)?;
+    let (statements, rest) = statements(alloc, counts.statements, rest)?;
     if !rest.is_empty() {
         return Err(ImageFault::Trailing);
     }
@@ -277,17 +277,14 @@ impl<'a> Scanned<'a> {
         self.statements.len()
     }
 
-    /// A statement, whose items and text are slices of the image. It is decoded where it stands, without a look at any other.
-    pub fn statement(&self, n: usize) -> BorrowedStatement<'a>
+    /// A statement, whose items and text are slices of the image. It was decoded when the image was opened.
+    pub fn statement(&self, n: usize) -> &BorrowedStatement<'a>
         requires { n < length self.now.statements }
-        ensures { slice_get self.now.statements n ≡ Some result }
+        ensures { slice_get self.now.statements n ≡ Some result.now }
     {
-        let start = self.statements[n];
-        match statement(after(self.bytes, start)) {
-            Ok((statement, _)) => statement,
-            Err(_) => unreachable!(),
-        }
+        &self.statements.as_slice()[n]
     }
+
     /// The tables of names, on their own.
     ///
     /// # Errors

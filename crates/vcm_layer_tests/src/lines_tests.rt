@@ -3,7 +3,7 @@
 use std::alloc::Global;
 use vcm_lines::{FaultCode, Logical, SourceFault, Word, WordKind, logical_lines};
 
-fn word(start: usize, end: usize, line: u32, kind: WordKind) -> Word {
+fn word(start: u32, end: u32, line: u32, kind: WordKind) -> Word {
     Word {
         start,
         end,

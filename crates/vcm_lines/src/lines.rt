@@ -94,6 +94,7 @@ impl Unfinished {
     fn add(&mut self, line: &[u8], number: u32) -> Result<bool, SourceFault>
         ensures unbroken { OnOk result ((code : FaultCode) → BreaksLine line.now code → ⊥) }
         ensures short { OnOk result (length (self.old.bytes.items ++ text_of line.now) ≤ MAX_STATEMENT) }
+        ensures fits { OnOk result (length self.new.bytes.items ≤ MAX_STATEMENT) }
         ensures ends { IfOk result (λ e. e ≡ (not (continues line.now) && not (is_empty line.now))) }
         ensures empty { OnOk result ((rows : List Row) → is_empty line.now ≡ true → Holds self.old rows → Holds self.new rows) }
         ensures row { OnOk result ((rows : List Row) → is_empty line.now ≡ false → Holds self.old rows → Holds self.new (rows ++ row_of number line.now ∷ [])) }
@@ -120,7 +121,8 @@ impl Unfinished {
 
     /// The statement, if there is a line.
     fn finish(self, alloc: Global) -> Result<Option<Logical>, AllocError>
-        requires { length self.lines.items ≡ length self.bytes.items }
+        requires aligned { length self.lines.items ≡ length self.bytes.items }
+        requires short { length self.bytes.items ≤ MAX_STATEMENT }
         ensures { IfOk result (λ found. (rows : List Row) → Holds self rows → MatchOption found (rows ≡ []) (IsLogical rows)) }
     {
         let Some((line, _)) = self.span else {

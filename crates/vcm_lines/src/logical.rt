@@ -23,9 +23,9 @@ pub enum WordKind {
 #[derive(Clone, Copy, Debug, PartialEq, Eq)]
 pub struct Word {
     /// Where its first byte stands in the statement's text, from 0 on.
-    pub start: usize,
+    pub start: u32,
     /// Where its last byte has been passed.
-    pub end: usize,
+    pub end: u32,
     /// The line of its first byte, from 1 on.
     pub line: u32,
     /// What it is made of.
@@ -111,5 +111,12 @@ impl Lines {
         ensures { result.now ≡ self.now }
     {
         &self.items
+    }
+
+    /// The statements, on their own.
+    pub fn into_items(self) -> Vec<Logical>
+        ensures { result.items ≡ self }
+    {
+        self.items
     }
 }

@@ -63,8 +63,10 @@ impl OwnedBytes {
 fn bytes_of(text: &[u8], word: Word) -> &[u8]
     ensures { result.now ≡ word_bytes text.now word }
 {
-    if word.start <= word.end && word.end <= text.len() {
-        &text[word.start..word.end]
+    let start = word.start as usize;
+    let end = word.end as usize;
+    if start <= end && end <= text.len() {
+        &text[start..end]
     } else {
         &[]
     }

@@ -22,8 +22,8 @@ use vcm_image::Scanned;
 use vcm_num::{Fault, NoMemory};
 use vcm_tables::Tables;
 
-/// A valid image. It borrows the bytes and decodes no statement: it keeps where each one begins. Contracts see it as its code. What its readers
-/// hand out lives as long as the bytes.
+/// A valid image. It borrows the bytes and keeps its statements decoded, their items and texts as slices of the bytes. Contracts see it as its
+/// code. Names that its readers hand out live as long as the bytes, as do the items and texts of a statement.
 #[derive(Drop)]
 pub struct Loaded<'a> {
     scanned: Scanned<'a>,
@@ -118,11 +118,11 @@ impl<'a> Loaded<'a> {
         self.scanned.statement_count()
     }
 
-    /// A statement, whose items and text are slices of the image. It is decoded where it stands, without a look at any other.
+    /// A statement, whose items and text are slices of the image. It was decoded when the image was opened.
     #[inline(always)]
-    pub fn statement(&self, n: usize) -> BorrowedStatement<'a>
+    pub fn statement(&self, n: usize) -> &BorrowedStatement<'a>
         requires { n < length self.now.statements }
-        ensures { slice_get self.now.statements n ≡ Some result }
+        ensures { slice_get self.now.statements n ≡ Some result.now }
     {
         self.scanned.statement(n)
     }

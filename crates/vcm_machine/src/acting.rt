@@ -132,9 +132,9 @@ pub(crate) fn assign(
 /// TEXT: one more output line.
 ///
 /// Errors: the stop `OutputFull`, or want of memory. The state is then as it was.
-pub(crate) fn print(alloc: Global, world: &mut World, text: &TextSlice<'_>) -> Result<(), Halt>
+pub(crate) fn print(world: &mut World, text: &TextSlice<'_>) -> Result<(), Halt>
     ensures carried { (part : Workpiece) → CarriedOrHalted (effect items_value (setup_of part world.old.tables) world.old.state (Text text.now)) world.old.state world.new.state result }
     ensures tables { world.new.tables ≡ world.old.tables }
 {
-    world.text(alloc, text.as_bytes())
+    world.text(text.as_bytes())
 }

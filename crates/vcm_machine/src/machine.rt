@@ -11,8 +11,8 @@ use vcm_num::NoMemory;
 use vcm_spec::StopPlace;
 use vcm_state::{Halt, World};
 
-/// A machine that carries out the code of a loaded image beside a workpiece. Each step decodes its statement where it lies in the image.
-/// Contracts see it as a `Running`.
+/// A machine that carries out the code of a loaded image beside a workpiece. Each step takes its statement by reference from the
+/// image, which keeps it decoded. Contracts see it as a `Running`.
 #[derive(Drop)]
 pub struct Machine<'a, P: Part> {
     loaded: &'a Loaded<'a>,
@@ -135,7 +135,8 @@ impl<'a, P: Part> Machine<'a, P> {
         ensures ok { OnOk result (self.new ≡ later 1 self.old) }
         ensures err { OnErr result ((self.new ≡ self.old) × WantsMemory self.old) }
     {
-        let statement = self.loaded.statement(self.next as usize);
+        let loaded = self.loaded;
+        let statement = loaded.statement(self.next as usize);
         match carry_out(
             alloc,
             self.part,

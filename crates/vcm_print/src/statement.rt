@@ -106,7 +106,7 @@ fn write_line<W: Write>(
     write_all(writer, b"\n")
 }
 
-/// Writes the line of statement `n` as it stands in the listing, with its end. It takes no memory, and decodes no other statement.
+/// Writes the line of statement `n` as it stands in the listing, with its end. It takes no memory.
 ///
 /// # Errors
 ///
@@ -120,5 +120,5 @@ pub fn write_statement<W: Write>(
     ensures { (s : Line) → slice_get loaded.now.statements n ≡ Some s → Wrote (W.contents writer.old) (W.contents writer.new) (listed (Numbered n s)) result }
 {
     let statement = loaded.statement(n);
-    write_line(n, &statement, writer)
+    write_line(n, statement, writer)
 }

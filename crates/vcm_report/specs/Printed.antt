@@ -1,4 +1,4 @@
--- Printed texts of stops, output lines and features.
+-- Printed texts of stops and features.
 use Rattle.std.specs.Prelude.{ℕ, Bool, true, false, if◌then◌else◌, List, [], ◌∷◌, ◌++◌, flat_map, unwrap_or, slice_get, Option, Some, None, decimal, codes}
 use Rattle.vcm_spec.specs.declared.feature.Feature.{Feature}
 use Rattle.vcm_spec.specs.declared.stop.Missing.{Missing}
@@ -61,10 +61,6 @@ ended_place p =
 -- the line of a stop
 abbrev pub stopped_line : Tables → StopPlace → List ℕ
 stopped_line tables p = stop_text tables p.stop ++ ended_place p
-
--- the output lines
-abbrev pub output_lines : List (List ℕ) → List ℕ
-output_lines lines = flat_map (λ line. line ++ codes "\n") lines
 
 -- the line of a feature of this index: as OUTPUT prints it, or that it has none
 abbrev pub feature_text : Tables → Source → ℕ → Option Feature → List ℕ

@@ -7,5 +7,5 @@ mod names;
 mod stops;
 
 pub use features::write_feature;
-pub use lines::write_lines;
+pub use lines::{write_last_lines, write_lines};
 pub use stops::write_stop_line;

@@ -57,7 +57,7 @@ impl World {
         }
         let name = name_at(self.tables.features(), feature);
         let line = feature_line(alloc, source, name.as_bytes(), found)?;
-        self.lines.push(line)?;
+        self.lines.push(line.as_slice())?;
         Ok(())
     }
 

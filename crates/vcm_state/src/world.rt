@@ -13,6 +13,7 @@ use std::marker::Model;
 use vcm_frame::Frame;
 use vcm_motion::{Part, contact_of};
 use vcm_num::{Items, NoMemory, Point};
+use vcm_output::Lines;
 use vcm_part::is_within;
 use vcm_probe::Settings;
 use vcm_spec::{Feature, MovePhase, Stop, StopPlace};
@@ -34,7 +35,7 @@ pub struct World {
     pub(crate) saved: Items<Option<Frame>>,
     pub(crate) nominal: Items<Option<Feature>>,
     pub(crate) actual: Items<Option<Feature>>,
-    pub(crate) lines: Items<Items<u8>>,
+    pub(crate) lines: Lines,
     pub(crate) stop: Option<StopPlace>,
 }
 
@@ -100,7 +101,7 @@ impl World {
             saved,
             nominal,
             actual,
-            lines: Items::new(alloc),
+            lines: Lines::new(alloc),
             stop: None,
         })
     }
@@ -163,10 +164,10 @@ impl World {
     }
 
     /// The output lines.
-    pub fn lines(&self) -> &[Items<u8>]
+    pub fn lines(&self) -> &Lines
         ensures { result.now ≡ self.now.state.lines }
     {
-        self.lines.as_slice()
+        &self.lines
     }
 
     /// The stop and its place, if the run has stopped.
@@ -214,14 +215,13 @@ impl World {
     /// One more output line.
     ///
     /// Errors: the stop `OutputFull` where there are 100,000 lines, or want of memory. The state is then as it was.
-    pub fn text(&mut self, alloc: Global, bytes: &[u8]) -> Result<(), Halt>
+    pub fn text(&mut self, bytes: &[u8]) -> Result<(), Halt>
         ensures { (part : Workpiece) → CarriesOrHalts part (Text bytes.now) self.old self.new result }
     {
         if self.lines.len() >= MAX_LINES {
             return Err(Halt::Stop(Stop::OutputFull));
         }
-        let line = Items::from_slice(alloc, bytes)?;
-        self.lines.push(line)?;
+        self.lines.push(bytes)?;
         Ok(())
     }
 

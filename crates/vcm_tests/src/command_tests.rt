@@ -1,6 +1,5 @@
 //! The command line, checks, the texts on standard error and the exit statuses.
 
-use crate::texts::program_of;
 use clap::error::ErrorKind;
 use std::alloc::Global;
 use vcm_command::{
@@ -12,6 +11,7 @@ use vcm_job::{BuildFault, CheckFault, JobFault, PartFileFault, RunFault, check};
 use vcm_lines::{FaultCode, SourceFault};
 use vcm_part::{PartCode, PartFault};
 use vcm_run::Refusal;
+use vcm_test_texts::program_of;
 
 // Whether a message is printed so, and gives this exit status.
 fn is_told(alloc: Global, message: Message<'_>, text: &str, status: u8) -> bool {

@@ -1,6 +1,6 @@
 //! Jobs and checks whose devices fail, whose input is too long, or whose part is refused.
 
-use crate::texts::{BOUNDS, ONE_BLOCK, job_of, joined, program_of};
+use crate::job_tests::job_of;
 use std::alloc::Global;
 use std::io;
 use std::io::{ErrorKind, Read, Write};
@@ -9,6 +9,7 @@ use vcm_debug::ServeFault;
 use vcm_job::{CheckFault, DebugFault, JobFault, check, debug, job};
 use vcm_part::{PartCode, PartFault, read_part};
 use vcm_run::Refusal;
+use vcm_test_texts::{BOUNDS, ONE_BLOCK, joined, program_of};
 
 // Whether a part is judged before the program.
 fn part_is_judged_first(alloc: Global) -> bool {

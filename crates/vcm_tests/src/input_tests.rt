@@ -1,11 +1,10 @@
-//! Runs of inputs beside a part file, and images built from texts.
+//! Inputs that are programs or images: run, debugged and listed; and listings that are images again.
 
-use crate::image_tests::{MOVE, changed};
-use crate::texts::{BOUNDS, ONE_BLOCK, joined, program_of};
 use std::alloc::Global;
 use vcm_fields::ImageFault;
-use vcm_job::{Done, PartFileFault, RunFault, build, part_from, run};
+use vcm_job::{Done, PartFileFault, PrintFault, RunFault, asm, build, debug, list, part_from, run};
 use vcm_part::{PartCode, PartData, PartFault};
+use vcm_test_texts::{BOUNDS, MOVE, ONE_BLOCK, changed, joined, program_of};
 
 // The part with one block.
 fn part(alloc: Global) -> Option<PartData> {
@@ -117,4 +116,69 @@ fn part_files(rt: HostRuntime) {
     let code = PartCode::NotToml;
     let told = Some(PartFileFault::Refused(PartFault { code, block: 0 }));
     assert!(rt; part_refusal(rt.alloc(), "low =") == told);
+}
+
+// Whether a session on an input replies so to two commands.
+fn is_debugged(alloc: Global, input: &[u8], replies: &str) -> Option<bool> {
+    let part = part(alloc)?;
+    let mut reader = input;
+    let mut commands = b"run\nout 2\n".as_slice();
+    let mut out = Vec::new(alloc);
+    debug(alloc, &part, &mut reader, &mut commands, &mut out).ok()?;
+    Some(out.as_slice() == replies.as_bytes())
+}
+
+// Whether sessions on a program and on its image reply so.
+fn debugs_both(alloc: Global, statements: &str, replies: &str) -> Option<bool> {
+    let program = program_of(alloc, statements)?;
+    let image = build(alloc, &mut program.as_bytes()).ok()?.image;
+    Some(is_debugged(alloc, program.as_bytes(), replies)? && is_debugged(alloc, &image, replies)?)
+}
+
+#[test]
+fn images_are_debugged(rt: HostRuntime) {
+    let statements = "DECL/INTGR,I\nDO/I,1,3,1\nTEXT/OPER,'A'\nENDDO\n";
+    let replies = "step 8 stop ENDED\nlines 3\nA\nA\nbye\n";
+    assert!(rt; debugs_both(rt.alloc(), statements, replies) == Some(true));
+}
+
+// The listing of the image of a move.
+const MOVE_LISTING: &str =
+    "VCM-LISTING 1\n0 3 GOTO [I20 SCALE] [I20 SCALE] [I50 SCALE]\n1 4 ENDFIL\n";
+
+// The listing of an input, or why it has none.
+fn listing_of(alloc: Global, input: &[u8]) -> Result<Vec<u8>, PrintFault> {
+    let mut reader = input;
+    let mut out = Vec::new(alloc);
+    match list(alloc, &mut reader, &mut out) {
+        Ok(_) => Ok(out),
+        Err(fault) => Err(fault),
+    }
+}
+
+// Whether an input has the listing of a move.
+fn lists_a_move(alloc: Global, input: &[u8]) -> bool {
+    listing_of(alloc, input).is_ok_and(|text| text.as_slice() == MOVE_LISTING.as_bytes())
+}
+
+// Whether the program of a move and its image have its listing, and the listing gives that image.
+fn goes_both_ways(alloc: Global) -> Option<bool> {
+    let program = program_of(alloc, "GOTO/20,20,50\n")?;
+    let image = asm(alloc, &mut MOVE_LISTING.as_bytes()).ok()?;
+    Some(
+        lists_a_move(alloc, program.as_bytes())
+            && lists_a_move(alloc, &MOVE)
+            && image.as_slice() == MOVE.as_slice(),
+    )
+}
+
+#[test]
+fn the_listing_of_a_move(rt: HostRuntime) {
+    assert!(rt; goes_both_ways(rt.alloc()) == Some(true));
+}
+
+#[test]
+fn an_image_without_a_listing(rt: HostRuntime) {
+    let fault = listing_of(rt.alloc(), b"VCMI\x02\x00").err();
+    assert!(rt; fault == Some(PrintFault::Image(ImageFault::BadVersion)));
 }

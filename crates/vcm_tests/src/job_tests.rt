@@ -1,13 +1,26 @@
 //! Jobs: what they print, and what they are refused for.
 
-use crate::texts::{ONE_BLOCK, TWO_HALVES, job_of, program_of};
-use itoa::Buffer;
 use std::alloc::Global;
 use vcm_command::{job_message, source_message};
 use vcm_job::{Done, JobFault, job};
 use vcm_lines::{FaultCode, SourceFault};
 use vcm_syntax::Notice;
+use vcm_test_texts::{BOUNDS, ONE_BLOCK, joined, program_of};
 use vcm_tree::Noticed;
+
+// The block on the table in two halves.
+const TWO_HALVES: &str = "[[block]]
+low = [10000, 10000, 0]
+high = [20000, 30000, 20000]
+[[block]]
+low = [20000, 10000, 0]
+high = [30000, 30000, 20000]
+";
+
+/// The job of a part and a program.
+pub(crate) fn job_of(alloc: Global, blocks: &str, program: &str) -> Option<String> {
+    joined(alloc, &[BOUNDS, blocks, "%%\n", program])
+}
 
 // Whether what a job answers and writes passes a test. No other function here owns an answer.
 fn judged<F: Fn(&Result<Done, JobFault>, &[u8]) -> bool>(
@@ -314,10 +327,7 @@ fn earlier_phases_first(rt: HostRuntime) {
 fn declarations(alloc: Global, count: u32) -> Option<String> {
     let mut text = String::new(alloc);
     for number in 0..count {
-        let mut digits = Buffer::new();
-        text.push_str("DECL/INTGR,V").ok()?;
-        text.push_str(digits.format(number)).ok()?;
-        text.push_str("\n").ok()?;
+        writeln!(text, "DECL/INTGR,V{number}").ok()?;
     }
     Some(text)
 }

@@ -1,33 +1,11 @@
-//! The tests of images, runs, jobs and commands, from their texts.
+//! The tests of jobs and commands, from their texts.
 #![tactic(auto)]
 
 #[cfg(test)]
 mod command_tests;
 #[cfg(test)]
-mod debug_tests;
-#[cfg(test)]
 mod fault_tests;
-#[cfg(test)]
-mod image_tests;
 #[cfg(test)]
 mod input_tests;
 #[cfg(test)]
 mod job_tests;
-#[cfg(test)]
-mod listing_tests;
-#[cfg(test)]
-mod loader_tests;
-#[cfg(test)]
-mod macro_tests;
-#[cfg(test)]
-mod measuring_tests;
-#[cfg(test)]
-mod plain;
-#[cfg(test)]
-mod run_tests;
-#[cfg(test)]
-mod runs;
-#[cfg(test)]
-mod strip_tests;
-#[cfg(test)]
-mod texts;

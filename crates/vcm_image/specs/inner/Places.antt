@@ -1,8 +1,9 @@
--- Where the parts of an image begin.
+-- Where the variables and names of an image begin, and its statements.
 use Rattle.std.specs.Prelude.{◌≡◌, ℕ, ◌≤◌, ◌++◌, List, [], ◌∷◌, length, drop, Result, Ok, Err}
 use Rattle.vcm_code.specs.declared.code.Code.{Code}
 use Rattle.vcm_fields.specs.declared.fault.ImageFault.{ImageFault}
-use Rattle.vcm_fields.specs.Readers.{Reader, times, entry_at, name_at, line_at}
+use Rattle.vcm_fields.specs.Parts.{Line}
+use Rattle.vcm_fields.specs.Readers.{Reader, times, entry_at, name_at}
 use Rattle.vcm_image.specs.Whole.{Fits, code_at}
 
 -- the code that the bytes spell, or an empty one
@@ -32,11 +33,11 @@ pub record Table {A : Type 0} (a : Reader A) (count : ℕ) (whole bytes starts r
   pub begin : Begin a whole starts values
   pub end : IsEnd whole rest
 
--- the bytes spell a code, and its parts begin at these places
-pub record Indexed (bytes variables features frames statements : List ℕ) : Type 0 where
+-- the bytes spell a code, its variables and names begin at these places, and these are its statements
+pub record Indexed (bytes variables features frames : List ℕ) (statements : List Line) : Type 0 where
   pub is : code_at bytes ≡ Ok (code_in bytes)
   pub fits : Fits (code_in bytes)
   pub variables_begin : Begin entry_at bytes variables (code_in bytes).tables.variables
   pub features_begin : Begin name_at bytes features (code_in bytes).tables.features
   pub frames_begin : Begin name_at bytes frames (code_in bytes).tables.frames
-  pub statements_begin : Begin line_at bytes statements (code_in bytes).statements
+  pub statements_are : statements ≡ (code_in bytes).statements

@@ -9,4 +9,4 @@ returns-in_err-write_lines_head g c =
     rw p.1 (front_first _ _ _ _ _ refl c.in_err-write_lines_head.ensures)
 
 pub returns : goal.returns
-returns g c = wrote_then _ _ _ _ _ _ _ refl c.in_ok-write_lines_head.ensures (rw c.last.ensures at c.write_lines.ensures)
+returns g c = wrote_then _ _ _ _ _ _ _ refl c.in_ok-write_lines_head.ensures c.write_last_lines.ensures

@@ -2,7 +2,8 @@ use Rattle.std.proofs.Common.{◌≡◌, ◌≤◌, ◌+◌, ◌*◌, length, �
 use Rattle.vcm_expr.specs.Source.{is_small}
 use Rattle.vcm_expr.specs.inner.Parser.{more}
 use Rattle.vcm_expr.specs.inner.Levels.{chain_in, chain_op, link_in}
-use Rattle.vcm_expr.proofs.ParserRanks.{link_rank, under_rank}
+use Rattle.vcm_expr.specs.declared.levels.Chain.TheVariants.{Disjunction, Conjunction, Sum, Product}
+use Rattle.vcm_expr.proofs.ParserRanks.{under_rank}
 use Rattle.vcm_expr.proofs.parser.+parser.Given as goal
 
 abbrev pub decreases-primary : goal.decreases-primary
@@ -14,11 +15,17 @@ decreases-under l = 20 * length l.words + under_rank l.front
 abbrev pub decreases-fronted : goal.decreases-fronted
 decreases-fronted l = 20 * length l.words + under_rank l.front + 1
 
-abbrev pub decreases-link : goal.decreases-link
-decreases-link l = 20 * length l.words + link_rank l.level
+abbrev pub decreases-disjunction : goal.decreases-disjunction
+decreases-disjunction l = 20 * length l.words + 13
 
-abbrev pub decreases-chained : goal.decreases-chained
-decreases-chained l = 20 * length l.words + link_rank l.level + 1
+abbrev pub decreases-conjunction : goal.decreases-conjunction
+decreases-conjunction l = 20 * length l.words + 11
+
+abbrev pub decreases-sum : goal.decreases-sum
+decreases-sum l = 20 * length l.words + 6
+
+abbrev pub decreases-product : goal.decreases-product
+decreases-product l = 20 * length l.words + 4
 
 abbrev pub decreases-relation : goal.decreases-relation
 decreases-relation l = 20 * length l.words + 7
@@ -27,11 +34,38 @@ abbrev pub decreases-group : goal.decreases-group
 decreases-group l = 20 * length l.words + 14
 
 -- what is read so far, and what the rest adds to it
-abbrev pub invariant-chained-loop-op : goal.invariant-chained-loop-op
-invariant-chained-loop-op l = record {
+abbrev pub invariant-disjunction-loop-op : goal.invariant-disjunction-loop-op
+invariant-disjunction-loop-op l = record {
   shorter : length l.rest ≤ length l.fn.words;
-  runs : (n : ℕ) × (length l.rest ≤ n) × (chain_in l.level l.room l.fn.words ≡ more is_small (link_in l.level l.room) (chain_op l.level) n l.left l.rest);
+  runs : (n : ℕ) × (length l.rest ≤ n) × (chain_in Disjunction l.room l.fn.words ≡ more is_small (link_in Disjunction l.room) (chain_op Disjunction) n l.left l.rest);
 }
 
-abbrev pub decreases-chained-loop-op : goal.decreases-chained-loop-op
-decreases-chained-loop-op l = length l.rest
+abbrev pub decreases-disjunction-loop-op : goal.decreases-disjunction-loop-op
+decreases-disjunction-loop-op l = length l.rest
+
+abbrev pub invariant-conjunction-loop-op : goal.invariant-conjunction-loop-op
+invariant-conjunction-loop-op l = record {
+  shorter : length l.rest ≤ length l.fn.words;
+  runs : (n : ℕ) × (length l.rest ≤ n) × (chain_in Conjunction l.room l.fn.words ≡ more is_small (link_in Conjunction l.room) (chain_op Conjunction) n l.left l.rest);
+}
+
+abbrev pub decreases-conjunction-loop-op : goal.decreases-conjunction-loop-op
+decreases-conjunction-loop-op l = length l.rest
+
+abbrev pub invariant-sum-loop-op : goal.invariant-sum-loop-op
+invariant-sum-loop-op l = record {
+  shorter : length l.rest ≤ length l.fn.words;
+  runs : (n : ℕ) × (length l.rest ≤ n) × (chain_in Sum l.room l.fn.words ≡ more is_small (link_in Sum l.room) (chain_op Sum) n l.left l.rest);
+}
+
+abbrev pub decreases-sum-loop-op : goal.decreases-sum-loop-op
+decreases-sum-loop-op l = length l.rest
+
+abbrev pub invariant-product-loop-op : goal.invariant-product-loop-op
+invariant-product-loop-op l = record {
+  shorter : length l.rest ≤ length l.fn.words;
+  runs : (n : ℕ) × (length l.rest ≤ n) × (chain_in Product l.room l.fn.words ≡ more is_small (link_in Product l.room) (chain_op Product) n l.left l.rest);
+}
+
+abbrev pub decreases-product-loop-op : goal.decreases-product-loop-op
+decreases-product-loop-op l = length l.rest

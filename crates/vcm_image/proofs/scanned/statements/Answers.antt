@@ -1,20 +1,18 @@
-use Rattle.std.proofs.Common.{arith}
 use Rattle.std.proofs.lemmas.Result.{err_from_is_err_and}
 use Rattle.vcm_fields.specs.Readers.{line_at}
-use Rattle.vcm_fields.proofs.Parts.{reads_line}
-use Rattle.vcm_image.proofs.Tables.{filling, filled_more, filled_fails, filled}
+use Rattle.vcm_image.proofs.Tables.{none_read, one_more, one_fails, all_read}
 use Rattle.vcm_image.proofs.scanned.statements.Goals as goal
 
 pub loop-init : goal.loop-init
-loop-init c = rw c.new-starts.ensures.items (filling line_at _ _ _ c.requires (λ i. omega (arith, c.type_inv.bytes i)))
+loop-init c = rw (c.from_vec-read.ensures, c.in_ok-with_capacity.ensures.items) (none_read line_at _ _)
 
-pub returns-in_err-_statement-clause-err : goal.returns-in_err-_statement-clause-err
-returns-in_err-_statement-clause-err c =
-    let p = err_from_is_err_and c.from_residual.result c.from_residual.ensures.1 in
-    rw (p.1, p.2) (filled_fails line_at _ _ _ _ _ _ _ c.loop.invariant c.loop-test.true c.in_err-_statement.ensures)
+pub returns-in_err-next : goal.returns-in_err-next
+returns-in_err-next c =
+    let p = err_from_is_err_and c.from_residual-in_err-next.result c.from_residual-in_err-next.ensures.1 in
+    rw (p.1, p.2) (one_fails line_at _ _ _ _ _ _ c.loop.invariant c.loop-test.true c.in_err-next.ensures)
 
 pub loop-preserved : goal.loop-preserved
-loop-preserved c = filled_more reads_line _ _ _ _ _ _ _ _ _ c.loop.invariant c.loop-test.true c.in_ok-_statement.ensures c.in_ok-push.ensures.items
+loop-preserved c = one_more line_at _ _ _ _ _ _ _ _ c.loop.invariant c.loop-test.true c.in_ok-next.ensures c.in_ok-push.ensures.ok
 
-pub returns-clause-ok : goal.returns-clause-ok
-returns-clause-ok c = filled line_at _ _ _ _ _ _ c.loop.invariant c.loop-test.false
+pub returns : goal.returns
+returns c = all_read line_at _ _ _ _ _ c.loop.invariant c.loop-test.false

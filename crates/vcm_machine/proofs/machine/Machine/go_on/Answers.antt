@@ -11,7 +11,7 @@ pub carry_out-requires-clause-fits : goal.carry_out-requires-clause-fits
 carry_out-requires-clause-fits g c =
     let m = c.self.inside in
     let i = c.self.invariant in
-    let s = c.statement-statement.result in
+    let s = c.statement-statement.result.now in
     let at = kept_at m.loaded.now.statements m.next s c.statement-statement.ensures in
     fits (g.P.Part.part m.part.now) (code_of m.loaded.now) m.world m.next m.pairs i.0 i.1 (statement_of s) at
 
@@ -19,7 +19,7 @@ pub carry_out-requires-clause-range : goal.carry_out-requires-clause-range
 carry_out-requires-clause-range g c =
     let m = c.self.inside in
     let i = c.self.invariant in
-    let s = c.statement-statement.result in
+    let s = c.statement-statement.result.now in
     let at = kept_at m.loaded.now.statements m.next s c.statement-statement.ensures in
     range_is (g.P.Part.part m.part.now) (code_of m.loaded.now) m.world m.next m.pairs i.0 i.1 (statement_of s) at
 
@@ -27,7 +27,7 @@ pub invariant_of-self : goal.invariant_of-self
 invariant_of-self g c =
     let m = c.self.inside in
     let i = c.self.invariant in
-    let s = c.statement-statement.result in
+    let s = c.statement-statement.result.now in
     let at = kept_at m.loaded.now.statements m.next s c.statement-statement.ensures in
     let none : m.world.state.stop ≡ None = rw (← c.self.view_is) at c.requires in
     let h = rw c.in-Ok.next-is at (c.in-Ok.ensures.gone s.line) in
@@ -39,7 +39,7 @@ pub invariant_of-self-in-Err-Stop : goal.invariant_of-self-in-Err-Stop
 invariant_of-self-in-Err-Stop g c =
     let m = c.self.inside in
     let i = c.self.invariant in
-    let s = c.statement-statement.result in
+    let s = c.statement-statement.result.now in
     let at = kept_at m.loaded.now.statements m.next s c.statement-statement.ensures in
     let none : m.world.state.stop ≡ None = rw (← c.self.view_is) at c.requires in
     let h = rw c.in-Err-Stop.field-0-is at (c.in-Err-Stop.ensures.gone s.line) in
@@ -50,7 +50,7 @@ pub invariant_of-self-in-Err-NoMemory : goal.invariant_of-self-in-Err-NoMemory
 invariant_of-self-in-Err-NoMemory g c =
     let m = c.self.inside in
     let i = c.self.invariant in
-    let s = c.statement-statement.result in
+    let s = c.statement-statement.result.now in
     let h = rw c.in-Err-NoMemory.field-0-is at (c.in-Err-NoMemory.ensures.gone s.line) in
     (c.in-Err-NoMemory.ensures.tables ∙ i.0, i.1, i.2, subst (Rests (g.P.Part.part m.part.now)) (sym h.1) i.3)
 
@@ -58,7 +58,7 @@ pub returns-in-Ok-clause-ok : goal.returns-in-Ok-clause-ok
 returns-in-Ok-clause-ok g c =
     let m = c.self.inside in
     let i = c.self.invariant in
-    let s = c.statement-statement.result in
+    let s = c.statement-statement.result.now in
     let at = kept_at m.loaded.now.statements m.next s c.statement-statement.ensures in
     let none : m.world.state.stop ≡ None = rw (← c.self.view_is) at c.requires in
     let h = rw c.in-Ok.next-is at (c.in-Ok.ensures.gone s.line) in
@@ -68,7 +68,7 @@ pub returns-in-Err-Stop-clause-ok : goal.returns-in-Err-Stop-clause-ok
 returns-in-Err-Stop-clause-ok g c =
     let m = c.self.inside in
     let i = c.self.invariant in
-    let s = c.statement-statement.result in
+    let s = c.statement-statement.result.now in
     let at = kept_at m.loaded.now.statements m.next s c.statement-statement.ensures in
     let none : m.world.state.stop ≡ None = rw (← c.self.view_is) at c.requires in
     let h = rw c.in-Err-Stop.field-0-is at (c.in-Err-Stop.ensures.gone s.line) in
@@ -78,7 +78,7 @@ pub returns-in-Err-NoMemory-clause-err : goal.returns-in-Err-NoMemory-clause-err
 returns-in-Err-NoMemory-clause-err g c =
     let m = c.self.inside in
     let i = c.self.invariant in
-    let s = c.statement-statement.result in
+    let s = c.statement-statement.result.now in
     let at = kept_at m.loaded.now.statements m.next s c.statement-statement.ensures in
     let none : m.world.state.stop ≡ None = rw (← c.self.view_is) at c.requires in
     let h = rw c.in-Err-NoMemory.field-0-is at (c.in-Err-NoMemory.ensures.gone s.line) in

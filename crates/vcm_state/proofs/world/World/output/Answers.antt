@@ -34,4 +34,4 @@ returns c part =
     let hf = rw (← c.self.view_is) at c.in-Ok.ensures in
     let name : c.as_bytes.result.now ≡ unwrap_or (slice_get c.self.inside.tables.features c.args.feature) [] =
     c.as_bytes.ensures.is ∙ c.name_at-name.ensures ∙ ap (λ fs. unwrap_or (slice_get fs c.args.feature) []) c.features.ensures in
-    rw (← c.self.view_is, c.in_ok-push.ensures.ok, c.in_ok-line.ensures, name) (printed _ _ _ _ _ hf ∙ text_goes _ _ _ n, refl)
+    rw (← c.self.view_is, c.in_ok-push.ensures.ok, c.as_slice.ensures, c.in_ok-line.ensures, name) (printed _ _ _ _ _ hf ∙ text_goes _ _ _ n, refl)

@@ -1,0 +1,23 @@
+//! The tests of images, runs, listings and the debugger, from their texts.
+#![tactic(auto)]
+
+#[cfg(test)]
+mod debug_tests;
+#[cfg(test)]
+mod image_tests;
+#[cfg(test)]
+mod listing_tests;
+#[cfg(test)]
+mod loader_tests;
+#[cfg(test)]
+mod macro_tests;
+#[cfg(test)]
+mod measuring_tests;
+#[cfg(test)]
+mod plain;
+#[cfg(test)]
+mod run_tests;
+#[cfg(test)]
+mod runs;
+#[cfg(test)]
+mod strip_tests;

@@ -1,0 +1,147 @@
+//! Images loaded: what loads, and each refusal.
+
+use crate::image_tests::image_of;
+use crate::plain::judged;
+use std::alloc::Global;
+use vcm_code::Op;
+use vcm_fields::ImageFault;
+use vcm_loader::{ItemSlice, load};
+use vcm_spec::{Item, Operand};
+use vcm_test_texts::{MOVE, changed};
+
+// The number of a refusal.
+fn number(fault: ImageFault) -> u8 {
+    match fault {
+        ImageFault::NoMemory => 0,
+        ImageFault::BadMagic => 1,
+        ImageFault::Short => 2,
+        ImageFault::BadVersion => 3,
+        ImageFault::BadField => 4,
+        ImageFault::Trailing => 5,
+        ImageFault::BadIndex => 6,
+        ImageFault::BadTarget => 7,
+        ImageFault::BadOperand => 8,
+        ImageFault::RunsOff => 9,
+    }
+}
+
+// The number of the refusal of bytes, none where they load.
+fn refusal(alloc: Global, bytes: &[u8]) -> Option<u8> {
+    match load(alloc, bytes) {
+        Ok(_) => None,
+        Err(fault) => Some(number(fault)),
+    }
+}
+
+// The same of an image with a byte in another one's place; 10 where there is no such place.
+fn refusal_of(alloc: Global, image: &[u8], place: usize, byte: u8) -> Option<u8> {
+    match changed(alloc, image, place, byte) {
+        Some(bytes) => refusal(alloc, &bytes),
+        None => Some(10),
+    }
+}
+
+#[test]
+fn a_changed_byte(rt: HostRuntime) {
+    assert!(rt; refusal(rt.alloc(), &MOVE).is_none());
+    for (place, byte, wanted) in [
+        (0, 0x57, Some(1)),
+        (12, 1, Some(5)),
+        (12, 3, Some(2)),
+        (23, 2, Some(8)),
+        (57, 2, Some(9)),
+        (24, 21, None),
+    ] {
+        assert!(rt; refusal_of(rt.alloc(), &MOVE, place, byte) == wanted);
+    }
+}
+
+// Whether the loader says of all other values of a byte of the image what the plain reader says.
+fn agree_at(alloc: Global, place: usize) -> bool {
+    for byte in 0..=255 {
+        let Some(bytes) = changed(alloc, &MOVE, place, byte) else {
+            return false;
+        };
+        if refusal(alloc, &bytes) != judged(alloc, &bytes).err() {
+            return false;
+        }
+    }
+    true
+}
+
+#[test]
+fn each_changed_byte(rt: HostRuntime) {
+    for place in 0..62 {
+        assert!(rt; agree_at(rt.alloc(), place));
+    }
+}
+
+// How many of all other values of the bytes from one place to before another get a refusal.
+fn refused(alloc: Global, from: usize, to: usize, wanted: u8) -> usize {
+    let mut count: usize = 0;
+    for place in from..to {
+        for byte in 0..=255 {
+            if refusal_of(alloc, &MOVE, place, byte) == Some(wanted) {
+                count = count.saturating_add(1);
+            }
+        }
+    }
+    count
+}
+
+#[test]
+fn all_other_magic_bytes_and_versions(rt: HostRuntime) {
+    assert!(rt; refused(rt.alloc(), 0, 4, 1) == 1020);
+    assert!(rt; refused(rt.alloc(), 4, 6, 3) == 510);
+}
+
+// The number of the refusal of a program's image, with a byte in another one's place; 10 where it has none.
+fn of_program(alloc: Global, statements: &str, place: usize, byte: u8) -> Option<u8> {
+    match image_of(alloc, statements) {
+        Some(image) => refusal_of(alloc, &image, place, byte),
+        None => Some(10),
+    }
+}
+
+#[test]
+fn targets(rt: HostRuntime) {
+    let program = "DECL/INTGR,I\nDO/I,1,5\nJUMPTO/(PAST)\nENDDO\n(PAST)\n";
+    assert!(rt; of_program(rt.alloc(), program, 73, 3).is_none());
+    assert!(rt; of_program(rt.alloc(), program, 73, 4).is_none());
+    assert!(rt; of_program(rt.alloc(), program, 73, 5) == Some(7));
+}
+
+// The items of the first coordinate of a move, when what was loaded is gone.
+fn first_items(alloc: Global, bytes: &[u8]) -> Option<ItemSlice<'_>> {
+    let loaded = load(alloc, bytes).ok()?;
+    if loaded.statement_count() == 0 {
+        return None;
+    }
+    match &loaded.statement(0).op {
+        Op::Goto(x, _, _) => Some(x.again()),
+        _ => None,
+    }
+}
+
+#[test]
+fn items_outlive_what_was_loaded(rt: HostRuntime) {
+    let first = first_items(rt.alloc(), &MOVE).and_then(|items| items.split_first());
+    assert!(rt; matches!(first, Some((Item::Push(Operand::Integer(20)), _))));
+}
+
+// The value of the third expression of the first statement, if it is a move.
+fn height(alloc: Global, bytes: &[u8]) -> Option<i64> {
+    let loaded = load(alloc, bytes).ok()?;
+    if loaded.statement_count() == 0 || loaded.variable_count() != 0 {
+        return None;
+    }
+    match &loaded.statement(0).op {
+        Op::Goto(_, _, _) => loaded.value(alloc, 0, 2, &[]).ok(),
+        _ => None,
+    }
+}
+
+#[test]
+fn the_value_of_an_expression(rt: HostRuntime) {
+    assert!(rt; height(rt.alloc(), &MOVE) == Some(50_000));
+}

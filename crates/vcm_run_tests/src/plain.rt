@@ -1,0 +1,464 @@
+//! A plain reader of images, which shares nothing with the product's: which refusal bytes are to get, by its number, or none.
+
+use std::alloc::Global;
+
+// The kinds of the variables, and how many features, frames and statements there are.
+#[derive(Drop)]
+struct Counts {
+    kinds: Vec<u8>,
+    features: u32,
+    frames: u32,
+    statements: u32,
+}
+
+// A byte of at most this.
+fn byte(bytes: &[u8], most: u8) -> Result<(u8, &[u8]), u8> {
+    match bytes {
+        [] => Err(2),
+        [first, ..] if *first > most => Err(4),
+        [first, rest @ ..] => Ok((*first, rest)),
+    }
+}
+
+// A number of two bytes.
+fn short(bytes: &[u8]) -> Result<(u32, &[u8]), u8> {
+    match bytes {
+        [a, b, rest @ ..] => Ok((u32::from(*a) + 256 * u32::from(*b), rest)),
+        _ => Err(2),
+    }
+}
+
+// A number of four bytes.
+fn long(bytes: &[u8]) -> Result<(u32, &[u8]), u8> {
+    let (low, rest) = short(bytes)?;
+    let (high, rest) = short(rest)?;
+    Ok((low | high << 16, rest))
+}
+
+// Eight bytes, of any value.
+fn eight(bytes: &[u8]) -> Result<&[u8], u8> {
+    bytes.get(8..).ok_or(2)
+}
+
+// A count of at most this.
+fn count(bytes: &[u8], most: u32) -> Result<(u32, &[u8]), u8> {
+    let (number, rest) = short(bytes)?;
+    if number > most {
+        Err(4)
+    } else {
+        Ok((number, rest))
+    }
+}
+
+// A name, of a variable or another.
+fn name(bytes: &[u8], is_variable: bool) -> Result<&[u8], u8> {
+    let (length, rest) = byte(bytes, 16)?;
+    if length == 0 {
+        return Err(4);
+    }
+    if rest.len() < usize::from(length) {
+        return Err(2);
+    }
+    let (front, rest) = rest.split_at(usize::from(length));
+    for (i, b) in front.iter().enumerate() {
+        let is_letter = b.is_ascii_uppercase();
+        if !is_letter && (is_variable && i == 0 || !b.is_ascii_digit() && *b != b'_') {
+            return Err(4);
+        }
+    }
+    Ok(rest)
+}
+
+// A text.
+fn text(bytes: &[u8]) -> Result<&[u8], u8> {
+    let (length, rest) = count(bytes, 1024)?;
+    if rest.len() < length as usize {
+        return Err(2);
+    }
+    let (front, rest) = rest.split_at(length as usize);
+    for b in front {
+        if *b != 9 && (*b < 32 || *b == 39 || *b == 127) {
+            return Err(4);
+        }
+    }
+    Ok(rest)
+}
+
+// An item: its tag, and its index where it is a variable.
+fn item(bytes: &[u8]) -> Result<((u8, u32), &[u8]), u8> {
+    let (tag, rest) = byte(bytes, 255)?;
+    match tag {
+        1 | 2 => Ok(((tag, 0), eight(rest)?)),
+        3 => {
+            let (_, rest) = byte(rest, 1)?;
+            Ok(((tag, 0), rest))
+        }
+        4 => {
+            let (index, rest) = short(rest)?;
+            Ok(((tag, index), rest))
+        }
+        16..22 | 32..38 | 48..51 => Ok(((tag, 0), rest)),
+        _ => Err(4),
+    }
+}
+
+// The kind of two values joined by an operator, if it takes them.
+fn joined(tag: u8, a: u8, b: u8) -> Option<u8> {
+    match (tag, a, b) {
+        (17 | 18, 0, 0) | (17 | 18, 1, 1) => Some(a),
+        (19 | 20, 0, 0) => Some(0),
+        (19, 0, 1) | (19, 1, 0) | (20, 1, 0) => Some(1),
+        (32..38, 0, 0) | (32..38, 1, 1) => Some(2),
+        (49 | 50, 2, 2) => Some(2),
+        _ => None,
+    }
+}
+
+// What an item makes of the stack of kinds; none where it may not.
+fn step(stack: &mut Vec<u8>, kinds: &[u8], tag: u8, index: u32) -> Option<()> {
+    let kind = match tag {
+        1 => 0,
+        2 => 1,
+        3 => 2,
+        4 => *kinds.get(index as usize)?,
+        16 => match stack.pop()? {
+            2 => return None,
+            kind => kind,
+        },
+        21 => match stack.pop()? {
+            0 => 1,
+            _ => return None,
+        },
+        48 => match stack.pop()? {
+            2 => 2,
+            _ => return None,
+        },
+        _ => {
+            let b = stack.pop()?;
+            let a = stack.pop()?;
+            joined(tag, a, b)?
+        }
+    };
+    if stack.len() >= 32 {
+        return None;
+    }
+    stack.push(kind).ok()
+}
+
+// Whether the items have a kind.
+fn has_kind(alloc: Global, items: &[(u8, u32)], kinds: &[u8], want: u8) -> bool {
+    let mut stack = Vec::new(alloc);
+    for (tag, index) in items {
+        if step(&mut stack, kinds, *tag, *index).is_none() {
+            return false;
+        }
+    }
+    stack.as_slice() == [want].as_slice()
+}
+
+// So many items.
+fn items_of(alloc: Global, number: u32, bytes: &[u8]) -> Result<(Vec<(u8, u32)>, &[u8]), u8> {
+    let mut items = Vec::new(alloc);
+    let mut rest = bytes;
+    for _ in 0..number {
+        let (found, after) = item(rest)?;
+        items.push(found).or(Err(0))?;
+        rest = after;
+    }
+    Ok((items, rest))
+}
+
+// Whether the variables of items are there, and the items have this kind.
+fn judge_items(alloc: Global, items: &[(u8, u32)], counts: &Counts, want: u8) -> Result<(), u8> {
+    for (tag, index) in items {
+        if *tag == 4 && *index as usize >= counts.kinds.len() {
+            return Err(6);
+        }
+    }
+    if has_kind(alloc, items, counts.kinds.as_slice(), want) {
+        Ok(())
+    } else {
+        Err(8)
+    }
+}
+
+// An expression; where it is judged, of this kind.
+fn expression<'a>(
+    alloc: Global,
+    bytes: &'a [u8],
+    judged: Option<&Counts>,
+    want: u8,
+) -> Result<&'a [u8], u8> {
+    let (number, bytes) = count(bytes, 1024)?;
+    if number == 0 {
+        return Err(4);
+    }
+    let (items, rest) = items_of(alloc, number, bytes)?;
+    let answer = match judged {
+        Some(counts) => judge_items(alloc, items.as_slice(), counts, want),
+        None => Ok(()),
+    };
+    answer.map(|()| rest)
+}
+
+// A variable and its kind: of this one, where one is wanted.
+fn variable<'a>(
+    bytes: &'a [u8],
+    judged: Option<&Counts>,
+    want: Option<u8>,
+) -> Result<(u8, &'a [u8]), u8> {
+    let (index, rest) = short(bytes)?;
+    match judged {
+        None => Ok((0, rest)),
+        Some(counts) => match (counts.kinds.get(index as usize), want) {
+            (None, _) => Err(6),
+            (Some(kind), Some(wanted)) if *kind != wanted => Err(8),
+            (Some(kind), _) => Ok((*kind, rest)),
+        },
+    }
+}
+
+// An index of a feature, or else of a frame.
+fn index<'a>(bytes: &'a [u8], judged: Option<&Counts>, is_feature: bool) -> Result<&'a [u8], u8> {
+    let (index, rest) = short(bytes)?;
+    match judged {
+        Some(counts) if is_feature && index >= counts.features => Err(6),
+        Some(counts) if !is_feature && index >= counts.frames => Err(6),
+        _ => Ok(rest),
+    }
+}
+
+// A target.
+fn target<'a>(bytes: &'a [u8], judged: Option<&Counts>) -> Result<&'a [u8], u8> {
+    let (number, rest) = long(bytes)?;
+    match judged {
+        Some(counts) if number >= counts.statements => Err(7),
+        _ => Ok(rest),
+    }
+}
+
+// A byte from one number to another.
+fn byte_within(bytes: &[u8], least: u8, most: u8) -> Result<&[u8], u8> {
+    match byte(bytes, most) {
+        Ok((found, _)) if found < least => Err(4),
+        Ok((_, rest)) => Ok(rest),
+        Err(refusal) => Err(refusal),
+    }
+}
+
+// A variable, and an expression of its kind.
+fn assigned<'a>(alloc: Global, bytes: &'a [u8], judged: Option<&Counts>) -> Result<&'a [u8], u8> {
+    let (kind, rest) = variable(bytes, judged, None)?;
+    expression(alloc, rest, judged, kind)
+}
+
+// A part of a statement's operands. The kinds are 0 a whole number, 1 a real number, 2 a truth value.
+#[derive(Clone, Copy)]
+enum Part {
+    // A variable, and an expression of its kind.
+    Assigned,
+    // A byte from one number to another.
+    Byte(u8, u8),
+    // An expression of a kind.
+    Expression(u8),
+    Feature,
+    Frame,
+    Target,
+    Text,
+    // A variable of a kind.
+    Variable(u8),
+}
+
+const REAL: Part = Part::Expression(1);
+
+const WHOLE: Part = Part::Expression(0);
+
+// The parts of each kind of statements.
+const PARTS: [&[Part]; 22] = [
+    &[],
+    &[REAL, REAL, REAL],
+    &[],
+    &[Part::Assigned],
+    &[Part::Expression(2), Part::Target],
+    &[Part::Target],
+    &[],
+    &[
+        Part::Variable(0),
+        Part::Byte(0, 31),
+        WHOLE,
+        WHOLE,
+        WHOLE,
+        Part::Target,
+    ],
+    &[Part::Variable(0), Part::Byte(0, 31), Part::Target],
+    &[],
+    &[Part::Target],
+    &[Part::Feature, REAL, REAL, REAL, Part::Byte(0, 5)],
+    &[Part::Feature],
+    &[Part::Feature, REAL, REAL, REAL, Part::Byte(0, 6)],
+    &[],
+    &[Part::Byte(0, 3), REAL],
+    &[Part::Frame, REAL, REAL, REAL],
+    &[Part::Frame, Part::Byte(0, 2), Part::Byte(0, 3)],
+    &[Part::Frame],
+    &[
+        Part::Variable(1),
+        Part::Byte(0, 1),
+        Part::Feature,
+        Part::Byte(3, 8),
+    ],
+    &[Part::Byte(0, 1), Part::Feature],
+    &[Part::Text],
+];
+
+// The bytes behind a part.
+fn judge_part<'a>(
+    alloc: Global,
+    part: Part,
+    bytes: &'a [u8],
+    judged: Option<&Counts>,
+) -> Result<&'a [u8], u8> {
+    match part {
+        Part::Assigned => assigned(alloc, bytes, judged),
+        Part::Byte(least, most) => byte_within(bytes, least, most),
+        Part::Expression(kind) => expression(alloc, bytes, judged, kind),
+        Part::Feature => index(bytes, judged, true),
+        Part::Frame => index(bytes, judged, false),
+        Part::Target => target(bytes, judged),
+        Part::Text => text(bytes),
+        Part::Variable(kind) => match variable(bytes, judged, Some(kind)) {
+            Ok((_, rest)) => Ok(rest),
+            Err(refusal) => Err(refusal),
+        },
+    }
+}
+
+// The bytes behind these parts.
+fn judge_parts<'a>(
+    alloc: Global,
+    parts: &[Part],
+    bytes: &'a [u8],
+    judged: Option<&Counts>,
+) -> Result<&'a [u8], u8> {
+    let mut rest = bytes;
+    for part in parts {
+        rest = judge_part(alloc, *part, rest, judged)?;
+    }
+    Ok(rest)
+}
+
+// The bytes behind the operands of a kind of statements.
+fn operands<'a>(
+    alloc: Global,
+    kind: u8,
+    bytes: &'a [u8],
+    judged: Option<&Counts>,
+) -> Result<&'a [u8], u8> {
+    match PARTS.get(usize::from(kind)) {
+        Some(parts) => judge_parts(alloc, parts, bytes, judged),
+        None => Err(4),
+    }
+}
+
+// So many statements: whether the last one is ENDFIL, and the bytes behind them.
+fn statements<'a>(
+    alloc: Global,
+    number: u32,
+    bytes: &'a [u8],
+    judged: Option<&Counts>,
+) -> Result<(bool, &'a [u8]), u8> {
+    let mut rest = bytes;
+    let mut is_end = false;
+    for _ in 0..number {
+        let (kind, after) = byte(rest, 21)?;
+        let (_, after) = long(after)?;
+        rest = operands(alloc, kind, after, judged)?;
+        is_end = kind == 0;
+    }
+    Ok((is_end, rest))
+}
+
+// So many names.
+fn names(number: u32, bytes: &[u8]) -> Result<&[u8], u8> {
+    let mut rest = bytes;
+    for _ in 0..number {
+        rest = name(rest, false)?;
+    }
+    Ok(rest)
+}
+
+// The kinds of so many variables.
+fn kinds(alloc: Global, number: u32, bytes: &[u8]) -> Result<(Vec<u8>, &[u8]), u8> {
+    let mut kinds = Vec::new(alloc);
+    let mut rest = bytes;
+    for _ in 0..number {
+        let (kind, after) = byte(rest, 2)?;
+        let (_, after) = long(after)?;
+        rest = name(after, true)?;
+        kinds.push(kind).or(Err(0))?;
+    }
+    Ok((kinds, rest))
+}
+
+// How many variables, features, frames and statements there are.
+#[derive(Clone, Copy)]
+struct Header {
+    variables: u32,
+    features: u32,
+    frames: u32,
+    statements: u32,
+}
+
+// The bytes behind the magic bytes and the version.
+fn opened(bytes: &[u8]) -> Result<&[u8], u8> {
+    let (magic, rest) = long(bytes)?;
+    if magic != u32::from_le_bytes(*b"VCMI") {
+        return Err(1);
+    }
+    match short(rest)? {
+        (1, rest) => Ok(rest),
+        _ => Err(3),
+    }
+}
+
+// The header, and the bytes behind it.
+fn read_header(bytes: &[u8]) -> Result<(Header, &[u8]), u8> {
+    let (variables, rest) = count(opened(bytes)?, 4096)?;
+    let (features, rest) = count(rest, 4096)?;
+    let (frames, rest) = count(rest, 4096)?;
+    let (statements, rest) = long(rest)?;
+    if statements > 20_000 {
+        return Err(4);
+    }
+    let header = Header {
+        variables,
+        features,
+        frames,
+        statements,
+    };
+    Ok((header, rest))
+}
+
+// Whether what stands behind the variables is in order.
+fn judged_behind(alloc: Global, counts: &Counts, bytes: &[u8]) -> Result<(), u8> {
+    let body = names(counts.frames, names(counts.features, bytes)?)?;
+    let (_, rest) = statements(alloc, counts.statements, body, None)?;
+    if !rest.is_empty() {
+        return Err(5);
+    }
+    let (is_end, _) = statements(alloc, counts.statements, body, Some(counts))?;
+    if is_end { Ok(()) } else { Err(9) }
+}
+
+/// Whether the bytes are the image of a valid code; or else the number of the refusal that they are to get, 1 to 9.
+pub(crate) fn judged(alloc: Global, bytes: &[u8]) -> Result<(), u8> {
+    let (header, rest) = read_header(bytes)?;
+    let (kinds, rest) = kinds(alloc, header.variables, rest)?;
+    let counts = Counts {
+        kinds,
+        features: header.features,
+        frames: header.frames,
+        statements: header.statements,
+    };
+    judged_behind(alloc, &counts, rest)
+}

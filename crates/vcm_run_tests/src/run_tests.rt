@@ -1,0 +1,278 @@
+//! Runs of whole programs, from their text, for so many steps.
+
+use crate::image_tests::image_of;
+use crate::runs::{has_values, is_printed, is_refused, prints, shows};
+use std::alloc::Global;
+use vcm_fields::ImageFault;
+use vcm_lines::{FaultCode, SourceFault};
+use vcm_motion::Blocks;
+use vcm_part::read_part;
+use vcm_run::{End, Ran, Summary, run_image};
+use vcm_spec::{Stop, StopPlace};
+use vcm_test_texts::{BOUNDS, MOVE, ONE_BLOCK, changed, joined};
+
+// Whether a summary is that of these steps, this next number and one notice, and prints this.
+fn is_shown(alloc: Global, summary: &Summary, ran: Ran, next: u32, output: &str) -> bool {
+    summary.ran() == ran
+        && summary.next() == next
+        && summary.notices().len() == 1
+        && is_printed(alloc, summary, output)
+}
+
+// Whether the run of a move shows this after so many steps.
+fn moves(alloc: Global, n: u64, ran: Ran, next: u32, output: &str) -> bool {
+    shows(
+        alloc,
+        ONE_BLOCK,
+        "MODE/MAN\nGOTO/20,20,50\n",
+        n,
+        |summary| { is_shown(alloc, summary, ran, next, output) },
+    )
+}
+
+#[test]
+fn so_many_steps(rt: HostRuntime) {
+    let at_home = "no stop after 0 steps\nposition 0.000 0.000 100.000\nsteps 0\n";
+    let moved = "no stop after 1 steps\nposition 20.000 20.000 50.000\nsteps 1\n";
+    let ended = "stop ENDED\nposition 20.000 20.000 50.000\nsteps 2\n";
+    for (n, done, end, next, output) in [
+        (0, 0, End::Count, 0, at_home),
+        (1, 1, End::Count, 1, moved),
+        (2, 2, End::Stopped, 1, ended),
+        (5, 2, End::Stopped, 1, ended),
+    ] {
+        assert!(rt;
+            moves(rt.alloc(), n, Ran { done, end }, next, output),
+            "{output}"
+        );
+    }
+}
+
+#[test]
+fn values(rt: HostRuntime) {
+    let rows: [(&str, &[i64]); 13] = [
+        ("DECL/REAL,X\nX=ASSIGN/12.3450\n", &[12_345]),
+        ("DECL/REAL,X\nX=ASSIGN/.5\n", &[500]),
+        ("DECL/REAL,X\nX=ASSIGN/12.\n", &[12_000]),
+        ("DECL/REAL,X\nX=ASSIGN/20\n", &[20_000]),
+        ("DECL/DOUBLE,X\nX=ASSIGN/1.5*2\n", &[3_000]),
+        ("DECL/INTGR,I\nI=ASSIGN/1/0\n", &[0]),
+        ("DECL/LONG,I\nI=ASSIGN/-7/2\n", &[-3]),
+        ("DECL/INTGR,I\nI=ASSIGN/1+2*3\n", &[7]),
+        ("DECL/INTGR,I,J\nJ=ASSIGN/7\n", &[0, 7]),
+        ("DECL/INTGR,I\nI=ASSIGN/1\nI=ASSIGN/I+1\n", &[2]),
+        ("DECL/REAL,X\nX=ASSIGN/1\nDECL/REAL,Y\n", &[1_000, 0]),
+        ("DECL/BOOL,A,B\nB=ASSIGN/1.EQ.1.000\n", &[0, 1]),
+        ("DECL/BOOL,A\nA=ASSIGN/.TRUE.\nA=ASSIGN/.NOT.A\n", &[0]),
+    ];
+    for (statements, values) in rows {
+        assert!(rt;
+            has_values(rt.alloc(), ONE_BLOCK, statements, values),
+            "{statements}"
+        );
+    }
+}
+
+// The loop of three rounds, and the same with other values of its DO.
+const ROUNDS: &str = "DECL/INTGR,I\nDO/I,1,3,1\nTEXT/OPER,'A'\nENDDO\n";
+
+const NO_ROUND: &str = "DECL/INTGR,I\nDO/I,3,1\nTEXT/OPER,'A'\nENDDO\n";
+
+const NO_STEP: &str = "DECL/INTGR,I\nDO/I,1,3,0\nTEXT/OPER,'A'\nENDDO\n";
+
+const LAST_NUMBERS: &str =
+    "DECL/INTGR,I\nDO/I,9223372036854775806,9223372036854775807\nTEXT/OPER,'A'\nENDDO\n";
+
+const MANY_ROUNDS: &str = "DECL/INTGR,I\nDO/I,1,100001\nTEXT/OPER,'A'\nENDDO\n";
+
+// A loop in a loop, with a jump out of both.
+const AGAIN: &str =
+    "DECL/INTGR,I,J,K\n(AGAIN)\nDO/I,1,2\nDO/J,1,2+K\nIF/(K.EQ.0)\nK=ASSIGN/1\nJUMPTO/(AGAIN)\nENDIF\nTEXT/OPER,'X'\nENDDO\nENDDO\n";
+
+// A jump out of a loop.
+const PAST: &str = "DECL/INTGR,I\nDO/I,1,5\nJUMPTO/(PAST)\nENDDO\n(PAST)\n";
+
+#[test]
+fn loops_and_jumps(rt: HostRuntime) {
+    for (statements, n, output) in [
+        (
+            ROUNDS,
+            100,
+            "A\nA\nA\nstop ENDED\nposition 0.000 0.000 100.000\nsteps 8\n",
+        ),
+        (
+            ROUNDS,
+            3,
+            "A\nno stop after 3 steps\nposition 0.000 0.000 100.000\nsteps 3\n",
+        ),
+        (
+            NO_ROUND,
+            100,
+            "stop ENDED\nposition 0.000 0.000 100.000\nsteps 2\n",
+        ),
+        (
+            NO_STEP,
+            100,
+            "stop ZEROSTEP at 0 line 4\nposition 0.000 0.000 100.000\nsteps 1\n",
+        ),
+        (
+            LAST_NUMBERS,
+            100,
+            "A\nA\nstop OVERFLOW at 2 line 6\nposition 0.000 0.000 100.000\nsteps 5\n",
+        ),
+        (
+            AGAIN,
+            100,
+            "X\nX\nX\nX\nX\nX\nstop ENDED\nposition 0.000 0.000 100.000\nsteps 37\n",
+        ),
+        (
+            PAST,
+            100,
+            "stop ENDED\nposition 0.000 0.000 100.000\nsteps 4\n",
+        ),
+    ] {
+        assert!(rt;
+            prints(rt.alloc(), ONE_BLOCK, statements, n, output),
+            "{output}"
+        );
+    }
+}
+
+#[test]
+fn values_behind_loops_and_jumps(rt: HostRuntime) {
+    let rows: [(&str, &[i64]); 6] = [
+        (ROUNDS, &[4]),
+        (NO_ROUND, &[3]),
+        (NO_STEP, &[0]),
+        (LAST_NUMBERS, &[9_223_372_036_854_775_807]),
+        (AGAIN, &[3, 4, 1]),
+        (PAST, &[1]),
+    ];
+    for (statements, values) in rows {
+        assert!(rt;
+            has_values(rt.alloc(), ONE_BLOCK, statements, values),
+            "{statements}"
+        );
+    }
+}
+
+// Whether a run has filled the output, and stopped at the text on line 5.
+fn is_full(summary: &Summary) -> bool {
+    let place = StopPlace {
+        stop: Stop::OutputFull,
+        number: 1,
+        line: 5,
+    };
+    summary.world().stop() == Some(place)
+        && summary.world().lines().len() == 100_000
+        && summary.ran().done == 200_002
+}
+
+#[test]
+fn too_many_lines(rt: HostRuntime) {
+    assert!(rt;
+        shows(
+            rt.alloc(),
+            ONE_BLOCK,
+            MANY_ROUNDS,
+            1_000_000,
+            |summary| is_full(summary)
+        )
+    );
+}
+
+// Whether this is the number of the next statement, and whether the run has stopped.
+fn is_next(summary: &Summary, next: u32, is_stopped: bool) -> bool {
+    summary.next() == next && summary.world().stop().is_some() == is_stopped
+}
+
+// Whether a run goes on so after so many steps.
+fn goes_on(alloc: Global, statements: &str, n: u64, next: u32, is_stopped: bool) -> bool {
+    shows(alloc, ONE_BLOCK, statements, n, |summary| {
+        is_next(summary, next, is_stopped)
+    })
+}
+
+#[test]
+fn both_ways_of_a_choice(rt: HostRuntime) {
+    let chosen = "IF/(.TRUE.)\nTEXT/OPER,'A'\nELSE\nTEXT/OPER,'B'\nENDIF\n";
+    let other = "IF/(.FALSE.)\nTEXT/OPER,'A'\nELSE\nTEXT/OPER,'B'\nENDIF\n";
+    for (statements, n, next, is_stopped) in [
+        (chosen, 1, 1, false),
+        (chosen, 2, 2, false),
+        (chosen, 3, 5, false),
+        (chosen, 4, 5, true),
+        (other, 1, 3, false),
+        (other, 2, 4, false),
+        (other, 3, 5, false),
+        (other, 4, 5, true),
+    ] {
+        assert!(rt; goes_on(rt.alloc(), statements, n, next, is_stopped));
+    }
+}
+
+#[test]
+fn a_jump_into_a_loop(rt: HostRuntime) {
+    let statements = "DECL/INTGR,I\nJUMPTO/(IN)\nDO/I,1,2\n(IN)\nENDDO\n";
+    let code = FaultCode::JumpInward;
+    assert!(rt; is_refused(rt.alloc(), statements, SourceFault { code, line: 4 }));
+}
+
+// Whether the run of an image beside one block passes a test. No other function owns the summary of an image.
+fn judged<F: Fn(&Result<Summary, ImageFault>) -> bool>(
+    alloc: Global,
+    image: &[u8],
+    test: F,
+) -> Option<bool>
+    requires { F.IsAlwaysCallable test }
+{
+    let file = joined(alloc, &[BOUNDS, ONE_BLOCK])?;
+    let part = read_part(alloc, file.as_bytes()).ok()?;
+    let answer = run_image(alloc, &Blocks::new(&part), image, 100);
+    Some(test(&answer))
+}
+
+// Whether the run of a program's image prints this, and gives no notice.
+fn image_prints(alloc: Global, statements: &str, output: &str) -> Option<bool> {
+    let image = image_of(alloc, statements)?;
+    judged(alloc, &image, |answer| match answer {
+        Ok(summary) => is_printed(alloc, summary, output) && summary.notices().is_empty(),
+        Err(_) => false,
+    })
+}
+
+#[test]
+fn runs_of_images(rt: HostRuntime) {
+    for (statements, output) in [
+        (
+            ROUNDS,
+            "A\nA\nA\nstop ENDED\nposition 0.000 0.000 100.000\nsteps 8\n",
+        ),
+        (
+            "GOTO/20,20,10\n",
+            "stop COLLISION MOVE block 1 permille 888 at 0 line 3\nposition 0.000 0.000 100.000\nsteps 1\n",
+        ),
+    ] {
+        assert!(rt; image_prints(rt.alloc(), statements, output) == Some(true));
+    }
+}
+
+// Whether the run of the image of a move with a byte in another one's place is refused so.
+fn is_refused_image(alloc: Global, place: usize, byte: u8, fault: ImageFault) -> Option<bool> {
+    let image = changed(alloc, &MOVE, place, byte)?;
+    judged(alloc, &image, |answer| match answer {
+        Ok(_) => false,
+        Err(found) => *found == fault,
+    })
+}
+
+#[test]
+fn images_that_are_not_run(rt: HostRuntime) {
+    for (place, byte, fault) in [
+        (0, 0x57, ImageFault::BadMagic),
+        (23, 2, ImageFault::BadOperand),
+        (57, 2, ImageFault::RunsOff),
+    ] {
+        assert!(rt; is_refused_image(rt.alloc(), place, byte, fault) == Some(true));
+    }
+}
