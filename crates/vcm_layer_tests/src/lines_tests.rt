@@ -61,12 +61,18 @@ fn are_three(statements: &[Logical]) -> bool {
     }
 }
 
+fn has_three(alloc: Global, text: &[u8]) -> bool {
+    match &logical_lines(alloc, text) {
+        Ok(lines) => are_three(lines.as_slice()),
+        Err(_) => false,
+    }
+}
+
 #[test]
 fn whole_text(rt: HostRuntime) {
     let text =
         b"\xEF\xBB\xBFDMISMN/'T' $$ head\r\n\n goto/20, $ $$ on\n\t$$ only a comment\n20,.5\n$\nI_1 = assign/(1.EQ.2.)";
-    let found = logical_lines(rt.alloc(), text).is_ok_and(|lines| are_three(lines.as_slice()));
-    assert!(rt; found);
+    assert!(rt; has_three(rt.alloc(), text));
 }
 
 fn is_single(statements: &[Logical], wanted: &[u8]) -> bool {
@@ -78,12 +84,18 @@ fn is_single(statements: &[Logical], wanted: &[u8]) -> bool {
 
 /// Whether a text is this one statement.
 fn is_kept(alloc: Global, text: &[u8], wanted: &[u8]) -> bool {
-    logical_lines(alloc, text).is_ok_and(|lines| is_single(lines.as_slice(), wanted))
+    match &logical_lines(alloc, text) {
+        Ok(lines) => is_single(lines.as_slice(), wanted),
+        Err(_) => false,
+    }
 }
 
-/// Whether a text has so many statements.
-fn has_statements(alloc: Global, text: &[u8], count: usize) -> bool {
-    logical_lines(alloc, text).is_ok_and(|lines| lines.as_slice().len() == count)
+/// How many statements a text has, or its refusal.
+fn told(alloc: Global, text: &[u8]) -> Result<usize, SourceFault> {
+    match &logical_lines(alloc, text) {
+        Ok(lines) => Ok(lines.as_slice().len()),
+        Err(fault) => Err(*fault),
+    }
 }
 
 #[test]
@@ -101,16 +113,24 @@ fn single_statements(rt: HostRuntime) {
         (b"'it''s'\n", b"'it''s'"),
         (b"~ !\t{$$$$\n\n", b"~!{"),
     ];
-    let alloc = rt.alloc();
-    let kept = rows
-        .iter()
-        .all(|(text, wanted)| is_kept(alloc, text, wanted));
-    assert!(rt; kept && has_statements(alloc, b"\n  \n$$\n", 0));
+    for (text, wanted) in rows {
+        assert!(rt; is_kept(rt.alloc(), text, wanted));
+    }
+    assert_eq!(rt; told(rt.alloc(), b"\n  \n$$\n"), Ok(0));
 }
 
-/// Whether a text is refused with this code at this line.
-fn is_refused(alloc: Global, text: &[u8], code: FaultCode, line: u32) -> bool {
-    logical_lines(alloc, text).err() == Some(SourceFault { code, line })
+/// The first of the rows whose text doesn't get the refusal that stands there.
+fn wrong_refusal(alloc: Global, rows: &[(&[u8], FaultCode, u32)]) -> Option<usize> {
+    for (index, (text, code, line)) in rows.iter().enumerate() {
+        let fault = SourceFault {
+            code: *code,
+            line: *line,
+        };
+        if told(alloc, text) != Err(fault) {
+            return Some(index);
+        }
+    }
+    None
 }
 
 #[test]
@@ -131,11 +151,7 @@ fn broken_rules(rt: HostRuntime) {
         (b"A $", FaultCode::DanglingContinuation, 1),
         (b"A $\n\nB $\n\n$$ C\n", FaultCode::DanglingContinuation, 3),
     ];
-    let alloc = rt.alloc();
-    let refused = rows
-        .iter()
-        .all(|(text, code, line)| is_refused(alloc, text, *code, *line));
-    assert!(rt; refused);
+    assert_eq!(rt; wrong_refusal(rt.alloc(), &rows), None);
 }
 
 #[test]
@@ -150,11 +166,7 @@ fn leftmost_fault(rt: HostRuntime) {
         (b"$ $$ \x01", FaultCode::BadByte, 1),
         (b"A $\n\x01\n'B", FaultCode::BadByte, 2),
     ];
-    let alloc = rt.alloc();
-    let refused = rows
-        .iter()
-        .all(|(text, code, line)| is_refused(alloc, text, *code, *line));
-    assert!(rt; refused);
+    assert_eq!(rt; wrong_refusal(rt.alloc(), &rows), None);
 }
 
 /// `count` times the bytes `part`, and then `end`.
@@ -167,12 +179,11 @@ fn repeated(alloc: Global, part: &[u8], count: usize, end: &[u8]) -> Option<Vec<
     Some(text)
 }
 
-fn lines_have_a_limit(alloc: Global) -> Option<bool> {
+/// What is told of a line of 1,024 bytes, and of one of 1,025.
+fn told_of_lines(alloc: Global) -> Option<[Result<usize, SourceFault>; 2]> {
     let longest = repeated(alloc, b"A", 1024, b"\r\n")?;
     let longer = repeated(alloc, b" ", 1024, b"\x01\n")?;
-    Some(
-        has_statements(alloc, &longest, 1) && is_refused(alloc, &longer, FaultCode::LineTooLong, 1),
-    )
+    Some([told(alloc, &longest), told(alloc, &longer)])
 }
 
 /// Four lines that go on, of 1,023 bytes each, and then this one.
@@ -181,33 +192,32 @@ fn five_lines(alloc: Global, last: &[u8]) -> Option<Vec<u8>> {
     repeated(alloc, &line, 4, last)
 }
 
-fn statements_have_a_limit(alloc: Global) -> Option<bool> {
+/// What is told of a statement of 4,096 bytes, and of one of 4,097.
+fn told_of_statements(alloc: Global) -> Option<[Result<usize, SourceFault>; 2]> {
     let longest = five_lines(alloc, b"AAAA")?;
-    let kept = repeated(alloc, b"A", 4096, b"")?;
     let longer = five_lines(alloc, b"AAAAA")?;
-    Some(is_kept(alloc, &longest, &kept) && is_refused(alloc, &longer, FaultCode::LineTooLong, 5))
+    Some([told(alloc, &longest), told(alloc, &longer)])
 }
 
-fn texts_have_a_limit(alloc: Global) -> Option<bool> {
+/// What is told of a text of 20,000 lines, and of one of 20,001.
+fn told_of_texts(alloc: Global) -> Option<[Result<usize, SourceFault>; 2]> {
     let longest = repeated(alloc, b"A\n", 20_000, b"")?;
     let longer = repeated(alloc, b"\n", 20_000, b"$$")?;
-    Some(
-        has_statements(alloc, &longest, 20_000)
-            && is_refused(alloc, &longer, FaultCode::TooManyLines, 20_001),
-    )
+    Some([told(alloc, &longest), told(alloc, &longer)])
+}
+
+/// A refusal that is told with this code at this line.
+fn fault(code: FaultCode, line: u32) -> Result<usize, SourceFault> {
+    Err(SourceFault { code, line })
 }
 
 #[test]
 fn limits(rt: HostRuntime) {
-    assert!(rt; lines_have_a_limit(rt.alloc()) == Some(true));
-}
-
-#[test]
-fn limits_of_statements(rt: HostRuntime) {
-    assert!(rt; statements_have_a_limit(rt.alloc()) == Some(true));
-}
-
-#[test]
-fn limits_of_texts(rt: HostRuntime) {
-    assert!(rt; texts_have_a_limit(rt.alloc()) == Some(true));
+    let too_long = FaultCode::LineTooLong;
+    let lines = Some([Ok(1), fault(too_long, 1)]);
+    assert!(rt; told_of_lines(rt.alloc()) == lines);
+    let statements = Some([Ok(1), fault(too_long, 5)]);
+    assert!(rt; told_of_statements(rt.alloc()) == statements);
+    let texts = Some([Ok(20_000), fault(FaultCode::TooManyLines, 20_001)]);
+    assert!(rt; told_of_texts(rt.alloc()) == texts);
 }

@@ -7,7 +7,7 @@ use vcm_num::{
 };
 
 fn are_literals() -> bool {
-    [
+    let rows = [
         ("12.3450", Literal::Thousandths(12_345)),
         (".5", Literal::Thousandths(500)),
         ("12.", Literal::Thousandths(12_000)),
@@ -15,13 +15,17 @@ fn are_literals() -> bool {
         ("+20", Literal::Int(20)),
         ("9223372036854775807", Literal::Int(i64::MAX)),
         ("-9223372036854775.807", Literal::Thousandths(-i64::MAX)),
-    ]
-    .iter()
-    .all(|(text, literal)| read_number(text.as_bytes()) == Ok(*literal))
+    ];
+    for (text, literal) in rows {
+        if read_number(text.as_bytes()) != Ok(literal) {
+            return false;
+        }
+    }
+    true
 }
 
 fn are_refused() -> bool {
-    [
+    let rows = [
         ("12.3456", NumFault::TooFine),
         ("99999999999999999999.0001", NumFault::TooFine),
         ("99999999999999999999", NumFault::TooLarge),
@@ -33,9 +37,13 @@ fn are_refused() -> bool {
         (".", NumFault::BadNumber),
         ("-", NumFault::BadNumber),
         ("", NumFault::BadNumber),
-    ]
-    .iter()
-    .all(|(text, fault)| read_number(text.as_bytes()) == Err(*fault))
+    ];
+    for (text, fault) in rows {
+        if read_number(text.as_bytes()) != Err(fault) {
+            return false;
+        }
+    }
+    true
 }
 
 #[test]
@@ -84,10 +92,16 @@ fn appended(alloc: Global) -> Option<Vec<u8>> {
     Some(out)
 }
 
+fn is_written(out: Option<Vec<u8>>, wanted: &[u8]) -> bool {
+    match out {
+        Some(out) => out.as_slice() == wanted,
+        None => false,
+    }
+}
+
 #[test]
 fn writers(rt: HostRuntime) {
-    let found = appended(rt.alloc()).is_some_and(|out| out.as_slice() == b"x=-5-0.005".as_slice());
-    assert!(rt; found);
+    assert!(rt; is_written(appended(rt.alloc()), b"x=-5-0.005"));
 }
 
 fn written(alloc: Global) -> Option<Vec<u8>> {
@@ -100,8 +114,7 @@ fn written(alloc: Global) -> Option<Vec<u8>> {
 
 #[test]
 fn whole_writes(rt: HostRuntime) {
-    let found = written(rt.alloc()).is_some_and(|out| out.as_slice() == b"xabcde".as_slice());
-    assert!(rt; found);
+    assert!(rt; is_written(written(rt.alloc()), b"xabcde"));
 }
 
 fn moves() -> bool {

@@ -71,18 +71,18 @@ fn joined(alloc: Global, pieces: &[&str; 4]) -> Option<String> {
     Some(text)
 }
 
-fn is_read(alloc: Global, pieces: &[&str; 4]) -> bool {
-    joined(alloc, pieces).is_some_and(|text| read_part(alloc, text.as_bytes()).is_ok())
+/// What the bytes are refused for, if they are.
+fn refusal(alloc: Global, bytes: &[u8]) -> Option<PartFault> {
+    match &read_part(alloc, bytes) {
+        Ok(_) => None,
+        Err(fault) => Some(*fault),
+    }
 }
 
-/// Whether this is what the bytes are refused for.
-fn is_refused(alloc: Global, bytes: &[u8], code: PartCode, block: u32) -> bool {
-    read_part(alloc, bytes).err() == Some(PartFault { code, block })
-}
-
-/// The same of a part file in pieces.
-fn are_refused(alloc: Global, pieces: &[&str; 4], code: PartCode, block: u32) -> bool {
-    joined(alloc, pieces).is_some_and(|text| is_refused(alloc, text.as_bytes(), code, block))
+/// What is told of a part file in pieces: its refusal, or none.
+fn told(alloc: Global, pieces: &[&str; 4]) -> Option<Option<PartFault>> {
+    let text = joined(alloc, pieces)?;
+    Some(refusal(alloc, text.as_bytes()))
 }
 
 #[test]
@@ -103,14 +103,11 @@ fn bad_keys(rt: HostRuntime) {
             1,
         ),
     ];
-    let alloc = rt.alloc();
-    let refused = rows.iter().all(|(pieces, block)| are_refused(
-        alloc,
-        pieces,
-        PartCode::BadKey,
-        *block,
-    ));
-    assert!(rt; refused);
+    let code = PartCode::BadKey;
+    for (pieces, block) in rows {
+        let fault = PartFault { code, block };
+        assert!(rt; told(rt.alloc(), &pieces) == Some(Some(fault)));
+    }
 }
 
 #[test]
@@ -140,24 +137,28 @@ fn refusals(rt: HostRuntime) {
         ),
         ([LOW, HIGH, HOME, "block = "], PartCode::NotToml, 0),
     ];
-    let alloc = rt.alloc();
-    let refused = rows.iter().all(|(pieces, code, block)| are_refused(
-        alloc, pieces, *code, *block,
-    ));
-    assert!(rt; refused && is_refused(alloc, &[255], PartCode::NotToml, 0));
+    for (pieces, code, block) in rows {
+        let fault = PartFault { code, block };
+        assert!(rt; told(rt.alloc(), &pieces) == Some(Some(fault)));
+    }
+    let not_text = PartFault {
+        code: PartCode::NotToml,
+        block: 0,
+    };
+    assert!(rt; refusal(rt.alloc(), &[255]) == Some(not_text));
 }
 
 #[test]
 fn blocks_left_out(rt: HostRuntime) {
-    let alloc = rt.alloc();
     let flat_block = "[[block]]\nlow = [1, 1, 1]\nhigh = [1, 1, 1]";
     let rows = [
         [LOW, HIGH, HOME, flat_block],
         [LOW, HIGH, HOME, "block = []"],
         [LOW, HIGH, HOME, ""],
     ];
-    let read = rows.iter().all(|pieces| is_read(alloc, pieces));
-    assert!(rt; read);
+    for pieces in rows {
+        assert!(rt; told(rt.alloc(), &pieces) == Some(None));
+    }
 }
 
 /// A part file with 4,096 blocks.
@@ -174,9 +175,13 @@ fn most_blocks(alloc: Global) -> Option<String> {
 
 fn blocks_have_a_limit(alloc: Global) -> Option<bool> {
     let mut text = most_blocks(alloc)?;
-    let most = read_part(alloc, text.as_bytes()).is_ok_and(|part| part.blocks().len() == 4096);
+    let most = refusal(alloc, text.as_bytes());
     text.push_str("[[block]]\nlow = 1\n").ok()?;
-    Some(most && is_refused(alloc, text.as_bytes(), PartCode::TooManyBlocks, 0))
+    let fault = PartFault {
+        code: PartCode::TooManyBlocks,
+        block: 0,
+    };
+    Some(most.is_none() && refusal(alloc, text.as_bytes()) == Some(fault))
 }
 
 #[test]

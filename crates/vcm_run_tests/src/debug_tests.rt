@@ -1,5 +1,7 @@
 //! Sessions of the debugger, from their commands to their replies.
 
+ghost use Rattle.std.specs.Prelude.{◌≡◌};
+
 use crate::image_tests::image_of;
 use std::alloc::Global;
 use std::cell::Cell;
@@ -96,41 +98,64 @@ fn sessions(rt: HostRuntime) {
 }
 
 // Lines that are refused, in the order of their refusals, and lines at the edges of the form.
+// The first of these commands that isn't answered by this reply and `bye`.
+fn wrong_answer<'a>(alloc: Global, commands: &[&'a str], reply: &str) -> Option<&'a str> {
+    let expected = joined(alloc, &[reply, "bye\n"])?;
+    for command in commands {
+        if replies(alloc, THREE, command, expected.as_str()) != Some(true) {
+            return Some(command);
+        }
+    }
+    None
+}
+
+#[test]
+fn unknown_commands(rt: HostRuntime) {
+    let commands = [
+        "walk\n",
+        "STEP\n",
+        "step 1 2\n",
+        "where 1\n",
+        "break\n",
+        "break x\n",
+        "break 12345678901\n",
+        "watch 1x\n",
+        "watch i#\n",
+        "watch abcdefghijklmnopq\n",
+        " \n",
+    ];
+    let reply = "G01 UnknownCommand\n";
+    assert!(rt; wrong_answer(rt.alloc(), &commands, reply).is_none());
+}
+
 #[test]
 fn refused_commands(rt: HostRuntime) {
-    for (command, expected) in [
-        ("walk\n", "G01 UnknownCommand\nbye\n"),
-        ("STEP\n", "G01 UnknownCommand\nbye\n"),
-        ("step 1 2\n", "G01 UnknownCommand\nbye\n"),
-        ("where 1\n", "G01 UnknownCommand\nbye\n"),
-        ("break\n", "G01 UnknownCommand\nbye\n"),
-        ("break x\n", "G01 UnknownCommand\nbye\n"),
-        ("break 12345678901\n", "G01 UnknownCommand\nbye\n"),
-        ("watch 1x\n", "G01 UnknownCommand\nbye\n"),
-        ("watch i#\n", "G01 UnknownCommand\nbye\n"),
-        ("watch abcdefghijklmnopq\n", "G01 UnknownCommand\nbye\n"),
-        (" \n", "G01 UnknownCommand\nbye\n"),
-        ("step 0\n", "G04 CountOutOfRange\nbye\n"),
-        ("step 1000001\n", "G04 CountOutOfRange\nbye\n"),
-        ("out 0\n", "G04 CountOutOfRange\nbye\n"),
-        ("back 9999999999\n", "G04 CountOutOfRange\nbye\n"),
-        ("show j\n", "G02 NoSuchName\nbye\n"),
-        ("show i#1\n", "G02 NoSuchName\nbye\n"),
-        ("show i#0\n", "I 0\nbye\n"),
-        ("show i#00\n", "I 0\nbye\n"),
-        ("feat i\n", "G02 NoSuchName\nbye\n"),
-        ("clear 4\n", "G03 NoSuchStatement\nbye\n"),
-        ("list 4294967296\n", "G03 NoSuchStatement\nbye\n"),
-        ("line 9999999999\n", "G03 NoSuchStatement\nbye\n"),
-        ("back\n", "G05 BeforeStart\nbye\n"),
-        ("  where \r\n", "step 0 next 0 line 4\nbye\n"),
-        ("where", "step 0 next 0 line 4\nbye\n"),
-        ("\n\r\n", "bye\n"),
-        ("", "bye\n"),
-        ("quit\nwhere\n", "bye\n"),
-    ] {
-        let found = replies(rt.alloc(), THREE, command, expected);
-        assert!(rt; found == Some(true), "{command}");
+    let rows: [(&[&str], &str); 4] = [
+        (
+            &["step 0\n", "step 1000001\n", "out 0\n", "back 9999999999\n"],
+            "G04 CountOutOfRange\n",
+        ),
+        (&["show j\n", "show i#1\n", "feat i\n"], "G02 NoSuchName\n"),
+        (
+            &["clear 4\n", "list 4294967296\n", "line 9999999999\n"],
+            "G03 NoSuchStatement\n",
+        ),
+        (&["back\n"], "G05 BeforeStart\n"),
+    ];
+    for (commands, reply) in rows {
+        assert!(rt; wrong_answer(rt.alloc(), commands, reply).is_none());
+    }
+}
+
+#[test]
+fn blanks_and_ends_of_lines(rt: HostRuntime) {
+    let rows: [(&[&str], &str); 3] = [
+        (&["show i#0\n", "show i#00\n"], "I 0\n"),
+        (&["  where \r\n", "where"], "step 0 next 0 line 4\n"),
+        (&["\n\r\n", "", "quit\nwhere\n"], ""),
+    ];
+    for (commands, reply) in rows {
+        assert!(rt; wrong_answer(rt.alloc(), commands, reply).is_none());
     }
 }
 
@@ -214,16 +239,16 @@ fn back_shows_what_fewer_steps_show(rt: HostRuntime) {
 }
 
 // A workpiece that counts the moves that it is asked about.
-#[derive(Drop)]
-struct Counting<P: Part> {
-    blocks: P,
-    moves: Cell<u32>,
+#[derive(Clone, Copy)]
+struct Counting<'a> {
+    blocks: Blocks<'a>,
+    moves: &'a Cell<u32>,
 }
 
-impl<P: Part> Part for Counting<P> {
-    ghost part = { λ c. P.part c.blocks };
+impl<'a> Part for Counting<'a> {
+    ghost part = { λ c. ⟦<Blocks<'a> as Part>⟧.part c.blocks };
 
-    ghost valid = { λ c. P.valid c.blocks };
+    ghost valid = { λ c. c.blocks.valid };
 
     fn bounds(&self) -> Bounds {
         self.blocks.bounds()
@@ -246,33 +271,41 @@ impl<P: Part> Part for Counting<P> {
 // A loop of moves.
 const MOVES: &str = "DECL/INTGR,I\nDO/I,1,100000\nGOTO/20,20,50\nENDDO\n";
 
-// How many moves the workpiece is asked about when a new session on the code of an image goes back so many of 5,000 steps.
-fn steps_on<P: Part>(
+// How many moves the workpiece is asked about when a session goes back so many of 5,000 steps.
+fn moves_of(
     alloc: Global,
-    loaded: &Loaded<'_>,
-    part: &Counting<P>,
+    session: &mut Session<'_, Counting<'_>>,
+    moves: &Cell<u32>,
     back: u32,
-) -> Option<u32> {
-    let Ok(mut session) = Session::new(alloc, loaded, part) else {
-        return None;
-    };
+) -> Option<u32>
+    requires { session.old.count ≡ 0 }
+{
     session.command(alloc, &Command::Step(5000)).ok()?;
-    part.moves.set(0);
+    moves.set(0);
     session.command(alloc, &Command::Back(back)).ok()?;
-    Some(part.moves.get())
+    Some(moves.get())
+}
+
+// The same of a new session on what was loaded.
+fn moves_on(alloc: Global, loaded: &Loaded<'_>, part: &Counting<'_>, back: u32) -> Option<u32> {
+    match &mut Session::new(alloc, loaded, part) {
+        Ok(session) => moves_of(alloc, session, part.moves, back),
+        Err(_) => None,
+    }
 }
 
 // The same on the program of moves, beside one block.
 fn moves_of_back(alloc: Global, back: u32) -> Option<u32> {
     let file = joined(alloc, &[BOUNDS, ONE_BLOCK])?;
     let data = read_part(alloc, file.as_bytes()).ok()?;
+    let moves = Cell::new(0);
     let part = Counting {
         blocks: Blocks::new(&data),
-        moves: Cell::new(0),
+        moves: &moves,
     };
     let image = image_of(alloc, MOVES)?;
     let loaded = load(alloc, &image).ok()?;
-    steps_on(alloc, &loaded, &part, back)
+    moves_on(alloc, &loaded, &part, back)
 }
 
 #[test]

@@ -23,7 +23,7 @@ fn byte(bytes: &[u8], most: u8) -> Result<(u8, &[u8]), u8> {
 // A number of two bytes.
 fn short(bytes: &[u8]) -> Result<(u32, &[u8]), u8> {
     match bytes {
-        [a, b, rest @ ..] => Ok((u32::from(*a) + 256 * u32::from(*b), rest)),
+        [a, b, rest @ ..] => Ok((u32::from(*a) | u32::from(*b) << 8, rest)),
         _ => Err(2),
     }
 }
@@ -208,14 +208,14 @@ fn variable<'a>(
     want: Option<u8>,
 ) -> Result<(u8, &'a [u8]), u8> {
     let (index, rest) = short(bytes)?;
-    match judged {
-        None => Ok((0, rest)),
-        Some(counts) => match (counts.kinds.get(index as usize), want) {
-            (None, _) => Err(6),
-            (Some(kind), Some(wanted)) if *kind != wanted => Err(8),
-            (Some(kind), _) => Ok((*kind, rest)),
-        },
+    let Some(counts) = judged else {
+        return Ok((0, rest));
+    };
+    let kind = *counts.kinds.get(index as usize).ok_or(6)?;
+    if want.is_some_and(|wanted| wanted != kind) {
+        return Err(8);
     }
+    Ok((kind, rest))
 }
 
 // An index of a feature, or else of a frame.

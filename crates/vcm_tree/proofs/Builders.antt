@@ -11,7 +11,9 @@ use Rattle.vcm_tree.specs.declared.builder.Open.{Open}
 use Rattle.vcm_tree.specs.declared.builder.Builder.{Builder}
 use Rattle.vcm_tree.specs.Nodes.{snoc}
 use Rattle.vcm_tree.specs.Pieces.{Step, Piece, piece, Tests, Divides, EndsTest, EndsRepeat, EndsMeasure, Ends, node_pieces, pieces}
-use Rattle.vcm_tree.specs.Resolving.{Opened, InFirst, InSecond, InBody, InMeasure, room, room_by, nested, then_ok, labels_after, divided, test_ended, repeat_ended, measure_ended, measuring, ended, blocks_after}
+use Rattle.vcm_tree.specs.Blocks.{Opened, InFirst, InSecond, InBody, InMeasure, room, room_by, nested, divided, test_ended, repeat_ended, ended}
+use Rattle.vcm_tree.specs.Features.{measure_ended, measuring}
+use Rattle.vcm_tree.specs.Resolving.{then_ok, labels_after, blocks_after}
 use Rattle.vcm_tree.specs.inner.Building.{opened_by, blocks_of, head_pieces, opens_pieces, written, Reads}
 
 -- ---- lists

@@ -6,7 +6,8 @@ use Rattle.vcm_macro.specs.declared.placed.Placed.{Placed}
 use Rattle.vcm_tree.specs.declared.taking.Progress.{Progress}
 use Rattle.vcm_tree.specs.Ended.{is_ended}
 use Rattle.vcm_tree.specs.Jumps.{labels_of}
-use Rattle.vcm_tree.specs.Resolving.{Behind, behind_all, start}
+use Rattle.vcm_tree.specs.Blocks.{Behind}
+use Rattle.vcm_tree.specs.Resolving.{behind_all, start}
 use Rattle.vcm_tree.specs.inner.Taking.{behind_of}
 use Rattle.vcm_tree.proofs.Walking.{IsWalked, drop_nil, walk_ends}
 use Rattle.vcm_tree.proofs.Written.{piece_labels, pieces_marks}

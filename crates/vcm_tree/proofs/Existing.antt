@@ -21,7 +21,10 @@ use Rattle.vcm_tree.specs.Ended.{is_ended}
 use Rattle.vcm_tree.specs.Nodes.{snoc}
 use Rattle.vcm_tree.specs.Pieces.{Step, Piece, piece, Does, Marks, Leaps, Tests, Divides, EndsTest, Repeats, EndsRepeat, Measures, EndsMeasure, Ends, node_pieces, pieces}
 use Rattle.vcm_tree.specs.Program.{Parsed, IsParsed, tables_of, notices_of}
-use Rattle.vcm_tree.specs.Resolving.{Behind, Opened, InFirst, InSecond, InBody, InMeasure, Meaning, Declares, then_ok, with_all, assigned, moved, room, nested, tested, indexed, increment_of, repeated, divided, test_ended, repeat_ended, ended, marked, label_of, known, declared, opened_measure, touched, measure_ended, configured, shifted, rotated, recalled, obtained, reported, does, counts, stated, resolved_here, blocks_after, behind_by, behind_one, behind_all, start, pieces_by, pieces_from, BreaksNames}
+use Rattle.vcm_tree.specs.Variables.{with_all, assigned, moved}
+use Rattle.vcm_tree.specs.Blocks.{Behind, Opened, InFirst, InSecond, InBody, InMeasure, room, nested, tested, indexed, increment_of, repeated, divided, test_ended, repeat_ended, ended, marked, label_of}
+use Rattle.vcm_tree.specs.Features.{known, declared, opened_measure, touched, measure_ended, configured, shifted, rotated, recalled, obtained, reported}
+use Rattle.vcm_tree.specs.Resolving.{Meaning, Declares, then_ok, does, counts, stated, resolved_here, blocks_after, behind_by, behind_one, behind_all, start, pieces_by, pieces_from, BreaksNames}
 use Rattle.vcm_tree.proofs.Standing.{standing, standing_ok}
 use Rattle.vcm_tree.proofs.Walking.{AllMean, all_mean, last_shuts}
 use Rattle.vcm_tree.proofs.Builders.{pieces_push, regroup}

@@ -34,7 +34,10 @@ use Rattle.vcm_syntax.specs.declared.statement.Form.{Form}
 use Rattle.vcm_syntax.specs.declared.statement.Form.TheVariants.{Opening, Measures as Units, Ignored, Declaration, Assignment, Move, Home, Say, Test, Otherwise, TestEnd, Repeat, RepeatEnd, Mark, Leap, Feature, Measure, Touch, MeasureEnd, Configure, Shift, Rotation, Restore, Query, Report, Macro, MacroEnd, Call, Ending}
 use Rattle.vcm_macro.specs.declared.placed.Placed.{Placed}
 use Rattle.vcm_tree.specs.Pieces.{Step, Piece, Does, Marks, Leaps, Tests, Divides, EndsTest, Repeats, EndsRepeat, Measures, EndsMeasure, Ends}
-use Rattle.vcm_tree.specs.Resolving.{Behind, Opened, InFirst, InSecond, InBody, InMeasure, Meaning, Silent, Declares, Counts, Measured, measured_after, outer, blocks_after, lengths, declared_at, touched_in, Shifts, no_shifts, with_shift, shifts_of, real_to, real_by, real_named, unless_barred, is_measuring, is_barred, known, entered, with_name, declared, opened_measure, touched, measure_ended, configured, shifted, rotated, recalled, obtained, reported, stated, then_ok, is_declared, with_one, with_all, want_of, target_of, assigned, assigned_by, assigned_to, moved, room, nested, tested, indexed, index_by, index_to, increment_of, repeated, divided, test_ended, repeat_ended, ended, marked, label_of, does, counts, resolved, resolved_here, behind_by, behind_one, behind_all, start, pieces_by, pieces_from}
+use Rattle.vcm_tree.specs.Variables.{is_declared, with_one, with_all, want_of, target_of, assigned, assigned_by, assigned_to, moved}
+use Rattle.vcm_tree.specs.Blocks.{Behind, Opened, InFirst, InSecond, InBody, InMeasure, Measured, room, nested, tested, indexed, index_by, index_to, increment_of, repeated, divided, test_ended, repeat_ended, ended, marked, label_of}
+use Rattle.vcm_tree.specs.Features.{lengths, declared_at, touched_in, Shifts, no_shifts, with_shift, shifts_of, real_to, real_by, real_named, known, entered, with_name, declared, opened_measure, touched, measure_ended, configured, shifted, rotated, recalled, obtained, reported}
+use Rattle.vcm_tree.specs.Resolving.{Meaning, Silent, Declares, Counts, measured_after, outer, blocks_after, unless_barred, is_measuring, is_barred, stated, then_ok, does, counts, resolved, resolved_here, behind_by, behind_one, behind_all, start, pieces_by, pieces_from}
 use Rattle.vcm_tree.specs.Program.{tables_of}
 use Rattle.vcm_tree.proofs.Written.{StepFits, PiecesFit}
 use Rattle.vcm_tree.proofs.Titled.{known_below, entered_below, with_name_longer, measured_is}

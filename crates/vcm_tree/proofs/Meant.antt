@@ -23,7 +23,10 @@ use Rattle.vcm_tree.specs.Pieces.{Step, Piece, Does, Marks, Leaps, Tests, Divide
 use Rattle.vcm_tree.specs.Jumps.{is_among}
 use Rattle.vcm_tree.specs.Program.{AreDistinct}
 use Rattle.vcm_tree.specs.inner.SameLabels.{label_sym}
-use Rattle.vcm_tree.specs.Resolving.{Behind, Opened, InFirst, InSecond, InBody, InMeasure, Meaning, Silent, Declares, Counts, then_ok, with_all, assigned, moved, room, room_by, nested, tested, indexed, increment_of, repeated, divided, test_ended, repeat_ended, ended, marked, label_of, known, declared, opened_measure, touched, measure_ended, configured, shifted, rotated, recalled, obtained, reported, does, counts, stated, resolved_here, blocks_after, labels_after, behind_by, behind_one, behind_all, pieces_by, pieces_from}
+use Rattle.vcm_tree.specs.Variables.{with_all, assigned, moved}
+use Rattle.vcm_tree.specs.Blocks.{Behind, Opened, InFirst, InSecond, InBody, InMeasure, room, room_by, nested, tested, indexed, increment_of, repeated, divided, test_ended, repeat_ended, ended, marked, label_of}
+use Rattle.vcm_tree.specs.Features.{known, declared, opened_measure, touched, measure_ended, configured, shifted, rotated, recalled, obtained, reported}
+use Rattle.vcm_tree.specs.Resolving.{Meaning, Silent, Declares, Counts, then_ok, does, counts, stated, resolved_here, blocks_after, labels_after, behind_by, behind_one, behind_all, pieces_by, pieces_from}
 use Rattle.vcm_tree.proofs.Standing.{standing, standing_ok}
 use Rattle.vcm_tree.proofs.Walking.{AllMean}
 use Rattle.vcm_tree.proofs.Written.{step_labels, piece_labels, labels_append, depth_after, opens, PiecesNest, ends_last}

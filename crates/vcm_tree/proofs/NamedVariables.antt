@@ -21,7 +21,10 @@ use Rattle.vcm_syntax.specs.Forms.{IsDeclaration, IsForm}
 use Rattle.vcm_syntax.specs.Statements.{SpellsBy}
 use Rattle.vcm_tree.specs.Statements.{AreSpelled}
 use Rattle.vcm_tree.specs.Pieces.{Step}
-use Rattle.vcm_tree.specs.Resolving.{Behind, Declares, then_ok, is_declared, with_one, with_all, assigned, moved, nested, tested, repeated, divided, test_ended, repeat_ended, ended, marked, label_of, declared, opened_measure, touched, measure_ended, configured, shifted, rotated, recalled, obtained, reported, does, counts, stated, unless_barred, is_measuring, is_barred, resolved, behind_by, behind_one, behind_all}
+use Rattle.vcm_tree.specs.Variables.{is_declared, with_one, with_all, assigned, moved}
+use Rattle.vcm_tree.specs.Blocks.{Behind, nested, tested, repeated, divided, test_ended, repeat_ended, ended, marked, label_of}
+use Rattle.vcm_tree.specs.Features.{declared, opened_measure, touched, measure_ended, configured, shifted, rotated, recalled, obtained, reported}
+use Rattle.vcm_tree.specs.Resolving.{Declares, then_ok, does, counts, stated, unless_barred, is_measuring, is_barred, resolved, behind_by, behind_one, behind_all}
 use Rattle.vcm_tree.proofs.Fitted.{then_ok-Ok}
 use Rattle.vcm_tree.proofs.Kept.{Letters, DeclaresLettered, AreLettered, AllLettered}
 

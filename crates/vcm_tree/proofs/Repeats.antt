@@ -6,7 +6,7 @@ use Rattle.vcm_syntax.specs.declared.statement.Rounds.{Rounds}
 use Rattle.vcm_tree.specs.declared.builder.Head.{Head}
 use Rattle.vcm_tree.specs.declared.builder.Builder.{Builder}
 use Rattle.vcm_tree.specs.Pieces.{Repeats}
-use Rattle.vcm_tree.specs.Resolving.{room, nested, repeated}
+use Rattle.vcm_tree.specs.Blocks.{room, nested, repeated}
 use Rattle.vcm_tree.specs.inner.Building.{opened_by, blocks_of, head_pieces, Reads}
 use Rattle.vcm_tree.specs.inner.Taking.{IsBody}
 use Rattle.vcm_tree.proofs.Builders.{reads_nested}

@@ -2,7 +2,8 @@
 use Rattle.std.proofs.Common.{◌≡◌, ℕ, Bool, true, false, ◌&&◌, Result, Ok, refl, sym, ◌∙◌}
 use Rattle.vcm_lines.specs.declared.fault.FaultCode.{FaultCode}
 use Rattle.vcm_syntax.specs.declared.statement.Form.{Form}
-use Rattle.vcm_tree.specs.Resolving.{Behind, Meaning, stated, is_measuring, is_barred, unless_barred, resolved}
+use Rattle.vcm_tree.specs.Blocks.{Behind}
+use Rattle.vcm_tree.specs.Resolving.{Meaning, stated, is_measuring, is_barred, unless_barred, resolved}
 
 standing_by : (t : Bool) (r : Result Meaning FaultCode) (m : Meaning) → unless_barred t r ≡ Ok m → unless_barred t r ≡ r
 standing_by true r m e = absurd cc

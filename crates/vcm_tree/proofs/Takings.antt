@@ -15,7 +15,9 @@ use Rattle.vcm_tree.specs.declared.builder.Builder.{Builder}
 use Rattle.vcm_tree.specs.declared.taking.Progress.{Progress}
 use Rattle.vcm_tree.specs.Pieces.{Step, piece, Does, Marks}
 use Rattle.vcm_spec.specs.Program.{Label}
-use Rattle.vcm_tree.specs.Resolving.{Behind, behind, Measured, measured_after, Declares, Counts, then_ok, with_all, marked, label_of, counts, stated, stated_by, blocks_after, labels_after}
+use Rattle.vcm_tree.specs.Variables.{with_all}
+use Rattle.vcm_tree.specs.Blocks.{Behind, behind, Measured, marked, label_of}
+use Rattle.vcm_tree.specs.Resolving.{measured_after, Declares, Counts, then_ok, counts, stated, stated_by, blocks_after, labels_after}
 use Rattle.vcm_tree.specs.inner.Telling.{ToldAt}
 use Rattle.vcm_tree.specs.inner.Building.{blocks_of, written, Reads}
 use Rattle.vcm_tree.specs.inner.Taking.{measured_of, behind_of, ActsSo, ActedAt, TakesStated}

@@ -10,7 +10,9 @@ use Rattle.vcm_lines.specs.declared.fault.FaultCode.{FaultCode}
 use Rattle.vcm_lines.specs.declared.fault.FaultCode.TheVariants.{UnknownName, TooManyNames}
 use Rattle.vcm_syntax.specs.declared.statement.Form.{Form}
 use Rattle.vcm_spec.specs.Program.{is_same_name}
-use Rattle.vcm_tree.specs.Resolving.{or_fault, index_of, known, entered_by, entered, with_name_by, with_name, Meaning, Silent, Declares, Counts, Behind, behind_by, measured_after}
+use Rattle.vcm_tree.specs.Blocks.{Behind}
+use Rattle.vcm_tree.specs.Features.{index_of, known, entered_by, entered, with_name_by, with_name}
+use Rattle.vcm_tree.specs.Resolving.{or_fault, Meaning, Silent, Declares, Counts, behind_by, measured_after}
 
 -- tests that agree find the same place
 or_len_same : {X : Type 0} (p q : X → Bool) → ((x : X) → p x ≡ q x) → (xs : List X) → position_or_len p xs ≡ position_or_len q xs

@@ -18,7 +18,8 @@ use Rattle.vcm_tree.specs.declared.taking.Progress.{Progress}
 use Rattle.vcm_macro.specs.Order.{is_ending}
 use Rattle.vcm_tree.specs.Ended.{is_ended}
 use Rattle.vcm_tree.specs.Pieces.{pieces}
-use Rattle.vcm_tree.specs.Resolving.{Behind, behind, measured, Opened, Meaning, counts, ended, stated, resolved_here, behind_by, behind_one, behind_all, start, pieces_by, pieces_from, BreaksNames, names_line}
+use Rattle.vcm_tree.specs.Blocks.{Behind, behind, measured, Opened, ended}
+use Rattle.vcm_tree.specs.Resolving.{Meaning, counts, stated, resolved_here, behind_by, behind_one, behind_all, start, pieces_by, pieces_from, BreaksNames, names_line}
 use Rattle.vcm_tree.specs.inner.Telling.{ToldAt}
 use Rattle.vcm_tree.specs.Program.{IsParsed, tables_of, notices_of}
 use Rattle.vcm_tree.specs.inner.Building.{blocks_of, opens_pieces, written}

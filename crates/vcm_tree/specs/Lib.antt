@@ -1,6 +1,9 @@
 pub mod Statements
 pub mod Ended
 pub mod Pieces
+pub mod Variables
+pub mod Blocks
+pub mod Features
 pub mod Resolving
 pub mod Jumps
 pub mod Program

@@ -13,7 +13,8 @@ use Rattle.vcm_syntax.specs.declared.statement.Statement.{Statement}
 use Rattle.vcm_macro.specs.declared.placed.Placed.{Placed}
 use Rattle.vcm_tree.specs.declared.program.Noticed.{Noticed}
 use Rattle.vcm_tree.specs.Pieces.{pieces}
-use Rattle.vcm_tree.specs.Resolving.{Behind, start, behind_all, pieces_from}
+use Rattle.vcm_tree.specs.Blocks.{Behind}
+use Rattle.vcm_tree.specs.Resolving.{start, behind_all, pieces_from}
 use Rattle.vcm_tree.specs.Jumps.{is_among, labels_of, jumps_of, BreaksJumps}
 
 -- the tables of the names that statements leave behind them: variables in the order of their declarations, features in that of their first

@@ -3,7 +3,8 @@
 ghost use Rattle.std.specs.Prelude.{◌≡◌, Ok, OnOk, IfOk, IfErr, MatchResult};
 ghost use Rattle.vcm_lines.specs.Fault.{NoMemoryOr};
 ghost use Rattle.vcm_tree.specs.Nodes.{action_of};
-ghost use Rattle.vcm_tree.specs.Resolving.{lengths, declared, opened_measure, nested, touched, configured, shifts_of, no_shifts, with_shift, shifted, rotated, recalled, real_named, obtained, reported, with_name};
+ghost use Rattle.vcm_tree.specs.Blocks.{nested};
+ghost use Rattle.vcm_tree.specs.Features.{lengths, declared, opened_measure, touched, configured, shifts_of, no_shifts, with_shift, shifted, rotated, recalled, real_named, obtained, reported, with_name};
 ghost use Rattle.vcm_tree.specs.inner.Telling.{ToldAt};
 ghost use Rattle.vcm_tree.specs.inner.Building.{blocks_of, Reads};
 ghost use Rattle.vcm_tree.specs.inner.Shifting.{shifts};

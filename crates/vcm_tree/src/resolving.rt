@@ -4,7 +4,8 @@ ghost use Rattle.std.specs.Prelude.{◌≡◌, ◌∷◌, ◌++◌, [], Ok, Err,
 ghost use Rattle.vcm_lines.specs.Fault.{NoMemoryOr};
 ghost use Rattle.vcm_tree.specs.Nodes.{action_of};
 ghost use Rattle.vcm_tree.specs.Pieces.{piece, Marks};
-ghost use Rattle.vcm_tree.specs.Resolving.{is_declared, with_one, with_all, want_of, assigned, moved, indexed, increment_of, repeated, nested, tested, marked};
+ghost use Rattle.vcm_tree.specs.Variables.{is_declared, with_one, with_all, want_of, assigned, moved};
+ghost use Rattle.vcm_tree.specs.Blocks.{indexed, increment_of, repeated, nested, tested, marked};
 ghost use Rattle.vcm_tree.specs.inner.Telling.{ToldAt};
 ghost use Rattle.vcm_tree.specs.inner.Building.{blocks_of, written, Reads};
 ghost use Rattle.vcm_tree.specs.inner.Taking.{IsBody};

@@ -3,7 +3,7 @@
 ghost use Rattle.std.specs.Prelude.{◌≡◌, [], Ok, IfOk, OnOk, IfErr, IfSome, IfNone, length, slice_get, Some, ◌≤◌};
 ghost use Rattle.vcm_lines.specs.Fault.{NoMemoryOr};
 ghost use Rattle.vcm_tree.specs.Program.{AreNames};
-ghost use Rattle.vcm_tree.specs.Resolving.{index_of, known, entered, with_name};
+ghost use Rattle.vcm_tree.specs.Features.{index_of, known, entered, with_name};
 ghost use Rattle.vcm_tree.specs.inner.Telling.{ToldAt};
 
 use indexmap::IndexSet;

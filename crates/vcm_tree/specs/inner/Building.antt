@@ -7,7 +7,8 @@ use Rattle.vcm_tree.specs.declared.builder.Head.TheVariants.{First, Second, Body
 use Rattle.vcm_tree.specs.declared.builder.Open.{Open}
 use Rattle.vcm_tree.specs.declared.builder.Builder.{Builder}
 use Rattle.vcm_tree.specs.Pieces.{Step, Piece, piece, Tests, Divides, Repeats, Measures, pieces}
-use Rattle.vcm_tree.specs.Resolving.{Opened, InFirst, InSecond, InBody, InMeasure, blocks_after, labels_after}
+use Rattle.vcm_tree.specs.Blocks.{Opened, InFirst, InSecond, InBody, InMeasure}
+use Rattle.vcm_tree.specs.Resolving.{blocks_after, labels_after}
 
 -- which block was opened
 abbrev pub opened_by : Head → Opened

@@ -13,7 +13,8 @@ use Rattle.vcm_tree.specs.declared.taking.Progress.{Progress}
 use Rattle.vcm_tree.specs.declared.node.Action.{Action}
 use Rattle.vcm_tree.specs.Nodes.{action_of}
 use Rattle.vcm_tree.specs.Pieces.{Repeats}
-use Rattle.vcm_tree.specs.Resolving.{Measured, measured, measured_after, Behind, behind, Meaning, repeated, acted, stated, resolved_here, behind_by, pieces_by}
+use Rattle.vcm_tree.specs.Blocks.{Measured, measured, Behind, behind, repeated}
+use Rattle.vcm_tree.specs.Resolving.{measured_after, Meaning, acted, stated, resolved_here, behind_by, pieces_by}
 use Rattle.vcm_tree.specs.inner.Building.{blocks_of, written}
 
 -- the rounds are these, and open a body by this

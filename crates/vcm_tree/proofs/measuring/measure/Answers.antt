@@ -1,6 +1,7 @@
 use Rattle.std.proofs.Common.{refl, ap, Ok}
 use Rattle.vcm_tree.specs.Pieces.{Measures}
-use Rattle.vcm_tree.specs.Resolving.{then_ok, opened_measure}
+use Rattle.vcm_tree.specs.Features.{opened_measure}
+use Rattle.vcm_tree.specs.Resolving.{then_ok}
 use Rattle.vcm_tree.proofs.Builders.{reads_nested}
 use Rattle.vcm_tree.proofs.measuring.measure.Goals as goal
 

@@ -1,5 +1,5 @@
 use Rattle.std.proofs.Common.{◌≡◌, drop}
-use Rattle.vcm_tree.specs.Resolving.{shifts_of, no_shifts}
+use Rattle.vcm_tree.specs.Features.{shifts_of, no_shifts}
 use Rattle.vcm_tree.specs.inner.Shifting.{shifts}
 use Rattle.vcm_tree.proofs.measuring.shifts_along.Given as goal
 

@@ -1,6 +1,8 @@
 use Rattle.std.proofs.Common.{refl, ap, sym, Ok}
 use Rattle.vcm_tree.specs.Pieces.{Leaps}
-use Rattle.vcm_tree.specs.Resolving.{stated, measured_after, opened_measure, measure_ended, nested, tested, repeated, divided, test_ended, repeat_ended, ended, label_of}
+use Rattle.vcm_tree.specs.Blocks.{nested, tested, repeated, divided, test_ended, repeat_ended, ended, label_of}
+use Rattle.vcm_tree.specs.Features.{opened_measure, measure_ended}
+use Rattle.vcm_tree.specs.Resolving.{stated, measured_after}
 use Rattle.vcm_tree.specs.inner.Building.{blocks_of}
 use Rattle.vcm_tree.specs.inner.Taking.{behind_of, measured_of}
 use Rattle.vcm_tree.proofs.Takings.{counted_takes, counted_on, declaration_on, mark_on}

@@ -1,6 +1,6 @@
 use Rattle.std.proofs.Common.{[], ◌∷◌, ap, sym, ◌∙◌}
 use Rattle.vcm_tree.specs.inner.Building.{opened_by}
-use Rattle.vcm_tree.specs.Resolving.{measuring}
+use Rattle.vcm_tree.specs.Features.{measuring}
 use Rattle.vcm_tree.proofs.Builders.{last_opened}
 use Rattle.vcm_tree.proofs.builder.Builder.measuring.Goals as goal
 

@@ -1,0 +1,155 @@
+-- What the statements of features and frames mean once their names are looked up. The features stand in the order of their first FEAT, the
+-- frames in that of their first TRANS or ROTATE.
+use Rattle.std.specs.Prelude.{ℕ, pos, nat_lt, Bool, true, false, if◌then◌else◌, List, [], ◌∷◌, ◌++◌, length, slice_get, Option, Some, None, Result, Ok, Err}
+use Rattle.std.specs.List.{position}
+use Rattle.vcm_num.specs.declared.axis.Axis.{Axis}
+use Rattle.vcm_num.specs.declared.number.Kind.{Kind}
+use Rattle.vcm_num.specs.declared.number.Kind.TheVariants as kinds
+use Rattle.vcm_lines.specs.declared.fault.FaultCode.{FaultCode}
+use Rattle.vcm_lines.specs.declared.fault.FaultCode.TheVariants.{UnknownName, BadType, Unbalanced, MeasBody, TooManyNames}
+use Rattle.vcm_spec.specs.Expression.{Tree, Value}
+use Rattle.vcm_spec.specs.declared.expression.Operand.TheVariants.{Thousandths}
+use Rattle.vcm_spec.specs.declared.words.FrameAxis.{FrameAxis}
+use Rattle.vcm_spec.specs.declared.words.FrameAxis.TheVariants as axes
+use Rattle.vcm_spec.specs.declared.words.FeatureWord.{FeatureWord}
+use Rattle.vcm_spec.specs.declared.words.Quarters.{Quarters}
+use Rattle.vcm_spec.specs.declared.words.Setting.{Setting}
+use Rattle.vcm_spec.specs.declared.words.Source.{Source as Side}
+use Rattle.vcm_spec.specs.Words.{axis_number, quarters_number, word_number}
+use Rattle.vcm_spec.specs.Simple.{Simple, Feat, PtMeas, SnSet, Trans, Rotate, Recall, Obtain, Output}
+use Rattle.vcm_spec.specs.Program.{is_same_name}
+use Rattle.vcm_expr.specs.declared.typing.Want.TheVariants as wants
+use Rattle.vcm_spec.specs.Setup.{Variable, kinds_of}
+use Rattle.vcm_expr.specs.Source.{Source}
+use Rattle.vcm_expr.specs.Typing.{typed_for}
+use Rattle.vcm_syntax.specs.declared.statement.Offset.{Offset}
+use Rattle.vcm_syntax.specs.declared.statement.Spot.{Spot}
+use Rattle.vcm_syntax.specs.declared.statement.Target.{Target}
+use Rattle.vcm_syntax.specs.Figures.{then_ok, or_fault}
+use Rattle.vcm_tree.specs.Pieces.{Step, Measures, EndsMeasure}
+use Rattle.vcm_tree.specs.Variables.{target_of}
+use Rattle.vcm_tree.specs.Blocks.{Opened, InMeasure}
+
+-- the index of a name, if it is there
+abbrev pub index_of : List (List ℕ) → List ℕ → Option ℕ
+index_of names l = position (λ n. is_same_name l n) names
+
+-- the index of a name that is declared above
+abbrev pub known : List (List ℕ) → List ℕ → Result ℕ FaultCode
+known names l = or_fault UnknownName (index_of names l)
+
+-- the index of a name that is entered: its own, or the next one; there are 4,096 at most
+abbrev pub entered_by : List (List ℕ) → Option ℕ → Result ℕ FaultCode
+entered_by names (Some i) = Ok i
+entered_by names None = if nat_lt (length names) 4096 then Ok (length names) else Err TooManyNames
+
+abbrev pub entered : List (List ℕ) → List ℕ → Result ℕ FaultCode
+entered names l = entered_by names (index_of names l)
+
+-- the names with this one, which is added where it isn't there
+abbrev pub with_name_by : List (List ℕ) → List ℕ → Option ℕ → List (List ℕ)
+with_name_by names l (Some i) = names
+with_name_by names l None = names ++ l ∷ []
+
+abbrev pub with_name : List (List ℕ) → List ℕ → List (List ℕ)
+with_name names l = with_name_by names l (index_of names l)
+
+-- three lengths, from the left
+abbrev pub lengths : List Variable → Spot → Result (Tree × Tree × Tree) FaultCode
+lengths vs p =
+    then_ok (typed_for vs wants.Length p.x) (λ a. then_ok (typed_for vs wants.Length p.y)
+    (λ b. then_ok (typed_for vs wants.Length p.z) (λ c. Ok (a, b, c))))
+
+-- FEAT of the feature at this index
+abbrev pub declared_at : List Variable → Spot → Axis → ℕ → Result (Simple Tree) FaultCode
+declared_at vs p d i = then_ok (lengths vs p) (λ t. Ok (Feat i t.0 t.1 t.2 d))
+
+-- FEAT
+abbrev pub declared : List (List ℕ) → List Variable → List ℕ → Spot → Axis → Result (Simple Tree) FaultCode
+declared fs vs l p d = then_ok (entered fs l) (declared_at vs p d)
+
+-- MEAS of a feature that is declared above
+abbrev pub opened_measure : List (List ℕ) → List ℕ → Result Step FaultCode
+opened_measure fs l = then_ok (known fs l) (λ i. Ok (Measures i))
+
+-- the feature of the innermost block, if it is that of a MEAS
+abbrev pub measuring : List Opened → Option ℕ
+measuring (InMeasure f ∷ bs) = Some f
+measuring _ = None
+
+-- PTMEAS stands in a MEAS block, once
+abbrev pub touched_by : Option ℕ → Bool → Result ℕ FaultCode
+touched_by (Some f) false = Ok f
+touched_by _ _ = Err MeasBody
+
+abbrev pub touched_in : List Opened → Bool → Result ℕ FaultCode
+touched_in bs t = touched_by (measuring bs) t
+
+-- PTMEAS
+abbrev pub touched : List Opened → Bool → List Variable → Spot → Option Axis → Result (Simple Tree) FaultCode
+touched bs t vs p given = then_ok (touched_in bs t) (λ i. then_ok (lengths vs p) (λ t. Ok (PtMeas i t.0 t.1 t.2 given)))
+
+-- ENDMES stands at the end of a MEAS block, which has a PTMEAS
+abbrev pub measure_ended : List Opened → Bool → Result Step FaultCode
+measure_ended (InMeasure f ∷ bs) true = Ok EndsMeasure
+measure_ended (InMeasure f ∷ bs) false = Err MeasBody
+measure_ended _ _ = Err Unbalanced
+
+-- SNSET
+abbrev pub configured : List Variable → Setting → Source → Result (Simple Tree) FaultCode
+configured vs which e = then_ok (typed_for vs wants.Length e) (λ t. Ok (SnSet which t))
+
+-- three shifts, along x, y and z
+pub record Shifts : Type 0 where
+  pub x : Tree
+  pub y : Tree
+  pub z : Tree
+
+-- no shift
+abbrev pub no_shifts : Shifts
+no_shifts = record { x = Value (Thousandths (pos 0)); y = Value (Thousandths (pos 0)); z = Value (Thousandths (pos 0)) }
+
+-- the shifts with this one along an axis
+abbrev pub with_shift : Shifts → FrameAxis → Tree → Shifts
+with_shift s axes.X t = record s { x = t }
+with_shift s axes.Y t = record s { y = t }
+with_shift s axes.Z t = record s { z = t }
+
+-- the shifts with those of TRANS, in the order in which they are written
+abbrev pub shifts_of : List Variable → Shifts → List Offset → Result Shifts FaultCode
+shifts_of vs s [] = Ok s
+shifts_of vs s (o ∷ os) = then_ok (typed_for vs wants.Length o.length) (λ t. shifts_of vs (with_shift s o.axis t) os)
+
+-- TRANS
+abbrev pub shifted : List (List ℕ) → List Variable → List ℕ → List Offset → Result (Simple Tree) FaultCode
+shifted ds vs l os = then_ok (entered ds l) (λ i. then_ok (shifts_of vs no_shifts os) (λ s. Ok (Trans i s.x s.y s.z)))
+
+-- ROTATE
+abbrev pub rotated : List (List ℕ) → List ℕ → FrameAxis → Quarters → Result (Simple Tree) FaultCode
+rotated ds l axis n = then_ok (entered ds l) (λ i. Ok (Rotate i (axis_number axis) (quarters_number n)))
+
+-- RECALL
+abbrev pub recalled : List (List ℕ) → List ℕ → Result (Simple Tree) FaultCode
+recalled ds l = then_ok (known ds l) (λ i. Ok (Recall i))
+
+-- the variable of an OBTAIN is the one at this place of the table, if it is a REAL
+abbrev pub real_to : ℕ → Option Kind → Result ℕ FaultCode
+real_to i (Some kinds.Real) = Ok i
+real_to i (Some _) = Err BadType
+real_to i None = Err UnknownName
+
+abbrev pub real_by : List Variable → Option ℕ → Result ℕ FaultCode
+real_by vs None = Err UnknownName
+real_by vs (Some i) = real_to i (slice_get (kinds_of vs) i)
+
+abbrev pub real_named : List Variable → Target → Result ℕ FaultCode
+real_named vs t = real_by vs (target_of vs t)
+
+-- OBTAIN
+abbrev pub obtained : List (List ℕ) → List Variable → Target → Side → List ℕ → FeatureWord → Result (Simple Tree) FaultCode
+obtained fs vs t side l word =
+    then_ok (real_named vs t) (λ v. then_ok (known fs l) (λ i. Ok (Obtain v side i (word_number word))))
+
+-- OUTPUT
+abbrev pub reported : List (List ℕ) → Side → List ℕ → Result (Simple Tree) FaultCode
+reported fs side l = then_ok (known fs l) (λ i. Ok (Output side i))
