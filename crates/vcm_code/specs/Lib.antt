@@ -5,5 +5,6 @@ pub mod Valid
 pub mod Ranges
 pub mod CodeLaws
 pub mod Ops
+pub mod Copies
 pub mod Deciding
 pub mod inner

@@ -1,5 +1,5 @@
--- Which codes have all their fields in the ranges that an image has for them. Indexes, targets, source lines and numbers have theirs by their
--- types.
+-- Which codes have all their fields in the ranges that an image has for them. Indexes, targets, source lines and numbers have theirs by
+-- their types.
 use Rattle.std.specs.Prelude.{ℕ, ◌<◌, ◌≤◌, List, [], ◌∷◌, length}
 use Rattle.std.specs.List.{AllByRecursion}
 use Rattle.vcm_spec.specs.declared.expression.Item.{Item}
@@ -14,8 +14,8 @@ use Rattle.vcm_code.specs.Code.{Op, Plain, If, Do, EndDo, Statement, Code}
 abbrev pub IsShort : List Item → Type 0
 IsShort items = (1 ≤ length items) × (length items ≤ 1024)
 
--- a simple statement: its expressions are short, its text is one, an axis is one of three, quarter turns are fewer than four, and the word of a
--- feature is the third to the eighth
+-- a simple statement: its expressions are short, its text is one, an axis is one of three, quarter turns are fewer than four, and the word
+-- of a feature is the third to the eighth
 abbrev pub SimpleInRange : Simple (List Item) → Type 0
 SimpleInRange (Goto x y z) = IsShort x × IsShort y × IsShort z
 SimpleInRange GoHome = Unit {0}

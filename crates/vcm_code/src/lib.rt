@@ -2,6 +2,7 @@
 #![tactic(auto)]
 
 mod code;
+mod copying;
 mod fitting;
 pub mod laws;
 mod op;
@@ -9,6 +10,7 @@ mod pair;
 mod validity;
 
 pub use code::Code;
+pub use copying::{Expression, Line};
 pub use op::{Op, OwnedOp, OwnedStatement, Statement};
 pub use pair::Pair;
 pub use validity::is_valid;

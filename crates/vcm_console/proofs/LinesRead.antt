@@ -1,11 +1,9 @@
 -- Lines that are read byte by byte.
-use Rattle.std.proofs.Common.{◌≡◌, ◌≢◌, ℕ, zero, suc, ◌+◌, ◌<◌, ◌≤◌, true, false, List, [], ◌∷◌, ◌++◌, length, take, drop, Option, Some, None, Err, refl, sym, ap, ◌∙◌, subst, arith, append_assoc, length-append}
+use Rattle.std.proofs.Common.{◌≡◌, ◌≢◌, ℕ, zero, suc, ◌+◌, ◌<◌, ◌≤◌, true, false, List, [], ◌∷◌, ◌++◌, length, take, drop, Option, Some, None, refl, sym, ap, ◌∙◌, subst, arith, append_assoc, length-append}
 use Rattle.std.proofs.lemmas.List.{append-nil, drop_at}
 use Rattle.std.specs.Prelude.{IfSome}
 use Rattle.std.specs.Io.KnownBytes.{Keeps}
-use Rattle.vcm_console.specs.declared.reply.ServeFault.{ServeFault}
-use Rattle.vcm_console.specs.declared.reply.ServeFault.TheVariants.{Read}
-use Rattle.vcm_console.specs.Reading.{TakesAtMost, IsNextOf, AllPlain, IsLong, kept_of, HasLine, Reads}
+use Rattle.vcm_console.specs.Reading.{TakesAtMost, IsNextOf, AllPlain, IsLong, kept_of, HasLine}
 
 -- these bytes of a line were read, and this is left
 pub record HasRead (input : List ℕ) (after : Option (List ℕ)) (kept : List ℕ) (used : ℕ) : Type 0 where
@@ -110,10 +108,6 @@ read_failed left (Some input) after later kept used l h k =
     let u = h.used_is in
     let same = kept_is_same h.rest later (subst (λ a. Keeps a later) h.after_is k) in
     (length h.seen, omega (arith, u, l), same ∙ ap Some (sym (ap (drop (length h.seen)) h.cut ∙ drop_at h.seen h.rest (length h.seen) refl)))
-
-pub fault_found : (left : ℕ) (known later : Option (List ℕ)) (f : ServeFault) → f ≡ Read → IfSome known (λ input. TakesAtMost left input later)
-    → IfSome known (λ input. Reads left input later (Err f))
-fault_found left known later f e h = subst (λ g. IfSome known (λ input. Reads left input later (Err g))) (sym e) h
 
 -- the input's end
 pub none_left : (known after later : Option (List ℕ)) (kept : List ℕ) (used : ℕ) → used ≡ 0 → HasReadOf known after kept used

@@ -1,5 +1,6 @@
 -- Lines of an input.
-use Rattle.std.specs.Prelude.{◌≡◌, ◌≢◌, ℕ, ◌+◌, ◌<◌, ◌≤◌, Bool, true, false, List, [], ◌∷◌, ◌++◌, length, take, drop, Option, Some, None, Result, Ok, Err, IfSome}
+use Rattle.std.specs.Prelude.{◌≡◌, ◌≢◌, ℕ, ◌+◌, ◌<◌, ◌≤◌, Bool, true, false, List, [], ◌∷◌, ◌++◌, length, take, drop, Option, Some, None}
+use Rattle.std.specs.Prelude.{Result, Ok, Err, IfSome}
 use Rattle.std.specs.Io.KnownBytes.{Keeps}
 use Rattle.vcm_console.specs.declared.line.RawLine.{RawLine}
 use Rattle.vcm_console.specs.declared.reply.ServeFault.{ServeFault}
@@ -57,8 +58,8 @@ pub record HasLine (left : ℕ) (input : List ℕ) (after : Option (List ℕ)) (
   pub fits : used ≤ left
   pub after_is : after ≡ Some rest
 
--- what reading a line found, and what of the input is left: where the line is longer, one byte behind the limit is taken too; where the reader
--- failed, no byte behind it
+-- what reading a line found, and what of the input is left: where the line is longer, one byte behind the limit is taken too; where the
+-- reader failed, no byte behind it
 abbrev pub Reads : ℕ → List ℕ → Option (List ℕ) → Result (Option RawLine) ServeFault → Type 0
 Reads left input after (Ok None) = (input ≡ []) × (after ≡ Some [])
 Reads left input after (Ok (Some l)) = HasLine left input after l.kept l.ended l.used

@@ -1,5 +1,6 @@
 -- The printed text of replies, each line with its line feed.
-use Rattle.std.specs.Prelude.{ℕ, ◌-◌, ◌<◌, ◌≤◌, ◌==◌, ℤ, List, [], ◌∷◌, ◌++◌, length, drop, slice_get, Option, Some, None, decimal, codes, if◌then◌else◌}
+use Rattle.std.specs.Prelude.{ℕ, ◌-◌, ◌<◌, ◌≤◌, ◌==◌, ℤ, List, [], ◌∷◌, ◌++◌, length, drop, slice_get, Option, Some, None, decimal, codes}
+use Rattle.std.specs.Prelude.{if◌then◌else◌}
 use Rattle.std.specs.Fmt.{signed_decimal}
 use Rattle.vcm_num.specs.declared.number.Kind.{Kind}
 use Rattle.vcm_num.specs.declared.number.Kind.TheVariants.{Int, Real, Bool}
@@ -14,7 +15,8 @@ use Rattle.vcm_console.specs.declared.reply.Standing.{Standing}
 use Rattle.vcm_console.specs.declared.reply.Refusal.{Refusal}
 use Rattle.vcm_console.specs.declared.reply.Refusal.TheVariants.{UnknownCommand, NoSuchName, NoSuchStatement, CountOutOfRange, BeforeStart}
 use Rattle.vcm_console.specs.declared.reply.Reply.{Reply}
-use Rattle.vcm_console.specs.declared.reply.Reply.TheVariants.{Set, Cleared, Found, Stands, Ran, Watched, Unwatched, Value, Features, Listed, Lines, Bye, Refused}
+use Rattle.vcm_console.specs.declared.reply.Reply.TheVariants.{Set, Cleared, Found, Stands, Ran, Watched, Unwatched, Value, Features}
+use Rattle.vcm_console.specs.declared.reply.Reply.TheVariants.{Listed, Lines, Bye, Refused}
 use Rattle.vcm_code.specs.declared.code.Code.{Code}
 use Rattle.vcm_fields.specs.Parts.{Line}
 use Rattle.vcm_words.specs.declared.row.Row.TheVariants.{Numbered}

@@ -6,8 +6,8 @@ use Rattle.vcm_code.specs.Ops.{code_of}
 use Rattle.vcm_code.specs.CodeTable.{Place}
 use Rattle.vcm_machine.specs.Running.{Running, started, later}
 
--- A session: the workpiece and the code that it speaks of, how many steps were taken so far, for each statement whether it has a breakpoint, and
--- for each variable whether it is watched
+-- A session: the workpiece and the code that it speaks of, how many steps were taken so far, for each statement whether it has a
+-- breakpoint, and for each variable whether it is watched
 pub record Debugging : Type 0 where
   pub part : Workpiece
   pub code : Code

@@ -1,5 +1,6 @@
 -- Where a run of the debugger ends, and why.
-use Rattle.std.specs.Prelude.{◌≡◌, ℕ, zero, suc, ◌+◌, ◌<◌, ℤ, Bool, true, false, List, [], ◌∷◌, Option, Some, None, slice_get, if◌then◌else◌}
+use Rattle.std.specs.Prelude.{◌≡◌, ℕ, zero, suc, ◌+◌, ◌<◌, ℤ, Bool, true, false, List, [], ◌∷◌, Option, Some, None, slice_get}
+use Rattle.std.specs.Prelude.{if◌then◌else◌}
 use Rattle.std.specs.Ordering.{int_eq}
 use Rattle.vcm_spec.specs.declared.stop.StopPlace.{StopPlace}
 use Rattle.vcm_code.specs.CodeTable.{code_effective}
@@ -31,8 +32,8 @@ abbrev pub stop_reason : Option StopPlace → Option Reason → Option Reason
 stop_reason (Some p) other = Some Stopped
 stop_reason None other = other
 
--- why a run ends at the machine `now`, one step after `before`, if it does: the first that applies of a stop, a breakpoint at the next statement,
--- and a watched variable whose value differs
+-- why a run ends at the machine `now`, one step after `before`, if it does: the first that applies of a stop, a breakpoint at the next
+-- statement, and a watched variable whose value differs
 abbrev pub reason : List Bool → List Bool → Running → Running → Option Reason
 reason breakpoints watches before now =
     stop_reason now.place.world.stop
@@ -43,14 +44,14 @@ reason breakpoints watches before now =
 abbrev pub reason_after : List Bool → List Bool → Running → ℕ → Option Reason
 reason_after breakpoints watches start j = reason breakpoints watches (later j start) (later (suc j) start)
 
--- why a run of at most k steps ends after j of them, where this is what is found there: for that reason, or, where there is none, since all k
--- were taken
+-- why a run of at most k steps ends after j of them, where this is what is found there: for that reason, or, where there is none, since all
+-- k were taken
 abbrev pub EndsBy : ℕ → ℕ → Option Reason → Reason → Type 0
 EndsBy k j (Some found) why = why ≡ found
 EndsBy k j None why = (j ≡ k) × (why ≡ Count)
 
--- A run of at most k steps from the machine `start` ends after j + 1 of them: this is the least number of steps after which there is a reason, or
--- there is none, and all k are taken
+-- A run of at most k steps from the machine `start` ends after j + 1 of them: this is the least number of steps after which there is a
+-- reason, or there is none, and all k are taken
 pub record RunEnds (breakpoints watches : List Bool) (start : Running) (k j : ℕ) (why : Reason) : Type 0 where
   pub within : j < k
   pub none_earlier : (i : ℕ) → i < j → reason_after breakpoints watches start i ≡ None

@@ -1,5 +1,6 @@
 -- What the debugger writes to the lines that it reads.
-use Rattle.std.specs.Prelude.{◌≡◌, ℕ, zero, suc, ◌+◌, ◌-◌, ◌≤◌, ◌==◌, Bool, true, false, List, [], ◌∷◌, ◌++◌, length, take, slice_index_or, if◌then◌else◌, codes, Option, Result, Ok, Err, ◌⊎◌}
+use Rattle.std.specs.Prelude.{◌≡◌, ℕ, zero, suc, ◌+◌, ◌-◌, ◌≤◌, ◌==◌, Bool, true, false, List, [], ◌∷◌, ◌++◌, length, take, slice_index_or}
+use Rattle.std.specs.Prelude.{if◌then◌else◌, codes, Option, Result, Ok, Err, ◌⊎◌}
 use Rattle.std.specs.Io.KnownBytes.{Appends}
 use Rattle.vcm_num.specs.Written.{AppendsFront}
 use Rattle.vcm_console.specs.declared.command.Command.{Command}
@@ -61,7 +62,7 @@ MayEnd last (Ok done) = last ≡ true
 MayEnd last (Err Write) = Unit {0}
 MayEnd last (Err e) = ⊥
 
--- With at most n lines of at most `left` bytes of this input, a session writes this text, serving ends so, and the session stands there then
+-- With at most n lines of at most `left` bytes of this input, a session writes this text, serving ends so, and there the session stands
 pub data Serves : ℕ → ℕ → Debugging → List ℕ → List ℕ → Result (Unit {0}) ServeFault → Debugging → Type 0 where
   -- the end of the input is `quit`
   input_ends : {n left : ℕ} {d : Debugging} {r : Result (Unit {0}) ServeFault} → MayEnd true r → Serves n left d [] (codes "bye\n") r d
@@ -91,8 +92,8 @@ Writes (Err Write) old new text = WritesSome old new text
 Writes (Ok done) old new text = Appends old new text
 Writes (Err e) old new text = Appends old new text
 
--- A session served at most n lines of at most `left` bytes of an input, and ended at another session: what it wrote is what it serves, and at most
--- one byte is taken that it may not have
+-- A session served at most n lines of at most `left` bytes of an input, and ended at another session: what it wrote is what it serves, and
+-- at most one byte is taken that it may not have
 pub record Served (n left : ℕ) (old : Debugging) (input : List ℕ) (after before written : Option (List ℕ))
     (r : Result (Unit {0}) ServeFault) (new : Debugging) : Type 0 where
   pub text : List ℕ

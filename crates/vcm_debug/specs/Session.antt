@@ -1,5 +1,6 @@
 -- The debugger: what each command answers, and where the session stands afterwards.
-use Rattle.std.specs.Prelude.{◌≡◌, ℕ, ◌+◌, ◌-◌, ◌<◌, ◌==◌, nat_lt, nat_le, min, pos, Bool, true, false, ◌&&◌, List, length, slice_get, slice_set, slice_index_or, position, Option, Some, None, Result, Ok, Err, if◌then◌else◌}
+use Rattle.std.specs.Prelude.{◌≡◌, ℕ, ◌+◌, ◌-◌, ◌<◌, ◌==◌, nat_lt, nat_le, min, pos, Bool, true, false, ◌&&◌, List, length, slice_get}
+use Rattle.std.specs.Prelude.{slice_set, slice_index_or, position, Option, Some, None, Result, Ok, Err, if◌then◌else◌}
 use Rattle.std.specs.List.{position_from}
 use Rattle.std.specs.Str.{bytes_eq}
 use Rattle.vcm_spec.specs.declared.feature.Feature.{Feature}
@@ -14,7 +15,8 @@ use Rattle.vcm_console.specs.declared.reply.Standing.{Standing}
 use Rattle.vcm_console.specs.declared.reply.Refusal.{Refusal}
 use Rattle.vcm_console.specs.declared.reply.Refusal.TheVariants.{NoSuchName, NoSuchStatement, BeforeStart}
 use Rattle.vcm_console.specs.declared.reply.Reply.{Reply}
-use Rattle.vcm_console.specs.declared.reply.Reply.TheVariants.{Set, Cleared, Found, Stands, Ran, Watched, Unwatched, Value, Features, Listed, Lines, Bye, Refused}
+use Rattle.vcm_console.specs.declared.reply.Reply.TheVariants.{Set, Cleared, Found, Stands, Ran, Watched, Unwatched, Value, Features}
+use Rattle.vcm_console.specs.declared.reply.Reply.TheVariants.{Listed, Lines, Bye, Refused}
 use Rattle.vcm_console.specs.declared.reply.Halted.{Halted}
 use Rattle.vcm_code.specs.declared.code.Code.{Code}
 use Rattle.vcm_code.specs.CodeTable.{Place}

@@ -9,7 +9,8 @@ use Rattle.vcm_spec.specs.declared.expression.Item.TheVariants.{Push, Apply, Com
 use Rattle.vcm_spec.specs.Setup.{Variable as Entry}
 use Rattle.vcm_spec.specs.TextBytes.{IsText}
 use Rattle.vcm_expr.specs.Symbols.{IsVariableName}
-use Rattle.vcm_code.specs.declared.op.Op.TheVariants.{EndFil, Goto, GoHome, Assign, If, Else, EndIf, Do, EndDo, Label, JumpTo, Feat, Meas, PtMeas, EndMes, SnSet, Trans, Rotate, Recall, Obtain, Output, Text}
+use Rattle.vcm_code.specs.declared.op.Op.TheVariants.{EndFil, Goto, GoHome, Assign, If, Else, EndIf, Do, EndDo, Label, JumpTo, Feat, Meas}
+use Rattle.vcm_code.specs.declared.op.Op.TheVariants.{PtMeas, EndMes, SnSet, Trans, Rotate, Recall, Obtain, Output, Text}
 use Rattle.vcm_fields.specs.Parts.{Operation, Line}
 
 -- a number from the one to the other

@@ -5,7 +5,10 @@ ghost use Rattle.vcm_fields.specs.Readers.{Gives, times, item_at};
 
 use crate::fault::ImageFault;
 use crate::items::item;
+use std::alloc::Global;
 use std::marker::Model;
+use vcm_code::{Expression, Line};
+use vcm_num::{Items, NoMemory};
 use vcm_spec::Item;
 
 /// Postfix items, as bytes of an image.
@@ -81,6 +84,20 @@ impl<'a> ItemSlice<'a> {
     }
 }
 
+impl<'a> Expression for ItemSlice<'a> {
+    ghost items = { λ s. s };
+
+    fn to_items(&self, alloc: Global) -> Result<Items<Item>, NoMemory> {
+        let mut copy = Items::new(alloc);
+        let mut rest = self.again();
+        while let Some((item, after)) = rest.split_first() {
+            copy.push(item)?;
+            rest = after;
+        }
+        Ok(copy)
+    }
+}
+
 /// A text or a name, as bytes of an image.
 #[derive(Drop)]
 pub struct TextSlice<'a> {
@@ -115,5 +132,14 @@ impl<'a> TextSlice<'a> {
         ensures { result.now ≡ self.now }
     {
         self.bytes
+    }
+}
+
+impl<'a> Line for TextSlice<'a> {
+    ghost bytes = { λ s. s };
+
+    fn to_bytes(&self, alloc: Global) -> Result<Items<u8>, NoMemory> {
+        let copy = Items::from_slice(alloc, self.as_bytes())?;
+        Ok(copy)
     }
 }

@@ -165,6 +165,25 @@ fn point(
     Ok(())
 }
 
+// Appends an index, and two bytes.
+fn turn(out: &mut Vec<u8>, index: u16, first: u8, second: u8) -> Result<(), NoMemory>
+    ensures { OnOk result (out.new.items ≡ out.old.items ++ (short_bytes index ++ first ∷ second ∷ [])) }
+{
+    short(out, index)?;
+    byte(out, first)?;
+    byte(out, second)
+}
+
+// Appends two indexes, each with a byte behind it.
+fn query(out: &mut Vec<u8>, target: u16, source: u8, index: u16, word: u8) -> Result<(), NoMemory>
+    ensures { OnOk result (out.new.items ≡ out.old.items ++ (short_bytes target ++ source ∷ (short_bytes index ++ word ∷ []))) }
+{
+    short(out, target)?;
+    byte(out, source)?;
+    short(out, index)?;
+    byte(out, word)
+}
+
 // Appends the operands of a statement.
 fn operands(out: &mut Vec<u8>, op: &OwnedOp) -> Result<(), NoMemory>
     requires { OpInRange (op_of op.now) }
@@ -200,17 +219,10 @@ fn operands(out: &mut Vec<u8>, op: &OwnedOp) -> Result<(), NoMemory>
             expression(out, length)
         }
         Op::Trans(frame, x, y, z) => index_three(out, *frame, x, y, z),
-        Op::Rotate(frame, axis, quarters) => {
-            short(out, *frame)?;
-            byte(out, *axis)?;
-            byte(out, *quarters)
-        }
+        Op::Rotate(frame, axis, quarters) => turn(out, *frame, *axis, *quarters),
         Op::Meas(index) | Op::Recall(index) => short(out, *index),
         Op::Obtain(variable, source, feature, part) => {
-            short(out, *variable)?;
-            byte(out, source_byte(*source))?;
-            short(out, *feature)?;
-            byte(out, *part)
+            query(out, *variable, source_byte(*source), *feature, *part)
         }
         Op::Output(source, feature) => {
             byte(out, source_byte(*source))?;

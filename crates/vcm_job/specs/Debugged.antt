@@ -55,8 +55,8 @@ pub record IsCutShort (part : Workpiece) (input lines : List ℕ) (after : Optio
   pub image_is : IsImageOf input image notices
   pub served : IsServedOn part image lines after old new (Err fault)
 
--- why a session on the input didn't come to its end, and what was written: the input is refused, or memory was, and nothing was written; or it
--- ended with a fault
+-- why a session on the input didn't come to its end, and what was written: the input is refused, or memory was, and nothing was written; or
+-- it ended with a fault
 abbrev pub IsInputFault : Workpiece → List ℕ → Option (List ℕ) → Option (List ℕ) → DebugFault → Option (List ℕ) → Option (List ℕ) → Type 0
 IsInputFault part input known after (Image e) old new = (is_image input ≡ true) × LoadFault (code_at input) e × Keeps old new
 IsInputFault part input known after (Refused r) old new = (is_image input ≡ false) × IsRefusal input r × Keeps old new

@@ -207,13 +207,10 @@ fn refusals(rt: HostRuntime) {
         1 (2)
         1A
         A2345678901234567";
+    let fine = b"12.3456+99999999999999999999\n12.3456+";
+    let kinds = b"1\n-.TRUE.\n.NOT.1\n1.AND..TRUE.";
     let rows: [(&[u8], Want, FaultCode, usize); 7] = [
-        (
-            b"12.3456+99999999999999999999\n12.3456+",
-            Want::Int,
-            FaultCode::TooFine,
-            2,
-        ),
+        (fine, Want::Int, FaultCode::TooFine, 2),
         (bad, Want::Int, FaultCode::BadSyntax, 12),
         (
             b"99999999999999999999+12.3456",
@@ -223,12 +220,7 @@ fn refusals(rt: HostRuntime) {
         ),
         (b"1.5*1.5\n1/1.5", Want::Length, FaultCode::BadType, 2),
         (b"1.5\n1*.TRUE.+Y", Want::Int, FaultCode::BadType, 2),
-        (
-            b"1\n-.TRUE.\n.NOT.1\n1.AND..TRUE.",
-            Want::Bool,
-            FaultCode::BadType,
-            4,
-        ),
+        (kinds, Want::Bool, FaultCode::BadType, 4),
         (
             b"Y+1*.TRUE.\nA234567890123456",
             Want::Int,

@@ -6,6 +6,8 @@ mod assembler_tests;
 #[cfg(test)]
 mod expr_tests;
 #[cfg(test)]
+mod leftmost_tests;
+#[cfg(test)]
 mod lines_tests;
 #[cfg(test)]
 mod motion_tests;
@@ -15,6 +17,8 @@ mod num_tests;
 mod part_tests;
 #[cfg(test)]
 mod parts;
+#[cfg(test)]
+mod phase_tests;
 #[cfg(test)]
 mod syntax_tests;
 #[cfg(test)]

@@ -17,7 +17,7 @@ fn judged<F: Fn(&Result<Accepted, SourceFault>) -> bool>(
 }
 
 // Whether a text gets this refusal.
-fn is_refused(alloc: Global, text: &[u8], code: FaultCode, line: u32) -> bool {
+pub(crate) fn is_refused(alloc: Global, text: &[u8], code: FaultCode, line: u32) -> bool {
     judged(alloc, text, |judgement| match judgement {
         Ok(_) => false,
         Err(fault) => *fault == SourceFault { code, line },
@@ -253,79 +253,4 @@ fn names(rt: HostRuntime) {
         (b"GOTO/0,Y,.TRUE.", FaultCode::UnknownName, 3),
     ];
     assert_eq!(rt; wrong_refusal(rt.alloc(), &rows), None);
-}
-
-// The first of the rows whose text doesn't get the refusal that stands there.
-fn wrong_whole(alloc: Global, rows: &[(&[u8], FaultCode, u32)]) -> Option<usize> {
-    for (index, (text, code, line)) in rows.iter().enumerate() {
-        if !is_refused(alloc, text, *code, *line) {
-            return Some(index);
-        }
-    }
-    None
-}
-
-#[test]
-fn orders_and_phases(rt: HostRuntime) {
-    let rows: [(&[u8], FaultCode, u32); 14] = [
-        (
-            b"\nUNITS/MM,ANGDEC\nDMISMN/'T'\nENDFIL",
-            FaultCode::BadOrder,
-            2,
-        ),
-        (b"\nENDFIL", FaultCode::BadOrder, 2),
-        (
-            b"MODE/MAN\nDMISMN/'T'\nUNITS/MM,ANGDEC\nENDFIL",
-            FaultCode::BadOrder,
-            1,
-        ),
-        (
-            b"DMISMN/'T'\nMODE/MAN\nGOTO/20,20,50\nUNITS/MM,ANGDEC\nENDFIL",
-            FaultCode::BadOrder,
-            3,
-        ),
-        (b"DMISMN/'T'\nENDFIL", FaultCode::BadOrder, 2),
-        (
-            b"DMISMN/'T'\nUNITS/MM,ANGDEC\nDMISMN/'T'\nENDFIL",
-            FaultCode::BadOrder,
-            3,
-        ),
-        (
-            b"DMISMN/'T'\nUNITS/MM,ANGDEC\nENDFIL\n\nGOTO/20,20,50",
-            FaultCode::BadOrder,
-            5,
-        ),
-        (
-            b"DMISMN/'T'\nUNITS/MM,ANGDEC\nENDFIL\nMODE/MAN",
-            FaultCode::BadOrder,
-            4,
-        ),
-        (
-            b"DMISMN/'T'\nUNITS/MM,ANGDEC\nENDFIL\nENDFIL",
-            FaultCode::BadOrder,
-            4,
-        ),
-        (
-            b"DMISMN/'T'\nUNITS/MM,ANGDEC\nGOTO/20, $\n20,50\n\n$$ end",
-            FaultCode::BadOrder,
-            3,
-        ),
-        (b"", FaultCode::BadOrder, 1),
-        (
-            b"DMISMN/'T'\nUNITS/MM,ANGDEC\nDATSET/MCS\nENDFIL",
-            FaultCode::UnknownStatement,
-            3,
-        ),
-        (
-            b"DMISMN/'T'\nUNITS/MM,ANGDEC\nDATSET/MCS\nENDFIL\n\x01",
-            FaultCode::BadByte,
-            5,
-        ),
-        (
-            b"UNITS/MM,ANGDEC\nGOTO/20,20,50\n\nDATSET/MCS\nENDFIL",
-            FaultCode::UnknownStatement,
-            4,
-        ),
-    ];
-    assert_eq!(rt; wrong_whole(rt.alloc(), &rows), None);
 }

@@ -10,7 +10,7 @@ use std::marker::Model;
 use vcm_code::{Code, OwnedStatement};
 use vcm_expr::Name;
 use vcm_num::{Items, NoMemory};
-use vcm_rows::{BorrowedRow, BorrowedStatement, statement};
+use vcm_rows::{BorrowedRow, BorrowedStatement};
 use vcm_tables::{Tables, Variable};
 use vcm_words::{ListCode, Row};
 
@@ -113,7 +113,7 @@ impl Growing {
     }
 
     // One more statement.
-    #[tactic(auto, unfolding(vcm_words::specs::Listing::added))]
+    #[tactic(auto, using(vcm_code::proofs::Copies::same_statement), unfolding(vcm_words::specs::Listing::added))]
     fn add_statement(
         &mut self,
         alloc: Global,
@@ -130,8 +130,7 @@ impl Growing {
         if number as usize != count {
             return Err(ListCode::OutOfOrder);
         }
-        let copy = statement(alloc, from)?;
-        self.statements.push(copy)?;
+        self.statements.push(from.to_owned(alloc)?)?;
         Ok(())
     }
 

@@ -7,7 +7,8 @@ use Rattle.vcm_spec.specs.declared.expression.Item.TheVariants.{Push, Apply, Com
 use Rattle.vcm_spec.specs.Expression.{HasKind}
 use Rattle.vcm_spec.specs.Fitting.{kinds as kinds_of}
 use Rattle.vcm_expr.specs.Typed.{VariableBelow}
-use Rattle.vcm_code.specs.declared.op.Op.TheVariants.{EndFil, Goto, GoHome, Assign, If, Else, EndIf, Do, EndDo, Label, JumpTo, Feat, Meas, PtMeas, EndMes, SnSet, Trans, Rotate, Recall, Obtain, Output, Text}
+use Rattle.vcm_code.specs.declared.op.Op.TheVariants.{EndFil, Goto, GoHome, Assign, If, Else, EndIf, Do, EndDo, Label, JumpTo, Feat, Meas}
+use Rattle.vcm_code.specs.declared.op.Op.TheVariants.{PtMeas, EndMes, SnSet, Trans, Rotate, Recall, Obtain, Output, Text}
 use Rattle.vcm_code.specs.declared.code.Code.{Code}
 use Rattle.vcm_fields.specs.Parts.{Operation, Line}
 
@@ -28,8 +29,8 @@ counts_of c =
       statements = length c.statements;
     }
 
--- one thing that has to hold: an index or a target is below a count, all variables of an expression are, an expression has a kind, a variable
--- has one, or a variable and an expression have the same
+-- one thing that has to hold: an index or a target is below a count, all variables of an expression are, an expression has a kind, a
+-- variable has one, or a variable and an expression have the same
 pub data Check : Type 0 where
   index : (i count : ℕ) → Check
   target : (i count : ℕ) → Check

@@ -11,7 +11,8 @@ use Rattle.vcm_syntax.specs.declared.statement.Spot.{Spot}
 use Rattle.vcm_syntax.specs.declared.statement.Rounds.{Rounds}
 use Rattle.vcm_syntax.specs.declared.statement.Offset.{Offset}
 use Rattle.vcm_syntax.specs.declared.statement.Form.{Form}
-use Rattle.vcm_syntax.specs.declared.statement.Form.TheVariants.{Assignment, Move, Test, Repeat, Feature, Measure, Touch, Configure, Shift, Rotation, Restore, Query, Report}
+use Rattle.vcm_syntax.specs.declared.statement.Form.TheVariants.{Assignment, Move, Test, Repeat, Feature, Measure, Touch, Configure, Shift}
+use Rattle.vcm_syntax.specs.declared.statement.Form.TheVariants.{Rotation, Restore, Query, Report}
 
 -- what a body is expanded with: the parameters, what stands for them, one by one, and the number of the expansion
 pub record Scope : Type 0 where

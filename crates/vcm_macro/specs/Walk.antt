@@ -67,8 +67,8 @@ abbrev pub outside_in : Caller → ℕ → Statement → Form → List Place
 outside_in call done s (Call name args) = call s.line 1 done name (map (put_argument outside) args)
 outside_in call done s form = Stands 0 s ∷ []
 
--- a statement of the text: outside macros, or inside the one that is open; then what goes on, behind these macros, with this one open, after
--- so many CALLs
+-- a statement of the text: outside macros, or inside the one that is open; then what goes on, behind these macros, with this one open,
+-- after so many CALLs
 abbrev pub text_from : List Defined → Option Defined → ℕ → Statement → Form → (List Defined → Option Defined → ℕ → List Place) → List Place
 text_from ms None done s (Macro name ps) on = Opens ms s ∷ on ms (Some (record { name = name; parameters = ps; body = [] })) done
 text_from ms None done s form on = behind (outside_in (call_in ms) done s form) done (on ms None)

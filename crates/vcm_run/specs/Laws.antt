@@ -11,8 +11,8 @@ use Rattle.vcm_machine.specs.declared.ran.Ran.{Ran}
 use Rattle.vcm_machine.specs.Running.{Running, started, HasRun}
 use Rattle.vcm_run.specs.Run.{IsRun}
 
--- take a code that a program is assembled to, its image, any code with this image, and a machine that has run this one for n steps from its start:
--- it shows what the statement table gives for the program
+-- take a code that a program is assembled to, its image, any code with this image, and a machine that has run this one for n steps from its
+-- start: it shows what the statement table gives for the program
 abbrev pub CallsShowTheProgram : Type 0
 CallsShowTheProgram = (part : Workpiece) (program : Block) (tables : Tables) (written loaded : Code) (n : ℕ) (m : Running) (ran : Ran)
     → IsAssembled program tables (code_of written) → Fits written → Fits loaded → spelling written ≡ spelling loaded

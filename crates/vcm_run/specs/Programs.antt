@@ -39,7 +39,7 @@ pub record IsBuilt (text bytes : List ℕ) (notices : List Noticed) : Type 0 whe
   pub image : IsImageOf parsed bytes
   pub notices_are : notices ≡ parsed.notices
 
--- why a text isn't run: it is refused, or memory was refused to its acceptance, at line 0; or it is accepted, and memory was refused behind that
+-- why a text isn't run: it is refused, or memory was refused to its acceptance, at line 0; or it is accepted, and memory was refused after
 abbrev pub IsRefusal : List ℕ → Refusal → Type 0
 IsRefusal text (Source f) = NoMemoryOr (IsRefused text) f
 IsRefusal text (Part f) = ⊥

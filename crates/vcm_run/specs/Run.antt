@@ -10,8 +10,9 @@ use Rattle.vcm_machine.specs.declared.ran.End.{End}
 use Rattle.vcm_machine.specs.declared.ran.End.TheVariants.{Count, Stopped, NoMemory}
 use Rattle.vcm_machine.specs.declared.ran.Ran.{Ran}
 
--- how a run ended, asked for n steps from the state `start`, at the state `reached` after `done` steps: it has stopped, so that these are the
--- effective steps; or all n were taken, and it has not; or memory was refused to a statement that makes an output line and would not stop
+-- how a run ended, asked for n steps from the state `start`, at the state `reached` after `done` steps: it has stopped, so that these are
+-- the effective steps; or all n were taken, and it has not; or memory was refused to a statement that makes an output line and would not
+-- stop
 abbrev pub Ended : Setup → ℕ → State → State → ℕ → End → Type 0
 Ended setup n start reached done Stopped = (done ≡ effective setup n start) × ((p : StopPlace) × (reached.world.stop ≡ Some p))
 Ended setup n start reached done Count = (done ≡ n) × (n ≡ effective setup n start) × (reached.world.stop ≡ None)

@@ -1,16 +1,11 @@
 //! Sessions of the debugger, from their commands to their replies.
 
-ghost use Rattle.std.specs.Prelude.{◌≡◌};
-
 use crate::image_tests::image_of;
 use std::alloc::Global;
-use std::cell::Cell;
-use vcm_debug::{Command, ServeFault, Session, serve};
+use vcm_debug::{ServeFault, Session, serve};
 use vcm_loader::{Loaded, load};
-use vcm_motion::{Blocks, Face, Part};
-use vcm_num::{Axis, Point};
+use vcm_motion::{Blocks, Part};
 use vcm_part::read_part;
-use vcm_spec::{Bounds, Hit};
 use vcm_test_texts::{BOUNDS, ONE_BLOCK, joined};
 
 // Three lines, from a loop.
@@ -43,7 +38,7 @@ fn served<P: Part>(
 }
 
 // The replies to the commands of a session on the program with these statements beside one block, and how serving them ended.
-fn session(
+pub(crate) fn session(
     alloc: Global,
     statements: &str,
     commands: &[u8],
@@ -201,117 +196,5 @@ fn too_many_lines(rt: HostRuntime) {
         (10_000, "bye\n", Ok(())),
     ] {
         assert!(rt; empty_lines(rt.alloc(), count, expected, told) == Some(true));
-    }
-}
-
-// A loop that prints more lines than there may be.
-const MANY: &str = "DECL/INTGR,I\nDO/I,1,100001,1\nTEXT/OPER,'A'\nENDDO\n";
-
-// What a session replies to four questions behind these commands, which it answers with so many lines.
-fn asked(alloc: Global, commands: &str, lines: usize) -> Option<Vec<u8>> {
-    let commands = joined(alloc, &[commands, "where\nshow I\nout 2\nlist\n"])?;
-    let (out, end) = session(alloc, MANY, commands.as_bytes())?;
-    if end.is_err() {
-        return None;
-    }
-    let mut replies = out
-        .as_slice()
-        .splitn(lines.saturating_add(1), |byte| *byte == b'\n');
-    Vec::from_slice(alloc, replies.last()?).ok()
-}
-
-// Whether so many steps back from 5,000 steps all is shown that is shown behind the steps that are left. Both ways have a step forth and back.
-fn is_shown_again(alloc: Global, back: u32) -> Option<bool> {
-    let left = 5000_u32.saturating_sub(back);
-    let gone = format!(in alloc; "step 5000\nstep 1\nback\nback {back}\n").ok()?;
-    let fresh = format!(in alloc; "step {left}\nstep 1\nback\n").ok()?;
-    Some(asked(alloc, gone.as_str(), 4)? == asked(alloc, fresh.as_str(), 3)?)
-}
-
-#[test]
-fn back_shows_what_fewer_steps_show(rt: HostRuntime) {
-    for k in [
-        1, 2, 3, 15, 16, 17, 18, 31, 32, 33, 100, 127, 128, 129, 500, 1000, 2047, 2048, 2049, 3000,
-        4095, 4096, 4983, 4984, 4985, 4998, 4999,
-    ] {
-        assert!(rt; is_shown_again(rt.alloc(), k) == Some(true), "{k}");
-    }
-}
-
-// A workpiece that counts the moves that it is asked about.
-#[derive(Clone, Copy)]
-struct Counting<'a> {
-    blocks: Blocks<'a>,
-    moves: &'a Cell<u32>,
-}
-
-impl<'a> Part for Counting<'a> {
-    ghost part = { λ c. ⟦<Blocks<'a> as Part>⟧.part c.blocks };
-
-    ghost valid = { λ c. c.blocks.valid };
-
-    fn bounds(&self) -> Bounds {
-        self.blocks.bounds()
-    }
-
-    fn inside(&self, at: Point) -> bool {
-        self.blocks.inside(at)
-    }
-
-    fn first_hit(&self, from: Point, to: Point) -> Option<Hit> {
-        self.moves.set(self.moves.get().saturating_add(1));
-        self.blocks.first_hit(from, to)
-    }
-
-    fn first_face(&self, from: Point, toward: Axis, length: u32) -> Option<Face> {
-        self.blocks.first_face(from, toward, length)
-    }
-}
-
-// A loop of moves.
-const MOVES: &str = "DECL/INTGR,I\nDO/I,1,100000\nGOTO/20,20,50\nENDDO\n";
-
-// How many moves the workpiece is asked about when a session goes back so many of 5,000 steps.
-fn moves_of(
-    alloc: Global,
-    session: &mut Session<'_, Counting<'_>>,
-    moves: &Cell<u32>,
-    back: u32,
-) -> Option<u32>
-    requires { session.old.count ≡ 0 }
-{
-    session.command(alloc, &Command::Step(5000)).ok()?;
-    moves.set(0);
-    session.command(alloc, &Command::Back(back)).ok()?;
-    Some(moves.get())
-}
-
-// The same of a new session on what was loaded.
-fn moves_on(alloc: Global, loaded: &Loaded<'_>, part: &Counting<'_>, back: u32) -> Option<u32> {
-    match &mut Session::new(alloc, loaded, part) {
-        Ok(session) => moves_of(alloc, session, part.moves, back),
-        Err(_) => None,
-    }
-}
-
-// The same on the program of moves, beside one block.
-fn moves_of_back(alloc: Global, back: u32) -> Option<u32> {
-    let file = joined(alloc, &[BOUNDS, ONE_BLOCK])?;
-    let data = read_part(alloc, file.as_bytes()).ok()?;
-    let moves = Cell::new(0);
-    let part = Counting {
-        blocks: Blocks::new(&data),
-        moves: &moves,
-    };
-    let image = image_of(alloc, MOVES)?;
-    let loaded = load(alloc, &image).ok()?;
-    moves_on(alloc, &loaded, &part, back)
-}
-
-#[test]
-fn back_does_not_run_from_the_start(rt: HostRuntime) {
-    for back in [1, 100, 1000] {
-        let moves = moves_of_back(rt.alloc(), back);
-        assert!(rt; moves.is_some_and(|n| n <= 500), "{back}");
     }
 }

@@ -2,6 +2,8 @@
 #![tactic(auto)]
 
 #[cfg(test)]
+mod back_tests;
+#[cfg(test)]
 mod debug_tests;
 #[cfg(test)]
 mod image_tests;
@@ -15,6 +17,8 @@ mod macro_tests;
 mod measuring_tests;
 #[cfg(test)]
 mod plain;
+#[cfg(test)]
+mod plain_items;
 #[cfg(test)]
 mod run_tests;
 #[cfg(test)]

@@ -65,81 +65,84 @@ fn counts(rt: HostRuntime) {
     }
 }
 
+// Statements with macros that are refused, with this code at this line.
+const REFUSED: [(&str, FaultCode, u32); 19] = [
+    ("CALL/M(A)\nM(A)=MACRO\nENDMAC\n", FaultCode::UnknownName, 3),
+    (
+        "M(A)=MACRO\nCALL/M(B)\nENDMAC\nM(B)=MACRO\nENDMAC\nCALL/M(A)\n",
+        FaultCode::UnknownName,
+        4,
+    ),
+    (
+        "M(A)=MACRO\nCALL/M(A)\nENDMAC\nCALL/M(A)\n",
+        FaultCode::UnknownName,
+        4,
+    ),
+    (
+        "M(A)=MACRO\nIF/(1.EQ.1)\nENDMAC\n",
+        FaultCode::Unbalanced,
+        5,
+    ),
+    ("M(A)=MACRO\nENDDO\nENDMAC\n", FaultCode::Unbalanced, 4),
+    (
+        "M(A)=MACRO\nENDMAC\nM(A)=MACRO\nENDMAC\n",
+        FaultCode::DuplicateName,
+        5,
+    ),
+    ("M(A)=MACRO/X,X\nENDMAC\n", FaultCode::DuplicateName, 3),
+    (
+        "M(A)=MACRO/X\nDECL/INTGR,X\nENDMAC\n",
+        FaultCode::DuplicateName,
+        4,
+    ),
+    (
+        "M(A)=MACRO\nM(B)=MACRO\nENDMAC\nENDMAC\n",
+        FaultCode::BadOrder,
+        4,
+    ),
+    ("ENDMAC\n", FaultCode::BadOrder, 3),
+    ("M(A)=MACRO\n", FaultCode::BadOrder, 4),
+    (
+        "M(A)=MACRO\nENDMAC\nCALL/M(A),1\n",
+        FaultCode::BadArguments,
+        5,
+    ),
+    (
+        "M(A)=MACRO/'P'\nENDMAC\nCALL/M(A),1+2\n",
+        FaultCode::BadArguments,
+        5,
+    ),
+    (
+        "DECL/INTGR,R\nM(A)=MACRO/X\nX=ASSIGN/1\nENDMAC\nCALL/M(A),R+0\n",
+        FaultCode::BadArguments,
+        7,
+    ),
+    (
+        "M(A)=MACRO\nT=ASSIGN/1\nENDMAC\nCALL/M(A)\n",
+        FaultCode::UnknownName,
+        4,
+    ),
+    (
+        "M(A)=MACRO\nDECL/INTGR,T\nENDMAC\nCALL/M(A)\nT=ASSIGN/1\n",
+        FaultCode::UnknownName,
+        7,
+    ),
+    (
+        "M(A)=MACRO\nJUMPTO/(L)\nENDMAC\n(L)\nCALL/M(A)\n",
+        FaultCode::UnknownName,
+        4,
+    ),
+    ("M(A)=MACRO/1X\nENDMAC\n", FaultCode::BadSyntax, 3),
+    (
+        "M(A)=MACRO\nENDMAC\nCALL/M(A),'a b'\n",
+        FaultCode::BadSyntax,
+        5,
+    ),
+];
+
 #[test]
 fn refused_macros(rt: HostRuntime) {
-    for (statements, code, line) in [
-        ("CALL/M(A)\nM(A)=MACRO\nENDMAC\n", FaultCode::UnknownName, 3),
-        (
-            "M(A)=MACRO\nCALL/M(B)\nENDMAC\nM(B)=MACRO\nENDMAC\nCALL/M(A)\n",
-            FaultCode::UnknownName,
-            4,
-        ),
-        (
-            "M(A)=MACRO\nCALL/M(A)\nENDMAC\nCALL/M(A)\n",
-            FaultCode::UnknownName,
-            4,
-        ),
-        (
-            "M(A)=MACRO\nIF/(1.EQ.1)\nENDMAC\n",
-            FaultCode::Unbalanced,
-            5,
-        ),
-        ("M(A)=MACRO\nENDDO\nENDMAC\n", FaultCode::Unbalanced, 4),
-        (
-            "M(A)=MACRO\nENDMAC\nM(A)=MACRO\nENDMAC\n",
-            FaultCode::DuplicateName,
-            5,
-        ),
-        ("M(A)=MACRO/X,X\nENDMAC\n", FaultCode::DuplicateName, 3),
-        (
-            "M(A)=MACRO/X\nDECL/INTGR,X\nENDMAC\n",
-            FaultCode::DuplicateName,
-            4,
-        ),
-        (
-            "M(A)=MACRO\nM(B)=MACRO\nENDMAC\nENDMAC\n",
-            FaultCode::BadOrder,
-            4,
-        ),
-        ("ENDMAC\n", FaultCode::BadOrder, 3),
-        ("M(A)=MACRO\n", FaultCode::BadOrder, 4),
-        (
-            "M(A)=MACRO\nENDMAC\nCALL/M(A),1\n",
-            FaultCode::BadArguments,
-            5,
-        ),
-        (
-            "M(A)=MACRO/'P'\nENDMAC\nCALL/M(A),1+2\n",
-            FaultCode::BadArguments,
-            5,
-        ),
-        (
-            "DECL/INTGR,R\nM(A)=MACRO/X\nX=ASSIGN/1\nENDMAC\nCALL/M(A),R+0\n",
-            FaultCode::BadArguments,
-            7,
-        ),
-        (
-            "M(A)=MACRO\nT=ASSIGN/1\nENDMAC\nCALL/M(A)\n",
-            FaultCode::UnknownName,
-            4,
-        ),
-        (
-            "M(A)=MACRO\nDECL/INTGR,T\nENDMAC\nCALL/M(A)\nT=ASSIGN/1\n",
-            FaultCode::UnknownName,
-            7,
-        ),
-        (
-            "M(A)=MACRO\nJUMPTO/(L)\nENDMAC\n(L)\nCALL/M(A)\n",
-            FaultCode::UnknownName,
-            4,
-        ),
-        ("M(A)=MACRO/1X\nENDMAC\n", FaultCode::BadSyntax, 3),
-        (
-            "M(A)=MACRO\nENDMAC\nCALL/M(A),'a b'\n",
-            FaultCode::BadSyntax,
-            5,
-        ),
-    ] {
+    for (statements, code, line) in REFUSED {
         assert!(rt;
             is_refused(rt.alloc(), statements, SourceFault { code, line }),
             "{statements}"

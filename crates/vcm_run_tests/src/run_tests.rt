@@ -94,6 +94,7 @@ const PAST: &str = "DECL/INTGR,I\nDO/I,1,5\nJUMPTO/(PAST)\nENDDO\n(PAST)\n";
 
 #[test]
 fn loops_and_jumps(rt: HostRuntime) {
+    let past = "stop ENDED\nposition 0.000 0.000 100.000\nsteps 4\n";
     for (statements, n, output) in [
         (
             ROUNDS,
@@ -125,11 +126,7 @@ fn loops_and_jumps(rt: HostRuntime) {
             100,
             "X\nX\nX\nX\nX\nX\nstop ENDED\nposition 0.000 0.000 100.000\nsteps 37\n",
         ),
-        (
-            PAST,
-            100,
-            "stop ENDED\nposition 0.000 0.000 100.000\nsteps 4\n",
-        ),
+        (PAST, 100, past),
     ] {
         assert!(rt;
             prints(rt.alloc(), ONE_BLOCK, statements, n, output),

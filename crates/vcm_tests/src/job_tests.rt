@@ -39,7 +39,13 @@ fn judged<F: Fn(&Result<Done, JobFault>, &[u8]) -> bool>(
 }
 
 // Whether a job of these statements beside these blocks prints this, with this exit status.
-fn prints(alloc: Global, blocks: &str, statements: &str, output: &str, status: u8) -> bool {
+pub(crate) fn prints(
+    alloc: Global,
+    blocks: &str,
+    statements: &str,
+    output: &str,
+    status: u8,
+) -> bool {
     let Some(program) = program_of(alloc, statements) else {
         return false;
     };
@@ -56,7 +62,7 @@ fn prints(alloc: Global, blocks: &str, statements: &str, output: &str, status: u
 }
 
 // Whether a program is refused with this code at this line, and its job writes nothing.
-fn is_refused(alloc: Global, program: &str, code: FaultCode, line: u32) -> bool {
+pub(crate) fn is_refused(alloc: Global, program: &str, code: FaultCode, line: u32) -> bool {
     let told = source_message(SourceFault { code, line });
     let found = judged(alloc, ONE_BLOCK, program, |answer, out| match answer {
         Ok(_) => false,
@@ -66,78 +72,81 @@ fn is_refused(alloc: Global, program: &str, code: FaultCode, line: u32) -> bool 
 }
 
 // Whether the program of these statements is refused so.
-fn are_refused(alloc: Global, statements: &str, code: FaultCode, line: u32) -> bool {
+pub(crate) fn are_refused(alloc: Global, statements: &str, code: FaultCode, line: u32) -> bool {
     match program_of(alloc, statements) {
         Some(program) => is_refused(alloc, program.as_str(), code, line),
         None => false,
     }
 }
 
+// Statements beside one block, what their job prints, and its exit status.
+const MOVES: [(&str, &str, u8); 13] = [
+    ("", "stop ENDED\nposition 0.000 0.000 100.000\nsteps 1\n", 0),
+    (
+        "GOTO/20,20,50\n",
+        "stop ENDED\nposition 20.000 20.000 50.000\nsteps 2\n",
+        0,
+    ),
+    (
+        "goto/20,20,50\n",
+        "stop ENDED\nposition 20.000 20.000 50.000\nsteps 2\n",
+        0,
+    ),
+    (
+        "GOTO/20, $\n20,50\n",
+        "stop ENDED\nposition 20.000 20.000 50.000\nsteps 2\n",
+        0,
+    ),
+    (
+        "GOTO/CART,+20,20.,50.0000\n",
+        "stop ENDED\nposition 20.000 20.000 50.000\nsteps 2\n",
+        0,
+    ),
+    (
+        "GOTO/20,20,10\n",
+        "stop COLLISION MOVE block 1 permille 888 at 0 line 3\nposition 0.000 0.000 100.000\nsteps 1\n",
+        3,
+    ),
+    (
+        "GOTO/0,20,10\nGOTO/20,20,30\n",
+        "stop COLLISION MOVE block 1 permille 500 at 1 line 4\nposition 0.000 20.000 10.000\nsteps 2\n",
+        3,
+    ),
+    (
+        "GOTO/0,20,10.001\nGOTO/20,20,30.001\n",
+        "stop ENDED\nposition 20.000 20.000 30.001\nsteps 3\n",
+        0,
+    ),
+    (
+        "TEXT/OPER,'a $$ b'\n",
+        "a $$ b\nstop ENDED\nposition 0.000 0.000 100.000\nsteps 2\n",
+        0,
+    ),
+    (
+        "GOTO/501,0,100\n",
+        "stop TRAVEL MOVE at 0 line 3\nposition 0.000 0.000 100.000\nsteps 1\n",
+        3,
+    ),
+    (
+        "GOTO/500,0,100\n",
+        "stop ENDED\nposition 500.000 0.000 100.000\nsteps 2\n",
+        0,
+    ),
+    (
+        "GOTO/9223372036854776,0,0\n",
+        "stop OVERFLOW at 0 line 3\nposition 0.000 0.000 100.000\nsteps 1\n",
+        3,
+    ),
+    (
+        "GOTO/9223372036854775,0,0\n",
+        "stop TRAVEL MOVE at 0 line 3\nposition 0.000 0.000 100.000\nsteps 1\n",
+        3,
+    ),
+];
+
 #[test]
 fn moves_beside_one_block(rt: HostRuntime) {
-    for (statements, output, status) in [
-        ("", "stop ENDED\nposition 0.000 0.000 100.000\nsteps 1\n", 0),
-        (
-            "GOTO/20,20,50\n",
-            "stop ENDED\nposition 20.000 20.000 50.000\nsteps 2\n",
-            0,
-        ),
-        (
-            "goto/20,20,50\n",
-            "stop ENDED\nposition 20.000 20.000 50.000\nsteps 2\n",
-            0,
-        ),
-        (
-            "GOTO/20, $\n20,50\n",
-            "stop ENDED\nposition 20.000 20.000 50.000\nsteps 2\n",
-            0,
-        ),
-        (
-            "GOTO/CART,+20,20.,50.0000\n",
-            "stop ENDED\nposition 20.000 20.000 50.000\nsteps 2\n",
-            0,
-        ),
-        (
-            "GOTO/20,20,10\n",
-            "stop COLLISION MOVE block 1 permille 888 at 0 line 3\nposition 0.000 0.000 100.000\nsteps 1\n",
-            3,
-        ),
-        (
-            "GOTO/0,20,10\nGOTO/20,20,30\n",
-            "stop COLLISION MOVE block 1 permille 500 at 1 line 4\nposition 0.000 20.000 10.000\nsteps 2\n",
-            3,
-        ),
-        (
-            "GOTO/0,20,10.001\nGOTO/20,20,30.001\n",
-            "stop ENDED\nposition 20.000 20.000 30.001\nsteps 3\n",
-            0,
-        ),
-        (
-            "TEXT/OPER,'a $$ b'\n",
-            "a $$ b\nstop ENDED\nposition 0.000 0.000 100.000\nsteps 2\n",
-            0,
-        ),
-        (
-            "GOTO/501,0,100\n",
-            "stop TRAVEL MOVE at 0 line 3\nposition 0.000 0.000 100.000\nsteps 1\n",
-            3,
-        ),
-        (
-            "GOTO/500,0,100\n",
-            "stop ENDED\nposition 500.000 0.000 100.000\nsteps 2\n",
-            0,
-        ),
-        (
-            "GOTO/9223372036854776,0,0\n",
-            "stop OVERFLOW at 0 line 3\nposition 0.000 0.000 100.000\nsteps 1\n",
-            3,
-        ),
-        (
-            "GOTO/9223372036854775,0,0\n",
-            "stop TRAVEL MOVE at 0 line 3\nposition 0.000 0.000 100.000\nsteps 1\n",
-            3,
-        ),
-    ] {
+    for (statements, output, status) in MOVES {
         assert!(rt;
             prints(rt.alloc(), ONE_BLOCK, statements, output, status),
             "{statements}"
@@ -153,55 +162,58 @@ fn the_plane_between_two_halves(rt: HostRuntime) {
     assert!(rt; prints(rt.alloc(), TWO_HALVES, statements, output, 3));
 }
 
+// The same, with expressions and assignments.
+const ASSIGNMENTS: [(&str, &str, u8); 9] = [
+    (
+        "DECL/REAL,X\nX=ASSIGN/20\nGOTO/X,X+0,50.0\n",
+        "stop ENDED\nposition 20.000 20.000 50.000\nsteps 3\n",
+        0,
+    ),
+    (
+        "DECL/INTGR,I\nI=ASSIGN/1/0\n",
+        "stop DIVZERO at 0 line 4\nposition 0.000 0.000 100.000\nsteps 1\n",
+        3,
+    ),
+    (
+        "GOTO/20,20,50\nGOHOME\n",
+        "stop ENDED\nposition 0.000 0.000 100.000\nsteps 3\n",
+        0,
+    ),
+    (
+        "DECL/REAL,X\nX=ASSIGN/20\nDECL/REAL,Y\nGOTO/X,20+Y,50\n",
+        "stop ENDED\nposition 20.000 20.000 50.000\nsteps 3\n",
+        0,
+    ),
+    (
+        "GOTO/1+1,(0),-5*-10\n",
+        "stop ENDED\nposition 2.000 0.000 50.000\nsteps 2\n",
+        0,
+    ),
+    (
+        "GOTO/9223372036854775807*2,1/0,0\n",
+        "stop OVERFLOW at 0 line 3\nposition 0.000 0.000 100.000\nsteps 1\n",
+        3,
+    ),
+    (
+        "GOTO/0,1/0,9223372036854775807*2\n",
+        "stop DIVZERO at 0 line 3\nposition 0.000 0.000 100.000\nsteps 1\n",
+        3,
+    ),
+    (
+        "GOTO/50,0,100\nGOTO/50,50,-100\nGOHOME\n",
+        "stop COLLISION MOVE block 1 permille 500 at 2 line 5\nposition 50.000 50.000 -100.000\nsteps 3\n",
+        3,
+    ),
+    (
+        "GOTO/20,20,10\nGOHOME\n",
+        "stop COLLISION MOVE block 1 permille 888 at 0 line 3\nposition 0.000 0.000 100.000\nsteps 1\n",
+        3,
+    ),
+];
+
 #[test]
 fn moves_and_assignments(rt: HostRuntime) {
-    for (statements, output, status) in [
-        (
-            "DECL/REAL,X\nX=ASSIGN/20\nGOTO/X,X+0,50.0\n",
-            "stop ENDED\nposition 20.000 20.000 50.000\nsteps 3\n",
-            0,
-        ),
-        (
-            "DECL/INTGR,I\nI=ASSIGN/1/0\n",
-            "stop DIVZERO at 0 line 4\nposition 0.000 0.000 100.000\nsteps 1\n",
-            3,
-        ),
-        (
-            "GOTO/20,20,50\nGOHOME\n",
-            "stop ENDED\nposition 0.000 0.000 100.000\nsteps 3\n",
-            0,
-        ),
-        (
-            "DECL/REAL,X\nX=ASSIGN/20\nDECL/REAL,Y\nGOTO/X,20+Y,50\n",
-            "stop ENDED\nposition 20.000 20.000 50.000\nsteps 3\n",
-            0,
-        ),
-        (
-            "GOTO/1+1,(0),-5*-10\n",
-            "stop ENDED\nposition 2.000 0.000 50.000\nsteps 2\n",
-            0,
-        ),
-        (
-            "GOTO/9223372036854775807*2,1/0,0\n",
-            "stop OVERFLOW at 0 line 3\nposition 0.000 0.000 100.000\nsteps 1\n",
-            3,
-        ),
-        (
-            "GOTO/0,1/0,9223372036854775807*2\n",
-            "stop DIVZERO at 0 line 3\nposition 0.000 0.000 100.000\nsteps 1\n",
-            3,
-        ),
-        (
-            "GOTO/50,0,100\nGOTO/50,50,-100\nGOHOME\n",
-            "stop COLLISION MOVE block 1 permille 500 at 2 line 5\nposition 50.000 50.000 -100.000\nsteps 3\n",
-            3,
-        ),
-        (
-            "GOTO/20,20,10\nGOHOME\n",
-            "stop COLLISION MOVE block 1 permille 888 at 0 line 3\nposition 0.000 0.000 100.000\nsteps 1\n",
-            3,
-        ),
-    ] {
+    for (statements, output, status) in ASSIGNMENTS {
         assert!(rt;
             prints(rt.alloc(), ONE_BLOCK, statements, output, status),
             "{statements}"
@@ -230,119 +242,4 @@ fn a_line_without_effect(rt: HostRuntime) {
     assert!(rt; notices(rt.alloc(), "MODE/MAN\n", Noticed { line, word }) == Some(true));
     let output = "stop ENDED\nposition 0.000 0.000 100.000\nsteps 1\n";
     assert!(rt; prints(rt.alloc(), ONE_BLOCK, "MODE/MAN\n", output, 0));
-}
-
-#[test]
-fn refused_statements(rt: HostRuntime) {
-    for (statements, code) in [
-        ("DATSET/MCS\n", FaultCode::UnknownStatement),
-        ("GOTO/12.3456,0,0\n", FaultCode::TooFine),
-        ("GOTO/99999999999999999999,0,0\n", FaultCode::NumberTooLarge),
-        ("GOTO/0,0\n", FaultCode::BadSyntax),
-        ("SNSET/OTHER,5\n", FaultCode::Unsupported),
-    ] {
-        assert!(rt;
-            are_refused(rt.alloc(), statements, code, 3),
-            "{statements}"
-        );
-    }
-}
-
-#[test]
-fn refused_orders(rt: HostRuntime) {
-    for (program, line) in [
-        ("UNITS/MM,ANGDEC\nENDFIL\n", 1),
-        ("DMISMN/'T'\nGOTO/0,0,50\nUNITS/MM,ANGDEC\nENDFIL\n", 2),
-        ("DMISMN/'T'\nENDFIL\n", 2),
-        ("DMISMN/'T'\nUNITS/MM,ANGDEC\nGOTO/0,0,50\n", 3),
-        ("DMISMN/'T'\nDMISMN/'T'\nUNITS/MM,ANGDEC\nENDFIL\n", 2),
-        ("DMISMN/'T'\nUNITS/MM,ANGDEC\nENDFIL\nMODE/MAN\n", 4),
-        ("", 1),
-    ] {
-        assert!(rt;
-            is_refused(rt.alloc(), program, FaultCode::BadOrder, line),
-            "{program}"
-        );
-    }
-}
-
-#[test]
-fn refused_names(rt: HostRuntime) {
-    for (statements, code, line) in [
-        ("DECL/INTGR,I\nDECL/REAL,I\n", FaultCode::DuplicateName, 4),
-        ("DECL/INTGR,I,J,I\n", FaultCode::DuplicateName, 3),
-        ("X=ASSIGN/1\nDECL/REAL,X\n", FaultCode::UnknownName, 3),
-        ("GOTO/0,X,50\nDECL/REAL,X\n", FaultCode::UnknownName, 3),
-        (
-            "DECL/REAL,X\nX=ASSIGN/Y+1*.TRUE.\n",
-            FaultCode::UnknownName,
-            4,
-        ),
-        ("DECL/REAL,X\nX=ASSIGN/1*.TRUE.+Y\n", FaultCode::BadType, 4),
-        ("DECL/INTGR,I\nI=ASSIGN/1.5\n", FaultCode::BadType, 4),
-        ("DECL/BOOL,B\nB=ASSIGN/1\n", FaultCode::BadType, 4),
-        ("DECL/BOOL,B\nGOTO/0,0,B\n", FaultCode::BadType, 4),
-        ("Y=ASSIGN/1*.TRUE.\n", FaultCode::UnknownName, 3),
-    ] {
-        assert!(rt;
-            are_refused(rt.alloc(), statements, code, line),
-            "{statements}"
-        );
-    }
-}
-
-#[test]
-fn refused_expressions(rt: HostRuntime) {
-    for (statements, code) in [
-        ("DECL/REAL,X\nX=ASSIGN/12.3456\n", FaultCode::TooFine),
-        (
-            "DECL/REAL,X\nX=ASSIGN/12.3456+99999999999999999999\n",
-            FaultCode::TooFine,
-        ),
-        (
-            "DECL/REAL,X\nX=ASSIGN/99999999999999999999+12.3456\n",
-            FaultCode::NumberTooLarge,
-        ),
-        ("DECL/REAL,X\nX=ASSIGN/1+\n", FaultCode::BadSyntax),
-        ("DECL/REAL,X\nX=ASSIGN/1.FOO.2\n", FaultCode::BadSyntax),
-        ("DECL/REAL,X\nDECL/CHAR,10,C\n", FaultCode::Unsupported),
-    ] {
-        assert!(rt;
-            are_refused(rt.alloc(), statements, code, 4),
-            "{statements}"
-        );
-    }
-    assert!(rt; are_refused(rt.alloc(), "SNSET/OTHER,5\n", FaultCode::Unsupported, 3));
-}
-
-#[test]
-fn earlier_phases_first(rt: HostRuntime) {
-    let statements = "DECL/INTGR,I\nDECL/INTGR,I\nI=ASSIGN/1+\n";
-    assert!(rt; are_refused(rt.alloc(), statements, FaultCode::BadSyntax, 5));
-    let order = "DMISMN/'T'\nUNITS/MM,ANGDEC\nDECL/INTGR,I\nDECL/INTGR,I\n";
-    assert!(rt; is_refused(rt.alloc(), order, FaultCode::BadOrder, 4));
-}
-
-// Declarations of so many variables, one on each line.
-fn declarations(alloc: Global, count: u32) -> Option<String> {
-    let mut text = String::new(alloc);
-    for number in 0..count {
-        writeln!(text, "DECL/INTGR,V{number}").ok()?;
-    }
-    Some(text)
-}
-
-#[test]
-fn as_many_variables_as_may_be(rt: HostRuntime) {
-    let output = "stop ENDED\nposition 0.000 0.000 100.000\nsteps 1\n";
-    let is_taken = match declarations(rt.alloc(), 4_096) {
-        Some(most) => prints(rt.alloc(), ONE_BLOCK, most.as_str(), output, 0),
-        None => false,
-    };
-    assert!(rt; is_taken);
-    let is_more = match declarations(rt.alloc(), 4_097) {
-        Some(more) => are_refused(rt.alloc(), more.as_str(), FaultCode::TooManyNames, 4_099),
-        None => false,
-    };
-    assert!(rt; is_more);
 }

@@ -9,3 +9,7 @@ mod fault_tests;
 mod input_tests;
 #[cfg(test)]
 mod job_tests;
+#[cfg(test)]
+mod message_tests;
+#[cfg(test)]
+mod refusal_tests;

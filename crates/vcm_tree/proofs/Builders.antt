@@ -152,10 +152,6 @@ module _ (os : List Open) (o : Open) (old new : Builder) (was : old.opens.items 
     labels = λ ls. refl;
   }
 
-  -- the feature of the innermost block
-  pub measuring_is : (h : Head) → o.head ≡ h → measuring (blocks_of old.opens.items) ≡ measuring (opened_by h ∷ blocks_of os)
-  measuring_is h e = ap measuring (innermost h e)
-
   -- ENDMES that doesn't fit
   pub measure_end_fails : (h : Head) (t : Bool) (code : FaultCode) → o.head ≡ h → measure_ended (opened_by h ∷ blocks_of os) t ≡ Err code
       → measure_ended (blocks_of old.opens.items) t ≡ Err code

@@ -46,9 +46,6 @@ pub record IsJudged (all reach : List Label) (b rest : Block) : Type 0 where
   pub reached : AllReach all before
   pub cut : jumps_in b reach ≡ before ++ jumps_in rest reach
 
-pub judged_none : (all reach : List Label) (b : Block) → IsJudged all reach b b
-judged_none all reach b = record { before = []; reached = tt; cut = refl }
-
 pub judged_more : (all reach : List Label) (b : Block) (n : Node) (rest : Block) → IsJudged all reach b (then n rest) → AllReach all (node_jumps n reach) → IsJudged all reach b rest
 judged_more all reach b n rest i h = record {
   before = i.before ++ node_jumps n reach;
@@ -66,9 +63,6 @@ pub judged_all : (all reach : List Label) (b : Block) → IsJudged all reach b d
 judged_all all reach b i = subst (AllReach all) (sym (i.cut ∙ append-nil i.before)) i.reached
 
 -- ---- two blocks
-
-pub two_reach : (all : List Label) (js ks : List Jump) → AllReach all js → AllReach all ks → AllReach all (js ++ ks)
-two_reach = all_append
 
 pub second_fault : (all : List Label) (js ks : List Jump) (f : SourceFault) → AllReach all js → NoMemoryOr (IsFirst all ks) f → NoMemoryOr (IsFirst all (js ++ ks)) f
 second_fault all js ks f h (inl e) = inl e

@@ -1,5 +1,5 @@
 -- The walk over the statements whose names are looked up, one more at a time.
-use Rattle.std.proofs.Common.{◌≡◌, ℕ, zero, suc, ◌+◌, ◌≤◌, true, false, List, [], ◌∷◌, ◌++◌, length, take, drop, Result, Ok, Err, refl, sym, ap, ◌∙◌, subst, append_assoc, inl, inr, arith}
+use Rattle.std.proofs.Common.{◌≡◌, ℕ, zero, suc, ◌+◌, ◌≤◌, true, List, [], ◌∷◌, ◌++◌, length, take, drop, Result, Ok, Err, refl, sym, ap, ◌∙◌, subst, append_assoc, inl, inr, arith}
 use Rattle.std.specs.Prelude.{IsTrue}
 use Rattle.std.proofs.lemmas.List.{append-nil, take_all}
 use Rattle.vcm_lines.specs.declared.fault.FaultCode.{FaultCode}
@@ -7,8 +7,7 @@ use Rattle.vcm_lines.specs.declared.fault.FaultCode.TheVariants.{Unbalanced}
 use Rattle.vcm_lines.specs.declared.fault.SourceFault.{SourceFault}
 use Rattle.vcm_lines.specs.Fault.{NoMemoryOr}
 use Rattle.vcm_spec.specs.Phase.{IsClean, IsCleanBelow, FirstFault}
-use Rattle.vcm_spec.specs.Program.{done}
-use Rattle.vcm_spec.proofs.PhaseLemmas.{place_at, clean_none, clean_more, clean_done, fault_at}
+use Rattle.vcm_spec.proofs.PhaseLemmas.{place_at, clean_more, clean_done, fault_at}
 use Rattle.vcm_syntax.specs.declared.statement.Form.{Form}
 use Rattle.vcm_syntax.specs.declared.statement.Form.TheVariants.{Opening, Measures, Ignored, Declaration, Assignment, Move, Home, Say, Test, Otherwise, TestEnd, Repeat, RepeatEnd, Mark, Leap, Feature, Measure, Touch, MeasureEnd, Configure, Shift, Rotation, Restore, Query, Report, Macro, MacroEnd, Call, Ending}
 use Rattle.vcm_syntax.specs.declared.statement.Statement.{Statement}
@@ -18,12 +17,12 @@ use Rattle.vcm_tree.specs.declared.taking.Progress.{Progress}
 use Rattle.vcm_macro.specs.Order.{is_ending}
 use Rattle.vcm_tree.specs.Ended.{is_ended}
 use Rattle.vcm_tree.specs.Pieces.{pieces}
-use Rattle.vcm_tree.specs.Blocks.{Behind, behind, measured, Opened, ended}
+use Rattle.vcm_tree.specs.Blocks.{Behind, behind, Opened, ended}
 use Rattle.vcm_tree.specs.Resolving.{Meaning, counts, stated, resolved_here, behind_by, behind_one, behind_all, start, pieces_by, pieces_from, BreaksNames, names_line}
 use Rattle.vcm_tree.specs.inner.Telling.{ToldAt}
 use Rattle.vcm_tree.specs.Program.{IsParsed, tables_of, notices_of}
 use Rattle.vcm_tree.specs.inner.Building.{blocks_of, opens_pieces, written}
-use Rattle.vcm_tree.specs.inner.Taking.{measured_of, behind_of, Takes}
+use Rattle.vcm_tree.specs.inner.Taking.{behind_of, Takes}
 use Rattle.vcm_tree.proofs.Builders.{blocks_length}
 use Rattle.vcm_tree.proofs.Standing.{standing, standing_ok}
 use Rattle.vcm_tree.proofs.Cutting.{place}
@@ -44,23 +43,6 @@ pub record IsWalked (all : List Placed) (p : Progress) (rest : List Placed) : Ty
   pub clean : IsCleanBelow BreaksNames all place
   pub behind : behind_of p ≡ behind_all start (take place all)
   pub writes : pieces_from start all ≡ written p.builder ++ pieces_from (behind_of p) rest
-
-pub walk_begins : (all : List Placed) (p : Progress) → p.names ≡ [] → p.features ≡ [] → p.frames ≡ [] → p.touched ≡ false → p.labels ≡ []
-    → p.builder.opens.items ≡ [] → p.builder.block ≡ done → IsWalked all p all
-walk_begins all p names features frames touched labels opens block =
-    let unmeasured : measured_of p ≡ measured [] [] false =
-    ap (λ fs. measured fs p.frames p.touched) features ∙ ap (λ ds. measured [] ds p.touched) frames ∙ ap (measured [] []) touched in
-    let nothing : behind_of p ≡ start =
-    ap (λ vs. behind vs (blocks_of p.builder.opens.items) p.labels (measured_of p)) names ∙ ap (λ os. behind [] (blocks_of os) p.labels (measured_of p)) opens
-    ∙ ap (λ ls. behind [] [] ls (measured_of p)) labels ∙ ap (behind [] [] []) unmeasured in
-    let unwritten : written p.builder ≡ [] = ap (λ os. opens_pieces os ++ pieces p.builder.block) opens ∙ ap pieces block in
-    record {
-      place = 0;
-      left = refl;
-      clean = clean_none BreaksNames all;
-      behind = nothing;
-      writes = sym (ap (λ l. l ++ pieces_from (behind_of p) all) unwritten ∙ ap (λ b. pieces_from b all) nothing);
-    }
 
 abbrev means : Meaning → Result Meaning FaultCode
 means m = Ok m

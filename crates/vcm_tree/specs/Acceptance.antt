@@ -28,7 +28,7 @@ pub record ReadsText (text : List ℕ) (ls : List Logical) (ss : List Statement)
   pub spelled : ReadsStatements ls ss
   pub expanded : IsExpanded ss all
 
--- the expanded statements are this program with these variables, the written ones have these notices, and no rule of names and blocks is broken
+-- the expanded statements are this program with these variables, the written ones have these notices, no rule of names and blocks is broken
 pub record ReadsProgram (ss : List Statement) (all : List Placed) (p : Parsed) : Type 0 where
   pub clean : IsClean BreaksNames all
   pub is : IsParsed ss all p
@@ -42,7 +42,7 @@ pub record IsAccepted (text : List ℕ) (p : Parsed) : Type 0 where
   pub program : ReadsProgram statements expanded p
   pub jumps : IsClean (BreaksJumps (labels_of p.program)) (jumps_of p.program)
 
--- the first phase that has a fault has its first fault here: lines, statements, order, macros, names and blocks of the expanded program, jumps
+-- the first phase with a fault has its first fault here: lines, statements, order, macros, names and blocks of the expanded program, jumps
 pub data IsRefused (text : List ℕ) (f : SourceFault) : Type 0 where
   in_lines : FirstFault Breaks told_line (lines_of text) f.code f.line → IsRefused text f
   in_statements : (ls : List Logical) → ReadsLines text ls → FirstFault BreaksStatements statement_line ls f.code f.line → IsRefused text f

@@ -1,6 +1,7 @@
 -- What the statements of features and frames mean once their names are looked up. The features stand in the order of their first FEAT, the
 -- frames in that of their first TRANS or ROTATE.
-use Rattle.std.specs.Prelude.{ℕ, pos, nat_lt, Bool, true, false, if◌then◌else◌, List, [], ◌∷◌, ◌++◌, length, slice_get, Option, Some, None, Result, Ok, Err}
+use Rattle.std.specs.Prelude.{ℕ, pos, nat_lt, Bool, true, false, if◌then◌else◌, List, [], ◌∷◌, ◌++◌, length, slice_get, Option, Some, None}
+use Rattle.std.specs.Prelude.{Result, Ok, Err}
 use Rattle.std.specs.List.{position}
 use Rattle.vcm_num.specs.declared.axis.Axis.{Axis}
 use Rattle.vcm_num.specs.declared.number.Kind.{Kind}

@@ -3,7 +3,8 @@ use Rattle.std.specs.Prelude.{ℕ, IsTrue, not, ◌&&◌, Bool, List, [], ◌∷
 use Rattle.std.specs.List.{list_any}
 use Rattle.vcm_lines.specs.declared.fault.FaultCode.{FaultCode}
 use Rattle.vcm_lines.specs.declared.fault.FaultCode.TheVariants.{UnknownName, JumpInward}
-use Rattle.vcm_spec.specs.Program.{Label, Node, Block, simple, label, jump, choice, choice_else, do_loop, meas, ending, done, then, is_same_label}
+use Rattle.vcm_spec.specs.Program.{Label, Node, Block, simple, label, jump, choice, choice_else, do_loop, meas, ending, done, then}
+use Rattle.vcm_spec.specs.Program.{is_same_label}
 
 -- the label that a node is, if it is one
 abbrev pub own_label : Node → List Label

@@ -7,13 +7,18 @@ use Rattle.vcm_spec.specs.Simple.{Simple, GoHome, Text}
 use Rattle.vcm_spec.specs.Program.{Label}
 use Rattle.vcm_spec.specs.Setup.{Variable}
 use Rattle.vcm_syntax.specs.declared.statement.Form.{Form}
-use Rattle.vcm_syntax.specs.declared.statement.Form.TheVariants.{Declaration, Assignment, Move, Home, Say, Test, Otherwise, TestEnd, Repeat, RepeatEnd, Mark, Leap, Feature, Measure, Touch, MeasureEnd, Configure, Shift, Rotation, Restore, Query, Report, Ending}
+use Rattle.vcm_syntax.specs.declared.statement.Form.TheVariants.{Declaration, Assignment, Move, Home, Say, Test, Otherwise, TestEnd, Repeat}
+use Rattle.vcm_syntax.specs.declared.statement.Form.TheVariants.{RepeatEnd, Mark, Leap, Feature, Measure, Touch, MeasureEnd, Configure}
+use Rattle.vcm_syntax.specs.declared.statement.Form.TheVariants.{Shift, Rotation, Restore, Query, Report, Ending}
 use Rattle.vcm_macro.specs.declared.placed.Placed.{Placed}
 pub use Rattle.vcm_syntax.specs.Figures.{then_ok, or_fault}
-use Rattle.vcm_tree.specs.Pieces.{Step, Piece, piece, Does, Marks, Leaps, Tests, Divides, EndsTest, Repeats, EndsRepeat, Measures, EndsMeasure}
+use Rattle.vcm_tree.specs.Pieces.{Step, Piece, piece, Does, Marks, Leaps, Tests, Divides, EndsTest, Repeats, EndsRepeat, Measures}
+use Rattle.vcm_tree.specs.Pieces.{EndsMeasure}
 use Rattle.vcm_tree.specs.Variables.{with_all, assigned, moved}
-use Rattle.vcm_tree.specs.Blocks.{Opened, InFirst, InSecond, InBody, InMeasure, Measured, measured, Behind, behind, nested, divided, test_ended, repeat_ended, ended, tested, repeated, label_of, marked}
-use Rattle.vcm_tree.specs.Features.{with_name, declared, opened_measure, measuring, touched, measure_ended, configured, shifted, rotated, recalled, obtained, reported}
+use Rattle.vcm_tree.specs.Blocks.{Opened, InFirst, InSecond, InBody, InMeasure, Measured, measured, Behind, behind, nested, divided}
+use Rattle.vcm_tree.specs.Blocks.{test_ended, repeat_ended, ended, tested, repeated, label_of, marked}
+use Rattle.vcm_tree.specs.Features.{with_name, declared, opened_measure, measuring, touched, measure_ended, configured, shifted, rotated}
+use Rattle.vcm_tree.specs.Features.{recalled, obtained, reported}
 
 -- what a statement does to a program: nothing, new variables in its table, a counted statement
 pub data Meaning : Type 0 where
@@ -29,7 +34,7 @@ counts r = then_ok r (λ s. Ok (Counts s))
 abbrev pub does : Result (Simple Tree) FaultCode → Result Step FaultCode
 does r = then_ok r (λ s. Ok (Does s))
 
--- a simple statement behind others where it may stand there, or the code of the leftmost rule that it breaks; nothing for any other statement
+-- a simple statement behind others where it may stand there, or the code of the leftmost rule that it breaks; nothing for any other
 abbrev pub acted : Behind → Form → Option (Result (Simple Tree) FaultCode)
 acted b (Assignment t value) = Some (assigned b.variables t value)
 acted b (Move p) = Some (moved b.variables p.x p.y p.z)
@@ -73,7 +78,7 @@ stated b e form = stated_by b e form (acted b form)
 abbrev pub is_measuring : List Opened → Bool
 is_measuring bs = is_some (measuring bs)
 
--- whether a statement is one that doesn't stand in a MEAS block: all counted ones but GOTO, GOHOME and PTMEAS, and the words that close blocks
+-- whether a statement may not stand in a MEAS block: all counted ones but GOTO, GOHOME and PTMEAS, and the words that close blocks
 abbrev pub is_barred : Form → Bool
 is_barred (Assignment t value) = true
 is_barred (Say bytes) = true

@@ -2,6 +2,8 @@
 
 ghost use Rattle.std.specs.Prelude.{◌≡◌, None, IfOk, IfErr, OnOk};
 ghost use Rattle.vcm_lines.specs.Fault.{NoMemoryOr};
+ghost use Rattle.vcm_spec.specs.Simple.{Text};
+ghost use Rattle.vcm_tree.specs.Nodes.{action_of};
 ghost use Rattle.vcm_tree.specs.Resolving.{is_barred, acted, stated, resolved_here};
 ghost use Rattle.vcm_tree.specs.inner.Telling.{ToldAt};
 ghost use Rattle.vcm_tree.specs.inner.Taking.{behind_of, Acts, ActedAt, Takes, TakesStated};
@@ -14,7 +16,7 @@ use crate::measuring::{
 use crate::node::{Action, Label};
 use crate::resolving::{assign, declare_all, go_to, mark, repeat, test};
 use crate::titles::Titles;
-use std::alloc::Global;
+use std::alloc::{AllocError, Global};
 use vcm_expr::Names;
 use vcm_lines::SourceFault;
 use vcm_syntax::{Form, Message, Statement};
@@ -79,6 +81,14 @@ fn take_stated(
     }
 }
 
+// A message that is shown.
+fn say(alloc: Global, text: &Message) -> Result<Action, AllocError>
+    ensures { IfOk result (λ a. action_of a ≡ Text text.now) }
+{
+    let text = Message::copied(alloc, text.as_bytes())?;
+    Ok(Action::Text(text))
+}
+
 // The simple statement that a statement is, if it is one.
 fn simple(
     alloc: Global,
@@ -94,13 +104,9 @@ fn simple(
         Form::Assignment(target, value) => Ok(Some(assign(alloc, line, names, target, value)?)),
         Form::Move(place) => Ok(Some(go_to(alloc, line, names, place)?)),
         Form::Home => Ok(Some(Action::GoHome)),
-        Form::Say(text) => {
-            let text = Message::copied(alloc, text.as_bytes())?;
-            Ok(Some(Action::Text(text)))
-        }
+        Form::Say(text) => Ok(Some(say(alloc, text)?)),
         Form::Feature(name, place, toward) => {
-            let features = &mut read.features;
-            let name = name.copy();
+            let (features, name) = (&mut read.features, name.copy());
             let action = declare_feature(alloc, line, features, names, name, place, *toward)?;
             Ok(Some(action))
         }

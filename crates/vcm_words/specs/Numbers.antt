@@ -1,5 +1,6 @@
 -- Numbers as they are written in a listing: in decimal, with no plus and no leading zeros.
-use Rattle.std.specs.Prelude.{ℕ, zero, suc, ◌^◌, ◌+◌, ◌==◌, ◌&&◌, nat_lt, if◌then◌else◌, Bool, true, false, ℤ, pos, negsuc, List, [], ◌∷◌, Option, Some, None, decimal}
+use Rattle.std.specs.Prelude.{ℕ, zero, suc, ◌^◌, ◌+◌, ◌==◌, ◌&&◌, nat_lt, if◌then◌else◌, Bool, true, false, ℤ, pos, negsuc, List, [], ◌∷◌}
+use Rattle.std.specs.Prelude.{Option, Some, None, decimal}
 use Rattle.std.specs.Str.{bytes_eq}
 use Rattle.vcm_num.specs.Literals.{number_after}
 

@@ -1,5 +1,6 @@
 -- The operands of statements in a listing.
-use Rattle.std.specs.Prelude.{ℕ, ◌==◌, ◌^◌, ◌&&◌, nat_le, Bool, if◌then◌else◌, List, [], ◌∷◌, ◌++◌, length, Option, Some, None, decimal, codes}
+use Rattle.std.specs.Prelude.{ℕ, ◌==◌, ◌^◌, ◌&&◌, nat_le, Bool, if◌then◌else◌, List, [], ◌∷◌, ◌++◌, length, Option, Some, None, decimal}
+use Rattle.std.specs.Prelude.{codes}
 use Rattle.std.specs.List.{list_all}
 use Rattle.vcm_num.specs.declared.axis.Axis.{Axis}
 use Rattle.vcm_num.specs.declared.axis.Axis.TheVariants.{PlusX, MinusX, PlusY, MinusY, PlusZ, MinusZ}
@@ -9,7 +10,8 @@ use Rattle.vcm_spec.specs.declared.words.Source.{Source}
 use Rattle.vcm_spec.specs.declared.words.Source.TheVariants.{Nominal, Actual}
 use Rattle.vcm_fields.specs.declared.word.Word.{Word}
 use Rattle.vcm_fields.specs.declared.word.Word.TheVariants as words
-use Rattle.vcm_code.specs.declared.op.Op.TheVariants.{EndFil, Goto, GoHome, Assign, If, Else, EndIf, Do, EndDo, Label, JumpTo, Feat, Meas, PtMeas, EndMes, SnSet, Trans, Rotate, Recall, Obtain, Output, Text}
+use Rattle.vcm_code.specs.declared.op.Op.TheVariants.{EndFil, Goto, GoHome, Assign, If, Else, EndIf, Do, EndDo, Label, JumpTo, Feat, Meas}
+use Rattle.vcm_code.specs.declared.op.Op.TheVariants.{PtMeas, EndMes, SnSet, Trans, Rotate, Recall, Obtain, Output, Text}
 use Rattle.vcm_fields.specs.Parts.{Operation, Line}
 use Rattle.vcm_fields.specs.Words.{word_of}
 use Rattle.vcm_spec.specs.TextBytes.{is_text_byte}

@@ -7,7 +7,10 @@ ghost use Rattle.vcm_words.specs.inner.Counting.{Next};
 
 use crate::items::{before_end, item};
 use crate::words::Words;
+use std::alloc::Global;
 use std::marker::Model;
+use vcm_code::{Expression, Line};
+use vcm_num::{Items, NoMemory};
 use vcm_spec::Item;
 
 /// The items of an expression, as words of a line. Contracts see them as a list.
@@ -76,6 +79,20 @@ impl<'a> ItemWords<'a> {
             },
             None => unreachable!(),
         }
+    }
+}
+
+impl<'a> Expression for ItemWords<'a> {
+    ghost items = { λ s. s };
+
+    fn to_items(&self, alloc: Global) -> Result<Items<Item>, NoMemory> {
+        let mut copy = Items::new(alloc);
+        let mut rest = self.again();
+        while let Some((item, after)) = rest.split_first() {
+            copy.push(item)?;
+            rest = after;
+        }
+        Ok(copy)
     }
 }
 
@@ -160,5 +177,14 @@ impl<'a> TextWords<'a> {
         ensures { result.now ≡ self.now }
     {
         self.bytes
+    }
+}
+
+impl<'a> Line for TextWords<'a> {
+    ghost bytes = { λ s. s };
+
+    fn to_bytes(&self, alloc: Global) -> Result<Items<u8>, NoMemory> {
+        let copy = Items::from_slice(alloc, self.as_bytes())?;
+        Ok(copy)
     }
 }

@@ -2,7 +2,8 @@
 use Rattle.std.specs.Prelude.{ℕ, suc, ◌+◌, List, [], ◌∷◌, ◌++◌}
 use Rattle.vcm_spec.specs.Expression.{spelling}
 use Rattle.vcm_spec.specs.Simple.{with_form}
-use Rattle.vcm_spec.specs.Program.{Label as Name, Node, Block, simple, label, jump, choice, choice_else, do_loop, meas, ending, done, then, size, sizes, is_same_label}
+use Rattle.vcm_spec.specs.Program.{Label as Name, Node, Block, simple, label, jump, choice, choice_else, do_loop, meas, ending, done, then}
+use Rattle.vcm_spec.specs.Program.{size, sizes, is_same_label}
 use Rattle.vcm_spec.specs.Table.{if_true}
 use Rattle.vcm_code.specs.Code.{Plain, If, Else, EndIf, Do, EndDo, Label, JumpTo, Meas, EndMes, EndFil, Statement, statement}
 
@@ -31,8 +32,8 @@ abbrev pub place_in : List Mark → Name → ℕ
 place_in [] l = 0
 place_in (m ∷ ms) l = if_true (is_same_label m.0 l) m.1 (place_in ms l)
 
--- the code of a node, and of a block, around which `depth` DO stand and whose first statement has the number `base`; `to` gives the numbers of
--- labels
+-- the code of a node, and of a block, around which `depth` DO stand and whose first statement has the number `base`; `to` gives the numbers
+-- of labels
 abbrev mutual
   pub node_code : (Name → ℕ) → Node → ℕ → ℕ → List Statement
   node_code to (simple line what) depth base = statement line (Plain (with_form spelling what)) ∷ []

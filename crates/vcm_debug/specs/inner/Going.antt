@@ -9,8 +9,8 @@ use Rattle.vcm_console.specs.declared.reply.Reason.{Reason}
 use Rattle.vcm_debug.specs.Debugging.{after}
 use Rattle.vcm_debug.specs.Halting.{reason_after, halt, run_end, effective}
 
--- the machine has come to the count, there is a flag for each statement, and a flag and room for a value for each variable; and the code is that of
--- an image
+-- the machine has come to the count, there is a flag for each statement, and a flag and room for a value for each variable; and the code is
+-- that of an image
 pub record IsSession (part : Workpiece) (code : Code) (machine : Running) (count : ℕ) (breakpoints watches : List Bool) (before : List ℤ)
     : Type 0 where
   pub reached : machine ≡ after part code count

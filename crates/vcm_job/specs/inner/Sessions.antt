@@ -15,8 +15,8 @@ IsNoSession part code known after NoMemory old new = Keeps old new
 IsNoSession part code known after (Serve e) old new = IfSome known (λ lines. IsSession part code lines after old new (Err e))
 IsNoSession part code known after _ old new = ⊥
 
--- the image is refused, or memory was, and nothing was written; or the session ended with a fault. `known` are the lines, and `after` what of them
--- wasn't read
+-- the image is refused, or memory was, and nothing was written; or the session ended with a fault. `known` are the lines, and `after` what
+-- of them wasn't read
 abbrev pub IsNotServed : Workpiece → List ℕ → Option (List ℕ) → Option (List ℕ) → DebugFault → Option (List ℕ) → Option (List ℕ) → Type 0
 IsNotServed part image known after (Image e) old new = LoadFault (code_at image) e × Keeps old new
 IsNotServed part image known after NoMemory old new = Keeps old new

@@ -1,13 +1,15 @@
 -- The walk taken in parts: what is done behind some places, and the first fault among others.
 use Rattle.std.specs.Borrow.{Bor}
 use Rattle.std.specs.List.{filter}
-use Rattle.std.specs.Prelude.{map, ◌≡◌, ◌⊎◌, ℕ, suc, ◌+◌, ◌<◌, ◌≤◌, length, take, drop, reverse, slice_get, Bool, true, false, List, [], ◌∷◌, ◌++◌, Option, Some, None, if◌then◌else◌}
+use Rattle.std.specs.Prelude.{map, ◌≡◌, ◌⊎◌, ℕ, suc, ◌+◌, ◌<◌, ◌≤◌, length, take, drop, reverse, slice_get, Bool, true, false, List, []}
+use Rattle.std.specs.Prelude.{◌∷◌, ◌++◌, Option, Some, None, if◌then◌else◌}
 use Rattle.vcm_lines.specs.declared.fault.SourceFault.{SourceFault}
 use Rattle.vcm_macro.specs.declared.placed.Placed.{Placed}
 use Rattle.vcm_syntax.specs.declared.statement.Argument.{Argument}
 use Rattle.vcm_syntax.specs.declared.statement.Parameter.{Parameter}
 use Rattle.vcm_syntax.specs.declared.statement.Form.{Form}
-use Rattle.vcm_syntax.specs.declared.statement.Form.TheVariants.{Assignment, Move, Test, Repeat, Feature, Touch, Configure, Shift, Macro, MacroEnd, Call}
+use Rattle.vcm_syntax.specs.declared.statement.Form.TheVariants.{Assignment, Move, Test, Repeat, Feature, Touch, Configure, Shift, Macro}
+use Rattle.vcm_syntax.specs.declared.statement.Form.TheVariants.{MacroEnd, Call}
 use Rattle.vcm_syntax.specs.declared.statement.Statement.{Statement}
 use Rattle.vcm_macro.specs.Substitution.{Scope, is_same, put_form}
 use Rattle.vcm_macro.specs.Walk.{Defined, Place, Opens, Inside, Stands, Calls, with_statement, calls_in, body_in, call_in, walk_from}

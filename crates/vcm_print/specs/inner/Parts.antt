@@ -1,10 +1,12 @@
 -- The parts that the operands of a statement are written from.
 use Rattle.std.specs.Prelude.{ℕ, List, [], ◌∷◌, Some}
 use Rattle.vcm_spec.specs.declared.expression.Item.{Item}
-use Rattle.vcm_code.specs.declared.op.Op.TheVariants.{EndFil, Goto, GoHome, Assign, If, Else, EndIf, Do, EndDo, Label, JumpTo, Feat, Meas, PtMeas, EndMes, SnSet, Trans, Rotate, Recall, Obtain, Output, Text as Line}
+use Rattle.vcm_code.specs.declared.op.Op.TheVariants.{EndFil, Goto, GoHome, Assign, If, Else, EndIf, Do, EndDo, Label, JumpTo, Feat, Meas}
+use Rattle.vcm_code.specs.declared.op.Op.TheVariants.{PtMeas, EndMes, SnSet, Trans, Rotate, Recall, Obtain, Output, Text as Line}
 use Rattle.vcm_fields.specs.Parts.{Operation}
 use Rattle.vcm_print.specs.declared.part.Part.{Part}
-use Rattle.vcm_print.specs.declared.part.Part.TheVariants.{Nothing, Variable, Feature, Frame, Pair, Target, Number, Turn, Direction, Setting, Source, Items, Three, Text}
+use Rattle.vcm_print.specs.declared.part.Part.TheVariants.{Nothing, Variable, Feature, Frame, Pair, Target, Number, Turn, Direction}
+use Rattle.vcm_print.specs.declared.part.Part.TheVariants.{Setting, Source, Items, Three, Text}
 
 -- a part, with its items and texts as lists
 abbrev pub Piece : Type 0

@@ -7,7 +7,8 @@ use Rattle.vcm_fields.specs.Words.{word_of}
 use Rattle.vcm_words.specs.Items.{item_text}
 use Rattle.vcm_words.specs.Operands.{direction_text, setting_text, source_text, turn_text, word_text}
 use Rattle.vcm_words.specs.Rows.{ListRow, text_of, numbered, kind_text}
-use Rattle.vcm_print.specs.declared.part.Part.TheVariants.{Nothing, Variable, Feature, Frame, Pair, Target, Number, Turn, Direction, Setting, Source, Items, Three, Text}
+use Rattle.vcm_print.specs.declared.part.Part.TheVariants.{Nothing, Variable, Feature, Frame, Pair, Target, Number, Turn, Direction}
+use Rattle.vcm_print.specs.declared.part.Part.TheVariants.{Setting, Source, Items, Three, Text}
 use Rattle.vcm_print.specs.inner.Parts.{Piece, parts}
 
 -- items behind the first one, with a blank in front of each
