@@ -9,7 +9,7 @@ use Rattle.vcm_code.specs.declared.op.Op.{Op as Kept}
 use Rattle.vcm_code.specs.Ops.{op_of}
 use Rattle.vcm_code.specs.Code.{If, Else, EndIf, Do, EndDo, Meas, EndMes, Statement, statement}
 use Rattle.vcm_asm.specs.inner.Targets.{Retargets}
-use Rattle.vcm_asm.specs.inner.Assembled.{node_code, block_code}
+use Rattle.vcm_asm.specs.Assembled.{node_code, block_code}
 use Rattle.vcm_asm.proofs.Place.{node_length, block_length}
 
 pub block_grows : (to : Name → ℕ) (n : Node) (b : Block) (d : ℕ) (items new : List Statement) → new ≡ items ++ node_code to n d (length items) → new ++ block_code to b d (length new) ≡ items ++ block_code to (then n b) d (length items)

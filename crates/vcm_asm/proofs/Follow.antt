@@ -14,7 +14,7 @@ use Rattle.vcm_spec.specs.Setup.{Setup}
 use Rattle.vcm_spec.specs.World.{World, stopped, with_variable}
 use Rattle.vcm_spec.specs.Outcome.{Outcome, Gives, Stops}
 use Rattle.vcm_spec.specs.Effect.{effect, value_in}
-use Rattle.vcm_spec.specs.Control.{test_in, next_index, is_zero, is_past}
+use Rattle.vcm_spec.specs.Control.{test_in, with_next_index, is_zero, is_past}
 use Rattle.vcm_spec.specs.Program.{Label as Name, Node, Block, simple, label, jump, choice, choice_else, do_loop, meas, ending, done, then, size, sizes, node_at, number_at, label_index}
 use Rattle.vcm_spec.specs.Table.{Entry, Rest, EndIf, EndMeas, Loop, State, state, drop_if_none, front, number_of, next_number, land_in, landing, or_stop, if_true, at_node, act, unless_stopped, step, steps, opening}
 use Rattle.vcm_spec.proofs.Postfix.{value_in-spelling, test_in-spelling, effect-spelling}
@@ -24,9 +24,9 @@ use Rattle.vcm_spec.proofs.Labels.{missed}
 use Rattle.vcm_code.specs.declared.pair.Pair.{Pair}
 use Rattle.vcm_code.specs.Code.{Op, Plain, If, Else, EndIf as OpEndIf, Do, EndDo, Label, JumpTo, Meas, EndMes, EndFil, Statement, statement}
 use Rattle.vcm_code.specs.CodeTable.{pair, Place, place, or_halt, turn, do_op, fetched, code_step, code_steps, start, op_prints, next_prints}
-use Rattle.vcm_asm.specs.Headline.{SameAfter}
+use Rattle.vcm_asm.specs.Simulation.{SameAfter}
 use Rattle.vcm_asm.specs.inner.Depth.{NodeDeep, Deep}
-use Rattle.vcm_asm.specs.inner.Assembled.{node_marks, marks, node_code, block_code, place_in, flat_code}
+use Rattle.vcm_asm.specs.Assembled.{node_marks, marks, node_code, block_code, place_in, flat_code}
 use Rattle.vcm_asm.proofs.Structured.{IsStructured}
 use Rattle.vcm_asm.proofs.Place.{HasAt, has_front, has_back, has_all, block_length, number_zero, past_end, number_next, has_node, jumps_at, deep_at, Marked, marked_front, marked_back, marked_at, label_at, once_marked, closed_next}
 
@@ -408,8 +408,8 @@ module _ (setup : Setup) (code : List Statement) (to : Name → ℕ) where
   loop_follows ps at v b c lim inc es d old w h bot room old_sits old_bottom =
       with_op s (EndDo v d (at + 1)) c w num ps (h.0).op
       (subst (λ o. Matched s (turn o w num c v (at + 1) ps)) (sym (h.0).saved)
-      (subst (λ t. Matched s (if_true t (place (stopped w ZeroStep num c) num ps) (or_halt (next_index w v inc) w num c ps g))) (sym (h.0).moves)
-      (fork (next_index w v inc) (next_index w v inc) refl w num c old ps f g
+      (subst (λ t. Matched s (if_true t (place (stopped w ZeroStep num c) num ps) (or_halt (with_next_index w v inc) w num c ps g))) (sym (h.0).moves)
+      (fork (with_next_index w v inc) (with_next_index w v inc) refl w num c old ps f g
       (λ k. record { world = refl; depth = suc d; sits = old_sits; bottom = old_bottom; room = room })
       (λ w'. choose (is_past w' v lim inc) _ _ _ _
       (λ e. record { world = refl; depth = d; sits = h.2; bottom = bottom_pop (Loop at v b c lim inc) es (λ x. x) bot; room = room })

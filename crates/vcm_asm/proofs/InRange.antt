@@ -11,7 +11,7 @@ use Rattle.vcm_code.specs.Code.{Statement}
 use Rattle.vcm_code.specs.Ranges.{IsShort, SimpleInRange, AllInRange}
 use Rattle.vcm_asm.specs.inner.Spelled.{Keeps, SimpleKeeps, NodeKeeps, BlockKeeps}
 use Rattle.vcm_asm.specs.inner.Depth.{NodeDeep, Deep}
-use Rattle.vcm_asm.specs.inner.Assembled.{node_code, block_code}
+use Rattle.vcm_asm.specs.Assembled.{node_code, block_code}
 
 -- an expression has items
 spelled : (t : Tree) → 1 ≤ length (spelling t)

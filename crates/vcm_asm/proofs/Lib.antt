@@ -1,7 +1,6 @@
 pub mod Structured
 pub mod Place
 pub mod Follow
-pub mod Lines
 pub mod Numbering
 pub mod Targeted
 pub mod Emits

@@ -9,7 +9,7 @@ use Rattle.vcm_spec.specs.Table.{if_true}
 use Rattle.vcm_spec.proofs.Labels.{same_label}
 use Rattle.vcm_tree.specs.inner.SameLabels.{label_sym}
 use Rattle.vcm_tree.specs.Nodes.{choice_by}
-use Rattle.vcm_asm.specs.inner.Assembled.{Mark, node_marks, marks, place_in}
+use Rattle.vcm_asm.specs.Assembled.{Mark, node_marks, marks, place_in}
 use Rattle.vcm_asm.specs.inner.Once.{Absent, Once}
 
 -- a label that isn't there is added behind the others

@@ -10,7 +10,7 @@ use Rattle.vcm_asm.specs.inner.Depth.{NodeDeep, Deep}
 use Rattle.vcm_spec.specs.Whole.{is_end, is_closed, NodeJumps, Jumps}
 use Rattle.vcm_spec.proofs.Labels.{same_label, label_itself, found_stands}
 use Rattle.vcm_code.specs.Code.{Else, EndIf, EndDo, EndMes, Statement, statement}
-use Rattle.vcm_asm.specs.inner.Assembled.{Mark, node_marks, marks, node_code, block_code, place_in}
+use Rattle.vcm_asm.specs.Assembled.{Mark, node_marks, marks, node_code, block_code, place_in}
 
 -- the statements stand in the code at this place
 abbrev pub HasAt : List Statement → ℕ → List Statement → Type 0

@@ -9,7 +9,7 @@ use Rattle.vcm_spec.proofs.Labels.{label_itself}
 use Rattle.vcm_tree.specs.Jumps.{is_among, node_labels, labels_of}
 use Rattle.vcm_tree.specs.Program.{NodeNests, BlockNests, AreDistinct, IsWhole}
 use Rattle.vcm_tree.proofs.Reaching.{whole_steps}
-use Rattle.vcm_asm.specs.inner.Assembled.{Mark, node_marks, marks}
+use Rattle.vcm_asm.specs.Assembled.{Mark, node_marks, marks}
 use Rattle.vcm_asm.specs.inner.Once.{Absent, Once}
 use Rattle.vcm_asm.specs.inner.Depth.{NodeDeep, Deep}
 

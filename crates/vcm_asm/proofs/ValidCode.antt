@@ -14,7 +14,7 @@ use Rattle.vcm_code.specs.Code.{Statement}
 use Rattle.vcm_code.specs.Valid.{HasItems, AllFit, Ends, IsValid, PairsBelow}
 use Rattle.vcm_asm.specs.inner.Spelled.{Keeps, SimpleKeeps, NodeKeeps, BlockKeeps}
 use Rattle.vcm_asm.specs.inner.Depth.{NodeDeep, Deep}
-use Rattle.vcm_asm.specs.inner.Assembled.{Mark, node_marks, marks, node_code, block_code, place_in, flat_code}
+use Rattle.vcm_asm.specs.Assembled.{Mark, node_marks, marks, node_code, block_code, place_in, flat_code}
 use Rattle.vcm_asm.proofs.Place.{block_length}
 
 size_positive : (n : Node) → 0 < size n

@@ -7,12 +7,11 @@ use Rattle.vcm_code.specs.Code.{Statement, Code}
 use Rattle.vcm_code.specs.Valid.{IsValid}
 use Rattle.vcm_code.specs.Ranges.{AllInRange, IsInRange}
 use Rattle.vcm_asm.specs.inner.Spelled.{BlockKeeps}
-use Rattle.vcm_asm.specs.inner.Assembled.{marks, place_in, flat_code}
-use Rattle.vcm_asm.specs.Headline.{IsAssembled}
+use Rattle.vcm_asm.specs.Assembled.{marks, place_in, flat_code}
+use Rattle.vcm_asm.specs.Simulation.{IsAssembled}
 use Rattle.vcm_asm.proofs.Structured.{structured}
 use Rattle.vcm_asm.proofs.Place.{block_length}
 use Rattle.vcm_asm.proofs.Follow.{same}
-use Rattle.vcm_asm.proofs.Lines.{lines_are}
 use Rattle.vcm_asm.proofs.ValidCode.{valid}
 use Rattle.vcm_asm.proofs.InRange.{block_range}
 
@@ -25,7 +24,7 @@ module _ (program : Block) (tables : Tables) (whole : IsWhole program tables) wh
   assembled = record {
     follows = λ part n. same (setup_of part tables) program whole.closed (structured program tables whole) n;
     tables_are = refl;
-    lines_are = lines_are (place_in (marks program 0)) program 0 0;
+    statements_are = refl;
   }
 
   pub all_valid : BlockKeeps program → IsValid (with_statements (flat_code program))

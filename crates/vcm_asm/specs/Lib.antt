@@ -1,2 +1,4 @@
 pub mod inner
-pub mod Headline
+pub mod Assembled
+pub mod Samples
+pub mod Simulation

@@ -1,7 +1,5 @@
 -- What only private contracts and proofs of this crate speak of.
-pub mod Assembled
 pub mod Once
 pub mod Depth
 pub mod Spelled
 pub mod Targets
-pub mod Samples

@@ -4,7 +4,7 @@ ghost use Rattle.std.specs.Prelude.{IfOk};
 ghost use Rattle.vcm_code.specs.Ops.{code_of};
 ghost use Rattle.vcm_code.specs.Valid.{IsValid};
 ghost use Rattle.vcm_code.specs.Ranges.{IsInRange};
-ghost use Rattle.vcm_asm.specs.Headline.{IsAssembled};
+ghost use Rattle.vcm_asm.specs.Simulation.{IsAssembled};
 
 use crate::emit::emit_block;
 use crate::emitted::Emitted;

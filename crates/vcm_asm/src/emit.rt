@@ -9,7 +9,7 @@ ghost use Rattle.vcm_code.specs.Code.{Plain, Do};
 ghost use Rattle.vcm_code.specs.Ops.{op_of};
 ghost use Rattle.vcm_asm.specs.inner.Spelled.{Keeps, KeepThree, SimpleKeeps, NodeKeeps, BlockKeeps};
 ghost use Rattle.vcm_asm.specs.inner.Depth.{NodeDeep, Deep};
-ghost use Rattle.vcm_asm.specs.inner.Assembled.{node_code, block_code, place_in};
+ghost use Rattle.vcm_asm.specs.Assembled.{node_code, block_code, place_in};
 
 use crate::emitted::Emitted;
 use crate::numbers::Numbers;

@@ -3,7 +3,7 @@
 ghost use Rattle.std.specs.Prelude.{◌≡◌, ◌+◌, ◌++◌, ◌≤◌, IfOk, OnOk};
 ghost use Rattle.vcm_spec.specs.Program.{size, sizes};
 ghost use Rattle.vcm_tree.specs.Nodes.{node_of};
-ghost use Rattle.vcm_asm.specs.inner.Assembled.{marks, node_marks};
+ghost use Rattle.vcm_asm.specs.Assembled.{marks, node_marks};
 ghost use Rattle.vcm_asm.specs.inner.Once.{Once};
 
 use crate::numbers::Numbers;

@@ -1,7 +1,7 @@
 //! The numbers of labels, which a table looks up.
 
 ghost use Rattle.std.specs.Prelude.{◌≡◌, [], ◌∷◌, ◌++◌, OnOk};
-ghost use Rattle.vcm_asm.specs.inner.Assembled.{place_in};
+ghost use Rattle.vcm_asm.specs.Assembled.{place_in};
 ghost use Rattle.vcm_asm.specs.inner.Once.{Absent};
 
 use indexmap::IndexMap;
@@ -17,7 +17,7 @@ pub(crate) struct Numbers {
 
 impl Model for Numbers {
     ghost use Rattle.std.specs.Prelude.{List};
-    ghost use Rattle.vcm_asm.specs.inner.Assembled.{Mark};
+    ghost use Rattle.vcm_asm.specs.Assembled.{Mark};
 
     ghost Value = { List Mark };
 

@@ -10,7 +10,7 @@ use Rattle.vcm_spec.specs.Simple.{Simple}
 use Rattle.vcm_spec.specs.World.{World, with_variable, stopped}
 use Rattle.vcm_spec.specs.Outcome.{Outcome, Gives, Stops}
 use Rattle.vcm_spec.specs.Effect.{effect, value_in}
-use Rattle.vcm_spec.specs.Control.{test_in, next_index, is_zero, is_past}
+use Rattle.vcm_spec.specs.Control.{test_in, with_next_index, is_zero, is_past}
 use Rattle.vcm_spec.specs.Table.{if_true, unless_stopped}
 use Rattle.vcm_code.specs.declared.pair.Pair.{Pair}
 use Rattle.vcm_code.specs.Code.{Op, Plain, If, Else, EndIf, Do, EndDo, Label, JumpTo, Meas, EndMes, EndFil, Statement, statement}
@@ -65,20 +65,20 @@ module _ (setup : Setup) (w : World) (n line : ℕ) (ps : List Pair) where
     abbrev E : Place → Type 0
     E r = Moves setup w n line ps (EndDo v p target) r
 
-    past_moves : (limit increment : ℤ) → slice_get ps p ≡ Some (pair limit increment) → increment ≢ pos 0 → (x : World) → next_index w v increment ≡ Gives x
+    past_moves : (limit increment : ℤ) → slice_get ps p ≡ Some (pair limit increment) → increment ≢ pos 0 → (x : World) → with_next_index w v increment ≡ Gives x
         → (t : Bool) → is_past x v limit increment ≡ t → E (if_true t (place x (n + 1) ps) (place x target ps))
     past_moves limit increment e other x i true past = goes (loop_is_past e other i past)
     past_moves limit increment e other x i false past = goes (loop_turns_again e other i past)
 
-    index_moves : (limit increment : ℤ) → slice_get ps p ≡ Some (pair limit increment) → increment ≢ pos 0 → (o : Outcome World) → next_index w v increment ≡ o
+    index_moves : (limit increment : ℤ) → slice_get ps p ≡ Some (pair limit increment) → increment ≢ pos 0 → (o : Outcome World) → with_next_index w v increment ≡ o
         → E (or_halt o w n line ps (with_index setup w n line ps v target limit increment))
     index_moves limit increment e other (Gives x) i = past_moves limit increment e other x i (is_past x v limit increment) refl
     index_moves limit increment e other (Stops why) i = halts (index_overflows e other i)
 
     turn_zero : (limit increment : ℤ) → slice_get ps p ≡ Some (pair limit increment) → (z : Bool) → is_zero increment ≡ z
-        → E (if_true z (place (stopped w ZeroStep n line) n ps) (or_halt (next_index w v increment) w n line ps (with_index setup w n line ps v target limit increment)))
+        → E (if_true z (place (stopped w ZeroStep n line) n ps) (or_halt (with_next_index w v increment) w n line ps (with_index setup w n line ps v target limit increment)))
     turn_zero limit increment e true z = halts (saved_increment_is_zero (e ∙ ap (λ c. Some (pair limit c)) (zero_is increment z)))
-    turn_zero limit increment e false z = index_moves limit increment e (not_zero increment z) (next_index w v increment) refl
+    turn_zero limit increment e false z = index_moves limit increment e (not_zero increment z) (with_next_index w v increment) refl
 
     turn_moves : (o : Option Pair) → slice_get ps p ≡ o → (saved : Pair) → slice_get ps p ≡ Some saved → E (turn o w n line v target ps)
     turn_moves None e saved there = absurd (let t : None ≡ Some saved = sym e ∙ there in cc)

@@ -10,32 +10,36 @@ use Rattle.vcm_spec.specs.Simple.{Simple}
 use Rattle.vcm_spec.specs.World.{World, with_variable, stopped}
 use Rattle.vcm_spec.specs.Outcome.{Gives, Stops}
 use Rattle.vcm_spec.specs.Effect.{effect, value_in}
-use Rattle.vcm_spec.specs.Control.{test_in, next_index, is_past}
+use Rattle.vcm_spec.specs.Control.{test_in, with_next_index, is_past}
 use Rattle.vcm_code.specs.declared.pair.Pair.{Pair}
 use Rattle.vcm_code.specs.Code.{Op, Plain, If, Else, EndIf, Do, EndDo, Label, JumpTo, Meas, EndMes, EndFil, Statement, statement}
 use Rattle.vcm_code.specs.CodeTable.{Place, place, pair, code_step, code_steps}
 
--- an expression has this value in this state of the machine, or is the reason for a stop
+-- an expression has this value in this state of the machine
 abbrev pub HasValue : World → List Item → ℤ → Type 0
 HasValue w e z = value_in items_value w e ≡ Gives z
 
+-- an expression is the reason for a stop
 abbrev pub Fails : World → List Item → Stop → Type 0
 Fails w e why = value_in items_value w e ≡ Stops why
 
--- a test is true, or false, or the reason for a stop
+-- a test is true
 abbrev pub IsTrueIn : World → List Item → Type 0
 IsTrueIn w test = test_in items_value w test ≡ Gives true
 
+-- a test is false
 abbrev pub IsFalseIn : World → List Item → Type 0
 IsFalseIn w test = test_in items_value w test ≡ Gives false
 
+-- a test is the reason for a stop
 abbrev pub TestFails : World → List Item → Stop → Type 0
 TestFails w test why = test_in items_value w test ≡ Stops why
 
--- the index of a loop is past the limit, or isn't
+-- the index of a loop is past the limit
 abbrev pub IsPast : World → ℕ → ℤ → ℤ → Type 0
 IsPast w v limit increment = is_past w v limit increment ≡ true
 
+-- the index of a loop isn't past the limit
 abbrev pub IsNotPast : World → ℕ → ℤ → ℤ → Type 0
 IsNotPast w v limit increment = is_past w v limit increment ≡ false
 
@@ -63,11 +67,11 @@ pub data Goes (setup : Setup) (w : World) (n : ℕ) (pairs : List Pair) : Op →
       → Goes setup w n pairs (Do v p initial limit increment target) (with_variable w v a) (n + 1) (slice_set pairs p (pair b c))
   loop_is_past : {v p target : ℕ} {limit increment : ℤ} {after : World}
       → slice_get pairs p ≡ Some (pair limit increment) → increment ≢ pos 0
-      → next_index w v increment ≡ Gives after → IsPast after v limit increment
+      → with_next_index w v increment ≡ Gives after → IsPast after v limit increment
       → Goes setup w n pairs (EndDo v p target) after (n + 1) pairs
   loop_turns_again : {v p target : ℕ} {limit increment : ℤ} {after : World}
       → slice_get pairs p ≡ Some (pair limit increment) → increment ≢ pos 0
-      → next_index w v increment ≡ Gives after → IsNotPast after v limit increment
+      → with_next_index w v increment ≡ Gives after → IsNotPast after v limit increment
       → Goes setup w n pairs (EndDo v p target) after target pairs
   label_is_passed : Goes setup w n pairs Label w (n + 1) pairs
   jump_lands : {target : ℕ}
@@ -101,7 +105,7 @@ pub data Halts (setup : Setup) (w : World) (pairs : List Pair) : Op → Stop →
       → Halts setup w pairs (EndDo v p target) ZeroStep
   index_overflows : {v p target : ℕ} {limit increment : ℤ} {why : Stop}
       → slice_get pairs p ≡ Some (pair limit increment) → increment ≢ pos 0
-      → next_index w v increment ≡ Stops why
+      → with_next_index w v increment ≡ Stops why
       → Halts setup w pairs (EndDo v p target) why
   program_ends : Halts setup w pairs EndFil Ended
 
@@ -138,7 +142,7 @@ abbrev pub CodeStepIsUnique : Type 0
 CodeStepIsUnique =
     (setup : Setup) (code : List Statement) (before after : Place) → CodeSteps setup code before after → after ≡ code_step setup code before
 
--- so of n steps
+-- what the rules say of n steps is what is computed
 abbrev pub CodeRunIsUnique : Type 0
 CodeRunIsUnique =
     (setup : Setup) (code : List Statement) (n : ℕ) (before after : Place) → CodeReaches setup code n before after

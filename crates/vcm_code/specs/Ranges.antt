@@ -48,12 +48,12 @@ abbrev pub AreVariables : List Variable → Type 0
 AreVariables vs = AllByRecursion (λ v. IsVariableName v.name) vs
 
 -- all of these are names
-abbrev pub AreNames : List (List ℕ) → Type 0
-AreNames ns = AllByRecursion IsName ns
+abbrev pub AllAreNames : List (List ℕ) → Type 0
+AllAreNames ns = AllByRecursion IsName ns
 
 -- at most 4,096 variables, features and frames, all with their names, and at most 20,000 statements, all in range
 pub record IsInRange (c : Code) : Type 0 where
   pub variables : (length c.tables.variables ≤ 4096) × AreVariables c.tables.variables
-  pub features : (length c.tables.features ≤ 4096) × AreNames c.tables.features
-  pub frames : (length c.tables.frames ≤ 4096) × AreNames c.tables.frames
+  pub features : (length c.tables.features ≤ 4096) × AllAreNames c.tables.features
+  pub frames : (length c.tables.frames ≤ 4096) × AllAreNames c.tables.frames
   pub statements : (length c.statements ≤ 20000) × AllInRange c.statements

@@ -41,6 +41,7 @@ Ends [] = ⊥
 Ends (s ∷ []) = IsLast s.op
 Ends (s ∷ t ∷ ss) = Ends (t ∷ ss)
 
+-- a valid code: all statements fit its tables, and the last one is ENDFIL
 pub record IsValid (c : Code) : Type 0 where
   pub fit : AllFit c.tables (length c.statements) c.statements
   pub ends : Ends c.statements

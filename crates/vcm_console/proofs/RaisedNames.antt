@@ -6,22 +6,22 @@ use Rattle.std.proofs.lemmas.Bool.{and_parts, and_from}
 use Rattle.std.proofs.lemmas.List.{length-map, take_all}
 use Rattle.vcm_lines.specs.Bytes.{upper}
 use Rattle.vcm_expr.specs.NameBytes.{is_name_byte, IsName}
-use Rattle.vcm_console.specs.Parsing.{is_letter_or_digit}
+use Rattle.vcm_console.specs.Parsing.{may_stand_in_name}
 
-raised_byte : (b : ℕ) → is_letter_or_digit b ≡ true → is_name_byte (upper b) ≡ true
+raised_byte : (b : ℕ) → may_stand_in_name b ≡ true → is_name_byte (upper b) ≡ true
 raised_byte b e = grind (arith, e)
 
-raised_bytes : (bs : List ℕ) → list_all is_letter_or_digit bs ≡ true → list_all is_name_byte (map upper bs) ≡ true
+raised_bytes : (bs : List ℕ) → list_all may_stand_in_name bs ≡ true → list_all is_name_byte (map upper bs) ≡ true
 raised_bytes [] e = refl
 raised_bytes (b ∷ bs) e =
-    let p = and_parts (is_letter_or_digit b) (list_all is_letter_or_digit bs) e in
+    let p = and_parts (may_stand_in_name b) (list_all may_stand_in_name bs) e in
     and_from (is_name_byte (upper b)) (list_all is_name_byte (map upper bs)) (raised_byte b p.0) (raised_bytes bs p.1)
 
 sized : (bs : List ℕ) → 0 < length bs → length bs ≤ 16 → (nat_le 1 (length (map upper bs)) && nat_le (length (map upper bs)) 16) ≡ true
 sized bs l m = (let n = length-map bs upper in grind (arith, n, l, m))
 
 -- one to sixteen of them are a name then
-pub raised_name : (bs : List ℕ) → 0 < length bs → length bs ≤ 16 → list_all is_letter_or_digit bs ≡ true → IsName (map upper bs)
+pub raised_name : (bs : List ℕ) → 0 < length bs → length bs ≤ 16 → list_all may_stand_in_name bs ≡ true → IsName (map upper bs)
 raised_name bs l m e =
     and_from (nat_le 1 (length (map upper bs)) && nat_le (length (map upper bs)) 16) (list_all is_name_byte (map upper bs)) (sized bs l m) (raised_bytes bs e)
 

@@ -35,22 +35,23 @@ abbrev pub optional_number : List ℕ → Result (Option ℕ) Refusal
 optional_number [] = Ok None
 optional_number (b ∷ bs) = elim (number_of (b ∷ bs)) [ Ok n ↦ Ok (Some n) | Err e ↦ Err e ]
 
--- a count from 1 to 1,000,000, or the one for none
+-- a number as a count, which is from 1 to 1,000,000
 abbrev pub counted : ℕ → Result ℕ Refusal
 counted n = if nat_lt 0 n && nat_le n 1000000 then Ok n else Err CountOutOfRange
 
--- a count, from its argument; `absent` stands for no argument
+-- a count, from its argument; the number `absent` stands for no argument
 abbrev pub count_of : ℕ → List ℕ → Result ℕ Refusal
-count_of absent [] = Ok absent
+count_of absent [] = counted absent
 count_of absent (b ∷ bs) = elim (number_of (b ∷ bs)) [ Ok n ↦ counted n | Err e ↦ Err e ]
 
 -- the bytes of names
-abbrev pub is_letter_or_digit : ℕ → Bool
-is_letter_or_digit b = is_ascii_alphanumeric b || (b == 95)
+abbrev pub may_stand_in_name : ℕ → Bool
+may_stand_in_name b = is_ascii_alphanumeric b || (b == 95)
 
 -- a name of a feature: one to sixteen letters, digits and underscores, raised to upper case
-abbrev pub label_of : List ℕ → Result (List ℕ) Refusal
-label_of w = if nat_lt 0 (length w) && nat_le (length w) 16 && list_all is_letter_or_digit w then Ok (map upper w) else Err UnknownCommand
+abbrev pub feature_name_of : List ℕ → Result (List ℕ) Refusal
+feature_name_of w =
+    if nat_lt 0 (length w) && nat_le (length w) 16 && list_all may_stand_in_name w then Ok (map upper w) else Err UnknownCommand
 
 -- whether a name begins with a letter
 abbrev pub begins_with_letter : List ℕ → Bool
@@ -58,8 +59,8 @@ begins_with_letter [] = false
 begins_with_letter (b ∷ bs) = is_ascii_alphabetic b
 
 -- a name of a variable: that of a feature, but begun with a letter
-abbrev pub name_of : List ℕ → Result (List ℕ) Refusal
-name_of w = if begins_with_letter w then label_of w else Err UnknownCommand
+abbrev pub variable_name_of : List ℕ → Result (List ℕ) Refusal
+variable_name_of w = if begins_with_letter w then feature_name_of w else Err UnknownCommand
 
 -- a number sign and an expansion's number, or nothing, which is outside macros
 abbrev pub expansion_of : List ℕ → Result ℕ Refusal
@@ -72,7 +73,7 @@ name_len w = prefix_len (λ b. not (b == 35)) w
 
 -- a variable's name, and behind a number sign the expansion that it belongs to
 abbrev pub wanted_of : List ℕ → Result Wanted Refusal
-wanted_of w = elim (name_of (take (name_len w) w)) [
+wanted_of w = elim (variable_name_of (take (name_len w) w)) [
   | Ok name ↦ elim (expansion_of (drop (name_len w) w)) [ Ok n ↦ Ok (record { name = name; expansion = n }) | Err e ↦ Err e ]
   | Err e ↦ Err e
 ]
@@ -99,7 +100,7 @@ command_of_words w a =
     else (if bytes_eq w (codes "unwatch") then with c.Unwatch (wanted_of a)
     else (if bytes_eq w (codes "where") then alone c.Where a
     else (if bytes_eq w (codes "show") then with c.Show (wanted_of a)
-    else (if bytes_eq w (codes "feat") then with c.Feat (label_of a)
+    else (if bytes_eq w (codes "feat") then with c.Feat (feature_name_of a)
     else (if bytes_eq w (codes "list") then with c.List (optional_number a)
     else (if bytes_eq w (codes "out") then with c.Out (count_of 10 a)
     else (if bytes_eq w (codes "back") then with c.Back (count_of 1 a)
@@ -111,20 +112,20 @@ abbrev pub replied : Result Command Refusal → Result Command Reply
 replied (Ok what) = Ok what
 replied (Err e) = Err (Refused e)
 
--- at most one word follows the first one
-abbrev pub has_two_words : List ℕ → Bool
-has_two_words line = nat_lt (length (first_word (behind_word (behind_word line)))) 1
+-- whether a line has at most two words
+abbrev pub has_at_most_two_words : List ℕ → Bool
+has_at_most_two_words line = nat_lt (length (first_word (behind_word (behind_word line)))) 1
 
 -- the command that a line spells, or why it is refused
-abbrev pub refusal_of : List ℕ → Result Command Refusal
-refusal_of line =
-    if nat_le (length line) 256 && has_two_words line
+abbrev pub command_or_refusal : List ℕ → Result Command Refusal
+command_or_refusal line =
+    if nat_le (length line) 256 && has_at_most_two_words line
     then command_of_words (first_word line) (first_word (behind_word line))
     else Err UnknownCommand
 
 -- the same, with the reply that refuses it
 abbrev pub command_of : List ℕ → Result Command Reply
-command_of line = replied (refusal_of line)
+command_of line = replied (command_or_refusal line)
 
 -- how many steps a command may add
 abbrev pub steps_of : Command → ℕ

@@ -35,7 +35,7 @@ abbrev pub size : List ℕ → Bool → ℕ
 size raw true = length raw + 1
 size raw false = length raw
 
--- the first line is not at its end after so many bytes, and there is another one
+-- after `left` bytes the first line has not ended, and there is another byte
 pub record IsLong (left : ℕ) (input : List ℕ) : Type 0 where
   pub seen : List ℕ
   pub rest : List ℕ
@@ -44,7 +44,7 @@ pub record IsLong (left : ℕ) (input : List ℕ) : Type 0 where
   pub long : length seen ≡ left
   pub more : 0 < length rest
 
--- what of a line is kept
+-- what of a line is kept: 256 bytes, a carriage return, and one more, which shows that it is too long
 abbrev pub kept_of : List ℕ → List ℕ
 kept_of raw = take 258 raw
 

@@ -8,7 +8,7 @@ mod reading;
 mod replies;
 mod reply;
 
-pub use command::{Command, Wanted};
+pub use command::{Command, Count, Wanted};
 pub use line::{Line, RawLine};
 pub use parsing::parse_command;
 pub use reading::{next_byte, read_line};

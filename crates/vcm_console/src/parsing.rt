@@ -4,10 +4,10 @@ ghost use Rattle.std.specs.Prelude.{◌≡◌, ◌==◌, ◌<◌, ◌≤◌, len
 ghost use Rattle.std.specs.List.{list_all, prefix_len};
 ghost use Rattle.std.specs.Char.{is_ascii_digit};
 ghost use Rattle.vcm_num.specs.Literals.{AllDigits, number_after};
-ghost use Rattle.vcm_console.specs.Parsing.{steps_of, first_word, behind_word, number_of, optional_number, count_of, is_letter_or_digit, label_of, begins_with_letter, name_of, expansion_of, name_len, wanted_of, alone, command_of_words, refusal_of, command_of};
+ghost use Rattle.vcm_console.specs.Parsing.{steps_of, first_word, behind_word, number_of, optional_number, count_of, may_stand_in_name, feature_name_of, begins_with_letter, variable_name_of, expansion_of, name_len, wanted_of, alone, command_of_words, command_or_refusal, command_of};
 ghost use Rattle.vcm_lines.specs.Bytes.{upper};
 
-use crate::command::{Command, Wanted};
+use crate::command::{Command, Count, Wanted};
 use crate::reply::{Refusal, Reply};
 use vcm_expr::Name;
 use vcm_lines::upper;
@@ -15,9 +15,6 @@ use vcm_num::is;
 
 /// The most bytes of a line.
 const MAX_LINE: usize = 256;
-
-/// The most steps or lines of a command.
-const MOST: u64 = 1_000_000;
 
 // How many blanks are in front.
 fn blanks(bytes: &[u8]) -> usize
@@ -85,30 +82,23 @@ fn optional(word: &[u8]) -> Result<Option<u64>, Refusal>
     }
 }
 
-// A count from 1 to 1,000,000, or the one for none.
-fn count(absent: u32, word: &[u8]) -> Result<u32, Refusal>
-    requires { absent ≤ 1000000 }
+// A count, or the one for none.
+fn count(absent: u64, word: &[u8]) -> Result<Count, Refusal>
     ensures is { result ≡ count_of absent word.now }
     ensures few { IfOk result (λ n. n ≤ 1000000) }
 {
     if word.is_empty() {
-        return Ok(absent);
+        return Count::new(absent);
     }
     match number(word) {
-        Ok(n) => {
-            if n > 0 && n <= MOST {
-                Ok(n as u32)
-            } else {
-                Err(Refusal::CountOutOfRange)
-            }
-        }
+        Ok(n) => Count::new(n),
         Err(refusal) => Err(refusal),
     }
 }
 
 // Whether all bytes are letters, digits and underscores.
 fn is_plain(bytes: &[u8]) -> bool
-    ensures { result ≡ list_all is_letter_or_digit bytes.now }
+    ensures { result ≡ list_all may_stand_in_name bytes.now }
 {
     bytes
         .iter()
@@ -119,7 +109,7 @@ fn is_plain(bytes: &[u8]) -> bool
 fn raised(bytes: &[u8]) -> Name
     requires some { 0 < length bytes.now }
     requires short { length bytes.now ≤ 16 }
-    requires plain { list_all is_letter_or_digit bytes.now ≡ true }
+    requires plain { list_all may_stand_in_name bytes.now ≡ true }
     ensures { result ≡ map upper bytes.now }
 {
     let mut own = [0; 16];
@@ -131,7 +121,7 @@ fn raised(bytes: &[u8]) -> Name
 
 // The name of a feature.
 fn label(word: &[u8]) -> Result<Name, Refusal>
-    ensures { result ≡ label_of word.now }
+    ensures { result ≡ feature_name_of word.now }
 {
     if word.is_empty() || word.len() > 16 || !is_plain(word) {
         return Err(Refusal::UnknownCommand);
@@ -151,7 +141,7 @@ fn begins_with_letter(word: &[u8]) -> bool
 
 // The name of a variable.
 fn name(word: &[u8]) -> Result<Name, Refusal>
-    ensures { result ≡ name_of word.now }
+    ensures { result ≡ variable_name_of word.now }
 {
     if begins_with_letter(word) {
         label(word)
@@ -243,7 +233,7 @@ fn command_of(word: &[u8], argument: &[u8]) -> Result<Command, Refusal>
 
 // The command that a line spells.
 fn parsed(line: &[u8]) -> Result<Command, Refusal>
-    ensures is { result ≡ refusal_of line.now }
+    ensures is { result ≡ command_or_refusal line.now }
     ensures few { IfOk result (λ w. steps_of w ≤ 1000000) }
 {
     let (word, rest) = cut_word(line);

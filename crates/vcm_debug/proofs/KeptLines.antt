@@ -6,7 +6,7 @@ use Rattle.std.proofs.lemmas.List.{take_all}
 use Rattle.vcm_console.specs.declared.reply.Reply.TheVariants.{Refused}
 use Rattle.vcm_console.specs.declared.reply.Refusal.TheVariants.{UnknownCommand}
 use Rattle.vcm_debug.specs.Debugging.{Debugging}
-use Rattle.vcm_console.specs.Parsing.{has_two_words, command_of_words, first_word, behind_word, replied, command_of}
+use Rattle.vcm_console.specs.Parsing.{has_at_most_two_words, command_of_words, first_word, behind_word, replied, command_of}
 use Rattle.vcm_console.specs.Reading.{kept_of}
 use Rattle.vcm_debug.specs.Serving.{content, AnswersTo, IsTurn}
 
@@ -16,7 +16,7 @@ too_long n l = grind arith
 -- a line over 256 bytes is refused
 pub long_refused : (line : List ℕ) → 256 < length line → command_of line ≡ Err (Refused UnknownCommand)
 long_refused line l =
-    ap (λ b. replied (if b && has_two_words line then command_of_words (first_word line) (first_word (behind_word line)) else Err UnknownCommand)) (too_long (length line) l)
+    ap (λ b. replied (if b && has_at_most_two_words line then command_of_words (first_word line) (first_word (behind_word line)) else Err UnknownCommand)) (too_long (length line) l)
 
 long_return : (b : Bool) (bs : List ℕ) → length bs ≤ length (if b then take (length bs - 1) bs else bs) + 1
 long_return true bs = (let e = length-take (length bs - 1) bs in omega (arith, e))

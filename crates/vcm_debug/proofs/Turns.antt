@@ -11,7 +11,7 @@ use Rattle.vcm_console.specs.declared.reply.Halted.{Halted}
 use Rattle.vcm_console.specs.declared.reply.Refusal.{Refusal}
 use Rattle.vcm_console.specs.declared.reply.Reply.{Reply}
 use Rattle.vcm_console.specs.declared.reply.Reply.TheVariants.{Refused}
-use Rattle.vcm_console.specs.Parsing.{refusal_of, replied, command_of}
+use Rattle.vcm_console.specs.Parsing.{command_or_refusal, replied, command_of}
 use Rattle.vcm_console.specs.Replies.{Fits}
 use Rattle.vcm_debug.specs.Debugging.{Debugging}
 use Rattle.vcm_debug.specs.Session.{Carries}
@@ -62,7 +62,7 @@ same_reply a b e = cc
 
 -- such a reply names nothing
 pub refused_fits : (code : Code) (lines : List (List ℕ)) (line : List ℕ) (reply : Reply) → Err reply ≡ command_of line → Fits code lines reply
-refused_fits code lines line reply e = by (refusal_of line) e
+refused_fits code lines line reply e = by (command_or_refusal line) e
   where
     by : (r : Result Command Refusal) → Err reply ≡ replied r → Fits code lines reply
     by (Ok what) e = absurd cc

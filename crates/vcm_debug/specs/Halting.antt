@@ -44,8 +44,7 @@ reason breakpoints watches before now =
 abbrev pub reason_after : List Bool → List Bool → Running → ℕ → Option Reason
 reason_after breakpoints watches start j = reason breakpoints watches (later j start) (later (suc j) start)
 
--- why a run of at most k steps ends after j of them, where this is what is found there: for that reason, or, where there is none, since all
--- k were taken
+-- why a run of at most k steps ends after j: for the reason found there, or, with none found, because j is k
 abbrev pub EndsBy : ℕ → ℕ → Option Reason → Reason → Type 0
 EndsBy k j (Some found) why = why ≡ found
 EndsBy k j None why = (j ≡ k) × (why ≡ Count)

@@ -8,7 +8,7 @@ use Rattle.vcm_spec.specs.declared.stop.Stop.TheVariants.{Ended}
 use Rattle.vcm_spec.specs.World.{with_variable}
 use Rattle.vcm_spec.specs.Effect.{value_in, effect, carried_out}
 use Rattle.vcm_spec.specs.Value.{items_value}
-use Rattle.vcm_spec.specs.Control.{is_zero, is_past, next_index}
+use Rattle.vcm_spec.specs.Control.{is_zero, is_past, with_next_index}
 use Rattle.vcm_spec.specs.Samples.Parts.{one_block}
 use Rattle.vcm_code.specs.declared.code.Code.{Code}
 use Rattle.vcm_code.specs.declared.op.Op.TheVariants as ops
@@ -60,5 +60,5 @@ pub a_session : replies (opened one_block looping) (
     ≡ Set 1 ∷ Ran Break (at 1 1 5) ∷ Ran Break (at 3 1 5) ∷ Watched 0 ∷ Ran Break (at 5 1 5) ∷ Cleared 1 ∷ Ran (Watch 0) (at 7 3 7)
     ∷ Ran Stopped ended ∷ Ran Stopped ended ∷ Lines 3 3 ∷ Stands (at 0 0 4) ∷ Refused BeforeStart ∷ Value 0 (pos 0)
     ∷ Refused NoSuchStatement ∷ Found 6 2 ∷ Stands (at 3 1 5) ∷ []
-unfolding with_variable value_in items_value is_zero is_past effect carried_out next_index
+unfolding with_variable value_in items_value is_zero is_past effect carried_out with_next_index
 a_session = refl

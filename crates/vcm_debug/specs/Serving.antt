@@ -56,13 +56,14 @@ abbrev pub IsTurn : Debugging → List ℕ → Debugging → List ℕ → Bool �
 IsTurn old [] new text last = (new ≡ old) × (text ≡ []) × (last ≡ false)
 IsTurn old (b ∷ bs) new text last = Turn old (b ∷ bs) new text last
 
--- `bye` ends serving well, if its text could be written; any line may be the last one whose text was begun where the writer failed
+-- how serving may end at a line: well where `bye` was its answer, with a failed write at any line
 abbrev pub MayEnd : Bool → Result (Unit {0}) ServeFault → Type 0
 MayEnd last (Ok done) = last ≡ true
 MayEnd last (Err Write) = Unit {0}
 MayEnd last (Err e) = ⊥
 
--- With at most n lines of at most `left` bytes of this input, a session writes this text, serving ends so, and there the session stands
+-- of at most n lines and `left` bytes of this input the session writes this text, serving ends with this result, and the session stands
+-- there
 pub data Serves : ℕ → ℕ → Debugging → List ℕ → List ℕ → Result (Unit {0}) ServeFault → Debugging → Type 0 where
   -- the end of the input is `quit`
   input_ends : {n left : ℕ} {d : Debugging} {r : Result (Unit {0}) ServeFault} → MayEnd true r → Serves n left d [] (codes "bye\n") r d

@@ -129,13 +129,14 @@ answer d (c.Out k) = answers d (Lines (length (now d).world.lines) (min k (lengt
 answer d (c.Back k) = if nat_le k d.count then stands (at_count d (d.count - k)) else answers d (Refused BeforeStart)
 answer d c.Quit = answers d Bye
 
--- Memory was refused after `done` steps of a command, none of which ends it. Going back is then as if it had not been asked for
+-- memory was refused after `done` of k steps: there the session stands, and its next statement makes an output line and would not stop
 pub record HaltsAfter (d : Debugging) (k done : ℕ) (new : Debugging) : Type 0 where
   pub session : new ≡ at_count d (d.count + done)
   pub within : done < k
   pub wants : WantsMemory (shown (at_count d (d.count + done)))
 
--- what stands where memory is refused in a command: only steps, runs and steps back want it
+-- how a session stands where memory was refused in a command: only steps, runs and steps back want it, and after a refused step back it is
+-- as it was
 abbrev pub Halts : Debugging → Command → Debugging → ℕ → Type 0
 Halts d (c.Step k) new done = HaltsAfter d k done new
 Halts d (c.Run k) new done = HaltsAfter d k done new × ((i : ℕ) → i < done → reason_after d.breakpoints d.watches (shown d) i ≡ None)

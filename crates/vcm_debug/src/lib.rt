@@ -12,5 +12,5 @@ mod session;
 pub use serving::serve;
 pub use session::Session;
 pub use vcm_console::{
-    Command, Halted, Reason, Refusal, Reply, ServeFault, Standing, Wanted, parse_command,
+    Command, Count, Halted, Reason, Refusal, Reply, ServeFault, Standing, Wanted, parse_command,
 };

@@ -41,11 +41,6 @@ module _ (small : Source → Bool) where
   take_step operand find words rest ops op after h e =
       e ∙ ap (with_fronts small ops) (fronted-next operand find rest op after h) ∙ sym (with_fronts-push ops op (fronted_by small operand find after))
 
-  -- all signs are taken
-  pub take_done : (operand : Parser) (find : Symbol → Option Prefix) (words rest : List Symbol) (ops : List Prefix) → NoNext find rest
-      → fronted_by small operand find words ≡ with_fronts small ops (fronted_by small operand find rest) → fronted_by small operand find words ≡ with_fronts small ops (operand rest)
-  take_done operand find words rest ops h e = e ∙ ap (with_fronts small ops) (fronted-none operand find rest h)
-
   -- the last sign is put before an expression
   pub put_step : (o : Result Taken FaultCode) (all ops : List Prefix) (op : Prefix) (t u : Source) (r : List Symbol) → all ≡ ops ++ op ∷ [] → u ≡ Prefixed op t → small (Prefixed op t) ≡ true
       → o ≡ with_fronts small all (phrase t r) → o ≡ with_fronts small ops (phrase u r)

@@ -1,5 +1,6 @@
 -- The reading of a number as a function.
-use Rattle.std.specs.Prelude.{ℕ, ◌+◌, ◌^◌, ◌==◌, nat_lt, if◌then◌else◌, Bool, List, [], ◌∷◌, length, drop, Option, Some, None, Result, Ok, Err}
+use Rattle.std.specs.Prelude.{ℕ, ◌+◌, ◌^◌, ◌==◌, nat_lt, if◌then◌else◌, Bool, List, []}
+use Rattle.std.specs.Prelude.{◌∷◌, length, drop, Option, Some, None, Result, Ok, Err}
 use Rattle.std.specs.List.{list_all}
 use Rattle.std.specs.Char.{is_ascii_digit}
 use Rattle.vcm_num.specs.declared.number.Literal.{Literal}
@@ -17,7 +18,7 @@ abbrev pub past_digits : List ℕ → List ℕ
 past_digits [] = []
 past_digits (b ∷ bs) = if is_ascii_digit b then past_digits bs else b ∷ bs
 
--- a number whose magnitude fits
+-- the literal of these digits, or that it is too large
 abbrev pub sized : Bool → List ℕ → Option (List ℕ) → Result Literal NumFault
 sized minus whole decimals =
     if nat_lt (magnitude_of whole decimals) (2 ^ 63)
@@ -33,7 +34,7 @@ read_decimals minus whole ds =
     else Err TooFine
     else Err BadNumber
 
--- a number of these digits, with what follows them
+-- the literal of these digits and of what follows them, or what is wrong
 abbrev pub read_after : Bool → List ℕ → List ℕ → Result Literal NumFault
 read_after minus whole [] = if length whole == 0 then Err BadNumber else sized minus whole None
 read_after minus whole (b ∷ ds) = if b == 46 then read_decimals minus whole ds else Err BadNumber

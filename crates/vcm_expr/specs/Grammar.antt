@@ -9,7 +9,8 @@ use Rattle.vcm_expr.specs.declared.expression.Prefix.TheVariants.{Minus, Plus, N
 use Rattle.vcm_expr.specs.declared.expression.Term.{Term}
 use Rattle.vcm_expr.specs.declared.expression.Term.TheVariants.{Truth}
 use Rattle.vcm_expr.specs.declared.symbol.Symbol.{Symbol}
-use Rattle.vcm_expr.specs.declared.symbol.Symbol.TheVariants.{Operand, Dash, Cross, Star, Slash, NotWord, AndWord, OrWord, RelationWord, Opening, Closing}
+use Rattle.vcm_expr.specs.declared.symbol.Symbol.TheVariants.{Operand, Dash, Cross, Star, Slash, NotWord}
+use Rattle.vcm_expr.specs.declared.symbol.Symbol.TheVariants.{AndWord, OrWord, RelationWord, Opening, Closing}
 use Rattle.vcm_expr.specs.Source.{Source, Plain, Prefixed, Pair, is_small}
 
 -- an expression as it is written, with its parentheses; a leaf is a term, or a number that has no value, and why
@@ -63,14 +64,14 @@ spelled (Paren s) = Opening ∷ (spelled s ++ Closing ∷ [])
 spelled (Signed op s) = sign_word op ∷ spelled s
 spelled (Joined op a b) = spelled a ++ (word_of op ∷ spelled b)
 
--- a leaf may stand in an expression: a term, or digits that are a number but for their value
+-- the leaf is a term, or a number that is too fine or too large
 abbrev pub IsOperand : Result Term FaultCode → Type 0
 IsOperand (Ok t) = Unit {0}
 IsOperand (Err TooFine) = Unit {0}
 IsOperand (Err NumberTooLarge) = Unit {0}
 IsOperand (Err _) = ⊥
 
--- the expression may stand where something at least so tight is asked for
+-- the expression may stand where an operand of at least this level is asked for; in parentheses any may
 abbrev pub Fits : ℕ → Written → Type 0
 Fits l (Leaf o) = IsOperand o
 Fits l (Paren s) = Fits 1 s

@@ -7,14 +7,16 @@ use Rattle.vcm_num.specs.declared.read.NumFault.{NumFault}
 use Rattle.vcm_num.specs.declared.read.NumFault.TheVariants.{BadNumber, TooFine, TooLarge}
 use Rattle.vcm_lines.specs.declared.fault.FaultCode.{FaultCode}
 use Rattle.vcm_lines.specs.declared.fault.FaultCode.TheVariants.{BadSyntax, TooFine as TooFineCode, NumberTooLarge}
-use Rattle.vcm_lines.specs.Lexemes.{Lexeme, Run, Number, Dotted, Quoted, Slash as SlashMark, Comma, Equals, Open, Close, Plus, Minus, Star as StarMark, Other as OtherMark}
+use Rattle.vcm_lines.specs.Lexemes.{Lexeme, Run, Number, Dotted, Quoted, Slash as SlashMark, Comma, Equals}
+use Rattle.vcm_lines.specs.Lexemes.{Open, Close, Plus, Minus, Star as StarMark, Other as OtherMark}
 use Rattle.vcm_lines.specs.Dotted.{dotted_words}
 use Rattle.vcm_lines.specs.declared.dotted.DottedWord.{DottedWord}
 use Rattle.vcm_lines.specs.declared.dotted.DottedWord.TheVariants.{Compare, Not, And, Or, Truth as TruthWord}
 use Rattle.vcm_expr.specs.declared.expression.Term.{Term}
 use Rattle.vcm_expr.specs.declared.expression.Term.TheVariants.{Number as Figure, Truth, Variable}
 use Rattle.vcm_expr.specs.declared.symbol.Symbol.{Symbol}
-use Rattle.vcm_expr.specs.declared.symbol.Symbol.TheVariants.{Operand, Dash, Cross, Star, Slash, NotWord, AndWord, OrWord, RelationWord, Opening, Closing, Other}
+use Rattle.vcm_expr.specs.declared.symbol.Symbol.TheVariants.{Operand, Dash, Cross, Star, Slash, NotWord, AndWord}
+use Rattle.vcm_expr.specs.declared.symbol.Symbol.TheVariants.{OrWord, RelationWord, Opening, Closing, Other}
 use Rattle.vcm_expr.specs.Digits.{read_of}
 use Rattle.vcm_expr.specs.NameBytes.{is_name}
 

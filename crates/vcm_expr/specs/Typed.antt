@@ -4,7 +4,7 @@ use Rattle.vcm_spec.specs.declared.expression.Operand.{Operand}
 use Rattle.vcm_spec.specs.declared.expression.Operand.TheVariants.{Integer, Thousandths, Truth, Variable}
 use Rattle.vcm_spec.specs.Expression.{Tree, Value, One, Two}
 
--- a variable has a place among so many
+-- the leaf is no variable, or it is one of the first n
 abbrev pub VariableBelow : ℕ → Operand → Type 0
 VariableBelow n (Integer i) = Unit {0}
 VariableBelow n (Thousandths i) = Unit {0}

@@ -25,7 +25,7 @@ pub record Kinded : Type 0 where
   pub tree : Tree
   pub kind : Kind
 
--- this tree has this kind
+-- a tree and its kind, as a result
 abbrev pub kinded : Tree → Kind → Result Kinded FaultCode
 kinded t k = Ok (record { tree = t; kind = k })
 
@@ -39,7 +39,7 @@ abbrev pub named_by : List Variable → Option ℕ → Result Kinded FaultCode
 named_by vs None = Err UnknownName
 named_by vs (Some i) = variable_by i (slice_get (kinds_of vs) i)
 
--- a leaf
+-- the tree of a leaf and its kind; a name that stands for no variable is unknown
 abbrev pub leaf_of : List Variable → Term → Result Kinded FaultCode
 leaf_of vs (Number (Whole n)) = kinded (Value (Integer n)) Int
 leaf_of vs (Number (Exact n)) = kinded (Value (Thousandths n)) Real
@@ -57,8 +57,8 @@ prefixed_by Minus t k = typed_as (unary_kind Neg k) (One Neg t)
 prefixed_by Plus t k = typed_as (unary_kind Neg k) t
 prefixed_by Not t k = typed_as (unary_kind Negation k) (One Negation t)
 
--- whether an operand of the first kind is scaled beside one of the second: a whole number beside one of thousandths is, but for products and
--- quotients
+-- whether an operand of the first kind is scaled beside one of the second: a whole number beside one of thousandths is,
+-- but for products and quotients
 abbrev pub is_scaled : BinaryOp → Kind → Kind → Bool
 is_scaled Mul k l = false
 is_scaled Div k l = false
@@ -70,7 +70,7 @@ abbrev pub scaled : Bool → Tree → Tree
 scaled true t = One Scale t
 scaled false t = t
 
--- and its kind
+-- the kind of an operand as it stands, or scaled
 abbrev pub scaled_kind : Bool → Kind → Kind
 scaled_kind true k = Real
 scaled_kind false k = k

@@ -57,7 +57,7 @@ now x bytes = Ok (x, bytes)
 abbrev pub both : {A B : Type 0} → Reader A → Reader B → Reader (A × B)
 both a b bytes = a bytes >>= λ x. b x.1 >>= λ y. Ok ((x.0, y.0), y.1)
 
--- a value made of what is read by a function
+-- what a function makes of the value that is read
 abbrev pub via : {A B : Type 0} → (A → B) → Reader A → Reader B
 via f a bytes = a bytes >>= λ x. Ok (f x.0, x.1)
 
@@ -74,7 +74,7 @@ unfoldable pub times : {A : Type 0} → Reader A → ℕ → Reader (List A)
 times a zero bytes = Ok ([], bytes)
 times a (suc n) bytes = a bytes >>= λ x. times a n x.1 >>= λ xs. Ok (x.0 ∷ xs.0, xs.1)
 
--- the reader of a tag
+-- what is read behind this tag, by its row of the table; a tag without a row is out of range
 abbrev pub found : {A : Type 0} → List (ℕ × Reader A) → ℕ → Reader A
 found [] k bytes = Err BadField
 found (row ∷ rows) k bytes = if k == row.0 then row.1 bytes else found rows k bytes

@@ -5,6 +5,7 @@ use Rattle.vcm_fields.specs.declared.word.Word.{Word}
 use Rattle.vcm_fields.specs.declared.word.Word.TheVariants as words
 use Rattle.vcm_fields.specs.Parts.{Operation}
 
+-- the word that a statement goes by
 abbrev pub word_of : Operation → Word
 word_of EndFil = words.EndFil
 word_of (Goto x y z) = words.Goto

@@ -10,13 +10,13 @@ pub record IsPoint (p : Point) : Type 0 where
   pub three : p ≡ point_of (coordinate p)
   pub fit : IsTrue (fits_place (coordinate p))
 
--- a point that has machine coordinates is the one that these have in part coordinates
+-- where a point's machine coordinates fit, their part coordinates are that point
 abbrev pub ThereAndBack : Type 0
 ThereAndBack =
     (f : Frame) (p q : Point) → IsTrue (is_turn f.turn) → IsPoint p → point_at (to_machine f (coordinate p)) ≡ Gives q
     → point_at (to_part f (coordinate q)) ≡ Gives p
 
--- a machine point that has part coordinates is the one that these have in machine coordinates
+-- where a point's part coordinates fit, their machine coordinates are that point
 abbrev pub BackAndThere : Type 0
 BackAndThere =
     (f : Frame) (p q : Point) → IsTrue (is_turn f.turn) → IsPoint p → point_at (to_part f (coordinate p)) ≡ Gives q

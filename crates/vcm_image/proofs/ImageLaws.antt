@@ -10,7 +10,7 @@ use Rattle.vcm_code.specs.Ranges.{IsShort, OpInRange, AllInRange, AreVariables, 
 use Rattle.vcm_fields.specs.declared.fault.ImageFault.{ImageFault}
 use Rattle.vcm_fields.specs.Parts.{Operation, Line}
 use Rattle.vcm_fields.specs.Fitting.{FitsExpression, FitsOperation, FitsLine, FitsEntry}
-use Rattle.vcm_fields.proofs.Parts.{in_range}
+use Rattle.vcm_fields.proofs.ItemParts.{in_range}
 use Rattle.vcm_image.specs.Whole.{Fits, spelling, code_at}
 use Rattle.vcm_image.proofs.Wholes.{code_takes, code_again}
 

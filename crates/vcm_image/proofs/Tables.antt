@@ -12,7 +12,8 @@ use Rattle.vcm_fields.specs.Readers.{Reader, Fails, times, entry_at, name_at, li
 use Rattle.vcm_image.specs.Whole.{header, header_at, body_at, ended, code_at}
 use Rattle.vcm_image.specs.inner.Places.{IsEnd, Begin, Table, code_or_none, code_in, Indexed}
 use Rattle.vcm_image.proofs.Wholes.{reads_header, code_takes}
-use Rattle.vcm_fields.proofs.Inverse.{IsBytes, Reads, Progress, begun, goes_on, stops, is_done, times_more, ok_is}
+use Rattle.vcm_fields.proofs.Inverse.{IsBytes, Reads, ok_is}
+use Rattle.vcm_fields.proofs.LoopInverse.{Progress, begun, goes_on, stops, is_done, times_more}
 
 pub Begin-push : {A : Type 0} (a : Reader A) (whole os : List ℕ) (xs : List A) (o : ℕ) (x : A) (rest : List ℕ) → Begin a whole os xs → o ≤ length whole → a (drop o whole) ≡ Ok (x, rest) → Begin a whole (os ++ o ∷ []) (xs ++ x ∷ [])
 Begin-push a whole [] [] o x rest h le e = ((le, (rest, e)), tt)

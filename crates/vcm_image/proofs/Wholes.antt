@@ -12,8 +12,11 @@ use Rattle.vcm_fields.specs.declared.fault.ImageFault.TheVariants.{BadMagic, Bad
 use Rattle.vcm_fields.specs.Fitting.{FitsEntry, FitsLine}
 use Rattle.vcm_fields.specs.Spelling.{short, long, entry, name, line}
 use Rattle.vcm_fields.specs.Readers.{GivesOrNoMemory, tested, after, number_at}
-use Rattle.vcm_fields.proofs.Inverse.{IsBytes, Reads, bind_ok, guard_met, reads_as, reads_both, reads_via, reads_tested, reads_after, reads_times, reads_short, reads_long}
-use Rattle.vcm_fields.proofs.Parts.{reads_entry, reads_name, reads_line}
+use Rattle.vcm_fields.proofs.Inverse.{IsBytes, Reads, bind_ok, guard_met, reads_as, reads_both, reads_via, reads_tested, reads_after, reads_times}
+use Rattle.vcm_fields.proofs.NumberInverse.{reads_short, reads_long}
+use Rattle.vcm_fields.proofs.TextParts.{reads_name}
+use Rattle.vcm_fields.proofs.StatementParts.{reads_line}
+use Rattle.vcm_fields.proofs.Parts.{reads_entry}
 use Rattle.vcm_image.specs.declared.counts.Counts.{Counts}
 use Rattle.vcm_image.specs.Whole.{Fits, counts_of, magic, header, spelling, is_number, at_most, header_at, body_at, ended, code_at}
 

@@ -4,7 +4,7 @@ ghost use Rattle.std.specs.Prelude.{◌≤◌, length};
 ghost use Rattle.std.specs.List.{AllByRecursion};
 ghost use Rattle.vcm_expr.specs.NameBytes.{IsName};
 ghost use Rattle.vcm_code.specs.Ops.{op_of, statements_of, code_of};
-ghost use Rattle.vcm_code.specs.Ranges.{IsShort, OpInRange, AllInRange, AreVariables, AreNames, IsInRange};
+ghost use Rattle.vcm_code.specs.Ranges.{IsShort, OpInRange, AllInRange, AreVariables, AllAreNames, IsInRange};
 ghost use Rattle.vcm_code.specs.Deciding.{Tells};
 
 use crate::scanned::{MOST_NAMES, MOST_STATEMENTS};
@@ -77,7 +77,7 @@ fn are_variables(variables: &[Variable]) -> bool
 
 // Whether these are names.
 fn are_names(names: &[Name]) -> bool
-    ensures { Tells result (AreNames names.now) }
+    ensures { Tells result (AllAreNames names.now) }
 {
     for it in names {
         if !is_name(it.as_bytes()) {

@@ -21,14 +21,13 @@ use Rattle.vcm_run.specs.Run.{Ended}
 use Rattle.vcm_run.specs.Programs.{IsSummary, IsRefusal}
 use Rattle.vcm_run.specs.Summaries.{Shown}
 use Rattle.vcm_run.specs.Printed.{result_text}
-use Rattle.vcm_job.specs.declared.running.Done.{Done}
 use Rattle.vcm_job.specs.declared.running.JobFault.{JobFault}
 use Rattle.vcm_job.specs.declared.running.JobFault.TheVariants.{Refused, Memory, NoMemory, Read, Write, TooLong}
 use Rattle.vcm_job.specs.declared.reading.ReadFault.{ReadFault}
 use Rattle.vcm_job.specs.declared.reading.ReadFault.TheVariants as read_faults
-use Rattle.vcm_job.specs.Reading.{most_bytes, ReadsAtMost, ReadsLittle, IsReadFault}
+use Rattle.vcm_job.specs.Reading.{most_bytes, ReadsAtMost, ReadsLittle, IsReadFault, AnswersUnread}
 use Rattle.vcm_job.specs.Jobs.{most_steps, job_setup, start_of, held, part_text, program_text, status_of}
-use Rattle.vcm_job.specs.Results.{IsHalted, IsJobRefusal, IsDone, IsCutOff, IsNotDone, AnswersLong}
+use Rattle.vcm_job.specs.Results.{IsHalted, IsJobRefusal, IsDone, IsCutOff, IsNotDone}
 use Rattle.vcm_job.specs.inner.Running.{IsJobRun}
 use Rattle.vcm_job.specs.Unread.{job_not_read}
 
@@ -169,7 +168,7 @@ none_read a b read_faults.TooLong old new h k = (h, k)
 pub not_run : (a b : Option (List ℕ)) (bytes : List ℕ) (f : JobFault) (old new : Option (List ℕ)) → IfSome a (λ input. bytes ≡ input) → IsJobRefusal bytes f → Keeps old new → IsNotDone a b f old new
 not_run a b bytes (Refused r) old new all h k = (known a _ _ all (λ input is. subst (λ i. IsJobRefusal i (Refused r)) is h), k)
 not_run a b bytes (Memory n) old new all h k = (known a _ _ all (λ input is. subst (λ i. IsJobRefusal i (Memory n)) is h), k)
-not_run a b bytes NoMemory old new all h k = absurd h
+not_run a b bytes NoMemory old new all h k = k
 not_run a b bytes Read old new all h k = absurd h
 not_run a b bytes (Write n) old new all h k = absurd h
 not_run a b bytes TooLong old new all h k = absurd h
@@ -180,12 +179,7 @@ pub not_long : (bytes : List ℕ) → length bytes ≤ 33554432 → length bytes
 unfolding most_bytes
 not_long bytes h = h
 
-pub read_whole : (a : Option (List ℕ)) (bytes : List ℕ) (answer : Result Done JobFault) → IfSome a (λ input. bytes ≡ input) → length bytes ≤ most_bytes → AnswersLong a answer
-read_whole None bytes answer all h = tt
-read_whole (Some x) bytes answer all h = λ l. absurd (let e = ap length all in omega arith)
-
-pub read_failed : (a b : Option (List ℕ)) (f : ReadFault) → IsReadFault a b f → AnswersLong a (Err (job_not_read f))
-read_failed None b f h = tt
-read_failed (Some x) b read_faults.NoMemory h = λ l. tt
-read_failed (Some x) b read_faults.Device h = λ l. tt
-read_failed (Some x) b read_faults.TooLong h = λ l. tt
+pub read_whole : {A F : Type 0} (not_read : ReadFault → F) (a : Option (List ℕ)) (bytes : List ℕ) (answer : Result A F) → IfSome a (λ input. bytes ≡ input) → length bytes ≤ most_bytes
+    → AnswersUnread not_read a answer
+read_whole not_read None bytes answer all h = tt
+read_whole not_read (Some x) bytes answer all h = λ l. absurd (let e = ap length all in omega arith)

@@ -28,7 +28,7 @@ pub record IsCheckCutOff (text : List ℕ) (old new : Option (List ℕ)) : Type 
   pub accepted : IsAccepted text parsed
   pub front : AppendsFront old new (count_line (sizes parsed.program))
 
--- a failed write cut the line off; else nothing was written
+-- why no whole line was written: a failed write cut it off; or memory, the reader, its length or a refusal, and nothing was written
 abbrev pub IsNotChecked : Option (List ℕ) → Option (List ℕ) → CheckFault → Option (List ℕ) → Option (List ℕ) → Type 0
 IsNotChecked before after Write old new = IfSome before (λ text. IsCheckCutOff text old new)
 IsNotChecked before after (Refused f) old new = IfSome before (λ text. NoMemoryOr (IsRefused text) f) × Keeps old new

@@ -28,10 +28,11 @@ RunAs false part input n s = IsSummary part input n s
 abbrev pub IsInputRun : Workpiece → List ℕ → ℕ → Shown → Type 0
 IsInputRun part input n s = RunAs (is_image input) part input n s
 
--- why an input isn't run: it is an image and refused, or a text and refused
+-- why an input isn't run: it is an image and refused, or a text and refused; or memory was refused
 abbrev pub IsRefusedInput : List ℕ → RunFault → Type 0
 IsRefusedInput input (Image e) = (is_image input ≡ true) × IsImageRefusal input e
 IsRefusedInput input (Refused r) = (is_image input ≡ false) × IsRefusal input r
+IsRefusedInput input NoMemory = Unit {0}
 IsRefusedInput input _ = ⊥
 
 -- the result of a run of the input was written and nothing else, and this is its status; the run wasn't refused memory
@@ -59,7 +60,7 @@ pub record IsRunCutOff (part : Workpiece) (input : List ℕ) (n done : ℕ) (old
   pub count : done ≡ shown.ran.done
   pub front : AppendsFront old new (result_text shown.held shown.ran.done)
 
--- a failed write cut the result off; else nothing was written
+-- why no whole result was written: a failed write cut it off; or memory, the reader, its length or a refusal, and nothing was written
 abbrev pub IsNotWritten : Workpiece → ℕ → Option (List ℕ) → Option (List ℕ) → RunFault → Option (List ℕ) → Option (List ℕ) → Type 0
 IsNotWritten part n before after (Write done) old new = IfSome before (λ input. IsRunCutOff part input n done old new)
 IsNotWritten part n before after (Memory done) old new = IfSome before (λ input. IsHaltedRun part input n done) × Keeps old new

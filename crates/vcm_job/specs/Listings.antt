@@ -55,7 +55,7 @@ pub record IsListCutOff (input : List ℕ) (old new : Option (List ℕ)) : Type 
   pub listed : IsListed input text notices
   pub front : AppendsFront old new text
 
--- a failed write cut the listing off; else nothing was written
+-- why no whole listing was written: a failed write cut it off; or memory, the reader, its length or a refusal, and nothing was written
 abbrev pub IsNotListed : Option (List ℕ) → Option (List ℕ) → PrintFault → Option (List ℕ) → Option (List ℕ) → Type 0
 IsNotListed before after Write old new = IfSome before (λ input. IsListCutOff input old new)
 IsNotListed before after Read old new = ReadsAtMost most_bytes before after × Keeps old new

@@ -1,5 +1,5 @@
 -- What a job answers.
-use Rattle.std.specs.Prelude.{◌≡◌, ℕ, ◌<◌, List, length, Option, Result, Ok, Err, ◌⊎◌, IfSome}
+use Rattle.std.specs.Prelude.{◌≡◌, ℕ, ◌<◌, List, length, Option, Ok, Err, ◌⊎◌, IfSome}
 use Rattle.std.specs.Io.KnownBytes.{Appends, Keeps}
 use Rattle.vcm_num.specs.Written.{AppendsFront}
 use Rattle.vcm_part.specs.declared.fault.PartCode.TheVariants as part_codes
@@ -13,7 +13,6 @@ use Rattle.vcm_run.specs.declared.run.Refusal.TheVariants.{Part}
 use Rattle.vcm_machine.specs.declared.ran.End.TheVariants as ends
 use Rattle.vcm_run.specs.Programs.{IsRefusal}
 use Rattle.vcm_run.specs.Run.{Ended}
-use Rattle.vcm_job.specs.declared.running.Done.{Done}
 use Rattle.vcm_job.specs.declared.running.JobFault.{JobFault}
 use Rattle.vcm_job.specs.declared.running.JobFault.TheVariants.{Refused, Memory, NoMemory, Read, Write, TooLong}
 use Rattle.vcm_job.specs.Reading.{most_bytes, ReadsAtMost}
@@ -32,6 +31,7 @@ abbrev pub IsJobRefusal : List ℕ → JobFault → Type 0
 IsJobRefusal input (Refused (Part e)) = (e ≡ fault part_codes.NoMemory 0) ⊎ (part_of (part_text input) ≡ Err e)
 IsJobRefusal input (Refused r) = ((part : Workpiece) × (part_of (part_text input) ≡ Ok part)) × IsRefusal (program_text input) r
 IsJobRefusal input (Memory done) = IsHalted input done
+IsJobRefusal input NoMemory = Unit {0}
 IsJobRefusal input _ = ⊥
 
 -- the job's result was written and nothing else, and this is its status
@@ -51,21 +51,10 @@ pub record IsCutOff (input : List ℕ) (done : ℕ) (old new : Option (List ℕ)
   pub count : done ≡ job_count part parsed
   pub front : AppendsFront old new (job_text part parsed)
 
--- a failed write cut the result off; else nothing was written
+-- why no whole result was written: a failed write cut it off; or memory, the reader, its length or a refusal, and nothing was written
 abbrev pub IsNotDone : Option (List ℕ) → Option (List ℕ) → JobFault → Option (List ℕ) → Option (List ℕ) → Type 0
 IsNotDone before after (Write done) old new = IfSome before (λ input. IsCutOff input done old new)
 IsNotDone before after Read old new = ReadsAtMost most_bytes before after × Keeps old new
 IsNotDone before after NoMemory old new = Keeps old new
 IsNotDone before after TooLong old new = IfSome before (λ input. most_bytes < length input) × Keeps old new
 IsNotDone before after f old new = IfSome before (λ input. IsJobRefusal input f) × Keeps old new
-
--- the answers that an input over its limit may get: too long, or, before its end, a fault of the reader or want of memory
-abbrev pub IsLongAnswer : Result Done JobFault → Type 0
-IsLongAnswer (Err TooLong) = Unit {0}
-IsLongAnswer (Err Read) = Unit {0}
-IsLongAnswer (Err NoMemory) = Unit {0}
-IsLongAnswer _ = ⊥
-
--- an input over its limit gets one of these
-abbrev pub AnswersLong : Option (List ℕ) → Result Done JobFault → Type 0
-AnswersLong known answer = IfSome known (λ input. most_bytes < length input → IsLongAnswer answer)

@@ -2,7 +2,8 @@
 
 ghost use Rattle.std.specs.Prelude.{◌≡◌, IfOk, IfErr, IfSome};
 ghost use Rattle.vcm_run.specs.Programs.{IsBuilt};
-ghost use Rattle.vcm_job.specs.Reading.{ReadsLittle};
+ghost use Rattle.vcm_job.specs.Reading.{ReadsLittle, AnswersUnread};
+ghost use Rattle.vcm_job.specs.Unread.{build_not_read};
 ghost use Rattle.vcm_job.specs.Files.{IsNotBuilt};
 
 use crate::reading::{ReadFault, read_all};
@@ -44,6 +45,7 @@ impl From<ReadFault> for BuildFault {
 pub fn build<R: Read>(alloc: Global, reader: &mut R) -> Result<Built, BuildFault>
     ensures built { IfOk result (λ b. IfSome (R.remaining reader.old) (λ text. IsBuilt text b.image.items b.notices.items)) }
     ensures fault { IfErr result (λ f. IsNotBuilt (R.remaining reader.old) (R.remaining reader.new) f) }
+    ensures long { AnswersUnread build_not_read (R.remaining reader.old) result }
     ensures little { ReadsLittle (R.remaining reader.old) (R.remaining reader.new) }
 {
     let text = read_all(alloc, reader)?;

@@ -4,7 +4,8 @@ ghost use Rattle.std.specs.Prelude.{◌≡◌, IfOk, IfErr, IfSome};
 ghost use Rattle.vcm_num.specs.Written.{Wrote};
 ghost use Rattle.vcm_lines.specs.Fault.{NoMemoryOr};
 ghost use Rattle.vcm_tree.specs.Acceptance.{IsRefused};
-ghost use Rattle.vcm_job.specs.Reading.{ReadsLittle};
+ghost use Rattle.vcm_job.specs.Reading.{ReadsLittle, AnswersUnread};
+ghost use Rattle.vcm_job.specs.Unread.{check_not_read};
 ghost use Rattle.vcm_job.specs.Checks.{count_line, IsChecked, IsNotChecked};
 ghost use Rattle.vcm_job.specs.inner.Counting.{IsCounted};
 
@@ -76,6 +77,7 @@ pub fn check<R: Read, W: Write>(
 ) -> Result<Vec<Noticed>, CheckFault>
     ensures done { IfOk result (λ v. IfSome (R.remaining reader.old) (λ text. IsChecked text v.items (W.contents writer.old) (W.contents writer.new))) }
     ensures fault { IfErr result (λ f. IsNotChecked (R.remaining reader.old) (R.remaining reader.new) f (W.contents writer.old) (W.contents writer.new)) }
+    ensures long { AnswersUnread check_not_read (R.remaining reader.old) result }
     ensures little { ReadsLittle (R.remaining reader.old) (R.remaining reader.new) }
 {
     let text = read_all(alloc, reader)?;

@@ -1,7 +1,8 @@
 //! Sessions of the debugger on programs and images.
 
 ghost use Rattle.std.specs.Prelude.{◌≡◌, IfOk, IfErr, IfSome};
-ghost use Rattle.vcm_job.specs.Reading.{ReadsLittle};
+ghost use Rattle.vcm_job.specs.Reading.{ReadsLittle, AnswersUnread};
+ghost use Rattle.vcm_job.specs.Unread.{debug_not_read};
 ghost use Rattle.vcm_job.specs.Debugged.{IsSession, IsServedOn, IsDebugged, IsInputFault, IsNotDebugged};
 ghost use Rattle.vcm_job.specs.inner.Sessions.{IsNoSession, IsNotServed};
 
@@ -81,7 +82,9 @@ fn serve_beside<R: Read, W: Write>(
     ensures done { IfOk result (λ v. IfSome (R.remaining commands.old) (λ lines. IsSession part.now loaded.now lines (R.remaining commands.new) (W.contents writer.old) (W.contents writer.new) (Ok v))) }
     ensures fault { IfErr result (λ f. IsNoSession part.now loaded.now (R.remaining commands.old) (R.remaining commands.new) f (W.contents writer.old) (W.contents writer.new)) }
 {
-    let workpiece = AnyPart::of(alloc, part);
+    let Ok(workpiece) = AnyPart::of(alloc, part) else {
+        return Err(DebugFault::NoMemory);
+    };
     serve_loaded(alloc, loaded, &workpiece, commands, writer)
 }
 
@@ -142,6 +145,7 @@ pub fn debug<I: Read, R: Read, W: Write>(
 ) -> Result<Vec<Noticed>, DebugFault>
     ensures done { IfOk result (λ v. IfSome (I.remaining reader.old) (λ input. IfSome (R.remaining commands.old) (λ lines. IsDebugged part.now input lines (R.remaining commands.new) v.items (W.contents writer.old) (W.contents writer.new)))) }
     ensures fault { IfErr result (λ f. IsNotDebugged part.now (I.remaining reader.old) (I.remaining reader.new) (R.remaining commands.old) (R.remaining commands.new) f (W.contents writer.old) (W.contents writer.new)) }
+    ensures long { AnswersUnread debug_not_read (I.remaining reader.old) result }
     ensures little { ReadsLittle (I.remaining reader.old) (I.remaining reader.new) }
 {
     let input = read_all(alloc, reader)?;

@@ -2,7 +2,8 @@
 
 ghost use Rattle.std.specs.Prelude.{◌≡◌, ◌≢◌, take, IfOk, IfErr, IfSome, codes};
 ghost use Rattle.std.specs.Str.{bytes_eq};
-ghost use Rattle.vcm_job.specs.Reading.{ReadsLittle};
+ghost use Rattle.vcm_job.specs.Reading.{ReadsLittle, AnswersUnread};
+ghost use Rattle.vcm_job.specs.Unread.{input_not_read};
 ghost use Rattle.vcm_job.specs.Inputs.{is_image, IsInputRun, IsRefusedInput, IsWritten, IsNotWritten};
 
 use crate::reading::{ReadFault, read_all};
@@ -23,7 +24,7 @@ pub enum RunFault {
     Image(ImageFault),
     /// A growth of memory was refused after so many steps of the run.
     Memory { done: u64 },
-    /// A growth of memory was refused while the input was read.
+    /// A growth of memory was refused while the input was read, or the workpiece cut into strips.
     NoMemory,
     /// The reader failed, before more was read than an input may have.
     Read,
@@ -60,7 +61,9 @@ fn summary_of(alloc: Global, part: &PartData, input: &[u8], steps: u64) -> Resul
     ensures run { IfOk result (IsInputRun part.now input.now steps) }
     ensures refused { IfErr result (IsRefusedInput input.now) }
 {
-    let workpiece = AnyPart::of(alloc, part);
+    let Ok(workpiece) = AnyPart::of(alloc, part) else {
+        return Err(RunFault::NoMemory);
+    };
     if is_image(input) {
         match run_image(alloc, &workpiece, input, steps) {
             Ok(summary) => Ok(summary),
@@ -87,6 +90,7 @@ pub fn run<R: Read, W: Write>(
 ) -> Result<Done, RunFault>
     ensures done { IfOk result (λ d. IfSome (R.remaining reader.old) (λ input. IsWritten part.now input steps d.status d.notices.items (W.contents writer.old) (W.contents writer.new))) }
     ensures fault { IfErr result (λ f. IsNotWritten part.now steps (R.remaining reader.old) (R.remaining reader.new) f (W.contents writer.old) (W.contents writer.new)) }
+    ensures long { AnswersUnread input_not_read (R.remaining reader.old) result }
     ensures little { ReadsLittle (R.remaining reader.old) (R.remaining reader.new) }
 {
     let input = read_all(alloc, reader)?;

@@ -1,7 +1,8 @@
 //! Listings of programs and images, and images of listings.
 
 ghost use Rattle.std.specs.Prelude.{◌≡◌, IfOk, IfErr, IfSome};
-ghost use Rattle.vcm_job.specs.Reading.{ReadsLittle};
+ghost use Rattle.vcm_job.specs.Reading.{ReadsLittle, AnswersUnread};
+ghost use Rattle.vcm_job.specs.Unread.{list_not_read, asm_not_read};
 ghost use Rattle.vcm_job.specs.Listings.{IsPrinted, IsListed, IsListRefusal, IsWrittenOut, IsNotListed, IsNotAssembled};
 ghost use Rattle.vcm_job.specs.inner.Printing.{IsNotPrinted};
 
@@ -130,6 +131,7 @@ pub fn list<R: Read, W: Write>(
 ) -> Result<Vec<Noticed>, PrintFault>
     ensures done { IfOk result (λ v. IfSome (R.remaining reader.old) (λ input. IsWrittenOut input v.items (W.contents writer.old) (W.contents writer.new))) }
     ensures fault { IfErr result (λ f. IsNotListed (R.remaining reader.old) (R.remaining reader.new) f (W.contents writer.old) (W.contents writer.new)) }
+    ensures long { AnswersUnread list_not_read (R.remaining reader.old) result }
     ensures little { ReadsLittle (R.remaining reader.old) (R.remaining reader.new) }
 {
     let input = read_all(alloc, reader)?;
@@ -147,6 +149,7 @@ pub fn list<R: Read, W: Write>(
 pub fn asm<R: Read>(alloc: Global, reader: &mut R) -> Result<Vec<u8>, AsmFault>
     ensures image { IfOk result (λ v. IfSome (R.remaining reader.old) (λ text. IsPrinted v.items text)) }
     ensures fault { IfErr result (λ f. IsNotAssembled (R.remaining reader.old) (R.remaining reader.new) f) }
+    ensures long { AnswersUnread asm_not_read (R.remaining reader.old) result }
     ensures little { ReadsLittle (R.remaining reader.old) (R.remaining reader.new) }
 {
     let text = read_all(alloc, reader)?;

@@ -1,7 +1,8 @@
 //! Part files, read whole and judged.
 
 ghost use Rattle.std.specs.Prelude.{◌≡◌, IfOk, IfErr, IfSome};
-ghost use Rattle.vcm_job.specs.Reading.{ReadsLittle};
+ghost use Rattle.vcm_job.specs.Reading.{ReadsLittle, AnswersUnread};
+ghost use Rattle.vcm_job.specs.Unread.{part_not_read};
 ghost use Rattle.vcm_job.specs.Files.{IsPartIn, IsNoPart};
 
 use crate::reading::{ReadFault, read_all};
@@ -43,6 +44,7 @@ impl From<ReadFault> for PartFileFault {
 pub fn part_from<R: Read>(alloc: Global, reader: &mut R) -> Result<PartData, PartFileFault>
     ensures part { IfOk result (λ p. IfSome (R.remaining reader.old) (λ file. IsPartIn file p)) }
     ensures fault { IfErr result (λ f. IsNoPart (R.remaining reader.old) (R.remaining reader.new) f) }
+    ensures long { AnswersUnread part_not_read (R.remaining reader.old) result }
     ensures little { ReadsLittle (R.remaining reader.old) (R.remaining reader.new) }
 {
     let file = read_all(alloc, reader)?;

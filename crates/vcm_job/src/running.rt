@@ -2,8 +2,9 @@
 
 ghost use Rattle.std.specs.Prelude.{◌≡◌, ◌≢◌, true, false, IfOk, IfErr, IfSome};
 ghost use Rattle.vcm_job.specs.Jobs.{status_of, most_steps};
-ghost use Rattle.vcm_job.specs.Reading.{ReadsLittle};
-ghost use Rattle.vcm_job.specs.Results.{IsJobRefusal, IsDone, IsNotDone, AnswersLong};
+ghost use Rattle.vcm_job.specs.Reading.{ReadsLittle, AnswersUnread};
+ghost use Rattle.vcm_job.specs.Unread.{job_not_read};
+ghost use Rattle.vcm_job.specs.Results.{IsJobRefusal, IsDone, IsNotDone};
 ghost use Rattle.vcm_job.specs.inner.Running.{IsJobRun};
 
 use crate::cutting::texts_of;
@@ -34,7 +35,7 @@ pub enum JobFault {
     Refused(Refusal),
     /// A growth of memory was refused after so many steps of the run.
     Memory { done: u64 },
-    /// A growth of memory was refused while the input was read.
+    /// A growth of memory was refused while the input was read, or the workpiece cut into strips.
     NoMemory,
     /// The reader failed, before more was read than an input may have.
     Read,
@@ -96,7 +97,9 @@ fn summary_of(alloc: Global, input: &[u8], steps: u64) -> Result<Summary, JobFau
         Ok(part) => part,
         Err(fault) => return Err(JobFault::Refused(Refusal::Part(fault))),
     };
-    let workpiece = AnyPart::of(alloc, &part);
+    let Ok(workpiece) = AnyPart::of(alloc, &part) else {
+        return Err(JobFault::NoMemory);
+    };
     let summary = match run_text(alloc, &workpiece, program, steps) {
         Ok(summary) => summary,
         Err(refusal) => return Err(JobFault::Refused(refusal)),
@@ -120,7 +123,7 @@ pub fn job<R: Read, W: Write>(
 ) -> Result<Done, JobFault>
     ensures done { IfOk result (λ d. IfSome (R.remaining reader.old) (λ input. IsDone input d.status d.notices.items (W.contents writer.old) (W.contents writer.new))) }
     ensures fault { IfErr result (λ f. IsNotDone (R.remaining reader.old) (R.remaining reader.new) f (W.contents writer.old) (W.contents writer.new)) }
-    ensures long { AnswersLong (R.remaining reader.old) result }
+    ensures long { AnswersUnread job_not_read (R.remaining reader.old) result }
     ensures little { ReadsLittle (R.remaining reader.old) (R.remaining reader.new) }
 {
     let input = read_all(alloc, reader)?;

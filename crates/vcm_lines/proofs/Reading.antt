@@ -30,9 +30,6 @@ pub record IsRead (ls : List (List ℕ)) (n : ℕ) (rest : List ℕ) (u : Unfini
   pub holds : Holds u (begun ls n)
   pub done : (more : List Logical) → AreLogical (grouped (begun ls n ++ rows_from (n + 1) (drop n ls))) more → AreLogical (grouped (rows_of ls)) (items ++ more)
 
-pub read_begins : (ls : List (List ℕ)) (rest : List ℕ) (u : Unfinished) → lines rest ≡ ls → Holds u [] → IsRead ls 0 rest u []
-read_begins ls rest u e h = record { ahead = sym e; within = omega arith; few = omega arith; clean = clean_none Breaks ls; holds = h; done = λ more m. m }
-
 -- ---- a line that breaks no rule
 
 -- the rows with one more line

@@ -23,9 +23,6 @@ pub record IsScanned (line old bytes : List ℕ) (continued : Bool) (rest : List
   pub stray : ((continued && not (list_all is_skipped (pieces_of rest))) || has_stray_dollar (pieces_of rest)) ≡ has_stray_dollar (pieces_of line)
   pub dollar : (continued || list_any is_dollar (pieces_of rest)) ≡ continues line
 
-pub scan_begins : (line old : List ℕ) → IsScanned line old old false line
-scan_begins line old = record { text = refl; bad = refl; unclosed = refl; stray = refl; dollar = refl }
-
 -- a piece that falls away
 pub scan_skips : (line old bytes : List ℕ) (continued : Bool) (rest after : List ℕ) (p : Piece) → pieces_of rest ≡ p ∷ pieces_of after → has_bad_byte p ≡ false → is_open p ≡ false → is_dollar p ≡ false → is_skipped p ≡ true → kept p ≡ []
     → IsScanned line old bytes continued rest → IsScanned line old bytes continued after

@@ -43,11 +43,12 @@ front_of [] = []
 front_of (w ∷ []) = []
 front_of (w ∷ v ∷ ws) = w ∷ front_of (v ∷ ws)
 
--- what words are cut from: the mark stands between the two parts
+-- the mark that words are cut at
 abbrev pub mark_at : Cutter → Lexeme
 mark_at AtSlash = Slash
 mark_at AtComma = Comma
 
+-- what words are cut from: the front, and where there is a rest, the mark and the rest behind it
 abbrev pub uncut : Cutter → List Lexeme → Option (List Lexeme) → List Lexeme
 uncut m front None = front
 uncut m front (Some rest) = front ++ mark_at m ∷ rest

@@ -5,10 +5,16 @@ use Rattle.vcm_num.specs.Words.{look_up}
 use Rattle.vcm_lines.specs.Dotted.{dotted_words}
 use Rattle.vcm_lines.specs.declared.logical.Word.{Word}
 use Rattle.vcm_lines.specs.declared.logical.WordKind.{WordKind}
-use Rattle.vcm_lines.specs.declared.logical.WordKind.TheVariants.{Run as RunKind, Number as NumberKind, Quoted as QuotedKind, Mark as MarkKind, Dotted as DottedKind}
+use Rattle.vcm_lines.specs.declared.logical.WordKind.TheVariants.{Run as RunKind, Number as NumberKind, Quoted as QuotedKind}
+use Rattle.vcm_lines.specs.declared.logical.WordKind.TheVariants.{Mark as MarkKind, Dotted as DottedKind}
 use Rattle.vcm_lines.specs.declared.phrase.Token.{Token}
-use Rattle.vcm_lines.specs.declared.phrase.Token.TheVariants.{Run as RunToken, Number as NumberToken, Dotted as DottedToken, Quoted as QuotedToken, Slash as SlashToken, Comma as CommaToken, Equals as EqualsToken, Open as OpenToken, Close as CloseToken, Plus as PlusToken, Minus as MinusToken, Star as StarToken, Other as OtherToken}
+use Rattle.vcm_lines.specs.declared.phrase.Token.TheVariants.{Run as RunToken, Number as NumberToken, Dotted as DottedToken}
+use Rattle.vcm_lines.specs.declared.phrase.Token.TheVariants.{Quoted as QuotedToken, Slash as SlashToken}
+use Rattle.vcm_lines.specs.declared.phrase.Token.TheVariants.{Comma as CommaToken, Equals as EqualsToken, Open as OpenToken}
+use Rattle.vcm_lines.specs.declared.phrase.Token.TheVariants.{Close as CloseToken, Plus as PlusToken}
+use Rattle.vcm_lines.specs.declared.phrase.Token.TheVariants.{Minus as MinusToken, Star as StarToken, Other as OtherToken}
 
+-- what a word of a statement says
 pub data Lexeme : Type 0 where
   -- letters, digits and underscores
   Run : List ℕ → Lexeme
@@ -37,6 +43,7 @@ word_bytes text w = if nat_le w.start w.end && nat_le w.end (length text) then s
 abbrev pub unquoted : List ℕ → List ℕ
 unquoted bs = if nat_le 2 (length bs) then slice_range bs 1 (length bs - 1) else []
 
+-- what the byte of a mark says
 abbrev pub mark_of : ℕ → Lexeme
 mark_of b =
     if b == 47 then Slash
@@ -49,11 +56,12 @@ mark_of b =
     else if b == 42 then Star
     else Other
 
--- a mark has one byte
+-- what a mark says, by its first byte
 abbrev pub mark_in : List ℕ → Lexeme
 mark_in [] = Other
 mark_in (b ∷ bs) = mark_of b
 
+-- what a word of this kind and these bytes says
 abbrev pub lexeme_of : WordKind → List ℕ → Lexeme
 lexeme_of RunKind bs = Run bs
 lexeme_of NumberKind bs = Number bs

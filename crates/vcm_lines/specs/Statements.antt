@@ -1,5 +1,6 @@
 -- The statements of a text, and the rules that its lines keep.
-use Rattle.std.specs.Prelude.{◌≡◌, ℕ, ◌+◌, ◌<◌, ◌≤◌, ◌⊎◌, IsTrue, ◌||◌, ◌&&◌, not, Bool, List, [], ◌∷◌, ◌++◌, length, drop, if◌then◌else◌, Option, Some, None, ◌==◌, nat_eq, replicate}
+use Rattle.std.specs.Prelude.{◌≡◌, ℕ, ◌+◌, ◌<◌, ◌≤◌, ◌⊎◌, IsTrue, ◌||◌, ◌&&◌, not, Bool, List, [], ◌∷◌, ◌++◌}
+use Rattle.std.specs.Prelude.{length, drop, if◌then◌else◌, Option, Some, None, ◌==◌, nat_eq, replicate}
 use Rattle.std.specs.List.{starts_with, list_any, list_all, flat_map, onto_first}
 use Rattle.std.specs.Str.Lines.{lines}
 use Rattle.vcm_lines.specs.Pieces.{pieces_of, text_of, continues, has_bad_byte, is_open, has_stray_dollar}

@@ -44,15 +44,15 @@ pub enum FaultCode {
     Unbalanced,
     /// E17: a jump into a block.
     JumpInward,
-    /// E18: a block of measuring with something else in it.
+    /// E18: a block of measuring without just one PTMEAS, or with something else than that, GOTO and GOHOME; a PTMEAS outside such a block.
     MeasBody,
-    /// E19: a call whose arguments don't fit its macro.
+    /// E19: a call with a wrong number or kind of arguments, or with more than 16 parameters.
     BadArguments,
-    /// E20: a program that is too long once its calls are expanded.
+    /// E20: more than 20,000 counted statements, DECL lines and calls once calls are expanded, or calls more than 16 deep.
     TooLong,
     /// E21: more names than there is room for.
     TooManyNames,
-    /// E22: a statement of the language that isn't carried out here.
+    /// E22: a statement of the language, or a word, a kind or a field in one, that isn't carried out here.
     Unsupported,
 }
 

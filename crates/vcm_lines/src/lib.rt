@@ -15,5 +15,5 @@ pub use clean::upper;
 pub use dotted::{DottedWord, dotted_word};
 pub use fault::{FaultCode, SourceFault, bad_syntax};
 pub use lines::logical_lines;
-pub use logical::{Lines, Logical, OwnedBytes, Word, WordKind, Words};
+pub use logical::{Logical, LogicalLines, OwnedBytes, Word, WordKind, Words};
 pub use phrase::{Cutter, Phrase, Token, cuts_are_whole};

@@ -9,7 +9,7 @@ ghost use Rattle.vcm_lines.specs.Statements.{lines_of, rows_of, grouped, AreLogi
 
 use crate::clean::read_line;
 use crate::fault::{FaultCode, SourceFault};
-use crate::logical::{Lines, Logical, OwnedBytes};
+use crate::logical::{Logical, LogicalLines, OwnedBytes};
 use crate::words::words_of;
 use std::alloc::{AllocError, Global};
 use vcm_num::line_feed;
@@ -142,7 +142,7 @@ impl Unfinished {
 /// bytes, its ending left out; a byte that may not stand where it does; a text that isn't closed, and a single dollar that isn't last on its
 /// line (bad syntax); then a statement of more than 4,096 bytes. At the end of the text it is a last line that goes on. Want of memory has
 /// line 0.
-pub fn logical_lines(alloc: Global, text: &[u8]) -> Result<Lines, SourceFault>
+pub fn logical_lines(alloc: Global, text: &[u8]) -> Result<LogicalLines, SourceFault>
     ensures unbroken { IfOk result (λ _. IsClean Breaks (lines_of text.now)) }
     ensures statements { IfOk result (AreLogical (grouped (rows_of (lines_of text.now)))) }
     ensures fault { IfErr result (NoMemoryOr (λ f. FirstFault Breaks told_line (lines_of text.now) f.code f.line)) }
@@ -175,7 +175,7 @@ pub fn logical_lines(alloc: Global, text: &[u8]) -> Result<Lines, SourceFault>
         rest = after;
     }
     match statement.span {
-        None => Ok(Lines { items }),
+        None => Ok(LogicalLines { items }),
         Some((_, last)) => Err(SourceFault {
             code: FaultCode::DanglingContinuation,
             line: last,

@@ -92,11 +92,11 @@ pub struct Logical {
 
 /// The statements of a text, in order.
 #[derive(Debug, Drop)]
-pub struct Lines {
+pub struct LogicalLines {
     pub(crate) items: Vec<Logical>,
 }
 
-impl Model for Lines {
+impl Model for LogicalLines {
     ghost use Rattle.std.specs.Prelude.{List};
     ghost use Rattle.vcm_lines.specs.declared.logical.Logical.{Logical};
 
@@ -105,7 +105,7 @@ impl Model for Lines {
     ghost view = { λ l. l.items.items };
 }
 
-impl Lines {
+impl LogicalLines {
     /// The statements as a slice.
     pub fn as_slice(&self) -> &[Logical]
         ensures { result.now ≡ self.now }

@@ -11,7 +11,8 @@ use Rattle.vcm_words.specs.Cutting.{split}
 use Rattle.vcm_words.specs.Rows.{ListRow, rows, listing}
 use Rattle.vcm_words.specs.Listing.{told, code_listed}
 use Rattle.vcm_words.specs.Outcomes.{IsWant, GivesOrWants, last_line, ListingFault, FaultOrWant}
-use Rattle.vcm_listing.proofs.ListingLaws.{ended_lines, code_takes, code_again, rows_fit, cut_lines}
+use Rattle.vcm_listing.proofs.ListingRead.{ended_lines, code_takes}
+use Rattle.vcm_listing.proofs.ListingLaws.{code_again, rows_fit, cut_lines}
 
 good : Code → Result Code ListFault
 good c = Ok c

@@ -1,3 +1,4 @@
+pub mod ListingRead
 pub mod ListingLaws
 pub mod ReadLaws
 pub mod FaultLaws

@@ -15,7 +15,8 @@ use Rattle.vcm_words.specs.Outcomes.{IsWant, GivesOrWants}
 use Rattle.vcm_words.specs.inner.Failing.{FailsLine}
 use Rattle.vcm_words.proofs.Cuts.{joined-split, split_some}
 use Rattle.vcm_rows.proofs.RowLaws.{row_takes}
-use Rattle.vcm_listing.proofs.ListingLaws.{Grows, added_takes, line_takes, empty_fits, code_takes, code_again}
+use Rattle.vcm_listing.proofs.ListingRead.{Grows, added_takes, line_takes, empty_fits, code_takes}
+use Rattle.vcm_listing.proofs.ListingLaws.{code_again}
 
 -- what is left of the lines
 pub record Left (bytes rest : List ℕ) (code : Code) (line : ℕ) : Type 0 where

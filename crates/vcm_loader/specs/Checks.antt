@@ -45,7 +45,7 @@ ItemBelow n (Push x) = VariableBelow n x
 ItemBelow n (Apply op) = Unit {0}
 ItemBelow n (Combine op) = Unit {0}
 
--- all variables of an expression are
+-- all variables of an expression are below a count
 abbrev pub ItemsBelow : ℕ → List Item → Type 0
 ItemsBelow n [] = Unit {0}
 ItemsBelow n (i ∷ is) = ItemBelow n i × ItemsBelow n is

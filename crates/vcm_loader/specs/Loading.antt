@@ -16,7 +16,7 @@ fault_of (typed kinds items k) = BadOperand
 fault_of (of_kind kinds v k) = BadOperand
 fault_of (assigned kinds v items) = BadOperand
 
--- the checks before it hold, it doesn't, and this is told of it
+-- this is told of the first check of the list that doesn't hold
 abbrev pub FirstFault : List Check → ImageFault → Type 0
 FirstFault [] e = ⊥
 FirstFault (c ∷ cs) e = (Holds c × FirstFault cs e) ⊎ ((¬ Holds c) × (e ≡ fault_of c))

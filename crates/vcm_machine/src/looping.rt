@@ -4,7 +4,7 @@ ghost use Rattle.std.specs.Prelude.{◌≡◌, ◌<◌, ◌+◌, ◌^◌, Some, 
 ghost use Rattle.vcm_num.specs.declared.number.Kind.{Kind};
 ghost use Rattle.vcm_spec.specs.Setup.{Setup};
 ghost use Rattle.vcm_spec.specs.World.{with_variable};
-ghost use Rattle.vcm_spec.specs.Control.{variable as present_value, next_index, is_zero, is_past};
+ghost use Rattle.vcm_spec.specs.Control.{variable as present_value, with_next_index, is_zero, is_past};
 ghost use Rattle.vcm_spec.specs.Fitting.{kinds};
 ghost use Rattle.vcm_state.specs.Carried.{Carried};
 ghost use Rattle.vcm_code.specs.Code.{Do, EndDo};
@@ -67,7 +67,7 @@ fn is_zero(increment: i64) -> bool
 // The increment is added to the index.
 fn advance(world: &mut World, variable: u16, increment: i64) -> Result<(), Stop>
     requires { slice_get (kinds world.old.tables) variable ≡ Some Kind.Int }
-    ensures carried { Carried (next_index world.old.state variable increment) world.old.state world.new.state result }
+    ensures carried { Carried (with_next_index world.old.state variable increment) world.old.state world.new.state result }
     ensures tables { world.new.tables ≡ world.old.tables }
 {
     let present = present(world, variable);

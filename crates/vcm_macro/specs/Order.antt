@@ -49,14 +49,14 @@ abbrev pub wants_units : Form → Bool
 wants_units (Call name args) = true
 wants_units form = is_counted form
 
--- whether a statement may not stand behind DMISMN where a MACRO is open, or none is
-abbrev pub is_out : Bool → Form → Bool
-is_out opened Opening = true
-is_out opened Measures = opened
-is_out opened Ending = opened
-is_out opened (Macro name ps) = opened
-is_out opened MacroEnd = not opened
-is_out opened form = false
+-- whether a statement behind DMISMN is out of place by its form alone: a second DMISMN; UNITS, ENDFIL or MACRO in a macro; ENDMAC outside
+abbrev pub is_out_of_place : Bool → Form → Bool
+is_out_of_place opened Opening = true
+is_out_of_place opened Measures = opened
+is_out_of_place opened Ending = opened
+is_out_of_place opened (Macro name ps) = opened
+is_out_of_place opened MacroEnd = not opened
+is_out_of_place opened form = false
 
 -- whether a statement is DMISMN
 abbrev pub is_opening : Form → Bool
@@ -65,7 +65,8 @@ is_opening form = false
 
 -- whether a statement may not stand here
 abbrev pub is_misplaced : Order → Form → Bool
-is_misplaced o form = if o.begun then o.ended || (is_out o.opened form || (wants_units form && not o.measured)) else not (is_opening form)
+is_misplaced o form =
+    if o.begun then o.ended || (is_out_of_place o.opened form || (wants_units form && not o.measured)) else not (is_opening form)
 
 -- a statement out of its place, and at the end an ENDFIL that is missing
 abbrev pub BreaksOrder : List Statement → Option Statement → FaultCode → Type 0

@@ -68,18 +68,18 @@ abbrev pub takes_else : List Opener → Bool
 takes_else (If ∷ os) = true
 takes_else os = false
 
--- whether ENDIF ends it
+-- whether ENDIF ends the innermost block
 abbrev pub takes_endif : List Opener → Bool
 takes_endif (If ∷ os) = true
 takes_endif (Else ∷ os) = true
 takes_endif os = false
 
--- whether ENDDO does
+-- whether ENDDO ends the innermost block
 abbrev pub takes_enddo : List Opener → Bool
 takes_enddo (Do ∷ os) = true
 takes_enddo os = false
 
--- whether ENDMES does
+-- whether ENDMES ends the innermost block
 abbrev pub takes_endmes : List Opener → Bool
 takes_endmes (Meas ∷ os) = true
 takes_endmes os = false
@@ -117,13 +117,13 @@ is_there (Some x) = true
 abbrev pub wanted_by : List Statement → Parameter → Wanted
 wanted_by body p = if p.quoted then AName else if list_any (λ s. assigns p.name s.form) body then AVariable else AValue
 
--- whether an argument is that
+-- whether an argument is what is wanted in its place
 abbrev pub suits : Wanted → Argument → Bool
 suits AName a = is_there a.name
 suits AVariable a = is_there (variable_of a.value)
 suits AValue a = is_there a.value
 
--- whether arguments are, one by one
+-- whether each argument is what is wanted in its place
 abbrev pub all_suit : List Wanted → List Argument → Bool
 all_suit [] [] = true
 all_suit (w ∷ ws) (a ∷ bs) = suits w a && all_suit ws bs
@@ -149,19 +149,19 @@ is_small_option (Some s) = is_small s
 abbrev pub are_small_arguments : List Argument → Bool
 are_small_arguments bs = list_all (λ b. is_small_option b.value) bs
 
--- whether all coordinates of a place are
+-- whether all coordinates of a place are small enough
 abbrev pub is_small_spot : Spot → Bool
 is_small_spot p = is_small p.x && (is_small p.y && is_small p.z)
 
--- whether all expressions of DO are
+-- whether all expressions of DO are small enough
 abbrev pub are_small_rounds : Rounds → Bool
 are_small_rounds r = is_small r.initial && (is_small r.limit && is_small_option r.increment)
 
--- whether all lengths of shifts are
+-- whether all lengths of shifts are small enough
 abbrev pub are_small_offsets : List Offset → Bool
 are_small_offsets os = list_all (λ o. is_small o.length) os
 
--- whether all expressions of a statement are
+-- whether all expressions of a statement are small enough
 abbrev pub are_small : Form → Bool
 are_small (Assignment t s) = is_small s
 are_small (Move p) = is_small_spot p

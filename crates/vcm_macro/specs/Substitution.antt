@@ -58,13 +58,13 @@ value_or name e (Some s) = s
 abbrev pub put_variable : Scope → List ℕ → Source
 put_variable sc name = value_or name sc.expansion (value_of (argument_for false name sc.parameters sc.arguments))
 
--- a leaf
+-- what a leaf says in the expansion
 abbrev pub put_term : Scope → Term → Source
 put_term sc (Number n) = Plain (Number n)
 put_term sc (Truth b) = Plain (Truth b)
 put_term sc (Variable name e) = put_variable sc name
 
--- an expression
+-- what an expression says in the expansion
 abbrev pub put : Scope → Source → Source
 put sc (Plain t) = put_term sc t
 put sc (Prefixed op a) = Prefixed op (put sc a)
@@ -85,7 +85,7 @@ abbrev pub target_or : List ℕ → ℕ → Option Target → Target
 target_or name e None = record { name = name; expansion = e }
 target_or name e (Some t) = t
 
--- a variable that is assigned
+-- what a variable that is assigned is in the expansion
 abbrev pub put_target : Scope → Target → Target
 put_target sc t = target_or t.name sc.expansion (variable_of (value_of (argument_for false t.name sc.parameters sc.arguments)))
 
@@ -94,7 +94,7 @@ abbrev pub name_or : List ℕ → Option (List ℕ) → List ℕ
 name_or name None = name
 name_or name (Some n) = n
 
--- a name: a quoted parameter's argument stands in its place
+-- what a name is in the expansion: a quoted parameter's argument stands in its place
 abbrev pub put_name : Scope → List ℕ → List ℕ
 put_name sc n = name_or n (name_of (argument_for true n sc.parameters sc.arguments))
 
@@ -107,11 +107,11 @@ within f (Some x) = Some (f x)
 abbrev pub put_argument : Scope → Argument → Argument
 put_argument sc a = record { name = within (put_name sc) a.name; value = within (put sc) a.value }
 
--- the coordinates of a place
+-- what the coordinates of a place say in the expansion
 abbrev pub put_spot : Scope → Spot → Spot
 put_spot sc p = record { x = put sc p.x; y = put sc p.y; z = put sc p.z }
 
--- how often a block is repeated
+-- what the words of DO say in the expansion
 abbrev pub put_rounds : Scope → Rounds → Rounds
 put_rounds sc r =
     record {
@@ -121,7 +121,7 @@ put_rounds sc r =
       increment = within (put sc) r.increment;
     }
 
--- how far the origin of a frame is shifted along an axis
+-- what a shift along an axis says in the expansion
 abbrev pub put_offset : Scope → Offset → Offset
 put_offset sc o = record { axis = o.axis; length = put sc o.length }
 

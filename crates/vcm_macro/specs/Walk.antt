@@ -34,7 +34,7 @@ calls_in (p ∷ ps) = calls_in ps
 abbrev pub Caller : Type 0
 Caller = (line depth done : ℕ) → List ℕ → List Argument → List Place
 
--- a statement of a body
+-- the places of one statement of a body: a CALL with all that it carries out, or the statement as it stands in the expansion
 abbrev pub statement_in : Caller → Scope → (depth done line : ℕ) → Form → List Place
 statement_in call sc depth done line (Call name args) = call line depth done name (map (put_argument sc) args)
 statement_in call sc depth done line form = Stands sc.expansion (record { line = line; form = put_form sc form }) ∷ []
@@ -43,7 +43,7 @@ statement_in call sc depth done line form = Stands sc.expansion (record { line =
 abbrev pub behind : List Place → ℕ → (ℕ → List Place) → List Place
 behind ps done on = ps ++ on (done + calls_in ps)
 
--- the statements of a body
+-- the places of a body's statements
 abbrev pub body_in : Caller → Scope → (depth done : ℕ) → List Statement → List Place
 body_in call sc depth done [] = []
 body_in call sc depth done (s ∷ ss) = behind (statement_in call sc depth done s.line s.form) done (λ n. body_in call sc depth n ss)
@@ -67,15 +67,15 @@ abbrev pub outside_in : Caller → ℕ → Statement → Form → List Place
 outside_in call done s (Call name args) = call s.line 1 done name (map (put_argument outside) args)
 outside_in call done s form = Stands 0 s ∷ []
 
--- a statement of the text: outside macros, or inside the one that is open; then what goes on, behind these macros, with this one open,
--- after so many CALLs
+-- one statement of the text, and then the rest: MACRO opens a macro, ENDMAC closes it, what stands between is its body, and all else stands
+-- outside
 abbrev pub text_from : List Defined → Option Defined → ℕ → Statement → Form → (List Defined → Option Defined → ℕ → List Place) → List Place
 text_from ms None done s (Macro name ps) on = Opens ms s ∷ on ms (Some (record { name = name; parameters = ps; body = [] })) done
 text_from ms None done s form on = behind (outside_in (call_in ms) done s form) done (on ms None)
 text_from ms (Some m) done s MacroEnd on = Inside m s ∷ on (m ∷ ms) None done
 text_from ms (Some m) done s form on = Inside m s ∷ on ms (Some (with_statement m s)) done
 
--- the statements of the text
+-- the places of the text from here on
 abbrev pub walk_from : List Defined → Option Defined → ℕ → List Statement → List Place
 walk_from ms current done [] = []
 walk_from ms current done (s ∷ ss) = text_from ms current done s s.form (λ ns m n. walk_from ns m n ss)

@@ -2,7 +2,7 @@
 
 ghost use Rattle.std.specs.Prelude.{◌≡◌, MatchResult};
 ghost use Rattle.vcm_spec.specs.Phase.{IsClean, FirstFault};
-ghost use Rattle.vcm_macro.specs.Order.{wants_units, is_out, is_misplaced, is_open_behind, order_behind, BreaksOrder, order_line};
+ghost use Rattle.vcm_macro.specs.Order.{wants_units, is_out_of_place, is_misplaced, is_open_behind, order_behind, BreaksOrder, order_line};
 
 use vcm_lines::{FaultCode, SourceFault};
 use vcm_syntax::{Form, Statement};
@@ -33,8 +33,8 @@ fn wants_units(form: &Form) -> bool
 }
 
 // Whether a statement may not stand behind DMISMN where a MACRO is open, or none is.
-fn is_out(opened: bool, form: &Form) -> bool
-    ensures { result ≡ is_out opened form.now }
+fn is_out_of_place(opened: bool, form: &Form) -> bool
+    ensures { result ≡ is_out_of_place opened form.now }
 {
     match form {
         Form::Opening => true,
@@ -49,7 +49,7 @@ fn is_misplaced(order: Order, form: &Form) -> bool
     ensures { result ≡ is_misplaced order form.now }
 {
     if order.begun {
-        order.ended || is_out(order.opened, form) || wants_units(form) && !order.measured
+        order.ended || is_out_of_place(order.opened, form) || wants_units(form) && !order.measured
     } else {
         !matches!(form, Form::Opening)
     }

@@ -1,5 +1,6 @@
 -- Blocks in strips of the x axis.
-use Rattle.std.specs.Prelude.{ℕ, zero, suc, ℤ, pos, negsuc, ◌-ℤ◌, ◌/◌, ◌-◌, ◌+◌, min, max, Bool, true, false, nat_le, ◌&&◌, List, [], ◌∷◌, ◌++◌, length, slice_index_or}
+use Rattle.std.specs.Prelude.{ℕ, zero, suc, ℤ, pos, negsuc, ◌-ℤ◌, ◌/◌, ◌-◌, ◌+◌, min, max, Bool, true}
+use Rattle.std.specs.Prelude.{false, nat_le, ◌&&◌, List, [], ◌∷◌, ◌++◌, length, slice_index_or}
 use Rattle.vcm_num.specs.Point.{coordinate}
 use Rattle.vcm_spec.specs.declared.workpiece.Block3.{Block3}
 use Rattle.vcm_spec.specs.declared.workpiece.Bounds.{Bounds}

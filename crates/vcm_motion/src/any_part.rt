@@ -1,6 +1,6 @@
 //! The kind of workpiece that suits the number of its blocks.
 
-ghost use Rattle.std.specs.Prelude.{◌≡◌};
+ghost use Rattle.std.specs.Prelude.{◌≡◌, IfOk};
 ghost use Rattle.vcm_spec.specs.Workpiece.{IsValid};
 ghost use Rattle.vcm_motion.specs.declared.any_part.AnyPart.TheVariants.{Few, Many};
 
@@ -9,7 +9,7 @@ use crate::face::Face;
 use crate::part::Part;
 use crate::strips::Strips;
 use std::alloc::Global;
-use vcm_num::{Axis, Point};
+use vcm_num::{Axis, NoMemory, Point};
 use vcm_part::PartData;
 use vcm_spec::{Bounds, Hit};
 
@@ -24,17 +24,17 @@ pub enum AnyPart<'a> {
 }
 
 impl<'a> AnyPart<'a> {
-    /// The workpiece of a part file: strips for more than 16 blocks, where there is memory for them.
-    pub fn of(alloc: Global, part: &'a PartData) -> AnyPart<'a>
-        ensures { ⟦<AnyPart<'a> as Part>⟧.part result ≡ part.now }
+    /// The workpiece of a part file, in strips where it has more than 16 blocks.
+    ///
+    /// Errors: want of memory for the strips.
+    pub fn of(alloc: Global, part: &'a PartData) -> Result<AnyPart<'a>, NoMemory>
+        ensures { IfOk result (λ p. ⟦<AnyPart<'a> as Part>⟧.part p ≡ part.now) }
     {
         if part.blocks().len() <= FEW {
-            return AnyPart::Few(Blocks::new(part));
+            return Ok(AnyPart::Few(Blocks::new(part)));
         }
-        match Strips::build(alloc, part) {
-            Ok(strips) => AnyPart::Many(strips),
-            Err(_) => AnyPart::Few(Blocks::new(part)),
-        }
+        let strips = Strips::build(alloc, part)?;
+        Ok(AnyPart::Many(strips))
     }
 }
 

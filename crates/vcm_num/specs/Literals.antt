@@ -1,5 +1,6 @@
 -- The texts of numbers and what they mean.
-use Rattle.std.specs.Prelude.{◌≡◌, ℕ, ◌+◌, ◌-◌, ◌*◌, ◌^◌, ◌<◌, ◌≤◌, ◌==◌, ◌||◌, if◌then◌else◌, Bool, true, false, ℤ, pos, neg_ℤ, List, [], ◌∷◌, ◌++◌, length, drop, slice_index_or, Option, Some, None, Result, Ok, Err}
+use Rattle.std.specs.Prelude.{◌≡◌, ℕ, ◌+◌, ◌-◌, ◌*◌, ◌^◌, ◌<◌, ◌≤◌, ◌==◌, ◌||◌, if◌then◌else◌, Bool, true, false, ℤ, pos}
+use Rattle.std.specs.Prelude.{neg_ℤ, List, [], ◌∷◌, ◌++◌, length, drop, slice_index_or, Option, Some, None, Result, Ok, Err}
 use Rattle.std.specs.List.{list_all}
 use Rattle.std.specs.Char.{is_ascii_digit}
 use Rattle.vcm_num.specs.declared.number.Literal.{Literal}
@@ -12,6 +13,7 @@ abbrev pub digits_value : List ℕ → ℕ
 digits_value [] = 0
 digits_value (d ∷ ds) = (d - 48) * 10 ^ length ds + digits_value ds
 
+-- each byte is a digit
 abbrev pub AllDigits : List ℕ → Type 0
 AllDigits [] = Unit {0}
 AllDigits (b ∷ bs) = (is_ascii_digit b ≡ true) × AllDigits bs
@@ -36,6 +38,7 @@ abbrev pub point_part : Option (List ℕ) → List ℕ
 point_part None = []
 point_part (Some ds) = 46 ∷ ds
 
+-- the digits behind the point, none where there is no point
 abbrev pub digits_after : Option (List ℕ) → List ℕ
 digits_after None = []
 digits_after (Some ds) = ds
@@ -60,6 +63,7 @@ abbrev pub magnitude_of : List ℕ → Option (List ℕ) → ℕ
 magnitude_of whole None = digits_value whole
 magnitude_of whole (Some ds) = digits_value (whole ++ three_decimals ds)
 
+-- a number with its sign, true being a minus
 abbrev pub signed : Bool → ℕ → ℤ
 signed true n = neg_ℤ (pos n)
 signed false n = pos n
@@ -79,7 +83,7 @@ Reads bytes (Err TooFine) = (p : Parts) × SpellsNumber bytes p × (is_fine p �
 Reads bytes (Err TooLarge) =
     (p : Parts) × SpellsNumber bytes p × (is_fine p ≡ true) × (2 ^ 63 ≤ magnitude_of p.whole p.decimals)
 
--- a number, and digits after it
+-- the number that is read where these digits are written behind the number n
 abbrev pub number_after : ℕ → List ℕ → ℕ
 number_after n [] = n
 number_after n (d ∷ ds) = number_after (n * 10 + (d - 48)) ds

@@ -26,11 +26,11 @@ is_near_zero z = int_le (negsuc 999999999) z && int_le z (pos 1000000000)
 abbrev pub is_near : Point → Bool
 is_near p = on_each (λ k. is_near_zero (coordinate p k))
 
--- the same as facts, for a coordinate and for a point
+-- the coordinate is at most a kilometre from 0, either way
 pub record IsNear (z : ℤ) : Type 0 where
   pub from_below : negsuc 999999999 ≤ℤ z
   pub from_above : z ≤ℤ pos 1000000000
 
--- each coordinate of a point is near 0
+-- each coordinate of a point is at most a kilometre from 0
 abbrev pub IsReachable : Point → Type 0
 IsReachable p = (k : ℕ) → k < 3 → IsNear (coordinate p k)

@@ -1,5 +1,6 @@
 -- What the bytes of a part file give: a workpiece, or the first refusal.
-use Rattle.std.specs.Prelude.{◌≡◌, ℕ, suc, ◌+◌, ℤ, List, [], ◌∷◌, Option, Some, None, Result, Ok, Err, Bool, true, ◌&&◌, ◌⊎◌, not, nat_lt, codes, is_some, if◌then◌else◌}
+use Rattle.std.specs.Prelude.{◌≡◌, ℕ, suc, ◌+◌, ℤ, List, [], ◌∷◌, Option, Some, None, Result, Ok, Err}
+use Rattle.std.specs.Prelude.{Bool, true, ◌&&◌, ◌⊎◌, not, nat_lt, codes, is_some, if◌then◌else◌}
 use Rattle.std.specs.Option.{option_and_then}
 use Rattle.std.specs.Str.{is_utf8}
 use Rattle.toml.specs.Data.{Data, Items, no_items, item, Members, get_member, as_integer, as_array, as_table}
@@ -9,7 +10,8 @@ use Rattle.vcm_num.specs.Point.{point, coordinate, is_below, is_near}
 use Rattle.vcm_spec.specs.declared.workpiece.Block3.{Block3}
 use Rattle.vcm_spec.specs.declared.workpiece.Bounds.{Bounds}
 use Rattle.vcm_spec.specs.Workpiece.{Workpiece, is_in_some, is_within}
-use Rattle.vcm_part.specs.declared.fault.PartCode.TheVariants.{NoMemory, NotToml, BadKey, OutOfRange, LowAboveHigh, TooManyBlocks, HomeNotClear}
+use Rattle.vcm_part.specs.declared.fault.PartCode.TheVariants.{NoMemory, NotToml, BadKey, OutOfRange}
+use Rattle.vcm_part.specs.declared.fault.PartCode.TheVariants.{LowAboveHigh, TooManyBlocks, HomeNotClear}
 use Rattle.vcm_part.specs.declared.fault.PartFault.{PartFault}
 use Rattle.vcm_spec.specs.Results.{◌>>=◌}
 use Rattle.vcm_part.specs.Faults.{fault}
@@ -28,7 +30,7 @@ point_of_items _ = None
 abbrev pub point_of : Data → Option Point
 point_of d = option_and_then point_of_items (as_array d)
 
--- a point is there, and each coordinate is at most a kilometre from 0
+-- the point, if there is one and each coordinate is at most a kilometre from 0, else the refusal
 abbrev pub near_point : ℕ → Option Point → Result Point PartFault
 near_point number None = Err (fault BadKey number)
 near_point number (Some p) = if is_near p then Ok p else Err (fault OutOfRange number)
@@ -47,7 +49,7 @@ abbrev pub count : Items → ℕ
 count no_items = 0
 count (item d ds) = suc (count ds)
 
--- an array of tables
+-- the items, if this is an array of tables, else the refusal
 abbrev pub table_rows : Option Items → Result Items PartFault
 table_rows None = Err (fault BadKey 0)
 table_rows (Some ds) = if are_tables ds then Ok ds else Err (fault BadKey 0)

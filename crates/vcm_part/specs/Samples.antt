@@ -27,7 +27,8 @@ OneBlock = Gives (limits ++ codes "[[block]]\nlow = [10000, 10000, 0]\nhigh = [3
 abbrev pub TwoBlocks : Type 0
 TwoBlocks =
     Gives (limits
-    ++ codes "[[block]]\nlow = [10000, 10000, 0]\nhigh = [20000, 30000, 20000]\n[[block]]\nlow = [20000, 10000, 0]\nhigh = [30000, 30000, 20000]\n") (Ok two_halves)
+    ++ codes "[[block]]\nlow = [10000, 10000, 0]\nhigh = [20000, 30000, 20000]\n"
+    ++ codes "[[block]]\nlow = [20000, 10000, 0]\nhigh = [30000, 30000, 20000]\n") (Ok two_halves)
 
 -- home on an edge of the block
 abbrev pub HomeOnAnEdge : Type 0

@@ -31,7 +31,7 @@ fn approach_freely<P: Part>(part: &P, from: Point, to: Point) -> Result<(), Stop
 }
 
 /// Touches the workpiece at a nominal point, and goes back. From `from`, which is at most 1,000,000,000 micrometres from 0 on each axis, the
-/// probe moves to the approach point, which lies `toward` the nominal point by the approach length, then down through the nominal point and past
+/// probe moves to the approach point, which lies in the direction `toward` from the nominal point, at the approach length, then down through the nominal point and past
 /// it by the greater of the search length and the depth, to the first point that lies in a block, and back `toward` by the retract length.
 /// Lengths and coordinates are in micrometres.
 ///

@@ -1,10 +1,12 @@
 -- Printed texts of stops and features.
-use Rattle.std.specs.Prelude.{ℕ, Bool, true, false, if◌then◌else◌, List, [], ◌∷◌, ◌++◌, flat_map, unwrap_or, slice_get, Option, Some, None, decimal, codes}
+use Rattle.std.specs.Prelude.{ℕ, Bool, true, false, if◌then◌else◌, List, [], ◌∷◌, ◌++◌, flat_map}
+use Rattle.std.specs.Prelude.{unwrap_or, slice_get, Option, Some, None, decimal, codes}
 use Rattle.vcm_spec.specs.declared.feature.Feature.{Feature}
 use Rattle.vcm_spec.specs.declared.stop.Missing.{Missing}
 use Rattle.vcm_spec.specs.declared.stop.Missing.TheVariants as missing
 use Rattle.vcm_spec.specs.declared.stop.Stop.{Stop}
-use Rattle.vcm_spec.specs.declared.stop.Stop.TheVariants.{Ended, Collision, Missed, Travel, Overflow, DivZero, ZeroStep, Undefined, BadSetting, OutputFull}
+use Rattle.vcm_spec.specs.declared.stop.Stop.TheVariants.{Ended, Collision, Missed, Travel, Overflow, DivZero}
+use Rattle.vcm_spec.specs.declared.stop.Stop.TheVariants.{ZeroStep, Undefined, BadSetting, OutputFull}
 use Rattle.vcm_spec.specs.declared.stop.StopPlace.{StopPlace}
 use Rattle.vcm_spec.specs.declared.words.MovePhase.{MovePhase}
 use Rattle.vcm_spec.specs.declared.words.MovePhase.TheVariants.{Move, Approach, Search, Retract}
@@ -54,13 +56,13 @@ has_place Ended = false
 has_place _ = true
 
 -- where it stopped, the statement's number and its source line, and the end of the line
-abbrev pub ended_place : StopPlace → List ℕ
-ended_place p =
+abbrev pub place_text : StopPlace → List ℕ
+place_text p =
     if has_place p.stop then in_a_row (codes " at " ∷ decimal p.number ∷ codes " line " ∷ decimal p.line ∷ codes "\n" ∷ []) else codes "\n"
 
 -- the line of a stop
 abbrev pub stopped_line : Tables → StopPlace → List ℕ
-stopped_line tables p = stop_text tables p.stop ++ ended_place p
+stopped_line tables p = stop_text tables p.stop ++ place_text p
 
 -- the line of a feature of this index: as OUTPUT prints it, or that it has none
 abbrev pub feature_text : Tables → Source → ℕ → Option Feature → List ℕ

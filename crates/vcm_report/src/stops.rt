@@ -2,7 +2,7 @@
 
 ghost use Rattle.std.specs.Prelude.{◌≡◌};
 ghost use Rattle.vcm_num.specs.Written.{Wrote};
-ghost use Rattle.vcm_report.specs.Printed.{missing_text, phase_text, stop_text, has_place, ended_place, stopped_line};
+ghost use Rattle.vcm_report.specs.Printed.{missing_text, phase_text, stop_text, has_place, place_text, stopped_line};
 
 use crate::names::name_at;
 use itoa::Buffer;
@@ -90,7 +90,7 @@ fn has_place(stop: Stop) -> bool
 
 // Writes where a run stopped, and ends the line.
 fn write_place<W: Write>(place: StopPlace, writer: &mut W) -> Result<(), WriteFault>
-    ensures { Wrote (W.contents writer.old) (W.contents writer.new) (ended_place place) result }
+    ensures { Wrote (W.contents writer.old) (W.contents writer.new) (place_text place) result }
 {
     if !has_place(place.stop) {
         return write_pieces(writer, &[b"\n"]);

@@ -10,7 +10,7 @@ use Rattle.vcm_code.specs.Code.{Statement, Code}
 use Rattle.vcm_code.specs.CodeTable.{Place, code_step, code_steps, code_effective, start, next_prints}
 use Rattle.vcm_spec.specs.Stepping.{unless_stopped}
 use Rattle.vcm_spec.specs.Printing.{takes_memory, next_node}
-use Rattle.vcm_asm.specs.Headline.{SameAfter, IsAssembled}
+use Rattle.vcm_asm.specs.Simulation.{SameAfter, IsAssembled}
 use Rattle.vcm_machine.specs.declared.ran.End.{End}
 use Rattle.vcm_machine.specs.declared.ran.End.TheVariants as ends
 use Rattle.vcm_machine.specs.declared.ran.Ran.{Ran}

@@ -6,7 +6,7 @@ use Rattle.vcm_spec.specs.Program.{Block}
 use Rattle.vcm_code.specs.declared.code.Code.{Code}
 use Rattle.vcm_code.specs.Ops.{code_of}
 use Rattle.vcm_image.specs.Whole.{Fits, spelling}
-use Rattle.vcm_asm.specs.Headline.{IsAssembled}
+use Rattle.vcm_asm.specs.Simulation.{IsAssembled}
 use Rattle.vcm_machine.specs.declared.ran.Ran.{Ran}
 use Rattle.vcm_machine.specs.Running.{Running, started, HasRun}
 use Rattle.vcm_run.specs.Run.{IsRun}

@@ -10,7 +10,7 @@ use Rattle.vcm_code.specs.declared.code.Code.{Code}
 use Rattle.vcm_code.specs.Ops.{code_of}
 use Rattle.vcm_code.specs.Valid.{IsValid}
 use Rattle.vcm_image.specs.Whole.{Fits, spelling}
-use Rattle.vcm_asm.specs.Headline.{IsAssembled}
+use Rattle.vcm_asm.specs.Simulation.{IsAssembled}
 use Rattle.vcm_run.specs.declared.run.Refusal.{Refusal}
 use Rattle.vcm_run.specs.declared.run.Refusal.TheVariants.{Source, Part, NoMemory}
 use Rattle.vcm_run.specs.Run.{IsRun}
@@ -39,7 +39,8 @@ pub record IsBuilt (text bytes : List ℕ) (notices : List Noticed) : Type 0 whe
   pub image : IsImageOf parsed bytes
   pub notices_are : notices ≡ parsed.notices
 
--- why a text isn't run: it is refused, or memory was refused to its acceptance, at line 0; or it is accepted, and memory was refused after
+-- what is told of a text that isn't run: of one that is refused its refusal; at line 0 want of memory; want of memory elsewhere, of an
+-- accepted text alone
 abbrev pub IsRefusal : List ℕ → Refusal → Type 0
 IsRefusal text (Source f) = NoMemoryOr (IsRefused text) f
 IsRefusal text (Part f) = ⊥

@@ -6,7 +6,7 @@ use crate::debug_tests::session;
 use crate::image_tests::image_of;
 use std::alloc::Global;
 use std::cell::Cell;
-use vcm_debug::{Command, Session};
+use vcm_debug::{Command, Count, Session};
 use vcm_loader::{Loaded, load};
 use vcm_motion::{Blocks, Face, Part};
 use vcm_num::{Axis, Point};
@@ -86,18 +86,24 @@ fn moves_of(
     alloc: Global,
     session: &mut Session<'_, Counting<'_>>,
     moves: &Cell<u32>,
-    back: u32,
+    back: u64,
 ) -> Option<u32>
     requires { session.old.count ≡ 0 }
 {
-    session.command(alloc, &Command::Step(5000)).ok()?;
+    let Ok(steps) = Count::new(5000) else {
+        return None;
+    };
+    session.command(alloc, &Command::Step(steps)).ok()?;
     moves.set(0);
+    let Ok(back) = Count::new(back) else {
+        return None;
+    };
     session.command(alloc, &Command::Back(back)).ok()?;
     Some(moves.get())
 }
 
 // The same of a new session on what was loaded.
-fn moves_on(alloc: Global, loaded: &Loaded<'_>, part: &Counting<'_>, back: u32) -> Option<u32> {
+fn moves_on(alloc: Global, loaded: &Loaded<'_>, part: &Counting<'_>, back: u64) -> Option<u32> {
     match &mut Session::new(alloc, loaded, part) {
         Ok(session) => moves_of(alloc, session, part.moves, back),
         Err(_) => None,
@@ -105,7 +111,7 @@ fn moves_on(alloc: Global, loaded: &Loaded<'_>, part: &Counting<'_>, back: u32) 
 }
 
 // The same on the program of moves, beside one block.
-fn moves_of_back(alloc: Global, back: u32) -> Option<u32> {
+fn moves_of_back(alloc: Global, back: u64) -> Option<u32> {
     let file = joined(alloc, &[BOUNDS, ONE_BLOCK])?;
     let data = read_part(alloc, file.as_bytes()).ok()?;
     let moves = Cell::new(0);

@@ -230,7 +230,7 @@ fn is_cut(alloc: Global, layout: &Layout) -> Option<bool> {
     let blocks = blocks_of(alloc, layout)?;
     let file = joined(alloc, &[BOUNDS, blocks.as_str()])?;
     let part = read_part(alloc, file.as_bytes()).ok()?;
-    Some(matches!(AnyPart::of(alloc, &part), AnyPart::Many(_)))
+    Some(matches!(AnyPart::of(alloc, &part).ok()?, AnyPart::Many(_)))
 }
 
 #[test]

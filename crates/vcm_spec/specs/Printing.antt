@@ -15,7 +15,7 @@ abbrev pub takes_memory : Option Node → Bool
 takes_memory (Some (simple line what)) = prints what
 takes_memory _ = false
 
--- the node that is next, if a block's node is
+-- the node that comes first, where the first entry is the rest of a block; it is asked of entries whose front was taken
 abbrev pub next_node : List Entry → Option Node
 next_node [] = None
 next_node (Rest b base i ∷ es) = node_at b i

@@ -8,7 +8,7 @@ use Rattle.vcm_spec.specs.Outcome.{Gives}
 use Rattle.vcm_spec.specs.Simple.{Simple}
 use Rattle.vcm_spec.specs.Effect.{carried_out}
 
--- the probe is within the limits and in no block, and goes back after a touch
+-- the probe is within the limits and in no block, and the retract length is above zero
 pub record Rests (part : Workpiece) (w : World) : Type 0 where
   pub within : IsTrue (is_within part.bounds (coordinate w.position))
   pub clear : IsTrue (not (is_in_some part.blocks (coordinate w.position)))

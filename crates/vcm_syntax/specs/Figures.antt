@@ -1,5 +1,6 @@
 -- Number literals that stand for whole numbers: counts, angles, words of features and components of directions.
-use Rattle.std.specs.Prelude.{ℤ, pos, negsuc, neg_ℤ, ◌*ℤ◌, ◌&&◌, ◌||◌, if◌then◌else◌, Bool, true, false, List, [], ◌∷◌, Option, Some, None, Result, Ok, Err}
+use Rattle.std.specs.Prelude.{ℤ, pos, negsuc, neg_ℤ, ◌*ℤ◌, ◌&&◌, ◌||◌, if◌then◌else◌, Bool}
+use Rattle.std.specs.Prelude.{true, false, List, [], ◌∷◌, Option, Some, None, Result, Ok, Err}
 use Rattle.std.specs.Ordering.{int_eq}
 use Rattle.vcm_num.specs.declared.axis.Axis.{Axis}
 use Rattle.vcm_num.specs.declared.axis.Axis.TheVariants.{PlusX, MinusX, PlusY, MinusY, PlusZ, MinusZ}
@@ -93,7 +94,7 @@ quarters_by f =
 abbrev pub angle_of : List Lexeme → Result Quarters FaultCode
 angle_of ws = then_ok (figure_of ws) (λ f. or_fault NotQuarterTurn (quarters_by f))
 
--- the word of a feature at this place of its line
+-- the word of a feature with this number: 3 to 5 are its coordinates, 6 to 8 its direction
 abbrev pub word_by : Figure → Option FeatureWord
 word_by f =
     if is_whole f (pos 3) then Some words.X
@@ -108,7 +109,7 @@ word_by f =
 abbrev pub feature_word_of : List Lexeme → Result FeatureWord FaultCode
 feature_word_of ws = then_ok (figure_of ws) (λ f. or_fault Unsupported (word_by f))
 
--- whether a figure is 1
+-- something where a figure is 1, nothing where it isn't
 abbrev pub one_by : Figure → Option (Unit {0})
 one_by f = if is_whole f (pos 1) then Some tt else None
 

@@ -45,12 +45,12 @@ abbrev pub IsValue : List Lexeme → Option Source → Type 0
 IsValue ws None = ⊥
 IsValue ws (Some e) = IsExpr ws e
 
--- an expression, or nothing where the words are none
+-- an expression, or nothing where the words break a rule of expressions
 abbrev pub MayBeValue : List Lexeme → Option Source → Type 0
 MayBeValue ws None = (code : FaultCode) × BreaksExpr ws code
 MayBeValue ws (Some e) = IsExpr ws e
 
--- an argument of one run, which is a name or is none: a name keeps both readings, as far as it has them
+-- an argument of one run: a name, and an expression too if it is one; or an expression alone
 abbrev pub IsRunArgument : Bool → List ℕ → Argument → Type 0
 IsRunArgument true bs a = (a.name ≡ Some bs) × MayBeValue (Run bs ∷ []) a.value
 IsRunArgument false bs a = (a.name ≡ None) × IsValue (Run bs ∷ []) a.value
@@ -61,7 +61,7 @@ IsArgument (Run bs ∷ []) a = IsRunArgument (is_name bs) bs a
 IsArgument (Quoted bs ∷ []) a = (is_name (raised bs) ≡ true) × (a ≡ record { name = Some (raised bs); value = None })
 IsArgument ws a = (a.name ≡ None) × IsValue ws a.value
 
--- what can be neither is a fault of the expression, or no name
+-- words that are neither: a rule of expressions is broken, or a text is no name
 abbrev pub BreaksArgument : List Lexeme → FaultCode → Type 0
 BreaksArgument (Run bs ∷ []) code = (is_name bs ≡ false) × BreaksExpr (Run bs ∷ []) code
 BreaksArgument (Quoted bs ∷ []) code = (is_name (raised bs) ≡ false) × (code ≡ BadSyntax)

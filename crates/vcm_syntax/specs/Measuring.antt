@@ -1,6 +1,7 @@
 -- The forms of the statements of frames, settings, features and measurements, and the rules that other words break. A field that is missing
 -- has no words.
-use Rattle.std.specs.Prelude.{◌≡◌, ◌⊎◌, ℕ, ◌&&◌, if◌then◌else◌, Bool, true, false, codes, List, [], ◌∷◌, drop, slice_get, unwrap_or, Option, Some, None, Ok, Err}
+use Rattle.std.specs.Prelude.{◌≡◌, ◌⊎◌, ℕ, ◌&&◌, if◌then◌else◌, Bool, true, false, codes, List}
+use Rattle.std.specs.Prelude.{[], ◌∷◌, drop, slice_get, unwrap_or, Option, Some, None, Ok, Err}
 use Rattle.std.specs.Str.{bytes_eq}
 use Rattle.vcm_num.specs.Words.{look_up}
 use Rattle.vcm_num.specs.declared.axis.Axis.{Axis}
@@ -16,10 +17,12 @@ use Rattle.vcm_spec.specs.declared.words.Source.TheVariants.{Nominal, Actual}
 use Rattle.vcm_expr.specs.NameBytes.{is_name}
 use Rattle.vcm_expr.specs.Parsing.{IsExpr, BreaksExpr}
 use Rattle.vcm_syntax.specs.declared.statement.Form.{Form}
-use Rattle.vcm_syntax.specs.declared.statement.Form.TheVariants.{Feature, Measure, Touch, MeasureEnd, Configure, Shift, Rotation, Restore, Query, Report}
+use Rattle.vcm_syntax.specs.declared.statement.Form.TheVariants.{Feature, Measure, Touch, MeasureEnd, Configure}
+use Rattle.vcm_syntax.specs.declared.statement.Form.TheVariants.{Shift, Rotation, Restore, Query, Report}
 use Rattle.vcm_syntax.specs.declared.statement.Offset.{Offset}
 use Rattle.vcm_syntax.specs.declared.offsets.Taken.{Taken}
-use Rattle.vcm_syntax.specs.Places.{IsBare, BreaksBare, IsWord, BreaksWord, BreaksOffered, IsEnd, BreaksEnd, IsTitle, BreaksTitle, IsTarget, BreaksTarget}
+use Rattle.vcm_syntax.specs.Places.{IsBare, BreaksBare, IsWord, BreaksWord, BreaksOffered, IsEnd}
+use Rattle.vcm_syntax.specs.Places.{BreaksEnd, IsTitle, BreaksTitle, IsTarget, BreaksTarget}
 use Rattle.vcm_syntax.specs.Spots.{IsSpot, BreaksSpot}
 use Rattle.vcm_syntax.specs.Figures.{vector_of, angle_of, feature_word_of, one_of}
 

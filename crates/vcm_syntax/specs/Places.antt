@@ -34,7 +34,7 @@ abbrev pub BreaksWord : List ℕ → List Lexeme → FaultCode → Type 0
 BreaksWord word (Run bs ∷ []) code = (bytes_eq bs word ≡ false) × (code ≡ BadSyntax)
 BreaksWord word _ code = code ≡ BadSyntax
 
--- this very word; another word in its place is a form that is left out
+-- another word in the place of this one is unsupported, anything else is bad syntax
 abbrev pub BreaksOffered : List ℕ → List Lexeme → FaultCode → Type 0
 BreaksOffered word (Run bs ∷ []) code = (bytes_eq bs word ≡ false) × (code ≡ Unsupported)
 BreaksOffered word _ code = code ≡ BadSyntax
@@ -143,7 +143,7 @@ abbrev pub BreaksKind : List Lexeme → FaultCode → Type 0
 BreaksKind (Run bs ∷ []) code = (kind_word bs ≡ None) × (code ≡ Unsupported)
 BreaksKind _ code = code ≡ BadSyntax
 
--- the words of scopes, which all mean the same
+-- whether a word is that of a scope; all scopes mean the same
 abbrev pub is_scope : List ℕ → Bool
 is_scope w = bytes_eq w (codes "COMMON") || bytes_eq w (codes "GLOBAL") || bytes_eq w (codes "LOCAL")
 
@@ -162,11 +162,12 @@ abbrev pub within : List Lexeme → Option (List Lexeme)
 within (Open ∷ ws) = closed_by (last_of ws) (front_of ws)
 within _ = None
 
--- an expression in parentheses
+-- what stands between the parentheses is this expression
 abbrev pub IsTestBy : Option (List Lexeme) → Source → Type 0
 IsTestBy None e = ⊥
 IsTestBy (Some ws) e = IsExpr ws e
 
+-- an expression in parentheses
 abbrev pub IsTest : List Lexeme → Source → Type 0
 IsTest f e = IsTestBy (within f) e
 
@@ -202,11 +203,12 @@ abbrev pub BreaksOpened : List Lexeme → FaultCode → Type 0
 BreaksOpened (Open ∷ ws) code = BreaksLabel ws code
 BreaksOpened _ code = code ≡ BadSyntax
 
--- a label in parentheses
+-- what stands between the parentheses is this label
 abbrev pub IsAimBy : Option (List Lexeme) → List ℕ → Type 0
 IsAimBy None l = ⊥
 IsAimBy (Some ws) l = IsLabel ws l
 
+-- a label in parentheses
 abbrev pub IsAim : List Lexeme → List ℕ → Type 0
 IsAim f l = IsAimBy (within f) l
 

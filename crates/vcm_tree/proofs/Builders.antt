@@ -9,7 +9,7 @@ use Rattle.vcm_tree.specs.declared.builder.Head.{Head}
 use Rattle.vcm_tree.specs.declared.builder.Head.TheVariants.{First, Second, Body, Measuring}
 use Rattle.vcm_tree.specs.declared.builder.Open.{Open}
 use Rattle.vcm_tree.specs.declared.builder.Builder.{Builder}
-use Rattle.vcm_tree.specs.Nodes.{snoc}
+use Rattle.vcm_tree.specs.Nodes.{with_last}
 use Rattle.vcm_tree.specs.Pieces.{Step, Piece, piece, Tests, Divides, EndsTest, EndsRepeat, EndsMeasure, Ends, node_pieces, pieces}
 use Rattle.vcm_tree.specs.Blocks.{Opened, InFirst, InSecond, InBody, InMeasure, room, room_by, nested, divided, test_ended, repeat_ended, ended}
 use Rattle.vcm_tree.specs.Features.{measure_ended, measuring}
@@ -24,7 +24,7 @@ regroup [] [] (c ∷ cs) ds es = ap (λ l. c ∷ l) (regroup [] [] cs ds es)
 regroup [] (b ∷ bs) cs ds es = ap (λ l. b ∷ l) (regroup [] bs cs ds es)
 regroup (a ∷ as') bs cs ds es = ap (λ l. a ∷ l) (regroup as' bs cs ds es)
 
-pub pieces_push : (b : Block) (n : Node) → pieces (snoc b n) ≡ pieces b ++ node_pieces n
+pub pieces_push : (b : Block) (n : Node) → pieces (with_last b n) ≡ pieces b ++ node_pieces n
 pieces_push done n = append-nil (node_pieces n)
 pieces_push (then m b) n = ap (λ l. node_pieces m ++ l) (pieces_push b n) ∙ sym (append_assoc (node_pieces m) (pieces b) (node_pieces n))
 
@@ -53,7 +53,7 @@ abbrev wrote : List Open → Block → List Piece
 wrote os b = opens_pieces os ++ pieces b
 
 -- one node more
-pub added : (old new : Builder) (n : Node) → new.opens.items ≡ old.opens.items → new.block ≡ snoc old.block n → written new ≡ written old ++ node_pieces n
+pub added : (old new : Builder) (n : Node) → new.opens.items ≡ old.opens.items → new.block ≡ with_last old.block n → written new ≡ written old ++ node_pieces n
 added old new n same more =
     ap (λ os. wrote os new.block) same ∙ ap (wrote old.opens.items) more ∙ ap (λ l. opens_pieces old.opens.items ++ l) (pieces_push old.block n)
     ∙ sym (append_assoc (opens_pieces old.opens.items) (pieces old.block) (node_pieces n))
@@ -73,7 +73,7 @@ module _ (os : List Open) (o : Open) (old new : Builder) (was : old.opens.items 
   before_close = ap (λ l. wrote l old.block) was ∙ ap (λ l. l ++ pieces old.block) (opens_push os o)
 
   -- the innermost block closes
-  closed : (n : Node) (p : Piece) → new.opens.items ≡ os → new.block ≡ snoc o.outer n → node_pieces n ≡ head_pieces o.head ++ (pieces old.block ++ p ∷ [])
+  closed : (n : Node) (p : Piece) → new.opens.items ≡ os → new.block ≡ with_last o.outer n → node_pieces n ≡ head_pieces o.head ++ (pieces old.block ++ p ∷ [])
       → written new ≡ written old ++ p ∷ []
   closed n p same more writes =
       ap (λ l. wrote l new.block) same ∙ ap (wrote os) more ∙ ap (λ l. opens_pieces os ++ l) (pieces_push o.outer n ∙ ap (λ l. pieces o.outer ++ l) writes)
@@ -107,7 +107,7 @@ module _ (os : List Open) (o : Open) (old new : Builder) (was : old.opens.items 
     labels = λ ls. refl;
   }
 
-  pub reads_test_end : (line start : ℕ) (test : Tree) → o.head ≡ First start test → new.opens.items ≡ os → new.block ≡ snoc o.outer (choice start test old.block line)
+  pub reads_test_end : (line start : ℕ) (test : Tree) → o.head ≡ First start test → new.opens.items ≡ os → new.block ≡ with_last o.outer (choice start test old.block line)
       → Reads (test_ended (blocks_of old.opens.items)) line old new
   reads_test_end line start test e same more = record {
     step = EndsTest;
@@ -118,7 +118,7 @@ module _ (os : List Open) (o : Open) (old new : Builder) (was : old.opens.items 
   }
 
   pub reads_else_end : (line start mid : ℕ) (test : Tree) (first : Block) → o.head ≡ Second start test first mid → new.opens.items ≡ os
-      → new.block ≡ snoc o.outer (choice_else start test first mid old.block line) → Reads (test_ended (blocks_of old.opens.items)) line old new
+      → new.block ≡ with_last o.outer (choice_else start test first mid old.block line) → Reads (test_ended (blocks_of old.opens.items)) line old new
   reads_else_end line start mid test first e same more =
       let h : Head = Second start test first mid in
       let after = pieces old.block ++ piece line EndsTest ∷ [] in
@@ -133,7 +133,7 @@ module _ (os : List Open) (o : Open) (old new : Builder) (was : old.opens.items 
       }
 
   pub reads_repeat_end : (line start v : ℕ) (a b c : Tree) → o.head ≡ Body start v a b c → new.opens.items ≡ os
-      → new.block ≡ snoc o.outer (do_loop start v a b c old.block line) → Reads (repeat_ended (blocks_of old.opens.items)) line old new
+      → new.block ≡ with_last o.outer (do_loop start v a b c old.block line) → Reads (repeat_ended (blocks_of old.opens.items)) line old new
   reads_repeat_end line start v a b c e same more = record {
     step = EndsRepeat;
     is = ap repeat_ended (innermost (Body start v a b c) e);
@@ -142,7 +142,7 @@ module _ (os : List Open) (o : Open) (old new : Builder) (was : old.opens.items 
     labels = λ ls. refl;
   }
 
-  pub reads_measure_end : (line start feature : ℕ) → o.head ≡ Measuring start feature → new.opens.items ≡ os → new.block ≡ snoc o.outer (meas start feature old.block line)
+  pub reads_measure_end : (line start feature : ℕ) → o.head ≡ Measuring start feature → new.opens.items ≡ os → new.block ≡ with_last o.outer (meas start feature old.block line)
       → Reads (measure_ended (blocks_of old.opens.items) true) line old new
   reads_measure_end line start feature e same more = record {
     step = EndsMeasure;
@@ -171,7 +171,7 @@ module _ (os : List Open) (o : Open) (old new : Builder) (was : old.opens.items 
   repeat_end_fails h e f = ap repeat_ended (innermost h e) ∙ f
 
 -- ENDFIL outside all blocks
-pub reads_end : (line : ℕ) (old new : Builder) → old.opens.items ≡ [] → new.opens.items ≡ old.opens.items → new.block ≡ snoc old.block (ending line)
+pub reads_end : (line : ℕ) (old new : Builder) → old.opens.items ≡ [] → new.opens.items ≡ old.opens.items → new.block ≡ with_last old.block (ending line)
     → Reads (ended (blocks_of old.opens.items)) line old new
 reads_end line old new none same more = record {
   step = Ends;
@@ -204,7 +204,7 @@ pub no_room : (os : List Open) → 32 ≤ length os → room (blocks_of os) ≡ 
 no_room os l = room_false (nat_lt (length (blocks_of os)) 32) (let e = blocks_length os in grind (arith, e))
 
 -- a node that is one statement
-pub reads_node : (old new : Builder) (n : Node) (line : ℕ) (step : Step) → new.opens.items ≡ old.opens.items → new.block ≡ snoc old.block n → node_pieces n ≡ piece line step ∷ []
+pub reads_node : (old new : Builder) (n : Node) (line : ℕ) (step : Step) → new.opens.items ≡ old.opens.items → new.block ≡ with_last old.block n → node_pieces n ≡ piece line step ∷ []
     → ((bs : List Opened) → blocks_after bs step ≡ bs) → ((ls : List Label) → labels_after ls step ≡ ls) → Reads (Ok step) line old new
 reads_node old new n line step same more writes inside unmarked = record {
   step = step;

@@ -11,7 +11,7 @@ use Rattle.vcm_tree.specs.Resolving.{behind_all, start}
 use Rattle.vcm_tree.specs.inner.Taking.{behind_of}
 use Rattle.vcm_tree.proofs.Walking.{IsWalked, drop_nil, walk_ends}
 use Rattle.vcm_tree.proofs.Written.{piece_labels, pieces_marks}
-use Rattle.vcm_tree.proofs.Meant.{labels_all}
+use Rattle.vcm_tree.proofs.MeantCounts.{labels_all}
 
 pub walk_labels : (all : List Placed) (p : Progress) → IsTrue (is_ended all) → IsWalked all p [] → p.labels ≡ labels_of p.builder.block
 walk_labels all p last w =

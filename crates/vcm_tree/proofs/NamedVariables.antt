@@ -25,7 +25,7 @@ use Rattle.vcm_tree.specs.Variables.{is_declared, with_one, with_all, assigned, 
 use Rattle.vcm_tree.specs.Blocks.{Behind, nested, tested, repeated, divided, test_ended, repeat_ended, ended, marked, label_of}
 use Rattle.vcm_tree.specs.Features.{declared, opened_measure, touched, measure_ended, configured, shifted, rotated, recalled, obtained, reported}
 use Rattle.vcm_tree.specs.Resolving.{Declares, then_ok, does, counts, stated, unless_barred, is_measuring, is_barred, resolved, behind_by, behind_one, behind_all}
-use Rattle.vcm_tree.proofs.Fitted.{then_ok-Ok}
+use Rattle.vcm_tree.proofs.GrownTables.{then_ok-Ok}
 use Rattle.vcm_tree.proofs.Kept.{Letters, DeclaresLettered, AreLettered, AllLettered}
 
 -- ---- words that declare

@@ -17,7 +17,9 @@ use Rattle.vcm_tree.specs.Resolving.{behind_all, start, BreaksNames}
 use Rattle.vcm_tree.specs.Program.{Parsed, IsParsed, IsWhole, AreDistinct, tables_of}
 use Rattle.vcm_tree.proofs.Walking.{all_mean}
 use Rattle.vcm_tree.proofs.Written.{piece_labels, PiecesNest, PiecesFit, ends_last, pieces_length, pieces_marks, pieces_nests, closed_last, pieces_fit}
-use Rattle.vcm_tree.proofs.Meant.{labels_all, counted_all, few_pieces, last_ends, nest_all, distinct_all}
+use Rattle.vcm_tree.proofs.MeantCounts.{labels_all, counted_all, few_pieces, last_ends}
+use Rattle.vcm_tree.proofs.MeantNesting.{nest_all}
+use Rattle.vcm_tree.proofs.MeantLabels.{distinct_all}
 use Rattle.vcm_tree.proofs.Fitted.{fit_all}
 
 pub parsed_whole : (ss : List Statement) (all : List Placed) (p : Parsed) → IsTrue (is_ended all) → length all ≤ 20000 → IsClean BreaksNames all → IsParsed ss all p → AreNamed (behind_all start all).variables

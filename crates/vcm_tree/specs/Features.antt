@@ -44,6 +44,7 @@ abbrev pub entered_by : List (List ℕ) → Option ℕ → Result ℕ FaultCode
 entered_by names (Some i) = Ok i
 entered_by names None = if nat_lt (length names) 4096 then Ok (length names) else Err TooManyNames
 
+-- the index of a name that is entered
 abbrev pub entered : List (List ℕ) → List ℕ → Result ℕ FaultCode
 entered names l = entered_by names (index_of names l)
 
@@ -52,6 +53,7 @@ abbrev pub with_name_by : List (List ℕ) → List ℕ → Option ℕ → List (
 with_name_by names l (Some i) = names
 with_name_by names l None = names ++ l ∷ []
 
+-- the names with this one, which is added where it isn't there
 abbrev pub with_name : List (List ℕ) → List ℕ → List (List ℕ)
 with_name names l = with_name_by names l (index_of names l)
 
@@ -83,6 +85,7 @@ abbrev pub touched_by : Option ℕ → Bool → Result ℕ FaultCode
 touched_by (Some f) false = Ok f
 touched_by _ _ = Err MeasBody
 
+-- the feature that a PTMEAS here measures
 abbrev pub touched_in : List Opened → Bool → Result ℕ FaultCode
 touched_in bs t = touched_by (measuring bs) t
 
@@ -139,10 +142,12 @@ real_to i (Some kinds.Real) = Ok i
 real_to i (Some _) = Err BadType
 real_to i None = Err UnknownName
 
+-- a variable at this place, if it is a REAL
 abbrev pub real_by : List Variable → Option ℕ → Result ℕ FaultCode
 real_by vs None = Err UnknownName
 real_by vs (Some i) = real_to i (slice_get (kinds_of vs) i)
 
+-- the REAL variable that a target is
 abbrev pub real_named : List Variable → Target → Result ℕ FaultCode
 real_named vs t = real_by vs (target_of vs t)
 

@@ -36,7 +36,8 @@ pub record Parsed : Type 0 where
   pub tables : Tables
   pub notices : List Noticed
 
--- what expanded statements are, with the notices of those that are written: a program which is written by the counted ones, their names
+-- the expanded statements are this program: written down it is their counted ones, its tables are those of their names, and its notices
+-- those of the statements as they are written
 pub record IsParsed (ss : List Statement) (all : List Placed) (p : Parsed) : Type 0 where
   pub program : pieces p.program ≡ pieces_from start all
   pub tables : p.tables ≡ tables_of (behind_all start all)
@@ -60,7 +61,7 @@ abbrev pub AreDistinct : List Label → Type 0
 AreDistinct [] = Unit {0}
 AreDistinct (l ∷ ls) = IsTrue (not (is_among ls l)) × AreDistinct ls
 
--- at most 4,096 names
+-- at most 4,096, and each of them is a name
 pub record AreNames (names : List (List ℕ)) : Type 0 where
   pub few : length names ≤ 4096
   pub named : AllByRecursion (λ n. is_name n ≡ true) names

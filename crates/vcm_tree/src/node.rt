@@ -2,7 +2,7 @@
 
 ghost use Rattle.std.specs.Prelude.{◌≡◌, OnOk};
 ghost use Rattle.vcm_spec.specs.Program.{Block as Tree, done, Node as Part};
-ghost use Rattle.vcm_tree.specs.Nodes.{snoc, node_of};
+ghost use Rattle.vcm_tree.specs.Nodes.{with_last, node_of};
 
 use std::alloc::{AllocError, Global};
 use std::hash::{Hash, Hasher};
@@ -173,7 +173,7 @@ impl Block {
 
     /// One node more, behind the others.
     pub(crate) fn push(&mut self, node: Node) -> Result<(), AllocError>
-        ensures { OnOk result (self.new ≡ snoc self.old (node_of node)) }
+        ensures { OnOk result (self.new ≡ with_last self.old (node_of node)) }
     {
         self.nodes.push(node)?;
         Ok(())

@@ -25,7 +25,7 @@ one f (w ∷ ws) = f w >>= λ x. Some (x, ws)
 abbrev pub both : {A B : Type 0} → Reader A → Reader B → Reader (A × B)
 both a b ws = a ws >>= λ x. b x.1 >>= λ y. Some ((x.0, y.0), y.1)
 
--- a value made of what is read by a function
+-- what a function makes of the value that is read
 abbrev pub via : {A B : Type 0} → (A → B) → Reader A → Reader B
 via f a ws = a ws >>= λ x. Some (f x.0, x.1)
 

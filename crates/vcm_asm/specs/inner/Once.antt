@@ -1,7 +1,7 @@
 -- Labels that stand once.
 use Rattle.std.specs.Prelude.{◌≡◌, List, [], ◌∷◌}
 use Rattle.vcm_spec.specs.Program.{Label}
-use Rattle.vcm_asm.specs.inner.Assembled.{Mark}
+use Rattle.vcm_asm.specs.Assembled.{Mark}
 
 -- the label is at none of these places
 abbrev pub Absent : Label → List Mark → Type 0

@@ -11,7 +11,9 @@ use Rattle.vcm_expr.specs.declared.levels.Chain.TheVariants.{Disjunction, Conjun
 use Rattle.vcm_expr.specs.declared.levels.Front.{Front}
 use Rattle.vcm_expr.specs.declared.levels.Front.TheVariants.{Negation, Sign}
 use Rattle.vcm_expr.specs.Source.{is_small}
-use Rattle.vcm_expr.specs.inner.Parser.{Taken, Parser, and_then, closed, primary_by, sign_of, negation_of, product_op, sum_op, and_op, or_op, signed_by, product_by, sum_by, relation_by, negation_by, conjunction_by, disjunction_by, expression}
+use Rattle.vcm_expr.specs.inner.Parser.{Taken, Parser, and_then, closed, primary_by, sign_of, negation_of}
+use Rattle.vcm_expr.specs.inner.Parser.{product_op, sum_op, and_op, or_op, signed_by, product_by, sum_by}
+use Rattle.vcm_expr.specs.inner.Parser.{relation_by, negation_by, conjunction_by, disjunction_by, expression}
 
 -- what follows an opening parenthesis
 abbrev pub group_in : ℕ → Parser

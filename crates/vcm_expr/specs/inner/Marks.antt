@@ -1,7 +1,8 @@
 -- Symbols that are only looked at.
 use Rattle.std.specs.Prelude.{⊤, List, [], ◌∷◌}
 use Rattle.vcm_expr.specs.declared.symbol.Symbol.{Symbol}
-use Rattle.vcm_expr.specs.declared.symbol.Symbol.TheVariants.{Operand, Dash, Cross, Star, Slash, NotWord, AndWord, OrWord, RelationWord, Opening, Closing, Other}
+use Rattle.vcm_expr.specs.declared.symbol.Symbol.TheVariants.{Operand, Dash, Cross, Star, Slash, NotWord, AndWord}
+use Rattle.vcm_expr.specs.declared.symbol.Symbol.TheVariants.{OrWord, RelationWord, Opening, Closing, Other}
 
 -- no mark stands first: nothing does, or an operand
 abbrev pub NoMark : List Symbol → Type 0

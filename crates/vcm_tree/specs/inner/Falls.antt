@@ -3,7 +3,7 @@ use Rattle.std.specs.Prelude.{◌≤◌, ◌≡◌, List, [], ◌∷◌, ◌++�
 use Rattle.std.proofs.Common.{arith, ap}
 use denote.Param.Weighed.{most}
 use Rattle.vcm_spec.specs.Program.{then, size, sizes}
-use Rattle.vcm_tree.specs.Nodes.{node_of, block_of, snoc}
+use Rattle.vcm_tree.specs.Nodes.{node_of, block_of, with_last}
 use Rattle.vcm_tree.specs.declared.node.Node.{Node}
 use Rattle.vcm_tree.specs.declared.node.Node.TheVariants.{Simple, Label, Jump, Choice, Repeat, Measure, Ending}
 use Rattle.vcm_tree.specs.declared.node.Block.TheDeep.{deep-Node}
@@ -25,6 +25,6 @@ block_falls [] = omega arith
 block_falls (n ∷ ns) = omega (arith, node_falls n, block_falls ns)
 
 -- one node more at the end of the list is one more at the end of the block
-pub block_push : (ns : List Node) (n : Node) → block_of (ns ++ n ∷ []) ≡ snoc (block_of ns) (node_of n)
+pub block_push : (ns : List Node) (n : Node) → block_of (ns ++ n ∷ []) ≡ with_last (block_of ns) (node_of n)
 block_push [] n = refl
 block_push (m ∷ ns) n = ap (λ t. then (node_of m) t) (block_push ns n)

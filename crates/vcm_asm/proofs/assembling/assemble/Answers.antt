@@ -1,9 +1,9 @@
 use Rattle.std.proofs.Common.{◌++◌, length, ap, ◌∙◌, subst}
 use Rattle.vcm_code.specs.Valid.{IsValid}
 use Rattle.vcm_code.specs.Ranges.{IsInRange}
-use Rattle.vcm_asm.specs.inner.Assembled.{marks, block_code, place_in, flat_code}
+use Rattle.vcm_asm.specs.Assembled.{marks, block_code, place_in, flat_code}
 use Rattle.vcm_asm.specs.inner.Spelled.{BlockKeeps}
-use Rattle.vcm_asm.specs.Headline.{IsAssembled}
+use Rattle.vcm_asm.specs.Simulation.{IsAssembled}
 use Rattle.vcm_asm.proofs.Structured.{structured}
 use Rattle.vcm_asm.proofs.Whole.{assembled, all_valid, in_range, with_code}
 use Rattle.vcm_asm.proofs.assembling.assemble.Goals as goal

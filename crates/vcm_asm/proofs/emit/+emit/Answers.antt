@@ -3,7 +3,7 @@ use Rattle.vcm_spec.specs.Program.{size, sizes}
 use Rattle.vcm_tree.specs.Nodes.{node_of, block_of, choice_by}
 use Rattle.vcm_asm.specs.inner.Depth.{NodeDeep, Deep}
 use Rattle.vcm_asm.specs.inner.Spelled.{NodeKeeps, BlockKeeps}
-use Rattle.vcm_asm.specs.inner.Assembled.{node_code, block_code, place_in}
+use Rattle.vcm_asm.specs.Assembled.{node_code, block_code, place_in}
 use Rattle.vcm_asm.proofs.Place.{node_length}
 use Rattle.vcm_asm.proofs.Emits.{block_grows, wrote_if, wrote_if_else, wrote_do, wrote_meas, put_length, block_written, choice_size, on_ok, ok_too}
 use Rattle.vcm_asm.proofs.emit.+emit.Goals as goal

@@ -3,7 +3,7 @@ use Rattle.vcm_spec.specs.Program.{size, sizes}
 use Rattle.vcm_tree.specs.Nodes.{node_of, block_of}
 use Rattle.vcm_asm.specs.inner.Spelled.{BlockKeeps}
 use Rattle.vcm_asm.specs.inner.Depth.{Deep}
-use Rattle.vcm_asm.specs.inner.Assembled.{block_code, place_in}
+use Rattle.vcm_asm.specs.Assembled.{block_code, place_in}
 use Rattle.vcm_asm.proofs.emit.+emit.Given as goal
 
 abbrev pub decreases-emit_block : goal.decreases-emit_block

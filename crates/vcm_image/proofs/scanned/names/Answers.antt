@@ -1,7 +1,7 @@
 use Rattle.std.proofs.Common.{arith}
 use Rattle.std.proofs.lemmas.Result.{err_from_is_err_and}
 use Rattle.vcm_fields.specs.Readers.{name_at}
-use Rattle.vcm_fields.proofs.Parts.{reads_name}
+use Rattle.vcm_fields.proofs.TextParts.{reads_name}
 use Rattle.vcm_image.proofs.Tables.{filling, filled_more, filled_fails, filled}
 use Rattle.vcm_image.proofs.scanned.names.Goals as goal
 

@@ -8,7 +8,7 @@ returns-in-Err-run_text-clause-fault c =
 
 pub returns-clause-run : goal.returns-clause-run
 returns-clause-run c =
-    let part_is = (rw c.texts_of.ensures.part at c.in-Ok.ensures) ∙ ap Ok (sym c.of-workpiece.ensures) in
+    let part_is = (rw c.texts_of.ensures.part at c.in-Ok.ensures) ∙ ap Ok (sym c.in-Ok-of.ensures) in
     job_run c.args.steps c.requires c.args.input.now _ part_is c.in-Ok-run_text.summary (rw c.texts_of.ensures.program at c.in-Ok-run_text.ensures.run)
     (λ e. c.if-is_halted.ensures.ample refl (ap (λ r. r.end) c.ran-ran.ensures ∙ e))
 

@@ -1,6 +1,6 @@
 use Rattle.std.proofs.Common.{sym, ap, ◌∙◌}
 use Rattle.std.specs.Option.{option_copied}
-use Rattle.vcm_asm.specs.inner.Assembled.{place_in}
+use Rattle.vcm_asm.specs.Assembled.{place_in}
 use Rattle.vcm_asm.proofs.Numbering.{found, not_found}
 use Rattle.vcm_asm.proofs.numbers.Numbers.place_of.Goals as goal
 

@@ -1,8 +1,9 @@
 use Rattle.std.proofs.Common.{arith}
 use Rattle.std.proofs.lemmas.Result.{err_from_is_err_and}
 use Rattle.vcm_fields.specs.Readers.{item_at}
-use Rattle.vcm_fields.proofs.Inverse.{begun, goes_on, stops, is_done, cuts}
-use Rattle.vcm_fields.proofs.Parts.{reads_item, cut_are, cut_gives}
+use Rattle.vcm_fields.proofs.LoopInverse.{begun, goes_on, stops, is_done, cuts}
+use Rattle.vcm_fields.proofs.ItemParts.{reads_item}
+use Rattle.vcm_fields.proofs.Parts.{cut_are, cut_gives}
 use Rattle.vcm_fields.proofs.slices.ItemSlice.cut.Goals as goal
 
 pub loop-init : goal.loop-init

@@ -1,5 +1,5 @@
 use Rattle.vcm_fields.specs.Readers.{item_at}
-use Rattle.vcm_fields.proofs.Inverse.{Progress}
+use Rattle.vcm_fields.proofs.LoopInverse.{Progress}
 use Rattle.vcm_fields.proofs.slices.ItemSlice.cut.Given as goal
 
 abbrev pub invariant-loop : goal.invariant-loop

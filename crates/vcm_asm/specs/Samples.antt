@@ -11,7 +11,7 @@ use Rattle.vcm_spec.specs.Expression.{Value}
 use Rattle.vcm_spec.specs.Samples.Numbers.{chosen}
 use Rattle.vcm_spec.specs.Samples.Loops.{counted, again, past_loop}
 use Rattle.vcm_code.specs.Code.{Plain, If, Else, EndIf, Do, EndDo, Label, JumpTo, EndFil, statement}
-use Rattle.vcm_asm.specs.inner.Assembled.{flat_code}
+use Rattle.vcm_asm.specs.Assembled.{flat_code}
 
 -- a whole number as an expression
 abbrev whole : ℤ → List Item

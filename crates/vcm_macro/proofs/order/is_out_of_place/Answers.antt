@@ -1,5 +1,5 @@
 use Rattle.std.proofs.Common.{rules}
-use Rattle.vcm_macro.proofs.order.is_out.Goals as goal
+use Rattle.vcm_macro.proofs.order.is_out_of_place.Goals as goal
 
 pub returns-in-Opening : goal.returns-in-Opening
 returns-in-Opening c = search rules

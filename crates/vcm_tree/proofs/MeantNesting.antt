@@ -1,0 +1,146 @@
+-- The counted statements of a text that breaks no rule of names and blocks: how deep they nest.
+use Rattle.std.proofs.Common.{◌≡◌, ℕ, ◌<◌, Bool, true, false, List, [], ◌∷◌, ◌++◌, length, Result, Ok, Err, refl, sym, ◌∙◌, subst, arith, nat_lt}
+use Rattle.std.specs.Prelude.{if◌then◌else◌}
+use Rattle.std.specs.List.{list_any}
+use Rattle.vcm_lines.specs.declared.fault.FaultCode.{FaultCode}
+use Rattle.vcm_lines.specs.declared.fault.FaultCode.TheVariants.{DuplicateName}
+use Rattle.vcm_spec.specs.Expression.{Tree}
+use Rattle.vcm_spec.specs.Simple.{Simple}
+use Rattle.vcm_spec.specs.Program.{Label, is_same_label}
+use Rattle.vcm_spec.specs.Setup.{Variable}
+use Rattle.vcm_syntax.specs.declared.statement.Form.{Form}
+use Rattle.vcm_syntax.specs.declared.statement.Form.TheVariants.{Opening, Measures as Units, Ignored, Declaration, Assignment, Move, Home, Say, Test, Otherwise, TestEnd, Repeat, RepeatEnd, Mark, Leap, Feature, Measure, Touch, MeasureEnd, Configure, Shift, Rotation, Restore, Query, Report, Macro, MacroEnd, Call, Ending}
+use Rattle.vcm_macro.specs.declared.placed.Placed.{Placed}
+use Rattle.vcm_tree.specs.Pieces.{Step, Piece, Does, Marks, Leaps, Tests, Divides, EndsTest, Repeats, EndsRepeat, Measures, EndsMeasure, Ends}
+use Rattle.vcm_tree.specs.Variables.{with_all, assigned, moved}
+use Rattle.vcm_tree.specs.Blocks.{Behind, Opened, InFirst, InSecond, InBody, InMeasure, room_by, nested, tested, repeated, divided, test_ended, repeat_ended, ended, marked, label_of}
+use Rattle.vcm_tree.specs.Features.{declared, opened_measure, touched, measure_ended, configured, shifted, rotated, recalled, obtained, reported}
+use Rattle.vcm_tree.specs.Resolving.{Meaning, Declares, then_ok, does, counts, stated, blocks_after, behind_by, behind_one, pieces_by, pieces_from}
+use Rattle.vcm_tree.proofs.Standing.{standing, standing_ok}
+use Rattle.vcm_tree.proofs.Walking.{AllMean}
+use Rattle.vcm_tree.proofs.Written.{depth_after, opens, PiecesNest}
+
+-- ---- nesting
+
+depth_step : (bs : List Opened) (s : Step) → length (blocks_after bs s) ≡ depth_after (length bs) s
+depth_step bs (Does what) = refl
+depth_step bs (Marks l) = refl
+depth_step bs (Leaps l) = refl
+depth_step bs (Tests t) = refl
+depth_step [] Divides = refl
+depth_step (b ∷ bs) Divides = refl
+depth_step [] EndsTest = refl
+depth_step (b ∷ bs) EndsTest = refl
+depth_step bs (Repeats v a b c) = refl
+depth_step [] EndsRepeat = refl
+depth_step (b ∷ bs) EndsRepeat = refl
+depth_step bs (Measures f) = refl
+depth_step [] EndsMeasure = refl
+depth_step (b ∷ bs) EndsMeasure = refl
+depth_step bs Ends = refl
+
+-- a step that opens no block
+abbrev Plain : Result Step FaultCode → Type 0
+Plain (Ok s) = opens s ≡ false
+Plain (Err e) = Unit {0}
+
+does_plain : (r : Result (Simple Tree) FaultCode) → Plain (does r)
+does_plain (Ok what) = refl
+does_plain (Err e) = tt
+
+divided_plain : (bs : List Opened) → Plain (divided bs)
+divided_plain [] = tt
+divided_plain (InFirst ∷ bs) = refl
+divided_plain (_ ∷ bs) = tt
+
+test_ended_plain : (bs : List Opened) → Plain (test_ended bs)
+test_ended_plain [] = tt
+test_ended_plain (InFirst ∷ bs) = refl
+test_ended_plain (InSecond ∷ bs) = refl
+test_ended_plain (_ ∷ bs) = tt
+
+repeat_ended_plain : (bs : List Opened) → Plain (repeat_ended bs)
+repeat_ended_plain [] = tt
+repeat_ended_plain (InBody ∷ bs) = refl
+repeat_ended_plain (_ ∷ bs) = tt
+
+measure_ended_plain : (bs : List Opened) (t : Bool) → Plain (measure_ended bs t)
+measure_ended_plain [] t = tt
+measure_ended_plain (InMeasure f ∷ bs) true = refl
+measure_ended_plain (InMeasure f ∷ bs) false = tt
+measure_ended_plain (_ ∷ bs) t = tt
+
+ended_plain : (bs : List Opened) → Plain (ended bs)
+ended_plain [] = refl
+ended_plain (b ∷ bs) = tt
+
+marked_plain : (ls : List Label) (l : Label) → Plain (marked ls l)
+marked_plain ls l = by (list_any (is_same_label l) ls)
+  where
+    by : (b : Bool) → Plain (if b then Err DuplicateName else Ok (Marks l))
+    by true = tt
+    by false = refl
+
+-- 32 are open at most where one more may be opened
+room_small : (bs : List Opened) (r : Result Step FaultCode) (m : Meaning) → counts (nested bs r) ≡ Ok m → length bs < 32
+room_small bs r m e = by (nat_lt (length bs) 32) refl e
+  where
+    by : (b : Bool) → nat_lt (length bs) 32 ≡ b → counts (then_ok (room_by b) (λ _. r)) ≡ Ok m → length bs < 32
+    by true f g = grind (arith, f)
+    by false f g = absurd cc
+
+nest_one : (b : Behind) (form : Form) (line : ℕ) (r : Result Step FaultCode) (rest : List Piece) (m : Meaning) → counts r ≡ Ok m → ((s : Step) → r ≡ Ok s → opens s ≡ true → length b.blocks < 32)
+    → PiecesNest (length (behind_by b form (counts r)).blocks) rest → PiecesNest (length b.blocks) (pieces_by line (counts r) ++ rest)
+nest_one b form line (Ok s) rest m e small h = (small s refl, subst (λ (d : ℕ). PiecesNest d rest) (depth_step b.blocks s) h)
+nest_one b form line (Err c) rest m e small h = absurd cc
+
+nest_plain : (b : Behind) (form : Form) (line : ℕ) (r : Result Step FaultCode) (rest : List Piece) (m : Meaning) → Plain r → counts r ≡ Ok m
+    → PiecesNest (length (behind_by b form (counts r)).blocks) rest → PiecesNest (length b.blocks) (pieces_by line (counts r) ++ rest)
+nest_plain b form line (Ok s) rest m p e h = ((λ o. (let both : true ≡ false = sym o ∙ p in absurd cc)), subst (λ (d : ℕ). PiecesNest d rest) (depth_step b.blocks s) h)
+nest_plain b form line (Err c) rest m p e h = absurd cc
+
+nest_declares : (b : Behind) (form : Form) (line : ℕ) (r : Result (List Variable) FaultCode) (rest : List Piece)
+    → PiecesNest (length (behind_by b form (then_ok r (λ ws. Ok (Declares ws)))).blocks) rest → PiecesNest (length b.blocks) (pieces_by line (then_ok r (λ ws. Ok (Declares ws))) ++ rest)
+nest_declares b form line (Ok ws) rest h = h
+nest_declares b form line (Err c) rest h = h
+
+nest_by : (b : Behind) (ex line : ℕ) (form : Form) (rest : List Piece) (m : Meaning) → stated b ex form ≡ Ok m → PiecesNest (length (behind_by b form (stated b ex form)).blocks) rest
+    → PiecesNest (length b.blocks) (pieces_by line (stated b ex form) ++ rest)
+nest_by b ex line Opening rest m e h = h
+nest_by b ex line Units rest m e h = h
+nest_by b ex line (Ignored w) rest m e h = h
+nest_by b ex line (Declaration k names) rest m e h = nest_declares b (Declaration k names) line (with_all b.variables ex k names) rest h
+nest_by b ex line (Assignment n x) rest m e h = nest_plain b (Assignment n x) line (does (assigned b.variables n x)) rest m (does_plain (assigned b.variables n x)) e h
+nest_by b ex line (Move p) rest m e h = nest_plain b (Move p) line (does (moved b.variables p.x p.y p.z)) rest m (does_plain (moved b.variables p.x p.y p.z)) e h
+nest_by b ex line Home rest m e h = ((λ o. absurd cc), h)
+nest_by b ex line (Say t) rest m e h = ((λ o. absurd cc), h)
+nest_by b ex line (Test x) rest m e h = nest_one b (Test x) line (nested b.blocks (tested b.variables x)) rest m e (λ s f o. room_small b.blocks (tested b.variables x) m e) h
+nest_by b ex line Otherwise rest m e h = nest_plain b Otherwise line (divided b.blocks) rest m (divided_plain b.blocks) e h
+nest_by b ex line TestEnd rest m e h = nest_plain b TestEnd line (test_ended b.blocks) rest m (test_ended_plain b.blocks) e h
+nest_by b ex line (Repeat r) rest m e h = nest_one b (Repeat r) line (nested b.blocks (repeated b.variables r)) rest m e (λ s f o. room_small b.blocks (repeated b.variables r) m e) h
+nest_by b ex line RepeatEnd rest m e h = nest_plain b RepeatEnd line (repeat_ended b.blocks) rest m (repeat_ended_plain b.blocks) e h
+nest_by b ex line (Mark l) rest m e h = nest_plain b (Mark l) line (marked b.labels (label_of ex l)) rest m (marked_plain b.labels (label_of ex l)) e h
+nest_by b ex line (Leap l) rest m e h = ((λ o. absurd cc), h)
+nest_by b ex line (Feature l p d) rest m e h = nest_plain b (Feature l p d) line (does (declared b.measured.features b.variables l p d)) rest m (does_plain (declared b.measured.features b.variables l p d)) e h
+nest_by b ex line (Touch p given) rest m e h = nest_plain b (Touch p given) line (does (touched b.blocks b.measured.touched b.variables p given)) rest m (does_plain (touched b.blocks b.measured.touched b.variables p given)) e h
+nest_by b ex line (Configure which x) rest m e h = nest_plain b (Configure which x) line (does (configured b.variables which x)) rest m (does_plain (configured b.variables which x)) e h
+nest_by b ex line (Shift l os) rest m e h = nest_plain b (Shift l os) line (does (shifted b.measured.frames b.variables l os)) rest m (does_plain (shifted b.measured.frames b.variables l os)) e h
+nest_by b ex line (Rotation l axis n) rest m e h = nest_plain b (Rotation l axis n) line (does (rotated b.measured.frames l axis n)) rest m (does_plain (rotated b.measured.frames l axis n)) e h
+nest_by b ex line (Restore l) rest m e h = nest_plain b (Restore l) line (does (recalled b.measured.frames l)) rest m (does_plain (recalled b.measured.frames l)) e h
+nest_by b ex line (Query v side l word) rest m e h = nest_plain b (Query v side l word) line (does (obtained b.measured.features b.variables v side l word)) rest m (does_plain (obtained b.measured.features b.variables v side l word)) e h
+nest_by b ex line (Report side l) rest m e h = nest_plain b (Report side l) line (does (reported b.measured.features side l)) rest m (does_plain (reported b.measured.features side l)) e h
+nest_by b ex line (Measure l) rest m e h = nest_one b (Measure l) line (nested b.blocks (opened_measure b.measured.features l)) rest m e (λ s f o. room_small b.blocks (opened_measure b.measured.features l) m e) h
+nest_by b ex line MeasureEnd rest m e h = nest_plain b MeasureEnd line (measure_ended b.blocks b.measured.touched) rest m (measure_ended_plain b.blocks b.measured.touched) e h
+nest_by b ex line (Macro l ps) rest m e h = h
+nest_by b ex line MacroEnd rest m e h = h
+nest_by b ex line (Call l args) rest m e h = h
+nest_by b ex line Ending rest m e h = nest_plain b Ending line (ended b.blocks) rest m (ended_plain b.blocks) e h
+
+pub nest_all : (b : Behind) (ss : List Placed) → AllMean b ss → PiecesNest (length b.blocks) (pieces_from b ss)
+nest_all b [] h = tt
+nest_all b (s ∷ ss) h =
+    let is = standing b s.expansion s.statement.form h.0.0 h.0.1 in
+    let rest = pieces_from (behind_one b s) ss in
+    subst (λ r. PiecesNest (length b.blocks) (pieces_by s.statement.line r ++ rest)) (sym is)
+    (nest_by b s.expansion s.statement.line s.statement.form rest h.0.0 (standing_ok b s.expansion s.statement.form h.0.0 h.0.1)
+    (subst (λ r. PiecesNest (length (behind_by b s.statement.form r).blocks) rest) is (nest_all (behind_one b s) ss h.1)))
