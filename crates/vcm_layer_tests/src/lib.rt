@@ -2,11 +2,7 @@
 #![tactic(auto)]
 
 #[cfg(test)]
-mod assembler_tests;
-#[cfg(test)]
 mod expr_tests;
-#[cfg(test)]
-mod leftmost_tests;
 #[cfg(test)]
 mod lines_tests;
 #[cfg(test)]
@@ -17,9 +13,3 @@ mod num_tests;
 mod part_tests;
 #[cfg(test)]
 mod parts;
-#[cfg(test)]
-mod phase_tests;
-#[cfg(test)]
-mod syntax_tests;
-#[cfg(test)]
-mod tree_tests;

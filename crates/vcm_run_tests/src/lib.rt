@@ -14,8 +14,6 @@ mod loader_tests;
 #[cfg(test)]
 mod macro_tests;
 #[cfg(test)]
-mod measuring_tests;
-#[cfg(test)]
 mod plain;
 #[cfg(test)]
 mod plain_items;

@@ -1,9 +1,9 @@
-//! Macros, in whole programs.
+//! Macros and labels in such numbers as no text of examples has.
 
-use crate::runs::{has_values, is_refused, prints};
+use crate::runs::is_refused;
 use std::alloc::Global;
 use vcm_lines::{FaultCode, SourceFault};
-use vcm_test_texts::{ONE_BLOCK, joined, program_of};
+use vcm_test_texts::program_of;
 use vcm_tree::accept;
 
 // How many statements these are, behind their expansion.
@@ -11,143 +11,6 @@ fn count_of(alloc: Global, statements: &str) -> Option<usize> {
     let program = program_of(alloc, statements)?;
     let accepted = accept(alloc, program.as_bytes()).ok()?;
     Some(accepted.count())
-}
-
-// A macro that adds twice its argument to R, with a jump of its own, and two calls of it.
-const DOUBLED: &str =
-    "DECL/INTGR,R\nM(DBL)=MACRO/A\nJUMPTO/(OUT)\nTEXT/OPER,'SKIPPED'\n(OUT)\nR=ASSIGN/R+A*2\nENDMAC\nCALL/M(DBL),1+2\nCALL/M(DBL),R\n";
-
-// A macro with a variable of its own, and two calls of it.
-const COUNTED: &str = "M(C)=MACRO\nDECL/INTGR,T\nT=ASSIGN/T+1\nENDMAC\nCALL/M(C)\nCALL/M(C)\n";
-
-#[test]
-fn two_expansions(rt: HostRuntime) {
-    for (statements, steps, values) in [
-        (DOUBLED, "steps 7\n", [18].as_slice()),
-        (COUNTED, "steps 3\n", [1, 1].as_slice()),
-    ] {
-        let Some(output) = joined(
-            rt.alloc(),
-            &["stop ENDED\nposition 0.000 0.000 100.000\n", steps],
-        ) else {
-            panic!(rt; "want of memory");
-        };
-        assert!(rt;
-            prints(rt.alloc(), ONE_BLOCK, statements, 100, &output),
-            "{statements}"
-        );
-        assert!(rt;
-            has_values(rt.alloc(), ONE_BLOCK, statements, values),
-            "{statements}"
-        );
-    }
-}
-
-#[test]
-fn counts(rt: HostRuntime) {
-    for (statements, count) in [
-        (DOUBLED, 9),
-        ("M(A)=MACRO\nCALL/M(B)\nENDMAC\nM(B)=MACRO\nENDMAC\n", 1),
-        (
-            "M(A)=MACRO/'P'\nRECALL/D(P)\nENDMAC\nD(D1)=ROTATE/ZAXIS,0\nCALL/M(A),'d1'\n",
-            3,
-        ),
-        (
-            "DECL/INTGR,R\nM(A)=MACRO/X\nX=ASSIGN/1\nENDMAC\nCALL/M(A),(R)\n",
-            2,
-        ),
-    ] {
-        assert_eq!(rt;
-            count_of(rt.alloc(), statements),
-            Some(count),
-            "{statements}"
-        );
-    }
-}
-
-// Statements with macros that are refused, with this code at this line.
-const REFUSED: [(&str, FaultCode, u32); 19] = [
-    ("CALL/M(A)\nM(A)=MACRO\nENDMAC\n", FaultCode::UnknownName, 3),
-    (
-        "M(A)=MACRO\nCALL/M(B)\nENDMAC\nM(B)=MACRO\nENDMAC\nCALL/M(A)\n",
-        FaultCode::UnknownName,
-        4,
-    ),
-    (
-        "M(A)=MACRO\nCALL/M(A)\nENDMAC\nCALL/M(A)\n",
-        FaultCode::UnknownName,
-        4,
-    ),
-    (
-        "M(A)=MACRO\nIF/(1.EQ.1)\nENDMAC\n",
-        FaultCode::Unbalanced,
-        5,
-    ),
-    ("M(A)=MACRO\nENDDO\nENDMAC\n", FaultCode::Unbalanced, 4),
-    (
-        "M(A)=MACRO\nENDMAC\nM(A)=MACRO\nENDMAC\n",
-        FaultCode::DuplicateName,
-        5,
-    ),
-    ("M(A)=MACRO/X,X\nENDMAC\n", FaultCode::DuplicateName, 3),
-    (
-        "M(A)=MACRO/X\nDECL/INTGR,X\nENDMAC\n",
-        FaultCode::DuplicateName,
-        4,
-    ),
-    (
-        "M(A)=MACRO\nM(B)=MACRO\nENDMAC\nENDMAC\n",
-        FaultCode::BadOrder,
-        4,
-    ),
-    ("ENDMAC\n", FaultCode::BadOrder, 3),
-    ("M(A)=MACRO\n", FaultCode::BadOrder, 4),
-    (
-        "M(A)=MACRO\nENDMAC\nCALL/M(A),1\n",
-        FaultCode::BadArguments,
-        5,
-    ),
-    (
-        "M(A)=MACRO/'P'\nENDMAC\nCALL/M(A),1+2\n",
-        FaultCode::BadArguments,
-        5,
-    ),
-    (
-        "DECL/INTGR,R\nM(A)=MACRO/X\nX=ASSIGN/1\nENDMAC\nCALL/M(A),R+0\n",
-        FaultCode::BadArguments,
-        7,
-    ),
-    (
-        "M(A)=MACRO\nT=ASSIGN/1\nENDMAC\nCALL/M(A)\n",
-        FaultCode::UnknownName,
-        4,
-    ),
-    (
-        "M(A)=MACRO\nDECL/INTGR,T\nENDMAC\nCALL/M(A)\nT=ASSIGN/1\n",
-        FaultCode::UnknownName,
-        7,
-    ),
-    (
-        "M(A)=MACRO\nJUMPTO/(L)\nENDMAC\n(L)\nCALL/M(A)\n",
-        FaultCode::UnknownName,
-        4,
-    ),
-    ("M(A)=MACRO/1X\nENDMAC\n", FaultCode::BadSyntax, 3),
-    (
-        "M(A)=MACRO\nENDMAC\nCALL/M(A),'a b'\n",
-        FaultCode::BadSyntax,
-        5,
-    ),
-];
-
-#[test]
-fn refused_macros(rt: HostRuntime) {
-    for (statements, code, line) in REFUSED {
-        assert!(rt;
-            is_refused(rt.alloc(), statements, SourceFault { code, line }),
-            "{statements}"
-        );
-    }
 }
 
 // Adds the macro behind one above it, with these calls of that one.
@@ -258,4 +121,26 @@ fn long_bodies(rt: HostRuntime) {
         line: 2001,
     };
     assert!(rt; are_too_many(rt.alloc(), 9_000, 9_000, fault) == Some(true));
+}
+
+// The statements of so many labels, and a jump to each of them.
+fn jumping(alloc: Global, labels: u32) -> Option<String> {
+    let mut text = String::new(alloc);
+    for label in 0..labels {
+        writeln!(text, "(L{label})").ok()?;
+    }
+    for label in 0..labels {
+        writeln!(text, "JUMPTO/(L{label})").ok()?;
+    }
+    Some(text)
+}
+
+// How many statements so many labels and jumps are.
+fn jumps(alloc: Global, labels: u32) -> Option<usize> {
+    count_of(alloc, &jumping(alloc, labels)?)
+}
+
+#[test]
+fn many_labels(rt: HostRuntime) {
+    assert_eq!(rt; jumps(rt.alloc(), 9_990), Some(19_981));
 }

@@ -1,52 +1,14 @@
-//! Runs of whole programs, from their text, for so many steps.
+//! Runs of whole programs: the values of variables, the limit of the output, and runs of images.
 
 use crate::image_tests::image_of;
-use crate::runs::{has_values, is_printed, is_refused, prints, shows};
+use crate::runs::{has_values, is_printed, shows};
 use std::alloc::Global;
 use vcm_fields::ImageFault;
-use vcm_lines::{FaultCode, SourceFault};
 use vcm_motion::Blocks;
 use vcm_part::read_part;
-use vcm_run::{End, Ran, Summary, run_image};
+use vcm_run::{Summary, run_image};
 use vcm_spec::{Stop, StopPlace};
 use vcm_test_texts::{BOUNDS, MOVE, ONE_BLOCK, changed, joined};
-
-// Whether a summary is that of these steps, this next number and one notice, and prints this.
-fn is_shown(alloc: Global, summary: &Summary, ran: Ran, next: u32, output: &str) -> bool {
-    summary.ran() == ran
-        && summary.next() == next
-        && summary.notices().len() == 1
-        && is_printed(alloc, summary, output)
-}
-
-// Whether the run of a move shows this after so many steps.
-fn moves(alloc: Global, n: u64, ran: Ran, next: u32, output: &str) -> bool {
-    shows(
-        alloc,
-        ONE_BLOCK,
-        "MODE/MAN\nGOTO/20,20,50\n",
-        n,
-        |summary| { is_shown(alloc, summary, ran, next, output) },
-    )
-}
-
-#[test]
-fn so_many_steps(rt: HostRuntime) {
-    let at_home = "no stop after 0 steps\nposition 0.000 0.000 100.000\nsteps 0\n";
-    let moved = "no stop after 1 steps\nposition 20.000 20.000 50.000\nsteps 1\n";
-    let ended = "stop ENDED\nposition 20.000 20.000 50.000\nsteps 2\n";
-    for (n, done, end, next, output) in [
-        (0, 0, End::Count, 0, at_home),
-        (1, 1, End::Count, 1, moved),
-        (2, 2, End::Stopped, 1, ended),
-        (5, 2, End::Stopped, 1, ended),
-    ] {
-        assert!(rt;
-            moves(rt.alloc(), n, Ran { done, end }, next, output),
-            "{output}"
-        );
-    }
-}
 
 #[test]
 fn values(rt: HostRuntime) {
@@ -93,49 +55,6 @@ const AGAIN: &str =
 const PAST: &str = "DECL/INTGR,I\nDO/I,1,5\nJUMPTO/(PAST)\nENDDO\n(PAST)\n";
 
 #[test]
-fn loops_and_jumps(rt: HostRuntime) {
-    let past = "stop ENDED\nposition 0.000 0.000 100.000\nsteps 4\n";
-    for (statements, n, output) in [
-        (
-            ROUNDS,
-            100,
-            "A\nA\nA\nstop ENDED\nposition 0.000 0.000 100.000\nsteps 8\n",
-        ),
-        (
-            ROUNDS,
-            3,
-            "A\nno stop after 3 steps\nposition 0.000 0.000 100.000\nsteps 3\n",
-        ),
-        (
-            NO_ROUND,
-            100,
-            "stop ENDED\nposition 0.000 0.000 100.000\nsteps 2\n",
-        ),
-        (
-            NO_STEP,
-            100,
-            "stop ZEROSTEP at 0 line 4\nposition 0.000 0.000 100.000\nsteps 1\n",
-        ),
-        (
-            LAST_NUMBERS,
-            100,
-            "A\nA\nstop OVERFLOW at 2 line 6\nposition 0.000 0.000 100.000\nsteps 5\n",
-        ),
-        (
-            AGAIN,
-            100,
-            "X\nX\nX\nX\nX\nX\nstop ENDED\nposition 0.000 0.000 100.000\nsteps 37\n",
-        ),
-        (PAST, 100, past),
-    ] {
-        assert!(rt;
-            prints(rt.alloc(), ONE_BLOCK, statements, n, output),
-            "{output}"
-        );
-    }
-}
-
-#[test]
 fn values_behind_loops_and_jumps(rt: HostRuntime) {
     let rows: [(&str, &[i64]); 6] = [
         (ROUNDS, &[4]),
@@ -144,6 +63,30 @@ fn values_behind_loops_and_jumps(rt: HostRuntime) {
         (LAST_NUMBERS, &[9_223_372_036_854_775_807]),
         (AGAIN, &[3, 4, 1]),
         (PAST, &[1]),
+    ];
+    for (statements, values) in rows {
+        assert!(rt;
+            has_values(rt.alloc(), ONE_BLOCK, statements, values),
+            "{statements}"
+        );
+    }
+}
+
+#[test]
+fn words_of_features(rt: HostRuntime) {
+    let rows: [(&str, &[i64]); 3] = [
+        (
+            "DECL/REAL,X,Y\nF(P1)=FEAT/POINT,CART,20,-10,20.5,0,0,-1\nX=OBTAIN/F(P1),4\nY=OBTAIN/F(P1),8\n",
+            &[-10_000, -1_000],
+        ),
+        (
+            "DECL/REAL,X,Y\nF(P1)=FEAT/POINT,CART,20,20,20.5,0,0,1\nMEAS/POINT,F(P1),1\nPTMEAS/CART,20,20,20.5\nENDMES\nX=OBTAIN/FA(P1),5\nY=OBTAIN/F(P1),5\n",
+            &[20_000, 20_500],
+        ),
+        (
+            "DECL/REAL,X\nF(P1)=FEAT/POINT,CART,0,0,0,0,1,0.0\nX=OBTAIN/F(P1),7\n",
+            &[1_000],
+        ),
     ];
     for (statements, values) in rows {
         assert!(rt;
@@ -176,43 +119,6 @@ fn too_many_lines(rt: HostRuntime) {
             |summary| is_full(summary)
         )
     );
-}
-
-// Whether this is the number of the next statement, and whether the run has stopped.
-fn is_next(summary: &Summary, next: u32, is_stopped: bool) -> bool {
-    summary.next() == next && summary.world().stop().is_some() == is_stopped
-}
-
-// Whether a run goes on so after so many steps.
-fn goes_on(alloc: Global, statements: &str, n: u64, next: u32, is_stopped: bool) -> bool {
-    shows(alloc, ONE_BLOCK, statements, n, |summary| {
-        is_next(summary, next, is_stopped)
-    })
-}
-
-#[test]
-fn both_ways_of_a_choice(rt: HostRuntime) {
-    let chosen = "IF/(.TRUE.)\nTEXT/OPER,'A'\nELSE\nTEXT/OPER,'B'\nENDIF\n";
-    let other = "IF/(.FALSE.)\nTEXT/OPER,'A'\nELSE\nTEXT/OPER,'B'\nENDIF\n";
-    for (statements, n, next, is_stopped) in [
-        (chosen, 1, 1, false),
-        (chosen, 2, 2, false),
-        (chosen, 3, 5, false),
-        (chosen, 4, 5, true),
-        (other, 1, 3, false),
-        (other, 2, 4, false),
-        (other, 3, 5, false),
-        (other, 4, 5, true),
-    ] {
-        assert!(rt; goes_on(rt.alloc(), statements, n, next, is_stopped));
-    }
-}
-
-#[test]
-fn a_jump_into_a_loop(rt: HostRuntime) {
-    let statements = "DECL/INTGR,I\nJUMPTO/(IN)\nDO/I,1,2\n(IN)\nENDDO\n";
-    let code = FaultCode::JumpInward;
-    assert!(rt; is_refused(rt.alloc(), statements, SourceFault { code, line: 4 }));
 }
 
 // Whether the run of an image beside one block passes a test. No other function owns the summary of an image.

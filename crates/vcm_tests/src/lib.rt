@@ -11,5 +11,3 @@ mod input_tests;
 mod job_tests;
 #[cfg(test)]
 mod message_tests;
-#[cfg(test)]
-mod refusal_tests;

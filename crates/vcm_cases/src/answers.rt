@@ -1,0 +1,107 @@
+//! What vcm answers: what it prints, then its notices or its fault, then its exit status.
+
+use std::alloc::Global;
+use std::fmt::Write as _;
+use vcm_command::{Message, NoticeLine, check_message, part_file_message, run_message, status_of};
+use vcm_job::{asm, build, check, debug, list, part_from, run};
+use vcm_motion::Strips;
+use vcm_part::PartData;
+use vcm_run::{run_text, write_result};
+use vcm_tree::Noticed;
+
+// A fault, and its exit status.
+fn told(alloc: Global, message: Message<'_>) -> Option<String> {
+    format!(in alloc; "{message}\nstatus {}\n", status_of(message)).ok()
+}
+
+// What was printed, the lines that have no effect, and the exit status.
+fn printed(alloc: Global, out: &[u8], notices: &[Noticed], status: u8) -> Option<String> {
+    let mut text = String::from_str(alloc, std::str::from_utf8(out).ok()?).ok()?;
+    for notice in notices {
+        let line = notice.line;
+        let word = std::str::from_utf8(notice.word.word()).ok()?;
+        writeln!(text, "{}", NoticeLine { line, word }).ok()?;
+    }
+    writeln!(text, "status {status}").ok()?;
+    Some(text)
+}
+
+// Whether the run of a program prints this with the blocks in strips, too, however few they are.
+fn is_printed_by_strips(
+    alloc: Global,
+    part: &PartData,
+    program: &str,
+    steps: u64,
+    output: &[u8],
+) -> Option<bool> {
+    let strips = Strips::build(alloc, part).ok()?;
+    let mut out = Vec::new(alloc);
+    let summary = run_text(alloc, &strips, program.as_bytes(), steps).ok()?;
+    let is_written = write_result(summary.world(), &summary.ran(), &mut out).is_ok();
+    Some(is_written && out.as_slice() == output)
+}
+
+// What the run of a program beside a workpiece answers; none where it is another answer with the blocks in strips.
+fn run_beside(alloc: Global, part: &PartData, program: &str, steps: u64) -> Option<String> {
+    let mut input = program.as_bytes();
+    let mut out = Vec::new(alloc);
+    match run(alloc, part, &mut input, steps, &mut out) {
+        Ok(done) => if is_printed_by_strips(alloc, part, program, steps, &out)? {
+            printed(alloc, &out, done.notices.as_slice(), done.status)
+        } else {
+            None
+        },
+        Err(fault) => told(alloc, run_message(fault, "the program")),
+    }
+}
+
+/// What the run of a program beside the workpiece of a part file answers, after so many steps at most.
+pub(crate) fn run_answer(alloc: Global, part: &str, program: &str, steps: u64) -> Option<String> {
+    let mut file = part.as_bytes();
+    match part_from(alloc, &mut file) {
+        Ok(part) => run_beside(alloc, &part, program, steps),
+        Err(fault) => told(alloc, part_file_message(fault, "the part")),
+    }
+}
+
+/// What a check of a program answers.
+pub(crate) fn check_answer(alloc: Global, program: &str) -> Option<String> {
+    let mut input = program.as_bytes();
+    let mut out = Vec::new(alloc);
+    match check(alloc, &mut input, &mut out) {
+        Ok(notices) => printed(alloc, &out, notices.as_slice(), 0),
+        Err(fault) => told(alloc, check_message(fault, "the program")),
+    }
+}
+
+/// The replies of the debugger to these commands on a program beside the workpiece of a part file.
+pub(crate) fn replies(alloc: Global, part: &str, program: &str, commands: &str) -> Option<String> {
+    let mut file = part.as_bytes();
+    let part = part_from(alloc, &mut file).ok()?;
+    let mut input = program.as_bytes();
+    let mut lines = commands.as_bytes();
+    let mut out = Vec::new(alloc);
+    let notices = debug(alloc, &part, &mut input, &mut lines, &mut out).ok()?;
+    printed(alloc, &out, notices.as_slice(), 0)
+}
+
+// Whether the image of a listing is that of a program.
+fn is_assembled(alloc: Global, listing: &[u8], program: &str) -> Option<bool> {
+    let mut listing = listing;
+    let mut input = program.as_bytes();
+    let image = asm(alloc, &mut listing).ok()?;
+    let built = build(alloc, &mut input).ok()?;
+    Some(image.as_slice() == built.image.as_slice())
+}
+
+/// The listing of a program, where its image is that of the program.
+pub(crate) fn listing(alloc: Global, program: &str) -> Option<String> {
+    let mut input = program.as_bytes();
+    let mut out = Vec::new(alloc);
+    let notices = list(alloc, &mut input, &mut out).ok()?;
+    if is_assembled(alloc, &out, program)? {
+        printed(alloc, &out, notices.as_slice(), 0)
+    } else {
+        None
+    }
+}

@@ -1,0 +1,30 @@
+//! Worked examples: reads workpieces, programs and commands from standard input, with what vcm answers to each, and tells where it answers
+//! something else. `docs/CASES.md` has the form of the text.
+#![tactic(auto)]
+
+mod answers;
+mod script;
+
+use crate::script::Script;
+use std::process::ExitCode;
+
+fn main(rt: HostRuntime) -> ExitCode {
+    let mut script = Script::new(rt.alloc());
+    for line in rt.lines(rt.alloc()) {
+        let is_read = match line {
+            Ok(line) => script.take(rt.alloc(), line.as_str()).is_some(),
+            Err(_) => false,
+        };
+        if !is_read {
+            return ExitCode::FAILURE;
+        }
+    }
+    if script.end(rt.alloc()).is_none() {
+        return ExitCode::FAILURE;
+    }
+    let (wrong, right) = (script.wrong(), script.right());
+    match print!(rt; "{wrong}{right} answers as they are wanted\n") {
+        Ok(()) => ExitCode::SUCCESS,
+        Err(_) => ExitCode::FAILURE,
+    }
+}

@@ -1,0 +1,190 @@
+//! The text of worked examples, line by line.
+
+use crate::answers::{check_answer, listing, replies, run_answer};
+use std::alloc::Global;
+use std::fmt::Write as _;
+use vcm_test_texts::program_of;
+
+// What a line begins with that names what stands below it.
+const MARK: &str = "=== ";
+
+/// What stands below a heading.
+#[derive(Clone, Copy, PartialEq, Eq)]
+enum Heading {
+    /// Remarks, and nothing to be judged.
+    Remarks,
+    /// A part file, for all that follows.
+    Part,
+    /// A program, for all that follows.
+    Program,
+    /// The statements of a program between its head and its end, for all that follows.
+    Statements,
+    /// Commands of the debugger, for all that follows.
+    Commands,
+    /// What a run answers after so many steps at most.
+    Run(u64),
+    /// What a check answers.
+    Check,
+    /// What the debugger answers.
+    Replies,
+    /// The listing.
+    Listing,
+    /// Statements, a line each, whose programs are refused with the code and name that the heading has.
+    Refused,
+    /// None of these.
+    Unknown,
+}
+
+/// The text as far as it is read: what is set, what stands below the last heading, and how the answers were.
+#[derive(Drop)]
+pub(crate) struct Script {
+    part: String,
+    program: String,
+    commands: String,
+    title: String,
+    body: String,
+    wrong: String,
+    right: u32,
+}
+
+// What a heading says.
+fn heading_of(title: &str) -> Heading {
+    match title.split_once(' ') {
+        Some(("run", steps)) => match steps.parse::<u64>() {
+            Ok(steps) => Heading::Run(steps),
+            Err(_) => Heading::Unknown,
+        },
+        Some(("refused", _)) => Heading::Refused,
+        Some(("#", _)) => Heading::Remarks,
+        Some(_) => Heading::Unknown,
+        None => heading_word(title),
+    }
+}
+
+// What a heading of one word says.
+fn heading_word(title: &str) -> Heading {
+    match title {
+        "" => Heading::Remarks,
+        "part" => Heading::Part,
+        "program" => Heading::Program,
+        "statements" => Heading::Statements,
+        "commands" => Heading::Commands,
+        "check" => Heading::Check,
+        "replies" => Heading::Replies,
+        "listing" => Heading::Listing,
+        _ => Heading::Unknown,
+    }
+}
+
+// What a question that stands below a heading answers; none where that isn't a question, or memory runs out.
+fn answer(alloc: Global, script: &Script) -> Option<String> {
+    match heading_of(&script.title) {
+        Heading::Run(steps) => run_answer(alloc, &script.part, &script.program, steps),
+        Heading::Check => check_answer(alloc, &script.program),
+        Heading::Replies => replies(alloc, &script.part, &script.program, &script.commands),
+        Heading::Listing => listing(alloc, &script.program),
+        _ => None,
+    }
+}
+
+// The answer to a statement that is refused as a heading says.
+fn refusal(alloc: Global, title: &str) -> Option<String> {
+    match title.split_once(' ') {
+        Some((_, words)) => format!(in alloc; "{words} line 3\nstatus 1\n").ok(),
+        None => None,
+    }
+}
+
+impl Script {
+    /// No text yet.
+    pub(crate) fn new(alloc: Global) -> Script {
+        Script {
+            part: String::new(alloc),
+            program: String::new(alloc),
+            commands: String::new(alloc),
+            title: String::new(alloc),
+            body: String::new(alloc),
+            wrong: String::new(alloc),
+            right: 0,
+        }
+    }
+
+    /// Reads one more line; none where memory runs out.
+    pub(crate) fn take(&mut self, alloc: Global, line: &str) -> Option<()> {
+        if let Some(title) = line.strip_prefix(MARK) {
+            self.end(alloc)?;
+            self.title = String::from_str(alloc, title).ok()?;
+            return Some(());
+        }
+        if heading_of(&self.title) == Heading::Refused {
+            return self.judge_refusal(alloc, line);
+        }
+        self.body.push_str(line).ok()?;
+        self.body.push_str("\n").ok()
+    }
+
+    /// Ends what stands below a heading: it is set, or judged.
+    pub(crate) fn end(&mut self, alloc: Global) -> Option<()> {
+        let body = std::mem::replace(&mut self.body, String::new(alloc));
+        match heading_of(&self.title) {
+            Heading::Remarks | Heading::Refused => Some(()),
+            Heading::Part => {
+                self.part = body;
+                Some(())
+            }
+            Heading::Program => {
+                self.program = body;
+                Some(())
+            }
+            Heading::Statements => {
+                self.program = program_of(alloc, &body)?;
+                Some(())
+            }
+            Heading::Commands => {
+                self.commands = body;
+                Some(())
+            }
+            _ => {
+                let found = answer(alloc, self);
+                self.judge(&body, found)
+            }
+        }
+    }
+
+    // Judges a statement that is to be refused as the heading says.
+    fn judge_refusal(&mut self, alloc: Global, line: &str) -> Option<()> {
+        let statement = format!(in alloc; "{line}\n").ok()?;
+        let wanted = refusal(alloc, &self.title)?;
+        let program = program_of(alloc, &statement)?;
+        let found = check_answer(alloc, &program);
+        self.judge(&wanted, found)
+    }
+
+    // Counts an answer that is as it is wanted, and writes down another one.
+    fn judge(&mut self, wanted: &str, found: Option<String>) -> Option<()> {
+        match found {
+            Some(found) if found.as_str() == wanted => {
+                self.right = self.right.saturating_add(1);
+                Some(())
+            }
+            Some(found) => self.tell(wanted, &found),
+            None => self.tell(wanted, "nothing\n"),
+        }
+    }
+
+    // Writes down an answer that is not as it is wanted.
+    fn tell(&mut self, wanted: &str, found: &str) -> Option<()> {
+        writeln!(self.wrong, "{MARK}{}", self.title).ok()?;
+        writeln!(self.wrong, "wanted\n{wanted}found\n{found}").ok()
+    }
+
+    /// The answers that were not as they are wanted, one after another.
+    pub(crate) fn wrong(&self) -> &str {
+        &self.wrong
+    }
+
+    /// How many answers were as they are wanted.
+    pub(crate) fn right(&self) -> u32 {
+        self.right
+    }
+}
