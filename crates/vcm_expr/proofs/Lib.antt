@@ -3,6 +3,7 @@ pub mod PostfixKinds
 pub mod Truths
 pub mod NameLemmas
 pub mod TypedKinds
+pub mod TypedItems
 pub mod NumberReading
 pub mod ParserRanks
 pub mod Fronts

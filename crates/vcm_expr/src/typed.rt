@@ -1,44 +1,42 @@
 //! Typed expressions.
 
 ghost use Rattle.std.specs.Prelude.{◌≡◌, ◌≤◌};
-ghost use Rattle.vcm_spec.specs.Expression.{Value, depth, nodes};
-ghost use Rattle.vcm_expr.specs.inner.Trees.{tree_of};
+ghost use Rattle.vcm_spec.specs.Expression.{Tree, Value, depth, nodes, spelling};
+ghost use Rattle.vcm_expr.specs.inner.Trees.{tree_of, items_of};
 
 use std::marker::Model;
-use vcm_spec::{BinaryOp, Operand, UnaryOp};
+use vcm_spec::{Item, Operand};
 
-/// What a typed expression is made of.
-#[derive(Debug, Drop)]
-pub enum TypedNode {
+/// How a typed expression is kept. One without an operator takes no memory.
+#[derive(Drop)]
+pub enum Kept {
     /// A number, a truth value or a variable.
     Leaf(Operand),
-    /// An operator on one value.
-    Unary(UnaryOp, Box<TypedNode>),
-    /// An operator on two values, the left one first.
-    Binary(BinaryOp, Box<(TypedNode, TypedNode)>),
+    /// Operands and operators in postfix order.
+    Postfix(Vec<Item>),
 }
 
 /// An expression whose kinds are known and whose scalings are written out, at most 32 deep and of at most 512 nodes, scalings left out.
 /// Contracts see it as a `Tree`.
-#[derive(Debug, Drop)]
+#[derive(Drop)]
 pub struct Typed {
-    node: TypedNode,
+    kept: Kept,
 }
 
 impl Model for Typed {
-    ghost use Rattle.std.specs.Prelude.{◌≤◌};
-    ghost use Rattle.vcm_spec.specs.Expression.{Tree, depth, nodes};
+    ghost use Rattle.std.specs.Prelude.{◌≡◌, ◌≤◌};
+    ghost use Rattle.vcm_spec.specs.Expression.{Tree, depth, nodes, spelling};
     ghost use Rattle.vcm_expr.specs.inner.Codes.{tree_coded};
 
     ghost Value = { Tree };
 
     ghost coded = { tree_coded };
 
-    ghost use Rattle.vcm_expr.specs.inner.Trees.{tree_of};
+    ghost use Rattle.vcm_expr.specs.inner.Trees.{tree_of, items_of};
 
-    ghost view = { λ t. tree_of t.node };
+    ghost view = { λ t. tree_of t.kept };
 
-    ghost invariant = { λ t. (depth (tree_of t.node) ≤ 32) × (nodes (tree_of t.node) ≤ 512) };
+    ghost invariant = { λ t. (items_of t.kept ≡ spelling (tree_of t.kept)) × (depth (tree_of t.kept) ≤ 32) × (nodes (tree_of t.kept) ≤ 512) };
 }
 
 impl Typed {
@@ -47,24 +45,26 @@ impl Typed {
         ensures { result ≡ Value x }
     {
         Typed {
-            node: TypedNode::Leaf(x),
+            kept: Kept::Leaf(x),
         }
     }
 
-    /// The expression that a node is.
-    pub(crate) fn new(node: TypedNode) -> Typed
-        requires { (depth (tree_of node) ≤ 32) × (nodes (tree_of node) ≤ 512) }
-        ensures { result ≡ tree_of node }
+    /// The expression that postfix items spell.
+    pub(crate) fn new(items: Vec<Item>) -> Typed
+        requires { (t : Tree) × (items.items ≡ spelling t) × (depth t ≤ 32) × (nodes t ≤ 512) }
+        ensures { items.items ≡ spelling result }
     {
-        Typed { node }
+        Typed {
+            kept: Kept::Postfix(items),
+        }
     }
 
-    /// What the expression is made of.
-    pub(crate) fn node(&self) -> &TypedNode
-        ensures is { tree_of result.now ≡ self.now }
+    /// How the expression is kept.
+    pub(crate) fn kept(&self) -> &Kept
+        ensures items { items_of result.now ≡ spelling self.now }
         ensures shallow { depth self.now ≤ 32 }
-        ensures small { nodes self.now ≤ 512 }
+        ensures few { nodes self.now ≤ 512 }
     {
-        &self.node
+        &self.kept
     }
 }

@@ -1,23 +1,24 @@
 //! From expressions as they are written to typed ones.
 
-ghost use Rattle.std.specs.Prelude.{◌≡◌, ◌≤◌, ◌∷◌, Some, None, Ok, Err, true, false, IfOk, IfErr, IfSome, IfNone, MatchOption};
+ghost use Rattle.std.specs.Prelude.{◌≡◌, ◌≤◌, List, ◌++◌, length, Some, Ok, Err, IfOk, OnOk, IfErr};
 ghost use Rattle.vcm_lines.specs.Fault.{NoMemoryOr, no_memory};
 ghost use Rattle.vcm_lines.specs.declared.fault.FaultCode.{FaultCode};
-ghost use Rattle.vcm_spec.specs.Expression.{One, Two, kind_of};
-ghost use Rattle.vcm_expr.specs.inner.Trees.{tree_of};
+ghost use Rattle.vcm_spec.specs.declared.expression.Item.{Item};
+ghost use Rattle.vcm_spec.specs.Expression.{Tree, Value, kind_of, spelling};
+ghost use Rattle.vcm_expr.specs.inner.Trees.{scaling, Spelled, Wanted};
 ghost use Rattle.vcm_spec.specs.Setup.{kinds_of};
 ghost use Rattle.vcm_expr.specs.Source.{source_of};
-ghost use Rattle.vcm_expr.specs.Typing.{kinded, leaf_of, named_by, prefixed_by, pair_by, is_scaled, scaled, scaled_kind, typed_of, typed_for, wanted_by, wanted_kind, and_then};
+ghost use Rattle.vcm_expr.specs.Typing.{kinded, leaf_of, prefixed_by, pair_by, is_scaled, scaled_kind, typed_of, typed_for, wanted_by, wanted_kind};
 
 use crate::expression::{Expr, ExprNode, Prefix, Term};
 use crate::name::Name;
 use crate::names::Names;
 use crate::operators::kind_of_binary;
-use crate::typed::{Typed, TypedNode};
+use crate::typed::Typed;
 use std::alloc::Global;
 use vcm_lines::{FaultCode, SourceFault};
 use vcm_num::{Kind, Literal};
-use vcm_spec::{BinaryOp, Operand, UnaryOp};
+use vcm_spec::{BinaryOp, Item, Operand, UnaryOp};
 
 /// What the place of an expression takes.
 #[derive(Clone, Copy, PartialEq, Eq)]
@@ -28,6 +29,19 @@ pub enum Want {
     Length,
     /// A truth value.
     Bool,
+}
+
+impl Want {
+    /// The kind that the place takes as it stands.
+    fn kind(self) -> Kind
+        ensures { result ≡ wanted_kind self }
+    {
+        match self {
+            Want::Int => Kind::Int,
+            Want::Length => Kind::Real,
+            Want::Bool => Kind::Bool,
+        }
+    }
 }
 
 /// The typed expression for a place. Scalings are written out where a whole number meets a number of thousandths or stands in a length's
@@ -48,69 +62,73 @@ pub fn type_expr(
     ensures kind { IfOk result (λ t. kind_of (kinds_of names.now) t ≡ Some (wanted_kind want)) }
     ensures fault { IfErr result (NoMemoryOr (λ f. (f.line ≡ line) × (typed_for names.now want e.now ≡ Err f.code))) }
 {
-    let node = demanded(alloc, e.node(), line, names, want)?;
-    Ok(Typed::new(node))
+    if let ExprNode::Leaf(term) = e.node() {
+        let (x, kind) = leaf(term, line, names)?;
+        if kind == want.kind() {
+            return Ok(Typed::leaf(x));
+        }
+    }
+    let mut items = Vec::new(alloc);
+    let kind = typed(&mut items, e.node(), line, names)?;
+    demand(&mut items, kind, line, want)?;
+    Ok(Typed::new(items))
 }
 
-/// The typed node for a place.
-fn demanded(
-    alloc: Global,
-    e: &ExprNode,
-    line: u32,
-    names: &Names,
-    want: Want,
-) -> Result<TypedNode, SourceFault>
-    ensures ok { IfOk result (λ t. typed_for names.now want (source_of e.now) ≡ Ok (tree_of t)) }
-    ensures fault { IfErr result (NoMemoryOr (λ f. (f.line ≡ line) × (typed_for names.now want (source_of e.now) ≡ Err f.code))) }
+/// Fits the only expression among the items, which is of this kind, to a place.
+fn demand(items: &mut Vec<Item>, k: Kind, line: u32, want: Want) -> Result<(), SourceFault>
+    ensures ok { OnOk result ((t : Tree) → items.old.items ≡ spelling t → Wanted (wanted_by want t k) items.new.items) }
+    ensures fault { IfErr result (NoMemoryOr (λ f. (f.line ≡ line) × ((t : Tree) → wanted_by want t k ≡ Err f.code))) }
 {
-    let (t, k) = typed(alloc, e, line, names)?;
     match (want, k) {
-        (Want::Int, Kind::Int) => Ok(t),
-        (Want::Length, Kind::Int) => unary(alloc, UnaryOp::Scale, t),
-        (Want::Length, Kind::Real) => Ok(t),
-        (Want::Bool, Kind::Bool) => Ok(t),
+        (Want::Int, Kind::Int) | (Want::Length, Kind::Real) | (Want::Bool, Kind::Bool) => Ok(()),
+        (Want::Length, Kind::Int) => {
+            items.push(Item::Apply(UnaryOp::Scale))?;
+            Ok(())
+        }
         _ => Err(bad_type(line)),
     }
 }
 
-/// The typed node of an expression, and its kind.
+/// Appends the items of an expression, and returns its kind.
 fn typed(
-    alloc: Global,
+    items: &mut Vec<Item>,
     e: &ExprNode,
     line: u32,
     names: &Names,
-) -> Result<(TypedNode, Kind), SourceFault>
-    ensures ok { IfOk result (λ p. typed_of names.now (source_of e.now) ≡ kinded (tree_of p.0) p.1) }
+) -> Result<Kind, SourceFault>
+    ensures ok { IfOk result (Spelled (typed_of names.now (source_of e.now)) items.old.items items.new.items) }
     ensures fault { IfErr result (NoMemoryOr (λ f. (f.line ≡ line) × (typed_of names.now (source_of e.now) ≡ Err f.code))) }
 {
     match e {
-        ExprNode::Leaf(term) => leaf(term, line, names),
+        ExprNode::Leaf(term) => {
+            let (x, kind) = leaf(term, line, names)?;
+            items.push(Item::Push(x))?;
+            Ok(kind)
+        }
         ExprNode::Prefixed(prefix, a) => {
-            let (t, k) = typed(alloc, a, line, names)?;
-            prefixed(alloc, *prefix, t, k, line)
+            let kind = typed(items, a, line, names)?;
+            prefixed(items, *prefix, kind, line)
         }
         ExprNode::Binary(op, operands) => {
-            let (t, k) = typed(alloc, &operands.0, line, names)?;
-            let (u, l) = typed(alloc, &operands.1, line, names)?;
-            pair(alloc, *op, t, k, u, l, line)
+            let k = typed(items, &operands.0, line, names)?;
+            let between = items.len();
+            let l = typed(items, &operands.1, line, names)?;
+            pair(items, between, *op, k, l, line)
         }
     }
 }
 
-/// A typed leaf, and its kind.
-fn leaf(term: &Term, line: u32, names: &Names) -> Result<(TypedNode, Kind), SourceFault>
-    ensures ok { IfOk result (λ p. leaf_of names.now term.now ≡ kinded (tree_of p.0) p.1) }
+/// A leaf, and its kind.
+fn leaf(term: &Term, line: u32, names: &Names) -> Result<(Operand, Kind), SourceFault>
+    ensures ok { IfOk result (λ p. leaf_of names.now term.now ≡ kinded (Value p.0) p.1) }
     ensures fault { IfErr result (λ f. (f.line ≡ line) × (leaf_of names.now term.now ≡ Err f.code)) }
 {
     match term {
-        Term::Number(Literal::Int(n)) => Ok((TypedNode::Leaf(Operand::Integer(*n)), Kind::Int)),
-        Term::Number(Literal::Thousandths(n)) => Ok((
-            TypedNode::Leaf(Operand::Thousandths(*n)),
-            Kind::Real,
-        )),
-        Term::Truth(b) => Ok((TypedNode::Leaf(Operand::Truth(*b)), Kind::Bool)),
+        Term::Number(Literal::Int(n)) => Ok((Operand::Integer(*n), Kind::Int)),
+        Term::Number(Literal::Thousandths(n)) => Ok((Operand::Thousandths(*n), Kind::Real)),
+        Term::Truth(b) => Ok((Operand::Truth(*b), Kind::Bool)),
         Term::Variable(name, expansion) => match names.find(*expansion, name) {
-            Some((index, kind)) => Ok((TypedNode::Leaf(Operand::Variable(index)), kind)),
+            Some((index, kind)) => Ok((Operand::Variable(index), kind)),
             None => Err(SourceFault {
                 code: FaultCode::UnknownName,
                 line,
@@ -119,49 +137,76 @@ fn leaf(term: &Term, line: u32, names: &Names) -> Result<(TypedNode, Kind), Sour
     }
 }
 
-/// An operand under a sign or a negation.
+/// Puts a sign or a negation behind its operand, which is of this kind, and returns the kind of both.
 fn prefixed(
-    alloc: Global,
+    items: &mut Vec<Item>,
     prefix: Prefix,
-    t: TypedNode,
     k: Kind,
     line: u32,
-) -> Result<(TypedNode, Kind), SourceFault>
-    ensures ok { IfOk result (λ p. prefixed_by prefix (tree_of t) k ≡ kinded (tree_of p.0) p.1) }
-    ensures fault { IfErr result (NoMemoryOr (λ f. (f.line ≡ line) × (prefixed_by prefix (tree_of t) k ≡ Err f.code))) }
+) -> Result<Kind, SourceFault>
+    ensures ok { IfOk result (λ j. (before : List Item) (t : Tree) → items.old.items ≡ before ++ spelling t → Spelled (prefixed_by prefix t k) before items.new.items j) }
+    ensures fault { IfErr result (NoMemoryOr (λ f. (f.line ≡ line) × ((t : Tree) → prefixed_by prefix t k ≡ Err f.code))) }
 {
     match (prefix, k) {
-        (Prefix::Minus, Kind::Int) | (Prefix::Minus, Kind::Real) => Ok((
-            unary(alloc, UnaryOp::Neg, t)?,
-            k,
-        )),
-        (Prefix::Plus, Kind::Int) | (Prefix::Plus, Kind::Real) => Ok((t, k)),
-        (Prefix::Not, Kind::Bool) => Ok((unary(alloc, UnaryOp::Not, t)?, k)),
+        (Prefix::Minus, Kind::Int) | (Prefix::Minus, Kind::Real) => {
+            items.push(Item::Apply(UnaryOp::Neg))?;
+            Ok(k)
+        }
+        (Prefix::Plus, Kind::Int) | (Prefix::Plus, Kind::Real) => Ok(k),
+        (Prefix::Not, Kind::Bool) => {
+            items.push(Item::Apply(UnaryOp::Not))?;
+            Ok(k)
+        }
         _ => Err(bad_type(line)),
     }
 }
 
-/// Two operands under an operator.
+/// Puts an operator behind its operands, which are of these kinds; the right one begins at the place `between`. Returns the kind of all.
 fn pair(
-    alloc: Global,
+    items: &mut Vec<Item>,
+    between: usize,
     op: BinaryOp,
-    t: TypedNode,
     k: Kind,
-    u: TypedNode,
     l: Kind,
     line: u32,
-) -> Result<(TypedNode, Kind), SourceFault>
-    ensures ok { IfOk result (λ p. pair_by op (tree_of t) k (tree_of u) l ≡ kinded (tree_of p.0) p.1) }
-    ensures fault { IfErr result (NoMemoryOr (λ f. (f.line ≡ line) × (pair_by op (tree_of t) k (tree_of u) l ≡ Err f.code))) }
+) -> Result<Kind, SourceFault>
+    requires { between ≤ length items.old.items }
+    ensures ok { IfOk result (λ j. (before : List Item) (t u : Tree) → items.old.items ≡ before ++ (spelling t ++ spelling u) → length (before ++ spelling t) ≡ between
+        → Spelled (pair_by op t k u l) before items.new.items j) }
+    ensures fault { IfErr result (NoMemoryOr (λ f. (f.line ≡ line) × ((t u : Tree) → pair_by op t k u l ≡ Err f.code))) }
 {
     let left = is_scaled(op, k, l);
     let right = is_scaled(op, l, k);
     let Some(kind) = kind_of_binary(op, scaled_kind(left, k), scaled_kind(right, l)) else {
         return Err(bad_type(line));
     };
-    let t = scale_if(alloc, left, t)?;
-    let u = scale_if(alloc, right, u)?;
-    Ok((binary(alloc, op, t, u)?, kind))
+    scale_last(items, right)?;
+    scale_at(items, between, left)?;
+    items.push(Item::Combine(op))?;
+    Ok(kind)
+}
+
+/// Puts a scaling behind the last expression, where there has to be one.
+fn scale_last(items: &mut Vec<Item>, is_scaled: bool) -> Result<(), SourceFault>
+    ensures ok { OnOk result (items.new.items ≡ items.old.items ++ scaling is_scaled) }
+    ensures fault { IfErr result (λ f. f ≡ no_memory) }
+{
+    if is_scaled {
+        items.push(Item::Apply(UnaryOp::Scale))?;
+    }
+    Ok(())
+}
+
+/// Puts a scaling at a place, where there has to be one.
+fn scale_at(items: &mut Vec<Item>, at: usize, is_scaled: bool) -> Result<(), SourceFault>
+    requires { at ≤ length items.old.items }
+    ensures ok { OnOk result ((before after : List Item) → items.old.items ≡ before ++ after → length before ≡ at → items.new.items ≡ before ++ (scaling is_scaled ++ after)) }
+    ensures fault { IfErr result (λ f. f ≡ no_memory) }
+{
+    if is_scaled {
+        items.insert(at, Item::Apply(UnaryOp::Scale))?;
+    }
+    Ok(())
 }
 
 /// Whether an operand of the first kind is scaled beside one of the second.
@@ -179,34 +224,6 @@ fn scaled_kind(is_scaled: bool, k: Kind) -> Kind
     ensures { result ≡ scaled_kind is_scaled k }
 {
     if is_scaled { Kind::Real } else { k }
-}
-
-/// An operand, scaled where it has to be.
-fn scale_if(alloc: Global, scale: bool, t: TypedNode) -> Result<TypedNode, SourceFault>
-    ensures ok { IfOk result (λ r. tree_of r ≡ scaled scale (tree_of t)) }
-    ensures fault { IfErr result (λ f. f ≡ no_memory) }
-{
-    if scale {
-        unary(alloc, UnaryOp::Scale, t)
-    } else {
-        Ok(t)
-    }
-}
-
-/// An operator on one value.
-fn unary(alloc: Global, op: UnaryOp, t: TypedNode) -> Result<TypedNode, SourceFault>
-    ensures ok { IfOk result (λ r. tree_of r ≡ One op (tree_of t)) }
-    ensures fault { IfErr result (λ f. f ≡ no_memory) }
-{
-    Ok(TypedNode::Unary(op, Box::new(alloc, t)?))
-}
-
-/// An operator on two values.
-fn binary(alloc: Global, op: BinaryOp, t: TypedNode, u: TypedNode) -> Result<TypedNode, SourceFault>
-    ensures ok { IfOk result (λ r. tree_of r ≡ Two op (tree_of t) (tree_of u)) }
-    ensures fault { IfErr result (λ f. f ≡ no_memory) }
-{
-    Ok(TypedNode::Binary(op, Box::new(alloc, (t, u))?))
 }
 
 /// The refusal of an operator or a place that doesn't take a value of this kind.

@@ -5,11 +5,11 @@ ghost use Rattle.vcm_num.specs.declared.number.Kind.{Kind};
 ghost use Rattle.vcm_spec.specs.Expression.{kind_of};
 ghost use Rattle.vcm_spec.specs.Value.{value_of};
 ghost use Rattle.vcm_expr.specs.Typed.{VariablesBelow};
-ghost use Rattle.vcm_expr.specs.inner.Trees.{tree_of};
 ghost use Rattle.vcm_expr.specs.Slots.{IsTruth, SlotsFit};
 
 use crate::operators;
-use crate::typed::{Typed, TypedNode};
+use crate::postfix::carried_out;
+use crate::typed::{Kept, Typed};
 use vcm_num::Fault;
 
 /// The value of a typed expression, where the variables have the values of `slots`: a number of thousandths for a `Real`, 0 or 1 for a
@@ -24,21 +24,8 @@ pub fn eval(e: &Typed, slots: &[i64]) -> Result<i64, Fault>
     ensures truth { IfOk result (λ v. (kinds : List Kind) → SlotsFit kinds slots.now
         → kind_of kinds e.now ≡ Some Kind.Bool → IsTruth v) }
 {
-    value(e.node(), slots)
-}
-
-/// The value of a node.
-fn value(e: &TypedNode, slots: &[i64]) -> Result<i64, Fault>
-    requires { VariablesBelow (length slots.now) (tree_of e.now) }
-    ensures { result ≡ value_of slots.now (tree_of e.now) }
-{
-    match e {
-        TypedNode::Leaf(x) => Ok(operators::operand(*x, slots)),
-        TypedNode::Unary(op, a) => operators::unary(*op, value(a, slots)?),
-        TypedNode::Binary(op, operands) => {
-            let x = value(&operands.0, slots)?;
-            let y = value(&operands.1, slots)?;
-            operators::binary(*op, x, y)
-        }
+    match e.kept() {
+        Kept::Leaf(x) => Ok(operators::operand(*x, slots)),
+        Kept::Postfix(items) => carried_out(*items.allocator(), items, slots),
     }
 }

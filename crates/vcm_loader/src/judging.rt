@@ -61,7 +61,7 @@ fn has_kind(alloc: Global, items: &ItemSlice<'_>, kinds: &[Kind], want: Kind) ->
     }
 }
 
-// An expression of a kind: its indexes, then its types.
+// An expression of a kind: its indexes, then its types. One that has the kind has its variables, so the indexes are looked at only where it hasn't.
 fn judge_items(
     alloc: Global,
     items: &ItemSlice<'_>,
@@ -71,13 +71,13 @@ fn judge_items(
     ensures ok { OnOk result (AllHold (wants kinds.now items.now want)) }
     ensures err { IfErr result (λ e. FirstFault (wants kinds.now items.now want) e) }
 {
-    if !items_below(items, kinds.len()) {
-        return Err(ImageFault::BadIndex);
+    if has_kind(alloc, items, kinds, want) {
+        return Ok(());
     }
-    if !has_kind(alloc, items, kinds, want) {
+    if items_below(items, kinds.len()) {
         return Err(ImageFault::BadOperand);
     }
-    Ok(())
+    Err(ImageFault::BadIndex)
 }
 
 // Three expressions of one kind.
