@@ -72,7 +72,7 @@ pub struct Halted {
 }
 
 /// Why the debugger no longer serves.
-#[derive(Clone, Copy, Debug, PartialEq, Eq)]
+#[derive(Clone, Copy, PartialEq, Eq)]
 pub enum ServeFault {
     /// The reader failed.
     Read,

@@ -1,9 +1,7 @@
 -- The items of typed expressions.
-use Rattle.std.proofs.Common.{◌≡◌, ℕ, ◌+◌, ◌≤◌, Bool, true, false, List, [], ◌∷◌, ◌++◌, length, Option, Some, Result, Ok, Err, refl, sym, ap, ◌∙◌, subst, arith, append_assoc}
+use Rattle.std.proofs.Common.{◌≡◌, ℕ, ◌+◌, ◌≤◌, Bool, true, false, List, [], ◌∷◌, ◌++◌, length, Option, Some, Ok, refl, sym, ap, ◌∙◌, subst, arith, append_assoc}
 use Rattle.std.proofs.lemmas.List.{append-nil}
 use Rattle.vcm_num.specs.declared.number.Kind.{Kind}
-use Rattle.vcm_num.specs.declared.number.Kind.TheVariants.{Int, Real, Bool as Truth}
-use Rattle.vcm_lines.specs.declared.fault.FaultCode.{FaultCode}
 use Rattle.vcm_spec.specs.declared.expression.Operand.{Operand}
 use Rattle.vcm_spec.specs.declared.expression.Item.{Item}
 use Rattle.vcm_spec.specs.declared.expression.Item.TheVariants.{Push, Combine}
@@ -12,16 +10,15 @@ use Rattle.vcm_spec.specs.Expression.{Tree, Value, Two, binary_kind, kind_of, de
 use Rattle.vcm_spec.proofs.Postfix.{trees_of-spelling, one_tree}
 use Rattle.vcm_spec.specs.Setup.{Variable, kinds_of}
 use Rattle.vcm_expr.specs.declared.typing.Want.{Want}
-use Rattle.vcm_expr.specs.declared.typing.Want.TheVariants.{Int as WantInt, Length, Bool as WantBool}
-use Rattle.vcm_expr.specs.Source.{Source, Pair, depth_of, nodes_of}
+use Rattle.vcm_expr.specs.Source.{Source, depth_of, nodes_of}
 use Rattle.vcm_expr.specs.Typed.{VariableBelow, VariablesBelow}
-use Rattle.vcm_expr.specs.Typing.{Kinded, kinded, is_scaled, scaled, scaled_kind, typed_as, pair_by, and_then, typed_of, wanted_by, wanted_kind, typed_for}
+use Rattle.vcm_expr.specs.Typing.{kinded, is_scaled, scaled, scaled_kind, typed_as, pair_by, and_then, typed_of, wanted_by, wanted_kind, typed_for}
 use Rattle.vcm_expr.specs.inner.Runs.{ItemsFit}
 use Rattle.vcm_expr.specs.inner.Trees.{topmost, scaling, Spelled, Wanted}
 use Rattle.vcm_expr.proofs.Runs.{ItemsFit-spelling}
 use Rattle.vcm_expr.proofs.PostfixKinds.{need-le-depth, spelling-HasKind}
 use Rattle.vcm_expr.proofs.Truths.{spelling-short}
-use Rattle.vcm_expr.proofs.TypedKinds.{Fine, typed_for_fine}
+use Rattle.vcm_expr.proofs.TypedKinds.{typed_for_fine}
 
 -- what is kept is the tree that the items spell
 kept_is : (items : List Item) (t : Tree) → items ≡ spelling t → topmost (trees items []) ≡ t
@@ -82,17 +79,17 @@ pub pair_spelled : (op : BinaryOp) (k l j : Kind) (a b : Bool) (old one two new 
     → Spelled (pair_by op t k u l) before new j
 pair_spelled op k l j a b old one two new between ea eb kk ll o left right kind some end second third before t u is at =
     let typed : binary_kind op (scaled_kind a k) (scaled_kind b l) ≡ Some j =
-      ap (λ i. binary_kind op i (scaled_kind b l)) (sym left) ∙ ap (binary_kind op kk) (sym right) ∙ sym kind ∙ some in
+    ap (λ i. binary_kind op i (scaled_kind b l)) (sym left) ∙ ap (binary_kind op kk) (sym right) ∙ sym kind ∙ some in
     let cut : one ≡ (before ++ spelling t) ++ (spelling u ++ scaling b) =
-      end ∙ ap (λ is. is ++ scaling b) (is ∙ sym (append_assoc before (spelling t) (spelling u))) ∙ append_assoc (before ++ spelling t) (spelling u) (scaling b) in
+    end ∙ ap (λ is. is ++ scaling b) (is ∙ sym (append_assoc before (spelling t) (spelling u))) ∙ append_assoc (before ++ spelling t) (spelling u) (scaling b) in
     let all : new ≡ before ++ spelling (Two op (scaled a t) (scaled b u)) =
-      third ∙ ap (λ is. is ++ Combine op ∷ []) (second (before ++ spelling t) (spelling u ++ scaling b) cut at) ∙ pair-spelling op a b before t u in
+    third ∙ ap (λ is. is ++ Combine op ∷ []) (second (before ++ spelling t) (spelling u ++ scaling b) cut at) ∙ pair-spelling op a b before t u in
     let made : typed_as (binary_kind op (scaled_kind a k) (scaled_kind b l)) (Two op (scaled a t) (scaled b u)) ≡ kinded (Two op (scaled a t) (scaled b u)) j =
-      ap (λ o. typed_as o (Two op (scaled a t) (scaled b u))) typed in
+    ap (λ o. typed_as o (Two op (scaled a t) (scaled b u))) typed in
     record {
       tree = Two op (scaled a t) (scaled b u);
       is = subst (λ c. typed_as (binary_kind op (scaled_kind (is_scaled op k l) k) (scaled_kind c l)) (Two op (scaled (is_scaled op k l) t) (scaled c u)) ≡ kinded (Two op (scaled a t) (scaled b u)) j) eb
-        (subst (λ c. typed_as (binary_kind op (scaled_kind c k) (scaled_kind b l)) (Two op (scaled c t) (scaled b u)) ≡ kinded (Two op (scaled a t) (scaled b u)) j) ea made);
+          (subst (λ c. typed_as (binary_kind op (scaled_kind c k) (scaled_kind b l)) (Two op (scaled c t) (scaled b u)) ≡ kinded (Two op (scaled a t) (scaled b u)) j) ea made);
       items = all;
     }
 

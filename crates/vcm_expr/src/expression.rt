@@ -144,6 +144,13 @@ impl Expr {
         })
     }
 
+    /// How many nodes it has.
+    pub(crate) fn size(&self) -> usize
+        ensures { result ≡ nodes_of self.now }
+    {
+        self.nodes as usize
+    }
+
     /// What the expression is made of.
     pub fn node(&self) -> &ExprNode
         ensures is { source_of result.now ≡ self.now }

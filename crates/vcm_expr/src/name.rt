@@ -37,7 +37,7 @@ pub fn is_name(bytes: &[u8]) -> bool
 }
 
 /// A name, which takes no memory. Contracts see it as the list of its bytes.
-#[derive(Debug, Drop)]
+#[derive(Drop)]
 pub struct Name {
     bytes: [u8; LONGEST],
     len: u8,

@@ -68,7 +68,7 @@ pub fn type_expr(
             return Ok(Typed::leaf(x));
         }
     }
-    let mut items = Vec::new(alloc);
+    let mut items = Vec::with_capacity(alloc, e.size())?;
     let kind = typed(&mut items, e.node(), line, names)?;
     demand(&mut items, kind, line, want)?;
     Ok(Typed::new(items))
@@ -90,12 +90,7 @@ fn demand(items: &mut Vec<Item>, k: Kind, line: u32, want: Want) -> Result<(), S
 }
 
 /// Appends the items of an expression, and returns its kind.
-fn typed(
-    items: &mut Vec<Item>,
-    e: &ExprNode,
-    line: u32,
-    names: &Names,
-) -> Result<Kind, SourceFault>
+fn typed(items: &mut Vec<Item>, e: &ExprNode, line: u32, names: &Names) -> Result<Kind, SourceFault>
     ensures ok { IfOk result (Spelled (typed_of names.now (source_of e.now)) items.old.items items.new.items) }
     ensures fault { IfErr result (NoMemoryOr (λ f. (f.line ≡ line) × (typed_of names.now (source_of e.now) ≡ Err f.code))) }
 {
@@ -138,12 +133,7 @@ fn leaf(term: &Term, line: u32, names: &Names) -> Result<(Operand, Kind), Source
 }
 
 /// Puts a sign or a negation behind its operand, which is of this kind, and returns the kind of both.
-fn prefixed(
-    items: &mut Vec<Item>,
-    prefix: Prefix,
-    k: Kind,
-    line: u32,
-) -> Result<Kind, SourceFault>
+fn prefixed(items: &mut Vec<Item>, prefix: Prefix, k: Kind, line: u32) -> Result<Kind, SourceFault>
     ensures ok { IfOk result (λ j. (before : List Item) (t : Tree) → items.old.items ≡ before ++ spelling t → Spelled (prefixed_by prefix t k) before items.new.items j) }
     ensures fault { IfErr result (NoMemoryOr (λ f. (f.line ≡ line) × ((t : Tree) → prefixed_by prefix t k ≡ Err f.code))) }
 {

@@ -7,7 +7,7 @@ use crate::name::Name;
 use std::marker::Model;
 
 /// A variable's name: a name that begins with a letter. Contracts see it as the list of its bytes.
-#[derive(Debug, Drop)]
+#[derive(Drop)]
 pub struct VariableName {
     name: Name,
 }

@@ -7,7 +7,7 @@ use std::alloc::{AllocError, AllocFailed};
 use vcm_num::NoMemory;
 
 /// Why bytes are no image of a valid code.
-#[derive(Clone, Copy, Debug, PartialEq, Eq)]
+#[derive(Clone, Copy, PartialEq, Eq)]
 pub enum ImageFault {
     /// A growth of memory was refused: nothing is said of the bytes.
     NoMemory,

@@ -12,7 +12,7 @@ use vcm_num::{Axis, Point};
 use vcm_spec::Stop;
 
 /// Part coordinates: a turn, and the machine point of their origin, in micrometres.
-#[derive(Clone, Copy, Debug)]
+#[derive(Clone, Copy)]
 pub struct Frame {
     turn: Turn,
     origin: Point,

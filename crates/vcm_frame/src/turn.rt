@@ -10,7 +10,7 @@ use vcm_num::Axis;
 
 /// One of the 24 turns of the axes onto each other, none of them a mirror image. It is kept by its rows: the directions of the part that the
 /// machine's x, y and z take.
-#[derive(Clone, Copy, Debug)]
+#[derive(Clone, Copy)]
 pub struct Turn {
     first: Axis,
     second: Axis,

@@ -12,7 +12,7 @@ use std::io::Read;
 use vcm_run::{Built, Refusal, build_image};
 
 /// Why no image was built.
-#[derive(Clone, Copy, Debug, PartialEq, Eq)]
+#[derive(Clone, Copy, PartialEq, Eq)]
 pub enum BuildFault {
     /// The program is refused, or a growth of memory was refused behind acceptance.
     Refused(Refusal),

@@ -18,7 +18,7 @@ use vcm_num::{WriteFault, write_pieces};
 use vcm_tree::{Noticed, accept};
 
 /// Why a check told no number of statements.
-#[derive(Clone, Copy, Debug, PartialEq, Eq)]
+#[derive(Clone, Copy, PartialEq, Eq)]
 pub enum CheckFault {
     /// The text is refused, or a growth of memory was refused while it was judged.
     Refused(SourceFault),

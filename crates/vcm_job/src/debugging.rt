@@ -19,7 +19,7 @@ use vcm_run::{Built, Refusal, build_image};
 use vcm_tree::Noticed;
 
 /// Why a session didn't come to its end.
-#[derive(Clone, Copy, Debug, PartialEq, Eq)]
+#[derive(Clone, Copy, PartialEq, Eq)]
 pub enum DebugFault {
     /// The program is refused, or a growth of memory was refused behind acceptance.
     Refused(Refusal),

@@ -16,7 +16,7 @@ use vcm_part::PartData;
 use vcm_run::{Refusal, Summary, run_image, run_text, write_result};
 
 /// Why a run wrote no whole result.
-#[derive(Clone, Copy, Debug, PartialEq, Eq)]
+#[derive(Clone, Copy, PartialEq, Eq)]
 pub enum RunFault {
     /// The program is refused, or a growth of memory was refused between acceptance and the run.
     Refused(Refusal),

@@ -19,7 +19,7 @@ use vcm_run::{Built, Refusal, build_image};
 use vcm_tree::Noticed;
 
 /// Why no listing was written.
-#[derive(Clone, Copy, Debug, PartialEq, Eq)]
+#[derive(Clone, Copy, PartialEq, Eq)]
 pub enum PrintFault {
     /// The program is refused, or a growth of memory was refused behind acceptance.
     Refused(Refusal),
@@ -36,7 +36,7 @@ pub enum PrintFault {
 }
 
 /// Why a listing gave no image.
-#[derive(Clone, Copy, Debug, PartialEq, Eq)]
+#[derive(Clone, Copy, PartialEq, Eq)]
 pub enum AsmFault {
     /// The listing is refused, or a growth of memory was refused while it was read.
     Refused(ListFault),

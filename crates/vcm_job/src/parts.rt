@@ -11,7 +11,7 @@ use std::io::Read;
 use vcm_part::{PartData, PartFault, read_part};
 
 /// Why a part file gives no workpiece.
-#[derive(Clone, Copy, Debug, PartialEq, Eq)]
+#[derive(Clone, Copy, PartialEq, Eq)]
 pub enum PartFileFault {
     /// The file is refused.
     Refused(PartFault),

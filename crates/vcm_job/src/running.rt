@@ -22,14 +22,14 @@ const MAX_STEPS: u64 = 1_000_000;
 
 /// What a job that wrote its result tells: the exit status (0 where the program ended, 3 at another stop, 4 at the step limit), and the lines
 /// of the program that have no effect.
-#[derive(Debug, Drop)]
+#[derive(Drop)]
 pub struct Done {
     pub status: u8,
     pub notices: Vec<Noticed>,
 }
 
 /// Why a job wrote no whole result.
-#[derive(Clone, Copy, Debug, PartialEq, Eq)]
+#[derive(Clone, Copy, PartialEq, Eq)]
 pub enum JobFault {
     /// The part or the program is refused, or a growth of memory was refused between acceptance and the run.
     Refused(Refusal),

@@ -2,8 +2,6 @@
 #![tactic(auto)]
 
 #[cfg(test)]
-mod expr_tests;
-#[cfg(test)]
 mod lines_tests;
 #[cfg(test)]
 mod motion_tests;

@@ -8,7 +8,7 @@ use vcm_num::look_up;
 use vcm_spec::Relation;
 
 /// What a dotted word says.
-#[derive(Clone, Copy, Debug)]
+#[derive(Clone, Copy)]
 pub enum DottedWord {
     Compare(Relation),
     Not,

@@ -6,7 +6,7 @@ ghost use Rattle.vcm_lines.specs.Fault.{no_memory};
 use std::alloc::{AllocError, AllocFailed};
 
 /// What is wrong with a program's text, in the order of the codes E00 to E22.
-#[derive(Clone, Copy, Debug, PartialEq, Eq)]
+#[derive(Clone, Copy, PartialEq, Eq)]
 pub enum FaultCode {
     /// E00: a growth of memory was refused.
     NoMemory,
@@ -57,7 +57,7 @@ pub enum FaultCode {
 }
 
 /// A refusal of a text: what is wrong, and at which line, the first one being 1. Want of memory has line 0.
-#[derive(Clone, Copy, Debug, PartialEq, Eq)]
+#[derive(Clone, Copy, PartialEq, Eq)]
 pub struct SourceFault {
     /// What is wrong.
     pub code: FaultCode,

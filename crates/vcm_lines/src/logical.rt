@@ -5,7 +5,7 @@ ghost use Rattle.std.specs.Prelude.{◌≡◌};
 use std::marker::Model;
 
 /// What a word is made of.
-#[derive(Clone, Copy, Debug, PartialEq, Eq)]
+#[derive(Clone, Copy, PartialEq, Eq)]
 pub enum WordKind {
     /// Letters, digits and underscores; digits alone too.
     Run,
@@ -20,7 +20,7 @@ pub enum WordKind {
 }
 
 /// A word of a statement: its bytes are those of the statement's text from `start` to before `end`.
-#[derive(Clone, Copy, Debug, PartialEq, Eq)]
+#[derive(Clone, Copy, PartialEq, Eq)]
 pub struct Word {
     /// Where its first byte stands in the statement's text, from 0 on.
     pub start: u32,
@@ -33,7 +33,7 @@ pub struct Word {
 }
 
 /// The bytes of a statement: without blanks and comments, its letters in upper case but for those in texts.
-#[derive(Debug, Drop)]
+#[derive(Drop)]
 pub struct OwnedBytes {
     pub(crate) bytes: Vec<u8>,
 }
@@ -56,7 +56,7 @@ impl OwnedBytes {
 }
 
 /// The words of a statement, in order.
-#[derive(Debug, Drop)]
+#[derive(Drop)]
 pub struct Words {
     pub(crate) items: Vec<Word>,
 }
@@ -80,7 +80,7 @@ impl Words {
 }
 
 /// A statement before it is parsed.
-#[derive(Debug, Drop)]
+#[derive(Drop)]
 pub struct Logical {
     /// The line that it begins on, from 1 on.
     pub line: u32,
@@ -91,7 +91,7 @@ pub struct Logical {
 }
 
 /// The statements of a text, in order.
-#[derive(Debug, Drop)]
+#[derive(Drop)]
 pub struct LogicalLines {
     pub(crate) items: Vec<Logical>,
 }

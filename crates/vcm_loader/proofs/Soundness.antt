@@ -74,7 +74,7 @@ typed_below : (ks : List Kind) (items : List Item) (k : Kind) → HasKind ks ite
 typed_below ks items k h = fit_below (length ks) items 0 (ItemsFit-typed ks items k (length ks) h refl)
 
 -- so what an expression wants holds where it has its kind
-wants_hold : (ks : List Kind) (items : List Item) (k : Kind) → HasKind ks items k → AllHold (wants ks items k)
+pub wants_hold : (ks : List Kind) (items : List Item) (k : Kind) → HasKind ks items k → AllHold (wants ks items k)
 wants_hold ks items k h = (typed_below ks items k h, (h, tt))
 
 three_hold : (ks : List Kind) (x y z : List Item) (k : Kind) → HasKind ks x k → HasKind ks y k → HasKind ks z k → AllHold (three ks x y z k)

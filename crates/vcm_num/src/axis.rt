@@ -4,7 +4,7 @@ ghost use Rattle.std.specs.Prelude.{◌≡◌, ◌<◌};
 ghost use Rattle.vcm_num.specs.Axis.{axis_of, is_forward, opposite, unit};
 
 /// A direction along an axis.
-#[derive(Clone, Copy, PartialEq, Eq, Debug)]
+#[derive(Clone, Copy, PartialEq, Eq)]
 pub enum Axis {
     PlusX,
     MinusX,

@@ -7,7 +7,7 @@ ghost use Rattle.vcm_num.specs.Axis.{along};
 use crate::axis::Axis;
 
 /// A point: its x, y and z in micrometres.
-#[derive(Clone, Copy, PartialEq, Eq, Debug)]
+#[derive(Clone, Copy, PartialEq, Eq)]
 pub struct Point(pub [i64; 3]);
 
 impl Point {

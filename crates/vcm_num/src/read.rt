@@ -9,7 +9,7 @@ ghost use Rattle.std.specs.Char.{is_ascii_digit};
 use crate::number::Literal;
 
 /// Why a text is no literal.
-#[derive(Clone, Copy, PartialEq, Eq, Debug)]
+#[derive(Clone, Copy, PartialEq, Eq)]
 pub enum NumFault {
     BadNumber,
     TooFine,

@@ -9,7 +9,7 @@ use itoa::Buffer;
 use std::marker::Model;
 
 /// A number as text: at most 24 bytes, which take no memory.
-#[derive(Debug, Drop)]
+#[derive(Drop)]
 pub struct Text {
     bytes: [u8; 24],
     start: usize,

@@ -9,7 +9,7 @@ use std::marker::Model;
 use vcm_num::NoMemory;
 
 /// Lines of bytes, one after another in one buffer. Contracts see them as a list of lines.
-#[derive(Debug, Drop)]
+#[derive(Drop)]
 pub struct Lines {
     // The lines, each with its line feed.
     bytes: Vec<u8>,

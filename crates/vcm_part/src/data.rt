@@ -8,7 +8,7 @@ use vcm_spec::{Block3, Bounds};
 
 /// A valid workpiece on its machine, in micrometres of machine coordinates: at most 4,096 blocks, counted from 1, each coordinate of them and
 /// of the limits at most 1,000,000,000 from 0, no low corner above its high one, and home within the limits and in no block.
-#[derive(Debug, Drop)]
+#[derive(Drop)]
 pub struct PartData {
     bounds: Bounds,
     blocks: Vec<Block3>,

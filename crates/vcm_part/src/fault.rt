@@ -6,7 +6,7 @@ ghost use Rattle.vcm_part.specs.declared.fault.Halt.TheVariants.{Memory};
 use std::alloc::{AllocError, AllocFailed};
 
 /// The kind of a refusal.
-#[derive(Clone, Copy, Debug, PartialEq, Eq)]
+#[derive(Clone, Copy, PartialEq, Eq)]
 pub enum PartCode {
     /// A growth of memory was refused.
     NoMemory,
@@ -25,14 +25,14 @@ pub enum PartCode {
 }
 
 /// A refusal of a part file. `block` is the number of the block whose `low` or `high` is at fault, otherwise 0.
-#[derive(Clone, Copy, Debug, PartialEq, Eq)]
+#[derive(Clone, Copy, PartialEq, Eq)]
 pub struct PartFault {
     pub code: PartCode,
     pub block: u32,
 }
 
 /// What ends the reading.
-#[derive(Clone, Copy, Debug)]
+#[derive(Clone, Copy)]
 pub(crate) enum Halt {
     Memory,
     Fault(PartFault),

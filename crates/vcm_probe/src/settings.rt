@@ -10,7 +10,7 @@ use vcm_spec::Setting;
 
 /// How the probe moves at a touch: four lengths in micrometres. The approach and the retract length are from 1 to 1,000,000, the search length
 /// and the depth from 0 to 1,000,000.
-#[derive(Clone, Copy, Debug)]
+#[derive(Clone, Copy)]
 pub struct Settings {
     approach: u32,
     retract: u32,

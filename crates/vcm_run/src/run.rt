@@ -15,7 +15,7 @@ use vcm_state::World;
 use vcm_tree::Noticed;
 
 /// Why a program isn't run.
-#[derive(Clone, Copy, Debug, PartialEq, Eq)]
+#[derive(Clone, Copy, PartialEq, Eq)]
 pub enum Refusal {
     /// The program's text is refused.
     Source(SourceFault),
@@ -26,7 +26,7 @@ pub enum Refusal {
 }
 
 /// What a run shows. Contracts see it as a `Shown`.
-#[derive(Debug, Drop)]
+#[derive(Drop)]
 pub struct Summary {
     world: World,
     next: u32,

@@ -25,7 +25,7 @@ pub(crate) const MAX_LINES: usize = 100_000;
 /// The state of the machine: where the probe is, in micrometres of machine coordinates, the current frame, the settings of the probe, the values
 /// of the variables, the saved frames, the features as they were declared and as they were measured, the output lines, and the stop if there is
 /// one; and the tables of names that it goes by.
-#[derive(Debug, Drop)]
+#[derive(Drop)]
 pub struct World {
     pub(crate) tables: Tables,
     pub(crate) position: Point,

@@ -9,7 +9,7 @@ use vcm_lines::OwnedBytes;
 
 /// What `TEXT` shows: at most 1,024 bytes, each the tab or one from 32 to 255 but the apostrophe and 127. Contracts see it as the list of its
 /// bytes.
-#[derive(Debug, Drop)]
+#[derive(Drop)]
 pub struct Message {
     text: OwnedBytes,
 }

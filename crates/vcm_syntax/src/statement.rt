@@ -9,7 +9,7 @@ use vcm_num::{Axis, Items, Kind};
 use vcm_spec::{FeatureWord, FrameAxis, Quarters, Setting, Source};
 
 /// A statement that has no effect, by its major word.
-#[derive(Clone, Copy, Debug, PartialEq, Eq)]
+#[derive(Clone, Copy, PartialEq, Eq)]
 pub enum Notice {
     Mode,
     Fedrat,

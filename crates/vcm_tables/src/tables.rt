@@ -11,7 +11,7 @@ use vcm_num::{Items, NoMemory};
 
 /// The names of a program, each at its index: its variables with their kinds, its features and its frames. Contracts see it as the `Tables` of
 /// the definitions.
-#[derive(Debug, Drop)]
+#[derive(Drop)]
 pub struct Tables {
     variables: Items<Variable>,
     kinds: Items<Kind>,

@@ -6,7 +6,7 @@ use std::marker::Model;
 use vcm_expr::{Kind, Name};
 
 /// A variable of a program: its name, its kind, and the number of the macro expansion that it belongs to, 0 outside macros.
-#[derive(Debug, Drop)]
+#[derive(Drop)]
 pub struct Variable {
     name: Name,
     kind: Kind,

@@ -25,7 +25,7 @@ use vcm_syntax::{Form, Notice, Statement};
 use vcm_tables::Tables;
 
 /// A line that has no effect, by its number and its major word.
-#[derive(Clone, Copy, Debug, PartialEq, Eq)]
+#[derive(Clone, Copy, PartialEq, Eq)]
 pub struct Noticed {
     pub line: u32,
     pub word: Notice,

@@ -7,7 +7,7 @@ use std::alloc::AllocError;
 use vcm_num::NoMemory;
 
 /// Which rule of listings is broken.
-#[derive(Clone, Copy, Debug, PartialEq, Eq)]
+#[derive(Clone, Copy, PartialEq, Eq)]
 pub enum ListCode {
     /// A growth of memory was refused: nothing is said of the bytes.
     NoMemory,
@@ -22,7 +22,7 @@ pub enum ListCode {
 }
 
 /// A broken rule, and the number of its line, the first being 1; line 0 where memory ran out.
-#[derive(Clone, Copy, Debug, PartialEq, Eq)]
+#[derive(Clone, Copy, PartialEq, Eq)]
 pub struct ListFault {
     pub code: ListCode,
     pub line: u32,

@@ -20,7 +20,7 @@ pub enum Row<E, T> {
 }
 
 /// The word that a line begins with, where it is no statement.
-#[derive(Clone, Copy, Debug, PartialEq, Eq)]
+#[derive(Clone, Copy, PartialEq, Eq)]
 pub enum Heading {
     /// `VCM-LISTING`.
     Head,

@@ -1,5 +1,5 @@
-use Rattle.std.proofs.Common.{rules}
+use Rattle.vcm_loader.proofs.Soundness.{wants_hold}
 use Rattle.vcm_loader.proofs.judging.judge_items.Goals as goal
 
-pub returns-then-not-has_kind-clause-err : goal.returns-then-not-has_kind-clause-err
-returns-then-not-has_kind-clause-err c = search rules
+pub returns-then-has_kind-clause-ok : goal.returns-then-has_kind-clause-ok
+returns-then-has_kind-clause-ok c = wants_hold _ _ _ (c.has_kind.ensures.so c.if-has_kind.true)
