@@ -11,7 +11,8 @@ use Rattle.vcm_expr.specs.declared.levels.Chain.{Chain}
 use Rattle.vcm_expr.specs.declared.levels.Chain.TheVariants.{Disjunction, Conjunction, Sum, Product}
 use Rattle.vcm_expr.specs.declared.levels.Front.{Front}
 use Rattle.vcm_expr.specs.declared.levels.Front.TheVariants.{Negation, Sign}
-use Rattle.vcm_expr.specs.Source.{Source, Pair, is_small}
+use Rattle.vcm_expr.specs.declared.expression.Size.{Size}
+use Rattle.vcm_expr.specs.Source.{Source, Pair, is_small, IsSize}
 use Rattle.vcm_expr.specs.inner.Parser.{Taken, Parser, and_then, phrase, made, made_if, closed, found_if, fronted_by, with_fronts, more, chain_by, once, once_by, disjunction_by, expression}
 use Rattle.vcm_expr.specs.inner.Levels.{group_in, chain_in, chain_op, link_in, front_in, front_of, fronted_in, NextOf, NoNext, NotClosing, Told}
 use Rattle.vcm_expr.proofs.Fronts.{with_fronts-Err}
@@ -101,6 +102,10 @@ pub front_is : (f : Front) (room : ℕ) (ts : List Symbol) → front_in f room t
 front_is Negation room ts = refl
 front_is Sign room ts = refl
 
+-- what was read of a chain, and what the rest adds to it
+abbrev pub Runs : Chain → ℕ → List Symbol → Source → List Symbol → Type 0
+Runs l room words t rest = (n : ℕ) × (length rest ≤ n) × (chain_in l room words ≡ more is_small (link_in l room) (chain_op l) n t rest)
+
 -- a chain begins with its first operand
 pub chain_begins : (l : Chain) (room : ℕ) (ts : List Symbol) (t : Source) (r : List Symbol) → link_in l room ts ≡ phrase t r → (n : ℕ) × (length r ≤ n) × (chain_in l room ts ≡ more is_small (link_in l room) (chain_op l) n t r)
 chain_begins l room ts t r e = (length r, omega arith, chain_is l room ts ∙ ap (λ (o : Result Taken FaultCode). and_then o (λ t r. more is_small (link_in l room) (chain_op l) (length r) t r)) e)
@@ -131,12 +136,17 @@ pub chain_fails : (l : Chain) (room : ℕ) (ts : List Symbol) (c : FaultCode) �
 chain_fails l room ts c e = chain_is l room ts ∙ ap (λ (o : Result Taken FaultCode). and_then o (λ t r. more is_small (link_in l room) (chain_op l) (length r) t r)) e
 
 -- a pair is refused
-abbrev pub RefusesBig : ℕ → Source → SourceFault → Type 0
-RefusesBig line s f = (f ≡ record { code = TooDeep; line = line }) × (is_small s ≡ false)
+abbrev pub RefusesBig : ℕ → BinaryOp → Size → Size → SourceFault → Type 0
+RefusesBig line op a b f = (f ≡ record { code = TooDeep; line = line }) × ((e d : Source) → IsSize a e → IsSize b d → is_small (Pair op e d) ≡ false)
 
-pub told_big : (line : ℕ) (s : Source) (p : Result Taken FaultCode) (f : SourceFault) → (is_small s ≡ false → p ≡ Err TooDeep) → NoMemoryOr (RefusesBig line s) f → NoMemoryOr (Told line p) f
-told_big line s p f pass (inl m) = inl m
-told_big line s p f pass (inr q) = inr (ap (λ (g : SourceFault). g.line) q.0, pass q.1 ∙ ap (λ (g : SourceFault). Err g.code) (sym q.0))
+pub told_big : (line : ℕ) (op : BinaryOp) (a b : Size) (e d : Source) (p : Result Taken FaultCode) (f : SourceFault) → IsSize a e → IsSize b d → (is_small (Pair op e d) ≡ false → p ≡ Err TooDeep) → NoMemoryOr (RefusesBig line op a b) f → NoMemoryOr (Told line p) f
+told_big line op a b e d p f y z pass (inl m) = inl m
+told_big line op a b e d p f y z pass (inr q) = inr (ap (λ (g : SourceFault). g.line) q.0, pass (q.1 e d y z) ∙ ap (λ (g : SourceFault). Err g.code) (sym q.0))
+
+-- the pair that a chain makes is refused
+pub chain_big : (l : Chain) (room : ℕ) (words : List Symbol) (t : Source) (ts : List Symbol) (op : BinaryOp) (after : List Symbol) (u : Source) (s : List Symbol)
+    → Runs l room words t ts → NextOf (chain_op l) ts op after → link_in l room after ≡ phrase u s → is_small (Pair op t u) ≡ false → chain_in l room words ≡ Err TooDeep
+chain_big l room words t ts op after u s runs h e w = runs.2 ∙ more_big is_small (link_in l room) (chain_op l) runs.0 t ts op after u s h runs.1 e w
 
 -- ---- signs and what they stand before
 
@@ -151,10 +161,10 @@ pub front_told : (f : Front) (room : ℕ) (ts rest : List Symbol) (ops : _) (lin
 front_told f room ts rest ops line g e h = told_same line _ _ g (λ c. front_fails f room ts rest ops c e) h
 
 -- the exit where a sign makes the expression too deep
-pub front_big : (f : Front) (room : ℕ) (ts rest r : List Symbol) (ops : _) (t : Source) (line : ℕ) (g : SourceFault) → front_in f room ts ≡ with_fronts is_small ops (fronted_in f room rest) → fronted_in f room rest ≡ phrase t r
-    → NoMemoryOr (λ g. (g.line ≡ line) × ((r : List Symbol) → with_fronts is_small ops (phrase t r) ≡ Err g.code)) g → NoMemoryOr (Told line (front_in f room ts)) g
-front_big f room ts rest r ops t line g e h (inl m) = inl m
-front_big f room ts rest r ops t line g e h (inr p) = inr (p.0, e ∙ ap (with_fronts is_small ops) h ∙ p.1 r)
+pub front_big : (f : Front) (room : ℕ) (ts rest r : List Symbol) (ops : _) (size : Size) (now es : List Source) (t : Source) (line : ℕ) (g : SourceFault) → front_in f room ts ≡ with_fronts is_small ops (fronted_in f room rest) → fronted_in f room rest ≡ phrase t r → now ≡ t ∷ es → IsSize size t
+    → NoMemoryOr (λ g. (g.line ≡ line) × ((e : Source) (es : List Source) (r : List Symbol) → now ≡ e ∷ es → IsSize size e → with_fronts is_small ops (phrase e r) ≡ Err g.code)) g → NoMemoryOr (Told line (front_in f room ts)) g
+front_big f room ts rest r ops size now es t line g e h there z (inl m) = inl m
+front_big f room ts rest r ops size now es t line g e h there z (inr p) = inr (p.0, e ∙ ap (with_fronts is_small ops) h ∙ p.1 t es r there z)
 
 -- ---- parentheses
 

@@ -1,12 +1,13 @@
 -- Signs and negations before an operand.
-use Rattle.std.proofs.Common.{◌≡◌, Bool, true, false, List, [], ◌∷◌, ◌++◌, Option, Result, Err, refl, sym, ap, ◌∙◌, inl, inr, length, ◌<◌, arith}
+use Rattle.std.proofs.Common.{◌≡◌, ℕ, Bool, true, false, List, [], ◌∷◌, ◌++◌, Option, Result, Err, refl, sym, ap, ◌∙◌, inl, inr, length, ◌<◌, arith}
 use Rattle.vcm_lines.specs.Fault.{NoMemoryOr}
 use Rattle.vcm_lines.specs.declared.fault.FaultCode.{FaultCode}
 use Rattle.vcm_lines.specs.declared.fault.FaultCode.TheVariants.{TooDeep}
 use Rattle.vcm_lines.specs.declared.fault.SourceFault.{SourceFault}
 use Rattle.vcm_expr.specs.declared.expression.Prefix.{Prefix}
 use Rattle.vcm_expr.specs.declared.symbol.Symbol.{Symbol}
-use Rattle.vcm_expr.specs.Source.{Source, Prefixed, is_small}
+use Rattle.vcm_expr.specs.declared.expression.Size.{Size}
+use Rattle.vcm_expr.specs.Source.{Source, Prefixed, is_small, IsSize}
 use Rattle.vcm_expr.specs.inner.Parser.{Taken, Parser, and_then, phrase, made, made_if, found_if, fronted_by, with_fronts}
 use Rattle.vcm_expr.specs.inner.Levels.{NextOf, NoNext}
 
@@ -55,12 +56,20 @@ module _ (small : Source → Bool) where
       e ∙ ap (λ (l : List Prefix). with_fronts small l (phrase t r)) cut ∙ with_fronts-push ops op (phrase t r)
       ∙ ap (λ (b : Bool). with_fronts small ops (made_if b (Prefixed op t) r)) big ∙ with_fronts-Err ops TooDeep
 
+-- the expression before which some signs were put stands where the one stood before which all are to be put
+abbrev pub SignsSoFar : List Prefix → List Prefix → Size → Size → List Source → List Source → Type 0
+SignsSoFar whole left size now_size old now = (e : Source) (es : List Source) → old ≡ e ∷ es → IsSize size e
+    → (t : Source) × (now ≡ t ∷ es) × IsSize now_size t × ((r : List Symbol) → with_fronts is_small whole (phrase e r) ≡ with_fronts is_small left (phrase t r))
+
 -- the exit where a sign makes the expression too deep
-pub put_fault : (line : _) (whole all ops : List Prefix) (op : Prefix) (s t : Source) (f : SourceFault) → all ≡ ops ++ op ∷ [] → ((r : List Symbol) → with_fronts is_small whole (phrase s r) ≡ with_fronts is_small all (phrase t r))
-    → NoMemoryOr (λ f. (f ≡ record { code = TooDeep; line = line }) × (is_small (Prefixed op t) ≡ false)) f → NoMemoryOr (λ f. (f.line ≡ line) × ((r : List Symbol) → with_fronts is_small whole (phrase s r) ≡ Err f.code)) f
-put_fault line whole all ops op s t f cut e (inl m) = inl m
-put_fault line whole all ops op s t f cut e (inr p) =
-    inr (ap (λ (g : SourceFault). g.line) p.0, λ r. put_deep is_small _ all ops op t r cut p.1 (e r) ∙ ap (λ (g : SourceFault). Err g.code) (sym p.0))
+pub signs_told : (line : ℕ) (whole all ops : List Prefix) (op : Prefix) (size mid : Size) (old now : List Source) (f : SourceFault) → all ≡ ops ++ op ∷ [] → SignsSoFar whole all size mid old now
+    → NoMemoryOr (λ f. (f ≡ record { code = TooDeep; line = line }) × ((e : Source) → IsSize mid e → is_small (Prefixed op e) ≡ false)) f
+    → NoMemoryOr (λ f. (f.line ≡ line) × ((e : Source) (es : List Source) (r : List Symbol) → old ≡ e ∷ es → IsSize size e → with_fronts is_small whole (phrase e r) ≡ Err f.code)) f
+signs_told line whole all ops op size mid old now f cut so (inl m) = inl m
+signs_told line whole all ops op size mid old now f cut so (inr p) =
+    inr (ap (λ (g : SourceFault). g.line) p.0, λ e es r h z.
+    let i = so e es h z in
+    put_deep is_small _ all ops op i.0 r cut (p.1 i.0 i.2) (i.3 r) ∙ ap (λ (g : SourceFault). Err g.code) (sym p.0))
 
 -- what follows a word that is found is shorter
 pub next_shorter : {X : Type 0} (find : Symbol → Option X) (ts : List Symbol) (x : X) (after : List Symbol) → NextOf find ts x after → length after < length ts

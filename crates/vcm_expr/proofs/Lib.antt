@@ -3,6 +3,8 @@ pub mod PostfixKinds
 pub mod Truths
 pub mod NameLemmas
 pub mod TypedKinds
+pub mod PieceLemmas
+pub mod TypingSteps
 pub mod TypedItems
 pub mod NumberReading
 pub mod ParserRanks

@@ -1,5 +1,6 @@
 -- The items of typed expressions.
-use Rattle.std.proofs.Common.{◌≡◌, ℕ, ◌+◌, ◌≤◌, Bool, true, false, List, [], ◌∷◌, ◌++◌, length, Option, Some, Ok, refl, sym, ap, ◌∙◌, subst, arith, append_assoc}
+use Rattle.std.proofs.Common.{◌≡◌, inl, inr, ℕ, ◌+◌, ◌≤◌, Bool, true, false, List, [], ◌∷◌, ◌++◌, length, Option, Some, Result, Ok, Err, refl, sym, ap, ◌∙◌, subst, arith, append_assoc}
+use Rattle.std.specs.Prelude.{nat_le, ◌&&◌}
 use Rattle.std.proofs.lemmas.List.{append-nil}
 use Rattle.vcm_num.specs.declared.number.Kind.{Kind}
 use Rattle.vcm_spec.specs.declared.expression.Operand.{Operand}
@@ -9,10 +10,17 @@ use Rattle.vcm_spec.specs.declared.expression.BinaryOp.{BinaryOp}
 use Rattle.vcm_spec.specs.Expression.{Tree, Value, Two, binary_kind, kind_of, depth, nodes, need, spelling, trees, HasKind}
 use Rattle.vcm_spec.proofs.Postfix.{trees_of-spelling, one_tree}
 use Rattle.vcm_spec.specs.Setup.{Variable, kinds_of}
+use Rattle.vcm_lines.specs.Fault.{NoMemoryOr}
+use Rattle.vcm_lines.specs.declared.fault.FaultCode.{FaultCode}
+use Rattle.vcm_lines.specs.declared.fault.SourceFault.{SourceFault}
+use Rattle.vcm_expr.specs.declared.expression.Term.{Term}
+use Rattle.vcm_expr.specs.declared.expression.Piece.{Piece}
 use Rattle.vcm_expr.specs.declared.typing.Want.{Want}
-use Rattle.vcm_expr.specs.Source.{Source, depth_of, nodes_of}
+use Rattle.vcm_expr.specs.declared.typing.Want.TheVariants.{Int as WantInt, Length, Bool as WantBool}
+use Rattle.vcm_expr.specs.Source.{Source, Plain, depth_of, nodes_of, is_small}
 use Rattle.vcm_expr.specs.Typed.{VariableBelow, VariablesBelow}
-use Rattle.vcm_expr.specs.Typing.{kinded, is_scaled, scaled, scaled_kind, typed_as, pair_by, and_then, typed_of, wanted_by, wanted_kind, typed_for}
+use Rattle.vcm_expr.specs.Typing.{leaf_of, kinded, is_scaled, scaled, scaled_kind, typed_as, pair_by, and_then, typed_of, wanted_by, wanted_kind, typed_for}
+use Rattle.vcm_expr.specs.inner.Pieces.{parts}
 use Rattle.vcm_expr.specs.inner.Runs.{ItemsFit}
 use Rattle.vcm_expr.specs.inner.Trees.{topmost, scaling, Spelled, Wanted}
 use Rattle.vcm_expr.proofs.Runs.{ItemsFit-spelling}
@@ -113,3 +121,56 @@ pub typed_small : (vs : List Variable) (want : Want) (s : Source) (after : List 
 typed_small vs want s after w shallow few =
     let f = typed_for_fine vs want s w.0 w.1 in
     (w.0, w.2, omega (arith, f.shallow, shallow), omega (arith, f.few, few))
+
+-- a leaf of the kind that its place takes is taken as it stands
+as_it_stands : (want : Want) (t : Tree) → wanted_by want t (wanted_kind want) ≡ Ok t
+as_it_stands WantInt t = refl
+as_it_stands Length t = refl
+as_it_stands WantBool t = refl
+
+pub leaf_taken : (vs : List Variable) (want : Want) (t : Term) (k : Kind) (x : Operand) → leaf_of vs t ≡ kinded (Value x) k → k ≡ wanted_kind want → typed_for vs want (Plain t) ≡ Ok (Value x)
+leaf_taken vs want t k x e same =
+    ap (λ o. and_then o (wanted_by want)) e ∙ ap (wanted_by want (Value x)) same ∙ as_it_stands want (Value x)
+
+-- a leaf alone is spelled by its item
+pub leaf_spelled : (vs : List Variable) (t : Term) (k : Kind) (x : Operand) (items : List Item) → leaf_of vs t ≡ kinded (Value x) k → items ≡ Push x ∷ [] → Spelled (typed_of vs (Plain t)) [] items k
+leaf_spelled vs t k x items e is = record { tree = Value x; is = e; items = is }
+
+-- the exits of a place that doesn't take its expression
+pub place_told : (vs : List Variable) (want : Want) (s : Source) (k : Kind) (items : List Item) (line : ℕ) (g : SourceFault) → Spelled (typed_of vs s) [] items k
+    → NoMemoryOr (λ f. (f.line ≡ line) × ((t : Tree) → wanted_by want t k ≡ Err f.code)) g → NoMemoryOr (λ f. (f.line ≡ line) × (typed_for vs want s ≡ Err f.code)) g
+place_told vs want s k items line g p (inl m) = inl m
+place_told vs want s k items line g p (inr h) = inr (h.0, ap (λ o. and_then o (wanted_by want)) p.is ∙ h.1 p.tree)
+
+pub leaf_told : (vs : List Variable) (want : Want) (t : Term) (code : FaultCode) → leaf_of vs t ≡ Err code → typed_for vs want (Plain t) ≡ Err code
+leaf_told vs want t code e = ap (λ o. and_then o (wanted_by want)) e
+
+pub parts_told : (vs : List Variable) (want : Want) (ps : List Piece) (line : ℕ) (g : SourceFault)
+    → NoMemoryOr (λ f. (f.line ≡ line) × ((e : Source) → ps ≡ parts e → typed_of vs e ≡ Err f.code)) g → NoMemoryOr (λ f. (f.line ≡ line) × ((e : Source) → ps ≡ parts e → typed_for vs want e ≡ Err f.code)) g
+parts_told vs want ps line g (inl m) = inl m
+parts_told vs want ps line g (inr h) = inr (h.0, λ e is. ap (λ o. and_then o (wanted_by want)) (h.1 e is))
+
+pub parts_place_told : (vs : List Variable) (want : Want) (ps : List Piece) (k : Kind) (items : List Item) (line : ℕ) (g : SourceFault) → ((e : Source) → ps ≡ parts e → Spelled (typed_of vs e) [] items k)
+    → NoMemoryOr (λ f. (f.line ≡ line) × ((t : Tree) → wanted_by want t k ≡ Err f.code)) g → NoMemoryOr (λ f. (f.line ≡ line) × ((e : Source) → ps ≡ parts e → typed_for vs want e ≡ Err f.code)) g
+parts_place_told vs want ps k items line g p (inl m) = inl m
+parts_place_told vs want ps k items line g p (inr h) = inr (h.0, λ e is. let q = p e is in ap (λ o. and_then o (wanted_by want)) q.is ∙ h.1 q.tree)
+
+-- an expression within the limits
+within_depth : (d n : ℕ) → (nat_le d 32 && nat_le n 512) ≡ true → (d ≤ 32) × (n ≤ 512)
+within_depth d n h = (grind arith, grind arith)
+
+pub within_limits : (s : Source) → is_small s ≡ true → (depth_of s ≤ 32) × (nodes_of s ≤ 512)
+within_limits s h = within_depth (depth_of s) (nodes_of s) h
+
+-- an expression that is a leaf
+pub leaf_again : (vs : List Variable) (want : Want) (t : Term) (s : Source) (r : Tree) → Plain t ≡ s → typed_for vs want (Plain t) ≡ Ok r → typed_for vs want s ≡ Ok r
+leaf_again vs want t s r e h = ap (typed_for vs want) (sym e) ∙ h
+
+pub leaf_fault : (vs : List Variable) (want : Want) (t : Term) (s : Source) (line : ℕ) (g : SourceFault) → Plain t ≡ s
+    → NoMemoryOr (λ f. (f.line ≡ line) × (typed_for vs want (Plain t) ≡ Err f.code)) g → NoMemoryOr (λ f. (f.line ≡ line) × (typed_for vs want s ≡ Err f.code)) g
+leaf_fault vs want t s line g e (inl m) = inl m
+leaf_fault vs want t s line g e (inr h) = inr (h.0, ap (typed_for vs want) (sym e) ∙ h.1)
+
+-- what a place takes has its kind
+pub typed_kind : (vs : List Variable) (want : Want) (s : Source) (r : Tree) → typed_for vs want s ≡ Ok r → kind_of (kinds_of vs) r ≡ Some (wanted_kind want)
+typed_kind vs want s r h = (typed_for_fine vs want s r h).typed

@@ -1,21 +1,15 @@
 -- Expressions as they are written: no parentheses, no scalings, names in place of variables.
-use Rattle.std.specs.Prelude.{ℕ, ◌+◌, max, nat_le, ◌&&◌, Bool}
+use Rattle.std.specs.Prelude.{◌≡◌, ℕ, ◌+◌, max, nat_le, ◌&&◌, Bool, true}
 use Rattle.vcm_spec.specs.declared.expression.BinaryOp.{BinaryOp}
 use Rattle.vcm_expr.specs.declared.expression.Prefix.{Prefix}
 use Rattle.vcm_expr.specs.declared.expression.Term.{Term}
-use Rattle.vcm_expr.specs.declared.expression.ExprNode.{ExprNode, Leaf, Prefixed', Binary'}
+use Rattle.vcm_expr.specs.declared.expression.Size.{Size}
 
 -- an expression: a leaf, or a sign or an operator on one or two expressions
 pub data Source : Type 0 where
   Plain : Term → Source
   Prefixed : Prefix → Source → Source
   Pair : BinaryOp → Source → Source → Source
-
--- an expression without its boxes
-abbrev pub source_of : ExprNode → Source
-source_of (Leaf t) = Plain t
-source_of (Prefixed' op p a) = Prefixed op (source_of a)
-source_of (Binary' op p a b) = Pair op (source_of a) (source_of b)
 
 -- how deep it is: a leaf has 1
 abbrev pub depth_of : Source → ℕ
@@ -32,3 +26,9 @@ nodes_of (Pair op a b) = nodes_of a + nodes_of b + 1
 -- it is within both limits
 abbrev pub is_small : Source → Bool
 is_small s = nat_le (depth_of s) 32 && nat_le (nodes_of s) 512
+
+-- a size is that of an expression within both limits
+pub record IsSize (s : Size) (e : Source) : Type 0 where
+  pub depth : s.depth ≡ depth_of e
+  pub nodes : s.nodes ≡ nodes_of e
+  pub small : is_small e ≡ true

@@ -6,4 +6,6 @@ pub mod Levels
 pub mod Marks
 pub mod Refusals
 pub mod Runs
+pub mod Pieces
 pub mod Trees
+pub mod Typings

@@ -1,22 +1,17 @@
 //! Expressions as they are written.
 
-ghost use Rattle.std.specs.Prelude.{◌≡◌, ◌≤◌, true, false, IfOk, OnOk, IfErr};
-ghost use Rattle.vcm_lines.specs.Fault.{NoMemoryOr};
-ghost use Rattle.vcm_expr.specs.Source.{Plain, Prefixed, Pair, source_of, depth_of, nodes_of, is_small};
+ghost use Rattle.std.specs.Prelude.{◌≡◌, true, IfOk, IfErr};
+ghost use Rattle.vcm_lines.specs.Fault.{no_memory};
+ghost use Rattle.vcm_expr.specs.Source.{Plain, IsSize, is_small};
+ghost use Rattle.vcm_expr.specs.inner.Pieces.{parts, pieces_of, source_of};
 ghost use Rattle.vcm_lines.specs.declared.fault.FaultCode.{FaultCode};
 
 use crate::name::Name;
 use std::alloc::Global;
 use std::marker::Model;
 use vcm_lines::{FaultCode, SourceFault};
-use vcm_num::{Literal, NoMemory};
+use vcm_num::Literal;
 use vcm_spec::BinaryOp;
-
-/// The deepest that an expression may be.
-const DEEPEST: u32 = 32;
-
-/// The most nodes that an expression may have.
-const MOST_NODES: u32 = 512;
 
 /// What may stand before an expression.
 #[derive(Clone, Copy, PartialEq, Eq)]
@@ -37,95 +32,79 @@ pub enum Term {
     Variable(Name, u32),
 }
 
-/// What an expression is made of. Parentheses leave no node; a plus before an expression is a node.
+/// A part of an expression in postfix order: the operands first, the left one before the right one. Parentheses are no part, a plus before an
+/// expression is one.
 #[derive(Drop)]
-pub enum ExprNode {
+pub enum Piece {
     /// A number, a truth value or a variable.
     Leaf(Term),
-    /// A sign or a negation, and what it stands before.
-    Prefixed(Prefix, Box<ExprNode>),
-    /// An operator on two values, the left one first.
-    Binary(BinaryOp, Box<(ExprNode, ExprNode)>),
+    /// A sign or a negation.
+    Front(Prefix),
+    /// An operator on two values.
+    Between(BinaryOp),
+}
+
+/// How deep an expression is, and how many nodes it has.
+#[derive(Clone, Copy)]
+pub struct Size {
+    pub depth: u8,
+    pub nodes: u16,
+}
+
+/// How an expression is kept. One without a sign or an operator takes no memory.
+#[derive(Drop)]
+pub enum Written {
+    /// A number, a truth value or a variable.
+    Leaf(Term),
+    /// Its parts in postfix order.
+    Postfix(Vec<Piece>),
 }
 
 /// An expression as it is written, at most 32 deep and of at most 512 nodes. Contracts see it as a `Source`.
 #[derive(Drop)]
 pub struct Expr {
-    node: ExprNode,
-    depth: u32,
-    nodes: u32,
+    written: Written,
+    size: Size,
 }
 
 impl Model for Expr {
-    ghost use Rattle.std.specs.Prelude.{◌≡◌, ◌≤◌};
-    ghost use Rattle.vcm_expr.specs.Source.{Source, depth_of, nodes_of};
+    ghost use Rattle.std.specs.Prelude.{◌≡◌};
+    ghost use Rattle.vcm_expr.specs.Source.{Source, IsSize};
     ghost use Rattle.vcm_expr.specs.inner.SourceCodes.{source_coded};
 
     ghost Value = { Source };
 
     ghost coded = { source_coded };
 
-    ghost use Rattle.vcm_expr.specs.Source.{source_of};
+    ghost use Rattle.vcm_expr.specs.inner.Pieces.{parts, pieces_of, source_of};
 
-    ghost view = { λ e. source_of e.node };
+    ghost view = { λ e. source_of e.written };
 
-    ghost invariant = { λ e. (e.depth ≡ depth_of (source_of e.node)) × (e.nodes ≡ nodes_of (source_of e.node)) × (e.depth ≤ 32) × (e.nodes ≤ 512) };
+    ghost invariant = { λ e. (pieces_of e.written ≡ parts (source_of e.written)) × IsSize e.size (source_of e.written) };
 }
 
 impl Expr {
+    ghost use Rattle.vcm_expr.specs.Source.{Source};
+
     /// A number, a truth value or a variable.
     pub fn leaf(term: Term) -> Expr
         ensures { result ≡ Plain term }
     {
         Expr {
-            node: ExprNode::Leaf(term),
-            depth: 1,
-            nodes: 1,
+            written: Written::Leaf(term),
+            size: Size { depth: 1, nodes: 1 },
         }
     }
 
-    /// An expression with a sign or a negation before it.
-    ///
-    /// # Errors
-    ///
-    /// An expression that becomes too deep or too large, told at `line`; want of memory.
-    pub fn prefixed(alloc: Global, line: u32, prefix: Prefix, a: Expr) -> Result<Expr, SourceFault>
-        ensures ok { IfOk result (λ e. e ≡ Prefixed prefix a) }
-        ensures small { OnOk result (is_small (Prefixed prefix a) ≡ true) }
-        ensures fault { IfErr result (NoMemoryOr (λ f. (f ≡ record { code = FaultCode.TooDeep; line = line }) × (is_small (Prefixed prefix a) ≡ false))) }
+    /// The expression that parts in postfix order are.
+    pub(crate) fn new(pieces: Vec<Piece>, size: Size) -> Expr
+        requires { (e : Source) × (pieces.items ≡ parts e) × IsSize size e }
+        ensures { pieces.items ≡ parts result }
     {
-        let depth = a.depth + 1;
-        let nodes = a.nodes + 1;
-        if depth > DEEPEST || nodes > MOST_NODES {
-            return Err(too_deep(line));
+        Expr {
+            written: Written::Postfix(pieces),
+            size,
         }
-        let node = ExprNode::Prefixed(prefix, Box::new(alloc, a.node)?);
-        Ok(Expr { node, depth, nodes })
-    }
-
-    /// Two expressions with an operator between them.
-    ///
-    /// # Errors
-    ///
-    /// An expression that becomes too deep or too large, told at `line`; want of memory.
-    pub fn joined(
-        alloc: Global,
-        line: u32,
-        op: BinaryOp,
-        a: Expr,
-        b: Expr,
-    ) -> Result<Expr, SourceFault>
-        ensures ok { IfOk result (λ e. e ≡ Pair op a b) }
-        ensures small { OnOk result (is_small (Pair op a b) ≡ true) }
-        ensures fault { IfErr result (NoMemoryOr (λ f. (f ≡ record { code = FaultCode.TooDeep; line = line }) × (is_small (Pair op a b) ≡ false))) }
-    {
-        let depth = a.depth.max(b.depth) + 1;
-        let nodes = a.nodes + b.nodes + 1;
-        if depth > DEEPEST || nodes > MOST_NODES {
-            return Err(too_deep(line));
-        }
-        let node = ExprNode::Binary(op, Box::new(alloc, (a.node, b.node))?);
-        Ok(Expr { node, depth, nodes })
     }
 
     /// The same expression.
@@ -133,36 +112,38 @@ impl Expr {
     /// # Errors
     ///
     /// Want of memory.
-    pub fn copy(&self, alloc: Global) -> Result<Expr, NoMemory>
-        ensures { IfOk result (λ e. e ≡ self.now) }
+    pub fn copy(&self, alloc: Global) -> Result<Expr, SourceFault>
+        ensures ok { IfOk result (λ e. e ≡ self.now) }
+        ensures fault { IfErr result (λ f. f ≡ no_memory) }
     {
-        let node = copy_node(alloc, &self.node)?;
+        let written = match &self.written {
+            Written::Leaf(term) => Written::Leaf(copy_term(term)),
+            Written::Postfix(pieces) => Written::Postfix(copied(alloc, pieces)?),
+        };
         Ok(Expr {
-            node,
-            depth: self.depth,
-            nodes: self.nodes,
+            written,
+            size: self.size,
         })
     }
 
-    /// How many nodes it has.
-    pub(crate) fn size(&self) -> usize
-        ensures { result ≡ nodes_of self.now }
+    /// How deep it is, and how many nodes it has.
+    pub fn size(&self) -> Size
+        ensures { IsSize result self.now }
     {
-        self.nodes as usize
+        self.size
     }
 
-    /// What the expression is made of.
-    pub fn node(&self) -> &ExprNode
-        ensures is { source_of result.now ≡ self.now }
-        ensures shallow { depth_of self.now ≤ 32 }
-        ensures few { nodes_of self.now ≤ 512 }
+    /// How the expression is kept.
+    pub(crate) fn written(&self) -> &Written
+        ensures parts { pieces_of result.now ≡ parts self.now }
+        ensures small { is_small self.now ≡ true }
     {
-        &self.node
+        &self.written
     }
 }
 
 /// The same leaf.
-fn copy_term(term: &Term) -> Term
+pub(crate) fn copy_term(term: &Term) -> Term
     ensures { result ≡ term.now }
 {
     match term {
@@ -172,22 +153,27 @@ fn copy_term(term: &Term) -> Term
     }
 }
 
-/// The same node.
-fn copy_node(alloc: Global, node: &ExprNode) -> Result<ExprNode, NoMemory>
-    ensures { IfOk result (λ n. source_of n ≡ source_of node.now) }
+/// The same part.
+fn copy_piece(piece: &Piece) -> Piece
+    ensures { result ≡ piece.now }
 {
-    match node {
-        ExprNode::Leaf(term) => Ok(ExprNode::Leaf(copy_term(term))),
-        ExprNode::Prefixed(prefix, a) => {
-            let a = Box::new(alloc, copy_node(alloc, a)?)?;
-            Ok(ExprNode::Prefixed(*prefix, a))
-        }
-        ExprNode::Binary(op, operands) => {
-            let a = copy_node(alloc, &operands.0)?;
-            let b = copy_node(alloc, &operands.1)?;
-            Ok(ExprNode::Binary(*op, Box::new(alloc, (a, b))?))
-        }
+    match piece {
+        Piece::Leaf(term) => Piece::Leaf(copy_term(term)),
+        Piece::Front(prefix) => Piece::Front(*prefix),
+        Piece::Between(op) => Piece::Between(*op),
     }
+}
+
+/// The same parts.
+pub(crate) fn copied(alloc: Global, pieces: &[Piece]) -> Result<Vec<Piece>, SourceFault>
+    ensures ok { IfOk result (λ copy. copy.items ≡ pieces.now) }
+    ensures fault { IfErr result (λ f. f ≡ no_memory) }
+{
+    let mut copy = Vec::with_capacity(alloc, pieces.len())?;
+    for piece in pieces {
+        copy.push(copy_piece(piece))?;
+    }
+    Ok(copy)
 }
 
 /// The refusal of an expression that is too deep or too large.

@@ -1,6 +1,7 @@
 //! Expressions: as they are written, typed, and as postfix items; their kinds and values.
 #![tactic(auto)]
 
+mod draft;
 mod expression;
 pub mod laws;
 mod levels;
@@ -9,6 +10,7 @@ mod names;
 mod operators;
 mod parse;
 mod parser;
+mod pile;
 mod postfix;
 mod stack;
 mod symbol;
@@ -17,10 +19,12 @@ mod typing;
 mod value;
 mod variable_name;
 
-pub use expression::{Expr, ExprNode, Prefix, Term};
+pub use draft::Draft;
+pub use expression::{Expr, Piece, Prefix, Size, Term, Written};
 pub use name::{Name, is_name};
 pub use names::Names;
 pub use parse::{parse_expr, read_expr};
+pub use pile::Pile;
 pub use postfix::{eval_postfix, pop_value, postfix_kind, step_kind, step_value, to_postfix};
 pub use stack::Stack;
 pub use symbol::{Symbol, is_variable_name};

@@ -1,18 +1,19 @@
 //! The parser of expressions.
 
-ghost use Rattle.std.specs.Prelude.{◌≡◌, ◌≤◌, List, true, Err, length, IfOk, IfErr};
+ghost use Rattle.std.specs.Prelude.{◌≡◌, ◌≤◌, List, ◌∷◌, true, Err, length, IfOk, IfErr};
 ghost use Rattle.vcm_lines.specs.Fault.{NoMemoryOr, no_memory};
 ghost use Rattle.vcm_lines.specs.declared.fault.FaultCode.{FaultCode};
-ghost use Rattle.vcm_expr.specs.Source.{is_small};
+ghost use Rattle.vcm_expr.specs.Source.{Source, is_small, IsSize};
 ghost use Rattle.vcm_expr.specs.Grammar.{SpellsExpr};
 ghost use Rattle.vcm_expr.specs.Parsing.{At};
 ghost use Rattle.vcm_expr.specs.inner.Refusals.{Refuses};
 ghost use Rattle.vcm_expr.specs.inner.Parser.{Parser, phrase, fronted_by, with_fronts, leaf_by};
 ghost use Rattle.vcm_expr.specs.declared.levels.Chain.TheVariants as levels;
-ghost use Rattle.vcm_expr.specs.inner.Levels.{chain_in, front_in, front_of as finds_front, fronted_in, relation_in, primary_in, group_in, Told};
+ghost use Rattle.vcm_expr.specs.inner.Levels.{chain_in, front_in, front_of as finds_front, fronted_in, relation_in, primary_in, group_in, Told, Reads};
 ghost use Rattle.vcm_expr.specs.declared.symbol.Symbol.{Symbol};
 
-use crate::expression::{Expr, Prefix, Term, too_deep};
+use crate::draft::Draft;
+use crate::expression::{Expr, Prefix, Size, Term, too_deep};
 use crate::levels::{Chain, Front, after_closing, next_front, next_operator, next_relation};
 use crate::symbol::{Symbol, Symbols};
 use std::alloc::Global;
@@ -26,29 +27,32 @@ pub(crate) fn whole(alloc: Global, line: u32, words: Symbols<'_>) -> Result<Expr
     ensures ok { IfOk result (λ e. SpellsExpr words.entry e × (is_small e ≡ true)) }
     ensures fault { IfErr result (NoMemoryOr (At line (Refuses words.entry))) }
 {
-    let (e, rest) = disjunction(alloc, line, words, MOST_OPEN)?;
-    match rest.split_first() {
-        None => Ok(e),
-        Some(_) => Err(bad_syntax(line)),
+    let mut draft = Draft::new(alloc)?;
+    let (size, rest) = disjunction(alloc, &mut draft, line, words, MOST_OPEN)?;
+    if let Some((_, _)) = rest.split_first() {
+        return Err(bad_syntax(line));
     }
+    let e = draft.finish(alloc, size)?;
+    Ok(e)
 }
 
 /// Conjunctions with `.OR.` between them: a whole expression. `room` pairs of parentheses may be opened.
 #[cycle(parser)]
 fn disjunction<'a>(
     alloc: Global,
+    draft: &mut Draft,
     line: u32,
     words: Symbols<'a>,
     room: u32,
-) -> Result<(Expr, Symbols<'a>), SourceFault>
-    ensures ok { IfOk result (λ p. chain_in levels.Disjunction room words.entry ≡ phrase p.0 p.1) }
+) -> Result<(Size, Symbols<'a>), SourceFault>
+    ensures ok { IfOk result (λ p. Reads (chain_in levels.Disjunction room words.entry) draft.old draft.new p.0 p.1) }
     ensures fault { IfErr result (NoMemoryOr (Told line (chain_in levels.Disjunction room words.entry))) }
     ensures shorter { IfOk result (λ p. length p.1 ≤ length words.entry) }
 {
-    let (mut left, mut rest) = conjunction(alloc, line, words, room)?;
+    let (mut left, mut rest) = conjunction(alloc, draft, line, words, room)?;
     while let Some((op, after)) = next_operator(&rest, Chain::Disjunction) {
-        let (right, behind) = conjunction(alloc, line, after, room)?;
-        left = Expr::joined(alloc, line, op, left, right)?;
+        let (right, behind) = conjunction(alloc, draft, line, after, room)?;
+        left = draft.joined(line, op, left, right)?;
         rest = behind;
     }
     Ok((left, rest))
@@ -59,18 +63,19 @@ fn disjunction<'a>(
 #[inline(always)]
 fn conjunction<'a>(
     alloc: Global,
+    draft: &mut Draft,
     line: u32,
     words: Symbols<'a>,
     room: u32,
-) -> Result<(Expr, Symbols<'a>), SourceFault>
-    ensures ok { IfOk result (λ p. chain_in levels.Conjunction room words.entry ≡ phrase p.0 p.1) }
+) -> Result<(Size, Symbols<'a>), SourceFault>
+    ensures ok { IfOk result (λ p. Reads (chain_in levels.Conjunction room words.entry) draft.old draft.new p.0 p.1) }
     ensures fault { IfErr result (NoMemoryOr (Told line (chain_in levels.Conjunction room words.entry))) }
     ensures shorter { IfOk result (λ p. length p.1 ≤ length words.entry) }
 {
-    let (mut left, mut rest) = fronted(alloc, line, words, room, Front::Negation)?;
+    let (mut left, mut rest) = fronted(alloc, draft, line, words, room, Front::Negation)?;
     while let Some((op, after)) = next_operator(&rest, Chain::Conjunction) {
-        let (right, behind) = fronted(alloc, line, after, room, Front::Negation)?;
-        left = Expr::joined(alloc, line, op, left, right)?;
+        let (right, behind) = fronted(alloc, draft, line, after, room, Front::Negation)?;
+        left = draft.joined(line, op, left, right)?;
         rest = behind;
     }
     Ok((left, rest))
@@ -80,18 +85,19 @@ fn conjunction<'a>(
 #[cycle(parser)]
 fn sum<'a>(
     alloc: Global,
+    draft: &mut Draft,
     line: u32,
     words: Symbols<'a>,
     room: u32,
-) -> Result<(Expr, Symbols<'a>), SourceFault>
-    ensures ok { IfOk result (λ p. chain_in levels.Sum room words.entry ≡ phrase p.0 p.1) }
+) -> Result<(Size, Symbols<'a>), SourceFault>
+    ensures ok { IfOk result (λ p. Reads (chain_in levels.Sum room words.entry) draft.old draft.new p.0 p.1) }
     ensures fault { IfErr result (NoMemoryOr (Told line (chain_in levels.Sum room words.entry))) }
     ensures shorter { IfOk result (λ p. length p.1 ≤ length words.entry) }
 {
-    let (mut left, mut rest) = product(alloc, line, words, room)?;
+    let (mut left, mut rest) = product(alloc, draft, line, words, room)?;
     while let Some((op, after)) = next_operator(&rest, Chain::Sum) {
-        let (right, behind) = product(alloc, line, after, room)?;
-        left = Expr::joined(alloc, line, op, left, right)?;
+        let (right, behind) = product(alloc, draft, line, after, room)?;
+        left = draft.joined(line, op, left, right)?;
         rest = behind;
     }
     Ok((left, rest))
@@ -102,18 +108,19 @@ fn sum<'a>(
 #[inline(always)]
 fn product<'a>(
     alloc: Global,
+    draft: &mut Draft,
     line: u32,
     words: Symbols<'a>,
     room: u32,
-) -> Result<(Expr, Symbols<'a>), SourceFault>
-    ensures ok { IfOk result (λ p. chain_in levels.Product room words.entry ≡ phrase p.0 p.1) }
+) -> Result<(Size, Symbols<'a>), SourceFault>
+    ensures ok { IfOk result (λ p. Reads (chain_in levels.Product room words.entry) draft.old draft.new p.0 p.1) }
     ensures fault { IfErr result (NoMemoryOr (Told line (chain_in levels.Product room words.entry))) }
     ensures shorter { IfOk result (λ p. length p.1 ≤ length words.entry) }
 {
-    let (mut left, mut rest) = fronted(alloc, line, words, room, Front::Sign)?;
+    let (mut left, mut rest) = fronted(alloc, draft, line, words, room, Front::Sign)?;
     while let Some((op, after)) = next_operator(&rest, Chain::Product) {
-        let (right, behind) = fronted(alloc, line, after, room, Front::Sign)?;
-        left = Expr::joined(alloc, line, op, left, right)?;
+        let (right, behind) = fronted(alloc, draft, line, after, room, Front::Sign)?;
+        left = draft.joined(line, op, left, right)?;
         rest = behind;
     }
     Ok((left, rest))
@@ -124,18 +131,19 @@ fn product<'a>(
 #[inline(always)]
 fn fronted<'a>(
     alloc: Global,
+    draft: &mut Draft,
     line: u32,
     words: Symbols<'a>,
     room: u32,
     front: Front,
-) -> Result<(Expr, Symbols<'a>), SourceFault>
-    ensures ok { IfOk result (λ p. front_in front room words.entry ≡ phrase p.0 p.1) }
+) -> Result<(Size, Symbols<'a>), SourceFault>
+    ensures ok { IfOk result (λ p. Reads (front_in front room words.entry) draft.old draft.new p.0 p.1) }
     ensures fault { IfErr result (NoMemoryOr (Told line (front_in front room words.entry))) }
     ensures shorter { IfOk result (λ p. length p.1 ≤ length words.entry) }
 {
     let (signs, rest) = take_signs(alloc, words, front)?;
-    let (e, rest) = under(alloc, line, rest, room, front)?;
-    Ok((with_signs(alloc, line, signs, e)?, rest))
+    let (size, rest) = under(alloc, draft, line, rest, room, front)?;
+    Ok((with_signs(draft, line, signs, size)?, rest))
 }
 
 /// What signs or negations stand before.
@@ -143,18 +151,19 @@ fn fronted<'a>(
 #[inline(always)]
 fn under<'a>(
     alloc: Global,
+    draft: &mut Draft,
     line: u32,
     words: Symbols<'a>,
     room: u32,
     front: Front,
-) -> Result<(Expr, Symbols<'a>), SourceFault>
-    ensures ok { IfOk result (λ p. fronted_in front room words.entry ≡ phrase p.0 p.1) }
+) -> Result<(Size, Symbols<'a>), SourceFault>
+    ensures ok { IfOk result (λ p. Reads (fronted_in front room words.entry) draft.old draft.new p.0 p.1) }
     ensures fault { IfErr result (NoMemoryOr (Told line (fronted_in front room words.entry))) }
     ensures shorter { IfOk result (λ p. length p.1 ≤ length words.entry) }
 {
     match front {
-        Front::Negation => relation(alloc, line, words, room),
-        Front::Sign => primary(alloc, line, words, room),
+        Front::Negation => relation(alloc, draft, line, words, room),
+        Front::Sign => primary(alloc, draft, line, words, room),
     }
 }
 
@@ -163,20 +172,21 @@ fn under<'a>(
 #[inline(always)]
 fn relation<'a>(
     alloc: Global,
+    draft: &mut Draft,
     line: u32,
     words: Symbols<'a>,
     room: u32,
-) -> Result<(Expr, Symbols<'a>), SourceFault>
-    ensures ok { IfOk result (λ p. relation_in room words.entry ≡ phrase p.0 p.1) }
+) -> Result<(Size, Symbols<'a>), SourceFault>
+    ensures ok { IfOk result (λ p. Reads (relation_in room words.entry) draft.old draft.new p.0 p.1) }
     ensures fault { IfErr result (NoMemoryOr (Told line (relation_in room words.entry))) }
     ensures shorter { IfOk result (λ p. length p.1 ≤ length words.entry) }
 {
-    let (left, rest) = sum(alloc, line, words, room)?;
+    let (left, rest) = sum(alloc, draft, line, words, room)?;
     let Some((op, after)) = next_relation(&rest) else {
         return Ok((left, rest));
     };
-    let (right, behind) = sum(alloc, line, after, room)?;
-    Ok((Expr::joined(alloc, line, op, left, right)?, behind))
+    let (right, behind) = sum(alloc, draft, line, after, room)?;
+    Ok((draft.joined(line, op, left, right)?, behind))
 }
 
 /// A number, a truth value or a name, or an expression in parentheses.
@@ -184,11 +194,12 @@ fn relation<'a>(
 #[inline(always)]
 fn primary<'a>(
     alloc: Global,
+    draft: &mut Draft,
     line: u32,
     words: Symbols<'a>,
     room: u32,
-) -> Result<(Expr, Symbols<'a>), SourceFault>
-    ensures ok { IfOk result (λ p. primary_in room words.entry ≡ phrase p.0 p.1) }
+) -> Result<(Size, Symbols<'a>), SourceFault>
+    ensures ok { IfOk result (λ p. Reads (primary_in room words.entry) draft.old draft.new p.0 p.1) }
     ensures fault { IfErr result (NoMemoryOr (Told line (primary_in room words.entry))) }
     ensures shorter { IfOk result (λ p. length p.1 ≤ length words.entry) }
 {
@@ -196,8 +207,8 @@ fn primary<'a>(
         return Err(bad_syntax(line));
     };
     match first {
-        Symbol::Operand(term) => Ok((leaf(line, term)?, rest)),
-        Symbol::Opening => group(alloc, line, rest, room),
+        Symbol::Operand(term) => Ok((leaf(draft, line, term)?, rest)),
+        Symbol::Opening => group(alloc, draft, line, rest, room),
         _ => Err(bad_syntax(line)),
     }
 }
@@ -206,32 +217,33 @@ fn primary<'a>(
 #[cycle(parser)]
 fn group<'a>(
     alloc: Global,
+    draft: &mut Draft,
     line: u32,
     words: Symbols<'a>,
     room: u32,
-) -> Result<(Expr, Symbols<'a>), SourceFault>
-    ensures ok { IfOk result (λ p. group_in room words.entry ≡ phrase p.0 p.1) }
+) -> Result<(Size, Symbols<'a>), SourceFault>
+    ensures ok { IfOk result (λ p. Reads (group_in room words.entry) draft.old draft.new p.0 p.1) }
     ensures fault { IfErr result (NoMemoryOr (Told line (group_in room words.entry))) }
     ensures shorter { IfOk result (λ p. length p.1 ≤ length words.entry) }
 {
     if room == 0 {
         return Err(too_deep(line));
     }
-    let (e, rest) = disjunction(alloc, line, words, room - 1)?;
+    let (size, rest) = disjunction(alloc, draft, line, words, room - 1)?;
     let Some(after) = after_closing(&rest) else {
         return Err(bad_syntax(line));
     };
-    Ok((e, after))
+    Ok((size, after))
 }
 
 /// A leaf, or what is wrong with it.
 #[inline(always)]
-fn leaf(line: u32, term: Result<Term, FaultCode>) -> Result<Expr, SourceFault>
-    ensures ok { IfOk result (λ e. (r : List Symbol) → leaf_by term r ≡ phrase e r) }
-    ensures fault { IfErr result (λ f. (f.line ≡ line) × ((r : List Symbol) → leaf_by term r ≡ Err f.code)) }
+fn leaf(draft: &mut Draft, line: u32, term: Result<Term, FaultCode>) -> Result<Size, SourceFault>
+    ensures ok { IfOk result (λ s. (r : List Symbol) → Reads (leaf_by term r) draft.old draft.new s r) }
+    ensures fault { IfErr result (NoMemoryOr (λ f. (f.line ≡ line) × ((r : List Symbol) → leaf_by term r ≡ Err f.code))) }
 {
     match term {
-        Ok(term) => Ok(Expr::leaf(term)),
+        Ok(term) => draft.leaf(term),
         Err(code) => Err(SourceFault { code, line }),
     }
 }
@@ -256,16 +268,24 @@ fn take_signs<'a>(
     Ok((signs, rest))
 }
 
-/// An expression with signs or negations before it.
+/// Puts signs or negations before the last expression, which is of this size.
 #[inline(always)]
-fn with_signs(alloc: Global, line: u32, signs: Vec<Prefix>, e: Expr) -> Result<Expr, SourceFault>
-    ensures ok { IfOk result (λ t. (r : List Symbol) → with_fronts is_small signs.items (phrase e r) ≡ phrase t r) }
-    ensures fault { IfErr result (NoMemoryOr (λ f. (f.line ≡ line) × ((r : List Symbol) → with_fronts is_small signs.items (phrase e r) ≡ Err f.code))) }
+fn with_signs(
+    draft: &mut Draft,
+    line: u32,
+    signs: Vec<Prefix>,
+    size: Size,
+) -> Result<Size, SourceFault>
+    requires { (e : Source) × (es : List Source) × (draft.old ≡ e ∷ es) × IsSize size e }
+    ensures ok { IfOk result (λ s. (e : Source) (es : List Source) (r : List Symbol) → draft.old ≡ e ∷ es → IsSize size e
+        → Reads (with_fronts is_small signs.items (phrase e r)) es draft.new s r) }
+    ensures fault { IfErr result (NoMemoryOr (λ f. (f.line ≡ line) × ((e : Source) (es : List Source) (r : List Symbol) → draft.old ≡ e ∷ es → IsSize size e
+        → with_fronts is_small signs.items (phrase e r) ≡ Err f.code))) }
 {
     let mut signs = signs;
-    let mut e = e;
+    let mut size = size;
     'signs: while let Some(sign) = signs.pop() {
-        e = Expr::prefixed(alloc, line, sign, e)?;
+        size = draft.prefixed(line, sign, size)?;
     }
-    Ok(e)
+    Ok(size)
 }

@@ -1,19 +1,22 @@
 //! From expressions as they are written to typed ones.
 
-ghost use Rattle.std.specs.Prelude.{◌≡◌, ◌≤◌, List, ◌++◌, length, Some, Ok, Err, IfOk, OnOk, IfErr};
+ghost use Rattle.std.specs.Prelude.{◌≡◌, ◌≤◌, true, List, ◌++◌, length, Some, Ok, Err, IfOk, OnOk, IfErr};
 ghost use Rattle.vcm_lines.specs.Fault.{NoMemoryOr, no_memory};
 ghost use Rattle.vcm_lines.specs.declared.fault.FaultCode.{FaultCode};
 ghost use Rattle.vcm_spec.specs.declared.expression.Item.{Item};
 ghost use Rattle.vcm_spec.specs.Expression.{Tree, Value, kind_of, spelling};
+ghost use Rattle.vcm_expr.specs.inner.Pieces.{parts, with_piece};
 ghost use Rattle.vcm_expr.specs.inner.Trees.{scaling, Spelled, Wanted};
+ghost use Rattle.vcm_expr.specs.inner.Typings.{AreTyped, Fails};
 ghost use Rattle.vcm_spec.specs.Setup.{kinds_of};
-ghost use Rattle.vcm_expr.specs.Source.{source_of};
+ghost use Rattle.vcm_expr.specs.Source.{Source, Plain, is_small};
 ghost use Rattle.vcm_expr.specs.Typing.{kinded, leaf_of, prefixed_by, pair_by, is_scaled, scaled_kind, typed_of, typed_for, wanted_by, wanted_kind};
 
-use crate::expression::{Expr, ExprNode, Prefix, Term};
+use crate::expression::{Expr, Piece, Prefix, Term, Written};
 use crate::name::Name;
 use crate::names::Names;
 use crate::operators::kind_of_binary;
+use crate::pile::Pile;
 use crate::typed::Typed;
 use std::alloc::Global;
 use vcm_lines::{FaultCode, SourceFault};
@@ -29,6 +32,13 @@ pub enum Want {
     Length,
     /// A truth value.
     Bool,
+}
+
+/// An operand whose items are there: its kind, and the place of its first item.
+#[derive(Clone, Copy)]
+struct Operated {
+    kind: Kind,
+    start: usize,
 }
 
 impl Want {
@@ -62,14 +72,53 @@ pub fn type_expr(
     ensures kind { IfOk result (λ t. kind_of (kinds_of names.now) t ≡ Some (wanted_kind want)) }
     ensures fault { IfErr result (NoMemoryOr (λ f. (f.line ≡ line) × (typed_for names.now want e.now ≡ Err f.code))) }
 {
-    if let ExprNode::Leaf(term) = e.node() {
-        let (x, kind) = leaf(term, line, names)?;
-        if kind == want.kind() {
-            return Ok(Typed::leaf(x));
+    match e.written() {
+        Written::Leaf(term) => {
+            let typed = type_leaf(alloc, term, line, names, want)?;
+            Ok(typed)
+        }
+        Written::Postfix(pieces) => {
+            let typed = type_pieces(alloc, pieces, line, names, want)?;
+            Ok(typed)
         }
     }
-    let mut items = Vec::with_capacity(alloc, e.size())?;
-    let kind = typed(&mut items, e.node(), line, names)?;
+}
+
+/// The typed expression for a place where a number, a truth value or a variable stands alone.
+fn type_leaf(
+    alloc: Global,
+    term: &Term,
+    line: u32,
+    names: &Names,
+    want: Want,
+) -> Result<Typed, SourceFault>
+    ensures ok { IfOk result (λ t. typed_for names.now want (Plain term.now) ≡ Ok t) }
+    ensures fault { IfErr result (NoMemoryOr (λ f. (f.line ≡ line) × (typed_for names.now want (Plain term.now) ≡ Err f.code))) }
+{
+    let (x, kind) = leaf(term, line, names)?;
+    if kind == want.kind() {
+        return Ok(Typed::leaf(x));
+    }
+    let mut items = Vec::with_capacity(alloc, 2)?;
+    items.push(Item::Push(x))?;
+    demand(&mut items, kind, line, want)?;
+    Ok(Typed::new(items))
+}
+
+/// The typed expression for a place where the expression stands that the parts are.
+fn type_pieces(
+    alloc: Global,
+    pieces: &[Piece],
+    line: u32,
+    names: &Names,
+    want: Want,
+) -> Result<Typed, SourceFault>
+    requires { (e : Source) × (pieces.now ≡ parts e) × (is_small e ≡ true) }
+    ensures ok { IfOk result (λ t. (e : Source) → pieces.now ≡ parts e → typed_for names.now want e ≡ Ok t) }
+    ensures fault { IfErr result (NoMemoryOr (λ f. (f.line ≡ line) × ((e : Source) → pieces.now ≡ parts e → typed_for names.now want e ≡ Err f.code))) }
+{
+    let mut items = Vec::with_capacity(alloc, pieces.len())?;
+    let kind = typed(alloc, &mut items, pieces, line, names)?;
     demand(&mut items, kind, line, want)?;
     Ok(Typed::new(items))
 }
@@ -89,28 +138,75 @@ fn demand(items: &mut Vec<Item>, k: Kind, line: u32, want: Want) -> Result<(), S
     }
 }
 
-/// Appends the items of an expression, and returns its kind.
-fn typed(items: &mut Vec<Item>, e: &ExprNode, line: u32, names: &Names) -> Result<Kind, SourceFault>
-    ensures ok { IfOk result (Spelled (typed_of names.now (source_of e.now)) items.old.items items.new.items) }
-    ensures fault { IfErr result (NoMemoryOr (λ f. (f.line ≡ line) × (typed_of names.now (source_of e.now) ≡ Err f.code))) }
+/// Appends the items of the expression that the parts are, and returns its kind.
+fn typed(
+    alloc: Global,
+    items: &mut Vec<Item>,
+    pieces: &[Piece],
+    line: u32,
+    names: &Names,
+) -> Result<Kind, SourceFault>
+    requires { (e : Source) × (pieces.now ≡ parts e) }
+    ensures ok { IfOk result (λ k. (e : Source) → pieces.now ≡ parts e → Spelled (typed_of names.now e) items.old.items items.new.items k) }
+    ensures fault { IfErr result (NoMemoryOr (λ f. (f.line ≡ line) × ((e : Source) → pieces.now ≡ parts e → typed_of names.now e ≡ Err f.code))) }
 {
-    match e {
-        ExprNode::Leaf(term) => {
+    let mut open = Pile::new(alloc);
+    for piece in pieces {
+        step(items, &mut open, piece, line, names)?;
+    }
+    match open.pop() {
+        Some(last) => Ok(last.kind),
+        None => unreachable!(),
+    }
+}
+
+/// Goes on by one part: a leaf is one more operand, a sign and an operator take theirs.
+fn step(
+    items: &mut Vec<Item>,
+    open: &mut Pile<Operated>,
+    piece: &Piece,
+    line: u32,
+    names: &Names,
+) -> Result<(), SourceFault>
+    requires { (es : List Source) × (before : List Item) × AreTyped names.now es open.old before items.old.items }
+    ensures ok { OnOk result ((es : List Source) (before : List Item) → AreTyped names.now es open.old before items.old.items
+        → AreTyped names.now (with_piece piece.now es) open.new before items.new.items) }
+    ensures fault { IfErr result (NoMemoryOr (λ f. (f.line ≡ line) × ((es : List Source) (before : List Item)
+        → AreTyped names.now es open.old before items.old.items → Fails names.now f.code (with_piece piece.now es)))) }
+{
+    match piece {
+        Piece::Leaf(term) => {
+            let start = items.len();
             let (x, kind) = leaf(term, line, names)?;
             items.push(Item::Push(x))?;
-            Ok(kind)
+            open.push(Operated { kind, start })?;
         }
-        ExprNode::Prefixed(prefix, a) => {
-            let kind = typed(items, a, line, names)?;
-            prefixed(items, *prefix, kind, line)
+        Piece::Front(prefix) => {
+            let Some(a) = open.pop() else {
+                return Ok(());
+            };
+            let kind = prefixed(items, *prefix, a.kind, line)?;
+            open.push(Operated {
+                kind,
+                start: a.start,
+            })?;
         }
-        ExprNode::Binary(op, operands) => {
-            let k = typed(items, &operands.0, line, names)?;
-            let between = items.len();
-            let l = typed(items, &operands.1, line, names)?;
-            pair(items, between, *op, k, l, line)
+        Piece::Between(op) => {
+            let Some(b) = open.pop() else {
+                return Ok(());
+            };
+            let Some(a) = open.pop() else {
+                open.push(b)?;
+                return Ok(());
+            };
+            let kind = pair(items, b.start, *op, a.kind, b.kind, line)?;
+            open.push(Operated {
+                kind,
+                start: a.start,
+            })?;
         }
     }
+    Ok(())
 }
 
 /// A leaf, and its kind.

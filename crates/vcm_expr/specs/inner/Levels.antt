@@ -10,8 +10,9 @@ use Rattle.vcm_expr.specs.declared.levels.Chain.{Chain}
 use Rattle.vcm_expr.specs.declared.levels.Chain.TheVariants.{Disjunction, Conjunction, Sum, Product}
 use Rattle.vcm_expr.specs.declared.levels.Front.{Front}
 use Rattle.vcm_expr.specs.declared.levels.Front.TheVariants.{Negation, Sign}
-use Rattle.vcm_expr.specs.Source.{is_small}
-use Rattle.vcm_expr.specs.inner.Parser.{Taken, Parser, and_then, closed, primary_by, sign_of, negation_of}
+use Rattle.vcm_expr.specs.declared.expression.Size.{Size}
+use Rattle.vcm_expr.specs.Source.{Source, is_small, IsSize}
+use Rattle.vcm_expr.specs.inner.Parser.{Taken, Parser, and_then, phrase, closed, primary_by, sign_of, negation_of}
 use Rattle.vcm_expr.specs.inner.Parser.{product_op, sum_op, and_op, or_op, signed_by, product_by, sum_by}
 use Rattle.vcm_expr.specs.inner.Parser.{relation_by, negation_by, conjunction_by, disjunction_by, expression}
 
@@ -82,3 +83,10 @@ NotClosing (_ ∷ r) = Unit {0}
 -- the refusal tells this line, and the fault that the reading has
 abbrev pub Told : ℕ → Result Taken FaultCode → SourceFault → Type 0
 Told line o f = (f.line ≡ line) × (o ≡ Err f.code)
+
+-- an expression of this size was read, which stands on those that were there, and these symbols are left
+pub record Reads (o : Result Taken FaultCode) (before after : List Source) (size : Size) (rest : List Symbol) : Type 0 where
+  pub tree : Source
+  pub read : o ≡ phrase tree rest
+  pub there : after ≡ tree ∷ before
+  pub sized : IsSize size tree

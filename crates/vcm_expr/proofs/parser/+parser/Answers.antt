@@ -1,10 +1,10 @@
-use Rattle.std.proofs.Common.{◌∙◌, refl, inr, arith}
+use Rattle.std.proofs.Common.{◌∙◌, ◌∷◌, refl, ap, inr, arith}
 use Rattle.std.proofs.lemmas.Result.{err_from_is_err_and}
 use Rattle.vcm_expr.specs.declared.levels.Chain.TheVariants.{Disjunction, Conjunction, Sum, Product}
-use Rattle.vcm_expr.specs.Source.{Pair, is_small}
+use Rattle.vcm_expr.specs.Source.{is_small}
 use Rattle.vcm_expr.specs.inner.Parser.{relation_op}
 use Rattle.vcm_expr.specs.inner.Levels.{chain_in, chain_op, fronted_in}
-use Rattle.vcm_expr.proofs.Chains.{chain_begins, chain_on, chain_stops, chain_fails, told_same, told_big, front_is, front_reads, front_told, front_big, once_made, once_big, once_fails, group_full, group_fails, group_closed, group_open}
+use Rattle.vcm_expr.proofs.Chains.{chain_begins, chain_on, chain_stops, chain_fails, chain_big, told_same, told_big, front_is, front_reads, front_told, front_big, once_made, once_big, once_fails, group_full, group_fails, group_closed, group_open}
 use Rattle.vcm_expr.proofs.Fronts.{next_shorter}
 use Rattle.vcm_expr.proofs.parser.+parser.Goals as goal
 
@@ -14,18 +14,21 @@ disjunction-returns-in_err-left-clause-fault t c =
     rw (p.1, p.2) (told_same c.args.line _ _ _ (chain_fails Disjunction c.args.room c.args.words) c.in_err-left.ensures.fault)
 
 pub disjunction-loop-op-init : goal.disjunction-loop-op-init
-disjunction-loop-op-init t c = record { shorter = c.in_ok-left.ensures.shorter; runs = chain_begins Disjunction c.args.room c.args.words _ _ c.in_ok-left.ensures.ok }
+disjunction-loop-op-init t c = let r = c.in_ok-left.ensures.ok in record { shorter = c.in_ok-left.ensures.shorter; there = (r.tree, r.there, r.sized, chain_begins Disjunction c.args.room c.args.words _ _ r.read) }
 
 pub disjunction-loop-op-preserved : goal.disjunction-loop-op-preserved
-disjunction-loop-op-preserved t c = record {
+disjunction-loop-op-preserved t c =
+    let h = c.loop-op.invariant.there in
+    let r = c.in_ok-right.ensures.ok in
+    let j = c.in_ok-left-2.ensures.ok h.0 r.tree _ (r.there ∙ ap (λ es. r.tree ∷ es) h.1) h.2 r.sized in record {
   shorter = omega (arith, next_shorter (chain_op Disjunction) c.loop-op.rest c.in-Some.op c.in-Some.after c.in-Some.ensures.some, c.in_ok-right.ensures.shorter, c.loop-op.invariant.shorter);
-  runs = chain_on Disjunction c.args.room c.args.words c.loop-op.left c.in_ok-left-2.left c.loop-op.rest c.in-Some.op c.in-Some.after c.in_ok-right.right c.in_ok-right.behind c.loop-op.invariant.runs c.in-Some.ensures.some c.in_ok-right.ensures.ok c.in_ok-left-2.ensures.small c.in_ok-left-2.ensures.ok c.in_ok-right.ensures.shorter;
+  there = (_, j.0, j.1, chain_on Disjunction c.args.room c.args.words h.0 _ c.loop-op.rest c.in-Some.op c.in-Some.after r.tree c.in_ok-right.behind h.3 c.in-Some.ensures.some r.read j.1.small refl c.in_ok-right.ensures.shorter);
 }
 
 pub disjunction-returns-in_err-right-clause-fault : goal.disjunction-returns-in_err-right-clause-fault
 disjunction-returns-in_err-right-clause-fault t c =
     let p = err_from_is_err_and c.from_residual-in_err-right.result c.from_residual-in_err-right.ensures.1 in
-    rw (p.1, p.2) (told_same c.args.line _ _ _ (λ code. chain_stops Disjunction c.args.room c.args.words c.loop-op.left c.loop-op.rest c.in-Some.op c.in-Some.after code c.loop-op.invariant.runs c.in-Some.ensures.some) c.in_err-right.ensures.fault)
+    rw (p.1, p.2) (told_same c.args.line _ _ _ (λ code. chain_stops Disjunction c.args.room c.args.words c.loop-op.invariant.there.0 c.loop-op.rest c.in-Some.op c.in-Some.after code c.loop-op.invariant.there.3 c.in-Some.ensures.some) c.in_err-right.ensures.fault)
 
 pub conjunction-returns-in_err-left-clause-fault : goal.conjunction-returns-in_err-left-clause-fault
 conjunction-returns-in_err-left-clause-fault t c =
@@ -33,12 +36,15 @@ conjunction-returns-in_err-left-clause-fault t c =
     rw (p.1, p.2) (told_same c.args.line _ _ _ (chain_fails Conjunction c.args.room c.args.words) c.in_err-left.ensures.fault)
 
 pub conjunction-loop-op-init : goal.conjunction-loop-op-init
-conjunction-loop-op-init t c = record { shorter = c.in_ok-left.ensures.shorter; runs = chain_begins Conjunction c.args.room c.args.words _ _ c.in_ok-left.ensures.ok }
+conjunction-loop-op-init t c = let r = c.in_ok-left.ensures.ok in record { shorter = c.in_ok-left.ensures.shorter; there = (r.tree, r.there, r.sized, chain_begins Conjunction c.args.room c.args.words _ _ r.read) }
 
 pub conjunction-loop-op-preserved : goal.conjunction-loop-op-preserved
-conjunction-loop-op-preserved t c = record {
+conjunction-loop-op-preserved t c =
+    let h = c.loop-op.invariant.there in
+    let r = c.in_ok-right.ensures.ok in
+    let j = c.in_ok-left-2.ensures.ok h.0 r.tree _ (r.there ∙ ap (λ es. r.tree ∷ es) h.1) h.2 r.sized in record {
   shorter = omega (arith, next_shorter (chain_op Conjunction) c.loop-op.rest c.in-Some.op c.in-Some.after c.in-Some.ensures.some, c.in_ok-right.ensures.shorter, c.loop-op.invariant.shorter);
-  runs = chain_on Conjunction c.args.room c.args.words c.loop-op.left c.in_ok-left-2.left c.loop-op.rest c.in-Some.op c.in-Some.after c.in_ok-right.right c.in_ok-right.behind c.loop-op.invariant.runs c.in-Some.ensures.some c.in_ok-right.ensures.ok c.in_ok-left-2.ensures.small c.in_ok-left-2.ensures.ok c.in_ok-right.ensures.shorter;
+  there = (_, j.0, j.1, chain_on Conjunction c.args.room c.args.words h.0 _ c.loop-op.rest c.in-Some.op c.in-Some.after r.tree c.in_ok-right.behind h.3 c.in-Some.ensures.some r.read j.1.small refl c.in_ok-right.ensures.shorter);
 }
 
 pub sum-returns-in_err-left-clause-fault : goal.sum-returns-in_err-left-clause-fault
@@ -47,18 +53,21 @@ sum-returns-in_err-left-clause-fault t c =
     rw (p.1, p.2) (told_same c.args.line _ _ _ (chain_fails Sum c.args.room c.args.words) c.in_err-left.ensures.fault)
 
 pub sum-loop-op-init : goal.sum-loop-op-init
-sum-loop-op-init t c = record { shorter = c.in_ok-left.ensures.shorter; runs = chain_begins Sum c.args.room c.args.words _ _ c.in_ok-left.ensures.ok }
+sum-loop-op-init t c = let r = c.in_ok-left.ensures.ok in record { shorter = c.in_ok-left.ensures.shorter; there = (r.tree, r.there, r.sized, chain_begins Sum c.args.room c.args.words _ _ r.read) }
 
 pub sum-loop-op-preserved : goal.sum-loop-op-preserved
-sum-loop-op-preserved t c = record {
+sum-loop-op-preserved t c =
+    let h = c.loop-op.invariant.there in
+    let r = c.in_ok-right.ensures.ok in
+    let j = c.in_ok-left-2.ensures.ok h.0 r.tree _ (r.there ∙ ap (λ es. r.tree ∷ es) h.1) h.2 r.sized in record {
   shorter = omega (arith, next_shorter (chain_op Sum) c.loop-op.rest c.in-Some.op c.in-Some.after c.in-Some.ensures.some, c.in_ok-right.ensures.shorter, c.loop-op.invariant.shorter);
-  runs = chain_on Sum c.args.room c.args.words c.loop-op.left c.in_ok-left-2.left c.loop-op.rest c.in-Some.op c.in-Some.after c.in_ok-right.right c.in_ok-right.behind c.loop-op.invariant.runs c.in-Some.ensures.some c.in_ok-right.ensures.ok c.in_ok-left-2.ensures.small c.in_ok-left-2.ensures.ok c.in_ok-right.ensures.shorter;
+  there = (_, j.0, j.1, chain_on Sum c.args.room c.args.words h.0 _ c.loop-op.rest c.in-Some.op c.in-Some.after r.tree c.in_ok-right.behind h.3 c.in-Some.ensures.some r.read j.1.small refl c.in_ok-right.ensures.shorter);
 }
 
 pub sum-returns-in_err-right-clause-fault : goal.sum-returns-in_err-right-clause-fault
 sum-returns-in_err-right-clause-fault t c =
     let p = err_from_is_err_and c.from_residual-in_err-right.result c.from_residual-in_err-right.ensures.1 in
-    rw (p.1, p.2) (told_same c.args.line _ _ _ (λ code. chain_stops Sum c.args.room c.args.words c.loop-op.left c.loop-op.rest c.in-Some.op c.in-Some.after code c.loop-op.invariant.runs c.in-Some.ensures.some) c.in_err-right.ensures.fault)
+    rw (p.1, p.2) (told_same c.args.line _ _ _ (λ code. chain_stops Sum c.args.room c.args.words c.loop-op.invariant.there.0 c.loop-op.rest c.in-Some.op c.in-Some.after code c.loop-op.invariant.there.3 c.in-Some.ensures.some) c.in_err-right.ensures.fault)
 
 pub product-returns-in_err-left-clause-fault : goal.product-returns-in_err-left-clause-fault
 product-returns-in_err-left-clause-fault t c =
@@ -66,51 +75,141 @@ product-returns-in_err-left-clause-fault t c =
     rw (p.1, p.2) (told_same c.args.line _ _ _ (chain_fails Product c.args.room c.args.words) c.in_err-left.ensures.fault)
 
 pub product-loop-op-init : goal.product-loop-op-init
-product-loop-op-init t c = record { shorter = c.in_ok-left.ensures.shorter; runs = chain_begins Product c.args.room c.args.words _ _ c.in_ok-left.ensures.ok }
+product-loop-op-init t c = let r = c.in_ok-left.ensures.ok in record { shorter = c.in_ok-left.ensures.shorter; there = (r.tree, r.there, r.sized, chain_begins Product c.args.room c.args.words _ _ r.read) }
 
 pub product-loop-op-preserved : goal.product-loop-op-preserved
-product-loop-op-preserved t c = record {
+product-loop-op-preserved t c =
+    let h = c.loop-op.invariant.there in
+    let r = c.in_ok-right.ensures.ok in
+    let j = c.in_ok-left-2.ensures.ok h.0 r.tree _ (r.there ∙ ap (λ es. r.tree ∷ es) h.1) h.2 r.sized in record {
   shorter = omega (arith, next_shorter (chain_op Product) c.loop-op.rest c.in-Some.op c.in-Some.after c.in-Some.ensures.some, c.in_ok-right.ensures.shorter, c.loop-op.invariant.shorter);
-  runs = chain_on Product c.args.room c.args.words c.loop-op.left c.in_ok-left-2.left c.loop-op.rest c.in-Some.op c.in-Some.after c.in_ok-right.right c.in_ok-right.behind c.loop-op.invariant.runs c.in-Some.ensures.some c.in_ok-right.ensures.ok c.in_ok-left-2.ensures.small c.in_ok-left-2.ensures.ok c.in_ok-right.ensures.shorter;
+  there = (_, j.0, j.1, chain_on Product c.args.room c.args.words h.0 _ c.loop-op.rest c.in-Some.op c.in-Some.after r.tree c.in_ok-right.behind h.3 c.in-Some.ensures.some r.read j.1.small refl c.in_ok-right.ensures.shorter);
 }
 
-pub fronted-returns-in_err-e-clause-fault : goal.fronted-returns-in_err-e-clause-fault
-fronted-returns-in_err-e-clause-fault t c =
-    let p = err_from_is_err_and c.from_residual-in_err-e.result c.from_residual-in_err-e.ensures.1 in
-    rw (p.1, p.2) (front_told c.args.front c.args.room c.args.words c.in_ok-signs.rest c.in_ok-signs.signs.items c.args.line _ (front_is c.args.front c.args.room c.args.words ∙ c.in_ok-signs.ensures.ok (fronted_in c.args.front c.args.room)) c.in_err-e.ensures.fault)
+pub fronted-returns-in_err-size-clause-fault : goal.fronted-returns-in_err-size-clause-fault
+fronted-returns-in_err-size-clause-fault t c =
+    let p = err_from_is_err_and c.from_residual-in_err-size.result c.from_residual-in_err-size.ensures.1 in
+    rw (p.1, p.2) (front_told c.args.front c.args.room c.args.words c.in_ok-signs.rest c.in_ok-signs.signs.items c.args.line _ (front_is c.args.front c.args.room c.args.words ∙ c.in_ok-signs.ensures.ok (fronted_in c.args.front c.args.room)) c.in_err-size.ensures.fault)
+
+pub fronted-with_signs-requires : goal.fronted-with_signs-requires
+fronted-with_signs-requires t c = let r = c.in_ok-size.ensures.ok in (r.tree, _, r.there, r.sized)
 
 pub fronted-returns-in_err-with_signs-clause-fault : goal.fronted-returns-in_err-with_signs-clause-fault
 fronted-returns-in_err-with_signs-clause-fault t c =
     let p = err_from_is_err_and c.from_residual-in_err-with_signs.result c.from_residual-in_err-with_signs.ensures.1 in
-    rw (p.1, p.2) (front_big c.args.front c.args.room c.args.words c.in_ok-signs.rest c.in_ok-e.rest c.in_ok-signs.signs.items c.in_ok-e.e c.args.line _ (front_is c.args.front c.args.room c.args.words ∙ c.in_ok-signs.ensures.ok (fronted_in c.args.front c.args.room)) c.in_ok-e.ensures.ok c.in_err-with_signs.ensures.fault)
+    let r = c.in_ok-size.ensures.ok in
+    rw (p.1, p.2) (front_big c.args.front c.args.room c.args.words c.in_ok-signs.rest c.in_ok-size.rest c.in_ok-signs.signs.items c.in_ok-size.size _ _ r.tree c.args.line _ (front_is c.args.front c.args.room c.args.words ∙ c.in_ok-signs.ensures.ok (fronted_in c.args.front c.args.room)) r.read r.there r.sized c.in_err-with_signs.ensures.fault)
 
 pub fronted-returns-clause-ok : goal.fronted-returns-clause-ok
 fronted-returns-clause-ok t c =
-    front_reads c.args.front c.args.room c.args.words c.in_ok-signs.rest c.in_ok-signs.signs.items c.in_ok-e.e c.in_ok-with_signs.field-0 c.in_ok-e.rest (front_is c.args.front c.args.room c.args.words ∙ c.in_ok-signs.ensures.ok (fronted_in c.args.front c.args.room)) c.in_ok-e.ensures.ok (c.in_ok-with_signs.ensures.ok c.in_ok-e.rest)
+    let r = c.in_ok-size.ensures.ok in
+    let q = c.in_ok-with_signs.ensures.ok r.tree _ c.in_ok-size.rest r.there r.sized in
+    record {
+      tree = q.tree;
+      read = front_reads c.args.front c.args.room c.args.words c.in_ok-signs.rest c.in_ok-signs.signs.items r.tree q.tree c.in_ok-size.rest (front_is c.args.front c.args.room c.args.words ∙ c.in_ok-signs.ensures.ok (fronted_in c.args.front c.args.room)) r.read q.read;
+      there = q.there;
+      sized = q.sized;
+    }
 
 pub group-returns-then-room-eq0-clause-fault : goal.group-returns-then-room-eq0-clause-fault
 group-returns-then-room-eq0-clause-fault t c = rw c.too_deep.ensures (inr (refl, group_full c.args.room c.args.words c.if-room-eq0.true))
 
-pub group-returns-in_err-e-clause-fault : goal.group-returns-in_err-e-clause-fault
-group-returns-in_err-e-clause-fault t c =
+pub group-returns-in_err-size-clause-fault : goal.group-returns-in_err-size-clause-fault
+group-returns-in_err-size-clause-fault t c =
     let p = err_from_is_err_and c.from_residual.result c.from_residual.ensures.1 in
-    rw (p.1, p.2) (told_same c.args.line _ _ _ (λ code. group_fails c.args.room c.args.words code (omega arith)) c.in_err-e.ensures.fault)
+    rw (p.1, p.2) (told_same c.args.line _ _ _ (λ code. group_fails c.args.room c.args.words code (omega arith)) c.in_err-size.ensures.fault)
 
 pub group-returns-in_default-clause-fault : goal.group-returns-in_default-clause-fault
-group-returns-in_default-clause-fault t c = rw c.bad_syntax.ensures (inr (refl, group_open c.args.room c.args.words c.in_ok-e.e c.in_ok-e.rest (omega arith) c.in_ok-e.ensures.ok c.in_default.ensures.none))
+group-returns-in_default-clause-fault t c = rw c.bad_syntax.ensures (inr (refl, group_open c.args.room c.args.words c.in_ok-size.ensures.ok.tree c.in_ok-size.rest (omega arith) c.in_ok-size.ensures.ok.read c.in_default.ensures.none))
 
 pub group-returns-clause-ok : goal.group-returns-clause-ok
-group-returns-clause-ok t c = group_closed c.args.room c.args.words c.in_ok-e.e c.in_ok-e.rest _ (omega arith) c.in_ok-e.ensures.ok c.in-Some.ensures.some
+group-returns-clause-ok t c =
+    let r = c.in_ok-size.ensures.ok in
+    record { tree = r.tree; read = group_closed c.args.room c.args.words r.tree c.in_ok-size.rest _ (omega arith) r.read c.in-Some.ensures.some; there = r.there; sized = r.sized }
 
 pub relation-returns-in_err-right-clause-fault : goal.relation-returns-in_err-right-clause-fault
 relation-returns-in_err-right-clause-fault t c =
     let p = err_from_is_err_and c.from_residual-in_err-right.result c.from_residual-in_err-right.ensures.1 in
-    rw (p.1, p.2) (told_same c.args.line _ _ _ (λ code. once_fails is_small (chain_in Sum c.args.room) relation_op c.args.words _ _ _ _ code c.in_ok-left.ensures.ok c.in-Some.ensures.some) c.in_err-right.ensures.fault)
+    rw (p.1, p.2) (told_same c.args.line _ _ _ (λ code. once_fails is_small (chain_in Sum c.args.room) relation_op c.args.words _ _ _ _ code c.in_ok-left.ensures.ok.read c.in-Some.ensures.some) c.in_err-right.ensures.fault)
+
+pub relation-joined-requires : goal.relation-joined-requires
+relation-joined-requires t c =
+    let l = c.in_ok-left.ensures.ok in
+    let r = c.in_ok-right.ensures.ok in
+    (l.tree, r.tree, _, r.there ∙ ap (λ es. r.tree ∷ es) l.there, l.sized, r.sized)
 
 pub relation-returns-in_err-joined-clause-fault : goal.relation-returns-in_err-joined-clause-fault
 relation-returns-in_err-joined-clause-fault t c =
     let p = err_from_is_err_and c.from_residual-in_err-joined.result c.from_residual-in_err-joined.ensures.1 in
-    rw (p.1, p.2) (told_big c.args.line (Pair c.in-Some.op c.in_ok-left.left c.in_ok-right.right) _ _ (once_big is_small (chain_in Sum c.args.room) relation_op c.args.words _ _ _ _ _ _ c.in_ok-left.ensures.ok c.in-Some.ensures.some c.in_ok-right.ensures.ok) c.in_err-joined.ensures.fault)
+    let l = c.in_ok-left.ensures.ok in
+    let r = c.in_ok-right.ensures.ok in
+    rw (p.1, p.2) (told_big c.args.line c.in-Some.op c.in_ok-left.left c.in_ok-right.right l.tree r.tree _ _ l.sized r.sized (once_big is_small (chain_in Sum c.args.room) relation_op c.args.words _ _ _ _ _ _ l.read c.in-Some.ensures.some r.read) c.in_err-joined.ensures.fault)
 
 pub relation-returns-clause-ok : goal.relation-returns-clause-ok
-relation-returns-clause-ok t c = once_made is_small (chain_in Sum c.args.room) relation_op c.args.words _ _ _ _ _ _ _ c.in_ok-left.ensures.ok c.in-Some.ensures.some c.in_ok-right.ensures.ok c.in_ok-joined.ensures.small c.in_ok-joined.ensures.ok
+relation-returns-clause-ok t c =
+    let l = c.in_ok-left.ensures.ok in
+    let r = c.in_ok-right.ensures.ok in
+    let j = c.in_ok-joined.ensures.ok l.tree r.tree _ (r.there ∙ ap (λ es. r.tree ∷ es) l.there) l.sized r.sized in
+    record {
+      tree = _;
+      read = once_made is_small (chain_in Sum c.args.room) relation_op c.args.words _ _ _ _ r.tree _ _ l.read c.in-Some.ensures.some r.read j.1.small refl;
+      there = j.0;
+      sized = j.1;
+    }
+
+pub disjunction-joined-requires : goal.disjunction-joined-requires
+disjunction-joined-requires t c =
+    let h = c.loop-op.invariant.there in
+    let r = c.in_ok-right.ensures.ok in
+    (h.0, r.tree, _, r.there ∙ ap (λ es. r.tree ∷ es) h.1, h.2, r.sized)
+
+pub conjunction-joined-requires : goal.conjunction-joined-requires
+conjunction-joined-requires t c =
+    let h = c.loop-op.invariant.there in
+    let r = c.in_ok-right.ensures.ok in
+    (h.0, r.tree, _, r.there ∙ ap (λ es. r.tree ∷ es) h.1, h.2, r.sized)
+
+pub sum-joined-requires : goal.sum-joined-requires
+sum-joined-requires t c =
+    let h = c.loop-op.invariant.there in
+    let r = c.in_ok-right.ensures.ok in
+    (h.0, r.tree, _, r.there ∙ ap (λ es. r.tree ∷ es) h.1, h.2, r.sized)
+
+pub product-joined-requires : goal.product-joined-requires
+product-joined-requires t c =
+    let h = c.loop-op.invariant.there in
+    let r = c.in_ok-right.ensures.ok in
+    (h.0, r.tree, _, r.there ∙ ap (λ es. r.tree ∷ es) h.1, h.2, r.sized)
+
+pub disjunction-returns-in_err-left-2-clause-fault : goal.disjunction-returns-in_err-left-2-clause-fault
+disjunction-returns-in_err-left-2-clause-fault t c =
+    let p = err_from_is_err_and c.from_residual-in_err-left-2.result c.from_residual-in_err-left-2.ensures.1 in
+    let h = c.loop-op.invariant.there in
+    let r = c.in_ok-right.ensures.ok in
+    rw (p.1, p.2) (told_big c.args.line c.in-Some.op c.loop-op.left c.in_ok-right.right h.0 r.tree _ _ h.2 r.sized (chain_big Disjunction c.args.room c.args.words h.0 c.loop-op.rest c.in-Some.op c.in-Some.after r.tree c.in_ok-right.behind h.3 c.in-Some.ensures.some r.read) c.in_err-left-2.ensures.fault)
+
+pub conjunction-returns-in_err-left-2-clause-fault : goal.conjunction-returns-in_err-left-2-clause-fault
+conjunction-returns-in_err-left-2-clause-fault t c =
+    let p = err_from_is_err_and c.from_residual-in_err-left-2.result c.from_residual-in_err-left-2.ensures.1 in
+    let h = c.loop-op.invariant.there in
+    let r = c.in_ok-right.ensures.ok in
+    rw (p.1, p.2) (told_big c.args.line c.in-Some.op c.loop-op.left c.in_ok-right.right h.0 r.tree _ _ h.2 r.sized (chain_big Conjunction c.args.room c.args.words h.0 c.loop-op.rest c.in-Some.op c.in-Some.after r.tree c.in_ok-right.behind h.3 c.in-Some.ensures.some r.read) c.in_err-left-2.ensures.fault)
+
+pub sum-returns-in_err-left-2-clause-fault : goal.sum-returns-in_err-left-2-clause-fault
+sum-returns-in_err-left-2-clause-fault t c =
+    let p = err_from_is_err_and c.from_residual-in_err-left-2.result c.from_residual-in_err-left-2.ensures.1 in
+    let h = c.loop-op.invariant.there in
+    let r = c.in_ok-right.ensures.ok in
+    rw (p.1, p.2) (told_big c.args.line c.in-Some.op c.loop-op.left c.in_ok-right.right h.0 r.tree _ _ h.2 r.sized (chain_big Sum c.args.room c.args.words h.0 c.loop-op.rest c.in-Some.op c.in-Some.after r.tree c.in_ok-right.behind h.3 c.in-Some.ensures.some r.read) c.in_err-left-2.ensures.fault)
+
+pub product-returns-in_err-left-2-clause-fault : goal.product-returns-in_err-left-2-clause-fault
+product-returns-in_err-left-2-clause-fault t c =
+    let p = err_from_is_err_and c.from_residual-in_err-left-2.result c.from_residual-in_err-left-2.ensures.1 in
+    let h = c.loop-op.invariant.there in
+    let r = c.in_ok-right.ensures.ok in
+    rw (p.1, p.2) (told_big c.args.line c.in-Some.op c.loop-op.left c.in_ok-right.right h.0 r.tree _ _ h.2 r.sized (chain_big Product c.args.room c.args.words h.0 c.loop-op.rest c.in-Some.op c.in-Some.after r.tree c.in_ok-right.behind h.3 c.in-Some.ensures.some r.read) c.in_err-left-2.ensures.fault)
+
+pub product-returns-in_err-right-clause-fault : goal.product-returns-in_err-right-clause-fault
+product-returns-in_err-right-clause-fault t c =
+    let p = err_from_is_err_and c.from_residual-in_err-right.result c.from_residual-in_err-right.ensures.1 in
+    rw (p.1, p.2) (told_same c.args.line _ _ _ (λ code. chain_stops Product c.args.room c.args.words c.loop-op.invariant.there.0 c.loop-op.rest c.in-Some.op c.in-Some.after code c.loop-op.invariant.there.3 c.in-Some.ensures.some) c.in_err-right.ensures.fault)

@@ -1,7 +1,6 @@
-use Rattle.std.proofs.Common.{◌≡◌, ◌≤◌, ◌+◌, ◌*◌, length, ℕ}
-use Rattle.vcm_expr.specs.Source.{is_small}
-use Rattle.vcm_expr.specs.inner.Parser.{more}
-use Rattle.vcm_expr.specs.inner.Levels.{chain_in, chain_op, link_in}
+use Rattle.std.proofs.Common.{◌≡◌, ◌≤◌, ◌+◌, ◌*◌, ◌∷◌, length}
+use Rattle.vcm_expr.specs.Source.{Source, IsSize}
+use Rattle.vcm_expr.proofs.Chains.{Runs}
 use Rattle.vcm_expr.specs.declared.levels.Chain.TheVariants.{Disjunction, Conjunction, Sum, Product}
 use Rattle.vcm_expr.proofs.ParserRanks.{under_rank}
 use Rattle.vcm_expr.proofs.parser.+parser.Given as goal
@@ -37,7 +36,7 @@ decreases-group l = 20 * length l.words + 14
 abbrev pub invariant-disjunction-loop-op : goal.invariant-disjunction-loop-op
 invariant-disjunction-loop-op l = record {
   shorter : length l.rest ≤ length l.fn.words;
-  runs : (n : ℕ) × (length l.rest ≤ n) × (chain_in Disjunction l.room l.fn.words ≡ more is_small (link_in Disjunction l.room) (chain_op Disjunction) n l.left l.rest);
+  there : (t : Source) × (l.draft ≡ t ∷ l.fn.draft) × IsSize l.left t × Runs Disjunction l.room l.fn.words t l.rest;
 }
 
 abbrev pub decreases-disjunction-loop-op : goal.decreases-disjunction-loop-op
@@ -46,7 +45,7 @@ decreases-disjunction-loop-op l = length l.rest
 abbrev pub invariant-conjunction-loop-op : goal.invariant-conjunction-loop-op
 invariant-conjunction-loop-op l = record {
   shorter : length l.rest ≤ length l.fn.words;
-  runs : (n : ℕ) × (length l.rest ≤ n) × (chain_in Conjunction l.room l.fn.words ≡ more is_small (link_in Conjunction l.room) (chain_op Conjunction) n l.left l.rest);
+  there : (t : Source) × (l.draft ≡ t ∷ l.fn.draft) × IsSize l.left t × Runs Conjunction l.room l.fn.words t l.rest;
 }
 
 abbrev pub decreases-conjunction-loop-op : goal.decreases-conjunction-loop-op
@@ -55,7 +54,7 @@ decreases-conjunction-loop-op l = length l.rest
 abbrev pub invariant-sum-loop-op : goal.invariant-sum-loop-op
 invariant-sum-loop-op l = record {
   shorter : length l.rest ≤ length l.fn.words;
-  runs : (n : ℕ) × (length l.rest ≤ n) × (chain_in Sum l.room l.fn.words ≡ more is_small (link_in Sum l.room) (chain_op Sum) n l.left l.rest);
+  there : (t : Source) × (l.draft ≡ t ∷ l.fn.draft) × IsSize l.left t × Runs Sum l.room l.fn.words t l.rest;
 }
 
 abbrev pub decreases-sum-loop-op : goal.decreases-sum-loop-op
@@ -64,7 +63,7 @@ decreases-sum-loop-op l = length l.rest
 abbrev pub invariant-product-loop-op : goal.invariant-product-loop-op
 invariant-product-loop-op l = record {
   shorter : length l.rest ≤ length l.fn.words;
-  runs : (n : ℕ) × (length l.rest ≤ n) × (chain_in Product l.room l.fn.words ≡ more is_small (link_in Product l.room) (chain_op Product) n l.left l.rest);
+  there : (t : Source) × (l.draft ≡ t ∷ l.fn.draft) × IsSize l.left t × Runs Product l.room l.fn.words t l.rest;
 }
 
 abbrev pub decreases-product-loop-op : goal.decreases-product-loop-op

@@ -1,0 +1,23 @@
+use Rattle.std.proofs.Common.{inr}
+use Rattle.std.proofs.lemmas.Result.{err_from_is_err_and}
+use Rattle.vcm_expr.proofs.TypingSteps.{leaf_fails, front_told, between_told, start_within}
+use Rattle.vcm_expr.proofs.typing.step.Goals as goal
+
+pub returns-in_err-x-in-Leaf-clause-fault : goal.returns-in_err-x-in-Leaf-clause-fault
+returns-in_err-x-in-Leaf-clause-fault c =
+    let p = err_from_is_err_and c.from_residual.result c.from_residual.ensures.1 in
+    let f = c.in_err-x-in-Leaf.ensures.fault in
+    rw (p.1, p.2, c.in-Leaf.is) (inr (f.0, λ es before t. leaf_fails c.args.names.now c.in-Leaf.term es c.args.open.now before c.args.items.now.items _ f.1 t))
+
+pub returns-in_err-kind-in-Front-clause-fault : goal.returns-in_err-kind-in-Front-clause-fault
+returns-in_err-kind-in-Front-clause-fault c =
+    let p = err_from_is_err_and c.from_residual-in_err-kind-in-Front.result c.from_residual-in_err-kind-in-Front.ensures.1 in
+    rw (p.1, p.2, c.in-Front.is) (front_told c.args.names.now c.in-Front.prefix c.in-Some.a c.args.open.now _ c.args.items.now.items c.args.line _ c.in-Some.ensures c.in_err-kind-in-Front.ensures.fault)
+
+pub pair-requires : goal.pair-requires
+pair-requires c = start_within c.args.names.now c.requires.0 c.in-Some-pop.b c.args.open.now _ c.requires.1 c.args.items.now.items c.in-Some-pop.ensures c.requires.2
+
+pub returns-in_err-kind-in-Between-clause-fault : goal.returns-in_err-kind-in-Between-clause-fault
+returns-in_err-kind-in-Between-clause-fault c =
+    let p = err_from_is_err_and c.from_residual-in_err-kind-in-Between.result c.from_residual-in_err-kind-in-Between.ensures.1 in
+    rw (p.1, p.2, c.in-Between.is) (between_told c.args.names.now c.in-Between.op c.in-Some-pop-2.a c.in-Some-pop.b c.args.open.now _ _ c.args.items.now.items c.args.line _ c.in-Some-pop.ensures c.in-Some-pop-2.ensures c.in_err-kind-in-Between.ensures.fault)

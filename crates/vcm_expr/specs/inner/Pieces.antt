@@ -1,0 +1,45 @@
+-- Expressions as they are kept: their parts in postfix order.
+use Rattle.std.specs.Prelude.{List, [], ◌∷◌, ◌++◌, true}
+use Rattle.vcm_expr.specs.declared.expression.Term.TheVariants.{Truth}
+use Rattle.vcm_expr.specs.declared.expression.Piece.{Piece}
+use Rattle.vcm_expr.specs.declared.expression.Piece.TheVariants.{Leaf, Front, Between}
+use Rattle.vcm_expr.specs.declared.expression.Written.{Written}
+use Rattle.vcm_expr.specs.declared.expression.Written.TheVariants.{Leaf as Alone, Postfix}
+use Rattle.vcm_expr.specs.Source.{Source, Plain, Prefixed, Pair}
+
+-- the parts of an expression in postfix order
+abbrev pub parts : Source → List Piece
+parts (Plain t) = Leaf t ∷ []
+parts (Prefixed op a) = parts a ++ Front op ∷ []
+parts (Pair op a b) = parts a ++ (parts b ++ Between op ∷ [])
+
+-- those of a stack of expressions, the topmost first: its parts stand last
+abbrev pub all_parts : List Source → List Piece
+all_parts [] = []
+all_parts (e ∷ es) = all_parts es ++ parts e
+
+-- one part more on a stack of expressions; where there are too few of them it changes nothing
+abbrev pub with_piece : Piece → List Source → List Source
+with_piece (Leaf t) es = Plain t ∷ es
+with_piece (Front op) (e ∷ es) = Prefixed op e ∷ es
+with_piece (Between op) (f ∷ e ∷ es) = Pair op e f ∷ es
+with_piece _ es = es
+
+-- parts one after the other
+abbrev pub with_pieces : List Piece → List Source → List Source
+with_pieces [] es = es
+with_pieces (p ∷ ps) es = with_pieces ps (with_piece p es)
+
+-- the parts that are kept
+abbrev pub pieces_of : Written → List Piece
+pieces_of (Alone t) = Leaf t ∷ []
+pieces_of (Postfix v) = v.items
+
+-- the topmost expression
+abbrev pub first_of : List Source → Source
+first_of (e ∷ es) = e
+first_of [] = Plain (Truth true)
+
+-- the expression that is kept
+abbrev pub source_of : Written → Source
+source_of w = first_of (with_pieces (pieces_of w) [])

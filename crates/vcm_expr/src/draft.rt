@@ -1,0 +1,162 @@
+//! Expressions that are read or put together.
+
+ghost use Rattle.std.specs.Prelude.{◌≡◌, ◌≤◌, ◌<◌, ◌⊎◌, List, [], ◌∷◌, false, IfOk, IfErr};
+ghost use Rattle.vcm_lines.specs.Fault.{NoMemoryOr, no_memory};
+ghost use Rattle.vcm_lines.specs.declared.fault.FaultCode.{FaultCode};
+ghost use Rattle.vcm_expr.specs.Source.{Source, Plain, Prefixed, Pair, is_small, IsSize};
+
+use crate::expression::{
+    Expr, Piece, Prefix, Size, Term, Written, copied, copy_term, too_deep,
+};
+use std::alloc::Global;
+use std::marker::Model;
+use vcm_lines::SourceFault;
+use vcm_spec::BinaryOp;
+
+/// The deepest that an expression may be.
+const DEEPEST: u32 = 32;
+
+/// The most nodes that an expression may have.
+const MOST_NODES: u32 = 512;
+
+/// How many parts have room from the start.
+const USUAL: usize = 32;
+
+/// A size within the limits.
+fn within(line: u32, depth: u32, nodes: u32) -> Result<Size, SourceFault>
+    ensures ok { IfOk result (λ s. (s.depth ≡ depth) × (s.nodes ≡ nodes) × (depth ≤ 32) × (nodes ≤ 512)) }
+    ensures fault { IfErr result (λ f. (f ≡ record { code = FaultCode.TooDeep; line = line }) × ((32 < depth) ⊎ (512 < nodes))) }
+{
+    if depth > DEEPEST || nodes > MOST_NODES {
+        return Err(too_deep(line));
+    }
+    Ok(Size {
+        depth: depth as u8,
+        nodes: nodes as u16,
+    })
+}
+
+/// Expressions that are there and wait for what stands between them. Contracts see it as their list, the last one first.
+#[derive(Drop)]
+pub struct Draft {
+    pieces: Vec<Piece>,
+}
+
+impl Model for Draft {
+    ghost use Rattle.std.specs.Prelude.{◌≡◌, List, []};
+    ghost use Rattle.std.specs.Coded.{codes};
+    ghost use Rattle.vcm_expr.specs.Source.{Source};
+    ghost use Rattle.vcm_expr.specs.inner.SourceCodes.{source_coded};
+    ghost use Rattle.vcm_expr.specs.inner.Pieces.{with_pieces, all_parts};
+
+    ghost Value = { List Source };
+
+    ghost coded = { Prim.hlevel (codes, source_coded) };
+
+    ghost view = { λ d. with_pieces d.pieces.items [] };
+
+    ghost invariant = { λ d. d.pieces.items ≡ all_parts (with_pieces d.pieces.items []) };
+}
+
+impl Draft {
+    /// No expression, and memory for the parts of most.
+    ///
+    /// # Errors
+    ///
+    /// Want of memory.
+    pub fn new(alloc: Global) -> Result<Draft, SourceFault>
+        ensures ok { IfOk result (λ d. d ≡ []) }
+        ensures fault { IfErr result (λ f. f ≡ no_memory) }
+    {
+        let pieces = Vec::with_capacity(alloc, USUAL)?;
+        Ok(Draft { pieces })
+    }
+
+    /// One more expression: a number, a truth value or a variable.
+    ///
+    /// # Errors
+    ///
+    /// Want of memory.
+    #[inline(always)]
+    pub fn leaf(&mut self, term: Term) -> Result<Size, SourceFault>
+        ensures ok { IfOk result (λ s. (self.new ≡ Plain term ∷ self.old) × IsSize s (Plain term)) }
+        ensures fault { IfErr result (λ f. f ≡ no_memory) }
+    {
+        self.pieces.push(Piece::Leaf(term))?;
+        Ok(Size { depth: 1, nodes: 1 })
+    }
+
+    /// Puts a sign or a negation before the last expression, which is of this size.
+    ///
+    /// # Errors
+    ///
+    /// An expression that becomes too deep or too large, told at `line`; want of memory.
+    pub fn prefixed(&mut self, line: u32, prefix: Prefix, a: Size) -> Result<Size, SourceFault>
+        requires { (e : Source) × (es : List Source) × (self.old ≡ e ∷ es) × IsSize a e }
+        ensures ok { IfOk result (λ s. (e : Source) (es : List Source) → self.old ≡ e ∷ es → IsSize a e
+            → (self.new ≡ Prefixed prefix e ∷ es) × IsSize s (Prefixed prefix e)) }
+        ensures fault { IfErr result (NoMemoryOr (λ f. (f ≡ record { code = FaultCode.TooDeep; line = line })
+            × ((e : Source) → IsSize a e → is_small (Prefixed prefix e) ≡ false))) }
+    {
+        let size = within(line, u32::from(a.depth) + 1, u32::from(a.nodes) + 1)?;
+        self.pieces.push(Piece::Front(prefix))?;
+        Ok(size)
+    }
+
+    /// Puts an operator between the last two expressions, which are of these sizes.
+    ///
+    /// # Errors
+    ///
+    /// An expression that becomes too deep or too large, told at `line`; want of memory.
+    pub fn joined(&mut self, line: u32, op: BinaryOp, a: Size, b: Size) -> Result<Size, SourceFault>
+        requires { (e : Source) × (f : Source) × (es : List Source) × (self.old ≡ f ∷ (e ∷ es)) × IsSize a e × IsSize b f }
+        ensures ok { IfOk result (λ s. (e f : Source) (es : List Source) → self.old ≡ f ∷ (e ∷ es) → IsSize a e → IsSize b f
+            → (self.new ≡ Pair op e f ∷ es) × IsSize s (Pair op e f)) }
+        ensures fault { IfErr result (NoMemoryOr (λ g. (g ≡ record { code = FaultCode.TooDeep; line = line })
+            × ((e f : Source) → IsSize a e → IsSize b f → is_small (Pair op e f) ≡ false))) }
+    {
+        let depth = u32::from(a.depth.max(b.depth)) + 1;
+        let nodes = u32::from(a.nodes) + u32::from(b.nodes) + 1;
+        let size = within(line, depth, nodes)?;
+        self.pieces.push(Piece::Between(op))?;
+        Ok(size)
+    }
+
+    /// One more expression, a copy.
+    ///
+    /// # Errors
+    ///
+    /// Want of memory.
+    pub fn append(&mut self, e: &Expr) -> Result<Size, SourceFault>
+        ensures ok { IfOk result (λ s. (self.new ≡ e.now ∷ self.old) × IsSize s e.now) }
+        ensures fault { IfErr result (λ f. f ≡ no_memory) }
+    {
+        match e.written() {
+            Written::Leaf(term) => {
+                let size = self.leaf(copy_term(term))?;
+                Ok(size)
+            }
+            Written::Postfix(pieces) => {
+                let mut own = copied(*self.pieces.allocator(), pieces)?;
+                self.pieces.append(&mut own)?;
+                Ok(e.size())
+            }
+        }
+    }
+
+    /// The only expression, which is of this size, in memory of its own.
+    ///
+    /// # Errors
+    ///
+    /// Want of memory.
+    pub fn finish(&self, alloc: Global, size: Size) -> Result<Expr, SourceFault>
+        requires { (e : Source) × (self.now ≡ e ∷ []) × IsSize size e }
+        ensures ok { IfOk result (λ e. self.now ≡ e ∷ []) }
+        ensures fault { IfErr result (λ f. f ≡ no_memory) }
+    {
+        match self.pieces.as_slice() {
+            [Piece::Leaf(term)] => Ok(Expr::leaf(copy_term(term))),
+            pieces => Ok(Expr::new(copied(alloc, pieces)?, size)),
+        }
+    }
+}

@@ -1,0 +1,53 @@
+//! A stack of any height.
+
+ghost use Rattle.std.specs.Prelude.{◌≡◌, [], ◌∷◌, MatchOption, IfErr, OnOk};
+ghost use Rattle.vcm_lines.specs.Fault.{no_memory};
+
+use std::alloc::Global;
+use std::marker::Model;
+use vcm_lines::SourceFault;
+
+/// A stack of any height. Contracts see it as a list, the topmost first.
+#[derive(Drop)]
+pub struct Pile<T> {
+    values: Vec<T>,
+}
+
+impl<T> Model for Pile<T> {
+    ghost use Rattle.std.specs.Prelude.{List, reverse};
+
+    ghost Value = { List T };
+
+    ghost view = { λ s. reverse s.values.items };
+}
+
+impl<T: Drop> Pile<T> {
+    /// An empty stack. It takes no memory yet.
+    pub fn new(alloc: Global) -> Pile<T>
+        ensures { result ≡ [] }
+    {
+        Pile {
+            values: Vec::new(alloc),
+        }
+    }
+
+    /// Puts a value on top.
+    ///
+    /// # Errors
+    ///
+    /// Want of memory.
+    pub fn push(&mut self, value: T) -> Result<(), SourceFault>
+        ensures ok { OnOk result (self.new ≡ value ∷ self.old) }
+        ensures fault { IfErr result (λ f. f ≡ no_memory) }
+    {
+        self.values.push(value)?;
+        Ok(())
+    }
+
+    /// Takes the topmost value, if there is one.
+    pub fn pop(&mut self) -> Option<T>
+        ensures { MatchOption result ((self.old ≡ []) × (self.new ≡ [])) (λ top. self.old ≡ top ∷ self.new) }
+    {
+        self.values.pop()
+    }
+}
