@@ -67,9 +67,12 @@ pub signs_told : (line : ℕ) (whole all ops : List Prefix) (op : Prefix) (size 
     → NoMemoryOr (λ f. (f.line ≡ line) × ((e : Source) (es : List Source) (r : List Symbol) → old ≡ e ∷ es → IsSize size e → with_fronts is_small whole (phrase e r) ≡ Err f.code)) f
 signs_told line whole all ops op size mid old now f cut so (inl m) = inl m
 signs_told line whole all ops op size mid old now f cut so (inr p) =
-    inr (ap (λ (g : SourceFault). g.line) p.0, λ e es r h z.
-    let i = so e es h z in
-    put_deep is_small _ all ops op i.0 r cut (p.1 i.0 i.2) (i.3 r) ∙ ap (λ (g : SourceFault). Err g.code) (sym p.0))
+    inr (
+      ap (λ (g : SourceFault). g.line) p.0,
+      λ e es r h z.
+          let i = so e es h z in
+          put_deep is_small _ all ops op i.0 r cut (p.1 i.0 i.2) (i.3 r) ∙ ap (λ (g : SourceFault). Err g.code) (sym p.0),
+    )
 
 -- what follows a word that is found is shorter
 pub next_shorter : {X : Type 0} (find : Symbol → Option X) (ts : List Symbol) (x : X) (after : List Symbol) → NextOf find ts x after → length after < length ts

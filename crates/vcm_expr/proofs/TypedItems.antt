@@ -1,5 +1,5 @@
 -- The items of typed expressions.
-use Rattle.std.proofs.Common.{◌≡◌, inl, inr, ℕ, ◌+◌, ◌≤◌, Bool, true, false, List, [], ◌∷◌, ◌++◌, length, Option, Some, Result, Ok, Err, refl, sym, ap, ◌∙◌, subst, arith, append_assoc}
+use Rattle.std.proofs.Common.{◌≡◌, inl, inr, ℕ, ◌+◌, ◌≤◌, Bool, true, false, List, [], ◌∷◌, ◌++◌, length, Option, Some, Ok, Err, refl, sym, ap, ◌∙◌, subst, arith, append_assoc}
 use Rattle.std.specs.Prelude.{nat_le, ◌&&◌}
 use Rattle.std.proofs.lemmas.List.{append-nil}
 use Rattle.vcm_num.specs.declared.number.Kind.{Kind}
@@ -20,7 +20,7 @@ use Rattle.vcm_expr.specs.declared.typing.Want.TheVariants.{Int as WantInt, Leng
 use Rattle.vcm_expr.specs.Source.{Source, Plain, depth_of, nodes_of, is_small}
 use Rattle.vcm_expr.specs.Typed.{VariableBelow, VariablesBelow}
 use Rattle.vcm_expr.specs.Typing.{leaf_of, kinded, is_scaled, scaled, scaled_kind, typed_as, pair_by, and_then, typed_of, wanted_by, wanted_kind, typed_for}
-use Rattle.vcm_expr.specs.inner.Pieces.{parts}
+use Rattle.vcm_expr.specs.Source.{parts}
 use Rattle.vcm_expr.specs.inner.Runs.{ItemsFit}
 use Rattle.vcm_expr.specs.inner.Trees.{topmost, scaling, Spelled, Wanted}
 use Rattle.vcm_expr.proofs.Runs.{ItemsFit-spelling}
@@ -162,10 +162,7 @@ within_depth d n h = (grind arith, grind arith)
 pub within_limits : (s : Source) → is_small s ≡ true → (depth_of s ≤ 32) × (nodes_of s ≤ 512)
 within_limits s h = within_depth (depth_of s) (nodes_of s) h
 
--- an expression that is a leaf
-pub leaf_again : (vs : List Variable) (want : Want) (t : Term) (s : Source) (r : Tree) → Plain t ≡ s → typed_for vs want (Plain t) ≡ Ok r → typed_for vs want s ≡ Ok r
-leaf_again vs want t s r e h = ap (typed_for vs want) (sym e) ∙ h
-
+-- the refusal of an expression that is a leaf
 pub leaf_fault : (vs : List Variable) (want : Want) (t : Term) (s : Source) (line : ℕ) (g : SourceFault) → Plain t ≡ s
     → NoMemoryOr (λ f. (f.line ≡ line) × (typed_for vs want (Plain t) ≡ Err f.code)) g → NoMemoryOr (λ f. (f.line ≡ line) × (typed_for vs want s ≡ Err f.code)) g
 leaf_fault vs want t s line g e (inl m) = inl m

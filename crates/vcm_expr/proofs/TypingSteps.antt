@@ -1,7 +1,6 @@
 -- Operands that are typed, one part after the other, and faults that pass on.
-use Rattle.std.proofs.Common.{◌≡◌, ◌⊎◌, inl, inr, ℕ, ◌+◌, ◌<◌, ◌≤◌, List, [], ◌∷◌, ◌++◌, length, drop, get_or, Result, Ok, Err, refl, sym, ap, ◌∙◌, subst, arith, length-append}
+use Rattle.std.proofs.Common.{◌≡◌, inl, inr, ℕ, ◌+◌, ◌<◌, ◌≤◌, List, [], ◌∷◌, length, drop, get_or, Err, sym, ap, ◌∙◌, subst, arith, length-append}
 use Rattle.std.proofs.lemmas.List.{at_drop_more, at_drop_all}
-use Rattle.vcm_num.specs.declared.number.Kind.{Kind}
 use Rattle.vcm_lines.specs.Fault.{NoMemoryOr}
 use Rattle.vcm_lines.specs.declared.fault.FaultCode.{FaultCode}
 use Rattle.vcm_lines.specs.declared.fault.SourceFault.{SourceFault}
@@ -14,9 +13,10 @@ use Rattle.vcm_expr.specs.declared.expression.Term.{Term}
 use Rattle.vcm_expr.specs.declared.expression.Piece.{Piece}
 use Rattle.vcm_expr.specs.declared.expression.Piece.TheVariants.{Leaf, Front, Between}
 use Rattle.vcm_expr.specs.declared.typing.Operated.{Operated}
-use Rattle.vcm_expr.specs.Source.{Source, Plain, Prefixed, Pair}
-use Rattle.vcm_expr.specs.Typing.{Kinded, leaf_of, prefixed_by, pair_by, and_then, typed_of}
-use Rattle.vcm_expr.specs.inner.Pieces.{parts, with_piece, with_pieces}
+use Rattle.vcm_expr.specs.Source.{Source, Plain}
+use Rattle.vcm_expr.specs.Typing.{leaf_of, prefixed_by, pair_by, and_then, typed_of}
+use Rattle.vcm_expr.specs.Source.{parts}
+use Rattle.vcm_expr.specs.inner.Pieces.{with_piece, with_pieces}
 use Rattle.vcm_expr.specs.inner.Trees.{Spelled}
 use Rattle.vcm_expr.specs.inner.Typings.{AreTyped, AllTyped, Fails}
 use Rattle.vcm_expr.proofs.PieceLemmas.{one_is}
@@ -99,10 +99,13 @@ pub typed_told : (vs : List Variable) (ps : List Piece) (i : ℕ) (p : Piece) (e
     → NoMemoryOr (λ f. (f.line ≡ line) × ((e : Source) → ps ≡ parts e → typed_of vs e ≡ Err f.code)) g
 typed_told vs ps i p es os before now line g h here e t (inl m) = inl m
 typed_told vs ps i p es os before now line g h here e t (inr q) =
-    inr (q.0, λ x is.
-    let on = piece_next ps i p es h e ∙ ap (λ r. with_pieces (drop (i + 1) ps) (with_piece r es)) (sym here) in
-    let there = sym on ∙ one_is x ps is in
-    only_fails vs g.code x (subst (λ s. Fails vs g.code s) there (fails_pieces vs g.code (drop (i + 1) ps) (with_piece p es) (q.1 es before t))))
+    inr (
+      q.0,
+      λ x is.
+          let on = piece_next ps i p es h e ∙ ap (λ r. with_pieces (drop (i + 1) ps) (with_piece r es)) (sym here) in
+          let there = sym on ∙ one_is x ps is in
+          only_fails vs g.code x (subst (λ s. Fails vs g.code s) there (fails_pieces vs g.code (drop (i + 1) ps) (with_piece p es) (q.1 es before t))),
+    )
 
 -- behind all parts the only operand is the expression
 last_is : (vs : List Variable) (e : Source) (o : Operated) (os : List Operated) (before now : List Item) → AreTyped vs (e ∷ []) (o ∷ os) before now → Spelled (typed_of vs e) before now o.kind

@@ -1,8 +1,10 @@
 -- Expressions as they are written: no parentheses, no scalings, names in place of variables.
-use Rattle.std.specs.Prelude.{◌≡◌, ℕ, ◌+◌, max, nat_le, ◌&&◌, Bool, true}
+use Rattle.std.specs.Prelude.{◌≡◌, ℕ, ◌+◌, max, nat_le, ◌&&◌, Bool, true, Option, Some, None, List, [], ◌∷◌, ◌++◌}
 use Rattle.vcm_spec.specs.declared.expression.BinaryOp.{BinaryOp}
 use Rattle.vcm_expr.specs.declared.expression.Prefix.{Prefix}
 use Rattle.vcm_expr.specs.declared.expression.Term.{Term}
+use Rattle.vcm_expr.specs.declared.expression.Piece.{Piece}
+use Rattle.vcm_expr.specs.declared.expression.Piece.TheVariants.{Leaf, Front, Between}
 use Rattle.vcm_expr.specs.declared.expression.Size.{Size}
 
 -- an expression: a leaf, or a sign or an operator on one or two expressions
@@ -10,6 +12,17 @@ pub data Source : Type 0 where
   Plain : Term → Source
   Prefixed : Prefix → Source → Source
   Pair : BinaryOp → Source → Source → Source
+
+-- the parts of an expression in postfix order
+abbrev pub parts : Source → List Piece
+parts (Plain t) = Leaf t ∷ []
+parts (Prefixed op a) = parts a ++ Front op ∷ []
+parts (Pair op a b) = parts a ++ (parts b ++ Between op ∷ [])
+
+-- the leaf that it is, where it is one
+abbrev pub leaf_in : Source → Option Term
+leaf_in (Plain t) = Some t
+leaf_in _ = None
 
 -- how deep it is: a leaf has 1
 abbrev pub depth_of : Source → ℕ

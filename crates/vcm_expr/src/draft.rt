@@ -5,9 +5,7 @@ ghost use Rattle.vcm_lines.specs.Fault.{NoMemoryOr, no_memory};
 ghost use Rattle.vcm_lines.specs.declared.fault.FaultCode.{FaultCode};
 ghost use Rattle.vcm_expr.specs.Source.{Source, Plain, Prefixed, Pair, is_small, IsSize};
 
-use crate::expression::{
-    Expr, Piece, Prefix, Size, Term, Written, copied, copy_term, too_deep,
-};
+use crate::expression::{Expr, Piece, Prefix, Size, Term, copied, copy_term, too_deep};
 use std::alloc::Global;
 use std::marker::Model;
 use vcm_lines::SourceFault;
@@ -131,17 +129,13 @@ impl Draft {
         ensures ok { IfOk result (λ s. (self.new ≡ e.now ∷ self.old) × IsSize s e.now) }
         ensures fault { IfErr result (λ f. f ≡ no_memory) }
     {
-        match e.written() {
-            Written::Leaf(term) => {
-                let size = self.leaf(copy_term(term))?;
-                Ok(size)
-            }
-            Written::Postfix(pieces) => {
-                let mut own = copied(*self.pieces.allocator(), pieces)?;
-                self.pieces.append(&mut own)?;
-                Ok(e.size())
-            }
+        if let Some(term) = e.as_leaf() {
+            let size = self.leaf(copy_term(term))?;
+            return Ok(size);
         }
+        let mut own = copied(*self.pieces.allocator(), e.pieces())?;
+        self.pieces.append(&mut own)?;
+        Ok(e.size())
     }
 
     /// The only expression, which is of this size, in memory of its own.

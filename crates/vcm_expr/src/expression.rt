@@ -2,13 +2,15 @@
 
 ghost use Rattle.std.specs.Prelude.{◌≡◌, true, IfOk, IfErr};
 ghost use Rattle.vcm_lines.specs.Fault.{no_memory};
-ghost use Rattle.vcm_expr.specs.Source.{Plain, IsSize, is_small};
-ghost use Rattle.vcm_expr.specs.inner.Pieces.{parts, pieces_of, source_of};
+ghost use Rattle.vcm_expr.specs.Source.{Plain, IsSize, is_small, parts, leaf_in};
+ghost use Rattle.std.specs.Option.{option_copied};
+ghost use Rattle.vcm_expr.specs.inner.Pieces.{pieces_of, source_of};
 ghost use Rattle.vcm_lines.specs.declared.fault.FaultCode.{FaultCode};
 
 use crate::name::Name;
 use std::alloc::Global;
 use std::marker::Model;
+use std::slice::from_ref;
 use vcm_lines::{FaultCode, SourceFault};
 use vcm_num::Literal;
 use vcm_spec::BinaryOp;
@@ -51,13 +53,11 @@ pub struct Size {
     pub nodes: u16,
 }
 
-/// How an expression is kept. One without a sign or an operator takes no memory.
+/// The parts of an expression, as they are kept: a leaf alone takes no memory.
 #[derive(Drop)]
 pub enum Written {
-    /// A number, a truth value or a variable.
-    Leaf(Term),
-    /// Its parts in postfix order.
-    Postfix(Vec<Piece>),
+    One(Piece),
+    Many(Vec<Piece>),
 }
 
 /// An expression as it is written, at most 32 deep and of at most 512 nodes. Contracts see it as a `Source`.
@@ -69,14 +69,14 @@ pub struct Expr {
 
 impl Model for Expr {
     ghost use Rattle.std.specs.Prelude.{◌≡◌};
-    ghost use Rattle.vcm_expr.specs.Source.{Source, IsSize};
+    ghost use Rattle.vcm_expr.specs.Source.{Source, IsSize, parts};
     ghost use Rattle.vcm_expr.specs.inner.SourceCodes.{source_coded};
 
     ghost Value = { Source };
 
     ghost coded = { source_coded };
 
-    ghost use Rattle.vcm_expr.specs.inner.Pieces.{parts, pieces_of, source_of};
+    ghost use Rattle.vcm_expr.specs.inner.Pieces.{pieces_of, source_of};
 
     ghost view = { λ e. source_of e.written };
 
@@ -91,7 +91,7 @@ impl Expr {
         ensures { result ≡ Plain term }
     {
         Expr {
-            written: Written::Leaf(term),
+            written: Written::One(Piece::Leaf(term)),
             size: Size { depth: 1, nodes: 1 },
         }
     }
@@ -102,7 +102,7 @@ impl Expr {
         ensures { pieces.items ≡ parts result }
     {
         Expr {
-            written: Written::Postfix(pieces),
+            written: Written::Many(pieces),
             size,
         }
     }
@@ -117,8 +117,8 @@ impl Expr {
         ensures fault { IfErr result (λ f. f ≡ no_memory) }
     {
         let written = match &self.written {
-            Written::Leaf(term) => Written::Leaf(copy_term(term)),
-            Written::Postfix(pieces) => Written::Postfix(copied(alloc, pieces)?),
+            Written::One(piece) => Written::One(copy_piece(piece)),
+            Written::Many(pieces) => Written::Many(copied(alloc, pieces)?),
         };
         Ok(Expr {
             written,
@@ -133,12 +133,26 @@ impl Expr {
         self.size
     }
 
-    /// How the expression is kept.
-    pub(crate) fn written(&self) -> &Written
-        ensures parts { pieces_of result.now ≡ parts self.now }
+    /// The number, truth value or variable that it is, where it is one.
+    pub fn as_leaf(&self) -> Option<&Term>
+        ensures { option_copied result ≡ leaf_in self.now }
+    {
+        let (first, others) = self.pieces().split_first()?;
+        match first {
+            Piece::Leaf(term) if others.is_empty() => Some(term),
+            _ => None,
+        }
+    }
+
+    /// Its parts in postfix order.
+    pub fn pieces(&self) -> &[Piece]
+        ensures parts { result.now ≡ parts self.now }
         ensures small { is_small self.now ≡ true }
     {
-        &self.written
+        match &self.written {
+            Written::One(piece) => from_ref(piece),
+            Written::Many(pieces) => pieces.as_slice(),
+        }
     }
 }
 

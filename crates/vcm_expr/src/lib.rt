@@ -20,7 +20,7 @@ mod value;
 mod variable_name;
 
 pub use draft::Draft;
-pub use expression::{Expr, Piece, Prefix, Size, Term, Written};
+pub use expression::{Expr, Piece, Prefix, Size, Term};
 pub use name::{Name, is_name};
 pub use names::Names;
 pub use parse::{parse_expr, read_expr};

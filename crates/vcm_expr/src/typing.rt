@@ -5,14 +5,15 @@ ghost use Rattle.vcm_lines.specs.Fault.{NoMemoryOr, no_memory};
 ghost use Rattle.vcm_lines.specs.declared.fault.FaultCode.{FaultCode};
 ghost use Rattle.vcm_spec.specs.declared.expression.Item.{Item};
 ghost use Rattle.vcm_spec.specs.Expression.{Tree, Value, kind_of, spelling};
-ghost use Rattle.vcm_expr.specs.inner.Pieces.{parts, with_piece};
+ghost use Rattle.vcm_expr.specs.Source.{parts};
+ghost use Rattle.vcm_expr.specs.inner.Pieces.{with_piece};
 ghost use Rattle.vcm_expr.specs.inner.Trees.{scaling, Spelled, Wanted};
 ghost use Rattle.vcm_expr.specs.inner.Typings.{AreTyped, Fails};
 ghost use Rattle.vcm_spec.specs.Setup.{kinds_of};
 ghost use Rattle.vcm_expr.specs.Source.{Source, Plain, is_small};
 ghost use Rattle.vcm_expr.specs.Typing.{kinded, leaf_of, prefixed_by, pair_by, is_scaled, scaled_kind, typed_of, typed_for, wanted_by, wanted_kind};
 
-use crate::expression::{Expr, Piece, Prefix, Term, Written};
+use crate::expression::{Expr, Piece, Prefix, Term};
 use crate::name::Name;
 use crate::names::Names;
 use crate::operators::kind_of_binary;
@@ -72,16 +73,12 @@ pub fn type_expr(
     ensures kind { IfOk result (λ t. kind_of (kinds_of names.now) t ≡ Some (wanted_kind want)) }
     ensures fault { IfErr result (NoMemoryOr (λ f. (f.line ≡ line) × (typed_for names.now want e.now ≡ Err f.code))) }
 {
-    match e.written() {
-        Written::Leaf(term) => {
-            let typed = type_leaf(alloc, term, line, names, want)?;
-            Ok(typed)
-        }
-        Written::Postfix(pieces) => {
-            let typed = type_pieces(alloc, pieces, line, names, want)?;
-            Ok(typed)
-        }
+    if let Some(term) = e.as_leaf() {
+        let typed = type_leaf(alloc, term, line, names, want)?;
+        return Ok(typed);
     }
+    let typed = type_pieces(alloc, e.pieces(), line, names, want)?;
+    Ok(typed)
 }
 
 /// The typed expression for a place where a number, a truth value or a variable stands alone.

@@ -4,14 +4,8 @@ use Rattle.vcm_expr.specs.declared.expression.Term.TheVariants.{Truth}
 use Rattle.vcm_expr.specs.declared.expression.Piece.{Piece}
 use Rattle.vcm_expr.specs.declared.expression.Piece.TheVariants.{Leaf, Front, Between}
 use Rattle.vcm_expr.specs.declared.expression.Written.{Written}
-use Rattle.vcm_expr.specs.declared.expression.Written.TheVariants.{Leaf as Alone, Postfix}
-use Rattle.vcm_expr.specs.Source.{Source, Plain, Prefixed, Pair}
-
--- the parts of an expression in postfix order
-abbrev pub parts : Source → List Piece
-parts (Plain t) = Leaf t ∷ []
-parts (Prefixed op a) = parts a ++ Front op ∷ []
-parts (Pair op a b) = parts a ++ (parts b ++ Between op ∷ [])
+use Rattle.vcm_expr.specs.declared.expression.Written.TheVariants.{One, Many}
+use Rattle.vcm_expr.specs.Source.{Source, Plain, Prefixed, Pair, parts}
 
 -- those of a stack of expressions, the topmost first: its parts stand last
 abbrev pub all_parts : List Source → List Piece
@@ -32,8 +26,8 @@ with_pieces (p ∷ ps) es = with_pieces ps (with_piece p es)
 
 -- the parts that are kept
 abbrev pub pieces_of : Written → List Piece
-pieces_of (Alone t) = Leaf t ∷ []
-pieces_of (Postfix v) = v.items
+pieces_of (One p) = p ∷ []
+pieces_of (Many v) = v.items
 
 -- the topmost expression
 abbrev pub first_of : List Source → Source

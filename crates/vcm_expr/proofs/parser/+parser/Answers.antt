@@ -21,9 +21,9 @@ disjunction-loop-op-preserved t c =
     let h = c.loop-op.invariant.there in
     let r = c.in_ok-right.ensures.ok in
     let j = c.in_ok-left-2.ensures.ok h.0 r.tree _ (r.there ∙ ap (λ es. r.tree ∷ es) h.1) h.2 r.sized in record {
-  shorter = omega (arith, next_shorter (chain_op Disjunction) c.loop-op.rest c.in-Some.op c.in-Some.after c.in-Some.ensures.some, c.in_ok-right.ensures.shorter, c.loop-op.invariant.shorter);
-  there = (_, j.0, j.1, chain_on Disjunction c.args.room c.args.words h.0 _ c.loop-op.rest c.in-Some.op c.in-Some.after r.tree c.in_ok-right.behind h.3 c.in-Some.ensures.some r.read j.1.small refl c.in_ok-right.ensures.shorter);
-}
+      shorter = omega (arith, next_shorter (chain_op Disjunction) c.loop-op.rest c.in-Some.op c.in-Some.after c.in-Some.ensures.some, c.in_ok-right.ensures.shorter, c.loop-op.invariant.shorter);
+      there = (_, j.0, j.1, chain_on Disjunction c.args.room c.args.words h.0 _ c.loop-op.rest c.in-Some.op c.in-Some.after r.tree c.in_ok-right.behind h.3 c.in-Some.ensures.some r.read j.1.small refl c.in_ok-right.ensures.shorter);
+    }
 
 pub disjunction-returns-in_err-right-clause-fault : goal.disjunction-returns-in_err-right-clause-fault
 disjunction-returns-in_err-right-clause-fault t c =
@@ -43,9 +43,9 @@ conjunction-loop-op-preserved t c =
     let h = c.loop-op.invariant.there in
     let r = c.in_ok-right.ensures.ok in
     let j = c.in_ok-left-2.ensures.ok h.0 r.tree _ (r.there ∙ ap (λ es. r.tree ∷ es) h.1) h.2 r.sized in record {
-  shorter = omega (arith, next_shorter (chain_op Conjunction) c.loop-op.rest c.in-Some.op c.in-Some.after c.in-Some.ensures.some, c.in_ok-right.ensures.shorter, c.loop-op.invariant.shorter);
-  there = (_, j.0, j.1, chain_on Conjunction c.args.room c.args.words h.0 _ c.loop-op.rest c.in-Some.op c.in-Some.after r.tree c.in_ok-right.behind h.3 c.in-Some.ensures.some r.read j.1.small refl c.in_ok-right.ensures.shorter);
-}
+      shorter = omega (arith, next_shorter (chain_op Conjunction) c.loop-op.rest c.in-Some.op c.in-Some.after c.in-Some.ensures.some, c.in_ok-right.ensures.shorter, c.loop-op.invariant.shorter);
+      there = (_, j.0, j.1, chain_on Conjunction c.args.room c.args.words h.0 _ c.loop-op.rest c.in-Some.op c.in-Some.after r.tree c.in_ok-right.behind h.3 c.in-Some.ensures.some r.read j.1.small refl c.in_ok-right.ensures.shorter);
+    }
 
 pub sum-returns-in_err-left-clause-fault : goal.sum-returns-in_err-left-clause-fault
 sum-returns-in_err-left-clause-fault t c =
@@ -60,9 +60,9 @@ sum-loop-op-preserved t c =
     let h = c.loop-op.invariant.there in
     let r = c.in_ok-right.ensures.ok in
     let j = c.in_ok-left-2.ensures.ok h.0 r.tree _ (r.there ∙ ap (λ es. r.tree ∷ es) h.1) h.2 r.sized in record {
-  shorter = omega (arith, next_shorter (chain_op Sum) c.loop-op.rest c.in-Some.op c.in-Some.after c.in-Some.ensures.some, c.in_ok-right.ensures.shorter, c.loop-op.invariant.shorter);
-  there = (_, j.0, j.1, chain_on Sum c.args.room c.args.words h.0 _ c.loop-op.rest c.in-Some.op c.in-Some.after r.tree c.in_ok-right.behind h.3 c.in-Some.ensures.some r.read j.1.small refl c.in_ok-right.ensures.shorter);
-}
+      shorter = omega (arith, next_shorter (chain_op Sum) c.loop-op.rest c.in-Some.op c.in-Some.after c.in-Some.ensures.some, c.in_ok-right.ensures.shorter, c.loop-op.invariant.shorter);
+      there = (_, j.0, j.1, chain_on Sum c.args.room c.args.words h.0 _ c.loop-op.rest c.in-Some.op c.in-Some.after r.tree c.in_ok-right.behind h.3 c.in-Some.ensures.some r.read j.1.small refl c.in_ok-right.ensures.shorter);
+    }
 
 pub sum-returns-in_err-right-clause-fault : goal.sum-returns-in_err-right-clause-fault
 sum-returns-in_err-right-clause-fault t c =
@@ -82,9 +82,9 @@ product-loop-op-preserved t c =
     let h = c.loop-op.invariant.there in
     let r = c.in_ok-right.ensures.ok in
     let j = c.in_ok-left-2.ensures.ok h.0 r.tree _ (r.there ∙ ap (λ es. r.tree ∷ es) h.1) h.2 r.sized in record {
-  shorter = omega (arith, next_shorter (chain_op Product) c.loop-op.rest c.in-Some.op c.in-Some.after c.in-Some.ensures.some, c.in_ok-right.ensures.shorter, c.loop-op.invariant.shorter);
-  there = (_, j.0, j.1, chain_on Product c.args.room c.args.words h.0 _ c.loop-op.rest c.in-Some.op c.in-Some.after r.tree c.in_ok-right.behind h.3 c.in-Some.ensures.some r.read j.1.small refl c.in_ok-right.ensures.shorter);
-}
+      shorter = omega (arith, next_shorter (chain_op Product) c.loop-op.rest c.in-Some.op c.in-Some.after c.in-Some.ensures.some, c.in_ok-right.ensures.shorter, c.loop-op.invariant.shorter);
+      there = (_, j.0, j.1, chain_on Product c.args.room c.args.words h.0 _ c.loop-op.rest c.in-Some.op c.in-Some.after r.tree c.in_ok-right.behind h.3 c.in-Some.ensures.some r.read j.1.small refl c.in_ok-right.ensures.shorter);
+    }
 
 pub fronted-returns-in_err-size-clause-fault : goal.fronted-returns-in_err-size-clause-fault
 fronted-returns-in_err-size-clause-fault t c =

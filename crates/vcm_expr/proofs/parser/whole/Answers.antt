@@ -1,6 +1,6 @@
 use Rattle.std.proofs.Common.{inr, refl, ap, length, ◌∷◌, ◌∙◌}
 use Rattle.std.proofs.lemmas.Result.{err_from_is_err_and}
-use Rattle.vcm_expr.proofs.Whole.{reads_spells, whole_refuses, whole_extra, whole_finished}
+use Rattle.vcm_expr.proofs.Whole.{whole_refuses, whole_extra, whole_finished}
 use Rattle.vcm_expr.proofs.parser.whole.Goals as goal
 
 pub returns-in_err-size-clause-fault : goal.returns-in_err-size-clause-fault

@@ -1,4 +1,4 @@
-use Rattle.std.proofs.Common.{inr, arith, rules, ap, sym, ◌∙◌, ◌++◌, ◌∷◌, []}
+use Rattle.std.proofs.Common.{inr, arith, rules, ap, ◌∙◌, ◌++◌, ◌∷◌, []}
 use Rattle.std.proofs.lemmas.Result.{err_from_is_err_and}
 use Rattle.vcm_expr.specs.Source.{Plain}
 use Rattle.vcm_spec.specs.declared.expression.Item.TheVariants.{Push}

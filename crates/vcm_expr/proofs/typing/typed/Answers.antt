@@ -1,4 +1,3 @@
-use Rattle.std.proofs.Common.{refl}
 use Rattle.std.proofs.lemmas.Result.{err_from_is_err_and}
 use Rattle.vcm_expr.proofs.TypingSteps.{typed_told, typed_last, typed_some}
 use Rattle.vcm_expr.proofs.typing.typed.Goals as goal
