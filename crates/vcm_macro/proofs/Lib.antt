@@ -12,3 +12,4 @@ pub mod Orders
 pub mod Computing
 pub mod Answered
 pub mod CodesAt
+pub mod Puttings

@@ -2,3 +2,4 @@
 pub mod Expanding
 pub mod Limits
 pub mod Saying
+pub mod Putting

@@ -1,17 +1,20 @@
 //! What a body is expanded with, and substitution in expressions and names.
 
-ghost use Rattle.std.specs.Prelude.{◌≡◌, true, false, IfOk, OnOk, IfErr};
+ghost use Rattle.std.specs.Prelude.{◌≡◌, ◌∷◌, List, true, false, IfOk, OnOk, IfErr};
 ghost use Rattle.std.specs.Option.{option_copied};
 ghost use Rattle.vcm_lines.specs.Fault.{NoMemoryOr, no_memory};
-ghost use Rattle.vcm_expr.specs.Source.{source_of, is_small};
+ghost use Rattle.vcm_lines.specs.declared.fault.FaultCode.{FaultCode};
+ghost use Rattle.vcm_expr.specs.Source.{Source, is_small, IsSize};
+ghost use Rattle.vcm_expr.specs.inner.Pieces.{with_piece};
 ghost use Rattle.vcm_macro.specs.Rules.{is_small_option};
 ghost use Rattle.vcm_macro.specs.inner.Limits.{IsTooDeep};
-ghost use Rattle.vcm_macro.specs.Substitution.{put, put_variable, put_target, put_name, put_argument, variable_in, variable_of, value_of, name_of, argument_for, is_meant};
+ghost use Rattle.vcm_macro.specs.inner.Putting.{Puts, Big};
+ghost use Rattle.vcm_macro.specs.Substitution.{put, put_term, put_variable, put_target, put_name, put_argument, variable_in, variable_of, value_of, name_of, argument_for, is_meant};
 
 use std::alloc::Global;
 use std::marker::Model;
-use vcm_expr::{Expr, ExprNode, Name, Term};
-use vcm_lines::{FaultCode, SourceFault};
+use vcm_expr::{Draft, Expr, Name, Piece, Pile, Size, Term};
+use vcm_lines::SourceFault;
 use vcm_syntax::{Argument, Parameter, Target};
 
 /// What a body is expanded with. Contracts see it as a `Scope`.
@@ -68,29 +71,6 @@ fn argument_for<'a>(
     None
 }
 
-// The refusal of a growth of memory.
-fn no_memory() -> SourceFault
-    ensures { result ≡ no_memory }
-{
-    SourceFault {
-        code: FaultCode::NoMemory,
-        line: 0,
-    }
-}
-
-// The same expression.
-fn copied(alloc: Global, e: &Expr) -> Result<Expr, SourceFault>
-    ensures ok { IfOk result (λ c. c ≡ e.now) }
-    ensures small { is_small e.now ≡ true }
-    ensures fault { IfErr result (λ f. f ≡ no_memory) }
-{
-    let _ = e.node();
-    match e.copy(alloc) {
-        Ok(copy) => Ok(copy),
-        Err(_) => Err(no_memory()),
-    }
-}
-
 // The expression that an argument is.
 fn value_of(argument: Option<&Argument>) -> Option<&Expr>
     ensures { option_copied result ≡ value_of (option_copied argument.entry) }
@@ -99,11 +79,11 @@ fn value_of(argument: Option<&Argument>) -> Option<&Expr>
 }
 
 // The variable that an expression is, where it is one.
-fn variable_in(node: &ExprNode) -> Option<Target>
-    ensures { result ≡ variable_in (source_of node.now) }
+fn variable_in(e: &Expr) -> Option<Target>
+    ensures { result ≡ variable_in e.now }
 {
-    match node {
-        ExprNode::Leaf(Term::Variable(name, expansion)) => Some(Target {
+    match e.as_leaf() {
+        Some(Term::Variable(name, expansion)) => Some(Target {
             name: name.copy(),
             expansion: *expansion,
         }),
@@ -115,7 +95,7 @@ fn variable_in(node: &ExprNode) -> Option<Target>
 pub(crate) fn variable_of(value: Option<&Expr>) -> Option<Target>
     ensures { result ≡ variable_of (option_copied value.entry) }
 {
-    variable_in(value?.node())
+    variable_in(value?)
 }
 
 // The name that an argument is.
@@ -148,38 +128,67 @@ impl<'a> Bindings<'a> {
         self.expansion
     }
 
-    // The expression that stands for a variable.
-    fn put_variable(&self, alloc: Global, name: &Name) -> Result<Expr, SourceFault>
-        ensures ok { IfOk result (λ e. e ≡ put_variable self.now name.now) }
-        ensures small { OnOk result (is_small (put_variable self.now name.now) ≡ true) }
+    // Appends the expression that stands for a variable.
+    fn put_variable(&self, draft: &mut Draft, name: &Name) -> Result<Size, SourceFault>
+        ensures ok { IfOk result (λ s. (draft.new ≡ put_variable self.now name.now ∷ draft.old) × IsSize s (put_variable self.now name.now)) }
         ensures fault { IfErr result (λ f. f ≡ no_memory) }
     {
         match value_of(argument_for(false, name, self.parameters, self.arguments)) {
-            Some(value) => copied(alloc, value),
-            None => Ok(Expr::leaf(Term::Variable(name.copy(), self.expansion))),
+            Some(value) => draft.append(value),
+            None => draft.leaf(Term::Variable(name.copy(), self.expansion)),
         }
     }
 
-    // What an expression says in the expansion.
-    fn put_node(&self, alloc: Global, line: u32, node: &ExprNode) -> Result<Expr, SourceFault>
-        ensures ok { IfOk result (λ e. e ≡ put self.now (source_of node.now)) }
-        ensures small { OnOk result (is_small (put self.now (source_of node.now)) ≡ true) }
-        ensures fault { IfErr result (NoMemoryOr (IsTooDeep line (is_small (put self.now (source_of node.now))))) }
+    // Appends what a leaf says in the expansion.
+    fn put_term(&self, draft: &mut Draft, term: &Term) -> Result<Size, SourceFault>
+        ensures ok { IfOk result (λ s. (draft.new ≡ put_term self.now term.now ∷ draft.old) × IsSize s (put_term self.now term.now)) }
+        ensures fault { IfErr result (λ f. f ≡ no_memory) }
     {
-        match node {
-            ExprNode::Leaf(Term::Number(n)) => Ok(Expr::leaf(Term::Number(*n))),
-            ExprNode::Leaf(Term::Truth(b)) => Ok(Expr::leaf(Term::Truth(*b))),
-            ExprNode::Leaf(Term::Variable(name, _)) => self.put_variable(alloc, name),
-            ExprNode::Prefixed(prefix, a) => {
-                let a = self.put_node(alloc, line, a)?;
-                Expr::prefixed(alloc, line, *prefix, a)
+        match term {
+            Term::Number(n) => draft.leaf(Term::Number(*n)),
+            Term::Truth(b) => draft.leaf(Term::Truth(*b)),
+            Term::Variable(name, _) => self.put_variable(draft, name),
+        }
+    }
+
+    // Goes on by one part; `sizes` has the sizes of the expressions that are there.
+    fn put_piece(
+        &self,
+        draft: &mut Draft,
+        sizes: &mut Pile<Size>,
+        line: u32,
+        piece: &Piece,
+    ) -> Result<(), SourceFault>
+        requires { (es : List Source) × Puts self.now es draft.old sizes.old }
+        ensures ok { OnOk result ((es : List Source) → Puts self.now es draft.old sizes.old → Puts self.now (with_piece piece.now es) draft.new sizes.new) }
+        ensures fault { IfErr result (NoMemoryOr (λ f. (f ≡ record { code = FaultCode.TooDeep; line = line })
+            × ((es : List Source) → Puts self.now es draft.old sizes.old → Big self.now (with_piece piece.now es)))) }
+    {
+        match piece {
+            Piece::Leaf(term) => {
+                let size = self.put_term(draft, term)?;
+                sizes.push(size)?;
             }
-            ExprNode::Binary(op, operands) => {
-                let a = self.put_node(alloc, line, &operands.0)?;
-                let b = self.put_node(alloc, line, &operands.1)?;
-                Expr::joined(alloc, line, *op, a, b)
+            Piece::Front(prefix) => {
+                let Some(a) = sizes.pop() else {
+                    return Ok(());
+                };
+                let size = draft.prefixed(line, *prefix, a)?;
+                sizes.push(size)?;
+            }
+            Piece::Between(op) => {
+                let Some(b) = sizes.pop() else {
+                    return Ok(());
+                };
+                let Some(a) = sizes.pop() else {
+                    sizes.push(b)?;
+                    return Ok(());
+                };
+                let size = draft.joined(line, *op, a, b)?;
+                sizes.push(size)?;
             }
         }
+        Ok(())
     }
 
     /// What an expression says in the expansion.
@@ -188,7 +197,18 @@ impl<'a> Bindings<'a> {
         ensures small { OnOk result (is_small (put self.now e.now) ≡ true) }
         ensures fault { IfErr result (NoMemoryOr (IsTooDeep line (is_small (put self.now e.now)))) }
     {
-        self.put_node(alloc, line, e.node())
+        let mut draft = Draft::new(alloc)?;
+        let mut sizes = Pile::new(alloc);
+        for piece in e.pieces() {
+            self.put_piece(&mut draft, &mut sizes, line, piece)?;
+        }
+        match sizes.pop() {
+            Some(size) => {
+                let whole = draft.finish(alloc, size)?;
+                Ok(whole)
+            }
+            None => unreachable!(),
+        }
     }
 
     /// The variable that is assigned in the expansion.

@@ -11,7 +11,7 @@ use vcm_syntax::{Form, Offset, Rounds, Spot};
 fn expression(e: &Expr)
     ensures { is_small e.now ≡ true }
 {
-    let _ = e.node();
+    let _ = e.pieces();
 }
 
 // An expression, where there is one.
