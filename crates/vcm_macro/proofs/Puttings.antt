@@ -1,5 +1,5 @@
 -- Steps of an expression that is put together again.
-use Rattle.std.proofs.Common.{◌≡◌, ◌⊎◌, inl, inr, ℕ, ◌+◌, ◌<◌, ◌≤◌, max, Bool, true, false, List, [], ◌∷◌, length, drop, get_or, Option, Some, None, refl, sym, ap, ◌∙◌, subst, arith}
+use Rattle.std.proofs.Common.{◌≡◌, inl, inr, ℕ, ◌+◌, ◌<◌, ◌≤◌, max, false, List, [], ◌∷◌, length, drop, get_or, refl, sym, ap, ◌∙◌, subst, arith}
 use Rattle.std.specs.Prelude.{nat_le, ◌&&◌}
 use Rattle.std.proofs.lemmas.List.{at_drop_more, at_drop_all}
 use Rattle.vcm_lines.specs.Fault.{NoMemoryOr}
@@ -7,30 +7,15 @@ use Rattle.vcm_lines.specs.declared.fault.FaultCode.TheVariants.{TooDeep}
 use Rattle.vcm_lines.specs.declared.fault.SourceFault.{SourceFault}
 use Rattle.vcm_spec.specs.declared.expression.BinaryOp.{BinaryOp}
 use Rattle.vcm_expr.specs.declared.expression.Prefix.{Prefix}
-use Rattle.vcm_expr.specs.declared.expression.Term.{Term}
-use Rattle.vcm_expr.specs.declared.expression.Term.TheVariants.{Number, Truth, Variable}
 use Rattle.vcm_expr.specs.declared.expression.Piece.{Piece}
 use Rattle.vcm_expr.specs.declared.expression.Piece.TheVariants.{Leaf, Front, Between}
 use Rattle.vcm_expr.specs.declared.expression.Size.{Size}
-use Rattle.vcm_expr.specs.Source.{Source, Plain, Prefixed, Pair, parts, leaf_in, depth_of, nodes_of, is_small, IsSize}
+use Rattle.vcm_expr.specs.Source.{Source, Prefixed, Pair, parts, depth_of, nodes_of, is_small, IsSize}
 use Rattle.vcm_expr.specs.inner.Pieces.{with_piece, with_pieces}
 use Rattle.vcm_expr.proofs.PieceLemmas.{one_is}
-use Rattle.vcm_syntax.specs.declared.statement.Target.{Target}
-use Rattle.vcm_macro.specs.Substitution.{Scope, put, variable_in}
+use Rattle.vcm_macro.specs.Substitution.{Scope, put}
 use Rattle.vcm_macro.specs.inner.Limits.{IsTooDeep}
 use Rattle.vcm_macro.specs.inner.Putting.{Puts, Big}
-
--- the variable that an expression is, by its leaf
-abbrev pub variable_by : Option Term → Option Target
-variable_by (Some (Variable name e)) = Some (record { name = name; expansion = e })
-variable_by _ = None
-
-pub variable_by_leaf : (e : Source) → variable_by (leaf_in e) ≡ variable_in e
-variable_by_leaf (Plain (Number n)) = refl
-variable_by_leaf (Plain (Truth b)) = refl
-variable_by_leaf (Plain (Variable name e)) = refl
-variable_by_leaf (Prefixed op a) = refl
-variable_by_leaf (Pair op a b) = refl
 
 -- the topmost expressions are there
 pub top_there : (sc : Scope) (es now : List Source) (a : Size) (sizes left : List Size) → sizes ≡ a ∷ left → Puts sc es now sizes → (e : Source) × (rest : List Source) × (now ≡ e ∷ rest) × IsSize a e
@@ -54,26 +39,6 @@ two_there sc es now a b sizes mid left is more h = there es now (subst (λ ss. P
     there (f ∷ []) (n ∷ m ∷ ns) h = absurd h.2
     there (f ∷ e ∷ es) (n ∷ []) h = absurd h.2
     there (f ∷ e ∷ es) (n ∷ m ∷ ns) h = (m, n, ns, refl, subst (λ x. IsSize a x) (sym h.2.0) h.2.1, subst (λ x. IsSize b x) (sym h.0) h.1)
-
--- a leaf more
-pub leaf_puts : (sc : Scope) (t : Term) (es now new : List Source) (s : Size) (sizes more : List Size) → new ≡ put sc (Plain t) ∷ now → IsSize s (put sc (Plain t)) → more ≡ s ∷ sizes → Puts sc es now sizes → Puts sc (Plain t ∷ es) new more
-leaf_puts sc t es now new s sizes more is z m h = subst (λ n. Puts sc (Plain t ∷ es) n more) (sym is) (subst (λ ss. Puts sc (Plain t ∷ es) (put sc (Plain t) ∷ now) ss) (sym m) (refl, z, h))
-
--- a sign before the topmost expression
-pub front_puts : (sc : Scope) (op : Prefix) (es now new : List Source) (a s : Size) (sizes left more : List Size) → sizes ≡ a ∷ left
-    → ((e : Source) (rest : List Source) → now ≡ e ∷ rest → IsSize a e → (new ≡ Prefixed op e ∷ rest) × IsSize s (Prefixed op e)) → more ≡ s ∷ left
-    → Puts sc es now sizes → Puts sc (with_piece (Front op) es) new more
-front_puts sc op es now new a s sizes left more is made m h = there es now (λ e rest. made e rest) (subst (λ ss. Puts sc es now ss) is h)
-  where
-    there : (es now : List Source) → ((e : Source) (rest : List Source) → now ≡ e ∷ rest → IsSize a e → (new ≡ Prefixed op e ∷ rest) × IsSize s (Prefixed op e)) → Puts sc es now (a ∷ left) → Puts sc (with_piece (Front op) es) new more
-    there [] [] made h = absurd h
-    there [] (n ∷ ns) made h = absurd h
-    there (e ∷ es) [] made h = absurd h
-    there (e ∷ es) (n ∷ ns) made h =
-        let z = subst (λ x. IsSize a x) (sym h.0) h.1 in
-        let j = made n ns refl z in
-        let same : Prefixed op n ≡ Prefixed op (put sc e) = ap (λ x. Prefixed op x) h.0 in
-        subst (λ q. Puts sc (Prefixed op e ∷ es) q more) (sym j.0) (subst (λ ss. Puts sc (Prefixed op e ∷ es) (Prefixed op n ∷ ns) ss) (sym m) (same, subst (λ x. IsSize s x) same j.1, h.2))
 
 -- an operator between the topmost two
 pub between_puts : (sc : Scope) (op : BinaryOp) (es now new : List Source) (a b s : Size) (sizes mid left more : List Size) → sizes ≡ b ∷ mid → mid ≡ a ∷ left
@@ -127,35 +92,7 @@ only_big : (sc : Scope) (e : Source) → Big sc (e ∷ []) → is_small (put sc 
 only_big sc e (inl h) = h
 only_big sc e (inr h) = absurd h
 
--- the exits where an operator makes an expression too large
-pub front_big : (sc : Scope) (op : Prefix) (now : List Source) (a : Size) (sizes left : List Size) (line : ℕ) (g : SourceFault) → sizes ≡ a ∷ left
-    → NoMemoryOr (λ f. (f ≡ record { code = TooDeep; line = line }) × ((e : Source) → IsSize a e → is_small (Prefixed op e) ≡ false)) g
-    → NoMemoryOr (λ f. (f ≡ record { code = TooDeep; line = line }) × ((es : List Source) → Puts sc es now sizes → Big sc (with_piece (Front op) es))) g
-front_big sc op now a sizes left line g is (inl m) = inl m
-front_big sc op now a sizes left line g is (inr q) = inr (q.0, λ es h. there es now (subst (λ ss. Puts sc es now ss) is h))
-  where
-    there : (es now : List Source) → Puts sc es now (a ∷ left) → Big sc (with_piece (Front op) es)
-    there [] [] h = absurd h
-    there [] (n ∷ ns) h = absurd h
-    there (e ∷ es) [] h = absurd h
-    there (e ∷ es) (n ∷ ns) h = inl (q.1 (put sc e) h.1)
-
-pub between_big : (sc : Scope) (op : BinaryOp) (now : List Source) (a b : Size) (sizes mid left : List Size) (line : ℕ) (g : SourceFault) → sizes ≡ b ∷ mid → mid ≡ a ∷ left
-    → NoMemoryOr (λ f. (f ≡ record { code = TooDeep; line = line }) × ((e f : Source) → IsSize a e → IsSize b f → is_small (Pair op e f) ≡ false)) g
-    → NoMemoryOr (λ f. (f ≡ record { code = TooDeep; line = line }) × ((es : List Source) → Puts sc es now sizes → Big sc (with_piece (Between op) es))) g
-between_big sc op now a b sizes mid left line g is next (inl m) = inl m
-between_big sc op now a b sizes mid left line g is next (inr q) = inr (q.0, λ es h. there es now (subst (λ ss. Puts sc es now ss) (is ∙ ap (λ ss. b ∷ ss) next) h))
-  where
-    there : (es now : List Source) → Puts sc es now (b ∷ a ∷ left) → Big sc (with_piece (Between op) es)
-    there [] [] h = absurd h
-    there [] (n ∷ ns) h = absurd h
-    there (f ∷ es) [] h = absurd h
-    there (f ∷ []) (n ∷ []) h = absurd h.2
-    there (f ∷ []) (n ∷ m ∷ ns) h = absurd h.2
-    there (f ∷ e ∷ es) (n ∷ []) h = absurd h.2
-    there (f ∷ e ∷ es) (n ∷ k ∷ ns) h = inl (q.1 (put sc e) (put sc f) h.2.1 h.1)
-
--- the loop's exits
+-- the exit where one part makes an expression too large
 pub put_told : (sc : Scope) (ps : List Piece) (i : ℕ) (p : Piece) (es now : List Source) (sizes : List Size) (e : Source) (line : ℕ) (g : SourceFault) → i < length ps → p ≡ get_or ps i p → ps ≡ parts e
     → with_pieces ps [] ≡ with_pieces (drop i ps) es → Puts sc es now sizes
     → NoMemoryOr (λ f. (f ≡ record { code = TooDeep; line = line }) × ((es : List Source) → Puts sc es now sizes → Big sc (with_piece p es))) g
