@@ -1,5 +1,5 @@
 -- Parts in postfix order give the expressions back.
-use Rattle.std.proofs.Common.{◌≡◌, ◌≢◌, Some, None, ℕ, ◌+◌, ◌≤◌, max, true, List, [], ◌∷◌, ◌++◌, refl, sym, ap, ◌∙◌, subst, append_assoc, arith}
+use Rattle.std.proofs.Common.{◌≡◌, Some, ℕ, ◌+◌, ◌≤◌, max, true, List, [], ◌∷◌, ◌++◌, refl, sym, ap, ◌∙◌, subst, append_assoc, arith}
 use Rattle.std.specs.Prelude.{nat_le, ◌&&◌}
 use Rattle.std.proofs.lemmas.List.{append-nil}
 use Rattle.vcm_expr.specs.declared.expression.Term.{Term}
@@ -10,12 +10,7 @@ use Rattle.vcm_expr.specs.declared.expression.Piece.{Piece}
 use Rattle.vcm_expr.specs.declared.expression.Piece.TheVariants.{Leaf, Front, Between}
 use Rattle.vcm_expr.specs.Source.{Source, Plain, Prefixed, Pair, depth_of, nodes_of, leaf_in, IsSize}
 use Rattle.vcm_expr.specs.Source.{parts}
-use Rattle.vcm_expr.specs.inner.Pieces.{all_parts, with_piece, with_pieces, first_of}
-
--- one part more
-pub with_one_more : (ps : List Piece) (p : Piece) (es : List Source) → with_pieces (ps ++ p ∷ []) es ≡ with_piece p (with_pieces ps es)
-with_one_more [] p es = refl
-with_one_more (q ∷ qs) p es = with_one_more qs p (with_piece q es)
+use Rattle.vcm_expr.specs.inner.Pieces.{all_parts, with_pieces, first_of}
 
 -- the parts of an expression put it on the stack
 with_parts : (e : Source) (rest : List Piece) (es : List Source) → with_pieces (parts e ++ rest) es ≡ with_pieces rest (e ∷ es)
@@ -45,23 +40,10 @@ first_is e ps h = ap first_of (one_is e ps h)
 pub leaf_is : (t : Term) (e : Source) → Leaf t ∷ [] ≡ parts e → Plain t ≡ e
 leaf_is t e h = first_is e (Leaf t ∷ []) h
 
--- the leaf that an expression is, by its parts
-pub leaf_found : (t : Term) (e : Source) (ps : List Piece) → ps ≡ parts e → ps ≡ Leaf t ∷ [] → Some t ≡ leaf_in e
-leaf_found t e ps h is = ap leaf_in (leaf_is t e (sym is ∙ h))
-
-pub no_leaf : (e : Source) (ps : List Piece) → ps ≡ parts e → ((t : Term) → ps ≢ Leaf t ∷ []) → leaf_in e ≡ None
-no_leaf (Plain t) ps h not = absurd (not t h)
-no_leaf (Prefixed op a) ps h not = refl
-no_leaf (Pair op a b) ps h not = refl
-
 pub plain_is : (t : Term) (e : Source) → Some t ≡ leaf_in e → Plain t ≡ e
 plain_is t (Plain u) h = let same : t ≡ u = cc in ap (λ x. Plain x) same
 plain_is t (Prefixed op a) h = absurd cc
 plain_is t (Pair op a b) h = absurd cc
-
--- equal parts are of equal expressions
-pub same_parts : (e f : Source) → parts e ≡ parts f → e ≡ f
-same_parts e f h = sym (first_is e (parts e) refl) ∙ first_is f (parts e) h
 
 pub parts_again : (e : Source) (ps : List Piece) → ps ≡ parts e → ps ≡ parts (first_of (with_pieces ps []))
 parts_again e ps h = h ∙ ap parts (sym (first_is e ps h))

@@ -1,6 +1,6 @@
 -- From what the parser answers on all symbols to what they spell.
 use Rattle.std.proofs.Common.{Bool, true, false, cond, ◌≡◌, ◌≢◌, ℕ, ◌≤◌, ◌⊎◌, inl, inr, ⊎_elim, List, [], ◌∷◌, ◌++◌, length, Result, Ok, Err, refl, sym, ap, ◌∙◌, subst, arith}
-use Rattle.std.specs.Prelude.{nat_le, Option, Some}
+use Rattle.std.specs.Prelude.{nat_le, Option, Some, IfOk, IfErr}
 use Rattle.std.proofs.lemmas.Bool.{and_parts}
 use Rattle.std.proofs.lemmas.List.{append-nil, nil_from_length}
 use Rattle.vcm_num.specs.declared.number.Literal.{Literal}
@@ -18,7 +18,7 @@ use Rattle.vcm_expr.specs.declared.symbol.Symbol.{Symbol}
 use Rattle.vcm_expr.specs.declared.symbol.Symbol.TheVariants.{Operand}
 use Rattle.vcm_expr.specs.Digits.{read_of}
 use Rattle.vcm_expr.specs.Symbols.{symbols_of, symbol_of, number_term, run_term, dotted_symbol, is_variable_name}
-use Rattle.vcm_expr.specs.Source.{Source, Prefixed, Pair, depth_of, nodes_of, is_small}
+use Rattle.vcm_expr.specs.Source.{Source, Plain, Prefixed, Pair, depth_of, nodes_of, is_small}
 use Rattle.vcm_expr.specs.Grammar.{Written, Leaf, Paren, Signed, Joined, spelled, IsOperand, Fits, meant, IsRead, SpellsExpr, IsDeep, NestsDeep, HasBigPart, HasFlaw, BreaksSymbols}
 use Rattle.vcm_expr.specs.inner.Pieces.{first_of}
 use Rattle.vcm_expr.specs.inner.Parser.{Taken, phrase, disjunction_by, expression}
@@ -226,6 +226,17 @@ pub whole_extra : (ps : List Symbol) (t : Source) (r : List Symbol) (k : Symbol)
 whole_extra ps t r k q e more ws is =
     let some : length r ≢ 0 = λ none. let size = ap length more in omega arith in
     extra_symbols (symbols_of ws) t r (ap reading is ∙ e) some
+
+-- an operand that stands alone is the expression, or has no value
+pub lone_good : (ps : List Symbol) (o : Result Term FaultCode) (r : Result Source SourceFault) → ps ≡ Operand o ∷ [] → IfOk r (λ e. (t : Term) × (o ≡ Ok t) × (e ≡ Plain t)) → IfOk r (λ e. SpellsExpr ps e × (is_small e ≡ true))
+lone_good ps o (Err f) is h = tt
+lone_good ps o (Ok e) is h =
+    let read : reading ps ≡ phrase (Plain h.0) [] = ap reading is ∙ ap (λ (p : Result Term FaultCode). reading (Operand p ∷ [])) h.1 in
+    subst (λ s. SpellsExpr ps s × (is_small s ≡ true)) (sym h.2) (reads_spells ps (Plain h.0) [] read refl)
+
+pub lone_flaw : (ps : List Symbol) (o : Result Term FaultCode) (line : ℕ) (r : Result Source SourceFault) → ps ≡ Operand o ∷ [] → IfErr r (λ f. (f.line ≡ line) × (o ≡ Err f.code)) → IfErr r (NoMemoryOr (At line (Refuses ps)))
+lone_flaw ps o line (Ok e) is h = tt
+lone_flaw ps o line (Err f) is h = inr (h.0, λ ws e. fails_breaks ws f.code (ap reading (e ∙ is) ∙ ap (λ (p : Result Term FaultCode). reading (Operand p ∷ [])) h.1))
 
 -- the only expression of the stack is what was read
 pub whole_finished : (ps : List Symbol) (t u : Source) (r : List Symbol) (now : List Source) → reading ps ≡ phrase t r → length r ≡ 0 → now ≡ t ∷ [] → now ≡ u ∷ [] → SpellsExpr ps u × (is_small u ≡ true)

@@ -1,6 +1,6 @@
 //! Expressions that are read or put together.
 
-ghost use Rattle.std.specs.Prelude.{◌≡◌, ◌≤◌, ◌<◌, ◌⊎◌, List, [], ◌∷◌, false, IfOk, IfErr};
+ghost use Rattle.std.specs.Prelude.{◌≡◌, ◌≤◌, ◌<◌, ◌⊎◌, List, [], ◌∷◌, false, IfOk, IfErr, OnErr};
 ghost use Rattle.vcm_lines.specs.Fault.{NoMemoryOr, no_memory};
 ghost use Rattle.vcm_lines.specs.declared.fault.FaultCode.{FaultCode};
 ghost use Rattle.vcm_expr.specs.Source.{Source, Plain, Prefixed, Pair, is_small, IsSize};
@@ -74,11 +74,12 @@ impl Draft {
     ///
     /// # Errors
     ///
-    /// Want of memory.
+    /// Want of memory; then nothing is added.
     #[inline(always)]
     pub fn leaf(&mut self, term: Term) -> Result<Size, SourceFault>
         ensures ok { IfOk result (λ s. (self.new ≡ Plain term ∷ self.old) × IsSize s (Plain term)) }
         ensures fault { IfErr result (λ f. f ≡ no_memory) }
+        ensures unchanged { OnErr result (self.new ≡ self.old) }
     {
         self.pieces.push(Piece::Leaf(term))?;
         Ok(Size { depth: 1, nodes: 1 })
@@ -88,13 +89,14 @@ impl Draft {
     ///
     /// # Errors
     ///
-    /// An expression that becomes too deep or too large, told at `line`; want of memory.
+    /// An expression that becomes too deep or too large, told at `line`; want of memory. Nothing is changed then.
     pub fn prefixed(&mut self, line: u32, prefix: Prefix, a: Size) -> Result<Size, SourceFault>
         requires { (e : Source) × (es : List Source) × (self.old ≡ e ∷ es) × IsSize a e }
         ensures ok { IfOk result (λ s. (e : Source) (es : List Source) → self.old ≡ e ∷ es → IsSize a e
             → (self.new ≡ Prefixed prefix e ∷ es) × IsSize s (Prefixed prefix e)) }
         ensures fault { IfErr result (NoMemoryOr (λ f. (f ≡ record { code = FaultCode.TooDeep; line = line })
             × ((e : Source) → IsSize a e → is_small (Prefixed prefix e) ≡ false))) }
+        ensures unchanged { OnErr result (self.new ≡ self.old) }
     {
         let size = within(line, u32::from(a.depth) + 1, u32::from(a.nodes) + 1)?;
         self.pieces.push(Piece::Front(prefix))?;
@@ -105,13 +107,14 @@ impl Draft {
     ///
     /// # Errors
     ///
-    /// An expression that becomes too deep or too large, told at `line`; want of memory.
+    /// An expression that becomes too deep or too large, told at `line`; want of memory. Nothing is changed then.
     pub fn joined(&mut self, line: u32, op: BinaryOp, a: Size, b: Size) -> Result<Size, SourceFault>
         requires { (e : Source) × (f : Source) × (es : List Source) × (self.old ≡ f ∷ (e ∷ es)) × IsSize a e × IsSize b f }
         ensures ok { IfOk result (λ s. (e f : Source) (es : List Source) → self.old ≡ f ∷ (e ∷ es) → IsSize a e → IsSize b f
             → (self.new ≡ Pair op e f ∷ es) × IsSize s (Pair op e f)) }
         ensures fault { IfErr result (NoMemoryOr (λ g. (g ≡ record { code = FaultCode.TooDeep; line = line })
             × ((e f : Source) → IsSize a e → IsSize b f → is_small (Pair op e f) ≡ false))) }
+        ensures unchanged { OnErr result (self.new ≡ self.old) }
     {
         let depth = u32::from(a.depth.max(b.depth)) + 1;
         let nodes = u32::from(a.nodes) + u32::from(b.nodes) + 1;
@@ -124,10 +127,11 @@ impl Draft {
     ///
     /// # Errors
     ///
-    /// Want of memory.
+    /// Want of memory; then nothing is added.
     pub fn append(&mut self, e: &Expr) -> Result<Size, SourceFault>
         ensures ok { IfOk result (λ s. (self.new ≡ e.now ∷ self.old) × IsSize s e.now) }
         ensures fault { IfErr result (λ f. f ≡ no_memory) }
+        ensures unchanged { OnErr result (self.new ≡ self.old) }
     {
         if let Some(term) = e.as_leaf() {
             let size = self.leaf(copy_term(term))?;
@@ -138,19 +142,16 @@ impl Draft {
         Ok(e.size())
     }
 
-    /// The only expression, which is of this size, in memory of its own.
-    ///
-    /// # Errors
-    ///
-    /// Want of memory.
-    pub fn finish(&self, alloc: Global, size: Size) -> Result<Expr, SourceFault>
-        requires { (e : Source) × (self.now ≡ e ∷ []) × IsSize size e }
-        ensures ok { IfOk result (λ e. self.now ≡ e ∷ []) }
-        ensures fault { IfErr result (λ f. f ≡ no_memory) }
+    /// The only expression, which is of this size. The memory that it doesn't need is given back.
+    pub fn finish(self, size: Size) -> Expr
+        requires { (e : Source) × (self ≡ e ∷ []) × IsSize size e }
+        ensures { self ≡ result ∷ [] }
     {
-        match self.pieces.as_slice() {
-            [Piece::Leaf(term)] => Ok(Expr::leaf(copy_term(term))),
-            pieces => Ok(Expr::new(copied(alloc, pieces)?, size)),
+        let mut pieces = self.pieces;
+        if let [Piece::Leaf(term)] = pieces.as_slice() {
+            return Expr::leaf(copy_term(term));
         }
+        pieces.shrink_to_fit();
+        Expr::new(pieces, size)
     }
 }

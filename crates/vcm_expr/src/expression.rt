@@ -87,7 +87,7 @@ impl Expr {
     ghost use Rattle.vcm_expr.specs.Source.{Source};
 
     /// A number, a truth value or a variable.
-    pub fn leaf(term: Term) -> Expr
+    pub(crate) fn leaf(term: Term) -> Expr
         ensures { result ≡ Plain term }
     {
         Expr {
@@ -107,27 +107,8 @@ impl Expr {
         }
     }
 
-    /// The same expression.
-    ///
-    /// # Errors
-    ///
-    /// Want of memory.
-    pub fn copy(&self, alloc: Global) -> Result<Expr, SourceFault>
-        ensures ok { IfOk result (λ e. e ≡ self.now) }
-        ensures fault { IfErr result (λ f. f ≡ no_memory) }
-    {
-        let written = match &self.written {
-            Written::One(piece) => Written::One(copy_piece(piece)),
-            Written::Many(pieces) => Written::Many(copied(alloc, pieces)?),
-        };
-        Ok(Expr {
-            written,
-            size: self.size,
-        })
-    }
-
     /// How deep it is, and how many nodes it has.
-    pub fn size(&self) -> Size
+    pub(crate) fn size(&self) -> Size
         ensures { IsSize result self.now }
     {
         self.size

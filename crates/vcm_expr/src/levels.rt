@@ -37,9 +37,8 @@ pub(crate) fn after_closing<'a>(words: &Symbols<'a>) -> Option<Symbols<'a>>
     ensures some { IfSome result (λ r. words.now ≡ Symbol.Closing ∷ r) }
     ensures none { IfNone result (NotClosing words.now) }
 {
-    let (first, rest) = words.split_mark()?;
-    match first {
-        Symbol::Closing => Some(rest),
+    match words.mark()? {
+        Symbol::Closing => Some(words.behind()),
         _ => None,
     }
 }
@@ -53,9 +52,9 @@ pub(crate) fn next_operator<'a>(
     ensures some { IfSome result (λ p. NextOf (chain_op level) words.now p.0 p.1) }
     ensures none { IfNone result (NoNext (chain_op level) words.now) }
 {
-    let (first, rest) = words.split_mark()?;
+    let first = words.mark()?;
     let op = operator(&first, level)?;
-    Some((op, rest))
+    Some((op, words.behind()))
 }
 
 /// The operator that a word is at a level.
@@ -80,9 +79,8 @@ pub(crate) fn next_relation<'a>(words: &Symbols<'a>) -> Option<(BinaryOp, Symbol
     ensures some { IfSome result (λ p. NextOf relation_op words.now p.0 p.1) }
     ensures none { IfNone result (NoNext relation_op words.now) }
 {
-    let (first, rest) = words.split_mark()?;
-    match first {
-        Symbol::RelationWord(relation) => Some((BinaryOp::Compare(relation), rest)),
+    match words.mark()? {
+        Symbol::RelationWord(relation) => Some((BinaryOp::Compare(relation), words.behind())),
         _ => None,
     }
 }
@@ -93,11 +91,11 @@ pub(crate) fn next_front<'a>(words: &Symbols<'a>, front: Front) -> Option<(Prefi
     ensures some { IfSome result (λ p. NextOf (finds_front front) words.now p.0 p.1) }
     ensures none { IfNone result (NoNext (finds_front front) words.now) }
 {
-    let (first, rest) = words.split_mark()?;
-    match (front, first) {
-        (Front::Negation, Symbol::NotWord) => Some((Prefix::Not, rest)),
-        (Front::Sign, Symbol::Dash) => Some((Prefix::Minus, rest)),
-        (Front::Sign, Symbol::Cross) => Some((Prefix::Plus, rest)),
-        _ => None,
-    }
+    let prefix = match (front, words.mark()?) {
+        (Front::Negation, Symbol::NotWord) => Prefix::Not,
+        (Front::Sign, Symbol::Dash) => Prefix::Minus,
+        (Front::Sign, Symbol::Cross) => Prefix::Plus,
+        _ => return None,
+    };
+    Some((prefix, words.behind()))
 }

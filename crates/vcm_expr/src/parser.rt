@@ -1,9 +1,9 @@
 //! The parser of expressions.
 
-ghost use Rattle.std.specs.Prelude.{◌≡◌, ◌≤◌, List, ◌∷◌, true, Err, length, IfOk, IfErr};
+ghost use Rattle.std.specs.Prelude.{◌≡◌, ◌≤◌, List, ◌∷◌, true, Ok, Err, length, IfOk, IfErr};
 ghost use Rattle.vcm_lines.specs.Fault.{NoMemoryOr, no_memory};
 ghost use Rattle.vcm_lines.specs.declared.fault.FaultCode.{FaultCode};
-ghost use Rattle.vcm_expr.specs.Source.{Source, is_small, IsSize};
+ghost use Rattle.vcm_expr.specs.Source.{Source, Plain, is_small, IsSize};
 ghost use Rattle.vcm_expr.specs.Grammar.{SpellsExpr};
 ghost use Rattle.vcm_expr.specs.Parsing.{At};
 ghost use Rattle.vcm_expr.specs.inner.Refusals.{Refuses};
@@ -27,13 +27,27 @@ pub(crate) fn whole(alloc: Global, line: u32, words: Symbols<'_>) -> Result<Expr
     ensures ok { IfOk result (λ e. SpellsExpr words.entry e × (is_small e ≡ true)) }
     ensures fault { IfErr result (NoMemoryOr (At line (Refuses words.entry))) }
 {
+    if let Some(term) = words.lone() {
+        return lone(line, term);
+    }
     let mut draft = Draft::new(alloc)?;
     let (size, rest) = disjunction(alloc, &mut draft, line, words, MOST_OPEN)?;
-    if let Some((_, _)) = rest.split_first() {
-        return Err(bad_syntax(line));
+    if rest.is_empty() {
+        Ok(draft.finish(size))
+    } else {
+        Err(bad_syntax(line))
     }
-    let e = draft.finish(alloc, size)?;
-    Ok(e)
+}
+
+/// The expression of a word that stands alone, or what is wrong with it.
+fn lone(line: u32, term: Result<Term, FaultCode>) -> Result<Expr, SourceFault>
+    ensures ok { IfOk result (λ e. (p : Term) × (term ≡ Ok p) × (e ≡ Plain p)) }
+    ensures fault { IfErr result (λ f. (f.line ≡ line) × (term ≡ Err f.code)) }
+{
+    match term {
+        Ok(term) => Ok(Expr::leaf(term)),
+        Err(code) => Err(SourceFault { code, line }),
+    }
 }
 
 /// Conjunctions with `.OR.` between them: a whole expression. `room` pairs of parentheses may be opened.

@@ -1,6 +1,6 @@
 //! A stack of any height.
 
-ghost use Rattle.std.specs.Prelude.{◌≡◌, [], ◌∷◌, MatchOption, IfErr, OnOk};
+ghost use Rattle.std.specs.Prelude.{◌≡◌, [], ◌∷◌, MatchOption, IfErr, OnOk, OnErr};
 ghost use Rattle.vcm_lines.specs.Fault.{no_memory};
 
 use std::alloc::Global;
@@ -35,10 +35,11 @@ impl<T: Drop> Pile<T> {
     ///
     /// # Errors
     ///
-    /// Want of memory.
+    /// Want of memory; then nothing is added.
     pub fn push(&mut self, value: T) -> Result<(), SourceFault>
         ensures ok { OnOk result (self.new ≡ value ∷ self.old) }
         ensures fault { IfErr result (λ f. f ≡ no_memory) }
+        ensures unchanged { OnErr result (self.new ≡ self.old) }
     {
         self.values.push(value)?;
         Ok(())

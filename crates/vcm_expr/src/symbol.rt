@@ -100,6 +100,7 @@ fn dotted_symbol(word: Option<DottedWord>) -> Symbol
 }
 
 /// What a word of a statement is in an expression.
+#[inline(always)]
 fn symbol_of(token: Token<'_>) -> Symbol
     ensures { result ≡ symbol_of (lexeme token.entry) }
 {
@@ -117,52 +118,96 @@ fn symbol_of(token: Token<'_>) -> Symbol
     }
 }
 
-/// Words that are read as an expression. Contracts see them as a list of `Symbol`s.
+/// Words that are read as an expression, of which the first is looked at once. Contracts see them as a list of `Symbol`s.
 #[derive(Drop)]
 pub(crate) struct Symbols<'a> {
-    words: Phrase<'a>,
+    first: Option<Token<'a>>,
+    behind: Phrase<'a>,
 }
 
 impl<'a> Model for Symbols<'a> {
     ghost use Rattle.std.specs.Prelude.{List};
     ghost use Rattle.vcm_expr.specs.Symbols.{symbols_of};
+    ghost use Rattle.vcm_expr.specs.inner.Marks.{words_from};
     ghost use Rattle.vcm_expr.specs.declared.symbol.Symbol.{Symbol};
 
     ghost Value = { List Symbol };
 
-    ghost view = { λ p. symbols_of p.words };
+    ghost view = { λ p. symbols_of (words_from p.first p.behind) };
 }
 
 impl<'a> Symbols<'a> {
+    ghost use Rattle.std.specs.Prelude.{List, false};
     ghost use Rattle.vcm_expr.specs.Symbols.{symbols_of};
     ghost use Rattle.vcm_expr.specs.inner.Marks.{NoMark};
+    ghost use Rattle.vcm_expr.specs.declared.symbol.Symbol.{Symbol};
 
     /// The words, as symbols of an expression.
+    #[inline(always)]
     pub(crate) fn new(words: Phrase<'a>) -> Symbols<'a>
         ensures { result ≡ symbols_of words.entry }
     {
-        Symbols { words }
+        match words.split_first() {
+            None => Symbols {
+                first: None,
+                behind: words,
+            },
+            Some((token, behind)) => Symbols {
+                first: Some(token),
+                behind,
+            },
+        }
     }
 
-    /// The first word where it is a mark or a dotted word, and those after it. A name or a number is not looked into.
+    /// The first word where it is a mark or a dotted word. A name or a number is not looked into.
     #[inline(always)]
-    pub(crate) fn split_mark(&self) -> Option<(Symbol, Symbols<'a>)>
-        ensures some { IfSome result (λ r. self.now ≡ r.0 ∷ r.1) }
+    pub(crate) fn mark(&self) -> Option<Symbol>
+        ensures some { IfSome result (λ k. (r : List Symbol) × (self.now ≡ k ∷ r)) }
         ensures none { IfNone result (NoMark self.now) }
     {
-        match self.words.split_first() {
-            None | Some((Token::Run(_) | Token::Number(_), _)) => None,
-            Some((token, words)) => Some((symbol_of(token), Symbols { words })),
+        match self.first {
+            None | Some(Token::Run(_) | Token::Number(_)) => None,
+            Some(token) => Some(symbol_of(token)),
+        }
+    }
+
+    /// The words after the first one, where there is one.
+    #[inline(always)]
+    pub(crate) fn behind(&self) -> Symbols<'a>
+        ensures { (k : Symbol) (r : List Symbol) → self.now ≡ k ∷ r → result ≡ r }
+    {
+        Symbols::new(self.behind.copy())
+    }
+
+    /// Whether there is no word.
+    pub(crate) fn is_empty(&self) -> bool
+        ensures none { result ≡ true → self.now ≡ [] }
+        ensures some { result ≡ false → (k : Symbol) × (r : List Symbol) × (self.now ≡ k ∷ r) }
+    {
+        self.first.is_none()
+    }
+
+    /// What the only word means, where it is an operand.
+    pub(crate) fn lone(&self) -> Option<Result<Term, FaultCode>>
+        ensures { IfSome result (λ term. self.now ≡ Symbol.Operand term ∷ []) }
+    {
+        if !Symbols::new(self.behind.copy()).is_empty() {
+            return None;
+        }
+        match symbol_of(self.first?) {
+            Symbol::Operand(term) => Some(term),
+            _ => None,
         }
     }
 
     /// The first word, and those after it.
+    #[inline(always)]
     pub(crate) fn split_first(&self) -> Option<(Symbol, Symbols<'a>)>
         ensures { MatchOption result (self.now ≡ []) (λ r. self.now ≡ r.0 ∷ r.1) }
     {
-        match self.words.split_first() {
+        match self.first {
             None => None,
-            Some((token, words)) => Some((symbol_of(token), Symbols { words })),
+            Some(token) => Some((symbol_of(token), Symbols::new(self.behind.copy()))),
         }
     }
 }

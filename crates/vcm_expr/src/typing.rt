@@ -117,6 +117,7 @@ fn type_pieces(
     let mut items = Vec::with_capacity(alloc, pieces.len())?;
     let kind = typed(alloc, &mut items, pieces, line, names)?;
     demand(&mut items, kind, line, want)?;
+    items.shrink_to_fit();
     Ok(Typed::new(items))
 }
 

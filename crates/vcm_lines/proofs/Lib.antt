@@ -1,5 +1,6 @@
 pub mod PieceLemmas
 pub mod Scanning
+pub mod Raising
 pub mod WordLemmas
 pub mod Cutting
 pub mod Joining

@@ -14,7 +14,7 @@ use Rattle.vcm_lines.specs.declared.logical.Logical.{Logical}
 use Rattle.vcm_lines.specs.declared.fault.SourceFault.{SourceFault}
 use Rattle.vcm_lines.specs.declared.fault.FaultCode.{FaultCode}
 use Rattle.vcm_lines.specs.declared.fault.FaultCode.TheVariants.{BadByte, LineTooLong, TooManyLines, DanglingContinuation, BadSyntax}
-use Rattle.vcm_spec.proofs.PhaseLemmas.{place_at, clean_none, clean_more, fault_at, fault_at_end, clean_all}
+use Rattle.vcm_spec.proofs.PhaseLemmas.{place_at, clean_more, fault_at, fault_at_end, clean_all}
 use Rattle.vcm_lines.proofs.Joining.{rows_of_more, unfinished_push, unfinished_goes, joined_first}
 
 -- the rows of the statement that the first n lines begin

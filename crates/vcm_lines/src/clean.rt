@@ -1,15 +1,17 @@
 //! What a line gives its statement.
 
-ghost use Rattle.std.specs.Prelude.{◌≡◌, IfOk, IfErr, OnOk, ◌≤◌, ◌++◌, true, ◌==◌, length};
-ghost use Rattle.std.specs.List.{list_all, position};
+ghost use Rattle.std.specs.Prelude.{◌≡◌, IfOk, IfErr, OnOk, ◌≤◌, ◌<◌, ◌++◌, true, ◌==◌, length, map};
+ghost use Rattle.std.specs.List.{list_all, position, take_while};
 ghost use Rattle.vcm_lines.specs.Fault.{NoMemoryOr};
 ghost use Rattle.vcm_lines.specs.Bytes.{is_plain, is_inner, is_blank, upper};
 ghost use Rattle.vcm_lines.specs.Pieces.{text_of, continues, pieces_from};
-ghost use Rattle.vcm_lines.specs.inner.Taking.{TakesPiece, BreaksFirst};
+ghost use Rattle.vcm_lines.specs.Words.{begins_with};
+ghost use Rattle.vcm_lines.specs.inner.Taking.{TakesPiece, BreaksFirst, is_bare, TakesBare};
 ghost use Rattle.vcm_lines.specs.Statements.{BreaksLine};
 ghost use Rattle.vcm_lines.specs.declared.fault.FaultCode.{FaultCode};
 
 use crate::fault::{FaultCode, SourceFault};
+use std::alloc::AllocError;
 
 /// Whether a byte may stand outside texts and comments.
 fn is_plain(b: u8) -> bool
@@ -37,6 +39,30 @@ pub fn upper(b: u8) -> u8
     ensures { result ≡ upper b }
 {
     b.to_ascii_uppercase()
+}
+
+/// Whether a byte outside texts is kept, in upper case: it is neither a blank nor a dollar nor an apostrophe.
+fn is_bare(b: u8) -> bool
+    ensures { result ≡ is_bare b }
+{
+    matches!(b, b'!'..=b'~') && b != b'$' && b != b'\''
+}
+
+/// How many bytes at the front are kept, as long as nothing else comes.
+fn bare_len(line: &[u8]) -> usize
+    ensures value { result ≡ length (take_while is_bare line.now) }
+    ensures within { result ≤ length line.now }
+{
+    line.iter().take_while(|b| is_bare(**b)).count()
+}
+
+/// Puts letters in upper case.
+fn raise(bytes: &mut [u8])
+    ensures { bytes.new ≡ map upper bytes.old }
+{
+    for b in bytes.iter_mut() {
+        *b = upper(*b);
+    }
 }
 
 /// Whether all bytes may stand in a text or a comment.
@@ -78,6 +104,18 @@ fn take_text<'a>(kept: &mut Vec<u8>, after: &'a [u8], number: u32) -> Result<&'a
     Ok(&after[end + 1..])
 }
 
+/// Adds the bytes that are kept in upper case to the statement, up to the first other one, and gives what stands from there on.
+fn take_bare<'a>(kept: &mut Vec<u8>, line: &'a [u8]) -> Result<&'a [u8], AllocError>
+    ensures shorter { IfOk result (λ left. (begins_with is_bare line.now ≡ true) → length left.now < length line.now) }
+    ensures taken { IfOk result (λ left. TakesBare line.now kept.old.items kept.new.items left.now) }
+{
+    let had = kept.len();
+    let len = bare_len(line);
+    kept.extend_from_slice(&line[..len])?;
+    raise(&mut kept[had..]);
+    Ok(&line[len..])
+}
+
 /// Adds the bytes of a line to its statement, and says whether the line goes on. `number` is the line's. The leftmost fault of the line is told.
 pub(crate) fn read_line(kept: &mut Vec<u8>, line: &[u8], number: u32) -> Result<bool, SourceFault>
     ensures unbroken { OnOk result ((code : FaultCode) → BreaksLine line.now code → ⊥) }
@@ -111,9 +149,8 @@ pub(crate) fn read_line(kept: &mut Vec<u8>, line: &[u8], number: u32) -> Result<
             rest = after;
         } else if byte == b'\'' {
             rest = take_text(kept, after, number)?;
-        } else if is_plain(byte) {
-            kept.push(upper(byte))?;
-            rest = after;
+        } else if is_bare(byte) {
+            rest = take_bare(kept, rest)?;
         } else {
             return Err(bad_byte);
         }

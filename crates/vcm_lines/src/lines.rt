@@ -1,6 +1,7 @@
 //! The statements of a text.
 
 ghost use Rattle.std.specs.Prelude.{◌≡◌, ◌<◌, ◌∷◌, ◌==◌, length, IfOk, IfErr};
+ghost use Rattle.std.specs.List.{position};
 ghost use Rattle.std.specs.Option.{option_map_or};
 ghost use Rattle.std.specs.Str.Lines.{lines, strip_carriage_return};
 ghost use Rattle.vcm_lines.specs.Fault.{NoMemoryOr};
@@ -11,8 +12,9 @@ use crate::clean::read_line;
 use crate::fault::{FaultCode, SourceFault};
 use crate::logical::{Logical, LogicalLines, OwnedBytes};
 use crate::words::words_of;
+use memchr::memchr;
 use std::alloc::{AllocError, Global};
-use vcm_num::line_feed;
+use std::mem::replace;
 
 /// The most bytes of a line, without its ending.
 const MAX_LINE: usize = 1024;
@@ -31,6 +33,14 @@ fn without_return(line: &[u8]) -> &[u8]
         [front @ .., b'\r'] => front,
         _ => line,
     }
+}
+
+/// Where the first line feed stands, if there is one.
+#[tactic(auto, using(crate::proofs::Cutting::first_line_feed))]
+fn line_feed(text: &[u8]) -> Option<usize>
+    ensures { result ≡ position (λ b. b == 10) text.now }
+{
+    memchr(b'\n', text)
 }
 
 /// The first line, and what stands behind its ending.
@@ -119,17 +129,21 @@ impl Unfinished {
         Ok(!goes_on)
     }
 
-    /// The statement, if there is a line.
-    fn finish(self, alloc: Global) -> Result<Option<Logical>, AllocError>
-        requires aligned { length self.lines.items ≡ length self.bytes.items }
-        requires short { length self.bytes.items ≤ MAX_STATEMENT }
-        ensures { IfOk result (λ found. (rows : List Row) → Holds self rows → MatchOption found (rows ≡ []) (IsLogical rows)) }
+    /// The statement, if there is a line; the next one begins then.
+    fn finish(&mut self, alloc: Global) -> Result<Option<Logical>, AllocError>
+        requires aligned { length self.old.lines.items ≡ length self.old.bytes.items }
+        requires short { length self.old.bytes.items ≤ MAX_STATEMENT }
+        ensures made { IfOk result (λ found. (rows : List Row) → Holds self.old rows → MatchOption found (rows ≡ []) (IsLogical rows)) }
+        ensures emptied { OnOk result ((rows : List Row) → Holds self.old rows → Holds self.new []) }
     {
         let Some((line, _)) = self.span else {
             return Ok(None);
         };
         let words = words_of(alloc, &self.bytes, &self.lines)?;
-        let text = OwnedBytes { bytes: self.bytes };
+        let bytes = replace(&mut self.bytes, Vec::new(alloc));
+        self.lines.clear();
+        self.span = None;
+        let text = OwnedBytes { bytes };
         Ok(Some(Logical { line, text, words }))
     }
 }
@@ -170,7 +184,6 @@ pub fn logical_lines(alloc: Global, text: &[u8]) -> Result<LogicalLines, SourceF
             if let Some(logical) = statement.finish(alloc)? {
                 items.push(logical)?;
             }
-            statement = Unfinished::new(alloc);
         }
         rest = after;
     }

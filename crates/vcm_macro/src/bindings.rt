@@ -203,10 +203,7 @@ impl<'a> Bindings<'a> {
             self.put_piece(&mut draft, &mut sizes, line, piece)?;
         }
         match sizes.pop() {
-            Some(size) => {
-                let whole = draft.finish(alloc, size)?;
-                Ok(whole)
-            }
+            Some(size) => Ok(draft.finish(size)),
             None => unreachable!(),
         }
     }

@@ -1,5 +1,7 @@
 -- What the code says of the first piece of what is left of a line.
-use Rattle.std.specs.Prelude.{◌≡◌, ℕ, IsTrue, false, List, ◌∷◌, ◌++◌}
+use Rattle.std.specs.Prelude.{◌≡◌, ℕ, IsTrue, Bool, false, not, ◌&&◌, ◌==◌, List, ◌∷◌, ◌++◌, map, drop, length}
+use Rattle.std.specs.List.{take_while}
+use Rattle.vcm_lines.specs.Bytes.{is_between, upper}
 use Rattle.vcm_lines.specs.Pieces.{Piece, pieces_of, kept, has_bad_byte, is_open, is_dollar}
 use Rattle.vcm_lines.specs.declared.fault.FaultCode.{FaultCode}
 use Rattle.vcm_lines.specs.declared.fault.FaultCode.TheVariants.{BadByte, BadSyntax}
@@ -25,3 +27,12 @@ pub record TakesPiece (pieces : List Piece) (old new rest : List ℕ) : Type 0 w
   pub closed : is_open piece ≡ false
   pub undollared : is_dollar piece ≡ false
   pub added : new ≡ old ++ kept piece
+
+-- a byte that a line keeps outside its texts: none that is blank, a dollar, an apostrophe, or may not stand there
+abbrev pub is_bare : ℕ → Bool
+is_bare b = is_between 33 126 b && not (b == 36) && not (b == 39)
+
+-- the bare bytes at the front are added in upper case, and the rest is what stands behind them
+pub record TakesBare (line old new rest : List ℕ) : Type 0 where
+  pub added : new ≡ old ++ map upper (take_while is_bare line)
+  pub behind : rest ≡ drop (length (take_while is_bare line)) line

@@ -213,3 +213,8 @@ pub product-returns-in_err-right-clause-fault : goal.product-returns-in_err-righ
 product-returns-in_err-right-clause-fault t c =
     let p = err_from_is_err_and c.from_residual-in_err-right.result c.from_residual-in_err-right.ensures.1 in
     rw (p.1, p.2) (told_same c.args.line _ _ _ (λ code. chain_stops Product c.args.room c.args.words c.loop-op.invariant.there.0 c.loop-op.rest c.in-Some.op c.in-Some.after code c.loop-op.invariant.there.3 c.in-Some.ensures.some) c.in_err-right.ensures.fault)
+
+pub conjunction-returns-in_err-right-clause-fault : goal.conjunction-returns-in_err-right-clause-fault
+conjunction-returns-in_err-right-clause-fault t c =
+    let p = err_from_is_err_and c.from_residual-in_err-right.result c.from_residual-in_err-right.ensures.1 in
+    rw (p.1, p.2) (told_same c.args.line _ _ _ (λ code. chain_stops Conjunction c.args.room c.args.words c.loop-op.invariant.there.0 c.loop-op.rest c.in-Some.op c.in-Some.after code c.loop-op.invariant.there.3 c.in-Some.ensures.some) c.in_err-right.ensures.fault)

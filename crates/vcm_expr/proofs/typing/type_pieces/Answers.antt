@@ -19,12 +19,12 @@ pub new-requires : goal.new-requires
 new-requires c =
     let s = c.requires.0 in
     let l = within_limits s c.requires.2 in
-    typed_small c.args.names.now c.args.want s _
+    rw c.shrink_to_fit.ensures.items (typed_small c.args.names.now c.args.want s _
     (typed_wanted c.args.names.now c.args.want s _ _ _ ((rw c.in_ok-items.ensures.items at c.in_ok-kind.ensures.ok) s c.requires.1) c.in_ok-demand.ensures.ok)
-    l.0 l.1
+    l.0 l.1)
 
 pub returns-clause-ok : goal.returns-clause-ok
 returns-clause-ok c s is =
     (typed_result c.args.names.now c.args.want s _ c.new.result
     (typed_wanted c.args.names.now c.args.want s _ _ _ ((rw c.in_ok-items.ensures.items at c.in_ok-kind.ensures.ok) s is) c.in_ok-demand.ensures.ok)
-    c.new.ensures).0
+    (rw c.shrink_to_fit.ensures.items at c.new.ensures)).0
