@@ -5,7 +5,7 @@ ghost use Rattle.vcm_lines.specs.Fault.{NoMemoryOr, no_memory};
 ghost use Rattle.vcm_lines.specs.declared.fault.FaultCode.{FaultCode};
 ghost use Rattle.vcm_expr.specs.Source.{Source, Plain, Prefixed, Pair, is_small, IsSize};
 
-use crate::expression::{Expr, Piece, Prefix, Size, Term, copied, copy_term, too_deep};
+use crate::expression::{Expr, Piece, Prefix, Size, Term, append_copies, copy_term, too_deep};
 use std::alloc::Global;
 use std::marker::Model;
 use vcm_lines::SourceFault;
@@ -137,8 +137,7 @@ impl Draft {
             let size = self.leaf(copy_term(term))?;
             return Ok(size);
         }
-        let mut own = copied(*self.pieces.allocator(), e.pieces())?;
-        self.pieces.append(&mut own)?;
+        append_copies(&mut self.pieces, e.pieces())?;
         Ok(e.size())
     }
 

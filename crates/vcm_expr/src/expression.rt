@@ -1,6 +1,6 @@
 //! Expressions as they are written.
 
-ghost use Rattle.std.specs.Prelude.{◌≡◌, true, IfOk, IfErr};
+ghost use Rattle.std.specs.Prelude.{◌≡◌, ◌++◌, true, IfOk, IfErr, OnOk, OnErr};
 ghost use Rattle.vcm_lines.specs.Fault.{no_memory};
 ghost use Rattle.vcm_expr.specs.Source.{Plain, IsSize, is_small, parts, leaf_in};
 ghost use Rattle.std.specs.Option.{option_copied};
@@ -87,7 +87,7 @@ impl Expr {
     ghost use Rattle.vcm_expr.specs.Source.{Source};
 
     /// A number, a truth value or a variable.
-    pub(crate) fn leaf(term: Term) -> Expr
+    pub fn leaf(term: Term) -> Expr
         ensures { result ≡ Plain term }
     {
         Expr {
@@ -105,6 +105,30 @@ impl Expr {
             written: Written::Many(pieces),
             size,
         }
+    }
+
+    /// The same expression.
+    ///
+    /// # Errors
+    ///
+    /// Want of memory.
+    pub fn copy(&self, alloc: Global) -> Result<Expr, SourceFault>
+        ensures ok { IfOk result (λ e. e ≡ self.now) }
+        ensures small { is_small self.now ≡ true }
+        ensures fault { IfErr result (λ f. f ≡ no_memory) }
+    {
+        let written = match &self.written {
+            Written::One(piece) => Written::One(copy_piece(piece)),
+            Written::Many(pieces) => {
+                let mut copy = Vec::new(alloc);
+                append_copies(&mut copy, pieces)?;
+                Written::Many(copy)
+            }
+        };
+        Ok(Expr {
+            written,
+            size: self.size,
+        })
     }
 
     /// How deep it is, and how many nodes it has.
@@ -159,16 +183,17 @@ fn copy_piece(piece: &Piece) -> Piece
     }
 }
 
-/// The same parts.
-pub(crate) fn copied(alloc: Global, pieces: &[Piece]) -> Result<Vec<Piece>, SourceFault>
-    ensures ok { IfOk result (λ copy. copy.items ≡ pieces.now) }
+/// Appends the same parts.
+pub(crate) fn append_copies(pieces: &mut Vec<Piece>, others: &[Piece]) -> Result<(), SourceFault>
+    ensures ok { OnOk result (pieces.new.items ≡ pieces.old.items ++ others.now) }
     ensures fault { IfErr result (λ f. f ≡ no_memory) }
+    ensures unchanged { OnErr result (pieces.new.items ≡ pieces.old.items) }
 {
-    let mut copy = Vec::with_capacity(alloc, pieces.len())?;
-    for piece in pieces {
-        copy.push(copy_piece(piece))?;
+    pieces.reserve(others.len())?;
+    for piece in others {
+        pieces.push_reserved(copy_piece(piece));
     }
-    Ok(copy)
+    Ok(())
 }
 
 /// The refusal of an expression that is too deep or too large.

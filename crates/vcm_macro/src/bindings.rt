@@ -191,12 +191,34 @@ impl<'a> Bindings<'a> {
         Ok(())
     }
 
+    // What a leaf that stands alone says in the expansion.
+    fn put_leaf(&self, alloc: Global, term: &Term) -> Result<Expr, SourceFault>
+        ensures ok { IfOk result (λ s. s ≡ put self.now (Plain term.now)) }
+        ensures small { OnOk result (is_small (put self.now (Plain term.now)) ≡ true) }
+        ensures fault { IfErr result (λ f. f ≡ no_memory) }
+    {
+        match term {
+            Term::Number(n) => Ok(Expr::leaf(Term::Number(*n))),
+            Term::Truth(b) => Ok(Expr::leaf(Term::Truth(*b))),
+            Term::Variable(name, _) => {
+                match value_of(argument_for(false, name, self.parameters, self.arguments)) {
+                    Some(value) => value.copy(alloc),
+                    None => Ok(Expr::leaf(Term::Variable(name.copy(), self.expansion))),
+                }
+            }
+        }
+    }
+
     /// What an expression says in the expansion.
     pub(crate) fn put(&self, alloc: Global, line: u32, e: &Expr) -> Result<Expr, SourceFault>
         ensures ok { IfOk result (λ s. s ≡ put self.now e.now) }
         ensures small { OnOk result (is_small (put self.now e.now) ≡ true) }
         ensures fault { IfErr result (NoMemoryOr (IsTooDeep line (is_small (put self.now e.now)))) }
     {
+        if let Some(term) = e.as_leaf() {
+            let leaf = self.put_leaf(alloc, term)?;
+            return Ok(leaf);
+        }
         let mut draft = Draft::new(alloc)?;
         let mut sizes = Pile::new(alloc);
         for piece in e.pieces() {

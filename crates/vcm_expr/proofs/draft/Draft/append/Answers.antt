@@ -4,11 +4,11 @@ use Rattle.vcm_expr.proofs.PieceLemmas.{other_holds, other_view, plain_is}
 use Rattle.vcm_expr.proofs.draft.Draft.append.Goals as goal
 
 pub invariant_of-self-2 : goal.invariant_of-self-2
-invariant_of-self-2 c = other_holds c.args.e.now _ _ _ c.self.invariant (c.in_ok-own.ensures.ok ∙ c.pieces.ensures.parts) c.in_ok-append.ensures.items
+invariant_of-self-2 c = other_holds c.args.e.now _ _ _ c.self.invariant c.pieces.ensures.parts c.in_ok-append_copies.ensures.ok
 
 pub returns-clause-ok : goal.returns-clause-ok
 returns-clause-ok c =
-    (other_view c.args.e.now _ _ _ _ c.self.view_is c.self.invariant (c.in_ok-own.ensures.ok ∙ c.pieces.ensures.parts) c.in_ok-append.ensures.items, c.size.ensures)
+    (other_view c.args.e.now _ _ _ _ c.self.view_is c.self.invariant c.pieces.ensures.parts c.in_ok-append_copies.ensures.ok, c.size.ensures)
 
 pub returns-in-Some-clause-ok : goal.returns-in-Some-clause-ok
 returns-in-Some-clause-ok c =
