@@ -1,6 +1,6 @@
 //! What has been expanded.
 
-ghost use Rattle.std.specs.Prelude.{◌≡◌, ◌≤◌, ◌∷◌, [], suc, true, false, OnOk, IfErr};
+ghost use Rattle.std.specs.Prelude.{◌≡◌, ◌≤◌, ◌∷◌, [], suc, true, false, OnOk, IfOk, IfErr};
 ghost use Rattle.vcm_lines.specs.Fault.{NoMemoryOr};
 ghost use Rattle.vcm_lines.specs.declared.fault.FaultCode.{FaultCode};
 ghost use Rattle.vcm_macro.specs.Walk.{Stands};
@@ -12,13 +12,13 @@ use crate::kept::is_kept;
 use crate::placed::{Origin, Placed, Said};
 use crate::putting::put_form;
 use crate::small::are_small;
-use std::alloc::Global;
+use std::alloc::{AllocError, Global};
 use std::marker::Model;
 use vcm_lines::{FaultCode, SourceFault};
 use vcm_syntax::Statement;
 
 /// The most that may count in an expanded program.
-const MOST: u32 = 20000;
+pub(crate) const MOST: u32 = 20000;
 
 /// What has been expanded. Contracts see it as a `Done`.
 #[derive(Drop)]
@@ -55,15 +55,16 @@ fn too_long(line: u32) -> SourceFault
 }
 
 impl<'a> Expansion<'a> {
-    /// Nothing yet.
-    pub(crate) fn new(alloc: Global) -> Expansion<'a>
-        ensures { result ≡ record { placed = []; count = 0; calls = 0 } }
+    /// Nothing yet, and memory for so many statements.
+    pub(crate) fn new(alloc: Global, statements: usize) -> Result<Expansion<'a>, AllocError>
+        ensures { IfOk result (λ e. e ≡ record { placed = []; count = 0; calls = 0 }) }
     {
-        Expansion {
-            placed: Vec::new(alloc),
+        let placed = Vec::with_capacity(alloc, statements)?;
+        Ok(Expansion {
+            placed,
             count: 0,
             calls: 0,
-        }
+        })
     }
 
     /// The expanded statements.

@@ -14,7 +14,7 @@ use crate::bindings::Bindings;
 use crate::defining::body_size;
 use crate::definition::{Definition, is_defined};
 use crate::expanding::call;
-use crate::expansion::Expansion;
+use crate::expansion::{Expansion, MOST};
 use crate::order::check_order;
 use crate::parameters::has_twins;
 use crate::placed::Placed;
@@ -96,7 +96,7 @@ fn expanded<'a>(alloc: Global, statements: &'a [Statement]) -> Result<Vec<Placed
     ensures leftmost { IfErr result (NoMemoryOr (λ f. macro_fault statements.now ≡ Some f)) }
 {
     let mut macros = Vec::new(alloc);
-    let mut done = Expansion::new(alloc);
+    let mut done = Expansion::new(alloc, statements.len().min(MOST as usize))?;
     let mut rest = statements;
     'text: while let Some((statement, others)) = rest.split_first() {
         rest = read(alloc, &mut macros, &mut done, statement, others)?;

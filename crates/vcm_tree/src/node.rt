@@ -1,6 +1,6 @@
 //! The nodes of an accepted program.
 
-ghost use Rattle.std.specs.Prelude.{◌≡◌, OnOk};
+ghost use Rattle.std.specs.Prelude.{◌≡◌, OnOk, IfOk};
 ghost use Rattle.vcm_spec.specs.Program.{Block as Tree, done, Node as Part};
 ghost use Rattle.vcm_tree.specs.Nodes.{with_last, node_of};
 
@@ -169,6 +169,14 @@ impl Block {
         Block {
             nodes: Vec::new(alloc),
         }
+    }
+
+    /// No nodes, and memory for so many.
+    pub(crate) fn with_capacity(alloc: Global, nodes: usize) -> Result<Block, AllocError>
+        ensures { IfOk result (λ b. b ≡ done) }
+    {
+        let nodes = Vec::with_capacity(alloc, nodes)?;
+        Ok(Block { nodes })
     }
 
     /// One node more, behind the others.

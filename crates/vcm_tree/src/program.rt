@@ -90,13 +90,14 @@ pub(crate) fn drafted(
     ensures labels { IfOk result (λ d. d.labels ≡ labels_of d.tree) }
     ensures fault { IfErr result (NoMemoryOr (λ f. FirstFault BreaksNames names_line all.now f.code f.line)) }
 {
+    let builder = Builder::new(alloc, all.len())?;
     let mut read = Progress {
         names: Names::new(alloc),
         features: Titles::new(alloc),
         frames: Titles::new(alloc),
         touched: false,
         labels: Labels::new(alloc),
-        builder: Builder::new(alloc),
+        builder,
     };
     for placed in all {
         take(alloc, &mut read, placed.statement(), placed.expansion)?;

@@ -8,7 +8,7 @@ use Rattle.vcm_tree.proofs.program.drafted.Goals as goal
 
 pub returns-in_err-take-clause-fault : goal.returns-in_err-take-clause-fault
 returns-in_err-take-clause-fault c =
-    let p = err_from_is_err_and c.from_residual.result c.from_residual.ensures.1 in
+    let p = err_from_is_err_and c.from_residual-in_err-take.result c.from_residual-in_err-take.ensures.1 in
     let l = c.loop-placed in
     let here = c.placed-item.result in
     let left = drop_more c.args.all.now l.placed-index here c.loop-placed-test.true ∙ ap (λ (s : Placed). s ∷ drop (l.placed-index + 1) c.args.all.now) (sym c.placed-item.is) in
