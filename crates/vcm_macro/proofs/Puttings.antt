@@ -1,21 +1,26 @@
 -- Steps of an expression that is put together again.
-use Rattle.std.proofs.Common.{◌≡◌, inl, inr, ℕ, ◌+◌, ◌<◌, ◌≤◌, max, false, List, [], ◌∷◌, length, drop, get_or, refl, sym, ap, ◌∙◌, subst, arith}
+use Rattle.std.proofs.Common.{◌≡◌, inl, inr, ℕ, ◌+◌, ◌<◌, ◌≤◌, max, false, List, [], ◌∷◌, length, drop, get_or, Some, refl, sym, ap, ◌∙◌, subst, arith}
 use Rattle.std.specs.Prelude.{nat_le, ◌&&◌}
 use Rattle.std.proofs.lemmas.List.{at_drop_more, at_drop_all}
 use Rattle.vcm_lines.specs.Fault.{NoMemoryOr}
 use Rattle.vcm_lines.specs.declared.fault.FaultCode.TheVariants.{TooDeep}
 use Rattle.vcm_lines.specs.declared.fault.SourceFault.{SourceFault}
 use Rattle.vcm_spec.specs.declared.expression.BinaryOp.{BinaryOp}
+use Rattle.vcm_expr.specs.declared.expression.Term.{Term}
 use Rattle.vcm_expr.specs.declared.expression.Prefix.{Prefix}
 use Rattle.vcm_expr.specs.declared.expression.Piece.{Piece}
 use Rattle.vcm_expr.specs.declared.expression.Piece.TheVariants.{Leaf, Front, Between}
 use Rattle.vcm_expr.specs.declared.expression.Size.{Size}
-use Rattle.vcm_expr.specs.Source.{Source, Prefixed, Pair, parts, depth_of, nodes_of, is_small, IsSize}
+use Rattle.vcm_expr.specs.Source.{Source, Prefixed, Pair, parts, depth_of, nodes_of, leaf_in, is_small, IsSize}
 use Rattle.vcm_expr.specs.inner.Pieces.{with_piece, with_pieces}
-use Rattle.vcm_expr.proofs.PieceLemmas.{one_is}
-use Rattle.vcm_macro.specs.Substitution.{Scope, put}
+use Rattle.vcm_expr.proofs.PieceLemmas.{one_is, plain_is}
+use Rattle.vcm_macro.specs.Substitution.{Scope, put, put_term}
 use Rattle.vcm_macro.specs.inner.Limits.{IsTooDeep}
 use Rattle.vcm_macro.specs.inner.Putting.{Puts, Big}
+
+-- a leaf that stands alone
+pub put_alone : (sc : Scope) (t : Term) (e : Source) → Some t ≡ leaf_in e → put_term sc t ≡ put sc e
+put_alone sc t e h = ap (λ x. put sc x) (plain_is t e h)
 
 -- the topmost expressions are there
 pub top_there : (sc : Scope) (es now : List Source) (a : Size) (sizes left : List Size) → sizes ≡ a ∷ left → Puts sc es now sizes → (e : Source) × (rest : List Source) × (now ≡ e ∷ rest) × IsSize a e

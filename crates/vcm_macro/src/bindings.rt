@@ -193,8 +193,8 @@ impl<'a> Bindings<'a> {
 
     // What a leaf that stands alone says in the expansion.
     fn put_leaf(&self, alloc: Global, term: &Term) -> Result<Expr, SourceFault>
-        ensures ok { IfOk result (λ s. s ≡ put self.now (Plain term.now)) }
-        ensures small { OnOk result (is_small (put self.now (Plain term.now)) ≡ true) }
+        ensures ok { IfOk result (λ s. s ≡ put_term self.now term.now) }
+        ensures small { OnOk result (is_small (put_term self.now term.now) ≡ true) }
         ensures fault { IfErr result (λ f. f ≡ no_memory) }
     {
         match term {

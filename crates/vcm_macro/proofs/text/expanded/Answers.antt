@@ -9,14 +9,14 @@ use Rattle.vcm_macro.proofs.text.expanded.Goals as goal
 
 pub returns-in_err-rest-clause-fault : goal.returns-in_err-rest-clause-fault
 returns-in_err-rest-clause-fault c =
-    let p = err_from_is_err_and c.from_residual.result c.from_residual.ensures.1 in
+    let p = err_from_is_err_and c.from_residual-in_err-rest.result c.from_residual-in_err-rest.ensures.1 in
     rw (p.1, p.2) (refused_so (walk c.args.statements.now) _
     (read_told [] c.text.macros.items (record { placed = []; count = 0; calls = 0 }) c.text.done c.args.statements.now c.text.rest.now _ c.text.invariant
     (rw c.in-Some.ensures.cases.0 c.in_err-rest.ensures.fault)))
 
 pub returns-in_err-rest-clause-leftmost : goal.returns-in_err-rest-clause-leftmost
 returns-in_err-rest-clause-leftmost c =
-    let p = err_from_is_err_and c.from_residual.result c.from_residual.ensures.1 in
+    let p = err_from_is_err_and c.from_residual-in_err-rest.result c.from_residual-in_err-rest.ensures.1 in
     rw (p.1, p.2) (fault_computed c.args.statements.now _
     (read_told [] c.text.macros.items (record { placed = []; count = 0; calls = 0 }) c.text.done c.args.statements.now c.text.rest.now _ c.text.invariant
     (rw c.in-Some.ensures.cases.0 c.in_err-rest.ensures.fault)))
