@@ -9,7 +9,12 @@ use Rattle.vcm_code.specs.declared.code.Code.{Code}
 use Rattle.vcm_console.specs.declared.reply.ServeFault.{ServeFault}
 use Rattle.vcm_debug.specs.Debugging.{Debugging, opened}
 use Rattle.vcm_debug.specs.Serving.{Served}
-use Rattle.vcm_job.specs.Debugged.{IsSession, IsServedOn, ImageAs, IsImageOf, IsDebugged, IsCutShort}
+use Rattle.std.proofs.KnownBytes.{Keeps-refl}
+use Rattle.vcm_job.specs.declared.reading.ReadFault.{ReadFault}
+use Rattle.vcm_job.specs.declared.reading.ReadFault.TheVariants as read_faults
+use Rattle.vcm_job.specs.Reading.{IsReadFault}
+use Rattle.vcm_job.specs.Unread.{debug_not_read}
+use Rattle.vcm_job.specs.Debugged.{IsSession, IsServedOn, ImageAs, IsImageOf, IsDebugged, IsCutShort, IsNotDebugged}
 
 -- what a session at the start served
 pub session_of : (part : Workpiece) (code : Code) (known after old new : Option (List ℕ)) (r s : Result (Unit {0}) ServeFault) (first last : Debugging) → first ≡ opened part code → r ≡ s
@@ -36,3 +41,10 @@ pub cut_short_of : (part : Workpiece) (input image : List ℕ) (notices : List N
     → IfSome known (λ lines. IsServedOn part image lines after old new (Err e)) → IfSome known (λ lines. IsCutShort part input lines after e old new)
 cut_short_of part input image notices None after old new e i s = tt
 cut_short_of part input image notices (Some lines) after old new e i s = record { image = image; notices = notices; image_is = i; served = s }
+
+-- the input wasn't read whole
+pub debug_unread : (part : Workpiece) (a b known after : Option (List ℕ)) (f : ReadFault) (old : Option (List ℕ)) → IsReadFault a b f
+    → IsNotDebugged part a b known after (debug_not_read f) old old
+debug_unread part a b known after read_faults.NoMemory old h = Keeps-refl old
+debug_unread part a b known after read_faults.Device old h = (h, Keeps-refl old)
+debug_unread part a b known after read_faults.TooLong old h = (h, Keeps-refl old)

@@ -1,9 +1,9 @@
 -- From runs to the answers of jobs.
-use Rattle.std.proofs.Common.{◌≡◌, ℕ, zero, suc, ◌+◌, ◌<◌, ◌≤◌, true, List, [], ◌∷◌, length, take, Option, Some, None, Result, Ok, Err, refl, sym, ap, ◌∙◌, subst, arith, length-append}
-use Rattle.std.specs.Prelude.{IfSome}
-use Rattle.std.specs.Result.{is_err}
+use Rattle.std.proofs.Common.{◌≡◌, ℕ, zero, suc, ◌+◌, ◌<◌, ◌≤◌, List, [], ◌∷◌, length, take, Option, Some, None, Result, Ok, Err, refl, sym, ap, ◌∙◌, subst, arith, length-append}
+use Rattle.std.specs.Prelude.{IfSome, IfOk, IfErr}
 use Rattle.std.specs.Io.KnownBytes.{Appends, Consumes, Keeps}
-use Rattle.vcm_num.specs.Written.{AppendsFront, Wrote}
+use Rattle.vcm_num.specs.Written.{AppendsFront}
+use Rattle.std.proofs.KnownBytes.{Keeps-refl}
 use Rattle.vcm_part.specs.PartFile.{part_of}
 use Rattle.vcm_spec.specs.Workpiece.{Workpiece}
 use Rattle.vcm_spec.specs.Setup.{Tables, Setup}
@@ -14,13 +14,13 @@ use Rattle.vcm_state.specs.Held.{Held}
 use Rattle.vcm_tree.specs.declared.program.Noticed.{Noticed}
 use Rattle.vcm_machine.specs.declared.ran.End.{End}
 use Rattle.vcm_machine.specs.declared.ran.End.TheVariants as ends
-use Rattle.vcm_run.specs.declared.run.Refusal.{Refusal}
 use Rattle.vcm_run.specs.declared.run.Refusal.TheVariants.{Source, Part}
 use Rattle.vcm_run.specs.declared.run.Refusal.TheVariants as refusals
 use Rattle.vcm_run.specs.Run.{Ended}
 use Rattle.vcm_run.specs.Programs.{IsSummary, IsRefusal}
 use Rattle.vcm_run.specs.Summaries.{Shown}
 use Rattle.vcm_run.specs.Printed.{result_text}
+use Rattle.vcm_job.specs.declared.running.Done.{Done}
 use Rattle.vcm_job.specs.declared.running.JobFault.{JobFault}
 use Rattle.vcm_job.specs.declared.running.JobFault.TheVariants.{Refused, Memory, NoMemory, Read, Write, TooLong}
 use Rattle.vcm_job.specs.declared.reading.ReadFault.{ReadFault}
@@ -28,7 +28,7 @@ use Rattle.vcm_job.specs.declared.reading.ReadFault.TheVariants as read_faults
 use Rattle.vcm_job.specs.Reading.{most_bytes, ReadsAtMost, ReadsLittle, IsReadFault, AnswersUnread}
 use Rattle.vcm_job.specs.Jobs.{most_steps, job_setup, start_of, held, part_text, program_text, status_of}
 use Rattle.vcm_job.specs.Results.{IsHalted, IsJobRefusal, IsDone, IsCutOff, IsNotDone}
-use Rattle.vcm_job.specs.inner.Running.{IsJobRun}
+use Rattle.vcm_job.specs.inner.Running.{IsShown, IsShort, IsShownInPart, IsTextsRun, IsProgramRefusal, IsJobRun, IsNoJob}
 use Rattle.vcm_job.specs.Unread.{job_not_read}
 
 -- ---- what is known of an input
@@ -124,54 +124,85 @@ module _ (n : ℕ) (is : n ≡ most_steps) (input : List ℕ) (part : Workpiece)
         (subst (λ end. Ended setup n start (steps setup s.ran.done start) s.ran.done end) e h.run.ended);
   }
 
--- a refused program
-pub program_refused : (input : List ℕ) (part : Workpiece) (r : Refusal) → part_of (part_text input) ≡ Ok part → IsRefusal (program_text input) r → IsJobRefusal input (Refused r)
-program_refused input part (Source f) e h = ((part, e), h)
-program_refused input part (Part f) e h = absurd h
-program_refused input part refusals.NoMemory e h = ((part, e), h)
+-- what the refusal of a program is for the job
+pub program_refused : (input program : List ℕ) (part : Workpiece) (f : JobFault) → part_of (part_text input) ≡ Ok part → program ≡ program_text input → IsProgramRefusal program f
+    → IsJobRefusal input f
+program_refused input program part (Refused (Source f)) e is h = ((part, e), subst (λ p. IsRefusal p (Source f)) is h)
+program_refused input program part (Refused (Part f)) e is h = absurd h
+program_refused input program part (Refused refusals.NoMemory) e is h = ((part, e), subst (λ p. IsRefusal p refusals.NoMemory) is h)
+program_refused input program part NoMemory e is h = tt
+program_refused input program part (Memory n) e is h = absurd h
+program_refused input program part Read e is h = absurd h
+program_refused input program part (Write n) e is h = absurd h
+program_refused input program part TooLong e is h = absurd h
+
+pub program_refuses : (input program : List ℕ) (part : Workpiece) (r : Result Shown JobFault) → part_of (part_text input) ≡ Ok part → program ≡ program_text input
+    → IfErr r (IsProgramRefusal program) → IfErr r (IsJobRefusal input)
+program_refuses input program part (Ok s) e is h = tt
+program_refuses input program part (Err f) e is h = program_refused input program part f e is h
+
+-- a run of its program is one of the input's texts
+pub texts_run : (input program : List ℕ) (n : ℕ) (part : Workpiece) (r : Result Shown JobFault) → part_of (part_text input) ≡ Ok part → program ≡ program_text input
+    → IfOk r (IsSummary part program n) → IfOk r (IsTextsRun input n)
+texts_run input program n part (Err f) e is h = tt
+texts_run input program n part (Ok s) e is h = record { part = part; part_is = e; run = subst (λ p. IsSummary part p n s) is h }
 
 -- ---- what was written
 
-module _ (a : Option (List ℕ)) (bytes : List ℕ) (all : IfSome a (λ input. bytes ≡ input)) (s : Shown) (run : IsJobRun bytes s) (old new : Option (List ℕ)) where
-  pub job_done : (status : ℕ) (notices : List Noticed) → status ≡ status_of s.held.state.stop → notices ≡ s.notices
-      → Appends old new (result_text s.held s.ran.done) → IfSome a (λ input. IsDone input status notices old new)
-  job_done status notices e f w = known a _ _ all (λ input is. subst (λ i. IsDone i status notices old new) is (record {
-    part = run.part;
-    parsed = run.parsed;
-    job = run.job;
-    status_is = e ∙ ap status_of run.stop;
-    notices_are = f ∙ run.notices;
-    written = subst (λ t. Appends old new t) run.text w;
-  }))
+module _ (n : ℕ) (is : n ≡ most_steps) (input : List ℕ) (s : Shown) (texts : IsTextsRun input n s) where
+  ran : (s.ran.end ≡ ends.NoMemory → ⊥) → IsJobRun input s
+  ran ample = job_run n is input texts.part texts.part_is s texts.run ample
 
-  pub job_cut_off : AppendsFront old new (result_text s.held s.ran.done) → IfSome a (λ input. IsCutOff input s.ran.done old new)
-  job_cut_off w = known a _ _ all (λ input is. subst (λ i. IsCutOff i s.ran.done old new) is (record {
-    part = run.part;
-    parsed = run.parsed;
-    job = run.job;
-    count = run.count;
-    front = subst (λ t. AppendsFront old new t) run.text w;
-  }))
+  pub job_done : (status : ℕ) (notices : List Noticed) (old new : Option (List ℕ)) → IsShown s status notices old new → IsDone input status notices old new
+  job_done status notices old new h =
+      let run : IsJobRun input s = ran h.ample in
+      record {
+        part = run.part;
+        parsed = run.parsed;
+        job = run.job;
+        status_is = h.status_is ∙ ap status_of run.stop;
+        notices_are = h.notices_are ∙ run.notices;
+        written = subst (λ t. Appends old new t) run.text h.written;
+      }
 
--- a call that failed wrote a front
-pub failed_front : {A E : Type 0} (old new : Option (List ℕ)) (text : List ℕ) (r : Result A E) → is_err r ≡ true → Wrote old new text r → AppendsFront old new text
-failed_front old new text (Ok x) e w = absurd cc
-failed_front old new text (Err f) e w = w
+  pub job_cut_off : (done : ℕ) (old new : Option (List ℕ)) → IsShownInPart s done old new → IsCutOff input done old new
+  job_cut_off done old new h =
+      let run : IsJobRun input s = ran h.ample in
+      record {
+        part = run.part;
+        parsed = run.parsed;
+        job = run.job;
+        count = h.count ∙ run.count;
+        front = subst (λ t. AppendsFront old new t) run.text h.front;
+      }
+
+  pub job_short : (done : ℕ) (old new : Option (List ℕ)) → IsShort s done × Keeps old new → IsHalted input done × Keeps old new
+  job_short done old new (h, k) = (subst (λ d. IsHalted input d) (sym h.count) (job_halted n is input texts.part texts.part_is s texts.run h.halted), k)
 
 -- ---- faults before anything is written
 
-pub none_read : (a b : Option (List ℕ)) (f : ReadFault) (old new : Option (List ℕ)) → IsReadFault a b f → Keeps old new → IsNotDone a b (job_not_read f) old new
-none_read a b read_faults.NoMemory old new h k = k
-none_read a b read_faults.Device old new h k = (h, k)
-none_read a b read_faults.TooLong old new h k = (h, k)
+pub none_read : (a b : Option (List ℕ)) (f : ReadFault) (old : Option (List ℕ)) → IsReadFault a b f → IsNotDone a b (job_not_read f) old old
+none_read a b read_faults.NoMemory old h = Keeps-refl old
+none_read a b read_faults.Device old h = (h, Keeps-refl old)
+none_read a b read_faults.TooLong old h = (h, Keeps-refl old)
 
-pub not_run : (a b : Option (List ℕ)) (bytes : List ℕ) (f : JobFault) (old new : Option (List ℕ)) → IfSome a (λ input. bytes ≡ input) → IsJobRefusal bytes f → Keeps old new → IsNotDone a b f old new
-not_run a b bytes (Refused r) old new all h k = (known a _ _ all (λ input is. subst (λ i. IsJobRefusal i (Refused r)) is h), k)
-not_run a b bytes (Memory n) old new all h k = (known a _ _ all (λ input is. subst (λ i. IsJobRefusal i (Memory n)) is h), k)
-not_run a b bytes NoMemory old new all h k = k
-not_run a b bytes Read old new all h k = absurd h
-not_run a b bytes (Write n) old new all h k = absurd h
-not_run a b bytes TooLong old new all h k = absurd h
+pub not_done : (a b : Option (List ℕ)) (bytes : List ℕ) (f : JobFault) (old new : Option (List ℕ)) → IfSome a (λ input. bytes ≡ input) → IsNoJob bytes f old new → IsNotDone a b f old new
+not_done a b bytes (Refused r) old new all (h, k) = (known a _ _ all (λ input is. subst (λ i. IsJobRefusal i (Refused r)) is h), k)
+not_done a b bytes (Memory n) old new all (h, k) = (known a _ _ all (λ input is. subst (λ i. IsJobRefusal i (Memory n)) is h), k)
+not_done a b bytes (Write n) old new all h = known a _ _ all (λ input is. subst (λ i. IsCutOff i n old new) is h)
+not_done a b bytes NoMemory old new all (h, k) = k
+not_done a b bytes Read old new all (h, k) = absurd h
+not_done a b bytes TooLong old new all (h, k) = absurd h
+
+pub not_done_of : {A : Type 0} (a b : Option (List ℕ)) (bytes : List ℕ) (r : Result A JobFault) (old new : Option (List ℕ)) → IfSome a (λ input. bytes ≡ input)
+    → IfErr r (λ f. IsNoJob bytes f old new) → IfErr r (λ f. IsNotDone a b f old new)
+not_done_of a b bytes (Ok x) old new all h = tt
+not_done_of a b bytes (Err f) old new all h = not_done a b bytes f old new all h
+
+pub done_of : (a : Option (List ℕ)) (bytes : List ℕ) (r : Result Done JobFault) (old new : Option (List ℕ)) → IfSome a (λ input. bytes ≡ input)
+    → IfOk r (λ d. IsDone bytes d.status d.notices.items old new) → IfOk r (λ d. IfSome a (λ input. IsDone input d.status d.notices.items old new))
+done_of a bytes (Ok d) old new all h = known a _ _ all (λ input is. subst (λ i. IsDone i d.status d.notices.items old new) is h)
+done_of a bytes (Err f) old new all h = tt
 
 -- ---- inputs over their limit
 
@@ -183,3 +214,8 @@ pub read_whole : {A F : Type 0} (not_read : ReadFault → F) (a : Option (List �
     → AnswersUnread not_read a answer
 read_whole not_read None bytes answer all h = tt
 read_whole not_read (Some x) bytes answer all h = λ l. absurd (let e = ap length all in omega arith)
+
+-- an input that wasn't read whole has one of these faults
+pub unread : {A F : Type 0} (not_read : ReadFault → F) (a : Option (List ℕ)) (answer : Result A F) (f : ReadFault) → answer ≡ Err (not_read f) → AnswersUnread not_read a answer
+unread not_read None answer f e = tt
+unread not_read (Some x) answer f e = λ l. (f, e)

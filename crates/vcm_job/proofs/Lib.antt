@@ -4,3 +4,4 @@ pub mod JobLemmas
 pub mod InputLemmas
 pub mod ListLemmas
 pub mod DebugLemmas
+pub mod UnreadLemmas

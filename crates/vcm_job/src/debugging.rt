@@ -65,7 +65,10 @@ fn serve_loaded<'a, P: Part, R: Read, W: Write>(
         Ok(session) => session,
         Err(_) => return Err(DebugFault::NoMemory),
     };
-    match serve(alloc, &mut session, commands, writer) {
+    let served = serve(alloc, &mut session, commands, writer);
+    // Let go before the answer is looked at, once for all ways out.
+    drop(session);
+    match served {
         Ok(()) => Ok(()),
         Err(fault) => Err(DebugFault::Serve(fault)),
     }

@@ -5,15 +5,16 @@ ghost use Rattle.std.specs.Str.{bytes_eq};
 ghost use Rattle.vcm_job.specs.Reading.{ReadsLittle, AnswersUnread};
 ghost use Rattle.vcm_job.specs.Unread.{input_not_read};
 ghost use Rattle.vcm_job.specs.Inputs.{is_image, IsInputRun, IsRefusedInput, IsWritten, IsNotWritten};
+ghost use Rattle.vcm_job.specs.inner.Running.{IsNotRun};
 
 use crate::reading::{ReadFault, read_all};
-use crate::running::{Done, is_halted, status_of};
+use crate::running::{Done, Unwritten, finish};
 use std::alloc::Global;
 use std::io::{Read, Write};
 use vcm_fields::ImageFault;
-use vcm_motion::AnyPart;
+use vcm_motion::{AnyPart, Part};
 use vcm_part::PartData;
-use vcm_run::{Refusal, Summary, run_image, run_text, write_result};
+use vcm_run::{Refusal, Summary, run_image, run_text};
 
 /// Why a run wrote no whole result.
 #[derive(Clone, Copy, PartialEq, Eq)]
@@ -56,24 +57,59 @@ pub(crate) fn is_image(input: &[u8]) -> bool
     input.starts_with(b"VCMI")
 }
 
-// The run of an input for at most so many steps.
-fn summary_of(alloc: Global, part: &PartData, input: &[u8], steps: u64) -> Result<Summary, RunFault>
-    ensures run { IfOk result (IsInputRun part.now input.now steps) }
+// The run of an input beside a workpiece, for at most so many steps.
+fn run_beside<P: Part>(
+    alloc: Global,
+    part: &P,
+    input: &[u8],
+    steps: u64,
+) -> Result<Summary, RunFault>
+    ensures run { IfOk result (IsInputRun (P.part part.now) input.now steps) }
     ensures refused { IfErr result (IsRefusedInput input.now) }
 {
-    let Ok(workpiece) = AnyPart::of(alloc, part) else {
-        return Err(RunFault::NoMemory);
-    };
     if is_image(input) {
-        match run_image(alloc, &workpiece, input, steps) {
+        match run_image(alloc, part, input, steps) {
             Ok(summary) => Ok(summary),
             Err(fault) => Err(RunFault::Image(fault)),
         }
     } else {
-        match run_text(alloc, &workpiece, input, steps) {
+        match run_text(alloc, part, input, steps) {
             Ok(summary) => Ok(summary),
             Err(refusal) => Err(RunFault::Refused(refusal)),
         }
+    }
+}
+
+// The run of an input beside the workpiece of a part file.
+fn summary_of(alloc: Global, part: &PartData, input: &[u8], steps: u64) -> Result<Summary, RunFault>
+    ensures run { IfOk result (IsInputRun part.now input.now steps) }
+    ensures refused { IfErr result (IsRefusedInput input.now) }
+{
+    match AnyPart::of(alloc, part) {
+        Ok(workpiece) => run_beside(alloc, &workpiece, input, steps),
+        Err(_) => Err(RunFault::NoMemory),
+    }
+}
+
+// Runs an input for at most so many steps, and writes the result.
+fn run_input<W: Write>(
+    alloc: Global,
+    part: &PartData,
+    input: &[u8],
+    steps: u64,
+    writer: &mut W,
+) -> Result<Done, RunFault>
+    ensures done { IfOk result (λ d. IsWritten part.now input.now steps d.status d.notices.items (W.contents writer.old) (W.contents writer.new)) }
+    ensures fault { IfErr result (λ f. IsNotRun part.now input.now steps f (W.contents writer.old) (W.contents writer.new)) }
+{
+    let summary = match summary_of(alloc, part, input, steps) {
+        Ok(summary) => summary,
+        Err(fault) => return Err(fault),
+    };
+    match finish(summary, writer) {
+        Ok(done) => Ok(done),
+        Err(Unwritten::Memory { done }) => Err(RunFault::Memory { done }),
+        Err(Unwritten::Write { done }) => Err(RunFault::Write { done }),
     }
 }
 
@@ -94,16 +130,5 @@ pub fn run<R: Read, W: Write>(
     ensures little { ReadsLittle (R.remaining reader.old) (R.remaining reader.new) }
 {
     let input = read_all(alloc, reader)?;
-    let summary = summary_of(alloc, part, &input, steps)?;
-    let ran = summary.ran();
-    let done = ran.done;
-    if is_halted(ran) {
-        return Err(RunFault::Memory { done });
-    }
-    if write_result(summary.world(), &ran, writer).is_err() {
-        return Err(RunFault::Write { done });
-    }
-    let status = status_of(summary.world().stop());
-    let notices = summary.into_notices();
-    Ok(Done { status, notices })
+    run_input(alloc, part, &input, steps, writer)
 }

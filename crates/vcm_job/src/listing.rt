@@ -4,12 +4,14 @@ ghost use Rattle.std.specs.Prelude.{◌≡◌, IfOk, IfErr, IfSome};
 ghost use Rattle.vcm_job.specs.Reading.{ReadsLittle, AnswersUnread};
 ghost use Rattle.vcm_job.specs.Unread.{list_not_read, asm_not_read};
 ghost use Rattle.vcm_job.specs.Listings.{IsPrinted, IsListed, IsListRefusal, IsWrittenOut, IsNotListed, IsNotAssembled};
-ghost use Rattle.vcm_job.specs.inner.Printing.{IsNotPrinted};
+ghost use Rattle.vcm_job.specs.inner.Printing.{IsNotPrinted, IsListingRefusal};
+ghost use Rattle.vcm_image.specs.Whole.{Fits, spelling};
 
 use crate::inputs::is_image;
 use crate::reading::{ReadFault, read_all};
 use std::alloc::Global;
 use std::io::{Read, Write};
+use vcm_code::Code;
 use vcm_fields::ImageFault;
 use vcm_image::write;
 use vcm_listing::{ListFault, print, read_listing};
@@ -90,11 +92,11 @@ fn printed(alloc: Global, image: &[u8]) -> Result<Vec<u8>, PrintFault>
     ensures printed { IfOk result (λ text. IsPrinted image.now text.items) }
     ensures refused { IfErr result (IsNotPrinted image.now) }
 {
-    let loaded = match load(alloc, image) {
-        Ok(loaded) => loaded,
+    let printed = match load(alloc, image) {
+        Ok(loaded) => print(alloc, &loaded),
         Err(fault) => return Err(PrintFault::Image(fault)),
     };
-    match print(alloc, &loaded) {
+    match printed {
         Ok(text) => Ok(text),
         Err(_) => Err(PrintFault::NoMemory),
     }
@@ -142,10 +144,33 @@ pub fn list<R: Read, W: Write>(
     }
 }
 
+// The image of a code.
+#[tactic(auto, using(vcm_image::proofs::ImageLaws::range_of))]
+fn image_of(alloc: Global, code: &Code) -> Result<Vec<u8>, AsmFault>
+    requires { Fits code.now }
+    ensures image { IfOk result (λ v. v.items ≡ spelling code.now) }
+    ensures fault { IfErr result (λ f. f ≡ AsmFault.NoMemory) }
+{
+    match write(alloc, code) {
+        Ok(image) => Ok(image),
+        Err(_) => Err(AsmFault::NoMemory),
+    }
+}
+
+// The image of the code of a listing.
+fn assembled(alloc: Global, text: &[u8]) -> Result<Vec<u8>, AsmFault>
+    ensures image { IfOk result (λ v. IsPrinted v.items text.now) }
+    ensures fault { IfErr result (IsListingRefusal text.now) }
+{
+    match read_listing(alloc, text) {
+        Ok(code) => image_of(alloc, &code),
+        Err(fault) => Err(AsmFault::Refused(fault)),
+    }
+}
+
 /// Reads a listing whole, and gives the image of its code.
 ///
 /// Errors: see `AsmFault`.
-#[tactic(auto, using(vcm_image::proofs::ImageLaws::range_of))]
 pub fn asm<R: Read>(alloc: Global, reader: &mut R) -> Result<Vec<u8>, AsmFault>
     ensures image { IfOk result (λ v. IfSome (R.remaining reader.old) (λ text. IsPrinted v.items text)) }
     ensures fault { IfErr result (λ f. IsNotAssembled (R.remaining reader.old) (R.remaining reader.new) f) }
@@ -153,12 +178,5 @@ pub fn asm<R: Read>(alloc: Global, reader: &mut R) -> Result<Vec<u8>, AsmFault>
     ensures little { ReadsLittle (R.remaining reader.old) (R.remaining reader.new) }
 {
     let text = read_all(alloc, reader)?;
-    let code = match read_listing(alloc, &text) {
-        Ok(code) => code,
-        Err(fault) => return Err(AsmFault::Refused(fault)),
-    };
-    match write(alloc, &code) {
-        Ok(image) => Ok(image),
-        Err(_) => Err(AsmFault::NoMemory),
-    }
+    assembled(alloc, &text)
 }

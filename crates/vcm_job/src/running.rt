@@ -5,14 +5,15 @@ ghost use Rattle.vcm_job.specs.Jobs.{status_of, most_steps};
 ghost use Rattle.vcm_job.specs.Reading.{ReadsLittle, AnswersUnread};
 ghost use Rattle.vcm_job.specs.Unread.{job_not_read};
 ghost use Rattle.vcm_job.specs.Results.{IsJobRefusal, IsDone, IsNotDone};
-ghost use Rattle.vcm_job.specs.inner.Running.{IsJobRun};
+ghost use Rattle.vcm_run.specs.Programs.{IsSummary};
+ghost use Rattle.vcm_job.specs.inner.Running.{IsShown, IsNotShown, IsTextsRun, IsProgramRefusal, IsNoJob};
 
 use crate::cutting::texts_of;
 use crate::reading::{ReadFault, read_all};
 use std::alloc::Global;
 use std::io::{Read, Write};
-use vcm_motion::AnyPart;
-use vcm_part::read_part;
+use vcm_motion::{AnyPart, Part};
+use vcm_part::{PartData, read_part};
 use vcm_run::{End, Ran, Refusal, Summary, run_text, write_result};
 use vcm_spec::{Stop, StopPlace};
 use vcm_tree::Noticed;
@@ -26,6 +27,13 @@ const MAX_STEPS: u64 = 1_000_000;
 pub struct Done {
     pub status: u8,
     pub notices: Vec<Noticed>,
+}
+
+/// Why no whole result of a run was written: a growth of memory was refused, or the writer failed, after so many steps of the run.
+#[derive(Clone, Copy)]
+pub(crate) enum Unwritten {
+    Memory { done: u64 },
+    Write { done: u64 },
 }
 
 /// Why a job wrote no whole result.
@@ -60,8 +68,8 @@ impl From<ReadFault> for JobFault {
     }
 }
 
-/// The exit status that a stop gives.
-pub(crate) fn status_of(stop: Option<StopPlace>) -> u8
+// The exit status that a stop gives.
+fn status_of(stop: Option<StopPlace>) -> u8
     ensures { result ≡ status_of stop }
 {
     match stop {
@@ -74,8 +82,8 @@ pub(crate) fn status_of(stop: Option<StopPlace>) -> u8
     }
 }
 
-/// Whether a run was refused memory.
-pub(crate) fn is_halted(ran: Ran) -> bool
+// Whether a run was refused memory.
+fn is_halted(ran: Ran) -> bool
     ensures halted { result ≡ true → ran.end ≡ End.NoMemory }
     ensures ample { result ≡ false → ran.end ≢ End.NoMemory }
 {
@@ -86,30 +94,99 @@ pub(crate) fn is_halted(ran: Ran) -> bool
     }
 }
 
+// Writes the result of a run that wasn't refused memory, and gives its exit status.
+fn write_run<W: Write>(summary: &Summary, writer: &mut W) -> Result<u8, Unwritten>
+    ensures written { IfOk result (λ status. IsShown summary.now status summary.now.notices (W.contents writer.old) (W.contents writer.new)) }
+    ensures fault { IfErr result (λ f. IsNotShown summary.now f (W.contents writer.old) (W.contents writer.new)) }
+{
+    let ran = summary.ran();
+    let done = ran.done;
+    if is_halted(ran) {
+        return Err(Unwritten::Memory { done });
+    }
+    match write_result(summary.world(), &ran, writer) {
+        Ok(()) => Ok(status_of(summary.world().stop())),
+        Err(_) => Err(Unwritten::Write { done }),
+    }
+}
+
+/// Writes the result of a run that wasn't refused memory, and tells what it was.
+pub(crate) fn finish<W: Write>(summary: Summary, writer: &mut W) -> Result<Done, Unwritten>
+    ensures done { IfOk result (λ d. IsShown summary d.status d.notices.items (W.contents writer.old) (W.contents writer.new)) }
+    ensures fault { IfErr result (λ f. IsNotShown summary f (W.contents writer.old) (W.contents writer.new)) }
+{
+    let written = write_run(&summary, writer);
+    let notices = summary.into_notices();
+    match written {
+        Ok(status) => Ok(Done { status, notices }),
+        Err(fault) => Err(fault),
+    }
+}
+
+// The run of a program beside a workpiece, for so many steps.
+fn run_beside(
+    alloc: Global,
+    part: &PartData,
+    program: &[u8],
+    steps: u64,
+) -> Result<Summary, JobFault>
+    ensures run { IfOk result (IsSummary part.now program.now steps) }
+    ensures refused { IfErr result (IsProgramRefusal program.now) }
+{
+    match AnyPart::of(alloc, part) {
+        Ok(workpiece) => run_program(alloc, &workpiece, program, steps),
+        Err(_) => Err(JobFault::NoMemory),
+    }
+}
+
+// The run of a program, for so many steps.
+fn run_program<P: Part>(
+    alloc: Global,
+    part: &P,
+    program: &[u8],
+    steps: u64,
+) -> Result<Summary, JobFault>
+    ensures run { IfOk result (IsSummary (P.part part.now) program.now steps) }
+    ensures refused { IfErr result (IsProgramRefusal program.now) }
+{
+    match run_text(alloc, part, program, steps) {
+        Ok(summary) => Ok(summary),
+        Err(refusal) => Err(JobFault::Refused(refusal)),
+    }
+}
+
 // The run of the two texts of an input, for so many steps.
 fn summary_of(alloc: Global, input: &[u8], steps: u64) -> Result<Summary, JobFault>
-    requires { steps ≡ most_steps }
-    ensures run { IfOk result (IsJobRun input.now) }
+    ensures run { IfOk result (IsTextsRun input.now steps) }
     ensures fault { IfErr result (IsJobRefusal input.now) }
 {
     let (part, program) = texts_of(input);
-    let part = match read_part(alloc, part) {
-        Ok(part) => part,
-        Err(fault) => return Err(JobFault::Refused(Refusal::Part(fault))),
-    };
-    let Ok(workpiece) = AnyPart::of(alloc, &part) else {
-        return Err(JobFault::NoMemory);
-    };
-    let summary = match run_text(alloc, &workpiece, program, steps) {
-        Ok(summary) => summary,
-        Err(refusal) => return Err(JobFault::Refused(refusal)),
-    };
-    let ran = summary.ran();
-    if is_halted(ran) {
-        let done = ran.done;
-        return Err(JobFault::Memory { done });
+    match read_part(alloc, part) {
+        Ok(part) => run_beside(alloc, &part, program, steps),
+        Err(fault) => Err(JobFault::Refused(Refusal::Part(fault))),
     }
-    Ok(summary)
+}
+
+// Runs the two texts of an input for so many steps, and writes the result.
+fn run_job<W: Write>(
+    alloc: Global,
+    input: &[u8],
+    steps: u64,
+    writer: &mut W,
+) -> Result<Done, JobFault>
+    requires { steps ≡ most_steps }
+    ensures done { IfOk result (λ d. IsDone input.now d.status d.notices.items (W.contents writer.old) (W.contents writer.new)) }
+    ensures fault { IfErr result (λ f. IsNoJob input.now f (W.contents writer.old) (W.contents writer.new)) }
+{
+    let summary = match summary_of(alloc, input, steps) {
+        Ok(summary) => summary,
+        Err(fault) => return Err(fault),
+    };
+    match finish(summary, writer) {
+        Ok(done) => Ok(done),
+        Err(Unwritten::Memory { done }) => Err(JobFault::Memory { done }),
+        Err(Unwritten::Write { done }) => Err(JobFault::Write { done }),
+    }
 }
 
 /// Reads a job, runs it, and writes its result and nothing else. The part text stands before the first line that is exactly `%%`, the program
@@ -127,12 +204,5 @@ pub fn job<R: Read, W: Write>(
     ensures little { ReadsLittle (R.remaining reader.old) (R.remaining reader.new) }
 {
     let input = read_all(alloc, reader)?;
-    let summary = summary_of(alloc, &input, MAX_STEPS)?;
-    let done = summary.ran().done;
-    if write_result(summary.world(), &summary.ran(), writer).is_err() {
-        return Err(JobFault::Write { done });
-    }
-    let status = status_of(summary.world().stop());
-    let notices = summary.into_notices();
-    Ok(Done { status, notices })
+    run_job(alloc, &input, MAX_STEPS, writer)
 }

@@ -1,10 +1,65 @@
--- The steps of a job.
-use Rattle.std.specs.Prelude.{◌≡◌, ℕ, List}
+-- The steps of a run and of a job.
+use Rattle.std.specs.Prelude.{◌≡◌, ℕ, List, Option, Ok}
+use Rattle.std.specs.Io.KnownBytes.{Appends, Keeps}
+use Rattle.vcm_num.specs.Written.{AppendsFront}
+use Rattle.vcm_part.specs.PartFile.{part_of}
 use Rattle.vcm_spec.specs.Workpiece.{Workpiece}
+use Rattle.vcm_tree.specs.declared.program.Noticed.{Noticed}
 use Rattle.vcm_tree.specs.Program.{Parsed}
+use Rattle.vcm_machine.specs.declared.ran.End.TheVariants as ends
+use Rattle.vcm_run.specs.Programs.{IsSummary, IsRefusal}
 use Rattle.vcm_run.specs.Summaries.{Shown}
 use Rattle.vcm_run.specs.Printed.{result_text}
-use Rattle.vcm_job.specs.Jobs.{job_count, job_text, last_state, IsJob}
+use Rattle.vcm_job.specs.declared.inputs.RunFault.{RunFault}
+use Rattle.vcm_job.specs.declared.inputs.RunFault.TheVariants as runs
+use Rattle.vcm_job.specs.declared.running.JobFault.{JobFault}
+use Rattle.vcm_job.specs.declared.running.JobFault.TheVariants as jobs
+use Rattle.vcm_job.specs.declared.running.Unwritten.{Unwritten}
+use Rattle.vcm_job.specs.declared.running.Unwritten.TheVariants as unwritten
+use Rattle.vcm_job.specs.Inputs.{IsRefusedInput, IsHaltedRun, IsRunCutOff}
+use Rattle.vcm_job.specs.Jobs.{part_text, program_text, job_count, job_text, last_state, status_of, IsJob}
+use Rattle.vcm_job.specs.Results.{IsJobRefusal, IsCutOff}
+
+-- the result of a run was written and nothing else, and this is its status; the run wasn't refused memory
+pub record IsShown (s : Shown) (status : ℕ) (notices : List Noticed) (old new : Option (List ℕ)) : Type 0 where
+  pub ample : s.ran.end ≡ ends.NoMemory → ⊥
+  pub status_is : status ≡ status_of s.held.state.stop
+  pub notices_are : notices ≡ s.notices
+  pub written : Appends old new (result_text s.held s.ran.done)
+
+-- a run was refused memory after so many steps
+pub record IsShort (s : Shown) (done : ℕ) : Type 0 where
+  pub halted : s.ran.end ≡ ends.NoMemory
+  pub count : done ≡ s.ran.done
+
+-- a front of the result of a run was written, and not all of it, after so many steps
+pub record IsShownInPart (s : Shown) (done : ℕ) (old new : Option (List ℕ)) : Type 0 where
+  pub ample : s.ran.end ≡ ends.NoMemory → ⊥
+  pub count : done ≡ s.ran.done
+  pub front : AppendsFront old new (result_text s.held s.ran.done)
+
+-- why no whole result of a run was written: it was refused memory, and nothing was written; or a failed write cut it off
+abbrev pub IsNotShown : Shown → Unwritten → Option (List ℕ) → Option (List ℕ) → Type 0
+IsNotShown s (unwritten.Memory done) old new = IsShort s done × Keeps old new
+IsNotShown s (unwritten.Write done) old new = IsShownInPart s done old new
+
+-- why the run of an input wrote no whole result: a failed write cut it off; or memory or a refusal, and nothing was written
+abbrev pub IsNotRun : Workpiece → List ℕ → ℕ → RunFault → Option (List ℕ) → Option (List ℕ) → Type 0
+IsNotRun part input n (runs.Write done) old new = IsRunCutOff part input n done old new
+IsNotRun part input n (runs.Memory done) old new = IsHaltedRun part input n done × Keeps old new
+IsNotRun part input n f old new = IsRefusedInput input f × Keeps old new
+
+-- the part text of an input gives a workpiece, and this is a run of its program text for n steps
+pub record IsTextsRun (input : List ℕ) (n : ℕ) (s : Shown) : Type 0 where
+  pub part : Workpiece
+  pub part_is : part_of (part_text input) ≡ Ok part
+  pub run : IsSummary part (program_text input) n s
+
+-- why a program isn't run: it is refused, or memory was refused
+abbrev pub IsProgramRefusal : List ℕ → JobFault → Type 0
+IsProgramRefusal program (jobs.Refused r) = IsRefusal program r
+IsProgramRefusal program jobs.NoMemory = Unit {0}
+IsProgramRefusal program _ = ⊥
 
 -- the summary shows the last state of the job's program, after its effective steps
 pub record IsJobRun (input : List ℕ) (s : Shown) : Type 0 where
@@ -15,3 +70,8 @@ pub record IsJobRun (input : List ℕ) (s : Shown) : Type 0 where
   pub count : s.ran.done ≡ job_count part parsed
   pub text : result_text s.held s.ran.done ≡ job_text part parsed
   pub stop : s.held.state.stop ≡ (last_state part parsed).world.stop
+
+-- why a job wrote no whole result: a failed write cut it off; or memory or a refusal, and nothing was written
+abbrev pub IsNoJob : List ℕ → JobFault → Option (List ℕ) → Option (List ℕ) → Type 0
+IsNoJob input (jobs.Write done) old new = IsCutOff input done old new
+IsNoJob input f old new = IsJobRefusal input f × Keeps old new

@@ -1,26 +1,23 @@
-use Rattle.std.proofs.Common.{refl, sym, ap, ◌∙◌}
-use Rattle.vcm_state.specs.Held.{Held}
-use Rattle.vcm_job.specs.Jobs.{status_of}
-use Rattle.vcm_job.proofs.InputLemmas.{run_done, run_halted, run_cut_off, keeps_same, whole}
-use Rattle.vcm_job.proofs.JobLemmas.{failed_front}
+use Rattle.std.proofs.Common.{◌∙◌, ap, Err}
+use Rattle.std.proofs.lemmas.Result.{err_from_is_err_and}
+use Rattle.vcm_job.specs.Unread.{input_not_read}
+use Rattle.vcm_job.proofs.InputLemmas.{input_unread, not_written_of, written_of}
+use Rattle.vcm_job.proofs.JobLemmas.{read_whole, unread}
 use Rattle.vcm_job.proofs.inputs.run.Goals as goal
 
 pub returns-clause-done : goal.returns-clause-done
-returns-clause-done g c =
-    let run = rw c.deref.ensures.value at c.in_ok-summary.ensures.run in
-    let wrote = whole _ _ _ c.write_result.result (sym c.is_err.ensures.value ∙ c.if-is_err.false) (rw (c.world.ensures, c.ran-ran.ensures) at c.write_result.ensures) in
-    let status = c.status_of-status.ensures ∙ ap status_of (c.stop.ensures ∙ ap (λ (h : Held). h.state.stop) c.world-2.ensures) in
-    run_done _ _ c.in_ok-input.ensures.all _ _ c.in_ok-summary.summary run ((rw c.ran-ran.ensures at c.if-is_halted.ensures.ample) refl) _ _ _ _ status c.into_notices-notices.ensures wrote
+returns-clause-done g c = written_of _ _ _ _ c.run_input.result _ _ c.in_ok-input.ensures.all (rw c.deref.ensures.value at c.run_input.ensures.done)
 
-pub returns-then-is_err-clause-fault : goal.returns-then-is_err-clause-fault
-returns-then-is_err-clause-fault g c =
-    let run = rw c.deref.ensures.value at c.in_ok-summary.ensures.run in
-    let front = failed_front _ _ _ c.write_result.result (sym c.is_err.ensures.value ∙ c.if-is_err.true) (rw (c.world.ensures, c.ran-ran.ensures) at c.write_result.ensures) in
-    run_cut_off _ _ c.in_ok-input.ensures.all _ _ c.in_ok-summary.summary run ((rw c.ran-ran.ensures at c.if-is_halted.ensures.ample) refl) _ _ _ (ap (λ r. r.done) c.ran-ran.ensures) front
+pub returns-clause-fault : goal.returns-clause-fault
+returns-clause-fault g c = not_written_of _ _ _ _ _ c.run_input.result _ _ c.in_ok-input.ensures.all (rw c.deref.ensures.value at c.run_input.ensures.fault)
 
-pub returns-then-is_halted-clause-fault : goal.returns-then-is_halted-clause-fault
-returns-then-is_halted-clause-fault g c =
-    let run = rw c.deref.ensures.value at c.in_ok-summary.ensures.run in (
-      run_halted _ _ c.in_ok-input.ensures.all _ _ c.in_ok-summary.summary run ((rw c.ran-ran.ensures at c.if-is_halted.ensures.halted) refl) _ (ap (λ r. r.done) c.ran-ran.ensures),
-      keeps_same _,
-    )
+pub returns-clause-long : goal.returns-clause-long
+returns-clause-long g c = read_whole input_not_read _ _ c.run_input.result c.in_ok-input.ensures.all c.in_ok-input.ensures.short
+
+pub returns-in_err-input-clause-fault : goal.returns-in_err-input-clause-fault
+returns-in_err-input-clause-fault g c =
+    let p = err_from_is_err_and c.from_residual.result c.from_residual.ensures.1 in rw (p.1, p.2) (input_unread _ _ _ _ _ _ c.in_err-input.ensures.fault)
+
+pub returns-in_err-input-clause-long : goal.returns-in_err-input-clause-long
+returns-in_err-input-clause-long g c =
+    let p = err_from_is_err_and c.from_residual.result c.from_residual.ensures.1 in unread input_not_read _ c.from_residual.result _ (p.1 ∙ ap Err p.2)

@@ -1,22 +1,25 @@
-use Rattle.std.proofs.Common.{sym, ap, ◌∙◌}
-use Rattle.vcm_state.specs.Held.{Held}
-use Rattle.vcm_job.specs.Jobs.{status_of}
-use Rattle.vcm_job.proofs.InputLemmas.{whole}
-use Rattle.vcm_job.proofs.JobLemmas.{steps_of_jobs, job_done, job_cut_off, failed_front}
+use Rattle.std.proofs.Common.{◌∙◌, ap, Err}
+use Rattle.std.proofs.lemmas.Result.{err_from_is_err_and}
+use Rattle.vcm_job.specs.Unread.{job_not_read}
+use Rattle.vcm_job.proofs.JobLemmas.{steps_of_jobs, none_read, not_done_of, done_of, read_whole, unread}
 use Rattle.vcm_job.proofs.running.job.Goals as goal
 
-pub summary_of-requires : goal.summary_of-requires
-summary_of-requires g c = steps_of_jobs
-
-pub returns-then-is_err-clause-fault : goal.returns-then-is_err-clause-fault
-returns-then-is_err-clause-fault g c =
-    let run = rw c.deref.ensures.value at c.in_ok-summary.ensures.run in
-    let front = failed_front _ _ _ c.write_result.result (sym c.is_err.ensures.value ∙ c.if-is_err.true) (rw (c.world.ensures, c.ran.ensures) at c.write_result.ensures) in
-    rw c.ran-done.ensures (job_cut_off _ _ c.in_ok-input.ensures.all c.in_ok-summary.summary run _ _ front)
+pub run_job-requires : goal.run_job-requires
+run_job-requires g c = steps_of_jobs
 
 pub returns-clause-done : goal.returns-clause-done
-returns-clause-done g c =
-    let run = rw c.deref.ensures.value at c.in_ok-summary.ensures.run in
-    let wrote = whole _ _ _ c.write_result.result (sym c.is_err.ensures.value ∙ c.if-is_err.false) (rw (c.world.ensures, c.ran.ensures) at c.write_result.ensures) in
-    let status = c.status_of-status.ensures ∙ ap status_of (c.stop.ensures ∙ ap (λ (h : Held). h.state.stop) c.world-2.ensures) in
-    job_done _ _ c.in_ok-input.ensures.all c.in_ok-summary.summary run _ _ _ _ status c.into_notices-notices.ensures wrote
+returns-clause-done g c = done_of _ _ c.run_job.result _ _ c.in_ok-input.ensures.all (rw c.deref.ensures.value at c.run_job.ensures.done)
+
+pub returns-clause-fault : goal.returns-clause-fault
+returns-clause-fault g c = not_done_of _ _ _ c.run_job.result _ _ c.in_ok-input.ensures.all (rw c.deref.ensures.value at c.run_job.ensures.fault)
+
+pub returns-clause-long : goal.returns-clause-long
+returns-clause-long g c = read_whole job_not_read _ _ c.run_job.result c.in_ok-input.ensures.all c.in_ok-input.ensures.short
+
+pub returns-in_err-input-clause-fault : goal.returns-in_err-input-clause-fault
+returns-in_err-input-clause-fault g c =
+    let p = err_from_is_err_and c.from_residual.result c.from_residual.ensures.1 in rw (p.1, p.2) (none_read _ _ _ _ c.in_err-input.ensures.fault)
+
+pub returns-in_err-input-clause-long : goal.returns-in_err-input-clause-long
+returns-in_err-input-clause-long g c =
+    let p = err_from_is_err_and c.from_residual.result c.from_residual.ensures.1 in unread job_not_read _ c.from_residual.result _ (p.1 ∙ ap Err p.2)

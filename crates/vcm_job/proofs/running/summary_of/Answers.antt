@@ -1,16 +1,10 @@
-use Rattle.std.proofs.Common.{rules, refl, sym, ◌∙◌, ap, Ok}
-use Rattle.vcm_job.proofs.JobLemmas.{job_run, program_refused}
+use Rattle.vcm_job.proofs.JobLemmas.{texts_run, program_refuses}
 use Rattle.vcm_job.proofs.running.summary_of.Goals as goal
 
-pub returns-in-Err-run_text-clause-fault : goal.returns-in-Err-run_text-clause-fault
-returns-in-Err-run_text-clause-fault c =
-    program_refused c.args.input.now _ c.in-Err-run_text.refusal (rw c.texts_of.ensures.part at c.in-Ok.ensures) (rw c.texts_of.ensures.program at c.in-Err-run_text.ensures.refused)
+pub returns-in-Ok-clause-run : goal.returns-in-Ok-clause-run
+returns-in-Ok-clause-run c =
+    texts_run c.args.input.now _ c.args.steps _ c.run_beside.result (rw c.texts_of.ensures.part at c.in-Ok.ensures) c.texts_of.ensures.program c.run_beside.ensures.run
 
-pub returns-clause-run : goal.returns-clause-run
-returns-clause-run c =
-    let part_is = (rw c.texts_of.ensures.part at c.in-Ok.ensures) ∙ ap Ok (sym c.in-Ok-of.ensures) in
-    job_run c.args.steps c.requires c.args.input.now _ part_is c.in-Ok-run_text.summary (rw c.texts_of.ensures.program at c.in-Ok-run_text.ensures.run)
-    (λ e. c.if-is_halted.ensures.ample refl (ap (λ r. r.end) c.ran-ran.ensures ∙ e))
-
-pub returns-in-Err-clause-fault : goal.returns-in-Err-clause-fault
-returns-in-Err-clause-fault c = search rules
+pub returns-in-Ok-clause-fault : goal.returns-in-Ok-clause-fault
+returns-in-Ok-clause-fault c =
+    program_refuses c.args.input.now _ _ c.run_beside.result (rw c.texts_of.ensures.part at c.in-Ok.ensures) c.texts_of.ensures.program c.run_beside.ensures.refused

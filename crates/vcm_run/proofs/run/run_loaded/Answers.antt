@@ -1,0 +1,5 @@
+use Rattle.std.proofs.Common.{rules}
+use Rattle.vcm_run.proofs.run.run_loaded.Goals as goal
+
+pub returns-clause-run : goal.returns-clause-run
+returns-clause-run g c = search rules
