@@ -1,5 +1,5 @@
 -- Machines that take steps.
-use Rattle.std.proofs.Common.{◌≡◌, ℕ, suc, ◌+◌, ◌-◌, ◌<◌, ◌≤◌, Option, Some, None, Ok, Err, refl, sym, ap, ◌∙◌, subst, arith, false}
+use Rattle.std.proofs.Common.{◌≡◌, ℕ, suc, ◌+◌, ◌-◌, ◌<◌, ◌≤◌, Option, Some, None, Ok, Err, refl, sym, ap, ◌∙◌, subst, arith, true, false}
 use Rattle.std.specs.Prelude.{List, slice_get}
 use Rattle.std.specs.Option.{is_some}
 use Rattle.vcm_spec.specs.declared.stop.StopPlace.{StopPlace}
@@ -77,6 +77,11 @@ module _ (k : ℕ) (old : Running) where
     stops p e =
         let none = stopped_effective (k - done) s p (sym (ap (λ h. h.place.world.stop) gone.new_is) ∙ e) in
         (gone.new_is, (let r = gone.rest in omega (arith, none, r)), gone.within)
+
+    -- the same of what was asked
+    pub has_stopped : (o : Option StopPlace) → new.place.world.stop ≡ o → is_some o ≡ true → HasStepped k old new (Ok done)
+    has_stopped None e f = absurd cc
+    has_stopped (Some p) e f = stops p e
 
     pub refused : (next : Running) → done < k → next ≡ new → WantsMemory new → HasStepped k old next (Err done)
     refused next l e wants = (e ∙ gone.new_is, l, subst WantsMemory (sym e) wants)

@@ -59,6 +59,12 @@ moved_on part code old new count done breakpoints watches before room s e r = re
   fits = s.fits;
 }
 
+-- the session with a machine of its workpiece and code that has taken n steps
+pub moved_to : (part : Workpiece) (code : Code) (old new : Running) (count n : ℕ) (breakpoints watches : List Bool) (before : List ℤ)
+    → IsSession part code old count breakpoints watches before → new ≡ after part code n → IsSession part code new n breakpoints watches before
+moved_to part code old new count n breakpoints watches before s e =
+    record { reached = e; statements = s.statements; variables = s.variables; room = s.room; fits = s.fits }
+
 -- memory was refused in it
 pub halts_after : (part : Workpiece) (code : Code) (old new : Running) (count k done : ℕ) (breakpoints watches : List Bool) (d : Debugging)
     → record { part = part; code = code; count = count; breakpoints = breakpoints; watches = watches } ≡ d

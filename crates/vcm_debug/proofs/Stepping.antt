@@ -1,11 +1,20 @@
 -- Runs that haven't ended.
-use Rattle.std.proofs.Common.{◌≡◌, ℕ, zero, suc, ◌+◌, ◌-◌, ◌<◌, ◌≤◌, Bool, List, Option, Some, None, Ok, Err, refl, sym, ap, ◌∙◌, subst, arith, below_more}
+use Rattle.std.proofs.Common.{◌≡◌, ℕ, zero, suc, ◌+◌, ◌-◌, ◌<◌, ◌≤◌, Bool, true, false, List, length, get_or, slice_get, Option, Some, None, Ok, Err, refl, sym, ap, ◌∙◌, subst, arith, below_more}
+use Rattle.std.proofs.lemmas.Option.{slice_get-get_or}
 use Rattle.vcm_machine.specs.Running.{Running, later, WantsMemory}
 use Rattle.vcm_machine.proofs.LawLemmas.{add_up}
 use Rattle.vcm_console.specs.declared.reply.Reason.{Reason}
-use Rattle.vcm_console.specs.declared.reply.Reason.TheVariants.{Count}
-use Rattle.vcm_debug.specs.Halting.{reason, reason_after, halt, run_end}
+use Rattle.vcm_console.specs.declared.reply.Reason.TheVariants.{Break, Count}
+use Rattle.vcm_debug.specs.Halting.{changed_from, watch_reason, break_reason, stop_reason, reason, reason_after, halt, run_end}
 use Rattle.vcm_debug.specs.inner.Going.{HasRun}
+
+-- a breakpoint at the next statement of a machine that has not stopped
+pub breaks : (breakpoints watches : List Bool) (before now : Running) (i : ℕ) → i < length breakpoints → get_or breakpoints i false ≡ true → i ≡ now.place.next
+    → now.place.world.stop ≡ None → Some Break ≡ reason breakpoints watches before now
+breaks breakpoints watches before now i l b n s =
+    let rest = watch_reason (changed_from 0 watches before.place.world.variables now.place.world.variables) in
+    let found = ap (slice_get breakpoints) (sym n) ∙ slice_get-get_or breakpoints i false l ∙ ap Some b in
+    sym (ap (λ o. stop_reason o (break_reason (slice_get breakpoints now.place.next) rest)) s ∙ ap (λ o. break_reason o rest) found)
 
 -- one step more
 pub one_more : (n : ℕ) (m : Running) → later (n + 1) m ≡ later 1 (later n m)

@@ -10,6 +10,7 @@ use crate::session::Session;
 use std::alloc::Global;
 use vcm_console::{Halted, Reason, Refusal, Reply, Wanted};
 use vcm_expr::Name;
+use vcm_machine::Machine;
 use vcm_motion::Part;
 use vcm_num::NoMemory;
 
@@ -17,8 +18,8 @@ impl<'a, P: Part> Session<'a, P> {
     ghost use Rattle.std.specs.Prelude.{◌≡◌, ◌<◌, ◌≤◌, ◌+◌, ◌^◌, IfOk, Some, None};
     ghost use Rattle.vcm_console.specs.Replies.{Fits};
     ghost use Rattle.vcm_console.specs.declared.command.Command.TheVariants as c;
-    ghost use Rattle.vcm_debug.specs.Debugging.{now};
-    ghost use Rattle.vcm_debug.specs.Session.{Carries, answer, standing};
+    ghost use Rattle.vcm_debug.specs.Debugging.{after, now};
+    ghost use Rattle.vcm_debug.specs.Session.{Carries, answer, at_count, standing};
 
     /// Sets a breakpoint.
     pub(crate) fn set_break(&mut self, number: u64) -> Reply
@@ -204,12 +205,20 @@ impl<'a, P: Part> Session<'a, P> {
         let count = self.count - u64::from(k);
         match machine_at(alloc, self.loaded, self.part, &self.checkpoints, count) {
             Ok(machine) => {
-                self.machine = machine;
-                self.count = count;
+                self.stand_at(machine, count);
                 Ok(Reply::Stands(self.standing()))
             }
             Err(NoMemory) => Err(Halted { done: 0 }),
         }
+    }
+
+    // Goes on with a machine that has taken so many steps.
+    fn stand_at(&mut self, machine: Machine<'a, P>, count: u64)
+        requires { machine ≡ after self.old.part self.old.code count }
+        ensures { self.new ≡ at_count self.old count }
+    {
+        self.machine = machine;
+        self.count = count;
     }
 
     /// The last output lines.

@@ -1,6 +1,6 @@
 use Rattle.std.proofs.Common.{◌+◌, ◌≡◌, None, sym, ◌∙◌, ap}
 use Rattle.vcm_debug.specs.inner.Going.{begun}
-use Rattle.vcm_debug.proofs.Coming.{arrived, goes_on, gone_is, none_of}
+use Rattle.vcm_debug.proofs.Coming.{arrived, goes_on, gone_is, has_stopped, none_of}
 use Rattle.vcm_debug.proofs.forward.step_on.Goals as goal
 
 pub loop-done-preserved : goal.loop-done-preserved
@@ -16,3 +16,8 @@ loop-done-preserved g c =
           (gone_is c.args.k c.args.machine.now c.loop-done.machine c.loop-done.done c.loop-done.invariant.gone c.step.new.self c.in-Ok.ensures.ok)
           ∙ ap (λ n. begun c.args.machine.now (c.args.count + n)) (sym c.from.ensures)) c.loop-done.invariant.kept;
     }
+
+pub returns-else-is_none-clause-steps : goal.returns-else-is_none-clause-steps
+returns-else-is_none-clause-steps g c =
+    has_stopped c.args.k c.args.machine.now c.loop-done.machine c.loop-done.done c.loop-done.invariant.gone c.stop.result
+    (sym (ap (λ h. h.stop) c.world.ensures.state) ∙ sym c.stop.ensures) c.if-is_none.ensures

@@ -1,6 +1,9 @@
 use Rattle.vcm_debug.specs.Debugging.{now}
-use Rattle.vcm_debug.proofs.Turns.{refused_fits}
+use Rattle.vcm_debug.proofs.Turns.{refused, refused_fits}
 use Rattle.vcm_debug.proofs.serving.answer_to.Goals as goal
+
+pub returns-in-Err-clause-answers : goal.returns-in-Err-clause-answers
+returns-in-Err-clause-answers g c = refused c.args.session.now c.args.line.now c.in-Err.reply c.in-Err.ensures.is
 
 pub returns-in-Err-clause-fits : goal.returns-in-Err-clause-fits
 returns-in-Err-clause-fits g c =
