@@ -65,23 +65,6 @@ pub one_more_read : (known after later : Option (List ℕ)) (kept more : List �
 one_more_read None after later kept more used b h next n m = tt
 one_more_read (Some input) after later kept more used b h next n m = one_read input after later kept more used b h next n m
 
--- a line feed
-pub line_read : (left : ℕ) (known after later : Option (List ℕ)) (kept : List ℕ) (used : ℕ) → used < left → HasReadOf known after kept used
-    → IfSome after (λ i. IsNextOf i later (Some 10)) → IfSome known (λ input. HasLine left input later kept true (used + 1))
-line_read left None after later kept used l h next = tt
-line_read left (Some input) after later kept used l h next =
-    let k = subst (λ a. IfSome a (λ i. IsNextOf i later (Some 10))) h.after_is next in
-    let u = h.used_is in
-    record {
-      raw = h.seen;
-      rest = k.0;
-      begins = (h.cut ∙ ap (λ l. h.seen ++ l) k.1, h.plain);
-      kept_is = h.kept_is;
-      used_is = omega (arith, u);
-      fits = omega arith;
-      after_is = k.2;
-    }
-
 -- a byte too many
 pub too_long : (left : ℕ) (known after later : Option (List ℕ)) (kept : List ℕ) (used b : ℕ) → used ≡ left → HasReadOf known after kept used
     → IfSome after (λ i. IsNextOf i later (Some b)) → IfSome known (λ input. IsLong left input × (later ≡ Some (drop (left + 1) input)))
@@ -100,14 +83,6 @@ too_long left (Some input) after later kept used b e h next =
 kept_is_same : (input : List ℕ) (later : Option (List ℕ)) → Keeps (Some input) later → later ≡ Some input
 kept_is_same input None k = absurd k
 kept_is_same input (Some rest) k = ap Some k
-
-pub read_failed : (left : ℕ) (known after later : Option (List ℕ)) (kept : List ℕ) (used : ℕ) → used ≤ left → HasReadOf known after kept used
-    → Keeps after later → IfSome known (λ input. TakesAtMost left input later)
-read_failed left None after later kept used l h k = tt
-read_failed left (Some input) after later kept used l h k =
-    let u = h.used_is in
-    let same = kept_is_same h.rest later (subst (λ a. Keeps a later) h.after_is k) in
-    (length h.seen, omega (arith, u, l), same ∙ ap Some (sym (ap (drop (length h.seen)) h.cut ∙ drop_at h.seen h.rest (length h.seen) refl)))
 
 -- the input's end
 pub none_left : (known after later : Option (List ℕ)) (kept : List ℕ) (used : ℕ) → used ≡ 0 → HasReadOf known after kept used

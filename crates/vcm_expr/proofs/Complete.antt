@@ -58,15 +58,6 @@ HasBad c (Paren s) = HasBad c s
 HasBad c (Signed op s) = HasBad c s
 HasBad c (Joined op a b) = HasBad c a ⊎ HasBad c b
 
-level-some : (op : BinaryOp) → 1 ≤ level op
-level-some Add = omega arith
-level-some Sub = omega arith
-level-some Mul = omega arith
-level-some Div = omega arith
-level-some And = omega arith
-level-some Or = omega arith
-level-some (Compare r) = omega arith
-
 pub level-le : (op : BinaryOp) → level op ≤ 6
 level-le Add = omega arith
 level-le Sub = omega arith

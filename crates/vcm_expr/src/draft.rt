@@ -17,9 +17,6 @@ const DEEPEST: u32 = 32;
 /// The most nodes that an expression may have.
 const MOST_NODES: u32 = 512;
 
-/// How many parts have room from the start.
-const USUAL: usize = 32;
-
 /// A size within the limits.
 fn within(line: u32, depth: u32, nodes: u32) -> Result<Size, SourceFault>
     ensures ok { IfOk result (λ s. (s.depth ≡ depth) × (s.nodes ≡ nodes) × (depth ≤ 32) × (nodes ≤ 512)) }
@@ -57,16 +54,16 @@ impl Model for Draft {
 }
 
 impl Draft {
-    /// No expression, and memory for the parts of most.
+    /// No expression, and memory for so many parts.
     ///
     /// # Errors
     ///
     /// Want of memory.
-    pub fn new(alloc: Global) -> Result<Draft, SourceFault>
+    pub fn new(alloc: Global, parts: usize) -> Result<Draft, SourceFault>
         ensures ok { IfOk result (λ d. d ≡ []) }
         ensures fault { IfErr result (λ f. f ≡ no_memory) }
     {
-        let pieces = Vec::with_capacity(alloc, USUAL)?;
+        let pieces = Vec::with_capacity(alloc, parts)?;
         Ok(Draft { pieces })
     }
 
@@ -141,16 +138,14 @@ impl Draft {
         Ok(e.size())
     }
 
-    /// The only expression, which is of this size. The memory that it doesn't need is given back.
+    /// The only expression, which is of this size.
     pub fn finish(self, size: Size) -> Expr
         requires { (e : Source) × (self ≡ e ∷ []) × IsSize size e }
         ensures { self ≡ result ∷ [] }
     {
-        let mut pieces = self.pieces;
-        if let [Piece::Leaf(term)] = pieces.as_slice() {
+        if let [Piece::Leaf(term)] = self.pieces.as_slice() {
             return Expr::leaf(copy_term(term));
         }
-        pieces.shrink_to_fit();
-        Expr::new(pieces, size)
+        Expr::new(self.pieces, size)
     }
 }

@@ -30,7 +30,7 @@ pub(crate) fn whole(alloc: Global, line: u32, words: Symbols<'_>) -> Result<Expr
     if let Some(term) = words.lone() {
         return lone(line, term);
     }
-    let mut draft = Draft::new(alloc)?;
+    let mut draft = Draft::new(alloc, words.parts())?;
     let (size, rest) = disjunction(alloc, &mut draft, line, words, MOST_OPEN)?;
     if rest.is_empty() {
         Ok(draft.finish(size))

@@ -179,6 +179,17 @@ impl<'a> Symbols<'a> {
         Symbols::new(self.behind.copy())
     }
 
+    /// How many parts an expression of these words has, if they spell one.
+    pub(crate) fn parts(&self) -> usize {
+        let first = match self.first {
+            None | Some(Token::Open) => 0,
+            Some(_) => 1,
+        };
+        self.behind
+            .count_without_parentheses()
+            .saturating_add(first)
+    }
+
     /// Whether there is no word.
     pub(crate) fn is_empty(&self) -> bool
         ensures none { result ≡ true → self.now ≡ [] }

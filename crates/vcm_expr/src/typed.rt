@@ -4,7 +4,10 @@ ghost use Rattle.std.specs.Prelude.{◌≡◌, ◌≤◌};
 ghost use Rattle.vcm_spec.specs.Expression.{Tree, Value, depth, nodes, spelling};
 ghost use Rattle.vcm_expr.specs.inner.Trees.{tree_of, items_of};
 
+use crate::expression::{Piece, Term};
+use crate::typing::Want;
 use std::marker::Model;
+use vcm_num::Literal;
 use vcm_spec::{Item, Operand};
 
 /// How a typed expression is kept. One without an operator takes no memory.
@@ -67,4 +70,18 @@ impl Typed {
     {
         &self.kept
     }
+}
+
+/// Whether a part is a whole number.
+fn is_whole(piece: &Piece) -> bool {
+    matches!(piece, Piece::Leaf(Term::Number(Literal::Int(_))))
+}
+
+/// For how many items room is made first: one for each part, and where a length is wanted, one to scale each whole number.
+pub(crate) fn usual_items(pieces: &[Piece], want: Want) -> usize {
+    let scaled = match want {
+        Want::Length => pieces.iter().filter(|piece| is_whole(piece)).count(),
+        Want::Int | Want::Bool => 0,
+    };
+    pieces.len().saturating_add(scaled)
 }

@@ -18,7 +18,7 @@ use crate::name::Name;
 use crate::names::Names;
 use crate::operators::kind_of_binary;
 use crate::pile::Pile;
-use crate::typed::Typed;
+use crate::typed::{Typed, usual_items};
 use std::alloc::Global;
 use vcm_lines::{FaultCode, SourceFault};
 use vcm_num::{Kind, Literal};
@@ -114,7 +114,7 @@ fn type_pieces(
     ensures ok { IfOk result (λ t. (e : Source) → pieces.now ≡ parts e → typed_for names.now want e ≡ Ok t) }
     ensures fault { IfErr result (NoMemoryOr (λ f. (f.line ≡ line) × ((e : Source) → pieces.now ≡ parts e → typed_for names.now want e ≡ Err f.code))) }
 {
-    let mut items = Vec::with_capacity(alloc, pieces.len())?;
+    let mut items = Vec::with_capacity(alloc, usual_items(pieces, want))?;
     let kind = typed(alloc, &mut items, pieces, line, names)?;
     demand(&mut items, kind, line, want)?;
     items.shrink_to_fit();

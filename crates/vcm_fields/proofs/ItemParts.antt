@@ -26,9 +26,6 @@ reads_signed = reads_via reads_eight (cast_signed w64) (cast_unsigned w64) signe
     (λ n lt. to_z-Fits w64 n (record { fits = lt }))
     (λ z h. (to_z-of_z h, refl, (of_z_fits w64 z h).fits))
 
-is_bit : ℕ → Bool
-is_bit b = nat_lt b 2
-
 truth_spelled : (n : ℕ) → n < 2 → truth_byte (is_one n) ≡ n ∷ []
 truth_spelled zero lt = refl
 truth_spelled (suc zero) lt = refl
@@ -42,9 +39,6 @@ truth_back : (b : Bool) → (is_one (truth_number b) ≡ b) × (truth_byte b ≡
 unfolding truth_number
 truth_back false = (refl, refl, omega arith)
 truth_back true = (refl, refl, omega arith)
-
-below_two : (n : ℕ) → nat_lt n 2 ≡ true → n < 2
-below_two n e = grind arith
 
 reads_truth : Reads truth_at truth_byte (λ b. Unit {0})
 reads_truth = reads_via (reads_tested reads_byte BadField (λ b. nat_lt b 2) (λ n. n < 2) (λ n lt e. grind arith) (λ n lt. (omega arith, grind arith))) is_one truth_number truth_byte (λ b. Unit {0})
@@ -153,12 +147,6 @@ in_range low high n e = split (nat_le low n) (nat_le n high) refl refl e
     split true true p q r = (grind arith, grind arith)
     split true false p q r = absurd cc
     split false b p q r = absurd cc
-
-range_in : (low high n : ℕ) → low ≤ n → n ≤ high → within low high n ≡ true
-range_in low high n h k =
-    let a : nat_le low n ≡ true = grind arith in
-    let b : nat_le n high ≡ true = grind arith in
-    rw (a, b) refl
 
 pub reads_expression : Reads expression_at expression FitsExpression
 unfolding expression_at

@@ -37,21 +37,6 @@ take_front xs ys = (let l : length (xs ++ ys) - length ys ≡ length xs = omega 
     take_all_of [] ys = refl
     take_all_of (x ∷ xs) ys = ap (λ l. x ∷ l) (take_all_of xs ys)
 
--- at a mark
-pub part_at_mark : (input rest line after : List ℕ) → IsLeft input rest → raw_lines rest ≡ line ∷ raw_lines after → is_mark line ≡ true
-    → take (length input - length rest) input ≡ part_text input
-part_at_mark input rest line after h lines mark =
-    subst (λ i. take (length i - length rest) i ≡ h.front) (sym h.cut) (take_front h.front rest)
-    ∙ sym (h.part ∙ ap (λ l. h.front ++ l) (ap before_mark lines ∙ ap (λ (b : Bool). if b then [] else (line ++ part_text after)) mark) ∙ append-nil h.front)
-
 pub program_at_mark : (input rest line after : List ℕ) → IsLeft input rest → raw_lines rest ≡ line ∷ raw_lines after → is_mark line ≡ true → after ≡ program_text input
 program_at_mark input rest line after h lines mark =
     sym (h.program ∙ ap behind_mark lines ∙ ap (λ (b : Bool). if b then flat_map (λ k. k) (raw_lines after) else program_text after) mark ∙ lines_all after)
-
--- where there is none
-pub part_is_all : (input rest : List ℕ) → IsLeft input rest → rest ≡ [] → input ≡ part_text input
-part_is_all input rest h none =
-    h.cut ∙ ap (λ l. h.front ++ l) none ∙ sym (h.part ∙ ap (λ l. h.front ++ part_text l) none)
-
-pub no_program : (input rest : List ℕ) → IsLeft input rest → rest ≡ [] → [] ≡ program_text input
-no_program input rest h none = sym (h.program ∙ ap program_text none)

@@ -1,7 +1,7 @@
 //! Statements of a text: what is kept of it, its words, and each rule broken.
 
 use std::alloc::Global;
-use vcm_lines::{FaultCode, Logical, SourceFault, Word, WordKind, logical_lines};
+use vcm_lines::{FaultCode, Logical, Phrase, SourceFault, Word, WordKind, logical_lines};
 
 fn word(start: u32, end: u32, line: u32, kind: WordKind) -> Word {
     Word {
@@ -52,6 +52,7 @@ fn is_third(logical: &Logical) -> bool {
         word(19, 20, 7, WordKind::Mark),
     ];
     is_whole(logical, 6, b"I_1=ASSIGN/(1.EQ.2.)", &words)
+        && Phrase::of(logical).count_without_parentheses() == 7
 }
 
 fn are_three(statements: &[Logical]) -> bool {

@@ -6,10 +6,10 @@ use Rattle.std.proofs.lemmas.List.Quantifiers.{position-Some}
 use Rattle.std.proofs.lemmas.List.Sums.{position_or_len_is}
 use Rattle.vcm_lines.proofs.PieceLemmas.{some_or_none}
 use Rattle.vcm_lines.specs.declared.logical.WordKind.TheVariants.{Mark}
-use Rattle.std.specs.List.{position, position_or_len, list_all}
+use Rattle.std.specs.List.{position, position_or_len, list_all, count_by, fold}
 use Rattle.vcm_lines.specs.declared.logical.Word.{Word}
 use Rattle.vcm_lines.specs.declared.phrase.Cutter.{Cutter}
-use Rattle.vcm_lines.specs.Lexemes.{Lexeme, lexemes, word_lexeme, is_spelled}
+use Rattle.vcm_lines.specs.Lexemes.{Lexeme, lexemes, word_lexeme, is_spelled, is_parenthesis}
 use Rattle.vcm_lines.specs.Cuts.{cuts, before, after, last_of, front_of}
 
 last_is : (xs : List Lexeme) (x : Lexeme) → last_of (xs ++ x ∷ []) ≡ x
@@ -78,3 +78,11 @@ cut_none text m ws p is e =
 pub spelled_is : (text : List ℕ) (ws : List Word) → list_all (λ w. is_spelled (word_lexeme text w)) ws ≡ list_all is_spelled (lexemes text ws)
 spelled_is text [] = refl
 spelled_is text (w ∷ ws) = ap (λ (b : Bool). is_spelled (word_lexeme text w) && b) (spelled_is text ws)
+
+-- words are counted as what they say
+counted_from : (text : List ℕ) (n : ℕ) (ws : List Word) → fold (λ a w. a + cond (not (is_parenthesis (word_lexeme text w))) 1 0) n ws ≡ fold (λ a l. a + cond (not (is_parenthesis l)) 1 0) n (lexemes text ws)
+counted_from text n [] = refl
+counted_from text n (w ∷ ws) = counted_from text (n + cond (not (is_parenthesis (word_lexeme text w))) 1 0) ws
+
+pub counted_is : (text : List ℕ) (ws : List Word) → count_by (λ w. not (is_parenthesis (word_lexeme text w))) ws ≡ count_by (λ l. not (is_parenthesis l)) (lexemes text ws)
+counted_is text ws = counted_from text 0 ws

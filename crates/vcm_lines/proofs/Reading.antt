@@ -219,7 +219,3 @@ pub stays_facts : (c e : Bool) → (not c && not e) ≡ false → (e ≡ true) �
 stays_facts c true h = inl refl
 stays_facts true false h = inr (refl, refl)
 stays_facts false false h = absurd cc
-
-pub no_rows : (rows : List Row) (r : Row) → rows ++ r ∷ [] ≡ [] → ⊥
-no_rows [] r e = cc
-no_rows (q ∷ rows) r e = cc

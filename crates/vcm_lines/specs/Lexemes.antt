@@ -1,5 +1,5 @@
 -- The words of a statement as a list: what each of them says, without its place in the text.
-use Rattle.std.specs.Prelude.{ℕ, ◌-◌, ◌==◌, ◌&&◌, Bool, true, nat_le, if◌then◌else◌, List, [], ◌∷◌, length, slice_range}
+use Rattle.std.specs.Prelude.{ℕ, ◌-◌, ◌==◌, ◌&&◌, Bool, true, false, nat_le, if◌then◌else◌, List, [], ◌∷◌, length, slice_range}
 use Rattle.std.specs.Option.{is_some}
 use Rattle.vcm_num.specs.Words.{look_up}
 use Rattle.vcm_lines.specs.Dotted.{dotted_words}
@@ -98,3 +98,9 @@ lexeme OtherToken = Other
 abbrev pub is_spelled : Lexeme → Bool
 is_spelled (Dotted bs) = is_some (look_up dotted_words bs)
 is_spelled _ = true
+
+-- whether a word is a parenthesis
+abbrev pub is_parenthesis : Lexeme → Bool
+is_parenthesis Open = true
+is_parenthesis Close = true
+is_parenthesis _ = false

@@ -1,7 +1,6 @@
 //! The statements of a text.
 
-ghost use Rattle.std.specs.Prelude.{◌≡◌, ◌<◌, ◌∷◌, ◌==◌, length, IfOk, IfErr};
-ghost use Rattle.std.specs.List.{position};
+ghost use Rattle.std.specs.Prelude.{◌≡◌, ◌<◌, ◌∷◌, length, IfOk, IfErr};
 ghost use Rattle.std.specs.Option.{option_map_or};
 ghost use Rattle.std.specs.Str.Lines.{lines, strip_carriage_return};
 ghost use Rattle.vcm_lines.specs.Fault.{NoMemoryOr};
@@ -12,9 +11,9 @@ use crate::clean::read_line;
 use crate::fault::{FaultCode, SourceFault};
 use crate::logical::{Logical, LogicalLines, OwnedBytes};
 use crate::words::words_of;
-use memchr::memchr;
 use std::alloc::{AllocError, Global};
 use std::mem::replace;
+use vcm_num::line_feed;
 
 /// The most bytes of a line, without its ending.
 const MAX_LINE: usize = 1024;
@@ -33,14 +32,6 @@ fn without_return(line: &[u8]) -> &[u8]
         [front @ .., b'\r'] => front,
         _ => line,
     }
-}
-
-/// Where the first line feed stands, if there is one.
-#[tactic(auto, using(crate::proofs::Cutting::first_line_feed))]
-fn line_feed(text: &[u8]) -> Option<usize>
-    ensures { result ≡ position (λ b. b == 10) text.now }
-{
-    memchr(b'\n', text)
 }
 
 /// The first line, and what stands behind its ending.

@@ -1,10 +1,10 @@
 //! Words that stand side by side.
 
-ghost use Rattle.std.specs.Prelude.{◌≡◌, ◌≤◌, ◌∷◌, ◌++◌, [], List, length, slice_range, false, IfOk, MatchOption};
-ghost use Rattle.std.specs.List.{position, list_all, list_any};
+ghost use Rattle.std.specs.Prelude.{◌≡◌, ◌≤◌, ◌∷◌, ◌++◌, [], List, length, slice_range, false, not, IfOk, MatchOption};
+ghost use Rattle.std.specs.List.{position, list_all, list_any, count_by};
 ghost use Rattle.vcm_lines.specs.declared.phrase.Cutter.{Cutter};
 ghost use Rattle.vcm_lines.specs.Cuts.{cuts, before, after, fields_of, last_of, front_of, uncut, with_commas, has_cut};
-ghost use Rattle.vcm_lines.specs.Lexemes.{Lexeme, lexemes, lexeme, word_bytes, unquoted, word_lexeme, mark_of, mark_in, is_spelled};
+ghost use Rattle.vcm_lines.specs.Lexemes.{Lexeme, lexemes, lexeme, word_bytes, unquoted, word_lexeme, mark_of, mark_in, is_spelled, is_parenthesis};
 
 use crate::dotted::dotted_word;
 use crate::logical::{Logical, OwnedBytes, Word, WordKind};
@@ -150,6 +150,21 @@ fn find(text: &[u8], cutter: Cutter, words: &[Word]) -> Option<usize>
     words.iter().position(|word| cuts(text, cutter, *word))
 }
 
+fn is_parenthesis(text: &[u8], word: Word) -> bool
+    ensures { result ≡ is_parenthesis (word_lexeme text.now word) }
+{
+    matches!(token_of(text, word), Token::Open | Token::Close)
+}
+
+fn count_without_parentheses(text: &[u8], words: &[Word]) -> usize
+    ensures { result ≡ count_by (λ w. not (is_parenthesis (word_lexeme text.now w))) words.now }
+{
+    words
+        .iter()
+        .filter(|word| !is_parenthesis(text, **word))
+        .count()
+}
+
 fn all_spelled(text: &[u8], words: &[Word]) -> bool
     ensures { result ≡ list_all (λ w. is_spelled (word_lexeme text.now w)) words.now }
 {
@@ -217,6 +232,13 @@ impl<'a> Phrase<'a> {
         ensures { result ≡ list_all is_spelled self.now }
     {
         all_spelled(self.text, self.words)
+    }
+
+    /// How many words are no parentheses.
+    pub fn count_without_parentheses(&self) -> usize
+        ensures { result ≡ count_by (λ w. not (is_parenthesis w)) self.now }
+    {
+        count_without_parentheses(self.text, self.words)
     }
 
     /// The first word, and those after it.

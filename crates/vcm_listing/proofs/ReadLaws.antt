@@ -140,10 +140,6 @@ cut_shorter rest text after e =
     sym (joined-split 10 rest) ∙ ap (joined 10) (e ∙ ap (λ ws. text ∷ ws) s.2) ∙ ap (λ l. text ++ 10 ∷ l) (ap (joined 10) (sym s.2) ∙ joined-split 10 after) in
     omega (arith, ap length whole, length-append text (10 ∷ after))
 
-pub if_found : (bytes : List ℕ) (r : Result Code ListFault) → GivesOrWants r (code_listed bytes) → IfOk r (λ c. Fits c × (bytes ≡ listing c))
-if_found bytes (Ok c) g = code_takes bytes c g
-if_found bytes (Err f) g = tt
-
 pub not_zero : (k : ℕ) → (k == 0) ≡ false → k ≡ 0 → ⊥
 not_zero k e z = grind arith
 

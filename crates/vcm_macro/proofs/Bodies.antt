@@ -20,9 +20,6 @@ pub record IsDone (call : Caller) (sc : Scope) (depth : ℕ) (all : List Stateme
   pub walked : Walked start now ps
   pub is : body_in call sc depth start.calls all ≡ ps ++ body_in call sc depth now.calls (drop i all)
 
-pub done_none : (call : Caller) (sc : Scope) (depth : ℕ) (all : List Statement) (start : Done) → IsDone call sc depth all 0 start start
-done_none call sc depth all start = record { ps = []; walked = walked_none start; is = refl }
-
 -- what is left begins with the next one
 next_is : (call : Caller) (sc : Scope) (depth done i : ℕ) (all : List Statement) (s : Statement) → i < length all → s ≡ get_or all i s
     → body_in call sc depth done (drop i all) ≡ behind (statement_in call sc depth done s.line s.form) done (λ n. body_in call sc depth n (drop (i + 1) all))
@@ -45,12 +42,6 @@ pub done_told : (call : Caller) (sc : Scope) (depth : ℕ) (all : List Statement
 done_told call sc depth all i start now s f d lt e t =
     let rest = told_front now.count (statement_in call sc depth now.calls s.line s.form) _ f t in
     rw d.is (told_more start now d.ps _ f d.walked (rw (next_is call sc depth now.calls i all s lt e) rest))
-
-pub done_all : (call : Caller) (sc : Scope) (depth : ℕ) (all : List Statement) (i : ℕ) (start now : Done) → IsDone call sc depth all i start now → length all ≤ i
-    → Walked start now (body_in call sc depth start.calls all)
-done_all call sc depth all i start now d le =
-    let e : body_in call sc depth start.calls all ≡ d.ps = d.is ∙ ap (λ (l : List Statement). d.ps ++ body_in call sc depth now.calls l) (drop_past all i le) ∙ append-nil d.ps in
-    rw e d.walked
 
 -- what follows where it isn't want of memory
 or_memory : (P Q : SourceFault → Type 0) (f : SourceFault) → (P f → Q f) → NoMemoryOr P f → NoMemoryOr Q f

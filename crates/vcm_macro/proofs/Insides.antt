@@ -98,12 +98,3 @@ inside_ends name ps all i os s h lt e new closed end =
       within = h.within;
       fine = λ k. rw is (fine_append k h.places (Inside m s ∷ []) (h.fine k) (inside_fine m s new (rw h.blocks at closed) (k + weigh h.places), tt));
     }
-
--- the end of the text, where ENDMAC is missing
-pub inside_stops : (name : List ℕ) (ps : List Parameter) (all : List Statement) (i : ℕ) (os : List Opener) → IsInside name ps all i os → length all ≤ i → IsBody (begun name ps) all i
-inside_stops name ps all i os h le =
-    let d = drop_past all i le in
-    let m : Defined = record { name = name; parameters = ps; body = take i all } in
-    let one : size_of (drop i all) ≡ 0 = ap size_of d in
-    let is : inside (begun name ps) all ≡ h.places = h.is ∙ ap (λ (l : List Statement). h.places ++ inside m l) d ∙ append-nil h.places in
-    record { size = omega (arith, h.size, one); within = h.within; fine = λ k. rw is (h.fine k) }

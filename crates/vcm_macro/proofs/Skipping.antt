@@ -111,10 +111,6 @@ walked_over a b ps qs h w = record {
 
 -- ---- references
 
-pub referred_more : (all next : List (Bor Statement)) (x : Bor Statement) (ss rest : List Statement) → next ≡ all ++ x ∷ [] → referred all ++ x.now ∷ rest ≡ ss → referred next ++ rest ≡ ss
-referred_more all next x ss rest e h =
-    rw e (ap (λ (l : List Statement). l ++ rest) (map-append (λ (y : Bor Statement). y.now) all (x ∷ [])) ∙ append_assoc (referred all) (x.now ∷ []) rest ∙ h)
-
 pub referred_here : (xs : List (Bor Statement)) (i : ℕ) (x : Bor Statement) → i < length xs → x ≡ get_or xs i x → x.now ≡ get_or (referred xs) i x.now
 referred_here xs i x lt e = ap (λ (y : Bor Statement). y.now) e ∙ sym (get_or-map (λ (y : Bor Statement). y.now) xs i x x.now lt)
 

@@ -92,13 +92,6 @@ pub macro_told : (ms : List Defined) (done : Done) (s : Statement) (ss : List St
 macro_told ms done s ss name ps f is (inl e) = inl e
 macro_told ms done s ss name ps f is (inr t) = inr (rw (macro_is ms done.calls s ss name ps is) (told_front done.count (defines ms s.line name ps ss) _ f (t done.count)))
 
--- a CALL that is carried out is read
-pub call_read : (ms : List Defined) (old new : Done) (s : Statement) (ss : List Statement) (name : List ℕ) (bs written : List Argument) → s.form ≡ Call name bs → written ≡ bs
-    → Walked old new (call_in (reverse ms) s.line 1 old.calls name (map (put_argument outside) written)) → IsRead ms old (s ∷ ss) ms new ss
-call_read ms old new s ss name bs written is same w =
-    let v = rw same at w in
-    record { places = _; walked = v; is = call_is ms old.calls s ss name bs is ∙ ap (λ (n : ℕ). call_in (reverse ms) s.line 1 old.calls name (map (put_argument outside) bs) ++ walk_from (reverse ms) None n ss) (sym v.calls) }
-
 pub call_told : (ms : List Defined) (old : Done) (s : Statement) (ss : List Statement) (name : List ℕ) (bs written : List Argument) (f : SourceFault) → s.form ≡ Call name bs → written ≡ bs
     → NoMemoryOr (TellsFirst old.count (call_in (reverse ms) s.line 1 old.calls name (map (put_argument outside) written))) f
     → NoMemoryOr (TellsFirst old.count (walk_from (reverse ms) None old.calls (s ∷ ss))) f
@@ -106,22 +99,7 @@ call_told ms old s ss name bs written f is same (inl e) = inl e
 call_told ms old s ss name bs written f is same (inr t) =
     inr (rw (call_is ms old.calls s ss name bs is) (told_front old.count (call_in (reverse ms) s.line 1 old.calls name (map (put_argument outside) bs)) _ f (rw same at t)))
 
--- any other statement is read
-pub other_read : (ms : List Defined) (old new : Done) (s : Statement) (ss : List Statement) → ((name : List ℕ) (ps : List Parameter) → s.form ≡ Macro name ps → ⊥)
-    → ((name : List ℕ) (bs : List Argument) → s.form ≡ Call name bs → ⊥) → Walked old new (Stands 0 s ∷ []) → IsRead ms old (s ∷ ss) ms new ss
-other_read ms old new s ss a b w =
-    record { places = Stands 0 s ∷ []; walked = w; is = other_is ms old.calls s ss a b ∙ ap (λ (n : ℕ). (Stands 0 s ∷ []) ++ walk_from (reverse ms) None n ss) (sym w.calls) }
-
-pub other_told : (ms : List Defined) (old : Done) (s : Statement) (ss : List Statement) (f : SourceFault) → ((name : List ℕ) (ps : List Parameter) → s.form ≡ Macro name ps → ⊥)
-    → ((name : List ℕ) (bs : List Argument) → s.form ≡ Call name bs → ⊥) → NoMemoryOr (TellsFirst old.count (Stands 0 s ∷ [])) f
-    → NoMemoryOr (TellsFirst old.count (walk_from (reverse ms) None old.calls (s ∷ ss))) f
-other_told ms old s ss f a b (inl e) = inl e
-other_told ms old s ss f a b (inr t) = inr (rw (other_is ms old.calls s ss a b) (told_front old.count (Stands 0 s ∷ []) _ f t))
-
 -- ---- one part behind the other
-
-pub read_none : (ms : List Defined) (done : Done) (ss : List Statement) → IsRead ms done ss ms done ss
-read_none ms done ss = record { places = []; walked = walked_none done; is = refl }
 
 pub read_more : (ls ms ns : List Defined) (a b c : Done) (ss ts us : List Statement) → IsRead ls a ss ms b ts → IsRead ms b ts ns c us → IsRead ls a ss ns c us
 read_more ls ms ns a b c ss ts us g h = record {

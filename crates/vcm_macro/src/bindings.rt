@@ -219,7 +219,7 @@ impl<'a> Bindings<'a> {
             let leaf = self.put_leaf(alloc, term)?;
             return Ok(leaf);
         }
-        let mut draft = Draft::new(alloc)?;
+        let mut draft = Draft::new(alloc, e.pieces().len())?;
         let mut sizes = Pile::new(alloc);
         for piece in e.pieces() {
             self.put_piece(&mut draft, &mut sizes, line, piece)?;

@@ -145,7 +145,7 @@ impl<'a> Expansion<'a> {
         self.count_statement(line)?;
         let form = put_form(alloc, line, bindings, &statement.form)?;
         let expansion = bindings.expansion();
-        let origin = Origin::Put(Statement { line, form });
+        let origin = Origin::Put(Box::new(alloc, Statement { line, form })?);
         let statement = Said { origin };
         self.placed.push(Placed {
             statement,

@@ -3,11 +3,11 @@
 use std::marker::Model;
 use vcm_syntax::Statement;
 
-/// A statement as it is written outside macros, or one of a macro with what is put into it.
+/// A statement as it is written outside macros, or one of a macro with what is put into it, which is boxed: most programs have more of the first.
 #[derive(Drop)]
 pub(crate) enum Origin<'a> {
     Written(&'a Statement),
-    Put(Statement),
+    Put(Box<Statement>),
 }
 
 /// What a statement says, wherever it comes from. Contracts see it as the statement.

@@ -3,3 +3,4 @@ pub mod PointLemmas
 pub mod DirectionLemmas
 pub mod Ring
 pub mod KnownWrites
+pub mod LineFeeds

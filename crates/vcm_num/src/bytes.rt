@@ -5,6 +5,8 @@ ghost use Rattle.std.specs.List.{position};
 ghost use Rattle.std.specs.Str.{bytes_eq};
 ghost use Rattle.vcm_num.specs.Words.{look_up};
 
+use memchr::memchr;
+
 /// Whether bytes are the word.
 #[inline(always)]
 pub fn is(bytes: &[u8], word: &[u8]) -> bool
@@ -14,10 +16,11 @@ pub fn is(bytes: &[u8], word: &[u8]) -> bool
 }
 
 /// Where the first line feed stands.
+#[tactic(auto, using(crate::proofs::LineFeeds::first_line_feed))]
 pub fn line_feed(text: &[u8]) -> Option<usize>
     ensures { result ≡ position (λ b. b == 10) text.now }
 {
-    text.iter().position(|b| *b == b'\n')
+    memchr(b'\n', text)
 }
 
 /// What a word stands for in a table of words: what is beside it where it comes first.

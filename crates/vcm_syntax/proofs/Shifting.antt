@@ -17,10 +17,6 @@ pub record AreShifted (fs : List (List Lexeme)) (i : ℕ) (t : Taken) (os : List
   pub shifted : (ps : List Offset) → AreOffsets t (drop i fs) ps → AreOffsets none_taken fs (os ++ ps)
   pub broken : (code : FaultCode) → BreaksOffsets t (drop i fs) code → BreaksOffsets none_taken fs code
 
--- no field is read yet
-pub shifts_begin : (fs : List (List Lexeme)) → AreShifted fs 0 none_taken []
-shifts_begin fs = record { shifted = λ ps h. h; broken = λ code b. b }
-
 -- all fields are read
 pub shifts_end : (fs : List (List Lexeme)) (i : ℕ) (t : Taken) (os : List Offset) → AreShifted fs i t os → length fs ≤ i → AreOffsets none_taken fs os
 shifts_end fs i t os inv ge = subst (AreOffsets none_taken fs) (append-nil os) (inv.shifted [] (rw (drop_all i fs ge) tt))

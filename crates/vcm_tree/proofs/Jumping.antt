@@ -68,10 +68,6 @@ pub second_fault : (all : List Label) (js ks : List Jump) (f : SourceFault) → 
 second_fault all js ks f h (inl e) = inl e
 second_fault all js ks f h (inr p) = inr (first_behind all js ks f h p)
 
-pub front_fault : (all : List Label) (js ks : List Jump) (f : SourceFault) → NoMemoryOr (IsFirst all js) f → NoMemoryOr (IsFirst all (js ++ ks)) f
-front_fault all js ks f (inl e) = inl e
-front_fault all js ks f (inr p) = inr (first_front all js ks f p)
-
 -- ---- one jump
 
 not_true : (b : Bool) → b ≡ true → not b ≡ true → ⊥

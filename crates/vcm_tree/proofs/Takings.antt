@@ -22,17 +22,6 @@ use Rattle.vcm_tree.specs.inner.Telling.{ToldAt}
 use Rattle.vcm_tree.specs.inner.Building.{blocks_of, written, Reads}
 use Rattle.vcm_tree.specs.inner.Taking.{measured_of, behind_of, ActsSo, ActedAt, TakesStated}
 
--- a refusal of a counted statement is one of its meaning
-pub counted_told : (line : ℕ) (b : Behind) (ex : ℕ) (form : Form) (r : Result Step FaultCode) (f : SourceFault) → stated b ex form ≡ counts r → NoMemoryOr (ToldAt line r) f
-    → NoMemoryOr (ToldAt line (stated b ex form)) f
-counted_told line b ex form r f e (inl none) = inl none
-counted_told line b ex form r f e (inr p) = inr (p.0, e ∙ ap counts p.1)
-
--- a refusal of a simple statement is one of its meaning
-pub acted_told : (s : Placed) (b : Behind) (f : SourceFault) → NoMemoryOr (ActedAt s.statement b) f → NoMemoryOr (ToldAt s.statement.line (stated b s.expansion s.statement.form)) f
-acted_told s b f (inl none) = inl none
-acted_told s b f (inr p) = inr (p.0, ap (stated_by b s.expansion s.statement.form) p.1)
-
 -- what is read behind others, by its parts
 abbrev parts : List Variable → Builder → List Label → Measured → Behind
 parts vs b ls ms = behind vs (blocks_of b.opens.items) ls ms

@@ -184,10 +184,6 @@ closed_are_words i (j ∷ is) h = ((item_without i h.0).0, closed_are_words j is
 abbrev pub Some-items : List Item → Type 0
 Some-items is = (0 < length is) × AllByRecursion FitsItem is
 
-closed_some : (i : Item) (is : List Item) → (w : List ℕ) × (ws : List (List ℕ)) × (closed_words (i ∷ is) ≡ w ∷ ws)
-closed_some i [] = (item_text i ++ codes "]", [], refl)
-closed_some i (j ∷ is) = (item_text i, closed_words (j ∷ is), refl)
-
 opened_is : (v : List ℕ) (ws rest : List (List ℕ)) (is : List Item) → 0 < length is → v ∷ ws ≡ closed_words is ++ rest → (91 ∷ v) ∷ ws ≡ opened (closed_words is) ++ rest
 opened_is v ws rest [] l e = absurd (omega arith)
 opened_is v ws rest (i ∷ []) l e = let a : v ≡ item_text i ++ codes "]" = cc in let b : ws ≡ rest = cc in rw (a, b) refl

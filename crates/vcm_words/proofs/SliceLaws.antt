@@ -12,18 +12,6 @@ use Rattle.vcm_words.proofs.Cuts.{split_some, joined-split}
 
 -- ---- the opening bracket
 
-pub unopened_bracket : (b : ℕ) (bs : List ℕ) → b ≡ 91 → unopened (split 32 (b ∷ bs)) ≡ Some (split 32 bs)
-unopened_bracket b bs e =
-    let s = split_some 32 bs in
-    ap (λ c. unopened (split 32 (c ∷ bs))) e ∙ ap (λ ws. unopened (onto false 91 ws)) s.2 ∙ ap (λ ws. Some ws) (sym s.2)
-
-pub unopened_other : (b : ℕ) (bs : List ℕ) → (b == 91) ≡ false → unopened (split 32 (b ∷ bs)) ≡ None
-unopened_other b bs e = by (b == 32)
-  where
-    by : (t : Bool) → unopened (onto t b (split 32 bs)) ≡ None
-    by true = refl
-    by false = let s = split_some 32 bs in ap (λ ws. unopened (onto false b ws)) s.2 ∙ rw e refl
-
 -- ---- items
 
 pub last_is : (exact : Bool) (w last : List ℕ) (ws : List (List ℕ)) (i : Item) → ending 93 w ≡ Some last → item_in exact last ≡ Some i → items_at exact (w ∷ ws) ≡ Some (i ∷ [], ws)

@@ -6,4 +6,4 @@ use Rattle.vcm_macro.specs.declared.placed.Origin.TheVariants.{Written, Put}
 -- the statement that is meant
 abbrev pub said_of : Origin → Statement
 said_of (Written s) = s.now
-said_of (Put s) = s
+said_of (Put s) = s.value
