@@ -64,15 +64,20 @@ impl<'a, P: Part> Session<'a, P> {
     {
         let statements = loaded.statement_count();
         let variables = loaded.variable_count();
+        let breakpoints = vec![in alloc; false; statements]?;
+        let watches = vec![in alloc; false; variables]?;
+        let before = vec![in alloc; 0; variables]?;
+        let checkpoints = Checkpoints::new(alloc)?;
+        let machine = Machine::new(alloc, loaded, part)?;
         Ok(Session {
             loaded,
             part,
-            machine: Machine::new(alloc, loaded, part)?,
+            machine,
             count: 0,
-            breakpoints: vec![in alloc; false; statements]?,
-            watches: vec![in alloc; false; variables]?,
-            before: vec![in alloc; 0; variables]?,
-            checkpoints: Checkpoints::new(alloc)?,
+            breakpoints,
+            watches,
+            before,
+            checkpoints,
         })
     }
 
