@@ -46,7 +46,11 @@ impl<'a, P: Part> Checkpoints<'a, P> {
 
     // Whether it is time for a copy after so many steps: the spacing goes into them, and no copy is as far.
     fn is_due(&self, count: u64) -> bool {
-        count.is_multiple_of(self.spacing) && self.kept.last().is_none_or(|last| last.count < count)
+        let is_farther = match self.kept.last() {
+            None => true,
+            Some(last) => last.count < count,
+        };
+        is_farther && count.is_multiple_of(self.spacing)
     }
 
     // Lets go of the copies that don't stand at multiples of twice the spacing.

@@ -1,6 +1,6 @@
 -- The statements of a body, one behind the other.
-use Rattle.std.proofs.Common.{◌≡◌, ℕ, ◌+◌, ◌<◌, ◌≤◌, List, [], ◌∷◌, ◌++◌, length, drop, refl, sym, ap, ◌∙◌, get_or, inl, inr}
-use Rattle.std.proofs.lemmas.List.{append_assoc, append-nil}
+use Rattle.std.proofs.Common.{◌≡◌, ℕ, ◌+◌, ◌<◌, List, [], ◌∷◌, ◌++◌, length, drop, refl, sym, ap, ◌∙◌, get_or, inl, inr}
+use Rattle.std.proofs.lemmas.List.{append_assoc}
 use Rattle.vcm_lines.specs.declared.fault.SourceFault.{SourceFault}
 use Rattle.std.specs.Prelude.{map}
 use Rattle.vcm_lines.specs.Fault.{NoMemoryOr}
@@ -11,8 +11,8 @@ use Rattle.vcm_syntax.specs.declared.statement.Form.TheVariants.{Call}
 use Rattle.vcm_macro.specs.Substitution.{Scope, put_form, put_argument}
 use Rattle.vcm_macro.specs.Walk.{Place, Stands, Caller, behind, statement_in, body_in}
 use Rattle.vcm_macro.specs.inner.Expanding.{Done, TellsFirst, Walked, stands}
-use Rattle.vcm_macro.proofs.Lists.{drop_here, drop_past}
-use Rattle.vcm_macro.proofs.Walks.{walked_none, walked_more, told_front, told_more}
+use Rattle.vcm_macro.proofs.Lists.{drop_here}
+use Rattle.vcm_macro.proofs.Walks.{walked_more, told_front, told_more}
 
 -- so many of the statements are done
 pub record IsDone (call : Caller) (sc : Scope) (depth : ℕ) (all : List Statement) (i : ℕ) (start now : Done) : Type 0 where

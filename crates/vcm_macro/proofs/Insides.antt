@@ -1,7 +1,7 @@
 -- The statements of a macro's definition, one behind the other.
 use Rattle.std.proofs.Common.{◌≡◌, ℕ, suc, ◌+◌, ◌<◌, ◌≤◌, true, false, List, [], ◌∷◌, ◌++◌, length, take, drop, refl, sym, ap, ◌∙◌, arith, get_or, inl}
 use Rattle.std.specs.Prelude.{if◌then◌else◌}
-use Rattle.std.proofs.lemmas.List.{append_assoc, append-nil}
+use Rattle.std.proofs.lemmas.List.{append_assoc}
 use Rattle.vcm_lines.specs.declared.fault.FaultCode.TheVariants.{DuplicateName, Unbalanced}
 use Rattle.vcm_lines.specs.declared.fault.SourceFault.{SourceFault}
 use Rattle.vcm_syntax.specs.declared.statement.Parameter.{Parameter}
@@ -11,7 +11,7 @@ use Rattle.vcm_macro.specs.Walk.{Defined, Place, Inside, with_statement}
 use Rattle.vcm_macro.specs.Rules.{weigh, redeclares, unbalances, blocks_behind, blocks_after}
 use Rattle.vcm_macro.specs.inner.Expanding.{AreFine, IsFine, TellsOf, TellsFirst, is_macro_end, inside, size_of, begun, IsBody}
 use Rattle.vcm_macro.proofs.Walks.{weigh_append, fine_append, told_behind}
-use Rattle.vcm_macro.proofs.Lists.{drop_here, drop_past, take_next}
+use Rattle.vcm_macro.proofs.Lists.{drop_here, take_next}
 
 -- so many statements are read, and these blocks are open
 pub record IsInside (name : List ℕ) (ps : List Parameter) (all : List Statement) (i : ℕ) (os : List Opener) : Type 0 where

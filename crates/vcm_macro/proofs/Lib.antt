@@ -13,3 +13,4 @@ pub mod Computing
 pub mod Answered
 pub mod CodesAt
 pub mod Puttings
+pub mod Stays

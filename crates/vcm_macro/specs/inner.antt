@@ -3,3 +3,4 @@ pub mod Expanding
 pub mod Limits
 pub mod Saying
 pub mod Putting
+pub mod Staying

@@ -6,11 +6,13 @@ ghost use Rattle.vcm_macro.specs.Rules.{are_small_arguments};
 ghost use Rattle.vcm_macro.specs.inner.Limits.{IsTooDeep};
 ghost use Rattle.vcm_macro.specs.Substitution.{put_argument};
 ghost use Rattle.vcm_macro.specs.Walk.{Calls, call_in, body_in};
+ghost use Rattle.vcm_macro.specs.inner.Staying.{given};
 ghost use Rattle.vcm_macro.specs.inner.Expanding.{Walked, TellsOf, TellsFirst, IsFine, referred};
 
 use crate::bindings::Bindings;
 use crate::definition::{Definition, find};
 use crate::expansion::Expansion;
+use crate::staying::{Given, all_stay};
 use std::alloc::Global;
 use vcm_expr::Name;
 use vcm_lines::{FaultCode, SourceFault};
@@ -27,42 +29,45 @@ fn refused(code: FaultCode, line: u32) -> SourceFault
 }
 
 // What arguments say in the expansion.
-fn put_all(
+fn put_all<'a>(
     alloc: Global,
     line: u32,
     bindings: &Bindings<'_>,
-    written: &[Argument],
-) -> Result<Vec<Argument>, SourceFault>
-    ensures ok { IfOk result (λ a. a.items ≡ map (put_argument bindings.now) written.now) }
+    written: &'a [Argument],
+) -> Result<Given<'a>, SourceFault>
+    ensures ok { IfOk result (λ a. given a ≡ map (put_argument bindings.now) written.now) }
     ensures small { OnOk result (are_small_arguments (map (put_argument bindings.now) written.now) ≡ true) }
     ensures fault { IfErr result (NoMemoryOr (IsTooDeep line (are_small_arguments (map (put_argument bindings.now) written.now)))) }
 {
-    let mut arguments = Vec::new(alloc);
+    if all_stay(bindings, written) {
+        return Ok(Given::Written(written));
+    }
+    let mut arguments = Vec::with_capacity(alloc, written.len())?;
     for argument in written {
         let argument = bindings.put_argument(alloc, line, argument)?;
         arguments.push(argument)?;
     }
-    Ok(arguments)
+    Ok(Given::Put(arguments))
 }
 
 // Begins a call: what its arguments say.
-fn enter(
+fn enter<'a>(
     alloc: Global,
     definition: &Definition<'_>,
     bindings: &Bindings<'_>,
     line: u32,
     depth: u32,
-    written: &[Argument],
+    written: &'a [Argument],
     done: &mut Expansion<'_>,
-) -> Result<Vec<Argument>, SourceFault>
-    ensures ok { IfOk result (λ a. a.items ≡ map (put_argument bindings.now) written.now) }
+) -> Result<Given<'a>, SourceFault>
+    ensures ok { IfOk result (λ a. given a ≡ map (put_argument bindings.now) written.now) }
     ensures counted { OnOk result (done.new ≡ record { placed = done.old.placed; count = suc done.old.count; calls = suc done.old.calls }) }
     ensures fine { OnOk result (IsFine done.old.count (Calls line depth (Some definition.now) (map (put_argument bindings.now) written.now))) }
     ensures shallow { OnOk result (depth ≤ 16) }
     ensures fault { IfErr result (NoMemoryOr (TellsOf done.old.count (Calls line depth (Some definition.now) (map (put_argument bindings.now) written.now)))) }
 {
     let arguments = put_all(alloc, line, bindings, written)?;
-    if !definition.takes(&arguments) {
+    if !definition.takes(arguments.as_slice()) {
         return Err(refused(FaultCode::BadArguments, line));
     }
     if depth > DEEPEST {
@@ -92,7 +97,7 @@ pub(crate) fn call(
     };
     let definition = &macros[place];
     let arguments = enter(alloc, definition, bindings, line, depth, written, done)?;
-    let inner = Bindings::new(definition.parameters(), &arguments, done.calls());
+    let inner = Bindings::new(definition.parameters(), arguments.as_slice(), done.calls());
     body(
         alloc,
         &macros[..place],

@@ -15,6 +15,7 @@ mod parameters;
 mod placed;
 mod putting;
 mod small;
+mod staying;
 mod text;
 
 pub use placed::Placed;

@@ -23,14 +23,14 @@ pub call-returns-clause-ok : goal.call-returns-clause-ok
 call-returns-clause-ok t c =
     on_ok c.body.result (λ w. call_carried c.args.macros.now c.args.name.now c.in-Some.place c.index-macros-place.result c.args.line c.args.depth (map (put_argument c.args.bindings.now) c.args.written.now) c.args.done.now c.enter.new.done c.body.new.done c.new-inner.result _
     c.in-Some.ensures c.index-macros-place.is c.in_ok-arguments.ensures.fine c.in_ok-arguments.ensures.counted
-    (rw (c.new-inner.ensures, c.parameters.ensures, c.deref.ensures.value, c.in_ok-arguments.ensures.ok, c.calls.ensures) refl)
+    (rw (c.new-inner.ensures, c.parameters.ensures, c.as_slice.ensures, c.in_ok-arguments.ensures.ok, c.calls.ensures) refl)
     c.active.ensures w) c.body.ensures.ok
 
 pub call-returns-clause-fault : goal.call-returns-clause-fault
 call-returns-clause-fault t c =
     call_told c.body.result c.args.macros.now c.args.name.now c.in-Some.place c.index-macros-place.result c.args.line c.args.depth (map (put_argument c.args.bindings.now) c.args.written.now) c.args.done.now c.enter.new.done c.new-inner.result _
     c.in-Some.ensures c.index-macros-place.is c.in_ok-arguments.ensures.fine c.in_ok-arguments.ensures.counted
-    (rw (c.new-inner.ensures, c.parameters.ensures, c.deref.ensures.value, c.in_ok-arguments.ensures.ok, c.calls.ensures) refl)
+    (rw (c.new-inner.ensures, c.parameters.ensures, c.as_slice.ensures, c.in_ok-arguments.ensures.ok, c.calls.ensures) refl)
     c.active.ensures c.body.ensures.fault
 
 pub body-returns-in_err-call-in-Call-clause-fault : goal.body-returns-in_err-call-in-Call-clause-fault

@@ -1,0 +1,11 @@
+use Rattle.std.proofs.Common.{◌≡◌, ◌++◌, take, drop}
+use Rattle.std.specs.Prelude.{map}
+use Rattle.vcm_macro.specs.Substitution.{put_argument}
+use Rattle.vcm_macro.specs.Rules.{are_small_arguments}
+use Rattle.vcm_macro.proofs.staying.all_stay.Given as goal
+
+abbrev pub invariant-loop-argument : goal.invariant-loop-argument
+invariant-loop-argument l = record {
+  same : take l.argument-index l.written ++ map (put_argument l.bindings) (drop l.argument-index l.written) ≡ map (put_argument l.bindings) l.written;
+  small : are_small_arguments (drop l.argument-index l.written) ≡ are_small_arguments l.written;
+}
