@@ -12,6 +12,8 @@ mod parse;
 mod parser;
 mod pile;
 mod postfix;
+mod scaling;
+mod signs;
 mod stack;
 mod symbol;
 mod typed;

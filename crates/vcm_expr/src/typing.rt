@@ -1,23 +1,24 @@
 //! From expressions as they are written to typed ones.
 
 ghost use Rattle.std.specs.Prelude.{◌≡◌, ◌≤◌, true, List, ◌++◌, length, Some, Ok, Err, IfOk, OnOk, IfErr};
-ghost use Rattle.vcm_lines.specs.Fault.{NoMemoryOr, no_memory};
+ghost use Rattle.vcm_lines.specs.Fault.{NoMemoryOr};
 ghost use Rattle.vcm_lines.specs.declared.fault.FaultCode.{FaultCode};
 ghost use Rattle.vcm_spec.specs.declared.expression.Item.{Item};
 ghost use Rattle.vcm_spec.specs.Expression.{Tree, Value, kind_of, spelling};
 ghost use Rattle.vcm_expr.specs.Source.{parts};
 ghost use Rattle.vcm_expr.specs.inner.Pieces.{with_piece};
-ghost use Rattle.vcm_expr.specs.inner.Trees.{scaling, Spelled, Wanted};
+ghost use Rattle.vcm_expr.specs.inner.Trees.{Spelled, Wanted};
 ghost use Rattle.vcm_expr.specs.inner.Typings.{AreTyped, Fails};
 ghost use Rattle.vcm_spec.specs.Setup.{kinds_of};
 ghost use Rattle.vcm_expr.specs.Source.{Source, Plain, is_small};
-ghost use Rattle.vcm_expr.specs.Typing.{kinded, leaf_of, prefixed_by, pair_by, is_scaled, scaled_kind, typed_of, typed_for, wanted_by, wanted_kind};
+ghost use Rattle.vcm_expr.specs.Typing.{kinded, leaf_of, prefixed_by, pair_by, typed_of, typed_for, wanted_by, wanted_kind};
 
 use crate::expression::{Expr, Piece, Prefix, Term};
 use crate::name::Name;
 use crate::names::Names;
 use crate::operators::kind_of_binary;
 use crate::pile::Pile;
+use crate::scaling::{is_scaled, scale_at, scale_last, scaled_kind};
 use crate::typed::{Typed, usual_items};
 use std::alloc::Global;
 use vcm_lines::{FaultCode, SourceFault};
@@ -268,46 +269,6 @@ fn pair(
     scale_at(items, between, left)?;
     items.push(Item::Combine(op))?;
     Ok(kind)
-}
-
-/// Puts a scaling behind the last expression, where there has to be one.
-fn scale_last(items: &mut Vec<Item>, is_scaled: bool) -> Result<(), SourceFault>
-    ensures ok { OnOk result (items.new.items ≡ items.old.items ++ scaling is_scaled) }
-    ensures fault { IfErr result (λ f. f ≡ no_memory) }
-{
-    if is_scaled {
-        items.push(Item::Apply(UnaryOp::Scale))?;
-    }
-    Ok(())
-}
-
-/// Puts a scaling at a place, where there has to be one.
-fn scale_at(items: &mut Vec<Item>, at: usize, is_scaled: bool) -> Result<(), SourceFault>
-    requires { at ≤ length items.old.items }
-    ensures ok { OnOk result ((before after : List Item) → items.old.items ≡ before ++ after → length before ≡ at → items.new.items ≡ before ++ (scaling is_scaled ++ after)) }
-    ensures fault { IfErr result (λ f. f ≡ no_memory) }
-{
-    if is_scaled {
-        items.insert(at, Item::Apply(UnaryOp::Scale))?;
-    }
-    Ok(())
-}
-
-/// Whether an operand of the first kind is scaled beside one of the second.
-fn is_scaled(op: BinaryOp, k: Kind, l: Kind) -> bool
-    ensures { result ≡ is_scaled op k l }
-{
-    match op {
-        BinaryOp::Mul | BinaryOp::Div => false,
-        _ => matches!((k, l), (Kind::Int, Kind::Real)),
-    }
-}
-
-/// The kind of an operand as it stands, or scaled.
-fn scaled_kind(is_scaled: bool, k: Kind) -> Kind
-    ensures { result ≡ scaled_kind is_scaled k }
-{
-    if is_scaled { Kind::Real } else { k }
 }
 
 /// The refusal of an operator or a place that doesn't take a value of this kind.

@@ -1,6 +1,10 @@
 //! Laws of the definitions, each the contract of a function without a body.
 
-ghost use Rattle.std.specs.Prelude.{◌≡◌, ℕ, List};
+ghost use Rattle.std.specs.Prelude.{◌≡◌, ◌∷◌, ◌++◌, [], ℕ, List, false};
+ghost use Rattle.std.specs.List.{list_any};
+ghost use Rattle.vcm_lines.specs.Cuts.{before, after, fields_of, last_of, front_of, uncut, with_commas, has_cut};
+ghost use Rattle.vcm_lines.specs.Lexemes.{Lexeme};
+ghost use Rattle.vcm_lines.specs.declared.phrase.Cutter.{Cutter};
 ghost use Rattle.vcm_lines.specs.Pieces.{pieces_of};
 ghost use Rattle.vcm_lines.specs.Laws.{spelled, ArePieces};
 ghost use Rattle.vcm_lines.specs.Statements.{Row, AreLogical};
@@ -15,4 +19,14 @@ pub fn pieces_are_a_cut()
 /// A text has one list of statements: two that meet the definition, whatever its rows are, are equal.
 pub fn statements_are_one()
     ensures { (rows : List (List Row)) (xs ys : List Logical) → AreLogical rows xs → AreLogical rows ys → xs ≡ ys }
+{}
+
+/// The words before and after a mark, and the fields between commas, are what the words are cut into: put together they are the words
+/// again, and no part has a mark that they are cut at. So are the last word and those before it.
+pub fn cuts_are_whole()
+    ensures parts { (m : Cutter) (ws : List Lexeme) → uncut m (before m ws) (after m ws) ≡ ws }
+    ensures first { (m : Cutter) (ws : List Lexeme) → has_cut m (before m ws) ≡ false }
+    ensures fields { (ws : List Lexeme) → with_commas (fields_of ws) ≡ ws }
+    ensures each { (ws : List Lexeme) → list_any (has_cut Cutter.AtComma) (fields_of ws) ≡ false }
+    ensures ends { (w : Lexeme) (ws : List Lexeme) → front_of (w ∷ ws) ++ last_of (w ∷ ws) ∷ [] ≡ w ∷ ws }
 {}

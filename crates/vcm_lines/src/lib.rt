@@ -16,4 +16,4 @@ pub use dotted::{DottedWord, dotted_word};
 pub use fault::{FaultCode, SourceFault, bad_syntax};
 pub use lines::logical_lines;
 pub use logical::{Logical, LogicalLines, OwnedBytes, Word, WordKind, Words};
-pub use phrase::{Cutter, Phrase, Token, cuts_are_whole};
+pub use phrase::{Cutter, Phrase, Token};

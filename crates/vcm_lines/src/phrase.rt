@@ -1,10 +1,9 @@
 //! Words that stand side by side.
 
-ghost use Rattle.std.specs.Prelude.{◌≡◌, ◌≤◌, ◌∷◌, ◌++◌, [], List, length, slice_range, false, not, IfOk, MatchOption};
-ghost use Rattle.std.specs.List.{position, list_all, list_any, count_by};
-ghost use Rattle.vcm_lines.specs.declared.phrase.Cutter.{Cutter};
-ghost use Rattle.vcm_lines.specs.Cuts.{cuts, before, after, fields_of, last_of, front_of, uncut, with_commas, has_cut};
-ghost use Rattle.vcm_lines.specs.Lexemes.{Lexeme, lexemes, lexeme, word_bytes, unquoted, word_lexeme, mark_of, mark_in, is_spelled, is_parenthesis};
+ghost use Rattle.std.specs.Prelude.{◌≡◌, ◌≤◌, ◌∷◌, [], length, slice_range, not, IfOk, MatchOption};
+ghost use Rattle.std.specs.List.{position, list_all, count_by};
+ghost use Rattle.vcm_lines.specs.Cuts.{cuts, before, after, last_of, front_of};
+ghost use Rattle.vcm_lines.specs.Lexemes.{lexemes, lexeme, word_bytes, unquoted, word_lexeme, mark_of, mark_in, is_spelled, is_parenthesis};
 
 use crate::dotted::dotted_word;
 use crate::logical::{Logical, OwnedBytes, Word, WordKind};
@@ -298,13 +297,3 @@ impl<'a> Phrase<'a> {
         }
     }
 }
-
-/// The words before and after a mark, and the fields between commas, are what the words are cut into: put together they are the words
-/// again, and no part has a mark that they are cut at. So are the last word and those before it.
-pub fn cuts_are_whole()
-    ensures parts { (m : Cutter) (ws : List Lexeme) → uncut m (before m ws) (after m ws) ≡ ws }
-    ensures first { (m : Cutter) (ws : List Lexeme) → has_cut m (before m ws) ≡ false }
-    ensures fields { (ws : List Lexeme) → with_commas (fields_of ws) ≡ ws }
-    ensures each { (ws : List Lexeme) → list_any (has_cut Cutter.AtComma) (fields_of ws) ≡ false }
-    ensures ends { (w : Lexeme) (ws : List Lexeme) → front_of (w ∷ ws) ++ last_of (w ∷ ws) ∷ [] ≡ w ∷ ws }
-{}

@@ -1,6 +1,6 @@
 use Rattle.std.proofs.Common.{length}
 use Rattle.vcm_expr.proofs.Fronts.{SignsSoFar}
-use Rattle.vcm_expr.proofs.parser.with_signs.Given as goal
+use Rattle.vcm_expr.proofs.signs.with_signs.Given as goal
 
 -- the signs that are left are still to be put before the expression so far
 abbrev pub invariant-signs : goal.invariant-signs

@@ -3,7 +3,7 @@ use Rattle.std.proofs.lemmas.Result.{err_from_is_err_and}
 use Rattle.vcm_expr.specs.Source.{Prefixed, is_small}
 use Rattle.vcm_expr.specs.inner.Parser.{phrase, with_fronts}
 use Rattle.vcm_expr.proofs.Fronts.{put_step, signs_told}
-use Rattle.vcm_expr.proofs.parser.with_signs.Goals as goal
+use Rattle.vcm_expr.proofs.signs.with_signs.Goals as goal
 
 pub signs-init : goal.signs-init
 signs-init c = λ e es h z. (e, h, z, λ r. refl)

@@ -2,7 +2,7 @@ use Rattle.std.proofs.Common.{arith}
 use Rattle.vcm_expr.specs.inner.Levels.{front_of}
 use Rattle.vcm_expr.specs.Source.{is_small}
 use Rattle.vcm_expr.proofs.Fronts.{take_step, next_shorter}
-use Rattle.vcm_expr.proofs.parser.take_signs.Goals as goal
+use Rattle.vcm_expr.proofs.signs.take_signs.Goals as goal
 
 pub signs-preserved : goal.signs-preserved
 signs-preserved c = record {
