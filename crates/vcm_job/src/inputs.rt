@@ -102,6 +102,7 @@ fn run_input<W: Write>(
     ensures done { IfOk result (λ d. IsWritten part.now input.now steps d.status d.notices.items (W.contents writer.old) (W.contents writer.new)) }
     ensures fault { IfErr result (λ f. IsNotRun part.now input.now steps f (W.contents writer.old) (W.contents writer.new)) }
 {
+    // A fault is handed on by a match, since `?` on a value as big as a summary costs the prover far more.
     let summary = match summary_of(alloc, part, input, steps) {
         Ok(summary) => summary,
         Err(fault) => return Err(fault),

@@ -178,6 +178,7 @@ fn run_job<W: Write>(
     ensures done { IfOk result (λ d. IsDone input.now d.status d.notices.items (W.contents writer.old) (W.contents writer.new)) }
     ensures fault { IfErr result (λ f. IsNoJob input.now f (W.contents writer.old) (W.contents writer.new)) }
 {
+    // A fault is handed on by a match, since `?` on a value as big as a summary costs the prover far more.
     let summary = match summary_of(alloc, input, steps) {
         Ok(summary) => summary,
         Err(fault) => return Err(fault),
