@@ -9,3 +9,4 @@ pub mod Runs
 pub mod Pieces
 pub mod Trees
 pub mod Typings
+pub mod Packing

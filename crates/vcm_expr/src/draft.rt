@@ -5,7 +5,8 @@ ghost use Rattle.vcm_lines.specs.Fault.{NoMemoryOr, no_memory};
 ghost use Rattle.vcm_lines.specs.declared.fault.FaultCode.{FaultCode};
 ghost use Rattle.vcm_expr.specs.Source.{Source, Plain, Prefixed, Pair, is_small, IsSize};
 
-use crate::expression::{Expr, Piece, Prefix, Size, Term, append_copies, copy_term, too_deep};
+use crate::expression::{Expr, Piece, Prefix, Size, Term, append_copies, too_deep};
+use crate::packed::PackedPiece;
 use std::alloc::Global;
 use std::marker::Model;
 use vcm_lines::SourceFault;
@@ -34,7 +35,7 @@ fn within(line: u32, depth: u32, nodes: u32) -> Result<Size, SourceFault>
 /// Expressions that are there and wait for what stands between them. Contracts see it as their list, the last one first.
 #[derive(Drop)]
 pub struct Draft {
-    pieces: Vec<Piece>,
+    pieces: Vec<PackedPiece>,
 }
 
 impl Model for Draft {
@@ -78,7 +79,7 @@ impl Draft {
         ensures fault { IfErr result (λ f. f ≡ no_memory) }
         ensures unchanged { OnErr result (self.new ≡ self.old) }
     {
-        self.pieces.push(Piece::Leaf(term))?;
+        self.pieces.push(PackedPiece::new(Piece::Leaf(term)))?;
         Ok(Size { depth: 1, nodes: 1 })
     }
 
@@ -96,7 +97,7 @@ impl Draft {
         ensures unchanged { OnErr result (self.new ≡ self.old) }
     {
         let size = within(line, u32::from(a.depth) + 1, u32::from(a.nodes) + 1)?;
-        self.pieces.push(Piece::Front(prefix))?;
+        self.pieces.push(PackedPiece::new(Piece::Front(prefix)))?;
         Ok(size)
     }
 
@@ -116,7 +117,7 @@ impl Draft {
         let depth = u32::from(a.depth.max(b.depth)) + 1;
         let nodes = u32::from(a.nodes) + u32::from(b.nodes) + 1;
         let size = within(line, depth, nodes)?;
-        self.pieces.push(Piece::Between(op))?;
+        self.pieces.push(PackedPiece::new(Piece::Between(op)))?;
         Ok(size)
     }
 
@@ -131,7 +132,7 @@ impl Draft {
         ensures unchanged { OnErr result (self.new ≡ self.old) }
     {
         if let Some(term) = e.as_leaf() {
-            let size = self.leaf(copy_term(term))?;
+            let size = self.leaf(term)?;
             return Ok(size);
         }
         append_copies(&mut self.pieces, e.pieces())?;
@@ -143,9 +144,6 @@ impl Draft {
         requires { (e : Source) × (self ≡ e ∷ []) × IsSize size e }
         ensures { self ≡ result ∷ [] }
     {
-        if let [Piece::Leaf(term)] = self.pieces.as_slice() {
-            return Expr::leaf(copy_term(term));
-        }
         Expr::new(self.pieces, size)
     }
 }

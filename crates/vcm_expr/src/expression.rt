@@ -3,11 +3,11 @@
 ghost use Rattle.std.specs.Prelude.{◌≡◌, ◌++◌, true, IfOk, IfErr, OnOk, OnErr};
 ghost use Rattle.vcm_lines.specs.Fault.{no_memory};
 ghost use Rattle.vcm_expr.specs.Source.{Plain, IsSize, is_small, parts, leaf_in};
-ghost use Rattle.std.specs.Option.{option_copied};
 ghost use Rattle.vcm_expr.specs.inner.Pieces.{pieces_of, source_of};
 ghost use Rattle.vcm_lines.specs.declared.fault.FaultCode.{FaultCode};
 
 use crate::name::Name;
+use crate::packed::PackedPiece;
 use std::alloc::Global;
 use std::marker::Model;
 use std::slice::from_ref;
@@ -56,8 +56,8 @@ pub struct Size {
 /// The parts of an expression, as they are kept: a leaf alone takes no memory.
 #[derive(Drop)]
 pub enum Written {
-    One(Piece),
-    Many(Vec<Piece>),
+    One(PackedPiece),
+    Many(Vec<PackedPiece>),
 }
 
 /// An expression as it is written, at most 32 deep and of at most 512 nodes. Contracts see it as a `Source`.
@@ -91,13 +91,13 @@ impl Expr {
         ensures { result ≡ Plain term }
     {
         Expr {
-            written: Written::One(Piece::Leaf(term)),
+            written: Written::One(PackedPiece::new(Piece::Leaf(term))),
             size: Size { depth: 1, nodes: 1 },
         }
     }
 
     /// The expression that parts in postfix order are.
-    pub(crate) fn new(pieces: Vec<Piece>, size: Size) -> Expr
+    pub(crate) fn new(pieces: Vec<PackedPiece>, size: Size) -> Expr
         requires { (e : Source) × (pieces.items ≡ parts e) × IsSize size e }
         ensures { pieces.items ≡ parts result }
     {
@@ -118,7 +118,7 @@ impl Expr {
         ensures fault { IfErr result (λ f. f ≡ no_memory) }
     {
         let written = match &self.written {
-            Written::One(piece) => Written::One(copy_piece(piece)),
+            Written::One(piece) => Written::One(piece.copy()),
             Written::Many(pieces) => {
                 let mut copy = Vec::new(alloc);
                 append_copies(&mut copy, pieces)?;
@@ -139,18 +139,18 @@ impl Expr {
     }
 
     /// The number, truth value or variable that it is, where it is one.
-    pub fn as_leaf(&self) -> Option<&Term>
-        ensures { option_copied result ≡ leaf_in self.now }
+    pub fn as_leaf(&self) -> Option<Term>
+        ensures { result ≡ leaf_in self.now }
     {
         let (first, others) = self.pieces().split_first()?;
-        match first {
+        match first.piece() {
             Piece::Leaf(term) if others.is_empty() => Some(term),
             _ => None,
         }
     }
 
     /// Its parts in postfix order.
-    pub fn pieces(&self) -> &[Piece]
+    pub fn pieces(&self) -> &[PackedPiece]
         ensures parts { result.now ≡ parts self.now }
         ensures small { is_small self.now ≡ true }
     {
@@ -161,37 +161,18 @@ impl Expr {
     }
 }
 
-/// The same leaf.
-pub(crate) fn copy_term(term: &Term) -> Term
-    ensures { result ≡ term.now }
-{
-    match term {
-        Term::Number(literal) => Term::Number(*literal),
-        Term::Truth(b) => Term::Truth(*b),
-        Term::Variable(name, expansion) => Term::Variable(name.copy(), *expansion),
-    }
-}
-
-/// The same part.
-fn copy_piece(piece: &Piece) -> Piece
-    ensures { result ≡ piece.now }
-{
-    match piece {
-        Piece::Leaf(term) => Piece::Leaf(copy_term(term)),
-        Piece::Front(prefix) => Piece::Front(*prefix),
-        Piece::Between(op) => Piece::Between(*op),
-    }
-}
-
 /// Appends the same parts.
-pub(crate) fn append_copies(pieces: &mut Vec<Piece>, others: &[Piece]) -> Result<(), SourceFault>
+pub(crate) fn append_copies(
+    pieces: &mut Vec<PackedPiece>,
+    others: &[PackedPiece],
+) -> Result<(), SourceFault>
     ensures ok { OnOk result (pieces.new.items ≡ pieces.old.items ++ others.now) }
     ensures fault { IfErr result (λ f. f ≡ no_memory) }
     ensures unchanged { OnErr result (pieces.new.items ≡ pieces.old.items) }
 {
     pieces.reserve(others.len())?;
     for piece in others {
-        pieces.push_reserved(copy_piece(piece));
+        pieces.push_reserved(piece.copy());
     }
     Ok(())
 }

@@ -17,6 +17,7 @@ use crate::expression::{Expr, Piece, Prefix, Term};
 use crate::name::Name;
 use crate::names::Names;
 use crate::operators::kind_of_binary;
+use crate::packed::PackedPiece;
 use crate::pile::Pile;
 use crate::scaling::{is_scaled, scale_at, scale_last, scaled_kind};
 use crate::typed::{Typed, usual_items};
@@ -75,7 +76,7 @@ pub fn type_expr(
     ensures fault { IfErr result (NoMemoryOr (λ f. (f.line ≡ line) × (typed_for names.now want e.now ≡ Err f.code))) }
 {
     if let Some(term) = e.as_leaf() {
-        let typed = type_leaf(alloc, term, line, names, want)?;
+        let typed = type_leaf(alloc, &term, line, names, want)?;
         return Ok(typed);
     }
     let typed = type_pieces(alloc, e.pieces(), line, names, want)?;
@@ -106,7 +107,7 @@ fn type_leaf(
 /// The typed expression for a place where the expression stands that the parts are.
 fn type_pieces(
     alloc: Global,
-    pieces: &[Piece],
+    pieces: &[PackedPiece],
     line: u32,
     names: &Names,
     want: Want,
@@ -141,7 +142,7 @@ fn demand(items: &mut Vec<Item>, k: Kind, line: u32, want: Want) -> Result<(), S
 fn typed(
     alloc: Global,
     items: &mut Vec<Item>,
-    pieces: &[Piece],
+    pieces: &[PackedPiece],
     line: u32,
     names: &Names,
 ) -> Result<Kind, SourceFault>
@@ -151,7 +152,7 @@ fn typed(
 {
     let mut open = Pile::new(alloc);
     for piece in pieces {
-        step(items, &mut open, piece, line, names)?;
+        step(items, &mut open, &piece.piece(), line, names)?;
     }
     match open.pop() {
         Some(last) => Ok(last.kind),

@@ -83,10 +83,7 @@ fn variable_in(e: &Expr) -> Option<Target>
     ensures { result ≡ variable_in e.now }
 {
     match e.as_leaf() {
-        Some(Term::Variable(name, expansion)) => Some(Target {
-            name: name.copy(),
-            expansion: *expansion,
-        }),
+        Some(Term::Variable(name, expansion)) => Some(Target { name, expansion }),
         _ => None,
     }
 }
@@ -223,13 +220,13 @@ impl<'a> Bindings<'a> {
         ensures fault { IfErr result (NoMemoryOr (IsTooDeep line (is_small (put self.now e.now)))) }
     {
         if let Some(term) = e.as_leaf() {
-            let leaf = self.put_leaf(alloc, term)?;
+            let leaf = self.put_leaf(alloc, &term)?;
             return Ok(leaf);
         }
         let mut draft = Draft::new(alloc, e.pieces().len())?;
         let mut sizes = Pile::new(alloc);
         for piece in e.pieces() {
-            self.put_piece(&mut draft, &mut sizes, line, piece)?;
+            self.put_piece(&mut draft, &mut sizes, line, &piece.piece())?;
         }
         match sizes.pop() {
             Some(size) => Ok(draft.finish(size)),

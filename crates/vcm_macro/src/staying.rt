@@ -7,7 +7,7 @@ ghost use Rattle.vcm_macro.specs.Substitution.{put_argument};
 ghost use Rattle.vcm_macro.specs.inner.Staying.{is_here};
 
 use crate::bindings::Bindings;
-use vcm_expr::{Piece, Term};
+use vcm_expr::{PackedPiece, Piece, Term};
 use vcm_syntax::Argument;
 
 /// The arguments of a call as they are written, or what is put in their place.
@@ -42,10 +42,12 @@ fn is_here(expansion: u32, piece: &Piece) -> bool
 }
 
 // Whether all parts are.
-fn are_here(expansion: u32, pieces: &[Piece]) -> bool
+fn are_here(expansion: u32, pieces: &[PackedPiece]) -> bool
     ensures { result ≡ list_all (λ p. is_here expansion p) pieces.now }
 {
-    pieces.iter().all(|piece| is_here(expansion, piece))
+    pieces
+        .iter()
+        .all(|piece| is_here(expansion, &piece.piece()))
 }
 
 // Whether an argument says in the expansion what it says as it is written: nothing stands for anything, and its variables are the expansion's.

@@ -13,5 +13,5 @@ returns-clause-ok c =
 pub returns-in-Some-clause-ok : goal.returns-in-Some-clause-ok
 returns-in-Some-clause-ok c =
     let r = c.in_ok-size.ensures.ok in
-    let e = ap (λ t. Plain t) c.copy_term.ensures ∙ plain_is c.in-Some.term.now c.args.e.now c.in-Some.ensures in
+    let e = plain_is c.in-Some.term c.args.e.now c.in-Some.ensures in
     (r.0 ∙ ap (λ x. x ∷ c.args.self.now) e, subst (λ x. IsSize c.in_ok-size.size x) e r.1)
