@@ -37,9 +37,6 @@ one_is e ps h = stack_is (e ∷ []) ps h
 pub first_is : (e : Source) (ps : List Piece) → ps ≡ parts e → first_of (with_pieces ps []) ≡ e
 first_is e ps h = ap first_of (one_is e ps h)
 
-pub leaf_is : (t : Term) (e : Source) → Leaf t ∷ [] ≡ parts e → Plain t ≡ e
-leaf_is t e h = first_is e (Leaf t ∷ []) h
-
 pub plain_is : (t : Term) (e : Source) → Some t ≡ leaf_in e → Plain t ≡ e
 plain_is t (Plain u) h = let same : t ≡ u = cc in ap (λ x. Plain x) same
 plain_is t (Prefixed op a) h = absurd cc

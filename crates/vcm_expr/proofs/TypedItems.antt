@@ -1,13 +1,14 @@
 -- The items of typed expressions.
-use Rattle.std.proofs.Common.{◌≡◌, inl, inr, ℕ, ◌+◌, ◌≤◌, Bool, true, false, List, [], ◌∷◌, ◌++◌, length, Option, Some, Ok, Err, refl, sym, ap, ◌∙◌, subst, arith, append_assoc}
+use Rattle.std.proofs.Common.{◌≡◌, inl, inr, ℕ, ◌+◌, ◌≤◌, Bool, true, false, List, [], ◌∷◌, ◌++◌, length, Option, Some, Result, Ok, Err, refl, sym, ap, ◌∙◌, subst, arith, append_assoc}
 use Rattle.std.specs.Prelude.{nat_le, ◌&&◌}
 use Rattle.std.proofs.lemmas.List.{append-nil}
 use Rattle.vcm_num.specs.declared.number.Kind.{Kind}
 use Rattle.vcm_spec.specs.declared.expression.Operand.{Operand}
 use Rattle.vcm_spec.specs.declared.expression.Item.{Item}
-use Rattle.vcm_spec.specs.declared.expression.Item.TheVariants.{Push, Combine}
+use Rattle.vcm_spec.specs.declared.expression.Item.TheVariants.{Push, Apply, Combine}
+use Rattle.vcm_spec.specs.declared.expression.UnaryOp.TheVariants.{Scale}
 use Rattle.vcm_spec.specs.declared.expression.BinaryOp.{BinaryOp}
-use Rattle.vcm_spec.specs.Expression.{Tree, Value, Two, binary_kind, kind_of, depth, nodes, need, spelling, trees, HasKind}
+use Rattle.vcm_spec.specs.Expression.{Tree, Value, One, Two, binary_kind, kind_of, depth, nodes, need, spelling, trees, HasKind}
 use Rattle.vcm_spec.proofs.Postfix.{trees_of-spelling, one_tree}
 use Rattle.vcm_spec.specs.Setup.{Variable, kinds_of}
 use Rattle.vcm_lines.specs.Fault.{NoMemoryOr}
@@ -16,7 +17,6 @@ use Rattle.vcm_lines.specs.declared.fault.SourceFault.{SourceFault}
 use Rattle.vcm_expr.specs.declared.expression.Term.{Term}
 use Rattle.vcm_expr.specs.declared.expression.Piece.{Piece}
 use Rattle.vcm_expr.specs.declared.typing.Want.{Want}
-use Rattle.vcm_expr.specs.declared.typing.Want.TheVariants.{Int as WantInt, Length, Bool as WantBool}
 use Rattle.vcm_expr.specs.Source.{Source, Plain, depth_of, nodes_of, is_small}
 use Rattle.vcm_expr.specs.Typed.{VariableBelow, VariablesBelow}
 use Rattle.vcm_expr.specs.Typing.{leaf_of, kinded, is_scaled, scaled, scaled_kind, typed_as, pair_by, and_then, typed_of, wanted_by, wanted_kind, typed_for}
@@ -47,6 +47,12 @@ leaf_is x t e = one_tree (Value x) t e
 
 pub leaf_below : (n : ℕ) (x : Operand) (t : Tree) → Push x ∷ [] ≡ spelling t → VariablesBelow n t → VariableBelow n x
 leaf_below n x t e v = subst (λ u. VariablesBelow n u) (sym (leaf_is x t e)) v
+
+pub scaled_is : (x : Operand) (t : Tree) → Push x ∷ Apply Scale ∷ [] ≡ spelling t → One Scale (Value x) ≡ t
+scaled_is x t e = one_tree (One Scale (Value x)) t e
+
+pub scaled_below : (n : ℕ) (x : Operand) (t : Tree) → Push x ∷ Apply Scale ∷ [] ≡ spelling t → VariablesBelow n t → VariableBelow n x
+scaled_below n x t e v = subst (λ u. VariablesBelow n u) (sym (scaled_is x t e)) v
 
 -- items that spell a tree have its kind, and are few
 pub spelled_kind : (items : List Item) (t : Tree) → items ≡ spelling t → depth t ≤ 32 → (kinds : List Kind) (k : Kind) → kind_of kinds t ≡ Some k → HasKind kinds items k
@@ -122,19 +128,9 @@ typed_small vs want s after w shallow few =
     let f = typed_for_fine vs want s w.0 w.1 in
     (w.0, w.2, omega (arith, f.shallow, shallow), omega (arith, f.few, few))
 
--- a leaf of the kind that its place takes is taken as it stands
-as_it_stands : (want : Want) (t : Tree) → wanted_by want t (wanted_kind want) ≡ Ok t
-as_it_stands WantInt t = refl
-as_it_stands Length t = refl
-as_it_stands WantBool t = refl
-
-pub leaf_taken : (vs : List Variable) (want : Want) (t : Term) (k : Kind) (x : Operand) → leaf_of vs t ≡ kinded (Value x) k → k ≡ wanted_kind want → typed_for vs want (Plain t) ≡ Ok (Value x)
-leaf_taken vs want t k x e same =
-    ap (λ o. and_then o (wanted_by want)) e ∙ ap (wanted_by want (Value x)) same ∙ as_it_stands want (Value x)
-
--- a leaf alone is spelled by its item
-pub leaf_spelled : (vs : List Variable) (t : Term) (k : Kind) (x : Operand) (items : List Item) → leaf_of vs t ≡ kinded (Value x) k → items ≡ Push x ∷ [] → Spelled (typed_of vs (Plain t)) [] items k
-leaf_spelled vs t k x items e is = record { tree = Value x; is = e; items = is }
+-- a leaf alone in its place
+pub leaf_placed : (vs : List Variable) (want : Want) (t : Term) (k : Kind) (x : Operand) (r : Result Tree FaultCode) → leaf_of vs t ≡ kinded (Value x) k → wanted_by want (Value x) k ≡ r → typed_for vs want (Plain t) ≡ r
+leaf_placed vs want t k x r e w = ap (λ o. and_then o (wanted_by want)) e ∙ w
 
 -- the exits of a place that doesn't take its expression
 pub place_told : (vs : List Variable) (want : Want) (s : Source) (k : Kind) (items : List Item) (line : ℕ) (g : SourceFault) → Spelled (typed_of vs s) [] items k

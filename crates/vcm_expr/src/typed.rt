@@ -1,7 +1,8 @@
 //! Typed expressions.
 
 ghost use Rattle.std.specs.Prelude.{◌≡◌, ◌≤◌};
-ghost use Rattle.vcm_spec.specs.Expression.{Tree, Value, depth, nodes, spelling};
+ghost use Rattle.vcm_spec.specs.Expression.{Tree, Value, One, depth, nodes, spelling};
+ghost use Rattle.vcm_spec.specs.declared.expression.UnaryOp.{UnaryOp};
 ghost use Rattle.vcm_expr.specs.inner.Trees.{tree_of, items_of};
 
 use crate::expression::{Piece, Term};
@@ -11,11 +12,13 @@ use std::marker::Model;
 use vcm_num::Literal;
 use vcm_spec::{Item, Operand};
 
-/// How a typed expression is kept. One without an operator takes no memory.
+/// How a typed expression is kept. One without an operator, or with a scaling alone, takes no memory.
 #[derive(Drop)]
 pub enum Kept {
     /// A number, a truth value or a variable.
     Leaf(Operand),
+    /// One that is scaled.
+    Scaled(Operand),
     /// Operands and operators in postfix order.
     Postfix(Vec<Item>),
 }
@@ -50,6 +53,15 @@ impl Typed {
     {
         Typed {
             kept: Kept::Leaf(x),
+        }
+    }
+
+    /// A whole number or a variable of whole numbers, scaled.
+    pub(crate) fn scaled(x: Operand) -> Typed
+        ensures { result ≡ One UnaryOp.Scale (Value x) }
+    {
+        Typed {
+            kept: Kept::Scaled(x),
         }
     }
 

@@ -44,19 +44,6 @@ struct Operated {
     start: usize,
 }
 
-impl Want {
-    /// The kind that the place takes as it stands.
-    fn kind(self) -> Kind
-        ensures { result ≡ wanted_kind self }
-    {
-        match self {
-            Want::Int => Kind::Int,
-            Want::Length => Kind::Real,
-            Want::Bool => Kind::Bool,
-        }
-    }
-}
-
 /// The typed expression for a place. Scalings are written out where a whole number meets a number of thousandths or stands in a length's
 /// place, and unary plus is left out.
 ///
@@ -76,32 +63,35 @@ pub fn type_expr(
     ensures fault { IfErr result (NoMemoryOr (λ f. (f.line ≡ line) × (typed_for names.now want e.now ≡ Err f.code))) }
 {
     if let Some(term) = e.as_leaf() {
-        let typed = type_leaf(alloc, &term, line, names, want)?;
+        let typed = type_leaf(&term, line, names, want)?;
         return Ok(typed);
     }
     let typed = type_pieces(alloc, e.pieces(), line, names, want)?;
     Ok(typed)
 }
 
+/// An operand of this kind for a place, scaled where it has to be.
+fn leaf_for(x: Operand, kind: Kind, line: u32, want: Want) -> Result<Typed, SourceFault>
+    ensures ok { IfOk result (λ t. wanted_by want (Value x) kind ≡ Ok t) }
+    ensures fault { IfErr result (λ f. (f.line ≡ line) × (wanted_by want (Value x) kind ≡ Err f.code)) }
+{
+    match (want, kind) {
+        (Want::Int, Kind::Int) | (Want::Length, Kind::Real) | (Want::Bool, Kind::Bool) => {
+            Ok(Typed::leaf(x))
+        }
+        (Want::Length, Kind::Int) => Ok(Typed::scaled(x)),
+        _ => Err(bad_type(line)),
+    }
+}
+
 /// The typed expression for a place where a number, a truth value or a variable stands alone.
-fn type_leaf(
-    alloc: Global,
-    term: &Term,
-    line: u32,
-    names: &Names,
-    want: Want,
-) -> Result<Typed, SourceFault>
+fn type_leaf(term: &Term, line: u32, names: &Names, want: Want) -> Result<Typed, SourceFault>
     ensures ok { IfOk result (λ t. typed_for names.now want (Plain term.now) ≡ Ok t) }
-    ensures fault { IfErr result (NoMemoryOr (λ f. (f.line ≡ line) × (typed_for names.now want (Plain term.now) ≡ Err f.code))) }
+    ensures fault { IfErr result (λ f. (f.line ≡ line) × (typed_for names.now want (Plain term.now) ≡ Err f.code)) }
 {
     let (x, kind) = leaf(term, line, names)?;
-    if kind == want.kind() {
-        return Ok(Typed::leaf(x));
-    }
-    let mut items = Vec::with_capacity(alloc, 2)?;
-    items.push(Item::Push(x))?;
-    demand(&mut items, kind, line, want)?;
-    Ok(Typed::new(items))
+    let typed = leaf_for(x, kind, line, want)?;
+    Ok(typed)
 }
 
 /// The typed expression for a place where the expression stands that the parts are.

@@ -11,6 +11,7 @@ use crate::operators;
 use crate::postfix::carried_out;
 use crate::typed::{Kept, Typed};
 use vcm_num::Fault;
+use vcm_spec::UnaryOp;
 
 /// The value of a typed expression, where the variables have the values of `slots`: a number of thousandths for a `Real`, 0 or 1 for a
 /// `Bool`. Takes no memory.
@@ -26,6 +27,7 @@ pub fn eval(e: &Typed, slots: &[i64]) -> Result<i64, Fault>
 {
     match e.kept() {
         Kept::Leaf(x) => Ok(operators::operand(*x, slots)),
+        Kept::Scaled(x) => operators::unary(UnaryOp::Scale, operators::operand(*x, slots)),
         Kept::Postfix(items) => carried_out(*items.allocator(), items, slots),
     }
 }

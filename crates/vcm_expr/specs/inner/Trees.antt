@@ -8,7 +8,7 @@ use Rattle.vcm_spec.specs.declared.expression.Operand.TheVariants.{Truth}
 use Rattle.vcm_spec.specs.declared.expression.UnaryOp.TheVariants.{Scale}
 use Rattle.vcm_spec.specs.Expression.{Tree, Value, trees, spelling}
 use Rattle.vcm_expr.specs.declared.typed.Kept.{Kept}
-use Rattle.vcm_expr.specs.declared.typed.Kept.TheVariants.{Leaf, Postfix}
+use Rattle.vcm_expr.specs.declared.typed.Kept.TheVariants.{Leaf, Scaled, Postfix}
 use Rattle.vcm_expr.specs.Typing.{Kinded, kinded}
 
 -- the topmost tree of a stack
@@ -19,6 +19,7 @@ topmost _ = Value (Truth false)
 -- the items that are kept
 abbrev pub items_of : Kept → List Item
 items_of (Leaf x) = Push x ∷ []
+items_of (Scaled x) = Push x ∷ Apply Scale ∷ []
 items_of (Postfix v) = v.items
 
 -- the tree that they spell

@@ -14,3 +14,7 @@ returns-in_ok-from_slice-in-Postfix-clause-kind c =
 pub returns-in_ok-from_slice-in-Postfix-clause-count : goal.returns-in_ok-from_slice-in-Postfix-clause-count
 returns-in_ok-from_slice-in-Postfix-clause-count c =
     rw (c.in_ok-from_slice-in-Postfix.ensures, c.deref.ensures.value) (spelled_short _ c.args.e.now (sym (ap (λ k. items_of k) c.in-Postfix.is) ∙ c.kept.ensures.items) c.kept.ensures.few)
+
+pub returns-in_ok-from_slice-in-Scaled-clause-kind : goal.returns-in_ok-from_slice-in-Scaled-clause-kind
+returns-in_ok-from_slice-in-Scaled-clause-kind c =
+    rw c.in_ok-from_slice-in-Scaled.ensures (spelled_kind _ c.args.e.now (sym (ap (λ k. items_of k) c.in-Scaled.is) ∙ c.kept.ensures.items) c.kept.ensures.shallow)

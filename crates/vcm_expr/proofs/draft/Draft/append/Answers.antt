@@ -1,5 +1,5 @@
 use Rattle.std.proofs.Common.{ap, ◌∙◌, ◌∷◌, subst}
-use Rattle.vcm_expr.specs.Source.{Plain, IsSize}
+use Rattle.vcm_expr.specs.Source.{IsSize}
 use Rattle.vcm_expr.proofs.PieceLemmas.{other_holds, other_view, plain_is}
 use Rattle.vcm_expr.proofs.draft.Draft.append.Goals as goal
 
