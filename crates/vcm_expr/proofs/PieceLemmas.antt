@@ -7,14 +7,21 @@ use Rattle.vcm_expr.specs.declared.expression.Prefix.{Prefix}
 use Rattle.vcm_spec.specs.declared.expression.BinaryOp.{BinaryOp}
 use Rattle.vcm_expr.specs.declared.expression.Size.{Size}
 use Rattle.vcm_expr.specs.declared.expression.Piece.{Piece}
-use Rattle.vcm_expr.specs.declared.expression.Piece.TheVariants.{Leaf, Front, Between}
+use Rattle.vcm_expr.specs.declared.expression.Term.TheVariants.{Number, Truth, Variable}
+use Rattle.vcm_expr.specs.declared.expression.Piece.TheVariants.{Front, Between}
 use Rattle.vcm_expr.specs.Source.{Source, Plain, Prefixed, Pair, depth_of, nodes_of, leaf_in, IsSize}
-use Rattle.vcm_expr.specs.Source.{parts}
-use Rattle.vcm_expr.specs.inner.Pieces.{all_parts, with_pieces, first_of}
+use Rattle.vcm_expr.specs.Source.{parts, leaf_piece}
+use Rattle.vcm_expr.specs.inner.Pieces.{all_parts, with_piece, with_pieces, first_of}
+
+-- a leaf is put on the stack by its part
+with_leaf : (t : Term) (es : List Source) → with_piece (leaf_piece t) es ≡ Plain t ∷ es
+with_leaf (Number n) es = refl
+with_leaf (Truth b) es = refl
+with_leaf (Variable name e) es = refl
 
 -- the parts of an expression put it on the stack
 with_parts : (e : Source) (rest : List Piece) (es : List Source) → with_pieces (parts e ++ rest) es ≡ with_pieces rest (e ∷ es)
-with_parts (Plain t) rest es = refl
+with_parts (Plain t) rest es = ap (λ s. with_pieces rest s) (with_leaf t es)
 with_parts (Prefixed op a) rest es =
     ap (λ ps. with_pieces ps es) (append_assoc (parts a) (Front op ∷ []) rest) ∙ with_parts a (Front op ∷ rest) es
 with_parts (Pair op a b) rest es =
@@ -49,8 +56,8 @@ pub sized_again : (e : Source) (ps : List Piece) (s : Size) → ps ≡ parts e �
 sized_again e ps s h z = subst (λ f. IsSize s f) (sym (first_is e ps h)) z
 
 -- what a stack is after one more part
-pub leaf_more : (t : Term) (es : List Source) (old new : List Piece) → old ≡ all_parts es → new ≡ old ++ Leaf t ∷ [] → new ≡ all_parts (Plain t ∷ es)
-leaf_more t es old new h e = e ∙ ap (λ ps. ps ++ Leaf t ∷ []) h
+pub leaf_more : (t : Term) (es : List Source) (old new : List Piece) → old ≡ all_parts es → new ≡ old ++ leaf_piece t ∷ [] → new ≡ all_parts (Plain t ∷ es)
+leaf_more t es old new h e = e ∙ ap (λ ps. ps ++ leaf_piece t ∷ []) h
 
 pub front_more : (op : Prefix) (e : Source) (es : List Source) (old new : List Piece) → old ≡ all_parts (e ∷ es) → new ≡ old ++ Front op ∷ [] → new ≡ all_parts (Prefixed op e ∷ es)
 front_more op e es old new h is = is ∙ ap (λ ps. ps ++ Front op ∷ []) h ∙ append_assoc (all_parts es) (parts e) (Front op ∷ [])
@@ -67,10 +74,10 @@ pub all_again : (es : List Source) (ps : List Piece) → ps ≡ all_parts es →
 all_again es ps h = h ∙ ap all_parts (sym (stack_is es ps h))
 
 -- the same of a stack as it is seen
-pub leaf_view : (t : Term) (now : List Source) (old new : List Piece) → with_pieces old [] ≡ now → old ≡ all_parts (with_pieces old []) → new ≡ old ++ Leaf t ∷ [] → with_pieces new [] ≡ Plain t ∷ now
+pub leaf_view : (t : Term) (now : List Source) (old new : List Piece) → with_pieces old [] ≡ now → old ≡ all_parts (with_pieces old []) → new ≡ old ++ leaf_piece t ∷ [] → with_pieces new [] ≡ Plain t ∷ now
 leaf_view t now old new v h e = stack_is (Plain t ∷ now) new (leaf_more t now old new (h ∙ ap all_parts v) e)
 
-pub leaf_holds : (t : Term) (old new : List Piece) → old ≡ all_parts (with_pieces old []) → new ≡ old ++ Leaf t ∷ [] → new ≡ all_parts (with_pieces new [])
+pub leaf_holds : (t : Term) (old new : List Piece) → old ≡ all_parts (with_pieces old []) → new ≡ old ++ leaf_piece t ∷ [] → new ≡ all_parts (with_pieces new [])
 leaf_holds t old new h e = all_again (Plain t ∷ with_pieces old []) new (leaf_more t (with_pieces old []) old new h e)
 
 pub front_view : (op : Prefix) (e : Source) (es : List Source) (old new : List Piece) → with_pieces old [] ≡ e ∷ es → old ≡ all_parts (with_pieces old []) → new ≡ old ++ Front op ∷ [] → with_pieces new [] ≡ Prefixed op e ∷ es

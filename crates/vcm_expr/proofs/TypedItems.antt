@@ -133,11 +133,6 @@ pub leaf_placed : (vs : List Variable) (want : Want) (t : Term) (k : Kind) (x : 
 leaf_placed vs want t k x r e w = ap (λ o. and_then o (wanted_by want)) e ∙ w
 
 -- the exits of a place that doesn't take its expression
-pub place_told : (vs : List Variable) (want : Want) (s : Source) (k : Kind) (items : List Item) (line : ℕ) (g : SourceFault) → Spelled (typed_of vs s) [] items k
-    → NoMemoryOr (λ f. (f.line ≡ line) × ((t : Tree) → wanted_by want t k ≡ Err f.code)) g → NoMemoryOr (λ f. (f.line ≡ line) × (typed_for vs want s ≡ Err f.code)) g
-place_told vs want s k items line g p (inl m) = inl m
-place_told vs want s k items line g p (inr h) = inr (h.0, ap (λ o. and_then o (wanted_by want)) p.is ∙ h.1 p.tree)
-
 pub leaf_told : (vs : List Variable) (want : Want) (t : Term) (code : FaultCode) → leaf_of vs t ≡ Err code → typed_for vs want (Plain t) ≡ Err code
 leaf_told vs want t code e = ap (λ o. and_then o (wanted_by want)) e
 

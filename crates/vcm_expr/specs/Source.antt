@@ -4,7 +4,8 @@ use Rattle.vcm_spec.specs.declared.expression.BinaryOp.{BinaryOp}
 use Rattle.vcm_expr.specs.declared.expression.Prefix.{Prefix}
 use Rattle.vcm_expr.specs.declared.expression.Term.{Term}
 use Rattle.vcm_expr.specs.declared.expression.Piece.{Piece}
-use Rattle.vcm_expr.specs.declared.expression.Piece.TheVariants.{Leaf, Front, Between}
+use Rattle.vcm_expr.specs.declared.expression.Term.TheVariants as term
+use Rattle.vcm_expr.specs.declared.expression.Piece.TheVariants.{Number, Truth, Variable, Front, Between}
 use Rattle.vcm_expr.specs.declared.expression.Size.{Size}
 
 -- an expression: a leaf, or a sign or an operator on one or two expressions
@@ -13,9 +14,15 @@ pub data Source : Type 0 where
   Prefixed : Prefix → Source → Source
   Pair : BinaryOp → Source → Source → Source
 
+-- the part that a leaf is
+abbrev pub leaf_piece : Term → Piece
+leaf_piece (term.Number n) = Number n
+leaf_piece (term.Truth b) = Truth b
+leaf_piece (term.Variable name e) = Variable name e
+
 -- the parts of an expression in postfix order
 abbrev pub parts : Source → List Piece
-parts (Plain t) = Leaf t ∷ []
+parts (Plain t) = leaf_piece t ∷ []
 parts (Prefixed op a) = parts a ++ Front op ∷ []
 parts (Pair op a b) = parts a ++ (parts b ++ Between op ∷ [])
 

@@ -9,4 +9,3 @@ pub mod Runs
 pub mod Pieces
 pub mod Trees
 pub mod Typings
-pub mod Packing

@@ -6,7 +6,6 @@ ghost use Rattle.vcm_lines.specs.declared.fault.FaultCode.{FaultCode};
 ghost use Rattle.vcm_expr.specs.Source.{Source, Plain, Prefixed, Pair, is_small, IsSize};
 
 use crate::expression::{Expr, Piece, Prefix, Size, Term, append_copies, too_deep};
-use crate::packed::PackedPiece;
 use std::alloc::Global;
 use std::marker::Model;
 use vcm_lines::SourceFault;
@@ -35,7 +34,7 @@ fn within(line: u32, depth: u32, nodes: u32) -> Result<Size, SourceFault>
 /// Expressions that are there and wait for what stands between them. Contracts see it as their list, the last one first.
 #[derive(Drop)]
 pub struct Draft {
-    pieces: Vec<PackedPiece>,
+    pieces: Vec<Piece>,
 }
 
 impl Model for Draft {
@@ -73,13 +72,12 @@ impl Draft {
     /// # Errors
     ///
     /// Want of memory; then nothing is added.
-    #[inline(always)]
     pub fn leaf(&mut self, term: Term) -> Result<Size, SourceFault>
         ensures ok { IfOk result (λ s. (self.new ≡ Plain term ∷ self.old) × IsSize s (Plain term)) }
         ensures fault { IfErr result (λ f. f ≡ no_memory) }
         ensures unchanged { OnErr result (self.new ≡ self.old) }
     {
-        self.pieces.push(PackedPiece::new(Piece::Leaf(term)))?;
+        self.pieces.push(Piece::leaf(term))?;
         Ok(Size { depth: 1, nodes: 1 })
     }
 
@@ -97,7 +95,7 @@ impl Draft {
         ensures unchanged { OnErr result (self.new ≡ self.old) }
     {
         let size = within(line, u32::from(a.depth) + 1, u32::from(a.nodes) + 1)?;
-        self.pieces.push(PackedPiece::new(Piece::Front(prefix)))?;
+        self.pieces.push(Piece::Front(prefix))?;
         Ok(size)
     }
 
@@ -117,7 +115,7 @@ impl Draft {
         let depth = u32::from(a.depth.max(b.depth)) + 1;
         let nodes = u32::from(a.nodes) + u32::from(b.nodes) + 1;
         let size = within(line, depth, nodes)?;
-        self.pieces.push(PackedPiece::new(Piece::Between(op)))?;
+        self.pieces.push(Piece::Between(op))?;
         Ok(size)
     }
 

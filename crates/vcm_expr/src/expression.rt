@@ -2,12 +2,11 @@
 
 ghost use Rattle.std.specs.Prelude.{◌≡◌, ◌++◌, true, IfOk, IfErr, OnOk, OnErr};
 ghost use Rattle.vcm_lines.specs.Fault.{no_memory};
-ghost use Rattle.vcm_expr.specs.Source.{Plain, IsSize, is_small, parts, leaf_in};
-ghost use Rattle.vcm_expr.specs.inner.Pieces.{pieces_of, source_of};
+ghost use Rattle.vcm_expr.specs.Source.{Plain, IsSize, is_small, parts, leaf_in, leaf_piece};
+ghost use Rattle.vcm_expr.specs.inner.Pieces.{pieces_of, source_of, term_in};
 ghost use Rattle.vcm_lines.specs.declared.fault.FaultCode.{FaultCode};
 
 use crate::name::Name;
-use crate::packed::PackedPiece;
 use std::alloc::Global;
 use std::marker::Model;
 use std::slice::from_ref;
@@ -38,12 +37,54 @@ pub enum Term {
 /// expression is one.
 #[derive(Drop)]
 pub enum Piece {
-    /// A number, a truth value or a variable.
-    Leaf(Term),
+    /// A number without a sign.
+    Number(Literal),
+    /// A truth value.
+    Truth(bool),
+    /// A variable's name, and the number of the expansion that it stands in (0 outside macros).
+    Variable(Name, u32),
     /// A sign or a negation.
     Front(Prefix),
     /// An operator on two values.
     Between(BinaryOp),
+}
+
+impl Piece {
+    /// The part that a leaf is.
+    pub(crate) fn leaf(term: Term) -> Piece
+        ensures { result ≡ leaf_piece term }
+    {
+        match term {
+            Term::Number(literal) => Piece::Number(literal),
+            Term::Truth(truth) => Piece::Truth(truth),
+            Term::Variable(name, expansion) => Piece::Variable(name, expansion),
+        }
+    }
+
+    /// The leaf that it is, where it is one.
+    fn as_term(&self) -> Option<Term>
+        ensures { result ≡ term_in self.now }
+    {
+        match self {
+            Piece::Number(literal) => Some(Term::Number(*literal)),
+            Piece::Truth(truth) => Some(Term::Truth(*truth)),
+            Piece::Variable(name, expansion) => Some(Term::Variable(name.copy(), *expansion)),
+            Piece::Front(_) | Piece::Between(_) => None,
+        }
+    }
+
+    /// The same part.
+    fn copy(&self) -> Piece
+        ensures { result ≡ self.now }
+    {
+        match self {
+            Piece::Number(literal) => Piece::Number(*literal),
+            Piece::Truth(truth) => Piece::Truth(*truth),
+            Piece::Variable(name, expansion) => Piece::Variable(name.copy(), *expansion),
+            Piece::Front(prefix) => Piece::Front(*prefix),
+            Piece::Between(op) => Piece::Between(*op),
+        }
+    }
 }
 
 /// How deep an expression is, and how many nodes it has.
@@ -53,11 +94,11 @@ pub struct Size {
     pub nodes: u16,
 }
 
-/// The parts of an expression, as they are kept: a leaf alone takes no memory.
+/// The parts of an expression, as they are kept: a leaf without parentheses takes no memory.
 #[derive(Drop)]
 pub enum Written {
-    One(PackedPiece),
-    Many(Vec<PackedPiece>),
+    One(Piece),
+    Many(Vec<Piece>),
 }
 
 /// An expression as it is written, at most 32 deep and of at most 512 nodes. Contracts see it as a `Source`.
@@ -91,13 +132,13 @@ impl Expr {
         ensures { result ≡ Plain term }
     {
         Expr {
-            written: Written::One(PackedPiece::new(Piece::Leaf(term))),
+            written: Written::One(Piece::leaf(term)),
             size: Size { depth: 1, nodes: 1 },
         }
     }
 
     /// The expression that parts in postfix order are.
-    pub(crate) fn new(pieces: Vec<PackedPiece>, size: Size) -> Expr
+    pub(crate) fn new(pieces: Vec<Piece>, size: Size) -> Expr
         requires { (e : Source) × (pieces.items ≡ parts e) × IsSize size e }
         ensures { pieces.items ≡ parts result }
     {
@@ -143,14 +184,14 @@ impl Expr {
         ensures { result ≡ leaf_in self.now }
     {
         let (first, others) = self.pieces().split_first()?;
-        match first.piece() {
-            Piece::Leaf(term) if others.is_empty() => Some(term),
-            _ => None,
+        if others.is_empty() {
+            return first.as_term();
         }
+        None
     }
 
     /// Its parts in postfix order.
-    pub fn pieces(&self) -> &[PackedPiece]
+    pub fn pieces(&self) -> &[Piece]
         ensures parts { result.now ≡ parts self.now }
         ensures small { is_small self.now ≡ true }
     {
@@ -163,8 +204,8 @@ impl Expr {
 
 /// Appends the same parts.
 pub(crate) fn append_copies(
-    pieces: &mut Vec<PackedPiece>,
-    others: &[PackedPiece],
+    pieces: &mut Vec<Piece>,
+    others: &[Piece],
 ) -> Result<(), SourceFault>
     ensures ok { OnOk result (pieces.new.items ≡ pieces.old.items ++ others.now) }
     ensures fault { IfErr result (λ f. f ≡ no_memory) }

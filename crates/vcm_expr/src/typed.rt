@@ -5,8 +5,7 @@ ghost use Rattle.vcm_spec.specs.Expression.{Tree, Value, One, depth, nodes, spel
 ghost use Rattle.vcm_spec.specs.declared.expression.UnaryOp.{UnaryOp};
 ghost use Rattle.vcm_expr.specs.inner.Trees.{tree_of, items_of};
 
-use crate::expression::{Piece, Term};
-use crate::packed::PackedPiece;
+use crate::expression::Piece;
 use crate::typing::Want;
 use std::marker::Model;
 use vcm_num::Literal;
@@ -86,12 +85,12 @@ impl Typed {
 }
 
 /// Whether a part is a whole number.
-fn is_whole(piece: &PackedPiece) -> bool {
-    matches!(piece.piece(), Piece::Leaf(Term::Number(Literal::Int(_))))
+fn is_whole(piece: &Piece) -> bool {
+    matches!(piece, Piece::Number(Literal::Int(_)))
 }
 
 /// For how many items room is made first: one for each part, and where a length is wanted, one to scale each whole number.
-pub(crate) fn usual_items(pieces: &[PackedPiece], want: Want) -> usize {
+pub(crate) fn usual_items(pieces: &[Piece], want: Want) -> usize {
     let scaled = match want {
         Want::Length => pieces.iter().filter(|piece| is_whole(piece)).count(),
         Want::Int | Want::Bool => 0,

@@ -1,15 +1,17 @@
 //! From expressions as they are written to typed ones.
 
 ghost use Rattle.std.specs.Prelude.{◌≡◌, ◌≤◌, true, List, ◌++◌, length, Some, Ok, Err, IfOk, OnOk, IfErr};
-ghost use Rattle.vcm_lines.specs.Fault.{NoMemoryOr};
+ghost use Rattle.vcm_lines.specs.Fault.{NoMemoryOr, no_memory};
 ghost use Rattle.vcm_lines.specs.declared.fault.FaultCode.{FaultCode};
 ghost use Rattle.vcm_spec.specs.declared.expression.Item.{Item};
 ghost use Rattle.vcm_spec.specs.Expression.{Tree, Value, kind_of, spelling};
+ghost use Rattle.vcm_expr.specs.declared.expression.Term.{Term};
+ghost use Rattle.vcm_expr.specs.declared.expression.Term.TheVariants as term;
 ghost use Rattle.vcm_expr.specs.Source.{parts};
 ghost use Rattle.vcm_expr.specs.inner.Pieces.{with_piece};
 ghost use Rattle.vcm_expr.specs.inner.Trees.{Spelled, Wanted};
 ghost use Rattle.vcm_expr.specs.inner.Typings.{AreTyped, Fails};
-ghost use Rattle.vcm_spec.specs.Setup.{kinds_of};
+ghost use Rattle.vcm_spec.specs.Setup.{Variable, kinds_of};
 ghost use Rattle.vcm_expr.specs.Source.{Source, Plain, is_small};
 ghost use Rattle.vcm_expr.specs.Typing.{kinded, leaf_of, prefixed_by, pair_by, typed_of, typed_for, wanted_by, wanted_kind};
 
@@ -17,7 +19,6 @@ use crate::expression::{Expr, Piece, Prefix, Term};
 use crate::name::Name;
 use crate::names::Names;
 use crate::operators::kind_of_binary;
-use crate::packed::PackedPiece;
 use crate::pile::Pile;
 use crate::scaling::{is_scaled, scale_at, scale_last, scaled_kind};
 use crate::typed::{Typed, usual_items};
@@ -97,7 +98,7 @@ fn type_leaf(term: &Term, line: u32, names: &Names, want: Want) -> Result<Typed,
 /// The typed expression for a place where the expression stands that the parts are.
 fn type_pieces(
     alloc: Global,
-    pieces: &[PackedPiece],
+    pieces: &[Piece],
     line: u32,
     names: &Names,
     want: Want,
@@ -132,7 +133,7 @@ fn demand(items: &mut Vec<Item>, k: Kind, line: u32, want: Want) -> Result<(), S
 fn typed(
     alloc: Global,
     items: &mut Vec<Item>,
-    pieces: &[PackedPiece],
+    pieces: &[Piece],
     line: u32,
     names: &Names,
 ) -> Result<Kind, SourceFault>
@@ -142,7 +143,7 @@ fn typed(
 {
     let mut open = Pile::new(alloc);
     for piece in pieces {
-        step(items, &mut open, &piece.piece(), line, names)?;
+        step(items, &mut open, piece, line, names)?;
     }
     match open.pop() {
         Some(last) => Ok(last.kind),
@@ -165,11 +166,14 @@ fn step(
         → AreTyped names.now es open.old before items.old.items → Fails names.now f.code (with_piece piece.now es)))) }
 {
     match piece {
-        Piece::Leaf(term) => {
-            let start = items.len();
-            let (x, kind) = leaf(term, line, names)?;
-            items.push(Item::Push(x))?;
-            open.push(Operated { kind, start })?;
+        Piece::Number(literal) => {
+            let (x, kind) = number(*literal);
+            operand(items, open, x, kind)?;
+        }
+        Piece::Truth(truth) => operand(items, open, Operand::Truth(*truth), Kind::Bool)?,
+        Piece::Variable(name, expansion) => {
+            let (x, kind) = variable(name, *expansion, line, names)?;
+            operand(items, open, x, kind)?;
         }
         Piece::Front(prefix) => {
             let Some(a) = open.pop() else {
@@ -199,22 +203,61 @@ fn step(
     Ok(())
 }
 
+/// One more operand, which is of this kind.
+fn operand(
+    items: &mut Vec<Item>,
+    open: &mut Pile<Operated>,
+    x: Operand,
+    kind: Kind,
+) -> Result<(), SourceFault>
+    ensures ok { OnOk result ((vs : List Variable) (t : Term) (es : List Source) (before : List Item) → leaf_of vs t ≡ kinded (Value x) kind
+        → AreTyped vs es open.old before items.old.items → AreTyped vs (Plain t ∷ es) open.new before items.new.items) }
+    ensures fault { IfErr result (λ f. f ≡ no_memory) }
+{
+    let start = items.len();
+    items.push(Item::Push(x))?;
+    open.push(Operated { kind, start })?;
+    Ok(())
+}
+
+/// A number as an operand, and its kind.
+fn number(literal: Literal) -> (Operand, Kind)
+    ensures { (vs : List Variable) → leaf_of vs (term.Number literal) ≡ kinded (Value result.0) result.1 }
+{
+    match literal {
+        Literal::Int(n) => (Operand::Integer(n), Kind::Int),
+        Literal::Thousandths(n) => (Operand::Thousandths(n), Kind::Real),
+    }
+}
+
+/// A variable as an operand, and its kind.
+fn variable(
+    name: &Name,
+    expansion: u32,
+    line: u32,
+    names: &Names,
+) -> Result<(Operand, Kind), SourceFault>
+    ensures ok { IfOk result (λ p. leaf_of names.now (term.Variable name.now expansion) ≡ kinded (Value p.0) p.1) }
+    ensures fault { IfErr result (λ f. (f.line ≡ line) × (leaf_of names.now (term.Variable name.now expansion) ≡ Err f.code)) }
+{
+    match names.find(expansion, name) {
+        Some((index, kind)) => Ok((Operand::Variable(index), kind)),
+        None => Err(SourceFault {
+            code: FaultCode::UnknownName,
+            line,
+        }),
+    }
+}
+
 /// A leaf, and its kind.
 fn leaf(term: &Term, line: u32, names: &Names) -> Result<(Operand, Kind), SourceFault>
     ensures ok { IfOk result (λ p. leaf_of names.now term.now ≡ kinded (Value p.0) p.1) }
     ensures fault { IfErr result (λ f. (f.line ≡ line) × (leaf_of names.now term.now ≡ Err f.code)) }
 {
     match term {
-        Term::Number(Literal::Int(n)) => Ok((Operand::Integer(*n), Kind::Int)),
-        Term::Number(Literal::Thousandths(n)) => Ok((Operand::Thousandths(*n), Kind::Real)),
-        Term::Truth(b) => Ok((Operand::Truth(*b), Kind::Bool)),
-        Term::Variable(name, expansion) => match names.find(*expansion, name) {
-            Some((index, kind)) => Ok((Operand::Variable(index), kind)),
-            None => Err(SourceFault {
-                code: FaultCode::UnknownName,
-                line,
-            }),
-        },
+        Term::Number(literal) => Ok(number(*literal)),
+        Term::Truth(truth) => Ok((Operand::Truth(*truth), Kind::Bool)),
+        Term::Variable(name, expansion) => variable(name, *expansion, line, names),
     }
 }
 

@@ -23,9 +23,6 @@ back_y a b c m = omega (arith, ints)
 back_z : (a b c m : ℤ) → pos 0 *ℤ a +ℤ pos 0 *ℤ b +ℤ negsuc 0 *ℤ c +ℤ m ≡ m -ℤ c
 back_z a b c m = omega (arith, ints)
 
-flip : (a b : ℤ) → negsuc 0 *ℤ (a -ℤ b) ≡ b -ℤ a
-flip a b = omega (arith, ints)
-
 -- a row and a number, by the coordinate that the row takes
 module _ (p : ℕ → ℤ) (m z : ℤ) where
   pub plus_x : z ≡ p 0 → checked (z +ℤ m) ≡ checked (dot (unit_row PlusX) p +ℤ m)

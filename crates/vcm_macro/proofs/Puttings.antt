@@ -9,7 +9,7 @@ use Rattle.vcm_spec.specs.declared.expression.BinaryOp.{BinaryOp}
 use Rattle.vcm_expr.specs.declared.expression.Term.{Term}
 use Rattle.vcm_expr.specs.declared.expression.Prefix.{Prefix}
 use Rattle.vcm_expr.specs.declared.expression.Piece.{Piece}
-use Rattle.vcm_expr.specs.declared.expression.Piece.TheVariants.{Leaf, Front, Between}
+use Rattle.vcm_expr.specs.declared.expression.Piece.TheVariants.{Number, Truth, Variable, Front, Between}
 use Rattle.vcm_expr.specs.declared.expression.Size.{Size}
 use Rattle.vcm_expr.specs.Source.{Source, Prefixed, Pair, parts, depth_of, nodes_of, leaf_in, is_small, IsSize}
 use Rattle.vcm_expr.specs.inner.Pieces.{with_piece, with_pieces}
@@ -79,7 +79,9 @@ big_right : (op : BinaryOp) (a b : Source) → is_small b ≡ false → is_small
 big_right op a b h = big_more (depth_of b) (nodes_of b) (max (depth_of a) (depth_of b) + 1) (nodes_of a + nodes_of b + 1) (omega arith) (omega arith) h
 
 big_piece : (sc : Scope) (p : Piece) (es : List Source) → Big sc es → Big sc (with_piece p es)
-big_piece sc (Leaf t) es h = inr h
+big_piece sc (Number n) es h = inr h
+big_piece sc (Truth b) es h = inr h
+big_piece sc (Variable name e) es h = inr h
 big_piece sc (Front op) [] h = absurd h
 big_piece sc (Front op) (e ∷ es) (inl h) = inl (big_front op (put sc e) h)
 big_piece sc (Front op) (e ∷ es) (inr h) = inr h

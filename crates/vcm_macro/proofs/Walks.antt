@@ -1,6 +1,6 @@
 -- Walks, one part behind the other.
 use Rattle.std.proofs.Common.{◌≡◌, ℕ, ◌+◌, List, [], ◌∷◌, ◌++◌, refl, sym, ap, ◌∙◌, inl, inr, arith, subst}
-use Rattle.std.proofs.lemmas.List.{append_assoc, append-nil}
+use Rattle.std.proofs.lemmas.List.{append_assoc}
 use Rattle.vcm_lines.specs.declared.fault.SourceFault.{SourceFault}
 use Rattle.vcm_macro.specs.declared.placed.Placed.{Placed}
 use Rattle.vcm_macro.specs.Walk.{Place, Opens, Inside, Stands, Calls, calls_in}
@@ -38,9 +38,6 @@ told_behind n [] qs f a t = let e : n + 0 ≡ n = omega arith in rw e at t
 told_behind n (p ∷ ps) qs f a t =
     let e : n + (weight p + weigh ps) ≡ (n + weight p) + weigh ps = omega arith in
     inr (a.0, told_behind (n + weight p) ps qs f a.1 (rw e at t))
-
-pub walked_none : (a : Done) → Walked a a []
-walked_none a = record { fine = tt; placed = sym (append-nil a.placed); count = omega arith; calls = omega arith }
 
 pub walked_more : (a b c : Done) (ps qs : List Place) → Walked a b ps → Walked b c qs → Walked a c (ps ++ qs)
 walked_more a b c ps qs u v = record {

@@ -169,8 +169,16 @@ impl<'a> Bindings<'a> {
             × ((es : List Source) → Puts self.now es draft.old sizes.old → Big self.now (with_piece piece.now es)))) }
     {
         match piece {
-            Piece::Leaf(term) => {
-                let size = self.put_term(draft, term)?;
+            Piece::Number(literal) => {
+                let size = draft.leaf(Term::Number(*literal))?;
+                sizes.push(size)?;
+            }
+            Piece::Truth(truth) => {
+                let size = draft.leaf(Term::Truth(*truth))?;
+                sizes.push(size)?;
+            }
+            Piece::Variable(name, _) => {
+                let size = self.put_variable(draft, name)?;
                 sizes.push(size)?;
             }
             Piece::Front(prefix) => {
@@ -226,7 +234,7 @@ impl<'a> Bindings<'a> {
         let mut draft = Draft::new(alloc, e.pieces().len())?;
         let mut sizes = Pile::new(alloc);
         for piece in e.pieces() {
-            self.put_piece(&mut draft, &mut sizes, line, &piece.piece())?;
+            self.put_piece(&mut draft, &mut sizes, line, piece)?;
         }
         match sizes.pop() {
             Some(size) => Ok(draft.finish(size)),

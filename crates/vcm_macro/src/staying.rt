@@ -7,7 +7,7 @@ ghost use Rattle.vcm_macro.specs.Substitution.{put_argument};
 ghost use Rattle.vcm_macro.specs.inner.Staying.{is_here};
 
 use crate::bindings::Bindings;
-use vcm_expr::{PackedPiece, Piece, Term};
+use vcm_expr::Piece;
 use vcm_syntax::Argument;
 
 /// The arguments of a call as they are written, or what is put in their place.
@@ -36,18 +36,16 @@ fn is_here(expansion: u32, piece: &Piece) -> bool
     ensures { result ≡ is_here expansion piece.now }
 {
     match piece {
-        Piece::Leaf(Term::Variable(_, of)) => *of == expansion,
+        Piece::Variable(_, of) => *of == expansion,
         _ => true,
     }
 }
 
 // Whether all parts are.
-fn are_here(expansion: u32, pieces: &[PackedPiece]) -> bool
+fn are_here(expansion: u32, pieces: &[Piece]) -> bool
     ensures { result ≡ list_all (λ p. is_here expansion p) pieces.now }
 {
-    pieces
-        .iter()
-        .all(|piece| is_here(expansion, &piece.piece()))
+    pieces.iter().all(|piece| is_here(expansion, piece))
 }
 
 // Whether an argument says in the expansion what it says as it is written: nothing stands for anything, and its variables are the expansion's.

@@ -1,7 +1,7 @@
 -- Known bytes of a writer, step by step.
 use Rattle.std.proofs.Common.{◌≡◌, ℕ, ◌+◌, ◌-◌, ◌≤◌, ◌<◌, List, [], ◌∷◌, ◌++◌, length, take, drop, Option, Some, None, refl, sym, ap, ◌∙◌, append_assoc, zero, suc, arith, length-append, length-drop, take-add, subst, get_or, Bor}
 use Rattle.std.proofs.lemmas.List.{append-nil, take_all}
-use Rattle.std.specs.Prelude.{flat_map, Result, Ok, Err, IsErr}
+use Rattle.std.specs.Prelude.{flat_map, Result, Ok, Err}
 use Rattle.std.specs.Io.KnownBytes.{Appends}
 use Rattle.vcm_num.specs.Written.{AppendsFront, Wrote}
 
@@ -51,11 +51,6 @@ pieces_cut (p ∷ ps) (suc i) d l =
     append_assoc p.now (flat_map (λ p. p.now) (take i ps)) _
     ∙ ap (λ n. p.now ++ (flat_map (λ p. p.now) (take i ps) ++ ((get_or ps i d).now ++ flat_map (λ p. p.now) (drop n (p ∷ ps))))) (let e : suc i + 1 ≡ suc (i + 1) = omega arith in e)
     ∙ ap (λ l. p.now ++ l) (pieces_cut ps i d (omega arith))
-
--- a write that failed after what was written before
-pub wrote_front : {A E : Type 0} (a b : Option (List ℕ)) (bytes : List ℕ) (r : Result A E) → AppendsFront a b bytes → IsErr r → Wrote a b bytes r
-wrote_front a b bytes (Ok x) h e = cc
-wrote_front a b bytes (Err e) h f = h
 
 -- what was written before, and then this call's bytes
 pub wrote_then : {A E : Type 0} (a b c : Option (List ℕ)) (xs ys zs : List ℕ) (r : Result A E) → xs ++ ys ≡ zs → Appends a b xs → Wrote b c ys r → Wrote a c zs r

@@ -9,10 +9,6 @@ use Rattle.vcm_num.specs.declared.number.Literal.TheVariants.{Int, Thousandths}
 use Rattle.vcm_num.specs.declared.read.NumFault.TheVariants.{TooFine, TooLarge}
 use Rattle.std.proofs.lemmas.List.{at_drop_more}
 
--- a digit's byte
-pub digit_bounds : (b : ℕ) → is_ascii_digit b ≡ true → (48 ≤ b) × (b ≤ 57)
-digit_bounds b e = (grind arith, grind arith)
-
 pub number_after-value : (n : ℕ) (ds : List ℕ) → number_after n ds ≡ n * 10 ^ length ds + digits_value ds
 number_after-value n [] = omega arith
 number_after-value n (d ∷ ds) =

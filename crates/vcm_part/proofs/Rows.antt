@@ -1,9 +1,8 @@
 -- Rows one after the other, as a loop reads them.
-use Rattle.std.proofs.Common.{◌≡◌, ℕ, suc, ◌+◌, ◌<◌, ◌≤◌, Bool, true, false, List, [], ◌∷◌, ◌++◌, length, get_or, drop, Result, Ok, Err, refl, sym, ap, ◌∙◌, append_assoc}
+use Rattle.std.proofs.Common.{◌≡◌, ℕ, suc, ◌+◌, ◌<◌, ◌≤◌, true, List, [], ◌∷◌, ◌++◌, length, get_or, drop, Result, Ok, Err, refl, sym, ap, ◌∙◌, append_assoc}
 use Rattle.std.proofs.lemmas.List.{append-nil, drop_all}
 use Rattle.std.proofs.lemmas.List.Folds.{list_all-append}
-use Rattle.std.specs.Prelude.{is_some}
-use Rattle.toml.specs.Data.{item, as_table}
+use Rattle.toml.specs.Data.{item}
 use Rattle.toml.specs.View.{view, items_view}
 use Rattle.toml.specs.declared.value.Value.{Value}
 use Rattle.toml.proofs.Views.{items_view-drop}
@@ -14,14 +13,8 @@ use Rattle.vcm_part.specs.declared.fault.Halt.TheVariants as halts
 use Rattle.std.specs.List.{list_all}
 use Rattle.vcm_spec.specs.Workpiece.{is_block}
 use Rattle.vcm_spec.specs.Results.{◌>>=◌}
-use Rattle.vcm_part.specs.PartFile.{are_tables, block_of, blocks_from, count}
+use Rattle.vcm_part.specs.PartFile.{block_of, blocks_from, count}
 use Rattle.vcm_part.specs.inner.Halts.{Fails}
-
-pub tables_go_on : (vs : List Value) (i : ℕ) (v : Value) (all : Bool) → i < length vs → get_or vs i v ≡ v → is_some (as_table (view v)) ≡ true → are_tables (items_view (drop i vs)) ≡ all → are_tables (items_view (drop (i + 1) vs)) ≡ all
-tables_go_on vs i v all lt at t so_far = sym (rw (items_view-drop vs i v lt, at, t) refl) ∙ so_far
-
-pub tables_end : (vs : List Value) (i : ℕ) (v : Value) (all : Bool) → i < length vs → get_or vs i v ≡ v → is_some (as_table (view v)) ≡ false → are_tables (items_view (drop i vs)) ≡ all → false ≡ all
-tables_end vs i v all lt at t so_far = sym (rw (items_view-drop vs i v lt, at, t) refl) ∙ so_far
 
 abbrev pub with_front : List Block3 → Result (List Block3) PartFault → Result (List Block3) PartFault
 with_front front read = read >>= λ x. Ok (front ++ x)

@@ -96,10 +96,6 @@ same_contact : (blocks : List Block3) (x y : ℕ → ℤ) → contact blocks x (
 unfolding contact
 same_contact blocks x y = refl
 
-same_later : (blocks : List Block3) (x : ℕ → ℤ) (d : Axis) (n : ℕ) → later_contact blocks (coordinate (point_of x)) (along (coordinate (point_of x)) d n) ≡ later_contact blocks x (along x d n)
-unfolding later_contact
-same_later blocks x d n = refl
-
 -- the approach point and the end of the search, as the code has them
 pub record AreAimed (s : Settings) (nominal : ℕ → ℤ) (d : Axis) (approach end : Point) : Type 0 where
   pub up : fits_place (approach_of s nominal d) ≡ true

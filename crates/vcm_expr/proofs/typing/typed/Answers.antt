@@ -6,7 +6,7 @@ pub returns-in_err-step-clause-fault : goal.returns-in_err-step-clause-fault
 returns-in_err-step-clause-fault c =
     let p = err_from_is_err_and c.from_residual.result c.from_residual.ensures.1 in
     let i = c.loop-piece.invariant in
-    rw (p.1, p.2) (typed_told c.args.names.now c.args.pieces.now _ _ i.0 _ _ _ c.args.line _ c.loop-piece-test.true c.piece-item.is i.1 i.2 (rw c.piece.ensures at c.in_err-step.ensures.fault))
+    rw (p.1, p.2) (typed_told c.args.names.now c.args.pieces.now _ _ i.0 _ _ _ c.args.line _ c.loop-piece-test.true c.piece-item.is i.1 i.2 c.in_err-step.ensures.fault)
 
 pub unreachable-requires : goal.unreachable-requires
 unreachable-requires c =

@@ -9,7 +9,7 @@ pub returns-in_err-put_piece-clause-fault : goal.returns-in_err-put_piece-clause
 returns-in_err-put_piece-clause-fault c =
     let p = err_from_is_err_and c.from_residual-in_err-put_piece.result c.from_residual-in_err-put_piece.ensures.1 in
     let i = c.loop-piece.invariant in
-    rw (p.1, p.2) (put_told c.args.self.now c.pieces-piece-items.result.now _ _ i.0 _ _ c.args.e.now c.args.line _ c.loop-piece-test.true c.piece-item.is c.pieces-piece-items.ensures.parts i.1 i.2 (rw c.piece.ensures at c.in_err-put_piece.ensures.fault))
+    rw (p.1, p.2) (put_told c.args.self.now c.pieces-piece-items.result.now _ _ i.0 _ _ c.args.e.now c.args.line _ c.loop-piece-test.true c.piece-item.is c.pieces-piece-items.ensures.parts i.1 i.2 c.in_err-put_piece.ensures.fault)
 
 pub finish-requires : goal.finish-requires
 finish-requires c =
