@@ -1,5 +1,5 @@
 -- Items have one kind at most; statements that fit, one by one; the last one.
-use Rattle.std.proofs.Common.{◌≡◌, ℕ, zero, suc, ◌+◌, ◌-◌, List, [], ◌∷◌, length, Bool, true, false, Some, refl, sym, ap, ◌∙◌, subst, drop, arith}
+use Rattle.std.proofs.Common.{◌≡◌, ℕ, zero, suc, ◌+◌, ◌-◌, List, [], ◌∷◌, length, Bool, false, Some, sym, ap, ◌∙◌, subst, drop, arith}
 use Rattle.std.specs.Prelude.{slice_get}
 use Rattle.vcm_num.specs.declared.number.Kind.{Kind}
 use Rattle.vcm_spec.specs.declared.expression.Item.{Item}
@@ -8,7 +8,7 @@ use Rattle.vcm_spec.specs.Setup.{Tables}
 use Rattle.vcm_spec.proofs.Postfix.{one_tree}
 use Rattle.vcm_code.specs.declared.op.Statement.{Statement as KeptStatement}
 use Rattle.vcm_code.specs.Ops.{statement_of, statements_of}
-use Rattle.vcm_code.specs.Valid.{OpFits, AllFit, IsLast, Ends}
+use Rattle.vcm_code.specs.Valid.{AllFit, IsLast, Ends}
 use Rattle.vcm_code.specs.Deciding.{Tells}
 
 pub one_kind : (kinds : List Kind) (items : List Item) (k l : Kind) → HasKind kinds items k → HasKind kinds items l → k ≡ l
@@ -33,26 +33,6 @@ Kept = KeptStatement (List Item) (List ℕ)
 pub record Left (tables : Tables) (count : ℕ) (ss : List Kept) (k : ℕ) : Type 0 where
   pub on : AllFit tables count (statements_of (drop k ss)) → AllFit tables count (statements_of ss)
   pub back : AllFit tables count (statements_of ss) → AllFit tables count (statements_of (drop k ss))
-
-module _ (tables : Tables) (count : ℕ) (ss : List Kept) (k : ℕ) where
-  module _ (s : Kept) (split : drop k ss ≡ s ∷ drop (k + 1) ss) (left : Left tables count ss k) where
-    both : AllFit tables count (statements_of ss) → OpFits tables count (statement_of s).op × AllFit tables count (statements_of (drop (k + 1) ss))
-    both h = subst (λ l. AllFit tables count (statements_of l)) split (left.back h)
-
-    pub left_next : OpFits tables count (statement_of s).op → Left tables count ss (k + 1)
-    left_next fit = record {
-      on = λ h. left.on (subst (λ l. AllFit tables count (statements_of l)) (sym split) (fit, h));
-      back = λ h. (both h).1;
-    }
-
-    pub left_fails : (r : Bool) → r ≡ false → Tells r (OpFits tables count (statement_of s).op) → Tells false (AllFit tables count (statements_of ss))
-    left_fails r e t = record { so = λ f. absurd cc; only = λ h. absurd (differ (sym e ∙ t.only (both h).0)) }
-      where
-        differ : false ≡ true → ⊥
-        differ e = cc
-
-  pub left_end : drop k ss ≡ [] → Left tables count ss k → Tells true (AllFit tables count (statements_of ss))
-  left_end e left = record { so = λ t. left.on (subst (λ l. AllFit tables count (statements_of l)) (sym e) tt); only = λ h. refl }
 
 -- it is the last one that ends them
 ends_at : (ss : List Kept) (k : ℕ) (s : Kept) → slice_get ss k ≡ Some s → k + 1 ≡ length ss → Ends (statements_of ss) ≡ IsLast (statement_of s).op

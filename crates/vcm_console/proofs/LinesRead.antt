@@ -1,9 +1,8 @@
 -- Lines that are read byte by byte.
-use Rattle.std.proofs.Common.{◌≡◌, ◌≢◌, ℕ, zero, suc, ◌+◌, ◌<◌, ◌≤◌, true, false, List, [], ◌∷◌, ◌++◌, length, take, drop, Option, Some, None, refl, sym, ap, ◌∙◌, subst, arith, append_assoc, length-append}
+use Rattle.std.proofs.Common.{◌≡◌, ◌≢◌, ℕ, zero, suc, ◌+◌, ◌≤◌, false, List, [], ◌∷◌, ◌++◌, length, take, drop, Option, Some, None, refl, sym, ap, ◌∙◌, subst, arith, append_assoc, length-append}
 use Rattle.std.proofs.lemmas.List.{append-nil, drop_at}
 use Rattle.std.specs.Prelude.{IfSome}
-use Rattle.std.specs.Io.KnownBytes.{Keeps}
-use Rattle.vcm_console.specs.Reading.{TakesAtMost, IsNextOf, AllPlain, IsLong, kept_of, HasLine}
+use Rattle.vcm_console.specs.Reading.{IsNextOf, AllPlain, IsLong, kept_of, HasLine}
 
 -- these bytes of a line were read, and this is left
 pub record HasRead (input : List ℕ) (after : Option (List ℕ)) (kept : List ℕ) (used : ℕ) : Type 0 where
@@ -78,11 +77,6 @@ too_long left (Some input) after later kept used b e h next =
       record { seen = h.seen; rest = h.rest; cut = h.cut; plain = h.plain; long = omega (arith, u, e); more = omega (arith, some) },
       k.2 ∙ ap Some (sym (ap (drop (left + 1)) cut ∙ drop_at (h.seen ++ b ∷ []) k.0 (left + 1) n)),
     )
-
--- the reader failed
-kept_is_same : (input : List ℕ) (later : Option (List ℕ)) → Keeps (Some input) later → later ≡ Some input
-kept_is_same input None k = absurd k
-kept_is_same input (Some rest) k = ap Some k
 
 -- the input's end
 pub none_left : (known after later : Option (List ℕ)) (kept : List ℕ) (used : ℕ) → used ≡ 0 → HasReadOf known after kept used

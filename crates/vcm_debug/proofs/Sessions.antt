@@ -7,7 +7,6 @@ use Rattle.vcm_machine.specs.Running.{Running, started, later, WantsMemory, RunE
 use Rattle.vcm_machine.specs.declared.ran.Ran.{Ran}
 use Rattle.vcm_machine.specs.declared.ran.End.TheVariants as ends
 use Rattle.vcm_machine.proofs.LawLemmas.{add_up}
-use Rattle.vcm_machine.proofs.Codes.{kept_length}
 use Rattle.vcm_debug.specs.Debugging.{Debugging, after, shown}
 use Rattle.vcm_debug.specs.Halting.{reason_after}
 use Rattle.vcm_debug.specs.Session.{HaltsAfter}
@@ -38,14 +37,6 @@ module _ (part : Workpiece) (code : Code) (old new : Running) (a n : ℕ) (ran :
 -- the machine of a session is at its count from its own start
 pub at_own : (part : Workpiece) (code : Code) (m : Running) (count : ℕ) → m ≡ after part code count → m ≡ begun m count
 at_own part code m count e = subst (λ x. x ≡ begun x count) (sym e) refl
-
-module _ (part : Workpiece) (code : Code) (m : Running) (count : ℕ) (breakpoints watches : List Bool) (before : List ℤ) (s : IsSession part code m count breakpoints watches before) where
-  -- its code has as many statements, and as many variables
-  pub statements_of_it : length m.code.statements ≡ length code.statements
-  statements_of_it = ap (λ x. length x.code.statements) s.reached ∙ kept_length code.statements
-
-  pub tables_of_it : m.code.tables ≡ code.tables
-  tables_of_it = ap (λ x. x.code.tables) s.reached
 
 -- the session of a machine that has taken more steps
 pub moved_on : (part : Workpiece) (code : Code) (old new : Running) (count done : ℕ) (breakpoints watches : List Bool) (before room : List ℤ)

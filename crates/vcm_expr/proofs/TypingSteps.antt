@@ -11,7 +11,7 @@ use Rattle.vcm_spec.specs.Setup.{Variable}
 use Rattle.vcm_expr.specs.declared.expression.Prefix.{Prefix}
 use Rattle.vcm_expr.specs.declared.expression.Term.{Term}
 use Rattle.vcm_expr.specs.declared.expression.Piece.{Piece}
-use Rattle.vcm_expr.specs.declared.expression.Piece.TheVariants.{Number, Truth, Variable, Front, Between}
+use Rattle.vcm_expr.specs.declared.expression.Piece.TheVariants.{Number, Truth, Variable as Named, Front, Between}
 use Rattle.vcm_expr.specs.declared.typing.Operated.{Operated}
 use Rattle.vcm_expr.specs.Source.{Source, Plain}
 use Rattle.vcm_expr.specs.Typing.{leaf_of, prefixed_by, pair_by, and_then, typed_of}
@@ -70,7 +70,7 @@ start_within vs es b os left before now e h = starts_within vs es b left before 
 fails_piece : (vs : List Variable) (code : FaultCode) (p : Piece) (es : List Source) → Fails vs code es → Fails vs code (with_piece p es)
 fails_piece vs code (Number n) es h = inr h
 fails_piece vs code (Truth b) es h = inr h
-fails_piece vs code (Variable name e) es h = inr h
+fails_piece vs code (Named name e) es h = inr h
 fails_piece vs code (Front op) [] h = absurd h
 fails_piece vs code (Front op) (e ∷ es) (inl h) = inl (ap (λ o. and_then o (prefixed_by op)) h.0, h.1)
 fails_piece vs code (Front op) (e ∷ es) (inr h) = inr h

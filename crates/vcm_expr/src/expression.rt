@@ -203,10 +203,7 @@ impl Expr {
 }
 
 /// Appends the same parts.
-pub(crate) fn append_copies(
-    pieces: &mut Vec<Piece>,
-    others: &[Piece],
-) -> Result<(), SourceFault>
+pub(crate) fn append_copies(pieces: &mut Vec<Piece>, others: &[Piece]) -> Result<(), SourceFault>
     ensures ok { OnOk result (pieces.new.items ≡ pieces.old.items ++ others.now) }
     ensures fault { IfErr result (λ f. f ≡ no_memory) }
     ensures unchanged { OnErr result (pieces.new.items ≡ pieces.old.items) }

@@ -1,6 +1,6 @@
 //! From expressions as they are written to typed ones.
 
-ghost use Rattle.std.specs.Prelude.{◌≡◌, ◌≤◌, true, List, ◌++◌, length, Some, Ok, Err, IfOk, OnOk, IfErr};
+ghost use Rattle.std.specs.Prelude.{◌≡◌, ◌≤◌, true, List, ◌∷◌, ◌++◌, length, Some, Ok, Err, IfOk, OnOk, IfErr};
 ghost use Rattle.vcm_lines.specs.Fault.{NoMemoryOr, no_memory};
 ghost use Rattle.vcm_lines.specs.declared.fault.FaultCode.{FaultCode};
 ghost use Rattle.vcm_spec.specs.declared.expression.Item.{Item};

@@ -127,9 +127,6 @@ module _ (vs : List Variable) (ws : Tables) (g : Grown vs ws.variables) where
   one_shift s axes.Y t h k = record { x = h.x; y = k; z = h.z }
   one_shift s axes.Z t h k = record { x = h.x; y = h.y; z = k }
 
-  abbrev all_shifts : Shifts → Result Shifts FaultCode
-  all_shifts s = Ok s
-
   shifts_fit : (s r : Shifts) (os : List Offset) → AreShifts s → shifts_of vs s os ≡ Ok r → AreShifts r
   shifts_fit s r [] h e = (let same : s ≡ r = cc in subst AreShifts same h)
   shifts_fit s r (o ∷ os) h e =

@@ -1,13 +1,22 @@
-use Rattle.std.proofs.Common.{inr}
+use Rattle.std.proofs.Common.{inr, refl}
 use Rattle.std.proofs.lemmas.Result.{err_from_is_err_and}
+use Rattle.vcm_expr.specs.declared.expression.Term.TheVariants.{Number, Truth, Variable}
 use Rattle.vcm_expr.proofs.TypingSteps.{leaf_fails, front_told, between_told, start_within}
 use Rattle.vcm_expr.proofs.typing.step.Goals as goal
 
-pub returns-in_err-x-in-Leaf-clause-fault : goal.returns-in_err-x-in-Leaf-clause-fault
-returns-in_err-x-in-Leaf-clause-fault c =
-    let p = err_from_is_err_and c.from_residual.result c.from_residual.ensures.1 in
-    let f = c.in_err-x-in-Leaf.ensures.fault in
-    rw (p.1, p.2, c.in-Leaf.is) (inr (f.0, λ es before t. leaf_fails c.args.names.now c.in-Leaf.term es c.args.open.now before c.args.items.now.items _ f.1 t))
+pub returns-in_ok-operand-in-Number-clause-ok : goal.returns-in_ok-operand-in-Number-clause-ok
+returns-in_ok-operand-in-Number-clause-ok c = λ es before.
+    rw c.in-Number.is (c.in_ok-operand-in-Number.ensures.ok c.args.names.now (Number c.in-Number.literal) es before (c.number-x.ensures c.args.names.now))
+
+pub returns-in_ok-operand-in-Truth-clause-ok : goal.returns-in_ok-operand-in-Truth-clause-ok
+returns-in_ok-operand-in-Truth-clause-ok c = λ es before.
+    rw c.in-Truth.is (c.in_ok-operand-in-Truth.ensures.ok c.args.names.now (Truth c.in-Truth.truth) es before refl)
+
+pub returns-in_err-x-in-Variable-clause-fault : goal.returns-in_err-x-in-Variable-clause-fault
+returns-in_err-x-in-Variable-clause-fault c =
+    let p = err_from_is_err_and c.from_residual-in_err-x-in-Variable.result c.from_residual-in_err-x-in-Variable.ensures.1 in
+    let f = c.in_err-x-in-Variable.ensures.fault in
+    rw (p.1, p.2, c.in-Variable.is) (inr (f.0, λ es before t. leaf_fails c.args.names.now (Variable c.in-Variable.name c.in-Variable.expansion) es c.args.open.now before c.args.items.now.items _ f.1 t))
 
 pub returns-in_err-kind-in-Front-clause-fault : goal.returns-in_err-kind-in-Front-clause-fault
 returns-in_err-kind-in-Front-clause-fault c =
