@@ -4,6 +4,7 @@
 
 mod answers;
 mod script;
+mod tally;
 
 use crate::script::Script;
 use std::process::ExitCode;
@@ -22,7 +23,7 @@ fn main(rt: HostRuntime) -> ExitCode {
     if script.end(rt.alloc()).is_none() {
         return ExitCode::FAILURE;
     }
-    let (wrong, right) = (script.wrong(), script.right());
+    let (wrong, right) = (script.tally().wrong(), script.tally().right());
     match print!(rt; "{wrong}{right} answers as they are wanted\n") {
         Ok(()) => ExitCode::SUCCESS,
         Err(_) => ExitCode::FAILURE,

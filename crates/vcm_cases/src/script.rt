@@ -1,12 +1,9 @@
 //! The text of worked examples, line by line.
 
 use crate::answers::{check_answer, listing, replies, run_answer};
+use crate::tally::{MARK, Tally};
 use std::alloc::Global;
-use std::fmt::Write as _;
 use vcm_test_texts::program_of;
-
-// What a line begins with that names what stands below it.
-const MARK: &str = "=== ";
 
 /// What stands below a heading.
 #[derive(Clone, Copy, PartialEq, Eq)]
@@ -43,8 +40,7 @@ pub(crate) struct Script {
     commands: String,
     title: String,
     body: String,
-    wrong: String,
-    right: u32,
+    tally: Tally,
 }
 
 // What a heading says.
@@ -104,8 +100,7 @@ impl Script {
             commands: String::new(alloc),
             title: String::new(alloc),
             body: String::new(alloc),
-            wrong: String::new(alloc),
-            right: 0,
+            tally: Tally::new(alloc),
         }
     }
 
@@ -146,7 +141,7 @@ impl Script {
             }
             _ => {
                 let found = answer(alloc, self);
-                self.judge(&body, found)
+                self.tally.judge(&self.title, &self.program, &body, found)
             }
         }
     }
@@ -157,34 +152,11 @@ impl Script {
         let wanted = refusal(alloc, &self.title)?;
         let program = program_of(alloc, &statement)?;
         let found = check_answer(alloc, &program);
-        self.judge(&wanted, found)
+        self.tally.judge(&self.title, &program, &wanted, found)
     }
 
-    // Counts an answer that is as it is wanted, and writes down another one.
-    fn judge(&mut self, wanted: &str, found: Option<String>) -> Option<()> {
-        match found {
-            Some(found) if found.as_str() == wanted => {
-                self.right = self.right.saturating_add(1);
-                Some(())
-            }
-            Some(found) => self.tell(wanted, &found),
-            None => self.tell(wanted, "nothing\n"),
-        }
-    }
-
-    // Writes down an answer that is not as it is wanted.
-    fn tell(&mut self, wanted: &str, found: &str) -> Option<()> {
-        writeln!(self.wrong, "{MARK}{}", self.title).ok()?;
-        writeln!(self.wrong, "wanted\n{wanted}found\n{found}").ok()
-    }
-
-    /// The answers that were not as they are wanted, one after another.
-    pub(crate) fn wrong(&self) -> &str {
-        &self.wrong
-    }
-
-    /// How many answers were as they are wanted.
-    pub(crate) fn right(&self) -> u32 {
-        self.right
+    /// How the answers were.
+    pub(crate) fn tally(&self) -> &Tally {
+        &self.tally
     }
 }
