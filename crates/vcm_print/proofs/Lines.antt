@@ -1,5 +1,5 @@
 -- What is written of a line is what the listing says.
-use Rattle.std.proofs.Common.{◌≡◌, ℕ, ◌+◌, List, [], ◌∷◌, ◌++◌, refl, sym, ap, ◌∙◌, append_assoc, codes, subst, arith, Option, Some}
+use Rattle.std.proofs.Common.{◌≡◌, ℕ, List, [], ◌∷◌, ◌++◌, refl, sym, ap, ◌∙◌, append_assoc, codes, subst, arith, Option, Some}
 use Rattle.std.specs.Prelude.{flat_map, decimal, Result}
 use Rattle.std.proofs.lemmas.List.{append-nil}
 use Rattle.std.proofs.lemmas.Fmt.{decimal_digit}
@@ -14,28 +14,28 @@ use Rattle.vcm_words.specs.Cutting.{split}
 use Rattle.vcm_words.specs.Items.{item_text, closed_words, expression}
 use Rattle.vcm_words.specs.Operands.{operands, single, number_text, lettered, text, direction_text, setting_text, source_text, turn_text, word_text}
 use Rattle.vcm_words.specs.Rows.{row_text, kind_text}
-use Rattle.vcm_print.specs.declared.part.Part.TheVariants.{Nothing, Variable, Feature, Frame, Pair, Target, Number, Turn, Direction, Setting, Source, Items, Three, Text}
-use Rattle.vcm_print.specs.inner.Parts.{Piece, parts}
-use Rattle.vcm_print.specs.inner.Written.{more_items, items_bytes, three_bytes, part_bytes, parts_bytes, statement_bytes, variable_bytes, name_bytes}
+use Rattle.vcm_print.specs.declared.column.Column.TheVariants.{Nothing, Variable, Feature, Frame, Pair, Target, Number, Turn, Direction, Setting, Source, Items, Three, Text}
+use Rattle.vcm_print.specs.inner.Columns.{PlainColumn, columns}
+use Rattle.vcm_print.specs.inner.Written.{more_items, items_bytes, three_bytes, column_bytes, columns_bytes, statement_bytes, variable_bytes, name_bytes}
 use Rattle.vcm_print.specs.Listed.{listed}
 use Rattle.vcm_print.proofs.Joining.{blanked, blanked_append, joined_is, text_is}
 
--- the words of a part
-abbrev part_words : Piece → List (List ℕ)
-part_words Nothing = []
-part_words (Variable n) = lettered 86 n
-part_words (Feature n) = lettered 70 n
-part_words (Frame n) = lettered 68 n
-part_words (Pair n) = lettered 76 n
-part_words (Target n) = lettered 64 n
-part_words (Number n) = number_text n
-part_words (Turn axis) = single (turn_text axis)
-part_words (Direction toward) = single (direction_text toward)
-part_words (Setting which) = single (setting_text which)
-part_words (Source which) = single (source_text which)
-part_words (Items items) = expression items
-part_words (Three x y z) = expression x ++ (expression y ++ expression z)
-part_words (Text bs) = text bs
+-- the words of a column
+abbrev column_words : PlainColumn → List (List ℕ)
+column_words Nothing = []
+column_words (Variable n) = lettered 86 n
+column_words (Feature n) = lettered 70 n
+column_words (Frame n) = lettered 68 n
+column_words (Pair n) = lettered 76 n
+column_words (Target n) = lettered 64 n
+column_words (Number n) = number_text n
+column_words (Turn axis) = single (turn_text axis)
+column_words (Direction toward) = single (direction_text toward)
+column_words (Setting which) = single (setting_text which)
+column_words (Source which) = single (source_text which)
+column_words (Items items) = expression items
+column_words (Three x y z) = expression x ++ (expression y ++ expression z)
+column_words (Text bs) = text bs
 
 -- items behind the first one
 closed_is : (i : Item) (is : List Item) → blanked (closed_words (i ∷ is)) ≡ (32 ∷ item_text i) ++ (more_items is ++ codes "]")
@@ -56,30 +56,30 @@ three_are x y z =
 one_is : (w : List ℕ) → blanked (single w) ≡ 32 ∷ w
 one_is w = ap (λ l. 32 ∷ l) (append-nil w)
 
-part_is : (p : Piece) → blanked (part_words p) ≡ part_bytes p
-unfolding part_bytes
-part_is Nothing = refl
-part_is (Variable n) = one_is (86 ∷ decimal n)
-part_is (Feature n) = one_is (70 ∷ decimal n)
-part_is (Frame n) = one_is (68 ∷ decimal n)
-part_is (Pair n) = one_is (76 ∷ decimal n)
-part_is (Target n) = one_is (64 ∷ decimal n)
-part_is (Number n) = one_is (decimal n)
-part_is (Turn axis) = one_is (turn_text axis)
-part_is (Direction toward) = one_is (direction_text toward)
-part_is (Setting which) = one_is (setting_text which)
-part_is (Source which) = one_is (source_text which)
-part_is (Items is) = items_are is
-part_is (Three x y z) = three_are x y z
-part_is (Text bs) = text_is (39 ∷ bs ++ 39 ∷ [])
+column_is : (p : PlainColumn) → blanked (column_words p) ≡ column_bytes p
+unfolding column_bytes
+column_is Nothing = refl
+column_is (Variable n) = one_is (86 ∷ decimal n)
+column_is (Feature n) = one_is (70 ∷ decimal n)
+column_is (Frame n) = one_is (68 ∷ decimal n)
+column_is (Pair n) = one_is (76 ∷ decimal n)
+column_is (Target n) = one_is (64 ∷ decimal n)
+column_is (Number n) = one_is (decimal n)
+column_is (Turn axis) = one_is (turn_text axis)
+column_is (Direction toward) = one_is (direction_text toward)
+column_is (Setting which) = one_is (setting_text which)
+column_is (Source which) = one_is (source_text which)
+column_is (Items is) = items_are is
+column_is (Three x y z) = three_are x y z
+column_is (Text bs) = text_is (39 ∷ bs ++ 39 ∷ [])
 
-parts_are : (ps : List Piece) → blanked (flat_map part_words ps) ≡ parts_bytes ps
-parts_are [] = refl
-parts_are (p ∷ ps) = blanked_append (part_words p) (flat_map part_words ps) ∙ ap (λ l. l ++ blanked (flat_map part_words ps)) (part_is p) ∙ ap (λ l. part_bytes p ++ l) (parts_are ps)
+columns_are : (ps : List PlainColumn) → blanked (flat_map column_words ps) ≡ columns_bytes ps
+columns_are [] = refl
+columns_are (p ∷ ps) = blanked_append (column_words p) (flat_map column_words ps) ∙ ap (λ l. l ++ blanked (flat_map column_words ps)) (column_is p) ∙ ap (λ l. column_bytes p ++ l) (columns_are ps)
 
--- the words of the parts are the operands
-operands_are : (op : Operation) → flat_map part_words (parts op) ≡ operands op
-unfolding parts
+-- the words of the columns are the operands
+operands_are : (op : Operation) → flat_map column_words (columns op) ≡ operands op
+unfolding columns
 operands_are ops.EndFil = refl
 operands_are (ops.Goto x y z) = append-nil (expression x ++ (expression y ++ expression z))
 operands_are ops.GoHome = refl
@@ -114,9 +114,9 @@ pub line_is : (n : ℕ) (s : Line) → statement_bytes n s ≡ listed (rows.Numb
 unfolding listed row_text
 line_is n s =
     let words : List (List ℕ) = decimal s.line ∷ word_text (word_of s.op) ∷ operands s.op in
-    let same : blanked (operands s.op) ≡ parts_bytes (parts s.op) = ap (λ ws. blanked ws) (sym (operands_are s.op)) ∙ parts_are (parts s.op) in
+    let same : blanked (operands s.op) ≡ columns_bytes (columns s.op) = ap (λ ws. blanked ws) (sym (operands_are s.op)) ∙ columns_are (columns s.op) in
     sym (ap (λ l. l ++ codes "\n") (joined_is (decimal n) words ∙ ap (λ l. decimal n ++ (32 ∷ decimal s.line ++ (32 ∷ word_text (word_of s.op) ++ l))) same)
-    ∙ assoc (decimal n) (32 ∷ decimal s.line) (32 ∷ word_text (word_of s.op)) (parts_bytes (parts s.op)) (codes "\n"))
+    ∙ assoc (decimal n) (32 ∷ decimal s.line) (32 ∷ word_text (word_of s.op)) (columns_bytes (columns s.op)) (codes "\n"))
 
 -- the line of a feature, and that of a frame
 pub feature_is : (n : ℕ) (name : List ℕ) → name_bytes (codes "FEATURE ") n name ≡ listed (rows.Feature n name)

@@ -1,3 +1,3 @@
 -- What only private contracts and proofs of this crate speak of.
-pub mod Parts
+pub mod Columns
 pub mod Written

@@ -1,10 +1,10 @@
 //! The writing of listings: a statement's line, which takes no memory, and the whole listing of a valid image.
 #![tactic(auto)]
 
+mod column;
+mod columns;
 mod items;
 mod names;
-mod part;
-mod parts;
 mod printing;
 mod statement;
 mod tables;

@@ -4,12 +4,12 @@ ghost use Rattle.std.specs.Prelude.{◌≡◌, ◌<◌, ◌++◌, ◌∷◌, Som
 ghost use Rattle.vcm_num.specs.Written.{Wrote};
 ghost use Rattle.vcm_fields.specs.Parts.{Line};
 ghost use Rattle.vcm_words.specs.declared.row.Row.TheVariants.{Numbered};
-ghost use Rattle.vcm_print.specs.inner.Written.{three_bytes, part_bytes, parts_bytes, statement_bytes};
+ghost use Rattle.vcm_print.specs.inner.Written.{three_bytes, column_bytes, columns_bytes, statement_bytes};
 ghost use Rattle.vcm_print.specs.Listed.{listed};
 
+use crate::column::Column;
+use crate::columns::{BorrowedColumn, columns};
 use crate::items::write_items;
-use crate::part::Part;
-use crate::parts::{BorrowedPart, parts};
 use crate::tables::{direction, setting, source, turn};
 use crate::words::word;
 use crate::writer::{write_marked, write_two};
@@ -49,35 +49,35 @@ fn write_three<W: Write>(
     write_items(z, writer)
 }
 
-// Writes a part with a blank in front of each of its words.
-#[tactic(auto, unfolding(crate::specs::inner::Written::part_bytes))]
-fn write_part<W: Write>(part: &BorrowedPart<'_>, writer: &mut W) -> Result<(), WriteFault>
-    ensures { Wrote (W.contents writer.old) (W.contents writer.new) (part_bytes part.now) result }
+// Writes a column with a blank in front of each of its words.
+#[tactic(auto, unfolding(crate::specs::inner::Written::column_bytes))]
+fn write_column<W: Write>(column: &BorrowedColumn<'_>, writer: &mut W) -> Result<(), WriteFault>
+    ensures { Wrote (W.contents writer.old) (W.contents writer.new) (column_bytes column.now) result }
 {
-    match part {
-        Part::Nothing => write_all(writer, b""),
-        Part::Variable(index) => write_lettered(b'V', u32::from(*index), writer),
-        Part::Feature(index) => write_lettered(b'F', u32::from(*index), writer),
-        Part::Frame(index) => write_lettered(b'D', u32::from(*index), writer),
-        Part::Pair(number) => write_lettered(b'L', u32::from(*number), writer),
-        Part::Target(number) => write_lettered(b'@', *number, writer),
-        Part::Number(number) => write_number(u32::from(*number), writer),
-        Part::Turn(axis) => write_two(b" ", turn(*axis), writer),
-        Part::Direction(toward) => write_two(b" ", direction(*toward), writer),
-        Part::Setting(which) => write_two(b" ", setting(*which), writer),
-        Part::Source(which) => write_two(b" ", source(*which), writer),
-        Part::Items(items) => write_items(items, writer),
-        Part::Three(x, y, z) => write_three(x, y, z, writer),
-        Part::Text(text) => write_pieces(writer, &[b" '", text.as_bytes(), b"'"]),
+    match column {
+        Column::Nothing => write_all(writer, b""),
+        Column::Variable(index) => write_lettered(b'V', u32::from(*index), writer),
+        Column::Feature(index) => write_lettered(b'F', u32::from(*index), writer),
+        Column::Frame(index) => write_lettered(b'D', u32::from(*index), writer),
+        Column::Pair(number) => write_lettered(b'L', u32::from(*number), writer),
+        Column::Target(number) => write_lettered(b'@', *number, writer),
+        Column::Number(number) => write_number(u32::from(*number), writer),
+        Column::Turn(axis) => write_two(b" ", turn(*axis), writer),
+        Column::Direction(toward) => write_two(b" ", direction(*toward), writer),
+        Column::Setting(which) => write_two(b" ", setting(*which), writer),
+        Column::Source(which) => write_two(b" ", source(*which), writer),
+        Column::Items(items) => write_items(items, writer),
+        Column::Three(x, y, z) => write_three(x, y, z, writer),
+        Column::Text(text) => write_pieces(writer, &[b" '", text.as_bytes(), b"'"]),
     }
 }
 
-// Writes the parts one behind the other.
-fn write_parts<W: Write>(parts: &[BorrowedPart<'_>], writer: &mut W) -> Result<(), WriteFault>
-    ensures { Wrote (W.contents writer.old) (W.contents writer.new) (parts_bytes parts.now) result }
+// Writes the columns one behind the other.
+fn write_columns<W: Write>(columns: &[BorrowedColumn<'_>], writer: &mut W) -> Result<(), WriteFault>
+    ensures { Wrote (W.contents writer.old) (W.contents writer.new) (columns_bytes columns.now) result }
 {
-    for part in parts {
-        write_part(part, writer)?;
+    for column in columns {
+        write_column(column, writer)?;
     }
     Ok(())
 }
@@ -102,7 +102,7 @@ fn write_line<W: Write>(
     ensures { Wrote (W.contents writer.old) (W.contents writer.new) (statement_bytes n statement.now) result }
 {
     write_head(n, statement.line, word(&statement.op), writer)?;
-    write_parts(&parts(&statement.op), writer)?;
+    write_columns(&columns(&statement.op), writer)?;
     write_all(writer, b"\n")
 }
 

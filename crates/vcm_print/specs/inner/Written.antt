@@ -7,9 +7,9 @@ use Rattle.vcm_fields.specs.Words.{word_of}
 use Rattle.vcm_words.specs.Items.{item_text}
 use Rattle.vcm_words.specs.Operands.{direction_text, setting_text, source_text, turn_text, word_text}
 use Rattle.vcm_words.specs.Rows.{ListRow, text_of, numbered, kind_text}
-use Rattle.vcm_print.specs.declared.part.Part.TheVariants.{Nothing, Variable, Feature, Frame, Pair, Target, Number, Turn, Direction}
-use Rattle.vcm_print.specs.declared.part.Part.TheVariants.{Setting, Source, Items, Three, Text}
-use Rattle.vcm_print.specs.inner.Parts.{Piece, parts}
+use Rattle.vcm_print.specs.declared.column.Column.TheVariants.{Nothing, Variable, Feature, Frame, Pair, Target, Number, Turn, Direction}
+use Rattle.vcm_print.specs.declared.column.Column.TheVariants.{Setting, Source, Items, Three, Text}
+use Rattle.vcm_print.specs.inner.Columns.{PlainColumn, columns}
 
 -- items behind the first one, with a blank in front of each
 abbrev pub more_items : List Item → List ℕ
@@ -24,26 +24,26 @@ items_bytes (i ∷ is) = (codes " [" ++ item_text i) ++ (more_items is ++ codes 
 abbrev pub three_bytes : List Item → List Item → List Item → List ℕ
 three_bytes x y z = items_bytes x ++ (items_bytes y ++ items_bytes z)
 
--- a part with a blank in front of each of its words
-unfoldable pub part_bytes : Piece → List ℕ
-part_bytes Nothing = []
-part_bytes (Variable n) = 32 ∷ 86 ∷ decimal n
-part_bytes (Feature n) = 32 ∷ 70 ∷ decimal n
-part_bytes (Frame n) = 32 ∷ 68 ∷ decimal n
-part_bytes (Pair n) = 32 ∷ 76 ∷ decimal n
-part_bytes (Target n) = 32 ∷ 64 ∷ decimal n
-part_bytes (Number n) = 32 ∷ decimal n
-part_bytes (Turn axis) = 32 ∷ turn_text axis
-part_bytes (Direction toward) = 32 ∷ direction_text toward
-part_bytes (Setting which) = 32 ∷ setting_text which
-part_bytes (Source which) = 32 ∷ source_text which
-part_bytes (Items items) = items_bytes items
-part_bytes (Three x y z) = three_bytes x y z
-part_bytes (Text bs) = codes " '" ++ (bs ++ codes "'")
+-- a column with a blank in front of each of its words
+unfoldable pub column_bytes : PlainColumn → List ℕ
+column_bytes Nothing = []
+column_bytes (Variable n) = 32 ∷ 86 ∷ decimal n
+column_bytes (Feature n) = 32 ∷ 70 ∷ decimal n
+column_bytes (Frame n) = 32 ∷ 68 ∷ decimal n
+column_bytes (Pair n) = 32 ∷ 76 ∷ decimal n
+column_bytes (Target n) = 32 ∷ 64 ∷ decimal n
+column_bytes (Number n) = 32 ∷ decimal n
+column_bytes (Turn axis) = 32 ∷ turn_text axis
+column_bytes (Direction toward) = 32 ∷ direction_text toward
+column_bytes (Setting which) = 32 ∷ setting_text which
+column_bytes (Source which) = 32 ∷ source_text which
+column_bytes (Items items) = items_bytes items
+column_bytes (Three x y z) = three_bytes x y z
+column_bytes (Text bs) = codes " '" ++ (bs ++ codes "'")
 
--- parts, one behind the other
-abbrev pub parts_bytes : List Piece → List ℕ
-parts_bytes ps = flat_map part_bytes ps
+-- columns, one behind the other
+abbrev pub columns_bytes : List PlainColumn → List ℕ
+columns_bytes ps = flat_map column_bytes ps
 
 -- the number of a statement, its source line, and its word
 abbrev pub head_bytes : ℕ → Line → List ℕ
@@ -51,7 +51,7 @@ head_bytes n s = decimal n ++ (32 ∷ decimal s.line ++ (32 ∷ word_text (word_
 
 -- a statement's line and its end
 abbrev pub statement_bytes : ℕ → Line → List ℕ
-statement_bytes n s = head_bytes n s ++ (parts_bytes (parts s.op) ++ codes "\n")
+statement_bytes n s = head_bytes n s ++ (columns_bytes (columns s.op) ++ codes "\n")
 
 -- a variable's line and its end
 abbrev pub variable_bytes : ℕ → Kind → List ℕ → ℕ → List ℕ

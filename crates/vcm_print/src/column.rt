@@ -1,11 +1,11 @@
-//! The parts that the operands of a statement are written from.
+//! One column of a statement's line in a listing: no operand, one operand, or three expressions.
 
 use vcm_num::Axis;
 use vcm_spec::{Setting, Source};
 
 /// One operand, or none, or three expressions. `E` holds postfix items and `T` bytes, as in `Op`.
 #[derive(Drop)]
-pub(crate) enum Part<E, T> {
+pub(crate) enum Column<E, T> {
     /// No operand.
     Nothing,
     /// The index of a variable.

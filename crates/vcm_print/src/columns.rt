@@ -1,30 +1,30 @@
-//! The operands of a statement, as parts.
+//! The operands of a statement, as columns.
 
 ghost use Rattle.std.specs.Prelude.{◌≡◌};
-ghost use Rattle.vcm_print.specs.declared.part.Part.TheVariants as pieces;
-ghost use Rattle.vcm_print.specs.inner.Parts.{parts};
+ghost use Rattle.vcm_print.specs.declared.column.Column.TheVariants as column;
+ghost use Rattle.vcm_print.specs.inner.Columns.{columns};
 
-use crate::part::Part::{
+use crate::column::Column::{
     self, Direction, Feature, Frame, Items, Nothing, Number, Pair, Setting, Source, Target, Text,
     Three, Turn, Variable,
 };
 use vcm_code::Op;
 use vcm_fields::{BorrowedOp, ItemSlice, TextSlice};
 
-/// A part whose items and texts are slices of the image.
-pub(crate) type BorrowedPart<'a> = Part<ItemSlice<'a>, TextSlice<'a>>;
+/// A column whose items and texts are slices of the image.
+pub(crate) type BorrowedColumn<'a> = Column<ItemSlice<'a>, TextSlice<'a>>;
 
 // Three expressions.
-fn three<'a>(x: &ItemSlice<'a>, y: &ItemSlice<'a>, z: &ItemSlice<'a>) -> BorrowedPart<'a>
-    ensures { result ≡ pieces.Three x.now y.now z.now }
+fn three<'a>(x: &ItemSlice<'a>, y: &ItemSlice<'a>, z: &ItemSlice<'a>) -> BorrowedColumn<'a>
+    ensures { result ≡ column.Three x.now y.now z.now }
 {
     Three(x.again(), y.again(), z.again())
 }
 
 /// The operands of a statement, four at the most where three expressions are one.
-#[tactic(auto, unfolding(crate::specs::inner::Parts::parts))]
-pub(crate) fn parts<'a>(op: &BorrowedOp<'a>) -> [BorrowedPart<'a>; 4]
-    ensures { result ≡ parts op.now }
+#[tactic(auto, unfolding(crate::specs::inner::Columns::columns))]
+pub(crate) fn columns<'a>(op: &BorrowedOp<'a>) -> [BorrowedColumn<'a>; 4]
+    ensures { result ≡ columns op.now }
 {
     match op {
         Op::EndFil => [Nothing, Nothing, Nothing, Nothing],
