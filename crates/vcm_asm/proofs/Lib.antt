@@ -1,5 +1,7 @@
 pub mod Structured
 pub mod Place
+pub mod Remainder
+pub mod NodeSteps
 pub mod Follow
 pub mod Numbering
 pub mod Targeted

@@ -1,16 +1,17 @@
 -- Where the statements of a block stand in the code.
 use Rattle.std.proofs.Common.{◌≡◌, ℕ, zero, suc, ◌+◌, ◌<◌, List, [], ◌∷◌, ◌++◌, length, Some, None, Bool, true, false, refl, sym, ap, ◌∙◌, subst, arith, append_assoc, length-append}
-use Rattle.std.specs.Prelude.{slice_get, IsTrue}
+use Rattle.std.specs.Prelude.{slice_get}
 use Rattle.std.proofs.Math.Seq.{get_or-append_seam}
 use Rattle.std.proofs.lemmas.Option.{slice_get-get_or}
 use Rattle.vcm_spec.specs.Program.{Label as Name, Node, Block, simple, label, jump, choice, choice_else, do_loop, meas, ending, done, then, size, sizes, node_at, number_at, label_index, is_same_label}
 use Rattle.vcm_spec.specs.Table.{if_true}
 use Rattle.vcm_asm.specs.inner.Once.{Absent, Once}
 use Rattle.vcm_asm.specs.inner.Depth.{NodeDeep, Deep}
-use Rattle.vcm_spec.specs.Whole.{is_end, is_closed, NodeJumps, Jumps}
+use Rattle.vcm_spec.specs.Whole.{NodeJumps, Jumps}
 use Rattle.vcm_spec.proofs.Labels.{same_label, label_itself, found_stands}
 use Rattle.vcm_code.specs.Code.{Else, EndIf, EndDo, EndMes, Statement, statement}
 use Rattle.vcm_asm.specs.Assembled.{Mark, node_marks, marks, node_code, block_code, place_in}
+use Rattle.vcm_spec.proofs.NeverStuck.{same_node}
 
 -- the statements stand in the code at this place
 abbrev pub HasAt : List Statement → ℕ → List Statement → Type 0
@@ -67,9 +68,6 @@ pub past_end : (b : Block) (base i : ℕ) → node_at b i ≡ None → number_at
 past_end done base i e = omega arith
 past_end (then n b) base zero e = cc
 past_end (then n b) base (suc i) e = omega (arith, past_end b (base + size n) i e)
-
-same_node : (m n : Node) → Some m ≡ Some n → m ≡ n
-same_node m n e = cc
 
 pub number_next : (b : Block) (base i : ℕ) (n : Node) → node_at b i ≡ Some n → number_at b base (suc i) ≡ number_at b base i + size n
 number_next done base i n e = cc
@@ -138,11 +136,3 @@ pub once_marked : (ms : List Mark) → Once ms → Marked (place_in ms) ms
 once_marked [] h = tt
 once_marked (m ∷ ms) h =
     (found_first m ms (is_same_label m.0 m.0) refl, still_marked m ms ms h.0 (once_marked ms h.1))
-
--- after a node that isn't ENDFIL there is another one
-pub closed_next : (b : Block) (i : ℕ) (n : Node) → IsTrue (is_closed b) → node_at b i ≡ Some n → is_end n ≡ false → (m : Node) × (node_at b (suc i) ≡ Some m)
-closed_next done i n c e other = absurd (cc)
-closed_next (then m done) zero n c e other = absurd (let same = ap is_end (same_node m n e) in cc)
-closed_next (then m done) (suc i) n c e other = cc
-closed_next (then m (then m' b)) zero n c e other = (m', refl)
-closed_next (then m (then m' b)) (suc i) n c e other = closed_next (then m' b) i n c e other

@@ -14,35 +14,37 @@ use Rattle.vcm_spec.specs.Control.{test_in, with_next_index, is_zero, is_past}
 use Rattle.vcm_spec.specs.Table.{if_true, unless_stopped}
 use Rattle.vcm_code.specs.declared.pair.Pair.{Pair}
 use Rattle.vcm_code.specs.Code.{Op, Plain, If, Else, EndIf, Do, EndDo, Label, JumpTo, Meas, EndMes, EndFil, Statement, statement}
-use Rattle.vcm_code.specs.CodeTable.{Place, place, pair, or_halt, turn, do_op, fetched, code_step}
+use Rattle.vcm_code.specs.CodeTable.{CodeState, code_state, pair, or_halt, turn, do_op, fetched, code_step}
 use Rattle.vcm_code.specs.CodeRules.{Goes, simple_is_carried_out, if_is_true, if_is_false, branch_leaves, branch_ends, do_is_past, do_is_begun, loop_is_past, loop_turns_again, label_is_passed, jump_lands, meas_is_begun, measurement_ends, Halts, simple_stops, test_stops, initial_value_stops, limit_stops, increment_stops, increment_is_zero, saved_increment_is_zero, index_overflows, program_ends, CanStep, CodeSteps, goes_on, stops, stays}
-use Rattle.vcm_code.proofs.CodeRulesHold.{zero_is, not_zero, with_increment, with_limit, with_initial, with_index}
+use Rattle.vcm_code.proofs.CodeRulesHold.{with_increment, with_limit, with_initial, with_index}
+use Rattle.vcm_spec.proofs.RulesComputed.{not_zero}
+use Rattle.vcm_spec.proofs.RulesHold.{zero_is}
 
 -- the statement goes on or stops, and this is the state after it
-data Moves (setup : Setup) (w : World) (n line : ℕ) (ps : List Pair) (op : Op) : Place → Type 0 where
-  goes : {after : World} {next : ℕ} {new : List Pair} → Goes setup w n ps op after next new → Moves setup w n line ps op (place after next new)
-  halts : {why : Stop} → Halts setup w ps op why → Moves setup w n line ps op (place (stopped w why n line) n ps)
+data Moves (setup : Setup) (w : World) (n line : ℕ) (ps : List Pair) (op : Op) : CodeState → Type 0 where
+  goes : {after : World} {next : ℕ} {new : List Pair} → Goes setup w n ps op after next new → Moves setup w n line ps op (code_state after next new)
+  halts : {why : Stop} → Halts setup w ps op why → Moves setup w n line ps op (code_state (stopped w why n line) n ps)
 
 module _ (setup : Setup) (w : World) (n line : ℕ) (ps : List Pair) where
-  abbrev M : Op → Place → Type 0
+  abbrev M : Op → CodeState → Type 0
   M op r = Moves setup w n line ps op r
 
-  simple_moves : (what : Simple (List Item)) (o : Outcome World) → effect items_value setup w what ≡ o → M (Plain what) (or_halt o w n line ps (λ x. place x (n + 1) ps))
+  simple_moves : (what : Simple (List Item)) (o : Outcome World) → effect items_value setup w what ≡ o → M (Plain what) (or_halt o w n line ps (λ x. code_state x (n + 1) ps))
   simple_moves what (Gives x) e = goes (simple_is_carried_out e)
   simple_moves what (Stops why) e = halts (simple_stops e)
 
-  if_moves : (test : List Item) (target : ℕ) (o : Outcome Bool) → test_in items_value w test ≡ o → M (If test target) (or_halt o w n line ps (λ t. if_true t (place w (n + 1) ps) (place w target ps)))
+  if_moves : (test : List Item) (target : ℕ) (o : Outcome Bool) → test_in items_value w test ≡ o → M (If test target) (or_halt o w n line ps (λ t. if_true t (code_state w (n + 1) ps) (code_state w target ps)))
   if_moves test target (Gives true) e = goes (if_is_true e)
   if_moves test target (Gives false) e = goes (if_is_false e)
   if_moves test target (Stops why) e = halts (test_stops e)
 
   module _ (v p target : ℕ) (initial limit increment : List Item) where
-    abbrev D : Place → Type 0
+    abbrev D : CodeState → Type 0
     D r = Moves setup w n line ps (Do v p initial limit increment target) r
 
     zero_moves : (a b c : ℤ) → value_in items_value w initial ≡ Gives a → value_in items_value w limit ≡ Gives b → value_in items_value w increment ≡ Gives c
         → (z : Bool) → is_zero c ≡ z → (t : Bool) → is_past (with_variable w v a) v b c ≡ t
-        → D (if_true z (place (stopped w ZeroStep n line) n ps) (if_true t (place (with_variable w v a) target (slice_set ps p (pair b c))) (place (with_variable w v a) (n + 1) (slice_set ps p (pair b c)))))
+        → D (if_true z (code_state (stopped w ZeroStep n line) n ps) (if_true t (code_state (with_variable w v a) target (slice_set ps p (pair b c))) (code_state (with_variable w v a) (n + 1) (slice_set ps p (pair b c)))))
     zero_moves a b c i j k true z t past = halts (increment_is_zero i j (k ∙ ap Gives (zero_is c z)))
     zero_moves a b c i j k false z true past = goes (do_is_past i j k (not_zero c z) past)
     zero_moves a b c i j k false z false past = goes (do_is_begun i j k (not_zero c z) past)
@@ -62,11 +64,11 @@ module _ (setup : Setup) (w : World) (n line : ℕ) (ps : List Pair) where
     initial_moves (Stops why) i = halts (initial_value_stops i)
 
   module _ (v p target : ℕ) where
-    abbrev E : Place → Type 0
+    abbrev E : CodeState → Type 0
     E r = Moves setup w n line ps (EndDo v p target) r
 
     past_moves : (limit increment : ℤ) → slice_get ps p ≡ Some (pair limit increment) → increment ≢ pos 0 → (x : World) → with_next_index w v increment ≡ Gives x
-        → (t : Bool) → is_past x v limit increment ≡ t → E (if_true t (place x (n + 1) ps) (place x target ps))
+        → (t : Bool) → is_past x v limit increment ≡ t → E (if_true t (code_state x (n + 1) ps) (code_state x target ps))
     past_moves limit increment e other x i true past = goes (loop_is_past e other i past)
     past_moves limit increment e other x i false past = goes (loop_turns_again e other i past)
 
@@ -76,7 +78,7 @@ module _ (setup : Setup) (w : World) (n line : ℕ) (ps : List Pair) where
     index_moves limit increment e other (Stops why) i = halts (index_overflows e other i)
 
     turn_zero : (limit increment : ℤ) → slice_get ps p ≡ Some (pair limit increment) → (z : Bool) → is_zero increment ≡ z
-        → E (if_true z (place (stopped w ZeroStep n line) n ps) (or_halt (with_next_index w v increment) w n line ps (with_index setup w n line ps v target limit increment)))
+        → E (if_true z (code_state (stopped w ZeroStep n line) n ps) (or_halt (with_next_index w v increment) w n line ps (with_index setup w n line ps v target limit increment)))
     turn_zero limit increment e true z = halts (saved_increment_is_zero (e ∙ ap (λ c. Some (pair limit c)) (zero_is increment z)))
     turn_zero limit increment e false z = index_moves limit increment e (not_zero increment z) (with_next_index w v increment) refl
 
@@ -97,11 +99,11 @@ module _ (setup : Setup) (w : World) (n line : ℕ) (ps : List Pair) where
   op_moves EndMes can = goes measurement_ends
   op_moves EndFil can = halts program_ends
 
-moves_step : (setup : Setup) (code : List Statement) (w : World) (n line : ℕ) (ps : List Pair) (op : Op) (r : Place) → w.stop ≡ None → slice_get code n ≡ Some (statement line op) → Moves setup w n line ps op r → CodeSteps setup code (place w n ps) r
+moves_step : (setup : Setup) (code : List Statement) (w : World) (n line : ℕ) (ps : List Pair) (op : Op) (r : CodeState) → w.stop ≡ None → slice_get code n ≡ Some (statement line op) → Moves setup w n line ps op r → CodeSteps setup code (code_state w n ps) r
 moves_step setup code w n line ps op _ none e (goes h) = goes_on none e h
 moves_step setup code w n line ps op _ none e (halts h) = stops none e h
 
-pub code_step_computed : (setup : Setup) (code : List Statement) (m : Place) → CanStep code m → CodeSteps setup code m (code_step setup code m)
+pub code_step_computed : (setup : Setup) (code : List Statement) (m : CodeState) → CanStep code m → CodeSteps setup code m (code_step setup code m)
 code_step_computed setup code m can = by m.world.stop refl (slice_get code m.next) refl
   where
     by : (o : Option StopPlace) → m.world.stop ≡ o → (s : Option Statement) → slice_get code m.next ≡ s → CodeSteps setup code m (unless_stopped o m (fetched setup s m.world m.next m.pairs))

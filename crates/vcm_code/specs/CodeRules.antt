@@ -10,10 +10,11 @@ use Rattle.vcm_spec.specs.Simple.{Simple}
 use Rattle.vcm_spec.specs.World.{World, with_variable, stopped}
 use Rattle.vcm_spec.specs.Outcome.{Gives, Stops}
 use Rattle.vcm_spec.specs.Effect.{effect, value_in}
-use Rattle.vcm_spec.specs.Control.{test_in, with_next_index, is_past}
+use Rattle.vcm_spec.specs.Control.{test_in, with_next_index}
 use Rattle.vcm_code.specs.declared.pair.Pair.{Pair}
 use Rattle.vcm_code.specs.Code.{Op, Plain, If, Else, EndIf, Do, EndDo, Label, JumpTo, Meas, EndMes, EndFil, Statement, statement}
-use Rattle.vcm_code.specs.CodeTable.{Place, place, pair, code_step, code_steps}
+use Rattle.vcm_code.specs.CodeTable.{CodeState, code_state, pair, code_step, code_steps}
+use Rattle.vcm_spec.specs.Rules.{IsPast, IsNotPast}
 
 -- an expression has this value in this state of the machine
 abbrev pub HasValue : World → List Item → ℤ → Type 0
@@ -34,14 +35,6 @@ IsFalseIn w test = test_in items_value w test ≡ Gives false
 -- a test is the reason for a stop
 abbrev pub TestFails : World → List Item → Stop → Type 0
 TestFails w test why = test_in items_value w test ≡ Stops why
-
--- the index of a loop is past the limit
-abbrev pub IsPast : World → ℕ → ℤ → ℤ → Type 0
-IsPast w v limit increment = is_past w v limit increment ≡ true
-
--- the index of a loop isn't past the limit
-abbrev pub IsNotPast : World → ℕ → ℤ → ℤ → Type 0
-IsNotPast w v limit increment = is_past w v limit increment ≡ false
 
 -- A statement with the number n goes on: the machine's state after it, the number of the next statement, and the pairs
 pub data Goes (setup : Setup) (w : World) (n : ℕ) (pairs : List Pair) : Op → World → ℕ → List Pair → Type 0 where
@@ -110,40 +103,40 @@ pub data Halts (setup : Setup) (w : World) (pairs : List Pair) : Op → Stop →
   program_ends : Halts setup w pairs EndFil Ended
 
 -- One step. A step that stops changes the stop alone, and a stopped state doesn't change
-pub data CodeSteps (setup : Setup) (code : List Statement) : Place → Place → Type 0 where
+pub data CodeSteps (setup : Setup) (code : List Statement) : CodeState → CodeState → Type 0 where
   goes_on : {w after : World} {n next line : ℕ} {pairs new : List Pair} {op : Op}
       → w.stop ≡ None → slice_get code n ≡ Some (statement line op) → Goes setup w n pairs op after next new
-      → CodeSteps setup code (place w n pairs) (place after next new)
+      → CodeSteps setup code (code_state w n pairs) (code_state after next new)
   stops : {w : World} {n line : ℕ} {pairs : List Pair} {op : Op} {why : Stop}
       → w.stop ≡ None → slice_get code n ≡ Some (statement line op) → Halts setup w pairs op why
-      → CodeSteps setup code (place w n pairs) (place (stopped w why n line) n pairs)
+      → CodeSteps setup code (code_state w n pairs) (code_state (stopped w why n line) n pairs)
   stays : {w : World} {n : ℕ} {pairs : List Pair} {where_it_stopped : StopPlace}
       → w.stop ≡ Some where_it_stopped
-      → CodeSteps setup code (place w n pairs) (place w n pairs)
+      → CodeSteps setup code (code_state w n pairs) (code_state w n pairs)
 
 -- n steps
-pub data CodeReaches (setup : Setup) (code : List Statement) : ℕ → Place → Place → Type 0 where
-  at_once : {m : Place} → CodeReaches setup code zero m m
-  by_a_step : {n : ℕ} {m next last : Place} → CodeSteps setup code m next → CodeReaches setup code n next last
+pub data CodeReaches (setup : Setup) (code : List Statement) : ℕ → CodeState → CodeState → Type 0 where
+  at_once : {m : CodeState} → CodeReaches setup code zero m m
+  by_a_step : {n : ℕ} {m next last : CodeState} → CodeSteps setup code m next → CodeReaches setup code n next last
       → CodeReaches setup code (suc n) m last
 
 -- a statement is next, and if it is an ENDDO, there is its pair
-pub record CanStep (code : List Statement) (m : Place) : Type 0 where
+pub record CanStep (code : List Statement) (m : CodeState) : Type 0 where
   pub next : Statement
   pub stands : slice_get code m.next ≡ Some next
   pub pair : (v p target : ℕ) → next.op ≡ EndDo v p target → (saved : Pair) × (slice_get m.pairs p ≡ Some saved)
 
 -- the computed step is what the rules say, where a statement is next and an ENDDO finds its pair
 abbrev pub CodeStepIsComputed : Type 0
-CodeStepIsComputed = (setup : Setup) (code : List Statement) (m : Place) → CanStep code m → CodeSteps setup code m (code_step setup code m)
+CodeStepIsComputed = (setup : Setup) (code : List Statement) (m : CodeState) → CanStep code m → CodeSteps setup code m (code_step setup code m)
 
 -- what the rules say is the computed step
 abbrev pub CodeStepIsUnique : Type 0
 CodeStepIsUnique =
-    (setup : Setup) (code : List Statement) (before after : Place) → CodeSteps setup code before after → after ≡ code_step setup code before
+    (setup : Setup) (code : List Statement) (before after : CodeState) → CodeSteps setup code before after → after ≡ code_step setup code before
 
 -- what the rules say of n steps is what is computed
 abbrev pub CodeRunIsUnique : Type 0
 CodeRunIsUnique =
-    (setup : Setup) (code : List Statement) (n : ℕ) (before after : Place) → CodeReaches setup code n before after
+    (setup : Setup) (code : List Statement) (n : ℕ) (before after : CodeState) → CodeReaches setup code n before after
     → after ≡ code_steps setup code n before

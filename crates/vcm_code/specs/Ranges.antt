@@ -3,12 +3,11 @@
 use Rattle.std.specs.Prelude.{ℕ, ◌<◌, ◌≤◌, List, [], ◌∷◌, length}
 use Rattle.std.specs.List.{AllByRecursion}
 use Rattle.vcm_spec.specs.declared.expression.Item.{Item}
-use Rattle.vcm_spec.specs.Setup.{Variable}
 use Rattle.vcm_spec.specs.Simple.{Simple, Goto, GoHome, Assign, Feat, PtMeas, SnSet, Trans, Rotate, Recall, Obtain, Output, Text}
 use Rattle.vcm_spec.specs.TextBytes.{IsText}
 use Rattle.vcm_expr.specs.NameBytes.{IsName}
-use Rattle.vcm_expr.specs.Symbols.{IsVariableName}
 use Rattle.vcm_code.specs.Code.{Op, Plain, If, Do, EndDo, Statement, Code}
+use Rattle.vcm_expr.specs.Names.{AreNamed}
 
 -- an expression has at least one item and at most 1,024
 abbrev pub IsShort : List Item → Type 0
@@ -43,17 +42,13 @@ abbrev pub AllInRange : List Statement → Type 0
 AllInRange [] = Unit {0}
 AllInRange (s ∷ ss) = OpInRange s.op × AllInRange ss
 
--- each variable has a variable's name
-abbrev pub AreVariables : List Variable → Type 0
-AreVariables vs = AllByRecursion (λ v. IsVariableName v.name) vs
-
 -- all of these are names
 abbrev pub AllAreNames : List (List ℕ) → Type 0
 AllAreNames ns = AllByRecursion IsName ns
 
 -- at most 4,096 variables, features and frames, all with their names, and at most 20,000 statements, all in range
 pub record IsInRange (c : Code) : Type 0 where
-  pub variables : (length c.tables.variables ≤ 4096) × AreVariables c.tables.variables
+  pub variables : (length c.tables.variables ≤ 4096) × AreNamed c.tables.variables
   pub features : (length c.tables.features ≤ 4096) × AllAreNames c.tables.features
   pub frames : (length c.tables.frames ≤ 4096) × AllAreNames c.tables.frames
   pub statements : (length c.statements ≤ 20000) × AllInRange c.statements

@@ -26,9 +26,9 @@ AllPlain [] = Unit {0}
 AllPlain (b ∷ bs) = (b ≢ 10) × AllPlain bs
 
 -- the first line of an input has these bytes, a line feed ends it or the input's end does, and this follows it
-abbrev pub Begins : List ℕ → List ℕ → Bool → List ℕ → Type 0
-Begins input raw true rest = (input ≡ raw ++ 10 ∷ rest) × AllPlain raw
-Begins input raw false rest = (input ≡ raw) × (rest ≡ []) × AllPlain raw × (0 < length raw)
+abbrev pub BeginsWithLine : List ℕ → List ℕ → Bool → List ℕ → Type 0
+BeginsWithLine input raw true rest = (input ≡ raw ++ 10 ∷ rest) × AllPlain raw
+BeginsWithLine input raw false rest = (input ≡ raw) × (rest ≡ []) × AllPlain raw × (0 < length raw)
 
 -- how many bytes it takes
 abbrev pub size : List ℕ → Bool → ℕ
@@ -52,7 +52,7 @@ kept_of raw = take 258 raw
 pub record HasLine (left : ℕ) (input : List ℕ) (after : Option (List ℕ)) (kept : List ℕ) (ended : Bool) (used : ℕ) : Type 0 where
   pub raw : List ℕ
   pub rest : List ℕ
-  pub begins : Begins input raw ended rest
+  pub begins : BeginsWithLine input raw ended rest
   pub kept_is : kept ≡ kept_of raw
   pub used_is : used ≡ size raw ended
   pub fits : used ≤ left
@@ -60,12 +60,12 @@ pub record HasLine (left : ℕ) (input : List ℕ) (after : Option (List ℕ)) (
 
 -- what reading a line found, and what of the input is left: where the line is longer, one byte behind the limit is taken too; where the
 -- reader failed, no byte behind it
-abbrev pub Reads : ℕ → List ℕ → Option (List ℕ) → Result (Option RawLine) ServeFault → Type 0
-Reads left input after (Ok None) = (input ≡ []) × (after ≡ Some [])
-Reads left input after (Ok (Some l)) = HasLine left input after l.kept l.ended l.used
-Reads left input after (Err TooMuch) = IsLong left input × (after ≡ Some (drop (left + 1) input))
-Reads left input after (Err Read) = TakesAtMost left input after
-Reads left input after (Err Write) = ⊥
+abbrev pub ReadsLine : ℕ → List ℕ → Option (List ℕ) → Result (Option RawLine) ServeFault → Type 0
+ReadsLine left input after (Ok None) = (input ≡ []) × (after ≡ Some [])
+ReadsLine left input after (Ok (Some l)) = HasLine left input after l.kept l.ended l.used
+ReadsLine left input after (Err TooMuch) = IsLong left input × (after ≡ Some (drop (left + 1) input))
+ReadsLine left input after (Err Read) = TakesAtMost left input after
+ReadsLine left input after (Err Write) = ⊥
 
 -- a line takes no more bytes than it may
 abbrev pub IsWithin : ℕ → Result (Option RawLine) ServeFault → Type 0

@@ -12,8 +12,8 @@ use Rattle.vcm_spec.specs.Setup.{Tables, Variable}
 use Rattle.vcm_console.specs.declared.reply.Reason.{Reason}
 use Rattle.vcm_console.specs.declared.reply.Reason.TheVariants.{Stopped, Break, Watch, Count}
 use Rattle.vcm_console.specs.declared.reply.Standing.{Standing}
-use Rattle.vcm_console.specs.declared.reply.Refusal.{Refusal}
-use Rattle.vcm_console.specs.declared.reply.Refusal.TheVariants.{UnknownCommand, NoSuchName, NoSuchStatement, CountOutOfRange, BeforeStart}
+use Rattle.vcm_console.specs.declared.reply.CommandRefusal.{CommandRefusal}
+use Rattle.vcm_console.specs.declared.reply.CommandRefusal.TheVariants.{UnknownCommand, NoSuchName, NoSuchStatement, CountOutOfRange, BeforeStart}
 use Rattle.vcm_console.specs.declared.reply.Reply.{Reply}
 use Rattle.vcm_console.specs.declared.reply.Reply.TheVariants.{Set, Cleared, Found, Stands, Ran, Watched, Unwatched, Value, Features}
 use Rattle.vcm_console.specs.declared.reply.Reply.TheVariants.{Listed, Lines, Bye, Refused}
@@ -65,7 +65,7 @@ reason_text tables (Watch v) = codes "watch " ++ (variable_name tables v ++ code
 reason_text tables Count = codes "count "
 
 -- why a command is refused
-abbrev pub refusal_text : Refusal → List ℕ
+abbrev pub refusal_text : CommandRefusal → List ℕ
 refusal_text UnknownCommand = codes "G01 UnknownCommand\n"
 refusal_text NoSuchName = codes "G02 NoSuchName\n"
 refusal_text NoSuchStatement = codes "G03 NoSuchStatement\n"
@@ -99,11 +99,11 @@ reply_text code lines Bye = codes "bye\n"
 reply_text code lines (Refused e) = refusal_text e
 
 -- the feature, the statement and the output lines that a reply speaks of are there
-abbrev pub Fits : Code → List (List ℕ) → Reply → Type 0
-Fits code lines (Features f n a) = f < length code.tables.features
-Fits code lines (Listed n) = n < length code.statements
-Fits code lines (Lines n k) = k ≤ length lines
-Fits code lines _ = Unit {0}
+abbrev pub ReplyFits : Code → List (List ℕ) → Reply → Type 0
+ReplyFits code lines (Features f n a) = f < length code.tables.features
+ReplyFits code lines (Listed n) = n < length code.statements
+ReplyFits code lines (Lines n k) = k ≤ length lines
+ReplyFits code lines _ = Unit {0}
 
 -- memory was refused, and this is where the session stands
 abbrev pub halt_text : Tables → Standing → List ℕ

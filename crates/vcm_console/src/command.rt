@@ -1,6 +1,6 @@
 //! Commands of the debugger.
 
-use crate::reply::Refusal;
+use crate::reply::CommandRefusal;
 use std::marker::Model;
 use vcm_expr::Name;
 
@@ -30,7 +30,7 @@ impl Count {
     /// The count that is this number.
     ///
     /// Errors: `CountOutOfRange`, where it isn't from 1 to 1,000,000.
-    pub fn new(number: u64) -> Result<Count, Refusal>
+    pub fn new(number: u64) -> Result<Count, CommandRefusal>
         ensures is { result ≡ counted number }
         ensures few { IfOk result (λ c. c ≤ 1000000) }
     {
@@ -39,7 +39,7 @@ impl Count {
                 number: number as u32,
             })
         } else {
-            Err(Refusal::CountOutOfRange)
+            Err(CommandRefusal::CountOutOfRange)
         }
     }
 
@@ -55,7 +55,7 @@ impl Count {
 
 /// A variable as it is named in a command: a local one by the number of its expansion, which is 0 outside macros.
 #[derive(Drop)]
-pub struct Wanted {
+pub struct VariableRef {
     pub name: Name,
     pub expansion: u64,
 }
@@ -68,10 +68,10 @@ pub enum Command {
     Line(u64),
     Step(Count),
     Run(Count),
-    Watch(Wanted),
-    Unwatch(Wanted),
+    Watch(VariableRef),
+    Unwatch(VariableRef),
     Where,
-    Show(Wanted),
+    Show(VariableRef),
     Feat(Name),
     List(Option<u64>),
     Out(Count),

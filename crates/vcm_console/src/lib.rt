@@ -8,9 +8,9 @@ mod reading;
 mod replies;
 mod reply;
 
-pub use command::{Command, Count, Wanted};
+pub use command::{Command, Count, VariableRef};
 pub use line::{Line, RawLine};
 pub use parsing::parse_command;
 pub use reading::{next_byte, read_line};
 pub use replies::{write_halt, write_reply};
-pub use reply::{Halted, Reason, Refusal, Reply, ServeFault, Standing};
+pub use reply::{CommandRefusal, Halted, Reason, Reply, ServeFault, Standing};

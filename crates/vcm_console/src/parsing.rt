@@ -7,8 +7,8 @@ ghost use Rattle.vcm_num.specs.Literals.{AllDigits, number_after};
 ghost use Rattle.vcm_console.specs.Parsing.{steps_of, first_word, behind_word, number_of, optional_number, count_of, may_stand_in_name, feature_name_of, begins_with_letter, variable_name_of, expansion_of, name_len, wanted_of, alone, command_of_words, command_or_refusal, command_of};
 ghost use Rattle.vcm_lines.specs.Bytes.{upper};
 
-use crate::command::{Command, Count, Wanted};
-use crate::reply::{Refusal, Reply};
+use crate::command::{Command, Count, VariableRef};
+use crate::reply::{CommandRefusal, Reply};
 use vcm_expr::Name;
 use vcm_lines::upper;
 use vcm_num::is;
@@ -60,17 +60,17 @@ fn value_of(digits: &[u8]) -> u64
 }
 
 // A number of one to ten digits.
-fn number(word: &[u8]) -> Result<u64, Refusal>
+fn number(word: &[u8]) -> Result<u64, CommandRefusal>
     ensures { result ≡ number_of word.now }
 {
     if word.is_empty() || word.len() > 10 || !all_digits(word) {
-        return Err(Refusal::UnknownCommand);
+        return Err(CommandRefusal::UnknownCommand);
     }
     Ok(value_of(word))
 }
 
 // A number that may be absent.
-fn optional(word: &[u8]) -> Result<Option<u64>, Refusal>
+fn optional(word: &[u8]) -> Result<Option<u64>, CommandRefusal>
     ensures { result ≡ optional_number word.now }
 {
     if word.is_empty() {
@@ -83,7 +83,7 @@ fn optional(word: &[u8]) -> Result<Option<u64>, Refusal>
 }
 
 // A count, or the one for none.
-fn count(absent: u64, word: &[u8]) -> Result<Count, Refusal>
+fn count(absent: u64, word: &[u8]) -> Result<Count, CommandRefusal>
     ensures is { result ≡ count_of absent word.now }
     ensures few { IfOk result (λ n. n ≤ 1000000) }
 {
@@ -120,11 +120,11 @@ fn raised(bytes: &[u8]) -> Name
 }
 
 // The name of a feature.
-fn label(word: &[u8]) -> Result<Name, Refusal>
+fn label(word: &[u8]) -> Result<Name, CommandRefusal>
     ensures { result ≡ feature_name_of word.now }
 {
     if word.is_empty() || word.len() > 16 || !is_plain(word) {
-        return Err(Refusal::UnknownCommand);
+        return Err(CommandRefusal::UnknownCommand);
     }
     Ok(raised(word))
 }
@@ -140,18 +140,18 @@ fn begins_with_letter(word: &[u8]) -> bool
 }
 
 // The name of a variable.
-fn name(word: &[u8]) -> Result<Name, Refusal>
+fn name(word: &[u8]) -> Result<Name, CommandRefusal>
     ensures { result ≡ variable_name_of word.now }
 {
     if begins_with_letter(word) {
         label(word)
     } else {
-        Err(Refusal::UnknownCommand)
+        Err(CommandRefusal::UnknownCommand)
     }
 }
 
 // The number of an expansion, behind its sign.
-fn expansion(bytes: &[u8]) -> Result<u64, Refusal>
+fn expansion(bytes: &[u8]) -> Result<u64, CommandRefusal>
     ensures { result ≡ expansion_of bytes.now }
 {
     match bytes {
@@ -168,13 +168,13 @@ fn name_len(bytes: &[u8]) -> usize
 }
 
 // A variable's name and its expansion.
-fn wanted(word: &[u8]) -> Result<Wanted, Refusal>
+fn wanted(word: &[u8]) -> Result<VariableRef, CommandRefusal>
     ensures { result ≡ wanted_of word.now }
 {
     let (front, back) = word.split_at(name_len(word));
     match name(front) {
         Ok(name) => match expansion(back) {
-            Ok(expansion) => Ok(Wanted { name, expansion }),
+            Ok(expansion) => Ok(VariableRef { name, expansion }),
             Err(refusal) => Err(refusal),
         },
         Err(refusal) => Err(refusal),
@@ -182,19 +182,19 @@ fn wanted(word: &[u8]) -> Result<Wanted, Refusal>
 }
 
 // A command without an argument.
-fn alone(what: Command, argument: &[u8]) -> Result<Command, Refusal>
+fn alone(what: Command, argument: &[u8]) -> Result<Command, CommandRefusal>
     ensures is { result ≡ alone what argument.now }
     ensures same { IfOk result (λ w. w ≡ what) }
 {
     if argument.is_empty() {
         Ok(what)
     } else {
-        Err(Refusal::UnknownCommand)
+        Err(CommandRefusal::UnknownCommand)
     }
 }
 
 // The command of a word and its argument.
-fn command_of(word: &[u8], argument: &[u8]) -> Result<Command, Refusal>
+fn command_of(word: &[u8], argument: &[u8]) -> Result<Command, CommandRefusal>
     ensures is { result ≡ command_of_words word.now argument.now }
     ensures few { IfOk result (λ w. steps_of w ≤ 1000000) }
 {
@@ -227,12 +227,12 @@ fn command_of(word: &[u8], argument: &[u8]) -> Result<Command, Refusal>
     } else if is(word, b"quit") {
         alone(Command::Quit, argument)
     } else {
-        Err(Refusal::UnknownCommand)
+        Err(CommandRefusal::UnknownCommand)
     }
 }
 
 // The command that a line spells.
-fn parsed(line: &[u8]) -> Result<Command, Refusal>
+fn parsed(line: &[u8]) -> Result<Command, CommandRefusal>
     ensures is { result ≡ command_or_refusal line.now }
     ensures few { IfOk result (λ w. steps_of w ≤ 1000000) }
 {
@@ -240,7 +240,7 @@ fn parsed(line: &[u8]) -> Result<Command, Refusal>
     let (argument, rest) = cut_word(rest);
     let (more, _) = cut_word(rest);
     if line.len() > MAX_LINE || !more.is_empty() {
-        return Err(Refusal::UnknownCommand);
+        return Err(CommandRefusal::UnknownCommand);
     }
     command_of(word, argument)
 }

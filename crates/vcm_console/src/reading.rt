@@ -1,7 +1,7 @@
 //! Lines of a reader, byte by byte.
 
 ghost use Rattle.std.specs.Prelude.{◌≡◌, ◌==◌, ◌<◌, ◌^◌, IfSome, IfErr, if◌then◌else◌, false};
-ghost use Rattle.vcm_console.specs.Reading.{IsNext, Reads, IsWithin, IsReadOrMuch};
+ghost use Rattle.vcm_console.specs.Reading.{IsNext, ReadsLine, IsWithin, IsReadOrMuch};
 
 use crate::line::{Line, RawLine};
 use crate::reply::ServeFault;
@@ -22,7 +22,7 @@ pub fn next_byte<R: Read>(reader: &mut R) -> Result<Option<u8>, ServeFault>
 // The next line of at most so many bytes, if there is one.
 pub fn read_line<R: Read>(reader: &mut R, left: usize) -> Result<Option<RawLine>, ServeFault>
     requires { left < 2 ^ 32 }
-    ensures line { IfSome (R.remaining reader.old) (λ input. Reads left input (R.remaining reader.new) result) }
+    ensures line { IfSome (R.remaining reader.old) (λ input. ReadsLine left input (R.remaining reader.new) result) }
     ensures within { IsWithin left result }
     ensures faults { IfErr result (λ f. IsReadOrMuch f) }
 {

@@ -4,10 +4,10 @@ ghost use Rattle.std.specs.Prelude.{◌≡◌, ◌++◌, ◌<◌, ◌≤◌, ◌
 ghost use Rattle.vcm_num.specs.Written.{Wrote};
 ghost use Rattle.vcm_output.specs.Output.{output_lines};
 ghost use Rattle.vcm_report.specs.Printed.{feature_text};
-ghost use Rattle.vcm_console.specs.Replies.{number_sign, kind_value, standing_end, standing_text, refusal_text, reason_text, variable_name, value_text, lines_head, statement_line, reply_text, halt_text, Fits};
+ghost use Rattle.vcm_console.specs.Replies.{number_sign, kind_value, standing_end, standing_text, refusal_text, reason_text, variable_name, value_text, lines_head, statement_line, reply_text, halt_text, ReplyFits};
 ghost use Rattle.vcm_spec.specs.declared.words.Source.TheVariants.{Nominal, Actual};
 
-use crate::reply::{Reason, Refusal, Reply, Standing};
+use crate::reply::{CommandRefusal, Reason, Reply, Standing};
 use itoa::Buffer;
 use std::io::Write;
 use vcm_expr::Kind;
@@ -85,15 +85,15 @@ fn write_standing<W: Write>(
 }
 
 // A refusal as text.
-fn refusal_text(refusal: Refusal) -> &'static [u8]
+fn refusal_text(refusal: CommandRefusal) -> &'static [u8]
     ensures { result.now ≡ refusal_text refusal }
 {
     match refusal {
-        Refusal::UnknownCommand => b"G01 UnknownCommand\n",
-        Refusal::NoSuchName => b"G02 NoSuchName\n",
-        Refusal::NoSuchStatement => b"G03 NoSuchStatement\n",
-        Refusal::CountOutOfRange => b"G04 CountOutOfRange\n",
-        Refusal::BeforeStart => b"G05 BeforeStart\n",
+        CommandRefusal::UnknownCommand => b"G01 UnknownCommand\n",
+        CommandRefusal::NoSuchName => b"G02 NoSuchName\n",
+        CommandRefusal::NoSuchStatement => b"G03 NoSuchStatement\n",
+        CommandRefusal::CountOutOfRange => b"G04 CountOutOfRange\n",
+        CommandRefusal::BeforeStart => b"G05 BeforeStart\n",
     }
 }
 
@@ -255,7 +255,7 @@ pub fn write_reply<W: Write>(
     writer: &mut W,
 ) -> Result<(), WriteFault>
     requires names { tables.now ≡ loaded.now.tables }
-    requires fits { Fits loaded.now lines.now reply }
+    requires fits { ReplyFits loaded.now lines.now reply }
     ensures { Wrote (W.contents writer.old) (W.contents writer.new) (reply_text loaded.now lines.now reply) result }
 {
     match reply {

@@ -26,7 +26,7 @@ pub struct Standing {
 
 /// Why a command isn't carried out.
 #[derive(Clone, Copy)]
-pub enum Refusal {
+pub enum CommandRefusal {
     UnknownCommand,
     NoSuchName,
     NoSuchStatement,
@@ -62,7 +62,7 @@ pub enum Reply {
     /// The session ends.
     Bye,
     /// The command isn't carried out, and nothing has changed.
-    Refused(Refusal),
+    Refused(CommandRefusal),
 }
 
 /// A growth of memory was refused in a command, after so many of its steps.

@@ -7,7 +7,7 @@ use Rattle.vcm_spec.specs.Setup.{Setup}
 use Rattle.vcm_spec.specs.Stepping.{unless_stopped}
 use Rattle.vcm_spec.proofs.Steps.{none_effective, effective_reaches}
 use Rattle.vcm_code.specs.Code.{Statement}
-use Rattle.vcm_code.specs.CodeTable.{Place, place_stop, code_step, fetched}
+use Rattle.vcm_code.specs.CodeTable.{CodeState, place_stop, code_step, fetched}
 use Rattle.vcm_machine.specs.Running.{Running, setup, moved, started, later, WantsMemory}
 use Rattle.vcm_machine.proofs.LawLemmas.{add_up}
 use Rattle.vcm_debug.specs.Halting.{effective}
@@ -25,7 +25,7 @@ pub running_effective : (n : ℕ) (m : Running) → m.place.world.stop ≡ None 
 running_effective n m e = ap (λ o. unless_stopped o 0 (suc (effective n (later 1 m)))) e
 
 -- a step at a stop
-place_stays : (s : Setup) (code : List Statement) (m : Place) (p : StopPlace) → place_stop m ≡ Some p → code_step s code m ≡ m
+place_stays : (s : Setup) (code : List Statement) (m : CodeState) (p : StopPlace) → place_stop m ≡ Some p → code_step s code m ≡ m
 place_stays s code m p e = ap (λ o. unless_stopped o m (fetched s (slice_get code m.next) m.world m.next m.pairs)) e
 
 -- only the steps before a stop count

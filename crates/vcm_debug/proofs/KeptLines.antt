@@ -4,11 +4,11 @@ use Rattle.std.specs.Prelude.{nat_le, ◌&&◌, slice_index_or, if◌then◌else
 use Rattle.std.proofs.Common.{inl, inr}
 use Rattle.std.proofs.lemmas.List.{take_all}
 use Rattle.vcm_console.specs.declared.reply.Reply.TheVariants.{Refused}
-use Rattle.vcm_console.specs.declared.reply.Refusal.TheVariants.{UnknownCommand}
+use Rattle.vcm_console.specs.declared.reply.CommandRefusal.TheVariants.{UnknownCommand}
 use Rattle.vcm_debug.specs.Debugging.{Debugging}
 use Rattle.vcm_console.specs.Parsing.{has_at_most_two_words, command_of_words, first_word, behind_word, replied, command_of}
 use Rattle.vcm_console.specs.Reading.{kept_of}
-use Rattle.vcm_debug.specs.Serving.{content, AnswersTo, IsTurn}
+use Rattle.vcm_debug.specs.Serving.{content, AnswersTo, IsExchange}
 
 too_long : (n : ℕ) → 256 < n → nat_le n 256 ≡ false
 too_long n l = grind arith
@@ -26,7 +26,7 @@ long_content : (bs : List ℕ) (ended : Bool) → length bs ≤ length (content 
 long_content bs true = long_return (slice_index_or bs (length bs - 1) 0 == 13) bs
 long_content bs false = omega arith
 
-same_turn : (old new : Debugging) (a b text : List ℕ) (last : Bool) → 0 < length a → 0 < length b → command_of a ≡ command_of b → IsTurn old a new text last → IsTurn old b new text last
+same_turn : (old new : Debugging) (a b text : List ℕ) (last : Bool) → 0 < length a → 0 < length b → command_of a ≡ command_of b → IsExchange old a new text last → IsExchange old b new text last
 same_turn old new [] b text last l m e t = absurd (omega arith)
 same_turn old new (x ∷ a) [] text last l m e t = absurd (omega arith)
 same_turn old new (x ∷ a) (y ∷ b) text last l m e t = record {
@@ -39,11 +39,11 @@ same_turn old new (x ∷ a) (y ∷ b) text last l m e t = record {
 short_or_long : (n m : ℕ) → (n ≤ m) ⊎ (m < n)
 short_or_long n m = grind arith
 
-pub kept_turn : (old new : Debugging) (raw text : List ℕ) (ended last : Bool) → IsTurn old (content (kept_of raw) ended) new text last → IsTurn old (content raw ended) new text last
+pub kept_turn : (old new : Debugging) (raw text : List ℕ) (ended last : Bool) → IsExchange old (content (kept_of raw) ended) new text last → IsExchange old (content raw ended) new text last
 kept_turn old new raw text ended last t = by (short_or_long (length raw) 258)
   where
-    by : (length raw ≤ 258) ⊎ (258 < length raw) → IsTurn old (content raw ended) new text last
-    by (inl l) = subst (λ x. IsTurn old (content x ended) new text last) (take_all 258 raw l) t
+    by : (length raw ≤ 258) ⊎ (258 < length raw) → IsExchange old (content raw ended) new text last
+    by (inl l) = subst (λ x. IsExchange old (content x ended) new text last) (take_all 258 raw l) t
     by (inr l) =
         let k = length-take 258 raw in
         let a = long_content (kept_of raw) ended in

@@ -3,7 +3,7 @@ use Rattle.std.proofs.Common.{◌≡◌, ℕ, zero, suc, ◌+◌, ◌<◌, Bool,
 use Rattle.vcm_machine.specs.Running.{Running, later}
 use Rattle.vcm_console.specs.declared.reply.Reason.{Reason}
 use Rattle.vcm_console.specs.declared.reply.Reason.TheVariants.{Count}
-use Rattle.vcm_debug.specs.Halting.{reason, reason_after, EndsBy, RunEnds, halt, run_end}
+use Rattle.vcm_debug.specs.Halting.{reason, reason_after, EndsBy, RunEnds, ends_after, run_end}
 use Rattle.vcm_debug.specs.Laws.{RunEndIsComputed, RunEndIsUnique}
 
 one_later : (k j : ℕ) (found : Option Reason) (why : Reason) → EndsBy k j found why → EndsBy (suc k) (suc j) found why
@@ -18,7 +18,7 @@ one_reason k j None why other e f = e.1 ∙ sym f.1
 module _ (breakpoints watches : List Bool) where
   pub Found : ℕ → ℕ → Running → Type 0
   Found k done s =
-      (j : ℕ) × (why : Reason) × RunEnds breakpoints watches s k j why × (run_end breakpoints watches k done s ≡ halt (done + suc j) why)
+      (j : ℕ) × (why : Reason) × RunEnds breakpoints watches s k j why × (run_end breakpoints watches k done s ≡ ends_after (done + suc j) why)
 
   -- the end of the first step
   now_ends : (m done : ℕ) (s : Running) (why : Reason) → reason breakpoints watches s (later 1 s) ≡ Some why → Found (suc m) done s
@@ -32,7 +32,7 @@ module _ (breakpoints watches : List Bool) where
           none_earlier = λ i l. absurd (omega arith);
           ends = subst (λ r. EndsBy (suc m) 1 r why) (sym e) refl;
         },
-        ap (λ r. elim r [ Some w ↦ halt (suc done) w | None ↦ run_end breakpoints watches m (suc done) (later 1 s) ]) e ∙ ap (λ n. halt n why) (sym k),
+        ap (λ r. elim r [ Some w ↦ ends_after (suc done) w | None ↦ run_end breakpoints watches m (suc done) (later 1 s) ]) e ∙ ap (λ n. ends_after n why) (sym k),
       )
 
   last_ends : (done : ℕ) (s : Running) → reason breakpoints watches s (later 1 s) ≡ None → Found 1 done s
@@ -46,7 +46,7 @@ module _ (breakpoints watches : List Bool) where
           none_earlier = λ i l. absurd (omega arith);
           ends = subst (λ r. EndsBy 1 1 r Count) (sym e) (refl, refl);
         },
-        ap (λ r. elim r [ Some w ↦ halt (suc done) w | None ↦ run_end breakpoints watches 0 (suc done) (later 1 s) ]) e ∙ ap (λ n. halt n Count) (sym k),
+        ap (λ r. elim r [ Some w ↦ ends_after (suc done) w | None ↦ run_end breakpoints watches 0 (suc done) (later 1 s) ]) e ∙ ap (λ n. ends_after n Count) (sym k),
       )
 
   none_before : (s : Running) (j : ℕ) → reason breakpoints watches s (later 1 s) ≡ None → ((i : ℕ) → i < j → reason_after breakpoints watches (later 1 s) i ≡ None)
@@ -65,7 +65,7 @@ module _ (breakpoints watches : List Bool) where
           none_earlier = none_before s f.0 e f.2.none_earlier;
           ends = one_later m (suc f.0) _ f.1 f.2.ends;
         },
-        ap (λ r. elim r [ Some w ↦ halt (suc done) w | None ↦ run_end breakpoints watches m (suc done) (later 1 s) ]) e ∙ f.3 ∙ ap (λ n. halt n f.1) k,
+        ap (λ r. elim r [ Some w ↦ ends_after (suc done) w | None ↦ run_end breakpoints watches m (suc done) (later 1 s) ]) e ∙ f.3 ∙ ap (λ n. ends_after n f.1) k,
       )
 
   first_or : (m done : ℕ) (s : Running) (r : Option Reason) → reason breakpoints watches s (later 1 s) ≡ r → ((n : ℕ) → m ≡ suc n → Found m (suc done) (later 1 s)) → Found (suc m) done s
@@ -82,7 +82,7 @@ unfolding Found
 run_end_computed breakpoints watches s k l =
     let f = found breakpoints watches k 0 s l in
     let e : 0 + suc f.0 ≡ suc f.0 = omega arith in
-    (f.0, f.1, f.2, f.3 ∙ ap (λ n. halt n f.1) e)
+    (f.0, f.1, f.2, f.3 ∙ ap (λ n. ends_after n f.1) e)
 
 -- of two ends neither is earlier
 module _ (breakpoints watches : List Bool) (s : Running) (k : ℕ) where
@@ -93,13 +93,13 @@ module _ (breakpoints watches : List Bool) (s : Running) (k : ℕ) where
       let z = last.0 in
       absurd (omega arith)
 
-  pub one_end : (i j : ℕ) (a b : Reason) → RunEnds breakpoints watches s k i a → RunEnds breakpoints watches s k j b → halt (suc i) a ≡ halt (suc j) b
+  pub one_end : (i j : ℕ) (a b : Reason) → RunEnds breakpoints watches s k i a → RunEnds breakpoints watches s k j b → ends_after (suc i) a ≡ ends_after (suc j) b
   one_end i j a b e f =
       let n : ¬ (i < j) = not_earlier i j a b e f in
       let m : ¬ (j < i) = not_earlier j i b a f e in
       let same : i ≡ j = omega (arith, n, m) in
       let t = one_reason k (suc j) _ a b (subst (λ x. EndsBy k (suc x) (reason_after breakpoints watches s x) a) same e.ends) f.ends in
-      ap (λ x. halt (suc x) a) same ∙ ap (halt (suc j)) t
+      ap (λ x. ends_after (suc x) a) same ∙ ap (ends_after (suc j)) t
 
 pub run_end_unique : RunEndIsUnique
 run_end_unique breakpoints watches s k j why e =

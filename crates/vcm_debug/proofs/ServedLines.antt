@@ -8,9 +8,9 @@ use Rattle.vcm_num.proofs.KnownWrites.{appends_nothing, appends_more, front_then
 use Rattle.vcm_console.specs.declared.line.RawLine.{RawLine}
 use Rattle.vcm_console.specs.declared.reply.ServeFault.{ServeFault}
 use Rattle.vcm_console.specs.declared.reply.ServeFault.TheVariants.{Read, Write, TooMuch}
-use Rattle.vcm_console.specs.Reading.{TakesAtMost, IsNextOf, IsNext, Begins, size, HasLine, Reads, IsReadOrMuch}
+use Rattle.vcm_console.specs.Reading.{TakesAtMost, IsNextOf, IsNext, BeginsWithLine, size, HasLine, ReadsLine, IsReadOrMuch}
 use Rattle.vcm_debug.specs.Debugging.{Debugging}
-use Rattle.vcm_debug.specs.Serving.{content, IsTurn, Serves, input_ends, no_line, no_byte, no_read, last_line, one_line, WritesSome, Writes, Served}
+use Rattle.vcm_debug.specs.Serving.{content, IsExchange, Serves, input_ends, no_line, no_byte, no_read, last_line, one_line, WritesSome, Writes, Served}
 use Rattle.vcm_debug.specs.inner.Turns.{HasTurned, IsBye}
 use Rattle.vcm_debug.proofs.KeptLines.{kept_turn}
 
@@ -26,7 +26,7 @@ writes_then a b c xs ys (Err Read) h w = appends_more a b c xs ys _ refl h w
 writes_then a b c xs ys (Err TooMuch) h w = appends_more a b c xs ys _ refl h w
 
 -- what stands behind a line
-behind_line : (input raw rest : List ℕ) (ended : Bool) → Begins input raw ended rest → rest ≡ drop (size raw ended) input
+behind_line : (input raw rest : List ℕ) (ended : Bool) → BeginsWithLine input raw ended rest → rest ≡ drop (size raw ended) input
 behind_line input raw rest true b =
     let n : length (raw ++ 10 ∷ []) ≡ length raw + 1 = length-append raw (10 ∷ []) in
     sym (ap (drop (length raw + 1)) (b.0 ∙ sym (append_assoc raw (10 ∷ []) rest)) ∙ drop_at (raw ++ 10 ∷ []) rest (length raw + 1) n)
@@ -64,10 +64,10 @@ module _ (n₀ left₀ : ℕ) (d₀ : Debugging) (old : Option (List ℕ)) where
 
   -- a line, and the others
   pub turned : (input : List ℕ) (n left : ℕ) (d new_d : Debugging) (after later new now : Option (List ℕ)) (l : RawLine) → Going input (suc n) left d after new
-      → IfSome after (λ i. Reads left i later (Ok (Some l))) → HasTurned d (content l.kept l.ended) new_d new now (Ok false) → Going input n (left - l.used) new_d later now
+      → IfSome after (λ i. ReadsLine left i later (Ok (Some l))) → HasTurned d (content l.kept l.ended) new_d new now (Ok false) → Going input n (left - l.used) new_d later now
   turned input n left d new_d after later new now l g reads t =
-      let h = subst (λ a. IfSome a (λ i. Reads left i later (Ok (Some l)))) g.after_is reads in
-      let turn = kept_turn d new_d h.raw t.0 l.ended false (subst (λ k. IsTurn d (content k l.ended) new_d t.0 false) h.kept_is t.1) in
+      let h = subst (λ a. IfSome a (λ i. ReadsLine left i later (Ok (Some l)))) g.after_is reads in
+      let turn = kept_turn d new_d h.raw t.0 l.ended false (subst (λ k. IsExchange d (content k l.ended) new_d t.0 false) h.kept_is t.1) in
       let f = g.few in
       let u = h.fits in
       record {
@@ -110,30 +110,30 @@ module _ (n₀ left₀ : ℕ) (d₀ : Debugging) (old : Option (List ℕ)) where
 
   -- the last line, or one whose text could not be written
   pub last_turned : (input : List ℕ) (n left : ℕ) (d new_d : Debugging) (after later new now : Option (List ℕ)) (l : RawLine) → Going input (suc n) left d after new
-      → IfSome after (λ i. Reads left i later (Ok (Some l))) → HasTurned d (content l.kept l.ended) new_d new now (Ok true) → Served n₀ left₀ d₀ input later old now (Ok tt) new_d
+      → IfSome after (λ i. ReadsLine left i later (Ok (Some l))) → HasTurned d (content l.kept l.ended) new_d new now (Ok true) → Served n₀ left₀ d₀ input later old now (Ok tt) new_d
   last_turned input n left d new_d after later new now l g reads t =
-      let h = subst (λ a. IfSome a (λ i. Reads left i later (Ok (Some l)))) g.after_is reads in
-      let turn = kept_turn d new_d h.raw t.0 l.ended true (subst (λ k. IsTurn d (content k l.ended) new_d t.0 true) h.kept_is t.1) in
+      let h = subst (λ a. IfSome a (λ i. ReadsLine left i later (Ok (Some l)))) g.after_is reads in
+      let turn = kept_turn d new_d h.raw t.0 l.ended true (subst (λ k. IsExchange d (content k l.ended) new_d t.0 true) h.kept_is t.1) in
       ends_all input (suc n) left d new_d after later new now t.0 (Ok tt) g
       (last_line new_d h.raw h.rest l.ended true h.begins (subst (λ u. u ≤ left) h.used_is h.fits) turn refl) t.2 (line_taken input (suc n) left d after later new l g h)
 
   pub fault_turned : (input : List ℕ) (n left : ℕ) (d new_d : Debugging) (after later new now : Option (List ℕ)) (l : RawLine) (e : WriteFault) → Going input (suc n) left d after new
-      → IfSome after (λ i. Reads left i later (Ok (Some l))) → HasTurned d (content l.kept l.ended) new_d new now (Err e) → Served n₀ left₀ d₀ input later old now (Err Write) new_d
+      → IfSome after (λ i. ReadsLine left i later (Ok (Some l))) → HasTurned d (content l.kept l.ended) new_d new now (Err e) → Served n₀ left₀ d₀ input later old now (Err Write) new_d
   fault_turned input n left d new_d after later new now l e g reads t =
-      let h = subst (λ a. IfSome a (λ i. Reads left i later (Ok (Some l)))) g.after_is reads in
-      let turn = kept_turn d new_d h.raw t.0 l.ended t.1 (subst (λ k. IsTurn d (content k l.ended) new_d t.0 t.1) h.kept_is t.2) in
+      let h = subst (λ a. IfSome a (λ i. ReadsLine left i later (Ok (Some l)))) g.after_is reads in
+      let turn = kept_turn d new_d h.raw t.0 l.ended t.1 (subst (λ k. IsExchange d (content k l.ended) new_d t.0 t.1) h.kept_is t.2) in
       ends_all input (suc n) left d new_d after later new now t.0 (Err Write) g
       (last_line new_d h.raw h.rest l.ended t.1 h.begins (subst (λ u. u ≤ left) h.used_is h.fits) turn tt) t.3 (line_taken input (suc n) left d after later new l g h)
 
   -- the reader failed, or a line is too long
   pub fault_read : (input : List ℕ) (n left : ℕ) (d : Debugging) (after later new : Option (List ℕ)) (f : ServeFault) → Going input (suc n) left d after new
-      → IfSome after (λ i. Reads left i later (Err f)) → IsReadOrMuch f → Served n₀ left₀ d₀ input later old new (Err f) d
+      → IfSome after (λ i. ReadsLine left i later (Err f)) → IsReadOrMuch f → Served n₀ left₀ d₀ input later old new (Err f) d
   fault_read input n left d after later new Read g reads k =
-      let h = subst (λ a. IfSome a (λ i. Reads left i later (Err Read))) g.after_is reads in
+      let h = subst (λ a. IfSome a (λ i. ReadsLine left i later (Err Read))) g.after_is reads in
       let m = h.1 in
       ends_all input (suc n) left d d after later new new [] (Err Read) g no_read (appends_nothing new) (h.0, omega (arith, m), h.2)
   fault_read input n left d after later new TooMuch g reads k =
-      let h = subst (λ a. IfSome a (λ i. Reads left i later (Err TooMuch))) g.after_is reads in
+      let h = subst (λ a. IfSome a (λ i. ReadsLine left i later (Err TooMuch))) g.after_is reads in
       ends_all input (suc n) left d d after later new new [] (Err TooMuch) g (no_byte h.0) (appends_nothing new) (left + 1, omega arith, h.1)
   fault_read input n left d after later new Write g reads k = absurd k
 

@@ -5,7 +5,7 @@ use Rattle.vcm_machine.specs.Running.{Running, later, WantsMemory}
 use Rattle.vcm_machine.proofs.LawLemmas.{add_up}
 use Rattle.vcm_console.specs.declared.reply.Reason.{Reason}
 use Rattle.vcm_console.specs.declared.reply.Reason.TheVariants.{Break, Count}
-use Rattle.vcm_debug.specs.Halting.{changed_from, watch_reason, break_reason, stop_reason, reason, reason_after, halt, run_end}
+use Rattle.vcm_debug.specs.Halting.{changed_from, watch_reason, break_reason, stop_reason, reason, reason_after, ends_after, run_end}
 use Rattle.vcm_debug.specs.inner.Going.{HasRun}
 
 -- a breakpoint at the next statement of a machine that has not stopped
@@ -56,11 +56,11 @@ module _ (breakpoints watches : List Bool) (k : ℕ) (old : Running) where
     found = same_reason ∙ ap (λ x. reason breakpoints watches s x) (one_on ∙ ap (λ n. later n old) (let e : done + 1 ≡ suc done = omega arith in e))
 
     turn : (r : Option Reason) → reason breakpoints watches s t ≡ r
-        → run_end breakpoints watches (k - done) done s ≡ elim r [ Some why ↦ halt (suc done) why | None ↦ run_end breakpoints watches (k - suc done) (suc done) t ]
+        → run_end breakpoints watches (k - done) done s ≡ elim r [ Some why ↦ ends_after (suc done) why | None ↦ run_end breakpoints watches (k - suc done) (suc done) t ]
     turn r e =
         let n : k - done ≡ suc (k - suc done) = omega arith in
         ap (λ m. run_end breakpoints watches m done s) n
-        ∙ ap (λ x. elim x [ Some why ↦ halt (suc done) why | None ↦ run_end breakpoints watches (k - suc done) (suc done) t ]) e
+        ∙ ap (λ x. elim x [ Some why ↦ ends_after (suc done) why | None ↦ run_end breakpoints watches (k - suc done) (suc done) t ]) e
 
     -- the run goes on
     pub goes : reason breakpoints watches new after ≡ None → HasCome after (done + 1)
@@ -79,7 +79,7 @@ module _ (breakpoints watches : List Bool) (k : ℕ) (old : Running) where
     pub ends : (why : Reason) → reason breakpoints watches new after ≡ Some why → HasRun breakpoints watches k old after (Ok (done + 1, why))
     ends why e =
         let n : done + 1 ≡ suc done = omega arith in
-        (after_is ∙ one_on, ap (λ m. halt m why) n ∙ sym (turn (Some why) (sym same_reason ∙ e)) ∙ come.rest, omega arith)
+        (after_is ∙ one_on, ap (λ m. ends_after m why) n ∙ sym (turn (Some why) (sym same_reason ∙ e)) ∙ come.rest, omega arith)
 
     pub come_is : after ≡ later (done + 1) old
     come_is = after_is ∙ one_on

@@ -8,23 +8,23 @@ use Rattle.vcm_num.specs.declared.memory.WriteFault.{WriteFault}
 use Rattle.vcm_code.specs.declared.code.Code.{Code}
 use Rattle.vcm_console.specs.declared.command.Command.{Command}
 use Rattle.vcm_console.specs.declared.reply.Halted.{Halted}
-use Rattle.vcm_console.specs.declared.reply.Refusal.{Refusal}
+use Rattle.vcm_console.specs.declared.reply.CommandRefusal.{CommandRefusal}
 use Rattle.vcm_console.specs.declared.reply.Reply.{Reply}
 use Rattle.vcm_console.specs.declared.reply.Reply.TheVariants.{Refused}
 use Rattle.vcm_console.specs.Parsing.{command_or_refusal, replied, command_of}
-use Rattle.vcm_console.specs.Replies.{Fits}
+use Rattle.vcm_console.specs.Replies.{ReplyFits}
 use Rattle.vcm_debug.specs.Debugging.{Debugging}
 use Rattle.vcm_debug.specs.Session.{Carries}
-use Rattle.vcm_debug.specs.Serving.{answer_text, AnswersTo, is_bye, Turn, IsTurn}
+use Rattle.vcm_debug.specs.Serving.{answer_text, AnswersTo, is_bye, Exchange, IsExchange}
 use Rattle.vcm_debug.specs.inner.Turns.{HasTurned}
 
-turn_of : (old new : Debugging) (line text : List ℕ) (last : Bool) → 0 < length line → Turn old line new text last → IsTurn old line new text last
+turn_of : (old new : Debugging) (line text : List ℕ) (last : Bool) → 0 < length line → Exchange old line new text last → IsExchange old line new text last
 turn_of old new [] text last l t = absurd (omega arith)
 turn_of old new (b ∷ bs) text last l t = t
 
 -- a line was answered
 told_turn : (old new : Debugging) (line : List ℕ) (told : Result Reply Halted) → 0 < length line → AnswersTo old (command_of line) new told
-    → IsTurn old line new (answer_text new told) (is_bye told)
+    → IsExchange old line new (answer_text new told) (is_bye told)
 told_turn old new line told l a = turn_of old new line _ _ l (record { told = told; answers = a; text_is = refl; last_is = refl })
 
 -- the answer was written and handed on
@@ -61,12 +61,12 @@ same_reply : (a b : Reply) → refusal a ≡ refusal b → a ≡ b
 same_reply a b e = cc
 
 -- such a reply names nothing
-pub refused_fits : (code : Code) (lines : List (List ℕ)) (line : List ℕ) (reply : Reply) → Err reply ≡ command_of line → Fits code lines reply
+pub refused_fits : (code : Code) (lines : List (List ℕ)) (line : List ℕ) (reply : Reply) → Err reply ≡ command_of line → ReplyFits code lines reply
 refused_fits code lines line reply e = by (command_or_refusal line) e
   where
-    by : (r : Result Command Refusal) → Err reply ≡ replied r → Fits code lines reply
+    by : (r : Result Command CommandRefusal) → Err reply ≡ replied r → ReplyFits code lines reply
     by (Ok what) e = absurd cc
-    by (Err f) e = subst (Fits code lines) (sym (same_reply reply (Refused f) e)) tt
+    by (Err f) e = subst (ReplyFits code lines) (sym (same_reply reply (Refused f) e)) tt
 
 pub nonempty : (line : List ℕ) (b : Bool) → b ≡ (length line == 0) → b ≡ false → 0 < length line
 nonempty [] b e f = absurd (let t : true ≡ false = sym e ∙ f in cc)

@@ -3,7 +3,7 @@ use Rattle.std.specs.Prelude.{ℕ, Bool, false, List, length, replicate}
 use Rattle.vcm_spec.specs.Workpiece.{Workpiece}
 use Rattle.vcm_code.specs.declared.code.Code.{Code}
 use Rattle.vcm_code.specs.Ops.{code_of}
-use Rattle.vcm_code.specs.CodeTable.{Place}
+use Rattle.vcm_code.specs.CodeTable.{CodeState}
 use Rattle.vcm_machine.specs.Running.{Running, started, later}
 
 -- A session: the workpiece and the code that it speaks of, how many steps were taken so far, for each statement whether it has a
@@ -34,5 +34,5 @@ abbrev pub shown : Debugging → Running
 shown d = after d.part d.code d.count
 
 -- where it stands
-abbrev pub now : Debugging → Place
+abbrev pub now : Debugging → CodeState
 now d = (shown d).place

@@ -57,20 +57,20 @@ pub record RunEnds (breakpoints watches : List Bool) (start : Running) (k j : �
   pub ends : EndsBy k (suc j) (reason_after breakpoints watches start j) why
 
 -- after how many steps a run ends, and why
-pub record Halt : Type 0 where
+pub record RunEnd : Type 0 where
   pub steps : ℕ
   pub why : Reason
 
 -- a run that ends after j steps for this reason
-abbrev pub halt : ℕ → Reason → Halt
-halt j why = record { steps = j; why = why }
+abbrev pub ends_after : ℕ → Reason → RunEnd
+ends_after j why = record { steps = j; why = why }
 
 -- the same, computed: at most k more steps from the machine `now`, after `done` of them
-abbrev pub run_end : List Bool → List Bool → ℕ → ℕ → Running → Halt
-run_end breakpoints watches zero done now = halt done Count
+abbrev pub run_end : List Bool → List Bool → ℕ → ℕ → Running → RunEnd
+run_end breakpoints watches zero done now = ends_after done Count
 run_end breakpoints watches (suc k) done now =
     elim (reason breakpoints watches now (later 1 now)) [
-      | Some why ↦ halt (suc done) why
+      | Some why ↦ ends_after (suc done) why
       | None ↦ run_end breakpoints watches k (suc done) (later 1 now)
     ]
 

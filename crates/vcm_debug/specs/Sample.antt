@@ -12,12 +12,12 @@ use Rattle.vcm_spec.specs.Control.{is_zero, is_past, with_next_index}
 use Rattle.vcm_spec.specs.Samples.Parts.{one_block}
 use Rattle.vcm_code.specs.declared.code.Code.{Code}
 use Rattle.vcm_code.specs.declared.op.Op.TheVariants as ops
-use Rattle.vcm_console.specs.declared.command.Wanted.{Wanted}
+use Rattle.vcm_console.specs.declared.command.VariableRef.{VariableRef}
 use Rattle.vcm_console.specs.declared.command.Command.{Command}
 use Rattle.vcm_console.specs.declared.command.Command.TheVariants as c
 use Rattle.vcm_console.specs.declared.reply.Reason.TheVariants.{Break, Watch, Stopped}
 use Rattle.vcm_console.specs.declared.reply.Standing.{Standing}
-use Rattle.vcm_console.specs.declared.reply.Refusal.TheVariants.{NoSuchStatement, BeforeStart}
+use Rattle.vcm_console.specs.declared.reply.CommandRefusal.TheVariants.{NoSuchStatement, BeforeStart}
 use Rattle.vcm_console.specs.declared.reply.Reply.{Reply}
 use Rattle.vcm_console.specs.declared.reply.Reply.TheVariants.{Set, Cleared, Found, Stands, Ran, Watched, Value, Lines, Refused}
 use Rattle.vcm_debug.specs.Debugging.{Debugging, opened}
@@ -42,7 +42,7 @@ replies d [] = []
 replies d (w ∷ ws) = (answer d w).reply ∷ replies (answer d w).session ws
 
 -- the variable I, outside macros
-abbrev i : Wanted
+abbrev i : VariableRef
 i = record { name = codes "I"; expansion = 0 }
 
 -- after so many steps, before this statement of this line

@@ -10,7 +10,7 @@ use Rattle.vcm_console.specs.declared.reply.Reply.TheVariants.{Bye}
 use Rattle.vcm_console.specs.declared.reply.ServeFault.{ServeFault}
 use Rattle.vcm_console.specs.declared.reply.ServeFault.TheVariants.{Read, Write, TooMuch}
 use Rattle.vcm_console.specs.Parsing.{command_of}
-use Rattle.vcm_console.specs.Reading.{TakesAtMost, IsLong, Begins, size}
+use Rattle.vcm_console.specs.Reading.{TakesAtMost, IsLong, BeginsWithLine, size}
 use Rattle.vcm_console.specs.Replies.{reply_text, halt_text}
 use Rattle.vcm_debug.specs.Debugging.{Debugging, now}
 use Rattle.vcm_debug.specs.Session.{standing, Carries}
@@ -45,16 +45,16 @@ content raw true = without_return raw
 content raw false = raw
 
 -- What a session writes to a line: nothing where the line is empty, else the text of its answer; and whether that ends the session
-pub record Turn (old : Debugging) (line : List ℕ) (new : Debugging) (text : List ℕ) (last : Bool) : Type 0 where
+pub record Exchange (old : Debugging) (line : List ℕ) (new : Debugging) (text : List ℕ) (last : Bool) : Type 0 where
   pub told : Result Reply Halted
   pub answers : AnswersTo old (command_of line) new told
   pub text_is : text ≡ answer_text new told
   pub last_is : last ≡ is_bye told
 
 -- an empty line changes nothing and is not answered; any other line has its turn
-abbrev pub IsTurn : Debugging → List ℕ → Debugging → List ℕ → Bool → Type 0
-IsTurn old [] new text last = (new ≡ old) × (text ≡ []) × (last ≡ false)
-IsTurn old (b ∷ bs) new text last = Turn old (b ∷ bs) new text last
+abbrev pub IsExchange : Debugging → List ℕ → Debugging → List ℕ → Bool → Type 0
+IsExchange old [] new text last = (new ≡ old) × (text ≡ []) × (last ≡ false)
+IsExchange old (b ∷ bs) new text last = Exchange old (b ∷ bs) new text last
 
 -- how serving may end at a line: well where `bye` was its answer, with a failed write at any line
 abbrev pub MayEnd : Bool → Result (Unit {0}) ServeFault → Type 0
@@ -75,12 +75,12 @@ pub data Serves : ℕ → ℕ → Debugging → List ℕ → List ℕ → Result
   -- a line that is the last one
   last_line : {n left : ℕ} {d : Debugging} {input text : List ℕ} {r : Result (Unit {0}) ServeFault} (new : Debugging) (raw rest : List ℕ)
       (ended last : Bool)
-      → Begins input raw ended rest → size raw ended ≤ left → IsTurn d (content raw ended) new text last → MayEnd last r
+      → BeginsWithLine input raw ended rest → size raw ended ≤ left → IsExchange d (content raw ended) new text last → MayEnd last r
       → Serves (suc n) left d input text r new
   -- a line, and the others
   one_line : {n left : ℕ} {d end : Debugging} {input : List ℕ} {r : Result (Unit {0}) ServeFault} (new : Debugging)
       (raw rest text more : List ℕ) (ended : Bool)
-      → Begins input raw ended rest → size raw ended ≤ left → IsTurn d (content raw ended) new text false
+      → BeginsWithLine input raw ended rest → size raw ended ≤ left → IsExchange d (content raw ended) new text false
       → Serves n (left - size raw ended) new rest more r end → Serves (suc n) left d input (text ++ more) r end
 
 -- a front of a text was written; all of it only where it could not be handed on

@@ -6,24 +6,24 @@ use Rattle.std.specs.Str.{bytes_eq}
 use Rattle.vcm_spec.specs.declared.feature.Feature.{Feature}
 use Rattle.vcm_spec.specs.declared.stop.StopPlace.{StopPlace}
 use Rattle.vcm_spec.specs.Setup.{Variable}
-use Rattle.vcm_console.specs.declared.command.Wanted.{Wanted}
+use Rattle.vcm_console.specs.declared.command.VariableRef.{VariableRef}
 use Rattle.vcm_console.specs.declared.command.Command.{Command}
 use Rattle.vcm_console.specs.declared.command.Command.TheVariants as c
 use Rattle.vcm_console.specs.declared.reply.Reason.{Reason}
 use Rattle.vcm_console.specs.declared.reply.Reason.TheVariants.{Stopped}
 use Rattle.vcm_console.specs.declared.reply.Standing.{Standing}
-use Rattle.vcm_console.specs.declared.reply.Refusal.{Refusal}
-use Rattle.vcm_console.specs.declared.reply.Refusal.TheVariants.{NoSuchName, NoSuchStatement, BeforeStart}
+use Rattle.vcm_console.specs.declared.reply.CommandRefusal.{CommandRefusal}
+use Rattle.vcm_console.specs.declared.reply.CommandRefusal.TheVariants.{NoSuchName, NoSuchStatement, BeforeStart}
 use Rattle.vcm_console.specs.declared.reply.Reply.{Reply}
 use Rattle.vcm_console.specs.declared.reply.Reply.TheVariants.{Set, Cleared, Found, Stands, Ran, Watched, Unwatched, Value, Features}
 use Rattle.vcm_console.specs.declared.reply.Reply.TheVariants.{Listed, Lines, Bye, Refused}
 use Rattle.vcm_console.specs.declared.reply.Halted.{Halted}
 use Rattle.vcm_code.specs.declared.code.Code.{Code}
-use Rattle.vcm_code.specs.CodeTable.{Place}
+use Rattle.vcm_code.specs.CodeTable.{CodeState}
 use Rattle.vcm_fields.specs.Parts.{Line}
 use Rattle.vcm_machine.specs.Running.{WantsMemory}
 use Rattle.vcm_debug.specs.Debugging.{Debugging, shown, now}
-use Rattle.vcm_debug.specs.Halting.{Halt, halt, run_end, reason_after, effective}
+use Rattle.vcm_debug.specs.Halting.{RunEnd, ends_after, run_end, reason_after, effective}
 
 -- the source line that a statement was read from
 abbrev pub line_in : Option Line → ℕ
@@ -35,7 +35,7 @@ abbrev pub line_of : Code → ℕ → ℕ
 line_of code n = line_in (slice_get code.statements n)
 
 -- where a code stands at a place, after so many steps
-abbrev pub standing : Code → ℕ → Place → Standing
+abbrev pub standing : Code → ℕ → CodeState → Standing
 standing code n s = record { steps = n; next = s.next; line = line_of code s.next; stop = s.world.stop }
 
 -- a feature that a list holds at an index, if the list goes so far and the feature is recorded
@@ -65,12 +65,12 @@ abbrev pub stands : Debugging → Answer
 stands d = answers d (Stands (standing d.code d.count (now d)))
 
 -- a run of at most k steps from a state; at a stop it does nothing
-abbrev pub run_or_stay : Option StopPlace → Halt → Halt
-run_or_stay (Some p) run = halt 0 Stopped
+abbrev pub run_or_stay : Option StopPlace → RunEnd → RunEnd
+run_or_stay (Some p) run = ends_after 0 Stopped
 run_or_stay None run = run
 
 -- how a run of at most k steps ends from where the session stands
-abbrev pub run_of : Debugging → ℕ → Halt
+abbrev pub run_of : Debugging → ℕ → RunEnd
 run_of d k = run_or_stay (now d).world.stop (run_end d.breakpoints d.watches k 0 (shown d))
 
 -- a run ended after n steps in all, for this reason
@@ -78,7 +78,7 @@ abbrev pub ran_to : Debugging → ℕ → Reason → Answer
 ran_to d n why = answers (at_count d n) (Ran why (standing d.code n (now (at_count d n))))
 
 -- the session after a run that ended so, and its reply
-abbrev pub ran : Debugging → Halt → Answer
+abbrev pub ran : Debugging → RunEnd → Answer
 ran d h = ran_to d (d.count + h.steps) h.why
 
 -- what a command answers that needs the statement of this number
@@ -86,7 +86,7 @@ abbrev pub at_statement : Debugging → ℕ → Answer → Answer
 at_statement d n a = if nat_lt n (length d.code.statements) then a else answers d (Refused NoSuchStatement)
 
 -- what a command answers at the index that was found, or why it is refused
-abbrev pub where_found : Debugging → Option ℕ → Refusal → (ℕ → Answer) → Answer
+abbrev pub where_found : Debugging → Option ℕ → CommandRefusal → (ℕ → Answer) → Answer
 where_found d None why go = answers d (Refused why)
 where_found d (Some i) why go = go i
 
@@ -95,11 +95,11 @@ abbrev pub statement_on : Debugging → ℕ → Option ℕ
 statement_on d line = position_from (λ s. s.line == line) 0 d.code.statements
 
 -- whether a variable has the wanted name and belongs to the wanted expansion
-abbrev pub is_wanted : Wanted → Variable → Bool
+abbrev pub is_wanted : VariableRef → Variable → Bool
 is_wanted v x = bytes_eq x.name v.name && (x.expansion == v.expansion)
 
 -- the lowest variable that is wanted
-abbrev pub variable_of : Debugging → Wanted → Option ℕ
+abbrev pub variable_of : Debugging → VariableRef → Option ℕ
 variable_of d v = position (is_wanted v) d.code.tables.variables
 
 -- the lowest feature of a name

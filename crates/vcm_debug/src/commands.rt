@@ -8,7 +8,7 @@ use crate::finding::{recorded, statement_on};
 use crate::forward::{run_on, step_on, values};
 use crate::session::Session;
 use std::alloc::Global;
-use vcm_console::{Halted, Reason, Refusal, Reply, Wanted};
+use vcm_console::{CommandRefusal, Halted, Reason, Reply, VariableRef};
 use vcm_expr::Name;
 use vcm_machine::Machine;
 use vcm_motion::Part;
@@ -16,7 +16,7 @@ use vcm_num::NoMemory;
 
 impl<'a, P: Part> Session<'a, P> {
     ghost use Rattle.std.specs.Prelude.{◌≡◌, ◌<◌, ◌≤◌, ◌+◌, ◌^◌, IfOk, Some, None};
-    ghost use Rattle.vcm_console.specs.Replies.{Fits};
+    ghost use Rattle.vcm_console.specs.Replies.{ReplyFits};
     ghost use Rattle.vcm_console.specs.declared.command.Command.TheVariants as c;
     ghost use Rattle.vcm_debug.specs.Debugging.{after, now};
     ghost use Rattle.vcm_debug.specs.Session.{Carries, answer, at_count, standing};
@@ -25,14 +25,14 @@ impl<'a, P: Part> Session<'a, P> {
     pub(crate) fn set_break(&mut self, number: u64) -> Reply
         ensures is { record { reply = result; session = self.new } ≡ answer self.old (c.Break number) }
         ensures same { self.new.count ≡ self.old.count }
-        ensures fits { Fits self.new.code (now self.new).world.lines result }
+        ensures fits { ReplyFits self.new.code (now self.new).world.lines result }
     {
         match self.statement(number) {
             Some(n) => {
                 self.breakpoints[n as usize] = true;
                 Reply::Set(n)
             }
-            None => Reply::Refused(Refusal::NoSuchStatement),
+            None => Reply::Refused(CommandRefusal::NoSuchStatement),
         }
     }
 
@@ -40,73 +40,73 @@ impl<'a, P: Part> Session<'a, P> {
     pub(crate) fn clear_break(&mut self, number: u64) -> Reply
         ensures is { record { reply = result; session = self.new } ≡ answer self.old (c.Clear number) }
         ensures same { self.new.count ≡ self.old.count }
-        ensures fits { Fits self.new.code (now self.new).world.lines result }
+        ensures fits { ReplyFits self.new.code (now self.new).world.lines result }
     {
         match self.statement(number) {
             Some(n) => {
                 self.breakpoints[n as usize] = false;
                 Reply::Cleared(n)
             }
-            None => Reply::Refused(Refusal::NoSuchStatement),
+            None => Reply::Refused(CommandRefusal::NoSuchStatement),
         }
     }
 
     /// The lowest statement of a source line.
     pub(crate) fn find_line(&self, line: u64) -> Reply
         ensures is { record { reply = result; session = self.now } ≡ answer self.now (c.Line line) }
-        ensures fits { Fits self.now.code (now self.now).world.lines result }
+        ensures fits { ReplyFits self.now.code (now self.now).world.lines result }
     {
         match statement_on(self.loaded, line) {
             Some(n) => Reply::Found(line, n),
-            None => Reply::Refused(Refusal::NoSuchStatement),
+            None => Reply::Refused(CommandRefusal::NoSuchStatement),
         }
     }
 
     /// Watches a variable.
-    pub(crate) fn watch(&mut self, wanted: &Wanted) -> Reply
+    pub(crate) fn watch(&mut self, wanted: &VariableRef) -> Reply
         ensures is { record { reply = result; session = self.new } ≡ answer self.old (c.Watch wanted.now) }
         ensures same { self.new.count ≡ self.old.count }
-        ensures fits { Fits self.new.code (now self.new).world.lines result }
+        ensures fits { ReplyFits self.new.code (now self.new).world.lines result }
     {
         match self.variable(wanted) {
             Some(v) => {
                 self.watches[v as usize] = true;
                 Reply::Watched(v)
             }
-            None => Reply::Refused(Refusal::NoSuchName),
+            None => Reply::Refused(CommandRefusal::NoSuchName),
         }
     }
 
     /// No longer watches a variable.
-    pub(crate) fn unwatch(&mut self, wanted: &Wanted) -> Reply
+    pub(crate) fn unwatch(&mut self, wanted: &VariableRef) -> Reply
         ensures is { record { reply = result; session = self.new } ≡ answer self.old (c.Unwatch wanted.now) }
         ensures same { self.new.count ≡ self.old.count }
-        ensures fits { Fits self.new.code (now self.new).world.lines result }
+        ensures fits { ReplyFits self.new.code (now self.new).world.lines result }
     {
         match self.variable(wanted) {
             Some(v) => {
                 self.watches[v as usize] = false;
                 Reply::Unwatched(v)
             }
-            None => Reply::Refused(Refusal::NoSuchName),
+            None => Reply::Refused(CommandRefusal::NoSuchName),
         }
     }
 
     /// The value of a variable.
-    pub(crate) fn show(&self, wanted: &Wanted) -> Reply
+    pub(crate) fn show(&self, wanted: &VariableRef) -> Reply
         ensures is { record { reply = result; session = self.now } ≡ answer self.now (c.Show wanted.now) }
-        ensures fits { Fits self.now.code (now self.now).world.lines result }
+        ensures fits { ReplyFits self.now.code (now self.now).world.lines result }
     {
         match self.variable(wanted) {
             Some(v) => Reply::Value(v, values(&self.machine)[v as usize]),
-            None => Reply::Refused(Refusal::NoSuchName),
+            None => Reply::Refused(CommandRefusal::NoSuchName),
         }
     }
 
     /// A feature, nominal and actual.
     pub(crate) fn feat(&self, name: &Name) -> Reply
         ensures is { record { reply = result; session = self.now } ≡ answer self.now (c.Feat name.now) }
-        ensures fits { Fits self.now.code (now self.now).world.lines result }
+        ensures fits { ReplyFits self.now.code (now self.now).world.lines result }
     {
         let world = self.machine.world();
         match self.feature(name) {
@@ -115,19 +115,19 @@ impl<'a, P: Part> Session<'a, P> {
                 recorded(world.nominal(), f),
                 recorded(world.actual(), f),
             ),
-            None => Reply::Refused(Refusal::NoSuchName),
+            None => Reply::Refused(CommandRefusal::NoSuchName),
         }
     }
 
     /// The listing line of a statement, or of the next one.
     pub(crate) fn list(&self, number: Option<u64>) -> Reply
         ensures is { record { reply = result; session = self.now } ≡ answer self.now (c.List number) }
-        ensures fits { Fits self.now.code (now self.now).world.lines result }
+        ensures fits { ReplyFits self.now.code (now self.now).world.lines result }
     {
         match number {
             Some(number) => match self.statement(number) {
                 Some(n) => Reply::Listed(n),
-                None => Reply::Refused(Refusal::NoSuchStatement),
+                None => Reply::Refused(CommandRefusal::NoSuchStatement),
             },
             None => Reply::Listed(self.next()),
         }
@@ -138,7 +138,7 @@ impl<'a, P: Part> Session<'a, P> {
         requires { self.old.count + k < 2 ^ 64 }
         ensures carried { Carries self.old (c.Step k) self.new result }
         ensures few { self.new.count ≤ self.old.count + k }
-        ensures fits { IfOk result (Fits self.new.code (now self.new).world.lines) }
+        ensures fits { IfOk result (ReplyFits self.new.code (now self.new).world.lines) }
     {
         match step_on(
             alloc,
@@ -165,7 +165,7 @@ impl<'a, P: Part> Session<'a, P> {
         requires { self.old.count + k < 2 ^ 64 }
         ensures carried { Carries self.old (c.Run k) self.new result }
         ensures few { self.new.count ≤ self.old.count + k }
-        ensures fits { IfOk result (Fits self.new.code (now self.new).world.lines) }
+        ensures fits { IfOk result (ReplyFits self.new.code (now self.new).world.lines) }
     {
         if self.machine.world().stop().is_some() {
             return Ok(Reply::Ran(Reason::Stopped, self.standing()));
@@ -197,10 +197,10 @@ impl<'a, P: Part> Session<'a, P> {
     pub(crate) fn back(&mut self, alloc: Global, k: u32) -> Result<Reply, Halted>
         ensures carried { Carries self.old (c.Back k) self.new result }
         ensures few { self.new.count ≤ self.old.count }
-        ensures fits { IfOk result (Fits self.new.code (now self.new).world.lines) }
+        ensures fits { IfOk result (ReplyFits self.new.code (now self.new).world.lines) }
     {
         if u64::from(k) > self.count {
-            return Ok(Reply::Refused(Refusal::BeforeStart));
+            return Ok(Reply::Refused(CommandRefusal::BeforeStart));
         }
         let count = self.count - u64::from(k);
         match machine_at(alloc, self.loaded, self.part, &self.checkpoints, count) {
@@ -224,7 +224,7 @@ impl<'a, P: Part> Session<'a, P> {
     /// The last output lines.
     pub(crate) fn out(&self, k: u32) -> Reply
         ensures is { record { reply = result; session = self.now } ≡ answer self.now (c.Out k) }
-        ensures fits { Fits self.now.code (now self.now).world.lines result }
+        ensures fits { ReplyFits self.now.code (now self.now).world.lines result }
     {
         let lines = self.machine.world().lines().len();
         Reply::Lines(lines, lines.min(k as usize))

@@ -5,7 +5,7 @@ ghost use Rattle.std.specs.List.{position_from};
 ghost use Rattle.std.specs.Str.{bytes_eq};
 ghost use Rattle.vcm_debug.specs.Session.{is_wanted, recorded};
 
-use vcm_console::Wanted;
+use vcm_console::VariableRef;
 use vcm_expr::Name;
 use vcm_loader::Loaded;
 use vcm_spec::Feature;
@@ -35,7 +35,7 @@ pub(crate) fn recorded(features: &[Option<Feature>], index: u16) -> Option<Featu
 }
 
 // Whether a variable has this name.
-fn is_wanted(wanted: &Wanted, variable: &Variable) -> bool
+fn is_wanted(wanted: &VariableRef, variable: &Variable) -> bool
     ensures { result ≡ is_wanted wanted.now variable.now }
 {
     variable.name().as_bytes() == wanted.name.as_bytes()
@@ -43,7 +43,7 @@ fn is_wanted(wanted: &Wanted, variable: &Variable) -> bool
 }
 
 // The place of the first variable of this name.
-fn place_of_variable(wanted: &Wanted, variables: &[Variable]) -> Option<usize>
+fn place_of_variable(wanted: &VariableRef, variables: &[Variable]) -> Option<usize>
     ensures place { result ≡ position (is_wanted wanted.now) variables.now }
     ensures within { IfSome result (λ i. i < length variables.now) }
 {
@@ -51,7 +51,7 @@ fn place_of_variable(wanted: &Wanted, variables: &[Variable]) -> Option<usize>
 }
 
 /// The lowest variable of this name, of at most 4,096.
-pub(crate) fn variable_of(tables: &Tables, wanted: &Wanted) -> Option<u16>
+pub(crate) fn variable_of(tables: &Tables, wanted: &VariableRef) -> Option<u16>
     requires { length tables.now.variables ≤ 4096 }
     ensures place { result ≡ position (is_wanted wanted.now) tables.now.variables }
     ensures within { IfSome result (λ i. i < length tables.now.variables) }

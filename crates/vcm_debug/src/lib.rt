@@ -12,5 +12,6 @@ mod session;
 pub use serving::serve;
 pub use session::Session;
 pub use vcm_console::{
-    Command, Count, Halted, Reason, Refusal, Reply, ServeFault, Standing, Wanted, parse_command,
+    Command, CommandRefusal, Count, Halted, Reason, Reply, ServeFault, Standing, VariableRef,
+    parse_command,
 };

@@ -4,7 +4,7 @@ ghost use Rattle.std.specs.Prelude.{◌≡◌, ◌<◌, ◌≤◌, ◌+◌, ◌*
 ghost use Rattle.std.specs.Io.KnownBytes.{Keeps};
 ghost use Rattle.vcm_num.specs.Written.{Wrote};
 ghost use Rattle.vcm_console.specs.Parsing.{command_of};
-ghost use Rattle.vcm_console.specs.Replies.{Fits};
+ghost use Rattle.vcm_console.specs.Replies.{ReplyFits};
 ghost use Rattle.vcm_debug.specs.Debugging.{now};
 ghost use Rattle.vcm_debug.specs.Serving.{without_return, content, answer_text, is_bye, AnswersTo, Served};
 ghost use Rattle.vcm_debug.specs.inner.Turns.{HasTurned, IsBye};
@@ -53,7 +53,7 @@ fn answer_to<P: Part>(
     requires { session.old.count + 1000000 < 2 ^ 64 }
     ensures answers { AnswersTo session.old (command_of line.now) session.new result }
     ensures few { session.new.count ≤ session.old.count + 1000000 }
-    ensures fits { IfOk result (Fits session.new.code (now session.new).world.lines) }
+    ensures fits { IfOk result (ReplyFits session.new.code (now session.new).world.lines) }
 {
     match parse_command(line) {
         Ok(command) => session.command(alloc, &command),
@@ -67,7 +67,7 @@ fn write_answer<P: Part, W: Write>(
     told: Result<Reply, Halted>,
     writer: &mut W,
 ) -> Result<(), WriteFault>
-    requires { IfOk told (Fits session.now.code (now session.now).world.lines) }
+    requires { IfOk told (ReplyFits session.now.code (now session.now).world.lines) }
     ensures { Wrote (W.contents writer.old) (W.contents writer.new) (answer_text session.now told) result }
 {
     match told {

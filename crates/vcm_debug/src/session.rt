@@ -10,7 +10,7 @@ use crate::finding::{feature_of, variable_of};
 use std::alloc::Global;
 use std::io::Write;
 use std::marker::Model;
-use vcm_console::{Command, Halted, Reply, Standing, Wanted, write_halt, write_reply};
+use vcm_console::{Command, Halted, Reply, Standing, VariableRef, write_halt, write_reply};
 use vcm_expr::Name;
 use vcm_loader::Loaded;
 use vcm_machine::Machine;
@@ -46,7 +46,7 @@ impl<'a, P: Part> Model for Session<'a, P> {
 impl<'a, P: Part> Session<'a, P> {
     ghost use Rattle.std.specs.Prelude.{◌≡◌, ◌<◌, ◌≤◌, ◌+◌, ◌^◌, length, IfOk, nat_lt, if◌then◌else◌, Some, None};
     ghost use Rattle.vcm_num.specs.Written.{Wrote};
-    ghost use Rattle.vcm_console.specs.Replies.{Fits, reply_text, halt_text};
+    ghost use Rattle.vcm_console.specs.Replies.{ReplyFits, reply_text, halt_text};
     ghost use Rattle.vcm_console.specs.Parsing.{steps_of};
     ghost use Rattle.vcm_console.specs.declared.command.Command.TheVariants as c;
     ghost use Rattle.vcm_debug.specs.Debugging.{opened, now};
@@ -89,7 +89,7 @@ impl<'a, P: Part> Session<'a, P> {
         requires { self.old.count + steps_of command.now < 2 ^ 64 }
         ensures carried { Carries self.old command.now self.new result }
         ensures few { self.new.count ≤ self.old.count + steps_of command.now }
-        ensures fits { IfOk result (Fits self.new.code (now self.new).world.lines) }
+        ensures fits { IfOk result (ReplyFits self.new.code (now self.new).world.lines) }
     {
         match command {
             Command::Break(n) => Ok(self.set_break(*n)),
@@ -113,7 +113,7 @@ impl<'a, P: Part> Session<'a, P> {
     ///
     /// Errors: the writer failed, or took no byte; then it has taken a front of the text.
     pub fn write_reply<W: Write>(&self, reply: &Reply, writer: &mut W) -> Result<(), WriteFault>
-        requires { Fits self.now.code (now self.now).world.lines reply.now }
+        requires { ReplyFits self.now.code (now self.now).world.lines reply.now }
         ensures { Wrote (W.contents writer.old) (W.contents writer.new) (reply_text self.now.code (now self.now).world.lines reply.now) result }
     {
         let world = self.machine.world();
@@ -160,7 +160,7 @@ impl<'a, P: Part> Session<'a, P> {
     }
 
     /// The lowest variable of this name.
-    pub(crate) fn variable(&self, wanted: &Wanted) -> Option<u16>
+    pub(crate) fn variable(&self, wanted: &VariableRef) -> Option<u16>
         ensures place { result ≡ position (is_wanted wanted.now) self.now.code.tables.variables }
         ensures within { IfSome result (λ i. i < length self.now.code.tables.variables) }
     {

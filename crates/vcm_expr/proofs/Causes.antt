@@ -10,7 +10,7 @@ use Rattle.vcm_expr.specs.declared.symbol.Symbol.{Symbol}
 use Rattle.vcm_expr.specs.declared.symbol.Symbol.TheVariants.{Operand, Opening, Closing}
 use Rattle.vcm_expr.specs.Source.{Source, Prefixed, Pair, is_small}
 use Rattle.vcm_expr.specs.Grammar.{Written, Leaf, Paren, Signed, Joined, word_of, sign_word, spelled, Fits, meant, open_after, HasBigPart, HasFlaw}
-use Rattle.vcm_expr.specs.inner.Parser.{Taken, Parser, and_then, phrase, made, made_if, closed, primary_by, sign_of, negation_of, found_if, fronted_by, product_op, sum_op, relation_op, and_op, or_op, more, chain_by, once, once_by, signed_by, product_by, sum_by, relation_by, negation_by, conjunction_by, disjunction_by, expression}
+use Rattle.vcm_expr.specs.inner.Parser.{Taken, Parser, and_parse, phrase, made, made_if, closed, primary_by, sign_of, negation_of, found_if, fronted_by, product_op, sum_op, relation_op, and_op, or_op, more, chain_by, once, once_by, signed_by, product_by, sum_by, relation_by, negation_by, conjunction_by, disjunction_by, expression}
 use Rattle.vcm_expr.proofs.Chains.{expression-zero, expression-suc}
 use Rattle.vcm_expr.proofs.Complete.{Ops, Fronts}
 use Rattle.vcm_expr.proofs.Ladder.{product_ops, sum_ops, and_ops, or_ops, sign_fronts, negation_fronts, relation_says}
@@ -68,9 +68,9 @@ behind total n m c x ts same (inr (inr f)) =
 big_first : (total n l : ℕ) (c : FaultCode) (s : Written) (r ts : List Symbol) → 1 ≤ l → Fits l s → (c ≡ TooDeep) × (is_small (meant s) ≡ false) → spelled s ++ r ≡ ts → Cause total n c ts
 big_first total n l c s r ts h f b e = inr (inl (b.0, inr (record { front = []; back = r; written = s; cut = sym e; fits = Fits-weaker 1 l s h f; big = b.1 })))
 
-and_then-Err : (o : Result Taken FaultCode) (go : Source → List Symbol → Result Taken FaultCode) (d : FaultCode) → and_then o go ≡ Err d → (o ≡ Err d) ⊎ ((q : Taken) × (o ≡ Ok q) × (go q.tree q.rest ≡ Err d))
-and_then-Err (Ok q) go d e = inr (q, refl, e)
-and_then-Err (Err f) go d e = inl e
+and_parse-Err : (o : Result Taken FaultCode) (go : Source → List Symbol → Result Taken FaultCode) (d : FaultCode) → and_parse o go ≡ Err d → (o ≡ Err d) ⊎ ((q : Taken) × (o ≡ Ok q) × (go q.tree q.rest ≡ Err d))
+and_parse-Err (Ok q) go d e = inr (q, refl, e)
+and_parse-Err (Err f) go d e = inl e
 
 made-Err : (t : Source) (r : List Symbol) (c : FaultCode) → made is_small t r ≡ Err c → (c ≡ TooDeep) × (is_small t ≡ false)
 made-Err t r c e = by_test (is_small t) refl e
@@ -106,7 +106,7 @@ module _ (l total room : ℕ) (P : Parser) (op_of : Symbol → Option BinaryOp) 
   more_caused n h zero s (k ∷ r) c f e = cc
   more_caused n h (suc m) s (k ∷ r) c f e = by_op (op_of k) refl e (more_caused n h m)
     where
-      by_op : (o : Option BinaryOp) → op_of k ≡ o → found_if o (λ op. and_then (P r) (λ u q. and_then (made is_small (Pair op (meant s) u) q) (more is_small P op_of m))) (phrase (meant s) (k ∷ r)) ≡ Err c → ((s' : Written) (ts : List Symbol) (c : FaultCode) → Fits l s' → more is_small P op_of m (meant s') ts ≡ Err c → Cause total n c (spelled s' ++ ts)) → Cause total n c (spelled s ++ k ∷ r)
+      by_op : (o : Option BinaryOp) → op_of k ≡ o → found_if o (λ op. and_parse (P r) (λ u q. and_parse (made is_small (Pair op (meant s) u) q) (more is_small P op_of m))) (phrase (meant s) (k ∷ r)) ≡ Err c → ((s' : Written) (ts : List Symbol) (c : FaultCode) → Fits l s' → more is_small P op_of m (meant s') ts ≡ Err c → Cause total n c (spelled s' ++ ts)) → Cause total n c (spelled s ++ k ∷ r)
       by_op None is e again = cc
       by_op (Some op) is e again =
           let word = ops.says k op is in
@@ -123,8 +123,8 @@ module _ (l total room : ℕ) (P : Parser) (op_of : Symbol → Option BinaryOp) 
           let node = made-Ok (Pair op (meant s) q.0.tree) q.0.rest v.0 v.1 in
           let step : more is_small P op_of m (meant (Joined op s b.written)) q.0.rest ≡ Err c = ap (λ u. more is_small P op_of m u q.0.rest) tree ∙ ap (λ w. more is_small P op_of m w.tree w.rest) node ∙ v.2 in
           subst (Cause total n c) flat (again (Joined op s b.written) q.0.rest c fits step))
-          (and_then-Err (made is_small (Pair op (meant s) q.0.tree) q.0.rest) (more is_small P op_of m) c q.2))
-          (and_then-Err (P r) (λ u q. and_then (made is_small (Pair op (meant s) u) q) (more is_small P op_of m)) c e)
+          (and_parse-Err (made is_small (Pair op (meant s) q.0.tree) q.0.rest) (more is_small P op_of m) c q.2))
+          (and_parse-Err (P r) (λ u q. and_parse (made is_small (Pair op (meant s) u) q) (more is_small P op_of m)) c e)
 
   pub chain_caused : Caused total room (chain_by is_small P op_of)
   chain_caused n h ts c e =
@@ -134,14 +134,14 @@ module _ (l total room : ℕ) (P : Parser) (op_of : Symbol → Option BinaryOp) 
       let a = sound ts q.0 q.1 in
       let step : more is_small P op_of (length q.0.rest) (meant a.written) q.0.rest ≡ Err c = ap (λ t. more is_small P op_of (length q.0.rest) t q.0.rest) a.tree ∙ q.2 in
       subst (Cause total n c) (sym a.symbols) (more_caused n h (length q.0.rest) a.written q.0.rest c (Fits-weaker l (l + 1) a.written (omega arith) a.fits) step))
-      (and_then-Err (P ts) (λ t r. more is_small P op_of (length r) t r) c e)
+      (and_parse-Err (P ts) (λ t r. more is_small P op_of (length r) t r) c e)
 
 module _ (l total room : ℕ) (P : Parser) (find : Symbol → Option Prefix) (fs : Fronts l find) (operands : Caused total room P) (sound : Sound l room (fronted_by is_small P find)) (some : 1 ≤ l) where
   pub fronted_caused : (n : ℕ) → room + n ≡ total → (ts : List Symbol) (c : FaultCode) → fronted_by is_small P find ts ≡ Err c → Cause total n c ts
   fronted_caused n h [] c e = operands n h [] c e
   fronted_caused n h (k ∷ r) c e = by_word (find k) refl e (fronted_caused n h r c)
     where
-      by_word : (o : Option Prefix) → find k ≡ o → found_if o (λ op. and_then (fronted_by is_small P find r) (λ t s. made is_small (Prefixed op t) s)) (P (k ∷ r)) ≡ Err c → (fronted_by is_small P find r ≡ Err c → Cause total n c r) → Cause total n c (k ∷ r)
+      by_word : (o : Option Prefix) → find k ≡ o → found_if o (λ op. and_parse (fronted_by is_small P find r) (λ t s. made is_small (Prefixed op t) s)) (P (k ∷ r)) ≡ Err c → (fronted_by is_small P find r ≡ Err c → Cause total n c r) → Cause total n c (k ∷ r)
       by_word None is e again = operands n h (k ∷ r) c e
       by_word (Some op) is e again =
           let word = fs.says k op is in
@@ -152,14 +152,14 @@ module _ (l total room : ℕ) (P : Parser) (find : Symbol → Option Prefix) (fs
           let big = made-Err (Prefixed op q.0.tree) q.0.rest c q.2 in
           big_first total n l c (Signed op a.written) q.0.rest (k ∷ r) some (omega (arith, word.1), subst (λ m. Fits m a.written) (sym word.1) a.fits) (big.0, ap (λ t. is_small (Prefixed op t)) a.tree ∙ big.1)
           (ap (λ w. w ∷ (spelled a.written ++ q.0.rest)) (sym word.0) ∙ ap (λ ts. k ∷ ts) (sym a.symbols)))
-          (and_then-Err (fronted_by is_small P find r) (λ t s. made is_small (Prefixed op t) s) c e)
+          (and_parse-Err (fronted_by is_small P find r) (λ t s. made is_small (Prefixed op t) s) c e)
 
 module _ (total room : ℕ) (P : Parser) (operands : Caused total room P) (sound : Sound 5 room P) where
   once_caused_after : (n : ℕ) → room + n ≡ total → (s : Written) (ts : List Symbol) (c : FaultCode) → Fits 5 s → once is_small P relation_op (meant s) ts ≡ Err c → Cause total n c (spelled s ++ ts)
   once_caused_after n h s [] c f e = cc
   once_caused_after n h s (k ∷ r) c f e = by_op (relation_op k) refl e
     where
-      by_op : (o : Option BinaryOp) → relation_op k ≡ o → found_if o (λ op. and_then (P r) (λ u q. made is_small (Pair op (meant s) u) q)) (phrase (meant s) (k ∷ r)) ≡ Err c → Cause total n c (spelled s ++ k ∷ r)
+      by_op : (o : Option BinaryOp) → relation_op k ≡ o → found_if o (λ op. and_parse (P r) (λ u q. made is_small (Pair op (meant s) u) q)) (phrase (meant s) (k ∷ r)) ≡ Err c → Cause total n c (spelled s ++ k ∷ r)
       by_op None is e = cc
       by_op (Some op) is e =
           let word = relation_says k op is in
@@ -170,7 +170,7 @@ module _ (total room : ℕ) (P : Parser) (operands : Caused total room P) (sound
           let big = made-Err (Pair op (meant s) q.0.tree) q.0.rest c q.2 in
           big_first total n 4 c (Joined op s b.written) q.0.rest (spelled s ++ k ∷ r) (omega arith) (omega (arith, word.1), subst (λ m. Fits m s) (sym word.2) f, subst (λ m. Fits (m + 1) b.written) (sym word.1) b.fits) (big.0, ap (λ u. is_small (Pair op (meant s) u)) b.tree ∙ big.1)
           (flat_pair s b.written op k r q.0.rest word.0 b.symbols))
-          (and_then-Err (P r) (λ u q. made is_small (Pair op (meant s) u) q) c e)
+          (and_parse-Err (P r) (λ u q. made is_small (Pair op (meant s) u) q) c e)
 
   pub once_caused : Caused total room (once_by is_small P relation_op)
   once_caused n h ts c e =
@@ -180,7 +180,7 @@ module _ (total room : ℕ) (P : Parser) (operands : Caused total room P) (sound
       let a = sound ts q.0 q.1 in
       let step : once is_small P relation_op (meant a.written) q.0.rest ≡ Err c = ap (λ t. once is_small P relation_op t q.0.rest) a.tree ∙ q.2 in
       subst (Cause total n c) (sym a.symbols) (once_caused_after n h a.written q.0.rest c a.fits step))
-      (and_then-Err (P ts) (once is_small P relation_op) c e)
+      (and_parse-Err (P ts) (once is_small P relation_op) c e)
 
 not_closed : (t : Source) (r : List Symbol) (c : FaultCode) → closed t r ≡ Err c → c ≡ BadSyntax
 not_closed t [] c e = let same : BadSyntax ≡ c = cc in sym same
@@ -201,7 +201,7 @@ primary_caused total room inner n h (Opening ∷ r) c e =
     ⊎_elim
     (λ f. behind total n (n + 1) c (Opening ∷ []) r (λ q. refl) (inner n h r c f))
     (λ q. inl (not_closed q.0.tree q.0.rest c q.2))
-    (and_then-Err (expression is_small room r) closed c e)
+    (and_parse-Err (expression is_small room r) closed c e)
 primary_caused total room inner n h (_ ∷ r) c e = let same : BadSyntax ≡ c = cc in inl (sym same)
 
 levels : (total room : ℕ) → InnerCaused total room → Caused total room (disjunction_by is_small (expression is_small room))

@@ -13,7 +13,7 @@ use Rattle.vcm_expr.specs.declared.levels.Front.{Front}
 use Rattle.vcm_expr.specs.declared.levels.Front.TheVariants.{Negation, Sign}
 use Rattle.vcm_expr.specs.declared.expression.Size.{Size}
 use Rattle.vcm_expr.specs.Source.{Source, Pair, is_small, IsSize}
-use Rattle.vcm_expr.specs.inner.Parser.{Taken, Parser, and_then, phrase, made, made_if, closed, found_if, fronted_by, with_fronts, more, chain_by, once, once_by, disjunction_by, expression}
+use Rattle.vcm_expr.specs.inner.Parser.{Taken, Parser, and_parse, phrase, made, made_if, closed, found_if, fronted_by, with_fronts, more, chain_by, once, once_by, disjunction_by, expression}
 use Rattle.vcm_expr.specs.inner.Levels.{group_in, chain_in, chain_op, link_in, front_in, front_of, fronted_in, NextOf, NoNext, NotClosing, Told}
 use Rattle.vcm_expr.proofs.Fronts.{with_fronts-Err}
 
@@ -22,73 +22,73 @@ module _ (small : Source → Bool) where
 
   -- one more pair, and then the rest of the chain
   abbrev pub join : Parser → (Symbol → Option BinaryOp) → ℕ → Source → BinaryOp → Source → List Symbol → Result Taken FaultCode
-  join P op_of n t op u s = and_then (made small (Pair op t u) s) (more small P op_of n)
+  join P op_of n t op u s = and_parse (made small (Pair op t u) s) (more small P op_of n)
 
   -- no operator: the chain ends
   pub more_stops : (P : Parser) (op_of : Symbol → Option BinaryOp) (n : ℕ) (t : Source) (ts : List Symbol) → NoNext op_of ts → more small P op_of n t ts ≡ phrase t ts
   more_stops P op_of n t [] h = refl
   more_stops P op_of zero t (k ∷ r) h = refl
   more_stops P op_of (suc n) t (k ∷ r) h =
-      ap (λ (o : Option BinaryOp). found_if o (λ op. and_then (P r) (join P op_of n t op)) (phrase t (k ∷ r))) h
+      ap (λ (o : Option BinaryOp). found_if o (λ op. and_parse (P r) (join P op_of n t op)) (phrase t (k ∷ r))) h
 
   -- an operator: what the next operand does
   pub more_next : (P : Parser) (op_of : Symbol → Option BinaryOp) (n : ℕ) (t : Source) (ts : List Symbol) (op : BinaryOp) (after : List Symbol) → NextOf op_of ts op after → length ts ≤ n
-      → (m : ℕ) × (length after ≤ m) × (more small P op_of n t ts ≡ and_then (P after) (join P op_of m t op))
+      → (m : ℕ) × (length after ≤ m) × (more small P op_of n t ts ≡ and_parse (P after) (join P op_of m t op))
   more_next P op_of n t [] op after h le = absurd h
   more_next P op_of zero t (k ∷ r) op after h le = absurd (omega arith)
   more_next P op_of (suc n) t (k ∷ r) op after h le =
       let size = ap length h.1 in
-      (n, omega arith, ap (λ (o : Option BinaryOp). found_if o (λ op. and_then (P r) (join P op_of n t op)) (phrase t (k ∷ r))) h.0 ∙ ap (λ (l : List Symbol). and_then (P l) (join P op_of n t op)) h.1)
+      (n, omega arith, ap (λ (o : Option BinaryOp). found_if o (λ op. and_parse (P r) (join P op_of n t op)) (phrase t (k ∷ r))) h.0 ∙ ap (λ (l : List Symbol). and_parse (P l) (join P op_of n t op)) h.1)
 
   -- it is read, and the pair is within the limits
   pub more_on : (P : Parser) (op_of : Symbol → Option BinaryOp) (n : ℕ) (t : Source) (ts : List Symbol) (op : BinaryOp) (after : List Symbol) (u : Source) (s : List Symbol) → NextOf op_of ts op after → length ts ≤ n → P after ≡ phrase u s → small (Pair op t u) ≡ true → length s ≤ length after
       → (m : ℕ) × (length s ≤ m) × (more small P op_of n t ts ≡ more small P op_of m (Pair op t u) s)
   more_on P op_of n t ts op after u s h le e w short =
       let a = more_next P op_of n t ts op after h le in
-      (a.0, omega (arith, a.1), a.2 ∙ ap (λ (o : Result Taken FaultCode). and_then o (join P op_of a.0 t op)) e ∙ ap (λ (b : Bool). and_then (made_if b (Pair op t u) s) (more small P op_of a.0)) w)
+      (a.0, omega (arith, a.1), a.2 ∙ ap (λ (o : Result Taken FaultCode). and_parse o (join P op_of a.0 t op)) e ∙ ap (λ (b : Bool). and_parse (made_if b (Pair op t u) s) (more small P op_of a.0)) w)
 
   -- the pair is too deep
   pub more_big : (P : Parser) (op_of : Symbol → Option BinaryOp) (n : ℕ) (t : Source) (ts : List Symbol) (op : BinaryOp) (after : List Symbol) (u : Source) (s : List Symbol) → NextOf op_of ts op after → length ts ≤ n → P after ≡ phrase u s → small (Pair op t u) ≡ false
       → more small P op_of n t ts ≡ Err TooDeep
   more_big P op_of n t ts op after u s h le e w =
       let a = more_next P op_of n t ts op after h le in
-      a.2 ∙ ap (λ (o : Result Taken FaultCode). and_then o (join P op_of a.0 t op)) e ∙ ap (λ (b : Bool). and_then (made_if b (Pair op t u) s) (more small P op_of a.0)) w
+      a.2 ∙ ap (λ (o : Result Taken FaultCode). and_parse o (join P op_of a.0 t op)) e ∙ ap (λ (b : Bool). and_parse (made_if b (Pair op t u) s) (more small P op_of a.0)) w
 
   -- it fails
   pub more_fails : (P : Parser) (op_of : Symbol → Option BinaryOp) (n : ℕ) (t : Source) (ts : List Symbol) (op : BinaryOp) (after : List Symbol) (c : FaultCode) → NextOf op_of ts op after → length ts ≤ n → P after ≡ Err c → more small P op_of n t ts ≡ Err c
   more_fails P op_of n t ts op after c h le f =
       let a = more_next P op_of n t ts op after h le in
-      a.2 ∙ ap (λ (o : Result Taken FaultCode). and_then o (join P op_of a.0 t op)) f
+      a.2 ∙ ap (λ (o : Result Taken FaultCode). and_parse o (join P op_of a.0 t op)) f
 
   -- ---- a relation
 
   pub once_stops : (P : Parser) (op_of : Symbol → Option BinaryOp) (ts : List Symbol) (t : Source) (r : List Symbol) → P ts ≡ phrase t r → NoNext op_of r → once_by small P op_of ts ≡ phrase t r
-  once_stops P op_of ts t r e h = ap (λ (o : Result Taken FaultCode). and_then o (once small P op_of)) e ∙ stop r h
+  once_stops P op_of ts t r e h = ap (λ (o : Result Taken FaultCode). and_parse o (once small P op_of)) e ∙ stop r h
     where
       stop : (r : List Symbol) → NoNext op_of r → once small P op_of t r ≡ phrase t r
       stop [] h = refl
-      stop (k ∷ s) h = ap (λ (o : Option BinaryOp). found_if o (λ op. and_then (P s) (λ u s. made small (Pair op t u) s)) (phrase t (k ∷ s))) h
+      stop (k ∷ s) h = ap (λ (o : Option BinaryOp). found_if o (λ op. and_parse (P s) (λ u s. made small (Pair op t u) s)) (phrase t (k ∷ s))) h
 
-  once_next : (P : Parser) (op_of : Symbol → Option BinaryOp) (t : Source) (r : List Symbol) (op : BinaryOp) (after : List Symbol) → NextOf op_of r op after → once small P op_of t r ≡ and_then (P after) (λ u s. made small (Pair op t u) s)
+  once_next : (P : Parser) (op_of : Symbol → Option BinaryOp) (t : Source) (r : List Symbol) (op : BinaryOp) (after : List Symbol) → NextOf op_of r op after → once small P op_of t r ≡ and_parse (P after) (λ u s. made small (Pair op t u) s)
   once_next P op_of t [] op after h = absurd h
   once_next P op_of t (k ∷ s) op after h =
-      ap (λ (o : Option BinaryOp). found_if o (λ op. and_then (P s) (λ u s. made small (Pair op t u) s)) (phrase t (k ∷ s))) h.0 ∙ ap (λ (l : List Symbol). and_then (P l) (λ u s. made small (Pair op t u) s)) h.1
+      ap (λ (o : Option BinaryOp). found_if o (λ op. and_parse (P s) (λ u s. made small (Pair op t u) s)) (phrase t (k ∷ s))) h.0 ∙ ap (λ (l : List Symbol). and_parse (P l) (λ u s. made small (Pair op t u) s)) h.1
 
-  pub once_goes : (P : Parser) (op_of : Symbol → Option BinaryOp) (ts : List Symbol) (t : Source) (r : List Symbol) (op : BinaryOp) (after : List Symbol) → P ts ≡ phrase t r → NextOf op_of r op after → once_by small P op_of ts ≡ and_then (P after) (λ u s. made small (Pair op t u) s)
-  once_goes P op_of ts t r op after e h = ap (λ (o : Result Taken FaultCode). and_then o (once small P op_of)) e ∙ once_next P op_of t r op after h
+  pub once_goes : (P : Parser) (op_of : Symbol → Option BinaryOp) (ts : List Symbol) (t : Source) (r : List Symbol) (op : BinaryOp) (after : List Symbol) → P ts ≡ phrase t r → NextOf op_of r op after → once_by small P op_of ts ≡ and_parse (P after) (λ u s. made small (Pair op t u) s)
+  once_goes P op_of ts t r op after e h = ap (λ (o : Result Taken FaultCode). and_parse o (once small P op_of)) e ∙ once_next P op_of t r op after h
 
   pub once_made : (P : Parser) (op_of : Symbol → Option BinaryOp) (ts : List Symbol) (t : Source) (r : List Symbol) (op : BinaryOp) (after : List Symbol) (u v : Source) (s : List Symbol) → P ts ≡ phrase t r → NextOf op_of r op after → P after ≡ phrase u s → small (Pair op t u) ≡ true → v ≡ Pair op t u
       → once_by small P op_of ts ≡ phrase v s
   once_made P op_of ts t r op after u v s e h f w is =
-      once_goes P op_of ts t r op after e h ∙ ap (λ (o : Result Taken FaultCode). and_then o (λ u s. made small (Pair op t u) s)) f ∙ ap (λ (b : Bool). made_if b (Pair op t u) s) w ∙ ap (λ (x : Source). phrase x s) (sym is)
+      once_goes P op_of ts t r op after e h ∙ ap (λ (o : Result Taken FaultCode). and_parse o (λ u s. made small (Pair op t u) s)) f ∙ ap (λ (b : Bool). made_if b (Pair op t u) s) w ∙ ap (λ (x : Source). phrase x s) (sym is)
 
   pub once_big : (P : Parser) (op_of : Symbol → Option BinaryOp) (ts : List Symbol) (t : Source) (r : List Symbol) (op : BinaryOp) (after : List Symbol) (u : Source) (s : List Symbol) → P ts ≡ phrase t r → NextOf op_of r op after → P after ≡ phrase u s → small (Pair op t u) ≡ false
       → once_by small P op_of ts ≡ Err TooDeep
   once_big P op_of ts t r op after u s e h f big =
-      once_goes P op_of ts t r op after e h ∙ ap (λ (o : Result Taken FaultCode). and_then o (λ u s. made small (Pair op t u) s)) f ∙ ap (λ (b : Bool). made_if b (Pair op t u) s) big
+      once_goes P op_of ts t r op after e h ∙ ap (λ (o : Result Taken FaultCode). and_parse o (λ u s. made small (Pair op t u) s)) f ∙ ap (λ (b : Bool). made_if b (Pair op t u) s) big
 
   pub once_fails : (P : Parser) (op_of : Symbol → Option BinaryOp) (ts : List Symbol) (t : Source) (r : List Symbol) (op : BinaryOp) (after : List Symbol) (c : FaultCode) → P ts ≡ phrase t r → NextOf op_of r op after → P after ≡ Err c → once_by small P op_of ts ≡ Err c
-  once_fails P op_of ts t r op after c e h f = once_goes P op_of ts t r op after e h ∙ ap (λ (o : Result Taken FaultCode). and_then o (λ u s. made small (Pair op t u) s)) f
+  once_fails P op_of ts t r op after c e h f = once_goes P op_of ts t r op after e h ∙ ap (λ (o : Result Taken FaultCode). and_parse o (λ u s. made small (Pair op t u) s)) f
 
 -- each chain is one of its operands
 pub chain_is : (l : Chain) (room : ℕ) (ts : List Symbol) → chain_in l room ts ≡ chain_by is_small (link_in l room) (chain_op l) ts
@@ -108,7 +108,7 @@ Runs l room words t rest = (n : ℕ) × (length rest ≤ n) × (chain_in l room 
 
 -- a chain begins with its first operand
 pub chain_begins : (l : Chain) (room : ℕ) (ts : List Symbol) (t : Source) (r : List Symbol) → link_in l room ts ≡ phrase t r → (n : ℕ) × (length r ≤ n) × (chain_in l room ts ≡ more is_small (link_in l room) (chain_op l) n t r)
-chain_begins l room ts t r e = (length r, omega arith, chain_is l room ts ∙ ap (λ (o : Result Taken FaultCode). and_then o (λ t r. more is_small (link_in l room) (chain_op l) (length r) t r)) e)
+chain_begins l room ts t r e = (length r, omega arith, chain_is l room ts ∙ ap (λ (o : Result Taken FaultCode). and_parse o (λ t r. more is_small (link_in l room) (chain_op l) (length r) t r)) e)
 
 -- one more operand is read, and the pair is within the limits
 pub chain_on : (l : Chain) (room : ℕ) (words : List Symbol) (t v : Source) (ts : List Symbol) (op : BinaryOp) (after : List Symbol) (u : Source) (s : List Symbol)
@@ -133,7 +133,7 @@ told_same line o p f pass (inr t) = inr (t.0, pass f.code t.1)
 
 -- the first operand of a chain is refused
 pub chain_fails : (l : Chain) (room : ℕ) (ts : List Symbol) (c : FaultCode) → link_in l room ts ≡ Err c → chain_in l room ts ≡ Err c
-chain_fails l room ts c e = chain_is l room ts ∙ ap (λ (o : Result Taken FaultCode). and_then o (λ t r. more is_small (link_in l room) (chain_op l) (length r) t r)) e
+chain_fails l room ts c e = chain_is l room ts ∙ ap (λ (o : Result Taken FaultCode). and_parse o (λ t r. more is_small (link_in l room) (chain_op l) (length r) t r)) e
 
 -- a pair is refused
 abbrev pub RefusesBig : ℕ → BinaryOp → Size → Size → SourceFault → Type 0
@@ -185,15 +185,15 @@ expression_within (suc room) ts h =
 
 -- no room for parentheses
 pub group_full : (room : ℕ) (ts : List Symbol) → room ≡ 0 → group_in room ts ≡ Err TooDeep
-group_full room ts e = ap (λ (n : ℕ). group_in n ts) e ∙ ap (λ (o : Result Taken FaultCode). and_then o closed) (expression-zero is_small ts)
+group_full room ts e = ap (λ (n : ℕ). group_in n ts) e ∙ ap (λ (o : Result Taken FaultCode). and_parse o closed) (expression-zero is_small ts)
 
 -- what stands in them fails
 pub group_fails : (room : ℕ) (ts : List Symbol) (c : FaultCode) → 0 < room → chain_in Disjunction (room - 1) ts ≡ Err c → group_in room ts ≡ Err c
-group_fails room ts c h f = ap (λ (o : Result Taken FaultCode). and_then o closed) (expression_within room ts h ∙ f)
+group_fails room ts c h f = ap (λ (o : Result Taken FaultCode). and_parse o closed) (expression_within room ts h ∙ f)
 
 -- what stands in them is read
 group_reads : (room : ℕ) (ts : List Symbol) (t : Source) (r : List Symbol) → 0 < room → chain_in Disjunction (room - 1) ts ≡ phrase t r → group_in room ts ≡ closed t r
-group_reads room ts t r h f = ap (λ (o : Result Taken FaultCode). and_then o closed) (expression_within room ts h ∙ f)
+group_reads room ts t r h f = ap (λ (o : Result Taken FaultCode). and_parse o closed) (expression_within room ts h ∙ f)
 
 pub group_closed : (room : ℕ) (ts : List Symbol) (t : Source) (r after : List Symbol) → 0 < room → chain_in Disjunction (room - 1) ts ≡ phrase t r → r ≡ Closing ∷ after → group_in room ts ≡ phrase t after
 group_closed room ts t r after h f e = group_reads room ts t r h f ∙ ap (closed t) e

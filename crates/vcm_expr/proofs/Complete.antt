@@ -12,7 +12,7 @@ use Rattle.vcm_expr.specs.declared.symbol.Symbol.{Symbol}
 use Rattle.vcm_expr.specs.declared.symbol.Symbol.TheVariants.{Operand, Dash, Cross, Star, Slash, AndWord, OrWord, RelationWord, Opening}
 use Rattle.vcm_expr.specs.Source.{Source, Prefixed, Pair}
 use Rattle.vcm_expr.specs.Grammar.{Written, Leaf, Paren, Signed, Joined, word_of, sign_word, level, sign_level, left_level, spelled, Fits, meant, nesting}
-use Rattle.vcm_expr.specs.inner.Parser.{Parser, and_then, phrase, made, made_if, fronted_by, more, chain_by}
+use Rattle.vcm_expr.specs.inner.Parser.{Parser, and_parse, phrase, made, made_if, fronted_by, more, chain_by}
 use Rattle.vcm_expr.specs.inner.Levels.{NoNext}
 use Rattle.vcm_expr.proofs.Fronts.{fronted-next, fronted-none}
 use Rattle.vcm_expr.proofs.Chains.{more_on, more_big, more_fails, more_stops}
@@ -160,8 +160,8 @@ module _ (small : Source → Bool) where
     one : (s : Written) (r : List Symbol) → Fits (l + 1) s → Stops (l + 1) r → Past s r
     one s r f st =
         ⊎_elim
-        (λ e. inl (length r, omega arith, ap (λ o. and_then o (λ t r. more small P op_of (length r) t r)) e))
-        (λ e. inr (e.0, ap (λ o. and_then o (λ t r. more small P op_of (length r) t r)) e.1, e.2))
+        (λ e. inl (length r, omega arith, ap (λ o. and_parse o (λ t r. more small P op_of (length r) t r)) e))
+        (λ e. inr (e.0, ap (λ o. and_parse o (λ t r. more small P op_of (length r) t r)) e.1, e.2))
         (operands.by s r f st)
 
     past : (s : Written) (r : List Symbol) → Fits l s → Stops (l + 1) r → Past s r
@@ -224,12 +224,12 @@ module _ (small : Source → Bool) where
         let next = fronted-next small P find (sign_word op ∷ (spelled s ++ r)) op (spelled s ++ r) (fs.found op same, refl) in
         ⊎_elim
         (λ e.
-        let step = next ∙ ap (λ o. and_then o (λ t q. made small (Prefixed op t) q)) e in
+        let step = next ∙ ap (λ o. and_parse o (λ t q. made small (Prefixed op t) q)) e in
         ⊎_elim
         (λ w. inl (step ∙ ap (λ b. made_if b (Prefixed op (meant s)) r) w))
         (λ w. inr (TooDeep, step ∙ ap (λ b. made_if b (Prefixed op (meant s)) r) w, inl (refl, inr (inl w))))
         (either (small (Prefixed op (meant s)))))
-        (λ e. inr (e.0, next ∙ ap (λ o. and_then o (λ t q. made small (Prefixed op t) q)) e.1, blames_signed room e.0 op s e.2))
+        (λ e. inr (e.0, next ∙ ap (λ o. and_parse o (λ t q. made small (Prefixed op t) q)) e.1, blames_signed room e.0 op s e.2))
         (fronted s r (subst (λ n. Fits n s) same f.1) st))
         (cases_lt l (sign_level op))
 

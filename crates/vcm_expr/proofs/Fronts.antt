@@ -8,7 +8,7 @@ use Rattle.vcm_expr.specs.declared.expression.Prefix.{Prefix}
 use Rattle.vcm_expr.specs.declared.symbol.Symbol.{Symbol}
 use Rattle.vcm_expr.specs.declared.expression.Size.{Size}
 use Rattle.vcm_expr.specs.Source.{Source, Prefixed, is_small, IsSize}
-use Rattle.vcm_expr.specs.inner.Parser.{Taken, Parser, and_then, phrase, made, made_if, found_if, fronted_by, with_fronts}
+use Rattle.vcm_expr.specs.inner.Parser.{Taken, Parser, and_parse, phrase, made, made_if, found_if, fronted_by, with_fronts}
 use Rattle.vcm_expr.specs.inner.Levels.{NextOf, NoNext}
 
 module _ (small : Source → Bool) where
@@ -16,25 +16,25 @@ module _ (small : Source → Bool) where
   abbrev pub put : Prefix → Source → List Symbol → Result Taken FaultCode
   put op t s = made small (Prefixed op t) s
 
-  pub with_fronts-push : (ops : List Prefix) (op : Prefix) (o : Result Taken FaultCode) → with_fronts small (ops ++ op ∷ []) o ≡ with_fronts small ops (and_then o (put op))
+  pub with_fronts-push : (ops : List Prefix) (op : Prefix) (o : Result Taken FaultCode) → with_fronts small (ops ++ op ∷ []) o ≡ with_fronts small ops (and_parse o (put op))
   with_fronts-push [] op o = refl
-  with_fronts-push (p ∷ ops) op o = ap (λ (q : Result Taken FaultCode). and_then q (put p)) (with_fronts-push ops op o)
+  with_fronts-push (p ∷ ops) op o = ap (λ (q : Result Taken FaultCode). and_parse q (put p)) (with_fronts-push ops op o)
 
   -- a fault passes
   pub with_fronts-Err : (ops : List Prefix) (c : FaultCode) → with_fronts small ops (Err c) ≡ Err c
   with_fronts-Err [] c = refl
-  with_fronts-Err (p ∷ ops) c = ap (λ (q : Result Taken FaultCode). and_then q (put p)) (with_fronts-Err ops c)
+  with_fronts-Err (p ∷ ops) c = ap (λ (q : Result Taken FaultCode). and_parse q (put p)) (with_fronts-Err ops c)
 
   -- a sign stands first
-  pub fronted-next : (operand : Parser) (find : Symbol → Option Prefix) (ts : List Symbol) (op : Prefix) (after : List Symbol) → NextOf find ts op after → fronted_by small operand find ts ≡ and_then (fronted_by small operand find after) (put op)
+  pub fronted-next : (operand : Parser) (find : Symbol → Option Prefix) (ts : List Symbol) (op : Prefix) (after : List Symbol) → NextOf find ts op after → fronted_by small operand find ts ≡ and_parse (fronted_by small operand find after) (put op)
   fronted-next operand find [] op after h = absurd h
   fronted-next operand find (k ∷ r) op after h =
-      ap (λ (o : Option Prefix). found_if o (λ op. and_then (fronted_by small operand find r) (put op)) (operand (k ∷ r))) h.0 ∙ ap (λ (l : List Symbol). and_then (fronted_by small operand find l) (put op)) h.1
+      ap (λ (o : Option Prefix). found_if o (λ op. and_parse (fronted_by small operand find r) (put op)) (operand (k ∷ r))) h.0 ∙ ap (λ (l : List Symbol). and_parse (fronted_by small operand find l) (put op)) h.1
 
   -- none stands first
   pub fronted-none : (operand : Parser) (find : Symbol → Option Prefix) (ts : List Symbol) → NoNext find ts → fronted_by small operand find ts ≡ operand ts
   fronted-none operand find [] h = refl
-  fronted-none operand find (k ∷ r) h = ap (λ (o : Option Prefix). found_if o (λ op. and_then (fronted_by small operand find r) (put op)) (operand (k ∷ r))) h
+  fronted-none operand find (k ∷ r) h = ap (λ (o : Option Prefix). found_if o (λ op. and_parse (fronted_by small operand find r) (put op)) (operand (k ∷ r))) h
 
   -- one more sign is taken
   pub take_step : (operand : Parser) (find : Symbol → Option Prefix) (words rest : List Symbol) (ops : List Prefix) (op : Prefix) (after : List Symbol) → NextOf find rest op after

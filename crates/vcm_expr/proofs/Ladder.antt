@@ -10,7 +10,7 @@ use Rattle.vcm_expr.specs.declared.symbol.Symbol.{Symbol}
 use Rattle.vcm_expr.specs.declared.symbol.Symbol.TheVariants.{Dash, Cross, Star, Slash, NotWord, AndWord, OrWord, RelationWord, Closing}
 use Rattle.vcm_expr.specs.Source.{Source, Pair}
 use Rattle.vcm_expr.specs.Grammar.{Written, Leaf, Paren, Signed, Joined, word_of, sign_word, level, sign_level, left_level, spelled, Fits, meant}
-use Rattle.vcm_expr.specs.inner.Parser.{Parser, and_then, phrase, made, made_if, closed, primary_by, sign_of, negation_of, product_op, sum_op, relation_op, and_op, or_op, once, once_by, signed_by, product_by, sum_by, relation_by, negation_by, conjunction_by, disjunction_by, expression}
+use Rattle.vcm_expr.specs.inner.Parser.{Parser, and_parse, phrase, made, made_if, closed, primary_by, sign_of, negation_of, product_op, sum_op, relation_op, and_op, or_op, once, once_by, signed_by, product_by, sum_by, relation_by, negation_by, conjunction_by, disjunction_by, expression}
 use Rattle.vcm_expr.specs.inner.Levels.{NoNext}
 use Rattle.vcm_expr.proofs.Chains.{once_stops, once_goes, expression-zero, expression-suc}
 use Rattle.vcm_expr.proofs.Complete.{part_level, Stops, Ops, Fronts, level-le, sign-le, Stops-weaker, either, Blames, Ends, Complete, blames_left, blames_right, chain_complete, fronted_complete}
@@ -190,7 +190,7 @@ module _ (small : Source → Bool) where
     lone s r f st =
         ⊎_elim
         (λ e. inl (once_stops small P relation_op (spelled s ++ r) (meant s) r e (relation_stops r st)))
-        (λ e. inr (e.0, ap (λ o. and_then o (once small P relation_op)) e.1, e.2))
+        (λ e. inr (e.0, ap (λ o. and_parse o (once small P relation_op)) e.1, e.2))
         (operands.by s r f (Stops-weaker 4 5 r (omega arith) st))
 
     related : (s : Written) (r : List Symbol) → Fits 4 s → Stops 4 r → Ends small (once_by small P relation_op) room s r
@@ -207,14 +207,14 @@ module _ (small : Source → Bool) where
         let goes = ap at flat ∙ once_goes small P relation_op (spelled a ++ x) (meant a) x op (spelled b ++ r) e (refl, refl) in
         ⊎_elim
         (λ g.
-        let step = goes ∙ ap (λ o. and_then o (λ u t. made small (Pair op (meant a) u) t)) g in
+        let step = goes ∙ ap (λ o. and_parse o (λ u t. made small (Pair op (meant a) u) t)) g in
         ⊎_elim
         (λ w. inl (step ∙ ap (λ c. made_if c (Pair op (meant a) (meant b)) r) w))
         (λ w. inr (TooDeep, step ∙ ap (λ c. made_if c (Pair op (meant a) (meant b)) r) w, inl (refl, inr (inl w))))
         (either (small (Pair op (meant a) (meant b)))))
-        (λ g. inr (g.0, goes ∙ ap (λ o. and_then o (λ u t. made small (Pair op (meant a) u) t)) g.1, blames_right small room g.0 op a b g.2))
+        (λ g. inr (g.0, goes ∙ ap (λ o. and_parse o (λ u t. made small (Pair op (meant a) u) t)) g.1, blames_right small room g.0 op a b g.2))
         (operands.by b r f.2 (Stops-weaker 4 5 r (omega arith) st)))
-        (λ e. inr (e.0, ap at flat ∙ ap (λ o. and_then o (once small P relation_op)) e.1, blames_left small room e.0 op a b e.2))
+        (λ e. inr (e.0, ap at flat ∙ ap (λ o. and_parse o (once small P relation_op)) e.1, blames_left small room e.0 op a b e.2))
         (operands.by a x f.1 (omega arith))
     related (Joined Add a b) r f st = lone (Joined Add a b) r (omega arith, f.1, f.2) st
     related (Joined Sub a b) r f st = lone (Joined Sub a b) r (omega arith, f.1, f.2) st
@@ -238,10 +238,10 @@ module _ (small : Source → Bool) where
   primary room inner (Leaf (Err d)) r f = inr (d, refl, inr refl)
   primary room inner (Paren s) r f =
       let flat : (spelled s ++ Closing ∷ []) ++ r ≡ spelled s ++ Closing ∷ r = append_assoc (spelled s) (Closing ∷ []) r in
-      let at = ap (λ (ts : List Symbol). and_then (expression small room ts) closed) flat in
+      let at = ap (λ (ts : List Symbol). and_parse (expression small room ts) closed) flat in
       ⊎_elim
-      (λ e. inl (at ∙ ap (λ o. and_then o closed) e))
-      (λ e. inr (e.0, at ∙ ap (λ o. and_then o closed) e.1, e.2))
+      (λ e. inl (at ∙ ap (λ o. and_parse o closed) e))
+      (λ e. inr (e.0, at ∙ ap (λ o. and_parse o closed) e.1, e.2))
       (inner s r f)
   primary room inner (Signed op s) r f = absurd (omega (arith, sign-le op, f.0))
   primary room inner (Joined op a b) r f = absurd (omega (arith, level-le op, f.0))

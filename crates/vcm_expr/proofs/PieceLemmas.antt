@@ -11,7 +11,7 @@ use Rattle.vcm_expr.specs.declared.expression.Term.TheVariants.{Number, Truth, V
 use Rattle.vcm_expr.specs.declared.expression.Piece.TheVariants.{Front, Between}
 use Rattle.vcm_expr.specs.Source.{Source, Plain, Prefixed, Pair, depth_of, nodes_of, leaf_in, IsSize}
 use Rattle.vcm_expr.specs.Source.{parts, leaf_piece}
-use Rattle.vcm_expr.specs.inner.Pieces.{all_parts, with_piece, with_pieces, first_of}
+use Rattle.vcm_expr.specs.inner.Pieces.{all_parts, with_piece, with_pieces, top_of}
 
 -- a leaf is put on the stack by its part
 with_leaf : (t : Term) (es : List Source) → with_piece (leaf_piece t) es ≡ Plain t ∷ es
@@ -41,18 +41,18 @@ stack_is es ps e = ap (λ qs. with_pieces qs []) (e ∙ sym (append-nil (all_par
 pub one_is : (e : Source) (ps : List Piece) → ps ≡ parts e → with_pieces ps [] ≡ e ∷ []
 one_is e ps h = stack_is (e ∷ []) ps h
 
-pub first_is : (e : Source) (ps : List Piece) → ps ≡ parts e → first_of (with_pieces ps []) ≡ e
-first_is e ps h = ap first_of (one_is e ps h)
+pub first_is : (e : Source) (ps : List Piece) → ps ≡ parts e → top_of (with_pieces ps []) ≡ e
+first_is e ps h = ap top_of (one_is e ps h)
 
 pub plain_is : (t : Term) (e : Source) → Some t ≡ leaf_in e → Plain t ≡ e
 plain_is t (Plain u) h = let same : t ≡ u = cc in ap (λ x. Plain x) same
 plain_is t (Prefixed op a) h = absurd cc
 plain_is t (Pair op a b) h = absurd cc
 
-pub parts_again : (e : Source) (ps : List Piece) → ps ≡ parts e → ps ≡ parts (first_of (with_pieces ps []))
+pub parts_again : (e : Source) (ps : List Piece) → ps ≡ parts e → ps ≡ parts (top_of (with_pieces ps []))
 parts_again e ps h = h ∙ ap parts (sym (first_is e ps h))
 
-pub sized_again : (e : Source) (ps : List Piece) (s : Size) → ps ≡ parts e → IsSize s e → IsSize s (first_of (with_pieces ps []))
+pub sized_again : (e : Source) (ps : List Piece) (s : Size) → ps ≡ parts e → IsSize s e → IsSize s (top_of (with_pieces ps []))
 sized_again e ps s h z = subst (λ f. IsSize s f) (sym (first_is e ps h)) z
 
 -- what a stack is after one more part

@@ -7,7 +7,7 @@ use Rattle.vcm_expr.specs.declared.symbol.Symbol.{Symbol}
 use Rattle.vcm_expr.specs.declared.symbol.Symbol.TheVariants.{Operand, Opening, Closing}
 use Rattle.vcm_expr.specs.Source.{Source, Plain, Prefixed, Pair, is_small}
 use Rattle.vcm_expr.specs.Grammar.{Written, Leaf, Paren, Signed, Joined, word_of, sign_word, spelled, Fits, meant, IsRead, nesting}
-use Rattle.vcm_expr.specs.inner.Parser.{Taken, Parser, and_then, phrase, made, made_if, closed, primary_by, sign_of, negation_of, found_if, fronted_by, product_op, sum_op, relation_op, and_op, or_op, more, chain_by, once, once_by, signed_by, product_by, sum_by, relation_by, negation_by, conjunction_by, disjunction_by, expression}
+use Rattle.vcm_expr.specs.inner.Parser.{Taken, Parser, and_parse, phrase, made, made_if, closed, primary_by, sign_of, negation_of, found_if, fronted_by, product_op, sum_op, relation_op, and_op, or_op, more, chain_by, once, once_by, signed_by, product_by, sum_by, relation_by, negation_by, conjunction_by, disjunction_by, expression}
 use Rattle.vcm_expr.proofs.Chains.{expression-zero, expression-suc}
 use Rattle.vcm_expr.proofs.Complete.{Ops, Fronts}
 use Rattle.vcm_expr.proofs.Ladder.{product_ops, sum_ops, and_ops, or_ops, sign_fronts, negation_fronts, relation_says}
@@ -25,9 +25,9 @@ pub record Read (m room : ℕ) (ts : List Symbol) (p : Taken) : Type 0 where
 abbrev pub Sound : ℕ → ℕ → Parser → Type 0
 Sound m room P = (ts : List Symbol) (p : Taken) → P ts ≡ Ok p → Read m room ts p
 
-pub and_then-Ok : (o : Result Taken FaultCode) (go : Source → List Symbol → Result Taken FaultCode) (p : Taken) → and_then o go ≡ Ok p → (q : Taken) × (o ≡ Ok q) × (go q.tree q.rest ≡ Ok p)
-and_then-Ok (Ok q) go p e = (q, refl, e)
-and_then-Ok (Err d) go p e = cc
+pub and_parse-Ok : (o : Result Taken FaultCode) (go : Source → List Symbol → Result Taken FaultCode) (p : Taken) → and_parse o go ≡ Ok p → (q : Taken) × (o ≡ Ok q) × (go q.tree q.rest ≡ Ok p)
+and_parse-Ok (Ok q) go p e = (q, refl, e)
+and_parse-Ok (Err d) go p e = cc
 
 made-Ok : (t : Source) (r : List Symbol) (p : Taken) → made is_small t r ≡ Ok p → (is_small t ≡ true) × (record { tree = t; rest = r } ≡ p)
 made-Ok t r p e = by_test (is_small t) refl e
@@ -59,13 +59,13 @@ module _ (l room : ℕ) (P : Parser) (op_of : Symbol → Option BinaryOp) (ops :
   more_sound zero s (k ∷ r) p f i h w e = read_all l room s (k ∷ r) p f i h w e
   more_sound (suc n) s (k ∷ r) p f i h w e = by_op (op_of k) refl e (more_sound n)
     where
-      by_op : (o : Option BinaryOp) → op_of k ≡ o → found_if o (λ op. and_then (P r) (λ u q. and_then (made is_small (Pair op (meant s) u) q) (more is_small P op_of n))) (phrase (meant s) (k ∷ r)) ≡ Ok p → ((s' : Written) (ts : List Symbol) (q : Taken) → Fits l s' → IsRead s' → nesting s' ≤ room → is_small (meant s') ≡ true → more is_small P op_of n (meant s') ts ≡ Ok q → Read l room (spelled s' ++ ts) q) → Read l room (spelled s ++ k ∷ r) p
+      by_op : (o : Option BinaryOp) → op_of k ≡ o → found_if o (λ op. and_parse (P r) (λ u q. and_parse (made is_small (Pair op (meant s) u) q) (more is_small P op_of n))) (phrase (meant s) (k ∷ r)) ≡ Ok p → ((s' : Written) (ts : List Symbol) (q : Taken) → Fits l s' → IsRead s' → nesting s' ≤ room → is_small (meant s') ≡ true → more is_small P op_of n (meant s') ts ≡ Ok q → Read l room (spelled s' ++ ts) q) → Read l room (spelled s ++ k ∷ r) p
       by_op None is e again = read_all l room s (k ∷ r) p f i h w e
       by_op (Some op) is e again =
           let word = ops.says k op is in
-          let q = and_then-Ok (P r) (λ u q. and_then (made is_small (Pair op (meant s) u) q) (more is_small P op_of n)) p e in
+          let q = and_parse-Ok (P r) (λ u q. and_parse (made is_small (Pair op (meant s) u) q) (more is_small P op_of n)) p e in
           let b = operands r q.0 q.1 in
-          let q2 = and_then-Ok (made is_small (Pair op (meant s) q.0.tree) q.0.rest) (more is_small P op_of n) p q.2 in
+          let q2 = and_parse-Ok (made is_small (Pair op (meant s) q.0.tree) q.0.rest) (more is_small P op_of n) p q.2 in
           let node = made-Ok (Pair op (meant s) q.0.tree) q.0.rest q2.0 q2.1 in
           let fits : Fits l (Joined op s b.written) = (omega (arith, word.1), subst (λ m. Fits m s) (sym (ops.left op word.1)) f, subst (λ m. Fits (m + 1) b.written) (sym word.1) b.fits) in
           let shallow : nesting (Joined op s b.written) ≤ room = omega (arith, b.shallow) in
@@ -77,7 +77,7 @@ module _ (l room : ℕ) (P : Parser) (op_of : Symbol → Option BinaryOp) (ops :
 
   pub chain_sound : Sound l room (chain_by is_small P op_of)
   chain_sound ts p e =
-      let q = and_then-Ok (P ts) (λ t r. more is_small P op_of (length r) t r) p e in
+      let q = and_parse-Ok (P ts) (λ t r. more is_small P op_of (length r) t r) p e in
       let a = operands ts q.0 q.1 in
       let step : more is_small P op_of (length q.0.rest) (meant a.written) q.0.rest ≡ Ok p = ap (λ t. more is_small P op_of (length q.0.rest) t q.0.rest) a.tree ∙ q.2 in
       let read = more_sound (length q.0.rest) a.written q.0.rest p (Fits-weaker l (l + 1) a.written (omega arith) a.fits) a.read a.shallow (ap is_small a.tree ∙ a.sized) step in
@@ -88,11 +88,11 @@ module _ (l room : ℕ) (P : Parser) (find : Symbol → Option Prefix) (fs : Fro
   fronted_sound [] p e = weaker l (l + 1) room [] p (omega arith) (operands [] p e)
   fronted_sound (k ∷ r) p e = by_word (find k) refl e (fronted_sound r)
     where
-      by_word : (o : Option Prefix) → find k ≡ o → found_if o (λ op. and_then (fronted_by is_small P find r) (λ t s. made is_small (Prefixed op t) s)) (P (k ∷ r)) ≡ Ok p → ((q : Taken) → fronted_by is_small P find r ≡ Ok q → Read l room r q) → Read l room (k ∷ r) p
+      by_word : (o : Option Prefix) → find k ≡ o → found_if o (λ op. and_parse (fronted_by is_small P find r) (λ t s. made is_small (Prefixed op t) s)) (P (k ∷ r)) ≡ Ok p → ((q : Taken) → fronted_by is_small P find r ≡ Ok q → Read l room r q) → Read l room (k ∷ r) p
       by_word None is e again = weaker l (l + 1) room (k ∷ r) p (omega arith) (operands (k ∷ r) p e)
       by_word (Some op) is e again =
           let word = fs.says k op is in
-          let q = and_then-Ok (fronted_by is_small P find r) (λ t s. made is_small (Prefixed op t) s) p e in
+          let q = and_parse-Ok (fronted_by is_small P find r) (λ t s. made is_small (Prefixed op t) s) p e in
           let a = again q.0 q.1 in
           let node = made-Ok (Prefixed op q.0.tree) q.0.rest p q.2 in
           let rest : q.0.rest ≡ p.rest = ap (λ v. v.rest) node.1 in
@@ -112,11 +112,11 @@ module _ (room : ℕ) (P : Parser) (operands : Sound 5 room P) where
   once_after s [] p f i h w e = read_all 4 room s [] p (Fits-weaker 4 5 s (omega arith) f) i h w e
   once_after s (k ∷ r) p f i h w e = by_op (relation_op k) refl e
     where
-      by_op : (o : Option BinaryOp) → relation_op k ≡ o → found_if o (λ op. and_then (P r) (λ u q. made is_small (Pair op (meant s) u) q)) (phrase (meant s) (k ∷ r)) ≡ Ok p → Read 4 room (spelled s ++ k ∷ r) p
+      by_op : (o : Option BinaryOp) → relation_op k ≡ o → found_if o (λ op. and_parse (P r) (λ u q. made is_small (Pair op (meant s) u) q)) (phrase (meant s) (k ∷ r)) ≡ Ok p → Read 4 room (spelled s ++ k ∷ r) p
       by_op None is e = read_all 4 room s (k ∷ r) p (Fits-weaker 4 5 s (omega arith) f) i h w e
       by_op (Some op) is e =
           let word = relation_says k op is in
-          let q = and_then-Ok (P r) (λ u q. made is_small (Pair op (meant s) u) q) p e in
+          let q = and_parse-Ok (P r) (λ u q. made is_small (Pair op (meant s) u) q) p e in
           let b = operands r q.0 q.1 in
           let node = made-Ok (Pair op (meant s) q.0.tree) q.0.rest p q.2 in
           let rest : q.0.rest ≡ p.rest = ap (λ v. v.rest) node.1 in
@@ -134,7 +134,7 @@ module _ (room : ℕ) (P : Parser) (operands : Sound 5 room P) where
 
   pub once_sound : Sound 4 room (once_by is_small P relation_op)
   once_sound ts p e =
-      let q = and_then-Ok (P ts) (once is_small P relation_op) p e in
+      let q = and_parse-Ok (P ts) (once is_small P relation_op) p e in
       let a = operands ts q.0 q.1 in
       let step : once is_small P relation_op (meant a.written) q.0.rest ≡ Ok p = ap (λ t. once is_small P relation_op t q.0.rest) a.tree ∙ q.2 in
       let read = once_after a.written q.0.rest p a.fits a.read a.shallow (ap is_small a.tree ∙ a.sized) step in
@@ -160,7 +160,7 @@ primary_sound room inner (Operand (Ok t) ∷ r) p e =
     record { written = Leaf (Ok t); fits = tt; symbols = ap (λ l. Operand (Ok t) ∷ l) rest; read = tt; tree = tree; shallow = omega arith; sized = ap is_small (sym tree) }
 primary_sound room inner (Operand (Err c) ∷ r) p e = cc
 primary_sound room inner (Opening ∷ r) p e =
-    let q = and_then-Ok (expression is_small room r) closed p e in
+    let q = and_parse-Ok (expression is_small room r) closed p e in
     let a = inner r q.0 q.1 in
     let c = closed-Ok q.0.tree q.0.rest p q.2 in
     let flat : spelled a.0.written ++ q.0.rest ≡ (spelled a.0.written ++ Closing ∷ []) ++ p.rest = ap (λ l. spelled a.0.written ++ l) c.0 ∙ sym (append_assoc (spelled a.0.written) (Closing ∷ []) p.rest) in

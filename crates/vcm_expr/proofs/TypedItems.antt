@@ -22,7 +22,7 @@ use Rattle.vcm_expr.specs.Typed.{VariableBelow, VariablesBelow}
 use Rattle.vcm_expr.specs.Typing.{leaf_of, kinded, is_scaled, scaled, scaled_kind, typed_as, pair_by, and_then, typed_of, wanted_by, wanted_kind, typed_for}
 use Rattle.vcm_expr.specs.Source.{parts}
 use Rattle.vcm_expr.specs.inner.Runs.{ItemsFit}
-use Rattle.vcm_expr.specs.inner.Trees.{topmost, scaling, Spelled, Wanted}
+use Rattle.vcm_expr.specs.inner.Trees.{topmost, scaling, Spelled, SpelledFor}
 use Rattle.vcm_expr.proofs.Runs.{ItemsFit-spelling}
 use Rattle.vcm_expr.proofs.PostfixKinds.{need-le-depth, spelling-HasKind}
 use Rattle.vcm_expr.proofs.Truths.{spelling-short}
@@ -109,7 +109,7 @@ pair_spelled op k l j a b old one two new between ea eb kk ll o left right kind 
 
 -- the only expression, fitted to its place
 pub typed_wanted : (vs : List Variable) (want : Want) (s : Source) (k : Kind) (items after : List Item) → Spelled (typed_of vs s) [] items k
-    → ((t : Tree) → items ≡ spelling t → Wanted (wanted_by want t k) after) → (t : Tree) × (typed_for vs want s ≡ Ok t) × (after ≡ spelling t)
+    → ((t : Tree) → items ≡ spelling t → SpelledFor (wanted_by want t k) after) → (t : Tree) × (typed_for vs want s ≡ Ok t) × (after ≡ spelling t)
 typed_wanted vs want s k items after p next =
     let w = next p.tree p.items in
     (w.tree, ap (λ o. and_then o (wanted_by want)) p.is ∙ w.is, w.items)

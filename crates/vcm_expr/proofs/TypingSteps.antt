@@ -12,7 +12,7 @@ use Rattle.vcm_expr.specs.declared.expression.Prefix.{Prefix}
 use Rattle.vcm_expr.specs.declared.expression.Term.{Term}
 use Rattle.vcm_expr.specs.declared.expression.Piece.{Piece}
 use Rattle.vcm_expr.specs.declared.expression.Piece.TheVariants.{Number, Truth, Variable as Named, Front, Between}
-use Rattle.vcm_expr.specs.declared.typing.Operated.{Operated}
+use Rattle.vcm_expr.specs.declared.typing.OpenOperand.{OpenOperand}
 use Rattle.vcm_expr.specs.Source.{Source, Plain}
 use Rattle.vcm_expr.specs.Typing.{leaf_of, prefixed_by, pair_by, and_then, typed_of}
 use Rattle.vcm_expr.specs.Source.{parts}
@@ -21,21 +21,21 @@ use Rattle.vcm_expr.specs.inner.Trees.{Spelled}
 use Rattle.vcm_expr.specs.inner.Typings.{AreTyped, AllTyped, Fails}
 use Rattle.vcm_expr.proofs.PieceLemmas.{one_is}
 
-all_typed : (vs : List Variable) (es : List Source) (os : List Operated) (before now : List Item) → AreTyped vs es os before now → AllTyped vs es
+all_typed : (vs : List Variable) (es : List Source) (os : List OpenOperand) (before now : List Item) → AreTyped vs es os before now → AllTyped vs es
 all_typed vs [] os before now h = tt
 all_typed vs (e ∷ es) [] before now h = absurd h
 all_typed vs (e ∷ es) (o ∷ os) before now h = ((record { tree = h.1.tree; kind = o.kind }, h.1.is), all_typed vs es os before h.0 h.3)
 
 -- a leaf that is refused
-pub leaf_fails : (vs : List Variable) (t : Term) (es : List Source) (os : List Operated) (before now : List Item) (code : FaultCode) → leaf_of vs t ≡ Err code → AreTyped vs es os before now → Fails vs code (Plain t ∷ es)
+pub leaf_fails : (vs : List Variable) (t : Term) (es : List Source) (os : List OpenOperand) (before now : List Item) (code : FaultCode) → leaf_of vs t ≡ Err code → AreTyped vs es os before now → Fails vs code (Plain t ∷ es)
 leaf_fails vs t es os before now code e h = inl (e, all_typed vs es os before now h)
 
 -- a sign that doesn't take its operand
-front_fails : (vs : List Variable) (op : Prefix) (es : List Source) (a : Operated) (os : List Operated) (before now : List Item) (code : FaultCode) → ((t : Tree) → prefixed_by op t a.kind ≡ Err code) → AreTyped vs es (a ∷ os) before now → Fails vs code (with_piece (Front op) es)
+front_fails : (vs : List Variable) (op : Prefix) (es : List Source) (a : OpenOperand) (os : List OpenOperand) (before now : List Item) (code : FaultCode) → ((t : Tree) → prefixed_by op t a.kind ≡ Err code) → AreTyped vs es (a ∷ os) before now → Fails vs code (with_piece (Front op) es)
 front_fails vs op [] a os before now code f h = absurd h
 front_fails vs op (e ∷ es) a os before now code f h = inl (ap (λ o. and_then o (prefixed_by op)) h.1.is ∙ f h.1.tree, all_typed vs es os before h.0 h.3)
 
-pub front_told : (vs : List Variable) (op : Prefix) (a : Operated) (os left : List Operated) (now : List Item) (line : ℕ) (g : SourceFault) → os ≡ a ∷ left
+pub front_told : (vs : List Variable) (op : Prefix) (a : OpenOperand) (os left : List OpenOperand) (now : List Item) (line : ℕ) (g : SourceFault) → os ≡ a ∷ left
     → NoMemoryOr (λ f. (f.line ≡ line) × ((t : Tree) → prefixed_by op t a.kind ≡ Err f.code)) g
     → NoMemoryOr (λ f. (f.line ≡ line) × ((es : List Source) (before : List Item) → AreTyped vs es os before now → Fails vs f.code (with_piece (Front op) es))) g
 front_told vs op a os left now line g e (inl m) = inl m
@@ -43,13 +43,13 @@ front_told vs op a os left now line g e (inr h) =
     inr (h.0, λ es before t. front_fails vs op es a left before now g.code h.1 (subst (λ x. AreTyped vs es x before now) e t))
 
 -- an operator that doesn't take its operands
-between_fails : (vs : List Variable) (op : BinaryOp) (es : List Source) (a b : Operated) (os : List Operated) (before now : List Item) (code : FaultCode) → ((t u : Tree) → pair_by op t a.kind u b.kind ≡ Err code) → AreTyped vs es (b ∷ a ∷ os) before now → Fails vs code (with_piece (Between op) es)
+between_fails : (vs : List Variable) (op : BinaryOp) (es : List Source) (a b : OpenOperand) (os : List OpenOperand) (before now : List Item) (code : FaultCode) → ((t u : Tree) → pair_by op t a.kind u b.kind ≡ Err code) → AreTyped vs es (b ∷ a ∷ os) before now → Fails vs code (with_piece (Between op) es)
 between_fails vs op [] a b os before now code f h = absurd h
 between_fails vs op (e ∷ []) a b os before now code f h = absurd h.3
 between_fails vs op (d ∷ e ∷ es) a b os before now code f h =
     inl (ap (λ o. and_then o (λ t k. and_then (typed_of vs d) (pair_by op t k))) h.3.1.is ∙ ap (λ o. and_then o (pair_by op h.3.1.tree a.kind)) h.1.is ∙ f h.3.1.tree h.1.tree, all_typed vs es os before h.3.0 h.3.3)
 
-pub between_told : (vs : List Variable) (op : BinaryOp) (a b : Operated) (os mid left : List Operated) (now : List Item) (line : ℕ) (g : SourceFault) → os ≡ b ∷ mid → mid ≡ a ∷ left
+pub between_told : (vs : List Variable) (op : BinaryOp) (a b : OpenOperand) (os mid left : List OpenOperand) (now : List Item) (line : ℕ) (g : SourceFault) → os ≡ b ∷ mid → mid ≡ a ∷ left
     → NoMemoryOr (λ f. (f.line ≡ line) × ((t u : Tree) → pair_by op t a.kind u b.kind ≡ Err f.code)) g
     → NoMemoryOr (λ f. (f.line ≡ line) × ((es : List Source) (before : List Item) → AreTyped vs es os before now → Fails vs f.code (with_piece (Between op) es))) g
 between_told vs op a b os mid left now line g e d (inl m) = inl m
@@ -57,13 +57,13 @@ between_told vs op a b os mid left now line g e d (inr h) =
     inr (h.0, λ es before t. between_fails vs op es a b left before now g.code h.1 (subst (λ x. AreTyped vs es x before now) (e ∙ ap (λ x. b ∷ x) d) t))
 
 -- the topmost operand begins within the items
-starts_within : (vs : List Variable) (es : List Source) (b : Operated) (os : List Operated) (before now : List Item) → AreTyped vs es (b ∷ os) before now → b.start ≤ length now
+starts_within : (vs : List Variable) (es : List Source) (b : OpenOperand) (os : List OpenOperand) (before now : List Item) → AreTyped vs es (b ∷ os) before now → b.start ≤ length now
 starts_within vs [] b os before now h = absurd h
 starts_within vs (e ∷ es) b os before now h =
     let whole = ap length h.1.items in
     omega (arith, h.2, whole, length-append h.0 (spelling h.1.tree))
 
-pub start_within : (vs : List Variable) (es : List Source) (b : Operated) (os left : List Operated) (before now : List Item) → os ≡ b ∷ left → AreTyped vs es os before now → b.start ≤ length now
+pub start_within : (vs : List Variable) (es : List Source) (b : OpenOperand) (os left : List OpenOperand) (before now : List Item) → os ≡ b ∷ left → AreTyped vs es os before now → b.start ≤ length now
 start_within vs es b os left before now e h = starts_within vs es b left before now (subst (λ x. AreTyped vs es x before now) e h)
 
 -- a fault passes on
@@ -95,7 +95,7 @@ pub piece_next : (ps : List Piece) (i : ℕ) (d : Piece) (es : List Source) → 
 piece_next ps i d es h e = e ∙ at_drop_more (λ qs. with_pieces qs es) ps i d h
 
 -- the exit where one part is refused
-pub typed_told : (vs : List Variable) (ps : List Piece) (i : ℕ) (p : Piece) (es : List Source) (os : List Operated) (before now : List Item) (line : ℕ) (g : SourceFault) → i < length ps → p ≡ get_or ps i p
+pub typed_told : (vs : List Variable) (ps : List Piece) (i : ℕ) (p : Piece) (es : List Source) (os : List OpenOperand) (before now : List Item) (line : ℕ) (g : SourceFault) → i < length ps → p ≡ get_or ps i p
     → with_pieces ps [] ≡ with_pieces (drop i ps) es → AreTyped vs es os before now
     → NoMemoryOr (λ f. (f.line ≡ line) × ((es : List Source) (before : List Item) → AreTyped vs es os before now → Fails vs f.code (with_piece p es))) g
     → NoMemoryOr (λ f. (f.line ≡ line) × ((e : Source) → ps ≡ parts e → typed_of vs e ≡ Err f.code)) g
@@ -110,17 +110,17 @@ typed_told vs ps i p es os before now line g h here e t (inr q) =
     )
 
 -- behind all parts the only operand is the expression
-last_is : (vs : List Variable) (e : Source) (o : Operated) (os : List Operated) (before now : List Item) → AreTyped vs (e ∷ []) (o ∷ os) before now → Spelled (typed_of vs e) before now o.kind
+last_is : (vs : List Variable) (e : Source) (o : OpenOperand) (os : List OpenOperand) (before now : List Item) → AreTyped vs (e ∷ []) (o ∷ os) before now → Spelled (typed_of vs e) before now o.kind
 last_is vs e o [] before now h = subst (λ m. Spelled (typed_of vs e) m now o.kind) h.3 h.1
 last_is vs e o (p ∷ os) before now h = absurd h.3
 
-pub typed_last : (vs : List Variable) (ps : List Piece) (i : ℕ) (es : List Source) (o : Operated) (os left : List Operated) (before now : List Item) → length ps ≤ i
+pub typed_last : (vs : List Variable) (ps : List Piece) (i : ℕ) (es : List Source) (o : OpenOperand) (os left : List OpenOperand) (before now : List Item) → length ps ≤ i
     → with_pieces ps [] ≡ with_pieces (drop i ps) es → AreTyped vs es os before now → os ≡ o ∷ left → (e : Source) → ps ≡ parts e → Spelled (typed_of vs e) before now o.kind
 typed_last vs ps i es o os left before now h run t top e is =
     let there : es ≡ e ∷ [] = sym (run ∙ at_drop_all (λ qs. with_pieces qs es) ps i h) ∙ one_is e ps is in
     last_is vs e o left before now (subst (λ x. AreTyped vs (e ∷ []) x before now) top (subst (λ s. AreTyped vs s os before now) there t))
 
-pub typed_some : (vs : List Variable) (ps : List Piece) (i : ℕ) (es : List Source) (os : List Operated) (before now : List Item) → length ps ≤ i
+pub typed_some : (vs : List Variable) (ps : List Piece) (i : ℕ) (es : List Source) (os : List OpenOperand) (before now : List Item) → length ps ≤ i
     → with_pieces ps [] ≡ with_pieces (drop i ps) es → AreTyped vs es os before now → os ≡ [] → (e : Source) → ps ≡ parts e → ⊥
 typed_some vs ps i es os before now h run t none e is =
     let there : es ≡ e ∷ [] = sym (run ∙ at_drop_all (λ qs. with_pieces qs es) ps i h) ∙ one_is e ps is in

@@ -20,7 +20,7 @@ use Rattle.vcm_expr.specs.Digits.{read_of}
 use Rattle.vcm_expr.specs.Symbols.{symbols_of, symbol_of, number_term, run_term, dotted_symbol, is_variable_name}
 use Rattle.vcm_expr.specs.Source.{Source, Plain, Prefixed, Pair, depth_of, nodes_of, is_small}
 use Rattle.vcm_expr.specs.Grammar.{Written, Leaf, Paren, Signed, Joined, spelled, IsOperand, Fits, meant, IsRead, SpellsExpr, IsDeep, NestsDeep, HasBigPart, HasFlaw, BreaksSymbols}
-use Rattle.vcm_expr.specs.inner.Pieces.{first_of}
+use Rattle.vcm_expr.specs.inner.Pieces.{top_of}
 use Rattle.vcm_expr.specs.inner.Parser.{Taken, phrase, disjunction_by, expression}
 use Rattle.vcm_expr.specs.inner.Levels.{Told}
 use Rattle.vcm_expr.specs.Parsing.{At}
@@ -241,5 +241,5 @@ lone_flaw ps o line (Err f) is h = inr (h.0, λ ws e. fails_breaks ws f.code (ap
 -- the only expression of the stack is what was read
 pub whole_finished : (ps : List Symbol) (t u : Source) (r : List Symbol) (now : List Source) → reading ps ≡ phrase t r → length r ≡ 0 → now ≡ t ∷ [] → now ≡ u ∷ [] → SpellsExpr ps u × (is_small u ≡ true)
 whole_finished ps t u r now e h first second =
-    let same : t ≡ u = ap (λ es. first_of es) (sym first ∙ second) in
+    let same : t ≡ u = ap (λ es. top_of es) (sym first ∙ second) in
     subst (λ s. SpellsExpr ps s × (is_small s ≡ true)) same (reads_spells ps t r e h)

@@ -96,7 +96,7 @@ pub struct Size {
 
 /// The parts of an expression, as they are kept: a leaf without parentheses takes no memory.
 #[derive(Drop)]
-pub enum Written {
+pub enum PieceList {
     One(Piece),
     Many(Vec<Piece>),
 }
@@ -104,7 +104,7 @@ pub enum Written {
 /// An expression as it is written, at most 32 deep and of at most 512 nodes. Contracts see it as a `Source`.
 #[derive(Drop)]
 pub struct Expr {
-    written: Written,
+    list: PieceList,
     size: Size,
 }
 
@@ -119,9 +119,9 @@ impl Model for Expr {
 
     ghost use Rattle.vcm_expr.specs.inner.Pieces.{pieces_of, source_of};
 
-    ghost view = { λ e. source_of e.written };
+    ghost view = { λ e. source_of e.list };
 
-    ghost invariant = { λ e. (pieces_of e.written ≡ parts (source_of e.written)) × IsSize e.size (source_of e.written) };
+    ghost invariant = { λ e. (pieces_of e.list ≡ parts (source_of e.list)) × IsSize e.size (source_of e.list) };
 }
 
 impl Expr {
@@ -132,7 +132,7 @@ impl Expr {
         ensures { result ≡ Plain term }
     {
         Expr {
-            written: Written::One(Piece::leaf(term)),
+            list: PieceList::One(Piece::leaf(term)),
             size: Size { depth: 1, nodes: 1 },
         }
     }
@@ -143,7 +143,7 @@ impl Expr {
         ensures { pieces.items ≡ parts result }
     {
         Expr {
-            written: Written::Many(pieces),
+            list: PieceList::Many(pieces),
             size,
         }
     }
@@ -158,16 +158,16 @@ impl Expr {
         ensures small { is_small self.now ≡ true }
         ensures fault { IfErr result (λ f. f ≡ no_memory) }
     {
-        let written = match &self.written {
-            Written::One(piece) => Written::One(piece.copy()),
-            Written::Many(pieces) => {
+        let list = match &self.list {
+            PieceList::One(piece) => PieceList::One(piece.copy()),
+            PieceList::Many(pieces) => {
                 let mut copy = Vec::new(alloc);
                 append_copies(&mut copy, pieces)?;
-                Written::Many(copy)
+                PieceList::Many(copy)
             }
         };
         Ok(Expr {
-            written,
+            list,
             size: self.size,
         })
     }
@@ -195,9 +195,9 @@ impl Expr {
         ensures parts { result.now ≡ parts self.now }
         ensures small { is_small self.now ≡ true }
     {
-        match &self.written {
-            Written::One(piece) => from_ref(piece),
-            Written::Many(pieces) => pieces.as_slice(),
+        match &self.list {
+            PieceList::One(piece) => from_ref(piece),
+            PieceList::Many(pieces) => pieces.as_slice(),
         }
     }
 }

@@ -1,16 +1,17 @@
 //! Expressions: as they are written, typed, and as postfix items; their kinds and values.
 #![tactic(auto)]
 
+mod bounded_stack;
 mod draft;
 mod expression;
 pub mod laws;
+mod leaves;
 mod levels;
 mod name;
 mod names;
 mod operators;
 mod parse;
 mod parser;
-mod pile;
 mod postfix;
 mod scaling;
 mod signs;
@@ -21,12 +22,12 @@ mod typing;
 mod value;
 mod variable_name;
 
+pub use bounded_stack::BoundedStack;
 pub use draft::Draft;
 pub use expression::{Expr, Piece, Prefix, Size, Term};
 pub use name::{Name, is_name};
 pub use names::Names;
 pub use parse::{parse_expr, read_expr};
-pub use pile::Pile;
 pub use postfix::{eval_postfix, pop_value, postfix_kind, step_kind, step_value, to_postfix};
 pub use stack::Stack;
 pub use symbol::{Symbol, is_variable_name};

@@ -6,25 +6,24 @@ ghost use Rattle.vcm_lines.specs.declared.fault.FaultCode.{FaultCode};
 ghost use Rattle.vcm_spec.specs.declared.expression.Item.{Item};
 ghost use Rattle.vcm_spec.specs.Expression.{Tree, Value, kind_of, spelling};
 ghost use Rattle.vcm_expr.specs.declared.expression.Term.{Term};
-ghost use Rattle.vcm_expr.specs.declared.expression.Term.TheVariants as term;
 ghost use Rattle.vcm_expr.specs.Source.{parts};
 ghost use Rattle.vcm_expr.specs.inner.Pieces.{with_piece};
-ghost use Rattle.vcm_expr.specs.inner.Trees.{Spelled, Wanted};
+ghost use Rattle.vcm_expr.specs.inner.Trees.{Spelled, SpelledFor};
 ghost use Rattle.vcm_expr.specs.inner.Typings.{AreTyped, Fails};
 ghost use Rattle.vcm_spec.specs.Setup.{Variable, kinds_of};
 ghost use Rattle.vcm_expr.specs.Source.{Source, Plain, is_small};
 ghost use Rattle.vcm_expr.specs.Typing.{kinded, leaf_of, prefixed_by, pair_by, typed_of, typed_for, wanted_by, wanted_kind};
 
 use crate::expression::{Expr, Piece, Prefix, Term};
-use crate::name::Name;
+use crate::leaves::{leaf, number, variable};
 use crate::names::Names;
 use crate::operators::kind_of_binary;
-use crate::pile::Pile;
 use crate::scaling::{is_scaled, scale_at, scale_last, scaled_kind};
+use crate::stack::Stack;
 use crate::typed::{Typed, usual_items};
 use std::alloc::Global;
 use vcm_lines::{FaultCode, SourceFault};
-use vcm_num::{Kind, Literal};
+use vcm_num::Kind;
 use vcm_spec::{BinaryOp, Item, Operand, UnaryOp};
 
 /// What the place of an expression takes.
@@ -40,7 +39,7 @@ pub enum Want {
 
 /// An operand whose items are there: its kind, and the place of its first item.
 #[derive(Clone, Copy)]
-struct Operated {
+struct OpenOperand {
     kind: Kind,
     start: usize,
 }
@@ -72,7 +71,7 @@ pub fn type_expr(
 }
 
 /// An operand of this kind for a place, scaled where it has to be.
-fn leaf_for(x: Operand, kind: Kind, line: u32, want: Want) -> Result<Typed, SourceFault>
+fn fit_leaf(x: Operand, kind: Kind, line: u32, want: Want) -> Result<Typed, SourceFault>
     ensures ok { IfOk result (λ t. wanted_by want (Value x) kind ≡ Ok t) }
     ensures fault { IfErr result (λ f. (f.line ≡ line) × (wanted_by want (Value x) kind ≡ Err f.code)) }
 {
@@ -91,7 +90,7 @@ fn type_leaf(term: &Term, line: u32, names: &Names, want: Want) -> Result<Typed,
     ensures fault { IfErr result (λ f. (f.line ≡ line) × (typed_for names.now want (Plain term.now) ≡ Err f.code)) }
 {
     let (x, kind) = leaf(term, line, names)?;
-    let typed = leaf_for(x, kind, line, want)?;
+    let typed = fit_leaf(x, kind, line, want)?;
     Ok(typed)
 }
 
@@ -116,7 +115,7 @@ fn type_pieces(
 
 /// Fits the only expression among the items, which is of this kind, to a place.
 fn demand(items: &mut Vec<Item>, k: Kind, line: u32, want: Want) -> Result<(), SourceFault>
-    ensures ok { OnOk result ((t : Tree) → items.old.items ≡ spelling t → Wanted (wanted_by want t k) items.new.items) }
+    ensures ok { OnOk result ((t : Tree) → items.old.items ≡ spelling t → SpelledFor (wanted_by want t k) items.new.items) }
     ensures fault { IfErr result (NoMemoryOr (λ f. (f.line ≡ line) × ((t : Tree) → wanted_by want t k ≡ Err f.code))) }
 {
     match (want, k) {
@@ -141,7 +140,7 @@ fn typed(
     ensures ok { IfOk result (λ k. (e : Source) → pieces.now ≡ parts e → Spelled (typed_of names.now e) items.old.items items.new.items k) }
     ensures fault { IfErr result (NoMemoryOr (λ f. (f.line ≡ line) × ((e : Source) → pieces.now ≡ parts e → typed_of names.now e ≡ Err f.code))) }
 {
-    let mut open = Pile::new(alloc);
+    let mut open = Stack::new(alloc);
     for piece in pieces {
         step(items, &mut open, piece, line, names)?;
     }
@@ -154,7 +153,7 @@ fn typed(
 /// Goes on by one part: a leaf is one more operand, a sign and an operator take theirs.
 fn step(
     items: &mut Vec<Item>,
-    open: &mut Pile<Operated>,
+    open: &mut Stack<OpenOperand>,
     piece: &Piece,
     line: u32,
     names: &Names,
@@ -168,19 +167,19 @@ fn step(
     match piece {
         Piece::Number(literal) => {
             let (x, kind) = number(*literal);
-            operand(items, open, x, kind)?;
+            push_operand(items, open, x, kind)?;
         }
-        Piece::Truth(truth) => operand(items, open, Operand::Truth(*truth), Kind::Bool)?,
+        Piece::Truth(truth) => push_operand(items, open, Operand::Truth(*truth), Kind::Bool)?,
         Piece::Variable(name, expansion) => {
             let (x, kind) = variable(name, *expansion, line, names)?;
-            operand(items, open, x, kind)?;
+            push_operand(items, open, x, kind)?;
         }
         Piece::Front(prefix) => {
             let Some(a) = open.pop() else {
                 return Ok(());
             };
             let kind = prefixed(items, *prefix, a.kind, line)?;
-            open.push(Operated {
+            open.push(OpenOperand {
                 kind,
                 start: a.start,
             })?;
@@ -194,7 +193,7 @@ fn step(
                 return Ok(());
             };
             let kind = pair(items, b.start, *op, a.kind, b.kind, line)?;
-            open.push(Operated {
+            open.push(OpenOperand {
                 kind,
                 start: a.start,
             })?;
@@ -204,9 +203,9 @@ fn step(
 }
 
 /// One more operand, which is of this kind.
-fn operand(
+fn push_operand(
     items: &mut Vec<Item>,
-    open: &mut Pile<Operated>,
+    open: &mut Stack<OpenOperand>,
     x: Operand,
     kind: Kind,
 ) -> Result<(), SourceFault>
@@ -216,49 +215,8 @@ fn operand(
 {
     let start = items.len();
     items.push(Item::Push(x))?;
-    open.push(Operated { kind, start })?;
+    open.push(OpenOperand { kind, start })?;
     Ok(())
-}
-
-/// A number as an operand, and its kind.
-fn number(literal: Literal) -> (Operand, Kind)
-    ensures { (vs : List Variable) → leaf_of vs (term.Number literal) ≡ kinded (Value result.0) result.1 }
-{
-    match literal {
-        Literal::Int(n) => (Operand::Integer(n), Kind::Int),
-        Literal::Thousandths(n) => (Operand::Thousandths(n), Kind::Real),
-    }
-}
-
-/// A variable as an operand, and its kind.
-fn variable(
-    name: &Name,
-    expansion: u32,
-    line: u32,
-    names: &Names,
-) -> Result<(Operand, Kind), SourceFault>
-    ensures ok { IfOk result (λ p. leaf_of names.now (term.Variable name.now expansion) ≡ kinded (Value p.0) p.1) }
-    ensures fault { IfErr result (λ f. (f.line ≡ line) × (leaf_of names.now (term.Variable name.now expansion) ≡ Err f.code)) }
-{
-    match names.find(expansion, name) {
-        Some((index, kind)) => Ok((Operand::Variable(index), kind)),
-        None => Err(SourceFault {
-            code: FaultCode::UnknownName,
-            line,
-        }),
-    }
-}
-
-/// A leaf, and its kind.
-fn leaf(term: &Term, line: u32, names: &Names) -> Result<(Operand, Kind), SourceFault>
-    ensures ok { IfOk result (λ p. leaf_of names.now term.now ≡ kinded (Value p.0) p.1) }
-    ensures fault { IfErr result (λ f. (f.line ≡ line) × (leaf_of names.now term.now ≡ Err f.code)) }
-{
-    match term {
-        Term::Number(literal) => Ok(number(*literal)),
-        Term::Truth(truth) => Ok((Operand::Truth(*truth), Kind::Bool)),
-        Term::Variable(name, expansion) => variable(name, *expansion, line, names),
-    }
 }
 
 /// Puts a sign or a negation behind its operand, which is of this kind, and returns the kind of both.

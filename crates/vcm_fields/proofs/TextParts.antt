@@ -1,5 +1,5 @@
 -- Names and texts, read as they are spelled.
-use Rattle.std.proofs.Common.{◌≡◌, ℕ, ◌≤◌, ◌&&◌, Bool, true, false, nat_le, IsTrue, List, length, refl, arith}
+use Rattle.std.proofs.Common.{◌≡◌, ℕ, ◌≤◌, ◌&&◌, Bool, true, nat_le, IsTrue, List, length, refl, arith}
 use Rattle.vcm_spec.specs.TextBytes.{is_text_byte, is_text, IsText}
 use Rattle.vcm_expr.proofs.NameLemmas.{variable_name_is_name}
 use Rattle.vcm_expr.specs.NameBytes.{is_name, is_name_byte, IsName}
@@ -12,6 +12,7 @@ use Rattle.vcm_fields.specs.Readers.{tested, byte_at, bytes_at, name_at, variabl
 use Rattle.vcm_fields.proofs.Inverse.{Reads, reads_as, reads_tested, reads_after}
 use Rattle.vcm_fields.proofs.NumberInverse.{reads_byte, reads_short, reads_bytes}
 use Rattle.vcm_fields.proofs.ItemParts.{in_range}
+use Rattle.std.proofs.lemmas.Bool.{and_parts}
 
 -- ---- names and texts
 
@@ -27,14 +28,9 @@ reads_tested_bytes test n = reads_tested (reads_bytes n) BadField test (λ x. (l
 reads_length : Reads (tested BadField (within 1 16) byte_at) byte (λ n. within 1 16 n ≡ true)
 reads_length = reads_tested reads_byte BadField (within 1 16) (λ n. within 1 16 n ≡ true) (λ n lt e. e) (λ n h. (let r = in_range 1 16 n h in omega (arith, r.1), h))
 
-both_true : (a b : Bool) → (a && b) ≡ true → (a ≡ true) × (b ≡ true)
-both_true true true e = (refl, refl)
-both_true true false e = absurd cc
-both_true false b e = absurd cc
-
 -- a name has 1 to 16 bytes
 name_length : (bs : List ℕ) → IsName bs → within 1 16 (length bs) ≡ true
-name_length bs h = (both_true (within 1 16 (length bs)) (list_all is_name_byte bs) h).0
+name_length bs h = (and_parts (within 1 16 (length bs)) (list_all is_name_byte bs) h).0
 
 pub reads_name : Reads name_at name IsName
 unfolding name_at
@@ -44,15 +40,15 @@ pub reads_variable_name : Reads variable_name_at name IsVariableName
 unfolding variable_name_at
 reads_variable_name = reads_as (reads_after reads_length length (reads_tested_bytes is_variable_name)) name IsVariableName (λ x. refl) (λ x h. h.1) (λ x h. (name_length x (variable_name_is_name x h), h))
 
-most : (m n : ℕ) → nat_le n m ≡ true → n ≤ m
+pub most : (m n : ℕ) → nat_le n m ≡ true → n ≤ m
 most m n e = grind arith
 
-most_back : (m n : ℕ) → n ≤ m → nat_le n m ≡ true
+pub most_back : (m n : ℕ) → n ≤ m → nat_le n m ≡ true
 most_back m n h = grind arith
 
 -- a text has at most 1,024 bytes
 text_length : (bs : List ℕ) → IsText bs → nat_le (length bs) 1024 ≡ true
-text_length bs h = (both_true (nat_le (length bs) 1024) (list_all is_text_byte bs) h).0
+text_length bs h = (and_parts (nat_le (length bs) 1024) (list_all is_text_byte bs) h).0
 
 pub reads_text : Reads text_at text IsText
 unfolding text_at

@@ -6,18 +6,19 @@ use Rattle.vcm_spec.specs.Setup.{Variable as Entry}
 use Rattle.vcm_code.specs.declared.code.Code.{Code}
 use Rattle.vcm_code.specs.declared.op.Op.TheVariants.{EndFil, Goto, GoHome, Assign, If, Else, EndIf, Do, EndDo, Label, JumpTo, Feat, Meas, PtMeas, EndMes, SnSet, Trans, Rotate, Recall, Obtain, Output, Text}
 use Rattle.vcm_code.specs.Ops.{op_of, statements_of, code_of}
-use Rattle.vcm_code.specs.Ranges.{IsShort, OpInRange, AllInRange, AreVariables, IsInRange}
+use Rattle.vcm_code.specs.Ranges.{IsShort, OpInRange, AllInRange, IsInRange}
+use Rattle.vcm_expr.specs.Names.{AreNamed}
 use Rattle.vcm_fields.specs.declared.fault.ImageFault.{ImageFault}
 use Rattle.vcm_fields.specs.Parts.{Operation, Line}
 use Rattle.vcm_fields.specs.Fitting.{FitsExpression, FitsOperation, FitsLine, FitsEntry}
 use Rattle.vcm_fields.proofs.ItemParts.{in_range}
-use Rattle.vcm_image.specs.Whole.{Fits, spelling, code_at}
+use Rattle.vcm_image.specs.Whole.{FitsImage, spelling, code_at}
 use Rattle.vcm_image.proofs.Wholes.{code_takes, code_again}
 
 one_code : (c d : Code) → (r : Result Code ImageFault) → r ≡ Ok c → r ≡ Ok d → c ≡ d
 one_code c d r e f = let both : Ok c ≡ Ok d = sym e ∙ f in cc
 
-pub one_image : (c d : Code) → Fits c → Fits d → spelling c ≡ spelling d → c ≡ d
+pub one_image : (c d : Code) → FitsImage c → FitsImage d → spelling c ≡ spelling d → c ≡ d
 one_image c d f g e = one_code c d (code_at (spelling c)) (code_again c f) (ap code_at e ∙ code_again d g)
 
 -- ---- ranges
@@ -53,7 +54,7 @@ lines_range : (ss : List Line) → AllByRecursion FitsLine ss → AllInRange (st
 lines_range [] h = tt
 lines_range (s ∷ ss) h = (op_range s.op h.0.1, lines_range ss h.1)
 
-variables_range : (vs : List Entry) → AllByRecursion FitsEntry vs → AreVariables vs
+variables_range : (vs : List Entry) → AllByRecursion FitsEntry vs → AreNamed vs
 variables_range [] h = tt
 variables_range (v ∷ vs) h = (h.0.1, variables_range vs h.1)
 
@@ -61,7 +62,7 @@ statements_length : (ss : List Line) → length (statements_of ss) ≡ length ss
 statements_length [] = refl
 statements_length (s ∷ ss) = ap (λ n. suc n) (statements_length ss)
 
-pub range_of : (c : Code) → Fits c → IsInRange (code_of c)
+pub range_of : (c : Code) → FitsImage c → IsInRange (code_of c)
 range_of c h = record {
   variables = (h.variables.0, variables_range c.tables.variables h.variables.1);
   features = h.features;
@@ -71,9 +72,9 @@ range_of c h = record {
 
 -- ---- changes
 
-pub changed : (c : Code) (bytes : List ℕ) → ((i : ℕ) → get_or bytes i 0 < 256) → bytes ≢ spelling c → ((e : ImageFault) × (code_at bytes ≡ Err e)) ⊎ ((d : Code) × Fits d × (bytes ≡ spelling d) × (d ≢ c))
+pub changed : (c : Code) (bytes : List ℕ) → ((i : ℕ) → get_or bytes i 0 < 256) → bytes ≢ spelling c → ((e : ImageFault) × (code_at bytes ≡ Err e)) ⊎ ((d : Code) × FitsImage d × (bytes ≡ spelling d) × (d ≢ c))
 changed c bytes b differ = split (code_at bytes) refl
   where
-    split : (r : Result Code ImageFault) → code_at bytes ≡ r → ((e : ImageFault) × (code_at bytes ≡ Err e)) ⊎ ((d : Code) × Fits d × (bytes ≡ spelling d) × (d ≢ c))
+    split : (r : Result Code ImageFault) → code_at bytes ≡ r → ((e : ImageFault) × (code_at bytes ≡ Err e)) ⊎ ((d : Code) × FitsImage d × (bytes ≡ spelling d) × (d ≢ c))
     split (Err e) h = inl (e, h)
     split (Ok d) h = let t = code_takes bytes d b h in inr (d, t.0, t.1, λ same. differ (t.1 ∙ ap spelling same))

@@ -1,5 +1,5 @@
 -- An image is read as it is spelled.
-use Rattle.std.proofs.Common.{◌≡◌, ℕ, ◌^◌, ◌<◌, ◌≤◌, ◌==◌, nat_le, true, List, [], ◌++◌, length, Result, Ok, Err, refl, sym, ap, subst, ◌∙◌, arith}
+use Rattle.std.proofs.Common.{◌≡◌, ℕ, ◌^◌, ◌<◌, ◌≤◌, ◌==◌, true, List, [], ◌++◌, length, Result, Ok, Err, refl, sym, ap, subst, ◌∙◌, arith}
 use Rattle.std.proofs.lemmas.Bool.{eqb-true}
 use Rattle.std.proofs.lemmas.List.{append-nil, nil_from_length}
 use Rattle.std.specs.Prelude.{IfOk}
@@ -14,17 +14,11 @@ use Rattle.vcm_fields.specs.Spelling.{short, long, entry, name, line}
 use Rattle.vcm_fields.specs.Readers.{GivesOrNoMemory, tested, after, number_at}
 use Rattle.vcm_fields.proofs.Inverse.{IsBytes, Reads, bind_ok, guard_met, reads_as, reads_both, reads_via, reads_tested, reads_after, reads_times}
 use Rattle.vcm_fields.proofs.NumberInverse.{reads_short, reads_long}
-use Rattle.vcm_fields.proofs.TextParts.{reads_name}
+use Rattle.vcm_fields.proofs.TextParts.{reads_name, most, most_back}
 use Rattle.vcm_fields.proofs.StatementParts.{reads_line}
 use Rattle.vcm_fields.proofs.Parts.{reads_entry}
 use Rattle.vcm_image.specs.declared.counts.Counts.{Counts}
-use Rattle.vcm_image.specs.Whole.{Fits, counts_of, magic, header, spelling, is_number, at_most, header_at, body_at, ended, code_at}
-
-most : (m n : ℕ) → nat_le n m ≡ true → n ≤ m
-most m n e = grind arith
-
-most_back : (m n : ℕ) → n ≤ m → nat_le n m ≡ true
-most_back m n h = grind arith
+use Rattle.vcm_image.specs.Whole.{FitsImage, counts_of, magic, header, spelling, is_number, at_most, header_at, body_at, ended, code_at}
 
 is_that : (m n : ℕ) → is_number m n ≡ true → n ≡ m
 is_that m n e = eqb-true n m e
@@ -75,14 +69,14 @@ reads_body n = reads_via
     counts_same : {a b c d : ℕ} → a ≡ n.variables → b ≡ n.features → c ≡ n.frames → d ≡ n.statements → record { variables = a; features = b; frames = c; statements = d } ≡ n
     counts_same e f g h = rw (e, f, g, h) refl
 
-pub reads_code : Reads (after header_at body_at) spelling Fits
+pub reads_code : Reads (after header_at body_at) spelling FitsImage
 unfolding FitsCounts body FitsBody
-reads_code = reads_as (reads_after reads_header counts_of reads_body) spelling Fits (λ c. refl)
+reads_code = reads_as (reads_after reads_header counts_of reads_body) spelling FitsImage (λ c. refl)
     (λ c h. record { variables = (h.0.0, h.1.0); features = (h.0.1.0, h.1.1.0); frames = (h.0.1.1.0, h.1.1.1.0); statements = (h.0.1.1.1, h.1.1.1.1) })
     (λ c h. ((h.variables.0, (h.features.0, (h.frames.0, h.statements.0))), (h.variables.1, (h.features.1, (h.frames.1, h.statements.1)))))
 
 -- the two laws
-pub code_takes : (bytes : List ℕ) (c : Code) → IsBytes bytes → code_at bytes ≡ Ok c → Fits c × (bytes ≡ spelling c)
+pub code_takes : (bytes : List ℕ) (c : Code) → IsBytes bytes → code_at bytes ≡ Ok c → FitsImage c × (bytes ≡ spelling c)
 unfolding code_at
 code_takes bytes c fits e =
     let a = bind_ok (after header_at body_at bytes) ended c e in
@@ -90,14 +84,14 @@ code_takes bytes c fits e =
     let t = reads_code.takes bytes a.0 fits a.1 in
     let nothing : a.0.1 ≡ [] = nil_from_length a.0.1 (eqb-true _ _ g.0) in
     let whole : bytes ≡ spelling a.0.0 = t.0.parts ∙ ap (λ (r : List ℕ). spelling a.0.0 ++ r) nothing ∙ append-nil (spelling a.0.0) in
-    subst (λ (v : Code). Fits v × (bytes ≡ spelling v)) g.1 (t.1, whole)
+    subst (λ (v : Code). FitsImage v × (bytes ≡ spelling v)) g.1 (t.1, whole)
 
-pub code_again : (c : Code) → Fits c → code_at (spelling c) ≡ Ok c
+pub code_again : (c : Code) → FitsImage c → code_at (spelling c) ≡ Ok c
 unfolding code_at
 code_again c fits =
     let back : after header_at body_at (spelling c) ≡ Ok (c, []) = ap (after header_at body_at) (sym (append-nil (spelling c))) ∙ reads_code.again c [] fits in
     rw back refl
 
-pub is_found : (bytes : List ℕ) (r : Result Code ImageFault) → IsBytes bytes → GivesOrNoMemory (λ c. c) r (code_at bytes) → IfOk r (λ c. Fits c × (bytes ≡ spelling c))
+pub is_found : (bytes : List ℕ) (r : Result Code ImageFault) → IsBytes bytes → GivesOrNoMemory (λ c. c) r (code_at bytes) → IfOk r (λ c. FitsImage c × (bytes ≡ spelling c))
 is_found bytes (Ok c) fits given = code_takes bytes c fits given
 is_found bytes (Err e) fits given = tt

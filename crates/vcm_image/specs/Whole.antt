@@ -13,7 +13,7 @@ use Rattle.vcm_fields.specs.Readers.{Reader, both, via, tested, after, times, nu
 use Rattle.vcm_image.specs.declared.counts.Counts.{Counts}
 
 -- no table is too long, and each field is in range
-pub record Fits (c : Code) : Type 0 where
+pub record FitsImage (c : Code) : Type 0 where
   pub variables : (length c.tables.variables ≤ 4096) × AllByRecursion FitsEntry c.tables.variables
   pub features : (length c.tables.features ≤ 4096) × AllByRecursion IsName c.tables.features
   pub frames : (length c.tables.frames ≤ 4096) × AllByRecursion IsName c.tables.frames

@@ -4,7 +4,8 @@ ghost use Rattle.std.specs.Prelude.{◌≤◌, length};
 ghost use Rattle.std.specs.List.{AllByRecursion};
 ghost use Rattle.vcm_expr.specs.NameBytes.{IsName};
 ghost use Rattle.vcm_code.specs.Ops.{op_of, statements_of, code_of};
-ghost use Rattle.vcm_code.specs.Ranges.{IsShort, OpInRange, AllInRange, AreVariables, AllAreNames, IsInRange};
+ghost use Rattle.vcm_code.specs.Ranges.{IsShort, OpInRange, AllInRange, AllAreNames, IsInRange};
+ghost use Rattle.vcm_expr.specs.Names.{AreNamed};
 ghost use Rattle.vcm_code.specs.Deciding.{Tells};
 
 use crate::scanned::{MOST_NAMES, MOST_STATEMENTS};
@@ -65,7 +66,7 @@ fn all_in_range(statements: &[OwnedStatement]) -> bool
 
 // Whether all variables have names of variables.
 fn are_variables(variables: &[Variable]) -> bool
-    ensures { Tells result (AreVariables variables.now) }
+    ensures { Tells result (AreNamed variables.now) }
 {
     for it in variables {
         if !is_variable_name(it.name().as_bytes()) {

@@ -3,7 +3,7 @@
 ghost use Rattle.std.specs.Prelude.{◌≡◌, Ok, IfOk};
 ghost use Rattle.vcm_code.specs.declared.code.Code.{Code as CodeOf};
 ghost use Rattle.vcm_fields.specs.Readers.{GivesOrNoMemory};
-ghost use Rattle.vcm_image.specs.Whole.{Fits, spelling, code_at};
+ghost use Rattle.vcm_image.specs.Whole.{FitsImage, spelling, code_at};
 
 use crate::copying::statements;
 use crate::scanned::open;
@@ -19,9 +19,9 @@ use vcm_fields::ImageFault;
 /// range, Trailing where bytes are left over. Want of memory.
 pub fn read(alloc: Global, bytes: &[u8]) -> Result<Code, ImageFault>
     // What is read is spelled so.
-    ensures found { IfOk result (λ c. Fits c × (bytes.now ≡ spelling c)) }
+    ensures found { IfOk result (λ c. FitsImage c × (bytes.now ≡ spelling c)) }
     // What is spelled so is read, unless memory runs out.
-    ensures only { (c : CodeOf) → Fits c → bytes.now ≡ spelling c → GivesOrNoMemory (λ s. s) result (Ok c) }
+    ensures only { (c : CodeOf) → FitsImage c → bytes.now ≡ spelling c → GivesOrNoMemory (λ s. s) result (Ok c) }
     // Which refusal it is.
     ensures exact { GivesOrNoMemory (λ c. c) result (code_at bytes.now) }
 {

@@ -5,7 +5,7 @@ ghost use Rattle.std.specs.Int.{w16, w32};
 ghost use Rattle.vcm_expr.specs.NameBytes.{IsName};
 ghost use Rattle.vcm_code.specs.declared.code.Code.{Code};
 ghost use Rattle.vcm_fields.specs.Readers.{Gives, Fails, GivesOrNoMemory, times, name_at, line_at, entry_at};
-ghost use Rattle.vcm_image.specs.Whole.{Fits, spelling, header_at, count_at, code_at};
+ghost use Rattle.vcm_image.specs.Whole.{FitsImage, spelling, header_at, count_at, code_at};
 ghost use Rattle.vcm_image.specs.inner.Places.{Table, IsEnd};
 
 use crate::copying;
@@ -189,9 +189,9 @@ fn scan(alloc: Global, bytes: &[u8]) -> Result<Scanned<'_>, ImageFault>
 /// range, Trailing where bytes are left over. Want of memory.
 pub fn open(alloc: Global, bytes: &[u8]) -> Result<Scanned<'_>, ImageFault>
     // What is read is spelled so.
-    ensures found { IfOk result (λ s. Fits s × (bytes.now ≡ spelling s)) }
+    ensures found { IfOk result (λ s. FitsImage s × (bytes.now ≡ spelling s)) }
     // What is spelled so is read, unless memory runs out.
-    ensures only { (c : Code) → Fits c → bytes.now ≡ spelling c → GivesOrNoMemory (λ s. s) result (Ok c) }
+    ensures only { (c : Code) → FitsImage c → bytes.now ≡ spelling c → GivesOrNoMemory (λ s. s) result (Ok c) }
     // Which refusal it is.
     ensures exact { GivesOrNoMemory (λ s. s) result (code_at bytes.now) }
 {

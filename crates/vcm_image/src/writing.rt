@@ -5,10 +5,11 @@ ghost use Rattle.std.specs.List.{flat_map, AllByRecursion};
 ghost use Rattle.vcm_expr.specs.NameBytes.{IsName};
 ghost use Rattle.vcm_expr.specs.Symbols.{IsVariableName};
 ghost use Rattle.vcm_code.specs.Ops.{statements_of, code_of};
-ghost use Rattle.vcm_code.specs.Ranges.{AllInRange, AreVariables, IsInRange};
+ghost use Rattle.vcm_code.specs.Ranges.{AllInRange, IsInRange};
+ghost use Rattle.vcm_expr.specs.Names.{AreNamed};
 ghost use Rattle.vcm_fields.specs.Fitting.{FitsLine, FitsEntry};
 ghost use Rattle.vcm_fields.specs.Spelling.{short as short_bytes, long as long_bytes, name as name_bytes, line as line_bytes, entry as entry_bytes};
-ghost use Rattle.vcm_image.specs.Whole.{Fits, header as header_bytes, spelling};
+ghost use Rattle.vcm_image.specs.Whole.{FitsImage, header as header_bytes, spelling};
 
 use crate::bytes::kind_byte;
 use crate::counts::Counts;
@@ -45,7 +46,7 @@ fn variable(out: &mut Vec<u8>, variable: &Variable) -> Result<(), NoMemory>
 
 // Appends variables.
 fn variables(out: &mut Vec<u8>, variables: &[Variable]) -> Result<(), NoMemory>
-    requires { AreVariables variables.now }
+    requires { AreNamed variables.now }
     ensures bytes { OnOk result (out.new.items ≡ out.old.items ++ flat_map entry_bytes variables.now) }
     ensures fit { OnOk result (AllByRecursion FitsEntry variables.now) }
 {
@@ -107,7 +108,7 @@ fn header(out: &mut Vec<u8>, counts: Counts) -> Result<(), NoMemory>
 pub fn write(alloc: Global, code: &Code) -> Result<Vec<u8>, NoMemory>
     requires { IsInRange (code_of code.now) }
     ensures spelled { IfOk result (λ bytes. bytes.items ≡ spelling code.now) }
-    ensures fits { OnOk result (Fits code.now) }
+    ensures fits { OnOk result (FitsImage code.now) }
 {
     let counts = Counts {
         variables: code.tables.variables().len() as u16,

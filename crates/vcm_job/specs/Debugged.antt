@@ -6,7 +6,7 @@ use Rattle.vcm_tree.specs.declared.program.Noticed.{Noticed}
 use Rattle.vcm_code.specs.declared.code.Code.{Code}
 use Rattle.vcm_code.specs.Ops.{code_of}
 use Rattle.vcm_code.specs.Valid.{IsValid}
-use Rattle.vcm_image.specs.Whole.{Fits, spelling, code_at}
+use Rattle.vcm_image.specs.Whole.{FitsImage, spelling, code_at}
 use Rattle.vcm_loader.specs.Loading.{LoadFault}
 use Rattle.vcm_console.specs.declared.reply.ServeFault.{ServeFault}
 use Rattle.vcm_debug.specs.Debugging.{Debugging, opened}
@@ -36,7 +36,7 @@ pub record IsServedOn (part : Workpiece) (image lines : List ℕ) (after old new
     : Type 0 where
   pub code : Code
   pub valid : IsValid (code_of code)
-  pub fits : Fits code
+  pub fits : FitsImage code
   pub spelled : image ≡ spelling code
   pub session : IsSession part code lines after old new r
 

@@ -6,7 +6,7 @@ use Rattle.vcm_tree.specs.declared.program.Noticed.{Noticed}
 use Rattle.vcm_code.specs.declared.code.Code.{Code}
 use Rattle.vcm_code.specs.Ops.{code_of}
 use Rattle.vcm_code.specs.Valid.{IsValid}
-use Rattle.vcm_image.specs.Whole.{Fits, spelling, code_at}
+use Rattle.vcm_image.specs.Whole.{FitsImage, spelling, code_at}
 use Rattle.vcm_loader.specs.Loading.{LoadFault}
 use Rattle.vcm_words.specs.Rows.{listing}
 use Rattle.vcm_words.specs.Outcomes.{FaultOrWant}
@@ -22,7 +22,7 @@ use Rattle.vcm_job.specs.Inputs.{is_image}
 pub record IsPrinted (image text : List ℕ) : Type 0 where
   pub code : Code
   pub valid : IsValid (code_of code)
-  pub fits : Fits code
+  pub fits : FitsImage code
   pub spelled : image ≡ spelling code
   pub listed : text ≡ listing code
 

@@ -58,7 +58,7 @@ pub(crate) fn is_image(input: &[u8]) -> bool
 }
 
 // The run of an input beside a workpiece, for at most so many steps.
-fn run_beside<P: Part>(
+fn run_either<P: Part>(
     alloc: Global,
     part: &P,
     input: &[u8],
@@ -81,12 +81,17 @@ fn run_beside<P: Part>(
 }
 
 // The run of an input beside the workpiece of a part file.
-fn summary_of(alloc: Global, part: &PartData, input: &[u8], steps: u64) -> Result<Summary, RunFault>
+fn summary_of_input(
+    alloc: Global,
+    part: &PartData,
+    input: &[u8],
+    steps: u64,
+) -> Result<Summary, RunFault>
     ensures run { IfOk result (IsInputRun part.now input.now steps) }
     ensures refused { IfErr result (IsRefusedInput input.now) }
 {
     match AnyPart::of(alloc, part) {
-        Ok(workpiece) => run_beside(alloc, &workpiece, input, steps),
+        Ok(workpiece) => run_either(alloc, &workpiece, input, steps),
         Err(_) => Err(RunFault::NoMemory),
     }
 }
@@ -103,7 +108,7 @@ fn run_input<W: Write>(
     ensures fault { IfErr result (λ f. IsNotRun part.now input.now steps f (W.contents writer.old) (W.contents writer.new)) }
 {
     // A fault is handed on by a match, since `?` on a value as big as a summary costs the prover far more.
-    let summary = match summary_of(alloc, part, input, steps) {
+    let summary = match summary_of_input(alloc, part, input, steps) {
         Ok(summary) => summary,
         Err(fault) => return Err(fault),
     };

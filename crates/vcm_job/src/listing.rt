@@ -5,7 +5,7 @@ ghost use Rattle.vcm_job.specs.Reading.{ReadsLittle, AnswersUnread};
 ghost use Rattle.vcm_job.specs.Unread.{list_not_read, asm_not_read};
 ghost use Rattle.vcm_job.specs.Listings.{IsPrinted, IsListed, IsListRefusal, IsWrittenOut, IsNotListed, IsNotAssembled};
 ghost use Rattle.vcm_job.specs.inner.Printing.{IsNotPrinted, IsListingRefusal};
-ghost use Rattle.vcm_image.specs.Whole.{Fits, spelling};
+ghost use Rattle.vcm_image.specs.Whole.{FitsImage, spelling};
 
 use crate::inputs::is_image;
 use crate::reading::{ReadFault, read_all};
@@ -147,7 +147,7 @@ pub fn list<R: Read, W: Write>(
 // The image of a code.
 #[tactic(auto, using(vcm_image::proofs::ImageLaws::range_of))]
 fn image_of(alloc: Global, code: &Code) -> Result<Vec<u8>, AsmFault>
-    requires { Fits code.now }
+    requires { FitsImage code.now }
     ensures image { IfOk result (λ v. v.items ≡ spelling code.now) }
     ensures fault { IfErr result (λ f. f ≡ AsmFault.NoMemory) }
 {

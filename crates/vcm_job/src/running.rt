@@ -156,7 +156,7 @@ fn run_program<P: Part>(
 }
 
 // The run of the two texts of an input, for so many steps.
-fn summary_of(alloc: Global, input: &[u8], steps: u64) -> Result<Summary, JobFault>
+fn summary_of_texts(alloc: Global, input: &[u8], steps: u64) -> Result<Summary, JobFault>
     ensures run { IfOk result (IsTextsRun input.now steps) }
     ensures fault { IfErr result (IsJobRefusal input.now) }
 {
@@ -179,7 +179,7 @@ fn run_job<W: Write>(
     ensures fault { IfErr result (λ f. IsNoJob input.now f (W.contents writer.old) (W.contents writer.new)) }
 {
     // A fault is handed on by a match, since `?` on a value as big as a summary costs the prover far more.
-    let summary = match summary_of(alloc, input, steps) {
+    let summary = match summary_of_texts(alloc, input, steps) {
         Ok(summary) => summary,
         Err(fault) => return Err(fault),
     };

@@ -4,7 +4,7 @@ use Rattle.std.proofs.lemmas.List.{take_all}
 use Rattle.std.proofs.lemmas.Bool.{ltb-false}
 use Rattle.std.proofs.lemmas.List.Quantifiers.{position-Some}
 use Rattle.std.proofs.lemmas.List.Sums.{position_or_len_is}
-use Rattle.vcm_lines.proofs.PieceLemmas.{some_or_none}
+use Rattle.vcm_lines.proofs.SegmentLemmas.{some_or_none}
 use Rattle.vcm_lines.specs.declared.logical.WordKind.TheVariants.{Mark}
 use Rattle.std.specs.List.{position, position_or_len, list_all, count_by, fold}
 use Rattle.vcm_lines.specs.declared.logical.Word.{Word}

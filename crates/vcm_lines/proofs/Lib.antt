@@ -1,11 +1,11 @@
-pub mod PieceLemmas
+pub mod SegmentLemmas
 pub mod Scanning
 pub mod Raising
 pub mod WordLemmas
 pub mod Cutting
 pub mod Joining
 pub mod Reading
-pub mod PieceLaw
+pub mod SegmentLaw
 pub mod OneReading
 pub mod CutLemmas
 pub mod CutLaws

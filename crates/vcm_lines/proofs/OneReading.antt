@@ -1,7 +1,7 @@
 -- A text has one list of statements.
 use Rattle.std.proofs.Common.{◌≡◌, ℕ, ◌+◌, List, [], ◌∷◌, drop, refl, sym, ap, ◌∙◌, subst}
 use Rattle.vcm_lines.specs.Words.{first_word, AreWords}
-use Rattle.vcm_lines.specs.Statements.{Row, byte_lines, IsLogical, AreLogical}
+use Rattle.vcm_lines.specs.Statements.{KeptLine, byte_lines, IsLogical, AreLogical}
 use Rattle.vcm_lines.specs.declared.logical.Logical.{Logical}
 use Rattle.vcm_lines.specs.declared.logical.Word.{Word}
 
@@ -20,14 +20,14 @@ abbrev made : ℕ → List ℕ → List Word → Logical
 made n t ws = record { line = n; text = t; words = ws }
 
 -- rows are one statement
-one_logical : (rows : List Row) (x y : Logical) → IsLogical rows x → IsLogical rows y → x ≡ y
+one_logical : (rows : List KeptLine) (x y : Logical) → IsLogical rows x → IsLogical rows y → x ≡ y
 one_logical rows x y p q =
     let text : x.text ≡ y.text = p.text ∙ sym q.text in
     let words : x.words ≡ y.words = one_words (byte_lines rows) y.text 0 x.words y.words (subst (λ t. AreWords (byte_lines rows) t 0 x.words) text p.words) q.words in
     let line : x.line ≡ y.line = p.line ∙ sym q.line in
     ap (λ (n : ℕ). made n x.text x.words) line ∙ ap (λ (t : List ℕ). made y.line t x.words) text ∙ ap (λ (ws : List Word). made y.line y.text ws) words
 
-pub one_statements : (rows : List (List Row)) (xs ys : List Logical) → AreLogical rows xs → AreLogical rows ys → xs ≡ ys
+pub one_statements : (rows : List (List KeptLine)) (xs ys : List Logical) → AreLogical rows xs → AreLogical rows ys → xs ≡ ys
 one_statements [] xs ys p q = p ∙ sym q
 one_statements (s ∷ ss) [] ys p q = absurd p
 one_statements (s ∷ ss) (x ∷ xs) [] p q = absurd q

@@ -6,8 +6,8 @@ use Rattle.std.specs.Str.Lines.{lines}
 use Rattle.std.proofs.lemmas.List.{append-nil, take_all, length-take, length-drop}
 use Rattle.vcm_lines.specs.Fault.{NoMemoryOr}
 use Rattle.vcm_spec.specs.Phase.{IsCleanBelow, IsClean, FirstFault}
-use Rattle.vcm_lines.specs.Pieces.{text_of, continues}
-use Rattle.vcm_lines.specs.Statements.{Row, row_of, is_empty, rows_from, rows_of, grouped, unfinished, last_line, IsLogical, AreLogical, BreaksLine, Breaks, told_line}
+use Rattle.vcm_lines.specs.Segments.{text_of, continues}
+use Rattle.vcm_lines.specs.Statements.{KeptLine, kept_line, is_empty, kept_lines_from, kept_lines, grouped, unfinished, last_line, IsLogical, AreLogical, BreaksLine, Breaks, told_line}
 use Rattle.vcm_lines.specs.inner.Holding.{span_of, Holds}
 use Rattle.vcm_lines.specs.declared.lines.Unfinished.{Unfinished}
 use Rattle.vcm_lines.specs.declared.logical.Logical.{Logical}
@@ -18,8 +18,8 @@ use Rattle.vcm_spec.proofs.PhaseLemmas.{place_at, clean_more, fault_at, fault_at
 use Rattle.vcm_lines.proofs.Joining.{rows_of_more, unfinished_push, unfinished_goes, joined_first}
 
 -- the rows of the statement that the first n lines begin
-abbrev pub begun : List (List ℕ) → ℕ → List Row
-begun ls n = unfinished (rows_of (take n ls))
+abbrev pub begun : List (List ℕ) → ℕ → List KeptLine
+begun ls n = unfinished (kept_lines (take n ls))
 
 -- What is known once the first n lines are read.
 pub record IsRead (ls : List (List ℕ)) (n : ℕ) (rest : List ℕ) (u : Unfinished) (items : List Logical) : Type 0 where
@@ -28,26 +28,26 @@ pub record IsRead (ls : List (List ℕ)) (n : ℕ) (rest : List ℕ) (u : Unfini
   pub few : n ≤ 20000
   pub clean : IsCleanBelow Breaks ls n
   pub holds : Holds u (begun ls n)
-  pub done : (more : List Logical) → AreLogical (grouped (begun ls n ++ rows_from (n + 1) (drop n ls))) more → AreLogical (grouped (rows_of ls)) (items ++ more)
+  pub done : (more : List Logical) → AreLogical (grouped (begun ls n ++ kept_lines_from (n + 1) (drop n ls))) more → AreLogical (grouped (kept_lines ls)) (items ++ more)
 
 -- ---- a line that breaks no rule
 
 -- the rows with one more line
-begun_more : (ls : List (List ℕ)) (n : ℕ) (l : List ℕ) (after : List (List ℕ)) → drop n ls ≡ l ∷ after → rows_of (take (n + 1) ls) ≡ rows_of (take n ls) ++ rows_from (n + 1) (l ∷ [])
+begun_more : (ls : List (List ℕ)) (n : ℕ) (l : List ℕ) (after : List (List ℕ)) → drop n ls ≡ l ∷ after → kept_lines (take (n + 1) ls) ≡ kept_lines (take n ls) ++ kept_lines_from (n + 1) (l ∷ [])
 begun_more ls n l after e =
     let q = place_at ls n l after e in
     let len : length (take n ls) ≡ n = omega (arith, length-take n ls, q.0) in
-    ap rows_of q.2 ∙ rows_of_more (take n ls) l ∙ ap (λ (k : ℕ). rows_of (take n ls) ++ rows_from (k + 1) (l ∷ [])) len
+    ap kept_lines q.2 ∙ rows_of_more (take n ls) l ∙ ap (λ (k : ℕ). kept_lines (take n ls) ++ kept_lines_from (k + 1) (l ∷ [])) len
 
 begun_empty : (ls : List (List ℕ)) (n : ℕ) (l : List ℕ) (after : List (List ℕ)) → drop n ls ≡ l ∷ after → is_empty l ≡ true → begun ls (n + 1) ≡ begun ls n
 begun_empty ls n l after e empty =
-    let none : rows_from (n + 1) (l ∷ []) ≡ [] = rw empty refl in
-    ap unfinished (begun_more ls n l after e ∙ ap (λ (r : List Row). rows_of (take n ls) ++ r) none ∙ append-nil (rows_of (take n ls)))
+    let none : kept_lines_from (n + 1) (l ∷ []) ≡ [] = rw empty refl in
+    ap unfinished (begun_more ls n l after e ∙ ap (λ (r : List KeptLine). kept_lines (take n ls) ++ r) none ∙ append-nil (kept_lines (take n ls)))
 
-begun_row : (ls : List (List ℕ)) (n : ℕ) (l : List ℕ) (after : List (List ℕ)) → drop n ls ≡ l ∷ after → is_empty l ≡ false → begun ls (n + 1) ≡ cond (continues l) (begun ls n ++ row_of (n + 1) l ∷ []) []
+begun_row : (ls : List (List ℕ)) (n : ℕ) (l : List ℕ) (after : List (List ℕ)) → drop n ls ≡ l ∷ after → is_empty l ≡ false → begun ls (n + 1) ≡ cond (continues l) (begun ls n ++ kept_line (n + 1) l ∷ []) []
 begun_row ls n l after e some =
-    let one : rows_from (n + 1) (l ∷ []) ≡ row_of (n + 1) l ∷ [] = rw some refl in
-    ap unfinished (begun_more ls n l after e ∙ ap (λ (r : List Row). rows_of (take n ls) ++ r) one) ∙ unfinished_push (rows_of (take n ls)) (row_of (n + 1) l)
+    let one : kept_lines_from (n + 1) (l ∷ []) ≡ kept_line (n + 1) l ∷ [] = rw some refl in
+    ap unfinished (begun_more ls n l after e ∙ ap (λ (r : List KeptLine). kept_lines (take n ls) ++ r) one) ∙ unfinished_push (kept_lines (take n ls)) (kept_line (n + 1) l)
 
 -- the rules that the line keeps
 keeps : (ls : List (List ℕ)) (n : ℕ) (l : List ℕ) (u : Unfinished) → n < 20000 → n ≤ length ls → length l ≤ 1024 → length (u.bytes.items ++ text_of l) ≤ 4096 → Holds u (begun ls n) → ((code : FaultCode) → BreaksLine l code → ⊥)
@@ -70,8 +70,8 @@ pub record IsAdded (n : ℕ) (l : List ℕ) (u : Unfinished) : Type 0 where
   pub fits : length (u.bytes.items ++ text_of l) ≤ 4096
   pub fine : (code : FaultCode) → BreaksLine l code → ⊥
 
-abbrev rows_at : List (List ℕ) → ℕ → List Row
-rows_at ls n = begun ls n ++ rows_from (n + 1) (drop n ls)
+abbrev rows_at : List (List ℕ) → ℕ → List KeptLine
+rows_at ls n = begun ls n ++ kept_lines_from (n + 1) (drop n ls)
 
 same_empty : (ls : List (List ℕ)) (n : ℕ) (l : List ℕ) (after : List (List ℕ)) → drop n ls ≡ l ∷ after → is_empty l ≡ true → rows_at ls (n + 1) ≡ rows_at ls n
 same_empty ls n l after e empty =
@@ -81,14 +81,14 @@ same_empty ls n l after e empty =
 same_goes : (ls : List (List ℕ)) (n : ℕ) (l : List ℕ) (after : List (List ℕ)) → drop n ls ≡ l ∷ after → is_empty l ≡ false → continues l ≡ true → rows_at ls (n + 1) ≡ rows_at ls n
 same_goes ls n l after e some goes =
     let q = place_at ls n l after e in
-    let b : begun ls (n + 1) ≡ begun ls n ++ row_of (n + 1) l ∷ [] = begun_row ls n l after e some ∙ ap (λ (g : Bool). cond g (begun ls n ++ row_of (n + 1) l ∷ []) []) goes in
-    rw (b, q.3, e, some) (append_assoc (begun ls n) (row_of (n + 1) l ∷ []) (rows_from (n + 1 + 1) after))
+    let b : begun ls (n + 1) ≡ begun ls n ++ kept_line (n + 1) l ∷ [] = begun_row ls n l after e some ∙ ap (λ (g : Bool). cond g (begun ls n ++ kept_line (n + 1) l ∷ []) []) goes in
+    rw (b, q.3, e, some) (append_assoc (begun ls n) (kept_line (n + 1) l ∷ []) (kept_lines_from (n + 1 + 1) after))
 
-joined_ends : (ls : List (List ℕ)) (n : ℕ) (l : List ℕ) (after : List (List ℕ)) → drop n ls ≡ l ∷ after → is_empty l ≡ false → continues l ≡ false → grouped (rows_at ls n) ≡ (begun ls n ++ row_of (n + 1) l ∷ []) ∷ grouped (rows_at ls (n + 1))
+joined_ends : (ls : List (List ℕ)) (n : ℕ) (l : List ℕ) (after : List (List ℕ)) → drop n ls ≡ l ∷ after → is_empty l ≡ false → continues l ≡ false → grouped (rows_at ls n) ≡ (begun ls n ++ kept_line (n + 1) l ∷ []) ∷ grouped (rows_at ls (n + 1))
 joined_ends ls n l after e some ends =
     let q = place_at ls n l after e in
-    let b : begun ls (n + 1) ≡ [] = begun_row ls n l after e some ∙ ap (λ (g : Bool). cond g (begun ls n ++ row_of (n + 1) l ∷ []) []) ends in
-    rw (b, q.3, e, some) (joined_first (begun ls n) (row_of (n + 1) l) (rows_from (n + 1 + 1) after) (unfinished_goes (rows_of (take n ls))) ends)
+    let b : begun ls (n + 1) ≡ [] = begun_row ls n l after e some ∙ ap (λ (g : Bool). cond g (begun ls n ++ kept_line (n + 1) l ∷ []) []) ends in
+    rw (b, q.3, e, some) (joined_first (begun ls n) (kept_line (n + 1) l) (kept_lines_from (n + 1 + 1) after) (unfinished_goes (kept_lines (take n ls))) ends)
 
 pub step_empty : (ls : List (List ℕ)) (n : ℕ) (rest after l : List ℕ) (u v : Unfinished) (items : List Logical) → lines rest ≡ l ∷ lines after → IsAdded n l u → is_empty l ≡ true → Holds v (begun ls n) → IsRead ls n rest u items → IsRead ls (n + 1) after v items
 step_empty ls n rest after l u v items cut a empty h s =
@@ -103,11 +103,11 @@ step_empty ls n rest after l u v items cut a empty h s =
       done = λ more m. s.done more (rw (same_empty ls n l (lines after) e empty) at m);
     }
 
-pub step_goes : (ls : List (List ℕ)) (n : ℕ) (rest after l : List ℕ) (u v : Unfinished) (items : List Logical) → lines rest ≡ l ∷ lines after → IsAdded n l u → is_empty l ≡ false → continues l ≡ true → Holds v (begun ls n ++ row_of (n + 1) l ∷ []) → IsRead ls n rest u items → IsRead ls (n + 1) after v items
+pub step_goes : (ls : List (List ℕ)) (n : ℕ) (rest after l : List ℕ) (u v : Unfinished) (items : List Logical) → lines rest ≡ l ∷ lines after → IsAdded n l u → is_empty l ≡ false → continues l ≡ true → Holds v (begun ls n ++ kept_line (n + 1) l ∷ []) → IsRead ls n rest u items → IsRead ls (n + 1) after v items
 step_goes ls n rest after l u v items cut a some goes h s =
     let e : drop n ls ≡ l ∷ lines after = s.ahead ∙ cut in
     let q = place_at ls n l (lines after) e in
-    let b : begun ls (n + 1) ≡ begun ls n ++ row_of (n + 1) l ∷ [] = begun_row ls n l (lines after) e some ∙ ap (λ (g : Bool). cond g (begun ls n ++ row_of (n + 1) l ∷ []) []) goes in
+    let b : begun ls (n + 1) ≡ begun ls n ++ kept_line (n + 1) l ∷ [] = begun_row ls n l (lines after) e some ∙ ap (λ (g : Bool). cond g (begun ls n ++ kept_line (n + 1) l ∷ []) []) goes in
     record {
       ahead = q.3;
       within = omega (arith, q.0);
@@ -117,11 +117,11 @@ step_goes ls n rest after l u v items cut a some goes h s =
       done = λ more m. s.done more (rw (same_goes ls n l (lines after) e some goes) at m);
     }
 
-pub step_ends : (ls : List (List ℕ)) (n : ℕ) (rest after l : List ℕ) (u w : Unfinished) (items : List Logical) (made : Logical) → lines rest ≡ l ∷ lines after → IsAdded n l u → is_empty l ≡ false → continues l ≡ false → IsLogical (begun ls n ++ row_of (n + 1) l ∷ []) made → Holds w [] → IsRead ls n rest u items → IsRead ls (n + 1) after w (items ++ made ∷ [])
+pub step_ends : (ls : List (List ℕ)) (n : ℕ) (rest after l : List ℕ) (u w : Unfinished) (items : List Logical) (made : Logical) → lines rest ≡ l ∷ lines after → IsAdded n l u → is_empty l ≡ false → continues l ≡ false → IsLogical (begun ls n ++ kept_line (n + 1) l ∷ []) made → Holds w [] → IsRead ls n rest u items → IsRead ls (n + 1) after w (items ++ made ∷ [])
 step_ends ls n rest after l u w items made cut a some ends logical h s =
     let e : drop n ls ≡ l ∷ lines after = s.ahead ∙ cut in
     let q = place_at ls n l (lines after) e in
-    let b : begun ls (n + 1) ≡ [] = begun_row ls n l (lines after) e some ∙ ap (λ (g : Bool). cond g (begun ls n ++ row_of (n + 1) l ∷ []) []) ends in
+    let b : begun ls (n + 1) ≡ [] = begun_row ls n l (lines after) e some ∙ ap (λ (g : Bool). cond g (begun ls n ++ kept_line (n + 1) l ∷ []) []) ends in
     record {
       ahead = q.3;
       within = omega (arith, q.0);
@@ -175,31 +175,31 @@ at_end ls n rest u items none s =
     let e : length (drop n ls) ≡ 0 = ap length (s.ahead ∙ lines_nil rest none) in
     omega (arith, e, length-drop n ls, s.within)
 
-span_none : (rows : List Row) → span_of rows ≡ None → rows ≡ []
+span_none : (rows : List KeptLine) → span_of rows ≡ None → rows ≡ []
 span_none [] e = refl
 span_none (r ∷ rs) e = absurd cc
 
-span_last : (rows : List Row) (first last : ℕ) → span_of rows ≡ Some (first, last) → (0 < length rows) × (last ≡ last_line rows)
+span_last : (rows : List KeptLine) (first last : ℕ) → span_of rows ≡ Some (first, last) → (0 < length rows) × (last ≡ last_line rows)
 span_last [] first last e = absurd cc
 span_last (r ∷ rs) first last e = (omega arith, sym (ap (λ (o : Option (ℕ × ℕ)). option_map_or (λ s. s.1) o 0) e))
 
-no_end_fault : (ls : List (List ℕ)) → unfinished (rows_of ls) ≡ [] → (code : FaultCode) → Breaks ls None code → ⊥
+no_end_fault : (ls : List (List ℕ)) → unfinished (kept_lines ls) ≡ [] → (code : FaultCode) → Breaks ls None code → ⊥
 no_end_fault ls e DanglingContinuation b = let k = ap length e in omega arith
 no_end_fault ls e _ b = b
 
-begun_all : (ls : List (List ℕ)) (n : ℕ) (rest : List ℕ) (u : Unfinished) (items : List Logical) → length rest ≡ 0 → IsRead ls n rest u items → begun ls n ≡ unfinished (rows_of ls)
-begun_all ls n rest u items none s = ap (λ (w : List (List ℕ)). unfinished (rows_of w)) (take_all n ls (omega (arith, at_end ls n rest u items none s)))
+begun_all : (ls : List (List ℕ)) (n : ℕ) (rest : List ℕ) (u : Unfinished) (items : List Logical) → length rest ≡ 0 → IsRead ls n rest u items → begun ls n ≡ unfinished (kept_lines ls)
+begun_all ls n rest u items none s = ap (λ (w : List (List ℕ)). unfinished (kept_lines w)) (take_all n ls (omega (arith, at_end ls n rest u items none s)))
 
 pub end_clean : (ls : List (List ℕ)) (n : ℕ) (rest : List ℕ) (u : Unfinished) (items : List Logical) → length rest ≡ 0 → u.span ≡ None → IsRead ls n rest u items → IsClean Breaks ls
 end_clean ls n rest u items none e s =
     let k = at_end ls n rest u items none s in
     clean_all Breaks ls (subst (IsCleanBelow Breaks ls) k s.clean) (no_end_fault ls (sym (begun_all ls n rest u items none s) ∙ span_none (begun ls n) (sym s.holds.span ∙ e)))
 
-pub end_done : (ls : List (List ℕ)) (n : ℕ) (rest : List ℕ) (u : Unfinished) (items : List Logical) → length rest ≡ 0 → u.span ≡ None → IsRead ls n rest u items → AreLogical (grouped (rows_of ls)) items
+pub end_done : (ls : List (List ℕ)) (n : ℕ) (rest : List ℕ) (u : Unfinished) (items : List Logical) → length rest ≡ 0 → u.span ≡ None → IsRead ls n rest u items → AreLogical (grouped (kept_lines ls)) items
 end_done ls n rest u items none e s =
     let nothing : rows_at ls n ≡ [] = rw (span_none (begun ls n) (sym s.holds.span ∙ e), s.ahead, lines_nil rest none) refl in
     let start : AreLogical (grouped (rows_at ls n)) [] = rw nothing refl in
-    subst (AreLogical (grouped (rows_of ls))) (append-nil items) (s.done [] start)
+    subst (AreLogical (grouped (kept_lines ls))) (append-nil items) (s.done [] start)
 
 pub end_dangling : (ls : List (List ℕ)) (n : ℕ) (rest : List ℕ) (u : Unfinished) (items : List Logical) (first last : ℕ) → length rest ≡ 0 → u.span ≡ Some (first, last) → IsRead ls n rest u items → FirstFault Breaks told_line ls DanglingContinuation last
 end_dangling ls n rest u items first last none e s =

@@ -1,6 +1,6 @@
 pub mod Fault
 pub mod Bytes
-pub mod Pieces
+pub mod Segments
 pub mod Words
 pub mod Statements
 pub mod Laws

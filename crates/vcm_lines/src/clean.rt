@@ -4,9 +4,9 @@ ghost use Rattle.std.specs.Prelude.{◌≡◌, IfOk, IfErr, OnOk, ◌≤◌, ◌
 ghost use Rattle.std.specs.List.{list_all, position, take_while};
 ghost use Rattle.vcm_lines.specs.Fault.{NoMemoryOr};
 ghost use Rattle.vcm_lines.specs.Bytes.{is_plain, is_inner, is_blank, upper};
-ghost use Rattle.vcm_lines.specs.Pieces.{text_of, continues, pieces_from};
+ghost use Rattle.vcm_lines.specs.Segments.{text_of, continues, segments_from};
 ghost use Rattle.vcm_lines.specs.Words.{begins_with};
-ghost use Rattle.vcm_lines.specs.inner.Taking.{TakesPiece, BreaksFirst, is_bare, TakesBare};
+ghost use Rattle.vcm_lines.specs.inner.Taking.{TakesSegment, BreaksFirst, is_bare, TakesBare};
 ghost use Rattle.vcm_lines.specs.Statements.{BreaksLine};
 ghost use Rattle.vcm_lines.specs.declared.fault.FaultCode.{FaultCode};
 
@@ -82,8 +82,8 @@ fn text_end(after: &[u8]) -> Option<usize>
 /// Adds the text that stands before `after`'s first apostrophe to the statement, with its apostrophes, and gives what stands behind it.
 fn take_text<'a>(kept: &mut Vec<u8>, after: &'a [u8], number: u32) -> Result<&'a [u8], SourceFault>
     ensures shorter { IfOk result (λ left. length left.now ≤ length after.now) }
-    ensures taken { IfOk result (λ left. TakesPiece (pieces_from true after.now) kept.old.items kept.new.items left.now) }
-    ensures fault { IfErr result (NoMemoryOr (λ f. (f.line ≡ number) × BreaksFirst (pieces_from true after.now) f.code)) }
+    ensures taken { IfOk result (λ left. TakesSegment (segments_from true after.now) kept.old.items kept.new.items left.now) }
+    ensures fault { IfErr result (NoMemoryOr (λ f. (f.line ≡ number) × BreaksFirst (segments_from true after.now) f.code)) }
 {
     let Some(end) = text_end(after) else {
         return Err(SourceFault {
@@ -133,7 +133,7 @@ pub(crate) fn read_line(kept: &mut Vec<u8>, line: &[u8], number: u32) -> Result<
     };
     let mut continued = false;
     let mut rest = line;
-    'pieces: while let [first, after @ ..] = rest {
+    'segments: while let [first, after @ ..] = rest {
         let byte = *first;
         if is_blank(byte) {
             rest = after;

@@ -5,20 +5,20 @@ ghost use Rattle.std.specs.List.{list_any};
 ghost use Rattle.vcm_lines.specs.Cuts.{before, after, fields_of, last_of, front_of, uncut, with_commas, has_cut};
 ghost use Rattle.vcm_lines.specs.Lexemes.{Lexeme};
 ghost use Rattle.vcm_lines.specs.declared.phrase.Cutter.{Cutter};
-ghost use Rattle.vcm_lines.specs.Pieces.{pieces_of};
-ghost use Rattle.vcm_lines.specs.Laws.{spelled, ArePieces};
-ghost use Rattle.vcm_lines.specs.Statements.{Row, AreLogical};
+ghost use Rattle.vcm_lines.specs.Segments.{segments_of};
+ghost use Rattle.vcm_lines.specs.Laws.{spelled, AreSegments};
+ghost use Rattle.vcm_lines.specs.Statements.{KeptLine, AreLogical};
 ghost use Rattle.vcm_lines.specs.declared.logical.Logical.{Logical};
 
-/// The pieces of a line are what it is cut into: they spell it, and each is what it is called.
-pub fn pieces_are_a_cut()
-    ensures spelled { (line : List ℕ) → spelled (pieces_of line) ≡ line }
-    ensures pieces { (line : List ℕ) → ArePieces (pieces_of line) }
+/// The segments of a line are what it is cut into: they spell it, and each is what it is called.
+pub fn segments_are_a_cut()
+    ensures spelled { (line : List ℕ) → spelled (segments_of line) ≡ line }
+    ensures segments { (line : List ℕ) → AreSegments (segments_of line) }
 {}
 
-/// A text has one list of statements: two that meet the definition, whatever its rows are, are equal.
+/// A text has one list of statements: two that meet the definition, whatever its kept lines are, are equal.
 pub fn statements_are_one()
-    ensures { (rows : List (List Row)) (xs ys : List Logical) → AreLogical rows xs → AreLogical rows ys → xs ≡ ys }
+    ensures { (rows : List (List KeptLine)) (xs ys : List Logical) → AreLogical rows xs → AreLogical rows ys → xs ≡ ys }
 {}
 
 /// The words before and after a mark, and the fields between commas, are what the words are cut into: put together they are the words

@@ -5,7 +5,7 @@ ghost use Rattle.std.specs.Option.{option_map_or};
 ghost use Rattle.std.specs.Str.Lines.{lines, strip_carriage_return};
 ghost use Rattle.vcm_lines.specs.Fault.{NoMemoryOr};
 ghost use Rattle.vcm_spec.specs.Phase.{IsClean, FirstFault};
-ghost use Rattle.vcm_lines.specs.Statements.{lines_of, rows_of, grouped, AreLogical, Breaks, told_line};
+ghost use Rattle.vcm_lines.specs.Statements.{lines_of, kept_lines, grouped, AreLogical, Breaks, told_line};
 
 use crate::clean::read_line;
 use crate::fault::{FaultCode, SourceFault};
@@ -76,8 +76,8 @@ struct Unfinished {
 
 impl Unfinished {
     ghost use Rattle.std.specs.Prelude.{◌≡◌, ◌≤◌, ◌<◌, ◌⊎◌, ◌++◌, ◌∷◌, [], List, length, IsTrue, true, false, not, ◌&&◌, OnOk, IfOk, IfErr, MatchOption};
-    ghost use Rattle.vcm_lines.specs.Pieces.{text_of, continues};
-    ghost use Rattle.vcm_lines.specs.Statements.{Row, row_of, is_empty, IsLogical, BreaksLine};
+    ghost use Rattle.vcm_lines.specs.Segments.{text_of, continues};
+    ghost use Rattle.vcm_lines.specs.Statements.{KeptLine, kept_line, is_empty, IsLogical, BreaksLine};
     ghost use Rattle.vcm_lines.specs.inner.Holding.{Holds};
     ghost use Rattle.vcm_lines.specs.declared.fault.FaultCode.{FaultCode};
 
@@ -97,8 +97,8 @@ impl Unfinished {
         ensures short { OnOk result (length (self.old.bytes.items ++ text_of line.now) ≤ MAX_STATEMENT) }
         ensures fits { OnOk result (length self.new.bytes.items ≤ MAX_STATEMENT) }
         ensures ends { IfOk result (λ e. e ≡ (not (continues line.now) && not (is_empty line.now))) }
-        ensures empty { OnOk result ((rows : List Row) → is_empty line.now ≡ true → Holds self.old rows → Holds self.new rows) }
-        ensures row { OnOk result ((rows : List Row) → is_empty line.now ≡ false → Holds self.old rows → Holds self.new (rows ++ row_of number line.now ∷ [])) }
+        ensures empty { OnOk result ((rows : List KeptLine) → is_empty line.now ≡ true → Holds self.old rows → Holds self.new rows) }
+        ensures row { OnOk result ((rows : List KeptLine) → is_empty line.now ≡ false → Holds self.old rows → Holds self.new (rows ++ kept_line number line.now ∷ [])) }
         ensures fault { IfErr result (NoMemoryOr (λ f. (f.line ≡ number) × (BreaksLine line.now f.code
             ⊎ ((f.code ≡ FaultCode.LineTooLong) × (MAX_STATEMENT < length (self.old.bytes.items ++ text_of line.now)))))) }
     {
@@ -124,8 +124,8 @@ impl Unfinished {
     fn finish(&mut self, alloc: Global) -> Result<Option<Logical>, AllocError>
         requires aligned { length self.old.lines.items ≡ length self.old.bytes.items }
         requires short { length self.old.bytes.items ≤ MAX_STATEMENT }
-        ensures made { IfOk result (λ found. (rows : List Row) → Holds self.old rows → MatchOption found (rows ≡ []) (IsLogical rows)) }
-        ensures emptied { OnOk result ((rows : List Row) → Holds self.old rows → Holds self.new []) }
+        ensures made { IfOk result (λ found. (rows : List KeptLine) → Holds self.old rows → MatchOption found (rows ≡ []) (IsLogical rows)) }
+        ensures emptied { OnOk result ((rows : List KeptLine) → Holds self.old rows → Holds self.new []) }
     {
         let Some((line, _)) = self.span else {
             return Ok(None);
@@ -149,7 +149,7 @@ impl Unfinished {
 /// line 0.
 pub fn logical_lines(alloc: Global, text: &[u8]) -> Result<LogicalLines, SourceFault>
     ensures unbroken { IfOk result (λ _. IsClean Breaks (lines_of text.now)) }
-    ensures statements { IfOk result (AreLogical (grouped (rows_of (lines_of text.now)))) }
+    ensures statements { IfOk result (AreLogical (grouped (kept_lines (lines_of text.now)))) }
     ensures fault { IfErr result (NoMemoryOr (λ f. FirstFault Breaks told_line (lines_of text.now) f.code f.line)) }
 {
     let mut items = Vec::new(alloc);

@@ -7,7 +7,7 @@ use Rattle.vcm_fields.specs.Parts.{Line}
 use Rattle.vcm_spec.specs.Setup.{Variable as Entry}
 use Rattle.vcm_expr.specs.NameBytes.{IsName}
 use Rattle.vcm_fields.specs.Fitting.{FitsEntry, FitsLine}
-use Rattle.vcm_image.specs.Whole.{Fits}
+use Rattle.vcm_image.specs.Whole.{FitsImage}
 use Rattle.vcm_words.specs.declared.row.Row.TheVariants.{Head, Variable, Feature, Frame, Numbered}
 use Rattle.vcm_words.specs.declared.fault.ListCode.{ListCode}
 use Rattle.vcm_words.specs.declared.fault.ListFault.{ListFault}
@@ -84,7 +84,7 @@ statements_again vs fs ds n front (x ∷ xs) rest h =
     = ap (λ r. on n r (λ d. reads_on (suc n) d (numbered Numbered (suc (length front)) xs ++ rest))) (room_for (code vs fs ds (front ++ x ∷ [])) (length front) 20000 (omega (arith, h))) in
     (more.0, here ∙ ap (λ k. reads_on (suc n) (code vs fs ds (front ++ x ∷ [])) (numbered Numbered k xs ++ rest)) (sym len) ∙ more.1 ∙ ap (λ l. reads_on more.0 (code vs fs ds l) rest) (append_assoc front (x ∷ []) xs))
 
-rows_again : (c : Code) (n : ℕ) → Fits c → reads_on n empty (numbered Variable 0 c.tables.variables ++ (numbered Feature 0 c.tables.features ++ (numbered Frame 0 c.tables.frames ++ numbered Numbered 0 c.statements))) ≡ Ok c
+rows_again : (c : Code) (n : ℕ) → FitsImage c → reads_on n empty (numbered Variable 0 c.tables.variables ++ (numbered Feature 0 c.tables.features ++ (numbered Frame 0 c.tables.frames ++ numbered Numbered 0 c.statements))) ≡ Ok c
 unfolding reads_on
 rows_again c n h =
     let v = variables_again n [] c.tables.variables (numbered Feature 0 c.tables.features ++ (numbered Frame 0 c.tables.frames ++ numbered Numbered 0 c.statements)) (omega (arith, h.variables.0)) in
@@ -97,7 +97,7 @@ numbered_all : {A : Type 0} (f : ℕ → A → ListRow) (P : A → Type 0) (limi
 numbered_all f P limit n [] g l h = tt
 numbered_all f P limit n (x ∷ xs) g l h = (g n x (omega (arith, l)) h.0, numbered_all f P limit (suc n) xs g (omega (arith, l)) h.1)
 
-pub rows_fit : (c : Code) → Fits c → AllByRecursion FitsRow (rows c)
+pub rows_fit : (c : Code) → FitsImage c → AllByRecursion FitsRow (rows c)
 rows_fit c h = (
   tt,
   all_append FitsRow (numbered Variable 0 c.tables.variables) _ (numbered_all Variable FitsEntry 4096 0 c.tables.variables (λ i x l p. (omega (arith, l), p)) (omega (arith, h.variables.0)) h.variables.1)
@@ -115,12 +115,12 @@ parts_again [] h = ap (λ o. on 1 (after_head o (row_text Head)) (λ d. lines_re
 parts_again (r ∷ rs) h = ap (λ o. on 1 (after_head o (row_text Head)) (λ d. lines_read 2 d (ended_lines (r ∷ rs)))) (row_again Head tt) ∙ lines_again (r ∷ rs) 2 empty h
 
 -- the listing of a code is read as that code
-pub code_again : (c : Code) → Fits c → code_listed (listing c) ≡ Ok c
+pub code_again : (c : Code) → FitsImage c → code_listed (listing c) ≡ Ok c
 unfolding code_listed
 code_again c h =
     let f = rows_fit c h in
     ap parts_read (cut_lines (rows c) f) ∙ parts_again (numbered Variable 0 c.tables.variables ++ (numbered Feature 0 c.tables.features ++ (numbered Frame 0 c.tables.frames ++ numbered Numbered 0 c.statements))) f.1 ∙ rows_again c 2 h
 
 -- different codes have different listings
-pub listing_once : (c d : Code) → Fits c → Fits d → listing c ≡ listing d → c ≡ d
+pub listing_once : (c d : Code) → FitsImage c → FitsImage d → listing c ≡ listing d → c ≡ d
 listing_once c d h g e = let both : good {E = ListFault} c ≡ Ok d = sym (code_again c h) ∙ ap code_listed e ∙ code_again d g in cc

@@ -2,14 +2,14 @@
 use Rattle.std.proofs.Common.{◌≡◌, ℕ, suc, ◌+◌, ◌<◌, ◌≤◌, ◌==◌, ◌&&◌, nat_lt, Bool, true, false, cond, List, [], ◌∷◌, ◌++◌, length, Option, Some, None, Result, Ok, Err, refl, sym, ap, ◌∙◌, subst, arith, append_assoc}
 use Rattle.std.specs.Prelude.{map}
 use Rattle.std.specs.List.{AllByRecursion}
-use Rattle.std.proofs.lemmas.Bool.{eqb-true, ltb-true}
+use Rattle.std.proofs.lemmas.Bool.{eqb-true, ltb-true, and_parts}
 use Rattle.std.proofs.lemmas.List.{append-nil, length-append}
 use Rattle.vcm_code.specs.declared.code.Code.{Code}
 use Rattle.vcm_fields.specs.Parts.{Line}
 use Rattle.vcm_spec.specs.Setup.{Variable as Entry}
 use Rattle.vcm_expr.specs.NameBytes.{IsName}
 use Rattle.vcm_fields.specs.Fitting.{FitsEntry, FitsLine}
-use Rattle.vcm_image.specs.Whole.{Fits}
+use Rattle.vcm_image.specs.Whole.{FitsImage}
 use Rattle.vcm_words.specs.declared.row.Row.TheVariants.{Head, Variable, Feature, Frame, Numbered}
 use Rattle.vcm_words.specs.declared.fault.ListCode.{ListCode}
 use Rattle.vcm_words.specs.declared.fault.ListCode.TheVariants.{BadLine, BadNumber, OutOfOrder}
@@ -20,7 +20,6 @@ use Rattle.vcm_words.specs.inner.Fitting.{FitsRow}
 use Rattle.vcm_words.specs.Listing.{is_empty, placed, added, after_line, empty, after_head, told, on, lines_read, parts_read, code_listed}
 use Rattle.vcm_words.proofs.Cuts.{joined-split}
 use Rattle.vcm_words.proofs.Inverse.{all_append}
-use Rattle.vcm_words.proofs.NumberLaws.{both_true}
 use Rattle.vcm_rows.proofs.RowLaws.{row_takes}
 
 abbrev pub code : List Entry → List (List ℕ) → List (List ℕ) → List Line → Code
@@ -35,7 +34,7 @@ placed_takes : (count limit i : ℕ) (b : Bool) (c d : Code) → placed count li
 placed_takes count limit i b c d e = room (nat_lt count limit) refl e
   where
     next : (t : Bool) → ((i == count) && b) ≡ t → cond t (good {E = ListCode} c) (Err OutOfOrder) ≡ Ok d → (i ≡ count) × (b ≡ true) × (c ≡ d)
-    next true h f = let p = both_true (i == count) b h in (eqb-true i count p.0, p.1, cc)
+    next true h f = let p = and_parts (i == count) b h in (eqb-true i count p.0, p.1, cc)
     next false h f = absurd cc
 
     room : (t : Bool) → nat_lt count limit ≡ t → cond t (cond ((i == count) && b) (good {E = ListCode} c) (Err OutOfOrder)) (Err BadNumber) ≡ Ok d → (count < limit) × (i ≡ count) × (b ≡ true) × (c ≡ d)
@@ -54,7 +53,7 @@ next_index : {i n : ℕ} → i ≡ n → 0 + n ≡ i
 next_index e = omega (arith, e)
 
 unfoldable pub Grows : Code → ListRow → Code → Type 0
-Grows c r d = (rows d ≡ rows c ++ r ∷ []) × Fits d
+Grows c r d = (rows d ≡ rows c ++ r ∷ []) × FitsImage d
 
 push_all : {A : Type 0} (P : A → Type 0) (limit : ℕ) (xs : List A) (x : A) → (length xs ≤ limit) × AllByRecursion P xs → length xs < limit → P x → (length (xs ++ x ∷ []) ≤ limit) × AllByRecursion P (xs ++ x ∷ [])
 push_all P limit xs x h l p = (omega (arith, length-append xs (x ∷ [])), all_append P xs (x ∷ []) h.1 (p, tt))
@@ -90,33 +89,33 @@ add_line vs fs ds ss i s ei = ap (λ l. Head ∷ l) (grown (numbered Variable 0 
     (grown (numbered Frame 0 ds) (numbered Numbered 0 ss) (Numbered i s) (numbered Numbered 0 (ss ++ s ∷ []))
     (numbered-push Numbered 0 ss s ∙ ap (λ k. numbered Numbered 0 ss ++ Numbered k s ∷ []) (next_index ei)))))
 
-pub added_takes : (c : Code) (r : ListRow) (d : Code) → Fits c → FitsRow r → added c r ≡ Ok d → Grows c r d
+pub added_takes : (c : Code) (r : ListRow) (d : Code) → FitsImage c → FitsRow r → added c r ≡ Ok d → Grows c r d
 unfolding added Grows
 added_takes c Head d h f e = absurd cc
 added_takes c (Variable i v) d h f e =
     let p = placed_takes (length c.tables.variables) 4096 i (is_empty c.tables.features && (is_empty c.tables.frames && is_empty c.statements)) (code (c.tables.variables ++ v ∷ []) c.tables.features c.tables.frames c.statements) d e in
-    let q = both_true (is_empty c.tables.features) (is_empty c.tables.frames && is_empty c.statements) p.2 in
-    let r = both_true (is_empty c.tables.frames) (is_empty c.statements) q.1 in
-    subst (λ (x : Code). (rows x ≡ rows c ++ Variable i v ∷ []) × Fits x) p.3 (
+    let q = and_parts (is_empty c.tables.features) (is_empty c.tables.frames && is_empty c.statements) p.2 in
+    let r = and_parts (is_empty c.tables.frames) (is_empty c.statements) q.1 in
+    subst (λ (x : Code). (rows x ≡ rows c ++ Variable i v ∷ []) × FitsImage x) p.3 (
       add_variable c.tables.variables c.tables.features c.tables.frames c.statements i v (nil c.tables.features q.0) (nil c.tables.frames r.0) (nil c.statements r.1) p.1,
       record { variables = push_all FitsEntry 4096 c.tables.variables v h.variables p.0 f.1; features = h.features; frames = h.frames; statements = h.statements },
     )
 added_takes c (Feature i v) d h f e =
     let p = placed_takes (length c.tables.features) 4096 i (is_empty c.tables.frames && is_empty c.statements) (code c.tables.variables (c.tables.features ++ v ∷ []) c.tables.frames c.statements) d e in
-    let r = both_true (is_empty c.tables.frames) (is_empty c.statements) p.2 in
-    subst (λ (x : Code). (rows x ≡ rows c ++ Feature i v ∷ []) × Fits x) p.3 (
+    let r = and_parts (is_empty c.tables.frames) (is_empty c.statements) p.2 in
+    subst (λ (x : Code). (rows x ≡ rows c ++ Feature i v ∷ []) × FitsImage x) p.3 (
       add_feature c.tables.variables c.tables.features c.tables.frames c.statements i v (nil c.tables.frames r.0) (nil c.statements r.1) p.1,
       record { variables = h.variables; features = push_all IsName 4096 c.tables.features v h.features p.0 f.1; frames = h.frames; statements = h.statements },
     )
 added_takes c (Frame i v) d h f e =
     let p = placed_takes (length c.tables.frames) 4096 i (is_empty c.statements) (code c.tables.variables c.tables.features (c.tables.frames ++ v ∷ []) c.statements) d e in
-    subst (λ (x : Code). (rows x ≡ rows c ++ Frame i v ∷ []) × Fits x) p.3 (
+    subst (λ (x : Code). (rows x ≡ rows c ++ Frame i v ∷ []) × FitsImage x) p.3 (
       add_frame c.tables.variables c.tables.features c.tables.frames c.statements i v (nil c.statements p.2) p.1,
       record { variables = h.variables; features = h.features; frames = push_all IsName 4096 c.tables.frames v h.frames p.0 f.1; statements = h.statements },
     )
 added_takes c (Numbered i s) d h f e =
     let p = placed_takes (length c.statements) 20000 i true (code c.tables.variables c.tables.features c.tables.frames (c.statements ++ s ∷ [])) d e in
-    subst (λ (x : Code). (rows x ≡ rows c ++ Numbered i s ∷ []) × Fits x) p.3 (
+    subst (λ (x : Code). (rows x ≡ rows c ++ Numbered i s ∷ []) × FitsImage x) p.3 (
       add_line c.tables.variables c.tables.features c.tables.frames c.statements i s p.1,
       record { variables = h.variables; features = h.features; frames = h.frames; statements = push_all FitsLine 20000 c.statements s h.statements p.0 f.1 },
     )
@@ -147,15 +146,15 @@ record More (c d : Code) (ws : List (List ℕ)) : Type 0 where
   more : List ListRow
   are : rows d ≡ rows c ++ more
   lines : ws ≡ ended_lines more
-  fits : Fits d
+  fits : FitsImage d
 
-last_takes : (c d : Code) (w : List ℕ) (n : ℕ) → Fits c → cond (is_empty w) (good c) (Err (told n BadLine)) ≡ Ok d → More c d (w ∷ [])
+last_takes : (c d : Code) (w : List ℕ) (n : ℕ) → FitsImage c → cond (is_empty w) (good c) (Err (told n BadLine)) ≡ Ok d → More c d (w ∷ [])
 last_takes c d [] n h e =
     let same : c ≡ d = cc in
-    record { more = []; are = ap rows (sym same) ∙ sym (append-nil (rows c)); lines = refl; fits = subst Fits same h }
+    record { more = []; are = ap rows (sym same) ∙ sym (append-nil (rows c)); lines = refl; fits = subst FitsImage same h }
 last_takes c d (b ∷ w) n h e = absurd cc
 
-lines_take : (ws : List (List ℕ)) (n : ℕ) (c d : Code) → Fits c → lines_read n c ws ≡ Ok d → More c d ws
+lines_take : (ws : List (List ℕ)) (n : ℕ) (c d : Code) → FitsImage c → lines_read n c ws ≡ Ok d → More c d ws
 unfolding lines_read Grows
 lines_take [] n c d h e = absurd cc
 lines_take (w ∷ []) n c d h e = last_takes c d w n h e
@@ -172,17 +171,17 @@ lines_take (w ∷ v ∷ ws) n c d h e =
       fits = m.fits;
     }
 
-pub empty_fits : Fits empty
+pub empty_fits : FitsImage empty
 empty_fits = record { variables = (omega arith, tt); features = (omega arith, tt); frames = (omega arith, tt); statements = (omega arith, tt) }
 
-parts_take : (ws : List (List ℕ)) (d : Code) → parts_read ws ≡ Ok d → (ws ≡ ended_lines (rows d)) × Fits d
+parts_take : (ws : List (List ℕ)) (d : Code) → parts_read ws ≡ Ok d → (ws ≡ ended_lines (rows d)) × FitsImage d
 parts_take [] d e = absurd cc
 parts_take (w ∷ []) d e = absurd cc
 parts_take (w ∷ v ∷ ws) d e =
     let p = on_takes 1 (after_head (row_of true w) w) (λ x. lines_read 2 x (v ∷ ws)) d e in
     let q = head_takes (row_of true w) w p.0 p.1 in
     let t = row_takes w Head q.0 in
-    let m = lines_take (v ∷ ws) 2 p.0 d (subst Fits q.1 empty_fits) p.2 in
+    let m = lines_take (v ∷ ws) 2 p.0 d (subst FitsImage q.1 empty_fits) p.2 in
     let all : rows d ≡ Head ∷ m.more = m.are ∙ ap (λ (c : Code). rows c ++ m.more) (sym q.1) in
     (ap (λ u. u ∷ v ∷ ws) t.0 ∙ ap (λ l. row_text Head ∷ l) m.lines ∙ ap ended_lines (sym all), m.fits)
 
@@ -193,7 +192,7 @@ joined_lines (r ∷ []) = sym (append-nil (row_text r ++ 10 ∷ []))
 joined_lines (r ∷ q ∷ rs) = ap (λ l. row_text r ++ 10 ∷ l) (joined_lines (q ∷ rs)) ∙ sym (append_assoc (row_text r) (10 ∷ []) (text_of (q ∷ rs)))
 
 -- what is read is the listing of the code
-pub code_takes : (bytes : List ℕ) (c : Code) → code_listed bytes ≡ Ok c → Fits c × (bytes ≡ listing c)
+pub code_takes : (bytes : List ℕ) (c : Code) → code_listed bytes ≡ Ok c → FitsImage c × (bytes ≡ listing c)
 unfolding code_listed
 code_takes bytes c e =
     let t = parts_take (split 10 bytes) c e in

@@ -3,7 +3,7 @@ use Rattle.std.proofs.Common.{◌≡◌, ◌⊎◌, inl, inr, ℕ, suc, ◌+◌,
 use Rattle.std.specs.Prelude.{IfOk, ◌==◌}
 use Rattle.std.proofs.lemmas.List.{length-append}
 use Rattle.vcm_code.specs.declared.code.Code.{Code}
-use Rattle.vcm_image.specs.Whole.{Fits}
+use Rattle.vcm_image.specs.Whole.{FitsImage}
 use Rattle.vcm_words.specs.declared.row.Row.TheVariants.{Variable, Feature, Frame, Numbered}
 use Rattle.vcm_words.specs.declared.fault.ListCode.{ListCode}
 use Rattle.vcm_words.specs.declared.fault.ListCode.TheVariants.{NoMemory, BadLine, BadNumber, OutOfOrder, NotValid}
@@ -21,7 +21,7 @@ use Rattle.vcm_listing.proofs.ListingLaws.{code_again}
 -- what is left of the lines
 pub record Left (bytes rest : List ℕ) (code : Code) (line : ℕ) : Type 0 where
   pub same : lines_read 2 empty (split 10 bytes) ≡ lines_read line code (split 10 rest)
-  pub fits : Fits code
+  pub fits : FitsImage code
   pub count : line ≡ length (rows code) + 1
 
 pub all_left : (bytes : List ℕ) (c : Code) → c ≡ empty → Left bytes bytes c 2
@@ -129,7 +129,7 @@ first_goes bytes text after r s h g = subst (GivesOrWants r) (sym (first_on byte
 
 -- ---- the two laws
 
-pub is_only : (bytes : List ℕ) (r : Result Code ListFault) → GivesOrWants r (code_listed bytes) → (c : Code) → Fits c → bytes ≡ listing c → GivesOrWants r (Ok c)
+pub is_only : (bytes : List ℕ) (r : Result Code ListFault) → GivesOrWants r (code_listed bytes) → (c : Code) → FitsImage c → bytes ≡ listing c → GivesOrWants r (Ok c)
 is_only bytes r g c h e = subst (GivesOrWants r) (ap code_listed e ∙ code_again c h) g
 
 -- what is left is shorter

@@ -3,7 +3,7 @@ use Rattle.std.specs.Prelude.{◌≡◌, ℕ, List, Ok}
 use Rattle.vcm_code.specs.declared.code.Code.{Code}
 use Rattle.vcm_code.specs.Ops.{code_of}
 use Rattle.vcm_code.specs.Valid.{IsValid}
-use Rattle.vcm_image.specs.Whole.{Fits}
+use Rattle.vcm_image.specs.Whole.{FitsImage}
 use Rattle.vcm_words.specs.declared.fault.ListFault.{ListFault}
 use Rattle.vcm_words.specs.Rows.{listing}
 use Rattle.vcm_words.specs.Listing.{code_listed}
@@ -11,15 +11,15 @@ use Rattle.vcm_words.specs.Outcomes.{ListingFault}
 
 -- the listing of a code that is in range is read as that code
 abbrev pub ListingIsRead : Type 0
-ListingIsRead = (c : Code) → Fits c → code_listed (listing c) ≡ Ok c
+ListingIsRead = (c : Code) → FitsImage c → code_listed (listing c) ≡ Ok c
 
 -- what is read as a code is in range, and is its listing, byte for byte
 abbrev pub ReadIsListing : Type 0
-ReadIsListing = (bytes : List ℕ) (c : Code) → code_listed bytes ≡ Ok c → Fits c × (bytes ≡ listing c)
+ReadIsListing = (bytes : List ℕ) (c : Code) → code_listed bytes ≡ Ok c → FitsImage c × (bytes ≡ listing c)
 
 -- codes in range that have the same listing are the same
 abbrev pub ListingsDiffer : Type 0
-ListingsDiffer = (c d : Code) → Fits c → Fits d → listing c ≡ listing d → c ≡ d
+ListingsDiffer = (c d : Code) → FitsImage c → FitsImage d → listing c ≡ listing d → c ≡ d
 
 -- bytes are refused with one fault only
 abbrev pub OneFault : Type 0
@@ -27,4 +27,4 @@ OneFault = (bytes : List ℕ) (f g : ListFault) → ListingFault bytes f → Lis
 
 -- the listing of a valid code in range is not refused
 abbrev pub NoneOfValid : Type 0
-NoneOfValid = (c : Code) (f : ListFault) → Fits c → IsValid (code_of c) → ¬ ListingFault (listing c) f
+NoneOfValid = (c : Code) (f : ListFault) → FitsImage c → IsValid (code_of c) → ¬ ListingFault (listing c) f

@@ -4,7 +4,7 @@ ghost use Rattle.std.specs.Prelude.{◌≡◌, length, Ok, IfOk, IfErr};
 ghost use Rattle.vcm_code.specs.declared.code.Code.{Code as CodeOf};
 ghost use Rattle.vcm_code.specs.Ops.{code_of};
 ghost use Rattle.vcm_code.specs.Valid.{IsValid};
-ghost use Rattle.vcm_image.specs.Whole.{Fits};
+ghost use Rattle.vcm_image.specs.Whole.{FitsImage};
 ghost use Rattle.vcm_words.specs.Cutting.{split};
 ghost use Rattle.vcm_words.specs.Rows.{rows, listing};
 ghost use Rattle.vcm_words.specs.Listing.{empty, lines_read, code_listed};
@@ -63,7 +63,7 @@ fn code_listed(alloc: Global, bytes: &[u8]) -> Result<Code, ListFault>
 
 // How many lines the listing of a code has.
 fn line_count(code: &Code) -> u32
-    requires { Fits code.now }
+    requires { FitsImage code.now }
     ensures { result ≡ length (rows code.now) }
 {
     let names = code.tables.variables().len()
@@ -81,9 +81,9 @@ fn line_count(code: &Code) -> u32
 /// belongs. NotValid at the last line where all lines can be read and their code is not valid. Want of memory, at line 0.
 pub fn read_listing(alloc: Global, bytes: &[u8]) -> Result<Code, ListFault>
     // What is read is in range and valid, and the bytes are its listing.
-    ensures found { IfOk result (λ c. Fits c × (IsValid (code_of c) × (bytes.now ≡ listing c))) }
+    ensures found { IfOk result (λ c. FitsImage c × (IsValid (code_of c) × (bytes.now ≡ listing c))) }
     // The listing of a valid code in range is read as that code, unless memory runs out.
-    ensures only { (c : CodeOf) → Fits c → IsValid (code_of c) → bytes.now ≡ listing c → GivesOrWants result (Ok c) }
+    ensures only { (c : CodeOf) → FitsImage c → IsValid (code_of c) → bytes.now ≡ listing c → GivesOrWants result (Ok c) }
     // Which fault it is, and where.
     ensures fault { IfErr result (λ f. FaultOrWant bytes.now f) }
 {

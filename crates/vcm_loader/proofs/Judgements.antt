@@ -5,7 +5,7 @@ use Rattle.vcm_spec.specs.declared.expression.Item.{Item}
 use Rattle.vcm_spec.specs.Expression.{HasKind}
 use Rattle.vcm_fields.specs.declared.fault.ImageFault.{ImageFault}
 use Rattle.vcm_loader.specs.Checks.{Check, indexes, typed, assigned, ItemsBelow, AllHold}
-use Rattle.vcm_loader.specs.Loading.{FirstFault}
+use Rattle.vcm_loader.specs.Loading.{FirstFailedCheck}
 
 pub hold_append : (cs ds : List Check) → AllHold cs → AllHold ds → AllHold (cs ++ ds)
 hold_append [] ds h g = g
@@ -20,13 +20,13 @@ hold_back [] ds h = h
 hold_back (c ∷ cs) ds h = hold_back cs ds h.1
 
 -- what is told of the first list is told of both
-pub first_here : (cs ds : List Check) (e : ImageFault) → FirstFault cs e → FirstFault (cs ++ ds) e
+pub first_here : (cs ds : List Check) (e : ImageFault) → FirstFailedCheck cs e → FirstFailedCheck (cs ++ ds) e
 first_here [] ds e h = absurd h
 first_here (c ∷ cs) ds e (inl h) = inl (h.0, first_here cs ds e h.1)
 first_here (c ∷ cs) ds e (inr h) = inr h
 
 -- where all of the first list hold, what is told of the second is
-pub first_later : (cs ds : List Check) (e : ImageFault) → AllHold cs → FirstFault ds e → FirstFault (cs ++ ds) e
+pub first_later : (cs ds : List Check) (e : ImageFault) → AllHold cs → FirstFailedCheck ds e → FirstFailedCheck (cs ++ ds) e
 first_later [] ds e h g = g
 first_later (c ∷ cs) ds e h g = inl (h.0, first_later cs ds e h.1 g)
 
@@ -34,7 +34,7 @@ first_later (c ∷ cs) ds e h g = inl (h.0, first_later cs ds e h.1 g)
 pub assigned_ok : (kinds : List Kind) (v n : ℕ) (items : List Item) (k : Kind) → slice_get kinds v ≡ Some k → AllHold (indexes items n ∷ typed kinds items k ∷ []) → AllHold (indexes items n ∷ assigned kinds v items ∷ [])
 assigned_ok kinds v n items k e h = (h.0, ((k, e, h.1.0), tt))
 
-pub assigned_err : (kinds : List Kind) (v n : ℕ) (items : List Item) (k : Kind) (f : ImageFault) → slice_get kinds v ≡ Some k → FirstFault (indexes items n ∷ typed kinds items k ∷ []) f → FirstFault (indexes items n ∷ assigned kinds v items ∷ []) f
+pub assigned_err : (kinds : List Kind) (v n : ℕ) (items : List Item) (k : Kind) (f : ImageFault) → slice_get kinds v ≡ Some k → FirstFailedCheck (indexes items n ∷ typed kinds items k ∷ []) f → FirstFailedCheck (indexes items n ∷ assigned kinds v items ∷ []) f
 assigned_err kinds v n items k f e (inl (a, inl (b, c))) = absurd c
 assigned_err kinds v n items k f e (inl (a, inr (b, c))) = inl (a, inr (λ g. let same : Some g.0 ≡ Some k = sym g.1 ∙ e in let one : g.0 ≡ k = cc in b (subst (HasKind kinds items) one g.2), c))
 assigned_err kinds v n items k f e (inr h) = inr h

@@ -8,7 +8,7 @@ use Rattle.vcm_code.specs.declared.code.Code.{Code}
 use Rattle.vcm_fields.specs.declared.fault.ImageFault.{ImageFault}
 use Rattle.vcm_fields.specs.Parts.{Line}
 use Rattle.vcm_loader.specs.Checks.{Counts, counts_of, AllHold, op_checks, line_checks}
-use Rattle.vcm_loader.specs.Loading.{FirstFault}
+use Rattle.vcm_loader.specs.Loading.{FirstFailedCheck}
 use Rattle.vcm_loader.proofs.Judgements.{hold_append, hold_front, hold_back, first_here, first_later}
 
 -- the statements up to here have what they want
@@ -28,11 +28,11 @@ held_more t (r ∷ ss) (suc n) s h e g =
     subst (λ k. AllHold (line_checks t (take k (r ∷ ss)))) (sym next) (hold_append (op_checks t r.op) (line_checks t (take (n + 1) ss)) front (held_more t ss n s back e g))
 
 -- the first fault of a statement, where all before it have what they want
-pub first_of : (t : Counts) (ss : List Line) (n : ℕ) (s : Line) (e : ImageFault) → HeldUpTo t ss n → slice_get ss n ≡ Some s → FirstFault (op_checks t s.op) e → FirstFault (line_checks t ss) e
+pub first_of : (t : Counts) (ss : List Line) (n : ℕ) (s : Line) (e : ImageFault) → HeldUpTo t ss n → slice_get ss n ≡ Some s → FirstFailedCheck (op_checks t s.op) e → FirstFailedCheck (line_checks t ss) e
 first_of t [] n s e h i f = absurd cc
 first_of t (r ∷ ss) zero s e h i f =
     let same : r ≡ s = cc in
-    first_here (op_checks t r.op) (line_checks t ss) e (subst (λ (l : Line). FirstFault (op_checks t l.op) e) (sym same) f)
+    first_here (op_checks t r.op) (line_checks t ss) e (subst (λ (l : Line). FirstFailedCheck (op_checks t l.op) e) (sym same) f)
 first_of t (r ∷ ss) (suc n) s e h i f =
     first_later (op_checks t r.op) (line_checks t ss) e (hold_front (op_checks t r.op) (line_checks t (take n ss)) h) (first_of t ss n s e (hold_back (op_checks t r.op) (line_checks t (take n ss)) h) i f)
 

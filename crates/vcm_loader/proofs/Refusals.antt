@@ -6,21 +6,21 @@ use Rattle.vcm_code.specs.Ops.{code_of}
 use Rattle.vcm_code.specs.Valid.{IsValid}
 use Rattle.vcm_fields.specs.declared.fault.ImageFault.{ImageFault}
 use Rattle.vcm_fields.specs.declared.fault.ImageFault.TheVariants.{NoMemory, BadMagic, Short, BadVersion, BadField, Trailing, BadIndex, BadTarget, BadOperand, RunsOff}
-use Rattle.vcm_image.specs.Whole.{Fits, spelling, code_at}
+use Rattle.vcm_image.specs.Whole.{FitsImage, spelling, code_at}
 use Rattle.vcm_image.proofs.Wholes.{code_again}
 use Rattle.vcm_loader.specs.Checks.{Check, AllHold, checks}
-use Rattle.vcm_loader.specs.Loading.{FirstFault, LoadFault}
+use Rattle.vcm_loader.specs.Loading.{FirstFailedCheck, LoadFault}
 use Rattle.vcm_loader.specs.Laws.{ValidCodesHaveNoRefusal, RefusalsAreOne}
 use Rattle.vcm_loader.proofs.Soundness.{valid_checked}
 
 -- where all checks hold, none is told of
-none_first : (cs : List Check) (e : ImageFault) → AllHold cs → ¬ FirstFault cs e
+none_first : (cs : List Check) (e : ImageFault) → AllHold cs → ¬ FirstFailedCheck cs e
 none_first [] e h f = f
 none_first (c ∷ cs) e h (inl f) = none_first cs e h.1 f.1
 none_first (c ∷ cs) e h (inr f) = f.0 h.0
 
 -- the first fault is one
-one_first : (cs : List Check) (d e : ImageFault) → FirstFault cs d → FirstFault cs e → d ≡ e
+one_first : (cs : List Check) (d e : ImageFault) → FirstFailedCheck cs d → FirstFailedCheck cs e → d ≡ e
 one_first [] d e f g = absurd f
 one_first (c ∷ cs) d e (inl f) (inl g) = one_first cs d e f.1 g.1
 one_first (c ∷ cs) d e (inl f) (inr g) = absurd (g.0 f.0)
@@ -50,6 +50,6 @@ only_memory c BadTarget v f = absurd (no_refusal c BadTarget v f)
 only_memory c BadOperand v f = absurd (no_refusal c BadOperand v f)
 only_memory c RunsOff v f = absurd (no_refusal c RunsOff v f)
 
-pub is_only : {X : Type 0} (bytes : List ℕ) (r : Result X ImageFault) → IfErr r (λ e. LoadFault (code_at bytes) e) → (c : Code) → Fits c → IsValid (code_of c) → bytes ≡ spelling c → IfErr r (λ e. e ≡ NoMemory)
+pub is_only : {X : Type 0} (bytes : List ℕ) (r : Result X ImageFault) → IfErr r (λ e. LoadFault (code_at bytes) e) → (c : Code) → FitsImage c → IsValid (code_of c) → bytes ≡ spelling c → IfErr r (λ e. e ≡ NoMemory)
 is_only bytes (Ok x) h c f v e = tt
 is_only bytes (Err d) h c f v e = only_memory c d v (subst (λ r. LoadFault r d) (ap code_at e ∙ code_again c f) h)

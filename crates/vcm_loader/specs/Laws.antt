@@ -4,12 +4,12 @@ use Rattle.vcm_code.specs.declared.code.Code.{Code}
 use Rattle.vcm_code.specs.Ops.{code_of}
 use Rattle.vcm_code.specs.Valid.{IsValid}
 use Rattle.vcm_fields.specs.declared.fault.ImageFault.{ImageFault}
-use Rattle.vcm_loader.specs.Loading.{Refuses}
+use Rattle.vcm_loader.specs.Loading.{RefusesCode}
 
 -- nothing is told of a valid code
 abbrev pub ValidCodesHaveNoRefusal : Type 0
-ValidCodesHaveNoRefusal = (c : Code) (e : ImageFault) → IsValid (code_of c) → ¬ Refuses c e
+ValidCodesHaveNoRefusal = (c : Code) (e : ImageFault) → IsValid (code_of c) → ¬ RefusesCode c e
 
 -- no code has two refusals
 abbrev pub RefusalsAreOne : Type 0
-RefusalsAreOne = (c : Code) (d e : ImageFault) → Refuses c d → Refuses c e → d ≡ e
+RefusalsAreOne = (c : Code) (d e : ImageFault) → RefusesCode c d → RefusesCode c e → d ≡ e

@@ -17,16 +17,16 @@ fault_of (of_kind kinds v k) = BadOperand
 fault_of (assigned kinds v items) = BadOperand
 
 -- this is told of the first check of the list that doesn't hold
-abbrev pub FirstFault : List Check → ImageFault → Type 0
-FirstFault [] e = ⊥
-FirstFault (c ∷ cs) e = (Holds c × FirstFault cs e) ⊎ ((¬ Holds c) × (e ≡ fault_of c))
+abbrev pub FirstFailedCheck : List Check → ImageFault → Type 0
+FirstFailedCheck [] e = ⊥
+FirstFailedCheck (c ∷ cs) e = (Holds c × FirstFailedCheck cs e) ⊎ ((¬ Holds c) × (e ≡ fault_of c))
 
 -- the refusal of a code: its first check that doesn't hold; where all do, that it doesn't end with ENDFIL
-abbrev pub Refuses : Code → ImageFault → Type 0
-Refuses c e = FirstFault (checks c) e ⊎ (AllHold (checks c) × ((¬ Ends (statements_of c.statements)) × (e ≡ RunsOff)))
+abbrev pub RefusesCode : Code → ImageFault → Type 0
+RefusesCode c e = FirstFailedCheck (checks c) e ⊎ (AllHold (checks c) × ((¬ Ends (statements_of c.statements)) × (e ≡ RunsOff)))
 
 -- the refusal of loading: that of reading, else that of the code which is read. Of want of memory nothing is said
 abbrev pub LoadFault : Result Code ImageFault → ImageFault → Type 0
 LoadFault read NoMemory = Unit {0}
 LoadFault (Err f) e = e ≡ f
-LoadFault (Ok c) e = Refuses c e
+LoadFault (Ok c) e = RefusesCode c e

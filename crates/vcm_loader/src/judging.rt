@@ -5,7 +5,7 @@ ghost use Rattle.vcm_num.specs.declared.number.Kind.{Kind as KindOf};
 ghost use Rattle.vcm_spec.specs.Expression.{HasKind};
 ghost use Rattle.vcm_code.specs.Deciding.{Tells};
 ghost use Rattle.vcm_loader.specs.Checks.{index, target, indexes, assigned, ItemBelow, ItemsBelow, AllHold, wants, three, variable, op_checks};
-ghost use Rattle.vcm_loader.specs.Loading.{FirstFault};
+ghost use Rattle.vcm_loader.specs.Loading.{FirstFailedCheck};
 
 use crate::walking::items_kind;
 use std::alloc::Global;
@@ -69,7 +69,7 @@ fn judge_items(
     want: Kind,
 ) -> Result<(), ImageFault>
     ensures ok { OnOk result (AllHold (wants kinds.now items.now want)) }
-    ensures err { IfErr result (λ e. FirstFault (wants kinds.now items.now want) e) }
+    ensures err { IfErr result (λ e. FirstFailedCheck (wants kinds.now items.now want) e) }
 {
     if has_kind(alloc, items, kinds, want) {
         return Ok(());
@@ -91,7 +91,7 @@ fn judge_three(
     want: Kind,
 ) -> Result<(), ImageFault>
     ensures ok { OnOk result (AllHold (three kinds.now x.now y.now z.now want)) }
-    ensures err { IfErr result (λ e. FirstFault (three kinds.now x.now y.now z.now want) e) }
+    ensures err { IfErr result (λ e. FirstFailedCheck (three kinds.now x.now y.now z.now want) e) }
 {
     judge_items(alloc, x, kinds, want)?;
     judge_items(alloc, y, kinds, want)?;
@@ -102,7 +102,7 @@ fn judge_three(
 // The number of a statement that an operand names.
 fn judge_target(to: u32, statements: usize) -> Result<(), ImageFault>
     ensures ok { OnOk result (AllHold (target to statements ∷ [])) }
-    ensures err { IfErr result (λ e. FirstFault (target to statements ∷ []) e) }
+    ensures err { IfErr result (λ e. FirstFailedCheck (target to statements ∷ []) e) }
 {
     if to as usize >= statements {
         return Err(ImageFault::BadTarget);
@@ -113,7 +113,7 @@ fn judge_target(to: u32, statements: usize) -> Result<(), ImageFault>
 // The index of a variable, feature or frame, of which there are so many.
 fn judge_index(i: u16, count: usize) -> Result<(), ImageFault>
     ensures ok { OnOk result (AllHold (index i count ∷ [])) }
-    ensures err { IfErr result (λ e. FirstFault (index i count ∷ []) e) }
+    ensures err { IfErr result (λ e. FirstFailedCheck (index i count ∷ []) e) }
 {
     if usize::from(i) >= count {
         return Err(ImageFault::BadIndex);
@@ -124,7 +124,7 @@ fn judge_index(i: u16, count: usize) -> Result<(), ImageFault>
 // A variable of a kind: its index, then its kind.
 fn judge_variable(v: u16, kinds: &[Kind], want: Kind) -> Result<(), ImageFault>
     ensures ok { OnOk result (AllHold (variable kinds.now v want)) }
-    ensures err { IfErr result (λ e. FirstFault (variable kinds.now v want) e) }
+    ensures err { IfErr result (λ e. FirstFailedCheck (variable kinds.now v want) e) }
 {
     if usize::from(v) >= kinds.len() {
         return Err(ImageFault::BadIndex);
@@ -146,7 +146,7 @@ fn judge_assigned(
 ) -> Result<(), ImageFault>
     requires { slice_get kinds.now v ≡ Some kind }
     ensures ok { OnOk result (AllHold (indexes e.now (length kinds.now) ∷ assigned kinds.now v e.now ∷ [])) }
-    ensures err { IfErr result (λ f. FirstFault (indexes e.now (length kinds.now) ∷ assigned kinds.now v e.now ∷ []) f) }
+    ensures err { IfErr result (λ f. FirstFailedCheck (indexes e.now (length kinds.now) ∷ assigned kinds.now v e.now ∷ []) f) }
 {
     judge_items(alloc, e, kinds, kind)?;
     Ok(())
@@ -155,7 +155,7 @@ fn judge_assigned(
 // An ASSIGN: its variable, then an expression of that kind.
 fn judge_assign(alloc: Global, v: u16, e: &ItemSlice<'_>, kinds: &[Kind]) -> Result<(), ImageFault>
     ensures ok { OnOk result (AllHold (index v (length kinds.now) ∷ indexes e.now (length kinds.now) ∷ assigned kinds.now v e.now ∷ [])) }
-    ensures err { IfErr result (λ f. FirstFault (index v (length kinds.now) ∷ indexes e.now (length kinds.now) ∷ assigned kinds.now v e.now ∷ []) f) }
+    ensures err { IfErr result (λ f. FirstFailedCheck (index v (length kinds.now) ∷ indexes e.now (length kinds.now) ∷ assigned kinds.now v e.now ∷ []) f) }
 {
     if usize::from(v) >= kinds.len() {
         return Err(ImageFault::BadIndex);
@@ -174,7 +174,7 @@ fn judge_if(
     statements: usize,
 ) -> Result<(), ImageFault>
     ensures ok { OnOk result (AllHold (wants kinds.now test.now KindOf.Bool ++ (target to statements ∷ []))) }
-    ensures err { IfErr result (λ e. FirstFault (wants kinds.now test.now KindOf.Bool ++ (target to statements ∷ [])) e) }
+    ensures err { IfErr result (λ e. FirstFailedCheck (wants kinds.now test.now KindOf.Bool ++ (target to statements ∷ [])) e) }
 {
     judge_items(alloc, test, kinds, Kind::Bool)?;
     judge_target(to, statements)?;
@@ -194,7 +194,7 @@ fn judge_do(
     statements: usize,
 ) -> Result<(), ImageFault>
     ensures ok { OnOk result (AllHold (variable kinds.now v KindOf.Int ++ (three kinds.now initial.now limit.now increment.now KindOf.Int ++ (target exit statements ∷ [])))) }
-    ensures err { IfErr result (λ e. FirstFault (variable kinds.now v KindOf.Int ++ (three kinds.now initial.now limit.now increment.now KindOf.Int ++ (target exit statements ∷ []))) e) }
+    ensures err { IfErr result (λ e. FirstFailedCheck (variable kinds.now v KindOf.Int ++ (three kinds.now initial.now limit.now increment.now KindOf.Int ++ (target exit statements ∷ []))) e) }
 {
     judge_variable(v, kinds, Kind::Int)?;
     judge_three(alloc, initial, limit, increment, kinds, Kind::Int)?;
@@ -206,7 +206,7 @@ fn judge_do(
 #[tactic(auto, using(crate::proofs::Judgements::hold_append, crate::proofs::Judgements::first_here, crate::proofs::Judgements::first_later))]
 fn judge_enddo(v: u16, to: u32, kinds: &[Kind], statements: usize) -> Result<(), ImageFault>
     ensures ok { OnOk result (AllHold (variable kinds.now v KindOf.Int ++ (target to statements ∷ []))) }
-    ensures err { IfErr result (λ e. FirstFault (variable kinds.now v KindOf.Int ++ (target to statements ∷ [])) e) }
+    ensures err { IfErr result (λ e. FirstFailedCheck (variable kinds.now v KindOf.Int ++ (target to statements ∷ [])) e) }
 {
     judge_variable(v, kinds, Kind::Int)?;
     judge_target(to, statements)?;
@@ -217,7 +217,7 @@ fn judge_enddo(v: u16, to: u32, kinds: &[Kind], statements: usize) -> Result<(),
 #[tactic(auto, using(crate::proofs::Judgements::hold_append, crate::proofs::Judgements::first_here, crate::proofs::Judgements::first_later))]
 fn judge_obtain(v: u16, f: u16, kinds: &[Kind], features: usize) -> Result<(), ImageFault>
     ensures ok { OnOk result (AllHold (variable kinds.now v KindOf.Real ++ (index f features ∷ []))) }
-    ensures err { IfErr result (λ e. FirstFault (variable kinds.now v KindOf.Real ++ (index f features ∷ [])) e) }
+    ensures err { IfErr result (λ e. FirstFailedCheck (variable kinds.now v KindOf.Real ++ (index f features ∷ [])) e) }
 {
     judge_variable(v, kinds, Kind::Real)?;
     judge_index(f, features)?;
@@ -236,7 +236,7 @@ fn judge_point(
     kinds: &[Kind],
 ) -> Result<(), ImageFault>
     ensures ok { OnOk result (AllHold (index i count ∷ three kinds.now x.now y.now z.now KindOf.Real)) }
-    ensures err { IfErr result (λ e. FirstFault (index i count ∷ three kinds.now x.now y.now z.now KindOf.Real) e) }
+    ensures err { IfErr result (λ e. FirstFailedCheck (index i count ∷ three kinds.now x.now y.now z.now KindOf.Real) e) }
 {
     judge_index(i, count)?;
     judge_three(alloc, x, y, z, kinds, Kind::Real)?;
@@ -257,7 +257,7 @@ pub(crate) fn judge_operation(
     statements: usize,
 ) -> Result<(), ImageFault>
     ensures ok { OnOk result (AllHold (op_checks (record { kinds = kinds.now; features = features; frames = frames; statements = statements }) op.now)) }
-    ensures err { IfErr result (λ e. FirstFault (op_checks (record { kinds = kinds.now; features = features; frames = frames; statements = statements }) op.now) e) }
+    ensures err { IfErr result (λ e. FirstFailedCheck (op_checks (record { kinds = kinds.now; features = features; frames = frames; statements = statements }) op.now) e) }
 {
     match op {
         Op::EndFil | Op::GoHome | Op::EndIf | Op::Label | Op::EndMes | Op::Text(_) => Ok(()),

@@ -10,7 +10,7 @@ ghost use Rattle.vcm_expr.specs.Slots.{IsTruth, SlotsFit};
 ghost use Rattle.vcm_code.specs.Ops.{code_of};
 ghost use Rattle.vcm_code.specs.Valid.{IsValid};
 ghost use Rattle.vcm_fields.specs.Parts.{Line};
-ghost use Rattle.vcm_image.specs.Whole.{Fits};
+ghost use Rattle.vcm_image.specs.Whole.{FitsImage};
 ghost use Rattle.vcm_loader.specs.Expressions.{expressions};
 
 use crate::places::expression;
@@ -36,17 +36,17 @@ impl<'a> Model for Loaded<'a> {
 
     ghost use Rattle.vcm_code.specs.Ops.{code_of};
     ghost use Rattle.vcm_code.specs.Valid.{IsValid};
-    ghost use Rattle.vcm_image.specs.Whole.{Fits};
+    ghost use Rattle.vcm_image.specs.Whole.{FitsImage};
 
     ghost view = { λ l. l.scanned };
 
-    ghost invariant = { λ l. Fits l.scanned × IsValid (code_of l.scanned) };
+    ghost invariant = { λ l. FitsImage l.scanned × IsValid (code_of l.scanned) };
 }
 
 impl<'a> Loaded<'a> {
     /// A valid image.
     pub(crate) fn new(scanned: Scanned<'a>) -> Loaded<'a>
-        requires fits { Fits scanned }
+        requires fits { FitsImage scanned }
         requires valid { IsValid (code_of scanned) }
         ensures { result ≡ scanned.entry }
     {
@@ -112,7 +112,7 @@ impl<'a> Loaded<'a> {
     /// How many statements there are.
     pub fn statement_count(&self) -> usize
         ensures count { result ≡ length self.now.statements }
-        ensures fits { Fits self.now }
+        ensures fits { FitsImage self.now }
         ensures valid { IsValid (code_of self.now) }
     {
         self.scanned.statement_count()

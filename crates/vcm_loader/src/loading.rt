@@ -7,9 +7,9 @@ ghost use Rattle.vcm_code.specs.Deciding.{Tells};
 ghost use Rattle.vcm_code.specs.Ops.{op_of, statements_of, code_of};
 ghost use Rattle.vcm_code.specs.Valid.{IsLast, Ends, IsValid};
 ghost use Rattle.vcm_fields.specs.declared.fault.ImageFault.TheVariants.{NoMemory};
-ghost use Rattle.vcm_image.specs.Whole.{Fits, spelling, code_at};
+ghost use Rattle.vcm_image.specs.Whole.{FitsImage, spelling, code_at};
 ghost use Rattle.vcm_loader.specs.Checks.{AllHold, checks};
-ghost use Rattle.vcm_loader.specs.Loading.{FirstFault, LoadFault};
+ghost use Rattle.vcm_loader.specs.Loading.{FirstFailedCheck, LoadFault};
 
 use crate::judging::judge_operation;
 use crate::loaded::Loaded;
@@ -35,7 +35,7 @@ fn variable_kinds(alloc: Global, image: &Scanned<'_>) -> Result<Vec<Kind>, Image
 fn judge_statements(alloc: Global, image: &Scanned<'_>, kinds: &[Kind]) -> Result<(), ImageFault>
     requires { kinds.now ≡ kinds_of image.now.tables }
     ensures ok { OnOk result (AllHold (checks image.now)) }
-    ensures err { IfErr result (λ e. FirstFault (checks image.now) e) }
+    ensures err { IfErr result (λ e. FirstFailedCheck (checks image.now) e) }
 {
     let features = image.feature_count();
     let frames = image.frame_count();
@@ -81,7 +81,7 @@ fn judge(alloc: Global, image: &Scanned<'_>) -> Result<(), ImageFault>
 
 // The valid image that the bytes are, or the refusal.
 fn judged(alloc: Global, bytes: &[u8]) -> Result<Loaded<'_>, ImageFault>
-    ensures found { IfOk result (λ l. Fits l × (IsValid (code_of l) × (bytes.now ≡ spelling l))) }
+    ensures found { IfOk result (λ l. FitsImage l × (IsValid (code_of l) × (bytes.now ≡ spelling l))) }
     ensures fault { IfErr result (λ e. LoadFault (code_at bytes.now) e) }
 {
     let scanned = open(alloc, bytes)?;
@@ -97,9 +97,9 @@ fn judged(alloc: Global, bytes: &[u8]) -> Result<Loaded<'_>, ImageFault>
 /// order; then RunsOff, where there is no last statement that is ENDFIL. Want of memory.
 pub fn load(alloc: Global, bytes: &[u8]) -> Result<Loaded<'_>, ImageFault>
     // What is loaded is valid, and the bytes are its one spelling.
-    ensures found { IfOk result (λ l. Fits l × (IsValid (code_of l) × (bytes.now ≡ spelling l))) }
+    ensures found { IfOk result (λ l. FitsImage l × (IsValid (code_of l) × (bytes.now ≡ spelling l))) }
     // The spelling of a valid code is refused for want of memory alone.
-    ensures only { (c : Code) → Fits c → IsValid (code_of c) → bytes.now ≡ spelling c → IfErr result (λ e. e ≡ NoMemory) }
+    ensures only { (c : Code) → FitsImage c → IsValid (code_of c) → bytes.now ≡ spelling c → IfErr result (λ e. e ≡ NoMemory) }
     // Which refusal it is.
     ensures fault { IfErr result (λ e. LoadFault (code_at bytes.now) e) }
 {

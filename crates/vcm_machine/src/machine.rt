@@ -25,7 +25,7 @@ pub struct Machine<'a, P: Part> {
 impl<'a, P: Part> Model for Machine<'a, P> {
     ghost use Rattle.std.specs.Prelude.{◌≡◌, ◌<◌, length};
     ghost use Rattle.std.specs.Coded.{codes};
-    ghost use Rattle.vcm_code.specs.CodeTable.{place};
+    ghost use Rattle.vcm_code.specs.CodeTable.{code_state};
     ghost use Rattle.vcm_code.specs.Ops.{code_of};
     ghost use Rattle.vcm_code.specs.inner.OpCodes.{statement_coded};
     ghost use Rattle.vcm_machine.specs.Running.{Running};
@@ -36,7 +36,7 @@ impl<'a, P: Part> Model for Machine<'a, P> {
 
     ghost coded = { Prim.hlevel (codes, statement_coded) };
 
-    ghost view = { λ m. record { part = P.part m.part.now; code = code_of m.loaded.now; place = place m.world.state m.next m.pairs } };
+    ghost view = { λ m. record { part = P.part m.part.now; code = code_of m.loaded.now; place = code_state m.world.state m.next m.pairs } };
 
     ghost invariant = { λ m. (m.world.tables ≡ m.loaded.now.tables) × IsRunnable (code_of m.loaded.now) × (m.next < length m.loaded.now.statements) × Rests (P.part m.part.now) m.world.state };
 }

@@ -1,5 +1,5 @@
 -- The statements of a body, one behind the other.
-use Rattle.std.proofs.Common.{◌≡◌, ℕ, ◌+◌, ◌<◌, List, [], ◌∷◌, ◌++◌, length, drop, refl, sym, ap, ◌∙◌, get_or, inl, inr}
+use Rattle.std.proofs.Common.{◌≡◌, ℕ, ◌+◌, ◌<◌, List, [], ◌∷◌, ◌++◌, length, drop, refl, sym, ap, ◌∙◌, get_or}
 use Rattle.std.proofs.lemmas.List.{append_assoc}
 use Rattle.vcm_lines.specs.declared.fault.SourceFault.{SourceFault}
 use Rattle.std.specs.Prelude.{map}
@@ -8,11 +8,12 @@ use Rattle.vcm_syntax.specs.declared.statement.Statement.{Statement}
 use Rattle.vcm_syntax.specs.declared.statement.Argument.{Argument}
 use Rattle.vcm_syntax.specs.declared.statement.Form.{Form}
 use Rattle.vcm_syntax.specs.declared.statement.Form.TheVariants.{Call}
-use Rattle.vcm_macro.specs.Substitution.{Scope, put_form, put_argument}
+use Rattle.vcm_substitution.specs.Substitution.{Scope, put_form, put_argument}
 use Rattle.vcm_macro.specs.Walk.{Place, Stands, Caller, behind, statement_in, body_in}
 use Rattle.vcm_macro.specs.inner.Expanding.{Done, TellsFirst, Walked, stands}
 use Rattle.vcm_macro.proofs.Lists.{drop_here}
 use Rattle.vcm_macro.proofs.Walks.{walked_more, told_front, told_more}
+use Rattle.vcm_macro.proofs.Calling.{or_memory}
 
 -- so many of the statements are done
 pub record IsDone (call : Caller) (sc : Scope) (depth : ℕ) (all : List Statement) (i : ℕ) (start now : Done) : Type 0 where
@@ -42,11 +43,6 @@ pub done_told : (call : Caller) (sc : Scope) (depth : ℕ) (all : List Statement
 done_told call sc depth all i start now s f d lt e t =
     let rest = told_front now.count (statement_in call sc depth now.calls s.line s.form) _ f t in
     rw d.is (told_more start now d.ps _ f d.walked (rw (next_is call sc depth now.calls i all s lt e) rest))
-
--- what follows where it isn't want of memory
-or_memory : (P Q : SourceFault → Type 0) (f : SourceFault) → (P f → Q f) → NoMemoryOr P f → NoMemoryOr Q f
-or_memory P Q f go (inl e) = inl e
-or_memory P Q f go (inr p) = inr (go p)
 
 -- ---- the two kinds of statements
 

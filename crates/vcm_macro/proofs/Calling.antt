@@ -10,7 +10,7 @@ use Rattle.vcm_lines.specs.declared.fault.FaultCode.TheVariants.{UnknownName}
 use Rattle.vcm_lines.specs.Fault.{NoMemoryOr}
 use Rattle.vcm_syntax.specs.declared.statement.Argument.{Argument}
 use Rattle.vcm_syntax.specs.declared.statement.Statement.{Statement}
-use Rattle.vcm_macro.specs.Substitution.{Scope}
+use Rattle.vcm_substitution.specs.Substitution.{Scope}
 use Rattle.vcm_macro.specs.Walk.{Defined, Calls, call_in, body_in}
 use Rattle.vcm_macro.specs.inner.Expanding.{Done, IsFine, TellsOf, TellsFirst, Walked, found, IsFoundAt, active_of}
 use Rattle.vcm_macro.proofs.Walks.{walked_more, told_more}

@@ -4,7 +4,7 @@ use Rattle.std.specs.Prelude.{reverse, if◌then◌else◌}
 use Rattle.std.specs.List.{slice_get}
 use Rattle.std.proofs.lemmas.List.{reverse-append}
 use Rattle.std.proofs.lemmas.Option.{slice_get_read}
-use Rattle.vcm_macro.specs.Substitution.{is_same}
+use Rattle.vcm_substitution.specs.Substitution.{is_same}
 use Rattle.vcm_macro.specs.Walk.{Defined, Calls, body_in, call_in}
 use Rattle.vcm_macro.specs.inner.Expanding.{found, IsFoundAt, call_by}
 use Rattle.vcm_syntax.specs.declared.statement.Argument.{Argument}

@@ -12,5 +12,4 @@ pub mod Orders
 pub mod Computing
 pub mod Answered
 pub mod CodesAt
-pub mod Puttings
 pub mod Stays

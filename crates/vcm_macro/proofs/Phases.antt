@@ -10,7 +10,8 @@ use Rattle.vcm_lines.specs.declared.fault.FaultCode.{FaultCode}
 use Rattle.vcm_lines.specs.declared.fault.SourceFault.{SourceFault}
 use Rattle.vcm_spec.specs.Phase.{IsClean, FirstFault}
 use Rattle.vcm_macro.specs.Walk.{Defined, Place, Opens, Inside, Stands, Calls, walk}
-use Rattle.vcm_macro.specs.Rules.{BreaksMacros, macros_line, weight, weigh, kept, is_kept, one_if}
+use Rattle.vcm_macro.specs.Rules.{BreaksMacros, macros_line, weight, weigh, kept, one_if}
+use Rattle.vcm_substitution.specs.Kept.{is_kept}
 use Rattle.vcm_macro.proofs.CodesAt.{breaks_so, fine_so}
 use Rattle.vcm_macro.specs.inner.Expanding.{Done, Walked, IsRead, AreFine, IsFine, TellsOf, TellsFirst}
 

@@ -7,9 +7,11 @@ use Rattle.vcm_syntax.specs.declared.statement.Form.{Form}
 use Rattle.vcm_syntax.specs.declared.statement.Form.TheVariants.{Opening, Measures, Ignored, Macro, MacroEnd}
 use Rattle.vcm_syntax.specs.declared.statement.Statement.{Statement}
 use Rattle.vcm_macro.specs.declared.placed.Placed.{Placed}
-use Rattle.vcm_macro.specs.Substitution.{Scope, put_form}
+use Rattle.vcm_substitution.specs.Substitution.{Scope, put_form}
 use Rattle.vcm_macro.specs.Walk.{Place, Opens, Inside, Stands, Calls, Caller, calls_in, behind, statement_in, body_in}
-use Rattle.vcm_macro.specs.Rules.{weight, weigh, kept, kept_of, is_kept, are_small, one_if}
+use Rattle.vcm_macro.specs.Rules.{weight, weigh, kept, kept_of, one_if}
+use Rattle.vcm_substitution.specs.Kept.{is_kept}
+use Rattle.vcm_substitution.specs.Sizes.{are_small}
 use Rattle.vcm_macro.specs.inner.Expanding.{Done, IsFine, AreFine, TellsFirst, Walked, is_active, active_of, referred}
 
 -- with the first places walked, the second ones are: they leave the same, and tell the same

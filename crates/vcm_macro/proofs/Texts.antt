@@ -10,7 +10,7 @@ use Rattle.vcm_syntax.specs.declared.statement.Argument.{Argument}
 use Rattle.vcm_syntax.specs.declared.statement.Form.{Form}
 use Rattle.vcm_syntax.specs.declared.statement.Form.TheVariants.{Macro, MacroEnd, Call}
 use Rattle.vcm_syntax.specs.declared.statement.Statement.{Statement}
-use Rattle.vcm_macro.specs.Substitution.{is_same, outside, put_argument}
+use Rattle.vcm_substitution.specs.Substitution.{is_same, outside, put_argument}
 use Rattle.vcm_macro.specs.Walk.{Defined, Place, Opens, Inside, Stands, calls_in, call_in, text_from, walk_from, with_statement}
 use Rattle.vcm_macro.specs.Rules.{kept, weigh}
 use Rattle.vcm_macro.specs.inner.Expanding.{Done, TellsFirst, found, IsFoundAt, is_macro_end, inside, size_of, begun, macro_of, behind_macro, defines, IsNew, IsRead}

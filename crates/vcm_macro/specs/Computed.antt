@@ -5,7 +5,9 @@ use Rattle.vcm_lines.specs.declared.fault.FaultCode.TheVariants.{TooDeep, Duplic
 use Rattle.vcm_lines.specs.declared.fault.SourceFault.{SourceFault}
 use Rattle.vcm_syntax.specs.declared.statement.Statement.{Statement}
 use Rattle.vcm_macro.specs.Walk.{Place, Opens, Inside, Stands, Calls, walk}
-use Rattle.vcm_macro.specs.Rules.{is_taken, redeclares, unbalances, blocks_after, are_small, are_small_arguments, is_kept, is_full}
+use Rattle.vcm_macro.specs.Rules.{is_taken, redeclares, unbalances, blocks_after, is_full}
+use Rattle.vcm_substitution.specs.Kept.{is_kept}
+use Rattle.vcm_substitution.specs.Sizes.{are_small, are_small_arguments}
 use Rattle.vcm_macro.specs.Rules.{is_there, misfits, weight, line_at}
 
 -- this code where the test is passed, or else what comes next

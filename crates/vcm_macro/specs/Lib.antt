@@ -1,4 +1,3 @@
-pub mod Substitution
 pub mod Order
 pub mod Walk
 pub mod Rules

@@ -21,7 +21,9 @@ use Rattle.vcm_macro.specs.declared.fitting.Wanted.{Wanted}
 use Rattle.vcm_macro.specs.declared.fitting.Wanted.TheVariants.{Name as AName, Variable as AVariable, Value as AValue}
 use Rattle.vcm_macro.specs.declared.blocks.Opener.{Opener}
 use Rattle.vcm_macro.specs.declared.blocks.Opener.TheVariants.{If, Else, Do, Meas}
-use Rattle.vcm_macro.specs.Substitution.{is_same, variable_of}
+use Rattle.vcm_substitution.specs.Substitution.{is_same, variable_of}
+use Rattle.vcm_substitution.specs.Sizes.{are_small_arguments, are_small}
+use Rattle.vcm_substitution.specs.Kept.{is_kept}
 use Rattle.vcm_macro.specs.Walk.{Defined, Place, Opens, Inside, Stands, Calls}
 
 -- ---- a macro is defined once, and so is each of its parameters
@@ -139,44 +141,6 @@ misfits None bs = false
 misfits (Some m) bs = not (takes m bs)
 
 -- ---- sizes
-
--- whether an expression is small enough, where there is one
-abbrev pub is_small_option : Option Source → Bool
-is_small_option None = true
-is_small_option (Some s) = is_small s
-
--- whether what each argument is as an expression is small enough
-abbrev pub are_small_arguments : List Argument → Bool
-are_small_arguments bs = list_all (λ b. is_small_option b.value) bs
-
--- whether all coordinates of a place are small enough
-abbrev pub is_small_spot : Spot → Bool
-is_small_spot p = is_small p.x && (is_small p.y && is_small p.z)
-
--- whether all expressions of DO are small enough
-abbrev pub are_small_rounds : Rounds → Bool
-are_small_rounds r = is_small r.initial && (is_small r.limit && is_small_option r.increment)
-
--- whether all lengths of shifts are small enough
-abbrev pub are_small_offsets : List Offset → Bool
-are_small_offsets os = list_all (λ o. is_small o.length) os
-
--- whether all expressions of a statement are small enough
-abbrev pub are_small : Form → Bool
-are_small (Assignment t s) = is_small s
-are_small (Move p) = is_small_spot p
-are_small (Test s) = is_small s
-are_small (Repeat r) = are_small_rounds r
-are_small (Feature n p d) = is_small_spot p
-are_small (Touch p d) = is_small_spot p
-are_small (Configure which s) = is_small s
-are_small (Shift n os) = are_small_offsets os
-are_small form = true
-
--- whether a statement is one of the expanded program, and counts there: a step of the machine, or DECL
-abbrev pub is_kept : Form → Bool
-is_kept (Declaration kind names) = true
-is_kept form = is_counted form
 
 -- one where it is so
 abbrev pub one_if : Bool → ℕ

@@ -5,7 +5,7 @@ use Rattle.vcm_syntax.specs.declared.statement.Argument.{Argument}
 use Rattle.vcm_syntax.specs.declared.statement.Form.{Form}
 use Rattle.vcm_syntax.specs.declared.statement.Form.TheVariants.{Macro, MacroEnd, Call}
 use Rattle.vcm_syntax.specs.declared.statement.Statement.{Statement}
-use Rattle.vcm_macro.specs.Substitution.{Scope, outside, is_same, put_form, put_argument}
+use Rattle.vcm_substitution.specs.Substitution.{Scope, outside, is_same, put_form, put_argument}
 
 -- a macro
 pub record Defined : Type 0 where

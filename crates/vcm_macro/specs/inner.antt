@@ -1,6 +1,4 @@
 -- What only private contracts and proofs of this crate speak of.
 pub mod Expanding
-pub mod Limits
 pub mod Saying
-pub mod Putting
 pub mod Staying

@@ -2,7 +2,7 @@
 
 ghost use Rattle.std.specs.Prelude.{◌≡◌, None, reverse, IfOk, MatchOption};
 ghost use Rattle.std.specs.List.{list_any};
-ghost use Rattle.vcm_macro.specs.Substitution.{is_same};
+ghost use Rattle.vcm_substitution.specs.Substitution.{is_same};
 ghost use Rattle.vcm_macro.specs.Rules.{takes};
 ghost use Rattle.vcm_macro.specs.inner.Expanding.{found, IsFoundAt, active_of, referred};
 

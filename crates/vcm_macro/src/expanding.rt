@@ -2,20 +2,19 @@
 
 ghost use Rattle.std.specs.Prelude.{◌≡◌, ◌≤◌, ◌∷◌, [], suc, true, Some, map, reverse, OnOk, IfOk, IfErr};
 ghost use Rattle.vcm_lines.specs.Fault.{NoMemoryOr};
-ghost use Rattle.vcm_macro.specs.Rules.{are_small_arguments};
-ghost use Rattle.vcm_macro.specs.inner.Limits.{IsTooDeep};
-ghost use Rattle.vcm_macro.specs.Substitution.{put_argument};
+ghost use Rattle.vcm_substitution.specs.Sizes.{are_small_arguments, IsTooDeep};
+ghost use Rattle.vcm_substitution.specs.Substitution.{put_argument};
 ghost use Rattle.vcm_macro.specs.Walk.{Calls, call_in, body_in};
 ghost use Rattle.vcm_macro.specs.inner.Staying.{given};
 ghost use Rattle.vcm_macro.specs.inner.Expanding.{Walked, TellsOf, TellsFirst, IsFine, referred};
 
-use crate::bindings::Bindings;
 use crate::definition::{Definition, find};
 use crate::expansion::Expansion;
 use crate::staying::{Given, all_stay};
 use std::alloc::Global;
 use vcm_expr::Name;
 use vcm_lines::{FaultCode, SourceFault};
+use vcm_substitution::Bindings;
 use vcm_syntax::{Argument, Form, Statement};
 
 /// The deepest that calls may nest.

@@ -7,14 +7,12 @@ ghost use Rattle.vcm_macro.specs.Walk.{Stands};
 ghost use Rattle.vcm_macro.specs.Rules.{is_full};
 ghost use Rattle.vcm_macro.specs.inner.Expanding.{Walked, TellsFirst, stands};
 
-use crate::bindings::Bindings;
 use crate::kept::is_kept;
 use crate::placed::{Origin, Placed, Said};
-use crate::putting::put_form;
-use crate::small::are_small;
 use std::alloc::{AllocError, Global};
 use std::marker::Model;
 use vcm_lines::{FaultCode, SourceFault};
+use vcm_substitution::{Bindings, are_small, put_form};
 use vcm_syntax::Statement;
 
 /// The most that may count in an expanded program.

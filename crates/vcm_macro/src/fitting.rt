@@ -4,9 +4,9 @@ ghost use Rattle.std.specs.Prelude.{◌≡◌, map, IfOk};
 ghost use Rattle.std.specs.List.{list_any};
 ghost use Rattle.vcm_macro.specs.Rules.{assigns, wanted_by, suits, all_suit};
 
-use crate::bindings::variable_of;
 use std::alloc::{AllocError, Global};
 use vcm_expr::Name;
+use vcm_substitution::variable_of;
 use vcm_syntax::{Argument, Form, Parameter, Statement};
 
 /// What has to be given for a parameter.

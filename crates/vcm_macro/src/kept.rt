@@ -1,7 +1,7 @@
 //! Which statements an expanded program has, and which ones of a body leave something in it.
 
 ghost use Rattle.std.specs.Prelude.{◌≡◌, IfOk};
-ghost use Rattle.vcm_macro.specs.Rules.{is_kept};
+ghost use Rattle.vcm_substitution.specs.Kept.{is_kept};
 ghost use Rattle.vcm_macro.specs.inner.Expanding.{is_active, active_of, referred};
 
 use std::alloc::{AllocError, Global};

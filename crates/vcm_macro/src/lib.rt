@@ -1,7 +1,6 @@
 //! Macros: the order of a program's statements, and the expansion of its calls.
 #![tactic(auto)]
 
-mod bindings;
 mod blocks;
 mod defining;
 mod definition;
@@ -13,8 +12,6 @@ pub mod laws;
 mod order;
 mod parameters;
 mod placed;
-mod putting;
-mod small;
 mod staying;
 mod text;
 

@@ -2,12 +2,12 @@
 
 ghost use Rattle.std.specs.Prelude.{◌≡◌, true, map};
 ghost use Rattle.std.specs.List.{list_all};
-ghost use Rattle.vcm_macro.specs.Rules.{are_small_arguments, is_small_option};
-ghost use Rattle.vcm_macro.specs.Substitution.{put_argument};
+ghost use Rattle.vcm_substitution.specs.Sizes.{are_small_arguments, is_small_option};
+ghost use Rattle.vcm_substitution.specs.Substitution.{put_argument};
 ghost use Rattle.vcm_macro.specs.inner.Staying.{is_here};
 
-use crate::bindings::Bindings;
 use vcm_expr::Piece;
+use vcm_substitution::Bindings;
 use vcm_syntax::Argument;
 
 /// The arguments of a call as they are written, or what is put in their place.

@@ -10,7 +10,6 @@ ghost use Rattle.vcm_macro.specs.Computed.{macro_fault};
 ghost use Rattle.vcm_macro.specs.Expansion.{IsExpanded, IsRefused};
 ghost use Rattle.vcm_macro.specs.inner.Expanding.{TellsFirst, IsNew, IsRead, defines, behind_macro};
 
-use crate::bindings::Bindings;
 use crate::defining::body_size;
 use crate::definition::{Definition, is_defined};
 use crate::expanding::call;
@@ -21,6 +20,7 @@ use crate::placed::Placed;
 use std::alloc::Global;
 use vcm_expr::Name;
 use vcm_lines::{FaultCode, SourceFault};
+use vcm_substitution::Bindings;
 use vcm_syntax::{Form, Parameter, Statement};
 
 // The macro that is defined here, behind the statement MACRO.

@@ -6,11 +6,12 @@ use Rattle.vcm_num.specs.declared.point.Point.{Point}
 use Rattle.vcm_num.specs.Point.{coordinate, is_below}
 use Rattle.vcm_spec.specs.declared.workpiece.Block3.{Block3}
 use Rattle.vcm_spec.specs.Contact.{IsFraction, IsBetween, Meets}
-use Rattle.vcm_spec.proofs.Entries.{both_true}
 use Rattle.vcm_motion.specs.inner.Stretches.{IsReached}
 use Rattle.vcm_motion.specs.inner.Boxes.{IsSpan, IsBoxOf}
 use Rattle.vcm_motion.proofs.Crossings.{rising, falling}
 use Rattle.vcm_motion.proofs.Inside.{each_below}
+use Rattle.std.proofs.lemmas.Bool.{and_from}
+use Rattle.vcm_motion.specs.Strips.{nat_part}
 
 -- what is reached within a move of length n lies before its end and not behind its start
 reach_ends : (near far : ℤ) (n a b : ℕ) → IsFraction a b → IsReached near far (pos n) a b → (near ≤ℤ pos n) × (pos 0 ≤ℤ far)
@@ -24,10 +25,6 @@ reach_ends near far n a b f r = (before_end near far n a b f r, from_start near 
     from_start : (near far : ℤ) (n a b : ℕ) → IsFraction a b → IsReached near far (pos n) a b → pos 0 ≤ℤ far
     from_start near (pos m) n a b f r = omega (arith, ints)
     from_start near (negsuc m) n a b f r = let p = f.positive in absurd (omega (arith, ints, r.below))
-
-abbrev nat_part : ℤ → ℕ
-nat_part (pos n) = n
-nat_part (negsuc n) = 0
 
 nat_part_is : (z : ℤ) → pos 0 ≤ℤ z → z ≡ pos (nat_part z)
 nat_part_is (pos n) h = omega (arith, ints)
@@ -64,4 +61,4 @@ pub met_touches : (block area : Block3) (p q : Point) (a b : ℕ) → IsBoxOf p 
 met_touches block area p q a b is m =
     let on : (k : ℕ) → k < 3 → (coordinate block.low k ≤ℤ coordinate area.high k) × (coordinate area.low k ≤ℤ coordinate block.high k) =
     λ k l. span_met _ _ _ _ _ _ a b (is k l) m.fraction (m.on_axis k l) in
-    both_true _ _ (each_below _ _ (λ k l. (on k l).0)) (each_below _ _ (λ k l. (on k l).1))
+    and_from _ _ (each_below _ _ (λ k l. (on k l).0)) (each_below _ _ (λ k l. (on k l).1))

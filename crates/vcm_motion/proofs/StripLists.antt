@@ -4,9 +4,8 @@ use Rattle.std.proofs.Math.ListN.{get_or-append, drop_of_length-le}
 use Rattle.std.proofs.Math.Seq.{get_or-append_seam}
 use Rattle.std.proofs.lemmas.List.{get_or-append-add, append-nil}
 use Rattle.std.proofs.lemmas.List.Elements.{All-nil, All-cons, All-append}
-use Rattle.std.proofs.lemmas.Bool.{cases_lt, le-leb}
+use Rattle.std.proofs.lemmas.Bool.{cases_lt, le-leb, and_from}
 use Rattle.vcm_spec.specs.declared.workpiece.Block3.{Block3}
-use Rattle.vcm_spec.proofs.Entries.{both_true}
 use Rattle.vcm_motion.specs.Strips.{stands_in, numbered, standing, listed_below, starts_to, start_of, compared_in}
 use Rattle.vcm_motion.specs.inner.Listed.{IsListed, AreStrips}
 use Rattle.vcm_motion.proofs.InOrder.{no_block, read_at}
@@ -144,7 +143,7 @@ are_strips low width wide blocks = record {
   places = below_within low width blocks 64;
   each = λ j block at s from to.
       let within : s < 64 = omega arith in
-      let stands = both_true _ _ (le-leb _ _ from) (le-leb _ _ to) in
+      let stands = and_from _ _ (le-leb _ _ from) (le-leb _ _ to) in
       let listed = strip_listed low width blocks j block at s within stands in
       let one = start_is low width blocks s 64 (omega arith) in
       let two = start_is low width blocks (s + 1) 64 (omega arith) in

@@ -5,7 +5,8 @@ use Rattle.std.proofs.lemmas.Bool.{lt-ltb, le-ltb}
 use Rattle.memchr.specs.Find.{IsFirstByte, is_byte}
 use Rattle.std.proofs.lemmas.List.Sums.{position_or_len_is}
 
-abbrev ends_line : ℕ → Bool
+-- the byte ends a line
+abbrev pub ends_line : ℕ → Bool
 ends_line b = eqb b 10
 
 not_passed : (b : Bool) → (b ≡ true → ⊥) → b ≡ false

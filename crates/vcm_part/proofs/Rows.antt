@@ -8,13 +8,13 @@ use Rattle.toml.specs.declared.value.Value.{Value}
 use Rattle.toml.proofs.Views.{items_view-drop}
 use Rattle.vcm_spec.specs.declared.workpiece.Block3.{Block3}
 use Rattle.vcm_part.specs.declared.fault.PartFault.{PartFault}
-use Rattle.vcm_part.specs.declared.fault.Halt.{Halt}
-use Rattle.vcm_part.specs.declared.fault.Halt.TheVariants as halts
+use Rattle.vcm_part.specs.declared.fault.NotRead.{NotRead}
+use Rattle.vcm_part.specs.declared.fault.NotRead.TheVariants as not_read
 use Rattle.std.specs.List.{list_all}
 use Rattle.vcm_spec.specs.Workpiece.{is_block}
 use Rattle.vcm_spec.specs.Results.{◌>>=◌}
 use Rattle.vcm_part.specs.PartFile.{block_of, blocks_from, count}
-use Rattle.vcm_part.specs.inner.Halts.{Fails}
+use Rattle.vcm_part.specs.inner.NotRead.{Fails}
 
 abbrev pub with_front : List Block3 → Result (List Block3) PartFault → Result (List Block3) PartFault
 with_front front read = read >>= λ x. Ok (front ++ x)
@@ -31,11 +31,11 @@ goes_on front vs i v b total lt at h so_far =
     let one : with_front front (blocks_from (i + 1) (items_view (drop i vs))) ≡ with_front (front ++ b ∷ []) (blocks_from (i + 1 + 1) (items_view (drop (i + 1) vs))) = rw (e, h) (regroup front b (blocks_from (i + 1 + 1) (items_view (drop (i + 1) vs)))) in
     sym one ∙ so_far
 
-pub ends : (e : Halt) (front : List Block3) (vs : List Value) (i : ℕ) (v : Value) (total : Result (List Block3) PartFault) → i < length vs → get_or vs i v ≡ v → Fails e (block_of (i + 1) (view v))
+pub ends : (e : NotRead) (front : List Block3) (vs : List Value) (i : ℕ) (v : Value) (total : Result (List Block3) PartFault) → i < length vs → get_or vs i v ≡ v → Fails e (block_of (i + 1) (view v))
     → with_front front (blocks_from (i + 1) (items_view (drop i vs))) ≡ total → Fails e total
 unfolding blocks_from
-ends halts.Memory front vs i v total lt at h so_far = tt
-ends (halts.Fault f) front vs i v total lt at h so_far =
+ends not_read.Memory front vs i v total lt at h so_far = tt
+ends (not_read.Fault f) front vs i v total lt at h so_far =
     let e : items_view (drop i vs) ≡ item (view v) (items_view (drop (i + 1) vs)) = rw (items_view-drop vs i v lt, at) refl in
     let one : with_front front (blocks_from (i + 1) (items_view (drop i vs))) ≡ Err f = rw (e, h) refl in
     sym so_far ∙ one

@@ -4,7 +4,7 @@ use Rattle.std.specs.Prelude.{codes, nat_lt, if◌then◌else◌}
 use Rattle.std.specs.List.{list_all}
 use Rattle.std.specs.Option.{option_and_then}
 use Rattle.std.specs.Str.{is_utf8}
-use Rattle.std.proofs.lemmas.Bool.{and_parts}
+use Rattle.std.proofs.lemmas.Bool.{and_parts, and_from}
 use Rattle.toml.specs.Data.{Items, no_items, item, Members, get_member, as_table}
 use Rattle.toml.specs.Parse.{parse_document}
 use Rattle.vcm_num.specs.declared.point.Point.{Point}
@@ -26,10 +26,6 @@ point_near : (key : List ℕ) (number : ℕ) (t : Members) (p : Point) → point
 unfolding point_at
 point_near key number t p e = near_of number (option_and_then point_of (get_member key t)) p e
 
-both_true : (a b : Bool) → a ≡ true → b ≡ true → (a && b) ≡ true
-both_true true b e f = f
-both_true false b e f = e
-
 abbrev between : Point → Point → Block3
 between low high = record { low = low; high = high }
 
@@ -40,7 +36,7 @@ block_valid number (Some t) b e =
     let second = both (point_at (codes "high") number t) _ b first.second in
     let last = kept (is_below (coordinate first.between) (coordinate second.between)) (between first.between second.between) b (fault LowAboveHigh number) second.second in
     subst (λ (x : Block3). is_block x ≡ true) last.is
-    (both_true _ _ (both_true _ _ (point_near _ _ _ _ first.first) (point_near _ _ _ _ second.first)) last.held)
+    (and_from _ _ (and_from _ _ (point_near _ _ _ _ first.first) (point_near _ _ _ _ second.first)) last.held)
 
 record AreBlocks (n : ℕ) (bs : List Block3) : Type 0 where
   each : list_all is_block bs ≡ true
@@ -57,7 +53,7 @@ blocks_valid number (item d ds) bs e =
     let is : first.between ∷ second.between ≡ bs = (let h : Ok (first.between ∷ second.between) ≡ Ok bs = second.second in cc) in
     let others = blocks_valid (number + 1) ds second.between second.first in
     subst (λ (x : List Block3). AreBlocks (suc (count ds)) x) is (record {
-      each = both_true _ _ (block_valid number (as_table d) first.between first.first) others.each;
+      each = and_from _ _ (block_valid number (as_table d) first.between first.first) others.each;
       many = ap suc others.many;
     })
 

@@ -1,2 +1,2 @@
 -- What only private contracts and proofs of this crate speak of.
-pub mod Halts
+pub mod NotRead

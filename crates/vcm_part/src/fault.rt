@@ -1,7 +1,7 @@
 //! Why a part file is refused.
 
 ghost use Rattle.std.specs.Prelude.{◌≡◌};
-ghost use Rattle.vcm_part.specs.declared.fault.Halt.TheVariants.{Memory};
+ghost use Rattle.vcm_part.specs.declared.fault.NotRead.TheVariants.{Memory};
 
 use std::alloc::{AllocError, AllocFailed};
 
@@ -31,25 +31,25 @@ pub struct PartFault {
     pub block: u32,
 }
 
-/// What ends the reading.
+/// Why a file isn't read.
 #[derive(Clone, Copy)]
-pub(crate) enum Halt {
+pub(crate) enum NotRead {
     Memory,
     Fault(PartFault),
 }
 
-impl From<AllocError> for Halt {
-    ghost from_gives = { λ _ halt. halt ≡ Memory };
+impl From<AllocError> for NotRead {
+    ghost from_gives = { λ _ end. end ≡ Memory };
 
-    fn from(_: AllocError) -> Halt {
-        Halt::Memory
+    fn from(_: AllocError) -> NotRead {
+        NotRead::Memory
     }
 }
 
-impl<T: Drop> From<AllocFailed<T>> for Halt {
-    ghost from_gives = { λ _ halt. halt ≡ Memory };
+impl<T: Drop> From<AllocFailed<T>> for NotRead {
+    ghost from_gives = { λ _ end. end ≡ Memory };
 
-    fn from(_: AllocFailed<T>) -> Halt {
-        Halt::Memory
+    fn from(_: AllocFailed<T>) -> NotRead {
+        NotRead::Memory
     }
 }

@@ -7,10 +7,10 @@ ghost use Rattle.toml.specs.Data.{get_member};
 ghost use Rattle.vcm_num.specs.Point.{is_near};
 ghost use Rattle.vcm_spec.specs.Workpiece.{is_block};
 ghost use Rattle.vcm_part.specs.PartFile.{point_of, point_at, are_tables, block_of, blocks_from, blocks_at, is_clear, part_of_table, part_of, IsPartRead};
-ghost use Rattle.vcm_part.specs.inner.Halts.{Gives};
+ghost use Rattle.vcm_part.specs.inner.NotRead.{Gives};
 
 use crate::data::PartData;
-use crate::fault::{Halt, PartCode, PartFault};
+use crate::fault::{NotRead, PartCode, PartFault};
 use crate::inside::{is_below, is_in_some, is_within};
 use std::alloc::Global;
 use toml::{Table, Value};
@@ -20,10 +20,10 @@ use vcm_spec::{Block3, Bounds};
 const MOST_BLOCKS: usize = 4096;
 
 // A refusal, and the number of the block at fault, or 0.
-fn halt(code: PartCode, block: u32) -> Halt
-    ensures { result ≡ Halt.Fault (record { code = code; block = block }) }
+fn refused(code: PartCode, block: u32) -> NotRead
+    ensures { result ≡ NotRead.Fault (record { code = code; block = block }) }
 {
-    Halt::Fault(PartFault { code, block })
+    NotRead::Fault(PartFault { code, block })
 }
 
 // The point of an array of three whole numbers.
@@ -47,35 +47,35 @@ fn value_at<'a>(table: &'a Table, key: &str) -> Option<&'a Value>
 
 // The point at a key of the table, or of the block of that number.
 #[tactic(auto, unfolding(crate::specs::PartFile::point_at))]
-fn point_at(table: &Table, key: &str, number: u32) -> Result<Point, Halt>
+fn point_at(table: &Table, key: &str, number: u32) -> Result<Point, NotRead>
     ensures gives { Gives (λ p. p) result (point_at key.now number (table_view table.now)) }
     ensures near { IfOk result (λ p. IsTrue (is_near p)) }
 {
     let Some(value) = value_at(table, key) else {
-        return Err(halt(PartCode::BadKey, number));
+        return Err(refused(PartCode::BadKey, number));
     };
     let Some(point) = point_of(value) else {
-        return Err(halt(PartCode::BadKey, number));
+        return Err(refused(PartCode::BadKey, number));
     };
     if !point.is_near() {
-        return Err(halt(PartCode::OutOfRange, number));
+        return Err(refused(PartCode::OutOfRange, number));
     }
     Ok(point)
 }
 
 // The block of that number.
 #[tactic(auto, unfolding(crate::specs::PartFile::block_of))]
-fn block_of(value: &Value, number: u32) -> Result<Block3, Halt>
+fn block_of(value: &Value, number: u32) -> Result<Block3, NotRead>
     ensures gives { Gives (λ b. b) result (block_of number (view value.now)) }
     ensures valid { IfOk result (λ b. IsTrue (is_block b)) }
 {
     let Some(table) = value.as_table() else {
-        return Err(halt(PartCode::BadKey, number));
+        return Err(refused(PartCode::BadKey, number));
     };
     let low = point_at(table, "low", number)?;
     let high = point_at(table, "high", number)?;
     if !is_below(low, high) {
-        return Err(halt(PartCode::LowAboveHigh, number));
+        return Err(refused(PartCode::LowAboveHigh, number));
     }
     Ok(Block3 { low, high })
 }
@@ -93,7 +93,7 @@ fn are_tables(rows: &[Value]) -> bool
 }
 
 // The blocks of the items, counted from 1.
-fn blocks_of(alloc: Global, rows: &[Value]) -> Result<Vec<Block3>, Halt>
+fn blocks_of(alloc: Global, rows: &[Value]) -> Result<Vec<Block3>, NotRead>
     requires { length rows.now ≤ 4096 }
     ensures gives { Gives (λ v. v.items) result (blocks_from 1 (items_view rows.now)) }
     ensures valid { IfOk result (λ v. IsTrue (list_all is_block v.items)) }
@@ -111,7 +111,7 @@ fn blocks_of(alloc: Global, rows: &[Value]) -> Result<Vec<Block3>, Halt>
 
 // The blocks of the table, which has no key `block` where there are none.
 #[tactic(auto, using(crate::proofs::Rows::count_rows), unfolding(crate::specs::PartFile::blocks_at))]
-fn blocks_at(alloc: Global, table: &Table) -> Result<Vec<Block3>, Halt>
+fn blocks_at(alloc: Global, table: &Table) -> Result<Vec<Block3>, NotRead>
     ensures gives { Gives (λ v. v.items) result (blocks_at (table_view table.now)) }
     ensures valid { IfOk result (λ v. IsTrue (list_all is_block v.items)) }
     ensures few { IfOk result (λ v. length v.items ≤ 4096) }
@@ -120,13 +120,13 @@ fn blocks_at(alloc: Global, table: &Table) -> Result<Vec<Block3>, Halt>
         return blocks_of(alloc, &[]);
     };
     let Some(rows) = value.as_array() else {
-        return Err(halt(PartCode::BadKey, 0));
+        return Err(refused(PartCode::BadKey, 0));
     };
     if !are_tables(rows) {
-        return Err(halt(PartCode::BadKey, 0));
+        return Err(refused(PartCode::BadKey, 0));
     }
     if MOST_BLOCKS < rows.len() {
-        return Err(halt(PartCode::TooManyBlocks, 0));
+        return Err(refused(PartCode::TooManyBlocks, 0));
     }
     blocks_of(alloc, rows)
 }
@@ -140,37 +140,37 @@ fn is_clear(bounds: &Bounds, blocks: &[Block3]) -> bool
 
 // The workpiece of the table.
 #[tactic(auto, unfolding(crate::specs::PartFile::part_of_table))]
-fn part_of_table(alloc: Global, table: &Table) -> Result<PartData, Halt>
+fn part_of_table(alloc: Global, table: &Table) -> Result<PartData, NotRead>
     ensures { Gives (λ p. p) result (part_of_table (table_view table.now)) }
 {
     let low = point_at(table, "low", 0)?;
     let high = point_at(table, "high", 0)?;
     let home = point_at(table, "home", 0)?;
     if !is_below(low, high) {
-        return Err(halt(PartCode::LowAboveHigh, 0));
+        return Err(refused(PartCode::LowAboveHigh, 0));
     }
     let blocks = blocks_at(alloc, table)?;
     let bounds = Bounds { low, high, home };
     if !is_clear(&bounds, &blocks) {
-        return Err(halt(PartCode::HomeNotClear, 0));
+        return Err(refused(PartCode::HomeNotClear, 0));
     }
     Ok(PartData::new(bounds, blocks))
 }
 
 // The workpiece of the bytes.
 #[tactic(auto, using(crate::proofs::Bytes::text_is, crate::proofs::Bytes::text_is_not), unfolding(crate::specs::PartFile::part_of))]
-fn part_of(alloc: Global, bytes: &[u8]) -> Result<PartData, Halt>
+fn part_of(alloc: Global, bytes: &[u8]) -> Result<PartData, NotRead>
     ensures { Gives (λ p. p) result (part_of bytes.now) }
 {
     let Ok(text) = std::str::from_utf8(bytes) else {
-        return Err(halt(PartCode::NotToml, 0));
+        return Err(refused(PartCode::NotToml, 0));
     };
     match toml::table_from_str(alloc, text) {
         Ok(table) => part_of_table(alloc, &table),
         Err(error) => if error.is_memory() {
-            Err(Halt::Memory)
+            Err(NotRead::Memory)
         } else {
-            Err(halt(PartCode::NotToml, 0))
+            Err(refused(PartCode::NotToml, 0))
         },
     }
 }
@@ -191,10 +191,10 @@ pub fn read_part(alloc: Global, bytes: &[u8]) -> Result<PartData, PartFault>
 {
     match part_of(alloc, bytes) {
         Ok(part) => Ok(part),
-        Err(Halt::Memory) => Err(PartFault {
+        Err(NotRead::Memory) => Err(PartFault {
             code: PartCode::NoMemory,
             block: 0,
         }),
-        Err(Halt::Fault(fault)) => Err(fault),
+        Err(NotRead::Fault(fault)) => Err(fault),
     }
 }

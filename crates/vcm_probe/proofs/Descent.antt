@@ -1,7 +1,7 @@
 -- A touch, line by line, and the first face on the way down.
 use Rattle.std.proofs.Common.{◌≡◌, ℕ, zero, suc, ◌+◌, ◌*◌, ◌==◌, ℤ, pos, negsuc, ◌+ℤ◌, ◌*ℤ◌, Bool, true, false, ◌&&◌, cond, List, Option, Some, None, Result, Ok, Err, refl, sym, ap, ◌∙◌, arith, inl, inr}
 use Rattle.std.specs.Prelude.{IsTrue, not, neg_ℤ}
-use Rattle.std.proofs.lemmas.Bool.{cases_order}
+use Rattle.std.proofs.lemmas.Bool.{cases_order, and_from}
 use Rattle.std.proofs.lemmas.Int.{ints}
 use Rattle.vcm_num.specs.declared.point.Point.{Point}
 use Rattle.vcm_num.specs.declared.axis.Axis.{Axis}
@@ -20,7 +20,6 @@ use Rattle.vcm_spec.specs.FirstContact.{contact, later_contact}
 use Rattle.vcm_spec.specs.Touch.{approach_of, end_of, down_of, past}
 use Rattle.vcm_spec.specs.FirstTouch.{first_from, first_inside, free_of, free_move, touch}
 use Rattle.vcm_spec.specs.Outcome.{Outcome, Gives, Stops, Answers, ◌>>=◌, demand, found, fits_place, point_of}
-use Rattle.vcm_spec.proofs.Entries.{both_true}
 use Rattle.vcm_spec.proofs.Touches.{IsSearchOf, search_is}
 use Rattle.vcm_motion.specs.declared.face.Face.{Face}
 use Rattle.vcm_motion.specs.Faces.{IsFace, IsFirstFace}
@@ -157,7 +156,7 @@ module _ (part : Workpiece) (s : Settings) (from nominal : ℕ → ℤ) (d : Axi
         ∙ ap (λ o. demand (is_within part.bounds high) (Travel Approach) >>= (λ _. free_of Approach o)) (same_contact part.blocks from high))
 
     on_move : answer ≡ moves
-    on_move = answer_is ∙ met _ _ _ (both_true _ _ h.up h.down)
+    on_move = answer_is ∙ met _ _ _ (and_from _ _ h.up h.down)
 
     pub stopped : (why : Stop) → free_move Approach part from (coordinate approach) ≡ Stops why → answer ≡ Stops why
     stopped why e = on_move ∙ ap (λ o. o >>= (λ _. searches)) (same_move ∙ e)

@@ -4,8 +4,8 @@ use Rattle.std.specs.Prelude.{if◌then◌else◌}
 use Rattle.vcm_num.specs.Number.{fits_i64}
 use Rattle.vcm_num.specs.Point.{point}
 use Rattle.vcm_spec.specs.Outcome.{fits_place}
-use Rattle.vcm_spec.proofs.Entries.{both_true}
 use Rattle.vcm_probe.specs.inner.Places.{fitting, fitting_point}
+use Rattle.std.proofs.lemmas.Bool.{and_from}
 
 -- an option that is there where a test holds
 pub record IsThere {A : Type 0} (b : Bool) (x y : A) : Type 0 where
@@ -26,5 +26,5 @@ point_fits h x y z e f g =
     let a = there (fits_i64 (h 0)) x (h 0) e in
     let b = there (fits_i64 (h 1)) y (h 1) f in
     let c = there (fits_i64 (h 2)) z (h 2) g in
-    let fits : fits_place h ≡ true = both_true _ _ (both_true _ _ a.holds b.holds) c.holds in
+    let fits : fits_place h ≡ true = and_from _ _ (and_from _ _ a.holds b.holds) c.holds in
     rw (a.same, b.same, c.same, fits) refl

@@ -1,6 +1,6 @@
 -- Points near 0: within the limits, in a block, and on the way to another.
 use Rattle.std.proofs.Common.{◌≡◌, ℕ, ◌<◌, ◌≤◌, ℤ, pos, negsuc, true, arith}
-use Rattle.std.proofs.lemmas.Bool.{and_parts}
+use Rattle.std.proofs.lemmas.Bool.{and_parts, and_from}
 use Rattle.std.proofs.lemmas.Int.{ints}
 use Rattle.vcm_num.specs.declared.point.Point.{Point}
 use Rattle.vcm_num.specs.declared.axis.Axis.{Axis}
@@ -8,15 +8,15 @@ use Rattle.vcm_num.specs.Point.{coordinate, is_below, is_near_zero, is_near, IsN
 use Rattle.vcm_num.specs.Axis.{along}
 use Rattle.vcm_spec.specs.Workpiece.{Workpiece, IsValid, is_in_some, is_within}
 use Rattle.vcm_spec.specs.Outcome.{point_of}
-use Rattle.vcm_spec.proofs.Entries.{true_le, both_true, below_three}
+use Rattle.vcm_spec.proofs.Entries.{true_le, below_three}
 use Rattle.vcm_motion.proofs.Inside.{reachable, low_reachable, high_reachable, below_each, block_at, one_of}
 use Rattle.vcm_probe.proofs.WayBack.{one_between}
 
 near_true : (z : ℤ) → IsNear z → is_near_zero z ≡ true
-near_true z h = both_true _ _ (true_le _ _ h.from_below) (true_le _ _ h.from_above)
+near_true z h = and_from _ _ (true_le _ _ h.from_below) (true_le _ _ h.from_above)
 
 place_near : (x : ℕ → ℤ) → ((k : ℕ) → k < 3 → IsNear (x k)) → is_near (point_of x) ≡ true
-place_near x h = both_true _ _ (both_true _ _ (near_true _ (h 0 (omega arith))) (near_true _ (h 1 (omega arith)))) (near_true _ (h 2 (omega arith)))
+place_near x h = and_from _ _ (and_from _ _ (near_true _ (h 0 (omega arith))) (near_true _ (h 1 (omega arith)))) (near_true _ (h 2 (omega arith)))
 
 near_place : (x : ℕ → ℤ) → is_near (point_of x) ≡ true → (k : ℕ) → k < 3 → IsNear (x k)
 near_place x h =

@@ -3,7 +3,7 @@ use Rattle.std.proofs.Common.{◌≡◌, ℕ, ◌<◌, ◌^◌, ◌==◌, ◌&&�
 use Rattle.std.specs.Prelude.{decimal, codes}
 use Rattle.std.specs.List.{AllByRecursion, list_all}
 use Rattle.std.specs.Char.{is_ascii_digit}
-use Rattle.std.proofs.lemmas.Bool.{eqb-true}
+use Rattle.std.proofs.lemmas.Bool.{eqb-true, and_parts}
 use Rattle.std.proofs.lemmas.List.{append-nil}
 use Rattle.std.proofs.lemmas.Fmt.{decimal_nonempty}
 use Rattle.vcm_num.specs.Literals.{AllDigits}
@@ -28,7 +28,7 @@ use Rattle.vcm_words.specs.Rows.{ListRow, kind_text, row_words, row_text, kind_r
 use Rattle.vcm_words.specs.inner.Fitting.{FitsRow}
 use Rattle.vcm_words.proofs.Cuts.{joined-split, split-joined, split_without}
 use Rattle.vcm_words.proofs.Inverse.{Means, Reads, Ends, Bare, ends, bind_some, some_is, only_met, all_append, reads_one, reads_both, via_again, ends_via, ends_both}
-use Rattle.vcm_words.proofs.NumberLaws.{means_number, both_true, decimal_digits}
+use Rattle.vcm_words.proofs.NumberLaws.{means_number, decimal_digits}
 use Rattle.vcm_words.proofs.WordLaws.{means_named, named_takes}
 use Rattle.vcm_words.proofs.PlaceLaws.{Any, reads_number}
 use Rattle.vcm_rows.proofs.LineLaws.{ends_line}
@@ -40,10 +40,10 @@ name_byte_plain mark b l h = grind arith
 
 name_plain : (mark : ℕ) (bs : List ℕ) → mark < 48 → list_all is_name_byte bs ≡ true → Without mark bs
 name_plain mark [] l h = tt
-name_plain mark (b ∷ bs) l h = let t = both_true (is_name_byte b) (list_all is_name_byte bs) h in (name_byte_plain mark b l t.0, name_plain mark bs l t.1)
+name_plain mark (b ∷ bs) l h = let t = and_parts (is_name_byte b) (list_all is_name_byte bs) h in (name_byte_plain mark b l t.0, name_plain mark bs l t.1)
 
 name_word : (bs : List ℕ) → IsName bs → IsWord bs
-name_word bs h = let t = both_true (nat_le 1 (length bs) && nat_le (length bs) 16) (list_all is_name_byte bs) h in (name_plain 32 bs (omega arith) t.1, name_plain 10 bs (omega arith) t.1)
+name_word bs h = let t = and_parts (nat_le 1 (length bs) && nat_le (length bs) 16) (list_all is_name_byte bs) h in (name_plain 32 bs (omega arith) t.1, name_plain 10 bs (omega arith) t.1)
 
 means_name : Means (λ w. only_if (is_name w) w) (λ w. w) IsName
 means_name = record {

@@ -7,7 +7,7 @@ use Rattle.vcm_spec.specs.Program.{Block}
 use Rattle.vcm_spec.specs.Table.{State, front, step, steps, effective, opening}
 use Rattle.vcm_spec.proofs.Steps.{steps-add}
 use Rattle.vcm_code.specs.Code.{Statement, Code}
-use Rattle.vcm_code.specs.CodeTable.{Place, code_step, code_steps, code_effective, start, next_prints}
+use Rattle.vcm_code.specs.CodeTable.{CodeState, code_step, code_steps, code_effective, start, next_prints}
 use Rattle.vcm_spec.specs.Stepping.{unless_stopped}
 use Rattle.vcm_spec.specs.Printing.{takes_memory, next_node}
 use Rattle.vcm_asm.specs.Simulation.{SameAfter, IsAssembled}
@@ -21,7 +21,7 @@ use Rattle.vcm_tree.specs.Program.{Parsed}
 use Rattle.vcm_tree.specs.declared.program.Noticed.{Noticed}
 use Rattle.vcm_code.specs.declared.code.Code.{Code as Kept}
 use Rattle.vcm_code.specs.Ops.{code_of}
-use Rattle.vcm_image.specs.Whole.{Fits, spelling}
+use Rattle.vcm_image.specs.Whole.{FitsImage, spelling}
 use Rattle.vcm_image.proofs.ImageLaws.{one_image}
 use Rattle.vcm_run.specs.Run.{Ended, IsRun}
 use Rattle.vcm_run.specs.Summaries.{Shown}
@@ -36,7 +36,7 @@ module _ (part : Workpiece) (program : Block) (c : Code) (same : (k : ℕ) → S
   code = c.statements
 
   -- the steps that count are as many
-  effective_from : (k : ℕ) (m : Place) (s : State) → ((j : ℕ) → (code_steps su code j m).world ≡ (steps su j s).world) → code_effective su code k m ≡ effective su k s
+  effective_from : (k : ℕ) (m : CodeState) (s : State) → ((j : ℕ) → (code_steps su code j m).world ≡ (steps su j s).world) → code_effective su code k m ≡ effective su k s
   effective_from zero m s h = refl
   effective_from (suc k) m s h =
       ap (λ w. unless_stopped w.stop 0 (suc (code_effective su code k (code_step su code m)))) (h 0)
@@ -45,7 +45,7 @@ module _ (part : Workpiece) (program : Block) (c : Code) (same : (k : ℕ) → S
   same_effective : (k : ℕ) → code_effective su code k (start su) ≡ effective su k (opening su program)
   same_effective k = effective_from k (start su) (opening su program) (λ j. (same j).world)
 
-  code-add : (k : ℕ) (m : Place) → code_steps su code (k + 1) m ≡ code_step su code (code_steps su code k m)
+  code-add : (k : ℕ) (m : CodeState) → code_steps su code (k + 1) m ≡ code_step su code (code_steps su code k m)
   code-add zero m = refl
   code-add (suc k) m = ap (λ j. code_steps su code j m) (let e : suc k + 1 ≡ suc (k + 1) = omega arith in e) ∙ code-add k (code_step su code m)
 
@@ -89,17 +89,17 @@ assembled_run part program tables c n m ran a h =
 
 -- codes that fit and have one image run alike
 pub calls_show : (part : Workpiece) (program : Block) (tables : Tables) (written loaded : Kept) (n : ℕ) (m : Running) (ran : Ran)
-    → IsAssembled program tables (code_of written) → Fits written → Fits loaded → spelling written ≡ spelling loaded
+    → IsAssembled program tables (code_of written) → FitsImage written → FitsImage loaded → spelling written ≡ spelling loaded
     → HasRun n (started part (code_of loaded)) m ran → IsRun (setup_of part tables) program n m.place.world m.place.next ran
 calls_show part program tables written loaded n m ran a f g e h =
     assembled_run part program tables (code_of loaded) n m ran (subst (λ k. IsAssembled program tables (code_of k)) (one_image written loaded f g e) a) h
 
 -- the image of a program is loaded as its code
-loaded_code : (p : Parsed) (bytes : List ℕ) (l : Kept) (i : IsImageOf p bytes) → Fits l → bytes ≡ spelling l → i.code ≡ l
+loaded_code : (p : Parsed) (bytes : List ℕ) (l : Kept) (i : IsImageOf p bytes) → FitsImage l → bytes ≡ spelling l → i.code ≡ l
 loaded_code p bytes l i f e = one_image i.code l i.fits f (sym i.spelled ∙ e)
 
 -- a run of what was loaded is a run of the text
-pub text_run : (part : Workpiece) (text bytes : List ℕ) (notices : List Noticed) (n : ℕ) (s : Shown) (l : Kept) → IsBuilt text bytes notices → Fits l → bytes ≡ spelling l
+pub text_run : (part : Workpiece) (text bytes : List ℕ) (notices : List Noticed) (n : ℕ) (s : Shown) (l : Kept) → IsBuilt text bytes notices → FitsImage l → bytes ≡ spelling l
     → IsCodeRun part l n s → s.notices ≡ notices → IsSummary part text n s
 text_run part text bytes notices n s l b f e r ns =
     let a = subst (λ (k : Kept). IsAssembled b.parsed.program b.parsed.tables (code_of k)) (loaded_code b.parsed bytes l b.image f e) b.image.assembled in
@@ -114,7 +114,7 @@ text_run part text bytes notices n s l b f e r ns =
     }
 
 -- the same of what a call returned
-pub built_runs : (part : Workpiece) (bytes : List ℕ) (notices : List Noticed) (n : ℕ) (l : Kept) (r : Result Shown NoMemory) → Fits l → bytes ≡ spelling l
+pub built_runs : (part : Workpiece) (bytes : List ℕ) (notices : List Noticed) (n : ℕ) (l : Kept) (r : Result Shown NoMemory) → FitsImage l → bytes ≡ spelling l
     → IfOk r (IsCodeRun part l n) → IfOk r (λ s. s.notices ≡ notices) → IfOk r (λ s. (text : List ℕ) → IsBuilt text bytes notices → IsSummary part text n s)
 built_runs part bytes notices n l (Ok s) f e h k = λ text b. text_run part text bytes notices n s l b f e h k
 built_runs part bytes notices n l (Err x) f e h k = tt

@@ -5,7 +5,7 @@ use Rattle.vcm_code.specs.declared.code.Code.{Code}
 use Rattle.vcm_code.specs.Ops.{code_of}
 use Rattle.vcm_code.specs.Valid.{IsValid}
 use Rattle.vcm_fields.specs.declared.fault.ImageFault.{ImageFault}
-use Rattle.vcm_image.specs.Whole.{Fits, spelling, code_at}
+use Rattle.vcm_image.specs.Whole.{FitsImage, spelling, code_at}
 use Rattle.vcm_loader.specs.Loading.{LoadFault}
 use Rattle.vcm_machine.specs.Running.{Running, started, HasRun}
 use Rattle.vcm_run.specs.Summaries.{Shown}
@@ -22,7 +22,7 @@ pub record IsCodeRun (part : Workpiece) (c : Code) (n : ℕ) (s : Shown) : Type 
 pub record IsImageRun (part : Workpiece) (bytes : List ℕ) (n : ℕ) (s : Shown) : Type 0 where
   pub code : Code
   pub valid : IsValid (code_of code)
-  pub fits : Fits code
+  pub fits : FitsImage code
   pub spelled : bytes ≡ spelling code
   pub run : IsCodeRun part code n s
   pub notices : s.notices ≡ []

@@ -9,7 +9,7 @@ use Rattle.vcm_tree.specs.declared.program.Noticed.{Noticed}
 use Rattle.vcm_code.specs.declared.code.Code.{Code}
 use Rattle.vcm_code.specs.Ops.{code_of}
 use Rattle.vcm_code.specs.Valid.{IsValid}
-use Rattle.vcm_image.specs.Whole.{Fits, spelling}
+use Rattle.vcm_image.specs.Whole.{FitsImage, spelling}
 use Rattle.vcm_asm.specs.Simulation.{IsAssembled}
 use Rattle.vcm_run.specs.declared.run.Refusal.{Refusal}
 use Rattle.vcm_run.specs.declared.run.Refusal.TheVariants.{Source, Part, NoMemory}
@@ -29,7 +29,7 @@ pub record IsImageOf (parsed : Parsed) (bytes : List ℕ) : Type 0 where
   pub code : Code
   pub assembled : IsAssembled parsed.program parsed.tables (code_of code)
   pub valid : IsValid (code_of code)
-  pub fits : Fits code
+  pub fits : FitsImage code
   pub spelled : bytes ≡ spelling code
 
 -- the text is accepted as a program, whose image the bytes are, and these are its notices

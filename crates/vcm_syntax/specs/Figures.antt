@@ -1,5 +1,5 @@
 -- Number literals that stand for whole numbers: counts, angles, words of features and components of directions.
-use Rattle.std.specs.Prelude.{ℤ, pos, negsuc, neg_ℤ, ◌*ℤ◌, ◌&&◌, ◌||◌, if◌then◌else◌, Bool}
+use Rattle.std.specs.Prelude.{ℕ, ℤ, pos, negsuc, neg_ℤ, ◌*ℤ◌, ◌&&◌, ◌||◌, if◌then◌else◌, Bool}
 use Rattle.std.specs.Prelude.{true, false, List, [], ◌∷◌, Option, Some, None, Result, Ok, Err}
 use Rattle.std.specs.Ordering.{int_eq}
 use Rattle.vcm_num.specs.declared.axis.Axis.{Axis}
@@ -17,11 +17,7 @@ use Rattle.vcm_spec.specs.declared.words.FeatureWord.{FeatureWord}
 use Rattle.vcm_spec.specs.declared.words.FeatureWord.TheVariants as words
 use Rattle.vcm_expr.specs.Digits.{read_of}
 use Rattle.vcm_syntax.specs.declared.figures.Figure.{Figure}
-
--- what comes after, or the fault
-abbrev pub then_ok : {A B : Type 0} → Result A FaultCode → (A → Result B FaultCode) → Result B FaultCode
-then_ok (Ok x) go = go x
-then_ok (Err e) go = Err e
+use Rattle.vcm_spec.specs.Results.{◌>>=◌}
 
 -- what is there, or the fault
 abbrev pub or_fault : {A : Type 0} → FaultCode → Option A → Result A FaultCode
@@ -40,10 +36,14 @@ abbrev pub alone : List Lexeme → Figure → Result Figure FaultCode
 alone [] f = Ok f
 alone (w ∷ ws) f = Err BadSyntax
 
+-- these digits behind a sign, and nothing behind them
+abbrev pub signed_alone : Bool → List ℕ → List Lexeme → Result Figure FaultCode
+signed_alone minus digits ws = figure_by minus (read_of digits) >>= alone ws
+
 -- digits, and nothing behind them
 abbrev pub digits_of : Bool → List Lexeme → Result Figure FaultCode
-digits_of minus (Run bs ∷ ws) = then_ok (figure_by minus (read_of bs)) (alone ws)
-digits_of minus (Number bs ∷ ws) = then_ok (figure_by minus (read_of bs)) (alone ws)
+digits_of minus (Run bs ∷ ws) = signed_alone minus bs ws
+digits_of minus (Number bs ∷ ws) = signed_alone minus bs ws
 digits_of minus _ = Err BadSyntax
 
 -- a number literal with a sign or without
@@ -79,7 +79,7 @@ direction_by x y z =
 -- a direction of three fields, or the leftmost fault
 abbrev pub vector_of : List Lexeme → List Lexeme → List Lexeme → Result Axis FaultCode
 vector_of a b c =
-    then_ok (figure_of a) (λ x. then_ok (figure_of b) (λ y. then_ok (figure_of c) (λ z. or_fault NotAxis (direction_by x y z))))
+    figure_of a >>= λ x. figure_of b >>= λ y. figure_of c >>= λ z. or_fault NotAxis (direction_by x y z)
 
 -- the quarter turns of an angle in degrees
 abbrev pub quarters_by : Figure → Option Quarters
@@ -92,7 +92,7 @@ quarters_by f =
 
 -- an angle, or the leftmost fault
 abbrev pub angle_of : List Lexeme → Result Quarters FaultCode
-angle_of ws = then_ok (figure_of ws) (λ f. or_fault NotQuarterTurn (quarters_by f))
+angle_of ws = figure_of ws >>= λ f. or_fault NotQuarterTurn (quarters_by f)
 
 -- the word of a feature with this number: 3 to 5 are its coordinates, 6 to 8 its direction
 abbrev pub word_by : Figure → Option FeatureWord
@@ -107,7 +107,7 @@ word_by f =
 
 -- a word of a feature, or the leftmost fault; other words are left out
 abbrev pub feature_word_of : List Lexeme → Result FeatureWord FaultCode
-feature_word_of ws = then_ok (figure_of ws) (λ f. or_fault Unsupported (word_by f))
+feature_word_of ws = figure_of ws >>= λ f. or_fault Unsupported (word_by f)
 
 -- something where a figure is 1, nothing where it isn't
 abbrev pub one_by : Figure → Option (Unit {0})
@@ -115,4 +115,4 @@ one_by f = if is_whole f (pos 1) then Some tt else None
 
 -- the count 1, or the leftmost fault; other counts are left out
 abbrev pub one_of : List Lexeme → Result (Unit {0}) FaultCode
-one_of ws = then_ok (figure_of ws) (λ f. or_fault Unsupported (one_by f))
+one_of ws = figure_of ws >>= λ f. or_fault Unsupported (one_by f)

@@ -49,9 +49,9 @@ BreaksSingle (Run bs ∷ []) code = ⊥
 BreaksSingle _ code = code ≡ BadSyntax
 
 -- a text
-abbrev pub IsText : List Lexeme → List ℕ → Type 0
-IsText (Quoted bs ∷ []) t = t ≡ bs
-IsText _ t = ⊥
+abbrev pub IsTextWord : List Lexeme → List ℕ → Type 0
+IsTextWord (Quoted bs ∷ []) t = t ≡ bs
+IsTextWord _ t = ⊥
 
 abbrev pub BreaksText : List Lexeme → FaultCode → Type 0
 BreaksText (Quoted bs ∷ []) code = ⊥

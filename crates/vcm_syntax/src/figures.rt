@@ -3,7 +3,7 @@
 ghost use Rattle.std.specs.Prelude.{◌≡◌, Ok, Err, MatchResult};
 ghost use Rattle.vcm_expr.specs.Digits.{read_of};
 ghost use Rattle.vcm_expr.specs.Parsing.{At};
-ghost use Rattle.vcm_syntax.specs.Figures.{then_ok, figure_by, alone, digits_of, figure_of, is_plain, is_whole, are_whole, direction_by, vector_of, quarters_by, angle_of, word_by, feature_word_of, one_of};
+ghost use Rattle.vcm_syntax.specs.Figures.{figure_by, alone, signed_alone, digits_of, figure_of, is_plain, is_whole, are_whole, direction_by, vector_of, quarters_by, angle_of, word_by, feature_word_of, one_of};
 
 use crate::places::unsupported;
 use vcm_lines::{FaultCode, Phrase, SourceFault, Token};
@@ -70,7 +70,7 @@ fn alone(words: &Phrase<'_>, figure: Figure) -> Result<Figure, FaultCode>
 
 /// Digits behind a sign, and no words behind them.
 fn signed_alone(minus: bool, bytes: &[u8], words: &Phrase<'_>) -> Result<Figure, FaultCode>
-    ensures { result ≡ then_ok (figure_by minus (read_of bytes.now)) (alone words.now) }
+    ensures { result ≡ signed_alone minus bytes.now words.now }
 {
     match signed(minus, bytes) {
         Ok(figure) => alone(words, figure),

@@ -9,9 +9,9 @@ ghost use Rattle.vcm_syntax.specs.Forms.{IsDeclaration, BreaksDeclaration, IsDec
 use crate::control::{enddo, endif, iff, jumpto, mark, otherwise, repeat};
 use crate::macros::{call, endmac, macro_form};
 use crate::measuring::{endmes, feat, meas, obtain, output, ptmeas, recall, rotate, snset, trans};
-use crate::message::Message;
 use crate::opening::{dmismn, units};
-use crate::places::{alone, bare, closed, lacking, message, offered, title, word};
+use crate::operator_text::OperatorText;
+use crate::places::{alone, bare, closed, lacking, offered, operator_text, title, word};
 use crate::spots::spot;
 use crate::statement::{Form, Major, Notice, Spot};
 use crate::variables::{kind, target, unscoped, variables};
@@ -128,21 +128,21 @@ fn gohome(line: u32, front: &Phrase<'_>, fields: &[Phrase<'_>]) -> Result<Form, 
     Ok(Form::Home)
 }
 
-/// The word of the operator and a message, and no field behind them.
+/// The word of the operator and a text, and no field behind them.
 fn shown(
     alloc: Global,
     line: u32,
     to: &Phrase<'_>,
     words: &Phrase<'_>,
     rest: &[Phrase<'_>],
-) -> Result<Message, SourceFault>
+) -> Result<OperatorText, SourceFault>
     ensures ok { IfOk result (λ m. IsWord (codes "OPER") to.now × IsMessage words.now m × IsEnd rest.now) }
     ensures fault { IfErr result (NoMemoryOr
         (At line (λ code. BreaksOffered (codes "OPER") to.now code ⊎ (BreaksMessage words.now code ⊎ BreaksEnd rest.now code)))) }
 {
     offered(line, to, b"OPER")?;
-    let message = message(alloc, line, words)?;
-    closed(line, rest, message)
+    let text = operator_text(alloc, line, words)?;
+    closed(line, rest, text)
 }
 
 fn say(

@@ -5,9 +5,9 @@ ghost use Rattle.std.specs.List.{list_all};
 ghost use Rattle.vcm_lines.specs.Fault.{NoMemoryOr};
 ghost use Rattle.vcm_lines.specs.Lexemes.{Lexeme, Run, Open, Close, lexeme, is_spelled};
 ghost use Rattle.vcm_expr.specs.Parsing.{BreaksExpr, At};
-ghost use Rattle.vcm_syntax.specs.Places.{IsBare, BreaksBare, IsWord, BreaksWord, BreaksOffered, IsSingle, BreaksSingle, IsText, BreaksText, IsMessage, BreaksMessage, IsRest, BreaksRest, IsEnd, BreaksEnd, IsTitle, BreaksTitle, IsLabel, BreaksLabel, within, begun, IsTest, BreaksTest, IsOpened, BreaksOpened, IsAim, BreaksAim};
+ghost use Rattle.vcm_syntax.specs.Places.{IsBare, BreaksBare, IsWord, BreaksWord, BreaksOffered, IsSingle, BreaksSingle, IsTextWord, BreaksText, IsMessage, BreaksMessage, IsRest, BreaksRest, IsEnd, BreaksEnd, IsTitle, BreaksTitle, IsLabel, BreaksLabel, within, begun, IsTest, BreaksTest, IsOpened, BreaksOpened, IsAim, BreaksAim};
 
-use crate::message::Message;
+use crate::operator_text::OperatorText;
 use std::alloc::Global;
 use vcm_expr::{Expr, Name, is_name, read_expr};
 use vcm_lines::{FaultCode, Phrase, SourceFault, Token, bad_syntax};
@@ -83,7 +83,7 @@ pub(crate) fn single(line: u32, words: &Phrase<'_>) -> Result<(), SourceFault>
 
 /// What stands between the apostrophes of a text.
 pub(crate) fn quoted<'a>(line: u32, words: &Phrase<'a>) -> Result<&'a [u8], SourceFault>
-    ensures { MatchResult result (λ t. IsText words.now t.now) (At line (BreaksText words.now)) }
+    ensures { MatchResult result (λ t. IsTextWord words.now t.now) (At line (BreaksText words.now)) }
 {
     match only(words) {
         Some(Token::Quoted(bytes)) => Ok(bytes),
@@ -92,14 +92,18 @@ pub(crate) fn quoted<'a>(line: u32, words: &Phrase<'a>) -> Result<&'a [u8], Sour
 }
 
 /// What `TEXT` shows.
-pub(crate) fn message(alloc: Global, line: u32, words: &Phrase<'_>) -> Result<Message, SourceFault>
+pub(crate) fn operator_text(
+    alloc: Global,
+    line: u32,
+    words: &Phrase<'_>,
+) -> Result<OperatorText, SourceFault>
     ensures ok { IfOk result (IsMessage words.now) }
     ensures fault { IfErr result (NoMemoryOr (At line (BreaksMessage words.now))) }
 {
     match only(words) {
         Some(Token::Quoted(bytes)) => {
             if is_text(bytes) {
-                Ok(Message::copied(alloc, bytes)?)
+                Ok(OperatorText::copied(alloc, bytes)?)
             } else {
                 Err(bad_syntax(line))
             }

@@ -3,7 +3,7 @@
 ghost use Rattle.std.specs.Prelude.{◌≡◌};
 ghost use Rattle.vcm_syntax.specs.Majors.{word_of};
 
-use crate::message::Message;
+use crate::operator_text::OperatorText;
 use vcm_expr::{Expr, Name, VariableName};
 use vcm_num::{Axis, Items, Kind};
 use vcm_spec::{FeatureWord, FrameAxis, Quarters, Setting, Source};
@@ -146,7 +146,7 @@ pub enum Form {
     /// `GOHOME`.
     Home,
     /// `TEXT`: what it shows.
-    Say(Message),
+    Say(OperatorText),
     /// `IF`: the test.
     Test(Expr),
     /// `ELSE`.

@@ -3,7 +3,7 @@ use Rattle.std.proofs.Common.{◌≡◌, ℕ, List, [], ◌∷◌, sym, ap, ◌�
 use Rattle.vcm_lines.proofs.OneReading.{one_statements}
 use Rattle.vcm_lines.specs.declared.fault.SourceFault.{SourceFault}
 use Rattle.vcm_lines.specs.declared.logical.Logical.{Logical}
-use Rattle.vcm_lines.specs.Statements.{lines_of, rows_of, grouped, Breaks, told_line}
+use Rattle.vcm_lines.specs.Statements.{lines_of, kept_lines, grouped, Breaks, told_line}
 use Rattle.vcm_spec.specs.Phase.{FirstFault}
 use Rattle.vcm_spec.proofs.PhaseLemmas.{clean_or_fault, one_line}
 use Rattle.vcm_syntax.specs.declared.statement.Form.{Form}
@@ -41,7 +41,7 @@ one_spelling (l ∷ ls) (s ∷ ss) (t ∷ ts) p q = ap (λ x. x ∷ ss) (one_sta
 
 -- a text has one list of statements before they are read
 one_reading : (text : List ℕ) (ls ms : List Logical) → ReadsLines text ls → ReadsLines text ms → ls ≡ ms
-one_reading text ls ms p q = one_statements (grouped (rows_of (lines_of text))) ls ms p.lines q.lines
+one_reading text ls ms p q = one_statements (grouped (kept_lines (lines_of text))) ls ms p.lines q.lines
 
 -- and one of those that are read
 one_list : (text : List ℕ) (ls ms : List Logical) (ss ts : List Statement) → ReadsLines text ls → ReadsLines text ms → ReadsStatements ls ss → ReadsStatements ms ts → ss ≡ ts

@@ -10,11 +10,12 @@ use Rattle.vcm_tree.specs.declared.builder.Head.TheVariants.{First, Second, Body
 use Rattle.vcm_tree.specs.declared.builder.Open.{Open}
 use Rattle.vcm_tree.specs.declared.builder.Builder.{Builder}
 use Rattle.vcm_tree.specs.Nodes.{with_last}
-use Rattle.vcm_tree.specs.Pieces.{Step, Piece, piece, Tests, Divides, EndsTest, EndsRepeat, EndsMeasure, Ends, node_pieces, pieces}
+use Rattle.vcm_tree.specs.Sentences.{Step, Sentence, sentence, Tests, Divides, EndsTest, EndsRepeat, EndsMeasure, Ends, node_sentences, sentences}
 use Rattle.vcm_tree.specs.Blocks.{Opened, InFirst, InSecond, InBody, InMeasure, room, room_by, nested, divided, test_ended, repeat_ended, ended}
 use Rattle.vcm_tree.specs.Features.{measure_ended, measuring}
-use Rattle.vcm_tree.specs.Resolving.{then_ok, labels_after, blocks_after}
-use Rattle.vcm_tree.specs.inner.Building.{opened_by, blocks_of, head_pieces, opens_pieces, written, Reads}
+use Rattle.vcm_tree.specs.Resolving.{labels_after, blocks_after}
+use Rattle.vcm_tree.specs.inner.Building.{opened_by, blocks_of, head_sentences, opens_sentences, written, Reads}
+use Rattle.vcm_spec.specs.Results.{◌>>=◌}
 
 -- ---- lists
 
@@ -24,9 +25,9 @@ regroup [] [] (c ∷ cs) ds es = ap (λ l. c ∷ l) (regroup [] [] cs ds es)
 regroup [] (b ∷ bs) cs ds es = ap (λ l. b ∷ l) (regroup [] bs cs ds es)
 regroup (a ∷ as') bs cs ds es = ap (λ l. a ∷ l) (regroup as' bs cs ds es)
 
-pub pieces_push : (b : Block) (n : Node) → pieces (with_last b n) ≡ pieces b ++ node_pieces n
-pieces_push done n = append-nil (node_pieces n)
-pieces_push (then m b) n = ap (λ l. node_pieces m ++ l) (pieces_push b n) ∙ sym (append_assoc (node_pieces m) (pieces b) (node_pieces n))
+pub sentences_push : (b : Block) (n : Node) → sentences (with_last b n) ≡ sentences b ++ node_sentences n
+sentences_push done n = append-nil (node_sentences n)
+sentences_push (then m b) n = ap (λ l. node_sentences m ++ l) (sentences_push b n) ∙ sym (append_assoc (node_sentences m) (sentences b) (node_sentences n))
 
 pub blocks_push : (os : List Open) (o : Open) → blocks_of (os ++ o ∷ []) ≡ opened_by o.head ∷ blocks_of os
 blocks_push [] o = refl
@@ -40,55 +41,55 @@ blocks_length (o ∷ os) = longer (blocks_of os) (opened_by o.head) (length os) 
     longer [] b n e = ap suc e
     longer (c ∷ bs) b n e = ap suc (longer bs b (length bs) refl) ∙ ap suc e
 
-opens_push : (os : List Open) (o : Open) → opens_pieces (os ++ o ∷ []) ≡ opens_pieces os ++ (pieces o.outer ++ head_pieces o.head)
-opens_push [] o = append-nil (pieces o.outer ++ head_pieces o.head)
+opens_push : (os : List Open) (o : Open) → opens_sentences (os ++ o ∷ []) ≡ opens_sentences os ++ (sentences o.outer ++ head_sentences o.head)
+opens_push [] o = append-nil (sentences o.outer ++ head_sentences o.head)
 opens_push (p ∷ os) o =
-    ap (λ l. (pieces p.outer ++ head_pieces p.head) ++ l) (opens_push os o)
-    ∙ sym (append_assoc (pieces p.outer ++ head_pieces p.head) (opens_pieces os) (pieces o.outer ++ head_pieces o.head))
+    ap (λ l. (sentences p.outer ++ head_sentences p.head) ++ l) (opens_push os o)
+    ∙ sym (append_assoc (sentences p.outer ++ head_sentences p.head) (opens_sentences os) (sentences o.outer ++ head_sentences o.head))
 
 -- ---- what is written
 
 -- with these open blocks and this innermost one
-abbrev wrote : List Open → Block → List Piece
-wrote os b = opens_pieces os ++ pieces b
+abbrev wrote : List Open → Block → List Sentence
+wrote os b = opens_sentences os ++ sentences b
 
 -- one node more
-pub added : (old new : Builder) (n : Node) → new.opens.items ≡ old.opens.items → new.block ≡ with_last old.block n → written new ≡ written old ++ node_pieces n
+pub added : (old new : Builder) (n : Node) → new.opens.items ≡ old.opens.items → new.block ≡ with_last old.block n → written new ≡ written old ++ node_sentences n
 added old new n same more =
-    ap (λ os. wrote os new.block) same ∙ ap (wrote old.opens.items) more ∙ ap (λ l. opens_pieces old.opens.items ++ l) (pieces_push old.block n)
-    ∙ sym (append_assoc (opens_pieces old.opens.items) (pieces old.block) (node_pieces n))
+    ap (λ os. wrote os new.block) same ∙ ap (wrote old.opens.items) more ∙ ap (λ l. opens_sentences old.opens.items ++ l) (sentences_push old.block n)
+    ∙ sym (append_assoc (opens_sentences old.opens.items) (sentences old.block) (node_sentences n))
 
 -- one open block more
 pub opened : (old new : Builder) (head : Head) → new.opens.items ≡ old.opens.items ++ record { outer = old.block; head = head } ∷ [] → new.block ≡ done
-    → written new ≡ written old ++ head_pieces head
+    → written new ≡ written old ++ head_sentences head
 opened old new head more none =
     ap (λ os. wrote os new.block) more ∙ ap (wrote (old.opens.items ++ record { outer = old.block; head = head } ∷ [])) none
-    ∙ append-nil (opens_pieces (old.opens.items ++ record { outer = old.block; head = head } ∷ []))
+    ∙ append-nil (opens_sentences (old.opens.items ++ record { outer = old.block; head = head } ∷ []))
     ∙ opens_push old.opens.items (record { outer = old.block; head = head })
-    ∙ sym (append_assoc (opens_pieces old.opens.items) (pieces old.block) (head_pieces head))
+    ∙ sym (append_assoc (opens_sentences old.opens.items) (sentences old.block) (head_sentences head))
 
 module _ (os : List Open) (o : Open) (old new : Builder) (was : old.opens.items ≡ os ++ o ∷ []) where
   -- what was written before the innermost block closes
-  before_close : written old ≡ (opens_pieces os ++ (pieces o.outer ++ head_pieces o.head)) ++ pieces old.block
-  before_close = ap (λ l. wrote l old.block) was ∙ ap (λ l. l ++ pieces old.block) (opens_push os o)
+  before_close : written old ≡ (opens_sentences os ++ (sentences o.outer ++ head_sentences o.head)) ++ sentences old.block
+  before_close = ap (λ l. wrote l old.block) was ∙ ap (λ l. l ++ sentences old.block) (opens_push os o)
 
   -- the innermost block closes
-  closed : (n : Node) (p : Piece) → new.opens.items ≡ os → new.block ≡ with_last o.outer n → node_pieces n ≡ head_pieces o.head ++ (pieces old.block ++ p ∷ [])
+  closed : (n : Node) (p : Sentence) → new.opens.items ≡ os → new.block ≡ with_last o.outer n → node_sentences n ≡ head_sentences o.head ++ (sentences old.block ++ p ∷ [])
       → written new ≡ written old ++ p ∷ []
   closed n p same more writes =
-      ap (λ l. wrote l new.block) same ∙ ap (wrote os) more ∙ ap (λ l. opens_pieces os ++ l) (pieces_push o.outer n ∙ ap (λ l. pieces o.outer ++ l) writes)
-      ∙ regroup (opens_pieces os) (pieces o.outer) (head_pieces o.head) (pieces old.block) (p ∷ [])
+      ap (λ l. wrote l new.block) same ∙ ap (wrote os) more ∙ ap (λ l. opens_sentences os ++ l) (sentences_push o.outer n ∙ ap (λ l. sentences o.outer ++ l) writes)
+      ∙ regroup (opens_sentences os) (sentences o.outer) (head_sentences o.head) (sentences old.block) (p ∷ [])
       ∙ ap (λ l. l ++ p ∷ []) (sym before_close)
 
   -- the innermost block makes way for another one
-  turned : (head : Head) (p : Piece) → new.opens.items ≡ os ++ record { outer = o.outer; head = head } ∷ [] → new.block ≡ done
-      → head_pieces head ≡ head_pieces o.head ++ (pieces old.block ++ p ∷ []) → written new ≡ written old ++ p ∷ []
+  turned : (head : Head) (p : Sentence) → new.opens.items ≡ os ++ record { outer = o.outer; head = head } ∷ [] → new.block ≡ done
+      → head_sentences head ≡ head_sentences o.head ++ (sentences old.block ++ p ∷ []) → written new ≡ written old ++ p ∷ []
   turned head p more none writes =
       ap (λ l. wrote l new.block) more ∙ ap (wrote (os ++ record { outer = o.outer; head = head } ∷ [])) none
-      ∙ append-nil (opens_pieces (os ++ record { outer = o.outer; head = head } ∷ []))
+      ∙ append-nil (opens_sentences (os ++ record { outer = o.outer; head = head } ∷ []))
       ∙ opens_push os (record { outer = o.outer; head = head })
-      ∙ ap (λ l. opens_pieces os ++ (pieces o.outer ++ l)) writes
-      ∙ regroup (opens_pieces os) (pieces o.outer) (head_pieces o.head) (pieces old.block) (p ∷ [])
+      ∙ ap (λ l. opens_sentences os ++ (sentences o.outer ++ l)) writes
+      ∙ regroup (opens_sentences os) (sentences o.outer) (head_sentences o.head) (sentences old.block) (p ∷ [])
       ∙ ap (λ l. l ++ p ∷ []) (sym before_close)
 
   innermost : (h : Head) → o.head ≡ h → blocks_of old.opens.items ≡ opened_by h ∷ blocks_of os
@@ -100,7 +101,7 @@ module _ (os : List Open) (o : Open) (old new : Builder) (was : old.opens.items 
   reads_divide line start test e more none = record {
     step = Divides;
     is = ap divided (innermost (First start test) e);
-    pieces = turned (Second start test old.block line) (piece line Divides) more none (sym (ap (λ h. head_pieces h ++ (pieces old.block ++ piece line Divides ∷ [])) e));
+    sentences = turned (Second start test old.block line) (sentence line Divides) more none (sym (ap (λ h. head_sentences h ++ (sentences old.block ++ sentence line Divides ∷ [])) e));
     blocks =
         ap blocks_of more ∙ blocks_push os (record { outer = o.outer; head = Second start test old.block line })
         ∙ sym (ap (λ bs. blocks_after bs Divides) (innermost (First start test) e));
@@ -112,7 +113,7 @@ module _ (os : List Open) (o : Open) (old new : Builder) (was : old.opens.items 
   reads_test_end line start test e same more = record {
     step = EndsTest;
     is = ap test_ended (innermost (First start test) e);
-    pieces = closed (choice start test old.block line) (piece line EndsTest) same more (sym (ap (λ h. head_pieces h ++ (pieces old.block ++ piece line EndsTest ∷ [])) e));
+    sentences = closed (choice start test old.block line) (sentence line EndsTest) same more (sym (ap (λ h. head_sentences h ++ (sentences old.block ++ sentence line EndsTest ∷ [])) e));
     blocks = ap blocks_of same ∙ sym (ap (λ bs. blocks_after bs EndsTest) (innermost (First start test) e));
     labels = λ ls. refl;
   }
@@ -121,13 +122,13 @@ module _ (os : List Open) (o : Open) (old new : Builder) (was : old.opens.items 
       → new.block ≡ with_last o.outer (choice_else start test first mid old.block line) → Reads (test_ended (blocks_of old.opens.items)) line old new
   reads_else_end line start mid test first e same more =
       let h : Head = Second start test first mid in
-      let after = pieces old.block ++ piece line EndsTest ∷ [] in
-      let regrouped : node_pieces (choice_else start test first mid old.block line) ≡ head_pieces h ++ after =
-      ap (λ l. piece start (Tests test) ∷ l) (sym (append_assoc (pieces first) (piece mid Divides ∷ []) after)) in
+      let after = sentences old.block ++ sentence line EndsTest ∷ [] in
+      let regrouped : node_sentences (choice_else start test first mid old.block line) ≡ head_sentences h ++ after =
+      ap (λ l. sentence start (Tests test) ∷ l) (sym (append_assoc (sentences first) (sentence mid Divides ∷ []) after)) in
       record {
         step = EndsTest;
         is = ap test_ended (innermost h e);
-        pieces = closed (choice_else start test first mid old.block line) (piece line EndsTest) same more (regrouped ∙ sym (ap (λ x. head_pieces x ++ after) e));
+        sentences = closed (choice_else start test first mid old.block line) (sentence line EndsTest) same more (regrouped ∙ sym (ap (λ x. head_sentences x ++ after) e));
         blocks = ap blocks_of same ∙ sym (ap (λ bs. blocks_after bs EndsTest) (innermost h e));
         labels = λ ls. refl;
       }
@@ -137,7 +138,7 @@ module _ (os : List Open) (o : Open) (old new : Builder) (was : old.opens.items 
   reads_repeat_end line start v a b c e same more = record {
     step = EndsRepeat;
     is = ap repeat_ended (innermost (Body start v a b c) e);
-    pieces = closed (do_loop start v a b c old.block line) (piece line EndsRepeat) same more (sym (ap (λ h. head_pieces h ++ (pieces old.block ++ piece line EndsRepeat ∷ [])) e));
+    sentences = closed (do_loop start v a b c old.block line) (sentence line EndsRepeat) same more (sym (ap (λ h. head_sentences h ++ (sentences old.block ++ sentence line EndsRepeat ∷ [])) e));
     blocks = ap blocks_of same ∙ sym (ap (λ bs. blocks_after bs EndsRepeat) (innermost (Body start v a b c) e));
     labels = λ ls. refl;
   }
@@ -147,7 +148,7 @@ module _ (os : List Open) (o : Open) (old new : Builder) (was : old.opens.items 
   reads_measure_end line start feature e same more = record {
     step = EndsMeasure;
     is = ap (λ bs. measure_ended bs true) (innermost (Measuring start feature) e);
-    pieces = closed (meas start feature old.block line) (piece line EndsMeasure) same more (sym (ap (λ h. head_pieces h ++ (pieces old.block ++ piece line EndsMeasure ∷ [])) e));
+    sentences = closed (meas start feature old.block line) (sentence line EndsMeasure) same more (sym (ap (λ h. head_sentences h ++ (sentences old.block ++ sentence line EndsMeasure ∷ [])) e));
     blocks = ap blocks_of same ∙ sym (ap (λ bs. blocks_after bs EndsMeasure) (innermost (Measuring start feature) e));
     labels = λ ls. refl;
   }
@@ -176,7 +177,7 @@ pub reads_end : (line : ℕ) (old new : Builder) → old.opens.items ≡ [] → 
 reads_end line old new none same more = record {
   step = Ends;
   is = ap (λ os. ended (blocks_of os)) none;
-  pieces = added old new (ending line) same more;
+  sentences = added old new (ending line) same more;
   blocks = ap blocks_of same;
   labels = λ ls. refl;
 }
@@ -204,24 +205,24 @@ pub no_room : (os : List Open) → 32 ≤ length os → room (blocks_of os) ≡ 
 no_room os l = room_false (nat_lt (length (blocks_of os)) 32) (let e = blocks_length os in grind (arith, e))
 
 -- a node that is one statement
-pub reads_node : (old new : Builder) (n : Node) (line : ℕ) (step : Step) → new.opens.items ≡ old.opens.items → new.block ≡ with_last old.block n → node_pieces n ≡ piece line step ∷ []
+pub reads_node : (old new : Builder) (n : Node) (line : ℕ) (step : Step) → new.opens.items ≡ old.opens.items → new.block ≡ with_last old.block n → node_sentences n ≡ sentence line step ∷ []
     → ((bs : List Opened) → blocks_after bs step ≡ bs) → ((ls : List Label) → labels_after ls step ≡ ls) → Reads (Ok step) line old new
 reads_node old new n line step same more writes inside unmarked = record {
   step = step;
   is = refl;
-  pieces = added old new n same more ∙ ap (λ l. written old ++ l) writes;
+  sentences = added old new n same more ∙ ap (λ l. written old ++ l) writes;
   blocks = ap blocks_of same ∙ sym (inside (blocks_of old.opens.items));
   labels = unmarked;
 }
 
 -- a block that is opened
 pub reads_nested : (old new : Builder) (r : Result Step FaultCode) (head : Head) (line : ℕ) (step : Step) → room (blocks_of old.opens.items) ≡ Ok tt → r ≡ Ok step
-    → new.opens.items ≡ old.opens.items ++ record { outer = old.block; head = head } ∷ [] → new.block ≡ done → head_pieces head ≡ piece line step ∷ []
+    → new.opens.items ≡ old.opens.items ++ record { outer = old.block; head = head } ∷ [] → new.block ≡ done → head_sentences head ≡ sentence line step ∷ []
     → ((bs : List Opened) → blocks_after bs step ≡ opened_by head ∷ bs) → ((ls : List Label) → labels_after ls step ≡ ls) → Reads (nested (blocks_of old.opens.items) r) line old new
 reads_nested old new r head line step room_is r_is more none writes inside unmarked = record {
   step = step;
-  is = ap (λ q. then_ok q (λ _. r)) room_is ∙ r_is;
-  pieces = opened old new head more none ∙ ap (λ l. written old ++ l) writes;
+  is = ap (λ q. q >>= λ _. r) room_is ∙ r_is;
+  sentences = opened old new head more none ∙ ap (λ l. written old ++ l) writes;
   blocks = ap blocks_of more ∙ blocks_push old.opens.items (record { outer = old.block; head = head }) ∙ sym (inside (blocks_of old.opens.items));
   labels = unmarked;
 }

@@ -10,11 +10,11 @@ use Rattle.vcm_tree.specs.Blocks.{Behind}
 use Rattle.vcm_tree.specs.Resolving.{behind_all, start}
 use Rattle.vcm_tree.specs.inner.Taking.{behind_of}
 use Rattle.vcm_tree.proofs.Walking.{IsWalked, drop_nil, walk_ends}
-use Rattle.vcm_tree.proofs.Written.{piece_labels, pieces_marks}
+use Rattle.vcm_tree.proofs.Written.{sentence_labels, sentences_marks}
 use Rattle.vcm_tree.proofs.MeantCounts.{labels_all}
 
 pub walk_labels : (all : List Placed) (p : Progress) → IsTrue (is_ended all) → IsWalked all p [] → p.labels ≡ labels_of p.builder.block
 walk_labels all p last w =
     let parsed = walk_ends [] all p last w in
     let whole : behind_of p ≡ behind_all start all = w.behind ∙ ap (behind_all start) (take_all w.place all (drop_nil w.place all w.left)) in
-    ap (λ (b : Behind). b.labels) whole ∙ labels_all start all ∙ ap piece_labels (sym parsed.program) ∙ pieces_marks p.builder.block
+    ap (λ (b : Behind). b.labels) whole ∙ labels_all start all ∙ ap sentence_labels (sym parsed.program) ∙ sentences_marks p.builder.block

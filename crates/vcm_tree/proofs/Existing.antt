@@ -14,20 +14,21 @@ use Rattle.vcm_syntax.specs.declared.statement.Form.TheVariants.{Opening, Measur
 use Rattle.vcm_syntax.specs.declared.statement.Statement.{Statement}
 use Rattle.vcm_macro.specs.declared.placed.Placed.{Placed}
 use Rattle.vcm_tree.specs.Ended.{is_ended}
-use Rattle.vcm_tree.specs.Pieces.{Step, Piece, Does, Leaps, Tests, Measures}
+use Rattle.vcm_tree.specs.Sentences.{Step, Sentence, Does, Leaps, Tests, Measures}
 use Rattle.vcm_tree.specs.Program.{Parsed, IsParsed, tables_of, notices_of}
 use Rattle.vcm_tree.specs.Variables.{with_all, assigned, moved}
 use Rattle.vcm_tree.specs.Blocks.{Behind, Opened, room, nested, tested, repeated, divided, test_ended, repeat_ended, ended, marked, label_of}
 use Rattle.vcm_tree.specs.Features.{known, declared, opened_measure, touched, measure_ended, configured, shifted, rotated, recalled, obtained, reported}
-use Rattle.vcm_tree.specs.Resolving.{Meaning, Declares, then_ok, does, counts, stated, resolved_here, blocks_after, behind_by, behind_one, behind_all, start, pieces_by, pieces_from, BreaksNames}
+use Rattle.vcm_tree.specs.Resolving.{Meaning, Declares, does, counts, stated, resolved_here, blocks_after, behind_by, behind_one, behind_all, start, sentences_by, sentences_from, BreaksNames}
 use Rattle.vcm_tree.proofs.Standing.{standing, standing_ok}
 use Rattle.vcm_tree.proofs.Walking.{AllMean, all_mean, last_shuts}
 use Rattle.vcm_tree.proofs.OpenBlocks.{Fit, FitResult, does_fit, divided_fit, test_ended_fit, repeat_ended_fit, measure_ended_fit, ended_fit, then_fit, marked_fit, repeated_fit, Around, kinds, wrote, grow}
+use Rattle.vcm_spec.specs.Results.{◌>>=◌}
 
 -- ---- all statements
 
 -- what comes behind statements
-record Reaches (as' : List Around) (b : Block) (ps : List Piece) (bs : List Opened) : Type 0 where
+record Reaches (as' : List Around) (b : Block) (ps : List Sentence) (bs : List Opened) : Type 0 where
   opens : List Around
   block : Block
   writes : wrote opens block ≡ wrote as' b ++ ps
@@ -37,19 +38,19 @@ reach_none : (as' : List Around) (b : Block) (bs : List Opened) → kinds as' �
 reach_none as' b bs k = record { opens = as'; block = b; writes = sym (append-nil (wrote as' b)); around = k }
 
 reach_one : (as' : List Around) (x : Block) (b : Behind) (form : Form) (line : ℕ) (r : Result Step FaultCode) (m : Meaning) → counts r ≡ Ok m → FitResult b.blocks r → kinds as' ≡ b.blocks
-    → Reaches as' x (pieces_by line (counts r)) (behind_by b form (counts r)).blocks
+    → Reaches as' x (sentences_by line (counts r)) (behind_by b form (counts r)).blocks
 reach_one as' x b form line (Ok s) m e f k =
     let g = grow as' x line s (subst (λ bs. Fit bs s) (sym k) f) in
     record { opens = g.opens; block = g.block; writes = g.writes; around = g.around ∙ ap (λ bs. blocks_after bs s) k }
 reach_one as' x b form line (Err c) m e f k = absurd cc
 
 reach_declares : (as' : List Around) (x : Block) (b : Behind) (form : Form) (line : ℕ) (r : Result (List Variable) FaultCode) → kinds as' ≡ b.blocks
-    → Reaches as' x (pieces_by line (then_ok r (λ ws. Ok (Declares ws)))) (behind_by b form (then_ok r (λ ws. Ok (Declares ws)))).blocks
+    → Reaches as' x (sentences_by line (r >>= λ ws. Ok (Declares ws))) (behind_by b form (r >>= λ ws. Ok (Declares ws))).blocks
 reach_declares as' x b form line (Ok ws) k = reach_none as' x b.blocks k
 reach_declares as' x b form line (Err c) k = reach_none as' x b.blocks k
 
 reach_by : (as' : List Around) (x : Block) (b : Behind) (ex line : ℕ) (form : Form) (m : Meaning) → stated b ex form ≡ Ok m → kinds as' ≡ b.blocks
-    → Reaches as' x (pieces_by line (stated b ex form)) (behind_by b form (stated b ex form)).blocks
+    → Reaches as' x (sentences_by line (stated b ex form)) (behind_by b form (stated b ex form)).blocks
 reach_by as' x b ex line Opening m e k = reach_none as' x b.blocks k
 reach_by as' x b ex line Units m e k = reach_none as' x b.blocks k
 reach_by as' x b ex line (Ignored w) m e k = reach_none as' x b.blocks k
@@ -85,7 +86,7 @@ reach_by as' x b ex line MacroEnd m e k = reach_none as' x b.blocks k
 reach_by as' x b ex line (Call l args) m e k = reach_none as' x b.blocks k
 reach_by as' x b ex line Ending m e k = reach_one as' x b Ending line (ended b.blocks) m e (ended_fit b.blocks b.blocks) k
 
-reach_both : (as' : List Around) (x : Block) (ps qs : List Piece) (bs cs : List Opened) (one : Reaches as' x ps bs) → Reaches one.opens one.block qs cs → Reaches as' x (ps ++ qs) cs
+reach_both : (as' : List Around) (x : Block) (ps qs : List Sentence) (bs cs : List Opened) (one : Reaches as' x ps bs) → Reaches one.opens one.block qs cs → Reaches as' x (ps ++ qs) cs
 reach_both as' x ps qs bs cs one all = record {
   opens = all.opens;
   block = all.block;
@@ -93,12 +94,12 @@ reach_both as' x ps qs bs cs one all = record {
   around = all.around;
 }
 
-reach_all : (as' : List Around) (x : Block) (b : Behind) (ss : List Placed) → AllMean b ss → kinds as' ≡ b.blocks → Reaches as' x (pieces_from b ss) (behind_all b ss).blocks
+reach_all : (as' : List Around) (x : Block) (b : Behind) (ss : List Placed) → AllMean b ss → kinds as' ≡ b.blocks → Reaches as' x (sentences_from b ss) (behind_all b ss).blocks
 reach_all as' x b [] h k = reach_none as' x b.blocks k
 reach_all as' x b (s ∷ ss) h k =
-    let one = subst (λ r. Reaches as' x (pieces_by s.statement.line r) (behind_by b s.statement.form r).blocks) (sym (standing b s.expansion s.statement.form h.0.0 h.0.1))
+    let one = subst (λ r. Reaches as' x (sentences_by s.statement.line r) (behind_by b s.statement.form r).blocks) (sym (standing b s.expansion s.statement.form h.0.0 h.0.1))
     (reach_by as' x b s.expansion s.statement.line s.statement.form h.0.0 (standing_ok b s.expansion s.statement.form h.0.0 h.0.1) k) in
-    reach_both as' x (pieces_by s.statement.line (resolved_here b s)) (pieces_from (behind_one b s) ss) (behind_one b s).blocks (behind_all (behind_one b s) ss).blocks
+    reach_both as' x (sentences_by s.statement.line (resolved_here b s)) (sentences_from (behind_one b s) ss) (behind_one b s).blocks (behind_all (behind_one b s) ss).blocks
     one (reach_all one.opens one.block (behind_one b s) ss h.1 one.around)
 
 none_open : (as' : List Around) → kinds as' ≡ [] → as' ≡ []

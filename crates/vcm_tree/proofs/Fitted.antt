@@ -21,16 +21,17 @@ use Rattle.vcm_syntax.specs.declared.statement.Rounds.{Rounds}
 use Rattle.vcm_syntax.specs.declared.statement.Form.{Form}
 use Rattle.vcm_syntax.specs.declared.statement.Form.TheVariants.{Opening, Measures as Units, Ignored, Declaration, Assignment, Move, Home, Say, Test, Otherwise, TestEnd, Repeat, RepeatEnd, Mark, Leap, Feature, Measure, Touch, MeasureEnd, Configure, Shift, Rotation, Restore, Query, Report, Macro, MacroEnd, Call, Ending}
 use Rattle.vcm_macro.specs.declared.placed.Placed.{Placed}
-use Rattle.vcm_tree.specs.Pieces.{Step, Piece, Does, Marks, Leaps, Tests, Divides, EndsTest, Repeats, EndsRepeat, Measures, EndsMeasure, Ends}
+use Rattle.vcm_tree.specs.Sentences.{Step, Sentence, Does, Marks, Leaps, Tests, Divides, EndsTest, Repeats, EndsRepeat, Measures, EndsMeasure, Ends}
 use Rattle.vcm_tree.specs.Variables.{with_all, target_of, assigned, moved}
 use Rattle.vcm_tree.specs.Blocks.{Behind, Opened, InFirst, InSecond, InBody, InMeasure, room, nested, tested, indexed, index_by, index_to, increment_of, repeated, divided, test_ended, repeat_ended, ended, marked, label_of}
 use Rattle.vcm_tree.specs.Features.{known, declared, opened_measure, touched, measure_ended, configured, shifted, rotated, recalled, obtained, reported}
-use Rattle.vcm_tree.specs.Resolving.{Meaning, Silent, Declares, Counts, measured_after, blocks_after, unless_barred, is_measuring, is_barred, stated, then_ok, does, counts, resolved, resolved_here, behind_by, behind_one, behind_all, start, pieces_by, pieces_from}
+use Rattle.vcm_tree.specs.Resolving.{Meaning, Silent, Declares, Counts, measured_after, blocks_after, unless_barred, is_measuring, is_barred, stated, does, counts, resolved, resolved_here, behind_by, behind_one, behind_all, start, sentences_by, sentences_from}
 use Rattle.vcm_tree.specs.Program.{tables_of}
-use Rattle.vcm_tree.proofs.Written.{StepFits, PiecesFit}
+use Rattle.vcm_tree.proofs.Written.{StepFits, SentencesFit}
 use Rattle.vcm_tree.proofs.Titled.{known_below}
 use Rattle.vcm_tree.proofs.GrownTables.{Grown, all_statements_grown, twice_least, one_least, all_least, Within, outer_within}
 use Rattle.vcm_tree.proofs.FittedSimple.{has_kind, has_place, assigned_fits, moved_fits, declared_fits, touched_fits, configured_fits, shifted_fits, rotated_fits, recalled_fits, obtained_fits, reported_fits}
+use Rattle.vcm_spec.specs.Results.{◌>>=◌}
 
 module _ (vs : List Variable) (ws : Tables) (g : Grown vs ws.variables) where
   -- the outcome fits, if it is a statement
@@ -45,11 +46,11 @@ module _ (vs : List Variable) (ws : Tables) (g : Grown vs ws.variables) where
   nested_fit : (bs : List Opened) (r : Result Step FaultCode) → Fitting r → Fitting (nested bs r)
   nested_fit bs r f = by (room bs)
     where
-      by : (q : Result (Unit {0}) FaultCode) → Fitting (then_ok q (λ _. r))
+      by : (q : Result (Unit {0}) FaultCode) → Fitting (q >>= λ _. r)
       by (Ok x) = f
       by (Err e) = tt
 
-  then_fit : {A : Type 0} (r : Result A FaultCode) (go : A → Result Step FaultCode) → ((a : A) → r ≡ Ok a → Fitting (go a)) → Fitting (then_ok r go)
+  then_fit : {A : Type 0} (r : Result A FaultCode) (go : A → Result Step FaultCode) → ((a : A) → r ≡ Ok a → Fitting (go a)) → Fitting (r >>= go)
   then_fit (Ok a) go u = u a refl
   then_fit (Err e) go u = tt
 
@@ -117,16 +118,16 @@ module _ (vs : List Variable) (ws : Tables) (g : Grown vs ws.variables) where
       by true = tt
       by false = tt
 
-  counts_fit : (line : ℕ) (r : Result Step FaultCode) → Fitting r → PiecesFit ws (pieces_by line (counts r))
+  counts_fit : (line : ℕ) (r : Result Step FaultCode) → Fitting r → SentencesFit ws (sentences_by line (counts r))
   counts_fit line (Ok s) f = (f, tt)
   counts_fit line (Err e) f = tt
 
-  declares_fit : (line : ℕ) (r : Result (List Variable) FaultCode) → PiecesFit ws (pieces_by line (then_ok r (λ xs. Ok (Declares xs))))
+  declares_fit : (line : ℕ) (r : Result (List Variable) FaultCode) → SentencesFit ws (sentences_by line (r >>= λ xs. Ok (Declares xs)))
   declares_fit line (Ok xs) = tt
   declares_fit line (Err e) = tt
 
   stated_fits : (b : Behind) → b.variables ≡ vs → (ex line : ℕ) (form : Form) → Within (length ws.features) b.blocks → length (measured_after b.measured form).features ≤ length ws.features
-      → length (measured_after b.measured form).frames ≤ length ws.frames → PiecesFit ws (pieces_by line (stated b ex form))
+      → length (measured_after b.measured form).frames ≤ length ws.frames → SentencesFit ws (sentences_by line (stated b ex form))
   stated_fits b e ex line Opening bs fs ds = tt
   stated_fits b e ex line Units bs fs ds = tt
   stated_fits b e ex line (Ignored w) bs fs ds = tt
@@ -168,14 +169,14 @@ module _ (vs : List Variable) (ws : Tables) (g : Grown vs ws.variables) where
   stated_fits b e ex line Ending bs fs ds = counts_fit line (ended b.blocks) (ended_fit b.blocks)
 
   form_fits : (b : Behind) → b.variables ≡ vs → (ex line : ℕ) (form : Form) → Within (length ws.features) b.blocks → length (measured_after b.measured form).features ≤ length ws.features
-      → length (measured_after b.measured form).frames ≤ length ws.frames → PiecesFit ws (pieces_by line (resolved b ex form))
+      → length (measured_after b.measured form).frames ≤ length ws.frames → SentencesFit ws (sentences_by line (resolved b ex form))
   form_fits b e ex line form bs fs ds = by (is_measuring b.blocks && is_barred form)
     where
-      by : (t : Bool) → PiecesFit ws (pieces_by line (unless_barred t (stated b ex form)))
+      by : (t : Bool) → SentencesFit ws (sentences_by line (unless_barred t (stated b ex form)))
       by true = tt
       by false = stated_fits b e ex line form bs fs ds
 
-both_fit : (ws : Tables) (ps qs : List Piece) → PiecesFit ws ps → PiecesFit ws qs → PiecesFit ws (ps ++ qs)
+both_fit : (ws : Tables) (ps qs : List Sentence) → SentencesFit ws ps → SentencesFit ws qs → SentencesFit ws (ps ++ qs)
 both_fit ws [] qs f g = g
 both_fit ws (p ∷ ps) qs f g = (f.0, both_fit ws ps qs f.1 g)
 
@@ -193,14 +194,14 @@ step_within ws bs (Measures i) f h = (f, h)
 step_within ws bs EndsMeasure f h = outer_within (length ws.features) bs h
 step_within ws bs Ends f h = h
 
-within_next : (ws : Tables) (b : Behind) (form : Form) (line : ℕ) (r : Result Meaning FaultCode) → PiecesFit ws (pieces_by line r) → Within (length ws.features) b.blocks
+within_next : (ws : Tables) (b : Behind) (form : Form) (line : ℕ) (r : Result Meaning FaultCode) → SentencesFit ws (sentences_by line r) → Within (length ws.features) b.blocks
     → Within (length ws.features) (behind_by b form r).blocks
 within_next ws b form line (Ok Silent) f h = h
 within_next ws b form line (Ok (Declares vs)) f h = h
 within_next ws b form line (Ok (Counts s)) f h = step_within ws b.blocks s f.0 h
 within_next ws b form line (Err e) f h = h
 
-fit_in : (ws : Tables) (b : Behind) (ss : List Placed) → tables_of (behind_all b ss) ≡ ws → Within (length ws.features) b.blocks → PiecesFit ws (pieces_from b ss)
+fit_in : (ws : Tables) (b : Behind) (ss : List Placed) → tables_of (behind_all b ss) ≡ ws → Within (length ws.features) b.blocks → SentencesFit ws (sentences_from b ss)
 fit_in ws b [] e h = tt
 fit_in ws b (s ∷ ss) e h =
     let grown = subst (λ (n : Tables). Grown b.variables n.variables) e (all_statements_grown b (s ∷ ss)) in
@@ -209,7 +210,7 @@ fit_in ws b (s ∷ ss) e h =
     let fs = subst (λ (n : Tables). length (measured_after b.measured s.statement.form).features ≤ length n.features) e least.features in
     let ds = subst (λ (n : Tables). length (measured_after b.measured s.statement.form).frames ≤ length n.frames) e least.frames in
     let here = form_fits b.variables ws grown b refl s.expansion s.statement.line s.statement.form h fs ds in
-    both_fit ws (pieces_by s.statement.line (resolved_here b s)) (pieces_from next ss) here (fit_in ws next ss e (within_next ws b s.statement.form s.statement.line (resolved_here b s) here h))
+    both_fit ws (sentences_by s.statement.line (resolved_here b s)) (sentences_from next ss) here (fit_in ws next ss e (within_next ws b s.statement.form s.statement.line (resolved_here b s) here h))
 
-pub fit_all : (ss : List Placed) → PiecesFit (tables_of (behind_all start ss)) (pieces_from start ss)
+pub fit_all : (ss : List Placed) → SentencesFit (tables_of (behind_all start ss)) (sentences_from start ss)
 fit_all ss = fit_in (tables_of (behind_all start ss)) start ss refl tt

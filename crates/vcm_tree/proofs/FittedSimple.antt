@@ -26,9 +26,9 @@ use Rattle.vcm_syntax.specs.declared.statement.Target.{Target}
 use Rattle.vcm_tree.specs.Variables.{want_of, target_of, assigned, assigned_by, assigned_to, moved}
 use Rattle.vcm_tree.specs.Blocks.{Opened}
 use Rattle.vcm_tree.specs.Features.{lengths, declared_at, touched_in, Shifts, no_shifts, with_shift, shifts_of, real_to, real_by, real_named, known, entered, with_name, declared, touched, configured, shifted, rotated, recalled, obtained, reported}
-use Rattle.vcm_tree.specs.Resolving.{then_ok}
 use Rattle.vcm_tree.proofs.Titled.{known_below, entered_below}
-use Rattle.vcm_tree.proofs.GrownTables.{then_ok-Ok, Grown, Within, touched_below, get_grown, kind_grown, kinds_grown}
+use Rattle.vcm_tree.proofs.GrownTables.{bind-Ok, Grown, Within, touched_below, get_grown, kind_grown, kinds_grown}
+use Rattle.vcm_spec.specs.Results.{◌>>=◌}
 
 module _ (vs : List Variable) (ws : Tables) (g : Grown vs ws.variables) where
   -- an expression that has a kind behind the first variables has it in the table
@@ -49,7 +49,7 @@ module _ (vs : List Variable) (ws : Tables) (g : Grown vs ws.variables) where
       at : (i : ℕ) (o : Option Kind) → slice_get (kinds_of vs) i ≡ o → assigned_to vs value i o ≡ Ok what → Fits (HasKindIn ws) ws what
       at i None h f = absurd cc
       at i (Some k) h f =
-          let q = then_ok-Ok (typed_for vs (want_of k) value) (λ a. Ok (Assign i a)) what f in
+          let q = bind-Ok (typed_for vs (want_of k) value) (λ a. Ok (Assign i a)) what f in
           let same : Assign i q.0 ≡ what = cc in
           let fine = typed_for_fine vs (want_of k) value q.0 q.1 in
           subst (Fits (HasKindIn ws) ws) same (k, has_place i k h, has_kind q.0 k (fine.typed ∙ ap (λ j. Some j) (wanted k)))
@@ -63,9 +63,9 @@ module _ (vs : List Variable) (ws : Tables) (g : Grown vs ws.variables) where
 
   pub moved_fits : (x y z : Source) (what : Simple Tree) → moved vs x y z ≡ Ok what → Fits (HasKindIn ws) ws what
   moved_fits x y z what e =
-      let p = then_ok-Ok (typed_for vs wants.Length x) (λ a. then_ok (typed_for vs wants.Length y) (λ b. then_ok (typed_for vs wants.Length z) (λ c. Ok (Goto a b c)))) what e in
-      let q = then_ok-Ok (typed_for vs wants.Length y) (λ b. then_ok (typed_for vs wants.Length z) (λ c. Ok (Goto p.0 b c))) what p.2 in
-      let r = then_ok-Ok (typed_for vs wants.Length z) (λ c. Ok (Goto p.0 q.0 c)) what q.2 in
+      let p = bind-Ok (typed_for vs wants.Length x) (λ a. typed_for vs wants.Length y >>= λ b. typed_for vs wants.Length z >>= λ c. Ok (Goto a b c)) what e in
+      let q = bind-Ok (typed_for vs wants.Length y) (λ b. typed_for vs wants.Length z >>= λ c. Ok (Goto p.0 b c)) what p.2 in
+      let r = bind-Ok (typed_for vs wants.Length z) (λ c. Ok (Goto p.0 q.0 c)) what q.2 in
       let same : Goto p.0 q.0 r.0 ≡ what = cc in
       subst (Fits (HasKindIn ws) ws) same (length_fits x p.0 p.1, length_fits y q.0 q.1, length_fits z r.0 r.1)
 
@@ -80,9 +80,9 @@ module _ (vs : List Variable) (ws : Tables) (g : Grown vs ws.variables) where
 
   lengths_fit : (p : Spot) (t : Tree × Tree × Tree) → lengths vs p ≡ Ok t → AreLong t
   lengths_fit p t e =
-      let h = then_ok-Ok (typed_for vs wants.Length p.x) (λ a. then_ok (typed_for vs wants.Length p.y) (λ b. then_ok (typed_for vs wants.Length p.z) (λ c. three a b c))) t e in
-      let i = then_ok-Ok (typed_for vs wants.Length p.y) (λ b. then_ok (typed_for vs wants.Length p.z) (λ c. three h.0 b c)) t h.2 in
-      let j = then_ok-Ok (typed_for vs wants.Length p.z) (λ c. three h.0 i.0 c) t i.2 in
+      let h = bind-Ok (typed_for vs wants.Length p.x) (λ a. typed_for vs wants.Length p.y >>= λ b. typed_for vs wants.Length p.z >>= λ c. three a b c) t e in
+      let i = bind-Ok (typed_for vs wants.Length p.y) (λ b. typed_for vs wants.Length p.z >>= λ c. three h.0 b c) t h.2 in
+      let j = bind-Ok (typed_for vs wants.Length p.z) (λ c. three h.0 i.0 c) t i.2 in
       let same : (h.0, i.0, j.0) ≡ t = cc in
       subst AreLong same (record { x = length_fits p.x h.0 h.1; y = length_fits p.y i.0 i.1; z = length_fits p.z j.0 j.1 })
 
@@ -95,8 +95,8 @@ module _ (vs : List Variable) (ws : Tables) (g : Grown vs ws.variables) where
   pub declared_fits : (fs : List (List ℕ)) (l : List ℕ) (p : Spot) (d : Axis) (what : Simple Tree) → length (with_name fs l) ≤ length ws.features
       → declared fs vs l p d ≡ Ok what → FitsHere what
   declared_fits fs l p d what few e =
-      let h = then_ok-Ok (entered fs l) (declared_at vs p d) what e in
-      let i = then_ok-Ok (lengths vs p) (λ t. done (Feat h.0 t.0 t.1 t.2 d)) what h.2 in
+      let h = bind-Ok (entered fs l) (declared_at vs p d) what e in
+      let i = bind-Ok (lengths vs p) (λ t. done (Feat h.0 t.0 t.1 t.2 d)) what h.2 in
       let long = lengths_fit p i.0 i.1 in
       let low = entered_below fs l h.0 h.1 in
       let same : Feat h.0 i.0.0 i.0.1 i.0.2 d ≡ what = cc in
@@ -105,15 +105,15 @@ module _ (vs : List Variable) (ws : Tables) (g : Grown vs ws.variables) where
   pub touched_fits : (bs : List Opened) (t : Bool) (p : Spot) (given : Option Axis) (what : Simple Tree) → Within (length ws.features) bs
       → touched bs t vs p given ≡ Ok what → FitsHere what
   touched_fits bs t p given what in_blocks e =
-      let h = then_ok-Ok (touched_in bs t) (λ i. then_ok (lengths vs p) (λ u. done (PtMeas i u.0 u.1 u.2 given))) what e in
-      let i = then_ok-Ok (lengths vs p) (λ u. done (PtMeas h.0 u.0 u.1 u.2 given)) what h.2 in
+      let h = bind-Ok (touched_in bs t) (λ i. lengths vs p >>= λ u. done (PtMeas i u.0 u.1 u.2 given)) what e in
+      let i = bind-Ok (lengths vs p) (λ u. done (PtMeas h.0 u.0 u.1 u.2 given)) what h.2 in
       let long = lengths_fit p i.0 i.1 in
       let same : PtMeas h.0 i.0.0 i.0.1 i.0.2 given ≡ what = cc in
       subst FitsHere same (touched_below (length ws.features) bs t h.0 h.1 in_blocks, (long.x, long.y, long.z))
 
   pub configured_fits : (which : Setting) (x : Source) (what : Simple Tree) → configured vs which x ≡ Ok what → FitsHere what
   configured_fits which x what e =
-      let h = then_ok-Ok (typed_for vs wants.Length x) (λ t. done (SnSet which t)) what e in
+      let h = bind-Ok (typed_for vs wants.Length x) (λ t. done (SnSet which t)) what e in
       let same : SnSet which h.0 ≡ what = cc in
       subst FitsHere same (length_fits x h.0 h.1)
 
@@ -130,14 +130,14 @@ module _ (vs : List Variable) (ws : Tables) (g : Grown vs ws.variables) where
   shifts_fit : (s r : Shifts) (os : List Offset) → AreShifts s → shifts_of vs s os ≡ Ok r → AreShifts r
   shifts_fit s r [] h e = (let same : s ≡ r = cc in subst AreShifts same h)
   shifts_fit s r (o ∷ os) h e =
-      let q = then_ok-Ok (typed_for vs wants.Length o.length) (λ t. shifts_of vs (with_shift s o.axis t) os) r e in
+      let q = bind-Ok (typed_for vs wants.Length o.length) (λ t. shifts_of vs (with_shift s o.axis t) os) r e in
       shifts_fit (with_shift s o.axis q.0) r os (one_shift s o.axis q.0 h (length_fits o.length q.0 q.1)) q.2
 
   pub shifted_fits : (ds : List (List ℕ)) (l : List ℕ) (os : List Offset) (what : Simple Tree) → length (with_name ds l) ≤ length ws.frames
       → shifted ds vs l os ≡ Ok what → FitsHere what
   shifted_fits ds l os what few e =
-      let h = then_ok-Ok (entered ds l) (λ i. then_ok (shifts_of vs no_shifts os) (λ s. done (Trans i s.x s.y s.z))) what e in
-      let i = then_ok-Ok (shifts_of vs no_shifts os) (λ s. done (Trans h.0 s.x s.y s.z)) what h.2 in
+      let h = bind-Ok (entered ds l) (λ i. shifts_of vs no_shifts os >>= λ s. done (Trans i s.x s.y s.z)) what e in
+      let i = bind-Ok (shifts_of vs no_shifts os) (λ s. done (Trans h.0 s.x s.y s.z)) what h.2 in
       let fit = shifts_fit no_shifts i.0 os (record { x = refl; y = refl; z = refl }) i.1 in
       let low = entered_below ds l h.0 h.1 in
       let same : Trans h.0 i.0.x i.0.y i.0.z ≡ what = cc in
@@ -146,14 +146,14 @@ module _ (vs : List Variable) (ws : Tables) (g : Grown vs ws.variables) where
   pub rotated_fits : (ds : List (List ℕ)) (l : List ℕ) (axis : FrameAxis) (n : Quarters) (what : Simple Tree) → length (with_name ds l) ≤ length ws.frames
       → rotated ds l axis n ≡ Ok what → FitsHere what
   rotated_fits ds l axis n what few e =
-      let h = then_ok-Ok (entered ds l) (λ i. done (Rotate i (axis_number axis) (quarters_number n))) what e in
+      let h = bind-Ok (entered ds l) (λ i. done (Rotate i (axis_number axis) (quarters_number n))) what e in
       let low = entered_below ds l h.0 h.1 in
       let same : Rotate h.0 (axis_number axis) (quarters_number n) ≡ what = cc in
       subst FitsHere same (omega (arith, few, low))
 
   pub recalled_fits : (ds : List (List ℕ)) (l : List ℕ) (what : Simple Tree) → length ds ≤ length ws.frames → recalled ds l ≡ Ok what → FitsHere what
   recalled_fits ds l what few e =
-      let h = then_ok-Ok (known ds l) (λ i. done (Recall i)) what e in
+      let h = bind-Ok (known ds l) (λ i. done (Recall i)) what e in
       let low = known_below ds l h.0 h.1 in
       let same : Recall h.0 ≡ what = cc in
       subst FitsHere same (omega (arith, few, low))
@@ -174,15 +174,15 @@ module _ (vs : List Variable) (ws : Tables) (g : Grown vs ws.variables) where
   pub obtained_fits : (fs : List (List ℕ)) (t : Target) (side : Side) (l : List ℕ) (word : FeatureWord) (what : Simple Tree) → length fs ≤ length ws.features
       → obtained fs vs t side l word ≡ Ok what → FitsHere what
   obtained_fits fs t side l word what few e =
-      let h = then_ok-Ok (real_named vs t) (λ v. then_ok (known fs l) (λ i. done (Obtain v side i (word_number word)))) what e in
-      let i = then_ok-Ok (known fs l) (λ i. done (Obtain h.0 side i (word_number word))) what h.2 in
+      let h = bind-Ok (real_named vs t) (λ v. known fs l >>= λ i. done (Obtain v side i (word_number word))) what e in
+      let i = bind-Ok (known fs l) (λ i. done (Obtain h.0 side i (word_number word))) what h.2 in
       let low = known_below fs l i.0 i.1 in
       let same : Obtain h.0 side i.0 (word_number word) ≡ what = cc in
       subst FitsHere same (real_fits t h.0 h.1, omega (arith, few, low))
 
   pub reported_fits : (fs : List (List ℕ)) (side : Side) (l : List ℕ) (what : Simple Tree) → length fs ≤ length ws.features → reported fs side l ≡ Ok what → FitsHere what
   reported_fits fs side l what few e =
-      let h = then_ok-Ok (known fs l) (λ i. done (Output side i)) what e in
+      let h = bind-Ok (known fs l) (λ i. done (Output side i)) what e in
       let low = known_below fs l h.0 h.1 in
       let same : Output side h.0 ≡ what = cc in
       subst FitsHere same (omega (arith, few, low))

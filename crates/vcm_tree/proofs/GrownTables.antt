@@ -14,18 +14,19 @@ use Rattle.vcm_expr.proofs.Runs.{kind_after_one-Some, kind_after_two-Some}
 use Rattle.vcm_syntax.specs.declared.statement.Form.{Form}
 use Rattle.vcm_syntax.specs.declared.statement.Form.TheVariants.{Opening, Measures as Units, Ignored, Declaration, Assignment, Move, Home, Say, Test, Otherwise, TestEnd, Repeat, RepeatEnd, Mark, Leap, Feature, Measure, Touch, MeasureEnd, Configure, Shift, Rotation, Restore, Query, Report, Macro, MacroEnd, Call, Ending}
 use Rattle.vcm_macro.specs.declared.placed.Placed.{Placed}
-use Rattle.vcm_tree.specs.Pieces.{Step}
+use Rattle.vcm_tree.specs.Sentences.{Step}
 use Rattle.vcm_tree.specs.Variables.{is_declared, with_one, with_all, assigned, moved}
 use Rattle.vcm_tree.specs.Blocks.{Behind, Opened, InFirst, InSecond, InBody, InMeasure, Measured, nested, tested, repeated, divided, test_ended, repeat_ended, ended, marked, label_of}
 use Rattle.vcm_tree.specs.Features.{touched_in, declared, opened_measure, touched, measure_ended, configured, shifted, rotated, recalled, obtained, reported}
-use Rattle.vcm_tree.specs.Resolving.{Declares, measured_after, outer, unless_barred, is_measuring, is_barred, stated, then_ok, does, counts, resolved, resolved_here, behind_by, behind_one, behind_all}
+use Rattle.vcm_tree.specs.Resolving.{Declares, measured_after, outer, unless_barred, is_measuring, is_barred, stated, does, counts, resolved, resolved_here, behind_by, behind_one, behind_all}
 use Rattle.vcm_tree.proofs.Titled.{with_name_longer, measured_is}
+use Rattle.vcm_spec.specs.Results.{◌>>=◌}
 
 -- ---- the table grows
 
-pub then_ok-Ok : {A B : Type 0} (o : Result A FaultCode) (go : A → Result B FaultCode) (b : B) → then_ok o go ≡ Ok b → (a : A) × (o ≡ Ok a) × (go a ≡ Ok b)
-then_ok-Ok (Ok a) go b e = (a, refl, e)
-then_ok-Ok (Err d) go b e = absurd cc
+pub bind-Ok : {A B : Type 0} (o : Result A FaultCode) (go : A → Result B FaultCode) (b : B) → (o >>= go) ≡ Ok b → (a : A) × (o ≡ Ok a) × (go a ≡ Ok b)
+bind-Ok (Ok a) go b e = (a, refl, e)
+bind-Ok (Err d) go b e = absurd cc
 
 -- the second table is the first one and more
 abbrev pub Grown : List Variable → List Variable → Type 0
@@ -37,7 +38,7 @@ same_grown vs = ([], sym (append-nil vs))
 twice_grown : (vs ws xs : List Variable) → Grown vs ws → Grown ws xs → Grown vs xs
 twice_grown vs ws xs g h = (g.0 ++ h.0, h.1 ∙ ap (λ l. l ++ h.0) g.1 ∙ append_assoc vs g.0 h.0)
 
-abbrev tabled : List Variable → Result (List Variable) FaultCode
+abbrev pub tabled : List Variable → Result (List Variable) FaultCode
 tabled ws = Ok ws
 
 one_grown : (vs : List Variable) (ex : ℕ) (k : Kind) (name : List ℕ) (ws : List Variable) → with_one vs ex k name ≡ Ok ws → Grown vs ws
@@ -51,12 +52,12 @@ one_grown vs ex k name ws e = by (is_declared vs ex name) (nat_lt (length vs) 40
 all_grown : (vs : List Variable) (ex : ℕ) (k : Kind) (names : List (List ℕ)) (ws : List Variable) → with_all vs ex k names ≡ Ok ws → Grown vs ws
 all_grown vs ex k [] ws e = (let g : vs ≡ ws = cc in ([], sym g ∙ sym (append-nil vs)))
 all_grown vs ex k (name ∷ names) ws e =
-    let q = then_ok-Ok (with_one vs ex k name) (λ xs. with_all xs ex k names) ws e in
+    let q = bind-Ok (with_one vs ex k name) (λ xs. with_all xs ex k names) ws e in
     twice_grown vs q.0 ws (one_grown vs ex k name q.0 q.1) (all_grown q.0 ex k names ws q.2)
 
 -- a statement that declares grows the table
 declares_grown : (vs : List Variable) (ex : ℕ) (k : Kind) (names : List (List ℕ)) (r : Result (List Variable) FaultCode) → with_all vs ex k names ≡ r → (b : Behind) (form : Form) → b.variables ≡ vs
-    → Grown vs (behind_by b form (then_ok r (λ ws. Ok (Declares ws)))).variables
+    → Grown vs (behind_by b form (r >>= λ ws. Ok (Declares ws))).variables
 declares_grown vs ex k names (Ok ws) e b form f = all_grown vs ex k names ws e
 declares_grown vs ex k names (Err c) e b form f = rw f (same_grown vs)
 

@@ -13,8 +13,9 @@ use Rattle.vcm_syntax.specs.declared.statement.Statement.{Statement}
 use Rattle.vcm_macro.specs.declared.placed.Placed.{Placed}
 use Rattle.vcm_macro.specs.Expansion.{IsExpanded}
 use Rattle.vcm_macro.specs.Order.{nothing_before, is_ending, is_open_behind, order_after, wants_units, is_misplaced, BreaksOrder}
-use Rattle.vcm_macro.specs.Rules.{is_there, is_kept, one_if, is_full, weight, weigh, kept, BreaksBehind, BreaksMacros}
-use Rattle.vcm_macro.specs.Substitution.{Scope, outside, is_same, put_argument}
+use Rattle.vcm_macro.specs.Rules.{is_there, one_if, is_full, weight, weigh, kept, BreaksBehind, BreaksMacros}
+use Rattle.vcm_substitution.specs.Kept.{is_kept}
+use Rattle.vcm_substitution.specs.Substitution.{Scope, outside, is_same, put_argument}
 use Rattle.vcm_macro.specs.Walk.{Defined, Place, Opens, Inside, Stands, Calls, calls_in, Caller, statement_in, body_in, call_in, with_statement, text_from, walk_from, walk, outside_in}
 use Rattle.std.proofs.lemmas.List.{append-nil}
 use Rattle.vcm_macro.proofs.Orders.{order_push}

@@ -11,14 +11,16 @@ use Rattle.vcm_macro.specs.declared.placed.Placed.{Placed}
 use Rattle.vcm_syntax.specs.Statements.{is_counted}
 use Rattle.vcm_macro.specs.Order.{is_ending}
 use Rattle.vcm_tree.specs.Ended.{is_ended}
-use Rattle.vcm_tree.specs.Pieces.{Step, Piece, Does, Marks, Leaps, Tests, Divides, EndsTest, Repeats, EndsRepeat, Measures, EndsMeasure, Ends}
+use Rattle.vcm_tree.specs.Sentences.{Step, Sentence, Does, Marks, Leaps, Tests, Divides, EndsTest, Repeats, EndsRepeat, Measures, EndsMeasure, Ends}
 use Rattle.vcm_tree.specs.Variables.{with_all, assigned, moved}
 use Rattle.vcm_tree.specs.Blocks.{Behind, Opened, nested, tested, repeated, divided, test_ended, repeat_ended, ended, marked, label_of}
 use Rattle.vcm_tree.specs.Features.{declared, opened_measure, touched, measure_ended, configured, shifted, rotated, recalled, obtained, reported}
-use Rattle.vcm_tree.specs.Resolving.{Meaning, Silent, Declares, Counts, then_ok, does, counts, stated, resolved_here, labels_after, behind_by, behind_one, behind_all, pieces_by, pieces_from}
+use Rattle.vcm_tree.specs.Resolving.{Meaning, Silent, Declares, Counts, does, counts, stated, resolved_here, labels_after, behind_by, behind_one, behind_all, sentences_by, sentences_from}
 use Rattle.vcm_tree.proofs.Standing.{standing, standing_ok}
 use Rattle.vcm_tree.proofs.Walking.{AllMean}
-use Rattle.vcm_tree.proofs.Written.{step_labels, piece_labels, labels_append, ends_last}
+use Rattle.vcm_tree.proofs.Written.{step_labels, sentence_labels, labels_append, ends_last}
+use Rattle.vcm_macro.specs.Rules.{one_if}
+use Rattle.vcm_spec.specs.Results.{◌>>=◌}
 
 -- ---- labels
 
@@ -35,38 +37,34 @@ labels_step ls (Measures f) = sym (append-nil ls)
 labels_step ls EndsMeasure = sym (append-nil ls)
 labels_step ls Ends = sym (append-nil ls)
 
-labels_by : (b : Behind) (form : Form) (line : ℕ) (r : Result Meaning FaultCode) → (behind_by b form r).labels ≡ b.labels ++ piece_labels (pieces_by line r)
+labels_by : (b : Behind) (form : Form) (line : ℕ) (r : Result Meaning FaultCode) → (behind_by b form r).labels ≡ b.labels ++ sentence_labels (sentences_by line r)
 labels_by b form line (Ok Silent) = sym (append-nil b.labels)
 labels_by b form line (Ok (Declares ws)) = sym (append-nil b.labels)
 labels_by b form line (Ok (Counts s)) = labels_step b.labels s ∙ ap (λ l. b.labels ++ l) (sym (append-nil (step_labels s)))
 labels_by b form line (Err e) = sym (append-nil b.labels)
 
-pub labels_all : (b : Behind) (ss : List Placed) → (behind_all b ss).labels ≡ b.labels ++ piece_labels (pieces_from b ss)
+pub labels_all : (b : Behind) (ss : List Placed) → (behind_all b ss).labels ≡ b.labels ++ sentence_labels (sentences_from b ss)
 labels_all b [] = sym (append-nil b.labels)
 labels_all b (s ∷ ss) =
     labels_all (behind_one b s) ss
-    ∙ ap (λ l. l ++ piece_labels (pieces_from (behind_one b s) ss)) (labels_by b s.statement.form s.statement.line (resolved_here b s))
-    ∙ append_assoc b.labels (piece_labels (pieces_by s.statement.line (resolved_here b s))) (piece_labels (pieces_from (behind_one b s) ss))
-    ∙ ap (λ l. b.labels ++ l) (sym (labels_append (pieces_by s.statement.line (resolved_here b s)) (pieces_from (behind_one b s) ss)))
+    ∙ ap (λ l. l ++ sentence_labels (sentences_from (behind_one b s) ss)) (labels_by b s.statement.form s.statement.line (resolved_here b s))
+    ∙ append_assoc b.labels (sentence_labels (sentences_by s.statement.line (resolved_here b s))) (sentence_labels (sentences_from (behind_one b s) ss))
+    ∙ ap (λ l. b.labels ++ l) (sym (labels_append (sentences_by s.statement.line (resolved_here b s)) (sentences_from (behind_one b s) ss)))
 
 -- ---- how many
-
-abbrev one : Bool → ℕ
-one true = 1
-one false = 0
 
 abbrev counted : List Placed → List Placed
 counted ss = filter (λ s. is_counted s.statement.form) ss
 
-one_step : (line : ℕ) (r : Result Step FaultCode) (m : Meaning) → counts r ≡ Ok m → length (pieces_by line (counts r)) ≡ 1
+one_step : (line : ℕ) (r : Result Step FaultCode) (m : Meaning) → counts r ≡ Ok m → length (sentences_by line (counts r)) ≡ 1
 one_step line (Ok s) m e = refl
 one_step line (Err c) m e = absurd cc
 
-declares_none : (line : ℕ) (r : Result (List Variable) FaultCode) → length (pieces_by line (then_ok r (λ ws. Ok (Declares ws)))) ≡ 0
+declares_none : (line : ℕ) (r : Result (List Variable) FaultCode) → length (sentences_by line (r >>= λ ws. Ok (Declares ws))) ≡ 0
 declares_none line (Ok ws) = refl
 declares_none line (Err c) = refl
 
-one_more : (b : Behind) (ex line : ℕ) (form : Form) (m : Meaning) → stated b ex form ≡ Ok m → length (pieces_by line (stated b ex form)) ≡ one (is_counted form)
+one_more : (b : Behind) (ex line : ℕ) (form : Form) (m : Meaning) → stated b ex form ≡ Ok m → length (sentences_by line (stated b ex form)) ≡ one_if (is_counted form)
 one_more b ex line Opening m e = refl
 one_more b ex line Units m e = refl
 one_more b ex line (Ignored w) m e = refl
@@ -101,44 +99,44 @@ append_length : {X : Type 0} (xs ys : List X) → length (xs ++ ys) ≡ length x
 append_length [] ys = omega arith
 append_length (x ∷ xs) ys = (let h = append_length xs ys in omega (arith, h))
 
-counted_more : (s : Placed) (ss : List Placed) → length (counted (s ∷ ss)) ≡ one (is_counted s.statement.form) + length (counted ss)
+counted_more : (s : Placed) (ss : List Placed) → length (counted (s ∷ ss)) ≡ one_if (is_counted s.statement.form) + length (counted ss)
 counted_more s ss = by (is_counted s.statement.form) refl
   where
-    by : (b : Bool) → is_counted s.statement.form ≡ b → length (counted (s ∷ ss)) ≡ one b + length (counted ss)
+    by : (b : Bool) → is_counted s.statement.form ≡ b → length (counted (s ∷ ss)) ≡ one_if b + length (counted ss)
     by true e = rw e (omega arith)
     by false e = rw e (omega arith)
 
-pub counted_all : (b : Behind) (ss : List Placed) → AllMean b ss → length (pieces_from b ss) ≡ length (counted ss)
+pub counted_all : (b : Behind) (ss : List Placed) → AllMean b ss → length (sentences_from b ss) ≡ length (counted ss)
 counted_all b [] h = refl
 counted_all b (s ∷ ss) h =
-    let x = append_length (pieces_by s.statement.line (resolved_here b s)) (pieces_from (behind_one b s) ss) in
-    let y = ap (λ r. length (pieces_by s.statement.line r)) (standing b s.expansion s.statement.form h.0.0 h.0.1) ∙ one_more b s.expansion s.statement.line s.statement.form h.0.0 (standing_ok b s.expansion s.statement.form h.0.0 h.0.1) in
+    let x = append_length (sentences_by s.statement.line (resolved_here b s)) (sentences_from (behind_one b s) ss) in
+    let y = ap (λ r. length (sentences_by s.statement.line r)) (standing b s.expansion s.statement.form h.0.0 h.0.1) ∙ one_more b s.expansion s.statement.line s.statement.form h.0.0 (standing_ok b s.expansion s.statement.form h.0.0 h.0.1) in
     let z = counted_all (behind_one b s) ss h.1 in
     let w = counted_more s ss in
     omega (arith, x, y, z, w)
 
-few_by : (line : ℕ) (r : Result Meaning FaultCode) → length (pieces_by line r) ≤ 1
+few_by : (line : ℕ) (r : Result Meaning FaultCode) → length (sentences_by line r) ≤ 1
 few_by line (Ok Silent) = omega arith
 few_by line (Ok (Declares ws)) = omega arith
 few_by line (Ok (Counts s)) = omega arith
 few_by line (Err e) = omega arith
 
-pub few_pieces : (b : Behind) (ss : List Placed) → length (pieces_from b ss) ≤ length ss
-few_pieces b [] = omega arith
-few_pieces b (s ∷ ss) =
-    let x = append_length (pieces_by s.statement.line (resolved_here b s)) (pieces_from (behind_one b s) ss) in
+pub few_sentences : (b : Behind) (ss : List Placed) → length (sentences_from b ss) ≤ length ss
+few_sentences b [] = omega arith
+few_sentences b (s ∷ ss) =
+    let x = append_length (sentences_by s.statement.line (resolved_here b s)) (sentences_from (behind_one b s) ss) in
     let y = few_by s.statement.line (resolved_here b s) in
-    let z = few_pieces (behind_one b s) ss in
+    let z = few_sentences (behind_one b s) ss in
     omega (arith, x, y, z)
 
 -- ---- the last one
 
-shut_ends : (line : ℕ) (bs : List Opened) (m : Meaning) → counts (ended bs) ≡ Ok m → ends_last (pieces_by line (counts (ended bs))) ≡ true
+shut_ends : (line : ℕ) (bs : List Opened) (m : Meaning) → counts (ended bs) ≡ Ok m → ends_last (sentences_by line (counts (ended bs))) ≡ true
 shut_ends line [] m e = refl
 shut_ends line (b ∷ bs) m e = absurd cc
 
 ending_ends : (b : Behind) (ex line : ℕ) (form : Form) (m : Meaning) → is_ending form ≡ true → stated b ex form ≡ Ok m
-    → ends_last (pieces_by line (stated b ex form)) ≡ true
+    → ends_last (sentences_by line (stated b ex form)) ≡ true
 ending_ends b ex line Opening m e h = absurd cc
 ending_ends b ex line Units m e h = absurd cc
 ending_ends b ex line (Ignored w) m e h = absurd cc
@@ -169,15 +167,15 @@ ending_ends b ex line MacroEnd m e h = absurd cc
 ending_ends b ex line (Call l args) m e h = absurd cc
 ending_ends b ex line Ending m e h = shut_ends line b.blocks m h
 
-last_behind : (ps qs : List Piece) → ends_last qs ≡ true → ends_last (ps ++ qs) ≡ true
+last_behind : (ps qs : List Sentence) → ends_last qs ≡ true → ends_last (ps ++ qs) ≡ true
 last_behind [] qs e = e
 last_behind (p ∷ []) [] e = absurd cc
 last_behind (p ∷ []) (q ∷ qs) e = e
 last_behind (p ∷ r ∷ ps) qs e = last_behind (r ∷ ps) qs e
 
-pub last_ends : (b : Behind) (ss : List Placed) → is_ended ss ≡ true → AllMean b ss → ends_last (pieces_from b ss) ≡ true
+pub last_ends : (b : Behind) (ss : List Placed) → is_ended ss ≡ true → AllMean b ss → ends_last (sentences_from b ss) ≡ true
 last_ends b [] e h = absurd cc
 last_ends b (s ∷ []) e h =
-    ap ends_last (append-nil (pieces_by s.statement.line (resolved_here b s))) ∙ ap (λ r. ends_last (pieces_by s.statement.line r)) (standing b s.expansion s.statement.form h.0.0 h.0.1)
+    ap ends_last (append-nil (sentences_by s.statement.line (resolved_here b s))) ∙ ap (λ r. ends_last (sentences_by s.statement.line r)) (standing b s.expansion s.statement.form h.0.0 h.0.1)
     ∙ ending_ends b s.expansion s.statement.line s.statement.form h.0.0 e (standing_ok b s.expansion s.statement.form h.0.0 h.0.1)
-last_ends b (s ∷ t ∷ ss) e h = last_behind (pieces_by s.statement.line (resolved_here b s)) (pieces_from (behind_one b s) (t ∷ ss)) (last_ends (behind_one b s) (t ∷ ss) e h.1)
+last_ends b (s ∷ t ∷ ss) e h = last_behind (sentences_by s.statement.line (resolved_here b s)) (sentences_from (behind_one b s) (t ∷ ss)) (last_ends (behind_one b s) (t ∷ ss) e h.1)

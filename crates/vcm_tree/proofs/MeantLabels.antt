@@ -15,18 +15,20 @@ use Rattle.vcm_syntax.specs.declared.statement.Rounds.{Rounds}
 use Rattle.vcm_syntax.specs.declared.statement.Form.{Form}
 use Rattle.vcm_syntax.specs.declared.statement.Form.TheVariants.{Opening, Measures as Units, Ignored, Declaration, Assignment, Move, Home, Say, Test, Otherwise, TestEnd, Repeat, RepeatEnd, Mark, Leap, Feature, Measure, Touch, MeasureEnd, Configure, Shift, Rotation, Restore, Query, Report, Macro, MacroEnd, Call, Ending}
 use Rattle.vcm_macro.specs.declared.placed.Placed.{Placed}
-use Rattle.vcm_tree.specs.Pieces.{Step, Marks, Tests, Repeats, Measures}
+use Rattle.vcm_tree.specs.Sentences.{Step, Marks, Tests, Repeats, Measures}
 use Rattle.vcm_tree.specs.Jumps.{is_among}
 use Rattle.vcm_tree.specs.Program.{AreDistinct}
 use Rattle.vcm_tree.specs.inner.SameLabels.{label_sym}
 use Rattle.vcm_tree.specs.Variables.{with_all, assigned, moved}
 use Rattle.vcm_tree.specs.Blocks.{Behind, Opened, InFirst, InSecond, InBody, InMeasure, room, nested, tested, indexed, increment_of, repeated, divided, test_ended, repeat_ended, ended, marked, label_of}
 use Rattle.vcm_tree.specs.Features.{known, declared, opened_measure, touched, measure_ended, configured, shifted, rotated, recalled, obtained, reported}
-use Rattle.vcm_tree.specs.Resolving.{Meaning, Declares, then_ok, does, counts, stated, behind_by, behind_one, behind_all}
+use Rattle.vcm_tree.specs.Resolving.{Meaning, Declares, does, counts, stated, behind_by, behind_one, behind_all}
 use Rattle.vcm_tree.proofs.Standing.{standing, standing_ok}
 use Rattle.vcm_tree.proofs.Walking.{AllMean}
 use Rattle.vcm_tree.proofs.Written.{step_labels}
 use Rattle.vcm_tree.proofs.MeantCounts.{labels_step}
+use Rattle.vcm_tree.proofs.Jumping.{from_not}
+use Rattle.vcm_spec.specs.Results.{◌>>=◌}
 
 -- ---- no label stands twice
 
@@ -41,10 +43,6 @@ or_right false c e = e
 or_both : (b c : Bool) → b ≡ false → c ≡ false → (b || c) ≡ false
 or_both true c e f = e
 or_both false c e f = f
-
-from_not : (b : Bool) → not b ≡ true → b ≡ false
-from_not false e = refl
-from_not true e = absurd cc
 
 among_push : (ls : List Label) (k l : Label) → is_among ls k ≡ false → is_same_label k l ≡ false → is_among (ls ++ l ∷ []) k ≡ false
 among_push [] k l e f = or_both (is_same_label k l) false f refl
@@ -116,11 +114,11 @@ ended_unmarked (b ∷ bs) = tt
 nested_unmarked : (bs : List Opened) (r : Result Step FaultCode) → Unmarked r → Unmarked (nested bs r)
 nested_unmarked bs r u = by (room bs)
   where
-    by : (q : Result (Unit {0}) FaultCode) → Unmarked (then_ok q (λ _. r))
+    by : (q : Result (Unit {0}) FaultCode) → Unmarked (q >>= λ _. r)
     by (Ok x) = u
     by (Err e) = tt
 
-then_unmarked : {A : Type 0} (r : Result A FaultCode) (go : A → Result Step FaultCode) → ((a : A) → Unmarked (go a)) → Unmarked (then_ok r go)
+then_unmarked : {A : Type 0} (r : Result A FaultCode) (go : A → Result Step FaultCode) → ((a : A) → Unmarked (go a)) → Unmarked (r >>= go)
 then_unmarked (Ok a) go u = u a
 then_unmarked (Err e) go u = tt
 
@@ -132,7 +130,7 @@ repeated_unmarked vs r =
     then_unmarked (indexed vs r.variable) _ (λ i. then_unmarked (typed_for vs wants.Int r.initial) _ (λ a. then_unmarked (typed_for vs wants.Int r.limit) _ (λ b.
     then_unmarked (increment_of vs r.increment) (λ c. Ok (Repeats i a b c)) (λ c. refl))))
 
-declares_labels : (b : Behind) (form : Form) (r : Result (List Variable) FaultCode) → AreDistinct b.labels → AreDistinct (behind_by b form (then_ok r (λ ws. Ok (Declares ws)))).labels
+declares_labels : (b : Behind) (form : Form) (r : Result (List Variable) FaultCode) → AreDistinct b.labels → AreDistinct (behind_by b form (r >>= λ ws. Ok (Declares ws))).labels
 declares_labels b form (Ok ws) h = h
 declares_labels b form (Err e) h = h
 

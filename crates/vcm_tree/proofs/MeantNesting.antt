@@ -11,14 +11,15 @@ use Rattle.vcm_spec.specs.Setup.{Variable}
 use Rattle.vcm_syntax.specs.declared.statement.Form.{Form}
 use Rattle.vcm_syntax.specs.declared.statement.Form.TheVariants.{Opening, Measures as Units, Ignored, Declaration, Assignment, Move, Home, Say, Test, Otherwise, TestEnd, Repeat, RepeatEnd, Mark, Leap, Feature, Measure, Touch, MeasureEnd, Configure, Shift, Rotation, Restore, Query, Report, Macro, MacroEnd, Call, Ending}
 use Rattle.vcm_macro.specs.declared.placed.Placed.{Placed}
-use Rattle.vcm_tree.specs.Pieces.{Step, Piece, Does, Marks, Leaps, Tests, Divides, EndsTest, Repeats, EndsRepeat, Measures, EndsMeasure, Ends}
+use Rattle.vcm_tree.specs.Sentences.{Step, Sentence, Does, Marks, Leaps, Tests, Divides, EndsTest, Repeats, EndsRepeat, Measures, EndsMeasure, Ends}
 use Rattle.vcm_tree.specs.Variables.{with_all, assigned, moved}
 use Rattle.vcm_tree.specs.Blocks.{Behind, Opened, InFirst, InSecond, InBody, InMeasure, room_by, nested, tested, repeated, divided, test_ended, repeat_ended, ended, marked, label_of}
 use Rattle.vcm_tree.specs.Features.{declared, opened_measure, touched, measure_ended, configured, shifted, rotated, recalled, obtained, reported}
-use Rattle.vcm_tree.specs.Resolving.{Meaning, Declares, then_ok, does, counts, stated, blocks_after, behind_by, behind_one, pieces_by, pieces_from}
+use Rattle.vcm_tree.specs.Resolving.{Meaning, Declares, does, counts, stated, blocks_after, behind_by, behind_one, sentences_by, sentences_from}
 use Rattle.vcm_tree.proofs.Standing.{standing, standing_ok}
 use Rattle.vcm_tree.proofs.Walking.{AllMean}
-use Rattle.vcm_tree.proofs.Written.{depth_after, opens, PiecesNest}
+use Rattle.vcm_tree.proofs.Written.{depth_after, opens, SentencesNest}
+use Rattle.vcm_spec.specs.Results.{◌>>=◌}
 
 -- ---- nesting
 
@@ -85,27 +86,27 @@ marked_plain ls l = by (list_any (is_same_label l) ls)
 room_small : (bs : List Opened) (r : Result Step FaultCode) (m : Meaning) → counts (nested bs r) ≡ Ok m → length bs < 32
 room_small bs r m e = by (nat_lt (length bs) 32) refl e
   where
-    by : (b : Bool) → nat_lt (length bs) 32 ≡ b → counts (then_ok (room_by b) (λ _. r)) ≡ Ok m → length bs < 32
+    by : (b : Bool) → nat_lt (length bs) 32 ≡ b → counts (room_by b >>= λ _. r) ≡ Ok m → length bs < 32
     by true f g = grind (arith, f)
     by false f g = absurd cc
 
-nest_one : (b : Behind) (form : Form) (line : ℕ) (r : Result Step FaultCode) (rest : List Piece) (m : Meaning) → counts r ≡ Ok m → ((s : Step) → r ≡ Ok s → opens s ≡ true → length b.blocks < 32)
-    → PiecesNest (length (behind_by b form (counts r)).blocks) rest → PiecesNest (length b.blocks) (pieces_by line (counts r) ++ rest)
-nest_one b form line (Ok s) rest m e small h = (small s refl, subst (λ (d : ℕ). PiecesNest d rest) (depth_step b.blocks s) h)
+nest_one : (b : Behind) (form : Form) (line : ℕ) (r : Result Step FaultCode) (rest : List Sentence) (m : Meaning) → counts r ≡ Ok m → ((s : Step) → r ≡ Ok s → opens s ≡ true → length b.blocks < 32)
+    → SentencesNest (length (behind_by b form (counts r)).blocks) rest → SentencesNest (length b.blocks) (sentences_by line (counts r) ++ rest)
+nest_one b form line (Ok s) rest m e small h = (small s refl, subst (λ (d : ℕ). SentencesNest d rest) (depth_step b.blocks s) h)
 nest_one b form line (Err c) rest m e small h = absurd cc
 
-nest_plain : (b : Behind) (form : Form) (line : ℕ) (r : Result Step FaultCode) (rest : List Piece) (m : Meaning) → Plain r → counts r ≡ Ok m
-    → PiecesNest (length (behind_by b form (counts r)).blocks) rest → PiecesNest (length b.blocks) (pieces_by line (counts r) ++ rest)
-nest_plain b form line (Ok s) rest m p e h = ((λ o. (let both : true ≡ false = sym o ∙ p in absurd cc)), subst (λ (d : ℕ). PiecesNest d rest) (depth_step b.blocks s) h)
+nest_plain : (b : Behind) (form : Form) (line : ℕ) (r : Result Step FaultCode) (rest : List Sentence) (m : Meaning) → Plain r → counts r ≡ Ok m
+    → SentencesNest (length (behind_by b form (counts r)).blocks) rest → SentencesNest (length b.blocks) (sentences_by line (counts r) ++ rest)
+nest_plain b form line (Ok s) rest m p e h = ((λ o. (let both : true ≡ false = sym o ∙ p in absurd cc)), subst (λ (d : ℕ). SentencesNest d rest) (depth_step b.blocks s) h)
 nest_plain b form line (Err c) rest m p e h = absurd cc
 
-nest_declares : (b : Behind) (form : Form) (line : ℕ) (r : Result (List Variable) FaultCode) (rest : List Piece)
-    → PiecesNest (length (behind_by b form (then_ok r (λ ws. Ok (Declares ws)))).blocks) rest → PiecesNest (length b.blocks) (pieces_by line (then_ok r (λ ws. Ok (Declares ws))) ++ rest)
+nest_declares : (b : Behind) (form : Form) (line : ℕ) (r : Result (List Variable) FaultCode) (rest : List Sentence)
+    → SentencesNest (length (behind_by b form (r >>= λ ws. Ok (Declares ws))).blocks) rest → SentencesNest (length b.blocks) (sentences_by line (r >>= λ ws. Ok (Declares ws)) ++ rest)
 nest_declares b form line (Ok ws) rest h = h
 nest_declares b form line (Err c) rest h = h
 
-nest_by : (b : Behind) (ex line : ℕ) (form : Form) (rest : List Piece) (m : Meaning) → stated b ex form ≡ Ok m → PiecesNest (length (behind_by b form (stated b ex form)).blocks) rest
-    → PiecesNest (length b.blocks) (pieces_by line (stated b ex form) ++ rest)
+nest_by : (b : Behind) (ex line : ℕ) (form : Form) (rest : List Sentence) (m : Meaning) → stated b ex form ≡ Ok m → SentencesNest (length (behind_by b form (stated b ex form)).blocks) rest
+    → SentencesNest (length b.blocks) (sentences_by line (stated b ex form) ++ rest)
 nest_by b ex line Opening rest m e h = h
 nest_by b ex line Units rest m e h = h
 nest_by b ex line (Ignored w) rest m e h = h
@@ -136,11 +137,11 @@ nest_by b ex line MacroEnd rest m e h = h
 nest_by b ex line (Call l args) rest m e h = h
 nest_by b ex line Ending rest m e h = nest_plain b Ending line (ended b.blocks) rest m (ended_plain b.blocks) e h
 
-pub nest_all : (b : Behind) (ss : List Placed) → AllMean b ss → PiecesNest (length b.blocks) (pieces_from b ss)
+pub nest_all : (b : Behind) (ss : List Placed) → AllMean b ss → SentencesNest (length b.blocks) (sentences_from b ss)
 nest_all b [] h = tt
 nest_all b (s ∷ ss) h =
     let is = standing b s.expansion s.statement.form h.0.0 h.0.1 in
-    let rest = pieces_from (behind_one b s) ss in
-    subst (λ r. PiecesNest (length b.blocks) (pieces_by s.statement.line r ++ rest)) (sym is)
+    let rest = sentences_from (behind_one b s) ss in
+    subst (λ r. SentencesNest (length b.blocks) (sentences_by s.statement.line r ++ rest)) (sym is)
     (nest_by b s.expansion s.statement.line s.statement.form rest h.0.0 (standing_ok b s.expansion s.statement.form h.0.0 h.0.1)
-    (subst (λ r. PiecesNest (length (behind_by b s.statement.form r).blocks) rest) is (nest_all (behind_one b s) ss h.1)))
+    (subst (λ r. SentencesNest (length (behind_by b s.statement.form r).blocks) rest) is (nest_all (behind_one b s) ss h.1)))

@@ -20,13 +20,14 @@ use Rattle.vcm_syntax.specs.Places.{IsVariable, AreVariables, unscoped}
 use Rattle.vcm_syntax.specs.Forms.{IsDeclaration, IsForm}
 use Rattle.vcm_syntax.specs.Statements.{SpellsBy}
 use Rattle.vcm_tree.specs.Statements.{AreSpelled}
-use Rattle.vcm_tree.specs.Pieces.{Step}
+use Rattle.vcm_tree.specs.Sentences.{Step}
 use Rattle.vcm_tree.specs.Variables.{is_declared, with_one, with_all, assigned, moved}
 use Rattle.vcm_tree.specs.Blocks.{Behind, nested, tested, repeated, divided, test_ended, repeat_ended, ended, marked, label_of}
 use Rattle.vcm_tree.specs.Features.{declared, opened_measure, touched, measure_ended, configured, shifted, rotated, recalled, obtained, reported}
-use Rattle.vcm_tree.specs.Resolving.{Declares, then_ok, does, counts, stated, unless_barred, is_measuring, is_barred, resolved, behind_by, behind_one, behind_all}
-use Rattle.vcm_tree.proofs.GrownTables.{then_ok-Ok}
+use Rattle.vcm_tree.specs.Resolving.{Declares, does, counts, stated, unless_barred, is_measuring, is_barred, resolved, behind_by, behind_one, behind_all}
+use Rattle.vcm_tree.proofs.GrownTables.{bind-Ok, tabled}
 use Rattle.vcm_tree.proofs.Kept.{Letters, DeclaresLettered, AreLettered, AllLettered}
+use Rattle.vcm_spec.specs.Results.{◌>>=◌}
 
 -- ---- words that declare
 
@@ -72,9 +73,6 @@ lettered_by m front fs _ h = tt
 
 -- ---- the table
 
-abbrev tabled : List Variable → Result (List Variable) FaultCode
-tabled ws = Ok ws
-
 one_named : (vs : List Variable) (ex : ℕ) (k : Kind) (name : List ℕ) (ws : List Variable) → with_one vs ex k name ≡ Ok ws → AreNamed vs → IsVariableName name → AreNamed ws
 one_named vs ex k name ws e h n = by (is_declared vs ex name) (nat_lt (length vs) 4096) e
   where
@@ -86,11 +84,11 @@ one_named vs ex k name ws e h n = by (is_declared vs ex name) (nat_lt (length vs
 all_named : (vs : List Variable) (ex : ℕ) (k : Kind) (names : List (List ℕ)) (ws : List Variable) → with_all vs ex k names ≡ Ok ws → AreNamed vs → Letters names → AreNamed ws
 all_named vs ex k [] ws e h n = (let g : vs ≡ ws = cc in subst AreNamed g h)
 all_named vs ex k (name ∷ names) ws e h n =
-    let q = then_ok-Ok (with_one vs ex k name) (λ xs. with_all xs ex k names) ws e in
+    let q = bind-Ok (with_one vs ex k name) (λ xs. with_all xs ex k names) ws e in
     all_named q.0 ex k names ws q.2 (one_named vs ex k name q.0 q.1 h n.0) n.1
 
 declares_named : (b : Behind) (form : Form) (ex : ℕ) (k : Kind) (names : List (List ℕ)) (r : Result (List Variable) FaultCode) → with_all b.variables ex k names ≡ r → AreNamed b.variables → Letters names
-    → AreNamed (behind_by b form (then_ok r (λ ws. Ok (Declares ws)))).variables
+    → AreNamed (behind_by b form (r >>= λ ws. Ok (Declares ws))).variables
 declares_named b form ex k names (Ok ws) e h n = all_named b.variables ex k names ws e h n
 declares_named b form ex k names (Err c) e h n = h
 

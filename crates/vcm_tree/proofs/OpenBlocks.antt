@@ -13,11 +13,12 @@ use Rattle.vcm_expr.specs.Typing.{typed_for}
 use Rattle.vcm_expr.specs.declared.typing.Want.TheVariants as wants
 use Rattle.vcm_syntax.specs.declared.statement.Rounds.{Rounds}
 use Rattle.vcm_tree.specs.Nodes.{with_last}
-use Rattle.vcm_tree.specs.Pieces.{Step, Piece, piece, Does, Marks, Leaps, Tests, Divides, EndsTest, Repeats, EndsRepeat, Measures, EndsMeasure, Ends, node_pieces, pieces}
+use Rattle.vcm_tree.specs.Sentences.{Step, Sentence, sentence, Does, Marks, Leaps, Tests, Divides, EndsTest, Repeats, EndsRepeat, Measures, EndsMeasure, Ends, node_sentences, sentences}
 use Rattle.vcm_tree.specs.Blocks.{Opened, InFirst, InSecond, InBody, InMeasure, indexed, increment_of, repeated, divided, test_ended, repeat_ended, ended, marked}
 use Rattle.vcm_tree.specs.Features.{measure_ended}
-use Rattle.vcm_tree.specs.Resolving.{then_ok, does, blocks_after}
-use Rattle.vcm_tree.proofs.Builders.{pieces_push, regroup}
+use Rattle.vcm_tree.specs.Resolving.{does, blocks_after}
+use Rattle.vcm_tree.proofs.Builders.{sentences_push, regroup}
+use Rattle.vcm_spec.specs.Results.{◌>>=◌}
 
 -- ---- a statement fits the blocks that are open
 
@@ -86,7 +87,7 @@ pub ended_fit : (bs cs : List Opened) → FitResult cs (ended bs)
 ended_fit [] cs = tt
 ended_fit (b ∷ bs) cs = tt
 
-pub then_fit : {A : Type 0} (bs : List Opened) (r : Result A FaultCode) (go : A → Result Step FaultCode) → ((a : A) → FitResult bs (go a)) → FitResult bs (then_ok r go)
+pub then_fit : {A : Type 0} (bs : List Opened) (r : Result A FaultCode) (go : A → Result Step FaultCode) → ((a : A) → FitResult bs (go a)) → FitResult bs (r >>= go)
 then_fit bs (Ok a) go u = u a
 then_fit bs (Err e) go u = tt
 
@@ -121,59 +122,59 @@ abbrev pub kinds : List Around → List Opened
 kinds [] = []
 kinds (a ∷ as') = kind a ∷ kinds as'
 
-abbrev outer_pieces : Around → List Piece
-outer_pieces (AroundFirst out line test) = pieces out
-outer_pieces (AroundSecond out line test first mid) = pieces out
-outer_pieces (AroundBody out line v x y z) = pieces out
-outer_pieces (AroundMeasure out line g) = pieces out
+abbrev outer_sentences : Around → List Sentence
+outer_sentences (AroundFirst out line test) = sentences out
+outer_sentences (AroundSecond out line test first mid) = sentences out
+outer_sentences (AroundBody out line v x y z) = sentences out
+outer_sentences (AroundMeasure out line g) = sentences out
 
-abbrev opener_pieces : Around → List Piece
-opener_pieces (AroundFirst out line test) = piece line (Tests test) ∷ []
-opener_pieces (AroundSecond out line test first mid) = piece line (Tests test) ∷ (pieces first ++ piece mid Divides ∷ [])
-opener_pieces (AroundBody out line v x y z) = piece line (Repeats v x y z) ∷ []
-opener_pieces (AroundMeasure out line g) = piece line (Measures g) ∷ []
+abbrev opener_sentences : Around → List Sentence
+opener_sentences (AroundFirst out line test) = sentence line (Tests test) ∷ []
+opener_sentences (AroundSecond out line test first mid) = sentence line (Tests test) ∷ (sentences first ++ sentence mid Divides ∷ [])
+opener_sentences (AroundBody out line v x y z) = sentence line (Repeats v x y z) ∷ []
+opener_sentences (AroundMeasure out line g) = sentence line (Measures g) ∷ []
 
-abbrev before : List Around → List Piece
+abbrev before : List Around → List Sentence
 before [] = []
-before (a ∷ as') = before as' ++ (outer_pieces a ++ opener_pieces a)
+before (a ∷ as') = before as' ++ (outer_sentences a ++ opener_sentences a)
 
-abbrev pub wrote : List Around → Block → List Piece
-wrote as' b = before as' ++ pieces b
+abbrev pub wrote : List Around → Block → List Sentence
+wrote as' b = before as' ++ sentences b
 
 -- what comes behind one statement more
 pub record Grows (as' : List Around) (b : Block) (line : ℕ) (s : Step) : Type 0 where
   pub opens : List Around
   pub block : Block
-  pub writes : wrote opens block ≡ wrote as' b ++ piece line s ∷ []
+  pub writes : wrote opens block ≡ wrote as' b ++ sentence line s ∷ []
   pub around : kinds opens ≡ blocks_after (kinds as') s
 
-node_more : (as' : List Around) (b : Block) (line : ℕ) (s : Step) (n : Node) → node_pieces n ≡ piece line s ∷ [] → kinds as' ≡ blocks_after (kinds as') s → Grows as' b line s
+node_more : (as' : List Around) (b : Block) (line : ℕ) (s : Step) (n : Node) → node_sentences n ≡ sentence line s ∷ [] → kinds as' ≡ blocks_after (kinds as') s → Grows as' b line s
 node_more as' b line s n e k = record {
   opens = as';
   block = with_last b n;
-  writes = ap (λ l. before as' ++ l) (pieces_push b n ∙ ap (λ l. pieces b ++ l) e) ∙ sym (append_assoc (before as') (pieces b) (piece line s ∷ []));
+  writes = ap (λ l. before as' ++ l) (sentences_push b n ∙ ap (λ l. sentences b ++ l) e) ∙ sym (append_assoc (before as') (sentences b) (sentence line s ∷ []));
   around = k;
 }
 
-opening : (as' : List Around) (b : Block) (line : ℕ) (s : Step) (a : Around) → outer_pieces a ≡ pieces b → opener_pieces a ≡ piece line s ∷ [] → kind a ∷ kinds as' ≡ blocks_after (kinds as') s
+opening : (as' : List Around) (b : Block) (line : ℕ) (s : Step) (a : Around) → outer_sentences a ≡ sentences b → opener_sentences a ≡ sentence line s ∷ [] → kind a ∷ kinds as' ≡ blocks_after (kinds as') s
     → Grows as' b line s
 opening as' b line s a o e k = record {
   opens = a ∷ as';
   block = done;
   writes =
-      append-nil (before as' ++ (outer_pieces a ++ opener_pieces a)) ∙ ap (λ l. before as' ++ (l ++ opener_pieces a)) o ∙ ap (λ l. before as' ++ (pieces b ++ l)) e
-      ∙ sym (append_assoc (before as') (pieces b) (piece line s ∷ []));
+      append-nil (before as' ++ (outer_sentences a ++ opener_sentences a)) ∙ ap (λ l. before as' ++ (l ++ opener_sentences a)) o ∙ ap (λ l. before as' ++ (sentences b ++ l)) e
+      ∙ sym (append_assoc (before as') (sentences b) (sentence line s ∷ []));
   around = k;
 }
 
-closing : (out : Block) (a : Around) (as' : List Around) (b : Block) (line : ℕ) (s : Step) (n : Node) → outer_pieces a ≡ pieces out → node_pieces n ≡ opener_pieces a ++ (pieces b ++ piece line s ∷ [])
+closing : (out : Block) (a : Around) (as' : List Around) (b : Block) (line : ℕ) (s : Step) (n : Node) → outer_sentences a ≡ sentences out → node_sentences n ≡ opener_sentences a ++ (sentences b ++ sentence line s ∷ [])
     → kinds as' ≡ blocks_after (kinds (a ∷ as')) s → Grows (a ∷ as') b line s
 closing out a as' b line s n o e k = record {
   opens = as';
   block = with_last out n;
   writes =
-      ap (λ l. before as' ++ l) (pieces_push out n ∙ ap (λ l. pieces out ++ l) e ∙ ap (λ l. l ++ (opener_pieces a ++ (pieces b ++ piece line s ∷ []))) (sym o))
-      ∙ regroup (before as') (outer_pieces a) (opener_pieces a) (pieces b) (piece line s ∷ []);
+      ap (λ l. before as' ++ l) (sentences_push out n ∙ ap (λ l. sentences out ++ l) e ∙ ap (λ l. l ++ (opener_sentences a ++ (sentences b ++ sentence line s ∷ []))) (sym o))
+      ∙ regroup (before as') (outer_sentences a) (opener_sentences a) (sentences b) (sentence line s ∷ []);
   around = k;
 }
 
@@ -183,8 +184,8 @@ divide (AroundFirst out from test ∷ as') b line f = record {
   opens = AroundSecond out from test b line ∷ as';
   block = done;
   writes =
-      append-nil (before as' ++ (pieces out ++ opener_pieces (AroundSecond out from test b line)))
-      ∙ regroup (before as') (pieces out) (opener_pieces (AroundFirst out from test)) (pieces b) (piece line Divides ∷ []);
+      append-nil (before as' ++ (sentences out ++ opener_sentences (AroundSecond out from test b line)))
+      ∙ regroup (before as') (sentences out) (opener_sentences (AroundFirst out from test)) (sentences b) (sentence line Divides ∷ []);
   around = refl;
 }
 divide (AroundSecond out from test first mid ∷ as') b line f = absurd f
@@ -196,7 +197,7 @@ end_test [] b line f = absurd f
 end_test (AroundFirst out from test ∷ as') b line f = closing out (AroundFirst out from test) as' b line EndsTest (choice from test b line) refl refl refl
 end_test (AroundSecond out from test first mid ∷ as') b line f =
     closing out (AroundSecond out from test first mid) as' b line EndsTest (choice_else from test first mid b line) refl
-    (ap (λ l. piece from (Tests test) ∷ l) (sym (append_assoc (pieces first) (piece mid Divides ∷ []) (pieces b ++ piece line EndsTest ∷ [])))) refl
+    (ap (λ l. sentence from (Tests test) ∷ l) (sym (append_assoc (sentences first) (sentence mid Divides ∷ []) (sentences b ++ sentence line EndsTest ∷ [])))) refl
 end_test (AroundBody out from v x y z ∷ as') b line f = absurd f
 end_test (AroundMeasure out from g ∷ as') b line f = absurd f
 

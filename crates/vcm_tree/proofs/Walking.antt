@@ -16,12 +16,12 @@ use Rattle.vcm_tree.specs.declared.builder.Open.{Open}
 use Rattle.vcm_tree.specs.declared.taking.Progress.{Progress}
 use Rattle.vcm_macro.specs.Order.{is_ending}
 use Rattle.vcm_tree.specs.Ended.{is_ended}
-use Rattle.vcm_tree.specs.Pieces.{pieces}
+use Rattle.vcm_tree.specs.Sentences.{sentences}
 use Rattle.vcm_tree.specs.Blocks.{Behind, behind, Opened, ended}
-use Rattle.vcm_tree.specs.Resolving.{Meaning, counts, stated, resolved_here, behind_by, behind_one, behind_all, start, pieces_by, pieces_from, BreaksNames, names_line}
+use Rattle.vcm_tree.specs.Resolving.{Meaning, counts, stated, resolved_here, behind_by, behind_one, behind_all, start, sentences_by, sentences_from, BreaksNames, names_line}
 use Rattle.vcm_tree.specs.inner.Telling.{ToldAt}
 use Rattle.vcm_tree.specs.Program.{IsParsed, tables_of, notices_of}
-use Rattle.vcm_tree.specs.inner.Building.{blocks_of, opens_pieces, written}
+use Rattle.vcm_tree.specs.inner.Building.{blocks_of, opens_sentences, written}
 use Rattle.vcm_tree.specs.inner.Taking.{behind_of, Takes}
 use Rattle.vcm_tree.proofs.Builders.{blocks_length}
 use Rattle.vcm_tree.proofs.Standing.{standing, standing_ok}
@@ -42,7 +42,7 @@ pub record IsWalked (all : List Placed) (p : Progress) (rest : List Placed) : Ty
   pub left : drop place all ≡ rest
   pub clean : IsCleanBelow BreaksNames all place
   pub behind : behind_of p ≡ behind_all start (take place all)
-  pub writes : pieces_from start all ≡ written p.builder ++ pieces_from (behind_of p) rest
+  pub writes : sentences_from start all ≡ written p.builder ++ sentences_from (behind_of p) rest
 
 abbrev means : Meaning → Result Meaning FaultCode
 means m = Ok m
@@ -52,12 +52,12 @@ unbroken : (b c : Behind) (s : Placed) (m : Meaning) (code : FaultCode) → b �
 unbroken b c s m code same is broken = (let both : means m ≡ Err code = sym is ∙ ap (λ t. resolved_here t s) same ∙ broken in absurd cc)
 
 one_more : (s : Placed) (old new : Progress) (rest : List Placed) → Takes s old new
-    → written old.builder ++ pieces_from (behind_of old) (s ∷ rest) ≡ written new.builder ++ pieces_from (behind_of new) rest
+    → written old.builder ++ sentences_from (behind_of old) (s ∷ rest) ≡ written new.builder ++ sentences_from (behind_of new) rest
 one_more s old new rest t =
-    ap (λ r. written old.builder ++ (pieces_by s.statement.line r ++ pieces_from (behind_by (behind_of old) s.statement.form r) rest)) t.is
-    ∙ ap (λ b. written old.builder ++ (pieces_by s.statement.line (Ok t.meaning) ++ pieces_from b rest)) (sym t.after)
-    ∙ sym (append_assoc (written old.builder) (pieces_by s.statement.line (Ok t.meaning)) (pieces_from (behind_of new) rest))
-    ∙ ap (λ l. l ++ pieces_from (behind_of new) rest) (sym t.pieces)
+    ap (λ r. written old.builder ++ (sentences_by s.statement.line r ++ sentences_from (behind_by (behind_of old) s.statement.form r) rest)) t.is
+    ∙ ap (λ b. written old.builder ++ (sentences_by s.statement.line (Ok t.meaning) ++ sentences_from b rest)) (sym t.after)
+    ∙ sym (append_assoc (written old.builder) (sentences_by s.statement.line (Ok t.meaning)) (sentences_from (behind_of new) rest))
+    ∙ ap (λ l. l ++ sentences_from (behind_of new) rest) (sym t.sentences)
 
 pub walk_goes : (all : List Placed) (old new : Progress) (s : Placed) (rest : List Placed)
     → IsWalked all old (s ∷ rest) → Takes s old new → IsWalked all new rest
@@ -165,7 +165,7 @@ walk_ends ss all p last w =
     let shut_all : blocks_of p.builder.opens.items ≡ [] = ap (λ (b : Behind). b.blocks) whole ∙ last_shuts start all last (all_mean [] all (walk_clean all p w)) in
     let none : p.builder.opens.items ≡ [] = no_opens p.builder.opens.items shut_all in
     record {
-      program = sym (w.writes ∙ append-nil (written p.builder) ∙ ap (λ os. opens_pieces os ++ pieces p.builder.block) none);
+      program = sym (w.writes ∙ append-nil (written p.builder) ∙ ap (λ os. opens_sentences os ++ sentences p.builder.block) none);
       tables = ap tables_of whole;
       notices = refl;
     }

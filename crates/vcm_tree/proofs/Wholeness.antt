@@ -12,12 +12,12 @@ use Rattle.vcm_macro.specs.declared.placed.Placed.{Placed}
 use Rattle.vcm_syntax.specs.Statements.{is_counted}
 use Rattle.vcm_tree.specs.Ended.{is_ended}
 use Rattle.vcm_tree.specs.Jumps.{labels_of, jumps_of, BreaksJumps}
-use Rattle.vcm_tree.specs.Pieces.{Piece, pieces}
+use Rattle.vcm_tree.specs.Sentences.{Sentence, sentences}
 use Rattle.vcm_tree.specs.Resolving.{behind_all, start, BreaksNames}
 use Rattle.vcm_tree.specs.Program.{Parsed, IsParsed, IsWhole, AreDistinct, tables_of}
 use Rattle.vcm_tree.proofs.Walking.{all_mean}
-use Rattle.vcm_tree.proofs.Written.{piece_labels, PiecesNest, PiecesFit, ends_last, pieces_length, pieces_marks, pieces_nests, closed_last, pieces_fit}
-use Rattle.vcm_tree.proofs.MeantCounts.{labels_all, counted_all, few_pieces, last_ends}
+use Rattle.vcm_tree.proofs.Written.{sentence_labels, SentencesNest, SentencesFit, ends_last, sentences_length, sentences_marks, sentences_nests, closed_last, sentences_fit}
+use Rattle.vcm_tree.proofs.MeantCounts.{labels_all, counted_all, few_sentences, last_ends}
 use Rattle.vcm_tree.proofs.MeantNesting.{nest_all}
 use Rattle.vcm_tree.proofs.MeantLabels.{distinct_all}
 use Rattle.vcm_tree.proofs.Fitted.{fit_all}
@@ -26,20 +26,20 @@ pub parsed_whole : (ss : List Statement) (all : List Placed) (p : Parsed) → Is
     → IsClean (BreaksJumps (labels_of p.program)) (jumps_of p.program) → IsWhole p.program p.tables
 parsed_whole ss all p last few clean is named jumps =
     let mean = all_mean [] all clean in
-    let short = few_pieces start all in
-    let long = sym (pieces_length p.program) ∙ ap (λ (l : List Piece). length l) is.program in
-    let fits = subst (λ l. PiecesFit (tables_of (behind_all start all)) l) (sym is.program) (fit_all all) in
-    let nests = subst (PiecesNest 0) (sym (append-nil (pieces p.program) ∙ is.program)) (nest_all start all mean) in
-    let labels = labels_all start all ∙ ap piece_labels (sym is.program) ∙ pieces_marks p.program in
+    let short = few_sentences start all in
+    let long = sym (sentences_length p.program) ∙ ap (λ (l : List Sentence). length l) is.program in
+    let fits = subst (λ l. SentencesFit (tables_of (behind_all start all)) l) (sym is.program) (fit_all all) in
+    let nests = subst (SentencesNest 0) (sym (append-nil (sentences p.program) ∙ is.program)) (nest_all start all mean) in
+    let labels = labels_all start all ∙ ap sentence_labels (sym is.program) ∙ sentences_marks p.program in
     record {
       closed = sym (closed_last p.program) ∙ ap ends_last is.program ∙ last_ends start all last mean;
       few = omega (arith, short, long, few);
-      fits = pieces_fit p.tables p.program (subst (λ n. PiecesFit n (pieces p.program)) (sym is.tables) fits);
+      fits = sentences_fit p.tables p.program (subst (λ n. SentencesFit n (sentences p.program)) (sym is.tables) fits);
       named = subst (λ (n : Tables). AreNamed n.variables) (sym is.tables) named;
-      nested = (pieces_nests p.program 0 [] nests).0;
+      nested = (sentences_nests p.program 0 [] nests).0;
       once = subst AreDistinct labels (distinct_all start all mean tt);
       jumps = jumps;
     }
 
 pub parsed_counted : (ss : List Statement) (all : List Placed) (p : Parsed) → IsClean BreaksNames all → IsParsed ss all p → sizes p.program ≡ length (filter (λ s. is_counted s.statement.form) all)
-parsed_counted ss all p clean is = sym (pieces_length p.program) ∙ ap (λ (l : List Piece). length l) is.program ∙ counted_all start all (all_mean [] all clean)
+parsed_counted ss all p clean is = sym (sentences_length p.program) ∙ ap (λ (l : List Sentence). length l) is.program ∙ counted_all start all (all_mean [] all clean)

@@ -6,34 +6,34 @@ use Rattle.vcm_spec.specs.Setup.{Tables}
 use Rattle.vcm_spec.specs.Program.{Label, Node, Block, simple, label, jump, choice, choice_else, do_loop, meas, ending, done, then, size, sizes}
 use Rattle.vcm_spec.specs.Fitting.{Fits, HasKindIn, kinds as kinds_in, NodeFits, BlockFits}
 use Rattle.std.specs.Prelude.{slice_get, Some}
-use Rattle.vcm_tree.specs.Pieces.{Step, Piece, piece, Does, Marks, Tests, Divides, EndsTest, Repeats, EndsRepeat, Measures, EndsMeasure, Ends, node_pieces, pieces}
+use Rattle.vcm_tree.specs.Sentences.{Step, Sentence, sentence, Does, Marks, Tests, Divides, EndsTest, Repeats, EndsRepeat, Measures, EndsMeasure, Ends, node_sentences, sentences}
 use Rattle.vcm_tree.specs.Jumps.{node_labels, labels_of}
 use Rattle.vcm_spec.specs.Whole.{is_end, is_closed}
 use Rattle.vcm_tree.specs.Program.{NodeNests, BlockNests}
 
 -- ---- how many
 
-two_more : (ps : List Piece) (p : Piece) (n : ℕ) → length ps ≡ n → length (ps ++ p ∷ []) ≡ n + 1
+two_more : (ps : List Sentence) (p : Sentence) (n : ℕ) → length ps ≡ n → length (ps ++ p ∷ []) ≡ n + 1
 two_more ps p n e = (let h = length-append ps (p ∷ []) in omega (arith, h, e))
 
 mutual
-  node_length : (n : Node) → length (node_pieces n) ≡ size n
+  node_length : (n : Node) → length (node_sentences n) ≡ size n
   node_length (simple line what) = refl
   node_length (label line l) = refl
   node_length (jump line l) = refl
-  node_length (choice line test first close) = (let a = two_more (pieces first) (piece close EndsTest) (sizes first) (pieces_length first) in omega (arith, a))
+  node_length (choice line test first close) = (let a = two_more (sentences first) (sentence close EndsTest) (sizes first) (sentences_length first) in omega (arith, a))
   node_length (choice_else line test first mid second close) =
-      let a = pieces_length first in
-      let b = two_more (pieces second) (piece close EndsTest) (sizes second) (pieces_length second) in
-      let c = length-append (pieces first) (piece mid Divides ∷ (pieces second ++ piece close EndsTest ∷ [])) in
+      let a = sentences_length first in
+      let b = two_more (sentences second) (sentence close EndsTest) (sizes second) (sentences_length second) in
+      let c = length-append (sentences first) (sentence mid Divides ∷ (sentences second ++ sentence close EndsTest ∷ [])) in
       omega (arith, a, b, c)
-  node_length (do_loop line v x y z body close) = (let a = two_more (pieces body) (piece close EndsRepeat) (sizes body) (pieces_length body) in omega (arith, a))
-  node_length (meas line f body close) = (let a = two_more (pieces body) (piece close EndsMeasure) (sizes body) (pieces_length body) in omega (arith, a))
+  node_length (do_loop line v x y z body close) = (let a = two_more (sentences body) (sentence close EndsRepeat) (sizes body) (sentences_length body) in omega (arith, a))
+  node_length (meas line f body close) = (let a = two_more (sentences body) (sentence close EndsMeasure) (sizes body) (sentences_length body) in omega (arith, a))
   node_length (ending line) = refl
 
-  pub pieces_length : (b : Block) → length (pieces b) ≡ sizes b
-  pieces_length done = refl
-  pieces_length (then n b) = (let h = length-append (node_pieces n) (pieces b) in let m = node_length n in let k = pieces_length b in omega (arith, h, m, k))
+  pub sentences_length : (b : Block) → length (sentences b) ≡ sizes b
+  sentences_length done = refl
+  sentences_length (then n b) = (let h = length-append (node_sentences n) (sentences b) in let m = node_length n in let k = sentences_length b in omega (arith, h, m, k))
 
 -- ---- labels
 
@@ -41,34 +41,34 @@ abbrev pub step_labels : Step → List Label
 step_labels (Marks l) = l ∷ []
 step_labels _ = []
 
-abbrev pub piece_labels : List Piece → List Label
-piece_labels [] = []
-piece_labels (p ∷ ps) = step_labels p.step ++ piece_labels ps
+abbrev pub sentence_labels : List Sentence → List Label
+sentence_labels [] = []
+sentence_labels (p ∷ ps) = step_labels p.step ++ sentence_labels ps
 
-pub labels_append : (ps qs : List Piece) → piece_labels (ps ++ qs) ≡ piece_labels ps ++ piece_labels qs
+pub labels_append : (ps qs : List Sentence) → sentence_labels (ps ++ qs) ≡ sentence_labels ps ++ sentence_labels qs
 labels_append [] qs = refl
-labels_append (p ∷ ps) qs = ap (λ l. step_labels p.step ++ l) (labels_append ps qs) ∙ sym (append_assoc (step_labels p.step) (piece_labels ps) (piece_labels qs))
+labels_append (p ∷ ps) qs = ap (λ l. step_labels p.step ++ l) (labels_append ps qs) ∙ sym (append_assoc (step_labels p.step) (sentence_labels ps) (sentence_labels qs))
 
-closed_labels : (ps : List Piece) (p : Piece) (ls : List Label) → step_labels p.step ≡ [] → piece_labels ps ≡ ls → piece_labels (ps ++ p ∷ []) ≡ ls
-closed_labels ps p ls none e = labels_append ps (p ∷ []) ∙ ap (λ l. piece_labels ps ++ (l ++ [])) none ∙ append-nil (piece_labels ps) ∙ e
+closed_labels : (ps : List Sentence) (p : Sentence) (ls : List Label) → step_labels p.step ≡ [] → sentence_labels ps ≡ ls → sentence_labels (ps ++ p ∷ []) ≡ ls
+closed_labels ps p ls none e = labels_append ps (p ∷ []) ∙ ap (λ l. sentence_labels ps ++ (l ++ [])) none ∙ append-nil (sentence_labels ps) ∙ e
 
 mutual
-  node_marks : (n : Node) → piece_labels (node_pieces n) ≡ node_labels n
+  node_marks : (n : Node) → sentence_labels (node_sentences n) ≡ node_labels n
   node_marks (simple line what) = refl
   node_marks (label line l) = refl
   node_marks (jump line l) = refl
-  node_marks (choice line test first close) = closed_labels (pieces first) (piece close EndsTest) (labels_of first) refl (pieces_marks first)
+  node_marks (choice line test first close) = closed_labels (sentences first) (sentence close EndsTest) (labels_of first) refl (sentences_marks first)
   node_marks (choice_else line test first mid second close) =
-      labels_append (pieces first) (piece mid Divides ∷ (pieces second ++ piece close EndsTest ∷ []))
-      ∙ ap (λ l. l ++ piece_labels (pieces second ++ piece close EndsTest ∷ [])) (pieces_marks first)
-      ∙ ap (λ l. labels_of first ++ l) (closed_labels (pieces second) (piece close EndsTest) (labels_of second) refl (pieces_marks second))
-  node_marks (do_loop line v x y z body close) = closed_labels (pieces body) (piece close EndsRepeat) (labels_of body) refl (pieces_marks body)
-  node_marks (meas line f body close) = closed_labels (pieces body) (piece close EndsMeasure) (labels_of body) refl (pieces_marks body)
+      labels_append (sentences first) (sentence mid Divides ∷ (sentences second ++ sentence close EndsTest ∷ []))
+      ∙ ap (λ l. l ++ sentence_labels (sentences second ++ sentence close EndsTest ∷ [])) (sentences_marks first)
+      ∙ ap (λ l. labels_of first ++ l) (closed_labels (sentences second) (sentence close EndsTest) (labels_of second) refl (sentences_marks second))
+  node_marks (do_loop line v x y z body close) = closed_labels (sentences body) (sentence close EndsRepeat) (labels_of body) refl (sentences_marks body)
+  node_marks (meas line f body close) = closed_labels (sentences body) (sentence close EndsMeasure) (labels_of body) refl (sentences_marks body)
   node_marks (ending line) = refl
 
-  pub pieces_marks : (b : Block) → piece_labels (pieces b) ≡ labels_of b
-  pieces_marks done = refl
-  pieces_marks (then n b) = labels_append (node_pieces n) (pieces b) ∙ ap (λ l. l ++ piece_labels (pieces b)) (node_marks n) ∙ ap (λ l. node_labels n ++ l) (pieces_marks b)
+  pub sentences_marks : (b : Block) → sentence_labels (sentences b) ≡ labels_of b
+  sentences_marks done = refl
+  sentences_marks (then n b) = labels_append (node_sentences n) (sentences b) ∙ ap (λ l. l ++ sentence_labels (sentences b)) (node_marks n) ∙ ap (λ l. node_labels n ++ l) (sentences_marks b)
 
 -- ---- nesting
 
@@ -95,39 +95,39 @@ opens (Measures f) = true
 opens _ = false
 
 -- with so many blocks open, no statement opens a 33rd one
-abbrev pub PiecesNest : ℕ → List Piece → Type 0
-PiecesNest d [] = Unit {0}
-PiecesNest d (p ∷ ps) = (opens p.step ≡ true → d < 32) × PiecesNest (depth_after d p.step) ps
+abbrev pub SentencesNest : ℕ → List Sentence → Type 0
+SentencesNest d [] = Unit {0}
+SentencesNest d (p ∷ ps) = (opens p.step ≡ true → d < 32) × SentencesNest (depth_after d p.step) ps
 
 one_deeper : (d : ℕ) (b : Block) → BlockNests (suc d) b → BlockNests (d + 1) b
 one_deeper d b h = (let e : suc d ≡ d + 1 = omega arith in subst (λ (k : ℕ). BlockNests k b) e h)
 
 mutual
-  node_nests : (n : Node) (d : ℕ) (rest : List Piece) → PiecesNest d (node_pieces n ++ rest) → NodeNests d n × PiecesNest d rest
+  node_nests : (n : Node) (d : ℕ) (rest : List Sentence) → SentencesNest d (node_sentences n ++ rest) → NodeNests d n × SentencesNest d rest
   node_nests (simple line what) d rest h = (tt, h.1)
   node_nests (label line l) d rest h = (tt, h.1)
   node_nests (jump line l) d rest h = (tt, h.1)
   node_nests (choice line test first close) d rest h =
-      let q = pieces_nests first (suc d) (piece close EndsTest ∷ rest) (subst (PiecesNest (suc d)) (append_assoc (pieces first) (piece close EndsTest ∷ []) rest) h.1) in
+      let q = sentences_nests first (suc d) (sentence close EndsTest ∷ rest) (subst (SentencesNest (suc d)) (append_assoc (sentences first) (sentence close EndsTest ∷ []) rest) h.1) in
       ((h.0 refl, one_deeper d first q.0), q.1.1)
   node_nests (choice_else line test first mid second close) d rest h =
-      let q = pieces_nests first (suc d) (piece mid Divides ∷ ((pieces second ++ piece close EndsTest ∷ []) ++ rest))
-      (subst (PiecesNest (suc d)) (append_assoc (pieces first) (piece mid Divides ∷ (pieces second ++ piece close EndsTest ∷ [])) rest) h.1) in
-      let r = pieces_nests second (suc d) (piece close EndsTest ∷ rest) (subst (PiecesNest (suc d)) (append_assoc (pieces second) (piece close EndsTest ∷ []) rest) q.1.1) in
+      let q = sentences_nests first (suc d) (sentence mid Divides ∷ ((sentences second ++ sentence close EndsTest ∷ []) ++ rest))
+      (subst (SentencesNest (suc d)) (append_assoc (sentences first) (sentence mid Divides ∷ (sentences second ++ sentence close EndsTest ∷ [])) rest) h.1) in
+      let r = sentences_nests second (suc d) (sentence close EndsTest ∷ rest) (subst (SentencesNest (suc d)) (append_assoc (sentences second) (sentence close EndsTest ∷ []) rest) q.1.1) in
       ((h.0 refl, one_deeper d first q.0, one_deeper d second r.0), r.1.1)
   node_nests (do_loop line v x y z body close) d rest h =
-      let q = pieces_nests body (suc d) (piece close EndsRepeat ∷ rest) (subst (PiecesNest (suc d)) (append_assoc (pieces body) (piece close EndsRepeat ∷ []) rest) h.1) in
+      let q = sentences_nests body (suc d) (sentence close EndsRepeat ∷ rest) (subst (SentencesNest (suc d)) (append_assoc (sentences body) (sentence close EndsRepeat ∷ []) rest) h.1) in
       ((h.0 refl, one_deeper d body q.0), q.1.1)
   node_nests (meas line f body close) d rest h =
-      let q = pieces_nests body (suc d) (piece close EndsMeasure ∷ rest) (subst (PiecesNest (suc d)) (append_assoc (pieces body) (piece close EndsMeasure ∷ []) rest) h.1) in
+      let q = sentences_nests body (suc d) (sentence close EndsMeasure ∷ rest) (subst (SentencesNest (suc d)) (append_assoc (sentences body) (sentence close EndsMeasure ∷ []) rest) h.1) in
       ((h.0 refl, one_deeper d body q.0), q.1.1)
   node_nests (ending line) d rest h = (tt, h.1)
 
-  pub pieces_nests : (b : Block) (d : ℕ) (rest : List Piece) → PiecesNest d (pieces b ++ rest) → BlockNests d b × PiecesNest d rest
-  pieces_nests done d rest h = (tt, h)
-  pieces_nests (then n b) d rest h =
-      let q = node_nests n d (pieces b ++ rest) (subst (PiecesNest d) (append_assoc (node_pieces n) (pieces b) rest) h) in
-      let r = pieces_nests b d rest q.1 in
+  pub sentences_nests : (b : Block) (d : ℕ) (rest : List Sentence) → SentencesNest d (sentences b ++ rest) → BlockNests d b × SentencesNest d rest
+  sentences_nests done d rest h = (tt, h)
+  sentences_nests (then n b) d rest h =
+      let q = node_nests n d (sentences b ++ rest) (subst (SentencesNest d) (append_assoc (node_sentences n) (sentences b) rest) h) in
+      let r = sentences_nests b d rest q.1 in
       ((q.0, r.0), r.1)
 
 -- ---- the last statement
@@ -136,35 +136,35 @@ abbrev pub is_end_step : Step → Bool
 is_end_step Ends = true
 is_end_step _ = false
 
-abbrev pub ends_last : List Piece → Bool
+abbrev pub ends_last : List Sentence → Bool
 ends_last [] = false
 ends_last (p ∷ []) = is_end_step p.step
 ends_last (p ∷ q ∷ ps) = ends_last (q ∷ ps)
 
-last_of_two : (ps : List Piece) (q : Piece) (qs : List Piece) → ends_last (ps ++ q ∷ qs) ≡ ends_last (q ∷ qs)
+last_of_two : (ps : List Sentence) (q : Sentence) (qs : List Sentence) → ends_last (ps ++ q ∷ qs) ≡ ends_last (q ∷ qs)
 last_of_two [] q qs = refl
 last_of_two (p ∷ []) q qs = refl
 last_of_two (p ∷ r ∷ ps) q qs = last_of_two (r ∷ ps) q qs
 
 -- behind an opener the last one is the closer
-last_closer : (o : Piece) (ps : List Piece) (p : Piece) → ends_last (o ∷ (ps ++ p ∷ [])) ≡ is_end_step p.step
+last_closer : (o : Sentence) (ps : List Sentence) (p : Sentence) → ends_last (o ∷ (ps ++ p ∷ [])) ≡ is_end_step p.step
 last_closer o [] p = refl
 last_closer o (q ∷ ps) p = last_closer q ps p
 
-node_last : (n : Node) → ends_last (node_pieces n) ≡ is_end n
+node_last : (n : Node) → ends_last (node_sentences n) ≡ is_end n
 node_last (simple line what) = refl
 node_last (label line l) = refl
 node_last (jump line l) = refl
-node_last (choice line test first close) = last_closer (piece line (Tests test)) (pieces first) (piece close EndsTest)
+node_last (choice line test first close) = last_closer (sentence line (Tests test)) (sentences first) (sentence close EndsTest)
 node_last (choice_else line test first mid second close) =
-    ap ends_last (sym (append_assoc (piece line (Tests test) ∷ pieces first) (piece mid Divides ∷ pieces second) (piece close EndsTest ∷ [])))
-    ∙ last_closer (piece line (Tests test)) (pieces first ++ piece mid Divides ∷ pieces second) (piece close EndsTest)
-node_last (do_loop line v x y z body close) = last_closer (piece line (Repeats v x y z)) (pieces body) (piece close EndsRepeat)
-node_last (meas line f body close) = last_closer (piece line (Measures f)) (pieces body) (piece close EndsMeasure)
+    ap ends_last (sym (append_assoc (sentence line (Tests test) ∷ sentences first) (sentence mid Divides ∷ sentences second) (sentence close EndsTest ∷ [])))
+    ∙ last_closer (sentence line (Tests test)) (sentences first ++ sentence mid Divides ∷ sentences second) (sentence close EndsTest)
+node_last (do_loop line v x y z body close) = last_closer (sentence line (Repeats v x y z)) (sentences body) (sentence close EndsRepeat)
+node_last (meas line f body close) = last_closer (sentence line (Measures f)) (sentences body) (sentence close EndsMeasure)
 node_last (ending line) = refl
 
 -- a node is some statement
-node_first : (n : Node) → (p : Piece) × (ps : List Piece) × (node_pieces n ≡ p ∷ ps)
+node_first : (n : Node) → (p : Sentence) × (ps : List Sentence) × (node_sentences n ≡ p ∷ ps)
 node_first (simple line what) = (_, _, refl)
 node_first (label line l) = (_, _, refl)
 node_first (jump line l) = (_, _, refl)
@@ -175,13 +175,13 @@ node_first (meas line f body close) = (_, _, refl)
 node_first (ending line) = (_, _, refl)
 
 -- a block is closed where its last statement is ENDFIL
-pub closed_last : (b : Block) → ends_last (pieces b) ≡ is_closed b
+pub closed_last : (b : Block) → ends_last (sentences b) ≡ is_closed b
 closed_last done = refl
-closed_last (then n done) = ap ends_last (append-nil (node_pieces n)) ∙ node_last n
+closed_last (then n done) = ap ends_last (append-nil (node_sentences n)) ∙ node_last n
 closed_last (then n (then m b)) =
     let f = node_first m in
-    let e : pieces (then m b) ≡ f.0 ∷ (f.1 ++ pieces b) = ap (λ l. l ++ pieces b) f.2 in
-    ap (λ l. ends_last (node_pieces n ++ l)) e ∙ last_of_two (node_pieces n) f.0 (f.1 ++ pieces b) ∙ ap ends_last (sym e) ∙ closed_last (then m b)
+    let e : sentences (then m b) ≡ f.0 ∷ (f.1 ++ sentences b) = ap (λ l. l ++ sentences b) f.2 in
+    ap (λ l. ends_last (node_sentences n ++ l)) e ∙ last_of_two (node_sentences n) f.0 (f.1 ++ sentences b) ∙ ap ends_last (sym e) ∙ closed_last (then m b)
 
 -- ---- names
 
@@ -193,28 +193,28 @@ StepFits ts (Repeats v a b c) = (slice_get (kinds_in ts) v ≡ Some kinds.Int) �
 StepFits ts (Measures f) = f < length ts.features
 StepFits ts _ = Unit {0}
 
-abbrev pub PiecesFit : Tables → List Piece → Type 0
-PiecesFit ts [] = Unit {0}
-PiecesFit ts (p ∷ ps) = StepFits ts p.step × PiecesFit ts ps
+abbrev pub SentencesFit : Tables → List Sentence → Type 0
+SentencesFit ts [] = Unit {0}
+SentencesFit ts (p ∷ ps) = StepFits ts p.step × SentencesFit ts ps
 
-split_fit : (ts : Tables) (ps qs : List Piece) → PiecesFit ts (ps ++ qs) → PiecesFit ts ps × PiecesFit ts qs
+split_fit : (ts : Tables) (ps qs : List Sentence) → SentencesFit ts (ps ++ qs) → SentencesFit ts ps × SentencesFit ts qs
 split_fit ts [] qs h = (tt, h)
 split_fit ts (p ∷ ps) qs h = (let r = split_fit ts ps qs h.1 in ((h.0, r.0), r.1))
 
 mutual
-  node_fits : (ts : Tables) (n : Node) → PiecesFit ts (node_pieces n) → NodeFits ts n
+  node_fits : (ts : Tables) (n : Node) → SentencesFit ts (node_sentences n) → NodeFits ts n
   node_fits ts (simple line what) h = h.0
   node_fits ts (label line l) h = tt
   node_fits ts (jump line l) h = tt
-  node_fits ts (choice line test first close) h = (h.0, pieces_fit ts first (split_fit ts (pieces first) (piece close EndsTest ∷ []) h.1).0)
+  node_fits ts (choice line test first close) h = (h.0, sentences_fit ts first (split_fit ts (sentences first) (sentence close EndsTest ∷ []) h.1).0)
   node_fits ts (choice_else line test first mid second close) h =
-      let q = split_fit ts (pieces first) (piece mid Divides ∷ (pieces second ++ piece close EndsTest ∷ [])) h.1 in
-      (h.0, pieces_fit ts first q.0, pieces_fit ts second (split_fit ts (pieces second) (piece close EndsTest ∷ []) q.1.1).0)
+      let q = split_fit ts (sentences first) (sentence mid Divides ∷ (sentences second ++ sentence close EndsTest ∷ [])) h.1 in
+      (h.0, sentences_fit ts first q.0, sentences_fit ts second (split_fit ts (sentences second) (sentence close EndsTest ∷ []) q.1.1).0)
   node_fits ts (do_loop line v x y z body close) h =
-      (h.0.0, h.0.1, h.0.2, h.0.3, pieces_fit ts body (split_fit ts (pieces body) (piece close EndsRepeat ∷ []) h.1).0)
-  node_fits ts (meas line f body close) h = (h.0, pieces_fit ts body (split_fit ts (pieces body) (piece close EndsMeasure ∷ []) h.1).0)
+      (h.0.0, h.0.1, h.0.2, h.0.3, sentences_fit ts body (split_fit ts (sentences body) (sentence close EndsRepeat ∷ []) h.1).0)
+  node_fits ts (meas line f body close) h = (h.0, sentences_fit ts body (split_fit ts (sentences body) (sentence close EndsMeasure ∷ []) h.1).0)
   node_fits ts (ending line) h = tt
 
-  pub pieces_fit : (ts : Tables) (b : Block) → PiecesFit ts (pieces b) → BlockFits ts b
-  pieces_fit ts done h = tt
-  pieces_fit ts (then n b) h = (let q = split_fit ts (node_pieces n) (pieces b) h in (node_fits ts n q.0, pieces_fit ts b q.1))
+  pub sentences_fit : (ts : Tables) (b : Block) → SentencesFit ts (sentences b) → BlockFits ts b
+  sentences_fit ts done h = tt
+  sentences_fit ts (then n b) h = (let q = split_fit ts (node_sentences n) (sentences b) h in (node_fits ts n q.0, sentences_fit ts b q.1))

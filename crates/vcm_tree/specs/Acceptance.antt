@@ -2,7 +2,7 @@
 use Rattle.std.specs.Prelude.{ℕ, List}
 use Rattle.vcm_lines.specs.declared.fault.SourceFault.{SourceFault}
 use Rattle.vcm_lines.specs.declared.logical.Logical.{Logical}
-use Rattle.vcm_lines.specs.Statements.{lines_of, rows_of, grouped, AreLogical, Breaks, told_line}
+use Rattle.vcm_lines.specs.Statements.{lines_of, kept_lines, grouped, AreLogical, Breaks, told_line}
 use Rattle.vcm_spec.specs.Phase.{IsClean, FirstFault}
 use Rattle.vcm_syntax.specs.declared.statement.Statement.{Statement}
 use Rattle.vcm_tree.specs.Statements.{AreSpelled, BreaksStatements, statement_line}
@@ -15,7 +15,7 @@ use Rattle.vcm_tree.specs.Program.{Parsed, IsParsed}
 -- these are the statements of the text before they are read, and no rule of lines is broken
 pub record ReadsLines (text : List ℕ) (ls : List Logical) : Type 0 where
   pub clean : IsClean Breaks (lines_of text)
-  pub lines : AreLogical (grouped (rows_of (lines_of text))) ls
+  pub lines : AreLogical (grouped (kept_lines (lines_of text))) ls
 
 -- these are the statements, and no rule of statements is broken
 pub record ReadsStatements (ls : List Logical) (ss : List Statement) : Type 0 where

@@ -15,9 +15,9 @@ use Rattle.vcm_expr.specs.Source.{Source}
 use Rattle.vcm_expr.specs.Typing.{typed_for}
 use Rattle.vcm_syntax.specs.declared.statement.Rounds.{Rounds}
 use Rattle.vcm_syntax.specs.declared.statement.Target.{Target}
-use Rattle.vcm_syntax.specs.Figures.{then_ok}
-use Rattle.vcm_tree.specs.Pieces.{Step, Marks, Tests, Divides, EndsTest, Repeats, EndsRepeat, Ends}
+use Rattle.vcm_tree.specs.Sentences.{Step, Marks, Tests, Divides, EndsTest, Repeats, EndsRepeat, Ends}
 use Rattle.vcm_tree.specs.Variables.{target_of}
+use Rattle.vcm_spec.specs.Results.{◌>>=◌}
 
 -- a block that is open: the first one of an IF, the second one, the body of a DO, that of a MEAS of a feature
 pub data Opened : Type 0 where
@@ -59,7 +59,7 @@ room bs = room_by (nat_lt (length bs) 32)
 
 -- a statement that opens a block
 abbrev pub nested : List Opened → Result Step FaultCode → Result Step FaultCode
-nested bs r = then_ok (room bs) (λ _. r)
+nested bs r = room bs >>= λ _. r
 
 -- ELSE stands at the end of the first block of an IF
 abbrev pub divided : List Opened → Result Step FaultCode
@@ -84,7 +84,7 @@ ended _ = Err Unbalanced
 
 -- a test
 abbrev pub tested : List Variable → Source → Result Step FaultCode
-tested vs e = then_ok (typed_for vs wants.Bool e) (λ t. Ok (Tests t))
+tested vs e = typed_for vs wants.Bool e >>= λ t. Ok (Tests t)
 
 -- the index of a DO is the variable at this place of the table, if its kind is that of whole numbers
 abbrev pub index_to : ℕ → Option Kind → Result ℕ FaultCode
@@ -109,8 +109,10 @@ increment_of vs (Some e) = typed_for vs wants.Int e
 -- the index, the initial value, the limit and the increment, from the left
 abbrev pub repeated : List Variable → Rounds → Result Step FaultCode
 repeated vs r =
-    then_ok (indexed vs r.variable) (λ i. then_ok (typed_for vs wants.Int r.initial) (λ a. then_ok (typed_for vs wants.Int r.limit) (λ b.
-    then_ok (increment_of vs r.increment) (λ c. Ok (Repeats i a b c)))))
+    indexed vs r.variable >>= λ i.
+    typed_for vs wants.Int r.initial >>= λ a.
+    typed_for vs wants.Int r.limit >>= λ b.
+    increment_of vs r.increment >>= λ c. Ok (Repeats i a b c)
 
 -- a label of an expansion
 abbrev pub label_of : ℕ → List ℕ → Label

@@ -26,10 +26,11 @@ use Rattle.vcm_expr.specs.Typing.{typed_for}
 use Rattle.vcm_syntax.specs.declared.statement.Offset.{Offset}
 use Rattle.vcm_syntax.specs.declared.statement.Spot.{Spot}
 use Rattle.vcm_syntax.specs.declared.statement.Target.{Target}
-use Rattle.vcm_syntax.specs.Figures.{then_ok, or_fault}
-use Rattle.vcm_tree.specs.Pieces.{Step, Measures, EndsMeasure}
+use Rattle.vcm_syntax.specs.Figures.{or_fault}
+use Rattle.vcm_tree.specs.Sentences.{Step, Measures, EndsMeasure}
 use Rattle.vcm_tree.specs.Variables.{target_of}
 use Rattle.vcm_tree.specs.Blocks.{Opened, InMeasure}
+use Rattle.vcm_spec.specs.Results.{◌>>=◌}
 
 -- the index of a name, if it is there
 abbrev pub index_of : List (List ℕ) → List ℕ → Option ℕ
@@ -60,20 +61,21 @@ with_name names l = with_name_by names l (index_of names l)
 -- three lengths, from the left
 abbrev pub lengths : List Variable → Spot → Result (Tree × Tree × Tree) FaultCode
 lengths vs p =
-    then_ok (typed_for vs wants.Length p.x) (λ a. then_ok (typed_for vs wants.Length p.y)
-    (λ b. then_ok (typed_for vs wants.Length p.z) (λ c. Ok (a, b, c))))
+    typed_for vs wants.Length p.x >>= λ a.
+    typed_for vs wants.Length p.y >>= λ b.
+    typed_for vs wants.Length p.z >>= λ c. Ok (a, b, c)
 
 -- FEAT of the feature at this index
 abbrev pub declared_at : List Variable → Spot → Axis → ℕ → Result (Simple Tree) FaultCode
-declared_at vs p d i = then_ok (lengths vs p) (λ t. Ok (Feat i t.0 t.1 t.2 d))
+declared_at vs p d i = lengths vs p >>= λ t. Ok (Feat i t.0 t.1 t.2 d)
 
 -- FEAT
 abbrev pub declared : List (List ℕ) → List Variable → List ℕ → Spot → Axis → Result (Simple Tree) FaultCode
-declared fs vs l p d = then_ok (entered fs l) (declared_at vs p d)
+declared fs vs l p d = entered fs l >>= declared_at vs p d
 
 -- MEAS of a feature that is declared above
 abbrev pub opened_measure : List (List ℕ) → List ℕ → Result Step FaultCode
-opened_measure fs l = then_ok (known fs l) (λ i. Ok (Measures i))
+opened_measure fs l = known fs l >>= λ i. Ok (Measures i)
 
 -- the feature of the innermost block, if it is that of a MEAS
 abbrev pub measuring : List Opened → Option ℕ
@@ -91,7 +93,7 @@ touched_in bs t = touched_by (measuring bs) t
 
 -- PTMEAS
 abbrev pub touched : List Opened → Bool → List Variable → Spot → Option Axis → Result (Simple Tree) FaultCode
-touched bs t vs p given = then_ok (touched_in bs t) (λ i. then_ok (lengths vs p) (λ t. Ok (PtMeas i t.0 t.1 t.2 given)))
+touched bs t vs p given = touched_in bs t >>= λ i. lengths vs p >>= λ t. Ok (PtMeas i t.0 t.1 t.2 given)
 
 -- ENDMES stands at the end of a MEAS block, which has a PTMEAS
 abbrev pub measure_ended : List Opened → Bool → Result Step FaultCode
@@ -101,7 +103,7 @@ measure_ended _ _ = Err Unbalanced
 
 -- SNSET
 abbrev pub configured : List Variable → Setting → Source → Result (Simple Tree) FaultCode
-configured vs which e = then_ok (typed_for vs wants.Length e) (λ t. Ok (SnSet which t))
+configured vs which e = typed_for vs wants.Length e >>= λ t. Ok (SnSet which t)
 
 -- three shifts, along x, y and z
 pub record Shifts : Type 0 where
@@ -122,19 +124,19 @@ with_shift s axes.Z t = record s { z = t }
 -- the shifts with those of TRANS, in the order in which they are written
 abbrev pub shifts_of : List Variable → Shifts → List Offset → Result Shifts FaultCode
 shifts_of vs s [] = Ok s
-shifts_of vs s (o ∷ os) = then_ok (typed_for vs wants.Length o.length) (λ t. shifts_of vs (with_shift s o.axis t) os)
+shifts_of vs s (o ∷ os) = typed_for vs wants.Length o.length >>= λ t. shifts_of vs (with_shift s o.axis t) os
 
 -- TRANS
 abbrev pub shifted : List (List ℕ) → List Variable → List ℕ → List Offset → Result (Simple Tree) FaultCode
-shifted ds vs l os = then_ok (entered ds l) (λ i. then_ok (shifts_of vs no_shifts os) (λ s. Ok (Trans i s.x s.y s.z)))
+shifted ds vs l os = entered ds l >>= λ i. shifts_of vs no_shifts os >>= λ s. Ok (Trans i s.x s.y s.z)
 
 -- ROTATE
 abbrev pub rotated : List (List ℕ) → List ℕ → FrameAxis → Quarters → Result (Simple Tree) FaultCode
-rotated ds l axis n = then_ok (entered ds l) (λ i. Ok (Rotate i (axis_number axis) (quarters_number n)))
+rotated ds l axis n = entered ds l >>= λ i. Ok (Rotate i (axis_number axis) (quarters_number n))
 
 -- RECALL
 abbrev pub recalled : List (List ℕ) → List ℕ → Result (Simple Tree) FaultCode
-recalled ds l = then_ok (known ds l) (λ i. Ok (Recall i))
+recalled ds l = known ds l >>= λ i. Ok (Recall i)
 
 -- the variable of an OBTAIN is the one at this place of the table, if it is a REAL
 abbrev pub real_to : ℕ → Option Kind → Result ℕ FaultCode
@@ -154,8 +156,8 @@ real_named vs t = real_by vs (target_of vs t)
 -- OBTAIN
 abbrev pub obtained : List (List ℕ) → List Variable → Target → Side → List ℕ → FeatureWord → Result (Simple Tree) FaultCode
 obtained fs vs t side l word =
-    then_ok (real_named vs t) (λ v. then_ok (known fs l) (λ i. Ok (Obtain v side i (word_number word))))
+    real_named vs t >>= λ v. known fs l >>= λ i. Ok (Obtain v side i (word_number word))
 
 -- OUTPUT
 abbrev pub reported : List (List ℕ) → Side → List ℕ → Result (Simple Tree) FaultCode
-reported fs side l = then_ok (known fs l) (λ i. Ok (Output side i))
+reported fs side l = known fs l >>= λ i. Ok (Output side i)

@@ -1,6 +1,6 @@
 pub mod Statements
 pub mod Ended
-pub mod Pieces
+pub mod Sentences
 pub mod Variables
 pub mod Blocks
 pub mod Features

@@ -12,9 +12,9 @@ use Rattle.vcm_syntax.specs.declared.statement.Form.TheVariants.{Ignored}
 use Rattle.vcm_syntax.specs.declared.statement.Statement.{Statement}
 use Rattle.vcm_macro.specs.declared.placed.Placed.{Placed}
 use Rattle.vcm_tree.specs.declared.program.Noticed.{Noticed}
-use Rattle.vcm_tree.specs.Pieces.{pieces}
+use Rattle.vcm_tree.specs.Sentences.{sentences}
 use Rattle.vcm_tree.specs.Blocks.{Behind}
-use Rattle.vcm_tree.specs.Resolving.{start, behind_all, pieces_from}
+use Rattle.vcm_tree.specs.Resolving.{start, behind_all, sentences_from}
 use Rattle.vcm_tree.specs.Jumps.{is_among, labels_of, jumps_of, BreaksJumps}
 
 -- the tables of the names that statements leave behind them: variables in the order of their declarations, features in that of their first
@@ -39,7 +39,7 @@ pub record Parsed : Type 0 where
 -- the expanded statements are this program: written down it is their counted ones, its tables are those of their names, and its notices
 -- those of the statements as they are written
 pub record IsParsed (ss : List Statement) (all : List Placed) (p : Parsed) : Type 0 where
-  pub program : pieces p.program ≡ pieces_from start all
+  pub program : sentences p.program ≡ sentences_from start all
   pub tables : p.tables ≡ tables_of (behind_all start all)
   pub notices : p.notices ≡ notices_of ss
 

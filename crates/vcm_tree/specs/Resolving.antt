@@ -11,14 +11,15 @@ use Rattle.vcm_syntax.specs.declared.statement.Form.TheVariants.{Declaration, As
 use Rattle.vcm_syntax.specs.declared.statement.Form.TheVariants.{RepeatEnd, Mark, Leap, Feature, Measure, Touch, MeasureEnd, Configure}
 use Rattle.vcm_syntax.specs.declared.statement.Form.TheVariants.{Shift, Rotation, Restore, Query, Report, Ending}
 use Rattle.vcm_macro.specs.declared.placed.Placed.{Placed}
-pub use Rattle.vcm_syntax.specs.Figures.{then_ok, or_fault}
-use Rattle.vcm_tree.specs.Pieces.{Step, Piece, piece, Does, Marks, Leaps, Tests, Divides, EndsTest, Repeats, EndsRepeat, Measures}
-use Rattle.vcm_tree.specs.Pieces.{EndsMeasure}
+pub use Rattle.vcm_syntax.specs.Figures.{or_fault}
+use Rattle.vcm_tree.specs.Sentences.{Step, Sentence, sentence, Does, Marks, Leaps, Tests, Divides, EndsTest, Repeats, EndsRepeat, Measures}
+use Rattle.vcm_tree.specs.Sentences.{EndsMeasure}
 use Rattle.vcm_tree.specs.Variables.{with_all, assigned, moved}
 use Rattle.vcm_tree.specs.Blocks.{Opened, InFirst, InSecond, InBody, InMeasure, Measured, measured, Behind, behind, nested, divided}
 use Rattle.vcm_tree.specs.Blocks.{test_ended, repeat_ended, ended, tested, repeated, label_of, marked}
 use Rattle.vcm_tree.specs.Features.{with_name, declared, opened_measure, measuring, touched, measure_ended, configured, shifted, rotated}
 use Rattle.vcm_tree.specs.Features.{recalled, obtained, reported}
+use Rattle.vcm_spec.specs.Results.{◌>>=◌}
 
 -- what a statement does to a program: nothing, new variables in its table, a counted statement
 pub data Meaning : Type 0 where
@@ -28,11 +29,11 @@ pub data Meaning : Type 0 where
 
 -- a counted statement
 abbrev pub counts : Result Step FaultCode → Result Meaning FaultCode
-counts r = then_ok r (λ s. Ok (Counts s))
+counts r = r >>= λ s. Ok (Counts s)
 
 -- a simple statement
 abbrev pub does : Result (Simple Tree) FaultCode → Result Step FaultCode
-does r = then_ok r (λ s. Ok (Does s))
+does r = r >>= λ s. Ok (Does s)
 
 -- a simple statement behind others where it may stand there, or the code of the leftmost rule that it breaks; nothing for any other
 abbrev pub acted : Behind → Form → Option (Result (Simple Tree) FaultCode)
@@ -52,7 +53,7 @@ acted b _ = None
 
 -- the meaning of a statement of an expansion that isn't simple
 abbrev pub structured : Behind → ℕ → Form → Result Meaning FaultCode
-structured b e (Declaration kind names) = then_ok (with_all b.variables e kind names) (λ ws. Ok (Declares ws))
+structured b e (Declaration kind names) = with_all b.variables e kind names >>= λ ws. Ok (Declares ws)
 structured b e (Test condition) = counts (nested b.blocks (tested b.variables condition))
 structured b e Otherwise = counts (divided b.blocks)
 structured b e TestEnd = counts (test_ended b.blocks)
@@ -159,14 +160,14 @@ abbrev pub start : Behind
 start = behind [] [] [] (measured [] [] false)
 
 -- the counted statement of a meaning, if there is one
-abbrev pub pieces_by : ℕ → Result Meaning FaultCode → List Piece
-pieces_by line (Ok (Counts s)) = piece line s ∷ []
-pieces_by line _ = []
+abbrev pub sentences_by : ℕ → Result Meaning FaultCode → List Sentence
+sentences_by line (Ok (Counts s)) = sentence line s ∷ []
+sentences_by line _ = []
 
 -- the counted statements, in writing
-abbrev pub pieces_from : Behind → List Placed → List Piece
-pieces_from b [] = []
-pieces_from b (p ∷ ps) = pieces_by p.statement.line (resolved_here b p) ++ pieces_from (behind_one b p) ps
+abbrev pub sentences_from : Behind → List Placed → List Sentence
+sentences_from b [] = []
+sentences_from b (p ∷ ps) = sentences_by p.statement.line (resolved_here b p) ++ sentences_from (behind_one b p) ps
 
 -- the phase of names and blocks: a statement that has no meaning behind those above it, and nothing at the end
 abbrev pub BreaksNames : List Placed → Option Placed → FaultCode → Type 0

@@ -15,7 +15,7 @@ use Rattle.vcm_expr.specs.Names.{is_named, variable_of}
 use Rattle.vcm_expr.specs.Source.{Source}
 use Rattle.vcm_expr.specs.Typing.{typed_for}
 use Rattle.vcm_syntax.specs.declared.statement.Target.{Target}
-use Rattle.vcm_syntax.specs.Figures.{then_ok}
+use Rattle.vcm_spec.specs.Results.{◌>>=◌}
 
 -- whether a variable of this very expansion has this name
 abbrev pub is_declared : List Variable → ℕ → List ℕ → Bool
@@ -31,7 +31,7 @@ with_one vs e kind name =
 -- the table with all variables of a declaration
 abbrev pub with_all : List Variable → ℕ → Kind → List (List ℕ) → Result (List Variable) FaultCode
 with_all vs e kind [] = Ok vs
-with_all vs e kind (name ∷ names) = then_ok (with_one vs e kind name) (λ ws. with_all ws e kind names)
+with_all vs e kind (name ∷ names) = with_one vs e kind name >>= λ ws. with_all ws e kind names
 
 -- ---- simple statements
 
@@ -44,7 +44,7 @@ want_of kinds.Bool = wants.Bool
 -- an assignment to the variable at this index, which has this kind if there is one
 abbrev pub assigned_to : List Variable → Source → ℕ → Option Kind → Result (Simple Tree) FaultCode
 assigned_to vs value i None = Err UnknownName
-assigned_to vs value i (Some kind) = then_ok (typed_for vs (want_of kind) value) (λ t. Ok (Assign i t))
+assigned_to vs value i (Some kind) = typed_for vs (want_of kind) value >>= λ t. Ok (Assign i t)
 
 -- an assignment to the variable at this index, if there is one
 abbrev pub assigned_by : List Variable → Source → Option ℕ → Result (Simple Tree) FaultCode
@@ -62,5 +62,6 @@ assigned vs t value = assigned_by vs value (target_of vs t)
 -- a move: its three lengths from the left
 abbrev pub moved : List Variable → (x y z : Source) → Result (Simple Tree) FaultCode
 moved vs x y z =
-    then_ok (typed_for vs wants.Length x) (λ a. then_ok (typed_for vs wants.Length y)
-    (λ b. then_ok (typed_for vs wants.Length z) (λ c. Ok (Goto a b c))))
+    typed_for vs wants.Length x >>= λ a.
+    typed_for vs wants.Length y >>= λ b.
+    typed_for vs wants.Length z >>= λ c. Ok (Goto a b c)

@@ -10,7 +10,7 @@ use std::marker::Model;
 use vcm_expr::{Name, Typed};
 use vcm_num::Axis;
 use vcm_spec::{FeatureWord, FrameAxis, Quarters, Setting, Source};
-use vcm_syntax::Message;
+use vcm_syntax::OperatorText;
 
 /// A simple statement: its expressions are typed, and variables, features and frames go by their indexes. Lengths are in micrometres.
 #[derive(Drop)]
@@ -38,7 +38,7 @@ pub enum Action {
     /// `OUTPUT`: the feature that is told.
     Output(Source, u16),
     /// `TEXT`: an output line.
-    Text(Message),
+    Text(OperatorText),
 }
 
 /// A jump label: its name, and the number of the macro expansion that it belongs to, 0 outside macros. Contracts see it as that of the

@@ -49,7 +49,7 @@ impl Model for Listing {
 
 /// A program whose jumps are not judged yet, its jump labels, its names, and its notices.
 #[derive(Drop)]
-pub(crate) struct Draft {
+pub(crate) struct DraftProgram {
     pub(crate) tree: Block,
     pub(crate) labels: Labels,
     pub(crate) names: Listing,
@@ -83,7 +83,7 @@ pub(crate) fn drafted(
     alloc: Global,
     written: &[Statement],
     all: &[Placed<'_>],
-) -> Result<Draft, SourceFault>
+) -> Result<DraftProgram, SourceFault>
     requires ended { IsTrue (is_ended all.now) }
     ensures clean { IfOk result (λ _. IsClean BreaksNames all.now) }
     ensures program { IfOk result (λ d. IsParsed written.now all.now (record { program = d.tree; tables = d.names; notices = d.notices.items })) }
@@ -111,7 +111,7 @@ pub(crate) fn drafted(
     let labels = read.labels;
     let builder = read.builder;
     let tree = builder.block;
-    Ok(Draft {
+    Ok(DraftProgram {
         tree,
         labels,
         names,

@@ -3,7 +3,7 @@
 ghost use Rattle.std.specs.Prelude.{◌≡◌, ◌∷◌, ◌++◌, [], Ok, Err, OnOk, IfOk, IfErr, MatchResult};
 ghost use Rattle.vcm_lines.specs.Fault.{NoMemoryOr};
 ghost use Rattle.vcm_tree.specs.Nodes.{action_of};
-ghost use Rattle.vcm_tree.specs.Pieces.{piece, Marks};
+ghost use Rattle.vcm_tree.specs.Sentences.{sentence, Marks};
 ghost use Rattle.vcm_tree.specs.Variables.{is_declared, with_one, with_all, want_of, assigned, moved};
 ghost use Rattle.vcm_tree.specs.Blocks.{indexed, increment_of, repeated, nested, tested, marked};
 ghost use Rattle.vcm_tree.specs.inner.Telling.{ToldAt};
@@ -214,7 +214,7 @@ pub(crate) fn mark(
 ) -> Result<(), SourceFault>
     ensures new { OnOk result (marked labels.old label ≡ Ok (Marks label)) }
     ensures labels { OnOk result (labels.new ≡ labels.old ++ label ∷ []) }
-    ensures pieces { OnOk result (written builder.new ≡ written builder.old ++ piece line (Marks label) ∷ []) }
+    ensures sentences { OnOk result (written builder.new ≡ written builder.old ++ sentence line (Marks label) ∷ []) }
     ensures around { OnOk result (blocks_of builder.new.opens.items ≡ blocks_of builder.old.opens.items) }
     ensures fault { IfErr result (NoMemoryOr (ToldAt line (marked labels.old label))) }
 {

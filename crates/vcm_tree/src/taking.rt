@@ -19,7 +19,7 @@ use crate::titles::Titles;
 use std::alloc::{AllocError, Global};
 use vcm_expr::Names;
 use vcm_lines::SourceFault;
-use vcm_syntax::{Form, Message, Statement};
+use vcm_syntax::{Form, OperatorText, Statement};
 
 /// What is read of a program: its variables, its features and frames, its jump labels, its blocks, and whether the `MEAS` block that is open
 /// has its `PTMEAS`.
@@ -81,11 +81,11 @@ fn take_stated(
     }
 }
 
-// A message that is shown.
-fn say(alloc: Global, text: &Message) -> Result<Action, AllocError>
+// A text that is shown.
+fn say(alloc: Global, text: &OperatorText) -> Result<Action, AllocError>
     ensures { IfOk result (λ a. action_of a ≡ Text text.now) }
 {
-    let text = Message::copied(alloc, text.as_bytes())?;
+    let text = OperatorText::copied(alloc, text.as_bytes())?;
     Ok(Action::Text(text))
 }
 

@@ -15,11 +15,12 @@ use Rattle.vcm_fields.specs.Fitting.{within, FitsOperand, FitsItem, FitsExpressi
 use Rattle.vcm_words.specs.inner.Marks.{Without, IsWord}
 use Rattle.vcm_words.specs.Numbers.{natural, number, signed, counted}
 use Rattle.vcm_num.specs.Words.{look_up}
-use Rattle.vcm_words.specs.WordReaders.{◌>>=◌, marked, mapped, ending}
+use Rattle.vcm_words.specs.WordReaders.{◌>>=◌, marked, ending}
 use Rattle.vcm_words.specs.Items.{truth_text, operand_text, item_text, closed_words, opened, expression, operator_rows, truth_of, operand_in, item_in, last_or_more, items_at, opening, unopened, bracketed_at, expression_at}
 use Rattle.vcm_words.proofs.Inverse.{Means, Reads, bind_some, some_is, reads_tested, all_append}
 use Rattle.vcm_words.proofs.NumberLaws.{natural_again, whole_again, means_number, means_signed, decimal_word, decimal_without_high, signed_without_high}
-use Rattle.vcm_words.proofs.WordLaws.{or_else_takes, mapped_takes, marked_takes, means_marked, named_takes, ending_none, ending_some, ending_takes}
+use Rattle.vcm_words.proofs.WordLaws.{or_else_takes, option_map_takes, marked_takes, means_marked, named_takes, ending_none, ending_some, ending_takes}
+use Rattle.std.specs.Option.{option_map}
 
 -- ---- leaves
 
@@ -45,21 +46,21 @@ Leaf w x = (w ≡ operand_text x) × FitsOperand x
 
 operand_takes : (w : List ℕ) (x : Operand) → operand_in true w ≡ Some x → Leaf w x
 unfolding operand_in Leaf
-operand_takes w x e = elim (or_else_takes (mapped Integer (marked 73 (signed true) w)) _ x e) [
+operand_takes w x e = elim (or_else_takes (option_map Integer (marked 73 (signed true) w)) _ x e) [
   | inl f ↦
-      let p = mapped_takes Integer (marked 73 (signed true) w) x f in
+      let p = option_map_takes Integer (marked 73 (signed true) w) x f in
       subst (Leaf w) p.2 (integers.takes w p.0 p.1)
-  | inr f ↦ elim (or_else_takes (mapped Thousandths (marked 82 (signed true) w)) _ x f) [
+  | inr f ↦ elim (or_else_takes (option_map Thousandths (marked 82 (signed true) w)) _ x f) [
     | inl g ↦
-        let p = mapped_takes Thousandths (marked 82 (signed true) w) x g in
+        let p = option_map_takes Thousandths (marked 82 (signed true) w) x g in
         subst (Leaf w) p.2 (thousandths.takes w p.0 p.1)
-    | inr g ↦ elim (or_else_takes (mapped (λ n. Truth (truth_of n)) (marked 66 (number true 2) w)) _ x g) [
+    | inr g ↦ elim (or_else_takes (option_map (λ n. Truth (truth_of n)) (marked 66 (number true 2) w)) _ x g) [
       | inl h ↦
-          let p = mapped_takes (λ n. Truth (truth_of n)) (marked 66 (number true 2) w) x h in
+          let p = option_map_takes (λ n. Truth (truth_of n)) (marked 66 (number true 2) w) x h in
           let t = truths.takes w p.0 p.1 in
           subst (Leaf w) p.2 (t.0 ∙ truth_spelled p.0 t.1, tt)
       | inr h ↦
-          let p = mapped_takes Variable (marked 86 (number true (2 ^ 16)) w) x h in
+          let p = option_map_takes Variable (marked 86 (number true (2 ^ 16)) w) x h in
           subst (Leaf w) p.2 (variables.takes w p.0 p.1)
     ]
   ]
@@ -83,7 +84,7 @@ unfolding item_in Leaf
 item_takes w i e = elim (or_else_takes (look_up operator_rows w) _ i e) [
   | inl f ↦ named_takes item_text FitsItem operator_rows w i operators_named f
   | inr f ↦
-      let p = mapped_takes Push (operand_in true w) i f in
+      let p = option_map_takes Push (operand_in true w) i f in
       subst (λ (j : Item). (w ≡ item_text j) × FitsItem j) p.2 (operand_takes w p.0 p.1)
 ]
 

@@ -7,7 +7,7 @@ use Rattle.std.specs.Char.{is_ascii_digit}
 use Rattle.std.specs.List.{list_all}
 use Rattle.std.proofs.lemmas.List.{at_drop_more}
 use Rattle.vcm_num.proofs.Reading.{AllDigits-test, number_after-le}
-use Rattle.std.proofs.lemmas.Bool.{ltb-true, eqb-true}
+use Rattle.std.proofs.lemmas.Bool.{ltb-true, eqb-true, and_parts}
 use Rattle.std.proofs.lemmas.Slice.Eq.{bytes_eq-Decides}
 use Rattle.std.proofs.lemmas.Str.Parse.{IsNumeralModel, numerals_by_fold}
 use Rattle.std.proofs.lemmas.Fmt.{digits_decimal, digits_value-decimal, decimal_nonempty}
@@ -19,11 +19,6 @@ use Rattle.vcm_words.proofs.Inverse.{Means, only_met}
 own : IsNumeralModel AllDigits (number_after 0)
 own = numerals_by_fold AllDigits (search rules) number_after (search rules)
 
-pub both_true : (a b : Bool) → (a && b) ≡ true → (a ≡ true) × (b ≡ true)
-both_true true true e = (refl, refl)
-both_true true false e = absurd cc
-both_true false b e = absurd cc
-
 pub lt_true : (m n : ℕ) → m < n → nat_lt m n ≡ true
 lt_true m n h = grind arith
 
@@ -31,7 +26,7 @@ pub natural_takes : (limit : ℕ) (w : List ℕ) (n : ℕ) → natural limit w �
 unfolding natural
 natural_takes limit w n e =
     let m = only_met (nat_lt (number_after 0 w) limit && bytes_eq (decimal (number_after 0 w)) w) (number_after 0 w) n e in
-    let t = both_true _ _ m.0 in
+    let t = and_parts _ _ m.0 in
     let same : decimal (number_after 0 w) ≡ w = (bytes_eq-Decides _ _).0 t.1 in
     (sym same ∙ ap decimal m.1, subst (λ k. k < limit) m.1 (ltb-true _ _ t.0))
 

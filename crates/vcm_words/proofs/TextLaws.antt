@@ -10,15 +10,15 @@ use Rattle.vcm_words.specs.WordReaders.{◌>>=◌, marked, ending}
 use Rattle.vcm_words.specs.Operands.{text, quoted_in, text_at}
 use Rattle.vcm_words.proofs.Cuts.{split_some, joined-split, split-joined, split_without, split_keeps}
 use Rattle.vcm_words.proofs.Inverse.{Ends, Bare, bind_some, some_is, only_met}
-use Rattle.vcm_words.proofs.NumberLaws.{both_true}
 use Rattle.vcm_words.proofs.WordLaws.{marked_takes, ending_takes, ending_some}
+use Rattle.std.proofs.lemmas.Bool.{and_parts}
 
 text_byte_plain : (b : ℕ) → is_text_byte b ≡ true → (b == 10) ≡ false
 text_byte_plain b h = grind arith
 
 text_plain : (bs : List ℕ) → list_all is_text_byte bs ≡ true → Without 10 (bs ++ 39 ∷ [])
 text_plain [] h = (refl, tt)
-text_plain (b ∷ bs) h = let t = both_true (is_text_byte b) (list_all is_text_byte bs) h in (text_byte_plain b t.0, text_plain bs t.1)
+text_plain (b ∷ bs) h = let t = and_parts (is_text_byte b) (list_all is_text_byte bs) h in (text_byte_plain b t.0, text_plain bs t.1)
 
 all_both : {X : Type 0} (P Q : X → Type 0) (xs : List X) → AllByRecursion P xs → AllByRecursion Q xs → AllByRecursion (λ x. P x × Q x) xs
 all_both P Q [] h g = tt
@@ -54,7 +54,7 @@ text_again bs h =
     ap (text_at true) (append-nil (text bs)) ∙ text_from true (text bs) (39 ∷ bs ++ 39 ∷ []) some (joined-split 32 (39 ∷ bs ++ 39 ∷ [])) ∙ rw (quoted_again bs h) refl
 
 text_words : (bs : List ℕ) → IsText bs → AllByRecursion IsWord (text bs)
-text_words bs h = all_both (Without 32) (Without 10) (text bs) (split_without 32 (39 ∷ bs ++ 39 ∷ [])) (split_keeps 10 32 (39 ∷ bs ++ 39 ∷ []) (refl, text_plain bs (both_true (nat_le (length bs) 1024) (list_all is_text_byte bs) h).1))
+text_words bs h = all_both (Without 32) (Without 10) (text bs) (split_without 32 (39 ∷ bs ++ 39 ∷ [])) (split_keeps 10 32 (39 ∷ bs ++ 39 ∷ []) (refl, text_plain bs (and_parts (nat_le (length bs) 1024) (list_all is_text_byte bs) h).1))
 
 pub ends_text : Ends (text_at true) text IsText
 ends_text = record { takes = text_takes; again = text_again; words = text_words }

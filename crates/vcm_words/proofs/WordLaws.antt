@@ -6,16 +6,17 @@ use Rattle.std.proofs.lemmas.Bool.{eqb-true}
 use Rattle.std.proofs.lemmas.Slice.Eq.{bytes_eq-Decides}
 use Rattle.vcm_words.specs.inner.Marks.{Without, IsWord}
 use Rattle.vcm_num.specs.Words.{look_up}
-use Rattle.vcm_words.specs.WordReaders.{marked, mapped, or_else, in_front, ending}
+use Rattle.vcm_words.specs.WordReaders.{marked, or_else, in_front, ending}
 use Rattle.vcm_words.proofs.Inverse.{Means, some_is}
+use Rattle.std.specs.Option.{option_map}
 
 pub or_else_takes : {A : Type 0} (o p : Option A) (x : A) → or_else o p ≡ Some x → (o ≡ Some x) ⊎ (p ≡ Some x)
 or_else_takes (Some y) p x e = inl e
 or_else_takes None p x e = inr e
 
-pub mapped_takes : {A B : Type 0} (f : A → B) (o : Option A) (y : B) → mapped f o ≡ Some y → (x : A) × (o ≡ Some x) × (f x ≡ y)
-mapped_takes f None y e = absurd cc
-mapped_takes f (Some x) y e = (x, refl, some_is _ _ e)
+pub option_map_takes : {A B : Type 0} (f : A → B) (o : Option A) (y : B) → option_map f o ≡ Some y → (x : A) × (o ≡ Some x) × (f x ≡ y)
+option_map_takes f None y e = absurd cc
+option_map_takes f (Some x) y e = (x, refl, some_is _ _ e)
 
 pub marked_takes : {A : Type 0} (mark : ℕ) (f : List ℕ → Option A) (w : List ℕ) (x : A) → marked mark f w ≡ Some x → (bs : List ℕ) × (w ≡ mark ∷ bs) × (f bs ≡ Some x)
 marked_takes mark f [] x e = absurd cc

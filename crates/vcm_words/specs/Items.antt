@@ -13,7 +13,8 @@ use Rattle.vcm_spec.specs.declared.expression.Item.TheVariants.{Push, Apply, Com
 use Rattle.vcm_fields.specs.Fitting.{within}
 use Rattle.vcm_words.specs.Numbers.{number, signed, counted}
 use Rattle.vcm_num.specs.Words.{look_up}
-use Rattle.vcm_words.specs.WordReaders.{◌>>=◌, Reader, marked, or_else, mapped, tested, ending}
+use Rattle.vcm_words.specs.WordReaders.{◌>>=◌, Reader, marked, or_else, tested, ending}
+use Rattle.std.specs.Option.{option_map}
 
 -- ---- writing
 
@@ -100,14 +101,14 @@ truth_of n = n == 1
 -- the leaf that a word is, by its first letter
 unfoldable pub operand_in : Bool → List ℕ → Option Operand
 operand_in exact w =
-    or_else (mapped Integer (marked 73 (signed exact) w))
-    (or_else (mapped Thousandths (marked 82 (signed exact) w))
-    (or_else (mapped (λ n. Truth (truth_of n)) (marked 66 (number exact 2) w))
-    (mapped Variable (marked 86 (number exact (2 ^ 16)) w))))
+    or_else (option_map Integer (marked 73 (signed exact) w))
+    (or_else (option_map Thousandths (marked 82 (signed exact) w))
+    (or_else (option_map (λ n. Truth (truth_of n)) (marked 66 (number exact 2) w))
+    (option_map Variable (marked 86 (number exact (2 ^ 16)) w))))
 
 -- the item that a word is
 unfoldable pub item_in : Bool → List ℕ → Option Item
-item_in exact w = or_else (look_up operator_rows w) (mapped Push (operand_in exact w))
+item_in exact w = or_else (look_up operator_rows w) (option_map Push (operand_in exact w))
 
 -- the last item of an expression, or one with more behind it
 abbrev pub last_or_more : Bool → List ℕ → List (List ℕ) → Option (List ℕ) → Option (List Item × List (List ℕ))

@@ -55,11 +55,6 @@ abbrev pub or_else : {A : Type 0} → Option A → Option A → Option A
 or_else (Some x) o = Some x
 or_else None o = o
 
--- the value that a function gives, if there is one
-abbrev pub mapped : {A B : Type 0} → (A → B) → Option A → Option B
-mapped f None = None
-mapped f (Some x) = Some (f x)
-
 -- one more byte in front of what stands before the mark
 abbrev pub in_front : ℕ → Option (List ℕ) → Option (List ℕ)
 in_front b None = None

@@ -3,11 +3,11 @@ use Rattle.std.specs.Prelude.{◌≡◌, ℕ, ◌<◌, ◌≤◌, ℤ, Bool, Lis
 use Rattle.std.specs.List.{list_any}
 use Rattle.vcm_spec.specs.Workpiece.{Workpiece}
 use Rattle.vcm_code.specs.declared.code.Code.{Code}
-use Rattle.vcm_image.specs.Whole.{Fits}
+use Rattle.vcm_image.specs.Whole.{FitsImage}
 use Rattle.vcm_machine.specs.Running.{Running, started, later, WantsMemory}
 use Rattle.vcm_console.specs.declared.reply.Reason.{Reason}
 use Rattle.vcm_debug.specs.Debugging.{after}
-use Rattle.vcm_debug.specs.Halting.{reason_after, halt, run_end, effective}
+use Rattle.vcm_debug.specs.Halting.{reason_after, ends_after, run_end, effective}
 
 -- the machine has come to the count, there is a flag for each statement, and a flag and room for a value for each variable; and the code is
 -- that of an image
@@ -17,7 +17,7 @@ pub record IsSession (part : Workpiece) (code : Code) (machine : Running) (count
   pub statements : length breakpoints ≡ length code.statements
   pub variables : length watches ≡ length code.tables.variables
   pub room : length before ≡ length code.tables.variables
-  pub fits : Fits code
+  pub fits : FitsImage code
 
 -- the machine of the same workpiece and code, n steps after the start
 abbrev pub begun : Running → ℕ → Running
@@ -37,7 +37,7 @@ pub record IsHaltedRun (breakpoints watches : List Bool) (k : ℕ) (old new : Ru
 -- a run of at most k steps has come to its end, or was refused memory
 abbrev pub HasRun : List Bool → List Bool → ℕ → Running → Running → Result (ℕ × Reason) ℕ → Type 0
 HasRun breakpoints watches k old new (Ok ended) =
-    (new ≡ later ended.0 old) × (halt ended.0 ended.1 ≡ run_end breakpoints watches k 0 old) × (ended.0 ≤ k)
+    (new ≡ later ended.0 old) × (ends_after ended.0 ended.1 ≡ run_end breakpoints watches k 0 old) × (ended.0 ≤ k)
 HasRun breakpoints watches k old new (Err done) = IsHaltedRun breakpoints watches k old new done
 
 -- k steps were taken, or fewer, to the one that stopped; or memory was refused after `done` steps, of which none stops

@@ -4,12 +4,12 @@ use Rattle.std.specs.Io.KnownBytes.{Appends}
 use Rattle.vcm_num.specs.declared.memory.WriteFault.{WriteFault}
 use Rattle.vcm_console.specs.declared.reply.ServeFault.{ServeFault}
 use Rattle.vcm_debug.specs.Debugging.{Debugging}
-use Rattle.vcm_debug.specs.Serving.{IsTurn, MayEnd, WritesSome, Writes}
+use Rattle.vcm_debug.specs.Serving.{IsExchange, MayEnd, WritesSome, Writes}
 
 -- what answering a line did
 abbrev pub HasTurned : Debugging → List ℕ → Debugging → Option (List ℕ) → Option (List ℕ) → Result Bool WriteFault → Type 0
-HasTurned old line new before after (Ok last) = (text : List ℕ) × IsTurn old line new text last × Appends before after text
-HasTurned old line new before after (Err e) = (text : List ℕ) × (last : Bool) × IsTurn old line new text last × WritesSome before after text
+HasTurned old line new before after (Ok last) = (text : List ℕ) × IsExchange old line new text last × Appends before after text
+HasTurned old line new before after (Err e) = (text : List ℕ) × (last : Bool) × IsExchange old line new text last × WritesSome before after text
 
 -- the last reply was written, or a front of it
 abbrev pub IsBye : Result (Unit {0}) ServeFault → Option (List ℕ) → Option (List ℕ) → Type 0

@@ -12,13 +12,13 @@ use Rattle.vcm_expr.specs.declared.levels.Front.{Front}
 use Rattle.vcm_expr.specs.declared.levels.Front.TheVariants.{Negation, Sign}
 use Rattle.vcm_expr.specs.declared.expression.Size.{Size}
 use Rattle.vcm_expr.specs.Source.{Source, is_small, IsSize}
-use Rattle.vcm_expr.specs.inner.Parser.{Taken, Parser, and_then, phrase, closed, primary_by, sign_of, negation_of}
+use Rattle.vcm_expr.specs.inner.Parser.{Taken, Parser, and_parse, phrase, closed, primary_by, sign_of, negation_of}
 use Rattle.vcm_expr.specs.inner.Parser.{product_op, sum_op, and_op, or_op, signed_by, product_by, sum_by}
 use Rattle.vcm_expr.specs.inner.Parser.{relation_by, negation_by, conjunction_by, disjunction_by, expression}
 
 -- what follows an opening parenthesis
 abbrev pub group_in : ℕ → Parser
-group_in room ts = and_then (expression is_small room ts) closed
+group_in room ts = and_parse (expression is_small room ts) closed
 
 -- a leaf or a group, where so many pairs of parentheses may be opened
 abbrev pub primary_in : ℕ → Parser

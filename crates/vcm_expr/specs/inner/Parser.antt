@@ -22,9 +22,9 @@ abbrev pub Parser : Type 0
 Parser = List Symbol → Result Taken FaultCode
 
 -- what comes after an expression, or its fault
-abbrev pub and_then : Result Taken FaultCode → (Source → List Symbol → Result Taken FaultCode) → Result Taken FaultCode
-and_then (Ok p) go = go p.tree p.rest
-and_then (Err e) go = Err e
+abbrev pub and_parse : Result Taken FaultCode → (Source → List Symbol → Result Taken FaultCode) → Result Taken FaultCode
+and_parse (Ok p) go = go p.tree p.rest
+and_parse (Err e) go = Err e
 
 -- this expression is read, and these symbols are left
 abbrev pub phrase : Source → List Symbol → Result Taken FaultCode
@@ -48,7 +48,7 @@ leaf_by (Err c) r = Err c
 -- a leaf, or an expression in parentheses
 abbrev pub primary_by : Parser → Parser
 primary_by inner (Operand o ∷ r) = leaf_by o r
-primary_by inner (Opening ∷ r) = and_then (inner r) closed
+primary_by inner (Opening ∷ r) = and_parse (inner r) closed
 primary_by inner _ = Err BadSyntax
 
 -- the signs
@@ -104,32 +104,32 @@ module _ (small : Source → Bool) where
   abbrev pub fronted_by : Parser → (Symbol → Option Prefix) → Parser
   fronted_by operand front_of [] = operand []
   fronted_by operand front_of (k ∷ r) =
-      found_if (front_of k) (λ op. and_then (fronted_by operand front_of r) (λ t s. made (Prefixed op t) s)) (operand (k ∷ r))
+      found_if (front_of k) (λ op. and_parse (fronted_by operand front_of r) (λ t s. made (Prefixed op t) s)) (operand (k ∷ r))
 
   -- signs or negations before what is read
   abbrev pub with_fronts : List Prefix → Result Taken FaultCode → Result Taken FaultCode
   with_fronts [] o = o
-  with_fronts (op ∷ ops) o = and_then (with_fronts ops o) (λ t s. made (Prefixed op t) s)
+  with_fronts (op ∷ ops) o = and_parse (with_fronts ops o) (λ t s. made (Prefixed op t) s)
 
   -- more operands, each after an operator
   abbrev pub more : Parser → (Symbol → Option BinaryOp) → ℕ → Source → List Symbol → Result Taken FaultCode
   more operand op_of n t [] = phrase t []
   more operand op_of zero t (k ∷ r) = phrase t (k ∷ r)
   more operand op_of (suc n) t (k ∷ r) =
-      found_if (op_of k) (λ op. and_then (operand r) (λ u s. and_then (made (Pair op t u) s) (more operand op_of n))) (phrase t (k ∷ r))
+      found_if (op_of k) (λ op. and_parse (operand r) (λ u s. and_parse (made (Pair op t u) s) (more operand op_of n))) (phrase t (k ∷ r))
 
   -- operands with operators of one level between them, grouped from the left
   abbrev pub chain_by : Parser → (Symbol → Option BinaryOp) → Parser
-  chain_by operand op_of ts = and_then (operand ts) (λ t r. more operand op_of (length r) t r)
+  chain_by operand op_of ts = and_parse (operand ts) (λ t r. more operand op_of (length r) t r)
 
   -- perhaps one operator, and an operand after it
   abbrev pub once : Parser → (Symbol → Option BinaryOp) → Source → List Symbol → Result Taken FaultCode
   once operand op_of t [] = phrase t []
-  once operand op_of t (k ∷ r) = found_if (op_of k) (λ op. and_then (operand r) (λ u s. made (Pair op t u) s)) (phrase t (k ∷ r))
+  once operand op_of t (k ∷ r) = found_if (op_of k) (λ op. and_parse (operand r) (λ u s. made (Pair op t u) s)) (phrase t (k ∷ r))
 
   -- an operand, or two with an operator between them
   abbrev pub once_by : Parser → (Symbol → Option BinaryOp) → Parser
-  once_by operand op_of ts = and_then (operand ts) (once operand op_of)
+  once_by operand op_of ts = and_parse (operand ts) (once operand op_of)
 
   -- a signed operand, where what stands in parentheses is read so
   abbrev pub signed_by : Parser → Parser

@@ -4,8 +4,8 @@ use Rattle.vcm_expr.specs.declared.expression.Term.{Term}
 use Rattle.vcm_expr.specs.declared.expression.Term.TheVariants as term
 use Rattle.vcm_expr.specs.declared.expression.Piece.{Piece}
 use Rattle.vcm_expr.specs.declared.expression.Piece.TheVariants.{Number, Truth, Variable, Front, Between}
-use Rattle.vcm_expr.specs.declared.expression.Written.{Written}
-use Rattle.vcm_expr.specs.declared.expression.Written.TheVariants.{One, Many}
+use Rattle.vcm_expr.specs.declared.expression.PieceList.{PieceList}
+use Rattle.vcm_expr.specs.declared.expression.PieceList.TheVariants.{One, Many}
 use Rattle.vcm_expr.specs.Source.{Source, Plain, Prefixed, Pair, parts}
 
 -- the leaf that a part is, where it is one
@@ -35,15 +35,15 @@ with_pieces [] es = es
 with_pieces (p ∷ ps) es = with_pieces ps (with_piece p es)
 
 -- the parts that are kept
-abbrev pub pieces_of : Written → List Piece
+abbrev pub pieces_of : PieceList → List Piece
 pieces_of (One p) = p ∷ []
 pieces_of (Many v) = v.items
 
 -- the topmost expression
-abbrev pub first_of : List Source → Source
-first_of (e ∷ es) = e
-first_of [] = Plain (term.Truth true)
+abbrev pub top_of : List Source → Source
+top_of (e ∷ es) = e
+top_of [] = Plain (term.Truth true)
 
 -- the expression that is kept
-abbrev pub source_of : Written → Source
-source_of w = first_of (with_pieces (pieces_of w) [])
+abbrev pub source_of : PieceList → Source
+source_of w = top_of (with_pieces (pieces_of w) [])

@@ -38,7 +38,7 @@ pub record Spelled (typed : Result Kinded FaultCode) (before after : List Item) 
   pub items : after ≡ before ++ spelling tree
 
 -- the tree that its place wants is spelled now
-pub record Wanted (wanted : Result Tree FaultCode) (after : List Item) : Type 0 where
+pub record SpelledFor (wanted : Result Tree FaultCode) (after : List Item) : Type 0 where
   pub tree : Tree
   pub is : wanted ≡ Ok tree
   pub items : after ≡ spelling tree

@@ -3,13 +3,13 @@ use Rattle.std.specs.Prelude.{◌≡◌, ◌⊎◌, List, [], ◌∷◌, length,
 use Rattle.vcm_lines.specs.declared.fault.FaultCode.{FaultCode}
 use Rattle.vcm_spec.specs.declared.expression.Item.{Item}
 use Rattle.vcm_spec.specs.Setup.{Variable}
-use Rattle.vcm_expr.specs.declared.typing.Operated.{Operated}
+use Rattle.vcm_expr.specs.declared.typing.OpenOperand.{OpenOperand}
 use Rattle.vcm_expr.specs.Source.{Source}
 use Rattle.vcm_expr.specs.Typing.{Kinded, typed_of}
 use Rattle.vcm_expr.specs.inner.Trees.{Spelled}
 
 -- the expressions of a stack, the topmost first, are typed and spelled one behind the other
-abbrev pub AreTyped : List Variable → List Source → List Operated → List Item → List Item → Type 0
+abbrev pub AreTyped : List Variable → List Source → List OpenOperand → List Item → List Item → Type 0
 AreTyped vs [] [] before now = now ≡ before
 AreTyped vs (e ∷ es) (o ∷ os) before now =
     (mid : List Item) × Spelled (typed_of vs e) mid now o.kind × (o.start ≡ length mid) × AreTyped vs es os before mid

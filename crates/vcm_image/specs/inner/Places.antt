@@ -4,7 +4,7 @@ use Rattle.vcm_code.specs.declared.code.Code.{Code}
 use Rattle.vcm_fields.specs.declared.fault.ImageFault.{ImageFault}
 use Rattle.vcm_fields.specs.Parts.{Line}
 use Rattle.vcm_fields.specs.Readers.{Reader, times, entry_at, name_at}
-use Rattle.vcm_image.specs.Whole.{Fits, code_at}
+use Rattle.vcm_image.specs.Whole.{FitsImage, code_at}
 
 -- the code that the bytes spell, or an empty one
 abbrev pub code_or_none : Result Code ImageFault → Code
@@ -36,7 +36,7 @@ pub record Table {A : Type 0} (a : Reader A) (count : ℕ) (whole bytes starts r
 -- the bytes spell a code, its variables and names begin at these places, and these are its statements
 pub record Indexed (bytes variables features frames : List ℕ) (statements : List Line) : Type 0 where
   pub is : code_at bytes ≡ Ok (code_in bytes)
-  pub fits : Fits (code_in bytes)
+  pub fits : FitsImage (code_in bytes)
   pub variables_begin : Begin entry_at bytes variables (code_in bytes).tables.variables
   pub features_begin : Begin name_at bytes features (code_in bytes).tables.features
   pub frames_begin : Begin name_at bytes frames (code_in bytes).tables.frames

@@ -1,32 +1,32 @@
--- What the code says of the first piece of what is left of a line.
+-- What the code says of the first segment of what is left of a line.
 use Rattle.std.specs.Prelude.{◌≡◌, ℕ, IsTrue, Bool, false, not, ◌&&◌, ◌==◌, List, ◌∷◌, ◌++◌, map, drop, length}
 use Rattle.std.specs.List.{take_while}
 use Rattle.vcm_lines.specs.Bytes.{is_between, upper}
-use Rattle.vcm_lines.specs.Pieces.{Piece, pieces_of, kept, has_bad_byte, is_open, is_dollar}
+use Rattle.vcm_lines.specs.Segments.{Segment, segments_of, kept, has_bad_byte, is_open, is_dollar}
 use Rattle.vcm_lines.specs.declared.fault.FaultCode.{FaultCode}
 use Rattle.vcm_lines.specs.declared.fault.FaultCode.TheVariants.{BadByte, BadSyntax}
 
--- a rule with this code is broken by the piece alone
-abbrev pub BreaksPiece : Piece → FaultCode → Type 0
-BreaksPiece p BadByte = IsTrue (has_bad_byte p)
-BreaksPiece p BadSyntax = IsTrue (is_open p)
-BreaksPiece p _ = ⊥
+-- a rule with this code is broken by the segment alone
+abbrev pub BreaksSegment : Segment → FaultCode → Type 0
+BreaksSegment p BadByte = IsTrue (has_bad_byte p)
+BreaksSegment p BadSyntax = IsTrue (is_open p)
+BreaksSegment p _ = ⊥
 
--- the first of the pieces breaks a rule with this code
-pub record BreaksFirst (pieces : List Piece) (code : FaultCode) : Type 0 where
-  pub piece : Piece
-  pub behind : List Piece
-  pub first : pieces ≡ piece ∷ behind
-  pub broken : BreaksPiece piece code
+-- the first of the segments breaks a rule with this code
+pub record BreaksFirst (segments : List Segment) (code : FaultCode) : Type 0 where
+  pub segment : Segment
+  pub behind : List Segment
+  pub first : segments ≡ segment ∷ behind
+  pub broken : BreaksSegment segment code
 
--- the first of the pieces breaks no rule, the rest has the other pieces, and what the piece leaves is added
-pub record TakesPiece (pieces : List Piece) (old new rest : List ℕ) : Type 0 where
-  pub piece : Piece
-  pub first : pieces ≡ piece ∷ pieces_of rest
-  pub bytes : has_bad_byte piece ≡ false
-  pub closed : is_open piece ≡ false
-  pub undollared : is_dollar piece ≡ false
-  pub added : new ≡ old ++ kept piece
+-- the first of the segments breaks no rule, the rest has the other segments, and what the segment leaves is added
+pub record TakesSegment (segments : List Segment) (old new rest : List ℕ) : Type 0 where
+  pub segment : Segment
+  pub first : segments ≡ segment ∷ segments_of rest
+  pub bytes : has_bad_byte segment ≡ false
+  pub closed : is_open segment ≡ false
+  pub undollared : is_dollar segment ≡ false
+  pub added : new ≡ old ++ kept segment
 
 -- a byte that a line keeps outside its texts: none that is blank, a dollar, an apostrophe, or may not stand there
 abbrev pub is_bare : ℕ → Bool

@@ -11,9 +11,10 @@ use Rattle.vcm_syntax.specs.declared.statement.Form.{Form}
 use Rattle.vcm_syntax.specs.declared.statement.Form.TheVariants.{Assignment, Move, Test, Repeat, Feature, Touch, Configure, Shift, Macro}
 use Rattle.vcm_syntax.specs.declared.statement.Form.TheVariants.{MacroEnd, Call}
 use Rattle.vcm_syntax.specs.declared.statement.Statement.{Statement}
-use Rattle.vcm_macro.specs.Substitution.{Scope, is_same, put_form}
+use Rattle.vcm_substitution.specs.Substitution.{Scope, is_same, put_form}
 use Rattle.vcm_macro.specs.Walk.{Defined, Place, Opens, Inside, Stands, Calls, with_statement, calls_in, body_in, call_in, walk_from}
-use Rattle.vcm_macro.specs.Rules.{line_at, weight, weigh, kept, is_kept}
+use Rattle.vcm_macro.specs.Rules.{line_at, weight, weigh, kept}
+use Rattle.vcm_substitution.specs.Kept.{is_kept}
 use Rattle.vcm_macro.specs.Computed.{code_at}
 
 -- what has been expanded: the statements, how much counts, how many CALLs were carried out
@@ -69,18 +70,6 @@ pub record IsFoundAt (ms : List Defined) (name : List ℕ) (i : ℕ) : Type 0 wh
 -- the place of a statement that is no call
 abbrev pub stands : Scope → Statement → Place
 stands sc s = Stands sc.expansion (record { line = s.line; form = put_form sc s.form })
-
--- whether a statement of the expanded program has no expressions
-abbrev pub is_plain : Form → Bool
-is_plain (Assignment t s) = false
-is_plain (Move p) = false
-is_plain (Test s) = false
-is_plain (Repeat r) = false
-is_plain (Feature n p d) = false
-is_plain (Touch p d) = false
-is_plain (Configure which s) = false
-is_plain (Shift n os) = false
-is_plain form = is_kept form
 
 -- whether a statement of a body leaves something in an expansion: it is kept there, or it is a CALL
 abbrev pub is_active : Form → Bool

@@ -12,9 +12,9 @@ use Rattle.vcm_tree.specs.declared.builder.Head.TheVariants.{Body}
 use Rattle.vcm_tree.specs.declared.taking.Progress.{Progress}
 use Rattle.vcm_tree.specs.declared.node.Action.{Action}
 use Rattle.vcm_tree.specs.Nodes.{action_of}
-use Rattle.vcm_tree.specs.Pieces.{Repeats}
+use Rattle.vcm_tree.specs.Sentences.{Repeats}
 use Rattle.vcm_tree.specs.Blocks.{Measured, measured, Behind, behind, repeated}
-use Rattle.vcm_tree.specs.Resolving.{measured_after, Meaning, acted, stated, resolved_here, behind_by, pieces_by}
+use Rattle.vcm_tree.specs.Resolving.{measured_after, Meaning, acted, stated, resolved_here, behind_by, sentences_by}
 use Rattle.vcm_tree.specs.inner.Building.{blocks_of, written}
 
 -- the rounds are these, and open a body by this
@@ -56,11 +56,11 @@ pub record Takes (p : Placed) (old new : Progress) : Type 0 where
   pub meaning : Meaning
   pub is : resolved_here (behind_of old) p ≡ Ok meaning
   pub after : behind_of new ≡ behind_by (behind_of old) p.statement.form (Ok meaning)
-  pub pieces : written new.builder ≡ written old.builder ++ pieces_by p.statement.line (Ok meaning)
+  pub sentences : written new.builder ≡ written old.builder ++ sentences_by p.statement.line (Ok meaning)
 
 -- the same of a statement that may stand there
 pub record TakesStated (p : Placed) (old new : Progress) : Type 0 where
   pub meaning : Meaning
   pub is : stated (behind_of old) p.expansion p.statement.form ≡ Ok meaning
   pub after : behind_of new ≡ behind_by (behind_of old) p.statement.form (Ok meaning)
-  pub pieces : written new.builder ≡ written old.builder ++ pieces_by p.statement.line (Ok meaning)
+  pub sentences : written new.builder ≡ written old.builder ++ sentences_by p.statement.line (Ok meaning)

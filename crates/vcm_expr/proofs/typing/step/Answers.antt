@@ -4,13 +4,13 @@ use Rattle.vcm_expr.specs.declared.expression.Term.TheVariants.{Number, Truth, V
 use Rattle.vcm_expr.proofs.TypingSteps.{leaf_fails, front_told, between_told, start_within}
 use Rattle.vcm_expr.proofs.typing.step.Goals as goal
 
-pub returns-in_ok-operand-in-Number-clause-ok : goal.returns-in_ok-operand-in-Number-clause-ok
-returns-in_ok-operand-in-Number-clause-ok c = λ es before.
-    rw c.in-Number.is (c.in_ok-operand-in-Number.ensures.ok c.args.names.now (Number c.in-Number.literal) es before (c.number-x.ensures c.args.names.now))
+pub returns-in_ok-push_operand-in-Number-clause-ok : goal.returns-in_ok-push_operand-in-Number-clause-ok
+returns-in_ok-push_operand-in-Number-clause-ok c = λ es before.
+    rw c.in-Number.is (c.in_ok-push_operand-in-Number.ensures.ok c.args.names.now (Number c.in-Number.literal) es before (c.number-x.ensures c.args.names.now))
 
-pub returns-in_ok-operand-in-Truth-clause-ok : goal.returns-in_ok-operand-in-Truth-clause-ok
-returns-in_ok-operand-in-Truth-clause-ok c = λ es before.
-    rw c.in-Truth.is (c.in_ok-operand-in-Truth.ensures.ok c.args.names.now (Truth c.in-Truth.truth) es before refl)
+pub returns-in_ok-push_operand-in-Truth-clause-ok : goal.returns-in_ok-push_operand-in-Truth-clause-ok
+returns-in_ok-push_operand-in-Truth-clause-ok c = λ es before.
+    rw c.in-Truth.is (c.in_ok-push_operand-in-Truth.ensures.ok c.args.names.now (Truth c.in-Truth.truth) es before refl)
 
 pub returns-in_err-x-in-Variable-clause-fault : goal.returns-in_err-x-in-Variable-clause-fault
 returns-in_err-x-in-Variable-clause-fault c =

@@ -2,7 +2,7 @@ use Rattle.std.proofs.Common.{subst, arith}
 use Rattle.std.proofs.lemmas.Grind.{common_steps}
 use Rattle.std.proofs.lemmas.Result.{err_from_is_err_and}
 use Rattle.vcm_loader.specs.Checks.{Counts, AllHold, op_checks, counts_of}
-use Rattle.vcm_loader.specs.Loading.{FirstFault}
+use Rattle.vcm_loader.specs.Loading.{FirstFailedCheck}
 use Rattle.vcm_loader.proofs.Lines.{held_more, first_of, counts_are}
 use Rattle.vcm_loader.proofs.loading.judge_statements.Goals as goal
 
@@ -10,7 +10,7 @@ pub returns-in_err-judge_operation-clause-err : goal.returns-in_err-judge_operat
 returns-in_err-judge_operation-clause-err c =
     let p = err_from_is_err_and c.from_residual.result c.from_residual.ensures.1 in
     let same = counts_are c.args.image.now c.args.kinds.now _ _ _ c.requires c.feature_count-features.ensures c.frame_count-frames.ensures c.statement_count-statements.ensures in
-    rw (p.1, p.2) (first_of (counts_of c.args.image.now) c.args.image.now.statements c.loop-n.n c.statement-statement.result.now c.in_err-judge_operation.field-0.0 c.loop-n.invariant c.statement-statement.ensures (subst (λ (t : Counts). FirstFault (op_checks t c.statement-statement.result.now.op) c.in_err-judge_operation.field-0.0) same c.in_err-judge_operation.ensures.err))
+    rw (p.1, p.2) (first_of (counts_of c.args.image.now) c.args.image.now.statements c.loop-n.n c.statement-statement.result.now c.in_err-judge_operation.field-0.0 c.loop-n.invariant c.statement-statement.ensures (subst (λ (t : Counts). FirstFailedCheck (op_checks t c.statement-statement.result.now.op) c.in_err-judge_operation.field-0.0) same c.in_err-judge_operation.ensures.err))
 
 pub loop-n-preserved : goal.loop-n-preserved
 loop-n-preserved c =

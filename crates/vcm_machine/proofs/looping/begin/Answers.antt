@@ -1,6 +1,6 @@
 use Rattle.std.proofs.Common.{◌+◌, ◌∙◌, ap, sym, refl, rules, FitsSigned, w64, to_z-of_z}
 use Rattle.std.proofs.lemmas.Result.{err_from_is_err_and}
-use Rattle.vcm_code.specs.CodeTable.{place}
+use Rattle.vcm_code.specs.CodeTable.{code_state}
 use Rattle.vcm_machine.proofs.LoopBranches.{do_first, do_second, do_third, do_zero, do_past, do_enter}
 use Rattle.vcm_machine.proofs.looping.begin.Goals as goal
 
@@ -55,7 +55,7 @@ returns-then-is_past-clause-turned c setup line =
     let q = rw (to_z-of_z fb, to_z-of_z fc) at c.set_pair.ensures in
     do_past setup c.args.world.now.state c.args.variable c.args.pair c.args.initial.now c.args.limit.now c.args.increment.now c.args.exit line c.args.next c.args.pairs.now _
     c.in_ok-initial.ensures.answer _ c.in_ok-limit.ensures.answer _ c.in_ok-increment.ensures.answer (sym z ∙ c.if-is_zero.false) c.set_index.new.world.state s (sym t ∙ c.if-is_past.true)
-    ∙ ap (λ x. place c.set_index.new.world.state c.args.exit x) (sym q)
+    ∙ ap (λ x. code_state c.set_index.new.world.state c.args.exit x) (sym q)
 
 pub returns-else-is_past-clause-turned : goal.returns-else-is_past-clause-turned
 returns-else-is_past-clause-turned c setup line =
@@ -68,4 +68,4 @@ returns-else-is_past-clause-turned c setup line =
     let q = rw (to_z-of_z fb, to_z-of_z fc) at c.set_pair.ensures in
     do_enter setup c.args.world.now.state c.args.variable c.args.pair c.args.initial.now c.args.limit.now c.args.increment.now c.args.exit line c.args.next c.args.pairs.now _
     c.in_ok-initial.ensures.answer _ c.in_ok-limit.ensures.answer _ c.in_ok-increment.ensures.answer (sym z ∙ c.if-is_zero.false) c.set_index.new.world.state s (sym t ∙ c.if-is_past.false)
-    ∙ ap (λ x. place c.set_index.new.world.state (c.args.next + 1) x) (sym q)
+    ∙ ap (λ x. code_state c.set_index.new.world.state (c.args.next + 1) x) (sym q)

@@ -1,7 +1,7 @@
 use Rattle.std.proofs.Common.{inr, refl}
 use Rattle.std.specs.Prelude.{map, reverse}
 use Rattle.vcm_macro.specs.Walk.{call_in}
-use Rattle.vcm_macro.specs.Substitution.{put_argument}
+use Rattle.vcm_substitution.specs.Substitution.{put_argument}
 use Rattle.std.proofs.lemmas.Result.{err_from_is_err_and}
 use Rattle.vcm_macro.proofs.Calling.{call_unknown, call_refused, call_carried, call_told, on_ok}
 use Rattle.vcm_macro.proofs.Bodies.{called_more, called_told, stood_more, stood_told}

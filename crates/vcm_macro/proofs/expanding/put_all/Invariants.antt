@@ -1,7 +1,7 @@
 use Rattle.std.proofs.Common.{◌≡◌, ◌++◌, drop}
 use Rattle.std.specs.Prelude.{map}
-use Rattle.vcm_macro.specs.Substitution.{put_argument}
-use Rattle.vcm_macro.specs.Rules.{are_small_arguments}
+use Rattle.vcm_substitution.specs.Substitution.{put_argument}
+use Rattle.vcm_substitution.specs.Sizes.{are_small_arguments}
 use Rattle.vcm_macro.proofs.expanding.put_all.Given as goal
 
 abbrev pub invariant-loop-argument : goal.invariant-loop-argument

@@ -1,5 +1,5 @@
 use Rattle.std.proofs.Common.{refl, ap, sym, Ok}
-use Rattle.vcm_tree.specs.Pieces.{Leaps}
+use Rattle.vcm_tree.specs.Sentences.{Leaps}
 use Rattle.vcm_tree.specs.Blocks.{nested, tested, repeated, divided, test_ended, repeat_ended, ended, label_of}
 use Rattle.vcm_tree.specs.Features.{opened_measure, measure_ended}
 use Rattle.vcm_tree.specs.Resolving.{stated, measured_after}
@@ -41,7 +41,7 @@ pub returns-in-Mark-clause-ok : goal.returns-in-Mark-clause-ok
 returns-in-Mark-clause-ok c =
     let m = c.mark.ensures in
     mark_on (record { statement = c.args.statement.now; expansion = c.args.expansion }) c.args.read.now _ c.mark.result c.in-Mark.name c.in-Mark.is (rw (c.new-label.ensures, c.copy.ensures) at m.new) (rw (c.new-label.ensures, c.copy.ensures) at m.labels)
-    (rw (c.new-label.ensures, c.copy.ensures) at m.pieces) m.around refl refl
+    (rw (c.new-label.ensures, c.copy.ensures) at m.sentences) m.around refl refl
 
 pub returns-in_ok-leap-in-Leap-clause-ok : goal.returns-in_ok-leap-in-Leap-clause-ok
 returns-in_ok-leap-in-Leap-clause-ok c =

@@ -1,6 +1,6 @@
 use Rattle.std.proofs.Common.{sym, ap, ◌∙◌, subst}
 use Rattle.vcm_num.specs.Written.{Wrote}
-use Rattle.vcm_console.specs.Replies.{Fits, reply_text}
+use Rattle.vcm_console.specs.Replies.{ReplyFits, reply_text}
 use Rattle.vcm_debug.specs.Debugging.{now}
 use Rattle.vcm_debug.proofs.session.Session.write_reply.Goals as goal
 
@@ -8,7 +8,7 @@ pub write_reply-requires-clause-fits : goal.write_reply-requires-clause-fits
 write_reply-requires-clause-fits g c =
     let i = c.self.inside in
     let e = c.lines.ensures ∙ ap (λ w. w.lines) c.world-world.ensures.state ∙ ap (λ m. m.place.world.lines) c.self.invariant.0.reached in
-    subst (λ l. Fits i.loaded.now l c.args.reply.now) (sym e) (subst (λ d. Fits d.code (now d).world.lines c.args.reply.now) (sym c.self.view_is) c.requires)
+    subst (λ l. ReplyFits i.loaded.now l c.args.reply.now) (sym e) (subst (λ d. ReplyFits d.code (now d).world.lines c.args.reply.now) (sym c.self.view_is) c.requires)
 
 pub returns : goal.returns
 returns g c =

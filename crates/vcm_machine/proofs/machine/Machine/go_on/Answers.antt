@@ -2,7 +2,8 @@ use Rattle.std.proofs.Common.{◌≡◌, ◌<◌, None, sym, ap, ◌∙◌, subs
 use Rattle.std.specs.Prelude.{Err}
 use Rattle.vcm_code.specs.Ops.{statement_of, code_of}
 use Rattle.vcm_spec.specs.Rests.{Rests}
-use Rattle.vcm_machine.proofs.Codes.{kept_at, kept_length}
+use Rattle.vcm_machine.proofs.Codes.{kept_at}
+use Rattle.vcm_loader.proofs.Validity.{statements_length}
 use Rattle.vcm_machine.proofs.RestsAlong.{later_rests}
 use Rattle.vcm_machine.proofs.StepLemmas.{fits, range_is, goes, goes_below, stops, wants}
 use Rattle.vcm_machine.proofs.machine.Machine.go_on.Goals as goal
@@ -33,7 +34,7 @@ invariant_of-self g c =
     let h = rw c.in-Ok.next-is at (c.in-Ok.ensures.gone s.line) in
     let below = goes_below (g.P.Part.part m.part.now) (code_of m.loaded.now) m.world m.next m.pairs i.0 i.1 (statement_of s) at none c.carry_out.new.world.state c.in-Ok.next c.carry_out.new.pairs h in
     let later = goes (g.P.Part.part m.part.now) (code_of m.loaded.now) m.world m.next m.pairs i.0 i.1 (statement_of s) at none c.carry_out.new.world.state c.in-Ok.next c.carry_out.new.pairs h in
-    (c.in-Ok.ensures.tables ∙ i.0, i.1, subst (λ n. c.in-Ok.next < n) (kept_length m.loaded.now.statements) below, later_rests 1 _ _ i.3 later)
+    (c.in-Ok.ensures.tables ∙ i.0, i.1, subst (λ n. c.in-Ok.next < n) (statements_length m.loaded.now.statements) below, later_rests 1 _ _ i.3 later)
 
 pub invariant_of-self-in-Err-Stop : goal.invariant_of-self-in-Err-Stop
 invariant_of-self-in-Err-Stop g c =

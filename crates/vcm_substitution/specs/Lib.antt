@@ -1,0 +1,4 @@
+pub mod Substitution
+pub mod Sizes
+pub mod Kept
+pub mod inner
