@@ -128,12 +128,14 @@ pub record CanStep (code : List Statement) (m : CodeState) : Type 0 where
 
 -- the computed step is what the rules say, where a statement is next and an ENDDO finds its pair
 abbrev pub CodeStepIsComputed : Type 0
-CodeStepIsComputed = (setup : Setup) (code : List Statement) (m : CodeState) → CanStep code m → CodeSteps setup code m (code_step setup code m)
+CodeStepIsComputed =
+    (setup : Setup) (code : List Statement) (m : CodeState) → CanStep code m → CodeSteps setup code m (code_step setup code m)
 
 -- what the rules say is the computed step
 abbrev pub CodeStepIsUnique : Type 0
 CodeStepIsUnique =
-    (setup : Setup) (code : List Statement) (before after : CodeState) → CodeSteps setup code before after → after ≡ code_step setup code before
+    (setup : Setup) (code : List Statement) (before after : CodeState) → CodeSteps setup code before after
+    → after ≡ code_step setup code before
 
 -- what the rules say of n steps is what is computed
 abbrev pub CodeRunIsUnique : Type 0

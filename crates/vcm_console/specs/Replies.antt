@@ -13,7 +13,8 @@ use Rattle.vcm_console.specs.declared.reply.Reason.{Reason}
 use Rattle.vcm_console.specs.declared.reply.Reason.TheVariants.{Stopped, Break, Watch, Count}
 use Rattle.vcm_console.specs.declared.reply.Standing.{Standing}
 use Rattle.vcm_console.specs.declared.reply.CommandRefusal.{CommandRefusal}
-use Rattle.vcm_console.specs.declared.reply.CommandRefusal.TheVariants.{UnknownCommand, NoSuchName, NoSuchStatement, CountOutOfRange, BeforeStart}
+use Rattle.vcm_console.specs.declared.reply.CommandRefusal.TheVariants.{UnknownCommand, NoSuchName, NoSuchStatement, CountOutOfRange}
+use Rattle.vcm_console.specs.declared.reply.CommandRefusal.TheVariants.{BeforeStart}
 use Rattle.vcm_console.specs.declared.reply.Reply.{Reply}
 use Rattle.vcm_console.specs.declared.reply.Reply.TheVariants.{Set, Cleared, Found, Stands, Ran, Watched, Unwatched, Value, Features}
 use Rattle.vcm_console.specs.declared.reply.Reply.TheVariants.{Listed, Lines, Bye, Refused}

@@ -39,8 +39,8 @@ same_turn old new (x ∷ a) (y ∷ b) text last l m e t = record {
 short_or_long : (n m : ℕ) → (n ≤ m) ⊎ (m < n)
 short_or_long n m = grind arith
 
-pub kept_turn : (old new : Debugging) (raw text : List ℕ) (ended last : Bool) → IsExchange old (content (kept_of raw) ended) new text last → IsExchange old (content raw ended) new text last
-kept_turn old new raw text ended last t = by (short_or_long (length raw) 258)
+pub kept_exchange : (old new : Debugging) (raw text : List ℕ) (ended last : Bool) → IsExchange old (content (kept_of raw) ended) new text last → IsExchange old (content raw ended) new text last
+kept_exchange old new raw text ended last t = by (short_or_long (length raw) 258)
   where
     by : (length raw ≤ 258) ⊎ (258 < length raw) → IsExchange old (content raw ended) new text last
     by (inl l) = subst (λ x. IsExchange old (content x ended) new text last) (take_all 258 raw l) t

@@ -6,5 +6,5 @@ pub mod Sessions
 pub mod RunEnding
 pub mod Copies
 pub mod KeptLines
-pub mod Turns
+pub mod Exchanges
 pub mod ServedLines

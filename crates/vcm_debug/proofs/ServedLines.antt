@@ -11,8 +11,8 @@ use Rattle.vcm_console.specs.declared.reply.ServeFault.TheVariants.{Read, Write,
 use Rattle.vcm_console.specs.Reading.{TakesAtMost, IsNextOf, IsNext, BeginsWithLine, size, HasLine, ReadsLine, IsReadOrMuch}
 use Rattle.vcm_debug.specs.Debugging.{Debugging}
 use Rattle.vcm_debug.specs.Serving.{content, IsExchange, Serves, input_ends, no_line, no_byte, no_read, last_line, one_line, WritesSome, Writes, Served}
-use Rattle.vcm_debug.specs.inner.Turns.{HasTurned, IsBye}
-use Rattle.vcm_debug.proofs.KeptLines.{kept_turn}
+use Rattle.vcm_debug.specs.inner.Exchanges.{HasExchanged, IsBye}
+use Rattle.vcm_debug.proofs.KeptLines.{kept_exchange}
 
 -- what was written before, and then some of a text
 some_then : (a b c : Option (List ℕ)) (xs ys : List ℕ) → Appends a b xs → WritesSome b c ys → WritesSome a c (xs ++ ys)
@@ -63,11 +63,11 @@ module _ (n₀ left₀ : ℕ) (d₀ : Debugging) (old : Option (List ℕ)) where
       }
 
   -- a line, and the others
-  pub turned : (input : List ℕ) (n left : ℕ) (d new_d : Debugging) (after later new now : Option (List ℕ)) (l : RawLine) → Going input (suc n) left d after new
-      → IfSome after (λ i. ReadsLine left i later (Ok (Some l))) → HasTurned d (content l.kept l.ended) new_d new now (Ok false) → Going input n (left - l.used) new_d later now
-  turned input n left d new_d after later new now l g reads t =
+  pub exchanged : (input : List ℕ) (n left : ℕ) (d new_d : Debugging) (after later new now : Option (List ℕ)) (l : RawLine) → Going input (suc n) left d after new
+      → IfSome after (λ i. ReadsLine left i later (Ok (Some l))) → HasExchanged d (content l.kept l.ended) new_d new now (Ok false) → Going input n (left - l.used) new_d later now
+  exchanged input n left d new_d after later new now l g reads t =
       let h = subst (λ a. IfSome a (λ i. ReadsLine left i later (Ok (Some l)))) g.after_is reads in
-      let turn = kept_turn d new_d h.raw t.0 l.ended false (subst (λ k. IsExchange d (content k l.ended) new_d t.0 false) h.kept_is t.1) in
+      let exchange = kept_exchange d new_d h.raw t.0 l.ended false (subst (λ k. IsExchange d (content k l.ended) new_d t.0 false) h.kept_is t.1) in
       let f = g.few in
       let u = h.fits in
       record {
@@ -81,7 +81,7 @@ module _ (n₀ left₀ : ℕ) (d₀ : Debugging) (old : Option (List ℕ)) where
         onward = λ more r end s.
             subst (λ x. Serves n₀ left₀ d₀ input x r end) (sym (append_assoc g.text t.0 more))
             (g.onward (t.0 ++ more) r end
-            (one_line new_d h.raw h.rest t.0 more l.ended h.begins (subst (λ u. u ≤ left) h.used_is h.fits) turn (subst (λ u. Serves n (left - u) new_d h.rest more r end) h.used_is s)));
+            (one_line new_d h.raw h.rest t.0 more l.ended h.begins (subst (λ u. u ≤ left) h.used_is h.fits) exchange (subst (λ u. Serves n (left - u) new_d h.rest more r end) h.used_is s)));
       }
 
   -- a line was taken
@@ -109,21 +109,21 @@ module _ (n₀ left₀ : ℕ) (d₀ : Debugging) (old : Option (List ℕ)) where
       ended (Some i) later e = (e.0, e.1 ∙ ap Some e.0)
 
   -- the last line, or one whose text could not be written
-  pub last_turned : (input : List ℕ) (n left : ℕ) (d new_d : Debugging) (after later new now : Option (List ℕ)) (l : RawLine) → Going input (suc n) left d after new
-      → IfSome after (λ i. ReadsLine left i later (Ok (Some l))) → HasTurned d (content l.kept l.ended) new_d new now (Ok true) → Served n₀ left₀ d₀ input later old now (Ok tt) new_d
-  last_turned input n left d new_d after later new now l g reads t =
+  pub last_exchanged : (input : List ℕ) (n left : ℕ) (d new_d : Debugging) (after later new now : Option (List ℕ)) (l : RawLine) → Going input (suc n) left d after new
+      → IfSome after (λ i. ReadsLine left i later (Ok (Some l))) → HasExchanged d (content l.kept l.ended) new_d new now (Ok true) → Served n₀ left₀ d₀ input later old now (Ok tt) new_d
+  last_exchanged input n left d new_d after later new now l g reads t =
       let h = subst (λ a. IfSome a (λ i. ReadsLine left i later (Ok (Some l)))) g.after_is reads in
-      let turn = kept_turn d new_d h.raw t.0 l.ended true (subst (λ k. IsExchange d (content k l.ended) new_d t.0 true) h.kept_is t.1) in
+      let exchange = kept_exchange d new_d h.raw t.0 l.ended true (subst (λ k. IsExchange d (content k l.ended) new_d t.0 true) h.kept_is t.1) in
       ends_all input (suc n) left d new_d after later new now t.0 (Ok tt) g
-      (last_line new_d h.raw h.rest l.ended true h.begins (subst (λ u. u ≤ left) h.used_is h.fits) turn refl) t.2 (line_taken input (suc n) left d after later new l g h)
+      (last_line new_d h.raw h.rest l.ended true h.begins (subst (λ u. u ≤ left) h.used_is h.fits) exchange refl) t.2 (line_taken input (suc n) left d after later new l g h)
 
-  pub fault_turned : (input : List ℕ) (n left : ℕ) (d new_d : Debugging) (after later new now : Option (List ℕ)) (l : RawLine) (e : WriteFault) → Going input (suc n) left d after new
-      → IfSome after (λ i. ReadsLine left i later (Ok (Some l))) → HasTurned d (content l.kept l.ended) new_d new now (Err e) → Served n₀ left₀ d₀ input later old now (Err Write) new_d
-  fault_turned input n left d new_d after later new now l e g reads t =
+  pub fault_exchanged : (input : List ℕ) (n left : ℕ) (d new_d : Debugging) (after later new now : Option (List ℕ)) (l : RawLine) (e : WriteFault) → Going input (suc n) left d after new
+      → IfSome after (λ i. ReadsLine left i later (Ok (Some l))) → HasExchanged d (content l.kept l.ended) new_d new now (Err e) → Served n₀ left₀ d₀ input later old now (Err Write) new_d
+  fault_exchanged input n left d new_d after later new now l e g reads t =
       let h = subst (λ a. IfSome a (λ i. ReadsLine left i later (Ok (Some l)))) g.after_is reads in
-      let turn = kept_turn d new_d h.raw t.0 l.ended t.1 (subst (λ k. IsExchange d (content k l.ended) new_d t.0 t.1) h.kept_is t.2) in
+      let exchange = kept_exchange d new_d h.raw t.0 l.ended t.1 (subst (λ k. IsExchange d (content k l.ended) new_d t.0 t.1) h.kept_is t.2) in
       ends_all input (suc n) left d new_d after later new now t.0 (Err Write) g
-      (last_line new_d h.raw h.rest l.ended t.1 h.begins (subst (λ u. u ≤ left) h.used_is h.fits) turn tt) t.3 (line_taken input (suc n) left d after later new l g h)
+      (last_line new_d h.raw h.rest l.ended t.1 h.begins (subst (λ u. u ≤ left) h.used_is h.fits) exchange tt) t.3 (line_taken input (suc n) left d after later new l g h)
 
   -- the reader failed, or a line is too long
   pub fault_read : (input : List ℕ) (n left : ℕ) (d : Debugging) (after later new : Option (List ℕ)) (f : ServeFault) → Going input (suc n) left d after new

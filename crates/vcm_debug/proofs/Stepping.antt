@@ -9,12 +9,12 @@ use Rattle.vcm_debug.specs.Halting.{changed_from, watch_reason, break_reason, st
 use Rattle.vcm_debug.specs.inner.Going.{HasRun}
 
 -- a breakpoint at the next statement of a machine that has not stopped
-pub breaks : (breakpoints watches : List Bool) (before now : Running) (i : ℕ) → i < length breakpoints → get_or breakpoints i false ≡ true → i ≡ now.place.next
-    → now.place.world.stop ≡ None → Some Break ≡ reason breakpoints watches before now
+pub breaks : (breakpoints watches : List Bool) (before now : Running) (i : ℕ) → i < length breakpoints → get_or breakpoints i false ≡ true → i ≡ now.state.next
+    → now.state.world.stop ≡ None → Some Break ≡ reason breakpoints watches before now
 breaks breakpoints watches before now i l b n s =
-    let rest = watch_reason (changed_from 0 watches before.place.world.variables now.place.world.variables) in
+    let rest = watch_reason (changed_from 0 watches before.state.world.variables now.state.world.variables) in
     let found = ap (slice_get breakpoints) (sym n) ∙ slice_get-get_or breakpoints i false l ∙ ap Some b in
-    sym (ap (λ o. stop_reason o (break_reason (slice_get breakpoints now.place.next) rest)) s ∙ ap (λ o. break_reason o rest) found)
+    sym (ap (λ o. stop_reason o (break_reason (slice_get breakpoints now.state.next) rest)) s ∙ ap (λ o. break_reason o rest) found)
 
 -- one step more
 pub one_more : (n : ℕ) (m : Running) → later (n + 1) m ≡ later 1 (later n m)

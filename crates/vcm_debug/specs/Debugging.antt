@@ -35,4 +35,4 @@ shown d = after d.part d.code d.count
 
 -- where it stands
 abbrev pub now : Debugging → CodeState
-now d = (shown d).place
+now d = (shown d).state

@@ -36,9 +36,9 @@ stop_reason None other = other
 -- statement, and a watched variable whose value differs
 abbrev pub reason : List Bool → List Bool → Running → Running → Option Reason
 reason breakpoints watches before now =
-    stop_reason now.place.world.stop
-    (break_reason (slice_get breakpoints now.place.next)
-    (watch_reason (changed_from 0 watches before.place.world.variables now.place.world.variables)))
+    stop_reason now.state.world.stop
+    (break_reason (slice_get breakpoints now.state.next)
+    (watch_reason (changed_from 0 watches before.state.world.variables now.state.world.variables)))
 
 -- why a run from the machine `start` ends after j + 1 steps, if it does
 abbrev pub reason_after : List Bool → List Bool → Running → ℕ → Option Reason
@@ -76,4 +76,4 @@ run_end breakpoints watches (suc k) done now =
 
 -- how many of k steps are taken at a machine that has not stopped
 abbrev pub effective : ℕ → Running → ℕ
-effective k m = code_effective (setup m) m.code.statements k m.place
+effective k m = code_effective (setup m) m.code.statements k m.state

@@ -8,7 +8,8 @@ use Rattle.vcm_console.specs.declared.reply.Reason.{Reason}
 abbrev pub RunEndIsComputed : Type 0
 RunEndIsComputed =
     (breakpoints watches : List Bool) (start : Running) (k : ℕ) → 0 < k
-    → (j : ℕ) × (why : Reason) × RunEnds breakpoints watches start k j why × (run_end breakpoints watches k 0 start ≡ ends_after (suc j) why)
+    → (j : ℕ) × (why : Reason) × RunEnds breakpoints watches start k j why
+    × (run_end breakpoints watches k 0 start ≡ ends_after (suc j) why)
 
 -- where the relation holds of an end of a run, this is the computed one: no run has two ends
 abbrev pub RunEndIsUnique : Type 0

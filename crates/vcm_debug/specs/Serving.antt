@@ -51,7 +51,7 @@ pub record Exchange (old : Debugging) (line : List ℕ) (new : Debugging) (text 
   pub text_is : text ≡ answer_text new told
   pub last_is : last ≡ is_bye told
 
--- an empty line changes nothing and is not answered; any other line has its turn
+-- an empty line changes nothing and is not answered; any other line is answered
 abbrev pub IsExchange : Debugging → List ℕ → Debugging → List ℕ → Bool → Type 0
 IsExchange old [] new text last = (new ≡ old) × (text ≡ []) × (last ≡ false)
 IsExchange old (b ∷ bs) new text last = Exchange old (b ∷ bs) new text last

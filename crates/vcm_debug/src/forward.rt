@@ -62,7 +62,7 @@ fn reason<'a, P: Part>(
     requires watches { length watches.now ≡ length machine.now.code.tables.variables }
     requires before { length before.now ≡ length machine.now.code.tables.variables }
     requires noting { noting ≡ some_watched watches.now }
-    ensures { (s : Running) → (noting ≡ true → before.now ≡ s.place.world.variables) → result ≡ reason breakpoints.now watches.now s machine.now }
+    ensures { (s : Running) → (noting ≡ true → before.now ≡ s.state.world.variables) → result ≡ reason breakpoints.now watches.now s machine.now }
 {
     if machine.world().stop().is_some() {
         return Some(Reason::Stopped);
@@ -78,7 +78,7 @@ fn reason<'a, P: Part>(
 
 // The values of the variables.
 pub(crate) fn values<'b, 'a, P: Part>(machine: &'b Machine<'a, P>) -> &'b [i64]
-    ensures are { result.now ≡ machine.now.place.world.variables }
+    ensures are { result.now ≡ machine.now.state.world.variables }
     ensures count { length result.now ≡ length machine.now.code.tables.variables }
 {
     machine.world().variables()

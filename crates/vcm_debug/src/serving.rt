@@ -7,7 +7,7 @@ ghost use Rattle.vcm_console.specs.Parsing.{command_of};
 ghost use Rattle.vcm_console.specs.Replies.{ReplyFits};
 ghost use Rattle.vcm_debug.specs.Debugging.{now};
 ghost use Rattle.vcm_debug.specs.Serving.{without_return, content, answer_text, is_bye, AnswersTo, Served};
-ghost use Rattle.vcm_debug.specs.inner.Turns.{HasTurned, IsBye};
+ghost use Rattle.vcm_debug.specs.inner.Exchanges.{HasExchanged, IsBye};
 
 use crate::session::Session;
 use std::alloc::Global;
@@ -94,7 +94,7 @@ fn answer<P: Part, W: Write>(
     writer: &mut W,
 ) -> Result<bool, WriteFault>
     requires { session.old.count + 1000000 < 2 ^ 64 }
-    ensures turn { HasTurned session.old line.now session.new (W.contents writer.old) (W.contents writer.new) result }
+    ensures exchange { HasExchanged session.old line.now session.new (W.contents writer.old) (W.contents writer.new) result }
     ensures few { session.new.count ≤ session.old.count + 1000000 }
 {
     if line.is_empty() {

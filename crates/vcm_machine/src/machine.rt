@@ -36,7 +36,7 @@ impl<'a, P: Part> Model for Machine<'a, P> {
 
     ghost coded = { Prim.hlevel (codes, statement_coded) };
 
-    ghost view = { λ m. record { part = P.part m.part.now; code = code_of m.loaded.now; place = code_state m.world.state m.next m.pairs } };
+    ghost view = { λ m. record { part = P.part m.part.now; code = code_of m.loaded.now; state = code_state m.world.state m.next m.pairs } };
 
     ghost invariant = { λ m. (m.world.tables ≡ m.loaded.now.tables) × IsRunnable (code_of m.loaded.now) × (m.next < length m.loaded.now.statements) × Rests (P.part m.part.now) m.world.state };
 }
@@ -92,7 +92,7 @@ impl<'a, P: Part> Machine<'a, P> {
 
     /// The number of the next statement: at a stop that of the statement which stopped.
     pub fn next(&self) -> u32
-        ensures is { result ≡ self.now.place.next }
+        ensures is { result ≡ self.now.state.next }
         ensures within { result < length self.now.code.statements }
     {
         self.next
@@ -100,16 +100,16 @@ impl<'a, P: Part> Machine<'a, P> {
 
     /// The state of the machine, with the tables of its names.
     pub fn world(&self) -> &World
-        ensures state { result.now.state ≡ self.now.place.world }
+        ensures state { result.now.state ≡ self.now.state.world }
         ensures tables { result.now.tables ≡ self.now.code.tables }
-        ensures rests { Rests self.now.part self.now.place.world }
+        ensures rests { Rests self.now.part self.now.state.world }
     {
         &self.world
     }
 
     /// The state of the machine, alone.
     pub fn into_world(self) -> World
-        ensures state { result.state ≡ self.entry.place.world }
+        ensures state { result.state ≡ self.entry.state.world }
         ensures tables { result.tables ≡ self.entry.code.tables }
         ensures rests { Rests self.entry.part result.state }
     {
@@ -131,7 +131,7 @@ impl<'a, P: Part> Machine<'a, P> {
 
     // One step where there is no stop.
     fn go_on(&mut self, alloc: Global) -> Result<(), NoMemory>
-        requires { self.old.place.world.stop ≡ None }
+        requires { self.old.state.world.stop ≡ None }
         ensures ok { OnOk result (self.new ≡ later 1 self.old) }
         ensures err { OnErr result ((self.new ≡ self.old) × WantsMemory self.old) }
     {
@@ -159,7 +159,7 @@ impl<'a, P: Part> Machine<'a, P> {
 
     // The stop, if there is one.
     fn stop(&self) -> Option<StopPlace>
-        ensures { result ≡ self.now.place.world.stop }
+        ensures { result ≡ self.now.state.world.stop }
     {
         self.world.stop()
     }

@@ -1,21 +1,16 @@
 -- The rules of the phase of macros.
 use Rattle.std.specs.Prelude.{ℕ, ◌+◌, Bool, true, false, IsTrue, not, ◌&&◌, ◌||◌, nat_lt, nat_le, if◌then◌else◌, List, [], ◌∷◌, ◌++◌, drop}
 use Rattle.std.specs.Prelude.{length, map, Option, Some, None}
-use Rattle.std.specs.List.{list_any, list_all}
+use Rattle.std.specs.List.{list_any}
 use Rattle.vcm_lines.specs.declared.fault.FaultCode.{FaultCode}
 use Rattle.vcm_lines.specs.declared.fault.FaultCode.TheVariants.{TooDeep, DuplicateName, UnknownName, Unbalanced, BadArguments, TooLong}
-use Rattle.vcm_expr.specs.Source.{Source, is_small}
 use Rattle.vcm_syntax.specs.declared.statement.Parameter.{Parameter}
 use Rattle.vcm_syntax.specs.declared.statement.Argument.{Argument}
 use Rattle.vcm_syntax.specs.declared.statement.Form.{Form}
-use Rattle.vcm_syntax.specs.declared.statement.Form.TheVariants.{Declaration, Assignment, Move, Test, Otherwise, TestEnd, Repeat, RepeatEnd}
-use Rattle.vcm_syntax.specs.declared.statement.Form.TheVariants.{Feature, Measure, Touch, MeasureEnd, Configure, Shift, Query, Macro}
+use Rattle.vcm_syntax.specs.declared.statement.Form.TheVariants.{Declaration, Assignment, Test, Otherwise, TestEnd, Repeat, RepeatEnd}
+use Rattle.vcm_syntax.specs.declared.statement.Form.TheVariants.{Measure, MeasureEnd, Query, Macro}
 use Rattle.vcm_syntax.specs.declared.statement.Form.TheVariants.{MacroEnd}
 use Rattle.vcm_syntax.specs.declared.statement.Statement.{Statement}
-use Rattle.vcm_syntax.specs.declared.statement.Spot.{Spot}
-use Rattle.vcm_syntax.specs.declared.statement.Rounds.{Rounds}
-use Rattle.vcm_syntax.specs.declared.statement.Offset.{Offset}
-use Rattle.vcm_syntax.specs.Statements.{is_counted}
 use Rattle.vcm_macro.specs.declared.placed.Placed.{Placed}
 use Rattle.vcm_macro.specs.declared.fitting.Wanted.{Wanted}
 use Rattle.vcm_macro.specs.declared.fitting.Wanted.TheVariants.{Name as AName, Variable as AVariable, Value as AValue}

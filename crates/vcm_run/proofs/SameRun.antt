@@ -57,32 +57,32 @@ module _ (part : Workpiece) (program : Block) (c : Code) (same : (k : ℕ) → S
     abbrev reached : State
     reached = steps su done (opening su program)
 
-    stop_is : m.place.world.stop ≡ reached.world.stop
-    stop_is = ap (λ x. x.place.world.stop) e ∙ ap (λ w. w.stop) (same done).world
+    stop_is : m.state.world.stop ≡ reached.world.stop
+    stop_is = ap (λ x. x.state.world.stop) e ∙ ap (λ w. w.stop) (same done).world
 
     prints_is : WantsMemory m → takes_memory (next_node (front reached.entries)) ≡ true
-    prints_is w = sym (same done).prints ∙ sym (ap (λ x. next_prints (slice_get x.code.statements x.place.next)) e) ∙ w.prints
+    prints_is w = sym (same done).prints ∙ sym (ap (λ x. next_prints (slice_get x.code.statements x.state.next)) e) ∙ w.prints
 
     goes_is : WantsMemory m → (step su reached).world.stop ≡ None
-    goes_is w = sym (ap (λ x. x.stop) (next_world done)) ∙ sym (ap (λ x. (code_step (setup x) x.code.statements x.place).world.stop) e) ∙ w.goes_on
+    goes_is w = sym (ap (λ x. x.stop) (next_world done)) ∙ sym (ap (λ x. (code_step (setup x) x.code.statements x.state).world.stop) e) ∙ w.goes_on
 
     ends_so : (end : End) → RunEnded n (started part c) m done end → Ended su n (opening su program) reached done end
     ends_so ends.Stopped h = (h.0 ∙ same_effective n, (h.1.0, sym stop_is ∙ h.1.1))
     ends_so ends.Count h = (h.0, h.1 ∙ same_effective n, sym stop_is ∙ h.2)
     ends_so ends.NoMemory h = (h.0, h.1 ∙ same_effective done, sym stop_is ∙ (h.2).running, prints_is h.2, goes_is h.2)
 
-  run_is : (n : ℕ) (m : Running) (ran : Ran) → HasRun n (started part c) m ran → IsRun su program n m.place.world m.place.next ran
+  run_is : (n : ℕ) (m : Running) (ran : Ran) → HasRun n (started part c) m ran → IsRun su program n m.state.world m.state.next ran
   run_is n m ran h = record {
-    world_is = ap (λ x. x.place.world) h.new_is ∙ (same ran.done).world;
-    next_is = ap (λ x. x.place.next) h.new_is ∙ (same ran.done).next;
+    world_is = ap (λ x. x.state.world) h.new_is ∙ (same ran.done).world;
+    next_is = ap (λ x. x.state.next) h.new_is ∙ (same ran.done).next;
     ended = ends_so n m ran.done h.new_is ran.end h.ended;
   }
 
 -- a run of an assembled code
 pub assembled_run : (part : Workpiece) (program : Block) (tables : Tables) (c : Code) (n : ℕ) (m : Running) (ran : Ran) → IsAssembled program tables c
-    → HasRun n (started part c) m ran → IsRun (setup_of part tables) program n m.place.world m.place.next ran
+    → HasRun n (started part c) m ran → IsRun (setup_of part tables) program n m.state.world m.state.next ran
 assembled_run part program tables c n m ran a h =
-    subst (λ t. IsRun (setup_of part t) program n m.place.world m.place.next ran) a.tables_are
+    subst (λ t. IsRun (setup_of part t) program n m.state.world m.state.next ran) a.tables_are
     (run_is part program c (λ k. subst (λ t. SameAfter (setup_of part t) program c.statements k) (sym a.tables_are) (a.follows part k)) n m ran h)
 
 -- ---- the calls one by one
@@ -90,7 +90,7 @@ assembled_run part program tables c n m ran a h =
 -- codes that fit and have one image run alike
 pub calls_show : (part : Workpiece) (program : Block) (tables : Tables) (written loaded : Kept) (n : ℕ) (m : Running) (ran : Ran)
     → IsAssembled program tables (code_of written) → FitsImage written → FitsImage loaded → spelling written ≡ spelling loaded
-    → HasRun n (started part (code_of loaded)) m ran → IsRun (setup_of part tables) program n m.place.world m.place.next ran
+    → HasRun n (started part (code_of loaded)) m ran → IsRun (setup_of part tables) program n m.state.world m.state.next ran
 calls_show part program tables written loaded n m ran a f g e h =
     assembled_run part program tables (code_of loaded) n m ran (subst (λ k. IsAssembled program tables (code_of k)) (one_image written loaded f g e) a) h
 
@@ -110,7 +110,7 @@ text_run part text bytes notices n s l b f e r ns =
       tables_are = r.tables_are ∙ a.tables_are;
       notices = ns ∙ b.notices_are;
       run = subst (λ w. IsRun (setup_of part b.parsed.tables) b.parsed.program n w s.next s.ran) (sym r.world_is)
-          (subst (λ k. IsRun (setup_of part b.parsed.tables) b.parsed.program n r.machine.place.world k s.ran) (sym r.next_is) run);
+          (subst (λ k. IsRun (setup_of part b.parsed.tables) b.parsed.program n r.machine.state.world k s.ran) (sym r.next_is) run);
     }
 
 -- the same of what a call returned

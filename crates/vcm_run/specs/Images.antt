@@ -15,8 +15,8 @@ pub record IsCodeRun (part : Workpiece) (c : Code) (n : ℕ) (s : Shown) : Type 
   pub tables_are : s.held.tables ≡ c.tables
   pub machine : Running
   pub has_run : HasRun n (started part (code_of c)) machine s.ran
-  pub world_is : s.held.state ≡ machine.place.world
-  pub next_is : s.next ≡ machine.place.next
+  pub world_is : s.held.state ≡ machine.state.world
+  pub next_is : s.next ≡ machine.state.next
 
 -- the bytes are the image of a valid code, and this is a run of it for n steps, without notices
 pub record IsImageRun (part : Workpiece) (bytes : List ℕ) (n : ℕ) (s : Shown) : Type 0 where

@@ -16,4 +16,4 @@ use Rattle.vcm_run.specs.Run.{IsRun}
 abbrev pub CallsShowTheProgram : Type 0
 CallsShowTheProgram = (part : Workpiece) (program : Block) (tables : Tables) (written loaded : Code) (n : ℕ) (m : Running) (ran : Ran)
     → IsAssembled program tables (code_of written) → FitsImage written → FitsImage loaded → spelling written ≡ spelling loaded
-    → HasRun n (started part (code_of loaded)) m ran → IsRun (setup_of part tables) program n m.place.world m.place.next ran
+    → HasRun n (started part (code_of loaded)) m ran → IsRun (setup_of part tables) program n m.state.world m.state.next ran

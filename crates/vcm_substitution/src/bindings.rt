@@ -1,6 +1,6 @@
 //! What a body is expanded with, and substitution in expressions and names.
 
-ghost use Rattle.std.specs.Prelude.{◌≡◌, [], ◌∷◌, List, true, false, IfOk, OnOk, IfErr};
+ghost use Rattle.std.specs.Prelude.{◌≡◌, ◌↔◌, [], ◌∷◌, List, IsTrue, true, false, IfOk, OnOk, IfErr};
 ghost use Rattle.std.specs.Option.{option_copied};
 ghost use Rattle.vcm_lines.specs.Fault.{NoMemoryOr, no_memory};
 ghost use Rattle.vcm_lines.specs.declared.fault.FaultCode.{FaultCode};
@@ -126,7 +126,7 @@ impl<'a> Bindings<'a> {
 
     /// Whether nothing stands for anything.
     pub fn is_empty(&self) -> bool
-        ensures { result ≡ true → self.now.parameters ≡ [] }
+        ensures { IsTrue result ↔ (self.now.parameters ≡ []) }
     {
         self.parameters.is_empty()
     }

@@ -1,5 +1,5 @@
 use Rattle.vcm_debug.specs.Debugging.{now}
-use Rattle.vcm_debug.proofs.Turns.{refused, refused_fits}
+use Rattle.vcm_debug.proofs.Exchanges.{refused, refused_fits}
 use Rattle.vcm_debug.proofs.serving.answer_to.Goals as goal
 
 pub returns-in-Err-clause-answers : goal.returns-in-Err-clause-answers

@@ -6,10 +6,11 @@ use Rattle.vcm_console.specs.declared.reply.ServeFault.{ServeFault}
 use Rattle.vcm_debug.specs.Debugging.{Debugging}
 use Rattle.vcm_debug.specs.Serving.{IsExchange, MayEnd, WritesSome, Writes}
 
--- what answering a line did
-abbrev pub HasTurned : Debugging → List ℕ → Debugging → Option (List ℕ) → Option (List ℕ) → Result Bool WriteFault → Type 0
-HasTurned old line new before after (Ok last) = (text : List ℕ) × IsExchange old line new text last × Appends before after text
-HasTurned old line new before after (Err e) = (text : List ℕ) × (last : Bool) × IsExchange old line new text last × WritesSome before after text
+-- what answering a line did: all of its text is written, or some of it
+abbrev pub HasExchanged : Debugging → List ℕ → Debugging → Option (List ℕ) → Option (List ℕ) → Result Bool WriteFault → Type 0
+HasExchanged old line new before after (Ok last) = (text : List ℕ) × IsExchange old line new text last × Appends before after text
+HasExchanged old line new before after (Err e) =
+    (text : List ℕ) × (last : Bool) × IsExchange old line new text last × WritesSome before after text
 
 -- the last reply was written, or a front of it
 abbrev pub IsBye : Result (Unit {0}) ServeFault → Option (List ℕ) → Option (List ℕ) → Type 0

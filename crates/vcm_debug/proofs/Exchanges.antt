@@ -16,35 +16,35 @@ use Rattle.vcm_console.specs.Replies.{ReplyFits}
 use Rattle.vcm_debug.specs.Debugging.{Debugging}
 use Rattle.vcm_debug.specs.Session.{Carries}
 use Rattle.vcm_debug.specs.Serving.{answer_text, AnswersTo, is_bye, Exchange, IsExchange}
-use Rattle.vcm_debug.specs.inner.Turns.{HasTurned}
+use Rattle.vcm_debug.specs.inner.Exchanges.{HasExchanged}
 
-turn_of : (old new : Debugging) (line text : List ℕ) (last : Bool) → 0 < length line → Exchange old line new text last → IsExchange old line new text last
-turn_of old new [] text last l t = absurd (omega arith)
-turn_of old new (b ∷ bs) text last l t = t
+exchange_of : (old new : Debugging) (line text : List ℕ) (last : Bool) → 0 < length line → Exchange old line new text last → IsExchange old line new text last
+exchange_of old new [] text last l t = absurd (omega arith)
+exchange_of old new (b ∷ bs) text last l t = t
 
 -- a line was answered
-told_turn : (old new : Debugging) (line : List ℕ) (told : Result Reply Halted) → 0 < length line → AnswersTo old (command_of line) new told
+told_exchange : (old new : Debugging) (line : List ℕ) (told : Result Reply Halted) → 0 < length line → AnswersTo old (command_of line) new told
     → IsExchange old line new (answer_text new told) (is_bye told)
-told_turn old new line told l a = turn_of old new line _ _ l (record { told = told; answers = a; text_is = refl; last_is = refl })
+told_exchange old new line told l a = exchange_of old new line _ _ l (record { told = told; answers = a; text_is = refl; last_is = refl })
 
 -- the answer was written and handed on
-pub turn_told : (old new : Debugging) (line : List ℕ) (told : Result Reply Halted) (before written after : Option (List ℕ)) (last : Bool) → 0 < length line
+pub exchange_told : (old new : Debugging) (line : List ℕ) (told : Result Reply Halted) (before written after : Option (List ℕ)) (last : Bool) → 0 < length line
     → AnswersTo old (command_of line) new told → Appends before written (answer_text new told) → Keeps written after → last ≡ is_bye told
-    → HasTurned old line new before after (Ok last)
-turn_told old new line told before written after last l a w k e =
-    subst (λ b. HasTurned old line new before after (Ok b)) (sym e)
-    (answer_text new told, told_turn old new line told l a, Appends-kept before written after (answer_text new told) w k)
+    → HasExchanged old line new before after (Ok last)
+exchange_told old new line told before written after last l a w k e =
+    subst (λ b. HasExchanged old line new before after (Ok b)) (sym e)
+    (answer_text new told, told_exchange old new line told l a, Appends-kept before written after (answer_text new told) w k)
 
 -- it was written and not handed on
-pub turn_kept : (old new : Debugging) (line : List ℕ) (told : Result Reply Halted) (before written after : Option (List ℕ)) (e : WriteFault) → 0 < length line
-    → AnswersTo old (command_of line) new told → Appends before written (answer_text new told) → Keeps written after → HasTurned old line new before after (Err e)
-turn_kept old new line told before written after e l a w k =
-    (answer_text new told, is_bye told, told_turn old new line told l a, inr (Appends-kept before written after (answer_text new told) w k))
+pub exchange_kept : (old new : Debugging) (line : List ℕ) (told : Result Reply Halted) (before written after : Option (List ℕ)) (e : WriteFault) → 0 < length line
+    → AnswersTo old (command_of line) new told → Appends before written (answer_text new told) → Keeps written after → HasExchanged old line new before after (Err e)
+exchange_kept old new line told before written after e l a w k =
+    (answer_text new told, is_bye told, told_exchange old new line told l a, inr (Appends-kept before written after (answer_text new told) w k))
 
 -- it was not written
-pub turn_cut : (old new : Debugging) (line : List ℕ) (told : Result Reply Halted) (before after : Option (List ℕ)) (e : WriteFault) → 0 < length line
-    → AnswersTo old (command_of line) new told → AppendsFront before after (answer_text new told) → HasTurned old line new before after (Err e)
-turn_cut old new line told before after e l a w = (answer_text new told, is_bye told, told_turn old new line told l a, inl w)
+pub exchange_cut : (old new : Debugging) (line : List ℕ) (told : Result Reply Halted) (before after : Option (List ℕ)) (e : WriteFault) → 0 < length line
+    → AnswersTo old (command_of line) new told → AppendsFront before after (answer_text new told) → HasExchanged old line new before after (Err e)
+exchange_cut old new line told before after e l a w = (answer_text new told, is_bye told, told_exchange old new line told l a, inl w)
 
 -- a command is carried out, and a line that spells none is refused
 pub carried : (old new : Debugging) (line : List ℕ) (what : Command) (told : Result Reply Halted) → Ok what ≡ command_of line → Carries old what new told
