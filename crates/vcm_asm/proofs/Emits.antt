@@ -4,7 +4,7 @@ use Rattle.std.specs.Prelude.{OnOk}
 use Rattle.vcm_spec.specs.declared.expression.Item.{Item}
 use Rattle.vcm_spec.specs.Expression.{Tree, spelling}
 use Rattle.vcm_spec.specs.Program.{Label as Name, Node, Block, then, size, sizes, choice, choice_else, do_loop, meas}
-use Rattle.vcm_tree.specs.Nodes.{choice_by}
+use Rattle.vcm_nodes.specs.Nodes.{choice_by}
 use Rattle.vcm_code.specs.declared.op.Op.{Op as Kept}
 use Rattle.vcm_code.specs.Ops.{op_of}
 use Rattle.vcm_code.specs.Code.{If, Else, EndIf, Do, EndDo, Meas, EndMes, Statement, statement}

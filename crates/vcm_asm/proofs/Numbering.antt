@@ -7,8 +7,8 @@ use Rattle.vcm_spec.specs.Expression.{Tree}
 use Rattle.vcm_spec.specs.Program.{Label, Block, sizes, is_same_label}
 use Rattle.vcm_spec.specs.Table.{if_true}
 use Rattle.vcm_spec.proofs.Labels.{same_label}
-use Rattle.vcm_tree.specs.inner.SameLabels.{label_sym}
-use Rattle.vcm_tree.specs.Nodes.{choice_by}
+use Rattle.vcm_nodes.specs.inner.SameLabels.{label_sym}
+use Rattle.vcm_nodes.specs.Nodes.{choice_by}
 use Rattle.vcm_asm.specs.Assembled.{Mark, node_marks, marks, place_in}
 use Rattle.vcm_asm.specs.inner.Once.{Absent, Once}
 

@@ -6,7 +6,7 @@ use Rattle.vcm_spec.specs.Setup.{Tables}
 use Rattle.vcm_spec.specs.Program.{Label, Node, Block, simple, label, jump, choice, choice_else, do_loop, meas, ending, done, then, size, sizes, is_same_label}
 use Rattle.vcm_spec.specs.Whole.{Jumps}
 use Rattle.vcm_spec.proofs.Labels.{label_itself}
-use Rattle.vcm_tree.specs.Jumps.{is_among, node_labels, labels_of}
+use Rattle.vcm_nodes.specs.Jumps.{is_among, node_labels, labels_of}
 use Rattle.vcm_tree.specs.Program.{NodeNests, BlockNests, AreDistinct, IsWhole}
 use Rattle.vcm_tree.proofs.Reaching.{whole_steps}
 use Rattle.vcm_asm.specs.Assembled.{Mark, node_marks, marks}

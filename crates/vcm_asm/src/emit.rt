@@ -4,7 +4,7 @@ ghost use Rattle.std.specs.Prelude.{◌≡◌, ◌+◌, ◌++◌, ◌≤◌, len
 ghost use Rattle.vcm_spec.specs.Expression.{spelling};
 ghost use Rattle.vcm_spec.specs.Simple.{with_form};
 ghost use Rattle.vcm_spec.specs.Program.{size, sizes};
-ghost use Rattle.vcm_tree.specs.Nodes.{action_of, node_of};
+ghost use Rattle.vcm_nodes.specs.Nodes.{action_of, node_of};
 ghost use Rattle.vcm_code.specs.Code.{Plain, Do};
 ghost use Rattle.vcm_code.specs.Ops.{op_of};
 ghost use Rattle.vcm_asm.specs.inner.Spelled.{Keeps, KeepThree, SimpleKeeps, NodeKeeps, BlockKeeps};
@@ -16,9 +16,9 @@ use crate::numbers::Numbers;
 use std::alloc::Global;
 use vcm_code::{Op, OwnedOp};
 use vcm_expr::{Typed, to_postfix};
+use vcm_nodes::{Action, Block, Node};
 use vcm_num::{Items, NoMemory};
 use vcm_spec::Item;
-use vcm_tree::{Action, Block, Node};
 
 // The postfix items of an expression.
 fn postfix(alloc: Global, e: &Typed) -> Result<Items<Item>, NoMemory>

@@ -2,13 +2,13 @@
 
 ghost use Rattle.std.specs.Prelude.{◌≡◌, ◌+◌, ◌++◌, ◌≤◌, IfOk, OnOk};
 ghost use Rattle.vcm_spec.specs.Program.{size, sizes};
-ghost use Rattle.vcm_tree.specs.Nodes.{node_of};
+ghost use Rattle.vcm_nodes.specs.Nodes.{node_of};
 ghost use Rattle.vcm_asm.specs.Assembled.{marks, node_marks};
 ghost use Rattle.vcm_asm.specs.inner.Once.{Once};
 
 use crate::numbers::Numbers;
 use std::alloc::AllocError;
-use vcm_tree::{Block, Node};
+use vcm_nodes::{Block, Node};
 
 /// Adds the labels of a block whose first statement has the number `base`. The answer is the number behind its last statement.
 #[cycle(mark)]

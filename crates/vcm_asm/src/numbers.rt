@@ -7,7 +7,7 @@ ghost use Rattle.vcm_asm.specs.inner.Once.{Absent};
 use indexmap::IndexMap;
 use std::alloc::{AllocError, Global};
 use std::marker::Model;
-use vcm_tree::Label;
+use vcm_nodes::Label;
 
 /// Labels with the numbers of their statements, in the order in which they were added. Contracts see it as a list of marks.
 #[derive(Drop)]

@@ -14,7 +14,7 @@ use Rattle.vcm_macro.specs.declared.placed.Placed.{Placed}
 use Rattle.vcm_macro.specs.Expansion.{IsExpanded, IsRefused as IsUnexpanded}
 use Rattle.vcm_macro.proofs.Answered.{either as no_refusal, line as one_told, expansion as one_expanded}
 use Rattle.vcm_tree.specs.Resolving.{BreaksNames, names_line}
-use Rattle.vcm_tree.specs.Jumps.{labels_of, jumps_of, BreaksJumps, jumps_line}
+use Rattle.vcm_nodes.specs.Jumps.{labels_of, jumps_of, BreaksJumps, jumps_line}
 use Rattle.vcm_spec.specs.Setup.{Tables}
 use Rattle.vcm_tree.specs.Program.{Parsed, IsParsed}
 use Rattle.vcm_spec.specs.Program.{Block}

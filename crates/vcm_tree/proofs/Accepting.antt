@@ -9,7 +9,7 @@ use Rattle.vcm_macro.specs.declared.placed.Placed.{Placed}
 use Rattle.vcm_macro.specs.Expansion.{IsRefused as IsUnexpanded}
 use Rattle.vcm_tree.specs.Statements.{BreaksStatements, statement_line}
 use Rattle.vcm_tree.specs.Resolving.{start, BreaksNames, names_line}
-use Rattle.vcm_tree.specs.Jumps.{labels_of, jumps_of, BreaksJumps, jumps_line}
+use Rattle.vcm_nodes.specs.Jumps.{labels_of, jumps_of, BreaksJumps, jumps_line}
 use Rattle.vcm_tree.specs.Program.{Parsed, IsWhole}
 use Rattle.vcm_tree.specs.Acceptance.{ReadsLines, ReadsStatements, ReadsText, ReadsProgram, IsAccepted, IsRefused, in_statements, in_expansion, in_names, in_jumps}
 use Rattle.vcm_tree.proofs.Kept.{ended_all, few_all, lettered_all}

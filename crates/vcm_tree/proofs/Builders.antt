@@ -9,7 +9,7 @@ use Rattle.vcm_tree.specs.declared.builder.Head.{Head}
 use Rattle.vcm_tree.specs.declared.builder.Head.TheVariants.{First, Second, Body, Measuring}
 use Rattle.vcm_tree.specs.declared.builder.Open.{Open}
 use Rattle.vcm_tree.specs.declared.builder.Builder.{Builder}
-use Rattle.vcm_tree.specs.Nodes.{with_last}
+use Rattle.vcm_nodes.specs.Nodes.{with_last}
 use Rattle.vcm_tree.specs.Sentences.{Step, Sentence, sentence, Tests, Divides, EndsTest, EndsRepeat, EndsMeasure, Ends, node_sentences, sentences}
 use Rattle.vcm_tree.specs.Blocks.{Opened, InFirst, InSecond, InBody, InMeasure, room, room_by, nested, divided, test_ended, repeat_ended, ended}
 use Rattle.vcm_tree.specs.Features.{measure_ended, measuring}

@@ -5,7 +5,7 @@ use Rattle.std.proofs.lemmas.List.{take_all}
 use Rattle.vcm_macro.specs.declared.placed.Placed.{Placed}
 use Rattle.vcm_tree.specs.declared.taking.Progress.{Progress}
 use Rattle.vcm_tree.specs.Ended.{is_ended}
-use Rattle.vcm_tree.specs.Jumps.{labels_of}
+use Rattle.vcm_nodes.specs.Jumps.{labels_of}
 use Rattle.vcm_tree.specs.Blocks.{Behind}
 use Rattle.vcm_tree.specs.Resolving.{behind_all, start}
 use Rattle.vcm_tree.specs.inner.Taking.{behind_of}

@@ -6,10 +6,6 @@ pub mod Builders
 pub mod Repeats
 pub mod Takings
 pub mod Walking
-pub mod Jumping
-pub mod SameNames
-pub mod Entering
-pub mod JumpSteps
 pub mod Written
 pub mod MeantCounts
 pub mod MeantNesting

@@ -16,9 +16,9 @@ use Rattle.vcm_syntax.specs.declared.statement.Form.{Form}
 use Rattle.vcm_syntax.specs.declared.statement.Form.TheVariants.{Opening, Measures as Units, Ignored, Declaration, Assignment, Move, Home, Say, Test, Otherwise, TestEnd, Repeat, RepeatEnd, Mark, Leap, Feature, Measure, Touch, MeasureEnd, Configure, Shift, Rotation, Restore, Query, Report, Macro, MacroEnd, Call, Ending}
 use Rattle.vcm_macro.specs.declared.placed.Placed.{Placed}
 use Rattle.vcm_tree.specs.Sentences.{Step, Marks, Tests, Repeats, Measures}
-use Rattle.vcm_tree.specs.Jumps.{is_among}
+use Rattle.vcm_nodes.specs.Jumps.{is_among}
 use Rattle.vcm_tree.specs.Program.{AreDistinct}
-use Rattle.vcm_tree.specs.inner.SameLabels.{label_sym}
+use Rattle.vcm_nodes.specs.inner.SameLabels.{label_sym}
 use Rattle.vcm_tree.specs.Variables.{with_all, assigned, moved}
 use Rattle.vcm_tree.specs.Blocks.{Behind, Opened, InFirst, InSecond, InBody, InMeasure, room, nested, tested, indexed, increment_of, repeated, divided, test_ended, repeat_ended, ended, marked, label_of}
 use Rattle.vcm_tree.specs.Features.{known, declared, opened_measure, touched, measure_ended, configured, shifted, rotated, recalled, obtained, reported}
@@ -27,7 +27,7 @@ use Rattle.vcm_tree.proofs.Standing.{standing, standing_ok}
 use Rattle.vcm_tree.proofs.Walking.{AllMean}
 use Rattle.vcm_tree.proofs.Written.{step_labels}
 use Rattle.vcm_tree.proofs.MeantCounts.{labels_step}
-use Rattle.vcm_tree.proofs.Jumping.{from_not}
+use Rattle.vcm_nodes.proofs.Jumping.{from_not}
 use Rattle.vcm_spec.specs.Results.{◌>>=◌}
 
 -- ---- no label stands twice

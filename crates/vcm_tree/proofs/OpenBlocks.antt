@@ -12,7 +12,7 @@ use Rattle.vcm_spec.specs.Setup.{Variable}
 use Rattle.vcm_expr.specs.Typing.{typed_for}
 use Rattle.vcm_expr.specs.declared.typing.Want.TheVariants as wants
 use Rattle.vcm_syntax.specs.declared.statement.Rounds.{Rounds}
-use Rattle.vcm_tree.specs.Nodes.{with_last}
+use Rattle.vcm_nodes.specs.Nodes.{with_last}
 use Rattle.vcm_tree.specs.Sentences.{Step, Sentence, sentence, Does, Marks, Leaps, Tests, Divides, EndsTest, Repeats, EndsRepeat, Measures, EndsMeasure, Ends, node_sentences, sentences}
 use Rattle.vcm_tree.specs.Blocks.{Opened, InFirst, InSecond, InBody, InMeasure, indexed, increment_of, repeated, divided, test_ended, repeat_ended, ended, marked}
 use Rattle.vcm_tree.specs.Features.{measure_ended}

@@ -6,11 +6,11 @@ use Rattle.vcm_lines.specs.declared.fault.FaultCode.TheVariants.{UnknownName, Ju
 use Rattle.vcm_spec.specs.Phase.{IsClean}
 use Rattle.vcm_spec.specs.Program.{Label, Node, Block, simple, label, jump, choice, choice_else, do_loop, meas, ending, done, then, node_at, is_same_label}
 use Rattle.vcm_spec.specs.Whole.{IsAround, NodeJumps, Jumps, AlwaysSteps}
-use Rattle.vcm_tree.specs.Jumps.{Jump, own_labels, node_jumps, jumps_in, jumps_of, labels_of, is_among, BreaksJumps}
-use Rattle.vcm_tree.specs.inner.Judging.{AllReach}
+use Rattle.vcm_nodes.specs.Jumps.{Jump, own_labels, node_jumps, jumps_in, jumps_of, labels_of, is_among, BreaksJumps}
+use Rattle.vcm_nodes.specs.inner.Judging.{AllReach}
 use Rattle.vcm_tree.specs.Program.{IsWhole}
 use Rattle.vcm_spec.specs.Setup.{Tables}
-use Rattle.vcm_tree.specs.inner.SameLabels.{same_label}
+use Rattle.vcm_nodes.specs.inner.SameLabels.{same_label}
 
 -- ---- a label among those of a block stands directly in it
 

@@ -11,7 +11,7 @@ use Rattle.vcm_syntax.specs.declared.statement.Statement.{Statement}
 use Rattle.vcm_macro.specs.declared.placed.Placed.{Placed}
 use Rattle.vcm_syntax.specs.Statements.{is_counted}
 use Rattle.vcm_tree.specs.Ended.{is_ended}
-use Rattle.vcm_tree.specs.Jumps.{labels_of, jumps_of, BreaksJumps}
+use Rattle.vcm_nodes.specs.Jumps.{labels_of, jumps_of, BreaksJumps}
 use Rattle.vcm_tree.specs.Sentences.{Sentence, sentences}
 use Rattle.vcm_tree.specs.Resolving.{behind_all, start, BreaksNames}
 use Rattle.vcm_tree.specs.Program.{Parsed, IsParsed, IsWhole, AreDistinct, tables_of}

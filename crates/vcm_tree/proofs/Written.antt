@@ -7,7 +7,7 @@ use Rattle.vcm_spec.specs.Program.{Label, Node, Block, simple, label, jump, choi
 use Rattle.vcm_spec.specs.Fitting.{Fits, HasKindIn, kinds as kinds_in, NodeFits, BlockFits}
 use Rattle.std.specs.Prelude.{slice_get, Some}
 use Rattle.vcm_tree.specs.Sentences.{Step, Sentence, sentence, Does, Marks, Tests, Divides, EndsTest, Repeats, EndsRepeat, Measures, EndsMeasure, Ends, node_sentences, sentences}
-use Rattle.vcm_tree.specs.Jumps.{node_labels, labels_of}
+use Rattle.vcm_nodes.specs.Jumps.{node_labels, labels_of}
 use Rattle.vcm_spec.specs.Whole.{is_end, is_closed}
 use Rattle.vcm_tree.specs.Program.{NodeNests, BlockNests}
 

@@ -9,7 +9,7 @@ use Rattle.vcm_tree.specs.Statements.{AreSpelled, BreaksStatements, statement_li
 use Rattle.vcm_macro.specs.declared.placed.Placed.{Placed}
 use Rattle.vcm_macro.specs.Expansion.{IsExpanded, IsRefused as IsUnexpanded}
 use Rattle.vcm_tree.specs.Resolving.{BreaksNames, names_line}
-use Rattle.vcm_tree.specs.Jumps.{labels_of, jumps_of, BreaksJumps, jumps_line}
+use Rattle.vcm_nodes.specs.Jumps.{labels_of, jumps_of, BreaksJumps, jumps_line}
 use Rattle.vcm_tree.specs.Program.{Parsed, IsParsed}
 
 -- these are the statements of the text before they are read, and no rule of lines is broken

@@ -5,9 +5,7 @@ pub mod Variables
 pub mod Blocks
 pub mod Features
 pub mod Resolving
-pub mod Jumps
 pub mod Program
-pub mod Nodes
 pub mod Acceptance
 pub mod inner
 pub mod Laws

@@ -15,7 +15,7 @@ use Rattle.vcm_tree.specs.declared.program.Noticed.{Noticed}
 use Rattle.vcm_tree.specs.Sentences.{sentences}
 use Rattle.vcm_tree.specs.Blocks.{Behind}
 use Rattle.vcm_tree.specs.Resolving.{start, behind_all, sentences_from}
-use Rattle.vcm_tree.specs.Jumps.{is_among, labels_of, jumps_of, BreaksJumps}
+use Rattle.vcm_nodes.specs.Jumps.{is_among, labels_of, jumps_of, BreaksJumps}
 
 -- the tables of the names that statements leave behind them: variables in the order of their declarations, features in that of their first
 -- FEAT, frames in that of their first TRANS or ROTATE

@@ -2,12 +2,8 @@
 #![tactic(auto)]
 
 mod builder;
-mod count;
-mod jumps;
-mod labels;
 pub mod laws;
 mod measuring;
-mod node;
 mod phases;
 mod program;
 mod resolving;
@@ -16,7 +12,7 @@ mod tables;
 mod taking;
 mod titles;
 
-pub use node::{Action, Block, Label, Node};
 pub use phases::accept;
 pub use program::{Accepted, Noticed};
 pub use titles::Titles;
+pub use vcm_nodes::{Action, Block, Label, Node};

@@ -3,15 +3,12 @@
 ghost use Rattle.std.specs.Prelude.{◌≡◌, ◌≤◌, ◌++◌, IfOk, IfErr, OnOk, IsTrue, length};
 ghost use Rattle.vcm_lines.specs.Fault.{NoMemoryOr};
 ghost use Rattle.vcm_spec.specs.Phase.{IsClean, FirstFault};
-ghost use Rattle.vcm_tree.specs.Jumps.{labels_of};
+ghost use Rattle.vcm_nodes.specs.Jumps.{labels_of};
 ghost use Rattle.vcm_tree.specs.Ended.{is_ended};
 ghost use Rattle.vcm_tree.specs.Program.{notice_of, notices_of, IsParsed};
 ghost use Rattle.vcm_tree.specs.Resolving.{BreaksNames, names_line};
 
 use crate::builder::Builder;
-use crate::count::count;
-use crate::labels::Labels;
-use crate::node::Block;
 use crate::tables::tables_of;
 use crate::taking::{Progress, take};
 use crate::titles::Titles;
@@ -20,6 +17,7 @@ use std::marker::Model;
 use vcm_expr::Names;
 use vcm_lines::SourceFault;
 use vcm_macro::Placed;
+use vcm_nodes::{Block, Labels, count};
 use vcm_num::NoMemory;
 use vcm_syntax::{Form, Notice, Statement};
 use vcm_tables::Tables;
@@ -129,7 +127,7 @@ pub struct Accepted {
 
 impl Model for Accepted {
     ghost use Rattle.vcm_tree.specs.Program.{Parsed, IsWhole};
-    ghost use Rattle.vcm_tree.specs.inner.Codes.{block_coded};
+    ghost use Rattle.vcm_nodes.specs.inner.Codes.{block_coded};
     ghost use Rattle.std.specs.Coded.{codes};
 
     ghost Value = { Parsed };

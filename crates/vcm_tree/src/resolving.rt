@@ -2,7 +2,7 @@
 
 ghost use Rattle.std.specs.Prelude.{◌≡◌, ◌∷◌, ◌++◌, [], Ok, Err, OnOk, IfOk, IfErr, MatchResult};
 ghost use Rattle.vcm_lines.specs.Fault.{NoMemoryOr};
-ghost use Rattle.vcm_tree.specs.Nodes.{action_of};
+ghost use Rattle.vcm_nodes.specs.Nodes.{action_of};
 ghost use Rattle.vcm_tree.specs.Sentences.{sentence, Marks};
 ghost use Rattle.vcm_tree.specs.Variables.{is_declared, with_one, with_all, want_of, assigned, moved};
 ghost use Rattle.vcm_tree.specs.Blocks.{indexed, increment_of, repeated, nested, tested, marked};
@@ -11,12 +11,11 @@ ghost use Rattle.vcm_tree.specs.inner.Building.{blocks_of, written, Reads};
 ghost use Rattle.vcm_tree.specs.inner.Taking.{IsBody};
 
 use crate::builder::{Builder, Head};
-use crate::labels::Labels;
 use crate::measuring::lengths;
-use crate::node::{Action, Label};
 use std::alloc::Global;
 use vcm_expr::{Expr, Name, Names, Typed, VariableName, Want, type_expr};
 use vcm_lines::{FaultCode, SourceFault};
+use vcm_nodes::{Action, Label, Labels};
 use vcm_num::Kind;
 use vcm_spec::Operand;
 use vcm_syntax::{Rounds, Spot, Target};

@@ -3,22 +3,21 @@
 ghost use Rattle.std.specs.Prelude.{◌≡◌, None, IfOk, IfErr, OnOk};
 ghost use Rattle.vcm_lines.specs.Fault.{NoMemoryOr};
 ghost use Rattle.vcm_spec.specs.Simple.{Text};
-ghost use Rattle.vcm_tree.specs.Nodes.{action_of};
+ghost use Rattle.vcm_nodes.specs.Nodes.{action_of};
 ghost use Rattle.vcm_tree.specs.Resolving.{is_barred, acted, stated, resolved_here};
 ghost use Rattle.vcm_tree.specs.inner.Telling.{ToldAt};
 ghost use Rattle.vcm_tree.specs.inner.Taking.{behind_of, Acts, ActedAt, Takes, TakesStated};
 
 use crate::builder::{Builder, bad_body};
-use crate::labels::Labels;
 use crate::measuring::{
     configure, declare_feature, measure, obtain, recall, report, rotate, shift, touch,
 };
-use crate::node::{Action, Label};
 use crate::resolving::{assign, declare_all, go_to, mark, repeat, test};
 use crate::titles::Titles;
 use std::alloc::{AllocError, Global};
 use vcm_expr::Names;
 use vcm_lines::SourceFault;
+use vcm_nodes::{Action, Label, Labels};
 use vcm_syntax::{Form, OperatorText, Statement};
 
 /// What is read of a program: its variables, its features and frames, its jump labels, its blocks, and whether the `MEAS` block that is open

@@ -10,8 +10,8 @@ use Rattle.vcm_spec.specs.Simple.{Simple}
 use Rattle.vcm_tree.specs.declared.builder.Head.{Head}
 use Rattle.vcm_tree.specs.declared.builder.Head.TheVariants.{Body}
 use Rattle.vcm_tree.specs.declared.taking.Progress.{Progress}
-use Rattle.vcm_tree.specs.declared.node.Action.{Action}
-use Rattle.vcm_tree.specs.Nodes.{action_of}
+use Rattle.vcm_nodes.specs.declared.node.Action.{Action}
+use Rattle.vcm_nodes.specs.Nodes.{action_of}
 use Rattle.vcm_tree.specs.Sentences.{Repeats}
 use Rattle.vcm_tree.specs.Blocks.{Measured, measured, Behind, behind, repeated}
 use Rattle.vcm_tree.specs.Resolving.{measured_after, Meaning, acted, stated, resolved_here, behind_by, sentences_by}

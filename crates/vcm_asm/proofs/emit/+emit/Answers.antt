@@ -1,6 +1,6 @@
 use Rattle.std.proofs.Common.{◌≡◌, suc, ◌+◌, ◌<◌, ◌++◌, ◌∷◌, length, drop, ap, sym, ◌∙◌, arith, subst, length-append, add-one, drop-cons}
 use Rattle.vcm_spec.specs.Program.{size, sizes}
-use Rattle.vcm_tree.specs.Nodes.{node_of, block_of, choice_by}
+use Rattle.vcm_nodes.specs.Nodes.{node_of, block_of, choice_by}
 use Rattle.vcm_asm.specs.inner.Depth.{NodeDeep, Deep}
 use Rattle.vcm_asm.specs.inner.Spelled.{NodeKeeps, BlockKeeps}
 use Rattle.vcm_asm.specs.Assembled.{node_code, block_code, place_in}

@@ -1,6 +1,6 @@
 use Rattle.std.proofs.Common.{◌≡◌, ◌≤◌, suc, ◌+◌, ◌++◌, drop, length}
 use Rattle.vcm_spec.specs.Program.{size, sizes}
-use Rattle.vcm_tree.specs.Nodes.{node_of, block_of}
+use Rattle.vcm_nodes.specs.Nodes.{node_of, block_of}
 use Rattle.vcm_asm.specs.inner.Spelled.{BlockKeeps}
 use Rattle.vcm_asm.specs.inner.Depth.{Deep}
 use Rattle.vcm_asm.specs.Assembled.{block_code, place_in}

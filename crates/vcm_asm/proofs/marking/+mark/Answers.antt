@@ -1,6 +1,6 @@
 use Rattle.std.proofs.Common.{◌≡◌, ◌∷◌, suc, ◌+◌, ◌<◌, ◌++◌, drop, length, sym, ap, ◌∙◌, arith, subst, append_assoc, drop-cons, add-one}
 use Rattle.vcm_spec.specs.Program.{size, sizes}
-use Rattle.vcm_tree.specs.Nodes.{node_of, block_of}
+use Rattle.vcm_nodes.specs.Nodes.{node_of, block_of}
 use Rattle.vcm_asm.specs.Assembled.{marks, node_marks}
 use Rattle.vcm_asm.specs.inner.Once.{Absent, Once}
 use Rattle.vcm_asm.proofs.Emits.{choice_size}

@@ -1,6 +1,6 @@
 use Rattle.std.proofs.Common.{◌≡◌, ◌≤◌, suc, ◌+◌, ◌++◌, drop}
 use Rattle.vcm_spec.specs.Program.{size, sizes}
-use Rattle.vcm_tree.specs.Nodes.{node_of, block_of}
+use Rattle.vcm_nodes.specs.Nodes.{node_of, block_of}
 use Rattle.vcm_asm.specs.Assembled.{marks}
 use Rattle.vcm_asm.proofs.marking.+mark.Given as goal
 

@@ -1,5 +1,5 @@
 use Rattle.std.proofs.Common.{refl}
-use Rattle.vcm_tree.specs.Nodes.{action_of}
+use Rattle.vcm_nodes.specs.Nodes.{action_of}
 use Rattle.vcm_tree.proofs.Takings.{simple_takes}
 use Rattle.vcm_tree.proofs.taking.take_stated.Goals as goal
 

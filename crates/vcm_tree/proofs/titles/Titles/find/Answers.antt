@@ -1,5 +1,5 @@
 use Rattle.std.proofs.Common.{◌∙◌, sym}
-use Rattle.vcm_tree.proofs.SameNames.{same_name}
+use Rattle.vcm_nodes.proofs.SameNames.{same_name}
 use Rattle.vcm_tree.proofs.Titled.{position_same}
 use Rattle.vcm_tree.proofs.titles.Titles.find.Goals as goal
 

@@ -1,0 +1,4 @@
+pub mod Jumping
+pub mod SameNames
+pub mod Entering
+pub mod JumpSteps

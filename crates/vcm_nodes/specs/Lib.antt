@@ -1,0 +1,3 @@
+pub mod Nodes
+pub mod Jumps
+pub mod inner

@@ -1,0 +1,50 @@
+-- The nodes of an accepted program as those of the structured program.
+use Rattle.std.specs.Prelude.{ℕ, List, [], ◌∷◌, Option, Some, None}
+use Rattle.vcm_spec.specs.Expression.{Tree}
+use Rattle.vcm_spec.specs.Words.{axis_number, quarters_number, word_number}
+use Rattle.vcm_spec.specs.Simple.{Simple, Goto, GoHome, Assign, Feat, PtMeas, SnSet, Trans, Rotate, Recall, Obtain, Output, Text}
+use Rattle.vcm_spec.specs.Program.{Node, Block, simple, label, jump, choice, choice_else, do_loop, meas, ending, done, then}
+use Rattle.vcm_nodes.specs.declared.node.Action.{Action}
+use Rattle.vcm_nodes.specs.declared.node.Action.TheVariants as actions
+use Rattle.vcm_nodes.specs.declared.node.Node.{Node as Kept}
+use Rattle.vcm_nodes.specs.declared.node.Node.TheVariants as kept
+
+-- a simple statement
+abbrev pub action_of : Action → Simple Tree
+action_of (actions.Goto x y z) = Goto x y z
+action_of actions.GoHome = GoHome
+action_of (actions.Assign v e) = Assign v e
+action_of (actions.Feat i x y z d) = Feat i x y z d
+action_of (actions.PtMeas i x y z given) = PtMeas i x y z given
+action_of (actions.SnSet which e) = SnSet which e
+action_of (actions.Trans i x y z) = Trans i x y z
+action_of (actions.Rotate i axis n) = Rotate i (axis_number axis) (quarters_number n)
+action_of (actions.Recall i) = Recall i
+action_of (actions.Obtain v source i word) = Obtain v source i (word_number word)
+action_of (actions.Output source i) = Output source i
+action_of (actions.Text bytes) = Text bytes
+
+-- a choice with a second block or without
+abbrev pub choice_by : ℕ → Tree → Block → Option (ℕ × Block) → ℕ → Node
+choice_by line test first None close = choice line test first close
+choice_by line test first (Some p) close = choice_else line test first p.0 p.1 close
+
+-- a node
+abbrev pub node_of : Kept → Node
+node_of (kept.Simple line what) = simple line (action_of what)
+node_of (kept.Label line l) = label line l
+node_of (kept.Jump line l) = jump line l
+node_of (kept.Choice line test first other close) = choice_by line test first other close
+node_of (kept.Repeat line v initial limit increment body close) = do_loop line v initial limit increment body close
+node_of (kept.Measure line f body close) = meas line f body close
+node_of (kept.Ending line) = ending line
+
+-- a list of nodes
+abbrev pub block_of : List Kept → Block
+block_of [] = done
+block_of (n ∷ ns) = then (node_of n) (block_of ns)
+
+-- a block with one node more at its end
+abbrev pub with_last : Block → Node → Block
+with_last done n = then n done
+with_last (then m b) n = then m (with_last b n)

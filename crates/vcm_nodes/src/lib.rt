@@ -1,0 +1,12 @@
+//! The structured program in memory: its nodes and blocks, how many statements it has, and whether its jumps reach their labels.
+#![tactic(auto)]
+
+mod counting;
+mod jumps;
+mod labels;
+mod node;
+
+pub use counting::count;
+pub use jumps::check_jumps;
+pub use labels::Labels;
+pub use node::{Action, Block, Label, Node};

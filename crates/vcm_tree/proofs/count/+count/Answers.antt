@@ -1,5 +1,0 @@
-use Rattle.std.proofs.Common.{rules}
-use Rattle.vcm_tree.proofs.count.+count.Goals as goal
-
-pub count_node-returns-in-None : goal.count_node-returns-in-None
-count_node-returns-in-None t c = search rules

@@ -1,4 +1,0 @@
-use Rattle.vcm_tree.proofs.labels.Labels.contains.Goals as goal
-
-pub returns : goal.returns
-returns c = rw (← c.self.view_is) c.contains.ensures
