@@ -4,7 +4,7 @@ use Rattle.std.specs.List.{flat_map}
 use Rattle.std.proofs.lemmas.List.{take_at, drop_at, length-append, append-nil}
 use Rattle.vcm_fields.specs.declared.fault.ImageFault.{ImageFault}
 use Rattle.vcm_spec.specs.Results.{◌>>=◌}
-use Rattle.vcm_fields.specs.Readers.{Reader, after, times}
+use Rattle.vcm_fields.specs.Readers.{Reader, times}
 use Rattle.vcm_fields.proofs.Inverse.{IsBytes, bind_ok, ok_is, Reads, reads_times}
 
 -- ---- loops

@@ -5,8 +5,8 @@ use Rattle.vcm_num.specs.declared.number.Kind.TheVariants.{Int, Real, Bool as Tr
 use Rattle.vcm_spec.specs.declared.expression.Item.{Item}
 use Rattle.vcm_fields.specs.declared.fault.ImageFault.{ImageFault}
 use Rattle.vcm_fields.specs.Fitting.{FitsEntry}
-use Rattle.vcm_fields.specs.Spelling.{item, name, kind_byte, entry}
-use Rattle.vcm_fields.specs.Readers.{both, after, times, item_at, kind_rows, kind_at, entry_at}
+use Rattle.vcm_fields.specs.Spelling.{kind_byte, entry}
+use Rattle.vcm_fields.specs.Readers.{after, times, item_at, kind_rows, kind_at, entry_at}
 use Rattle.vcm_fields.specs.inner.Slices.{read_or_nil, items_in, AreItems}
 use Rattle.vcm_fields.proofs.Inverse.{IsBytes, Takes, Reads, ok_is, reads_both, reads_via}
 use Rattle.vcm_fields.proofs.NumberInverse.{tagged_takes, now_row, reads_long}

@@ -1,5 +1,5 @@
 -- Names and texts, read as they are spelled.
-use Rattle.std.proofs.Common.{◌≡◌, ℕ, ◌≤◌, ◌&&◌, Bool, true, nat_le, IsTrue, List, length, refl, arith}
+use Rattle.std.proofs.Common.{◌≡◌, ℕ, ◌≤◌, Bool, true, nat_le, IsTrue, List, length, refl, arith}
 use Rattle.vcm_spec.specs.TextBytes.{is_text_byte, is_text, IsText}
 use Rattle.vcm_expr.proofs.NameLemmas.{variable_name_is_name}
 use Rattle.vcm_expr.specs.NameBytes.{is_name, is_name_byte, IsName}

@@ -1,9 +1,8 @@
 -- What is left of an input behind lines that are no mark.
-use Rattle.std.proofs.Common.{◌≡◌, ℕ, ◌-◌, Bool, true, false, List, [], ◌∷◌, ◌++◌, length, take, refl, sym, ap, ◌∙◌, append_assoc, length-append, arith, subst}
+use Rattle.std.proofs.Common.{◌≡◌, ℕ, ◌-◌, Bool, true, false, List, [], ◌∷◌, ◌++◌, length, take, refl, sym, ap, ◌∙◌, append_assoc, length-append, arith}
 use Rattle.std.specs.Prelude.{if◌then◌else◌, flat_map}
 use Rattle.vcm_job.specs.Jobs.{raw_lines, is_mark, before_mark, behind_mark, part_text, program_text}
 use Rattle.vcm_job.proofs.JobLines.{lines_all}
-use Rattle.std.proofs.lemmas.List.{append-nil}
 
 -- the input is some lines that are no mark, and then the rest
 pub record IsLeft (input rest : List ℕ) : Type 0 where

@@ -1,6 +1,6 @@
 -- The loop over the lines of a listing.
 use Rattle.std.proofs.Common.{◌≡◌, ◌⊎◌, inl, inr, ℕ, suc, ◌+◌, ◌<◌, true, false, cond, List, [], ◌∷◌, ◌++◌, length, Result, Ok, Err, refl, sym, ap, ◌∙◌, subst, arith}
-use Rattle.std.specs.Prelude.{IfOk, ◌==◌}
+use Rattle.std.specs.Prelude.{◌==◌}
 use Rattle.std.proofs.lemmas.List.{length-append}
 use Rattle.vcm_code.specs.declared.code.Code.{Code}
 use Rattle.vcm_image.specs.Whole.{FitsImage}
@@ -15,7 +15,7 @@ use Rattle.vcm_words.specs.Outcomes.{IsWant, GivesOrWants}
 use Rattle.vcm_words.specs.inner.Failing.{FailsLine}
 use Rattle.vcm_words.proofs.Cuts.{joined-split, split_some}
 use Rattle.vcm_rows.proofs.RowLaws.{row_takes}
-use Rattle.vcm_listing.proofs.ListingRead.{Grows, added_takes, line_takes, empty_fits, code_takes}
+use Rattle.vcm_listing.proofs.ListingRead.{Grows, added_takes, line_takes, empty_fits}
 use Rattle.vcm_listing.proofs.ListingLaws.{code_again}
 
 -- what is left of the lines

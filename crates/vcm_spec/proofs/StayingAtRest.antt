@@ -22,7 +22,7 @@ use Rattle.vcm_spec.specs.Simple.{Simple, Goto, GoHome, Assign, Feat, PtMeas, Sn
 use Rattle.vcm_spec.specs.Effect.{carried_out, go, with_line, with_setting, is_allowed, measured_direction, machine_point, feature_in, at_index}
 use Rattle.vcm_spec.proofs.Touches.{touch_is}
 use Rattle.vcm_spec.proofs.Entries.{le_true}
-use Rattle.vcm_spec.specs.Rests.{Rests, OpensAtRest, StaysAtRest}
+use Rattle.vcm_spec.specs.Rests.{Rests, OpensAtRest}
 use Rattle.vcm_spec.proofs.Resting.{Free, free_rests, back_rests}
 
 abbrev RestsIn : Workpiece → Outcome World → Type 0

@@ -17,7 +17,7 @@ use Rattle.vcm_tree.specs.declared.taking.Progress.{Progress}
 use Rattle.vcm_macro.specs.Order.{is_ending}
 use Rattle.vcm_tree.specs.Ended.{is_ended}
 use Rattle.vcm_tree.specs.Sentences.{sentences}
-use Rattle.vcm_tree.specs.Blocks.{Behind, behind, Opened, ended}
+use Rattle.vcm_tree.specs.Blocks.{Behind, Opened, ended}
 use Rattle.vcm_tree.specs.Resolving.{Meaning, counts, stated, resolved_here, behind_by, behind_one, behind_all, start, sentences_by, sentences_from, BreaksNames, names_line}
 use Rattle.vcm_tree.specs.inner.Telling.{ToldAt}
 use Rattle.vcm_tree.specs.Program.{IsParsed, tables_of, notices_of}

@@ -9,12 +9,11 @@ use Rattle.vcm_spec.specs.declared.words.Source.{Source}
 use Rattle.vcm_spec.specs.declared.words.Source.TheVariants.{Nominal, Actual}
 use Rattle.vcm_fields.specs.declared.word.Word.{Word}
 use Rattle.vcm_fields.specs.declared.word.Word.TheVariants as words
-use Rattle.vcm_code.specs.declared.op.Op.TheVariants.{EndFil, Goto, GoHome, Assign, If, Else, EndIf, Do, EndDo, Label, JumpTo, Feat, Meas, PtMeas, EndMes, SnSet, Trans, Rotate, Recall, Obtain, Output, Text}
 use Rattle.vcm_fields.specs.Fitting.{within}
 use Rattle.vcm_words.specs.inner.Marks.{IsWord}
 use Rattle.vcm_words.specs.Numbers.{number, counted, only_if}
 use Rattle.vcm_num.specs.Words.{look_up}
-use Rattle.vcm_words.specs.WordReaders.{◌>>=◌, one, both}
+use Rattle.vcm_words.specs.WordReaders.{◌>>=◌, one}
 use Rattle.vcm_words.specs.Operands.{single, number_text, number_at, lettered, lettered_at, variable, feature, frame, pair, target, variable_at, feature_at, frame_at, pair_at, target_at, axis_text, axis_rows, direction_text, direction_rows, setting_text, setting_rows, source_text, source_rows, turn_text, turn_rows, part_at, word_text, word_rows, word_at}
 use Rattle.vcm_words.proofs.Inverse.{Means, Reads, bind_some, only_met, reads_one}
 use Rattle.vcm_words.proofs.NumberLaws.{means_number}

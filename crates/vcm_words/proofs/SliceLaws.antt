@@ -1,10 +1,10 @@
 -- The items of an expression, one by one, where they lie in a line.
-use Rattle.std.proofs.Common.{◌≡◌, ℕ, ◌+◌, ◌<◌, ◌==◌, Bool, true, false, List, [], ◌∷◌, ◌++◌, length, Option, Some, None, refl, sym, ap, ◌∙◌, subst, append_assoc, arith}
+use Rattle.std.proofs.Common.{◌≡◌, ℕ, ◌+◌, ◌<◌, Bool, false, List, [], ◌∷◌, ◌++◌, length, Option, Some, None, refl, sym, ap, ◌∙◌, subst, append_assoc, arith}
 use Rattle.std.proofs.lemmas.List.{length-append}
 use Rattle.vcm_spec.specs.declared.expression.Item.{Item}
-use Rattle.vcm_words.specs.Cutting.{onto, split, joined, parts_left}
+use Rattle.vcm_words.specs.Cutting.{joined, parts_left}
 use Rattle.vcm_words.specs.WordReaders.{◌>>=◌, ending}
-use Rattle.vcm_words.specs.Items.{item_in, items_at, unopened}
+use Rattle.vcm_words.specs.Items.{item_in, items_at}
 use Rattle.vcm_words.specs.inner.Slices.{read_or_nil, items_left, AreLeft, Found}
 use Rattle.vcm_words.specs.inner.Counting.{IsCount, Next}
 use Rattle.vcm_words.proofs.Inverse.{some_is}
