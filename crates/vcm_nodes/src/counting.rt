@@ -6,7 +6,7 @@ ghost use Rattle.vcm_nodes.specs.Nodes.{node_of, block_of};
 
 use crate::node::{Block, Node};
 
-/// How many statements a block has.
+/// How many statements a block has, which are at most 20,000.
 #[cycle(count)]
 pub fn count(block: &Block) -> usize
     requires { sizes block.now ≤ 20000 }
