@@ -1,4 +1,4 @@
--- The probe at rest is within the limits and in no block.
+-- The probe at rest is within the limits, and its tip meets no block.
 use Rattle.std.proofs.Common.{◌≡◌, ◌∙◌, ℕ, suc, ℤ, ◌≤ℤ◌, Bool, true, false, ◌&&◌, List, [], ◌∷◌, Option, Some, None, slice_get, refl, sym, ap, arith}
 use Rattle.std.specs.Prelude.{IsTrue, not, int_le, ◌||◌}
 use Rattle.std.specs.List.{list_any}
@@ -10,13 +10,14 @@ use Rattle.vcm_spec.specs.declared.workpiece.Hit.{Hit}
 use Rattle.vcm_spec.specs.declared.stop.Stop.{Stop}
 use Rattle.vcm_spec.specs.declared.stop.Stop.TheVariants.{Travel}
 use Rattle.vcm_spec.specs.declared.words.MovePhase.{MovePhase}
-use Rattle.vcm_spec.specs.Workpiece.{Workpiece, is_in, is_in_some, is_within}
-use Rattle.vcm_spec.specs.Contact.{IsBetween, Meets, MeetsLater, IsClear, IsContact}
+use Rattle.vcm_spec.specs.Workpiece.{Workpiece, IsValid, grown, is_in, is_met, is_some_met, is_blocked, is_within}
+use Rattle.vcm_spec.specs.Contact.{IsBetween, Meets, TipMeets, TipMeetsLater, IsClear, IsContact}
 use Rattle.vcm_spec.specs.FirstContact.{contact}
 use Rattle.vcm_spec.specs.FirstTouch.{free_of, free_move}
 use Rattle.vcm_spec.specs.Outcome.{Gives, Stops, ◌>>=◌, demand}
 use Rattle.vcm_spec.proofs.Entries.{le_true, below_three}
 use Rattle.vcm_spec.proofs.Contacts.{contact_is}
+use Rattle.vcm_spec.proofs.Tips.{in_order, meets_tip}
 
 record Standing (test : Block3 → Bool) (bs : List Block3) : Type 0 where
   index : ℕ
@@ -36,13 +37,13 @@ standing test (b ∷ bs) e = by (test b) refl (λ f. standing test bs (ap (λ c.
     by true f later = record { index = 0; block = b; stands = refl; passes = f }
     by false f later = next (later f)
 
--- an end that no block is met at lies in no block
-clear_end : (blocks : List Block3) (M : Block3 → ℕ → ℕ → Type 0) (y : ℕ → ℤ) → ((b : Block3) → is_in b y ≡ true → M b 1 1) → IsClear blocks M
-    → IsTrue (not (is_in_some blocks y))
-clear_end blocks M y met clear = by (is_in_some blocks y) refl
+-- at an end at which no block is met, the tip meets none
+clear_end : (h : ℕ) (blocks : List Block3) (M : Block3 → ℕ → ℕ → Type 0) (y : ℕ → ℤ) → ((j : ℕ) (b : Block3) → slice_get blocks j ≡ Some b → is_met h b y ≡ true → M b 1 1)
+    → IsClear blocks M → IsTrue (not (is_some_met h blocks y))
+clear_end h blocks M y met clear = by (is_some_met h blocks y) refl
   where
-    by : (c : Bool) → is_in_some blocks y ≡ c → IsTrue (not (is_in_some blocks y))
-    by true e = let s = standing (λ b. is_in b y) blocks e in absurd (clear s.index s.block s.stands 1 1 (met s.block s.passes))
+    by : (c : Bool) → is_some_met h blocks y ≡ c → IsTrue (not (is_some_met h blocks y))
+    by true e = let s = standing (λ b. is_met h b y) blocks e in absurd (clear s.index s.block s.stands 1 1 (met s.index s.block s.stands s.passes))
     by false e = rw e refl
 
 between_end : (low high p q : ℤ) → low ≤ℤ q → q ≤ℤ high → IsBetween low high p q 1 1
@@ -66,16 +67,21 @@ met_end x y b e =
           (between_end _ _ _ _ (le_true _ _ l.0) (le_true _ _ h.0)) (between_end _ _ _ _ (le_true _ _ l.1) (le_true _ _ h.1)) (between_end _ _ _ _ (le_true _ _ l.2) (le_true _ _ h.2));
     }
 
+-- a tip that ends where it meets a block meets it there
+tip_met_end : (part : Workpiece) → IsValid part → (x y : ℕ → ℤ) (j : ℕ) (b : Block3) → slice_get part.blocks j ≡ Some b → is_met part.bounds.tip b y ≡ true
+    → TipMeets part.bounds.tip x y b 1 1
+tip_met_end part valid x y j b stands e = meets_tip part.bounds.tip x y b (in_order part valid j b stands) 1 1 (met_end x y (grown part.bounds.tip b) e)
+
 pub record Free (part : Workpiece) (y : ℕ → ℤ) : Type 0 where
   pub within : IsTrue (is_within part.bounds y)
-  pub clear : IsTrue (not (is_in_some part.blocks y))
+  pub clear : IsTrue (not (is_blocked part y))
 
 -- so where a move may go, the probe may rest
-pub free_rests : (phase : MovePhase) (part : Workpiece) (x y : ℕ → ℤ) (u : Unit {0}) → free_move phase part x y ≡ Gives u → Free part y
-free_rests phase part x y u = by (is_within part.bounds y) refl (contact part.blocks x y) (contact_is part.blocks x y)
+pub free_rests : (phase : MovePhase) (part : Workpiece) → IsValid part → (x y : ℕ → ℤ) (u : Unit {0}) → free_move phase part x y ≡ Gives u → Free part y
+free_rests phase part valid x y u = by (is_within part.bounds y) refl (contact part x y) (contact_is part valid x y)
   where
-    by : (b : Bool) → is_within part.bounds y ≡ b → (o : Option Hit) → IsContact part.blocks x y o → demand b (Travel phase) >>= (λ _. free_of phase o) ≡ Gives u → Free part y
-    by true w None clear e = record { within = w; clear = clear_end part.blocks (Meets x y) y (met_end x y) clear }
+    by : (b : Bool) → is_within part.bounds y ≡ b → (o : Option Hit) → IsContact part x y o → demand b (Travel phase) >>= (λ _. free_of phase o) ≡ Gives u → Free part y
+    by true w None clear e = record { within = w; clear = clear_end part.bounds.tip part.blocks (TipMeets part.bounds.tip x y) y (tip_met_end part valid x y) clear }
     by true w (Some hit) clear e = absurd (stops_not _ e)
       where
         stops_not : (s : Stop) → Stops s ≡ Gives u → ⊥
@@ -86,8 +92,9 @@ free_rests phase part x y u = by (is_within part.bounds y) refl (contact part.bl
         stops_not s f = cc
 
 -- and so it may at the retract point
-pub back_rests : (part : Workpiece) (x y : ℕ → ℤ) → IsTrue (is_within part.bounds y) → IsClear part.blocks (MeetsLater x y) → Free part y
-back_rests part x y within clear = record {
+pub back_rests : (part : Workpiece) → IsValid part → (x y : ℕ → ℤ) → IsTrue (is_within part.bounds y) → IsClear part.blocks (TipMeetsLater part.bounds.tip x y) → Free part y
+back_rests part valid x y within clear = record {
   within = within;
-  clear = clear_end part.blocks (MeetsLater x y) y (λ b e. record { meets = met_end x y b e; later = omega arith }) clear;
+  clear = clear_end part.bounds.tip part.blocks (TipMeetsLater part.bounds.tip x y) y
+      (λ j b stands e. record { meets = tip_met_end part valid x y j b stands e; later = omega arith }) clear;
 }

@@ -1,4 +1,4 @@
--- Statements leave the probe at rest within the limits and in no block.
+-- Statements leave the probe at rest within the limits, its tip meeting no block.
 use Rattle.std.proofs.Common.{◌≡◌, ℕ, ◌<◌, ℤ, pos, negsuc, ◌≤ℤ◌, Bool, true, false, List, refl, sym, subst, arith}
 use Rattle.std.specs.Prelude.{int_le, unsigned_abs, IsTrue, not}
 use Rattle.std.proofs.lemmas.Bool.{and_parts}
@@ -12,7 +12,7 @@ use Rattle.vcm_spec.specs.declared.words.MovePhase.TheVariants.{Move}
 use Rattle.vcm_spec.specs.declared.words.Setting.{Setting}
 use Rattle.vcm_spec.specs.declared.words.Setting.TheVariants.{Approach, Retract, Search, Depth}
 use Rattle.vcm_spec.specs.Setup.{Setup}
-use Rattle.vcm_spec.specs.Workpiece.{Workpiece, is_in_some, is_within}
+use Rattle.vcm_spec.specs.Workpiece.{Workpiece, IsValid, is_blocked, is_within}
 use Rattle.vcm_spec.specs.World.{Settings, World, with_variable}
 use Rattle.vcm_spec.specs.Frame.{direction, to_part}
 use Rattle.vcm_spec.specs.Touch.{IsTouch}
@@ -44,28 +44,28 @@ there : (part : Workpiece) (w w' : World) → w'.position ≡ w.position → w'.
 there part w w' e f r = record {
   kept = record {
     within = subst (λ p. IsTrue (is_within part.bounds (coordinate p))) (sym e) r.within;
-    clear = subst (λ p. IsTrue (not (is_in_some part.blocks (coordinate p)))) (sym e) r.clear;
+    clear = subst (λ p. IsTrue (not (is_blocked part (coordinate p)))) (sym e) r.clear;
     back = subst (λ (s : Settings). 0 < s.retract) (sym f) r.back;
   };
 }
 
-go_kept : (setup : Setup) (w : World) (target : Point) → Rests setup.part w → Kept setup.part (go setup w target)
-go_kept setup w target r = by (free_move Move setup.part (coordinate w.position) (coordinate target)) refl
+go_kept : (setup : Setup) → IsValid setup.part → (w : World) (target : Point) → Rests setup.part w → Kept setup.part (go setup w target)
+go_kept setup valid w target r = by (free_move Move setup.part (coordinate w.position) (coordinate target)) refl
   where
     by : (o : Outcome (Unit {0})) → free_move Move setup.part (coordinate w.position) (coordinate target) ≡ o → Kept setup.part (o >>= (λ u. Gives (record w { position = target })))
-    by (Gives u) e = let f = free_rests Move setup.part (coordinate w.position) (coordinate target) u e in record { kept = record { within = f.within; clear = f.clear; back = r.back } }
+    by (Gives u) e = let f = free_rests Move setup.part valid (coordinate w.position) (coordinate target) u e in record { kept = record { within = f.within; clear = f.clear; back = r.back } }
     by (Stops why) e = record { kept = tt }
 
-touch_kept : (part : Workpiece) (w : World) (nominal : ℕ → ℤ) (d : Axis) (next : Touch → Outcome World) → Rests part w
+touch_kept : (part : Workpiece) → IsValid part → (w : World) (nominal : ℕ → ℤ) (d : Axis) (next : Touch → Outcome World) → Rests part w
     → ((t : Touch) → Free part (coordinate t.retract) → Kept part (next t)) → Kept part (touch part w.settings (coordinate w.position) nominal d >>= next)
-touch_kept part w nominal d next r k = by (touch part w.settings (coordinate w.position) nominal d) (touch_is part w.settings (coordinate w.position) nominal d r.back)
+touch_kept part valid w nominal d next r k = by (touch part w.settings (coordinate w.position) nominal d) (touch_is part valid w.settings (coordinate w.position) nominal d r.back)
   where
     by : (o : Outcome Touch) → IsTouch part w.settings (coordinate w.position) nominal d o → Kept part (o >>= next)
     by (Gives t) h =
-        let f = back_rests part _ _ h.1.within h.1.clear in
+        let f = back_rests part valid _ _ h.1.within h.1.clear in
         k t (record {
           within = subst (λ p. IsTrue (is_within part.bounds (coordinate p))) (sym h.3) f.within;
-          clear = subst (λ p. IsTrue (not (is_in_some part.blocks (coordinate p)))) (sym h.3) f.clear;
+          clear = subst (λ p. IsTrue (not (is_blocked part (coordinate p)))) (sym h.3) f.clear;
         })
     by (Stops why) h = record { kept = tt }
 
@@ -91,26 +91,26 @@ variable_kept part w v x r = there part w _ refl refl r
 line_kept : (part : Workpiece) (w : World) (line : List ℕ) → Rests part w → Kept part (with_line w line)
 line_kept part w line r = kept_after part _ _ (λ u. there part w _ refl refl r)
 
-carried_out_kept : (setup : Setup) (w : World) (s : Simple ℤ) → Rests setup.part w → Kept setup.part (carried_out setup w s)
+carried_out_kept : (setup : Setup) → IsValid setup.part → (w : World) (s : Simple ℤ) → Rests setup.part w → Kept setup.part (carried_out setup w s)
 unfolding carried_out
-carried_out_kept setup w (Goto x y z) r = kept_after setup.part (machine_point w x y z) _ (λ p. go_kept setup w p r)
-carried_out_kept setup w GoHome r = go_kept setup w setup.part.bounds.home r
-carried_out_kept setup w (Assign v x) r = variable_kept setup.part w v x r
-carried_out_kept setup w (Feat i x y z d) r = there setup.part w _ refl refl r
-carried_out_kept setup w (PtMeas i x y z given) r =
+carried_out_kept setup valid w (Goto x y z) r = kept_after setup.part (machine_point w x y z) _ (λ p. go_kept setup valid w p r)
+carried_out_kept setup valid w GoHome r = go_kept setup valid w setup.part.bounds.home r
+carried_out_kept setup valid w (Assign v x) r = variable_kept setup.part w v x r
+carried_out_kept setup valid w (Feat i x y z d) r = there setup.part w _ refl refl r
+carried_out_kept setup valid w (PtMeas i x y z given) r =
     kept_after setup.part (measured_direction w i given) _ (λ d. kept_after setup.part (machine_point w x y z) _ (λ nominal.
-    touch_kept setup.part w (coordinate nominal) (direction w.frame.turn d) _ r (λ t f.
+    touch_kept setup.part valid w (coordinate nominal) (direction w.frame.turn d) _ r (λ t f.
     kept_after setup.part (point_at (to_part w.frame (coordinate t.at))) _ (λ at. gives (record { within = f.within; clear = f.clear; back = r.back })))))
-carried_out_kept setup w (SnSet which z) r = set_kept setup.part w which z r
-carried_out_kept setup w (Trans i x y z) r = kept_after setup.part (machine_point w x y z) _ (λ o. there setup.part w _ refl refl r)
-carried_out_kept setup w (Rotate i axis n) r = there setup.part w _ refl refl r
-carried_out_kept setup w (Recall i) r = kept_after setup.part (found (at_index w.saved i) _) _ (λ f. there setup.part w _ refl refl r)
-carried_out_kept setup w (Obtain v source i word) r = kept_after setup.part (feature_in w source i) _ (λ f. variable_kept setup.part w v _ r)
-carried_out_kept setup w (Output source i) r = kept_after setup.part (feature_in w source i) _ (λ f. line_kept setup.part w _ r)
-carried_out_kept setup w (Text bytes) r = line_kept setup.part w bytes r
+carried_out_kept setup valid w (SnSet which z) r = set_kept setup.part w which z r
+carried_out_kept setup valid w (Trans i x y z) r = kept_after setup.part (machine_point w x y z) _ (λ o. there setup.part w _ refl refl r)
+carried_out_kept setup valid w (Rotate i axis n) r = there setup.part w _ refl refl r
+carried_out_kept setup valid w (Recall i) r = kept_after setup.part (found (at_index w.saved i) _) _ (λ f. there setup.part w _ refl refl r)
+carried_out_kept setup valid w (Obtain v source i word) r = kept_after setup.part (feature_in w source i) _ (λ f. variable_kept setup.part w v _ r)
+carried_out_kept setup valid w (Output source i) r = kept_after setup.part (feature_in w source i) _ (λ f. line_kept setup.part w _ r)
+carried_out_kept setup valid w (Text bytes) r = line_kept setup.part w bytes r
 
-pub stays_at_rest : (setup : Setup) (w after : World) (s : Simple ℤ) → Rests setup.part w → carried_out setup w s ≡ Gives after → Rests setup.part after
-stays_at_rest setup w after s r e = let k : Kept setup.part (Gives after) = subst (Kept setup.part) e (carried_out_kept setup w s r) in k.kept
+pub stays_at_rest : (setup : Setup) → IsValid setup.part → (w after : World) (s : Simple ℤ) → Rests setup.part w → carried_out setup w s ≡ Gives after → Rests setup.part after
+stays_at_rest setup valid w after s r e = let k : Kept setup.part (Gives after) = subst (Kept setup.part) e (carried_out_kept setup valid w s r) in k.kept
 
 -- at the start it is, since home is such a place
 pub opens_at_rest : OpensAtRest
