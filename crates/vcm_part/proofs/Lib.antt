@@ -1,3 +1,4 @@
+pub mod Three
 pub mod Points
 pub mod Rows
 pub mod Bytes

@@ -1,16 +1,16 @@
 -- No refusal of a part file is want of memory.
-use Rattle.std.proofs.Common.{◌≡◌, ◌≢◌, ℕ, ◌+◌, List, Option, Some, None, Ok, Err}
-use Rattle.std.specs.Prelude.{codes, nat_lt}
+use Rattle.std.proofs.Common.{◌≡◌, ◌≢◌, ℕ, ◌+◌, ℤ, pos, ◌&&◌, List, Option, Some, None, Ok, Err}
+use Rattle.std.specs.Prelude.{codes, nat_lt, int_le, unsigned_abs}
 use Rattle.std.specs.Option.{option_and_then}
 use Rattle.std.specs.Str.{is_utf8}
-use Rattle.toml.specs.Data.{Data, Items, no_items, item, Members, get_member, as_table, as_array}
+use Rattle.toml.specs.Data.{Data, Items, no_items, item, Members, get_member, as_integer, as_table, as_array}
 use Rattle.toml.specs.Parse.{parse_document}
 use Rattle.vcm_num.specs.declared.point.Point.{Point}
 use Rattle.vcm_num.specs.Point.{coordinate, is_below, is_near}
 use Rattle.vcm_part.specs.declared.fault.PartCode.TheVariants.{NoMemory, OutOfRange}
 use Rattle.vcm_part.specs.declared.fault.PartFault.{PartFault}
 use Rattle.vcm_part.specs.Faults.{fault}
-use Rattle.vcm_part.specs.PartFile.{near_point, point_at, point_of, are_tables, count, table_rows, rows_of, block_in, block_of, blocks_from, blocks_at, is_clear, bounds_of, part_of_table, part_of_document, part_of}
+use Rattle.vcm_part.specs.PartFile.{near_point, point_at, point_of, small_length, tip_of, tip_at, are_tables, count, table_rows, rows_of, block_in, block_of, blocks_from, blocks_at, is_clear, bounds_of, part_of_table, part_of_document, part_of}
 use Rattle.vcm_part.proofs.Steps.{TakesNone, then_none, if_none, none_of}
 
 near_none : (number : ℕ) (o : Option Point) → TakesNone (near_point number o)
@@ -20,6 +20,18 @@ near_none number (Some p) = if_none (is_near p) (Ok p) (Err (fault OutOfRange nu
 point_none : (key : List ℕ) (number : ℕ) (t : Members) → TakesNone (point_at key number t)
 unfolding point_at
 point_none key number t = near_none number (option_and_then point_of (get_member key t))
+
+length_none : (o : Option ℤ) → TakesNone (small_length o)
+length_none None = λ e. cc
+length_none (Some z) = if_none (int_le (pos 0) z && int_le z (pos 50000)) (Ok (unsigned_abs z)) (Err (fault OutOfRange 0)) tt (λ e. cc)
+
+tip_of_none : (o : Option Data) → TakesNone (tip_of o)
+tip_of_none None = tt
+tip_of_none (Some d) = length_none (as_integer d)
+
+tip_none : (t : Members) → TakesNone (tip_at t)
+unfolding tip_at
+tip_none t = tip_of_none (get_member (codes "tip") t)
 
 block_none : (number : ℕ) (o : Option Members) → TakesNone (block_in number o)
 block_none number None = λ e. cc
@@ -49,9 +61,10 @@ table_none t =
     then_none _ _ (point_none (codes "low") 0 t)
     (λ low. then_none _ _ (point_none (codes "high") 0 t)
     (λ high. then_none _ _ (point_none (codes "home") 0 t)
-    (λ home. if_none (is_below (coordinate low) (coordinate high)) _ _
-    (then_none _ _ (at_none t) (λ blocks. if_none (is_clear (bounds_of low high home) blocks) _ _ tt (λ e. cc)))
-    (λ e. cc))))
+    (λ home. then_none _ _ (tip_none t)
+    (λ tip. if_none (is_below (coordinate low) (coordinate high)) _ _
+    (then_none _ _ (at_none t) (λ blocks. if_none (is_clear (bounds_of low high home tip) blocks) _ _ tt (λ e. cc)))
+    (λ e. cc)))))
 
 document_none : (o : Option Members) → TakesNone (part_of_document o)
 document_none None = λ e. cc

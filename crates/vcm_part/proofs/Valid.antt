@@ -1,21 +1,23 @@
 -- What a part file gives is a valid workpiece.
-use Rattle.std.proofs.Common.{◌≡◌, ℕ, suc, ◌+◌, ◌≤◌, Bool, true, false, List, [], ◌∷◌, length, Option, Some, None, Result, Ok, Err, refl, ap, subst, arith}
-use Rattle.std.specs.Prelude.{codes, nat_lt, if◌then◌else◌}
+use Rattle.std.proofs.Common.{◌≡◌, ℕ, suc, ◌+◌, ◌≤◌, ℤ, pos, negsuc, ◌&&◌, Bool, true, false, List, [], ◌∷◌, length, Option, Some, None, Result, Ok, Err, refl, ap, subst, arith}
+use Rattle.std.specs.Prelude.{codes, nat_lt, int_le, unsigned_abs, if◌then◌else◌}
 use Rattle.std.specs.List.{list_all}
 use Rattle.std.specs.Option.{option_and_then}
 use Rattle.std.specs.Str.{is_utf8}
 use Rattle.std.proofs.lemmas.Bool.{and_parts, and_from}
-use Rattle.toml.specs.Data.{Items, no_items, item, Members, get_member, as_table}
+use Rattle.toml.specs.Data.{Data, Items, no_items, item, Members, get_member, as_integer, as_table}
 use Rattle.toml.specs.Parse.{parse_document}
 use Rattle.vcm_num.specs.declared.point.Point.{Point}
 use Rattle.vcm_num.specs.Point.{coordinate, is_below, is_near}
 use Rattle.vcm_spec.specs.declared.workpiece.Block3.{Block3}
+use Rattle.std.proofs.lemmas.Int.{ints}
+use Rattle.vcm_spec.proofs.Entries.{le_true}
 use Rattle.vcm_spec.specs.Workpiece.{Workpiece, is_block, IsValid}
 use Rattle.vcm_part.specs.declared.fault.PartCode.TheVariants.{NotToml, BadKey, OutOfRange, LowAboveHigh, TooManyBlocks, HomeNotClear}
 use Rattle.vcm_part.specs.declared.fault.PartFault.{PartFault}
 use Rattle.vcm_spec.specs.Results.{◌>>=◌}
 use Rattle.vcm_part.specs.Faults.{fault}
-use Rattle.vcm_part.specs.PartFile.{near_point, point_at, point_of, count, rows_of, block_in, block_of, blocks_from, blocks_at, is_clear, assembled, bounds_of, part_of_table, part_of_document, part_of}
+use Rattle.vcm_part.specs.PartFile.{near_point, point_at, point_of, small_length, tip_of, tip_at, count, rows_of, block_in, block_of, blocks_from, blocks_at, is_clear, assembled, bounds_of, part_of_table, part_of_document, part_of}
 use Rattle.vcm_part.proofs.Steps.{both, kept}
 
 near_of : (number : ℕ) (o : Option Point) (p : Point) → near_point number o ≡ Ok p → is_near p ≡ true
@@ -25,6 +27,25 @@ near_of number (Some q) p e = let k = kept (is_near q) q p (fault OutOfRange num
 point_near : (key : List ℕ) (number : ℕ) (t : Members) (p : Point) → point_at key number t ≡ Ok p → is_near p ≡ true
 unfolding point_at
 point_near key number t p e = near_of number (option_and_then point_of (get_member key t)) p e
+
+small_of : (o : Option ℤ) (n : ℕ) → small_length o ≡ Ok n → n ≤ 50000
+small_of None n e = absurd (let no : Err (fault BadKey 0) ≡ Ok n = e in cc)
+small_of (Some z) n e =
+    let k = kept (int_le (pos 0) z && int_le z (pos 50000)) (unsigned_abs z) n (fault OutOfRange 0) e in
+    let both = and_parts (int_le (pos 0) z) (int_le z (pos 50000)) k.held in
+    subst (λ m. m ≤ 50000) k.is (abs_small z both.0 both.1)
+  where
+    abs_small : (z : ℤ) → int_le (pos 0) z ≡ true → int_le z (pos 50000) ≡ true → unsigned_abs z ≤ 50000
+    abs_small (pos m) l h = let le = le_true (pos m) (pos 50000) h in omega (arith, ints)
+    abs_small (negsuc m) l h = let le = le_true (pos 0) (negsuc m) l in absurd (omega (arith, ints))
+
+tip_small : (t : Members) (n : ℕ) → tip_at t ≡ Ok n → n ≤ 50000
+unfolding tip_at
+tip_small t n e = by (get_member (codes "tip") t) e
+  where
+    by : (o : Option Data) → tip_of o ≡ Ok n → n ≤ 50000
+    by None e = let is : 0 ≡ n = (let h : Ok 0 ≡ Ok n = e in cc) in omega arith
+    by (Some d) e = small_of (as_integer d) n e
 
 abbrev between : Point → Point → Block3
 between low high = record { low = low; high = high }
@@ -79,16 +100,18 @@ table_valid t part e =
     let low = both (point_at (codes "low") 0 t) _ part e in
     let high = both (point_at (codes "high") 0 t) _ part low.second in
     let home = both (point_at (codes "home") 0 t) _ part high.second in
-    let blocks = both_if (is_below (coordinate low.between) (coordinate high.between)) (blocks_at t >>= assembled (bounds_of low.between high.between home.between)) (fault LowAboveHigh 0) part home.second in
+    let tip = both (tip_at t) _ part home.second in
+    let blocks = both_if (is_below (coordinate low.between) (coordinate high.between)) (blocks_at t >>= assembled (bounds_of low.between high.between home.between tip.between)) (fault LowAboveHigh 0) part tip.second in
     let some = both (blocks_at t) _ part blocks in
     let few = few_at t some.between some.first in
-    let bounds = bounds_of low.between high.between home.between in
+    let bounds = bounds_of low.between high.between home.between tip.between in
     let last = kept (is_clear bounds some.between) (record { bounds = bounds; blocks = some.between }) part (fault HomeNotClear 0) some.second in
     let clear = and_parts _ _ last.held in
     subst (λ (x : Workpiece). IsValid x) last.is (record {
       low = point_near _ _ _ _ low.first;
       high = point_near _ _ _ _ high.first;
       home = clear.0;
+      tip = tip_small t tip.between tip.first;
       few = few.few;
       each = few.each;
       clear = clear.1;

@@ -1,6 +1,6 @@
 -- What the bytes of a part file give: a workpiece, or the first refusal.
 use Rattle.std.specs.Prelude.{◌≡◌, ℕ, suc, ◌+◌, ℤ, List, [], ◌∷◌, Option, Some, None, Result, Ok, Err}
-use Rattle.std.specs.Prelude.{Bool, true, ◌&&◌, ◌⊎◌, not, nat_lt, codes, is_some, if◌then◌else◌}
+use Rattle.std.specs.Prelude.{pos, Bool, true, ◌&&◌, ◌⊎◌, not, nat_lt, int_le, unsigned_abs, codes, is_some, if◌then◌else◌}
 use Rattle.std.specs.Option.{option_and_then}
 use Rattle.std.specs.Str.{is_utf8}
 use Rattle.toml.specs.Data.{Data, Items, no_items, item, Members, get_member, as_integer, as_array, as_table}
@@ -9,7 +9,7 @@ use Rattle.vcm_num.specs.declared.point.Point.{Point}
 use Rattle.vcm_num.specs.Point.{point, coordinate, is_below, is_near}
 use Rattle.vcm_spec.specs.declared.workpiece.Block3.{Block3}
 use Rattle.vcm_spec.specs.declared.workpiece.Bounds.{Bounds}
-use Rattle.vcm_spec.specs.Workpiece.{Workpiece, is_in_some, is_within}
+use Rattle.vcm_spec.specs.Workpiece.{Workpiece, is_some_met, is_within}
 use Rattle.vcm_part.specs.declared.fault.PartCode.TheVariants.{NoMemory, NotToml, BadKey, OutOfRange}
 use Rattle.vcm_part.specs.declared.fault.PartCode.TheVariants.{LowAboveHigh, TooManyBlocks, HomeNotClear}
 use Rattle.vcm_part.specs.declared.fault.PartFault.{PartFault}
@@ -38,6 +38,20 @@ near_point number (Some p) = if is_near p then Ok p else Err (fault OutOfRange n
 -- the point at a key of the table, or of the block of that number
 unfoldable pub point_at : List ℕ → ℕ → Members → Result Point PartFault
 point_at key number t = near_point number (option_and_then point_of (get_member key t))
+
+-- half the width of the tip: from 0 to 50,000
+abbrev pub small_length : Option ℤ → Result ℕ PartFault
+small_length None = Err (fault BadKey 0)
+small_length (Some z) = if int_le (pos 0) z && int_le z (pos 50000) then Ok (unsigned_abs z) else Err (fault OutOfRange 0)
+
+-- it is 0 where the key is absent
+abbrev pub tip_of : Option Data → Result ℕ PartFault
+tip_of None = Ok 0
+tip_of (Some d) = small_length (as_integer d)
+
+-- that of the table
+unfoldable pub tip_at : Members → Result ℕ PartFault
+tip_at t = tip_of (get_member (codes "tip") t)
 
 -- whether all items are tables
 abbrev pub are_tables : Items → Bool
@@ -85,17 +99,17 @@ blocks_at t = do
   rows ← rows_of (get_member (codes "block") t)
   if nat_lt 4096 (count rows) then Err (fault TooManyBlocks 0) else blocks_from 1 rows
 
--- whether home lies within the limits and in no block
+-- whether home lies within the limits, and the tip meets no block there
 abbrev pub is_clear : Bounds → List Block3 → Bool
-is_clear bounds blocks = is_within bounds (coordinate bounds.home) && not (is_in_some blocks (coordinate bounds.home))
+is_clear bounds blocks = is_within bounds (coordinate bounds.home) && not (is_some_met bounds.tip blocks (coordinate bounds.home))
 
 -- the workpiece of these, if home is clear
 abbrev pub assembled : Bounds → List Block3 → Result Workpiece PartFault
 assembled bounds blocks = if is_clear bounds blocks then Ok (record { bounds = bounds; blocks = blocks }) else Err (fault HomeNotClear 0)
 
--- these limits and this home
-abbrev pub bounds_of : Point → Point → Point → Bounds
-bounds_of low high home = record { low = low; high = high; home = home }
+-- these limits, this home and this tip
+abbrev pub bounds_of : Point → Point → Point → ℕ → Bounds
+bounds_of low high home tip = record { low = low; high = high; home = home; tip = tip }
 
 -- the workpiece of the table
 unfoldable pub part_of_table : Members → Result Workpiece PartFault
@@ -103,7 +117,8 @@ part_of_table t = do
   low ← point_at (codes "low") 0 t
   high ← point_at (codes "high") 0 t
   home ← point_at (codes "home") 0 t
-  if is_below (coordinate low) (coordinate high) then blocks_at t >>= assembled (bounds_of low high home) else Err (fault LowAboveHigh 0)
+  tip ← tip_at t
+  if is_below (coordinate low) (coordinate high) then blocks_at t >>= assembled (bounds_of low high home tip) else Err (fault LowAboveHigh 0)
 
 -- the workpiece of the table that a text denotes, if it denotes one
 abbrev pub part_of_document : Option Members → Result Workpiece PartFault

@@ -1,7 +1,7 @@
 -- Worked examples of part files.
 use Rattle.std.specs.Prelude.{◌≡◌, ℕ, List, [], ◌++◌, codes, Result, Ok, Err}
 use Rattle.vcm_spec.specs.Workpiece.{Workpiece}
-use Rattle.vcm_spec.specs.Samples.Parts.{bounds, one_block, two_halves}
+use Rattle.vcm_spec.specs.Samples.Parts.{bounds, at, one_block, two_halves}
 use Rattle.vcm_part.specs.declared.fault.PartCode.TheVariants.{BadKey, OutOfRange, LowAboveHigh, HomeNotClear}
 use Rattle.vcm_part.specs.declared.fault.PartFault.{PartFault}
 use Rattle.vcm_part.specs.Faults.{fault}
@@ -19,6 +19,19 @@ limits = codes "low = [-500000, -500000, -500000]\nhigh = [500000, 500000, 50000
 abbrev pub NoBlocks : Type 0
 NoBlocks = Gives limits (Ok (record { bounds = bounds; blocks = [] }))
 
+-- the tip of 4 mm, and home where it just clears the block
+abbrev pub with_tip : List ℕ → List ℕ
+with_tip home =
+    codes "low = [-500000, -500000, -500000]\nhigh = [500000, 500000, 500000]\ntip = 2000\nhome = [20000, 20000, " ++ home
+    ++ codes "]\n[[block]]\nlow = [10000, 10000, 0]\nhigh = [30000, 30000, 20000]\n"
+
+-- a micrometre above the block
+abbrev pub TipClear : Type 0
+TipClear = Gives (with_tip (codes "22001")) (Ok (record {
+  bounds = record (bounds) { home = at 20000 20000 22001; tip = 2000 };
+  blocks = one_block.blocks;
+}))
+
 -- one block
 abbrev pub OneBlock : Type 0
 OneBlock = Gives (limits ++ codes "[[block]]\nlow = [10000, 10000, 0]\nhigh = [30000, 30000, 20000]\n") (Ok one_block)
@@ -33,6 +46,17 @@ TwoBlocks =
 -- home on an edge of the block
 abbrev pub HomeOnAnEdge : Type 0
 HomeOnAnEdge = Gives (limits ++ codes "[[block]]\nlow = [-5, 0, 0]\nhigh = [5, 9, 100000]\n") (Err (fault HomeNotClear 0))
+
+-- the tip at home rests on the block
+abbrev pub TipOnBlock : Type 0
+TipOnBlock = Gives (with_tip (codes "22000")) (Err (fault HomeNotClear 0))
+
+-- a tip that is a micrometre too wide, or no whole number
+abbrev pub TipTooWide : Type 0
+TipTooWide = Gives (limits ++ codes "tip = 50001\n") (Err (fault OutOfRange 0))
+
+abbrev pub TipNoNumber : Type 0
+TipNoNumber = Gives (limits ++ codes "tip = \"x\"\n") (Err (fault BadKey 0))
 
 -- a corner of the second block is a micrometre too far
 abbrev pub TooFar : Type 0

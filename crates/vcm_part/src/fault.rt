@@ -12,15 +12,15 @@ pub enum PartCode {
     NoMemory,
     /// The bytes are no UTF-8, or no TOML.
     NotToml,
-    /// A key is absent, or its value isn't what it has to be: three whole numbers, or for `block` an array of tables.
+    /// A key is absent, or its value isn't what it has to be: three whole numbers, for `tip` one, or for `block` an array of tables.
     BadKey,
-    /// A coordinate is more than 1,000,000,000 micrometres from 0.
+    /// A coordinate is more than 1,000,000,000 micrometres from 0, or `tip` is outside 0 to 50,000.
     OutOfRange,
     /// A coordinate of a low corner is above that of its high corner.
     LowAboveHigh,
     /// There are more than 4,096 blocks.
     TooManyBlocks,
-    /// Home is outside the limits or in a block.
+    /// Home is outside the limits, or the tip meets a block there.
     HomeNotClear,
 }
 

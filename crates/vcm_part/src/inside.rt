@@ -1,8 +1,8 @@
-//! Points in blocks and within limits.
+//! Points in blocks and within limits, and tips that meet blocks.
 
-ghost use Rattle.std.specs.Prelude.{◌≡◌};
-ghost use Rattle.vcm_num.specs.Point.{coordinate, is_below};
-ghost use Rattle.vcm_spec.specs.Workpiece.{is_in, is_in_some, is_within};
+ghost use Rattle.std.specs.Prelude.{◌≡◌, pos, ◌+ℤ◌, ◌-ℤ◌, int_le};
+ghost use Rattle.vcm_num.specs.Point.{coordinate, is_below, on_each};
+ghost use Rattle.vcm_spec.specs.Workpiece.{is_in, is_met, is_some_met, is_within};
 
 use vcm_num::Point;
 use vcm_spec::{Block3, Bounds};
@@ -21,11 +21,51 @@ pub fn is_in(block: &Block3, at: Point) -> bool
     is_below(block.low, at) && is_below(at, block.high)
 }
 
-/// Whether the point lies in one of the blocks, their faces included.
-pub fn is_in_some(blocks: &[Block3], at: Point) -> bool
-    ensures { result ≡ is_in_some blocks.now (coordinate at) }
+// Whether a coordinate is at most `tip` below `low`. Beyond 64 bits the sum is cut off, which changes no answer.
+fn is_from(low: i64, tip: u32, x: i64) -> bool
+    ensures { result ≡ int_le (low -ℤ pos tip) x }
 {
-    blocks.iter().any(|block| is_in(block, at))
+    low.saturating_sub(i64::from(tip)) <= x
+}
+
+// Whether a coordinate is at most `tip` above `high`.
+fn is_to(high: i64, tip: u32, x: i64) -> bool
+    ensures { result ≡ int_le x (high +ℤ pos tip) }
+{
+    x <= high.saturating_add(i64::from(tip))
+}
+
+// Whether no coordinate of the point is more than `tip` below that of the low corner.
+fn is_above(low: Point, tip: u32, at: Point) -> bool
+    ensures { result ≡ on_each (λ k. int_le (coordinate low k -ℤ pos tip) (coordinate at k)) }
+{
+    let Point([a, b, c]) = low;
+    let Point([x, y, z]) = at;
+    is_from(a, tip, x) && is_from(b, tip, y) && is_from(c, tip, z)
+}
+
+// Whether none is more than `tip` above that of the high corner.
+fn is_beneath(high: Point, tip: u32, at: Point) -> bool
+    ensures { result ≡ on_each (λ k. int_le (coordinate at k) (coordinate high k +ℤ pos tip)) }
+{
+    let Point([a, b, c]) = high;
+    let Point([x, y, z]) = at;
+    is_to(a, tip, x) && is_to(b, tip, y) && is_to(c, tip, z)
+}
+
+/// Whether the tip meets the block where its centre lies at a point. The tip is a closed cube round its centre, `tip` is half its width, and it
+/// meets a block where some point of it lies in the block.
+pub fn is_met(block: &Block3, tip: u32, at: Point) -> bool
+    ensures { result ≡ is_met tip block.now (coordinate at) }
+{
+    is_above(block.low, tip, at) && is_beneath(block.high, tip, at)
+}
+
+/// Whether the tip meets one of the blocks where its centre lies at a point.
+pub fn is_some_met(blocks: &[Block3], tip: u32, at: Point) -> bool
+    ensures { result ≡ is_some_met tip blocks.now (coordinate at) }
+{
+    blocks.iter().any(|block| is_met(block, tip, at))
 }
 
 /// Whether the point lies within the limits.

@@ -1,7 +1,7 @@
 //! Laws of the definitions, each the contract of a function without a body.
 
 ghost use Rattle.vcm_part.specs.Laws.{OtherBytesAreRefused, OtherTextsAreRefused, TablesDecide, PartsAreValid, BytesTakeNoMemory, OneAnswer};
-ghost use Rattle.vcm_part.specs.Samples.{NoBlocks, OneBlock, TwoBlocks, HomeOnAnEdge, TooFar, NoWholeNumber, LowAbove};
+ghost use Rattle.vcm_part.specs.Samples.{NoBlocks, OneBlock, TwoBlocks, TipClear, TipOnBlock, TipTooWide, TipNoNumber, HomeOnAnEdge, TooFar, NoWholeNumber, LowAbove};
 
 /// The table that the bytes' TOML text denotes decides what a part file gives; other bytes are refused.
 pub fn tables_decide()
@@ -27,6 +27,10 @@ pub fn part_examples()
     ensures one_block { OneBlock }
     ensures two_blocks { TwoBlocks }
     ensures home_on_an_edge { HomeOnAnEdge }
+    ensures tip_clear { TipClear }
+    ensures tip_on_block { TipOnBlock }
+    ensures tip_too_wide { TipTooWide }
+    ensures tip_no_number { TipNoNumber }
     ensures too_far { TooFar }
     ensures no_whole_number { NoWholeNumber }
     ensures low_above { LowAbove }

@@ -9,7 +9,7 @@ mod reading;
 
 pub use data::PartData;
 pub use fault::{PartCode, PartFault};
-pub use inside::{is_below, is_in, is_in_some, is_within};
+pub use inside::{is_below, is_in, is_met, is_some_met, is_within};
 pub use reading::read_part;
 pub use vcm_num::Point;
 pub use vcm_spec::{Block3, Bounds};

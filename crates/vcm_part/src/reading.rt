@@ -1,4 +1,4 @@
-//! The part file: a TOML text with `low`, `high` and `home` of the machine, and tables `block` with `low` and `high` each.
+//! The part file: a TOML text with `low`, `high`, `home` and `tip` of the machine, and tables `block` with `low` and `high` each.
 
 ghost use Rattle.std.specs.Prelude.{◌≡◌, ◌≤◌, length, option_map, Some, None, IfOk, IsTrue};
 ghost use Rattle.std.specs.List.{list_all};
@@ -6,18 +6,21 @@ ghost use Rattle.toml.specs.View.{view, items_view, table_view};
 ghost use Rattle.toml.specs.Data.{get_member};
 ghost use Rattle.vcm_num.specs.Point.{is_near};
 ghost use Rattle.vcm_spec.specs.Workpiece.{is_block};
-ghost use Rattle.vcm_part.specs.PartFile.{point_of, point_at, are_tables, block_of, blocks_from, blocks_at, is_clear, part_of_table, part_of, IsPartRead};
+ghost use Rattle.vcm_part.specs.PartFile.{point_of, point_at, tip_at, are_tables, block_of, blocks_from, blocks_at, is_clear, part_of_table, part_of, IsPartRead};
 ghost use Rattle.vcm_part.specs.inner.NotRead.{Gives};
 
 use crate::data::PartData;
 use crate::fault::{NotRead, PartCode, PartFault};
-use crate::inside::{is_below, is_in_some, is_within};
+use crate::inside::{is_below, is_some_met, is_within};
 use std::alloc::Global;
 use toml::{Table, Value};
 use vcm_num::Point;
 use vcm_spec::{Block3, Bounds};
 
 const MOST_BLOCKS: usize = 4096;
+
+// Half the width of the greatest tip.
+const MOST_TIP: i64 = 50_000;
 
 // A refusal, and the number of the block at fault, or 0.
 fn refused(code: PartCode, block: u32) -> NotRead
@@ -61,6 +64,24 @@ fn point_at(table: &Table, key: &str, number: u32) -> Result<Point, NotRead>
         return Err(refused(PartCode::OutOfRange, number));
     }
     Ok(point)
+}
+
+// Half the width of the tip, 0 where the table has no key `tip`.
+#[tactic(auto, unfolding(crate::specs::PartFile::tip_at))]
+fn tip_at(table: &Table) -> Result<u32, NotRead>
+    ensures gives { Gives (λ h. h) result (tip_at (table_view table.now)) }
+    ensures small { IfOk result (λ h. h ≤ 50000) }
+{
+    let Some(value) = value_at(table, "tip") else {
+        return Ok(0);
+    };
+    let Some(tip) = value.as_integer() else {
+        return Err(refused(PartCode::BadKey, 0));
+    };
+    if !(0 <= tip && tip <= MOST_TIP) {
+        return Err(refused(PartCode::OutOfRange, 0));
+    }
+    Ok(tip as u32)
 }
 
 // The block of that number.
@@ -131,11 +152,11 @@ fn blocks_at(alloc: Global, table: &Table) -> Result<Vec<Block3>, NotRead>
     blocks_of(alloc, rows)
 }
 
-// Whether home lies within the limits and in no block.
+// Whether home lies within the limits, and the tip meets no block there.
 fn is_clear(bounds: &Bounds, blocks: &[Block3]) -> bool
     ensures { result ≡ is_clear bounds.now blocks.now }
 {
-    is_within(bounds, bounds.home) && !is_in_some(blocks, bounds.home)
+    is_within(bounds, bounds.home) && !is_some_met(blocks, bounds.tip, bounds.home)
 }
 
 // The workpiece of the table.
@@ -146,11 +167,17 @@ fn part_of_table(alloc: Global, table: &Table) -> Result<PartData, NotRead>
     let low = point_at(table, "low", 0)?;
     let high = point_at(table, "high", 0)?;
     let home = point_at(table, "home", 0)?;
+    let tip = tip_at(table)?;
     if !is_below(low, high) {
         return Err(refused(PartCode::LowAboveHigh, 0));
     }
     let blocks = blocks_at(alloc, table)?;
-    let bounds = Bounds { low, high, home };
+    let bounds = Bounds {
+        low,
+        high,
+        home,
+        tip,
+    };
     if !is_clear(&bounds, &blocks) {
         return Err(refused(PartCode::HomeNotClear, 0));
     }
@@ -177,14 +204,14 @@ fn part_of(alloc: Global, bytes: &[u8]) -> Result<PartData, NotRead>
 
 /// The workpiece that the bytes of a part file give.
 ///
-/// The text is TOML with whole numbers of micrometres: `low`, `high` and `home` with three each, and an array of tables `block`, which may be
+/// The text is TOML with whole numbers of micrometres: `low`, `high` and `home` with three each, `tip`, which may be absent and is 0 then, and an array of tables `block`, which may be
 /// absent, with `low` and `high` each. Other keys are ignored.
 ///
 /// # Errors
 ///
-/// The first in this order: bytes that are no UTF-8 or no TOML; for `low`, `high` and `home` each a bad key, then a coordinate out of range;
-/// limits with low above high; `block` that isn't an array of tables; more than 4,096 blocks; for each block the same of its `low` and `high`, and
-/// then low above high; home outside the limits or in a block. `NoMemory`, with block 0, where a growth of memory was refused; the call may then be
+/// The first in this order: bytes that are no UTF-8 or no TOML; for `low`, `high`, `home` and `tip` each a bad key, then a number out of range, which
+/// for `tip` is one outside 0 to 50,000; limits with low above high; `block` that isn't an array of tables; more than 4,096 blocks; for each block the same of its `low` and `high`, and
+/// then low above high; home outside the limits or where the tip meets a block. `NoMemory`, with block 0, where a growth of memory was refused; the call may then be
 /// repeated.
 pub fn read_part(alloc: Global, bytes: &[u8]) -> Result<PartData, PartFault>
     ensures { IsPartRead bytes.now result }
