@@ -1,15 +1,16 @@
 -- What the box of a move does not touch, the move does not meet.
-use Rattle.std.proofs.Common.{◌≡◌, ℕ, ℤ, pos, negsuc, ◌<◌, ◌≤◌, ◌-ℤ◌, ◌≤ℤ◌, true, ◌&&◌, arith, subst}
+use Rattle.std.proofs.Common.{◌≡◌, ℕ, ℤ, pos, negsuc, ◌<◌, ◌≤◌, ◌+ℤ◌, ◌-ℤ◌, ◌≤ℤ◌, true, ◌&&◌, arith, subst}
 use Rattle.std.proofs.Math.Nat.{mul-le-mul_right, le_of_mul-le-mul_left}
 use Rattle.std.proofs.lemmas.Int.{ints, by_lt_z}
 use Rattle.vcm_num.specs.declared.point.Point.{Point}
 use Rattle.vcm_num.specs.Point.{coordinate, is_below}
 use Rattle.vcm_spec.specs.declared.workpiece.Block3.{Block3}
-use Rattle.vcm_spec.specs.Contact.{IsFraction, IsBetween, Meets}
+use Rattle.vcm_spec.specs.Contact.{IsFraction, IsBetween, TipMeets}
 use Rattle.vcm_motion.specs.inner.Stretches.{IsReached}
 use Rattle.vcm_motion.specs.inner.Boxes.{IsSpan, IsBoxOf}
 use Rattle.vcm_motion.proofs.Crossings.{rising, falling}
 use Rattle.vcm_motion.proofs.Inside.{each_below}
+use Rattle.vcm_spec.proofs.Tips.{shared_between}
 use Rattle.std.proofs.lemmas.Bool.{and_from}
 use Rattle.vcm_motion.specs.Strips.{nat_part}
 
@@ -55,10 +56,12 @@ span_met low high p q left right a b span f i =
     (λ l. let e = between_falling low high p q a b (omega (arith, ints)) f i in (omega (arith, ints), omega (arith, ints)))
     (λ l. let e = between_rising low high p q a b (omega (arith, ints)) f i in (omega (arith, ints), omega (arith, ints)))
 
--- a block that the move meets is touched by its box
-pub met_touches : (block area : Block3) (p q : Point) (a b : ℕ) → IsBoxOf p q area → Meets (coordinate p) (coordinate q) block a b →
+-- a block that the tip meets on the move is touched by its box
+pub met_touches : (h : ℕ) (block area : Block3) (p q : Point) (a b : ℕ) → IsBoxOf h p q area → TipMeets h (coordinate p) (coordinate q) block a b →
     (is_below (coordinate block.low) (coordinate area.high) && is_below (coordinate area.low) (coordinate block.high)) ≡ true
-met_touches block area p q a b is m =
-    let on : (k : ℕ) → k < 3 → (coordinate block.low k ≤ℤ coordinate area.high k) × (coordinate area.low k ≤ℤ coordinate block.high k) =
-    λ k l. span_met _ _ _ _ _ _ a b (is k l) m.fraction (m.on_axis k l) in
-    and_from _ _ (each_below _ _ (λ k l. (on k l).0)) (each_below _ _ (λ k l. (on k l).1))
+met_touches h block area p q a b is m =
+    let on : (k : ℕ) → k < 3 → ((coordinate block.low k -ℤ pos h) ≤ℤ (coordinate area.high k -ℤ pos h)) × ((coordinate area.low k +ℤ pos h) ≤ℤ (coordinate block.high k +ℤ pos h)) =
+    λ k l. span_met _ _ _ _ _ _ a b (is k l) m.fraction (shared_between h _ _ _ _ a b (m.shared k) (m.on_axis k l)) in
+    and_from _ _
+    (each_below (coordinate block.low) (coordinate area.high) (λ k l. (let e = (on k l).0 in omega (arith, ints))))
+    (each_below (coordinate area.low) (coordinate block.high) (λ k l. (let e = (on k l).1 in omega (arith, ints))))

@@ -4,6 +4,9 @@ pub mod Commons
 pub mod Axes
 pub mod Search
 pub mod Inside
+pub mod Wide
+pub mod Lines
+pub mod TipEntries
 pub mod InOrder
 pub mod Ahead
 pub mod Faces

@@ -1,12 +1,12 @@
 -- The list of all strips, one strip after the other.
-use Rattle.std.proofs.Common.{◌≡◌, ℕ, zero, suc, ℤ, ◌+◌, ◌-◌, ◌*◌, min, max, ◌<◌, ◌≤◌, Bool, true, false, List, [], ◌∷◌, ◌++◌, length, drop, get_or, Some, None, slice_get, All, refl, sym, ap, subst, ◌∙◌, arith, inl, inr, append_assoc, drop-cons, length-append, add-one}
+use Rattle.std.proofs.Common.{◌≡◌, ℕ, zero, suc, ℤ, ◌+◌, ◌-◌, ◌*◌, ◌<◌, ◌≤◌, Bool, true, false, List, [], ◌∷◌, ◌++◌, length, drop, get_or, Some, None, slice_get, All, refl, sym, ap, subst, ◌∙◌, arith, inl, inr, append_assoc, drop-cons, length-append, add-one}
 use Rattle.std.proofs.Math.ListN.{get_or-append, drop_of_length-le}
 use Rattle.std.proofs.Math.Seq.{get_or-append_seam}
 use Rattle.std.proofs.lemmas.List.{get_or-append-add, append-nil}
 use Rattle.std.proofs.lemmas.List.Elements.{All-nil, All-cons, All-append}
 use Rattle.std.proofs.lemmas.Bool.{cases_lt, le-leb, and_from}
 use Rattle.vcm_spec.specs.declared.workpiece.Block3.{Block3}
-use Rattle.vcm_motion.specs.Strips.{stands_in, numbered, standing, listed_below, starts_to, start_of, compared_in}
+use Rattle.vcm_motion.specs.Strips.{stands_in, numbered, standing, listed_below, starts_to, start_of, listed_in}
 use Rattle.vcm_motion.specs.inner.Listed.{IsListed, AreStrips}
 use Rattle.vcm_motion.proofs.InOrder.{no_block, read_at}
 
@@ -201,10 +201,10 @@ listed_short low width blocks s order starts longer few l h filled =
     let most = below_most low width blocks few (suc s) in
     subst (λ xs. length xs ≤ 262144) (sym listed) (omega arith)
 
--- how many places the strips of a move have
+-- how many places the strips from s to t have
 pub count_is : (low : ℤ) (width : ℕ) (blocks : List Block3) (starts : List ℕ) (s t : ℕ) → starts ≡ starts_to low width blocks 64 → s ≤ 63 → t ≤ 63 →
-    start_of starts (max s t + 1) - start_of starts (min s t) ≡ compared_in low width blocks s t
+    start_of starts (t + 1) - start_of starts s ≡ listed_in low width blocks s t
 count_is low width blocks starts s t e one two =
-    let first = start_is low width blocks (min s t) 64 (omega arith) in
-    let last = start_is low width blocks (max s t + 1) 64 (omega arith) in
-    subst (λ xs. start_of xs (max s t + 1) - start_of xs (min s t) ≡ compared_in low width blocks s t) (sym e) (omega arith)
+    let first = start_is low width blocks s 64 (omega arith) in
+    let last = start_is low width blocks (t + 1) 64 (omega arith) in
+    subst (λ xs. start_of xs (t + 1) - start_of xs s ≡ listed_in low width blocks s t) (sym e) (omega arith)

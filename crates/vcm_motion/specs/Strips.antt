@@ -1,6 +1,7 @@
 -- Blocks in strips of the x axis.
-use Rattle.std.specs.Prelude.{ℕ, zero, suc, ℤ, pos, negsuc, ◌-ℤ◌, ◌/◌, ◌-◌, ◌+◌, min, max, Bool, true}
+use Rattle.std.specs.Prelude.{ℕ, zero, suc, ℤ, pos, negsuc, ◌+ℤ◌, ◌-ℤ◌, ◌/◌, ◌-◌, ◌+◌, min, Bool, true}
 use Rattle.std.specs.Prelude.{false, nat_le, ◌&&◌, List, [], ◌∷◌, ◌++◌, length, slice_index_or}
+use Rattle.std.specs.Int.{int_min, int_max}
 use Rattle.vcm_num.specs.Point.{coordinate}
 use Rattle.vcm_spec.specs.declared.workpiece.Block3.{Block3}
 use Rattle.vcm_spec.specs.declared.workpiece.Bounds.{Bounds}
@@ -56,13 +57,18 @@ width_of bounds = rise (coordinate bounds.low 0) (coordinate bounds.high 0) / 64
 abbrev pub listed_in : ℤ → ℕ → List Block3 → ℕ → ℕ → ℕ
 listed_in low width blocks first last = length (listed_below low width blocks (last + 1)) - length (listed_below low width blocks first)
 
--- how many are compared with a move from the strip s to the strip t, or back
-abbrev pub compared_in : ℤ → ℕ → List Block3 → ℕ → ℕ → ℕ
-compared_in low width blocks s t = listed_in low width blocks (min s t) (max s t)
+-- the first strip that the tip reaches on a move from the x coordinate p to q, h being half its width
+abbrev pub first_strip : ℤ → ℕ → ℕ → ℤ → ℤ → ℕ
+first_strip low width h p q = strip_at low width (int_min p q -ℤ pos h)
+
+-- and the last one
+abbrev pub last_strip : ℤ → ℕ → ℕ → ℤ → ℤ → ℕ
+last_strip low width h p q = strip_at low width (int_max p q +ℤ pos h)
 
 -- how many blocks of a workpiece are compared with the move from the place p to the place q
 abbrev pub compared : Workpiece → (ℕ → ℤ) → (ℕ → ℤ) → ℕ
 compared part p q =
     let low = coordinate part.bounds.low 0 in
     let width = width_of part.bounds in
-    compared_in low width part.blocks (strip_at low width (p 0)) (strip_at low width (q 0))
+    let h = part.bounds.tip in
+    listed_in low width part.blocks (first_strip low width h (p 0) (q 0)) (last_strip low width h (p 0) (q 0))

@@ -4,21 +4,21 @@ ghost use Rattle.std.specs.Prelude.{◌≤◌, ℕ, length, IfSome, IfNone, IsTr
 ghost use Rattle.std.specs.List.{list_all};
 ghost use Rattle.vcm_num.specs.Point.{coordinate, is_near};
 ghost use Rattle.vcm_spec.specs.Workpiece.{is_block};
-ghost use Rattle.vcm_spec.specs.Contact.{Meets, IsContact};
-ghost use Rattle.vcm_motion.specs.inner.Boxes.{IsBoxOf};
+ghost use Rattle.vcm_spec.specs.Contact.{Meets, TipMeets, IsAnswer};
+ghost use Rattle.vcm_motion.specs.inner.Boxes.{IsBoxOf, IsWideBlock};
 ghost use Rattle.vcm_motion.specs.inner.Sooner.{IsLeastOf};
 
-use crate::area::{box_of, is_touching};
+use crate::area::{box_of, grown, is_touching};
 use crate::axis::between;
 use crate::entered::{Entered, sooner};
 use crate::fraction::{Fraction, Stretch};
 use vcm_num::Point;
 use vcm_spec::{Block3, Hit};
 
-// The fraction at which a move enters a block, axis by axis.
+// The fraction at which a moving point enters a block, axis by axis.
 #[inline(never)]
 fn crossing(block: &Block3, from: Point, to: Point) -> Option<Fraction>
-    requires block { IsTrue (is_block block.now) }
+    requires block { IsWideBlock block.now }
     requires from { IsTrue (is_near from) }
     requires to { IsTrue (is_near to) }
     ensures met { IfSome result (λ f. IsLeastOf (Meets (coordinate from) (coordinate to) block.now) f.num f.den) }
@@ -41,35 +41,43 @@ fn crossing(block: &Block3, from: Point, to: Point) -> Option<Fraction>
     }
 }
 
-/// The fraction at which a move enters a block, where `area` is the box of the move: a block that it does not touch is not met.
+/// The fraction at which the tip meets a block on a move, where `area` is the box of the move: a block that it does not touch is not met.
 #[inline(always)]
-pub(crate) fn entry(block: &Block3, area: &Block3, from: Point, to: Point) -> Option<Fraction>
+pub(crate) fn entry(
+    block: &Block3,
+    area: &Block3,
+    tip: u32,
+    from: Point,
+    to: Point,
+) -> Option<Fraction>
     requires block { IsTrue (is_block block.now) }
-    requires area { IsBoxOf from to area.now }
+    requires area { IsBoxOf tip from to area.now }
+    requires tip { tip ≤ 50000 }
     requires from { IsTrue (is_near from) }
     requires to { IsTrue (is_near to) }
-    ensures met { IfSome result (λ f. IsLeastOf (Meets (coordinate from) (coordinate to) block.now) f.num f.den) }
-    ensures missed { IfNone result ((a b : ℕ) → Meets (coordinate from) (coordinate to) block.now a b → ⊥) }
+    ensures met { IfSome result (λ f. IsLeastOf (TipMeets tip (coordinate from) (coordinate to) block.now) f.num f.den) }
+    ensures missed { IfNone result ((a b : ℕ) → TipMeets tip (coordinate from) (coordinate to) block.now a b → ⊥) }
 {
     if is_touching(block, area) {
-        crossing(block, from, to)
+        crossing(&grown(block, tip), from, to)
     } else {
         None
     }
 }
 
-/// The first block that a move meets: of those entered at the least fraction the one that stands first.
-pub(crate) fn first_hit(blocks: &[Block3], from: Point, to: Point) -> Option<Hit>
+/// The first block that the tip meets on a move: of those met at the least fraction the one that stands first.
+pub(crate) fn first_hit(blocks: &[Block3], tip: u32, from: Point, to: Point) -> Option<Hit>
     requires few { length blocks.now ≤ 4096 }
     requires blocks { IsTrue (list_all is_block blocks.now) }
+    requires tip { tip ≤ 50000 }
     requires from { IsTrue (is_near from) }
     requires to { IsTrue (is_near to) }
-    ensures { IsContact blocks.now (coordinate from) (coordinate to) result }
+    ensures { IsAnswer blocks.now (TipMeets tip (coordinate from) (coordinate to)) result }
 {
-    let area = box_of(from, to);
+    let area = box_of(from, to, tip);
     let mut first: Option<Entered> = None;
     for (index, block) in blocks.iter().enumerate() {
-        if let Some(at) = entry(block, &area, from, to) {
+        if let Some(at) = entry(block, &area, tip, from, to) {
             first = Some(sooner(first, Entered { index, at }));
         }
     }

@@ -3,8 +3,9 @@
 ghost use Rattle.std.specs.Prelude.{◌≡◌, ◌<◌, ◌≤◌, ◌++◌, OnOk, length, IsTrue};
 ghost use Rattle.std.specs.List.{list_all};
 ghost use Rattle.vcm_num.specs.Point.{IsNear};
+ghost use Rattle.vcm_motion.specs.inner.Boxes.{IsWide};
 ghost use Rattle.vcm_spec.specs.Workpiece.{is_block};
-ghost use Rattle.vcm_motion.specs.Strips.{rise, standing, stands_in, strip_at};
+ghost use Rattle.vcm_motion.specs.Strips.{rise, standing, stands_in, strip_at, first_strip, last_strip};
 
 use std::alloc::AllocError;
 use vcm_spec::Block3;
@@ -15,7 +16,7 @@ pub(crate) const STRIPS: usize = 64;
 /// How far an x coordinate lies above `low`, or 0.
 pub(crate) fn rise(low: i64, x: i64) -> u32
     requires low { IsNear low }
-    requires x { IsNear x }
+    requires x { IsWide x }
     ensures { result ≡ rise low x }
 {
     if x < low { 0 } else { (x - low) as u32 }
@@ -24,11 +25,37 @@ pub(crate) fn rise(low: i64, x: i64) -> u32
 /// The strip of an x coordinate: the outer two are unbounded, and an edge between two strips belongs to the upper.
 pub(crate) fn strip_of(low: i64, width: u32, x: i64) -> usize
     requires low { IsNear low }
-    requires x { IsNear x }
+    requires x { IsWide x }
     requires width { 0 < width }
     ensures { result ≡ strip_at low width x }
 {
     ((rise(low, x) / width) as usize).min(STRIPS - 1)
+}
+
+/// The first strip that the tip reaches on a move between two x coordinates.
+#[inline(always)]
+pub(crate) fn first_strip(low: i64, width: u32, tip: u32, from: i64, to: i64) -> usize
+    requires low { IsNear low }
+    requires width { 0 < width }
+    requires tip { tip ≤ 50000 }
+    requires from { IsNear from }
+    requires to { IsNear to }
+    ensures { result ≡ first_strip low width tip from to }
+{
+    strip_of(low, width, from.min(to) - i64::from(tip))
+}
+
+/// The last strip that it reaches.
+#[inline(always)]
+pub(crate) fn last_strip(low: i64, width: u32, tip: u32, from: i64, to: i64) -> usize
+    requires low { IsNear low }
+    requires width { 0 < width }
+    requires tip { tip ≤ 50000 }
+    requires from { IsNear from }
+    requires to { IsNear to }
+    ensures { result ≡ last_strip low width tip from to }
+{
+    strip_of(low, width, from.max(to) + i64::from(tip))
 }
 
 // Whether a block stands in a strip.

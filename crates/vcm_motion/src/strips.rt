@@ -12,7 +12,7 @@ use crate::listed::first_in_strips;
 use crate::part::Part;
 use std::alloc::Global;
 use vcm_num::{Axis, NoMemory, Point};
-use vcm_part::{PartData, is_in_some};
+use vcm_part::{PartData, is_some_met};
 use vcm_spec::{Block3, Bounds, Hit};
 
 /// A workpiece that borrows its blocks, and keeps for each of 64 strips of the x axis which of them stand there. The outer two strips are unbounded.
@@ -64,18 +64,27 @@ impl<'a> Strips<'a> {
         })
     }
 
-    /// The first block that the straight move between two points meets, as `first_hit` gives it, and how many blocks were compared with the move:
-    /// those of the strips from that of its one end to that of its other, a block once for each of them. Both points are at most 1,000,000,000
+    /// The first block that the tip meets on the straight move between two points, as `first_hit` gives it, and how many blocks were compared with the move:
+    /// those of the strips that the tip reaches on the way, a block once for each of them. Both points are at most 1,000,000,000
     /// micrometres from 0 on each axis.
     pub fn first_hit_counted(&self, from: Point, to: Point) -> (Option<Hit>, u32)
         requires from { IsTrue (is_near from) }
         requires to { IsTrue (is_near to) }
-        ensures hit { IsContact (⟦<Strips<'a> as Part>⟧.part self.now).blocks (coordinate from) (coordinate to) result.0 }
+        ensures hit { IsContact (⟦<Strips<'a> as Part>⟧.part self.now) (coordinate from) (coordinate to) result.0 }
         ensures count { result.1 ≡ compared (⟦<Strips<'a> as Part>⟧.part self.now) (coordinate from) (coordinate to) }
     {
         let low = self.bounds.low.0[0];
         let width = width(&self.bounds);
-        first_in_strips(self.blocks, low, width, &self.starts, &self.order, from, to)
+        first_in_strips(
+            self.blocks,
+            self.bounds.tip,
+            low,
+            width,
+            &self.starts,
+            &self.order,
+            from,
+            to,
+        )
     }
 }
 
@@ -89,7 +98,7 @@ impl<'a> Part for Strips<'a> {
     }
 
     fn inside(&self, at: Point) -> bool {
-        is_in_some(self.blocks, at)
+        is_some_met(self.blocks, self.bounds.tip, at)
     }
 
     fn first_hit(&self, from: Point, to: Point) -> Option<Hit> {
@@ -97,6 +106,6 @@ impl<'a> Part for Strips<'a> {
     }
 
     fn first_face(&self, from: Point, toward: Axis, length: u32) -> Option<Face> {
-        first_face(self.blocks, from, toward, length)
+        first_face(self.blocks, self.bounds.tip, from, toward, length)
     }
 }

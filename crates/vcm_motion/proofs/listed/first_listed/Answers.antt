@@ -1,7 +1,7 @@
 use Rattle.std.proofs.Common.{arith, refl, ◌<◌, ◌+◌, Some, get_or, length}
 use Rattle.std.proofs.lemmas.Grind.{elements}
 use Rattle.vcm_num.specs.Point.{coordinate}
-use Rattle.vcm_spec.specs.Contact.{Meets}
+use Rattle.vcm_spec.specs.Contact.{TipMeets}
 use Rattle.vcm_motion.proofs.Search.{fewer, skip_block, add_block, clear_of_all, hit_of_all}
 use Rattle.vcm_motion.proofs.InOrder.{block_read, read_at, stands_at}
 use Rattle.vcm_motion.specs.inner.Listed.{IsListed}
@@ -20,26 +20,26 @@ loop-number-preserved c =
     let within : get_or c.args.listed.now c.loop-number.number-index 0 < length c.args.blocks.now = grind (arith, elements, c.requires.places) in
     let stands = stands_at c.args.blocks.now i within in
     elim c.match-entry.branch [
-      | in-Some w ↦ rw w.first-is (fewer c.args.blocks.now (Meets (coordinate c.args.from) (coordinate c.args.to)) _ (IsListed c.args.listed.now 0 (c.loop-number.number-index + 1))
+      | in-Some w ↦ rw w.first-is (fewer c.args.blocks.now (TipMeets c.args.tip (coordinate c.args.from) (coordinate c.args.to)) _ (IsListed c.args.listed.now 0 (c.loop-number.number-index + 1))
           (next_passed c.args.listed.now c.loop-number.number-index _ refl) (Some w.sooner.result)
-          (add_block c.args.blocks.now (Meets (coordinate c.args.from) (coordinate c.args.to)) (λ block a b m. m.fraction.positive)
+          (add_block c.args.blocks.now (TipMeets c.args.tip (coordinate c.args.from) (coordinate c.args.to)) (λ block a b m. m.fraction.positive)
           (IsListed c.args.listed.now 0 c.loop-number.number-index) i (read_at c.args.blocks.now i) stands
           _ refl w.in-Some.ensures.met c.loop-number.first c.loop-number.invariant w.sooner.result w.sooner.ensures))
-      | in_default w ↦ rw w.first-is (fewer c.args.blocks.now (Meets (coordinate c.args.from) (coordinate c.args.to)) _ (IsListed c.args.listed.now 0 (c.loop-number.number-index + 1))
+      | in_default w ↦ rw w.first-is (fewer c.args.blocks.now (TipMeets c.args.tip (coordinate c.args.from) (coordinate c.args.to)) _ (IsListed c.args.listed.now 0 (c.loop-number.number-index + 1))
           (next_passed c.args.listed.now c.loop-number.number-index _ refl) c.loop-number.first
-          (skip_block c.args.blocks.now (Meets (coordinate c.args.from) (coordinate c.args.to))
+          (skip_block c.args.blocks.now (TipMeets c.args.tip (coordinate c.args.from) (coordinate c.args.to))
           (IsListed c.args.listed.now 0 c.loop-number.number-index) i (read_at c.args.blocks.now i) stands
           w.in_default.ensures.missed c.loop-number.first c.loop-number.invariant))
     ]
 
 pub returns-in_err-first : goal.returns-in_err-first
 returns-in_err-first c =
-    rw c.from_residual.ensures (clear_of_all c.args.blocks.now (Meets (coordinate c.args.from) (coordinate c.args.to)) (IsListed c.args.listed.now 0 c.loop-number.number-index)
+    rw c.from_residual.ensures (clear_of_all c.args.blocks.now (TipMeets c.args.tip (coordinate c.args.from) (coordinate c.args.to)) (IsListed c.args.listed.now 0 c.loop-number.number-index)
     (all_passed c.args.blocks.now _ c.args.listed.now _ c.loop-number-test.false c.requires.covered)
     (rw c.in_err-first.was at c.loop-number.invariant))
 
 pub returns : goal.returns
 returns c =
-    hit_of_all c.args.blocks.now (Meets (coordinate c.args.from) (coordinate c.args.to)) (IsListed c.args.listed.now 0 c.loop-number.number-index) c.in_ok-first.field-0
+    hit_of_all c.args.blocks.now (TipMeets c.args.tip (coordinate c.args.from) (coordinate c.args.to)) (IsListed c.args.listed.now 0 c.loop-number.number-index) c.in_ok-first.field-0
     (all_passed c.args.blocks.now _ c.args.listed.now _ c.loop-number-test.false c.requires.covered)
     (rw c.in_ok-first.was at c.loop-number.invariant) c.hit.result c.hit.ensures.block c.hit.ensures.permille

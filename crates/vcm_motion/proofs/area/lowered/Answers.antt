@@ -1,0 +1,21 @@
+use Rattle.std.proofs.Common.{arith}
+use Rattle.vcm_num.specs.Point.{coordinate}
+use Rattle.vcm_motion.proofs.Wide.{lower_fits, lower_is}
+use Rattle.vcm_motion.proofs.area.lowered.Goals as goal
+
+pub overflow_sub-x : goal.overflow_sub-x
+overflow_sub-x c = lower_fits c.args.by c.requires.by (coordinate c.args.at 0) _ (c.requires.at 0 (omega arith)) c.from-by.ensures
+
+pub overflow_sub-y : goal.overflow_sub-y
+overflow_sub-y c = lower_fits c.args.by c.requires.by (coordinate c.args.at 1) _ (c.requires.at 1 (omega arith)) c.from-by.ensures
+
+pub overflow_sub-z : goal.overflow_sub-z
+overflow_sub-z c = lower_fits c.args.by c.requires.by (coordinate c.args.at 2) _ (c.requires.at 2 (omega arith)) c.from-by.ensures
+
+pub returns : goal.returns
+returns c =
+    rw (
+      lower_is c.args.by c.requires.by (coordinate c.args.at 0) _ (c.requires.at 0 (omega arith)) c.from-by.ensures,
+      lower_is c.args.by c.requires.by (coordinate c.args.at 1) _ (c.requires.at 1 (omega arith)) c.from-by.ensures,
+      lower_is c.args.by c.requires.by (coordinate c.args.at 2) _ (c.requires.at 2 (omega arith)) c.from-by.ensures,
+    ) at c.new.ensures

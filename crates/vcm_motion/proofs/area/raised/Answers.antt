@@ -1,0 +1,21 @@
+use Rattle.std.proofs.Common.{arith}
+use Rattle.vcm_num.specs.Point.{coordinate}
+use Rattle.vcm_motion.proofs.Wide.{raise_fits, raise_is}
+use Rattle.vcm_motion.proofs.area.raised.Goals as goal
+
+pub overflow_add-x : goal.overflow_add-x
+overflow_add-x c = raise_fits c.args.by c.requires.by (coordinate c.args.at 0) _ (c.requires.at 0 (omega arith)) c.from-by.ensures
+
+pub overflow_add-y : goal.overflow_add-y
+overflow_add-y c = raise_fits c.args.by c.requires.by (coordinate c.args.at 1) _ (c.requires.at 1 (omega arith)) c.from-by.ensures
+
+pub overflow_add-z : goal.overflow_add-z
+overflow_add-z c = raise_fits c.args.by c.requires.by (coordinate c.args.at 2) _ (c.requires.at 2 (omega arith)) c.from-by.ensures
+
+pub returns : goal.returns
+returns c =
+    rw (
+      raise_is c.args.by c.requires.by (coordinate c.args.at 0) _ (c.requires.at 0 (omega arith)) c.from-by.ensures,
+      raise_is c.args.by c.requires.by (coordinate c.args.at 1) _ (c.requires.at 1 (omega arith)) c.from-by.ensures,
+      raise_is c.args.by c.requires.by (coordinate c.args.at 2) _ (c.requires.at 2 (omega arith)) c.from-by.ensures,
+    ) at c.new.ensures
