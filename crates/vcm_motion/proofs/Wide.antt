@@ -1,5 +1,5 @@
 -- Coordinates of grown blocks, as the code reads them.
-use Rattle.std.proofs.Common.{◌≡◌, ℕ, ◌<◌, ◌≤◌, ℤ, pos, ◌+ℤ◌, ◌-ℤ◌, to_z, of_z, w64, arith, FitsSigned, true}
+use Rattle.std.proofs.Common.{◌≡◌, ℕ, ◌≤◌, ℤ, pos, ◌+ℤ◌, ◌-ℤ◌, to_z, of_z, w64, arith, FitsSigned, true}
 use Rattle.std.proofs.lemmas.Int.{ints, clamps, to_z-of_z}
 use Rattle.std.specs.Int.{int_min, int_max}
 use Rattle.vcm_num.specs.Point.{IsNear, coordinate}

@@ -51,7 +51,7 @@ mul-less n h z =
     let f = ap (λ (t : ℤ). pos n *ℤ t) back in
     omega (arith, ints, e, f)
 
-shared_between : (h : ℕ) (low high p q : ℤ) (a b : ℕ) (c : ℤ) → IsShared h low high p q a b c → IsBetween (low -ℤ pos h) (high +ℤ pos h) p q a b
+pub shared_between : (h : ℕ) (low high p q : ℤ) (a b : ℕ) (c : ℤ) → IsShared h low high p q a b c → IsBetween (low -ℤ pos h) (high +ℤ pos h) p q a b
 shared_between h low high p q a b c s =
     let l = mul-less b h low in
     let u = mul-add (pos b) high (pos h) in

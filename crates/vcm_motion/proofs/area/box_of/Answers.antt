@@ -1,5 +1,4 @@
 use Rattle.std.proofs.Common.{arith}
-use Rattle.vcm_num.specs.Point.{coordinate}
 use Rattle.vcm_spec.proofs.Entries.{below_three}
 use Rattle.vcm_motion.proofs.Lines.{span_grown}
 use Rattle.vcm_motion.proofs.area.box_of.Goals as goal

@@ -1,6 +1,3 @@
-use Rattle.std.proofs.Common.{◌≡◌}
-use Rattle.vcm_spec.specs.declared.workpiece.Block3.{Block3}
-use Rattle.vcm_spec.specs.Workpiece.{grown}
 use Rattle.vcm_motion.proofs.Inside.{low_reachable, high_reachable}
 use Rattle.vcm_motion.proofs.Wide.{grown_wide}
 use Rattle.vcm_motion.proofs.area.grown.Goals as goal

@@ -1,5 +1,3 @@
-use Rattle.std.proofs.Common.{◌≡◌, ◌+ℤ◌, ◌-ℤ◌, pos}
-use Rattle.std.specs.Int.{int_max}
 use Rattle.vcm_num.specs.Point.{IsNear}
 use Rattle.vcm_num.proofs.PointLemmas.{near_read}
 use Rattle.vcm_motion.proofs.Wide.{max_near, raise_fits, raise_is, raised}

@@ -1,9 +1,6 @@
-use Rattle.std.proofs.Common.{◌≡◌, ◌+◌, subst, sym, arith, rules}
+use Rattle.std.proofs.Common.{◌+◌, arith}
 use Rattle.vcm_num.specs.Point.{coordinate}
 use Rattle.vcm_num.proofs.PointLemmas.{near_again, near_read}
-use Rattle.vcm_motion.specs.inner.Listed.{IsCovered}
-use Rattle.vcm_motion.specs.Strips.{first_strip, last_strip}
-use Rattle.vcm_spec.specs.Contact.{TipMeets}
 use Rattle.vcm_motion.proofs.Inside.{reachable}
 use Rattle.vcm_motion.proofs.StripLemmas.{range_of, strips_cover, cut_places}
 use Rattle.vcm_motion.proofs.listed.first_in_strips.Goals as goal
