@@ -1,4 +1,4 @@
--- Points near 0: within the limits, in a block, and on the way to another.
+-- Points near 0: within the limits, and on the way to another.
 use Rattle.std.proofs.Common.{◌≡◌, ℕ, ◌<◌, ◌≤◌, ℤ, pos, negsuc, true, arith}
 use Rattle.std.proofs.lemmas.Bool.{and_parts, and_from}
 use Rattle.std.proofs.lemmas.Int.{ints}
@@ -6,11 +6,11 @@ use Rattle.vcm_num.specs.declared.point.Point.{Point}
 use Rattle.vcm_num.specs.declared.axis.Axis.{Axis}
 use Rattle.vcm_num.specs.Point.{coordinate, is_below, is_near_zero, is_near, IsNear, IsReachable}
 use Rattle.vcm_num.specs.Axis.{along}
-use Rattle.vcm_spec.specs.Workpiece.{Workpiece, IsValid, is_in_some, is_within}
+use Rattle.vcm_spec.specs.Workpiece.{Workpiece, IsValid, is_within}
 use Rattle.vcm_spec.specs.Outcome.{point_of}
 use Rattle.vcm_spec.proofs.Entries.{true_le, below_three}
-use Rattle.vcm_motion.proofs.Inside.{reachable, low_reachable, high_reachable, below_each, block_at, one_of}
-use Rattle.vcm_probe.proofs.WayBack.{one_between}
+use Rattle.vcm_motion.proofs.Inside.{reachable, below_each}
+use Rattle.vcm_probe.proofs.WayBack.{one_between, way_between}
 
 near_true : (z : ℤ) → IsNear z → is_near_zero z ≡ true
 near_true z h = and_from _ _ (true_le _ _ h.from_below) (true_le _ _ h.from_above)
@@ -40,17 +40,18 @@ within_is_near part valid p within =
 pub end_is_near : (part : Workpiece) → IsValid part → (p q : Point) → p ≡ q → is_within part.bounds (coordinate p) ≡ true → is_near q ≡ true
 end_is_near part valid p q e within = rw (← e) (within_is_near part valid p within)
 
-pub inside_is_near : (part : Workpiece) → IsValid part → (p : Point) → is_in_some part.blocks (coordinate p) ≡ true → is_near p ≡ true
-inside_is_near part valid p some =
-    let o = one_of part.blocks (coordinate p) some in
-    let b = block_at part.blocks o.index o.block valid.each o.stands in
-    let w = and_parts _ _ o.holds in
-    near_between p o.block.low o.block.high (low_reachable o.block b) (high_reachable o.block b) w.0 w.1
-
 -- one step on the way from a point to another
 pub next_is_near : (p : Point) (d : Axis) (n : ℕ) → 1 ≤ n → is_near p ≡ true → is_near (point_of (along (coordinate p) d n)) ≡ true → is_near (point_of (along (coordinate p) d 1)) ≡ true
 next_is_near p d n hn start end = place_near (along (coordinate p) d 1) (λ k l.
     let a = reachable p start k l in
     let b = near_place (along (coordinate p) d n) end k l in
     let s = one_between (coordinate p) d n k (negsuc 999999999) (pos 1000000000) hn (record { from_low = a.from_below; to_high = a.from_above }) (record { from_low = b.from_below; to_high = b.from_above }) in
+    record { from_below = s.from_low; from_above = s.to_high })
+
+-- a place on the way from a point to another
+pub way_is_near : (p : Point) (d : Axis) (t n : ℕ) → t ≤ n → is_near p ≡ true → is_near (point_of (along (coordinate p) d n)) ≡ true → is_near (point_of (along (coordinate p) d t)) ≡ true
+way_is_near p d t n le start end = place_near (along (coordinate p) d t) (λ k l.
+    let a = reachable p start k l in
+    let b = near_place (along (coordinate p) d n) end k l in
+    let s = way_between (coordinate p) d t n k (negsuc 999999999) (pos 1000000000) le (record { from_low = a.from_below; to_high = a.from_above }) (record { from_low = b.from_below; to_high = b.from_above }) in
     record { from_below = s.from_low; from_above = s.to_high })

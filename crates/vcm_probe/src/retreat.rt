@@ -3,7 +3,7 @@
 ghost use Rattle.std.specs.Prelude.{◌≡◌, ◌≤◌, IsTrue, IfOk};
 ghost use Rattle.vcm_num.specs.Axis.{along};
 ghost use Rattle.vcm_num.specs.Point.{coordinate, is_near};
-ghost use Rattle.vcm_spec.specs.Workpiece.{is_in_some};
+ghost use Rattle.vcm_spec.specs.Workpiece.{is_blocked};
 ghost use Rattle.vcm_spec.specs.FirstContact.{later_contact};
 ghost use Rattle.vcm_spec.specs.Outcome.{Answers, point_of};
 ghost use Rattle.vcm_probe.specs.inner.Places.{retreat};
@@ -18,10 +18,10 @@ use vcm_spec::{Hit, MovePhase, Stop, Touch};
 fn retract_hit<P: Part>(part: &P, at: Point, toward: Axis, length: u32) -> Option<Hit>
     requires start { IsTrue (is_near at) }
     requires end { IsTrue (is_near (point_of (along (coordinate at) toward length))) }
-    requires free { ¬ IsTrue (is_in_some (P.part part.now).blocks (along (coordinate at) toward 1)) }
+    requires free { ¬ IsTrue (is_blocked (P.part part.now) (along (coordinate at) toward 1)) }
     requires least { 1 ≤ length }
     requires most { length ≤ 1000000 }
-    ensures { result ≡ later_contact (P.part part.now).blocks (coordinate at) (along (coordinate at) toward length) }
+    ensures { result ≡ later_contact (P.part part.now) (coordinate at) (along (coordinate at) toward length) }
 {
     let next = moved(at, toward, 1);
     let face = part.first_face(next, toward, length - 1)?;
@@ -31,26 +31,29 @@ fn retract_hit<P: Part>(part: &P, at: Point, toward: Axis, length: u32) -> Optio
     })
 }
 
-/// Goes back from the point of a touch, one step from which the probe lies in no block.
+/// Goes back from a touch, where the centre of the tip is, one step from which the tip meets no block.
 pub(crate) fn retreat<P: Part>(
     part: &P,
-    at: Point,
+    centre: Point,
     toward: Axis,
     length: u32,
 ) -> Result<Touch, Stop>
-    requires start { IsTrue (is_near at) }
-    requires free { ¬ IsTrue (is_in_some (P.part part.now).blocks (along (coordinate at) toward 1)) }
+    requires start { IsTrue (is_near centre) }
+    requires free { ¬ IsTrue (is_blocked (P.part part.now) (along (coordinate centre) toward 1)) }
     requires least { 1 ≤ length }
     requires most { length ≤ 1000000 }
-    ensures answer { Answers (retreat (P.part part.now) at toward length) result }
+    ensures answer { Answers (retreat (P.part part.now) centre toward length) result }
     ensures near { IfOk result (λ t. IsTrue (is_near t.retract)) }
 {
-    let retract = moved(at, toward, length);
+    let retract = moved(centre, toward, length);
     if !is_within(&part.bounds(), retract) {
         return Err(Stop::Travel(MovePhase::Retract));
     }
-    match retract_hit(part, at, toward, length) {
+    match retract_hit(part, centre, toward, length) {
         Some(hit) => Err(Stop::Collision(MovePhase::Retract, hit)),
-        None => Ok(Touch { at, retract }),
+        None => Ok(Touch {
+            at: moved(centre, toward.opposite(), part.bounds().tip),
+            retract,
+        }),
     }
 }

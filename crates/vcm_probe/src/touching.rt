@@ -30,14 +30,15 @@ fn approach_freely<P: Part>(part: &P, from: Point, to: Point) -> Result<(), Stop
     }
 }
 
-/// Touches the workpiece at a nominal point, and goes back. From `from`, which is at most 1,000,000,000 micrometres from 0 on each axis, the
-/// probe moves to the approach point, which lies in the direction `toward` from the nominal point, at the approach length, then down through the nominal point and past
-/// it by the greater of the search length and the depth, to the first point that lies in a block, and back `toward` by the retract length.
-/// Lengths and coordinates are in micrometres.
+/// Touches the workpiece at a nominal point, and goes back. From `from`, which is at most 1,000,000,000 micrometres from 0 on each axis, the centre
+/// of the tip moves to the approach point, which lies in the direction `toward` from the nominal point, at the approach length and half the width of
+/// the tip, then down by the approach length and the greater of the search length and the depth, to the first point at which the tip meets a block, and
+/// back `toward` by the retract length. The touched point is the middle of the tip's face where it meets the block. Lengths and coordinates are in
+/// micrometres.
 ///
 /// Errors, the first of these that applies: `Overflow` where a coordinate of the approach point or of the end of the search doesn't fit 64 bits;
 /// `Travel(Approach)` where the approach point is beyond the limits; `Collision(Approach, ..)` where the straight move there meets a block;
-/// `Travel(Search)` where the end of the search is beyond the limits; `Missed` where no point of the search lies in a block;
+/// `Travel(Search)` where the end of the search is beyond the limits; `Missed` where the tip meets no block in the search;
 /// `Travel(Retract)` where the retract point is beyond the limits; `Collision(Retract, ..)` where the way back meets a block after its start.
 pub fn touch<P: Part>(
     part: &P,
@@ -51,19 +52,21 @@ pub fn touch<P: Part>(
     ensures near { IfOk result (λ t. IsTrue (is_near t.retract)) }
 {
     let back = toward.opposite();
-    let Some(approach) = reached(nominal, toward, settings.approach()) else {
+    let bounds = part.bounds();
+    let length = settings.descent();
+    let Some(approach) = reached(nominal, toward, bounds.tip + settings.approach()) else {
         return Err(ProbeStop::Overflow);
     };
-    let Some(end) = reached(nominal, back, settings.past()) else {
+    let Some(end) = reached(approach, back, length) else {
         return Err(ProbeStop::Overflow);
     };
     approach_freely(part, from, approach)?;
-    if !is_within(&part.bounds(), end) {
+    if !is_within(&bounds, end) {
         return Err(ProbeStop::Travel(MovePhase::Search));
     }
-    let Some(face) = part.first_face(approach, back, settings.descent()) else {
+    let Some(face) = part.first_face(approach, back, length) else {
         return Err(ProbeStop::Missed);
     };
-    let at = moved(approach, back, face.distance);
-    retreat(part, at, toward, settings.retract())
+    let centre = moved(approach, back, face.distance);
+    retreat(part, centre, toward, settings.retract())
 }

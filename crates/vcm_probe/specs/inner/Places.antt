@@ -3,7 +3,7 @@ use Rattle.std.specs.Prelude.{ℕ, ℤ, Option, Some, None, if◌then◌else◌}
 use Rattle.vcm_num.specs.declared.point.Point.{Point}
 use Rattle.vcm_num.specs.declared.axis.Axis.{Axis}
 use Rattle.vcm_num.specs.Number.{fits_i64}
-use Rattle.vcm_num.specs.Axis.{along}
+use Rattle.vcm_num.specs.Axis.{along, opposite}
 use Rattle.vcm_num.specs.Point.{coordinate}
 use Rattle.vcm_spec.specs.declared.feature.Touch.{Touch}
 use Rattle.vcm_spec.specs.declared.stop.Stop.TheVariants.{Travel}
@@ -21,9 +21,12 @@ fitting z = if fits_i64 z then Some z else None
 abbrev pub fitting_point : (ℕ → ℤ) → Option Point
 fitting_point x = if fits_place x then Some (point_of x) else None
 
--- the way back from a touch, of this length
+-- the way back from a touch, of this length, the centre of the tip being at a point
 abbrev pub retreat : Workpiece → Point → Axis → ℕ → Outcome Touch
-retreat part at toward length = do
-  _ ← demand (is_within part.bounds (along (coordinate at) toward length)) (Travel Retract)
-  _ ← free_of Retract (later_contact part.blocks (coordinate at) (along (coordinate at) toward length))
-  Gives (record { at = at; retract = point_of (along (coordinate at) toward length) })
+retreat part centre toward length = do
+  _ ← demand (is_within part.bounds (along (coordinate centre) toward length)) (Travel Retract)
+  _ ← free_of Retract (later_contact part (coordinate centre) (along (coordinate centre) toward length))
+  Gives (record {
+    at = point_of (along (coordinate centre) (opposite toward) part.bounds.tip);
+    retract = point_of (along (coordinate centre) toward length);
+  })
