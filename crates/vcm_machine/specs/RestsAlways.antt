@@ -6,7 +6,7 @@ use Rattle.vcm_spec.specs.Rests.{Rests}
 use Rattle.vcm_code.specs.Code.{Statement}
 use Rattle.vcm_code.specs.CodeTable.{code_steps, start}
 
--- the probe is within the limits and in no block in every state of a code table, also at a stop
+-- the centre of the tip is within the limits and the tip meets no block in every state of a code table, also at a stop
 abbrev pub RestsAlways : Type 0
 RestsAlways =
     (setup : Setup) → IsValid setup.part → (code : List Statement) (n : ℕ) → Rests setup.part (code_steps setup code n (start setup)).world

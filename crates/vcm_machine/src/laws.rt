@@ -13,7 +13,7 @@ pub fn runs_add_up()
     ensures { RunsAddUp }
 {}
 
-/// In every state of a code table the probe is within the limits and in no block.
+/// In every state of a code table the centre of the tip is within the limits, and the tip meets no block.
 pub fn the_probe_rests()
     ensures { RestsAlways }
 {}

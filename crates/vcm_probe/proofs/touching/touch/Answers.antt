@@ -1,4 +1,4 @@
-use Rattle.std.proofs.Common.{◌≡◌, ◌+◌, ◌∙◌, true, false, None, refl, sym}
+use Rattle.std.proofs.Common.{◌≡◌, ◌+◌, true, false, None, refl}
 use Rattle.std.proofs.lemmas.Result.{err_from_is_err_and}
 use Rattle.vcm_num.specs.Axis.{opposite}
 use Rattle.vcm_num.specs.Point.{coordinate}

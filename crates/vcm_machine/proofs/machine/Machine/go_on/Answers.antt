@@ -34,7 +34,7 @@ invariant_of-self g c =
     let h = rw c.in-Ok.next-is at (c.in-Ok.ensures.gone s.line) in
     let below = goes_below (g.P.Part.part m.part.now) (code_of m.loaded.now) m.world m.next m.pairs i.0 i.1 (statement_of s) at none c.carry_out.new.world.state c.in-Ok.next c.carry_out.new.pairs h in
     let later = goes (g.P.Part.part m.part.now) (code_of m.loaded.now) m.world m.next m.pairs i.0 i.1 (statement_of s) at none c.carry_out.new.world.state c.in-Ok.next c.carry_out.new.pairs h in
-    (c.in-Ok.ensures.tables ∙ i.0, i.1, subst (λ n. c.in-Ok.next < n) (statements_length m.loaded.now.statements) below, later_rests 1 _ _ i.3 later)
+    (c.in-Ok.ensures.tables ∙ i.0, i.1, subst (λ n. c.in-Ok.next < n) (statements_length m.loaded.now.statements) below, later_rests 1 _ _ (g.met.P.Part.valid m.part.now) i.3 later)
 
 pub invariant_of-self-in-Err-Stop : goal.invariant_of-self-in-Err-Stop
 invariant_of-self-in-Err-Stop g c =
@@ -45,7 +45,7 @@ invariant_of-self-in-Err-Stop g c =
     let none : m.world.state.stop ≡ None = rw (← c.self.view_is) at c.requires in
     let h = rw c.in-Err-Stop.field-0-is at (c.in-Err-Stop.ensures.gone s.line) in
     let later = stops (g.P.Part.part m.part.now) (code_of m.loaded.now) m.world m.next m.pairs i.0 i.1 (statement_of s) at none c.carry_out.new.world.state c.set_stop.new.self.state c.in-Err-Stop.stop c.carry_out.new.pairs h (ap (λ x. x.state) c.set_stop.ensures) in
-    (ap (λ x. x.tables) c.set_stop.ensures ∙ c.in-Err-Stop.ensures.tables ∙ i.0, i.1, i.2, later_rests 1 _ _ i.3 later)
+    (ap (λ x. x.tables) c.set_stop.ensures ∙ c.in-Err-Stop.ensures.tables ∙ i.0, i.1, i.2, later_rests 1 _ _ (g.met.P.Part.valid m.part.now) i.3 later)
 
 pub invariant_of-self-in-Err-NoMemory : goal.invariant_of-self-in-Err-NoMemory
 invariant_of-self-in-Err-NoMemory g c =
