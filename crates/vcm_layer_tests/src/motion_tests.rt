@@ -12,7 +12,7 @@ use vcm_part::read_part;
 fn contact_in(part: &PartData, from: Point, to: Point) -> Option<Hit>
     requires from { IsTrue (is_near from) }
     requires to { IsTrue (is_near to) }
-    ensures { result ≡ contact part.now.blocks (coordinate from) (coordinate to) }
+    ensures { result ≡ contact part.now (coordinate from) (coordinate to) }
 {
     contact_of(&Blocks::new(part), from, to)
 }

@@ -2,7 +2,7 @@
 
 use crate::parts::{PART_A, PART_B};
 use std::alloc::Global;
-use vcm_part::{PartCode, PartData, PartFault, Point, is_in, is_in_some, is_within, read_part};
+use vcm_part::{PartCode, PartData, PartFault, Point, is_in, is_some_met, is_within, read_part};
 
 fn has_limits_of_a(part: &PartData) -> bool {
     let bounds = part.bounds();
@@ -28,7 +28,7 @@ fn part_a(rt: HostRuntime) {
     let found = read_part(rt.alloc(), PART_A.as_bytes()).is_ok_and(|part| {
         has_limits_of_a(&part)
             && has_block_of_a(&part)
-            && !is_in_some(part.blocks(), Point([30_001, 20_000, 20_000]))
+            && !is_some_met(part.blocks(), 0, Point([30_001, 20_000, 20_000]))
     });
     assert!(rt; found);
 }
