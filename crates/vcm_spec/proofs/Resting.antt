@@ -10,14 +10,16 @@ use Rattle.vcm_spec.specs.declared.workpiece.Hit.{Hit}
 use Rattle.vcm_spec.specs.declared.stop.Stop.{Stop}
 use Rattle.vcm_spec.specs.declared.stop.Stop.TheVariants.{Travel}
 use Rattle.vcm_spec.specs.declared.words.MovePhase.{MovePhase}
-use Rattle.vcm_spec.specs.Workpiece.{Workpiece, IsValid, grown, is_in, is_met, is_some_met, is_blocked, is_within}
+use Rattle.vcm_spec.specs.Workpiece.{Workpiece, IsValid, TipTouches, grown, is_in, is_met, is_some_met, is_blocked, is_within}
 use Rattle.vcm_spec.specs.Contact.{IsBetween, Meets, TipMeets, TipMeetsLater, IsClear, IsContact}
 use Rattle.vcm_spec.specs.FirstContact.{contact}
 use Rattle.vcm_spec.specs.FirstTouch.{free_of, free_move}
 use Rattle.vcm_spec.specs.Outcome.{Gives, Stops, ◌>>=◌, demand}
 use Rattle.vcm_spec.proofs.Entries.{le_true, below_three}
 use Rattle.vcm_spec.proofs.Contacts.{contact_is}
-use Rattle.vcm_spec.proofs.Tips.{in_order, meets_tip}
+use Rattle.vcm_spec.proofs.Tips.{in_order, meets_tip, touched_in, met_touches}
+use Rattle.vcm_spec.proofs.Touches.{any_at}
+use Rattle.vcm_spec.specs.Laws.{ClearOfBlocks}
 
 record Standing (test : Block3 → Bool) (bs : List Block3) : Type 0 where
   index : ℕ
@@ -98,3 +100,21 @@ back_rests part valid x y within clear = record {
   clear = clear_end part.bounds.tip part.blocks (TipMeetsLater part.bounds.tip x y) y
       (λ j b stands e. record { meets = tip_met_end part valid x y j b stands e; later = omega arith }) clear;
 }
+
+-- a place is clear where no place of the tip lies in a block
+pub clear_of_blocks : ClearOfBlocks
+clear_of_blocks part valid x = (not_touched, clear)
+  where
+    not_touched : IsTrue (not (is_blocked part x)) → (j : ℕ) (block : Block3) → slice_get part.blocks j ≡ Some block → ¬ TipTouches part.bounds.tip block x
+    not_touched none j block stands t =
+        let some : is_blocked part x ≡ true = any_at (λ b. is_met part.bounds.tip b x) part.blocks j block stands (touched_in part.bounds.tip block x t) in
+        let both : false ≡ true = sym (ap not some) ∙ none in cc
+
+    clear : ((j : ℕ) (block : Block3) → slice_get part.blocks j ≡ Some block → ¬ TipTouches part.bounds.tip block x) → IsTrue (not (is_blocked part x))
+    clear never = by (is_blocked part x) refl
+      where
+        by : (c : Bool) → is_blocked part x ≡ c → IsTrue (not (is_blocked part x))
+        by true e =
+            let s = standing (λ b. is_met part.bounds.tip b x) part.blocks e in
+            absurd (never s.index s.block s.stands (met_touches part.bounds.tip s.block x (in_order part valid s.index s.block s.stands) s.passes))
+        by false e = rw e refl

@@ -123,7 +123,7 @@ module _ (h : ℕ) (x y : ℕ → ℤ) (block : Block3) where
 
 -- ---- tips at rest
 
-touched_in : (h : ℕ) (block : Block3) (x : ℕ → ℤ) → TipTouches h block x → is_met h block x ≡ true
+pub touched_in : (h : ℕ) (block : Block3) (x : ℕ → ℤ) → TipTouches h block x → is_met h block x ≡ true
 touched_in h block x t =
     let parts = and_parts _ _ t.in_block in
     let low = each_of (coordinate block.low) t.place parts.0 in
@@ -132,7 +132,7 @@ touched_in h block x t =
     let below : (k : ℕ) → k < 3 → x k ≤ℤ (coordinate block.high k +ℤ pos h) = λ k l. (let a = high k l in let b = t.in_tip.from_low k l in omega (arith, ints)) in
     and_from _ _ (below_of (coordinate (grown h block).low) x (above 0 (omega arith)) (above 1 (omega arith)) (above 2 (omega arith))) (below_of x (coordinate (grown h block).high) (below 0 (omega arith)) (below 1 (omega arith)) (below 2 (omega arith)))
 
-met_touches : (h : ℕ) (block : Block3) (x : ℕ → ℤ) → IsInOrder block → is_met h block x ≡ true → TipTouches h block x
+pub met_touches : (h : ℕ) (block : Block3) (x : ℕ → ℤ) → IsInOrder block → is_met h block x ≡ true → TipTouches h block x
 met_touches h block x order e =
     let parts = and_parts _ _ e in
     let low = each_of (coordinate (grown h block).low) x parts.0 in
