@@ -30,7 +30,7 @@ impl PartData {
         PartData { bounds, blocks }
     }
 
-    /// The limits of the machine and its home.
+    /// The limits of the machine, its home and its tip.
     pub fn bounds(&self) -> Bounds
         ensures bounds { result ≡ self.now.bounds }
         ensures valid { IsValid self.now }

@@ -271,6 +271,6 @@ module _ (part : Workpiece) (x : ℕ → ℤ) (d : Axis) (n : ℕ) (face : Face)
       let least = is.least u (omega arith) before in
       omega arith
 
-  -- one step back from it the probe lies in no block, if it lies in none at the start
+  -- one step back from it the tip meets no block, if it meets none at the start
   pub off : is_blocked part x ≡ false → ¬ IsTrue (is_blocked part (along (coordinate at) d 1))
   off clear = rw here (step_off face.distance refl clear)
