@@ -10,7 +10,7 @@ use Rattle.vcm_expr.specs.declared.symbol.Symbol.{Symbol}
 use Rattle.vcm_expr.specs.declared.symbol.Symbol.TheVariants.{Operand, Opening, Closing}
 use Rattle.vcm_expr.specs.Source.{Source, Prefixed, Pair, is_small}
 use Rattle.vcm_expr.specs.Grammar.{Written, Leaf, Paren, Signed, Joined, word_of, sign_word, spelled, Fits, meant, open_after, HasBigPart, HasFlaw}
-use Rattle.vcm_expr.specs.inner.Parser.{Taken, Parser, and_parse, phrase, made, made_if, closed, primary_by, sign_of, negation_of, found_if, fronted_by, product_op, sum_op, relation_op, and_op, or_op, more, chain_by, once, once_by, signed_by, product_by, sum_by, relation_by, negation_by, conjunction_by, disjunction_by, expression}
+use Rattle.vcm_expr.specs.Parser.{Taken, Parser, and_parse, phrase, made, made_if, closed, primary_by, sign_of, negation_of, found_if, fronted_by, product_op, sum_op, relation_op, and_op, or_op, more, chain_by, once, once_by, signed_by, product_by, sum_by, relation_by, negation_by, conjunction_by, disjunction_by, expression}
 use Rattle.vcm_expr.proofs.Chains.{expression-zero, expression-suc}
 use Rattle.vcm_expr.proofs.Complete.{Ops, Fronts}
 use Rattle.vcm_expr.proofs.Ladder.{product_ops, sum_ops, and_ops, or_ops, sign_fronts, negation_fronts, relation_says}

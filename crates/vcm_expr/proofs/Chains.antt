@@ -13,7 +13,7 @@ use Rattle.vcm_expr.specs.declared.levels.Front.{Front}
 use Rattle.vcm_expr.specs.declared.levels.Front.TheVariants.{Negation, Sign}
 use Rattle.vcm_expr.specs.declared.expression.Size.{Size}
 use Rattle.vcm_expr.specs.Source.{Source, Pair, is_small, IsSize}
-use Rattle.vcm_expr.specs.inner.Parser.{Taken, Parser, and_parse, phrase, made, made_if, closed, found_if, fronted_by, with_fronts, more, chain_by, once, once_by, disjunction_by, expression}
+use Rattle.vcm_expr.specs.Parser.{Taken, Parser, and_parse, phrase, made, made_if, closed, found_if, fronted_by, with_fronts, more, chain_by, once, once_by, disjunction_by, expression}
 use Rattle.vcm_expr.specs.inner.Levels.{group_in, chain_in, chain_op, link_in, front_in, front_of, fronted_in, NextOf, NoNext, NotClosing, Told}
 use Rattle.vcm_expr.proofs.Fronts.{with_fronts-Err}
 

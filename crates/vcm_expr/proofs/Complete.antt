@@ -12,7 +12,7 @@ use Rattle.vcm_expr.specs.declared.symbol.Symbol.{Symbol}
 use Rattle.vcm_expr.specs.declared.symbol.Symbol.TheVariants.{Operand, Dash, Cross, Star, Slash, AndWord, OrWord, RelationWord, Opening}
 use Rattle.vcm_expr.specs.Source.{Source, Prefixed, Pair}
 use Rattle.vcm_expr.specs.Grammar.{Written, Leaf, Paren, Signed, Joined, word_of, sign_word, level, sign_level, left_level, spelled, Fits, meant, nesting}
-use Rattle.vcm_expr.specs.inner.Parser.{Parser, and_parse, phrase, made, made_if, fronted_by, more, chain_by}
+use Rattle.vcm_expr.specs.Parser.{Parser, and_parse, phrase, made, made_if, fronted_by, more, chain_by}
 use Rattle.vcm_expr.specs.inner.Levels.{NoNext}
 use Rattle.vcm_expr.proofs.Fronts.{fronted-next, fronted-none}
 use Rattle.vcm_expr.proofs.Chains.{more_on, more_big, more_fails, more_stops}

@@ -8,7 +8,7 @@ use Rattle.vcm_expr.specs.declared.expression.Prefix.{Prefix}
 use Rattle.vcm_expr.specs.declared.symbol.Symbol.{Symbol}
 use Rattle.vcm_expr.specs.declared.expression.Size.{Size}
 use Rattle.vcm_expr.specs.Source.{Source, Prefixed, is_small, IsSize}
-use Rattle.vcm_expr.specs.inner.Parser.{Taken, Parser, and_parse, phrase, made, made_if, found_if, fronted_by, with_fronts}
+use Rattle.vcm_expr.specs.Parser.{Taken, Parser, and_parse, phrase, made, made_if, found_if, fronted_by, with_fronts}
 use Rattle.vcm_expr.specs.inner.Levels.{NextOf, NoNext}
 
 module _ (small : Source → Bool) where

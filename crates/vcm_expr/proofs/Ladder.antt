@@ -10,7 +10,7 @@ use Rattle.vcm_expr.specs.declared.symbol.Symbol.{Symbol}
 use Rattle.vcm_expr.specs.declared.symbol.Symbol.TheVariants.{Dash, Cross, Star, Slash, NotWord, AndWord, OrWord, RelationWord, Closing}
 use Rattle.vcm_expr.specs.Source.{Source, Pair}
 use Rattle.vcm_expr.specs.Grammar.{Written, Leaf, Paren, Signed, Joined, word_of, sign_word, level, sign_level, left_level, spelled, Fits, meant}
-use Rattle.vcm_expr.specs.inner.Parser.{Parser, and_parse, phrase, made, made_if, closed, primary_by, sign_of, negation_of, product_op, sum_op, relation_op, and_op, or_op, once, once_by, signed_by, product_by, sum_by, relation_by, negation_by, conjunction_by, disjunction_by, expression}
+use Rattle.vcm_expr.specs.Parser.{Parser, and_parse, phrase, made, made_if, closed, primary_by, sign_of, negation_of, product_op, sum_op, relation_op, and_op, or_op, once, once_by, signed_by, product_by, sum_by, relation_by, negation_by, conjunction_by, disjunction_by, expression}
 use Rattle.vcm_expr.specs.inner.Levels.{NoNext}
 use Rattle.vcm_expr.proofs.Chains.{once_stops, once_goes, expression-zero, expression-suc}
 use Rattle.vcm_expr.proofs.Complete.{part_level, Stops, Ops, Fronts, level-le, sign-le, Stops-weaker, either, Blames, Ends, Complete, blames_left, blames_right, chain_complete, fronted_complete}

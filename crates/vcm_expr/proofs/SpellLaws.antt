@@ -16,11 +16,11 @@ use Rattle.vcm_expr.specs.declared.symbol.Symbol.TheVariants.{Operand, Closing}
 use Rattle.vcm_expr.specs.Symbols.{symbols_of}
 use Rattle.vcm_expr.specs.Source.{Source, Plain, is_small}
 use Rattle.vcm_expr.specs.Grammar.{Written, Leaf, Paren, Signed, Joined, word_of, sign_word, spelled, meant, IsRead, SpellsExpr, HasFlaw}
-use Rattle.vcm_expr.specs.Parsing.{IsExpr, BreaksExpr}
-use Rattle.vcm_expr.specs.inner.Parser.{Taken, phrase, disjunction_by, expression}
+use Rattle.vcm_expr.specs.Parsing.{IsExpr, BreaksExpr, expr_of}
+use Rattle.vcm_expr.specs.Parser.{Taken, phrase, disjunction_by, expression}
 use Rattle.vcm_expr.proofs.Complete.{TooBig}
 use Rattle.vcm_expr.proofs.Ladder.{complete}
-use Rattle.vcm_expr.proofs.Whole.{read_not_bad}
+use Rattle.vcm_expr.proofs.Whole.{read_not_bad, expr_spells, expr_breaks}
 
 -- without a limit
 abbrev any_size : Source → Bool
@@ -125,3 +125,11 @@ spell_or_break ws e TooDeep s b =
     (λ g. let small : is_small (meant s.0.written) ≡ true = ap is_small s.0.is ∙ s.1 in cc)
     (b.1 s.0.written s.0.symbols s.0.fits)
 spell_or_break ws e _ s b = b
+
+-- words that spell an expression are read as that
+read_by : (ws : List Lexeme) (e : Source) (r : Result Source FaultCode) → expr_of ws ≡ r → IsExpr ws e → expr_of ws ≡ Ok e
+read_by ws e (Ok t) is h = is ∙ ap Ok (one_expression (symbols_of ws) t e (expr_spells ws t is).0 h.0)
+read_by ws e (Err c) is h = absurd (spell_or_break ws e c h (expr_breaks ws c is))
+
+pub spelled_read : (ws : List Lexeme) (e : Source) → IsExpr ws e → expr_of ws ≡ Ok e
+spelled_read ws e h = read_by ws e (expr_of ws) refl h

@@ -7,7 +7,7 @@ use Rattle.vcm_num.specs.declared.number.Literal.{Literal}
 use Rattle.vcm_num.specs.declared.read.NumFault.{NumFault}
 use Rattle.vcm_num.specs.declared.read.NumFault.TheVariants.{BadNumber, TooFine as FineNumber, TooLarge as LargeNumber}
 use Rattle.vcm_lines.specs.declared.fault.FaultCode.{FaultCode}
-use Rattle.vcm_lines.specs.declared.fault.FaultCode.TheVariants.{BadSyntax, TooFine, NumberTooLarge, TooDeep}
+use Rattle.vcm_lines.specs.declared.fault.FaultCode.TheVariants.{NoMemory, BadSyntax, TooFine, NumberTooLarge, TooDeep}
 use Rattle.vcm_num.specs.Words.{look_up}
 use Rattle.vcm_lines.specs.Dotted.{dotted_words}
 use Rattle.vcm_lines.specs.declared.dotted.DottedWord.{DottedWord}
@@ -21,11 +21,11 @@ use Rattle.vcm_expr.specs.Symbols.{symbols_of, symbol_of, number_term, run_term,
 use Rattle.vcm_expr.specs.Source.{Source, Plain, Prefixed, Pair, depth_of, nodes_of, is_small}
 use Rattle.vcm_expr.specs.Grammar.{Written, Leaf, Paren, Signed, Joined, spelled, IsOperand, Fits, meant, IsRead, SpellsExpr, IsDeep, NestsDeep, HasBigPart, HasFlaw, BreaksSymbols}
 use Rattle.vcm_expr.specs.inner.Pieces.{top_of}
-use Rattle.vcm_expr.specs.inner.Parser.{Taken, phrase, disjunction_by, expression}
-use Rattle.vcm_expr.specs.inner.Levels.{Told}
-use Rattle.vcm_expr.specs.Parsing.{At}
-use Rattle.vcm_expr.specs.inner.Refusals.{Refuses}
-use Rattle.vcm_lines.specs.Fault.{NoMemoryOr}
+use Rattle.vcm_expr.specs.Parser.{Taken, phrase, disjunction_by, expression}
+use Rattle.vcm_expr.specs.inner.Levels.{Told, lone_of}
+use Rattle.vcm_expr.specs.Parsing.{IsExpr, BreaksExpr, At, ReadAs, expr_of, read_symbols, all_read}
+use Rattle.vcm_lines.specs.Fault.{NoMemoryOr, no_memory}
+use Rattle.vcm_spec.specs.Results.{◌>>=◌}
 use Rattle.vcm_lines.specs.declared.fault.SourceFault.{SourceFault}
 use Rattle.vcm_expr.proofs.Complete.{HasBad, TooBig, Blames}
 use Rattle.vcm_expr.proofs.Ladder.{complete}
@@ -216,30 +216,80 @@ fails_breaks ws c e = by (refused ws c e) e
     by {d = d} (inr (inr (inl v, f))) e = subst (BreaksSymbols (symbols_of ws)) (sym v) (subst (λ c. HasFlaw c (symbols_of ws)) v f)
     by {d = d} (inr (inr (inr v, f))) e = subst (BreaksSymbols (symbols_of ws)) (sym v) (subst (λ c. HasFlaw c (symbols_of ws)) v f)
 
+-- ---- what the reading of all symbols says
+
+-- what is left is looked at
+pub read_all : (ps : List Symbol) (t : Source) (r : List Symbol) → reading ps ≡ phrase t r → read_symbols ps ≡ all_read t r
+unfolding read_symbols
+read_all ps t r e = ap (λ o. o >>= λ p. all_read p.tree p.rest) e
+
+-- a fault is the fault of all
+pub read_fault : (ps : List Symbol) (c : FaultCode) → reading ps ≡ Err c → read_symbols ps ≡ Err c
+unfolding read_symbols
+read_fault ps c e = ap (λ o. o >>= λ p. all_read p.tree p.rest) e
+
+-- words that are read spell what was read, and words that are refused break the rule
+module _ (ws : List Lexeme) where
+  spells_by : (o : Result Taken FaultCode) (e : Source) → reading (symbols_of ws) ≡ o → (o >>= λ p. all_read p.tree p.rest) ≡ Ok e → IsExpr ws e
+  spells_by (Ok p) e is h = rest p.rest (is ∙ refl) h
+    where
+      rest : (r : List Symbol) → reading (symbols_of ws) ≡ phrase p.tree r → all_read p.tree r ≡ Ok e → IsExpr ws e
+      rest [] is h = let same : p.tree ≡ e = cc in subst (IsExpr ws) same (reads_spells (symbols_of ws) p.tree [] is refl)
+      rest (k ∷ r) is h = absurd cc
+  spells_by (Err c) e is h = absurd cc
+
+  breaks_by : (o : Result Taken FaultCode) (c : FaultCode) → reading (symbols_of ws) ≡ o → (o >>= λ p. all_read p.tree p.rest) ≡ Err c → BreaksExpr ws c
+  breaks_by (Ok p) c is h = rest p.rest (is ∙ refl) h
+    where
+      rest : (r : List Symbol) → reading (symbols_of ws) ≡ phrase p.tree r → all_read p.tree r ≡ Err c → BreaksExpr ws c
+      rest [] is h = absurd cc
+      rest (k ∷ r) is h =
+          let same : BadSyntax ≡ c = cc in
+          let some : length (k ∷ r) ≢ 0 = λ none. omega arith in
+          subst (BreaksExpr ws) same (extra_symbols (symbols_of ws) p.tree (k ∷ r) is some)
+  breaks_by (Err d) c is h = let same : d ≡ c = cc in subst (BreaksExpr ws) same (fails_breaks ws d is)
+
+  pub expr_spells : (e : Source) → expr_of ws ≡ Ok e → IsExpr ws e
+  unfolding read_symbols
+  expr_spells e h = spells_by (reading (symbols_of ws)) e refl h
+
+  pub expr_breaks : (c : FaultCode) → expr_of ws ≡ Err c → BreaksExpr ws c
+  unfolding read_symbols
+  expr_breaks c h = breaks_by (reading (symbols_of ws)) c refl h
+
+  pub expr_ok : (line : ℕ) (r : Result Source SourceFault) → ReadAs line (λ e. e) r (expr_of ws) → IfOk r (IsExpr ws)
+  expr_ok line (Ok e) h = expr_spells e h
+  expr_ok line (Err f) h = tt
+
+  pub expr_fault : (line : ℕ) (r : Result Source SourceFault) → ReadAs line (λ e. e) r (expr_of ws) → IfErr r (NoMemoryOr (At line (BreaksExpr ws)))
+  expr_fault line (Ok e) h = tt
+  expr_fault line (Err f) (inl m) = inl m
+  expr_fault line (Err f) (inr t) = inr (t.0, expr_breaks f.code t.1)
+
+  -- want of memory is no fault of words
+  pub never_memory : expr_of ws ≡ Err NoMemory → ⊥
+  never_memory h = expr_breaks NoMemory h
+
 -- ---- the exits of the parser
 
-pub whole_refuses : (line : ℕ) (ps : List Symbol) (f : SourceFault) → NoMemoryOr (Told line (reading ps)) f → NoMemoryOr (At line (Refuses ps)) f
+pub whole_refuses : (line : ℕ) (ps : List Symbol) (f : SourceFault) → NoMemoryOr (Told line (reading ps)) f → (f ≡ no_memory) ⊎ ((f.line ≡ line) × (read_symbols ps ≡ Err f.code))
 whole_refuses line ps f (inl m) = inl m
-whole_refuses line ps f (inr t) = inr (t.0, λ ws e. fails_breaks ws f.code (ap reading e ∙ t.1))
+whole_refuses line ps f (inr t) = inr (t.0, read_fault ps f.code t.1)
 
-pub whole_extra : (ps : List Symbol) (t : Source) (r : List Symbol) (k : Symbol) (q : List Symbol) → reading ps ≡ phrase t r → r ≡ k ∷ q → Refuses ps BadSyntax
-whole_extra ps t r k q e more ws is =
-    let some : length r ≢ 0 = λ none. let size = ap length more in omega arith in
-    extra_symbols (symbols_of ws) t r (ap reading is ∙ e) some
+-- symbols are left
+pub whole_extra : (ps : List Symbol) (t : Source) (r : List Symbol) (k : Symbol) (q : List Symbol) → reading ps ≡ phrase t r → r ≡ k ∷ q → read_symbols ps ≡ Err BadSyntax
+whole_extra ps t r k q e more = read_all ps t r e ∙ ap (all_read t) more
 
--- an operand that stands alone is the expression, or has no value
-pub lone_good : (ps : List Symbol) (o : Result Term FaultCode) (r : Result Source SourceFault) → ps ≡ Operand o ∷ [] → IfOk r (λ e. (t : Term) × (o ≡ Ok t) × (e ≡ Plain t)) → IfOk r (λ e. SpellsExpr ps e × (is_small e ≡ true))
-lone_good ps o (Err f) is h = tt
-lone_good ps o (Ok e) is h =
-    let read : reading ps ≡ phrase (Plain h.0) [] = ap reading is ∙ ap (λ (p : Result Term FaultCode). reading (Operand p ∷ [])) h.1 in
-    subst (λ s. SpellsExpr ps s × (is_small s ≡ true)) (sym h.2) (reads_spells ps (Plain h.0) [] read refl)
+-- an operand that stands alone
+read_lone : (o : Result Term FaultCode) → read_symbols (Operand o ∷ []) ≡ lone_of o
+read_lone (Ok t) = read_all (Operand (Ok t) ∷ []) (Plain t) [] refl
+read_lone (Err c) = read_fault (Operand (Err c) ∷ []) c refl
 
-pub lone_flaw : (ps : List Symbol) (o : Result Term FaultCode) (line : ℕ) (r : Result Source SourceFault) → ps ≡ Operand o ∷ [] → IfErr r (λ f. (f.line ≡ line) × (o ≡ Err f.code)) → IfErr r (NoMemoryOr (At line (Refuses ps)))
-lone_flaw ps o line (Ok e) is h = tt
-lone_flaw ps o line (Err f) is h = inr (h.0, λ ws e. fails_breaks ws f.code (ap reading (e ∙ is) ∙ ap (λ (p : Result Term FaultCode). reading (Operand p ∷ [])) h.1))
+pub whole_lone : (ps : List Symbol) (o : Result Term FaultCode) (line : ℕ) (r : Result Source SourceFault) → ps ≡ Operand o ∷ [] → ReadAs line (λ e. e) r (lone_of o) → ReadAs line (λ e. e) r (read_symbols ps)
+whole_lone ps o line r is h = subst (ReadAs line (λ e. e) r) (sym (ap read_symbols is ∙ read_lone o)) h
 
 -- the only expression of the stack is what was read
-pub whole_finished : (ps : List Symbol) (t u : Source) (r : List Symbol) (now : List Source) → reading ps ≡ phrase t r → length r ≡ 0 → now ≡ t ∷ [] → now ≡ u ∷ [] → SpellsExpr ps u × (is_small u ≡ true)
-whole_finished ps t u r now e h first second =
+pub whole_finished : (ps : List Symbol) (t u : Source) (r : List Symbol) (now : List Source) → reading ps ≡ phrase t r → r ≡ [] → now ≡ t ∷ [] → now ≡ u ∷ [] → read_symbols ps ≡ Ok u
+whole_finished ps t u r now e none first second =
     let same : t ≡ u = ap (λ es. top_of es) (sym first ∙ second) in
-    subst (λ s. SpellsExpr ps s × (is_small s ≡ true)) same (reads_spells ps t r e h)
+    read_all ps t r e ∙ ap (all_read t) none ∙ ap Ok same

@@ -1,10 +1,8 @@
 -- What only private contracts and proofs of this crate speak of.
 pub mod Codes
 pub mod SourceCodes
-pub mod Parser
 pub mod Levels
 pub mod Marks
-pub mod Refusals
 pub mod Runs
 pub mod Pieces
 pub mod Trees

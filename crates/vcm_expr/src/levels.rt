@@ -1,7 +1,7 @@
 //! The levels of expressions: which words stand between operands and before them.
 
 ghost use Rattle.std.specs.Prelude.{◌≡◌, ◌∷◌, IfSome, IfNone};
-ghost use Rattle.vcm_expr.specs.inner.Parser.{relation_op};
+ghost use Rattle.vcm_expr.specs.Parser.{relation_op};
 ghost use Rattle.vcm_expr.specs.inner.Levels.{chain_op, front_of as finds_front, NextOf, NoNext, NotClosing};
 ghost use Rattle.vcm_expr.specs.declared.symbol.Symbol.{Symbol};
 

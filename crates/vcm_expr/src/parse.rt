@@ -3,7 +3,7 @@
 ghost use Rattle.std.specs.Prelude.{◌≡◌, ◌≤◌, length, slice_range, IfOk, IfErr};
 ghost use Rattle.vcm_lines.specs.Fault.{NoMemoryOr};
 ghost use Rattle.vcm_lines.specs.Lexemes.{lexemes};
-ghost use Rattle.vcm_expr.specs.Parsing.{IsExpr, BreaksExpr, At};
+ghost use Rattle.vcm_expr.specs.Parsing.{IsExpr, BreaksExpr, At, ReadAs, expr_of};
 
 use crate::expression::Expr;
 use crate::parser::whole;
@@ -27,6 +27,7 @@ pub fn parse_expr(
     ensures ok { IfOk result (IsExpr (slice_range (lexemes logical.now.text logical.now.words) from to)) }
     ensures fault { IfErr result (NoMemoryOr
         (At logical.now.line (BreaksExpr (slice_range (lexemes logical.now.text logical.now.words) from to)))) }
+    ensures read { ReadAs logical.now.line (λ e. e) result (expr_of (slice_range (lexemes logical.now.text logical.now.words) from to)) }
 {
     read_expr(alloc, logical.line, &Phrase::of(logical).part(from, to))
 }
@@ -37,8 +38,7 @@ pub fn parse_expr(
 ///
 /// As those of `parse_expr`, told at `line`.
 pub fn read_expr(alloc: Global, line: u32, words: &Phrase<'_>) -> Result<Expr, SourceFault>
-    ensures ok { IfOk result (IsExpr words.now) }
-    ensures fault { IfErr result (NoMemoryOr (At line (BreaksExpr words.now))) }
+    ensures { ReadAs line (λ e. e) result (expr_of words.now) }
 {
     whole(alloc, line, Symbols::new(words.copy()))
 }

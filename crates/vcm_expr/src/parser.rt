@@ -1,15 +1,12 @@
 //! The parser of expressions.
 
-ghost use Rattle.std.specs.Prelude.{◌≡◌, ◌≤◌, List, true, Ok, Err, length, IfOk, IfErr};
+ghost use Rattle.std.specs.Prelude.{◌≡◌, ◌≤◌, List, Err, length, IfOk, IfErr};
 ghost use Rattle.vcm_lines.specs.Fault.{NoMemoryOr};
 ghost use Rattle.vcm_lines.specs.declared.fault.FaultCode.{FaultCode};
-ghost use Rattle.vcm_expr.specs.Source.{Plain, is_small};
-ghost use Rattle.vcm_expr.specs.Grammar.{SpellsExpr};
-ghost use Rattle.vcm_expr.specs.Parsing.{At};
-ghost use Rattle.vcm_expr.specs.inner.Refusals.{Refuses};
-ghost use Rattle.vcm_expr.specs.inner.Parser.{leaf_by};
+ghost use Rattle.vcm_expr.specs.Parsing.{ReadAs, read_symbols};
+ghost use Rattle.vcm_expr.specs.Parser.{leaf_by};
 ghost use Rattle.vcm_expr.specs.declared.levels.Chain.TheVariants as levels;
-ghost use Rattle.vcm_expr.specs.inner.Levels.{chain_in, front_in, fronted_in, relation_in, primary_in, group_in, Told, Reads};
+ghost use Rattle.vcm_expr.specs.inner.Levels.{chain_in, front_in, fronted_in, relation_in, primary_in, group_in, lone_of, Told, Reads};
 ghost use Rattle.vcm_expr.specs.declared.symbol.Symbol.{Symbol};
 
 use crate::draft::Draft;
@@ -25,8 +22,7 @@ const MOST_OPEN: u32 = 32;
 
 /// The expression that all the words spell.
 pub(crate) fn whole(alloc: Global, line: u32, words: Symbols<'_>) -> Result<Expr, SourceFault>
-    ensures ok { IfOk result (λ e. SpellsExpr words.entry e × (is_small e ≡ true)) }
-    ensures fault { IfErr result (NoMemoryOr (At line (Refuses words.entry))) }
+    ensures { ReadAs line (λ e. e) result (read_symbols words.entry) }
 {
     if let Some(term) = words.lone() {
         return lone(line, term);
@@ -42,8 +38,7 @@ pub(crate) fn whole(alloc: Global, line: u32, words: Symbols<'_>) -> Result<Expr
 
 /// The expression of a word that stands alone, or what is wrong with it.
 fn lone(line: u32, term: Result<Term, FaultCode>) -> Result<Expr, SourceFault>
-    ensures ok { IfOk result (λ e. (p : Term) × (term ≡ Ok p) × (e ≡ Plain p)) }
-    ensures fault { IfErr result (λ f. (f.line ≡ line) × (term ≡ Err f.code)) }
+    ensures { ReadAs line (λ e. e) result (lone_of term) }
 {
     match term {
         Ok(term) => Ok(Expr::leaf(term)),

@@ -3,7 +3,7 @@
 ghost use Rattle.std.specs.Prelude.{◌≡◌, ◌≤◌, List, ◌∷◌, Err, length, IfOk, IfErr};
 ghost use Rattle.vcm_lines.specs.Fault.{NoMemoryOr, no_memory};
 ghost use Rattle.vcm_expr.specs.Source.{Source, is_small, IsSize};
-ghost use Rattle.vcm_expr.specs.inner.Parser.{Parser, phrase, fronted_by, with_fronts};
+ghost use Rattle.vcm_expr.specs.Parser.{Parser, phrase, fronted_by, with_fronts};
 ghost use Rattle.vcm_expr.specs.inner.Levels.{front_of as finds_front, Reads};
 ghost use Rattle.vcm_expr.specs.declared.symbol.Symbol.{Symbol};
 

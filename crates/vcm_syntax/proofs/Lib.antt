@@ -1,14 +1,7 @@
 pub mod Fields
-pub mod Naming
+pub mod EachField
 pub mod NamedPlaces
 pub mod Shifting
-pub mod Telling
-pub mod GotoWords
-pub mod PlaceLaws
-pub mod MeasuringLaws
-pub mod MeasuringOnce
-pub mod MacroLaws
-pub mod MacroOnce
 pub mod Calling
-pub mod FormLaws
-pub mod OnceLaws
+pub mod Declaring
+pub mod Answering

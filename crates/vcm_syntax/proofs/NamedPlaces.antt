@@ -1,34 +1,33 @@
--- What words behind a letter say, and what other words break.
-use Rattle.std.proofs.Common.{◌≡◌, ℕ, ◌&&◌, Bool, true, false, List, [], ◌∷◌, refl}
-use Rattle.std.specs.Str.{bytes_eq}
+-- Words that are no name with a letter before it, and no title.
+use Rattle.std.proofs.Common.{◌≡◌, ℕ, List, [], ◌∷◌, Ok, Err, refl}
+use Rattle.std.specs.Prelude.{Some, None}
 use Rattle.vcm_lines.specs.declared.fault.FaultCode.TheVariants.{BadSyntax}
 use Rattle.vcm_lines.specs.Lexemes.{Lexeme, Run, Equals, Open, Close}
-use Rattle.vcm_expr.specs.NameBytes.{is_name, IsName}
-use Rattle.vcm_syntax.specs.Places.{IsTitle, BreaksTitle}
-use Rattle.vcm_syntax.specs.Measuring.{BreaksNamed, BreaksSource}
-
-second : (a b : Bool) → (a && b) ≡ true → b ≡ true
-second true b h = h
-second false b h = absurd cc
-
--- the label of a title is a name
-pub title_is_name : (letter : List ℕ) (f : List Lexeme) (l : List ℕ) → IsTitle letter f l → IsName l
-title_is_name letter (Run bs ∷ Open ∷ Run label ∷ Close ∷ Equals ∷ []) l h = rw h.1 (second (bytes_eq bs letter) (is_name label) h.0)
-title_is_name letter _ l h = absurd h
-
--- words that do not begin with a word and another one in parentheses
-pub untitled : (letter : List ℕ) (f : List Lexeme) → ((bs label : List ℕ) (ws : List Lexeme) → f ≡ Run bs ∷ Open ∷ Run label ∷ Close ∷ ws → ⊥) → BreaksTitle letter f BadSyntax
-untitled letter (Run bs ∷ Open ∷ Run label ∷ Close ∷ Equals ∷ []) h = absurd (h bs label (Equals ∷ []) refl)
-untitled letter _ h = refl
+use Rattle.vcm_syntax.specs.declared.statement.Letter.{Letter}
+use Rattle.vcm_syntax.specs.declared.statement.Prefix.TheVariants.{Bare}
+use Rattle.vcm_syntax.specs.Majors.{title_of}
+use Rattle.vcm_syntax.specs.Places.{named_of, source_of}
 
 -- words that are no word with another one in parentheses
 abbrev pub Unlabelled : List Lexeme → Type 0
-Unlabelled f = (bs label : List ℕ) → f ≡ Run bs ∷ Open ∷ Run label ∷ Close ∷ [] → ⊥
+Unlabelled f = (w l : List ℕ) → f ≡ Run w ∷ Open ∷ Run l ∷ Close ∷ [] → ⊥
 
-pub unnamed : (letter : List ℕ) (f : List Lexeme) → Unlabelled f → BreaksNamed letter f BadSyntax
-unnamed letter (Run bs ∷ Open ∷ Run label ∷ Close ∷ []) h = absurd (h bs label refl)
+pub unnamed : (letter : List ℕ) (f : List Lexeme) → Unlabelled f → named_of letter f ≡ Err BadSyntax
+unnamed letter (Run w ∷ Open ∷ Run l ∷ Close ∷ []) h = absurd (h w l refl)
 unnamed letter _ h = refl
 
-pub unsourced : (f : List Lexeme) → Unlabelled f → BreaksSource f BadSyntax
-unsourced (Run bs ∷ Open ∷ Run label ∷ Close ∷ []) h = absurd (h bs label refl)
+pub unsourced : (f : List Lexeme) → Unlabelled f → source_of f ≡ Err BadSyntax
+unsourced (Run w ∷ Open ∷ Run l ∷ Close ∷ []) h = absurd (h w l refl)
 unsourced _ h = refl
+
+-- words that are no title behind its parenthesis
+abbrev pub NoTitle : List Lexeme → Type 0
+NoTitle f = (l : List ℕ) (ws : List Lexeme) → f ≡ Run l ∷ Close ∷ Equals ∷ ws → ⊥
+
+pub untitled : (w : List ℕ) (f : List Lexeme) → NoTitle f → title_of None w f ≡ Ok (Bare, Run w ∷ Open ∷ f)
+untitled w (Run l ∷ Close ∷ Equals ∷ ws) h = absurd (h l ws refl)
+untitled w _ h = refl
+
+pub unclosed : (letter : Letter) (w : List ℕ) (f : List Lexeme) → NoTitle f → title_of (Some letter) w f ≡ Err BadSyntax
+unclosed letter w (Run l ∷ Close ∷ Equals ∷ ws) h = absurd (h l ws refl)
+unclosed letter w _ h = refl

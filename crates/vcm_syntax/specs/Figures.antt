@@ -1,6 +1,6 @@
 -- Number literals that stand for whole numbers: counts, angles, words of features and components of directions.
-use Rattle.std.specs.Prelude.{ℕ, ℤ, pos, negsuc, neg_ℤ, ◌*ℤ◌, ◌&&◌, ◌||◌, if◌then◌else◌, Bool}
-use Rattle.std.specs.Prelude.{true, false, List, [], ◌∷◌, Option, Some, None, Result, Ok, Err}
+use Rattle.std.specs.Prelude.{ℤ, pos, negsuc, neg_ℤ, ◌*ℤ◌, ◌&&◌, ◌||◌, if◌then◌else◌, Bool}
+use Rattle.std.specs.Prelude.{true, false, List, ◌∷◌, Option, Some, None, Result, Ok, Err}
 use Rattle.std.specs.Ordering.{int_eq}
 use Rattle.vcm_num.specs.declared.axis.Axis.{Axis}
 use Rattle.vcm_num.specs.declared.axis.Axis.TheVariants.{PlusX, MinusX, PlusY, MinusY, PlusZ, MinusZ}
@@ -17,12 +17,8 @@ use Rattle.vcm_spec.specs.declared.words.FeatureWord.{FeatureWord}
 use Rattle.vcm_spec.specs.declared.words.FeatureWord.TheVariants as words
 use Rattle.vcm_expr.specs.Digits.{read_of}
 use Rattle.vcm_syntax.specs.declared.figures.Figure.{Figure}
+use Rattle.vcm_syntax.specs.Readers.{or_fault, alone, field}
 use Rattle.vcm_spec.specs.Results.{◌>>=◌}
-
--- what is there, or the fault
-abbrev pub or_fault : {A : Type 0} → FaultCode → Option A → Result A FaultCode
-or_fault e (Some x) = Ok x
-or_fault e None = Err e
 
 -- digits behind a sign, or what is wrong with them
 abbrev pub figure_by : Bool → Result Literal NumFault → Result Figure FaultCode
@@ -31,26 +27,23 @@ figure_by minus (Err number.BadNumber) = Err BadSyntax
 figure_by minus (Err number.TooFine) = Err TooFine
 figure_by minus (Err number.TooLarge) = Err NumberTooLarge
 
--- a figure with nothing behind it
-abbrev pub alone : List Lexeme → Figure → Result Figure FaultCode
-alone [] f = Ok f
-alone (w ∷ ws) f = Err BadSyntax
-
--- these digits behind a sign, and nothing behind them
-abbrev pub signed_alone : Bool → List ℕ → List Lexeme → Result Figure FaultCode
-signed_alone minus digits ws = figure_by minus (read_of digits) >>= alone ws
-
--- digits, and nothing behind them
-abbrev pub digits_of : Bool → List Lexeme → Result Figure FaultCode
-digits_of minus (Run bs ∷ ws) = signed_alone minus bs ws
-digits_of minus (Number bs ∷ ws) = signed_alone minus bs ws
+-- digits behind a sign, and the words behind them
+abbrev pub digits_of : Bool → List Lexeme → Result (Figure × List Lexeme) FaultCode
+digits_of minus (Run bs ∷ ws) = figure_by minus (read_of bs) >>= λ f. Ok (f, ws)
+digits_of minus (Number bs ∷ ws) = figure_by minus (read_of bs) >>= λ f. Ok (f, ws)
 digits_of minus _ = Err BadSyntax
 
--- a number literal with a sign or without
-abbrev pub figure_of : List Lexeme → Result Figure FaultCode
+-- a number literal with a sign or without, and the words behind it
+abbrev pub figure_of : List Lexeme → Result (Figure × List Lexeme) FaultCode
 figure_of (Minus ∷ ws) = digits_of true ws
 figure_of (Plus ∷ ws) = digits_of false ws
 figure_of ws = digits_of false ws
+
+-- a number literal
+abbrev pub component_of : List Lexeme → Result Figure FaultCode
+component_of ws = do
+  f ← figure_of ws
+  alone f.0 f.1
 
 -- whether a literal is this whole number; its decimals may be zeros
 abbrev pub is_plain : Literal → ℤ → Bool
@@ -76,10 +69,14 @@ direction_by x y z =
     else if are_whole x y z (pos 0) (pos 0) (negsuc 0) then Some MinusZ
     else None
 
--- a direction of three fields, or the leftmost fault
-abbrev pub vector_of : List Lexeme → List Lexeme → List Lexeme → Result Axis FaultCode
-vector_of a b c =
-    figure_of a >>= λ x. figure_of b >>= λ y. figure_of c >>= λ z. or_fault NotAxis (direction_by x y z)
+-- a direction, its components in the first three fields
+abbrev pub vector_of : List (List Lexeme) → Result Axis FaultCode
+vector_of fs = do
+  x ← (field fs 0 >>= component_of)
+  y ← (field fs 1 >>= component_of)
+  z ← (field fs 2 >>= figure_of)
+  d ← or_fault NotAxis (direction_by x y z.0)
+  alone d z.1
 
 -- the quarter turns of an angle in degrees
 abbrev pub quarters_by : Figure → Option Quarters
@@ -90,9 +87,12 @@ quarters_by f =
     else if is_whole f (pos 270) || is_whole f (negsuc 89) then Some turns.Three
     else None
 
--- an angle, or the leftmost fault
+-- an angle in degrees
 abbrev pub angle_of : List Lexeme → Result Quarters FaultCode
-angle_of ws = figure_of ws >>= λ f. or_fault NotQuarterTurn (quarters_by f)
+angle_of ws = do
+  f ← figure_of ws
+  n ← or_fault NotQuarterTurn (quarters_by f.0)
+  alone n f.1
 
 -- the word of a feature with this number: 3 to 5 are its coordinates, 6 to 8 its direction
 abbrev pub word_by : Figure → Option FeatureWord
@@ -105,14 +105,20 @@ word_by f =
     else if is_whole f (pos 8) then Some words.K
     else None
 
--- a word of a feature, or the leftmost fault; other words are left out
+-- a word of a feature; other words are left out
 abbrev pub feature_word_of : List Lexeme → Result FeatureWord FaultCode
-feature_word_of ws = figure_of ws >>= λ f. or_fault Unsupported (word_by f)
+feature_word_of ws = do
+  f ← figure_of ws
+  w ← or_fault Unsupported (word_by f.0)
+  alone w f.1
 
 -- something where a figure is 1, nothing where it isn't
 abbrev pub one_by : Figure → Option (Unit {0})
 one_by f = if is_whole f (pos 1) then Some tt else None
 
--- the count 1, or the leftmost fault; other counts are left out
+-- the count 1; other counts are left out
 abbrev pub one_of : List Lexeme → Result (Unit {0}) FaultCode
-one_of ws = figure_of ws >>= λ f. or_fault Unsupported (one_by f)
+one_of ws = do
+  f ← figure_of ws
+  u ← or_fault Unsupported (one_by f.0)
+  alone u f.1

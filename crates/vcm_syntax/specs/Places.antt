@@ -1,5 +1,5 @@
--- What may stand at one place of a statement, and the rules that words break there.
-use Rattle.std.specs.Prelude.{◌≡◌, ◌⊎◌, ℕ, ◌&&◌, ◌||◌, if◌then◌else◌, Bool, true, false, codes, List, [], ◌∷◌, Option, Some, None}
+-- What may stand at one place of a statement, each as a reader of the words that stand there.
+use Rattle.std.specs.Prelude.{ℕ, ◌&&◌, ◌||◌, nat_le, if◌then◌else◌, Bool, codes, List, [], ◌∷◌, length, Option, Some, Result, Ok, Err}
 use Rattle.std.specs.List.{list_all}
 use Rattle.std.specs.Str.{bytes_eq}
 use Rattle.vcm_num.specs.Words.{look_up}
@@ -7,141 +7,103 @@ use Rattle.vcm_num.specs.declared.number.Kind.{Kind}
 use Rattle.vcm_num.specs.declared.number.Kind.TheVariants.{Int as IntKind, Real as RealKind, Bool as BoolKind}
 use Rattle.vcm_lines.specs.declared.fault.FaultCode.{FaultCode}
 use Rattle.vcm_lines.specs.declared.fault.FaultCode.TheVariants.{BadSyntax, Unsupported}
-use Rattle.vcm_lines.specs.Lexemes.{Lexeme, Run, Quoted, Equals, Open, Close, is_spelled}
+use Rattle.vcm_lines.specs.Lexemes.{Lexeme, Run, Quoted, Open, Close, is_spelled}
 use Rattle.vcm_lines.specs.Cuts.{last_of, front_of}
+use Rattle.vcm_spec.specs.Results.{◌>>=◌}
 use Rattle.vcm_spec.specs.TextBytes.{is_text}
+use Rattle.vcm_spec.specs.declared.words.FrameAxis.{FrameAxis}
+use Rattle.vcm_spec.specs.declared.words.FrameAxis.TheVariants as axes
+use Rattle.vcm_spec.specs.declared.words.Setting.{Setting}
+use Rattle.vcm_spec.specs.declared.words.Setting.TheVariants as settings
+use Rattle.vcm_spec.specs.declared.words.Source.{Source as FeatureSource}
+use Rattle.vcm_spec.specs.declared.words.Source.TheVariants.{Nominal, Actual}
 use Rattle.vcm_expr.specs.NameBytes.{is_name}
 use Rattle.vcm_expr.specs.Symbols.{is_variable_name}
 use Rattle.vcm_expr.specs.Source.{Source}
-use Rattle.vcm_expr.specs.Parsing.{IsExpr, BreaksExpr}
+use Rattle.vcm_expr.specs.Parsing.{expr_of}
+use Rattle.vcm_syntax.specs.declared.statement.Letter.{Letter}
+use Rattle.vcm_syntax.specs.declared.statement.Letter.TheVariants as letters
+use Rattle.vcm_syntax.specs.declared.statement.Prefix.{Prefix}
+use Rattle.vcm_syntax.specs.declared.statement.Prefix.TheVariants.{Bare, Assigned, Titled}
 use Rattle.vcm_syntax.specs.declared.statement.Target.{Target}
+use Rattle.vcm_syntax.specs.declared.statement.Spot.{Spot}
+use Rattle.vcm_syntax.specs.Readers.{or_fault, alone, field}
 
--- nothing stands there
-abbrev pub IsBare : List Lexeme → Type 0
-IsBare [] = Unit {0}
-IsBare _ = ⊥
+-- ---- before the major word
 
-abbrev pub BreaksBare : List Lexeme → FaultCode → Type 0
-BreaksBare [] code = ⊥
-BreaksBare _ code = code ≡ BadSyntax
+-- nothing
+abbrev pub bare_of : Prefix → Result (Unit {0}) FaultCode
+bare_of Bare = Ok tt
+bare_of _ = Err BadSyntax
 
--- this very word; anything else is bad syntax
-abbrev pub IsWord : List ℕ → List Lexeme → Type 0
-IsWord word (Run bs ∷ []) = bytes_eq bs word ≡ true
-IsWord word _ = ⊥
-
-abbrev pub BreaksWord : List ℕ → List Lexeme → FaultCode → Type 0
-BreaksWord word (Run bs ∷ []) code = (bytes_eq bs word ≡ false) × (code ≡ BadSyntax)
-BreaksWord word _ code = code ≡ BadSyntax
-
--- another word in the place of this one is unsupported, anything else is bad syntax
-abbrev pub BreaksOffered : List ℕ → List Lexeme → FaultCode → Type 0
-BreaksOffered word (Run bs ∷ []) code = (bytes_eq bs word ≡ false) × (code ≡ Unsupported)
-BreaksOffered word _ code = code ≡ BadSyntax
-
--- one word, whichever it is
-abbrev pub IsSingle : List Lexeme → Type 0
-IsSingle (Run bs ∷ []) = Unit {0}
-IsSingle _ = ⊥
-
-abbrev pub BreaksSingle : List Lexeme → FaultCode → Type 0
-BreaksSingle (Run bs ∷ []) code = ⊥
-BreaksSingle _ code = code ≡ BadSyntax
-
--- a text
-abbrev pub IsTextWord : List Lexeme → List ℕ → Type 0
-IsTextWord (Quoted bs ∷ []) t = t ≡ bs
-IsTextWord _ t = ⊥
-
-abbrev pub BreaksText : List Lexeme → FaultCode → Type 0
-BreaksText (Quoted bs ∷ []) code = ⊥
-BreaksText _ code = code ≡ BadSyntax
-
--- what TEXT shows: a text of at most 1,024 bytes, each of which may stand in one
-abbrev pub IsMessage : List Lexeme → List ℕ → Type 0
-IsMessage (Quoted bs ∷ []) t = (is_text bs ≡ true) × (t ≡ bs)
-IsMessage _ t = ⊥
-
-abbrev pub BreaksMessage : List Lexeme → FaultCode → Type 0
-BreaksMessage (Quoted bs ∷ []) code = (is_text bs ≡ false) × (code ≡ BadSyntax)
-BreaksMessage _ code = code ≡ BadSyntax
-
--- anything, but no dotted word that there isn't
-abbrev pub IsRest : List (List Lexeme) → Type 0
-IsRest fs = list_all (list_all is_spelled) fs ≡ true
-
-abbrev pub BreaksRest : List (List Lexeme) → FaultCode → Type 0
-BreaksRest fs code = (list_all (list_all is_spelled) fs ≡ false) × (code ≡ BadSyntax)
-
--- no field
-abbrev pub IsEnd : List (List Lexeme) → Type 0
-IsEnd [] = Unit {0}
-IsEnd _ = ⊥
-
-abbrev pub BreaksEnd : List (List Lexeme) → FaultCode → Type 0
-BreaksEnd [] code = ⊥
-BreaksEnd _ code = code ≡ BadSyntax
-
--- this letter, a label in parentheses and an equals sign
-abbrev pub IsTitle : List ℕ → List Lexeme → List ℕ → Type 0
-IsTitle letter (Run bs ∷ Open ∷ Run label ∷ Close ∷ Equals ∷ []) l = ((bytes_eq bs letter && is_name label) ≡ true) × (l ≡ label)
-IsTitle letter _ l = ⊥
-
-abbrev pub BreaksTitle : List ℕ → List Lexeme → FaultCode → Type 0
-BreaksTitle letter (Run bs ∷ Open ∷ Run label ∷ Close ∷ Equals ∷ []) code =
-    ((bytes_eq bs letter && is_name label) ≡ false) × (code ≡ BadSyntax)
-BreaksTitle letter _ code = code ≡ BadSyntax
-
--- a variable's name
-abbrev pub IsVariable : List Lexeme → List ℕ → Type 0
-IsVariable (Run bs ∷ []) name = (is_variable_name bs ≡ true) × (name ≡ bs)
-IsVariable _ name = ⊥
-
-abbrev pub BreaksVariable : List Lexeme → FaultCode → Type 0
-BreaksVariable (Run bs ∷ []) code = (is_variable_name bs ≡ false) × (code ≡ BadSyntax)
-BreaksVariable _ code = code ≡ BadSyntax
-
--- variables' names, one in each field
-abbrev pub AreVariables : List (List Lexeme) → List (List ℕ) → Type 0
-AreVariables [] names = names ≡ []
-AreVariables (f ∷ fs) [] = ⊥
-AreVariables (f ∷ fs) (n ∷ ns) = IsVariable f n × AreVariables fs ns
-
-abbrev pub BreaksVariables : List (List Lexeme) → FaultCode → Type 0
-BreaksVariables [] code = ⊥
-BreaksVariables (f ∷ fs) code = BreaksVariable f code ⊎ BreaksVariables fs code
+-- the label of a title with this letter
+abbrev pub titled_of : Letter → Prefix → Result (List ℕ) FaultCode
+titled_of letters.F (Titled (Some letters.F) l) = Ok l
+titled_of letters.D (Titled (Some letters.D) l) = Ok l
+titled_of letters.M (Titled (Some letters.M) l) = Ok l
+titled_of letters.S (Titled (Some letters.S) l) = Ok l
+titled_of letters.V (Titled (Some letters.V) l) = Ok l
+titled_of _ _ = Err BadSyntax
 
 -- the variable of this name, in no expansion of a macro as far as it is known here
 abbrev pub as_read : List ℕ → Target
 as_read name = record { name = name; expansion = 0 }
 
--- the variable that counts rounds
-abbrev pub IsIndex : List Lexeme → Target → Type 0
-IsIndex (Run bs ∷ []) t = (is_variable_name bs ≡ true) × (t ≡ as_read bs)
-IsIndex _ t = ⊥
+-- the variable that gets a value
+abbrev pub target_of : Prefix → Result Target FaultCode
+target_of (Assigned v) = Ok (as_read v)
+target_of _ = Err BadSyntax
 
--- a variable's name and an equals sign
-abbrev pub IsTarget : List Lexeme → Target → Type 0
-IsTarget (Run bs ∷ Equals ∷ []) t = (is_variable_name bs ≡ true) × (t ≡ as_read bs)
-IsTarget _ t = ⊥
+-- ---- words
 
-abbrev pub BreaksTarget : List Lexeme → FaultCode → Type 0
-BreaksTarget (Run bs ∷ Equals ∷ []) code = (is_variable_name bs ≡ false) × (code ≡ BadSyntax)
-BreaksTarget _ code = code ≡ BadSyntax
+-- this very word; the code is that of another word
+abbrev pub word_of : List ℕ → FaultCode → List Lexeme → Result (Unit {0}) FaultCode
+word_of wanted other (Run w ∷ ws) = if bytes_eq w wanted then alone tt ws else Err other
+word_of wanted other _ = Err BadSyntax
+
+-- a word that stands for something; the code is that of another word
+abbrev pub choice_of : {A : Type 0} → (List ℕ → Option A) → FaultCode → List Lexeme → Result A FaultCode
+choice_of find other (Run w ∷ ws) = do
+  x ← or_fault other (find w)
+  alone x ws
+choice_of find other _ = Err BadSyntax
+
+-- one word, whichever it is
+abbrev pub single_of : List Lexeme → Result (Unit {0}) FaultCode
+single_of (Run w ∷ []) = Ok tt
+single_of _ = Err BadSyntax
 
 -- the words of the kinds of variables
 abbrev pub kind_word : List ℕ → Option Kind
 kind_word w = look_up ((codes "INTGR", IntKind) ∷ (codes "LONG", IntKind) ∷ (codes "REAL", RealKind) ∷ (codes "DOUBLE", RealKind)
     ∷ (codes "BOOL", BoolKind) ∷ []) w
 
--- the word of a kind; another word is a kind that is left out
-abbrev pub IsKind : List Lexeme → Kind → Type 0
-IsKind (Run bs ∷ []) kind = kind_word bs ≡ Some kind
-IsKind _ kind = ⊥
+-- a kind; other kinds are left out
+abbrev pub kind_of : List Lexeme → Result Kind FaultCode
+kind_of ws = choice_of kind_word Unsupported ws
 
-abbrev pub BreaksKind : List Lexeme → FaultCode → Type 0
-BreaksKind (Run bs ∷ []) code = (kind_word bs ≡ None) × (code ≡ Unsupported)
-BreaksKind _ code = code ≡ BadSyntax
+-- the words of the settings
+abbrev pub setting_word : List ℕ → Option Setting
+setting_word w = look_up ((codes "APPRCH", settings.Approach) ∷ (codes "RETRCT", settings.Retract) ∷ (codes "SEARCH", settings.Search)
+    ∷ (codes "DEPTH", settings.Depth) ∷ []) w
+
+-- a setting; other settings are left out
+abbrev pub setting_of : List Lexeme → Result Setting FaultCode
+setting_of ws = choice_of setting_word Unsupported ws
+
+-- the words of the axes about which a frame is turned
+abbrev pub axis_word : List ℕ → Option FrameAxis
+axis_word w = look_up ((codes "XAXIS", axes.X) ∷ (codes "YAXIS", axes.Y) ∷ (codes "ZAXIS", axes.Z) ∷ []) w
+
+-- the axis of a turn
+abbrev pub axis_of : List Lexeme → Result FrameAxis FaultCode
+axis_of ws = choice_of axis_word BadSyntax ws
+
+-- the word of Cartesian coordinates; that of polar ones is left out
+abbrev pub system_of : List Lexeme → Result (Unit {0}) FaultCode
+system_of (Run w ∷ ws) =
+    if bytes_eq w (codes "CART") then alone tt ws else Err (if bytes_eq w (codes "POL") then Unsupported else BadSyntax)
+system_of _ = Err BadSyntax
 
 -- whether a word is that of a scope; all scopes mean the same
 abbrev pub is_scope : List ℕ → Bool
@@ -149,72 +111,82 @@ is_scope w = bytes_eq w (codes "COMMON") || bytes_eq w (codes "GLOBAL") || bytes
 
 -- the fields behind the word of a scope, which may be left out
 abbrev pub unscoped : List (List Lexeme) → List (List Lexeme)
-unscoped ((Run bs ∷ []) ∷ fs) = if is_scope bs then fs else (Run bs ∷ []) ∷ fs
+unscoped ((Run w ∷ []) ∷ fs) = if is_scope w then fs else (Run w ∷ []) ∷ fs
 unscoped fs = fs
 
--- what stands before a closing parenthesis
-abbrev pub closed_by : Lexeme → List Lexeme → Option (List Lexeme)
-closed_by Close ws = Some ws
-closed_by _ ws = None
+-- the lengths of GOTO: where four fields or more stand, those behind the word of Cartesian coordinates
+abbrev pub lengths_of : List (List Lexeme) → Result (List (List Lexeme)) FaultCode
+lengths_of [] = Ok []
+lengths_of (f ∷ fs) = if nat_le 3 (length fs) then (word_of (codes "CART") BadSyntax f >>= λ _. Ok fs) else Ok (f ∷ fs)
 
--- what stands in parentheses, where the first word opens them and the last one closes them
-abbrev pub within : List Lexeme → Option (List Lexeme)
-within (Open ∷ ws) = closed_by (last_of ws) (front_of ws)
-within _ = None
+-- ---- texts
 
--- what stands between the parentheses is this expression
-abbrev pub IsTestBy : Option (List Lexeme) → Source → Type 0
-IsTestBy None e = ⊥
-IsTestBy (Some ws) e = IsExpr ws e
+-- a text
+abbrev pub quoted_of : List Lexeme → Result (List ℕ) FaultCode
+quoted_of (Quoted t ∷ []) = Ok t
+quoted_of _ = Err BadSyntax
 
--- an expression in parentheses
-abbrev pub IsTest : List Lexeme → Source → Type 0
-IsTest f e = IsTestBy (within f) e
+-- what TEXT shows: a text of at most 1,024 bytes, each of which may stand in one
+abbrev pub message_of : List Lexeme → Result (List ℕ) FaultCode
+message_of (Quoted t ∷ []) = if is_text t then Ok t else Err BadSyntax
+message_of _ = Err BadSyntax
 
--- what is read of words that are not in parentheses: those behind an opening one, else the first word alone
-abbrev pub begun : List Lexeme → List Lexeme
-begun [] = []
-begun (Open ∷ ws) = ws
-begun (w ∷ ws) = w ∷ []
+-- fields that aren't used: anything, but no dotted word that there isn't
+abbrev pub unused_of : List (List Lexeme) → Result (Unit {0}) FaultCode
+unused_of fs = if list_all (list_all is_spelled) fs then Ok tt else Err BadSyntax
 
--- a fault of the expression; without parentheses one of what is read of it, or that they are missing
-abbrev pub BreaksTestBy : List Lexeme → Option (List Lexeme) → FaultCode → Type 0
-BreaksTestBy f None code = BreaksExpr (begun f) code ⊎ (code ≡ BadSyntax)
-BreaksTestBy f (Some ws) code = BreaksExpr ws code
+-- ---- names
 
-abbrev pub BreaksTest : List Lexeme → FaultCode → Type 0
-BreaksTest f code = BreaksTestBy f (within f) code
+-- a variable's name
+abbrev pub variable_of : List Lexeme → Result (List ℕ) FaultCode
+variable_of (Run w ∷ []) = if is_variable_name w then Ok w else Err BadSyntax
+variable_of _ = Err BadSyntax
 
--- a label
-abbrev pub IsLabel : List Lexeme → List ℕ → Type 0
-IsLabel (Run bs ∷ []) l = (is_name bs ≡ true) × (l ≡ bs)
-IsLabel _ l = ⊥
-
-abbrev pub BreaksLabel : List Lexeme → FaultCode → Type 0
-BreaksLabel (Run bs ∷ []) code = (is_name bs ≡ false) × (code ≡ BadSyntax)
-BreaksLabel _ code = code ≡ BadSyntax
-
--- a label behind an opening parenthesis
-abbrev pub IsOpened : List Lexeme → List ℕ → Type 0
-IsOpened (Open ∷ ws) l = IsLabel ws l
-IsOpened _ l = ⊥
-
-abbrev pub BreaksOpened : List Lexeme → FaultCode → Type 0
-BreaksOpened (Open ∷ ws) code = BreaksLabel ws code
-BreaksOpened _ code = code ≡ BadSyntax
-
--- what stands between the parentheses is this label
-abbrev pub IsAimBy : Option (List Lexeme) → List ℕ → Type 0
-IsAimBy None l = ⊥
-IsAimBy (Some ws) l = IsLabel ws l
+-- the variable that counts rounds
+abbrev pub index_of : List Lexeme → Result Target FaultCode
+index_of ws = do
+  v ← variable_of ws
+  Ok (as_read v)
 
 -- a label in parentheses
-abbrev pub IsAim : List Lexeme → List ℕ → Type 0
-IsAim f l = IsAimBy (within f) l
+abbrev pub aim_of : List Lexeme → Result (List ℕ) FaultCode
+aim_of (Open ∷ Run l ∷ Close ∷ []) = if is_name l then Ok l else Err BadSyntax
+aim_of _ = Err BadSyntax
 
-abbrev pub BreaksAimBy : Option (List Lexeme) → FaultCode → Type 0
-BreaksAimBy None code = code ≡ BadSyntax
-BreaksAimBy (Some ws) code = BreaksLabel ws code
+-- a label behind this letter, in parentheses
+abbrev pub named_of : List ℕ → List Lexeme → Result (List ℕ) FaultCode
+named_of letter (Run w ∷ Open ∷ Run l ∷ Close ∷ []) = if bytes_eq w letter && is_name l then Ok l else Err BadSyntax
+named_of letter _ = Err BadSyntax
 
-abbrev pub BreaksAim : List Lexeme → FaultCode → Type 0
-BreaksAim f code = BreaksAimBy (within f) code
+-- the letters of a feature as it was declared, and as it was measured
+abbrev pub source_word : List ℕ → Option FeatureSource
+source_word w = look_up ((codes "F", Nominal) ∷ (codes "FA", Actual) ∷ []) w
+
+-- a feature as it was declared or as it was measured, and its label
+abbrev pub source_of : List Lexeme → Result (FeatureSource × List ℕ) FaultCode
+source_of (Run w ∷ Open ∷ Run l ∷ Close ∷ []) = do
+  s ← or_fault BadSyntax (source_word w)
+  if is_name l then Ok (s, l) else Err BadSyntax
+source_of _ = Err BadSyntax
+
+-- ---- expressions
+
+-- an expression before a closing parenthesis, which is the last word
+abbrev pub closed_of : Lexeme → List Lexeme → Result Source FaultCode
+closed_of Close ws = expr_of (front_of ws)
+closed_of _ ws = do
+  _ ← expr_of ws
+  Err BadSyntax
+
+-- an expression in parentheses
+abbrev pub test_of : List Lexeme → Result Source FaultCode
+test_of (Open ∷ ws) = closed_of (last_of ws) ws
+test_of _ = Err BadSyntax
+
+-- a place, its coordinates in the first three fields
+abbrev pub spot_of : List (List Lexeme) → Result Spot FaultCode
+spot_of fs = do
+  x ← (field fs 0 >>= expr_of)
+  y ← (field fs 1 >>= expr_of)
+  z ← (field fs 2 >>= expr_of)
+  Ok (record { x = x; y = y; z = z })

@@ -1,12 +1,12 @@
 //! Reads number literals that stand for whole numbers.
 
-ghost use Rattle.std.specs.Prelude.{◌≡◌, Ok, Err, MatchResult};
+ghost use Rattle.std.specs.Prelude.{◌≡◌};
 ghost use Rattle.vcm_expr.specs.Digits.{read_of};
-ghost use Rattle.vcm_expr.specs.Parsing.{At};
-ghost use Rattle.vcm_syntax.specs.Figures.{figure_by, alone, signed_alone, digits_of, figure_of, is_plain, is_whole, are_whole, direction_by, vector_of, quarters_by, angle_of, word_by, feature_word_of, one_of};
+ghost use Rattle.vcm_expr.specs.Parsing.{ReadAs};
+ghost use Rattle.vcm_syntax.specs.Figures.{figure_by, digits_of, figure_of, component_of, is_plain, is_whole, are_whole, direction_by, vector_of, quarters_by, angle_of, word_by, feature_word_of, one_of};
 
-use crate::places::unsupported;
-use vcm_lines::{FaultCode, Phrase, SourceFault, Token};
+use crate::places::{field, sole, unsupported};
+use vcm_lines::{FaultCode, Phrase, SourceFault, Token, bad_syntax};
 use vcm_num::{Axis, Literal, NumFault, read_number};
 use vcm_spec::{FeatureWord, Quarters};
 
@@ -59,53 +59,40 @@ fn signed(minus: bool, bytes: &[u8]) -> Result<Figure, FaultCode>
     figure_by(minus, read_number(bytes))
 }
 
-fn alone(words: &Phrase<'_>, figure: Figure) -> Result<Figure, FaultCode>
-    ensures { result ≡ alone words.now figure }
+/// Digits behind a sign, and the words behind them.
+fn digits<'a>(
+    line: u32,
+    minus: bool,
+    words: &Phrase<'a>,
+) -> Result<(Figure, Phrase<'a>), SourceFault>
+    ensures { ReadAs line (λ r. r) result (digits_of minus words.now) }
 {
     match words.split_first() {
-        None => Ok(figure),
-        Some(_) => Err(FaultCode::BadSyntax),
+        Some((Token::Run(bytes) | Token::Number(bytes), rest)) => match signed(minus, bytes) {
+            Ok(figure) => Ok((figure, rest)),
+            Err(code) => Err(SourceFault { code, line }),
+        },
+        _ => Err(bad_syntax(line)),
     }
 }
 
-/// Digits behind a sign, and no words behind them.
-fn signed_alone(minus: bool, bytes: &[u8], words: &Phrase<'_>) -> Result<Figure, FaultCode>
-    ensures { result ≡ signed_alone minus bytes.now words.now }
-{
-    match signed(minus, bytes) {
-        Ok(figure) => alone(words, figure),
-        Err(code) => Err(code),
-    }
-}
-
-fn digits_of(minus: bool, words: &Phrase<'_>) -> Result<Figure, FaultCode>
-    ensures { result ≡ digits_of minus words.now }
+/// A number literal with a sign or without, and the words behind it.
+fn number<'a>(line: u32, words: &Phrase<'a>) -> Result<(Figure, Phrase<'a>), SourceFault>
+    ensures { ReadAs line (λ r. r) result (figure_of words.now) }
 {
     match words.split_first() {
-        Some((Token::Run(bytes), rest)) => signed_alone(minus, bytes, &rest),
-        Some((Token::Number(bytes), rest)) => signed_alone(minus, bytes, &rest),
-        _ => Err(FaultCode::BadSyntax),
+        Some((Token::Minus, rest)) => digits(line, true, &rest),
+        Some((Token::Plus, rest)) => digits(line, false, &rest),
+        _ => digits(line, false, words),
     }
 }
 
-fn figure_of(words: &Phrase<'_>) -> Result<Figure, FaultCode>
-    ensures { result ≡ figure_of words.now }
+/// A number literal.
+fn component(line: u32, words: &Phrase<'_>) -> Result<Figure, SourceFault>
+    ensures { ReadAs line (λ f. f) result (component_of words.now) }
 {
-    match words.split_first() {
-        Some((Token::Minus, rest)) => digits_of(true, &rest),
-        Some((Token::Plus, rest)) => digits_of(false, &rest),
-        _ => digits_of(false, words),
-    }
-}
-
-/// A number literal with a sign or without.
-pub(crate) fn read_figure(line: u32, words: &Phrase<'_>) -> Result<Figure, SourceFault>
-    ensures { MatchResult result (λ f. figure_of words.now ≡ Ok f) (At line (λ code. figure_of words.now ≡ Err code)) }
-{
-    match figure_of(words) {
-        Ok(figure) => Ok(figure),
-        Err(code) => Err(SourceFault { code, line }),
-    }
+    let (figure, rest) = number(line, words)?;
+    sole(line, &rest, figure)
 }
 
 fn are_whole(x: Figure, y: Figure, z: Figure, i: i16, j: i16, k: i16) -> bool
@@ -134,20 +121,15 @@ fn direction(x: Figure, y: Figure, z: Figure) -> Option<Axis>
     }
 }
 
-/// A direction by its three components.
-pub(crate) fn vector(
-    line: u32,
-    x: &Phrase<'_>,
-    y: &Phrase<'_>,
-    z: &Phrase<'_>,
-) -> Result<Axis, SourceFault>
-    ensures { MatchResult result (λ d. vector_of x.now y.now z.now ≡ Ok d) (At line (λ code. vector_of x.now y.now z.now ≡ Err code)) }
+/// A direction, its components in the first three fields.
+pub(crate) fn vector(line: u32, fields: &[Phrase<'_>]) -> Result<Axis, SourceFault>
+    ensures { ReadAs line (λ d. d) result (vector_of fields.now) }
 {
-    let x = read_figure(line, x)?;
-    let y = read_figure(line, y)?;
-    let z = read_figure(line, z)?;
+    let x = component(line, field(line, fields, 0)?)?;
+    let y = component(line, field(line, fields, 1)?)?;
+    let (z, rest) = number(line, field(line, fields, 2)?)?;
     match direction(x, y, z) {
-        Some(axis) => Ok(axis),
+        Some(axis) => sole(line, &rest, axis),
         None => Err(SourceFault {
             code: FaultCode::NotAxis,
             line,
@@ -173,11 +155,11 @@ fn quarters(figure: Figure) -> Option<Quarters>
 
 /// An angle in degrees, as quarter turns.
 pub(crate) fn angle(line: u32, words: &Phrase<'_>) -> Result<Quarters, SourceFault>
-    ensures { MatchResult result (λ n. angle_of words.now ≡ Ok n) (At line (λ code. angle_of words.now ≡ Err code)) }
+    ensures { ReadAs line (λ n. n) result (angle_of words.now) }
 {
-    let figure = read_figure(line, words)?;
+    let (figure, rest) = number(line, words)?;
     match quarters(figure) {
-        Some(turns) => Ok(turns),
+        Some(turns) => sole(line, &rest, turns),
         None => Err(SourceFault {
             code: FaultCode::NotQuarterTurn,
             line,
@@ -207,22 +189,22 @@ fn word_by(figure: Figure) -> Option<FeatureWord>
 
 /// The word of a feature, by its place in the feature's line.
 pub(crate) fn feature_word(line: u32, words: &Phrase<'_>) -> Result<FeatureWord, SourceFault>
-    ensures { MatchResult result (λ w. feature_word_of words.now ≡ Ok w) (At line (λ code. feature_word_of words.now ≡ Err code)) }
+    ensures { ReadAs line (λ w. w) result (feature_word_of words.now) }
 {
-    let figure = read_figure(line, words)?;
+    let (figure, rest) = number(line, words)?;
     match word_by(figure) {
-        Some(word) => Ok(word),
+        Some(word) => sole(line, &rest, word),
         None => Err(unsupported(line)),
     }
 }
 
 /// The count 1.
 pub(crate) fn one(line: u32, words: &Phrase<'_>) -> Result<(), SourceFault>
-    ensures { MatchResult result (λ unit. one_of words.now ≡ Ok unit) (At line (λ code. one_of words.now ≡ Err code)) }
+    ensures { ReadAs line (λ u. u) result (one_of words.now) }
 {
-    let figure = read_figure(line, words)?;
+    let (figure, rest) = number(line, words)?;
     if figure.is_whole(1) {
-        Ok(())
+        sole(line, &rest, ())
     } else {
         Err(unsupported(line))
     }

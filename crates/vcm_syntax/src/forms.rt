@@ -1,248 +1,189 @@
 //! Reads a statement's fields, each statement in its form, from the left: of several faults the leftmost is told.
 
-ghost use Rattle.std.specs.Prelude.{◌⊎◌, ◌∷◌, codes, IfOk, IfErr, MatchResult};
-ghost use Rattle.vcm_lines.specs.Fault.{NoMemoryOr};
-ghost use Rattle.vcm_expr.specs.Parsing.{At};
-ghost use Rattle.vcm_syntax.specs.Places.{IsWord, BreaksOffered, IsMessage, BreaksMessage, IsEnd, BreaksEnd};
-ghost use Rattle.vcm_syntax.specs.Forms.{IsDeclaration, BreaksDeclaration, IsDecl, BreaksDecl, IsAssign, BreaksAssign, IsPlace, BreaksPlace, IsGoto, BreaksGoto, IsGohome, IsSay, BreaksSay, IsEndfil, BreaksAlone, IsPrefix, BreaksPrefix, IsPassed, BreaksPassed, IsForm, BreaksForm};
+ghost use Rattle.vcm_expr.specs.Parsing.{ReadAs};
+ghost use Rattle.vcm_syntax.specs.Readers.{each_of};
+ghost use Rattle.vcm_syntax.specs.Places.{variable_of};
+ghost use Rattle.vcm_syntax.specs.Forms.{sole_of, declaration_of, decl_of, assign_of, place_of, goto_of, say_of, notice_prefix_of, passed_of, form_of};
 
-use crate::control::{enddo, endif, iff, jumpto, mark, otherwise, repeat};
-use crate::macros::{call, endmac, macro_form};
-use crate::measuring::{endmes, feat, meas, obtain, output, ptmeas, recall, rotate, snset, trans};
+use crate::control::{iff, jumpto, repeat};
+use crate::macros::{call, macro_form};
+use crate::measuring::{feat, meas, obtain, output, ptmeas, recall, rotate, snset, trans};
+use crate::named::{kind, lengths, unscoped, variable};
 use crate::opening::{dmismn, units};
-use crate::operator_text::OperatorText;
-use crate::places::{alone, bare, closed, lacking, offered, operator_text, title, word};
-use crate::spots::spot;
-use crate::statement::{Form, Major, Notice, Spot};
-use crate::variables::{kind, target, unscoped, variables};
+use crate::places::{bare, behind, closed, field, message, some_field, spot, target, titled, word};
+use crate::statement::{Form, Letter, Major, Notice, Prefix};
 use std::alloc::Global;
-use vcm_expr::read_expr;
-use vcm_lines::{Phrase, SourceFault, bad_syntax};
+use vcm_expr::{VariableName, read_expr};
+use vcm_lines::{FaultCode, Phrase, SourceFault};
+use vcm_num::Items;
+
+/// Variables' names, one in each field.
+fn variables(
+    alloc: Global,
+    line: u32,
+    fields: &[Phrase<'_>],
+) -> Result<Items<VariableName>, SourceFault>
+    ensures { ReadAs line (λ names. names) result (each_of variable_of fields.now) }
+{
+    let mut names = Items::new(alloc);
+    for field in fields {
+        let name = variable(line, field)?;
+        names.push(name)?;
+    }
+    Ok(names)
+}
 
 /// A kind, and the names of variables.
 fn declaration(alloc: Global, line: u32, fields: &[Phrase<'_>]) -> Result<Form, SourceFault>
-    ensures ok { IfOk result (IsDeclaration fields.now) }
-    ensures fault { IfErr result (NoMemoryOr (At line (BreaksDeclaration fields.now))) }
+    ensures { ReadAs line (λ f. f) result (declaration_of fields.now) }
 {
-    match fields {
-        [] => Err(bad_syntax(line)),
-        [first] => {
-            kind(line, first)?;
-            Err(bad_syntax(line))
-        }
-        [first, names @ ..] => {
-            let kind = kind(line, first)?;
-            let names = variables(alloc, line, names)?;
-            Ok(Form::Declaration(kind, names))
-        }
-    }
+    let kind = kind(line, field(line, fields, 0)?)?;
+    let names = behind(fields, 1);
+    some_field(line, names)?;
+    let names = variables(alloc, line, names)?;
+    Ok(Form::Declaration(kind, names))
 }
 
 fn decl(
     alloc: Global,
     line: u32,
-    front: &Phrase<'_>,
+    prefix: &Prefix,
     fields: &[Phrase<'_>],
 ) -> Result<Form, SourceFault>
-    ensures ok { IfOk result (IsDecl front.now fields.now) }
-    ensures fault { IfErr result (NoMemoryOr (At line (BreaksDecl front.now fields.now))) }
+    ensures { ReadAs line (λ f. f) result (decl_of prefix.now fields.now) }
 {
-    bare(line, front)?;
+    bare(line, prefix)?;
     declaration(alloc, line, unscoped(fields))
 }
 
 fn assign(
     alloc: Global,
     line: u32,
-    front: &Phrase<'_>,
+    prefix: &Prefix,
     fields: &[Phrase<'_>],
 ) -> Result<Form, SourceFault>
-    ensures ok { IfOk result (IsAssign front.now fields.now) }
-    ensures fault { IfErr result (NoMemoryOr (At line (BreaksAssign front.now fields.now))) }
+    ensures { ReadAs line (λ f. f) result (assign_of prefix.now fields.now) }
 {
-    let name = target(line, front)?;
-    match fields {
-        [] => Err(bad_syntax(line)),
-        [value, rest @ ..] => {
-            let value = read_expr(alloc, line, value)?;
-            Ok(Form::Assignment(name, closed(line, rest, value)?))
-        }
-    }
-}
-
-/// Three expressions, and no field behind them.
-fn spot_alone(
-    alloc: Global,
-    line: u32,
-    x: &Phrase<'_>,
-    y: &Phrase<'_>,
-    z: &Phrase<'_>,
-    rest: &[Phrase<'_>],
-) -> Result<Spot, SourceFault>
-    ensures ok { IfOk result (IsPlace (x.now ∷ y.now ∷ z.now ∷ rest.now)) }
-    ensures fault { IfErr result (NoMemoryOr (At line (BreaksPlace (x.now ∷ y.now ∷ z.now ∷ rest.now)))) }
-{
-    let spot = spot(alloc, line, x, y, z)?;
-    closed(line, rest, spot)
+    let name = target(line, prefix)?;
+    let value = read_expr(alloc, line, field(line, fields, 0)?)?;
+    closed(line, behind(fields, 1), Form::Assignment(name, value))
 }
 
 /// Three expressions, and nothing more.
-fn place(alloc: Global, line: u32, fields: &[Phrase<'_>]) -> Result<Spot, SourceFault>
-    ensures ok { IfOk result (IsPlace fields.now) }
-    ensures fault { IfErr result (NoMemoryOr (At line (BreaksPlace fields.now))) }
+fn place(alloc: Global, line: u32, fields: &[Phrase<'_>]) -> Result<Form, SourceFault>
+    ensures { ReadAs line (λ f. f) result (place_of fields.now) }
 {
-    match fields {
-        [] => Err(bad_syntax(line)),
-        [x] => Err(lacking(alloc, line, x)),
-        [x, y] => {
-            read_expr(alloc, line, x)?;
-            Err(lacking(alloc, line, y))
-        }
-        [x, y, z, rest @ ..] => spot_alone(alloc, line, x, y, z, rest),
-    }
+    let spot = spot(alloc, line, fields)?;
+    closed(line, behind(fields, 3), Form::Move(spot))
 }
 
 fn goto(
     alloc: Global,
     line: u32,
-    front: &Phrase<'_>,
+    prefix: &Prefix,
     fields: &[Phrase<'_>],
 ) -> Result<Form, SourceFault>
-    ensures ok { IfOk result (IsGoto front.now fields.now) }
-    ensures fault { IfErr result (NoMemoryOr (At line (BreaksGoto front.now fields.now))) }
+    ensures { ReadAs line (λ f. f) result (goto_of prefix.now fields.now) }
 {
-    bare(line, front)?;
-    match fields {
-        [system, lengths @ ..] if lengths.len() >= 3 => {
-            word(line, system, b"CART")?;
-            Ok(Form::Move(place(alloc, line, lengths)?))
-        }
-        _ => Ok(Form::Move(place(alloc, line, fields)?)),
-    }
-}
-
-fn gohome(line: u32, front: &Phrase<'_>, fields: &[Phrase<'_>]) -> Result<Form, SourceFault>
-    ensures { MatchResult result (IsGohome front.now fields.now) (At line (BreaksAlone front.now fields.now)) }
-{
-    alone(line, front, fields)?;
-    Ok(Form::Home)
-}
-
-/// The word of the operator and a text, and no field behind them.
-fn shown(
-    alloc: Global,
-    line: u32,
-    to: &Phrase<'_>,
-    words: &Phrase<'_>,
-    rest: &[Phrase<'_>],
-) -> Result<OperatorText, SourceFault>
-    ensures ok { IfOk result (λ m. IsWord (codes "OPER") to.now × IsMessage words.now m × IsEnd rest.now) }
-    ensures fault { IfErr result (NoMemoryOr
-        (At line (λ code. BreaksOffered (codes "OPER") to.now code ⊎ (BreaksMessage words.now code ⊎ BreaksEnd rest.now code)))) }
-{
-    offered(line, to, b"OPER")?;
-    let text = operator_text(alloc, line, words)?;
-    closed(line, rest, text)
+    bare(line, prefix)?;
+    let lengths = lengths(line, fields)?;
+    place(alloc, line, lengths)
 }
 
 fn say(
     alloc: Global,
     line: u32,
-    front: &Phrase<'_>,
+    prefix: &Prefix,
     fields: &[Phrase<'_>],
 ) -> Result<Form, SourceFault>
-    ensures ok { IfOk result (IsSay front.now fields.now) }
-    ensures fault { IfErr result (NoMemoryOr (At line (BreaksSay front.now fields.now))) }
+    ensures { ReadAs line (λ f. f) result (say_of prefix.now fields.now) }
 {
-    bare(line, front)?;
-    match fields {
-        [] => Err(bad_syntax(line)),
-        [to] => {
-            offered(line, to, b"OPER")?;
-            Err(bad_syntax(line))
-        }
-        [to, words, rest @ ..] => Ok(Form::Say(shown(alloc, line, to, words, rest)?)),
-    }
+    bare(line, prefix)?;
+    word(
+        line,
+        field(line, fields, 0)?,
+        b"OPER",
+        FaultCode::Unsupported,
+    )?;
+    let text = message(alloc, line, field(line, fields, 1)?)?;
+    closed(line, behind(fields, 2), Form::Say(text))
 }
 
-fn endfil(line: u32, front: &Phrase<'_>, fields: &[Phrase<'_>]) -> Result<Form, SourceFault>
-    ensures { MatchResult result (IsEndfil front.now fields.now) (At line (BreaksAlone front.now fields.now)) }
+/// A major word that stands alone.
+fn alone(line: u32, prefix: &Prefix, fields: &[Phrase<'_>], form: Form) -> Result<Form, SourceFault>
+    ensures { ReadAs line (λ f. f) result (sole_of form prefix.now fields.now) }
 {
-    alone(line, front, fields)?;
-    Ok(Form::Ending)
+    bare(line, prefix)?;
+    closed(line, fields, form)
 }
 
-fn prefix(line: u32, notice: Notice, front: &Phrase<'_>) -> Result<(), SourceFault>
-    ensures { MatchResult result (λ _. IsPrefix notice front.now) (At line (BreaksPrefix notice front.now)) }
+fn notice_prefix(line: u32, notice: Notice, prefix: &Prefix) -> Result<(), SourceFault>
+    ensures { ReadAs line (λ u. u) result (notice_prefix_of notice prefix.now) }
 {
     match notice {
         Notice::Snsdef => {
-            title(line, front, b"S")?;
+            titled(line, Letter::S, prefix)?;
             Ok(())
         }
         Notice::Vform => {
-            title(line, front, b"V")?;
+            titled(line, Letter::V, prefix)?;
             Ok(())
         }
-        _ => bare(line, front),
+        _ => bare(line, prefix),
     }
 }
 
 fn passed(
     line: u32,
     notice: Notice,
-    front: &Phrase<'_>,
+    prefix: &Prefix,
     fields: &[Phrase<'_>],
 ) -> Result<Form, SourceFault>
-    ensures { MatchResult result (IsPassed notice front.now fields.now) (At line (BreaksPassed notice front.now fields.now)) }
+    ensures { ReadAs line (λ f. f) result (passed_of notice prefix.now fields.now) }
 {
-    prefix(line, notice, front)?;
-    match fields {
-        [] => Err(bad_syntax(line)),
-        _ => Ok(Form::Ignored(notice)),
-    }
+    notice_prefix(line, notice, prefix)?;
+    some_field(line, fields)?;
+    Ok(Form::Ignored(notice))
 }
 
-/// The statement that the fields of a known major word spell, or a rule that they break.
+/// The statement of a major word.
 pub(crate) fn read_form(
     alloc: Global,
     line: u32,
     major: Major,
-    front: &Phrase<'_>,
+    prefix: &Prefix,
     fields: &[Phrase<'_>],
 ) -> Result<Form, SourceFault>
-    ensures ok { IfOk result (IsForm major front.now fields.now) }
-    ensures fault { IfErr result (NoMemoryOr (At line (BreaksForm major front.now fields.now))) }
+    ensures { ReadAs line (λ f. f) result (form_of major prefix.now fields.now) }
 {
     match major {
-        Major::Dmismn => dmismn(line, front, fields),
-        Major::Units => units(line, front, fields),
-        Major::Decl => decl(alloc, line, front, fields),
-        Major::Assign => assign(alloc, line, front, fields),
-        Major::Goto => goto(alloc, line, front, fields),
-        Major::Gohome => gohome(line, front, fields),
-        Major::Text => say(alloc, line, front, fields),
-        Major::Endfil => endfil(line, front, fields),
-        Major::If => iff(alloc, line, front, fields),
-        Major::Else => otherwise(line, front, fields),
-        Major::Endif => endif(line, front, fields),
-        Major::Do => repeat(alloc, line, front, fields),
-        Major::Enddo => enddo(line, front, fields),
-        Major::Label => mark(line, front, fields),
-        Major::Jumpto => jumpto(line, front, fields),
-        Major::Feat => feat(alloc, line, front, fields),
-        Major::Meas => meas(line, front, fields),
-        Major::Ptmeas => ptmeas(alloc, line, front, fields),
-        Major::Endmes => endmes(line, front, fields),
-        Major::Snset => snset(alloc, line, front, fields),
-        Major::Trans => trans(alloc, line, front, fields),
-        Major::Rotate => rotate(line, front, fields),
-        Major::Recall => recall(line, front, fields),
-        Major::Obtain => obtain(line, front, fields),
-        Major::Output => output(line, front, fields),
-        Major::Macro => macro_form(alloc, line, front, fields),
-        Major::Endmac => endmac(line, front, fields),
-        Major::Call => call(alloc, line, front, fields),
-        Major::Passed(notice) => passed(line, notice, front, fields),
+        Major::Dmismn => dmismn(line, prefix, fields),
+        Major::Units => units(line, prefix, fields),
+        Major::Decl => decl(alloc, line, prefix, fields),
+        Major::Assign => assign(alloc, line, prefix, fields),
+        Major::Goto => goto(alloc, line, prefix, fields),
+        Major::Gohome => alone(line, prefix, fields, Form::Home),
+        Major::Text => say(alloc, line, prefix, fields),
+        Major::Endfil => alone(line, prefix, fields, Form::Ending),
+        Major::If => iff(alloc, line, prefix, fields),
+        Major::Else => alone(line, prefix, fields, Form::Otherwise),
+        Major::Endif => alone(line, prefix, fields, Form::TestEnd),
+        Major::Do => repeat(alloc, line, prefix, fields),
+        Major::Enddo => alone(line, prefix, fields, Form::RepeatEnd),
+        Major::Jumpto => jumpto(line, prefix, fields),
+        Major::Feat => feat(alloc, line, prefix, fields),
+        Major::Meas => meas(line, prefix, fields),
+        Major::Ptmeas => ptmeas(alloc, line, prefix, fields),
+        Major::Endmes => alone(line, prefix, fields, Form::MeasureEnd),
+        Major::Snset => snset(alloc, line, prefix, fields),
+        Major::Trans => trans(alloc, line, prefix, fields),
+        Major::Rotate => rotate(line, prefix, fields),
+        Major::Recall => recall(line, prefix, fields),
+        Major::Obtain => obtain(line, prefix, fields),
+        Major::Output => output(line, prefix, fields),
+        Major::Macro => macro_form(alloc, line, prefix, fields),
+        Major::Endmac => alone(line, prefix, fields, Form::MacroEnd),
+        Major::Call => call(alloc, line, prefix, fields),
+        Major::Passed(notice) => passed(line, notice, prefix, fields),
     }
 }

@@ -14,9 +14,7 @@ mod opening;
 mod operator_text;
 mod parse;
 mod places;
-mod spots;
 mod statement;
-mod variables;
 
 pub use operator_text::OperatorText;
 pub use parse::parse_statement;

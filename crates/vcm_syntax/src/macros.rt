@@ -1,16 +1,16 @@
 //! Reads the fields of the statements of macros, each statement in its form, from the left.
 
-ghost use Rattle.std.specs.Prelude.{◌≡◌, ◌∷◌, [], true, false, None, Some, IfOk, IfErr, MatchOption, MatchResult};
-ghost use Rattle.vcm_lines.specs.Fault.{NoMemoryOr, no_memory};
+ghost use Rattle.std.specs.Prelude.{◌≡◌, ◌∷◌, [], true, false, Some, IfOk, IfErr, MatchOption};
+ghost use Rattle.vcm_lines.specs.Fault.{no_memory};
 ghost use Rattle.vcm_lines.specs.Lexemes.{Quoted};
 ghost use Rattle.vcm_expr.specs.NameBytes.{is_name};
-ghost use Rattle.vcm_expr.specs.Parsing.{BreaksExpr, At};
-ghost use Rattle.vcm_syntax.specs.Forms.{BreaksAlone};
-ghost use Rattle.vcm_syntax.specs.Macros.{raised, IsParameter, BreaksParameter, AreParameters, BreaksParameters, IsValue, MayBeValue, IsArgument, BreaksArgument, AreArguments, BreaksArguments, IsMacro, BreaksMacro, IsEndmac, IsCall, BreaksCall};
+ghost use Rattle.vcm_expr.specs.Parsing.{ReadAs, expr_of};
+ghost use Rattle.vcm_syntax.specs.Readers.{each_of};
+ghost use Rattle.vcm_syntax.specs.Macros.{raised, parameter_of, if_read, valued_of, argument_of, macro_of, call_of};
 
-use crate::named::{named, titled};
-use crate::places::{alone, bare, only};
-use crate::statement::{Argument, Form, Parameter};
+use crate::named::named;
+use crate::places::{bare, behind, field, only, titled};
+use crate::statement::{Argument, Form, Letter, Parameter, Prefix};
 use std::alloc::Global;
 use vcm_expr::{Expr, Name, is_name, is_variable_name, read_expr};
 use vcm_lines::{FaultCode, Phrase, SourceFault, Token, bad_syntax};
@@ -40,7 +40,7 @@ fn raised(text: &[u8]) -> Option<Name>
 
 /// A parameter that stands for a name, by what stands between its apostrophes.
 fn quoted_parameter(line: u32, text: &[u8]) -> Result<Parameter, SourceFault>
-    ensures { MatchResult result (IsParameter (Quoted text.now ∷ [])) (At line (BreaksParameter (Quoted text.now ∷ []))) }
+    ensures { ReadAs line (λ p. p) result (parameter_of (Quoted text.now ∷ [])) }
 {
     match raised(text) {
         None => Err(bad_syntax(line)),
@@ -56,7 +56,7 @@ fn quoted_parameter(line: u32, text: &[u8]) -> Result<Parameter, SourceFault>
 
 /// A parameter.
 fn parameter(line: u32, words: &Phrase<'_>) -> Result<Parameter, SourceFault>
-    ensures { MatchResult result (IsParameter words.now) (At line (BreaksParameter words.now)) }
+    ensures { ReadAs line (λ p. p) result (parameter_of words.now) }
 {
     match only(words) {
         Some(Token::Run(bytes)) => {
@@ -80,8 +80,7 @@ fn parameters(
     line: u32,
     fields: &[Phrase<'_>],
 ) -> Result<Items<Parameter>, SourceFault>
-    ensures ok { IfOk result (AreParameters fields.now) }
-    ensures fault { IfErr result (NoMemoryOr (At line (BreaksParameters fields.now))) }
+    ensures { ReadAs line (λ ps. ps) result (each_of parameter_of fields.now) }
 {
     let mut parameters = Items::new(alloc);
     for field in fields {
@@ -92,8 +91,9 @@ fn parameters(
 }
 
 /// An expression, none where the words spell none.
+#[tactic(auto, using(vcm_expr::proofs::Whole::never_memory))]
 fn value(alloc: Global, line: u32, words: &Phrase<'_>) -> Result<Option<Expr>, SourceFault>
-    ensures ok { IfOk result (MayBeValue words.now) }
+    ensures ok { IfOk result (λ v. v ≡ if_read (expr_of words.now)) }
     ensures fault { IfErr result (λ f. f ≡ no_memory) }
 {
     match read_expr(alloc, line, words) {
@@ -112,7 +112,7 @@ fn named_argument(
     words: &Phrase<'_>,
     name: Name,
 ) -> Result<Argument, SourceFault>
-    ensures ok { IfOk result (λ a. (a.name ≡ Some name) × MayBeValue words.now a.value) }
+    ensures ok { IfOk result (λ a. a ≡ record { name = Some name; value = if_read (expr_of words.now) }) }
     ensures fault { IfErr result (λ f. f ≡ no_memory) }
 {
     let value = value(alloc, line, words)?;
@@ -122,7 +122,7 @@ fn named_argument(
 
 /// An argument that is a name, by what stands between its apostrophes.
 fn quoted_argument(line: u32, text: &[u8]) -> Result<Argument, SourceFault>
-    ensures { MatchResult result (IsArgument (Quoted text.now ∷ [])) (At line (BreaksArgument (Quoted text.now ∷ []))) }
+    ensures { ReadAs line (λ a. a) result (argument_of (Quoted text.now ∷ [])) }
 {
     match raised(text) {
         None => Err(bad_syntax(line)),
@@ -135,8 +135,7 @@ fn quoted_argument(line: u32, text: &[u8]) -> Result<Argument, SourceFault>
 
 /// An argument that is an expression alone.
 fn plain_argument(alloc: Global, line: u32, words: &Phrase<'_>) -> Result<Argument, SourceFault>
-    ensures ok { IfOk result (λ a. (a.name ≡ None) × IsValue words.now a.value) }
-    ensures fault { IfErr result (NoMemoryOr (At line (BreaksExpr words.now))) }
+    ensures { ReadAs line (λ a. a) result (valued_of words.now) }
 {
     let value = read_expr(alloc, line, words)?;
     Ok(Argument {
@@ -147,8 +146,7 @@ fn plain_argument(alloc: Global, line: u32, words: &Phrase<'_>) -> Result<Argume
 
 /// An argument.
 fn argument(alloc: Global, line: u32, words: &Phrase<'_>) -> Result<Argument, SourceFault>
-    ensures ok { IfOk result (IsArgument words.now) }
-    ensures fault { IfErr result (NoMemoryOr (At line (BreaksArgument words.now))) }
+    ensures { ReadAs line (λ a. a) result (argument_of words.now) }
 {
     match only(words) {
         Some(Token::Run(bytes)) => {
@@ -169,8 +167,7 @@ fn arguments(
     line: u32,
     fields: &[Phrase<'_>],
 ) -> Result<Items<Argument>, SourceFault>
-    ensures ok { IfOk result (AreArguments fields.now) }
-    ensures fault { IfErr result (NoMemoryOr (At line (BreaksArguments fields.now))) }
+    ensures { ReadAs line (λ args. args) result (each_of argument_of fields.now) }
 {
     let mut arguments = Items::new(alloc);
     for field in fields {
@@ -184,44 +181,25 @@ fn arguments(
 pub(crate) fn macro_form(
     alloc: Global,
     line: u32,
-    front: &Phrase<'_>,
+    prefix: &Prefix,
     fields: &[Phrase<'_>],
 ) -> Result<Form, SourceFault>
-    ensures ok { IfOk result (IsMacro front.now fields.now) }
-    ensures fault { IfErr result (NoMemoryOr (At line (BreaksMacro front.now fields.now))) }
+    ensures { ReadAs line (λ f. f) result (macro_of prefix.now fields.now) }
 {
-    let name = titled(line, front, b"M")?;
+    let name = titled(line, Letter::M, prefix)?;
     Ok(Form::Macro(name, parameters(alloc, line, fields)?))
-}
-
-/// The end of a macro.
-pub(crate) fn endmac(
-    line: u32,
-    front: &Phrase<'_>,
-    fields: &[Phrase<'_>],
-) -> Result<Form, SourceFault>
-    ensures { MatchResult result (IsEndmac front.now fields.now) (At line (BreaksAlone front.now fields.now)) }
-{
-    alone(line, front, fields)?;
-    Ok(Form::MacroEnd)
 }
 
 /// A call of a macro.
 pub(crate) fn call(
     alloc: Global,
     line: u32,
-    front: &Phrase<'_>,
+    prefix: &Prefix,
     fields: &[Phrase<'_>],
 ) -> Result<Form, SourceFault>
-    ensures ok { IfOk result (IsCall front.now fields.now) }
-    ensures fault { IfErr result (NoMemoryOr (At line (BreaksCall front.now fields.now))) }
+    ensures { ReadAs line (λ f. f) result (call_of prefix.now fields.now) }
 {
-    bare(line, front)?;
-    match fields {
-        [] => Err(bad_syntax(line)),
-        [name, rest @ ..] => {
-            let name = named(line, name, b"M")?;
-            Ok(Form::Call(name, arguments(alloc, line, rest)?))
-        }
-    }
+    bare(line, prefix)?;
+    let name = named(line, field(line, fields, 0)?, b"M")?;
+    Ok(Form::Call(name, arguments(alloc, line, behind(fields, 1))?))
 }

@@ -1,9 +1,8 @@
 //! Reads the shifts of a frame.
 
-ghost use Rattle.std.specs.Prelude.{◌≡◌, [], Some, IfOk, IfErr};
-ghost use Rattle.vcm_lines.specs.Fault.{NoMemoryOr};
-ghost use Rattle.vcm_expr.specs.Parsing.{IsExpr, At};
-ghost use Rattle.vcm_syntax.specs.Measuring.{origin_word, is_taken, with_taken, none_taken, free_axis, origin_of, AreOffsets, BreaksOffset, BreaksOffsets};
+ghost use Rattle.std.specs.Prelude.{◌≡◌};
+ghost use Rattle.vcm_expr.specs.Parsing.{ReadAs};
+ghost use Rattle.vcm_syntax.specs.Measuring.{origin_word, is_taken, with_taken, none_taken, free_axis, origin_in, offset_of, offsets_of};
 
 use crate::places::only;
 use crate::statement::Offset;
@@ -83,8 +82,8 @@ fn free_axis(taken: Taken, axis: Option<FrameAxis>) -> Option<FrameAxis>
 }
 
 /// The axis of a word, which has no shift yet.
-fn origin_of(taken: Taken, words: &Phrase<'_>) -> Option<FrameAxis>
-    ensures { result ≡ origin_of taken words.now }
+fn origin_in(taken: Taken, words: &Phrase<'_>) -> Option<FrameAxis>
+    ensures { result ≡ origin_in taken words.now }
 {
     match only(words) {
         Some(Token::Run(word)) => free_axis(taken, origin_word(word)),
@@ -100,11 +99,9 @@ fn offset(
     word: &Phrase<'_>,
     length: &Phrase<'_>,
 ) -> Result<Offset, SourceFault>
-    ensures axis { IfOk result (λ o. origin_of taken word.now ≡ Some o.axis) }
-    ensures length { IfOk result (λ o. IsExpr length.now o.length) }
-    ensures fault { IfErr result (NoMemoryOr (At line (BreaksOffset (origin_of taken word.now) length.now (λ _. ⊥)))) }
+    ensures { ReadAs line (λ o. o) result (offset_of taken word.now length.now) }
 {
-    match origin_of(taken, word) {
+    match origin_in(taken, word) {
         None => Err(bad_syntax(line)),
         Some(axis) => {
             let length = read_expr(alloc, line, length)?;
@@ -119,8 +116,7 @@ pub(crate) fn offsets(
     line: u32,
     fields: &[Phrase<'_>],
 ) -> Result<Items<Offset>, SourceFault>
-    ensures ok { IfOk result (AreOffsets none_taken fields.now) }
-    ensures fault { IfErr result (NoMemoryOr (At line (BreaksOffsets none_taken fields.now))) }
+    ensures { ReadAs line (λ os. os) result (offsets_of none_taken fields.now) }
 {
     let mut offsets = Items::new(alloc);
     let mut taken = Taken::none();

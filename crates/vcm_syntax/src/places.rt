@@ -1,15 +1,16 @@
 //! Reads what stands at one place of a statement.
 
-ghost use Rattle.std.specs.Prelude.{◌≡◌, ◌⊎◌, ◌∷◌, [], ℕ, List, IfOk, IfErr, MatchOption, MatchResult};
+ghost use Rattle.std.specs.Prelude.{◌≡◌, ◌∷◌, [], drop, MatchOption};
 ghost use Rattle.std.specs.List.{list_all};
-ghost use Rattle.vcm_lines.specs.Fault.{NoMemoryOr};
-ghost use Rattle.vcm_lines.specs.Lexemes.{Lexeme, Run, Open, Close, lexeme, is_spelled};
-ghost use Rattle.vcm_expr.specs.Parsing.{BreaksExpr, At};
-ghost use Rattle.vcm_syntax.specs.Places.{IsBare, BreaksBare, IsWord, BreaksWord, BreaksOffered, IsSingle, BreaksSingle, IsTextWord, BreaksText, IsMessage, BreaksMessage, IsRest, BreaksRest, IsEnd, BreaksEnd, IsTitle, BreaksTitle, IsLabel, BreaksLabel, within, begun, IsTest, BreaksTest, IsOpened, BreaksOpened, IsAim, BreaksAim};
+ghost use Rattle.vcm_lines.specs.Lexemes.{Lexeme, lexeme, is_spelled};
+ghost use Rattle.vcm_expr.specs.Parsing.{ReadAs};
+ghost use Rattle.vcm_syntax.specs.Readers.{alone, field, some_field};
+ghost use Rattle.vcm_syntax.specs.Places.{bare_of, titled_of, target_of, word_of, single_of, system_of, quoted_of, message_of, unused_of, test_of, spot_of};
 
 use crate::operator_text::OperatorText;
+use crate::statement::{Letter, Prefix, Spot, Target};
 use std::alloc::Global;
-use vcm_expr::{Expr, Name, is_name, read_expr};
+use vcm_expr::{Expr, Name, read_expr};
 use vcm_lines::{FaultCode, Phrase, SourceFault, Token, bad_syntax};
 use vcm_num::is;
 use vcm_spec::is_text;
@@ -24,13 +25,95 @@ pub(crate) fn unsupported(line: u32) -> SourceFault
     }
 }
 
-/// Nothing.
-pub(crate) fn bare(line: u32, words: &Phrase<'_>) -> Result<(), SourceFault>
-    ensures { MatchResult result (λ _. IsBare words.now) (At line (BreaksBare words.now)) }
+/// The field at a place.
+pub(crate) fn field<'a, 'b>(
+    line: u32,
+    fields: &'b [Phrase<'a>],
+    place: usize,
+) -> Result<&'b Phrase<'a>, SourceFault>
+    ensures { ReadAs line (λ f. f.now) result (field fields.now place) }
+{
+    match fields.get(place) {
+        Some(words) => Ok(words),
+        None => Err(bad_syntax(line)),
+    }
+}
+
+/// The fields from a place on, none where there are fewer.
+pub(crate) fn behind<'a, 'b>(fields: &'b [Phrase<'a>], place: usize) -> &'b [Phrase<'a>]
+    ensures { result.now ≡ drop place fields.now }
+{
+    if place < fields.len() {
+        &fields[place..]
+    } else {
+        &[]
+    }
+}
+
+/// One field at least.
+pub(crate) fn some_field(line: u32, fields: &[Phrase<'_>]) -> Result<(), SourceFault>
+    ensures { ReadAs line (λ u. u) result (some_field fields.now) }
+{
+    match fields {
+        [] => Err(bad_syntax(line)),
+        [_, ..] => Ok(()),
+    }
+}
+
+/// A value, where no field is left behind those that it was read from.
+pub(crate) fn closed<T: Drop>(line: u32, fields: &[Phrase<'_>], value: T) -> Result<T, SourceFault>
+    ensures { ReadAs line (λ v. v) result (alone value fields.now) }
+{
+    match fields {
+        [] => Ok(value),
+        [_, ..] => Err(bad_syntax(line)),
+    }
+}
+
+/// A value, where no word is left behind those that it was read from.
+pub(crate) fn sole<T: Drop>(line: u32, words: &Phrase<'_>, value: T) -> Result<T, SourceFault>
+    ensures { ReadAs line (λ v. v) result (alone value words.now) }
 {
     match words.split_first() {
-        None => Ok(()),
+        None => Ok(value),
         Some(_) => Err(bad_syntax(line)),
+    }
+}
+
+/// Nothing before a major word.
+pub(crate) fn bare(line: u32, prefix: &Prefix) -> Result<(), SourceFault>
+    ensures { ReadAs line (λ u. u) result (bare_of prefix.now) }
+{
+    match prefix {
+        Prefix::Bare => Ok(()),
+        _ => Err(bad_syntax(line)),
+    }
+}
+
+/// The label of a title with this letter.
+pub(crate) fn titled(line: u32, letter: Letter, prefix: &Prefix) -> Result<Name, SourceFault>
+    ensures { ReadAs line (λ l. l) result (titled_of letter prefix.now) }
+{
+    match (letter, prefix) {
+        (Letter::F, Prefix::Titled(Some(Letter::F), label)) => Ok(label.copy()),
+        (Letter::D, Prefix::Titled(Some(Letter::D), label)) => Ok(label.copy()),
+        (Letter::M, Prefix::Titled(Some(Letter::M), label)) => Ok(label.copy()),
+        (Letter::S, Prefix::Titled(Some(Letter::S), label)) => Ok(label.copy()),
+        (Letter::V, Prefix::Titled(Some(Letter::V), label)) => Ok(label.copy()),
+        _ => Err(bad_syntax(line)),
+    }
+}
+
+/// The variable that gets a value.
+pub(crate) fn target(line: u32, prefix: &Prefix) -> Result<Target, SourceFault>
+    ensures { ReadAs line (λ t. t) result (target_of prefix.now) }
+{
+    match prefix {
+        Prefix::Assigned(variable) => Ok(Target {
+            name: variable.copy(),
+            expansion: 0,
+        }),
+        _ => Err(bad_syntax(line)),
     }
 }
 
@@ -45,26 +128,21 @@ pub(crate) fn only<'a>(words: &Phrase<'a>) -> Option<Token<'a>>
     }
 }
 
-/// A word that has to stand there.
-pub(crate) fn word(line: u32, words: &Phrase<'_>, wanted: &[u8]) -> Result<(), SourceFault>
-    ensures { MatchResult result (λ _. IsWord wanted.now words.now) (At line (BreaksWord wanted.now words.now)) }
+/// A word that has to stand there; `other` is told of another word.
+pub(crate) fn word(
+    line: u32,
+    words: &Phrase<'_>,
+    wanted: &[u8],
+    other: FaultCode,
+) -> Result<(), SourceFault>
+    ensures { ReadAs line (λ u. u) result (word_of wanted.now other words.now) }
 {
-    match only(words) {
-        Some(Token::Run(bytes)) if is(bytes, wanted) => Ok(()),
-        _ => Err(bad_syntax(line)),
-    }
-}
-
-/// The only word that is read there.
-pub(crate) fn offered(line: u32, words: &Phrase<'_>, wanted: &[u8]) -> Result<(), SourceFault>
-    ensures { MatchResult result (λ _. IsWord wanted.now words.now) (At line (BreaksOffered wanted.now words.now)) }
-{
-    match only(words) {
-        Some(Token::Run(bytes)) => {
+    match words.split_first() {
+        Some((Token::Run(bytes), rest)) => {
             if is(bytes, wanted) {
-                Ok(())
+                sole(line, &rest, ())
             } else {
-                Err(unsupported(line))
+                Err(SourceFault { code: other, line })
             }
         }
         _ => Err(bad_syntax(line)),
@@ -73,7 +151,7 @@ pub(crate) fn offered(line: u32, words: &Phrase<'_>, wanted: &[u8]) -> Result<()
 
 /// Any word.
 pub(crate) fn single(line: u32, words: &Phrase<'_>) -> Result<(), SourceFault>
-    ensures { MatchResult result (λ _. IsSingle words.now) (At line (BreaksSingle words.now)) }
+    ensures { ReadAs line (λ u. u) result (single_of words.now) }
 {
     match only(words) {
         Some(Token::Run(_)) => Ok(()),
@@ -81,9 +159,27 @@ pub(crate) fn single(line: u32, words: &Phrase<'_>) -> Result<(), SourceFault>
     }
 }
 
+/// The word of Cartesian coordinates.
+pub(crate) fn system(line: u32, words: &Phrase<'_>) -> Result<(), SourceFault>
+    ensures { ReadAs line (λ u. u) result (system_of words.now) }
+{
+    match words.split_first() {
+        Some((Token::Run(word), rest)) => {
+            if is(word, b"CART") {
+                sole(line, &rest, ())
+            } else if is(word, b"POL") {
+                Err(unsupported(line))
+            } else {
+                Err(bad_syntax(line))
+            }
+        }
+        _ => Err(bad_syntax(line)),
+    }
+}
+
 /// What stands between the apostrophes of a text.
 pub(crate) fn quoted<'a>(line: u32, words: &Phrase<'a>) -> Result<&'a [u8], SourceFault>
-    ensures { MatchResult result (λ t. IsTextWord words.now t.now) (At line (BreaksText words.now)) }
+    ensures { ReadAs line (λ t. t.now) result (quoted_of words.now) }
 {
     match only(words) {
         Some(Token::Quoted(bytes)) => Ok(bytes),
@@ -92,13 +188,12 @@ pub(crate) fn quoted<'a>(line: u32, words: &Phrase<'a>) -> Result<&'a [u8], Sour
 }
 
 /// What `TEXT` shows.
-pub(crate) fn operator_text(
+pub(crate) fn message(
     alloc: Global,
     line: u32,
     words: &Phrase<'_>,
 ) -> Result<OperatorText, SourceFault>
-    ensures ok { IfOk result (IsMessage words.now) }
-    ensures fault { IfErr result (NoMemoryOr (At line (BreaksMessage words.now))) }
+    ensures { ReadAs line (λ t. t) result (message_of words.now) }
 {
     match only(words) {
         Some(Token::Quoted(bytes)) => {
@@ -120,7 +215,7 @@ fn all_spelled(fields: &[Phrase<'_>]) -> bool
 
 /// Fields that aren't used.
 pub(crate) fn unused(line: u32, fields: &[Phrase<'_>]) -> Result<(), SourceFault>
-    ensures { MatchResult result (λ _. IsRest fields.now) (At line (BreaksRest fields.now)) }
+    ensures { ReadAs line (λ u. u) result (unused_of fields.now) }
 {
     if all_spelled(fields) {
         Ok(())
@@ -129,159 +224,31 @@ pub(crate) fn unused(line: u32, fields: &[Phrase<'_>]) -> Result<(), SourceFault
     }
 }
 
-/// No field.
-pub(crate) fn end(line: u32, fields: &[Phrase<'_>]) -> Result<(), SourceFault>
-    ensures { MatchResult result (λ _. IsEnd fields.now) (At line (BreaksEnd fields.now)) }
-{
-    match fields {
-        [] => Ok(()),
-        [_, ..] => Err(bad_syntax(line)),
-    }
-}
-
-/// A value, where no field is left behind those that it was read from.
-pub(crate) fn closed<T: Drop>(line: u32, fields: &[Phrase<'_>], value: T) -> Result<T, SourceFault>
-    ensures { MatchResult result (λ v. (v ≡ value) × IsEnd fields.now) (At line (BreaksEnd fields.now)) }
-{
-    match fields {
-        [] => Ok(value),
-        [_, ..] => Err(bad_syntax(line)),
-    }
-}
-
-/// Nothing before a major word, and no field behind it.
-pub(crate) fn alone(line: u32, front: &Phrase<'_>, fields: &[Phrase<'_>]) -> Result<(), SourceFault>
-    ensures { MatchResult result (λ _. IsBare front.now × IsEnd fields.now)
-        (At line (λ code. BreaksBare front.now code ⊎ BreaksEnd fields.now code)) }
-{
-    bare(line, front)?;
-    end(line, fields)
-}
-
-/// What is wrong with an expression behind which a field is missing: a fault of its own, or that.
-pub(crate) fn lacking(alloc: Global, line: u32, words: &Phrase<'_>) -> SourceFault
-    ensures { NoMemoryOr (At line (λ code. BreaksExpr words.now code ⊎ (code ≡ FaultCode.BadSyntax))) result }
-{
-    match read_expr(alloc, line, words) {
-        Ok(_) => bad_syntax(line),
-        Err(fault) => fault,
-    }
-}
-
-/// A word, the one in parentheses behind it, and what stands behind these.
-pub(crate) fn parenthesized<'a>(words: &Phrase<'a>) -> Option<(&'a [u8], &'a [u8], Phrase<'a>)>
-    ensures { MatchOption result ((bs label : List ℕ) (ws : List Lexeme) → words.now ≡ Run bs ∷ Open ∷ Run label ∷ Close ∷ ws → ⊥)
-        (λ r. words.now ≡ Run r.0.now ∷ Open ∷ Run r.1.now ∷ Close ∷ r.2) }
-{
-    let Some((Token::Run(first), rest)) = words.split_first() else {
-        return None;
-    };
-    let Some((Token::Open, rest)) = rest.split_first() else {
-        return None;
-    };
-    let Some((Token::Run(label), rest)) = rest.split_first() else {
-        return None;
-    };
-    match rest.split_first() {
-        Some((Token::Close, rest)) => Some((first, label, rest)),
-        _ => None,
-    }
-}
-
-/// The label of a prefix such as `S(l)=`.
-#[tactic(auto, using(crate::proofs::NamedPlaces::untitled))]
-pub(crate) fn title<'a>(
-    line: u32,
-    words: &Phrase<'a>,
-    letter: &[u8],
-) -> Result<&'a [u8], SourceFault>
-    ensures { MatchResult result (λ l. IsTitle letter.now words.now l.now) (At line (BreaksTitle letter.now words.now)) }
-{
-    let Some((first, label, rest)) = parenthesized(words) else {
-        return Err(bad_syntax(line));
-    };
-    match only(&rest) {
-        Some(Token::Equals) => {
-            if is(first, letter) && is_name(label) {
-                Ok(label)
-            } else {
-                Err(bad_syntax(line))
-            }
-        }
-        _ => Err(bad_syntax(line)),
-    }
-}
-
-/// What stands in parentheses, where the first word opens them and the last one closes them.
-fn within<'a>(words: &Phrase<'a>) -> Option<Phrase<'a>>
-    ensures { result ≡ within words.now }
+/// An expression in parentheses.
+pub(crate) fn test(alloc: Global, line: u32, words: &Phrase<'_>) -> Result<Expr, SourceFault>
+    ensures { ReadAs line (λ e. e) result (test_of words.now) }
 {
     match words.split_first() {
         Some((Token::Open, rest)) => {
             let (inner, last) = rest.ends();
             match last {
-                Token::Close => Some(inner),
-                _ => None,
-            }
-        }
-        _ => None,
-    }
-}
-
-/// What is read of words that are not in parentheses: those behind an opening one, else the first word alone.
-fn begun<'a>(words: &Phrase<'a>) -> Phrase<'a>
-    ensures { result ≡ begun words.now }
-{
-    match words.split_first() {
-        None => words.copy(),
-        Some((Token::Open, rest)) => rest,
-        Some(_) => words.part(0, 1),
-    }
-}
-
-/// An expression in parentheses.
-pub(crate) fn test(alloc: Global, line: u32, words: &Phrase<'_>) -> Result<Expr, SourceFault>
-    ensures ok { IfOk result (IsTest words.now) }
-    ensures fault { IfErr result (NoMemoryOr (At line (BreaksTest words.now))) }
-{
-    match within(words) {
-        Some(inner) => read_expr(alloc, line, &inner),
-        None => Err(lacking(alloc, line, &begun(words))),
-    }
-}
-
-/// A label.
-fn label(line: u32, words: &Phrase<'_>) -> Result<Name, SourceFault>
-    ensures { MatchResult result (IsLabel words.now) (At line (BreaksLabel words.now)) }
-{
-    match only(words) {
-        Some(Token::Run(bytes)) => {
-            if is_name(bytes) {
-                Ok(Name::new(bytes))
-            } else {
-                Err(bad_syntax(line))
+                Token::Close => read_expr(alloc, line, &inner),
+                _ => {
+                    read_expr(alloc, line, &rest)?;
+                    Err(bad_syntax(line))
+                }
             }
         }
         _ => Err(bad_syntax(line)),
     }
 }
 
-/// A label behind an opening parenthesis.
-pub(crate) fn opened(line: u32, words: &Phrase<'_>) -> Result<Name, SourceFault>
-    ensures { MatchResult result (IsOpened words.now) (At line (BreaksOpened words.now)) }
+/// A place, its coordinates in the first three fields.
+pub(crate) fn spot(alloc: Global, line: u32, fields: &[Phrase<'_>]) -> Result<Spot, SourceFault>
+    ensures { ReadAs line (λ s. s) result (spot_of fields.now) }
 {
-    match words.split_first() {
-        Some((Token::Open, rest)) => label(line, &rest),
-        _ => Err(bad_syntax(line)),
-    }
-}
-
-/// A label in parentheses.
-pub(crate) fn aim(line: u32, words: &Phrase<'_>) -> Result<Name, SourceFault>
-    ensures { MatchResult result (IsAim words.now) (At line (BreaksAim words.now)) }
-{
-    match within(words) {
-        Some(inner) => label(line, &inner),
-        None => Err(bad_syntax(line)),
-    }
+    let x = read_expr(alloc, line, field(line, fields, 0)?)?;
+    let y = read_expr(alloc, line, field(line, fields, 1)?)?;
+    let z = read_expr(alloc, line, field(line, fields, 2)?)?;
+    Ok(Spot { x, y, z })
 }

@@ -47,7 +47,27 @@ impl Notice {
     }
 }
 
-/// What the last word of a statement's head says.
+/// The letters that the names of features, frames, macros, sensors and forms have before an equals sign.
+#[derive(Clone, Copy)]
+pub enum Letter {
+    F,
+    D,
+    M,
+    S,
+    V,
+}
+
+/// What stands before a major word.
+#[derive(Drop)]
+pub enum Prefix {
+    Bare,
+    /// A variable and an equals sign.
+    Assigned(Name),
+    /// A word, which may be a letter of titles, a label in parentheses and an equals sign.
+    Titled(Option<Letter>, Name),
+}
+
+/// What a major word says.
 #[derive(Clone, Copy)]
 pub enum Major {
     Dmismn,
@@ -77,8 +97,6 @@ pub enum Major {
     Macro,
     Endmac,
     Call,
-    /// A jump label, which has no major word.
-    Label,
     Passed(Notice),
 }
 

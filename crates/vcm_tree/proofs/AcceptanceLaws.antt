@@ -8,7 +8,7 @@ use Rattle.vcm_spec.specs.Phase.{FirstFault}
 use Rattle.vcm_spec.proofs.PhaseLemmas.{clean_or_fault, one_line}
 use Rattle.vcm_syntax.specs.declared.statement.Form.{Form}
 use Rattle.vcm_syntax.specs.declared.statement.Statement.{Statement}
-use Rattle.vcm_syntax.proofs.OnceLaws.{statement_once}
+use Rattle.vcm_syntax.proofs.Answering.{statement_once}
 use Rattle.vcm_tree.specs.Statements.{IsSpelled, AreSpelled, BreaksStatements, statement_line}
 use Rattle.vcm_macro.specs.declared.placed.Placed.{Placed}
 use Rattle.vcm_macro.specs.Expansion.{IsExpanded, IsRefused as IsUnexpanded}
@@ -29,7 +29,7 @@ stated n form = record { line = n; form = form }
 one_statement : (l : Logical) (s t : Statement) → IsSpelled l s → IsSpelled l t → s ≡ t
 one_statement l s t p q =
     let line : s.line ≡ t.line = p.line ∙ sym q.line in
-    let form : s.form ≡ t.form = statement_once _ _ _ s.form t.form p.form q.form in
+    let form : s.form ≡ t.form = statement_once _ s.form t.form p.form q.form in
     ap (λ (n : ℕ). stated n s.form) line ∙ ap (stated t.line) form
 
 -- lines spell one list of statements

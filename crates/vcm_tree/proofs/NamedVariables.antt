@@ -1,25 +1,23 @@
 -- The variables that statements declare have the names of variables.
-use Rattle.std.proofs.Common.{◌≡◌, ℕ, Bool, true, false, ◌&&◌, List, [], ◌∷◌, ◌++◌, length, Result, Ok, Err, refl, sym, subst, nat_lt}
+use Rattle.std.proofs.Common.{◌≡◌, ℕ, Bool, true, false, ◌&&◌, List, [], ◌∷◌, ◌++◌, length, Result, Ok, Err, refl, subst, nat_lt}
 use Rattle.std.specs.Prelude.{if◌then◌else◌}
 use Rattle.vcm_num.specs.declared.number.Kind.{Kind}
 use Rattle.vcm_lines.specs.declared.fault.FaultCode.{FaultCode}
-use Rattle.vcm_lines.specs.declared.fault.FaultCode.TheVariants.{DuplicateName, TooManyNames}
+use Rattle.vcm_lines.specs.declared.fault.FaultCode.TheVariants.{BadSyntax, DuplicateName, TooManyNames}
 use Rattle.vcm_lines.specs.declared.logical.Logical.{Logical}
 use Rattle.vcm_lines.specs.Lexemes.{Lexeme, Run}
 use Rattle.vcm_spec.specs.Setup.{Variable}
 use Rattle.vcm_expr.specs.Names.{AreNamed}
-use Rattle.vcm_expr.specs.Symbols.{IsVariableName}
+use Rattle.vcm_expr.specs.Symbols.{is_variable_name, IsVariableName}
 use Rattle.vcm_expr.proofs.NameLemmas.{one_more_named}
-use Rattle.vcm_syntax.specs.declared.statement.Major.{Major}
-use Rattle.vcm_syntax.specs.declared.statement.Major.TheVariants as major
 use Rattle.vcm_syntax.specs.declared.statement.Form.{Form}
 use Rattle.vcm_syntax.specs.declared.statement.Form.TheVariants.{Opening, Measures as Units, Ignored, Declaration, Assignment, Move, Home, Say, Test, Otherwise, TestEnd, Repeat, RepeatEnd, Mark, Leap, Feature, Measure, Touch, MeasureEnd, Configure, Shift, Rotation, Restore, Query, Report, Macro, MacroEnd, Call, Ending}
 use Rattle.vcm_syntax.specs.declared.statement.Statement.{Statement}
 use Rattle.vcm_macro.specs.declared.placed.Placed.{Placed}
-use Rattle.vcm_syntax.specs.Places.{IsVariable, AreVariables, unscoped}
-use Rattle.vcm_syntax.specs.Forms.{IsDeclaration, IsForm}
-use Rattle.vcm_syntax.specs.Statements.{SpellsBy}
-use Rattle.vcm_tree.specs.Statements.{AreSpelled}
+use Rattle.vcm_syntax.specs.Readers.{each_of}
+use Rattle.vcm_syntax.specs.Places.{variable_of}
+use Rattle.vcm_syntax.proofs.Declaring.{DeclaresNames, stated as stated_names}
+use Rattle.vcm_tree.specs.Statements.{AreSpelled, words_of}
 use Rattle.vcm_tree.specs.Sentences.{Step}
 use Rattle.vcm_tree.specs.Variables.{is_declared, with_one, with_all, assigned, moved}
 use Rattle.vcm_tree.specs.Blocks.{Behind, nested, tested, repeated, divided, test_ended, repeat_ended, ended, marked, label_of}
@@ -31,45 +29,26 @@ use Rattle.vcm_spec.specs.Results.{◌>>=◌}
 
 -- ---- words that declare
 
-one_lettered : (f : List Lexeme) (name : List ℕ) → IsVariable f name → IsVariableName name
-one_lettered (Run bs ∷ []) name h = subst IsVariableName (sym h.1) h.0
-one_lettered _ name h = absurd h
+name_lettered : (bs name : List ℕ) (b : Bool) → is_variable_name bs ≡ b → (if b then Ok bs else Err BadSyntax) ≡ Ok name → IsVariableName name
+name_lettered bs name true e h = let same : bs ≡ name = cc in subst IsVariableName same e
+name_lettered bs name false e h = absurd cc
 
-all_lettered : (fs : List (List Lexeme)) (names : List (List ℕ)) → AreVariables fs names → Letters names
-all_lettered [] [] h = tt
-all_lettered [] (n ∷ ns) h = absurd cc
-all_lettered (f ∷ fs) [] h = absurd h
-all_lettered (f ∷ fs) (n ∷ ns) h = (one_lettered f n h.0, all_lettered fs ns h.1)
+one_lettered : (f : List Lexeme) (name : List ℕ) → variable_of f ≡ Ok name → IsVariableName name
+one_lettered (Run bs ∷ []) name h = name_lettered bs name (is_variable_name bs) refl h
+one_lettered _ name h = absurd cc
 
-declaration_lettered : (fs : List (List Lexeme)) (k : Kind) (names : List (List ℕ)) → IsDeclaration fs (Declaration k names) → Letters names
-declaration_lettered [] k names h = absurd h
-declaration_lettered (f ∷ []) k names h = absurd h
-declaration_lettered (f ∷ v ∷ vs) k names h = all_lettered (v ∷ vs) names h.1
+all_lettered : (fs : List (List Lexeme)) (names : List (List ℕ)) → each_of variable_of fs ≡ Ok names → Letters names
+all_lettered [] names h = let same : [] ≡ names = cc in subst Letters same tt
+all_lettered (f ∷ fs) names h =
+    let p = bind-Ok (variable_of f) (λ x. each_of variable_of fs >>= λ xs. Ok (x ∷ xs)) names h in
+    let q = bind-Ok (each_of variable_of fs) (λ xs. Ok (p.0 ∷ xs)) names p.2 in
+    let last : Ok (p.0 ∷ q.0) ≡ Ok names = q.2 in
+    let same : p.0 ∷ q.0 ≡ names = cc in
+    subst Letters same (one_lettered f p.0 p.1, all_lettered fs q.0 q.1)
 
-form_lettered : (m : Major) (front : List Lexeme) (fs : List (List Lexeme)) (k : Kind) (names : List (List ℕ)) → IsForm m front fs (Declaration k names) → Letters names
-form_lettered major.Units front [] k names h = absurd h
-form_lettered major.Units front (u ∷ []) k names h = absurd h
-form_lettered major.Units front (u ∷ a ∷ []) k names h = absurd h
-form_lettered major.Units front (u ∷ a ∷ w ∷ more) k names h = absurd h
-form_lettered major.Decl front fs k names h = declaration_lettered (unscoped fs) k names h.1
-form_lettered major.Goto front [] k names h = absurd h
-form_lettered major.Goto front (w ∷ []) k names h = absurd h
-form_lettered major.Goto front (w ∷ a ∷ []) k names h = absurd h
-form_lettered major.Goto front (w ∷ a ∷ b ∷ []) k names h = absurd h
-form_lettered major.Goto front (w ∷ a ∷ b ∷ c ∷ more) k names h = absurd h
-form_lettered major.Text front [] k names h = absurd h
-form_lettered major.Text front (w ∷ []) k names h = absurd h
-form_lettered major.Text front (w ∷ t ∷ more) k names h = absurd h
-form_lettered _ front [] k names h = absurd h
-form_lettered _ front (f ∷ fs) k names h = absurd h
-
-spelled_lettered : (m : Result Major FaultCode) (front : List Lexeme) (fs : List (List Lexeme)) (k : Kind) (names : List (List ℕ)) → SpellsBy m front fs (Declaration k names) → Letters names
-spelled_lettered (Ok m) front fs k names h = form_lettered m front fs k names h
-spelled_lettered (Err e) front fs k names h = absurd h
-
-lettered_by : (m : Result Major FaultCode) (front : List Lexeme) (fs : List (List Lexeme)) (form : Form) → SpellsBy m front fs form → DeclaresLettered form
-lettered_by m front fs (Declaration k names) h = spelled_lettered m front fs k names h
-lettered_by m front fs _ h = tt
+declares_lettered : (form : Form) → DeclaresNames form → DeclaresLettered form
+declares_lettered (Declaration k names) h = all_lettered h.0 names h.1
+declares_lettered _ h = tt
 
 -- ---- the table
 
@@ -139,7 +118,7 @@ pub all_spelled : (ls : List Logical) (ss : List Statement) → AreSpelled ls ss
 all_spelled [] [] e = tt
 all_spelled [] (s ∷ ss) e = absurd cc
 all_spelled (l ∷ ls) [] e = tt
-all_spelled (l ∷ ls) (s ∷ ss) e = (lettered_by _ _ _ s.form e.0.form, all_spelled ls ss e.1)
+all_spelled (l ∷ ls) (s ∷ ss) e = (declares_lettered s.form ((stated_names (words_of l)).names s.form e.0.form), all_spelled ls ss e.1)
 
 -- the variables behind such statements have the names of variables, where those before them have
 pub all_behind_named : (b : Behind) (all : List Placed) → AllLettered all → AreNamed b.variables → AreNamed (behind_all b all).variables

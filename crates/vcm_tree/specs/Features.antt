@@ -26,7 +26,7 @@ use Rattle.vcm_expr.specs.Typing.{typed_for}
 use Rattle.vcm_syntax.specs.declared.statement.Offset.{Offset}
 use Rattle.vcm_syntax.specs.declared.statement.Spot.{Spot}
 use Rattle.vcm_syntax.specs.declared.statement.Target.{Target}
-use Rattle.vcm_syntax.specs.Figures.{or_fault}
+use Rattle.vcm_syntax.specs.Readers.{or_fault}
 use Rattle.vcm_tree.specs.Sentences.{Step, Measures, EndsMeasure}
 use Rattle.vcm_tree.specs.Variables.{target_of}
 use Rattle.vcm_tree.specs.Blocks.{Opened, InMeasure}

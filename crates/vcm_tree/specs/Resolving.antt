@@ -11,7 +11,7 @@ use Rattle.vcm_syntax.specs.declared.statement.Form.TheVariants.{Declaration, As
 use Rattle.vcm_syntax.specs.declared.statement.Form.TheVariants.{RepeatEnd, Mark, Leap, Feature, Measure, Touch, MeasureEnd, Configure}
 use Rattle.vcm_syntax.specs.declared.statement.Form.TheVariants.{Shift, Rotation, Restore, Query, Report, Ending}
 use Rattle.vcm_macro.specs.declared.placed.Placed.{Placed}
-pub use Rattle.vcm_syntax.specs.Figures.{or_fault}
+pub use Rattle.vcm_syntax.specs.Readers.{or_fault}
 use Rattle.vcm_tree.specs.Sentences.{Step, Sentence, sentence, Does, Marks, Leaps, Tests, Divides, EndsTest, Repeats, EndsRepeat, Measures}
 use Rattle.vcm_tree.specs.Sentences.{EndsMeasure}
 use Rattle.vcm_tree.specs.Variables.{with_all, assigned, moved}

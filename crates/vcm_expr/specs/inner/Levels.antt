@@ -1,5 +1,5 @@
 -- What each function of the parser reads.
-use Rattle.std.specs.Prelude.{◌≡◌, ℕ, List, [], ◌∷◌, Option, Some, None, Result, Err}
+use Rattle.std.specs.Prelude.{◌≡◌, ℕ, List, [], ◌∷◌, Option, Some, None, Result, Ok, Err}
 use Rattle.vcm_lines.specs.declared.fault.FaultCode.{FaultCode}
 use Rattle.vcm_lines.specs.declared.fault.SourceFault.{SourceFault}
 use Rattle.vcm_spec.specs.declared.expression.BinaryOp.{BinaryOp}
@@ -11,10 +11,11 @@ use Rattle.vcm_expr.specs.declared.levels.Chain.TheVariants.{Disjunction, Conjun
 use Rattle.vcm_expr.specs.declared.levels.Front.{Front}
 use Rattle.vcm_expr.specs.declared.levels.Front.TheVariants.{Negation, Sign}
 use Rattle.vcm_expr.specs.declared.expression.Size.{Size}
-use Rattle.vcm_expr.specs.Source.{Source, is_small, IsSize}
-use Rattle.vcm_expr.specs.inner.Parser.{Taken, Parser, and_parse, phrase, closed, primary_by, sign_of, negation_of}
-use Rattle.vcm_expr.specs.inner.Parser.{product_op, sum_op, and_op, or_op, signed_by, product_by, sum_by}
-use Rattle.vcm_expr.specs.inner.Parser.{relation_by, negation_by, conjunction_by, disjunction_by, expression}
+use Rattle.vcm_expr.specs.declared.expression.Term.{Term}
+use Rattle.vcm_expr.specs.Source.{Source, Plain, is_small, IsSize}
+use Rattle.vcm_expr.specs.Parser.{Taken, Parser, and_parse, phrase, closed, primary_by, sign_of, negation_of}
+use Rattle.vcm_expr.specs.Parser.{product_op, sum_op, and_op, or_op, signed_by, product_by, sum_by}
+use Rattle.vcm_expr.specs.Parser.{relation_by, negation_by, conjunction_by, disjunction_by, expression}
 
 -- what follows an opening parenthesis
 abbrev pub group_in : ℕ → Parser
@@ -79,6 +80,11 @@ abbrev pub NotClosing : List Symbol → Type 0
 NotClosing [] = Unit {0}
 NotClosing (Closing ∷ r) = ⊥
 NotClosing (_ ∷ r) = Unit {0}
+
+-- an operand that stands alone
+abbrev pub lone_of : Result Term FaultCode → Result Source FaultCode
+lone_of (Ok t) = Ok (Plain t)
+lone_of (Err c) = Err c
 
 -- the refusal tells this line, and the fault that the reading has
 abbrev pub Told : ℕ → Result Taken FaultCode → SourceFault → Type 0

@@ -2,7 +2,7 @@ use Rattle.std.proofs.Common.{◌∙◌, ◌∷◌, refl, ap, inr, arith}
 use Rattle.std.proofs.lemmas.Result.{err_from_is_err_and}
 use Rattle.vcm_expr.specs.declared.levels.Chain.TheVariants.{Disjunction, Conjunction, Sum, Product}
 use Rattle.vcm_expr.specs.Source.{is_small}
-use Rattle.vcm_expr.specs.inner.Parser.{relation_op}
+use Rattle.vcm_expr.specs.Parser.{relation_op}
 use Rattle.vcm_expr.specs.inner.Levels.{chain_in, chain_op, fronted_in}
 use Rattle.vcm_expr.proofs.Chains.{chain_begins, chain_on, chain_stops, chain_fails, chain_big, told_same, told_big, front_is, front_reads, front_told, front_big, once_made, once_big, once_fails, group_full, group_fails, group_closed, group_open}
 use Rattle.vcm_expr.proofs.Fronts.{next_shorter}

@@ -1,6 +1,6 @@
 use Rattle.std.proofs.Common.{◌≡◌, ◌≤◌, length}
 use Rattle.vcm_expr.specs.Source.{is_small}
-use Rattle.vcm_expr.specs.inner.Parser.{Parser, fronted_by, with_fronts}
+use Rattle.vcm_expr.specs.Parser.{Parser, fronted_by, with_fronts}
 use Rattle.vcm_expr.specs.inner.Levels.{front_of}
 use Rattle.vcm_expr.proofs.signs.take_signs.Given as goal
 

@@ -1,7 +1,7 @@
 use Rattle.std.proofs.Common.{◌≡◌, [], refl, ap, ◌∙◌, rules}
 use Rattle.std.proofs.lemmas.Result.{err_from_is_err_and}
 use Rattle.vcm_expr.specs.Source.{Prefixed, is_small}
-use Rattle.vcm_expr.specs.inner.Parser.{phrase, with_fronts}
+use Rattle.vcm_expr.specs.Parser.{phrase, with_fronts}
 use Rattle.vcm_expr.proofs.Fronts.{put_step, signs_told}
 use Rattle.vcm_expr.proofs.signs.with_signs.Goals as goal
 
