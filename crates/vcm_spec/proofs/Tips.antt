@@ -188,3 +188,14 @@ no_more z = omega (arith, ints)
 pub points_lie : PointsLieInBlocks
 points_lie block x =
     rw (no_less (coordinate block.low 0), no_less (coordinate block.low 1), no_less (coordinate block.low 2), no_more (coordinate block.high 0), no_more (coordinate block.high 1), no_more (coordinate block.high 2)) refl
+
+-- no way along a direction
+along_none : (x : ℕ → ℤ) (d : Axis) (k h : ℕ) → h ≡ 0 → along x d h k ≡ x k
+along_none x d k h none =
+    let e = ap (λ (n : ℕ). pos n *ℤ unit d k) none in
+    let f : pos 0 *ℤ unit d k ≡ pos 0 = zero-*ℤ (unit d k) in
+    omega (arith, ints, e, f)
+
+pub points_touch : PointsTouchWhereTheyStand
+points_touch part none s nominal d t k =
+    (along_none nominal d k part.bounds.tip none, along_none (down_of s nominal d t) (opposite d) k part.bounds.tip none)
