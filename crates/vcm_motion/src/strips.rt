@@ -64,9 +64,9 @@ impl<'a> Strips<'a> {
         })
     }
 
-    /// The first block that the tip meets on the straight move between two points, as `first_hit` gives it, and how many blocks were compared with the move:
-    /// those of the strips that the tip reaches on the way, a block once for each of them. Both points are at most 1,000,000,000
-    /// micrometres from 0 on each axis.
+    /// The first block that the tip meets on the straight move between two points, as `first_hit` gives it, and how many blocks were
+    /// compared with the move: those of the strips that the tip reaches on the way, a block once for each of them. Both points are at most
+    /// 1,000,000,000 micrometres from 0 on each axis.
     pub fn first_hit_counted(&self, from: Point, to: Point) -> (Option<Hit>, u32)
         requires from { IsTrue (is_near from) }
         requires to { IsTrue (is_near to) }

@@ -6,8 +6,9 @@ ghost use Rattle.vcm_spec.specs.Workpiece.{Workpiece, IsValid};
 use std::marker::Model;
 use vcm_spec::{Block3, Bounds};
 
-/// A valid workpiece on its machine, in micrometres of machine coordinates: at most 4,096 blocks, counted from 1, each coordinate of them and
-/// of the limits at most 1,000,000,000 from 0, no low corner above its high one, a tip of at most 50,000 to each side, and home within the limits, where the tip meets no block.
+/// A valid workpiece on its machine, in micrometres of machine coordinates: at most 4,096 blocks, counted from 1, each coordinate of them
+/// and of the limits at most 1,000,000,000 from 0, no low corner above its high one, a tip of at most 50,000 to each side, and home within
+/// the limits, where the tip meets no block.
 #[derive(Drop)]
 pub struct PartData {
     bounds: Bounds,

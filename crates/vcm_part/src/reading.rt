@@ -204,15 +204,15 @@ fn part_of(alloc: Global, bytes: &[u8]) -> Result<PartData, NotRead>
 
 /// The workpiece that the bytes of a part file give.
 ///
-/// The text is TOML with whole numbers of micrometres: `low`, `high` and `home` with three each, `tip`, which may be absent and is 0 then, and an array of tables `block`, which may be
-/// absent, with `low` and `high` each. Other keys are ignored.
+/// The text is TOML with whole numbers of micrometres: `low`, `high` and `home` with three each, `tip`, which may be absent and is 0 then,
+/// and an array of tables `block`, which may be absent, with `low` and `high` each. Other keys are ignored.
 ///
 /// # Errors
 ///
-/// The first in this order: bytes that are no UTF-8 or no TOML; for `low`, `high`, `home` and `tip` each a bad key, then a number out of range, which
-/// for `tip` is one outside 0 to 50,000; limits with low above high; `block` that isn't an array of tables; more than 4,096 blocks; for each block the same of its `low` and `high`, and
-/// then low above high; home outside the limits or where the tip meets a block. `NoMemory`, with block 0, where a growth of memory was refused; the call may then be
-/// repeated.
+/// The first in this order: bytes that are no UTF-8 or no TOML; for `low`, `high`, `home` and `tip` each a bad key, then a number out of
+/// range, which for `tip` is one outside 0 to 50,000; limits with low above high; `block` that isn't an array of tables; more than 4,096
+/// blocks; for each block the same of its `low` and `high`, and then low above high; home outside the limits or where the tip meets a
+/// block. `NoMemory`, with block 0, where a growth of memory was refused; the call may then be repeated.
 pub fn read_part(alloc: Global, bytes: &[u8]) -> Result<PartData, PartFault>
     ensures { IsPartRead bytes.now result }
 {
