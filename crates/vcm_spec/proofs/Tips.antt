@@ -1,16 +1,20 @@
 -- The tip meets a block where its centre lies in the grown one.
-use Rattle.std.proofs.Common.{◌≡◌, ℕ, zero, suc, ◌*◌, ◌<◌, ℤ, pos, ◌+ℤ◌, ◌-ℤ◌, ◌*ℤ◌, ◌≤ℤ◌, Bool, true, false, ◌&&◌, List, [], ◌∷◌, Some, None, slice_get, refl, ap, subst, arith}
-use Rattle.std.specs.Prelude.{IsTrue, int_le, if◌then◌else◌}
+use Rattle.std.proofs.Common.{◌≡◌, ℕ, zero, suc, ◌<◌, ℤ, pos, ◌+ℤ◌, ◌-ℤ◌, ◌*ℤ◌, ◌≤ℤ◌, Bool, true, false, ◌&&◌, List, [], ◌∷◌, Some, None, slice_get, refl, ap, subst, arith}
+use Rattle.std.specs.Prelude.{int_le, if◌then◌else◌}
 use Rattle.std.specs.List.{list_all}
+use Rattle.std.proofs.Math.IntN.{zero-*ℤ}
 use Rattle.std.proofs.lemmas.Bool.{and_parts, and_from}
-use Rattle.std.proofs.lemmas.Int.{ints, by_lt_z}
+use Rattle.std.proofs.lemmas.Int.{ints}
 use Rattle.vcm_num.proofs.Ring.{mul-add}
+use Rattle.vcm_num.specs.declared.axis.Axis.{Axis}
+use Rattle.vcm_num.specs.Axis.{along, unit, opposite}
 use Rattle.vcm_num.specs.Point.{coordinate, is_below, on_each}
 use Rattle.vcm_spec.specs.declared.workpiece.Block3.{Block3}
-use Rattle.vcm_spec.specs.Workpiece.{Workpiece, IsValid, IsInTip, TipTouches, grown, is_in, is_met, is_block}
+use Rattle.vcm_spec.specs.Workpiece.{Workpiece, IsValid, TipTouches, grown, is_met, is_block}
 use Rattle.vcm_spec.specs.Contact.{IsBetween, Meets, MeetsLater, IsShared, TipMeets, TipMeetsLater}
 use Rattle.vcm_spec.proofs.Entries.{le_true, true_le, below_three, mul_le}
-use Rattle.vcm_spec.specs.Laws.{TipsMeetBlocks, TipsTouchBlocks, PointsMeetBlocks, PointsLieInBlocks}
+use Rattle.vcm_spec.specs.Touch.{down_of}
+use Rattle.vcm_spec.specs.Laws.{TipsMeetBlocks, TipsTouchBlocks, PointsMeetBlocks, PointsLieInBlocks, PointsTouchWhereTheyStand}
 
 -- ---- blocks whose corners are in order
 
