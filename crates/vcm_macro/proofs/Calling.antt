@@ -1,27 +1,37 @@
 -- A CALL: where it is refused, and what it carries out.
-use Rattle.std.proofs.Common.{◌≡◌, ℕ, suc, ◌+◌, List, [], ◌∷◌, take, Some, None, refl, sym, ◌∙◌, inl, inr, arith, get_or}
-use Rattle.std.specs.Prelude.{reverse}
+use Rattle.std.proofs.Common.{◌≡◌, ℕ, suc, ◌+◌, true, false, ◌||◌, List, [], ◌∷◌, take, Option, Some, None, refl, sym, ◌∙◌, inl, inr, arith, get_or}
+use Rattle.std.specs.Prelude.{reverse, nat_lt}
 use Rattle.std.specs.List.{slice_get}
 use Rattle.std.specs.Prelude.{Result, Ok, Err, OnOk, IfErr}
 use Rattle.std.proofs.lemmas.List.{append-nil}
 use Rattle.std.proofs.lemmas.Option.{slice_get_read}
 use Rattle.vcm_lines.specs.declared.fault.SourceFault.{SourceFault}
-use Rattle.vcm_lines.specs.declared.fault.FaultCode.TheVariants.{UnknownName}
+use Rattle.vcm_lines.specs.declared.fault.FaultCode.TheVariants.{UnknownName, TooLong}
 use Rattle.vcm_lines.specs.Fault.{NoMemoryOr}
 use Rattle.vcm_syntax.specs.declared.statement.Argument.{Argument}
 use Rattle.vcm_syntax.specs.declared.statement.Statement.{Statement}
 use Rattle.vcm_substitution.specs.Substitution.{Scope}
 use Rattle.vcm_macro.specs.Walk.{Defined, Calls, call_in, body_in}
-use Rattle.vcm_macro.specs.inner.Expanding.{Done, IsFine, TellsOf, TellsFirst, Walked, found, IsFoundAt, active_of}
+use Rattle.vcm_macro.specs.Rules.{is_full, called_codes}
+use Rattle.vcm_macro.specs.inner.Expanding.{Done, IsFine, TellsLeftmost, TellsFirst, Walked, found, call_by, IsFoundAt, active_of}
 use Rattle.vcm_macro.proofs.Walks.{walked_more, told_more}
 use Rattle.vcm_macro.proofs.Finding.{call_found}
 use Rattle.vcm_macro.proofs.Skipping.{active_leave, walked_over}
 
+-- too deep, or too much before it
+pub call_too_long : (ms : List Defined) (line depth done n : ℕ) (name : List ℕ) (bs : List Argument) → (nat_lt 16 depth || is_full n) ≡ true
+    → TellsFirst n (call_in ms line depth done name bs) (record { code = TooLong; line = line })
+call_too_long ms line depth done n name bs e = rw (call_found ms line depth done name bs) (by (found ms name))
+  where
+    by : (o : Option (Defined × List Defined)) → TellsFirst n (call_by o line depth done bs) (record { code = TooLong; line = line })
+    by None = inl (rw e refl, refl)
+    by (Some p) = inl (rw e refl, refl)
+
 -- no macro of this name
-pub call_unknown : (ms : List Defined) (line depth done n : ℕ) (name : List ℕ) (bs : List Argument) → found ms name ≡ None
+pub call_unknown : (ms : List Defined) (line depth done n : ℕ) (name : List ℕ) (bs : List Argument) → (nat_lt 16 depth || is_full n) ≡ false → found ms name ≡ None
     → TellsFirst n (call_in ms line depth done name bs) (record { code = UnknownName; line = line })
-call_unknown ms line depth done n name bs e =
-    rw (call_found ms line depth done name bs, e) (inl (refl, refl))
+call_unknown ms line depth done n name bs room e =
+    rw (call_found ms line depth done name bs, e) (inl (rw room refl, refl))
 
 -- the macro at the place where one is found
 same_macro : (ms : List Defined) (i : ℕ) (m n : Defined) → slice_get ms i ≡ Some m → slice_get ms i ≡ Some n → m ≡ n
@@ -36,11 +46,15 @@ call_is ms name i m line depth done bs f e =
     let s : f.macro ≡ m = same_macro ms i f.macro m f.is g in
     call_found (reverse ms) line depth done name bs ∙ rw (f.found, s) refl
 
--- it is refused at once
+-- its arguments are refused
 pub call_refused : (ms : List Defined) (name : List ℕ) (i : ℕ) (m : Defined) (line depth done n : ℕ) (bs : List Argument) (f : SourceFault) → IsFoundAt ms name i → m ≡ get_or ms i m
-    → NoMemoryOr (TellsOf n (Calls line depth (Some m) bs)) f → NoMemoryOr (TellsFirst n (call_in (reverse ms) line depth done name bs)) f
-call_refused ms name i m line depth done n bs f a e (inl none) = inl none
-call_refused ms name i m line depth done n bs f a e (inr t) = inr (rw (call_is ms name i m line depth done bs a e) (inl t))
+    → (nat_lt 16 depth || is_full n) ≡ false → NoMemoryOr (TellsLeftmost line (called_codes (Some m) bs)) f → NoMemoryOr (TellsFirst n (call_in (reverse ms) line depth done name bs)) f
+call_refused ms name i m line depth done n bs f a e room (inl none) = inl none
+call_refused ms name i m line depth done n bs f a e room (inr t) = inr (rw (call_is ms name i m line depth done bs a e) (inl (rw room t)))
+
+-- nothing is wrong with it
+pub call_fine : (n line depth : ℕ) (m : Defined) (bs : List Argument) → (nat_lt 16 depth || is_full n) ≡ false → called_codes (Some m) bs ≡ [] → IsFine n (Calls line depth (Some m) bs)
+call_fine n line depth m bs room fine = rw room fine
 
 -- the CALL alone
 entered_is : (start : Done) (line depth : ℕ) (m : Defined) (bs : List Argument) → IsFine start.count (Calls line depth (Some m) bs)

@@ -6,29 +6,30 @@ use Rattle.vcm_lines.specs.declared.fault.SourceFault.{SourceFault}
 use Rattle.vcm_spec.specs.Phase.{IsClean, FirstFault}
 use Rattle.vcm_syntax.specs.declared.statement.Statement.{Statement}
 use Rattle.vcm_macro.specs.Walk.{Place, walk}
-use Rattle.vcm_macro.specs.Rules.{BreaksMacros, macros_line, weight, line_at}
-use Rattle.vcm_macro.specs.Computed.{code_at, fault_or, fault_among, macro_fault}
+use Rattle.vcm_macro.specs.Rules.{BreaksMacros, macros_line, codes_at, weight, line_at}
+use Rattle.vcm_macro.specs.Computed.{leftmost, fault_or, fault_among, macro_fault}
 use Rattle.vcm_macro.specs.inner.Expanding.{AreFine, TellsFirst}
+use Rattle.vcm_macro.proofs.CodesAt.{none_left}
 use Rattle.vcm_macro.proofs.Phases.{all_clean, first_told}
 
 fault_is : (n : ℕ) (ps : List Place) (f : SourceFault) → fault_among n ps ≡ Some f → TellsFirst n ps f
 fault_is n [] f e = absurd cc
-fault_is n (p ∷ ps) f e = by_code (code_at n p) refl e (fault_is (n + weight p) ps f)
+fault_is n (p ∷ ps) f e = by_code (leftmost (codes_at n p)) refl e (fault_is (n + weight p) ps f)
   where
-    by_code : (o : Option FaultCode) → code_at n p ≡ o → fault_or o (line_at p) (fault_among (n + weight p) ps) ≡ Some f
+    by_code : (o : Option FaultCode) → leftmost (codes_at n p) ≡ o → fault_or o (line_at p) (fault_among (n + weight p) ps) ≡ Some f
         → (fault_among (n + weight p) ps ≡ Some f → TellsFirst (n + weight p) ps f) → TellsFirst n (p ∷ ps) f
-    by_code None q e ih = inr (q, ih e)
+    by_code None q e ih = inr (none_left (codes_at n p) q, ih e)
     by_code (Some c) q e ih =
         let same : record { code = c; line = line_at p } ≡ f = cc in
         rw (← same) (inl (q, refl))
 
 fine_is : (n : ℕ) (ps : List Place) → fault_among n ps ≡ None → AreFine n ps
 fine_is n [] e = tt
-fine_is n (p ∷ ps) e = by_code (code_at n p) refl e (fine_is (n + weight p) ps)
+fine_is n (p ∷ ps) e = by_code (leftmost (codes_at n p)) refl e (fine_is (n + weight p) ps)
   where
-    by_code : (o : Option FaultCode) → code_at n p ≡ o → fault_or o (line_at p) (fault_among (n + weight p) ps) ≡ None
+    by_code : (o : Option FaultCode) → leftmost (codes_at n p) ≡ o → fault_or o (line_at p) (fault_among (n + weight p) ps) ≡ None
         → (fault_among (n + weight p) ps ≡ None → AreFine (n + weight p) ps) → AreFine n (p ∷ ps)
-    by_code None q e ih = (q, ih e)
+    by_code None q e ih = (none_left (codes_at n p) q, ih e)
     by_code (Some c) q e ih = absurd cc
 
 pub computed_fault : (ss : List Statement) (f : SourceFault) → macro_fault ss ≡ Some f → FirstFault BreaksMacros macros_line (walk ss) f.code f.line

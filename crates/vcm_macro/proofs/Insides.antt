@@ -8,8 +8,8 @@ use Rattle.vcm_syntax.specs.declared.statement.Parameter.{Parameter}
 use Rattle.vcm_syntax.specs.declared.statement.Statement.{Statement}
 use Rattle.vcm_macro.specs.declared.blocks.Opener.{Opener}
 use Rattle.vcm_macro.specs.Walk.{Defined, Place, Inside, with_statement}
-use Rattle.vcm_macro.specs.Rules.{weigh, redeclares, unbalances, blocks_behind, blocks_after}
-use Rattle.vcm_macro.specs.inner.Expanding.{AreFine, IsFine, TellsOf, TellsFirst, is_macro_end, inside, size_of, begun, IsBody}
+use Rattle.vcm_macro.specs.Rules.{codes_at, weigh, redeclares, unbalances, blocks_behind, blocks_after}
+use Rattle.vcm_macro.specs.inner.Expanding.{AreFine, IsFine, TellsLeftmost, TellsFirst, is_macro_end, inside, size_of, begun, IsBody}
 use Rattle.vcm_macro.proofs.Walks.{weigh_append, fine_append, told_behind}
 use Rattle.vcm_macro.proofs.Lists.{drop_here, take_next}
 
@@ -72,7 +72,7 @@ inside_more name ps all i os next s h lt e new closed other step =
 
 -- a statement that breaks a rule
 inside_told : (name : List ℕ) (ps : List Parameter) (all : List Statement) (i : ℕ) (os : List Opener) (s : Statement) (f : SourceFault) → IsInside name ps all i os
-    → i < length all → s ≡ get_or all i s → ((k : ℕ) → TellsOf k (Inside (record { name = name; parameters = ps; body = take i all }) s) f)
+    → i < length all → s ≡ get_or all i s → ((k : ℕ) → TellsLeftmost s.line (codes_at k (Inside (record { name = name; parameters = ps; body = take i all }) s)) f)
     → (k : ℕ) → TellsFirst k (inside (begun name ps) all) f
 inside_told name ps all i os s f h lt e t k =
     let m : Defined = record { name = name; parameters = ps; body = take i all } in

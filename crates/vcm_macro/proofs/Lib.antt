@@ -12,4 +12,6 @@ pub mod Orders
 pub mod Computing
 pub mod Answered
 pub mod CodesAt
+pub mod Sizes
+pub mod Arguments
 pub mod Stays

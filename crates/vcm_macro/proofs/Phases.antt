@@ -3,17 +3,16 @@ use Rattle.std.proofs.Common.{◌≡◌, ℕ, zero, suc, ◌+◌, ◌<◌, ◌�
 use Rattle.std.specs.List.{slice_get}
 use Rattle.std.specs.Prelude.{Bool, true, false, if◌then◌else◌}
 use Rattle.std.proofs.lemmas.List.{append-nil}
-use Rattle.vcm_lines.specs.Fault.{NoMemoryOr}
 use Rattle.vcm_macro.specs.declared.placed.Placed.{Placed}
 use Rattle.vcm_syntax.specs.declared.statement.Statement.{Statement}
 use Rattle.vcm_lines.specs.declared.fault.FaultCode.{FaultCode}
 use Rattle.vcm_lines.specs.declared.fault.SourceFault.{SourceFault}
 use Rattle.vcm_spec.specs.Phase.{IsClean, FirstFault}
 use Rattle.vcm_macro.specs.Walk.{Defined, Place, Opens, Inside, Stands, Calls, walk}
-use Rattle.vcm_macro.specs.Rules.{BreaksMacros, macros_line, weight, weigh, kept, one_if}
+use Rattle.vcm_macro.specs.Rules.{BreaksMacros, macros_line, line_at, codes_at, weight, weigh, kept, one_if}
 use Rattle.vcm_substitution.specs.Kept.{is_kept}
 use Rattle.vcm_macro.proofs.CodesAt.{breaks_so, fine_so}
-use Rattle.vcm_macro.specs.inner.Expanding.{Done, Walked, IsRead, AreFine, IsFine, TellsOf, TellsFirst}
+use Rattle.vcm_macro.specs.inner.Expanding.{Done, Walked, IsRead, AreFine, IsFine, TellsLeftmost, TellsFirst}
 
 -- the k-th place breaks no rule
 fine_at : (n : ℕ) (ps : List Place) (k : ℕ) (p : Place) → AreFine n ps → slice_get ps k ≡ Some p → IsFine (n + weigh (take k ps)) p
@@ -29,8 +28,8 @@ fine_at n (q ∷ ps) (suc k) p f e =
 from_zero : (n : ℕ) (p : Place) → IsFine (0 + n) p → IsFine n p
 from_zero n p f = let m : 0 + n ≡ n = omega arith in subst (λ (k : ℕ). IsFine k p) m f
 
-told_from_zero : (n : ℕ) (p : Place) (f : SourceFault) → TellsOf (0 + n) p f → TellsOf n p f
-told_from_zero n p f t = let m : 0 + n ≡ n = omega arith in subst (λ (k : ℕ). TellsOf k p f) m t
+told_from_zero : (n : ℕ) (p : Place) (f : SourceFault) → TellsLeftmost (line_at p) (codes_at (0 + n) p) f → TellsLeftmost (line_at p) (codes_at n p) f
+told_from_zero n p f t = let m : 0 + n ≡ n = omega arith in subst (λ (k : ℕ). TellsLeftmost (line_at p) (codes_at k p) f) m t
 
 clean_by : (ps : List Place) (k : ℕ) (o : Option Place) (code : FaultCode) → AreFine 0 ps → slice_get ps k ≡ o → BreaksMacros (take k ps) o code → ⊥
 clean_by ps k None code f e b = b
@@ -47,7 +46,7 @@ record Told (n : ℕ) (ps : List Place) (f : SourceFault) : Type 0 where
   pub within : place ≤ length ps
   pub is : slice_get ps place ≡ Some at_place
   pub fine : (k : ℕ) (p : Place) → k < place → slice_get ps k ≡ Some p → IsFine (n + weigh (take k ps)) p
-  pub tells : TellsOf (n + weigh (take place ps)) at_place f
+  pub tells : TellsLeftmost (line_at at_place) (codes_at (n + weigh (take place ps)) at_place) f
 
 fine_first : (n : ℕ) (p q : Place) → IsFine n p → p ≡ q → IsFine (n + 0) q
 fine_first n p q f e =
@@ -100,10 +99,6 @@ first_by ps f h =
 -- the first of the places that breaks a rule is the first fault of the walk
 pub first_told : (ps : List Place) (f : SourceFault) → TellsFirst 0 ps f → FirstFault BreaksMacros macros_line ps f.code f.line
 first_told ps f t = first_by ps f (told 0 ps f t)
-
-pub refused_so : (ps : List Place) (f : SourceFault) → NoMemoryOr (TellsFirst 0 ps) f → NoMemoryOr (λ f. FirstFault BreaksMacros macros_line ps f.code f.line) f
-refused_so ps f (inl e) = inl e
-refused_so ps f (inr t) = inr (first_told ps f t)
 
 kept_one : (b : Bool) (x : Placed) (ps : List Placed) (n : ℕ) → length ps ≤ n → length ((if b then x ∷ [] else []) ++ ps) ≤ one_if b + n
 kept_one true x ps n le = omega (arith, le)

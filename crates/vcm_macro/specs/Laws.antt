@@ -22,9 +22,9 @@ NoneIsClean = (ss : List Statement) → macro_fault ss ≡ None → IsClean Brea
 abbrev pub ExpandedIsNotRefused : Type 0
 ExpandedIsNotRefused = (ss : List Statement) (all : List Placed) (f : SourceFault) → IsExpanded ss all → IsRefused ss f → ⊥
 
--- all refusals of a program are told at one line
-abbrev pub IsRefusedAtOneLine : Type 0
-IsRefusedAtOneLine = (ss : List Statement) (f g : SourceFault) → IsRefused ss f → IsRefused ss g → f.line ≡ g.line
+-- a program has one refusal: its code and its line
+abbrev pub IsRefusedOnce : Type 0
+IsRefusedOnce = (ss : List Statement) (f g : SourceFault) → IsRefused ss f → IsRefused ss g → f ≡ g
 
 -- a program has one expansion
 abbrev pub IsExpandedOnce : Type 0

@@ -1,6 +1,6 @@
 -- The rules of the phase of macros.
-use Rattle.std.specs.Prelude.{ℕ, ◌+◌, Bool, true, false, IsTrue, not, ◌&&◌, ◌||◌, nat_lt, nat_le, if◌then◌else◌, List, [], ◌∷◌, ◌++◌, drop}
-use Rattle.std.specs.Prelude.{length, map, Option, Some, None}
+use Rattle.std.specs.Prelude.{ℕ, ◌+◌, Bool, true, false, not, ◌&&◌, ◌||◌, nat_eq, nat_lt, nat_le, if◌then◌else◌, List, [], ◌∷◌, ◌++◌, drop}
+use Rattle.std.specs.Prelude.{length, map, Contains, Option, Some, None}
 use Rattle.std.specs.List.{list_any}
 use Rattle.vcm_lines.specs.declared.fault.FaultCode.{FaultCode}
 use Rattle.vcm_lines.specs.declared.fault.FaultCode.TheVariants.{TooDeep, DuplicateName, UnknownName, Unbalanced, BadArguments, TooLong}
@@ -17,7 +17,7 @@ use Rattle.vcm_macro.specs.declared.fitting.Wanted.TheVariants.{Name as AName, V
 use Rattle.vcm_macro.specs.declared.blocks.Opener.{Opener}
 use Rattle.vcm_macro.specs.declared.blocks.Opener.TheVariants.{If, Else, Do, Meas}
 use Rattle.vcm_substitution.specs.Substitution.{is_same, variable_of}
-use Rattle.vcm_substitution.specs.Sizes.{are_small_arguments, are_small}
+use Rattle.vcm_substitution.specs.Sizes.{is_small_option, are_small}
 use Rattle.vcm_substitution.specs.Kept.{is_kept}
 use Rattle.vcm_macro.specs.Walk.{Defined, Place, Opens, Inside, Stands, Calls}
 
@@ -120,20 +120,9 @@ suits AName a = is_there a.name
 suits AVariable a = is_there (variable_of a.value)
 suits AValue a = is_there a.value
 
--- whether each argument is what is wanted in its place
-abbrev pub all_suit : List Wanted → List Argument → Bool
-all_suit [] [] = true
-all_suit (w ∷ ws) (a ∷ bs) = suits w a && all_suit ws bs
-all_suit ws bs = false
-
--- whether a macro may be called with these: it has 16 parameters at most, and each gets its argument
-abbrev pub takes : Defined → List Argument → Bool
-takes m bs = nat_le (length m.parameters) 16 && all_suit (map (wanted_by m.body) m.parameters) bs
-
--- whether there is a macro and it may not be called with these
-abbrev pub misfits : Option Defined → List Argument → Bool
-misfits None bs = false
-misfits (Some m) bs = not (takes m bs)
+-- whether a macro may be called with so many arguments: it has as many parameters, and 16 at most
+abbrev pub takes : Defined → ℕ → Bool
+takes m n = nat_le (length m.parameters) 16 && nat_eq (length m.parameters) n
 
 -- ---- sizes
 
@@ -169,18 +158,36 @@ is_full n = nat_le 20000 n
 
 -- ---- the phase
 
+-- this code where it is so
+abbrev pub code_if : Bool → FaultCode → List FaultCode
+code_if true code = code ∷ []
+code_if false code = []
+
+-- what is wrong with an argument, from the left: its kind, and then its size
+abbrev pub argument_codes : Wanted → Argument → List FaultCode
+argument_codes w b = code_if (not (suits w b)) BadArguments ++ code_if (not (is_small_option b.value)) TooDeep
+
+-- what is wrong with arguments, one after another
+abbrev pub each_argument_codes : List Wanted → List Argument → List FaultCode
+each_argument_codes (w ∷ ws) (b ∷ bs) = argument_codes w b ++ each_argument_codes ws bs
+each_argument_codes ws bs = []
+
+-- what is wrong with a CALL behind its own word: there is no such macro; or the number of arguments, and then each of them
+abbrev pub called_codes : Option Defined → List Argument → List FaultCode
+called_codes None bs = UnknownName ∷ []
+called_codes (Some m) bs = code_if (not (takes m (length bs))) BadArguments ++ each_argument_codes (map (wanted_by m.body) m.parameters) bs
+
+-- the codes of the rules that a place breaks behind places that count so much, from the left
+abbrev pub codes_at : ℕ → Place → List FaultCode
+codes_at n (Opens ms s) = code_if (is_taken ms s.form) DuplicateName
+codes_at n (Inside m s) =
+    code_if (redeclares m.parameters s.form) DuplicateName ++ code_if (unbalances (blocks_after [] m.body) s.form) Unbalanced
+codes_at n (Stands e s) = code_if (is_kept s.form && is_full n) TooLong ++ code_if (not (are_small s.form)) TooDeep
+codes_at n (Calls line depth m bs) = code_if (nat_lt 16 depth || is_full n) TooLong ++ called_codes m bs
+
 -- the rules, behind places that count so much
 abbrev pub BreaksBehind : ℕ → Place → FaultCode → Type 0
-BreaksBehind n (Opens ms s) DuplicateName = IsTrue (is_taken ms s.form)
-BreaksBehind n (Inside m s) DuplicateName = IsTrue (redeclares m.parameters s.form)
-BreaksBehind n (Inside m s) Unbalanced = IsTrue (unbalances (blocks_after [] m.body) s.form)
-BreaksBehind n (Stands e s) TooDeep = IsTrue (not (are_small s.form))
-BreaksBehind n (Stands e s) TooLong = IsTrue (is_kept s.form && is_full n)
-BreaksBehind n (Calls line depth m args) UnknownName = IsTrue (not (is_there m))
-BreaksBehind n (Calls line depth m args) BadArguments = IsTrue (misfits m args)
-BreaksBehind n (Calls line depth m args) TooDeep = IsTrue (not (are_small_arguments args))
-BreaksBehind n (Calls line depth m args) TooLong = IsTrue (nat_lt 16 depth || is_full n)
-BreaksBehind n p code = ⊥
+BreaksBehind n p code = Contains (codes_at n p) code
 
 -- the phase: each place by what stands before it, and nothing at the end
 abbrev pub BreaksMacros : List Place → Option Place → FaultCode → Type 0

@@ -2,3 +2,4 @@
 pub mod Expanding
 pub mod Saying
 pub mod Staying
+pub mod Suiting

@@ -1,17 +1,17 @@
 //! Macros as they are written.
 
-ghost use Rattle.std.specs.Prelude.{◌≡◌, None, reverse, IfOk, MatchOption};
+ghost use Rattle.std.specs.Prelude.{◌≡◌, None, map, reverse, IfOk, MatchOption};
 ghost use Rattle.std.specs.List.{list_any};
 ghost use Rattle.vcm_substitution.specs.Substitution.{is_same};
-ghost use Rattle.vcm_macro.specs.Rules.{takes};
+ghost use Rattle.vcm_macro.specs.Rules.{wanted_by, takes};
 ghost use Rattle.vcm_macro.specs.inner.Expanding.{found, IsFoundAt, active_of, referred};
 
-use crate::fitting::{Wanted, all_suit, all_wanted};
+use crate::fitting::{Wanted, all_wanted};
 use crate::kept::active_of;
 use std::alloc::{AllocError, Global};
 use std::marker::Model;
 use vcm_expr::Name;
-use vcm_syntax::{Argument, Parameter, Statement};
+use vcm_syntax::{Parameter, Statement};
 
 /// A macro, with what has to be given for each of its parameters, and the statements of its body that leave something in an expansion.
 /// Contracts see it as a `Defined`.
@@ -86,11 +86,18 @@ impl<'a> Definition<'a> {
         &self.active
     }
 
-    /// Whether the macro may be called with these arguments.
-    pub(crate) fn takes(&self, arguments: &[Argument]) -> bool
-        ensures { result ≡ takes self.now arguments.now }
+    /// What has to be given for each parameter.
+    pub(crate) fn wanted(&self) -> &[Wanted]
+        ensures { result.now ≡ map (wanted_by self.now.body) self.now.parameters }
     {
-        self.parameters.len() <= 16 && all_suit(&self.wanted, arguments)
+        &self.wanted
+    }
+
+    /// Whether the macro may be called with so many arguments.
+    pub(crate) fn takes(&self, arguments: usize) -> bool
+        ensures { result ≡ takes self.now arguments }
+    {
+        self.parameters.len() <= 16 && self.parameters.len() == arguments
     }
 }
 

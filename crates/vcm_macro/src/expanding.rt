@@ -1,24 +1,22 @@
 //! Carries calls out.
 
-ghost use Rattle.std.specs.Prelude.{◌≡◌, ◌≤◌, ◌∷◌, [], suc, true, Some, map, reverse, OnOk, IfOk, IfErr};
+ghost use Rattle.std.specs.Prelude.{◌≡◌, [], Some, length, map, reverse, OnOk, IfOk, IfErr};
 ghost use Rattle.vcm_lines.specs.Fault.{NoMemoryOr};
-ghost use Rattle.vcm_substitution.specs.Sizes.{are_small_arguments, IsTooDeep};
 ghost use Rattle.vcm_substitution.specs.Substitution.{put_argument};
-ghost use Rattle.vcm_macro.specs.Walk.{Calls, call_in, body_in};
+ghost use Rattle.vcm_macro.specs.Walk.{call_in, body_in};
+ghost use Rattle.vcm_macro.specs.Rules.{argument_codes, each_argument_codes, called_codes};
 ghost use Rattle.vcm_macro.specs.inner.Staying.{given};
-ghost use Rattle.vcm_macro.specs.inner.Expanding.{Walked, TellsOf, TellsFirst, IsFine, referred};
+ghost use Rattle.vcm_macro.specs.inner.Expanding.{Walked, TellsLeftmost, TellsFirst, referred};
 
 use crate::definition::{Definition, find};
 use crate::expansion::Expansion;
+use crate::fitting::{Wanted, all_suit, suits, suits_deep, wanted_at};
 use crate::staying::{Given, all_stay};
 use std::alloc::Global;
 use vcm_expr::Name;
 use vcm_lines::{FaultCode, SourceFault};
 use vcm_substitution::Bindings;
 use vcm_syntax::{Argument, Form, Statement};
-
-/// The deepest that calls may nest.
-const DEEPEST: u32 = 16;
 
 // The refusal of a call, at its line.
 fn refused(code: FaultCode, line: u32) -> SourceFault
@@ -27,53 +25,80 @@ fn refused(code: FaultCode, line: u32) -> SourceFault
     SourceFault { code, line }
 }
 
-// What arguments say in the expansion.
+// What an argument says in the expansion, where that is what is wanted there.
+fn put_one(
+    alloc: Global,
+    line: u32,
+    bindings: &Bindings<'_>,
+    wanted: Wanted,
+    argument: &Argument,
+) -> Result<Argument, SourceFault>
+    ensures ok { IfOk result (λ a. a ≡ put_argument bindings.now argument.now) }
+    ensures fine { OnOk result (argument_codes wanted (put_argument bindings.now argument.now) ≡ []) }
+    ensures fault { IfErr result (NoMemoryOr (TellsLeftmost line (argument_codes wanted (put_argument bindings.now argument.now)))) }
+{
+    match bindings.put_argument(alloc, line, argument) {
+        Ok(put) => {
+            if suits(wanted, &put) {
+                Ok(put)
+            } else {
+                Err(refused(FaultCode::BadArguments, line))
+            }
+        }
+        Err(fault) => match fault.code {
+            FaultCode::TooDeep if !suits_deep(wanted, argument) => {
+                Err(refused(FaultCode::BadArguments, line))
+            }
+            _ => Err(fault),
+        },
+    }
+}
+
+// What arguments say in the expansion, as many as are wanted, where each is what is wanted in its place.
 fn put_all<'a>(
     alloc: Global,
     line: u32,
     bindings: &Bindings<'_>,
+    wanted: &[Wanted],
     written: &'a [Argument],
 ) -> Result<Given<'a>, SourceFault>
+    requires { length wanted.now ≡ length written.now }
     ensures ok { IfOk result (λ a. given a ≡ map (put_argument bindings.now) written.now) }
-    ensures small { OnOk result (are_small_arguments (map (put_argument bindings.now) written.now) ≡ true) }
-    ensures fault { IfErr result (NoMemoryOr (IsTooDeep line (are_small_arguments (map (put_argument bindings.now) written.now)))) }
+    ensures fine { OnOk result (each_argument_codes wanted.now (map (put_argument bindings.now) written.now) ≡ []) }
+    ensures fault { IfErr result (NoMemoryOr (TellsLeftmost line (each_argument_codes wanted.now (map (put_argument bindings.now) written.now)))) }
 {
     if all_stay(bindings, written) {
-        return Ok(Given::Written(written));
+        return if all_suit(wanted, written) {
+            Ok(Given::Written(written))
+        } else {
+            Err(refused(FaultCode::BadArguments, line))
+        };
     }
     let mut arguments = Vec::with_capacity(alloc, written.len())?;
     for argument in written {
-        let argument = bindings.put_argument(alloc, line, argument)?;
+        let wanted = wanted_at(wanted, arguments.len());
+        let argument = put_one(alloc, line, bindings, wanted, argument)?;
         arguments.push(argument)?;
     }
     Ok(Given::Put(arguments))
 }
 
-// Begins a call: what its arguments say.
-fn enter<'a>(
+// What the arguments of a call of this macro say in the expansion.
+fn put_arguments<'a>(
     alloc: Global,
-    definition: &Definition<'_>,
-    bindings: &Bindings<'_>,
     line: u32,
-    depth: u32,
+    bindings: &Bindings<'_>,
+    definition: &Definition<'_>,
     written: &'a [Argument],
-    done: &mut Expansion<'_>,
 ) -> Result<Given<'a>, SourceFault>
     ensures ok { IfOk result (λ a. given a ≡ map (put_argument bindings.now) written.now) }
-    ensures counted { OnOk result (done.new ≡ record { placed = done.old.placed; count = suc done.old.count; calls = suc done.old.calls }) }
-    ensures fine { OnOk result (IsFine done.old.count (Calls line depth (Some definition.now) (map (put_argument bindings.now) written.now))) }
-    ensures shallow { OnOk result (depth ≤ 16) }
-    ensures fault { IfErr result (NoMemoryOr (TellsOf done.old.count (Calls line depth (Some definition.now) (map (put_argument bindings.now) written.now)))) }
+    ensures fine { OnOk result (called_codes (Some definition.now) (map (put_argument bindings.now) written.now) ≡ []) }
+    ensures fault { IfErr result (NoMemoryOr (TellsLeftmost line (called_codes (Some definition.now) (map (put_argument bindings.now) written.now)))) }
 {
-    let arguments = put_all(alloc, line, bindings, written)?;
-    if !definition.takes(arguments.as_slice()) {
+    if !definition.takes(written.len()) {
         return Err(refused(FaultCode::BadArguments, line));
     }
-    if depth > DEEPEST {
-        return Err(refused(FaultCode::TooLong, line));
-    }
-    done.count_call(line)?;
-    Ok(arguments)
+    put_all(alloc, line, bindings, definition.wanted(), written)
 }
 
 /// A call in a body that is expanded with these bindings, behind these macros.
@@ -91,11 +116,12 @@ pub(crate) fn call(
     ensures ok { OnOk result (Walked done.old done.new (call_in (reverse macros.now) line depth done.old.calls name.now (map (put_argument bindings.now) written.now))) }
     ensures fault { IfErr result (NoMemoryOr (TellsFirst done.old.count (call_in (reverse macros.now) line depth done.old.calls name.now (map (put_argument bindings.now) written.now)))) }
 {
+    done.count_call(line, depth)?;
     let Some(place) = find(macros, name) else {
         return Err(refused(FaultCode::UnknownName, line));
     };
     let definition = &macros[place];
-    let arguments = enter(alloc, definition, bindings, line, depth, written, done)?;
+    let arguments = put_arguments(alloc, line, bindings, definition, written)?;
     let inner = Bindings::new(definition.parameters(), arguments.as_slice(), done.calls());
     body(
         alloc,

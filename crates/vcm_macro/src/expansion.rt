@@ -1,6 +1,6 @@
 //! What has been expanded.
 
-ghost use Rattle.std.specs.Prelude.{◌≡◌, ◌≤◌, ◌∷◌, [], suc, true, false, OnOk, IfOk, IfErr};
+ghost use Rattle.std.specs.Prelude.{◌≡◌, ◌≤◌, ◌∷◌, ◌||◌, [], suc, nat_lt, true, false, OnOk, IfOk, IfErr};
 ghost use Rattle.vcm_lines.specs.Fault.{NoMemoryOr};
 ghost use Rattle.vcm_lines.specs.declared.fault.FaultCode.{FaultCode};
 ghost use Rattle.vcm_macro.specs.Walk.{Stands};
@@ -17,6 +17,9 @@ use vcm_syntax::Statement;
 
 /// The most that may count in an expanded program.
 pub(crate) const MOST: u32 = 20000;
+
+/// The deepest that calls may nest.
+const DEEPEST: u32 = 16;
 
 /// What has been expanded. Contracts see it as a `Done`.
 #[derive(Drop)]
@@ -93,13 +96,14 @@ impl<'a> Expansion<'a> {
         Ok(())
     }
 
-    /// One more call.
-    pub(crate) fn count_call(&mut self, line: u32) -> Result<(), SourceFault>
+    /// One more call, and how deep calls are nested there.
+    pub(crate) fn count_call(&mut self, line: u32, depth: u32) -> Result<(), SourceFault>
         ensures ok { OnOk result (self.new ≡ record { placed = self.old.placed; count = suc self.old.count; calls = suc self.old.calls }) }
-        ensures room { OnOk result (is_full self.old.count ≡ false) }
-        ensures fault { IfErr result (λ f. (f ≡ record { code = FaultCode.TooLong; line = line }) × (is_full self.old.count ≡ true)) }
+        ensures room { OnOk result ((nat_lt 16 depth || is_full self.old.count) ≡ false) }
+        ensures shallow { OnOk result (depth ≤ 16) }
+        ensures fault { IfErr result (λ f. (f ≡ record { code = FaultCode.TooLong; line = line }) × ((nat_lt 16 depth || is_full self.old.count) ≡ true)) }
     {
-        if self.count >= MOST {
+        if depth > DEEPEST || self.count >= MOST {
             return Err(too_long(line));
         }
         self.count += 1;

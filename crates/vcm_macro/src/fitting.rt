@@ -1,8 +1,11 @@
 //! What has to be given for the parameters of a macro.
 
-ghost use Rattle.std.specs.Prelude.{◌≡◌, map, IfOk};
+ghost use Rattle.std.specs.Prelude.{◌≡◌, ◌<◌, false, length, map, get_or, IfOk};
 ghost use Rattle.std.specs.List.{list_any};
-ghost use Rattle.vcm_macro.specs.Rules.{assigns, wanted_by, suits, all_suit};
+ghost use Rattle.vcm_substitution.specs.Sizes.{is_small_option};
+ghost use Rattle.vcm_substitution.specs.Substitution.{Scope, put_argument};
+ghost use Rattle.vcm_macro.specs.Rules.{assigns, wanted_by, suits};
+ghost use Rattle.vcm_macro.specs.inner.Suiting.{all_suit};
 
 use std::alloc::{AllocError, Global};
 use vcm_expr::Name;
@@ -67,14 +70,34 @@ pub(crate) fn all_wanted(
     Ok(all)
 }
 
-// Whether an argument will do.
-fn suits(wanted: Wanted, argument: &Argument) -> bool
+/// What has to be given in this place.
+pub(crate) fn wanted_at(all: &[Wanted], place: usize) -> Wanted
+    requires { place < length all.now }
+    ensures { result ≡ get_or all.now place result }
+{
+    all[place]
+}
+
+/// Whether an argument will do.
+pub(crate) fn suits(wanted: Wanted, argument: &Argument) -> bool
     ensures { result ≡ suits wanted argument.now }
 {
     match wanted {
         Wanted::Name => argument.name.is_some(),
         Wanted::Variable => variable_of(argument.value.as_ref()).is_some(),
         Wanted::Value => argument.value.is_some(),
+    }
+}
+
+/// Whether an argument that becomes too deep or too large will do otherwise.
+#[tactic(auto, using(crate::proofs::Sizes::deep_name, crate::proofs::Sizes::deep_variable, crate::proofs::Sizes::deep_value))]
+pub(crate) fn suits_deep(wanted: Wanted, argument: &Argument) -> bool
+    ensures { (sc : Scope) → is_small_option (put_argument sc argument.now).value ≡ false → result ≡ suits wanted (put_argument sc argument.now) }
+{
+    match wanted {
+        Wanted::Name => argument.name.is_some(),
+        Wanted::Variable => false,
+        Wanted::Value => true,
     }
 }
 

@@ -2,10 +2,9 @@
 
 ghost use Rattle.std.specs.Prelude.{◌≡◌, ◌≤◌, ◌∷◌, ℕ, [], None, Some, length, drop, suc, reverse, IfOk, IfErr};
 ghost use Rattle.vcm_lines.specs.Fault.{NoMemoryOr};
-ghost use Rattle.vcm_spec.specs.Phase.{IsClean, FirstFault};
+ghost use Rattle.vcm_spec.specs.Phase.{IsClean};
 ghost use Rattle.vcm_macro.specs.Walk.{walk, walk_from};
-ghost use Rattle.vcm_macro.specs.Rules.{BreaksMacros, macros_line, kept};
-ghost use Rattle.vcm_macro.specs.Order.{BreaksOrder};
+ghost use Rattle.vcm_macro.specs.Rules.{BreaksMacros, kept};
 ghost use Rattle.vcm_macro.specs.Computed.{macro_fault};
 ghost use Rattle.vcm_macro.specs.Expansion.{IsExpanded, IsRefused};
 ghost use Rattle.vcm_macro.specs.inner.Expanding.{TellsFirst, IsNew, IsRead, defines, behind_macro};
@@ -92,8 +91,7 @@ fn expanded<'a>(alloc: Global, statements: &'a [Statement]) -> Result<Vec<Placed
     ensures clean { IfOk result (λ _. IsClean BreaksMacros (walk statements.now)) }
     ensures ok { IfOk result (λ all. all.items ≡ kept (walk statements.now)) }
     ensures few { IfOk result (λ all. length all.items ≤ 20000) }
-    ensures fault { IfErr result (NoMemoryOr (λ f. FirstFault BreaksMacros macros_line (walk statements.now) f.code f.line)) }
-    ensures leftmost { IfErr result (NoMemoryOr (λ f. macro_fault statements.now ≡ Some f)) }
+    ensures fault { IfErr result (NoMemoryOr (λ f. macro_fault statements.now ≡ Some f)) }
 {
     let mut macros = Vec::new(alloc);
     let mut done = Expansion::new(alloc, statements.len().min(MOST as usize))?;
@@ -108,7 +106,8 @@ fn expanded<'a>(alloc: Global, statements: &'a [Statement]) -> Result<Vec<Placed
 ///
 /// # Errors
 ///
-/// The first fault of the first phase that has one, that of the order of statements or that of macros. Want of memory.
+/// The first fault of the first phase that has one, that of the order of statements or that of macros; of several faults at one place the leftmost. Want
+/// of memory.
 pub fn expand<'a>(
     alloc: Global,
     statements: &'a [Statement],
@@ -116,7 +115,6 @@ pub fn expand<'a>(
     ensures ok { IfOk result (λ all. IsExpanded statements.now all.items) }
     ensures few { IfOk result (λ all. length all.items ≤ 20000) }
     ensures fault { IfErr result (NoMemoryOr (IsRefused statements.now)) }
-    ensures leftmost { IfErr result (NoMemoryOr (λ f. IsClean BreaksOrder statements.now → macro_fault statements.now ≡ Some f)) }
 {
     check_order(statements)?;
     expanded(alloc, statements)

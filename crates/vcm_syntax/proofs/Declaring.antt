@@ -14,12 +14,12 @@ use Rattle.vcm_syntax.specs.declared.statement.Form.TheVariants.{Opening, Measur
 use Rattle.vcm_syntax.specs.declared.statement.Form.TheVariants.{Test, Otherwise, TestEnd, Repeat, RepeatEnd, Mark, Leap, Ending}
 use Rattle.vcm_syntax.specs.declared.statement.Form.TheVariants.{Feature, Measure, Touch, MeasureEnd, Configure, Shift}
 use Rattle.vcm_syntax.specs.declared.statement.Form.TheVariants.{Rotation, Restore, Query, Report, Macro, MacroEnd, Call}
-use Rattle.vcm_syntax.specs.Readers.{alone, field, some_field, each_of}
+use Rattle.vcm_syntax.specs.Readers.{end_of, field, some_field, each_of}
 use Rattle.vcm_syntax.specs.Majors.{prefix_of, major_of}
-use Rattle.vcm_syntax.specs.Places.{bare_of, titled_of, target_of, word_of, kind_of, setting_of, axis_of, system_of, unscoped, lengths_of, quoted_of, message_of}
+use Rattle.vcm_syntax.specs.Places.{bare_of, titled_of, target_of, word_of, kind_of, setting_of, axis_of, system_of, unscoped, lengths_in, quoted_of, message_of}
 use Rattle.vcm_syntax.specs.Places.{unused_of, variable_of, index_of, aim_of, named_of, source_of, test_of, spot_of}
 use Rattle.vcm_syntax.specs.Figures.{vector_of, angle_of, feature_word_of, one_of}
-use Rattle.vcm_syntax.specs.Measuring.{none_taken, offsets_of, given_of, no_more}
+use Rattle.vcm_syntax.specs.Measuring.{offsets_of, given_of, no_more}
 use Rattle.vcm_syntax.specs.Macros.{parameter_of, argument_of}
 use Rattle.vcm_syntax.specs.Forms.{temperature_of, declaration_of, step_of, notice_prefix_of, sole_of, form_of}
 use Rattle.vcm_syntax.specs.Statements.{fields_behind, mark_of, worded_of, statement_of}
@@ -42,9 +42,9 @@ behind (Err c) f h = record { names = λ form e. absurd cc }
 this : (form : Form) → DeclaresNames form → Declares (Ok form)
 this form h = record { names = λ other e. let same : form ≡ other = cc in subst DeclaresNames same h }
 
-last : {X : Type 0} (form : Form) (xs : List X) → DeclaresNames form → Declares (alone form xs)
-last form [] h = this form h
-last form (x ∷ xs) h = record { names = λ other e. absurd cc }
+-- a statement with nothing behind it
+last : {X : Type 0} (form : Form) (xs : List X) → DeclaresNames form → Declares (end_of xs >>= λ _. Ok form)
+last form xs h = behind (end_of xs) _ (λ _ _. this form h)
 
 sole : (form : Form) (p : Prefix) (fs : List (List Lexeme)) → DeclaresNames form → Declares (sole_of form p fs)
 sole form p fs h = behind (bare_of p) _ (λ _ _. last form fs h)
@@ -63,7 +63,7 @@ form major.Units p fs =
 form major.Decl p fs = behind (bare_of p) _ (λ _ _. declaration (unscoped fs))
 form major.Assign p fs = behind (target_of p) _ (λ v _. behind (field fs 0 >>= expr_of) _ (λ e _. last (Assignment v e) (drop 1 fs) tt))
 form major.Goto p fs =
-    behind (bare_of p) _ (λ _ _. behind (lengths_of fs) _ (λ ls _. behind (spot_of ls) _ (λ s _. last (Move s) (drop 3 ls) tt)))
+    behind (bare_of p) _ (λ _ _. behind (spot_of (lengths_in fs)) _ (λ s _. last (Move s) (drop 3 (lengths_in fs)) tt))
 form major.Gohome p fs = sole Home p fs tt
 form major.Text p fs =
     behind (bare_of p) _ (λ _ _. behind (field fs 0 >>= word_of (codes "OPER") Unsupported) _ (λ _ _.
@@ -91,7 +91,7 @@ form major.Endmes p fs = sole MeasureEnd p fs tt
 form major.Snset p fs =
     behind (bare_of p) _ (λ _ _. behind (field fs 0 >>= setting_of) _ (λ w _. behind (field fs 1 >>= expr_of) _ (λ e _. last (Configure w e) (drop 2 fs) tt)))
 form major.Trans p fs =
-    behind (titled_of letters.D p) _ (λ l _. behind (some_field fs) _ (λ _ _. behind (offsets_of none_taken fs) _ (λ os _. this (Shift l os) tt)))
+    behind (titled_of letters.D p) _ (λ l _. behind (some_field fs) _ (λ _ _. behind (offsets_of [] fs) _ (λ os _. this (Shift l os) tt)))
 form major.Rotate p fs =
     behind (titled_of letters.D p) _ (λ l _. behind (field fs 0 >>= axis_of) _ (λ a _. behind (field fs 1 >>= angle_of) _ (λ n _.
     last (Rotation l a n) (drop 2 fs) tt)))

@@ -114,10 +114,10 @@ abbrev pub unscoped : List (List Lexeme) → List (List Lexeme)
 unscoped ((Run w ∷ []) ∷ fs) = if is_scope w then fs else (Run w ∷ []) ∷ fs
 unscoped fs = fs
 
--- the lengths of GOTO: where four fields or more stand, those behind the word of Cartesian coordinates
-abbrev pub lengths_of : List (List Lexeme) → Result (List (List Lexeme)) FaultCode
-lengths_of [] = Ok []
-lengths_of (f ∷ fs) = if nat_le 3 (length fs) then (word_of (codes "CART") BadSyntax f >>= λ _. Ok fs) else Ok (f ∷ fs)
+-- the lengths of GOTO: the fields behind the word of Cartesian coordinates, where it stands and three or more follow it
+abbrev pub lengths_in : List (List Lexeme) → List (List Lexeme)
+lengths_in ((Run w ∷ []) ∷ fs) = if nat_le 3 (length fs) && bytes_eq w (codes "CART") then fs else (Run w ∷ []) ∷ fs
+lengths_in fs = fs
 
 -- ---- texts
 

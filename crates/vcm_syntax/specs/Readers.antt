@@ -10,10 +10,15 @@ abbrev pub or_fault : {A : Type 0} → FaultCode → Option A → Result A Fault
 or_fault e (Some x) = Ok x
 or_fault e None = Err e
 
--- this, with nothing behind it
-abbrev pub alone : {A X : Type 0} → A → List X → Result A FaultCode
+-- nothing is left
+abbrev pub end_of : {X : Type 0} → List X → Result (Unit {0}) FaultCode
+end_of [] = Ok tt
+end_of (x ∷ xs) = Err BadSyntax
+
+-- this, with no word behind it
+abbrev pub alone : {A : Type 0} → A → List Lexeme → Result A FaultCode
 alone a [] = Ok a
-alone a (x ∷ xs) = Err BadSyntax
+alone a (w ∷ ws) = Err BadSyntax
 
 -- the field at a place
 abbrev pub field : List (List Lexeme) → ℕ → Result (List Lexeme) FaultCode

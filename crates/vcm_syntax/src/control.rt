@@ -4,7 +4,7 @@ ghost use Rattle.vcm_expr.specs.Parsing.{ReadAs};
 ghost use Rattle.vcm_syntax.specs.Forms.{if_of, step_of, do_of, jumpto_of};
 
 use crate::named::{aim, index};
-use crate::places::{bare, behind, closed, field, test};
+use crate::places::{bare, behind, end, field, test};
 use crate::statement::{Form, Prefix, Rounds};
 use std::alloc::Global;
 use vcm_expr::{Expr, read_expr};
@@ -20,7 +20,8 @@ pub(crate) fn iff(
 {
     bare(line, prefix)?;
     let condition = test(alloc, line, field(line, fields, 0)?)?;
-    closed(line, behind(fields, 1), Form::Test(condition))
+    end(line, behind(fields, 1))?;
+    Ok(Form::Test(condition))
 }
 
 /// The increment of rounds, if a field is left.
@@ -31,7 +32,8 @@ fn step(alloc: Global, line: u32, fields: &[Phrase<'_>]) -> Result<Option<Expr>,
         [] => Ok(None),
         [increment, rest @ ..] => {
             let increment = read_expr(alloc, line, increment)?;
-            closed(line, rest, Some(increment))
+            end(line, rest)?;
+            Ok(Some(increment))
         }
     }
 }
@@ -62,5 +64,6 @@ pub(crate) fn jumpto(line: u32, prefix: &Prefix, fields: &[Phrase<'_>]) -> Resul
 {
     bare(line, prefix)?;
     let name = aim(line, field(line, fields, 0)?)?;
-    closed(line, behind(fields, 1), Form::Leap(name))
+    end(line, behind(fields, 1))?;
+    Ok(Form::Leap(name))
 }

@@ -10,7 +10,7 @@ use crate::macros::{call, macro_form};
 use crate::measuring::{feat, meas, obtain, output, ptmeas, recall, rotate, snset, trans};
 use crate::named::{kind, lengths, unscoped, variable};
 use crate::opening::{dmismn, units};
-use crate::places::{bare, behind, closed, field, message, some_field, spot, target, titled, word};
+use crate::places::{bare, behind, end, field, message, some_field, spot, target, titled, word};
 use crate::statement::{Form, Letter, Major, Notice, Prefix};
 use std::alloc::Global;
 use vcm_expr::{VariableName, read_expr};
@@ -66,7 +66,8 @@ fn assign(
 {
     let name = target(line, prefix)?;
     let value = read_expr(alloc, line, field(line, fields, 0)?)?;
-    closed(line, behind(fields, 1), Form::Assignment(name, value))
+    end(line, behind(fields, 1))?;
+    Ok(Form::Assignment(name, value))
 }
 
 /// Three expressions, and nothing more.
@@ -74,7 +75,8 @@ fn place(alloc: Global, line: u32, fields: &[Phrase<'_>]) -> Result<Form, Source
     ensures { ReadAs line (λ f. f) result (place_of fields.now) }
 {
     let spot = spot(alloc, line, fields)?;
-    closed(line, behind(fields, 3), Form::Move(spot))
+    end(line, behind(fields, 3))?;
+    Ok(Form::Move(spot))
 }
 
 fn goto(
@@ -86,8 +88,7 @@ fn goto(
     ensures { ReadAs line (λ f. f) result (goto_of prefix.now fields.now) }
 {
     bare(line, prefix)?;
-    let lengths = lengths(line, fields)?;
-    place(alloc, line, lengths)
+    place(alloc, line, lengths(fields))
 }
 
 fn say(
@@ -106,7 +107,8 @@ fn say(
         FaultCode::Unsupported,
     )?;
     let text = message(alloc, line, field(line, fields, 1)?)?;
-    closed(line, behind(fields, 2), Form::Say(text))
+    end(line, behind(fields, 2))?;
+    Ok(Form::Say(text))
 }
 
 /// A major word that stands alone.
@@ -114,7 +116,8 @@ fn alone(line: u32, prefix: &Prefix, fields: &[Phrase<'_>], form: Form) -> Resul
     ensures { ReadAs line (λ f. f) result (sole_of form prefix.now fields.now) }
 {
     bare(line, prefix)?;
-    closed(line, fields, form)
+    end(line, fields)?;
+    Ok(form)
 }
 
 fn notice_prefix(line: u32, notice: Notice, prefix: &Prefix) -> Result<(), SourceFault>

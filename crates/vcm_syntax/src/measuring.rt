@@ -1,13 +1,13 @@
 //! Reads the fields of the statements of frames, settings, features and measurements, each statement in its form, from the left.
 
 ghost use Rattle.vcm_expr.specs.Parsing.{ReadAs};
-ghost use Rattle.vcm_syntax.specs.Measuring.{none_taken, offsets_of, feat_of, meas_of, given_of, ptmeas_of, snset_of, trans_of, rotate_of, recall_of, obtain_of, no_more, output_of};
+ghost use Rattle.vcm_syntax.specs.Measuring.{offsets_of, feat_of, meas_of, given_of, ptmeas_of, snset_of, trans_of, rotate_of, recall_of, obtain_of, no_more, output_of};
 
 use crate::figures::{angle, feature_word, one, vector};
 use crate::named::{axis, named, setting, source};
 use crate::offsets::offsets;
 use crate::places::{
-    bare, behind, closed, field, some_field, spot, system, target, titled, unsupported, word,
+    bare, behind, end, field, some_field, spot, system, target, titled, unsupported, word,
 };
 use crate::statement::{Form, Letter, Prefix};
 use std::alloc::Global;
@@ -34,7 +34,8 @@ pub(crate) fn feat(
     system(line, field(line, fields, 1)?)?;
     let place = spot(alloc, line, behind(fields, 2))?;
     let out = vector(line, behind(fields, 5))?;
-    closed(line, behind(fields, 8), Form::Feature(name, place, out))
+    end(line, behind(fields, 8))?;
+    Ok(Form::Feature(name, place, out))
 }
 
 /// The measurement of a feature.
@@ -50,7 +51,8 @@ pub(crate) fn meas(line: u32, prefix: &Prefix, fields: &[Phrase<'_>]) -> Result<
     )?;
     let name = named(line, field(line, fields, 1)?, b"F")?;
     one(line, field(line, fields, 2)?)?;
-    closed(line, behind(fields, 3), Form::Measure(name))
+    end(line, behind(fields, 3))?;
+    Ok(Form::Measure(name))
 }
 
 /// A direction, if fields are left.
@@ -61,7 +63,8 @@ fn given(line: u32, fields: &[Phrase<'_>]) -> Result<Option<Axis>, SourceFault>
         [] => Ok(None),
         [_, rest @ ..] => {
             let axis = vector(line, fields)?;
-            closed(line, behind(rest, 2), Some(axis))
+            end(line, behind(rest, 2))?;
+            Ok(Some(axis))
         }
     }
 }
@@ -94,7 +97,8 @@ pub(crate) fn snset(
     bare(line, prefix)?;
     let which = setting(line, field(line, fields, 0)?)?;
     let length = read_expr(alloc, line, field(line, fields, 1)?)?;
-    closed(line, behind(fields, 2), Form::Configure(which, length))
+    end(line, behind(fields, 2))?;
+    Ok(Form::Configure(which, length))
 }
 
 /// The shifts of a frame.
@@ -118,7 +122,8 @@ pub(crate) fn rotate(line: u32, prefix: &Prefix, fields: &[Phrase<'_>]) -> Resul
     let name = titled(line, Letter::D, prefix)?;
     let axis = axis(line, field(line, fields, 0)?)?;
     let turns = angle(line, field(line, fields, 1)?)?;
-    closed(line, behind(fields, 2), Form::Rotation(name, axis, turns))
+    end(line, behind(fields, 2))?;
+    Ok(Form::Rotation(name, axis, turns))
 }
 
 /// A frame that is used again.
@@ -127,7 +132,8 @@ pub(crate) fn recall(line: u32, prefix: &Prefix, fields: &[Phrase<'_>]) -> Resul
 {
     bare(line, prefix)?;
     let name = named(line, field(line, fields, 0)?, b"D")?;
-    closed(line, behind(fields, 1), Form::Restore(name))
+    end(line, behind(fields, 1))?;
+    Ok(Form::Restore(name))
 }
 
 /// A word of a feature, for a variable.
@@ -137,11 +143,8 @@ pub(crate) fn obtain(line: u32, prefix: &Prefix, fields: &[Phrase<'_>]) -> Resul
     let variable = target(line, prefix)?;
     let (which, name) = source(line, field(line, fields, 0)?)?;
     let word = feature_word(line, field(line, fields, 1)?)?;
-    closed(
-        line,
-        behind(fields, 2),
-        Form::Query(variable, which, name, word),
-    )
+    end(line, behind(fields, 2))?;
+    Ok(Form::Query(variable, which, name, word))
 }
 
 /// No field; more of them are a form that is left out.

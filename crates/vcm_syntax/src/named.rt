@@ -3,12 +3,12 @@
 ghost use Rattle.std.specs.Prelude.{◌≡◌, ◌∷◌, [], ℕ, List, MatchOption};
 ghost use Rattle.vcm_lines.specs.Lexemes.{Run, Open, Close};
 ghost use Rattle.vcm_expr.specs.Parsing.{ReadAs};
-ghost use Rattle.vcm_syntax.specs.Places.{kind_word, kind_of, setting_word, setting_of, axis_word, axis_of, is_scope, unscoped, lengths_of, variable_of, index_of, aim_of, named_of, source_word, source_of};
+ghost use Rattle.vcm_syntax.specs.Places.{kind_word, kind_of, setting_word, setting_of, axis_word, axis_of, is_scope, unscoped, lengths_in, variable_of, index_of, aim_of, named_of, source_word, source_of};
 
-use crate::places::{only, sole, unsupported, word};
+use crate::places::{only, sole, unsupported};
 use crate::statement::Target;
 use vcm_expr::{Name, VariableName, is_name, is_variable_name};
-use vcm_lines::{FaultCode, Phrase, SourceFault, Token, bad_syntax};
+use vcm_lines::{Phrase, SourceFault, Token, bad_syntax};
 use vcm_num::{Kind, is, look_up};
 use vcm_spec::{FrameAxis, Setting, Source};
 
@@ -112,23 +112,16 @@ pub(crate) fn unscoped<'a, 'b>(fields: &'b [Phrase<'a>]) -> &'b [Phrase<'a>]
     }
 }
 
-/// The lengths of GOTO: where four fields or more stand, those behind the word of Cartesian coordinates.
-pub(crate) fn lengths<'a, 'b>(
-    line: u32,
-    fields: &'b [Phrase<'a>],
-) -> Result<&'b [Phrase<'a>], SourceFault>
-    ensures { ReadAs line (λ fs. fs.now) result (lengths_of fields.now) }
+/// The lengths of GOTO: the fields behind the word of Cartesian coordinates, where it stands and three or more follow it.
+pub(crate) fn lengths<'a, 'b>(fields: &'b [Phrase<'a>]) -> &'b [Phrase<'a>]
+    ensures { result.now ≡ lengths_in fields.now }
 {
     match fields {
-        [] => Ok(fields),
-        [system, rest @ ..] => {
-            if 3 <= rest.len() {
-                word(line, system, b"CART", FaultCode::BadSyntax)?;
-                Ok(rest)
-            } else {
-                Ok(fields)
-            }
-        }
+        [] => fields,
+        [first, rest @ ..] => match only(first) {
+            Some(Token::Run(word)) if 3 <= rest.len() && is(word, b"CART") => rest,
+            _ => fields,
+        },
     }
 }
 

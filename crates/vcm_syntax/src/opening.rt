@@ -3,7 +3,7 @@
 ghost use Rattle.vcm_expr.specs.Parsing.{ReadAs};
 ghost use Rattle.vcm_syntax.specs.Forms.{dmismn_of, temperature_of, units_of};
 
-use crate::places::{bare, behind, closed, field, quoted, single, unused, word};
+use crate::places::{bare, behind, end, field, quoted, single, unused, word};
 use crate::statement::{Form, Prefix};
 use vcm_lines::{FaultCode, Phrase, SourceFault};
 
@@ -25,7 +25,7 @@ fn temperature(line: u32, fields: &[Phrase<'_>]) -> Result<(), SourceFault>
         [] => Ok(()),
         [words, rest @ ..] => {
             single(line, words)?;
-            closed(line, rest, ())
+            end(line, rest)
         }
     }
 }

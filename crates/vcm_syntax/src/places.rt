@@ -4,7 +4,7 @@ ghost use Rattle.std.specs.Prelude.{◌≡◌, ◌∷◌, [], drop, MatchOption}
 ghost use Rattle.std.specs.List.{list_all};
 ghost use Rattle.vcm_lines.specs.Lexemes.{Lexeme, lexeme, is_spelled};
 ghost use Rattle.vcm_expr.specs.Parsing.{ReadAs};
-ghost use Rattle.vcm_syntax.specs.Readers.{alone, field, some_field};
+ghost use Rattle.vcm_syntax.specs.Readers.{end_of, alone, field, some_field};
 ghost use Rattle.vcm_syntax.specs.Places.{bare_of, titled_of, target_of, word_of, single_of, system_of, quoted_of, message_of, unused_of, test_of, spot_of};
 
 use crate::operator_text::OperatorText;
@@ -60,12 +60,12 @@ pub(crate) fn some_field(line: u32, fields: &[Phrase<'_>]) -> Result<(), SourceF
     }
 }
 
-/// A value, where no field is left behind those that it was read from.
-pub(crate) fn closed<T: Drop>(line: u32, fields: &[Phrase<'_>], value: T) -> Result<T, SourceFault>
-    ensures { ReadAs line (λ v. v) result (alone value fields.now) }
+/// No field is left.
+pub(crate) fn end(line: u32, fields: &[Phrase<'_>]) -> Result<(), SourceFault>
+    ensures { ReadAs line (λ u. u) result (end_of fields.now) }
 {
     match fields {
-        [] => Ok(value),
+        [] => Ok(()),
         [_, ..] => Err(bad_syntax(line)),
     }
 }

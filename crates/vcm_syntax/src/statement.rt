@@ -1,7 +1,7 @@
 //! What a statement is.
 
 ghost use Rattle.std.specs.Prelude.{◌≡◌};
-ghost use Rattle.vcm_syntax.specs.Majors.{word_of};
+ghost use Rattle.vcm_syntax.specs.Majors.{notice_word};
 
 use crate::operator_text::OperatorText;
 use vcm_expr::{Expr, Name, VariableName};
@@ -28,7 +28,7 @@ pub enum Notice {
 impl Notice {
     /// The major word, in upper case.
     pub fn word(self) -> &'static [u8]
-        ensures { result.now ≡ word_of self }
+        ensures { result.now ≡ notice_word self }
     {
         match self {
             Notice::Mode => b"MODE",

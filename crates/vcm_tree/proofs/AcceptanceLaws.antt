@@ -12,7 +12,7 @@ use Rattle.vcm_syntax.proofs.Answering.{statement_once}
 use Rattle.vcm_tree.specs.Statements.{IsSpelled, AreSpelled, BreaksStatements, statement_line}
 use Rattle.vcm_macro.specs.declared.placed.Placed.{Placed}
 use Rattle.vcm_macro.specs.Expansion.{IsExpanded, IsRefused as IsUnexpanded}
-use Rattle.vcm_macro.proofs.Answered.{either as no_refusal, line as one_told, expansion as one_expanded}
+use Rattle.vcm_macro.proofs.Answered.{either as no_refusal, refusal as one_refused, expansion as one_expanded}
 use Rattle.vcm_tree.specs.Resolving.{BreaksNames, names_line}
 use Rattle.vcm_nodes.specs.Jumps.{labels_of, jumps_of, BreaksJumps, jumps_line}
 use Rattle.vcm_spec.specs.Setup.{Tables}
@@ -132,7 +132,7 @@ one_refusal text f g (in_statements ls read p) (in_jumps ms ts more b other prog
 one_refusal text f g (in_expansion ls ss read spelled p) (in_lines q) = absurd (not_lines text ls g read q)
 one_refusal text f g (in_expansion ls ss read spelled p) (in_statements ms other q) = absurd (not_statements text ls ms ss g read spelled other q)
 one_refusal text f g (in_expansion ls ss read spelled p) (in_expansion ms ts other spelt q) =
-    one_told ts f g (subst (λ l. IsUnexpanded l f) (one_list text ls ms ss ts read other spelled spelt) p) q
+    ap (λ (x : SourceFault). x.line) (one_refused ts f g (subst (λ l. IsUnexpanded l f) (one_list text ls ms ss ts read other spelled spelt) p) q)
 one_refusal text f g (in_expansion ls ss read spelled p) (in_names ms ts more other q) = absurd (not_expansion text ms ls ts ss more f other read spelled p)
 one_refusal text f g (in_expansion ls ss read spelled p) (in_jumps ms ts more b other program q) = absurd (not_expansion text ms ls ts ss more f other read spelled p)
 one_refusal text f g (in_names ls ss all read p) (in_lines q) = absurd (not_lines text ls g read.read q)

@@ -18,6 +18,7 @@ use Rattle.vcm_substitution.specs.Kept.{is_kept}
 use Rattle.vcm_substitution.specs.Substitution.{Scope, outside, is_same, put_argument}
 use Rattle.vcm_macro.specs.Walk.{Defined, Place, Opens, Inside, Stands, Calls, calls_in, Caller, statement_in, body_in, call_in, with_statement, text_from, walk_from, walk, outside_in}
 use Rattle.std.proofs.lemmas.List.{append-nil}
+use Rattle.vcm_macro.proofs.CodesAt.{told_first}
 use Rattle.vcm_macro.proofs.Orders.{order_push}
 use Rattle.vcm_macro.proofs.Phases.{kept_few}
 use Rattle.vcm_macro.proofs.Walks.{weigh_append, kept_append}
@@ -277,9 +278,9 @@ few_one n (Inside m s) le f = omega (arith, le)
 few_one n (Stands e s) le f = by (is_kept s.form) refl
   where
     by : (b : Bool) → is_kept s.form ≡ b → n + one_if (is_kept s.form) ≤ 20000
-    by true k = rw k (room n (λ full. f TooLong (rw k full)))
+    by true k = rw k (room n (λ full. f TooLong (told_first _ TooLong _ (rw k full))))
     by false k = rw k (omega (arith, le))
-few_one n (Calls line depth m args) le f = room n (λ full. f TooLong (or_right (nat_lt 16 depth) (is_full n) full))
+few_one n (Calls line depth m args) le f = room n (λ full. f TooLong (told_first _ TooLong _ (or_right (nat_lt 16 depth) (is_full n) full)))
 
 few_from : (n : ℕ) (ps : List Place) → n ≤ 20000 → FineFrom n ps → n + weigh ps ≤ 20000
 few_from n [] le f = omega (arith, le)

@@ -3,6 +3,7 @@ use Rattle.std.specs.Borrow.{Bor}
 use Rattle.std.specs.List.{filter}
 use Rattle.std.specs.Prelude.{map, ◌≡◌, ◌⊎◌, ℕ, suc, ◌+◌, ◌<◌, ◌≤◌, length, take, drop, reverse, slice_get, Bool, true, false, List, []}
 use Rattle.std.specs.Prelude.{◌∷◌, ◌++◌, Option, Some, None, if◌then◌else◌}
+use Rattle.vcm_lines.specs.declared.fault.FaultCode.{FaultCode}
 use Rattle.vcm_lines.specs.declared.fault.SourceFault.{SourceFault}
 use Rattle.vcm_macro.specs.declared.placed.Placed.{Placed}
 use Rattle.vcm_syntax.specs.declared.statement.Argument.{Argument}
@@ -13,9 +14,9 @@ use Rattle.vcm_syntax.specs.declared.statement.Form.TheVariants.{MacroEnd, Call}
 use Rattle.vcm_syntax.specs.declared.statement.Statement.{Statement}
 use Rattle.vcm_substitution.specs.Substitution.{Scope, is_same, put_form}
 use Rattle.vcm_macro.specs.Walk.{Defined, Place, Opens, Inside, Stands, Calls, with_statement, calls_in, body_in, call_in, walk_from}
-use Rattle.vcm_macro.specs.Rules.{line_at, weight, weigh, kept}
+use Rattle.vcm_macro.specs.Rules.{codes_at, line_at, weight, weigh, kept}
 use Rattle.vcm_substitution.specs.Kept.{is_kept}
-use Rattle.vcm_macro.specs.Computed.{code_at}
+use Rattle.vcm_macro.specs.Computed.{leftmost}
 
 -- what has been expanded: the statements, how much counts, how many CALLs were carried out
 pub record Done : Type 0 where
@@ -25,21 +26,21 @@ pub record Done : Type 0 where
 
 -- a place breaks no rule
 abbrev pub IsFine : ℕ → Place → Type 0
-IsFine n p = code_at n p ≡ None
+IsFine n p = codes_at n p ≡ []
 
 -- places break no rule, one behind the other
 abbrev pub AreFine : ℕ → List Place → Type 0
 AreFine n [] = Unit {0}
 AreFine n (p ∷ ps) = IsFine n p × AreFine (n + weight p) ps
 
--- the refusal tells of this place, by its leftmost code
-abbrev pub TellsOf : ℕ → Place → SourceFault → Type 0
-TellsOf n p f = (code_at n p ≡ Some f.code) × (f.line ≡ line_at p)
+-- the refusal tells the leftmost of these codes at this line
+abbrev pub TellsLeftmost : ℕ → List FaultCode → SourceFault → Type 0
+TellsLeftmost line codes f = (leftmost codes ≡ Some f.code) × (f.line ≡ line)
 
 -- the refusal tells of the first of these places that breaks a rule
 abbrev pub TellsFirst : ℕ → List Place → SourceFault → Type 0
 TellsFirst n [] f = ⊥
-TellsFirst n (p ∷ ps) f = TellsOf n p f ⊎ (IsFine n p × TellsFirst (n + weight p) ps f)
+TellsFirst n (p ∷ ps) f = TellsLeftmost (line_at p) (codes_at n p) f ⊎ (IsFine n p × TellsFirst (n + weight p) ps f)
 
 -- these places were walked
 pub record Walked (old new : Done) (ps : List Place) : Type 0 where

@@ -1,5 +1,5 @@
 use Rattle.std.proofs.Common.{◌≡◌, length}
-use Rattle.vcm_macro.specs.Rules.{all_suit}
+use Rattle.vcm_macro.specs.inner.Suiting.{all_suit}
 use Rattle.vcm_macro.proofs.fitting.all_suit.Given as goal
 
 abbrev pub invariant-each : goal.invariant-each

@@ -4,18 +4,11 @@ use Rattle.std.proofs.lemmas.Result.{err_from_is_err_and}
 use Rattle.vcm_macro.specs.Walk.{walk}
 use Rattle.vcm_macro.proofs.Texts.{read_more, read_told}
 use Rattle.vcm_macro.proofs.Computing.{fault_computed}
-use Rattle.vcm_macro.proofs.Phases.{all_clean, refused_so, kept_few, read_is}
+use Rattle.vcm_macro.proofs.Phases.{all_clean, kept_few, read_is}
 use Rattle.vcm_macro.proofs.text.expanded.Goals as goal
 
 pub returns-in_err-rest-clause-fault : goal.returns-in_err-rest-clause-fault
 returns-in_err-rest-clause-fault c =
-    let p = err_from_is_err_and c.from_residual-in_err-rest.result c.from_residual-in_err-rest.ensures.1 in
-    rw (p.1, p.2) (refused_so (walk c.args.statements.now) _
-    (read_told [] c.text.macros.items (record { placed = []; count = 0; calls = 0 }) c.text.done c.args.statements.now c.text.rest.now _ c.text.invariant
-    (rw c.in-Some.ensures.cases.0 c.in_err-rest.ensures.fault)))
-
-pub returns-in_err-rest-clause-leftmost : goal.returns-in_err-rest-clause-leftmost
-returns-in_err-rest-clause-leftmost c =
     let p = err_from_is_err_and c.from_residual-in_err-rest.result c.from_residual-in_err-rest.ensures.1 in
     rw (p.1, p.2) (fault_computed c.args.statements.now _
     (read_told [] c.text.macros.items (record { placed = []; count = 0; calls = 0 }) c.text.done c.args.statements.now c.text.rest.now _ c.text.invariant
