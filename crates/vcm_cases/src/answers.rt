@@ -2,7 +2,9 @@
 
 use std::alloc::Global;
 use std::fmt::Write as _;
-use vcm_command::{Message, NoticeLine, check_message, part_file_message, run_message, status_of};
+use vcm_command::{
+    Message, NoticeLine, asm_message, check_message, part_file_message, run_message, status_of,
+};
 use vcm_job::{asm, build, check, debug, list, part_from, run};
 use vcm_motion::Strips;
 use vcm_part::PartData;
@@ -92,6 +94,15 @@ fn is_assembled(alloc: Global, listing: &[u8], program: &str) -> Option<bool> {
     let image = asm(alloc, &mut listing).ok()?;
     let built = build(alloc, &mut input).ok()?;
     Some(image.as_slice() == built.image.as_slice())
+}
+
+/// What the assembly of a listing answers.
+pub(crate) fn asm_answer(alloc: Global, listing: &str) -> Option<String> {
+    let mut listing = listing.as_bytes();
+    match asm(alloc, &mut listing) {
+        Ok(_) => printed(alloc, &[], &[], 0),
+        Err(fault) => told(alloc, asm_message(fault, "the listing")),
+    }
 }
 
 /// The listing of a program, where its image is that of the program.

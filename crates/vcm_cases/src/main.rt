@@ -1,8 +1,9 @@
 //! Worked examples: reads workpieces, programs and commands from standard input, with what vcm answers to each, and tells where it answers
-//! something else. `docs/CASES.md` has the form of the text.
+//! something else. `docs/CASES.md` has the form of the text. The examples of `vcm explain` are tried, too.
 #![tactic(auto)]
 
 mod answers;
+mod explained;
 mod script;
 mod tally;
 
@@ -20,7 +21,7 @@ fn main(rt: HostRuntime) -> ExitCode {
             return ExitCode::FAILURE;
         }
     }
-    if script.end(rt.alloc()).is_none() {
+    if script.end(rt.alloc()).is_none() || script.explanations(rt.alloc()).is_none() {
         return ExitCode::FAILURE;
     }
     let (wrong, right) = (script.tally().wrong(), script.tally().right());

@@ -1,6 +1,7 @@
 //! The text of worked examples, line by line.
 
 use crate::answers::{check_answer, listing, replies, run_answer};
+use crate::explained::judge_examples;
 use crate::tally::{MARK, Tally};
 use std::alloc::Global;
 use vcm_test_texts::program_of;
@@ -153,6 +154,11 @@ impl Script {
         let program = program_of(alloc, &statement)?;
         let found = check_answer(alloc, &program);
         self.tally.judge(&self.title, &program, &wanted, found)
+    }
+
+    /// Judges the examples of explanations; none where memory runs out.
+    pub(crate) fn explanations(&mut self, alloc: Global) -> Option<()> {
+        judge_examples(alloc, &mut self.tally)
     }
 
     /// How the answers were.

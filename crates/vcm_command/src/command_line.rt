@@ -37,6 +37,10 @@ pub enum Request<'a> {
         listing: &'a str,
         image: &'a str,
     },
+    /// `explain [WORD ..]`: what a code or a message means.
+    Explain {
+        words: &'a [String],
+    },
 }
 
 /// The number of steps where `--steps` isn't given.
@@ -69,51 +73,67 @@ const LISTING: Word = ("LISTING", "The listing of a code");
 
 const IMAGE: Word = ("IMAGE", "The file that the image is written to");
 
-// A command: its name, what it does, the words behind it, which all have to be there, and whether it takes `--steps`.
+// What else a command takes.
+#[derive(Clone, Copy)]
+enum More {
+    Nothing,
+    /// `--steps N`.
+    Steps,
+    /// Any words.
+    Words,
+}
+
+// A command: its name, what it does, the words behind it, which all have to be there, and what else it takes.
 #[derive(Clone, Copy)]
 struct Form {
     name: &'static str,
     about: &'static str,
     words: &'static [Word],
-    has_steps: bool,
+    more: More,
 }
 
-const FORMS: [Form; 6] = [
+const FORMS: [Form; 7] = [
     Form {
         name: "check",
         about: "Tells whether a program is accepted, and how many statements it has",
         words: &[PROGRAM],
-        has_steps: false,
+        more: More::Nothing,
     },
     Form {
         name: "build",
         about: "Writes the image of a program",
         words: &[PROGRAM, IMAGE],
-        has_steps: false,
+        more: More::Nothing,
     },
     Form {
         name: "run",
         about: "Runs a program or an image beside a workpiece, and prints the result",
         words: &[INPUT, PART],
-        has_steps: true,
+        more: More::Steps,
     },
     Form {
         name: "debug",
         about: "Answers the commands of standard input, a line each, on a program or an image",
         words: &[INPUT, PART],
-        has_steps: false,
+        more: More::Nothing,
     },
     Form {
         name: "list",
         about: "Prints the listing of a program or an image",
         words: &[INPUT],
-        has_steps: false,
+        more: More::Nothing,
     },
     Form {
         name: "asm",
         about: "Writes the image of a listing",
         words: &[LISTING, IMAGE],
-        has_steps: false,
+        more: More::Nothing,
+    },
+    Form {
+        name: "explain",
+        about: "Tells what a code or a message means and what to do; without words, which there are",
+        words: &[],
+        more: More::Words,
     },
 ];
 
@@ -124,6 +144,14 @@ fn required<'a>(alloc: Global, word: Word) -> Arg<'a> {
         .required(true)
         .action(ArgAction::Set)
         .help(help)
+}
+
+// Any words.
+fn any_words<'a>(alloc: Global) -> Arg<'a> {
+    Arg::new(alloc, "WORD")
+        .num_args(0..)
+        .action(ArgAction::Set)
+        .help("A code, as E14, or a message of vcm")
 }
 
 // `--steps N`.
@@ -143,21 +171,24 @@ fn with_words<'a>(alloc: Global, form: Form) -> Result<Command<'a>, Error> {
     Ok(command)
 }
 
-// The command, with `--steps` where it takes it.
+// The command, with all that it takes.
 fn subcommand_of<'a>(alloc: Global, form: Form) -> Result<Command<'a>, Error> {
     let command = with_words(alloc, form)?;
-    if form.has_steps {
-        Ok(command.arg(steps_option(alloc))?)
-    } else {
-        Ok(command)
+    match form.more {
+        More::Nothing => Ok(command),
+        More::Steps => Ok(command.arg(steps_option(alloc))?),
+        More::Words => Ok(command.arg(any_words(alloc))?),
     }
 }
 
-// The program with its commands.
-fn command_of<'a>(alloc: Global) -> Result<Command<'a>, Error> {
-    let mut vcm = Command::new(alloc, "vcm").version("0.1.0").about(
-        "A virtual coordinate measuring machine. Without words it reads a job from standard input",
-    );
+// The program with its commands, one of which has to stand there where there are words.
+fn command_of<'a>(alloc: Global, has_words: bool) -> Result<Command<'a>, Error> {
+    let mut vcm = Command::new(alloc, "vcm")
+        .version("0.1.0")
+        .about(
+            "A virtual coordinate measuring machine. Without words it reads a job from standard input",
+        )
+        .subcommand_required(has_words);
     for form in FORMS {
         vcm = vcm.subcommand(subcommand_of(alloc, form)?)?;
     }
@@ -199,12 +230,23 @@ fn request_behind<'a>(name: &str, behind: &ArgMatches<'a>) -> Request<'a> {
     }
 }
 
+// The words behind the program's name and a command.
+fn words_behind(words: &[String]) -> &[String] {
+    match words {
+        [_, _, rest @ ..] => rest,
+        _ => &[],
+    }
+}
+
 /// The request of a command line, whose first word is the program's name.
 ///
 /// Errors: a wrong command line, a request for help or the version, or want of memory.
 pub fn request_of<'a>(alloc: Global, words: &'a [String]) -> Result<Request<'a>, Error> {
-    let matches = command_of(alloc)?.try_get_matches_from(words)?;
+    let matches = command_of(alloc, words.len() > 1)?.try_get_matches_from(words)?;
     match matches.subcommand() {
+        Some(("explain", _)) => Ok(Request::Explain {
+            words: words_behind(words),
+        }),
         Some((name, behind)) => Ok(request_behind(name, behind)),
         None => Ok(Request::Job),
     }

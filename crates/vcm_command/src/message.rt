@@ -34,6 +34,8 @@ pub enum Message<'a> {
     TooLong,
     #[error("usage: a word of the command line is no text")]
     Usage,
+    #[error("usage: nothing is known of {words}")]
+    Unknown { words: &'a str },
     #[error("usage: --steps wants decimal digits, a number from 0 to 1000000000")]
     Steps,
 }
@@ -288,7 +290,7 @@ pub fn status_of(message: Message<'_>) -> u8 {
     match message {
         Message::Source { .. } | Message::Block { .. } => 1,
         Message::Part { .. } | Message::Image { .. } => 1,
-        Message::Usage | Message::Steps => 2,
+        Message::Usage | Message::Steps | Message::Unknown { .. } => 2,
         Message::NoMemory | Message::Halted { .. } => 5,
         Message::Read { .. } | Message::Write { .. } | Message::TooLong => 6,
     }

@@ -1,6 +1,7 @@
 //! The program: its words are read, and the command is carried out on the standard devices and files.
 
 use crate::command_line::{Request, request_of, steps_of};
+use crate::explaining::explain;
 use crate::message::{
     Message, NoticeLine, asm_message, build_message, check_message, debug_message, job_message,
     list_message, part_file_message, run_message, status_of,
@@ -9,7 +10,7 @@ use clap::Error;
 use clap::error::ErrorKind;
 use std::alloc::Global;
 use std::fmt::{self, Write as _};
-use std::io::{self, BufWriter, Printer, Write};
+use std::io::{self, BufWriter, Printer, Read, Write};
 use std::rt::{Env, Files};
 use vcm_job::{Done, asm, build, check, debug, job, list, part_from, run};
 use vcm_num::write_all;
@@ -17,7 +18,7 @@ use vcm_part::PartData;
 use vcm_tree::Noticed;
 
 // Tells a fault on standard error, and gives its exit status.
-fn fails<R: Eprint>(rt: &R, message: Message<'_>) -> u8 {
+pub(crate) fn fails<R: Eprint>(rt: &R, message: Message<'_>) -> u8 {
     let _ = eprintln!(rt; "{message}");
     status_of(message)
 }
@@ -26,12 +27,14 @@ fn fails<R: Eprint>(rt: &R, message: Message<'_>) -> u8 {
 const BUFFER: usize = 65_536;
 
 // Standard output, through a buffer.
-fn output<R: Print + AllocGlobal>(rt: &R) -> Result<BufWriter<Printer<'_, R>>, Message<'static>> {
+pub(crate) fn output<R: Print + AllocGlobal>(
+    rt: &R,
+) -> Result<BufWriter<Printer<'_, R>>, Message<'static>> {
     BufWriter::with_capacity(rt.alloc(), BUFFER, io::writer(rt)).map_err(|_| Message::NoMemory)
 }
 
 // What was done. The buffer is written before it is told, behind a fault too; where only that fails, it is the fault.
-fn written<'a, T: Drop, W: Write>(
+pub(crate) fn written<'a, T: Drop, W: Write>(
     out: &mut W,
     done: Result<T, Message<'a>>,
 ) -> Result<T, Message<'a>> {
@@ -122,7 +125,7 @@ fn check_file<'a, R: Files + Print + AllocGlobal>(
 }
 
 // Writes an image to a file, tells the lines that have no effect, and gives the exit status. Where the write fails, a front of the image stands
-// in the file, which is none.
+// in the file, which is none. The file is let go before anything is told: where standard error is closed, the file may have its number.
 fn write_image<R: Files + Eprint + AllocGlobal>(
     rt: &R,
     name: &str,
@@ -132,7 +135,9 @@ fn write_image<R: Files + Eprint + AllocGlobal>(
     let Ok(mut file) = std::fs::create(rt, name) else {
         return fails(rt, Message::Write { name });
     };
-    match write_all(&mut file, image) {
+    let done = write_all(&mut file, image);
+    drop(file);
+    match done {
         Ok(()) => {
             tell_notices(rt, notices);
             0
@@ -207,13 +212,18 @@ fn run_file<'a, R: Files + Print + AllocGlobal>(
 }
 
 // Answers the commands of standard input on the program or image of a file beside the workpiece of another one, which is judged first. Each
-// reply is handed on at once.
+// reply is handed on at once. A read of no byte shows whether standard input is open: where it is closed, the file would get its number.
 fn debug_file<'a, R: Files + Input + Print + AllocGlobal>(
     rt: &R,
     name: &'a str,
     part: &'a str,
 ) -> Result<Vec<Noticed>, Message<'a>> {
     let part = part_of(rt, part)?;
+    let Ok(_) = rt.reader().read(&mut []) else {
+        return Err(Message::Read {
+            name: "standard input",
+        });
+    };
     let Ok(mut file) = std::fs::open(rt, name) else {
         return Err(Message::Read { name });
     };
@@ -268,6 +278,7 @@ pub fn status<R: Env + Files + Input + Print + Eprint + AllocGlobal>(rt: &R) -> 
         Ok(Request::Debug { input, part }) => status_of_notices(rt, debug_file(rt, input, part)),
         Ok(Request::List { input }) => status_of_notices(rt, list_file(rt, input)),
         Ok(Request::Asm { listing, image }) => asm_file(rt, listing, image),
+        Ok(Request::Explain { words }) => explain(rt, words),
         Err(error) => tell_usage(rt, &error),
     }
 }

@@ -184,4 +184,20 @@ fn wrong_command_lines(rt: HostRuntime) {
         assert!(rt; fault_of(rt.alloc(), texts) == Some((kind, status)));
     }
     assert!(rt; fault_of(rt.alloc(), &["vcm", "measure"]).is_some());
+    assert!(rt; fault_of(rt.alloc(), &["vcm", "--"]) == Some((ErrorKind::MissingSubcommand, 2)));
+}
+
+// How many words are to be explained by a command line, if it asks for that.
+fn explained_words(alloc: Global, texts: &[&str]) -> Option<usize> {
+    let words = words(alloc, texts)?;
+    match request_of(alloc, words.as_slice()) {
+        Ok(Request::Explain { words }) => Some(words.len()),
+        _ => None,
+    }
+}
+
+#[test]
+fn words_to_be_explained(rt: HostRuntime) {
+    assert!(rt; explained_words(rt.alloc(), &["vcm", "explain"]) == Some(0));
+    assert!(rt; explained_words(rt.alloc(), &["vcm", "explain", "E14", "line", "3"]) == Some(3));
 }

@@ -4,6 +4,8 @@
 #[cfg(test)]
 mod command_tests;
 #[cfg(test)]
+mod explain_tests;
+#[cfg(test)]
 mod fault_tests;
 #[cfg(test)]
 mod input_tests;

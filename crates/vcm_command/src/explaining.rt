@@ -1,0 +1,67 @@
+//! Explanations, on the standard devices.
+
+use crate::message::Message;
+use crate::program::{fails, output, written};
+use std::alloc::Global;
+use std::fmt::Write as _;
+use std::io::Write;
+use vcm_explain::{EXPLANATIONS, explanation};
+use vcm_num::write_all;
+
+// The titles of all explanations, a line each.
+fn titles(alloc: Global) -> Result<String, Message<'static>> {
+    let mut text = String::new(alloc);
+    for entries in EXPLANATIONS {
+        for entry in entries {
+            if writeln!(text, "{}", entry.title()).is_err() {
+                return Err(Message::NoMemory);
+            }
+        }
+    }
+    Ok(text)
+}
+
+// Prints a text on standard output.
+fn print_text<R: Print + AllocGlobal>(rt: &R, text: &str) -> Result<(), Message<'static>> {
+    let mut out = output(rt)?;
+    let done = write_all(&mut out, text.as_bytes()).map_err(|_| Message::Write {
+        name: "standard output",
+    });
+    written(&mut out, done)
+}
+
+// Tells on standard error that nothing is known of these words, and of what something is.
+fn tell_unknown<R: Eprint + AllocGlobal>(rt: &R, words: &str) -> Result<u8, Message<'static>> {
+    let titles = titles(rt.alloc())?;
+    let status = fails(rt, Message::Unknown { words });
+    let _ = eprint!(rt; "{titles}");
+    Ok(status)
+}
+
+// Prints what words mean, or where there are none, of what something is known.
+fn explained<R: Print + Eprint + AllocGlobal>(
+    rt: &R,
+    words: &[String],
+) -> Result<u8, Message<'static>> {
+    if words.is_empty() {
+        print_text(rt, &titles(rt.alloc())?)?;
+        return Ok(0);
+    }
+    let Ok(words) = words.join(rt.alloc(), " ") else {
+        return Err(Message::NoMemory);
+    };
+    let Some(entry) = explanation(&words) else {
+        return tell_unknown(rt, &words);
+    };
+    print_text(rt, entry.text())?;
+    print_text(rt, "\n")?;
+    Ok(0)
+}
+
+/// Prints what a code or a message means, and gives the exit status: 0, or 2 where nothing is known of it.
+pub(crate) fn explain<R: Print + Eprint + AllocGlobal>(rt: &R, words: &[String]) -> u8 {
+    match explained(rt, words) {
+        Ok(status) => status,
+        Err(message) => fails(rt, message),
+    }
+}

@@ -1,0 +1,39 @@
+//! One explanation, and which words it explains.
+
+/// What is known of a refusal, a stop or another message: the words that it goes by, and the text, which begins with them.
+#[derive(Clone, Copy)]
+pub struct Entry {
+    pub(crate) keys: &'static [&'static str],
+    pub(crate) text: &'static str,
+}
+
+// Whether words are these, whatever their case, or go on behind them after a blank or a colon.
+fn begins(words: &[u8], key: &[u8]) -> bool {
+    if words.len() < key.len() || !words[..key.len()].eq_ignore_ascii_case(key) {
+        return false;
+    }
+    match words.get(key.len()) {
+        None => true,
+        Some(byte) => *byte == b' ' || *byte == b':',
+    }
+}
+
+impl Entry {
+    /// The text: the code and its name or the words of the message, then what it means, what to do, and examples.
+    pub fn text(&self) -> &'static str {
+        self.text
+    }
+
+    /// The first line of the text.
+    pub fn title(&self) -> &'static str {
+        match self.text.split_once('\n') {
+            Some((title, _)) => title,
+            None => self.text,
+        }
+    }
+
+    // Whether words name this one.
+    pub(crate) fn explains(&self, words: &[u8]) -> bool {
+        self.keys.iter().any(|key| begins(words, key.as_bytes()))
+    }
+}
