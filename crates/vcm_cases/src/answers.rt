@@ -105,6 +105,20 @@ pub(crate) fn asm_answer(alloc: Global, listing: &str) -> Option<String> {
     }
 }
 
+/// The bytes of a program's image, in hexadecimal, 32 in a line.
+pub(crate) fn image(alloc: Global, program: &str) -> Option<String> {
+    let mut input = program.as_bytes();
+    let built = build(alloc, &mut input).ok()?;
+    let mut text = String::new(alloc);
+    for bytes in built.image.chunks(32) {
+        for byte in bytes {
+            write!(text, "{byte:02x}").ok()?;
+        }
+        writeln!(text).ok()?;
+    }
+    Some(text)
+}
+
 /// The listing of a program, where its image is that of the program.
 pub(crate) fn listing(alloc: Global, program: &str) -> Option<String> {
     let mut input = program.as_bytes();

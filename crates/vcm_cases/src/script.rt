@@ -1,6 +1,6 @@
 //! The text of worked examples, line by line.
 
-use crate::answers::{check_answer, listing, replies, run_answer};
+use crate::answers::{check_answer, image, listing, replies, run_answer};
 use crate::explained::judge_examples;
 use crate::tally::{MARK, Tally};
 use std::alloc::Global;
@@ -27,6 +27,8 @@ enum Heading {
     Replies,
     /// The listing.
     Listing,
+    /// The bytes of the image.
+    Image,
     /// Statements, a line each, whose programs are refused with the code and name that the heading has.
     Refused,
     /// None of these.
@@ -69,6 +71,7 @@ fn heading_word(title: &str) -> Heading {
         "check" => Heading::Check,
         "replies" => Heading::Replies,
         "listing" => Heading::Listing,
+        "image" => Heading::Image,
         _ => Heading::Unknown,
     }
 }
@@ -80,6 +83,7 @@ fn answer(alloc: Global, script: &Script) -> Option<String> {
         Heading::Check => check_answer(alloc, &script.program),
         Heading::Replies => replies(alloc, &script.part, &script.program, &script.commands),
         Heading::Listing => listing(alloc, &script.program),
+        Heading::Image => image(alloc, &script.program),
         _ => None,
     }
 }
