@@ -3,7 +3,7 @@ use Rattle.std.proofs.Common.{◌≡◌, ℕ, suc, ◌+◌, ◌≤◌, Bool, tru
 use Rattle.std.specs.Prelude.{IsTrue, map, nat_lt, if◌then◌else◌}
 use Rattle.std.specs.List.{AllByRecursion}
 use Rattle.vcm_lines.specs.declared.fault.FaultCode.{FaultCode}
-use Rattle.vcm_lines.specs.declared.fault.FaultCode.TheVariants.{BadOrder, TooLong}
+use Rattle.vcm_lines.specs.declared.fault.FaultCode.TheVariants.{TooDeep, BadOrder, TooLong}
 use Rattle.vcm_spec.specs.Phase.{IsClean}
 use Rattle.vcm_expr.specs.Symbols.{IsVariableName}
 use Rattle.vcm_syntax.specs.declared.statement.Argument.{Argument}
@@ -13,8 +13,9 @@ use Rattle.vcm_syntax.specs.declared.statement.Statement.{Statement}
 use Rattle.vcm_macro.specs.declared.placed.Placed.{Placed}
 use Rattle.vcm_macro.specs.Expansion.{IsExpanded}
 use Rattle.vcm_macro.specs.Order.{nothing_before, is_ending, is_open_behind, order_after, wants_units, is_misplaced, BreaksOrder}
-use Rattle.vcm_macro.specs.Rules.{is_there, one_if, is_full, weight, weigh, kept, BreaksBehind, BreaksMacros}
+use Rattle.vcm_macro.specs.Rules.{is_there, one_if, is_full, weight, weigh, kept, code_if, called_codes, BreaksBehind, BreaksMacros}
 use Rattle.vcm_substitution.specs.Kept.{is_kept}
+use Rattle.vcm_substitution.specs.Sizes.{are_small}
 use Rattle.vcm_substitution.specs.Substitution.{Scope, outside, is_same, put_argument}
 use Rattle.vcm_macro.specs.Walk.{Defined, Place, Opens, Inside, Stands, Calls, calls_in, Caller, statement_in, body_in, call_in, with_statement, text_from, walk_from, walk, outside_in}
 use Rattle.std.proofs.lemmas.List.{append-nil}
@@ -278,9 +279,9 @@ few_one n (Inside m s) le f = omega (arith, le)
 few_one n (Stands e s) le f = by (is_kept s.form) refl
   where
     by : (b : Bool) → is_kept s.form ≡ b → n + one_if (is_kept s.form) ≤ 20000
-    by true k = rw k (room n (λ full. f TooLong (told_first _ TooLong _ (rw k full))))
+    by true k = rw k (room n (λ full. f TooLong (told_first (is_kept s.form && is_full n) TooLong (code_if (not (are_small s.form)) TooDeep) (rw k full))))
     by false k = rw k (omega (arith, le))
-few_one n (Calls line depth m args) le f = room n (λ full. f TooLong (told_first _ TooLong _ (or_right (nat_lt 16 depth) (is_full n) full)))
+few_one n (Calls line depth m args) le f = room n (λ full. f TooLong (told_first (nat_lt 16 depth || is_full n) TooLong (called_codes m args) (or_right (nat_lt 16 depth) (is_full n) full)))
 
 few_from : (n : ℕ) (ps : List Place) → n ≤ 20000 → FineFrom n ps → n + weigh ps ≤ 20000
 few_from n [] le f = omega (arith, le)
