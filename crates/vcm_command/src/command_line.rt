@@ -137,6 +137,11 @@ const FORMS: [Form; 7] = [
     },
 ];
 
+/// The name of a command, of which there are some, counted from 0.
+pub fn command_name(index: usize) -> Option<&'static str> {
+    FORMS.get(index).map(|form| form.name)
+}
+
 // A word that has to be there.
 fn required<'a>(alloc: Global, word: Word) -> Arg<'a> {
     let (name, help) = word;
