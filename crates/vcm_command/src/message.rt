@@ -231,8 +231,8 @@ pub fn asm_message<'a>(fault: AsmFault, name: &'a str) -> Message<'a> {
     }
 }
 
-// How the fault of a session's commands and replies is told.
-fn serve_message(fault: ServeFault) -> Message<'static> {
+/// How the fault of a session's commands and replies is told.
+pub fn serve_message(fault: ServeFault) -> Message<'static> {
     match fault {
         ServeFault::Read => Message::Read {
             name: "standard input",

@@ -48,6 +48,62 @@ fn back_shows_what_fewer_steps_show(rt: HostRuntime) {
     }
 }
 
+// The state of the loop behind so many steps, fewer than 200,000, as it is shown.
+fn state_behind(alloc: Global, steps: u64) -> Option<String> {
+    let (next, line) = if steps == 0 {
+        (0, 4)
+    } else if steps % 2 == 1 {
+        (1, 5)
+    } else {
+        (2, 6)
+    };
+    let value = steps.div_ceil(2);
+    let lines = steps / 2;
+    let last = if lines == 0 { "" } else { "A\n" };
+    format!(in alloc; "step {steps} next {next} line {line}\nI {value}\nlines {lines}\n{last}").ok()
+}
+
+// Whether so many single steps back from some of 5,000 steps each show the state behind the steps that are left.
+fn are_shown(alloc: Global, from: u64, count: u64) -> Option<bool> {
+    let first = 5000_u64.saturating_sub(from);
+    let mut commands = format!(in alloc; "step 5000\nback {first}\n").ok()?;
+    let mut expected = String::new(alloc);
+    for gone in 1..=count {
+        commands.push_str("back\nshow I\nout 1\n").ok()?;
+        let state = state_behind(alloc, from.saturating_sub(gone))?;
+        expected.push_str(state.as_str()).ok()?;
+    }
+    expected.push_str("bye\n").ok()?;
+    let (out, end) = session(alloc, MANY, commands.as_bytes())?;
+    Some(end.is_ok() && out.as_slice().ends_with(expected.as_bytes()))
+}
+
+#[test]
+fn each_step_back(rt: HostRuntime) {
+    for from in [4_999, 2_500] {
+        assert!(rt; are_shown(rt.alloc(), from, 2_500) == Some(true), "{from}");
+    }
+}
+
+// Whether so many steps back from 1,100 steps the state behind the steps that are left is shown.
+fn is_back(alloc: Global, back: u64) -> Option<bool> {
+    let commands = format!(in alloc; "step 1100\nback {back}\nshow I\nout 1\n").ok()?;
+    let (out, end) = session(alloc, MANY, commands.as_bytes())?;
+    let state = state_behind(alloc, 1100_u64.saturating_sub(back))?;
+    let expected = joined(
+        alloc,
+        &["step 1100 next 2 line 6\n", state.as_str(), "bye\n"],
+    )?;
+    Some(end.is_ok() && out.as_slice() == expected.as_bytes())
+}
+
+#[test]
+fn each_number_of_steps_back(rt: HostRuntime) {
+    for back in 1..=1_100 {
+        assert!(rt; is_back(rt.alloc(), back) == Some(true), "{back}");
+    }
+}
+
 // A workpiece that counts the moves that it is asked about.
 #[derive(Clone, Copy)]
 struct Counting<'a> {

@@ -71,6 +71,39 @@ fn blanks_and_ends_of_lines(rt: HostRuntime) {
     }
 }
 
+#[test]
+fn numbers_of_steps_and_lines(rt: HostRuntime) {
+    let rows: [(&[&str], &str); 4] = [
+        (&["step 1000000", "run 1000000"], "step 8 stop ENDED\n"),
+        (&["out 1000000"], "lines 0\n"),
+        (&["back 1000000"], "G05 BeforeStart\n"),
+        (
+            &[
+                "step 1000001",
+                "run 1000001",
+                "out 1000001",
+                "back 1000001",
+                "step 0",
+                "run 0",
+                "out 0",
+                "back 0",
+            ],
+            "G04 CountOutOfRange\n",
+        ),
+    ];
+    for (commands, reply) in rows {
+        assert!(rt; wrong_answer(rt.alloc(), commands, reply).is_none());
+    }
+}
+
+#[test]
+fn as_many_steps_as_may_be(rt: HostRuntime) {
+    let commands = "step 1000000\nrun 1000000\nback 1000000\n";
+    let expected =
+        "step 1000000 next 0 line 3\ncount step 2000000 next 0 line 3\nstep 1000000 next 0 line 3\nbye\n";
+    assert!(rt; replies(rt.alloc(), "(A)\nJUMPTO/(A)\n", commands, expected) == Some(true));
+}
+
 // A line of so many bytes, and how it is answered.
 fn long_line(alloc: Global, blanks: usize, expected: &str) -> Option<bool> {
     let mut commands = String::new(alloc);
@@ -113,5 +146,38 @@ fn too_many_lines(rt: HostRuntime) {
         (10_000, "bye\n", Ok(())),
     ] {
         assert!(rt; empty_lines(rt.alloc(), count, expected, told) == Some(true));
+    }
+}
+
+// Whether this is written to a line of so many blanks and these commands, and serving ends so.
+fn long_commands(
+    alloc: Global,
+    blanks: usize,
+    commands: &str,
+    expected: &str,
+    told: Result<(), ServeFault>,
+) -> Option<bool> {
+    let mut text = vec![in alloc; b' '; blanks].ok()?;
+    text.extend_from_slice(commands.as_bytes()).ok()?;
+    let (out, end) = session(alloc, THREE, &text)?;
+    Some(end == told && out.as_slice() == expected.as_bytes())
+}
+
+#[test]
+fn too_many_bytes(rt: HostRuntime) {
+    let refused = "G01 UnknownCommand\n";
+    let both = "G01 UnknownCommand\nbye\n";
+    let more = Err(ServeFault::TooMuch);
+    for (blanks, commands, expected, told) in [
+        (1_048_576, "", both, Ok(())),
+        (1_048_577, "", "", more),
+        (1_048_575, "\n", both, Ok(())),
+        (1_048_575, "\n\n", refused, more),
+        (1_048_570, "\nquit\n", both, Ok(())),
+        (1_048_570, "\nquit\nquit\n", both, Ok(())),
+        (1_048_571, "\nquit\n", refused, more),
+    ] {
+        let found = long_commands(rt.alloc(), blanks, commands, expected, told);
+        assert!(rt; found == Some(true), "{blanks} {commands}");
     }
 }

@@ -4,6 +4,8 @@
 #[cfg(test)]
 mod back_tests;
 #[cfg(test)]
+mod copy_tests;
+#[cfg(test)]
 mod debug_tests;
 #[cfg(test)]
 mod image_tests;

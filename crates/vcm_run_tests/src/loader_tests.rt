@@ -5,7 +5,7 @@ use crate::plain::judged;
 use std::alloc::Global;
 use vcm_code::Op;
 use vcm_fields::ImageFault;
-use vcm_loader::{ItemSlice, load};
+use vcm_loader::{ItemSlice, TextSlice, load};
 use vcm_spec::{Item, Operand};
 use vcm_test_texts::{MOVE, changed};
 
@@ -127,6 +127,51 @@ fn first_items(alloc: Global, bytes: &[u8]) -> Option<ItemSlice<'_>> {
 fn items_outlive_what_was_loaded(rt: HostRuntime) {
     let first = first_items(rt.alloc(), &MOVE).and_then(|items| items.split_first());
     assert!(rt; matches!(first, Some((Item::Push(Operand::Integer(20)), _))));
+}
+
+// The names of the first variable, the first feature and the first frame, when what was loaded is gone.
+fn first_names(
+    alloc: Global,
+    bytes: &[u8],
+) -> Option<(TextSlice<'_>, TextSlice<'_>, TextSlice<'_>)> {
+    let loaded = load(alloc, bytes).ok()?;
+    if loaded.variable_count() == 0 || loaded.feature_count() == 0 || loaded.frame_count() == 0 {
+        return None;
+    }
+    let variable = loaded.variable(0);
+    Some((variable.name(), loaded.feature(0), loaded.frame(0)))
+}
+
+// The text of the first statement, when what was loaded is gone.
+fn first_text(alloc: Global, bytes: &[u8]) -> Option<TextSlice<'_>> {
+    let loaded = load(alloc, bytes).ok()?;
+    if loaded.statement_count() == 0 {
+        return None;
+    }
+    match &loaded.statement(0).op {
+        Op::Text(text) => Some(text.again()),
+        _ => None,
+    }
+}
+
+// Whether the names and the text of a program's image are read behind the end of what was loaded.
+fn are_read(alloc: Global) -> Option<bool> {
+    let program =
+        "TEXT/OPER,'a text'\nDECL/INTGR,I1\nF(P1)=FEAT/POINT,CART,0,0,0,0,0,1\nD(D1)=TRANS/XORIG,0\n";
+    let image = image_of(alloc, program)?;
+    let (variable, feature, frame) = first_names(alloc, &image)?;
+    let text = first_text(alloc, &image)?;
+    Some(
+        variable.as_bytes() == b"I1".as_slice()
+            && feature.as_bytes() == b"P1".as_slice()
+            && frame.as_bytes() == b"D1".as_slice()
+            && text.as_bytes() == b"a text".as_slice(),
+    )
+}
+
+#[test]
+fn names_and_texts_outlive_what_was_loaded(rt: HostRuntime) {
+    assert!(rt; are_read(rt.alloc()) == Some(true));
 }
 
 // The value of the third expression of the first statement, if it is a move.

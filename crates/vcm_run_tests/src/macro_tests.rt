@@ -3,7 +3,7 @@
 use crate::runs::is_refused;
 use std::alloc::Global;
 use vcm_lines::{FaultCode, SourceFault};
-use vcm_test_texts::program_of;
+use vcm_test_texts::{joined, program_of};
 use vcm_tree::accept;
 
 // How many statements these are, behind their expansion.
@@ -121,6 +121,39 @@ fn long_bodies(rt: HostRuntime) {
         line: 2001,
     };
     assert!(rt; are_too_many(rt.alloc(), 9_000, 9_000, fault) == Some(true));
+}
+
+// Behind these lines a macro of 9,998 texts and two calls of it, which are 19,998 of the counted lines.
+fn behind(alloc: Global, lines: &str) -> Option<String> {
+    let head = joined(alloc, &[lines, "M(A)=MACRO\n"])?;
+    let text = "TEXT/OPER,'A'\n";
+    stretched(alloc, head.as_str(), text, 9_998, "CALL/M(A)\n", 2)
+}
+
+// How many statements the program of these lines and such a macro is.
+fn most(alloc: Global, lines: &str) -> Option<usize> {
+    count_of(alloc, &behind(alloc, lines)?)
+}
+
+// Whether it is refused at its end.
+fn is_one_too_many(alloc: Global, lines: &str) -> Option<bool> {
+    let fault = SourceFault {
+        code: FaultCode::TooLong,
+        line: 10_007,
+    };
+    Some(is_refused(alloc, &behind(alloc, lines)?, fault))
+}
+
+#[test]
+fn as_many_statements_as_may_be(rt: HostRuntime) {
+    assert!(rt; most(rt.alloc(), "TEXT/OPER,'B'\n") == Some(19_998));
+    assert!(rt; most(rt.alloc(), "DECL/INTGR,R\n") == Some(19_997));
+    for lines in [
+        "TEXT/OPER,'B'\nTEXT/OPER,'B'\n",
+        "DECL/INTGR,R\nTEXT/OPER,'B'\n",
+    ] {
+        assert!(rt; is_one_too_many(rt.alloc(), lines) == Some(true), "{lines}");
+    }
 }
 
 // The statements of so many labels, and a jump to each of them.

@@ -1,7 +1,7 @@
 //! Runs of whole programs: the values of variables, the limit of the output, and runs of images.
 
 use crate::image_tests::image_of;
-use crate::runs::{has_values, is_printed, shows};
+use crate::runs::{has_values, is_printed, prints, shows};
 use std::alloc::Global;
 use vcm_fields::ImageFault;
 use vcm_motion::Blocks;
@@ -96,6 +96,45 @@ fn words_of_features(rt: HostRuntime) {
     }
 }
 
+// Whether a setting may have this length, or stops at it.
+fn may_be(alloc: Global, setting: &str, length: &str) -> Option<bool> {
+    let statement = joined(alloc, &["SNSET/", setting, ",", length, "\n"])?;
+    let well = "stop ENDED\nposition 0.000 0.000 100.000\nsteps 2\n";
+    let bad = "stop BADSETTING at 0 line 3\nposition 0.000 0.000 100.000\nsteps 1\n";
+    if prints(alloc, ONE_BLOCK, statement.as_str(), 9, well) {
+        return Some(true);
+    }
+    if prints(alloc, ONE_BLOCK, statement.as_str(), 9, bad) {
+        return Some(false);
+    }
+    None
+}
+
+#[test]
+fn lengths_of_settings(rt: HostRuntime) {
+    for (setting, length, wanted) in [
+        ("APPRCH", "0", false),
+        ("APPRCH", "0.001", true),
+        ("APPRCH", "1000", true),
+        ("APPRCH", "1000.001", false),
+        ("RETRCT", "0", false),
+        ("RETRCT", "0.001", true),
+        ("RETRCT", "1000", true),
+        ("RETRCT", "1000.001", false),
+        ("SEARCH", "-0.001", false),
+        ("SEARCH", "0", true),
+        ("SEARCH", "1000", true),
+        ("SEARCH", "1000.001", false),
+        ("DEPTH", "-0.001", false),
+        ("DEPTH", "0", true),
+        ("DEPTH", "1000", true),
+        ("DEPTH", "1000.001", false),
+    ] {
+        let found = may_be(rt.alloc(), setting, length);
+        assert!(rt; found == Some(wanted), "{setting} {length}");
+    }
+}
+
 // Whether a run has filled the output, and stopped at the text on line 5.
 fn is_full(summary: &Summary) -> bool {
     let place = StopPlace {
@@ -121,7 +160,7 @@ fn too_many_lines(rt: HostRuntime) {
     );
 }
 
-// Whether the run of an image beside one block passes a test. No other function owns the summary of an image.
+// Whether at most ten steps of an image beside one block pass a test. No other function owns the summary of an image.
 fn judged<F: Fn(&Result<Summary, ImageFault>) -> bool>(
     alloc: Global,
     image: &[u8],
@@ -131,17 +170,22 @@ fn judged<F: Fn(&Result<Summary, ImageFault>) -> bool>(
 {
     let file = joined(alloc, &[BOUNDS, ONE_BLOCK])?;
     let part = read_part(alloc, file.as_bytes()).ok()?;
-    let answer = run_image(alloc, &Blocks::new(&part), image, 100);
+    let answer = run_image(alloc, &Blocks::new(&part), image, 10);
     Some(test(&answer))
 }
 
-// Whether the run of a program's image prints this, and gives no notice.
-fn image_prints(alloc: Global, statements: &str, output: &str) -> Option<bool> {
-    let image = image_of(alloc, statements)?;
-    judged(alloc, &image, |answer| match answer {
+// Whether the run of an image prints this, and gives no notice.
+fn image_prints(alloc: Global, image: &[u8], output: &str) -> Option<bool> {
+    judged(alloc, image, |answer| match answer {
         Ok(summary) => is_printed(alloc, summary, output) && summary.notices().is_empty(),
         Err(_) => false,
     })
+}
+
+// The same of a program's image.
+fn built_prints(alloc: Global, statements: &str, output: &str) -> Option<bool> {
+    let image = image_of(alloc, statements)?;
+    image_prints(alloc, &image, output)
 }
 
 #[test]
@@ -156,8 +200,20 @@ fn runs_of_images(rt: HostRuntime) {
             "stop COLLISION MOVE block 1 permille 888 at 0 line 3\nposition 0.000 0.000 100.000\nsteps 1\n",
         ),
     ] {
-        assert!(rt; image_prints(rt.alloc(), statements, output) == Some(true));
+        assert!(rt; built_prints(rt.alloc(), statements, output) == Some(true));
     }
+}
+
+// Whether the run of the image of a move with a byte in another one's place prints this, and gives no notice.
+fn changed_prints(alloc: Global, place: usize, byte: u8, output: &str) -> Option<bool> {
+    let image = changed(alloc, &MOVE, place, byte)?;
+    image_prints(alloc, &image, output)
+}
+
+#[test]
+fn the_run_of_a_changed_image(rt: HostRuntime) {
+    let output = "stop ENDED\nposition 21.000 20.000 50.000\nsteps 2\n";
+    assert!(rt; changed_prints(rt.alloc(), 24, 21, output) == Some(true));
 }
 
 // Whether the run of the image of a move with a byte in another one's place is refused so.

@@ -1,13 +1,13 @@
 //! Jobs and checks whose devices fail, whose input is too long, or whose part is refused.
 
+use crate::devices::{Failing, Full};
 use crate::job_tests::job_of;
 use std::alloc::Global;
 use std::io;
-use std::io::{ErrorKind, Read, Write};
+use std::io::Read;
 use vcm_command::{Message, job_message};
-use vcm_debug::ServeFault;
-use vcm_job::{CheckFault, DebugFault, JobFault, check, debug, job};
-use vcm_part::{PartCode, PartFault, read_part};
+use vcm_job::{CheckFault, JobFault, check, job};
+use vcm_part::{PartCode, PartFault};
 use vcm_run::Refusal;
 use vcm_test_texts::{BOUNDS, ONE_BLOCK, joined, program_of};
 
@@ -57,58 +57,16 @@ fn marks_of_jobs(rt: HostRuntime) {
     }
 }
 
-// Gives seven bytes at each call, and fails at the call of a number.
-#[derive(Drop)]
-struct Failing<'a> {
-    bytes: &'a [u8],
-    calls: usize,
-    failing: usize,
-}
-
-impl Read for Failing<'_> {
-    fn read(&mut self, buf: &mut [u8]) -> io::Result<usize> {
-        self.calls = self.calls.saturating_add(1);
-        if self.calls == self.failing {
-            return Err(io::Error::from(ErrorKind::Other));
-        }
-        let n = buf.len().min(7).min(self.bytes.len());
-        buf[..n].copy_from_slice(&self.bytes[..n]);
-        self.bytes = &self.bytes[n..];
-        Ok(n)
-    }
-}
-
-// Takes three bytes at each call, and fails at the call of a number.
-#[derive(Drop)]
-struct Full {
-    taken: Vec<u8>,
-    calls: usize,
-    failing: usize,
-}
-
-impl Write for Full {
-    fn write(&mut self, buf: &[u8]) -> io::Result<usize> {
-        self.calls = self.calls.saturating_add(1);
-        if self.calls == self.failing {
-            return Err(io::Error::from(ErrorKind::Other));
-        }
-        let n = buf.len().min(3);
-        self.taken.extend_from_slice(&buf[..n])?;
-        Ok(n)
-    }
-
-    fn flush(&mut self) -> io::Result<()> {
-        Ok(())
-    }
-}
-
 // The job of one output line.
 fn one_line(alloc: Global) -> Option<String> {
     let program = program_of(alloc, "TEXT/OPER,'A'\n")?;
     job_of(alloc, ONE_BLOCK, program.as_str())
 }
 
-// Whether a job tells that its reader failed at this call, and writes nothing.
+// What the job of one output line writes.
+const WHOLE: &str = "A\nstop ENDED\nposition 0.000 0.000 100.000\nsteps 2\n";
+
+// Whether a job whose reader fails at this call writes all, where the call never comes, or tells it and writes nothing.
 fn read_fails(alloc: Global, failing: usize) -> bool {
     let Some(text) = one_line(alloc) else {
         return false;
@@ -119,32 +77,33 @@ fn read_fails(alloc: Global, failing: usize) -> bool {
         failing,
     };
     let mut out = Vec::new(alloc);
-    job(alloc, &mut reader, &mut out).err() == Some(JobFault::Read) && out.is_empty()
+    match job(alloc, &mut reader, &mut out) {
+        Ok(done) => done.status == 0
+            && out.as_slice() == WHOLE.as_bytes()
+            && reader.calls < failing,
+        Err(fault) => fault == JobFault::Read && out.is_empty() && reader.calls == failing,
+    }
 }
 
 #[test]
 fn each_read_fails(rt: HostRuntime) {
-    for failing in 1..=10usize {
+    for failing in 1..=40usize {
         assert!(rt; read_fails(rt.alloc(), failing), "{failing}");
     }
 }
 
-// Whether a job whose writer fails at this call writes all, where the call never comes, or tells it and wrote a front that is not all.
-fn write_fails(alloc: Global, failing: usize) -> bool {
+// Whether a job whose writer fails at this call, or takes no byte, writes all, where the call never comes, or tells it and wrote a front that is not all.
+fn write_fails(alloc: Global, failing: usize, fails: bool) -> bool {
     let Some(text) = one_line(alloc) else {
         return false;
     };
-    let whole = b"A\nstop ENDED\nposition 0.000 0.000 100.000\nsteps 2\n";
+    let whole = WHOLE.as_bytes();
     let mut input = text.as_bytes();
-    let mut writer = Full {
-        taken: Vec::new(alloc),
-        calls: 0,
-        failing,
-    };
+    let mut writer = Full::new(alloc, failing, fails);
     let answer = job(alloc, &mut input, &mut writer);
     let taken = writer.taken.as_slice();
     match answer {
-        Ok(done) => done.status == 0 && taken == whole.as_slice() && writer.calls < failing,
+        Ok(done) => done.status == 0 && taken == whole && writer.calls < failing,
         Err(fault) => {
             fault == JobFault::Write { done: 2 }
                 && taken.len() < whole.len()
@@ -157,7 +116,8 @@ fn write_fails(alloc: Global, failing: usize) -> bool {
 #[test]
 fn each_write_fails(rt: HostRuntime) {
     for failing in 1..=30usize {
-        assert!(rt; write_fails(rt.alloc(), failing), "{failing}");
+        assert!(rt; write_fails(rt.alloc(), failing, true), "{failing}");
+        assert!(rt; write_fails(rt.alloc(), failing, false), "{failing}");
     }
 }
 
@@ -208,11 +168,7 @@ fn checks_fail(alloc: Global) -> bool {
     let mut out = Vec::new(alloc);
     let is_read = check(alloc, &mut reader, &mut out).err() == Some(CheckFault::Read);
     let mut input = text.as_bytes();
-    let mut writer = Full {
-        taken: Vec::new(alloc),
-        calls: 0,
-        failing: 2,
-    };
+    let mut writer = Full::new(alloc, 2, true);
     let is_written = check(alloc, &mut input, &mut writer).err() == Some(CheckFault::Write);
     is_read && out.is_empty() && is_written && writer.taken.as_slice() == b"ok ".as_slice()
 }
@@ -220,69 +176,4 @@ fn checks_fail(alloc: Global) -> bool {
 #[test]
 fn devices_of_checks(rt: HostRuntime) {
     assert!(rt; checks_fail(rt.alloc()));
-}
-
-// The commands of a short session, and what it replies.
-const COMMANDS: &str = "where\nstep\nout\nquit\n";
-
-const REPLIES: &str = "step 0 next 0 line 3\nstep 1 next 1 line 4\nlines 1\nA\nbye\n";
-
-// What a session on a program of one output line answers, between these devices.
-fn session<R: Read, W: Write>(
-    alloc: Global,
-    commands: &mut R,
-    writer: &mut W,
-) -> Option<Option<DebugFault>> {
-    let file = joined(alloc, &[BOUNDS, ONE_BLOCK])?;
-    let part = read_part(alloc, file.as_bytes()).ok()?;
-    let program = program_of(alloc, "TEXT/OPER,'A'\n")?;
-    let mut input = program.as_bytes();
-    Some(debug(alloc, &part, &mut input, commands, writer).err())
-}
-
-// Whether a session whose commands fail at this call tells that, and has written a front of its replies.
-fn commands_fail(alloc: Global, failing: usize) -> bool {
-    let mut commands = Failing {
-        bytes: COMMANDS.as_bytes(),
-        calls: 0,
-        failing,
-    };
-    let mut out = Vec::new(alloc);
-    let told = session(alloc, &mut commands, &mut out);
-    told == Some(Some(DebugFault::Serve(ServeFault::Read)))
-        && REPLIES.as_bytes().starts_with(out.as_slice())
-}
-
-#[test]
-fn each_read_of_commands_fails(rt: HostRuntime) {
-    for failing in 1..=3usize {
-        assert!(rt; commands_fail(rt.alloc(), failing), "{failing}");
-    }
-}
-
-// Whether a session whose replies fail at this call writes all, where the call never comes, or tells it and wrote a front that is not all.
-fn replies_fail(alloc: Global, failing: usize) -> bool {
-    let mut commands = COMMANDS.as_bytes();
-    let mut writer = Full {
-        taken: Vec::new(alloc),
-        calls: 0,
-        failing,
-    };
-    let told = session(alloc, &mut commands, &mut writer);
-    let whole = REPLIES.as_bytes();
-    let taken = writer.taken.as_slice();
-    if writer.calls < failing {
-        told == Some(None) && taken == whole
-    } else {
-        told == Some(Some(DebugFault::Serve(ServeFault::Write)))
-            && taken.len() < whole.len()
-            && whole.starts_with(taken)
-    }
-}
-
-#[test]
-fn each_write_of_replies_fails(rt: HostRuntime) {
-    for failing in 1..=40usize {
-        assert!(rt; replies_fail(rt.alloc(), failing), "{failing}");
-    }
 }

@@ -1,4 +1,4 @@
-//! Jobs: a line without effect, and as many variables as may be.
+//! Jobs: a line without effect, and as many names as may be.
 
 use std::alloc::Global;
 use vcm_command::{job_message, source_message};
@@ -87,26 +87,40 @@ fn a_line_without_effect(rt: HostRuntime) {
     assert!(rt; prints(rt.alloc(), ONE_BLOCK, "MODE/MAN\n", output, 0));
 }
 
-// Declarations of so many variables, one on each line.
-fn declarations(alloc: Global, count: u32) -> Option<String> {
+// So many lines, each with its number between these texts.
+fn numbered(alloc: Global, before: &str, after: &str, count: u32) -> Option<String> {
     let mut text = String::new(alloc);
     for number in 0..count {
-        writeln!(text, "DECL/INTGR,V{number}").ok()?;
+        writeln!(text, "{before}{number}{after}").ok()?;
     }
     Some(text)
 }
 
+// Whether 4,096 such lines are taken, and end behind so many steps.
+fn most_are_taken(alloc: Global, before: &str, after: &str, steps: &str) -> Option<bool> {
+    let most = numbered(alloc, before, after, 4_096)?;
+    let stop = "stop ENDED\nposition 0.000 0.000 100.000\nsteps ";
+    let output = joined(alloc, &[stop, steps, "\n"])?;
+    Some(prints(alloc, ONE_BLOCK, most.as_str(), output.as_str(), 0))
+}
+
+// Whether 4,097 such lines are refused, at the last one.
+fn more_are_refused(alloc: Global, before: &str, after: &str) -> Option<bool> {
+    let more = numbered(alloc, before, after, 4_097)?;
+    let code = FaultCode::TooManyNames;
+    Some(is_refused(alloc, more.as_str(), code, 4_099))
+}
+
 #[test]
-fn as_many_variables_as_may_be(rt: HostRuntime) {
-    let output = "stop ENDED\nposition 0.000 0.000 100.000\nsteps 1\n";
-    let is_taken = match declarations(rt.alloc(), 4_096) {
-        Some(most) => prints(rt.alloc(), ONE_BLOCK, most.as_str(), output, 0),
-        None => false,
-    };
-    assert!(rt; is_taken);
-    let is_more = match declarations(rt.alloc(), 4_097) {
-        Some(more) => is_refused(rt.alloc(), more.as_str(), FaultCode::TooManyNames, 4_099),
-        None => false,
-    };
-    assert!(rt; is_more);
+fn as_many_names_as_may_be(rt: HostRuntime) {
+    for (before, after, steps) in [
+        ("DECL/INTGR,V", "", "1"),
+        ("F(", ")=FEAT/POINT,CART,0,0,0,0,0,1", "4097"),
+        ("D(", ")=TRANS/XORIG,0", "4097"),
+    ] {
+        let is_taken = most_are_taken(rt.alloc(), before, after, steps);
+        assert!(rt; is_taken == Some(true), "{before}");
+        let is_more = more_are_refused(rt.alloc(), before, after);
+        assert!(rt; is_more == Some(true), "{before}");
+    }
 }

@@ -4,6 +4,8 @@
 #[cfg(test)]
 mod command_tests;
 #[cfg(test)]
+mod devices;
+#[cfg(test)]
 mod explain_tests;
 #[cfg(test)]
 mod fault_tests;
@@ -13,3 +15,5 @@ mod input_tests;
 mod job_tests;
 #[cfg(test)]
 mod message_tests;
+#[cfg(test)]
+mod session_tests;

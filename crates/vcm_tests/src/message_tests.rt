@@ -2,12 +2,17 @@
 
 use std::alloc::Global;
 use vcm_command::{
-    Message, NoticeLine, build_message, check_message, image_message, job_message,
-    part_file_message, part_message, run_message, source_message, status_of,
+    Message, NoticeLine, asm_message, build_message, check_message, debug_message, image_message,
+    job_message, list_message, listing_message, part_file_message, part_message, run_message,
+    serve_message, source_message, status_of,
 };
+use vcm_debug::ServeFault;
 use vcm_fields::ImageFault;
-use vcm_job::{BuildFault, CheckFault, JobFault, PartFileFault, RunFault};
+use vcm_job::{
+    AsmFault, BuildFault, CheckFault, DebugFault, JobFault, PartFileFault, PrintFault, RunFault,
+};
 use vcm_lines::{FaultCode, SourceFault};
+use vcm_listing::{ListCode, ListFault};
 use vcm_part::{PartCode, PartFault};
 use vcm_run::Refusal;
 
@@ -177,6 +182,70 @@ fn faults_of_checks(rt: HostRuntime) {
             6,
         ),
         (Message::Usage, usage, 2),
+    ];
+    assert!(rt; all_told(rt.alloc(), &rows));
+}
+
+#[test]
+fn refusals_of_listings(rt: HostRuntime) {
+    for (code, line, text, status) in [
+        (ListCode::NoMemory, 0, "no memory", 5),
+        (ListCode::BadLine, 1, "L01 BadLine line 1", 1),
+        (ListCode::BadNumber, 12, "L02 BadNumber line 12", 1),
+        (ListCode::OutOfOrder, 6, "L03 OutOfOrder line 6", 1),
+        (ListCode::NotValid, 20_003, "L04 NotValid line 20003", 1),
+    ] {
+        let fault = ListFault { code, line };
+        let message = listing_message(fault);
+        assert!(rt; is_told(rt.alloc(), message, text, status), "{text}");
+        let message = asm_message(AsmFault::Refused(fault), "a");
+        assert!(rt; is_told(rt.alloc(), message, text, status), "{text}");
+    }
+}
+
+#[test]
+fn faults_of_lists(rt: HostRuntime) {
+    let code = FaultCode::JumpInward;
+    let refused = PrintFault::Refused(Refusal::Source(SourceFault { code, line: 4 }));
+    let image = PrintFault::Image(ImageFault::Short);
+    let (read, write) = ("cannot read a.vcm", "cannot write standard output");
+    let (memory, long) = ("no memory", "input too long");
+    let rows: [(Message<'_>, &str, u8); 9] = [
+        (list_message(refused, "a.vcm"), "E17 JumpInward line 4", 1),
+        (list_message(image, "a.vcm"), "I02 Short", 1),
+        (list_message(PrintFault::NoMemory, "a.vcm"), memory, 5),
+        (list_message(PrintFault::Read, "a.vcm"), read, 6),
+        (list_message(PrintFault::Write, "a.vcm"), write, 6),
+        (list_message(PrintFault::TooLong, "a.vcm"), long, 6),
+        (asm_message(AsmFault::NoMemory, "a.vcm"), memory, 5),
+        (asm_message(AsmFault::Read, "a.vcm"), read, 6),
+        (asm_message(AsmFault::TooLong, "a.vcm"), long, 6),
+    ];
+    assert!(rt; all_told(rt.alloc(), &rows));
+}
+
+#[test]
+fn faults_of_sessions(rt: HostRuntime) {
+    let code = FaultCode::JumpInward;
+    let refused = DebugFault::Refused(Refusal::Source(SourceFault { code, line: 4 }));
+    let image = DebugFault::Image(ImageFault::BadVersion);
+    let commands = DebugFault::Serve(ServeFault::Read);
+    let replies = DebugFault::Serve(ServeFault::Write);
+    let more = DebugFault::Serve(ServeFault::TooMuch);
+    let (file, read) = ("cannot read a.vcm", "cannot read standard input");
+    let (write, long) = ("cannot write standard output", "input too long");
+    let rows: [(Message<'_>, &str, u8); 11] = [
+        (debug_message(refused, "a.vcm"), "E17 JumpInward line 4", 1),
+        (debug_message(image, "a.vcm"), "I03 BadVersion", 1),
+        (debug_message(DebugFault::NoMemory, "a.vcm"), "no memory", 5),
+        (debug_message(DebugFault::Read, "a.vcm"), file, 6),
+        (debug_message(DebugFault::TooLong, "a.vcm"), long, 6),
+        (debug_message(commands, "a.vcm"), read, 6),
+        (debug_message(replies, "a.vcm"), write, 6),
+        (debug_message(more, "a.vcm"), long, 6),
+        (serve_message(ServeFault::Read), read, 6),
+        (serve_message(ServeFault::Write), write, 6),
+        (serve_message(ServeFault::TooMuch), long, 6),
     ];
     assert!(rt; all_told(rt.alloc(), &rows));
 }

@@ -1,0 +1,60 @@
+//! Copies of a machine.
+
+use crate::image_tests::image_of;
+use std::alloc::Global;
+use vcm_loader::{Loaded, load};
+use vcm_machine::Machine;
+use vcm_motion::{Blocks, Part};
+use vcm_part::read_part;
+use vcm_spec::Stop;
+use vcm_test_texts::{BOUNDS, ONE_BLOCK, joined};
+
+// A loop in a loop, with a jump out of both.
+const AGAIN: &str =
+    "DECL/INTGR,I,J,K\n(AGAIN)\nDO/I,1,2\nDO/J,1,2+K\nIF/(K.EQ.0)\nK=ASSIGN/1\nJUMPTO/(AGAIN)\nENDIF\nTEXT/OPER,'X'\nENDDO\nENDDO\n";
+
+// Whether a machine has ended behind 27 steps, with six lines and these values of its variables.
+fn ends<P: Part>(alloc: Global, machine: &mut Machine<'_, P>) -> bool {
+    let ran = machine.run(alloc, 1000);
+    let world = machine.world();
+    let stop = world.stop();
+    ran.done == 27
+        && matches!(stop, Some(place) if matches!(place.stop, Stop::Ended))
+        && world.lines().text() == b"X\nX\nX\nX\nX\nX\n".as_slice()
+        && world.variables() == [3, 4, 1].as_slice()
+}
+
+// Whether a machine behind ten steps has no line yet, and a copy of it and then the machine end so.
+fn both_end<P: Part>(alloc: Global, machine: &mut Machine<'_, P>) -> bool {
+    let ran = machine.run(alloc, 10);
+    if ran.done != 10 || machine.world().lines().len() != 0 {
+        return false;
+    }
+    let copy_ends = match &mut machine.copy(alloc) {
+        Ok(copy) => ends(alloc, copy),
+        Err(_) => false,
+    };
+    copy_ends && machine.world().stop().is_none() && ends(alloc, machine)
+}
+
+// The same of a new machine on what was loaded.
+fn both_end_on<P: Part>(alloc: Global, loaded: &Loaded<'_>, part: &P) -> bool {
+    match &mut Machine::new(alloc, loaded, part) {
+        Ok(machine) => both_end(alloc, machine),
+        Err(_) => false,
+    }
+}
+
+// The same beside one block.
+fn copies_end(alloc: Global) -> Option<bool> {
+    let file = joined(alloc, &[BOUNDS, ONE_BLOCK])?;
+    let part = read_part(alloc, file.as_bytes()).ok()?;
+    let image = image_of(alloc, AGAIN)?;
+    let loaded = load(alloc, &image).ok()?;
+    Some(both_end_on(alloc, &loaded, &Blocks::new(&part)))
+}
+
+#[test]
+fn a_copy_runs_to_the_same_end(rt: HostRuntime) {
+    assert!(rt; copies_end(rt.alloc()) == Some(true));
+}
