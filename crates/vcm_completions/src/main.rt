@@ -10,6 +10,9 @@ use vcm_command::command_name;
 /// The files.
 const FILES: [&str; 4] = ["vcm.1", "vcm.bash", "_vcm", "vcm.fish"];
 
+/// More commands than there are.
+const MOST: usize = 100;
+
 /// The options of the command line.
 const OPTIONS: [&str; 3] = ["steps", "help", "version"];
 
@@ -27,14 +30,17 @@ fn missing(alloc: Global, name: &str, text: &str) -> Option<String> {
             writeln!(found, "{name} lacks {option}").ok()?;
         }
     }
-    let mut index = 0;
-    'commands: while let Some(command) = command_name(index) {
+    let mut count: u32 = 0;
+    for index in 0..MOST {
+        let Some(command) = command_name(index) else {
+            break;
+        };
         if !names(text, command) {
             writeln!(found, "{name} lacks {command}").ok()?;
         }
-        index += 1;
+        count = count.saturating_add(1);
     }
-    writeln!(found, "{name} names {index} commands").ok()?;
+    writeln!(found, "{name} names {count} commands").ok()?;
     Some(found)
 }
 
