@@ -17,4 +17,4 @@ pub use copying::{Branches, Expression, Line};
 pub use op::{Op, OwnedOp, OwnedStatement, Statement};
 pub use pair::Pair;
 pub use validity::is_valid;
-pub use version::{Version, version_for};
+pub use version::{Version, has_selection, version_for};

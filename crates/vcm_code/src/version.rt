@@ -25,8 +25,8 @@ fn is_selection(op: &OwnedOp) -> bool
     }
 }
 
-// Whether one of these statements is.
-fn has_selection(statements: &[OwnedStatement]) -> bool
+/// Whether one of these statements is SELECT, CASE, ENDCAS, DFTCAS or ENDSEL, which the first version doesn't have.
+pub fn has_selection(statements: &[OwnedStatement]) -> bool
     ensures { result ≡ has_selection (statements_of statements.now) }
 {
     for statement in statements {
