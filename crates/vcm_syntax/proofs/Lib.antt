@@ -12,3 +12,4 @@ pub mod MacroOnce
 pub mod Calling
 pub mod FormLaws
 pub mod OnceLaws
+pub mod ChoosingLaws

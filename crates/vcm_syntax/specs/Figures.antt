@@ -4,6 +4,7 @@ use Rattle.std.specs.Prelude.{true, false, List, [], ◌∷◌, Option, Some, No
 use Rattle.std.specs.Ordering.{int_eq}
 use Rattle.vcm_num.specs.declared.axis.Axis.{Axis}
 use Rattle.vcm_num.specs.declared.axis.Axis.TheVariants.{PlusX, MinusX, PlusY, MinusY, PlusZ, MinusZ}
+use Rattle.vcm_num.specs.declared.number.Fault.{Fault}
 use Rattle.vcm_num.specs.declared.number.Literal.{Literal}
 use Rattle.vcm_num.specs.declared.number.Literal.TheVariants.{Int, Thousandths}
 use Rattle.vcm_num.specs.declared.read.NumFault.{NumFault}
@@ -18,6 +19,7 @@ use Rattle.vcm_spec.specs.declared.words.FeatureWord.TheVariants as words
 use Rattle.vcm_expr.specs.Digits.{read_of}
 use Rattle.vcm_syntax.specs.declared.figures.Figure.{Figure}
 use Rattle.vcm_spec.specs.Results.{◌>>=◌}
+use Rattle.vcm_num.specs.Number.{checked}
 
 -- what is there, or the fault
 abbrev pub or_fault : {A : Type 0} → FaultCode → Option A → Result A FaultCode
@@ -51,6 +53,24 @@ abbrev pub figure_of : List Lexeme → Result Figure FaultCode
 figure_of (Minus ∷ ws) = digits_of true ws
 figure_of (Plus ∷ ws) = digits_of false ws
 figure_of ws = digits_of false ws
+
+-- a whole number that 64 bits hold, or a wrong form
+abbrev pub or_bad : Result ℤ Fault → Result ℤ FaultCode
+or_bad (Ok z) = Ok z
+or_bad (Err e) = Err BadSyntax
+
+-- the whole number that a literal is behind a sign; one with decimals is none
+abbrev pub integer_from : Bool → Literal → Result ℤ FaultCode
+integer_from minus (Int n) = if minus then or_bad (checked (neg_ℤ n)) else Ok n
+integer_from minus (Thousandths t) = Err BadSyntax
+
+-- the whole number that is written, without decimals
+abbrev pub integer_by : Figure → Result ℤ FaultCode
+integer_by f = integer_from f.minus f.literal
+
+-- a whole number, or a wrong form
+abbrev pub integer_of : List Lexeme → Result ℤ FaultCode
+integer_of ws = figure_of ws >>= integer_by
 
 -- whether a literal is this whole number; its decimals may be zeros
 abbrev pub is_plain : Literal → ℤ → Bool

@@ -3,11 +3,11 @@
 ghost use Rattle.std.specs.Prelude.{◌≡◌, Ok, Err, MatchResult};
 ghost use Rattle.vcm_expr.specs.Digits.{read_of};
 ghost use Rattle.vcm_expr.specs.Parsing.{At};
-ghost use Rattle.vcm_syntax.specs.Figures.{figure_by, alone, signed_alone, digits_of, figure_of, is_plain, is_whole, are_whole, direction_by, vector_of, quarters_by, angle_of, word_by, feature_word_of, one_of};
+ghost use Rattle.vcm_syntax.specs.Figures.{figure_by, alone, signed_alone, digits_of, figure_of, or_bad, integer_from, integer_by, integer_of, is_plain, is_whole, are_whole, direction_by, vector_of, quarters_by, angle_of, word_by, feature_word_of, one_of};
 
 use crate::places::unsupported;
 use vcm_lines::{FaultCode, Phrase, SourceFault, Token};
-use vcm_num::{Axis, Literal, NumFault, read_number};
+use vcm_num::{Axis, Literal, NumFault, neg, read_number};
 use vcm_spec::{FeatureWord, Quarters};
 
 /// A number literal with its sign.
@@ -104,6 +104,36 @@ pub(crate) fn read_figure(line: u32, words: &Phrase<'_>) -> Result<Figure, Sourc
 {
     match figure_of(words) {
         Ok(figure) => Ok(figure),
+        Err(code) => Err(SourceFault { code, line }),
+    }
+}
+
+/// The whole number that is written, without decimals.
+fn integer_by(figure: Figure) -> Result<i64, FaultCode>
+    ensures { result ≡ integer_by figure }
+{
+    match figure.literal {
+        Literal::Int(whole) => {
+            if figure.minus {
+                match neg(whole) {
+                    Ok(number) => Ok(number),
+                    Err(_) => Err(FaultCode::BadSyntax),
+                }
+            } else {
+                Ok(whole)
+            }
+        }
+        Literal::Thousandths(_) => Err(FaultCode::BadSyntax),
+    }
+}
+
+/// A whole number.
+pub(crate) fn integer(line: u32, words: &Phrase<'_>) -> Result<i64, SourceFault>
+    ensures { MatchResult result (λ z. integer_of words.now ≡ Ok z) (At line (λ code. integer_of words.now ≡ Err code)) }
+{
+    let figure = read_figure(line, words)?;
+    match integer_by(figure) {
+        Ok(number) => Ok(number),
         Err(code) => Err(SourceFault { code, line }),
     }
 }

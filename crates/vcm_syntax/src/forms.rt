@@ -6,6 +6,7 @@ ghost use Rattle.vcm_expr.specs.Parsing.{At};
 ghost use Rattle.vcm_syntax.specs.Places.{IsWord, BreaksOffered, IsMessage, BreaksMessage, IsEnd, BreaksEnd};
 ghost use Rattle.vcm_syntax.specs.Forms.{IsDeclaration, BreaksDeclaration, IsDecl, BreaksDecl, IsAssign, BreaksAssign, IsPlace, BreaksPlace, IsGoto, BreaksGoto, IsGohome, IsSay, BreaksSay, IsEndfil, BreaksAlone, IsPrefix, BreaksPrefix, IsPassed, BreaksPassed, IsForm, BreaksForm};
 
+use crate::choosing::{case, dftcas, endcas, endsel, select};
 use crate::control::{enddo, endif, iff, jumpto, mark, otherwise, repeat};
 use crate::macros::{call, endmac, macro_form};
 use crate::measuring::{endmes, feat, meas, obtain, output, ptmeas, recall, rotate, snset, trans};
@@ -243,6 +244,11 @@ pub(crate) fn read_form(
         Major::Macro => macro_form(alloc, line, front, fields),
         Major::Endmac => endmac(line, front, fields),
         Major::Call => call(alloc, line, front, fields),
+        Major::Select => select(alloc, line, front, fields),
+        Major::Case => case(line, front, fields),
+        Major::Endcas => endcas(line, front, fields),
+        Major::Dftcas => dftcas(line, front, fields),
+        Major::Endsel => endsel(line, front, fields),
         Major::Passed(notice) => passed(line, notice, front, fields),
     }
 }

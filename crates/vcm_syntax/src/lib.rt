@@ -1,6 +1,7 @@
 //! Statements: which words spell them, and which rule words break that spell none.
 #![tactic(auto)]
 
+mod choosing;
 mod control;
 mod figures;
 mod forms;
