@@ -8,8 +8,8 @@ use Rattle.vcm_spec.specs.Simple.{Simple, Goto, GoHome, Assign, Feat, PtMeas, Sn
 use Rattle.vcm_spec.specs.Setup.{Setup}
 use Rattle.vcm_spec.specs.World.{World, stopped}
 use Rattle.vcm_spec.specs.Control.{with_next_index, is_past}
-use Rattle.vcm_spec.specs.Program.{Label as Name, Node, Block, simple, label, jump, choice, choice_else, do_loop, meas, ending, done, then, sizes, node_at, number_at}
-use Rattle.vcm_spec.specs.Table.{Entry, Rest, EndIf, EndMeas, Loop, State, state, front, next_number, if_true, at_node, act, unless_stopped, step, steps, opening}
+use Rattle.vcm_spec.specs.Program.{Label as Name, Node, Block, simple, label, jump, choice, choice_else, do_loop, meas, select, ending, done, then, sizes, node_at, number_at}
+use Rattle.vcm_spec.specs.Table.{Entry, Rest, EndIf, EndMeas, EndCas, EndSel, Loop, State, state, front, next_number, if_true, at_node, act, unless_stopped, step, steps, opening}
 use Rattle.vcm_spec.specs.Printing.{prints, takes_memory, next_node}
 use Rattle.vcm_spec.specs.Whole.{is_closed}
 use Rattle.vcm_code.specs.declared.pair.Pair.{Pair}
@@ -69,6 +69,12 @@ module _ (setup : Setup) (code : List Statement) (to : Name → ℕ) where
   act_follows ps (EndMeas n ∷ es) d pc old w h bot live room old_sits old_bottom =
       subst (λ m. Matched (state w es) m) (sym ((h.2).goes w ps))
       (record { world = refl; depth = d; sits = h.3; bottom = bottom_pop (EndMeas n) es (λ x. x) bot; room = room })
+  act_follows ps (EndCas n ∷ es) d pc old w h bot live room old_sits old_bottom =
+      subst (λ m. Matched (state w es) m) (sym ((h.2).goes w ps))
+      (record { world = refl; depth = d; sits = h.3; bottom = bottom_pop (EndCas n) es (λ x. x) bot; room = room })
+  act_follows ps (EndSel n ∷ es) d pc old w h bot live room old_sits old_bottom =
+      subst (λ m. Matched (state w es) m) (sym ((h.2).goes w ps))
+      (record { world = refl; depth = d; sits = h.3; bottom = bottom_pop (EndSel n) es (λ x. x) bot; room = room })
   act_follows ps (Loop at v b c lim inc ∷ es) zero pc old w h bot live room old_sits old_bottom = absurd h
   act_follows ps (Loop at v b c lim inc ∷ es) (suc d) pc old w h bot live room old_sits old_bottom =
       let e = (h.0).number in
@@ -120,6 +126,7 @@ module _ (setup : Setup) (code : List Statement) (to : Name → ℕ) where
   node_prints (choice_else line test first mid second close) d at h = ap next_prints h.0
   node_prints (do_loop line v initial limit increment body close) d at h = ap next_prints h.0
   node_prints (meas line feature body close) d at h = ap next_prints h.0
+  node_prints (select line value cases close) d at h = ap next_prints h.0
   node_prints (ending line) d at h = ap next_prints h.0
 
   front_prints : (ps : List Pair) (fs : List Entry) (d pc : ℕ) → Sits ps fs d pc → Live fs → next_prints (slice_get code pc) ≡ takes_memory (next_node fs)
@@ -130,6 +137,8 @@ module _ (setup : Setup) (code : List Statement) (to : Name → ℕ) where
       ∙ sym (ap takes_memory live.1)
   front_prints ps (EndIf n ∷ es) d pc h live = (h.2).silent
   front_prints ps (EndMeas n ∷ es) d pc h live = (h.2).silent
+  front_prints ps (EndCas n ∷ es) d pc h live = (h.2).silent
+  front_prints ps (EndSel n ∷ es) d pc h live = (h.2).silent
   front_prints ps (Loop at v b c lim inc ∷ es) zero pc h live = absurd h
   front_prints ps (Loop at v b c lim inc ∷ es) (suc d) pc h live = ap next_prints (h.0).op
 

@@ -1,6 +1,7 @@
 pub mod Structured
 pub mod Place
 pub mod Remainder
+pub mod Chosen
 pub mod NodeSteps
 pub mod Follow
 pub mod Numbering
@@ -8,4 +9,6 @@ pub mod Targeted
 pub mod Emits
 pub mod ValidCode
 pub mod InRange
+pub mod Versions
 pub mod Whole
+pub mod CaseMarks

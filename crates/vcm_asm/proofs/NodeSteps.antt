@@ -1,5 +1,5 @@
 -- One step at a node: the flat code goes where the statement table goes.
-use Rattle.std.proofs.Common.{◌≡◌, ℕ, suc, ◌+◌, ◌<◌, List, [], ◌∷◌, ◌++◌, length, Some, Bool, true, false, refl, sym, ◌∙◌, subst, arith}
+use Rattle.std.proofs.Common.{◌≡◌, ℕ, suc, ◌+◌, ◌<◌, List, [], ◌∷◌, ◌++◌, length, Option, Some, None, Bool, true, false, refl, sym, ◌∙◌, subst, arith}
 use Rattle.std.specs.Prelude.{ℤ, slice_get, slice_set}
 use Rattle.std.proofs.Math.ListN.{length-set}
 use Rattle.vcm_spec.specs.declared.stop.Stop.{Stop}
@@ -12,18 +12,19 @@ use Rattle.vcm_spec.specs.World.{World, stopped, with_variable}
 use Rattle.vcm_spec.specs.Outcome.{Outcome, Gives, Stops}
 use Rattle.vcm_spec.specs.Effect.{effect, value_in}
 use Rattle.vcm_spec.specs.Control.{test_in, is_zero, is_past}
-use Rattle.vcm_spec.specs.Program.{Label as Name, Node, Block, simple, label, jump, choice, choice_else, do_loop, meas, ending, size, sizes, node_at, number_at}
-use Rattle.vcm_spec.specs.Table.{Entry, Rest, EndIf, EndMeas, Loop, State, state, or_stop, if_true, at_node, step}
+use Rattle.vcm_spec.specs.Program.{Label as Name, Node, Block, Cases, simple, label, jump, choice, choice_else, do_loop, meas, select, ending, size, sizes, case_sizes, node_at, number_at, chosen}
+use Rattle.vcm_spec.specs.Table.{Entry, Rest, EndIf, EndMeas, EndCas, EndSel, Loop, State, state, or_stop, if_true, selected, at_node, step}
 use Rattle.vcm_spec.proofs.Postfix.{value_in-spelling, test_in-spelling, effect-spelling}
 use Rattle.vcm_spec.specs.Whole.{is_end, NodeJumps}
 use Rattle.vcm_code.specs.declared.pair.Pair.{Pair}
-use Rattle.vcm_code.specs.Code.{Op, Plain, If, Else, EndIf as OpEndIf, Do, Label, JumpTo, Meas, EndMes, EndFil, Statement, statement}
-use Rattle.vcm_code.specs.CodeTable.{pair, CodeState, code_state, or_halt, do_op, fetched}
+use Rattle.vcm_code.specs.Code.{Op, Plain, If, Else, EndIf as OpEndIf, Do, Label, JumpTo, Meas, EndMes, Select, EndCas as OpEndCas, EndSel as OpEndSel, EndFil, Statement, statement}
+use Rattle.vcm_code.specs.CodeTable.{pair, CodeState, code_state, or_halt, target_for, do_op, fetched}
 use Rattle.vcm_asm.specs.inner.Depth.{NodeDeep}
-use Rattle.vcm_asm.specs.Assembled.{node_marks, marks, node_code, block_code}
-use Rattle.vcm_asm.proofs.Place.{HasAt, has_front, has_back, block_length, number_zero, number_next, has_node, jumps_at, deep_at, Marked, marked_front, marked_back, marked_at}
+use Rattle.vcm_asm.specs.Assembled.{node_marks, marks, node_code, block_code, case_code, branches_of, last_target}
+use Rattle.vcm_asm.proofs.Place.{HasAt, has_front, has_back, block_length, cases_length, number_zero, number_next, has_node, jumps_at, deep_at, Marked, marked_front, marked_back, marked_at}
 use Rattle.vcm_spec.proofs.NeverStuck.{closed_next}
-use Rattle.vcm_asm.proofs.Remainder.{scopes, get_set_same, Bottom, bottom_push, bottom_move, Placed as PlacedIn, Turns, Sits as SitsIn, sits_set, goes_by, landed, Matched as MatchedIn}
+use Rattle.vcm_asm.proofs.Chosen.{CasesPlaced, IsSelected, selected_is}
+use Rattle.vcm_asm.proofs.Remainder.{scopes, get_set_same, Bottom, bottom_push, bottom_move, Placed as PlacedIn, Goes, Turns, Sits as SitsIn, sits_set, goes_by, landed, Matched as MatchedIn}
 
 module _ (setup : Setup) (code : List Statement) (to : Name → ℕ) where
   -- those of this code
@@ -204,6 +205,64 @@ module _ (setup : Setup) (code : List Statement) (to : Name → ℕ) where
             let after : num + size n ≡ num + 1 + sizes body + 1 = omega arith in
             (refl, num + 1 + sizes body + 1, goes_by setup code to _ _ close EndMes last.0 refl (λ w ps. refl), on_sits n ps _ a a.rest after)
 
+    -- the entries behind a SELECT whose choice is known
+    select_lands : (line : ℕ) (value : Tree) (cases : Cases) (close : ℕ) → At ps b base i es d old (select line value cases close)
+        → slice_get code (num + 1 + case_sizes cases) ≡ Some (statement close OpEndSel) → (o : Option (Block × ℕ)) (target : ℕ)
+        → IsSelected setup code to d (num + 1) (num + 1 + case_sizes cases + 1) (b ∷ scopes es) (case_sizes cases) o target
+        → Matched (state w (selected o (num + 1 + case_sizes cases) on)) (code_state w target ps)
+    select_lands line value cases close a last None target h =
+        record { world = refl; depth = d; sits = (h, num + 1 + case_sizes cases + 1, goes, after); bottom = bottom_push (EndSel (num + 1 + case_sizes cases)) on (on_bottom n a refl); room = a.room }
+      where
+        n : Node
+        n = select line value cases close
+
+        goes : Goes setup code to target (num + 1 + case_sizes cases + 1)
+        goes = subst (λ k. Goes setup code to k (num + 1 + case_sizes cases + 1)) (sym h) (goes_by setup code to _ _ close OpEndSel last refl (λ w ps. refl))
+
+        after : Sits ps on d (num + 1 + case_sizes cases + 1)
+        after = (let e : num + size n ≡ num + 1 + case_sizes cases + 1 = omega arith in on_sits n ps _ a a.rest e)
+    select_lands line value cases close a last (Some p) target h =
+        record {
+          world = refl;
+          depth = d;
+          sits = (h.target ∙ sym (number_zero p.0 p.1), h.placed, (refl, num + 1 + case_sizes cases + 1, goes_by setup code to _ _ h.line (OpEndCas (num + 1 + case_sizes cases + 1)) h.closing refl (λ w ps. refl), after));
+          bottom = bottom_push (Rest p.0 p.1 0) (EndCas (p.1 + sizes p.0) ∷ on) (bottom_push (EndCas (p.1 + sizes p.0)) on (on_bottom n a refl));
+          room = a.room;
+        }
+      where
+        n : Node
+        n = select line value cases close
+
+        after : Sits ps on d (num + 1 + case_sizes cases + 1)
+        after = (let e : num + size n ≡ num + 1 + case_sizes cases + 1 = omega arith in on_sits n ps _ a a.rest e)
+
+    select_follows : (line : ℕ) (value : Tree) (cases : Cases) (close : ℕ) → At ps b base i es d old (select line value cases close) → Matched (at_node setup (Some (select line value cases close)) num w old (Rest b base i ∷ es) on) (fetched setup (slice_get code num) w num ps)
+    select_follows line value cases close a =
+        with_op _ (Select (spelling value) (branches_of cases (num + 1)) (last_target cases (num + 1))) line w num ps h.0
+        (fork (value_in value_of w value) (value_in items_value w (spelling value)) (value_in-spelling w value) w num line old ps
+        (λ z. state w (selected (chosen z cases (num + 1)) (num + 1 + case_sizes cases) on))
+        (λ z. code_state w (target_for z (branches_of cases (num + 1)) (last_target cases (num + 1))) ps)
+        (stays n line a)
+        (λ z. select_lands line value cases close a last.0 (chosen z cases (num + 1)) (target_for z (branches_of cases (num + 1)) (last_target cases (num + 1)))
+        (selected_is setup code to d behind (b ∷ scopes es) z cases (num + 1) placed)))
+      where
+        n : Node
+        n = select line value cases close
+
+        behind : ℕ
+        behind = num + 1 + case_sizes cases + 1
+
+        h : HasAt code num (node_code to (select line value cases close) d num)
+        h = has (select line value cases close) a
+
+        placed : CasesPlaced setup code to d (num + 1) (num + 1 + case_sizes cases + 1) (b ∷ scopes es) cases
+        placed = record { has = has_front code (num + 1) (case_code to cases d (num + 1) (num + 1 + case_sizes cases + 1)) _ h.1; jumps = jumps_of n a; marked = marked_of n a; deep = deep_of n a }
+
+        last : HasAt code (num + 1 + case_sizes cases) (statement close OpEndSel ∷ [])
+        last =
+            subst (λ k. HasAt code (num + 1 + k) (statement close OpEndSel ∷ [])) (cases_length to cases d (num + 1) (num + 1 + case_sizes cases + 1))
+            (has_back code (num + 1) (case_code to cases d (num + 1) (num + 1 + case_sizes cases + 1)) _ h.1)
+
     do_follows : (line v : ℕ) (init limit step : Tree) (body : Block) (close : ℕ) → At ps b base i es d old (do_loop line v init limit step body close) → Matched (at_node setup (Some (do_loop line v init limit step body close)) num w old (Rest b base i ∷ es) on) (fetched setup (slice_get code num) w num ps)
     do_follows line v init limit step body close a =
         with_op _ (Do v d (spelling init) (spelling limit) (spelling step) exit) line w num ps h.0
@@ -253,4 +312,5 @@ module _ (setup : Setup) (code : List Statement) (to : Name → ℕ) where
     node_follows (choice_else line test first mid second close) a = choice_else_follows line test first mid second close a
     node_follows (do_loop line v init limit step body close) a = do_follows line v init limit step body close a
     node_follows (meas line feature body close) a = meas_follows line feature body close a
+    node_follows (select line value cases close) a = select_follows line value cases close a
     node_follows (ending line) a = ending_follows line a

@@ -3,14 +3,14 @@ use Rattle.std.proofs.Common.{◌≡◌, ℕ, zero, suc, ◌+◌, ◌<◌, List,
 use Rattle.std.specs.Prelude.{slice_get}
 use Rattle.std.proofs.Math.Seq.{get_or-append_seam}
 use Rattle.std.proofs.lemmas.Option.{slice_get-get_or}
-use Rattle.vcm_spec.specs.Program.{Label as Name, Node, Block, simple, label, jump, choice, choice_else, do_loop, meas, ending, done, then, size, sizes, node_at, number_at, label_index, is_same_label}
+use Rattle.vcm_spec.specs.Program.{Label as Name, Node, Block, Cases, simple, label, jump, choice, choice_else, do_loop, meas, select, ending, done, then, no_more, one_case, default, size, sizes, case_sizes, node_at, number_at, label_index, is_same_label}
 use Rattle.vcm_spec.specs.Table.{if_true}
 use Rattle.vcm_asm.specs.inner.Once.{Absent, Once}
 use Rattle.vcm_asm.specs.inner.Depth.{NodeDeep, Deep}
 use Rattle.vcm_spec.specs.Whole.{NodeJumps, Jumps}
 use Rattle.vcm_spec.proofs.Labels.{same_label, label_itself, found_stands}
-use Rattle.vcm_code.specs.Code.{Else, EndIf, EndDo, EndMes, Statement, statement}
-use Rattle.vcm_asm.specs.Assembled.{Mark, node_marks, marks, node_code, block_code, place_in}
+use Rattle.vcm_code.specs.Code.{Else, EndIf, EndDo, EndMes, EndCas, EndSel, Statement, statement}
+use Rattle.vcm_asm.specs.Assembled.{Mark, node_marks, marks, node_code, block_code, case_code, place_in}
 use Rattle.vcm_spec.proofs.NeverStuck.{same_node}
 
 -- the statements stand in the code at this place
@@ -53,12 +53,22 @@ mutual
       omega (arith, block_length place body (suc d) (base + 1), length-append (block_code place body (suc d) (base + 1)) (statement close (EndDo var d (base + 1)) ∷ []))
   node_length place (meas line feature body close) d base =
       omega (arith, block_length place body d (base + 1), length-append (block_code place body d (base + 1)) (statement close EndMes ∷ []))
+  node_length place (select line value cases close) d base =
+      omega (arith, cases_length place cases d (base + 1) (base + 1 + case_sizes cases + 1), length-append (case_code place cases d (base + 1) (base + 1 + case_sizes cases + 1)) (statement close EndSel ∷ []))
   node_length place (ending line) d base = omega arith
 
   pub block_length : (place : Name → ℕ) (b : Block) (d base : ℕ) → length (block_code place b d base) ≡ sizes b
   block_length place done d base = refl
   block_length place (then n b) d base =
       omega (arith, node_length place n d base, block_length place b d (base + size n), length-append (node_code place n d base) (block_code place b d (base + size n)))
+
+  pub cases_length : (place : Name → ℕ) (cs : Cases) (d base behind : ℕ) → length (case_code place cs d base behind) ≡ case_sizes cs
+  cases_length place no_more d base behind = refl
+  cases_length place (one_case line v b close rest) d base behind =
+      let tail = case_code place rest d (base + 1 + sizes b + 1) behind in
+      omega (arith, block_length place b d (base + 1), cases_length place rest d (base + 1 + sizes b + 1) behind, length-append (block_code place b d (base + 1)) (statement close (EndCas behind) ∷ tail))
+  cases_length place (default line b close) d base behind =
+      omega (arith, block_length place b d (base + 1), length-append (block_code place b d (base + 1)) (statement close (EndCas behind) ∷ []))
 
 pub number_zero : (b : Block) (base : ℕ) → number_at b base 0 ≡ base
 number_zero done base = refl

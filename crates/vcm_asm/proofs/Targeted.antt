@@ -3,12 +3,13 @@ use Rattle.std.proofs.Common.{◌≡◌, ℕ, zero, suc, List, [], ◌∷◌, �
 use Rattle.std.specs.Prelude.{map, slice_set}
 use Rattle.vcm_spec.specs.declared.expression.Item.{Item}
 use Rattle.vcm_code.specs.declared.op.Statement.{Statement as Kept}
+use Rattle.vcm_code.specs.declared.branch.Branch.{Branch}
 use Rattle.vcm_code.specs.Code.{Statement}
 use Rattle.vcm_code.specs.Ops.{statement_of}
 use Rattle.vcm_asm.specs.inner.Targets.{with_target}
 
 abbrev pub Owned : Type 0
-Owned = Kept (List Item) (List ℕ)
+Owned = Kept (List Item) (List ℕ) (List Branch)
 
 first_is : (x y : Statement) (xs ys : List Statement) → x ∷ xs ≡ y ∷ ys → (x ≡ y) × (xs ≡ ys)
 first_is x y xs ys e = (cc, cc)

@@ -1,20 +1,20 @@
 -- The flat code of a whole program is valid.
-use Rattle.std.proofs.Common.{ℕ, suc, ◌+◌, ◌<◌, ◌≤◌, List, [], ◌∷◌, ◌++◌, Bool, true, false, sym, subst, arith}
+use Rattle.std.proofs.Common.{◌≡◌, ℕ, suc, ◌+◌, ◌<◌, ◌≤◌, List, [], ◌∷◌, ◌++◌, Bool, true, false, sym, subst, arith}
 use Rattle.std.specs.Prelude.{IsTrue}
 use Rattle.vcm_num.specs.declared.number.Kind.{Kind}
 use Rattle.vcm_spec.specs.Expression.{Tree, spelling}
 use Rattle.vcm_spec.specs.Simple.{Simple, Goto, GoHome, Assign, Feat, PtMeas, SnSet, Trans, Rotate, Recall, Obtain, Output, Text, with_form}
 use Rattle.vcm_spec.specs.Setup.{Tables}
-use Rattle.vcm_spec.specs.Fitting.{kinds, Fits, HasKindIn, NodeFits, BlockFits}
-use Rattle.vcm_spec.specs.Program.{Label as Name, Node, Block, simple, label, jump, choice, choice_else, do_loop, meas, ending, done, then, size, sizes, is_same_label}
+use Rattle.vcm_spec.specs.Fitting.{kinds, Fits, HasKindIn, NodeFits, BlockFits, CasesFit}
+use Rattle.vcm_spec.specs.Program.{Label as Name, Node, Block, Cases, simple, label, jump, choice, choice_else, do_loop, meas, select, ending, done, then, no_more, one_case, default, size, sizes, case_sizes, is_same_label}
 use Rattle.vcm_spec.specs.Table.{if_true}
 use Rattle.vcm_spec.specs.Whole.{is_end, is_closed}
 use Rattle.vcm_tree.specs.Program.{IsWhole}
 use Rattle.vcm_code.specs.Code.{Statement}
-use Rattle.vcm_code.specs.Valid.{HasItems, AllFit, Ends, IsValid, PairsBelow}
-use Rattle.vcm_asm.specs.inner.Spelled.{Keeps, SimpleKeeps, NodeKeeps, BlockKeeps}
-use Rattle.vcm_asm.specs.inner.Depth.{NodeDeep, Deep}
-use Rattle.vcm_asm.specs.Assembled.{Mark, node_marks, marks, node_code, block_code, place_in, flat_code}
+use Rattle.vcm_code.specs.Valid.{HasItems, AllBelow, AllFit, Ends, IsValid, PairsBelow}
+use Rattle.vcm_asm.specs.inner.Spelled.{Keeps, SimpleKeeps, NodeKeeps, BlockKeeps, CasesKeep}
+use Rattle.vcm_asm.specs.inner.Depth.{NodeDeep, Deep, CasesDeep}
+use Rattle.vcm_asm.specs.Assembled.{Mark, node_marks, marks, case_marks, node_code, block_code, case_code, branches_of, last_target, place_in, flat_code, version_of}
 use Rattle.vcm_asm.proofs.Place.{block_length}
 
 size_positive : (n : Node) → 0 < size n
@@ -25,6 +25,7 @@ size_positive (choice line test first close) = omega arith
 size_positive (choice_else line test first mid second close) = omega arith
 size_positive (do_loop line v a b c body close) = omega arith
 size_positive (meas line feature body close) = omega arith
+size_positive (select line value cases close) = omega arith
 size_positive (ending line) = omega arith
 
 -- the labels' numbers are numbers of statements
@@ -46,12 +47,19 @@ mutual
       marks_join (marks first (base + 1)) _ s (marks_below first (base + 1) s (omega arith)) (marks_below second (base + 1 + sizes first + 1) s (omega arith))
   node_marks_below (do_loop line v a b c body close) base s le = marks_below body (base + 1) s (omega arith)
   node_marks_below (meas line feature body close) base s le = marks_below body (base + 1) s (omega arith)
+  node_marks_below (select line value cases close) base s le = case_marks_below cases (base + 1) s (omega arith)
   node_marks_below (ending line) base s le = tt
 
   marks_below : (b : Block) (base s : ℕ) → base + sizes b ≤ s → MarksBelow (marks b base) s
   marks_below done base s le = tt
   marks_below (then n b) base s le =
       marks_join (node_marks n base) _ s (node_marks_below n base s (omega arith)) (marks_below b (base + size n) s (omega arith))
+
+  case_marks_below : (cs : Cases) (base s : ℕ) → base + case_sizes cs ≤ s → MarksBelow (case_marks cs base) s
+  case_marks_below no_more base s le = tt
+  case_marks_below (one_case line v b close rest) base s le =
+      marks_join (marks b (base + 1)) _ s (marks_below b (base + 1) s (omega arith)) (case_marks_below rest (base + 1 + sizes b + 1) s (omega arith))
+  case_marks_below (default line b close) base s le = marks_below b (base + 1) s (omega arith)
 
 place_below : (ms : List Mark) (s : ℕ) (l : Name) → 0 < s → MarksBelow ms s → place_in ms l < s
 place_below [] s l pos h = pos
@@ -60,6 +68,17 @@ place_below (m ∷ ms) s l pos h = here (is_same_label m.0 l) (place_below ms s 
     here : (t : Bool) → place_in ms l < s → if_true t m.1 (place_in ms l) < s
     here true r = h.0
     here false r = r
+
+-- where a SELECT goes, there are statements
+branches_below : (cs : Cases) (base s : ℕ) → base + case_sizes cs < s → AllBelow s (branches_of cs base)
+branches_below no_more base s lt = tt
+branches_below (one_case line v b close rest) base s lt = (omega arith, branches_below rest (base + 1 + sizes b + 1) s (omega arith))
+branches_below (default line b close) base s lt = tt
+
+last_below : (cs : Cases) (base s : ℕ) → base + case_sizes cs < s → last_target cs base < s
+last_below no_more base s lt = omega arith
+last_below (one_case line v b close rest) base s lt = last_below rest (base + 1 + sizes b + 1) s (omega arith)
+last_below (default line b close) base s lt = omega arith
 
 module _ (tables : Tables) where
   -- an expression keeps its kind
@@ -103,12 +122,26 @@ module _ (tables : Tables) where
       )
       node_fits (meas line feature body close) d base lt h m =
           (h.0, fits_join s (block_code to body d (base + 1)) _ (block_fits body d (base + 1) (omega arith) h.1 m) (tt, tt))
+      node_fits (select line value cases close) d base lt h m = (
+        (keeps value _ h.0 m.0, branches_below cases (base + 1) s (omega arith), last_below cases (base + 1) s (omega arith)),
+        fits_join s (case_code to cases d (base + 1) (base + 1 + case_sizes cases + 1)) _ (cases_fit cases d (base + 1) (base + 1 + case_sizes cases + 1) (omega arith) (omega arith) h.1 m.1) (tt, tt),
+      )
       node_fits (ending line) d base lt h m = (tt, tt)
 
       block_fits : (b : Block) (d base : ℕ) → base + sizes b < s → BlockFits tables b → BlockKeeps b → AllFit tables s (block_code to b d base)
       block_fits done d base lt h m = tt
       block_fits (then n b) d base lt h m =
           fits_join s (node_code to n d base) _ (node_fits n d base (omega arith) h.0 m.0) (block_fits b d (base + size n) (omega arith) h.1 m.1)
+
+      cases_fit : (cs : Cases) (d base behind : ℕ) → behind < s → base + case_sizes cs < s → CasesFit tables cs → CasesKeep cs → AllFit tables s (case_code to cs d base behind)
+      cases_fit no_more d base behind past lt h m = tt
+      cases_fit (one_case line v b close rest) d base behind past lt h m = (
+        tt,
+        fits_join s (block_code to b d (base + 1)) _ (block_fits b d (base + 1) (omega arith) h.0 m.0)
+            (past, cases_fit rest d (base + 1 + sizes b + 1) behind past (omega arith) h.1 m.1),
+      )
+      cases_fit (default line b close) d base behind past lt h m =
+          (tt, fits_join s (block_code to b d (base + 1)) _ (block_fits b d (base + 1) (omega arith) h m) (past, tt))
 
     -- the program, whose last node is ENDFIL
     whole_fits : (b : Block) (base : ℕ) → IsTrue (is_closed b) → base + sizes b ≤ s → BlockFits tables b → BlockKeeps b → AllFit tables s (block_code to b 0 base)
@@ -124,6 +157,7 @@ module _ (tables : Tables) where
         last (choice_else line test first mid second close) c = absurd cc
         last (do_loop line v x y z body close) c = absurd cc
         last (meas line feature body close) c = absurd cc
+        last (select line value cases close) c = absurd cc
     whole_fits (then n (then n' b)) base c le h m =
         let pos = size_positive n' in
         fits_join s (node_code to n 0 base) _ (node_fits n 0 base (omega arith) h.0 m.0) (whole_fits (then n' b) (base + size n) c (omega arith) h.1 m.1)
@@ -150,6 +184,7 @@ last_ends to (then n done) base c = last n c
     last (choice_else line test first mid second close) c = absurd cc
     last (do_loop line v x y z body close) c = absurd cc
     last (meas line feature body close) c = absurd cc
+    last (select line value cases close) c = absurd cc
 last_ends to (then n (then n' b)) base c =
     last_after (node_code to n 0 base) _ (last_ends to (then n' b) (base + size n) c)
 
@@ -175,17 +210,25 @@ mutual
       (h.0, pairs_join (block_code to body (suc d) (base + 1)) _ (block_pairs to body (suc d) (base + 1) h.1) (h.0, tt))
   node_pairs to (meas line feature body close) d base h =
       (tt, pairs_join (block_code to body d (base + 1)) _ (block_pairs to body d (base + 1) h) (tt, tt))
+  node_pairs to (select line value cases close) d base h =
+      (tt, pairs_join (case_code to cases d (base + 1) (base + 1 + case_sizes cases + 1)) _ (case_pairs to cases d (base + 1) (base + 1 + case_sizes cases + 1) h) (tt, tt))
   node_pairs to (ending line) d base h = (tt, tt)
 
   block_pairs : (to : Name → ℕ) (b : Block) (d base : ℕ) → Deep b d → PairsBelow (block_code to b d base)
   block_pairs to done d base h = tt
   block_pairs to (then n b) d base h = pairs_join (node_code to n d base) _ (node_pairs to n d base h.0) (block_pairs to b d (base + size n) h.1)
 
+  case_pairs : (to : Name → ℕ) (cs : Cases) (d base behind : ℕ) → CasesDeep cs d → PairsBelow (case_code to cs d base behind)
+  case_pairs to no_more d base behind h = tt
+  case_pairs to (one_case line v b close rest) d base behind h =
+      (tt, pairs_join (block_code to b d (base + 1)) _ (block_pairs to b d (base + 1) h.0) (tt, case_pairs to rest d (base + 1 + sizes b + 1) behind h.1))
+  case_pairs to (default line b close) d base behind h = (tt, pairs_join (block_code to b d (base + 1)) _ (block_pairs to b d (base + 1) h) (tt, tt))
+
 pub pairs : (program : Block) → Deep program 0 → PairsBelow (flat_code program)
 pairs program h = block_pairs (place_in (marks program 0)) program 0 0 h
 
 pub valid : (program : Block) (tables : Tables) → IsWhole program tables → BlockKeeps program
-    → IsValid (record { tables = tables; statements = flat_code program })
+    → IsValid (record { version = version_of program; tables = tables; statements = flat_code program })
 valid program tables a small =
     let to = place_in (marks program 0) in
     let len = block_length to program 0 0 in

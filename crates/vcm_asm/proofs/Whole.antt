@@ -1,28 +1,31 @@
 -- The statement code of a whole program.
-use Rattle.std.proofs.Common.{◌≡◌, ◌≤◌, List, length, refl, sym, subst, arith}
+use Rattle.std.proofs.Common.{◌≡◌, ◌≤◌, List, length, refl, sym, ap, ◌∙◌, subst, arith}
 use Rattle.vcm_spec.specs.Setup.{Tables, setup_of}
 use Rattle.vcm_spec.specs.Program.{Block}
 use Rattle.vcm_tree.specs.Program.{IsWhole, AreNames as AreFewNames}
 use Rattle.vcm_code.specs.Code.{Statement, Code}
 use Rattle.vcm_code.specs.Valid.{IsValid}
-use Rattle.vcm_code.specs.Ranges.{AllInRange, IsInRange}
+use Rattle.vcm_code.specs.declared.version.Version.{Version}
+use Rattle.vcm_code.specs.Ranges.{AllInRange, version_for, IsInRange}
 use Rattle.vcm_asm.specs.inner.Spelled.{BlockKeeps}
-use Rattle.vcm_asm.specs.Assembled.{marks, place_in, flat_code}
+use Rattle.vcm_asm.specs.Assembled.{marks, place_in, flat_code, version_of}
 use Rattle.vcm_asm.specs.Simulation.{IsAssembled}
 use Rattle.vcm_asm.proofs.Structured.{structured}
 use Rattle.vcm_asm.proofs.Place.{block_length}
 use Rattle.vcm_asm.proofs.Follow.{same}
 use Rattle.vcm_asm.proofs.ValidCode.{valid}
 use Rattle.vcm_asm.proofs.InRange.{block_range}
+use Rattle.vcm_asm.proofs.Versions.{version_same, of_version}
 
 module _ (program : Block) (tables : Tables) (whole : IsWhole program tables) where
-  -- the code with these tables and statements
+  -- the code of the program's version with these tables and statements
   abbrev with_statements : List Statement → Code
-  with_statements ss = record { tables = tables; statements = ss }
+  with_statements ss = record { version = version_of program; tables = tables; statements = ss }
 
   pub assembled : IsAssembled program tables (with_statements (flat_code program))
   assembled = record {
     follows = λ part n. same (setup_of part tables) program whole.closed (structured program tables whole) n;
+    version_is = refl;
     tables_are = refl;
     statements_are = refl;
   }
@@ -34,7 +37,7 @@ module _ (program : Block) (tables : Tables) (whole : IsWhole program tables) wh
   few_statements = (let l = block_length (place_in (marks program 0)) program 0 0 in let few = whole.few in omega (arith, l, few))
 
   all_in_range : BlockKeeps program → AllInRange (flat_code program)
-  all_in_range kept = block_range tables (place_in (marks program 0)) program 0 0 whole.fits kept (structured program tables whole).deep
+  all_in_range kept = block_range tables (place_in (marks program 0)) program 0 0 whole.few whole.fits kept (structured program tables whole).deep
 
   -- where there are few variables, features and frames
   pub in_range : length tables.variables ≤ 4096 → AreFewNames tables.features → AreFewNames tables.frames → BlockKeeps program → IsInRange (with_statements (flat_code program))
@@ -43,9 +46,13 @@ module _ (program : Block) (tables : Tables) (whole : IsWhole program tables) wh
     features = (features.few, features.named);
     frames = (frames.few, frames.named);
     statements = (few_statements, all_in_range kept);
+    version = of_version program;
   }
 
-  -- what holds of that code holds of one with these tables and statements, where they are the same
-  pub with_code : (P : Code → Type 0) (ts : Tables) (ss : List Statement) → ts ≡ tables → ss ≡ flat_code program → P (with_statements (flat_code program))
-      → P (record { tables = ts; statements = ss })
-  with_code P ts ss e f h = subst (λ x. P (record { tables = x; statements = ss })) (sym e) (subst (λ x. P (with_statements x)) (sym f) h)
+  -- what holds of that code holds of one with these tables and statements, where they are the same and its version is theirs
+  pub with_code : (P : Code → Type 0) (v : Version) (ts : Tables) (ss : List Statement) → v ≡ version_for ss → ts ≡ tables → ss ≡ flat_code program
+      → P (with_statements (flat_code program)) → P (record { version = v; tables = ts; statements = ss })
+  with_code P v ts ss d e f h =
+      let same : v ≡ version_of program = d ∙ ap version_for f ∙ version_same program in
+      subst (λ x. P (record { version = x; tables = ts; statements = ss })) (sym same)
+      (subst (λ x. P (record { version = version_of program; tables = x; statements = ss })) (sym e) (subst (λ x. P (with_statements x)) (sym f) h))

@@ -1,5 +1,5 @@
 -- The statements of worked examples: targets, pairs and source lines.
-use Rattle.std.specs.Prelude.{◌≡◌, refl, true, ℤ, pos, List, [], ◌∷◌, codes}
+use Rattle.std.specs.Prelude.{◌≡◌, refl, true, ℕ, ℤ, pos, List, [], ◌∷◌, codes}
 use Rattle.vcm_spec.specs.declared.expression.Operand.TheVariants.{Integer, Truth, Variable}
 use Rattle.vcm_spec.specs.declared.expression.Relation.TheVariants.{Equal}
 use Rattle.vcm_spec.specs.declared.expression.BinaryOp.TheVariants.{Add, Compare}
@@ -9,9 +9,11 @@ use Rattle.vcm_spec.specs.Simple.{Assign, Text}
 use Rattle.vcm_spec.specs.Samples.Parts.{int}
 use Rattle.vcm_spec.specs.Expression.{Value}
 use Rattle.vcm_spec.specs.Samples.Numbers.{chosen}
-use Rattle.vcm_spec.specs.Samples.Loops.{counted, again, past_loop}
-use Rattle.vcm_code.specs.Code.{Plain, If, Else, EndIf, Do, EndDo, Label, JumpTo, EndFil, statement}
-use Rattle.vcm_asm.specs.Assembled.{flat_code}
+use Rattle.vcm_spec.specs.Samples.Loops.{counted, again, past_loop, selections, no_block}
+use Rattle.vcm_code.specs.declared.branch.Branch.{Branch}
+use Rattle.vcm_code.specs.declared.version.Version.TheVariants.{One, Two}
+use Rattle.vcm_code.specs.Code.{Plain, If, Else, EndIf, Do, EndDo, Label, JumpTo, Select, Case, EndCas, DftCas, EndSel, EndFil, statement}
+use Rattle.vcm_asm.specs.Assembled.{flat_code, version_of}
 
 -- a whole number as an expression
 abbrev whole : ℤ → List Item
@@ -58,3 +60,36 @@ pub two_blocks : flat_code (chosen (Value (Truth true))) ≡
     ∷ statement 7 EndIf
     ∷ statement 8 EndFil ∷ []
 two_blocks = refl
+
+-- a branch to a statement
+abbrev branch : ℤ → ℕ → Branch
+branch value target = record { value = value; target = target }
+
+-- a SELECT with two CASE blocks and one for all else, in a loop
+pub four_rounds : flat_code selections ≡
+    statement 4 (Do 0 0 (whole (pos 1)) (whole (pos 4)) (whole (pos 1)) 13)
+    ∷ statement 5 (Select (Push (Variable 0) ∷ []) (branch (pos 1) 3 ∷ branch (pos 3) 6 ∷ []) 9)
+    ∷ statement 6 Case
+    ∷ statement 7 (Plain (Text (codes "ONE")))
+    ∷ statement 8 (EndCas 12)
+    ∷ statement 9 Case
+    ∷ statement 10 (Plain (Text (codes "THREE")))
+    ∷ statement 11 (EndCas 12)
+    ∷ statement 12 DftCas
+    ∷ statement 13 (Plain (Text (codes "ELSE")))
+    ∷ statement 14 (EndCas 12)
+    ∷ statement 15 EndSel
+    ∷ statement 16 (EndDo 0 0 1)
+    ∷ statement 17 EndFil ∷ []
+four_rounds = refl
+
+-- a SELECT without blocks goes to its ENDSEL
+pub to_its_end : flat_code no_block ≡ statement 3 (Select (whole (pos 5)) [] 1) ∷ statement 4 EndSel ∷ statement 5 EndFil ∷ []
+to_its_end = refl
+
+-- the version of a code
+pub second_version : version_of selections ≡ Two
+second_version = refl
+
+pub first_version : version_of again ≡ One
+first_version = refl

@@ -7,7 +7,7 @@ use Rattle.vcm_spec.specs.Table.{steps, opening, front, next_number}
 use Rattle.vcm_spec.specs.Printing.{takes_memory, next_node}
 use Rattle.vcm_code.specs.Code.{Statement, Code}
 use Rattle.vcm_code.specs.CodeTable.{code_steps, start, next_prints}
-use Rattle.vcm_asm.specs.Assembled.{flat_code}
+use Rattle.vcm_asm.specs.Assembled.{flat_code, version_of}
 
 -- after n steps the code has the state and the next number of the program, and an output line comes next in both or in neither
 pub record SameAfter (setup : Setup) (program : Block) (code : List Statement) (n : ℕ) : Type 0 where
@@ -16,9 +16,10 @@ pub record SameAfter (setup : Setup) (program : Block) (code : List Statement) (
   pub prints : next_prints (slice_get code (code_steps setup code n (start setup)).next)
       ≡ takes_memory (next_node (front (steps setup n (opening setup program)).entries))
 
--- this is the code of a program with these tables: its statements are the program's, laid out one behind the other; and on each workpiece
--- and after each number of steps it has the program's state and next number
+-- this is the code of a program with these tables: it has the version that the program wants, and the program's statements, laid out one
+-- behind the other; and on each workpiece and after each number of steps it has the program's state and next number
 pub record IsAssembled (program : Block) (tables : Tables) (c : Code) : Type 0 where
+  pub version_is : c.version ≡ version_of program
   pub tables_are : c.tables ≡ tables
   pub statements_are : c.statements ≡ flat_code program
   pub follows : (part : Workpiece) (n : ℕ) → SameAfter (setup_of part tables) program c.statements n

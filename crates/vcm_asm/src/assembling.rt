@@ -11,7 +11,7 @@ use crate::emitted::Emitted;
 use crate::marking::mark_block;
 use crate::numbers::Numbers;
 use std::alloc::Global;
-use vcm_code::Code;
+use vcm_code::{Code, version_for};
 use vcm_num::NoMemory;
 use vcm_tree::Accepted;
 
@@ -31,5 +31,10 @@ pub fn assemble(alloc: Global, program: &Accepted) -> Result<Code, NoMemory>
     emit_block(alloc, &mut code, &numbers, tree, 0)?;
     let tables = program.tables(alloc)?;
     let statements = code.into_statements();
-    Ok(Code { tables, statements })
+    let version = version_for(statements.as_slice());
+    Ok(Code {
+        version,
+        tables,
+        statements,
+    })
 }

@@ -3,20 +3,20 @@
 ghost use Rattle.std.specs.Prelude.{◌≡◌, ◌+◌, ◌++◌, ◌≤◌, length, IfOk, OnOk};
 ghost use Rattle.vcm_spec.specs.Expression.{spelling};
 ghost use Rattle.vcm_spec.specs.Simple.{with_form};
-ghost use Rattle.vcm_spec.specs.Program.{size, sizes};
+ghost use Rattle.vcm_spec.specs.Program.{size, sizes, case_sizes};
 ghost use Rattle.vcm_nodes.specs.Nodes.{action_of, node_of};
-ghost use Rattle.vcm_code.specs.Code.{Plain, Do};
+ghost use Rattle.vcm_code.specs.Code.{Plain, Do, Select};
 ghost use Rattle.vcm_code.specs.Ops.{op_of};
-ghost use Rattle.vcm_asm.specs.inner.Spelled.{Keeps, KeepThree, SimpleKeeps, NodeKeeps, BlockKeeps};
-ghost use Rattle.vcm_asm.specs.inner.Depth.{NodeDeep, Deep};
-ghost use Rattle.vcm_asm.specs.Assembled.{node_code, block_code, place_in};
+ghost use Rattle.vcm_asm.specs.inner.Spelled.{Keeps, KeepThree, SimpleKeeps, NodeKeeps, BlockKeeps, CasesKeep};
+ghost use Rattle.vcm_asm.specs.inner.Depth.{NodeDeep, Deep, CasesDeep};
+ghost use Rattle.vcm_asm.specs.Assembled.{node_code, block_code, case_code, branches_of, last_target, place_in};
 
 use crate::emitted::Emitted;
 use crate::numbers::Numbers;
 use std::alloc::Global;
-use vcm_code::{Op, OwnedOp};
+use vcm_code::{Branch, Op, OwnedOp};
 use vcm_expr::{Typed, to_postfix};
-use vcm_nodes::{Action, Block, Node};
+use vcm_nodes::{Action, Block, Cases, Node, count, count_cases};
 use vcm_num::{Items, NoMemory};
 use vcm_spec::Item;
 
@@ -108,6 +108,38 @@ fn repeat(
     Ok(Op::Do(variable, depth, initial, limit, increment, 0))
 }
 
+// The branches of a SELECT whose blocks' first statement has the number `first`, and where it goes if none of them has the value.
+fn branches(alloc: Global, cases: &Cases, first: u32) -> Result<(Items<Branch>, u32), NoMemory>
+    requires { first + case_sizes cases.now ≤ 20000 }
+    ensures { IfOk result (λ t. (t.0 ≡ branches_of cases.now first) × (t.1 ≡ last_target cases.now first)) }
+{
+    let mut branches = Items::new(alloc);
+    let mut number = first;
+    for (_, value, block, _) in cases.cases() {
+        let target = number + 1;
+        branches.push(Branch {
+            value: *value,
+            target,
+        })?;
+        number = target + count(block) as u32 + 1;
+    }
+    match cases.default() {
+        None => Ok((branches, number)),
+        Some(_) => Ok((branches, number + 1)),
+    }
+}
+
+// A SELECT whose blocks' first statement has the number `first`.
+fn selection(alloc: Global, value: &Typed, cases: &Cases, first: u32) -> Result<OwnedOp, NoMemory>
+    requires { first + case_sizes cases.now ≤ 20000 }
+    ensures op { IfOk result (λ op. op_of op ≡ Select (spelling value.now) (branches_of cases.now first) (last_target cases.now first)) }
+    ensures keeps { OnOk result (Keeps value.now) }
+{
+    let value = postfix(alloc, value)?;
+    let (branches, target) = branches(alloc, cases, first)?;
+    Ok(Op::Select(value, branches, target))
+}
+
 /// Writes the statements of a block, around which `depth` DO stand; `numbers` has the numbers of the labels.
 #[cycle(emit)]
 pub(crate) fn emit_block(
@@ -180,6 +212,44 @@ fn emit_node(
             emit_block(alloc, code, numbers, body, depth)?;
             code.put(*close, Op::EndMes)
         }
+        Node::Select(line, value, cases, close) => {
+            let start = code.next();
+            let op = selection(alloc, value, cases, start + 1)?;
+            code.put(*line, op)?;
+            let behind = start + 1 + count_cases(cases) as u32 + 1;
+            emit_cases(alloc, code, numbers, cases, depth, behind)?;
+            code.put(*close, Op::EndSel)
+        }
         Node::Ending(line) => code.put(*line, Op::EndFil),
+    }
+}
+
+/// Writes the statements of the blocks of a SELECT, behind whose ENDSEL the statement `behind` stands.
+#[cycle(emit)]
+fn emit_cases(
+    alloc: Global,
+    code: &mut Emitted,
+    numbers: &Numbers,
+    cases: &Cases,
+    depth: u8,
+    behind: u32,
+) -> Result<(), NoMemory>
+    requires deep { CasesDeep cases.now depth }
+    requires short { length code.old + case_sizes cases.now ≤ 20000 }
+    ensures code { OnOk result (code.new ≡ code.old ++ case_code (place_in numbers.now) cases.now depth (length code.old) behind) }
+    ensures keeps { OnOk result (CasesKeep cases.now) }
+{
+    for (line, _, block, close) in cases.cases() {
+        code.put(*line, Op::Case)?;
+        emit_block(alloc, code, numbers, block, depth)?;
+        code.put(*close, Op::EndCas(behind))?;
+    }
+    match cases.default() {
+        None => Ok(()),
+        Some((line, block, close)) => {
+            code.put(*line, Op::DftCas)?;
+            emit_block(alloc, code, numbers, block, depth)?;
+            code.put(*close, Op::EndCas(behind))
+        }
     }
 }

@@ -1,14 +1,14 @@
 //! Numbers the labels of a program.
 
 ghost use Rattle.std.specs.Prelude.{◌≡◌, ◌+◌, ◌++◌, ◌≤◌, IfOk, OnOk};
-ghost use Rattle.vcm_spec.specs.Program.{size, sizes};
+ghost use Rattle.vcm_spec.specs.Program.{size, sizes, case_sizes};
 ghost use Rattle.vcm_nodes.specs.Nodes.{node_of};
-ghost use Rattle.vcm_asm.specs.Assembled.{marks, node_marks};
+ghost use Rattle.vcm_asm.specs.Assembled.{marks, node_marks, case_marks};
 ghost use Rattle.vcm_asm.specs.inner.Once.{Once};
 
 use crate::numbers::Numbers;
 use std::alloc::AllocError;
-use vcm_nodes::{Block, Node};
+use vcm_nodes::{Block, Cases, Node};
 
 /// Adds the labels of a block whose first statement has the number `base`. The answer is the number behind its last statement.
 #[cycle(mark)]
@@ -55,6 +55,32 @@ fn mark_node(numbers: &mut Numbers, node: &Node, base: u32) -> Result<u32, Alloc
         }
         Node::Measure(_, _, body, _) => {
             let end = mark_block(numbers, body, base + 1)?;
+            Ok(end + 1)
+        }
+        Node::Select(_, _, cases, _) => {
+            let end = mark_cases(numbers, cases, base + 1)?;
+            Ok(end + 1)
+        }
+    }
+}
+
+/// Adds the labels of the blocks of a SELECT, whose first statement has the number `base`. The answer is the number behind the last one.
+#[cycle(mark)]
+fn mark_cases(numbers: &mut Numbers, cases: &Cases, base: u32) -> Result<u32, AllocError>
+    requires short { base + case_sizes cases.now ≤ 20000 }
+    requires once { Once (numbers.old ++ case_marks cases.now base) }
+    ensures marks { OnOk result (numbers.new ≡ numbers.old ++ case_marks cases.now base) }
+    ensures end { IfOk result (λ end. end ≡ base + case_sizes cases.now) }
+{
+    let mut number = base;
+    for (_, _, block, _) in cases.cases() {
+        let end = mark_block(numbers, block, number + 1)?;
+        number = end + 1;
+    }
+    match cases.default() {
+        None => Ok(number),
+        Some((_, block, _)) => {
+            let end = mark_block(numbers, block, number + 1)?;
             Ok(end + 1)
         }
     }

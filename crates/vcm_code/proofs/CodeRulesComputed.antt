@@ -1,5 +1,6 @@
 -- What the code table computes is what its rules say.
-use Rattle.std.proofs.Common.{◌≡◌, ◌≢◌, ℕ, ◌+◌, ℤ, pos, Bool, true, false, List, Option, Some, None, slice_get, slice_set, refl, sym, ap, ◌∙◌}
+use Rattle.std.proofs.Common.{◌≡◌, ◌≢◌, ℕ, ◌+◌, ℤ, pos, Bool, true, false, List, [], ◌∷◌, Option, Some, None, slice_get, slice_set, refl, sym, ap, ◌∙◌}
+use Rattle.std.specs.Ordering.{int_eq}
 use Rattle.vcm_spec.specs.declared.expression.Item.{Item}
 use Rattle.vcm_spec.specs.declared.stop.Stop.{Stop}
 use Rattle.vcm_spec.specs.declared.stop.Stop.TheVariants.{ZeroStep}
@@ -13,12 +14,24 @@ use Rattle.vcm_spec.specs.Effect.{effect, value_in}
 use Rattle.vcm_spec.specs.Control.{test_in, with_next_index, is_zero, is_past}
 use Rattle.vcm_spec.specs.Table.{if_true, unless_stopped}
 use Rattle.vcm_code.specs.declared.pair.Pair.{Pair}
-use Rattle.vcm_code.specs.Code.{Op, Plain, If, Else, EndIf, Do, EndDo, Label, JumpTo, Meas, EndMes, EndFil, Statement, statement}
-use Rattle.vcm_code.specs.CodeTable.{CodeState, code_state, pair, or_halt, turn, do_op, fetched, code_step}
-use Rattle.vcm_code.specs.CodeRules.{Goes, simple_is_carried_out, if_is_true, if_is_false, branch_leaves, branch_ends, do_is_past, do_is_begun, loop_is_past, loop_turns_again, label_is_passed, jump_lands, meas_is_begun, measurement_ends, Halts, simple_stops, test_stops, initial_value_stops, limit_stops, increment_stops, increment_is_zero, saved_increment_is_zero, index_overflows, program_ends, CanStep, CodeSteps, goes_on, stops, stays}
+use Rattle.vcm_code.specs.declared.branch.Branch.{Branch}
+use Rattle.vcm_code.specs.Code.{Op, Plain, If, Else, EndIf, Do, EndDo, Label, JumpTo, Meas, EndMes, Select, Case, EndCas, DftCas, EndSel, EndFil, Statement, statement}
+use Rattle.vcm_code.specs.CodeTable.{CodeState, code_state, pair, or_halt, turn, target_for, do_op, fetched, code_step}
+use Rattle.vcm_code.specs.CodeRules.{Selects, branch_has_it, branch_has_another, none_is_left, Goes, simple_is_carried_out, if_is_true, if_is_false, branch_leaves, branch_ends, do_is_past, do_is_begun, loop_is_past, loop_turns_again, label_is_passed, jump_lands, meas_is_begun, measurement_ends, select_goes, case_is_passed, case_ends, default_is_passed, selection_ends, Halts, simple_stops, test_stops, initial_value_stops, limit_stops, increment_stops, increment_is_zero, saved_increment_is_zero, index_overflows, selected_value_stops, program_ends, CanStep, CodeSteps, goes_on, stops, stays}
 use Rattle.vcm_code.proofs.CodeRulesHold.{with_increment, with_limit, with_initial, with_index}
 use Rattle.vcm_spec.proofs.RulesComputed.{not_zero}
 use Rattle.vcm_spec.proofs.RulesHold.{zero_is}
+use Rattle.vcm_spec.proofs.Choosing.{same_value, differs}
+
+-- the computed target is where a SELECT goes by the rules
+target_is : (z : ℤ) (last : ℕ) (bs : List Branch) → Selects z last bs (target_for z bs last)
+target_is z last [] = none_is_left
+target_is z last (b ∷ bs) = by (int_eq z b.value) refl (target_is z last bs)
+  where
+    by : (t : Bool) → int_eq z b.value ≡ t → Selects z last bs (target_for z bs last)
+        → Selects z last (b ∷ bs) (if_true t b.target (target_for z bs last))
+    by true e h = branch_has_it (same_value z b.value e)
+    by false e h = branch_has_another (differs z b.value e) h
 
 -- the statement goes on or stops, and this is the state after it
 data Moves (setup : Setup) (w : World) (n line : ℕ) (ps : List Pair) (op : Op) : CodeState → Type 0 where
@@ -37,6 +50,11 @@ module _ (setup : Setup) (w : World) (n line : ℕ) (ps : List Pair) where
   if_moves test target (Gives true) e = goes (if_is_true e)
   if_moves test target (Gives false) e = goes (if_is_false e)
   if_moves test target (Stops why) e = halts (test_stops e)
+
+  select_moves : (value : List Item) (bs : List Branch) (target : ℕ) (o : Outcome ℤ) → value_in items_value w value ≡ o
+      → M (Select value bs target) (or_halt o w n line ps (λ z. code_state w (target_for z bs target) ps))
+  select_moves value bs target (Gives z) e = goes (select_goes e (target_is z target bs))
+  select_moves value bs target (Stops why) e = halts (selected_value_stops e)
 
   module _ (v p target : ℕ) (initial limit increment : List Item) where
     abbrev D : CodeState → Type 0
@@ -97,6 +115,11 @@ module _ (setup : Setup) (w : World) (n line : ℕ) (ps : List Pair) where
   op_moves (JumpTo target) can = goes jump_lands
   op_moves (Meas feature) can = goes meas_is_begun
   op_moves EndMes can = goes measurement_ends
+  op_moves (Select value bs target) can = select_moves value bs target (value_in items_value w value) refl
+  op_moves Case can = goes case_is_passed
+  op_moves (EndCas target) can = goes case_ends
+  op_moves DftCas can = goes default_is_passed
+  op_moves EndSel can = goes selection_ends
   op_moves EndFil can = halts program_ends
 
 moves_step : (setup : Setup) (code : List Statement) (w : World) (n line : ℕ) (ps : List Pair) (op : Op) (r : CodeState) → w.stop ≡ None → slice_get code n ≡ Some (statement line op) → Moves setup w n line ps op r → CodeSteps setup code (code_state w n ps) r

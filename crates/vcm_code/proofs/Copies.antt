@@ -3,11 +3,12 @@ use Rattle.std.proofs.Common.{◌≡◌, ℕ, List, refl, ap}
 use Rattle.vcm_spec.specs.declared.expression.Item.{Item}
 use Rattle.vcm_code.specs.declared.op.Op.{Op}
 use Rattle.vcm_code.specs.declared.op.Op.TheVariants.{EndFil, Goto, GoHome, Assign, If, Else, EndIf, Do, EndDo, Label, JumpTo, Feat, Meas}
-use Rattle.vcm_code.specs.declared.op.Op.TheVariants.{PtMeas, EndMes, SnSet, Trans, Rotate, Recall, Obtain, Output, Text}
+use Rattle.vcm_code.specs.declared.op.Op.TheVariants.{PtMeas, EndMes, SnSet, Trans, Rotate, Recall, Obtain, Output, Text, Select, Case, EndCas, DftCas, EndSel}
+use Rattle.vcm_code.specs.declared.branch.Branch.{Branch}
 use Rattle.vcm_code.specs.declared.op.Statement.{Statement}
 use Rattle.vcm_code.specs.Copies.{listed, listed_statement}
 
-same_op : (op : Op (List Item) (List ℕ)) → listed (λ e. e) (λ t. t) op ≡ op
+same_op : (op : Op (List Item) (List ℕ) (List Branch)) → listed (λ e. e) (λ t. t) (λ b. b) op ≡ op
 same_op EndFil = refl
 same_op (Goto x y z) = refl
 same_op GoHome = refl
@@ -30,7 +31,12 @@ same_op (Recall frame) = refl
 same_op (Obtain v source feature word) = refl
 same_op (Output source feature) = refl
 same_op (Text text) = refl
+same_op (Select value bs target) = refl
+same_op Case = refl
+same_op (EndCas target) = refl
+same_op DftCas = refl
+same_op EndSel = refl
 
 -- a statement of lists is what its lists say
-pub same_statement : (s : Statement (List Item) (List ℕ)) → listed_statement (λ e. e) (λ t. t) s ≡ s
+pub same_statement : (s : Statement (List Item) (List ℕ) (List Branch)) → listed_statement (λ e. e) (λ t. t) (λ b. b) s ≡ s
 same_statement s = ap (λ op. record { line = s.line; op = op }) (same_op s.op)

@@ -8,7 +8,8 @@ use Rattle.vcm_spec.specs.Setup.{Tables}
 use Rattle.vcm_spec.proofs.Postfix.{one_tree}
 use Rattle.vcm_code.specs.declared.op.Statement.{Statement as KeptStatement}
 use Rattle.vcm_code.specs.Ops.{statement_of, statements_of}
-use Rattle.vcm_code.specs.Valid.{AllFit, IsLast, Ends}
+use Rattle.vcm_code.specs.declared.branch.Branch.{Branch}
+use Rattle.vcm_code.specs.Valid.{AllBelow, AllFit, IsLast, Ends}
 use Rattle.vcm_code.specs.Deciding.{Tells}
 
 pub one_kind : (kinds : List Kind) (items : List Item) (k l : Kind) → HasKind kinds items k → HasKind kinds items l → k ≡ l
@@ -27,12 +28,17 @@ no_kind kinds items want not = record { so = λ e. absurd cc; only = λ a. absur
 
 -- statements in memory
 abbrev pub Kept : Type 0
-Kept = KeptStatement (List Item) (List ℕ)
+Kept = KeptStatement (List Item) (List ℕ) (List Branch)
 
 -- whether all fit, in a code of so many statements, hangs on those from the k-th on
 pub record Left (tables : Tables) (count : ℕ) (ss : List Kept) (k : ℕ) : Type 0 where
   pub on : AllFit tables count (statements_of (drop k ss)) → AllFit tables count (statements_of ss)
   pub back : AllFit tables count (statements_of ss) → AllFit tables count (statements_of (drop k ss))
+
+-- whether the targets of all branches are below a count hangs on those from the k-th on
+pub record LeftBelow (count : ℕ) (bs : List Branch) (k : ℕ) : Type 0 where
+  pub on : AllBelow count (drop k bs) → AllBelow count bs
+  pub back : AllBelow count bs → AllBelow count (drop k bs)
 
 -- it is the last one that ends them
 ends_at : (ss : List Kept) (k : ℕ) (s : Kept) → slice_get ss k ≡ Some s → k + 1 ≡ length ss → Ends (statements_of ss) ≡ IsLast (statement_of s).op

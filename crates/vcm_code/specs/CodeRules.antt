@@ -1,5 +1,5 @@
 -- The code table as rules, for readers: each kind of statement has its rules, with names. `CodeTable` computes what these rules say.
-use Rattle.std.specs.Prelude.{◌≡◌, ◌≢◌, ℕ, zero, suc, ◌+◌, ℤ, pos, true, false, Some, None, List, slice_get, slice_set}
+use Rattle.std.specs.Prelude.{◌≡◌, ◌≢◌, ℕ, zero, suc, ◌+◌, ℤ, pos, true, false, Some, None, List, [], ◌∷◌, slice_get, slice_set}
 use Rattle.vcm_spec.specs.declared.expression.Item.{Item}
 use Rattle.vcm_spec.specs.declared.stop.Stop.{Stop}
 use Rattle.vcm_spec.specs.declared.stop.Stop.TheVariants.{Ended, ZeroStep}
@@ -12,7 +12,9 @@ use Rattle.vcm_spec.specs.Outcome.{Gives, Stops}
 use Rattle.vcm_spec.specs.Effect.{effect, value_in}
 use Rattle.vcm_spec.specs.Control.{test_in, with_next_index}
 use Rattle.vcm_code.specs.declared.pair.Pair.{Pair}
-use Rattle.vcm_code.specs.Code.{Op, Plain, If, Else, EndIf, Do, EndDo, Label, JumpTo, Meas, EndMes, EndFil, Statement, statement}
+use Rattle.vcm_code.specs.declared.branch.Branch.{Branch}
+use Rattle.vcm_code.specs.Code.{Op, Plain, If, Else, EndIf, Do, EndDo, Label, JumpTo, Meas, EndMes, Select, Case, EndCas, DftCas, EndSel, EndFil}
+use Rattle.vcm_code.specs.Code.{Statement, statement}
 use Rattle.vcm_code.specs.CodeTable.{CodeState, code_state, pair, code_step, code_steps}
 use Rattle.vcm_spec.specs.Rules.{IsPast, IsNotPast}
 
@@ -35,6 +37,14 @@ IsFalseIn w test = test_in items_value w test ≡ Gives false
 -- a test is the reason for a stop
 abbrev pub TestFails : World → List Item → Stop → Type 0
 TestFails w test why = test_in items_value w test ≡ Stops why
+
+-- a SELECT goes there with a value: to the target of the first of its branches that has the value, or to its last target where none has it
+pub data Selects (z : ℤ) (last : ℕ) : List Branch → ℕ → Type 0 where
+  branch_has_it : {b : Branch} {bs : List Branch}
+      → z ≡ b.value → Selects z last (b ∷ bs) b.target
+  branch_has_another : {b : Branch} {bs : List Branch} {there : ℕ}
+      → z ≢ b.value → Selects z last bs there → Selects z last (b ∷ bs) there
+  none_is_left : Selects z last [] last
 
 -- A statement with the number n goes on: the machine's state after it, the number of the next statement, and the pairs
 pub data Goes (setup : Setup) (w : World) (n : ℕ) (pairs : List Pair) : Op → World → ℕ → List Pair → Type 0 where
@@ -72,6 +82,14 @@ pub data Goes (setup : Setup) (w : World) (n : ℕ) (pairs : List Pair) : Op →
   meas_is_begun : {feature : ℕ}
       → Goes setup w n pairs (Meas feature) w (n + 1) pairs
   measurement_ends : Goes setup w n pairs EndMes w (n + 1) pairs
+  select_goes : {value : List Item} {branches : List Branch} {target there : ℕ} {z : ℤ}
+      → HasValue w value z → Selects z target branches there
+      → Goes setup w n pairs (Select value branches target) w there pairs
+  case_is_passed : Goes setup w n pairs Case w (n + 1) pairs
+  case_ends : {target : ℕ}
+      → Goes setup w n pairs (EndCas target) w target pairs
+  default_is_passed : Goes setup w n pairs DftCas w (n + 1) pairs
+  selection_ends : Goes setup w n pairs EndSel w (n + 1) pairs
 
 -- A statement stops, and why
 pub data Halts (setup : Setup) (w : World) (pairs : List Pair) : Op → Stop → Type 0 where
@@ -100,6 +118,9 @@ pub data Halts (setup : Setup) (w : World) (pairs : List Pair) : Op → Stop →
       → slice_get pairs p ≡ Some (pair limit increment) → increment ≢ pos 0
       → with_next_index w v increment ≡ Stops why
       → Halts setup w pairs (EndDo v p target) why
+  selected_value_stops : {value : List Item} {branches : List Branch} {target : ℕ} {why : Stop}
+      → Fails w value why
+      → Halts setup w pairs (Select value branches target) why
   program_ends : Halts setup w pairs EndFil Ended
 
 -- One step. A step that stops changes the stop alone, and a stopped state doesn't change

@@ -6,10 +6,12 @@ use Rattle.vcm_code.specs.declared.op.Op.{Op as Kept}
 use Rattle.vcm_code.specs.declared.op.Op.TheVariants as kept
 use Rattle.vcm_code.specs.declared.op.Statement.{Statement as KeptStatement}
 use Rattle.vcm_code.specs.declared.code.Code.{Code as KeptCode}
-use Rattle.vcm_code.specs.Code.{Op, Plain, If, Else, EndIf, Do, EndDo, Label, JumpTo, Meas, EndMes, EndFil, Statement, statement, Code}
+use Rattle.vcm_code.specs.declared.branch.Branch.{Branch}
+use Rattle.vcm_code.specs.Code.{Op, Plain, If, Else, EndIf, Do, EndDo, Label, JumpTo, Meas, EndMes, Select, Case, EndCas, DftCas, EndSel, EndFil}
+use Rattle.vcm_code.specs.Code.{Statement, statement, Code}
 
 -- what a statement does
-abbrev pub op_of : Kept (List Item) (List ℕ) → Op
+abbrev pub op_of : Kept (List Item) (List ℕ) (List Branch) → Op
 op_of kept.EndFil = EndFil
 op_of (kept.Goto x y z) = Plain (Goto x y z)
 op_of kept.GoHome = Plain GoHome
@@ -32,15 +34,20 @@ op_of (kept.Recall frame) = Plain (Recall frame)
 op_of (kept.Obtain v source feature word) = Plain (Obtain v source feature word)
 op_of (kept.Output source feature) = Plain (Output source feature)
 op_of (kept.Text bytes) = Plain (Text bytes)
+op_of (kept.Select value branches target) = Select value branches target
+op_of kept.Case = Case
+op_of (kept.EndCas target) = EndCas target
+op_of kept.DftCas = DftCas
+op_of kept.EndSel = EndSel
 
 -- a statement
-abbrev pub statement_of : KeptStatement (List Item) (List ℕ) → Statement
+abbrev pub statement_of : KeptStatement (List Item) (List ℕ) (List Branch) → Statement
 statement_of s = statement s.line (op_of s.op)
 
 -- statements, in their order
-abbrev pub statements_of : List (KeptStatement (List Item) (List ℕ)) → List Statement
+abbrev pub statements_of : List (KeptStatement (List Item) (List ℕ) (List Branch)) → List Statement
 statements_of ss = map statement_of ss
 
 -- a code
 abbrev pub code_of : KeptCode → Code
-code_of c = record { tables = c.tables; statements = statements_of c.statements }
+code_of c = record { version = c.version; tables = c.tables; statements = statements_of c.statements }

@@ -6,11 +6,17 @@ use Rattle.vcm_spec.specs.declared.expression.Item.{Item}
 use Rattle.vcm_spec.specs.Expression.{HasKind}
 use Rattle.vcm_spec.specs.Setup.{Tables}
 use Rattle.vcm_spec.specs.Fitting.{kinds, Fits}
-use Rattle.vcm_code.specs.Code.{Op, Plain, If, Else, Do, EndDo, JumpTo, Meas, EndFil, Statement, Code}
+use Rattle.vcm_code.specs.declared.branch.Branch.{Branch}
+use Rattle.vcm_code.specs.Code.{Op, Plain, If, Else, Do, EndDo, JumpTo, Meas, Select, EndCas, EndFil, Statement, Code}
 
 -- the items have a kind, where the variables have the kinds of the tables
 abbrev pub HasItems : Tables → List Item → Kind → Type 0
 HasItems tables items k = HasKind (kinds tables) items k
+
+-- the targets of branches stand below the count of the statements
+abbrev pub AllBelow : ℕ → List Branch → Type 0
+AllBelow count [] = Unit {0}
+AllBelow count (b ∷ bs) = (b.target < count) × AllBelow count bs
 
 -- indexes stand in the tables, targets below the count of the statements, and expressions and variables have the kinds that are wanted
 abbrev pub OpFits : Tables → ℕ → Op → Type 0
@@ -23,6 +29,8 @@ OpFits tables count (Do v p initial limit increment target) =
 OpFits tables count (EndDo v p target) = (slice_get (kinds tables) v ≡ Some Int) × (target < count)
 OpFits tables count (JumpTo target) = target < count
 OpFits tables count (Meas feature) = feature < length tables.features
+OpFits tables count (Select value branches target) = HasItems tables value Int × AllBelow count branches × (target < count)
+OpFits tables count (EndCas target) = target < count
 OpFits tables count _ = Unit {0}
 
 -- all statements fit

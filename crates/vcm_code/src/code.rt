@@ -1,12 +1,14 @@
 //! The statement code of a program.
 
 use crate::op::OwnedStatement;
+use crate::version::Version;
 use vcm_num::Items;
 use vcm_tables::Tables;
 
-/// The statement code of a program: the tables of its names, and its statements, numbered from 0.
+/// The statement code of a program: its version, the tables of its names, and its statements, numbered from 0.
 #[derive(Drop)]
 pub struct Code {
+    pub version: Version,
     pub tables: Tables,
     pub statements: Items<OwnedStatement>,
 }

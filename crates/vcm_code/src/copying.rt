@@ -1,7 +1,8 @@
-//! Copies of statements whose expressions and texts are read in place.
+//! Copies of statements whose expressions, texts and branches are read in place.
 
 ghost use Rattle.std.specs.Prelude.{◌≡◌, IfOk};
 
+use crate::branch::Branch;
 use crate::op::{Op, OwnedOp, OwnedStatement, Statement};
 use std::alloc::Global;
 use vcm_num::{Items, NoMemory};
@@ -36,6 +37,21 @@ pub trait Line {
         ensures { IfOk result (λ copy. copy ≡ bytes self.now) };
 }
 
+/// The branches of a SELECT, however they are kept.
+pub trait Branches {
+    ghost use Rattle.std.specs.Prelude.{List};
+    ghost use Rattle.vcm_code.specs.declared.branch.Branch.{Branch};
+
+    /// Its branches.
+    ghost branches: { Self → List Branch };
+
+    /// Its branches, on their own.
+    ///
+    /// Errors: want of memory.
+    fn to_branches(&self, alloc: Global) -> Result<Items<Branch>, NoMemory>
+        ensures { IfOk result (λ copy. copy ≡ branches self.now) };
+}
+
 // Three expressions.
 #[derive(Drop)]
 struct Triple {
@@ -55,14 +71,14 @@ fn three<E: Expression>(alloc: Global, x: &E, y: &E, z: &E) -> Result<Triple, No
     Ok(Triple { x, y, z })
 }
 
-impl<E: Expression, T: Line> Op<E, T> {
+impl<E: Expression, T: Line, B: Branches> Op<E, T, B> {
     ghost use Rattle.vcm_code.specs.Copies.{listed};
 
-    /// The same, with items and a text of its own.
+    /// The same, with items, a text and branches of its own.
     ///
     /// Errors: want of memory.
     pub fn to_owned(&self, alloc: Global) -> Result<OwnedOp, NoMemory>
-        ensures { IfOk result (λ op. op ≡ listed E.items T.bytes self.now) }
+        ensures { IfOk result (λ op. op ≡ listed E.items T.bytes B.branches self.now) }
     {
         match self {
             Op::EndFil => Ok(Op::EndFil),
@@ -102,18 +118,27 @@ impl<E: Expression, T: Line> Op<E, T> {
             Op::Obtain(target, of, feature, word) => Ok(Op::Obtain(*target, *of, *feature, *word)),
             Op::Output(source, feature) => Ok(Op::Output(*source, *feature)),
             Op::Text(text) => Ok(Op::Text(text.to_bytes(alloc)?)),
+            Op::Select(value, branches, target) => {
+                let value = value.to_items(alloc)?;
+                let branches = branches.to_branches(alloc)?;
+                Ok(Op::Select(value, branches, *target))
+            }
+            Op::Case => Ok(Op::Case),
+            Op::EndCas(target) => Ok(Op::EndCas(*target)),
+            Op::DftCas => Ok(Op::DftCas),
+            Op::EndSel => Ok(Op::EndSel),
         }
     }
 }
 
-impl<E: Expression, T: Line> Statement<E, T> {
+impl<E: Expression, T: Line, B: Branches> Statement<E, T, B> {
     ghost use Rattle.vcm_code.specs.Copies.{listed_statement};
 
-    /// The same, with items and a text of its own.
+    /// The same, with items, a text and branches of its own.
     ///
     /// Errors: want of memory.
     pub fn to_owned(&self, alloc: Global) -> Result<OwnedStatement, NoMemory>
-        ensures { IfOk result (λ s. s ≡ listed_statement E.items T.bytes self.now) }
+        ensures { IfOk result (λ s. s ≡ listed_statement E.items T.bytes B.branches self.now) }
     {
         let op = self.op.to_owned(alloc)?;
         Ok(Statement {

@@ -5,9 +5,10 @@ ghost use Rattle.vcm_num.specs.declared.number.Kind.{Kind as NumberKind};
 ghost use Rattle.vcm_spec.specs.Expression.{HasKind};
 ghost use Rattle.vcm_spec.specs.Fitting.{kinds as kinds_of, AreLengths};
 ghost use Rattle.vcm_code.specs.Ops.{op_of};
-ghost use Rattle.vcm_code.specs.Valid.{HasItems, OpFits};
+ghost use Rattle.vcm_code.specs.Valid.{HasItems, AllBelow, OpFits};
 ghost use Rattle.vcm_code.specs.Deciding.{Tells};
 
+use crate::branch::Branch;
 use crate::op::OwnedOp;
 use std::alloc::Global;
 use vcm_expr::postfix_kind;
@@ -93,6 +94,18 @@ fn is_target(target: u32, count: usize) -> bool
     (target as usize) < count
 }
 
+// Whether the targets of branches are numbers of statements.
+fn are_targets(branches: &[Branch], count: usize) -> bool
+    ensures { Tells result (AllBelow count branches.now) }
+{
+    for branch in branches {
+        if !is_target(branch.target, count) {
+            return false;
+        }
+    }
+    true
+}
+
 // Whether the parts of a DO fit, its target aside.
 fn loop_fits(
     alloc: Global,
@@ -121,7 +134,14 @@ pub(crate) fn op_fits(alloc: Global, tables: &Tables, count: usize, op: &OwnedOp
         OwnedOp::If(test, target) => {
             has_kind(alloc, tables, test, Kind::Bool) && is_target(*target, count)
         }
-        OwnedOp::Else(target) | OwnedOp::JumpTo(target) => is_target(*target, count),
+        OwnedOp::Else(target) | OwnedOp::JumpTo(target) | OwnedOp::EndCas(target) => {
+            is_target(*target, count)
+        }
+        OwnedOp::Select(value, branches, target) => {
+            has_kind(alloc, tables, value, Kind::Int)
+                && are_targets(branches.as_slice(), count)
+                && is_target(*target, count)
+        }
         OwnedOp::Do(variable, _, initial, limit, increment, target) => {
             loop_fits(alloc, tables, *variable, initial, limit, increment)
                 && is_target(*target, count)
@@ -146,5 +166,6 @@ pub(crate) fn op_fits(alloc: Global, tables: &Tables, count: usize, op: &OwnedOp
         OwnedOp::Meas(feature) | OwnedOp::Output(_, feature) => is_feature(tables, *feature),
         OwnedOp::EndFil | OwnedOp::GoHome | OwnedOp::EndIf => true,
         OwnedOp::Label | OwnedOp::EndMes | OwnedOp::Text(_) => true,
+        OwnedOp::Case | OwnedOp::DftCas | OwnedOp::EndSel => true,
     }
 }

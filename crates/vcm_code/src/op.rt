@@ -1,12 +1,14 @@
 //! The statements of a code.
 
+use crate::branch::Branch;
 use vcm_num::{Axis, Items};
 use vcm_spec::{Item, Setting, Source};
 
-/// What a statement does, with expressions of the form `E` (postfix items) and texts of the form `T` (bytes): owned in a `Code`, or read in
-/// place. Variables, features and frames go by their indexes, targets are numbers of statements, and lengths are in micrometres.
+/// What a statement does, with expressions of the form `E` (postfix items), texts of the form `T` (bytes) and branches of the form `B`: owned in
+/// a `Code`, or read in place. Variables, features and frames go by their indexes, targets are numbers of statements, and lengths are in
+/// micrometres.
 #[derive(Drop)]
-pub enum Op<E, T> {
+pub enum Op<E, T, B> {
     /// `ENDFIL`.
     EndFil,
     /// `GOTO`: x, y and z of part coordinates.
@@ -51,17 +53,27 @@ pub enum Op<E, T> {
     Output(Source, u16),
     /// `TEXT`: an output line.
     Text(T),
+    /// `SELECT`: its value, its branches, and where it goes if none of them has the value.
+    Select(E, B, u32),
+    /// `CASE`.
+    Case,
+    /// `ENDCAS`, and where it goes.
+    EndCas(u32),
+    /// `DFTCAS`.
+    DftCas,
+    /// `ENDSEL`.
+    EndSel,
 }
 
 /// A statement with the source line that it begins on, the first being 1.
 #[derive(Drop)]
-pub struct Statement<E, T> {
+pub struct Statement<E, T, B> {
     pub line: u32,
-    pub op: Op<E, T>,
+    pub op: Op<E, T, B>,
 }
 
-/// What a statement does, with postfix items and texts of its own.
-pub type OwnedOp = Op<Items<Item>, Items<u8>>;
+/// What a statement does, with postfix items, texts and branches of its own.
+pub type OwnedOp = Op<Items<Item>, Items<u8>, Items<Branch>>;
 
-/// A statement with postfix items and texts of its own.
-pub type OwnedStatement = Statement<Items<Item>, Items<u8>>;
+/// A statement with postfix items, texts and branches of its own.
+pub type OwnedStatement = Statement<Items<Item>, Items<u8>, Items<Branch>>;

@@ -20,7 +20,7 @@ use Rattle.vcm_fields.proofs.NumberInverse.{Row, tagged_takes, now_row, reads_by
 
 -- ---- items
 
-reads_signed : Reads signed_at signed (FitsSigned w64)
+pub reads_signed : Reads signed_at signed (FitsSigned w64)
 reads_signed = reads_via reads_eight (cast_signed w64) (cast_unsigned w64) signed (FitsSigned w64)
     (λ n lt. ap (to_le_bytes w64) (of_z-to_z w64 n (record { fits = lt })))
     (λ n lt. to_z-Fits w64 n (record { fits = lt }))

@@ -1,12 +1,13 @@
 -- Statements, read as they are spelled.
-use Rattle.std.proofs.Common.{◌≡◌, ℕ, ◌<◌, ◌≤◌, nat_lt, IsTrue, List, [], ◌∷◌, ◌++◌, Option, Some, None, Ok, refl, sym, ap, subst, ◌∙◌, arith}
+use Rattle.std.proofs.Common.{◌≡◌, ℕ, ◌<◌, ◌≤◌, ◌^◌, nat_lt, IsTrue, List, [], ◌∷◌, ◌++◌, Option, Some, None, Ok, refl, sym, ap, subst, ◌∙◌, arith}
 use Rattle.std.specs.Int.{w32}
-use Rattle.vcm_code.specs.declared.op.Op.TheVariants.{EndFil, Goto, GoHome, Assign, If, Else, EndIf, Do, EndDo, Label, JumpTo, Feat, Meas, PtMeas, EndMes, SnSet, Trans, Rotate, Recall, Obtain, Output, Text}
-use Rattle.vcm_fields.specs.Parts.{Operation}
+use Rattle.vcm_code.specs.declared.op.Op.TheVariants.{EndFil, Goto, GoHome, Assign, If, Else, EndIf, Do, EndDo, Label, JumpTo, Feat, Meas, PtMeas, EndMes, SnSet, Trans, Rotate, Recall, Obtain, Output, Text, Select, Case, EndCas, DftCas, EndSel}
+use Rattle.vcm_fields.specs.Parts.{Operation, Line}
 use Rattle.vcm_fields.specs.declared.word.Word.{Word}
 use Rattle.vcm_fields.specs.declared.word.Word.TheVariants as words
 use Rattle.vcm_fields.specs.declared.fault.ImageFault.TheVariants.{BadField}
-use Rattle.vcm_fields.specs.Words.{word_of}
+use Rattle.vcm_code.specs.declared.version.Version.{Version}
+use Rattle.vcm_fields.specs.Words.{word_of, has_word}
 use Rattle.vcm_fields.specs.Fitting.{FitThree, within, FitsOperation, FitsLine}
 use Rattle.vcm_fields.specs.Spelling.{byte, long, three, axis_byte, direction_byte, setting_byte, source_byte, word_byte, operands, line}
 use Rattle.vcm_num.specs.declared.axis.Axis.{Axis}
@@ -15,10 +16,11 @@ use Rattle.vcm_spec.specs.declared.words.Setting.{Setting}
 use Rattle.vcm_spec.specs.declared.words.Setting.TheVariants.{Approach, Retract, Search, Depth}
 use Rattle.vcm_spec.specs.declared.words.Source.{Source}
 use Rattle.vcm_spec.specs.declared.words.Source.TheVariants.{Nominal, Actual}
-use Rattle.vcm_fields.specs.Readers.{both, via, number_at, byte_below_at, axis_rows, axis_at, direction_rows, direction_at, setting_rows, setting_at, source_rows, source_at, part_at, word_rows, word_at, three_at, operands_at, line_at}
+use Rattle.vcm_fields.specs.Readers.{both, via, number_at, byte_below_at, axis_rows, axis_at, direction_rows, direction_at, setting_rows, setting_at, source_rows, source_at, part_at, word_rows, any_word_at, word_at, three_at, operands_at, line_at}
 use Rattle.vcm_fields.proofs.Inverse.{IsBytes, Takes, Reads, ok_is, reads_as, reads_both, via_takes, via_again, reads_via, reads_tested, reads_after}
 use Rattle.vcm_fields.proofs.NumberInverse.{tagged_takes, now_row, reads_byte, reads_short, reads_long}
 use Rattle.vcm_fields.proofs.ItemParts.{in_range, reads_expression}
+use Rattle.vcm_fields.proofs.BranchParts.{reads_branches}
 use Rattle.vcm_fields.proofs.TextParts.{reads_text}
 
 -- ---- statements
@@ -100,12 +102,12 @@ reads_source = record { takes = source_takes; again = λ x rest h. source_again 
 word_spelled : Word → List ℕ
 word_spelled x = word_byte x ∷ []
 
-word_takes : (bytes : List ℕ) (x : Word × List ℕ) → IsBytes bytes → word_at bytes ≡ Ok x → Takes bytes (word_spelled x.0) x.1 × Any x.0
-unfolding word_spelled Any word_at
-word_takes bytes x fits e = tagged_takes word_spelled Any word_rows (now_row word_spelled Any 0 words.EndFil refl tt, (now_row word_spelled Any 1 words.Goto refl tt, (now_row word_spelled Any 2 words.GoHome refl tt, (now_row word_spelled Any 3 words.Assign refl tt, (now_row word_spelled Any 4 words.If refl tt, (now_row word_spelled Any 5 words.Else refl tt, (now_row word_spelled Any 6 words.EndIf refl tt, (now_row word_spelled Any 7 words.Do refl tt, (now_row word_spelled Any 8 words.EndDo refl tt, (now_row word_spelled Any 9 words.Label refl tt, (now_row word_spelled Any 10 words.JumpTo refl tt, (now_row word_spelled Any 11 words.Feat refl tt, (now_row word_spelled Any 12 words.Meas refl tt, (now_row word_spelled Any 13 words.PtMeas refl tt, (now_row word_spelled Any 14 words.EndMes refl tt, (now_row word_spelled Any 15 words.SnSet refl tt, (now_row word_spelled Any 16 words.Trans refl tt, (now_row word_spelled Any 17 words.Rotate refl tt, (now_row word_spelled Any 18 words.Recall refl tt, (now_row word_spelled Any 19 words.Obtain refl tt, (now_row word_spelled Any 20 words.Output refl tt, (now_row word_spelled Any 21 words.Text refl tt, tt)))))))))))))))))))))) bytes x fits e
+word_takes : (bytes : List ℕ) (x : Word × List ℕ) → IsBytes bytes → any_word_at bytes ≡ Ok x → Takes bytes (word_spelled x.0) x.1 × Any x.0
+unfolding word_spelled Any any_word_at
+word_takes bytes x fits e = tagged_takes word_spelled Any word_rows (now_row word_spelled Any 0 words.EndFil refl tt, (now_row word_spelled Any 1 words.Goto refl tt, (now_row word_spelled Any 2 words.GoHome refl tt, (now_row word_spelled Any 3 words.Assign refl tt, (now_row word_spelled Any 4 words.If refl tt, (now_row word_spelled Any 5 words.Else refl tt, (now_row word_spelled Any 6 words.EndIf refl tt, (now_row word_spelled Any 7 words.Do refl tt, (now_row word_spelled Any 8 words.EndDo refl tt, (now_row word_spelled Any 9 words.Label refl tt, (now_row word_spelled Any 10 words.JumpTo refl tt, (now_row word_spelled Any 11 words.Feat refl tt, (now_row word_spelled Any 12 words.Meas refl tt, (now_row word_spelled Any 13 words.PtMeas refl tt, (now_row word_spelled Any 14 words.EndMes refl tt, (now_row word_spelled Any 15 words.SnSet refl tt, (now_row word_spelled Any 16 words.Trans refl tt, (now_row word_spelled Any 17 words.Rotate refl tt, (now_row word_spelled Any 18 words.Recall refl tt, (now_row word_spelled Any 19 words.Obtain refl tt, (now_row word_spelled Any 20 words.Output refl tt, (now_row word_spelled Any 21 words.Text refl tt, (now_row word_spelled Any 22 words.Select refl tt, (now_row word_spelled Any 23 words.Case refl tt, (now_row word_spelled Any 24 words.EndCas refl tt, (now_row word_spelled Any 25 words.DftCas refl tt, (now_row word_spelled Any 26 words.EndSel refl tt, tt))))))))))))))))))))))))))) bytes x fits e
 
-word_again : (x : Word) (rest : List ℕ) → word_at (word_spelled x ++ rest) ≡ Ok (x, rest)
-unfolding word_spelled word_at
+word_again : (x : Word) (rest : List ℕ) → any_word_at (word_spelled x ++ rest) ≡ Ok (x, rest)
+unfolding word_spelled any_word_at
 word_again words.EndFil rest = refl
 word_again words.Goto rest = refl
 word_again words.GoHome rest = refl
@@ -128,9 +130,19 @@ word_again words.Recall rest = refl
 word_again words.Obtain rest = refl
 word_again words.Output rest = refl
 word_again words.Text rest = refl
+word_again words.Select rest = refl
+word_again words.Case rest = refl
+word_again words.EndCas rest = refl
+word_again words.DftCas rest = refl
+word_again words.EndSel rest = refl
 
-reads_word : Reads word_at word_spelled Any
-reads_word = record { takes = word_takes; again = λ x rest h. word_again x rest }
+reads_any_word : Reads any_word_at word_spelled Any
+reads_any_word = record { takes = word_takes; again = λ x rest h. word_again x rest }
+
+-- a word that the version has
+reads_word : (v : Version) → Reads (word_at v) word_spelled (λ w. IsTrue (has_word v w))
+unfolding Any
+reads_word v = reads_tested reads_any_word BadField (has_word v) (λ w. IsTrue (has_word v w)) (λ w h e. e) (λ w h. (tt, h))
 
 reads_below : (limit : ℕ) → limit ≤ 256 → Reads (byte_below_at limit) byte (λ n. n < limit)
 reads_below limit l = reads_tested reads_byte BadField (λ n. nat_lt n limit) (λ n. n < limit) (λ n lt e. grind arith) (λ n h. (omega (arith, h, l), grind arith))
@@ -170,6 +182,11 @@ operands_take words.Recall bytes x fits e = via_takes reads_short Recall [] oper
 operands_take words.Obtain bytes x fits e = via_takes (reads_both reads_short (reads_both reads_source (reads_both reads_short reads_part))) (λ o. Obtain o.0 o.1.0 o.1.1.0 o.1.1.1) [] operands (Of words.Obtain) (λ o h. refl) (λ o h. (refl, h)) bytes x fits e
 operands_take words.Output bytes x fits e = via_takes (reads_both reads_source reads_short) (λ o. Output o.0 o.1) [] operands (Of words.Output) (λ o h. refl) (λ o h. (refl, h)) bytes x fits e
 operands_take words.Text bytes x fits e = via_takes reads_text Text [] operands (Of words.Text) (λ o h. refl) (λ o h. (refl, h)) bytes x fits e
+operands_take words.Select bytes x fits e = via_takes (reads_both reads_expression (reads_both reads_branches reads_long)) (λ o. Select o.0 o.1.0 o.1.1) [] operands (Of words.Select) (λ o h. refl) (λ o h. (refl, h)) bytes x fits e
+operands_take words.Case bytes x fits e = subst (λ (y : Operation × List ℕ). Takes bytes (operands y.0) y.1 × Of words.Case y.0) (ok_is (Case, bytes) x e) (record { parts = refl; rest_fits = fits }, (refl, tt))
+operands_take words.EndCas bytes x fits e = via_takes reads_long EndCas [] operands (Of words.EndCas) (λ o h. refl) (λ o h. (refl, h)) bytes x fits e
+operands_take words.DftCas bytes x fits e = subst (λ (y : Operation × List ℕ). Takes bytes (operands y.0) y.1 × Of words.DftCas y.0) (ok_is (DftCas, bytes) x e) (record { parts = refl; rest_fits = fits }, (refl, tt))
+operands_take words.EndSel bytes x fits e = subst (λ (y : Operation × List ℕ). Takes bytes (operands y.0) y.1 × Of words.EndSel y.0) (ok_is (EndSel, bytes) x e) (record { parts = refl; rest_fits = fits }, (refl, tt))
 
 operands_again : (o : Operation) (rest : List ℕ) → FitsOperation o → operands_at (word_of o) (operands o ++ rest) ≡ Ok (o, rest)
 unfolding operands_at Any axis_spelled direction_spelled setting_spelled source_spelled
@@ -195,6 +212,11 @@ operands_again (Recall f) rest h = via_again reads_short Recall f rest h
 operands_again (Obtain v source f word) rest h = via_again (reads_both reads_short (reads_both reads_source (reads_both reads_short reads_part))) (λ o. Obtain o.0 o.1.0 o.1.1.0 o.1.1.1) (v, (source, (f, word))) rest h
 operands_again (Output source f) rest h = via_again (reads_both reads_source reads_short) (λ o. Output o.0 o.1) (source, f) rest h
 operands_again (Text bs) rest h = via_again reads_text Text bs rest h
+operands_again (Select e bs to) rest h = via_again (reads_both reads_expression (reads_both reads_branches reads_long)) (λ o. Select o.0 o.1.0 o.1.1) (e, (bs, to)) rest h
+operands_again Case rest h = refl
+operands_again (EndCas to) rest h = via_again reads_long EndCas to rest h
+operands_again DftCas rest h = refl
+operands_again EndSel rest h = refl
 
 reads_operands : (w : Word) → Reads (operands_at w) operands (Of w)
 unfolding Of
@@ -203,12 +225,12 @@ reads_operands w = record {
   again = λ o rest h. ap (λ (v : Word). operands_at v (operands o ++ rest)) (sym h.0) ∙ operands_again o rest h.1;
 }
 
-reads_rest : (w : Word) → Reads (via (λ o. record { line = o.0; op = o.1 }) (both (number_at w32) (operands_at w))) (λ s. long s.line ++ operands s.op) (λ s. (word_of s.op ≡ w) × FitsLine s)
+reads_rest : (w : Word) → Reads {A = Line} (via (λ o. record { line = o.0; op = o.1 }) (both (number_at w32) (operands_at w))) (λ s. long s.line ++ operands s.op) (λ s. (word_of s.op ≡ w) × ((s.line < 2 ^ 32) × FitsOperation s.op))
 unfolding Of
-reads_rest w = reads_via (reads_both reads_long (reads_operands w)) (λ o. record { line = o.0; op = o.1 }) (λ s. (s.line, s.op)) (λ s. long s.line ++ operands s.op) (λ s. (word_of s.op ≡ w) × FitsLine s)
+reads_rest w = reads_via (reads_both reads_long (reads_operands w)) (λ o. record { line = o.0; op = o.1 }) (λ s. (s.line, s.op)) (λ s. long s.line ++ operands s.op) (λ s. (word_of s.op ≡ w) × ((s.line < 2 ^ 32) × FitsOperation s.op))
     (λ o h. refl) (λ o h. (h.1.0, (h.0, h.1.1))) (λ s h. (refl, refl, (h.1.0, (h.0, h.1.1))))
 
-pub reads_line : Reads line_at line FitsLine
+pub reads_line : (v : Version) → Reads (line_at v) line (FitsLine v)
 unfolding line_at word_spelled Any
-reads_line = reads_as (reads_after reads_word (λ s. word_of s.op) reads_rest) line FitsLine
-    (λ s. refl) (λ s h. h.1) (λ s h. (tt, h))
+reads_line v = reads_as (reads_after (reads_word v) (λ s. word_of s.op) reads_rest) line (FitsLine v)
+    (λ s. refl) (λ s h. h) (λ s h. h)

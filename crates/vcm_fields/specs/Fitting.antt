@@ -1,5 +1,5 @@
 -- Which parts have all their fields in range, so that they have a spelling.
-use Rattle.std.specs.Prelude.{ℕ, ◌<◌, ◌^◌, ◌&&◌, Bool, nat_le, IsTrue, List, length, FitsSigned}
+use Rattle.std.specs.Prelude.{ℕ, ◌<◌, ◌≤◌, ◌^◌, ◌&&◌, Bool, nat_le, IsTrue, List, length, FitsSigned}
 use Rattle.std.specs.List.{AllByRecursion}
 use Rattle.std.specs.Int.{w64}
 use Rattle.vcm_spec.specs.declared.expression.Operand.{Operand}
@@ -10,7 +10,10 @@ use Rattle.vcm_spec.specs.Setup.{Variable as Entry}
 use Rattle.vcm_spec.specs.TextBytes.{IsText}
 use Rattle.vcm_expr.specs.Symbols.{IsVariableName}
 use Rattle.vcm_code.specs.declared.op.Op.TheVariants.{EndFil, Goto, GoHome, Assign, If, Else, EndIf, Do, EndDo, Label, JumpTo, Feat, Meas}
-use Rattle.vcm_code.specs.declared.op.Op.TheVariants.{PtMeas, EndMes, SnSet, Trans, Rotate, Recall, Obtain, Output, Text}
+use Rattle.vcm_code.specs.declared.op.Op.TheVariants.{PtMeas, EndMes, SnSet, Trans, Rotate, Recall, Obtain, Output, Text, Select, Case, EndCas, DftCas, EndSel}
+use Rattle.vcm_code.specs.declared.branch.Branch.{Branch}
+use Rattle.vcm_code.specs.declared.version.Version.{Version}
+use Rattle.vcm_fields.specs.Words.{word_of, has_word}
 use Rattle.vcm_fields.specs.Parts.{Operation, Line}
 
 -- a number from the one to the other
@@ -38,6 +41,14 @@ FitsExpression items = IsTrue (within 1 1024 (length items)) × AllByRecursion F
 abbrev pub FitThree : List Item → List Item → List Item → Type 0
 FitThree x y z = FitsExpression x × (FitsExpression y × FitsExpression z)
 
+-- a branch: its value has 64 bits with its sign, its target 32
+abbrev pub FitsBranch : Branch → Type 0
+FitsBranch b = FitsSigned w64 b.value × (b.target < 2 ^ 32)
+
+-- branches: at most 20,000
+abbrev pub FitBranches : List Branch → Type 0
+FitBranches bs = (length bs ≤ 20000) × AllByRecursion FitsBranch bs
+
 -- a statement's operands: indexes have 16 bits, targets 32, pairs are below 32, axes below 3, quarter turns below 4, and the word of a
 -- feature is the third to the eighth
 abbrev pub FitsOperation : Operation → Type 0
@@ -63,10 +74,15 @@ FitsOperation (Recall f) = f < 2 ^ 16
 FitsOperation (Obtain v source f word) = (v < 2 ^ 16) × (Unit {0} × ((f < 2 ^ 16) × IsTrue (within 3 8 word)))
 FitsOperation (Output source f) = Unit {0} × (f < 2 ^ 16)
 FitsOperation (Text bytes) = IsText bytes
+FitsOperation (Select e bs to) = FitsExpression e × (FitBranches bs × (to < 2 ^ 32))
+FitsOperation Case = Unit {0}
+FitsOperation (EndCas to) = to < 2 ^ 32
+FitsOperation DftCas = Unit {0}
+FitsOperation EndSel = Unit {0}
 
--- a statement: its source line has 32 bits
-abbrev pub FitsLine : Line → Type 0
-FitsLine s = (s.line < 2 ^ 32) × FitsOperation s.op
+-- a statement: its version has its word, and its source line has 32 bits
+abbrev pub FitsLine : Version → Line → Type 0
+FitsLine v s = IsTrue (has_word v (word_of s.op)) × ((s.line < 2 ^ 32) × FitsOperation s.op)
 
 -- a variable: its expansion has 32 bits, and its name is a variable's
 abbrev pub FitsEntry : Entry → Type 0

@@ -11,7 +11,10 @@ use Rattle.vcm_spec.specs.declared.expression.Relation.TheVariants.{Equal, NotEq
 use Rattle.vcm_spec.specs.declared.expression.Item.{Item}
 use Rattle.vcm_spec.specs.declared.expression.Item.TheVariants.{Push, Apply, Combine}
 use Rattle.vcm_code.specs.declared.op.Op.TheVariants.{EndFil, Goto, GoHome, Assign, If, Else, EndIf, Do, EndDo, Label, JumpTo, Feat, Meas}
-use Rattle.vcm_code.specs.declared.op.Op.TheVariants.{PtMeas, EndMes, SnSet, Trans, Rotate, Recall, Obtain, Output, Text}
+use Rattle.vcm_code.specs.declared.op.Op.TheVariants.{PtMeas, EndMes, SnSet, Trans, Rotate, Recall, Obtain, Output, Text, Select, Case, EndCas, DftCas, EndSel}
+use Rattle.vcm_code.specs.declared.branch.Branch.{Branch}
+use Rattle.vcm_code.specs.declared.version.Version.{Version}
+use Rattle.vcm_fields.specs.Words.{has_word}
 use Rattle.vcm_spec.specs.Setup.{Variable as Entry}
 use Rattle.vcm_spec.specs.TextBytes.{is_text}
 use Rattle.vcm_spec.specs.Results.{◌>>=◌}
@@ -242,11 +245,28 @@ word_rows =
     ∷ (19, now words.Obtain)
     ∷ (20, now words.Output)
     ∷ (21, now words.Text)
+    ∷ (22, now words.Select)
+    ∷ (23, now words.Case)
+    ∷ (24, now words.EndCas)
+    ∷ (25, now words.DftCas)
+    ∷ (26, now words.EndSel)
     ∷ []
 
--- the word of a statement
-unfoldable pub word_at : Reader Word
-word_at = after byte_at (found word_rows)
+-- the word of a statement, of any version
+unfoldable pub any_word_at : Reader Word
+any_word_at = after byte_at (found word_rows)
+
+-- the word of a statement; one that the version doesn't have is out of range
+abbrev pub word_at : Version → Reader Word
+word_at v = tested BadField (has_word v) any_word_at
+
+-- a branch of a SELECT: its value, and its target
+unfoldable pub branch_at : Reader Branch
+branch_at = via (λ b. record { value = b.0; target = b.1 }) (both signed_at target_at)
+
+-- branches: how many they are, at most 20,000, and each of them
+unfoldable pub branches_at : Reader (List Branch)
+branches_at = after (tested BadField (λ n. nat_le n 20000) (number_at w16)) (times branch_at)
 
 -- three expressions
 unfoldable pub three_at : Reader (List Item × (List Item × List Item))
@@ -277,10 +297,15 @@ operands_at words.Recall = via Recall variable_at
 operands_at words.Obtain = via (λ o. Obtain o.0 o.1.0 o.1.1.0 o.1.1.1) (both variable_at (both source_at (both variable_at part_at)))
 operands_at words.Output = via (λ o. Output o.0 o.1) (both source_at variable_at)
 operands_at words.Text = via Text text_at
+operands_at words.Select = via (λ o. Select o.0 o.1.0 o.1.1) (both expression_at (both branches_at target_at))
+operands_at words.Case = now Case
+operands_at words.EndCas = via EndCas target_at
+operands_at words.DftCas = now DftCas
+operands_at words.EndSel = now EndSel
 
--- a statement: its word, its source line, and its operands
-unfoldable pub line_at : Reader Line
-line_at = after word_at (λ k. via (λ o. record { line = o.0; op = o.1 }) (both (number_at w32) (operands_at k)))
+-- a statement of a version: its word, its source line, and its operands
+unfoldable pub line_at : Version → Reader Line
+line_at v = after (word_at v) (λ k. via (λ o. record { line = o.0; op = o.1 }) (both (number_at w32) (operands_at k)))
 
 -- ---- tables
 

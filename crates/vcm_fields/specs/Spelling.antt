@@ -14,7 +14,8 @@ use Rattle.vcm_spec.specs.declared.expression.Relation.TheVariants.{Equal, NotEq
 use Rattle.vcm_spec.specs.declared.expression.Item.{Item}
 use Rattle.vcm_spec.specs.declared.expression.Item.TheVariants.{Push, Apply, Combine}
 use Rattle.vcm_code.specs.declared.op.Op.TheVariants.{EndFil, Goto, GoHome, Assign, If, Else, EndIf, Do, EndDo, Label, JumpTo, Feat, Meas}
-use Rattle.vcm_code.specs.declared.op.Op.TheVariants.{PtMeas, EndMes, SnSet, Trans, Rotate, Recall, Obtain, Output, Text}
+use Rattle.vcm_code.specs.declared.op.Op.TheVariants.{PtMeas, EndMes, SnSet, Trans, Rotate, Recall, Obtain, Output, Text, Select, Case, EndCas, DftCas, EndSel}
+use Rattle.vcm_code.specs.declared.branch.Branch.{Branch}
 use Rattle.vcm_spec.specs.Setup.{Variable as Entry}
 use Rattle.vcm_fields.specs.declared.word.Word.{Word}
 use Rattle.vcm_fields.specs.declared.word.Word.TheVariants as words
@@ -88,6 +89,16 @@ item (Combine op) = byte (binary op)
 abbrev pub expression : List Item → List ℕ
 expression items = short (length items) ++ flat_map item items
 
+-- ---- branches
+
+-- a branch of a SELECT: its value, and its target
+abbrev pub branch : Branch → List ℕ
+branch b = signed b.value ++ long b.target
+
+-- branches: how many they are, and each of them
+abbrev pub branches : List Branch → List ℕ
+branches bs = short (length bs) ++ flat_map branch bs
+
 -- ---- names and texts
 
 -- a name: its length, and its bytes
@@ -155,6 +166,11 @@ word_byte words.Recall = 18
 word_byte words.Obtain = 19
 word_byte words.Output = 20
 word_byte words.Text = 21
+word_byte words.Select = 22
+word_byte words.Case = 23
+word_byte words.EndCas = 24
+word_byte words.DftCas = 25
+word_byte words.EndSel = 26
 
 -- three expressions
 abbrev pub three : List Item → List Item → List Item → List ℕ
@@ -184,6 +200,11 @@ operands (Recall f) = short f
 operands (Obtain v source f word) = short v ++ (byte (source_byte source) ++ (short f ++ byte word))
 operands (Output source f) = byte (source_byte source) ++ short f
 operands (Text bs) = text bs
+operands (Select e bs to) = expression e ++ (branches bs ++ long to)
+operands Case = []
+operands (EndCas to) = long to
+operands DftCas = []
+operands EndSel = []
 
 -- the kind, the line, the operands
 abbrev pub line : Line → List ℕ

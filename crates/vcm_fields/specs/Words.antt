@@ -1,6 +1,9 @@
--- The word of a statement.
+-- The word of a statement, and which version has it.
+use Rattle.std.specs.Prelude.{Bool, true, false, not}
 use Rattle.vcm_code.specs.declared.op.Op.TheVariants.{EndFil, Goto, GoHome, Assign, If, Else, EndIf, Do, EndDo, Label, JumpTo, Feat, Meas}
-use Rattle.vcm_code.specs.declared.op.Op.TheVariants.{PtMeas, EndMes, SnSet, Trans, Rotate, Recall, Obtain, Output, Text}
+use Rattle.vcm_code.specs.declared.op.Op.TheVariants.{PtMeas, EndMes, SnSet, Trans, Rotate, Recall, Obtain, Output, Text, Select, Case, EndCas, DftCas, EndSel}
+use Rattle.vcm_code.specs.declared.version.Version.{Version}
+use Rattle.vcm_code.specs.declared.version.Version.TheVariants.{One, Two}
 use Rattle.vcm_fields.specs.declared.word.Word.{Word}
 use Rattle.vcm_fields.specs.declared.word.Word.TheVariants as words
 use Rattle.vcm_fields.specs.Parts.{Operation}
@@ -29,3 +32,22 @@ word_of (Recall f) = words.Recall
 word_of (Obtain v source f word) = words.Obtain
 word_of (Output source f) = words.Output
 word_of (Text bs) = words.Text
+word_of (Select e bs target) = words.Select
+word_of Case = words.Case
+word_of (EndCas target) = words.EndCas
+word_of DftCas = words.DftCas
+word_of EndSel = words.EndSel
+
+-- whether a word is SELECT, CASE, ENDCAS, DFTCAS or ENDSEL
+abbrev pub is_of_select : Word → Bool
+is_of_select words.Select = true
+is_of_select words.Case = true
+is_of_select words.EndCas = true
+is_of_select words.DftCas = true
+is_of_select words.EndSel = true
+is_of_select _ = false
+
+-- whether a version has a word
+abbrev pub has_word : Version → Word → Bool
+has_word One w = not (is_of_select w)
+has_word Two w = true

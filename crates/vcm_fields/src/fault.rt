@@ -15,7 +15,7 @@ pub enum ImageFault {
     BadMagic,
     /// The bytes of a field are missing.
     Short,
-    /// The version is not 1.
+    /// The version is neither 1 nor 2.
     BadVersion,
     /// A field is out of its range.
     BadField,

@@ -2,6 +2,7 @@
 //! A reader of a statement is inlined where it is called, so that no value is made that the caller leaves alone.
 #![tactic(auto)]
 
+mod branches;
 mod fault;
 mod fields;
 mod items;
@@ -12,10 +13,11 @@ mod texts;
 mod variables;
 mod word;
 
+pub use branches::BranchSlice;
 pub use fault::ImageFault;
 pub use fields::{long, short};
 pub use slices::{ItemSlice, TextSlice};
 pub use statements::{BorrowedOp, BorrowedStatement, statement};
 pub use texts::name;
 pub use variables::{BorrowedVariable, variable};
-pub use word::Word;
+pub use word::{Word, has_word};

@@ -1,24 +1,28 @@
-//! Statements, whose items and texts are slices of the image.
+//! Statements, whose items, texts and branches are slices of the image.
 
-ghost use Rattle.vcm_fields.specs.Readers.{Gives, expression_at, pair_at, three_at, operands_at, line_at};
+ghost use Rattle.vcm_fields.specs.Readers.{Gives, expression_at, branches_at, pair_at, three_at, operands_at, line_at};
 ghost use Rattle.vcm_fields.specs.declared.word.Word.TheVariants as words;
 
+use crate::branches::BranchSlice;
 use crate::fault::ImageFault;
 use crate::fields::{byte_below, long, short};
 use crate::slices::{ItemSlice, TextSlice};
 use crate::tags::{axis, direction, part, setting, source, word};
 use crate::texts::text;
 use crate::word::Word;
-use vcm_code::{Op, Statement};
+use vcm_code::{Op, Statement, Version};
 
 /// What a statement of an image does.
-pub type BorrowedOp<'a> = Op<ItemSlice<'a>, TextSlice<'a>>;
+pub type BorrowedOp<'a> = Op<ItemSlice<'a>, TextSlice<'a>, BranchSlice<'a>>;
 
 /// A statement of an image.
-pub type BorrowedStatement<'a> = Statement<ItemSlice<'a>, TextSlice<'a>>;
+pub type BorrowedStatement<'a> = Statement<ItemSlice<'a>, TextSlice<'a>, BranchSlice<'a>>;
 
 /// The most items of an expression.
 const LONGEST: u16 = 1024;
+
+/// The most branches of a SELECT.
+const MOST_BRANCHES: u16 = 20_000;
 
 // An expression: the number of its items, and the items.
 #[tactic(auto, unfolding(crate::specs::Readers::expression_at))]
@@ -201,6 +205,31 @@ fn output(bytes: &[u8]) -> Result<(BorrowedOp<'_>, &[u8]), ImageFault>
     Ok((Op::Output(source, feature), rest))
 }
 
+// Branches: how many they are, and each of them.
+#[tactic(auto, unfolding(crate::specs::Readers::branches_at))]
+#[inline(always)]
+fn branches(bytes: &[u8]) -> Result<(BranchSlice<'_>, &[u8]), ImageFault>
+    ensures { Gives (λ x. (x.0, x.1.now)) result (branches_at bytes.now) }
+{
+    let (count, rest) = short(bytes)?;
+    if count > MOST_BRANCHES {
+        return Err(ImageFault::BadField);
+    }
+    BranchSlice::cut(count, rest)
+}
+
+// The operands of SELECT.
+#[tactic(auto, unfolding(crate::specs::Readers::operands_at))]
+#[inline(always)]
+fn selection(bytes: &[u8]) -> Result<(BorrowedOp<'_>, &[u8]), ImageFault>
+    ensures { Gives (λ x. (x.0, x.1.now)) result (operands_at words.Select bytes.now) }
+{
+    let (value, rest) = expression(bytes)?;
+    let (branches, rest) = branches(rest)?;
+    let (target, rest) = long(rest)?;
+    Ok((Op::Select(value, branches, target), rest))
+}
+
 // The operands behind a word.
 #[tactic(auto, unfolding(crate::specs::Readers::operands_at))]
 #[inline(always)]
@@ -245,20 +274,31 @@ fn operands<'a>(word: Word, bytes: &'a [u8]) -> Result<(BorrowedOp<'a>, &'a [u8]
             let (text, rest) = text(bytes)?;
             Ok((Op::Text(text), rest))
         }
+        Word::Select => selection(bytes),
+        Word::Case => Ok((Op::Case, bytes)),
+        Word::EndCas => {
+            let (target, rest) = long(bytes)?;
+            Ok((Op::EndCas(target), rest))
+        }
+        Word::DftCas => Ok((Op::DftCas, bytes)),
+        Word::EndSel => Ok((Op::EndSel, bytes)),
     }
 }
 
-/// A statement, and the bytes behind it.
+/// A statement of a version, and the bytes behind it.
 ///
 /// # Errors
 ///
 /// Short; BadField where a field is out of its range.
 #[tactic(auto, unfolding(crate::specs::Readers::line_at))]
 #[inline(always)]
-pub fn statement(bytes: &[u8]) -> Result<(BorrowedStatement<'_>, &[u8]), ImageFault>
-    ensures { Gives (λ x. (x.0, x.1.now)) result (line_at bytes.now) }
+pub fn statement(
+    version: Version,
+    bytes: &[u8],
+) -> Result<(BorrowedStatement<'_>, &[u8]), ImageFault>
+    ensures { Gives (λ x. (x.0, x.1.now)) result (line_at version bytes.now) }
 {
-    let (word, rest) = word(bytes)?;
+    let (word, rest) = word(version, bytes)?;
     let (line, rest) = long(rest)?;
     let (op, rest) = operands(word, rest)?;
     Ok((Statement { line, op }, rest))

@@ -1,18 +1,19 @@
 //! Bytes that stand for a word of the language: each is read by its table.
 
-ghost use Rattle.vcm_fields.specs.Readers.{Gives, word_at, kind_at, axis_at, direction_at, setting_at, source_at, part_at};
+ghost use Rattle.vcm_fields.specs.Readers.{Gives, any_word_at, word_at, kind_at, axis_at, direction_at, setting_at, source_at, part_at};
 
 use crate::fault::ImageFault;
 use crate::fields::byte;
-use crate::word::Word;
+use crate::word::{Word, has_word};
+use vcm_code::Version;
 use vcm_num::{Axis, Kind};
 use vcm_spec::{Setting, Source};
 
-/// The word of a statement.
-#[tactic(auto, unfolding(crate::specs::Readers::word_at))]
+// The word of a statement, of any version.
+#[tactic(auto, unfolding(crate::specs::Readers::any_word_at))]
 #[inline(always)]
-pub(crate) fn word(bytes: &[u8]) -> Result<(Word, &[u8]), ImageFault>
-    ensures { Gives (λ x. (x.0, x.1.now)) result (word_at bytes.now) }
+fn any_word(bytes: &[u8]) -> Result<(Word, &[u8]), ImageFault>
+    ensures { Gives (λ x. (x.0, x.1.now)) result (any_word_at bytes.now) }
 {
     let (number, rest) = byte(bytes)?;
     match number {
@@ -38,8 +39,25 @@ pub(crate) fn word(bytes: &[u8]) -> Result<(Word, &[u8]), ImageFault>
         19 => Ok((Word::Obtain, rest)),
         20 => Ok((Word::Output, rest)),
         21 => Ok((Word::Text, rest)),
+        22 => Ok((Word::Select, rest)),
+        23 => Ok((Word::Case, rest)),
+        24 => Ok((Word::EndCas, rest)),
+        25 => Ok((Word::DftCas, rest)),
+        26 => Ok((Word::EndSel, rest)),
         _ => Err(ImageFault::BadField),
     }
+}
+
+/// The word of a statement, which the version has.
+#[inline(always)]
+pub(crate) fn word(version: Version, bytes: &[u8]) -> Result<(Word, &[u8]), ImageFault>
+    ensures { Gives (λ x. (x.0, x.1.now)) result (word_at version bytes.now) }
+{
+    let (word, rest) = any_word(bytes)?;
+    if !has_word(version, word) {
+        return Err(ImageFault::BadField);
+    }
+    Ok((word, rest))
 }
 
 /// A variable's kind.

@@ -1,12 +1,16 @@
 -- The laws of images.
-use Rattle.std.proofs.Common.{◌≡◌, ◌≢◌, ℕ, ◌<◌, ◌≤◌, ◌⊎◌, inl, inr, List, [], ◌∷◌, length, suc, get_or, Result, Ok, Err, refl, sym, ap, ◌∙◌, subst}
+use Rattle.std.proofs.Common.{◌≡◌, ◌≢◌, ℕ, ◌<◌, ◌≤◌, ◌⊎◌, inl, inr, Bool, true, false, IsTrue, List, [], ◌∷◌, length, suc, get_or, Result, Ok, Err, refl, sym, ap, ◌∙◌, subst}
+use Rattle.std.specs.Prelude.{not, ◌||◌}
 use Rattle.std.specs.List.{AllByRecursion}
 use Rattle.vcm_spec.specs.declared.expression.Item.{Item}
 use Rattle.vcm_spec.specs.Setup.{Variable as Entry}
 use Rattle.vcm_code.specs.declared.code.Code.{Code}
-use Rattle.vcm_code.specs.declared.op.Op.TheVariants.{EndFil, Goto, GoHome, Assign, If, Else, EndIf, Do, EndDo, Label, JumpTo, Feat, Meas, PtMeas, EndMes, SnSet, Trans, Rotate, Recall, Obtain, Output, Text}
+use Rattle.vcm_code.specs.declared.op.Op.TheVariants.{EndFil, Goto, GoHome, Assign, If, Else, EndIf, Do, EndDo, Label, JumpTo, Feat, Meas, PtMeas, EndMes, SnSet, Trans, Rotate, Recall, Obtain, Output, Text, Select, Case, EndCas, DftCas, EndSel}
 use Rattle.vcm_code.specs.Ops.{op_of, statements_of, code_of}
-use Rattle.vcm_code.specs.Ranges.{IsShort, OpInRange, AllInRange, IsInRange}
+use Rattle.vcm_code.specs.declared.version.Version.{Version}
+use Rattle.vcm_code.specs.declared.version.Version.TheVariants.{One, Two}
+use Rattle.vcm_code.specs.Ranges.{IsShort, OpInRange, AllInRange, is_selection, has_selection, IsOfVersion, IsInRange}
+use Rattle.vcm_fields.specs.Words.{word_of, is_of_select, has_word}
 use Rattle.vcm_expr.specs.Names.{AreNamed}
 use Rattle.vcm_fields.specs.declared.fault.ImageFault.{ImageFault}
 use Rattle.vcm_fields.specs.Parts.{Operation, Line}
@@ -49,10 +53,66 @@ op_range (Recall f) h = tt
 op_range (Obtain v source f word) h = in_range 3 8 word h.1.1.1
 op_range (Output source f) h = tt
 op_range (Text bytes) h = h
+op_range (Select e bs to) h = (short e h.0, h.1.0.0)
+op_range Case h = tt
+op_range (EndCas to) h = tt
+op_range DftCas h = tt
+op_range EndSel h = tt
 
-lines_range : (ss : List Line) → AllByRecursion FitsLine ss → AllInRange (statements_of ss)
-lines_range [] h = tt
-lines_range (s ∷ ss) h = (op_range s.op h.0.1, lines_range ss h.1)
+lines_range : (v : Version) (ss : List Line) → AllByRecursion (FitsLine v) ss → AllInRange (statements_of ss)
+lines_range v [] h = tt
+lines_range v (s ∷ ss) h = (op_range s.op h.0.1.1, lines_range v ss h.1)
+
+-- the words of SELECT are those of its statements
+pub same_selection : (o : Operation) → is_selection (op_of o) ≡ is_of_select (word_of o)
+same_selection EndFil = refl
+same_selection (Goto x y z) = refl
+same_selection GoHome = refl
+same_selection (Assign v e) = refl
+same_selection (If e to) = refl
+same_selection (Else to) = refl
+same_selection EndIf = refl
+same_selection (Do v p a b c exit) = refl
+same_selection (EndDo v p to) = refl
+same_selection Label = refl
+same_selection (JumpTo to) = refl
+same_selection (Feat f x y z toward) = refl
+same_selection (Meas f) = refl
+same_selection (PtMeas f x y z toward) = refl
+same_selection EndMes = refl
+same_selection (SnSet which e) = refl
+same_selection (Trans f x y z) = refl
+same_selection (Rotate f axis quarters) = refl
+same_selection (Recall f) = refl
+same_selection (Obtain v source f word) = refl
+same_selection (Output source f) = refl
+same_selection (Text bytes) = refl
+same_selection (Select e bs to) = refl
+same_selection Case = refl
+same_selection (EndCas to) = refl
+same_selection DftCas = refl
+same_selection EndSel = refl
+
+neither : (a b : Bool) → not a ≡ true → b ≡ false → (a || b) ≡ false
+neither true b e f = absurd cc
+neither false b e f = f
+
+lines_version : (v : Version) (ss : List Line) → AllByRecursion (FitsLine v) ss → IsOfVersion v (statements_of ss)
+lines_version Two ss h = tt
+lines_version One [] h = refl
+lines_version One (s ∷ ss) h =
+    neither (is_selection (op_of s.op)) (has_selection (statements_of ss)) (ap not (same_selection s.op) ∙ h.0.0) (lines_version One ss h.1)
+
+apart : (a b : Bool) → (a || b) ≡ false → (not a ≡ true) × (b ≡ false)
+apart true b e = absurd cc
+apart false b e = (refl, e)
+
+-- a version that has these statements has the first word of them, and the others
+pub of_version_next : (v : Version) (s : Line) (ss : List Line) → IsOfVersion v (statements_of (s ∷ ss)) → IsTrue (has_word v (word_of s.op)) × IsOfVersion v (statements_of ss)
+of_version_next Two s ss h = (refl, tt)
+of_version_next One s ss h =
+    let p = apart (is_selection (op_of s.op)) (has_selection (statements_of ss)) h in
+    (ap not (sym (same_selection s.op)) ∙ p.0, p.1)
 
 variables_range : (vs : List Entry) → AllByRecursion FitsEntry vs → AreNamed vs
 variables_range [] h = tt
@@ -67,7 +127,8 @@ range_of c h = record {
   variables = (h.variables.0, variables_range c.tables.variables h.variables.1);
   features = h.features;
   frames = h.frames;
-  statements = (subst (λ n. n ≤ 20000) (sym (statements_length c.statements)) h.statements.0, lines_range c.statements h.statements.1);
+  statements = (subst (λ n. n ≤ 20000) (sym (statements_length c.statements)) h.statements.0, lines_range c.version c.statements h.statements.1);
+  version = lines_version c.version c.statements h.statements.1;
 }
 
 -- ---- changes

@@ -2,3 +2,4 @@ pub mod Wholes
 pub mod Tables
 pub mod Copies
 pub mod ImageLaws
+pub mod Branches

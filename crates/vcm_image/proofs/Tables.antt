@@ -155,13 +155,13 @@ module _ (bytes : List ℕ) (n : Counts) (r : List ℕ) (h : header_at bytes ≡
       frames_fail f g = fails_from f (times name_at n.frames r2) (code_at bytes) g (λ e. rw (h, tv.is, tf.is, e) refl)
 
       module _ (ds : List ℕ) (r3 : List ℕ) (td : Table name_at n.frames bytes r2 ds r3) where
-        pub statements_fail : (f : ImageFault) → Fails f (times line_at n.statements r3) → Fails f (code_at bytes)
+        pub statements_fail : (f : ImageFault) → Fails f (times (line_at n.version) n.statements r3) → Fails f (code_at bytes)
         unfolding code_at body_at
-        statements_fail f g = fails_from f (times line_at n.statements r3) (code_at bytes) g (λ e. rw (h, tv.is, tf.is, td.is, e) refl)
+        statements_fail f g = fails_from f (times (line_at n.version) n.statements r3) (code_at bytes) g (λ e. rw (h, tv.is, tf.is, td.is, e) refl)
 
-        module _ (ss : List Line) (r4 : List ℕ) (ts : times line_at n.statements r3 ≡ Ok (ss, r4)) where
+        module _ (ss : List Line) (r4 : List ℕ) (ts : times (line_at n.version) n.statements r3 ≡ Ok (ss, r4)) where
           abbrev whole_code : Code
-          whole_code = record { tables = record { variables = tv.values; features = tf.values; frames = td.values }; statements = ss }
+          whole_code = record { version = n.version; tables = record { variables = tv.values; features = tf.values; frames = td.values }; statements = ss }
 
           code_is : code_at bytes ≡ ended (whole_code, r4)
           unfolding code_at body_at
@@ -179,13 +179,14 @@ module _ (bytes : List ℕ) (n : Counts) (r : List ℕ) (h : header_at bytes ≡
               over : (k : ℕ) → k ≡ 0 → (if k == 0 then Ok whole_code else Err Trailing) ≡ Ok whole_code
               over k e' = rw e' refl
 
-          pub indexed : IsBytes bytes → length r4 ≡ 0 → Indexed bytes vs fs ds ss
+          pub indexed : IsBytes bytes → length r4 ≡ 0 → Indexed bytes n.version vs fs ds ss
           indexed b e =
               let c = none_left e in
               let same : whole_code ≡ code_in bytes = sym (ap code_or_none c) in
               record {
                 is = c ∙ ap Ok same;
                 fits = (code_takes bytes (code_in bytes) b (c ∙ ap Ok same)).0;
+                version_is = ap (λ (d : Code). d.version) same;
                 variables_begin = subst (λ (d : Code). Begin entry_at bytes vs d.tables.variables) same tv.begin;
                 features_begin = subst (λ (d : Code). Begin name_at bytes fs d.tables.features) same tf.begin;
                 frames_begin = subst (λ (d : Code). Begin name_at bytes ds d.tables.frames) same td.begin;

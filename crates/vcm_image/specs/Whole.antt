@@ -1,8 +1,10 @@
 -- The image of a code: bytes and code are one grammar.
-use Rattle.std.specs.Prelude.{◌≤◌, ◌==◌, ℕ, nat_le, Bool, List, ◌++◌, length, Result, Ok, Err, if◌then◌else◌}
+use Rattle.std.specs.Prelude.{◌≤◌, ◌==◌, ◌||◌, ℕ, nat_le, Bool, List, ◌++◌, length, Result, Ok, Err, if◌then◌else◌}
 use Rattle.std.specs.List.{flat_map, AllByRecursion}
 use Rattle.std.specs.Int.{w16, w32}
 use Rattle.vcm_expr.specs.NameBytes.{IsName}
+use Rattle.vcm_code.specs.declared.version.Version.{Version}
+use Rattle.vcm_code.specs.declared.version.Version.TheVariants.{One, Two}
 use Rattle.vcm_code.specs.declared.code.Code.{Code}
 use Rattle.vcm_fields.specs.declared.fault.ImageFault.{ImageFault}
 use Rattle.vcm_fields.specs.declared.fault.ImageFault.TheVariants.{BadMagic, BadVersion, BadField, Trailing}
@@ -17,12 +19,13 @@ pub record FitsImage (c : Code) : Type 0 where
   pub variables : (length c.tables.variables ≤ 4096) × AllByRecursion FitsEntry c.tables.variables
   pub features : (length c.tables.features ≤ 4096) × AllByRecursion IsName c.tables.features
   pub frames : (length c.tables.frames ≤ 4096) × AllByRecursion IsName c.tables.frames
-  pub statements : (length c.statements ≤ 20000) × AllByRecursion FitsLine c.statements
+  pub statements : (length c.statements ≤ 20000) × AllByRecursion (FitsLine c.version) c.statements
 
--- how many variables, features, frames and statements there are
+-- the version, and how many variables, features, frames and statements there are
 abbrev pub counts_of : Code → Counts
 counts_of c =
     record {
+      version = c.version;
       variables = length c.tables.variables;
       features = length c.tables.features;
       frames = length c.tables.frames;
@@ -33,9 +36,14 @@ counts_of c =
 abbrev pub magic : ℕ
 magic = 1229800278
 
--- the magic bytes, the version 1, and the numbers of variables, features, frames and statements
+-- the number of a version
+abbrev pub version_number : Version → ℕ
+version_number One = 1
+version_number Two = 2
+
+-- the magic bytes, the version, and the numbers of variables, features, frames and statements
 abbrev pub header : Counts → List ℕ
-header n = long magic ++ (short 1 ++ (short n.variables ++ (short n.features ++ (short n.frames ++ long n.statements))))
+header n = long magic ++ (short (version_number n.version) ++ (short n.variables ++ (short n.features ++ (short n.frames ++ long n.statements))))
 
 -- the one spelling of a code
 abbrev pub spelling : Code → List ℕ
@@ -55,19 +63,31 @@ at_most m n = nat_le n m
 abbrev pub count_at : ℕ → Reader ℕ
 count_at limit = tested BadField (at_most limit) (number_at w16)
 
+-- whether a number is that of a version
+abbrev pub is_version : ℕ → Bool
+is_version n = n == 1 || n == 2
+
+-- the version with a number
+abbrev pub version_of : ℕ → Version
+version_of n = if n == 1 then One else Two
+
+-- a version: a number of two bytes
+abbrev pub version_at : Reader Version
+version_at = via version_of (tested BadVersion is_version (number_at w16))
+
 -- reading the header
 unfoldable pub header_at : Reader Counts
 header_at =
-    via (λ h. record { variables = h.1.1.0; features = h.1.1.1.0; frames = h.1.1.1.1.0; statements = h.1.1.1.1.1 })
+    via (λ h. record { version = h.1.0; variables = h.1.1.0; features = h.1.1.1.0; frames = h.1.1.1.1.0; statements = h.1.1.1.1.1 })
     (both (tested BadMagic (is_number magic) (number_at w32))
-    (both (tested BadVersion (is_number 1) (number_at w16))
+    (both version_at
     (both (count_at 4096) (both (count_at 4096) (both (count_at 4096) (tested BadField (at_most 20000) (number_at w32)))))))
 
 -- reading so many variables, features, frames and statements
 unfoldable pub body_at : Counts → Reader Code
 body_at n =
-    via (λ c. record { tables = record { variables = c.0; features = c.1.0; frames = c.1.1.0 }; statements = c.1.1.1 })
-    (both (times entry_at n.variables) (both (times name_at n.features) (both (times name_at n.frames) (times line_at n.statements))))
+    via (λ c. record { version = n.version; tables = record { variables = c.0; features = c.1.0; frames = c.1.1.0 }; statements = c.1.1.1 })
+    (both (times entry_at n.variables) (both (times name_at n.features) (both (times name_at n.frames) (times (line_at n.version) n.statements))))
 
 -- no byte is left over
 abbrev pub ended : {A : Type 0} → A × List ℕ → Result A ImageFault

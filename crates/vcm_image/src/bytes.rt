@@ -3,10 +3,21 @@
 ghost use Rattle.std.specs.Prelude.{◌≡◌};
 ghost use Rattle.vcm_fields.specs.Words.{word_of};
 ghost use Rattle.vcm_fields.specs.Spelling.{unary, binary, axis_byte, direction_byte, setting_byte, source_byte, word_byte, kind_byte};
+ghost use Rattle.vcm_image.specs.Whole.{version_number};
 
-use vcm_code::{Op, OwnedOp};
+use vcm_code::{Op, OwnedOp, Version};
 use vcm_num::{Axis, Kind};
 use vcm_spec::{BinaryOp, Relation, Setting, Source, UnaryOp};
+
+/// The number of a version.
+pub(crate) fn version_number(version: Version) -> u16
+    ensures { result ≡ version_number version }
+{
+    match version {
+        Version::One => 1,
+        Version::Two => 2,
+    }
+}
 
 /// The tag of a unary operator.
 pub(crate) fn unary_byte(op: UnaryOp) -> u8
@@ -123,5 +134,10 @@ pub(crate) fn word_byte(op: &OwnedOp) -> u8
         Op::Obtain(_, _, _, _) => 19,
         Op::Output(_, _) => 20,
         Op::Text(_) => 21,
+        Op::Select(_, _, _) => 22,
+        Op::Case => 23,
+        Op::EndCas(_) => 24,
+        Op::DftCas => 25,
+        Op::EndSel => 26,
     }
 }

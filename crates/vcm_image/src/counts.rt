@@ -1,8 +1,11 @@
 //! The header of an image.
 
-/// How many variables, features, frames and statements an image has.
+use vcm_code::Version;
+
+/// The version of an image, and how many variables, features, frames and statements it has.
 #[derive(Clone, Copy, PartialEq, Eq)]
 pub struct Counts {
+    pub version: Version,
     pub variables: u16,
     pub features: u16,
     pub frames: u16,

@@ -4,12 +4,12 @@ ghost use Rattle.std.specs.Prelude.{◌≤◌, length};
 ghost use Rattle.std.specs.List.{AllByRecursion};
 ghost use Rattle.vcm_expr.specs.NameBytes.{IsName};
 ghost use Rattle.vcm_code.specs.Ops.{op_of, statements_of, code_of};
-ghost use Rattle.vcm_code.specs.Ranges.{IsShort, OpInRange, AllInRange, AllAreNames, IsInRange};
+ghost use Rattle.vcm_code.specs.Ranges.{IsShort, OpInRange, AllInRange, IsOfVersion, AllAreNames, IsInRange};
 ghost use Rattle.vcm_expr.specs.Names.{AreNamed};
 ghost use Rattle.vcm_code.specs.Deciding.{Tells};
 
 use crate::scanned::{MOST_NAMES, MOST_STATEMENTS};
-use vcm_code::{Code, Op, OwnedOp, OwnedStatement};
+use vcm_code::{Code, Op, OwnedOp, OwnedStatement, Version, has_selection};
 use vcm_expr::{Name, is_name, is_variable_name};
 use vcm_num::Items;
 use vcm_spec::{Item, is_text};
@@ -47,8 +47,10 @@ fn op_in_range(op: &OwnedOp) -> bool
         Op::Rotate(_, axis, quarters) => *axis < 3 && *quarters < 4,
         Op::Obtain(_, _, _, part) => 3 <= *part && *part <= 8,
         Op::Text(bytes) => is_text(bytes.as_slice()),
+        Op::Select(value, branches, _) => is_short(value) && is_short_enough(branches.len()),
         Op::EndFil | Op::GoHome | Op::Else(_) | Op::EndIf | Op::Label | Op::JumpTo(_) => true,
         Op::Meas(_) | Op::EndMes | Op::Recall(_) | Op::Output(_, _) => true,
+        Op::Case | Op::EndCas(_) | Op::DftCas | Op::EndSel => true,
     }
 }
 
@@ -95,14 +97,24 @@ fn is_few(count: usize) -> bool
     count <= usize::from(MOST_NAMES)
 }
 
-// Whether so many statements aren't too many.
+// Whether so many statements, or branches of a SELECT, aren't too many.
 fn is_short_enough(count: usize) -> bool
     ensures { Tells result (count ≤ 20000) }
 {
     count <= MOST_STATEMENTS as usize
 }
 
-/// Whether a code has an image: no table is longer than an image's, and all fields are in range, as expressions of 1 to 1,024 items, texts of
+// Whether a version has all these statements.
+fn is_of_version(version: Version, statements: &[OwnedStatement]) -> bool
+    ensures { Tells result (IsOfVersion version (statements_of statements.now)) }
+{
+    match version {
+        Version::One => !has_selection(statements),
+        Version::Two => true,
+    }
+}
+
+/// Whether a code has an image: its version has all its statements, no table is longer than an image's, and all fields are in range, as expressions of 1 to 1,024 items, texts of
 /// at most 1,024 bytes and pairs below 32. Takes no memory.
 pub fn fits(code: &Code) -> bool
     ensures { Tells result (IsInRange (code_of code.now)) }
@@ -116,4 +128,5 @@ pub fn fits(code: &Code) -> bool
         && are_names(tables.frames())
         && is_short_enough(code.statements.len())
         && all_in_range(code.statements.as_slice())
+        && is_of_version(code.version, code.statements.as_slice())
 }

@@ -1,16 +1,18 @@
 //! The writing of expressions and statements.
 
-ghost use Rattle.std.specs.Prelude.{◌≡◌, ◌++◌, ◌∷◌, [], OnOk};
+ghost use Rattle.std.specs.Prelude.{◌≡◌, ◌<◌, ◌≤◌, ◌^◌, ◌++◌, ◌∷◌, [], length, IsTrue, OnOk, FitsSigned};
+ghost use Rattle.std.specs.Int.{w64};
 ghost use Rattle.vcm_spec.specs.TextBytes.{IsText};
 ghost use Rattle.vcm_code.specs.Ops.{op_of};
 ghost use Rattle.vcm_code.specs.Ranges.{IsShort, OpInRange};
-ghost use Rattle.vcm_fields.specs.Fitting.{FitsItem, FitsExpression, FitThree, FitsOperation, FitsLine};
-ghost use Rattle.vcm_fields.specs.Spelling.{signed, item as item_bytes, expression as expression_bytes, three as three_bytes, short as short_bytes, long as long_bytes, text as text_bytes, operands as operand_bytes, line as line_bytes};
+ghost use Rattle.vcm_fields.specs.Words.{word_of, has_word};
+ghost use Rattle.vcm_fields.specs.Fitting.{FitsItem, FitsExpression, FitThree, FitBranches, FitsOperation, FitsLine};
+ghost use Rattle.vcm_fields.specs.Spelling.{signed, item as item_bytes, expression as expression_bytes, three as three_bytes, short as short_bytes, long as long_bytes, text as text_bytes, branches as branches_bytes, operands as operand_bytes, line as line_bytes};
 
 use crate::bytes::{
     axis_byte, binary_byte, direction_byte, setting_byte, source_byte, unary_byte, word_byte,
 };
-use vcm_code::{Op, OwnedOp, OwnedStatement};
+use vcm_code::{Branch, Op, OwnedOp, OwnedStatement, Version};
 use vcm_num::{Items, NoMemory};
 use vcm_spec::{Item, Operand};
 
@@ -108,6 +110,54 @@ fn text(out: &mut Vec<u8>, bytes: &Items<u8>) -> Result<(), NoMemory>
     Ok(())
 }
 
+// Appends a number with its sign.
+fn number(out: &mut Vec<u8>, number: i64) -> Result<(), NoMemory>
+    ensures { OnOk result (out.new.items ≡ out.old.items ++ signed number) }
+{
+    out.extend_from_slice(&number.cast_unsigned().to_le_bytes())?;
+    Ok(())
+}
+
+// Appends a branch.
+fn branch(out: &mut Vec<u8>, value: i64, target: u32) -> Result<(), NoMemory>
+    ensures bytes { OnOk result (out.new.items ≡ out.old.items ++ (signed value ++ long_bytes target)) }
+    ensures fits { FitsSigned w64 value × (target < 2 ^ 32) }
+{
+    number(out, value)?;
+    long(out, target)?;
+    Ok(())
+}
+
+// Appends branches.
+fn branches(out: &mut Vec<u8>, branches: &Items<Branch>) -> Result<(), NoMemory>
+    requires { length branches.now ≤ 20000 }
+    ensures bytes { OnOk result (out.new.items ≡ out.old.items ++ branches_bytes branches.now) }
+    ensures fit { OnOk result (FitBranches branches.now) }
+{
+    short(out, branches.len() as u16)?;
+    for Branch { value, target } in branches.as_slice() {
+        branch(out, *value, *target)?;
+    }
+    Ok(())
+}
+
+// Appends the operands of SELECT.
+fn selection(
+    out: &mut Vec<u8>,
+    value: &Items<Item>,
+    among: &Items<Branch>,
+    target: u32,
+) -> Result<(), NoMemory>
+    requires { IsShort value.now × (length among.now ≤ 20000) }
+    ensures bytes { OnOk result (out.new.items ≡ out.old.items ++ (expression_bytes value.now ++ (branches_bytes among.now ++ long_bytes target))) }
+    ensures fits { OnOk result (FitsExpression value.now × FitBranches among.now) }
+{
+    expression(out, value)?;
+    branches(out, among)?;
+    long(out, target)?;
+    Ok(())
+}
+
 // Appends the operands of DO.
 fn looping(
     out: &mut Vec<u8>,
@@ -192,6 +242,7 @@ fn operands(out: &mut Vec<u8>, op: &OwnedOp) -> Result<(), NoMemory>
 {
     match op {
         Op::EndFil | Op::GoHome | Op::EndIf | Op::Label | Op::EndMes => Ok(()),
+        Op::Case | Op::DftCas | Op::EndSel => Ok(()),
         Op::Goto(x, y, z) => three(out, x, y, z),
         Op::Assign(variable, e) => {
             short(out, *variable)?;
@@ -201,7 +252,8 @@ fn operands(out: &mut Vec<u8>, op: &OwnedOp) -> Result<(), NoMemory>
             expression(out, test)?;
             long(out, *target)
         }
-        Op::Else(target) | Op::JumpTo(target) => long(out, *target),
+        Op::Else(target) | Op::JumpTo(target) | Op::EndCas(target) => long(out, *target),
+        Op::Select(value, branches, target) => selection(out, value, branches, *target),
         Op::Do(variable, pair, initial, limit, increment, exit) => {
             looping(out, *variable, *pair, initial, limit, increment, *exit)
         }
@@ -232,11 +284,16 @@ fn operands(out: &mut Vec<u8>, op: &OwnedOp) -> Result<(), NoMemory>
     }
 }
 
-/// Appends a statement: its word, its line, its operands.
-pub(crate) fn statement(out: &mut Vec<u8>, statement: &OwnedStatement) -> Result<(), NoMemory>
-    requires { OpInRange (op_of statement.now.op) }
+/// Appends a statement, whose word the version has: its word, its line, its operands.
+pub(crate) fn statement(
+    out: &mut Vec<u8>,
+    version: Version,
+    statement: &OwnedStatement,
+) -> Result<(), NoMemory>
+    requires range { OpInRange (op_of statement.now.op) }
+    requires version { IsTrue (has_word version (word_of statement.now.op)) }
     ensures bytes { OnOk result (out.new.items ≡ out.old.items ++ line_bytes statement.now) }
-    ensures fits { OnOk result (FitsLine statement.now) }
+    ensures fits { OnOk result (FitsLine version statement.now) }
 {
     byte(out, word_byte(&statement.op))?;
     long(out, statement.line)?;

@@ -26,7 +26,12 @@ pub fn read(alloc: Global, bytes: &[u8]) -> Result<Code, ImageFault>
     ensures exact { GivesOrNoMemory (λ c. c) result (code_at bytes.now) }
 {
     let image = open(alloc, bytes)?;
+    let version = image.version();
     let tables = image.tables(alloc)?;
     let statements = statements(alloc, &image)?;
-    Ok(Code { tables, statements })
+    Ok(Code {
+        version,
+        tables,
+        statements,
+    })
 }

@@ -5,13 +5,14 @@ ghost use Rattle.std.specs.Int.{w16, w32};
 ghost use Rattle.vcm_expr.specs.NameBytes.{IsName};
 ghost use Rattle.vcm_code.specs.declared.code.Code.{Code};
 ghost use Rattle.vcm_fields.specs.Readers.{Gives, Fails, GivesOrNoMemory, times, name_at, line_at, entry_at};
-ghost use Rattle.vcm_image.specs.Whole.{FitsImage, spelling, header_at, count_at, code_at};
+ghost use Rattle.vcm_image.specs.Whole.{FitsImage, spelling, version_at, header_at, count_at, code_at};
 ghost use Rattle.vcm_image.specs.inner.Places.{Table, IsEnd};
 
 use crate::copying;
 use crate::counts::Counts;
 use std::alloc::Global;
 use std::marker::Model;
+use vcm_code::Version;
 use vcm_fields::{
     BorrowedStatement, BorrowedVariable, ImageFault, TextSlice, long, name, short, statement,
     variable,
@@ -21,9 +22,6 @@ use vcm_tables::Tables;
 
 /// The bytes `VCMI` as a number of four bytes.
 pub(crate) const MAGIC: u32 = 1_229_800_278;
-
-/// The version of an image.
-pub(crate) const VERSION: u16 = 1;
 
 /// The most variables, features or frames.
 pub(crate) const MOST_NAMES: u16 = 4096;
@@ -39,6 +37,7 @@ const SHORTEST: usize = 5;
 #[derive(Drop)]
 pub struct Scanned<'a> {
     bytes: &'a [u8],
+    version: Version,
     variables: Vec<usize>,
     features: Vec<usize>,
     frames: Vec<usize>,
@@ -54,7 +53,7 @@ impl<'a> Model for Scanned<'a> {
 
     ghost view = { λ s. code_in s.bytes.now };
 
-    ghost invariant = { λ s. Indexed s.bytes.now s.variables.items s.features.items s.frames.items s.statements };
+    ghost invariant = { λ s. Indexed s.bytes.now s.version s.variables.items s.features.items s.frames.items s.statements };
 }
 
 // Where so many variables begin, and the bytes behind them.
@@ -101,19 +100,20 @@ fn names<'a>(
     Ok((starts, rest))
 }
 
-// So many statements, and the bytes behind them. Room is made for no more of them than the bytes can hold.
+// So many statements of a version, and the bytes behind them. Room is made for no more of them than the bytes can hold.
 fn statements<'a>(
     alloc: Global,
+    version: Version,
     count: u32,
     bytes: &'a [u8],
 ) -> Result<(Items<BorrowedStatement<'a>>, &'a [u8]), ImageFault>
-    ensures { GivesOrNoMemory (λ x. (x.0, x.1.now)) result (times line_at count bytes.now) }
+    ensures { GivesOrNoMemory (λ x. (x.0, x.1.now)) result (times (line_at version) count bytes.now) }
 {
     let room = (count as usize).min(bytes.len() / SHORTEST);
     let mut read = Items::from_vec(Vec::with_capacity(alloc, room)?);
     let mut rest = bytes;
     for _ in 0..count {
-        let (next, after) = statement(rest)?;
+        let (next, after) = statement(version, rest)?;
         read.push(next)?;
         rest = after;
     }
@@ -131,6 +131,18 @@ fn count(limit: u16, bytes: &[u8]) -> Result<(u16, &[u8]), ImageFault>
     Ok((number, rest))
 }
 
+// A version, and the bytes behind it.
+fn version(bytes: &[u8]) -> Result<(Version, &[u8]), ImageFault>
+    ensures { Gives (λ x. (x.0, x.1.now)) result (version_at bytes.now) }
+{
+    let (number, rest) = short(bytes)?;
+    match number {
+        1 => Ok((Version::One, rest)),
+        2 => Ok((Version::Two, rest)),
+        _ => Err(ImageFault::BadVersion),
+    }
+}
+
 // The header, and the bytes behind it.
 #[tactic(auto, unfolding(crate::specs::Whole::header_at))]
 fn header(bytes: &[u8]) -> Result<(Counts, &[u8]), ImageFault>
@@ -140,10 +152,7 @@ fn header(bytes: &[u8]) -> Result<(Counts, &[u8]), ImageFault>
     if magic != MAGIC {
         return Err(ImageFault::BadMagic);
     }
-    let (version, rest) = short(rest)?;
-    if version != VERSION {
-        return Err(ImageFault::BadVersion);
-    }
+    let (version, rest) = version(rest)?;
     let (variables, rest) = count(MOST_NAMES, rest)?;
     let (features, rest) = count(MOST_NAMES, rest)?;
     let (frames, rest) = count(MOST_NAMES, rest)?;
@@ -152,6 +161,7 @@ fn header(bytes: &[u8]) -> Result<(Counts, &[u8]), ImageFault>
         return Err(ImageFault::BadField);
     }
     let counts = Counts {
+        version,
         variables,
         features,
         frames,
@@ -168,12 +178,13 @@ fn scan(alloc: Global, bytes: &[u8]) -> Result<Scanned<'_>, ImageFault>
     let (variables, rest) = variables(alloc, counts.variables, bytes, rest)?;
     let (features, rest) = names(alloc, counts.features, bytes, rest)?;
     let (frames, rest) = names(alloc, counts.frames, bytes, rest)?;
-    let (statements, rest) = statements(alloc, counts.statements, rest)?;
+    let (statements, rest) = statements(alloc, counts.version, counts.statements, rest)?;
     if !rest.is_empty() {
         return Err(ImageFault::Trailing);
     }
     Ok(Scanned {
         bytes,
+        version: counts.version,
         variables,
         features,
         frames,
@@ -209,6 +220,13 @@ fn after(bytes: &[u8], start: usize) -> &[u8]
 
 impl<'a> Scanned<'a> {
     ghost use Rattle.vcm_expr.specs.Symbols.{IsVariableName};
+
+    /// Its version.
+    pub fn version(&self) -> Version
+        ensures { result ≡ self.now.version }
+    {
+        self.version
+    }
 
     /// How many variables there are.
     pub fn variable_count(&self) -> usize

@@ -5,18 +5,18 @@ ghost use Rattle.std.specs.List.{flat_map, AllByRecursion};
 ghost use Rattle.vcm_expr.specs.NameBytes.{IsName};
 ghost use Rattle.vcm_expr.specs.Symbols.{IsVariableName};
 ghost use Rattle.vcm_code.specs.Ops.{statements_of, code_of};
-ghost use Rattle.vcm_code.specs.Ranges.{AllInRange, IsInRange};
+ghost use Rattle.vcm_code.specs.Ranges.{AllInRange, IsOfVersion, IsInRange};
 ghost use Rattle.vcm_expr.specs.Names.{AreNamed};
 ghost use Rattle.vcm_fields.specs.Fitting.{FitsLine, FitsEntry};
 ghost use Rattle.vcm_fields.specs.Spelling.{short as short_bytes, long as long_bytes, name as name_bytes, line as line_bytes, entry as entry_bytes};
 ghost use Rattle.vcm_image.specs.Whole.{FitsImage, header as header_bytes, spelling};
 
-use crate::bytes::kind_byte;
+use crate::bytes::{kind_byte, version_number};
 use crate::counts::Counts;
 use crate::operands::{byte, long, short, statement};
-use crate::scanned::{MAGIC, VERSION};
+use crate::scanned::MAGIC;
 use std::alloc::Global;
-use vcm_code::{Code, OwnedStatement};
+use vcm_code::{Code, OwnedStatement, Version};
 use vcm_expr::Name;
 use vcm_num::NoMemory;
 use vcm_tables::Variable;
@@ -67,14 +67,19 @@ fn names(out: &mut Vec<u8>, names: &[Name]) -> Result<(), NoMemory>
     Ok(())
 }
 
-// Appends statements.
-fn statements(out: &mut Vec<u8>, statements: &[OwnedStatement]) -> Result<(), NoMemory>
-    requires { AllInRange (statements_of statements.now) }
+// Appends statements, all of which the version has.
+fn statements(
+    out: &mut Vec<u8>,
+    version: Version,
+    statements: &[OwnedStatement],
+) -> Result<(), NoMemory>
+    requires range { AllInRange (statements_of statements.now) }
+    requires version { IsOfVersion version (statements_of statements.now) }
     ensures bytes { OnOk result (out.new.items ≡ out.old.items ++ flat_map line_bytes statements.now) }
-    ensures fit { OnOk result (AllByRecursion FitsLine statements.now) }
+    ensures fit { OnOk result (AllByRecursion (FitsLine version) statements.now) }
 {
     for it in statements {
-        statement(out, it)?;
+        statement(out, version, it)?;
     }
     Ok(())
 }
@@ -95,7 +100,7 @@ fn header(out: &mut Vec<u8>, counts: Counts) -> Result<(), NoMemory>
     ensures { OnOk result (out.new.items ≡ out.old.items ++ header_bytes counts) }
 {
     long(out, MAGIC)?;
-    short(out, VERSION)?;
+    short(out, version_number(counts.version))?;
     numbers(out, counts)?;
     Ok(())
 }
@@ -111,6 +116,7 @@ pub fn write(alloc: Global, code: &Code) -> Result<Vec<u8>, NoMemory>
     ensures fits { OnOk result (FitsImage code.now) }
 {
     let counts = Counts {
+        version: code.version,
         variables: code.tables.variables().len() as u16,
         features: code.tables.features().len() as u16,
         frames: code.tables.frames().len() as u16,
@@ -121,6 +127,6 @@ pub fn write(alloc: Global, code: &Code) -> Result<Vec<u8>, NoMemory>
     variables(&mut out, code.tables.variables())?;
     names(&mut out, code.tables.features())?;
     names(&mut out, code.tables.frames())?;
-    statements(&mut out, code.statements.as_slice())?;
+    statements(&mut out, code.version, code.statements.as_slice())?;
     Ok(out)
 }

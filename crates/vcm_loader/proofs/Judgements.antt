@@ -4,7 +4,8 @@ use Rattle.vcm_num.specs.declared.number.Kind.{Kind}
 use Rattle.vcm_spec.specs.declared.expression.Item.{Item}
 use Rattle.vcm_spec.specs.Expression.{HasKind}
 use Rattle.vcm_fields.specs.declared.fault.ImageFault.{ImageFault}
-use Rattle.vcm_loader.specs.Checks.{Check, indexes, typed, assigned, ItemsBelow, AllHold}
+use Rattle.vcm_code.specs.declared.branch.Branch.{Branch}
+use Rattle.vcm_loader.specs.Checks.{Check, target, indexes, typed, assigned, ItemsBelow, AllHold, targets}
 use Rattle.vcm_loader.specs.Loading.{FirstFailedCheck}
 
 pub hold_append : (cs ds : List Check) → AllHold cs → AllHold ds → AllHold (cs ++ ds)
@@ -38,6 +39,24 @@ pub assigned_err : (kinds : List Kind) (v n : ℕ) (items : List Item) (k : Kind
 assigned_err kinds v n items k f e (inl (a, inl (b, c))) = absurd c
 assigned_err kinds v n items k f e (inl (a, inr (b, c))) = inl (a, inr (λ g. let same : Some g.0 ≡ Some k = sym g.1 ∙ e in let one : g.0 ≡ k = cc in b (subst (HasKind kinds items) one g.2), c))
 assigned_err kinds v n items k f e (inr h) = inr h
+
+-- what is told of the targets of branches hangs on the branches that are left
+pub record AreBelow (n : ℕ) (branches rest : List Branch) : Type 0 where
+  pub on : AllHold (targets rest n) → AllHold (targets branches n)
+  pub first : (e : ImageFault) → FirstFailedCheck (targets rest n) e → FirstFailedCheck (targets branches n) e
+
+module _ (n : ℕ) (branches rest after : List Branch) (b : Branch) (h : AreBelow n branches rest) (e : rest ≡ b ∷ after) where
+  pub below_more : AllHold (target b.target n ∷ []) → AreBelow n branches after
+  below_more g = record {
+    on = λ k. h.on (subst (λ bs. AllHold (targets bs n)) (sym e) (g.0, k));
+    first = λ f k. h.first f (subst (λ bs. FirstFailedCheck (targets bs n) f) (sym e) (inl (g.0, k)));
+  }
+
+  pub below_told : (f : ImageFault) → FirstFailedCheck (target b.target n ∷ []) f → FirstFailedCheck (targets branches n) f
+  below_told f k = h.first f (subst (λ bs. FirstFailedCheck (targets bs n) f) (sym e) (first_here (target b.target n ∷ []) (targets after n) f k))
+
+pub below_all : (n : ℕ) (branches rest : List Branch) → AreBelow n branches rest → rest ≡ [] → AllHold (targets branches n)
+below_all n branches rest h e = h.on (subst (λ bs. AllHold (targets bs n)) (sym e) tt)
 
 -- whether all variables of an expression are below a count hangs on the items that are left
 pub record Below (n : ℕ) (items rest : List Item) : Type 0 where

@@ -10,18 +10,28 @@ use Rattle.vcm_spec.specs.Setup.{Tables}
 use Rattle.vcm_spec.specs.Fitting.{kinds}
 use Rattle.vcm_expr.specs.inner.Runs.{ItemsFit}
 use Rattle.vcm_expr.proofs.Runs.{ItemsFit-typed}
-use Rattle.vcm_code.specs.declared.op.Op.TheVariants.{EndFil, Goto, GoHome, Assign, If, Else, EndIf, Do, EndDo, Label, JumpTo, Feat, Meas, PtMeas, EndMes, SnSet, Trans, Rotate, Recall, Obtain, Output, Text}
+use Rattle.vcm_code.specs.declared.op.Op.TheVariants.{EndFil, Goto, GoHome, Assign, If, Else, EndIf, Do, EndDo, Label, JumpTo, Feat, Meas, PtMeas, EndMes, SnSet, Trans, Rotate, Recall, Obtain, Output, Text, Select, Case, EndCas, DftCas, EndSel}
+use Rattle.vcm_code.specs.declared.branch.Branch.{Branch}
 use Rattle.vcm_code.specs.declared.code.Code.{Code}
 use Rattle.vcm_code.specs.Ops.{op_of, statements_of, code_of}
-use Rattle.vcm_code.specs.Valid.{OpFits, AllFit, Ends, IsValid}
+use Rattle.vcm_code.specs.Valid.{AllBelow, OpFits, AllFit, Ends, IsValid}
 use Rattle.vcm_fields.specs.Parts.{Operation, Line}
-use Rattle.vcm_loader.specs.Checks.{Counts, target, ItemsBelow, AllHold, wants, three, variable, op_checks, line_checks, checks}
+use Rattle.vcm_loader.specs.Checks.{Counts, target, targets, ItemsBelow, AllHold, wants, three, variable, op_checks, line_checks, checks}
 use Rattle.vcm_loader.proofs.Judgements.{hold_append, hold_front, hold_back}
 use Rattle.vcm_loader.proofs.Validity.{statements_length}
 
 -- what operands are judged by, in a code with these tables and so many statements
 abbrev judged_by : Tables → ℕ → Counts
 judged_by t n = record { kinds = kinds t; features = length t.features; frames = length t.frames; statements = n }
+
+-- the targets of branches are below the count where their checks hold
+targets_below : (n : ℕ) (bs : List Branch) → AllHold (targets bs n) → AllBelow n bs
+targets_below n [] h = tt
+targets_below n (b ∷ bs) h = (h.0, targets_below n bs h.1)
+
+below_targets : (n : ℕ) (bs : List Branch) → AllBelow n bs → AllHold (targets bs n)
+below_targets n [] h = tt
+below_targets n (b ∷ bs) h = (h.0, below_targets n bs h.1)
 
 -- a statement fits where its checks hold
 op_fits : (t : Tables) (n : ℕ) (o : Operation) → AllHold (op_checks (judged_by t n) o) → OpFits t n (op_of o)
@@ -47,6 +57,12 @@ op_fits t n (Recall f) h = h.0
 op_fits t n (Obtain v source f word) h = (h.1.0, h.1.1.0)
 op_fits t n (Output source f) h = h.0
 op_fits t n (Text bytes) h = tt
+op_fits t n (Select e bs to) h =
+    (h.1.0, targets_below n bs (hold_front (targets bs n) (target to n ∷ []) h.1.1), (hold_back (targets bs n) (target to n ∷ []) h.1.1).0)
+op_fits t n Case h = tt
+op_fits t n (EndCas to) h = h.0
+op_fits t n DftCas h = tt
+op_fits t n EndSel h = tt
 
 all_fit : (t : Tables) (n : ℕ) (ss : List Line) → AllHold (line_checks (judged_by t n) ss) → AllFit t n (statements_of ss)
 all_fit t n [] h = tt
@@ -110,6 +126,12 @@ op_holds t n (Recall i) f = (f, tt)
 op_holds t n (Obtain v source i word) f = (slice_get_within (kinds t) v Real f.0, (f.0, (f.1, tt)))
 op_holds t n (Output source i) f = (f, tt)
 op_holds t n (Text bytes) f = tt
+op_holds t n (Select e bs to) f =
+    (typed_below (kinds t) e Int f.0, (f.0, hold_append (targets bs n) (target to n ∷ []) (below_targets n bs f.1) (f.2, tt)))
+op_holds t n Case f = tt
+op_holds t n (EndCas to) f = (f, tt)
+op_holds t n DftCas f = tt
+op_holds t n EndSel f = tt
 
 all_hold : (t : Tables) (n : ℕ) (ss : List Line) → AllFit t n (statements_of ss) → AllHold (line_checks (judged_by t n) ss)
 all_hold t n [] f = tt

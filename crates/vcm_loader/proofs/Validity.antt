@@ -7,7 +7,7 @@ use Rattle.vcm_spec.specs.declared.expression.Item.{Item}
 use Rattle.vcm_spec.specs.Expression.{HasKind}
 use Rattle.vcm_spec.specs.Setup.{Variable, Tables}
 use Rattle.vcm_spec.specs.Fitting.{kinds}
-use Rattle.vcm_code.specs.declared.op.Op.TheVariants.{EndFil, Goto, GoHome, Assign, If, Else, EndIf, Do, EndDo, Label, JumpTo, Feat, Meas, PtMeas, EndMes, SnSet, Trans, Rotate, Recall, Obtain, Output, Text}
+use Rattle.vcm_code.specs.declared.op.Op.TheVariants.{EndFil, Goto, GoHome, Assign, If, Else, EndIf, Do, EndDo, Label, JumpTo, Feat, Meas, PtMeas, EndMes, SnSet, Trans, Rotate, Recall, Obtain, Output, Text, Select, Case, EndCas, DftCas, EndSel}
 use Rattle.vcm_code.specs.declared.code.Code.{Code}
 use Rattle.vcm_code.specs.Ops.{op_of, statements_of, code_of}
 use Rattle.vcm_code.specs.Valid.{OpFits, AllFit, IsValid}
@@ -49,6 +49,11 @@ expressions_typed t n (Recall f) h = tt
 expressions_typed t n (Obtain v source f word) h = tt
 expressions_typed t n (Output source f) h = tt
 expressions_typed t n (Text bytes) h = tt
+expressions_typed t n (Select e bs to) h = ((Int, h.0), tt)
+expressions_typed t n Case h = tt
+expressions_typed t n (EndCas to) h = tt
+expressions_typed t n DftCas h = tt
+expressions_typed t n EndSel h = tt
 
 typed_at : (ks : List Kind) (es : List (List Item)) (i : ℕ) (e : List Item) → Typed ks es → slice_get es i ≡ Some e → (k : Kind) × HasKind ks e k
 typed_at ks [] i e h f = absurd cc

@@ -8,7 +8,8 @@ use Rattle.vcm_spec.specs.Expression.{HasKind}
 use Rattle.vcm_spec.specs.Fitting.{kinds as kinds_of}
 use Rattle.vcm_expr.specs.Typed.{VariableBelow}
 use Rattle.vcm_code.specs.declared.op.Op.TheVariants.{EndFil, Goto, GoHome, Assign, If, Else, EndIf, Do, EndDo, Label, JumpTo, Feat, Meas}
-use Rattle.vcm_code.specs.declared.op.Op.TheVariants.{PtMeas, EndMes, SnSet, Trans, Rotate, Recall, Obtain, Output, Text}
+use Rattle.vcm_code.specs.declared.branch.Branch.{Branch}
+use Rattle.vcm_code.specs.declared.op.Op.TheVariants.{PtMeas, EndMes, SnSet, Trans, Rotate, Recall, Obtain, Output, Text, Select, Case, EndCas, DftCas, EndSel}
 use Rattle.vcm_code.specs.declared.code.Code.{Code}
 use Rattle.vcm_fields.specs.Parts.{Operation, Line}
 
@@ -76,6 +77,11 @@ three kinds x y z k = wants kinds x k ++ (wants kinds y k ++ wants kinds z k)
 abbrev pub variable : List Kind → ℕ → Kind → List Check
 variable kinds v k = index v (length kinds) ∷ of_kind kinds v k ∷ []
 
+-- the targets of branches, in their order
+abbrev pub targets : List Branch → ℕ → List Check
+targets [] count = []
+targets (b ∷ bs) count = target b.target count ∷ targets bs count
+
 -- a statement: its operands in their order
 abbrev pub op_checks : Counts → Operation → List Check
 op_checks t EndFil = []
@@ -100,6 +106,11 @@ op_checks t (Recall f) = index f t.frames ∷ []
 op_checks t (Obtain v source f word) = variable t.kinds v Real ++ (index f t.features ∷ [])
 op_checks t (Output source f) = index f t.features ∷ []
 op_checks t (Text bytes) = []
+op_checks t (Select e branches to) = wants t.kinds e Int ++ (targets branches t.statements ++ (target to t.statements ∷ []))
+op_checks t Case = []
+op_checks t (EndCas to) = target to t.statements ∷ []
+op_checks t DftCas = []
+op_checks t EndSel = []
 
 -- all statements, one behind the other
 abbrev pub line_checks : Counts → List Line → List Check

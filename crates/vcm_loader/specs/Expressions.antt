@@ -1,7 +1,7 @@
 -- The expressions of a statement.
 use Rattle.std.specs.Prelude.{List, [], ◌∷◌}
 use Rattle.vcm_spec.specs.declared.expression.Item.{Item}
-use Rattle.vcm_code.specs.declared.op.Op.TheVariants.{Goto, Assign, If, Do, Feat, PtMeas, SnSet, Trans}
+use Rattle.vcm_code.specs.declared.op.Op.TheVariants.{Goto, Assign, If, Do, Feat, PtMeas, SnSet, Trans, Select}
 use Rattle.vcm_fields.specs.Parts.{Operation}
 
 -- the expressions of a statement, in the order of its operands
@@ -14,4 +14,5 @@ expressions (Feat f x y z toward) = x ∷ y ∷ z ∷ []
 expressions (PtMeas f x y z toward) = x ∷ y ∷ z ∷ []
 expressions (SnSet which e) = e ∷ []
 expressions (Trans f x y z) = x ∷ y ∷ z ∷ []
+expressions (Select e branches to) = e ∷ []
 expressions _ = []

@@ -4,13 +4,13 @@ ghost use Rattle.std.specs.Prelude.{◌≡◌, ◌<◌, [], ◌∷◌, ◌++◌,
 ghost use Rattle.vcm_num.specs.declared.number.Kind.{Kind as KindOf};
 ghost use Rattle.vcm_spec.specs.Expression.{HasKind};
 ghost use Rattle.vcm_code.specs.Deciding.{Tells};
-ghost use Rattle.vcm_loader.specs.Checks.{index, target, indexes, assigned, ItemBelow, ItemsBelow, AllHold, wants, three, variable, op_checks};
+ghost use Rattle.vcm_loader.specs.Checks.{index, target, indexes, assigned, ItemBelow, ItemsBelow, AllHold, wants, three, variable, targets, op_checks};
 ghost use Rattle.vcm_loader.specs.Loading.{FirstFailedCheck};
 
 use crate::walking::items_kind;
 use std::alloc::Global;
 use vcm_code::Op;
-use vcm_fields::{BorrowedOp, ImageFault, ItemSlice};
+use vcm_fields::{BorrowedOp, BranchSlice, ImageFault, ItemSlice};
 use vcm_num::Kind;
 use vcm_spec::{Item, Operand};
 
@@ -202,6 +202,38 @@ fn judge_do(
     Ok(())
 }
 
+// The targets of branches, in their order.
+fn judge_branches(branches: &BranchSlice<'_>, statements: usize) -> Result<(), ImageFault>
+    ensures ok { OnOk result (AllHold (targets branches.now statements)) }
+    ensures err { IfErr result (λ e. FirstFailedCheck (targets branches.now statements) e) }
+{
+    let mut rest = branches.again();
+    while let Some((branch, after)) = rest.split_first() {
+        judge_target(branch.target, statements)?;
+        rest = after;
+    }
+    Ok(())
+}
+
+// A SELECT: its value, the targets of its branches, then its last target.
+#[tactic(auto, using(crate::proofs::Judgements::hold_append, crate::proofs::Judgements::first_here, crate::proofs::Judgements::first_later))]
+fn judge_select(
+    alloc: Global,
+    value: &ItemSlice<'_>,
+    branches: &BranchSlice<'_>,
+    to: u32,
+    kinds: &[Kind],
+    statements: usize,
+) -> Result<(), ImageFault>
+    ensures ok { OnOk result (AllHold (wants kinds.now value.now KindOf.Int ++ (targets branches.now statements ++ (target to statements ∷ [])))) }
+    ensures err { IfErr result (λ e. FirstFailedCheck (wants kinds.now value.now KindOf.Int ++ (targets branches.now statements ++ (target to statements ∷ []))) e) }
+{
+    judge_items(alloc, value, kinds, Kind::Int)?;
+    judge_branches(branches, statements)?;
+    judge_target(to, statements)?;
+    Ok(())
+}
+
 // An ENDDO: its variable, then its target.
 #[tactic(auto, using(crate::proofs::Judgements::hold_append, crate::proofs::Judgements::first_here, crate::proofs::Judgements::first_later))]
 fn judge_enddo(v: u16, to: u32, kinds: &[Kind], statements: usize) -> Result<(), ImageFault>
@@ -261,16 +293,20 @@ pub(crate) fn judge_operation(
 {
     match op {
         Op::EndFil | Op::GoHome | Op::EndIf | Op::Label | Op::EndMes | Op::Text(_) => Ok(()),
+        Op::Case | Op::DftCas | Op::EndSel => Ok(()),
         Op::Goto(x, y, z) => judge_three(alloc, x, y, z, kinds, Kind::Real),
         Op::Assign(v, e) => judge_assign(alloc, *v, e, kinds),
         Op::If(test, to) => judge_if(alloc, test, *to, kinds, statements),
-        Op::Else(to) | Op::JumpTo(to) => judge_target(*to, statements),
+        Op::Else(to) | Op::JumpTo(to) | Op::EndCas(to) => judge_target(*to, statements),
         Op::Do(v, _, initial, limit, increment, exit) => {
             judge_do(
                 alloc, *v, initial, limit, increment, *exit, kinds, statements,
             )
         }
         Op::EndDo(v, _, to) => judge_enddo(*v, *to, kinds, statements),
+        Op::Select(value, branches, to) => {
+            judge_select(alloc, value, branches, *to, kinds, statements)
+        }
         Op::Feat(f, x, y, z, _) | Op::PtMeas(f, x, y, z, _) => {
             judge_point(alloc, *f, features, x, y, z, kinds)
         }

@@ -11,6 +11,6 @@ mod walking;
 pub use loaded::Loaded;
 pub use loading::load;
 pub use vcm_fields::{
-    BorrowedOp, BorrowedStatement, BorrowedVariable, ImageFault, ItemSlice, TextSlice,
+    BorrowedOp, BorrowedStatement, BorrowedVariable, BranchSlice, ImageFault, ItemSlice, TextSlice,
 };
 pub use walking::items_value;

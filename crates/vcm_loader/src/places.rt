@@ -43,9 +43,11 @@ pub fn expression<'a>(op: &BorrowedOp<'a>, place: usize) -> Option<ItemSlice<'a>
         Op::PtMeas(_, x, y, z, _) => three(place, x, y, z),
         Op::SnSet(_, e) => one(place, e),
         Op::Trans(_, x, y, z) => three(place, x, y, z),
+        Op::Select(e, _, _) => one(place, e),
         Op::EndFil | Op::GoHome | Op::Else(_) | Op::EndIf | Op::EndDo(_, _, _) => None,
         Op::Label | Op::JumpTo(_) | Op::Meas(_) | Op::EndMes => None,
         Op::Rotate(_, _, _) | Op::Recall(_) | Op::Obtain(_, _, _, _) => None,
         Op::Output(_, _) | Op::Text(_) => None,
+        Op::Case | Op::EndCas(_) | Op::DftCas | Op::EndSel => None,
     }
 }

@@ -6,3 +6,4 @@ pub mod StepLemmas
 pub mod RunLemmas
 pub mod LawLemmas
 pub mod RestsAlong
+pub mod SelectSteps

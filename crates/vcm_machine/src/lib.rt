@@ -9,6 +9,7 @@ mod machine;
 mod measuring;
 mod ran;
 mod reporting;
+mod selecting;
 mod stepping;
 
 pub use machine::Machine;

@@ -9,13 +9,14 @@ use Rattle.vcm_syntax.specs.declared.statement.Argument.{Argument}
 use Rattle.vcm_syntax.specs.declared.statement.Form.{Form}
 use Rattle.vcm_syntax.specs.declared.statement.Form.TheVariants.{Declaration, Assignment, Test, Otherwise, TestEnd, Repeat, RepeatEnd}
 use Rattle.vcm_syntax.specs.declared.statement.Form.TheVariants.{Measure, MeasureEnd, Query, Macro}
-use Rattle.vcm_syntax.specs.declared.statement.Form.TheVariants.{MacroEnd}
+use Rattle.vcm_syntax.specs.declared.statement.Form.TheVariants.{MacroEnd, Call, Choose, Case, Default, CaseEnd, ChooseEnd}
+use Rattle.vcm_syntax.specs.Statements.{is_counted}
 use Rattle.vcm_syntax.specs.declared.statement.Statement.{Statement}
 use Rattle.vcm_macro.specs.declared.placed.Placed.{Placed}
 use Rattle.vcm_macro.specs.declared.fitting.Wanted.{Wanted}
 use Rattle.vcm_macro.specs.declared.fitting.Wanted.TheVariants.{Name as AName, Variable as AVariable, Value as AValue}
 use Rattle.vcm_macro.specs.declared.blocks.Opener.{Opener}
-use Rattle.vcm_macro.specs.declared.blocks.Opener.TheVariants.{If, Else, Do, Meas}
+use Rattle.vcm_macro.specs.declared.blocks.Opener.TheVariants.{If, Else, Do, Meas, Select, Last, InCase}
 use Rattle.vcm_substitution.specs.Substitution.{is_same, variable_of}
 use Rattle.vcm_substitution.specs.Sizes.{is_small_option, are_small}
 use Rattle.vcm_substitution.specs.Kept.{is_kept}
@@ -53,6 +54,11 @@ blocks_behind os (Repeat r) = Do ∷ os
 blocks_behind os RepeatEnd = drop 1 os
 blocks_behind os (Measure n) = Meas ∷ os
 blocks_behind os MeasureEnd = drop 1 os
+blocks_behind os (Choose s) = Select ∷ os
+blocks_behind os (Case z) = InCase ∷ os
+blocks_behind os Default = InCase ∷ Last ∷ drop 1 os
+blocks_behind os CaseEnd = drop 1 os
+blocks_behind os ChooseEnd = drop 1 os
 blocks_behind os form = os
 
 -- the blocks that are open behind statements
@@ -81,19 +87,46 @@ abbrev pub takes_endmes : List Opener → Bool
 takes_endmes (Meas ∷ os) = true
 takes_endmes os = false
 
+-- whether CASE or DFTCAS begins a block of the innermost SELECT, which has no DFTCAS above
+abbrev pub takes_case : List Opener → Bool
+takes_case (Select ∷ os) = true
+takes_case os = false
+
+-- whether ENDCAS ends the innermost block
+abbrev pub takes_endcas : List Opener → Bool
+takes_endcas (InCase ∷ os) = true
+takes_endcas os = false
+
+-- whether a SELECT is open, and none of its blocks
+abbrev pub is_choosing : List Opener → Bool
+is_choosing (Select ∷ os) = true
+is_choosing (Last ∷ os) = true
+is_choosing os = false
+
+-- whether a statement stands in one of the blocks where a SELECT is open: a counted one, a DECL or a CALL
+abbrev pub is_in_block : Form → Bool
+is_in_block (Declaration kind names) = true
+is_in_block (Call name args) = true
+is_in_block form = is_counted form
+
 -- whether ENDMAC may stand here, where no block is open
 abbrev pub takes_endmac : List Opener → Bool
 takes_endmac [] = true
 takes_endmac (o ∷ os) = false
 
--- whether a statement goes on with or ends a block that isn't the innermost one, or ENDMAC comes before one is ended
+-- whether a statement begins, goes on with or ends a block that isn't the innermost one, ENDMAC comes before one is ended, or a statement stands
+-- in a SELECT outside its blocks
 abbrev pub unbalances : List Opener → Form → Bool
 unbalances os Otherwise = not (takes_else os)
 unbalances os TestEnd = not (takes_endif os)
 unbalances os RepeatEnd = not (takes_enddo os)
 unbalances os MeasureEnd = not (takes_endmes os)
 unbalances os MacroEnd = not (takes_endmac os)
-unbalances os form = false
+unbalances os (Case z) = not (takes_case os)
+unbalances os Default = not (takes_case os)
+unbalances os CaseEnd = not (takes_endcas os)
+unbalances os ChooseEnd = not (is_choosing os)
+unbalances os form = is_choosing os && is_in_block form
 
 -- ---- arguments
 

@@ -182,6 +182,20 @@ pub open_at_end : body_fault (says.Test (var (codes "P") 0) ∷ says.Otherwise �
     ≡ Some (record { code = Unbalanced; line = 8 })
 open_at_end = refl
 
+-- a SELECT with a block for a value, and one for all others
+pub chooses : body_fault (says.Choose (var (codes "P") 0) ∷ says.Case (pos 1) ∷ says.Home ∷ says.CaseEnd ∷ says.Default ∷ says.CaseEnd ∷ says.ChooseEnd ∷ [])
+    ≡ None
+chooses = refl
+
+-- a statement before the first block of a SELECT
+pub before_blocks : body_fault (says.Choose (var (codes "P") 0) ∷ says.Home ∷ says.ChooseEnd ∷ []) ≡ Some (record { code = Unbalanced; line = 5 })
+before_blocks = refl
+
+-- a second DFTCAS
+pub two_defaults : body_fault (says.Choose (var (codes "P") 0) ∷ says.Default ∷ says.CaseEnd ∷ says.Default ∷ says.CaseEnd ∷ says.ChooseEnd ∷ [])
+    ≡ Some (record { code = Unbalanced; line = 7 })
+two_defaults = refl
+
 -- a parameter that is declared again
 pub declared_again : body_fault (says.Declaration IntKind (codes "P" ∷ []) ∷ []) ≡ Some (record { code = DuplicateName; line = 4 })
 declared_again = refl

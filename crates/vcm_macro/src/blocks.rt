@@ -1,5 +1,8 @@
 //! The blocks of a macro's body.
 
+ghost use Rattle.std.specs.Prelude.{◌≡◌};
+ghost use Rattle.vcm_macro.specs.Rules.{is_in_block};
+
 use std::alloc::{AllocError, Global};
 use std::marker::Model;
 use vcm_syntax::Form;
@@ -15,6 +18,12 @@ pub(crate) enum Opener {
     Do,
     /// That of a `MEAS`.
     Meas,
+    /// A `SELECT` that has had no `DFTCAS`, and none of whose blocks is open.
+    Select,
+    /// A `SELECT` behind the block of its `DFTCAS`.
+    Last,
+    /// A block of a `SELECT`.
+    InCase,
 }
 
 /// The blocks that are open. Contracts see the innermost first.
@@ -32,9 +41,19 @@ impl Model for Blocks {
     ghost view = { λ b. reverse b.openers.items };
 }
 
+// Whether a statement stands in one of the blocks where a SELECT is open.
+fn is_in_block(form: &Form) -> bool
+    ensures { result ≡ is_in_block form.now }
+{
+    match form {
+        Form::Declaration(_, _) | Form::Call(_, _) => true,
+        _ => form.is_counted(),
+    }
+}
+
 impl Blocks {
     ghost use Rattle.std.specs.Prelude.{◌≡◌, [], OnOk};
-    ghost use Rattle.vcm_macro.specs.Rules.{blocks_behind, takes_else, takes_endif, takes_enddo, takes_endmes, takes_endmac, unbalances};
+    ghost use Rattle.vcm_macro.specs.Rules.{blocks_behind, takes_else, takes_endif, takes_enddo, takes_endmes, takes_case, takes_endcas, is_choosing, takes_endmac, unbalances};
 
     /// None.
     pub(crate) fn new(alloc: Global) -> Blocks
@@ -73,6 +92,27 @@ impl Blocks {
         matches!(self.openers.last(), Some(Opener::Meas))
     }
 
+    // Whether CASE or DFTCAS begins a block of the innermost SELECT.
+    fn takes_case(&self) -> bool
+        ensures { result ≡ takes_case self.now }
+    {
+        matches!(self.openers.last(), Some(Opener::Select))
+    }
+
+    // Whether ENDCAS ends the innermost block.
+    fn takes_endcas(&self) -> bool
+        ensures { result ≡ takes_endcas self.now }
+    {
+        matches!(self.openers.last(), Some(Opener::InCase))
+    }
+
+    // Whether a SELECT is open, and none of its blocks.
+    fn is_choosing(&self) -> bool
+        ensures { result ≡ is_choosing self.now }
+    {
+        matches!(self.openers.last(), Some(Opener::Select | Opener::Last))
+    }
+
     // Whether ENDMAC may stand here.
     fn takes_endmac(&self) -> bool
         ensures { result ≡ takes_endmac self.now }
@@ -80,7 +120,8 @@ impl Blocks {
         self.openers.is_empty()
     }
 
-    /// Whether a statement goes on with or ends a block that isn't the innermost one, or ENDMAC comes before one is ended.
+    /// Whether a statement begins, goes on with or ends a block that isn't the innermost one, ENDMAC comes before one is ended, or a statement
+    /// stands in a SELECT outside its blocks.
     pub(crate) fn unbalances(&self, form: &Form) -> bool
         ensures { result ≡ unbalances self.now form.now }
     {
@@ -90,7 +131,11 @@ impl Blocks {
             Form::RepeatEnd => !self.takes_enddo(),
             Form::MeasureEnd => !self.takes_endmes(),
             Form::MacroEnd => !self.takes_endmac(),
-            _ => false,
+            Form::Case(_) => !self.takes_case(),
+            Form::Default => !self.takes_case(),
+            Form::CaseEnd => !self.takes_endcas(),
+            Form::ChooseEnd => !self.is_choosing(),
+            _ => self.is_choosing() && is_in_block(form),
         }
     }
 
@@ -116,10 +161,25 @@ impl Blocks {
                 self.openers.push(Opener::Meas)?;
                 Ok(())
             }
-            Form::TestEnd | Form::RepeatEnd | Form::MeasureEnd => {
-                self.openers.pop();
+            Form::Choose(_) => {
+                self.openers.push(Opener::Select)?;
                 Ok(())
             }
+            Form::Case(_) => {
+                self.openers.push(Opener::InCase)?;
+                Ok(())
+            }
+            Form::Default => {
+                self.openers.pop();
+                self.openers.push(Opener::Last)?;
+                self.openers.push(Opener::InCase)?;
+                Ok(())
+            }
+            Form::TestEnd | Form::RepeatEnd | Form::MeasureEnd | Form::CaseEnd | Form::ChooseEnd =>
+                {
+                    self.openers.pop();
+                    Ok(())
+                }
             _ => Ok(()),
         }
     }

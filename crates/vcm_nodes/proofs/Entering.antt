@@ -5,10 +5,10 @@ use Rattle.vcm_lines.specs.declared.fault.FaultCode.{FaultCode}
 use Rattle.vcm_lines.specs.declared.fault.FaultCode.TheVariants.{UnknownName, JumpInward}
 use Rattle.vcm_lines.specs.declared.fault.SourceFault.{SourceFault}
 use Rattle.vcm_lines.specs.Fault.{NoMemoryOr}
-use Rattle.vcm_spec.specs.Program.{Label, Node, Block, simple, label, jump, choice, choice_else, do_loop, meas, ending, done, is_same_label}
+use Rattle.vcm_spec.specs.Program.{Label, Node, Block, Cases, simple, label, jump, choice, choice_else, do_loop, meas, select, ending, done, no_more, one_case, default, is_same_label}
 use Rattle.vcm_spec.specs.Program.{then as chain}
 use Rattle.vcm_nodes.specs.inner.SameLabels.{same_label}
-use Rattle.vcm_nodes.specs.Jumps.{Jump, own_labels, node_jumps, jumps_in, is_among, BreaksJumps}
+use Rattle.vcm_nodes.specs.Jumps.{Jump, own_labels, node_jumps, jumps_in, jumps_among, is_among, BreaksJumps}
 use Rattle.vcm_nodes.specs.inner.Judging.{AllReach, IsFirst, with_label, with_labels}
 
 -- ---- what is among labels with others
@@ -125,11 +125,19 @@ mutual
       (block_alike second (ls ++ own_labels second) (ms ++ own_labels second) (more_same ls ms (own_labels second) s))
   node_alike (do_loop line v x y z body close) ls ms s = block_alike body (ls ++ own_labels body) (ms ++ own_labels body) (more_same ls ms (own_labels body) s)
   node_alike (meas line f body close) ls ms s = block_alike body (ls ++ own_labels body) (ms ++ own_labels body) (more_same ls ms (own_labels body) s)
+  node_alike (select line v cases close) ls ms s = cases_alike cases ls ms s
   node_alike (ending line) ls ms s = refl
 
   pub block_alike : (b : Block) (ls ms : List Label) → AreSame ls ms → AreAlike (jumps_in b ls) (jumps_in b ms)
   block_alike done ls ms s = refl
   block_alike (chain n b) ls ms s = alike_append (node_jumps n ls) (node_jumps n ms) (jumps_in b ls) (jumps_in b ms) (node_alike n ls ms s) (block_alike b ls ms s)
+
+  cases_alike : (cs : Cases) (ls ms : List Label) → AreSame ls ms → AreAlike (jumps_among cs ls) (jumps_among cs ms)
+  cases_alike no_more ls ms s = refl
+  cases_alike (one_case line v b close rest) ls ms s =
+      alike_append (jumps_in b (ls ++ own_labels b)) (jumps_in b (ms ++ own_labels b)) (jumps_among rest ls) (jumps_among rest ms)
+      (block_alike b (ls ++ own_labels b) (ms ++ own_labels b) (more_same ls ms (own_labels b) s)) (cases_alike rest ls ms s)
+  cases_alike (default line b close) ls ms s = block_alike b (ls ++ own_labels b) (ms ++ own_labels b) (more_same ls ms (own_labels b) s)
 
 -- ---- they are judged alike
 

@@ -3,8 +3,8 @@ use Rattle.std.specs.Prelude.{ℕ, IsTrue, not, ◌&&◌, Bool, List, [], ◌∷
 use Rattle.std.specs.List.{list_any}
 use Rattle.vcm_lines.specs.declared.fault.FaultCode.{FaultCode}
 use Rattle.vcm_lines.specs.declared.fault.FaultCode.TheVariants.{UnknownName, JumpInward}
-use Rattle.vcm_spec.specs.Program.{Label, Node, Block, simple, label, jump, choice, choice_else, do_loop, meas, ending, done, then}
-use Rattle.vcm_spec.specs.Program.{is_same_label}
+use Rattle.vcm_spec.specs.Program.{Label, Node, Block, Cases, simple, label, jump, choice, choice_else, do_loop, meas, select, ending, done, then}
+use Rattle.vcm_spec.specs.Program.{no_more, one_case, default, is_same_label}
 
 -- the label that a node is, if it is one
 abbrev pub own_label : Node → List Label
@@ -33,11 +33,17 @@ abbrev mutual
       jumps_in first (reach ++ own_labels first) ++ jumps_in second (reach ++ own_labels second)
   node_jumps (do_loop line v initial limit increment body close) reach = jumps_in body (reach ++ own_labels body)
   node_jumps (meas line feature body close) reach = jumps_in body (reach ++ own_labels body)
+  node_jumps (select line value cases close) reach = jumps_among cases reach
   node_jumps (ending line) reach = []
 
   pub jumps_in : Block → List Label → List Jump
   jumps_in done reach = []
   jumps_in (then n b) reach = node_jumps n reach ++ jumps_in b reach
+
+  pub jumps_among : Cases → List Label → List Jump
+  jumps_among no_more reach = []
+  jumps_among (one_case line value block close rest) reach = jumps_in block (reach ++ own_labels block) ++ jumps_among rest reach
+  jumps_among (default line block close) reach = jumps_in block (reach ++ own_labels block)
 
 -- the jumps of a program
 abbrev pub jumps_of : Block → List Jump
@@ -53,11 +59,17 @@ abbrev mutual
   node_labels (choice_else line test first mid second close) = labels_of first ++ labels_of second
   node_labels (do_loop line v initial limit increment body close) = labels_of body
   node_labels (meas line feature body close) = labels_of body
+  node_labels (select line value cases close) = labels_among cases
   node_labels (ending line) = []
 
   pub labels_of : Block → List Label
   labels_of done = []
   labels_of (then n b) = node_labels n ++ labels_of b
+
+  pub labels_among : Cases → List Label
+  labels_among no_more = []
+  labels_among (one_case line value block close rest) = labels_of block ++ labels_among rest
+  labels_among (default line block close) = labels_of block
 
 -- whether a label is among others
 abbrev pub is_among : List Label → Label → Bool

@@ -4,11 +4,11 @@ ghost use Rattle.std.specs.Prelude.{◌≡◌, ◌++◌, ◌∷◌, [], length, 
 ghost use Rattle.vcm_lines.specs.Fault.{NoMemoryOr};
 ghost use Rattle.vcm_spec.specs.Phase.{IsClean, FirstFault};
 ghost use Rattle.vcm_nodes.specs.Nodes.{node_of};
-ghost use Rattle.vcm_nodes.specs.Jumps.{own_labels, node_jumps, jumps_in, jumps_of, labels_of, BreaksJumps, jumps_line};
+ghost use Rattle.vcm_nodes.specs.Jumps.{own_labels, node_jumps, jumps_in, jumps_among, jumps_of, labels_of, BreaksJumps, jumps_line};
 ghost use Rattle.vcm_nodes.specs.inner.Judging.{AllReach, IsFirst, jump, with_labels};
 
 use crate::labels::Labels;
-use crate::node::{Block, Label, Node};
+use crate::node::{Block, Cases, Label, Node};
 use std::alloc::{AllocError, Global};
 use vcm_lines::{FaultCode, SourceFault};
 
@@ -89,6 +89,29 @@ fn check_node(all: &Labels, reach: &mut Labels, node: &Node) -> Result<(), Sourc
         }
         Node::Measure(_, _, body, _) => {
             check_block(all, reach, body)?;
+            Ok(())
+        }
+        Node::Select(_, _, cases, _) => {
+            check_cases(all, reach, cases)?;
+            Ok(())
+        }
+    }
+}
+
+/// The jumps of the blocks of a SELECT.
+#[cycle(jumps)]
+fn check_cases(all: &Labels, reach: &mut Labels, cases: &Cases) -> Result<(), SourceFault>
+    ensures same { OnOk result (reach.new ≡ reach.old) }
+    ensures ok { OnOk result (AllReach all.now (jumps_among cases.now reach.old)) }
+    ensures fault { IfErr result (NoMemoryOr (IsFirst all.now (jumps_among cases.now reach.old))) }
+{
+    for (_, _, block, _) in cases.cases() {
+        check_block(all, reach, block)?;
+    }
+    match cases.default() {
+        None => Ok(()),
+        Some((_, block, _)) => {
+            check_block(all, reach, block)?;
             Ok(())
         }
     }

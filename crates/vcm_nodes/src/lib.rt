@@ -6,7 +6,7 @@ mod jumps;
 mod labels;
 mod node;
 
-pub use counting::count;
+pub use counting::{count, count_cases};
 pub use jumps::check_jumps;
 pub use labels::Labels;
-pub use node::{Action, Block, Label, Node};
+pub use node::{Action, Block, Cases, Label, Node};

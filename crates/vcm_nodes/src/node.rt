@@ -1,8 +1,8 @@
 //! The nodes of an accepted program.
 
 ghost use Rattle.std.specs.Prelude.{◌≡◌, OnOk, IfOk};
-ghost use Rattle.vcm_spec.specs.Program.{Block as Tree, done, Node as Part};
-ghost use Rattle.vcm_nodes.specs.Nodes.{with_last, node_of};
+ghost use Rattle.vcm_spec.specs.Program.{Block as Tree, done, no_more, Node as Part};
+ghost use Rattle.vcm_nodes.specs.Nodes.{with_last, with_case, with_default, node_of};
 
 use std::alloc::{AllocError, Global};
 use std::hash::{Hash, Hasher};
@@ -130,6 +130,8 @@ pub enum Node {
     Repeat(u32, u16, Typed, Typed, Typed, Block, u32),
     /// `MEAS`: its line, its feature, the body, the line of `ENDMES`.
     Measure(u32, u16, Block, u32),
+    /// `SELECT`: its line, its value, its blocks, the line of `ENDSEL`.
+    Select(u32, Typed, Cases, u32),
     /// `ENDFIL`, with which a program ends.
     Ending(u32),
 }
@@ -198,5 +200,86 @@ impl Block {
         ensures { block_of result.now ≡ self.now }
     {
         &self.nodes
+    }
+}
+
+/// The blocks of a `SELECT`: each `CASE` with its line, its value, its block and the line of its `ENDCAS`; and `DFTCAS`, if there is one, with
+/// its line, its block and the line of its `ENDCAS`. Contracts see them as those of the structured program.
+#[derive(Drop)]
+#[cycle(tree)]
+pub struct Cases {
+    cases: Vec<(u32, i64, Block, u32)>,
+    other: Option<(u32, Block, u32)>,
+}
+
+impl Model for Cases {
+    ghost use Rattle.vcm_spec.specs.Program.{Cases as Blocks, case_sizes};
+    ghost use Rattle.vcm_nodes.specs.inner.Codes.{cases_coded};
+
+    ghost Value = { Blocks };
+
+    ghost coded = { cases_coded };
+
+    ghost use Rattle.vcm_nodes.specs.Nodes.{cases_of};
+
+    ghost view = { λ a. cases_of a.cases.items a.other };
+
+    ghost size = { case_sizes };
+
+    ghost use Rattle.std.proofs.Common.{arith};
+    ghost use Rattle.vcm_nodes.specs.inner.Falls.{cases_fall, default_falls};
+
+    ghost size_decreases = { λ a h. omega (arith, cases_fall a.cases.items a.other, default_falls a.cases.items a.other) };
+}
+
+impl Cases {
+    ghost use Rattle.std.specs.Option.{option_copied};
+    ghost use Rattle.vcm_nodes.specs.Nodes.{cases_of, other_of};
+
+    /// No blocks.
+    pub fn new(alloc: Global) -> Cases
+        ensures { result ≡ no_more }
+    {
+        Cases {
+            cases: Vec::new(alloc),
+            other: None,
+        }
+    }
+
+    /// One `CASE` more, behind the others.
+    ///
+    /// Errors: want of memory.
+    pub fn push(
+        &mut self,
+        line: u32,
+        value: i64,
+        block: Block,
+        close: u32,
+    ) -> Result<(), AllocError>
+        ensures { OnOk result (self.new ≡ with_case self.old line value block close) }
+    {
+        self.cases.push((line, value, block, close))?;
+        Ok(())
+    }
+
+    /// The block of `DFTCAS`.
+    pub fn set_default(&mut self, line: u32, block: Block, close: u32)
+        ensures { self.new ≡ with_default self.old line block close }
+    {
+        self.other = Some((line, block, close));
+    }
+
+    /// Each `CASE` in order: its line, its value, its block and the line of its `ENDCAS`.
+    pub fn cases(&self) -> &[(u32, i64, Block, u32)]
+        ensures { cases_of result.now (other_of self.now) ≡ self.now }
+    {
+        &self.cases
+    }
+
+    /// `DFTCAS`, if there is one: its line, its block and the line of its `ENDCAS`.
+    pub fn default(&self) -> Option<&(u32, Block, u32)>
+        ensures { option_copied result ≡ other_of self.now }
+    {
+        self.other.as_ref()
     }
 }

@@ -2,7 +2,7 @@
 use Rattle.std.specs.Prelude.{Bool, true, false, Option, Some, None, List, [], ◌∷◌}
 use Rattle.vcm_spec.specs.Simple.{Simple, Output, Text}
 use Rattle.vcm_spec.specs.Program.{Node, simple, node_at}
-use Rattle.vcm_spec.specs.Table.{Entry, Rest, EndIf, EndMeas, Loop}
+use Rattle.vcm_spec.specs.Table.{Entry, Rest, EndIf, EndMeas, EndCas, EndSel, Loop}
 
 -- whether a simple statement makes an output line
 abbrev pub prints : {E : Type 0} → Simple E → Bool
@@ -21,4 +21,6 @@ next_node [] = None
 next_node (Rest b base i ∷ es) = node_at b i
 next_node (EndIf n ∷ es) = None
 next_node (EndMeas n ∷ es) = None
+next_node (EndCas n ∷ es) = None
+next_node (EndSel n ∷ es) = None
 next_node (Loop at v b close limit increment ∷ es) = None

@@ -6,7 +6,7 @@ use Rattle.vcm_lines.specs.declared.fault.SourceFault.{SourceFault}
 use Rattle.vcm_expr.specs.Source.{Source, is_small}
 use Rattle.vcm_syntax.specs.declared.statement.Argument.{Argument}
 use Rattle.vcm_syntax.specs.declared.statement.Form.{Form}
-use Rattle.vcm_syntax.specs.declared.statement.Form.TheVariants.{Assignment, Move, Test, Repeat, Feature, Touch, Configure, Shift}
+use Rattle.vcm_syntax.specs.declared.statement.Form.TheVariants.{Assignment, Move, Test, Repeat, Feature, Touch, Configure, Shift, Choose}
 use Rattle.vcm_syntax.specs.declared.statement.Spot.{Spot}
 use Rattle.vcm_syntax.specs.declared.statement.Rounds.{Rounds}
 use Rattle.vcm_syntax.specs.declared.statement.Offset.{Offset}
@@ -37,6 +37,7 @@ abbrev pub are_small : Form → Bool
 are_small (Assignment t s) = is_small s
 are_small (Move p) = is_small_spot p
 are_small (Test s) = is_small s
+are_small (Choose s) = is_small s
 are_small (Repeat r) = are_small_rounds r
 are_small (Feature n p d) = is_small_spot p
 are_small (Touch p d) = is_small_spot p

@@ -11,7 +11,7 @@ use Rattle.vcm_syntax.specs.declared.statement.Spot.{Spot}
 use Rattle.vcm_syntax.specs.declared.statement.Rounds.{Rounds}
 use Rattle.vcm_syntax.specs.declared.statement.Offset.{Offset}
 use Rattle.vcm_syntax.specs.declared.statement.Form.{Form}
-use Rattle.vcm_syntax.specs.declared.statement.Form.TheVariants.{Assignment, Move, Test, Repeat, Feature, Measure, Touch, Configure, Shift}
+use Rattle.vcm_syntax.specs.declared.statement.Form.TheVariants.{Assignment, Move, Test, Repeat, Feature, Measure, Touch, Configure, Shift, Choose}
 use Rattle.vcm_syntax.specs.declared.statement.Form.TheVariants.{Rotation, Restore, Query, Report}
 use Rattle.std.specs.Option.{option_map}
 
@@ -126,6 +126,7 @@ abbrev pub put_form : Scope → Form → Form
 put_form sc (Assignment t s) = Assignment (put_target sc t) (put sc s)
 put_form sc (Move p) = Move (put_spot sc p)
 put_form sc (Test s) = Test (put sc s)
+put_form sc (Choose s) = Choose (put sc s)
 put_form sc (Repeat r) = Repeat (put_rounds sc r)
 put_form sc (Feature n p d) = Feature (put_name sc n) (put_spot sc p) d
 put_form sc (Measure n) = Measure (put_name sc n)

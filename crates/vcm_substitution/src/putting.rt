@@ -160,6 +160,10 @@ fn put_plain(alloc: Global, bindings: &Bindings<'_>, form: &Form) -> Result<Form
         Form::TestEnd => Ok(Form::TestEnd),
         Form::RepeatEnd => Ok(Form::RepeatEnd),
         Form::MeasureEnd => Ok(Form::MeasureEnd),
+        Form::Case(value) => Ok(Form::Case(*value)),
+        Form::CaseEnd => Ok(Form::CaseEnd),
+        Form::Default => Ok(Form::Default),
+        Form::ChooseEnd => Ok(Form::ChooseEnd),
         Form::Ending => Ok(Form::Ending),
         _ => unreachable!(),
     }
@@ -189,6 +193,7 @@ pub fn put_form(
         }
         Form::Move(place) => Ok(Form::Move(put_spot(alloc, line, bindings, place)?)),
         Form::Test(value) => Ok(Form::Test(bindings.put(alloc, line, value)?)),
+        Form::Choose(value) => Ok(Form::Choose(bindings.put(alloc, line, value)?)),
         Form::Repeat(rounds) => Ok(Form::Repeat(put_rounds(alloc, line, bindings, rounds)?)),
         Form::Feature(name, place, out) => { put_feature(alloc, line, bindings, name, place, *out) }
         Form::Touch(place, out) => {

@@ -59,6 +59,7 @@ pub fn are_small(form: &Form)
         Form::Assignment(_, value) => expression(value),
         Form::Move(place) => spot(place),
         Form::Test(value) => expression(value),
+        Form::Choose(value) => expression(value),
         Form::Repeat(words) => rounds(words),
         Form::Feature(_, place, _) => spot(place),
         Form::Touch(place, _) => spot(place),

@@ -4,10 +4,12 @@ use Rattle.std.specs.Prelude.{true, false, List, ◌∷◌, Option, Some, None, 
 use Rattle.std.specs.Ordering.{int_eq}
 use Rattle.vcm_num.specs.declared.axis.Axis.{Axis}
 use Rattle.vcm_num.specs.declared.axis.Axis.TheVariants.{PlusX, MinusX, PlusY, MinusY, PlusZ, MinusZ}
+use Rattle.vcm_num.specs.declared.number.Fault.{Fault}
 use Rattle.vcm_num.specs.declared.number.Literal.{Literal}
 use Rattle.vcm_num.specs.declared.number.Literal.TheVariants.{Int, Thousandths}
 use Rattle.vcm_num.specs.declared.read.NumFault.{NumFault}
 use Rattle.vcm_num.specs.declared.read.NumFault.TheVariants as number
+use Rattle.vcm_num.specs.Number.{checked}
 use Rattle.vcm_lines.specs.declared.fault.FaultCode.{FaultCode}
 use Rattle.vcm_lines.specs.declared.fault.FaultCode.TheVariants.{BadSyntax, TooFine, NumberTooLarge, NotQuarterTurn, NotAxis, Unsupported}
 use Rattle.vcm_lines.specs.Lexemes.{Lexeme, Run, Number, Plus, Minus}
@@ -44,6 +46,23 @@ abbrev pub component_of : List Lexeme → Result Figure FaultCode
 component_of ws = do
   f ← figure_of ws
   alone f.0 f.1
+
+-- a number that 64 bits hold, or a wrong form
+abbrev pub or_bad : Result ℤ Fault → Result ℤ FaultCode
+or_bad (Ok z) = Ok z
+or_bad (Err e) = Err BadSyntax
+
+-- the whole number that a figure is; one with decimals is none
+abbrev pub integer_by : Bool → Literal → Result ℤ FaultCode
+integer_by minus (Int n) = if minus then or_bad (checked (neg_ℤ n)) else Ok n
+integer_by minus (Thousandths t) = Err BadSyntax
+
+-- a whole number, with a sign or without
+abbrev pub integer_of : List Lexeme → Result ℤ FaultCode
+integer_of ws = do
+  f ← figure_of ws
+  z ← integer_by f.0.minus f.0.literal
+  alone z f.1
 
 -- whether a literal is this whole number; its decimals may be zeros
 abbrev pub is_plain : Literal → ℤ → Bool

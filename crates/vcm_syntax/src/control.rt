@@ -1,8 +1,9 @@
 //! Reads the fields of choices, loops and jumps, each statement in its form, from the left.
 
 ghost use Rattle.vcm_expr.specs.Parsing.{ReadAs};
-ghost use Rattle.vcm_syntax.specs.Forms.{if_of, step_of, do_of, jumpto_of};
+ghost use Rattle.vcm_syntax.specs.Forms.{if_of, step_of, do_of, jumpto_of, select_of, case_of};
 
+use crate::figures::integer;
 use crate::named::{aim, index};
 use crate::places::{bare, behind, end, field, test};
 use crate::statement::{Form, Prefix, Rounds};
@@ -66,4 +67,27 @@ pub(crate) fn jumpto(line: u32, prefix: &Prefix, fields: &[Phrase<'_>]) -> Resul
     let name = aim(line, field(line, fields, 0)?)?;
     end(line, behind(fields, 1))?;
     Ok(Form::Leap(name))
+}
+
+pub(crate) fn select(
+    alloc: Global,
+    line: u32,
+    prefix: &Prefix,
+    fields: &[Phrase<'_>],
+) -> Result<Form, SourceFault>
+    ensures { ReadAs line (λ f. f) result (select_of prefix.now fields.now) }
+{
+    bare(line, prefix)?;
+    let value = read_expr(alloc, line, field(line, fields, 0)?)?;
+    end(line, behind(fields, 1))?;
+    Ok(Form::Choose(value))
+}
+
+pub(crate) fn case(line: u32, prefix: &Prefix, fields: &[Phrase<'_>]) -> Result<Form, SourceFault>
+    ensures { ReadAs line (λ f. f) result (case_of prefix.now fields.now) }
+{
+    bare(line, prefix)?;
+    let value = integer(line, field(line, fields, 0)?)?;
+    end(line, behind(fields, 1))?;
+    Ok(Form::Case(value))
 }

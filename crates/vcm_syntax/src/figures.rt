@@ -3,11 +3,11 @@
 ghost use Rattle.std.specs.Prelude.{◌≡◌};
 ghost use Rattle.vcm_expr.specs.Digits.{read_of};
 ghost use Rattle.vcm_expr.specs.Parsing.{ReadAs};
-ghost use Rattle.vcm_syntax.specs.Figures.{figure_by, digits_of, figure_of, component_of, is_plain, is_whole, are_whole, direction_by, vector_of, quarters_by, angle_of, word_by, feature_word_of, one_of};
+ghost use Rattle.vcm_syntax.specs.Figures.{figure_by, digits_of, figure_of, component_of, or_bad, integer_by, integer_of, is_plain, is_whole, are_whole, direction_by, vector_of, quarters_by, angle_of, word_by, feature_word_of, one_of};
 
 use crate::places::{field, sole, unsupported};
 use vcm_lines::{FaultCode, Phrase, SourceFault, Token, bad_syntax};
-use vcm_num::{Axis, Literal, NumFault, read_number};
+use vcm_num::{Axis, Literal, NumFault, neg, read_number};
 use vcm_spec::{FeatureWord, Quarters};
 
 /// A number literal with its sign.
@@ -93,6 +93,31 @@ fn component(line: u32, words: &Phrase<'_>) -> Result<Figure, SourceFault>
 {
     let (figure, rest) = number(line, words)?;
     sole(line, &rest, figure)
+}
+
+/// The whole number that a literal is behind a sign; one with decimals is none.
+fn integer_by(minus: bool, literal: Literal) -> Result<i64, FaultCode>
+    ensures { result ≡ integer_by minus literal }
+{
+    match literal {
+        Literal::Int(whole) if minus => match neg(whole) {
+            Ok(number) => Ok(number),
+            Err(_) => Err(FaultCode::BadSyntax),
+        },
+        Literal::Int(whole) => Ok(whole),
+        Literal::Thousandths(_) => Err(FaultCode::BadSyntax),
+    }
+}
+
+/// A whole number, with a sign or without.
+pub(crate) fn integer(line: u32, words: &Phrase<'_>) -> Result<i64, SourceFault>
+    ensures { ReadAs line (λ z. z) result (integer_of words.now) }
+{
+    let (figure, rest) = number(line, words)?;
+    match integer_by(figure.minus, figure.literal) {
+        Ok(number) => sole(line, &rest, number),
+        Err(code) => Err(SourceFault { code, line }),
+    }
 }
 
 fn are_whole(x: Figure, y: Figure, z: Figure, i: i16, j: i16, k: i16) -> bool

@@ -5,7 +5,7 @@ ghost use Rattle.vcm_syntax.specs.Readers.{each_of};
 ghost use Rattle.vcm_syntax.specs.Places.{variable_of};
 ghost use Rattle.vcm_syntax.specs.Forms.{sole_of, declaration_of, decl_of, assign_of, place_of, goto_of, say_of, notice_prefix_of, passed_of, form_of};
 
-use crate::control::{iff, jumpto, repeat};
+use crate::control::{case, iff, jumpto, repeat, select};
 use crate::macros::{call, macro_form};
 use crate::measuring::{feat, meas, obtain, output, ptmeas, recall, rotate, snset, trans};
 use crate::named::{kind, lengths, unscoped, variable};
@@ -174,6 +174,11 @@ pub(crate) fn read_form(
         Major::Do => repeat(alloc, line, prefix, fields),
         Major::Enddo => alone(line, prefix, fields, Form::RepeatEnd),
         Major::Jumpto => jumpto(line, prefix, fields),
+        Major::Select => select(alloc, line, prefix, fields),
+        Major::Case => case(line, prefix, fields),
+        Major::Endcas => alone(line, prefix, fields, Form::CaseEnd),
+        Major::Dftcas => alone(line, prefix, fields, Form::Default),
+        Major::Endsel => alone(line, prefix, fields, Form::ChooseEnd),
         Major::Feat => feat(alloc, line, prefix, fields),
         Major::Meas => meas(line, prefix, fields),
         Major::Ptmeas => ptmeas(alloc, line, prefix, fields),

@@ -97,6 +97,11 @@ pub enum Major {
     Macro,
     Endmac,
     Call,
+    Select,
+    Case,
+    Endcas,
+    Dftcas,
+    Endsel,
     Passed(Notice),
 }
 
@@ -199,6 +204,16 @@ pub enum Form {
     Query(Target, Source, Name, FeatureWord),
     /// `OUTPUT`: the feature that is told.
     Report(Source, Name),
+    /// `SELECT`: its value.
+    Choose(Expr),
+    /// `CASE`: the value of its block.
+    Case(i64),
+    /// `ENDCAS`.
+    CaseEnd,
+    /// `DFTCAS`.
+    Default,
+    /// `ENDSEL`.
+    ChooseEnd,
     /// `MACRO`: a macro's name, and its parameters.
     Macro(Name, Items<Parameter>),
     /// `ENDMAC`.
@@ -225,6 +240,9 @@ impl Form {
             Form::Test(_) | Form::Otherwise | Form::TestEnd => true,
             Form::Repeat(_) | Form::RepeatEnd | Form::Mark(_) | Form::Leap(_) => true,
             Form::Feature(_, _, _) | Form::Measure(_) | Form::Touch(_, _) | Form::MeasureEnd => {
+                true
+            }
+            Form::Choose(_) | Form::Case(_) | Form::CaseEnd | Form::Default | Form::ChooseEnd => {
                 true
             }
             Form::Configure(_, _) | Form::Shift(_, _) | Form::Rotation(_, _, _) => true,

@@ -21,7 +21,7 @@ use Rattle.vcm_syntax.specs.declared.statement.Rounds.{Rounds}
 use Rattle.vcm_syntax.specs.declared.statement.Form.{Form}
 use Rattle.vcm_syntax.specs.declared.statement.Form.TheVariants.{Opening, Measures as Units, Ignored, Declaration, Assignment, Move, Home, Say, Test, Otherwise, TestEnd, Repeat, RepeatEnd, Mark, Leap, Feature, Measure, Touch, MeasureEnd, Configure, Shift, Rotation, Restore, Query, Report, Macro, MacroEnd, Call, Ending}
 use Rattle.vcm_macro.specs.declared.placed.Placed.{Placed}
-use Rattle.vcm_tree.specs.Sentences.{Step, Sentence, Does, Marks, Leaps, Tests, Divides, EndsTest, Repeats, EndsRepeat, Measures, EndsMeasure, Ends}
+use Rattle.vcm_tree.specs.Sentences.{Step, Sentence, Does, Marks, Leaps, Tests, Divides, EndsTest, Repeats, EndsRepeat, Measures, EndsMeasure, Selects, BeginsCase, BeginsDefault, EndsCase, EndsSelect, Ends}
 use Rattle.vcm_tree.specs.Variables.{with_all, target_of, assigned, moved}
 use Rattle.vcm_tree.specs.Blocks.{Behind, Opened, InFirst, InSecond, InBody, InMeasure, room, nested, tested, indexed, index_by, index_to, increment_of, repeated, divided, test_ended, repeat_ended, ended, marked, label_of}
 use Rattle.vcm_tree.specs.Features.{known, declared, opened_measure, touched, measure_ended, configured, shifted, rotated, recalled, obtained, reported}
@@ -192,6 +192,11 @@ step_within ws bs (Repeats v a b c) f h = h
 step_within ws bs EndsRepeat f h = outer_within (length ws.features) bs h
 step_within ws bs (Measures i) f h = (f, h)
 step_within ws bs EndsMeasure f h = outer_within (length ws.features) bs h
+step_within ws bs (Selects v) f h = h
+step_within ws bs (BeginsCase v) f h = h
+step_within ws bs BeginsDefault f h = h
+step_within ws bs EndsCase f h = h
+step_within ws bs EndsSelect f h = h
 step_within ws bs Ends f h = h
 
 within_next : (ws : Tables) (b : Behind) (form : Form) (line : ℕ) (r : Result Meaning FaultCode) → SentencesFit ws (sentences_by line r) → Within (length ws.features) b.blocks

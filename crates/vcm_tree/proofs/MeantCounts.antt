@@ -11,7 +11,7 @@ use Rattle.vcm_macro.specs.declared.placed.Placed.{Placed}
 use Rattle.vcm_syntax.specs.Statements.{is_counted}
 use Rattle.vcm_macro.specs.Order.{is_ending}
 use Rattle.vcm_tree.specs.Ended.{is_ended}
-use Rattle.vcm_tree.specs.Sentences.{Step, Sentence, Does, Marks, Leaps, Tests, Divides, EndsTest, Repeats, EndsRepeat, Measures, EndsMeasure, Ends}
+use Rattle.vcm_tree.specs.Sentences.{Step, Sentence, Does, Marks, Leaps, Tests, Divides, EndsTest, Repeats, EndsRepeat, Measures, EndsMeasure, Selects, BeginsCase, BeginsDefault, EndsCase, EndsSelect, Ends}
 use Rattle.vcm_tree.specs.Variables.{with_all, assigned, moved}
 use Rattle.vcm_tree.specs.Blocks.{Behind, Opened, nested, tested, repeated, divided, test_ended, repeat_ended, ended, marked, label_of}
 use Rattle.vcm_tree.specs.Features.{declared, opened_measure, touched, measure_ended, configured, shifted, rotated, recalled, obtained, reported}
@@ -35,6 +35,11 @@ labels_step ls (Repeats v a b c) = sym (append-nil ls)
 labels_step ls EndsRepeat = sym (append-nil ls)
 labels_step ls (Measures f) = sym (append-nil ls)
 labels_step ls EndsMeasure = sym (append-nil ls)
+labels_step ls (Selects v) = sym (append-nil ls)
+labels_step ls (BeginsCase v) = sym (append-nil ls)
+labels_step ls BeginsDefault = sym (append-nil ls)
+labels_step ls EndsCase = sym (append-nil ls)
+labels_step ls EndsSelect = sym (append-nil ls)
 labels_step ls Ends = sym (append-nil ls)
 
 labels_by : (b : Behind) (form : Form) (line : ℕ) (r : Result Meaning FaultCode) → (behind_by b form r).labels ≡ b.labels ++ sentence_labels (sentences_by line r)

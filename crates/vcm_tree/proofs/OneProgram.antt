@@ -1,8 +1,8 @@
 -- Statements in writing are one program.
-use Rattle.std.proofs.Common.{◌≡◌, ℕ, Bool, true, false, List, [], ◌∷◌, ◌++◌, refl, sym, ap, ◌∙◌, subst, append_assoc}
+use Rattle.std.proofs.Common.{◌≡◌, ℕ, ℤ, Bool, true, false, List, [], ◌∷◌, ◌++◌, refl, sym, ap, ◌∙◌, subst, append_assoc}
 use Rattle.std.proofs.lemmas.List.{append-nil}
-use Rattle.vcm_spec.specs.Program.{Node, Block, simple, label, jump, choice, choice_else, do_loop, meas, ending, done, then}
-use Rattle.vcm_tree.specs.Sentences.{Step, Sentence, sentence, Does, Marks, Leaps, Tests, Divides, EndsTest, Repeats, EndsRepeat, Measures, EndsMeasure, Ends, node_sentences, sentences}
+use Rattle.vcm_spec.specs.Program.{Node, Block, Cases, simple, label, jump, choice, choice_else, do_loop, meas, select, ending, done, then, no_more, one_case, default}
+use Rattle.vcm_tree.specs.Sentences.{Step, Sentence, sentence, Does, Marks, Leaps, Tests, Divides, EndsTest, Repeats, EndsRepeat, Measures, EndsMeasure, Selects, BeginsCase, BeginsDefault, EndsCase, EndsSelect, Ends, node_sentences, sentences, case_sentences}
 
 -- whether a statement divides or closes a block
 abbrev closes : Step → Bool
@@ -10,6 +10,7 @@ closes Divides = true
 closes EndsTest = true
 closes EndsRepeat = true
 closes EndsMeasure = true
+closes EndsCase = true
 closes _ = false
 
 -- nothing is left, or a block is divided or closed first
@@ -38,7 +39,17 @@ opener (choice line test first close) = (_, _, refl, refl)
 opener (choice_else line test first mid second close) = (_, _, refl, refl)
 opener (do_loop line v x y z body close) = (_, _, refl, refl)
 opener (meas line f body close) = (_, _, refl, refl)
+opener (select line v cases close) = (_, _, refl, refl)
 opener (ending line) = (_, _, refl, refl)
+
+-- the SELECT is closed first
+abbrev EndsHere : List Sentence → Type 0
+EndsHere [] = ⊥
+EndsHere (p ∷ ps) = p.step ≡ EndsSelect
+
+ends_first : (r : List Sentence) → EndsHere r → first_step r ≡ EndsSelect
+ends_first [] h = absurd h
+ends_first (p ∷ ps) h = h
 
 -- what closes is no node
 no_node : (n : Node) (b : Block) (r s : List Sentence) → Closes r → r ≡ (node_sentences n ++ sentences b) ++ s → ⊥
@@ -137,6 +148,17 @@ mutual
       let d : close ≡ clove = ap line_of k.0 in
       let i = t.0 in
       (rw (l, vv, i, d) refl, k.1)
+  one_node (select line x cs close) (select lime y ds clove) r s e =
+      let q = cons_eq (sentence line (Selects x)) (sentence lime (Selects y)) ((case_sentences cs ++ sentence close EndsSelect ∷ []) ++ r) ((case_sentences ds ++ sentence clove EndsSelect ∷ []) ++ s) e in
+      let l : line ≡ lime = ap line_of q.0 in
+      let w : Selects x ≡ Selects y = ap step_of q.0 in
+      let xx : x ≡ y = cc in
+      let t = one_choice cs ds (sentence close EndsSelect ∷ r) (sentence clove EndsSelect ∷ s) refl refl
+      (sym (append_assoc (case_sentences cs) (sentence close EndsSelect ∷ []) r) ∙ q.1 ∙ append_assoc (case_sentences ds) (sentence clove EndsSelect ∷ []) s) in
+      let k = cons_eq (sentence close EndsSelect) (sentence clove EndsSelect) r s t.1 in
+      let d : close ≡ clove = ap line_of k.0 in
+      let i = t.0 in
+      (rw (l, xx, i, d) refl, k.1)
   one_node (ending line) (ending lime) r s e =
       let q = cons_eq _ _ r s e in
       let l : line ≡ lime = ap line_of q.0 in
@@ -153,6 +175,39 @@ mutual
       let x = q.0 in
       let y = t.0 in
       (rw (x, y) refl, t.1)
+
+  one_choice : (cs ds : Cases) (r s : List Sentence) → EndsHere r → EndsHere s → case_sentences cs ++ r ≡ case_sentences ds ++ s → (cs ≡ ds) × (r ≡ s)
+  one_choice no_more no_more r s h k e = (refl, e)
+  one_choice no_more (one_case line v b close rest) r s h k e = (let w = sym (ends_first r h) ∙ ap first_step e in absurd cc)
+  one_choice no_more (default line b close) r s h k e = (let w = sym (ends_first r h) ∙ ap first_step e in absurd cc)
+  one_choice (one_case line v b close rest) no_more r s h k e = (let w = sym (ends_first s k) ∙ ap first_step (sym e) in absurd cc)
+  one_choice (default line b close) no_more r s h k e = (let w = sym (ends_first s k) ∙ ap first_step (sym e) in absurd cc)
+  one_choice (one_case line v b close rest) (one_case lime u c clove rust) r s h k e =
+      let tail = case_sentences rest in
+      let tale = case_sentences rust in
+      let q = cons_eq (sentence line (BeginsCase v)) (sentence lime (BeginsCase u)) ((sentences b ++ sentence close EndsCase ∷ tail) ++ r) ((sentences c ++ sentence clove EndsCase ∷ tale) ++ s) e in
+      let l : line ≡ lime = ap line_of q.0 in
+      let w : BeginsCase v ≡ BeginsCase u = ap step_of q.0 in
+      let vv : v ≡ u = cc in
+      let t = one_block b c (sentence close EndsCase ∷ (tail ++ r)) (sentence clove EndsCase ∷ (tale ++ s)) refl refl
+      (sym (append_assoc (sentences b) (sentence close EndsCase ∷ tail) r) ∙ q.1 ∙ append_assoc (sentences c) (sentence clove EndsCase ∷ tale) s) in
+      let n = cons_eq (sentence close EndsCase) (sentence clove EndsCase) (tail ++ r) (tale ++ s) t.1 in
+      let d : close ≡ clove = ap line_of n.0 in
+      let m = one_choice rest rust r s h k n.1 in
+      let i = t.0 in
+      let j = m.0 in
+      (rw (l, vv, i, d, j) refl, m.1)
+  one_choice (one_case line v b close rest) (default lime c clove) r s h k e = (let w = ap first_step e in absurd cc)
+  one_choice (default line b close) (one_case lime u c clove rust) r s h k e = (let w = ap first_step e in absurd cc)
+  one_choice (default line b close) (default lime c clove) r s h k e =
+      let q = cons_eq (sentence line BeginsDefault) (sentence lime BeginsDefault) ((sentences b ++ sentence close EndsCase ∷ []) ++ r) ((sentences c ++ sentence clove EndsCase ∷ []) ++ s) e in
+      let l : line ≡ lime = ap line_of q.0 in
+      let t = one_block b c (sentence close EndsCase ∷ r) (sentence clove EndsCase ∷ s) refl refl
+      (sym (append_assoc (sentences b) (sentence close EndsCase ∷ []) r) ∙ q.1 ∙ append_assoc (sentences c) (sentence clove EndsCase ∷ []) s) in
+      let n = cons_eq (sentence close EndsCase) (sentence clove EndsCase) r s t.1 in
+      let d : close ≡ clove = ap line_of n.0 in
+      let i = t.0 in
+      (rw (l, i, d) refl, n.1)
 
 -- two programs that are written alike are one
 pub one_writing : (a b : Block) → sentences a ≡ sentences b → a ≡ b

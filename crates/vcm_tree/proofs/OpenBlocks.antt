@@ -13,7 +13,7 @@ use Rattle.vcm_expr.specs.Typing.{typed_for}
 use Rattle.vcm_expr.specs.declared.typing.Want.TheVariants as wants
 use Rattle.vcm_syntax.specs.declared.statement.Rounds.{Rounds}
 use Rattle.vcm_nodes.specs.Nodes.{with_last}
-use Rattle.vcm_tree.specs.Sentences.{Step, Sentence, sentence, Does, Marks, Leaps, Tests, Divides, EndsTest, Repeats, EndsRepeat, Measures, EndsMeasure, Ends, node_sentences, sentences}
+use Rattle.vcm_tree.specs.Sentences.{Step, Sentence, sentence, Does, Marks, Leaps, Tests, Divides, EndsTest, Repeats, EndsRepeat, Measures, EndsMeasure, Selects, BeginsCase, BeginsDefault, EndsCase, EndsSelect, Ends, node_sentences, sentences}
 use Rattle.vcm_tree.specs.Blocks.{Opened, InFirst, InSecond, InBody, InMeasure, indexed, increment_of, repeated, divided, test_ended, repeat_ended, ended, marked}
 use Rattle.vcm_tree.specs.Features.{measure_ended}
 use Rattle.vcm_tree.specs.Resolving.{does, blocks_after}
@@ -44,6 +44,11 @@ Fit bs Divides = FitDivides bs
 Fit bs EndsTest = FitTestEnd bs
 Fit bs EndsRepeat = FitRepeatEnd bs
 Fit bs EndsMeasure = FitMeasureEnd bs
+Fit bs (Selects v) = ⊥
+Fit bs (BeginsCase v) = ⊥
+Fit bs BeginsDefault = ⊥
+Fit bs EndsCase = ⊥
+Fit bs EndsSelect = ⊥
 Fit bs _ = Unit {0}
 
 abbrev pub FitResult : List Opened → Result Step FaultCode → Type 0
@@ -226,4 +231,9 @@ grow as' b line (Repeats v x y z) f = opening as' b line (Repeats v x y z) (Arou
 grow as' b line EndsRepeat f = end_repeat as' b line f
 grow as' b line (Measures g) f = opening as' b line (Measures g) (AroundMeasure b line g) refl refl refl
 grow as' b line EndsMeasure f = end_measure as' b line f
+grow as' b line (Selects v) f = absurd f
+grow as' b line (BeginsCase v) f = absurd f
+grow as' b line BeginsDefault f = absurd f
+grow as' b line EndsCase f = absurd f
+grow as' b line EndsSelect f = absurd f
 grow as' b line Ends f = node_more as' b line Ends (ending line) refl refl

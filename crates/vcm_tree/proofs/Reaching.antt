@@ -4,9 +4,9 @@ use Rattle.std.specs.Prelude.{not, ◌&&◌, ◌||◌, ◌⊎◌, slice_get}
 use Rattle.vcm_lines.specs.declared.fault.FaultCode.{FaultCode}
 use Rattle.vcm_lines.specs.declared.fault.FaultCode.TheVariants.{UnknownName, JumpInward}
 use Rattle.vcm_spec.specs.Phase.{IsClean}
-use Rattle.vcm_spec.specs.Program.{Label, Node, Block, simple, label, jump, choice, choice_else, do_loop, meas, ending, done, then, node_at, is_same_label}
-use Rattle.vcm_spec.specs.Whole.{IsAround, NodeJumps, Jumps, AlwaysSteps}
-use Rattle.vcm_nodes.specs.Jumps.{Jump, own_labels, node_jumps, jumps_in, jumps_of, labels_of, is_among, BreaksJumps}
+use Rattle.vcm_spec.specs.Program.{Label, Node, Block, Cases, simple, label, jump, choice, choice_else, do_loop, meas, select, ending, done, then, no_more, one_case, default, node_at, is_same_label}
+use Rattle.vcm_spec.specs.Whole.{IsAround, NodeJumps, Jumps, CasesJump, AlwaysSteps}
+use Rattle.vcm_nodes.specs.Jumps.{Jump, own_labels, node_jumps, jumps_in, jumps_among, jumps_of, labels_of, is_among, BreaksJumps}
 use Rattle.vcm_nodes.specs.inner.Judging.{AllReach}
 use Rattle.vcm_tree.specs.Program.{IsWhole}
 use Rattle.vcm_spec.specs.Setup.{Tables}
@@ -42,6 +42,7 @@ own_stands (then (choice line test first close) b) l e = passed (choice line tes
 own_stands (then (choice_else line test first mid second close) b) l e = passed (choice_else line test first mid second close) b l (own_stands b l e)
 own_stands (then (do_loop line v x y z body close) b) l e = passed (do_loop line v x y z body close) b l (own_stands b l e)
 own_stands (then (meas line f body close) b) l e = passed (meas line f body close) b l (own_stands b l e)
+own_stands (then (select line v cases close) b) l e = passed (select line v cases close) b l (own_stands b l e)
 own_stands (then (ending line) b) l e = passed (ending line) b l (own_stands b l e)
 
 -- ---- labels within reach stand in blocks around
@@ -83,6 +84,7 @@ mutual
       )
   node_reaches all (do_loop line v x y z body close) reach around c h = block_reaches all body (reach ++ own_labels body) (body ∷ around) (inner reach around body c) h
   node_reaches all (meas line f body close) reach around c h = block_reaches all body (reach ++ own_labels body) (body ∷ around) (inner reach around body c) h
+  node_reaches all (select line v cases close) reach around c h = cases_reach all cases reach around c h
   node_reaches all (ending line) reach around c h = tt
 
   block_reaches : (all : List Label) (b : Block) (reach : List Label) (around : List Block) → Covers reach around → AllReach all (jumps_in b reach) → Jumps b around
@@ -90,6 +92,13 @@ mutual
   block_reaches all (then n b) reach around c h =
       let r = split all (node_jumps n reach) (jumps_in b reach) h in
       (node_reaches all n reach around c r.0, block_reaches all b reach around c r.1)
+
+  cases_reach : (all : List Label) (cs : Cases) (reach : List Label) (around : List Block) → Covers reach around → AllReach all (jumps_among cs reach) → CasesJump cs around
+  cases_reach all no_more reach around c h = tt
+  cases_reach all (one_case line v b close rest) reach around c h =
+      let r = split all (jumps_in b (reach ++ own_labels b)) (jumps_among rest reach) h in
+      (block_reaches all b (reach ++ own_labels b) (b ∷ around) (inner reach around b c) r.0, cases_reach all rest reach around c r.1)
+  cases_reach all (default line b close) reach around c h = block_reaches all b (reach ++ own_labels b) (b ∷ around) (inner reach around b c) h
 
 -- ---- what breaks no rule reaches
 

@@ -3,13 +3,13 @@ use Rattle.std.proofs.Common.{◌≡◌, ℕ, zero, suc, ◌+◌, ◌<◌, Bool,
 use Rattle.std.proofs.lemmas.List.{append-nil, length-append}
 use Rattle.vcm_num.specs.declared.number.Kind.TheVariants as kinds
 use Rattle.vcm_spec.specs.Setup.{Tables}
-use Rattle.vcm_spec.specs.Program.{Label, Node, Block, simple, label, jump, choice, choice_else, do_loop, meas, ending, done, then, size, sizes}
-use Rattle.vcm_spec.specs.Fitting.{Fits, HasKindIn, kinds as kinds_in, NodeFits, BlockFits}
+use Rattle.vcm_spec.specs.Program.{Label, Node, Block, Cases, simple, label, jump, choice, choice_else, do_loop, meas, select, ending, done, then, no_more, one_case, default, size, sizes, case_sizes}
+use Rattle.vcm_spec.specs.Fitting.{Fits, HasKindIn, kinds as kinds_in, NodeFits, BlockFits, CasesFit}
 use Rattle.std.specs.Prelude.{slice_get, Some}
-use Rattle.vcm_tree.specs.Sentences.{Step, Sentence, sentence, Does, Marks, Tests, Divides, EndsTest, Repeats, EndsRepeat, Measures, EndsMeasure, Ends, node_sentences, sentences}
-use Rattle.vcm_nodes.specs.Jumps.{node_labels, labels_of}
+use Rattle.vcm_tree.specs.Sentences.{Step, Sentence, sentence, Does, Marks, Tests, Divides, EndsTest, Repeats, EndsRepeat, Measures, EndsMeasure, Selects, BeginsCase, BeginsDefault, EndsCase, EndsSelect, Ends, node_sentences, sentences, case_sentences}
+use Rattle.vcm_nodes.specs.Jumps.{node_labels, labels_of, labels_among}
 use Rattle.vcm_spec.specs.Whole.{is_end, is_closed}
-use Rattle.vcm_tree.specs.Program.{NodeNests, BlockNests}
+use Rattle.vcm_tree.specs.Program.{NodeNests, BlockNests, CasesNest}
 
 -- ---- how many
 
@@ -29,11 +29,21 @@ mutual
       omega (arith, a, b, c)
   node_length (do_loop line v x y z body close) = (let a = two_more (sentences body) (sentence close EndsRepeat) (sizes body) (sentences_length body) in omega (arith, a))
   node_length (meas line f body close) = (let a = two_more (sentences body) (sentence close EndsMeasure) (sizes body) (sentences_length body) in omega (arith, a))
+  node_length (select line v cases close) = (let a = two_more (case_sentences cases) (sentence close EndsSelect) (case_sizes cases) (cases_length cases) in omega (arith, a))
   node_length (ending line) = refl
 
   pub sentences_length : (b : Block) → length (sentences b) ≡ sizes b
   sentences_length done = refl
   sentences_length (then n b) = (let h = length-append (node_sentences n) (sentences b) in let m = node_length n in let k = sentences_length b in omega (arith, h, m, k))
+
+  cases_length : (cs : Cases) → length (case_sentences cs) ≡ case_sizes cs
+  cases_length no_more = refl
+  cases_length (one_case line v b close rest) =
+      let h = length-append (sentences b) (sentence close EndsCase ∷ case_sentences rest) in
+      let m = sentences_length b in
+      let k = cases_length rest in
+      omega (arith, h, m, k)
+  cases_length (default line b close) = (let a = two_more (sentences b) (sentence close EndsCase) (sizes b) (sentences_length b) in omega (arith, a))
 
 -- ---- labels
 
@@ -64,11 +74,19 @@ mutual
       ∙ ap (λ l. labels_of first ++ l) (closed_labels (sentences second) (sentence close EndsTest) (labels_of second) refl (sentences_marks second))
   node_marks (do_loop line v x y z body close) = closed_labels (sentences body) (sentence close EndsRepeat) (labels_of body) refl (sentences_marks body)
   node_marks (meas line f body close) = closed_labels (sentences body) (sentence close EndsMeasure) (labels_of body) refl (sentences_marks body)
+  node_marks (select line v cases close) = closed_labels (case_sentences cases) (sentence close EndsSelect) (labels_among cases) refl (cases_marks cases)
   node_marks (ending line) = refl
 
   pub sentences_marks : (b : Block) → sentence_labels (sentences b) ≡ labels_of b
   sentences_marks done = refl
   sentences_marks (then n b) = labels_append (node_sentences n) (sentences b) ∙ ap (λ l. l ++ sentence_labels (sentences b)) (node_marks n) ∙ ap (λ l. node_labels n ++ l) (sentences_marks b)
+
+  cases_marks : (cs : Cases) → sentence_labels (case_sentences cs) ≡ labels_among cs
+  cases_marks no_more = refl
+  cases_marks (one_case line v b close rest) =
+      labels_append (sentences b) (sentence close EndsCase ∷ case_sentences rest)
+      ∙ ap (λ l. l ++ sentence_labels (case_sentences rest)) (sentences_marks b) ∙ ap (λ l. labels_of b ++ l) (cases_marks rest)
+  cases_marks (default line b close) = closed_labels (sentences b) (sentence close EndsCase) (labels_of b) refl (sentences_marks b)
 
 -- ---- nesting
 
@@ -85,6 +103,9 @@ depth_after d (Repeats v a b c) = suc d
 depth_after d EndsRepeat = less d
 depth_after d (Measures f) = suc d
 depth_after d EndsMeasure = less d
+depth_after d (BeginsCase v) = suc d
+depth_after d BeginsDefault = suc d
+depth_after d EndsCase = less d
 depth_after d _ = d
 
 -- whether a statement opens a block
@@ -92,6 +113,8 @@ abbrev pub opens : Step → Bool
 opens (Tests t) = true
 opens (Repeats v a b c) = true
 opens (Measures f) = true
+opens (BeginsCase v) = true
+opens BeginsDefault = true
 opens _ = false
 
 -- with so many blocks open, no statement opens a 33rd one
@@ -121,6 +144,9 @@ mutual
   node_nests (meas line f body close) d rest h =
       let q = sentences_nests body (suc d) (sentence close EndsMeasure ∷ rest) (subst (SentencesNest (suc d)) (append_assoc (sentences body) (sentence close EndsMeasure ∷ []) rest) h.1) in
       ((h.0 refl, one_deeper d body q.0), q.1.1)
+  node_nests (select line v cases close) d rest h =
+      let q = cases_nest cases d (sentence close EndsSelect ∷ rest) (subst (SentencesNest d) (append_assoc (case_sentences cases) (sentence close EndsSelect ∷ []) rest) h.1) in
+      (q.0, q.1.1)
   node_nests (ending line) d rest h = (tt, h.1)
 
   pub sentences_nests : (b : Block) (d : ℕ) (rest : List Sentence) → SentencesNest d (sentences b ++ rest) → BlockNests d b × SentencesNest d rest
@@ -129,6 +155,17 @@ mutual
       let q = node_nests n d (sentences b ++ rest) (subst (SentencesNest d) (append_assoc (node_sentences n) (sentences b) rest) h) in
       let r = sentences_nests b d rest q.1 in
       ((q.0, r.0), r.1)
+
+  cases_nest : (cs : Cases) (d : ℕ) (rest : List Sentence) → SentencesNest d (case_sentences cs ++ rest) → CasesNest d cs × SentencesNest d rest
+  cases_nest no_more d rest h = (tt, h)
+  cases_nest (one_case line v b close more) d rest h =
+      let q = sentences_nests b (suc d) (sentence close EndsCase ∷ (case_sentences more ++ rest))
+      (subst (SentencesNest (suc d)) (append_assoc (sentences b) (sentence close EndsCase ∷ case_sentences more) rest) h.1) in
+      let r = cases_nest more d rest q.1.1 in
+      ((h.0 refl, one_deeper d b q.0, r.0), r.1)
+  cases_nest (default line b close) d rest h =
+      let q = sentences_nests b (suc d) (sentence close EndsCase ∷ rest) (subst (SentencesNest (suc d)) (append_assoc (sentences b) (sentence close EndsCase ∷ []) rest) h.1) in
+      ((h.0 refl, one_deeper d b q.0), q.1.1)
 
 -- ---- the last statement
 
@@ -161,6 +198,7 @@ node_last (choice_else line test first mid second close) =
     ∙ last_closer (sentence line (Tests test)) (sentences first ++ sentence mid Divides ∷ sentences second) (sentence close EndsTest)
 node_last (do_loop line v x y z body close) = last_closer (sentence line (Repeats v x y z)) (sentences body) (sentence close EndsRepeat)
 node_last (meas line f body close) = last_closer (sentence line (Measures f)) (sentences body) (sentence close EndsMeasure)
+node_last (select line v cases close) = last_closer (sentence line (Selects v)) (case_sentences cases) (sentence close EndsSelect)
 node_last (ending line) = refl
 
 -- a node is some statement
@@ -172,6 +210,7 @@ node_first (choice line test first close) = (_, _, refl)
 node_first (choice_else line test first mid second close) = (_, _, refl)
 node_first (do_loop line v x y z body close) = (_, _, refl)
 node_first (meas line f body close) = (_, _, refl)
+node_first (select line v cases close) = (_, _, refl)
 node_first (ending line) = (_, _, refl)
 
 -- a block is closed where its last statement is ENDFIL
@@ -191,6 +230,7 @@ StepFits ts (Does what) = Fits (HasKindIn ts) ts what
 StepFits ts (Tests t) = HasKindIn ts t kinds.Bool
 StepFits ts (Repeats v a b c) = (slice_get (kinds_in ts) v ≡ Some kinds.Int) × HasKindIn ts a kinds.Int × HasKindIn ts b kinds.Int × HasKindIn ts c kinds.Int
 StepFits ts (Measures f) = f < length ts.features
+StepFits ts (Selects v) = HasKindIn ts v kinds.Int
 StepFits ts _ = Unit {0}
 
 abbrev pub SentencesFit : Tables → List Sentence → Type 0
@@ -213,8 +253,15 @@ mutual
   node_fits ts (do_loop line v x y z body close) h =
       (h.0.0, h.0.1, h.0.2, h.0.3, sentences_fit ts body (split_fit ts (sentences body) (sentence close EndsRepeat ∷ []) h.1).0)
   node_fits ts (meas line f body close) h = (h.0, sentences_fit ts body (split_fit ts (sentences body) (sentence close EndsMeasure ∷ []) h.1).0)
+  node_fits ts (select line v cases close) h = (h.0, cases_fit ts cases (split_fit ts (case_sentences cases) (sentence close EndsSelect ∷ []) h.1).0)
   node_fits ts (ending line) h = tt
 
   pub sentences_fit : (ts : Tables) (b : Block) → SentencesFit ts (sentences b) → BlockFits ts b
   sentences_fit ts done h = tt
   sentences_fit ts (then n b) h = (let q = split_fit ts (node_sentences n) (sentences b) h in (node_fits ts n q.0, sentences_fit ts b q.1))
+
+  cases_fit : (ts : Tables) (cs : Cases) → SentencesFit ts (case_sentences cs) → CasesFit ts cs
+  cases_fit ts no_more h = tt
+  cases_fit ts (one_case line v b close rest) h =
+      let q = split_fit ts (sentences b) (sentence close EndsCase ∷ case_sentences rest) h.1 in (sentences_fit ts b q.0, cases_fit ts rest q.1.1)
+  cases_fit ts (default line b close) h = sentences_fit ts b (split_fit ts (sentences b) (sentence close EndsCase ∷ []) h.1).0

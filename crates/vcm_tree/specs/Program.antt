@@ -2,7 +2,8 @@
 use Rattle.std.specs.Prelude.{◌≡◌, ℕ, ◌+◌, ◌<◌, ◌≤◌, IsTrue, not, true, List, [], ◌∷◌, length}
 use Rattle.std.specs.List.{AllByRecursion, flat_map}
 use Rattle.vcm_spec.specs.Setup.{Tables}
-use Rattle.vcm_spec.specs.Program.{Label, Node, Block, choice, choice_else, do_loop, meas, done, then, sizes}
+use Rattle.vcm_spec.specs.Program.{Label, Node, Block, Cases, choice, choice_else, do_loop, meas, select, no_more, one_case, default, done, then}
+use Rattle.vcm_spec.specs.Program.{sizes}
 use Rattle.vcm_spec.specs.Whole.{is_closed}
 use Rattle.vcm_spec.specs.Phase.{IsClean}
 use Rattle.vcm_spec.specs.Fitting.{BlockFits}
@@ -43,18 +44,24 @@ pub record IsParsed (ss : List Statement) (all : List Placed) (p : Parsed) : Typ
   pub tables : p.tables ≡ tables_of (behind_all start all)
   pub notices : p.notices ≡ notices_of ss
 
--- where so many blocks are around a node, or a block, those in it nest at most 32 deep
+-- where so many blocks are around a node, or a block, those in it nest at most 32 deep; a SELECT is no block, but each of its blocks is one
 abbrev mutual
   pub NodeNests : ℕ → Node → Type 0
   NodeNests d (choice line test first close) = (d < 32) × BlockNests (d + 1) first
   NodeNests d (choice_else line test first mid second close) = (d < 32) × BlockNests (d + 1) first × BlockNests (d + 1) second
   NodeNests d (do_loop line v initial limit increment body close) = (d < 32) × BlockNests (d + 1) body
   NodeNests d (meas line feature body close) = (d < 32) × BlockNests (d + 1) body
+  NodeNests d (select line value cases close) = CasesNest d cases
   NodeNests d _ = Unit {0}
 
   pub BlockNests : ℕ → Block → Type 0
   BlockNests d done = Unit {0}
   BlockNests d (then n b) = NodeNests d n × BlockNests d b
+
+  pub CasesNest : ℕ → Cases → Type 0
+  CasesNest d no_more = Unit {0}
+  CasesNest d (one_case line value block close rest) = (d < 32) × BlockNests (d + 1) block × CasesNest d rest
+  CasesNest d (default line block close) = (d < 32) × BlockNests (d + 1) block
 
 -- no label stands twice
 abbrev pub AreDistinct : List Label → Type 0

@@ -4,7 +4,7 @@ use Rattle.vcm_num.specs.declared.number.Kind.{Kind}
 use Rattle.vcm_spec.specs.Expression.{Tree, kind_of, spelling, HasKind}
 use Rattle.vcm_spec.specs.TextBytes.{IsText}
 use Rattle.vcm_spec.specs.Simple.{Simple, Goto, GoHome, Assign, Feat, PtMeas, SnSet, Trans, Rotate, Recall, Obtain, Output, Text}
-use Rattle.vcm_spec.specs.Program.{Node, Block, simple, label, jump, choice, choice_else, do_loop, meas, ending, done, then}
+use Rattle.vcm_spec.specs.Program.{Node, Block, Cases, simple, label, jump, choice, choice_else, do_loop, meas, select, ending, done, then, no_more, one_case, default}
 
 -- whatever the kinds of the variables are, the spelling has the kind of the tree, and at most 1,024 items if it has one
 abbrev pub Keeps : Tree → Type 0
@@ -30,7 +30,7 @@ SimpleKeeps (Obtain v source i word) = (3 ≤ word) × (word ≤ 8)
 SimpleKeeps (Output source i) = Unit {0}
 SimpleKeeps (Text bytes) = IsText bytes
 
--- so of all expressions and texts of a node, and of a block
+-- so of all expressions and texts of a node, of a block, and of the blocks of a SELECT
 abbrev mutual
   pub NodeKeeps : Node → Type 0
   NodeKeeps (simple line what) = SimpleKeeps what
@@ -40,8 +40,14 @@ abbrev mutual
   NodeKeeps (choice_else line test first mid second close) = Keeps test × BlockKeeps first × BlockKeeps second
   NodeKeeps (do_loop line v initial limit increment body close) = Keeps initial × Keeps limit × Keeps increment × BlockKeeps body
   NodeKeeps (meas line feature body close) = BlockKeeps body
+  NodeKeeps (select line value cases close) = Keeps value × CasesKeep cases
   NodeKeeps (ending line) = Unit {0}
 
   pub BlockKeeps : Block → Type 0
   BlockKeeps done = Unit {0}
   BlockKeeps (then n b) = NodeKeeps n × BlockKeeps b
+
+  pub CasesKeep : Cases → Type 0
+  CasesKeep no_more = Unit {0}
+  CasesKeep (one_case line value block close rest) = BlockKeeps block × CasesKeep rest
+  CasesKeep (default line block close) = BlockKeeps block

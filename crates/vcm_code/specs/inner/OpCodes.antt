@@ -1,11 +1,12 @@
 -- Statements of a code as stored data, by which two of them are told apart.
 use Rattle.std.proofs.Common.{◌≡◌, List, [], ◌∷◌, refl}
-use Rattle.std.specs.Coded.{Coded}
+use Rattle.std.specs.Coded.{Coded, coded_ℤ}
 use base.Stored.{Gv, gnil, gnum, gcons}
 use Rattle.vcm_spec.specs.contracts.expression.Item as item
 use Rattle.vcm_spec.specs.declared.expression.Item.{Item}
 use Rattle.vcm_spec.specs.inner.SimpleCodes.{tag, simple_code, simple_inj}
-use Rattle.vcm_code.specs.Code.{Op, Plain, If, Else, EndIf, Do, EndDo, Label, JumpTo, Meas, EndMes, EndFil, Statement}
+use Rattle.vcm_code.specs.declared.branch.Branch.{Branch}
+use Rattle.vcm_code.specs.Code.{Op, Plain, If, Else, EndIf, Do, EndDo, Label, JumpTo, Meas, EndMes, Select, Case, EndCas, DftCas, EndSel, EndFil, Statement}
 
 -- items
 abbrev pub items_code : List Item → Gv
@@ -22,6 +23,20 @@ items_inj _ _ e = cc
 abbrev pub items_coded : Coded (List Item)
 items_coded = record { code = items_code; inj = items_inj }
 
+-- branches
+abbrev pub branches_code : List Branch → Gv
+branches_code [] = gnil
+branches_code (b ∷ bs) = gcons (coded_ℤ.code b.value) (gcons (gnum b.target) (branches_code bs))
+
+pub branches_inj : (x y : List Branch) → branches_code x ≡ branches_code y → x ≡ y
+branches_inj [] [] e = refl
+branches_inj (x ∷ xs) (y ∷ ys) e =
+    let h : branches_code xs ≡ branches_code ys = cc in let k = branches_inj xs ys h in
+    let g : coded_ℤ.code x.value ≡ coded_ℤ.code y.value = cc in let f = coded_ℤ.inj x.value y.value g in
+    let t : x.target ≡ y.target = cc in
+    let same : x ≡ y = λ i. record { value = f i; target = t i } in cc
+branches_inj _ _ e = cc
+
 abbrev pub op_code : Op → Gv
 op_code (Plain what) = gcons (tag 0) (simple_code items_coded what)
 op_code (If test t) = gcons (tag 1) (gcons (items_code test) (gnum t))
@@ -34,6 +49,11 @@ op_code Label = gcons (tag 6) gnil
 op_code (JumpTo t) = gcons (tag 7) (gnum t)
 op_code (Meas f) = gcons (tag 8) (gnum f)
 op_code EndMes = gcons (tag 9) gnil
+op_code (Select value bs t) = gcons (tag 11) (gcons (items_code value) (gcons (branches_code bs) (gnum t)))
+op_code Case = gcons (tag 12) gnil
+op_code (EndCas t) = gcons (tag 13) (gnum t)
+op_code DftCas = gcons (tag 14) gnil
+op_code EndSel = gcons (tag 15) gnil
 op_code EndFil = gcons (tag 10) gnil
 
 pub op_inj : (x y : Op) → op_code x ≡ op_code y → x ≡ y
@@ -51,6 +71,13 @@ op_inj Label Label e = refl
 op_inj (JumpTo t) (JumpTo u) e = cc
 op_inj (Meas f) (Meas g) e = cc
 op_inj EndMes EndMes e = refl
+op_inj (Select a bs t) (Select b cs u) e =
+    let h : items_code a ≡ items_code b = cc in let k = items_inj a b h in
+    let g : branches_code bs ≡ branches_code cs = cc in let f = branches_inj bs cs g in cc
+op_inj Case Case e = refl
+op_inj (EndCas t) (EndCas u) e = cc
+op_inj DftCas DftCas e = refl
+op_inj EndSel EndSel e = refl
 op_inj EndFil EndFil e = refl
 op_inj _ _ e = cc
 

@@ -1,8 +1,9 @@
 -- Structured programs as stored data, by which two of them are told apart.
-use Rattle.std.specs.Prelude.{◌≡◌, ℕ, List, refl}
-use Rattle.std.specs.Coded.{Coded, coded_ℕ, coded_list}
+use Rattle.std.specs.Prelude.{◌≡◌, ℕ, ℤ, List, refl}
+use Rattle.std.specs.Coded.{Coded, coded_ℕ, coded_ℤ, coded_list}
 use base.Stored.{Gv, gnil, gnum, gcons}
-use Rattle.vcm_spec.specs.Program.{Label, Node, Block, simple, label, jump, choice, choice_else, do_loop, meas, ending, done, then}
+use Rattle.vcm_spec.specs.Program.{Label, Node, Block, Cases, simple, label, jump, choice, choice_else, do_loop, meas, select, ending, done, then}
+use Rattle.vcm_spec.specs.Program.{no_more, one_case, default}
 use Rattle.vcm_spec.specs.inner.SimpleCodes.{simple_code, simple_inj}
 use Rattle.vcm_expr.specs.inner.Codes.{tree_code, tree_inj, tree_coded}
 
@@ -26,7 +27,7 @@ label_inj x y e =
     let same : label_of x.name x.expansion ≡ label_of y.name y.expansion = rw (h, k) refl in
     same
 
--- a node as stored data, and a block
+-- a node as stored data, a block, and the blocks of a SELECT
 abbrev mutual
   pub node_code : Node → Gv
   node_code (simple x0 x1) = gcons (gcons gnil (gcons gnil (gcons gnil gnil))) (gcons (gnum x0) (gcons (simple_code tree_coded x1) gnil))
@@ -45,11 +46,18 @@ abbrev mutual
   node_code (meas x0 x1 x2 x3) =
       gcons (gcons gnil (gcons (gcons gnil gnil) (gcons (gcons gnil gnil) gnil)))
       (gcons (gnum x0) (gcons (gnum x1) (gcons (block_code x2) (gcons (gnum x3) gnil))))
+  node_code (select x0 x1 x2 x3) = gcons gnil (gcons (gnum x0) (gcons (tree_code x1) (gcons (cases_code x2) (gcons (gnum x3) gnil))))
   node_code (ending x0) = gcons (gcons (gcons gnil gnil) (gcons (gcons gnil gnil) (gcons (gcons gnil gnil) gnil))) (gcons (gnum x0) gnil)
 
   pub block_code : Block → Gv
   block_code done = gnil
   block_code (then n b) = gcons (node_code n) (block_code b)
+
+  pub cases_code : Cases → Gv
+  cases_code no_more = gnil
+  cases_code (one_case x0 x1 x2 x3 x4) =
+      gcons (gcons gnil gnil) (gcons (gnum x0) (gcons (coded_ℤ.code x1) (gcons (block_code x2) (gcons (gnum x3) (gcons (cases_code x4) gnil)))))
+  cases_code (default x0 x1 x2) = gcons gnil (gcons (gnum x0) (gcons (block_code x1) (gcons (gnum x2) gnil)))
 
 -- those that are stored alike are equal
 mutual
@@ -88,6 +96,11 @@ mutual
       let h1 : x1 ≡ y1 = cc in
       let g2 : (block_code x2) ≡ (block_code y2) = cc in let h2 = block_inj x2 y2 g2 in
       let h3 : x3 ≡ y3 = cc in cc
+  node_inj (select x0 x1 x2 x3) (select y0 y1 y2 y3) e =
+      let h0 : x0 ≡ y0 = cc in
+      let g1 : (tree_code x1) ≡ (tree_code y1) = cc in let h1 = tree_inj x1 y1 g1 in
+      let g2 : (cases_code x2) ≡ (cases_code y2) = cc in let h2 = cases_inj x2 y2 g2 in
+      let h3 : x3 ≡ y3 = cc in cc
   node_inj (ending x0) (ending y0) e =
       let h0 : x0 ≡ y0 = cc in cc
   node_inj _ _ e = cc
@@ -99,6 +112,23 @@ mutual
       let k : block_code b ≡ block_code c = cc in let l = block_inj b c k in cc
   block_inj _ _ e = cc
 
+  pub cases_inj : (x y : Cases) → cases_code x ≡ cases_code y → x ≡ y
+  cases_inj no_more no_more e = refl
+  cases_inj (one_case x0 x1 x2 x3 x4) (one_case y0 y1 y2 y3 y4) e =
+      let h0 : x0 ≡ y0 = cc in
+      let g1 : (coded_ℤ.code x1) ≡ (coded_ℤ.code y1) = cc in let h1 = coded_ℤ.inj x1 y1 g1 in
+      let g2 : (block_code x2) ≡ (block_code y2) = cc in let h2 = block_inj x2 y2 g2 in
+      let h3 : x3 ≡ y3 = cc in
+      let g4 : (cases_code x4) ≡ (cases_code y4) = cc in let h4 = cases_inj x4 y4 g4 in cc
+  cases_inj (default x0 x1 x2) (default y0 y1 y2) e =
+      let h0 : x0 ≡ y0 = cc in
+      let g1 : (block_code x1) ≡ (block_code y1) = cc in let h1 = block_inj x1 y1 g1 in
+      let h2 : x2 ≡ y2 = cc in cc
+  cases_inj _ _ e = cc
+
 -- so programs have a code
 abbrev pub block_coded : Coded Block
 block_coded = record { code = block_code; inj = block_inj }
+
+abbrev pub cases_coded : Coded Cases
+cases_coded = record { code = cases_code; inj = cases_inj }

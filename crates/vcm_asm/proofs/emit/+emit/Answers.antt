@@ -1,11 +1,12 @@
 use Rattle.std.proofs.Common.{◌≡◌, suc, ◌+◌, ◌<◌, ◌++◌, ◌∷◌, length, drop, ap, sym, ◌∙◌, arith, subst, length-append, add-one, drop-cons}
-use Rattle.vcm_spec.specs.Program.{size, sizes}
-use Rattle.vcm_nodes.specs.Nodes.{node_of, block_of, choice_by}
-use Rattle.vcm_asm.specs.inner.Depth.{NodeDeep, Deep}
-use Rattle.vcm_asm.specs.inner.Spelled.{NodeKeeps, BlockKeeps}
-use Rattle.vcm_asm.specs.Assembled.{node_code, block_code, place_in}
+use Rattle.vcm_spec.specs.Program.{size, sizes, case_sizes}
+use Rattle.vcm_nodes.specs.Nodes.{node_of, block_of, choice_by, cases_of, other_of}
+use Rattle.vcm_nodes.proofs.CaseSteps.{cases_next}
+use Rattle.vcm_asm.specs.inner.Depth.{NodeDeep, Deep, CasesDeep}
+use Rattle.vcm_asm.specs.inner.Spelled.{NodeKeeps, BlockKeeps, CasesKeep}
+use Rattle.vcm_asm.specs.Assembled.{node_code, block_code, case_code, place_in}
 use Rattle.vcm_asm.proofs.Place.{node_length}
-use Rattle.vcm_asm.proofs.Emits.{block_grows, wrote_if, wrote_if_else, wrote_do, wrote_meas, put_length, block_written, choice_size, on_ok, ok_too}
+use Rattle.vcm_asm.proofs.Emits.{block_grows, wrote_if, wrote_if_else, wrote_do, wrote_meas, put_length, block_written, choice_size, cases_grow, on_ok, ok_too}
 use Rattle.vcm_asm.proofs.emit.+emit.Goals as goal
 
 pub emit_block-loop-node-preserved : goal.emit_block-loop-node-preserved
@@ -156,3 +157,30 @@ emit_node-returns-in_ok-emit_block-in-Measure-clause-code t c =
 pub emit_node-returns-in_ok-emit_block-in-Measure-clause-keeps : goal.emit_node-returns-in_ok-emit_block-in-Measure-clause-keeps
 emit_node-returns-in_ok-emit_block-in-Measure-clause-keeps t c =
     ok_too c.put-in-Measure-2.result (rw c.in-Measure.is c.in_ok-emit_block-in-Measure.ensures.keeps)
+
+pub emit_node-returns-in_ok-emit_cases-in-Select-clause-keeps : goal.emit_node-returns-in_ok-emit_cases-in-Select-clause-keeps
+emit_node-returns-in_ok-emit_cases-in-Select-clause-keeps t c =
+    ok_too c.put-in-Select-2.result (rw c.in-Select.is (c.in_ok-op-in-Select.ensures.keeps, c.in_ok-emit_cases-in-Select.ensures.keeps))
+
+pub emit_cases-loop-line-preserved : goal.emit_cases-loop-line-preserved
+emit_cases-loop-line-preserved t c =
+    let l = c.loop-line in
+    let items = c.cases-line-items.result.now in
+    let o = other_of c.args.cases.now in
+    let item = c.loop-line-item.result in
+    let next = cases_next items o l.line-index item c.loop-line-test.true c.loop-line-item.is in
+    let rest = cases_of (drop (l.line-index + 1) items) o in
+    let to = place_in c.args.numbers.now in
+    let here = ap (λ cs. l.code ++ case_code to cs c.args.depth (length l.code) c.args.behind) (sym next) ∙ l.invariant.0 in
+    let deep = subst (λ cs. CasesDeep cs c.args.depth) next l.invariant.1 in
+    let left = ap case_sizes next in
+    let short = l.invariant.2 in
+    let falls = l.invariant.3 in
+    let p = put_length _ _ _ c.in_ok-put.ensures in
+    let q = block_written _ _ _ _ _ c.in_ok-emit_block.ensures.code in
+    let r = put_length _ _ _ c.in_ok-put-2.ensures in
+    let keeps : CasesKeep rest → CasesKeep c.args.cases.now =
+    λ h. l.invariant.4 (subst CasesKeep (sym next) (c.in_ok-emit_block.ensures.keeps, h)) in
+    let grown = cases_grow to item.2 c.args.depth item.0 item.1 item.3 rest c.args.behind l.code c.put.new.self c.emit_block.new.code c.put-in-loop-line.new.self
+    c.in_ok-put.ensures c.in_ok-emit_block.ensures.code c.in_ok-put-2.ensures in
+    (grown ∙ here, deep.1, omega arith, omega arith, keeps)

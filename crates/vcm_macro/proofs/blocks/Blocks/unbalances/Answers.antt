@@ -15,6 +15,3 @@ returns-in-MeasureEnd c = search rules
 
 pub returns-in-MacroEnd : goal.returns-in-MacroEnd
 returns-in-MacroEnd c = search rules
-
-pub returns-in_default : goal.returns-in_default
-returns-in_default c = search rules
