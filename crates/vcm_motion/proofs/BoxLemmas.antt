@@ -1,5 +1,5 @@
 -- What the box of a move does not touch, the move does not meet.
-use Rattle.std.proofs.Common.{◌≡◌, ℕ, ℤ, pos, negsuc, ◌<◌, ◌≤◌, ◌+ℤ◌, ◌-ℤ◌, ◌≤ℤ◌, true, ◌&&◌, arith, subst}
+use Rattle.std.proofs.Common.{◌≡◌, ℕ, ℤ, pos, negsuc, ◌<◌, ◌≤◌, ◌+ℤ◌, ◌-ℤ◌, ◌≤ℤ◌, Bool, true, false, ◌&&◌, arith, subst, sym, ◌∙◌}
 use Rattle.std.proofs.Math.Nat.{mul-le-mul_right, le_of_mul-le-mul_left}
 use Rattle.std.proofs.lemmas.Int.{ints, by_lt_z}
 use Rattle.vcm_num.specs.declared.point.Point.{Point}
@@ -65,3 +65,10 @@ met_touches h block area p q a b is m =
     and_from _ _
     (each_below (coordinate block.low) (coordinate area.high) (λ k l. (let e = (on k l).0 in omega (arith, ints))))
     (each_below (coordinate area.low) (coordinate block.high) (λ k l. (let e = (on k l).1 in omega (arith, ints))))
+
+-- one that it does not touch is not met
+pub untouched : (h : ℕ) (block area : Block3) (p q : Point) (touching : Bool) → IsBoxOf h p q area
+    → touching ≡ (is_below (coordinate block.low) (coordinate area.high) && is_below (coordinate area.low) (coordinate block.high)) → touching ≡ false
+    → (a b : ℕ) → TipMeets h (coordinate p) (coordinate q) block a b → ⊥
+untouched h block area p q touching is e none a b m =
+    let both : true ≡ false = sym (met_touches h block area p q a b is m) ∙ sym e ∙ none in cc

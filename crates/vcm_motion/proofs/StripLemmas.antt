@@ -1,5 +1,5 @@
 -- The strips that a move's x range meets have each block that the move can meet.
-use Rattle.std.proofs.Common.{◌≡◌, ◌&&◌, ℕ, ℤ, pos, negsuc, ◌+◌, ◌-◌, ◌/◌, ◌<◌, ◌≤◌, ◌+ℤ◌, ◌-ℤ◌, ◌≤ℤ◌, max, List, length, get_or, arith, ◌∙◌, ap, true, Some, slice_get, slice_range, All}
+use Rattle.std.proofs.Common.{◌≡◌, ◌&&◌, ℕ, ℤ, pos, negsuc, ◌+◌, ◌-◌, ◌/◌, ◌<◌, ◌≤◌, ◌+ℤ◌, ◌-ℤ◌, ◌≤ℤ◌, max, List, length, get_or, arith, ◌∙◌, true, Some, slice_get, slice_range, All}
 use Rattle.std.proofs.lemmas.Grind.{common_steps, elements}
 use Rattle.std.proofs.lemmas.Int.{ints, clamps, by_lt_z}
 use Rattle.std.specs.Int.{int_min, int_max}
@@ -106,7 +106,3 @@ strips_cover blocks all low width starts order strips h x y first last range j b
     let k_before = k.before in
     let cut = cut_read order (start_of starts first) (start_of starts (last + 1)) k.place (omega arith) (omega arith) (omega arith) in
     record { place = k.place - start_of starts first; after = omega arith; before = cut.0; is = cut.1 ∙ k.is }
-
--- a strip, as the code finds it
-pub strip_same : (l low z x : ℤ) (w r : ℕ) → l ≡ low → z ≡ x → r ≡ strip_at l w z → r ≡ strip_at low w x
-strip_same l low z x w r e f h = h ∙ ap (λ y. strip_at y w z) e ∙ ap (λ y. strip_at low w y) f

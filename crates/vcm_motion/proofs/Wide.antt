@@ -1,5 +1,5 @@
 -- Coordinates of grown blocks, as the code reads them.
-use Rattle.std.proofs.Common.{◌≡◌, ℕ, ◌≤◌, ℤ, pos, ◌+ℤ◌, ◌-ℤ◌, to_z, of_z, w64, arith, FitsSigned, true}
+use Rattle.std.proofs.Common.{◌≡◌, ℕ, ◌<◌, ◌≤◌, ℤ, pos, ◌+ℤ◌, ◌-ℤ◌, to_z, of_z, w64, arith, FitsSigned, true, refl}
 use Rattle.std.proofs.lemmas.Int.{ints, clamps, to_z-of_z}
 use Rattle.std.specs.Int.{int_min, int_max}
 use Rattle.vcm_num.specs.Point.{IsNear, coordinate}
@@ -73,3 +73,10 @@ module _ (h : ℕ) (few : h ≤ 50000) (z r : ℤ) (n : IsNear z) (by : r ≡ po
 
   pub raise_is : to_z w64 (of_z w64 (to_z w64 (of_z w64 z) +ℤ to_z w64 (of_z w64 r))) ≡ z +ℤ pos h
   raise_is = rw (near_read z n, length_read) (wide_read (z +ℤ pos h) (raised h few z n))
+
+-- the corners of a grown block, on one axis
+pub grown_low : (h : ℕ) (block : Block3) (k : ℕ) → k < 3 → coordinate (grown h block).low k ≡ coordinate block.low k -ℤ pos h
+grown_low h block = below_three (λ k. coordinate (grown h block).low k ≡ coordinate block.low k -ℤ pos h) refl refl refl
+
+pub grown_high : (h : ℕ) (block : Block3) (k : ℕ) → k < 3 → coordinate (grown h block).high k ≡ coordinate block.high k +ℤ pos h
+grown_high h block = below_three (λ k. coordinate (grown h block).high k ≡ coordinate block.high k +ℤ pos h) refl refl refl

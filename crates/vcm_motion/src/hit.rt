@@ -4,31 +4,32 @@ ghost use Rattle.std.specs.Prelude.{◌≤◌, ℕ, length, IfSome, IfNone, IsTr
 ghost use Rattle.std.specs.List.{list_all};
 ghost use Rattle.vcm_num.specs.Point.{coordinate, is_near};
 ghost use Rattle.vcm_spec.specs.Workpiece.{is_block};
-ghost use Rattle.vcm_spec.specs.Contact.{Meets, TipMeets, IsAnswer};
-ghost use Rattle.vcm_motion.specs.inner.Boxes.{IsBoxOf, IsWideBlock};
+ghost use Rattle.vcm_spec.specs.Contact.{TipMeets, IsAnswer};
 ghost use Rattle.vcm_motion.specs.inner.Sooner.{IsLeastOf};
 
-use crate::area::{box_of, grown, is_touching};
+use crate::area::{box_of, is_touching};
 use crate::axis::between;
 use crate::entered::{Entered, sooner};
 use crate::fraction::{Fraction, Stretch};
 use vcm_num::Point;
 use vcm_spec::{Block3, Hit};
 
-// The fraction at which a moving point enters a block, axis by axis.
+/// The fraction at which the tip meets a block on a move, axis by axis.
 #[inline(never)]
-fn crossing(block: &Block3, from: Point, to: Point) -> Option<Fraction>
-    requires block { IsWideBlock block.now }
+pub(crate) fn crossing(block: &Block3, tip: u32, from: Point, to: Point) -> Option<Fraction>
+    requires block { IsTrue (is_block block.now) }
+    requires tip { tip ≤ 50000 }
     requires from { IsTrue (is_near from) }
     requires to { IsTrue (is_near to) }
-    ensures met { IfSome result (λ f. IsLeastOf (Meets (coordinate from) (coordinate to) block.now) f.num f.den) }
-    ensures missed { IfNone result ((a b : ℕ) → Meets (coordinate from) (coordinate to) block.now a b → ⊥) }
+    ensures met { IfSome result (λ f. IsLeastOf (TipMeets tip (coordinate from) (coordinate to) block.now) f.num f.den) }
+    ensures missed { IfNone result ((a b : ℕ) → TipMeets tip (coordinate from) (coordinate to) block.now a b → ⊥) }
 {
     let mut stretch = Stretch::whole();
     for axis in 0..3 {
         let part = between(
             block.low.0[axis],
             block.high.0[axis],
+            tip,
             from.0[axis],
             to.0[axis],
         )?;
@@ -41,31 +42,8 @@ fn crossing(block: &Block3, from: Point, to: Point) -> Option<Fraction>
     }
 }
 
-/// The fraction at which the tip meets a block on a move, where `area` is the box of the move: a block that it does not touch is not met.
-#[inline(always)]
-pub(crate) fn entry(
-    block: &Block3,
-    area: &Block3,
-    tip: u32,
-    from: Point,
-    to: Point,
-) -> Option<Fraction>
-    requires block { IsTrue (is_block block.now) }
-    requires area { IsBoxOf tip from to area.now }
-    requires tip { tip ≤ 50000 }
-    requires from { IsTrue (is_near from) }
-    requires to { IsTrue (is_near to) }
-    ensures met { IfSome result (λ f. IsLeastOf (TipMeets tip (coordinate from) (coordinate to) block.now) f.num f.den) }
-    ensures missed { IfNone result ((a b : ℕ) → TipMeets tip (coordinate from) (coordinate to) block.now a b → ⊥) }
-{
-    if is_touching(block, area) {
-        crossing(&grown(block, tip), from, to)
-    } else {
-        None
-    }
-}
-
-/// The first block that the tip meets on a move: of those met at the least fraction the one that stands first.
+/// The first block that the tip meets on a move: of those met at the least fraction the one that stands first. A block that the box of the move
+/// does not touch is not met, so it isn't looked at axis by axis.
 pub(crate) fn first_hit(blocks: &[Block3], tip: u32, from: Point, to: Point) -> Option<Hit>
     requires few { length blocks.now ≤ 4096 }
     requires blocks { IsTrue (list_all is_block blocks.now) }
@@ -77,7 +55,10 @@ pub(crate) fn first_hit(blocks: &[Block3], tip: u32, from: Point, to: Point) -> 
     let area = box_of(from, to, tip);
     let mut first: Option<Entered> = None;
     for (index, block) in blocks.iter().enumerate() {
-        if let Some(at) = entry(block, &area, tip, from, to) {
+        if !is_touching(block, &area) {
+            continue;
+        }
+        if let Some(at) = crossing(block, tip, from, to) {
             first = Some(sooner(first, Entered { index, at }));
         }
     }

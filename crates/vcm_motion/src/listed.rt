@@ -8,9 +8,9 @@ ghost use Rattle.vcm_spec.specs.Contact.{TipMeets, IsAnswer};
 ghost use Rattle.vcm_motion.specs.inner.Listed.{AreStrips, IsCovered};
 ghost use Rattle.vcm_motion.specs.Strips.{start_of, first_strip, last_strip};
 
-use crate::area::box_of;
+use crate::area::{box_of, is_touching};
 use crate::entered::{Entered, sooner};
-use crate::hit::entry;
+use crate::hit::crossing;
 use crate::layout::{first_strip, last_strip};
 use vcm_num::Point;
 use vcm_spec::{Block3, Hit};
@@ -30,7 +30,11 @@ fn first_listed(blocks: &[Block3], tip: u32, listed: &[u32], from: Point, to: Po
     let mut first: Option<Entered> = None;
     for number in listed {
         let index = *number as usize;
-        if let Some(at) = entry(&blocks[index], &area, tip, from, to) {
+        let block = &blocks[index];
+        if !is_touching(block, &area) {
+            continue;
+        }
+        if let Some(at) = crossing(block, tip, from, to) {
             first = Some(sooner(first, Entered { index, at }));
         }
     }
