@@ -107,8 +107,8 @@ Do: build it anew from the program with this vcm.",
     Entry {
         keys: &["I04", "BadField"],
         text: "I04 BadField
-A field of the image holds a value that it can't have: a kind that isn't one, a name
-with a wrong letter, a count over its limit.
+A field of the image holds a value that it can't have: a kind that isn't one or that the
+image's version doesn't have, a name with a wrong letter, a count over its limit.
 Do: the image is damaged; build it anew.",
     },
     Entry {
@@ -150,8 +150,9 @@ Memory ran out while a listing was read: `no memory`, status 5.",
     Entry {
         keys: &["L01", "BadLine"],
         text: "L01 BadLine
-A line of the listing doesn't have the shape of any: a word that isn't one, two blanks,
-a blank at the end, a last line without its line feed.
+A line of the listing doesn't have the shape of any: a word that isn't one, or one of
+SELECT and its cases behind VCM-LISTING 1, two blanks, a blank at the end, a last line
+without its line feed.
 Do: compare the line with what `vcm list` prints for a program with such a statement.
 For example, a listing:
   VCM-LISTING 1

@@ -197,8 +197,10 @@ gives: ok 2 statements",
         keys: &["E16", "Unbalanced"],
         text: "E16 Unbalanced
 A block has no end, an end has no block, blocks cross, or more than 32 are open at once.
-IF ends with ENDIF, DO with ENDDO, MEAS with ENDMES. For a block that isn't closed the
-line of ENDFIL or ENDMAC is told, where it is missed: the mistake stands above it.
+IF ends with ENDIF, DO with ENDDO, MEAS with ENDMES, SELECT with ENDSEL, and each CASE
+and DFTCAS in it with ENDCAS; between these blocks nothing may stand that is carried out,
+declares or calls. For a block that isn't closed the line of ENDFIL or ENDMAC is told,
+where it is missed: the mistake stands above it.
 Do: indent the text; the first END that doesn't stand where it should shows the place.
 For example, from line 3 on:
   IF/(.TRUE.)
@@ -211,7 +213,7 @@ gives: E16 Unbalanced line 3",
         keys: &["E17", "JumpInward"],
         text: "E17 JumpInward
 A JUMPTO leads into a block. It may lead to a label of its own block or of one around
-it, forwards or back, never into an IF, DO or MEAS.
+it, forwards or back, never into an IF, DO, MEAS or SELECT.
 Do: put the label in front of the block or behind it.
 For example, from line 3 on:
   DECL/INTGR,I

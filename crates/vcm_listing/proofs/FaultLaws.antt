@@ -68,7 +68,7 @@ lines_length (r ∷ rs) = omega (arith, lines_length rs)
 last_is : (bytes : List ℕ) (c : Code) → code_listed bytes ≡ Ok c → length (rows c) ≡ last_line bytes
 last_is bytes c e =
     let t = code_takes bytes c e in
-    let cut : split 10 bytes ≡ ended_lines (rows c) = ap (split 10) t.1 ∙ cut_lines (rows c) (rows_fit c t.0) in
+    let cut : split 10 bytes ≡ ended_lines (rows c) = ap (split 10) t.1 ∙ cut_lines c.version (rows c) (rows_fit c t.0) in
     let long = lines_length (rows c) in
     let count : length (split 10 bytes) ≡ length (rows c) + 1 = ap length cut ∙ long in
     omega (arith, count)

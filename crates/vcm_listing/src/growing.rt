@@ -7,7 +7,7 @@ ghost use Rattle.vcm_words.specs.inner.Failing.{FailsLine};
 
 use std::alloc::Global;
 use std::marker::Model;
-use vcm_code::{Code, OwnedStatement};
+use vcm_code::{Code, OwnedStatement, Version};
 use vcm_expr::Name;
 use vcm_num::{Items, NoMemory};
 use vcm_rows::{BorrowedRow, BorrowedStatement};
@@ -20,9 +20,10 @@ const MOST_NAMES: usize = 4096;
 /// The most statements.
 const MOST_STATEMENTS: usize = 20_000;
 
-/// The names and the statements of the lines so far. Contracts see them as a code.
+/// The version, and the names and the statements of the lines so far. Contracts see them as a code.
 #[derive(Drop)]
 pub(crate) struct Growing {
+    version: Version,
     variables: Items<Variable>,
     features: Items<Name>,
     frames: Items<Name>,
@@ -34,20 +35,28 @@ impl Model for Growing {
 
     ghost Value = { CodeOf };
 
-    ghost view = { λ g. record { tables = record { variables = g.variables; features = g.features; frames = g.frames }; statements = g.statements } };
+    ghost view = { λ g. record { version = g.version; tables = record { variables = g.variables; features = g.features; frames = g.frames }; statements = g.statements } };
 }
 
 impl Growing {
-    /// No names and no statements.
-    pub(crate) fn new(alloc: Global) -> Growing
-        ensures { result ≡ empty }
+    /// A version, no names and no statements.
+    pub(crate) fn new(alloc: Global, version: Version) -> Growing
+        ensures { result ≡ empty version }
     {
         Growing {
+            version,
             variables: Items::new(alloc),
             features: Items::new(alloc),
             frames: Items::new(alloc),
             statements: Items::new(alloc),
         }
+    }
+
+    /// The version.
+    pub(crate) fn version(&self) -> Version
+        ensures { result ≡ self.now.version }
+    {
+        self.version
     }
 
     // One more variable.
@@ -145,7 +154,7 @@ impl Growing {
         ensures err { IfErr result (λ e. FailsLine e (added self.old row.now)) }
     {
         match row {
-            Row::Head => Err(ListCode::OutOfOrder),
+            Row::Head(_) => Err(ListCode::OutOfOrder),
             Row::Variable(index, variable) => self.add_variable(*index, variable),
             Row::Feature(index, name) => self.add_feature(*index, name),
             Row::Frame(index, name) => self.add_frame(*index, name),
@@ -163,6 +172,7 @@ impl Growing {
     {
         let tables = Tables::new(alloc, self.variables, self.features, self.frames)?;
         Ok(Code {
+            version: self.version,
             tables,
             statements: self.statements,
         })

@@ -1,23 +1,24 @@
 //! The lines of a listing, one by one.
 
-ghost use Rattle.std.specs.Prelude.{◌≡◌, ◌∷◌, [], ℕ, true, false, List, IfSome, IfNone, Ok, Err, IfErr, OnOk};
+ghost use Rattle.std.specs.Prelude.{◌≡◌, ◌∷◌, [], ℕ, true, false, List, IfSome, IfNone, Ok, Err, IfOk, IfErr, OnOk};
 ghost use Rattle.vcm_words.specs.declared.fault.ListCode.TheVariants.{NoMemory as Wanting};
 ghost use Rattle.vcm_words.specs.Cutting.{split};
 ghost use Rattle.vcm_words.specs.Rows.{row_of};
-ghost use Rattle.vcm_words.specs.Listing.{unread, after_line, after_head, empty, told};
+ghost use Rattle.vcm_words.specs.Listing.{unread, first_row, after_line, after_head, empty, told};
 ghost use Rattle.vcm_words.specs.Outcomes.{IsWant};
 ghost use Rattle.vcm_words.specs.inner.Failing.{FailsLine};
 
 use crate::growing::Growing;
 use std::alloc::Global;
+use vcm_code::Version;
 use vcm_rows::row;
 use vcm_words::{ListCode, ListFault, Row, cut};
 
-// Why a line can't be read.
-fn unread(line: &[u8]) -> ListCode
-    ensures { result ≡ unread (row_of false line.now) }
+// Why a line can't be read in a listing of this version.
+fn unread(version: Version, line: &[u8]) -> ListCode
+    ensures { result ≡ unread (row_of version false line.now) }
 {
-    match row(false, line) {
+    match row(version, false, line) {
         Some(_) => ListCode::BadNumber,
         None => ListCode::BadLine,
     }
@@ -29,28 +30,29 @@ fn unread(line: &[u8]) -> ListCode
 ///
 /// BadLine, BadNumber or OutOfOrder, whichever comes first of these. Want of memory.
 pub(crate) fn step(alloc: Global, code: &mut Growing, line: &[u8]) -> Result<(), ListCode>
-    ensures ok { OnOk result (after_line code.old (row_of true line.now) line.now ≡ Ok code.new) }
-    ensures err { IfErr result (λ e. FailsLine e (after_line code.old (row_of true line.now) line.now)) }
+    ensures ok { OnOk result (after_line code.old (row_of code.old.version true line.now) line.now ≡ Ok code.new) }
+    ensures err { IfErr result (λ e. FailsLine e (after_line code.old (row_of code.old.version true line.now) line.now)) }
 {
-    match row(true, line) {
+    let version = code.version();
+    match row(version, true, line) {
         Some(row) => code.add(alloc, &row),
-        None => Err(unread(line)),
+        None => Err(unread(version, line)),
     }
 }
 
-/// The first line.
+/// The version that the first line tells. A head is the same in each version.
 ///
 /// # Errors
 ///
 /// BadLine, or BadNumber where only its number is wrong.
-pub(crate) fn head(line: &[u8]) -> Result<(), ListCode>
-    ensures ok { OnOk result (after_head (row_of true line.now) line.now ≡ Ok empty) }
-    ensures err { IfErr result (λ e. after_head (row_of true line.now) line.now ≡ Err e) }
+pub(crate) fn head(line: &[u8]) -> Result<Version, ListCode>
+    ensures ok { IfOk result (λ version. after_head (first_row true line.now) line.now ≡ Ok (empty version)) }
+    ensures err { IfErr result (λ e. after_head (first_row true line.now) line.now ≡ Err e) }
 {
-    match row(true, line) {
-        Some(Row::Head) => Ok(()),
-        _ => match row(false, line) {
-            Some(Row::Head) => Err(ListCode::BadNumber),
+    match row(Version::One, true, line) {
+        Some(Row::Head(version)) => Ok(version),
+        _ => match row(Version::One, false, line) {
+            Some(Row::Head(_)) => Err(ListCode::BadNumber),
             _ => Err(ListCode::BadLine),
         },
     }

@@ -13,14 +13,14 @@ ghost use Rattle.vcm_words.specs.Outcomes.{GivesOrWants, FaultOrWant};
 use crate::growing::Growing;
 use crate::lines::{at_line, head, next_line, step};
 use std::alloc::Global;
-use vcm_code::{Code, is_valid};
+use vcm_code::{Code, Version, is_valid};
 use vcm_words::{ListCode, ListFault};
 
-// The lines from the second one on.
-fn lines(alloc: Global, bytes: &[u8]) -> Result<Growing, ListFault>
-    ensures { GivesOrWants result (lines_read 2 empty (split 10 bytes.now)) }
+// The lines of a listing of this version, from the second one on.
+fn lines(alloc: Global, version: Version, bytes: &[u8]) -> Result<Growing, ListFault>
+    ensures { GivesOrWants result (lines_read 2 (empty version) (split 10 bytes.now)) }
 {
-    let mut code = Growing::new(alloc);
+    let mut code = Growing::new(alloc, version);
     let mut rest = bytes;
     let mut line: u32 = 2;
     while let Some((text, after)) = next_line(rest) {
@@ -43,12 +43,10 @@ fn all_lines(alloc: Global, bytes: &[u8]) -> Result<Growing, ListFault>
 {
     match next_line(bytes) {
         None => Err(at_line(ListCode::BadLine, 1)),
-        Some((first, rest)) => {
-            if let Err(e) = head(first) {
-                return Err(at_line(e, 1));
-            }
-            lines(alloc, rest)
-        }
+        Some((first, rest)) => match head(first) {
+            Ok(version) => lines(alloc, version, rest),
+            Err(e) => Err(at_line(e, 1)),
+        },
     }
 }
 

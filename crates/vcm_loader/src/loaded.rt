@@ -17,6 +17,7 @@ use crate::places::expression;
 use crate::walking;
 use std::alloc::Global;
 use std::marker::Model;
+use vcm_code::Version;
 use vcm_fields::{BorrowedStatement, BorrowedVariable, TextSlice};
 use vcm_image::Scanned;
 use vcm_num::{Fault, NoMemory};
@@ -51,6 +52,13 @@ impl<'a> Loaded<'a> {
         ensures { result ≡ scanned.entry }
     {
         Loaded { scanned }
+    }
+
+    /// Its version.
+    pub fn version(&self) -> Version
+        ensures { result ≡ self.now.version }
+    {
+        self.scanned.version()
     }
 
     /// How many variables there are.

@@ -1,7 +1,7 @@
 -- Arguments, one after another.
-use Rattle.std.proofs.Common.{◌≡◌, ℕ, ◌+◌, ◌<◌, ◌≤◌, Bool, true, false, List, [], ◌∷◌, ◌++◌, length, drop, map, get_or, Some, refl, sym, ap, append_assoc, length-append, ◌∙◌, arith}
+use Rattle.std.proofs.Common.{◌≡◌, ℕ, ◌+◌, ◌<◌, Bool, true, false, List, [], ◌∷◌, ◌++◌, length, drop, map, get_or, Some, refl, sym, ap, ◌∙◌, arith}
 use Rattle.std.proofs.lemmas.Bool.{and_parts}
-use Rattle.std.proofs.lemmas.List.{append-nil, drop_all, drop_more}
+use Rattle.std.proofs.lemmas.List.{drop_more}
 use Rattle.vcm_lines.specs.declared.fault.FaultCode.TheVariants.{BadArguments}
 use Rattle.vcm_lines.specs.declared.fault.SourceFault.{SourceFault}
 use Rattle.vcm_syntax.specs.declared.statement.Argument.{Argument}
@@ -66,31 +66,3 @@ next_wrong ws sc written i n line bs w a f g same lt count e h t =
     let k : n ≡ i = count ∙ g.size in
     let b = behind ws sc written i w a (omega (arith, lt, same)) lt (rw k at e) h in
     (rw (g.codes ∙ b) (leftmost_more _ _ f.code t.0), t.1)
-
--- the next one is right
-pub next_right : (ws : List Wanted) (sc : Scope) (written : List Argument) (i : ℕ) (bs more : List Argument) (w : Wanted) (a b : Argument)
-    → AreGiven ws sc written i bs → length ws ≡ length written → i < length written → w ≡ get_or ws (length bs) w → a ≡ get_or written i a
-    → b ≡ put_argument sc a → argument_codes w (put_argument sc a) ≡ [] → more ≡ bs ++ b ∷ [] → AreGiven ws sc written (i + 1) more
-next_right ws sc written i bs more w a b g same lt e h is fine pushed =
-    let c = behind ws sc written i w a (omega (arith, lt, same)) lt (rw g.size at e) h in
-    let d : drop i written ≡ a ∷ drop (i + 1) written = drop_more written i a lt ∙ ap (λ (x : Argument). x ∷ drop (i + 1) written) (sym h) in
-    let whole : bs ++ put_argument sc a ∷ map (put_argument sc) (drop (i + 1) written) ≡ map (put_argument sc) written = rw d at g.whole in
-    record {
-      size = rw pushed (let l = length-append bs (b ∷ []) in omega (arith, l, g.size));
-      whole = rw (pushed, is) (append_assoc bs (put_argument sc a ∷ []) (map (put_argument sc) (drop (i + 1) written)) ∙ whole);
-      codes = g.codes ∙ c ∙ rw fine refl;
-    }
-
-no_more : (ws : List Wanted) → each_argument_codes ws [] ≡ []
-no_more [] = refl
-no_more (w ∷ ws) = refl
-
--- all are right
-pub all_right : (ws : List Wanted) (sc : Scope) (written : List Argument) (i : ℕ) (bs : List Argument) → AreGiven ws sc written i bs → length written ≤ i
-    → each_argument_codes ws (map (put_argument sc) written) ≡ []
-all_right ws sc written i bs g le = g.codes ∙ rw (drop_all i written le) (no_more (drop i ws))
-
--- and these are all
-pub all_given : (ws : List Wanted) (sc : Scope) (written : List Argument) (i : ℕ) (bs : List Argument) → AreGiven ws sc written i bs → length written ≤ i
-    → bs ≡ map (put_argument sc) written
-all_given ws sc written i bs g le = sym (append-nil bs) ∙ (rw (drop_all i written le) at g.whole)

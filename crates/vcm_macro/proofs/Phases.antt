@@ -8,7 +8,7 @@ use Rattle.vcm_syntax.specs.declared.statement.Statement.{Statement}
 use Rattle.vcm_lines.specs.declared.fault.FaultCode.{FaultCode}
 use Rattle.vcm_lines.specs.declared.fault.SourceFault.{SourceFault}
 use Rattle.vcm_spec.specs.Phase.{IsClean, FirstFault}
-use Rattle.vcm_macro.specs.Walk.{Defined, Place, Opens, Inside, Stands, Calls, walk}
+use Rattle.vcm_macro.specs.Walk.{Defined, Place, Opens, Inside, Stands, Misplaced, Calls, walk}
 use Rattle.vcm_macro.specs.Rules.{BreaksMacros, macros_line, line_at, codes_at, weight, weigh, kept, one_if}
 use Rattle.vcm_substitution.specs.Kept.{is_kept}
 use Rattle.vcm_macro.proofs.CodesAt.{breaks_so, fine_so}
@@ -110,14 +110,16 @@ kept_few [] = omega arith
 kept_few (Opens ms s ∷ ps) = omega (arith, kept_few ps)
 kept_few (Inside m s ∷ ps) = omega (arith, kept_few ps)
 kept_few (Stands e s ∷ ps) = kept_one (is_kept s.form) _ (kept ps) (weigh ps) (kept_few ps)
+kept_few (Misplaced line ∷ ps) = omega (arith, kept_few ps)
 kept_few (Calls line depth m bs ∷ ps) = omega (arith, kept_few ps)
 
 -- the whole text is read
-pub read_all : (ss : List Statement) (ms : List Defined) (done : Done) → IsRead [] (record { placed = []; count = 0; calls = 0 }) ss ms done [] → Walked (record { placed = []; count = 0; calls = 0 }) done (walk ss)
-read_all ss ms done h =
+pub read_all : (ss : List Statement) (ms : List Defined) (waits : Bool) (done : Done) → IsRead [] false (record { placed = []; count = 0; calls = 0 }) ss ms waits done [] → Walked (record { placed = []; count = 0; calls = 0 }) done (walk ss)
+read_all ss ms waits done h =
     let e : walk ss ≡ h.places = h.is ∙ append-nil h.places in
     rw e h.walked
 
-pub read_is : (ss : List Statement) (ms : List Defined) (done : Done) (rest : List Statement) → rest ≡ [] → IsRead [] (record { placed = []; count = 0; calls = 0 }) ss ms done rest
+pub read_is : (ss : List Statement) (ms : List Defined) (waits : Bool) (done : Done) (rest : List Statement) → rest ≡ [] → IsRead [] false (record { placed = []; count = 0; calls = 0 }) ss ms waits done rest
     → Walked (record { placed = []; count = 0; calls = 0 }) done (walk ss)
-read_is ss ms done rest e h = read_all ss ms done (subst (λ (l : List Statement). IsRead [] (record { placed = []; count = 0; calls = 0 }) ss ms done l) e h)
+read_is ss ms waits done rest e h =
+    read_all ss ms waits done (subst (λ (l : List Statement). IsRead [] false (record { placed = []; count = 0; calls = 0 }) ss ms waits done l) e h)

@@ -8,7 +8,7 @@ use Rattle.vcm_syntax.specs.declared.statement.Form.TheVariants.{Opening, Measur
 use Rattle.vcm_syntax.specs.declared.statement.Statement.{Statement}
 use Rattle.vcm_macro.specs.declared.placed.Placed.{Placed}
 use Rattle.vcm_substitution.specs.Substitution.{Scope, put_form}
-use Rattle.vcm_macro.specs.Walk.{Place, Opens, Inside, Stands, Calls, Caller, calls_in, behind, statement_in, body_in}
+use Rattle.vcm_macro.specs.Walk.{Place, Opens, Inside, Stands, Misplaced, Calls, Caller, calls_in, behind, statement_in, body_in}
 use Rattle.vcm_macro.specs.Rules.{weight, weigh, kept, kept_of, one_if}
 use Rattle.vcm_substitution.specs.Kept.{is_kept}
 use Rattle.vcm_substitution.specs.Sizes.{are_small}
@@ -29,6 +29,7 @@ calls_more : (p : Place) (ps qs : List Place) → calls_in qs ≡ calls_in ps �
 calls_more (Opens ms s) ps qs e = e
 calls_more (Inside m s) ps qs e = e
 calls_more (Stands x s) ps qs e = e
+calls_more (Misplaced line) ps qs e = e
 calls_more (Calls line depth m bs) ps qs e = omega (arith, e)
 
 told_next : (n : ℕ) (p : Place) (ps qs : List Place) (f : SourceFault) → (TellsFirst (n + weight p) ps f → TellsFirst (n + weight p) qs f) → TellsFirst n (p ∷ ps) f

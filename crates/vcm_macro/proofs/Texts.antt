@@ -11,7 +11,7 @@ use Rattle.vcm_syntax.specs.declared.statement.Form.{Form}
 use Rattle.vcm_syntax.specs.declared.statement.Form.TheVariants.{Macro, MacroEnd, Call}
 use Rattle.vcm_syntax.specs.declared.statement.Statement.{Statement}
 use Rattle.vcm_substitution.specs.Substitution.{is_same, outside, put_argument}
-use Rattle.vcm_macro.specs.Walk.{Defined, Place, Opens, Inside, Stands, calls_in, call_in, text_from, walk_from, with_statement}
+use Rattle.vcm_macro.specs.Walk.{Defined, Place, Opens, Inside, calls_in, call_in, waits_behind, text_from, walk_from, with_statement}
 use Rattle.vcm_macro.specs.Rules.{kept, weigh}
 use Rattle.vcm_macro.specs.inner.Expanding.{Done, TellsFirst, found, IsFoundAt, is_macro_end, inside, size_of, begun, macro_of, behind_macro, defines, IsNew, IsRead}
 use Rattle.vcm_macro.proofs.Walks.{walked_more, told_front, told_more}
@@ -21,46 +21,33 @@ abbrev pub grown : Defined → List Statement → Defined
 grown m ss = record { name = m.name; parameters = m.parameters; body = m.body ++ ss }
 
 -- the statements of an open macro, and what comes behind its ENDMAC
-pub open_is : (ms : List Defined) (m : Defined) (done : ℕ) (ss : List Statement)
-    → walk_from ms (Some m) done ss ≡ inside m ss ++ walk_from (grown m (take (size_of ss) ss) ∷ ms) None done (behind_macro ss)
-open_is ms m done [] = refl
-open_is ms m done (s ∷ ss) = by_form s.form (open_is ms (with_statement m s) done ss)
+pub open_is : (ms : List Defined) (m : Defined) (waits : Bool) (done : ℕ) (ss : List Statement)
+    → walk_from ms (Some m) waits done ss ≡ inside m ss ++ walk_from (grown m (take (size_of ss) ss) ∷ ms) None waits done (behind_macro ss)
+open_is ms m waits done [] = refl
+open_is ms m waits done (s ∷ ss) = by_form s.form (open_is ms (with_statement m s) waits done ss)
   where
     by_form : (form : Form)
-        → walk_from ms (Some (with_statement m s)) done ss ≡ inside (with_statement m s) ss ++ walk_from (grown (with_statement m s) (take (size_of ss) ss) ∷ ms) None done (behind_macro ss)
-        → text_from ms (Some m) done s form (λ ns n k. walk_from ns n k ss)
+        → walk_from ms (Some (with_statement m s)) waits done ss ≡ inside (with_statement m s) ss ++ walk_from (grown (with_statement m s) (take (size_of ss) ss) ∷ ms) None waits done (behind_macro ss)
+        → text_from ms (Some m) waits done s form (λ ns n w k. walk_from ns n w k ss)
         ≡ (Inside m s ∷ (if is_macro_end form then [] else inside (with_statement m s) ss))
-        ++ walk_from (grown m (take (if is_macro_end form then 0 else suc (size_of ss)) (s ∷ ss)) ∷ ms) None done (drop (suc (if is_macro_end form then 0 else suc (size_of ss))) (s ∷ ss))
-    by_form MacroEnd ih = ap (λ (b : List Statement). Inside m s ∷ walk_from (record { name = m.name; parameters = m.parameters; body = b } ∷ ms) None done ss) (sym (append-nil m.body))
+        ++ walk_from (grown m (take (if is_macro_end form then 0 else suc (size_of ss)) (s ∷ ss)) ∷ ms) None waits done (drop (suc (if is_macro_end form then 0 else suc (size_of ss))) (s ∷ ss))
+    by_form MacroEnd ih = ap (λ (b : List Statement). Inside m s ∷ walk_from (record { name = m.name; parameters = m.parameters; body = b } ∷ ms) None waits done ss) (sym (append-nil m.body))
     by_form _ ih = ap (λ (l : List Place). Inside m s ∷ l) (ih
-        ∙ ap (λ (b : List Statement). inside (with_statement m s) ss ++ walk_from (record { name = m.name; parameters = m.parameters; body = b } ∷ ms) None done (behind_macro ss))
+        ∙ ap (λ (b : List Statement). inside (with_statement m s) ss ++ walk_from (record { name = m.name; parameters = m.parameters; body = b } ∷ ms) None waits done (behind_macro ss))
         (append_assoc m.body (s ∷ []) (take (size_of ss) ss)))
 
 -- a whole macro
-pub macro_is : (ms : List Defined) (done : ℕ) (s : Statement) (ss : List Statement) (name : List ℕ) (ps : List Parameter) → s.form ≡ Macro name ps
-    → walk_from (reverse ms) None done (s ∷ ss) ≡ defines ms s.line name ps ss ++ walk_from (macro_of name ps ss ∷ reverse ms) None done (behind_macro ss)
-macro_is ms done s ss name ps e =
-    ap (λ (f : Form). text_from (reverse ms) None done (record { line = s.line; form = f }) f (λ ns m k. walk_from ns m k ss)) e
-    ∙ ap (λ (l : List Place). Opens (reverse ms) (record { line = s.line; form = Macro name ps }) ∷ l) (open_is (reverse ms) (begun name ps) done ss)
+pub macro_is : (ms : List Defined) (waits : Bool) (done : ℕ) (s : Statement) (ss : List Statement) (name : List ℕ) (ps : List Parameter) → s.form ≡ Macro name ps
+    → walk_from (reverse ms) None waits done (s ∷ ss) ≡ defines ms s.line name ps ss ++ walk_from (macro_of name ps ss ∷ reverse ms) None waits done (behind_macro ss)
+macro_is ms waits done s ss name ps e =
+    ap (λ (f : Form). text_from (reverse ms) None waits done (record { line = s.line; form = f }) f (λ ns m w k. walk_from ns m w k ss)) e
+    ∙ ap (λ (l : List Place). Opens (reverse ms) (record { line = s.line; form = Macro name ps }) ∷ l) (open_is (reverse ms) (begun name ps) waits done ss)
 
--- a CALL
+-- a CALL where none is barred
 pub call_is : (ms : List Defined) (done : ℕ) (s : Statement) (ss : List Statement) (name : List ℕ) (bs : List Argument) → s.form ≡ Call name bs
-    → walk_from (reverse ms) None done (s ∷ ss) ≡ call_in (reverse ms) s.line 1 done name (map (put_argument outside) bs)
-    ++ walk_from (reverse ms) None (done + calls_in (call_in (reverse ms) s.line 1 done name (map (put_argument outside) bs))) ss
-call_is ms done s ss name bs e = ap (λ (f : Form). text_from (reverse ms) None done s f (λ ns m k. walk_from ns m k ss)) e
-
--- any other statement
-pub other_is : (ms : List Defined) (done : ℕ) (s : Statement) (ss : List Statement) → ((name : List ℕ) (ps : List Parameter) → s.form ≡ Macro name ps → ⊥)
-    → ((name : List ℕ) (bs : List Argument) → s.form ≡ Call name bs → ⊥)
-    → walk_from (reverse ms) None done (s ∷ ss) ≡ (Stands 0 s ∷ []) ++ walk_from (reverse ms) None (done + 0) ss
-other_is ms done s ss no_macro no_call = by_form s.form no_macro no_call
-  where
-    by_form : (form : Form) → ((name : List ℕ) (ps : List Parameter) → form ≡ Macro name ps → ⊥) → ((name : List ℕ) (bs : List Argument) → form ≡ Call name bs → ⊥)
-        → text_from (reverse ms) None done s form (λ ns m k. walk_from ns m k ss)
-        ≡ (Stands 0 s ∷ []) ++ walk_from (reverse ms) None (done + 0) ss
-    by_form (Macro name ps) a b = absurd (a name ps refl)
-    by_form (Call name bs) a b = absurd (b name bs refl)
-    by_form _ a b = refl
+    → walk_from (reverse ms) None false done (s ∷ ss) ≡ call_in (reverse ms) s.line 1 done name (map (put_argument outside) bs)
+    ++ walk_from (reverse ms) None false (done + calls_in (call_in (reverse ms) s.line 1 done name (map (put_argument outside) bs))) ss
+call_is ms done s ss name bs e = ap (λ (f : Form). text_from (reverse ms) None false done s f (λ ns m w k. walk_from ns m w k ss)) e
 
 -- the places of a macro leave nothing
 nothing_inside : (m : Defined) (ss : List Statement) → (kept (inside m ss) ≡ []) × (weigh (inside m ss) ≡ 0) × (calls_in (inside m ss) ≡ 0)
@@ -73,45 +60,53 @@ nothing_inside m (s ∷ ss) = by_end (is_macro_end s.form) (nothing_inside (with
     by_end true ih = (refl, refl, refl)
     by_end false ih = (ih.0, omega (arith, ih.1), ih.2)
 
+-- behind a macro a block has to begin where one had to before it
+same_behind : (waits : Bool) (form : Form) (name : List ℕ) (ps : List Parameter) → form ≡ Macro name ps → waits_behind waits form ≡ waits
+same_behind true form name ps e = ap (waits_behind true) e
+same_behind false form name ps e = ap (waits_behind false) e
+
 -- a macro that breaks no rule is read
-pub macro_read : (ms : List Defined) (done : Done) (s : Statement) (ss : List Statement) (name : List ℕ) (ps : List Parameter) (n : ℕ) (d : Defined) → s.form ≡ Macro name ps
+pub macro_read : (ms : List Defined) (waits : Bool) (done : Done) (s : Statement) (ss : List Statement) (name : List ℕ) (ps : List Parameter) (n : ℕ) (d : Defined) → s.form ≡ Macro name ps
     → IsNew ms s.line name ps ss n → d ≡ record { name = name; parameters = ps; body = take n ss }
-    → IsRead ms done (s ∷ ss) (ms ++ d ∷ []) done (drop (suc n) ss)
-macro_read ms done s ss name ps n d is h same =
+    → IsRead ms waits done (s ∷ ss) (ms ++ d ∷ []) (waits_behind waits s.form) done (drop (suc n) ss)
+macro_read ms waits done s ss name ps n d is h same =
     let none = nothing_inside (begun name ps) ss in
     let e : d ≡ macro_of name ps ss = same ∙ ap (λ (k : ℕ). record { name = name; parameters = ps; body = take k ss }) h.size in
+    let w = same_behind waits s.form name ps is in
     let r : reverse (ms ++ d ∷ []) ≡ macro_of name ps ss ∷ reverse ms = reverse-append ms (d ∷ []) ∙ ap (λ (m : Defined). m ∷ reverse ms) e in
     record {
       places = defines ms s.line name ps ss;
       walked = record { fine = h.fine done.count; placed = rw none.0 (sym (append-nil done.placed)); count = omega (arith, none.1); calls = omega (arith, none.2) };
-      is = rw (r, h.size) (macro_is ms done.calls s ss name ps is);
+      is = rw (r, h.size, w) (macro_is ms waits done.calls s ss name ps is);
     }
 
-pub macro_told : (ms : List Defined) (done : Done) (s : Statement) (ss : List Statement) (name : List ℕ) (ps : List Parameter) (f : SourceFault) → s.form ≡ Macro name ps
-    → NoMemoryOr (λ f. (k : ℕ) → TellsFirst k (defines ms s.line name ps ss) f) f → NoMemoryOr (TellsFirst done.count (walk_from (reverse ms) None done.calls (s ∷ ss))) f
-macro_told ms done s ss name ps f is (inl e) = inl e
-macro_told ms done s ss name ps f is (inr t) = inr (rw (macro_is ms done.calls s ss name ps is) (told_front done.count (defines ms s.line name ps ss) _ f (t done.count)))
+pub macro_told : (ms : List Defined) (waits : Bool) (done : Done) (s : Statement) (ss : List Statement) (name : List ℕ) (ps : List Parameter) (f : SourceFault) → s.form ≡ Macro name ps
+    → NoMemoryOr (λ f. (k : ℕ) → TellsFirst k (defines ms s.line name ps ss) f) f → NoMemoryOr (TellsFirst done.count (walk_from (reverse ms) None waits done.calls (s ∷ ss))) f
+macro_told ms waits done s ss name ps f is (inl e) = inl e
+macro_told ms waits done s ss name ps f is (inr t) = inr (rw (macro_is ms waits done.calls s ss name ps is) (told_front done.count (defines ms s.line name ps ss) _ f (t done.count)))
 
-pub call_told : (ms : List Defined) (old : Done) (s : Statement) (ss : List Statement) (name : List ℕ) (bs written : List Argument) (f : SourceFault) → s.form ≡ Call name bs → written ≡ bs
+pub call_told : (ms : List Defined) (waits : Bool) (old : Done) (s : Statement) (ss : List Statement) (name : List ℕ) (bs written : List Argument) (f : SourceFault) → s.form ≡ Call name bs
+    → written ≡ bs → waits ≡ false
     → NoMemoryOr (TellsFirst old.count (call_in (reverse ms) s.line 1 old.calls name (map (put_argument outside) written))) f
-    → NoMemoryOr (TellsFirst old.count (walk_from (reverse ms) None old.calls (s ∷ ss))) f
-call_told ms old s ss name bs written f is same (inl e) = inl e
-call_told ms old s ss name bs written f is same (inr t) =
-    inr (rw (call_is ms old.calls s ss name bs is) (told_front old.count (call_in (reverse ms) s.line 1 old.calls name (map (put_argument outside) bs)) _ f (rw same at t)))
+    → NoMemoryOr (TellsFirst old.count (walk_from (reverse ms) None waits old.calls (s ∷ ss))) f
+call_told ms waits old s ss name bs written f is same free (inl e) = inl e
+call_told ms waits old s ss name bs written f is same free (inr t) =
+    inr (rw (free, call_is ms old.calls s ss name bs is) (told_front old.count (call_in (reverse ms) s.line 1 old.calls name (map (put_argument outside) bs)) _ f (rw same at t)))
 
 -- ---- one part behind the other
 
-pub read_more : (ls ms ns : List Defined) (a b c : Done) (ss ts us : List Statement) → IsRead ls a ss ms b ts → IsRead ms b ts ns c us → IsRead ls a ss ns c us
-read_more ls ms ns a b c ss ts us g h = record {
+pub read_more : (ls ms ns : List Defined) (u v w : Bool) (a b c : Done) (ss ts us : List Statement) → IsRead ls u a ss ms v b ts → IsRead ms v b ts ns w c us
+    → IsRead ls u a ss ns w c us
+read_more ls ms ns u v w a b c ss ts us g h = record {
   places = g.places ++ h.places;
   walked = walked_more a b c g.places h.places g.walked h.walked;
   is = g.is ∙ ap (λ (l : List Place). g.places ++ l) h.is ∙ sym (append_assoc g.places h.places _);
 }
 
-pub read_told : (ls ms : List Defined) (a b : Done) (ss ts : List Statement) (f : SourceFault) → IsRead ls a ss ms b ts
-    → NoMemoryOr (TellsFirst b.count (walk_from (reverse ms) None b.calls ts)) f → NoMemoryOr (TellsFirst a.count (walk_from (reverse ls) None a.calls ss)) f
-read_told ls ms a b ss ts f g (inl e) = inl e
-read_told ls ms a b ss ts f g (inr t) = inr (rw g.is (told_more a b g.places _ f g.walked t))
+pub read_told : (ls ms : List Defined) (u v : Bool) (a b : Done) (ss ts : List Statement) (f : SourceFault) → IsRead ls u a ss ms v b ts
+    → NoMemoryOr (TellsFirst b.count (walk_from (reverse ms) None v b.calls ts)) f → NoMemoryOr (TellsFirst a.count (walk_from (reverse ls) None u a.calls ss)) f
+read_told ls ms u v a b ss ts f g (inl e) = inl e
+read_told ls ms u v a b ss ts f g (inr t) = inr (rw g.is (told_more a b g.places _ f g.walked t))
 
 -- ---- names of macros
 

@@ -3,7 +3,7 @@ use Rattle.std.proofs.Common.{◌≡◌, ℕ, ◌+◌, List, [], ◌∷◌, ◌+
 use Rattle.std.proofs.lemmas.List.{append_assoc}
 use Rattle.vcm_lines.specs.declared.fault.SourceFault.{SourceFault}
 use Rattle.vcm_macro.specs.declared.placed.Placed.{Placed}
-use Rattle.vcm_macro.specs.Walk.{Place, Opens, Inside, Stands, Calls, calls_in}
+use Rattle.vcm_macro.specs.Walk.{Place, Opens, Inside, Stands, Misplaced, Calls, calls_in}
 use Rattle.vcm_macro.specs.Rules.{weight, weigh, kept, kept_of}
 use Rattle.vcm_macro.specs.inner.Expanding.{Done, AreFine, TellsFirst, Walked}
 
@@ -20,6 +20,7 @@ calls_append [] qs = omega arith
 calls_append (Opens ms s ∷ ps) qs = calls_append ps qs
 calls_append (Inside m s ∷ ps) qs = calls_append ps qs
 calls_append (Stands e s ∷ ps) qs = calls_append ps qs
+calls_append (Misplaced line ∷ ps) qs = calls_append ps qs
 calls_append (Calls line depth m bs ∷ ps) qs = omega (arith, calls_append ps qs)
 
 pub fine_append : (n : ℕ) (ps qs : List Place) → AreFine n ps → AreFine (n + weigh ps) qs → AreFine n (ps ++ qs)

@@ -9,8 +9,7 @@ use Rattle.vcm_syntax.specs.declared.statement.Argument.{Argument}
 use Rattle.vcm_syntax.specs.declared.statement.Form.{Form}
 use Rattle.vcm_syntax.specs.declared.statement.Form.TheVariants.{Declaration, Assignment, Test, Otherwise, TestEnd, Repeat, RepeatEnd}
 use Rattle.vcm_syntax.specs.declared.statement.Form.TheVariants.{Measure, MeasureEnd, Query, Macro}
-use Rattle.vcm_syntax.specs.declared.statement.Form.TheVariants.{MacroEnd, Call, Choose, Case, Default, CaseEnd, ChooseEnd}
-use Rattle.vcm_syntax.specs.Statements.{is_counted}
+use Rattle.vcm_syntax.specs.declared.statement.Form.TheVariants.{MacroEnd, Choose, Case, Default, CaseEnd, ChooseEnd}
 use Rattle.vcm_syntax.specs.declared.statement.Statement.{Statement}
 use Rattle.vcm_macro.specs.declared.placed.Placed.{Placed}
 use Rattle.vcm_macro.specs.declared.fitting.Wanted.{Wanted}
@@ -20,7 +19,7 @@ use Rattle.vcm_macro.specs.declared.blocks.Opener.TheVariants.{If, Else, Do, Mea
 use Rattle.vcm_substitution.specs.Substitution.{is_same, variable_of}
 use Rattle.vcm_substitution.specs.Sizes.{is_small_option, are_small}
 use Rattle.vcm_substitution.specs.Kept.{is_kept}
-use Rattle.vcm_macro.specs.Walk.{Defined, Place, Opens, Inside, Stands, Calls}
+use Rattle.vcm_macro.specs.Walk.{Defined, Place, Opens, Inside, Stands, Misplaced, Calls, is_in_block}
 
 -- ---- a macro is defined once, and so is each of its parameters
 
@@ -102,12 +101,6 @@ abbrev pub is_choosing : List Opener → Bool
 is_choosing (Select ∷ os) = true
 is_choosing (Last ∷ os) = true
 is_choosing os = false
-
--- whether a statement stands in one of the blocks where a SELECT is open: a counted one, a DECL or a CALL
-abbrev pub is_in_block : Form → Bool
-is_in_block (Declaration kind names) = true
-is_in_block (Call name args) = true
-is_in_block form = is_counted form
 
 -- whether ENDMAC may stand here, where no block is open
 abbrev pub takes_endmac : List Opener → Bool
@@ -216,6 +209,7 @@ codes_at n (Opens ms s) = code_if (is_taken ms s.form) DuplicateName
 codes_at n (Inside m s) =
     code_if (redeclares m.parameters s.form) DuplicateName ++ code_if (unbalances (blocks_after [] m.body) s.form) Unbalanced
 codes_at n (Stands e s) = code_if (is_kept s.form && is_full n) TooLong ++ code_if (not (are_small s.form)) TooDeep
+codes_at n (Misplaced line) = Unbalanced ∷ []
 codes_at n (Calls line depth m bs) = code_if (nat_lt 16 depth || is_full n) TooLong ++ called_codes m bs
 
 -- the rules, behind places that count so much
@@ -232,6 +226,7 @@ abbrev pub line_at : Place → ℕ
 line_at (Opens ms s) = s.line
 line_at (Inside m s) = s.line
 line_at (Stands e s) = s.line
+line_at (Misplaced line) = line
 line_at (Calls line depth m args) = line
 
 -- a fault is told at its place's line

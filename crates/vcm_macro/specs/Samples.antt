@@ -196,6 +196,32 @@ pub two_defaults : body_fault (says.Choose (var (codes "P") 0) ∷ says.Default 
     ≡ Some (record { code = Unbalanced; line = 7 })
 two_defaults = refl
 
+-- what becomes of a CALL behind these statements
+abbrev pub call_behind : List Form → Option SourceFault
+call_behind before = macro_fault (on_lines 3 (says.Macro (codes "A") [] ∷ says.MacroEnd ∷ (before ++ says.Call (codes "A") [] ∷ says.Ending ∷ [])))
+
+-- it stands neither before the first block of a SELECT nor behind one
+pub call_before_blocks : call_behind (says.Choose (whole 1) ∷ []) ≡ Some (record { code = Unbalanced; line = 6 })
+call_before_blocks = refl
+
+-- what stands in a macro between them changes nothing
+pub call_behind_block : call_behind (says.Choose (whole 1) ∷ says.Case (pos 1) ∷ says.CaseEnd ∷ says.Macro (codes "B") [] ∷ says.Home ∷ says.MacroEnd ∷ [])
+    ≡ Some (record { code = Unbalanced; line = 11 })
+call_behind_block = refl
+
+-- that is told before all else that is wrong with it
+pub unknown_before_blocks : macro_fault (on_lines 3 (says.Choose (whole 1) ∷ says.Call (codes "B") [] ∷ says.Ending ∷ []))
+    ≡ Some (record { code = Unbalanced; line = 4 })
+unknown_before_blocks = refl
+
+-- it stands in a block
+pub call_in_block : call_behind (says.Choose (whole 1) ∷ says.Case (pos 1) ∷ says.CaseEnd ∷ says.Default ∷ says.Home ∷ []) ≡ None
+call_in_block = refl
+
+-- and behind ENDSEL
+pub call_behind_select : call_behind (says.Choose (whole 1) ∷ says.Case (pos 1) ∷ says.CaseEnd ∷ says.ChooseEnd ∷ []) ≡ None
+call_behind_select = refl
+
 -- a parameter that is declared again
 pub declared_again : body_fault (says.Declaration IntKind (codes "P" ∷ []) ∷ []) ≡ Some (record { code = DuplicateName; line = 4 })
 declared_again = refl

@@ -1,9 +1,10 @@
 -- The places of the phase of macros: the statements of a program, each CALL with the body of its macro behind it.
-use Rattle.std.specs.Prelude.{ℕ, suc, ◌+◌, true, false, List, [], ◌∷◌, ◌++◌, map, Option, Some, None}
+use Rattle.std.specs.Prelude.{ℕ, suc, ◌+◌, Bool, true, false, not, ◌&&◌, List, [], ◌∷◌, ◌++◌, map, Option, Some, None}
 use Rattle.vcm_syntax.specs.declared.statement.Parameter.{Parameter}
 use Rattle.vcm_syntax.specs.declared.statement.Argument.{Argument}
 use Rattle.vcm_syntax.specs.declared.statement.Form.{Form}
-use Rattle.vcm_syntax.specs.declared.statement.Form.TheVariants.{Macro, MacroEnd, Call}
+use Rattle.vcm_syntax.specs.declared.statement.Form.TheVariants.{Declaration, Macro, MacroEnd, Call, Choose, CaseEnd}
+use Rattle.vcm_syntax.specs.Statements.{is_counted}
 use Rattle.vcm_syntax.specs.declared.statement.Statement.{Statement}
 use Rattle.vcm_substitution.specs.Substitution.{Scope, outside, is_same, put_form, put_argument}
 
@@ -21,6 +22,8 @@ pub data Place : Type 0 where
   Inside : Defined → Statement → Place
   -- a statement of the expanded program, in this expansion
   Stands : ℕ → Statement → Place
+  -- a CALL outside macros where a block of a SELECT has to begin, or the SELECT to end
+  Misplaced : (line : ℕ) → Place
   -- a CALL that is carried out: its line, how deep calls are nested here, its macro if there is one above, and what it is called with
   Calls : (line depth : ℕ) → Option Defined → List Argument → Place
 
@@ -62,24 +65,46 @@ call_in (m ∷ ms) line depth done name args = elim (is_same m.name name) [
 abbrev pub with_statement : Defined → Statement → Defined
 with_statement m s = record { name = m.name; parameters = m.parameters; body = m.body ++ s ∷ [] }
 
--- a statement outside macros, after so many CALLs: a CALL, or one that stands as it is written
-abbrev pub outside_in : Caller → ℕ → Statement → Form → List Place
-outside_in call done s (Call name args) = call s.line 1 done name (map (put_argument outside) args)
-outside_in call done s form = Stands 0 s ∷ []
+-- whether a statement stands in one of the blocks where a SELECT is open: a counted one, a DECL or a CALL
+abbrev pub is_in_block : Form → Bool
+is_in_block (Declaration kind names) = true
+is_in_block (Call name args) = true
+is_in_block form = is_counted form
+
+-- whether a block of a SELECT has to begin, or the SELECT to end, behind one more statement outside macros: SELECT or ENDCAS was the last one
+-- that is counted, a DECL or a CALL
+abbrev pub waits_behind : Bool → Form → Bool
+waits_behind waits (Choose value) = true
+waits_behind waits CaseEnd = true
+waits_behind waits form = waits && not (is_in_block form)
+
+-- a CALL, where a block has to begin
+abbrev pub misplaced_if : Bool → ℕ → List Place
+misplaced_if true line = Misplaced line ∷ []
+misplaced_if false line = []
+
+-- a statement outside macros, after so many CALLs: a CALL, which may stand where a block has to begin, or one that stands as it is written
+abbrev pub outside_in : Caller → Bool → ℕ → Statement → Form → List Place
+outside_in call waits done s (Call name args) = misplaced_if waits s.line ++ call s.line 1 done name (map (put_argument outside) args)
+outside_in call waits done s form = Stands 0 s ∷ []
+
+-- how the text goes on behind a statement: with these macros, the one that is open, whether a block has to begin, and after so many CALLs
+abbrev pub Following : Type 0
+Following = List Defined → Option Defined → Bool → ℕ → List Place
 
 -- one statement of the text, and then the rest: MACRO opens a macro, ENDMAC closes it, what stands between is its body, and all else stands
 -- outside
-abbrev pub text_from : List Defined → Option Defined → ℕ → Statement → Form → (List Defined → Option Defined → ℕ → List Place) → List Place
-text_from ms None done s (Macro name ps) on = Opens ms s ∷ on ms (Some (record { name = name; parameters = ps; body = [] })) done
-text_from ms None done s form on = behind (outside_in (call_in ms) done s form) done (on ms None)
-text_from ms (Some m) done s MacroEnd on = Inside m s ∷ on (m ∷ ms) None done
-text_from ms (Some m) done s form on = Inside m s ∷ on ms (Some (with_statement m s)) done
+abbrev pub text_from : List Defined → Option Defined → Bool → ℕ → Statement → Form → Following → List Place
+text_from ms None waits done s (Macro name ps) on = Opens ms s ∷ on ms (Some (record { name = name; parameters = ps; body = [] })) waits done
+text_from ms None waits done s form on = behind (outside_in (call_in ms) waits done s form) done (on ms None (waits_behind waits form))
+text_from ms (Some m) waits done s MacroEnd on = Inside m s ∷ on (m ∷ ms) None waits done
+text_from ms (Some m) waits done s form on = Inside m s ∷ on ms (Some (with_statement m s)) waits done
 
 -- the places of the text from here on
-abbrev pub walk_from : List Defined → Option Defined → ℕ → List Statement → List Place
-walk_from ms current done [] = []
-walk_from ms current done (s ∷ ss) = text_from ms current done s s.form (λ ns m n. walk_from ns m n ss)
+abbrev pub walk_from : List Defined → Option Defined → Bool → ℕ → List Statement → List Place
+walk_from ms current waits done [] = []
+walk_from ms current waits done (s ∷ ss) = text_from ms current waits done s s.form (λ ns m w n. walk_from ns m w n ss)
 
 -- the walk of a program
 abbrev pub walk : List Statement → List Place
-walk ss = walk_from [] None 0 ss
+walk ss = walk_from [] None false 0 ss

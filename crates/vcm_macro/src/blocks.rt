@@ -1,7 +1,7 @@
 //! The blocks of a macro's body.
 
 ghost use Rattle.std.specs.Prelude.{◌≡◌};
-ghost use Rattle.vcm_macro.specs.Rules.{is_in_block};
+ghost use Rattle.vcm_macro.specs.Walk.{is_in_block};
 
 use std::alloc::{AllocError, Global};
 use std::marker::Model;
@@ -41,8 +41,8 @@ impl Model for Blocks {
     ghost view = { λ b. reverse b.openers.items };
 }
 
-// Whether a statement stands in one of the blocks where a SELECT is open.
-fn is_in_block(form: &Form) -> bool
+/// Whether a statement stands in one of the blocks where a SELECT is open.
+pub(crate) fn is_in_block(form: &Form) -> bool
     ensures { result ≡ is_in_block form.now }
 {
     match form {

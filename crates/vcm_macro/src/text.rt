@@ -3,12 +3,13 @@
 ghost use Rattle.std.specs.Prelude.{◌≡◌, ◌≤◌, ◌∷◌, ℕ, [], None, Some, length, drop, suc, reverse, IfOk, IfErr};
 ghost use Rattle.vcm_lines.specs.Fault.{NoMemoryOr};
 ghost use Rattle.vcm_spec.specs.Phase.{IsClean};
-ghost use Rattle.vcm_macro.specs.Walk.{walk, walk_from};
+ghost use Rattle.vcm_macro.specs.Walk.{waits_behind, walk, walk_from};
 ghost use Rattle.vcm_macro.specs.Rules.{BreaksMacros, kept};
 ghost use Rattle.vcm_macro.specs.Computed.{macro_fault};
 ghost use Rattle.vcm_macro.specs.Expansion.{IsExpanded, IsRefused};
-ghost use Rattle.vcm_macro.specs.inner.Expanding.{TellsFirst, IsNew, IsRead, defines, behind_macro};
+ghost use Rattle.vcm_macro.specs.inner.Expanding.{TellsFirst, IsNew, IsRead, defines};
 
+use crate::blocks::is_in_block;
 use crate::defining::body_size;
 use crate::definition::{Definition, is_defined};
 use crate::expanding::call;
@@ -52,17 +53,28 @@ fn behind(statements: &[Statement], size: usize) -> &[Statement]
     }
 }
 
-// One statement outside macros, or a whole macro: what is left behind it.
+// Whether a block of a SELECT has to begin, or the SELECT to end, behind one more statement outside macros.
+fn waits_behind(waits: bool, form: &Form) -> bool
+    ensures { result ≡ waits_behind waits form.now }
+{
+    match form {
+        Form::Choose(_) | Form::CaseEnd => true,
+        _ => waits && !is_in_block(form),
+    }
+}
+
+// One statement outside macros, or a whole macro, where a block of a SELECT has to begin or not: what is left behind it.
 fn read<'a>(
     alloc: Global,
     macros: &mut Vec<Definition<'a>>,
+    waits: bool,
     done: &mut Expansion<'a>,
     statement: &'a Statement,
     others: &'a [Statement],
 ) -> Result<&'a [Statement], SourceFault>
-    ensures ok { IfOk result (λ rest. IsRead macros.old.items done.old (statement.now ∷ others.now) macros.new.items done.new rest.now) }
+    ensures ok { IfOk result (λ rest. IsRead macros.old.items waits done.old (statement.now ∷ others.now) macros.new.items (waits_behind waits statement.now.form) done.new rest.now) }
     ensures shorter { IfOk result (λ rest. length rest.now ≤ length others.now) }
-    ensures fault { IfErr result (NoMemoryOr (TellsFirst done.old.count (walk_from (reverse macros.old.items) None done.old.calls (statement.now ∷ others.now)))) }
+    ensures fault { IfErr result (NoMemoryOr (TellsFirst done.old.count (walk_from (reverse macros.old.items) None waits done.old.calls (statement.now ∷ others.now)))) }
 {
     let outside = Bindings::new(&[], &[], 0);
     let line = statement.line;
@@ -75,6 +87,10 @@ fn read<'a>(
             Ok(behind(others, size))
         }
         Form::Call(name, written) => {
+            if waits {
+                let code = FaultCode::Unbalanced;
+                return Err(SourceFault { code, line });
+            }
             let written = written.as_slice();
             call(alloc, macros, &outside, line, 1, name, written, done)?;
             Ok(others)
@@ -95,9 +111,11 @@ fn expanded<'a>(alloc: Global, statements: &'a [Statement]) -> Result<Vec<Placed
 {
     let mut macros = Vec::new(alloc);
     let mut done = Expansion::new(alloc, statements.len().min(MOST as usize))?;
+    let mut waits = false;
     let mut rest = statements;
     'text: while let Some((statement, others)) = rest.split_first() {
-        rest = read(alloc, &mut macros, &mut done, statement, others)?;
+        rest = read(alloc, &mut macros, waits, &mut done, statement, others)?;
+        waits = waits_behind(waits, &statement.form);
     }
     Ok(done.into_placed())
 }

@@ -1,22 +1,26 @@
 -- What is written of a line is what the listing says.
-use Rattle.std.proofs.Common.{◌≡◌, ℕ, List, [], ◌∷◌, ◌++◌, refl, sym, ap, ◌∙◌, append_assoc, codes, subst, arith, Option, Some}
+use Rattle.std.proofs.Common.{◌≡◌, ℕ, List, [], ◌∷◌, ◌++◌, refl, sym, ap, ◌∙◌, append_assoc, codes, subst, Option, Some}
 use Rattle.std.specs.Prelude.{flat_map, decimal, Result}
 use Rattle.std.proofs.lemmas.List.{append-nil}
-use Rattle.std.proofs.lemmas.Fmt.{decimal_digit}
 use Rattle.vcm_num.specs.Written.{Wrote}
 use Rattle.vcm_spec.specs.declared.expression.Item.{Item}
 use Rattle.vcm_spec.specs.Setup.{Variable as Entry}
+use Rattle.vcm_code.specs.declared.branch.Branch.{Branch}
+use Rattle.vcm_code.specs.declared.version.Version.{Version}
+use Rattle.vcm_code.specs.declared.version.Version.TheVariants.{One, Two}
 use Rattle.vcm_code.specs.declared.op.Op.TheVariants as ops
 use Rattle.vcm_fields.specs.Parts.{Operation, Line}
 use Rattle.vcm_fields.specs.Words.{word_of}
 use Rattle.vcm_words.specs.declared.row.Row.TheVariants as rows
 use Rattle.vcm_words.specs.Cutting.{split}
-use Rattle.vcm_words.specs.Items.{item_text, closed_words, expression}
+use Rattle.vcm_words.specs.Enclosed.{closed, opened}
+use Rattle.vcm_words.specs.Items.{item_text, expression}
+use Rattle.vcm_words.specs.Branches.{branch_text, branches}
 use Rattle.vcm_words.specs.Operands.{operands, single, number_text, lettered, text, direction_text, setting_text, source_text, turn_text, word_text}
 use Rattle.vcm_words.specs.Rows.{row_text, kind_text}
-use Rattle.vcm_print.specs.declared.column.Column.TheVariants.{Nothing, Variable, Feature, Frame, Pair, Target, Number, Turn, Direction, Setting, Source, Items, Three, Text}
+use Rattle.vcm_print.specs.declared.column.Column.TheVariants.{Nothing, Variable, Feature, Frame, Pair, Target, Number, Turn, Direction, Setting, Source, Items, Three, Text, Branches}
 use Rattle.vcm_print.specs.inner.Columns.{PlainColumn, columns}
-use Rattle.vcm_print.specs.inner.Written.{more_items, items_bytes, three_bytes, column_bytes, columns_bytes, statement_bytes, variable_bytes, name_bytes}
+use Rattle.vcm_print.specs.inner.Written.{heading, items_bytes, branches_bytes, three_bytes, column_bytes, columns_bytes, statement_bytes, variable_bytes, name_bytes}
 use Rattle.vcm_print.specs.Listed.{listed}
 use Rattle.vcm_print.proofs.Joining.{blanked, blanked_append, joined_is, text_is}
 
@@ -36,16 +40,33 @@ column_words (Source which) = single (source_text which)
 column_words (Items items) = expression items
 column_words (Three x y z) = expression x ++ (expression y ++ expression z)
 column_words (Text bs) = text bs
+column_words (Branches bs) = branches bs
 
--- items behind the first one
-closed_is : (i : Item) (is : List Item) → blanked (closed_words (i ∷ is)) ≡ (32 ∷ item_text i) ++ (more_items is ++ codes "]")
-closed_is i [] = ap (λ l. 32 ∷ l) (append-nil (item_text i ++ codes "]"))
-closed_is i (j ∷ is) = ap (λ l. (32 ∷ item_text i) ++ l) (closed_is j is ∙ sym (append_assoc (32 ∷ item_text j) (more_items is) (codes "]")))
+-- values behind the first one, with a blank in front of each
+more_of : {A : Type 0} → (A → List ℕ) → List A → List ℕ
+more_of text xs = flat_map (λ x. 32 ∷ text x) xs
+
+-- values up to a mark
+closed_is : {A : Type 0} (mark : ℕ) (text : A → List ℕ) (x : A) (xs : List A) → blanked (closed mark text (x ∷ xs)) ≡ (32 ∷ text x) ++ (more_of text xs ++ mark ∷ [])
+unfolding more_of
+closed_is mark text x [] = ap (λ l. 32 ∷ l) (append-nil (text x ++ mark ∷ []))
+closed_is mark text x (y ∷ xs) = ap (λ l. (32 ∷ text x) ++ l) (closed_is mark text y xs ∙ sym (append_assoc (32 ∷ text y) (more_of text xs) (mark ∷ [])))
+
+-- values between marks
+enclosed_is : {A : Type 0} (left right : ℕ) (text : A → List ℕ) (x : A) (xs : List A) → blanked (opened left (closed right text (x ∷ xs))) ≡ (32 ∷ left ∷ text x) ++ (more_of text xs ++ right ∷ [])
+unfolding more_of
+enclosed_is left right text x [] = ap (λ l. 32 ∷ left ∷ l) (append-nil (text x ++ right ∷ []))
+enclosed_is left right text x (y ∷ xs) = ap (λ l. 32 ∷ left ∷ text x ++ l) (closed_is right text y xs ∙ sym (append_assoc (32 ∷ text y) (more_of text xs) (right ∷ [])))
 
 items_are : (is : List Item) → blanked (expression is) ≡ items_bytes is
+unfolding more_of
 items_are [] = refl
-items_are (i ∷ []) = ap (λ l. 32 ∷ 91 ∷ l) (append-nil (item_text i ++ codes "]"))
-items_are (i ∷ j ∷ is) = ap (λ l. 32 ∷ 91 ∷ item_text i ++ l) (closed_is j is ∙ sym (append_assoc (32 ∷ item_text j) (more_items is) (codes "]")))
+items_are (i ∷ is) = enclosed_is 91 93 item_text i is
+
+branches_are : (bs : List Branch) → blanked (branches bs) ≡ branches_bytes bs
+unfolding more_of
+branches_are [] = refl
+branches_are (b ∷ bs) = enclosed_is 123 125 branch_text b bs
 
 three_are : (x y z : List Item) → blanked (expression x ++ (expression y ++ expression z)) ≡ three_bytes x y z
 three_are x y z =
@@ -72,6 +93,7 @@ column_is (Source which) = one_is (source_text which)
 column_is (Items is) = items_are is
 column_is (Three x y z) = three_are x y z
 column_is (Text bs) = text_is (39 ∷ bs ++ 39 ∷ [])
+column_is (Branches bs) = branches_are bs
 
 columns_are : (ps : List PlainColumn) → blanked (flat_map column_words ps) ≡ columns_bytes ps
 columns_are [] = refl
@@ -102,6 +124,11 @@ operands_are (ops.Recall f) = refl
 operands_are (ops.Obtain v source f word) = refl
 operands_are (ops.Output source f) = refl
 operands_are (ops.Text bs) = append-nil (split 32 (39 ∷ bs ++ 39 ∷ []))
+operands_are (ops.Select e bs to) = refl
+operands_are ops.Case = refl
+operands_are (ops.EndCas to) = refl
+operands_are ops.DftCas = refl
+operands_are ops.EndSel = refl
 
 assoc : (a b c p e : List ℕ) → (a ++ (b ++ (c ++ p))) ++ e ≡ (a ++ (b ++ c)) ++ (p ++ e)
 assoc a b c p e =
@@ -136,9 +163,10 @@ variable_is n v =
     ∙ ap (λ l. kind_text v.kind ++ (32 ∷ l)) (append_assoc v.name (32 ∷ decimal v.expansion) (codes "\n")))))
 
 -- the first line
-pub head_is : codes "VCM-LISTING 1\n" ≡ listed rows.Head
+pub head_is : (version : Version) → heading version ≡ listed (rows.Head version)
 unfolding listed row_text
-head_is = sym (ap (λ d. codes "VCM-LISTING " ++ (d ++ codes "\n")) (decimal_digit 1 (omega arith)))
+head_is One = refl
+head_is Two = refl
 
 same_line : (o : Option Line) (s t : Line) → o ≡ Some s → o ≡ Some t → s ≡ t
 same_line o s t e f = cc

@@ -1,11 +1,11 @@
-//! One column of a statement's line in a listing: no operand, one operand, or three expressions.
+//! One column of a statement's line in a listing: no operand, one operand, three expressions, or all branches.
 
 use vcm_num::Axis;
 use vcm_spec::{Setting, Source};
 
-/// One operand, or none, or three expressions. `E` holds postfix items and `T` bytes, as in `Op`.
+/// One operand, or none, or three expressions, or all branches. `E` holds postfix items, `T` bytes and `B` branches, as in `Op`.
 #[derive(Drop)]
-pub(crate) enum Column<E, T> {
+pub(crate) enum Column<E, T, B> {
     /// No operand.
     Nothing,
     /// The index of a variable.
@@ -34,4 +34,6 @@ pub(crate) enum Column<E, T> {
     Three(E, E, E),
     /// A text, which stands between apostrophes.
     Text(T),
+    /// The branches of a SELECT, which stand between braces.
+    Branches(B),
 }

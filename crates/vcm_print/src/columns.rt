@@ -5,14 +5,14 @@ ghost use Rattle.vcm_print.specs.declared.column.Column.TheVariants as column;
 ghost use Rattle.vcm_print.specs.inner.Columns.{columns};
 
 use crate::column::Column::{
-    self, Direction, Feature, Frame, Items, Nothing, Number, Pair, Setting, Source, Target, Text,
-    Three, Turn, Variable,
+    self, Branches, Direction, Feature, Frame, Items, Nothing, Number, Pair, Setting, Source,
+    Target, Text, Three, Turn, Variable,
 };
 use vcm_code::Op;
-use vcm_fields::{BorrowedOp, ItemSlice, TextSlice};
+use vcm_fields::{BorrowedOp, BranchSlice, ItemSlice, TextSlice};
 
-/// A column whose items and texts are slices of the image.
-pub(crate) type BorrowedColumn<'a> = Column<ItemSlice<'a>, TextSlice<'a>>;
+/// A column whose items, texts and branches are slices of the image.
+pub(crate) type BorrowedColumn<'a> = Column<ItemSlice<'a>, TextSlice<'a>, BranchSlice<'a>>;
 
 // Three expressions.
 fn three<'a>(x: &ItemSlice<'a>, y: &ItemSlice<'a>, z: &ItemSlice<'a>) -> BorrowedColumn<'a>
@@ -49,5 +49,15 @@ pub(crate) fn columns<'a>(op: &BorrowedOp<'a>) -> [BorrowedColumn<'a>; 4]
         Op::Obtain(v, s, f, word) => [Variable(*v), Source(*s), Feature(*f), Number(*word)],
         Op::Output(s, f) => [Source(*s), Feature(*f), Nothing, Nothing],
         Op::Text(text) => [Text(text.again()), Nothing, Nothing, Nothing],
+        Op::Select(e, branches, to) => [
+            Items(e.again()),
+            Branches(branches.again()),
+            Target(*to),
+            Nothing,
+        ],
+        Op::Case => [Nothing, Nothing, Nothing, Nothing],
+        Op::EndCas(to) => [Target(*to), Nothing, Nothing, Nothing],
+        Op::DftCas => [Nothing, Nothing, Nothing, Nothing],
+        Op::EndSel => [Nothing, Nothing, Nothing, Nothing],
     }
 }

@@ -1,6 +1,7 @@
 //! The writing of listings: a statement's line, which takes no memory, and the whole listing of a valid image.
 #![tactic(auto)]
 
+mod branches;
 mod column;
 mod columns;
 mod items;

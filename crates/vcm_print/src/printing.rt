@@ -4,14 +4,32 @@ ghost use Rattle.std.specs.Prelude.{◌≡◌, IfOk};
 ghost use Rattle.vcm_num.specs.Written.{Wrote};
 ghost use Rattle.vcm_words.specs.declared.row.Row.TheVariants.{Variable, Feature, Frame, Numbered};
 ghost use Rattle.vcm_words.specs.Rows.{listing};
-ghost use Rattle.vcm_print.specs.inner.Written.{lines};
+ghost use Rattle.vcm_print.specs.inner.Written.{heading, lines};
 
 use crate::names::{write_name, write_variable};
 use crate::statement::write_statement;
 use std::alloc::Global;
 use std::io::Write;
+use vcm_code::Version;
 use vcm_loader::Loaded;
 use vcm_num::{NoMemory, WriteFault, write_all};
+
+// The first line of a listing of this version, with its end.
+fn heading(version: Version) -> &'static [u8]
+    ensures { result.now ≡ heading version }
+{
+    match version {
+        Version::One => b"VCM-LISTING 1\n",
+        Version::Two => b"VCM-LISTING 2\n",
+    }
+}
+
+// Writes the first line.
+fn write_heading<W: Write>(loaded: &Loaded<'_>, writer: &mut W) -> Result<(), WriteFault>
+    ensures { Wrote (W.contents writer.old) (W.contents writer.new) (heading loaded.now.version) result }
+{
+    write_all(writer, heading(loaded.version()))
+}
 
 // Writes the lines of the variables.
 fn write_variables<W: Write>(loaded: &Loaded<'_>, writer: &mut W) -> Result<(), WriteFault>
@@ -65,14 +83,14 @@ fn write_statements<W: Write>(loaded: &Loaded<'_>, writer: &mut W) -> Result<(),
 fn write_listing<W: Write>(loaded: &Loaded<'_>, writer: &mut W) -> Result<(), WriteFault>
     ensures { Wrote (W.contents writer.old) (W.contents writer.new) (listing loaded.now) result }
 {
-    write_all(writer, b"VCM-LISTING 1\n")?;
+    write_heading(loaded, writer)?;
     write_variables(loaded, writer)?;
     write_features(loaded, writer)?;
     write_frames(loaded, writer)?;
     write_statements(loaded, writer)
 }
 
-/// The listing of a valid image: its head, the lines of its variables, features and frames, and those of its statements, each with its end.
+/// The listing of a valid image: its version, the lines of its variables, features and frames, and those of its statements, each with its end.
 ///
 /// # Errors
 ///

@@ -7,6 +7,7 @@ ghost use Rattle.vcm_words.specs.declared.row.Row.TheVariants.{Numbered};
 ghost use Rattle.vcm_print.specs.inner.Written.{three_bytes, column_bytes, columns_bytes, statement_bytes};
 ghost use Rattle.vcm_print.specs.Listed.{listed};
 
+use crate::branches::write_branches;
 use crate::column::Column;
 use crate::columns::{BorrowedColumn, columns};
 use crate::items::write_items;
@@ -69,6 +70,7 @@ fn write_column<W: Write>(column: &BorrowedColumn<'_>, writer: &mut W) -> Result
         Column::Items(items) => write_items(items, writer),
         Column::Three(x, y, z) => write_three(x, y, z, writer),
         Column::Text(text) => write_pieces(writer, &[b" '", text.as_bytes(), b"'"]),
+        Column::Branches(branches) => write_branches(branches, writer),
     }
 }
 

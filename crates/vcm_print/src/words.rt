@@ -34,5 +34,10 @@ pub(crate) fn word(op: &BorrowedOp<'_>) -> &'static [u8]
         Op::Obtain(_, _, _, _) => b"OBTAIN",
         Op::Output(_, _) => b"OUTPUT",
         Op::Text(_) => b"TEXT",
+        Op::Select(_, _, _) => b"SELECT",
+        Op::Case => b"CASE",
+        Op::EndCas(_) => b"ENDCAS",
+        Op::DftCas => b"DFTCAS",
+        Op::EndSel => b"ENDSEL",
     }
 }

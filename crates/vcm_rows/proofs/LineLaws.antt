@@ -2,9 +2,10 @@
 use Rattle.std.proofs.Common.{◌≡◌, ℕ, ◌^◌, true, List, [], ◌++◌, Some, refl, sym, ap, ◌∙◌, subst, arith}
 use Rattle.std.specs.List.{AllByRecursion}
 use Rattle.vcm_spec.specs.declared.expression.Item.{Item}
+use Rattle.vcm_code.specs.declared.version.Version.{Version}
 use Rattle.vcm_fields.specs.declared.word.Word.{Word}
 use Rattle.vcm_fields.specs.declared.word.Word.TheVariants as words
-use Rattle.vcm_code.specs.declared.op.Op.TheVariants.{EndFil, Goto, GoHome, Assign, If, Else, EndIf, Do, EndDo, Label, JumpTo, Feat, Meas, PtMeas, EndMes, SnSet, Trans, Rotate, Recall, Obtain, Output, Text}
+use Rattle.vcm_code.specs.declared.op.Op.TheVariants.{EndFil, Goto, GoHome, Assign, If, Else, EndIf, Do, EndDo, Label, JumpTo, Feat, Meas, PtMeas, EndMes, SnSet, Trans, Rotate, Recall, Obtain, Output, Text, Select, Case, EndCas, DftCas, EndSel}
 use Rattle.vcm_fields.specs.Parts.{Operation}
 use Rattle.vcm_fields.specs.Words.{word_of}
 use Rattle.vcm_fields.specs.Fitting.{FitThree, FitsOperation, FitsLine}
@@ -12,7 +13,8 @@ use Rattle.vcm_words.specs.inner.Marks.{IsWord}
 use Rattle.vcm_words.specs.Operands.{single, three, three_at, word_text, operands, operands_at, line, op_at, line_at}
 use Rattle.vcm_words.proofs.Inverse.{Reads, Ends, Bare, ends, some_is, reads_both, via_takes, via_again, ends_via, ends_both, ends_tag}
 use Rattle.vcm_words.proofs.ItemLaws.{reads_expression}
-use Rattle.vcm_words.proofs.PlaceLaws.{Any, IsPart, reads_number, reads_variable, reads_feature, reads_frame, reads_pair, reads_target, reads_quarter, reads_axis, reads_direction, reads_setting, reads_source, reads_turn, reads_part, reads_word}
+use Rattle.vcm_words.proofs.BranchLaws.{reads_branches}
+use Rattle.vcm_words.proofs.PlaceLaws.{Any, IsPart, Has, reads_number, reads_variable, reads_feature, reads_frame, reads_pair, reads_target, reads_quarter, reads_axis, reads_direction, reads_setting, reads_source, reads_turn, reads_part, reads_word}
 use Rattle.vcm_words.proofs.TextLaws.{ends_text}
 
 -- ---- operands
@@ -53,6 +55,11 @@ operands_take words.Recall ws x bare e = via_takes (ends reads_frame) Recall ope
 operands_take words.Obtain ws x bare e = via_takes (ends (reads_both reads_variable (reads_both reads_source (reads_both reads_feature reads_part)))) (λ o. Obtain o.0 o.1.0 o.1.1.0 o.1.1.1) operands (Of words.Obtain) (λ o h. refl) (λ o h. (refl, h)) ws x bare e
 operands_take words.Output ws x bare e = via_takes (ends (reads_both reads_source reads_feature)) (λ o. Output o.0 o.1) operands (Of words.Output) (λ o h. refl) (λ o h. (refl, h)) ws x bare e
 operands_take words.Text ws x bare e = via_takes ends_text Text operands (Of words.Text) (λ o h. refl) (λ o h. (refl, h)) ws x bare e
+operands_take words.Select ws x bare e = via_takes (ends (reads_both reads_expression (reads_both reads_branches reads_target))) (λ o. Select o.0 o.1.0 o.1.1) operands (Of words.Select) (λ o h. refl) (λ o h. (refl, h)) ws x bare e
+operands_take words.Case ws x bare e = subst (λ (y : Operation × List (List ℕ)). (ws ≡ operands y.0 ++ y.1) × Of words.Case y.0) (some_is (Case, ws) x e) (refl, (refl, tt))
+operands_take words.EndCas ws x bare e = via_takes (ends reads_target) EndCas operands (Of words.EndCas) (λ o h. refl) (λ o h. (refl, h)) ws x bare e
+operands_take words.DftCas ws x bare e = subst (λ (y : Operation × List (List ℕ)). (ws ≡ operands y.0 ++ y.1) × Of words.DftCas y.0) (some_is (DftCas, ws) x e) (refl, (refl, tt))
+operands_take words.EndSel ws x bare e = subst (λ (y : Operation × List (List ℕ)). (ws ≡ operands y.0 ++ y.1) × Of words.EndSel y.0) (some_is (EndSel, ws) x e) (refl, (refl, tt))
 
 operands_again : (o : Operation) → FitsOperation o → operands_at true (word_of o) (operands o ++ []) ≡ Some (o, [])
 unfolding operands_at Of Any IsPart FitsTriple
@@ -78,6 +85,11 @@ operands_again (Recall f) h = via_again (ends reads_frame) Recall f h
 operands_again (Obtain v source f word) h = via_again (ends (reads_both reads_variable (reads_both reads_source (reads_both reads_feature reads_part)))) (λ o. Obtain o.0 o.1.0 o.1.1.0 o.1.1.1) (v, (source, (f, word))) h
 operands_again (Output source f) h = via_again (ends (reads_both reads_source reads_feature)) (λ o. Output o.0 o.1) (source, f) h
 operands_again (Text bs) h = via_again ends_text Text bs h
+operands_again (Select e bs to) h = via_again (ends (reads_both reads_expression (reads_both reads_branches reads_target))) (λ o. Select o.0 o.1.0 o.1.1) (e, (bs, to)) h
+operands_again Case h = refl
+operands_again (EndCas to) h = via_again (ends reads_target) EndCas to h
+operands_again DftCas h = refl
+operands_again EndSel h = refl
 
 operands_words : (o : Operation) → FitsOperation o → AllByRecursion IsWord (operands o)
 unfolding Any IsPart FitsTriple
@@ -103,6 +115,11 @@ operands_words (Recall f) h = (ends reads_frame).words f h
 operands_words (Obtain v source f word) h = (ends (reads_both reads_variable (reads_both reads_source (reads_both reads_feature reads_part)))).words (v, (source, (f, word))) h
 operands_words (Output source f) h = (ends (reads_both reads_source reads_feature)).words (source, f) h
 operands_words (Text bs) h = ends_text.words bs h
+operands_words (Select e bs to) h = (ends (reads_both reads_expression (reads_both reads_branches reads_target))).words (e, (bs, to)) h
+operands_words Case h = tt
+operands_words (EndCas to) h = (ends reads_target).words to h
+operands_words DftCas h = tt
+operands_words EndSel h = tt
 
 ends_operands : (w : Word) → Ends (operands_at true w) operands (Of w)
 unfolding Of
@@ -114,14 +131,14 @@ ends_operands w = record {
 
 -- ---- statements
 
-FitsOp : Operation → Type 0
-FitsOp o = Any (word_of o) × FitsOperation o
+FitsOp : Version → Operation → Type 0
+FitsOp version o = Has version (word_of o) × FitsOperation o
 
-ends_op : Ends (op_at true) (λ o. single (word_text (word_of o)) ++ operands o) FitsOp
+ends_op : (version : Version) → Ends (op_at version true) (λ o. single (word_text (word_of o)) ++ operands o) (FitsOp version)
 unfolding op_at Of FitsOp
-ends_op = ends_tag reads_word word_of ends_operands
+ends_op version = ends_tag (reads_word version) word_of ends_operands
 
-pub ends_line : Ends (line_at true) line FitsLine
-unfolding line_at FitsOp Any
-ends_line = ends_via (ends_both (reads_number (2 ^ 32) (omega arith)) ends_op) (λ o. record { line = o.0; op = o.1 }) (λ s. (s.line, s.op)) line FitsLine
-    (λ o h. refl) (λ o h. (h.0, h.1.1)) (λ s h. (refl, refl, (h.0, (tt, h.1))))
+pub ends_line : (version : Version) → Ends (line_at version true) line (FitsLine version)
+unfolding line_at FitsOp Has
+ends_line version = ends_via (ends_both (reads_number (2 ^ 32) (omega arith)) (ends_op version)) (λ o. record { line = o.0; op = o.1 }) (λ s. (s.line, s.op)) line (FitsLine version)
+    (λ o h. refl) (λ o h. (h.1.0, (h.0, h.1.1))) (λ s h. (refl, refl, (h.1.0, (h.0, h.1.1))))

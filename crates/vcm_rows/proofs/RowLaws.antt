@@ -3,13 +3,15 @@ use Rattle.std.proofs.Common.{◌≡◌, ℕ, ◌<◌, ◌^◌, ◌==◌, ◌&&�
 use Rattle.std.specs.Prelude.{decimal, codes}
 use Rattle.std.specs.List.{AllByRecursion, list_all}
 use Rattle.std.specs.Char.{is_ascii_digit}
-use Rattle.std.proofs.lemmas.Bool.{eqb-true, and_parts}
+use Rattle.std.proofs.lemmas.Bool.{and_parts}
 use Rattle.std.proofs.lemmas.List.{append-nil}
 use Rattle.std.proofs.lemmas.Fmt.{decimal_nonempty}
 use Rattle.vcm_num.specs.Literals.{AllDigits}
 use Rattle.vcm_num.specs.declared.number.Kind.{Kind}
 use Rattle.vcm_num.specs.declared.number.Kind.TheVariants.{Int, Real, Bool as Truth}
 use Rattle.vcm_spec.specs.Setup.{Variable as Entry}
+use Rattle.vcm_code.specs.declared.version.Version.{Version}
+use Rattle.vcm_code.specs.declared.version.Version.TheVariants.{One, Two}
 use Rattle.vcm_expr.specs.NameBytes.{is_name_byte, is_name, IsName}
 use Rattle.vcm_expr.specs.Symbols.{is_variable_name, IsVariableName}
 use Rattle.vcm_expr.proofs.NameLemmas.{variable_name_is_name}
@@ -20,15 +22,15 @@ use Rattle.vcm_words.specs.declared.row.Heading.{Heading}
 use Rattle.vcm_words.specs.declared.row.Heading.TheVariants as headings
 use Rattle.vcm_words.specs.Cutting.{split, joined}
 use Rattle.vcm_words.specs.inner.Marks.{Without, IsWord}
-use Rattle.vcm_words.specs.Numbers.{number, counted, only_if}
+use Rattle.vcm_words.specs.Numbers.{only_if}
 use Rattle.vcm_num.specs.Words.{look_up}
-use Rattle.vcm_words.specs.WordReaders.{◌>>=◌, Reader, one, via, ended}
+use Rattle.vcm_words.specs.WordReaders.{Reader, one, via, ended}
 use Rattle.vcm_words.specs.Operands.{single, number_text, line}
-use Rattle.vcm_words.specs.Rows.{ListRow, kind_text, row_words, row_text, kind_rows, heading_rows, version_at, entry_at, indexed_at, numbered_at, row_after, row_at, row_of}
+use Rattle.vcm_words.specs.Rows.{ListRow, version_text, kind_text, row_words, row_text, kind_rows, heading_rows, version_rows, version_at, entry_at, indexed_at, numbered_at, row_after, row_at, row_of}
 use Rattle.vcm_words.specs.inner.Fitting.{FitsRow}
 use Rattle.vcm_words.proofs.Cuts.{joined-split, split-joined, split_without}
 use Rattle.vcm_words.proofs.Inverse.{Means, Reads, Ends, Bare, ends, bind_some, some_is, only_met, all_append, reads_one, reads_both, via_again, ends_via, ends_both}
-use Rattle.vcm_words.proofs.NumberLaws.{means_number, decimal_digits}
+use Rattle.vcm_words.proofs.NumberLaws.{decimal_digits}
 use Rattle.vcm_words.proofs.WordLaws.{means_named, named_takes}
 use Rattle.vcm_words.proofs.PlaceLaws.{Any, reads_number}
 use Rattle.vcm_rows.proofs.LineLaws.{ends_line}
@@ -94,27 +96,17 @@ no_heading (b ∷ bs) d h = rw (digit_isnt b 86 d.0 (omega arith), digit_isnt b 
 
 -- ---- lines
 
-IsOne : ℕ → Type 0
-IsOne n = n ≡ 1
+version_again : (v : Version) → Any v → look_up version_rows (version_text v) ≡ Some v
+version_again One h = refl
+version_again Two h = refl
 
-means_version : Means (λ w. number true 2 w >>= λ n. only_if (counted true (n == 1)) n) decimal IsOne
-unfolding IsOne
-means_version = record {
-  takes = λ w n e.
-      let m = means_number 2 (omega arith) in
-      let p = bind_some (number true 2 w) (λ k. only_if (counted true (k == 1)) k) n e in
-      let g = only_met (p.0 == 1) p.0 n p.2 in
-      let t = m.takes w p.0 p.1 in
-      (t.0 ∙ ap decimal g.1, sym g.1 ∙ eqb-true p.0 1 g.0);
-  again = λ n h.
-      let m = means_number 2 (omega arith) in
-      let same : (n == 1) ≡ true = grind arith in
-      rw (m.again n (omega (arith, h)), same) refl;
-  words = λ n h. let m = means_number 2 (omega arith) in m.words n (omega (arith, h));
-}
+version_words : (v : Version) → Any v → IsWord (version_text v)
+version_words One h = ((refl, tt), (refl, tt))
+version_words Two h = ((refl, tt), (refl, tt))
 
-ends_version : Ends (version_at true) number_text IsOne
-ends_version = ends (reads_one means_version)
+ends_version : Ends (version_at true) (λ v. single (version_text v)) Any
+unfolding Any
+ends_version = ends (reads_one (means_named version_text Any version_rows ((refl, tt), ((refl, tt), tt)) version_again version_words))
 
 FitsPair : ℕ × Entry → Type 0
 FitsPair o = (o.0 < 2 ^ 16) × FitsEntry o.1
@@ -133,12 +125,12 @@ ends_indexed : Ends (indexed_at true) (λ o. number_text o.0 ++ single o.1) Fits
 unfolding indexed_at FitsIndexed
 ends_indexed = ends (reads_both (reads_number (2 ^ 16) (omega arith)) (reads_one means_name))
 
-FitsNumbered : ℕ × Line → Type 0
-FitsNumbered o = (o.0 < 2 ^ 32) × FitsLine o.1
+FitsNumbered : Version → ℕ × Line → Type 0
+FitsNumbered version o = (o.0 < 2 ^ 32) × FitsLine version o.1
 
-ends_numbered : Ends (numbered_at true) (λ o. number_text o.0 ++ line o.1) FitsNumbered
+ends_numbered : (version : Version) → Ends (numbered_at version true) (λ o. number_text o.0 ++ line o.1) (FitsNumbered version)
 unfolding numbered_at FitsNumbered
-ends_numbered = ends_both (reads_number (2 ^ 32) (omega arith)) ends_line
+ends_numbered version = ends_both (reads_number (2 ^ 32) (omega arith)) (ends_line version)
 
 -- all of the words
 ended_takes : {A : Type 0} (o : Option (A × List (List ℕ))) (x : A) → ended o ≡ Some x → o ≡ Some (x, [])
@@ -159,51 +151,50 @@ whole_takes {A} {B} {a} {s} {P} r f ws y bare e =
 whole_again : {A B : Type 0} {a : Reader A} {s : A → List (List ℕ)} {P : A → Type 0} → Ends a s P → (f : A → B) (x : A) → P x → ended (via f a (s x)) ≡ Some (f x)
 whole_again {A} {B} {a} {s} {P} r f x h = ap (λ ws. ended (via f a ws)) (sym (append-nil (s x))) ∙ ap ended (via_again r f x h)
 
-Spelled : List (List ℕ) → ListRow → Type 0
-Spelled ws r = (ws ≡ row_words r) × FitsRow r
+Spelled : Version → List (List ℕ) → ListRow → Type 0
+Spelled version ws r = (ws ≡ row_words r) × FitsRow version r
 
 cons_is : {w v : List ℕ} {ws vs : List (List ℕ)} → w ≡ v → ws ≡ vs → w ∷ ws ≡ v ∷ vs
 cons_is {w} {v} {ws} {vs} e f = ap (λ u. u ∷ ws) e ∙ ap (λ us. v ∷ us) f
 
-after_takes : (o : Option Heading) (w : List ℕ) (ws : List (List ℕ)) (r : ListRow) → look_up heading_rows w ≡ o → Bare (w ∷ ws) → row_after true o w ws ≡ Some r → Spelled (w ∷ ws) r
-unfolding row_after Spelled IsOne FitsPair FitsIndexed FitsNumbered heading_text
-after_takes (Some headings.Head) w ws r n bare e =
-    let t = whole_takes ends_version (λ n. Head) ws r bare.1 e in
-    let one : ws ≡ number_text 1 = t.2 ∙ ap number_text t.3 in
-    subst (Spelled (w ∷ ws)) t.1 (cons_is (heading_takes w headings.Head n) one, tt)
-after_takes (Some headings.Variables) w ws r n bare e =
+after_takes : (version : Version) (o : Option Heading) (w : List ℕ) (ws : List (List ℕ)) (r : ListRow) → look_up heading_rows w ≡ o → Bare (w ∷ ws) → row_after version true o w ws ≡ Some r → Spelled version (w ∷ ws) r
+unfolding row_after Spelled FitsPair FitsIndexed FitsNumbered heading_text
+after_takes version (Some headings.Head) w ws r n bare e =
+    let t = whole_takes ends_version Head ws r bare.1 e in
+    subst (Spelled version (w ∷ ws)) t.1 (cons_is (heading_takes w headings.Head n) t.2, tt)
+after_takes version (Some headings.Variables) w ws r n bare e =
     let t = whole_takes ends_entry (λ o. Variable o.0 o.1) ws r bare.1 e in
-    subst (Spelled (w ∷ ws)) t.1 (cons_is (heading_takes w headings.Variables n) t.2, t.3)
-after_takes (Some headings.Features) w ws r n bare e =
+    subst (Spelled version (w ∷ ws)) t.1 (cons_is (heading_takes w headings.Variables n) t.2, t.3)
+after_takes version (Some headings.Features) w ws r n bare e =
     let t = whole_takes ends_indexed (λ o. Feature o.0 o.1) ws r bare.1 e in
-    subst (Spelled (w ∷ ws)) t.1 (cons_is (heading_takes w headings.Features n) t.2, t.3)
-after_takes (Some headings.Frames) w ws r n bare e =
+    subst (Spelled version (w ∷ ws)) t.1 (cons_is (heading_takes w headings.Features n) t.2, t.3)
+after_takes version (Some headings.Frames) w ws r n bare e =
     let t = whole_takes ends_indexed (λ o. Frame o.0 o.1) ws r bare.1 e in
-    subst (Spelled (w ∷ ws)) t.1 (cons_is (heading_takes w headings.Frames n) t.2, t.3)
-after_takes None w ws r n bare e =
-    let t = whole_takes ends_numbered (λ o. Numbered o.0 o.1) (w ∷ ws) r bare e in
-    subst (Spelled (w ∷ ws)) t.1 (t.2, t.3)
+    subst (Spelled version (w ∷ ws)) t.1 (cons_is (heading_takes w headings.Frames n) t.2, t.3)
+after_takes version None w ws r n bare e =
+    let t = whole_takes (ends_numbered version) (λ o. Numbered o.0 o.1) (w ∷ ws) r bare e in
+    subst (Spelled version (w ∷ ws)) t.1 (t.2, t.3)
 
-at_takes : (ws : List (List ℕ)) (r : ListRow) → Bare ws → row_at true ws ≡ Some r → Spelled ws r
-at_takes [] r bare e = absurd cc
-at_takes (w ∷ ws) r bare e = after_takes (look_up heading_rows w) w ws r refl bare e
+at_takes : (version : Version) (ws : List (List ℕ)) (r : ListRow) → Bare ws → row_at version true ws ≡ Some r → Spelled version ws r
+at_takes version [] r bare e = absurd cc
+at_takes version (w ∷ ws) r bare e = after_takes version (look_up heading_rows w) w ws r refl bare e
 
 -- what is read is spelled so
-pub row_takes : (bytes : List ℕ) (r : ListRow) → row_of true bytes ≡ Some r → (bytes ≡ row_text r) × FitsRow r
+pub row_takes : (version : Version) (bytes : List ℕ) (r : ListRow) → row_of version true bytes ≡ Some r → (bytes ≡ row_text r) × FitsRow version r
 unfolding row_of row_text Spelled
-row_takes bytes r e =
-    let t = at_takes (split 32 bytes) r (split_without 32 bytes) e in
+row_takes version bytes r e =
+    let t = at_takes version (split 32 bytes) r (split_without 32 bytes) e in
     (sym (joined-split 32 bytes) ∙ ap (joined 32) t.0, t.1)
 
-at_again : (r : ListRow) → FitsRow r → row_at true (row_words r) ≡ Some r
-unfolding row_after IsOne FitsPair FitsIndexed FitsNumbered
-at_again Head h = whole_again ends_version (λ n. Head) 1 refl
-at_again (Variable i v) h = whole_again ends_entry (λ o. Variable o.0 o.1) (i, v) h
-at_again (Feature i name) h = whole_again ends_indexed (λ o. Feature o.0 o.1) (i, name) h
-at_again (Frame i name) h = whole_again ends_indexed (λ o. Frame o.0 o.1) (i, name) h
-at_again (Numbered n s) h =
+at_again : (version : Version) (r : ListRow) → FitsRow version r → row_at version true (row_words r) ≡ Some r
+unfolding row_after FitsPair FitsIndexed FitsNumbered Any
+at_again version (Head v) h = whole_again ends_version Head v tt
+at_again version (Variable i v) h = whole_again ends_entry (λ o. Variable o.0 o.1) (i, v) h
+at_again version (Feature i name) h = whole_again ends_indexed (λ o. Feature o.0 o.1) (i, name) h
+at_again version (Frame i name) h = whole_again ends_indexed (λ o. Frame o.0 o.1) (i, name) h
+at_again version (Numbered n s) h =
     let small : n < 2 ^ 64 = omega (arith, h.0) in
-    rw (no_heading (decimal n) (decimal_digits n small) (decimal_nonempty n small)) (whole_again ends_numbered (λ o. Numbered o.0 o.1) (n, s) h)
+    rw (no_heading (decimal n) (decimal_digits n small) (decimal_nonempty n small)) (whole_again (ends_numbered version) (λ o. Numbered o.0 o.1) (n, s) h)
 
 heading_word : (x : Heading) → IsWord (heading_text x)
 unfolding heading_text
@@ -212,13 +203,13 @@ heading_word headings.Variables = ((refl, (refl, (refl, tt))), (refl, (refl, (re
 heading_word headings.Features = ((refl, (refl, (refl, (refl, (refl, (refl, (refl, tt))))))), (refl, (refl, (refl, (refl, (refl, (refl, (refl, tt))))))))
 heading_word headings.Frames = ((refl, (refl, (refl, (refl, (refl, tt))))), (refl, (refl, (refl, (refl, (refl, tt))))))
 
-row_are_words : (r : ListRow) → FitsRow r → AllByRecursion IsWord (row_words r)
-unfolding IsOne FitsPair FitsIndexed FitsNumbered heading_text
-row_are_words Head h = (heading_word headings.Head, ends_version.words 1 refl)
-row_are_words (Variable i v) h = (heading_word headings.Variables, ends_entry.words (i, v) h)
-row_are_words (Feature i name) h = (heading_word headings.Features, ends_indexed.words (i, name) h)
-row_are_words (Frame i name) h = (heading_word headings.Frames, ends_indexed.words (i, name) h)
-row_are_words (Numbered n s) h = ends_numbered.words (n, s) h
+row_are_words : (version : Version) (r : ListRow) → FitsRow version r → AllByRecursion IsWord (row_words r)
+unfolding FitsPair FitsIndexed FitsNumbered heading_text Any
+row_are_words version (Head v) h = (heading_word headings.Head, ends_version.words v tt)
+row_are_words version (Variable i v) h = (heading_word headings.Variables, ends_entry.words (i, v) h)
+row_are_words version (Feature i name) h = (heading_word headings.Features, ends_indexed.words (i, name) h)
+row_are_words version (Frame i name) h = (heading_word headings.Frames, ends_indexed.words (i, name) h)
+row_are_words version (Numbered n s) h = (ends_numbered version).words (n, s) h
 
 all_left : (ws : List (List ℕ)) → AllByRecursion IsWord ws → AllByRecursion (Without 32) ws
 all_left [] h = tt
@@ -234,18 +225,18 @@ cut_again [] l h = absurd (omega arith)
 cut_again (w ∷ ws) l h = split-joined 32 w ws (all_left (w ∷ ws) h)
 
 row_some : (r : ListRow) → 0 < length (row_words r)
-row_some Head = omega arith
+row_some (Head v) = omega arith
 row_some (Variable i v) = omega arith
 row_some (Feature i name) = omega arith
 row_some (Frame i name) = omega arith
 row_some (Numbered n s) = omega arith
 
 -- what is spelled so is read again
-pub row_again : (r : ListRow) → FitsRow r → row_of true (row_text r) ≡ Some r
+pub row_again : (version : Version) (r : ListRow) → FitsRow version r → row_of version true (row_text r) ≡ Some r
 unfolding row_of row_text
-row_again r h = ap (row_at true) (cut_again (row_words r) (row_some r) (row_are_words r h)) ∙ at_again r h
+row_again version r h = ap (row_at version true) (cut_again (row_words r) (row_some r) (row_are_words version r h)) ∙ at_again version r h
 
 -- a line has no end in it
-pub row_plain : (r : ListRow) → FitsRow r → Without 10 (row_text r)
+pub row_plain : (version : Version) (r : ListRow) → FitsRow version r → Without 10 (row_text r)
 unfolding row_text
-row_plain r h = joined_plain (row_words r) (row_are_words r h)
+row_plain version r h = joined_plain (row_words r) (row_are_words version r h)

@@ -1,14 +1,15 @@
 //! The words of statements.
 
 ghost use Rattle.std.specs.Prelude.{◌≡◌};
-ghost use Rattle.vcm_words.specs.Operands.{word_at};
+ghost use Rattle.vcm_words.specs.Operands.{any_word_at, word_at};
 
-use vcm_fields::Word;
+use vcm_code::Version;
+use vcm_fields::{Word, has_word};
 use vcm_words::{Words, table_word};
 
-/// The word of a statement, and the words behind it.
-pub(crate) fn kind<'a>(words: &Words<'a>) -> Option<(Word, Words<'a>)>
-    ensures { result ≡ word_at words.now }
+// The word of a statement of any version, and the words behind it.
+fn any_kind<'a>(words: &Words<'a>) -> Option<(Word, Words<'a>)>
+    ensures { result ≡ any_word_at words.now }
 {
     table_word(
         &[
@@ -34,7 +35,24 @@ pub(crate) fn kind<'a>(words: &Words<'a>) -> Option<(Word, Words<'a>)>
             (b"OBTAIN", Word::Obtain),
             (b"OUTPUT", Word::Output),
             (b"TEXT", Word::Text),
+            (b"SELECT", Word::Select),
+            (b"CASE", Word::Case),
+            (b"ENDCAS", Word::EndCas),
+            (b"DFTCAS", Word::DftCas),
+            (b"ENDSEL", Word::EndSel),
         ],
         words,
     )
+}
+
+/// The word of a statement that the version has, and the words behind it.
+pub(crate) fn kind<'a>(version: Version, words: &Words<'a>) -> Option<(Word, Words<'a>)>
+    ensures { result ≡ word_at version words.now }
+{
+    let (word, rest) = any_kind(words)?;
+    if has_word(version, word) {
+        Some((word, rest))
+    } else {
+        None
+    }
 }

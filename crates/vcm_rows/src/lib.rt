@@ -1,4 +1,4 @@
-//! The lines of listings, read in place.
+//! The lines of listings of a version, read in place.
 #![tactic(auto)]
 
 mod kinds;

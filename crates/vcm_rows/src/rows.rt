@@ -1,37 +1,42 @@
 //! The lines of a listing.
 
 ghost use Rattle.std.specs.Prelude.{◌≡◌, ◌∷◌, [], ℕ, List, Some, None, true, false};
+ghost use Rattle.vcm_code.specs.declared.version.Version.{Version as VersionOf};
 ghost use Rattle.vcm_words.specs.declared.row.Heading.TheVariants as headings;
 ghost use Rattle.vcm_num.specs.Words.{look_up};
-ghost use Rattle.vcm_words.specs.Rows.{heading_rows, version_at, numbered_at, row_after, row_of};
+ghost use Rattle.vcm_words.specs.Rows.{heading_rows, version_in, numbered_at, row_after, row_of};
 
 use crate::names::{entry, indexed};
 use crate::statements::{BorrowedStatement, line};
+use vcm_code::Version;
 use vcm_num::look_up;
-use vcm_words::{Heading, ItemWords, Row, TextWords, Words, count, small};
+use vcm_words::{BranchWords, Heading, ItemWords, Row, TextWords, Words, count};
 
 /// A line of a listing.
-pub type BorrowedRow<'a> = Row<ItemWords<'a>, TextWords<'a>>;
+pub type BorrowedRow<'a> = Row<ItemWords<'a>, TextWords<'a>, BranchWords<'a>>;
 
-// The number of the form, which is 1, and the words behind it.
-fn version<'a>(exact: bool, words: &Words<'a>) -> Option<(u8, Words<'a>)>
-    ensures { result ≡ version_at exact words.now }
+// The version with this number, or any in its place.
+fn version(exact: bool, word: &[u8]) -> Option<Version>
+    ensures { result ≡ version_in exact word.now }
 {
-    let (word, rest) = words.split_first()?;
-    let number = small(exact, 2, word)?;
-    if exact && number != 1 {
-        return None;
+    if exact {
+        look_up(&[(b"1", Version::One), (b"2", Version::Two)], word)
+    } else {
+        Some(Version::One)
     }
-    Some((number, rest))
 }
 
-// A statement with its number, and the words behind it.
+// A statement of a version with its number, and the words behind it.
 #[tactic(auto, unfolding(vcm_words::specs::Rows::numbered_at))]
-fn numbered<'a>(exact: bool, words: &Words<'a>) -> Option<((u32, BorrowedStatement<'a>), Words<'a>)>
-    ensures { result ≡ numbered_at exact words.now }
+fn numbered<'a>(
+    version: Version,
+    exact: bool,
+    words: &Words<'a>,
+) -> Option<((u32, BorrowedStatement<'a>), Words<'a>)>
+    ensures { result ≡ numbered_at version exact words.now }
 {
     let (number, rest) = count(exact, words)?;
-    let (statement, rest) = line(exact, &rest)?;
+    let (statement, rest) = line(version, exact, &rest)?;
     Some(((number, statement), rest))
 }
 
@@ -64,16 +69,21 @@ fn is_end(words: &Words<'_>) -> bool
 // The first line, behind its word.
 #[tactic(auto, unfolding(vcm_words::specs::Rows::row_after))]
 fn head<'a>(exact: bool, word: &[u8], words: &Words<'a>) -> Option<BorrowedRow<'a>>
-    ensures { result ≡ row_after exact (Some headings.Head) word.now words.now }
+    ensures { (v : VersionOf) → result ≡ row_after v exact (Some headings.Head) word.now words.now }
 {
-    let (_number, rest) = version(exact, words)?;
-    if is_end(&rest) { Some(Row::Head) } else { None }
+    let (number, rest) = words.split_first()?;
+    let version = version(exact, number)?;
+    if is_end(&rest) {
+        Some(Row::Head(version))
+    } else {
+        None
+    }
 }
 
 // A variable's line, behind its word.
 #[tactic(auto, unfolding(vcm_words::specs::Rows::row_after))]
 fn variable<'a>(exact: bool, word: &[u8], words: &Words<'a>) -> Option<BorrowedRow<'a>>
-    ensures { result ≡ row_after exact (Some headings.Variables) word.now words.now }
+    ensures { (v : VersionOf) → result ≡ row_after v exact (Some headings.Variables) word.now words.now }
 {
     let ((index, variable), rest) = entry(exact, words)?;
     if is_end(&rest) {
@@ -86,7 +96,7 @@ fn variable<'a>(exact: bool, word: &[u8], words: &Words<'a>) -> Option<BorrowedR
 // A feature's line, behind its word.
 #[tactic(auto, unfolding(vcm_words::specs::Rows::row_after))]
 fn feature<'a>(exact: bool, word: &[u8], words: &Words<'a>) -> Option<BorrowedRow<'a>>
-    ensures { result ≡ row_after exact (Some headings.Features) word.now words.now }
+    ensures { (v : VersionOf) → result ≡ row_after v exact (Some headings.Features) word.now words.now }
 {
     let ((index, name), rest) = indexed(exact, words)?;
     if is_end(&rest) {
@@ -99,7 +109,7 @@ fn feature<'a>(exact: bool, word: &[u8], words: &Words<'a>) -> Option<BorrowedRo
 // A frame's line, behind its word.
 #[tactic(auto, unfolding(vcm_words::specs::Rows::row_after))]
 fn frame<'a>(exact: bool, word: &[u8], words: &Words<'a>) -> Option<BorrowedRow<'a>>
-    ensures { result ≡ row_after exact (Some headings.Frames) word.now words.now }
+    ensures { (v : VersionOf) → result ≡ row_after v exact (Some headings.Frames) word.now words.now }
 {
     let ((index, name), rest) = indexed(exact, words)?;
     if is_end(&rest) {
@@ -109,12 +119,12 @@ fn frame<'a>(exact: bool, word: &[u8], words: &Words<'a>) -> Option<BorrowedRow<
     }
 }
 
-// A statement's line.
+// The line of a statement of a version.
 #[tactic(auto, unfolding(vcm_words::specs::Rows::row_after))]
-fn statement<'a>(exact: bool, words: &Words<'a>) -> Option<BorrowedRow<'a>>
-    ensures { (w : List ℕ) (ws : List (List ℕ)) → words.now ≡ w ∷ ws → result ≡ row_after exact None w ws }
+fn statement<'a>(version: Version, exact: bool, words: &Words<'a>) -> Option<BorrowedRow<'a>>
+    ensures { (w : List ℕ) (ws : List (List ℕ)) → words.now ≡ w ∷ ws → result ≡ row_after version exact None w ws }
 {
-    let ((number, statement), rest) = numbered(exact, words)?;
+    let ((number, statement), rest) = numbered(version, exact, words)?;
     if is_end(&rest) {
         Some(Row::Numbered(number, statement))
     } else {
@@ -122,10 +132,10 @@ fn statement<'a>(exact: bool, words: &Words<'a>) -> Option<BorrowedRow<'a>>
     }
 }
 
-/// A line, without its end; read exactly, or for its shape alone: then anything stands for a number.
+/// A line of a listing of this version, without its end; read exactly, or for its shape alone: then anything stands for a number.
 #[tactic(auto, unfolding(vcm_words::specs::Rows::row_of))]
-pub fn row<'a>(exact: bool, line: &'a [u8]) -> Option<BorrowedRow<'a>>
-    ensures { result ≡ row_of exact line.now }
+pub fn row<'a>(version: Version, exact: bool, line: &'a [u8]) -> Option<BorrowedRow<'a>>
+    ensures { result ≡ row_of version exact line.now }
 {
     let words = Words::new(line);
     let (first, after) = words.split_first()?;
@@ -134,6 +144,6 @@ pub fn row<'a>(exact: bool, line: &'a [u8]) -> Option<BorrowedRow<'a>>
         Some(Heading::Variables) => variable(exact, first, &after),
         Some(Heading::Features) => feature(exact, first, &after),
         Some(Heading::Frames) => frame(exact, first, &after),
-        None => statement(exact, &words),
+        None => statement(version, exact, &words),
     }
 }

@@ -1,23 +1,23 @@
-//! The statements of a listing, whose items and texts are words of their lines. Each is read exactly, or for its shape alone: then anything
-//! stands for a number.
+//! The statements of a listing, whose items, texts and branches are words of their lines. Each is read exactly, or for its shape alone: then
+//! anything stands for a number.
 
 ghost use Rattle.std.specs.Prelude.{◌≡◌};
 ghost use Rattle.vcm_fields.specs.declared.word.Word.TheVariants as kinds;
 ghost use Rattle.vcm_words.specs.Operands.{three_at, operands_at, op_at, line_at};
 
 use crate::kinds::kind;
-use vcm_code::{Op, Statement};
+use vcm_code::{Op, Statement, Version};
 use vcm_fields::Word;
 use vcm_words::{
-    ItemWords, TextWords, Words, axis, count, direction, expression, lettered, pair, part,
-    quarters, setting, source, target, text, turn,
+    BranchWords, ItemWords, TextWords, Words, axis, branches, count, direction, expression,
+    lettered, pair, part, quarters, setting, source, target, text, turn,
 };
 
 /// What a statement of a listing does.
-pub type BorrowedOp<'a> = Op<ItemWords<'a>, TextWords<'a>>;
+pub type BorrowedOp<'a> = Op<ItemWords<'a>, TextWords<'a>, BranchWords<'a>>;
 
 /// A statement of a listing.
-pub type BorrowedStatement<'a> = Statement<ItemWords<'a>, TextWords<'a>>;
+pub type BorrowedStatement<'a> = Statement<ItemWords<'a>, TextWords<'a>, BranchWords<'a>>;
 
 // Three expressions.
 type Triple<'a> = (ItemWords<'a>, (ItemWords<'a>, ItemWords<'a>));
@@ -207,6 +207,26 @@ fn printed<'a>(exact: bool, words: &Words<'a>) -> Option<(BorrowedOp<'a>, Words<
     Some((Op::Text(bytes), rest))
 }
 
+// The operands of SELECT.
+#[tactic(auto, unfolding(vcm_words::specs::Operands::operands_at))]
+fn selection<'a>(exact: bool, words: &Words<'a>) -> Option<(BorrowedOp<'a>, Words<'a>)>
+    ensures { result ≡ operands_at exact kinds.Select words.now }
+{
+    let (value, rest) = expression(exact, words)?;
+    let (branches, rest) = branches(exact, &rest)?;
+    let (to, rest) = target(exact, &rest)?;
+    Some((Op::Select(value, branches, to), rest))
+}
+
+// The operands of ENDCAS.
+#[tactic(auto, unfolding(vcm_words::specs::Operands::operands_at))]
+fn case_end<'a>(exact: bool, words: &Words<'a>) -> Option<(BorrowedOp<'a>, Words<'a>)>
+    ensures { result ≡ operands_at exact kinds.EndCas words.now }
+{
+    let (to, rest) = target(exact, words)?;
+    Some((Op::EndCas(to), rest))
+}
+
 // The operands behind a word.
 #[tactic(auto, unfolding(vcm_words::specs::Operands::operands_at))]
 fn operands<'a>(exact: bool, word: Word, words: &Words<'a>) -> Option<(BorrowedOp<'a>, Words<'a>)>
@@ -235,24 +255,33 @@ fn operands<'a>(exact: bool, word: Word, words: &Words<'a>) -> Option<(BorrowedO
         Word::Obtain => obtain(exact, words),
         Word::Output => output(exact, words),
         Word::Text => printed(exact, words),
+        Word::Select => selection(exact, words),
+        Word::Case => Some((Op::Case, words.again())),
+        Word::EndCas => case_end(exact, words),
+        Word::DftCas => Some((Op::DftCas, words.again())),
+        Word::EndSel => Some((Op::EndSel, words.again())),
     }
 }
 
-// The word of a statement and its operands.
+// The word of a statement of a version and its operands.
 #[tactic(auto, unfolding(vcm_words::specs::Operands::op_at))]
-fn op<'a>(exact: bool, words: &Words<'a>) -> Option<(BorrowedOp<'a>, Words<'a>)>
-    ensures { result ≡ op_at exact words.now }
+fn op<'a>(version: Version, exact: bool, words: &Words<'a>) -> Option<(BorrowedOp<'a>, Words<'a>)>
+    ensures { result ≡ op_at version exact words.now }
 {
-    let (word, rest) = kind(words)?;
+    let (word, rest) = kind(version, words)?;
     operands(exact, word, &rest)
 }
 
-/// A statement behind its number: its source line, its word and its operands; and the words behind it.
+/// A statement of a version behind its number: its source line, its word and its operands; and the words behind it.
 #[tactic(auto, unfolding(vcm_words::specs::Operands::line_at))]
-pub(crate) fn line<'a>(exact: bool, words: &Words<'a>) -> Option<(BorrowedStatement<'a>, Words<'a>)>
-    ensures { result ≡ line_at exact words.now }
+pub(crate) fn line<'a>(
+    version: Version,
+    exact: bool,
+    words: &Words<'a>,
+) -> Option<(BorrowedStatement<'a>, Words<'a>)>
+    ensures { result ≡ line_at version exact words.now }
 {
     let (line, rest) = count(exact, words)?;
-    let (op, rest) = op(exact, &rest)?;
+    let (op, rest) = op(version, exact, &rest)?;
     Some((Statement { line, op }, rest))
 }

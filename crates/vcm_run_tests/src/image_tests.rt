@@ -69,7 +69,7 @@ fn refusals_of_reading(rt: HostRuntime) {
     assert!(rt; longer(rt.alloc()) == Some(ImageFault::Trailing));
     for (place, byte, fault) in [
         (0, 0x57, ImageFault::BadMagic),
-        (4, 2, ImageFault::BadVersion),
+        (4, 3, ImageFault::BadVersion),
         (12, 1, ImageFault::Trailing),
         (12, 3, ImageFault::Short),
         (16, 22, ImageFault::BadField),

@@ -29,7 +29,7 @@ fn refusal(alloc: Global, listing: &str) -> Option<ListFault> {
 }
 
 // Listings that are refused, with this code at this line.
-const REFUSED: [(&str, ListCode, u32); 15] = [
+const REFUSED: [(&str, ListCode, u32); 19] = [
     (
         "VCM-LISTING 1\n0 3 GOTO [I020 SCALE] [I20 SCALE] [I50 SCALE]\n1 4 ENDFIL\n",
         ListCode::BadNumber,
@@ -71,7 +71,23 @@ const REFUSED: [(&str, ListCode, u32); 15] = [
         3,
     ),
     ("", ListCode::BadLine, 1),
-    ("VCM-LISTING 2\n0 3 ENDFIL\n", ListCode::BadNumber, 1),
+    ("VCM-LISTING 3\n0 3 ENDFIL\n", ListCode::BadNumber, 1),
+    ("VCM-LISTING 0\n0 3 ENDFIL\n", ListCode::BadNumber, 1),
+    (
+        "VCM-LISTING 1\n0 3 SELECT [I5] {} @1\n1 4 ENDSEL\n2 5 ENDFIL\n",
+        ListCode::BadLine,
+        2,
+    ),
+    (
+        "VCM-LISTING 2\n0 3 SELECT [I5] { } @1\n1 4 ENDSEL\n2 5 ENDFIL\n",
+        ListCode::BadLine,
+        2,
+    ),
+    (
+        "VCM-LISTING 2\n0 3 SELECT [I5] {1@03} @1\n1 4 ENDSEL\n2 5 ENDFIL\n",
+        ListCode::BadNumber,
+        2,
+    ),
     ("VCM-LISTING 1\n1 x ENDFIL more\n", ListCode::BadLine, 2),
     ("VCM-LISTING 1\n1 03 ENDFIL\n", ListCode::BadNumber, 2),
     (

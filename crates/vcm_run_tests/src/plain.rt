@@ -1,6 +1,9 @@
 //! A plain reader of images, which shares nothing with the product's: which refusal bytes are to get, by its number, or none.
 
-use crate::plain_items::{byte, byte_within, count, has_kind, items_of, long, name, short, text};
+use crate::plain_items::{
+    byte, byte_within, count, eight, has_kind, items_of, long, name, short, text,
+};
+use crate::plain_parts::{PARTS, Part};
 use std::alloc::Global;
 
 // The kinds of the variables, and how many features, frames and statements there are.
@@ -81,70 +84,20 @@ fn target<'a>(bytes: &'a [u8], judged: Option<&Counts>) -> Result<&'a [u8], u8> 
     }
 }
 
+// How many branches there are, and a value and a target for each.
+fn branches<'a>(bytes: &'a [u8], judged: Option<&Counts>) -> Result<&'a [u8], u8> {
+    let (number, mut rest) = count(bytes, 20_000)?;
+    for _ in 0..number {
+        rest = target(eight(rest)?, judged)?;
+    }
+    Ok(rest)
+}
+
 // A variable, and an expression of its kind.
 fn assigned<'a>(alloc: Global, bytes: &'a [u8], judged: Option<&Counts>) -> Result<&'a [u8], u8> {
     let (kind, rest) = variable(bytes, judged, None)?;
     expression(alloc, rest, judged, kind)
 }
-
-// A part of a statement's operands. The kinds are 0 a whole number, 1 a real number, 2 a truth value.
-#[derive(Clone, Copy)]
-enum Part {
-    // A variable, and an expression of its kind.
-    Assigned,
-    // A byte from one number to another.
-    Byte(u8, u8),
-    // An expression of a kind.
-    Expression(u8),
-    Feature,
-    Frame,
-    Target,
-    Text,
-    // A variable of a kind.
-    Variable(u8),
-}
-
-const REAL: Part = Part::Expression(1);
-
-const WHOLE: Part = Part::Expression(0);
-
-// The parts of each kind of statements.
-const PARTS: [&[Part]; 22] = [
-    &[],
-    &[REAL, REAL, REAL],
-    &[],
-    &[Part::Assigned],
-    &[Part::Expression(2), Part::Target],
-    &[Part::Target],
-    &[],
-    &[
-        Part::Variable(0),
-        Part::Byte(0, 31),
-        WHOLE,
-        WHOLE,
-        WHOLE,
-        Part::Target,
-    ],
-    &[Part::Variable(0), Part::Byte(0, 31), Part::Target],
-    &[],
-    &[Part::Target],
-    &[Part::Feature, REAL, REAL, REAL, Part::Byte(0, 5)],
-    &[Part::Feature],
-    &[Part::Feature, REAL, REAL, REAL, Part::Byte(0, 6)],
-    &[],
-    &[Part::Byte(0, 3), REAL],
-    &[Part::Frame, REAL, REAL, REAL],
-    &[Part::Frame, Part::Byte(0, 2), Part::Byte(0, 3)],
-    &[Part::Frame],
-    &[
-        Part::Variable(1),
-        Part::Byte(0, 1),
-        Part::Feature,
-        Part::Byte(3, 8),
-    ],
-    &[Part::Byte(0, 1), Part::Feature],
-    &[Part::Text],
-];
 
 // The bytes behind a part.
 fn judge_part<'a>(
@@ -155,6 +108,7 @@ fn judge_part<'a>(
 ) -> Result<&'a [u8], u8> {
     match part {
         Part::Assigned => assigned(alloc, bytes, judged),
+        Part::Branches => branches(bytes, judged),
         Part::Byte(least, most) => byte_within(bytes, least, most),
         Part::Expression(kind) => expression(alloc, bytes, judged, kind),
         Part::Feature => index(bytes, judged, true),
@@ -195,17 +149,18 @@ fn operands<'a>(
     }
 }
 
-// So many statements: whether the last one is ENDFIL, and the bytes behind them.
+// So many statements of kinds up to the last one: whether the last statement is ENDFIL, and the bytes behind them.
 fn statements<'a>(
     alloc: Global,
     number: u32,
+    last_kind: u8,
     bytes: &'a [u8],
     judged: Option<&Counts>,
 ) -> Result<(bool, &'a [u8]), u8> {
     let mut rest = bytes;
     let mut is_end = false;
     for _ in 0..number {
-        let (kind, after) = byte(rest, 21)?;
+        let (kind, after) = byte(rest, last_kind)?;
         let (_, after) = long(after)?;
         rest = operands(alloc, kind, after, judged)?;
         is_end = kind == 0;
@@ -238,27 +193,30 @@ fn kinds(alloc: Global, number: u32, bytes: &[u8]) -> Result<(Vec<u8>, &[u8]), u
 // How many variables, features, frames and statements there are.
 #[derive(Clone, Copy)]
 struct Header {
+    last_kind: u8,
     variables: u32,
     features: u32,
     frames: u32,
     statements: u32,
 }
 
-// The bytes behind the magic bytes and the version.
-fn opened(bytes: &[u8]) -> Result<&[u8], u8> {
+// The last kind of statements of the image's version, and the bytes behind the magic bytes and the version.
+fn opened(bytes: &[u8]) -> Result<(u8, &[u8]), u8> {
     let (magic, rest) = long(bytes)?;
     if magic != u32::from_le_bytes(*b"VCMI") {
         return Err(1);
     }
     match short(rest)? {
-        (1, rest) => Ok(rest),
+        (1, rest) => Ok((21, rest)),
+        (2, rest) => Ok((26, rest)),
         _ => Err(3),
     }
 }
 
 // The header, and the bytes behind it.
 fn read_header(bytes: &[u8]) -> Result<(Header, &[u8]), u8> {
-    let (variables, rest) = count(opened(bytes)?, 4096)?;
+    let (last_kind, rest) = opened(bytes)?;
+    let (variables, rest) = count(rest, 4096)?;
     let (features, rest) = count(rest, 4096)?;
     let (frames, rest) = count(rest, 4096)?;
     let (statements, rest) = long(rest)?;
@@ -266,6 +224,7 @@ fn read_header(bytes: &[u8]) -> Result<(Header, &[u8]), u8> {
         return Err(4);
     }
     let header = Header {
+        last_kind,
         variables,
         features,
         frames,
@@ -275,13 +234,13 @@ fn read_header(bytes: &[u8]) -> Result<(Header, &[u8]), u8> {
 }
 
 // Whether what stands behind the variables is in order.
-fn judged_behind(alloc: Global, counts: &Counts, bytes: &[u8]) -> Result<(), u8> {
+fn judged_behind(alloc: Global, counts: &Counts, last_kind: u8, bytes: &[u8]) -> Result<(), u8> {
     let body = names(counts.frames, names(counts.features, bytes)?)?;
-    let (_, rest) = statements(alloc, counts.statements, body, None)?;
+    let (_, rest) = statements(alloc, counts.statements, last_kind, body, None)?;
     if !rest.is_empty() {
         return Err(5);
     }
-    let (is_end, _) = statements(alloc, counts.statements, body, Some(counts))?;
+    let (is_end, _) = statements(alloc, counts.statements, last_kind, body, Some(counts))?;
     if is_end { Ok(()) } else { Err(9) }
 }
 
@@ -295,5 +254,5 @@ pub(crate) fn judged(alloc: Global, bytes: &[u8]) -> Result<(), u8> {
         frames: header.frames,
         statements: header.statements,
     };
-    judged_behind(alloc, &counts, rest)
+    judged_behind(alloc, &counts, header.last_kind, rest)
 }

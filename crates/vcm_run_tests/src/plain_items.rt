@@ -36,7 +36,7 @@ pub(crate) fn long(bytes: &[u8]) -> Result<(u32, &[u8]), u8> {
 }
 
 // Eight bytes, of any value.
-fn eight(bytes: &[u8]) -> Result<&[u8], u8> {
+pub(crate) fn eight(bytes: &[u8]) -> Result<&[u8], u8> {
     bytes.get(8..).ok_or(2)
 }
 

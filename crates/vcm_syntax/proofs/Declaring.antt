@@ -14,11 +14,12 @@ use Rattle.vcm_syntax.specs.declared.statement.Form.TheVariants.{Opening, Measur
 use Rattle.vcm_syntax.specs.declared.statement.Form.TheVariants.{Test, Otherwise, TestEnd, Repeat, RepeatEnd, Mark, Leap, Ending}
 use Rattle.vcm_syntax.specs.declared.statement.Form.TheVariants.{Feature, Measure, Touch, MeasureEnd, Configure, Shift}
 use Rattle.vcm_syntax.specs.declared.statement.Form.TheVariants.{Rotation, Restore, Query, Report, Macro, MacroEnd, Call}
+use Rattle.vcm_syntax.specs.declared.statement.Form.TheVariants.{Choose, Case, CaseEnd, Default, ChooseEnd}
 use Rattle.vcm_syntax.specs.Readers.{end_of, field, some_field, each_of}
 use Rattle.vcm_syntax.specs.Majors.{prefix_of, major_of}
 use Rattle.vcm_syntax.specs.Places.{bare_of, titled_of, target_of, word_of, kind_of, setting_of, axis_of, system_of, unscoped, lengths_in, quoted_of, message_of}
 use Rattle.vcm_syntax.specs.Places.{unused_of, variable_of, index_of, aim_of, named_of, source_of, test_of, spot_of}
-use Rattle.vcm_syntax.specs.Figures.{vector_of, angle_of, feature_word_of, one_of}
+use Rattle.vcm_syntax.specs.Figures.{integer_of, vector_of, angle_of, feature_word_of, one_of}
 use Rattle.vcm_syntax.specs.Measuring.{offsets_of, given_of, no_more}
 use Rattle.vcm_syntax.specs.Macros.{parameter_of, argument_of}
 use Rattle.vcm_syntax.specs.Forms.{temperature_of, declaration_of, step_of, notice_prefix_of, sole_of, form_of}
@@ -77,6 +78,11 @@ form major.Do p fs =
     behind (field fs 2 >>= expr_of) _ (λ b _. behind (step_of (drop 3 fs)) _ (λ c _. this (Repeat _) tt)))))
 form major.Enddo p fs = sole RepeatEnd p fs tt
 form major.Jumpto p fs = behind (bare_of p) _ (λ _ _. behind (field fs 0 >>= aim_of) _ (λ l _. last (Leap l) (drop 1 fs) tt))
+form major.Select p fs = behind (bare_of p) _ (λ _ _. behind (field fs 0 >>= expr_of) _ (λ e _. last (Choose e) (drop 1 fs) tt))
+form major.Case p fs = behind (bare_of p) _ (λ _ _. behind (field fs 0 >>= integer_of) _ (λ z _. last (Case z) (drop 1 fs) tt))
+form major.Endcas p fs = sole CaseEnd p fs tt
+form major.Dftcas p fs = sole Default p fs tt
+form major.Endsel p fs = sole ChooseEnd p fs tt
 form major.Feat p fs =
     behind (titled_of letters.F p) _ (λ l _. behind (field fs 0 >>= word_of (codes "POINT") Unsupported) _ (λ _ _.
     behind (field fs 1 >>= system_of) _ (λ _ _. behind (spot_of (drop 2 fs)) _ (λ s _. behind (vector_of (drop 5 fs)) _ (λ d _.

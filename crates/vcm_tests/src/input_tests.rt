@@ -96,7 +96,7 @@ fn refusal_of(alloc: Global, place: usize, byte: u8) -> Option<RunFault> {
 #[test]
 fn damaged_images(rt: HostRuntime) {
     for (place, byte, fault) in [
-        (4, 2, ImageFault::BadVersion),
+        (4, 3, ImageFault::BadVersion),
         (12, 3, ImageFault::Short),
         (12, 1, ImageFault::Trailing),
         (23, 2, ImageFault::BadOperand),
@@ -179,6 +179,6 @@ fn the_listing_of_a_move(rt: HostRuntime) {
 
 #[test]
 fn an_image_without_a_listing(rt: HostRuntime) {
-    let fault = listing_of(rt.alloc(), b"VCMI\x02\x00").err();
+    let fault = listing_of(rt.alloc(), b"VCMI\x03\x00").err();
     assert!(rt; fault == Some(PrintFault::Image(ImageFault::BadVersion)));
 }

@@ -12,7 +12,8 @@ use Rattle.vcm_tree.specs.Resolving.{start, BreaksNames, names_line}
 use Rattle.vcm_nodes.specs.Jumps.{labels_of, jumps_of, BreaksJumps, jumps_line}
 use Rattle.vcm_tree.specs.Program.{Parsed, IsWhole}
 use Rattle.vcm_tree.specs.Acceptance.{ReadsLines, ReadsStatements, ReadsText, ReadsProgram, IsAccepted, IsRefused, in_statements, in_expansion, in_names, in_jumps}
-use Rattle.vcm_tree.proofs.Kept.{ended_all, few_all, lettered_all}
+use Rattle.vcm_tree.proofs.Kept.{ended_all, lettered_all}
+use Rattle.vcm_tree.proofs.FewKept.{few_all}
 use Rattle.vcm_tree.proofs.NamedVariables.{all_spelled, all_behind_named}
 use Rattle.vcm_tree.proofs.Wholeness.{parsed_whole}
 

@@ -1,17 +1,17 @@
 -- Blocks that are put together: what is written, one statement more at a time.
-use Rattle.std.proofs.Common.{◌≡◌, ℕ, zero, suc, ◌-◌, ◌≤◌, ◌<◌, Some, slice_get, Bool, true, false, List, [], ◌∷◌, ◌++◌, length, Result, Ok, Err, refl, sym, ap, subst, ◌∙◌, append_assoc, arith, nat_lt}
+use Rattle.std.proofs.Common.{◌≡◌, ℕ, zero, suc, ◌+◌, ◌-◌, ◌≤◌, ◌<◌, Some, slice_get, Bool, true, false, List, [], ◌∷◌, ◌++◌, length, Result, Ok, Err, refl, sym, ap, subst, ◌∙◌, append_assoc, arith, nat_lt}
 use Rattle.std.proofs.lemmas.List.{append-nil}
 use Rattle.vcm_lines.specs.declared.fault.FaultCode.{FaultCode}
 use Rattle.vcm_lines.specs.declared.fault.FaultCode.TheVariants.{Unbalanced}
 use Rattle.vcm_spec.specs.Expression.{Tree}
 use Rattle.vcm_spec.specs.Program.{Label, Node, Block, done, then, choice, choice_else, do_loop, meas, ending}
 use Rattle.vcm_tree.specs.declared.builder.Head.{Head}
-use Rattle.vcm_tree.specs.declared.builder.Head.TheVariants.{First, Second, Body, Measuring}
+use Rattle.vcm_tree.specs.declared.builder.Head.TheVariants.{First, Second, Body, Measuring, Case}
 use Rattle.vcm_tree.specs.declared.builder.Open.{Open}
 use Rattle.vcm_tree.specs.declared.builder.Builder.{Builder}
 use Rattle.vcm_nodes.specs.Nodes.{with_last}
 use Rattle.vcm_tree.specs.Sentences.{Step, Sentence, sentence, Tests, Divides, EndsTest, EndsRepeat, EndsMeasure, Ends, node_sentences, sentences}
-use Rattle.vcm_tree.specs.Blocks.{Opened, InFirst, InSecond, InBody, InMeasure, room, room_by, nested, divided, test_ended, repeat_ended, ended}
+use Rattle.vcm_tree.specs.Blocks.{Opened, InFirst, InSecond, InBody, InMeasure, InSelect, InCase, depth, room, room_by, nested, divided, test_ended, repeat_ended, ended}
 use Rattle.vcm_tree.specs.Features.{measure_ended, measuring}
 use Rattle.vcm_tree.specs.Resolving.{labels_after, blocks_after}
 use Rattle.vcm_tree.specs.inner.Building.{opened_by, blocks_of, head_sentences, opens_sentences, written, Reads}
@@ -29,17 +29,30 @@ pub sentences_push : (b : Block) (n : Node) → sentences (with_last b n) ≡ se
 sentences_push done n = append-nil (node_sentences n)
 sentences_push (then m b) n = ap (λ l. node_sentences m ++ l) (sentences_push b n) ∙ sym (append_assoc (node_sentences m) (sentences b) (node_sentences n))
 
-pub blocks_push : (os : List Open) (o : Open) → blocks_of (os ++ o ∷ []) ≡ opened_by o.head ∷ blocks_of os
-blocks_push [] o = refl
-blocks_push (p ∷ os) o = ap (λ l. l ++ opened_by p.head ∷ []) (blocks_push os o)
+pub blocks_push : (os : List Open) (o : Open) → blocks_of (os ++ o ∷ []) ≡ opened_by o.head ++ blocks_of os
+blocks_push [] o = sym (append-nil (opened_by o.head))
+blocks_push (p ∷ os) o = ap (λ l. l ++ opened_by p.head) (blocks_push os o) ∙ append_assoc (opened_by o.head) (blocks_of os) (opened_by p.head)
 
-pub blocks_length : (os : List Open) → length (blocks_of os) ≡ length os
-blocks_length [] = refl
-blocks_length (o ∷ os) = longer (blocks_of os) (opened_by o.head) (length os) (blocks_length os)
-  where
-    longer : (bs : List Opened) (b : Opened) (n : ℕ) → length bs ≡ n → length (bs ++ b ∷ []) ≡ suc n
-    longer [] b n e = ap suc e
-    longer (c ∷ bs) b n e = ap suc (longer bs b (length bs) refl) ∙ ap suc e
+depth_append : (bs cs : List Opened) → depth (bs ++ cs) ≡ depth bs + depth cs
+depth_append [] cs = omega arith
+depth_append (InFirst ∷ bs) cs = (let h = depth_append bs cs in omega (arith, h))
+depth_append (InSecond ∷ bs) cs = (let h = depth_append bs cs in omega (arith, h))
+depth_append (InBody ∷ bs) cs = (let h = depth_append bs cs in omega (arith, h))
+depth_append (InMeasure f ∷ bs) cs = (let h = depth_append bs cs in omega (arith, h))
+depth_append (InSelect t ∷ bs) cs = depth_append bs cs
+depth_append (InCase ∷ bs) cs = (let h = depth_append bs cs in omega (arith, h))
+
+-- each block is one
+one_deep : (h : Head) → depth (opened_by h) ≡ 1
+one_deep (First line test) = refl
+one_deep (Second line test first mid) = refl
+one_deep (Body line v a b c) = refl
+one_deep (Measuring line f) = refl
+one_deep (Case line value cases from z) = refl
+
+pub blocks_depth : (os : List Open) → depth (blocks_of os) ≡ length os
+blocks_depth [] = refl
+blocks_depth (o ∷ os) = (let a = depth_append (blocks_of os) (opened_by o.head) in let b = one_deep o.head in let c = blocks_depth os in omega (arith, a, b, c))
 
 opens_push : (os : List Open) (o : Open) → opens_sentences (os ++ o ∷ []) ≡ opens_sentences os ++ (sentences o.outer ++ head_sentences o.head)
 opens_push [] o = append-nil (sentences o.outer ++ head_sentences o.head)
@@ -50,7 +63,7 @@ opens_push (p ∷ os) o =
 -- ---- what is written
 
 -- with these open blocks and this innermost one
-abbrev wrote : List Open → Block → List Sentence
+abbrev pub wrote : List Open → Block → List Sentence
 wrote os b = opens_sentences os ++ sentences b
 
 -- one node more
@@ -70,7 +83,7 @@ opened old new head more none =
 
 module _ (os : List Open) (o : Open) (old new : Builder) (was : old.opens.items ≡ os ++ o ∷ []) where
   -- what was written before the innermost block closes
-  before_close : written old ≡ (opens_sentences os ++ (sentences o.outer ++ head_sentences o.head)) ++ sentences old.block
+  pub before_close : written old ≡ (opens_sentences os ++ (sentences o.outer ++ head_sentences o.head)) ++ sentences old.block
   before_close = ap (λ l. wrote l old.block) was ∙ ap (λ l. l ++ sentences old.block) (opens_push os o)
 
   -- the innermost block closes
@@ -92,8 +105,8 @@ module _ (os : List Open) (o : Open) (old new : Builder) (was : old.opens.items 
       ∙ regroup (opens_sentences os) (sentences o.outer) (head_sentences o.head) (sentences old.block) (p ∷ [])
       ∙ ap (λ l. l ++ p ∷ []) (sym before_close)
 
-  innermost : (h : Head) → o.head ≡ h → blocks_of old.opens.items ≡ opened_by h ∷ blocks_of os
-  innermost h e = ap blocks_of was ∙ blocks_push os o ∙ ap (λ x. opened_by x ∷ blocks_of os) e
+  pub innermost : (h : Head) → o.head ≡ h → blocks_of old.opens.items ≡ opened_by h ++ blocks_of os
+  innermost h e = ap blocks_of was ∙ blocks_push os o ∙ ap (λ x. opened_by x ++ blocks_of os) e
 
   pub reads_divide : (line start : ℕ) (test : Tree) → o.head ≡ First start test
       → new.opens.items ≡ os ++ record { outer = o.outer; head = Second start test old.block line } ∷ [] → new.block ≡ done
@@ -154,7 +167,7 @@ module _ (os : List Open) (o : Open) (old new : Builder) (was : old.opens.items 
   }
 
   -- ENDMES that doesn't fit
-  pub measure_end_fails : (h : Head) (t : Bool) (code : FaultCode) → o.head ≡ h → measure_ended (opened_by h ∷ blocks_of os) t ≡ Err code
+  pub measure_end_fails : (h : Head) (t : Bool) (code : FaultCode) → o.head ≡ h → measure_ended (opened_by h ++ blocks_of os) t ≡ Err code
       → measure_ended (blocks_of old.opens.items) t ≡ Err code
   measure_end_fails h t code e f = ap (λ bs. measure_ended bs t) (innermost h e) ∙ f
 
@@ -162,13 +175,13 @@ module _ (os : List Open) (o : Open) (old new : Builder) (was : old.opens.items 
   failed = Err Unbalanced
 
   -- an end, or ELSE, that doesn't fit the innermost block
-  pub divide_fails : (h : Head) → o.head ≡ h → divided (opened_by h ∷ blocks_of os) ≡ failed → divided (blocks_of old.opens.items) ≡ failed
+  pub divide_fails : (h : Head) → o.head ≡ h → divided (opened_by h ++ blocks_of os) ≡ failed → divided (blocks_of old.opens.items) ≡ failed
   divide_fails h e f = ap divided (innermost h e) ∙ f
 
-  pub test_end_fails : (h : Head) → o.head ≡ h → test_ended (opened_by h ∷ blocks_of os) ≡ failed → test_ended (blocks_of old.opens.items) ≡ failed
+  pub test_end_fails : (h : Head) → o.head ≡ h → test_ended (opened_by h ++ blocks_of os) ≡ failed → test_ended (blocks_of old.opens.items) ≡ failed
   test_end_fails h e f = ap test_ended (innermost h e) ∙ f
 
-  pub repeat_end_fails : (h : Head) → o.head ≡ h → repeat_ended (opened_by h ∷ blocks_of os) ≡ failed → repeat_ended (blocks_of old.opens.items) ≡ failed
+  pub repeat_end_fails : (h : Head) → o.head ≡ h → repeat_ended (opened_by h ++ blocks_of os) ≡ failed → repeat_ended (blocks_of old.opens.items) ≡ failed
   repeat_end_fails h e f = ap repeat_ended (innermost h e) ∙ f
 
 -- ENDFIL outside all blocks
@@ -184,11 +197,15 @@ reads_end line old new none same more = record {
 
 pub end_fails : (os : List Open) (n : ℕ) → length os ≡ n → 0 < n → ended (blocks_of os) ≡ Err Unbalanced
 end_fails [] n e l = absurd (omega (arith, e, l))
-end_fails (o ∷ os) n e l = some (blocks_of os) (opened_by o.head)
+end_fails (o ∷ os) n e l = some (blocks_of os) o.head
   where
-    some : (bs : List Opened) (b : Opened) → ended (bs ++ b ∷ []) ≡ Err Unbalanced
-    some [] b = refl
-    some (c ∷ bs) b = refl
+    some : (bs : List Opened) (h : Head) → ended (bs ++ opened_by h) ≡ Err Unbalanced
+    some [] (First line test) = refl
+    some [] (Second line test first mid) = refl
+    some [] (Body line v x y z) = refl
+    some [] (Measuring line f) = refl
+    some [] (Case line value cases from z) = refl
+    some (c ∷ bs) h = refl
 
 room_true : (b : Bool) → b ≡ true → room_by b ≡ Ok tt
 room_true true e = refl
@@ -199,10 +216,10 @@ room_false false e = refl
 room_false true e = absurd cc
 
 pub has_room : (os : List Open) → length os < 32 → room (blocks_of os) ≡ Ok tt
-has_room os l = room_true (nat_lt (length (blocks_of os)) 32) (let e = blocks_length os in grind (arith, e))
+has_room os l = room_true (nat_lt (depth (blocks_of os)) 32) (let e = blocks_depth os in grind (arith, e))
 
 pub no_room : (os : List Open) → 32 ≤ length os → room (blocks_of os) ≡ Err Unbalanced
-no_room os l = room_false (nat_lt (length (blocks_of os)) 32) (let e = blocks_length os in grind (arith, e))
+no_room os l = room_false (nat_lt (depth (blocks_of os)) 32) (let e = blocks_depth os in grind (arith, e))
 
 -- a node that is one statement
 pub reads_node : (old new : Builder) (n : Node) (line : ℕ) (step : Step) → new.opens.items ≡ old.opens.items → new.block ≡ with_last old.block n → node_sentences n ≡ sentence line step ∷ []
@@ -218,7 +235,7 @@ reads_node old new n line step same more writes inside unmarked = record {
 -- a block that is opened
 pub reads_nested : (old new : Builder) (r : Result Step FaultCode) (head : Head) (line : ℕ) (step : Step) → room (blocks_of old.opens.items) ≡ Ok tt → r ≡ Ok step
     → new.opens.items ≡ old.opens.items ++ record { outer = old.block; head = head } ∷ [] → new.block ≡ done → head_sentences head ≡ sentence line step ∷ []
-    → ((bs : List Opened) → blocks_after bs step ≡ opened_by head ∷ bs) → ((ls : List Label) → labels_after ls step ≡ ls) → Reads (nested (blocks_of old.opens.items) r) line old new
+    → ((bs : List Opened) → blocks_after bs step ≡ opened_by head ++ bs) → ((ls : List Label) → labels_after ls step ≡ ls) → Reads (nested (blocks_of old.opens.items) r) line old new
 reads_nested old new r head line step room_is r_is more none writes inside unmarked = record {
   step = step;
   is = ap (λ q. q >>= λ _. r) room_is ∙ r_is;
@@ -233,19 +250,28 @@ measuring_head InFirst xs ys = refl
 measuring_head InSecond xs ys = refl
 measuring_head InBody xs ys = refl
 measuring_head (InMeasure f) xs ys = refl
+measuring_head (InSelect t) xs ys = refl
+measuring_head InCase xs ys = refl
 
-measuring_front : (bs : List Opened) (b c : Opened) → measuring ((bs ++ b ∷ []) ++ c ∷ []) ≡ measuring (bs ++ b ∷ [])
-measuring_front [] b c = measuring_head b (c ∷ []) []
-measuring_front (x ∷ bs) b c = measuring_head x ((bs ++ b ∷ []) ++ c ∷ []) (bs ++ b ∷ [])
+measuring_opened : (h : Head) (xs : List Opened) → measuring (opened_by h ++ xs) ≡ measuring (opened_by h)
+measuring_opened (First line test) xs = refl
+measuring_opened (Second line test first mid) xs = refl
+measuring_opened (Body line v a b c) xs = refl
+measuring_opened (Measuring line f) xs = refl
+measuring_opened (Case line value cases from z) xs = refl
 
-last_at : (os : List Open) (o : Open) (n : ℕ) → length os ≡ suc n → Some o ≡ slice_get os n → measuring (blocks_of os) ≡ measuring (opened_by o.head ∷ [])
+measuring_front : (bs : List Opened) (h : Head) (xs : List Opened) → measuring ((bs ++ opened_by h) ++ xs) ≡ measuring (bs ++ opened_by h)
+measuring_front [] h xs = measuring_opened h xs
+measuring_front (b ∷ bs) h xs = measuring_head b ((bs ++ opened_by h) ++ xs) (bs ++ opened_by h)
+
+last_at : (os : List Open) (o : Open) (n : ℕ) → length os ≡ suc n → Some o ≡ slice_get os n → measuring (blocks_of os) ≡ measuring (opened_by o.head)
 last_at [] o n l e = absurd (omega (arith, l))
-last_at (p ∷ []) o zero l e = (let same : o ≡ p = cc in ap (λ (x : Open). measuring (opened_by x.head ∷ [])) (sym same))
+last_at (p ∷ []) o zero l e = (let same : o ≡ p = cc in ap (λ (x : Open). measuring (opened_by x.head)) (sym same))
 last_at (p ∷ []) o (suc n) l e = absurd (omega (arith, l))
 last_at (p ∷ q ∷ os) o zero l e = absurd (omega (arith, l))
-last_at (p ∷ q ∷ os) o (suc n) l e = measuring_front (blocks_of os) (opened_by q.head) (opened_by p.head) ∙ last_at (q ∷ os) o n (omega (arith, l)) e
+last_at (p ∷ q ∷ os) o (suc n) l e = measuring_front (blocks_of os) q.head (opened_by p.head) ∙ last_at (q ∷ os) o n (omega (arith, l)) e
 
-pub last_opened : (os : List Open) (o : Open) → Some o ≡ slice_get os (length os - 1) → measuring (blocks_of os) ≡ measuring (opened_by o.head ∷ [])
+pub last_opened : (os : List Open) (o : Open) → Some o ≡ slice_get os (length os - 1) → measuring (blocks_of os) ≡ measuring (opened_by o.head)
 last_opened [] o e = absurd cc
 last_opened (p ∷ os) o e =
     let one : length (p ∷ os) - 1 ≡ length os = omega arith in

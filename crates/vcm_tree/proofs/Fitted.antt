@@ -19,13 +19,13 @@ use Rattle.vcm_expr.proofs.TypedKinds.{typed_for_fine}
 use Rattle.vcm_syntax.specs.declared.statement.Target.{Target}
 use Rattle.vcm_syntax.specs.declared.statement.Rounds.{Rounds}
 use Rattle.vcm_syntax.specs.declared.statement.Form.{Form}
-use Rattle.vcm_syntax.specs.declared.statement.Form.TheVariants.{Opening, Measures as Units, Ignored, Declaration, Assignment, Move, Home, Say, Test, Otherwise, TestEnd, Repeat, RepeatEnd, Mark, Leap, Feature, Measure, Touch, MeasureEnd, Configure, Shift, Rotation, Restore, Query, Report, Macro, MacroEnd, Call, Ending}
+use Rattle.vcm_syntax.specs.declared.statement.Form.TheVariants.{Opening, Measures as Units, Ignored, Declaration, Assignment, Move, Home, Say, Test, Otherwise, TestEnd, Repeat, RepeatEnd, Mark, Leap, Feature, Measure, Touch, MeasureEnd, Choose, Case, CaseEnd, Default, ChooseEnd, Configure, Shift, Rotation, Restore, Query, Report, Macro, MacroEnd, Call, Ending}
 use Rattle.vcm_macro.specs.declared.placed.Placed.{Placed}
 use Rattle.vcm_tree.specs.Sentences.{Step, Sentence, Does, Marks, Leaps, Tests, Divides, EndsTest, Repeats, EndsRepeat, Measures, EndsMeasure, Selects, BeginsCase, BeginsDefault, EndsCase, EndsSelect, Ends}
 use Rattle.vcm_tree.specs.Variables.{with_all, target_of, assigned, moved}
-use Rattle.vcm_tree.specs.Blocks.{Behind, Opened, InFirst, InSecond, InBody, InMeasure, room, nested, tested, indexed, index_by, index_to, increment_of, repeated, divided, test_ended, repeat_ended, ended, marked, label_of}
+use Rattle.vcm_tree.specs.Blocks.{Behind, Opened, InFirst, InSecond, InBody, InMeasure, InSelect, InCase, room, nested, tested, selected, indexed, index_by, index_to, increment_of, repeated, divided, test_ended, repeat_ended, case_begun, case_ended, select_ended, is_choosing, ended, marked, label_of}
 use Rattle.vcm_tree.specs.Features.{known, declared, opened_measure, touched, measure_ended, configured, shifted, rotated, recalled, obtained, reported}
-use Rattle.vcm_tree.specs.Resolving.{Meaning, Silent, Declares, Counts, measured_after, blocks_after, unless_barred, is_measuring, is_barred, stated, does, counts, resolved, resolved_here, behind_by, behind_one, behind_all, start, sentences_by, sentences_from}
+use Rattle.vcm_tree.specs.Resolving.{Meaning, Silent, Declares, Counts, measured_after, blocks_after, unless_barred, unless_choosing, is_measuring, is_barred, is_in_block, stated, does, counts, resolved, resolved_here, behind_by, behind_one, behind_all, start, sentences_by, sentences_from}
 use Rattle.vcm_tree.specs.Program.{tables_of}
 use Rattle.vcm_tree.proofs.Written.{StepFits, SentencesFit}
 use Rattle.vcm_tree.proofs.Titled.{known_below}
@@ -59,6 +59,9 @@ module _ (vs : List Variable) (ws : Tables) (g : Grown vs ws.variables) where
 
   tested_fit : (x : Source) → Fitting (tested vs x)
   tested_fit x = then_fit (typed_for vs wants.Bool x) (λ t. Ok (Tests t)) (λ t e. has_kind vs ws g t kind.Bool (typed_for_fine vs wants.Bool x t e).typed)
+
+  selected_fit : (x : Source) → Fitting (selected vs x)
+  selected_fit x = then_fit (typed_for vs wants.Int x) (λ t. Ok (Selects t)) (λ t e. whole_fits x t e)
 
   index_fits : (t : Target) (i : ℕ) → indexed vs t ≡ Ok i → slice_get (kinds ws) i ≡ Some kind.Int
   index_fits t i e = by (target_of vs t) e
@@ -103,6 +106,22 @@ module _ (vs : List Variable) (ws : Tables) (g : Grown vs ws.variables) where
   measure_ended_fit (InMeasure f ∷ bs) true = tt
   measure_ended_fit (InMeasure f ∷ bs) false = tt
   measure_ended_fit (_ ∷ bs) t = tt
+
+  case_begun_fit : (bs : List Opened) (s : Step) → StepFits ws s → Fitting (case_begun bs s)
+  case_begun_fit [] s f = tt
+  case_begun_fit (InSelect false ∷ bs) s f = nested_fit bs (Ok s) f
+  case_begun_fit (InSelect true ∷ bs) s f = tt
+  case_begun_fit (_ ∷ bs) s f = tt
+
+  case_ended_fit : (bs : List Opened) → Fitting (case_ended bs)
+  case_ended_fit [] = tt
+  case_ended_fit (InCase ∷ bs) = tt
+  case_ended_fit (_ ∷ bs) = tt
+
+  select_ended_fit : (bs : List Opened) → Fitting (select_ended bs)
+  select_ended_fit [] = tt
+  select_ended_fit (InSelect t ∷ bs) = tt
+  select_ended_fit (_ ∷ bs) = tt
 
   opened_measure_fit : (fs : List (List ℕ)) (l : List ℕ) → length fs ≤ length ws.features → Fitting (opened_measure fs l)
   opened_measure_fit fs l few = then_fit (known fs l) (λ i. Ok (Measures i)) (λ i e. (let low = known_below fs l i e in omega (arith, few, low)))
@@ -151,6 +170,11 @@ module _ (vs : List Variable) (ws : Tables) (g : Grown vs ws.variables) where
       counts_fit line (does (touched b.blocks b.measured.touched b.variables p given))
       (rw e (does_fit (touched b.blocks b.measured.touched vs p given) (λ what. touched_fits vs ws g b.blocks b.measured.touched p given what bs)))
   stated_fits b e ex line MeasureEnd bs fs ds = counts_fit line (measure_ended b.blocks b.measured.touched) (measure_ended_fit b.blocks b.measured.touched)
+  stated_fits b e ex line (Choose x) bs fs ds = counts_fit line (selected b.variables x) (rw e (selected_fit x))
+  stated_fits b e ex line (Case z) bs fs ds = counts_fit line (case_begun b.blocks (BeginsCase z)) (case_begun_fit b.blocks (BeginsCase z) tt)
+  stated_fits b e ex line CaseEnd bs fs ds = counts_fit line (case_ended b.blocks) (case_ended_fit b.blocks)
+  stated_fits b e ex line Default bs fs ds = counts_fit line (case_begun b.blocks BeginsDefault) (case_begun_fit b.blocks BeginsDefault tt)
+  stated_fits b e ex line ChooseEnd bs fs ds = counts_fit line (select_ended b.blocks) (select_ended_fit b.blocks)
   stated_fits b e ex line (Configure which x) bs fs ds = counts_fit line (does (configured b.variables which x)) (rw e (does_fit (configured vs which x) (configured_fits vs ws g which x)))
   stated_fits b e ex line (Shift l os) bs fs ds =
       counts_fit line (does (shifted b.measured.frames b.variables l os)) (rw e (does_fit (shifted b.measured.frames vs l os) (λ what. shifted_fits vs ws g b.measured.frames l os what ds)))
@@ -170,11 +194,12 @@ module _ (vs : List Variable) (ws : Tables) (g : Grown vs ws.variables) where
 
   form_fits : (b : Behind) → b.variables ≡ vs → (ex line : ℕ) (form : Form) → Within (length ws.features) b.blocks → length (measured_after b.measured form).features ≤ length ws.features
       → length (measured_after b.measured form).frames ≤ length ws.frames → SentencesFit ws (sentences_by line (resolved b ex form))
-  form_fits b e ex line form bs fs ds = by (is_measuring b.blocks && is_barred form)
+  form_fits b e ex line form bs fs ds = by (is_measuring b.blocks && is_barred form) (is_choosing b.blocks && is_in_block form)
     where
-      by : (t : Bool) → SentencesFit ws (sentences_by line (unless_barred t (stated b ex form)))
-      by true = tt
-      by false = stated_fits b e ex line form bs fs ds
+      by : (t u : Bool) → SentencesFit ws (sentences_by line (unless_barred t (unless_choosing u (stated b ex form))))
+      by true u = tt
+      by false true = tt
+      by false false = stated_fits b e ex line form bs fs ds
 
 both_fit : (ws : Tables) (ps qs : List Sentence) → SentencesFit ws ps → SentencesFit ws qs → SentencesFit ws (ps ++ qs)
 both_fit ws [] qs f g = g
@@ -194,9 +219,9 @@ step_within ws bs (Measures i) f h = (f, h)
 step_within ws bs EndsMeasure f h = outer_within (length ws.features) bs h
 step_within ws bs (Selects v) f h = h
 step_within ws bs (BeginsCase v) f h = h
-step_within ws bs BeginsDefault f h = h
-step_within ws bs EndsCase f h = h
-step_within ws bs EndsSelect f h = h
+step_within ws bs BeginsDefault f h = outer_within (length ws.features) bs h
+step_within ws bs EndsCase f h = outer_within (length ws.features) bs h
+step_within ws bs EndsSelect f h = outer_within (length ws.features) bs h
 step_within ws bs Ends f h = h
 
 within_next : (ws : Tables) (b : Behind) (form : Form) (line : ℕ) (r : Result Meaning FaultCode) → SentencesFit ws (sentences_by line r) → Within (length ws.features) b.blocks

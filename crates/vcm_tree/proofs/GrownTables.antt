@@ -11,13 +11,13 @@ use Rattle.vcm_spec.specs.Fitting.{kinds}
 use Rattle.vcm_spec.specs.Setup.{Variable, Tables, kinds_of}
 use Rattle.vcm_expr.proofs.Runs.{kind_after_one-Some, kind_after_two-Some}
 use Rattle.vcm_syntax.specs.declared.statement.Form.{Form}
-use Rattle.vcm_syntax.specs.declared.statement.Form.TheVariants.{Opening, Measures as Units, Ignored, Declaration, Assignment, Move, Home, Say, Test, Otherwise, TestEnd, Repeat, RepeatEnd, Mark, Leap, Feature, Measure, Touch, MeasureEnd, Configure, Shift, Rotation, Restore, Query, Report, Macro, MacroEnd, Call, Ending}
+use Rattle.vcm_syntax.specs.declared.statement.Form.TheVariants.{Opening, Measures as Units, Ignored, Declaration, Assignment, Move, Home, Say, Test, Otherwise, TestEnd, Repeat, RepeatEnd, Mark, Leap, Feature, Measure, Touch, MeasureEnd, Choose, Case, CaseEnd, Default, ChooseEnd, Configure, Shift, Rotation, Restore, Query, Report, Macro, MacroEnd, Call, Ending}
 use Rattle.vcm_macro.specs.declared.placed.Placed.{Placed}
-use Rattle.vcm_tree.specs.Sentences.{Step}
+use Rattle.vcm_tree.specs.Sentences.{Step, BeginsCase, BeginsDefault}
 use Rattle.vcm_tree.specs.Variables.{is_declared, with_one, with_all, assigned, moved}
-use Rattle.vcm_tree.specs.Blocks.{Behind, Opened, InFirst, InSecond, InBody, InMeasure, Measured, nested, tested, repeated, divided, test_ended, repeat_ended, ended, marked, label_of}
+use Rattle.vcm_tree.specs.Blocks.{Behind, Opened, InFirst, InSecond, InBody, InMeasure, InSelect, InCase, Measured, nested, tested, selected, repeated, divided, test_ended, repeat_ended, case_begun, case_ended, select_ended, is_choosing, ended, marked, label_of}
 use Rattle.vcm_tree.specs.Features.{touched_in, declared, opened_measure, touched, measure_ended, configured, shifted, rotated, recalled, obtained, reported}
-use Rattle.vcm_tree.specs.Resolving.{Declares, measured_after, outer, unless_barred, is_measuring, is_barred, stated, does, counts, resolved, resolved_here, behind_by, behind_one, behind_all}
+use Rattle.vcm_tree.specs.Resolving.{Declares, measured_after, outer, unless_barred, unless_choosing, is_measuring, is_barred, is_in_block, stated, does, counts, resolved, resolved_here, behind_by, behind_one, behind_all}
 use Rattle.vcm_tree.proofs.Titled.{with_name_longer, measured_is}
 use Rattle.vcm_spec.specs.Results.{◌>>=◌}
 
@@ -90,17 +90,23 @@ stated_grown b ex (Query v side l word) = counts_grown b (Query v side l word) (
 stated_grown b ex (Report side l) = counts_grown b (Report side l) (does (reported b.measured.features side l))
 stated_grown b ex (Measure l) = counts_grown b (Measure l) (nested b.blocks (opened_measure b.measured.features l))
 stated_grown b ex MeasureEnd = counts_grown b MeasureEnd (measure_ended b.blocks b.measured.touched)
+stated_grown b ex (Choose x) = counts_grown b (Choose x) (selected b.variables x)
+stated_grown b ex (Case z) = counts_grown b (Case z) (case_begun b.blocks (BeginsCase z))
+stated_grown b ex CaseEnd = counts_grown b CaseEnd (case_ended b.blocks)
+stated_grown b ex Default = counts_grown b Default (case_begun b.blocks BeginsDefault)
+stated_grown b ex ChooseEnd = counts_grown b ChooseEnd (select_ended b.blocks)
 stated_grown b ex (Macro l ps) = same_grown b.variables
 stated_grown b ex MacroEnd = same_grown b.variables
 stated_grown b ex (Call l args) = same_grown b.variables
 stated_grown b ex Ending = counts_grown b Ending (ended b.blocks)
 
 form_grown : (b : Behind) (ex : ℕ) (form : Form) → Grown b.variables (behind_by b form (resolved b ex form)).variables
-form_grown b ex form = by (is_measuring b.blocks && is_barred form)
+form_grown b ex form = by (is_measuring b.blocks && is_barred form) (is_choosing b.blocks && is_in_block form)
   where
-    by : (t : Bool) → Grown b.variables (behind_by b form (unless_barred t (stated b ex form))).variables
-    by true = same_grown b.variables
-    by false = stated_grown b ex form
+    by : (t u : Bool) → Grown b.variables (behind_by b form (unless_barred t (unless_choosing u (stated b ex form)))).variables
+    by true u = same_grown b.variables
+    by false true = same_grown b.variables
+    by false false = stated_grown b ex form
 
 pub all_statements_grown : (b : Behind) (ss : List Placed) → Grown b.variables (behind_all b ss).variables
 all_statements_grown b [] = same_grown b.variables
@@ -143,6 +149,8 @@ Within n (InMeasure f ∷ bs) = (f < n) × Within n bs
 Within n (InFirst ∷ bs) = Within n bs
 Within n (InSecond ∷ bs) = Within n bs
 Within n (InBody ∷ bs) = Within n bs
+Within n (InSelect t ∷ bs) = Within n bs
+Within n (InCase ∷ bs) = Within n bs
 
 pub outer_within : (n : ℕ) (bs : List Opened) → Within n bs → Within n (outer bs)
 outer_within n [] h = tt
@@ -150,6 +158,8 @@ outer_within n (InMeasure f ∷ bs) h = h.1
 outer_within n (InFirst ∷ bs) h = h
 outer_within n (InSecond ∷ bs) h = h
 outer_within n (InBody ∷ bs) h = h
+outer_within n (InSelect t ∷ bs) h = h
+outer_within n (InCase ∷ bs) h = h
 
 pub touched_below : (n : ℕ) (bs : List Opened) (t : Bool) (i : ℕ) → touched_in bs t ≡ Ok i → Within n bs → i < n
 touched_below n [] t i e h = absurd cc
@@ -158,6 +168,8 @@ touched_below n (InMeasure f ∷ bs) false i e h = (let same : f ≡ i = cc in s
 touched_below n (InFirst ∷ bs) t i e h = absurd cc
 touched_below n (InSecond ∷ bs) t i e h = absurd cc
 touched_below n (InBody ∷ bs) t i e h = absurd cc
+touched_below n (InSelect d ∷ bs) t i e h = absurd cc
+touched_below n (InCase ∷ bs) t i e h = absurd cc
 
 -- ---- kinds in a table that grows
 

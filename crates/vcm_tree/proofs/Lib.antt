@@ -1,8 +1,12 @@
 pub mod Spelling
 pub mod Cutting
 pub mod Kept
+pub mod FewKept
 pub mod DeclaredNames
 pub mod Builders
+pub mod CaseBuilders
+pub mod CaseSentences
+pub mod Choosing
 pub mod Repeats
 pub mod Takings
 pub mod Walking
@@ -20,6 +24,7 @@ pub mod Wholeness
 pub mod Accepting
 pub mod AcceptanceLaws
 pub mod OpenBlocks
+pub mod Around
 pub mod Existing
 pub mod Reaching
 pub mod Tabling

@@ -6,14 +6,14 @@ use Rattle.vcm_lines.specs.declared.fault.FaultCode.{FaultCode}
 use Rattle.vcm_spec.specs.Program.{Label}
 use Rattle.vcm_spec.specs.Setup.{Variable}
 use Rattle.vcm_syntax.specs.declared.statement.Form.{Form}
-use Rattle.vcm_syntax.specs.declared.statement.Form.TheVariants.{Opening, Measures as Units, Ignored, Declaration, Assignment, Move, Home, Say, Test, Otherwise, TestEnd, Repeat, RepeatEnd, Mark, Leap, Feature, Measure, Touch, MeasureEnd, Configure, Shift, Rotation, Restore, Query, Report, Macro, MacroEnd, Call, Ending}
+use Rattle.vcm_syntax.specs.declared.statement.Form.TheVariants.{Opening, Measures as Units, Ignored, Declaration, Assignment, Move, Home, Say, Test, Otherwise, TestEnd, Repeat, RepeatEnd, Mark, Leap, Feature, Measure, Touch, MeasureEnd, Choose, Case, CaseEnd, Default, ChooseEnd, Configure, Shift, Rotation, Restore, Query, Report, Macro, MacroEnd, Call, Ending}
 use Rattle.vcm_macro.specs.declared.placed.Placed.{Placed}
 use Rattle.vcm_syntax.specs.Statements.{is_counted}
 use Rattle.vcm_macro.specs.Order.{is_ending}
 use Rattle.vcm_tree.specs.Ended.{is_ended}
 use Rattle.vcm_tree.specs.Sentences.{Step, Sentence, Does, Marks, Leaps, Tests, Divides, EndsTest, Repeats, EndsRepeat, Measures, EndsMeasure, Selects, BeginsCase, BeginsDefault, EndsCase, EndsSelect, Ends}
 use Rattle.vcm_tree.specs.Variables.{with_all, assigned, moved}
-use Rattle.vcm_tree.specs.Blocks.{Behind, Opened, nested, tested, repeated, divided, test_ended, repeat_ended, ended, marked, label_of}
+use Rattle.vcm_tree.specs.Blocks.{Behind, Opened, nested, tested, selected, repeated, divided, test_ended, repeat_ended, case_begun, case_ended, select_ended, ended, marked, label_of}
 use Rattle.vcm_tree.specs.Features.{declared, opened_measure, touched, measure_ended, configured, shifted, rotated, recalled, obtained, reported}
 use Rattle.vcm_tree.specs.Resolving.{Meaning, Silent, Declares, Counts, does, counts, stated, resolved_here, labels_after, behind_by, behind_one, behind_all, sentences_by, sentences_from}
 use Rattle.vcm_tree.proofs.Standing.{standing, standing_ok}
@@ -95,6 +95,11 @@ one_more b ex line (Query v side l word) m e = one_step line (does (obtained b.m
 one_more b ex line (Report side l) m e = one_step line (does (reported b.measured.features side l)) m e
 one_more b ex line (Measure l) m e = one_step line (nested b.blocks (opened_measure b.measured.features l)) m e
 one_more b ex line MeasureEnd m e = one_step line (measure_ended b.blocks b.measured.touched) m e
+one_more b ex line (Choose x) m e = one_step line (selected b.variables x) m e
+one_more b ex line (Case z) m e = one_step line (case_begun b.blocks (BeginsCase z)) m e
+one_more b ex line CaseEnd m e = one_step line (case_ended b.blocks) m e
+one_more b ex line Default m e = one_step line (case_begun b.blocks BeginsDefault) m e
+one_more b ex line ChooseEnd m e = one_step line (select_ended b.blocks) m e
 one_more b ex line (Macro l ps) m e = refl
 one_more b ex line MacroEnd m e = refl
 one_more b ex line (Call l args) m e = refl
@@ -167,6 +172,11 @@ ending_ends b ex line (Rotation l axis n) m e h = absurd cc
 ending_ends b ex line (Restore l) m e h = absurd cc
 ending_ends b ex line (Query v side l word) m e h = absurd cc
 ending_ends b ex line (Report side l) m e h = absurd cc
+ending_ends b ex line (Choose x) m e h = absurd cc
+ending_ends b ex line (Case z) m e h = absurd cc
+ending_ends b ex line CaseEnd m e h = absurd cc
+ending_ends b ex line Default m e h = absurd cc
+ending_ends b ex line ChooseEnd m e h = absurd cc
 ending_ends b ex line (Macro l ps) m e h = absurd cc
 ending_ends b ex line MacroEnd m e h = absurd cc
 ending_ends b ex line (Call l args) m e h = absurd cc

@@ -13,14 +13,14 @@ use Rattle.vcm_expr.specs.Typing.{typed_for}
 use Rattle.vcm_expr.specs.declared.typing.Want.TheVariants as wants
 use Rattle.vcm_syntax.specs.declared.statement.Rounds.{Rounds}
 use Rattle.vcm_syntax.specs.declared.statement.Form.{Form}
-use Rattle.vcm_syntax.specs.declared.statement.Form.TheVariants.{Opening, Measures as Units, Ignored, Declaration, Assignment, Move, Home, Say, Test, Otherwise, TestEnd, Repeat, RepeatEnd, Mark, Leap, Feature, Measure, Touch, MeasureEnd, Configure, Shift, Rotation, Restore, Query, Report, Macro, MacroEnd, Call, Ending}
+use Rattle.vcm_syntax.specs.declared.statement.Form.TheVariants.{Opening, Measures as Units, Ignored, Declaration, Assignment, Move, Home, Say, Test, Otherwise, TestEnd, Repeat, RepeatEnd, Mark, Leap, Feature, Measure, Touch, MeasureEnd, Choose, Case, CaseEnd, Default, ChooseEnd, Configure, Shift, Rotation, Restore, Query, Report, Macro, MacroEnd, Call, Ending}
 use Rattle.vcm_macro.specs.declared.placed.Placed.{Placed}
-use Rattle.vcm_tree.specs.Sentences.{Step, Marks, Tests, Repeats, Measures}
+use Rattle.vcm_tree.specs.Sentences.{Step, Marks, Tests, Repeats, Measures, Selects, BeginsCase, BeginsDefault}
 use Rattle.vcm_nodes.specs.Jumps.{is_among}
 use Rattle.vcm_tree.specs.Program.{AreDistinct}
 use Rattle.vcm_nodes.specs.inner.SameLabels.{label_sym}
 use Rattle.vcm_tree.specs.Variables.{with_all, assigned, moved}
-use Rattle.vcm_tree.specs.Blocks.{Behind, Opened, InFirst, InSecond, InBody, InMeasure, room, nested, tested, indexed, increment_of, repeated, divided, test_ended, repeat_ended, ended, marked, label_of}
+use Rattle.vcm_tree.specs.Blocks.{Behind, Opened, InFirst, InSecond, InBody, InMeasure, InSelect, InCase, room, nested, tested, selected, indexed, increment_of, repeated, divided, test_ended, repeat_ended, case_begun, case_ended, select_ended, ended, marked, label_of}
 use Rattle.vcm_tree.specs.Features.{known, declared, opened_measure, touched, measure_ended, configured, shifted, rotated, recalled, obtained, reported}
 use Rattle.vcm_tree.specs.Resolving.{Meaning, Declares, does, counts, stated, behind_by, behind_one, behind_all}
 use Rattle.vcm_tree.proofs.Standing.{standing, standing_ok}
@@ -107,6 +107,16 @@ measure_ended_unmarked (InMeasure f ∷ bs) true = refl
 measure_ended_unmarked (InMeasure f ∷ bs) false = tt
 measure_ended_unmarked (_ ∷ bs) t = tt
 
+case_ended_unmarked : (bs : List Opened) → Unmarked (case_ended bs)
+case_ended_unmarked [] = tt
+case_ended_unmarked (InCase ∷ bs) = refl
+case_ended_unmarked (_ ∷ bs) = tt
+
+select_ended_unmarked : (bs : List Opened) → Unmarked (select_ended bs)
+select_ended_unmarked [] = tt
+select_ended_unmarked (InSelect t ∷ bs) = refl
+select_ended_unmarked (_ ∷ bs) = tt
+
 ended_unmarked : (bs : List Opened) → Unmarked (ended bs)
 ended_unmarked [] = refl
 ended_unmarked (b ∷ bs) = tt
@@ -118,12 +128,21 @@ nested_unmarked bs r u = by (room bs)
     by (Ok x) = u
     by (Err e) = tt
 
+case_begun_unmarked : (bs : List Opened) (s : Step) → step_labels s ≡ [] → Unmarked (case_begun bs s)
+case_begun_unmarked [] s u = tt
+case_begun_unmarked (InSelect false ∷ bs) s u = nested_unmarked bs (Ok s) u
+case_begun_unmarked (InSelect true ∷ bs) s u = tt
+case_begun_unmarked (_ ∷ bs) s u = tt
+
 then_unmarked : {A : Type 0} (r : Result A FaultCode) (go : A → Result Step FaultCode) → ((a : A) → Unmarked (go a)) → Unmarked (r >>= go)
 then_unmarked (Ok a) go u = u a
 then_unmarked (Err e) go u = tt
 
 tested_unmarked : (vs : List Variable) (x : Source) → Unmarked (tested vs x)
 tested_unmarked vs x = then_unmarked (typed_for vs wants.Bool x) (λ t. Ok (Tests t)) (λ t. refl)
+
+selected_unmarked : (vs : List Variable) (x : Source) → Unmarked (selected vs x)
+selected_unmarked vs x = then_unmarked (typed_for vs wants.Int x) (λ t. Ok (Selects t)) (λ t. refl)
 
 repeated_unmarked : (vs : List Variable) (r : Rounds) → Unmarked (repeated vs r)
 repeated_unmarked vs r =
@@ -163,6 +182,11 @@ distinct_by b ex (Query v side l word) m e h = unmarked_labels b (Query v side l
 distinct_by b ex (Report side l) m e h = unmarked_labels b (Report side l) (does (reported b.measured.features side l)) (does_unmarked (reported b.measured.features side l)) h
 distinct_by b ex (Measure l) m e h = unmarked_labels b (Measure l) (nested b.blocks (opened_measure b.measured.features l)) (nested_unmarked b.blocks (opened_measure b.measured.features l) (opened_measure_unmarked b.measured.features l)) h
 distinct_by b ex MeasureEnd m e h = unmarked_labels b MeasureEnd (measure_ended b.blocks b.measured.touched) (measure_ended_unmarked b.blocks b.measured.touched) h
+distinct_by b ex (Choose x) m e h = unmarked_labels b (Choose x) (selected b.variables x) (selected_unmarked b.variables x) h
+distinct_by b ex (Case z) m e h = unmarked_labels b (Case z) (case_begun b.blocks (BeginsCase z)) (case_begun_unmarked b.blocks (BeginsCase z) refl) h
+distinct_by b ex CaseEnd m e h = unmarked_labels b CaseEnd (case_ended b.blocks) (case_ended_unmarked b.blocks) h
+distinct_by b ex Default m e h = unmarked_labels b Default (case_begun b.blocks BeginsDefault) (case_begun_unmarked b.blocks BeginsDefault refl) h
+distinct_by b ex ChooseEnd m e h = unmarked_labels b ChooseEnd (select_ended b.blocks) (select_ended_unmarked b.blocks) h
 distinct_by b ex (Macro l ps) m e h = h
 distinct_by b ex MacroEnd m e h = h
 distinct_by b ex (Call l args) m e h = h

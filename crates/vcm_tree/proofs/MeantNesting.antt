@@ -1,5 +1,5 @@
 -- The counted statements of a text that breaks no rule of names and blocks: how deep they nest.
-use Rattle.std.proofs.Common.{◌≡◌, ℕ, ◌<◌, Bool, true, false, List, [], ◌∷◌, ◌++◌, length, Result, Ok, Err, refl, sym, ◌∙◌, subst, arith, nat_lt}
+use Rattle.std.proofs.Common.{◌≡◌, ℕ, ◌<◌, Bool, true, false, List, [], ◌∷◌, ◌++◌, Some, None, Result, Ok, Err, refl, sym, ◌∙◌, subst, arith, nat_lt}
 use Rattle.std.specs.Prelude.{if◌then◌else◌}
 use Rattle.std.specs.List.{list_any}
 use Rattle.vcm_lines.specs.declared.fault.FaultCode.{FaultCode}
@@ -11,41 +11,53 @@ use Rattle.vcm_spec.specs.Setup.{Variable}
 use Rattle.vcm_expr.specs.Typing.{typed_for}
 use Rattle.vcm_expr.specs.declared.typing.Want.TheVariants as wants
 use Rattle.vcm_syntax.specs.declared.statement.Form.{Form}
-use Rattle.vcm_syntax.specs.declared.statement.Form.TheVariants.{Opening, Measures as Units, Ignored, Declaration, Assignment, Move, Home, Say, Test, Otherwise, TestEnd, Repeat, RepeatEnd, Mark, Leap, Feature, Measure, Touch, MeasureEnd, Configure, Shift, Rotation, Restore, Query, Report, Macro, MacroEnd, Call, Ending}
+use Rattle.vcm_syntax.specs.declared.statement.Form.TheVariants.{Opening, Measures as Units, Ignored, Declaration, Assignment, Move, Home, Say, Test, Otherwise, TestEnd, Repeat, RepeatEnd, Mark, Leap, Feature, Measure, Touch, MeasureEnd, Choose, Case, CaseEnd, Default, ChooseEnd, Configure, Shift, Rotation, Restore, Query, Report, Macro, MacroEnd, Call, Ending}
 use Rattle.vcm_macro.specs.declared.placed.Placed.{Placed}
 use Rattle.vcm_tree.specs.Sentences.{Step, Sentence, Does, Marks, Leaps, Tests, Divides, EndsTest, Repeats, EndsRepeat, Measures, EndsMeasure, Selects, BeginsCase, BeginsDefault, EndsCase, EndsSelect, Ends}
 use Rattle.vcm_tree.specs.Variables.{with_all, assigned, moved}
-use Rattle.vcm_tree.specs.Blocks.{Behind, Opened, InFirst, InSecond, InBody, InMeasure, room_by, room, nested, tested, repeated, divided, test_ended, repeat_ended, ended, marked, label_of}
+use Rattle.vcm_expr.specs.Source.{Source}
+use Rattle.vcm_tree.specs.Blocks.{Behind, Opened, InFirst, InSecond, InBody, InMeasure, InSelect, InCase, depth, room_by, room, nested, tested, selected, repeated, divided, test_ended, repeat_ended, case_begun, case_ended, select_ended, ended, marked, label_of}
 use Rattle.vcm_tree.specs.Features.{known, declared, opened_measure, touched, measure_ended, configured, shifted, rotated, recalled, obtained, reported}
 use Rattle.vcm_tree.specs.Resolving.{Meaning, Declares, does, counts, stated, blocks_after, behind_by, behind_one, sentences_by, sentences_from}
 use Rattle.vcm_tree.proofs.Standing.{standing, standing_ok}
 use Rattle.vcm_tree.proofs.Walking.{AllMean}
-use Rattle.vcm_tree.proofs.OpenBlocks.{Fit, FitResult, does_fit, divided_fit, test_ended_fit, repeat_ended_fit, measure_ended_fit, ended_fit, then_fit, marked_fit, repeated_fit}
+use Rattle.vcm_tree.proofs.OpenBlocks.{Fit, FitResult, does_fit, divided_fit, test_ended_fit, repeat_ended_fit, measure_ended_fit, case_begun_fit, case_ended_fit, select_ended_fit, ended_fit, then_fit, marked_fit, selected_fit, repeated_fit}
 use Rattle.vcm_tree.proofs.Written.{depth_after, opens, SentencesNest}
 use Rattle.vcm_spec.specs.Results.{◌>>=◌}
 
 -- ---- nesting
 
-depth_step : (bs : List Opened) (s : Step) → Fit bs s → length (blocks_after bs s) ≡ depth_after (length bs) s
+depth_step : (bs : List Opened) (s : Step) → Fit bs s → depth (blocks_after bs s) ≡ depth_after (depth bs) s
 depth_step bs (Does what) f = refl
 depth_step bs (Marks l) f = refl
 depth_step bs (Leaps l) f = refl
 depth_step bs (Tests t) f = refl
-depth_step [] Divides f = refl
-depth_step (b ∷ bs) Divides f = refl
-depth_step [] EndsTest f = refl
-depth_step (b ∷ bs) EndsTest f = refl
+depth_step [] Divides f = absurd f
+depth_step (InFirst ∷ bs) Divides f = refl
+depth_step (_ ∷ bs) Divides f = absurd f
+depth_step [] EndsTest f = absurd f
+depth_step (InFirst ∷ bs) EndsTest f = refl
+depth_step (InSecond ∷ bs) EndsTest f = refl
+depth_step (_ ∷ bs) EndsTest f = absurd f
 depth_step bs (Repeats v a b c) f = refl
-depth_step [] EndsRepeat f = refl
-depth_step (b ∷ bs) EndsRepeat f = refl
+depth_step [] EndsRepeat f = absurd f
+depth_step (InBody ∷ bs) EndsRepeat f = refl
+depth_step (_ ∷ bs) EndsRepeat f = absurd f
 depth_step bs (Measures i) f = refl
-depth_step [] EndsMeasure f = refl
-depth_step (b ∷ bs) EndsMeasure f = refl
-depth_step bs (Selects v) f = absurd f
-depth_step bs (BeginsCase v) f = absurd f
-depth_step bs BeginsDefault f = absurd f
-depth_step bs EndsCase f = absurd f
-depth_step bs EndsSelect f = absurd f
+depth_step [] EndsMeasure f = absurd f
+depth_step (InMeasure i ∷ bs) EndsMeasure f = refl
+depth_step (_ ∷ bs) EndsMeasure f = absurd f
+depth_step bs (Selects v) f = refl
+depth_step bs (BeginsCase v) f = refl
+depth_step [] BeginsDefault f = absurd f
+depth_step (InSelect t ∷ bs) BeginsDefault f = refl
+depth_step (_ ∷ bs) BeginsDefault f = absurd f
+depth_step [] EndsCase f = absurd f
+depth_step (InCase ∷ bs) EndsCase f = refl
+depth_step (_ ∷ bs) EndsCase f = absurd f
+depth_step [] EndsSelect f = absurd f
+depth_step (InSelect t ∷ bs) EndsSelect f = refl
+depth_step (_ ∷ bs) EndsSelect f = absurd f
 depth_step bs Ends f = refl
 
 -- a step that opens no block
@@ -79,6 +91,23 @@ measure_ended_plain (InMeasure f ∷ bs) true = refl
 measure_ended_plain (InMeasure f ∷ bs) false = tt
 measure_ended_plain (_ ∷ bs) t = tt
 
+case_ended_plain : (bs : List Opened) → Plain (case_ended bs)
+case_ended_plain [] = tt
+case_ended_plain (InCase ∷ bs) = refl
+case_ended_plain (_ ∷ bs) = tt
+
+select_ended_plain : (bs : List Opened) → Plain (select_ended bs)
+select_ended_plain [] = tt
+select_ended_plain (InSelect t ∷ bs) = refl
+select_ended_plain (_ ∷ bs) = tt
+
+selected_plain : (vs : List Variable) (x : Source) → Plain (selected vs x)
+selected_plain vs x = by (typed_for vs wants.Int x)
+  where
+    by : (r : Result Tree FaultCode) → Plain (r >>= λ t. Ok (Selects t))
+    by (Ok t) = refl
+    by (Err e) = tt
+
 ended_plain : (bs : List Opened) → Plain (ended bs)
 ended_plain [] = refl
 ended_plain (b ∷ bs) = tt
@@ -91,30 +120,40 @@ marked_plain ls l = by (list_any (is_same_label l) ls)
     by false = refl
 
 -- 32 are open at most where one more may be opened
-room_small : (bs : List Opened) (r : Result Step FaultCode) (m : Meaning) → counts (nested bs r) ≡ Ok m → length bs < 32
-room_small bs r m e = by (nat_lt (length bs) 32) refl e
+room_small : (bs : List Opened) (r : Result Step FaultCode) (m : Meaning) → counts (nested bs r) ≡ Ok m → depth bs < 32
+room_small bs r m e = by (nat_lt (depth bs) 32) refl e
   where
-    by : (b : Bool) → nat_lt (length bs) 32 ≡ b → counts (room_by b >>= λ _. r) ≡ Ok m → length bs < 32
+    by : (b : Bool) → nat_lt (depth bs) 32 ≡ b → counts (room_by b >>= λ _. r) ≡ Ok m → depth bs < 32
     by true f g = grind (arith, f)
     by false f g = absurd cc
 
-nest_one : (b : Behind) (form : Form) (line : ℕ) (r : Result Step FaultCode) (rest : List Sentence) (m : Meaning) → FitResult b.blocks r → counts r ≡ Ok m → ((s : Step) → r ≡ Ok s → opens s ≡ true → length b.blocks < 32)
-    → SentencesNest (length (behind_by b form (counts r)).blocks) rest → SentencesNest (length b.blocks) (sentences_by line (counts r) ++ rest)
+case_small : (bs : List Opened) (s : Step) (m : Meaning) → counts (case_begun bs s) ≡ Ok m → depth bs < 32
+case_small [] s m e = absurd cc
+case_small (InFirst ∷ bs) s m e = absurd cc
+case_small (InSecond ∷ bs) s m e = absurd cc
+case_small (InBody ∷ bs) s m e = absurd cc
+case_small (InMeasure f ∷ bs) s m e = absurd cc
+case_small (InSelect true ∷ bs) s m e = absurd cc
+case_small (InSelect false ∷ bs) s m e = room_small bs (Ok s) m e
+case_small (InCase ∷ bs) s m e = absurd cc
+
+nest_one : (b : Behind) (form : Form) (line : ℕ) (r : Result Step FaultCode) (rest : List Sentence) (m : Meaning) → FitResult b.blocks r → counts r ≡ Ok m → ((s : Step) → r ≡ Ok s → opens s ≡ true → depth b.blocks < 32)
+    → SentencesNest (depth (behind_by b form (counts r)).blocks) rest → SentencesNest (depth b.blocks) (sentences_by line (counts r) ++ rest)
 nest_one b form line (Ok s) rest m f e small h = (small s refl, subst (λ (d : ℕ). SentencesNest d rest) (depth_step b.blocks s f) h)
 nest_one b form line (Err c) rest m f e small h = absurd cc
 
 nest_plain : (b : Behind) (form : Form) (line : ℕ) (r : Result Step FaultCode) (rest : List Sentence) (m : Meaning) → FitResult b.blocks r → Plain r → counts r ≡ Ok m
-    → SentencesNest (length (behind_by b form (counts r)).blocks) rest → SentencesNest (length b.blocks) (sentences_by line (counts r) ++ rest)
+    → SentencesNest (depth (behind_by b form (counts r)).blocks) rest → SentencesNest (depth b.blocks) (sentences_by line (counts r) ++ rest)
 nest_plain b form line (Ok s) rest m f p e h = ((λ o. (let both : true ≡ false = sym o ∙ p in absurd cc)), subst (λ (d : ℕ). SentencesNest d rest) (depth_step b.blocks s f) h)
 nest_plain b form line (Err c) rest m f p e h = absurd cc
 
 nest_declares : (b : Behind) (form : Form) (line : ℕ) (r : Result (List Variable) FaultCode) (rest : List Sentence)
-    → SentencesNest (length (behind_by b form (r >>= λ ws. Ok (Declares ws))).blocks) rest → SentencesNest (length b.blocks) (sentences_by line (r >>= λ ws. Ok (Declares ws)) ++ rest)
+    → SentencesNest (depth (behind_by b form (r >>= λ ws. Ok (Declares ws))).blocks) rest → SentencesNest (depth b.blocks) (sentences_by line (r >>= λ ws. Ok (Declares ws)) ++ rest)
 nest_declares b form line (Ok ws) rest h = h
 nest_declares b form line (Err c) rest h = h
 
-nest_by : (b : Behind) (ex line : ℕ) (form : Form) (rest : List Sentence) (m : Meaning) → stated b ex form ≡ Ok m → SentencesNest (length (behind_by b form (stated b ex form)).blocks) rest
-    → SentencesNest (length b.blocks) (sentences_by line (stated b ex form) ++ rest)
+nest_by : (b : Behind) (ex line : ℕ) (form : Form) (rest : List Sentence) (m : Meaning) → stated b ex form ≡ Ok m → SentencesNest (depth (behind_by b form (stated b ex form)).blocks) rest
+    → SentencesNest (depth b.blocks) (sentences_by line (stated b ex form) ++ rest)
 nest_by b ex line Opening rest m e h = h
 nest_by b ex line Units rest m e h = h
 nest_by b ex line (Ignored w) rest m e h = h
@@ -140,16 +179,21 @@ nest_by b ex line (Query v side l word) rest m e h = nest_plain b (Query v side 
 nest_by b ex line (Report side l) rest m e h = nest_plain b (Report side l) line (does (reported b.measured.features side l)) rest m (does_fit b.blocks (reported b.measured.features side l)) (does_plain (reported b.measured.features side l)) e h
 nest_by b ex line (Measure l) rest m e h = nest_one b (Measure l) line (nested b.blocks (opened_measure b.measured.features l)) rest m (then_fit b.blocks (room b.blocks) (λ _. opened_measure b.measured.features l) (λ _. then_fit b.blocks (known b.measured.features l) (λ i. Ok (Measures i)) (λ i. tt))) e (λ s f o. room_small b.blocks (opened_measure b.measured.features l) m e) h
 nest_by b ex line MeasureEnd rest m e h = nest_plain b MeasureEnd line (measure_ended b.blocks b.measured.touched) rest m (measure_ended_fit b.blocks b.measured.touched) (measure_ended_plain b.blocks b.measured.touched) e h
+nest_by b ex line (Choose x) rest m e h = nest_plain b (Choose x) line (selected b.variables x) rest m (selected_fit b.blocks b.variables x) (selected_plain b.variables x) e h
+nest_by b ex line (Case z) rest m e h = nest_one b (Case z) line (case_begun b.blocks (BeginsCase z)) rest m (case_begun_fit b.blocks (Some z)) e (λ s f o. case_small b.blocks (BeginsCase z) m e) h
+nest_by b ex line CaseEnd rest m e h = nest_plain b CaseEnd line (case_ended b.blocks) rest m (case_ended_fit b.blocks) (case_ended_plain b.blocks) e h
+nest_by b ex line Default rest m e h = nest_one b Default line (case_begun b.blocks BeginsDefault) rest m (case_begun_fit b.blocks None) e (λ s f o. case_small b.blocks BeginsDefault m e) h
+nest_by b ex line ChooseEnd rest m e h = nest_plain b ChooseEnd line (select_ended b.blocks) rest m (select_ended_fit b.blocks) (select_ended_plain b.blocks) e h
 nest_by b ex line (Macro l ps) rest m e h = h
 nest_by b ex line MacroEnd rest m e h = h
 nest_by b ex line (Call l args) rest m e h = h
 nest_by b ex line Ending rest m e h = nest_plain b Ending line (ended b.blocks) rest m (ended_fit b.blocks b.blocks) (ended_plain b.blocks) e h
 
-pub nest_all : (b : Behind) (ss : List Placed) → AllMean b ss → SentencesNest (length b.blocks) (sentences_from b ss)
+pub nest_all : (b : Behind) (ss : List Placed) → AllMean b ss → SentencesNest (depth b.blocks) (sentences_from b ss)
 nest_all b [] h = tt
 nest_all b (s ∷ ss) h =
     let is = standing b s.expansion s.statement.form h.0.0 h.0.1 in
     let rest = sentences_from (behind_one b s) ss in
-    subst (λ r. SentencesNest (length b.blocks) (sentences_by s.statement.line r ++ rest)) (sym is)
+    subst (λ r. SentencesNest (depth b.blocks) (sentences_by s.statement.line r ++ rest)) (sym is)
     (nest_by b s.expansion s.statement.line s.statement.form rest h.0.0 (standing_ok b s.expansion s.statement.form h.0.0 h.0.1)
-    (subst (λ r. SentencesNest (length (behind_by b s.statement.form r).blocks) rest) is (nest_all (behind_one b s) ss h.1)))
+    (subst (λ r. SentencesNest (depth (behind_by b s.statement.form r).blocks) rest) is (nest_all (behind_one b s) ss h.1)))

@@ -11,18 +11,18 @@ use Rattle.vcm_expr.specs.Names.{AreNamed}
 use Rattle.vcm_expr.specs.Symbols.{is_variable_name, IsVariableName}
 use Rattle.vcm_expr.proofs.NameLemmas.{one_more_named}
 use Rattle.vcm_syntax.specs.declared.statement.Form.{Form}
-use Rattle.vcm_syntax.specs.declared.statement.Form.TheVariants.{Opening, Measures as Units, Ignored, Declaration, Assignment, Move, Home, Say, Test, Otherwise, TestEnd, Repeat, RepeatEnd, Mark, Leap, Feature, Measure, Touch, MeasureEnd, Configure, Shift, Rotation, Restore, Query, Report, Macro, MacroEnd, Call, Ending}
+use Rattle.vcm_syntax.specs.declared.statement.Form.TheVariants.{Opening, Measures as Units, Ignored, Declaration, Assignment, Move, Home, Say, Test, Otherwise, TestEnd, Repeat, RepeatEnd, Mark, Leap, Feature, Measure, Touch, MeasureEnd, Choose, Case, CaseEnd, Default, ChooseEnd, Configure, Shift, Rotation, Restore, Query, Report, Macro, MacroEnd, Call, Ending}
 use Rattle.vcm_syntax.specs.declared.statement.Statement.{Statement}
 use Rattle.vcm_macro.specs.declared.placed.Placed.{Placed}
 use Rattle.vcm_syntax.specs.Readers.{each_of}
 use Rattle.vcm_syntax.specs.Places.{variable_of}
 use Rattle.vcm_syntax.proofs.Declaring.{DeclaresNames, stated as stated_names}
 use Rattle.vcm_tree.specs.Statements.{AreSpelled, words_of}
-use Rattle.vcm_tree.specs.Sentences.{Step}
+use Rattle.vcm_tree.specs.Sentences.{Step, BeginsCase, BeginsDefault}
 use Rattle.vcm_tree.specs.Variables.{is_declared, with_one, with_all, assigned, moved}
-use Rattle.vcm_tree.specs.Blocks.{Behind, nested, tested, repeated, divided, test_ended, repeat_ended, ended, marked, label_of}
+use Rattle.vcm_tree.specs.Blocks.{Behind, nested, tested, selected, repeated, divided, test_ended, repeat_ended, case_begun, case_ended, select_ended, is_choosing, ended, marked, label_of}
 use Rattle.vcm_tree.specs.Features.{declared, opened_measure, touched, measure_ended, configured, shifted, rotated, recalled, obtained, reported}
-use Rattle.vcm_tree.specs.Resolving.{Declares, does, counts, stated, unless_barred, is_measuring, is_barred, resolved, behind_by, behind_one, behind_all}
+use Rattle.vcm_tree.specs.Resolving.{Declares, does, counts, stated, unless_barred, unless_choosing, is_measuring, is_barred, is_in_block, resolved, behind_by, behind_one, behind_all}
 use Rattle.vcm_tree.proofs.GrownTables.{bind-Ok, tabled}
 use Rattle.vcm_tree.proofs.Kept.{Letters, DeclaresLettered, AreLettered, AllLettered}
 use Rattle.vcm_spec.specs.Results.{◌>>=◌}
@@ -101,17 +101,23 @@ stated_named b ex (Query v side l word) h n = counts_named b (Query v side l wor
 stated_named b ex (Report side l) h n = counts_named b (Report side l) (does (reported b.measured.features side l)) h
 stated_named b ex (Measure l) h n = counts_named b (Measure l) (nested b.blocks (opened_measure b.measured.features l)) h
 stated_named b ex MeasureEnd h n = counts_named b MeasureEnd (measure_ended b.blocks b.measured.touched) h
+stated_named b ex (Choose x) h n = counts_named b (Choose x) (selected b.variables x) h
+stated_named b ex (Case z) h n = counts_named b (Case z) (case_begun b.blocks (BeginsCase z)) h
+stated_named b ex CaseEnd h n = counts_named b CaseEnd (case_ended b.blocks) h
+stated_named b ex Default h n = counts_named b Default (case_begun b.blocks BeginsDefault) h
+stated_named b ex ChooseEnd h n = counts_named b ChooseEnd (select_ended b.blocks) h
 stated_named b ex (Macro l ps) h n = h
 stated_named b ex MacroEnd h n = h
 stated_named b ex (Call l args) h n = h
 stated_named b ex Ending h n = counts_named b Ending (ended b.blocks) h
 
 form_named : (b : Behind) (ex : ℕ) (form : Form) → AreNamed b.variables → DeclaresLettered form → AreNamed (behind_by b form (resolved b ex form)).variables
-form_named b ex form h n = by (is_measuring b.blocks && is_barred form)
+form_named b ex form h n = by (is_measuring b.blocks && is_barred form) (is_choosing b.blocks && is_in_block form)
   where
-    by : (t : Bool) → AreNamed (behind_by b form (unless_barred t (stated b ex form))).variables
-    by true = h
-    by false = stated_named b ex form h n
+    by : (t u : Bool) → AreNamed (behind_by b form (unless_barred t (unless_choosing u (stated b ex form)))).variables
+    by true u = h
+    by false true = h
+    by false false = stated_named b ex form h n
 
 -- what lines spell declares names of variables
 pub all_spelled : (ls : List Logical) (ss : List Statement) → AreSpelled ls ss → AreLettered ss

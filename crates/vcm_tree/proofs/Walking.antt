@@ -1,5 +1,5 @@
 -- The walk over the statements whose names are looked up, one more at a time.
-use Rattle.std.proofs.Common.{◌≡◌, ℕ, zero, suc, ◌+◌, ◌≤◌, true, List, [], ◌∷◌, ◌++◌, length, take, drop, Result, Ok, Err, refl, sym, ap, ◌∙◌, subst, append_assoc, inl, inr, arith}
+use Rattle.std.proofs.Common.{◌≡◌, ℕ, zero, suc, ◌+◌, ◌≤◌, true, List, [], ◌∷◌, ◌++◌, length, take, drop, Option, Some, None, Result, Ok, Err, refl, sym, ap, ◌∙◌, subst, append_assoc, inl, inr, arith}
 use Rattle.std.specs.Prelude.{IsTrue}
 use Rattle.std.proofs.lemmas.List.{append-nil, take_all}
 use Rattle.vcm_lines.specs.declared.fault.FaultCode.{FaultCode}
@@ -9,21 +9,23 @@ use Rattle.vcm_lines.specs.Fault.{NoMemoryOr}
 use Rattle.vcm_spec.specs.Phase.{IsClean, IsCleanBelow, FirstFault}
 use Rattle.vcm_spec.proofs.PhaseLemmas.{place_at, clean_more, clean_done, fault_at}
 use Rattle.vcm_syntax.specs.declared.statement.Form.{Form}
-use Rattle.vcm_syntax.specs.declared.statement.Form.TheVariants.{Opening, Measures, Ignored, Declaration, Assignment, Move, Home, Say, Test, Otherwise, TestEnd, Repeat, RepeatEnd, Mark, Leap, Feature, Measure, Touch, MeasureEnd, Configure, Shift, Rotation, Restore, Query, Report, Macro, MacroEnd, Call, Ending}
+use Rattle.vcm_syntax.specs.declared.statement.Form.TheVariants.{Opening, Measures, Ignored, Declaration, Assignment, Move, Home, Say, Test, Otherwise, TestEnd, Repeat, RepeatEnd, Mark, Leap, Feature, Measure, Touch, MeasureEnd, Choose, Case, CaseEnd, Default, ChooseEnd, Configure, Shift, Rotation, Restore, Query, Report, Macro, MacroEnd, Call, Ending}
 use Rattle.vcm_syntax.specs.declared.statement.Statement.{Statement}
 use Rattle.vcm_macro.specs.declared.placed.Placed.{Placed}
 use Rattle.vcm_tree.specs.declared.builder.Open.{Open}
+use Rattle.vcm_tree.specs.declared.selection.Selection.{Selection}
+use Rattle.vcm_tree.specs.declared.selection.Selection.TheVariants.{Plain, Defaulted}
 use Rattle.vcm_tree.specs.declared.taking.Progress.{Progress}
 use Rattle.vcm_macro.specs.Order.{is_ending}
 use Rattle.vcm_tree.specs.Ended.{is_ended}
 use Rattle.vcm_tree.specs.Sentences.{sentences}
-use Rattle.vcm_tree.specs.Blocks.{Behind, Opened, ended}
+use Rattle.vcm_tree.specs.Blocks.{Behind, Opened, depth, ended}
 use Rattle.vcm_tree.specs.Resolving.{Meaning, counts, stated, resolved_here, behind_by, behind_one, behind_all, start, sentences_by, sentences_from, BreaksNames, names_line}
 use Rattle.vcm_tree.specs.inner.Telling.{ToldAt}
 use Rattle.vcm_tree.specs.Program.{IsParsed, tables_of, notices_of}
-use Rattle.vcm_tree.specs.inner.Building.{blocks_of, opens_sentences, written}
-use Rattle.vcm_tree.specs.inner.Taking.{behind_of, Takes}
-use Rattle.vcm_tree.proofs.Builders.{blocks_length}
+use Rattle.vcm_tree.specs.inner.Building.{blocks_of, waiting, opens_sentences, written_with}
+use Rattle.vcm_tree.specs.inner.Taking.{behind_with, Takes}
+use Rattle.vcm_tree.proofs.Builders.{blocks_depth}
 use Rattle.vcm_tree.proofs.Standing.{standing, standing_ok}
 use Rattle.vcm_tree.proofs.Cutting.{place}
 
@@ -36,13 +38,13 @@ drop_nil n [] e = omega arith
 drop_nil zero (x ∷ xs) e = absurd cc
 drop_nil (suc n) (x ∷ xs) e = (let r = drop_nil n xs e in omega arith)
 
--- so many statements are read, and these are left
-pub record IsWalked (all : List Placed) (p : Progress) (rest : List Placed) : Type 0 where
+-- so many statements are read, a SELECT waits for its next block or not, and these are left
+pub record IsWalked (all : List Placed) (p : Progress) (waits : Option Selection) (rest : List Placed) : Type 0 where
   pub place : ℕ
   pub left : drop place all ≡ rest
   pub clean : IsCleanBelow BreaksNames all place
-  pub behind : behind_of p ≡ behind_all start (take place all)
-  pub writes : sentences_from start all ≡ written p.builder ++ sentences_from (behind_of p) rest
+  pub behind : behind_with p waits ≡ behind_all start (take place all)
+  pub writes : sentences_from start all ≡ written_with p.builder waits ++ sentences_from (behind_with p waits) rest
 
 abbrev means : Meaning → Result Meaning FaultCode
 means m = Ok m
@@ -51,40 +53,42 @@ means m = Ok m
 unbroken : (b c : Behind) (s : Placed) (m : Meaning) (code : FaultCode) → b ≡ c → resolved_here b s ≡ Ok m → resolved_here c s ≡ Err code → ⊥
 unbroken b c s m code same is broken = (let both : means m ≡ Err code = sym is ∙ ap (λ t. resolved_here t s) same ∙ broken in absurd cc)
 
-one_more : (s : Placed) (old new : Progress) (rest : List Placed) → Takes s old new
-    → written old.builder ++ sentences_from (behind_of old) (s ∷ rest) ≡ written new.builder ++ sentences_from (behind_of new) rest
-one_more s old new rest t =
-    ap (λ r. written old.builder ++ (sentences_by s.statement.line r ++ sentences_from (behind_by (behind_of old) s.statement.form r) rest)) t.is
-    ∙ ap (λ b. written old.builder ++ (sentences_by s.statement.line (Ok t.meaning) ++ sentences_from b rest)) (sym t.after)
-    ∙ sym (append_assoc (written old.builder) (sentences_by s.statement.line (Ok t.meaning)) (sentences_from (behind_of new) rest))
-    ∙ ap (λ l. l ++ sentences_from (behind_of new) rest) (sym t.sentences)
+one_more : (s : Placed) (old : Progress) (before : Option Selection) (new : Progress) (waits : Option Selection) (rest : List Placed) → Takes s old before new waits
+    → written_with old.builder before ++ sentences_from (behind_with old before) (s ∷ rest) ≡ written_with new.builder waits ++ sentences_from (behind_with new waits) rest
+one_more s old before new waits rest t =
+    let was = written_with old.builder before in
+    ap (λ r. was ++ (sentences_by s.statement.line r ++ sentences_from (behind_by (behind_with old before) s.statement.form r) rest)) t.is
+    ∙ ap (λ b. was ++ (sentences_by s.statement.line (Ok t.meaning) ++ sentences_from b rest)) (sym t.after)
+    ∙ sym (append_assoc was (sentences_by s.statement.line (Ok t.meaning)) (sentences_from (behind_with new waits) rest))
+    ∙ ap (λ l. l ++ sentences_from (behind_with new waits) rest) (sym t.sentences)
 
-pub walk_goes : (all : List Placed) (old new : Progress) (s : Placed) (rest : List Placed)
-    → IsWalked all old (s ∷ rest) → Takes s old new → IsWalked all new rest
-walk_goes all old new s rest w t =
+pub walk_goes : (all : List Placed) (old : Progress) (before : Option Selection) (new : Progress) (waits : Option Selection) (s : Placed) (rest : List Placed)
+    → IsWalked all old before (s ∷ rest) → Takes s old before new waits → IsWalked all new waits rest
+walk_goes all old before new waits s rest w t =
     let p = place_at all w.place s rest w.left in
+    let was = behind_with old before in
     record {
       place = w.place + 1;
       left = p.3;
-      clean = clean_more BreaksNames all w.place w.clean (λ code b. unbroken (behind_of old) (behind_all start (take w.place all)) s t.meaning code w.behind t.is (rw p.1 at b));
+      clean = clean_more BreaksNames all w.place w.clean (λ code b. unbroken was (behind_all start (take w.place all)) s t.meaning code w.behind t.is (rw p.1 at b));
       behind =
-          t.after ∙ ap (behind_by (behind_of old) s.statement.form) (sym t.is) ∙ ap (λ b. behind_one b s) w.behind ∙ sym (behind_push start (take w.place all) s)
+          t.after ∙ ap (behind_by was s.statement.form) (sym t.is) ∙ ap (λ b. behind_one b s) w.behind ∙ sym (behind_push start (take w.place all) s)
           ∙ ap (behind_all start) (sym p.2);
-      writes = w.writes ∙ one_more s old new rest t;
+      writes = w.writes ∙ one_more s old before new waits rest t;
     }
 
-walk_fails : (all : List Placed) (p : Progress) (s : Placed) (rest : List Placed) (code : FaultCode)
-    → IsWalked all p (s ∷ rest) → resolved_here (behind_of p) s ≡ Err code → FirstFault BreaksNames names_line all code s.statement.line
-walk_fails all p s rest code w e =
+walk_fails : (all : List Placed) (p : Progress) (waits : Option Selection) (s : Placed) (rest : List Placed) (code : FaultCode)
+    → IsWalked all p waits (s ∷ rest) → resolved_here (behind_with p waits) s ≡ Err code → FirstFault BreaksNames names_line all code s.statement.line
+walk_fails all p waits s rest code w e =
     fault_at BreaksNames names_line all w.place s rest code s.statement.line w.left w.clean (ap (λ t. resolved_here t s) (sym w.behind) ∙ e) refl
 
-pub walk_told : (all : List Placed) (p : Progress) (s : Placed) (rest : List Placed) (f : SourceFault)
-    → IsWalked all p (s ∷ rest) → NoMemoryOr (ToldAt s.statement.line (resolved_here (behind_of p) s)) f → NoMemoryOr (λ f. FirstFault BreaksNames names_line all f.code f.line) f
-walk_told all p s rest f w (inl e) = inl e
-walk_told all p s rest f w (inr q) = inr (subst (λ line. FirstFault BreaksNames names_line all f.code line) (sym q.0) (walk_fails all p s rest f.code w q.1))
+pub walk_told : (all : List Placed) (p : Progress) (waits : Option Selection) (s : Placed) (rest : List Placed) (f : SourceFault)
+    → IsWalked all p waits (s ∷ rest) → NoMemoryOr (ToldAt s.statement.line (resolved_here (behind_with p waits) s)) f → NoMemoryOr (λ f. FirstFault BreaksNames names_line all f.code f.line) f
+walk_told all p waits s rest f w (inl e) = inl e
+walk_told all p waits s rest f w (inr q) = inr (subst (λ line. FirstFault BreaksNames names_line all f.code line) (sym q.0) (walk_fails all p waits s rest f.code w q.1))
 
-pub walk_clean : (all : List Placed) (p : Progress) → IsWalked all p [] → IsClean BreaksNames all
-walk_clean all p w = clean_done BreaksNames all w.place (drop_nil w.place all w.left) w.clean (λ code b. b)
+pub walk_clean : (all : List Placed) (p : Progress) (waits : Option Selection) → IsWalked all p waits [] → IsClean BreaksNames all
+walk_clean all p waits w = clean_done BreaksNames all w.place (drop_nil w.place all w.left) w.clean (λ code b. b)
 
 -- ---- each statement has a meaning behind the ones above it
 
@@ -137,6 +141,11 @@ ending_shuts b ex (Feature l p d) m e h = absurd cc
 ending_shuts b ex (Measure l) m e h = absurd cc
 ending_shuts b ex (Touch p given) m e h = absurd cc
 ending_shuts b ex MeasureEnd m e h = absurd cc
+ending_shuts b ex (Choose x) m e h = absurd cc
+ending_shuts b ex (Case z) m e h = absurd cc
+ending_shuts b ex CaseEnd m e h = absurd cc
+ending_shuts b ex Default m e h = absurd cc
+ending_shuts b ex ChooseEnd m e h = absurd cc
 ending_shuts b ex (Configure which x) m e h = absurd cc
 ending_shuts b ex (Shift l os) m e h = absurd cc
 ending_shuts b ex (Rotation l axis n) m e h = absurd cc
@@ -156,16 +165,23 @@ last_shuts b (s ∷ t ∷ ss) e h = last_shuts (behind_one b s) (t ∷ ss) e h.1
 
 no_opens : (os : List Open) → blocks_of os ≡ [] → os ≡ []
 no_opens [] e = refl
-no_opens (o ∷ os) e = (let l = blocks_length (o ∷ os) in let z : length (blocks_of (o ∷ os)) ≡ 0 = ap length e in absurd (omega (arith, l, z)))
+no_opens (o ∷ os) e = (let l = blocks_depth (o ∷ os) in let z : depth (blocks_of (o ∷ os)) ≡ 0 = ap depth e in absurd (omega (arith, l, z)))
 
-pub walk_ends : (ss : List Statement) (all : List Placed) (p : Progress) → IsTrue (is_ended all) → IsWalked all p []
+none_waits : (waits : Option Selection) (bs : List Opened) → waiting waits bs ≡ [] → waits ≡ None
+none_waits None bs e = refl
+none_waits (Some (Plain line value cases)) bs e = absurd cc
+none_waits (Some (Defaulted line value cases)) bs e = absurd cc
+
+pub walk_ends : (ss : List Statement) (all : List Placed) (p : Progress) (waits : Option Selection) → IsTrue (is_ended all) → IsWalked all p waits []
     → IsParsed ss all (record { program = p.builder.block; tables = record { variables = p.names; features = p.features; frames = p.frames }; notices = notices_of ss })
-walk_ends ss all p last w =
-    let whole : behind_of p ≡ behind_all start all = w.behind ∙ ap (behind_all start) (take_all w.place all (drop_nil w.place all w.left)) in
-    let shut_all : blocks_of p.builder.opens.items ≡ [] = ap (λ (b : Behind). b.blocks) whole ∙ last_shuts start all last (all_mean [] all (walk_clean all p w)) in
-    let none : p.builder.opens.items ≡ [] = no_opens p.builder.opens.items shut_all in
+walk_ends ss all p waits last w =
+    let whole : behind_with p waits ≡ behind_all start all = w.behind ∙ ap (behind_all start) (take_all w.place all (drop_nil w.place all w.left)) in
+    let shut_all : waiting waits (blocks_of p.builder.opens.items) ≡ [] = ap (λ (b : Behind). b.blocks) whole ∙ last_shuts start all last (all_mean [] all (walk_clean all p waits w)) in
+    let nothing = none_waits waits (blocks_of p.builder.opens.items) shut_all in
+    let none : p.builder.opens.items ≡ [] = no_opens p.builder.opens.items (ap (λ o. waiting o (blocks_of p.builder.opens.items)) (sym nothing) ∙ shut_all) in
     record {
-      program = sym (w.writes ∙ append-nil (written p.builder) ∙ ap (λ os. opens_sentences os ++ sentences p.builder.block) none);
+      program =
+          sym (w.writes ∙ append-nil (written_with p.builder waits) ∙ ap (written_with p.builder) nothing ∙ ap (λ os. opens_sentences os ++ sentences p.builder.block) none);
       tables = ap tables_of whole;
       notices = refl;
     }

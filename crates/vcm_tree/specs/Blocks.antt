@@ -1,5 +1,5 @@
 -- What statements leave behind them, such as the blocks that are open, and what the words of blocks and labels mean behind it.
-use Rattle.std.specs.Prelude.{ℕ, pos, nat_lt, Bool, true, false, if◌then◌else◌, List, [], ◌∷◌, length, slice_get, Option, Some, None}
+use Rattle.std.specs.Prelude.{ℕ, suc, pos, nat_lt, Bool, true, false, if◌then◌else◌, List, [], ◌∷◌, slice_get, Option, Some, None}
 use Rattle.std.specs.Prelude.{Result, Ok, Err}
 use Rattle.std.specs.List.{list_any}
 use Rattle.vcm_num.specs.declared.number.Kind.{Kind}
@@ -15,16 +15,19 @@ use Rattle.vcm_expr.specs.Source.{Source}
 use Rattle.vcm_expr.specs.Typing.{typed_for}
 use Rattle.vcm_syntax.specs.declared.statement.Rounds.{Rounds}
 use Rattle.vcm_syntax.specs.declared.statement.Target.{Target}
-use Rattle.vcm_tree.specs.Sentences.{Step, Marks, Tests, Divides, EndsTest, Repeats, EndsRepeat, Ends}
+use Rattle.vcm_tree.specs.Sentences.{Step, Marks, Tests, Divides, EndsTest, Repeats, EndsRepeat, Selects, EndsCase, EndsSelect, Ends}
 use Rattle.vcm_tree.specs.Variables.{target_of}
 use Rattle.vcm_spec.specs.Results.{◌>>=◌}
 
--- a block that is open: the first one of an IF, the second one, the body of a DO, that of a MEAS of a feature
+-- what is open: the first block of an IF, the second one, the body of a DO, that of a MEAS of a feature, a SELECT with its DFTCAS or
+-- without, a block of a SELECT
 pub data Opened : Type 0 where
   InFirst : Opened
   InSecond : Opened
   InBody : Opened
   InMeasure : (feature : ℕ) → Opened
+  InSelect : (defaulted : Bool) → Opened
+  InCase : Opened
 
 -- the features and frames that stand above, and whether the MEAS block that is open has its PTMEAS
 pub record Measured : Type 0 where
@@ -53,9 +56,15 @@ abbrev pub room_by : Bool → Result (Unit {0}) FaultCode
 room_by true = Ok tt
 room_by false = Err Unbalanced
 
+-- how many blocks are open: a SELECT is none, but each of its blocks is one
+abbrev pub depth : List Opened → ℕ
+depth [] = 0
+depth (InSelect t ∷ bs) = depth bs
+depth (b ∷ bs) = suc (depth bs)
+
 -- one more block may be opened where fewer than 32 are open
 abbrev pub room : List Opened → Result (Unit {0}) FaultCode
-room bs = room_by (nat_lt (length bs) 32)
+room bs = room_by (nat_lt (depth bs) 32)
 
 -- a statement that opens a block
 abbrev pub nested : List Opened → Result Step FaultCode → Result Step FaultCode
@@ -77,6 +86,26 @@ abbrev pub repeat_ended : List Opened → Result Step FaultCode
 repeat_ended (InBody ∷ bs) = Ok EndsRepeat
 repeat_ended _ = Err Unbalanced
 
+-- CASE and DFTCAS stand in a SELECT outside its blocks, before its DFTCAS
+abbrev pub case_begun : List Opened → Step → Result Step FaultCode
+case_begun (InSelect false ∷ bs) s = nested bs (Ok s)
+case_begun _ s = Err Unbalanced
+
+-- ENDCAS stands at the end of a block of a SELECT
+abbrev pub case_ended : List Opened → Result Step FaultCode
+case_ended (InCase ∷ bs) = Ok EndsCase
+case_ended _ = Err Unbalanced
+
+-- ENDSEL stands in a SELECT outside its blocks
+abbrev pub select_ended : List Opened → Result Step FaultCode
+select_ended (InSelect t ∷ bs) = Ok EndsSelect
+select_ended _ = Err Unbalanced
+
+-- whether a SELECT is open, and none of its blocks
+abbrev pub is_choosing : List Opened → Bool
+is_choosing (InSelect t ∷ bs) = true
+is_choosing bs = false
+
 -- ENDFIL stands outside all blocks
 abbrev pub ended : List Opened → Result Step FaultCode
 ended [] = Ok Ends
@@ -85,6 +114,10 @@ ended _ = Err Unbalanced
 -- a test
 abbrev pub tested : List Variable → Source → Result Step FaultCode
 tested vs e = typed_for vs wants.Bool e >>= λ t. Ok (Tests t)
+
+-- SELECT chooses by a whole number
+abbrev pub selected : List Variable → Source → Result Step FaultCode
+selected vs e = typed_for vs wants.Int e >>= λ t. Ok (Selects t)
 
 -- the index of a DO is the variable at this place of the table, if its kind is that of whole numbers
 abbrev pub index_to : ℕ → Option Kind → Result ℕ FaultCode

@@ -1,7 +1,7 @@
 -- What the statements of an expanded program mean, each behind those above it, once their names are looked up.
 use Rattle.std.specs.Prelude.{◌≡◌, ℕ, ◌&&◌, is_some, Bool, true, false, List, [], ◌∷◌, ◌++◌, Option, Some, None, Result, Ok, Err}
 use Rattle.vcm_lines.specs.declared.fault.FaultCode.{FaultCode}
-use Rattle.vcm_lines.specs.declared.fault.FaultCode.TheVariants.{MeasBody}
+use Rattle.vcm_lines.specs.declared.fault.FaultCode.TheVariants.{MeasBody, Unbalanced}
 use Rattle.vcm_spec.specs.Expression.{Tree}
 use Rattle.vcm_spec.specs.Simple.{Simple, GoHome, Text}
 use Rattle.vcm_spec.specs.Program.{Label}
@@ -10,13 +10,16 @@ use Rattle.vcm_syntax.specs.declared.statement.Form.{Form}
 use Rattle.vcm_syntax.specs.declared.statement.Form.TheVariants.{Declaration, Assignment, Move, Home, Say, Test, Otherwise, TestEnd, Repeat}
 use Rattle.vcm_syntax.specs.declared.statement.Form.TheVariants.{RepeatEnd, Mark, Leap, Feature, Measure, Touch, MeasureEnd, Configure}
 use Rattle.vcm_syntax.specs.declared.statement.Form.TheVariants.{Shift, Rotation, Restore, Query, Report, Ending}
+use Rattle.vcm_syntax.specs.declared.statement.Form.TheVariants.{Choose, Case, CaseEnd, Default, ChooseEnd}
+use Rattle.vcm_syntax.specs.Statements.{is_counted}
 use Rattle.vcm_macro.specs.declared.placed.Placed.{Placed}
 pub use Rattle.vcm_syntax.specs.Readers.{or_fault}
 use Rattle.vcm_tree.specs.Sentences.{Step, Sentence, sentence, Does, Marks, Leaps, Tests, Divides, EndsTest, Repeats, EndsRepeat, Measures}
-use Rattle.vcm_tree.specs.Sentences.{EndsMeasure}
+use Rattle.vcm_tree.specs.Sentences.{EndsMeasure, Selects, BeginsCase, BeginsDefault, EndsCase, EndsSelect}
 use Rattle.vcm_tree.specs.Variables.{with_all, assigned, moved}
-use Rattle.vcm_tree.specs.Blocks.{Opened, InFirst, InSecond, InBody, InMeasure, Measured, measured, Behind, behind, nested, divided}
-use Rattle.vcm_tree.specs.Blocks.{test_ended, repeat_ended, ended, tested, repeated, label_of, marked}
+use Rattle.vcm_tree.specs.Blocks.{Opened, InFirst, InSecond, InBody, InMeasure, InSelect, InCase, Measured, measured, Behind, behind}
+use Rattle.vcm_tree.specs.Blocks.{nested, divided, test_ended, repeat_ended, case_begun, case_ended, select_ended, is_choosing, ended}
+use Rattle.vcm_tree.specs.Blocks.{tested, selected, repeated, label_of, marked}
 use Rattle.vcm_tree.specs.Features.{with_name, declared, opened_measure, measuring, touched, measure_ended, configured, shifted, rotated}
 use Rattle.vcm_tree.specs.Features.{recalled, obtained, reported}
 use Rattle.vcm_spec.specs.Results.{◌>>=◌}
@@ -63,6 +66,11 @@ structured b e (Mark name) = counts (marked b.labels (label_of e name))
 structured b e (Leap name) = counts (Ok (Leaps (label_of e name)))
 structured b e (Measure l) = counts (nested b.blocks (opened_measure b.measured.features l))
 structured b e MeasureEnd = counts (measure_ended b.blocks b.measured.touched)
+structured b e (Choose value) = counts (selected b.variables value)
+structured b e (Case value) = counts (case_begun b.blocks (BeginsCase value))
+structured b e Default = counts (case_begun b.blocks BeginsDefault)
+structured b e CaseEnd = counts (case_ended b.blocks)
+structured b e ChooseEnd = counts (select_ended b.blocks)
 structured b e Ending = counts (ended b.blocks)
 structured b e _ = Ok Silent
 
@@ -79,11 +87,13 @@ stated b e form = stated_by b e form (acted b form)
 abbrev pub is_measuring : List Opened → Bool
 is_measuring bs = is_some (measuring bs)
 
--- whether a statement may not stand in a MEAS block: all counted ones but GOTO, GOHOME and PTMEAS, and the words that close blocks
+-- whether a statement may not stand in a MEAS block: all counted ones but GOTO, GOHOME, PTMEAS, and the words that go on with blocks
+-- or close them
 abbrev pub is_barred : Form → Bool
 is_barred (Assignment t value) = true
 is_barred (Say bytes) = true
 is_barred (Test e) = true
+is_barred (Choose e) = true
 is_barred (Repeat r) = true
 is_barred (Mark name) = true
 is_barred (Leap name) = true
@@ -102,9 +112,24 @@ abbrev pub unless_barred : Bool → Result Meaning FaultCode → Result Meaning 
 unless_barred true r = Err MeasBody
 unless_barred false r = r
 
+-- whether a statement stands in one of the blocks where a SELECT is open: a DECL, and a counted one but CASE, DFTCAS and ENDSEL
+abbrev pub is_in_block : Form → Bool
+is_in_block (Declaration kind names) = true
+is_in_block (Case value) = false
+is_in_block Default = false
+is_in_block ChooseEnd = false
+is_in_block form = is_counted form
+
+-- a statement that has no block to stand in has no meaning
+abbrev pub unless_choosing : Bool → Result Meaning FaultCode → Result Meaning FaultCode
+unless_choosing true r = Err Unbalanced
+unless_choosing false r = r
+
 -- the meaning of a statement behind others, or the code of a rule that it breaks
 abbrev pub resolved : Behind → ℕ → Form → Result Meaning FaultCode
-resolved b e form = unless_barred (is_measuring b.blocks && is_barred form) (stated b e form)
+resolved b e form =
+    unless_barred (is_measuring b.blocks && is_barred form)
+    (unless_choosing (is_choosing b.blocks && is_in_block form) (stated b e form))
 
 -- the same of a statement of an expanded program
 abbrev pub resolved_here : Behind → Placed → Result Meaning FaultCode
@@ -124,6 +149,11 @@ blocks_after bs (Repeats v a b c) = InBody ∷ bs
 blocks_after bs EndsRepeat = outer bs
 blocks_after bs (Measures f) = InMeasure f ∷ bs
 blocks_after bs EndsMeasure = outer bs
+blocks_after bs (Selects t) = InSelect false ∷ bs
+blocks_after bs (BeginsCase value) = InCase ∷ bs
+blocks_after bs BeginsDefault = InCase ∷ InSelect true ∷ outer bs
+blocks_after bs EndsCase = outer bs
+blocks_after bs EndsSelect = outer bs
 blocks_after bs _ = bs
 
 -- the labels behind a counted statement

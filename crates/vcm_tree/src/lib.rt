@@ -2,11 +2,13 @@
 #![tactic(auto)]
 
 mod builder;
+mod cases;
 pub mod laws;
 mod measuring;
 mod phases;
 mod program;
 mod resolving;
+mod selection;
 mod statements;
 mod tables;
 mod taking;

@@ -97,8 +97,15 @@ pub(crate) fn drafted(
         labels: Labels::new(alloc),
         builder,
     };
+    let mut selection = None;
     for placed in all {
-        take(alloc, &mut read, placed.statement(), placed.expansion)?;
+        selection = take(
+            alloc,
+            &mut read,
+            selection,
+            placed.statement(),
+            placed.expansion,
+        )?;
     }
     let notices = noted(alloc, written)?;
     let names = Listing {

@@ -5,13 +5,15 @@ ghost use Rattle.vcm_lines.specs.Fault.{NoMemoryOr};
 ghost use Rattle.vcm_nodes.specs.Nodes.{action_of};
 ghost use Rattle.vcm_tree.specs.Sentences.{sentence, Marks};
 ghost use Rattle.vcm_tree.specs.Variables.{is_declared, with_one, with_all, want_of, assigned, moved};
-ghost use Rattle.vcm_tree.specs.Blocks.{indexed, increment_of, repeated, nested, tested, marked};
+ghost use Rattle.vcm_tree.specs.Blocks.{indexed, increment_of, repeated, nested, tested, selected, marked};
 ghost use Rattle.vcm_tree.specs.inner.Telling.{ToldAt};
 ghost use Rattle.vcm_tree.specs.inner.Building.{blocks_of, written, Reads};
-ghost use Rattle.vcm_tree.specs.inner.Taking.{IsBody};
+ghost use Rattle.vcm_tree.specs.inner.Taking.{IsBody, IsSelected};
 
 use crate::builder::{Builder, Head};
+use crate::cases::CaseBlocks;
 use crate::measuring::lengths;
+use crate::selection::Selection;
 use std::alloc::Global;
 use vcm_expr::{Expr, Name, Names, Typed, VariableName, Want, type_expr};
 use vcm_lines::{FaultCode, SourceFault};
@@ -202,6 +204,20 @@ pub(crate) fn repeat(
     let head = body(alloc, line, names, rounds)?;
     builder.open(alloc, head)?;
     Ok(())
+}
+
+/// `SELECT`.
+pub(crate) fn select(
+    alloc: Global,
+    line: u32,
+    names: &Names,
+    value: &Expr,
+) -> Result<Selection, SourceFault>
+    ensures ok { IfOk result (λ s. IsSelected names.now value.now line s) }
+    ensures fault { IfErr result (NoMemoryOr (ToldAt line (selected names.now value.now))) }
+{
+    let value = type_expr(alloc, value, line, names, Want::Int)?;
+    Ok(Selection::Plain(line, value, CaseBlocks::new(alloc)))
 }
 
 /// A jump label.

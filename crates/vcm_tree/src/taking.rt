@@ -1,18 +1,19 @@
 //! Reads statements, one behind the other: what each of them does to a program.
 
-ghost use Rattle.std.specs.Prelude.{◌≡◌, None, IfOk, IfErr, OnOk};
+ghost use Rattle.std.specs.Prelude.{◌≡◌, Some, None, IfOk, IfErr};
 ghost use Rattle.vcm_lines.specs.Fault.{NoMemoryOr};
 ghost use Rattle.vcm_spec.specs.Simple.{Text};
 ghost use Rattle.vcm_nodes.specs.Nodes.{action_of};
-ghost use Rattle.vcm_tree.specs.Resolving.{is_barred, acted, stated, resolved_here};
+ghost use Rattle.vcm_tree.specs.Resolving.{is_barred, is_in_block, acted, stated, resolved_here};
 ghost use Rattle.vcm_tree.specs.inner.Telling.{ToldAt};
-ghost use Rattle.vcm_tree.specs.inner.Taking.{behind_of, Acts, ActedAt, Takes, TakesStated};
+ghost use Rattle.vcm_tree.specs.inner.Taking.{behind_with, behind_of, Acts, ActedAt, unselected, Takes, TakesStated};
 
-use crate::builder::{Builder, bad_body};
+use crate::builder::{Builder, bad_body, unbalanced};
 use crate::measuring::{
     configure, declare_feature, measure, obtain, recall, report, rotate, shift, touch,
 };
-use crate::resolving::{assign, declare_all, go_to, mark, repeat, test};
+use crate::resolving::{assign, declare_all, go_to, mark, repeat, select, test};
+use crate::selection::Selection;
 use crate::titles::Titles;
 use std::alloc::{AllocError, Global};
 use vcm_expr::Names;
@@ -41,18 +42,81 @@ fn is_barred(form: &Form) -> bool
         Form::Mark(_) | Form::Leap(_) | Form::Feature(_, _, _) | Form::Measure(_) => true,
         Form::Configure(_, _) | Form::Shift(_, _) | Form::Rotation(_, _, _) => true,
         Form::Restore(_) | Form::Query(_, _, _, _) | Form::Report(_, _) => true,
+        Form::Choose(_) => true,
         _ => false,
     }
 }
 
-/// Reads one statement more.
+// Whether a statement is one that stands in a block only, where a SELECT is open.
+fn is_in_block(form: &Form) -> bool
+    ensures { result ≡ is_in_block form.now }
+{
+    match form {
+        Form::Declaration(_, _) => true,
+        Form::Case(_) | Form::Default | Form::ChooseEnd => false,
+        _ => form.is_counted(),
+    }
+}
+
+/// Reads one statement more, where the next block of a `SELECT` is waited for or not. Gives the `SELECT` whose next block is waited for
+/// behind it.
 pub(crate) fn take(
+    alloc: Global,
+    read: &mut Progress,
+    selection: Option<Selection>,
+    statement: &Statement,
+    expansion: u32,
+) -> Result<Option<Selection>, SourceFault>
+    ensures ok { IfOk result (Takes (record { statement = statement.now; expansion = expansion }) read.old selection read.new) }
+    ensures fault { IfErr result (NoMemoryOr (ToldAt statement.now.line (resolved_here (behind_with read.old selection) (record { statement = statement.now; expansion = expansion })))) }
+{
+    match selection {
+        Some(selection) => take_choosing(alloc, read, selection, statement, expansion),
+        None => take_placed(alloc, read, statement, expansion),
+    }
+}
+
+// Reads one statement more where a SELECT is open and none of its blocks.
+fn take_choosing(
+    alloc: Global,
+    read: &mut Progress,
+    selection: Selection,
+    statement: &Statement,
+    expansion: u32,
+) -> Result<Option<Selection>, SourceFault>
+    ensures ok { IfOk result (Takes (record { statement = statement.now; expansion = expansion }) read.old (Some selection) read.new) }
+    ensures fault { IfErr result (NoMemoryOr (ToldAt statement.now.line (resolved_here (behind_with read.old (Some selection)) (record { statement = statement.now; expansion = expansion })))) }
+{
+    let line = statement.line;
+    if is_in_block(&statement.form) {
+        return Err(unbalanced(line));
+    }
+    match &statement.form {
+        Form::Case(value) => {
+            let value = Some(*value);
+            read.builder.begin_case(alloc, line, selection, value)?;
+            Ok(None)
+        }
+        Form::Default => {
+            read.builder.begin_case(alloc, line, selection, None)?;
+            Ok(None)
+        }
+        Form::ChooseEnd => {
+            read.builder.end_select(line, selection)?;
+            Ok(None)
+        }
+        _ => Ok(Some(selection)),
+    }
+}
+
+// Reads one statement more in a block.
+fn take_placed(
     alloc: Global,
     read: &mut Progress,
     statement: &Statement,
     expansion: u32,
-) -> Result<(), SourceFault>
-    ensures ok { OnOk result (Takes (record { statement = statement.now; expansion = expansion }) read.old read.new) }
+) -> Result<Option<Selection>, SourceFault>
+    ensures ok { IfOk result (Takes (record { statement = statement.now; expansion = expansion }) read.old None read.new) }
     ensures fault { IfErr result (NoMemoryOr (ToldAt statement.now.line (resolved_here (behind_of read.old) (record { statement = statement.now; expansion = expansion })))) }
 {
     if read.builder.measuring().is_some() && is_barred(&statement.form) {
@@ -61,20 +125,20 @@ pub(crate) fn take(
     take_stated(alloc, read, statement, expansion)
 }
 
-// Reads one statement more where it may stand.
+// Reads one statement more in a block where it may stand.
 fn take_stated(
     alloc: Global,
     read: &mut Progress,
     statement: &Statement,
     expansion: u32,
-) -> Result<(), SourceFault>
-    ensures ok { OnOk result (TakesStated (record { statement = statement.now; expansion = expansion }) read.old read.new) }
+) -> Result<Option<Selection>, SourceFault>
+    ensures ok { IfOk result (TakesStated (record { statement = statement.now; expansion = expansion }) read.old None read.new) }
     ensures fault { IfErr result (NoMemoryOr (ToldAt statement.now.line (stated (behind_of read.old) expansion statement.now.form))) }
 {
     match simple(alloc, read, statement)? {
         Some(action) => {
             read.builder.act(statement.line, action)?;
-            Ok(())
+            Ok(None)
         }
         None => take_structured(alloc, read, statement, expansion),
     }
@@ -139,42 +203,57 @@ fn simple(
     }
 }
 
+// No SELECT waits for its next block behind a statement that is read so.
+fn unselected(read: Result<(), SourceFault>) -> Result<Option<Selection>, SourceFault>
+    ensures { result ≡ unselected read }
+{
+    read?;
+    Ok(None)
+}
+
 // Reads a statement that isn't simple.
 fn take_structured(
     alloc: Global,
     read: &mut Progress,
     statement: &Statement,
     expansion: u32,
-) -> Result<(), SourceFault>
+) -> Result<Option<Selection>, SourceFault>
     requires { acted (behind_of read.old) statement.now.form ≡ None }
-    ensures ok { OnOk result (TakesStated (record { statement = statement.now; expansion = expansion }) read.old read.new) }
+    ensures ok { IfOk result (TakesStated (record { statement = statement.now; expansion = expansion }) read.old None read.new) }
     ensures fault { IfErr result (NoMemoryOr (ToldAt statement.now.line (stated (behind_of read.old) expansion statement.now.form))) }
 {
     let line = statement.line;
     match &statement.form {
         Form::Declaration(kind, declared) => {
-            declare_all(line, &mut read.names, expansion, *kind, declared.as_slice())
+            declare_all(line, &mut read.names, expansion, *kind, declared.as_slice())?;
+            Ok(None)
         }
-        Form::Test(condition) => test(alloc, line, &read.names, &mut read.builder, condition),
-        Form::Otherwise => read.builder.divide(alloc, line),
-        Form::TestEnd => read.builder.end_test(line),
-        Form::Repeat(rounds) => repeat(alloc, line, &read.names, &mut read.builder, rounds),
-        Form::RepeatEnd => read.builder.end_repeat(line),
+        Form::Test(e) => unselected(test(alloc, line, &read.names, &mut read.builder, e)),
+        Form::Otherwise => unselected(read.builder.divide(alloc, line)),
+        Form::TestEnd => unselected(read.builder.end_test(line)),
+        Form::Repeat(r) => unselected(repeat(alloc, line, &read.names, &mut read.builder, r)),
+        Form::RepeatEnd => unselected(read.builder.end_repeat(line)),
         Form::Mark(name) => {
             let label = Label::new(name.copy(), expansion);
-            mark(line, &mut read.labels, &mut read.builder, label)
+            mark(line, &mut read.labels, &mut read.builder, label)?;
+            Ok(None)
         }
         Form::Leap(name) => {
             read.builder.leap(line, Label::new(name.copy(), expansion))?;
-            Ok(())
+            Ok(None)
         }
         Form::Measure(name) => {
             measure(alloc, line, &read.features, &mut read.builder, name)?;
             read.touched = false;
-            Ok(())
+            Ok(None)
         }
-        Form::MeasureEnd => read.builder.end_measure(line, read.touched),
-        Form::Ending => read.builder.end(line),
-        _ => Ok(()),
+        Form::MeasureEnd => unselected(read.builder.end_measure(line, read.touched)),
+        Form::Choose(value) => Ok(Some(select(alloc, line, &read.names, value)?)),
+        Form::CaseEnd => Ok(Some(read.builder.end_case(line)?)),
+        Form::Case(_) => Err(unbalanced(line)),
+        Form::Default => Err(unbalanced(line)),
+        Form::ChooseEnd => Err(unbalanced(line)),
+        Form::Ending => unselected(read.builder.end(line)),
+        _ => Ok(None),
     }
 }

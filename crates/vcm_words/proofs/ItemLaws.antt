@@ -1,6 +1,6 @@
 -- Items and expressions: what is read is spelled so, and what is spelled so is read again.
-use Rattle.std.proofs.Common.{◌≡◌, ℕ, zero, suc, ◌<◌, ◌^◌, true, false, inl, inr, List, [], ◌∷◌, ◌++◌, length, Option, Some, None, refl, sym, ap, ◌∙◌, subst, arith, IsTrue}
-use Rattle.std.specs.Prelude.{decimal, codes}
+use Rattle.std.proofs.Common.{◌≡◌, ℕ, zero, suc, ◌<◌, ◌^◌, true, false, inl, inr, List, ◌∷◌, length, Some, None, refl, sym, ap, ◌∙◌, subst, arith, IsTrue}
+use Rattle.std.specs.Prelude.{decimal}
 use Rattle.std.specs.Fmt.{signed_decimal}
 use Rattle.std.specs.List.{AllByRecursion}
 use Rattle.std.proofs.lemmas.Fmt.{decimal_digit}
@@ -15,11 +15,13 @@ use Rattle.vcm_fields.specs.Fitting.{within, FitsOperand, FitsItem, FitsExpressi
 use Rattle.vcm_words.specs.inner.Marks.{Without, IsWord}
 use Rattle.vcm_words.specs.Numbers.{natural, number, signed, counted}
 use Rattle.vcm_num.specs.Words.{look_up}
-use Rattle.vcm_words.specs.WordReaders.{◌>>=◌, marked, ending}
-use Rattle.vcm_words.specs.Items.{truth_text, operand_text, item_text, closed_words, opened, expression, operator_rows, truth_of, operand_in, item_in, last_or_more, items_at, opening, unopened, bracketed_at, expression_at}
-use Rattle.vcm_words.proofs.Inverse.{Means, Reads, bind_some, some_is, reads_tested, all_append}
+use Rattle.vcm_words.specs.WordReaders.{marked}
+use Rattle.vcm_words.specs.Enclosed.{between}
+use Rattle.vcm_words.specs.Items.{truth_text, operand_text, item_text, expression, operator_rows, truth_of, operand_in, item_in, expression_at}
+use Rattle.vcm_words.proofs.Inverse.{Means, Reads, reads_tested}
+use Rattle.vcm_words.proofs.EnclosedLaws.{SomeOf, reads_between}
 use Rattle.vcm_words.proofs.NumberLaws.{natural_again, whole_again, means_number, means_signed, decimal_word, decimal_without_high, signed_without_high}
-use Rattle.vcm_words.proofs.WordLaws.{or_else_takes, option_map_takes, marked_takes, means_marked, named_takes, ending_none, ending_some, ending_takes}
+use Rattle.vcm_words.proofs.WordLaws.{or_else_takes, option_map_takes, means_marked, named_takes}
 use Rattle.std.specs.Option.{option_map}
 
 -- ---- leaves
@@ -137,87 +139,13 @@ item_without (Combine (Compare LessEqual)) h = (((refl, (refl, tt)), (refl, (ref
 item_without (Combine (Compare Greater)) h = (((refl, (refl, tt)), (refl, (refl, tt))), (refl, (refl, tt)))
 item_without (Combine (Compare GreaterEqual)) h = (((refl, (refl, tt)), (refl, (refl, tt))), (refl, (refl, tt)))
 
--- ---- items up to the bracket
-
-closed_more : (i : Item) (is : List Item) → 0 < length is → closed_words (i ∷ is) ≡ item_text i ∷ closed_words is
-closed_more i [] h = absurd (omega arith)
-closed_more i (j ∷ is) h = refl
-
-AreItems : List (List ℕ) → List Item × List (List ℕ) → Type 0
-AreItems ws x = (ws ≡ closed_words x.0 ++ x.1) × ((0 < length x.0) × AllByRecursion FitsItem x.0)
-
-items_take : (ws : List (List ℕ)) (x : List Item × List (List ℕ)) → items_at true ws ≡ Some x → AreItems ws x
-unfolding items_at AreItems
-items_take [] x e = absurd cc
-items_take (w ∷ ws) x e = split (λ y f. items_take ws y f) (ending 93 w) refl e
-  where
-    split : ((y : List Item × List (List ℕ)) → items_at true ws ≡ Some y → AreItems ws y) → (o : Option (List ℕ)) → ending 93 w ≡ o → last_or_more true w ws o (items_at true ws) ≡ Some x → AreItems (w ∷ ws) x
-    split more (Some v) c f =
-        let p = bind_some (item_in true v) (λ i. Some (i ∷ [], ws)) x f in
-        let t = item_takes v p.0 p.1 in
-        let made : List Item × List (List ℕ) = (p.0 ∷ [], ws) in
-        let word : w ≡ item_text p.0 ++ codes "]" = ending_takes 93 w v c ∙ ap (λ u. u ++ codes "]") t.0 in
-        subst (λ (y : List Item × List (List ℕ)). AreItems (w ∷ ws) y) (some_is made x p.2) (ap (λ u. u ∷ ws) word, (omega arith, (t.1, tt)))
-    split more None c f =
-        let p = bind_some (item_in true w) (λ i. items_at true ws >>= λ is. Some (i ∷ is.0, is.1)) x f in
-        let q = bind_some (items_at true ws) (λ is. Some (p.0 ∷ is.0, is.1)) x p.2 in
-        let t = item_takes w p.0 p.1 in
-        let m = more q.0 q.1 in
-        let made : List Item × List (List ℕ) = (p.0 ∷ q.0.0, q.0.1) in
-        let words : w ∷ ws ≡ closed_words (p.0 ∷ q.0.0) ++ q.0.1 = ap (λ u. u ∷ ws) t.0 ∙ ap (λ r. item_text p.0 ∷ r) m.0 ∙ ap (λ r. r ++ q.0.1) (sym (closed_more p.0 q.0.0 m.1.0)) in
-        subst (λ (y : List Item × List (List ℕ)). AreItems (w ∷ ws) y) (some_is made x q.2) (words, (omega arith, (t.1, m.1.1)))
-
-items_again : (i : Item) (is : List Item) (rest : List (List ℕ)) → AllByRecursion FitsItem (i ∷ is) → items_at true (closed_words (i ∷ is) ++ rest) ≡ Some (i ∷ is, rest)
-unfolding items_at
-items_again i [] rest h = rw (ending_some 93 (item_text i), item_again i h.0) refl
-items_again i (j ∷ is) rest h = rw (ending_none 93 (item_text i) (item_without i h.0).1, item_again i h.0, items_again j is rest h.1) refl
-
-end_word : (w : List ℕ) → IsWord w → IsWord (w ++ codes "]")
-end_word w h = (all_append _ w (codes "]") h.0 (refl, tt), all_append _ w (codes "]") h.1 (refl, tt))
-
-closed_are_words : (i : Item) (is : List Item) → AllByRecursion FitsItem (i ∷ is) → AllByRecursion IsWord (closed_words (i ∷ is))
-closed_are_words i [] h = (end_word (item_text i) (item_without i h.0).0, tt)
-closed_are_words i (j ∷ is) h = ((item_without i h.0).0, closed_are_words j is h.1)
+means_item : Means (item_in true) item_text FitsItem
+means_item = record { takes = item_takes; again = item_again; words = λ i h. (item_without i h).0 }
 
 -- ---- brackets
 
--- at least one item, and all in range
-abbrev pub Some-items : List Item → Type 0
-Some-items is = (0 < length is) × AllByRecursion FitsItem is
-
-opened_is : (v : List ℕ) (ws rest : List (List ℕ)) (is : List Item) → 0 < length is → v ∷ ws ≡ closed_words is ++ rest → (91 ∷ v) ∷ ws ≡ opened (closed_words is) ++ rest
-opened_is v ws rest [] l e = absurd (omega arith)
-opened_is v ws rest (i ∷ []) l e = let a : v ≡ item_text i ++ codes "]" = cc in let b : ws ≡ rest = cc in rw (a, b) refl
-opened_is v ws rest (i ∷ j ∷ is) l e = let a : v ≡ item_text i = cc in let b : ws ≡ closed_words (j ∷ is) ++ rest = cc in rw (a, b) refl
-
-bracketed_takes : (ws : List (List ℕ)) (x : List Item × List (List ℕ)) → bracketed_at true ws ≡ Some x → (ws ≡ expression x.0 ++ x.1) × Some-items x.0
-unfolding bracketed_at AreItems
-bracketed_takes [] x e = absurd cc
-bracketed_takes (w ∷ ws) x e =
-    let u = bind_some (unopened (w ∷ ws)) (items_at true) x e in
-    let p = bind_some (opening w) (λ v. Some (v ∷ ws)) u.0 u.1 in
-    let o = marked_takes 91 (λ bs. Some bs) w p.0 p.1 in
-    let same : o.0 ≡ p.0 = some_is _ _ o.2 in
-    let words : u.0 ≡ p.0 ∷ ws = sym (some_is _ _ p.2) in
-    let t = items_take (p.0 ∷ ws) x (ap (items_at true) (sym words) ∙ u.2) in
-    (ap (λ v. v ∷ ws) (o.1 ∙ ap (λ r. 91 ∷ r) same) ∙ opened_is p.0 ws x.1 x.0 t.1.0 t.0, t.1)
-
-bracketed_again : (is : List Item) (rest : List (List ℕ)) → Some-items is → bracketed_at true (expression is ++ rest) ≡ Some (is, rest)
-unfolding bracketed_at
-bracketed_again [] rest h = absurd (omega (arith, h.0))
-bracketed_again (i ∷ []) rest h = items_again i [] rest h.1
-bracketed_again (i ∷ j ∷ is) rest h = items_again i (j ∷ is) rest h.1
-
-open_word : (w : List ℕ) → IsWord w → IsWord (91 ∷ w)
-open_word w h = ((refl, h.0), (refl, h.1))
-
-bracketed_words : (is : List Item) → Some-items is → AllByRecursion IsWord (expression is)
-bracketed_words [] h = absurd (omega (arith, h.0))
-bracketed_words (i ∷ []) h = let c = closed_are_words i [] h.1 in (open_word (item_text i ++ codes "]") c.0, c.1)
-bracketed_words (i ∷ j ∷ is) h = let c = closed_are_words i (j ∷ is) h.1 in (open_word (item_text i) c.0, c.1)
-
-reads_bracketed : Reads (bracketed_at true) expression Some-items
-reads_bracketed = record { takes = λ ws x bare e. bracketed_takes ws x e; again = bracketed_again; words = bracketed_words }
+reads_bracketed : Reads (between 91 93 (item_in true)) expression (SomeOf FitsItem)
+reads_bracketed = reads_between 91 93 ((refl, refl), (refl, refl)) means_item (λ i h. (item_without i h).1)
 
 within_some : (is : List Item) → IsTrue (within 1 1024 (length is)) → 0 < length is
 within_some is h = grind arith

@@ -3,7 +3,9 @@ pub mod FirstCut
 pub mod Inverse
 pub mod NumberLaws
 pub mod WordLaws
+pub mod EnclosedLaws
 pub mod ItemLaws
+pub mod BranchLaws
 pub mod PlaceLaws
 pub mod SliceLaws
 pub mod TextLaws

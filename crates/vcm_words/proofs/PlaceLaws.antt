@@ -7,15 +7,17 @@ use Rattle.vcm_spec.specs.declared.words.Setting.{Setting}
 use Rattle.vcm_spec.specs.declared.words.Setting.TheVariants.{Approach, Retract, Search, Depth}
 use Rattle.vcm_spec.specs.declared.words.Source.{Source}
 use Rattle.vcm_spec.specs.declared.words.Source.TheVariants.{Nominal, Actual}
+use Rattle.vcm_code.specs.declared.version.Version.{Version}
 use Rattle.vcm_fields.specs.declared.word.Word.{Word}
 use Rattle.vcm_fields.specs.declared.word.Word.TheVariants as words
+use Rattle.vcm_fields.specs.Words.{has_word}
 use Rattle.vcm_fields.specs.Fitting.{within}
 use Rattle.vcm_words.specs.inner.Marks.{IsWord}
 use Rattle.vcm_words.specs.Numbers.{number, counted, only_if}
 use Rattle.vcm_num.specs.Words.{look_up}
 use Rattle.vcm_words.specs.WordReaders.{◌>>=◌, one}
-use Rattle.vcm_words.specs.Operands.{single, number_text, number_at, lettered, lettered_at, variable, feature, frame, pair, target, variable_at, feature_at, frame_at, pair_at, target_at, axis_text, axis_rows, direction_text, direction_rows, setting_text, setting_rows, source_text, source_rows, turn_text, turn_rows, part_at, word_text, word_rows, word_at}
-use Rattle.vcm_words.proofs.Inverse.{Means, Reads, bind_some, only_met, reads_one}
+use Rattle.vcm_words.specs.Operands.{single, number_text, number_at, lettered, lettered_at, variable, feature, frame, pair, target, variable_at, feature_at, frame_at, pair_at, target_at, axis_text, axis_rows, direction_text, direction_rows, setting_text, setting_rows, source_text, source_rows, turn_text, turn_rows, part_at, word_text, word_rows, any_word_at, word_at}
+use Rattle.vcm_words.proofs.Inverse.{Means, Reads, bind_some, only_met, reads_one, reads_tested}
 use Rattle.vcm_words.proofs.NumberLaws.{means_number}
 use Rattle.vcm_words.proofs.WordLaws.{means_marked, means_named}
 
@@ -190,6 +192,11 @@ word_again words.Recall h = refl
 word_again words.Obtain h = refl
 word_again words.Output h = refl
 word_again words.Text h = refl
+word_again words.Select h = refl
+word_again words.Case h = refl
+word_again words.EndCas h = refl
+word_again words.DftCas h = refl
+word_again words.EndSel h = refl
 
 word_words : (x : Word) → Any x → IsWord (word_text x)
 word_words words.EndFil h = ((refl, (refl, (refl, (refl, (refl, (refl, tt)))))), (refl, (refl, (refl, (refl, (refl, (refl, tt)))))))
@@ -214,7 +221,20 @@ word_words words.Recall h = ((refl, (refl, (refl, (refl, (refl, (refl, tt)))))),
 word_words words.Obtain h = ((refl, (refl, (refl, (refl, (refl, (refl, tt)))))), (refl, (refl, (refl, (refl, (refl, (refl, tt)))))))
 word_words words.Output h = ((refl, (refl, (refl, (refl, (refl, (refl, tt)))))), (refl, (refl, (refl, (refl, (refl, (refl, tt)))))))
 word_words words.Text h = ((refl, (refl, (refl, (refl, tt)))), (refl, (refl, (refl, (refl, tt)))))
+word_words words.Select h = ((refl, (refl, (refl, (refl, (refl, (refl, tt)))))), (refl, (refl, (refl, (refl, (refl, (refl, tt)))))))
+word_words words.Case h = ((refl, (refl, (refl, (refl, tt)))), (refl, (refl, (refl, (refl, tt)))))
+word_words words.EndCas h = ((refl, (refl, (refl, (refl, (refl, (refl, tt)))))), (refl, (refl, (refl, (refl, (refl, (refl, tt)))))))
+word_words words.DftCas h = ((refl, (refl, (refl, (refl, (refl, (refl, tt)))))), (refl, (refl, (refl, (refl, (refl, (refl, tt)))))))
+word_words words.EndSel h = ((refl, (refl, (refl, (refl, (refl, (refl, tt)))))), (refl, (refl, (refl, (refl, (refl, (refl, tt)))))))
 
-pub reads_word : Reads word_at (λ x. single (word_text x)) Any
+reads_any_word : Reads any_word_at (λ x. single (word_text x)) Any
 unfolding Any
-reads_word = reads_one (means_named word_text Any word_rows ((refl, tt), ((refl, tt), ((refl, tt), ((refl, tt), ((refl, tt), ((refl, tt), ((refl, tt), ((refl, tt), ((refl, tt), ((refl, tt), ((refl, tt), ((refl, tt), ((refl, tt), ((refl, tt), ((refl, tt), ((refl, tt), ((refl, tt), ((refl, tt), ((refl, tt), ((refl, tt), ((refl, tt), ((refl, tt), tt)))))))))))))))))))))) word_again word_words)
+reads_any_word = reads_one (means_named word_text Any word_rows ((refl, tt), ((refl, tt), ((refl, tt), ((refl, tt), ((refl, tt), ((refl, tt), ((refl, tt), ((refl, tt), ((refl, tt), ((refl, tt), ((refl, tt), ((refl, tt), ((refl, tt), ((refl, tt), ((refl, tt), ((refl, tt), ((refl, tt), ((refl, tt), ((refl, tt), ((refl, tt), ((refl, tt), ((refl, tt), ((refl, tt), ((refl, tt), ((refl, tt), ((refl, tt), ((refl, tt), tt))))))))))))))))))))))))))) word_again word_words)
+
+-- a word that the version has
+unfoldable pub Has : Version → Word → Type 0
+Has version w = IsTrue (has_word version w)
+
+pub reads_word : (version : Version) → Reads (word_at version) (λ x. single (word_text x)) (Has version)
+unfolding Any Has
+reads_word version = reads_tested reads_any_word (has_word version) (Has version) (λ w h e. e) (λ w h. (tt, h))

@@ -1,5 +1,5 @@
 -- Expressions in a listing: their items between brackets.
-use Rattle.std.specs.Prelude.{ℕ, ◌==◌, ◌^◌, Bool, true, false, List, [], ◌∷◌, ◌++◌, length, Option, Some, None, decimal, codes}
+use Rattle.std.specs.Prelude.{ℕ, ◌==◌, ◌^◌, Bool, true, false, List, [], ◌∷◌, length, Option, decimal, codes}
 use Rattle.std.specs.Fmt.{signed_decimal}
 use Rattle.vcm_spec.specs.declared.expression.Operand.{Operand}
 use Rattle.vcm_spec.specs.declared.expression.Operand.TheVariants.{Integer, Thousandths, Truth, Variable}
@@ -13,7 +13,8 @@ use Rattle.vcm_spec.specs.declared.expression.Item.TheVariants.{Push, Apply, Com
 use Rattle.vcm_fields.specs.Fitting.{within}
 use Rattle.vcm_words.specs.Numbers.{number, signed, counted}
 use Rattle.vcm_num.specs.Words.{look_up}
-use Rattle.vcm_words.specs.WordReaders.{◌>>=◌, Reader, marked, or_else, tested, ending}
+use Rattle.vcm_words.specs.WordReaders.{Reader, marked, or_else, tested}
+use Rattle.vcm_words.specs.Enclosed.{closed, opened, between}
 use Rattle.std.specs.Option.{option_map}
 
 -- ---- writing
@@ -57,20 +58,9 @@ item_text (Push x) = operand_text x
 item_text (Apply op) = unary_text op
 item_text (Combine op) = binary_text op
 
--- the items' words, the last one with a bracket behind it
-abbrev pub closed_words : List Item → List (List ℕ)
-closed_words [] = codes "]" ∷ []
-closed_words (i ∷ []) = (item_text i ++ codes "]") ∷ []
-closed_words (i ∷ j ∷ is) = item_text i ∷ closed_words (j ∷ is)
-
--- a bracket before the first word
-abbrev pub opened : List (List ℕ) → List (List ℕ)
-opened [] = []
-opened (w ∷ ws) = (91 ∷ w) ∷ ws
-
 -- an expression's words: [I20 SCALE]
 abbrev pub expression : List Item → List (List ℕ)
-expression items = opened (closed_words items)
+expression items = opened 91 (closed 93 item_text items)
 
 -- ---- reading
 
@@ -110,30 +100,6 @@ operand_in exact w =
 unfoldable pub item_in : Bool → List ℕ → Option Item
 item_in exact w = or_else (look_up operator_rows w) (option_map Push (operand_in exact w))
 
--- the last item of an expression, or one with more behind it
-abbrev pub last_or_more : Bool → List ℕ → List (List ℕ) → Option (List ℕ) → Option (List Item × List (List ℕ))
-    → Option (List Item × List (List ℕ))
-last_or_more exact w ws (Some last) more = item_in exact last >>= λ i. Some (i ∷ [], ws)
-last_or_more exact w ws None more = item_in exact w >>= λ i. more >>= λ is. Some (i ∷ is.0, is.1)
-
--- items up to the closing bracket
-unfoldable pub items_at : Bool → Reader (List Item)
-items_at exact [] = None
-items_at exact (w ∷ ws) = last_or_more exact w ws (ending 93 w) (items_at exact ws)
-
--- what stands behind the opening bracket of a word
-abbrev pub opening : List ℕ → Option (List ℕ)
-opening w = marked 91 (λ bs. Some bs) w
-
--- the words without the bracket before the first
-abbrev pub unopened : List (List ℕ) → Option (List (List ℕ))
-unopened [] = None
-unopened (w ∷ ws) = opening w >>= λ v. Some (v ∷ ws)
-
--- items between brackets
-unfoldable pub bracketed_at : Bool → Reader (List Item)
-bracketed_at exact ws = unopened ws >>= items_at exact
-
 -- an expression: 1 to 1,024 items between brackets
 unfoldable pub expression_at : Bool → Reader (List Item)
-expression_at exact = tested (λ is. counted exact (within 1 1024 (length is))) (bracketed_at exact)
+expression_at exact = tested (λ is. counted exact (within 1 1024 (length is))) (between 91 93 (item_in exact))

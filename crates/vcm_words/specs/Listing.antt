@@ -2,6 +2,8 @@
 use Rattle.std.specs.Prelude.{ℕ, suc, ◌==◌, ◌&&◌, nat_lt, Bool, true, false, if◌then◌else◌, List, [], ◌∷◌, ◌++◌, length, Option, Some, None}
 use Rattle.std.specs.Prelude.{Result, Ok, Err}
 use Rattle.vcm_code.specs.declared.code.Code.{Code}
+use Rattle.vcm_code.specs.declared.version.Version.{Version}
+use Rattle.vcm_code.specs.declared.version.Version.TheVariants.{One}
 use Rattle.vcm_spec.specs.Setup.{Tables}
 use Rattle.vcm_words.specs.declared.row.Row.TheVariants.{Head, Variable, Feature, Frame, Numbered}
 use Rattle.vcm_words.specs.declared.fault.ListCode.{ListCode}
@@ -17,7 +19,7 @@ is_empty (x ∷ xs) = false
 
 -- the code with other tables
 abbrev pub with_tables : Code → Tables → Code
-with_tables c tables = record { tables = tables; statements = c.statements }
+with_tables c tables = record { version = c.version; tables = tables; statements = c.statements }
 
 -- a table with room takes the next index while no later section has begun
 abbrev pub placed : (count limit i : ℕ) → Bool → Code → Result Code ListCode
@@ -26,7 +28,7 @@ placed count limit i in_order c =
 
 -- the code with one more line
 unfoldable pub added : Code → ListRow → Result Code ListCode
-added c Head = Err OutOfOrder
+added c (Head version) = Err OutOfOrder
 added c (Variable i v) =
     placed (length c.tables.variables) 4096 i (is_empty c.tables.features && (is_empty c.tables.frames && is_empty c.statements))
     (with_tables c (record c.tables { variables = c.tables.variables ++ v ∷ [] }))
@@ -36,7 +38,8 @@ added c (Feature i name) =
 added c (Frame i name) =
     placed (length c.tables.frames) 4096 i (is_empty c.statements)
     (with_tables c (record c.tables { frames = c.tables.frames ++ name ∷ [] }))
-added c (Numbered n s) = placed (length c.statements) 20000 n true (record { tables = c.tables; statements = c.statements ++ s ∷ [] })
+added c (Numbered n s) =
+    placed (length c.statements) 20000 n true (record { version = c.version; tables = c.tables; statements = c.statements ++ s ∷ [] })
 
 -- a line that can't be read has the shape of a line with other numbers, or no shape
 abbrev pub unread : Option ListRow → ListCode
@@ -46,21 +49,25 @@ unread (Some r) = BadNumber
 -- what a line makes of the code before it
 abbrev pub after_line : Code → Option ListRow → List ℕ → Result Code ListCode
 after_line c (Some r) w = added c r
-after_line c None w = Err (unread (row_of false w))
+after_line c None w = Err (unread (row_of c.version false w))
 
 -- the first line has to be the head
 abbrev pub unread_head : Option ListRow → ListCode
-unread_head (Some Head) = BadNumber
+unread_head (Some (Head version)) = BadNumber
 unread_head _ = BadLine
 
--- the code without names and statements
-abbrev pub empty : Code
-empty = record { tables = record { variables = []; features = []; frames = [] }; statements = [] }
+-- the first line, which tells the version of the others; a head is the same in each version
+abbrev pub first_row : Bool → List ℕ → Option ListRow
+first_row exact w = row_of One exact w
+
+-- the code of a version without names and statements
+abbrev pub empty : Version → Code
+empty version = record { version = version; tables = record { variables = []; features = []; frames = [] }; statements = [] }
 
 -- what the first line makes
 abbrev pub after_head : Option ListRow → List ℕ → Result Code ListCode
-after_head (Some Head) w = Ok empty
-after_head _ w = Err (unread_head (row_of false w))
+after_head (Some (Head version)) w = Ok (empty version)
+after_head _ w = Err (unread_head (first_row false w))
 
 -- a rule that is broken at line n
 abbrev pub told : ℕ → ListCode → ListFault
@@ -75,13 +82,13 @@ on n (Err e) f = Err (told n e)
 unfoldable pub lines_read : ℕ → Code → List (List ℕ) → Result Code ListFault
 lines_read n c [] = Err (told n BadLine)
 lines_read n c (w ∷ []) = if is_empty w then Ok c else Err (told n BadLine)
-lines_read n c (w ∷ v ∷ ws) = on n (after_line c (row_of true w) w) (λ d. lines_read (suc n) d (v ∷ ws))
+lines_read n c (w ∷ v ∷ ws) = on n (after_line c (row_of c.version true w) w) (λ d. lines_read (suc n) d (v ∷ ws))
 
 -- the lines of a listing
 abbrev pub parts_read : List (List ℕ) → Result Code ListFault
 parts_read [] = Err (told 1 BadLine)
 parts_read (w ∷ []) = Err (told 1 BadLine)
-parts_read (w ∷ v ∷ ws) = on 1 (after_head (row_of true w) w) (λ c. lines_read 2 c (v ∷ ws))
+parts_read (w ∷ v ∷ ws) = on 1 (after_head (first_row true w) w) (λ c. lines_read 2 c (v ∷ ws))
 
 -- the code that the bytes list, or the first fault
 unfoldable pub code_listed : List ℕ → Result Code ListFault

@@ -12,15 +12,18 @@ use Rattle.vcm_fields.specs.declared.word.Word.{Word}
 use Rattle.vcm_fields.specs.declared.word.Word.TheVariants as words
 use Rattle.vcm_code.specs.declared.op.Op.TheVariants.{EndFil, Goto, GoHome, Assign, If, Else, EndIf, Do, EndDo, Label, JumpTo, Feat, Meas}
 use Rattle.vcm_code.specs.declared.op.Op.TheVariants.{PtMeas, EndMes, SnSet, Trans, Rotate, Recall, Obtain, Output, Text}
+use Rattle.vcm_code.specs.declared.op.Op.TheVariants.{Select, Case, EndCas, DftCas, EndSel}
+use Rattle.vcm_code.specs.declared.version.Version.{Version}
 use Rattle.vcm_fields.specs.Parts.{Operation, Line}
-use Rattle.vcm_fields.specs.Words.{word_of}
+use Rattle.vcm_fields.specs.Words.{word_of, has_word}
 use Rattle.vcm_spec.specs.TextBytes.{is_text_byte}
 use Rattle.vcm_spec.specs.declared.expression.Item.{Item}
 use Rattle.vcm_words.specs.Cutting.{split, joined}
 use Rattle.vcm_words.specs.Numbers.{number, counted, only_if}
 use Rattle.vcm_num.specs.Words.{look_up}
-use Rattle.vcm_words.specs.WordReaders.{◌>>=◌, Reader, now, one, both, via, after, marked, ending}
+use Rattle.vcm_words.specs.WordReaders.{◌>>=◌, Reader, now, one, both, via, after, tested, marked, ending}
 use Rattle.vcm_words.specs.Items.{expression, expression_at}
+use Rattle.vcm_words.specs.Branches.{branches, branches_at}
 
 -- ---- single words
 
@@ -186,6 +189,11 @@ word_text words.Recall = codes "RECALL"
 word_text words.Obtain = codes "OBTAIN"
 word_text words.Output = codes "OUTPUT"
 word_text words.Text = codes "TEXT"
+word_text words.Select = codes "SELECT"
+word_text words.Case = codes "CASE"
+word_text words.EndCas = codes "ENDCAS"
+word_text words.DftCas = codes "DFTCAS"
+word_text words.EndSel = codes "ENDSEL"
 
 -- the statements' words
 abbrev pub word_rows : List (List ℕ × Word)
@@ -212,6 +220,11 @@ word_rows =
     ∷ (codes "OBTAIN", words.Obtain)
     ∷ (codes "OUTPUT", words.Output)
     ∷ (codes "TEXT", words.Text)
+    ∷ (codes "SELECT", words.Select)
+    ∷ (codes "CASE", words.Case)
+    ∷ (codes "ENDCAS", words.EndCas)
+    ∷ (codes "DFTCAS", words.DftCas)
+    ∷ (codes "ENDSEL", words.EndSel)
     ∷ []
 
 -- three expressions
@@ -242,6 +255,11 @@ operands (Recall f) = frame f
 operands (Obtain v source f word) = variable v ++ (single (source_text source) ++ (feature f ++ (number_text word)))
 operands (Output source f) = single (source_text source) ++ feature f
 operands (Text bs) = text bs
+operands (Select e bs to) = expression e ++ (branches bs ++ target to)
+operands Case = []
+operands (EndCas to) = target to
+operands DftCas = []
+operands EndSel = []
 
 -- reading three expressions
 unfoldable pub three_at : Bool → Reader (List Item × (List Item × List Item))
@@ -278,19 +296,28 @@ operands_at exact words.Obtain =
     (both (one (look_up source_rows)) (both (feature_at exact) (part_at exact))))
 operands_at exact words.Output = via (λ o. Output o.0 o.1) (both (one (look_up source_rows)) (feature_at exact))
 operands_at exact words.Text = via Text (text_at exact)
+operands_at exact words.Select = via (λ o. Select o.0 o.1.0 o.1.1) (both (expression_at exact) (both (branches_at exact) (target_at exact)))
+operands_at exact words.Case = now Case
+operands_at exact words.EndCas = via EndCas (target_at exact)
+operands_at exact words.DftCas = now DftCas
+operands_at exact words.EndSel = now EndSel
 
--- reading the word of a statement
-abbrev pub word_at : Reader Word
-word_at = one (look_up word_rows)
+-- reading the word of a statement, of any version
+abbrev pub any_word_at : Reader Word
+any_word_at = one (look_up word_rows)
+
+-- reading the word of a statement that the version has
+abbrev pub word_at : Version → Reader Word
+word_at version = tested (has_word version) any_word_at
 
 -- the words of a statement: its source line, its word, its operands
 abbrev pub line : Line → List (List ℕ)
 line s = number_text s.line ++ (single (word_text (word_of s.op)) ++ operands s.op)
 
 -- reading the word of a statement and its operands
-unfoldable pub op_at : Bool → Reader Operation
-op_at exact = after word_at (operands_at exact)
+unfoldable pub op_at : Version → Bool → Reader Operation
+op_at version exact = after (word_at version) (operands_at exact)
 
--- reading a statement
-unfoldable pub line_at : Bool → Reader Line
-line_at exact = via (λ o. record { line = o.0; op = o.1 }) (both (number_at exact (2 ^ 32)) (op_at exact))
+-- reading a statement of a version
+unfoldable pub line_at : Version → Bool → Reader Line
+line_at version exact = via (λ o. record { line = o.0; op = o.1 }) (both (number_at exact (2 ^ 32)) (op_at version exact))

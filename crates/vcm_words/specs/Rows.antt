@@ -1,9 +1,12 @@
 -- The lines of a listing.
-use Rattle.std.specs.Prelude.{ℕ, suc, ◌^◌, ◌==◌, Bool, List, [], ◌∷◌, ◌++◌, flat_map, Option, Some, None, codes}
+use Rattle.std.specs.Prelude.{ℕ, suc, ◌^◌, Bool, true, false, List, [], ◌∷◌, ◌++◌, flat_map, Option, Some, None, codes}
 use Rattle.vcm_num.specs.declared.number.Kind.{Kind}
 use Rattle.vcm_num.specs.declared.number.Kind.TheVariants.{Int, Real, Bool as Truth}
 use Rattle.vcm_spec.specs.declared.expression.Item.{Item}
+use Rattle.vcm_code.specs.declared.branch.Branch.{Branch}
 use Rattle.vcm_code.specs.declared.code.Code.{Code}
+use Rattle.vcm_code.specs.declared.version.Version.{Version}
+use Rattle.vcm_code.specs.declared.version.Version.TheVariants.{One, Two}
 use Rattle.vcm_spec.specs.Setup.{Variable as Entry}
 use Rattle.vcm_expr.specs.NameBytes.{is_name}
 use Rattle.vcm_expr.specs.Symbols.{is_variable_name}
@@ -13,16 +16,21 @@ use Rattle.vcm_words.specs.declared.row.Row.TheVariants.{Head, Variable, Feature
 use Rattle.vcm_words.specs.declared.row.Heading.{Heading}
 use Rattle.vcm_words.specs.declared.row.Heading.TheVariants as headings
 use Rattle.vcm_words.specs.Cutting.{split, joined}
-use Rattle.vcm_words.specs.Numbers.{number, counted, only_if}
+use Rattle.vcm_words.specs.Numbers.{only_if}
 use Rattle.vcm_num.specs.Words.{look_up}
-use Rattle.vcm_words.specs.WordReaders.{◌>>=◌, Reader, one, both, via, ended}
+use Rattle.vcm_words.specs.WordReaders.{Reader, one, both, via, ended}
 use Rattle.vcm_words.specs.Operands.{single, number_text, number_at, line, line_at}
 
--- a line, with its items and texts as lists
+-- a line, with its items, texts and branches as lists
 abbrev pub ListRow : Type 0
-ListRow = Row (List Item) (List ℕ)
+ListRow = Row (List Item) (List ℕ) (List Branch)
 
 -- ---- writing
+
+-- the number of a version
+abbrev pub version_text : Version → List ℕ
+version_text One = codes "1"
+version_text Two = codes "2"
 
 -- the word of a kind
 abbrev pub kind_text : Kind → List ℕ
@@ -32,7 +40,7 @@ kind_text Truth = codes "BOOL"
 
 -- the words of a line
 abbrev pub row_words : ListRow → List (List ℕ)
-row_words Head = codes "VCM-LISTING" ∷ number_text 1
+row_words (Head version) = codes "VCM-LISTING" ∷ single (version_text version)
 row_words (Variable i v) = codes "VAR" ∷ (number_text i ++ (single (kind_text v.kind) ++ (single v.name ++ number_text v.expansion)))
 row_words (Feature i name) = codes "FEATURE" ∷ (number_text i ++ single name)
 row_words (Frame i name) = codes "FRAME" ∷ (number_text i ++ single name)
@@ -50,7 +58,7 @@ numbered f n (x ∷ xs) = f n x ∷ numbered f (suc n) xs
 -- the lines of a code: the head, the tables, the statements
 abbrev pub rows : Code → List ListRow
 rows c =
-    Head ∷ (numbered Variable 0 c.tables.variables
+    Head c.version ∷ (numbered Variable 0 c.tables.variables
     ++ (numbered Feature 0 c.tables.features ++ (numbered Frame 0 c.tables.frames ++ numbered Numbered 0 c.statements)))
 
 -- the lines with their ends
@@ -81,9 +89,18 @@ name_at = one (λ w. only_if (is_name w) w)
 abbrev pub variable_name_at : Reader (List ℕ)
 variable_name_at = one (λ w. only_if (is_variable_name w) w)
 
--- reading the number of the form: 1
-abbrev pub version_at : Bool → Reader ℕ
-version_at exact = one (λ w. number exact 2 w >>= λ n. only_if (counted exact (n == 1)) n)
+-- the versions by their numbers
+abbrev pub version_rows : List (List ℕ × Version)
+version_rows = (codes "1", One) ∷ (codes "2", Two) ∷ []
+
+-- the version with this number, or any in its place
+abbrev pub version_in : Bool → List ℕ → Option Version
+version_in true w = look_up version_rows w
+version_in false w = Some One
+
+-- reading the number of a version
+abbrev pub version_at : Bool → Reader Version
+version_at exact = one (version_in exact)
 
 -- reading a variable behind its word: its index, its kind, its name, its expansion
 unfoldable pub entry_at : Bool → Reader (ℕ × Entry)
@@ -95,23 +112,23 @@ entry_at exact =
 unfoldable pub indexed_at : Bool → Reader (ℕ × List ℕ)
 indexed_at exact = both (number_at exact (2 ^ 16)) name_at
 
--- reading a statement and its number
-unfoldable pub numbered_at : Bool → Reader (ℕ × Line)
-numbered_at exact = both (number_at exact (2 ^ 32)) (line_at exact)
+-- reading a statement of a version and its number
+unfoldable pub numbered_at : Version → Bool → Reader (ℕ × Line)
+numbered_at version exact = both (number_at exact (2 ^ 32)) (line_at version exact)
 
 -- the line whose first word has this heading, or none: then it is a statement's
-unfoldable pub row_after : Bool → Option Heading → List ℕ → List (List ℕ) → Option ListRow
-row_after exact (Some headings.Head) w ws = ended (via (λ n. Head) (version_at exact) ws)
-row_after exact (Some headings.Variables) w ws = ended (via (λ o. Variable o.0 o.1) (entry_at exact) ws)
-row_after exact (Some headings.Features) w ws = ended (via (λ o. Feature o.0 o.1) (indexed_at exact) ws)
-row_after exact (Some headings.Frames) w ws = ended (via (λ o. Frame o.0 o.1) (indexed_at exact) ws)
-row_after exact None w ws = ended (via (λ o. Numbered o.0 o.1) (numbered_at exact) (w ∷ ws))
+unfoldable pub row_after : Version → Bool → Option Heading → List ℕ → List (List ℕ) → Option ListRow
+row_after version exact (Some headings.Head) w ws = ended (via Head (version_at exact) ws)
+row_after version exact (Some headings.Variables) w ws = ended (via (λ o. Variable o.0 o.1) (entry_at exact) ws)
+row_after version exact (Some headings.Features) w ws = ended (via (λ o. Feature o.0 o.1) (indexed_at exact) ws)
+row_after version exact (Some headings.Frames) w ws = ended (via (λ o. Frame o.0 o.1) (indexed_at exact) ws)
+row_after version exact None w ws = ended (via (λ o. Numbered o.0 o.1) (numbered_at version exact) (w ∷ ws))
 
 -- the line of these words
-abbrev pub row_at : Bool → List (List ℕ) → Option ListRow
-row_at exact [] = None
-row_at exact (w ∷ ws) = row_after exact (look_up heading_rows w) w ws
+abbrev pub row_at : Version → Bool → List (List ℕ) → Option ListRow
+row_at version exact [] = None
+row_at version exact (w ∷ ws) = row_after version exact (look_up heading_rows w) w ws
 
--- a line, read exactly or only for its shape
-unfoldable pub row_of : Bool → List ℕ → Option ListRow
-row_of exact bytes = row_at exact (split 32 bytes)
+-- a line of a listing of this version, read exactly or only for its shape
+unfoldable pub row_of : Version → Bool → List ℕ → Option ListRow
+row_of version exact bytes = row_at version exact (split 32 bytes)

@@ -1,6 +1,7 @@
 //! The words of listings, read in place: cuts, numbers, items, expressions, and the places of operands. They take no memory.
 #![tactic(auto)]
 
+mod braces;
 mod fault;
 mod items;
 mod numbers;
@@ -9,8 +10,8 @@ mod row;
 mod slices;
 mod words;
 
+pub use braces::{BranchWords, branches};
 pub use fault::{ListCode, ListFault};
-pub use numbers::small;
 pub use places::{
     axis, count, direction, index, lettered, pair, part, quarters, setting, source, target, text,
     turn,

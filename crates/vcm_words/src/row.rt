@@ -1,14 +1,14 @@
 //! The lines of a listing.
 
-use vcm_code::Statement;
+use vcm_code::{Statement, Version};
 use vcm_expr::Name;
 use vcm_tables::Variable;
 
-/// A line of a listing, with expressions of the form `E` and texts of the form `T`.
+/// A line of a listing, with expressions of the form `E`, texts of the form `T` and branches of the form `B`.
 #[derive(Drop)]
-pub enum Row<E, T> {
-    /// The first line.
-    Head,
+pub enum Row<E, T, B> {
+    /// The first line: the version.
+    Head(Version),
     /// A variable with its index.
     Variable(u16, Variable),
     /// The name of a feature with its index.
@@ -16,7 +16,7 @@ pub enum Row<E, T> {
     /// The name of a frame with its index.
     Frame(u16, Name),
     /// A statement with its number.
-    Numbered(u32, Statement<E, T>),
+    Numbered(u32, Statement<E, T, B>),
 }
 
 /// The word that a line begins with, where it is no statement.

@@ -1,7 +1,8 @@
 //! Parts of a line that contracts see as what they spell.
 
-ghost use Rattle.std.specs.Prelude.{◌≡◌, ◌∷◌, [], MatchOption, IfSome, IfNone, Some, None};
-ghost use Rattle.vcm_words.specs.Items.{items_at, expression_at};
+ghost use Rattle.std.specs.Prelude.{◌≡◌, ◌<◌, ◌∷◌, [], MatchOption, IfSome, IfNone, Some, None};
+ghost use Rattle.vcm_words.specs.Enclosed.{up_to};
+ghost use Rattle.vcm_words.specs.Items.{item_in, expression_at};
 ghost use Rattle.vcm_words.specs.inner.Slices.{Found};
 ghost use Rattle.vcm_words.specs.inner.Counting.{Next};
 
@@ -24,13 +25,14 @@ pub struct ItemWords<'a> {
 impl<'a> Model for ItemWords<'a> {
     ghost use Rattle.std.specs.Prelude.{List};
     ghost use Rattle.vcm_spec.specs.declared.expression.Item.{Item};
-    ghost use Rattle.vcm_words.specs.inner.Slices.{items_left, AreLeft};
+    ghost use Rattle.vcm_words.specs.Items.{item_in};
+    ghost use Rattle.vcm_words.specs.inner.Slices.{values_left, AreLeft};
 
     ghost Value = { List Item };
 
-    ghost view = { λ s. items_left s.exact s.passed s.words };
+    ghost view = { λ s. values_left 93 (item_in s.exact) s.passed s.words };
 
-    ghost invariant = { λ s. AreLeft s.exact s.passed s.words };
+    ghost invariant = { λ s. AreLeft 93 (item_in s.exact) s.passed s.words };
 }
 
 impl<'a> ItemWords<'a> {
@@ -99,22 +101,23 @@ impl<'a> Expression for ItemWords<'a> {
 /// The most items of an expression.
 const LONGEST: u16 = 1024;
 
-// One more, up to 1,025, which stands for all that is more.
-fn one_more(count: u16) -> u16
-    ensures { Next count result }
+/// One more, up to one more than the most, which stands for all that is more.
+pub(crate) fn one_more(most: u16, count: u16) -> u16
+    requires { most < 65535 }
+    ensures { Next most count result }
 {
-    if count <= LONGEST { count + 1 } else { count }
+    if count <= most { count + 1 } else { count }
 }
 
 // How many items there are up to the closing bracket, and the words behind it.
 fn items_end<'a>(exact: bool, words: &Words<'a>) -> Option<(u16, Words<'a>)>
-    ensures some { IfSome result (λ x. Found exact words.now x.0 x.1) }
-    ensures none { IfNone result (items_at exact words.now ≡ None) }
+    ensures some { IfSome result (λ x. Found 93 (item_in exact) 1024 words.now x.0 x.1) }
+    ensures none { IfNone result (up_to 93 (item_in exact) words.now ≡ None) }
 {
     let mut rest = words.again();
     let mut count: u16 = 0;
     while let Some((word, more)) = rest.split_first() {
-        count = one_more(count);
+        count = one_more(LONGEST, count);
         match before_end(b']', word) {
             Some(last) => {
                 item(exact, last)?;
@@ -131,11 +134,11 @@ fn items_end<'a>(exact: bool, words: &Words<'a>) -> Option<(u16, Words<'a>)>
 
 /// An expression, 1 to 1,024 items between brackets, and the words behind it; read exactly, or with anything for a number and any count of
 /// items.
-#[tactic(auto, unfolding(crate::specs::Items::expression_at, crate::specs::Items::bracketed_at))]
+#[tactic(auto, unfolding(crate::specs::Items::expression_at, crate::specs::Enclosed::between))]
 pub fn expression<'a>(exact: bool, words: &Words<'a>) -> Option<(ItemWords<'a>, Words<'a>)>
     ensures { result ≡ expression_at exact words.now }
 {
-    let inside = words.unopened()?;
+    let inside = words.unopened(b'[')?;
     let (count, rest) = items_end(exact, &inside)?;
     if exact && count > LONGEST {
         return None;

@@ -1,10 +1,10 @@
 //! Bytes cut at a mark.
 
-ghost use Rattle.std.specs.Prelude.{◌≡◌, ◌∷◌, [], MatchOption, option_map, ◌==◌, ◌<◌, length, map};
+ghost use Rattle.std.specs.Prelude.{◌≡◌, ◌∷◌, [], MatchOption, option_map, ◌==◌, ◌<◌, length, map, false};
 ghost use Rattle.std.specs.List.{position};
 ghost use Rattle.vcm_words.specs.Cutting.{split, parts_left, joined};
 ghost use Rattle.vcm_num.specs.Words.{look_up};
-ghost use Rattle.vcm_words.specs.Items.{unopened};
+ghost use Rattle.vcm_words.specs.Enclosed.{unopened};
 ghost use Rattle.vcm_words.specs.WordReaders.{one};
 
 use std::marker::Model;
@@ -66,15 +66,16 @@ impl<'a> Words<'a> {
         Some((first, Words { left }))
     }
 
-    /// The words without the bracket before the first.
-    pub(crate) fn unopened(&self) -> Option<Words<'a>>
-        ensures { result ≡ unopened self.now }
+    /// The words without the mark before the first.
+    pub(crate) fn unopened(&self, mark: u8) -> Option<Words<'a>>
+        requires { (mark == 32) ≡ false }
+        ensures { result ≡ unopened mark self.now }
     {
         let bytes = self.left?;
         match bytes {
             [] => None,
             [first, rest @ ..] => {
-                if *first == b'[' {
+                if *first == mark {
                     Some(Words { left: Some(rest) })
                 } else {
                     None

@@ -118,13 +118,13 @@ behind_macro ss = drop (suc (size_of ss)) ss
 abbrev pub macro_of : List ℕ → List Parameter → List Statement → Defined
 macro_of name ps ss = record { name = name; parameters = ps; body = take (size_of ss) ss }
 
--- some places outside macros, or a whole macro, and what is left of the text behind them: the macros then, the latest last, what is done
--- then, and the statements
-pub record IsRead (ms : List Defined) (old : Done) (ss : List Statement) (ns : List Defined) (new : Done) (rest : List Statement)
-    : Type 0 where
+-- some places outside macros, or a whole macro, and what is left of the text behind them: the macros then, the latest last, whether a block
+-- of a SELECT has to begin then, what is done then, and the statements
+pub record IsRead (ms : List Defined) (waits : Bool) (old : Done) (ss : List Statement) (ns : List Defined) (then_waits : Bool) (new : Done)
+    (rest : List Statement) : Type 0 where
   pub places : List Place
   pub walked : Walked old new places
-  pub is : walk_from (reverse ms) None old.calls ss ≡ places ++ walk_from (reverse ns) None new.calls rest
+  pub is : walk_from (reverse ms) None waits old.calls ss ≡ places ++ walk_from (reverse ns) None then_waits new.calls rest
 
 -- the places of a whole macro: MACRO behind these macros, and its body
 abbrev pub defines : List Defined → ℕ → List ℕ → List Parameter → List Statement → List Place

@@ -1,16 +1,18 @@
 -- The columns of a statement's line in a listing, which hold its operands.
 use Rattle.std.specs.Prelude.{ℕ, List, [], ◌∷◌, Some}
 use Rattle.vcm_spec.specs.declared.expression.Item.{Item}
+use Rattle.vcm_code.specs.declared.branch.Branch.{Branch}
 use Rattle.vcm_code.specs.declared.op.Op.TheVariants.{EndFil, Goto, GoHome, Assign, If, Else, EndIf, Do, EndDo, Label, JumpTo, Feat, Meas}
 use Rattle.vcm_code.specs.declared.op.Op.TheVariants.{PtMeas, EndMes, SnSet, Trans, Rotate, Recall, Obtain, Output, Text as Line}
+use Rattle.vcm_code.specs.declared.op.Op.TheVariants.{Select, Case, EndCas, DftCas, EndSel}
 use Rattle.vcm_fields.specs.Parts.{Operation}
 use Rattle.vcm_print.specs.declared.column.Column.{Column}
 use Rattle.vcm_print.specs.declared.column.Column.TheVariants.{Nothing, Variable, Feature, Frame, Pair, Target, Number, Turn, Direction}
-use Rattle.vcm_print.specs.declared.column.Column.TheVariants.{Setting, Source, Items, Three, Text}
+use Rattle.vcm_print.specs.declared.column.Column.TheVariants.{Setting, Source, Items, Three, Text, Branches}
 
--- a column, with its items and texts as lists
+-- a column, with its items, texts and branches as lists
 abbrev pub PlainColumn : Type 0
-PlainColumn = Column (List Item) (List ℕ)
+PlainColumn = Column (List Item) (List ℕ) (List Branch)
 
 -- four columns
 abbrev pub four : PlainColumn → PlainColumn → PlainColumn → PlainColumn → List PlainColumn
@@ -40,3 +42,8 @@ columns (Recall f) = four (Frame f) Nothing Nothing Nothing
 columns (Obtain v source f word) = four (Variable v) (Source source) (Feature f) (Number word)
 columns (Output source f) = four (Source source) (Feature f) Nothing Nothing
 columns (Line bs) = four (Text bs) Nothing Nothing Nothing
+columns (Select e bs to) = four (Items e) (Branches bs) (Target to) Nothing
+columns Case = four Nothing Nothing Nothing Nothing
+columns (EndCas to) = four (Target to) Nothing Nothing Nothing
+columns DftCas = four Nothing Nothing Nothing Nothing
+columns EndSel = four Nothing Nothing Nothing Nothing

@@ -2,13 +2,17 @@
 use Rattle.std.specs.Prelude.{ℕ, List, [], ◌∷◌, ◌++◌, flat_map, codes, decimal}
 use Rattle.vcm_num.specs.declared.number.Kind.{Kind}
 use Rattle.vcm_spec.specs.declared.expression.Item.{Item}
+use Rattle.vcm_code.specs.declared.branch.Branch.{Branch}
+use Rattle.vcm_code.specs.declared.version.Version.{Version}
+use Rattle.vcm_code.specs.declared.version.Version.TheVariants.{One, Two}
 use Rattle.vcm_fields.specs.Parts.{Line}
 use Rattle.vcm_fields.specs.Words.{word_of}
+use Rattle.vcm_words.specs.Branches.{branch_text}
 use Rattle.vcm_words.specs.Items.{item_text}
 use Rattle.vcm_words.specs.Operands.{direction_text, setting_text, source_text, turn_text, word_text}
 use Rattle.vcm_words.specs.Rows.{ListRow, text_of, numbered, kind_text}
 use Rattle.vcm_print.specs.declared.column.Column.TheVariants.{Nothing, Variable, Feature, Frame, Pair, Target, Number, Turn, Direction}
-use Rattle.vcm_print.specs.declared.column.Column.TheVariants.{Setting, Source, Items, Three, Text}
+use Rattle.vcm_print.specs.declared.column.Column.TheVariants.{Setting, Source, Items, Three, Text, Branches}
 use Rattle.vcm_print.specs.inner.Columns.{PlainColumn, columns}
 
 -- items behind the first one, with a blank in front of each
@@ -23,6 +27,15 @@ items_bytes (i ∷ is) = (codes " [" ++ item_text i) ++ (more_items is ++ codes 
 -- three expressions, with a blank in front of each
 abbrev pub three_bytes : List Item → List Item → List Item → List ℕ
 three_bytes x y z = items_bytes x ++ (items_bytes y ++ items_bytes z)
+
+-- branches behind the first one, with a blank in front of each
+abbrev pub more_branches : List Branch → List ℕ
+more_branches bs = flat_map (λ b. 32 ∷ branch_text b) bs
+
+-- branches between braces, with a blank in front of them
+abbrev pub branches_bytes : List Branch → List ℕ
+branches_bytes [] = codes " {}"
+branches_bytes (b ∷ bs) = (codes " {" ++ branch_text b) ++ (more_branches bs ++ codes "}")
 
 -- a column with a blank in front of each of its words
 unfoldable pub column_bytes : PlainColumn → List ℕ
@@ -40,6 +53,7 @@ column_bytes (Source which) = 32 ∷ source_text which
 column_bytes (Items items) = items_bytes items
 column_bytes (Three x y z) = three_bytes x y z
 column_bytes (Text bs) = codes " '" ++ (bs ++ codes "'")
+column_bytes (Branches bs) = branches_bytes bs
 
 -- columns, one behind the other
 abbrev pub columns_bytes : List PlainColumn → List ℕ
@@ -61,6 +75,11 @@ variable_bytes n kind name expansion =
 -- a line of a heading, an index and a name, and its end
 abbrev pub name_bytes : List ℕ → ℕ → List ℕ → List ℕ
 name_bytes heading n name = heading ++ (decimal n ++ (32 ∷ name ++ codes "\n"))
+
+-- the first line and its end
+abbrev pub heading : Version → List ℕ
+heading One = codes "VCM-LISTING 1\n"
+heading Two = codes "VCM-LISTING 2\n"
 
 -- lines of the listing and their ends, each with its index, the first one being n
 abbrev pub lines : {A : Type 0} → (ℕ → A → ListRow) → ℕ → List A → List ℕ

@@ -1,24 +1,24 @@
 -- What parts of a line mean.
 use Rattle.std.specs.Prelude.{◌≡◌, ℕ, ◌<◌, length, Bool, true, false, List, [], Option, Some, None}
-use Rattle.vcm_spec.specs.declared.expression.Item.{Item}
 use Rattle.vcm_words.specs.inner.Counting.{IsCount}
-use Rattle.vcm_words.specs.Items.{items_at}
+use Rattle.vcm_words.specs.Enclosed.{up_to}
 
 -- what was read, or nothing
-abbrev pub read_or_nil : Option (List Item × List (List ℕ)) → List Item
+abbrev pub read_or_nil : {A : Type 0} → Option (List A × List (List ℕ)) → List A
 read_or_nil (Some x) = x.0
 read_or_nil None = []
 
--- the items up to the closing bracket; none where it is passed
-abbrev pub items_left : Bool → Bool → List (List ℕ) → List Item
-items_left exact true ws = []
-items_left exact false ws = read_or_nil (items_at exact ws)
+-- the values up to the closing mark; none where it is passed
+abbrev pub values_left : {A : Type 0} → ℕ → (List ℕ → Option A) → Bool → List (List ℕ) → List A
+values_left mark f true ws = []
+values_left mark f false ws = read_or_nil (up_to mark f ws)
 
--- there are items up to a closing bracket, or it is passed
-abbrev pub AreLeft : Bool → Bool → List (List ℕ) → Type 0
-AreLeft exact true ws = Unit {0}
-AreLeft exact false ws = (x : List Item × List (List ℕ)) × (items_at exact ws ≡ Some x)
+-- there are values up to a closing mark, or it is passed
+abbrev pub AreLeft : {A : Type 0} → ℕ → (List ℕ → Option A) → Bool → List (List ℕ) → Type 0
+AreLeft mark f true ws = Unit {0}
+AreLeft {A} mark f false ws = (x : List A × List (List ℕ)) × (up_to mark f ws ≡ Some x)
 
--- items up to the closing bracket, how many they are, and the words behind it
-abbrev pub Found : Bool → List (List ℕ) → ℕ → List (List ℕ) → Type 0
-Found exact words count more = (is : List Item) × (items_at exact words ≡ Some (is, more)) × IsCount count (length is) × (0 < length is)
+-- values up to the closing mark, how many they are, and the words behind it
+abbrev pub Found : {A : Type 0} → ℕ → (List ℕ → Option A) → ℕ → List (List ℕ) → ℕ → List (List ℕ) → Type 0
+Found {A} mark f most words count more =
+    (xs : List A) × (up_to mark f words ≡ Some (xs, more)) × IsCount most count (length xs) × (0 < length xs)

@@ -8,5 +8,5 @@ returns-in-Err c = first_fails _ _ c.in-Some.rest.now c.in-Err.e _ c.in-Some.ens
 pub returns-in-None : goal.returns-in-None
 returns-in-None c = inr (no_line _ _ c.in-None.ensures.none.1 ∙ ap (λ f. Err f) (sym (c.at_line.ensures.told bad_line)))
 
-pub returns-in_default : goal.returns-in_default
-returns-in_default c = first_goes _ _ c.in-Some.rest.now c.lines.result c.in-Some.ensures.some c.in_default.ensures.ok c.lines.ensures
+pub returns-in-Ok : goal.returns-in-Ok
+returns-in-Ok c = first_goes _ _ _ c.in-Some.rest.now c.lines.result c.in-Some.ensures.some c.in-Ok.ensures.ok c.lines.ensures

@@ -23,3 +23,7 @@ returns-in-Second-clause-fault c =
 pub returns-in-Body-clause-fault : goal.returns-in-Body-clause-fault
 returns-in-Body-clause-fault c =
     rw c.unbalanced-in-Body.ensures (inr (refl, measure_end_fails c.pop.new.self.items c.in-Some.field-0 c.args.self.now c.args.self.now c.in-Some.ensures.items _ c.args.touched Unbalanced c.in-Body.is refl))
+
+pub returns-in-Case-clause-fault : goal.returns-in-Case-clause-fault
+returns-in-Case-clause-fault c =
+    rw c.unbalanced-in-Case.ensures (inr (refl, measure_end_fails c.pop.new.self.items c.in-Some.field-0 c.args.self.now c.args.self.now c.in-Some.ensures.items _ c.args.touched Unbalanced c.in-Case.is refl))
