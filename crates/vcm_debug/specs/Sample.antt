@@ -10,6 +10,7 @@ use Rattle.vcm_spec.specs.Effect.{value_in, effect, carried_out}
 use Rattle.vcm_spec.specs.Value.{items_value}
 use Rattle.vcm_spec.specs.Control.{is_zero, is_past, with_next_index}
 use Rattle.vcm_spec.specs.Samples.Parts.{one_block}
+use Rattle.vcm_code.specs.declared.version.Version.TheVariants.{One}
 use Rattle.vcm_code.specs.declared.code.Code.{Code}
 use Rattle.vcm_code.specs.declared.op.Op.TheVariants as ops
 use Rattle.vcm_console.specs.declared.command.VariableRef.{VariableRef}
@@ -30,6 +31,7 @@ whole n = Push (Integer (pos n)) ∷ []
 -- DO/I,1,3,1 on line 4, TEXT/OPER,'A' on line 5, ENDDO on line 6, ENDFIL on line 7
 abbrev looping : Code
 looping = record {
+  version = One;
   tables = record { variables = record { name = codes "I"; kind = Int; expansion = 0 } ∷ []; features = []; frames = [] };
   statements =
       record { line = 4; op = ops.Do 0 0 (whole 1) (whole 3) (whole 1) 3 } ∷ record { line = 5; op = ops.Text (codes "A") }

@@ -1,9 +1,9 @@
 //! Copies of a machine that a session keeps on its way, so that going back need not begin at the start. They change no answer.
 
-ghost use Rattle.std.specs.Prelude.{◌≡◌, ◌≤◌, All, IfOk};
+ghost use Rattle.std.specs.Prelude.{◌≡◌, ◌≤◌, All, IfOk, OnOk, OnErr};
 ghost use Rattle.vcm_code.specs.declared.code.Code.{Code};
 ghost use Rattle.vcm_spec.specs.Workpiece.{Workpiece};
-ghost use Rattle.vcm_machine.specs.Running.{Running};
+ghost use Rattle.vcm_machine.specs.Running.{Running, later, WantsMemory};
 ghost use Rattle.vcm_debug.specs.Debugging.{after};
 ghost use Rattle.vcm_debug.specs.inner.Going.{begun};
 
@@ -18,6 +18,23 @@ const MOST: usize = 64;
 
 /// How many steps lie between two copies at first.
 const FIRST_SPACING: u64 = 16;
+
+/// How many bytes the output lines of all copies may take besides as many as those of the machine.
+const SPARE: usize = 1 << 20;
+
+/// How many bytes an output line takes besides its own.
+const LINE: usize = 40;
+
+// About how many bytes the output lines of a machine take.
+fn output_size<P: Part>(machine: &Machine<'_, P>) -> usize {
+    let mut size: usize = 0;
+    for line in machine.world().lines().as_slice() {
+        size = size
+            .saturating_add(LINE)
+            .saturating_add(line.as_bytes().len());
+    }
+    size
+}
 
 /// A copy of a machine, and how many steps it has taken.
 #[derive(Drop)]
@@ -53,6 +70,22 @@ impl<'a, P: Part> Checkpoints<'a, P> {
         is_farther && count.is_multiple_of(self.spacing)
     }
 
+    // Whether there are as many copies as may be kept, or their output lines take more than is left to them beside those of a machine.
+    fn is_full(&self, machine: &Machine<'a, P>) -> bool {
+        let mut size: usize = 0;
+        for kept in &self.kept {
+            size = size.saturating_add(output_size(&kept.machine));
+        }
+        self.kept.len() >= MOST || size > output_size(machine).saturating_add(SPARE)
+    }
+
+    // Lets go of all copies.
+    fn clear(&mut self)
+        ensures { (m : Running) → All (λ k. k.machine ≡ begun m k.count) self.new.kept.items }
+    {
+        self.kept.clear();
+    }
+
     // Lets go of the copies that don't stand at multiples of twice the spacing.
     fn thin(&mut self)
         ensures { (m : Running) → All (λ k. k.machine ≡ begun m k.count) self.old.kept.items → All (λ k. k.machine ≡ begun m k.count) self.new.kept.items }
@@ -70,14 +103,34 @@ impl<'a, P: Part> Checkpoints<'a, P> {
         if !self.is_due(count) {
             return;
         }
-        if self.kept.len() >= MOST {
+        if self.is_full(machine) {
             self.thin();
         }
-        if self.kept.len() < MOST
+        if !self.is_full(machine)
             && self.is_due(count)
             && let Ok(machine) = machine.copy(alloc)
         {
             let _ = self.kept.push(Checkpoint { count, machine });
+        }
+    }
+
+    // One step of a machine. Where memory is refused, and copies are kept, these are let go, and it is tried once more.
+    pub(crate) fn step(
+        &mut self,
+        alloc: Global,
+        machine: &mut Machine<'a, P>,
+    ) -> Result<(), NoMemory>
+        ensures ok { OnOk result (machine.new ≡ later 1 machine.old) }
+        ensures err { OnErr result ((machine.new ≡ machine.old) × WantsMemory machine.old) }
+        ensures kept { (m : Running) → All (λ k. k.machine ≡ begun m k.count) self.old.kept.items → All (λ k. k.machine ≡ begun m k.count) self.new.kept.items }
+    {
+        match machine.step(alloc) {
+            Ok(()) => Ok(()),
+            Err(refused) if self.kept.is_empty() => Err(refused),
+            Err(_) => {
+                self.clear();
+                machine.step(alloc)
+            }
         }
     }
 
@@ -126,5 +179,27 @@ pub(crate) fn machine_at<'a, P: Part>(
         End::NoMemory => Err(NoMemory),
         End::Count => Ok(nearest.machine),
         End::Stopped => Ok(nearest.machine),
+    }
+}
+
+/// The same. Where memory is refused, and copies are kept, these are let go, and it is tried once more.
+pub(crate) fn machine_at_last<'a, P: Part>(
+    alloc: Global,
+    loaded: &'a Loaded<'a>,
+    part: &'a P,
+    checkpoints: &mut Checkpoints<'a, P>,
+    count: u64,
+) -> Result<Machine<'a, P>, NoMemory>
+    requires { All (λ c. c.machine ≡ after (P.part part.now) loaded.now c.count) checkpoints.old.kept.items }
+    ensures found { IfOk result (λ m. m ≡ after (P.part part.now) loaded.now count) }
+    ensures kept { All (λ c. c.machine ≡ after (P.part part.now) loaded.now c.count) checkpoints.new.kept.items }
+{
+    match machine_at(alloc, loaded, part, checkpoints, count) {
+        Ok(machine) => Ok(machine),
+        Err(refused) if checkpoints.kept.is_empty() => Err(refused),
+        Err(_) => {
+            checkpoints.clear();
+            machine_at(alloc, loaded, part, checkpoints, count)
+        }
     }
 }

@@ -3,7 +3,7 @@
 ghost use Rattle.std.specs.Prelude.{◌≡◌, ◌<◌, ◌≤◌, IfOk};
 ghost use Rattle.vcm_debug.specs.Session.{recorded};
 
-use crate::checkpoints::machine_at;
+use crate::checkpoints::machine_at_last;
 use crate::finding::{recorded, statement_on};
 use crate::forward::{run_on, step_on, values};
 use crate::session::Session;
@@ -203,7 +203,7 @@ impl<'a, P: Part> Session<'a, P> {
             return Ok(Reply::Refused(CommandRefusal::BeforeStart));
         }
         let count = self.count - u64::from(k);
-        match machine_at(alloc, self.loaded, self.part, &self.checkpoints, count) {
+        match machine_at_last(alloc, self.loaded, self.part, &mut self.checkpoints, count) {
             Ok(machine) => {
                 self.stand_at(machine, count);
                 Ok(Reply::Stands(self.standing()))

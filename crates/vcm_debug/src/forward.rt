@@ -129,7 +129,7 @@ pub(crate) fn run_on<'a, P: Part>(
     let mut done = 0;
     while done < k {
         note(noting, before, values(machine));
-        let Ok(()) = machine.step(alloc) else {
+        let Ok(()) = checkpoints.step(alloc, machine) else {
             return Err(done);
         };
         done += 1;
@@ -158,7 +158,7 @@ pub(crate) fn step_on<'a, P: Part>(
 {
     let mut done = 0;
     while done < k && machine.world().stop().is_none() {
-        let Ok(()) = machine.step(alloc) else {
+        let Ok(()) = checkpoints.step(alloc, machine) else {
             return Err(done);
         };
         done += 1;

@@ -4,6 +4,8 @@
 #[cfg(test)]
 mod growth_tests;
 #[cfg(test)]
+mod line_growth_tests;
+#[cfg(test)]
 mod listing_growth_tests;
 #[cfg(test)]
 mod run_growth_tests;

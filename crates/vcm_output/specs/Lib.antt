@@ -1,2 +1,1 @@
-pub mod inner
 pub mod Output

@@ -1,1 +1,2 @@
 pub mod FeatureLines
+pub mod LinesWritten

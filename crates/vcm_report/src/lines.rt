@@ -5,8 +5,18 @@ ghost use Rattle.vcm_num.specs.Written.{Wrote};
 ghost use Rattle.vcm_output.specs.Output.{output_lines};
 
 use std::io::Write;
-use vcm_num::{WriteFault, write_all};
-use vcm_output::Lines;
+use vcm_num::{WriteFault, write_pieces};
+use vcm_output::{Line, Lines};
+
+// Writes lines one by one, each with a line feed.
+fn write_each<W: Write>(lines: &[Line], writer: &mut W) -> Result<(), WriteFault>
+    ensures { Wrote (W.contents writer.old) (W.contents writer.new) (output_lines lines.now) result }
+{
+    for line in lines {
+        write_pieces(writer, &[line.as_bytes(), b"\n"])?;
+    }
+    Ok(())
+}
 
 /// Writes output lines, each with a line feed.
 ///
@@ -14,7 +24,7 @@ use vcm_output::Lines;
 pub fn write_lines<W: Write>(lines: &Lines, writer: &mut W) -> Result<(), WriteFault>
     ensures { Wrote (W.contents writer.old) (W.contents writer.new) (output_lines lines.now) result }
 {
-    write_all(writer, lines.text())
+    write_each(lines.as_slice(), writer)
 }
 
 /// Writes the last output lines, so many of them, each with a line feed.
@@ -28,5 +38,6 @@ pub fn write_last_lines<W: Write>(
     requires { count ≤ length lines.now }
     ensures { Wrote (W.contents writer.old) (W.contents writer.new) (output_lines (drop (length lines.now - count) lines.now)) result }
 {
-    write_all(writer, lines.last_text(count))
+    let all = lines.as_slice();
+    write_each(all.split_at(all.len() - count).1, writer)
 }

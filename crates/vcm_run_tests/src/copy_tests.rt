@@ -20,7 +20,12 @@ fn ends<P: Part>(alloc: Global, machine: &mut Machine<'_, P>) -> bool {
     let stop = world.stop();
     ran.done == 27
         && matches!(stop, Some(place) if matches!(place.stop, Stop::Ended))
-        && world.lines().text() == b"X\nX\nX\nX\nX\nX\n".as_slice()
+        && world.lines().len() == 6
+        && world
+            .lines()
+            .as_slice()
+            .iter()
+            .all(|line| line.as_bytes() == b"X".as_slice())
         && world.variables() == [3, 4, 1].as_slice()
 }
 

@@ -6,6 +6,8 @@ mod back_tests;
 #[cfg(test)]
 mod copy_tests;
 #[cfg(test)]
+mod damage_tests;
+#[cfg(test)]
 mod debug_tests;
 #[cfg(test)]
 mod image_tests;
@@ -19,6 +21,8 @@ mod macro_tests;
 mod plain;
 #[cfg(test)]
 mod plain_items;
+#[cfg(test)]
+mod plain_parts;
 #[cfg(test)]
 mod run_tests;
 #[cfg(test)]

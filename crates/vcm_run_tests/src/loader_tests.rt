@@ -46,6 +46,8 @@ fn a_changed_byte(rt: HostRuntime) {
     assert!(rt; refusal(rt.alloc(), &MOVE).is_none());
     for (place, byte, wanted) in [
         (0, 0x57, Some(1)),
+        (4, 2, None),
+        (4, 3, Some(3)),
         (12, 1, Some(5)),
         (12, 3, Some(2)),
         (23, 2, Some(8)),
@@ -56,24 +58,9 @@ fn a_changed_byte(rt: HostRuntime) {
     }
 }
 
-// Whether the loader says of all other values of a byte of the image what the plain reader says.
-fn agree_at(alloc: Global, place: usize) -> bool {
-    for byte in 0..=255 {
-        let Some(bytes) = changed(alloc, &MOVE, place, byte) else {
-            return false;
-        };
-        if refusal(alloc, &bytes) != judged(alloc, &bytes).err() {
-            return false;
-        }
-    }
-    true
-}
-
 #[test]
 fn each_changed_byte(rt: HostRuntime) {
-    for place in 0..62 {
-        assert!(rt; agree_at(rt.alloc(), place));
-    }
+    assert!(rt; agree_between(rt.alloc(), &MOVE, 0, 62));
 }
 
 // How many of all other values of the bytes from one place to before another get a refusal.
@@ -92,7 +79,54 @@ fn refused(alloc: Global, from: usize, to: usize, wanted: u8) -> usize {
 #[test]
 fn all_other_magic_bytes_and_versions(rt: HostRuntime) {
     assert!(rt; refused(rt.alloc(), 0, 4, 1) == 1020);
-    assert!(rt; refused(rt.alloc(), 4, 6, 3) == 510);
+    assert!(rt; refused(rt.alloc(), 4, 6, 3) == 509);
+}
+
+// Statements with a SELECT in a loop: two blocks of CASE, and one of DFTCAS.
+const CHOICES: &str =
+    "DECL/INTGR,I\nDO/I,1,4\nSELECT/I\nCASE/1\nTEXT/OPER,'ONE'\nENDCAS\nCASE/3\nTEXT/OPER,'THREE'\nENDCAS\nDFTCAS\nTEXT/OPER,'ELSE'\nENDCAS\nENDSEL\nENDDO\n";
+
+// Whether the loader says of an image with any other value of a byte what the plain reader says, for the bytes from one place to before another.
+fn agree_between(alloc: Global, image: &[u8], from: usize, to: usize) -> bool {
+    for place in from..to {
+        for byte in 0..=255 {
+            let Some(bytes) = changed(alloc, image, place, byte) else {
+                return false;
+            };
+            if refusal(alloc, &bytes) != judged(alloc, &bytes).err() {
+                return false;
+            }
+        }
+    }
+    true
+}
+
+// Whether each proper front of bytes is too short.
+fn fronts_are_short(alloc: Global, image: &[u8]) -> bool {
+    for length in 0..image.len() {
+        let (front, _) = image.split_at(length);
+        if refusal(alloc, front) != Some(2) {
+            return false;
+        }
+    }
+    true
+}
+
+// Whether the image of a SELECT loads, its fronts are too short, and the loader and the plain reader agree on it with any byte changed.
+fn agree_on_choices(alloc: Global) -> Option<bool> {
+    let image = image_of(alloc, CHOICES)?;
+    Some(
+        refusal(alloc, &image).is_none()
+            && fronts_are_short(alloc, &image)
+            && agree_between(alloc, &image, 0, image.len()),
+    )
+}
+
+#[test]
+fn an_image_of_the_second_version(rt: HostRuntime) {
+    assert!(rt; agree_on_choices(rt.alloc()) == Some(true));
+    assert!(rt; of_program(rt.alloc(), CHOICES, 4, 1) == Some(4));
+    assert!(rt; of_program(rt.alloc(), CHOICES, 4, 3) == Some(3));
 }
 
 // The number of the refusal of a program's image, with a byte in another one's place; 10 where it has none.

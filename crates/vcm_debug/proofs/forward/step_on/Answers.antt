@@ -8,13 +8,13 @@ loop-done-preserved g c =
     let none : c.stop.result ≡ None = none_of c.stop.result c.if-is_none.ensures in
     record {
       gone =
-          goes_on c.args.k c.args.machine.now c.loop-done.machine c.loop-done.done c.loop-done.invariant.gone c.step.new.self c.loop-done-test.true
+          goes_on c.args.k c.args.machine.now c.loop-done.machine c.loop-done.done c.loop-done.invariant.gone c.step.new.machine c.loop-done-test.true
           (sym (ap (λ h. h.stop) c.world.ensures.state) ∙ sym c.stop.ensures ∙ none) c.in-Ok.ensures.ok;
       kept =
           c.pass.ensures c.args.machine.now
-          (arrived c.args.machine.now c.step.new.self c.args.count (c.loop-done.done + 1) c.requires.at
-          (gone_is c.args.k c.args.machine.now c.loop-done.machine c.loop-done.done c.loop-done.invariant.gone c.step.new.self c.in-Ok.ensures.ok)
-          ∙ ap (λ n. begun c.args.machine.now (c.args.count + n)) (sym c.from.ensures)) c.loop-done.invariant.kept;
+          (arrived c.args.machine.now c.step.new.machine c.args.count (c.loop-done.done + 1) c.requires.at
+          (gone_is c.args.k c.args.machine.now c.loop-done.machine c.loop-done.done c.loop-done.invariant.gone c.step.new.machine c.in-Ok.ensures.ok)
+          ∙ ap (λ n. begun c.args.machine.now (c.args.count + n)) (sym c.from.ensures)) (c.step.ensures.kept c.args.machine.now c.loop-done.invariant.kept);
     }
 
 pub returns-else-is_none-clause-steps : goal.returns-else-is_none-clause-steps

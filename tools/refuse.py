@@ -1,0 +1,93 @@
+#!/usr/bin/env python3
+"""Refuses each growth of memory of the program in turn, and looks at what it then answers.
+
+usage: tools/refuse.py [--vcm PROGRAM]     at the top of the repository, when the program is built (crates/vcm/out/vcm); wants gcc and Linux
+
+Each command runs once as it is, and then again and again with its first, second, .. growth refused, until none is refused any more. An answer is
+right where the status is 5, standard output is empty, standard error has one line, `no memory` or `no memory after N steps`, and no image is written; a
+session of the debugger may also reply `no memory ..` to one command. It is the same where status, output and image are those of the command as it
+is: the growth was one that may be left out, as that of a copy for `back`. Anything else is wrong, and the exit status is then 1.
+"""
+import argparse
+import os
+import re
+import subprocess
+import sys
+import tempfile
+
+HERE = os.path.dirname(os.path.abspath(__file__))
+NO_MEMORY = re.compile(rb"no memory( after [0-9]+ steps)?\n")
+HALTED = re.compile(rb"^no memory step [0-9]+ ", re.M)
+PROGRAMS = ("above.dmi", "touch.dmi", "grid.dmi", "lines.dmi", "stations.dmi")
+COMMANDS = b"break 1\nrun\nstep 3\nwatch i\nrun\nback 2\nshow i\nout\nrun\nback 8\nrun\nquit\n"
+
+
+def cases():
+    """The command lines, each with what it reads from standard input, and whether it is a session."""
+    for name in PROGRAMS:
+        yield ["run", name, "part-a.toml"], b"", False
+        yield ["check", name], b"", False
+        yield ["build", name, "{image}"], b"", False
+        yield ["list", name], b"", False
+        with open(name.replace(".dmi", ".job"), "rb") as it:
+            yield [], it.read(), False
+        yield ["debug", name, "part-a.toml"], COMMANDS, True
+
+
+def answer(vcm, words, given, image, room, number):
+    """What a command line answers with a growth refused, or none if the number is 0, and whether one was."""
+    log = f"{room}/refused"
+    if os.path.exists(image):
+        os.remove(image)
+    more = {"LD_PRELOAD": f"{room}/refuse.so", "REFUSE": str(number), "REFUSE_LOG": log}
+    line = [vcm, *(it.format(image=image) for it in words)]
+    ran = subprocess.run(line, input=given, capture_output=True, env={**os.environ, **more}, timeout=60)
+    with open(log, encoding="ascii") as it:
+        was_refused = it.read() == "1"
+    written = None
+    if os.path.exists(image):
+        with open(image, "rb") as it:
+            written = it.read()
+    return (ran.returncode, ran.stdout, ran.stderr, written), was_refused
+
+
+def judged(wanted, found, is_session):
+    """Whether an answer is right, the same as without a refusal, or wrong."""
+    status, out, told, written = found
+    if found == wanted:
+        return "same"
+    if status == 5 and not out and NO_MEMORY.fullmatch(told) and not written:
+        return "right"
+    if is_session and status == 0 and not told and len(HALTED.findall(out)) == 1:
+        return "right"
+    return "wrong"
+
+
+def main():
+    parser = argparse.ArgumentParser(description=__doc__, formatter_class=argparse.RawDescriptionHelpFormatter)
+    parser.add_argument("--vcm", default=f"{HERE}/../crates/vcm/out/vcm", type=os.path.abspath)
+    args = parser.parse_args()
+    os.chdir(f"{HERE}/../examples")
+    counts = {"right": 0, "same": 0, "wrong": 0}
+    with tempfile.TemporaryDirectory(prefix="refuse-") as room:
+        subprocess.run(["gcc", "-shared", "-fPIC", "-O1", "-o", f"{room}/refuse.so", f"{HERE}/refuse.c"], check=True)
+        image = f"{room}/image"
+        for words, given, is_session in cases():
+            wanted, _ = answer(args.vcm, words, given, image, room, 0)
+            number = 0
+            while True:
+                number += 1
+                found, was_refused = answer(args.vcm, words, given, image, room, number)
+                if not was_refused:
+                    break
+                how = judged(wanted, found, is_session)
+                counts[how] += 1
+                if how == "wrong":
+                    print(f"wrong: vcm {' '.join(words)}, growth {number}: {found[0]} {found[1][:80]} {found[2][:80]}")
+            print(f"vcm {' '.join(words) or '< job'}: {number - 1} growths")
+    print(f"{counts['right']} right, {counts['same']} the same, {counts['wrong']} wrong")
+    return counts["wrong"] > 0
+
+
+if __name__ == "__main__":
+    sys.exit(main())
