@@ -1,8 +1,8 @@
 //! Frames.
 
-ghost use Rattle.std.specs.Prelude.{◌≡◌, ◌<◌};
+ghost use Rattle.std.specs.Prelude.{◌≡◌, ◌<◌, IsTrue};
 ghost use Rattle.vcm_num.specs.Point.{coordinate};
-ghost use Rattle.vcm_spec.specs.Frame.{opening_frame, to_machine, to_part, shifted_frame, turned_frame, direction};
+ghost use Rattle.vcm_spec.specs.Frame.{opening_frame, is_turn, to_machine, to_part, shifted_frame, turned_frame, direction};
 ghost use Rattle.vcm_spec.specs.Outcome.{Answers, point_at};
 
 use crate::checked::{point_from, row_between, row_of};
@@ -43,7 +43,8 @@ impl Frame {
     ///
     /// Errors: `Overflow` where one of them has no 64 bits.
     pub fn apply(self, at: Point) -> Result<Point, Stop>
-        ensures { Answers (point_at (to_machine self (coordinate at))) result }
+        ensures answer { Answers (point_at (to_machine self (coordinate at))) result }
+        ensures turn { IsTrue (is_turn self.turn) }
     {
         let (a, b, c) = self.turn.rows();
         let Point([x, y, z]) = self.origin;
@@ -54,7 +55,8 @@ impl Frame {
     ///
     /// Errors: `Overflow` where one of them has no 64 bits.
     pub fn invert(self, at: Point) -> Result<Point, Stop>
-        ensures { Answers (point_at (to_part self (coordinate at))) result }
+        ensures answer { Answers (point_at (to_part self (coordinate at))) result }
+        ensures turn { IsTrue (is_turn self.turn) }
     {
         let (a, b, c) = self.turn.columns();
         point_from(

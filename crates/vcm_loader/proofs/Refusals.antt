@@ -8,9 +8,10 @@ use Rattle.vcm_fields.specs.declared.fault.ImageFault.{ImageFault}
 use Rattle.vcm_fields.specs.declared.fault.ImageFault.TheVariants.{NoMemory, BadMagic, Short, BadVersion, BadField, Trailing, BadIndex, BadTarget, BadOperand, RunsOff}
 use Rattle.vcm_image.specs.Whole.{FitsImage, spelling, code_at}
 use Rattle.vcm_image.proofs.Wholes.{code_again}
+use Rattle.vcm_image.proofs.ImageLaws.{one_image}
 use Rattle.vcm_loader.specs.Checks.{Check, AllHold, checks}
 use Rattle.vcm_loader.specs.Loading.{FirstFailedCheck, LoadFault}
-use Rattle.vcm_loader.specs.Laws.{ValidCodesHaveNoRefusal, RefusalsAreOne}
+use Rattle.vcm_loader.specs.Laws.{ValidCodesHaveNoRefusal, RefusalsAreOne, WrittenIsLoaded}
 use Rattle.vcm_loader.proofs.Soundness.{valid_checked}
 
 -- where all checks hold, none is told of
@@ -53,3 +54,6 @@ only_memory c RunsOff v f = absurd (no_refusal c RunsOff v f)
 pub is_only : {X : Type 0} (bytes : List ℕ) (r : Result X ImageFault) → IfErr r (λ e. LoadFault (code_at bytes) e) → (c : Code) → FitsImage c → IsValid (code_of c) → bytes ≡ spelling c → IfErr r (λ e. e ≡ NoMemory)
 is_only bytes (Ok x) h c f v e = tt
 is_only bytes (Err d) h c f v e = only_memory c d v (subst (λ r. LoadFault r d) (ap code_at e ∙ code_again c f) h)
+
+pub written_loaded : WrittenIsLoaded
+written_loaded c d e f v g s = (one_image d c g f s, λ h. only_memory c e v (subst (λ r. LoadFault r e) (code_again c f) h))

@@ -1,6 +1,6 @@
-//! Laws of the refusals of codes, each the contract of a function without a body.
+//! Laws of loading, each the contract of a function without a body.
 
-ghost use Rattle.vcm_loader.specs.Laws.{ValidCodesHaveNoRefusal, RefusalsAreOne};
+ghost use Rattle.vcm_loader.specs.Laws.{ValidCodesHaveNoRefusal, RefusalsAreOne, WrittenIsLoaded};
 
 /// Nothing is refused of a valid code.
 pub fn valid_codes_have_no_refusal()
@@ -10,4 +10,9 @@ pub fn valid_codes_have_no_refusal()
 /// The definitions say one refusal of a code, if any.
 pub fn refusals_are_one()
     ensures { RefusalsAreOne }
+{}
+
+/// An image of a valid code that is written and loaded is that code.
+pub fn written_is_loaded()
+    ensures { WrittenIsLoaded }
 {}

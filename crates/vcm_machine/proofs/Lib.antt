@@ -7,3 +7,4 @@ pub mod RunLemmas
 pub mod LawLemmas
 pub mod RestsAlong
 pub mod SelectSteps
+pub mod ProgramRests

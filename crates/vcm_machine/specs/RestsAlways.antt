@@ -1,7 +1,9 @@
--- The probe at rest in every state of a code.
+-- The probe at rest in every state of a code, and of a program.
 use Rattle.std.specs.Prelude.{ℕ, List}
 use Rattle.vcm_spec.specs.Setup.{Setup}
 use Rattle.vcm_spec.specs.Workpiece.{IsValid}
+use Rattle.vcm_spec.specs.Program.{Block}
+use Rattle.vcm_spec.specs.Table.{steps, opening}
 use Rattle.vcm_spec.specs.Rests.{Rests}
 use Rattle.vcm_code.specs.Code.{Statement}
 use Rattle.vcm_code.specs.CodeTable.{code_steps, start}
@@ -10,3 +12,7 @@ use Rattle.vcm_code.specs.CodeTable.{code_steps, start}
 abbrev pub RestsAlways : Type 0
 RestsAlways =
     (setup : Setup) → IsValid setup.part → (code : List Statement) (n : ℕ) → Rests setup.part (code_steps setup code n (start setup)).world
+
+-- so it is in every state of the statement table
+abbrev pub ProgramsRest : Type 0
+ProgramsRest = (setup : Setup) → IsValid setup.part → (program : Block) (n : ℕ) → Rests setup.part (steps setup n (opening setup program)).world

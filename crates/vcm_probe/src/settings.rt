@@ -1,6 +1,6 @@
 //! The settings of the probe.
 
-ghost use Rattle.std.specs.Prelude.{◌≡◌, ◌+◌, ◌&&◌, int_le, unsigned_abs, pos, Some, None, if◌then◌else◌};
+ghost use Rattle.std.specs.Prelude.{◌≡◌, ◌≤◌, ◌+◌, ◌&&◌, int_le, unsigned_abs, pos, Some, None, if◌then◌else◌};
 ghost use Rattle.vcm_spec.specs.World.{opening_settings};
 ghost use Rattle.vcm_spec.specs.Effect.{is_allowed, with_setting};
 ghost use Rattle.vcm_spec.specs.Touch.{past};
@@ -81,28 +81,32 @@ impl Settings {
 
     /// How far above the nominal point the probe begins to search, in micrometres.
     pub fn approach(self) -> u32
-        ensures { result ≡ self.approach }
+        ensures value { result ≡ self.approach }
+        ensures range { (1 ≤ result) × (result ≤ 1000000) }
     {
         self.approach
     }
 
     /// How far the probe goes back after a touch, in micrometres.
     pub fn retract(self) -> u32
-        ensures { result ≡ self.retract }
+        ensures value { result ≡ self.retract }
+        ensures range { (1 ≤ result) × (result ≤ 1000000) }
     {
         self.retract
     }
 
     /// How far past the nominal point the probe searches, in micrometres.
     pub fn search(self) -> u32
-        ensures { result ≡ self.search }
+        ensures value { result ≡ self.search }
+        ensures range { result ≤ 1000000 }
     {
         self.search
     }
 
     /// How deep below the nominal point the probe searches, in micrometres; it goes as far as the greater of this and the search length.
     pub fn depth(self) -> u32
-        ensures { result ≡ self.depth }
+        ensures value { result ≡ self.depth }
+        ensures range { result ≤ 1000000 }
     {
         self.depth
     }

@@ -2,6 +2,7 @@
 use Rattle.std.specs.Prelude.{slice_get}
 use Rattle.std.proofs.Common.{◌≡◌, ℕ, zero, suc, ◌+◌, List, true, None, refl, sym, ap, ◌∙◌, subst, arith}
 use Rattle.vcm_spec.specs.Workpiece.{Workpiece}
+use Rattle.vcm_spec.specs.Rests.{Rests}
 use Rattle.vcm_spec.specs.Setup.{Setup, Tables, setup_of}
 use Rattle.vcm_spec.specs.Program.{Block}
 use Rattle.vcm_spec.specs.Table.{State, front, step, steps, effective, opening}
@@ -15,6 +16,8 @@ use Rattle.vcm_machine.specs.declared.ran.End.{End}
 use Rattle.vcm_machine.specs.declared.ran.End.TheVariants as ends
 use Rattle.vcm_machine.specs.declared.ran.Ran.{Ran}
 use Rattle.vcm_machine.specs.Running.{Running, setup, started, later, WantsMemory, RunEnded, HasRun}
+use Rattle.vcm_machine.proofs.LawLemmas.{follow}
+use Rattle.vcm_machine.proofs.ProgramRests.{programs_rest}
 use Rattle.std.specs.Prelude.{Result, Ok, Err, IfOk}
 use Rattle.vcm_num.specs.declared.memory.NoMemory.{NoMemory}
 use Rattle.vcm_tree.specs.Program.{Parsed}
@@ -27,6 +30,7 @@ use Rattle.vcm_run.specs.Run.{Ended, IsRun}
 use Rattle.vcm_run.specs.Summaries.{Shown}
 use Rattle.vcm_run.specs.Programs.{IsSummary, IsImageOf, IsBuilt}
 use Rattle.vcm_run.specs.Images.{IsCodeRun}
+use Rattle.vcm_run.specs.Laws.{CallsShowTheProgram, SummariesRest}
 
 module _ (part : Workpiece) (program : Block) (c : Code) (same : (k : ℕ) → SameAfter (setup_of part c.tables) program c.statements k) where
   abbrev su : Setup
@@ -88,11 +92,22 @@ assembled_run part program tables c n m ran a h =
 -- ---- the calls one by one
 
 -- codes that fit and have one image run alike
-pub calls_show : (part : Workpiece) (program : Block) (tables : Tables) (written loaded : Kept) (n : ℕ) (m : Running) (ran : Ran)
-    → IsAssembled program tables (code_of written) → FitsImage written → FitsImage loaded → spelling written ≡ spelling loaded
-    → HasRun n (started part (code_of loaded)) m ran → IsRun (setup_of part tables) program n m.state.world m.state.next ran
-calls_show part program tables written loaded n m ran a f g e h =
-    assembled_run part program tables (code_of loaded) n m ran (subst (λ k. IsAssembled program tables (code_of k)) (one_image written loaded f g e) a) h
+pub calls_show : CallsShowTheProgram
+calls_show part text parsed written loaded n m ran ok a f g e rs =
+    let b = subst (λ (k : Kept). IsAssembled parsed.program parsed.tables (code_of k)) (one_image written loaded f g e) a in
+    let h = follow n (started part (code_of loaded)) m ran rs in
+    record {
+      parsed = parsed;
+      accepted = ok;
+      tables_are = ap (λ x. x.code.tables) h.new_is ∙ b.tables_are;
+      notices = refl;
+      run = assembled_run part parsed.program parsed.tables (code_of loaded) n m ran b h;
+    }
+
+-- the probe is at rest in each state of the statement table
+pub rests_shown : SummariesRest
+rests_shown part text n s valid h =
+    subst (Rests part) (sym h.run.world_is) (programs_rest (setup_of part h.parsed.tables) valid h.parsed.program s.ran.done)
 
 -- the image of a program is loaded as its code
 loaded_code : (p : Parsed) (bytes : List ℕ) (l : Kept) (i : IsImageOf p bytes) → FitsImage l → bytes ≡ spelling l → i.code ≡ l

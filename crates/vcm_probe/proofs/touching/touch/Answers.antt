@@ -15,19 +15,19 @@ use Rattle.vcm_probe.proofs.touching.touch.Goals as goal
 pub returns-in_default-clause-answer : goal.returns-in_default-clause-answer
 returns-in_default-clause-answer g c =
     too_high (g.P.Part.part c.args.part.now) c.args.settings (coordinate c.args.from) (coordinate c.args.nominal) c.args.toward
-    (up_to (g.P.Part.part c.args.part.now) c.args.settings (coordinate c.args.nominal) c.args.toward _ _ (rw (c.bounds-bounds.ensures, c.approach.ensures) refl) c.in_default.ensures)
+    (up_to (g.P.Part.part c.args.part.now) c.args.settings (coordinate c.args.nominal) c.args.toward _ _ (rw (c.bounds-bounds.ensures, c.approach.ensures.value) refl) c.in_default.ensures)
 
 pub returns-in_default-reached-clause-answer : goal.returns-in_default-reached-clause-answer
 returns-in_default-reached-clause-answer g c =
     too_low (g.P.Part.part c.args.part.now) c.args.settings (coordinate c.args.from) (coordinate c.args.nominal) c.args.toward c.in-Some.approach
-    (up_to (g.P.Part.part c.args.part.now) c.args.settings (coordinate c.args.nominal) c.args.toward _ _ (rw (c.bounds-bounds.ensures, c.approach.ensures) refl) c.in-Some.ensures)
-    (down_to c.args.settings (centre_of (g.P.Part.part c.args.part.now) (coordinate c.args.nominal) c.args.toward) c.args.toward _ _ c.in-Some.approach _ (up_to (g.P.Part.part c.args.part.now) c.args.settings (coordinate c.args.nominal) c.args.toward _ _ (rw (c.bounds-bounds.ensures, c.approach.ensures) refl) c.in-Some.ensures) c.opposite-back.ensures c.descent-length.ensures c.in_default-reached.ensures)
+    (up_to (g.P.Part.part c.args.part.now) c.args.settings (coordinate c.args.nominal) c.args.toward _ _ (rw (c.bounds-bounds.ensures, c.approach.ensures.value) refl) c.in-Some.ensures)
+    (down_to c.args.settings (centre_of (g.P.Part.part c.args.part.now) (coordinate c.args.nominal) c.args.toward) c.args.toward _ _ c.in-Some.approach _ (up_to (g.P.Part.part c.args.part.now) c.args.settings (coordinate c.args.nominal) c.args.toward _ _ (rw (c.bounds-bounds.ensures, c.approach.ensures.value) refl) c.in-Some.ensures) c.opposite-back.ensures c.descent-length.ensures c.in_default-reached.ensures)
 
 pub returns-in_err-approach_freely-clause-answer : goal.returns-in_err-approach_freely-clause-answer
 returns-in_err-approach_freely-clause-answer g c =
     let a = aimed c.args.settings (centre_of (g.P.Part.part c.args.part.now) (coordinate c.args.nominal) c.args.toward) c.args.toward c.in-Some.approach c.in-Some-reached.end
-    (up_to (g.P.Part.part c.args.part.now) c.args.settings (coordinate c.args.nominal) c.args.toward _ _ (rw (c.bounds-bounds.ensures, c.approach.ensures) refl) c.in-Some.ensures)
-    (down_to c.args.settings (centre_of (g.P.Part.part c.args.part.now) (coordinate c.args.nominal) c.args.toward) c.args.toward _ _ c.in-Some.approach _ (up_to (g.P.Part.part c.args.part.now) c.args.settings (coordinate c.args.nominal) c.args.toward _ _ (rw (c.bounds-bounds.ensures, c.approach.ensures) refl) c.in-Some.ensures) c.opposite-back.ensures c.descent-length.ensures c.in-Some-reached.ensures) in
+    (up_to (g.P.Part.part c.args.part.now) c.args.settings (coordinate c.args.nominal) c.args.toward _ _ (rw (c.bounds-bounds.ensures, c.approach.ensures.value) refl) c.in-Some.ensures)
+    (down_to c.args.settings (centre_of (g.P.Part.part c.args.part.now) (coordinate c.args.nominal) c.args.toward) c.args.toward _ _ c.in-Some.approach _ (up_to (g.P.Part.part c.args.part.now) c.args.settings (coordinate c.args.nominal) c.args.toward _ _ (rw (c.bounds-bounds.ensures, c.approach.ensures.value) refl) c.in-Some.ensures) c.opposite-back.ensures c.descent-length.ensures c.in-Some-reached.ensures) in
     let p = err_from_is_err_and c.from_residual.result c.from_residual.ensures.1 in
     rw (p.1, p.2) (stopped (g.P.Part.part c.args.part.now) c.args.settings (coordinate c.args.from) (coordinate c.args.nominal) c.args.toward c.in-Some.approach c.in-Some-reached.end a _
     c.in_err-approach_freely.ensures.answer)
@@ -35,8 +35,8 @@ returns-in_err-approach_freely-clause-answer g c =
 pub returns-then-not-is_within-clause-answer : goal.returns-then-not-is_within-clause-answer
 returns-then-not-is_within-clause-answer g c =
     let a = aimed c.args.settings (centre_of (g.P.Part.part c.args.part.now) (coordinate c.args.nominal) c.args.toward) c.args.toward c.in-Some.approach c.in-Some-reached.end
-    (up_to (g.P.Part.part c.args.part.now) c.args.settings (coordinate c.args.nominal) c.args.toward _ _ (rw (c.bounds-bounds.ensures, c.approach.ensures) refl) c.in-Some.ensures)
-    (down_to c.args.settings (centre_of (g.P.Part.part c.args.part.now) (coordinate c.args.nominal) c.args.toward) c.args.toward _ _ c.in-Some.approach _ (up_to (g.P.Part.part c.args.part.now) c.args.settings (coordinate c.args.nominal) c.args.toward _ _ (rw (c.bounds-bounds.ensures, c.approach.ensures) refl) c.in-Some.ensures) c.opposite-back.ensures c.descent-length.ensures c.in-Some-reached.ensures) in
+    (up_to (g.P.Part.part c.args.part.now) c.args.settings (coordinate c.args.nominal) c.args.toward _ _ (rw (c.bounds-bounds.ensures, c.approach.ensures.value) refl) c.in-Some.ensures)
+    (down_to c.args.settings (centre_of (g.P.Part.part c.args.part.now) (coordinate c.args.nominal) c.args.toward) c.args.toward _ _ c.in-Some.approach _ (up_to (g.P.Part.part c.args.part.now) c.args.settings (coordinate c.args.nominal) c.args.toward _ _ (rw (c.bounds-bounds.ensures, c.approach.ensures.value) refl) c.in-Some.ensures) c.opposite-back.ensures c.descent-length.ensures c.in-Some-reached.ensures) in
     let beyond : is_within (g.P.Part.part c.args.part.now).bounds (coordinate c.in-Some-reached.end) ≡ false = cc (c.bounds-bounds.ensures, c.is_within.ensures, c.if-not-is_within.true) in
     too_deep (g.P.Part.part c.args.part.now) c.args.settings (coordinate c.args.from) (coordinate c.args.nominal) c.args.toward c.in-Some.approach c.in-Some-reached.end a _
     c.in_ok-approach_freely.ensures.answer beyond
@@ -44,8 +44,8 @@ returns-then-not-is_within-clause-answer g c =
 pub returns-in_default-first_face-clause-answer : goal.returns-in_default-first_face-clause-answer
 returns-in_default-first_face-clause-answer g c =
     let a = aimed c.args.settings (centre_of (g.P.Part.part c.args.part.now) (coordinate c.args.nominal) c.args.toward) c.args.toward c.in-Some.approach c.in-Some-reached.end
-    (up_to (g.P.Part.part c.args.part.now) c.args.settings (coordinate c.args.nominal) c.args.toward _ _ (rw (c.bounds-bounds.ensures, c.approach.ensures) refl) c.in-Some.ensures)
-    (down_to c.args.settings (centre_of (g.P.Part.part c.args.part.now) (coordinate c.args.nominal) c.args.toward) c.args.toward _ _ c.in-Some.approach _ (up_to (g.P.Part.part c.args.part.now) c.args.settings (coordinate c.args.nominal) c.args.toward _ _ (rw (c.bounds-bounds.ensures, c.approach.ensures) refl) c.in-Some.ensures) c.opposite-back.ensures c.descent-length.ensures c.in-Some-reached.ensures) in
+    (up_to (g.P.Part.part c.args.part.now) c.args.settings (coordinate c.args.nominal) c.args.toward _ _ (rw (c.bounds-bounds.ensures, c.approach.ensures.value) refl) c.in-Some.ensures)
+    (down_to c.args.settings (centre_of (g.P.Part.part c.args.part.now) (coordinate c.args.nominal) c.args.toward) c.args.toward _ _ c.in-Some.approach _ (up_to (g.P.Part.part c.args.part.now) c.args.settings (coordinate c.args.nominal) c.args.toward _ _ (rw (c.bounds-bounds.ensures, c.approach.ensures.value) refl) c.in-Some.ensures) c.opposite-back.ensures c.descent-length.ensures c.in-Some-reached.ensures) in
     let within : is_within (g.P.Part.part c.args.part.now).bounds (coordinate c.in-Some-reached.end) ≡ true = cc (c.bounds-bounds.ensures, c.is_within.ensures, c.if-not-is_within.false) in
     let none : IsFirstFace (g.P.Part.part c.args.part.now).bounds.tip (g.P.Part.part c.args.part.now).blocks (coordinate c.in-Some.approach) (opposite c.args.toward) (c.args.settings.approach + past c.args.settings) None =
     rw (c.opposite-back.ensures, c.descent-length.ensures) at c.in_default-first_face.ensures in
@@ -55,9 +55,9 @@ returns-in_default-first_face-clause-answer g c =
 pub retreat-requires-clause-start : goal.retreat-requires-clause-start
 retreat-requires-clause-start g c =
     let a = aimed c.args.settings (centre_of (g.P.Part.part c.args.part.now) (coordinate c.args.nominal) c.args.toward) c.args.toward c.in-Some.approach c.in-Some-reached.end
-    (up_to (g.P.Part.part c.args.part.now) c.args.settings (coordinate c.args.nominal) c.args.toward _ _ (rw (c.bounds-bounds.ensures, c.approach.ensures) refl) c.in-Some.ensures)
+    (up_to (g.P.Part.part c.args.part.now) c.args.settings (coordinate c.args.nominal) c.args.toward _ _ (rw (c.bounds-bounds.ensures, c.approach.ensures.value) refl) c.in-Some.ensures)
     (down_to c.args.settings (centre_of (g.P.Part.part c.args.part.now) (coordinate c.args.nominal) c.args.toward) c.args.toward _ _ c.in-Some.approach _
-    (up_to (g.P.Part.part c.args.part.now) c.args.settings (coordinate c.args.nominal) c.args.toward _ _ (rw (c.bounds-bounds.ensures, c.approach.ensures) refl) c.in-Some.ensures) c.opposite-back.ensures c.descent-length.ensures c.in-Some-reached.ensures) in
+    (up_to (g.P.Part.part c.args.part.now) c.args.settings (coordinate c.args.nominal) c.args.toward _ _ (rw (c.bounds-bounds.ensures, c.approach.ensures.value) refl) c.in-Some.ensures) c.opposite-back.ensures c.descent-length.ensures c.in-Some-reached.ensures) in
     let within : is_within (g.P.Part.part c.args.part.now).bounds (coordinate c.in-Some-reached.end) ≡ true = cc (c.bounds-bounds.ensures, c.is_within.ensures, c.if-not-is_within.false) in
     let is : IsFace (g.P.Part.part c.args.part.now).bounds.tip (g.P.Part.part c.args.part.now).blocks (coordinate c.in-Some.approach) (opposite c.args.toward) (c.args.settings.approach + past c.args.settings) c.in-Some-first_face.face =
     rw (c.opposite-back.ensures, c.descent-length.ensures) at c.in-Some-first_face.ensures in
@@ -77,11 +77,11 @@ retreat-requires-clause-free g c =
 pub returns-clause-answer : goal.returns-clause-answer
 returns-clause-answer g c =
     let a = aimed c.args.settings (centre_of (g.P.Part.part c.args.part.now) (coordinate c.args.nominal) c.args.toward) c.args.toward c.in-Some.approach c.in-Some-reached.end
-    (up_to (g.P.Part.part c.args.part.now) c.args.settings (coordinate c.args.nominal) c.args.toward _ _ (rw (c.bounds-bounds.ensures, c.approach.ensures) refl) c.in-Some.ensures)
-    (down_to c.args.settings (centre_of (g.P.Part.part c.args.part.now) (coordinate c.args.nominal) c.args.toward) c.args.toward _ _ c.in-Some.approach _ (up_to (g.P.Part.part c.args.part.now) c.args.settings (coordinate c.args.nominal) c.args.toward _ _ (rw (c.bounds-bounds.ensures, c.approach.ensures) refl) c.in-Some.ensures) c.opposite-back.ensures c.descent-length.ensures c.in-Some-reached.ensures) in
+    (up_to (g.P.Part.part c.args.part.now) c.args.settings (coordinate c.args.nominal) c.args.toward _ _ (rw (c.bounds-bounds.ensures, c.approach.ensures.value) refl) c.in-Some.ensures)
+    (down_to c.args.settings (centre_of (g.P.Part.part c.args.part.now) (coordinate c.args.nominal) c.args.toward) c.args.toward _ _ c.in-Some.approach _ (up_to (g.P.Part.part c.args.part.now) c.args.settings (coordinate c.args.nominal) c.args.toward _ _ (rw (c.bounds-bounds.ensures, c.approach.ensures.value) refl) c.in-Some.ensures) c.opposite-back.ensures c.descent-length.ensures c.in-Some-reached.ensures) in
     let within : is_within (g.P.Part.part c.args.part.now).bounds (coordinate c.in-Some-reached.end) ≡ true = cc (c.bounds-bounds.ensures, c.is_within.ensures, c.if-not-is_within.false) in
     let is : IsFace (g.P.Part.part c.args.part.now).bounds.tip (g.P.Part.part c.args.part.now).blocks (coordinate c.in-Some.approach) (opposite c.args.toward) (c.args.settings.approach + past c.args.settings) c.in-Some-first_face.face =
     rw (c.opposite-back.ensures, c.descent-length.ensures) at c.in-Some-first_face.ensures in
     let e = touched (g.P.Part.part c.args.part.now) c.args.settings (coordinate c.args.from) (coordinate c.args.nominal) c.args.toward c.in-Some.approach c.in-Some-reached.end a _
     c.in_ok-approach_freely.ensures.answer within c.in-Some-first_face.face is c.moved-centre.result (rw c.opposite-back.ensures at c.moved-centre.ensures) in
-    answers_too _ (retreat (g.P.Part.part c.args.part.now) c.moved-centre.result c.args.toward c.args.settings.retract) c.retreat.result e (rw c.retract.ensures at c.retreat.ensures.answer)
+    answers_too _ (retreat (g.P.Part.part c.args.part.now) c.moved-centre.result c.args.toward c.args.settings.retract) c.retreat.result e (rw c.retract.ensures.value at c.retreat.ensures.answer)

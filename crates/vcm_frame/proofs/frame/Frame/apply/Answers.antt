@@ -5,8 +5,8 @@ use Rattle.vcm_spec.specs.Frame.{turned}
 use Rattle.vcm_frame.specs.inner.Rows.{unit_row, dot}
 use Rattle.vcm_frame.proofs.frame.Frame.apply.Goals as goal
 
-pub returns : goal.returns
-returns c =
+pub returns-clause-answer : goal.returns-clause-answer
+returns-clause-answer c =
     let f = c.self.inside in
     let x : ℕ → ℤ = coordinate c.args.at in
     let fx : FitsSigned w64 (coordinate f.origin 0) = search rules in
