@@ -4,7 +4,7 @@
 usage: tools/refuse.py [--vcm PROGRAM]     at the top of the repository, when the program is built (crates/vcm/out/vcm); wants gcc and Linux
 
 Each command runs once as it is, and then again and again with its first, second, .. growth refused, until none is refused any more. An answer is
-right where the status is 5, standard output is empty, standard error has one line, `no memory` or `no memory after N steps`, and no image is written; a
+right where the status is 5, standard output is empty, standard error has one line, `no memory` or `no memory after N steps`, and no byte of an image is written; a
 session of the debugger may also reply `no memory ..` to one command. It is the same where status, output and image are those of the command as it
 is: the growth was one that may be left out, as that of a copy for `back`. Anything else is wrong, and the exit status is then 1.
 """
