@@ -61,7 +61,7 @@ impl Growing {
 
     // One more variable.
     #[tactic(auto, unfolding(vcm_words::specs::Listing::added))]
-    fn add_variable(&mut self, index: u16, variable: &Variable) -> Result<(), ListCode>
+    fn add_variable(&mut self, index: u32, variable: &Variable) -> Result<(), ListCode>
         ensures ok { OnOk result (added self.old (rows.Variable index variable.now) ≡ Ok self.new) }
         ensures err { IfErr result (λ e. FailsLine e (added self.old (rows.Variable index variable.now))) }
     {
@@ -83,7 +83,7 @@ impl Growing {
 
     // One more feature.
     #[tactic(auto, unfolding(vcm_words::specs::Listing::added))]
-    fn add_feature(&mut self, index: u16, name: &Name) -> Result<(), ListCode>
+    fn add_feature(&mut self, index: u32, name: &Name) -> Result<(), ListCode>
         ensures ok { OnOk result (added self.old (rows.Feature index name.now) ≡ Ok self.new) }
         ensures err { IfErr result (λ e. FailsLine e (added self.old (rows.Feature index name.now))) }
     {
@@ -103,7 +103,7 @@ impl Growing {
 
     // One more frame.
     #[tactic(auto, unfolding(vcm_words::specs::Listing::added))]
-    fn add_frame(&mut self, index: u16, name: &Name) -> Result<(), ListCode>
+    fn add_frame(&mut self, index: u32, name: &Name) -> Result<(), ListCode>
         ensures ok { OnOk result (added self.old (rows.Frame index name.now) ≡ Ok self.new) }
         ensures err { IfErr result (λ e. FailsLine e (added self.old (rows.Frame index name.now))) }
     {

@@ -1,6 +1,6 @@
 //! The kind of workpiece that suits the number of its blocks.
 
-ghost use Rattle.std.specs.Prelude.{◌≡◌, IfOk};
+ghost use Rattle.std.specs.Prelude.{◌≡◌, true, false, length, nat_lt, IfOk};
 ghost use Rattle.vcm_spec.specs.Workpiece.{IsValid};
 ghost use Rattle.vcm_motion.specs.declared.any_part.AnyPart.TheVariants.{Few, Many};
 
@@ -28,7 +28,8 @@ impl<'a> AnyPart<'a> {
     ///
     /// Errors: want of memory for the strips.
     pub fn of(alloc: Global, part: &'a PartData) -> Result<AnyPart<'a>, NoMemory>
-        ensures { IfOk result (λ p. ⟦<AnyPart<'a> as Part>⟧.part p ≡ part.now) }
+        ensures meaning { IfOk result (λ p. ⟦<AnyPart<'a> as Part>⟧.part p ≡ part.now) }
+        ensures kind { IfOk result (λ p. elim p [ Few b ↦ false | Many s ↦ true ] ≡ nat_lt 16 (length part.now.blocks)) }
     {
         if part.blocks().len() <= FEW {
             return Ok(AnyPart::Few(Blocks::new(part)));

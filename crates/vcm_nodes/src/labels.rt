@@ -1,6 +1,6 @@
 //! Jump labels, which a table looks up.
 
-ghost use Rattle.std.specs.Prelude.{◌≡◌, [], ◌∷◌, ◌++◌, if◌then◌else◌, not, length, take, IfOk};
+ghost use Rattle.std.specs.Prelude.{◌≡◌, [], ◌∷◌, ◌++◌, if◌then◌else◌, not, length, take, IfOk, OnErr};
 ghost use Rattle.vcm_nodes.specs.Jumps.{is_among};
 
 use crate::node::Label;
@@ -49,10 +49,11 @@ impl Labels {
 
     /// Adds a label, and says whether it was new; one that wasn't is not added.
     ///
-    /// Errors: want of memory.
+    /// Errors: want of memory. The labels are then as they were.
     pub fn add(&mut self, label: Label) -> Result<bool, AllocError>
         ensures new { IfOk result (λ is_new. is_new ≡ not (is_among self.old label)) }
         ensures added { IfOk result (λ is_new. self.new ≡ (if is_new then self.old ++ label ∷ [] else self.old)) }
+        ensures unchanged { OnErr result (self.new ≡ self.old) }
     {
         let is_new = self.set.insert(label)?;
         Ok(is_new)

@@ -1,6 +1,6 @@
 //! The nodes of an accepted program.
 
-ghost use Rattle.std.specs.Prelude.{◌≡◌, OnOk, IfOk};
+ghost use Rattle.std.specs.Prelude.{◌≡◌, OnOk, OnErr, IfOk};
 ghost use Rattle.vcm_spec.specs.Program.{Block as Tree, done, no_more, Node as Part};
 ghost use Rattle.vcm_nodes.specs.Nodes.{with_last, with_case, with_default, node_of};
 
@@ -185,9 +185,10 @@ impl Block {
 
     /// One node more, behind the others.
     ///
-    /// Errors: want of memory.
+    /// Errors: want of memory. The nodes are then as they were.
     pub fn push(&mut self, node: Node) -> Result<(), AllocError>
-        ensures { OnOk result (self.new ≡ with_last self.old (node_of node)) }
+        ensures ok { OnOk result (self.new ≡ with_last self.old (node_of node)) }
+        ensures unchanged { OnErr result (self.new ≡ self.old) }
     {
         self.nodes.push(node)?;
         Ok(())
@@ -248,7 +249,7 @@ impl Cases {
 
     /// One `CASE` more, behind the others.
     ///
-    /// Errors: want of memory.
+    /// Errors: want of memory. The blocks are then as they were.
     pub fn push(
         &mut self,
         line: u32,
@@ -256,7 +257,8 @@ impl Cases {
         block: Block,
         close: u32,
     ) -> Result<(), AllocError>
-        ensures { OnOk result (self.new ≡ with_case self.old line value block close) }
+        ensures ok { OnOk result (self.new ≡ with_case self.old line value block close) }
+        ensures unchanged { OnErr result (self.new ≡ self.old) }
     {
         self.cases.push((line, value, block, close))?;
         Ok(())

@@ -1,5 +1,6 @@
 pub mod Faults
 pub mod PartFile
+pub mod Tip
 pub mod inner
 pub mod Laws
 pub mod Samples

@@ -1,10 +1,15 @@
 //! A valid workpiece.
 
-ghost use Rattle.std.specs.Prelude.{◌≡◌};
+ghost use Rattle.std.specs.Prelude.{◌≡◌, if◌then◌else◌};
 ghost use Rattle.vcm_spec.specs.Workpiece.{Workpiece, IsValid};
+ghost use Rattle.vcm_part.specs.Tip.{with_tip, is_tip};
 
+use crate::inside::is_some_met;
 use std::marker::Model;
 use vcm_spec::{Block3, Bounds};
+
+/// The greatest half width of a tip, in micrometres.
+const WIDEST: u32 = 50_000;
 
 /// A valid workpiece on its machine, in micrometres of machine coordinates: at most 4,096 blocks, counted from 1, each coordinate of them
 /// and of the limits at most 1,000,000,000 from 0, no low corner above its high one, a tip of at most 50,000 to each side, and home within
@@ -45,5 +50,18 @@ impl PartData {
         ensures valid { IsValid self.now }
     {
         &self.blocks
+    }
+
+    /// Gives it another tip, of `tip` micrometres to each side of its centre, and says whether it may have that: at most 50,000, and home clear of
+    /// all blocks. Where it may not, it stays as it was.
+    pub fn set_tip(&mut self, tip: u32) -> bool
+        ensures may { result ≡ is_tip self.old tip }
+        ensures set { self.new ≡ (if result then with_tip tip self.old else self.old) }
+    {
+        let may = tip <= WIDEST && !is_some_met(&self.blocks, tip, self.bounds.home);
+        if may {
+            self.bounds.tip = tip;
+        }
+        may
     }
 }

@@ -109,21 +109,21 @@ unfolding Any
 ends_version = ends (reads_one (means_named version_text Any version_rows ((refl, tt), ((refl, tt), tt)) version_again version_words))
 
 FitsPair : ℕ × Entry → Type 0
-FitsPair o = (o.0 < 2 ^ 16) × FitsEntry o.1
+FitsPair o = (o.0 < 2 ^ 32) × FitsEntry o.1
 
 ends_entry : Ends (entry_at true) (λ o. number_text o.0 ++ (single (kind_text o.1.kind) ++ (single o.1.name ++ number_text o.1.expansion))) FitsPair
 unfolding entry_at FitsPair Any
-ends_entry = ends_via (ends (reads_both (reads_number (2 ^ 16) (omega arith)) (reads_both reads_kind (reads_both (reads_one means_variable_name) (reads_number (2 ^ 32) (omega arith))))))
+ends_entry = ends_via (ends (reads_both (reads_number (2 ^ 32) (omega arith)) (reads_both reads_kind (reads_both (reads_one means_variable_name) (reads_number (2 ^ 32) (omega arith))))))
     (λ o. (o.0, record { name = o.1.1.0; kind = o.1.0; expansion = o.1.1.1 })) (λ o. (o.0, (o.1.kind, (o.1.name, o.1.expansion))))
     (λ o. number_text o.0 ++ (single (kind_text o.1.kind) ++ (single o.1.name ++ number_text o.1.expansion))) FitsPair
     (λ o h. refl) (λ o h. (h.0, (h.1.1.1, h.1.1.0))) (λ o h. (refl, refl, (h.0, (tt, (h.1.1, h.1.0)))))
 
 FitsIndexed : ℕ × List ℕ → Type 0
-FitsIndexed o = (o.0 < 2 ^ 16) × IsName o.1
+FitsIndexed o = (o.0 < 2 ^ 32) × IsName o.1
 
 ends_indexed : Ends (indexed_at true) (λ o. number_text o.0 ++ single o.1) FitsIndexed
 unfolding indexed_at FitsIndexed
-ends_indexed = ends (reads_both (reads_number (2 ^ 16) (omega arith)) (reads_one means_name))
+ends_indexed = ends (reads_both (reads_number (2 ^ 32) (omega arith)) (reads_one means_name))
 
 FitsNumbered : Version → ℕ × Line → Type 0
 FitsNumbered version o = (o.0 < 2 ^ 32) × FitsLine version o.1

@@ -8,7 +8,7 @@ ghost use Rattle.vcm_words.specs.Rows.{kind_rows, name_at, variable_name_at, ent
 use vcm_expr::{Name, is_name, is_variable_name};
 use vcm_num::Kind;
 use vcm_tables::Variable;
-use vcm_words::{Words, count, index, table_word};
+use vcm_words::{Words, count, table_word};
 
 // A name, and the words behind it.
 fn name<'a>(words: &Words<'a>) -> Option<(Name, Words<'a>)>
@@ -51,10 +51,10 @@ fn kind<'a>(words: &Words<'a>) -> Option<(Kind, Words<'a>)>
 
 /// A variable with its index, and the words behind it.
 #[tactic(auto, unfolding(vcm_words::specs::Rows::entry_at))]
-pub(crate) fn entry<'a>(exact: bool, words: &Words<'a>) -> Option<((u16, Variable), Words<'a>)>
+pub(crate) fn entry<'a>(exact: bool, words: &Words<'a>) -> Option<((u32, Variable), Words<'a>)>
     ensures { result ≡ entry_at exact words.now }
 {
-    let (index, rest) = index(exact, words)?;
+    let (index, rest) = count(exact, words)?;
     let (kind, rest) = kind(&rest)?;
     let (name, rest) = variable_name(&rest)?;
     let (expansion, rest) = count(exact, &rest)?;
@@ -63,10 +63,10 @@ pub(crate) fn entry<'a>(exact: bool, words: &Words<'a>) -> Option<((u16, Variabl
 
 /// The name of a feature or a frame with its index, and the words behind it.
 #[tactic(auto, unfolding(vcm_words::specs::Rows::indexed_at))]
-pub(crate) fn indexed<'a>(exact: bool, words: &Words<'a>) -> Option<((u16, Name), Words<'a>)>
+pub(crate) fn indexed<'a>(exact: bool, words: &Words<'a>) -> Option<((u32, Name), Words<'a>)>
     ensures { result ≡ indexed_at exact words.now }
 {
-    let (index, rest) = index(exact, words)?;
+    let (index, rest) = count(exact, words)?;
     let (name, rest) = name(&rest)?;
     Some(((index, name), rest))
 }

@@ -10,19 +10,21 @@ use crate::names::{entry, indexed};
 use crate::statements::{BorrowedStatement, line};
 use vcm_code::Version;
 use vcm_num::look_up;
-use vcm_words::{BranchWords, Heading, ItemWords, Row, TextWords, Words, count};
+use vcm_words::{BranchWords, Heading, ItemWords, Row, TextWords, Words, count, is_figures};
 
 /// A line of a listing.
 pub type BorrowedRow<'a> = Row<ItemWords<'a>, TextWords<'a>, BranchWords<'a>>;
 
-// The version with this number, or any in its place.
+// The version with this number, or the shape of a number in its place.
 fn version(exact: bool, word: &[u8]) -> Option<Version>
     ensures { result ≡ version_in exact word.now }
 {
     if exact {
         look_up(&[(b"1", Version::One), (b"2", Version::Two)], word)
-    } else {
+    } else if is_figures(word) {
         Some(Version::One)
+    } else {
+        None
     }
 }
 
@@ -132,7 +134,8 @@ fn statement<'a>(version: Version, exact: bool, words: &Words<'a>) -> Option<Bor
     }
 }
 
-/// A line of a listing of this version, without its end; read exactly, or for its shape alone: then anything stands for a number.
+/// A line of a listing of this version, without its end; read exactly, or for its shape alone: then whatever has the shape of a number
+/// stands for one.
 #[tactic(auto, unfolding(vcm_words::specs::Rows::row_of))]
 pub fn row<'a>(version: Version, exact: bool, line: &'a [u8]) -> Option<BorrowedRow<'a>>
     ensures { result ≡ row_of version exact line.now }

@@ -1,5 +1,5 @@
 //! The statements of a listing, whose items, texts and branches are words of their lines. Each is read exactly, or for its shape alone: then
-//! anything stands for a number.
+//! whatever has the shape of a number stands for one.
 
 ghost use Rattle.std.specs.Prelude.{◌≡◌};
 ghost use Rattle.vcm_fields.specs.declared.word.Word.TheVariants as kinds;

@@ -1,6 +1,8 @@
 -- Numbers as they are written in a listing: in decimal, with no plus and no leading zeros.
-use Rattle.std.specs.Prelude.{ℕ, zero, suc, ◌^◌, ◌+◌, ◌==◌, ◌&&◌, nat_lt, if◌then◌else◌, Bool, true, false, ℤ, pos, negsuc, List, [], ◌∷◌}
+use Rattle.std.specs.Prelude.{ℕ, zero, suc, ◌^◌, ◌+◌, ◌==◌, ◌&&◌, ◌||◌, nat_lt, if◌then◌else◌, Bool, true, false, ℤ, pos, negsuc, List, [], ◌∷◌}
 use Rattle.std.specs.Prelude.{Option, Some, None, decimal}
+use Rattle.std.specs.Char.{is_ascii_digit}
+use Rattle.std.specs.List.{list_all}
 use Rattle.std.specs.Str.{bytes_eq}
 use Rattle.vcm_num.specs.Literals.{number_after}
 
@@ -29,15 +31,25 @@ unfoldable pub whole : List ℕ → Option ℤ
 whole [] = None
 whole (b ∷ bs) = if b == 45 then negated (natural (2 ^ 63 + 1) bs) else unsigned (natural (2 ^ 63) (b ∷ bs))
 
--- a number below the limit; a line is read exactly, or only for its shape, and then anything stands for a number
+-- whether these are digits, at least one of them
+abbrev pub are_figures : List ℕ → Bool
+are_figures [] = false
+are_figures (b ∷ bs) = list_all is_ascii_digit (b ∷ bs)
+
+-- whether this has the shape of a number: digits, perhaps behind a sign
+abbrev pub is_figures : List ℕ → Bool
+is_figures [] = false
+is_figures (b ∷ bs) = if b == 43 || b == 45 then are_figures bs else are_figures (b ∷ bs)
+
+-- a number below the limit; a line is read exactly, or only for its shape, and then whatever has the shape of a number stands for one
 abbrev pub number : Bool → ℕ → List ℕ → Option ℕ
 number true limit bs = natural limit bs
-number false limit bs = Some 0
+number false limit bs = only_if (is_figures bs) 0
 
--- a whole number of 64 bits, or anything in its place
+-- a whole number of 64 bits, or the shape of a number in its place
 abbrev pub signed : Bool → List ℕ → Option ℤ
 signed true bs = whole bs
-signed false bs = Some (pos 0)
+signed false bs = only_if (is_figures bs) (pos 0)
 
 -- a count within its limits, or any
 abbrev pub counted : Bool → Bool → Bool

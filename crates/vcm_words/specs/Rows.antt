@@ -16,7 +16,7 @@ use Rattle.vcm_words.specs.declared.row.Row.TheVariants.{Head, Variable, Feature
 use Rattle.vcm_words.specs.declared.row.Heading.{Heading}
 use Rattle.vcm_words.specs.declared.row.Heading.TheVariants as headings
 use Rattle.vcm_words.specs.Cutting.{split, joined}
-use Rattle.vcm_words.specs.Numbers.{only_if}
+use Rattle.vcm_words.specs.Numbers.{only_if, is_figures}
 use Rattle.vcm_num.specs.Words.{look_up}
 use Rattle.vcm_words.specs.WordReaders.{Reader, one, both, via, ended}
 use Rattle.vcm_words.specs.Operands.{single, number_text, number_at, line, line_at}
@@ -93,10 +93,10 @@ variable_name_at = one (λ w. only_if (is_variable_name w) w)
 abbrev pub version_rows : List (List ℕ × Version)
 version_rows = (codes "1", One) ∷ (codes "2", Two) ∷ []
 
--- the version with this number, or any in its place
+-- the version with this number, or the shape of a number in its place
 abbrev pub version_in : Bool → List ℕ → Option Version
 version_in true w = look_up version_rows w
-version_in false w = Some One
+version_in false w = only_if (is_figures w) One
 
 -- reading the number of a version
 abbrev pub version_at : Bool → Reader Version
@@ -106,11 +106,11 @@ version_at exact = one (version_in exact)
 unfoldable pub entry_at : Bool → Reader (ℕ × Entry)
 entry_at exact =
     via (λ o. (o.0, record { name = o.1.1.0; kind = o.1.0; expansion = o.1.1.1 }))
-    (both (number_at exact (2 ^ 16)) (both (one (look_up kind_rows)) (both variable_name_at (number_at exact (2 ^ 32)))))
+    (both (number_at exact (2 ^ 32)) (both (one (look_up kind_rows)) (both variable_name_at (number_at exact (2 ^ 32)))))
 
 -- reading the index and the name of a feature or a frame
 unfoldable pub indexed_at : Bool → Reader (ℕ × List ℕ)
-indexed_at exact = both (number_at exact (2 ^ 16)) name_at
+indexed_at exact = both (number_at exact (2 ^ 32)) name_at
 
 -- reading a statement of a version and its number
 unfoldable pub numbered_at : Version → Bool → Reader (ℕ × Line)

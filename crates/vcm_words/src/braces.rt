@@ -179,7 +179,7 @@ fn empty<'a>(exact: bool, words: &Words<'a>) -> Option<(BranchWords<'a>, Words<'
     }
 }
 
-/// Branches, none or up to 20,000 between braces, and the words behind them; read exactly, or with anything for a number and any count of
+/// Branches, none or up to 20,000 between braces, and the words behind them; read exactly, or with the shape of a number for a number and any count of
 /// branches.
 #[tactic(auto, unfolding(crate::specs::Branches::branches_at))]
 pub fn branches<'a>(exact: bool, words: &Words<'a>) -> Option<(BranchWords<'a>, Words<'a>)>

@@ -62,7 +62,7 @@ fn operator(word: &[u8]) -> Option<Item>
     )
 }
 
-/// The item that a word is; read exactly, or with anything for a number.
+/// The item that a word is; read exactly, or with the shape of a number for a number.
 #[tactic(auto, unfolding(crate::specs::Items::item_in))]
 pub(crate) fn item(exact: bool, word: &[u8]) -> Option<Item>
     ensures { result ≡ item_in exact word.now }

@@ -12,9 +12,9 @@ mod words;
 
 pub use braces::{BranchWords, branches};
 pub use fault::{ListCode, ListFault};
+pub use numbers::is_figures;
 pub use places::{
-    axis, count, direction, index, lettered, pair, part, quarters, setting, source, target, text,
-    turn,
+    axis, count, direction, lettered, pair, part, quarters, setting, source, target, text, turn,
 };
 pub use row::{Heading, Row};
 pub use slices::{ItemWords, TextWords, expression};

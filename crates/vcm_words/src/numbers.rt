@@ -5,7 +5,7 @@ ghost use Rattle.std.specs.List.{list_all};
 ghost use Rattle.std.specs.Char.{is_ascii_digit};
 ghost use Rattle.std.specs.Str.{bytes_eq};
 ghost use Rattle.vcm_num.specs.Literals.{number_after, AllDigits};
-ghost use Rattle.vcm_words.specs.Numbers.{natural, whole, negated, number, signed};
+ghost use Rattle.vcm_words.specs.Numbers.{natural, whole, negated, are_figures, is_figures, number, signed};
 
 use itoa::Buffer;
 
@@ -88,7 +88,30 @@ fn negated(number: u64) -> Option<i64>
     Some(-1 - less)
 }
 
-/// A number below the limit, or anything in its place.
+// Whether these are digits, at least one of them.
+fn are_figures(bytes: &[u8]) -> bool
+    ensures { result ≡ are_figures bytes.now }
+{
+    !bytes.is_empty() && all_digits(bytes)
+}
+
+/// Whether this has the shape of a number: digits, at least one of them, perhaps behind a sign.
+pub fn is_figures(bytes: &[u8]) -> bool
+    ensures { result ≡ is_figures bytes.now }
+{
+    match bytes {
+        [] => false,
+        [first, digits @ ..] => {
+            if *first == b'+' || *first == b'-' {
+                are_figures(digits)
+            } else {
+                are_figures(bytes)
+            }
+        }
+    }
+}
+
+/// A number below the limit, or the shape of a number in its place.
 pub fn number(exact: bool, limit: u64, bytes: &[u8]) -> Option<u64>
     requires { 0 < limit }
     ensures value { result ≡ number exact limit bytes.now }
@@ -96,12 +119,14 @@ pub fn number(exact: bool, limit: u64, bytes: &[u8]) -> Option<u64>
 {
     if exact {
         natural(limit, bytes)
-    } else {
+    } else if is_figures(bytes) {
         Some(0)
+    } else {
+        None
     }
 }
 
-/// A number of 16 bits, or anything in its place.
+/// A number of 16 bits, or the shape of a number in its place.
 pub fn short(exact: bool, bytes: &[u8]) -> Option<u16>
     ensures { result ≡ number exact (2 ^ 16) bytes.now }
 {
@@ -109,7 +134,7 @@ pub fn short(exact: bool, bytes: &[u8]) -> Option<u16>
     Some(number as u16)
 }
 
-/// A number of 32 bits, or anything in its place.
+/// A number of 32 bits, or the shape of a number in its place.
 pub fn long(exact: bool, bytes: &[u8]) -> Option<u32>
     ensures { result ≡ number exact (2 ^ 32) bytes.now }
 {
@@ -117,7 +142,7 @@ pub fn long(exact: bool, bytes: &[u8]) -> Option<u32>
     Some(number as u32)
 }
 
-/// A small number below the limit, or anything in its place.
+/// A small number below the limit, or the shape of a number in its place.
 pub fn small(exact: bool, limit: u8, bytes: &[u8]) -> Option<u8>
     requires { 0 < limit }
     ensures { result ≡ number exact limit bytes.now }
@@ -126,9 +151,15 @@ pub fn small(exact: bool, limit: u8, bytes: &[u8]) -> Option<u8>
     Some(number as u8)
 }
 
-/// A whole number of 64 bits, or anything in its place.
+/// A whole number of 64 bits, or the shape of a number in its place.
 pub fn signed(exact: bool, bytes: &[u8]) -> Option<i64>
     ensures { result ≡ signed exact bytes.now }
 {
-    if exact { whole(bytes) } else { Some(0) }
+    if exact {
+        whole(bytes)
+    } else if is_figures(bytes) {
+        Some(0)
+    } else {
+        None
+    }
 }

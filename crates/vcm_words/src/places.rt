@@ -1,4 +1,5 @@
-//! The places of a statement's operands. Each is read exactly, or for its shape alone: then anything stands for a number.
+//! The places of a statement's operands. Each is read exactly, or for its shape alone: then whatever has the shape of a number
+//! stands for one.
 
 ghost use Rattle.std.specs.Prelude.{◌≡◌, ◌^◌, ◌<◌, ◌==◌, nat_le, Some};
 ghost use Rattle.vcm_words.specs.Numbers.{number, counted, only_if};
@@ -65,14 +66,6 @@ pub fn pair<'a>(exact: bool, words: &Words<'a>) -> Option<(u8, Words<'a>)>
             }
         }
     }
-}
-
-/// A number of 16 bits, and the words behind it.
-pub fn index<'a>(exact: bool, words: &Words<'a>) -> Option<(u16, Words<'a>)>
-    ensures { result ≡ number_at exact (2 ^ 16) words.now }
-{
-    let (word, rest) = words.split_first()?;
-    Some((short(exact, word)?, rest))
 }
 
 /// A number of 32 bits, and the words behind it.

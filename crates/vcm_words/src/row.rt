@@ -10,11 +10,11 @@ pub enum Row<E, T, B> {
     /// The first line: the version.
     Head(Version),
     /// A variable with its index.
-    Variable(u16, Variable),
+    Variable(u32, Variable),
     /// The name of a feature with its index.
-    Feature(u16, Name),
+    Feature(u32, Name),
     /// The name of a frame with its index.
-    Frame(u16, Name),
+    Frame(u32, Name),
     /// A statement with its number.
     Numbered(u32, Statement<E, T, B>),
 }

@@ -132,7 +132,7 @@ fn items_end<'a>(exact: bool, words: &Words<'a>) -> Option<(u16, Words<'a>)>
     None
 }
 
-/// An expression, 1 to 1,024 items between brackets, and the words behind it; read exactly, or with anything for a number and any count of
+/// An expression, 1 to 1,024 items between brackets, and the words behind it; read exactly, or with the shape of a number for a number and any count of
 /// items.
 #[tactic(auto, unfolding(crate::specs::Items::expression_at, crate::specs::Enclosed::between))]
 pub fn expression<'a>(exact: bool, words: &Words<'a>) -> Option<(ItemWords<'a>, Words<'a>)>

@@ -9,7 +9,7 @@ use Rattle.vcm_words.specs.Rows.{ListRow}
 -- which lines of a version have all their fields in range, so that they have a spelling
 abbrev pub FitsRow : Version → ListRow → Type 0
 FitsRow version (Head v) = Unit {0}
-FitsRow version (Variable i v) = (i < 2 ^ 16) × FitsEntry v
-FitsRow version (Feature i name) = (i < 2 ^ 16) × IsName name
-FitsRow version (Frame i name) = (i < 2 ^ 16) × IsName name
+FitsRow version (Variable i v) = (i < 2 ^ 32) × FitsEntry v
+FitsRow version (Feature i name) = (i < 2 ^ 32) × IsName name
+FitsRow version (Frame i name) = (i < 2 ^ 32) × IsName name
 FitsRow version (Numbered n s) = (n < 2 ^ 32) × FitsLine version s

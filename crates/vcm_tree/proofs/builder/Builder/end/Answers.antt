@@ -9,4 +9,4 @@ returns-then-not-is_empty-clause-fault c =
     rw c.unbalanced.ensures (inr (refl, end_fails c.args.self.now.opens.items _ refl l))
 
 pub returns-clause-ok : goal.returns-clause-ok
-returns-clause-ok c = reads_end c.args.line c.args.self.now _ (nil_from_length _ (search rules)) refl c.in_ok-push.ensures
+returns-clause-ok c = reads_end c.args.line c.args.self.now _ (nil_from_length _ (search rules)) refl c.in_ok-push.ensures.ok

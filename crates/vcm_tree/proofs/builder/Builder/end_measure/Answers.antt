@@ -6,7 +6,7 @@ use Rattle.vcm_tree.proofs.builder.Builder.end_measure.Goals as goal
 pub returns-in_ok-push-in-Measuring-clause-ok : goal.returns-in_ok-push-in-Measuring-clause-ok
 returns-in_ok-push-in-Measuring-clause-ok c =
     rw c.if-touched.true (reads_measure_end c.pop.new.self.items c.in-Some.field-0 c.args.self.now _ c.in-Some.ensures.items c.args.line c.in-Measuring.start c.in-Measuring.feature
-    c.in-Measuring.is refl (rw (c.replace-body.ensures.value, c.replace-body.ensures.after) at c.in_ok-push-in-Measuring.ensures))
+    c.in-Measuring.is refl (rw (c.replace-body.ensures.value, c.replace-body.ensures.after) at c.in_ok-push-in-Measuring.ensures.ok))
 
 pub returns-else-touched-clause-fault : goal.returns-else-touched-clause-fault
 returns-else-touched-clause-fault c =
