@@ -3,7 +3,8 @@
 use std::alloc::Global;
 use std::fmt::Write as _;
 use vcm_command::{
-    Message, NoticeLine, asm_message, check_message, part_file_message, run_message, status_of,
+    Message, NoticeLine, asm_message, check_message, list_message, part_file_message, run_message,
+    status_of,
 };
 use vcm_job::{asm, build, check, debug, list, part_from, run};
 use vcm_motion::Strips;
@@ -102,6 +103,28 @@ pub(crate) fn asm_answer(alloc: Global, listing: &str) -> Option<String> {
     match asm(alloc, &mut listing) {
         Ok(_) => printed(alloc, &[], &[], 0),
         Err(fault) => told(alloc, asm_message(fault, "the listing")),
+    }
+}
+
+// The bytes that are written in hexadecimal, two digits each; blanks between them don't count.
+fn bytes_of(alloc: Global, digits: &str) -> Option<Vec<u8>> {
+    let mut bytes = Vec::new(alloc);
+    for word in digits.split(' ') {
+        for pair in word.as_bytes().chunks(2) {
+            bytes.push(u8::from_str_radix(std::str::from_utf8(pair).ok()?, 16).ok()?).ok()?;
+        }
+    }
+    Some(bytes)
+}
+
+/// What the listing of an image answers, which is written in hexadecimal.
+pub(crate) fn image_answer(alloc: Global, digits: &str) -> Option<String> {
+    let bytes = bytes_of(alloc, digits)?;
+    let mut input = bytes.as_slice();
+    let mut out = Vec::new(alloc);
+    match list(alloc, &mut input, &mut out) {
+        Ok(notices) => printed(alloc, &out, notices.as_slice(), 0),
+        Err(fault) => told(alloc, list_message(fault, "the image")),
     }
 }
 

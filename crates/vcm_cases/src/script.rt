@@ -1,6 +1,6 @@
 //! The text of worked examples, line by line.
 
-use crate::answers::{check_answer, image, listing, replies, run_answer};
+use crate::answers::{asm_answer, check_answer, image, image_answer, listing, replies, run_answer};
 use crate::explained::judge_examples;
 use crate::tally::{MARK, Tally};
 use std::alloc::Global;
@@ -31,6 +31,12 @@ enum Heading {
     Image,
     /// Statements, a line each, whose programs are refused with the code and name that the heading has.
     Refused,
+    /// Images, a line each, that are refused with the code and name that the heading has.
+    Images,
+    /// A listing that is refused as the heading says.
+    Unlisted,
+    /// A listing that has an image.
+    Assembled,
     /// None of these.
     Unknown,
 }
@@ -54,6 +60,8 @@ fn heading_of(title: &str) -> Heading {
             Err(_) => Heading::Unknown,
         },
         Some(("refused", _)) => Heading::Refused,
+        Some(("images", _)) => Heading::Images,
+        Some(("unlisted", _)) => Heading::Unlisted,
         Some(("#", _)) => Heading::Remarks,
         Some(_) => Heading::Unknown,
         None => heading_word(title),
@@ -72,6 +80,7 @@ fn heading_word(title: &str) -> Heading {
         "replies" => Heading::Replies,
         "listing" => Heading::Listing,
         "image" => Heading::Image,
+        "assembled" => Heading::Assembled,
         _ => Heading::Unknown,
     }
 }
@@ -88,10 +97,10 @@ fn answer(alloc: Global, script: &Script) -> Option<String> {
     }
 }
 
-// The answer to a statement that is refused as a heading says.
-fn refusal(alloc: Global, title: &str) -> Option<String> {
+// The answer to what is refused as a heading says, behind its first word, at a place.
+fn refusal(alloc: Global, title: &str, place: &str) -> Option<String> {
     match title.split_once(' ') {
-        Some((_, words)) => format!(in alloc; "{words} line 3\nstatus 1\n").ok(),
+        Some((_, words)) => format!(in alloc; "{words}{place}\nstatus 1\n").ok(),
         None => None,
     }
 }
@@ -116,18 +125,21 @@ impl Script {
             self.title = String::from_str(alloc, title).ok()?;
             return Some(());
         }
-        if heading_of(&self.title) == Heading::Refused {
-            return self.judge_refusal(alloc, line);
+        match heading_of(&self.title) {
+            Heading::Refused => self.judge_refusal(alloc, line),
+            Heading::Images => self.judge_image(alloc, line),
+            _ => {
+                self.body.push_str(line).ok()?;
+                self.body.push_str("\n").ok()
+            }
         }
-        self.body.push_str(line).ok()?;
-        self.body.push_str("\n").ok()
     }
 
     /// Ends what stands below a heading: it is set, or judged.
     pub(crate) fn end(&mut self, alloc: Global) -> Option<()> {
         let body = std::mem::replace(&mut self.body, String::new(alloc));
         match heading_of(&self.title) {
-            Heading::Remarks | Heading::Refused => Some(()),
+            Heading::Remarks | Heading::Refused | Heading::Images => Some(()),
             Heading::Part => {
                 self.part = body;
                 Some(())
@@ -144,6 +156,8 @@ impl Script {
                 self.commands = body;
                 Some(())
             }
+            Heading::Unlisted => self.judge_listing(alloc, &body, &refusal(alloc, &self.title, "")?),
+            Heading::Assembled => self.judge_listing(alloc, &body, "status 0\n"),
             _ => {
                 let found = answer(alloc, self);
                 self.tally.judge(&self.title, &self.program, &body, found)
@@ -154,10 +168,23 @@ impl Script {
     // Judges a statement that is to be refused as the heading says.
     fn judge_refusal(&mut self, alloc: Global, line: &str) -> Option<()> {
         let statement = format!(in alloc; "{line}\n").ok()?;
-        let wanted = refusal(alloc, &self.title)?;
+        let wanted = refusal(alloc, &self.title, " line 3")?;
         let program = program_of(alloc, &statement)?;
         let found = check_answer(alloc, &program);
         self.tally.judge(&self.title, &program, &wanted, found)
+    }
+
+    // Judges an image that is to be refused as the heading says.
+    fn judge_image(&mut self, alloc: Global, line: &str) -> Option<()> {
+        let wanted = refusal(alloc, &self.title, "")?;
+        let found = image_answer(alloc, line);
+        self.tally.judge(&self.title, line, &wanted, found)
+    }
+
+    // Judges what is made of a listing.
+    fn judge_listing(&mut self, alloc: Global, listing: &str, wanted: &str) -> Option<()> {
+        let found = asm_answer(alloc, listing);
+        self.tally.judge(&self.title, listing, wanted, found)
     }
 
     /// Judges the examples of explanations; none where memory runs out.

@@ -3,7 +3,7 @@ use Rattle.std.specs.Prelude.{◌≡◌, ℕ, List, Ok}
 use Rattle.vcm_code.specs.declared.code.Code.{Code}
 use Rattle.vcm_code.specs.Ops.{code_of}
 use Rattle.vcm_code.specs.Valid.{IsValid}
-use Rattle.vcm_image.specs.Whole.{FitsImage}
+use Rattle.vcm_image.specs.Whole.{FitsImage, spelling}
 use Rattle.vcm_words.specs.declared.fault.ListFault.{ListFault}
 use Rattle.vcm_words.specs.Rows.{listing}
 use Rattle.vcm_words.specs.Listing.{code_listed}
@@ -28,3 +28,9 @@ OneFault = (bytes : List ℕ) (f g : ListFault) → ListingFault bytes f → Lis
 -- the listing of a valid code in range is not refused
 abbrev pub NoneOfValid : Type 0
 NoneOfValid = (c : Code) (f : ListFault) → FitsImage c → IsValid (code_of c) → ¬ ListingFault (listing c) f
+
+-- take the listing of a valid code in range, and the code that it is read as: it is that code, with the same image, and nothing is told of the
+-- listing
+abbrev pub PrintedIsRead : Type 0
+PrintedIsRead = (c d : Code) (f : ListFault) → FitsImage c → IsValid (code_of c) → FitsImage d → listing c ≡ listing d
+    → (d ≡ c) × ((spelling d ≡ spelling c) × ¬ ListingFault (listing c) f)

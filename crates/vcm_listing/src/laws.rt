@@ -1,6 +1,6 @@
 //! Laws of listings.
 
-ghost use Rattle.vcm_listing.specs.Laws.{ListingIsRead, ReadIsListing, ListingsDiffer, OneFault, NoneOfValid};
+ghost use Rattle.vcm_listing.specs.Laws.{ListingIsRead, ReadIsListing, ListingsDiffer, OneFault, NoneOfValid, PrintedIsRead};
 
 /// The listing of a code whose fields are in range is read as that code; what is read as a code is its listing, byte for byte.
 pub fn listings_are_read()
@@ -17,4 +17,9 @@ pub fn listings_differ()
 pub fn faults_are_one()
     ensures one { OneFault }
     ensures none { NoneOfValid }
+{}
+
+/// The listing of an image that is printed and read is that image.
+pub fn printed_is_read()
+    ensures { PrintedIsRead }
 {}

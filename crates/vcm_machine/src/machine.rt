@@ -113,7 +113,8 @@ impl<'a, P: Part> Machine<'a, P> {
         ensures tables { result.tables ≡ self.entry.code.tables }
         ensures rests { Rests self.entry.part result.state }
     {
-        self.world
+        let Machine { world, .. } = self;
+        world
     }
 
     /// One step. At a stop nothing is done.

@@ -1,11 +1,13 @@
 //! A valid workpiece.
 
-ghost use Rattle.std.specs.Prelude.{◌≡◌, if◌then◌else◌};
+ghost use Rattle.std.specs.Prelude.{◌≡◌, is_some, IfOk, IfSome};
 ghost use Rattle.vcm_spec.specs.Workpiece.{Workpiece, IsValid};
 ghost use Rattle.vcm_part.specs.Tip.{with_tip, is_tip};
 
 use crate::inside::is_some_met;
+use std::alloc::Global;
 use std::marker::Model;
+use vcm_num::NoMemory;
 use vcm_spec::{Block3, Bounds};
 
 /// The greatest half width of a tip, in micrometres.
@@ -52,16 +54,21 @@ impl PartData {
         &self.blocks
     }
 
-    /// Gives it another tip, of `tip` micrometres to each side of its centre, and says whether it may have that: at most 50,000, and home clear of
-    /// all blocks. Where it may not, it stays as it was.
-    pub fn set_tip(&mut self, tip: u32) -> bool
-        ensures may { result ≡ is_tip self.old tip }
-        ensures set { self.new ≡ (if result then with_tip tip self.old else self.old) }
+    /// The same workpiece with another tip, of `tip` micrometres to each side of its centre. None where it may not have that one: it is over 50,000, or
+    /// meets a block at home.
+    ///
+    /// Errors: want of memory.
+    pub fn with_tip(&self, alloc: Global, tip: u32) -> Result<Option<PartData>, NoMemory>
+        ensures may { IfOk result (λ other. is_some other ≡ is_tip self.now tip) }
+        ensures part { IfOk result (λ other. IfSome other (λ p. p ≡ with_tip tip self.now)) }
     {
-        let may = tip <= WIDEST && !is_some_met(&self.blocks, tip, self.bounds.home);
-        if may {
-            self.bounds.tip = tip;
+        if tip > WIDEST || is_some_met(&self.blocks, tip, self.bounds.home) {
+            return Ok(None);
         }
-        may
+        let mut blocks = Vec::with_capacity(alloc, self.blocks.len())?;
+        blocks.extend_from_slice(&self.blocks)?;
+        let mut bounds = self.bounds;
+        bounds.tip = tip;
+        Ok(Some(PartData { bounds, blocks }))
     }
 }
