@@ -111,7 +111,9 @@ fn bytes_of(alloc: Global, digits: &str) -> Option<Vec<u8>> {
     let mut bytes = Vec::new(alloc);
     for word in digits.split(' ') {
         for pair in word.as_bytes().chunks(2) {
-            bytes.push(u8::from_str_radix(std::str::from_utf8(pair).ok()?, 16).ok()?).ok()?;
+            bytes
+                .push(u8::from_str_radix(std::str::from_utf8(pair).ok()?, 16).ok()?)
+                .ok()?;
         }
     }
     Some(bytes)

@@ -156,7 +156,11 @@ impl Script {
                 self.commands = body;
                 Some(())
             }
-            Heading::Unlisted => self.judge_listing(alloc, &body, &refusal(alloc, &self.title, "")?),
+            Heading::Unlisted => self.judge_listing(
+                alloc,
+                &body,
+                &refusal(alloc, &self.title, "")?,
+            ),
             Heading::Assembled => self.judge_listing(alloc, &body, "status 0\n"),
             _ => {
                 let found = answer(alloc, self);
