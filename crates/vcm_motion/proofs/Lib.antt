@@ -9,6 +9,7 @@ pub mod Lines
 pub mod TipEntries
 pub mod InOrder
 pub mod Ahead
+pub mod Shares
 pub mod Faces
 pub mod BoxLemmas
 pub mod Passed

@@ -1,4 +1,5 @@
 pub mod Faces
+pub mod Places
 pub mod Laws
 pub mod Strips
 pub mod inner

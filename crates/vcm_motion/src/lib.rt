@@ -14,6 +14,7 @@ pub mod laws;
 mod layout;
 mod listed;
 mod part;
+mod place;
 mod query;
 mod strips;
 
@@ -21,6 +22,7 @@ pub use any_part::AnyPart;
 pub use blocks::Blocks;
 pub use face::Face;
 pub use part::Part;
+pub use place::entry_point;
 pub use query::{contact_of, is_free};
 pub use strips::Strips;
 pub use vcm_num::{Axis, NoMemory, Point};

@@ -1,0 +1,56 @@
+-- Runs of one code beside two workpieces, step by step: whether they go alike, and what differs first.
+use Rattle.std.specs.Prelude.{◌≡◌, ◌≢◌, ℕ, suc, ◌<◌, Option, Some, None, unwrap_or, slice_get}
+use Rattle.vcm_spec.specs.declared.feature.Feature.{Feature}
+use Rattle.vcm_spec.specs.Setup.{setup_of}
+use Rattle.vcm_spec.specs.Simple.{PtMeas}
+use Rattle.vcm_spec.specs.Workpiece.{Workpiece}
+use Rattle.vcm_code.specs.Code.{Code, Statement, Op, Plain}
+use Rattle.vcm_code.specs.CodeTable.{CodeState, code_steps, start}
+use Rattle.vcm_margin.specs.declared.difference.Difference.{Difference}
+use Rattle.vcm_margin.specs.declared.difference.Difference.TheVariants.{HomeNotClear, Stop, Next, Feature as Measured}
+
+-- the state of a code beside a workpiece after so many steps
+abbrev pub reached : Workpiece → Code → ℕ → CodeState
+reached part c n = code_steps (setup_of part c.tables) c.statements n (start (setup_of part c.tables))
+
+-- the feature that a statement measures, if it is PTMEAS
+abbrev pub measured_by : Op → Option ℕ
+measured_by (Plain (PtMeas i x y z toward)) = Some i
+measured_by _ = None
+
+-- the same of a statement that may not be there
+abbrev pub measured : Option Statement → Option ℕ
+measured (Some s) = measured_by s.op
+measured None = None
+
+-- the feature that the step from a state measures
+abbrev pub measures : Code → CodeState → Option ℕ
+measures c m = measured (slice_get c.statements m.next)
+
+-- the feature with this index as it was measured, if it was
+abbrev pub actual_in : CodeState → ℕ → Option Feature
+actual_in m i = unwrap_or (slice_get m.world.actual i) None
+
+-- behind a step, which measured a feature or none, two states have the same stop, the same next statement, and that feature alike
+pub record IsAlike (which : Option ℕ) (a b : CodeState) : Type 0 where
+  pub stop : a.world.stop ≡ b.world.stop
+  pub next : a.next ≡ b.next
+  pub feature : (i : ℕ) → which ≡ Some i → actual_in a i ≡ actual_in b i
+
+-- a code goes alike beside two workpieces in so many steps
+abbrev pub GoAlike : Workpiece → Workpiece → Code → ℕ → Type 0
+GoAlike part other c n = (k : ℕ) → k < n → IsAlike (measures c (reached part c k)) (reached part c (suc k)) (reached other c (suc k))
+
+-- behind a step two states differ: in their stops; or in the next statement; or in the feature that was measured. What is told is the second one's
+abbrev pub Differ : Option ℕ → CodeState → CodeState → Difference → Type 0
+Differ which a b HomeNotClear = ⊥
+Differ which a b (Stop s) = (a.world.stop ≢ b.world.stop) × (s ≡ b.world.stop)
+Differ which a b (Next n) = (a.next ≢ b.next) × (n ≡ b.next)
+Differ which a b (Measured i f) = (which ≡ Some i) × ((actual_in a i ≢ actual_in b i) × (f ≡ actual_in b i))
+
+-- in so many steps they go alike up to one, behind which they differ so
+pub record DifferFirst (part other : Workpiece) (c : Code) (n : ℕ) (d : Difference) : Type 0 where
+  pub before : ℕ
+  pub within : before < n
+  pub alike : GoAlike part other c before
+  pub differ : Differ (measures c (reached part c before)) (reached part c (suc before)) (reached other c (suc before)) d

@@ -1,0 +1,18 @@
+-- How much wider the tip may be: the greatest half width with which a run goes as it does with the workpiece's own tip.
+use Rattle.std.specs.Prelude.{◌≡◌, ℕ, ◌≤◌, false, IsTrue}
+use Rattle.vcm_spec.specs.Workpiece.{Workpiece}
+use Rattle.vcm_code.specs.Code.{Code}
+use Rattle.vcm_part.specs.Tip.{with_tip, is_tip}
+use Rattle.vcm_margin.specs.declared.difference.Difference.{Difference}
+use Rattle.vcm_margin.specs.declared.difference.Difference.TheVariants.{HomeNotClear, Stop, Next, Feature as Measured}
+use Rattle.vcm_margin.specs.Alike.{GoAlike, DifferFirst}
+
+-- with a tip of half width h, which the workpiece may have, a code goes in so many steps as it does with the own one
+pub record GoesWith (part : Workpiece) (c : Code) (n h : ℕ) : Type 0 where
+  pub may : IsTrue (is_tip part h)
+  pub alike : GoAlike part (with_tip h part) c n
+
+-- with that tip it doesn't: the tip isn't clear at home; or it is, and this is what differs first
+abbrev pub IsMet : Workpiece → Code → ℕ → ℕ → Difference → Type 0
+IsMet part c n h HomeNotClear = is_tip part h ≡ false
+IsMet part c n h d = IsTrue (is_tip part h) × DifferFirst part (with_tip h part) c n d

@@ -1,0 +1,122 @@
+//! Two machines over one code beside two workpieces, step by step.
+
+ghost use Rattle.std.specs.Prelude.{◌≡◌, IfOk, IfSome, IfNone};
+ghost use Rattle.vcm_code.specs.CodeTable.{code_state};
+ghost use Rattle.vcm_code.specs.Ops.{op_of, code_of};
+ghost use Rattle.vcm_machine.specs.Running.{started};
+ghost use Rattle.vcm_margin.specs.Alike.{measured_by, measures, actual_in, IsAlike, GoAlike, Differ, DifferFirst};
+ghost use Rattle.vcm_margin.specs.inner.Stepped.{BothLater};
+
+use crate::difference::Difference;
+use crate::same::{is_same_feature, is_same_stop};
+use std::alloc::Global;
+use vcm_code::Op;
+use vcm_fields::BorrowedOp;
+use vcm_loader::Loaded;
+use vcm_machine::Machine;
+use vcm_motion::Part;
+use vcm_num::NoMemory;
+use vcm_spec::Feature;
+
+// The feature that a statement measures.
+fn measured(op: &BorrowedOp<'_>) -> Option<u16>
+    ensures { result ≡ measured_by (op_of op.now) }
+{
+    match op {
+        Op::PtMeas(feature, _, _, _, _) => Some(*feature),
+        _ => None,
+    }
+}
+
+// The feature of an index as a machine has measured it.
+fn actual_of<P: Part>(machine: &Machine<'_, P>, index: u16) -> Option<Feature>
+    ensures { result ≡ actual_in machine.now.state index }
+{
+    match machine.world().actual().get(index as usize) {
+        Some(feature) => *feature,
+        None => None,
+    }
+}
+
+// What differs between two machines behind a step that measured a feature or none.
+fn differing<P: Part, Q: Part>(
+    which: Option<u16>,
+    one: &Machine<'_, P>,
+    other: &Machine<'_, Q>,
+) -> Option<Difference>
+    ensures differ { IfSome result (Differ which one.now.state other.now.state) }
+    ensures alike { IfNone result (IsAlike which one.now.state other.now.state) }
+{
+    let stop = other.world().stop();
+    if !is_same_stop(one.world().stop(), stop) {
+        return Some(Difference::Stop(stop));
+    }
+    let next = other.next();
+    if one.next() != next {
+        return Some(Difference::Next(next));
+    }
+    let index = which?;
+    let feature = actual_of(other, index);
+    if is_same_feature(actual_of(one, index), feature) {
+        None
+    } else {
+        Some(Difference::Feature(index, feature))
+    }
+}
+
+// One step of two machines over one code, and what differs behind it.
+fn step_both<P: Part, Q: Part>(
+    alloc: Global,
+    loaded: &Loaded<'_>,
+    one: &mut Machine<'_, P>,
+    other: &mut Machine<'_, Q>,
+) -> Result<Option<Difference>, NoMemory>
+    requires { one.old.code ≡ code_of loaded.now }
+    ensures stepped { IfOk result (λ d. BothLater one.old other.old one.new other.new) }
+    ensures differ { IfOk result (λ d. IfSome d (Differ (measures one.old.code one.old.state) one.new.state other.new.state)) }
+    ensures alike { IfOk result (λ d. IfNone d (IsAlike (measures one.old.code one.old.state) one.new.state other.new.state)) }
+{
+    let which = measured(&loaded.statement(one.next() as usize).op);
+    one.step(alloc)?;
+    other.step(alloc)?;
+    Ok(differing(which, one, other))
+}
+
+// What differs first in so many steps of two machines at the start of one code.
+fn compare_on<P: Part, Q: Part>(
+    alloc: Global,
+    loaded: &Loaded<'_>,
+    one: &mut Machine<'_, P>,
+    other: &mut Machine<'_, Q>,
+    steps: u64,
+) -> Result<Option<Difference>, NoMemory>
+    requires one { one.old ≡ started one.old.part (code_of loaded.now) }
+    requires other { other.old ≡ started other.old.part (code_of loaded.now) }
+    ensures differ { IfOk result (λ d. IfSome d (DifferFirst one.old.part other.old.part (code_of loaded.now) steps)) }
+    ensures alike { IfOk result (λ d. IfNone d (GoAlike one.old.part other.old.part (code_of loaded.now) steps)) }
+{
+    for _step in 0..steps {
+        if let Some(difference) = step_both(alloc, loaded, one, other)? {
+            return Ok(Some(difference));
+        }
+    }
+    Ok(None)
+}
+
+/// What differs first in so many steps of a loaded code beside two workpieces.
+///
+/// Errors: want of memory.
+pub(crate) fn compare<P: Part, Q: Part>(
+    alloc: Global,
+    loaded: &Loaded<'_>,
+    one: &P,
+    other: &Q,
+    steps: u64,
+) -> Result<Option<Difference>, NoMemory>
+    ensures differ { IfOk result (λ d. IfSome d (DifferFirst (P.part one.now) (Q.part other.now) (code_of loaded.now) steps)) }
+    ensures alike { IfOk result (λ d. IfNone d (GoAlike (P.part one.now) (Q.part other.now) (code_of loaded.now) steps)) }
+{
+    let mut first = Machine::new(alloc, loaded, one)?;
+    let mut second = Machine::new(alloc, loaded, other)?;
+    compare_on(alloc, loaded, &mut first, &mut second, steps)
+}

@@ -1,0 +1,25 @@
+//! What differs first in a run with another tip.
+
+use vcm_spec::{Feature, StopPlace};
+
+/// What a run with another tip meets first that the run with the own tip doesn't.
+#[derive(Clone, Copy)]
+pub enum Difference {
+    /// The tip meets a block at home.
+    HomeNotClear,
+    /// It stops where the other run doesn't stop so, or doesn't stop: its stop.
+    Stop(Option<StopPlace>),
+    /// Another statement is next.
+    Next(u32),
+    /// Another point is measured for the feature of this index, or none.
+    Feature(u16, Option<Feature>),
+}
+
+/// How wide the tip may be.
+#[derive(Clone, Copy)]
+pub struct Margin {
+    /// The half width of the tip, in micrometres.
+    pub tip: u32,
+    /// What is met with one micrometre more; none where there is no wider tip.
+    pub met: Option<Difference>,
+}
