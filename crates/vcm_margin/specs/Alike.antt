@@ -7,6 +7,7 @@ use Rattle.vcm_spec.specs.Workpiece.{Workpiece}
 use Rattle.vcm_code.specs.Code.{Code, Statement, Op, Plain}
 use Rattle.vcm_code.specs.CodeTable.{CodeState, code_steps, start}
 use Rattle.vcm_margin.specs.declared.difference.Difference.{Difference}
+use Rattle.vcm_margin.specs.declared.difference.Place.{Place}
 use Rattle.vcm_margin.specs.declared.difference.Difference.TheVariants.{HomeNotClear, Stop, Next, Feature as Measured}
 
 -- the state of a code beside a workpiece after so many steps
@@ -41,16 +42,27 @@ pub record IsAlike (which : Option ℕ) (a b : CodeState) : Type 0 where
 abbrev pub GoAlike : Workpiece → Workpiece → Code → ℕ → Type 0
 GoAlike part other c n = (k : ℕ) → k < n → IsAlike (measures c (reached part c k)) (reached part c (suc k)) (reached other c (suc k))
 
--- behind a step two states differ: in their stops; or in the next statement; or in the feature that was measured. What is told is the second one's
-abbrev pub Differ : Option ℕ → CodeState → CodeState → Difference → Type 0
-Differ which a b HomeNotClear = ⊥
-Differ which a b (Stop s) = (a.world.stop ≢ b.world.stop) × (s ≡ b.world.stop)
-Differ which a b (Next n) = (a.next ≢ b.next) × (n ≡ b.next)
-Differ which a b (Measured i f) = (which ≡ Some i) × ((actual_in a i ≢ actual_in b i) × (f ≡ actual_in b i))
+-- the source line of a statement, 0 where there is none
+abbrev pub line_in : Option Statement → ℕ
+line_in (Some s) = s.line
+line_in None = 0
+
+-- the number and the source line of the statement that is next in a state
+abbrev pub next_place : Code → CodeState → Place
+next_place c m = record { number = m.next; line = line_in (slice_get c.statements m.next) }
+
+-- behind the step from a state the two states that come of it differ: in their stops; or in the next statement; or in the feature that the step
+-- measured. What is told is that of the second one
+abbrev pub Differ : Code → CodeState → CodeState → CodeState → Difference → Type 0
+Differ c before a b HomeNotClear = ⊥
+Differ c before a b (Stop s) = (a.world.stop ≢ b.world.stop) × (s ≡ b.world.stop)
+Differ c before a b (Next n) = (a.next ≢ b.next) × (n ≡ b.next)
+Differ c before a b (Measured i f place) =
+    (measures c before ≡ Some i) × ((place ≡ next_place c before) × ((actual_in a i ≢ actual_in b i) × (f ≡ actual_in b i)))
 
 -- in so many steps they go alike up to one, behind which they differ so
 pub record DifferFirst (part other : Workpiece) (c : Code) (n : ℕ) (d : Difference) : Type 0 where
   pub before : ℕ
   pub within : before < n
   pub alike : GoAlike part other c before
-  pub differ : Differ (measures c (reached part c before)) (reached part c (suc before)) (reached other c (suc before)) d
+  pub differ : Differ c (reached part c before) (reached part c (suc before)) (reached other c (suc before)) d

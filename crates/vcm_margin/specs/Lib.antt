@@ -1,3 +1,4 @@
 pub mod Alike
 pub mod Margin
+pub mod Printed
 pub mod inner

@@ -1,13 +1,13 @@
 //! Two machines over one code beside two workpieces, step by step.
 
 ghost use Rattle.std.specs.Prelude.{◌≡◌, IfOk, IfSome, IfNone};
-ghost use Rattle.vcm_code.specs.CodeTable.{code_state};
+ghost use Rattle.vcm_code.specs.CodeTable.{CodeState};
 ghost use Rattle.vcm_code.specs.Ops.{op_of, code_of};
 ghost use Rattle.vcm_machine.specs.Running.{started};
-ghost use Rattle.vcm_margin.specs.Alike.{measured_by, measures, actual_in, IsAlike, GoAlike, Differ, DifferFirst};
+ghost use Rattle.vcm_margin.specs.Alike.{measured_by, measures, next_place, actual_in, IsAlike, GoAlike, Differ, DifferFirst};
 ghost use Rattle.vcm_margin.specs.inner.Stepped.{BothLater};
 
-use crate::difference::Difference;
+use crate::difference::{Difference, Place};
 use crate::same::{is_same_feature, is_same_stop};
 use std::alloc::Global;
 use vcm_code::Op;
@@ -38,13 +38,17 @@ fn actual_of<P: Part>(machine: &Machine<'_, P>, index: u16) -> Option<Feature>
     }
 }
 
-// What differs between two machines behind a step that measured a feature or none.
+// What differs between two machines behind the step from a state, which measured a feature or none, at a place.
 fn differing<P: Part, Q: Part>(
     which: Option<u16>,
+    place: Place,
     one: &Machine<'_, P>,
     other: &Machine<'_, Q>,
 ) -> Option<Difference>
-    ensures differ { IfSome result (Differ which one.now.state other.now.state) }
+    ghost before: { CodeState }
+    requires which { which ≡ measures one.now.code before }
+    requires place { place ≡ next_place one.now.code before }
+    ensures differ { IfSome result (Differ one.now.code before one.now.state other.now.state) }
     ensures alike { IfNone result (IsAlike which one.now.state other.now.state) }
 {
     let stop = other.world().stop();
@@ -60,7 +64,7 @@ fn differing<P: Part, Q: Part>(
     if is_same_feature(actual_of(one, index), feature) {
         None
     } else {
-        Some(Difference::Feature(index, feature))
+        Some(Difference::Feature(index, feature, place))
     }
 }
 
@@ -73,13 +77,16 @@ fn step_both<P: Part, Q: Part>(
 ) -> Result<Option<Difference>, NoMemory>
     requires { one.old.code ≡ code_of loaded.now }
     ensures stepped { IfOk result (λ d. BothLater one.old other.old one.new other.new) }
-    ensures differ { IfOk result (λ d. IfSome d (Differ (measures one.old.code one.old.state) one.new.state other.new.state)) }
+    ensures differ { IfOk result (λ d. IfSome d (Differ one.old.code one.old.state one.new.state other.new.state)) }
     ensures alike { IfOk result (λ d. IfNone d (IsAlike (measures one.old.code one.old.state) one.new.state other.new.state)) }
 {
-    let which = measured(&loaded.statement(one.next() as usize).op);
+    let number = one.next();
+    let statement = loaded.statement(number as usize);
+    let which = measured(&statement.op);
+    let line = statement.line;
     one.step(alloc)?;
     other.step(alloc)?;
-    Ok(differing(which, one, other))
+    Ok(differing(which, Place { number, line }, one, other))
 }
 
 // What differs first in so many steps of two machines at the start of one code.

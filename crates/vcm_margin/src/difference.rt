@@ -2,6 +2,13 @@
 
 use vcm_spec::{Feature, StopPlace};
 
+/// A statement's number, and its source line.
+#[derive(Clone, Copy)]
+pub struct Place {
+    pub number: u32,
+    pub line: u32,
+}
+
 /// What a run with another tip meets first that the run with the own tip doesn't.
 #[derive(Clone, Copy)]
 pub enum Difference {
@@ -11,8 +18,8 @@ pub enum Difference {
     Stop(Option<StopPlace>),
     /// Another statement is next.
     Next(u32),
-    /// Another point is measured for the feature of this index, or none.
-    Feature(u16, Option<Feature>),
+    /// Another point is measured for the feature of this index, or none, by the PTMEAS at a place.
+    Feature(u16, Option<Feature>, Place),
 }
 
 /// How wide the tip may be.

@@ -4,7 +4,9 @@
 mod comparing;
 mod difference;
 mod margin;
+mod printing;
 mod same;
 
-pub use difference::{Difference, Margin};
+pub use difference::{Difference, Margin, Place};
 pub use margin::margin;
+pub use printing::write_margin;

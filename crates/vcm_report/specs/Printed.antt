@@ -64,7 +64,11 @@ place_text p =
 abbrev pub stopped_line : Tables → StopPlace → List ℕ
 stopped_line tables p = stop_text tables p.stop ++ place_text p
 
--- the line of a feature of this index: as OUTPUT prints it, or that it has none
+-- the feature of this index: as OUTPUT prints it, or that it has none
+abbrev pub feature_words : Tables → Source → ℕ → Option Feature → List ℕ
+feature_words tables source i (Some f) = feature_line source (name_at tables.features i) f
+feature_words tables source i None = letters source ++ (name_at tables.features i ++ codes ") undefined")
+
+-- its line
 abbrev pub feature_text : Tables → Source → ℕ → Option Feature → List ℕ
-feature_text tables source i (Some f) = feature_line source (name_at tables.features i) f ++ codes "\n"
-feature_text tables source i None = letters source ++ (name_at tables.features i ++ codes ") undefined\n")
+feature_text tables source i f = feature_words tables source i f ++ codes "\n"

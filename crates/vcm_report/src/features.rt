@@ -6,7 +6,7 @@ ghost use Rattle.vcm_num.specs.Axis.{unit};
 ghost use Rattle.vcm_num.specs.Point.{coordinate};
 ghost use Rattle.vcm_num.specs.Texts.{thousandths};
 ghost use Rattle.vcm_num.specs.Written.{Wrote};
-ghost use Rattle.vcm_report.specs.Printed.{in_a_row, feature_text};
+ghost use Rattle.vcm_report.specs.Printed.{in_a_row, feature_words, feature_text};
 ghost use Rattle.vcm_spec.specs.Texts.{three_texts, feature_line};
 
 use crate::names::name_at;
@@ -74,6 +74,28 @@ fn write_feature_line<W: Write>(
     write_direction(feature.toward, writer)
 }
 
+/// Writes the feature of this index as `OUTPUT` prints it, or that it is not defined, without a line feed.
+///
+/// Errors: the writer failed, or took no byte; then it has taken a front of the text, and not all of it.
+pub fn write_feature_words<W: Write>(
+    tables: &Tables,
+    source: Source,
+    index: u16,
+    feature: Option<Feature>,
+    writer: &mut W,
+) -> Result<(), WriteFault>
+    ensures { Wrote (W.contents writer.old) (W.contents writer.new) (feature_words tables.now source index feature) result }
+{
+    let name = name_at(tables.features(), index);
+    match feature {
+        Some(feature) => write_feature_line(source, name, feature, writer),
+        None => {
+            write_all(writer, source.letters())?;
+            write_pieces(writer, &[name, b") undefined"])
+        }
+    }
+}
+
 /// Writes the line of the feature of this index, or that it is not defined.
 ///
 /// Errors: the writer failed, or took no byte; then it has taken a front of the line, and not all of it.
@@ -86,17 +108,6 @@ pub fn write_feature<W: Write>(
 ) -> Result<(), WriteFault>
     ensures { Wrote (W.contents writer.old) (W.contents writer.new) (feature_text tables.now source index feature) result }
 {
-    match feature {
-        Some(feature) => {
-            write_feature_line(source, name_at(tables.features(), index), feature, writer)?;
-            write_all(writer, b"\n")
-        }
-        None => {
-            write_all(writer, source.letters())?;
-            write_pieces(
-                writer,
-                &[name_at(tables.features(), index), b") undefined\n"],
-            )
-        }
-    }
+    write_feature_words(tables, source, index, feature, writer)?;
+    write_all(writer, b"\n")
 }

@@ -6,6 +6,6 @@ mod lines;
 mod names;
 mod stops;
 
-pub use features::write_feature;
+pub use features::{write_feature, write_feature_words};
 pub use lines::{write_last_lines, write_lines};
 pub use stops::write_stop_line;

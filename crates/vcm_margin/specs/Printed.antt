@@ -1,0 +1,32 @@
+-- A margin as text.
+use Rattle.std.specs.Prelude.{ℕ, ◌+◌, List, [], ◌∷◌, ◌++◌, Option, Some, None, decimal, codes}
+use Rattle.vcm_spec.specs.declared.feature.Feature.{Feature}
+use Rattle.vcm_spec.specs.declared.words.Source.TheVariants.{Actual}
+use Rattle.vcm_spec.specs.Setup.{Tables}
+use Rattle.vcm_report.specs.Printed.{in_a_row, feature_words, stopped_line}
+use Rattle.vcm_margin.specs.declared.difference.Difference.{Difference}
+use Rattle.vcm_margin.specs.declared.difference.Difference.TheVariants.{HomeNotClear, Stop, Next, Feature as Measured}
+use Rattle.vcm_margin.specs.declared.difference.Margin.{Margin}
+use Rattle.vcm_margin.specs.declared.difference.Place.{Place}
+
+-- a measured point, and which statement measures it
+abbrev pub feature_text : Tables → ℕ → Option Feature → Place → List ℕ
+feature_text tables i f place =
+    feature_words tables Actual i f ++ in_a_row (codes " at " ∷ decimal place.number ∷ codes " line " ∷ decimal place.line ∷ codes "\n" ∷ [])
+
+-- what is met
+abbrev pub difference_text : Tables → Difference → List ℕ
+difference_text tables HomeNotClear = codes "P06 HomeNotClear\n"
+difference_text tables (Stop (Some place)) = stopped_line tables place
+difference_text tables (Stop None) = codes "no stop\n"
+difference_text tables (Next n) = in_a_row (codes "next " ∷ decimal n ∷ codes "\n" ∷ [])
+difference_text tables (Measured i f place) = feature_text tables i f place
+
+-- what is met with one micrometre more, if there is a wider tip
+abbrev pub met_text : Tables → ℕ → Option Difference → List ℕ
+met_text tables h None = []
+met_text tables h (Some d) = in_a_row (codes "at " ∷ decimal (h + 1) ∷ codes " " ∷ []) ++ difference_text tables d
+
+-- the half width, and what is met
+abbrev pub margin_text : Tables → Margin → List ℕ
+margin_text tables m = in_a_row (codes "margin " ∷ decimal m.tip ∷ codes "\n" ∷ []) ++ met_text tables m.tip m.met
