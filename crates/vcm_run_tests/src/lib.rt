@@ -12,6 +12,8 @@ mod debug_tests;
 #[cfg(test)]
 mod image_tests;
 #[cfg(test)]
+mod limit_tests;
+#[cfg(test)]
 mod listing_tests;
 #[cfg(test)]
 mod loader_tests;
