@@ -51,7 +51,7 @@ impl From<ReadFault> for RunFault {
 }
 
 /// Whether an input is an image: its first four bytes are `VCMI`.
-pub(crate) fn is_image(input: &[u8]) -> bool
+pub fn is_image(input: &[u8]) -> bool
     ensures { result ≡ is_image input.now }
 {
     input.starts_with(b"VCMI")

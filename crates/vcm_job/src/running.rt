@@ -68,8 +68,8 @@ impl From<ReadFault> for JobFault {
     }
 }
 
-// The exit status that a stop gives.
-fn status_of(stop: Option<StopPlace>) -> u8
+/// The exit status that a stop gives: 0 at the program's end, 3 at another stop, 4 where there is none.
+pub fn status_of(stop: Option<StopPlace>) -> u8
     ensures { result ≡ status_of stop }
 {
     match stop {

@@ -1,0 +1,66 @@
+-- What the views of a run show of a code beside a workpiece: their text, and the exit status.
+use Rattle.std.specs.Prelude.{◌≡◌, ℕ, Bool, true, false, nat_eq, List}
+use Rattle.std.specs.Io.KnownBytes.{Appends, Keeps}
+use Rattle.vcm_num.specs.Written.{AppendsFront}
+use Rattle.vcm_spec.specs.Workpiece.{Workpiece}
+use Rattle.vcm_code.specs.declared.code.Code.{Code}
+use Rattle.vcm_code.specs.Ops.{code_of}
+use Rattle.vcm_machine.specs.declared.ran.End.TheVariants.{NoMemory}
+use Rattle.vcm_machine.specs.declared.ran.Ran.{Ran}
+use Rattle.vcm_machine.specs.Running.{Running, started, later, RunEnded, HasRun}
+use Rattle.vcm_state.specs.Held.{Held}
+use Rattle.vcm_run.specs.Printed.{result_text}
+use Rattle.vcm_job.specs.Jobs.{status_of}
+use Rattle.vcm_trace.specs.Traces.{state_after, trace_front, trace_text}
+use Rattle.vcm_way.specs.Ways.{Kept}
+use Rattle.vcm_way.specs.Following.{HasFollowed}
+use Rattle.vcm_picture.specs.Picture.{sheet, picture_text}
+use Rattle.vcm_margin.specs.declared.difference.Margin.{Margin}
+use Rattle.vcm_margin.specs.Margin.{IsMargin}
+use Rattle.vcm_margin.specs.Printed.{margin_text}
+use Rattle.vcm_views.specs.declared.view.View.{View}
+use Rattle.vcm_views.specs.declared.view.View.TheVariants as views
+
+-- the trace of a run for at most n steps
+pub record IsTrace (part : Workpiece) (c : Code) (n : ℕ) (text : List ℕ) (status : ℕ) : Type 0 where
+  pub text_is : text ≡ trace_text part c n
+  pub status_is : status ≡ status_of (state_after part c n).world.stop
+
+-- the picture of a run that memory did not cut short
+pub record IsPicture (is_close : Bool) (part : Workpiece) (c : Code) (n : ℕ) (text : List ℕ) (status : ℕ) : Type 0 where
+  pub held : Held
+  pub ran : Ran
+  pub way : Kept
+  pub followed : HasFollowed part (code_of c) n held ran way
+  pub ample : ran.end ≡ NoMemory → ⊥
+  pub text_is : text ≡ picture_text (sheet part held ran.done way.marks way.left_out is_close)
+  pub status_is : status ≡ status_of held.state.stop
+
+-- what is told of a run that came to the program's end: its margin; of any other run its result
+abbrev pub TellsMargin : Bool → Workpiece → Code → Held → ℕ → List ℕ → Type 0
+TellsMargin true part c held done text = (m : Margin) × (IsMargin part (code_of c) done m × (text ≡ margin_text held.tables m))
+TellsMargin false part c held done text = text ≡ result_text held done
+
+-- the margin of a run that memory did not cut short, or its result
+pub record IsMarginOrResult (part : Workpiece) (c : Code) (n : ℕ) (text : List ℕ) (status : ℕ) : Type 0 where
+  pub held : Held
+  pub ran : Ran
+  pub new : Running
+  pub run : HasRun n (started part (code_of c)) new ran
+  pub state : held.state ≡ new.state.world
+  pub tables : held.tables ≡ c.tables
+  pub ample : ran.end ≡ NoMemory → ⊥
+  pub told : TellsMargin (nat_eq status 0) part c held ran.done text
+  pub status_is : status ≡ status_of held.state.stop
+
+-- a view of a code beside a workpiece, in a run for at most n steps
+abbrev pub Tells : View → Workpiece → Code → ℕ → List ℕ → ℕ → Type 0
+Tells views.Trace part c n text status = IsTrace part c n text status
+Tells (views.Picture is_close) part c n text status = IsPicture is_close part c n text status
+Tells views.Margin part c n text status = IsMarginOrResult part c n text status
+
+-- it was written and nothing else, and this is the exit status
+pub record IsViewed (view : View) (part : Workpiece) (c : Code) (n : ℕ) (status : ℕ) (old new : Option (List ℕ)) : Type 0 where
+  pub text : List ℕ
+  pub tells : Tells view part c n text status
+  pub written : Appends old new text
