@@ -11,6 +11,7 @@ use vcm_motion::Strips;
 use vcm_part::PartData;
 use vcm_run::{run_text, write_result};
 use vcm_tree::Noticed;
+use vcm_views::{View, view_of};
 
 // A fault, and its exit status.
 fn told(alloc: Global, message: Message<'_>) -> Option<String> {
@@ -63,6 +64,37 @@ pub(crate) fn run_answer(alloc: Global, part: &str, program: &str, steps: u64) -
     let mut file = part.as_bytes();
     match part_from(alloc, &mut file) {
         Ok(part) => run_beside(alloc, &part, program, steps),
+        Err(fault) => told(alloc, part_file_message(fault, "the part")),
+    }
+}
+
+// What a view of the run of a program beside a workpiece answers.
+fn view_beside(
+    alloc: Global,
+    view: View,
+    part: &PartData,
+    program: &str,
+    steps: u64,
+) -> Option<String> {
+    let mut input = program.as_bytes();
+    let mut out = Vec::new(alloc);
+    match view_of(alloc, view, part, &mut input, steps, &mut out) {
+        Ok(done) => printed(alloc, &out, done.notices.as_slice(), done.status),
+        Err(fault) => told(alloc, run_message(fault, "the program")),
+    }
+}
+
+/// What a view of the run of a program beside the workpiece of a part file answers, after so many steps at most.
+pub(crate) fn view_answer(
+    alloc: Global,
+    view: View,
+    part: &str,
+    program: &str,
+    steps: u64,
+) -> Option<String> {
+    let mut file = part.as_bytes();
+    match part_from(alloc, &mut file) {
+        Ok(part) => view_beside(alloc, view, &part, program, steps),
         Err(fault) => told(alloc, part_file_message(fault, "the part")),
     }
 }

@@ -1,10 +1,13 @@
 //! The text of worked examples, line by line.
 
-use crate::answers::{asm_answer, check_answer, image, image_answer, listing, replies, run_answer};
+use crate::answers::{
+    asm_answer, check_answer, image, image_answer, listing, replies, run_answer, view_answer,
+};
 use crate::explained::judge_examples;
 use crate::tally::{MARK, Tally};
 use std::alloc::Global;
 use vcm_test_texts::program_of;
+use vcm_views::View;
 
 /// What stands below a heading.
 #[derive(Clone, Copy, PartialEq, Eq)]
@@ -21,6 +24,8 @@ enum Heading {
     Commands,
     /// What a run answers after so many steps at most.
     Run(u64),
+    /// What a view of a run answers after so many steps at most.
+    View(View, u64),
     /// What a check answers.
     Check,
     /// What the debugger answers.
@@ -59,12 +64,24 @@ fn heading_of(title: &str) -> Heading {
             Ok(steps) => Heading::Run(steps),
             Err(_) => Heading::Unknown,
         },
+        Some(("trace", steps)) => view_heading(View::Trace, steps),
+        Some(("picture", steps)) => view_heading(View::Picture { is_close: false }, steps),
+        Some(("close", steps)) => view_heading(View::Picture { is_close: true }, steps),
+        Some(("margin", steps)) => view_heading(View::Margin, steps),
         Some(("refused", _)) => Heading::Refused,
         Some(("images", _)) => Heading::Images,
         Some(("unlisted", _)) => Heading::Unlisted,
         Some(("#", _)) => Heading::Remarks,
         Some(_) => Heading::Unknown,
         None => heading_word(title),
+    }
+}
+
+// The heading of a view.
+fn view_heading(view: View, steps: &str) -> Heading {
+    match steps.parse::<u64>() {
+        Ok(steps) => Heading::View(view, steps),
+        Err(_) => Heading::Unknown,
     }
 }
 
@@ -89,6 +106,9 @@ fn heading_word(title: &str) -> Heading {
 fn answer(alloc: Global, script: &Script) -> Option<String> {
     match heading_of(&script.title) {
         Heading::Run(steps) => run_answer(alloc, &script.part, &script.program, steps),
+        Heading::View(view, steps) => {
+            view_answer(alloc, view, &script.part, &script.program, steps)
+        }
         Heading::Check => check_answer(alloc, &script.program),
         Heading::Replies => replies(alloc, &script.part, &script.program, &script.commands),
         Heading::Listing => listing(alloc, &script.program),

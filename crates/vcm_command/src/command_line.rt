@@ -1,7 +1,9 @@
 //! The command line.
 
+use crate::forms::{FORMS, Form, More, Word};
 use clap::{Arg, ArgAction, ArgMatches, Command, Error};
 use std::alloc::Global;
+use vcm_views::View;
 
 /// What a command line asks for.
 #[derive(Clone, Copy, PartialEq, Eq)]
@@ -19,6 +21,14 @@ pub enum Request<'a> {
     },
     /// `run INPUT PART [--steps N]`: the program or image in this file, run beside the workpiece in that one for at most so many steps.
     Run {
+        input: &'a str,
+        part: &'a str,
+        steps: &'a str,
+    },
+    /// `trace`, `picture [--close]` or `margin`, then `INPUT PART [--steps N]`: a view of the run of the program or image in this file, beside the
+    /// workpiece in that one for at most so many steps.
+    View {
+        view: View,
         input: &'a str,
         part: &'a str,
         steps: &'a str,
@@ -60,88 +70,6 @@ pub fn steps_of(text: &str) -> Option<u64> {
     }
 }
 
-// A word behind a command: its name, and what it is.
-type Word = (&'static str, &'static str);
-
-const PROGRAM: Word = ("PROGRAM", "The measuring program, a DMIS text");
-
-const INPUT: Word = ("INPUT", "The measuring program, a DMIS text, or its image");
-
-const PART: Word = ("PART", "The workpiece, a TOML text");
-
-const LISTING: Word = ("LISTING", "The listing of a code");
-
-const IMAGE: Word = ("IMAGE", "The file that the image is written to");
-
-// What else a command takes.
-#[derive(Clone, Copy)]
-enum More {
-    Nothing,
-    /// `--steps N`.
-    Steps,
-    /// Any words.
-    Words,
-}
-
-// A command: its name, what it does, the words behind it, which all have to be there, and what else it takes.
-#[derive(Clone, Copy)]
-struct Form {
-    name: &'static str,
-    about: &'static str,
-    words: &'static [Word],
-    more: More,
-}
-
-const FORMS: [Form; 7] = [
-    Form {
-        name: "check",
-        about: "Tells whether a program is accepted, and how many statements it has",
-        words: &[PROGRAM],
-        more: More::Nothing,
-    },
-    Form {
-        name: "build",
-        about: "Writes the image of a program",
-        words: &[PROGRAM, IMAGE],
-        more: More::Nothing,
-    },
-    Form {
-        name: "run",
-        about: "Runs a program or an image beside a workpiece, and prints the result",
-        words: &[INPUT, PART],
-        more: More::Steps,
-    },
-    Form {
-        name: "debug",
-        about: "Answers the commands of standard input, a line each, on a program or an image",
-        words: &[INPUT, PART],
-        more: More::Nothing,
-    },
-    Form {
-        name: "list",
-        about: "Prints the listing of a program or an image",
-        words: &[INPUT],
-        more: More::Nothing,
-    },
-    Form {
-        name: "asm",
-        about: "Writes the image of a listing",
-        words: &[LISTING, IMAGE],
-        more: More::Nothing,
-    },
-    Form {
-        name: "explain",
-        about: "Tells what a code or a message means and what to do; without words, which there are",
-        words: &[],
-        more: More::Words,
-    },
-];
-
-/// The name of a command, of which there are some, counted from 0.
-pub fn command_name(index: usize) -> Option<&'static str> {
-    FORMS.get(index).map(|form| form.name)
-}
-
 // A word that has to be there.
 fn required<'a>(alloc: Global, word: Word) -> Arg<'a> {
     let (name, help) = word;
@@ -167,9 +95,19 @@ fn steps_option<'a>(alloc: Global) -> Arg<'a> {
         .help("The most steps, 0 to 1000000000; 1000000 if not given")
 }
 
+// `--close`.
+fn close_option<'a>(alloc: Global) -> Arg<'a> {
+    Arg::new(alloc, "close")
+        .long("close")
+        .action(ArgAction::SetTrue)
+        .help("Shows the blocks as large as they are, wherever the probe went")
+}
+
 // The command with the words behind it.
 fn with_words<'a>(alloc: Global, form: Form) -> Result<Command<'a>, Error> {
-    let mut command = Command::new(alloc, form.name).about(form.about);
+    let mut command = Command::new(alloc, form.name)
+        .about(form.about)
+        .after_help(form.example);
     for word in form.words {
         command = command.arg(required(alloc, *word))?;
     }
@@ -182,6 +120,10 @@ fn subcommand_of<'a>(alloc: Global, form: Form) -> Result<Command<'a>, Error> {
     match form.more {
         More::Nothing => Ok(command),
         More::Steps => Ok(command.arg(steps_option(alloc))?),
+        More::StepsAndClose => {
+            let command = command.arg(steps_option(alloc))?;
+            Ok(command.arg(close_option(alloc))?)
+        }
         More::Words => Ok(command.arg(any_words(alloc))?),
     }
 }
@@ -205,6 +147,16 @@ fn word<'a>(matches: &ArgMatches<'a>, name: &str) -> &'a str {
     matches.get_str(name).unwrap_or("")
 }
 
+// The request for a view of a run.
+fn view_request<'a>(view: View, behind: &ArgMatches<'a>) -> Request<'a> {
+    Request::View {
+        view,
+        input: word(behind, "INPUT"),
+        part: word(behind, "PART"),
+        steps: behind.get_str("steps").unwrap_or(STEPS),
+    }
+}
+
 // The request of a command with what stands behind it.
 fn request_behind<'a>(name: &str, behind: &ArgMatches<'a>) -> Request<'a> {
     match name {
@@ -220,6 +172,12 @@ fn request_behind<'a>(name: &str, behind: &ArgMatches<'a>) -> Request<'a> {
             part: word(behind, "PART"),
             steps: behind.get_str("steps").unwrap_or(STEPS),
         },
+        "trace" => view_request(View::Trace, behind),
+        "picture" => {
+            let is_close = behind.get_flag("close");
+            view_request(View::Picture { is_close }, behind)
+        }
+        "margin" => view_request(View::Margin, behind),
         "debug" => Request::Debug {
             input: word(behind, "INPUT"),
             part: word(behind, "PART"),

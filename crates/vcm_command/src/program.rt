@@ -16,6 +16,7 @@ use vcm_job::{Done, asm, build, check, debug, job, list, part_from, run};
 use vcm_num::write_all;
 use vcm_part::PartData;
 use vcm_tree::Noticed;
+use vcm_views::{View, view_of};
 
 // Tells a fault on standard error, and gives its exit status.
 pub(crate) fn fails<R: Eprint>(rt: &R, message: Message<'_>) -> u8 {
@@ -211,6 +212,26 @@ fn run_file<'a, R: Files + Print + AllocGlobal>(
     written(&mut out, done.map_err(|fault| run_message(fault, name)))
 }
 
+// Prints a view of the run of the program or image of a file beside the workpiece of another one, which is judged first.
+fn view_file<'a, R: Files + Print + AllocGlobal>(
+    rt: &R,
+    view: View,
+    name: &'a str,
+    part: &'a str,
+    steps: &str,
+) -> Result<Done, Message<'a>> {
+    let Some(steps) = steps_of(steps) else {
+        return Err(Message::Steps);
+    };
+    let part = part_of(rt, part)?;
+    let Ok(mut file) = std::fs::open(rt, name) else {
+        return Err(Message::Read { name });
+    };
+    let mut out = output(rt)?;
+    let done = view_of(rt.alloc(), view, &part, &mut file, steps, &mut out);
+    written(&mut out, done.map_err(|fault| run_message(fault, name)))
+}
+
 // Answers the commands of standard input on the program or image of a file beside the workpiece of another one, which is judged first. Each
 // reply is handed on at once. A read of no byte shows whether standard input is open: where it is closed, the file would get its number.
 fn debug_file<'a, R: Files + Input + Print + AllocGlobal>(
@@ -274,6 +295,10 @@ pub fn status<R: Env + Files + Input + Print + Eprint + AllocGlobal>(rt: &R) -> 
         Ok(Request::Run { input, part, steps }) => status_after(
             rt,
             run_file(rt, input, part, steps),
+        ),
+        Ok(Request::View { view, input, part, steps }) => status_after(
+            rt,
+            view_file(rt, view, input, part, steps),
         ),
         Ok(Request::Debug { input, part }) => status_of_notices(rt, debug_file(rt, input, part)),
         Ok(Request::List { input }) => status_of_notices(rt, list_file(rt, input)),

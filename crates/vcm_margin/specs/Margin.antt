@@ -1,9 +1,10 @@
 -- How much wider the tip may be: the greatest half width with which a run goes as it does with the workpiece's own tip.
-use Rattle.std.specs.Prelude.{◌≡◌, ℕ, ◌≤◌, false, IsTrue}
+use Rattle.std.specs.Prelude.{◌≡◌, ℕ, ◌+◌, false, IsTrue, Option, Some, None}
 use Rattle.vcm_spec.specs.Workpiece.{Workpiece}
 use Rattle.vcm_code.specs.Code.{Code}
 use Rattle.vcm_part.specs.Tip.{with_tip, is_tip}
 use Rattle.vcm_margin.specs.declared.difference.Difference.{Difference}
+use Rattle.vcm_margin.specs.declared.difference.Margin.{Margin}
 use Rattle.vcm_margin.specs.declared.difference.Difference.TheVariants.{HomeNotClear, Stop, Next, Feature as Measured}
 use Rattle.vcm_margin.specs.Alike.{GoAlike, DifferFirst}
 
@@ -16,3 +17,13 @@ pub record GoesWith (part : Workpiece) (c : Code) (n h : ℕ) : Type 0 where
 abbrev pub IsMet : Workpiece → Code → ℕ → ℕ → Difference → Type 0
 IsMet part c n h HomeNotClear = is_tip part h ≡ false
 IsMet part c n h d = IsTrue (is_tip part h) × DifferFirst part (with_tip h part) c n d
+
+-- what is met with a half width, if there is a wider tip than the one before it
+abbrev pub MetBy : Workpiece → Code → ℕ → ℕ → Option Difference → Type 0
+MetBy part c n h None = h ≡ 50001
+MetBy part c n h (Some d) = IsMet part c n h d
+
+-- how wide the tip may be: with this half width the run goes as it does, and with one micrometre more it doesn't, if there is so wide a tip
+pub record IsMargin (part : Workpiece) (c : Code) (n : ℕ) (m : Margin) : Type 0 where
+  pub goes : GoesWith part c n m.tip
+  pub met : MetBy part c n (m.tip + 1) m.met

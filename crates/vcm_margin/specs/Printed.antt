@@ -9,24 +9,39 @@ use Rattle.vcm_margin.specs.declared.difference.Difference.TheVariants.{HomeNotC
 use Rattle.vcm_margin.specs.declared.difference.Margin.{Margin}
 use Rattle.vcm_margin.specs.declared.difference.Place.{Place}
 
+-- which statement measures a point, and the end of the line
+abbrev pub place_text : Place → List ℕ
+place_text place = in_a_row (codes " at " ∷ decimal place.number ∷ codes " line " ∷ decimal place.line ∷ codes "\n" ∷ [])
+
 -- a measured point, and which statement measures it
 abbrev pub feature_text : Tables → ℕ → Option Feature → Place → List ℕ
-feature_text tables i f place =
-    feature_words tables Actual i f ++ in_a_row (codes " at " ∷ decimal place.number ∷ codes " line " ∷ decimal place.line ∷ codes "\n" ∷ [])
+feature_text tables i f place = feature_words tables Actual i f ++ place_text place
+
+-- which statement is next
+abbrev pub next_text : ℕ → List ℕ
+next_text n = in_a_row (codes "next " ∷ decimal n ∷ codes "\n" ∷ [])
 
 -- what is met
 abbrev pub difference_text : Tables → Difference → List ℕ
 difference_text tables HomeNotClear = codes "P06 HomeNotClear\n"
 difference_text tables (Stop (Some place)) = stopped_line tables place
 difference_text tables (Stop None) = codes "no stop\n"
-difference_text tables (Next n) = in_a_row (codes "next " ∷ decimal n ∷ codes "\n" ∷ [])
+difference_text tables (Next n) = next_text n
 difference_text tables (Measured i f place) = feature_text tables i f place
 
--- what is met with one micrometre more, if there is a wider tip
+-- the half width
+abbrev pub width_text : ℕ → List ℕ
+width_text h = in_a_row (codes "margin " ∷ decimal h ∷ codes "\n" ∷ [])
+
+-- the half width that is one micrometre more
+abbrev pub wider_text : ℕ → List ℕ
+wider_text h = in_a_row (codes "at " ∷ decimal (h + 1) ∷ codes " " ∷ [])
+
+-- what is met with it, if there is a wider tip
 abbrev pub met_text : Tables → ℕ → Option Difference → List ℕ
 met_text tables h None = []
-met_text tables h (Some d) = in_a_row (codes "at " ∷ decimal (h + 1) ∷ codes " " ∷ []) ++ difference_text tables d
+met_text tables h (Some d) = wider_text h ++ difference_text tables d
 
 -- the half width, and what is met
 abbrev pub margin_text : Tables → Margin → List ℕ
-margin_text tables m = in_a_row (codes "margin " ∷ decimal m.tip ∷ codes "\n" ∷ []) ++ met_text tables m.tip m.met
+margin_text tables m = width_text m.tip ++ met_text tables m.tip m.met

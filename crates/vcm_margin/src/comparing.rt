@@ -45,10 +45,8 @@ fn differing<P: Part, Q: Part>(
     one: &Machine<'_, P>,
     other: &Machine<'_, Q>,
 ) -> Option<Difference>
-    ghost before: { CodeState }
-    requires which { which ≡ measures one.now.code before }
-    requires place { place ≡ next_place one.now.code before }
-    ensures differ { IfSome result (Differ one.now.code before one.now.state other.now.state) }
+    ensures differ { IfSome result (λ d. (before : CodeState) → which ≡ measures one.now.code before → place ≡ next_place one.now.code before
+        → Differ one.now.code before one.now.state other.now.state d) }
     ensures alike { IfNone result (IsAlike which one.now.state other.now.state) }
 {
     let stop = other.world().stop();
@@ -103,8 +101,9 @@ fn compare_on<P: Part, Q: Part>(
     ensures alike { IfOk result (λ d. IfNone d (GoAlike one.old.part other.old.part (code_of loaded.now) steps)) }
 {
     for _step in 0..steps {
-        if let Some(difference) = step_both(alloc, loaded, one, other)? {
-            return Ok(Some(difference));
+        match step_both(alloc, loaded, one, other)? {
+            Some(difference) => return Ok(Some(difference)),
+            None => {}
         }
     }
     Ok(None)

@@ -3,10 +3,10 @@
 
 mod comparing;
 mod difference;
-mod margin;
 mod printing;
 mod same;
+mod widening;
 
 pub use difference::{Difference, Margin, Place};
-pub use margin::margin;
 pub use printing::write_margin;
+pub use widening::margin;

@@ -1,17 +1,28 @@
 //! A margin as text. Nothing here takes memory.
 
 ghost use Rattle.vcm_num.specs.Written.{Wrote};
-ghost use Rattle.vcm_margin.specs.Printed.{feature_text, difference_text, margin_text};
+ghost use Rattle.vcm_margin.specs.Printed.{place_text, feature_text, difference_text, next_text, width_text, wider_text, met_text, margin_text};
 
 use crate::difference::{Difference, Margin, Place};
 use itoa::Buffer;
 use std::io::Write;
-use vcm_num::{WriteFault, write_pieces};
+use vcm_num::{WriteFault, write_all, write_pieces};
 use vcm_report::{write_feature_words, write_stop_line};
 use vcm_spec::{Feature, Source};
 use vcm_tables::Tables;
 
-// Writes a point that is measured otherwise, or isn't measured, and where.
+// Writes which statement measures a point, and ends the line.
+fn write_place<W: Write>(place: Place, writer: &mut W) -> Result<(), WriteFault>
+    ensures { Wrote (W.contents writer.old) (W.contents writer.new) (place_text place) result }
+{
+    let mut number = Buffer::new();
+    let mut line = Buffer::new();
+    let number = number.format(place.number).as_bytes();
+    let line = line.format(place.line).as_bytes();
+    write_pieces(writer, &[b" at ", number, b" line ", line, b"\n"])
+}
+
+// Writes a point that is measured otherwise, or isn't measured, and by which statement.
 fn write_measured<W: Write>(
     tables: &Tables,
     index: u16,
@@ -22,11 +33,15 @@ fn write_measured<W: Write>(
     ensures { Wrote (W.contents writer.old) (W.contents writer.new) (feature_text tables.now index feature place) result }
 {
     write_feature_words(tables, Source::Actual, index, feature, writer)?;
-    let mut number = Buffer::new();
-    let mut line = Buffer::new();
-    let number = number.format(place.number).as_bytes();
-    let line = line.format(place.line).as_bytes();
-    write_pieces(writer, &[b" at ", number, b" line ", line, b"\n"])
+    write_place(place, writer)
+}
+
+// Writes which statement is next.
+fn write_next<W: Write>(number: u32, writer: &mut W) -> Result<(), WriteFault>
+    ensures { Wrote (W.contents writer.old) (W.contents writer.new) (next_text number) result }
+{
+    let mut text = Buffer::new();
+    write_pieces(writer, &[b"next ", text.format(number).as_bytes(), b"\n"])
 }
 
 // Writes what differs.
@@ -38,15 +53,47 @@ fn write_difference<W: Write>(
     ensures { Wrote (W.contents writer.old) (W.contents writer.new) (difference_text tables.now difference) result }
 {
     match difference {
-        Difference::HomeNotClear => write_pieces(writer, &[b"P06 HomeNotClear\n"]),
+        Difference::HomeNotClear => write_all(writer, b"P06 HomeNotClear\n"),
         Difference::Stop(Some(place)) => write_stop_line(tables, place, writer),
-        Difference::Stop(None) => write_pieces(writer, &[b"no stop\n"]),
-        Difference::Next(number) => {
-            let mut text = Buffer::new();
-            write_pieces(writer, &[b"next ", text.format(number).as_bytes(), b"\n"])
-        }
+        Difference::Stop(None) => write_all(writer, b"no stop\n"),
+        Difference::Next(number) => write_next(number, writer),
         Difference::Feature(index, feature, place) => {
             write_measured(tables, index, feature, place, writer)
+        }
+    }
+}
+
+// Writes the half width.
+fn write_width<W: Write>(tip: u32, writer: &mut W) -> Result<(), WriteFault>
+    ensures { Wrote (W.contents writer.old) (W.contents writer.new) (width_text tip) result }
+{
+    let mut text = Buffer::new();
+    write_pieces(writer, &[b"margin ", text.format(tip).as_bytes(), b"\n"])
+}
+
+// Writes the half width that is one micrometre more.
+fn write_wider<W: Write>(tip: u32, writer: &mut W) -> Result<(), WriteFault>
+    ensures { Wrote (W.contents writer.old) (W.contents writer.new) (wider_text tip) result }
+{
+    let wider = u64::from(tip) + 1;
+    let mut text = Buffer::new();
+    write_pieces(writer, &[b"at ", text.format(wider).as_bytes(), b" "])
+}
+
+// Writes what is met with one micrometre more.
+fn write_met<W: Write>(
+    tables: &Tables,
+    tip: u32,
+    met: Option<Difference>,
+    writer: &mut W,
+) -> Result<(), WriteFault>
+    ensures { Wrote (W.contents writer.old) (W.contents writer.new) (met_text tables.now tip met) result }
+{
+    match met {
+        None => Ok(()),
+        Some(difference) => {
+            write_wider(tip, writer)?;
+            write_difference(tables, difference, writer)
         }
     }
 }
@@ -56,21 +103,11 @@ fn write_difference<W: Write>(
 /// Errors: the writer failed, or took no byte; then it has taken a front of the text, and not all of it.
 pub fn write_margin<W: Write>(
     tables: &Tables,
-    margin: &Margin,
+    margin: Margin,
     writer: &mut W,
 ) -> Result<(), WriteFault>
-    ensures { Wrote (W.contents writer.old) (W.contents writer.new) (margin_text tables.now margin.now) result }
+    ensures { Wrote (W.contents writer.old) (W.contents writer.new) (margin_text tables.now margin) result }
 {
-    let mut text = Buffer::new();
-    write_pieces(
-        writer,
-        &[b"margin ", text.format(margin.tip).as_bytes(), b"\n"],
-    )?;
-    let Some(met) = margin.met else {
-        return Ok(());
-    };
-    let mut text = Buffer::new();
-    let wider = u64::from(margin.tip) + 1;
-    write_pieces(writer, &[b"at ", text.format(wider).as_bytes(), b" "])?;
-    write_difference(tables, met, writer)
+    write_width(margin.tip, writer)?;
+    write_met(tables, margin.tip, margin.met, writer)
 }

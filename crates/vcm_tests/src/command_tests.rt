@@ -6,6 +6,7 @@ use vcm_command::{Request, request_of, steps_of};
 use vcm_job::{CheckFault, check};
 use vcm_lines::{FaultCode, SourceFault};
 use vcm_test_texts::program_of;
+use vcm_views::View;
 
 #[test]
 fn numbers_of_steps(rt: HostRuntime) {
@@ -155,6 +156,22 @@ fn requests(rt: HostRuntime) {
     );
     let input = "a.dmi";
     let part = "b";
+    for (texts, view, steps) in [
+        (["vcm", "trace", "a.dmi", "b"].as_slice(), View::Trace, "1000000"),
+        (
+            ["vcm", "picture", "a.dmi", "b", "--steps", "3"].as_slice(),
+            View::Picture { is_close: false },
+            "3",
+        ),
+        (
+            ["vcm", "picture", "--close", "a.dmi", "b"].as_slice(),
+            View::Picture { is_close: true },
+            "1000000",
+        ),
+        (["vcm", "margin", "a.dmi", "b"].as_slice(), View::Margin, "1000000"),
+    ] {
+        assert!(rt; asks_for(rt.alloc(), texts, Request::View { view, input, part, steps }));
+    }
     for (texts, steps) in [
         (["vcm", "run", "a.dmi", "b", "--steps=3"].as_slice(), "3"),
         (["vcm", "run", "--steps", "3", "a.dmi", "b"].as_slice(), "3"),

@@ -1,5 +1,5 @@
 -- What the views of a run show of a code beside a workpiece: their text, and the exit status.
-use Rattle.std.specs.Prelude.{◌≡◌, ℕ, Bool, true, false, nat_eq, List}
+use Rattle.std.specs.Prelude.{◌≡◌, ℕ, Bool, true, false, nat_eq, List, Option}
 use Rattle.std.specs.Io.KnownBytes.{Appends, Keeps}
 use Rattle.vcm_num.specs.Written.{AppendsFront}
 use Rattle.vcm_spec.specs.Workpiece.{Workpiece}
@@ -11,6 +11,8 @@ use Rattle.vcm_machine.specs.Running.{Running, started, later, RunEnded, HasRun}
 use Rattle.vcm_state.specs.Held.{Held}
 use Rattle.vcm_run.specs.Printed.{result_text}
 use Rattle.vcm_job.specs.Jobs.{status_of}
+use Rattle.vcm_job.specs.declared.inputs.RunFault.{RunFault}
+use Rattle.vcm_job.specs.declared.inputs.RunFault.TheVariants as faults
 use Rattle.vcm_trace.specs.Traces.{state_after, trace_front, trace_text}
 use Rattle.vcm_way.specs.Ways.{Kept}
 use Rattle.vcm_way.specs.Following.{HasFollowed}
@@ -64,3 +66,27 @@ pub record IsViewed (view : View) (part : Workpiece) (c : Code) (n : ℕ) (statu
   pub text : List ℕ
   pub tells : Tells view part c n text status
   pub written : Appends old new text
+
+-- a run for at most n steps was refused memory after so many of them
+abbrev pub IsHaltedAfter : Workpiece → Code → ℕ → ℕ → Type 0
+IsHaltedAfter part c n done = RunEnded n (started part (code_of c)) (later done (started part (code_of c))) done NoMemory
+
+-- what was written of a view in a run that was refused memory after so many steps: of a trace its lines so far, of the others nothing
+abbrev pub WrittenSoFar : View → Workpiece → Code → ℕ → Option (List ℕ) → Option (List ℕ) → Type 0
+WrittenSoFar views.Trace part c done old new = Appends old new (trace_front part c done)
+WrittenSoFar _ part c done old new = Keeps old new
+
+-- a front of a view was written, and not all of it
+pub record IsCutOff (view : View) (part : Workpiece) (c : Code) (n : ℕ) (old new : Option (List ℕ)) : Type 0 where
+  pub text : List ℕ
+  pub status : ℕ
+  pub tells : Tells view part c n text status
+  pub front : AppendsFront old new text
+
+-- why no whole view was written: memory was refused in the run, after so many steps; or before it or for the view itself, and nothing was written; or a
+-- write failed
+abbrev pub IsCutShort : View → Workpiece → Code → ℕ → RunFault → Option (List ℕ) → Option (List ℕ) → Type 0
+IsCutShort view part c n (faults.Memory done) old new = IsHaltedAfter part c n done × WrittenSoFar view part c done old new
+IsCutShort view part c n faults.NoMemory old new = Keeps old new
+IsCutShort view part c n (faults.Write done) old new = IsCutOff view part c n old new
+IsCutShort view part c n _ old new = ⊥

@@ -1,8 +1,8 @@
 //! The greatest half width of a tip with which a run goes as it does with the own one.
 
-ghost use Rattle.std.specs.Prelude.{◌≡◌, ◌+◌, ◌≤◌, ◌↔◌, None, IfOk, IfSome, IfNone};
+ghost use Rattle.std.specs.Prelude.{◌≡◌, IfOk, IfSome, IfNone};
 ghost use Rattle.vcm_code.specs.Ops.{code_of};
-ghost use Rattle.vcm_margin.specs.Margin.{GoesWith, IsMet};
+ghost use Rattle.vcm_margin.specs.Margin.{GoesWith, IsMet, IsMargin};
 
 use crate::comparing::compare;
 use crate::difference::{Difference, Margin};
@@ -31,8 +31,11 @@ fn met<P: Part>(
     let Some(other) = part.with_tip(alloc, tip)? else {
         return Ok(Some(Difference::HomeNotClear));
     };
-    let other = AnyPart::of(alloc, &other)?;
-    compare(alloc, loaded, own, &other, steps)
+    let beside = AnyPart::of(alloc, &other)?;
+    match compare(alloc, loaded, own, &beside, steps)? {
+        Some(difference) => Ok(Some(difference)),
+        None => Ok(None),
+    }
 }
 
 // The margin beside a workpiece that means the same as the part.
@@ -44,9 +47,7 @@ fn margin_beside<P: Part>(
     steps: u64,
 ) -> Result<Margin, NoMemory>
     requires { P.part own.now ≡ part.now }
-    ensures alike { IfOk result (λ m. GoesWith part.now (code_of loaded.now) steps m.tip) }
-    ensures met { IfOk result (λ m. IfSome m.met (IsMet part.now (code_of loaded.now) steps (m.tip + 1))) }
-    ensures widest { IfOk result (λ m. m.met ≡ None → m.tip ≡ 50000) }
+    ensures { IfOk result (IsMargin part.now (code_of loaded.now) steps) }
 {
     let mut tip = part.bounds().tip;
     let mut beyond = WIDEST + 1;
@@ -75,9 +76,7 @@ pub fn margin(
     part: &PartData,
     steps: u64,
 ) -> Result<Margin, NoMemory>
-    ensures alike { IfOk result (λ m. GoesWith part.now (code_of loaded.now) steps m.tip) }
-    ensures met { IfOk result (λ m. IfSome m.met (IsMet part.now (code_of loaded.now) steps (m.tip + 1))) }
-    ensures widest { IfOk result (λ m. m.met ≡ None → m.tip ≡ 50000) }
+    ensures { IfOk result (IsMargin part.now (code_of loaded.now) steps) }
 {
     let own = AnyPart::of(alloc, part)?;
     margin_beside(alloc, loaded, &own, part, steps)

@@ -1,0 +1,115 @@
+//! The commands, with the words that each takes.
+
+/// A word behind a command: its name, and what it is.
+pub(crate) type Word = (&'static str, &'static str);
+
+const PROGRAM: Word = ("PROGRAM", "The measuring program, a DMIS text");
+
+const INPUT: Word = ("INPUT", "The measuring program, a DMIS text, or its image");
+
+const PART: Word = ("PART", "The workpiece, a TOML text");
+
+const LISTING: Word = ("LISTING", "The listing of a code");
+
+const IMAGE: Word = ("IMAGE", "The file that the image is written to");
+
+/// What else a command takes.
+#[derive(Clone, Copy)]
+pub(crate) enum More {
+    Nothing,
+    /// `--steps N`.
+    Steps,
+    /// `--steps N` and `--close`.
+    StepsAndClose,
+    /// Any words.
+    Words,
+}
+
+/// A command: its name, what it does, an example, the words behind it, which all have to be there, and what else it takes.
+#[derive(Clone, Copy)]
+pub(crate) struct Form {
+    pub(crate) name: &'static str,
+    pub(crate) about: &'static str,
+    pub(crate) example: &'static str,
+    pub(crate) words: &'static [Word],
+    pub(crate) more: More,
+}
+
+/// All commands.
+pub(crate) const FORMS: [Form; 10] = [
+    Form {
+        name: "check",
+        about: "Tells whether a program is accepted, and how many statements it has",
+        example: "For example: vcm check square.dmi",
+        words: &[PROGRAM],
+        more: More::Nothing,
+    },
+    Form {
+        name: "build",
+        about: "Writes the image of a program",
+        example: "For example: vcm build grid.dmi grid.vcmi",
+        words: &[PROGRAM, IMAGE],
+        more: More::Nothing,
+    },
+    Form {
+        name: "run",
+        about: "Runs a program or an image beside a workpiece, and prints the result",
+        example: "For example: vcm run above.dmi part-a.toml",
+        words: &[INPUT, PART],
+        more: More::Steps,
+    },
+    Form {
+        name: "trace",
+        about: "Runs a program or an image beside a workpiece, and prints what each step did, a line of CSV for each",
+        example: "For example: vcm trace touch.dmi part-a.toml",
+        words: &[INPUT, PART],
+        more: More::Steps,
+    },
+    Form {
+        name: "picture",
+        about: "Runs a program or an image beside a workpiece, and prints a picture of the way of the probe, as SVG",
+        example: "For example: vcm picture touch.dmi part-a.toml > touch.svg",
+        words: &[INPUT, PART],
+        more: More::StepsAndClose,
+    },
+    Form {
+        name: "margin",
+        about: "Tells how wide the tip of the probe may be for the run to go as it does, and what a wider one meets",
+        example: "For example: vcm margin square.dmi part-a.toml",
+        words: &[INPUT, PART],
+        more: More::Steps,
+    },
+    Form {
+        name: "debug",
+        about: "Answers the commands of standard input, a line each, on a program or an image",
+        example: "For example: vcm debug lines.dmi part-a.toml",
+        words: &[INPUT, PART],
+        more: More::Nothing,
+    },
+    Form {
+        name: "list",
+        about: "Prints the listing of a program or an image",
+        example: "For example: vcm list above.dmi",
+        words: &[INPUT],
+        more: More::Nothing,
+    },
+    Form {
+        name: "asm",
+        about: "Writes the image of a listing",
+        example: "For example: vcm asm above.lst above.vcmi",
+        words: &[LISTING, IMAGE],
+        more: More::Nothing,
+    },
+    Form {
+        name: "explain",
+        about: "Tells what a code or a message means and what to do; without words, which there are",
+        example: "For example: vcm explain E14",
+        words: &[],
+        more: More::Words,
+    },
+];
+
+/// The name of a command, of which there are some, counted from 0.
+pub fn command_name(index: usize) -> Option<&'static str> {
+    FORMS.get(index).map(|form| form.name)
+}

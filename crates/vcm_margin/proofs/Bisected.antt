@@ -1,0 +1,37 @@
+-- The steps of a bisection of half widths.
+use Rattle.std.proofs.Common.{◌≡◌, ℕ, ◌+◌, ◌-◌, ◌<◌, ◌≤◌, true, IsTrue, Option, Some, None, refl, ap, subst, arith}
+use Rattle.std.specs.Prelude.{nat_le, not, ◌&&◌}
+use Rattle.std.proofs.lemmas.Bool.{le-leb}
+use Rattle.vcm_num.specs.Point.{coordinate}
+use Rattle.vcm_spec.specs.Workpiece.{Workpiece, is_some_met, IsValid}
+use Rattle.vcm_code.specs.Code.{Code}
+use Rattle.vcm_part.specs.Tip.{with_tip, is_tip}
+use Rattle.vcm_margin.specs.declared.difference.Difference.{Difference}
+use Rattle.vcm_margin.specs.declared.difference.Margin.{Margin}
+use Rattle.vcm_margin.specs.Alike.{GoAlike}
+use Rattle.vcm_margin.specs.Margin.{GoesWith, IsMet, MetBy, IsMargin}
+use Rattle.vcm_margin.specs.inner.Widening.{IsBetween}
+
+-- a workpiece may have its own tip
+own_may : (part : Workpiece) → IsValid part → is_tip part part.bounds.tip ≡ true
+own_may part v = rw (le-leb part.bounds.tip 50000 v.tip) v.clear
+
+-- with its own tip a run goes as it does
+own_goes : (part : Workpiece) (c : Code) (n : ℕ) → IsValid part → GoesWith part c n part.bounds.tip
+own_goes part c n v = record { may = own_may part v; alike = λ k l. record { stop = refl; next = refl; feature = λ i e. refl } }
+
+pub begins_at : (part : Workpiece) (c : Code) (n : ℕ) → IsValid part → IsBetween part c n part.bounds.tip 50001 None
+begins_at part c n v = record { order = omega (arith, v.tip); most = omega arith; goes = own_goes part c n v; met = refl }
+
+module _ (part : Workpiece) (c : Code) (n tip beyond : ℕ) (found : Option Difference) (h : IsBetween part c n tip beyond found) where
+  -- the run goes as it does with a half width between the two
+  pub wider : (between : ℕ) → between < beyond → GoesWith part c n between → IsBetween part c n between beyond found
+  wider between below goes = record { order = below; most = h.most; goes = goes; met = h.met }
+
+  -- it doesn't
+  pub narrower : (between : ℕ) → tip < between → between < beyond → (d : Difference) → IsMet part c n between d → IsBetween part c n tip between (Some d)
+  narrower between above below d met = record { order = above; most = omega (arith, h.most, below); goes = h.goes; met = met }
+
+  -- the two are neighbours
+  pub ends_at : beyond - tip ≤ 1 → IsMargin part c n (record { tip = tip; met = found })
+  ends_at near = record { goes = h.goes; met = subst (λ k. MetBy part c n k found) (let e : beyond ≡ tip + 1 = omega (arith, h.order, near) in e) h.met }

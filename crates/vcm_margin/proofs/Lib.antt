@@ -1,0 +1,2 @@
+mod Bisected
+mod Together

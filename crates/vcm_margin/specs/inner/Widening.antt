@@ -1,0 +1,13 @@
+-- A bisection of half widths.
+use Rattle.std.specs.Prelude.{ℕ, ◌<◌, ◌≤◌, Option}
+use Rattle.vcm_spec.specs.Workpiece.{Workpiece}
+use Rattle.vcm_code.specs.Code.{Code}
+use Rattle.vcm_margin.specs.declared.difference.Difference.{Difference}
+use Rattle.vcm_margin.specs.Margin.{GoesWith, MetBy}
+
+-- with one half width the run goes as it does; with a greater one it doesn't, or that is past the widest
+pub record IsBetween (part : Workpiece) (c : Code) (n tip beyond : ℕ) (found : Option Difference) : Type 0 where
+  pub order : tip < beyond
+  pub most : beyond ≤ 50001
+  pub goes : GoesWith part c n tip
+  pub met : MetBy part c n beyond found

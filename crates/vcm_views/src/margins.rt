@@ -1,0 +1,83 @@
+//! The margin of the tip in a run of a loaded code.
+
+ghost use Rattle.std.specs.Prelude.{IfOk, IfErr};
+ghost use Rattle.vcm_views.specs.declared.view.View.TheVariants.{Margin as MarginOf};
+ghost use Rattle.vcm_views.specs.Views.{IsViewed, IsCutShort};
+
+use std::alloc::Global;
+use std::io::Write;
+use vcm_job::{RunFault, status_of};
+use vcm_loader::Loaded;
+use vcm_machine::{End, Machine, Ran};
+use vcm_margin::{margin, write_margin};
+use vcm_motion::AnyPart;
+use vcm_part::PartData;
+use vcm_run::write_result;
+use vcm_state::World;
+
+// Writes the margin of a run that came to the program's end behind so many steps.
+fn tell_margin<W: Write>(
+    alloc: Global,
+    loaded: &Loaded<'_>,
+    part: &PartData,
+    world: &World,
+    done: u64,
+    writer: &mut W,
+) -> Result<(), RunFault>
+{
+    let Ok(margin) = margin(alloc, loaded, part, done) else {
+        return Err(RunFault::NoMemory);
+    };
+    match write_margin(world.tables(), margin, writer) {
+        Ok(()) => Ok(()),
+        Err(_) => Err(RunFault::Write { done }),
+    }
+}
+
+// Writes the margin of a run that came to the program's end, and of any other its result; and gives the exit status.
+fn tell<W: Write>(
+    alloc: Global,
+    loaded: &Loaded<'_>,
+    part: &PartData,
+    world: &World,
+    ran: Ran,
+    writer: &mut W,
+) -> Result<u8, RunFault>
+{
+    let done = ran.done;
+    let status = status_of(world.stop());
+    if status == 0 {
+        tell_margin(alloc, loaded, part, world, done, writer)?;
+        return Ok(status);
+    }
+    match write_result(world, &ran, writer) {
+        Ok(()) => Ok(status),
+        Err(_) => Err(RunFault::Write { done }),
+    }
+}
+
+/// Writes the margin of the tip for a loaded code that comes to its end in at most so many steps, and else the result of its run; and gives the exit
+/// status.
+pub(crate) fn show_margin<W: Write>(
+    alloc: Global,
+    loaded: &Loaded<'_>,
+    part: &PartData,
+    steps: u64,
+    writer: &mut W,
+) -> Result<u8, RunFault>
+    ensures shown { IfOk result (λ status. IsViewed MarginOf part.now loaded.now steps status (W.contents writer.old) (W.contents writer.new)) }
+    ensures fault { IfErr result (λ f. IsCutShort MarginOf part.now loaded.now steps f (W.contents writer.old) (W.contents writer.new)) }
+{
+    let Ok(workpiece) = AnyPart::of(alloc, part) else {
+        return Err(RunFault::NoMemory);
+    };
+    let Ok(mut machine) = Machine::new(alloc, loaded, &workpiece) else {
+        return Err(RunFault::NoMemory);
+    };
+    let ran = machine.run(alloc, steps);
+    let world = machine.into_world();
+    match ran.end {
+        End::NoMemory => Err(RunFault::Memory { done: ran.done }),
+        End::Count | End::Stopped => tell(alloc, loaded, part, &world, ran, writer),
+    }
+}
