@@ -12,5 +12,5 @@ pub use command::{Command, Count, VariableRef};
 pub use line::{Line, RawLine};
 pub use parsing::parse_command;
 pub use reading::{next_byte, read_line};
-pub use replies::{write_halt, write_reply};
+pub use replies::{write_halt, write_reply, write_variable, write_variable_value};
 pub use reply::{CommandRefusal, Halted, Reason, Reply, ServeFault, Standing};

@@ -109,8 +109,14 @@ fn write_reason<W: Write>(tables: &Tables, why: Reason, writer: &mut W) -> Resul
     }
 }
 
-// Writes the name of the variable of this index.
-fn write_variable<W: Write>(tables: &Tables, index: u16, writer: &mut W) -> Result<(), WriteFault>
+/// Writes the name of the variable of this index, with the number of its expansion where it has one: `I`, `T#2`.
+///
+/// Errors: the writer failed, or took no byte; then it has taken a front of the name, and not all of it.
+pub fn write_variable<W: Write>(
+    tables: &Tables,
+    index: u16,
+    writer: &mut W,
+) -> Result<(), WriteFault>
     ensures { Wrote (W.contents writer.old) (W.contents writer.new) (variable_name tables.now index) result }
 {
     match tables.variables().get(index as usize) {
@@ -134,8 +140,10 @@ fn write_around<W: Write>(
     write_all(writer, behind)
 }
 
-// Writes the value of the variable of this index.
-fn write_variable_value<W: Write>(
+/// Writes a value of the variable of this index as its kind prints it: `3`, `-1.500`, `.TRUE.`.
+///
+/// Errors: the writer failed, or took no byte; then it has taken a front of the value, and not all of it.
+pub fn write_variable_value<W: Write>(
     tables: &Tables,
     index: u16,
     value: i64,

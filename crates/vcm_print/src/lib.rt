@@ -14,3 +14,5 @@ mod writer;
 
 pub use printing::print;
 pub use statement::write_statement;
+pub use tables::setting;
+pub use words::word;

@@ -30,8 +30,8 @@ pub(crate) fn direction(toward: Option<Axis>) -> &'static [u8]
     }
 }
 
-/// A setting of the probe.
-pub(crate) fn setting(which: Setting) -> &'static [u8]
+/// A setting of the probe, as it stands in a listing: `APPRCH`.
+pub fn setting(which: Setting) -> &'static [u8]
     ensures { result.now ≡ setting_text which }
 {
     match which {

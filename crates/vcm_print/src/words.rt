@@ -7,8 +7,8 @@ ghost use Rattle.vcm_words.specs.Operands.{word_text};
 use vcm_code::Op;
 use vcm_fields::BorrowedOp;
 
-/// The word of a statement.
-pub(crate) fn word(op: &BorrowedOp<'_>) -> &'static [u8]
+/// The word of a statement, as it stands in a listing: `GOTO`, `PTMEAS`.
+pub fn word(op: &BorrowedOp<'_>) -> &'static [u8]
     ensures { result.now ≡ word_text (word_of op.now) }
 {
     match op {

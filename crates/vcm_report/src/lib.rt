@@ -8,4 +8,5 @@ mod stops;
 
 pub use features::{write_feature, write_feature_words};
 pub use lines::{write_last_lines, write_lines};
+pub use names::name_at;
 pub use stops::write_stop_line;

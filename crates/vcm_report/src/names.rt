@@ -5,8 +5,8 @@ ghost use Rattle.vcm_report.specs.Printed.{name_at};
 
 use vcm_expr::Name;
 
-// The name at an index.
-pub(crate) fn name_at(names: &[Name], index: u16) -> &[u8]
+/// The name at an index; none where the names end before it.
+pub fn name_at(names: &[Name], index: u16) -> &[u8]
     ensures { result.now ≡ name_at names.now index }
 {
     match names.get(index as usize) {

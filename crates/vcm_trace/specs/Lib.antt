@@ -1,0 +1,4 @@
+pub mod Lines
+pub mod Traces
+pub mod Samples
+pub mod inner

@@ -1,0 +1,96 @@
+-- The trace of a run of a loaded code.
+use Rattle.std.specs.Prelude.{◌≡◌, ℕ, zero, suc, ◌<◌, ◌≤◌, ◌==◌, List, [], ◌++◌, length, slice_get, Option, Some, None, if◌then◌else◌}
+use Rattle.std.specs.Io.KnownBytes.{Appends, Keeps}
+use Rattle.vcm_num.specs.Written.{AppendsFront}
+use Rattle.vcm_spec.specs.declared.stop.StopPlace.{StopPlace}
+use Rattle.vcm_spec.specs.Workpiece.{Workpiece}
+use Rattle.vcm_spec.specs.Setup.{Setup, setup_of}
+use Rattle.vcm_code.specs.declared.code.Code.{Code}
+use Rattle.vcm_code.specs.Ops.{code_of, statements_of}
+use Rattle.vcm_code.specs.CodeTable.{CodeState, code_steps, code_effective, start}
+use Rattle.vcm_fields.specs.Parts.{Line}
+use Rattle.vcm_machine.specs.declared.ran.End.TheVariants.{NoMemory}
+use Rattle.vcm_machine.specs.Running.{started, later, RunEnded}
+use Rattle.vcm_trace.specs.declared.tracing.TraceFault.{TraceFault}
+use Rattle.vcm_trace.specs.declared.tracing.TraceFault.TheVariants as faults
+use Rattle.vcm_trace.specs.Lines.{heading, step_line, open_line}
+
+-- what a code is carried out on
+abbrev pub setup_with : Workpiece → Code → Setup
+setup_with part c = setup_of part c.tables
+
+-- the state of a code after so many steps from its start
+abbrev pub state_after : Workpiece → Code → ℕ → CodeState
+state_after part c n = code_steps (setup_with part c) (statements_of c.statements) n (start (setup_with part c))
+
+-- how many of so many steps are taken before it has stopped
+abbrev pub steps_taken : Workpiece → Code → ℕ → ℕ
+steps_taken part c n = code_effective (setup_with part c) (statements_of c.statements) n (start (setup_with part c))
+
+-- the line of a step at this statement, with which so many steps were taken, and behind which the state is this one
+abbrev pub line_at : Code → (count number : ℕ) → CodeState → Option Line → List ℕ
+line_at c count number after None = []
+line_at c count number after (Some s) = step_line c.tables count number s after.world after.next
+
+-- the line of a step from a state to the next one, with which so many steps were taken
+abbrev pub trace_line : Code → ℕ → CodeState → CodeState → List ℕ
+trace_line c count before after = line_at c count before.next after (slice_get c.statements before.next)
+
+-- the lines of the first so many steps
+abbrev pub step_lines : Workpiece → Code → ℕ → List ℕ
+step_lines part c zero = []
+step_lines part c (suc k) = step_lines part c k ++ trace_line c (suc k) (state_after part c k) (state_after part c (suc k))
+
+-- the line of a state in which it has not stopped, after so many steps, before this statement
+abbrev pub open_at : ℕ → CodeState → Option Line → List ℕ
+open_at count m None = []
+open_at count m (Some s) = open_line count m.next s.line m.world
+
+-- one more line after so many steps, if it has not stopped
+abbrev pub last_line : Code → ℕ → CodeState → Option StopPlace → List ℕ
+last_line c count m (Some p) = []
+last_line c count m None = open_at count m (slice_get c.statements m.next)
+
+-- the header, and the lines of the first so many steps
+abbrev pub trace_front : Workpiece → Code → ℕ → List ℕ
+trace_front part c k = heading ++ step_lines part c k
+
+-- the trace of a run for at most n steps: the header, the line of each step that is taken, and one more where it has not stopped
+abbrev pub trace_text : Workpiece → Code → ℕ → List ℕ
+trace_text part c n =
+    trace_front part c (steps_taken part c n)
+    ++ last_line c (steps_taken part c n) (state_after part c n) (state_after part c n).world.stop
+
+-- a run for at most n steps was traced to its end, which is this stop, if it came to one
+pub record IsTraced (part : Workpiece) (c : Code) (n : ℕ) (stop : Option StopPlace) (old new : Option (List ℕ)) : Type 0 where
+  pub stop_is : stop ≡ (state_after part c n).world.stop
+  pub written : Appends old new (trace_text part c n)
+
+-- memory was refused after so many steps of a run for n, at a statement that makes an output line and would not stop; the header and the
+-- lines of these steps were written
+pub record IsHalted (part : Workpiece) (c : Code) (n done : ℕ) (old new : Option (List ℕ)) : Type 0 where
+  pub halted : RunEnded n (started part (code_of c)) (later done (started part (code_of c))) done NoMemory
+  pub written : Appends old new (trace_front part c done)
+
+-- what is written before the line of the last of so many steps: nothing before the header
+abbrev pub written_before : Workpiece → Code → ℕ → List ℕ
+written_before part c zero = []
+written_before part c (suc k) = trace_front part c k
+
+-- what is written with it: behind n steps the whole trace
+abbrev pub written_with : Workpiece → Code → ℕ → ℕ → List ℕ
+written_with part c n done = if done == n then trace_text part c n else trace_front part c done
+
+-- a write failed after so many steps: a front of the trace was written and not all of it, up to somewhere in the line of the last of these
+-- steps, behind n steps also in the one behind it
+pub record IsCutOff (part : Workpiece) (c : Code) (n done : ℕ) (old new : Option (List ℕ)) : Type 0 where
+  pub taken : done ≤ steps_taken part c n
+  pub front : AppendsFront old new (trace_text part c n)
+  pub begun : length (written_before part c done) ≤ front.0
+  pub unfinished : front.0 < length (written_with part c n done)
+
+-- why a run wasn't traced to its end: memory was refused before it, and nothing was written; or in it; or a write failed
+abbrev pub IsNotTraced : Workpiece → Code → ℕ → TraceFault → Option (List ℕ) → Option (List ℕ) → Type 0
+IsNotTraced part c n faults.NoMemory old new = Keeps old new
+IsNotTraced part c n (faults.Memory done) old new = IsHalted part c n done old new
+IsNotTraced part c n (faults.Write done) old new = IsCutOff part c n done old new

@@ -1,0 +1,9 @@
+//! The trace of a run: a line of fields with commas between them for each step. Nothing is held but the machine.
+#![tactic(auto)]
+
+mod fields;
+mod lines;
+mod told;
+mod tracing;
+
+pub use tracing::{TraceFault, trace};
