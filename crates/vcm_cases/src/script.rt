@@ -65,8 +65,6 @@ fn heading_of(title: &str) -> Heading {
             Err(_) => Heading::Unknown,
         },
         Some(("trace", steps)) => view_heading(View::Trace, steps),
-        Some(("picture", steps)) => view_heading(View::Picture { is_close: false }, steps),
-        Some(("close", steps)) => view_heading(View::Picture { is_close: true }, steps),
         Some(("margin", steps)) => view_heading(View::Margin, steps),
         Some(("refused", _)) => Heading::Refused,
         Some(("images", _)) => Heading::Images,

@@ -25,7 +25,7 @@ pub enum Request<'a> {
         part: &'a str,
         steps: &'a str,
     },
-    /// `trace`, `picture [--close]` or `margin`, then `INPUT PART [--steps N]`: a view of the run of the program or image in this file, beside the
+    /// `trace` or `margin`, then `INPUT PART [--steps N]`: a view of the run of the program or image in this file, beside the
     /// workpiece in that one for at most so many steps.
     View {
         view: View,
@@ -95,14 +95,6 @@ fn steps_option<'a>(alloc: Global) -> Arg<'a> {
         .help("The most steps, 0 to 1000000000; 1000000 if not given")
 }
 
-// `--close`.
-fn close_option<'a>(alloc: Global) -> Arg<'a> {
-    Arg::new(alloc, "close")
-        .long("close")
-        .action(ArgAction::SetTrue)
-        .help("Shows the blocks as large as they are, wherever the probe went")
-}
-
 // The command with the words behind it.
 fn with_words<'a>(alloc: Global, form: Form) -> Result<Command<'a>, Error> {
     let mut command = Command::new(alloc, form.name)
@@ -120,10 +112,6 @@ fn subcommand_of<'a>(alloc: Global, form: Form) -> Result<Command<'a>, Error> {
     match form.more {
         More::Nothing => Ok(command),
         More::Steps => Ok(command.arg(steps_option(alloc))?),
-        More::StepsAndClose => {
-            let command = command.arg(steps_option(alloc))?;
-            Ok(command.arg(close_option(alloc))?)
-        }
         More::Words => Ok(command.arg(any_words(alloc))?),
     }
 }
@@ -173,10 +161,6 @@ fn request_behind<'a>(name: &str, behind: &ArgMatches<'a>) -> Request<'a> {
             steps: behind.get_str("steps").unwrap_or(STEPS),
         },
         "trace" => view_request(View::Trace, behind),
-        "picture" => {
-            let is_close = behind.get_flag("close");
-            view_request(View::Picture { is_close }, behind)
-        }
         "margin" => view_request(View::Margin, behind),
         "debug" => Request::Debug {
             input: word(behind, "INPUT"),

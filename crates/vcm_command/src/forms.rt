@@ -19,8 +19,6 @@ pub(crate) enum More {
     Nothing,
     /// `--steps N`.
     Steps,
-    /// `--steps N` and `--close`.
-    StepsAndClose,
     /// Any words.
     Words,
 }
@@ -36,7 +34,7 @@ pub(crate) struct Form {
 }
 
 /// All commands.
-pub(crate) const FORMS: [Form; 10] = [
+pub(crate) const FORMS: [Form; 9] = [
     Form {
         name: "check",
         about: "Tells whether a program is accepted, and how many statements it has",
@@ -64,13 +62,6 @@ pub(crate) const FORMS: [Form; 10] = [
         example: "For example: vcm trace touch.dmi part-a.toml",
         words: &[INPUT, PART],
         more: More::Steps,
-    },
-    Form {
-        name: "picture",
-        about: "Runs a program or an image beside a workpiece, and prints a picture of the way of the probe, as SVG",
-        example: "For example: vcm picture touch.dmi part-a.toml > touch.svg",
-        words: &[INPUT, PART],
-        more: More::StepsAndClose,
     },
     Form {
         name: "margin",

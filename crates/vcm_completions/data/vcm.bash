@@ -3,23 +3,21 @@ _vcm() {
   local word=${COMP_WORDS[COMP_CWORD]} command=${COMP_WORDS[1]}
   COMPREPLY=()
   if [ "$COMP_CWORD" -eq 1 ]; then
-    COMPREPLY=($(compgen -W "check build run trace picture margin debug list asm explain help --help --version" -- "$word"))
+    COMPREPLY=($(compgen -W "check build run trace margin debug list asm explain help --help --version" -- "$word"))
     return
   fi
   case $command in
-    run | trace | margin | picture)
+    run | trace | margin)
       if [ "${COMP_WORDS[COMP_CWORD-1]}" = --steps ]; then
         return
       fi
       if [[ $word == -* ]]; then
-        local options="--steps --help"
-        [ "$command" = picture ] && options="--close $options"
-        COMPREPLY=($(compgen -W "$options" -- "$word"))
+        COMPREPLY=($(compgen -W "--steps --help" -- "$word"))
         return
       fi
       ;;
     help)
-      COMPREPLY=($(compgen -W "check build run trace picture margin debug list asm explain" -- "$word"))
+      COMPREPLY=($(compgen -W "check build run trace margin debug list asm explain" -- "$word"))
       return
       ;;
     explain)

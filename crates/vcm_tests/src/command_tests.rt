@@ -159,14 +159,9 @@ fn requests(rt: HostRuntime) {
     for (texts, view, steps) in [
         (["vcm", "trace", "a.dmi", "b"].as_slice(), View::Trace, "1000000"),
         (
-            ["vcm", "picture", "a.dmi", "b", "--steps", "3"].as_slice(),
-            View::Picture { is_close: false },
+            ["vcm", "trace", "a.dmi", "b", "--steps", "3"].as_slice(),
+            View::Trace,
             "3",
-        ),
-        (
-            ["vcm", "picture", "--close", "a.dmi", "b"].as_slice(),
-            View::Picture { is_close: true },
-            "1000000",
         ),
         (["vcm", "margin", "a.dmi", "b"].as_slice(), View::Margin, "1000000"),
     ] {

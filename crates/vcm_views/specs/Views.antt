@@ -14,9 +14,6 @@ use Rattle.vcm_job.specs.Jobs.{status_of}
 use Rattle.vcm_job.specs.declared.inputs.RunFault.{RunFault}
 use Rattle.vcm_job.specs.declared.inputs.RunFault.TheVariants as faults
 use Rattle.vcm_trace.specs.Traces.{state_after, trace_front, trace_text}
-use Rattle.vcm_way.specs.Ways.{Kept}
-use Rattle.vcm_way.specs.Following.{HasFollowed}
-use Rattle.vcm_picture.specs.Picture.{sheet, picture_text}
 use Rattle.vcm_margin.specs.declared.difference.Margin.{Margin}
 use Rattle.vcm_margin.specs.Margin.{IsMargin}
 use Rattle.vcm_margin.specs.Printed.{margin_text}
@@ -27,16 +24,6 @@ use Rattle.vcm_views.specs.declared.view.View.TheVariants as views
 pub record IsTrace (part : Workpiece) (c : Code) (n : ℕ) (text : List ℕ) (status : ℕ) : Type 0 where
   pub text_is : text ≡ trace_text part c n
   pub status_is : status ≡ status_of (state_after part c n).world.stop
-
--- the picture of a run that memory did not cut short
-pub record IsPicture (is_close : Bool) (part : Workpiece) (c : Code) (n : ℕ) (text : List ℕ) (status : ℕ) : Type 0 where
-  pub held : Held
-  pub ran : Ran
-  pub way : Kept
-  pub followed : HasFollowed part (code_of c) n held ran way
-  pub ample : ran.end ≡ NoMemory → ⊥
-  pub text_is : text ≡ picture_text (sheet part held ran.done way.marks way.left_out is_close)
-  pub status_is : status ≡ status_of held.state.stop
 
 -- what is told of a run that came to the program's end: its margin; of any other run its result
 abbrev pub TellsMargin : Bool → Workpiece → Code → Held → ℕ → List ℕ → Type 0
@@ -58,7 +45,6 @@ pub record IsMarginOrResult (part : Workpiece) (c : Code) (n : ℕ) (text : List
 -- a view of a code beside a workpiece, in a run for at most n steps
 abbrev pub Tells : View → Workpiece → Code → ℕ → List ℕ → ℕ → Type 0
 Tells views.Trace part c n text status = IsTrace part c n text status
-Tells (views.Picture is_close) part c n text status = IsPicture is_close part c n text status
 Tells views.Margin part c n text status = IsMarginOrResult part c n text status
 
 -- it was written and nothing else, and this is the exit status
@@ -71,10 +57,10 @@ pub record IsViewed (view : View) (part : Workpiece) (c : Code) (n : ℕ) (statu
 abbrev pub IsHaltedAfter : Workpiece → Code → ℕ → ℕ → Type 0
 IsHaltedAfter part c n done = RunEnded n (started part (code_of c)) (later done (started part (code_of c))) done NoMemory
 
--- what was written of a view in a run that was refused memory after so many steps: of a trace its lines so far, of the others nothing
+-- what was written of a view in a run that was refused memory after so many steps: of a trace its lines so far, of a margin nothing
 abbrev pub WrittenSoFar : View → Workpiece → Code → ℕ → Option (List ℕ) → Option (List ℕ) → Type 0
 WrittenSoFar views.Trace part c done old new = Appends old new (trace_front part c done)
-WrittenSoFar _ part c done old new = Keeps old new
+WrittenSoFar views.Margin part c done old new = Keeps old new
 
 -- a front of a view was written, and not all of it
 pub record IsCutOff (view : View) (part : Workpiece) (c : Code) (n : ℕ) (old new : Option (List ℕ)) : Type 0 where

@@ -1,9 +1,8 @@
-//! Views of runs, from the bytes of an input to those of the view: the trace, the picture, and the margin of the tip.
+//! Views of runs, from the bytes of an input to those of the view: the trace, and the margin of the tip.
 #![tactic(auto)]
 
 mod inputs;
 mod margins;
-mod pictures;
 mod showing;
 mod traces;
 mod view;

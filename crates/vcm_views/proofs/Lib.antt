@@ -1,0 +1,3 @@
+mod TraceViews
+mod RunViews
+mod InputViews

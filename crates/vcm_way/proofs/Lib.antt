@@ -1,0 +1,5 @@
+pub mod Lists
+pub mod Ends
+pub mod Sent
+pub mod Descents
+pub mod Stepped

@@ -1,0 +1,5 @@
+-- What only private contracts and proofs of this crate speak of.
+pub mod Added
+pub mod Endings
+pub mod Told
+pub mod Steps

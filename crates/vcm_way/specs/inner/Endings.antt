@@ -1,0 +1,52 @@
+-- How a task ends.
+use Rattle.std.specs.Prelude.{◌≡◌, ℕ, IsTrue, Option, Some, None, List, [], ◌∷◌}
+use Rattle.vcm_num.specs.declared.point.Point.{Point}
+use Rattle.vcm_num.specs.Point.{coordinate, is_near}
+use Rattle.vcm_spec.specs.declared.stop.Stop.{Stop}
+use Rattle.vcm_spec.specs.declared.stop.Stop.TheVariants.{Travel, Collision}
+use Rattle.vcm_spec.specs.declared.words.MovePhase.TheVariants.{Move, Retract}
+use Rattle.vcm_spec.specs.FirstTouch.{free_move, touch}
+use Rattle.vcm_spec.specs.Outcome.{Outcome, Gives, Stops}
+use Rattle.vcm_spec.specs.Workpiece.{Workpiece}
+use Rattle.vcm_spec.specs.World.{Settings}
+use Rattle.vcm_motion.specs.declared.face.Face.{Face}
+use Rattle.vcm_way.specs.declared.mark.Going.TheVariants as going
+use Rattle.vcm_way.specs.declared.mark.Mark.{Mark}
+use Rattle.vcm_way.specs.declared.task.Task.{Task}
+use Rattle.vcm_way.specs.declared.task.Task.TheVariants.{Nowhere, Straight, Measure}
+use Rattle.vcm_way.specs.Marks.{goes, falls_short, meets_block}
+
+-- where the motion stops, its statement has that stop
+abbrev pub EndsAs : {A : Type 0} → Outcome A → Option Stop → Type 0
+EndsAs (Gives x) stop = Unit {0}
+EndsAs (Stops why) stop = stop ≡ Some why
+
+-- the statement of a task from the point p with these settings has the stop of its motion, if that has one
+abbrev pub TaskEnds : Workpiece → Point → Settings → Task → Option Stop → Type 0
+TaskEnds part p s Nowhere stop = Unit {0}
+TaskEnds part p s (Straight target) stop = EndsAs (free_move Move part (coordinate p) (coordinate target)) stop
+TaskEnds part p s (Measure m) stop = EndsAs (touch part s (coordinate p) (coordinate m.nominal) m.toward) stop
+
+-- a measurement with this stop, or with none, has touched
+abbrev pub HasTouched : Option Stop → Type 0
+HasTouched None = Unit {0}
+HasTouched (Some (Travel Retract)) = Unit {0}
+HasTouched (Some (Collision Retract hit)) = Unit {0}
+HasTouched (Some _) = ⊥
+
+-- what comes behind the touch
+abbrev pub behind : Workpiece → Point → Point → Option Stop → List Mark
+behind part touch retract None = goes going.Retract touch retract ∷ []
+behind part touch retract (Some (Travel Retract)) = falls_short part.bounds touch retract ∷ []
+behind part touch retract (Some (Collision Retract hit)) = meets_block part going.Retract touch retract hit.block
+behind part touch retract (Some _) = []
+
+-- where the way back meets a block, its end is near
+abbrev pub IsNearAtHit : Point → Option Stop → Type 0
+IsNearAtHit retract (Some (Collision Retract hit)) = IsTrue (is_near retract)
+IsNearAtHit retract _ = Unit {0}
+
+-- the distance of a face; 0, where there is none
+abbrev pub distance_of : Option Face → ℕ
+distance_of None = 0
+distance_of (Some face) = face.distance

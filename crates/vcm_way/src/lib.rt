@@ -1,0 +1,19 @@
+//! The way of the probe in a run, as marks: the pieces that it goes, the points that it touches, and where it meets a block. Each step adds
+//! what its statement and its stop say. Lengths are whole micrometres.
+#![tactic(auto)]
+
+mod following;
+mod mark;
+mod marks;
+mod moving;
+mod place;
+mod reach;
+mod task;
+mod touching;
+mod way;
+
+pub use following::{Followed, follow};
+pub use mark::{Contact, Going, Mark, Piece, Placed, Touched};
+pub use vcm_machine::{End, Ran};
+pub use vcm_num::{NoMemory, Point};
+pub use way::Way;
