@@ -1,2 +1,3 @@
 pub mod Views
 pub mod Inputs
+pub mod inner

@@ -30,14 +30,18 @@ abbrev pub TellsMargin : Bool → Workpiece → Code → Held → ℕ → List �
 TellsMargin true part c held done text = (m : Margin) × (IsMargin part (code_of c) done m × (text ≡ margin_text held.tables m))
 TellsMargin false part c held done text = text ≡ result_text held done
 
+-- a run of a code for at most n steps came to this state, with the code's tables
+pub record HasRunTo (part : Workpiece) (c : Code) (n : ℕ) (held : Held) (ran : Ran) : Type 0 where
+  pub new : Running
+  pub run : HasRun n (started part (code_of c)) new ran
+  pub state : held.state ≡ new.state.world
+  pub tables : held.tables ≡ new.code.tables
+
 -- the margin of a run that memory did not cut short, or its result
 pub record IsMarginOrResult (part : Workpiece) (c : Code) (n : ℕ) (text : List ℕ) (status : ℕ) : Type 0 where
   pub held : Held
   pub ran : Ran
-  pub new : Running
-  pub run : HasRun n (started part (code_of c)) new ran
-  pub state : held.state ≡ new.state.world
-  pub tables : held.tables ≡ c.tables
+  pub run : HasRunTo part c n held ran
   pub ample : ran.end ≡ NoMemory → ⊥
   pub told : TellsMargin (nat_eq status 0) part c held ran.done text
   pub status_is : status ≡ status_of held.state.stop

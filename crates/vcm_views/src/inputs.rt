@@ -4,6 +4,7 @@ ghost use Rattle.std.specs.Prelude.{IfOk, IfErr, IfSome};
 ghost use Rattle.vcm_job.specs.Reading.{ReadsLittle, AnswersUnread};
 ghost use Rattle.vcm_job.specs.Unread.{input_not_read};
 ghost use Rattle.vcm_views.specs.Inputs.{IsShown, IsNoView};
+ghost use Rattle.vcm_views.specs.inner.Images.{IsImageViewed, IsImageNotViewed, IsInputNotViewed};
 
 use crate::showing::show;
 use crate::view::View;
@@ -23,6 +24,8 @@ fn view_image<W: Write>(
     steps: u64,
     writer: &mut W,
 ) -> Result<u8, RunFault>
+    ensures shown { IfOk result (λ status. IsImageViewed view part.now image.now steps status (W.contents writer.old) (W.contents writer.new)) }
+    ensures fault { IfErr result (λ f. IsImageNotViewed view part.now image.now steps f (W.contents writer.old) (W.contents writer.new)) }
 {
     match load(alloc, image) {
         Ok(loaded) => show(alloc, view, &loaded, part, steps, writer),
@@ -39,6 +42,8 @@ fn view_input<W: Write>(
     steps: u64,
     writer: &mut W,
 ) -> Result<Done, RunFault>
+    ensures done { IfOk result (λ d. IsShown view part.now input.now steps d.status d.notices.items (W.contents writer.old) (W.contents writer.new)) }
+    ensures fault { IfErr result (λ f. IsInputNotViewed view part.now input.now steps f (W.contents writer.old) (W.contents writer.new)) }
 {
     if is_image(input) {
         let status = view_image(alloc, view, part, input, steps, writer)?;

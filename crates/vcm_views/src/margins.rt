@@ -3,6 +3,7 @@
 ghost use Rattle.std.specs.Prelude.{IfOk, IfErr};
 ghost use Rattle.vcm_views.specs.declared.view.View.TheVariants.{Margin as MarginOf};
 ghost use Rattle.vcm_views.specs.Views.{IsViewed, IsCutShort};
+ghost use Rattle.vcm_views.specs.inner.Told.{IsMarginTold, IsMarginNotTold, IsTold, IsNotTold};
 
 use std::alloc::Global;
 use std::io::Write;
@@ -24,6 +25,8 @@ fn tell_margin<W: Write>(
     done: u64,
     writer: &mut W,
 ) -> Result<(), RunFault>
+    ensures told { IfOk result (λ v. IsMarginTold part.now loaded.now world.now done (W.contents writer.old) (W.contents writer.new)) }
+    ensures fault { IfErr result (λ f. IsMarginNotTold part.now loaded.now world.now done f (W.contents writer.old) (W.contents writer.new)) }
 {
     let Ok(margin) = margin(alloc, loaded, part, done) else {
         return Err(RunFault::NoMemory);
@@ -43,12 +46,16 @@ fn tell<W: Write>(
     ran: Ran,
     writer: &mut W,
 ) -> Result<u8, RunFault>
+    ensures told { IfOk result (λ status. IsTold part.now loaded.now world.now ran.done status (W.contents writer.old) (W.contents writer.new)) }
+    ensures fault { IfErr result (λ f. IsNotTold part.now loaded.now world.now ran.done f (W.contents writer.old) (W.contents writer.new)) }
 {
     let done = ran.done;
     let status = status_of(world.stop());
     if status == 0 {
-        tell_margin(alloc, loaded, part, world, done, writer)?;
-        return Ok(status);
+        return match tell_margin(alloc, loaded, part, world, done, writer) {
+            Ok(()) => Ok(status),
+            Err(fault) => Err(fault),
+        };
     }
     match write_result(world, &ran, writer) {
         Ok(()) => Ok(status),
