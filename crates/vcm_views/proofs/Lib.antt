@@ -1,3 +1,3 @@
-mod TraceViews
-mod RunViews
-mod InputViews
+pub mod TraceViews
+pub mod RunViews
+pub mod InputViews

@@ -56,8 +56,10 @@ fn view_input<W: Write>(
     };
     match view_image(alloc, view, part, &image, steps, writer) {
         Ok(status) => Ok(Done { status, notices }),
-        Err(RunFault::Image(_)) => Err(RunFault::NoMemory),
-        Err(fault) => Err(fault),
+        Err(RunFault::Memory { done }) => Err(RunFault::Memory { done }),
+        Err(RunFault::Write { done }) => Err(RunFault::Write { done }),
+        // An image that was built is refused for want of memory alone.
+        Err(_) => Err(RunFault::NoMemory),
     }
 }
 
