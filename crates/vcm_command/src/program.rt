@@ -296,10 +296,14 @@ pub fn status<R: Env + Files + Input + Print + Eprint + AllocGlobal>(rt: &R) -> 
             rt,
             run_file(rt, input, part, steps),
         ),
-        Ok(Request::View { view, input, part, steps }) => status_after(
-            rt,
-            view_file(rt, view, input, part, steps),
-        ),
+        Ok(
+            Request::View {
+                view,
+                input,
+                part,
+                steps,
+            },
+        ) => status_after(rt, view_file(rt, view, input, part, steps)),
         Ok(Request::Debug { input, part }) => status_of_notices(rt, debug_file(rt, input, part)),
         Ok(Request::List { input }) => status_of_notices(rt, list_file(rt, input)),
         Ok(Request::Asm { listing, image }) => asm_file(rt, listing, image),

@@ -157,15 +157,34 @@ fn requests(rt: HostRuntime) {
     let input = "a.dmi";
     let part = "b";
     for (texts, view, steps) in [
-        (["vcm", "trace", "a.dmi", "b"].as_slice(), View::Trace, "1000000"),
+        (
+            ["vcm", "trace", "a.dmi", "b"].as_slice(),
+            View::Trace,
+            "1000000",
+        ),
         (
             ["vcm", "trace", "a.dmi", "b", "--steps", "3"].as_slice(),
             View::Trace,
             "3",
         ),
-        (["vcm", "margin", "a.dmi", "b"].as_slice(), View::Margin, "1000000"),
+        (
+            ["vcm", "margin", "a.dmi", "b"].as_slice(),
+            View::Margin,
+            "1000000",
+        ),
     ] {
-        assert!(rt; asks_for(rt.alloc(), texts, Request::View { view, input, part, steps }));
+        assert!(rt;
+            asks_for(
+                rt.alloc(),
+                texts,
+                Request::View {
+                    view,
+                    input,
+                    part,
+                    steps
+                }
+            )
+        );
     }
     for (texts, steps) in [
         (["vcm", "run", "a.dmi", "b", "--steps=3"].as_slice(), "3"),

@@ -11,7 +11,7 @@ use Rattle.vcm_run.specs.Programs.{IsBuilt}
 use Rattle.vcm_job.specs.Reading.{most_bytes, ReadsAtMost}
 use Rattle.vcm_job.specs.Inputs.{is_image, IsRefusedInput}
 use Rattle.vcm_job.specs.declared.inputs.RunFault.{RunFault}
-use Rattle.vcm_job.specs.declared.inputs.RunFault.TheVariants.{Refused, Image, Memory, NoMemory, Read, Write, TooLong}
+use Rattle.vcm_job.specs.declared.inputs.RunFault.TheVariants.{Memory, NoMemory, Read, Write, TooLong}
 use Rattle.vcm_views.specs.declared.view.View.{View}
 use Rattle.vcm_views.specs.Views.{IsViewed, IsCutShort}
 

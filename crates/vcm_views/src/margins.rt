@@ -1,6 +1,6 @@
 //! The margin of the tip in a run of a loaded code.
 
-ghost use Rattle.std.specs.Prelude.{IfOk, IfErr};
+ghost use Rattle.std.specs.Prelude.{◌≡◌, ◌≢◌, true, false, IfOk, IfErr};
 ghost use Rattle.vcm_views.specs.declared.view.View.TheVariants.{Margin as MarginOf};
 ghost use Rattle.vcm_views.specs.Views.{IsViewed, IsCutShort};
 ghost use Rattle.vcm_views.specs.inner.Told.{IsMarginTold, IsMarginNotTold, IsTold, IsNotTold};
@@ -63,6 +63,18 @@ fn tell<W: Write>(
     }
 }
 
+// Whether a run was refused memory.
+fn is_halted(ran: Ran) -> bool
+    ensures halted { result ≡ true → ran.end ≡ End.NoMemory }
+    ensures ample { result ≡ false → ran.end ≢ End.NoMemory }
+{
+    match ran.end {
+        End::NoMemory => true,
+        End::Count => false,
+        End::Stopped => false,
+    }
+}
+
 /// Writes the margin of the tip for a loaded code that comes to its end in at most so many steps, and else the result of its run; and gives the exit
 /// status.
 pub(crate) fn show_margin<W: Write>(
@@ -78,13 +90,13 @@ pub(crate) fn show_margin<W: Write>(
     let Ok(workpiece) = AnyPart::of(alloc, part) else {
         return Err(RunFault::NoMemory);
     };
-    let Ok(mut machine) = Machine::new(alloc, loaded, &workpiece) else {
+    let Ok(mut machine) = Machine::new(alloc, &*loaded, &workpiece) else {
         return Err(RunFault::NoMemory);
     };
     let ran = machine.run(alloc, steps);
     let world = machine.into_world();
-    match ran.end {
-        End::NoMemory => Err(RunFault::Memory { done: ran.done }),
-        End::Count | End::Stopped => tell(alloc, loaded, part, &world, ran, writer),
+    if is_halted(ran) {
+        return Err(RunFault::Memory { done: ran.done });
     }
+    tell(alloc, loaded, part, &world, ran, writer)
 }
