@@ -174,11 +174,10 @@ impl Script {
                 self.commands = body;
                 Some(())
             }
-            Heading::Unlisted => self.judge_listing(
-                alloc,
-                &body,
-                &refusal(alloc, &self.title, "")?,
-            ),
+            Heading::Unlisted => {
+                let wanted = refusal(alloc, &self.title, "")?;
+                self.judge_listing(alloc, &body, &wanted)
+            }
             Heading::Assembled => self.judge_listing(alloc, &body, "status 0\n"),
             _ => {
                 let found = answer(alloc, self);
