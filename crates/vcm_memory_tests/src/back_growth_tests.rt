@@ -153,23 +153,29 @@ fn goes_back<P: Part>(
     Some(is_there && served.is_ok() && out.as_slice() == texts.1.as_bytes())
 }
 
-// The same of a new session on what was loaded, under each of 129 budgets.
+// The same of a new session on what was loaded.
+fn new_goes_back<P: Part>(
+    alloc: Global,
+    scarce: &mut Scarce,
+    loaded: &Loaded<'_>,
+    part: &P,
+    budget: usize,
+    texts: (&str, &str),
+) -> Option<bool> {
+    match &mut Session::new(alloc, loaded, part) {
+        Ok(session) => goes_back(alloc, scarce, session, budget, texts),
+        Err(_) => None,
+    }
+}
+
+// The same under each of 129 budgets.
 fn all_go_back<P: Part>(alloc: Global, loaded: &Loaded<'_>, part: &P) -> Option<bool> {
     let commands = all_backs(alloc)?;
     let replies = all_replies(alloc)?;
     let mut scarce = Scarce::new(alloc).ok()?;
     for budget in 0..=128usize {
-        let went = match &mut Session::new(alloc, loaded, part) {
-            Ok(session) => goes_back(
-                alloc,
-                &mut scarce,
-                session,
-                budget * 512,
-                (commands.as_str(), replies.as_str()),
-            )?,
-            Err(_) => false,
-        };
-        if !went {
+        let texts = (commands.as_str(), replies.as_str());
+        if !new_goes_back(alloc, &mut scarce, loaded, part, budget * 512, texts)? {
             return Some(false);
         }
     }
