@@ -17,7 +17,7 @@ use Rattle.vcm_syntax.specs.declared.statement.Form.TheVariants.{Rotation, Resto
 use Rattle.vcm_syntax.specs.declared.statement.Form.TheVariants.{Choose, Case, CaseEnd, Default, ChooseEnd}
 use Rattle.vcm_syntax.specs.Readers.{end_of, field, some_field, each_of}
 use Rattle.vcm_syntax.specs.Majors.{prefix_of, major_of}
-use Rattle.vcm_syntax.specs.Places.{bare_of, titled_of, target_of, word_of, kind_of, setting_of, axis_of, system_of, unscoped, lengths_in, quoted_of, message_of}
+use Rattle.vcm_syntax.specs.Places.{bare_of, titled_of, target_of, word_of, kind_of, setting_of, axis_of, system_of, unscoped, lengths_in, any_text_of, message_of}
 use Rattle.vcm_syntax.specs.Places.{unused_of, variable_of, index_of, aim_of, named_of, source_of, test_of, spot_of}
 use Rattle.vcm_syntax.specs.Figures.{integer_of, vector_of, angle_of, feature_word_of, one_of}
 use Rattle.vcm_syntax.specs.Measuring.{offsets_of, given_of, no_more}
@@ -57,7 +57,7 @@ declaration fs =
 
 -- each statement
 form : (m : Major) (p : Prefix) (fs : List (List Lexeme)) → Declares (form_of m p fs)
-form major.Dmismn p fs = behind (bare_of p) _ (λ _ _. behind (field fs 0 >>= quoted_of) _ (λ _ _. behind (unused_of (drop 1 fs)) _ (λ _ _. this Opening tt)))
+form major.Dmismn p fs = behind (bare_of p) _ (λ _ _. behind (field fs 0 >>= any_text_of) _ (λ _ _. behind (unused_of (drop 1 fs)) _ (λ _ _. this Opening tt)))
 form major.Units p fs =
     behind (bare_of p) _ (λ _ _. behind (field fs 0 >>= word_of (codes "MM") Unsupported) _ (λ _ _.
     behind (field fs 1 >>= word_of (codes "ANGDEC") Unsupported) _ (λ _ _. behind (temperature_of (drop 2 fs)) _ (λ _ _. this Measures tt))))

@@ -121,10 +121,10 @@ lengths_in fs = fs
 
 -- ---- texts
 
--- a text
-abbrev pub quoted_of : List Lexeme → Result (List ℕ) FaultCode
-quoted_of (Quoted t ∷ []) = Ok t
-quoted_of _ = Err BadSyntax
+-- one text, whichever it is
+abbrev pub any_text_of : List Lexeme → Result (Unit {0}) FaultCode
+any_text_of (Quoted t ∷ []) = Ok tt
+any_text_of _ = Err BadSyntax
 
 -- what TEXT shows: a text of at most 1,024 bytes, each of which may stand in one
 abbrev pub message_of : List Lexeme → Result (List ℕ) FaultCode

@@ -5,24 +5,17 @@ ghost use Rattle.vcm_syntax.specs.Forms.{if_of, step_of, do_of, jumpto_of, selec
 
 use crate::figures::integer;
 use crate::named::{aim, index};
-use crate::places::{bare, behind, end, field, test};
+use crate::places::{behind, complete, expression, field, test};
 use crate::statement::{Form, Prefix, Rounds};
 use std::alloc::Global;
 use vcm_expr::{Expr, read_expr};
 use vcm_lines::{Phrase, SourceFault};
 
-pub(crate) fn iff(
-    alloc: Global,
-    line: u32,
-    prefix: &Prefix,
-    fields: &[Phrase<'_>],
-) -> Result<Form, SourceFault>
-    ensures { ReadAs line (λ f. f) result (if_of prefix.now fields.now) }
+pub(crate) fn iff(alloc: Global, line: u32, fields: &[Phrase<'_>]) -> Result<Form, SourceFault>
+    ensures { ReadAs line (λ f. f) result (if_of Prefix.Bare fields.now) }
 {
-    bare(line, prefix)?;
-    let condition = test(alloc, line, field(line, fields, 0)?)?;
-    end(line, behind(fields, 1))?;
-    Ok(Form::Test(condition))
+    let condition = test(alloc, line, fields, 0)?;
+    complete(line, behind(fields, 1), Form::Test(condition))
 }
 
 /// The increment of rounds, if a field is left.
@@ -33,24 +26,17 @@ fn step(alloc: Global, line: u32, fields: &[Phrase<'_>]) -> Result<Option<Expr>,
         [] => Ok(None),
         [increment, rest @ ..] => {
             let increment = read_expr(alloc, line, increment)?;
-            end(line, rest)?;
-            Ok(Some(increment))
+            complete(line, rest, Some(increment))
         }
     }
 }
 
-pub(crate) fn repeat(
-    alloc: Global,
-    line: u32,
-    prefix: &Prefix,
-    fields: &[Phrase<'_>],
-) -> Result<Form, SourceFault>
-    ensures { ReadAs line (λ f. f) result (do_of prefix.now fields.now) }
+pub(crate) fn repeat(alloc: Global, line: u32, fields: &[Phrase<'_>]) -> Result<Form, SourceFault>
+    ensures { ReadAs line (λ f. f) result (do_of Prefix.Bare fields.now) }
 {
-    bare(line, prefix)?;
-    let variable = index(line, field(line, fields, 0)?)?;
-    let initial = read_expr(alloc, line, field(line, fields, 1)?)?;
-    let limit = read_expr(alloc, line, field(line, fields, 2)?)?;
+    let variable = index(line, fields, 0)?;
+    let initial = expression(alloc, line, fields, 1)?;
+    let limit = expression(alloc, line, fields, 2)?;
     let increment = step(alloc, line, behind(fields, 3))?;
     Ok(Form::Repeat(Rounds {
         variable,
@@ -60,34 +46,23 @@ pub(crate) fn repeat(
     }))
 }
 
-pub(crate) fn jumpto(line: u32, prefix: &Prefix, fields: &[Phrase<'_>]) -> Result<Form, SourceFault>
-    ensures { ReadAs line (λ f. f) result (jumpto_of prefix.now fields.now) }
+pub(crate) fn jumpto(line: u32, fields: &[Phrase<'_>]) -> Result<Form, SourceFault>
+    ensures { ReadAs line (λ f. f) result (jumpto_of Prefix.Bare fields.now) }
 {
-    bare(line, prefix)?;
     let name = aim(line, field(line, fields, 0)?)?;
-    end(line, behind(fields, 1))?;
-    Ok(Form::Leap(name))
+    complete(line, behind(fields, 1), Form::Leap(name))
 }
 
-pub(crate) fn select(
-    alloc: Global,
-    line: u32,
-    prefix: &Prefix,
-    fields: &[Phrase<'_>],
-) -> Result<Form, SourceFault>
-    ensures { ReadAs line (λ f. f) result (select_of prefix.now fields.now) }
+pub(crate) fn select(alloc: Global, line: u32, fields: &[Phrase<'_>]) -> Result<Form, SourceFault>
+    ensures { ReadAs line (λ f. f) result (select_of Prefix.Bare fields.now) }
 {
-    bare(line, prefix)?;
-    let value = read_expr(alloc, line, field(line, fields, 0)?)?;
-    end(line, behind(fields, 1))?;
-    Ok(Form::Choose(value))
+    let value = expression(alloc, line, fields, 0)?;
+    complete(line, behind(fields, 1), Form::Choose(value))
 }
 
-pub(crate) fn case(line: u32, prefix: &Prefix, fields: &[Phrase<'_>]) -> Result<Form, SourceFault>
-    ensures { ReadAs line (λ f. f) result (case_of prefix.now fields.now) }
+pub(crate) fn case(line: u32, fields: &[Phrase<'_>]) -> Result<Form, SourceFault>
+    ensures { ReadAs line (λ f. f) result (case_of Prefix.Bare fields.now) }
 {
-    bare(line, prefix)?;
-    let value = integer(line, field(line, fields, 0)?)?;
-    end(line, behind(fields, 1))?;
-    Ok(Form::Case(value))
+    let value = integer(line, fields, 0)?;
+    complete(line, behind(fields, 1), Form::Case(value))
 }

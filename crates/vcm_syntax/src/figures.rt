@@ -3,9 +3,10 @@
 ghost use Rattle.std.specs.Prelude.{◌≡◌};
 ghost use Rattle.vcm_expr.specs.Digits.{read_of};
 ghost use Rattle.vcm_expr.specs.Parsing.{ReadAs};
+ghost use Rattle.vcm_syntax.specs.inner.Steps.{at_place};
 ghost use Rattle.vcm_syntax.specs.Figures.{figure_by, digits_of, figure_of, component_of, or_bad, integer_by, integer_of, is_plain, is_whole, are_whole, direction_by, vector_of, quarters_by, angle_of, word_by, feature_word_of, one_of};
 
-use crate::places::{field, sole, unsupported};
+use crate::places::{field, found, sole, unsupported};
 use vcm_lines::{FaultCode, Phrase, SourceFault, Token, bad_syntax};
 use vcm_num::{Axis, Literal, NumFault, neg, read_number};
 use vcm_spec::{FeatureWord, Quarters};
@@ -87,11 +88,11 @@ fn number<'a>(line: u32, words: &Phrase<'a>) -> Result<(Figure, Phrase<'a>), Sou
     }
 }
 
-/// A number literal.
-fn component(line: u32, words: &Phrase<'_>) -> Result<Figure, SourceFault>
-    ensures { ReadAs line (λ f. f) result (component_of words.now) }
+/// The number literal in the field at a place.
+fn component(line: u32, fields: &[Phrase<'_>], place: usize) -> Result<Figure, SourceFault>
+    ensures { ReadAs line (λ f. f) result (at_place component_of fields.now place) }
 {
-    let (figure, rest) = number(line, words)?;
+    let (figure, rest) = number(line, field(line, fields, place)?)?;
     sole(line, &rest, figure)
 }
 
@@ -109,11 +110,11 @@ fn integer_by(minus: bool, literal: Literal) -> Result<i64, FaultCode>
     }
 }
 
-/// A whole number, with a sign or without.
-pub(crate) fn integer(line: u32, words: &Phrase<'_>) -> Result<i64, SourceFault>
-    ensures { ReadAs line (λ z. z) result (integer_of words.now) }
+/// A whole number, with a sign or without, in the field at a place.
+pub(crate) fn integer(line: u32, fields: &[Phrase<'_>], place: usize) -> Result<i64, SourceFault>
+    ensures { ReadAs line (λ z. z) result (at_place integer_of fields.now place) }
 {
-    let (figure, rest) = number(line, words)?;
+    let (figure, rest) = number(line, field(line, fields, place)?)?;
     match integer_by(figure.minus, figure.literal) {
         Ok(number) => sole(line, &rest, number),
         Err(code) => Err(SourceFault { code, line }),
@@ -150,16 +151,10 @@ fn direction(x: Figure, y: Figure, z: Figure) -> Option<Axis>
 pub(crate) fn vector(line: u32, fields: &[Phrase<'_>]) -> Result<Axis, SourceFault>
     ensures { ReadAs line (λ d. d) result (vector_of fields.now) }
 {
-    let x = component(line, field(line, fields, 0)?)?;
-    let y = component(line, field(line, fields, 1)?)?;
+    let x = component(line, fields, 0)?;
+    let y = component(line, fields, 1)?;
     let (z, rest) = number(line, field(line, fields, 2)?)?;
-    match direction(x, y, z) {
-        Some(axis) => sole(line, &rest, axis),
-        None => Err(SourceFault {
-            code: FaultCode::NotAxis,
-            line,
-        }),
-    }
+    found(line, direction(x, y, z), &rest, FaultCode::NotAxis)
 }
 
 fn quarters(figure: Figure) -> Option<Quarters>
@@ -178,18 +173,12 @@ fn quarters(figure: Figure) -> Option<Quarters>
     }
 }
 
-/// An angle in degrees, as quarter turns.
-pub(crate) fn angle(line: u32, words: &Phrase<'_>) -> Result<Quarters, SourceFault>
-    ensures { ReadAs line (λ n. n) result (angle_of words.now) }
+/// An angle in degrees, as quarter turns, in the field at a place.
+pub(crate) fn angle(line: u32, fields: &[Phrase<'_>], place: usize) -> Result<Quarters, SourceFault>
+    ensures { ReadAs line (λ n. n) result (at_place angle_of fields.now place) }
 {
-    let (figure, rest) = number(line, words)?;
-    match quarters(figure) {
-        Some(turns) => sole(line, &rest, turns),
-        None => Err(SourceFault {
-            code: FaultCode::NotQuarterTurn,
-            line,
-        }),
-    }
+    let (figure, rest) = number(line, field(line, fields, place)?)?;
+    found(line, quarters(figure), &rest, FaultCode::NotQuarterTurn)
 }
 
 fn word_by(figure: Figure) -> Option<FeatureWord>
@@ -212,22 +201,23 @@ fn word_by(figure: Figure) -> Option<FeatureWord>
     }
 }
 
-/// The word of a feature, by its place in the feature's line.
-pub(crate) fn feature_word(line: u32, words: &Phrase<'_>) -> Result<FeatureWord, SourceFault>
-    ensures { ReadAs line (λ w. w) result (feature_word_of words.now) }
+/// The word of a feature, by its place in the feature's line; in the field at a place.
+pub(crate) fn feature_word(
+    line: u32,
+    fields: &[Phrase<'_>],
+    place: usize,
+) -> Result<FeatureWord, SourceFault>
+    ensures { ReadAs line (λ w. w) result (at_place feature_word_of fields.now place) }
 {
-    let (figure, rest) = number(line, words)?;
-    match word_by(figure) {
-        Some(word) => sole(line, &rest, word),
-        None => Err(unsupported(line)),
-    }
+    let (figure, rest) = number(line, field(line, fields, place)?)?;
+    found(line, word_by(figure), &rest, FaultCode::Unsupported)
 }
 
-/// The count 1.
-pub(crate) fn one(line: u32, words: &Phrase<'_>) -> Result<(), SourceFault>
-    ensures { ReadAs line (λ u. u) result (one_of words.now) }
+/// The count 1, in the field at a place.
+pub(crate) fn one(line: u32, fields: &[Phrase<'_>], place: usize) -> Result<(), SourceFault>
+    ensures { ReadAs line (λ u. u) result (at_place one_of fields.now place) }
 {
-    let (figure, rest) = number(line, words)?;
+    let (figure, rest) = number(line, field(line, fields, place)?)?;
     if figure.is_whole(1) {
         sole(line, &rest, ())
     } else {

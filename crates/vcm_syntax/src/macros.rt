@@ -9,7 +9,7 @@ ghost use Rattle.vcm_syntax.specs.Readers.{each_of};
 ghost use Rattle.vcm_syntax.specs.Macros.{raised, parameter_of, if_read, valued_of, argument_of, macro_of, call_of};
 
 use crate::named::named;
-use crate::places::{bare, behind, field, only, titled};
+use crate::places::{behind, only};
 use crate::statement::{Argument, Form, Letter, Parameter, Prefix};
 use std::alloc::Global;
 use vcm_expr::{Expr, Name, is_name, is_variable_name, read_expr};
@@ -181,25 +181,18 @@ fn arguments(
 pub(crate) fn macro_form(
     alloc: Global,
     line: u32,
-    prefix: &Prefix,
+    name: &Name,
     fields: &[Phrase<'_>],
 ) -> Result<Form, SourceFault>
-    ensures { ReadAs line (λ f. f) result (macro_of prefix.now fields.now) }
+    ensures { ReadAs line (λ f. f) result (macro_of (Prefix.Titled (Some Letter.M) name.now) fields.now) }
 {
-    let name = titled(line, Letter::M, prefix)?;
-    Ok(Form::Macro(name, parameters(alloc, line, fields)?))
+    Ok(Form::Macro(name.copy(), parameters(alloc, line, fields)?))
 }
 
 /// A call of a macro.
-pub(crate) fn call(
-    alloc: Global,
-    line: u32,
-    prefix: &Prefix,
-    fields: &[Phrase<'_>],
-) -> Result<Form, SourceFault>
-    ensures { ReadAs line (λ f. f) result (call_of prefix.now fields.now) }
+pub(crate) fn call(alloc: Global, line: u32, fields: &[Phrase<'_>]) -> Result<Form, SourceFault>
+    ensures { ReadAs line (λ f. f) result (call_of Prefix.Bare fields.now) }
 {
-    bare(line, prefix)?;
-    let name = named(line, field(line, fields, 0)?, b"M")?;
+    let name = named(line, fields, 0, b"M")?;
     Ok(Form::Call(name, arguments(alloc, line, behind(fields, 1))?))
 }

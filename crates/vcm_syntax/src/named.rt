@@ -1,21 +1,42 @@
 //! Reads names, and the words that stand for kinds, settings and axes.
 
-ghost use Rattle.std.specs.Prelude.{◌≡◌, ◌∷◌, [], ℕ, List, MatchOption};
+ghost use Rattle.std.specs.Prelude.{◌≡◌, ◌∷◌, [], ℕ, List, map, MatchOption};
+ghost use Rattle.vcm_num.specs.Words.{look_up};
 ghost use Rattle.vcm_lines.specs.Lexemes.{Run, Open, Close};
 ghost use Rattle.vcm_expr.specs.Parsing.{ReadAs};
-ghost use Rattle.vcm_syntax.specs.Places.{kind_word, kind_of, setting_word, setting_of, axis_word, axis_of, is_scope, unscoped, lengths_in, variable_of, index_of, aim_of, named_of, source_word, source_of};
+ghost use Rattle.vcm_syntax.specs.inner.Steps.{label_of, at_place};
+ghost use Rattle.vcm_syntax.specs.Places.{choice_of, kind_of, setting_of, axis_of, is_scope, unscoped, lengths_in, variable_of, index_of, aim_of, named_of, source_word, source_of};
 
-use crate::places::{only, sole, unsupported};
+use crate::places::{field, found, only};
 use crate::statement::Target;
 use vcm_expr::{Name, VariableName, is_name, is_variable_name};
-use vcm_lines::{Phrase, SourceFault, Token, bad_syntax};
+use vcm_lines::{FaultCode, Phrase, SourceFault, Token, bad_syntax};
 use vcm_num::{Kind, is, look_up};
 use vcm_spec::{FrameAxis, Setting, Source};
 
-fn kind_word(word: &[u8]) -> Option<Kind>
-    ensures { result ≡ kind_word word.now }
+/// What a word stands for in a table of words; `code` is told of another word.
+fn choice<T: Copy + Drop>(
+    line: u32,
+    words: &Phrase<'_>,
+    rows: &[(&[u8], T)],
+    code: FaultCode,
+) -> Result<T, SourceFault>
+    ensures { ReadAs line (λ v. v) result (choice_of (look_up (map (λ row. (row.0.now, row.1)) rows.now)) code words.now) }
 {
-    look_up(
+    match words.split_first() {
+        Some((Token::Run(word), rest)) => found(line, look_up(rows, word), &rest, code),
+        _ => Err(bad_syntax(line)),
+    }
+}
+
+/// The kind that a word names, in the field at a place.
+pub(crate) fn kind(line: u32, fields: &[Phrase<'_>], place: usize) -> Result<Kind, SourceFault>
+    ensures { ReadAs line (λ k. k) result (at_place kind_of fields.now place) }
+{
+    let words = field(line, fields, place)?;
+    choice(
+        line,
+        words,
         &[
             (b"INTGR", Kind::Int),
             (b"LONG", Kind::Int),
@@ -23,74 +44,47 @@ fn kind_word(word: &[u8]) -> Option<Kind>
             (b"DOUBLE", Kind::Real),
             (b"BOOL", Kind::Bool),
         ],
-        word,
+        FaultCode::Unsupported,
     )
 }
 
-/// The kind that a word names.
-pub(crate) fn kind(line: u32, words: &Phrase<'_>) -> Result<Kind, SourceFault>
-    ensures { ReadAs line (λ k. k) result (kind_of words.now) }
+/// The setting that a word names, in the field at a place.
+pub(crate) fn setting(
+    line: u32,
+    fields: &[Phrase<'_>],
+    place: usize,
+) -> Result<Setting, SourceFault>
+    ensures { ReadAs line (λ s. s) result (at_place setting_of fields.now place) }
 {
-    match words.split_first() {
-        Some((Token::Run(word), rest)) => match kind_word(word) {
-            Some(kind) => sole(line, &rest, kind),
-            None => Err(unsupported(line)),
-        },
-        _ => Err(bad_syntax(line)),
-    }
-}
-
-fn setting_word(word: &[u8]) -> Option<Setting>
-    ensures { result ≡ setting_word word.now }
-{
-    look_up(
+    let words = field(line, fields, place)?;
+    choice(
+        line,
+        words,
         &[
             (b"APPRCH", Setting::Approach),
             (b"RETRCT", Setting::Retract),
             (b"SEARCH", Setting::Search),
             (b"DEPTH", Setting::Depth),
         ],
-        word,
+        FaultCode::Unsupported,
     )
 }
 
-/// The setting that a word names.
-pub(crate) fn setting(line: u32, words: &Phrase<'_>) -> Result<Setting, SourceFault>
-    ensures { ReadAs line (λ s. s) result (setting_of words.now) }
+/// The axis about which a frame is turned, in the field at a place.
+pub(crate) fn axis(line: u32, fields: &[Phrase<'_>], place: usize) -> Result<FrameAxis, SourceFault>
+    ensures { ReadAs line (λ a. a) result (at_place axis_of fields.now place) }
 {
-    match words.split_first() {
-        Some((Token::Run(word), rest)) => match setting_word(word) {
-            Some(setting) => sole(line, &rest, setting),
-            None => Err(unsupported(line)),
-        },
-        _ => Err(bad_syntax(line)),
-    }
-}
-
-fn axis_word(word: &[u8]) -> Option<FrameAxis>
-    ensures { result ≡ axis_word word.now }
-{
-    look_up(
+    let words = field(line, fields, place)?;
+    choice(
+        line,
+        words,
         &[
             (b"XAXIS", FrameAxis::X),
             (b"YAXIS", FrameAxis::Y),
             (b"ZAXIS", FrameAxis::Z),
         ],
-        word,
+        FaultCode::BadSyntax,
     )
-}
-
-/// The axis about which a frame is turned.
-pub(crate) fn axis(line: u32, words: &Phrase<'_>) -> Result<FrameAxis, SourceFault>
-    ensures { ReadAs line (λ a. a) result (axis_of words.now) }
-{
-    match words.split_first() {
-        Some((Token::Run(word), rest)) => match axis_word(word) {
-            Some(axis) => sole(line, &rest, axis),
-            None => Err(bad_syntax(line)),
-        },
-        _ => Err(bad_syntax(line)),
-    }
 }
 
 fn is_scope(word: &[u8]) -> bool
@@ -141,11 +135,11 @@ pub(crate) fn variable(line: u32, words: &Phrase<'_>) -> Result<VariableName, So
     }
 }
 
-/// The variable that counts rounds.
-pub(crate) fn index(line: u32, words: &Phrase<'_>) -> Result<Target, SourceFault>
-    ensures { ReadAs line (λ t. t) result (index_of words.now) }
+/// The variable that counts rounds, in the field at a place.
+pub(crate) fn index(line: u32, fields: &[Phrase<'_>], place: usize) -> Result<Target, SourceFault>
+    ensures { ReadAs line (λ t. t) result (at_place index_of fields.now place) }
 {
-    match only(words) {
+    match only(field(line, fields, place)?) {
         Some(Token::Run(bytes)) => {
             if is_variable_name(bytes) {
                 Ok(Target {
@@ -177,19 +171,24 @@ fn enclosed<'a>(words: &Phrase<'a>) -> Option<&'a [u8]>
     }
 }
 
+/// The name that a label is.
+fn label(line: u32, bytes: &[u8]) -> Result<Name, SourceFault>
+    ensures { ReadAs line (λ l. l) result (label_of bytes.now) }
+{
+    if is_name(bytes) {
+        Ok(Name::new(bytes))
+    } else {
+        Err(bad_syntax(line))
+    }
+}
+
 /// A label in parentheses.
 pub(crate) fn aim(line: u32, words: &Phrase<'_>) -> Result<Name, SourceFault>
     ensures { ReadAs line (λ l. l) result (aim_of words.now) }
 {
     match enclosed(words) {
         None => Err(bad_syntax(line)),
-        Some(label) => {
-            if is_name(label) {
-                Ok(Name::new(label))
-            } else {
-                Err(bad_syntax(line))
-            }
-        }
+        Some(bytes) => label(line, bytes),
     }
 }
 
@@ -209,19 +208,31 @@ fn labelled<'a>(words: &Phrase<'a>) -> Option<(&'a [u8], &'a [u8])>
 
 /// The name of a feature, a frame or a macro, as `F(l)`.
 #[tactic(auto, using(crate::proofs::NamedPlaces::unnamed))]
-pub(crate) fn named(line: u32, words: &Phrase<'_>, letter: &[u8]) -> Result<Name, SourceFault>
+fn named_in(line: u32, words: &Phrase<'_>, letter: &[u8]) -> Result<Name, SourceFault>
     ensures { ReadAs line (λ l. l) result (named_of letter.now words.now) }
 {
     match labelled(words) {
         None => Err(bad_syntax(line)),
-        Some((first, label)) => {
-            if is(first, letter) && is_name(label) {
-                Ok(Name::new(label))
+        Some((first, bytes)) => {
+            if is(first, letter) {
+                label(line, bytes)
             } else {
                 Err(bad_syntax(line))
             }
         }
     }
+}
+
+/// The name of a feature, a frame or a macro, in the field at a place.
+pub(crate) fn named(
+    line: u32,
+    fields: &[Phrase<'_>],
+    place: usize,
+    letter: &[u8],
+) -> Result<Name, SourceFault>
+    ensures { ReadAs line (λ l. l) result (at_place (named_of letter.now) fields.now place) }
+{
+    named_in(line, field(line, fields, place)?, letter)
 }
 
 fn source_word(word: &[u8]) -> Option<Source>
@@ -232,7 +243,7 @@ fn source_word(word: &[u8]) -> Option<Source>
 
 /// A feature as it was declared or as it was measured, and its name.
 #[tactic(auto, using(crate::proofs::NamedPlaces::unsourced))]
-pub(crate) fn source(line: u32, words: &Phrase<'_>) -> Result<(Source, Name), SourceFault>
+fn source_in(line: u32, words: &Phrase<'_>) -> Result<(Source, Name), SourceFault>
     ensures { ReadAs line (λ r. r) result (source_of words.now) }
 {
     match labelled(words) {
@@ -248,4 +259,15 @@ pub(crate) fn source(line: u32, words: &Phrase<'_>) -> Result<(Source, Name), So
             None => Err(bad_syntax(line)),
         },
     }
+}
+
+/// A feature as it was declared or as it was measured, and its name, in the field at a place.
+pub(crate) fn source(
+    line: u32,
+    fields: &[Phrase<'_>],
+    place: usize,
+) -> Result<(Source, Name), SourceFault>
+    ensures { ReadAs line (λ r. r) result (at_place source_of fields.now place) }
+{
+    source_in(line, field(line, fields, place)?)
 }

@@ -3,16 +3,15 @@
 ghost use Rattle.vcm_expr.specs.Parsing.{ReadAs};
 ghost use Rattle.vcm_syntax.specs.Forms.{dmismn_of, temperature_of, units_of};
 
-use crate::places::{bare, behind, end, field, quoted, single, unused, word};
+use crate::places::{behind, end, quoted, single, unused, word_at};
 use crate::statement::{Form, Prefix};
 use vcm_lines::{FaultCode, Phrase, SourceFault};
 
 /// The first statement: the title of a program.
-pub(crate) fn dmismn(line: u32, prefix: &Prefix, fields: &[Phrase<'_>]) -> Result<Form, SourceFault>
-    ensures { ReadAs line (λ f. f) result (dmismn_of prefix.now fields.now) }
+pub(crate) fn dmismn(line: u32, fields: &[Phrase<'_>]) -> Result<Form, SourceFault>
+    ensures { ReadAs line (λ f. f) result (dmismn_of Prefix.Bare fields.now) }
 {
-    bare(line, prefix)?;
-    quoted(line, field(line, fields, 0)?)?;
+    quoted(line, fields, 0)?;
     unused(line, behind(fields, 1))?;
     Ok(Form::Opening)
 }
@@ -31,17 +30,11 @@ fn temperature(line: u32, fields: &[Phrase<'_>]) -> Result<(), SourceFault>
 }
 
 /// The units of a program.
-pub(crate) fn units(line: u32, prefix: &Prefix, fields: &[Phrase<'_>]) -> Result<Form, SourceFault>
-    ensures { ReadAs line (λ f. f) result (units_of prefix.now fields.now) }
+pub(crate) fn units(line: u32, fields: &[Phrase<'_>]) -> Result<Form, SourceFault>
+    ensures { ReadAs line (λ f. f) result (units_of Prefix.Bare fields.now) }
 {
-    bare(line, prefix)?;
-    word(line, field(line, fields, 0)?, b"MM", FaultCode::Unsupported)?;
-    word(
-        line,
-        field(line, fields, 1)?,
-        b"ANGDEC",
-        FaultCode::Unsupported,
-    )?;
+    word_at(line, fields, 0, b"MM", FaultCode::Unsupported)?;
+    word_at(line, fields, 1, b"ANGDEC", FaultCode::Unsupported)?;
     temperature(line, behind(fields, 2))?;
     Ok(Form::Measures)
 }

@@ -3,12 +3,13 @@
 ghost use Rattle.std.specs.Prelude.{◌≡◌, ◌∷◌, [], drop, MatchOption};
 ghost use Rattle.std.specs.List.{list_all};
 ghost use Rattle.vcm_lines.specs.Lexemes.{Lexeme, lexeme, is_spelled};
-ghost use Rattle.vcm_expr.specs.Parsing.{ReadAs};
+ghost use Rattle.vcm_expr.specs.Parsing.{ReadAs, expr_of};
 ghost use Rattle.vcm_syntax.specs.Readers.{end_of, alone, field, some_field};
-ghost use Rattle.vcm_syntax.specs.Places.{bare_of, titled_of, target_of, word_of, single_of, system_of, quoted_of, message_of, unused_of, test_of, spot_of};
+ghost use Rattle.vcm_syntax.specs.Places.{as_read, word_of, single_of, system_of, any_text_of, message_of, unused_of, test_of, spot_of};
+ghost use Rattle.vcm_syntax.specs.inner.Steps.{complete, found_of, at_place};
 
 use crate::operator_text::OperatorText;
-use crate::statement::{Letter, Prefix, Spot, Target};
+use crate::statement::{Spot, Target};
 use std::alloc::Global;
 use vcm_expr::{Expr, Name, read_expr};
 use vcm_lines::{FaultCode, Phrase, SourceFault, Token, bad_syntax};
@@ -80,40 +81,43 @@ pub(crate) fn sole<T: Drop>(line: u32, words: &Phrase<'_>, value: T) -> Result<T
     }
 }
 
-/// Nothing before a major word.
-pub(crate) fn bare(line: u32, prefix: &Prefix) -> Result<(), SourceFault>
-    ensures { ReadAs line (λ u. u) result (bare_of prefix.now) }
+/// A value, where no field is left behind those that it was read from.
+#[inline(always)]
+pub(crate) fn complete<T: Drop>(
+    line: u32,
+    fields: &[Phrase<'_>],
+    value: T,
+) -> Result<T, SourceFault>
+    ensures { ReadAs line (λ v. v) result (complete value fields.now) }
 {
-    match prefix {
-        Prefix::Bare => Ok(()),
-        _ => Err(bad_syntax(line)),
+    match fields {
+        [] => Ok(value),
+        [_, ..] => Err(bad_syntax(line)),
     }
 }
 
-/// The label of a title with this letter.
-pub(crate) fn titled(line: u32, letter: Letter, prefix: &Prefix) -> Result<Name, SourceFault>
-    ensures { ReadAs line (λ l. l) result (titled_of letter prefix.now) }
+/// What words stand for, where no word is left behind them; `code` is told of words that stand for nothing.
+pub(crate) fn found<T: Drop>(
+    line: u32,
+    value: Option<T>,
+    words: &Phrase<'_>,
+    code: FaultCode,
+) -> Result<T, SourceFault>
+    ensures { ReadAs line (λ v. v) result (found_of code value words.now) }
 {
-    match (letter, prefix) {
-        (Letter::F, Prefix::Titled(Some(Letter::F), label)) => Ok(label.copy()),
-        (Letter::D, Prefix::Titled(Some(Letter::D), label)) => Ok(label.copy()),
-        (Letter::M, Prefix::Titled(Some(Letter::M), label)) => Ok(label.copy()),
-        (Letter::S, Prefix::Titled(Some(Letter::S), label)) => Ok(label.copy()),
-        (Letter::V, Prefix::Titled(Some(Letter::V), label)) => Ok(label.copy()),
-        _ => Err(bad_syntax(line)),
+    match value {
+        Some(value) => sole(line, words, value),
+        None => Err(SourceFault { code, line }),
     }
 }
 
 /// The variable that gets a value.
-pub(crate) fn target(line: u32, prefix: &Prefix) -> Result<Target, SourceFault>
-    ensures { ReadAs line (λ t. t) result (target_of prefix.now) }
+pub(crate) fn target(variable: &Name) -> Target
+    ensures { result ≡ as_read variable.now }
 {
-    match prefix {
-        Prefix::Assigned(variable) => Ok(Target {
-            name: variable.copy(),
-            expansion: 0,
-        }),
-        _ => Err(bad_syntax(line)),
+    Target {
+        name: variable.copy(),
+        expansion: 0,
     }
 }
 
@@ -121,7 +125,9 @@ pub(crate) fn target(line: u32, prefix: &Prefix) -> Result<Target, SourceFault>
 pub(crate) fn only<'a>(words: &Phrase<'a>) -> Option<Token<'a>>
     ensures { MatchOption result ((w : Lexeme) → words.now ≡ w ∷ [] → ⊥) (λ t. words.now ≡ lexeme t ∷ []) }
 {
-    let (first, rest) = words.split_first()?;
+    let Some((first, rest)) = words.split_first() else {
+        return None;
+    };
     match rest.split_first() {
         None => Some(first),
         Some(_) => None,
@@ -129,12 +135,7 @@ pub(crate) fn only<'a>(words: &Phrase<'a>) -> Option<Token<'a>>
 }
 
 /// A word that has to stand there; `other` is told of another word.
-pub(crate) fn word(
-    line: u32,
-    words: &Phrase<'_>,
-    wanted: &[u8],
-    other: FaultCode,
-) -> Result<(), SourceFault>
+fn word(line: u32, words: &Phrase<'_>, wanted: &[u8], other: FaultCode) -> Result<(), SourceFault>
     ensures { ReadAs line (λ u. u) result (word_of wanted.now other words.now) }
 {
     match words.split_first() {
@@ -149,6 +150,19 @@ pub(crate) fn word(
     }
 }
 
+/// A word that has to stand in the field at a place; `other` is told of another word.
+pub(crate) fn word_at(
+    line: u32,
+    fields: &[Phrase<'_>],
+    place: usize,
+    wanted: &[u8],
+    other: FaultCode,
+) -> Result<(), SourceFault>
+    ensures { ReadAs line (λ u. u) result (at_place (word_of wanted.now other) fields.now place) }
+{
+    word(line, field(line, fields, place)?, wanted, other)
+}
+
 /// Any word.
 pub(crate) fn single(line: u32, words: &Phrase<'_>) -> Result<(), SourceFault>
     ensures { ReadAs line (λ u. u) result (single_of words.now) }
@@ -159,11 +173,11 @@ pub(crate) fn single(line: u32, words: &Phrase<'_>) -> Result<(), SourceFault>
     }
 }
 
-/// The word of Cartesian coordinates.
-pub(crate) fn system(line: u32, words: &Phrase<'_>) -> Result<(), SourceFault>
-    ensures { ReadAs line (λ u. u) result (system_of words.now) }
+/// The word of Cartesian coordinates, in the field at a place.
+pub(crate) fn system(line: u32, fields: &[Phrase<'_>], place: usize) -> Result<(), SourceFault>
+    ensures { ReadAs line (λ u. u) result (at_place system_of fields.now place) }
 {
-    match words.split_first() {
+    match field(line, fields, place)?.split_first() {
         Some((Token::Run(word), rest)) => {
             if is(word, b"CART") {
                 sole(line, &rest, ())
@@ -177,25 +191,26 @@ pub(crate) fn system(line: u32, words: &Phrase<'_>) -> Result<(), SourceFault>
     }
 }
 
-/// What stands between the apostrophes of a text.
-pub(crate) fn quoted<'a>(line: u32, words: &Phrase<'a>) -> Result<&'a [u8], SourceFault>
-    ensures { ReadAs line (λ t. t.now) result (quoted_of words.now) }
+/// Any text, in the field at a place.
+pub(crate) fn quoted(line: u32, fields: &[Phrase<'_>], place: usize) -> Result<(), SourceFault>
+    ensures { ReadAs line (λ u. u) result (at_place any_text_of fields.now place) }
 {
-    match only(words) {
-        Some(Token::Quoted(bytes)) => Ok(bytes),
+    match only(field(line, fields, place)?) {
+        Some(Token::Quoted(_)) => Ok(()),
         _ => Err(bad_syntax(line)),
     }
 }
 
-/// What `TEXT` shows.
+/// What `TEXT` shows, in the field at a place.
 pub(crate) fn message(
     alloc: Global,
     line: u32,
-    words: &Phrase<'_>,
+    fields: &[Phrase<'_>],
+    place: usize,
 ) -> Result<OperatorText, SourceFault>
-    ensures { ReadAs line (λ t. t) result (message_of words.now) }
+    ensures { ReadAs line (λ t. t) result (at_place message_of fields.now place) }
 {
-    match only(words) {
+    match only(field(line, fields, place)?) {
         Some(Token::Quoted(bytes)) => {
             if is_text(bytes) {
                 Ok(OperatorText::copied(alloc, bytes)?)
@@ -224,11 +239,28 @@ pub(crate) fn unused(line: u32, fields: &[Phrase<'_>]) -> Result<(), SourceFault
     }
 }
 
-/// An expression in parentheses.
-pub(crate) fn test(alloc: Global, line: u32, words: &Phrase<'_>) -> Result<Expr, SourceFault>
-    ensures { ReadAs line (λ e. e) result (test_of words.now) }
+/// The expression in the field at a place.
+pub(crate) fn expression(
+    alloc: Global,
+    line: u32,
+    fields: &[Phrase<'_>],
+    place: usize,
+) -> Result<Expr, SourceFault>
+    ensures { ReadAs line (λ e. e) result (at_place expr_of fields.now place) }
 {
-    match words.split_first() {
+    read_expr(alloc, line, field(line, fields, place)?)
+}
+
+/// An expression in parentheses, in the field at a place.
+pub(crate) fn test(
+    alloc: Global,
+    line: u32,
+    fields: &[Phrase<'_>],
+    place: usize,
+) -> Result<Expr, SourceFault>
+    ensures { ReadAs line (λ e. e) result (at_place test_of fields.now place) }
+{
+    match field(line, fields, place)?.split_first() {
         Some((Token::Open, rest)) => {
             let (inner, last) = rest.ends();
             match last {
@@ -247,8 +279,8 @@ pub(crate) fn test(alloc: Global, line: u32, words: &Phrase<'_>) -> Result<Expr,
 pub(crate) fn spot(alloc: Global, line: u32, fields: &[Phrase<'_>]) -> Result<Spot, SourceFault>
     ensures { ReadAs line (λ s. s) result (spot_of fields.now) }
 {
-    let x = read_expr(alloc, line, field(line, fields, 0)?)?;
-    let y = read_expr(alloc, line, field(line, fields, 1)?)?;
-    let z = read_expr(alloc, line, field(line, fields, 2)?)?;
+    let x = expression(alloc, line, fields, 0)?;
+    let y = expression(alloc, line, fields, 1)?;
+    let z = expression(alloc, line, fields, 2)?;
     Ok(Spot { x, y, z })
 }

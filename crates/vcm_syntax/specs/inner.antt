@@ -1,0 +1,2 @@
+-- What only private contracts of this crate speak of.
+pub mod Steps
