@@ -10,12 +10,14 @@ use Rattle.vcm_code.specs.Ops.{op_of, statements_of, code_of}
 use Rattle.vcm_code.specs.declared.version.Version.{Version}
 use Rattle.vcm_code.specs.declared.version.Version.TheVariants.{One, Two}
 use Rattle.vcm_code.specs.Ranges.{IsShort, OpInRange, AllInRange, is_selection, has_selection, IsOfVersion, IsInRange}
+use Rattle.vcm_code.specs.Deciding.{Tells}
 use Rattle.vcm_fields.specs.Words.{word_of, is_of_select, has_word}
 use Rattle.vcm_expr.specs.Names.{AreNamed}
 use Rattle.vcm_fields.specs.declared.fault.ImageFault.{ImageFault}
 use Rattle.vcm_fields.specs.Parts.{Operation, Line}
 use Rattle.vcm_fields.specs.Fitting.{FitsExpression, FitsOperation, FitsLine, FitsEntry}
 use Rattle.vcm_fields.proofs.ItemParts.{in_range}
+use Rattle.vcm_image.specs.inner.Fitted.{HasFitting}
 use Rattle.vcm_image.specs.Whole.{FitsImage, spelling, code_at}
 use Rattle.vcm_image.proofs.Wholes.{code_takes, code_again}
 
@@ -114,6 +116,11 @@ of_version_next One s ss h =
     let p = apart (is_selection (op_of s.op)) (has_selection (statements_of ss)) h in
     (ap not (sym (same_selection s.op)) ∙ p.0, p.1)
 
+-- statements that fit, and that a version has, fit in that version
+pub lines_fit : (v : Version) (ss : List Line) → IsOfVersion v (statements_of ss) → AllByRecursion HasFitting ss → AllByRecursion (FitsLine v) ss
+lines_fit v [] h f = tt
+lines_fit v (s ∷ ss) h f = (let p = of_version_next v s ss h in ((p.0, f.0), lines_fit v ss p.1 f.1))
+
 variables_range : (vs : List Entry) → AllByRecursion FitsEntry vs → AreNamed vs
 variables_range [] h = tt
 variables_range (v ∷ vs) h = (h.0.1, variables_range vs h.1)
@@ -130,6 +137,20 @@ range_of c h = record {
   statements = (subst (λ n. n ≤ 20000) (sym (statements_length c.statements)) h.statements.0, lines_range c.version c.statements h.statements.1);
   version = lines_version c.version c.statements h.statements.1;
 }
+
+-- a code in these ranges, whose fields have their widths, fits
+pub fits_of : (c : Code) → IsInRange (code_of c) → AllByRecursion FitsEntry c.tables.variables → AllByRecursion HasFitting c.statements → FitsImage c
+fits_of c h vs ss = record {
+  variables = (h.variables.0, vs);
+  features = h.features;
+  frames = h.frames;
+  statements = (subst (λ n. n ≤ 20000) (statements_length c.statements) h.statements.0, lines_fit c.version c.statements h.version ss);
+}
+
+-- a test of the ranges tells whether a code fits
+pub tells_fits : (c : Code) (b : Bool) → Tells b (IsInRange (code_of c)) → (b ≡ true → AllByRecursion FitsEntry c.tables.variables)
+    → (b ≡ true → AllByRecursion HasFitting c.statements) → Tells b (FitsImage c)
+tells_fits c b t vs ss = record { so = λ e. fits_of c (t.so e) (vs e) (ss e); only = λ h. t.only (range_of c h) }
 
 -- ---- changes
 

@@ -19,4 +19,4 @@ pub use inputs::{RunFault, is_image, run};
 pub use listing::{AsmFault, PrintFault, asm, list};
 pub use parts::{PartFileFault, part_from};
 pub use reading::{ReadFault, read_all};
-pub use running::{Done, JobFault, job, status_of};
+pub use running::{Done, JobFault, is_halted, job, status_of};

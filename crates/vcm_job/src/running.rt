@@ -82,8 +82,8 @@ pub fn status_of(stop: Option<StopPlace>) -> u8
     }
 }
 
-// Whether a run was refused memory.
-fn is_halted(ran: Ran) -> bool
+/// Whether a run was refused memory.
+pub fn is_halted(ran: Ran) -> bool
     ensures halted { result ≡ true → ran.end ≡ End.NoMemory }
     ensures ample { result ≡ false → ran.end ≢ End.NoMemory }
 {

@@ -1,17 +1,20 @@
 -- A run of an assembled code is a run of its program.
 use Rattle.std.specs.Prelude.{slice_get}
-use Rattle.std.proofs.Common.{◌≡◌, ℕ, zero, suc, ◌+◌, List, true, None, refl, sym, ap, ◌∙◌, subst, arith}
+use Rattle.std.proofs.Common.{◌≡◌, ℕ, zero, suc, ◌+◌, ◌<◌, List, length, true, None, refl, sym, ap, ◌∙◌, subst, arith}
 use Rattle.vcm_spec.specs.Workpiece.{Workpiece}
 use Rattle.vcm_spec.specs.Rests.{Rests}
 use Rattle.vcm_spec.specs.Setup.{Setup, Tables, setup_of}
-use Rattle.vcm_spec.specs.Program.{Block}
+use Rattle.vcm_spec.specs.Program.{Block, sizes}
 use Rattle.vcm_spec.specs.Table.{State, front, step, steps, effective, opening}
 use Rattle.vcm_spec.proofs.Steps.{steps-add}
 use Rattle.vcm_code.specs.Code.{Statement, Code}
 use Rattle.vcm_code.specs.CodeTable.{CodeState, code_step, code_steps, code_effective, start, next_prints}
 use Rattle.vcm_spec.specs.Stepping.{unless_stopped}
 use Rattle.vcm_spec.specs.Printing.{takes_memory, next_node}
+use Rattle.vcm_asm.specs.Assembled.{marks, place_in}
 use Rattle.vcm_asm.specs.Simulation.{SameAfter, IsAssembled}
+use Rattle.vcm_asm.proofs.Place.{block_length}
+use Rattle.vcm_tree.proofs.AcceptanceLaws.{one_program}
 use Rattle.vcm_machine.specs.declared.ran.End.{End}
 use Rattle.vcm_machine.specs.declared.ran.End.TheVariants as ends
 use Rattle.vcm_machine.specs.declared.ran.Ran.{Ran}
@@ -28,7 +31,7 @@ use Rattle.vcm_image.specs.Whole.{FitsImage, spelling}
 use Rattle.vcm_image.proofs.ImageLaws.{one_image}
 use Rattle.vcm_run.specs.Run.{Ended, IsRun}
 use Rattle.vcm_run.specs.Summaries.{Shown}
-use Rattle.vcm_run.specs.Programs.{IsSummary, IsImageOf, IsBuilt}
+use Rattle.vcm_run.specs.Programs.{IsSummary, NextIsThere, IsImageOf, IsBuilt}
 use Rattle.vcm_run.specs.Images.{IsCodeRun}
 use Rattle.vcm_run.specs.Laws.{CallsShowTheProgram, SummariesRest}
 
@@ -133,3 +136,19 @@ pub built_runs : (part : Workpiece) (bytes : List ℕ) (notices : List Noticed) 
     → IfOk r (IsCodeRun part l n) → IfOk r (λ s. s.notices ≡ notices) → IfOk r (λ s. (text : List ℕ) → IsBuilt text bytes notices → IsSummary part text n s)
 built_runs part bytes notices n l (Ok s) f e h k = λ text b. text_run part text bytes notices n s l b f e h k
 built_runs part bytes notices n l (Err x) f e h k = tt
+
+-- the next statement is one of the program's
+pub text_next : (text bytes : List ℕ) (notices : List Noticed) (s : Shown) (l : Kept) → IsBuilt text bytes notices → FitsImage l → bytes ≡ spelling l
+    → s.next < length (code_of l).statements → NextIsThere text s
+text_next text bytes notices s l b f e within p ok =
+    let a = subst (λ (k : Kept). IsAssembled b.parsed.program b.parsed.tables (code_of k)) (loaded_code b.parsed bytes l b.image f e) b.image.assembled in
+    let program = b.parsed.program in
+    let as_many = ap length a.statements_are ∙ block_length (place_in (marks program 0)) program 0 0 in
+    let same : sizes program ≡ sizes p.program = ap (λ q. sizes q.program) (one_program text b.parsed p b.accepted ok) in
+    omega (arith, within, as_many, same)
+
+-- the same of what a call returned
+pub built_next : (bytes : List ℕ) (notices : List Noticed) (l : Kept) (part : Workpiece) (n : ℕ) (r : Result Shown NoMemory) → FitsImage l → bytes ≡ spelling l
+    → IfOk r (IsCodeRun part l n) → IfOk r (λ s. (text : List ℕ) → IsBuilt text bytes notices → NextIsThere text s)
+built_next bytes notices l part n (Ok s) f e h = λ text b. text_next text bytes notices s l b f e h.within
+built_next bytes notices l part n (Err x) f e h = tt

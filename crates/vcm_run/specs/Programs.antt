@@ -1,7 +1,8 @@
 -- What the run of a program's text gives.
-use Rattle.std.specs.Prelude.{◌≡◌, ℕ, List}
+use Rattle.std.specs.Prelude.{◌≡◌, ℕ, ◌<◌, List}
 use Rattle.vcm_lines.specs.Fault.{NoMemoryOr}
 use Rattle.vcm_spec.specs.Workpiece.{Workpiece}
+use Rattle.vcm_spec.specs.Program.{sizes}
 use Rattle.vcm_state.specs.Carried.{setup_of}
 use Rattle.vcm_tree.specs.Acceptance.{IsAccepted, IsRefused}
 use Rattle.vcm_tree.specs.Program.{Parsed}
@@ -23,6 +24,10 @@ pub record IsSummary (part : Workpiece) (text : List ℕ) (n : ℕ) (s : Shown) 
   pub tables_are : s.held.tables ≡ parsed.tables
   pub notices : s.notices ≡ parsed.notices
   pub run : IsRun (setup_of part parsed.tables) parsed.program n s.held.state s.next s.ran
+
+-- the next statement is one of those of the program that the text is
+abbrev pub NextIsThere : List ℕ → Shown → Type 0
+NextIsThere text s = (p : Parsed) → IsAccepted text p → s.next < sizes p.program
 
 -- the bytes are the image of the code of this program: a code that does what the program does, and is valid
 pub record IsImageOf (parsed : Parsed) (bytes : List ℕ) : Type 0 where

@@ -1,7 +1,7 @@
 //! Programs, from their text to their image and to a run of it.
 
 ghost use Rattle.std.specs.Prelude.{ℕ, List, IfOk, IfErr};
-ghost use Rattle.vcm_run.specs.Programs.{IsSummary, IsImageOf, IsBuilt, IsRefusal};
+ghost use Rattle.vcm_run.specs.Programs.{IsSummary, NextIsThere, IsImageOf, IsBuilt, IsRefusal};
 
 use crate::run::{Refusal, Summary, run_loaded};
 use std::alloc::Global;
@@ -57,7 +57,8 @@ fn run_built<P: Part>(
     notices: Vec<Noticed>,
 ) -> Result<Summary, NoMemory>
     requires { (text : List ℕ) × IsBuilt text image.now notices.items }
-    ensures { IfOk result (λ s. (text : List ℕ) → IsBuilt text image.now notices.items → IsSummary (P.part part.now) text n s) }
+    ensures run { IfOk result (λ s. (text : List ℕ) → IsBuilt text image.now notices.items → IsSummary (P.part part.now) text n s) }
+    ensures next { IfOk result (λ s. (text : List ℕ) → IsBuilt text image.now notices.items → NextIsThere text s) }
 {
     match load(alloc, image) {
         Ok(loaded) => run_loaded(alloc, part, &loaded, n, notices),
@@ -77,6 +78,7 @@ pub fn run_text<P: Part>(
     n: u64,
 ) -> Result<Summary, Refusal>
     ensures run { IfOk result (IsSummary (P.part part.now) program.now n) }
+    ensures next { IfOk result (NextIsThere program.now) }
     ensures refused { IfErr result (IsRefusal program.now) }
 {
     let Built { image, notices } = build_image(alloc, program)?;

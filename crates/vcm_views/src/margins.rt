@@ -1,15 +1,15 @@
 //! The margin of the tip in a run of a loaded code.
 
-ghost use Rattle.std.specs.Prelude.{◌≡◌, ◌≢◌, true, false, IfOk, IfErr};
+ghost use Rattle.std.specs.Prelude.{IfOk, IfErr};
 ghost use Rattle.vcm_views.specs.declared.view.View.TheVariants.{Margin as MarginOf};
 ghost use Rattle.vcm_views.specs.Views.{IsViewed, IsCutShort};
 ghost use Rattle.vcm_views.specs.inner.Told.{IsMarginTold, IsMarginNotTold, IsTold, IsNotTold};
 
 use std::alloc::Global;
 use std::io::Write;
-use vcm_job::{RunFault, status_of};
+use vcm_job::{RunFault, is_halted, status_of};
 use vcm_loader::Loaded;
-use vcm_machine::{End, Machine, Ran};
+use vcm_machine::{Machine, Ran};
 use vcm_margin::{margin, write_margin};
 use vcm_motion::AnyPart;
 use vcm_part::PartData;
@@ -60,18 +60,6 @@ fn tell<W: Write>(
     match write_result(world, &ran, writer) {
         Ok(()) => Ok(status),
         Err(_) => Err(RunFault::Write { done }),
-    }
-}
-
-// Whether a run was refused memory.
-fn is_halted(ran: Ran) -> bool
-    ensures halted { result ≡ true → ran.end ≡ End.NoMemory }
-    ensures ample { result ≡ false → ran.end ≢ End.NoMemory }
-{
-    match ran.end {
-        End::NoMemory => true,
-        End::Count => false,
-        End::Stopped => false,
     }
 }
 
