@@ -5,6 +5,7 @@ use std::alloc::Global;
 use vcm_fields::ImageFault;
 use vcm_lines::{FaultCode, SourceFault};
 use vcm_loader::load;
+use vcm_part::PartCode;
 use vcm_run::{Refusal, build_image};
 use vcm_test_texts::program_of;
 use vcm_tree::accept;
@@ -54,11 +55,11 @@ fn accept_of_a_loop(rt: HostRuntime) {
     assert!(rt; count.is_some_and(|n| n > 0), "{count:?}");
 }
 
-/// Whether a run, or a build, is refused for want of memory.
+/// Whether a job, a run, or a build, is refused for want of memory.
 pub(crate) fn is_refused(refused: &Refusal) -> bool {
     match refused {
         Refusal::Source(fault) => is_want(fault),
-        Refusal::Part(_) => false,
+        Refusal::Part(fault) => fault.code == PartCode::NoMemory,
         Refusal::NoMemory => true,
     }
 }

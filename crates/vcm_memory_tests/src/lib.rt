@@ -2,7 +2,13 @@
 #![tactic(auto)]
 
 #[cfg(test)]
+mod back_growth_tests;
+#[cfg(test)]
+mod code_growth_tests;
+#[cfg(test)]
 mod growth_tests;
+#[cfg(test)]
+mod job_growth_tests;
 #[cfg(test)]
 mod line_growth_tests;
 #[cfg(test)]

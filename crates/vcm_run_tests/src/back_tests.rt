@@ -85,22 +85,27 @@ fn each_step_back(rt: HostRuntime) {
     }
 }
 
-// Whether so many steps back from 1,100 steps the state behind the steps that are left is shown.
-fn is_back(alloc: Global, back: u64) -> Option<bool> {
-    let commands = format!(in alloc; "step 1100\nback {back}\nshow I\nout 1\n").ok()?;
+// Whether each number of steps back, from one to another, from 5,000 steps shows the state behind the steps that are left. The session goes forth again
+// behind each.
+fn are_back(alloc: Global, least: u64, most: u64) -> Option<bool> {
+    let mut commands = String::from_str(alloc, "step 5000\n").ok()?;
+    let there = "step 5000 next 2 line 6\n";
+    let mut expected = String::from_str(alloc, there).ok()?;
+    for back in least..=most {
+        writeln!(commands, "back {back}\nshow I\nout 1\nstep {back}").ok()?;
+        let state = state_behind(alloc, 5000_u64.saturating_sub(back))?;
+        expected.push_str(state.as_str()).ok()?;
+        expected.push_str(there).ok()?;
+    }
+    expected.push_str("bye\n").ok()?;
     let (out, end) = session(alloc, MANY, commands.as_bytes())?;
-    let state = state_behind(alloc, 1100_u64.saturating_sub(back))?;
-    let expected = joined(
-        alloc,
-        &["step 1100 next 2 line 6\n", state.as_str(), "bye\n"],
-    )?;
     Some(end.is_ok() && out.as_slice() == expected.as_bytes())
 }
 
 #[test]
 fn each_number_of_steps_back(rt: HostRuntime) {
-    for back in 1..=1_100 {
-        assert!(rt; is_back(rt.alloc(), back) == Some(true), "{back}");
+    for (least, most) in [(1, 1_700), (1_701, 3_400), (3_401, 5_000)] {
+        assert!(rt; are_back(rt.alloc(), least, most) == Some(true), "{least}");
     }
 }
 
