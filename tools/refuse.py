@@ -4,8 +4,8 @@
 usage: tools/refuse.py [--vcm PROGRAM]     at the top of the repository, when the program is built (crates/vcm/out/vcm); wants gcc and Linux
 
 Each command runs once as it is, and then again and again with its first, second, .. growth refused, until none is refused any more. An answer is
-right where the status is 5, standard output is empty, standard error has one line, `no memory` or `no memory after N steps`, and no byte of an image is written; a
-session of the debugger may also reply `no memory ..` to one command. It is the same where status, output and image are those of the command as it
+right where the status is 5, standard output is empty (or has the first lines of a trace), standard error has one line, `no memory` or `no memory after N steps`, and no byte of an
+image is written; a session of the debugger may also reply `no memory ..` to one command. It is the same where status, output and image are those of the command as it
 is: the growth was one that may be left out, as that of a copy for `back`. Anything else is wrong, and the exit status is then 1.
 """
 import argparse
@@ -23,15 +23,18 @@ COMMANDS = b"break 1\nrun\nstep 3\nwatch i\nrun\nback 2\nshow i\nout\nrun\nback 
 
 
 def cases():
-    """The command lines, each with what it reads from standard input, and whether it is a session."""
+    """The command lines, each with what it reads from standard input, and whether it is a session, a trace, or neither."""
     for name in PROGRAMS:
-        yield ["run", name, "part-a.toml"], b"", False
-        yield ["check", name], b"", False
-        yield ["build", name, "{image}"], b"", False
-        yield ["list", name], b"", False
+        yield ["run", name, "part-a.toml"], b"", ""
+        yield ["trace", name, "part-a.toml"], b"", "trace"
+        yield ["margin", name, "part-a.toml"], b"", ""
+        yield ["picture", name, "part-a.toml"], b"", ""
+        yield ["check", name], b"", ""
+        yield ["build", name, "{image}"], b"", ""
+        yield ["list", name], b"", ""
         with open(name.replace(".dmi", ".job"), "rb") as it:
-            yield [], it.read(), False
-        yield ["debug", name, "part-a.toml"], COMMANDS, True
+            yield [], it.read(), ""
+        yield ["debug", name, "part-a.toml"], COMMANDS, "session"
 
 
 def answer(vcm, words, given, image, room, number):
@@ -51,14 +54,15 @@ def answer(vcm, words, given, image, room, number):
     return (ran.returncode, ran.stdout, ran.stderr, written), was_refused
 
 
-def judged(wanted, found, is_session):
+def judged(wanted, found, kind):
     """Whether an answer is right, the same as without a refusal, or wrong."""
     status, out, told, written = found
     if found == wanted:
         return "same"
-    if status == 5 and not out and NO_MEMORY.fullmatch(told) and not written:
+    is_front = kind == "trace" and out.endswith(b"\n") and wanted[1].startswith(out)
+    if status == 5 and (not out or is_front) and NO_MEMORY.fullmatch(told) and not written:
         return "right"
-    if is_session and status == 0 and not told and len(HALTED.findall(out)) == 1:
+    if kind == "session" and status == 0 and not told and len(HALTED.findall(out)) == 1:
         return "right"
     return "wrong"
 
@@ -72,7 +76,7 @@ def main():
     with tempfile.TemporaryDirectory(prefix="refuse-") as room:
         subprocess.run(["gcc", "-shared", "-fPIC", "-O1", "-o", f"{room}/refuse.so", f"{HERE}/refuse.c"], check=True)
         image = f"{room}/image"
-        for words, given, is_session in cases():
+        for words, given, kind in cases():
             wanted, _ = answer(args.vcm, words, given, image, room, 0)
             number = 0
             while True:
@@ -80,7 +84,7 @@ def main():
                 found, was_refused = answer(args.vcm, words, given, image, room, number)
                 if not was_refused:
                     break
-                how = judged(wanted, found, is_session)
+                how = judged(wanted, found, kind)
                 counts[how] += 1
                 if how == "wrong":
                     print(f"wrong: vcm {' '.join(words)}, growth {number}: {found[0]} {found[1][:80]} {found[2][:80]}")

@@ -66,6 +66,8 @@ fn heading_of(title: &str) -> Heading {
         },
         Some(("trace", steps)) => view_heading(View::Trace, steps),
         Some(("margin", steps)) => view_heading(View::Margin, steps),
+        Some(("picture", steps)) => view_heading(View::Picture { is_close: false }, steps),
+        Some(("close", steps)) => view_heading(View::Picture { is_close: true }, steps),
         Some(("refused", _)) => Heading::Refused,
         Some(("images", _)) => Heading::Images,
         Some(("unlisted", _)) => Heading::Unlisted,

@@ -25,8 +25,8 @@ pub enum Request<'a> {
         part: &'a str,
         steps: &'a str,
     },
-    /// `trace` or `margin`, then `INPUT PART [--steps N]`: a view of the run of the program or image in this file, beside the
-    /// workpiece in that one for at most so many steps.
+    /// `trace` or `margin`, then `INPUT PART [--steps N]`, or `picture INPUT PART [--steps N] [--close]`: a view of the run of the program or image in
+    /// this file, beside the workpiece in that one for at most so many steps.
     View {
         view: View,
         input: &'a str,
@@ -95,6 +95,14 @@ fn steps_option<'a>(alloc: Global) -> Arg<'a> {
         .help("The most steps, 0 to 1000000000; 1000000 if not given")
 }
 
+// `--close`.
+fn close_option<'a>(alloc: Global) -> Arg<'a> {
+    Arg::new(alloc, "close")
+        .long("close")
+        .action(ArgAction::SetTrue)
+        .help("Shows the blocks as large as they are, and of the way what lies beside them")
+}
+
 // The command with the words behind it.
 fn with_words<'a>(alloc: Global, form: Form) -> Result<Command<'a>, Error> {
     let mut command = Command::new(alloc, form.name)
@@ -112,6 +120,10 @@ fn subcommand_of<'a>(alloc: Global, form: Form) -> Result<Command<'a>, Error> {
     match form.more {
         More::Nothing => Ok(command),
         More::Steps => Ok(command.arg(steps_option(alloc))?),
+        More::StepsAndClose => {
+            let command = command.arg(steps_option(alloc))?;
+            Ok(command.arg(close_option(alloc))?)
+        }
         More::Words => Ok(command.arg(any_words(alloc))?),
     }
 }
@@ -162,6 +174,10 @@ fn request_behind<'a>(name: &str, behind: &ArgMatches<'a>) -> Request<'a> {
         },
         "trace" => view_request(View::Trace, behind),
         "margin" => view_request(View::Margin, behind),
+        "picture" => {
+            let is_close = behind.get_flag("close");
+            view_request(View::Picture { is_close }, behind)
+        }
         "debug" => Request::Debug {
             input: word(behind, "INPUT"),
             part: word(behind, "PART"),

@@ -19,6 +19,8 @@ pub(crate) enum More {
     Nothing,
     /// `--steps N`.
     Steps,
+    /// `--steps N` and `--close`.
+    StepsAndClose,
     /// Any words.
     Words,
 }
@@ -34,7 +36,7 @@ pub(crate) struct Form {
 }
 
 /// All commands.
-pub(crate) const FORMS: [Form; 9] = [
+pub(crate) const FORMS: [Form; 10] = [
     Form {
         name: "check",
         about: "Tells whether a program is accepted, and how many statements it has",
@@ -69,6 +71,13 @@ pub(crate) const FORMS: [Form; 9] = [
         example: "For example: vcm margin square.dmi part-a.toml",
         words: &[INPUT, PART],
         more: More::Steps,
+    },
+    Form {
+        name: "picture",
+        about: "Runs a program or an image beside a workpiece, and draws the workpiece and the way of the probe as SVG",
+        example: "For example: vcm picture square.dmi part-a.toml --close > square.svg",
+        words: &[INPUT, PART],
+        more: More::StepsAndClose,
     },
     Form {
         name: "debug",

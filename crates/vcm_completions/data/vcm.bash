@@ -3,7 +3,7 @@ _vcm() {
   local word=${COMP_WORDS[COMP_CWORD]} command=${COMP_WORDS[1]}
   COMPREPLY=()
   if [ "$COMP_CWORD" -eq 1 ]; then
-    COMPREPLY=($(compgen -W "check build run trace margin debug list asm explain help --help --version" -- "$word"))
+    COMPREPLY=($(compgen -W "check build run trace margin picture debug list asm explain help --help --version" -- "$word"))
     return
   fi
   case $command in
@@ -16,8 +16,17 @@ _vcm() {
         return
       fi
       ;;
+    picture)
+      if [ "${COMP_WORDS[COMP_CWORD-1]}" = --steps ]; then
+        return
+      fi
+      if [[ $word == -* ]]; then
+        COMPREPLY=($(compgen -W "--steps --close --help" -- "$word"))
+        return
+      fi
+      ;;
     help)
-      COMPREPLY=($(compgen -W "check build run trace margin debug list asm explain" -- "$word"))
+      COMPREPLY=($(compgen -W "check build run trace margin picture debug list asm explain" -- "$word"))
       return
       ;;
     explain)

@@ -14,7 +14,7 @@ const FILES: [&str; 4] = ["vcm.1", "vcm.bash", "_vcm", "vcm.fish"];
 const MOST: usize = 100;
 
 /// The options of the command line.
-const OPTIONS: [&str; 3] = ["steps", "help", "version"];
+const OPTIONS: [&str; 4] = ["steps", "close", "help", "version"];
 
 // Whether one of the words of a text, which are parted by anything but letters, is this.
 fn names(text: &str, word: &str) -> bool {

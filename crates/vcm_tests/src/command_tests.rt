@@ -172,6 +172,16 @@ fn requests(rt: HostRuntime) {
             View::Margin,
             "1000000",
         ),
+        (
+            ["vcm", "picture", "a.dmi", "b"].as_slice(),
+            View::Picture { is_close: false },
+            "1000000",
+        ),
+        (
+            ["vcm", "picture", "--close", "a.dmi", "b", "--steps", "3"].as_slice(),
+            View::Picture { is_close: true },
+            "3",
+        ),
     ] {
         assert!(rt;
             asks_for(

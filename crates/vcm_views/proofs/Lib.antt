@@ -1,3 +1,4 @@
 pub mod TraceViews
 pub mod RunViews
+pub mod PictureViews
 pub mod InputViews

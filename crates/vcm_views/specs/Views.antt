@@ -17,6 +17,9 @@ use Rattle.vcm_trace.specs.Traces.{state_after, trace_front, trace_text}
 use Rattle.vcm_margin.specs.declared.difference.Margin.{Margin}
 use Rattle.vcm_margin.specs.Margin.{IsMargin}
 use Rattle.vcm_margin.specs.Printed.{margin_text}
+use Rattle.vcm_way.specs.Ways.{Kept}
+use Rattle.vcm_way.specs.Following.{way_after}
+use Rattle.vcm_picture.specs.Picture.{sheet, picture_text}
 use Rattle.vcm_views.specs.declared.view.View.{View}
 use Rattle.vcm_views.specs.declared.view.View.TheVariants as views
 
@@ -46,10 +49,24 @@ pub record IsMarginOrResult (part : Workpiece) (c : Code) (n : ℕ) (text : List
   pub told : TellsMargin (nat_eq status 0) part c held ran.done text
   pub status_is : status ≡ status_of held.state.stop
 
+-- the picture of a run that came to this state after so many steps, with what is kept of its way
+abbrev pub picture_of : Workpiece → Held → ℕ → Kept → Bool → List ℕ
+picture_of part held done way is_close = picture_text (sheet part held done way.marks way.left_out is_close)
+
+-- the picture of a run that memory did not cut short
+pub record IsPicture (part : Workpiece) (c : Code) (n : ℕ) (is_close : Bool) (text : List ℕ) (status : ℕ) : Type 0 where
+  pub held : Held
+  pub ran : Ran
+  pub run : HasRunTo part c n held ran
+  pub ample : ran.end ≡ NoMemory → ⊥
+  pub text_is : text ≡ picture_of part held ran.done (way_after part (code_of c) ran.done) is_close
+  pub status_is : status ≡ status_of held.state.stop
+
 -- a view of a code beside a workpiece, in a run for at most n steps
 abbrev pub Tells : View → Workpiece → Code → ℕ → List ℕ → ℕ → Type 0
 Tells views.Trace part c n text status = IsTrace part c n text status
 Tells views.Margin part c n text status = IsMarginOrResult part c n text status
+Tells (views.Picture is_close) part c n text status = IsPicture part c n is_close text status
 
 -- it was written and nothing else, and this is the exit status
 pub record IsViewed (view : View) (part : Workpiece) (c : Code) (n : ℕ) (status : ℕ) (old new : Option (List ℕ)) : Type 0 where
@@ -61,10 +78,11 @@ pub record IsViewed (view : View) (part : Workpiece) (c : Code) (n : ℕ) (statu
 abbrev pub IsHaltedAfter : Workpiece → Code → ℕ → ℕ → Type 0
 IsHaltedAfter part c n done = RunEnded n (started part (code_of c)) (later done (started part (code_of c))) done NoMemory
 
--- what was written of a view in a run that was refused memory after so many steps: of a trace its lines so far, of a margin nothing
+-- what was written of a view in a run that was refused memory after so many steps: of a trace its lines so far, of a margin or a picture nothing
 abbrev pub WrittenSoFar : View → Workpiece → Code → ℕ → Option (List ℕ) → Option (List ℕ) → Type 0
 WrittenSoFar views.Trace part c done old new = Appends old new (trace_front part c done)
 WrittenSoFar views.Margin part c done old new = Keeps old new
+WrittenSoFar (views.Picture is_close) part c done old new = Keeps old new
 
 -- a front of a view was written, and not all of it
 pub record IsCutOff (view : View) (part : Workpiece) (c : Code) (n : ℕ) (old new : Option (List ℕ)) : Type 0 where

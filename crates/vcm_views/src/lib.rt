@@ -1,8 +1,9 @@
-//! Views of runs, from the bytes of an input to those of the view: the trace, and the margin of the tip.
+//! Views of runs, from the bytes of an input to those of the view: the trace, the margin of the tip, and the picture.
 #![tactic(auto)]
 
 mod inputs;
 mod margins;
+mod pictures;
 mod showing;
 mod traces;
 mod view;

@@ -4,6 +4,7 @@ ghost use Rattle.std.specs.Prelude.{IfOk, IfErr};
 ghost use Rattle.vcm_views.specs.Views.{IsViewed, IsCutShort};
 
 use crate::margins::show_margin;
+use crate::pictures::show_picture;
 use crate::traces::show_trace;
 use crate::view::View;
 use std::alloc::Global;
@@ -27,5 +28,6 @@ pub(crate) fn show<W: Write>(
     match view {
         View::Trace => show_trace(alloc, loaded, part, steps, writer),
         View::Margin => show_margin(alloc, loaded, part, steps, writer),
+        View::Picture { is_close } => show_picture(alloc, loaded, part, steps, is_close, writer),
     }
 }

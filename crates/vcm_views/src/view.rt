@@ -7,4 +7,6 @@ pub enum View {
     Trace,
     /// How wide the tip may be, where the run comes to the program's end; else its result.
     Margin,
+    /// Three views of the workpiece and of the way of the probe, as SVG; a close one shows the blocks as large as they are.
+    Picture { is_close: bool },
 }

@@ -1,0 +1,12 @@
+use Rattle.std.proofs.Common.{◌-ℤ◌, ◌*ℤ◌, pos, rules, arith, w64, FitsSigned, to_z-of_z}
+use Rattle.std.proofs.lemmas.Int.{ints}
+use Rattle.vcm_picture.proofs.drawing.title_spot.Goals as goal
+
+pub returns : goal.returns
+returns c =
+    let fu : FitsSigned w64 c.args.unit = search rules in
+    let fx : FitsSigned w64 c.args.at.x = search rules in
+    let fy : FitsSigned w64 c.args.at.y = search rules in
+    let fd : FitsSigned w64 (pos 6 *ℤ c.args.unit) = omega (arith, ints) in
+    let fs : FitsSigned w64 (c.args.at.y -ℤ pos 6 *ℤ c.args.unit) = omega (arith, ints) in
+    simp to_z-of_z at c.place.ensures

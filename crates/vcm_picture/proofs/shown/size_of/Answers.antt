@@ -1,0 +1,26 @@
+use Rattle.std.proofs.Common.{◌+ℤ◌, ◌-ℤ◌, ◌*ℤ◌, pos, rules, arith, w64, FitsSigned, to_z-of_z}
+use Rattle.std.proofs.lemmas.Int.{ints}
+use Rattle.vcm_picture.proofs.Boxes.{size_same}
+use Rattle.vcm_picture.proofs.shown.size_of.Goals as goal
+
+pub returns-clause-size : goal.returns-clause-size
+returns-clause-size c =
+    let f1 : FitsSigned w64 c.quotient.result = search rules in
+    let f2 : FitsSigned w64 c.quotient-2.result = search rules in
+    let f3 : FitsSigned w64 c.lesser.result = search rules in
+    let f4 : FitsSigned w64 c.lesser-2.result = search rules in
+    let f5 : FitsSigned w64 c.args.unit = search rules in
+    let f6 : FitsSigned w64 c.args.rect.left = omega (arith, ints) in
+    let f7 : FitsSigned w64 c.args.rect.right = omega (arith, ints) in
+    let f8 : FitsSigned w64 c.args.rect.top = omega (arith, ints) in
+    let f9 : FitsSigned w64 c.args.rect.bottom = omega (arith, ints) in
+    let g1 : FitsSigned w64 (c.args.rect.right -ℤ c.args.rect.left) = omega (arith, ints) in
+    let g2 : FitsSigned w64 (c.args.rect.bottom -ℤ c.args.rect.top) = omega (arith, ints) in
+    let g3 : FitsSigned w64 c.args.digits = search rules in
+    let g4 : FitsSigned w64 (pos 6 *ℤ c.args.digits) = omega (arith, ints) in
+    let g5 : FitsSigned w64 (pos 6 *ℤ c.args.digits +ℤ pos 4) = omega (arith, ints) in
+    let e = simp to_z-of_z at c.lesser-2.ensures.value in
+    let f = simp to_z-of_z at c.lesser.ensures.value in
+    let g = simp to_z-of_z at c.quotient.ensures.value in
+    let h = simp to_z-of_z at c.quotient-2.ensures.value in
+    simp to_z-of_z (size_same c.args.rect c.args.digits c.args.unit _ _ _ _ e f g h)

@@ -1,0 +1,145 @@
+-- The whole picture.
+use Rattle.std.specs.Prelude.{ℕ, ℤ, pos, ◌+ℤ◌, ◌-ℤ◌, ◌*ℤ◌, Bool, nat_eq, if◌then◌else◌, List, [], ◌∷◌, ◌++◌, length, codes}
+use Rattle.std.specs.Fmt.{signed_decimal}
+use Rattle.std.specs.Int.{int_div_euclid}
+use Rattle.vcm_num.specs.declared.point.Point.{Point}
+use Rattle.vcm_num.specs.Point.{coordinate}
+use Rattle.vcm_report.specs.Printed.{in_a_row}
+use Rattle.vcm_spec.specs.declared.workpiece.Block3.{Block3}
+use Rattle.vcm_spec.specs.Workpiece.{Workpiece}
+use Rattle.vcm_state.specs.Held.{Held}
+use Rattle.vcm_way.specs.declared.mark.Placed.{Placed}
+use Rattle.vcm_picture.specs.declared.picture.Layout.{Layout}
+use Rattle.vcm_picture.specs.declared.rect.Spot.{Spot}
+use Rattle.vcm_picture.specs.declared.shapes.Class.TheVariants as class
+use Rattle.vcm_picture.specs.declared.view.View.{View}
+use Rattle.vcm_picture.specs.declared.view.View.TheVariants.{Top, Front, Side}
+use Rattle.vcm_picture.specs.declared.window.Window.{Window}
+use Rattle.vcm_picture.specs.Drawing.{Scene, scene, view_text}
+use Rattle.vcm_picture.specs.Heading.{first_line, heading_text}
+use Rattle.vcm_picture.specs.Legend.{legend_text, bar_text}
+use Rattle.vcm_picture.specs.Marks.{are_few}
+use Rattle.vcm_picture.specs.Shapes.{path, square}
+use Rattle.vcm_picture.specs.Span.{span_of}
+use Rattle.vcm_picture.specs.Style.{style_text}
+use Rattle.vcm_picture.specs.View.{clip, scope_of, spot}
+use Rattle.vcm_picture.specs.Window.{window_of}
+
+-- what a picture shows: the workpiece, the state at the end with its tables of names, the steps that were done, the marks of the way, how many
+-- pieces were left out before them, and whether it shows the blocks as large as they are
+pub record Sheet : Type 0 where
+  pub part : Workpiece
+  pub held : Held
+  pub done : ℕ
+  pub marks : List Placed
+  pub left_out : ℕ
+  pub is_close : Bool
+
+-- a sheet of these
+abbrev pub sheet : Workpiece → Held → ℕ → List Placed → ℕ → Bool → Sheet
+sheet part held done marks left_out is_close = record {
+  part = part;
+  held = held;
+  done = done;
+  marks = marks;
+  left_out = left_out;
+  is_close = is_close;
+}
+
+-- the window round these points, blocks and marks
+abbrev pub window_for : Bool → Point → Point → List Block3 → List Placed → Window
+window_for is_close home position blocks marks =
+    window_of (span_of 0 is_close home position blocks marks) (span_of 1 is_close home position blocks marks)
+    (span_of 2 is_close home position blocks marks)
+
+-- the window of a picture
+abbrev pub window_round : Workpiece → Held → List Placed → Bool → Window
+window_round part held marks is_close = window_for is_close part.bounds.home held.state.position part.blocks marks
+
+-- how many units the top view stands below the upper edge: the heading has two lines, and a third where pieces are left out
+abbrev pub above : ℕ → ℤ
+above left_out = if nat_eq left_out 0 then pos 82 else pos 100
+
+-- how wide an axis is in units of the picture
+abbrev pub units : Window → ℕ → ℤ
+units w k = int_div_euclid (coordinate w.full k) w.grain
+
+-- a layout of these numbers
+abbrev pub laid_out : ℤ → ℤ → ℤ → ℤ → ℤ → ℤ → Layout
+laid_out left top front side wide high = record {
+  left = left;
+  top = top;
+  front = front;
+  side = side;
+  wide = wide;
+  high = high;
+}
+
+-- where the parts of a picture stand, and its size, of this unit, height of the heading and widths of the axes
+abbrev pub layout_with : ℤ → ℤ → ℤ → ℤ → ℤ → Layout
+layout_with u up wide deep high =
+    laid_out (pos 20 *ℤ u) (up *ℤ u) (up *ℤ u +ℤ deep +ℤ pos 30 *ℤ u) (pos 20 *ℤ u +ℤ wide +ℤ pos 30 *ℤ u)
+    (pos 20 *ℤ u +ℤ wide +ℤ pos 30 *ℤ u +ℤ deep +ℤ pos 20 *ℤ u) (up *ℤ u +ℤ deep +ℤ pos 30 *ℤ u +ℤ high +ℤ pos 50 *ℤ u)
+
+-- the layout of a window
+abbrev pub layout_of : Window → ℤ → Layout
+layout_of w up = layout_with w.unit up (units w 0) (units w 1) (units w 2)
+
+-- the size of the picture
+abbrev pub size_text : Layout → ℤ → List ℕ
+size_text l u =
+    in_a_row (codes "<svg xmlns=\"http://www.w3.org/2000/svg\" viewBox=\"0 0 " ∷ signed_decimal l.wide ∷ codes " " ∷ signed_decimal l.high
+    ∷ codes "\" width=\"" ∷ signed_decimal (int_div_euclid l.wide u) ∷ codes "\" height=\"" ∷ signed_decimal (int_div_euclid l.high u)
+    ∷ codes "\">\n<title>" ∷ [])
+
+-- the head: the size of the picture, and its title
+abbrev pub head_text : Layout → ℤ → List ℕ → List ℕ
+head_text l u first = size_text l u ++ in_a_row (first ∷ codes "</title>\n" ∷ [])
+
+-- the clip path of a view
+abbrev pub clip_text : View → Window → List ℕ
+clip_text v w =
+    in_a_row (codes "<clipPath id=\"v" ∷ clip v ∷ codes "\"><path d=\"" ∷ [])
+    ++ (square (spot (pos 0) (pos 0)) (scope_of w v).wide (scope_of w v).high ++ codes "\"/></clipPath>\n")
+
+-- the clip paths, and the paper
+abbrev pub paper_text : Window → Layout → List ℕ
+paper_text w l =
+    clip_text Top w ++ (clip_text Front w ++ (clip_text Side w ++ path class.Paper (square (spot (pos 0) (pos 0)) l.wide l.high)))
+
+-- the three views
+abbrev pub views_text : Window → Layout → Scene → List Placed → List ℕ
+views_text w l s marks =
+    view_text (scope_of w Top) (spot l.left l.top) s marks
+    ++ (view_text (scope_of w Front) (spot l.left l.front) s marks ++ view_text (scope_of w Side) (spot l.side l.front) s marks)
+
+-- where the legend stands
+abbrev pub legend_spot : Layout → ℤ → Spot
+legend_spot l u = spot l.side (l.top +ℤ pos 8 *ℤ u)
+
+-- where the bar stands
+abbrev pub bar_place : Layout → ℤ → Spot
+bar_place l u = spot l.left (l.high -ℤ pos 28 *ℤ u)
+
+-- the legend, the bar and the end
+abbrev pub foot_text : Window → Layout → List ℕ
+foot_text w l =
+    legend_text (legend_spot l w.unit) w.unit ++ (bar_text (bar_place l w.unit) w.unit w.grain (units w 0) ++ codes "</svg>\n")
+
+-- a picture of these, with this window, layout and first line of the heading
+abbrev pub picture_of : Workpiece → Held → ℕ → List Placed → ℕ → Window → Layout → List ℕ → List ℕ
+picture_of part held done marks left_out w l first =
+    head_text l w.unit first
+    ++ (style_text w.unit (length part.blocks) (are_few marks)
+    ++ (paper_text w l
+    ++ (heading_text w.unit first held.state.position done left_out ++ (views_text w l (scene part held first) marks ++ foot_text w l))))
+
+-- the same of a sheet
+abbrev pub picture_with : Sheet → Window → Layout → List ℕ → List ℕ
+picture_with s w l first = picture_of s.part s.held s.done s.marks s.left_out w l first
+
+-- the bytes of a picture
+abbrev pub picture_text : Sheet → List ℕ
+picture_text s =
+    let w = window_round s.part s.held s.marks s.is_close in
+    picture_with s w (layout_of w (above s.left_out)) (first_line s.held.tables s.held.state.stop s.done)

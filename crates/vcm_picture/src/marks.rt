@@ -1,0 +1,44 @@
+//! Questions of the marks of a way.
+
+ghost use Rattle.std.specs.Prelude.{◌≡◌, ◌≤◌};
+ghost use Rattle.vcm_picture.specs.Marks.{are_few, contact_of, pieces_in};
+
+use vcm_way::{Contact, Mark, Placed};
+
+/// The most pieces of a picture with arrows.
+const FEW_PIECES: u64 = 500;
+
+// How many pieces a mark is.
+fn pieces_in(mark: &Mark) -> u64
+    ensures pieces { result ≡ pieces_in mark.now }
+    ensures few { result ≤ 1 }
+{
+    match mark {
+        Mark::Goes(_) => 1,
+        Mark::Touches(_) => 0,
+        Mark::Meets(_) => 0,
+    }
+}
+
+/// Whether pieces are few enough for arrows.
+pub(crate) fn are_few(marks: &[Placed]) -> bool
+    ensures { result ≡ are_few marks.now }
+{
+    let mut count = 0;
+    for placed in marks {
+        count += pieces_in(&placed.mark);
+    }
+    count <= FEW_PIECES
+}
+
+/// The contact of a way.
+pub(crate) fn contact_of(marks: &[Placed]) -> Option<Contact>
+    ensures { result ≡ contact_of marks.now }
+{
+    for placed in marks {
+        if let Mark::Meets(contact) = placed.mark {
+            return Some(contact);
+        }
+    }
+    None
+}

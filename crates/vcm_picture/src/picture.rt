@@ -1,0 +1,444 @@
+//! The whole picture.
+
+ghost use Rattle.std.specs.Prelude.{◌≡◌, ◌++◌, ◌<◌, OnOk, IfOk, IsTrue};
+ghost use Rattle.std.specs.List.{list_all};
+ghost use Rattle.vcm_spec.specs.Workpiece.{is_block};
+ghost use Rattle.vcm_picture.specs.Picture.{above, units, laid_out, layout_with, layout_of, size_text, head_text, clip_text, paper_text, window_for, window_round, views_text, legend_spot, bar_place, foot_text, picture_of, picture_text, sheet};
+ghost use Rattle.vcm_picture.specs.Drawing.{scene, view_text};
+ghost use Rattle.vcm_picture.specs.inner.Ranges.{IsBorder, IsLine, IsSize, IsSmall, IsSpot, IsUnit, IsWindow};
+ghost use Rattle.vcm_picture.specs.inner.Layouts.{IsLayout, IsSlim};
+ghost use Rattle.vcm_picture.specs.Outcome.{IsPicture};
+ghost use Rattle.vcm_picture.specs.View.{scope_of, spot};
+
+use crate::append::put;
+use crate::drawing::put_view;
+use crate::heading::{first_line, put_heading};
+use crate::legend::{put_bar, put_legend};
+use crate::marks::are_few;
+use crate::rect::Spot;
+use crate::shapes::{Class, begin_path, end_path, put_square};
+use crate::span::span_of;
+use crate::style::put_style;
+use crate::view::{View, clip, scope_of};
+use crate::whole::quotient;
+use crate::window::{Window, window_of};
+use std::alloc::Global;
+use std::io::Write;
+use vcm_num::{NoMemory, Point, int_text, write_all};
+use vcm_part::PartData;
+use vcm_spec::Block3;
+use vcm_state::World;
+use vcm_way::Placed;
+
+/// Why a picture isn't written.
+#[derive(Clone, Copy, PartialEq, Eq)]
+pub enum PictureFault {
+    /// A growth of memory was refused; nothing was written.
+    NoMemory,
+    /// The writer failed, or took no byte; it has taken a front of the picture that is not all.
+    Write,
+}
+
+/// Where the parts of a picture stand, and its size, in its units.
+#[derive(Clone, Copy)]
+pub struct Layout {
+    pub left: i64,
+    pub top: i64,
+    pub front: i64,
+    pub side: i64,
+    pub wide: i64,
+    pub high: i64,
+}
+
+// A layout of these numbers.
+fn laid_out(left: i64, top: i64, front: i64, side: i64, wide: i64, high: i64) -> Layout
+    ensures { result ≡ laid_out left top front side wide high }
+{
+    Layout {
+        left,
+        top,
+        front,
+        side,
+        wide,
+        high,
+    }
+}
+
+// The layout of this unit, height of the heading and widths of the axes.
+fn layout_with(unit: i64, above: i64, wide: i64, deep: i64, high: i64) -> Layout
+    requires unit { IsSlim unit }
+    requires above { IsLine above }
+    requires wide { IsSize wide }
+    requires deep { IsSize deep }
+    requires high { IsSize high }
+    ensures layout { result ≡ layout_with unit above wide deep high }
+    ensures small { IsLayout result }
+{
+    let left = 20 * unit;
+    let top = above * unit;
+    let front = top + deep + 30 * unit;
+    let side = left + wide + 30 * unit;
+    laid_out(
+        left,
+        top,
+        front,
+        side,
+        side + deep + 20 * unit,
+        front + high + 50 * unit,
+    )
+}
+
+// How wide an axis is in units of the picture.
+fn units(window: Window, axis: usize) -> i64
+    requires window { IsWindow window }
+    requires axis { axis < 3 }
+    ensures units { result ≡ units window axis }
+    ensures size { IsSize result }
+{
+    quotient(window.full.0[axis], window.grain)
+}
+
+// The layout, with the top view so many units below the upper edge.
+fn layout_of(window: Window, above: i64) -> Layout
+    requires window { IsWindow window }
+    requires slim { IsSlim window.unit }
+    requires above { IsLine above }
+    ensures layout { result ≡ layout_of window above }
+    ensures small { IsLayout result }
+{
+    layout_with(
+        window.unit,
+        above,
+        units(window, 0),
+        units(window, 1),
+        units(window, 2),
+    )
+}
+
+// Appends the size of the picture.
+fn put_size(out: &mut Vec<u8>, layout: Layout, unit: i64) -> Result<(), NoMemory>
+    requires layout { IsLayout layout }
+    requires unit { IsUnit unit }
+    ensures { OnOk result (out.new.items ≡ out.old.items ++ size_text layout unit) }
+{
+    let wide = int_text(layout.wide);
+    let high = int_text(layout.high);
+    let width = int_text(quotient(layout.wide, unit));
+    let height = int_text(quotient(layout.high, unit));
+    put(
+        out,
+        &[
+            b"<svg xmlns=\"http://www.w3.org/2000/svg\" viewBox=\"0 0 ",
+            wide.as_slice(),
+            b" ",
+            high.as_slice(),
+            b"\" width=\"",
+            width.as_slice(),
+            b"\" height=\"",
+            height.as_slice(),
+            b"\">\n<title>",
+        ],
+    )
+}
+
+// Appends the head: the size of the picture, and its title.
+fn put_head(out: &mut Vec<u8>, layout: Layout, unit: i64, first: &[u8]) -> Result<(), NoMemory>
+    requires layout { IsLayout layout }
+    requires unit { IsUnit unit }
+    ensures { OnOk result (out.new.items ≡ out.old.items ++ head_text layout unit first.now) }
+{
+    put_size(out, layout, unit)?;
+    put(out, &[first, b"</title>\n"])
+}
+
+// Appends the clip path of a view.
+fn put_clip(out: &mut Vec<u8>, view: View, window: Window) -> Result<(), NoMemory>
+    requires { IsWindow window }
+    ensures { OnOk result (out.new.items ≡ out.old.items ++ clip_text view window) }
+{
+    let scope = scope_of(window, view);
+    put(out, &[b"<clipPath id=\"v", clip(view), b"\"><path d=\""])?;
+    put_square(out, Spot { x: 0, y: 0 }, scope.wide, scope.high)?;
+    put(out, &[b"\"/></clipPath>\n"])
+}
+
+// Appends the clip paths, and the paper.
+fn put_paper(out: &mut Vec<u8>, window: Window, layout: Layout) -> Result<(), NoMemory>
+    requires window { IsWindow window }
+    requires layout { IsLayout layout }
+    ensures { OnOk result (out.new.items ≡ out.old.items ++ paper_text window layout) }
+{
+    put_clip(out, View::Top, window)?;
+    put_clip(out, View::Front, window)?;
+    put_clip(out, View::Side, window)?;
+    begin_path(out, Class::Paper)?;
+    put_square(out, Spot { x: 0, y: 0 }, layout.wide, layout.high)?;
+    end_path(out)
+}
+
+// The window round these points, blocks and marks.
+fn window_for(
+    is_close: bool,
+    home: Point,
+    position: Point,
+    blocks: &[Block3],
+    marks: &[Placed],
+) -> Window
+    requires blocks { IsTrue (list_all is_block blocks.now) }
+    ensures window { result ≡ window_for is_close home position blocks.now marks.now }
+    ensures ranges { IsWindow result }
+    ensures slim { IsSlim result.unit }
+{
+    window_of(
+        span_of(0, is_close, home, position, blocks, marks),
+        span_of(1, is_close, home, position, blocks, marks),
+        span_of(2, is_close, home, position, blocks, marks),
+    )
+}
+
+// The window of a picture.
+fn window_round(part: &PartData, world: &World, marks: &[Placed], is_close: bool) -> Window
+    ensures window { result ≡ window_round part.now world.now marks.now is_close }
+    ensures ranges { IsWindow result }
+    ensures slim { IsSlim result.unit }
+{
+    window_for(
+        is_close,
+        part.bounds().home,
+        world.position(),
+        part.blocks(),
+        marks,
+    )
+}
+
+// A place of small numbers.
+fn corner(x: i64, y: i64) -> Spot
+    requires x { IsSmall x }
+    requires y { IsSmall y }
+    ensures spot { result ≡ spot x y }
+    ensures small { IsSpot result }
+{
+    Spot { x, y }
+}
+
+// Appends a view of a window at a place of the picture.
+fn put_view_at(
+    alloc: Global,
+    out: &mut Vec<u8>,
+    window: Window,
+    view: View,
+    x: i64,
+    y: i64,
+    part: &PartData,
+    world: &World,
+    stopped: &[u8],
+    marks: &[Placed],
+) -> Result<(), NoMemory>
+    requires window { IsWindow window }
+    requires x { IsBorder x }
+    requires y { IsBorder y }
+    ensures { OnOk result (out.new.items ≡ out.old.items ++ view_text (scope_of window view) (spot x y) (scene part.now world.now stopped.now) marks.now) }
+{
+    put_view(
+        alloc,
+        out,
+        scope_of(window, view),
+        corner(x, y),
+        part,
+        world,
+        stopped,
+        marks,
+    )
+}
+
+// Appends the three views.
+fn put_views(
+    alloc: Global,
+    out: &mut Vec<u8>,
+    window: Window,
+    layout: Layout,
+    part: &PartData,
+    world: &World,
+    stopped: &[u8],
+    marks: &[Placed],
+) -> Result<(), NoMemory>
+    requires window { IsWindow window }
+    requires layout { IsLayout layout }
+    ensures { OnOk result (out.new.items ≡ out.old.items ++ views_text window layout (scene part.now world.now stopped.now) marks.now) }
+{
+    put_view_at(
+        alloc,
+        out,
+        window,
+        View::Top,
+        layout.left,
+        layout.top,
+        part,
+        world,
+        stopped,
+        marks,
+    )?;
+    put_view_at(
+        alloc,
+        out,
+        window,
+        View::Front,
+        layout.left,
+        layout.front,
+        part,
+        world,
+        stopped,
+        marks,
+    )?;
+    put_view_at(
+        alloc,
+        out,
+        window,
+        View::Side,
+        layout.side,
+        layout.front,
+        part,
+        world,
+        stopped,
+        marks,
+    )
+}
+
+// Where the legend stands.
+fn legend_spot(layout: Layout, unit: i64) -> Spot
+    requires layout { IsLayout layout }
+    requires unit { IsUnit unit }
+    ensures spot { result ≡ legend_spot layout unit }
+    ensures small { IsSpot result }
+{
+    corner(layout.side, layout.top + 8 * unit)
+}
+
+// Where the bar stands.
+fn bar_place(layout: Layout, unit: i64) -> Spot
+    requires layout { IsLayout layout }
+    requires unit { IsUnit unit }
+    ensures spot { result ≡ bar_place layout unit }
+    ensures small { IsSpot result }
+{
+    corner(layout.left, layout.high - 28 * unit)
+}
+
+// Appends the legend and the bar, and ends the picture.
+fn put_foot(out: &mut Vec<u8>, window: Window, layout: Layout) -> Result<(), NoMemory>
+    requires window { IsWindow window }
+    requires layout { IsLayout layout }
+    ensures { OnOk result (out.new.items ≡ out.old.items ++ foot_text window layout) }
+{
+    let unit = window.unit;
+    put_legend(out, legend_spot(layout, unit), unit)?;
+    put_bar(
+        out,
+        bar_place(layout, unit),
+        unit,
+        window.grain,
+        units(window, 0),
+    )?;
+    put(out, &[b"</svg>\n"])
+}
+
+// How many units the top view stands below the upper edge.
+fn above(left_out: u64) -> i64
+    ensures above { result ≡ above left_out }
+    ensures line { IsLine result }
+{
+    if left_out == 0 { 82 } else { 100 }
+}
+
+// Appends the picture with this window, layout and first line of the heading.
+fn put_picture(
+    alloc: Global,
+    out: &mut Vec<u8>,
+    part: &PartData,
+    world: &World,
+    done: u64,
+    marks: &[Placed],
+    left_out: u64,
+    window: Window,
+    layout: Layout,
+    first: &[u8],
+) -> Result<(), NoMemory>
+    requires window { IsWindow window }
+    requires layout { IsLayout layout }
+    ensures { OnOk result (out.new.items ≡ out.old.items ++ picture_of part.now world.now done marks.now left_out window layout first.now) }
+{
+    let unit = window.unit;
+    put_head(out, layout, unit, first)?;
+    put_style(out, unit, part.blocks().len(), are_few(marks))?;
+    put_paper(out, window, layout)?;
+    put_heading(out, unit, first, world.position(), done, left_out)?;
+    put_views(alloc, out, window, layout, part, world, first, marks)?;
+    put_foot(out, window, layout)
+}
+
+// The picture.
+fn picture(
+    alloc: Global,
+    part: &PartData,
+    world: &World,
+    done: u64,
+    marks: &[Placed],
+    left_out: u64,
+    is_close: bool,
+) -> Result<Vec<u8>, NoMemory>
+    ensures { IfOk result (λ bytes. bytes.items ≡ picture_text (sheet part.now world.now done marks.now left_out is_close)) }
+{
+    let window = window_round(part, world, marks, is_close);
+    let layout = layout_of(window, above(left_out));
+    let first = first_line(alloc, world.tables(), world.stop(), done)?;
+    let mut out = Vec::new(alloc);
+    put_picture(
+        alloc,
+        &mut out,
+        part,
+        world,
+        done,
+        marks,
+        left_out,
+        window,
+        layout,
+        first.as_slice(),
+    )?;
+    Ok(out)
+}
+
+// Writes all bytes.
+fn write_bytes<W: Write>(writer: &mut W, bytes: &[u8]) -> Result<(), PictureFault>
+    ensures { IsPicture (W.contents writer.old) (W.contents writer.new) bytes.now result }
+{
+    match write_all(writer, bytes) {
+        Ok(()) => Ok(()),
+        Err(_) => Err(PictureFault::Write),
+    }
+}
+
+/// Writes a picture of a workpiece and of the way of the probe as SVG: three views with the blocks, the marks of the way, and the state at the end
+/// of a run of so many steps. `left_out` pieces of the way are left out before the marks. A close picture shows the blocks as large as they
+/// are.
+///
+/// # Errors
+///
+/// `NoMemory`: nothing was written; the call may be repeated. `Write`: the writer failed, or took no byte; then it has taken a front of the
+/// picture, and not all of it.
+pub fn write_picture<W: Write>(
+    alloc: Global,
+    part: &PartData,
+    world: &World,
+    done: u64,
+    marks: &[Placed],
+    left_out: u64,
+    is_close: bool,
+    writer: &mut W,
+) -> Result<(), PictureFault>
+    ensures { IsPicture (W.contents writer.old) (W.contents writer.new) (picture_text (sheet part.now world.now done marks.now left_out is_close)) result }
+{
+    match picture(alloc, part, world, done, marks, left_out, is_close) {
+        Ok(bytes) => write_bytes(writer, bytes.as_slice()),
+        Err(_) => Err(PictureFault::NoMemory),
+    }
+}

@@ -1,0 +1,138 @@
+//! What a picture shows: the window, and the unit.
+
+ghost use Rattle.std.specs.Prelude.{◌≡◌, ◌≤ℤ◌, pos};
+ghost use Rattle.vcm_picture.specs.Window.{size, most_of, grown, low_of, full_of, longest, grain_of, unit_of, window_of};
+ghost use Rattle.vcm_picture.specs.inner.Ranges.{IsSpan, IsMost, IsEdge, IsSize, IsUnit, IsWindow};
+
+use crate::span::Span;
+use crate::whole::{greater, quotient};
+use vcm_num::Point;
+
+/// What the views show: the low corner and the extent in micrometres, the micrometres of a unit of the picture, and the unit of marks and texts
+/// in units of the picture.
+#[derive(Clone, Copy)]
+pub struct Window {
+    pub low: Point,
+    pub full: Point,
+    pub grain: i64,
+    pub unit: i64,
+}
+
+// How far a span extends.
+fn size(span: Span) -> i64
+    requires { IsSpan span }
+    ensures value { result ≡ size span }
+    ensures from_zero { pos 0 ≤ℤ result }
+    ensures to_most { result ≤ℤ pos 2000000000 }
+{
+    span.high - span.low
+}
+
+// The greatest extent, a millimetre at least.
+fn most_of(x: Span, y: Span, z: Span) -> i64
+    requires x { IsSpan x }
+    requires y { IsSpan y }
+    requires z { IsSpan z }
+    ensures value { result ≡ most_of x y z }
+    ensures most { IsMost result }
+{
+    greater(greater(size(x), size(y)), greater(size(z), 1000))
+}
+
+// The extent of an axis, at least a quarter of the greatest.
+fn grown(span: Span, most: i64) -> i64
+    requires span { IsSpan span }
+    requires most { IsMost most }
+    ensures value { result ≡ grown span most }
+    ensures from_size { size span ≤ℤ result }
+    ensures from_zero { pos 0 ≤ℤ result }
+    ensures to_most { result ≤ℤ pos 2000000000 }
+{
+    greater(size(span), quotient(most, 4))
+}
+
+// Where the window begins on an axis.
+fn low_of(span: Span, most: i64) -> i64
+    requires span { IsSpan span }
+    requires most { IsMost most }
+    ensures value { result ≡ low_of span most }
+    ensures edge { IsEdge result }
+{
+    span.low - quotient(grown(span, most) - size(span), 2) - quotient(most, 16)
+}
+
+// How far the window extends on an axis.
+fn full_of(span: Span, most: i64) -> i64
+    requires span { IsSpan span }
+    requires most { IsMost most }
+    ensures value { result ≡ full_of span most }
+    ensures from_zero { pos 0 ≤ℤ result }
+    ensures to_most { result ≤ℤ pos 4000000000 }
+{
+    grown(span, most) + 2 * quotient(most, 16)
+}
+
+/// The longer of the two sums of extents that stand side by side or one above the other.
+pub(crate) fn longest(x: i64, y: i64, z: i64) -> i64
+    requires x { IsSize x }
+    requires y { IsSize y }
+    requires z { IsSize z }
+    ensures value { result ≡ longest x y z }
+    ensures from_zero { pos 0 ≤ℤ result }
+    ensures to_most { result ≤ℤ pos 17179869184 }
+{
+    greater(x + y, y + z)
+}
+
+// The micrometres of a unit of the picture.
+fn grain_of(longest: i64) -> i64
+    ensures value { result ≡ grain_of longest }
+    ensures unit { IsUnit result }
+    ensures fine { result ≤ℤ pos 1000 }
+{
+    if longest <= 12_000_000 {
+        1
+    } else if longest <= 120_000_000 {
+        10
+    } else if longest <= 1_200_000_000 {
+        100
+    } else {
+        1000
+    }
+}
+
+// The unit of marks and texts, of these extents in micrometres and this grain.
+fn unit_of(x: i64, y: i64, z: i64, grain: i64) -> i64
+    requires x { IsSize x }
+    requires y { IsSize y }
+    requires z { IsSize z }
+    requires grain { IsUnit grain }
+    ensures value { result ≡ unit_of x y z grain }
+    ensures unit { IsUnit result }
+    ensures slim { result ≤ℤ pos 17179870 }
+{
+    let longest = longest(quotient(x, grain), quotient(y, grain), quotient(z, grain));
+    greater(quotient(longest, 1000), 1)
+}
+
+/// The window round these spans.
+pub(crate) fn window_of(x: Span, y: Span, z: Span) -> Window
+    requires x { IsSpan x }
+    requires y { IsSpan y }
+    requires z { IsSpan z }
+    ensures value { result ≡ window_of x y z }
+    ensures window { IsWindow result }
+    ensures slim { result.unit ≤ℤ pos 17179870 }
+{
+    let most = most_of(x, y, z);
+    let wide = full_of(x, most);
+    let deep = full_of(y, most);
+    let high = full_of(z, most);
+    let grain = grain_of(longest(wide, deep, high));
+    Window {
+        low: Point::new(low_of(x, most), low_of(y, most), low_of(z, most)),
+        full: Point::new(wide, deep, high),
+        grain,
+        unit: unit_of(wide, deep, high, grain),
+    }
+}

@@ -1,0 +1,104 @@
+-- The picture of a run as a view.
+use Rattle.std.specs.Prelude.{ℕ, Bool, List, Option, IfOk, IfErr, Result, Ok, Err}
+use Rattle.std.proofs.Common.{◌≡◌, refl, sym, ap, ◌∙◌, subst}
+use Rattle.std.proofs.KnownBytes.{Keeps-refl}
+use Rattle.std.specs.Io.KnownBytes.{Appends}
+use Rattle.vcm_num.specs.Written.{AppendsFront}
+use Rattle.vcm_spec.specs.declared.stop.StopPlace.{StopPlace}
+use Rattle.vcm_spec.specs.Workpiece.{Workpiece}
+use Rattle.vcm_code.specs.declared.code.Code.{Code}
+use Rattle.vcm_code.specs.Ops.{code_of}
+use Rattle.vcm_machine.specs.declared.ran.End.TheVariants.{NoMemory}
+use Rattle.vcm_machine.specs.declared.ran.Ran.{Ran}
+use Rattle.vcm_machine.specs.Running.{started, later, RunEnded}
+use Rattle.vcm_state.specs.Held.{Held}
+use Rattle.vcm_job.specs.Jobs.{status_of}
+use Rattle.vcm_job.specs.declared.inputs.RunFault.{RunFault}
+use Rattle.vcm_job.specs.declared.inputs.RunFault.TheVariants as faults
+use Rattle.vcm_way.specs.declared.mark.Placed.{Placed}
+use Rattle.vcm_way.specs.Ways.{Kept}
+use Rattle.vcm_way.specs.Following.{way_after, HasFollowed}
+use Rattle.vcm_picture.specs.Picture.{sheet, picture_text}
+use Rattle.vcm_views.specs.declared.view.View.TheVariants as views
+use Rattle.vcm_views.specs.Views.{HasRunTo, picture_of, IsViewed, IsCutShort}
+use Rattle.vcm_views.specs.inner.Drawn.{IsDrawn, IsNotDrawn}
+
+module _ (w part : Workpiece) (same : w ≡ part) (c : Code) (n : ℕ) (held : Held) (ran : Ran) (way : Kept)
+    (followed : HasFollowed w (code_of c) n held ran way) (is_close : Bool) where
+  beside : HasFollowed part (code_of c) n held ran way
+  beside = subst (λ p. HasFollowed p (code_of c) n held ran way) same followed
+
+  run_to : HasRunTo part c n held ran
+  run_to = record {
+    new = beside.new;
+    run = beside.has_run;
+    state = beside.state;
+    tables = beside.tables ∙ sym (ap (λ m. m.code.tables) beside.has_run.new_is);
+  }
+
+  module _ (ample : ran.end ≡ NoMemory → ⊥) where
+    drawn_viewed : (status : ℕ) (old after : Option (List ℕ)) → IsDrawn part held ran.done way is_close status old after
+        → IsViewed (views.Picture is_close) part c n status old after
+    drawn_viewed status old after d = record {
+      text = picture_of part held ran.done way is_close;
+      tells = record {
+        held = held;
+        ran = ran;
+        run = run_to;
+        ample = ample;
+        text_is = ap (λ k. picture_of part held ran.done k is_close) beside.kept;
+        status_is = d.status_is;
+      };
+      written = d.written;
+    }
+
+    drawn_cut_short : (f : RunFault) (old after : Option (List ℕ)) → IsNotDrawn part held ran.done way is_close f old after
+        → IsCutShort (views.Picture is_close) part c n f old after
+    drawn_cut_short faults.NoMemory old after k = k
+    drawn_cut_short (faults.Write d) old after front = record {
+      text = picture_of part held ran.done way is_close;
+      status = status_of held.state.stop;
+      tells = record {
+        held = held;
+        ran = ran;
+        run = run_to;
+        ample = ample;
+        text_is = ap (λ k. picture_of part held ran.done k is_close) beside.kept;
+        status_is = refl;
+      };
+      front = front;
+    }
+    drawn_cut_short (faults.Memory d) old after t = absurd t
+    drawn_cut_short (faults.Refused r) old after t = absurd t
+    drawn_cut_short (faults.Image e) old after t = absurd t
+    drawn_cut_short faults.Read old after t = absurd t
+    drawn_cut_short faults.TooLong old after t = absurd t
+
+    pub picture_viewed : (r : Result ℕ RunFault) (old after : Option (List ℕ)) → IfOk r (λ status. IsDrawn part held ran.done way is_close status old after)
+        → IfOk r (λ status. IsViewed (views.Picture is_close) part c n status old after)
+    picture_viewed (Ok status) old after t = drawn_viewed status old after t
+    picture_viewed (Err f) old after t = tt
+
+    pub picture_cut_short : (r : Result ℕ RunFault) (old after : Option (List ℕ)) → IfErr r (λ f. IsNotDrawn part held ran.done way is_close f old after)
+        → IfErr r (λ f. IsCutShort (views.Picture is_close) part c n f old after)
+    picture_cut_short (Ok status) old after t = tt
+    picture_cut_short (Err f) old after t = drawn_cut_short f old after t
+
+  pub picture_halted : ran.end ≡ NoMemory → (old : Option (List ℕ)) → IsCutShort (views.Picture is_close) part c n (faults.Memory ran.done) old old
+  picture_halted e old =
+      let ended : RunEnded n (started part (code_of c)) beside.new ran.done NoMemory = subst (λ x. RunEnded n (started part (code_of c)) beside.new ran.done x) e beside.has_run.ended in
+      (subst (λ m. RunEnded n (started part (code_of c)) m ran.done NoMemory) beside.has_run.new_is ended, Keeps-refl old)
+
+-- what was written of the marks that a way keeps
+module _ (part : Workpiece) (held : Held) (done : ℕ) (way : Kept) (is_close : Bool) (marks : List Placed) (left_out : ℕ)
+    (same : marks ≡ way.marks) (as_many : left_out ≡ way.left_out) where
+  same_text : picture_text (sheet part held done marks left_out is_close) ≡ picture_of part held done way is_close
+  same_text = ap (λ m. picture_text (sheet part held done m left_out is_close)) same ∙ ap (λ k. picture_text (sheet part held done way.marks k is_close)) as_many
+
+  pub drawn_of : (status : ℕ) (stop : Option StopPlace) (old new : Option (List ℕ)) → status ≡ status_of stop → stop ≡ held.state.stop
+      → Appends old new (picture_text (sheet part held done marks left_out is_close)) → IsDrawn part held done way is_close status old new
+  drawn_of status stop old new e f w = record { status_is = e ∙ ap status_of f; written = subst (Appends old new) same_text w }
+
+  pub drawn_in_part : (old new : Option (List ℕ)) → AppendsFront old new (picture_text (sheet part held done marks left_out is_close))
+      → AppendsFront old new (picture_of part held done way is_close)
+  drawn_in_part old new w = subst (AppendsFront old new) same_text w

@@ -1,0 +1,87 @@
+//! The picture of a run of a loaded code.
+
+ghost use Rattle.std.specs.Prelude.{IfOk, IfErr};
+ghost use Rattle.vcm_views.specs.declared.view.View.TheVariants.{Picture};
+ghost use Rattle.vcm_views.specs.Views.{IsViewed, IsCutShort};
+ghost use Rattle.vcm_views.specs.inner.Drawn.{IsDrawn, IsNotDrawn};
+
+use std::alloc::Global;
+use std::io::Write;
+use vcm_job::{RunFault, is_halted, status_of};
+use vcm_loader::Loaded;
+use vcm_motion::AnyPart;
+use vcm_part::PartData;
+use vcm_picture::{PictureFault, write_picture};
+use vcm_state::World;
+use vcm_way::{Way, follow};
+
+/// The most steps whose pieces are counted; no command line asks for as many.
+const MOST_STEPS: u64 = 1_000_000_000_000_000_000;
+
+// Writes the picture of a run that came to a state behind so many steps, and gives the exit status.
+fn draw<W: Write>(
+    alloc: Global,
+    part: &PartData,
+    world: &World,
+    done: u64,
+    way: &Way,
+    is_close: bool,
+    writer: &mut W,
+) -> Result<u8, RunFault>
+    ensures drawn { IfOk result (λ status. IsDrawn part.now world.now done way.now is_close status (W.contents writer.old) (W.contents writer.new)) }
+    ensures fault { IfErr result (λ f. IsNotDrawn part.now world.now done way.now is_close f (W.contents writer.old) (W.contents writer.new)) }
+{
+    let status = status_of(world.stop());
+    let marks = way.marks();
+    match write_picture(
+        alloc,
+        part,
+        world,
+        done,
+        marks,
+        way.left_out(),
+        is_close,
+        writer,
+    ) {
+        Ok(()) => Ok(status),
+        Err(PictureFault::NoMemory) => Err(RunFault::NoMemory),
+        Err(PictureFault::Write) => Err(RunFault::Write { done }),
+    }
+}
+
+/// Writes the picture of a loaded code in a run for at most so many steps, and gives the exit status. Where more steps are asked for than are counted, it
+/// answers want of memory.
+pub(crate) fn show_picture<W: Write>(
+    alloc: Global,
+    loaded: &Loaded<'_>,
+    part: &PartData,
+    steps: u64,
+    is_close: bool,
+    writer: &mut W,
+) -> Result<u8, RunFault>
+    ensures shown { IfOk result (λ status. IsViewed (Picture is_close) part.now loaded.now steps status (W.contents writer.old) (W.contents writer.new)) }
+    ensures fault { IfErr result (λ f. IsCutShort (Picture is_close) part.now loaded.now steps f (W.contents writer.old) (W.contents writer.new)) }
+{
+    if steps > MOST_STEPS {
+        return Err(RunFault::NoMemory);
+    }
+    let Ok(workpiece) = AnyPart::of(alloc, part) else {
+        return Err(RunFault::NoMemory);
+    };
+    let Ok(followed) = follow(alloc, &*loaded, &workpiece, part, steps) else {
+        return Err(RunFault::NoMemory);
+    };
+    let ran = followed.ran;
+    if is_halted(ran) {
+        return Err(RunFault::Memory { done: ran.done });
+    }
+    draw(
+        alloc,
+        part,
+        &followed.world,
+        ran.done,
+        &followed.way,
+        is_close,
+        writer,
+    )
+}
