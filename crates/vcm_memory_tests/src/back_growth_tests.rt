@@ -199,6 +199,22 @@ fn copies_that_are_refused_change_no_reply(rt: HostRuntime) {
 const LONG: &str = "DECL/INTGR,I\nDO/I,1,160\nTEXT/OPER,'a line of it'\nENDDO\n";
 
 // Whether a session comes to the end under a budget.
+fn ends_under<P: Part>(
+    alloc: Global,
+    scarce: &mut Scarce,
+    session: &mut Session<'_, P>,
+    budget: usize,
+) -> Option<bool>
+    requires { session.old.count ≡ 0 }
+{
+    let steps = Count::new(1000).ok()?;
+    scarce.leave(alloc, budget).ok()?;
+    let ran = session.command(alloc, &Command::Run(steps));
+    scarce.ease();
+    Some(ran.is_ok())
+}
+
+// The same of a new session on what was loaded.
 fn session_ends<P: Part>(
     alloc: Global,
     loaded: &Loaded<'_>,
@@ -206,12 +222,10 @@ fn session_ends<P: Part>(
     budget: usize,
 ) -> Option<bool> {
     let mut scarce = Scarce::new(alloc).ok()?;
-    let steps = Count::new(1000).ok()?;
-    let mut session = Session::new(alloc, loaded, part).ok()?;
-    scarce.leave(alloc, budget).ok()?;
-    let ran = session.command(alloc, &Command::Run(steps));
-    scarce.ease();
-    Some(ran.is_ok())
+    match &mut Session::new(alloc, loaded, part) {
+        Ok(session) => ends_under(alloc, &mut scarce, session, budget),
+        Err(_) => None,
+    }
 }
 
 // The same of the long loop beside one block.

@@ -113,6 +113,32 @@ fn copying_world(alloc: Global, world: &World) -> Told {
     }
 }
 
+// How often copying a machine is refused, and copying its state.
+fn copy_refusals<P: Part>(alloc: Global, machine: &Machine<'_, P>) -> Option<(u32, u32)> {
+    let copied = refusals(alloc, |alloc| copying(alloc, machine))?;
+    let state = refusals(alloc, |alloc| copying_world(alloc, machine.world()))?;
+    Some((copied, state))
+}
+
+// The same of a machine that is made and takes 21 steps.
+fn copy_refusals_behind<P: Part>(
+    alloc: Global,
+    loaded: &Loaded<'_>,
+    part: &P,
+) -> Option<(u32, u32)> {
+    match &mut Machine::new(alloc, loaded, part) {
+        Ok(machine) => {
+            let ran = machine.run(alloc, 21);
+            if ran.done == 21 {
+                copy_refusals(alloc, &*machine)
+            } else {
+                None
+            }
+        }
+        Err(_) => None,
+    }
+}
+
 // How often three calls are refused: making a machine, copying it behind 21 steps, and copying its state there.
 fn machine_refusals<P: Part>(
     alloc: Global,
@@ -120,13 +146,7 @@ fn machine_refusals<P: Part>(
     part: &P,
 ) -> Option<(u32, u32, u32)> {
     let started = refusals(alloc, |alloc| starting(alloc, loaded, part))?;
-    let mut machine = Machine::new(alloc, loaded, part).ok()?;
-    let ran = machine.run(alloc, 21);
-    if ran.done != 21 {
-        return None;
-    }
-    let copied = refusals(alloc, |alloc| copying(alloc, &machine))?;
-    let state = refusals(alloc, |alloc| copying_world(alloc, machine.world()))?;
+    let (copied, state) = copy_refusals_behind(alloc, loaded, part)?;
     Some((started, copied, state))
 }
 

@@ -18,11 +18,9 @@ const THREE: &str = "DECL/INTGR,I\nDO/I,1,3,1\nTEXT/OPER,'A'\nENDDO\n";
 fn run_under<P: Part>(
     alloc: Global,
     scarce: &mut Scarce,
-    loaded: &Loaded<'_>,
-    part: &P,
+    machine: &mut Machine<'_, P>,
     budget: usize,
 ) -> Option<u64> {
-    let mut machine = Machine::new(alloc, loaded, part).ok()?;
     scarce.leave(alloc, budget).ok()?;
     let first = machine.run(alloc, 100);
     scarce.ease();
@@ -37,6 +35,20 @@ fn run_under<P: Part>(
         Some(first.done)
     } else {
         None
+    }
+}
+
+// The same of a new machine.
+fn new_run_under<P: Part>(
+    alloc: Global,
+    scarce: &mut Scarce,
+    loaded: &Loaded<'_>,
+    part: &P,
+    budget: usize,
+) -> Option<u64> {
+    match &mut Machine::new(alloc, loaded, part) {
+        Ok(machine) => run_under(alloc, scarce, machine, budget),
+        Err(_) => None,
     }
 }
 
@@ -88,7 +100,7 @@ fn each_is_refused<P: Part>(
         let done = if is_session {
             session_under(alloc, &mut scarce, loaded, part, budget)?
         } else {
-            run_under(alloc, &mut scarce, loaded, part, budget)?
+            new_run_under(alloc, &mut scarce, loaded, part, budget)?
         };
         match done {
             1 => refused = [true, refused[1], refused[2]],
