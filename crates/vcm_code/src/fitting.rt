@@ -10,7 +10,6 @@ ghost use Rattle.vcm_code.specs.Deciding.{Tells};
 
 use crate::branch::Branch;
 use crate::op::OwnedOp;
-use std::alloc::Global;
 use vcm_expr::postfix_kind;
 use vcm_num::{Items, Kind};
 use vcm_spec::Item;
@@ -29,10 +28,10 @@ fn is_same(a: Kind, b: Kind) -> bool
 }
 
 // Whether items have a kind.
-fn has_kind(alloc: Global, tables: &Tables, items: &Items<Item>, want: Kind) -> bool
+fn has_kind(tables: &Tables, items: &Items<Item>, want: Kind) -> bool
     ensures { Tells result (HasItems tables.now items.now want) }
 {
-    match postfix_kind(alloc, items.as_slice(), tables.kinds()) {
+    match postfix_kind(items.as_slice(), tables.kinds()) {
         Some(kind) => is_same(kind, want),
         None => false,
     }
@@ -49,28 +48,22 @@ fn is_of_kind(tables: &Tables, variable: u16, want: Kind) -> bool
 }
 
 // Whether items have the kind of the variable at an index.
-fn is_assigned(alloc: Global, tables: &Tables, variable: u16, items: &Items<Item>) -> bool
+fn is_assigned(tables: &Tables, variable: u16, items: &Items<Item>) -> bool
     ensures { Tells result ((k : NumberKind) × (slice_get (kinds_of tables.now) variable ≡ Some k) × HasItems tables.now items.now k) }
 {
     match tables.kinds().get(usize::from(variable)) {
-        Some(kind) => has_kind(alloc, tables, items, *kind),
+        Some(kind) => has_kind(tables, items, *kind),
         None => false,
     }
 }
 
 // Whether three expressions are lengths.
-fn are_lengths(
-    alloc: Global,
-    tables: &Tables,
-    x: &Items<Item>,
-    y: &Items<Item>,
-    z: &Items<Item>,
-) -> bool
+fn are_lengths(tables: &Tables, x: &Items<Item>, y: &Items<Item>, z: &Items<Item>) -> bool
     ensures { Tells result (AreLengths (HasItems tables.now) x.now y.now z.now) }
 {
-    has_kind(alloc, tables, x, Kind::Real)
-        && has_kind(alloc, tables, y, Kind::Real)
-        && has_kind(alloc, tables, z, Kind::Real)
+    has_kind(tables, x, Kind::Real)
+        && has_kind(tables, y, Kind::Real)
+        && has_kind(tables, z, Kind::Real)
 }
 
 // Whether the feature at an index is there.
@@ -108,7 +101,6 @@ fn are_targets(branches: &[Branch], count: usize) -> bool
 
 // Whether the parts of a DO fit, its target aside.
 fn loop_fits(
-    alloc: Global,
     tables: &Tables,
     variable: u16,
     initial: &Items<Item>,
@@ -119,45 +111,44 @@ fn loop_fits(
         × HasItems tables.now limit.now NumberKind.Int × HasItems tables.now increment.now NumberKind.Int) }
 {
     is_of_kind(tables, variable, Kind::Int)
-        && has_kind(alloc, tables, initial, Kind::Int)
-        && has_kind(alloc, tables, limit, Kind::Int)
-        && has_kind(alloc, tables, increment, Kind::Int)
+        && has_kind(tables, initial, Kind::Int)
+        && has_kind(tables, limit, Kind::Int)
+        && has_kind(tables, increment, Kind::Int)
 }
 
 /// Whether a statement fits, in a code of so many statements.
-pub(crate) fn op_fits(alloc: Global, tables: &Tables, count: usize, op: &OwnedOp) -> bool
+pub(crate) fn op_fits(tables: &Tables, count: usize, op: &OwnedOp) -> bool
     ensures { Tells result (OpFits tables.now count (op_of op.now)) }
 {
     match op {
-        OwnedOp::Goto(x, y, z) => are_lengths(alloc, tables, x, y, z),
-        OwnedOp::Assign(variable, e) => is_assigned(alloc, tables, *variable, e),
+        OwnedOp::Goto(x, y, z) => are_lengths(tables, x, y, z),
+        OwnedOp::Assign(variable, e) => is_assigned(tables, *variable, e),
         OwnedOp::If(test, target) => {
-            has_kind(alloc, tables, test, Kind::Bool) && is_target(*target, count)
+            has_kind(tables, test, Kind::Bool) && is_target(*target, count)
         }
         OwnedOp::Else(target) | OwnedOp::JumpTo(target) | OwnedOp::EndCas(target) => {
             is_target(*target, count)
         }
         OwnedOp::Select(value, branches, target) => {
-            has_kind(alloc, tables, value, Kind::Int)
+            has_kind(tables, value, Kind::Int)
                 && are_targets(branches.as_slice(), count)
                 && is_target(*target, count)
         }
         OwnedOp::Do(variable, _, initial, limit, increment, target) => {
-            loop_fits(alloc, tables, *variable, initial, limit, increment)
-                && is_target(*target, count)
+            loop_fits(tables, *variable, initial, limit, increment) && is_target(*target, count)
         }
         OwnedOp::EndDo(variable, _, target) => {
             is_of_kind(tables, *variable, Kind::Int) && is_target(*target, count)
         }
         OwnedOp::Feat(feature, x, y, z, _) => {
-            is_feature(tables, *feature) && are_lengths(alloc, tables, x, y, z)
+            is_feature(tables, *feature) && are_lengths(tables, x, y, z)
         }
         OwnedOp::PtMeas(feature, x, y, z, _) => {
-            is_feature(tables, *feature) && are_lengths(alloc, tables, x, y, z)
+            is_feature(tables, *feature) && are_lengths(tables, x, y, z)
         }
-        OwnedOp::SnSet(_, length) => has_kind(alloc, tables, length, Kind::Real),
+        OwnedOp::SnSet(_, length) => has_kind(tables, length, Kind::Real),
         OwnedOp::Trans(frame, x, y, z) => {
-            is_frame(tables, *frame) && are_lengths(alloc, tables, x, y, z)
+            is_frame(tables, *frame) && are_lengths(tables, x, y, z)
         }
         OwnedOp::Rotate(frame, _, _) | OwnedOp::Recall(frame) => is_frame(tables, *frame),
         OwnedOp::Obtain(variable, _, feature, _) => {

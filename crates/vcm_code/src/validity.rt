@@ -8,16 +8,15 @@ ghost use Rattle.vcm_code.specs.Deciding.{Tells};
 use crate::code::Code;
 use crate::fitting::op_fits;
 use crate::op::{OwnedOp, OwnedStatement};
-use std::alloc::Global;
 use vcm_tables::Tables;
 
 // Whether all statements fit.
-fn all_fit(alloc: Global, tables: &Tables, statements: &[OwnedStatement]) -> bool
+fn all_fit(tables: &Tables, statements: &[OwnedStatement]) -> bool
     ensures { Tells result (AllFit tables.now (length (statements_of statements.now)) (statements_of statements.now)) }
 {
     let count = statements.len();
     for statement in statements {
-        if !op_fits(alloc, tables, count, &statement.op) {
+        if !op_fits(tables, count, &statement.op) {
             return false;
         }
     }
@@ -44,8 +43,8 @@ fn ends(statements: &[OwnedStatement]) -> bool
 /// Whether a code is valid: the indexes of its statements stand in its tables, targets are numbers of statements, expressions and variables
 /// have the kinds that their places want, no stack of an expression holds more than 32, and there is a last statement, which is ENDFIL. Takes
 /// no memory.
-pub fn is_valid(alloc: Global, code: &Code) -> bool
+pub fn is_valid(code: &Code) -> bool
     ensures { Tells result (IsValid (code_of code.now)) }
 {
-    all_fit(alloc, &code.tables, code.statements.as_slice()) && ends(code.statements.as_slice())
+    all_fit(&code.tables, code.statements.as_slice()) && ends(code.statements.as_slice())
 }

@@ -17,7 +17,7 @@ pub(crate) fn statement_on(loaded: &Loaded<'_>, line: u64) -> Option<u32>
 {
     let count = loaded.statement_count();
     for n in 0..count {
-        if u64::from(loaded.statement(n).line) == line {
+        if u64::from(loaded.line(n)) == line {
             return Some(n as u32);
         }
     }

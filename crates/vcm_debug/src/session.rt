@@ -143,7 +143,7 @@ impl<'a, P: Part> Session<'a, P> {
         Standing {
             steps: self.count,
             next,
-            line: self.loaded.statement(next as usize).line,
+            line: self.loaded.line(next as usize),
             stop: self.machine.world().stop(),
         }
     }

@@ -28,6 +28,6 @@ pub fn eval(e: &Typed, slots: &[i64]) -> Result<i64, Fault>
     match e.kept() {
         Kept::Leaf(x) => Ok(operators::operand(*x, slots)),
         Kept::Scaled(x) => operators::unary(UnaryOp::Scale, operators::operand(*x, slots)),
-        Kept::Postfix(items) => carried_out(*items.allocator(), items, slots),
+        Kept::Postfix(items) => carried_out(items, slots),
     }
 }

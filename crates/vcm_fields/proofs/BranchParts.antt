@@ -1,7 +1,5 @@
 -- The branches of a SELECT, read as they are spelled.
-use Rattle.std.proofs.Common.{◌≡◌, ℕ, ◌≤◌, nat_le, List, length, refl, arith}
-use Rattle.std.specs.Prelude.{ℤ}
-use Rattle.vcm_code.specs.declared.branch.Branch.{Branch}
+use Rattle.std.proofs.Common.{◌≤◌, nat_le, length, refl, arith}
 use Rattle.vcm_fields.specs.declared.fault.ImageFault.TheVariants.{BadField}
 use Rattle.vcm_fields.specs.Fitting.{FitsBranch, FitBranches}
 use Rattle.vcm_fields.specs.Spelling.{branch, branches}

@@ -6,3 +6,4 @@ pub mod BranchParts
 pub mod TextParts
 pub mod StatementParts
 pub mod Parts
+pub mod Taking

@@ -82,6 +82,14 @@ abbrev pub found : {A : Type 0} → List (ℕ × Reader A) → ℕ → Reader A
 found [] k bytes = Err BadField
 found (row ∷ rows) k bytes = if k == row.0 then row.1 bytes else found rows k bytes
 
+-- the bytes begin with a value that meets P
+abbrev pub Begins : {A : Type 0} → Reader A → (A → Type 0) → List ℕ → Type 0
+Begins {A} a P bytes = (x : A) × (rest : List ℕ) × (a bytes ≡ Ok (x, rest)) × P x
+
+-- this is so of the value that the bytes begin with, and of the bytes behind it
+abbrev pub OfFirst : {A : Type 0} → Reader A → List ℕ → (A → List ℕ → Type 0) → Type 0
+OfFirst {A} a bytes P = (x : A) (rest : List ℕ) → a bytes ≡ Ok (x, rest) → P x rest
+
 -- ---- fields
 
 -- one byte

@@ -18,8 +18,12 @@ pub(crate) fn byte(bytes: &[u8]) -> Result<(u8, &[u8]), ImageFault>
 }
 
 /// A byte below a limit.
+///
+/// # Errors
+///
+/// Short; BadField where it is not below.
 #[inline(always)]
-pub(crate) fn byte_below(limit: u8, bytes: &[u8]) -> Result<(u8, &[u8]), ImageFault>
+pub fn byte_below(limit: u8, bytes: &[u8]) -> Result<(u8, &[u8]), ImageFault>
     ensures { Gives (λ x. (x.0, x.1.now)) result (byte_below_at limit bytes.now) }
 {
     let (number, rest) = byte(bytes)?;

@@ -7,9 +7,13 @@ use crate::fields::{byte, byte_below, short, signed};
 use vcm_spec::{BinaryOp, Item, Operand, Relation, UnaryOp};
 
 /// A postfix item: its tag, and what it pushes.
+///
+/// # Errors
+///
+/// Short; BadField where no item has the tag, or a truth value is neither 0 nor 1.
 #[tactic(auto, unfolding(crate::specs::Readers::item_at))]
 #[inline(always)]
-pub(crate) fn item(bytes: &[u8]) -> Result<(Item, &[u8]), ImageFault>
+pub fn item(bytes: &[u8]) -> Result<(Item, &[u8]), ImageFault>
     ensures { Gives (λ x. (x.0, x.1.now)) result (item_at bytes.now) }
 {
     let (tag, rest) = byte(bytes)?;

@@ -87,9 +87,13 @@ fn choice(bytes: &[u8]) -> Result<(BorrowedOp<'_>, &[u8]), ImageFault>
     Ok((Op::If(test, target), rest))
 }
 
-// The number of a loop's pair: 0 to 31.
+/// The number of a loop's pair: 0 to 31.
+///
+/// # Errors
+///
+/// Short; BadField where it is above 31.
 #[inline(always)]
-fn pair(bytes: &[u8]) -> Result<(u8, &[u8]), ImageFault>
+pub fn pair(bytes: &[u8]) -> Result<(u8, &[u8]), ImageFault>
     ensures { Gives (λ x. (x.0, x.1.now)) result (pair_at bytes.now) }
 {
     byte_below(32, bytes)
@@ -205,10 +209,14 @@ fn output(bytes: &[u8]) -> Result<(BorrowedOp<'_>, &[u8]), ImageFault>
     Ok((Op::Output(source, feature), rest))
 }
 
-// Branches: how many they are, and each of them.
+/// Branches: how many they are, and each of them.
+///
+/// # Errors
+///
+/// Short; BadField where they are more than 20,000.
 #[tactic(auto, unfolding(crate::specs::Readers::branches_at))]
 #[inline(always)]
-fn branches(bytes: &[u8]) -> Result<(BranchSlice<'_>, &[u8]), ImageFault>
+pub fn branches(bytes: &[u8]) -> Result<(BranchSlice<'_>, &[u8]), ImageFault>
     ensures { Gives (λ x. (x.0, x.1.now)) result (branches_at bytes.now) }
 {
     let (count, rest) = short(bytes)?;

@@ -49,8 +49,12 @@ fn any_word(bytes: &[u8]) -> Result<(Word, &[u8]), ImageFault>
 }
 
 /// The word of a statement, which the version has.
+///
+/// # Errors
+///
+/// Short; BadField where the version has no such word.
 #[inline(always)]
-pub(crate) fn word(version: Version, bytes: &[u8]) -> Result<(Word, &[u8]), ImageFault>
+pub fn word(version: Version, bytes: &[u8]) -> Result<(Word, &[u8]), ImageFault>
     ensures { Gives (λ x. (x.0, x.1.now)) result (word_at version bytes.now) }
 {
     let (word, rest) = any_word(bytes)?;
@@ -75,7 +79,11 @@ pub(crate) fn kind(bytes: &[u8]) -> Result<(Kind, &[u8]), ImageFault>
 }
 
 /// The direction of a feature.
-pub(crate) fn axis(bytes: &[u8]) -> Result<(Axis, &[u8]), ImageFault>
+///
+/// # Errors
+///
+/// Short; BadField where it is not 0 to 5.
+pub fn axis(bytes: &[u8]) -> Result<(Axis, &[u8]), ImageFault>
     ensures { Gives (λ x. (x.0, x.1.now)) result (axis_at bytes.now) }
 {
     let (number, rest) = byte(bytes)?;
@@ -91,7 +99,11 @@ pub(crate) fn axis(bytes: &[u8]) -> Result<(Axis, &[u8]), ImageFault>
 }
 
 /// The direction of a measurement; 6 stands for that of the nominal feature.
-pub(crate) fn direction(bytes: &[u8]) -> Result<(Option<Axis>, &[u8]), ImageFault>
+///
+/// # Errors
+///
+/// Short; BadField where it is not 0 to 6.
+pub fn direction(bytes: &[u8]) -> Result<(Option<Axis>, &[u8]), ImageFault>
     ensures { Gives (λ x. (x.0, x.1.now)) result (direction_at bytes.now) }
 {
     let (number, rest) = byte(bytes)?;
@@ -108,7 +120,11 @@ pub(crate) fn direction(bytes: &[u8]) -> Result<(Option<Axis>, &[u8]), ImageFaul
 }
 
 /// A setting of the probe.
-pub(crate) fn setting(bytes: &[u8]) -> Result<(Setting, &[u8]), ImageFault>
+///
+/// # Errors
+///
+/// Short; BadField where it is not 0 to 3.
+pub fn setting(bytes: &[u8]) -> Result<(Setting, &[u8]), ImageFault>
     ensures { Gives (λ x. (x.0, x.1.now)) result (setting_at bytes.now) }
 {
     let (number, rest) = byte(bytes)?;
@@ -122,7 +138,11 @@ pub(crate) fn setting(bytes: &[u8]) -> Result<(Setting, &[u8]), ImageFault>
 }
 
 /// Whether the nominal or the actual feature is meant.
-pub(crate) fn source(bytes: &[u8]) -> Result<(Source, &[u8]), ImageFault>
+///
+/// # Errors
+///
+/// Short; BadField where it is neither 0 nor 1.
+pub fn source(bytes: &[u8]) -> Result<(Source, &[u8]), ImageFault>
     ensures { Gives (λ x. (x.0, x.1.now)) result (source_at bytes.now) }
 {
     let (number, rest) = byte(bytes)?;
@@ -134,7 +154,11 @@ pub(crate) fn source(bytes: &[u8]) -> Result<(Source, &[u8]), ImageFault>
 }
 
 /// The number of a word of a feature: 3 to 8.
-pub(crate) fn part(bytes: &[u8]) -> Result<(u8, &[u8]), ImageFault>
+///
+/// # Errors
+///
+/// Short; BadField where it is another number.
+pub fn part(bytes: &[u8]) -> Result<(u8, &[u8]), ImageFault>
     ensures { Gives (λ x. (x.0, x.1.now)) result (part_at bytes.now) }
 {
     let (number, rest) = byte(bytes)?;

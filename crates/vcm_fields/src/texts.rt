@@ -56,9 +56,13 @@ pub(crate) fn variable_name(bytes: &[u8]) -> Result<(TextSlice<'_>, &[u8]), Imag
     Ok((TextSlice::new(front), rest))
 }
 
-/// A text.
+/// A text, and the bytes behind it.
+///
+/// # Errors
+///
+/// Short; BadField where it is longer than 1,024 bytes, or has a byte that no text has.
 #[tactic(auto, unfolding(crate::specs::Readers::text_at))]
-pub(crate) fn text(bytes: &[u8]) -> Result<(TextSlice<'_>, &[u8]), ImageFault>
+pub fn text(bytes: &[u8]) -> Result<(TextSlice<'_>, &[u8]), ImageFault>
     ensures { Gives (λ x. (x.0, x.1.now)) result (text_at bytes.now) }
 {
     let (number, rest) = short(bytes)?;

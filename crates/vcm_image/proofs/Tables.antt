@@ -7,13 +7,12 @@ use Rattle.vcm_fields.specs.declared.fault.ImageFault.TheVariants.{NoMemory}
 use Rattle.vcm_code.specs.declared.code.Code.{Code}
 use Rattle.vcm_image.specs.declared.counts.Counts.{Counts}
 use Rattle.vcm_fields.specs.declared.fault.ImageFault.TheVariants.{Trailing}
-use Rattle.vcm_fields.specs.Parts.{Line}
 use Rattle.vcm_fields.specs.Readers.{Reader, Fails, times, entry_at, name_at, line_at}
 use Rattle.vcm_image.specs.Whole.{header, header_at, body_at, ended, code_at}
 use Rattle.vcm_image.specs.inner.Places.{IsEnd, Begin, Table, code_or_none, code_in, Indexed}
 use Rattle.vcm_image.proofs.Wholes.{reads_header, code_takes}
 use Rattle.vcm_fields.proofs.Inverse.{IsBytes, Reads, ok_is}
-use Rattle.vcm_fields.proofs.LoopInverse.{Progress, begun, goes_on, stops, is_done, times_more}
+use Rattle.vcm_fields.proofs.LoopInverse.{Progress, begun, goes_on, stops, is_done}
 
 pub Begin-push : {A : Type 0} (a : Reader A) (whole os : List ℕ) (xs : List A) (o : ℕ) (x : A) (rest : List ℕ) → Begin a whole os xs → o ≤ length whole → a (drop o whole) ≡ Ok (x, rest) → Begin a whole (os ++ o ∷ []) (xs ++ x ∷ [])
 Begin-push a whole [] [] o x rest h le e = ((le, (rest, e)), tt)
@@ -102,29 +101,6 @@ fails_so _ read e = e
 pub filled_fails : {A : Type 0} (a : Reader A) (count counter : ℕ) (whole bytes starts rest : List ℕ) (f : ImageFault) → Filling a count counter whole bytes starts rest → counter < count → a rest ≡ Err f → Fails f (times a count bytes)
 filled_fails a count counter whole bytes starts rest f g lt e = fails_so f (times a count bytes) (stops a count counter bytes rest f g.progress lt e)
 
--- the values that were read so far, of so many
-pub record ReadSoFar {A : Type 0} (a : Reader A) (count counter : ℕ) (bytes : List ℕ) (values : List A) (rest : List ℕ) : Type 0 where
-  pub within : counter ≤ count
-  pub so_far : times a counter bytes ≡ Ok (values, rest)
-
-pub none_read : {A : Type 0} (a : Reader A) (count : ℕ) (bytes : List ℕ) → ReadSoFar a count 0 bytes [] bytes
-unfolding times
-none_read a count bytes = record { within = omega arith; so_far = refl }
-
-pub one_more : {A : Type 0} (a : Reader A) (count counter : ℕ) (bytes : List ℕ) (values : List A) (rest : List ℕ) (x : A) (rest' : List ℕ) (values' : List A) → ReadSoFar a count counter bytes values rest → counter < count → a rest ≡ Ok (x, rest')
-    → values' ≡ values ++ x ∷ [] → ReadSoFar a count (counter + 1) bytes values' rest'
-one_more a count counter bytes values rest x rest' values' f lt e is =
-    let k : counter + 1 ≡ suc counter = omega arith in
-    record { within = omega arith; so_far = rw (k, is) (times_more a counter bytes values rest x rest' f.so_far e) }
-
-pub one_fails : {A : Type 0} (a : Reader A) (count counter : ℕ) (bytes : List ℕ) (values : List A) (rest : List ℕ) (f : ImageFault) → ReadSoFar a count counter bytes values rest → counter < count → a rest ≡ Err f → Fails f (times a count bytes)
-one_fails a count counter bytes values rest f g lt e = fails_so f (times a count bytes) (stops a count counter bytes rest f (record { values = values; within = g.within; so_far = g.so_far }) lt e)
-
-pub all_read : {A : Type 0} (a : Reader A) (count counter : ℕ) (bytes : List ℕ) (values : List A) (rest : List ℕ) → ReadSoFar a count counter bytes values rest → count ≤ counter → times a count bytes ≡ Ok (values, rest)
-all_read a count counter bytes values rest f le =
-    let k : count ≡ counter = omega (arith, f.within, le) in
-    rw k f.so_far
-
 -- ---- the whole
 
 pub fails_from : {X Y : Type 0} (f : ImageFault) (r : Result X ImageFault) (q : Result Y ImageFault) → Fails f r → (r ≡ Err f → q ≡ Err f) → Fails f q
@@ -159,13 +135,13 @@ module _ (bytes : List ℕ) (n : Counts) (r : List ℕ) (h : header_at bytes ≡
         unfolding code_at body_at
         statements_fail f g = fails_from f (times (line_at n.version) n.statements r3) (code_at bytes) g (λ e. rw (h, tv.is, tf.is, td.is, e) refl)
 
-        module _ (ss : List Line) (r4 : List ℕ) (ts : times (line_at n.version) n.statements r3 ≡ Ok (ss, r4)) where
+        module _ (ss : List ℕ) (r4 : List ℕ) (ts : Table (line_at n.version) n.statements bytes r3 ss r4) where
           abbrev whole_code : Code
-          whole_code = record { version = n.version; tables = record { variables = tv.values; features = tf.values; frames = td.values }; statements = ss }
+          whole_code = record { version = n.version; tables = record { variables = tv.values; features = tf.values; frames = td.values }; statements = ts.values }
 
           code_is : code_at bytes ≡ ended (whole_code, r4)
           unfolding code_at body_at
-          code_is = rw (h, tv.is, tf.is, td.is, ts) refl
+          code_is = rw (h, tv.is, tf.is, td.is, ts.is) refl
 
           pub left_over : (length r4 ≡ 0 → ⊥) → code_at bytes ≡ Err Trailing
           left_over ne = code_is ∙ over (length r4) ne
@@ -190,7 +166,7 @@ module _ (bytes : List ℕ) (n : Counts) (r : List ℕ) (h : header_at bytes ≡
                 variables_begin = subst (λ (d : Code). Begin entry_at bytes vs d.tables.variables) same tv.begin;
                 features_begin = subst (λ (d : Code). Begin name_at bytes fs d.tables.features) same tf.begin;
                 frames_begin = subst (λ (d : Code). Begin name_at bytes ds d.tables.frames) same td.begin;
-                statements_are = ap (λ (d : Code). d.statements) same;
+                statements_begin = subst (λ (d : Code). Begin (line_at n.version) bytes ss d.statements) same ts.begin;
               }
 
 pub not_zero : (k : ℕ) → (k == 0) ≡ false → k ≡ 0 → ⊥

@@ -1,10 +1,10 @@
-//! An image whose fields are all in range: its statements, and where each of its variables and names begins.
+//! An image whose fields are all in range, and where each of its variables, names and statements begins.
 
 ghost use Rattle.std.specs.Prelude.{◌≡◌, ◌<◌, ◌≤◌, drop, Ok, Some, IfOk, IfErr, length, slice_get};
 ghost use Rattle.std.specs.Int.{w16, w32};
 ghost use Rattle.vcm_expr.specs.NameBytes.{IsName};
 ghost use Rattle.vcm_code.specs.declared.code.Code.{Code};
-ghost use Rattle.vcm_fields.specs.Readers.{Gives, Fails, GivesOrNoMemory, times, name_at, line_at, entry_at};
+ghost use Rattle.vcm_fields.specs.Readers.{Gives, Fails, GivesOrNoMemory, Begins, times, name_at, line_at, entry_at};
 ghost use Rattle.vcm_image.specs.Whole.{FitsImage, spelling, version_at, header_at, count_at, code_at};
 ghost use Rattle.vcm_image.specs.inner.Places.{Table, IsEnd};
 
@@ -17,7 +17,7 @@ use vcm_fields::{
     BorrowedStatement, BorrowedVariable, ImageFault, TextSlice, long, name, short, statement,
     variable,
 };
-use vcm_num::{Items, NoMemory};
+use vcm_num::NoMemory;
 use vcm_tables::Tables;
 
 /// The bytes `VCMI` as a number of four bytes.
@@ -32,8 +32,8 @@ pub(crate) const MOST_STATEMENTS: u32 = 20_000;
 // The bytes of the shortest statements: a word and a source line.
 const SHORTEST: usize = 5;
 
-/// The bytes of an image whose fields are all in range, where its variables and names begin, and its statements, whose items and texts are slices
-/// of the bytes. Contracts see it as the code that the bytes spell.
+/// The bytes of an image whose fields are all in range, and where its variables, names and statements begin. No statement is kept decoded. Contracts
+/// see it as the code that the bytes spell.
 #[derive(Drop)]
 pub struct Scanned<'a> {
     bytes: &'a [u8],
@@ -41,7 +41,7 @@ pub struct Scanned<'a> {
     variables: Vec<usize>,
     features: Vec<usize>,
     frames: Vec<usize>,
-    statements: Items<BorrowedStatement<'a>>,
+    statements: Vec<usize>,
 }
 
 impl<'a> Model for Scanned<'a> {
@@ -53,7 +53,7 @@ impl<'a> Model for Scanned<'a> {
 
     ghost view = { λ s. code_in s.bytes.now };
 
-    ghost invariant = { λ s. Indexed s.bytes.now s.version s.variables.items s.features.items s.frames.items s.statements };
+    ghost invariant = { λ s. Indexed s.bytes.now s.version s.variables.items s.features.items s.frames.items s.statements.items };
 }
 
 // Where so many variables begin, and the bytes behind them.
@@ -100,24 +100,28 @@ fn names<'a>(
     Ok((starts, rest))
 }
 
-// So many statements of a version, and the bytes behind them. Room is made for no more of them than the bytes can hold.
+// Where so many statements of a version begin, and the bytes behind them. Room is made for no more of them than the bytes can hold.
 fn statements<'a>(
     alloc: Global,
     version: Version,
     count: u32,
+    whole: &[u8],
     bytes: &'a [u8],
-) -> Result<(Items<BorrowedStatement<'a>>, &'a [u8]), ImageFault>
-    ensures { GivesOrNoMemory (λ x. (x.0, x.1.now)) result (times (line_at version) count bytes.now) }
+) -> Result<(Vec<usize>, &'a [u8]), ImageFault>
+    requires { IsEnd whole.now bytes.now }
+    ensures ok { IfOk result (λ x. Table (line_at version) count whole.now bytes.now x.0.items x.1.now) }
+    ensures err { IfErr result (λ e. Fails e (times (line_at version) count bytes.now)) }
 {
     let room = (count as usize).min(bytes.len() / SHORTEST);
-    let mut read = Items::from_vec(Vec::with_capacity(alloc, room)?);
+    let mut starts = Vec::with_capacity(alloc, room)?;
     let mut rest = bytes;
     for _ in 0..count {
-        let (next, after) = statement(version, rest)?;
-        read.push(next)?;
+        let start = whole.len() - rest.len();
+        let (_statement, after) = statement(version, rest)?;
+        starts.push(start)?;
         rest = after;
     }
-    Ok((read, rest))
+    Ok((starts, rest))
 }
 
 // A number of two bytes, not above a limit.
@@ -178,7 +182,7 @@ fn scan(alloc: Global, bytes: &[u8]) -> Result<Scanned<'_>, ImageFault>
     let (variables, rest) = variables(alloc, counts.variables, bytes, rest)?;
     let (features, rest) = names(alloc, counts.features, bytes, rest)?;
     let (frames, rest) = names(alloc, counts.frames, bytes, rest)?;
-    let (statements, rest) = statements(alloc, counts.version, counts.statements, rest)?;
+    let (statements, rest) = statements(alloc, counts.version, counts.statements, bytes, rest)?;
     if !rest.is_empty() {
         return Err(ImageFault::Trailing);
     }
@@ -295,12 +299,25 @@ impl<'a> Scanned<'a> {
         self.statements.len()
     }
 
-    /// A statement, whose items and text are slices of the image. It was decoded when the image was opened.
-    pub fn statement(&self, n: usize) -> &BorrowedStatement<'a>
+    /// A statement, whose items, text and branches are slices of the image. It is decoded anew at each call.
+    pub fn statement(&self, n: usize) -> BorrowedStatement<'a>
         requires { n < length self.now.statements }
-        ensures { slice_get self.now.statements n ≡ Some result.now }
+        ensures { slice_get self.now.statements n ≡ Some result }
     {
-        &self.statements.as_slice()[n]
+        match statement(self.version, self.bytes_from(n)) {
+            Ok((statement, _)) => statement,
+            Err(_) => unreachable!(),
+        }
+    }
+
+    /// The bytes of the image from a statement on.
+    #[inline(always)]
+    pub fn bytes_from(&self, n: usize) -> &'a [u8]
+        requires { n < length self.now.statements }
+        ensures { Begins (line_at self.now.version) (λ s. slice_get self.now.statements n ≡ Some s) result.now }
+    {
+        let start = self.statements[n];
+        after(self.bytes, start)
     }
 
     /// The tables of names, on their own.

@@ -86,7 +86,7 @@ pub fn read_listing(alloc: Global, bytes: &[u8]) -> Result<Code, ListFault>
     ensures fault { IfErr result (λ f. FaultOrWant bytes.now f) }
 {
     let code = code_listed(alloc, bytes)?;
-    if is_valid(alloc, &code) {
+    if is_valid(&code) {
         Ok(code)
     } else {
         Err(ListFault {

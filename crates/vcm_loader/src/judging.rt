@@ -8,7 +8,6 @@ ghost use Rattle.vcm_loader.specs.Checks.{index, target, indexes, assigned, Item
 ghost use Rattle.vcm_loader.specs.Loading.{FirstFailedCheck};
 
 use crate::walking::items_kind;
-use std::alloc::Global;
 use vcm_code::Op;
 use vcm_fields::{BorrowedOp, BranchSlice, ImageFault, ItemSlice};
 use vcm_num::Kind;
@@ -52,26 +51,21 @@ fn is_same_kind(a: Kind, b: Kind) -> bool
 }
 
 // Whether an expression has a kind.
-fn has_kind(alloc: Global, items: &ItemSlice<'_>, kinds: &[Kind], want: Kind) -> bool
+fn has_kind(items: &ItemSlice<'_>, kinds: &[Kind], want: Kind) -> bool
     ensures { Tells result (HasKind kinds.now items.now want) }
 {
-    match items_kind(alloc, items, kinds) {
+    match items_kind(items, kinds) {
         Some(kind) => is_same_kind(kind, want),
         None => false,
     }
 }
 
 // An expression of a kind: its indexes, then its types. One that has the kind has its variables, so the indexes are looked at only where it hasn't.
-fn judge_items(
-    alloc: Global,
-    items: &ItemSlice<'_>,
-    kinds: &[Kind],
-    want: Kind,
-) -> Result<(), ImageFault>
+fn judge_items(items: &ItemSlice<'_>, kinds: &[Kind], want: Kind) -> Result<(), ImageFault>
     ensures ok { OnOk result (AllHold (wants kinds.now items.now want)) }
     ensures err { IfErr result (λ e. FirstFailedCheck (wants kinds.now items.now want) e) }
 {
-    if has_kind(alloc, items, kinds, want) {
+    if has_kind(items, kinds, want) {
         return Ok(());
     }
     if items_below(items, kinds.len()) {
@@ -83,7 +77,6 @@ fn judge_items(
 // Three expressions of one kind.
 #[tactic(auto, using(crate::proofs::Judgements::hold_append, crate::proofs::Judgements::first_here, crate::proofs::Judgements::first_later))]
 fn judge_three(
-    alloc: Global,
     x: &ItemSlice<'_>,
     y: &ItemSlice<'_>,
     z: &ItemSlice<'_>,
@@ -93,9 +86,9 @@ fn judge_three(
     ensures ok { OnOk result (AllHold (three kinds.now x.now y.now z.now want)) }
     ensures err { IfErr result (λ e. FirstFailedCheck (three kinds.now x.now y.now z.now want) e) }
 {
-    judge_items(alloc, x, kinds, want)?;
-    judge_items(alloc, y, kinds, want)?;
-    judge_items(alloc, z, kinds, want)?;
+    judge_items(x, kinds, want)?;
+    judge_items(y, kinds, want)?;
+    judge_items(z, kinds, want)?;
     Ok(())
 }
 
@@ -137,37 +130,30 @@ fn judge_variable(v: u16, kinds: &[Kind], want: Kind) -> Result<(), ImageFault>
 
 // An expression of the kind that a variable has.
 #[tactic(auto, using(crate::proofs::Judgements::assigned_ok, crate::proofs::Judgements::assigned_err))]
-fn judge_assigned(
-    alloc: Global,
-    v: u16,
-    kind: Kind,
-    e: &ItemSlice<'_>,
-    kinds: &[Kind],
-) -> Result<(), ImageFault>
+fn judge_assigned(v: u16, kind: Kind, e: &ItemSlice<'_>, kinds: &[Kind]) -> Result<(), ImageFault>
     requires { slice_get kinds.now v ≡ Some kind }
     ensures ok { OnOk result (AllHold (indexes e.now (length kinds.now) ∷ assigned kinds.now v e.now ∷ [])) }
     ensures err { IfErr result (λ f. FirstFailedCheck (indexes e.now (length kinds.now) ∷ assigned kinds.now v e.now ∷ []) f) }
 {
-    judge_items(alloc, e, kinds, kind)?;
+    judge_items(e, kinds, kind)?;
     Ok(())
 }
 
 // An ASSIGN: its variable, then an expression of that kind.
-fn judge_assign(alloc: Global, v: u16, e: &ItemSlice<'_>, kinds: &[Kind]) -> Result<(), ImageFault>
+fn judge_assign(v: u16, e: &ItemSlice<'_>, kinds: &[Kind]) -> Result<(), ImageFault>
     ensures ok { OnOk result (AllHold (index v (length kinds.now) ∷ indexes e.now (length kinds.now) ∷ assigned kinds.now v e.now ∷ [])) }
     ensures err { IfErr result (λ f. FirstFailedCheck (index v (length kinds.now) ∷ indexes e.now (length kinds.now) ∷ assigned kinds.now v e.now ∷ []) f) }
 {
     if usize::from(v) >= kinds.len() {
         return Err(ImageFault::BadIndex);
     }
-    judge_assigned(alloc, v, kinds[usize::from(v)], e, kinds)?;
+    judge_assigned(v, kinds[usize::from(v)], e, kinds)?;
     Ok(())
 }
 
 // An IF: its test, then its target.
 #[tactic(auto, using(crate::proofs::Judgements::hold_append, crate::proofs::Judgements::first_here, crate::proofs::Judgements::first_later))]
 fn judge_if(
-    alloc: Global,
     test: &ItemSlice<'_>,
     to: u32,
     kinds: &[Kind],
@@ -176,7 +162,7 @@ fn judge_if(
     ensures ok { OnOk result (AllHold (wants kinds.now test.now KindOf.Bool ++ (target to statements ∷ []))) }
     ensures err { IfErr result (λ e. FirstFailedCheck (wants kinds.now test.now KindOf.Bool ++ (target to statements ∷ [])) e) }
 {
-    judge_items(alloc, test, kinds, Kind::Bool)?;
+    judge_items(test, kinds, Kind::Bool)?;
     judge_target(to, statements)?;
     Ok(())
 }
@@ -184,7 +170,6 @@ fn judge_if(
 // A DO: its variable, its three values, then its exit.
 #[tactic(auto, using(crate::proofs::Judgements::hold_append, crate::proofs::Judgements::first_here, crate::proofs::Judgements::first_later))]
 fn judge_do(
-    alloc: Global,
     v: u16,
     initial: &ItemSlice<'_>,
     limit: &ItemSlice<'_>,
@@ -197,7 +182,7 @@ fn judge_do(
     ensures err { IfErr result (λ e. FirstFailedCheck (variable kinds.now v KindOf.Int ++ (three kinds.now initial.now limit.now increment.now KindOf.Int ++ (target exit statements ∷ []))) e) }
 {
     judge_variable(v, kinds, Kind::Int)?;
-    judge_three(alloc, initial, limit, increment, kinds, Kind::Int)?;
+    judge_three(initial, limit, increment, kinds, Kind::Int)?;
     judge_target(exit, statements)?;
     Ok(())
 }
@@ -218,7 +203,6 @@ fn judge_branches(branches: &BranchSlice<'_>, statements: usize) -> Result<(), I
 // A SELECT: its value, the targets of its branches, then its last target.
 #[tactic(auto, using(crate::proofs::Judgements::hold_append, crate::proofs::Judgements::first_here, crate::proofs::Judgements::first_later))]
 fn judge_select(
-    alloc: Global,
     value: &ItemSlice<'_>,
     branches: &BranchSlice<'_>,
     to: u32,
@@ -228,7 +212,7 @@ fn judge_select(
     ensures ok { OnOk result (AllHold (wants kinds.now value.now KindOf.Int ++ (targets branches.now statements ++ (target to statements ∷ [])))) }
     ensures err { IfErr result (λ e. FirstFailedCheck (wants kinds.now value.now KindOf.Int ++ (targets branches.now statements ++ (target to statements ∷ []))) e) }
 {
-    judge_items(alloc, value, kinds, Kind::Int)?;
+    judge_items(value, kinds, Kind::Int)?;
     judge_branches(branches, statements)?;
     judge_target(to, statements)?;
     Ok(())
@@ -259,7 +243,6 @@ fn judge_obtain(v: u16, f: u16, kinds: &[Kind], features: usize) -> Result<(), I
 // A feature or a frame, of which there are so many, then three lengths.
 #[tactic(auto, using(crate::proofs::Judgements::hold_append, crate::proofs::Judgements::first_here, crate::proofs::Judgements::first_later))]
 fn judge_point(
-    alloc: Global,
     i: u16,
     count: usize,
     x: &ItemSlice<'_>,
@@ -271,7 +254,7 @@ fn judge_point(
     ensures err { IfErr result (λ e. FirstFailedCheck (index i count ∷ three kinds.now x.now y.now z.now KindOf.Real) e) }
 {
     judge_index(i, count)?;
-    judge_three(alloc, x, y, z, kinds, Kind::Real)?;
+    judge_three(x, y, z, kinds, Kind::Real)?;
     Ok(())
 }
 
@@ -281,7 +264,6 @@ fn judge_point(
 ///
 /// BadIndex, BadTarget or BadOperand.
 pub(crate) fn judge_operation(
-    alloc: Global,
     op: &BorrowedOp<'_>,
     kinds: &[Kind],
     features: usize,
@@ -294,24 +276,20 @@ pub(crate) fn judge_operation(
     match op {
         Op::EndFil | Op::GoHome | Op::EndIf | Op::Label | Op::EndMes | Op::Text(_) => Ok(()),
         Op::Case | Op::DftCas | Op::EndSel => Ok(()),
-        Op::Goto(x, y, z) => judge_three(alloc, x, y, z, kinds, Kind::Real),
-        Op::Assign(v, e) => judge_assign(alloc, *v, e, kinds),
-        Op::If(test, to) => judge_if(alloc, test, *to, kinds, statements),
+        Op::Goto(x, y, z) => judge_three(x, y, z, kinds, Kind::Real),
+        Op::Assign(v, e) => judge_assign(*v, e, kinds),
+        Op::If(test, to) => judge_if(test, *to, kinds, statements),
         Op::Else(to) | Op::JumpTo(to) | Op::EndCas(to) => judge_target(*to, statements),
         Op::Do(v, _, initial, limit, increment, exit) => {
-            judge_do(
-                alloc, *v, initial, limit, increment, *exit, kinds, statements,
-            )
+            judge_do(*v, initial, limit, increment, *exit, kinds, statements)
         }
         Op::EndDo(v, _, to) => judge_enddo(*v, *to, kinds, statements),
-        Op::Select(value, branches, to) => {
-            judge_select(alloc, value, branches, *to, kinds, statements)
-        }
+        Op::Select(value, branches, to) => { judge_select(value, branches, *to, kinds, statements) }
         Op::Feat(f, x, y, z, _) | Op::PtMeas(f, x, y, z, _) => {
-            judge_point(alloc, *f, features, x, y, z, kinds)
+            judge_point(*f, features, x, y, z, kinds)
         }
-        Op::Trans(f, x, y, z) => judge_point(alloc, *f, frames, x, y, z, kinds),
-        Op::SnSet(_, length) => judge_items(alloc, length, kinds, Kind::Real),
+        Op::Trans(f, x, y, z) => judge_point(*f, frames, x, y, z, kinds),
+        Op::SnSet(_, length) => judge_items(length, kinds, Kind::Real),
         Op::Obtain(v, _, f, _) => judge_obtain(*v, *f, kinds, features),
         Op::Meas(f) | Op::Output(_, f) => judge_index(*f, features),
         Op::Rotate(f, _, _) | Op::Recall(f) => judge_index(*f, frames),

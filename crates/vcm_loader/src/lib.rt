@@ -13,4 +13,4 @@ pub use loading::load;
 pub use vcm_fields::{
     BorrowedOp, BorrowedStatement, BorrowedVariable, BranchSlice, ImageFault, ItemSlice, TextSlice,
 };
-pub use walking::items_value;
+pub use walking::{items_value, value_at};

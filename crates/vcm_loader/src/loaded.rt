@@ -10,6 +10,7 @@ ghost use Rattle.vcm_expr.specs.Slots.{IsTruth, SlotsFit};
 ghost use Rattle.vcm_code.specs.Ops.{code_of};
 ghost use Rattle.vcm_code.specs.Valid.{IsValid};
 ghost use Rattle.vcm_fields.specs.Parts.{Line};
+ghost use Rattle.vcm_fields.specs.Readers.{Begins, line_at, operands_at};
 ghost use Rattle.vcm_image.specs.Whole.{FitsImage};
 ghost use Rattle.vcm_loader.specs.Expressions.{expressions};
 
@@ -18,13 +19,13 @@ use crate::walking;
 use std::alloc::Global;
 use std::marker::Model;
 use vcm_code::Version;
-use vcm_fields::{BorrowedStatement, BorrowedVariable, TextSlice};
+use vcm_fields::{BorrowedStatement, BorrowedVariable, TextSlice, Word, known, long, read_word};
 use vcm_image::Scanned;
 use vcm_num::{Fault, NoMemory};
 use vcm_tables::Tables;
 
-/// A valid image. It borrows the bytes and keeps its statements decoded, their items and texts as slices of the bytes. Contracts see it as its
-/// code. Names that its readers hand out live as long as the bytes, as do the items and texts of a statement.
+/// A valid image. It borrows the bytes, and keeps where each variable, name and statement begins; no statement is kept decoded. Contracts see it as
+/// its code. Names that its readers hand out live as long as the bytes, as do the items and texts of a statement.
 #[derive(Drop)]
 pub struct Loaded<'a> {
     scanned: Scanned<'a>,
@@ -126,13 +127,41 @@ impl<'a> Loaded<'a> {
         self.scanned.statement_count()
     }
 
-    /// A statement, whose items and text are slices of the image. It was decoded when the image was opened.
-    #[inline(always)]
-    pub fn statement(&self, n: usize) -> &BorrowedStatement<'a>
+    /// A statement, whose items, text and branches are slices of the image. It is decoded anew at each call.
+    pub fn statement(&self, n: usize) -> BorrowedStatement<'a>
         requires { n < length self.now.statements }
-        ensures { slice_get self.now.statements n ≡ Some result.now }
+        ensures { slice_get self.now.statements n ≡ Some result }
     {
         self.scanned.statement(n)
+    }
+
+    // The bytes of the image from a statement on.
+    #[inline(always)]
+    fn bytes_from(&self, n: usize) -> &'a [u8]
+        requires { n < length self.now.statements }
+        ensures { Begins (line_at self.now.version) (λ s. slice_get self.now.statements n ≡ Some s) result.now }
+    {
+        self.scanned.bytes_from(n)
+    }
+
+    /// The word of a statement, its source line, and the bytes of the image from its operands on, for readers that carry it out as they read it.
+    #[inline(always)]
+    pub fn operands(&self, n: usize) -> (Word, u32, &'a [u8])
+        requires { n < length self.now.statements }
+        ensures { (s : Line) × (slice_get self.now.statements n ≡ Some s) × (result.1 ≡ s.line) × Begins (operands_at result.0) (λ op. op ≡ s.op) result.2.now }
+    {
+        let (word, rest) = known(read_word(self.version(), self.bytes_from(n)));
+        let (line, operands) = known(long(rest));
+        (word, line, operands)
+    }
+
+    /// The source line of a statement, whose operands are not read.
+    pub fn line(&self, n: usize) -> u32
+        requires { n < length self.now.statements }
+        ensures { (s : Line) × (slice_get self.now.statements n ≡ Some s) × (result ≡ s.line) }
+    {
+        let (_, line, _) = self.operands(n);
+        line
     }
 
     /// The value of an expression of statement `n`, the first one at place 0, where the variables have the values of `slots`. It is evaluated
@@ -141,7 +170,7 @@ impl<'a> Loaded<'a> {
     /// # Errors
     ///
     /// The first fault: an exact result outside 64 bits, or a zero divisor.
-    pub fn value(&self, alloc: Global, n: usize, place: usize, slots: &[i64]) -> Result<i64, Fault>
+    pub fn value(&self, n: usize, place: usize, slots: &[i64]) -> Result<i64, Fault>
         requires statement { n < length self.now.statements }
         requires place { (s : Line) → slice_get self.now.statements n ≡ Some s → place < length (expressions s.op) }
         requires slots { length slots.now ≡ length self.now.tables.variables }
@@ -152,7 +181,7 @@ impl<'a> Loaded<'a> {
     {
         let statement = self.scanned.statement(n);
         match expression(&statement.op, place) {
-            Some(items) => walking::items_value(alloc, &items, slots),
+            Some(items) => walking::items_value(&items, slots),
             None => unreachable!(),
         }
     }

@@ -32,7 +32,7 @@ fn variable_kinds(alloc: Global, image: &Scanned<'_>) -> Result<Vec<Kind>, Image
 }
 
 // The operands of all statements, one statement after the other.
-fn judge_statements(alloc: Global, image: &Scanned<'_>, kinds: &[Kind]) -> Result<(), ImageFault>
+fn judge_statements(image: &Scanned<'_>, kinds: &[Kind]) -> Result<(), ImageFault>
     requires { kinds.now ≡ kinds_of image.now.tables }
     ensures ok { OnOk result (AllHold (checks image.now)) }
     ensures err { IfErr result (λ e. FirstFailedCheck (checks image.now) e) }
@@ -42,7 +42,7 @@ fn judge_statements(alloc: Global, image: &Scanned<'_>, kinds: &[Kind]) -> Resul
     let statements = image.statement_count();
     for n in 0..statements {
         let statement = image.statement(n);
-        judge_operation(alloc, &statement.op, kinds, features, frames, statements)?;
+        judge_operation(&statement.op, kinds, features, frames, statements)?;
     }
     Ok(())
 }
@@ -72,7 +72,7 @@ fn judge(alloc: Global, image: &Scanned<'_>) -> Result<(), ImageFault>
     ensures err { IfErr result (λ e. LoadFault (Ok image.now) e) }
 {
     let kinds = variable_kinds(alloc, image)?;
-    judge_statements(alloc, image, &kinds)?;
+    judge_statements(image, &kinds)?;
     if !ends(image) {
         return Err(ImageFault::RunsOff);
     }

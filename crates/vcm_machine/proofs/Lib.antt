@@ -8,3 +8,5 @@ pub mod LawLemmas
 pub mod RestsAlong
 pub mod SelectSteps
 pub mod ProgramRests
+pub mod Arms
+pub mod Reading

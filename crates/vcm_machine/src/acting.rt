@@ -1,11 +1,12 @@
-//! Carrying out a simple statement: its expressions are evaluated, and then it has its effect. Moves, assignments and texts.
+//! Carrying out a simple statement while its operands are read from the image: its expressions are evaluated, and then it has its effect. Moves,
+//! assignments and texts.
 
-ghost use Rattle.std.specs.Prelude.{◌≡◌, Some, IfOk, slice_get};
+ghost use Rattle.std.specs.Prelude.{◌≡◌, Some, IfOk, IfErr, slice_get};
 ghost use Rattle.vcm_num.specs.declared.number.Kind.{Kind};
 ghost use Rattle.vcm_spec.specs.Workpiece.{Workpiece};
 ghost use Rattle.vcm_spec.specs.Setup.{setup_of};
 ghost use Rattle.vcm_spec.specs.Value.{items_value, is_true};
-ghost use Rattle.vcm_spec.specs.Outcome.{Answers, calculated};
+ghost use Rattle.vcm_spec.specs.Outcome.{Gives, Stops, calculated};
 ghost use Rattle.vcm_spec.specs.Simple.{Goto, GoHome, Assign, Text};
 ghost use Rattle.vcm_spec.specs.Effect.{effect};
 ghost use Rattle.vcm_spec.specs.Control.{test_in};
@@ -13,40 +14,52 @@ ghost use Rattle.vcm_spec.specs.Fitting.{kinds, AreLengths};
 ghost use Rattle.vcm_expr.specs.Slots.{IsTruth};
 ghost use Rattle.vcm_state.specs.Carried.{Carried, CarriedOrHalted};
 ghost use Rattle.vcm_code.specs.Valid.{HasItems};
+ghost use Rattle.vcm_fields.specs.Readers.{Begins, OfFirst, both, variable_at, expression_at, three_at, text_at};
 ghost use Rattle.vcm_machine.specs.inner.Lengths.{lengths_in};
 
-use std::alloc::Global;
-use vcm_fields::{ItemSlice, TextSlice};
-use vcm_loader::items_value;
+use vcm_expr::BoundedStack;
+use vcm_fields::{known, known_text, short};
+use vcm_loader::value_at;
 use vcm_motion::Part;
 use vcm_num::Fault;
 use vcm_spec::Stop;
 use vcm_state::{Halt, World};
 
-/// The value of an expression in a state of the machine: a length in micrometres, a truth value as 0 or 1.
+/// The value of the expression that the bytes begin with, in a state of the machine: a length in micrometres, a truth value as 0 or 1. With it the
+/// bytes behind it.
 ///
 /// Errors: `Overflow` or `DivZero`, whichever comes first.
-pub(crate) fn value(alloc: Global, world: &World, e: &ItemSlice<'_>) -> Result<i64, Stop>
-    requires { (k : Kind) × HasItems world.now.tables e.now k }
-    ensures answer { Answers (calculated (items_value world.now.state.variables e.now)) result }
-    ensures truth { IfOk result (λ z. HasItems world.now.tables e.now Kind.Bool → IsTruth z) }
+pub(crate) fn value<'a>(
+    stack: &mut BoundedStack<i64>,
+    world: &World,
+    bytes: &'a [u8],
+) -> Result<(i64, &'a [u8]), Stop>
+    requires { (k : Kind) × Begins expression_at (λ e. HasItems world.now.tables e k) bytes.now }
+    ensures value { IfOk result (λ x. OfFirst expression_at bytes.now (λ e rest. (calculated (items_value world.now.state.variables e) ≡ Gives x.0) × (x.1.now ≡ rest))) }
+    ensures fault { IfErr result (λ why. OfFirst expression_at bytes.now (λ e rest. calculated (items_value world.now.state.variables e) ≡ Stops why)) }
+    ensures truth { IfOk result (λ x. Begins expression_at (λ e. HasItems world.now.tables e Kind.Bool) bytes.now → IsTruth x.0) }
 {
-    match items_value(alloc, e, world.variables()) {
-        Ok(value) => Ok(value),
+    match value_at(stack, bytes, world.variables()) {
+        Ok(found) => Ok(found),
         Err(Fault::Overflow) => Err(Stop::Overflow),
         Err(Fault::DivZero) => Err(Stop::DivZero),
     }
 }
 
-/// The truth value of a test in a state of the machine.
+/// The truth value of the test that the bytes begin with, in a state of the machine, and the bytes behind it.
 ///
 /// Errors: `Overflow` or `DivZero`, whichever comes first.
-pub(crate) fn test(alloc: Global, world: &World, e: &ItemSlice<'_>) -> Result<bool, Stop>
-    requires { (k : Kind) × HasItems world.now.tables e.now k }
-    ensures { Answers (test_in items_value world.now.state e.now) result }
+pub(crate) fn test<'a>(
+    stack: &mut BoundedStack<i64>,
+    world: &World,
+    bytes: &'a [u8],
+) -> Result<(bool, &'a [u8]), Stop>
+    requires { (k : Kind) × Begins expression_at (λ e. HasItems world.now.tables e k) bytes.now }
+    ensures value { IfOk result (λ x. OfFirst expression_at bytes.now (λ e rest. (test_in items_value world.now.state e ≡ Gives x.0) × (x.1.now ≡ rest))) }
+    ensures fault { IfErr result (λ why. OfFirst expression_at bytes.now (λ e rest. test_in items_value world.now.state e ≡ Stops why)) }
 {
-    let value = value(alloc, world, e)?;
-    Ok(is_true(value))
+    let (value, rest) = value(stack, world, bytes)?;
+    Ok((is_true(value), rest))
 }
 
 // A number as a truth value.
@@ -64,41 +77,38 @@ pub(crate) struct Lengths {
     pub(crate) z: i64,
 }
 
-/// The values of three expressions, which are evaluated in the order x, y, z.
+/// The values of the three expressions that the bytes begin with, which are evaluated in the order x, y, z, and the bytes behind them.
 ///
 /// Errors: `Overflow` or `DivZero`, whichever comes first.
-pub(crate) fn three_lengths(
-    alloc: Global,
+pub(crate) fn three_lengths<'a>(
+    stack: &mut BoundedStack<i64>,
     world: &World,
-    x: &ItemSlice<'_>,
-    y: &ItemSlice<'_>,
-    z: &ItemSlice<'_>,
-) -> Result<Lengths, Stop>
-    requires { AreLengths (HasItems world.now.tables) x.now y.now z.now }
-    ensures { Answers (lengths_in world.now.state x.now y.now z.now) result }
+    bytes: &'a [u8],
+) -> Result<(Lengths, &'a [u8]), Stop>
+    requires { Begins three_at (λ o. AreLengths (HasItems world.now.tables) o.0 o.1.0 o.1.1) bytes.now }
+    ensures lengths { IfOk result (λ x. OfFirst three_at bytes.now (λ o rest. (lengths_in world.now.state o.0 o.1.0 o.1.1 ≡ Gives x.0) × (x.1.now ≡ rest))) }
+    ensures fault { IfErr result (λ why. OfFirst three_at bytes.now (λ o rest. lengths_in world.now.state o.0 o.1.0 o.1.1 ≡ Stops why)) }
 {
-    let x = value(alloc, world, x)?;
-    let y = value(alloc, world, y)?;
-    let z = value(alloc, world, z)?;
-    Ok(Lengths { x, y, z })
+    let (x, bytes) = value(stack, world, bytes)?;
+    let (y, bytes) = value(stack, world, bytes)?;
+    let (z, bytes) = value(stack, world, bytes)?;
+    Ok((Lengths { x, y, z }, bytes))
 }
 
 /// GOTO: x, y and z are evaluated in this order, and the first fault wins.
 ///
 /// Errors: a fault of an expression, and those of the move. The state is then as it was.
 pub(crate) fn go_to<P: Part>(
-    alloc: Global,
+    stack: &mut BoundedStack<i64>,
     part: &P,
     world: &mut World,
-    x: &ItemSlice<'_>,
-    y: &ItemSlice<'_>,
-    z: &ItemSlice<'_>,
+    bytes: &[u8],
 ) -> Result<(), Stop>
-    requires { AreLengths (HasItems world.old.tables) x.now y.now z.now }
-    ensures carried { Carried (effect items_value (setup_of (P.part part.now) world.old.tables) world.old.state (Goto x.now y.now z.now)) world.old.state world.new.state result }
+    requires { Begins three_at (λ o. AreLengths (HasItems world.old.tables) o.0 o.1.0 o.1.1) bytes.now }
+    ensures carried { OfFirst three_at bytes.now (λ o rest. Carried (effect items_value (setup_of (P.part part.now) world.old.tables) world.old.state (Goto o.0 o.1.0 o.1.1)) world.old.state world.new.state result) }
     ensures tables { world.new.tables ≡ world.old.tables }
 {
-    let to = three_lengths(alloc, world, x, y, z)?;
+    let (to, _) = three_lengths(stack, world, bytes)?;
     world.goto(part, to.x, to.y, to.z)
 }
 
@@ -116,25 +126,28 @@ pub(crate) fn go_home<P: Part>(part: &P, world: &mut World) -> Result<(), Stop>
 ///
 /// Errors: a fault of the expression. The state is then as it was.
 pub(crate) fn assign(
-    alloc: Global,
+    stack: &mut BoundedStack<i64>,
     world: &mut World,
-    variable: u16,
-    e: &ItemSlice<'_>,
+    bytes: &[u8],
 ) -> Result<(), Stop>
-    requires { (k : Kind) × (slice_get (kinds world.old.tables) variable ≡ Some k) × HasItems world.old.tables e.now k }
-    ensures carried { (part : Workpiece) → Carried (effect items_value (setup_of part world.old.tables) world.old.state (Assign variable e.now)) world.old.state world.new.state result }
+    requires { Begins (both variable_at expression_at) (λ o. (k : Kind) × (slice_get (kinds world.old.tables) o.0 ≡ Some k) × HasItems world.old.tables o.1 k) bytes.now }
+    ensures carried { (part : Workpiece) → OfFirst (both variable_at expression_at) bytes.now (λ o rest.
+        Carried (effect items_value (setup_of part world.old.tables) world.old.state (Assign o.0 o.1)) world.old.state world.new.state result) }
     ensures tables { world.new.tables ≡ world.old.tables }
 {
-    let value = value(alloc, world, e)?;
+    let (variable, rest) = known(short(bytes));
+    let (value, _) = value(stack, world, rest)?;
     world.assign(variable, value)
 }
 
 /// TEXT: one more output line.
 ///
 /// Errors: the stop `OutputFull`, or want of memory. The state is then as it was.
-pub(crate) fn print(world: &mut World, text: &TextSlice<'_>) -> Result<(), Halt>
-    ensures carried { (part : Workpiece) → CarriedOrHalted (effect items_value (setup_of part world.old.tables) world.old.state (Text text.now)) world.old.state world.new.state result }
+pub(crate) fn print(world: &mut World, bytes: &[u8]) -> Result<(), Halt>
+    requires { Begins text_at (λ t. Unit {0}) bytes.now }
+    ensures carried { (part : Workpiece) → OfFirst text_at bytes.now (λ t rest.
+        CarriedOrHalted (effect items_value (setup_of part world.old.tables) world.old.state (Text t)) world.old.state world.new.state result) }
     ensures tables { world.new.tables ≡ world.old.tables }
 {
-    world.text(text.as_bytes())
+    world.text(known_text(bytes).as_bytes())
 }

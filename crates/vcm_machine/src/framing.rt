@@ -9,10 +9,11 @@ ghost use Rattle.vcm_spec.specs.Effect.{effect};
 ghost use Rattle.vcm_spec.specs.Fitting.{AreLengths};
 ghost use Rattle.vcm_state.specs.Carried.{Carried};
 ghost use Rattle.vcm_code.specs.Valid.{HasItems};
+ghost use Rattle.vcm_fields.specs.Readers.{Begins, OfFirst, both, variable_at, three_at, byte_below_at};
 
 use crate::acting::three_lengths;
-use std::alloc::Global;
-use vcm_fields::ItemSlice;
+use vcm_expr::BoundedStack;
+use vcm_fields::{byte_below, known, short};
 use vcm_spec::Stop;
 use vcm_state::World;
 
@@ -20,39 +21,42 @@ use vcm_state::World;
 ///
 /// Errors: the first fault of an expression, and `Overflow` of the new origin. The state is then as it was.
 pub(crate) fn shift(
-    alloc: Global,
+    stack: &mut BoundedStack<i64>,
     world: &mut World,
-    frame: u16,
-    x: &ItemSlice<'_>,
-    y: &ItemSlice<'_>,
-    z: &ItemSlice<'_>,
+    bytes: &[u8],
 ) -> Result<(), Stop>
-    requires frame { frame < length world.old.tables.frames }
-    requires lengths { AreLengths (HasItems world.old.tables) x.now y.now z.now }
-    ensures carried { (part : Workpiece) → Carried (effect items_value (setup_of part world.old.tables) world.old.state (Trans frame x.now y.now z.now)) world.old.state world.new.state result }
+    requires { Begins (both variable_at three_at) (λ o. (o.0 < length world.old.tables.frames) × AreLengths (HasItems world.old.tables) o.1.0 o.1.1.0 o.1.1.1) bytes.now }
+    ensures carried { (part : Workpiece) → OfFirst (both variable_at three_at) bytes.now (λ o rest.
+        Carried (effect items_value (setup_of part world.old.tables) world.old.state (Trans o.0 o.1.0 o.1.1.0 o.1.1.1)) world.old.state world.new.state result) }
     ensures tables { world.new.tables ≡ world.old.tables }
 {
-    let by = three_lengths(alloc, world, x, y, z)?;
+    let (frame, rest) = known(short(bytes));
+    let (by, _) = three_lengths(stack, world, rest)?;
     world.trans(frame, by.x, by.y, by.z)
 }
 
 /// ROTATE: the current frame is turned about one of its axes, and saved at an index. It always answers `Ok`.
-pub(crate) fn rotate(world: &mut World, frame: u16, axis: u8, quarters: u8) -> Result<(), Stop>
-    requires frame { frame < length world.old.tables.frames }
-    requires axis { axis < 3 }
-    ensures carried { (part : Workpiece) → Carried (effect items_value (setup_of part world.old.tables) world.old.state (Rotate frame axis quarters)) world.old.state world.new.state result }
+pub(crate) fn rotate(world: &mut World, bytes: &[u8]) -> Result<(), Stop>
+    requires { Begins (both variable_at (both (byte_below_at 3) (byte_below_at 4))) (λ o. (o.0 < length world.old.tables.frames) × (o.1.0 < 3)) bytes.now }
+    ensures carried { (part : Workpiece) → OfFirst (both variable_at (both (byte_below_at 3) (byte_below_at 4))) bytes.now (λ o rest.
+        Carried (effect items_value (setup_of part world.old.tables) world.old.state (Rotate o.0 o.1.0 o.1.1)) world.old.state world.new.state result) }
     ensures tables { world.new.tables ≡ world.old.tables }
 {
+    let (frame, rest) = known(short(bytes));
+    let (axis, rest) = known(byte_below(3, rest));
+    let (quarters, _) = known(byte_below(4, rest));
     world.rotate(frame, axis, quarters)
 }
 
 /// RECALL: the frame that is saved at an index becomes the current one.
 ///
 /// Errors: `Undefined` where none is saved. The state is then as it was.
-pub(crate) fn recall(world: &mut World, frame: u16) -> Result<(), Stop>
-    requires { frame < length world.old.tables.frames }
-    ensures carried { (part : Workpiece) → Carried (effect items_value (setup_of part world.old.tables) world.old.state (Recall frame)) world.old.state world.new.state result }
+pub(crate) fn recall(world: &mut World, bytes: &[u8]) -> Result<(), Stop>
+    requires { Begins variable_at (λ frame. frame < length world.old.tables.frames) bytes.now }
+    ensures carried { (part : Workpiece) → OfFirst variable_at bytes.now (λ frame rest.
+        Carried (effect items_value (setup_of part world.old.tables) world.old.state (Recall frame)) world.old.state world.new.state result) }
     ensures tables { world.new.tables ≡ world.old.tables }
 {
+    let (frame, _) = known(short(bytes));
     world.recall(frame)
 }

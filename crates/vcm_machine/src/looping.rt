@@ -10,12 +10,13 @@ ghost use Rattle.vcm_state.specs.Carried.{Carried};
 ghost use Rattle.vcm_code.specs.Code.{Do, EndDo};
 ghost use Rattle.vcm_code.specs.CodeTable.{pair as saved_pair, do_op};
 ghost use Rattle.vcm_code.specs.Valid.{HasItems};
+ghost use Rattle.vcm_fields.specs.Readers.{Begins, OfFirst, both, variable_at, pair_at as pair_reader, three_at, target_at};
 ghost use Rattle.vcm_machine.specs.inner.Going.{HasTurned};
 
 use crate::acting::value;
-use std::alloc::Global;
 use vcm_code::Pair;
-use vcm_fields::ItemSlice;
+use vcm_expr::BoundedStack;
+use vcm_fields::{known, long, pair, short};
 use vcm_num::{Fault, add};
 use vcm_spec::Stop;
 use vcm_state::World;
@@ -102,34 +103,32 @@ fn pair_at(pairs: &[Pair; 32], pair: u8) -> Pair
 ///
 /// Errors: a fault of the initial value, the limit or the increment, in this order; `ZeroStep` where the increment is 0. All is then as it was.
 pub(crate) fn begin(
-    alloc: Global,
+    stack: &mut BoundedStack<i64>,
     world: &mut World,
     pairs: &mut [Pair; 32],
-    variable: u16,
-    pair: u8,
-    initial: &ItemSlice<'_>,
-    limit: &ItemSlice<'_>,
-    increment: &ItemSlice<'_>,
     next: u32,
-    exit: u32,
+    bytes: &[u8],
 ) -> Result<u32, Stop>
-    requires kind { slice_get (kinds world.old.tables) variable ≡ Some Kind.Int }
-    requires items { HasItems world.old.tables initial.now Kind.Int × HasItems world.old.tables limit.now Kind.Int × HasItems world.old.tables increment.now Kind.Int }
-    requires pair { pair < 32 }
+    requires operands { Begins (both variable_at (both pair_reader (both three_at target_at))) (λ o. (slice_get (kinds world.old.tables) o.0 ≡ Some Kind.Int)
+        × (o.1.0 < 32) × HasItems world.old.tables o.1.1.0.0 Kind.Int × HasItems world.old.tables o.1.1.0.1.0 Kind.Int × HasItems world.old.tables o.1.1.0.1.1 Kind.Int) bytes.now }
     requires next { next + 1 < 2 ^ 32 }
-    ensures turned { (setup : Setup) → (line : ℕ) → HasTurned (do_op setup (Do variable pair initial.now limit.now increment.now exit) line world.old.state next pairs.old)
-        next line world.old.state world.new.state pairs.old pairs.new result }
+    ensures turned { (setup : Setup) → (line : ℕ) → OfFirst (both variable_at (both pair_reader (both three_at target_at))) bytes.now (λ o rest.
+        HasTurned (do_op setup (Do o.0 o.1.0 o.1.1.0.0 o.1.1.0.1.0 o.1.1.0.1.1 o.1.1.1) line world.old.state next pairs.old)
+        next line world.old.state world.new.state pairs.old pairs.new result) }
     ensures tables { world.new.tables ≡ world.old.tables }
 {
-    let initial = value(alloc, world, initial)?;
-    let limit = value(alloc, world, limit)?;
-    let increment = value(alloc, world, increment)?;
+    let (variable, rest) = known(short(bytes));
+    let (pair, rest) = known(pair(rest));
+    let (initial, rest) = value(stack, world, rest)?;
+    let (limit, rest) = value(stack, world, rest)?;
+    let (increment, rest) = value(stack, world, rest)?;
     if is_zero(increment) {
         return Err(Stop::ZeroStep);
     }
     set_index(world, variable, initial);
     set_pair(pairs, pair, limit, increment);
     if is_past(world, variable, limit, increment) {
+        let (exit, _) = known(long(rest));
         Ok(exit)
     } else {
         Ok(next + 1)
@@ -143,18 +142,17 @@ pub(crate) fn begin(
 pub(crate) fn turn(
     world: &mut World,
     pairs: &[Pair; 32],
-    variable: u16,
-    pair: u8,
     next: u32,
-    target: u32,
+    bytes: &[u8],
 ) -> Result<u32, Stop>
-    requires kind { slice_get (kinds world.old.tables) variable ≡ Some Kind.Int }
-    requires pair { pair < 32 }
+    requires operands { Begins (both variable_at (both pair_reader target_at)) (λ o. (slice_get (kinds world.old.tables) o.0 ≡ Some Kind.Int) × (o.1.0 < 32)) bytes.now }
     requires next { next + 1 < 2 ^ 32 }
-    ensures turned { (setup : Setup) → (line : ℕ) → HasTurned (do_op setup (EndDo variable pair target) line world.old.state next pairs.now)
-        next line world.old.state world.new.state pairs.now pairs.now result }
+    ensures turned { (setup : Setup) → (line : ℕ) → OfFirst (both variable_at (both pair_reader target_at)) bytes.now (λ o rest.
+        HasTurned (do_op setup (EndDo o.0 o.1.0 o.1.1) line world.old.state next pairs.now) next line world.old.state world.new.state pairs.now pairs.now result) }
     ensures tables { world.new.tables ≡ world.old.tables }
 {
+    let (variable, rest) = known(short(bytes));
+    let (pair, rest) = known(pair(rest));
     let saved = pair_at(pairs, pair);
     if is_zero(saved.increment) {
         return Err(Stop::ZeroStep);
@@ -163,6 +161,7 @@ pub(crate) fn turn(
     if is_past(world, variable, saved.limit, saved.increment) {
         Ok(next + 1)
     } else {
+        let (target, _) = known(long(rest));
         Ok(target)
     }
 }

@@ -5,14 +5,15 @@ use crate::stepping::carry_out;
 use std::alloc::Global;
 use std::marker::Model;
 use vcm_code::Pair;
+use vcm_expr::BoundedStack;
 use vcm_loader::Loaded;
 use vcm_motion::Part;
 use vcm_num::NoMemory;
 use vcm_spec::StopPlace;
 use vcm_state::{Halt, World};
 
-/// A machine that carries out the code of a loaded image beside a workpiece. Each step takes its statement by reference from the
-/// image, which keeps it decoded. Contracts see it as a `Running`.
+/// A machine that carries out the code of a loaded image beside a workpiece. Each step reads its statement from the bytes of the image as it carries
+/// it out. Contracts see it as a `Running`.
 #[derive(Drop)]
 pub struct Machine<'a, P: Part> {
     loaded: &'a Loaded<'a>,
@@ -20,6 +21,7 @@ pub struct Machine<'a, P: Part> {
     world: World,
     next: u32,
     pairs: [Pair; 32],
+    stack: BoundedStack<i64>,
 }
 
 impl<'a, P: Part> Model for Machine<'a, P> {
@@ -71,6 +73,7 @@ impl<'a, P: Part> Machine<'a, P> {
             world,
             next: 0,
             pairs: [pair; 32],
+            stack: BoundedStack::new(),
         })
     }
 
@@ -87,6 +90,7 @@ impl<'a, P: Part> Machine<'a, P> {
             world,
             next: self.next,
             pairs: self.pairs,
+            stack: BoundedStack::new(),
         })
     }
 
@@ -137,21 +141,23 @@ impl<'a, P: Part> Machine<'a, P> {
         ensures err { OnErr result ((self.new ≡ self.old) × WantsMemory self.old) }
     {
         let loaded = self.loaded;
-        let statement = loaded.statement(self.next as usize);
+        let (word, line, operands) = loaded.operands(self.next as usize);
         match carry_out(
             alloc,
+            &mut self.stack,
             self.part,
             &mut self.world,
             &mut self.pairs,
             self.next,
-            &statement.op,
+            word,
+            operands,
         ) {
             Ok(next) => {
                 self.next = next;
                 Ok(())
             }
             Err(Halt::Stop(stop)) => {
-                self.world.set_stop(stop, self.next, statement.line);
+                self.world.set_stop(stop, self.next, line);
                 Ok(())
             }
             Err(Halt::NoMemory) => Err(NoMemory),

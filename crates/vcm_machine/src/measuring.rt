@@ -10,33 +10,31 @@ ghost use Rattle.vcm_spec.specs.Effect.{effect};
 ghost use Rattle.vcm_spec.specs.Fitting.{AreLengths};
 ghost use Rattle.vcm_state.specs.Carried.{Carried};
 ghost use Rattle.vcm_code.specs.Valid.{HasItems};
+ghost use Rattle.vcm_fields.specs.Readers.{Begins, OfFirst, both, variable_at, expression_at, three_at, axis_at, direction_at, setting_at};
 
 use crate::acting::{three_lengths, value};
-use std::alloc::Global;
-use vcm_fields::ItemSlice;
+use vcm_expr::BoundedStack;
+use vcm_fields::{axis, direction, known, setting, short};
 use vcm_motion::Part;
-use vcm_num::Axis;
-use vcm_spec::{Setting, Stop};
+use vcm_spec::Stop;
 use vcm_state::World;
 
 /// FEAT: the feature at an index is declared at a point, whose coordinates are evaluated in the order x, y, z.
 ///
 /// Errors: the first fault of an expression. The state is then as it was.
 pub(crate) fn declare(
-    alloc: Global,
+    stack: &mut BoundedStack<i64>,
     world: &mut World,
-    feature: u16,
-    x: &ItemSlice<'_>,
-    y: &ItemSlice<'_>,
-    z: &ItemSlice<'_>,
-    toward: Axis,
+    bytes: &[u8],
 ) -> Result<(), Stop>
-    requires feature { feature < length world.old.tables.features }
-    requires lengths { AreLengths (HasItems world.old.tables) x.now y.now z.now }
-    ensures carried { (part : Workpiece) → Carried (effect items_value (setup_of part world.old.tables) world.old.state (Feat feature x.now y.now z.now toward)) world.old.state world.new.state result }
+    requires { Begins (both variable_at (both three_at axis_at)) (λ o. (o.0 < length world.old.tables.features) × AreLengths (HasItems world.old.tables) o.1.0.0 o.1.0.1.0 o.1.0.1.1) bytes.now }
+    ensures carried { (part : Workpiece) → OfFirst (both variable_at (both three_at axis_at)) bytes.now (λ o rest.
+        Carried (effect items_value (setup_of part world.old.tables) world.old.state (Feat o.0 o.1.0.0 o.1.0.1.0 o.1.0.1.1 o.1.1)) world.old.state world.new.state result) }
     ensures tables { world.new.tables ≡ world.old.tables }
 {
-    let at = three_lengths(alloc, world, x, y, z)?;
+    let (feature, rest) = known(short(bytes));
+    let (at, rest) = three_lengths(stack, world, rest)?;
+    let (toward, _) = known(axis(rest));
     world.feat(feature, at.x, at.y, at.z, toward)
 }
 
@@ -44,21 +42,19 @@ pub(crate) fn declare(
 ///
 /// Errors: the first fault of an expression, and those of the measurement. The state is then as it was.
 pub(crate) fn measure<P: Part>(
-    alloc: Global,
+    stack: &mut BoundedStack<i64>,
     part: &P,
     world: &mut World,
-    feature: u16,
-    x: &ItemSlice<'_>,
-    y: &ItemSlice<'_>,
-    z: &ItemSlice<'_>,
-    toward: Option<Axis>,
+    bytes: &[u8],
 ) -> Result<(), Stop>
-    requires feature { feature < length world.old.tables.features }
-    requires lengths { AreLengths (HasItems world.old.tables) x.now y.now z.now }
-    ensures carried { Carried (effect items_value (setup_of (P.part part.now) world.old.tables) world.old.state (PtMeas feature x.now y.now z.now toward)) world.old.state world.new.state result }
+    requires { Begins (both variable_at (both three_at direction_at)) (λ o. (o.0 < length world.old.tables.features) × AreLengths (HasItems world.old.tables) o.1.0.0 o.1.0.1.0 o.1.0.1.1) bytes.now }
+    ensures carried { OfFirst (both variable_at (both three_at direction_at)) bytes.now (λ o rest.
+        Carried (effect items_value (setup_of (P.part part.now) world.old.tables) world.old.state (PtMeas o.0 o.1.0.0 o.1.0.1.0 o.1.0.1.1 o.1.1)) world.old.state world.new.state result) }
     ensures tables { world.new.tables ≡ world.old.tables }
 {
-    let nominal = three_lengths(alloc, world, x, y, z)?;
+    let (feature, rest) = known(short(bytes));
+    let (nominal, rest) = three_lengths(stack, world, rest)?;
+    let (toward, _) = known(direction(rest));
     world.ptmeas(part, feature, nominal.x, nominal.y, nominal.z, toward)
 }
 
@@ -66,15 +62,16 @@ pub(crate) fn measure<P: Part>(
 ///
 /// Errors: a fault of the expression, and `BadSetting`. The state is then as it was.
 pub(crate) fn set_length(
-    alloc: Global,
+    stack: &mut BoundedStack<i64>,
     world: &mut World,
-    which: Setting,
-    e: &ItemSlice<'_>,
+    bytes: &[u8],
 ) -> Result<(), Stop>
-    requires { HasItems world.old.tables e.now Real }
-    ensures carried { (part : Workpiece) → Carried (effect items_value (setup_of part world.old.tables) world.old.state (SnSet which e.now)) world.old.state world.new.state result }
+    requires { Begins (both setting_at expression_at) (λ o. HasItems world.old.tables o.1 Real) bytes.now }
+    ensures carried { (part : Workpiece) → OfFirst (both setting_at expression_at) bytes.now (λ o rest.
+        Carried (effect items_value (setup_of part world.old.tables) world.old.state (SnSet o.0 o.1)) world.old.state world.new.state result) }
     ensures tables { world.new.tables ≡ world.old.tables }
 {
-    let length = value(alloc, world, e)?;
+    let (which, rest) = known(setting(bytes));
+    let (length, _) = value(stack, world, rest)?;
     world.snset(which, length)
 }

@@ -9,42 +9,40 @@ ghost use Rattle.vcm_spec.specs.Simple.{Obtain, Output};
 ghost use Rattle.vcm_spec.specs.Effect.{effect};
 ghost use Rattle.vcm_spec.specs.Fitting.{kinds};
 ghost use Rattle.vcm_state.specs.Carried.{Carried, CarriedOrHalted};
+ghost use Rattle.vcm_fields.specs.Readers.{Begins, OfFirst, both, variable_at, source_at, part_at};
 
 use std::alloc::Global;
-use vcm_spec::{Source, Stop};
+use vcm_fields::{known, part, short, source};
+use vcm_spec::Stop;
 use vcm_state::{Halt, World};
 
 /// OBTAIN: the variable at an index gets a word of a feature.
 ///
 /// Errors: `Undefined` where the feature isn't declared, or isn't measured. The state is then as it was.
-pub(crate) fn obtain(
-    world: &mut World,
-    variable: u16,
-    source: Source,
-    feature: u16,
-    word: u8,
-) -> Result<(), Stop>
-    requires variable { slice_get (kinds world.old.tables) variable ≡ Some Real }
-    requires feature { feature < length world.old.tables.features }
-    requires word { (3 ≤ word) × (word ≤ 8) }
-    ensures carried { (part : Workpiece) → Carried (effect items_value (setup_of part world.old.tables) world.old.state (Obtain variable source feature word)) world.old.state world.new.state result }
+pub(crate) fn obtain(world: &mut World, bytes: &[u8]) -> Result<(), Stop>
+    requires { Begins (both variable_at (both source_at (both variable_at part_at)))
+        (λ o. (slice_get (kinds world.old.tables) o.0 ≡ Some Real) × (o.1.1.0 < length world.old.tables.features) × ((3 ≤ o.1.1.1) × (o.1.1.1 ≤ 8))) bytes.now }
+    ensures carried { (setting : Workpiece) → OfFirst (both variable_at (both source_at (both variable_at part_at))) bytes.now (λ o rest.
+        Carried (effect items_value (setup_of setting world.old.tables) world.old.state (Obtain o.0 o.1.0 o.1.1.0 o.1.1.1)) world.old.state world.new.state result) }
     ensures tables { world.new.tables ≡ world.old.tables }
 {
+    let (variable, rest) = known(short(bytes));
+    let (source, rest) = known(source(rest));
+    let (feature, rest) = known(short(rest));
+    let (word, _) = known(part(rest));
     world.obtain(variable, source, feature, word)
 }
 
 /// OUTPUT: one more output line, which tells a feature.
 ///
 /// Errors: the stops `Undefined` and `OutputFull`, or want of memory. The state is then as it was.
-pub(crate) fn output(
-    alloc: Global,
-    world: &mut World,
-    source: Source,
-    feature: u16,
-) -> Result<(), Halt>
-    requires { feature < length world.old.tables.features }
-    ensures carried { (part : Workpiece) → CarriedOrHalted (effect items_value (setup_of part world.old.tables) world.old.state (Output source feature)) world.old.state world.new.state result }
+pub(crate) fn output(alloc: Global, world: &mut World, bytes: &[u8]) -> Result<(), Halt>
+    requires { Begins (both source_at variable_at) (λ o. o.1 < length world.old.tables.features) bytes.now }
+    ensures carried { (setting : Workpiece) → OfFirst (both source_at variable_at) bytes.now (λ o rest.
+        CarriedOrHalted (effect items_value (setup_of setting world.old.tables) world.old.state (Output o.0 o.1)) world.old.state world.new.state result) }
     ensures tables { world.new.tables ≡ world.old.tables }
 {
+    let (source, rest) = known(source(bytes));
+    let (feature, _) = known(short(rest));
     world.output(alloc, source, feature)
 }

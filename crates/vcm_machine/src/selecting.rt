@@ -7,11 +7,12 @@ ghost use Rattle.vcm_code.specs.declared.pair.Pair.{Pair};
 ghost use Rattle.vcm_code.specs.Code.{Select};
 ghost use Rattle.vcm_code.specs.CodeTable.{target_for as target_of, do_op};
 ghost use Rattle.vcm_code.specs.Valid.{HasItems};
+ghost use Rattle.vcm_fields.specs.Readers.{Begins, OfFirst, both, expression_at, branches_at, target_at};
 ghost use Rattle.vcm_machine.specs.inner.Going.{HasTurned};
 
 use crate::acting::value;
-use std::alloc::Global;
-use vcm_fields::{BranchSlice, ItemSlice};
+use vcm_expr::BoundedStack;
+use vcm_fields::{BranchSlice, known, long, read_branches};
 use vcm_spec::Stop;
 use vcm_state::World;
 
@@ -33,16 +34,17 @@ fn target_for(value: i64, branches: &BranchSlice<'_>, last: u32) -> u32
 ///
 /// Errors: a fault of its value. All is then as it was.
 pub(crate) fn select(
-    alloc: Global,
+    stack: &mut BoundedStack<i64>,
     world: &World,
-    items: &ItemSlice<'_>,
-    branches: &BranchSlice<'_>,
     next: u32,
-    target: u32,
+    bytes: &[u8],
 ) -> Result<u32, Stop>
-    requires { HasItems world.now.tables items.now Kind.Int }
-    ensures { (setup : Setup) → (line : ℕ) → (ps : List Pair) → HasTurned (do_op setup (Select items.now branches.now target) line world.now.state next ps) next line world.now.state world.now.state ps ps result }
+    requires { Begins (both expression_at (both branches_at target_at)) (λ o. HasItems world.now.tables o.0 Kind.Int) bytes.now }
+    ensures { (setup : Setup) → (line : ℕ) → (ps : List Pair) → OfFirst (both expression_at (both branches_at target_at)) bytes.now (λ o rest.
+        HasTurned (do_op setup (Select o.0 o.1.0 o.1.1) line world.now.state next ps) next line world.now.state world.now.state ps ps result) }
 {
-    let wanted = value(alloc, world, items)?;
-    Ok(target_for(wanted, branches, target))
+    let (wanted, rest) = value(stack, world, bytes)?;
+    let (branches, rest) = known(read_branches(rest));
+    let (last, _) = known(long(rest));
+    Ok(target_for(wanted, &branches, last))
 }

@@ -122,5 +122,5 @@ pub fn write_statement<W: Write>(
     ensures { (s : Line) → slice_get loaded.now.statements n ≡ Some s → Wrote (W.contents writer.old) (W.contents writer.new) (listed (Numbered n s)) result }
 {
     let statement = loaded.statement(n);
-    write_line(n, statement, writer)
+    write_line(n, &statement, writer)
 }

@@ -151,7 +151,8 @@ fn first_items(alloc: Global, bytes: &[u8]) -> Option<ItemSlice<'_>> {
     if loaded.statement_count() == 0 {
         return None;
     }
-    match &loaded.statement(0).op {
+    let first = loaded.statement(0);
+    match &first.op {
         Op::Goto(x, _, _) => Some(x.again()),
         _ => None,
     }
@@ -182,7 +183,8 @@ fn first_text(alloc: Global, bytes: &[u8]) -> Option<TextSlice<'_>> {
     if loaded.statement_count() == 0 {
         return None;
     }
-    match &loaded.statement(0).op {
+    let first = loaded.statement(0);
+    match &first.op {
         Op::Text(text) => Some(text.again()),
         _ => None,
     }
@@ -214,8 +216,9 @@ fn height(alloc: Global, bytes: &[u8]) -> Option<i64> {
     if loaded.statement_count() == 0 || loaded.variable_count() != 0 {
         return None;
     }
-    match &loaded.statement(0).op {
-        Op::Goto(_, _, _) => loaded.value(alloc, 0, 2, &[]).ok(),
+    let first = loaded.statement(0);
+    match &first.op {
+        Op::Goto(_, _, _) => loaded.value(0, 2, &[]).ok(),
         _ => None,
     }
 }

@@ -62,7 +62,7 @@ fn step_on<P: Part, W: Write>(
     let number = machine.next();
     let statement = loaded.statement(number as usize);
     match machine.step(alloc) {
-        Ok(()) => write_line(done + 1, number, statement, machine, writer),
+        Ok(()) => write_line(done + 1, number, &statement, machine, writer),
         Err(_) => Err(TraceFault::Memory { done }),
     }
 }
@@ -79,7 +79,7 @@ fn write_rest<P: Part, W: Write>(
         (open_at done machine.now.state (slice_get loaded.now.statements machine.now.state.next)) result }
 {
     let next = machine.next();
-    let line = loaded.statement(next as usize).line;
+    let line = loaded.line(next as usize);
     match write_open(done, next, line, machine.world(), writer) {
         Ok(()) => Ok(()),
         Err(_) => Err(TraceFault::Write { done }),

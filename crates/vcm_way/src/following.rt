@@ -55,7 +55,6 @@ pub(crate) struct Before {
 
 // What is known before the next step.
 fn look<P: Part>(
-    alloc: Global,
     loaded: &Loaded<'_>,
     home: Point,
     machine: &Machine<'_, P>,
@@ -73,7 +72,7 @@ fn look<P: Part>(
         line: statement.line,
         position: world.position(),
         settings: world.settings(),
-        task: task_of(alloc, world, home, &statement.op),
+        task: task_of(world, home, &statement.op),
     }
 }
 
@@ -163,7 +162,7 @@ fn follow_step<'a, P: Part>(
     ensures done { IfOk result (λ b. b ≡ true → HasStepped step machine.old machine.new marks.old marks.new) }
     ensures refused { IfOk result (λ b. b ≡ false → (machine.new ≡ machine.old) × (marks.new ≡ marks.old) × WantsMemory machine.old) }
 {
-    let before = look(alloc, loaded, blocks.bounds().home, machine);
+    let before = look(loaded, blocks.bounds().home, machine);
     if machine.step(alloc).is_err() {
         return Ok(false);
     }

@@ -14,7 +14,6 @@ ghost use Rattle.vcm_code.specs.Valid.{HasItems, OpFits};
 ghost use Rattle.vcm_way.specs.Tasks.{task_of};
 ghost use Rattle.vcm_way.specs.inner.Told.{point_in};
 
-use std::alloc::Global;
 use vcm_code::Op;
 use vcm_fields::{BorrowedOp, ItemSlice};
 use vcm_loader::items_value;
@@ -41,11 +40,11 @@ pub(crate) enum Task {
 // The value of an expression in a state of the machine.
 //
 // Errors: `Overflow` or `DivZero`.
-fn value(alloc: Global, world: &World, e: &ItemSlice<'_>) -> Result<i64, Stop>
+fn value(world: &World, e: &ItemSlice<'_>) -> Result<i64, Stop>
     requires { (k : Kind) × HasItems world.now.tables e.now k }
     ensures { Answers (calculated (items_value world.now.state.variables e.now)) result }
 {
-    match items_value(alloc, e, world.variables()) {
+    match items_value(e, world.variables()) {
         Ok(value) => Ok(value),
         Err(Fault::Overflow) => Err(Stop::Overflow),
         Err(Fault::DivZero) => Err(Stop::DivZero),
@@ -56,7 +55,6 @@ fn value(alloc: Global, world: &World, e: &ItemSlice<'_>) -> Result<i64, Stop>
 //
 // Errors: `Overflow` or `DivZero`.
 fn machine_point(
-    alloc: Global,
     world: &World,
     x: &ItemSlice<'_>,
     y: &ItemSlice<'_>,
@@ -65,9 +63,9 @@ fn machine_point(
     requires { AreLengths (HasItems world.now.tables) x.now y.now z.now }
     ensures { Answers (point_in world.now.state x.now y.now z.now) result }
 {
-    let x = value(alloc, world, x)?;
-    let y = value(alloc, world, y)?;
-    let z = value(alloc, world, z)?;
+    let x = value(world, x)?;
+    let y = value(world, y)?;
+    let z = value(world, z)?;
     world.frame().apply(Point::new(x, y, z))
 }
 
@@ -89,7 +87,6 @@ fn direction(world: &World, feature: u16, toward: Option<Axis>) -> Result<Axis, 
 
 // A GOTO.
 fn straight(
-    alloc: Global,
     world: &World,
     x: &ItemSlice<'_>,
     y: &ItemSlice<'_>,
@@ -98,7 +95,7 @@ fn straight(
     requires { AreLengths (HasItems world.now.tables) x.now y.now z.now }
     ensures { (home : Place) → result ≡ task_of home world.now.state (Plain (Goto x.now y.now z.now)) }
 {
-    match machine_point(alloc, world, x, y, z) {
+    match machine_point(world, x, y, z) {
         Ok(to) => Task::Straight(to),
         Err(_) => Task::Nowhere,
     }
@@ -106,7 +103,6 @@ fn straight(
 
 // A PTMEAS.
 fn measure(
-    alloc: Global,
     world: &World,
     feature: u16,
     x: &ItemSlice<'_>,
@@ -118,7 +114,7 @@ fn measure(
     ensures { (home : Place) → result ≡ task_of home world.now.state (Plain (PtMeas feature x.now y.now z.now toward)) }
 {
     match direction(world, feature, toward) {
-        Ok(toward) => match machine_point(alloc, world, x, y, z) {
+        Ok(toward) => match machine_point(world, x, y, z) {
             Ok(nominal) => Task::Measure(Measuring {
                 nominal,
                 toward: world.frame().direction(toward),
@@ -131,15 +127,15 @@ fn measure(
 }
 
 /// Where a statement sends the probe, from a state of the machine; nowhere, where it stops before that is known.
-pub(crate) fn task_of(alloc: Global, world: &World, home: Point, op: &BorrowedOp<'_>) -> Task
+pub(crate) fn task_of(world: &World, home: Point, op: &BorrowedOp<'_>) -> Task
     requires { (count : ℕ) × OpFits world.now.tables count (op_of op.now) }
     ensures { result ≡ task_of home world.now.state (op_of op.now) }
 {
     match op {
-        Op::Goto(x, y, z) => straight(alloc, world, x, y, z),
+        Op::Goto(x, y, z) => straight(world, x, y, z),
         Op::GoHome => Task::Straight(home),
         Op::PtMeas(feature, x, y, z, toward) => {
-            measure(alloc, world, *feature, x, y, z, *toward)
+            measure(world, *feature, x, y, z, *toward)
         }
         _ => Task::Nowhere,
     }

@@ -3,7 +3,7 @@ use Rattle.std.specs.Prelude.{◌≡◌, ℕ, List, [], Result, Ok, Err}
 use Rattle.vcm_spec.specs.declared.expression.Item.{Item}
 use Rattle.vcm_fields.specs.declared.fault.ImageFault.{ImageFault}
 use Rattle.vcm_code.specs.declared.branch.Branch.{Branch}
-use Rattle.vcm_fields.specs.Readers.{Reader, times, item_at, branch_at}
+use Rattle.vcm_fields.specs.Readers.{times, item_at, branch_at}
 
 -- what was read, or nothing
 abbrev pub read_or_nil : {A : Type 0} → Result (List A × List ℕ) ImageFault → List A

@@ -1,11 +1,10 @@
--- Where the variables and names of an image begin, and its statements.
+-- Where the variables, names and statements of an image begin.
 use Rattle.std.specs.Prelude.{◌≡◌, ℕ, ◌≤◌, ◌++◌, List, [], ◌∷◌, length, drop, Result, Ok, Err}
 use Rattle.vcm_code.specs.declared.version.Version.{Version}
 use Rattle.vcm_code.specs.declared.version.Version.TheVariants.{One}
 use Rattle.vcm_code.specs.declared.code.Code.{Code}
 use Rattle.vcm_fields.specs.declared.fault.ImageFault.{ImageFault}
-use Rattle.vcm_fields.specs.Parts.{Line}
-use Rattle.vcm_fields.specs.Readers.{Reader, times, entry_at, name_at}
+use Rattle.vcm_fields.specs.Readers.{Reader, times, entry_at, name_at, line_at}
 use Rattle.vcm_image.specs.Whole.{FitsImage, code_at}
 
 -- the code that the bytes spell, or an empty one
@@ -35,12 +34,12 @@ pub record Table {A : Type 0} (a : Reader A) (count : ℕ) (whole bytes starts r
   pub begin : Begin a whole starts values
   pub end : IsEnd whole rest
 
--- the bytes spell a code of this version, its variables and names begin at these places, and these are its statements
-pub record Indexed (bytes : List ℕ) (version : Version) (variables features frames : List ℕ) (statements : List Line) : Type 0 where
+-- the bytes spell a code of this version, whose variables, names and statements begin at these places
+pub record Indexed (bytes : List ℕ) (version : Version) (variables features frames statements : List ℕ) : Type 0 where
   pub is : code_at bytes ≡ Ok (code_in bytes)
   pub fits : FitsImage (code_in bytes)
   pub version_is : version ≡ (code_in bytes).version
   pub variables_begin : Begin entry_at bytes variables (code_in bytes).tables.variables
   pub features_begin : Begin name_at bytes features (code_in bytes).tables.features
   pub frames_begin : Begin name_at bytes frames (code_in bytes).tables.frames
-  pub statements_are : statements ≡ (code_in bytes).statements
+  pub statements_begin : Begin (line_at version) bytes statements (code_in bytes).statements

@@ -30,13 +30,13 @@ returns-in_err-frames c =
 pub returns-in_err-statements : goal.returns-in_err-statements
 returns-in_err-statements c =
     let p = err_from_is_err_and c.from_residual-in_err-statements.result c.from_residual-in_err-statements.ensures.1 in
-    rw (p.1, p.2) (statements_fail _ _ _ c.in_ok-counts.ensures _ _ c.in_ok-variables.ensures.ok _ _ c.in_ok-features.ensures.ok _ _ c.in_ok-frames.ensures.ok _ c.in_err-statements.ensures)
+    rw (p.1, p.2) (statements_fail _ _ _ c.in_ok-counts.ensures _ _ c.in_ok-variables.ensures.ok _ _ c.in_ok-features.ensures.ok _ _ c.in_ok-frames.ensures.ok _ c.in_err-statements.ensures.err)
 
 pub returns-then-not-is_empty : goal.returns-then-not-is_empty
-returns-then-not-is_empty c = left_over _ _ _ c.in_ok-counts.ensures _ _ c.in_ok-variables.ensures.ok _ _ c.in_ok-features.ensures.ok _ _ c.in_ok-frames.ensures.ok _ _ c.in_ok-statements.ensures (not_zero _ (sym c.is_empty.ensures ∙ c.if-not-is_empty.true))
+returns-then-not-is_empty c = left_over _ _ _ c.in_ok-counts.ensures _ _ c.in_ok-variables.ensures.ok _ _ c.in_ok-features.ensures.ok _ _ c.in_ok-frames.ensures.ok _ _ c.in_ok-statements.ensures.ok (not_zero _ (sym c.is_empty.ensures ∙ c.if-not-is_empty.true))
 
 pub invariant_of-result : goal.invariant_of-result
-invariant_of-result c = indexed _ _ _ c.in_ok-counts.ensures _ _ c.in_ok-variables.ensures.ok _ _ c.in_ok-features.ensures.ok _ _ c.in_ok-frames.ensures.ok _ _ c.in_ok-statements.ensures (λ i. omega (arith, c.type_inv.bytes i)) (eqb-true _ _ (sym c.is_empty.ensures ∙ c.if-not-is_empty.false))
+invariant_of-result c = indexed _ _ _ c.in_ok-counts.ensures _ _ c.in_ok-variables.ensures.ok _ _ c.in_ok-features.ensures.ok _ _ c.in_ok-frames.ensures.ok _ _ c.in_ok-statements.ensures.ok (λ i. omega (arith, c.type_inv.bytes i)) (eqb-true _ _ (sym c.is_empty.ensures ∙ c.if-not-is_empty.false))
 
 pub returns : goal.returns
-returns c = (indexed _ _ _ c.in_ok-counts.ensures _ _ c.in_ok-variables.ensures.ok _ _ c.in_ok-features.ensures.ok _ _ c.in_ok-frames.ensures.ok _ _ c.in_ok-statements.ensures (λ i. omega (arith, c.type_inv.bytes i)) (eqb-true _ _ (sym c.is_empty.ensures ∙ c.if-not-is_empty.false))).is
+returns c = (indexed _ _ _ c.in_ok-counts.ensures _ _ c.in_ok-variables.ensures.ok _ _ c.in_ok-features.ensures.ok _ _ c.in_ok-frames.ensures.ok _ _ c.in_ok-statements.ensures.ok (λ i. omega (arith, c.type_inv.bytes i)) (eqb-true _ _ (sym c.is_empty.ensures ∙ c.if-not-is_empty.false))).is

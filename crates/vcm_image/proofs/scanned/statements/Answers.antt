@@ -1,18 +1,20 @@
+use Rattle.std.proofs.Common.{arith}
 use Rattle.std.proofs.lemmas.Result.{err_from_is_err_and}
 use Rattle.vcm_fields.specs.Readers.{line_at}
-use Rattle.vcm_image.proofs.Tables.{none_read, one_more, one_fails, all_read}
+use Rattle.vcm_fields.proofs.StatementParts.{reads_line}
+use Rattle.vcm_image.proofs.Tables.{filling, filled_more, filled_fails, filled}
 use Rattle.vcm_image.proofs.scanned.statements.Goals as goal
 
 pub loop-init : goal.loop-init
-loop-init c = rw (c.from_vec-read.ensures, c.in_ok-with_capacity.ensures.items) (none_read (line_at c.args.version) _ _)
+loop-init c = rw c.in_ok-starts.ensures.items (filling (line_at c.args.version) _ _ _ c.requires (λ i. omega (arith, c.type_inv.bytes i)))
 
-pub returns-in_err-next : goal.returns-in_err-next
-returns-in_err-next c =
-    let p = err_from_is_err_and c.from_residual-in_err-next.result c.from_residual-in_err-next.ensures.1 in
-    rw (p.1, p.2) (one_fails (line_at c.args.version) _ _ _ _ _ _ c.loop.invariant c.loop-test.true c.in_err-next.ensures)
+pub returns-in_err-_statement-clause-err : goal.returns-in_err-_statement-clause-err
+returns-in_err-_statement-clause-err c =
+    let p = err_from_is_err_and c.from_residual-in_err-_statement.result c.from_residual-in_err-_statement.ensures.1 in
+    rw (p.1, p.2) (filled_fails (line_at c.args.version) _ _ _ _ _ _ _ c.loop.invariant c.loop-test.true c.in_err-_statement.ensures)
 
 pub loop-preserved : goal.loop-preserved
-loop-preserved c = one_more (line_at c.args.version) _ _ _ _ _ _ _ _ c.loop.invariant c.loop-test.true c.in_ok-next.ensures c.in_ok-push.ensures.ok
+loop-preserved c = filled_more (reads_line c.args.version) _ _ _ _ _ _ _ _ _ c.loop.invariant c.loop-test.true c.in_ok-_statement.ensures c.in_ok-push.ensures.items
 
-pub returns : goal.returns
-returns c = all_read (line_at c.args.version) _ _ _ _ _ c.loop.invariant c.loop-test.false
+pub returns-clause-ok : goal.returns-clause-ok
+returns-clause-ok c = filled (line_at c.args.version) _ _ _ _ _ _ c.loop.invariant c.loop-test.false

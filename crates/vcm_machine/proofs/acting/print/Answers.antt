@@ -6,10 +6,10 @@ use Rattle.vcm_machine.proofs.LoopBranches.{some_part}
 use Rattle.vcm_machine.proofs.acting.print.Goals as goal
 
 pub returns-clause-carried : goal.returns-clause-carried
-returns-clause-carried c part =
-    let said = text_effect (setup_of part c.args.world.now.tables) c.args.world.now.state c.args.text.now in
+returns-clause-carried c part t rest h =
+    let said = text_effect (setup_of part c.args.world.now.tables) c.args.world.now.state t in
     subst (λ o. CarriedOrHalted o c.args.world.now.state c.text.new.self.state c.text.result) (sym said)
-    (rw c.as_bytes.ensures at (c.text.ensures part)).0
+    (rw (c.as_bytes.ensures, c.known_text.ensures t rest h) at (c.text.ensures part)).0
 
 pub returns-clause-tables : goal.returns-clause-tables
 returns-clause-tables c = (c.text.ensures some_part).1

@@ -1,24 +1,46 @@
-use Rattle.std.proofs.Common.{refl, sym, subst, rules, FitsSigned, w64, to_z-of_z}
+use Rattle.std.proofs.Common.{ℕ, List, ap, refl, sym, ◌∙◌, subst, rules, FitsSigned, w64, to_z-of_z}
 use Rattle.std.proofs.lemmas.Result.{err_from_is_err_and}
 use Rattle.vcm_spec.specs.Setup.{setup_of}
 use Rattle.vcm_state.specs.Carried.{Carried}
+use Rattle.vcm_fields.specs.Readers.{both, variable_at, three_at, axis_at}
+use Rattle.vcm_fields.proofs.Taking.{never_fails, gives_it, both_are}
 use Rattle.vcm_machine.proofs.Effects.{feat_stops, feat_goes}
 use Rattle.vcm_machine.proofs.LoopBranches.{some_part}
+use Rattle.vcm_machine.proofs.Reading.{read_first, stands_first}
 use Rattle.vcm_machine.proofs.measuring.declare.Goals as goal
+
+pub three_lengths-requires : goal.three_lengths-requires
+three_lengths-requires c =
+    let r = stands_first _ _ variable_at (both three_at axis_at) _ _ _ _ c.short.ensures c.known-feature.ensures c.requires.2 in
+    let t = both_are three_at axis_at _ _ _ r in
+    (c.requires.0.1.0, t.0, t.1, c.requires.3.1)
+
+pub known-toward-requires : goal.known-toward-requires
+known-toward-requires c =
+    let r = stands_first _ _ variable_at (both three_at axis_at) _ _ _ _ c.short.ensures c.known-feature.ensures c.requires.2 in
+    let t = both_are three_at axis_at _ _ _ r in
+    never_fails _ _ _ _ c.axis.ensures (ap axis_at (c.in_ok-at.ensures.lengths _ _ t.1).1 ∙ t.2)
 
 pub returns-in_err-at-clause-carried : goal.returns-in_err-at-clause-carried
 returns-in_err-at-clause-carried c part =
     let p = err_from_is_err_and c.from_residual.result c.from_residual.ensures.1 in
-    rw (p.1, p.2) (feat_stops (setup_of part c.args.world.now.tables) c.args.world.now.state c.args.x.now c.args.y.now c.args.z.now c.args.feature c.args.toward _ c.in_err-at.ensures, refl)
+    rw (p.1, p.2) (λ o rest h.
+    let r = read_first _ _ variable_at (both three_at axis_at) _ o rest _ c.short.ensures c.known-feature.ensures h in
+    let t = both_are three_at axis_at _ o.1 rest r.1 in
+    (feat_stops (setup_of part c.args.world.now.tables) c.args.world.now.state o.1.0.0 o.1.0.1.0 o.1.0.1.1 o.0 o.1.1 _ (c.in_err-at.ensures.fault o.1.0 t.0 t.1), refl))
 
 pub returns-clause-carried : goal.returns-clause-carried
-returns-clause-carried c part =
-    let all = feat_goes (setup_of part c.args.world.now.tables) c.args.world.now.state c.args.x.now c.args.y.now c.args.z.now c.args.feature c.args.toward _ c.in_ok-at.ensures in
+returns-clause-carried c part o rest h =
+    let r = read_first _ _ variable_at (both three_at axis_at) _ o rest _ c.short.ensures c.known-feature.ensures h in
+    let t = both_are three_at axis_at _ o.1 rest r.1 in
+    let lengths = c.in_ok-at.ensures.lengths o.1.0 t.0 t.1 in
+    let toward = ap (λ (q : _ × List ℕ). q.0) (gives_it _ _ _ _ _ c.axis.ensures (ap axis_at lengths.1 ∙ t.2) c.known-toward.ensures) in
+    let all = feat_goes (setup_of part c.args.world.now.tables) c.args.world.now.state o.1.0.0 o.1.0.1.0 o.1.0.1.1 o.0 o.1.1 _ lengths.0 in
     let fx : FitsSigned w64 c.in_ok-at.at.x = search rules in
     let fy : FitsSigned w64 c.in_ok-at.at.y = search rules in
     let fz : FitsSigned w64 c.in_ok-at.at.z = search rules in
     subst (λ o. Carried o c.args.world.now.state c.feat.new.self.state c.feat.result) (sym all)
-    (rw (to_z-of_z fx, to_z-of_z fy, to_z-of_z fz) at (c.feat.ensures part).0)
+    (rw (to_z-of_z fx, to_z-of_z fy, to_z-of_z fz, r.0, toward) at (c.feat.ensures part).0)
 
 pub returns-clause-tables : goal.returns-clause-tables
 returns-clause-tables c = (c.feat.ensures some_part).1

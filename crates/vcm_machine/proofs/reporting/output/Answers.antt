@@ -1,14 +1,19 @@
-use Rattle.std.proofs.Common.{sym, subst}
+use Rattle.std.proofs.Common.{ℕ, List, ap, sym, subst}
 use Rattle.vcm_spec.specs.Setup.{setup_of}
 use Rattle.vcm_state.specs.Carried.{CarriedOrHalted}
+use Rattle.vcm_fields.specs.Readers.{variable_at, source_at}
+use Rattle.vcm_fields.proofs.Taking.{gives_it}
 use Rattle.vcm_machine.proofs.Effects.{output_effect}
 use Rattle.vcm_machine.proofs.LoopBranches.{some_part}
+use Rattle.vcm_machine.proofs.Reading.{read_first}
 use Rattle.vcm_machine.proofs.reporting.output.Goals as goal
 
 pub returns-clause-carried : goal.returns-clause-carried
-returns-clause-carried c part =
-    let is = output_effect (setup_of part c.args.world.now.tables) c.args.world.now.state c.args.source c.args.feature in
-    subst (λ o. CarriedOrHalted o c.args.world.now.state c.output.new.self.state c.output.result) (sym is) (c.output.ensures part).0
+returns-clause-carried c setting o rest h =
+    let s = read_first _ _ source_at variable_at c.args.bytes.now o rest _ c.source.ensures c.known-source.ensures h in
+    let f = ap (λ (t : ℕ × List ℕ). t.0) (gives_it _ _ _ _ _ c.short.ensures s.1 c.known-feature.ensures) in
+    let is = output_effect (setup_of setting c.args.world.now.tables) c.args.world.now.state o.0 o.1 in
+    subst (λ o. CarriedOrHalted o c.args.world.now.state c.output.new.self.state c.output.result) (sym is) (rw (s.0, f) at (c.output.ensures setting).0)
 
 pub returns-clause-tables : goal.returns-clause-tables
 returns-clause-tables c = (c.output.ensures some_part).1

@@ -15,7 +15,7 @@ use Rattle.vcm_way.proofs.following.look.Goals as goal
 pub task_of-requires : goal.task_of-requires
 task_of-requires g c =
     let ss = c.args.loaded.now.statements in
-    let s = c.statement-statement.result.now in
+    let s = c.statement-statement.result in
     let fit = op_fits_at c.args.loaded.now.tables (length (statements_of ss)) ss c.next-number.result s c.statement_count-count.ensures.valid.fit c.statement-statement.ensures in
     let tables : c.world-world.result.now.tables ≡ c.args.loaded.now.tables = c.world-world.ensures.tables ∙ ap (λ (k : Code). k.tables) c.requires.code in
     (length (statements_of ss), subst (λ (t : Tables). OpFits t (length (statements_of ss)) (op_of s.op)) (sym tables) fit)
@@ -24,7 +24,7 @@ pub returns : goal.returns
 returns g c =
     let m = c.args.machine.now in
     let ss = c.args.loaded.now.statements in
-    let s = c.statement-statement.result.now in
+    let s = c.statement-statement.result in
     let position : c.position.result ≡ m.state.world.position = c.position.ensures ∙ ap (λ (w : World). w.position) c.world-world.ensures.state in
     record {
       statement = statement_of s;

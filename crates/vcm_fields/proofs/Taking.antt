@@ -1,0 +1,109 @@
+-- What a reader took, taken apart: where it gave a value, each of its parts did.
+use Rattle.std.proofs.Common.{◌≡◌, ℕ, Bool, true, List, Result, Ok, Err, IfErr, if◌then◌else◌, nat_le, refl, sym, ap, subst, ◌∙◌}
+use Rattle.std.specs.Int.{w16, w32}
+use Rattle.vcm_spec.specs.declared.expression.Item.{Item}
+use Rattle.vcm_spec.specs.TextBytes.{is_text}
+use Rattle.vcm_code.specs.declared.version.Version.{Version}
+use Rattle.vcm_fields.specs.declared.word.Word.{Word}
+use Rattle.vcm_fields.specs.Parts.{Line}
+use Rattle.vcm_fields.specs.declared.fault.ImageFault.{ImageFault}
+use Rattle.vcm_fields.specs.declared.fault.ImageFault.TheVariants.{BadField}
+use Rattle.vcm_fields.specs.Fitting.{within}
+use Rattle.vcm_spec.specs.Results.{◌>>=◌}
+use Rattle.vcm_fields.specs.Readers.{Reader, Gives, both, via, after, tested, times, number_at, bytes_at, item_at, expression_at, three_at, text_at, word_at, operands_at, line_at}
+use Rattle.vcm_fields.proofs.Inverse.{bind_ok, guard_met, ok_is}
+
+-- a call that reads what is there doesn't fail
+pub never_fails : {X A : Type 0} (view : X → A) (r : Result X ImageFault) (q : Result A ImageFault) (y : A) → Gives view r q → q ≡ Ok y → IfErr r (λ e. ⊥)
+never_fails view (Ok x) q y g e = tt
+never_fails view (Err f) q y g e = let both_are = sym g ∙ e in absurd cc
+
+-- and what it gives is what is there
+pub gives_it : {X A : Type 0} (view : X → A) (r : Result X ImageFault) (q : Result A ImageFault) (y : A) (x : X) → Gives view r q → q ≡ Ok y → r ≡ Ok x → view x ≡ y
+gives_it view (Ok z) q y x g e k =
+    let same : z ≡ x = ok_is z x k in
+    ap view (sym same) ∙ ok_is (view z) y (sym g ∙ e)
+gives_it view (Err f) q y x g e k = absurd cc
+
+-- what a call gave is what is there
+pub gives_ok : {X A : Type 0} (view : X → A) (r : Result X ImageFault) (q : Result A ImageFault) (x : X) → Gives view r q → r ≡ Ok x → q ≡ Ok (view x)
+gives_ok view r q x g k = subst (λ t. Gives view t q) k g
+
+-- two values, one after the other
+pub both_are : {A B : Type 0} (a : Reader A) (b : Reader B) (bytes : List ℕ) (x : A × B) (rest : List ℕ) → both a b bytes ≡ Ok (x, rest) → (middle : List ℕ) × (a bytes ≡ Ok (x.0, middle)) × (b middle ≡ Ok (x.1, rest))
+both_are {A} {B} a b bytes x rest e =
+    let p = bind_ok (a bytes) (λ u. b u.1 >>= λ v. Ok ((u.0, v.0), v.1)) (x, rest) e in
+    let q = bind_ok (b p.0.1) (λ v. Ok ((p.0.0, v.0), v.1)) (x, rest) p.2 in
+    let same : ((p.0.0, q.0.0), q.0.1) ≡ (x, rest) = ok_is _ _ q.2 in
+    let first : p.0.0 ≡ x.0 = ap (λ (t : (A × B) × List ℕ). t.0.0) same in
+    let second : q.0.0 ≡ x.1 = ap (λ (t : (A × B) × List ℕ). t.0.1) same in
+    let end : q.0.1 ≡ rest = ap (λ (t : (A × B) × List ℕ). t.1) same in
+    (p.0.1, p.1 ∙ ap (λ (t : A). Ok (t, p.0.1)) first, q.1 ∙ ap Ok (rw (second, end) refl))
+
+-- a function of what is read
+pub via_is : {A B : Type 0} (f : A → B) (a : Reader A) (bytes : List ℕ) (y : B) (rest : List ℕ) → via f a bytes ≡ Ok (y, rest) → (x : A) × (a bytes ≡ Ok (x, rest)) × (f x ≡ y)
+via_is {A} {B} f a bytes y rest e =
+    let p = bind_ok (a bytes) (λ u. Ok (f u.0, u.1)) (y, rest) e in
+    let same : (f p.0.0, p.0.1) ≡ (y, rest) = ok_is _ _ p.2 in
+    let end : p.0.1 ≡ rest = ap (λ (t : B × List ℕ). t.1) same in
+    (p.0.0, p.1 ∙ ap (λ (t : List ℕ). Ok (p.0.0, t)) end, ap (λ (t : B × List ℕ). t.0) same)
+
+-- what depends on the first value
+pub after_is : {A B : Type 0} (a : Reader A) (f : A → Reader B) (bytes : List ℕ) (y : B) (rest : List ℕ) → after a f bytes ≡ Ok (y, rest) → (x : A) × (middle : List ℕ) × (a bytes ≡ Ok (x, middle)) × (f x middle ≡ Ok (y, rest))
+after_is a f bytes y rest e =
+    let p = bind_ok (a bytes) (λ u. f u.0 u.1) (y, rest) e in
+    (p.0.0, p.0.1, p.1, p.2)
+
+-- a value that met a test
+pub tested_is : {A : Type 0} (fault : ImageFault) (test : A → Bool) (a : Reader A) (bytes : List ℕ) (x : A) (rest : List ℕ) → tested fault test a bytes ≡ Ok (x, rest) → (a bytes ≡ Ok (x, rest)) × (test x ≡ true)
+tested_is {A} fault test a bytes x rest e =
+    let p = bind_ok (a bytes) (λ u. if test u.0 then Ok u else Err fault) (x, rest) e in
+    let g = guard_met (test p.0.0) fault p.0 (x, rest) p.2 in
+    (p.1 ∙ ap Ok g.1, ap (λ (t : A × List ℕ). test t.0) (sym g.1) ∙ g.0)
+
+-- an expression: the number of its items, and they
+pub expression_is : (bytes : List ℕ) (e : List Item) (rest : List ℕ) → expression_at bytes ≡ Ok (e, rest) → (n : ℕ) × (middle : List ℕ) × (number_at w16 bytes ≡ Ok (n, middle)) × (times item_at n middle ≡ Ok (e, rest))
+unfolding expression_at
+expression_is bytes e rest h =
+    let p = after_is (tested BadField (within 1 1024) (number_at w16)) (times item_at) bytes e rest h in
+    (p.0, p.1, (tested_is BadField (within 1 1024) (number_at w16) bytes p.0 p.1 p.2).0, p.3)
+
+-- a text: its length, and so many bytes
+pub text_is : (bytes : List ℕ) (t : List ℕ) (rest : List ℕ) → text_at bytes ≡ Ok (t, rest) → (n : ℕ) × (middle : List ℕ) × (number_at w16 bytes ≡ Ok (n, middle)) × (bytes_at n middle ≡ Ok (t, rest))
+unfolding text_at
+text_is bytes t rest h =
+    let p = after_is (tested BadField (λ n. nat_le n 1024) (number_at w16)) (λ n. tested BadField is_text (bytes_at n)) bytes t rest h in
+    (p.0, p.1, (tested_is BadField (λ n. nat_le n 1024) (number_at w16) bytes p.0 p.1 p.2).0, (tested_is BadField is_text (bytes_at p.0) p.1 t rest p.3).0)
+
+-- a statement: its word, its line, and its operands
+pub record LineParts (v : Version) (bytes : List ℕ) (s : Line) (rest : List ℕ) : Type 0 where
+  pub word : Word
+  pub behind_word : List ℕ
+  pub behind_line : List ℕ
+  pub word_is : word_at v bytes ≡ Ok (word, behind_word)
+  pub line_is : number_at w32 behind_word ≡ Ok (s.line, behind_line)
+  pub operands_are : operands_at word behind_line ≡ Ok (s.op, rest)
+
+pub line_is : (v : Version) (bytes : List ℕ) (s : Line) (rest : List ℕ) → line_at v bytes ≡ Ok (s, rest) → LineParts v bytes s rest
+unfolding line_at
+line_is v bytes s rest h =
+    let p = after_is (word_at v) (λ k. via (λ o. record { line = o.0; op = o.1 }) (both (number_at w32) (operands_at k))) bytes s rest h in
+    let q = via_is (λ o. record { line = o.0; op = o.1 }) (both (number_at w32) (operands_at p.0)) p.1 s rest p.3 in
+    let r = both_are (number_at w32) (operands_at p.0) p.1 q.0 rest q.1 in
+    record {
+      word = p.0;
+      behind_word = p.1;
+      behind_line = r.0;
+      word_is = p.2;
+      line_is = r.1 ∙ ap (λ (t : Line). Ok (t.line, r.0)) q.2;
+      operands_are = r.2 ∙ ap (λ (t : Line). Ok (t.op, rest)) q.2;
+    }
+
+-- three expressions, one after the other
+pub three_are : (bytes : List ℕ) (x : List Item × (List Item × List Item)) (rest : List ℕ) → three_at bytes ≡ Ok (x, rest)
+    → (second third : List ℕ) × (expression_at bytes ≡ Ok (x.0, second)) × (expression_at second ≡ Ok (x.1.0, third)) × (expression_at third ≡ Ok (x.1.1, rest))
+unfolding three_at
+three_are bytes x rest e =
+    let p = both_are expression_at (both expression_at expression_at) bytes x rest e in
+    let q = both_are expression_at expression_at p.0 x.1 rest p.2 in
+    (p.0, q.0, p.1, q.1, q.2)
