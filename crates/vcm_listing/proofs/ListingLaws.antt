@@ -20,7 +20,7 @@ use Rattle.vcm_words.specs.Listing.{placed, added, after_line, empty, after_head
 use Rattle.vcm_words.proofs.Cuts.{split-word}
 use Rattle.vcm_words.proofs.Inverse.{all_append}
 use Rattle.vcm_words.proofs.NumberLaws.{lt_true}
-use Rattle.vcm_rows.proofs.RowLaws.{row_again, row_plain}
+use Rattle.vcm_words.proofs.RowLaws.{row_again, row_plain}
 use Rattle.vcm_listing.proofs.ListingRead.{code, good, added_keeps, ended_lines}
 
 -- ---- what is spelled so is read again

@@ -22,7 +22,7 @@ use Rattle.vcm_words.specs.inner.Fitting.{FitsRow}
 use Rattle.vcm_words.specs.Listing.{is_empty, placed, added, after_line, first_row, empty, after_head, told, on, lines_read, parts_read, code_listed}
 use Rattle.vcm_words.proofs.Cuts.{joined-split}
 use Rattle.vcm_words.proofs.Inverse.{all_append}
-use Rattle.vcm_rows.proofs.RowLaws.{row_takes}
+use Rattle.vcm_words.proofs.RowLaws.{row_takes}
 
 abbrev pub code : Version → List Entry → List (List ℕ) → List (List ℕ) → List Line → Code
 code version vs fs ds ss = record { version = version; tables = record { variables = vs; features = fs; frames = ds }; statements = ss }

@@ -15,7 +15,7 @@ use Rattle.vcm_words.specs.Listing.{is_empty, after_line, first_row, after_head,
 use Rattle.vcm_words.specs.Outcomes.{IsWant, GivesOrWants}
 use Rattle.vcm_words.specs.inner.Failing.{FailsLine}
 use Rattle.vcm_words.proofs.Cuts.{joined-split, split_some}
-use Rattle.vcm_rows.proofs.RowLaws.{row_takes}
+use Rattle.vcm_words.proofs.RowLaws.{row_takes}
 use Rattle.vcm_listing.proofs.ListingRead.{Grows, added_takes, line_takes, empty_fits}
 use Rattle.vcm_listing.proofs.ListingLaws.{code_again}
 

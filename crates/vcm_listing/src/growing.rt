@@ -10,9 +10,8 @@ use std::marker::Model;
 use vcm_code::{Code, OwnedStatement, Version};
 use vcm_expr::Name;
 use vcm_num::{Items, NoMemory};
-use vcm_rows::{BorrowedRow, BorrowedStatement};
 use vcm_tables::{Tables, Variable};
-use vcm_words::{ListCode, Row};
+use vcm_words::{BorrowedRow, BorrowedStatement, ListCode, Row};
 
 /// The most variables, features or frames.
 const MOST_NAMES: usize = 4096;

@@ -11,7 +11,7 @@ ghost use Rattle.vcm_words.specs.inner.Failing.{FailsLine};
 use crate::growing::Growing;
 use std::alloc::Global;
 use vcm_code::Version;
-use vcm_rows::row;
+use vcm_words::rows::row;
 use vcm_words::{ListCode, ListFault, Row, cut};
 
 // Why a line can't be read in a listing of this version.

@@ -54,11 +54,7 @@ pub(crate) struct Before {
 }
 
 // What is known before the next step.
-fn look<P: Part>(
-    loaded: &Loaded<'_>,
-    home: Point,
-    machine: &Machine<'_, P>,
-) -> Before
+fn look<P: Part>(loaded: &Loaded<'_>, home: Point, machine: &Machine<'_, P>) -> Before
     requires code { machine.now.code ≡ code_of loaded.now }
     requires valid { IsValid machine.now.part }
     ensures { IsBefore home machine.now result }

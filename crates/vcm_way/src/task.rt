@@ -86,12 +86,7 @@ fn direction(world: &World, feature: u16, toward: Option<Axis>) -> Result<Axis, 
 }
 
 // A GOTO.
-fn straight(
-    world: &World,
-    x: &ItemSlice<'_>,
-    y: &ItemSlice<'_>,
-    z: &ItemSlice<'_>,
-) -> Task
+fn straight(world: &World, x: &ItemSlice<'_>, y: &ItemSlice<'_>, z: &ItemSlice<'_>) -> Task
     requires { AreLengths (HasItems world.now.tables) x.now y.now z.now }
     ensures { (home : Place) → result ≡ task_of home world.now.state (Plain (Goto x.now y.now z.now)) }
 {
@@ -134,9 +129,7 @@ pub(crate) fn task_of(world: &World, home: Point, op: &BorrowedOp<'_>) -> Task
     match op {
         Op::Goto(x, y, z) => straight(world, x, y, z),
         Op::GoHome => Task::Straight(home),
-        Op::PtMeas(feature, x, y, z, toward) => {
-            measure(world, *feature, x, y, z, *toward)
-        }
+        Op::PtMeas(feature, x, y, z, toward) => { measure(world, *feature, x, y, z, *toward) }
         _ => Task::Nowhere,
     }
 }

@@ -6,22 +6,22 @@ use Rattle.std.specs.List.{AllByRecursion}
 use Rattle.std.proofs.lemmas.Fmt.{decimal_digit}
 use Rattle.vcm_spec.specs.declared.expression.Operand.{Operand}
 use Rattle.vcm_spec.specs.declared.expression.Operand.TheVariants.{Integer, Thousandths, Truth, Variable}
-use Rattle.vcm_spec.specs.declared.expression.UnaryOp.TheVariants.{Neg, Scale, Not}
-use Rattle.vcm_spec.specs.declared.expression.Relation.TheVariants.{Equal, NotEqual, Less, LessEqual, Greater, GreaterEqual}
-use Rattle.vcm_spec.specs.declared.expression.BinaryOp.TheVariants.{Add, Sub, Mul, Div, And, Or, Compare}
+use Rattle.vcm_spec.specs.declared.expression.UnaryOp.TheVariants.{Neg}
+use Rattle.vcm_spec.specs.declared.expression.Relation.TheVariants.{Equal}
+use Rattle.vcm_spec.specs.declared.expression.BinaryOp.TheVariants.{Compare}
 use Rattle.vcm_spec.specs.declared.expression.Item.{Item}
 use Rattle.vcm_spec.specs.declared.expression.Item.TheVariants.{Push, Apply, Combine}
 use Rattle.vcm_fields.specs.Fitting.{within, FitsOperand, FitsItem, FitsExpression}
-use Rattle.vcm_words.specs.inner.Marks.{Without, IsWord}
 use Rattle.vcm_words.specs.Numbers.{natural, number, signed, counted}
 use Rattle.vcm_num.specs.Words.{look_up}
-use Rattle.vcm_words.specs.WordReaders.{marked}
+use Rattle.vcm_words.specs.WordReaders.{marked, rows_of}
 use Rattle.vcm_words.specs.Enclosed.{between}
-use Rattle.vcm_words.specs.Items.{truth_text, operand_text, item_text, expression, operator_rows, truth_of, operand_in, item_in, expression_at}
+use Rattle.vcm_words.specs.Items.{truth_text, operand_text, item_text, expression, operators, truth_of, operand_in, item_in, expression_at}
 use Rattle.vcm_words.proofs.Inverse.{Means, Reads, reads_tested}
 use Rattle.vcm_words.proofs.EnclosedLaws.{SomeOf, reads_between}
 use Rattle.vcm_words.proofs.NumberLaws.{natural_again, whole_again, means_number, means_signed, decimal_word, decimal_without_high, signed_without_high}
-use Rattle.vcm_words.proofs.WordLaws.{or_else_takes, option_map_takes, means_marked, named_takes}
+use Rattle.vcm_words.proofs.WordLaws.{or_else_takes, option_map_takes, means_marked}
+use Rattle.vcm_words.proofs.TableLaws.{IsPlain, plain_word, table_takes}
 use Rattle.std.specs.Option.{option_map}
 
 -- ---- leaves
@@ -78,74 +78,46 @@ operand_again (Variable v) h = rw (natural_again (2 ^ 16) v h (omega arith)) ref
 
 -- ---- items
 
-operators_named : AllByRecursion (λ row. (row.0 ≡ item_text row.1) × FitsItem row.1) operator_rows
-operators_named = ((refl, tt), ((refl, tt), ((refl, tt), ((refl, tt), ((refl, tt), ((refl, tt), ((refl, tt), ((refl, tt), ((refl, tt), ((refl, tt), ((refl, tt), ((refl, tt), ((refl, tt), ((refl, tt), ((refl, tt), tt)))))))))))))))
+operators_fit : AllByRecursion FitsItem operators
+operators_fit = (tt, (tt, (tt, (tt, (tt, (tt, (tt, (tt, (tt, (tt, (tt, (tt, (tt, (tt, (tt, tt)))))))))))))))
 
 item_takes : (w : List ℕ) (i : Item) → item_in true w ≡ Some i → (w ≡ item_text i) × FitsItem i
 unfolding item_in Leaf
-item_takes w i e = elim (or_else_takes (look_up operator_rows w) _ i e) [
-  | inl f ↦ named_takes item_text FitsItem operator_rows w i operators_named f
+item_takes w i e = elim (or_else_takes (look_up (rows_of item_text operators) w) _ i e) [
+  | inl f ↦ table_takes item_text FitsItem operators w i operators_fit f
   | inr f ↦
       let p = option_map_takes Push (operand_in true w) i f in
       subst (λ (j : Item). (w ≡ item_text j) × FitsItem j) p.2 (operand_takes w p.0 p.1)
 ]
 
-no_operator : (x : Operand) → look_up operator_rows (operand_text x) ≡ None
-no_operator (Integer n) = refl
-no_operator (Thousandths n) = refl
+no_operator : (x : Operand) → look_up (rows_of item_text operators) (operand_text x) ≡ None
 no_operator (Truth false) = refl
-no_operator (Truth true) = refl
-no_operator (Variable v) = refl
+no_operator _ = refl
 
 item_again : (i : Item) → FitsItem i → item_in true (item_text i) ≡ Some i
 unfolding item_in
 item_again (Push x) h = rw (no_operator x, operand_again x h) refl
 item_again (Apply Neg) h = refl
-item_again (Apply Scale) h = refl
-item_again (Apply Not) h = refl
-item_again (Combine Add) h = refl
-item_again (Combine Sub) h = refl
-item_again (Combine Mul) h = refl
-item_again (Combine Div) h = refl
-item_again (Combine And) h = refl
-item_again (Combine Or) h = refl
 item_again (Combine (Compare Equal)) h = refl
-item_again (Combine (Compare NotEqual)) h = refl
-item_again (Combine (Compare Less)) h = refl
-item_again (Combine (Compare LessEqual)) h = refl
-item_again (Combine (Compare Greater)) h = refl
-item_again (Combine (Compare GreaterEqual)) h = refl
+item_again _ h = refl
 
 -- a mark that no item's word has, as a blank or a bracket
-item_without : (i : Item) → FitsItem i → IsWord (item_text i) × Without 93 (item_text i)
-item_without (Push (Integer n)) h = let d = means_signed.words n h in (((refl, d.0), (refl, d.1)), (refl, signed_without_high 93 n (omega arith) h))
-item_without (Push (Thousandths n)) h = let d = means_signed.words n h in (((refl, d.0), (refl, d.1)), (refl, signed_without_high 93 n (omega arith) h))
-item_without (Push (Truth false)) h = (((refl, (refl, tt)), (refl, (refl, tt))), (refl, (refl, tt)))
-item_without (Push (Truth true)) h = (((refl, (refl, tt)), (refl, (refl, tt))), (refl, (refl, tt)))
-item_without (Push (Variable v)) h = let d = decimal_word v (omega (arith, h)) in (((refl, d.0), (refl, d.1)), (refl, decimal_without_high 93 v (omega arith) (omega (arith, h))))
-item_without (Apply Neg) h = (((refl, (refl, (refl, tt))), (refl, (refl, (refl, tt)))), (refl, (refl, (refl, tt))))
-item_without (Apply Scale) h = (((refl, (refl, (refl, (refl, (refl, tt))))), (refl, (refl, (refl, (refl, (refl, tt)))))), (refl, (refl, (refl, (refl, (refl, tt))))))
-item_without (Apply Not) h = (((refl, (refl, (refl, tt))), (refl, (refl, (refl, tt)))), (refl, (refl, (refl, tt))))
-item_without (Combine Add) h = (((refl, (refl, (refl, tt))), (refl, (refl, (refl, tt)))), (refl, (refl, (refl, tt))))
-item_without (Combine Sub) h = (((refl, (refl, (refl, tt))), (refl, (refl, (refl, tt)))), (refl, (refl, (refl, tt))))
-item_without (Combine Mul) h = (((refl, (refl, (refl, tt))), (refl, (refl, (refl, tt)))), (refl, (refl, (refl, tt))))
-item_without (Combine Div) h = (((refl, (refl, (refl, tt))), (refl, (refl, (refl, tt)))), (refl, (refl, (refl, tt))))
-item_without (Combine And) h = (((refl, (refl, (refl, tt))), (refl, (refl, (refl, tt)))), (refl, (refl, (refl, tt))))
-item_without (Combine Or) h = (((refl, (refl, tt)), (refl, (refl, tt))), (refl, (refl, tt)))
-item_without (Combine (Compare Equal)) h = (((refl, (refl, tt)), (refl, (refl, tt))), (refl, (refl, tt)))
-item_without (Combine (Compare NotEqual)) h = (((refl, (refl, tt)), (refl, (refl, tt))), (refl, (refl, tt)))
-item_without (Combine (Compare Less)) h = (((refl, (refl, tt)), (refl, (refl, tt))), (refl, (refl, tt)))
-item_without (Combine (Compare LessEqual)) h = (((refl, (refl, tt)), (refl, (refl, tt))), (refl, (refl, tt)))
-item_without (Combine (Compare Greater)) h = (((refl, (refl, tt)), (refl, (refl, tt))), (refl, (refl, tt)))
-item_without (Combine (Compare GreaterEqual)) h = (((refl, (refl, tt)), (refl, (refl, tt))), (refl, (refl, tt)))
+item_plain : (i : Item) → FitsItem i → IsPlain (item_text i)
+item_plain (Push (Integer n)) h = let d = means_signed.words n h in (((refl, d.0), (refl, d.1)), (refl, signed_without_high 93 n (omega arith) h))
+item_plain (Push (Thousandths n)) h = let d = means_signed.words n h in (((refl, d.0), (refl, d.1)), (refl, signed_without_high 93 n (omega arith) h))
+item_plain (Push (Variable v)) h = let d = decimal_word v (omega (arith, h)) in (((refl, d.0), (refl, d.1)), (refl, decimal_without_high 93 v (omega arith) (omega (arith, h))))
+item_plain (Push (Truth false)) h = plain_word (item_text (Push (Truth false))) refl
+item_plain (Apply Neg) h = plain_word (item_text (Apply Neg)) refl
+item_plain (Combine (Compare Equal)) h = plain_word (item_text (Combine (Compare Equal))) refl
+item_plain i h = plain_word (item_text i) refl
 
 means_item : Means (item_in true) item_text FitsItem
-means_item = record { takes = item_takes; again = item_again; words = λ i h. (item_without i h).0 }
+means_item = record { takes = item_takes; again = item_again; words = λ i h. (item_plain i h).0 }
 
 -- ---- brackets
 
 reads_bracketed : Reads (between 91 93 (item_in true)) expression (SomeOf FitsItem)
-reads_bracketed = reads_between 91 93 ((refl, refl), (refl, refl)) means_item (λ i h. (item_without i h).1)
+reads_bracketed = reads_between 91 93 ((refl, refl), (refl, refl)) means_item (λ i h. (item_plain i h).1)
 
 within_some : (is : List Item) → IsTrue (within 1 1024 (length is)) → 0 < length is
 within_some is h = grind arith

@@ -1,6 +1,7 @@
 pub mod Cuts
 pub mod FirstCut
 pub mod Inverse
+pub mod TableLaws
 pub mod NumberLaws
 pub mod WordLaws
 pub mod EnclosedLaws
@@ -9,3 +10,5 @@ pub mod BranchLaws
 pub mod PlaceLaws
 pub mod SliceLaws
 pub mod TextLaws
+pub mod LineLaws
+pub mod RowLaws

@@ -1,147 +1,38 @@
--- The operands of all statements: what is read is spelled so, and what is spelled so is read again.
-use Rattle.std.proofs.Common.{◌≡◌, ℕ, zero, suc, ◌<◌, ◌≤◌, ◌^◌, ◌==◌, nat_le, true, false, Option, Some, None, refl, subst, arith, IsTrue}
+-- Places: what is read there is spelled so, and what is spelled so is read again; and so for all places of a statement.
+use Rattle.std.proofs.Common.{◌≡◌, ℕ, ◌<◌, ◌≤◌, ◌^◌, ◌==◌, ◌&&◌, nat_le, not, Bool, true, false, List, [], ◌∷◌, refl, ap, subst, arith, IsTrue}
 use Rattle.std.specs.Prelude.{decimal}
-use Rattle.vcm_num.specs.declared.axis.Axis.{Axis}
-use Rattle.vcm_num.specs.declared.axis.Axis.TheVariants.{PlusX, MinusX, PlusY, MinusY, PlusZ, MinusZ}
-use Rattle.vcm_spec.specs.declared.words.Setting.{Setting}
-use Rattle.vcm_spec.specs.declared.words.Setting.TheVariants.{Approach, Retract, Search, Depth}
-use Rattle.vcm_spec.specs.declared.words.Source.{Source}
-use Rattle.vcm_spec.specs.declared.words.Source.TheVariants.{Nominal, Actual}
+use Rattle.std.proofs.lemmas.Bool.{and_parts}
+use Rattle.vcm_spec.specs.TextBytes.{IsText}
 use Rattle.vcm_code.specs.declared.version.Version.{Version}
 use Rattle.vcm_fields.specs.declared.word.Word.{Word}
-use Rattle.vcm_fields.specs.declared.word.Word.TheVariants as words
 use Rattle.vcm_fields.specs.Words.{has_word}
-use Rattle.vcm_fields.specs.Fitting.{within}
-use Rattle.vcm_words.specs.inner.Marks.{IsWord}
+use Rattle.vcm_fields.specs.Fitting.{within, FitsExpression, FitThree, FitBranches}
+use Rattle.vcm_fields.specs.Shape.{Place, Said, Filled}
+use Rattle.vcm_fields.specs.Shape as at
 use Rattle.vcm_words.specs.Numbers.{number, counted, only_if}
-use Rattle.vcm_num.specs.Words.{look_up}
-use Rattle.vcm_words.specs.WordReaders.{◌>>=◌, one}
-use Rattle.vcm_words.specs.Operands.{single, number_text, number_at, lettered, lettered_at, variable, feature, frame, pair, target, variable_at, feature_at, frame_at, pair_at, target_at, axis_text, axis_rows, direction_text, direction_rows, setting_text, setting_rows, source_text, source_rows, turn_text, turn_rows, part_at, word_text, word_rows, any_word_at, word_at}
-use Rattle.vcm_words.proofs.Inverse.{Means, Reads, bind_some, only_met, reads_one, reads_tested}
+use Rattle.vcm_words.specs.WordReaders.{◌>>=◌, Spelling}
+use Rattle.vcm_words.specs.Operands.{single, number_text, number_at, axis_text, axes, direction_text, directions, setting_text, settings, source_text, sources, word_text, all_words, three, three_at, behind, spelling, words_of, filled_at, any_word_at, word_at}
+use Rattle.vcm_words.proofs.Inverse.{Means, Reads, Ends, ends, bind_some, some_is, only_met, reads_one, reads_both, reads_tested, ends_both}
 use Rattle.vcm_words.proofs.NumberLaws.{means_number}
-use Rattle.vcm_words.proofs.WordLaws.{means_marked, means_named}
+use Rattle.vcm_words.proofs.WordLaws.{means_marked}
+use Rattle.vcm_words.proofs.TableLaws.{turned, Any, means_any, means_turn, axis_row, direction_row, setting_row, source_row, word_row}
+use Rattle.vcm_words.proofs.ItemLaws.{reads_expression}
+use Rattle.vcm_words.proofs.BranchLaws.{reads_branches}
+use Rattle.vcm_words.proofs.TextLaws.{ends_text}
+
+-- what is read in this way is spelled so, and what is spelled so is read again
+abbrev pub Undo : {A : Type 0} → Spelling A → (A → Type 0) → Type 0
+Undo s P = Reads (s.at true) s.words P
 
 -- ---- single words
-
-reads_lettered : (letter limit : ℕ) → (letter == 32) ≡ false → (letter == 10) ≡ false → limit ≤ 2 ^ 64 → Reads (lettered_at true letter limit) (lettered letter) (λ n. n < limit)
-reads_lettered letter limit h g l = reads_one (means_marked letter h g (means_number limit l))
-
-pub reads_variable : Reads (variable_at true) variable (λ n. n < 2 ^ 16)
-reads_variable = reads_lettered 86 (2 ^ 16) refl refl (omega arith)
-
-pub reads_feature : Reads (feature_at true) feature (λ n. n < 2 ^ 16)
-reads_feature = reads_lettered 70 (2 ^ 16) refl refl (omega arith)
-
-pub reads_frame : Reads (frame_at true) frame (λ n. n < 2 ^ 16)
-reads_frame = reads_lettered 68 (2 ^ 16) refl refl (omega arith)
-
-pub reads_pair : Reads (pair_at true) pair (λ n. n < 32)
-reads_pair = reads_lettered 76 32 refl refl (omega arith)
-
-pub reads_target : Reads (target_at true) target (λ n. n < 2 ^ 32)
-reads_target = reads_lettered 64 (2 ^ 32) refl refl (omega arith)
 
 pub reads_number : (limit : ℕ) → limit ≤ 2 ^ 64 → Reads (number_at true limit) number_text (λ n. n < limit)
 reads_number limit l = reads_one (means_number limit l)
 
-pub reads_quarter : Reads (number_at true 4) number_text (λ n. n < 4)
-reads_quarter = reads_number 4 (omega arith)
+reads_behind : (letter limit : ℕ) → (letter == 32) ≡ false → (letter == 10) ≡ false → limit ≤ 2 ^ 64 → Undo (behind letter limit) (λ n. n < limit)
+reads_behind letter limit h g l = reads_one (means_marked letter h g (means_number limit l))
 
-unfoldable pub Any : {A : Type 0} → A → Type 0
-Any x = Unit {0}
-
-axis_again : (x : Axis) → Any x → look_up axis_rows (axis_text x) ≡ Some x
-axis_again PlusX h = refl
-axis_again MinusX h = refl
-axis_again PlusY h = refl
-axis_again MinusY h = refl
-axis_again PlusZ h = refl
-axis_again MinusZ h = refl
-
-axis_words : (x : Axis) → Any x → IsWord (axis_text x)
-axis_words PlusX h = ((refl, (refl, tt)), (refl, (refl, tt)))
-axis_words MinusX h = ((refl, (refl, tt)), (refl, (refl, tt)))
-axis_words PlusY h = ((refl, (refl, tt)), (refl, (refl, tt)))
-axis_words MinusY h = ((refl, (refl, tt)), (refl, (refl, tt)))
-axis_words PlusZ h = ((refl, (refl, tt)), (refl, (refl, tt)))
-axis_words MinusZ h = ((refl, (refl, tt)), (refl, (refl, tt)))
-
-pub reads_axis : Reads (one (look_up axis_rows)) (λ x. single (axis_text x)) Any
-unfolding Any
-reads_axis = reads_one (means_named axis_text Any axis_rows ((refl, tt), ((refl, tt), ((refl, tt), ((refl, tt), ((refl, tt), ((refl, tt), tt)))))) axis_again axis_words)
-
-direction_again : (x : Option Axis) → Any x → look_up direction_rows (direction_text x) ≡ Some x
-direction_again None h = refl
-direction_again (Some PlusX) h = refl
-direction_again (Some MinusX) h = refl
-direction_again (Some PlusY) h = refl
-direction_again (Some MinusY) h = refl
-direction_again (Some PlusZ) h = refl
-direction_again (Some MinusZ) h = refl
-
-direction_words : (x : Option Axis) → Any x → IsWord (direction_text x)
-direction_words None h = ((refl, (refl, (refl, tt))), (refl, (refl, (refl, tt))))
-direction_words (Some PlusX) h = ((refl, (refl, tt)), (refl, (refl, tt)))
-direction_words (Some MinusX) h = ((refl, (refl, tt)), (refl, (refl, tt)))
-direction_words (Some PlusY) h = ((refl, (refl, tt)), (refl, (refl, tt)))
-direction_words (Some MinusY) h = ((refl, (refl, tt)), (refl, (refl, tt)))
-direction_words (Some PlusZ) h = ((refl, (refl, tt)), (refl, (refl, tt)))
-direction_words (Some MinusZ) h = ((refl, (refl, tt)), (refl, (refl, tt)))
-
-pub reads_direction : Reads (one (look_up direction_rows)) (λ x. single (direction_text x)) Any
-unfolding Any
-reads_direction = reads_one (means_named direction_text Any direction_rows ((refl, tt), ((refl, tt), ((refl, tt), ((refl, tt), ((refl, tt), ((refl, tt), ((refl, tt), tt))))))) direction_again direction_words)
-
-setting_again : (x : Setting) → Any x → look_up setting_rows (setting_text x) ≡ Some x
-setting_again Approach h = refl
-setting_again Retract h = refl
-setting_again Search h = refl
-setting_again Depth h = refl
-
-setting_words : (x : Setting) → Any x → IsWord (setting_text x)
-setting_words Approach h = ((refl, (refl, (refl, (refl, (refl, (refl, tt)))))), (refl, (refl, (refl, (refl, (refl, (refl, tt)))))))
-setting_words Retract h = ((refl, (refl, (refl, (refl, (refl, (refl, tt)))))), (refl, (refl, (refl, (refl, (refl, (refl, tt)))))))
-setting_words Search h = ((refl, (refl, (refl, (refl, (refl, (refl, tt)))))), (refl, (refl, (refl, (refl, (refl, (refl, tt)))))))
-setting_words Depth h = ((refl, (refl, (refl, (refl, (refl, tt))))), (refl, (refl, (refl, (refl, (refl, tt))))))
-
-pub reads_setting : Reads (one (look_up setting_rows)) (λ x. single (setting_text x)) Any
-unfolding Any
-reads_setting = reads_one (means_named setting_text Any setting_rows ((refl, tt), ((refl, tt), ((refl, tt), ((refl, tt), tt)))) setting_again setting_words)
-
-source_again : (x : Source) → Any x → look_up source_rows (source_text x) ≡ Some x
-source_again Nominal h = refl
-source_again Actual h = refl
-
-source_words : (x : Source) → Any x → IsWord (source_text x)
-source_words Nominal h = ((refl, (refl, (refl, (refl, (refl, (refl, (refl, tt))))))), (refl, (refl, (refl, (refl, (refl, (refl, (refl, tt))))))))
-source_words Actual h = ((refl, (refl, (refl, (refl, (refl, (refl, tt)))))), (refl, (refl, (refl, (refl, (refl, (refl, tt)))))))
-
-pub reads_source : Reads (one (look_up source_rows)) (λ x. single (source_text x)) Any
-unfolding Any
-reads_source = reads_one (means_named source_text Any source_rows ((refl, tt), ((refl, tt), tt)) source_again source_words)
-
-Three : ℕ → Type 0
-Three n = n < 3
-
-turn_again : (x : ℕ) → Three x → look_up turn_rows (turn_text x) ≡ Some x
-unfolding Three
-turn_again zero h = refl
-turn_again (suc zero) h = refl
-turn_again (suc (suc zero)) h = refl
-turn_again (suc (suc (suc n))) h = absurd (omega (arith, h))
-
-turn_words : (x : ℕ) → Three x → IsWord (turn_text x)
-unfolding Three
-turn_words zero h = ((refl, tt), (refl, tt))
-turn_words (suc zero) h = ((refl, tt), (refl, tt))
-turn_words (suc (suc zero)) h = ((refl, tt), (refl, tt))
-turn_words (suc (suc (suc n))) h = absurd (omega (arith, h))
-
-pub reads_turn : Reads (one (look_up turn_rows)) (λ x. single (turn_text x)) (λ n. n < 3)
-unfolding Three
-reads_turn = reads_one (means_named turn_text Three turn_rows ((refl, omega arith), ((refl, omega arith), ((refl, omega arith), tt))) turn_again turn_words)
-
-unfoldable pub IsPart : ℕ → Type 0
+IsPart : ℕ → Type 0
 IsPart n = IsTrue (within 3 8 n)
 
 means_part : Means (λ w. number true 9 w >>= λ n. only_if (counted true (nat_le 3 n)) n) decimal IsPart
@@ -164,72 +55,89 @@ means_part = record {
   words = λ n h. let m = means_number 9 (omega arith) in let small : n < 9 = grind arith in m.words n small;
 }
 
-pub reads_part : Reads (part_at true) number_text IsPart
-reads_part = reads_one means_part
+-- three expressions
+FitsTriple : Said at.three → Type 0
+FitsTriple t = FitThree t.0 t.1.0 t.1.1
+
+reads_three : Reads (three_at true) three FitsTriple
+unfolding three_at FitsTriple
+reads_three = reads_both reads_expression (reads_both reads_expression reads_expression)
+
+-- ---- places
+
+-- a text takes all that is left
+abbrev is_text : Place → Bool
+is_text at.text = true
+is_text _ = false
+
+-- which values a place may have
+abbrev pub Fits : (p : Place) → Said p → Type 0
+Fits at.variable n = n < 2 ^ 16
+Fits at.feature n = n < 2 ^ 16
+Fits at.frame n = n < 2 ^ 16
+Fits at.pair n = n < 32
+Fits at.target n = n < 2 ^ 32
+Fits at.items is = FitsExpression is
+Fits at.three t = FitThree t.0 t.1.0 t.1.1
+Fits at.turn n = n < 3
+Fits at.quarters n = n < 4
+Fits at.part n = IsTrue (within 3 8 n)
+Fits at.text bs = IsText bs
+Fits at.branches bs = FitBranches bs
+Fits _ x = Unit {0}
+
+reads_place : (p : Place) → is_text p ≡ false → Undo (spelling p) (Fits p)
+unfolding Any IsPart FitsTriple
+reads_place at.variable h = reads_behind 86 (2 ^ 16) refl refl (omega arith)
+reads_place at.feature h = reads_behind 70 (2 ^ 16) refl refl (omega arith)
+reads_place at.frame h = reads_behind 68 (2 ^ 16) refl refl (omega arith)
+reads_place at.pair h = reads_behind 76 32 refl refl (omega arith)
+reads_place at.target h = reads_behind 64 (2 ^ 32) refl refl (omega arith)
+reads_place at.items h = reads_expression
+reads_place at.three h = reads_three
+reads_place at.axis h = reads_one (means_any axis_text axes axis_row)
+reads_place at.direction h = reads_one (means_any direction_text directions direction_row)
+reads_place at.setting h = reads_one (means_any setting_text settings setting_row)
+reads_place at.source h = reads_one (means_any source_text sources source_row)
+reads_place at.turn h = reads_one means_turn
+reads_place at.quarters h = reads_number 4 (omega arith)
+reads_place at.part h = reads_one means_part
+reads_place at.text h = absurd cc
+reads_place at.branches h = reads_branches
+
+ends_place : (p : Place) → Ends ((spelling p).at true) (spelling p).words (Fits p)
+ends_place at.text = ends_text
+ends_place p = ends (reads_place p refl)
+
+-- ---- places, one behind the other
+
+-- which values places may have
+abbrev pub FitAll : (ps : List Place) → Filled ps → Type 0
+FitAll [] f = Unit {0}
+FitAll (p ∷ []) f = Fits p f
+FitAll (p ∷ q ∷ ps) f = Fits p f.0 × FitAll (q ∷ ps) f.1
+
+-- a text stands behind all others
+abbrev pub in_order : List Place → Bool
+in_order [] = true
+in_order (p ∷ []) = true
+in_order (p ∷ q ∷ ps) = not (is_text p) && in_order (q ∷ ps)
+
+pub ends_filled : (ps : List Place) → in_order ps ≡ true → Ends (filled_at true ps) (words_of ps) (FitAll ps)
+ends_filled [] h = record {
+  takes = λ ws x bare e. (ap (λ (y : Unit {0} × List (List ℕ)). y.1) (some_is (tt, ws) x e), tt);
+  again = λ f g. refl;
+  words = λ f g. tt;
+}
+ends_filled (p ∷ []) h = ends_place p
+ends_filled (p ∷ q ∷ ps) h =
+    let t = and_parts (not (is_text p)) (in_order (q ∷ ps)) h in
+    ends_both (reads_place p (turned (is_text p) t.0)) (ends_filled (q ∷ ps) t.1)
 
 -- ---- the words of statements
 
-word_again : (x : Word) → Any x → look_up word_rows (word_text x) ≡ Some x
-word_again words.EndFil h = refl
-word_again words.Goto h = refl
-word_again words.GoHome h = refl
-word_again words.Assign h = refl
-word_again words.If h = refl
-word_again words.Else h = refl
-word_again words.EndIf h = refl
-word_again words.Do h = refl
-word_again words.EndDo h = refl
-word_again words.Label h = refl
-word_again words.JumpTo h = refl
-word_again words.Feat h = refl
-word_again words.Meas h = refl
-word_again words.PtMeas h = refl
-word_again words.EndMes h = refl
-word_again words.SnSet h = refl
-word_again words.Trans h = refl
-word_again words.Rotate h = refl
-word_again words.Recall h = refl
-word_again words.Obtain h = refl
-word_again words.Output h = refl
-word_again words.Text h = refl
-word_again words.Select h = refl
-word_again words.Case h = refl
-word_again words.EndCas h = refl
-word_again words.DftCas h = refl
-word_again words.EndSel h = refl
-
-word_words : (x : Word) → Any x → IsWord (word_text x)
-word_words words.EndFil h = ((refl, (refl, (refl, (refl, (refl, (refl, tt)))))), (refl, (refl, (refl, (refl, (refl, (refl, tt)))))))
-word_words words.Goto h = ((refl, (refl, (refl, (refl, tt)))), (refl, (refl, (refl, (refl, tt)))))
-word_words words.GoHome h = ((refl, (refl, (refl, (refl, (refl, (refl, tt)))))), (refl, (refl, (refl, (refl, (refl, (refl, tt)))))))
-word_words words.Assign h = ((refl, (refl, (refl, (refl, (refl, (refl, tt)))))), (refl, (refl, (refl, (refl, (refl, (refl, tt)))))))
-word_words words.If h = ((refl, (refl, tt)), (refl, (refl, tt)))
-word_words words.Else h = ((refl, (refl, (refl, (refl, tt)))), (refl, (refl, (refl, (refl, tt)))))
-word_words words.EndIf h = ((refl, (refl, (refl, (refl, (refl, tt))))), (refl, (refl, (refl, (refl, (refl, tt))))))
-word_words words.Do h = ((refl, (refl, tt)), (refl, (refl, tt)))
-word_words words.EndDo h = ((refl, (refl, (refl, (refl, (refl, tt))))), (refl, (refl, (refl, (refl, (refl, tt))))))
-word_words words.Label h = ((refl, (refl, (refl, (refl, (refl, tt))))), (refl, (refl, (refl, (refl, (refl, tt))))))
-word_words words.JumpTo h = ((refl, (refl, (refl, (refl, (refl, (refl, tt)))))), (refl, (refl, (refl, (refl, (refl, (refl, tt)))))))
-word_words words.Feat h = ((refl, (refl, (refl, (refl, tt)))), (refl, (refl, (refl, (refl, tt)))))
-word_words words.Meas h = ((refl, (refl, (refl, (refl, tt)))), (refl, (refl, (refl, (refl, tt)))))
-word_words words.PtMeas h = ((refl, (refl, (refl, (refl, (refl, (refl, tt)))))), (refl, (refl, (refl, (refl, (refl, (refl, tt)))))))
-word_words words.EndMes h = ((refl, (refl, (refl, (refl, (refl, (refl, tt)))))), (refl, (refl, (refl, (refl, (refl, (refl, tt)))))))
-word_words words.SnSet h = ((refl, (refl, (refl, (refl, (refl, tt))))), (refl, (refl, (refl, (refl, (refl, tt))))))
-word_words words.Trans h = ((refl, (refl, (refl, (refl, (refl, tt))))), (refl, (refl, (refl, (refl, (refl, tt))))))
-word_words words.Rotate h = ((refl, (refl, (refl, (refl, (refl, (refl, tt)))))), (refl, (refl, (refl, (refl, (refl, (refl, tt)))))))
-word_words words.Recall h = ((refl, (refl, (refl, (refl, (refl, (refl, tt)))))), (refl, (refl, (refl, (refl, (refl, (refl, tt)))))))
-word_words words.Obtain h = ((refl, (refl, (refl, (refl, (refl, (refl, tt)))))), (refl, (refl, (refl, (refl, (refl, (refl, tt)))))))
-word_words words.Output h = ((refl, (refl, (refl, (refl, (refl, (refl, tt)))))), (refl, (refl, (refl, (refl, (refl, (refl, tt)))))))
-word_words words.Text h = ((refl, (refl, (refl, (refl, tt)))), (refl, (refl, (refl, (refl, tt)))))
-word_words words.Select h = ((refl, (refl, (refl, (refl, (refl, (refl, tt)))))), (refl, (refl, (refl, (refl, (refl, (refl, tt)))))))
-word_words words.Case h = ((refl, (refl, (refl, (refl, tt)))), (refl, (refl, (refl, (refl, tt)))))
-word_words words.EndCas h = ((refl, (refl, (refl, (refl, (refl, (refl, tt)))))), (refl, (refl, (refl, (refl, (refl, (refl, tt)))))))
-word_words words.DftCas h = ((refl, (refl, (refl, (refl, (refl, (refl, tt)))))), (refl, (refl, (refl, (refl, (refl, (refl, tt)))))))
-word_words words.EndSel h = ((refl, (refl, (refl, (refl, (refl, (refl, tt)))))), (refl, (refl, (refl, (refl, (refl, (refl, tt)))))))
-
 reads_any_word : Reads any_word_at (λ x. single (word_text x)) Any
-unfolding Any
-reads_any_word = reads_one (means_named word_text Any word_rows ((refl, tt), ((refl, tt), ((refl, tt), ((refl, tt), ((refl, tt), ((refl, tt), ((refl, tt), ((refl, tt), ((refl, tt), ((refl, tt), ((refl, tt), ((refl, tt), ((refl, tt), ((refl, tt), ((refl, tt), ((refl, tt), ((refl, tt), ((refl, tt), ((refl, tt), ((refl, tt), ((refl, tt), ((refl, tt), ((refl, tt), ((refl, tt), ((refl, tt), ((refl, tt), ((refl, tt), tt))))))))))))))))))))))))))) word_again word_words)
+reads_any_word = reads_one (means_any word_text all_words word_row)
 
 -- a word that the version has
 unfoldable pub Has : Version → Word → Type 0

@@ -1,12 +1,9 @@
 -- Single words and their meanings.
 use Rattle.std.proofs.Common.{◌≡◌, ◌⊎◌, ℕ, ◌==◌, Bool, true, false, cond, inl, inr, List, [], ◌∷◌, ◌++◌, Option, Some, None, refl, ap, ◌∙◌, subst, arith}
-use Rattle.std.specs.Str.{bytes_eq}
-use Rattle.std.specs.List.{AllByRecursion}
 use Rattle.std.proofs.lemmas.Bool.{eqb-true}
-use Rattle.std.proofs.lemmas.Slice.Eq.{bytes_eq-Decides}
-use Rattle.vcm_words.specs.inner.Marks.{Without, IsWord}
-use Rattle.vcm_num.specs.Words.{look_up}
-use Rattle.vcm_words.specs.WordReaders.{marked, or_else, in_front, ending}
+use Rattle.vcm_words.specs.inner.Marks.{Without}
+use Rattle.vcm_words.specs.WordReaders.{◌>>=◌, one, marked, or_else, in_front, ending}
+use Rattle.vcm_words.specs.Enclosed.{opening}
 use Rattle.vcm_words.proofs.Inverse.{Means, some_is}
 use Rattle.std.specs.Option.{option_map}
 
@@ -33,21 +30,19 @@ means_marked {A} {f} {s} {P} mark h g m = record {
   words = λ x q. let w = m.words x q in ((h, w.0), (g, w.1));
 }
 
--- the rows of a table
-pub named_takes : {A : Type 0} (s : A → List ℕ) (P : A → Type 0) (rows : List (List ℕ × A)) (w : List ℕ) (x : A) → AllByRecursion (λ row. (row.0 ≡ s row.1) × P row.1) rows → look_up rows w ≡ Some x → (w ≡ s x) × P x
-named_takes s P [] w x h e = absurd cc
-named_takes {A} s P (row ∷ rows) w x h e = split (λ g. named_takes s P rows w x h.1 g) (bytes_eq w row.0) refl e
-  where
-    split : (look_up rows w ≡ Some x → (w ≡ s x) × P x) → (t : Bool) → bytes_eq w row.0 ≡ t → cond t (Some row.1) (look_up rows w) ≡ Some x → (w ≡ s x) × P x
-    split more true t g = subst (λ (y : A). (w ≡ s y) × P y) (some_is _ _ g) ((bytes_eq-Decides _ _).0 t ∙ h.0.0, h.0.1)
-    split more false t g = more g
+-- a value with the words behind it
+abbrev pub before : {A : Type 0} → List (List ℕ) → A → Option (A × List (List ℕ))
+before ws x = Some (x, ws)
 
-pub means_named : {A : Type 0} (s : A → List ℕ) (P : A → Type 0) (rows : List (List ℕ × A)) → AllByRecursion (λ row. (row.0 ≡ s row.1) × P row.1) rows → ((x : A) → P x → look_up rows (s x) ≡ Some x) → ((x : A) → P x → IsWord (s x)) → Means (look_up rows) s P
-means_named s P rows h again words = record {
-  takes = λ w x e. named_takes s P rows w x h e;
-  again = again;
-  words = words;
-}
+-- what stands behind a mark is cut off first, and has its meaning then
+pub behind_mark : {A : Type 0} (mark : ℕ) (f : List ℕ → Option A) (ws : List (List ℕ)) → one (marked mark f) ws ≡ (one (opening mark) ws >>= λ x. f x.0 >>= before x.1)
+behind_mark mark f [] = refl
+behind_mark mark f ([] ∷ ws) = refl
+behind_mark mark f ((b ∷ bs) ∷ ws) = by (b == mark)
+  where
+    by : (t : Bool) → (cond t (f bs) None >>= before ws) ≡ ((cond t (Some bs) None >>= before ws) >>= λ x. f x.0 >>= before x.1)
+    by true = refl
+    by false = refl
 
 -- ---- a mark at the end
 

@@ -13,7 +13,7 @@ use Rattle.vcm_spec.specs.declared.expression.Item.TheVariants.{Push, Apply, Com
 use Rattle.vcm_fields.specs.Fitting.{within}
 use Rattle.vcm_words.specs.Numbers.{number, signed, counted}
 use Rattle.vcm_num.specs.Words.{look_up}
-use Rattle.vcm_words.specs.WordReaders.{Reader, marked, or_else, tested}
+use Rattle.vcm_words.specs.WordReaders.{Reader, marked, or_else, tested, rows_of}
 use Rattle.vcm_words.specs.Enclosed.{closed, opened, between}
 use Rattle.std.specs.Option.{option_map}
 
@@ -64,25 +64,12 @@ expression items = opened 91 (closed 93 item_text items)
 
 -- ---- reading
 
--- the word of each operator
-abbrev pub operator_rows : List (List ℕ × Item)
-operator_rows =
-    (codes "NEG", Apply Neg)
-    ∷ (codes "SCALE", Apply Scale)
-    ∷ (codes "NOT", Apply Not)
-    ∷ (codes "ADD", Combine Add)
-    ∷ (codes "SUB", Combine Sub)
-    ∷ (codes "MUL", Combine Mul)
-    ∷ (codes "DIV", Combine Div)
-    ∷ (codes "AND", Combine And)
-    ∷ (codes "OR", Combine Or)
-    ∷ (codes "EQ", Combine (Compare Equal))
-    ∷ (codes "NE", Combine (Compare NotEqual))
-    ∷ (codes "LT", Combine (Compare Less))
-    ∷ (codes "LE", Combine (Compare LessEqual))
-    ∷ (codes "GT", Combine (Compare Greater))
-    ∷ (codes "GE", Combine (Compare GreaterEqual))
-    ∷ []
+-- the operators
+abbrev pub operators : List Item
+operators =
+    Apply Neg ∷ Apply Scale ∷ Apply Not ∷ Combine Add ∷ Combine Sub ∷ Combine Mul ∷ Combine Div ∷ Combine And ∷ Combine Or
+    ∷ Combine (Compare Equal) ∷ Combine (Compare NotEqual) ∷ Combine (Compare Less) ∷ Combine (Compare LessEqual) ∷ Combine (Compare Greater)
+    ∷ Combine (Compare GreaterEqual) ∷ []
 
 -- the truth value of 0 or 1
 abbrev pub truth_of : ℕ → Bool
@@ -98,7 +85,7 @@ operand_in exact w =
 
 -- the item that a word is
 unfoldable pub item_in : Bool → List ℕ → Option Item
-item_in exact w = or_else (look_up operator_rows w) (option_map Push (operand_in exact w))
+item_in exact w = or_else (look_up (rows_of item_text operators) w) (option_map Push (operand_in exact w))
 
 -- an expression: 1 to 1,024 items between brackets
 unfoldable pub expression_at : Bool → Reader (List Item)

@@ -1,6 +1,6 @@
 -- The operands of statements in a listing.
 use Rattle.std.specs.Prelude.{ℕ, ◌==◌, ◌^◌, ◌&&◌, nat_le, Bool, if◌then◌else◌, List, [], ◌∷◌, ◌++◌, length, Option, Some, None, decimal}
-use Rattle.std.specs.Prelude.{codes}
+use Rattle.std.specs.Prelude.{codes, map}
 use Rattle.std.specs.List.{list_all}
 use Rattle.vcm_num.specs.declared.axis.Axis.{Axis}
 use Rattle.vcm_num.specs.declared.axis.Axis.TheVariants.{PlusX, MinusX, PlusY, MinusY, PlusZ, MinusZ}
@@ -10,18 +10,17 @@ use Rattle.vcm_spec.specs.declared.words.Source.{Source}
 use Rattle.vcm_spec.specs.declared.words.Source.TheVariants.{Nominal, Actual}
 use Rattle.vcm_fields.specs.declared.word.Word.{Word}
 use Rattle.vcm_fields.specs.declared.word.Word.TheVariants as words
-use Rattle.vcm_code.specs.declared.op.Op.TheVariants.{EndFil, Goto, GoHome, Assign, If, Else, EndIf, Do, EndDo, Label, JumpTo, Feat, Meas}
-use Rattle.vcm_code.specs.declared.op.Op.TheVariants.{PtMeas, EndMes, SnSet, Trans, Rotate, Recall, Obtain, Output, Text}
-use Rattle.vcm_code.specs.declared.op.Op.TheVariants.{Select, Case, EndCas, DftCas, EndSel}
 use Rattle.vcm_code.specs.declared.version.Version.{Version}
 use Rattle.vcm_fields.specs.Parts.{Operation, Line}
 use Rattle.vcm_fields.specs.Words.{word_of, has_word}
+use Rattle.vcm_fields.specs.Shape.{Place, Said, Filled, made, Form, form, form_of, places, values_of}
+use Rattle.vcm_fields.specs.Shape as at
 use Rattle.vcm_spec.specs.TextBytes.{is_text_byte}
 use Rattle.vcm_spec.specs.declared.expression.Item.{Item}
 use Rattle.vcm_words.specs.Cutting.{split, joined}
 use Rattle.vcm_words.specs.Numbers.{number, counted, only_if}
 use Rattle.vcm_num.specs.Words.{look_up}
-use Rattle.vcm_words.specs.WordReaders.{◌>>=◌, Reader, now, one, both, via, after, tested, marked, ending}
+use Rattle.vcm_words.specs.WordReaders.{◌>>=◌, Reader, now, one, both, via, after, tested, marked, ending, rows_of, Spelling, named}
 use Rattle.vcm_words.specs.Items.{expression, expression_at}
 use Rattle.vcm_words.specs.Branches.{branches, branches_at}
 
@@ -47,47 +46,7 @@ number_at exact limit = one (number exact limit)
 abbrev pub lettered_at : Bool → ℕ → ℕ → Reader ℕ
 lettered_at exact letter limit = one (marked letter (number exact limit))
 
--- the index of a variable: V3
-abbrev pub variable : ℕ → List (List ℕ)
-variable n = lettered 86 n
-
--- the index of a feature: F3
-abbrev pub feature : ℕ → List (List ℕ)
-feature n = lettered 70 n
-
--- the index of a frame: D3
-abbrev pub frame : ℕ → List (List ℕ)
-frame n = lettered 68 n
-
--- the number of a pair: L3
-abbrev pub pair : ℕ → List (List ℕ)
-pair n = lettered 76 n
-
--- the number of a statement, as a target: @3
-abbrev pub target : ℕ → List (List ℕ)
-target n = lettered 64 n
-
--- reading the index of a variable
-abbrev pub variable_at : Bool → Reader ℕ
-variable_at exact = lettered_at exact 86 (2 ^ 16)
-
--- reading the index of a feature
-abbrev pub feature_at : Bool → Reader ℕ
-feature_at exact = lettered_at exact 70 (2 ^ 16)
-
--- reading the index of a frame
-abbrev pub frame_at : Bool → Reader ℕ
-frame_at exact = lettered_at exact 68 (2 ^ 16)
-
--- reading the number of a pair
-abbrev pub pair_at : Bool → Reader ℕ
-pair_at exact = lettered_at exact 76 32
-
--- reading a target
-abbrev pub target_at : Bool → Reader ℕ
-target_at exact = lettered_at exact 64 (2 ^ 32)
-
--- ---- words of tables
+-- ---- small tables
 
 -- the word of a direction
 abbrev pub axis_text : Axis → List ℕ
@@ -98,22 +57,18 @@ axis_text MinusY = codes "-Y"
 axis_text PlusZ = codes "+Z"
 axis_text MinusZ = codes "-Z"
 
--- the directions by their words
-abbrev pub axis_rows : List (List ℕ × Axis)
-axis_rows =
-    (codes "+X", PlusX) ∷ (codes "-X", MinusX) ∷ (codes "+Y", PlusY) ∷ (codes "-Y", MinusY) ∷ (codes "+Z", PlusZ) ∷ (codes "-Z", MinusZ)
-    ∷ []
+-- the directions
+abbrev pub axes : List Axis
+axes = PlusX ∷ MinusX ∷ PlusY ∷ MinusY ∷ PlusZ ∷ MinusZ ∷ []
 
 -- the word of a direction of a measurement; NOM stands for the nominal feature's
 abbrev pub direction_text : Option Axis → List ℕ
 direction_text None = codes "NOM"
 direction_text (Some d) = axis_text d
 
--- the directions of a measurement by their words
-abbrev pub direction_rows : List (List ℕ × Option Axis)
-direction_rows =
-    (codes "NOM", None) ∷ (codes "+X", Some PlusX) ∷ (codes "-X", Some MinusX) ∷ (codes "+Y", Some PlusY) ∷ (codes "-Y", Some MinusY)
-    ∷ (codes "+Z", Some PlusZ) ∷ (codes "-Z", Some MinusZ) ∷ []
+-- the directions of a measurement
+abbrev pub directions : List (Option Axis)
+directions = None ∷ map (λ d. Some d) axes
 
 -- the word of a setting of the probe
 abbrev pub setting_text : Setting → List ℕ
@@ -122,26 +77,26 @@ setting_text Retract = codes "RETRCT"
 setting_text Search = codes "SEARCH"
 setting_text Depth = codes "DEPTH"
 
--- the settings by their words
-abbrev pub setting_rows : List (List ℕ × Setting)
-setting_rows = (codes "APPRCH", Approach) ∷ (codes "RETRCT", Retract) ∷ (codes "SEARCH", Search) ∷ (codes "DEPTH", Depth) ∷ []
+-- the settings
+abbrev pub settings : List Setting
+settings = Approach ∷ Retract ∷ Search ∷ Depth ∷ []
 
 -- the word that says whether the nominal or the actual feature is meant
 abbrev pub source_text : Source → List ℕ
 source_text Nominal = codes "NOMINAL"
 source_text Actual = codes "ACTUAL"
 
--- the sources by their words
-abbrev pub source_rows : List (List ℕ × Source)
-source_rows = (codes "NOMINAL", Nominal) ∷ (codes "ACTUAL", Actual) ∷ []
+-- the sources
+abbrev pub sources : List Source
+sources = Nominal ∷ Actual ∷ []
 
 -- the word of the axis of a turn: X, Y or Z
 abbrev pub turn_text : ℕ → List ℕ
 turn_text n = if n == 0 then codes "X" else (if n == 1 then codes "Y" else codes "Z")
 
--- the axes of turns by their words
-abbrev pub turn_rows : List (List ℕ × ℕ)
-turn_rows = (codes "X", 0) ∷ (codes "Y", 1) ∷ (codes "Z", 2) ∷ []
+-- the axes of turns
+abbrev pub turns : List ℕ
+turns = 0 ∷ 1 ∷ 2 ∷ []
 
 -- reading the number of a feature's word: 3 to 8
 abbrev pub part_at : Bool → Reader ℕ
@@ -163,7 +118,7 @@ unfoldable pub text_at : Bool → Reader (List ℕ)
 text_at exact [] = None
 text_at exact (w ∷ ws) = quoted_in exact (joined 32 (w ∷ ws)) >>= λ bs. Some (bs, [])
 
--- ---- statements
+-- ---- the words of statements
 
 -- the word of each statement
 abbrev pub word_text : Word → List ℕ
@@ -195,116 +150,79 @@ word_text words.EndCas = codes "ENDCAS"
 word_text words.DftCas = codes "DFTCAS"
 word_text words.EndSel = codes "ENDSEL"
 
--- the statements' words
-abbrev pub word_rows : List (List ℕ × Word)
-word_rows =
-    (codes "ENDFIL", words.EndFil)
-    ∷ (codes "GOTO", words.Goto)
-    ∷ (codes "GOHOME", words.GoHome)
-    ∷ (codes "ASSIGN", words.Assign)
-    ∷ (codes "IF", words.If)
-    ∷ (codes "ELSE", words.Else)
-    ∷ (codes "ENDIF", words.EndIf)
-    ∷ (codes "DO", words.Do)
-    ∷ (codes "ENDDO", words.EndDo)
-    ∷ (codes "LABEL", words.Label)
-    ∷ (codes "JUMPTO", words.JumpTo)
-    ∷ (codes "FEAT", words.Feat)
-    ∷ (codes "MEAS", words.Meas)
-    ∷ (codes "PTMEAS", words.PtMeas)
-    ∷ (codes "ENDMES", words.EndMes)
-    ∷ (codes "SNSET", words.SnSet)
-    ∷ (codes "TRANS", words.Trans)
-    ∷ (codes "ROTATE", words.Rotate)
-    ∷ (codes "RECALL", words.Recall)
-    ∷ (codes "OBTAIN", words.Obtain)
-    ∷ (codes "OUTPUT", words.Output)
-    ∷ (codes "TEXT", words.Text)
-    ∷ (codes "SELECT", words.Select)
-    ∷ (codes "CASE", words.Case)
-    ∷ (codes "ENDCAS", words.EndCas)
-    ∷ (codes "DFTCAS", words.DftCas)
-    ∷ (codes "ENDSEL", words.EndSel)
-    ∷ []
+-- the words
+abbrev pub all_words : List Word
+all_words =
+    words.EndFil ∷ words.Goto ∷ words.GoHome ∷ words.Assign ∷ words.If ∷ words.Else ∷ words.EndIf ∷ words.Do ∷ words.EndDo ∷ words.Label
+    ∷ words.JumpTo ∷ words.Feat ∷ words.Meas ∷ words.PtMeas ∷ words.EndMes ∷ words.SnSet ∷ words.Trans ∷ words.Rotate ∷ words.Recall
+    ∷ words.Obtain ∷ words.Output ∷ words.Text ∷ words.Select ∷ words.Case ∷ words.EndCas ∷ words.DftCas ∷ words.EndSel ∷ []
+
+-- ---- places
 
 -- three expressions
-abbrev pub three : List Item → List Item → List Item → List (List ℕ)
-three x y z = expression x ++ (expression y ++ expression z)
-
--- the operands of each statement, in order
-abbrev pub operands : Operation → List (List ℕ)
-operands EndFil = []
-operands (Goto x y z) = three x y z
-operands GoHome = []
-operands (Assign v e) = variable v ++ expression e
-operands (If e to) = expression e ++ target to
-operands (Else to) = target to
-operands EndIf = []
-operands (Do v p a b c exit) = variable v ++ (pair p ++ (three a b c ++ target exit))
-operands (EndDo v p back) = variable v ++ (pair p ++ target back)
-operands Label = []
-operands (JumpTo to) = target to
-operands (Feat f x y z toward) = feature f ++ (three x y z ++ single (axis_text toward))
-operands (Meas f) = feature f
-operands (PtMeas f x y z toward) = feature f ++ (three x y z ++ single (direction_text toward))
-operands EndMes = []
-operands (SnSet which e) = single (setting_text which) ++ expression e
-operands (Trans f x y z) = frame f ++ three x y z
-operands (Rotate f axis quarters) = frame f ++ (single (turn_text axis) ++ (number_text quarters))
-operands (Recall f) = frame f
-operands (Obtain v source f word) = variable v ++ (single (source_text source) ++ (feature f ++ (number_text word)))
-operands (Output source f) = single (source_text source) ++ feature f
-operands (Text bs) = text bs
-operands (Select e bs to) = expression e ++ (branches bs ++ target to)
-operands Case = []
-operands (EndCas to) = target to
-operands DftCas = []
-operands EndSel = []
+abbrev pub three : List Item × (List Item × List Item) → List (List ℕ)
+three t = expression t.0 ++ (expression t.1.0 ++ expression t.1.1)
 
 -- reading three expressions
 unfoldable pub three_at : Bool → Reader (List Item × (List Item × List Item))
 three_at exact = both (expression_at exact) (both (expression_at exact) (expression_at exact))
 
--- reading the operands of each statement, in order
+-- a number below a limit
+abbrev pub below : ℕ → Spelling ℕ
+below limit = record { words = number_text; at = λ exact. number_at exact limit }
+
+-- a number below a limit, behind a letter
+abbrev pub behind : ℕ → ℕ → Spelling ℕ
+behind letter limit = record { words = lettered letter; at = λ exact. lettered_at exact letter limit }
+
+-- each place: V3, F3, D3, L3, @3 or a number alone, expressions, words of tables, the number of a feature's word, a text, branches
+abbrev pub spelling : (p : Place) → Spelling (Said p)
+spelling at.variable = behind 86 (2 ^ 16)
+spelling at.feature = behind 70 (2 ^ 16)
+spelling at.frame = behind 68 (2 ^ 16)
+spelling at.pair = behind 76 32
+spelling at.target = behind 64 (2 ^ 32)
+spelling at.items = record { words = expression; at = expression_at }
+spelling at.three = record { words = three; at = three_at }
+spelling at.axis = named axis_text axes
+spelling at.direction = named direction_text directions
+spelling at.setting = named setting_text settings
+spelling at.source = named source_text sources
+spelling at.turn = named turn_text turns
+spelling at.quarters = below 4
+spelling at.part = record { words = number_text; at = part_at }
+spelling at.text = record { words = text; at = text_at }
+spelling at.branches = record { words = branches; at = branches_at }
+
+-- the words of what stands in places
+abbrev pub words_of : (ps : List Place) → Filled ps → List (List ℕ)
+words_of [] f = []
+words_of (p ∷ []) f = (spelling p).words f
+words_of (p ∷ q ∷ ps) f = (spelling p).words f.0 ++ words_of (q ∷ ps) f.1
+
+-- reading what stands in places
+abbrev pub filled_at : Bool → (ps : List Place) → Reader (Filled ps)
+filled_at exact [] = now tt
+filled_at exact (p ∷ []) = (spelling p).at exact
+filled_at exact (p ∷ q ∷ ps) = both ((spelling p).at exact) (filled_at exact (q ∷ ps))
+
+-- ---- statements
+
+-- the operands of a statement
+abbrev pub operands : Operation → List (List ℕ)
+operands o = words_of (places (word_of o)) (values_of o)
+
+-- reading the places of a form
+abbrev pub form_at : Bool → Form → Reader Operation
+form_at exact (form ps make) = via (made ps make) (filled_at exact ps)
+
+-- reading the operands behind a word
 unfoldable pub operands_at : Bool → Word → Reader Operation
-operands_at exact words.EndFil = now EndFil
-operands_at exact words.Goto = via (λ o. Goto o.0 o.1.0 o.1.1) (three_at exact)
-operands_at exact words.GoHome = now GoHome
-operands_at exact words.Assign = via (λ o. Assign o.0 o.1) (both (variable_at exact) (expression_at exact))
-operands_at exact words.If = via (λ o. If o.0 o.1) (both (expression_at exact) (target_at exact))
-operands_at exact words.Else = via Else (target_at exact)
-operands_at exact words.EndIf = now EndIf
-operands_at exact words.Do =
-    via (λ o. Do o.0 o.1.0 o.1.1.0.0 o.1.1.0.1.0 o.1.1.0.1.1 o.1.1.1)
-    (both (variable_at exact) (both (pair_at exact) (both (three_at exact) (target_at exact))))
-operands_at exact words.EndDo = via (λ o. EndDo o.0 o.1.0 o.1.1) (both (variable_at exact) (both (pair_at exact) (target_at exact)))
-operands_at exact words.Label = now Label
-operands_at exact words.JumpTo = via JumpTo (target_at exact)
-operands_at exact words.Feat =
-    via (λ o. Feat o.0 o.1.0.0 o.1.0.1.0 o.1.0.1.1 o.1.1) (both (feature_at exact) (both (three_at exact) (one (look_up axis_rows))))
-operands_at exact words.Meas = via Meas (feature_at exact)
-operands_at exact words.PtMeas =
-    via (λ o. PtMeas o.0 o.1.0.0 o.1.0.1.0 o.1.0.1.1 o.1.1) (both (feature_at exact) (both (three_at exact) (one (look_up direction_rows))))
-operands_at exact words.EndMes = now EndMes
-operands_at exact words.SnSet = via (λ o. SnSet o.0 o.1) (both (one (look_up setting_rows)) (expression_at exact))
-operands_at exact words.Trans = via (λ o. Trans o.0 o.1.0 o.1.1.0 o.1.1.1) (both (frame_at exact) (three_at exact))
-operands_at exact words.Rotate =
-    via (λ o. Rotate o.0 o.1.0 o.1.1) (both (frame_at exact) (both (one (look_up turn_rows)) (number_at exact 4)))
-operands_at exact words.Recall = via Recall (frame_at exact)
-operands_at exact words.Obtain =
-    via (λ o. Obtain o.0 o.1.0 o.1.1.0 o.1.1.1) (both (variable_at exact)
-    (both (one (look_up source_rows)) (both (feature_at exact) (part_at exact))))
-operands_at exact words.Output = via (λ o. Output o.0 o.1) (both (one (look_up source_rows)) (feature_at exact))
-operands_at exact words.Text = via Text (text_at exact)
-operands_at exact words.Select = via (λ o. Select o.0 o.1.0 o.1.1) (both (expression_at exact) (both (branches_at exact) (target_at exact)))
-operands_at exact words.Case = now Case
-operands_at exact words.EndCas = via EndCas (target_at exact)
-operands_at exact words.DftCas = now DftCas
-operands_at exact words.EndSel = now EndSel
+operands_at exact w = form_at exact (form_of w)
 
 -- reading the word of a statement, of any version
 abbrev pub any_word_at : Reader Word
-any_word_at = one (look_up word_rows)
+any_word_at = one (look_up (rows_of word_text all_words))
 
 -- reading the word of a statement that the version has
 abbrev pub word_at : Version → Reader Word

@@ -18,7 +18,7 @@ use Rattle.vcm_words.specs.declared.row.Heading.TheVariants as headings
 use Rattle.vcm_words.specs.Cutting.{split, joined}
 use Rattle.vcm_words.specs.Numbers.{only_if, is_figures}
 use Rattle.vcm_num.specs.Words.{look_up}
-use Rattle.vcm_words.specs.WordReaders.{Reader, one, both, via, ended}
+use Rattle.vcm_words.specs.WordReaders.{Reader, one, both, via, ended, rows_of}
 use Rattle.vcm_words.specs.Operands.{single, number_text, number_at, line, line_at}
 
 -- a line, with its items, texts and branches as lists
@@ -32,18 +32,37 @@ abbrev pub version_text : Version → List ℕ
 version_text One = codes "1"
 version_text Two = codes "2"
 
+-- the versions
+abbrev pub versions : List Version
+versions = One ∷ Two ∷ []
+
 -- the word of a kind
 abbrev pub kind_text : Kind → List ℕ
 kind_text Int = codes "INTGR"
 kind_text Real = codes "REAL"
 kind_text Truth = codes "BOOL"
 
+-- the kinds
+abbrev pub kinds : List Kind
+kinds = Int ∷ Real ∷ Truth ∷ []
+
+-- the word that a line begins with, where it is no statement
+abbrev pub heading_text : Heading → List ℕ
+heading_text headings.Head = codes "VCM-LISTING"
+heading_text headings.Variables = codes "VAR"
+heading_text headings.Features = codes "FEATURE"
+heading_text headings.Frames = codes "FRAME"
+
+-- these lines
+abbrev pub all_headings : List Heading
+all_headings = headings.Head ∷ headings.Variables ∷ headings.Features ∷ headings.Frames ∷ []
+
 -- the words of a line
 abbrev pub row_words : ListRow → List (List ℕ)
-row_words (Head version) = codes "VCM-LISTING" ∷ single (version_text version)
-row_words (Variable i v) = codes "VAR" ∷ (number_text i ++ (single (kind_text v.kind) ++ (single v.name ++ number_text v.expansion)))
-row_words (Feature i name) = codes "FEATURE" ∷ (number_text i ++ single name)
-row_words (Frame i name) = codes "FRAME" ∷ (number_text i ++ single name)
+row_words (Head version) = heading_text headings.Head ∷ single (version_text version)
+row_words (Variable i v) = heading_text headings.Variables ∷ (number_text i ++ (single (kind_text v.kind) ++ (single v.name ++ number_text v.expansion)))
+row_words (Feature i name) = heading_text headings.Features ∷ (number_text i ++ single name)
+row_words (Frame i name) = heading_text headings.Frames ∷ (number_text i ++ single name)
 row_words (Numbered n s) = number_text n ++ line s
 
 -- a line, without its end
@@ -71,16 +90,6 @@ listing c = text_of (rows c)
 
 -- ---- reading
 
--- the kinds by their words
-abbrev pub kind_rows : List (List ℕ × Kind)
-kind_rows = (codes "INTGR", Int) ∷ (codes "REAL", Real) ∷ (codes "BOOL", Truth) ∷ []
-
--- the words that a line begins with, where it is no statement
-abbrev pub heading_rows : List (List ℕ × Heading)
-heading_rows =
-    (codes "VCM-LISTING", headings.Head) ∷ (codes "VAR", headings.Variables) ∷ (codes "FEATURE", headings.Features)
-    ∷ (codes "FRAME", headings.Frames) ∷ []
-
 -- reading a name
 abbrev pub name_at : Reader (List ℕ)
 name_at = one (λ w. only_if (is_name w) w)
@@ -89,13 +98,9 @@ name_at = one (λ w. only_if (is_name w) w)
 abbrev pub variable_name_at : Reader (List ℕ)
 variable_name_at = one (λ w. only_if (is_variable_name w) w)
 
--- the versions by their numbers
-abbrev pub version_rows : List (List ℕ × Version)
-version_rows = (codes "1", One) ∷ (codes "2", Two) ∷ []
-
 -- the version with this number, or the shape of a number in its place
 abbrev pub version_in : Bool → List ℕ → Option Version
-version_in true w = look_up version_rows w
+version_in true w = look_up (rows_of version_text versions) w
 version_in false w = only_if (is_figures w) One
 
 -- reading the number of a version
@@ -106,7 +111,7 @@ version_at exact = one (version_in exact)
 unfoldable pub entry_at : Bool → Reader (ℕ × Entry)
 entry_at exact =
     via (λ o. (o.0, record { name = o.1.1.0; kind = o.1.0; expansion = o.1.1.1 }))
-    (both (number_at exact (2 ^ 32)) (both (one (look_up kind_rows)) (both variable_name_at (number_at exact (2 ^ 32)))))
+    (both (number_at exact (2 ^ 32)) (both (one (look_up (rows_of kind_text kinds))) (both variable_name_at (number_at exact (2 ^ 32)))))
 
 -- reading the index and the name of a feature or a frame
 unfoldable pub indexed_at : Bool → Reader (ℕ × List ℕ)
@@ -127,7 +132,7 @@ row_after version exact None w ws = ended (via (λ o. Numbered o.0 o.1) (numbere
 -- the line of these words
 abbrev pub row_at : Version → Bool → List (List ℕ) → Option ListRow
 row_at version exact [] = None
-row_at version exact (w ∷ ws) = row_after version exact (look_up heading_rows w) w ws
+row_at version exact (w ∷ ws) = row_after version exact (look_up (rows_of heading_text all_headings) w) w ws
 
 -- a line of a listing of this version, read exactly or only for its shape
 unfoldable pub row_of : Version → Bool → List ℕ → Option ListRow

@@ -1,5 +1,6 @@
 -- Readers of words, one after another.
-use Rattle.std.specs.Prelude.{ℕ, ◌==◌, Bool, if◌then◌else◌, List, [], ◌∷◌, Option, Some, None}
+use Rattle.std.specs.Prelude.{ℕ, ◌==◌, Bool, if◌then◌else◌, List, [], ◌∷◌, Option, Some, None, map}
+use Rattle.vcm_num.specs.Words.{look_up}
 use Rattle.vcm_words.specs.Numbers.{only_if}
 
 -- what comes after a value that there is
@@ -65,3 +66,20 @@ abbrev pub ending : ℕ → List ℕ → Option (List ℕ)
 ending mark [] = None
 ending mark (b ∷ []) = if b == mark then Some [] else None
 ending mark (b ∷ c ∷ bs) = in_front b (ending mark (c ∷ bs))
+
+-- ---- tables
+
+-- the rows of a table: each value by its word
+abbrev pub rows_of : {A : Type 0} → (A → List ℕ) → List A → List (List ℕ × A)
+rows_of text xs = map (λ x. (text x, x)) xs
+
+-- ---- both ways
+
+-- how a value is written, and how it is read, exactly or for its shape
+pub record Spelling (A : Type 0) : Type 0 where
+  pub words : A → List (List ℕ)
+  pub at : Bool → Reader A
+
+-- a value of a table, by its word
+abbrev pub named : {A : Type 0} → (A → List ℕ) → List A → Spelling A
+named text xs = record { words = λ x. text x ∷ []; at = λ exact. one (look_up (rows_of text xs)) }

@@ -2,8 +2,8 @@
 
 ghost use Rattle.std.specs.Prelude.{◌≡◌, MatchOption, Some, None};
 ghost use Rattle.vcm_num.specs.Words.{look_up};
-ghost use Rattle.vcm_words.specs.WordReaders.{ending};
-ghost use Rattle.vcm_words.specs.Items.{operand_in, item_in, operator_rows};
+ghost use Rattle.vcm_words.specs.WordReaders.{ending, rows_of};
+ghost use Rattle.vcm_words.specs.Items.{operand_in, item_in, item_text, operators};
 
 use crate::numbers::{short, signed, small};
 use vcm_num::look_up;
@@ -35,7 +35,7 @@ fn operand(exact: bool, word: &[u8]) -> Option<Operand>
 
 // An operator goes by its word.
 fn operator(word: &[u8]) -> Option<Item>
-    ensures { result ≡ look_up operator_rows word.now }
+    ensures { result ≡ look_up (rows_of item_text operators) word.now }
 {
     look_up(
         &[

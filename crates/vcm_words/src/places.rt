@@ -1,11 +1,12 @@
 //! The places of a statement's operands. Each is read exactly, or for its shape alone: then whatever has the shape of a number
 //! stands for one.
 
-ghost use Rattle.std.specs.Prelude.{◌≡◌, ◌^◌, ◌<◌, ◌==◌, nat_le, Some};
+ghost use Rattle.std.specs.Prelude.{◌≡◌, ◌^◌, ◌<◌, ◌==◌, nat_le, Some, None, MatchOption};
 ghost use Rattle.vcm_words.specs.Numbers.{number, counted, only_if};
 ghost use Rattle.vcm_num.specs.Words.{look_up};
-ghost use Rattle.vcm_words.specs.WordReaders.{one, marked};
-ghost use Rattle.vcm_words.specs.Operands.{lettered_at, number_at, axis_rows, direction_rows, setting_rows, source_rows, turn_rows, part_at, quoted_in, text_at, word_at};
+ghost use Rattle.vcm_words.specs.WordReaders.{one, marked, rows_of};
+ghost use Rattle.vcm_words.specs.Enclosed.{opening};
+ghost use Rattle.vcm_words.specs.Operands.{lettered_at, number_at, axis_text, axes, direction_text, directions, setting_text, settings, source_text, sources, turn_text, turns, part_at, quoted_in, text_at};
 
 use crate::items::before_end;
 use crate::numbers::{long, short, small};
@@ -17,55 +18,48 @@ use vcm_spec::{Setting, Source, are_text_bytes};
 /// The most bytes of a text.
 const LONGEST_TEXT: usize = 1024;
 
+// What stands behind a letter, and the words behind it.
+fn behind<'a>(letter: u8, words: &Words<'a>) -> Option<(&'a [u8], Words<'a>)>
+    ensures { MatchOption result (one (opening letter) words.now ≡ None) (λ x. one (opening letter) words.now ≡ Some (x.0.now, x.1)) }
+{
+    let (word, rest) = words.split_first()?;
+    match word {
+        [] => None,
+        [first, after @ ..] => {
+            if *first == letter {
+                Some((after, rest))
+            } else {
+                None
+            }
+        }
+    }
+}
+
 /// An index of 16 bits behind a letter, and the words behind it.
+#[tactic(auto, using(crate::proofs::WordLaws::behind_mark))]
 pub fn lettered<'a>(exact: bool, letter: u8, words: &Words<'a>) -> Option<(u16, Words<'a>)>
     ensures { result ≡ lettered_at exact letter (2 ^ 16) words.now }
 {
-    let (word, rest) = words.split_first()?;
-    match word {
-        [] => None,
-        [first, digits @ ..] => {
-            if *first == letter {
-                Some((short(exact, digits)?, rest))
-            } else {
-                None
-            }
-        }
-    }
+    let (digits, rest) = behind(letter, words)?;
+    Some((short(exact, digits)?, rest))
 }
 
 /// The number of a statement, as a target, and the words behind it.
+#[tactic(auto, using(crate::proofs::WordLaws::behind_mark))]
 pub fn target<'a>(exact: bool, words: &Words<'a>) -> Option<(u32, Words<'a>)>
     ensures { result ≡ lettered_at exact 64 (2 ^ 32) words.now }
 {
-    let (word, rest) = words.split_first()?;
-    match word {
-        [] => None,
-        [first, digits @ ..] => {
-            if *first == b'@' {
-                Some((long(exact, digits)?, rest))
-            } else {
-                None
-            }
-        }
-    }
+    let (digits, rest) = behind(b'@', words)?;
+    Some((long(exact, digits)?, rest))
 }
 
 /// The number of a loop's pair, 0 to 31, and the words behind it.
+#[tactic(auto, using(crate::proofs::WordLaws::behind_mark))]
 pub fn pair<'a>(exact: bool, words: &Words<'a>) -> Option<(u8, Words<'a>)>
     ensures { result ≡ lettered_at exact 76 32 words.now }
 {
-    let (word, rest) = words.split_first()?;
-    match word {
-        [] => None,
-        [first, digits @ ..] => {
-            if *first == b'L' {
-                Some((small(exact, 32, digits)?, rest))
-            } else {
-                None
-            }
-        }
-    }
+    let (digits, rest) = behind(b'L', words)?;
+    Some((small(exact, 32, digits)?, rest))
 }
 
 /// A number of 32 bits, and the words behind it.
@@ -98,7 +92,7 @@ pub fn part<'a>(exact: bool, words: &Words<'a>) -> Option<(u8, Words<'a>)>
 
 /// A direction, and the words behind it.
 pub fn axis<'a>(words: &Words<'a>) -> Option<(Axis, Words<'a>)>
-    ensures { result ≡ one (look_up axis_rows) words.now }
+    ensures { result ≡ one (look_up (rows_of axis_text axes)) words.now }
 {
     table_word(
         &[
@@ -115,7 +109,7 @@ pub fn axis<'a>(words: &Words<'a>) -> Option<(Axis, Words<'a>)>
 
 /// The direction of a measurement, none where it is the nominal feature's, and the words behind it.
 pub fn direction<'a>(words: &Words<'a>) -> Option<(Option<Axis>, Words<'a>)>
-    ensures { result ≡ one (look_up direction_rows) words.now }
+    ensures { result ≡ one (look_up (rows_of direction_text directions)) words.now }
 {
     table_word(
         &[
@@ -133,7 +127,7 @@ pub fn direction<'a>(words: &Words<'a>) -> Option<(Option<Axis>, Words<'a>)>
 
 /// A setting of the probe, and the words behind it.
 pub fn setting<'a>(words: &Words<'a>) -> Option<(Setting, Words<'a>)>
-    ensures { result ≡ one (look_up setting_rows) words.now }
+    ensures { result ≡ one (look_up (rows_of setting_text settings)) words.now }
 {
     table_word(
         &[
@@ -148,7 +142,7 @@ pub fn setting<'a>(words: &Words<'a>) -> Option<(Setting, Words<'a>)>
 
 /// Whether the nominal or the actual feature is meant, and the words behind it.
 pub fn source<'a>(words: &Words<'a>) -> Option<(Source, Words<'a>)>
-    ensures { result ≡ one (look_up source_rows) words.now }
+    ensures { result ≡ one (look_up (rows_of source_text sources)) words.now }
 {
     table_word(
         &[(b"NOMINAL", Source::Nominal), (b"ACTUAL", Source::Actual)],
@@ -158,7 +152,7 @@ pub fn source<'a>(words: &Words<'a>) -> Option<(Source, Words<'a>)>
 
 /// The axis of a turn, 0 to 2 for x, y and z, and the words behind it.
 pub fn turn<'a>(words: &Words<'a>) -> Option<(u8, Words<'a>)>
-    ensures { result ≡ one (look_up turn_rows) words.now }
+    ensures { result ≡ one (look_up (rows_of turn_text turns)) words.now }
 {
     table_word(&[(b"X", 0), (b"Y", 1), (b"Z", 2)], words)
 }

@@ -1,17 +1,20 @@
 //! The statements of a listing, whose items, texts and branches are words of their lines. Each is read exactly, or for its shape alone: then
 //! whatever has the shape of a number stands for one.
+#![tactic(auto, unfolding(crate::specs::Operands::operands_at))]
 
 ghost use Rattle.std.specs.Prelude.{◌≡◌};
 ghost use Rattle.vcm_fields.specs.declared.word.Word.TheVariants as kinds;
 ghost use Rattle.vcm_words.specs.Operands.{three_at, operands_at, op_at, line_at};
 
+use crate::braces::{BranchWords, branches};
 use crate::kinds::kind;
+use crate::places::{
+    axis, count, direction, lettered, pair, part, quarters, setting, source, target, text, turn,
+};
+use crate::slices::{ItemWords, TextWords, expression};
+use crate::words::Words;
 use vcm_code::{Op, Statement, Version};
 use vcm_fields::Word;
-use vcm_words::{
-    BranchWords, ItemWords, TextWords, Words, axis, branches, count, direction, expression,
-    lettered, pair, part, quarters, setting, source, target, text, turn,
-};
 
 /// What a statement of a listing does.
 pub type BorrowedOp<'a> = Op<ItemWords<'a>, TextWords<'a>, BranchWords<'a>>;
@@ -22,7 +25,7 @@ pub type BorrowedStatement<'a> = Statement<ItemWords<'a>, TextWords<'a>, BranchW
 // Three expressions.
 type Triple<'a> = (ItemWords<'a>, (ItemWords<'a>, ItemWords<'a>));
 
-#[tactic(auto, unfolding(vcm_words::specs::Operands::three_at))]
+#[tactic(auto, unfolding(crate::specs::Operands::three_at))]
 fn three<'a>(exact: bool, words: &Words<'a>) -> Option<(Triple<'a>, Words<'a>)>
     ensures { result ≡ three_at exact words.now }
 {
@@ -33,7 +36,6 @@ fn three<'a>(exact: bool, words: &Words<'a>) -> Option<(Triple<'a>, Words<'a>)>
 }
 
 // The operands of GOTO.
-#[tactic(auto, unfolding(vcm_words::specs::Operands::operands_at))]
 fn goto<'a>(exact: bool, words: &Words<'a>) -> Option<(BorrowedOp<'a>, Words<'a>)>
     ensures { result ≡ operands_at exact kinds.Goto words.now }
 {
@@ -42,7 +44,6 @@ fn goto<'a>(exact: bool, words: &Words<'a>) -> Option<(BorrowedOp<'a>, Words<'a>
 }
 
 // The operands of ASSIGN.
-#[tactic(auto, unfolding(vcm_words::specs::Operands::operands_at))]
 fn assign<'a>(exact: bool, words: &Words<'a>) -> Option<(BorrowedOp<'a>, Words<'a>)>
     ensures { result ≡ operands_at exact kinds.Assign words.now }
 {
@@ -52,7 +53,6 @@ fn assign<'a>(exact: bool, words: &Words<'a>) -> Option<(BorrowedOp<'a>, Words<'
 }
 
 // The operands of IF.
-#[tactic(auto, unfolding(vcm_words::specs::Operands::operands_at))]
 fn choice<'a>(exact: bool, words: &Words<'a>) -> Option<(BorrowedOp<'a>, Words<'a>)>
     ensures { result ≡ operands_at exact kinds.If words.now }
 {
@@ -62,7 +62,6 @@ fn choice<'a>(exact: bool, words: &Words<'a>) -> Option<(BorrowedOp<'a>, Words<'
 }
 
 // The operands of ELSE.
-#[tactic(auto, unfolding(vcm_words::specs::Operands::operands_at))]
 fn other<'a>(exact: bool, words: &Words<'a>) -> Option<(BorrowedOp<'a>, Words<'a>)>
     ensures { result ≡ operands_at exact kinds.Else words.now }
 {
@@ -71,7 +70,6 @@ fn other<'a>(exact: bool, words: &Words<'a>) -> Option<(BorrowedOp<'a>, Words<'a
 }
 
 // The operands of DO.
-#[tactic(auto, unfolding(vcm_words::specs::Operands::operands_at))]
 fn looping<'a>(exact: bool, words: &Words<'a>) -> Option<(BorrowedOp<'a>, Words<'a>)>
     ensures { result ≡ operands_at exact kinds.Do words.now }
 {
@@ -86,7 +84,6 @@ fn looping<'a>(exact: bool, words: &Words<'a>) -> Option<(BorrowedOp<'a>, Words<
 }
 
 // The operands of ENDDO.
-#[tactic(auto, unfolding(vcm_words::specs::Operands::operands_at))]
 fn turning<'a>(exact: bool, words: &Words<'a>) -> Option<(BorrowedOp<'a>, Words<'a>)>
     ensures { result ≡ operands_at exact kinds.EndDo words.now }
 {
@@ -97,7 +94,6 @@ fn turning<'a>(exact: bool, words: &Words<'a>) -> Option<(BorrowedOp<'a>, Words<
 }
 
 // The operands of JUMPTO.
-#[tactic(auto, unfolding(vcm_words::specs::Operands::operands_at))]
 fn jump<'a>(exact: bool, words: &Words<'a>) -> Option<(BorrowedOp<'a>, Words<'a>)>
     ensures { result ≡ operands_at exact kinds.JumpTo words.now }
 {
@@ -106,7 +102,6 @@ fn jump<'a>(exact: bool, words: &Words<'a>) -> Option<(BorrowedOp<'a>, Words<'a>
 }
 
 // The operands of FEAT.
-#[tactic(auto, unfolding(vcm_words::specs::Operands::operands_at))]
 fn feat<'a>(exact: bool, words: &Words<'a>) -> Option<(BorrowedOp<'a>, Words<'a>)>
     ensures { result ≡ operands_at exact kinds.Feat words.now }
 {
@@ -117,7 +112,6 @@ fn feat<'a>(exact: bool, words: &Words<'a>) -> Option<(BorrowedOp<'a>, Words<'a>
 }
 
 // The operands of MEAS.
-#[tactic(auto, unfolding(vcm_words::specs::Operands::operands_at))]
 fn meas<'a>(exact: bool, words: &Words<'a>) -> Option<(BorrowedOp<'a>, Words<'a>)>
     ensures { result ≡ operands_at exact kinds.Meas words.now }
 {
@@ -126,7 +120,6 @@ fn meas<'a>(exact: bool, words: &Words<'a>) -> Option<(BorrowedOp<'a>, Words<'a>
 }
 
 // The operands of PTMEAS.
-#[tactic(auto, unfolding(vcm_words::specs::Operands::operands_at))]
 fn point<'a>(exact: bool, words: &Words<'a>) -> Option<(BorrowedOp<'a>, Words<'a>)>
     ensures { result ≡ operands_at exact kinds.PtMeas words.now }
 {
@@ -137,7 +130,6 @@ fn point<'a>(exact: bool, words: &Words<'a>) -> Option<(BorrowedOp<'a>, Words<'a
 }
 
 // The operands of SNSET.
-#[tactic(auto, unfolding(vcm_words::specs::Operands::operands_at))]
 fn set<'a>(exact: bool, words: &Words<'a>) -> Option<(BorrowedOp<'a>, Words<'a>)>
     ensures { result ≡ operands_at exact kinds.SnSet words.now }
 {
@@ -147,7 +139,6 @@ fn set<'a>(exact: bool, words: &Words<'a>) -> Option<(BorrowedOp<'a>, Words<'a>)
 }
 
 // The operands of TRANS.
-#[tactic(auto, unfolding(vcm_words::specs::Operands::operands_at))]
 fn shift<'a>(exact: bool, words: &Words<'a>) -> Option<(BorrowedOp<'a>, Words<'a>)>
     ensures { result ≡ operands_at exact kinds.Trans words.now }
 {
@@ -157,7 +148,6 @@ fn shift<'a>(exact: bool, words: &Words<'a>) -> Option<(BorrowedOp<'a>, Words<'a
 }
 
 // The operands of ROTATE.
-#[tactic(auto, unfolding(vcm_words::specs::Operands::operands_at))]
 fn rotation<'a>(exact: bool, words: &Words<'a>) -> Option<(BorrowedOp<'a>, Words<'a>)>
     ensures { result ≡ operands_at exact kinds.Rotate words.now }
 {
@@ -168,7 +158,6 @@ fn rotation<'a>(exact: bool, words: &Words<'a>) -> Option<(BorrowedOp<'a>, Words
 }
 
 // The operands of RECALL.
-#[tactic(auto, unfolding(vcm_words::specs::Operands::operands_at))]
 fn recall<'a>(exact: bool, words: &Words<'a>) -> Option<(BorrowedOp<'a>, Words<'a>)>
     ensures { result ≡ operands_at exact kinds.Recall words.now }
 {
@@ -177,7 +166,6 @@ fn recall<'a>(exact: bool, words: &Words<'a>) -> Option<(BorrowedOp<'a>, Words<'
 }
 
 // The operands of OBTAIN.
-#[tactic(auto, unfolding(vcm_words::specs::Operands::operands_at))]
 fn obtain<'a>(exact: bool, words: &Words<'a>) -> Option<(BorrowedOp<'a>, Words<'a>)>
     ensures { result ≡ operands_at exact kinds.Obtain words.now }
 {
@@ -189,7 +177,6 @@ fn obtain<'a>(exact: bool, words: &Words<'a>) -> Option<(BorrowedOp<'a>, Words<'
 }
 
 // The operands of OUTPUT.
-#[tactic(auto, unfolding(vcm_words::specs::Operands::operands_at))]
 fn output<'a>(exact: bool, words: &Words<'a>) -> Option<(BorrowedOp<'a>, Words<'a>)>
     ensures { result ≡ operands_at exact kinds.Output words.now }
 {
@@ -199,7 +186,6 @@ fn output<'a>(exact: bool, words: &Words<'a>) -> Option<(BorrowedOp<'a>, Words<'
 }
 
 // The operands of TEXT.
-#[tactic(auto, unfolding(vcm_words::specs::Operands::operands_at))]
 fn printed<'a>(exact: bool, words: &Words<'a>) -> Option<(BorrowedOp<'a>, Words<'a>)>
     ensures { result ≡ operands_at exact kinds.Text words.now }
 {
@@ -208,7 +194,6 @@ fn printed<'a>(exact: bool, words: &Words<'a>) -> Option<(BorrowedOp<'a>, Words<
 }
 
 // The operands of SELECT.
-#[tactic(auto, unfolding(vcm_words::specs::Operands::operands_at))]
 fn selection<'a>(exact: bool, words: &Words<'a>) -> Option<(BorrowedOp<'a>, Words<'a>)>
     ensures { result ≡ operands_at exact kinds.Select words.now }
 {
@@ -219,7 +204,6 @@ fn selection<'a>(exact: bool, words: &Words<'a>) -> Option<(BorrowedOp<'a>, Word
 }
 
 // The operands of ENDCAS.
-#[tactic(auto, unfolding(vcm_words::specs::Operands::operands_at))]
 fn case_end<'a>(exact: bool, words: &Words<'a>) -> Option<(BorrowedOp<'a>, Words<'a>)>
     ensures { result ≡ operands_at exact kinds.EndCas words.now }
 {
@@ -228,7 +212,6 @@ fn case_end<'a>(exact: bool, words: &Words<'a>) -> Option<(BorrowedOp<'a>, Words
 }
 
 // The operands behind a word.
-#[tactic(auto, unfolding(vcm_words::specs::Operands::operands_at))]
 fn operands<'a>(exact: bool, word: Word, words: &Words<'a>) -> Option<(BorrowedOp<'a>, Words<'a>)>
     ensures { result ≡ operands_at exact word words.now }
 {
@@ -264,7 +247,7 @@ fn operands<'a>(exact: bool, word: Word, words: &Words<'a>) -> Option<(BorrowedO
 }
 
 // The word of a statement of a version and its operands.
-#[tactic(auto, unfolding(vcm_words::specs::Operands::op_at))]
+#[tactic(auto, unfolding(crate::specs::Operands::op_at))]
 fn op<'a>(version: Version, exact: bool, words: &Words<'a>) -> Option<(BorrowedOp<'a>, Words<'a>)>
     ensures { result ≡ op_at version exact words.now }
 {
@@ -273,7 +256,7 @@ fn op<'a>(version: Version, exact: bool, words: &Words<'a>) -> Option<(BorrowedO
 }
 
 /// A statement of a version behind its number: its source line, its word and its operands; and the words behind it.
-#[tactic(auto, unfolding(vcm_words::specs::Operands::line_at))]
+#[tactic(auto, unfolding(crate::specs::Operands::line_at))]
 pub(crate) fn line<'a>(
     version: Version,
     exact: bool,

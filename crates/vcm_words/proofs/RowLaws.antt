@@ -1,17 +1,14 @@
 -- Lines: what is read is spelled so, and what is spelled so is read again.
 use Rattle.std.proofs.Common.{◌≡◌, ℕ, ◌<◌, ◌^◌, ◌==◌, ◌&&◌, nat_le, true, false, List, [], ◌∷◌, ◌++◌, length, Option, Some, None, refl, sym, ap, ◌∙◌, subst, arith}
-use Rattle.std.specs.Prelude.{decimal, codes}
+use Rattle.std.specs.Prelude.{decimal}
 use Rattle.std.specs.List.{AllByRecursion, list_all}
 use Rattle.std.specs.Char.{is_ascii_digit}
 use Rattle.std.proofs.lemmas.Bool.{and_parts}
 use Rattle.std.proofs.lemmas.List.{append-nil}
 use Rattle.std.proofs.lemmas.Fmt.{decimal_nonempty}
 use Rattle.vcm_num.specs.Literals.{AllDigits}
-use Rattle.vcm_num.specs.declared.number.Kind.{Kind}
-use Rattle.vcm_num.specs.declared.number.Kind.TheVariants.{Int, Real, Bool as Truth}
 use Rattle.vcm_spec.specs.Setup.{Variable as Entry}
 use Rattle.vcm_code.specs.declared.version.Version.{Version}
-use Rattle.vcm_code.specs.declared.version.Version.TheVariants.{One, Two}
 use Rattle.vcm_expr.specs.NameBytes.{is_name_byte, is_name, IsName}
 use Rattle.vcm_expr.specs.Symbols.{is_variable_name, IsVariableName}
 use Rattle.vcm_expr.proofs.NameLemmas.{variable_name_is_name}
@@ -24,16 +21,16 @@ use Rattle.vcm_words.specs.Cutting.{split, joined}
 use Rattle.vcm_words.specs.inner.Marks.{Without, IsWord}
 use Rattle.vcm_words.specs.Numbers.{only_if}
 use Rattle.vcm_num.specs.Words.{look_up}
-use Rattle.vcm_words.specs.WordReaders.{Reader, one, via, ended}
+use Rattle.vcm_words.specs.WordReaders.{Reader, one, via, ended, rows_of}
 use Rattle.vcm_words.specs.Operands.{single, number_text, line}
-use Rattle.vcm_words.specs.Rows.{ListRow, version_text, kind_text, row_words, row_text, kind_rows, heading_rows, version_rows, version_at, entry_at, indexed_at, numbered_at, row_after, row_at, row_of}
+use Rattle.vcm_words.specs.Rows.{ListRow, version_text, versions, kind_text, kinds, heading_text, all_headings, row_words, row_text, version_at, entry_at, indexed_at, numbered_at, row_after, row_at, row_of}
 use Rattle.vcm_words.specs.inner.Fitting.{FitsRow}
 use Rattle.vcm_words.proofs.Cuts.{joined-split, split-joined, split_without}
 use Rattle.vcm_words.proofs.Inverse.{Means, Reads, Ends, Bare, ends, bind_some, some_is, only_met, all_append, reads_one, reads_both, via_again, ends_via, ends_both}
 use Rattle.vcm_words.proofs.NumberLaws.{decimal_digits}
-use Rattle.vcm_words.proofs.WordLaws.{means_named, named_takes}
-use Rattle.vcm_words.proofs.PlaceLaws.{Any, reads_number}
-use Rattle.vcm_rows.proofs.LineLaws.{ends_line}
+use Rattle.vcm_words.proofs.TableLaws.{Any, means_any, kind_row, version_row, heading_row}
+use Rattle.vcm_words.proofs.PlaceLaws.{reads_number}
+use Rattle.vcm_words.proofs.LineLaws.{ends_line}
 
 -- ---- names
 
@@ -63,50 +60,30 @@ means_variable_name = record {
 
 -- ---- tables
 
-kind_again : (x : Kind) → Any x → look_up kind_rows (kind_text x) ≡ Some x
-kind_again Int h = refl
-kind_again Real h = refl
-kind_again Truth h = refl
+reads_kind : Reads (one (look_up (rows_of kind_text kinds))) (λ x. single (kind_text x)) Any
+reads_kind = reads_one (means_any kind_text kinds kind_row)
 
-kind_words : (x : Kind) → Any x → IsWord (kind_text x)
-kind_words Int h = ((refl, (refl, (refl, (refl, (refl, tt))))), (refl, (refl, (refl, (refl, (refl, tt))))))
-kind_words Real h = ((refl, (refl, (refl, (refl, tt)))), (refl, (refl, (refl, (refl, tt)))))
-kind_words Truth h = ((refl, (refl, (refl, (refl, tt)))), (refl, (refl, (refl, (refl, tt)))))
+means_heading : Means (look_up (rows_of heading_text all_headings)) heading_text Any
+means_heading = means_any heading_text all_headings heading_row
 
-reads_kind : Reads (one (look_up kind_rows)) (λ x. single (kind_text x)) Any
+heading_takes : (w : List ℕ) (x : Heading) → look_up (rows_of heading_text all_headings) w ≡ Some x → w ≡ heading_text x
+heading_takes w x e = (means_heading.takes w x e).0
+
+heading_word : (x : Heading) → IsWord (heading_text x)
 unfolding Any
-reads_kind = reads_one (means_named kind_text Any kind_rows ((refl, tt), ((refl, tt), ((refl, tt), tt))) kind_again kind_words)
-
-heading_text : Heading → List ℕ
-heading_text headings.Head = codes "VCM-LISTING"
-heading_text headings.Variables = codes "VAR"
-heading_text headings.Features = codes "FEATURE"
-heading_text headings.Frames = codes "FRAME"
-
-heading_takes : (w : List ℕ) (x : Heading) → look_up heading_rows w ≡ Some x → w ≡ heading_text x
-unfolding heading_text Any
-heading_takes w x e = (named_takes heading_text Any heading_rows w x ((refl, tt), ((refl, tt), ((refl, tt), ((refl, tt), tt)))) e).0
+heading_word x = means_heading.words x tt
 
 digit_isnt : (b m : ℕ) → is_ascii_digit b ≡ true → 57 < m → (b == m) ≡ false
 digit_isnt b m e h = grind arith
 
-no_heading : (w : List ℕ) → AllDigits w → 0 < length w → look_up heading_rows w ≡ None
+no_heading : (w : List ℕ) → AllDigits w → 0 < length w → look_up (rows_of heading_text all_headings) w ≡ None
 no_heading [] d h = absurd (omega arith)
 no_heading (b ∷ bs) d h = rw (digit_isnt b 86 d.0 (omega arith), digit_isnt b 70 d.0 (omega arith)) refl
 
 -- ---- lines
 
-version_again : (v : Version) → Any v → look_up version_rows (version_text v) ≡ Some v
-version_again One h = refl
-version_again Two h = refl
-
-version_words : (v : Version) → Any v → IsWord (version_text v)
-version_words One h = ((refl, tt), (refl, tt))
-version_words Two h = ((refl, tt), (refl, tt))
-
 ends_version : Ends (version_at true) (λ v. single (version_text v)) Any
-unfolding Any
-ends_version = ends (reads_one (means_named version_text Any version_rows ((refl, tt), ((refl, tt), tt)) version_again version_words))
+ends_version = ends (reads_one (means_any version_text versions version_row))
 
 FitsPair : ℕ × Entry → Type 0
 FitsPair o = (o.0 < 2 ^ 32) × FitsEntry o.1
@@ -157,8 +134,8 @@ Spelled version ws r = (ws ≡ row_words r) × FitsRow version r
 cons_is : {w v : List ℕ} {ws vs : List (List ℕ)} → w ≡ v → ws ≡ vs → w ∷ ws ≡ v ∷ vs
 cons_is {w} {v} {ws} {vs} e f = ap (λ u. u ∷ ws) e ∙ ap (λ us. v ∷ us) f
 
-after_takes : (version : Version) (o : Option Heading) (w : List ℕ) (ws : List (List ℕ)) (r : ListRow) → look_up heading_rows w ≡ o → Bare (w ∷ ws) → row_after version true o w ws ≡ Some r → Spelled version (w ∷ ws) r
-unfolding row_after Spelled FitsPair FitsIndexed FitsNumbered heading_text
+after_takes : (version : Version) (o : Option Heading) (w : List ℕ) (ws : List (List ℕ)) (r : ListRow) → look_up (rows_of heading_text all_headings) w ≡ o → Bare (w ∷ ws) → row_after version true o w ws ≡ Some r → Spelled version (w ∷ ws) r
+unfolding row_after Spelled FitsPair FitsIndexed FitsNumbered Any
 after_takes version (Some headings.Head) w ws r n bare e =
     let t = whole_takes ends_version Head ws r bare.1 e in
     subst (Spelled version (w ∷ ws)) t.1 (cons_is (heading_takes w headings.Head n) t.2, tt)
@@ -177,7 +154,7 @@ after_takes version None w ws r n bare e =
 
 at_takes : (version : Version) (ws : List (List ℕ)) (r : ListRow) → Bare ws → row_at version true ws ≡ Some r → Spelled version ws r
 at_takes version [] r bare e = absurd cc
-at_takes version (w ∷ ws) r bare e = after_takes version (look_up heading_rows w) w ws r refl bare e
+at_takes version (w ∷ ws) r bare e = after_takes version (look_up (rows_of heading_text all_headings) w) w ws r refl bare e
 
 -- what is read is spelled so
 pub row_takes : (version : Version) (bytes : List ℕ) (r : ListRow) → row_of version true bytes ≡ Some r → (bytes ≡ row_text r) × FitsRow version r
@@ -196,15 +173,8 @@ at_again version (Numbered n s) h =
     let small : n < 2 ^ 64 = omega (arith, h.0) in
     rw (no_heading (decimal n) (decimal_digits n small) (decimal_nonempty n small)) (whole_again (ends_numbered version) (λ o. Numbered o.0 o.1) (n, s) h)
 
-heading_word : (x : Heading) → IsWord (heading_text x)
-unfolding heading_text
-heading_word headings.Head = ((refl, (refl, (refl, (refl, (refl, (refl, (refl, (refl, (refl, (refl, (refl, tt))))))))))), (refl, (refl, (refl, (refl, (refl, (refl, (refl, (refl, (refl, (refl, (refl, tt))))))))))))
-heading_word headings.Variables = ((refl, (refl, (refl, tt))), (refl, (refl, (refl, tt))))
-heading_word headings.Features = ((refl, (refl, (refl, (refl, (refl, (refl, (refl, tt))))))), (refl, (refl, (refl, (refl, (refl, (refl, (refl, tt))))))))
-heading_word headings.Frames = ((refl, (refl, (refl, (refl, (refl, tt))))), (refl, (refl, (refl, (refl, (refl, tt))))))
-
 row_are_words : (version : Version) (r : ListRow) → FitsRow version r → AllByRecursion IsWord (row_words r)
-unfolding FitsPair FitsIndexed FitsNumbered heading_text Any
+unfolding FitsPair FitsIndexed FitsNumbered Any
 row_are_words version (Head v) h = (heading_word headings.Head, ends_version.words v tt)
 row_are_words version (Variable i v) h = (heading_word headings.Variables, ends_entry.words (i, v) h)
 row_are_words version (Feature i name) h = (heading_word headings.Features, ends_indexed.words (i, name) h)
@@ -226,10 +196,7 @@ cut_again (w ∷ ws) l h = split-joined 32 w ws (all_left (w ∷ ws) h)
 
 row_some : (r : ListRow) → 0 < length (row_words r)
 row_some (Head v) = omega arith
-row_some (Variable i v) = omega arith
-row_some (Feature i name) = omega arith
-row_some (Frame i name) = omega arith
-row_some (Numbered n s) = omega arith
+row_some _ = omega arith
 
 -- what is spelled so is read again
 pub row_again : (version : Version) (r : ListRow) → FitsRow version r → row_of version true (row_text r) ≡ Some r

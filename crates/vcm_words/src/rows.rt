@@ -4,13 +4,19 @@ ghost use Rattle.std.specs.Prelude.{◌≡◌, ◌∷◌, [], ℕ, List, Some, N
 ghost use Rattle.vcm_code.specs.declared.version.Version.{Version as VersionOf};
 ghost use Rattle.vcm_words.specs.declared.row.Heading.TheVariants as headings;
 ghost use Rattle.vcm_num.specs.Words.{look_up};
-ghost use Rattle.vcm_words.specs.Rows.{heading_rows, version_in, numbered_at, row_after, row_of};
+ghost use Rattle.vcm_words.specs.WordReaders.{rows_of};
+ghost use Rattle.vcm_words.specs.Rows.{heading_text, all_headings, version_in, numbered_at, row_after, row_of};
 
+use crate::braces::BranchWords;
 use crate::names::{entry, indexed};
+use crate::numbers::is_figures;
+use crate::places::count;
+use crate::row::{Heading, Row};
+use crate::slices::{ItemWords, TextWords};
 use crate::statements::{BorrowedStatement, line};
+use crate::words::Words;
 use vcm_code::Version;
 use vcm_num::look_up;
-use vcm_words::{BranchWords, Heading, ItemWords, Row, TextWords, Words, count, is_figures};
 
 /// A line of a listing.
 pub type BorrowedRow<'a> = Row<ItemWords<'a>, TextWords<'a>, BranchWords<'a>>;
@@ -29,7 +35,7 @@ fn version(exact: bool, word: &[u8]) -> Option<Version>
 }
 
 // A statement of a version with its number, and the words behind it.
-#[tactic(auto, unfolding(vcm_words::specs::Rows::numbered_at))]
+#[tactic(auto, unfolding(crate::specs::Rows::numbered_at))]
 fn numbered<'a>(
     version: Version,
     exact: bool,
@@ -44,7 +50,7 @@ fn numbered<'a>(
 
 // The word that a line begins with, where it is no statement.
 fn heading(word: &[u8]) -> Option<Heading>
-    ensures { result ≡ look_up heading_rows word.now }
+    ensures { result ≡ look_up (rows_of heading_text all_headings) word.now }
 {
     look_up(
         &[
@@ -69,7 +75,7 @@ fn is_end(words: &Words<'_>) -> bool
 }
 
 // The first line, behind its word.
-#[tactic(auto, unfolding(vcm_words::specs::Rows::row_after))]
+#[tactic(auto, unfolding(crate::specs::Rows::row_after))]
 fn head<'a>(exact: bool, word: &[u8], words: &Words<'a>) -> Option<BorrowedRow<'a>>
     ensures { (v : VersionOf) → result ≡ row_after v exact (Some headings.Head) word.now words.now }
 {
@@ -83,7 +89,7 @@ fn head<'a>(exact: bool, word: &[u8], words: &Words<'a>) -> Option<BorrowedRow<'
 }
 
 // A variable's line, behind its word.
-#[tactic(auto, unfolding(vcm_words::specs::Rows::row_after))]
+#[tactic(auto, unfolding(crate::specs::Rows::row_after))]
 fn variable<'a>(exact: bool, word: &[u8], words: &Words<'a>) -> Option<BorrowedRow<'a>>
     ensures { (v : VersionOf) → result ≡ row_after v exact (Some headings.Variables) word.now words.now }
 {
@@ -96,7 +102,7 @@ fn variable<'a>(exact: bool, word: &[u8], words: &Words<'a>) -> Option<BorrowedR
 }
 
 // A feature's line, behind its word.
-#[tactic(auto, unfolding(vcm_words::specs::Rows::row_after))]
+#[tactic(auto, unfolding(crate::specs::Rows::row_after))]
 fn feature<'a>(exact: bool, word: &[u8], words: &Words<'a>) -> Option<BorrowedRow<'a>>
     ensures { (v : VersionOf) → result ≡ row_after v exact (Some headings.Features) word.now words.now }
 {
@@ -109,7 +115,7 @@ fn feature<'a>(exact: bool, word: &[u8], words: &Words<'a>) -> Option<BorrowedRo
 }
 
 // A frame's line, behind its word.
-#[tactic(auto, unfolding(vcm_words::specs::Rows::row_after))]
+#[tactic(auto, unfolding(crate::specs::Rows::row_after))]
 fn frame<'a>(exact: bool, word: &[u8], words: &Words<'a>) -> Option<BorrowedRow<'a>>
     ensures { (v : VersionOf) → result ≡ row_after v exact (Some headings.Frames) word.now words.now }
 {
@@ -122,7 +128,7 @@ fn frame<'a>(exact: bool, word: &[u8], words: &Words<'a>) -> Option<BorrowedRow<
 }
 
 // The line of a statement of a version.
-#[tactic(auto, unfolding(vcm_words::specs::Rows::row_after))]
+#[tactic(auto, unfolding(crate::specs::Rows::row_after))]
 fn statement<'a>(version: Version, exact: bool, words: &Words<'a>) -> Option<BorrowedRow<'a>>
     ensures { (w : List ℕ) (ws : List (List ℕ)) → words.now ≡ w ∷ ws → result ≡ row_after version exact None w ws }
 {
@@ -136,7 +142,7 @@ fn statement<'a>(version: Version, exact: bool, words: &Words<'a>) -> Option<Bor
 
 /// A line of a listing of this version, without its end; read exactly, or for its shape alone: then whatever has the shape of a number
 /// stands for one.
-#[tactic(auto, unfolding(vcm_words::specs::Rows::row_of))]
+#[tactic(auto, unfolding(crate::specs::Rows::row_of))]
 pub fn row<'a>(version: Version, exact: bool, line: &'a [u8]) -> Option<BorrowedRow<'a>>
     ensures { result ≡ row_of version exact line.now }
 {

@@ -2,13 +2,14 @@
 
 ghost use Rattle.std.specs.Prelude.{◌≡◌};
 ghost use Rattle.vcm_num.specs.Words.{look_up};
-ghost use Rattle.vcm_words.specs.WordReaders.{one};
-ghost use Rattle.vcm_words.specs.Rows.{kind_rows, name_at, variable_name_at, entry_at, indexed_at};
+ghost use Rattle.vcm_words.specs.WordReaders.{one, rows_of};
+ghost use Rattle.vcm_words.specs.Rows.{kind_text, kinds, name_at, variable_name_at, entry_at, indexed_at};
 
+use crate::places::count;
+use crate::words::{Words, table_word};
 use vcm_expr::{Name, is_name, is_variable_name};
 use vcm_num::Kind;
 use vcm_tables::Variable;
-use vcm_words::{Words, count, table_word};
 
 // A name, and the words behind it.
 fn name<'a>(words: &Words<'a>) -> Option<(Name, Words<'a>)>
@@ -37,7 +38,7 @@ fn variable_name<'a>(words: &Words<'a>) -> Option<(Name, Words<'a>)>
 
 // A kind, and the words behind it.
 fn kind<'a>(words: &Words<'a>) -> Option<(Kind, Words<'a>)>
-    ensures { result ≡ one (look_up kind_rows) words.now }
+    ensures { result ≡ one (look_up (rows_of kind_text kinds)) words.now }
 {
     table_word(
         &[
@@ -50,7 +51,7 @@ fn kind<'a>(words: &Words<'a>) -> Option<(Kind, Words<'a>)>
 }
 
 /// A variable with its index, and the words behind it.
-#[tactic(auto, unfolding(vcm_words::specs::Rows::entry_at))]
+#[tactic(auto, unfolding(crate::specs::Rows::entry_at))]
 pub(crate) fn entry<'a>(exact: bool, words: &Words<'a>) -> Option<((u32, Variable), Words<'a>)>
     ensures { result ≡ entry_at exact words.now }
 {
@@ -62,7 +63,7 @@ pub(crate) fn entry<'a>(exact: bool, words: &Words<'a>) -> Option<((u32, Variabl
 }
 
 /// The name of a feature or a frame with its index, and the words behind it.
-#[tactic(auto, unfolding(vcm_words::specs::Rows::indexed_at))]
+#[tactic(auto, unfolding(crate::specs::Rows::indexed_at))]
 pub(crate) fn indexed<'a>(exact: bool, words: &Words<'a>) -> Option<((u32, Name), Words<'a>)>
     ensures { result ≡ indexed_at exact words.now }
 {
