@@ -6,16 +6,16 @@ use Rattle.std.specs.Int.{int_div_euclid, int_min}
 use Rattle.std.specs.List.{find}
 use Rattle.std.specs.Prelude.{Option, Some, int_lt, not, option_map, decimal}
 use Rattle.vcm_way.specs.declared.mark.Contact.{Contact}
-use Rattle.vcm_picture.specs.declared.rect.Rect.{Rect}
+use Rattle.vcm_svg.specs.declared.rect.Rect.{Rect}
 use Rattle.vcm_picture.specs.declared.shown.Face.{Face}
 use Rattle.vcm_picture.specs.declared.shown.Figure.{Figure}
-use Rattle.vcm_picture.specs.declared.rect.Spot.{Spot}
+use Rattle.vcm_svg.specs.declared.rect.Spot.{Spot}
 use Rattle.vcm_picture.specs.declared.view.Scope.{Scope}
 use Rattle.vcm_picture.specs.declared.names.Named.{Named}
 use Rattle.vcm_picture.specs.Names.{is_free, sides, beside, contact_box, Naming}
 use Rattle.vcm_picture.specs.View.{spot_of}
 use Rattle.vcm_picture.specs.Shown.{size_of, is_covered, corners, room}
-use Rattle.vcm_picture.specs.inner.Ranges.{IsExtent, IsLarge, IsRect, IsSmall, IsSpot, IsUnit}
+use Rattle.vcm_svg.specs.Ranges.{IsExtent, IsLarge, IsRect, IsSmall, IsSpot, IsUnit}
 use Rattle.vcm_picture.specs.inner.Drawable.{AreBoxes, MayName}
 
 pub size_same : (r : Rect) (digits unit a b m n : ℤ) → n ≡ int_min unit m → m ≡ int_min a b

@@ -5,14 +5,14 @@ use Rattle.vcm_num.specs.declared.point.Point.{Point}
 use Rattle.vcm_way.specs.declared.mark.Placed.{Placed}
 use Rattle.vcm_picture.specs.declared.names.FirstNames.{FirstNames}
 use Rattle.vcm_picture.specs.declared.names.Named.{Named}
-use Rattle.vcm_picture.specs.declared.rect.Rect.{Rect}
+use Rattle.vcm_svg.specs.declared.rect.Rect.{Rect}
 use Rattle.vcm_way.specs.declared.mark.Contact.{Contact}
 use Rattle.vcm_picture.specs.declared.shown.Seen.{Seen}
 use Rattle.vcm_picture.specs.declared.view.Scope.{Scope}
 use Rattle.vcm_picture.specs.Drawing.{first_names_text, feature_names_text, names_beside, names_of}
 use Rattle.vcm_picture.specs.Marks.{contact_of}
 use Rattle.vcm_picture.specs.Names.{all_figure_boxes, first_names, with_first}
-use Rattle.vcm_picture.proofs.Appended.{last_same, two}
+use Rattle.vcm_svg.proofs.Appended.{last_same, two}
 
 -- the names of a view with this contact and these names placed first
 abbrev pub names_after : Scope → List (List ℕ) → List Placed → List Seen → Option Contact → FirstNames → List ℕ

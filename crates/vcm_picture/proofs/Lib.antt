@@ -1,12 +1,10 @@
-pub mod Appended
 pub mod Boxes
 pub mod Clips
+pub mod Counting
 pub mod Drawings
 pub mod Extents
 pub mod Faces
 pub mod Layouting
-pub mod Legends
-pub mod Putting
 pub mod Scopes
 pub mod Signed
 pub mod Spans

@@ -2,26 +2,18 @@
 use Rattle.std.proofs.Common.{◌≡◌, ℤ, pos, negsuc, ◌+ℤ◌, ◌-ℤ◌, ◌≤ℤ◌, w64, to_z, of_z, arith, ap, ◌∙◌}
 use Rattle.std.proofs.lemmas.Int.{ints, to_z-of_z}
 use Rattle.vcm_num.specs.Point.{IsNear}
-use Rattle.vcm_picture.specs.inner.Ranges.{IsBorder, IsEdge, IsSize, IsSmall, IsUnit}
-use Rattle.vcm_picture.specs.View.{spot}
-
--- a number that fits is read as it is
-pub ruleset signed = (ints, to_z-of_z)
+use Rattle.vcm_picture.specs.inner.Ranges.{IsBorder, IsEdge}
+use Rattle.vcm_svg.specs.Ranges.{IsSize, IsSmall}
+use Rattle.vcm_svg.specs.Rect.{spot}
 
 pub border_read : (z : ℤ) → IsBorder z → to_z w64 (of_z w64 z) ≡ z
 border_read z h = to_z-of_z w64 z (omega (arith, ints))
-
-pub unit_read : (z : ℤ) → IsUnit z → to_z w64 (of_z w64 z) ≡ z
-unit_read z h = to_z-of_z w64 z (omega (arith, ints))
 
 pub near_border : (z : ℤ) → IsNear z → IsBorder z
 near_border z h = record { from_below = omega (arith, ints); from_above = omega (arith, ints) }
 
 pub border_again : (z : ℤ) → IsBorder z → IsBorder (to_z w64 (of_z w64 z))
 border_again z h = rw (border_read z h) h
-
-pub unit_again : (z : ℤ) → IsUnit z → IsUnit (to_z w64 (of_z w64 z))
-unit_again z h = rw (unit_read z h) h
 
 -- a quotient is small where what is divided is
 pub quotient_small : (v r : ℤ) → IsSmall v → (pos 0 ≤ℤ v → pos 0 ≤ℤ r) → (pos 0 ≤ℤ v → r ≤ℤ v) → (v ≤ℤ pos 0 → r ≤ℤ pos 0) → (v ≤ℤ pos 0 → v ≤ℤ r) → IsSmall r

@@ -1,28 +1,26 @@
 -- The blocks of a view, and their numbers.
-use Rattle.std.specs.Prelude.{ℕ, pos, ◌-◌, ◌+ℤ◌, ◌*ℤ◌, List, [], ◌∷◌, ◌++◌, Option, Some, None, slice_get, decimal, codes}
+use Rattle.std.specs.Prelude.{ℕ, pos, ◌-◌, ◌+ℤ◌, ◌*ℤ◌, List, [], ◌∷◌, Option, Some, None, slice_get, decimal, codes}
 use Rattle.std.specs.List.{flat_map}
-use Rattle.vcm_report.specs.Printed.{in_a_row}
 use Rattle.vcm_way.specs.declared.mark.Contact.{Contact}
-use Rattle.vcm_picture.specs.declared.shapes.Class.{Class}
-use Rattle.vcm_picture.specs.declared.shapes.Class.TheVariants as class
-use Rattle.vcm_picture.specs.declared.shapes.Lettering.TheVariants.{Number}
+use Rattle.vcm_svg.specs.declared.shapes.Class.{Class}
+use Rattle.vcm_svg.specs.declared.shapes.Class.TheVariants as class
+use Rattle.vcm_svg.specs.declared.shapes.Lettering.TheVariants.{Number}
 use Rattle.vcm_picture.specs.declared.shown.Face.{Face}
 use Rattle.vcm_picture.specs.declared.shown.Figure.{Figure}
 use Rattle.vcm_picture.specs.declared.shown.Seen.{Seen}
 use Rattle.vcm_picture.specs.declared.shown.Shown.{Shown}
 use Rattle.vcm_picture.specs.declared.shown.Shown.TheVariants.{Repeated, Hidden, Open}
-use Rattle.vcm_picture.specs.Append.{way_text}
-use Rattle.vcm_picture.specs.View.{spot}
-use Rattle.vcm_picture.specs.Shapes.{path_front, rect, path, text}
-
--- the tooltip of a block, which ends its path
-abbrev pub tip_text : Face → List ℕ
-tip_text f =
-    in_a_row (codes "\"><title>block " ∷ decimal f.number ∷ codes ": " ∷ []) ++ (way_text f.block.low f.block.high ++ codes "</title></path>\n")
+use Rattle.vcm_svg.specs.declared.shapes.Label.{Label}
+use Rattle.vcm_svg.specs.Outlines.{rect_outline}
+use Rattle.vcm_svg.specs.Pieces.{joined, point_text}
+use Rattle.vcm_svg.specs.Rect.{spot}
+use Rattle.vcm_svg.specs.Shapes.{label, path, text, told}
 
 -- a block with its tooltip
 abbrev pub block_text : Class → Face → List ℕ
-block_text c f = path_front c ++ (rect f.rect ++ tip_text f)
+block_text c f =
+    told c (rect_outline f.rect)
+    (joined (codes "block " ∷ decimal f.number ∷ codes ": " ∷ point_text f.block.low ∷ codes " to " ∷ point_text f.block.high ∷ []))
 
 -- a block where it is open
 abbrev pub open_text : Face → Shown → List ℕ
@@ -39,16 +37,20 @@ hidden_text f (Open figure) = []
 -- the outline of a block
 abbrev pub face_text : Option Face → List ℕ
 face_text None = []
-face_text (Some f) = path class.Hit (rect f.rect)
+face_text (Some f) = path class.Hit (rect_outline f.rect)
 
 -- the outline of the block of the contact
 abbrev pub hit_text : List Face → Option Contact → List ℕ
 hit_text fs None = []
 hit_text fs (Some c) = face_text (slice_get fs (c.block - 1))
 
+-- where a number stands
+abbrev pub figure_label : Figure → Label
+figure_label g = label Number g.size (spot g.area.left (g.area.top +ℤ pos 8 *ℤ g.size))
+
 -- a number in its box
 abbrev pub figure_text : Face → Figure → List ℕ
-figure_text f g = text (spot g.area.left (g.area.top +ℤ pos 8 *ℤ g.size)) g.size Number (decimal f.number)
+figure_text f g = text (figure_label g) (joined (decimal f.number ∷ []))
 
 -- the number of a block, if it has a box
 abbrev pub number_text : Face → Shown → List ℕ

@@ -3,7 +3,7 @@ use Rattle.std.specs.Prelude.{ℕ, ℤ, pos, ◌+ℤ◌, ◌-ℤ◌, ◌*ℤ◌,
 use Rattle.std.specs.Fmt.{signed_decimal}
 use Rattle.std.specs.List.{flat_map}
 use Rattle.vcm_num.specs.declared.point.Point.{Point}
-use Rattle.vcm_report.specs.Printed.{in_a_row, name_at}
+use Rattle.vcm_report.specs.Printed.{name_at}
 use Rattle.vcm_spec.specs.declared.workpiece.Bounds.{Bounds}
 use Rattle.vcm_spec.specs.Workpiece.{Workpiece}
 use Rattle.vcm_state.specs.Held.{Held}
@@ -11,19 +11,24 @@ use Rattle.vcm_way.specs.declared.mark.Contact.{Contact}
 use Rattle.vcm_way.specs.declared.mark.Placed.{Placed}
 use Rattle.vcm_picture.specs.declared.names.FirstNames.{FirstNames}
 use Rattle.vcm_picture.specs.declared.names.Named.{Named}
-use Rattle.vcm_picture.specs.declared.rect.Rect.{Rect}
-use Rattle.vcm_picture.specs.declared.rect.Spot.{Spot}
-use Rattle.vcm_picture.specs.declared.shapes.Class.TheVariants as class
-use Rattle.vcm_picture.specs.declared.shapes.Lettering.TheVariants.{Plain, Name}
+use Rattle.vcm_svg.specs.declared.rect.Rect.{Rect}
+use Rattle.vcm_svg.specs.declared.rect.Spot.{Spot}
+use Rattle.vcm_svg.specs.declared.shapes.Class.TheVariants as class
+use Rattle.vcm_svg.specs.declared.shapes.Label.{Label}
+use Rattle.vcm_svg.specs.Outlines.{square}
+use Rattle.vcm_svg.specs.Pieces.{joined}
+use Rattle.vcm_svg.specs.Rect.{spot}
+use Rattle.vcm_svg.specs.Shapes.{label, path, text}
+use Rattle.vcm_svg.specs.declared.shapes.Lettering.TheVariants.{Plain, Name}
 use Rattle.vcm_picture.specs.declared.shown.Face.{Face}
 use Rattle.vcm_picture.specs.declared.shown.Seen.{Seen}
 use Rattle.vcm_picture.specs.declared.view.Scope.{Scope}
+use Rattle.vcm_picture.specs.declared.view.View.{View}
 use Rattle.vcm_picture.specs.Blocks.{all_open, all_hidden, all_numbers, hit_text}
 use Rattle.vcm_picture.specs.Marks.{contact_of, are_few}
 use Rattle.vcm_picture.specs.Names.{first_names, with_first, all_figure_boxes, with_all_touched}
-use Rattle.vcm_picture.specs.Shapes.{path, square, text, text_front}
 use Rattle.vcm_picture.specs.Shown.{faces_from, seen_from}
-use Rattle.vcm_picture.specs.View.{title, clip, spot}
+use Rattle.vcm_picture.specs.View.{title, clip}
 use Rattle.vcm_picture.specs.Way.{pieces_text, all_touched, limits_text, ends_text}
 
 -- what a view shows besides the way: the workpiece, the state at the end with its tables of names, and the first line of the heading
@@ -37,61 +42,46 @@ abbrev pub scene : Workpiece → Held → List ℕ → Scene
 scene part held stopped = record { part = part; held = held; stopped = stopped }
 
 -- where a name stands in its box
-abbrev pub name_spot : Rect → ℤ → Spot
-name_spot a u = spot a.left (a.top +ℤ pos 8 *ℤ u)
+abbrev pub name_label : Rect → ℤ → Label
+name_label a u = label Name u (spot a.left (a.top +ℤ pos 8 *ℤ u))
 
 -- a name in its box, if it has one
 abbrev pub name_text : Option Rect → ℤ → List ℕ → List ℕ
 name_text None u words = []
-name_text (Some a) u words = text (name_spot a u) u Name words
+name_text (Some a) u words = text (name_label a u) words
 
--- the name of a block in its box
-abbrev pub block_name : Rect → ℤ → ℕ → List ℕ
-block_name a u block = text_front (name_spot a u) u Name ++ in_a_row (codes "block " ∷ decimal block ∷ codes "</text>\n" ∷ [])
-
--- the name of the contact in its box
-abbrev pub contact_name : Rect → ℤ → Option Contact → List ℕ
+-- the name of the contact in its box, if it has one
+abbrev pub contact_name : Option Rect → ℤ → Option Contact → List ℕ
 contact_name a u None = []
-contact_name a u (Some c) = block_name a u c.block
-
--- the same, if it has a box
-abbrev pub some_contact_name : Option Rect → ℤ → Option Contact → List ℕ
-some_contact_name None u c = []
-some_contact_name (Some a) u c = contact_name a u c
+contact_name a u (Some c) = name_text a u (joined (codes "block " ∷ decimal c.block ∷ []))
 
 -- the names of the contact, of the end and of home
 abbrev pub first_names_text : ℤ → Option Contact → FirstNames → List ℕ
-first_names_text u c f = some_contact_name f.contact u c ++ (name_text f.end u (codes "end") ++ name_text f.home u (codes "home"))
+first_names_text u c f = contact_name f.contact u c ++ (name_text f.end u (codes "end") ++ name_text f.home u (codes "home"))
 
 -- the name of a touched point
 abbrev pub feature_name_text : ℤ → List (List ℕ) → Named → List ℕ
-feature_name_text u features n = name_text (Some n.area) u (name_at features n.feature)
+feature_name_text u features n = text (name_label n.area u) (joined (name_at features n.feature ∷ []))
 
 -- the names of the touched points
 abbrev pub feature_names_text : ℤ → List (List ℕ) → List Named → List ℕ
 feature_names_text u features named = flat_map (λ n. feature_name_text u features n) named
 
--- where the title of a view stands
-abbrev pub title_spot : Spot → ℤ → Spot
-title_spot at u = spot at.x (at.y -ℤ pos 6 *ℤ u)
-
--- the title of a view
-abbrev pub title_text : Scope → Spot → List ℕ
-title_text s at = text (title_spot at s.unit) s.unit Plain (title s.view)
+-- where the title of a view stands, at a place of the picture
+abbrev pub title_label : Spot → ℤ → Label
+title_label at u = label Plain u (spot at.x (at.y -ℤ pos 6 *ℤ u))
 
 -- the beginning of the group of a view at a place of the picture
-abbrev pub group_text : Scope → Spot → List ℕ
-group_text s at =
-    in_a_row (codes "<g transform=\"matrix(1 0 0 1 " ∷ signed_decimal at.x ∷ codes " " ∷ signed_decimal at.y ∷ codes ")\" clip-path=\"url(#v"
-    ∷ clip s.view ∷ codes ")\">\n" ∷ [])
-
--- its frame
-abbrev pub frame_text : Scope → List ℕ
-frame_text s = path class.Frame (square (spot (pos 0) (pos 0)) s.wide s.high)
+abbrev pub group_text : View → Spot → List ℕ
+group_text v at =
+    joined (codes "<g transform=\"matrix(1 0 0 1 " ∷ signed_decimal at.x ∷ codes " " ∷ signed_decimal at.y ∷ codes ")\" clip-path=\"url(#v"
+    ∷ clip v ∷ codes ")\">\n" ∷ [])
 
 -- the title of a view, and the beginning of its group at a place of the picture, with its frame
 abbrev pub view_front : Scope → Spot → List ℕ
-view_front s at = title_text s at ++ (group_text s at ++ frame_text s)
+view_front s at =
+    text (title_label at s.unit) (joined (title s.view ∷ []))
+    ++ (group_text s.view at ++ path class.Frame (square (spot (pos 0) (pos 0)) s.wide s.high))
 
 -- the blocks of a view
 abbrev pub blocks_text : List Face → List Seen → Option Contact → List ℕ

@@ -4,7 +4,7 @@ use Rattle.std.specs.Int.{int_min, int_max}
 use Rattle.vcm_num.specs.declared.point.Point.{Point}
 use Rattle.vcm_num.specs.Point.{point, coordinate}
 
--- a coordinate as it is drawn: a kilometre from 0 where it is farther. No point of a workpiece or of a way is
+-- a coordinate as it is drawn: a kilometre from 0 where it is farther
 abbrev pub drawn : ℤ → ℤ
 drawn z = int_max (negsuc 999999999) (int_min z (pos 1000000000))
 

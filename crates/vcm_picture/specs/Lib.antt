@@ -1,17 +1,12 @@
-pub mod Append
 pub mod Marks
-pub mod Rect
 pub mod Drawn
 pub mod Span
 pub mod Window
 pub mod View
-pub mod Shapes
 pub mod Shown
 pub mod Names
 pub mod Blocks
 pub mod Way
-pub mod Style
-pub mod Legend
 pub mod Heading
 pub mod Drawing
 pub mod Picture

@@ -1,9 +1,10 @@
 -- The marks of a way.
-use Rattle.std.specs.Prelude.{ℕ, ◌+◌, nat_le, Bool, List, [], ◌∷◌, Option, Some, None}
+use Rattle.std.specs.Prelude.{nat_le, Bool, List, [], ◌∷◌, Option, Some, None}
 use Rattle.vcm_way.specs.declared.mark.Contact.{Contact}
 use Rattle.vcm_way.specs.declared.mark.Mark.{Mark}
 use Rattle.vcm_way.specs.declared.mark.Mark.TheVariants.{Goes, Touches, Meets}
 use Rattle.vcm_way.specs.declared.mark.Placed.{Placed}
+use Rattle.vcm_way.specs.Ways.{pieces}
 
 -- the contact of a mark, or else that of the marks behind it
 abbrev pub contact_or : Mark → Option Contact → Option Contact
@@ -16,17 +17,6 @@ abbrev pub contact_of : List Placed → Option Contact
 contact_of [] = None
 contact_of (m ∷ ms) = contact_or m.mark (contact_of ms)
 
--- how many pieces a mark is
-abbrev pub pieces_in : Mark → ℕ
-pieces_in (Goes p) = 1
-pieces_in (Touches t) = 0
-pieces_in (Meets c) = 0
-
--- how many pieces there are
-abbrev pub pieces : List Placed → ℕ
-pieces [] = 0
-pieces (m ∷ ms) = pieces_in m.mark + pieces ms
-
--- whether there are few enough of them for arrows
+-- whether there are few enough pieces for arrows
 abbrev pub are_few : List Placed → Bool
 are_few marks = nat_le (pieces marks) 500

@@ -14,13 +14,13 @@ use Rattle.vcm_way.specs.declared.mark.Placed.{Placed}
 use Rattle.vcm_way.specs.declared.mark.Touched.{Touched}
 use Rattle.vcm_picture.specs.declared.names.FirstNames.{FirstNames}
 use Rattle.vcm_picture.specs.declared.names.Named.{Named}
-use Rattle.vcm_picture.specs.declared.rect.Rect.{Rect}
-use Rattle.vcm_picture.specs.declared.rect.Spot.{Spot}
+use Rattle.vcm_svg.specs.declared.rect.Rect.{Rect}
+use Rattle.vcm_svg.specs.declared.rect.Spot.{Spot}
 use Rattle.vcm_picture.specs.declared.shown.Seen.{Seen}
 use Rattle.vcm_picture.specs.declared.shown.Shown.{Shown}
 use Rattle.vcm_picture.specs.declared.shown.Shown.TheVariants.{Repeated, Hidden, Open}
 use Rattle.vcm_picture.specs.declared.view.Scope.{Scope}
-use Rattle.vcm_picture.specs.Rect.{meets, boxed}
+use Rattle.vcm_svg.specs.Rect.{meets, boxed}
 use Rattle.vcm_picture.specs.View.{spot_of}
 
 -- whether a box lies in a view of that width and meets no box that is taken
@@ -63,6 +63,7 @@ first_boxes s contact position home taken c e = record {
   home = beside s (spot_of s home) (pos 4) ((taken ++ option_to_list c) ++ option_to_list e);
 }
 
+-- the boxes of the names of the contact, of the end and of home, each beside those before it and beside what is taken
 abbrev pub first_names : Scope → Option Contact → Point → Point → List Rect → FirstNames
 first_names s contact position home taken =
     first_boxes s contact position home taken (some_contact_box s contact)

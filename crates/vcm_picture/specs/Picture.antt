@@ -4,25 +4,28 @@ use Rattle.std.specs.Fmt.{signed_decimal}
 use Rattle.std.specs.Int.{int_div_euclid}
 use Rattle.vcm_num.specs.declared.point.Point.{Point}
 use Rattle.vcm_num.specs.Point.{coordinate}
-use Rattle.vcm_report.specs.Printed.{in_a_row}
 use Rattle.vcm_spec.specs.declared.workpiece.Block3.{Block3}
 use Rattle.vcm_spec.specs.Workpiece.{Workpiece}
 use Rattle.vcm_state.specs.Held.{Held}
 use Rattle.vcm_way.specs.declared.mark.Placed.{Placed}
+use Rattle.vcm_svg.specs.Heading.{heading_text}
+use Rattle.vcm_svg.specs.Legend.{legend_text, bar_text}
+use Rattle.vcm_svg.specs.Outlines.{square}
+use Rattle.vcm_svg.specs.Pieces.{joined}
+use Rattle.vcm_svg.specs.Rect.{spot}
+use Rattle.vcm_svg.specs.Shapes.{path}
+use Rattle.vcm_svg.specs.Style.{style_text}
 use Rattle.vcm_picture.specs.declared.picture.Layout.{Layout}
-use Rattle.vcm_picture.specs.declared.rect.Spot.{Spot}
-use Rattle.vcm_picture.specs.declared.shapes.Class.TheVariants as class
+use Rattle.vcm_svg.specs.declared.rect.Spot.{Spot}
+use Rattle.vcm_svg.specs.declared.shapes.Class.TheVariants as class
 use Rattle.vcm_picture.specs.declared.view.View.{View}
 use Rattle.vcm_picture.specs.declared.view.View.TheVariants.{Top, Front, Side}
 use Rattle.vcm_picture.specs.declared.window.Window.{Window}
 use Rattle.vcm_picture.specs.Drawing.{Scene, scene, view_text}
-use Rattle.vcm_picture.specs.Heading.{first_line, heading_text}
-use Rattle.vcm_picture.specs.Legend.{legend_text, bar_text}
+use Rattle.vcm_picture.specs.Heading.{first_line}
 use Rattle.vcm_picture.specs.Marks.{are_few}
-use Rattle.vcm_picture.specs.Shapes.{path, square}
 use Rattle.vcm_picture.specs.Span.{span_of}
-use Rattle.vcm_picture.specs.Style.{style_text}
-use Rattle.vcm_picture.specs.View.{clip, scope_of, spot}
+use Rattle.vcm_picture.specs.View.{clip, scope_of}
 use Rattle.vcm_picture.specs.Window.{window_of}
 
 -- what a picture shows: the workpiece, the state at the end with its tables of names, the steps that were done, the marks of the way, how many
@@ -85,33 +88,41 @@ layout_with u up wide deep high =
 abbrev pub layout_of : Window → ℤ → Layout
 layout_of w up = layout_with w.unit up (units w 0) (units w 1) (units w 2)
 
--- the size of the picture
-abbrev pub size_text : Layout → ℤ → List ℕ
-size_text l u =
-    in_a_row (codes "<svg xmlns=\"http://www.w3.org/2000/svg\" viewBox=\"0 0 " ∷ signed_decimal l.wide ∷ codes " " ∷ signed_decimal l.high
-    ∷ codes "\" width=\"" ∷ signed_decimal (int_div_euclid l.wide u) ∷ codes "\" height=\"" ∷ signed_decimal (int_div_euclid l.high u)
-    ∷ codes "\">\n<title>" ∷ [])
-
 -- the head: the size of the picture, and its title
 abbrev pub head_text : Layout → ℤ → List ℕ → List ℕ
-head_text l u first = size_text l u ++ in_a_row (first ∷ codes "</title>\n" ∷ [])
+head_text l u first =
+    joined (codes "<svg xmlns=\"http://www.w3.org/2000/svg\" viewBox=\"0 0 " ∷ signed_decimal l.wide ∷ codes " " ∷ signed_decimal l.high
+    ∷ codes "\" width=\"" ∷ signed_decimal (int_div_euclid l.wide u) ∷ codes "\" height=\"" ∷ signed_decimal (int_div_euclid l.high u)
+    ∷ codes "\">\n<title>" ∷ first ∷ codes "</title>\n" ∷ [])
 
 -- the clip path of a view
 abbrev pub clip_text : View → Window → List ℕ
 clip_text v w =
-    in_a_row (codes "<clipPath id=\"v" ∷ clip v ∷ codes "\"><path d=\"" ∷ [])
+    joined (codes "<clipPath id=\"v" ∷ clip v ∷ codes "\"><path d=\"" ∷ [])
     ++ (square (spot (pos 0) (pos 0)) (scope_of w v).wide (scope_of w v).high ++ codes "\"/></clipPath>\n")
 
--- the clip paths, and the paper
-abbrev pub paper_text : Window → Layout → List ℕ
-paper_text w l =
-    clip_text Top w ++ (clip_text Front w ++ (clip_text Side w ++ path class.Paper (square (spot (pos 0) (pos 0)) l.wide l.high)))
+-- the clip paths, and the background
+abbrev pub background_text : Window → Layout → List ℕ
+background_text w l =
+    clip_text Top w ++ (clip_text Front w ++ (clip_text Side w ++ path class.Sheet (square (spot (pos 0) (pos 0)) l.wide l.high)))
+
+-- where a view stands: the front view below the top view, the right side view beside the front view
+abbrev pub view_spot : Layout → View → Spot
+view_spot l Top = spot l.left l.top
+view_spot l Front = spot l.left l.front
+view_spot l Side = spot l.side l.front
+
+-- a view at its place
+abbrev pub view_at : Window → Layout → Scene → List Placed → View → List ℕ
+view_at w l s marks v = view_text (scope_of w v) (view_spot l v) s marks
+
+-- the front view and the right side view
+abbrev pub lower_views : Window → Layout → Scene → List Placed → List ℕ
+lower_views w l s marks = view_at w l s marks Front ++ view_at w l s marks Side
 
 -- the three views
 abbrev pub views_text : Window → Layout → Scene → List Placed → List ℕ
-views_text w l s marks =
-    view_text (scope_of w Top) (spot l.left l.top) s marks
-    ++ (view_text (scope_of w Front) (spot l.left l.front) s marks ++ view_text (scope_of w Side) (spot l.side l.front) s marks)
+views_text w l s marks = view_at w l s marks Top ++ lower_views w l s marks
 
 -- where the legend stands
 abbrev pub legend_spot : Layout → ℤ → Spot
@@ -131,7 +142,7 @@ abbrev pub picture_of : Workpiece → Held → ℕ → List Placed → ℕ → W
 picture_of part held done marks left_out w l first =
     head_text l w.unit first
     ++ (style_text w.unit (length part.blocks) (are_few marks)
-    ++ (paper_text w l
+    ++ (background_text w l
     ++ (heading_text w.unit first held.state.position done left_out ++ (views_text w l (scene part held first) marks ++ foot_text w l))))
 
 -- the same of a sheet

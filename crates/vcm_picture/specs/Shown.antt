@@ -4,14 +4,14 @@ use Rattle.std.specs.Prelude.{List, [], ◌∷◌, ◌++◌, length, Option, Som
 use Rattle.std.specs.Int.{int_min, int_div_euclid}
 use Rattle.std.specs.List.{list_any, find}
 use Rattle.vcm_spec.specs.declared.workpiece.Block3.{Block3}
-use Rattle.vcm_picture.specs.declared.rect.Rect.{Rect}
+use Rattle.vcm_svg.specs.declared.rect.Rect.{Rect}
 use Rattle.vcm_picture.specs.declared.shown.Face.{Face}
 use Rattle.vcm_picture.specs.declared.shown.Figure.{Figure}
 use Rattle.vcm_picture.specs.declared.shown.Seen.{Seen}
 use Rattle.vcm_picture.specs.declared.shown.Shown.{Shown}
 use Rattle.vcm_picture.specs.declared.shown.Shown.TheVariants.{Repeated, Hidden, Open}
 use Rattle.vcm_picture.specs.declared.view.Scope.{Scope}
-use Rattle.vcm_picture.specs.Rect.{meets, contains, is_same, boxed}
+use Rattle.vcm_svg.specs.Rect.{meets, contains, is_same, boxed}
 use Rattle.vcm_picture.specs.View.{rect_of, nearness}
 
 -- a block in a view

@@ -4,8 +4,9 @@ use Rattle.std.specs.Int.{int_div_euclid}
 use Rattle.vcm_num.specs.declared.point.Point.{Point}
 use Rattle.vcm_num.specs.Point.{coordinate}
 use Rattle.vcm_spec.specs.declared.workpiece.Block3.{Block3}
-use Rattle.vcm_picture.specs.declared.rect.Rect.{Rect}
-use Rattle.vcm_picture.specs.declared.rect.Spot.{Spot}
+use Rattle.vcm_svg.specs.declared.rect.Rect.{Rect}
+use Rattle.vcm_svg.specs.declared.rect.Spot.{Spot}
+use Rattle.vcm_svg.specs.Rect.{spot}
 use Rattle.vcm_picture.specs.declared.view.Scope.{Scope}
 use Rattle.vcm_picture.specs.declared.view.View.{View}
 use Rattle.vcm_picture.specs.declared.view.View.TheVariants.{Top, Front, Side}
@@ -53,10 +54,6 @@ scope_of w v = record {
   wide = int_div_euclid (coordinate w.full (right_axis v)) w.grain;
   high = int_div_euclid (coordinate w.full (up_axis v)) w.grain;
 }
-
--- a place
-abbrev pub spot : ℤ → ℤ → Spot
-spot x y = record { x = x; y = y }
 
 -- where a near point stands in a view, in units of the picture from its upper left corner
 abbrev pub near_spot : Scope → Point → Spot

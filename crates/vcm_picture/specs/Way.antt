@@ -1,11 +1,11 @@
 -- The way of the probe in a view: limits, pieces, touched points, home, end and contact.
-use Rattle.std.specs.Prelude.{ℕ, ℤ, pos, ◌+ℤ◌, ◌*ℤ◌, neg_ℤ, Bool, ◌&&◌, ◌||◌, not, int_lt, nat_eq, if◌then◌else◌}
+use Rattle.std.specs.Prelude.{ℕ, ℤ, pos, negsuc, ◌+ℤ◌, ◌*ℤ◌, Bool, ◌&&◌, ◌||◌, not, int_lt, nat_eq, if◌then◌else◌}
 use Rattle.std.specs.Prelude.{List, [], ◌∷◌, ◌++◌, Option, Some, None, decimal, codes}
 use Rattle.std.specs.Int.{int_min, int_max, int_div_euclid}
 use Rattle.std.specs.List.{flat_map}
 use Rattle.std.specs.Ordering.{int_eq}
 use Rattle.vcm_num.specs.declared.point.Point.{Point}
-use Rattle.vcm_report.specs.Printed.{in_a_row, name_at}
+use Rattle.vcm_report.specs.Printed.{name_at}
 use Rattle.vcm_spec.specs.declared.workpiece.Bounds.{Bounds}
 use Rattle.vcm_way.specs.declared.mark.Contact.{Contact}
 use Rattle.vcm_way.specs.declared.mark.Going.{Going}
@@ -15,27 +15,25 @@ use Rattle.vcm_way.specs.declared.mark.Mark.TheVariants.{Goes, Touches, Meets}
 use Rattle.vcm_way.specs.declared.mark.Piece.{Piece}
 use Rattle.vcm_way.specs.declared.mark.Placed.{Placed}
 use Rattle.vcm_way.specs.declared.mark.Touched.{Touched}
-use Rattle.vcm_picture.specs.declared.rect.Rect.{Rect}
-use Rattle.vcm_picture.specs.declared.rect.Spot.{Spot}
-use Rattle.vcm_picture.specs.declared.shapes.Class.{Class}
-use Rattle.vcm_picture.specs.declared.shapes.Class.TheVariants as class
+use Rattle.vcm_svg.specs.declared.rect.Rect.{Rect}
+use Rattle.vcm_svg.specs.declared.rect.Spot.{Spot}
+use Rattle.vcm_svg.specs.declared.shapes.Class.{Class}
+use Rattle.vcm_svg.specs.declared.shapes.Class.TheVariants as class
 use Rattle.vcm_picture.specs.declared.view.Scope.{Scope}
-use Rattle.vcm_picture.specs.Append.{point_text, way_text}
-use Rattle.vcm_picture.specs.Shapes.{path_front, rect, square_round, circle, cross, line}
+use Rattle.vcm_svg.specs.declared.outlines.Reach.{Reach}
+use Rattle.vcm_svg.specs.Outlines.{rect_outline, square_round, circle, cross, line}
+use Rattle.vcm_svg.specs.Pieces.{joined, point_text}
+use Rattle.vcm_svg.specs.Shapes.{told}
 use Rattle.vcm_picture.specs.View.{rect_of, spot_of}
 
--- the beginning of a tooltip
-abbrev pub tip_front : List ℕ
-tip_front = codes "\"><title>"
+-- a distance of so many units from where a point stands
+abbrev pub reach : Scope → Point → ℤ → Reach
+reach s p count = record { at = spot_of s p; count = count; unit = s.unit }
 
--- the end of a tooltip, and of its path
-abbrev pub tip_back : List ℕ
-tip_back = codes "</title></path>\n"
-
--- where a mark belongs: its step, statement and source line
-abbrev pub place_text : Placed → List ℕ
-place_text m =
-    in_a_row (codes "step " ∷ decimal m.step ∷ codes " statement " ∷ decimal m.number ∷ codes " line " ∷ decimal m.line ∷ codes ": " ∷ [])
+-- where a mark belongs, its step, statement and source line, before other texts
+abbrev pub placed : Placed → List (List ℕ) → List ℕ
+placed m texts =
+    joined (codes "step " ∷ decimal m.step ∷ codes " statement " ∷ decimal m.number ∷ codes " line " ∷ decimal m.line ∷ codes ": " ∷ texts)
 
 -- what a piece is, in its tooltip
 abbrev pub going_text : Going → List ℕ
@@ -53,11 +51,15 @@ class_of Search a b is_few = class.Search
 class_of Retract a b is_few = class.Retract
 class_of Rest a b is_few = class.Rest
 
+-- the tooltip of a piece that is called this
+abbrev pub placed_tip : Placed → List ℕ → Piece → List ℕ
+placed_tip m going p = placed m (going ∷ point_text p.from ∷ codes " to " ∷ point_text p.aim ∷ [])
+
 -- a piece
 abbrev pub piece_text : Scope → Bool → Placed → Piece → List ℕ
 piece_text s is_few m p =
-    path_front (class_of p.going (spot_of s p.from) (spot_of s p.to) is_few)
-    ++ (line (spot_of s p.from) (spot_of s p.to) ++ (tip_front ++ (place_text m ++ (going_text p.going ++ (way_text p.from p.aim ++ tip_back)))))
+    told (class_of p.going (spot_of s p.from) (spot_of s p.to) is_few) (line (spot_of s p.from) (spot_of s p.to))
+    (placed_tip m (going_text p.going) p)
 
 -- the piece of a mark
 abbrev pub mark_text : Scope → Bool → Placed → Mark → List ℕ
@@ -72,9 +74,7 @@ pieces_text s is_few marks = flat_map (λ m. mark_text s is_few m m.mark) marks
 -- a touched point
 abbrev pub touched_text : Scope → List (List ℕ) → Placed → Touched → List ℕ
 touched_text s features m t =
-    path_front class.Touched
-    ++ (circle (spot_of s t.at) (pos 3 *ℤ s.unit)
-    ++ (tip_front ++ (place_text m ++ (in_a_row (name_at features t.feature ∷ codes " touched at " ∷ []) ++ (point_text t.at ++ tip_back)))))
+    told class.Touched (circle (spot_of s t.at) (pos 3 *ℤ s.unit)) (placed m (name_at features t.feature ∷ codes " touched at " ∷ point_text t.at ∷ []))
 
 -- the touched point of a mark
 abbrev pub mark_touched : Scope → List (List ℕ) → Placed → Mark → List ℕ
@@ -87,53 +87,47 @@ abbrev pub all_touched : Scope → List (List ℕ) → List Placed → List ℕ
 all_touched s features marks = flat_map (λ m. mark_touched s features m m.mark) marks
 
 -- what is seen of the limits in a view, with a little more on each side
-abbrev pub clipped : Scope → Rect → Rect
-clipped s r = record {
-  left = int_max r.left (neg_ℤ (pos 4 *ℤ s.unit));
-  top = int_max r.top (neg_ℤ (pos 4 *ℤ s.unit));
+abbrev pub in_view : Scope → Rect → Rect
+in_view s r = record {
+  left = int_max r.left (negsuc 3 *ℤ s.unit);
+  top = int_max r.top (negsuc 3 *ℤ s.unit);
   right = int_min r.right (s.wide +ℤ pos 4 *ℤ s.unit);
   bottom = int_min r.bottom (s.high +ℤ pos 4 *ℤ s.unit);
 }
 
--- the path of the limits, of which this is seen
-abbrev pub limits_path : Rect → Point → Point → List ℕ
-limits_path r low high = path_front class.Limits ++ (rect r ++ (tip_front ++ (codes "limits: " ++ (way_text low high ++ tip_back))))
-
 -- the limits, of which this is seen
 abbrev pub limits_in : Rect → Point → Point → List ℕ
-limits_in r low high = if int_lt r.right r.left || int_lt r.bottom r.top then [] else limits_path r low high
+limits_in r low high =
+    if int_lt r.right r.left || int_lt r.bottom r.top then []
+    else told class.Limits (rect_outline r) (joined (codes "limits: " ∷ point_text low ∷ codes " to " ∷ point_text high ∷ []))
 
 -- the limits, where they lie in the view
 abbrev pub limits_text : Scope → Point → Point → List ℕ
-limits_text s low high = limits_in (clipped s (rect_of s low high)) low high
+limits_text s low high = limits_in (in_view s (rect_of s low high)) low high
 
 -- home
 abbrev pub home_text : Scope → Point → List ℕ
 home_text s home =
-    path_front class.Place ++ (square_round (spot_of s home) (pos 5 *ℤ s.unit) ++ (tip_front ++ (codes "home: " ++ (point_text home ++ tip_back))))
+    told class.Place (square_round (spot_of s home) (pos 5 *ℤ s.unit)) (joined (codes "home: " ∷ point_text home ∷ []))
 
 -- the end
 abbrev pub end_text : Scope → Point → List ℕ
 end_text s position =
-    path_front class.Place ++ (circle (spot_of s position) (pos 8 *ℤ s.unit) ++ (tip_front ++ (codes "end: " ++ (point_text position ++ tip_back))))
+    told class.Place (circle (spot_of s position) (pos 8 *ℤ s.unit)) (joined (codes "end: " ∷ point_text position ∷ []))
 
--- the tip at a point
+-- the tip of that half width at a point
 abbrev pub tip_text : Scope → Point → ℤ → List ℕ → List ℕ
-tip_text s at half place =
-    path_front class.Tip ++ (square_round (spot_of s at) half ++ (tip_front ++ (in_a_row (codes "the tip at the " ∷ place ∷ []) ++ tip_back)))
+tip_text s at half place = told class.Tip (square_round (spot_of s at) half) (joined (codes "the tip at the " ∷ place ∷ []))
 
--- the tip at the contact, if there is one
+-- the same at the contact, if there is one
 abbrev pub tip_there : Scope → ℤ → Option Contact → List ℕ
 tip_there s half None = []
 tip_there s half (Some c) = tip_text s c.at half (codes "contact")
 
--- the tip at the end and at the contact
-abbrev pub both_tips : Scope → Point → Option Contact → ℤ → List ℕ
-both_tips s position contact half = tip_text s position half (codes "end") ++ tip_there s half contact
-
--- the same of a tip of that half width in micrometres
+-- the tip of that half width in micrometres, at the end and at the contact
 abbrev pub sized_tips : Scope → ℕ → Point → Option Contact → List ℕ
-sized_tips s tip position contact = both_tips s position contact (int_div_euclid (pos tip) s.grain)
+sized_tips s tip position contact =
+    let half = int_div_euclid (pos tip) s.grain in tip_text s position half (codes "end") ++ tip_there s half contact
 
 -- the same, where it isn't a point
 abbrev pub tips_text : Scope → ℕ → Point → Option Contact → List ℕ
@@ -142,9 +136,8 @@ tips_text s tip position contact = if nat_eq tip 0 then [] else sized_tips s tip
 -- the contact, with the line of the stop
 abbrev pub contact_text : Scope → List ℕ → Contact → List ℕ
 contact_text s stopped c =
-    path_front class.Cross
-    ++ (cross (spot_of s c.at) (pos 6 *ℤ s.unit)
-    ++ (tip_front ++ (in_a_row (stopped ∷ codes ", of the way " ∷ []) ++ (way_text c.from c.aim ++ tip_back))))
+    told class.Cross (cross (spot_of s c.at) (pos 6 *ℤ s.unit))
+    (joined (stopped ∷ codes ", of the way " ∷ point_text c.from ∷ codes " to " ∷ point_text c.aim ∷ []))
 
 -- the contact, if there is one
 abbrev pub some_contact : Scope → List ℕ → Option Contact → List ℕ

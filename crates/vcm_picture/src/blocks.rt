@@ -1,37 +1,33 @@
 //! The blocks of a view, and their numbers.
 
 ghost use Rattle.std.specs.Prelude.{◌≡◌, ◌++◌, OnOk};
-ghost use Rattle.vcm_picture.specs.Blocks.{tip_text, block_text, open_text, hidden_text, face_text, hit_text, figure_text, number_text, all_open, all_hidden, all_numbers};
-ghost use Rattle.vcm_picture.specs.inner.Ranges.{IsRect};
+ghost use Rattle.vcm_picture.specs.Blocks.{block_text, open_text, hidden_text, face_text, hit_text, figure_label, figure_text, number_text, all_open, all_hidden, all_numbers};
+ghost use Rattle.vcm_svg.specs.Ranges.{IsRect};
 ghost use Rattle.vcm_picture.specs.inner.Drawable.{AreFaces, AreSeen, IsSeen, IsFigure};
 
-use crate::append::{put, put_way};
-use crate::rect::Spot;
-use crate::shapes::{Class, Lettering, begin_path, end_path, end_tip, put_rect, put_text};
 use crate::shown::{Face, Figure, Seen, Shown};
-use itoa::Buffer;
 use vcm_num::NoMemory;
+use vcm_svg::{Class, Label, Lettering, Piece, Spot, put_path, put_text, put_told, rect_outline};
 use vcm_way::Contact;
-
-// Appends the tooltip of a block, which ends its path.
-fn put_tip(out: &mut Vec<u8>, face: &Face) -> Result<(), NoMemory>
-    ensures { OnOk result (out.new.items ≡ out.old.items ++ tip_text face.now) }
-{
-    let mut number = Buffer::new();
-    let number = number.format(face.number).as_bytes();
-    put(out, &[b"\"><title>block ", number, b": "])?;
-    put_way(out, face.block.low, face.block.high)?;
-    end_tip(out)
-}
 
 // Appends a block with its tooltip.
 fn put_block(out: &mut Vec<u8>, class: Class, face: &Face) -> Result<(), NoMemory>
     requires { IsRect face.now.rect }
     ensures { OnOk result (out.new.items ≡ out.old.items ++ block_text class face.now) }
 {
-    begin_path(out, class)?;
-    put_rect(out, face.rect)?;
-    put_tip(out, face)
+    put_told(
+        out,
+        class,
+        &rect_outline(face.rect),
+        &[
+            Piece::Text(b"block "),
+            Piece::Count(u64::from(face.number)),
+            Piece::Text(b": "),
+            Piece::At(face.block.low),
+            Piece::Text(b" to "),
+            Piece::At(face.block.high),
+        ],
+    )
 }
 
 // Appends a block where it is open.
@@ -85,9 +81,7 @@ fn put_outline(out: &mut Vec<u8>, face: &Face) -> Result<(), NoMemory>
     requires { IsRect face.now.rect }
     ensures { OnOk result (out.new.items ≡ out.old.items ++ face_text (Some face.now)) }
 {
-    begin_path(out, Class::Hit)?;
-    put_rect(out, face.rect)?;
-    end_path(out)
+    put_path(out, Class::Hit, &rect_outline(face.rect))
 }
 
 /// Appends the outline of the block of the contact.
@@ -108,18 +102,31 @@ pub(crate) fn put_hit(
     }
 }
 
+// Where the number of a block stands.
+fn figure_label(figure: &Figure) -> Label
+    requires { IsFigure figure.now }
+    ensures { result ≡ figure_label figure.now }
+{
+    Label {
+        at: Spot {
+            x: figure.area.left,
+            y: figure.area.top + 8 * figure.size,
+        },
+        size: figure.size,
+        class: Lettering::Number,
+    }
+}
+
 // Appends the number of a block in its box.
 fn put_figure(out: &mut Vec<u8>, face: &Face, figure: &Figure) -> Result<(), NoMemory>
     requires { IsFigure figure.now }
     ensures { OnOk result (out.new.items ≡ out.old.items ++ figure_text face.now figure.now) }
 {
-    let mut number = Buffer::new();
-    let number = number.format(face.number).as_bytes();
-    let at = Spot {
-        x: figure.area.left,
-        y: figure.area.top + 8 * figure.size,
-    };
-    put_text(out, at, figure.size, Lettering::Number, number)
+    put_text(
+        out,
+        figure_label(figure),
+        &[Piece::Count(u64::from(face.number))],
+    )
 }
 
 // Appends the number of a block, if it has a box.

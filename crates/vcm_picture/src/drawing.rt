@@ -1,81 +1,63 @@
 //! A view, drawn.
 
 ghost use Rattle.std.specs.Prelude.{◌≡◌, ◌++◌, [], Some, OnOk, IfOk};
-ghost use Rattle.vcm_picture.specs.Drawing.{name_spot, name_text, block_name, contact_name, some_contact_name, first_names_text, feature_name_text, feature_names_text, title_spot, title_text, group_text, frame_text, view_front, blocks_text, way_of, way_text, names_beside, names_of, names_text, view_of, view_text, scene};
+ghost use Rattle.vcm_picture.specs.Drawing.{name_label, name_text, contact_name, first_names_text, feature_name_text, feature_names_text, title_label, group_text, view_front, blocks_text, way_of, way_text, names_beside, names_of, names_text, view_of, view_text, scene};
+ghost use Rattle.vcm_svg.specs.Pieces.{texts};
 ghost use Rattle.vcm_picture.specs.Marks.{contact_of};
-ghost use Rattle.vcm_picture.specs.inner.Ranges.{IsScope, IsUnit, IsLarge, IsSpot};
+ghost use Rattle.vcm_picture.specs.inner.Ranges.{IsScope};
+ghost use Rattle.vcm_svg.specs.Ranges.{IsUnit, IsLarge, IsSpot};
 ghost use Rattle.vcm_picture.specs.inner.Drawable.{AreFaces, AreSeen, AreFirst, AreNamed, MayName};
 
-use crate::append::put;
 use crate::blocks::{put_figures, put_hidden, put_hit, put_open};
 use crate::marks::{are_few, contact_of};
 use crate::names::{FirstNames, Named, feature_names, first_names, name_at, take_figures};
-use crate::rect::{Rect, Spot};
-use crate::shapes::{Class, Lettering, begin_path, begin_text, end_path, put_square, put_text};
 use crate::shown::{Face, Seen, all_seen, faces_of};
-use crate::view::{Scope, clip, place, title};
+use crate::view::{Scope, View, clip, title};
 use crate::way::{put_all_touched, put_ends, put_limits, put_pieces};
-use itoa::Buffer;
 use std::alloc::Global;
 use vcm_expr::Name;
-use vcm_num::{NoMemory, Point, int_text};
+use vcm_num::{NoMemory, Point};
 use vcm_part::PartData;
 use vcm_spec::Bounds;
 use vcm_state::World;
+use vcm_svg::{Class, Label, Lettering, Piece, Rect, Spot, put, put_path, put_text, square};
 use vcm_way::{Contact, Placed};
 
 // Where a name stands in its box.
-fn name_spot(area: Rect, unit: i64) -> Spot
+fn name_label(area: Rect, unit: i64) -> Label
     requires top { IsLarge area.top }
     requires unit { IsUnit unit }
-    ensures { result ≡ name_spot area unit }
+    ensures { result ≡ name_label area unit }
 {
-    place(area.left, area.top + 8 * unit)
-}
-
-// Appends a name in its box, if it has one.
-fn put_name(out: &mut Vec<u8>, area: Option<Rect>, unit: i64, words: &[u8]) -> Result<(), NoMemory>
-    requires area { MayName area }
-    requires unit { IsUnit unit }
-    ensures { OnOk result (out.new.items ≡ out.old.items ++ name_text area unit words.now) }
-{
-    match area {
-        Some(area) => put_text(out, name_spot(area, unit), unit, Lettering::Name, words),
-        None => Ok(()),
+    Label {
+        at: Spot {
+            x: area.left,
+            y: area.top + 8 * unit,
+        },
+        size: unit,
+        class: Lettering::Name,
     }
 }
 
-// Appends the name of a block in its box.
-fn put_block_name(out: &mut Vec<u8>, area: Rect, unit: i64, block: u32) -> Result<(), NoMemory>
-    requires top { IsLarge area.top }
-    requires unit { IsUnit unit }
-    ensures { OnOk result (out.new.items ≡ out.old.items ++ block_name area unit block) }
-{
-    let mut number = Buffer::new();
-    let number = number.format(block).as_bytes();
-    begin_text(out, name_spot(area, unit), unit, Lettering::Name)?;
-    put(out, &[b"block ", number, b"</text>\n"])
-}
-
-// Appends the name of the contact in its box.
-fn put_contact_name(
+// Appends a name in its box, if it has one.
+fn put_name(
     out: &mut Vec<u8>,
-    area: Rect,
+    area: Option<Rect>,
     unit: i64,
-    contact: Option<Contact>,
+    words: &[Piece],
 ) -> Result<(), NoMemory>
-    requires top { IsLarge area.top }
+    requires area { MayName area }
     requires unit { IsUnit unit }
-    ensures { OnOk result (out.new.items ≡ out.old.items ++ contact_name area unit contact) }
+    ensures { OnOk result (out.new.items ≡ out.old.items ++ name_text area unit (texts words.now)) }
 {
-    match contact {
-        Some(contact) => put_block_name(out, area, unit, contact.block),
+    match area {
+        Some(area) => put_text(out, name_label(area, unit), words),
         None => Ok(()),
     }
 }
 
 // Appends the name of the contact, if it has a box.
-fn put_some_contact_name(
+fn put_contact_name(
     out: &mut Vec<u8>,
     area: Option<Rect>,
     unit: i64,
@@ -83,10 +65,18 @@ fn put_some_contact_name(
 ) -> Result<(), NoMemory>
     requires area { MayName area }
     requires unit { IsUnit unit }
-    ensures { OnOk result (out.new.items ≡ out.old.items ++ some_contact_name area unit contact) }
+    ensures { OnOk result (out.new.items ≡ out.old.items ++ contact_name area unit contact) }
 {
-    match area {
-        Some(area) => put_contact_name(out, area, unit, contact),
+    match contact {
+        Some(contact) => {
+            let block = u64::from(contact.block);
+            put_name(
+                out,
+                area,
+                unit,
+                &[Piece::Text(b"block "), Piece::Count(block)],
+            )
+        }
         None => Ok(()),
     }
 }
@@ -102,9 +92,9 @@ fn put_first_names(
     requires unit { IsUnit unit }
     ensures { OnOk result (out.new.items ≡ out.old.items ++ first_names_text unit contact names) }
 {
-    put_some_contact_name(out, names.contact, unit, contact)?;
-    put_name(out, names.end, unit, b"end")?;
-    put_name(out, names.home, unit, b"home")
+    put_contact_name(out, names.contact, unit, contact)?;
+    put_name(out, names.end, unit, &[Piece::Text(b"end")])?;
+    put_name(out, names.home, unit, &[Piece::Text(b"home")])
 }
 
 // Appends the name of a touched point.
@@ -118,12 +108,8 @@ fn put_feature_name(
     requires scope { IsScope scope }
     ensures { OnOk result (out.new.items ≡ out.old.items ++ feature_name_text scope.unit features.now named.now) }
 {
-    put_name(
-        out,
-        Some(named.area),
-        scope.unit,
-        name_at(features, named.feature),
-    )
+    let name = name_at(features, named.feature);
+    put_name(out, Some(named.area), scope.unit, &[Piece::Text(name)])
 }
 
 // Appends the names of the touched points.
@@ -143,59 +129,38 @@ fn put_feature_names(
     Ok(())
 }
 
-// Where the title of a view stands.
-fn title_spot(at: Spot, unit: i64) -> Spot
+// Where the title of a view stands, at a place of the picture.
+fn title_label(at: Spot, unit: i64) -> Label
     requires at { IsSpot at }
     requires unit { IsUnit unit }
-    ensures { result ≡ title_spot at unit }
+    ensures { result ≡ title_label at unit }
 {
-    place(at.x, at.y - 6 * unit)
-}
-
-// Appends the title of a view.
-fn put_title(out: &mut Vec<u8>, scope: Scope, at: Spot) -> Result<(), NoMemory>
-    requires scope { IsScope scope }
-    requires at { IsSpot at }
-    ensures { OnOk result (out.new.items ≡ out.old.items ++ title_text scope at) }
-{
-    put_text(
-        out,
-        title_spot(at, scope.unit),
-        scope.unit,
-        Lettering::Plain,
-        title(scope.view),
-    )
+    Label {
+        at: Spot {
+            x: at.x,
+            y: at.y - 6 * unit,
+        },
+        size: unit,
+        class: Lettering::Plain,
+    }
 }
 
 // Appends the beginning of the group of a view at a place of the picture.
-fn begin_group(out: &mut Vec<u8>, scope: Scope, at: Spot) -> Result<(), NoMemory>
-    requires at { IsSpot at }
-    ensures { OnOk result (out.new.items ≡ out.old.items ++ group_text scope at) }
+fn begin_group(out: &mut Vec<u8>, view: View, at: Spot) -> Result<(), NoMemory>
+    ensures { OnOk result (out.new.items ≡ out.old.items ++ group_text view at) }
 {
-    let x = int_text(at.x);
-    let y = int_text(at.y);
     put(
         out,
         &[
-            b"<g transform=\"matrix(1 0 0 1 ",
-            x.as_slice(),
-            b" ",
-            y.as_slice(),
-            b")\" clip-path=\"url(#v",
-            clip(scope.view),
-            b")\">\n",
+            Piece::Text(b"<g transform=\"matrix(1 0 0 1 "),
+            Piece::Number(at.x),
+            Piece::Text(b" "),
+            Piece::Number(at.y),
+            Piece::Text(b")\" clip-path=\"url(#v"),
+            Piece::Text(clip(view)),
+            Piece::Text(b")\">\n"),
         ],
     )
-}
-
-// Appends the frame of a view.
-fn put_frame(out: &mut Vec<u8>, scope: Scope) -> Result<(), NoMemory>
-    requires { IsScope scope }
-    ensures { OnOk result (out.new.items ≡ out.old.items ++ frame_text scope) }
-{
-    begin_path(out, Class::Frame)?;
-    put_square(out, Spot { x: 0, y: 0 }, scope.wide, scope.high)?;
-    end_path(out)
 }
 
 // Appends the title of a view and begins its group, at a place of the picture.
@@ -204,9 +169,14 @@ fn begin_view(out: &mut Vec<u8>, scope: Scope, at: Spot) -> Result<(), NoMemory>
     requires at { IsSpot at }
     ensures { OnOk result (out.new.items ≡ out.old.items ++ view_front scope at) }
 {
-    put_title(out, scope, at)?;
-    begin_group(out, scope, at)?;
-    put_frame(out, scope)
+    put_text(
+        out,
+        title_label(at, scope.unit),
+        &[Piece::Text(title(scope.view))],
+    )?;
+    begin_group(out, scope.view, at)?;
+    let frame = square(Spot { x: 0, y: 0 }, scope.wide, scope.high);
+    put_path(out, Class::Frame, &frame)
 }
 
 // Appends the blocks of a view.
@@ -357,7 +327,7 @@ fn put_view_of(
     put_blocks(out, faces, all, contact_of(marks))?;
     put_way(out, scope, part, world, stopped, marks)?;
     put_names(alloc, out, scope, part, world, marks, all)?;
-    put(out, &[b"</g>\n"])
+    put(out, &[Piece::Text(b"</g>\n")])
 }
 
 /// Appends a view at a place of the picture.

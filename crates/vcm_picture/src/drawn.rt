@@ -4,7 +4,6 @@ ghost use Rattle.std.specs.Prelude.{◌≡◌, IsTrue};
 ghost use Rattle.vcm_num.specs.Point.{IsNear, is_near};
 ghost use Rattle.vcm_picture.specs.Drawn.{drawn, drawn_at};
 
-use crate::whole::{greater, lesser};
 use vcm_num::Point;
 
 /// The farthest coordinate that is drawn, in micrometres: a kilometre.
@@ -15,7 +14,7 @@ fn drawn(coordinate: i64) -> i64
     ensures coordinate { result ≡ drawn coordinate }
     ensures near { IsNear result }
 {
-    greater(-FARTHEST, lesser(coordinate, FARTHEST))
+    (-FARTHEST).max(coordinate.min(FARTHEST))
 }
 
 /// Where a point is drawn.

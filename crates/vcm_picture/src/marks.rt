@@ -1,7 +1,8 @@
 //! Questions of the marks of a way.
 
 ghost use Rattle.std.specs.Prelude.{◌≡◌, ◌≤◌};
-ghost use Rattle.vcm_picture.specs.Marks.{are_few, contact_of, pieces_in};
+ghost use Rattle.vcm_way.specs.Ways.{counted, is_piece};
+ghost use Rattle.vcm_picture.specs.Marks.{are_few, contact_of};
 
 use vcm_way::{Contact, Mark, Placed};
 
@@ -10,7 +11,7 @@ const FEW_PIECES: u64 = 500;
 
 // How many pieces a mark is.
 fn pieces_in(mark: &Mark) -> u64
-    ensures pieces { result ≡ pieces_in mark.now }
+    ensures pieces { result ≡ counted (is_piece mark.now) 0 }
     ensures few { result ≤ 1 }
 {
     match mark {
@@ -21,6 +22,7 @@ fn pieces_in(mark: &Mark) -> u64
 }
 
 /// Whether pieces are few enough for arrows.
+#[tactic(auto, using(crate::proofs::Counting::counted_more))]
 pub(crate) fn are_few(marks: &[Placed]) -> bool
     ensures { result ≡ are_few marks.now }
 {

@@ -3,17 +3,18 @@
 ghost use Rattle.std.specs.Prelude.{◌≡◌, ◌≤◌, ◌+ℤ◌, ◌++◌, ◌&&◌, pos, int_le, length, decimal, option_to_list, OnOk, IfOk};
 ghost use Rattle.std.specs.List.{list_any, find};
 ghost use Rattle.vcm_report.specs.Printed.{name_at};
-ghost use Rattle.vcm_picture.specs.Rect.{meets};
+ghost use Rattle.vcm_svg.specs.Rect.{meets};
 ghost use Rattle.vcm_picture.specs.Names.{is_free, sides, beside, contact_box, some_contact_box, is_at, end_box, first_names, with_first, figure_boxes, all_figure_boxes, is_same_name, is_named, feature_box, with_touched, with_mark, with_all_touched};
-ghost use Rattle.vcm_picture.specs.inner.Ranges.{IsScope, IsSpot, IsLetters, IsUnit, IsExtent};
+ghost use Rattle.vcm_picture.specs.inner.Ranges.{IsScope, IsLetters};
+ghost use Rattle.vcm_svg.specs.Ranges.{IsSpot, IsUnit, IsExtent};
 ghost use Rattle.vcm_picture.specs.inner.Drawable.{AreBoxes, AreNamed, MayName, AreFirst};
 
-use crate::rect::{Rect, Spot, boxed, meets};
 use crate::shown::{Seen, Shown};
 use crate::view::{Scope, spot_of};
 use crate::whole::letters_wide;
 use vcm_expr::Name;
 use vcm_num::{NoMemory, Point, int_text};
+use vcm_svg::{Rect, Spot, boxed, meets};
 use vcm_way::{Contact, Mark, Placed, Touched};
 
 /// The name of a feature that found room: its place, its box and its feature's index.

@@ -3,31 +3,31 @@
 ghost use Rattle.std.specs.Prelude.{◌≡◌, ◌++◌, ◌<◌, OnOk, IfOk, IsTrue};
 ghost use Rattle.std.specs.List.{list_all};
 ghost use Rattle.vcm_spec.specs.Workpiece.{is_block};
-ghost use Rattle.vcm_picture.specs.Picture.{above, units, laid_out, layout_with, layout_of, size_text, head_text, clip_text, paper_text, window_for, window_round, views_text, legend_spot, bar_place, foot_text, picture_of, picture_text, sheet};
+ghost use Rattle.vcm_picture.specs.Picture.{above, units, laid_out, layout_with, layout_of, head_text, clip_text, background_text, window_for, window_round, view_spot, lower_views, views_text, legend_spot, bar_place, foot_text, picture_of, picture_text, sheet};
 ghost use Rattle.vcm_picture.specs.Drawing.{scene, view_text};
-ghost use Rattle.vcm_picture.specs.inner.Ranges.{IsBorder, IsLine, IsSize, IsSmall, IsSpot, IsUnit, IsWindow};
+ghost use Rattle.vcm_picture.specs.inner.Ranges.{IsBorder, IsLine, IsWindow};
+ghost use Rattle.vcm_svg.specs.Ranges.{IsSize, IsSmall, IsSpot, IsUnit};
 ghost use Rattle.vcm_picture.specs.inner.Layouts.{IsLayout, IsSlim};
 ghost use Rattle.vcm_picture.specs.Outcome.{IsPicture};
-ghost use Rattle.vcm_picture.specs.View.{scope_of, spot};
+ghost use Rattle.vcm_picture.specs.View.{scope_of};
+ghost use Rattle.vcm_svg.specs.Rect.{spot};
 
-use crate::append::put;
 use crate::drawing::put_view;
-use crate::heading::{first_line, put_heading};
-use crate::legend::{put_bar, put_legend};
+use crate::heading::first_line;
 use crate::marks::are_few;
-use crate::rect::Spot;
-use crate::shapes::{Class, begin_path, end_path, put_square};
 use crate::span::span_of;
-use crate::style::put_style;
 use crate::view::{View, clip, scope_of};
-use crate::whole::quotient;
 use crate::window::{Window, window_of};
 use std::alloc::Global;
 use std::io::Write;
-use vcm_num::{NoMemory, Point, int_text, write_all};
+use vcm_num::{NoMemory, Point, write_all};
 use vcm_part::PartData;
 use vcm_spec::Block3;
 use vcm_state::World;
+use vcm_svg::{
+    Class, Piece, Spot, put, put_bar, put_heading, put_legend, put_path, put_style, quotient,
+    square,
+};
 use vcm_way::Placed;
 
 /// Why a picture isn't written.
@@ -115,40 +115,28 @@ fn layout_of(window: Window, above: i64) -> Layout
     )
 }
 
-// Appends the size of the picture.
-fn put_size(out: &mut Vec<u8>, layout: Layout, unit: i64) -> Result<(), NoMemory>
-    requires layout { IsLayout layout }
-    requires unit { IsUnit unit }
-    ensures { OnOk result (out.new.items ≡ out.old.items ++ size_text layout unit) }
-{
-    let wide = int_text(layout.wide);
-    let high = int_text(layout.high);
-    let width = int_text(quotient(layout.wide, unit));
-    let height = int_text(quotient(layout.high, unit));
-    put(
-        out,
-        &[
-            b"<svg xmlns=\"http://www.w3.org/2000/svg\" viewBox=\"0 0 ",
-            wide.as_slice(),
-            b" ",
-            high.as_slice(),
-            b"\" width=\"",
-            width.as_slice(),
-            b"\" height=\"",
-            height.as_slice(),
-            b"\">\n<title>",
-        ],
-    )
-}
-
 // Appends the head: the size of the picture, and its title.
 fn put_head(out: &mut Vec<u8>, layout: Layout, unit: i64, first: &[u8]) -> Result<(), NoMemory>
     requires layout { IsLayout layout }
     requires unit { IsUnit unit }
     ensures { OnOk result (out.new.items ≡ out.old.items ++ head_text layout unit first.now) }
 {
-    put_size(out, layout, unit)?;
-    put(out, &[first, b"</title>\n"])
+    put(
+        out,
+        &[
+            Piece::Text(b"<svg xmlns=\"http://www.w3.org/2000/svg\" viewBox=\"0 0 "),
+            Piece::Number(layout.wide),
+            Piece::Text(b" "),
+            Piece::Number(layout.high),
+            Piece::Text(b"\" width=\""),
+            Piece::Number(quotient(layout.wide, unit)),
+            Piece::Text(b"\" height=\""),
+            Piece::Number(quotient(layout.high, unit)),
+            Piece::Text(b"\">\n<title>"),
+            Piece::Text(first),
+            Piece::Text(b"</title>\n"),
+        ],
+    )
 }
 
 // Appends the clip path of a view.
@@ -157,23 +145,29 @@ fn put_clip(out: &mut Vec<u8>, view: View, window: Window) -> Result<(), NoMemor
     ensures { OnOk result (out.new.items ≡ out.old.items ++ clip_text view window) }
 {
     let scope = scope_of(window, view);
-    put(out, &[b"<clipPath id=\"v", clip(view), b"\"><path d=\""])?;
-    put_square(out, Spot { x: 0, y: 0 }, scope.wide, scope.high)?;
-    put(out, &[b"\"/></clipPath>\n"])
+    put(
+        out,
+        &[
+            Piece::Text(b"<clipPath id=\"v"),
+            Piece::Text(clip(view)),
+            Piece::Text(b"\"><path d=\""),
+        ],
+    )?;
+    put(out, &square(Spot { x: 0, y: 0 }, scope.wide, scope.high))?;
+    put(out, &[Piece::Text(b"\"/></clipPath>\n")])
 }
 
-// Appends the clip paths, and the paper.
-fn put_paper(out: &mut Vec<u8>, window: Window, layout: Layout) -> Result<(), NoMemory>
+// Appends the clip paths, and the background.
+fn put_background(out: &mut Vec<u8>, window: Window, layout: Layout) -> Result<(), NoMemory>
     requires window { IsWindow window }
     requires layout { IsLayout layout }
-    ensures { OnOk result (out.new.items ≡ out.old.items ++ paper_text window layout) }
+    ensures { OnOk result (out.new.items ≡ out.old.items ++ background_text window layout) }
 {
     put_clip(out, View::Top, window)?;
     put_clip(out, View::Front, window)?;
     put_clip(out, View::Side, window)?;
-    begin_path(out, Class::Paper)?;
-    put_square(out, Spot { x: 0, y: 0 }, layout.wide, layout.high)?;
-    end_path(out)
+    let sheet = square(Spot { x: 0, y: 0 }, layout.wide, layout.high);
+    put_path(out, Class::Sheet, &sheet)
 }
 
 // The window round these points, blocks and marks.
@@ -221,29 +215,72 @@ fn corner(x: i64, y: i64) -> Spot
     Spot { x, y }
 }
 
-// Appends a view of a window at a place of the picture.
+// Where a view stands.
+fn view_spot(layout: Layout, view: View) -> Spot
+    requires { IsLayout layout }
+    ensures spot { result ≡ view_spot layout view }
+    ensures small { IsSpot result }
+{
+    match view {
+        View::Top => corner(layout.left, layout.top),
+        View::Front => corner(layout.left, layout.front),
+        View::Side => corner(layout.side, layout.front),
+    }
+}
+
+// Appends a view at its place.
 fn put_view_at(
     alloc: Global,
     out: &mut Vec<u8>,
     window: Window,
+    layout: Layout,
     view: View,
-    x: i64,
-    y: i64,
     part: &PartData,
     world: &World,
     stopped: &[u8],
     marks: &[Placed],
 ) -> Result<(), NoMemory>
     requires window { IsWindow window }
-    requires x { IsBorder x }
-    requires y { IsBorder y }
-    ensures { OnOk result (out.new.items ≡ out.old.items ++ view_text (scope_of window view) (spot x y) (scene part.now world.now stopped.now) marks.now) }
+    requires layout { IsLayout layout }
+    ensures { OnOk result (out.new.items ≡ out.old.items ++ view_text (scope_of window view) (view_spot layout view) (scene part.now world.now stopped.now) marks.now) }
 {
-    put_view(
+    let scope = scope_of(window, view);
+    let at = view_spot(layout, view);
+    put_view(alloc, out, scope, at, part, world, stopped, marks)
+}
+
+// Appends the front view and the right side view.
+fn put_lower_views(
+    alloc: Global,
+    out: &mut Vec<u8>,
+    window: Window,
+    layout: Layout,
+    part: &PartData,
+    world: &World,
+    stopped: &[u8],
+    marks: &[Placed],
+) -> Result<(), NoMemory>
+    requires window { IsWindow window }
+    requires layout { IsLayout layout }
+    ensures { OnOk result (out.new.items ≡ out.old.items ++ lower_views window layout (scene part.now world.now stopped.now) marks.now) }
+{
+    put_view_at(
         alloc,
         out,
-        scope_of(window, view),
-        corner(x, y),
+        window,
+        layout,
+        View::Front,
+        part,
+        world,
+        stopped,
+        marks,
+    )?;
+    put_view_at(
+        alloc,
+        out,
+        window,
+        layout,
+        View::Side,
         part,
         world,
         stopped,
@@ -270,38 +307,14 @@ fn put_views(
         alloc,
         out,
         window,
+        layout,
         View::Top,
-        layout.left,
-        layout.top,
         part,
         world,
         stopped,
         marks,
     )?;
-    put_view_at(
-        alloc,
-        out,
-        window,
-        View::Front,
-        layout.left,
-        layout.front,
-        part,
-        world,
-        stopped,
-        marks,
-    )?;
-    put_view_at(
-        alloc,
-        out,
-        window,
-        View::Side,
-        layout.side,
-        layout.front,
-        part,
-        world,
-        stopped,
-        marks,
-    )
+    put_lower_views(alloc, out, window, layout, part, world, stopped, marks)
 }
 
 // Where the legend stands.
@@ -339,7 +352,7 @@ fn put_foot(out: &mut Vec<u8>, window: Window, layout: Layout) -> Result<(), NoM
         window.grain,
         units(window, 0),
     )?;
-    put(out, &[b"</svg>\n"])
+    put(out, &[Piece::Text(b"</svg>\n")])
 }
 
 // How many units the top view stands below the upper edge.
@@ -370,7 +383,7 @@ fn put_picture(
     let unit = window.unit;
     put_head(out, layout, unit, first)?;
     put_style(out, unit, part.blocks().len(), are_few(marks))?;
-    put_paper(out, window, layout)?;
+    put_background(out, window, layout)?;
     put_heading(out, unit, first, world.position(), done, left_out)?;
     put_views(alloc, out, window, layout, part, world, first, marks)?;
     put_foot(out, window, layout)

@@ -3,17 +3,18 @@
 ghost use Rattle.std.specs.Prelude.{◌≡◌, ◌≤◌, ◌≤ℤ◌, ◌*ℤ◌, ◌++◌, ◌&&◌, [], length, pos, int_le, int_lt, not, option_map, option_to_list, OnOk, IfOk, IfSome, IsTrue};
 ghost use Rattle.std.specs.List.{list_all, list_any, find};
 ghost use Rattle.vcm_spec.specs.Workpiece.{is_block};
-ghost use Rattle.vcm_picture.specs.Rect.{meets, contains, is_same};
+ghost use Rattle.vcm_svg.specs.Rect.{meets, contains, is_same};
 ghost use Rattle.vcm_picture.specs.Shown.{face_of, faces_from, is_repeated, is_hidden, is_covered, size_of, corners, room, figure_with, digits_of, figure_of, shown_of, first_seen, seen_from};
-ghost use Rattle.vcm_picture.specs.inner.Ranges.{IsScope, IsRect, IsUnit, IsLetters, IsExtent};
+ghost use Rattle.vcm_picture.specs.inner.Ranges.{IsScope, IsLetters};
+ghost use Rattle.vcm_svg.specs.Ranges.{IsRect, IsUnit, IsExtent};
 ghost use Rattle.vcm_picture.specs.inner.Drawable.{AreBoxes, AreFaces, AreSeen, IsSeen, IsShown, MayName, MayStand};
 
-use crate::rect::{Rect, boxed, contains, is_same, meets};
 use crate::view::{Scope, nearness, rect_of};
-use crate::whole::{lesser, letters_wide, quotient};
+use crate::whole::letters_wide;
 use std::alloc::Global;
 use vcm_num::{NoMemory, int_text};
 use vcm_spec::Block3;
+use vcm_svg::{Rect, boxed, contains, is_same, meets, quotient};
 
 /// A block in a view: its number, its corners, its rectangle, and how near it is.
 #[derive(Clone, Copy)]
@@ -162,13 +163,9 @@ fn size_of(rect: Rect, digits: i64, unit: i64) -> i64
     ensures size { result ≡ size_of rect digits unit }
     ensures below { result ≤ℤ unit }
 {
-    lesser(
-        unit,
-        lesser(
-            quotient(rect.right - rect.left, 6 * digits + 4),
-            quotient(rect.bottom - rect.top, 11),
-        ),
-    )
+    let across = quotient(rect.right - rect.left, 6 * digits + 4);
+    let down = quotient(rect.bottom - rect.top, 11);
+    unit.min(across.min(down))
 }
 
 // The boxes in the four corners of a rectangle, in the order in which they are tried.

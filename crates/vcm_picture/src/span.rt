@@ -8,7 +8,6 @@ ghost use Rattle.vcm_picture.specs.Span.{widened, single, over_block, of_block, 
 ghost use Rattle.vcm_picture.specs.inner.Ranges.{IsSpan};
 
 use crate::drawn::drawn_at;
-use crate::whole::{greater, lesser};
 use vcm_num::Point;
 use vcm_spec::Block3;
 use vcm_way::{Mark, Placed};
@@ -28,8 +27,8 @@ fn widened(span: Span, coordinate: i64) -> Span
     ensures near { IsSpan result }
 {
     Span {
-        low: lesser(span.low, coordinate),
-        high: greater(span.high, coordinate),
+        low: span.low.min(coordinate),
+        high: span.high.max(coordinate),
     }
 }
 

@@ -4,15 +4,16 @@ ghost use Rattle.std.specs.Prelude.{◌≡◌, ◌<◌, ◌-ℤ◌, IsTrue};
 ghost use Rattle.std.specs.Int.{int_div_euclid};
 ghost use Rattle.vcm_num.specs.Point.{is_near};
 ghost use Rattle.vcm_spec.specs.Workpiece.{is_block};
-ghost use Rattle.vcm_picture.specs.View.{spot, right_axis, up_axis, title, clip, nearness, scope_of, near_spot, spot_of, rect_of};
-ghost use Rattle.vcm_picture.specs.inner.Ranges.{IsBorder, IsSmall, IsUnit, IsWindow, IsScope, IsSpot, IsRect};
+ghost use Rattle.vcm_picture.specs.View.{right_axis, up_axis, title, clip, nearness, scope_of, near_spot, spot_of, rect_of};
+ghost use Rattle.vcm_svg.specs.Rect.{spot};
+ghost use Rattle.vcm_picture.specs.inner.Ranges.{IsBorder, IsWindow, IsScope};
+ghost use Rattle.vcm_svg.specs.Ranges.{IsSmall, IsUnit, IsSpot, IsRect};
 
 use crate::drawn::drawn_at;
-use crate::rect::{Rect, Spot};
-use crate::whole::quotient;
 use crate::window::Window;
 use vcm_num::Point;
 use vcm_spec::Block3;
+use vcm_svg::{Rect, Spot, quotient};
 
 /// A view: from above, from the front, from the right.
 #[derive(Clone, Copy)]
@@ -121,13 +122,6 @@ fn offset(number: i64, from: i64, grain: i64) -> i64
     ensures small { IsSmall result }
 {
     quotient(number - from, grain)
-}
-
-/// The place of these numbers.
-pub(crate) fn place(x: i64, y: i64) -> Spot
-    ensures { result ≡ spot x y }
-{
-    Spot { x, y }
 }
 
 // A place whose numbers are small.

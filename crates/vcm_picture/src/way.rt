@@ -1,46 +1,35 @@
 //! The way of the probe in a view: limits, pieces, touched points, home, end and contact.
 
 ghost use Rattle.std.specs.Prelude.{◌≡◌, ◌++◌, OnOk};
-ghost use Rattle.vcm_picture.specs.Way.{place_text, going_text, class_of, piece_text, mark_text, pieces_text, touched_text, mark_touched, all_touched, clipped, limits_path, limits_in, limits_text, home_text, end_text, tip_text, tip_there, both_tips, sized_tips, tips_text, contact_text, some_contact, ends_text};
-ghost use Rattle.vcm_picture.specs.inner.Ranges.{IsScope, IsRect, IsExtent};
+ghost use Rattle.vcm_picture.specs.Way.{reach, placed_tip, going_text, class_of, piece_text, mark_text, pieces_text, touched_text, mark_touched, all_touched, in_view, limits_in, limits_text, home_text, end_text, tip_text, tip_there, sized_tips, tips_text, contact_text, some_contact, ends_text};
+ghost use Rattle.vcm_picture.specs.inner.Ranges.{IsScope};
+ghost use Rattle.vcm_svg.specs.Pieces.{texts};
+ghost use Rattle.vcm_svg.specs.Shapes.{told};
+ghost use Rattle.vcm_svg.specs.Ranges.{IsExtent, IsFew, IsReach, IsRect};
 
-use crate::append::{put, put_point, put_way};
 use crate::names::name_at;
-use crate::rect::{Rect, Spot};
-use crate::shapes::{
-    Class, begin_path, begin_tip, end_tip, put_circle, put_cross, put_line, put_rect,
-    put_square_round,
-};
 use crate::view::{Scope, rect_of, spot_of};
-use crate::whole::{greater, lesser, negated, quotient};
-use itoa::Buffer;
 use vcm_expr::Name;
 use vcm_num::{NoMemory, Point};
 use vcm_spec::Bounds;
+use vcm_svg::{
+    Class, Piece as Words, Reach, Rect, Spot, circle, cross, line, put_told, quotient,
+    rect_outline, square_about, square_round,
+};
 use vcm_way::{Contact, Going, Mark, Piece, Placed, Touched};
 
-// Appends where a mark belongs: its step, statement and source line.
-fn put_place(out: &mut Vec<u8>, placed: &Placed) -> Result<(), NoMemory>
-    ensures { OnOk result (out.new.items ≡ out.old.items ++ place_text placed.now) }
+// A distance of so many units from where a point stands.
+fn reach(scope: Scope, at: Point, count: i64) -> Reach
+    requires scope { IsScope scope }
+    requires count { IsFew count }
+    ensures value { result ≡ reach scope at count }
+    ensures range { IsReach result }
 {
-    let mut step = Buffer::new();
-    let mut number = Buffer::new();
-    let mut line = Buffer::new();
-    let step = step.format(placed.step).as_bytes();
-    let number = number.format(placed.number).as_bytes();
-    let line = line.format(placed.line).as_bytes();
-    put(
-        out,
-        &[
-            b"step ",
-            step,
-            b" statement ",
-            number,
-            b" line ",
-            line,
-            b": ",
-        ],
-    )
+    Reach {
+        at: spot_of(scope, at),
+        count,
+        unit: scope.unit,
+    }
 }
 
 // What a piece is, in its tooltip.
@@ -80,6 +69,37 @@ fn class_of(going: Going, from: Spot, to: Spot, is_few: bool) -> Class
     }
 }
 
+// Appends a path with the tooltip of a piece.
+fn put_told_piece(
+    out: &mut Vec<u8>,
+    class: Class,
+    outline: &[Words],
+    placed: &Placed,
+    going: &[u8],
+    piece: &Piece,
+) -> Result<(), NoMemory>
+    ensures { OnOk result (out.new.items ≡ out.old.items ++ told class (texts outline.now) (placed_tip placed.now going.now piece.now)) }
+{
+    put_told(
+        out,
+        class,
+        outline,
+        &[
+            Words::Text(b"step "),
+            Words::Count(placed.step),
+            Words::Text(b" statement "),
+            Words::Count(u64::from(placed.number)),
+            Words::Text(b" line "),
+            Words::Count(u64::from(placed.line)),
+            Words::Text(b": "),
+            Words::Text(going),
+            Words::At(piece.from),
+            Words::Text(b" to "),
+            Words::At(piece.aim),
+        ],
+    )
+}
+
 // Appends a piece.
 fn put_piece(
     out: &mut Vec<u8>,
@@ -93,13 +113,9 @@ fn put_piece(
 {
     let from = spot_of(scope, piece.from);
     let to = spot_of(scope, piece.to);
-    begin_path(out, class_of(piece.going, from, to, is_few))?;
-    put_line(out, from, to)?;
-    begin_tip(out)?;
-    put_place(out, placed)?;
-    out.extend_from_slice(going_text(piece.going))?;
-    put_way(out, piece.from, piece.aim)?;
-    end_tip(out)
+    let class = class_of(piece.going, from, to, is_few);
+    let going = going_text(piece.going);
+    put_told_piece(out, class, &line(from, to), placed, going, piece)
 }
 
 // Appends a mark, if it is a piece.
@@ -146,13 +162,23 @@ fn put_touched(
     requires scope { IsScope scope }
     ensures { OnOk result (out.new.items ≡ out.old.items ++ touched_text scope features.now placed.now touched.now) }
 {
-    begin_path(out, Class::Touched)?;
-    put_circle(out, spot_of(scope, touched.at), 3 * scope.unit)?;
-    begin_tip(out)?;
-    put_place(out, placed)?;
-    put(out, &[name_at(features, touched.feature), b" touched at "])?;
-    put_point(out, touched.at)?;
-    end_tip(out)
+    put_told(
+        out,
+        Class::Touched,
+        &circle(reach(scope, touched.at, 3)),
+        &[
+            Words::Text(b"step "),
+            Words::Count(placed.step),
+            Words::Text(b" statement "),
+            Words::Count(u64::from(placed.number)),
+            Words::Text(b" line "),
+            Words::Count(u64::from(placed.line)),
+            Words::Text(b": "),
+            Words::Text(name_at(features, touched.feature)),
+            Words::Text(b" touched at "),
+            Words::At(touched.at),
+        ],
+    )
 }
 
 // Appends a mark, if it is a touched point.
@@ -189,33 +215,19 @@ pub(crate) fn put_all_touched(
 }
 
 // What is seen of a rectangle in a view, with a little more on each side.
-fn clipped(scope: Scope, all: Rect) -> Rect
+fn in_view(scope: Scope, all: Rect) -> Rect
     requires scope { IsScope scope }
     requires all { IsRect all }
-    ensures rect { result ≡ clipped scope all }
+    ensures rect { result ≡ in_view scope all }
     ensures ranges { IsRect result }
 {
     let rim = 4 * scope.unit;
-    let edge = negated(rim);
     Rect {
-        left: greater(all.left, edge),
-        top: greater(all.top, edge),
-        right: lesser(all.right, scope.wide + rim),
-        bottom: lesser(all.bottom, scope.high + rim),
+        left: all.left.max(-4 * scope.unit),
+        top: all.top.max(-4 * scope.unit),
+        right: all.right.min(scope.wide + rim),
+        bottom: all.bottom.min(scope.high + rim),
     }
-}
-
-// Appends the path of the limits, of which this is seen.
-fn put_limits_path(out: &mut Vec<u8>, rect: Rect, low: Point, high: Point) -> Result<(), NoMemory>
-    requires { IsRect rect }
-    ensures { OnOk result (out.new.items ≡ out.old.items ++ limits_path rect low high) }
-{
-    begin_path(out, Class::Limits)?;
-    put_rect(out, rect)?;
-    begin_tip(out)?;
-    put(out, &[b"limits: "])?;
-    put_way(out, low, high)?;
-    end_tip(out)
 }
 
 // Appends the limits, of which this is seen.
@@ -226,7 +238,17 @@ fn put_limits_in(out: &mut Vec<u8>, rect: Rect, low: Point, high: Point) -> Resu
     if rect.right < rect.left || rect.bottom < rect.top {
         return Ok(());
     }
-    put_limits_path(out, rect, low, high)
+    put_told(
+        out,
+        Class::Limits,
+        &rect_outline(rect),
+        &[
+            Words::Text(b"limits: "),
+            Words::At(low),
+            Words::Text(b" to "),
+            Words::At(high),
+        ],
+    )
 }
 
 /// Appends the limits, where they lie in the view.
@@ -239,7 +261,7 @@ pub(crate) fn put_limits(
     requires scope { IsScope scope }
     ensures { OnOk result (out.new.items ≡ out.old.items ++ limits_text scope low high) }
 {
-    put_limits_in(out, clipped(scope, rect_of(scope, low, high)), low, high)
+    put_limits_in(out, in_view(scope, rect_of(scope, low, high)), low, high)
 }
 
 // Appends home.
@@ -247,12 +269,13 @@ fn put_home(out: &mut Vec<u8>, scope: Scope, home: Point) -> Result<(), NoMemory
     requires scope { IsScope scope }
     ensures { OnOk result (out.new.items ≡ out.old.items ++ home_text scope home) }
 {
-    begin_path(out, Class::Place)?;
-    put_square_round(out, spot_of(scope, home), 5 * scope.unit)?;
-    begin_tip(out)?;
-    put(out, &[b"home: "])?;
-    put_point(out, home)?;
-    end_tip(out)
+    let tip = [Words::Text(b"home: "), Words::At(home)];
+    put_told(
+        out,
+        Class::Place,
+        &square_round(reach(scope, home, 5)),
+        &tip,
+    )
 }
 
 // Appends the end.
@@ -260,12 +283,8 @@ fn put_end(out: &mut Vec<u8>, scope: Scope, position: Point) -> Result<(), NoMem
     requires scope { IsScope scope }
     ensures { OnOk result (out.new.items ≡ out.old.items ++ end_text scope position) }
 {
-    begin_path(out, Class::Place)?;
-    put_circle(out, spot_of(scope, position), 8 * scope.unit)?;
-    begin_tip(out)?;
-    put(out, &[b"end: "])?;
-    put_point(out, position)?;
-    end_tip(out)
+    let tip = [Words::Text(b"end: "), Words::At(position)];
+    put_told(out, Class::Place, &circle(reach(scope, position, 8)), &tip)
 }
 
 // Appends the tip at a point.
@@ -280,11 +299,9 @@ fn put_tip(
     requires half { IsExtent half }
     ensures { OnOk result (out.new.items ≡ out.old.items ++ tip_text scope at half place.now) }
 {
-    begin_path(out, Class::Tip)?;
-    put_square_round(out, spot_of(scope, at), half)?;
-    begin_tip(out)?;
-    put(out, &[b"the tip at the ", place])?;
-    end_tip(out)
+    let tip = [Words::Text(b"the tip at the "), Words::Text(place)];
+    let outline = square_about(spot_of(scope, at), half);
+    put_told(out, Class::Tip, &outline, &tip)
 }
 
 // Appends the contact.
@@ -297,15 +314,21 @@ fn put_contact(
     requires scope { IsScope scope }
     ensures { OnOk result (out.new.items ≡ out.old.items ++ contact_text scope stopped.now contact.now) }
 {
-    begin_path(out, Class::Cross)?;
-    put_cross(out, spot_of(scope, contact.at), 6 * scope.unit)?;
-    begin_tip(out)?;
-    put(out, &[stopped, b", of the way "])?;
-    put_way(out, contact.from, contact.aim)?;
-    end_tip(out)
+    put_told(
+        out,
+        Class::Cross,
+        &cross(reach(scope, contact.at, 6)),
+        &[
+            Words::Text(stopped),
+            Words::Text(b", of the way "),
+            Words::At(contact.from),
+            Words::Text(b" to "),
+            Words::At(contact.aim),
+        ],
+    )
 }
 
-// Appends the tip at the contact, if there is one.
+// Appends the tip of that half width at the contact, if there is one.
 fn put_tip_there(
     out: &mut Vec<u8>,
     scope: Scope,
@@ -322,22 +345,6 @@ fn put_tip_there(
     }
 }
 
-// Appends the tip at the end and at the contact.
-fn put_both_tips(
-    out: &mut Vec<u8>,
-    scope: Scope,
-    half: i64,
-    position: Point,
-    contact: Option<Contact>,
-) -> Result<(), NoMemory>
-    requires scope { IsScope scope }
-    requires half { IsExtent half }
-    ensures { OnOk result (out.new.items ≡ out.old.items ++ both_tips scope position contact half) }
-{
-    put_tip(out, scope, position, half, b"end")?;
-    put_tip_there(out, scope, half, contact)
-}
-
 // Appends the tip of that half width in micrometres, at the end and at the contact.
 fn put_sized_tips(
     out: &mut Vec<u8>,
@@ -350,7 +357,8 @@ fn put_sized_tips(
     ensures { OnOk result (out.new.items ≡ out.old.items ++ sized_tips scope tip position contact) }
 {
     let half = quotient(i64::from(tip), scope.grain);
-    put_both_tips(out, scope, half, position, contact)
+    put_tip(out, scope, position, half, b"end")?;
+    put_tip_there(out, scope, half, contact)
 }
 
 // Appends the tip at the end and at the contact, where it isn't a point.

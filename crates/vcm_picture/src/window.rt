@@ -2,11 +2,12 @@
 
 ghost use Rattle.std.specs.Prelude.{◌≡◌, ◌≤ℤ◌, pos};
 ghost use Rattle.vcm_picture.specs.Window.{size, most_of, grown, low_of, full_of, longest, grain_of, unit_of, window_of};
-ghost use Rattle.vcm_picture.specs.inner.Ranges.{IsSpan, IsMost, IsEdge, IsSize, IsUnit, IsWindow};
+ghost use Rattle.vcm_picture.specs.inner.Ranges.{IsSpan, IsMost, IsEdge, IsWindow};
+ghost use Rattle.vcm_svg.specs.Ranges.{IsSize, IsUnit};
 
 use crate::span::Span;
-use crate::whole::{greater, quotient};
 use vcm_num::Point;
+use vcm_svg::quotient;
 
 /// What the views show: the low corner and the extent in micrometres, the micrometres of a unit of the picture, and the unit of marks and texts
 /// in units of the picture.
@@ -36,7 +37,7 @@ fn most_of(x: Span, y: Span, z: Span) -> i64
     ensures value { result ≡ most_of x y z }
     ensures most { IsMost result }
 {
-    greater(greater(size(x), size(y)), greater(size(z), 1000))
+    size(x).max(size(y)).max(size(z).max(1000))
 }
 
 // The extent of an axis, at least a quarter of the greatest.
@@ -48,7 +49,7 @@ fn grown(span: Span, most: i64) -> i64
     ensures from_zero { pos 0 ≤ℤ result }
     ensures to_most { result ≤ℤ pos 2000000000 }
 {
-    greater(size(span), quotient(most, 4))
+    size(span).max(quotient(most, 4))
 }
 
 // Where the window begins on an axis.
@@ -81,7 +82,7 @@ pub(crate) fn longest(x: i64, y: i64, z: i64) -> i64
     ensures from_zero { pos 0 ≤ℤ result }
     ensures to_most { result ≤ℤ pos 17179869184 }
 {
-    greater(x + y, y + z)
+    (x + y).max(y + z)
 }
 
 // The micrometres of a unit of the picture.
@@ -112,7 +113,7 @@ fn unit_of(x: i64, y: i64, z: i64, grain: i64) -> i64
     ensures slim { result ≤ℤ pos 17179870 }
 {
     let longest = longest(quotient(x, grain), quotient(y, grain), quotient(z, grain));
-    greater(quotient(longest, 1000), 1)
+    quotient(longest, 1000).max(1)
 }
 
 /// The window round these spans.

@@ -1,7 +1,7 @@
 -- What of a picture has numbers in range.
 use Rattle.std.specs.Prelude.{List, Option, Some, None, ⊤}
 use Rattle.std.specs.List.{AllByRecursion}
-use Rattle.vcm_picture.specs.declared.rect.Rect.{Rect}
+use Rattle.vcm_svg.specs.declared.rect.Rect.{Rect}
 use Rattle.vcm_picture.specs.declared.names.FirstNames.{FirstNames}
 use Rattle.vcm_picture.specs.declared.names.Named.{Named}
 use Rattle.vcm_picture.specs.declared.shown.Face.{Face}
@@ -9,7 +9,7 @@ use Rattle.vcm_picture.specs.declared.shown.Figure.{Figure}
 use Rattle.vcm_picture.specs.declared.shown.Seen.{Seen}
 use Rattle.vcm_picture.specs.declared.shown.Shown.{Shown}
 use Rattle.vcm_picture.specs.declared.shown.Shown.TheVariants.{Repeated, Hidden, Open}
-use Rattle.vcm_picture.specs.inner.Ranges.{IsRect, IsLarge, IsUnit}
+use Rattle.vcm_svg.specs.Ranges.{IsRect, IsLarge, IsUnit}
 
 -- all rectangles of blocks
 abbrev pub AreFaces : List Face → Type 0

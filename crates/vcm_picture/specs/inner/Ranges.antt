@@ -1,8 +1,7 @@
 -- Ranges of numbers, far within 64 bits.
 use Rattle.std.specs.Prelude.{ℕ, ℤ, pos, negsuc, ◌<◌, ◌≤ℤ◌}
 use Rattle.vcm_num.specs.Point.{IsNear, coordinate}
-use Rattle.vcm_picture.specs.declared.rect.Rect.{Rect}
-use Rattle.vcm_picture.specs.declared.rect.Spot.{Spot}
+use Rattle.vcm_svg.specs.Ranges.{IsSize, IsUnit}
 use Rattle.vcm_picture.specs.declared.span.Span.{Span}
 use Rattle.vcm_picture.specs.declared.view.Scope.{Scope}
 use Rattle.vcm_picture.specs.declared.window.Window.{Window}
@@ -16,36 +15,6 @@ pub record IsEdge (z : ℤ) : Type 0 where
 pub record IsBorder (z : ℤ) : Type 0 where
   pub from_below : negsuc 68719476735 ≤ℤ z
   pub from_above : z ≤ℤ pos 68719476736
-
--- a place in a view
-pub record IsSmall (z : ℤ) : Type 0 where
-  pub from_below : negsuc 1099511627775 ≤ℤ z
-  pub from_above : z ≤ℤ pos 1099511627776
-
--- a place in the legend
-pub record IsMedium (z : ℤ) : Type 0 where
-  pub from_below : negsuc 17592186044415 ≤ℤ z
-  pub from_above : z ≤ℤ pos 17592186044416
-
--- a place beside one in a view
-pub record IsLarge (z : ℤ) : Type 0 where
-  pub from_below : negsuc 1125899906842623 ≤ℤ z
-  pub from_above : z ≤ℤ pos 1125899906842624
-
--- the extent of a window
-pub record IsSize (z : ℤ) : Type 0 where
-  pub from_below : pos 0 ≤ℤ z
-  pub from_above : z ≤ℤ pos 8589934592
-
--- the extent of what is drawn
-pub record IsExtent (z : ℤ) : Type 0 where
-  pub from_below : pos 0 ≤ℤ z
-  pub from_above : z ≤ℤ pos 4398046511104
-
--- a unit, or a grain
-pub record IsUnit (z : ℤ) : Type 0 where
-  pub from_below : pos 1 ≤ℤ z
-  pub from_above : z ≤ℤ pos 8589934592
 
 -- how many letters a name or a number has
 pub record IsLetters (z : ℤ) : Type 0 where
@@ -66,28 +35,6 @@ pub record IsMost (z : ℤ) : Type 0 where
 pub record IsPart (z : ℤ) : Type 0 where
   pub from_below : pos 0 ≤ℤ z
   pub from_above : z ≤ℤ pos 125000000
-
--- a place whose numbers are small
-pub record IsSpot (s : Spot) : Type 0 where
-  pub x : IsSmall s.x
-  pub y : IsSmall s.y
-
--- a place of a row of the legend
-pub record IsRow (s : Spot) : Type 0 where
-  pub x : IsMedium s.x
-  pub y : IsMedium s.y
-
--- a place beside one whose numbers are small
-pub record IsPlace (s : Spot) : Type 0 where
-  pub x : IsLarge s.x
-  pub y : IsLarge s.y
-
--- a rectangle whose numbers are small
-pub record IsRect (r : Rect) : Type 0 where
-  pub left : IsSmall r.left
-  pub top : IsSmall r.top
-  pub right : IsSmall r.right
-  pub bottom : IsSmall r.bottom
 
 -- the least and the greatest of coordinates that are near
 pub record IsSpan (s : Span) : Type 0 where

@@ -1,5 +1,5 @@
 use Rattle.vcm_picture.specs.Blocks.{all_open, all_hidden, all_numbers, hit_text}
-use Rattle.vcm_picture.proofs.Appended.{four}
+use Rattle.vcm_svg.proofs.Appended.{four}
 use Rattle.vcm_picture.proofs.drawing.put_blocks.Goals as goal
 
 pub returns : goal.returns

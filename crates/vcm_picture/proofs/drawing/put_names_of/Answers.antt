@@ -2,7 +2,7 @@ use Rattle.std.proofs.Common.{◌∙◌, ap, rules, w64, FitsSigned, to_z-of_z}
 use Rattle.vcm_picture.specs.Drawing.{feature_names_text}
 use Rattle.vcm_picture.specs.Names.{first_names, with_first}
 use Rattle.vcm_picture.proofs.Drawings.{names_put}
-use Rattle.vcm_picture.proofs.Appended.{last_same}
+use Rattle.vcm_svg.proofs.Appended.{last_same}
 use Rattle.vcm_picture.proofs.drawing.put_names_of.Goals as goal
 
 pub returns : goal.returns

@@ -1,7 +1,7 @@
 use Rattle.std.proofs.Common.{◌≡◌, ◌∙◌, ap, [], rules, w64, FitsSigned, to_z-of_z}
 use Rattle.vcm_picture.specs.Drawing.{scene, view_of}
 use Rattle.vcm_picture.specs.Shown.{faces_from, seen_from}
-use Rattle.vcm_picture.proofs.Appended.{last_same}
+use Rattle.vcm_svg.proofs.Appended.{last_same}
 use Rattle.vcm_picture.proofs.drawing.put_view.Goals as goal
 
 pub returns : goal.returns

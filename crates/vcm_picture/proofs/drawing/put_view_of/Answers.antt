@@ -1,7 +1,7 @@
 use Rattle.std.specs.Prelude.{codes}
 use Rattle.vcm_picture.specs.Drawing.{blocks_text, names_text, scene, view_front, way_text}
 use Rattle.vcm_picture.specs.Marks.{contact_of}
-use Rattle.vcm_picture.proofs.Appended.{five, text_same}
+use Rattle.vcm_svg.proofs.Appended.{five, text_same}
 use Rattle.vcm_picture.proofs.drawing.put_view_of.Goals as goal
 
 pub returns : goal.returns

@@ -1,6 +1,6 @@
 use Rattle.std.proofs.Common.{◌∙◌, ap}
 use Rattle.vcm_picture.specs.Drawing.{way_of}
-use Rattle.vcm_picture.proofs.Appended.{last_same}
+use Rattle.vcm_svg.proofs.Appended.{last_same}
 use Rattle.vcm_picture.proofs.drawing.put_way.Goals as goal
 
 pub returns : goal.returns

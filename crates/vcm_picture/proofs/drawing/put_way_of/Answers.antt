@@ -1,6 +1,6 @@
 use Rattle.vcm_picture.specs.Marks.{are_few, contact_of}
 use Rattle.vcm_picture.specs.Way.{all_touched, ends_text, limits_text, pieces_text}
-use Rattle.vcm_picture.proofs.Appended.{four, last_same, text_same}
+use Rattle.vcm_svg.proofs.Appended.{four, last_same, text_same}
 use Rattle.vcm_picture.proofs.drawing.put_way_of.Goals as goal
 
 pub returns : goal.returns

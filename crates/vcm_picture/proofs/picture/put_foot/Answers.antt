@@ -1,8 +1,8 @@
 use Rattle.std.proofs.Common.{rules, w64, FitsSigned, to_z-of_z}
 use Rattle.std.specs.Prelude.{codes}
-use Rattle.vcm_picture.specs.Legend.{bar_text, legend_text}
+use Rattle.vcm_svg.specs.Legend.{bar_text, legend_text}
 use Rattle.vcm_picture.specs.Picture.{bar_place, legend_spot, units}
-use Rattle.vcm_picture.proofs.Appended.{text_same, three}
+use Rattle.vcm_svg.proofs.Appended.{text_same, three}
 use Rattle.vcm_picture.proofs.picture.put_foot.Goals as goal
 
 pub returns : goal.returns

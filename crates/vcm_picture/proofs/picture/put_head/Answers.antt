@@ -1,12 +1,14 @@
-use Rattle.std.proofs.Common.{◌∷◌, [], rules, w64, FitsSigned, to_z-of_z}
-use Rattle.std.specs.Prelude.{codes}
-use Rattle.vcm_report.specs.Printed.{in_a_row}
-use Rattle.vcm_picture.specs.Picture.{size_text}
-use Rattle.vcm_picture.proofs.Appended.{two}
+use Rattle.std.proofs.Common.{rules, w64, FitsSigned, to_z-of_z}
 use Rattle.vcm_picture.proofs.picture.put_head.Goals as goal
 
 pub returns : goal.returns
 returns c =
+    let fw : FitsSigned w64 c.args.layout.wide = search rules in
+    let fh : FitsSigned w64 c.args.layout.high = search rules in
     let fu : FitsSigned w64 c.args.unit = search rules in
-    two _ _ _ _ (size_text c.args.layout c.args.unit) (in_a_row (c.args.first.now ∷ codes "</title>\n" ∷ []))
-    (simp to_z-of_z at c.in_ok-put_size.ensures) c.put.ensures
+    let fq : FitsSigned w64 c.quotient.result = search rules in
+    let fr : FitsSigned w64 c.quotient-2.result = search rules in
+    let q = simp to_z-of_z at c.quotient.ensures.value in
+    let r = simp to_z-of_z at c.quotient-2.ensures.value in
+    let t = simp to_z-of_z at c.put.ensures in
+    rw (q, r) at t

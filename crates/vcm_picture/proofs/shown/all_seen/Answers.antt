@@ -1,5 +1,5 @@
 use Rattle.std.proofs.Common.{rules, w64, FitsSigned, to_z-of_z}
-use Rattle.vcm_picture.specs.inner.Ranges.{IsRect}
+use Rattle.vcm_svg.specs.Ranges.{IsRect}
 use Rattle.vcm_picture.proofs.Faces.{all_on, seen_on, seen_done}
 use Rattle.vcm_picture.proofs.shown.all_seen.Goals as goal
 

@@ -1,6 +1,6 @@
 use Rattle.std.proofs.Common.{arith}
 use Rattle.vcm_spec.specs.Workpiece.{is_block}
-use Rattle.vcm_picture.specs.inner.Ranges.{IsRect}
+use Rattle.vcm_svg.specs.Ranges.{IsRect}
 use Rattle.vcm_picture.proofs.Faces.{all_pushed, faces_on, tests_on}
 use Rattle.vcm_picture.proofs.shown.faces_of.Goals as goal
 

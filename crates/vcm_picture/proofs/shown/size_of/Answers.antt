@@ -5,10 +5,10 @@ use Rattle.vcm_picture.proofs.shown.size_of.Goals as goal
 
 pub returns-clause-size : goal.returns-clause-size
 returns-clause-size c =
-    let f1 : FitsSigned w64 c.quotient.result = search rules in
-    let f2 : FitsSigned w64 c.quotient-2.result = search rules in
-    let f3 : FitsSigned w64 c.lesser.result = search rules in
-    let f4 : FitsSigned w64 c.lesser-2.result = search rules in
+    let f1 : FitsSigned w64 c.quotient-across.result = search rules in
+    let f2 : FitsSigned w64 c.quotient-down.result = search rules in
+    let f3 : FitsSigned w64 c.min.result = search rules in
+    let f4 : FitsSigned w64 c.min-2.result = search rules in
     let f5 : FitsSigned w64 c.args.unit = search rules in
     let f6 : FitsSigned w64 c.args.rect.left = omega (arith, ints) in
     let f7 : FitsSigned w64 c.args.rect.right = omega (arith, ints) in
@@ -19,8 +19,8 @@ returns-clause-size c =
     let g3 : FitsSigned w64 c.args.digits = search rules in
     let g4 : FitsSigned w64 (pos 6 *ℤ c.args.digits) = omega (arith, ints) in
     let g5 : FitsSigned w64 (pos 6 *ℤ c.args.digits +ℤ pos 4) = omega (arith, ints) in
-    let e = simp to_z-of_z at c.lesser-2.ensures.value in
-    let f = simp to_z-of_z at c.lesser.ensures.value in
-    let g = simp to_z-of_z at c.quotient.ensures.value in
-    let h = simp to_z-of_z at c.quotient-2.ensures.value in
+    let e = simp to_z-of_z at c.min-2.ensures.value in
+    let f = simp to_z-of_z at c.min.ensures.value in
+    let g = simp to_z-of_z at c.quotient-across.ensures.value in
+    let h = simp to_z-of_z at c.quotient-down.ensures.value in
     simp to_z-of_z (size_same c.args.rect c.args.digits c.args.unit _ _ _ _ e f g h)

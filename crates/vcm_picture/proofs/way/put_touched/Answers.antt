@@ -1,23 +1,5 @@
-use Rattle.std.proofs.Common.{◌*ℤ◌, [], ◌∷◌, pos, rules, arith, w64, FitsSigned, to_z-of_z}
-use Rattle.std.proofs.lemmas.Int.{ints}
-use Rattle.std.specs.Prelude.{codes}
-use Rattle.vcm_report.specs.Printed.{in_a_row, name_at}
-use Rattle.vcm_picture.specs.Append.{point_text}
-use Rattle.vcm_picture.specs.Shapes.{path_front, circle}
-use Rattle.vcm_picture.specs.View.{spot_of}
-use Rattle.vcm_picture.specs.Way.{place_text, tip_front, tip_back}
-use Rattle.vcm_picture.specs.declared.shapes.Class.TheVariants as class
-use Rattle.vcm_picture.proofs.Appended.{seven, text_same}
 use Rattle.vcm_picture.proofs.way.put_touched.Goals as goal
 
 pub returns : goal.returns
 returns c =
-    let fu : FitsSigned w64 c.args.scope.unit = search rules in
-    let fd : FitsSigned w64 (pos 3 *ℤ c.args.scope.unit) = omega (arith, ints, c.requires.scope.unit.from_below, c.requires.scope.unit.from_above) in
-    let s = c.args.scope in
-    let t = c.args.touched.now in
-    seven _ _ _ _ _ _ _ _ _ (path_front class.Touched) (circle (spot_of s t.at) (pos 3 *ℤ s.unit)) tip_front (place_text c.args.placed.now)
-    (in_a_row (name_at c.args.features.now t.feature ∷ codes " touched at " ∷ [])) (point_text t.at) tip_back c.in_ok-begin_path.ensures
-    (text_same _ _ (λ p. circle p (pos 3 *ℤ s.unit)) _ _ c.spot_of.ensures.spot (simp to_z-of_z at c.in_ok-put_circle.ensures))
-    c.in_ok-begin_tip.ensures c.in_ok-put_place.ensures
-    (text_same _ _ (λ n. in_a_row (n ∷ codes " touched at " ∷ [])) _ _ c.name_at.ensures.name c.in_ok-put.ensures) c.in_ok-put_point.ensures c.end_tip.ensures
+    simp (c.circle.ensures, c.reach.ensures.value, c.name_at.ensures.name, c.from.ensures, c.from-2.ensures) at c.put_told.ensures

@@ -1,5 +1,5 @@
 use Rattle.std.proofs.Common.{◌≤ℤ◌, pos, rules, arith, w64, FitsSigned, to_z-of_z}
-use Rattle.std.proofs.lemmas.Int.{ints}
+use Rattle.std.proofs.lemmas.Int.{ints, clamps}
 use Rattle.vcm_picture.proofs.Signed.{quotient_size}
 use Rattle.vcm_picture.proofs.Extents.{thousandth}
 use Rattle.vcm_picture.proofs.window.unit_of.Goals as goal
@@ -24,21 +24,23 @@ longest-longest-requires-clause-z c =
 
 pub returns-clause-unit : goal.returns-clause-unit
 returns-clause-unit c =
-    let fr : FitsSigned w64 c.greater.result = search rules in
+    let fr : FitsSigned w64 c.max.result = search rules in
     let fq : FitsSigned w64 c.quotient-4.result = search rules in
     let fl : FitsSigned w64 c.longest-longest.result = search rules in
     let d = simp to_z-of_z at c.quotient-4.ensures.value in
     let t : c.quotient-4.result ≤ℤ pos 17179870 = thousandth _ _ c.longest-longest.ensures.from_zero c.longest-longest.ensures.to_most d in
+    let m = simp to_z-of_z at c.max.ensures.value in
     rw (to_z-of_z fr) (record {
-      from_below = omega (arith, ints);
-      from_above = c.greater.ensures.least (pos 8589934592) (omega (arith, ints)) (omega (arith, ints));
+      from_below = omega (arith, ints, clamps, m);
+      from_above = omega (arith, ints, clamps, m);
     })
 
 pub returns-clause-slim : goal.returns-clause-slim
 returns-clause-slim c =
-    let fr : FitsSigned w64 c.greater.result = search rules in
+    let fr : FitsSigned w64 c.max.result = search rules in
     let fq : FitsSigned w64 c.quotient-4.result = search rules in
     let fl : FitsSigned w64 c.longest-longest.result = search rules in
     let d = simp to_z-of_z at c.quotient-4.ensures.value in
     let t : c.quotient-4.result ≤ℤ pos 17179870 = thousandth _ _ c.longest-longest.ensures.from_zero c.longest-longest.ensures.to_most d in
-    rw (to_z-of_z fr) (c.greater.ensures.least (pos 17179870) (omega (arith, ints)) (omega (arith, ints)))
+    let m = simp to_z-of_z at c.max.ensures.value in
+    rw (to_z-of_z fr) (omega (arith, ints, clamps, m))

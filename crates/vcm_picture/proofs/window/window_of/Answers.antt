@@ -1,6 +1,6 @@
 use Rattle.std.proofs.Common.{rules, arith, w64, FitsSigned, to_z-of_z}
 use Rattle.std.proofs.lemmas.Int.{ints}
-use Rattle.vcm_picture.specs.inner.Ranges.{IsSize}
+use Rattle.vcm_svg.specs.Ranges.{IsSize}
 use Rattle.vcm_picture.proofs.Windows.{window_same, edges, sizes}
 use Rattle.vcm_picture.proofs.window.window_of.Goals as goal
 

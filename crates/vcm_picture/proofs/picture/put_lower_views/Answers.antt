@@ -1,0 +1,13 @@
+use Rattle.vcm_picture.specs.Drawing.{scene}
+use Rattle.vcm_picture.specs.Picture.{view_at}
+use Rattle.vcm_picture.specs.declared.view.View.TheVariants.{Front, Side}
+use Rattle.vcm_svg.proofs.Appended.{two}
+use Rattle.vcm_picture.proofs.picture.put_lower_views.Goals as goal
+
+pub returns : goal.returns
+returns c =
+    let shown = scene c.args.part.now c.args.world.now c.args.stopped.now in
+    let marks = c.args.marks.now in
+    let w = c.args.window in
+    let l = c.args.layout in
+    two _ _ _ _ (view_at w l shown marks Front) (view_at w l shown marks Side) c.in_ok-put_view_at.ensures c.put_view_at-2.ensures

@@ -1,0 +1,4 @@
+pub mod Appended
+pub mod Moves
+pub mod Putting
+pub mod Signed

@@ -1,0 +1,80 @@
+//! The heading of a picture.
+
+ghost use Rattle.std.specs.Prelude.{◌≡◌, ◌++◌, OnOk};
+ghost use Rattle.vcm_svg.specs.Heading.{heading_label, left_out_line, left_out_text, heading_text};
+ghost use Rattle.vcm_svg.specs.Ranges.{IsUnit, IsFew};
+
+use crate::pieces::Piece;
+use crate::rect::Spot;
+use crate::shapes::{Label, Lettering, put_text};
+use crate::whole::times;
+use vcm_num::{NoMemory, Point};
+
+// A line of the heading, so many units from the top.
+fn heading_label(unit: i64, line: i64) -> Label
+    requires unit { IsUnit unit }
+    requires line { IsFew line }
+    ensures { result ≡ heading_label unit line }
+{
+    Label {
+        at: Spot {
+            x: times(20, unit),
+            y: times(line, unit),
+        },
+        size: unit,
+        class: Lettering::Heading,
+    }
+}
+
+// Appends the line of the pieces that are left out.
+fn put_left_out_line(out: &mut Vec<u8>, unit: i64, left_out: u64) -> Result<(), NoMemory>
+    requires { IsUnit unit }
+    ensures { OnOk result (out.new.items ≡ out.old.items ++ left_out_line unit left_out) }
+{
+    put_text(
+        out,
+        heading_label(unit, 56),
+        &[
+            Piece::Text(b"the first "),
+            Piece::Count(left_out),
+            Piece::Text(b" pieces of the way are left out"),
+        ],
+    )
+}
+
+// Appends the line of the pieces that are left out, if there are any.
+fn put_left_out(out: &mut Vec<u8>, unit: i64, left_out: u64) -> Result<(), NoMemory>
+    requires { IsUnit unit }
+    ensures { OnOk result (out.new.items ≡ out.old.items ++ left_out_text unit left_out) }
+{
+    if left_out == 0 {
+        return Ok(());
+    }
+    put_left_out_line(out, unit, left_out)
+}
+
+/// Appends the heading: the first line, the position and the steps, and how many pieces are left out.
+pub fn put_heading(
+    out: &mut Vec<u8>,
+    unit: i64,
+    first: &[u8],
+    position: Point,
+    done: u64,
+    left_out: u64,
+) -> Result<(), NoMemory>
+    requires { IsUnit unit }
+    ensures { OnOk result (out.new.items ≡ out.old.items ++ heading_text unit first.now position done left_out) }
+{
+    put_text(out, heading_label(unit, 20), &[Piece::Text(first)])?;
+    put_text(
+        out,
+        heading_label(unit, 38),
+        &[
+            Piece::Text(b"position "),
+            Piece::At(position),
+            Piece::Text(b"  steps "),
+            Piece::Count(done),
+        ],
+    )?;
+    put_left_out(out, unit, left_out)
+}

@@ -1,0 +1,244 @@
+//! The legend, and the bar that shows a length.
+
+ghost use Rattle.std.specs.Prelude.{◌≡◌, ◌++◌, ◌≤ℤ◌, pos, map, OnOk};
+ghost use Rattle.vcm_svg.specs.Legend.{right_of, size_of, sign_reach, sign_text, row_text, words_label, rows_text, legend_text, last_within, bar_of, bar_label, bar_with, bar_text};
+ghost use Rattle.vcm_svg.specs.Ranges.{IsFew, IsReach, IsSize, IsSpot, IsUnit};
+
+use crate::outlines::{Reach, bar_line, circle, cross, dash, square_round};
+use crate::pieces::Piece;
+use crate::rect::Spot;
+use crate::shapes::{Class, Label, Lettering, put_path, put_text};
+use crate::whole::{moved, quotient, scaled};
+use vcm_num::NoMemory;
+
+/// The sign of a row of the legend.
+#[derive(Clone, Copy)]
+pub enum Sign {
+    Line,
+    Point,
+    Circle,
+    Square,
+    Cross,
+}
+
+// How many units to the right of its row's place a sign stands.
+fn right_of(sign: Sign) -> i64
+    ensures right { result ≡ right_of sign }
+    ensures few { IsFew result }
+{
+    match sign {
+        Sign::Line => 0,
+        Sign::Point => 20,
+        Sign::Circle => 20,
+        Sign::Square => 20,
+        Sign::Cross => 20,
+    }
+}
+
+// How many units long a sign is, or how many its edge is from its middle.
+fn size_of(sign: Sign) -> i64
+    ensures size { result ≡ size_of sign }
+    ensures few { IsFew result }
+{
+    match sign {
+        Sign::Line => 40,
+        Sign::Point => 3,
+        Sign::Circle => 5,
+        Sign::Square => 5,
+        Sign::Cross => 5,
+    }
+}
+
+// Where a sign stands, and how large it is, in a row so many units below a place.
+fn sign_reach(at: Spot, unit: i64, down: u8, sign: Sign) -> Reach
+    requires at { IsSpot at }
+    requires unit { IsUnit unit }
+    ensures reach { result ≡ sign_reach at unit down sign }
+    ensures range { IsReach result }
+{
+    Reach {
+        at: moved(at, unit, right_of(sign), i64::from(down)),
+        count: size_of(sign),
+        unit,
+    }
+}
+
+// Appends a sign.
+fn put_sign(out: &mut Vec<u8>, class: Class, sign: Sign, reach: Reach) -> Result<(), NoMemory>
+    requires { IsReach reach }
+    ensures { OnOk result (out.new.items ≡ out.old.items ++ sign_text class sign reach) }
+{
+    match sign {
+        Sign::Line => put_path(out, class, &dash(reach)),
+        Sign::Point => put_path(out, class, &circle(reach)),
+        Sign::Circle => put_path(out, class, &circle(reach)),
+        Sign::Square => put_path(out, class, &square_round(reach)),
+        Sign::Cross => put_path(out, class, &cross(reach)),
+    }
+}
+
+// Where the words of a row stand, so many units below a place.
+fn words_label(at: Spot, unit: i64, down: u8) -> Label
+    requires at { IsSpot at }
+    requires unit { IsUnit unit }
+    ensures { result ≡ words_label at unit down }
+{
+    Label {
+        at: moved(at, unit, 48, i64::from(down) + 3),
+        size: unit,
+        class: Lettering::Plain,
+    }
+}
+
+// Appends a row, so many units below a place.
+fn put_row(
+    out: &mut Vec<u8>,
+    at: Spot,
+    unit: i64,
+    down: u8,
+    class: Class,
+    sign: Sign,
+    words: &[u8],
+) -> Result<(), NoMemory>
+    requires at { IsSpot at }
+    requires unit { IsUnit unit }
+    ensures { OnOk result (out.new.items ≡ out.old.items ++ row_text at unit (down, class, sign, words.now)) }
+{
+    put_sign(out, class, sign, sign_reach(at, unit, down, sign))?;
+    put_text(out, words_label(at, unit, down), &[Piece::Text(words)])
+}
+
+// Appends rows.
+fn put_rows(
+    out: &mut Vec<u8>,
+    at: Spot,
+    unit: i64,
+    rows: &[(u8, Class, Sign, &[u8])],
+) -> Result<(), NoMemory>
+    requires at { IsSpot at }
+    requires unit { IsUnit unit }
+    ensures { OnOk result (out.new.items ≡ out.old.items ++ rows_text at unit (map (λ row. (row.0, row.1, row.2, row.3.now)) rows.now)) }
+{
+    for row in rows {
+        put_row(out, at, unit, row.0, row.1, row.2, row.3)?;
+    }
+    Ok(())
+}
+
+/// Appends the legend at a place.
+pub fn put_legend(out: &mut Vec<u8>, at: Spot, unit: i64) -> Result<(), NoMemory>
+    requires at { IsSpot at }
+    requires unit { IsUnit unit }
+    ensures { OnOk result (out.new.items ≡ out.old.items ++ legend_text at unit) }
+{
+    put_rows(
+        out,
+        at,
+        unit,
+        &[
+            (0, Class::Move, Sign::Line, b"move"),
+            (15, Class::Approach, Sign::Line, b"approach"),
+            (30, Class::Search, Sign::Line, b"search"),
+            (45, Class::Retract, Sign::Line, b"retract"),
+            (60, Class::Rest, Sign::Line, b"not reached"),
+            (75, Class::Touched, Sign::Point, b"point touched"),
+            (90, Class::Place, Sign::Circle, b"end"),
+            (105, Class::Place, Sign::Square, b"home"),
+            (120, Class::Cross, Sign::Cross, b"contact"),
+            (135, Class::Limits, Sign::Line, b"limits"),
+            (150, Class::Hidden, Sign::Line, b"hidden block"),
+        ],
+    )
+}
+
+// The lengths that a bar may have, in units of the picture.
+const BARS: [i64; 30] = [
+    1, 2, 5, 10, 20, 50, 100, 200, 500, 1000, 2000, 5000, 10000, 20000, 50000, 100000, 200000,
+    500000, 1000000, 2000000, 5000000, 10000000, 20000000, 50000000, 100000000, 200000000,
+    500000000, 1000000000, 2000000000, 5000000000,
+];
+
+// The last of these lengths that is at most a number, or else the length that is given.
+fn last_within(most: i64, first: i64, bars: &[i64]) -> i64
+    ensures { result ≡ last_within most first bars.now }
+{
+    let mut best = first;
+    for bar in bars {
+        if *bar <= most {
+            best = *bar;
+        }
+    }
+    best
+}
+
+// The length of the bar.
+fn bar_of(most: i64) -> i64
+    ensures bar { result ≡ bar_of most }
+    ensures size { IsSize result }
+{
+    last_within(most, 1, &BARS)
+}
+
+// Where the words of a bar stand.
+fn bar_label(at: Spot, unit: i64, long: i64) -> Label
+    requires at { IsSpot at }
+    requires unit { IsUnit unit }
+    requires long { IsSize long }
+    ensures { result ≡ bar_label at unit long }
+{
+    Label {
+        at: Spot {
+            x: at.x + long + 8 * unit,
+            y: at.y,
+        },
+        size: unit,
+        class: Lettering::Plain,
+    }
+}
+
+// Appends a bar of that length.
+fn put_bar_with(
+    out: &mut Vec<u8>,
+    at: Spot,
+    unit: i64,
+    grain: i64,
+    long: i64,
+) -> Result<(), NoMemory>
+    requires at { IsSpot at }
+    requires unit { IsUnit unit }
+    requires grain { IsUnit grain }
+    requires fine { grain ≤ℤ pos 1000 }
+    requires long { IsSize long }
+    ensures { OnOk result (out.new.items ≡ out.old.items ++ bar_with at unit grain long) }
+{
+    put_path(
+        out,
+        Class::Cross,
+        &bar_line(Reach { at, count: 5, unit }, long),
+    )?;
+    put_text(
+        out,
+        bar_label(at, unit, long),
+        &[
+            Piece::Length(scaled(long, grain)),
+            Piece::Text(b" mm; third-angle projection"),
+        ],
+    )
+}
+
+/// Appends the bar that shows a length, of a view of that width.
+pub fn put_bar(
+    out: &mut Vec<u8>,
+    at: Spot,
+    unit: i64,
+    grain: i64,
+    wide: i64,
+) -> Result<(), NoMemory>
+    requires at { IsSpot at }
+    requires unit { IsUnit unit }
+    requires grain { IsUnit grain }
+    requires fine { grain ≤ℤ pos 1000 }
+    ensures { OnOk result (out.new.items ≡ out.old.items ++ bar_text at unit grain wide) }
+{
+    put_bar_with(out, at, unit, grain, bar_of(quotient(wide, 4)))
+}

@@ -1,0 +1,21 @@
+//! The parts of a picture as SVG that know nothing of what it shows: numbers, places and rectangles, texts and paths, the style, the heading, the
+//! legend.
+#![tactic(auto)]
+
+mod heading;
+mod legend;
+mod outlines;
+mod pieces;
+mod rect;
+mod shapes;
+mod style;
+mod whole;
+
+pub use heading::put_heading;
+pub use legend::{put_bar, put_legend};
+pub use outlines::{Reach, circle, cross, line, rect_outline, square, square_about, square_round};
+pub use pieces::{Piece, put};
+pub use rect::{Rect, Spot, boxed, contains, is_same, meets};
+pub use shapes::{Class, Label, Lettering, put_path, put_text, put_told};
+pub use style::put_style;
+pub use whole::quotient;

@@ -1,0 +1,73 @@
+//! Pieces of a picture's text, which are appended one after another.
+
+ghost use Rattle.std.specs.Prelude.{◌≡◌, ◌++◌, decimal, OnOk};
+ghost use Rattle.vcm_svg.specs.Pieces.{point_text, piece_text, texts};
+
+use itoa::Buffer;
+use vcm_num::{NoMemory, Point, write_int, write_thousandths};
+
+/// A piece of a text.
+#[derive(Clone, Copy)]
+pub enum Piece<'a> {
+    /// These bytes.
+    Text(&'a [u8]),
+    /// A whole number.
+    Number(i64),
+    /// How many there are.
+    Count(u64),
+    /// A length in micrometres, told in millimetres.
+    Length(i64),
+    /// A point, told in millimetres with blanks between its coordinates.
+    At(Point),
+}
+
+// Appends some bytes.
+fn put_bytes(out: &mut Vec<u8>, bytes: &[u8]) -> Result<(), NoMemory>
+    ensures { OnOk result (out.new.items ≡ out.old.items ++ bytes.now) }
+{
+    out.extend_from_slice(bytes)?;
+    Ok(())
+}
+
+// Appends a number of things.
+fn put_count(out: &mut Vec<u8>, count: u64) -> Result<(), NoMemory>
+    ensures { OnOk result (out.new.items ≡ out.old.items ++ decimal count) }
+{
+    let mut buffer = Buffer::new();
+    put_bytes(out, buffer.format(count).as_bytes())
+}
+
+// Appends a point.
+fn put_point(out: &mut Vec<u8>, at: Point) -> Result<(), NoMemory>
+    ensures { OnOk result (out.new.items ≡ out.old.items ++ point_text at) }
+{
+    let Point([x, y, z]) = at;
+    write_thousandths(x, out)?;
+    put_bytes(out, b" ")?;
+    write_thousandths(y, out)?;
+    put_bytes(out, b" ")?;
+    write_thousandths(z, out)
+}
+
+// Appends a piece.
+fn put_piece(out: &mut Vec<u8>, piece: Piece) -> Result<(), NoMemory>
+    ensures { OnOk result (out.new.items ≡ out.old.items ++ piece_text piece.entry) }
+{
+    match piece {
+        Piece::Text(bytes) => put_bytes(out, bytes),
+        Piece::Number(number) => write_int(number, out),
+        Piece::Count(count) => put_count(out, count),
+        Piece::Length(length) => write_thousandths(length, out),
+        Piece::At(point) => put_point(out, point),
+    }
+}
+
+/// Appends pieces one after another.
+pub fn put(out: &mut Vec<u8>, pieces: &[Piece]) -> Result<(), NoMemory>
+    ensures { OnOk result (out.new.items ≡ out.old.items ++ texts pieces.now) }
+{
+    for piece in pieces {
+        put_piece(out, *piece)?;
+    }
+    Ok(())
+}

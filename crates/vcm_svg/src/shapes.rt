@@ -1,0 +1,153 @@
+//! Texts and paths of a picture.
+
+ghost use Rattle.std.specs.Prelude.{◌≡◌, ◌++◌, OnOk};
+ghost use Rattle.vcm_svg.specs.Pieces.{texts};
+ghost use Rattle.vcm_svg.specs.Shapes.{attribute, class_name, text_front, text, path_front, path, told};
+
+use crate::pieces::{Piece, put};
+use crate::rect::Spot;
+use vcm_num::NoMemory;
+
+/// The class of a text.
+#[derive(Clone, Copy)]
+pub enum Lettering {
+    Plain,
+    Heading,
+    Number,
+    Name,
+}
+
+/// The class of a path.
+#[derive(Clone, Copy)]
+pub enum Class {
+    Sheet,
+    Frame,
+    Limits,
+    Block,
+    Hidden,
+    Hit,
+    Move,
+    Arrow,
+    Approach,
+    Search,
+    Retract,
+    Rest,
+    Touched,
+    Place,
+    Tip,
+    Cross,
+}
+
+/// Where a text stands, how large it is, and its class.
+#[derive(Clone, Copy)]
+pub struct Label {
+    pub at: Spot,
+    pub size: i64,
+    pub class: Lettering,
+}
+
+// What a text's class adds to its element.
+fn attribute<'a>(class: Lettering) -> &'a [u8]
+    ensures { result.now ≡ attribute class }
+{
+    match class {
+        Lettering::Plain => b"",
+        Lettering::Heading => b" class=\"h\"",
+        Lettering::Number => b" class=\"n\"",
+        Lettering::Name => b" class=\"p\"",
+    }
+}
+
+// The name of a path's class.
+fn class_name<'a>(class: Class) -> &'a [u8]
+    ensures { result.now ≡ class_name class }
+{
+    match class {
+        Class::Sheet => b"w",
+        Class::Frame => b"f",
+        Class::Limits => b"l",
+        Class::Block => b"b",
+        Class::Hidden => b"i",
+        Class::Hit => b"g",
+        Class::Move => b"move",
+        Class::Arrow => b"move a",
+        Class::Approach => b"approach",
+        Class::Search => b"search",
+        Class::Retract => b"retract",
+        Class::Rest => b"rest",
+        Class::Touched => b"d",
+        Class::Place => b"o",
+        Class::Tip => b"q",
+        Class::Cross => b"x",
+    }
+}
+
+// Appends the beginning of a text.
+fn begin_text(out: &mut Vec<u8>, label: Label) -> Result<(), NoMemory>
+    ensures { OnOk result (out.new.items ≡ out.old.items ++ text_front label) }
+{
+    put(
+        out,
+        &[
+            Piece::Text(b"<text transform=\"matrix("),
+            Piece::Number(label.size),
+            Piece::Text(b" 0 0 "),
+            Piece::Number(label.size),
+            Piece::Text(b" "),
+            Piece::Number(label.at.x),
+            Piece::Text(b" "),
+            Piece::Number(label.at.y),
+            Piece::Text(b")\""),
+            Piece::Text(attribute(label.class)),
+            Piece::Text(b">"),
+        ],
+    )
+}
+
+/// Appends a text.
+pub fn put_text(out: &mut Vec<u8>, label: Label, words: &[Piece]) -> Result<(), NoMemory>
+    ensures { OnOk result (out.new.items ≡ out.old.items ++ text label (texts words.now)) }
+{
+    begin_text(out, label)?;
+    put(out, words)?;
+    put(out, &[Piece::Text(b"</text>\n")])
+}
+
+// Appends the beginning of a path.
+fn begin_path(out: &mut Vec<u8>, class: Class) -> Result<(), NoMemory>
+    ensures { OnOk result (out.new.items ≡ out.old.items ++ path_front class) }
+{
+    put(
+        out,
+        &[
+            Piece::Text(b"<path class=\""),
+            Piece::Text(class_name(class)),
+            Piece::Text(b"\" d=\""),
+        ],
+    )
+}
+
+/// Appends a path of an outline.
+pub fn put_path(out: &mut Vec<u8>, class: Class, outline: &[Piece]) -> Result<(), NoMemory>
+    ensures { OnOk result (out.new.items ≡ out.old.items ++ path class (texts outline.now)) }
+{
+    begin_path(out, class)?;
+    put(out, outline)?;
+    put(out, &[Piece::Text(b"\"/>\n")])
+}
+
+/// Appends a path of an outline, with a tooltip.
+pub fn put_told(
+    out: &mut Vec<u8>,
+    class: Class,
+    outline: &[Piece],
+    tip: &[Piece],
+) -> Result<(), NoMemory>
+    ensures { OnOk result (out.new.items ≡ out.old.items ++ told class (texts outline.now) (texts tip.now)) }
+{
+    begin_path(out, class)?;
+    put(out, outline)?;
+    put(out, &[Piece::Text(b"\"><title>")])?;
+    put(out, tip)?;
+    put(out, &[Piece::Text(b"</title></path>\n")])
+}
