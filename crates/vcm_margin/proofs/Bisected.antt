@@ -1,14 +1,10 @@
 -- The steps of a bisection of half widths.
-use Rattle.std.proofs.Common.{◌≡◌, ℕ, ◌+◌, ◌-◌, ◌<◌, ◌≤◌, true, IsTrue, Option, Some, None, refl, ap, subst, arith}
-use Rattle.std.specs.Prelude.{nat_le, not, ◌&&◌}
+use Rattle.std.proofs.Common.{◌≡◌, ℕ, ◌+◌, ◌-◌, ◌<◌, ◌≤◌, true, Option, Some, None, refl, subst, arith}
 use Rattle.std.proofs.lemmas.Bool.{le-leb}
-use Rattle.vcm_num.specs.Point.{coordinate}
-use Rattle.vcm_spec.specs.Workpiece.{Workpiece, is_some_met, IsValid}
+use Rattle.vcm_spec.specs.Workpiece.{Workpiece, IsValid}
 use Rattle.vcm_code.specs.Code.{Code}
-use Rattle.vcm_part.specs.Tip.{with_tip, is_tip}
+use Rattle.vcm_part.specs.Tip.{is_tip}
 use Rattle.vcm_margin.specs.declared.difference.Difference.{Difference}
-use Rattle.vcm_margin.specs.declared.difference.Margin.{Margin}
-use Rattle.vcm_margin.specs.Alike.{GoAlike}
 use Rattle.vcm_margin.specs.Margin.{GoesWith, IsMet, MetBy, IsMargin}
 use Rattle.vcm_margin.specs.inner.Widening.{IsBetween}
 

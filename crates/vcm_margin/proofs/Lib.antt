@@ -1,2 +1,3 @@
 mod Bisected
 mod Together
+mod Looked

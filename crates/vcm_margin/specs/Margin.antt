@@ -5,7 +5,7 @@ use Rattle.vcm_code.specs.Code.{Code}
 use Rattle.vcm_part.specs.Tip.{with_tip, is_tip}
 use Rattle.vcm_margin.specs.declared.difference.Difference.{Difference}
 use Rattle.vcm_margin.specs.declared.difference.Margin.{Margin}
-use Rattle.vcm_margin.specs.declared.difference.Difference.TheVariants.{HomeNotClear, Stop, Next, Feature as Measured}
+use Rattle.vcm_margin.specs.declared.difference.Difference.TheVariants.{HomeNotClear}
 use Rattle.vcm_margin.specs.Alike.{GoAlike, DifferFirst}
 
 -- with a tip of half width h, which the workpiece may have, a code goes in so many steps as it does with the own one

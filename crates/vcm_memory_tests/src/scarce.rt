@@ -3,7 +3,7 @@
 use std::alloc::{AllocError, Global};
 
 // How many bytes are held back, of which a budget is given.
-const RESERVE: usize = 65_536;
+const RESERVE: usize = 98_304;
 
 // Takes blocks of one size as long as memory gives them. Nothing is written to them.
 fn take(alloc: Global, taken: &mut Vec<Vec<u8>>, size: usize) -> Result<(), AllocError> {
@@ -48,7 +48,7 @@ impl Scarce {
         Ok(Scarce { large, small })
     }
 
-    /// Takes the smaller blocks too, and leaves about so many bytes, at most 65,536.
+    /// Takes the smaller blocks too, and leaves about so many bytes, at most 98,304.
     pub(crate) fn leave(&mut self, alloc: Global, budget: usize) -> Result<(), AllocError> {
         let reserve: Vec<u8> = Vec::with_capacity(alloc, RESERVE)?;
         take_all(alloc, &mut self.small, 29, 0)?;

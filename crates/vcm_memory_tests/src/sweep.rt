@@ -42,7 +42,7 @@ pub(crate) fn refusals<F: Fn(Global) -> Told>(alloc: Global, call: F) -> Option<
     requires { F.IsAlwaysCallable call }
 {
     let mut scarce = Scarce::new(alloc).ok()?;
-    for short in 0..=4096u32 {
+    for short in 0..=6144u32 {
         match under(alloc, &mut scarce, short as usize * 16, &call)? {
             Told::Right => return Some(short),
             Told::Short if call(alloc) == Told::Right => {}
