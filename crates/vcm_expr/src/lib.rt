@@ -28,7 +28,7 @@ pub use expression::{Expr, Piece, Prefix, Size, Term};
 pub use name::{Name, is_name};
 pub use names::Names;
 pub use parse::{parse_expr, read_expr};
-pub use postfix::{eval_postfix, pop_value, postfix_kind, step_kind, step_value, to_postfix};
+pub use postfix::{eval_postfix, postfix_kind, step_kind, step_value, to_postfix};
 pub use stack::Stack;
 pub use symbol::{Symbol, is_variable_name};
 pub use typed::Typed;

@@ -1,22 +1,22 @@
 -- Items of an expression, read as they are spelled.
-use Rattle.std.proofs.Common.{◌≡◌, ℕ, zero, suc, ◌<◌, ◌≤◌, ◌&&◌, Bool, true, false, nat_le, nat_lt, List, [], ◌∷◌, ◌++◌, length, Ok, refl, ap, arith, FitsSigned, to_z-of_z}
+use Rattle.std.proofs.Common.{◌≡◌, ℕ, zero, suc, ◌<◌, ◌≤◌, ◌&&◌, Bool, true, false, nat_le, nat_lt, List, [], ◌∷◌, ◌++◌, length, Ok, refl, ap, subst, ◌∙◌, arith, FitsSigned, to_z-of_z}
 use mir.ValLaws.{of_z_fits, to_z-Fits, of_z-to_z}
-use Rattle.std.specs.List.{AllByRecursion}
 use Rattle.std.specs.Int.{w64, to_le_bytes, cast_signed, cast_unsigned}
 use Rattle.vcm_spec.specs.declared.expression.Operand.TheVariants.{Integer, Thousandths, Truth, Variable}
-use Rattle.vcm_spec.specs.declared.expression.UnaryOp.{UnaryOp}
-use Rattle.vcm_spec.specs.declared.expression.UnaryOp.TheVariants.{Neg, Scale, Not}
-use Rattle.vcm_spec.specs.declared.expression.BinaryOp.{BinaryOp}
-use Rattle.vcm_spec.specs.declared.expression.BinaryOp.TheVariants.{Add, Sub, Mul, Div, And, Or, Compare}
-use Rattle.vcm_spec.specs.declared.expression.Relation.TheVariants.{Equal, NotEqual, Less, LessEqual, Greater, GreaterEqual}
+use Rattle.vcm_spec.specs.declared.expression.UnaryOp.TheVariants.{Neg}
+use Rattle.vcm_spec.specs.declared.expression.BinaryOp.TheVariants.{Add, Compare}
+use Rattle.vcm_spec.specs.declared.expression.Relation.TheVariants.{Equal}
 use Rattle.vcm_spec.specs.declared.expression.Item.{Item}
 use Rattle.vcm_spec.specs.declared.expression.Item.TheVariants.{Push, Apply, Combine}
 use Rattle.vcm_fields.specs.declared.fault.ImageFault.TheVariants.{BadField}
 use Rattle.vcm_fields.specs.Fitting.{FitsItem, FitsExpression, within}
-use Rattle.vcm_fields.specs.Spelling.{signed, truth_byte, unary, binary, item, expression}
-use Rattle.vcm_fields.specs.Readers.{found, signed_at, is_one, truth_at, item_rows, tagged_item, item_at, expression_at}
-use Rattle.vcm_fields.proofs.Inverse.{IsBytes, Takes, Reads, via_takes, via_again, reads_via, reads_tested, reads_after, reads_times}
-use Rattle.vcm_fields.proofs.NumberInverse.{Row, tagged_takes, now_row, reads_byte, reads_short, reads_eight}
+use Rattle.vcm_spec.specs.Results.{◌>>=◌}
+use Rattle.vcm_fields.specs.declared.items.Tag.{Tag}
+use Rattle.vcm_fields.specs.declared.items.Tag.TheVariants as tags
+use Rattle.vcm_fields.specs.Spelling.{byte, signed, truth_byte, unary, binary, tag_byte, item, expression}
+use Rattle.vcm_fields.specs.Readers.{after, one_of, signed_at, is_one, truth_at, all_tags, behind_tag, item_at, expression_at}
+use Rattle.vcm_fields.proofs.Inverse.{IsBytes, Takes, Reads, bind_ok, ok_is, via_takes, via_again, reads_via, reads_tested, reads_after, reads_times}
+use Rattle.vcm_fields.proofs.NumberInverse.{Found, reads_one_of, reads_byte, reads_short, reads_eight}
 
 -- ---- items
 
@@ -44,97 +44,46 @@ reads_truth : Reads truth_at truth_byte (λ b. Unit {0})
 reads_truth = reads_via (reads_tested reads_byte BadField (λ b. nat_lt b 2) (λ n. n < 2) (λ n lt e. grind arith) (λ n lt. (omega arith, grind arith))) is_one truth_number truth_byte (λ b. Unit {0})
     (λ n lt. truth_spelled n lt) (λ n lt. tt) (λ b h. truth_back b)
 
-item_rows_take : AllByRecursion (Row item FitsItem) item_rows
-item_rows_take = (
-  via_takes reads_signed (λ n. Push (Integer n)) (1 ∷ []) item FitsItem (λ n h. refl) (λ n h. h),
-  (
-    via_takes reads_signed (λ n. Push (Thousandths n)) (2 ∷ []) item FitsItem (λ n h. refl) (λ n h. h),
-    (
-      via_takes reads_truth (λ b. Push (Truth b)) (3 ∷ []) item FitsItem (λ n h. refl) (λ n h. h),
-      (
-        via_takes reads_short (λ v. Push (Variable v)) (4 ∷ []) item FitsItem (λ n h. refl) (λ n h. h),
-        (
-          now_row item FitsItem 16 (Apply Neg) refl tt,
-          (
-            now_row item FitsItem 17 (Combine Add) refl tt,
-            (
-              now_row item FitsItem 18 (Combine Sub) refl tt,
-              (
-                now_row item FitsItem 19 (Combine Mul) refl tt,
-                (
-                  now_row item FitsItem 20 (Combine Div) refl tt,
-                  (
-                    now_row item FitsItem 21 (Apply Scale) refl tt,
-                    (
-                      now_row item FitsItem 32 (Combine (Compare Equal)) refl tt,
-                      (
-                        now_row item FitsItem 33 (Combine (Compare NotEqual)) refl tt,
-                        (
-                          now_row item FitsItem 34 (Combine (Compare Less)) refl tt,
-                          (
-                            now_row item FitsItem 35 (Combine (Compare LessEqual)) refl tt,
-                            (
-                              now_row item FitsItem 36 (Combine (Compare Greater)) refl tt,
-                              (
-                                now_row item FitsItem 37 (Combine (Compare GreaterEqual)) refl tt,
-                                (
-                                  now_row item FitsItem 48 (Apply Not) refl tt,
-                                  (
-                                    now_row item FitsItem 49 (Combine And) refl tt,
-                                    (
-                                      now_row item FitsItem 50 (Combine Or) refl tt,
-                                      tt,
-                                    ),
-                                  ),
-                                ),
-                              ),
-                            ),
-                          ),
-                        ),
-                      ),
-                    ),
-                  ),
-                ),
-              ),
-            ),
-          ),
-        ),
-      ),
-    ),
-  ),
-)
+found_tag : Found tag_byte all_tags
+found_tag tags.Integer rest = refl
+found_tag (tags.Unary Neg) rest = refl
+found_tag (tags.Unary _) rest = refl
+found_tag (tags.Binary Add) rest = refl
+found_tag (tags.Binary (Compare Equal)) rest = refl
+found_tag (tags.Binary (Compare _)) rest = refl
+found_tag (tags.Binary _) rest = refl
+found_tag _ rest = refl
 
-unary_again : (op : UnaryOp) (rest : List ℕ) → found item_rows (unary op) rest ≡ Ok (Apply op, rest)
-unary_again Neg rest = refl
-unary_again Scale rest = refl
-unary_again Not rest = refl
+behind_takes : (t : Tag) (bytes : List ℕ) (x : Item × List ℕ) → IsBytes bytes → behind_tag t bytes ≡ Ok x → Takes (byte (tag_byte t) ++ bytes) (item x.0) x.1 × FitsItem x.0
+behind_takes tags.Integer bytes x fits e = via_takes reads_signed (λ n. Push (Integer n)) (byte 1) item FitsItem (λ n h. refl) (λ n h. h) bytes x fits e
+behind_takes tags.Thousandths bytes x fits e = via_takes reads_signed (λ n. Push (Thousandths n)) (byte 2) item FitsItem (λ n h. refl) (λ n h. h) bytes x fits e
+behind_takes tags.Truth bytes x fits e = via_takes reads_truth (λ b. Push (Truth b)) (byte 3) item FitsItem (λ n h. refl) (λ n h. h) bytes x fits e
+behind_takes tags.Variable bytes x fits e = via_takes reads_short (λ v. Push (Variable v)) (byte 4) item FitsItem (λ n h. refl) (λ n h. h) bytes x fits e
+behind_takes (tags.Unary op) bytes x fits e =
+    subst (λ (y : Item × List ℕ). Takes (byte (unary op) ++ bytes) (item y.0) y.1 × FitsItem y.0) (ok_is (Apply op, bytes) x e) (record { parts = refl; rest_fits = fits }, tt)
+behind_takes (tags.Binary op) bytes x fits e =
+    subst (λ (y : Item × List ℕ). Takes (byte (binary op) ++ bytes) (item y.0) y.1 × FitsItem y.0) (ok_is (Combine op, bytes) x e) (record { parts = refl; rest_fits = fits }, tt)
 
-binary_again : (op : BinaryOp) (rest : List ℕ) → found item_rows (binary op) rest ≡ Ok (Combine op, rest)
-binary_again Add rest = refl
-binary_again Sub rest = refl
-binary_again Mul rest = refl
-binary_again Div rest = refl
-binary_again (Compare Equal) rest = refl
-binary_again (Compare NotEqual) rest = refl
-binary_again (Compare Less) rest = refl
-binary_again (Compare LessEqual) rest = refl
-binary_again (Compare Greater) rest = refl
-binary_again (Compare GreaterEqual) rest = refl
-binary_again And rest = refl
-binary_again Or rest = refl
+item_takes : (bytes : List ℕ) (x : Item × List ℕ) → IsBytes bytes → item_at bytes ≡ Ok x → Takes bytes (item x.0) x.1 × FitsItem x.0
+unfolding item_at
+item_takes bytes x fits e =
+    let p = bind_ok (one_of tag_byte all_tags bytes) (λ y. behind_tag y.0 y.1) x e in
+    let s = (reads_one_of tag_byte all_tags found_tag).takes bytes p.0 fits p.1 in
+    let t = behind_takes p.0.0 p.0.1 x s.0.rest_fits p.2 in
+    (record { parts = s.0.parts ∙ t.0.parts; rest_fits = t.0.rest_fits }, t.1)
+
+-- an operator is found by its tag
+operator_again : (t : Tag) (rest : List ℕ) → after (one_of tag_byte all_tags) behind_tag (byte (tag_byte t) ++ rest) ≡ behind_tag t rest
+operator_again t rest = ap (λ r. r >>= λ x. behind_tag x.0 x.1) (found_tag t rest)
 
 item_again : (i : Item) (rest : List ℕ) → FitsItem i → item_at (item i ++ rest) ≡ Ok (i, rest)
-unfolding item_at tagged_item
+unfolding item_at
 item_again (Push (Integer n)) rest h = via_again reads_signed (λ n. Push (Integer n)) n rest h
 item_again (Push (Thousandths n)) rest h = via_again reads_signed (λ n. Push (Thousandths n)) n rest h
 item_again (Push (Truth b)) rest h = via_again reads_truth (λ b. Push (Truth b)) b rest tt
 item_again (Push (Variable v)) rest h = via_again reads_short (λ v. Push (Variable v)) v rest h
-item_again (Apply op) rest h = unary_again op rest
-item_again (Combine op) rest h = binary_again op rest
-
-item_takes : (bytes : List ℕ) (x : Item × List ℕ) → IsBytes bytes → item_at bytes ≡ Ok x → Takes bytes (item x.0) x.1 × FitsItem x.0
-unfolding item_at tagged_item
-item_takes bytes x fits e = tagged_takes item FitsItem item_rows item_rows_take bytes x fits e
+item_again (Apply op) rest h = operator_again (tags.Unary op) rest
+item_again (Combine op) rest h = operator_again (tags.Binary op) rest
 
 pub reads_item : Reads item_at item FitsItem
 reads_item = record { takes = item_takes; again = item_again }

@@ -4,6 +4,7 @@ pub mod LoopInverse
 pub mod ItemParts
 pub mod BranchParts
 pub mod TextParts
+pub mod Shapes
 pub mod StatementParts
 pub mod Parts
 pub mod Taking

@@ -1,38 +1,37 @@
--- Numbers, tags and bytes that a reader and a spelling undo.
+-- Numbers, bytes that stand for a value, and runs of bytes that a reader and a spelling undo.
 use Rattle.std.proofs.Common.{◌≡◌, ℕ, suc, ◌^◌, ◌<◌, ◌≤◌, Bool, true, false, cond, eqb, ltb, List, [], ◌∷◌, ◌++◌, length, take, drop, Ok, refl, sym, ap, subst, arith}
-use Rattle.std.specs.List.{AllByRecursion}
 use Rattle.std.specs.Int.{Width, w16, w32, w64, byte_len, from_le_bytes, to_le_bytes}
 use Rattle.std.proofs.lemmas.Bool.{ltb-false, le-ltb, eqb-true}
 use Rattle.std.proofs.lemmas.List.{take_at, drop_at, take-append-drop, length-append, length-take}
 use Rattle.std.proofs.lemmas.Nat.{le_bytes_2, le_bytes_4, le_bytes_8, from_le_bytes-to_le_bytes_2, from_le_bytes-to_le_bytes_4, from_le_bytes-to_le_bytes_8}
 use Rattle.vcm_fields.specs.declared.fault.ImageFault.TheVariants.{Short}
-use Rattle.vcm_fields.specs.Readers.{Reader, now, after, found, byte_at, number_at, bytes_at}
+use Rattle.vcm_fields.specs.Spelling.{byte}
+use Rattle.vcm_fields.specs.Readers.{among, one_of, byte_at, number_at, bytes_at}
 use Rattle.vcm_fields.proofs.Inverse.{IsBytes, IsBytes-drop, IsBytes-take, guard_short, ok_is, Takes, Reads}
 
--- ---- tags
-
-abbrev pub Row : {A : Type 0} → (A → List ℕ) → (A → Type 0) → ℕ × Reader A → Type 0
-Row {A} spell P row = (bytes : List ℕ) (x : A × List ℕ) → IsBytes bytes → row.1 bytes ≡ Ok x → Takes (row.0 ∷ bytes) (spell x.0) x.1 × P x.0
-
-pub found_takes : {A : Type 0} (spell : A → List ℕ) (P : A → Type 0) (rows : List (ℕ × Reader A)) (k : ℕ) (bytes : List ℕ) (x : A × List ℕ) → AllByRecursion (Row spell P) rows → IsBytes bytes → found rows k bytes ≡ Ok x → Takes (k ∷ bytes) (spell x.0) x.1 × P x.0
-found_takes spell P [] k bytes x h fits e = absurd cc
-found_takes {A} spell P (row ∷ rows) k bytes x h fits e = split (λ e'. found_takes spell P rows k bytes x h.1 fits e') (eqb k row.0) refl e
-  where
-    split : (found rows k bytes ≡ Ok x → Takes (k ∷ bytes) (spell x.0) x.1 × P x.0) → (b : Bool) → eqb k row.0 ≡ b → cond b (row.1 bytes) (found rows k bytes) ≡ Ok x → Takes (k ∷ bytes) (spell x.0) x.1 × P x.0
-    split more true t e' = subst (λ (n : ℕ). Takes (n ∷ bytes) (spell x.0) x.1 × P x.0) (sym (eqb-true k row.0 t)) (h.0 bytes x fits e')
-    split more false t e' = more e'
+-- ---- bytes that stand for a value
 
 IsBytes-rest : (b : ℕ) (bytes : List ℕ) → IsBytes (b ∷ bytes) → IsBytes bytes
 IsBytes-rest b bytes h i = h (suc i)
 
-pub tagged_takes : {A : Type 0} (spell : A → List ℕ) (P : A → Type 0) (rows : List (ℕ × Reader A)) → AllByRecursion (Row spell P) rows → (bytes : List ℕ) (x : A × List ℕ) → IsBytes bytes → after byte_at (found rows) bytes ≡ Ok x → Takes bytes (spell x.0) x.1 × P x.0
-tagged_takes spell P rows h [] x fits e = absurd cc
-tagged_takes spell P rows h (b ∷ bytes) x fits e = found_takes spell P rows b bytes x h (IsBytes-rest b bytes fits) e
+among_takes : {A : Type 0} (byte_of : A → ℕ) (xs : List A) (k : ℕ) (bytes : List ℕ) (x : A × List ℕ) → IsBytes bytes → among byte_of xs k bytes ≡ Ok x → Takes (k ∷ bytes) (byte (byte_of x.0)) x.1
+among_takes byte_of [] k bytes x fits e = absurd cc
+among_takes {A} byte_of (y ∷ ys) k bytes x fits e = split (λ e'. among_takes byte_of ys k bytes x fits e') (eqb k (byte_of y)) refl e
+  where
+    split : (among byte_of ys k bytes ≡ Ok x → Takes (k ∷ bytes) (byte (byte_of x.0)) x.1) → (b : Bool) → eqb k (byte_of y) ≡ b → cond b (Ok (y, bytes)) (among byte_of ys k bytes) ≡ Ok x → Takes (k ∷ bytes) (byte (byte_of x.0)) x.1
+    split more true t e' = subst (λ (z : A × List ℕ). Takes (k ∷ bytes) (byte (byte_of z.0)) z.1) (ok_is (y, bytes) x e') (record { parts = ap (λ (n : ℕ). n ∷ bytes) (eqb-true k (byte_of y) t); rest_fits = fits })
+    split more false t e' = more e'
 
-pub now_row : {A : Type 0} (spell : A → List ℕ) (P : A → Type 0) (k : ℕ) (a : A) → spell a ≡ k ∷ [] → P a → Row spell P (k, now a)
-now_row {A} spell P k a s p bytes x fits e =
-    let made : A × List ℕ = (a, bytes) in
-    subst (λ (y : A × List ℕ). Takes (k ∷ bytes) (spell y.0) y.1 × P y.0) (ok_is made x e) (record { parts = ap (λ (l : List ℕ). l ++ bytes) (sym s); rest_fits = fits }, p)
+one_takes : {A : Type 0} (byte_of : A → ℕ) (xs : List A) (bytes : List ℕ) (x : A × List ℕ) → IsBytes bytes → one_of byte_of xs bytes ≡ Ok x → Takes bytes (byte (byte_of x.0)) x.1
+one_takes byte_of xs [] x fits e = absurd cc
+one_takes byte_of xs (b ∷ bytes) x fits e = among_takes byte_of xs b bytes x (IsBytes-rest b bytes fits) e
+
+-- each value is found by its byte
+abbrev pub Found : {A : Type 0} → (A → ℕ) → List A → Type 0
+Found {A} byte_of xs = (x : A) (rest : List ℕ) → among byte_of xs (byte_of x) rest ≡ Ok (x, rest)
+
+pub reads_one_of : {A : Type 0} (byte_of : A → ℕ) (xs : List A) → Found byte_of xs → Reads (one_of byte_of xs) (λ x. byte (byte_of x)) (λ x. Unit {0})
+reads_one_of byte_of xs h = record { takes = λ bytes x fits e. (one_takes byte_of xs bytes x fits e, tt); again = λ x rest u. h x rest }
 
 -- ---- numbers
 

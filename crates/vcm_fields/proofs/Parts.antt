@@ -1,49 +1,20 @@
 -- Tables and slices of an image, read as they are spelled.
-use Rattle.std.proofs.Common.{◌≡◌, ℕ, zero, suc, ◌-◌, ◌<◌, List, [], ◌∷◌, ◌++◌, length, take, drop, Ok, Err, refl, sym, ap, subst, ◌∙◌, arith}
-use Rattle.vcm_num.specs.declared.number.Kind.{Kind}
-use Rattle.vcm_num.specs.declared.number.Kind.TheVariants.{Int, Real, Bool as Truths}
+use Rattle.std.proofs.Common.{◌≡◌, ℕ, zero, suc, ◌-◌, ◌<◌, List, [], ◌∷◌, length, take, drop, Ok, Err, refl, sym, ap, subst, ◌∙◌, arith}
 use Rattle.vcm_fields.specs.declared.fault.ImageFault.{ImageFault}
 use Rattle.vcm_fields.specs.Fitting.{FitsEntry}
-use Rattle.vcm_fields.specs.Spelling.{kind_byte, entry}
-use Rattle.vcm_fields.specs.Readers.{Reader, after, times, kind_rows, kind_at, entry_at}
+use Rattle.vcm_fields.specs.Spelling.{entry}
+use Rattle.vcm_fields.specs.Readers.{Reader, times, entry_at}
 use Rattle.vcm_fields.specs.inner.Slices.{read_or_nil}
-use Rattle.vcm_fields.proofs.Inverse.{IsBytes, Takes, Reads, ok_is, reads_both, reads_via}
-use Rattle.vcm_fields.proofs.NumberInverse.{tagged_takes, now_row, reads_long}
+use Rattle.vcm_fields.proofs.Inverse.{Reads, ok_is, reads_both, reads_via}
+use Rattle.vcm_fields.proofs.NumberInverse.{reads_long}
 use Rattle.vcm_fields.proofs.LoopInverse.{Cut, times_first, times_none}
 use Rattle.vcm_fields.proofs.TextParts.{reads_variable_name}
+use Rattle.vcm_fields.proofs.StatementParts.{reads_kind}
 
 -- ---- tables
 
-kind_bytes : Kind → List ℕ
-kind_bytes k = kind_byte k ∷ []
-
-any_kind : Kind → Type 0
-any_kind k = Unit {0}
-
-kind_takes : (bytes : List ℕ) (x : Kind × List ℕ) → IsBytes bytes → kind_at bytes ≡ Ok x → Takes bytes (kind_bytes x.0) x.1 × any_kind x.0
-unfolding kind_at kind_bytes any_kind
-kind_takes bytes x fits e = tagged_takes kind_bytes any_kind kind_rows (
-  now_row kind_bytes any_kind 0 Int refl tt,
-  (
-    now_row kind_bytes any_kind 1 Real refl tt,
-    (
-      now_row kind_bytes any_kind 2 Truths refl tt,
-      tt,
-    ),
-  ),
-) bytes x fits e
-
-kind_again : (k : Kind) (rest : List ℕ) → kind_at (kind_bytes k ++ rest) ≡ Ok (k, rest)
-unfolding kind_at kind_bytes
-kind_again Int rest = refl
-kind_again Real rest = refl
-kind_again Truths rest = refl
-
-reads_kind : Reads kind_at kind_bytes any_kind
-reads_kind = record { takes = kind_takes; again = λ k rest h. kind_again k rest }
-
 pub reads_entry : Reads entry_at entry FitsEntry
-unfolding entry_at kind_bytes any_kind
+unfolding entry_at
 reads_entry = reads_via (reads_both reads_kind (reads_both reads_long reads_variable_name)) (λ v. record { kind = v.0; expansion = v.1.0; name = v.1.1 }) (λ v. (v.kind, (v.expansion, v.name))) entry FitsEntry
     (λ v h. refl) (λ v h. h.1) (λ v h. (refl, refl, (tt, h)))
 

@@ -1,17 +1,20 @@
 -- What a reader took, taken apart: where it gave a value, each of its parts did.
-use Rattle.std.proofs.Common.{◌≡◌, ℕ, Bool, true, List, Result, Ok, Err, IfErr, if◌then◌else◌, nat_le, refl, sym, ap, subst, ◌∙◌}
-use Rattle.std.specs.Int.{w16, w32}
+use Rattle.std.proofs.Common.{◌≡◌, ◌<◌, ◌≤◌, ℕ, ℤ, Bool, true, ltb, List, [], ◌∷◌, length, take, drop, arith, Result, Ok, Err, IfErr, if◌then◌else◌, nat_le, refl, sym, ap, subst, ◌∙◌}
+use Rattle.std.proofs.lemmas.Bool.{ltb-false}
+use Rattle.std.specs.Int.{Width, w16, w32, w64, byte_len, from_le_bytes, cast_signed}
 use Rattle.vcm_spec.specs.declared.expression.Item.{Item}
 use Rattle.vcm_spec.specs.TextBytes.{is_text}
 use Rattle.vcm_code.specs.declared.version.Version.{Version}
 use Rattle.vcm_fields.specs.declared.word.Word.{Word}
 use Rattle.vcm_fields.specs.Parts.{Line}
 use Rattle.vcm_fields.specs.declared.fault.ImageFault.{ImageFault}
-use Rattle.vcm_fields.specs.declared.fault.ImageFault.TheVariants.{BadField}
+use Rattle.vcm_fields.specs.declared.fault.ImageFault.TheVariants.{Short, BadField}
+use Rattle.vcm_fields.specs.declared.items.Tag.{Tag}
+use Rattle.vcm_fields.specs.Spelling.{tag_byte}
 use Rattle.vcm_fields.specs.Fitting.{within}
 use Rattle.vcm_spec.specs.Results.{◌>>=◌}
-use Rattle.vcm_fields.specs.Readers.{Reader, Gives, both, via, after, tested, times, number_at, bytes_at, item_at, expression_at, three_at, text_at, word_at, operands_at, line_at}
-use Rattle.vcm_fields.proofs.Inverse.{bind_ok, guard_met, ok_is}
+use Rattle.vcm_fields.specs.Readers.{Reader, Gives, both, via, after, among, one_of, tested, times, byte_at, number_at, signed_at, all_tags, behind_tag, bytes_at, item_at, expression_at, three_at, text_at, word_at, operands_at, line_at}
+use Rattle.vcm_fields.proofs.Inverse.{bind_ok, guard_short, guard_met, ok_is}
 
 -- a call that reads what is there doesn't fail
 pub never_fails : {X A : Type 0} (view : X → A) (r : Result X ImageFault) (q : Result A ImageFault) (y : A) → Gives view r q → q ≡ Ok y → IfErr r (λ e. ⊥)
@@ -60,6 +63,46 @@ tested_is {A} fault test a bytes x rest e =
     let p = bind_ok (a bytes) (λ u. if test u.0 then Ok u else Err fault) (x, rest) e in
     let g = guard_met (test p.0.0) fault p.0 (x, rest) p.2 in
     (p.1 ∙ ap Ok g.1, ap (λ (t : A × List ℕ). test t.0) (sym g.1) ∙ g.0)
+
+-- a byte stands there
+pub byte_there : (bytes : List ℕ) (x : ℕ × List ℕ) → byte_at bytes ≡ Ok x → 0 < length bytes
+byte_there [] x e = absurd cc
+byte_there (b ∷ bytes) x e = omega arith
+
+-- so many bytes do
+pub number_there : (w : Width) (bytes : List ℕ) (x : ℕ × List ℕ) → number_at w bytes ≡ Ok x → byte_len w ≤ length bytes
+number_there w bytes x e =
+    ltb-false _ _ (guard_short (ltb (length bytes) (byte_len w)) Short (from_le_bytes w (take (byte_len w) bytes), drop (byte_len w) bytes) x e).0
+
+pub signed_there : (bytes : List ℕ) (x : ℤ × List ℕ) → signed_at bytes ≡ Ok x → 8 ≤ length bytes
+signed_there bytes x e = let v = via_is (cast_signed w64) (number_at w64) bytes x.0 x.1 e in number_there w64 bytes (v.0, x.1) v.1
+
+pub bytes_there : (n : ℕ) (bytes : List ℕ) (x : List ℕ × List ℕ) → bytes_at n bytes ≡ Ok x → (n ≤ length bytes) × (take n bytes ≡ x.0)
+bytes_there n bytes x e =
+    let g = guard_short (ltb (length bytes) n) Short (take n bytes, drop n bytes) x e in
+    (ltb-false _ _ g.0, ap (λ (y : List ℕ × List ℕ). y.0) g.1)
+
+-- a value behind its byte
+pub one_is : {A : Type 0} (byte_of : A → ℕ) (xs : List A) (bytes : List ℕ) (x : A) (rest : List ℕ) → one_of byte_of xs bytes ≡ Ok (x, rest)
+    → (k : ℕ) × (middle : List ℕ) × (byte_at bytes ≡ Ok (k, middle)) × (among byte_of xs k middle ≡ Ok (x, rest))
+one_is byte_of xs bytes x rest e = after_is byte_at (among byte_of xs) bytes x rest e
+
+-- so the byte that was read stands for one
+pub one_there : {A : Type 0} (byte_of : A → ℕ) (xs : List A) (bytes : List ℕ) (x : A) (rest : List ℕ) (k : ℕ) (middle : List ℕ) → one_of byte_of xs bytes ≡ Ok (x, rest)
+    → byte_at bytes ≡ Ok (k, middle) → among byte_of xs k middle ≡ Ok (x, rest)
+one_there byte_of xs bytes x rest k middle e h =
+    let p = one_is byte_of xs bytes x rest e in
+    ap (λ (t : ℕ × List ℕ). among byte_of xs t.0 t.1) (ok_is _ _ (sym h ∙ p.2)) ∙ p.3
+
+-- an item: its tag, and what stands behind it
+pub item_is : (bytes : List ℕ) (i : Item) (rest : List ℕ) → item_at bytes ≡ Ok (i, rest)
+    → (t : Tag) × (middle : List ℕ) × (one_of tag_byte all_tags bytes ≡ Ok (t, middle)) × (behind_tag t middle ≡ Ok (i, rest))
+unfolding item_at
+item_is bytes i rest e = after_is (one_of tag_byte all_tags) behind_tag bytes i rest e
+
+pub item_of : (bytes : List ℕ) (t : Tag) (middle : List ℕ) → one_of tag_byte all_tags bytes ≡ Ok (t, middle) → item_at bytes ≡ behind_tag t middle
+unfolding item_at
+item_of bytes t middle e = ap (λ r. r >>= λ x. behind_tag x.0 x.1) e
 
 -- an expression: the number of its items, and they
 pub expression_is : (bytes : List ℕ) (e : List Item) (rest : List ℕ) → expression_at bytes ≡ Ok (e, rest) → (n : ℕ) × (middle : List ℕ) × (number_at w16 bytes ≡ Ok (n, middle)) × (times item_at n middle ≡ Ok (e, rest))

@@ -1,5 +1,5 @@
 -- Which parts have all their fields in range, so that they have a spelling.
-use Rattle.std.specs.Prelude.{ℕ, ◌<◌, ◌≤◌, ◌^◌, ◌&&◌, Bool, nat_le, IsTrue, List, length, FitsSigned}
+use Rattle.std.specs.Prelude.{ℕ, ◌<◌, ◌≤◌, ◌^◌, ◌&&◌, Bool, nat_le, IsTrue, List, [], ◌∷◌, length, FitsSigned}
 use Rattle.std.specs.List.{AllByRecursion}
 use Rattle.std.specs.Int.{w64}
 use Rattle.vcm_spec.specs.declared.expression.Operand.{Operand}
@@ -9,12 +9,12 @@ use Rattle.vcm_spec.specs.declared.expression.Item.TheVariants.{Push, Apply, Com
 use Rattle.vcm_spec.specs.Setup.{Variable as Entry}
 use Rattle.vcm_spec.specs.TextBytes.{IsText}
 use Rattle.vcm_expr.specs.Symbols.{IsVariableName}
-use Rattle.vcm_code.specs.declared.op.Op.TheVariants.{EndFil, Goto, GoHome, Assign, If, Else, EndIf, Do, EndDo, Label, JumpTo, Feat, Meas}
-use Rattle.vcm_code.specs.declared.op.Op.TheVariants.{PtMeas, EndMes, SnSet, Trans, Rotate, Recall, Obtain, Output, Text, Select, Case, EndCas, DftCas, EndSel}
 use Rattle.vcm_code.specs.declared.branch.Branch.{Branch}
 use Rattle.vcm_code.specs.declared.version.Version.{Version}
 use Rattle.vcm_fields.specs.Words.{word_of, has_word}
 use Rattle.vcm_fields.specs.Parts.{Operation, Line}
+use Rattle.vcm_fields.specs.Shape.{Place, Said, Filled, places, Parted, parted, taken_apart}
+use Rattle.vcm_fields.specs.Shape as at
 
 -- a number from the one to the other
 abbrev pub within : ℕ → ℕ → ℕ → Bool
@@ -49,36 +49,40 @@ FitsBranch b = FitsSigned w64 b.value × (b.target < 2 ^ 32)
 abbrev pub FitBranches : List Branch → Type 0
 FitBranches bs = (length bs ≤ 20000) × AllByRecursion FitsBranch bs
 
--- a statement's operands: indexes have 16 bits, targets 32, pairs are below 32, axes below 3, quarter turns below 4, and the word of a
--- feature is the third to the eighth
+-- what stands in a place: indexes have 16 bits, targets 32, pairs are below 32, axes of turns below 3, quarters below 4, and the word of a feature is the
+-- third to the eighth
+abbrev pub FitsPlace : (p : Place) → Said p → Type 0
+FitsPlace (at.variable k) n = n < 2 ^ 16
+FitsPlace at.feature n = n < 2 ^ 16
+FitsPlace at.frame n = n < 2 ^ 16
+FitsPlace at.pair n = n < 32
+FitsPlace at.target n = n < 2 ^ 32
+FitsPlace (at.items k) e = FitsExpression e
+FitsPlace (at.three k) t = FitThree t.0 t.1.0 t.1.1
+FitsPlace at.assigned o = (o.0 < 2 ^ 16) × FitsExpression o.1
+FitsPlace at.axis d = Unit {0}
+FitsPlace at.direction d = Unit {0}
+FitsPlace at.setting which = Unit {0}
+FitsPlace at.source which = Unit {0}
+FitsPlace at.turn n = n < 3
+FitsPlace at.quarters n = n < 4
+FitsPlace at.part n = IsTrue (within 3 8 n)
+FitsPlace at.text bs = IsText bs
+FitsPlace at.branches bs = FitBranches bs
+
+-- what stands in places
+abbrev pub FitsFilled : (ps : List Place) → Filled ps → Type 0
+FitsFilled [] f = Unit {0}
+FitsFilled (p ∷ []) f = FitsPlace p f
+FitsFilled (p ∷ q ∷ ps) f = FitsPlace p f.0 × FitsFilled (q ∷ ps) f.1
+
+-- a statement taken apart
+abbrev pub FitsParted : Parted → Type 0
+FitsParted (parted w f) = FitsFilled (places w) f
+
+-- a statement: all its operands do
 abbrev pub FitsOperation : Operation → Type 0
-FitsOperation EndFil = Unit {0}
-FitsOperation (Goto x y z) = FitThree x y z
-FitsOperation GoHome = Unit {0}
-FitsOperation (Assign v e) = (v < 2 ^ 16) × FitsExpression e
-FitsOperation (If e to) = FitsExpression e × (to < 2 ^ 32)
-FitsOperation (Else to) = to < 2 ^ 32
-FitsOperation EndIf = Unit {0}
-FitsOperation (Do v p a b c exit) = (v < 2 ^ 16) × ((p < 32) × (FitThree a b c × (exit < 2 ^ 32)))
-FitsOperation (EndDo v p to) = (v < 2 ^ 16) × ((p < 32) × (to < 2 ^ 32))
-FitsOperation Label = Unit {0}
-FitsOperation (JumpTo to) = to < 2 ^ 32
-FitsOperation (Feat f x y z toward) = (f < 2 ^ 16) × (FitThree x y z × Unit {0})
-FitsOperation (Meas f) = f < 2 ^ 16
-FitsOperation (PtMeas f x y z toward) = (f < 2 ^ 16) × (FitThree x y z × Unit {0})
-FitsOperation EndMes = Unit {0}
-FitsOperation (SnSet which e) = Unit {0} × FitsExpression e
-FitsOperation (Trans f x y z) = (f < 2 ^ 16) × FitThree x y z
-FitsOperation (Rotate f axis quarters) = (f < 2 ^ 16) × ((axis < 3) × (quarters < 4))
-FitsOperation (Recall f) = f < 2 ^ 16
-FitsOperation (Obtain v source f word) = (v < 2 ^ 16) × (Unit {0} × ((f < 2 ^ 16) × IsTrue (within 3 8 word)))
-FitsOperation (Output source f) = Unit {0} × (f < 2 ^ 16)
-FitsOperation (Text bytes) = IsText bytes
-FitsOperation (Select e bs to) = FitsExpression e × (FitBranches bs × (to < 2 ^ 32))
-FitsOperation Case = Unit {0}
-FitsOperation (EndCas to) = to < 2 ^ 32
-FitsOperation DftCas = Unit {0}
-FitsOperation EndSel = Unit {0}
+FitsOperation o = FitsParted (taken_apart o)
 
 -- a statement: its version has its word, and its source line has 32 bits
 abbrev pub FitsLine : Version → Line → Type 0

@@ -1,17 +1,14 @@
 -- Reading from the front, with the first fault that is met.
-use Rattle.std.specs.Prelude.{◌≡◌, ℕ, zero, suc, ℤ, Bool, List, [], ◌∷◌, length, take, drop, Option, Some, None, Result, Ok, Err, nat_lt}
+use Rattle.std.specs.Prelude.{◌≡◌, ℕ, zero, suc, ℤ, Bool, List, [], ◌∷◌, length, take, drop, Option, Result, Ok, Err, nat_lt}
 use Rattle.std.specs.Prelude.{nat_le, ◌==◌, if◌then◌else◌}
 use Rattle.std.specs.Int.{Width, w16, w32, w64, byte_len, from_le_bytes, cast_signed}
 use Rattle.vcm_num.specs.declared.number.Kind.{Kind}
-use Rattle.vcm_num.specs.declared.number.Kind.TheVariants.{Int, Real, Bool as Truths}
 use Rattle.vcm_spec.specs.declared.expression.Operand.TheVariants.{Integer, Thousandths, Truth, Variable}
 use Rattle.vcm_spec.specs.declared.expression.UnaryOp.TheVariants.{Neg, Scale, Not}
 use Rattle.vcm_spec.specs.declared.expression.BinaryOp.TheVariants.{Add, Sub, Mul, Div, And, Or, Compare}
 use Rattle.vcm_spec.specs.declared.expression.Relation.TheVariants.{Equal, NotEqual, Less, LessEqual, Greater, GreaterEqual}
 use Rattle.vcm_spec.specs.declared.expression.Item.{Item}
 use Rattle.vcm_spec.specs.declared.expression.Item.TheVariants.{Push, Apply, Combine}
-use Rattle.vcm_code.specs.declared.op.Op.TheVariants.{EndFil, Goto, GoHome, Assign, If, Else, EndIf, Do, EndDo, Label, JumpTo, Feat, Meas}
-use Rattle.vcm_code.specs.declared.op.Op.TheVariants.{PtMeas, EndMes, SnSet, Trans, Rotate, Recall, Obtain, Output, Text, Select, Case, EndCas, DftCas, EndSel}
 use Rattle.vcm_code.specs.declared.branch.Branch.{Branch}
 use Rattle.vcm_code.specs.declared.version.Version.{Version}
 use Rattle.vcm_fields.specs.Words.{has_word}
@@ -21,17 +18,18 @@ use Rattle.vcm_spec.specs.Results.{◌>>=◌}
 use Rattle.vcm_expr.specs.NameBytes.{is_name}
 use Rattle.vcm_expr.specs.Symbols.{is_variable_name}
 use Rattle.vcm_fields.specs.Parts.{Operation, Line}
+use Rattle.vcm_fields.specs.declared.items.Tag.{Tag}
+use Rattle.vcm_fields.specs.declared.items.Tag.TheVariants as tags
 use Rattle.vcm_fields.specs.declared.word.Word.{Word}
-use Rattle.vcm_fields.specs.declared.word.Word.TheVariants as words
 use Rattle.vcm_fields.specs.declared.fault.ImageFault.{ImageFault}
 use Rattle.vcm_fields.specs.declared.fault.ImageFault.TheVariants.{NoMemory, Short, BadField}
 use Rattle.vcm_fields.specs.Fitting.{within}
+use Rattle.vcm_fields.specs.Shape.{Place, Said, Filled, axes, directions, settings, sources, kinds, all_words, made, Form, form, form_of}
+use Rattle.vcm_fields.specs.Shape as at
+use Rattle.vcm_fields.specs.Spelling.{tag_byte, axis_byte, direction_byte, setting_byte, source_byte, word_byte, kind_byte}
 use Rattle.vcm_num.specs.declared.axis.Axis.{Axis}
-use Rattle.vcm_num.specs.declared.axis.Axis.TheVariants.{PlusX, MinusX, PlusY, MinusY, PlusZ, MinusZ}
 use Rattle.vcm_spec.specs.declared.words.Setting.{Setting}
-use Rattle.vcm_spec.specs.declared.words.Setting.TheVariants.{Approach, Retract, Search, Depth}
 use Rattle.vcm_spec.specs.declared.words.Source.{Source}
-use Rattle.vcm_spec.specs.declared.words.Source.TheVariants.{Nominal, Actual}
 
 -- what a call returned, seen by view, is what reading gives
 abbrev pub Gives : {X Y : Type 0} → (X → Y) → Result X ImageFault → Result Y ImageFault → Type 0
@@ -51,6 +49,11 @@ GivesOrNoMemory view (Err e) read = Fails e read
 -- a reader takes a value from the front, and leaves the bytes after it
 abbrev pub Reader : Type 0 → Type 0
 Reader A = List ℕ → Result (A × List ℕ) ImageFault
+
+-- one byte
+abbrev pub byte_at : Reader ℕ
+byte_at [] = Err Short
+byte_at (b ∷ rest) = Ok (b, rest)
 
 -- a value that takes no bytes
 abbrev pub now : {A : Type 0} → A → Reader A
@@ -77,10 +80,14 @@ unfoldable pub times : {A : Type 0} → Reader A → ℕ → Reader (List A)
 times a zero bytes = Ok ([], bytes)
 times a (suc n) bytes = a bytes >>= λ x. times a n x.1 >>= λ xs. Ok (x.0 ∷ xs.0, xs.1)
 
--- what is read behind this tag, by its row of the table; a tag without a row is out of range
-abbrev pub found : {A : Type 0} → List (ℕ × Reader A) → ℕ → Reader A
-found [] k bytes = Err BadField
-found (row ∷ rows) k bytes = if k == row.0 then row.1 bytes else found rows k bytes
+-- the first of these values that has this byte; one that none of them has is out of range
+abbrev pub among : {A : Type 0} → (A → ℕ) → List A → ℕ → Reader A
+among byte_of [] k bytes = Err BadField
+among byte_of (x ∷ xs) k bytes = if k == byte_of x then Ok (x, bytes) else among byte_of xs k bytes
+
+-- a byte that stands for one of these values
+abbrev pub one_of : {A : Type 0} → (A → ℕ) → List A → Reader A
+one_of byte_of xs = after byte_at (among byte_of xs)
 
 -- the bytes begin with a value that meets P
 abbrev pub Begins : {A : Type 0} → Reader A → (A → Type 0) → List ℕ → Type 0
@@ -91,11 +98,6 @@ abbrev pub OfFirst : {A : Type 0} → Reader A → List ℕ → (A → List ℕ 
 OfFirst {A} a bytes P = (x : A) (rest : List ℕ) → a bytes ≡ Ok (x, rest) → P x rest
 
 -- ---- fields
-
--- one byte
-abbrev pub byte_at : Reader ℕ
-byte_at [] = Err Short
-byte_at (b ∷ rest) = Ok (b, rest)
 
 -- a number of so many bytes, the lowest one first
 abbrev pub number_at : Width → Reader ℕ
@@ -120,37 +122,26 @@ truth_at = via is_one (tested BadField (λ b. nat_lt b 2) byte_at)
 
 -- ---- items
 
--- what stands behind each tag of an item
-abbrev pub item_rows : List (ℕ × Reader Item)
-item_rows =
-    (1, via (λ n. Push (Integer n)) signed_at)
-    ∷ (2, via (λ n. Push (Thousandths n)) signed_at)
-    ∷ (3, via (λ b. Push (Truth b)) truth_at)
-    ∷ (4, via (λ v. Push (Variable v)) (number_at w16))
-    ∷ (16, now (Apply Neg))
-    ∷ (17, now (Combine Add))
-    ∷ (18, now (Combine Sub))
-    ∷ (19, now (Combine Mul))
-    ∷ (20, now (Combine Div))
-    ∷ (21, now (Apply Scale))
-    ∷ (32, now (Combine (Compare Equal)))
-    ∷ (33, now (Combine (Compare NotEqual)))
-    ∷ (34, now (Combine (Compare Less)))
-    ∷ (35, now (Combine (Compare LessEqual)))
-    ∷ (36, now (Combine (Compare Greater)))
-    ∷ (37, now (Combine (Compare GreaterEqual)))
-    ∷ (48, now (Apply Not))
-    ∷ (49, now (Combine And))
-    ∷ (50, now (Combine Or))
-    ∷ []
+-- the tags of items
+abbrev pub all_tags : List Tag
+all_tags =
+    tags.Integer ∷ tags.Thousandths ∷ tags.Truth ∷ tags.Variable ∷ tags.Unary Neg ∷ tags.Unary Scale ∷ tags.Unary Not
+    ∷ tags.Binary Add ∷ tags.Binary Sub ∷ tags.Binary Mul ∷ tags.Binary Div ∷ tags.Binary And ∷ tags.Binary Or
+    ∷ tags.Binary (Compare Equal) ∷ tags.Binary (Compare NotEqual) ∷ tags.Binary (Compare Less) ∷ tags.Binary (Compare LessEqual)
+    ∷ tags.Binary (Compare Greater) ∷ tags.Binary (Compare GreaterEqual) ∷ []
 
--- the item with a tag
-unfoldable pub tagged_item : ℕ → Reader Item
-tagged_item tag = found item_rows tag
+-- the item behind its tag
+abbrev pub behind_tag : Tag → Reader Item
+behind_tag tags.Integer = via (λ n. Push (Integer n)) signed_at
+behind_tag tags.Thousandths = via (λ n. Push (Thousandths n)) signed_at
+behind_tag tags.Truth = via (λ b. Push (Truth b)) truth_at
+behind_tag tags.Variable = via (λ v. Push (Variable v)) (number_at w16)
+behind_tag (tags.Unary op) = now (Apply op)
+behind_tag (tags.Binary op) = now (Combine op)
 
 -- an item: its tag, and what it pushes
 unfoldable pub item_at : Reader Item
-item_at = after byte_at tagged_item
+item_at = after (one_of tag_byte all_tags) behind_tag
 
 -- an expression: the number of its items, 1 to 1,024, and the items
 unfoldable pub expression_at : Reader (List Item)
@@ -190,79 +181,29 @@ pair_at = byte_below_at 32
 abbrev pub target_at : Reader ℕ
 target_at = number_at w32
 
--- the byte of each direction of a feature
-abbrev pub axis_rows : List (ℕ × Reader Axis)
-axis_rows = (0, now PlusX) ∷ (1, now MinusX) ∷ (2, now PlusY) ∷ (3, now MinusY) ∷ (4, now PlusZ) ∷ (5, now MinusZ) ∷ []
-
 -- the direction of a feature
 abbrev pub axis_at : Reader Axis
-axis_at = after byte_at (found axis_rows)
-
--- the byte of each direction of a measurement; 6 stands for the nominal feature's
-abbrev pub direction_rows : List (ℕ × Reader (Option Axis))
-direction_rows =
-    (0, now (Some PlusX)) ∷ (1, now (Some MinusX)) ∷ (2, now (Some PlusY)) ∷ (3, now (Some MinusY)) ∷ (4, now (Some PlusZ))
-    ∷ (5, now (Some MinusZ)) ∷ (6, now None) ∷ []
+axis_at = one_of axis_byte axes
 
 -- the direction of a measurement
 abbrev pub direction_at : Reader (Option Axis)
-direction_at = after byte_at (found direction_rows)
-
--- the byte of each setting
-abbrev pub setting_rows : List (ℕ × Reader Setting)
-setting_rows = (0, now Approach) ∷ (1, now Retract) ∷ (2, now Search) ∷ (3, now Depth) ∷ []
+direction_at = one_of direction_byte directions
 
 -- a setting of the probe
 abbrev pub setting_at : Reader Setting
-setting_at = after byte_at (found setting_rows)
-
--- the byte of each source
-abbrev pub source_rows : List (ℕ × Reader Source)
-source_rows = (0, now Nominal) ∷ (1, now Actual) ∷ []
+setting_at = one_of setting_byte settings
 
 -- whether the nominal or the actual feature is meant
 abbrev pub source_at : Reader Source
-source_at = after byte_at (found source_rows)
+source_at = one_of source_byte sources
 
 -- the word of a feature's part: 3 to 8
 abbrev pub part_at : Reader ℕ
 part_at = tested BadField (within 3 8) byte_at
 
--- the byte of each word of a statement
-abbrev pub word_rows : List (ℕ × Reader Word)
-word_rows =
-    (0, now words.EndFil)
-    ∷ (1, now words.Goto)
-    ∷ (2, now words.GoHome)
-    ∷ (3, now words.Assign)
-    ∷ (4, now words.If)
-    ∷ (5, now words.Else)
-    ∷ (6, now words.EndIf)
-    ∷ (7, now words.Do)
-    ∷ (8, now words.EndDo)
-    ∷ (9, now words.Label)
-    ∷ (10, now words.JumpTo)
-    ∷ (11, now words.Feat)
-    ∷ (12, now words.Meas)
-    ∷ (13, now words.PtMeas)
-    ∷ (14, now words.EndMes)
-    ∷ (15, now words.SnSet)
-    ∷ (16, now words.Trans)
-    ∷ (17, now words.Rotate)
-    ∷ (18, now words.Recall)
-    ∷ (19, now words.Obtain)
-    ∷ (20, now words.Output)
-    ∷ (21, now words.Text)
-    ∷ (22, now words.Select)
-    ∷ (23, now words.Case)
-    ∷ (24, now words.EndCas)
-    ∷ (25, now words.DftCas)
-    ∷ (26, now words.EndSel)
-    ∷ []
-
 -- the word of a statement, of any version
 unfoldable pub any_word_at : Reader Word
-any_word_at = after byte_at (found word_rows)
+any_word_at = one_of word_byte all_words
 
 -- the word of a statement; one that the version doesn't have is out of range
 abbrev pub word_at : Version → Reader Word
@@ -280,36 +221,39 @@ branches_at = after (tested BadField (λ n. nat_le n 20000) (number_at w16)) (ti
 unfoldable pub three_at : Reader (List Item × (List Item × List Item))
 three_at = both expression_at (both expression_at expression_at)
 
--- the operands of each statement, in order
+-- what stands in a place
+abbrev pub place_at : (p : Place) → Reader (Said p)
+place_at (at.variable k) = variable_at
+place_at at.feature = variable_at
+place_at at.frame = variable_at
+place_at at.pair = pair_at
+place_at at.target = target_at
+place_at (at.items k) = expression_at
+place_at (at.three k) = three_at
+place_at at.assigned = both variable_at expression_at
+place_at at.axis = axis_at
+place_at at.direction = direction_at
+place_at at.setting = setting_at
+place_at at.source = source_at
+place_at at.turn = byte_below_at 3
+place_at at.quarters = byte_below_at 4
+place_at at.part = part_at
+place_at at.text = text_at
+place_at at.branches = branches_at
+
+-- what stands in places, one behind the other
+abbrev pub filled_at : (ps : List Place) → Reader (Filled ps)
+filled_at [] = now tt
+filled_at (p ∷ []) = place_at p
+filled_at (p ∷ q ∷ ps) = both (place_at p) (filled_at (q ∷ ps))
+
+-- the places of a form
+abbrev pub form_at : Form → Reader Operation
+form_at (form ps make) = via (made ps make) (filled_at ps)
+
+-- the operands behind a word
 unfoldable pub operands_at : Word → Reader Operation
-operands_at words.EndFil = now EndFil
-operands_at words.Goto = via (λ o. Goto o.0 o.1.0 o.1.1) three_at
-operands_at words.GoHome = now GoHome
-operands_at words.Assign = via (λ o. Assign o.0 o.1) (both variable_at expression_at)
-operands_at words.If = via (λ o. If o.0 o.1) (both expression_at target_at)
-operands_at words.Else = via Else target_at
-operands_at words.EndIf = now EndIf
-operands_at words.Do =
-    via (λ o. Do o.0 o.1.0 o.1.1.0.0 o.1.1.0.1.0 o.1.1.0.1.1 o.1.1.1) (both variable_at (both pair_at (both three_at target_at)))
-operands_at words.EndDo = via (λ o. EndDo o.0 o.1.0 o.1.1) (both variable_at (both pair_at target_at))
-operands_at words.Label = now Label
-operands_at words.JumpTo = via JumpTo target_at
-operands_at words.Feat = via (λ o. Feat o.0 o.1.0.0 o.1.0.1.0 o.1.0.1.1 o.1.1) (both variable_at (both three_at axis_at))
-operands_at words.Meas = via Meas variable_at
-operands_at words.PtMeas = via (λ o. PtMeas o.0 o.1.0.0 o.1.0.1.0 o.1.0.1.1 o.1.1) (both variable_at (both three_at direction_at))
-operands_at words.EndMes = now EndMes
-operands_at words.SnSet = via (λ o. SnSet o.0 o.1) (both setting_at expression_at)
-operands_at words.Trans = via (λ o. Trans o.0 o.1.0 o.1.1.0 o.1.1.1) (both variable_at three_at)
-operands_at words.Rotate = via (λ o. Rotate o.0 o.1.0 o.1.1) (both variable_at (both (byte_below_at 3) (byte_below_at 4)))
-operands_at words.Recall = via Recall variable_at
-operands_at words.Obtain = via (λ o. Obtain o.0 o.1.0 o.1.1.0 o.1.1.1) (both variable_at (both source_at (both variable_at part_at)))
-operands_at words.Output = via (λ o. Output o.0 o.1) (both source_at variable_at)
-operands_at words.Text = via Text text_at
-operands_at words.Select = via (λ o. Select o.0 o.1.0 o.1.1) (both expression_at (both branches_at target_at))
-operands_at words.Case = now Case
-operands_at words.EndCas = via EndCas target_at
-operands_at words.DftCas = now DftCas
-operands_at words.EndSel = now EndSel
+operands_at w = form_at (form_of w)
 
 -- a statement of a version: its word, its source line, and its operands
 unfoldable pub line_at : Version → Reader Line
@@ -317,13 +261,9 @@ line_at v = after (word_at v) (λ k. via (λ o. record { line = o.0; op = o.1 })
 
 -- ---- tables
 
--- the byte of each kind
-abbrev pub kind_rows : List (ℕ × Reader Kind)
-kind_rows = (0, now Int) ∷ (1, now Real) ∷ (2, now Truths) ∷ []
-
 -- the kind of a variable
 unfoldable pub kind_at : Reader Kind
-kind_at = after byte_at (found kind_rows)
+kind_at = one_of kind_byte kinds
 
 -- a variable: its kind, its expansion, and its name
 unfoldable pub entry_at : Reader Entry

@@ -1,8 +1,14 @@
--- What stands behind the word of each statement, written once: its places in order, and how a statement is made of their values and taken apart.
-use Rattle.std.specs.Prelude.{ℕ, List, [], ◌∷◌, Option}
+-- What stands behind the word of each statement, written once: its places in order, and how a statement is made of their values and taken apart. The values
+-- of the small tables.
+use Rattle.std.specs.Prelude.{ℕ, List, [], ◌∷◌, map, Option, Some, None}
+use Rattle.vcm_num.specs.declared.number.Kind.{Kind}
+use Rattle.vcm_num.specs.declared.number.Kind.TheVariants.{Int, Real, Bool as Truths}
 use Rattle.vcm_num.specs.declared.axis.Axis.{Axis}
+use Rattle.vcm_num.specs.declared.axis.Axis.TheVariants.{PlusX, MinusX, PlusY, MinusY, PlusZ, MinusZ}
 use Rattle.vcm_spec.specs.declared.words.Setting.{Setting}
+use Rattle.vcm_spec.specs.declared.words.Setting.TheVariants.{Approach, Retract, Search, Depth}
 use Rattle.vcm_spec.specs.declared.words.Source.{Source}
+use Rattle.vcm_spec.specs.declared.words.Source.TheVariants.{Nominal, Actual}
 use Rattle.vcm_spec.specs.declared.expression.Item.{Item}
 use Rattle.vcm_code.specs.declared.branch.Branch.{Branch}
 use Rattle.vcm_code.specs.declared.op.Op.TheVariants.{EndFil, Goto, GoHome, Assign, If, Else, EndIf, Do, EndDo, Label, JumpTo, Feat, Meas}
@@ -11,18 +17,19 @@ use Rattle.vcm_code.specs.declared.op.Op.TheVariants.{Select, Case, EndCas, DftC
 use Rattle.vcm_fields.specs.declared.word.Word.{Word}
 use Rattle.vcm_fields.specs.declared.word.Word.TheVariants as words
 use Rattle.vcm_fields.specs.Parts.{Operation}
-use Rattle.vcm_fields.specs.Words.{word_of}
 
--- a place of a statement: an index of a variable, a feature or a frame, the number of a loop's pair, a target, an expression, three of them, a
--- direction, one of a measurement, a setting, a source, the axis of a turn, its quarters, the word of a feature, a text, the branches of a SELECT
+-- a place of a statement: a variable of a kind, a feature, a frame, the number of a loop's pair, a target, an expression of a kind, three of them, a
+-- variable and an expression of its kind, a direction, one of a measurement, a setting, a source, the axis of a turn, its quarters, the word of a
+-- feature, a text, the branches of a SELECT
 pub data Place : Type 0 where
-  variable : Place
+  variable : Kind → Place
   feature : Place
   frame : Place
   pair : Place
   target : Place
-  items : Place
-  three : Place
+  items : Kind → Place
+  three : Kind → Place
+  assigned : Place
   axis : Place
   direction : Place
   setting : Place
@@ -33,15 +40,16 @@ pub data Place : Type 0 where
   text : Place
   branches : Place
 
--- what stands there; a direction of a measurement is none where it is the nominal feature's
+-- what stands there: indexes as numbers; a direction of a measurement is none where it is the nominal feature's
 abbrev pub Said : Place → Type 0
-Said variable = ℕ
+Said (variable k) = ℕ
 Said feature = ℕ
 Said frame = ℕ
 Said pair = ℕ
 Said target = ℕ
-Said items = List Item
-Said three = List Item × (List Item × List Item)
+Said (items k) = List Item
+Said (three k) = List Item × (List Item × List Item)
+Said assigned = ℕ × List Item
 Said axis = Axis
 Said direction = Option Axis
 Said setting = Setting
@@ -57,6 +65,37 @@ abbrev pub Filled : List Place → Type 0
 Filled [] = Unit {0}
 Filled (p ∷ []) = Said p
 Filled (p ∷ q ∷ ps) = Said p × Filled (q ∷ ps)
+
+-- ---- the values that stand for themselves
+
+-- the directions of a feature
+abbrev pub axes : List Axis
+axes = PlusX ∷ MinusX ∷ PlusY ∷ MinusY ∷ PlusZ ∷ MinusZ ∷ []
+
+-- the directions of a measurement
+abbrev pub directions : List (Option Axis)
+directions = None ∷ map (λ d. Some d) axes
+
+-- the settings of the probe
+abbrev pub settings : List Setting
+settings = Approach ∷ Retract ∷ Search ∷ Depth ∷ []
+
+-- whether the nominal or the actual feature is meant
+abbrev pub sources : List Source
+sources = Nominal ∷ Actual ∷ []
+
+-- the kinds of a variable
+abbrev pub kinds : List Kind
+kinds = Int ∷ Real ∷ Truths ∷ []
+
+-- the words of statements
+abbrev pub all_words : List Word
+all_words =
+    words.EndFil ∷ words.Goto ∷ words.GoHome ∷ words.Assign ∷ words.If ∷ words.Else ∷ words.EndIf ∷ words.Do ∷ words.EndDo ∷ words.Label
+    ∷ words.JumpTo ∷ words.Feat ∷ words.Meas ∷ words.PtMeas ∷ words.EndMes ∷ words.SnSet ∷ words.Trans ∷ words.Rotate ∷ words.Recall
+    ∷ words.Obtain ∷ words.Output ∷ words.Text ∷ words.Select ∷ words.Case ∷ words.EndCas ∷ words.DftCas ∷ words.EndSel ∷ []
+
+-- ---- forms
 
 -- a function of the values of places to a statement
 abbrev pub Making : List Place → Type 0
@@ -76,28 +115,28 @@ pub data Form : Type 0 where
 -- the form of each statement
 abbrev pub form_of : Word → Form
 form_of words.EndFil = form [] EndFil
-form_of words.Goto = form (three ∷ []) (λ t. Goto t.0 t.1.0 t.1.1)
+form_of words.Goto = form (three Real ∷ []) (λ t. Goto t.0 t.1.0 t.1.1)
 form_of words.GoHome = form [] GoHome
-form_of words.Assign = form (variable ∷ items ∷ []) (λ v e. Assign v e)
-form_of words.If = form (items ∷ target ∷ []) (λ e to. If e to)
+form_of words.Assign = form (assigned ∷ []) (λ o. Assign o.0 o.1)
+form_of words.If = form (items Truths ∷ target ∷ []) (λ e to. If e to)
 form_of words.Else = form (target ∷ []) (λ to. Else to)
 form_of words.EndIf = form [] EndIf
-form_of words.Do = form (variable ∷ pair ∷ three ∷ target ∷ []) (λ v p t to. Do v p t.0 t.1.0 t.1.1 to)
-form_of words.EndDo = form (variable ∷ pair ∷ target ∷ []) (λ v p to. EndDo v p to)
+form_of words.Do = form (variable Int ∷ pair ∷ three Int ∷ target ∷ []) (λ v p t to. Do v p t.0 t.1.0 t.1.1 to)
+form_of words.EndDo = form (variable Int ∷ pair ∷ target ∷ []) (λ v p to. EndDo v p to)
 form_of words.Label = form [] Label
 form_of words.JumpTo = form (target ∷ []) (λ to. JumpTo to)
-form_of words.Feat = form (feature ∷ three ∷ axis ∷ []) (λ f t d. Feat f t.0 t.1.0 t.1.1 d)
+form_of words.Feat = form (feature ∷ three Real ∷ axis ∷ []) (λ f t d. Feat f t.0 t.1.0 t.1.1 d)
 form_of words.Meas = form (feature ∷ []) (λ f. Meas f)
-form_of words.PtMeas = form (feature ∷ three ∷ direction ∷ []) (λ f t d. PtMeas f t.0 t.1.0 t.1.1 d)
+form_of words.PtMeas = form (feature ∷ three Real ∷ direction ∷ []) (λ f t d. PtMeas f t.0 t.1.0 t.1.1 d)
 form_of words.EndMes = form [] EndMes
-form_of words.SnSet = form (setting ∷ items ∷ []) (λ which e. SnSet which e)
-form_of words.Trans = form (frame ∷ three ∷ []) (λ f t. Trans f t.0 t.1.0 t.1.1)
+form_of words.SnSet = form (setting ∷ items Real ∷ []) (λ which e. SnSet which e)
+form_of words.Trans = form (frame ∷ three Real ∷ []) (λ f t. Trans f t.0 t.1.0 t.1.1)
 form_of words.Rotate = form (frame ∷ turn ∷ quarters ∷ []) (λ f n q. Rotate f n q)
 form_of words.Recall = form (frame ∷ []) (λ f. Recall f)
-form_of words.Obtain = form (variable ∷ source ∷ feature ∷ part ∷ []) (λ v s f n. Obtain v s f n)
+form_of words.Obtain = form (variable Real ∷ source ∷ feature ∷ part ∷ []) (λ v s f n. Obtain v s f n)
 form_of words.Output = form (source ∷ feature ∷ []) (λ s f. Output s f)
 form_of words.Text = form (text ∷ []) (λ bs. Text bs)
-form_of words.Select = form (items ∷ branches ∷ target ∷ []) (λ e bs to. Select e bs to)
+form_of words.Select = form (items Int ∷ branches ∷ target ∷ []) (λ e bs to. Select e bs to)
 form_of words.Case = form [] Case
 form_of words.EndCas = form (target ∷ []) (λ to. EndCas to)
 form_of words.DftCas = form [] DftCas
@@ -119,32 +158,44 @@ places w = places_in (form_of w)
 abbrev pub op_in : (w : Word) → Filled (places w) → Operation
 op_in w x = made_in (form_of w) x
 
--- the values of a statement
-abbrev pub values_of : (o : Operation) → Filled (places (word_of o))
-values_of EndFil = tt
-values_of (Goto x y z) = (x, (y, z))
-values_of GoHome = tt
-values_of (Assign v e) = (v, e)
-values_of (If e to) = (e, to)
-values_of (Else to) = to
-values_of EndIf = tt
-values_of (Do v p x y z to) = (v, (p, ((x, (y, z)), to)))
-values_of (EndDo v p to) = (v, (p, to))
-values_of Label = tt
-values_of (JumpTo to) = to
-values_of (Feat f x y z d) = (f, ((x, (y, z)), d))
-values_of (Meas f) = f
-values_of (PtMeas f x y z d) = (f, ((x, (y, z)), d))
-values_of EndMes = tt
-values_of (SnSet which e) = (which, e)
-values_of (Trans f x y z) = (f, (x, (y, z)))
-values_of (Rotate f n q) = (f, (n, q))
-values_of (Recall f) = f
-values_of (Obtain v s f n) = (v, (s, (f, n)))
-values_of (Output s f) = (s, f)
-values_of (Text bs) = bs
-values_of (Select e bs to) = (e, (bs, to))
-values_of Case = tt
-values_of (EndCas to) = to
-values_of DftCas = tt
-values_of EndSel = tt
+-- a statement taken apart: its word, and the values in its places
+pub data Parted : Type 0 where
+  parted : (w : Word) → Filled (places w) → Parted
+
+-- its word
+abbrev pub word_in : Parted → Word
+word_in (parted w f) = w
+
+-- the statement that it is
+abbrev pub put_together : Parted → Operation
+put_together (parted w f) = op_in w f
+
+-- each statement, taken apart
+abbrev pub taken_apart : Operation → Parted
+taken_apart EndFil = parted words.EndFil tt
+taken_apart (Goto x y z) = parted words.Goto (x, (y, z))
+taken_apart GoHome = parted words.GoHome tt
+taken_apart (Assign v e) = parted words.Assign (v, e)
+taken_apart (If e to) = parted words.If (e, to)
+taken_apart (Else to) = parted words.Else to
+taken_apart EndIf = parted words.EndIf tt
+taken_apart (Do v p x y z to) = parted words.Do (v, (p, ((x, (y, z)), to)))
+taken_apart (EndDo v p to) = parted words.EndDo (v, (p, to))
+taken_apart Label = parted words.Label tt
+taken_apart (JumpTo to) = parted words.JumpTo to
+taken_apart (Feat f x y z d) = parted words.Feat (f, ((x, (y, z)), d))
+taken_apart (Meas f) = parted words.Meas f
+taken_apart (PtMeas f x y z d) = parted words.PtMeas (f, ((x, (y, z)), d))
+taken_apart EndMes = parted words.EndMes tt
+taken_apart (SnSet which e) = parted words.SnSet (which, e)
+taken_apart (Trans f x y z) = parted words.Trans (f, (x, (y, z)))
+taken_apart (Rotate f n q) = parted words.Rotate (f, (n, q))
+taken_apart (Recall f) = parted words.Recall f
+taken_apart (Obtain v s f n) = parted words.Obtain (v, (s, (f, n)))
+taken_apart (Output s f) = parted words.Output (s, f)
+taken_apart (Text bs) = parted words.Text bs
+taken_apart (Select e bs to) = parted words.Select (e, (bs, to))
+taken_apart Case = parted words.Case tt
+taken_apart (EndCas to) = parted words.EndCas to
+taken_apart DftCas = parted words.DftCas tt
+taken_apart EndSel = parted words.EndSel tt

@@ -13,14 +13,16 @@ use Rattle.vcm_spec.specs.declared.expression.BinaryOp.TheVariants.{Add, Sub, Mu
 use Rattle.vcm_spec.specs.declared.expression.Relation.TheVariants.{Equal, NotEqual, Less, LessEqual, Greater, GreaterEqual}
 use Rattle.vcm_spec.specs.declared.expression.Item.{Item}
 use Rattle.vcm_spec.specs.declared.expression.Item.TheVariants.{Push, Apply, Combine}
-use Rattle.vcm_code.specs.declared.op.Op.TheVariants.{EndFil, Goto, GoHome, Assign, If, Else, EndIf, Do, EndDo, Label, JumpTo, Feat, Meas}
-use Rattle.vcm_code.specs.declared.op.Op.TheVariants.{PtMeas, EndMes, SnSet, Trans, Rotate, Recall, Obtain, Output, Text, Select, Case, EndCas, DftCas, EndSel}
 use Rattle.vcm_code.specs.declared.branch.Branch.{Branch}
 use Rattle.vcm_spec.specs.Setup.{Variable as Entry}
+use Rattle.vcm_fields.specs.declared.items.Tag.{Tag}
+use Rattle.vcm_fields.specs.declared.items.Tag.TheVariants as tags
 use Rattle.vcm_fields.specs.declared.word.Word.{Word}
 use Rattle.vcm_fields.specs.declared.word.Word.TheVariants as words
 use Rattle.vcm_fields.specs.Parts.{Operation, Line}
 use Rattle.vcm_fields.specs.Words.{word_of}
+use Rattle.vcm_fields.specs.Shape.{Place, Said, Filled, places, Parted, parted, taken_apart}
+use Rattle.vcm_fields.specs.Shape as at
 use Rattle.vcm_num.specs.declared.axis.Axis.{Axis}
 use Rattle.vcm_num.specs.declared.axis.Axis.TheVariants.{PlusX, MinusX, PlusY, MinusY, PlusZ, MinusZ}
 use Rattle.vcm_spec.specs.declared.words.Setting.{Setting}
@@ -79,6 +81,15 @@ binary (Compare GreaterEqual) = 37
 binary And = 49
 binary Or = 50
 
+-- the byte of a tag
+abbrev pub tag_byte : Tag → ℕ
+tag_byte tags.Integer = 1
+tag_byte tags.Thousandths = 2
+tag_byte tags.Truth = 3
+tag_byte tags.Variable = 4
+tag_byte (tags.Unary op) = unary op
+tag_byte (tags.Binary op) = binary op
+
 -- an item: an operand, or the tag of an operator
 abbrev pub item : Item → List ℕ
 item (Push x) = operand x
@@ -122,12 +133,7 @@ axis_byte MinusZ = 5
 
 -- the byte of the direction of a measurement; 6 stands for the nominal feature's
 abbrev pub direction_byte : Option Axis → ℕ
-direction_byte (Some PlusX) = 0
-direction_byte (Some MinusX) = 1
-direction_byte (Some PlusY) = 2
-direction_byte (Some MinusY) = 3
-direction_byte (Some PlusZ) = 4
-direction_byte (Some MinusZ) = 5
+direction_byte (Some d) = axis_byte d
 direction_byte None = 6
 
 -- the byte of a setting of the probe
@@ -176,35 +182,39 @@ word_byte words.EndSel = 26
 abbrev pub three : List Item → List Item → List Item → List ℕ
 three x y z = expression x ++ (expression y ++ expression z)
 
--- the operands of each statement, in order
+-- what stands in a place
+abbrev pub place : (p : Place) → Said p → List ℕ
+place (at.variable k) n = short n
+place at.feature n = short n
+place at.frame n = short n
+place at.pair n = byte n
+place at.target n = long n
+place (at.items k) e = expression e
+place (at.three k) t = three t.0 t.1.0 t.1.1
+place at.assigned o = short o.0 ++ expression o.1
+place at.axis d = byte (axis_byte d)
+place at.direction d = byte (direction_byte d)
+place at.setting which = byte (setting_byte which)
+place at.source which = byte (source_byte which)
+place at.turn n = byte n
+place at.quarters n = byte n
+place at.part n = byte n
+place at.text bs = text bs
+place at.branches bs = branches bs
+
+-- what stands in places, one behind the other
+abbrev pub filled : (ps : List Place) → Filled ps → List ℕ
+filled [] f = []
+filled (p ∷ []) f = place p f
+filled (p ∷ q ∷ ps) f = place p f.0 ++ filled (q ∷ ps) f.1
+
+-- the values of a statement taken apart
+abbrev pub values : Parted → List ℕ
+values (parted w f) = filled (places w) f
+
+-- the operands of a statement
 abbrev pub operands : Operation → List ℕ
-operands EndFil = []
-operands (Goto x y z) = three x y z
-operands GoHome = []
-operands (Assign v e) = short v ++ expression e
-operands (If e to) = expression e ++ long to
-operands (Else to) = long to
-operands EndIf = []
-operands (Do v p a b c exit) = short v ++ (byte p ++ (three a b c ++ long exit))
-operands (EndDo v p back) = short v ++ (byte p ++ long back)
-operands Label = []
-operands (JumpTo to) = long to
-operands (Feat f x y z toward) = short f ++ (three x y z ++ byte (axis_byte toward))
-operands (Meas f) = short f
-operands (PtMeas f x y z toward) = short f ++ (three x y z ++ byte (direction_byte toward))
-operands EndMes = []
-operands (SnSet which e) = byte (setting_byte which) ++ expression e
-operands (Trans f x y z) = short f ++ three x y z
-operands (Rotate f axis quarters) = short f ++ (byte axis ++ byte quarters)
-operands (Recall f) = short f
-operands (Obtain v source f word) = short v ++ (byte (source_byte source) ++ (short f ++ byte word))
-operands (Output source f) = byte (source_byte source) ++ short f
-operands (Text bs) = text bs
-operands (Select e bs to) = expression e ++ (branches bs ++ long to)
-operands Case = []
-operands (EndCas to) = long to
-operands DftCas = []
-operands EndSel = []
+operands o = values (taken_apart o)
 
 -- the kind, the line, the operands
 abbrev pub line : Line → List ℕ

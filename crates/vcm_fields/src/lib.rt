@@ -16,12 +16,12 @@ mod word;
 
 pub use branches::BranchSlice;
 pub use fault::ImageFault;
-pub use fields::{byte_below, long, short};
-pub use items::item;
+pub use fields::{byte_below, known_long, known_short, long, short};
+pub use items::{Tag, item, known_item};
 pub use slices::{ItemSlice, TextSlice};
 pub use standing::{known, known_text};
 pub use statements::{BorrowedOp, BorrowedStatement, branches as read_branches, pair, statement};
-pub use tags::{axis, direction, part, setting, source, word as read_word};
-pub use texts::{name, text};
+pub use tags::{axis, direction, known_word, part, setting, source, word as read_word};
+pub use texts::name;
 pub use variables::{BorrowedVariable, variable};
 pub use word::{Word, has_word};

@@ -4,7 +4,7 @@ ghost use Rattle.std.specs.Prelude.{◌≡◌, ◌∷◌, [], MatchOption};
 ghost use Rattle.vcm_fields.specs.Readers.{Gives, times, item_at};
 
 use crate::fault::ImageFault;
-use crate::items::item;
+use crate::items::{item, known_item};
 use std::alloc::Global;
 use std::marker::Model;
 use vcm_code::{Expression, Line};
@@ -71,16 +71,12 @@ impl<'a> ItemSlice<'a> {
         if self.count == 0 {
             return None;
         }
-        match item(self.bytes) {
-            Ok((first, after)) => Some((
-                first,
-                ItemSlice {
-                    count: self.count - 1,
-                    bytes: after,
-                },
-            )),
-            Err(_) => unreachable!(),
-        }
+        let (first, after) = known_item(self.bytes);
+        let others = ItemSlice {
+            count: self.count - 1,
+            bytes: after,
+        };
+        Some((first, others))
     }
 }
 

@@ -4,7 +4,7 @@ ghost use Rattle.std.specs.Prelude.{◌≡◌, Ok, IfErr};
 ghost use Rattle.vcm_fields.specs.Readers.{Begins, OfFirst, text_at};
 
 use crate::fault::ImageFault;
-use crate::fields::{short, some_bytes};
+use crate::fields::known_short;
 use crate::slices::TextSlice;
 
 /// What was read, where it is known that reading doesn't fail: from the bytes of an image that was read before.
@@ -24,7 +24,7 @@ pub fn known_text(bytes: &[u8]) -> TextSlice<'_>
     requires { Begins text_at (λ t. Unit {0}) bytes.now }
     ensures { OfFirst text_at bytes.now (λ t rest. result ≡ t) }
 {
-    let (count, rest) = known(short(bytes));
-    let (front, _) = known(some_bytes(usize::from(count), rest));
+    let (count, rest) = known_short(bytes);
+    let (front, _) = rest.split_at(usize::from(count));
     TextSlice::new(front)
 }

@@ -1,13 +1,54 @@
 //! Bytes that stand for a word of the language: each is read by its table.
 
-ghost use Rattle.vcm_fields.specs.Readers.{Gives, any_word_at, word_at, kind_at, axis_at, direction_at, setting_at, source_at, part_at};
+ghost use Rattle.std.specs.Prelude.{◌≡◌, Ok, List, ℕ};
+ghost use Rattle.vcm_fields.specs.Shape.{all_words};
+ghost use Rattle.vcm_fields.specs.Spelling.{word_byte};
+ghost use Rattle.vcm_fields.specs.Readers.{Gives, Begins, among, any_word_at, word_at, kind_at, axis_at, direction_at, setting_at, source_at, part_at};
 
 use crate::fault::ImageFault;
-use crate::fields::byte;
+use crate::fields::{byte, known_byte};
+use crate::standing::known;
 use crate::word::{Word, has_word};
 use vcm_code::Version;
 use vcm_num::{Axis, Kind};
 use vcm_spec::{Setting, Source};
+
+// The word with a byte.
+#[inline(always)]
+fn word_with(number: u8) -> Result<Word, ImageFault>
+    ensures { (rest : List ℕ) → Gives (λ w. (w, rest)) result (among word_byte all_words number rest) }
+{
+    match number {
+        0 => Ok(Word::EndFil),
+        1 => Ok(Word::Goto),
+        2 => Ok(Word::GoHome),
+        3 => Ok(Word::Assign),
+        4 => Ok(Word::If),
+        5 => Ok(Word::Else),
+        6 => Ok(Word::EndIf),
+        7 => Ok(Word::Do),
+        8 => Ok(Word::EndDo),
+        9 => Ok(Word::Label),
+        10 => Ok(Word::JumpTo),
+        11 => Ok(Word::Feat),
+        12 => Ok(Word::Meas),
+        13 => Ok(Word::PtMeas),
+        14 => Ok(Word::EndMes),
+        15 => Ok(Word::SnSet),
+        16 => Ok(Word::Trans),
+        17 => Ok(Word::Rotate),
+        18 => Ok(Word::Recall),
+        19 => Ok(Word::Obtain),
+        20 => Ok(Word::Output),
+        21 => Ok(Word::Text),
+        22 => Ok(Word::Select),
+        23 => Ok(Word::Case),
+        24 => Ok(Word::EndCas),
+        25 => Ok(Word::DftCas),
+        26 => Ok(Word::EndSel),
+        _ => Err(ImageFault::BadField),
+    }
+}
 
 // The word of a statement, of any version.
 #[tactic(auto, unfolding(crate::specs::Readers::any_word_at))]
@@ -16,36 +57,17 @@ fn any_word(bytes: &[u8]) -> Result<(Word, &[u8]), ImageFault>
     ensures { Gives (λ x. (x.0, x.1.now)) result (any_word_at bytes.now) }
 {
     let (number, rest) = byte(bytes)?;
-    match number {
-        0 => Ok((Word::EndFil, rest)),
-        1 => Ok((Word::Goto, rest)),
-        2 => Ok((Word::GoHome, rest)),
-        3 => Ok((Word::Assign, rest)),
-        4 => Ok((Word::If, rest)),
-        5 => Ok((Word::Else, rest)),
-        6 => Ok((Word::EndIf, rest)),
-        7 => Ok((Word::Do, rest)),
-        8 => Ok((Word::EndDo, rest)),
-        9 => Ok((Word::Label, rest)),
-        10 => Ok((Word::JumpTo, rest)),
-        11 => Ok((Word::Feat, rest)),
-        12 => Ok((Word::Meas, rest)),
-        13 => Ok((Word::PtMeas, rest)),
-        14 => Ok((Word::EndMes, rest)),
-        15 => Ok((Word::SnSet, rest)),
-        16 => Ok((Word::Trans, rest)),
-        17 => Ok((Word::Rotate, rest)),
-        18 => Ok((Word::Recall, rest)),
-        19 => Ok((Word::Obtain, rest)),
-        20 => Ok((Word::Output, rest)),
-        21 => Ok((Word::Text, rest)),
-        22 => Ok((Word::Select, rest)),
-        23 => Ok((Word::Case, rest)),
-        24 => Ok((Word::EndCas, rest)),
-        25 => Ok((Word::DftCas, rest)),
-        26 => Ok((Word::EndSel, rest)),
-        _ => Err(ImageFault::BadField),
-    }
+    Ok((word_with(number)?, rest))
+}
+
+/// The word of a statement and the bytes behind it, where it is known that one stands there: nothing is tested.
+#[inline(always)]
+pub fn known_word(bytes: &[u8]) -> (Word, &[u8])
+    requires { Begins any_word_at (λ w. Unit {0}) bytes.now }
+    ensures { any_word_at bytes.now ≡ Ok (result.0, result.1.now) }
+{
+    let (number, rest) = known_byte(bytes);
+    (known(word_with(number)), rest)
 }
 
 /// The word of a statement, which the version has.

@@ -5,7 +5,7 @@ use Rattle.std.specs.List.{AllByRecursion}
 use Rattle.vcm_spec.specs.declared.expression.Item.{Item}
 use Rattle.vcm_spec.specs.Setup.{Variable as Entry}
 use Rattle.vcm_code.specs.declared.code.Code.{Code}
-use Rattle.vcm_code.specs.declared.op.Op.TheVariants.{EndFil, Goto, GoHome, Assign, If, Else, EndIf, Do, EndDo, Label, JumpTo, Feat, Meas, PtMeas, EndMes, SnSet, Trans, Rotate, Recall, Obtain, Output, Text, Select, Case, EndCas, DftCas, EndSel}
+use Rattle.vcm_code.specs.declared.op.Op.TheVariants.{EndFil, Goto, Assign, If, Do, EndDo, Feat, PtMeas, SnSet, Trans, Rotate, Obtain, Text, Select}
 use Rattle.vcm_code.specs.Ops.{op_of, statements_of, code_of}
 use Rattle.vcm_code.specs.declared.version.Version.{Version}
 use Rattle.vcm_code.specs.declared.version.Version.TheVariants.{One, Two}
@@ -35,31 +35,19 @@ short items h = in_range 1 1024 (length items) h.0
 op_range : (o : Operation) → FitsOperation o → OpInRange (op_of o)
 op_range EndFil h = tt
 op_range (Goto x y z) h = (short x h.0, short y h.1.0, short z h.1.1)
-op_range GoHome h = tt
 op_range (Assign v e) h = short e h.1
 op_range (If e to) h = short e h.0
-op_range (Else to) h = tt
-op_range EndIf h = tt
 op_range (Do v p a b c exit) h = (h.1.0, short a h.1.1.0.0, short b h.1.1.0.1.0, short c h.1.1.0.1.1)
 op_range (EndDo v p to) h = h.1.0
-op_range Label h = tt
-op_range (JumpTo to) h = tt
 op_range (Feat f x y z toward) h = (short x h.1.0.0, short y h.1.0.1.0, short z h.1.0.1.1)
-op_range (Meas f) h = tt
 op_range (PtMeas f x y z toward) h = (short x h.1.0.0, short y h.1.0.1.0, short z h.1.0.1.1)
-op_range EndMes h = tt
 op_range (SnSet which e) h = short e h.1
 op_range (Trans f x y z) h = (short x h.1.0, short y h.1.1.0, short z h.1.1.1)
 op_range (Rotate f axis quarters) h = (h.1.0, h.1.1)
-op_range (Recall f) h = tt
 op_range (Obtain v source f word) h = in_range 3 8 word h.1.1.1
-op_range (Output source f) h = tt
 op_range (Text bytes) h = h
 op_range (Select e bs to) h = (short e h.0, h.1.0.0)
-op_range Case h = tt
-op_range (EndCas to) h = tt
-op_range DftCas h = tt
-op_range EndSel h = tt
+op_range _ h = tt
 
 lines_range : (v : Version) (ss : List Line) → AllByRecursion (FitsLine v) ss → AllInRange (statements_of ss)
 lines_range v [] h = tt
@@ -68,32 +56,7 @@ lines_range v (s ∷ ss) h = (op_range s.op h.0.1.1, lines_range v ss h.1)
 -- the words of SELECT are those of its statements
 pub same_selection : (o : Operation) → is_selection (op_of o) ≡ is_of_select (word_of o)
 same_selection EndFil = refl
-same_selection (Goto x y z) = refl
-same_selection GoHome = refl
-same_selection (Assign v e) = refl
-same_selection (If e to) = refl
-same_selection (Else to) = refl
-same_selection EndIf = refl
-same_selection (Do v p a b c exit) = refl
-same_selection (EndDo v p to) = refl
-same_selection Label = refl
-same_selection (JumpTo to) = refl
-same_selection (Feat f x y z toward) = refl
-same_selection (Meas f) = refl
-same_selection (PtMeas f x y z toward) = refl
-same_selection EndMes = refl
-same_selection (SnSet which e) = refl
-same_selection (Trans f x y z) = refl
-same_selection (Rotate f axis quarters) = refl
-same_selection (Recall f) = refl
-same_selection (Obtain v source f word) = refl
-same_selection (Output source f) = refl
-same_selection (Text bytes) = refl
-same_selection (Select e bs to) = refl
-same_selection Case = refl
-same_selection (EndCas to) = refl
-same_selection DftCas = refl
-same_selection EndSel = refl
+same_selection _ = refl
 
 neither : (a b : Bool) → not a ≡ true → b ≡ false → (a || b) ≡ false
 neither true b e f = absurd cc
@@ -125,7 +88,7 @@ variables_range : (vs : List Entry) → AllByRecursion FitsEntry vs → AreNamed
 variables_range [] h = tt
 variables_range (v ∷ vs) h = (h.0.1, variables_range vs h.1)
 
-statements_length : (ss : List Line) → length (statements_of ss) ≡ length ss
+pub statements_length : (ss : List Line) → length (statements_of ss) ≡ length ss
 statements_length [] = refl
 statements_length (s ∷ ss) = ap (λ n. suc n) (statements_length ss)
 

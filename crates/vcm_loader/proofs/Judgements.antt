@@ -52,9 +52,6 @@ module _ (n : ℕ) (branches rest after : List Branch) (b : Branch) (h : AreBelo
     first = λ f k. h.first f (subst (λ bs. FirstFailedCheck (targets bs n) f) (sym e) (inl (g.0, k)));
   }
 
-  pub below_told : (f : ImageFault) → FirstFailedCheck (target b.target n ∷ []) f → FirstFailedCheck (targets branches n) f
-  below_told f k = h.first f (subst (λ bs. FirstFailedCheck (targets bs n) f) (sym e) (first_here (target b.target n ∷ []) (targets after n) f k))
-
 pub below_all : (n : ℕ) (branches rest : List Branch) → AreBelow n branches rest → rest ≡ [] → AllHold (targets branches n)
 below_all n branches rest h e = h.on (subst (λ bs. AllHold (targets bs n)) (sym e) tt)
 

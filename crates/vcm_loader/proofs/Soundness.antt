@@ -10,18 +10,18 @@ use Rattle.vcm_spec.specs.Setup.{Tables}
 use Rattle.vcm_spec.specs.Fitting.{kinds}
 use Rattle.vcm_expr.specs.inner.Runs.{ItemsFit}
 use Rattle.vcm_expr.proofs.Runs.{ItemsFit-typed}
-use Rattle.vcm_code.specs.declared.op.Op.TheVariants.{EndFil, Goto, GoHome, Assign, If, Else, EndIf, Do, EndDo, Label, JumpTo, Feat, Meas, PtMeas, EndMes, SnSet, Trans, Rotate, Recall, Obtain, Output, Text, Select, Case, EndCas, DftCas, EndSel}
+use Rattle.vcm_code.specs.declared.op.Op.TheVariants.{EndFil, Goto, Assign, If, Else, Do, EndDo, JumpTo, Feat, Meas, PtMeas, SnSet, Trans, Rotate, Recall, Obtain, Output, Select, EndCas}
 use Rattle.vcm_code.specs.declared.branch.Branch.{Branch}
 use Rattle.vcm_code.specs.declared.code.Code.{Code}
 use Rattle.vcm_code.specs.Ops.{op_of, statements_of, code_of}
 use Rattle.vcm_code.specs.Valid.{AllBelow, OpFits, AllFit, Ends, IsValid}
 use Rattle.vcm_fields.specs.Parts.{Operation, Line}
+use Rattle.vcm_image.proofs.ImageLaws.{statements_length}
 use Rattle.vcm_loader.specs.Checks.{Counts, target, targets, ItemsBelow, AllHold, wants, three, variable, op_checks, line_checks, checks}
 use Rattle.vcm_loader.proofs.Judgements.{hold_append, hold_front, hold_back}
-use Rattle.vcm_loader.proofs.Validity.{statements_length}
 
 -- what operands are judged by, in a code with these tables and so many statements
-abbrev judged_by : Tables → ℕ → Counts
+abbrev pub judged_by : Tables → ℕ → Counts
 judged_by t n = record { kinds = kinds t; features = length t.features; frames = length t.frames; statements = n }
 
 -- the targets of branches are below the count where their checks hold
@@ -37,32 +37,25 @@ below_targets n (b ∷ bs) h = (h.0, below_targets n bs h.1)
 op_fits : (t : Tables) (n : ℕ) (o : Operation) → AllHold (op_checks (judged_by t n) o) → OpFits t n (op_of o)
 op_fits t n EndFil h = tt
 op_fits t n (Goto x y z) h = (h.1.0, h.1.1.1.0, h.1.1.1.1.1.0)
-op_fits t n GoHome h = tt
 op_fits t n (Assign v e) h = h.1.1.0
 op_fits t n (If e to) h = (h.1.0, h.1.1.0)
 op_fits t n (Else to) h = h.0
-op_fits t n EndIf h = tt
 op_fits t n (Do v p a b c exit) h = (h.1.0, h.1.1.1.0, h.1.1.1.1.1.0, h.1.1.1.1.1.1.1.0, h.1.1.1.1.1.1.1.1.0)
 op_fits t n (EndDo v p to) h = (h.1.0, h.1.1.0)
-op_fits t n Label h = tt
 op_fits t n (JumpTo to) h = h.0
 op_fits t n (Feat f x y z d) h = (h.0, (h.1.1.0, h.1.1.1.1.0, h.1.1.1.1.1.1.0))
 op_fits t n (Meas f) h = h.0
 op_fits t n (PtMeas f x y z d) h = (h.0, (h.1.1.0, h.1.1.1.1.0, h.1.1.1.1.1.1.0))
-op_fits t n EndMes h = tt
 op_fits t n (SnSet which e) h = h.1.0
 op_fits t n (Trans f x y z) h = (h.0, (h.1.1.0, h.1.1.1.1.0, h.1.1.1.1.1.1.0))
 op_fits t n (Rotate f axis quarters) h = h.0
 op_fits t n (Recall f) h = h.0
 op_fits t n (Obtain v source f word) h = (h.1.0, h.1.1.0)
 op_fits t n (Output source f) h = h.0
-op_fits t n (Text bytes) h = tt
 op_fits t n (Select e bs to) h =
     (h.1.0, targets_below n bs (hold_front (targets bs n) (target to n ∷ []) h.1.1), (hold_back (targets bs n) (target to n ∷ []) h.1.1).0)
-op_fits t n Case h = tt
 op_fits t n (EndCas to) h = h.0
-op_fits t n DftCas h = tt
-op_fits t n EndSel h = tt
+op_fits t n _ h = tt
 
 all_fit : (t : Tables) (n : ℕ) (ss : List Line) → AllHold (line_checks (judged_by t n) ss) → AllFit t n (statements_of ss)
 all_fit t n [] h = tt
@@ -100,38 +93,31 @@ variable_holds : (ks : List Kind) (v : ℕ) (k : Kind) → slice_get ks v ≡ So
 variable_holds ks v k e = (slice_get_within ks v k e, (e, tt))
 
 -- a statement's checks hold where it fits
-op_holds : (t : Tables) (n : ℕ) (o : Operation) → OpFits t n (op_of o) → AllHold (op_checks (judged_by t n) o)
+pub op_holds : (t : Tables) (n : ℕ) (o : Operation) → OpFits t n (op_of o) → AllHold (op_checks (judged_by t n) o)
 op_holds t n EndFil f = tt
 op_holds t n (Goto x y z) f = three_hold (kinds t) x y z Real f.0 f.1 f.2
-op_holds t n GoHome f = tt
 op_holds t n (Assign v e) f = (slice_get_within (kinds t) v f.0 f.1, (typed_below (kinds t) e f.0 f.2, (f, tt)))
 op_holds t n (If e to) f = (typed_below (kinds t) e Bool f.0, (f.0, (f.1, tt)))
 op_holds t n (Else to) f = (f, tt)
-op_holds t n EndIf f = tt
 op_holds t n (Do v p a b c exit) f =
     let last : AllHold (target exit n ∷ []) = (f.4, tt) in
     let values = hold_append (three (kinds t) a b c Int) (target exit n ∷ []) (three_hold (kinds t) a b c Int f.1 f.2 f.3) last in
     hold_append (variable (kinds t) v Int) (three (kinds t) a b c Int ++ (target exit n ∷ [])) (variable_holds (kinds t) v Int f.0) values
 op_holds t n (EndDo v p to) f = (slice_get_within (kinds t) v Int f.0, (f.0, (f.1, tt)))
-op_holds t n Label f = tt
 op_holds t n (JumpTo to) f = (f, tt)
 op_holds t n (Feat i x y z d) f = (f.0, three_hold (kinds t) x y z Real f.1.0 f.1.1 f.1.2)
 op_holds t n (Meas i) f = (f, tt)
 op_holds t n (PtMeas i x y z d) f = (f.0, three_hold (kinds t) x y z Real f.1.0 f.1.1 f.1.2)
-op_holds t n EndMes f = tt
 op_holds t n (SnSet which e) f = wants_hold (kinds t) e Real f
 op_holds t n (Trans i x y z) f = (f.0, three_hold (kinds t) x y z Real f.1.0 f.1.1 f.1.2)
 op_holds t n (Rotate i axis quarters) f = (f, tt)
 op_holds t n (Recall i) f = (f, tt)
 op_holds t n (Obtain v source i word) f = (slice_get_within (kinds t) v Real f.0, (f.0, (f.1, tt)))
 op_holds t n (Output source i) f = (f, tt)
-op_holds t n (Text bytes) f = tt
 op_holds t n (Select e bs to) f =
     (typed_below (kinds t) e Int f.0, (f.0, hold_append (targets bs n) (target to n ∷ []) (below_targets n bs f.1) (f.2, tt)))
-op_holds t n Case f = tt
 op_holds t n (EndCas to) f = (f, tt)
-op_holds t n DftCas f = tt
-op_holds t n EndSel f = tt
+op_holds t n _ f = tt
 
 all_hold : (t : Tables) (n : ℕ) (ss : List Line) → AllFit t n (statements_of ss) → AllHold (line_checks (judged_by t n) ss)
 all_hold t n [] f = tt

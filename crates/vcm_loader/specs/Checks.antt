@@ -1,17 +1,16 @@
 -- What a valid code wants, as one list of checks in the order of its statements and their operands.
 use Rattle.std.specs.Prelude.{◌≡◌, ◌<◌, ℕ, List, [], ◌∷◌, ◌++◌, length, Some, slice_get}
 use Rattle.vcm_num.specs.declared.number.Kind.{Kind}
-use Rattle.vcm_num.specs.declared.number.Kind.TheVariants.{Int, Real, Bool}
 use Rattle.vcm_spec.specs.declared.expression.Item.{Item}
 use Rattle.vcm_spec.specs.declared.expression.Item.TheVariants.{Push, Apply, Combine}
 use Rattle.vcm_spec.specs.Expression.{HasKind}
 use Rattle.vcm_spec.specs.Fitting.{kinds as kinds_of}
 use Rattle.vcm_expr.specs.Typed.{VariableBelow}
-use Rattle.vcm_code.specs.declared.op.Op.TheVariants.{EndFil, Goto, GoHome, Assign, If, Else, EndIf, Do, EndDo, Label, JumpTo, Feat, Meas}
 use Rattle.vcm_code.specs.declared.branch.Branch.{Branch}
-use Rattle.vcm_code.specs.declared.op.Op.TheVariants.{PtMeas, EndMes, SnSet, Trans, Rotate, Recall, Obtain, Output, Text, Select, Case, EndCas, DftCas, EndSel}
 use Rattle.vcm_code.specs.declared.code.Code.{Code}
 use Rattle.vcm_fields.specs.Parts.{Operation, Line}
+use Rattle.vcm_fields.specs.Shape.{Place, Said, Filled, places, Parted, parted, taken_apart}
+use Rattle.vcm_fields.specs.Shape as at
 
 -- what operands are judged by: the kinds of the variables, and how many features, frames and statements there are
 pub record Counts : Type 0 where
@@ -82,35 +81,31 @@ abbrev pub targets : List Branch → ℕ → List Check
 targets [] count = []
 targets (b ∷ bs) count = target b.target count ∷ targets bs count
 
+-- what stands in a place; of what has no index, no target and no kind nothing is wanted
+abbrev pub place_checks : Counts → (p : Place) → Said p → List Check
+place_checks t (at.variable k) v = variable t.kinds v k
+place_checks t at.feature f = index f t.features ∷ []
+place_checks t at.frame f = index f t.frames ∷ []
+place_checks t at.target to = target to t.statements ∷ []
+place_checks t (at.items k) e = wants t.kinds e k
+place_checks t (at.three k) e = three t.kinds e.0 e.1.0 e.1.1 k
+place_checks t at.assigned o = index o.0 (length t.kinds) ∷ indexes o.1 (length t.kinds) ∷ assigned t.kinds o.0 o.1 ∷ []
+place_checks t at.branches bs = targets bs t.statements
+place_checks t _ x = []
+
+-- what stands in places, in their order
+abbrev pub filled_checks : Counts → (ps : List Place) → Filled ps → List Check
+filled_checks t [] f = []
+filled_checks t (p ∷ []) f = place_checks t p f
+filled_checks t (p ∷ q ∷ ps) f = place_checks t p f.0 ++ filled_checks t (q ∷ ps) f.1
+
+-- a statement taken apart
+abbrev pub parted_checks : Counts → Parted → List Check
+parted_checks t (parted w f) = filled_checks t (places w) f
+
 -- a statement: its operands in their order
 abbrev pub op_checks : Counts → Operation → List Check
-op_checks t EndFil = []
-op_checks t (Goto x y z) = three t.kinds x y z Real
-op_checks t GoHome = []
-op_checks t (Assign v e) = index v (length t.kinds) ∷ indexes e (length t.kinds) ∷ assigned t.kinds v e ∷ []
-op_checks t (If e to) = wants t.kinds e Bool ++ (target to t.statements ∷ [])
-op_checks t (Else to) = target to t.statements ∷ []
-op_checks t EndIf = []
-op_checks t (Do v p a b c exit) = variable t.kinds v Int ++ (three t.kinds a b c Int ++ (target exit t.statements ∷ []))
-op_checks t (EndDo v p to) = variable t.kinds v Int ++ (target to t.statements ∷ [])
-op_checks t Label = []
-op_checks t (JumpTo to) = target to t.statements ∷ []
-op_checks t (Feat f x y z toward) = index f t.features ∷ three t.kinds x y z Real
-op_checks t (Meas f) = index f t.features ∷ []
-op_checks t (PtMeas f x y z toward) = index f t.features ∷ three t.kinds x y z Real
-op_checks t EndMes = []
-op_checks t (SnSet which e) = wants t.kinds e Real
-op_checks t (Trans f x y z) = index f t.frames ∷ three t.kinds x y z Real
-op_checks t (Rotate f axis quarters) = index f t.frames ∷ []
-op_checks t (Recall f) = index f t.frames ∷ []
-op_checks t (Obtain v source f word) = variable t.kinds v Real ++ (index f t.features ∷ [])
-op_checks t (Output source f) = index f t.features ∷ []
-op_checks t (Text bytes) = []
-op_checks t (Select e branches to) = wants t.kinds e Int ++ (targets branches t.statements ++ (target to t.statements ∷ []))
-op_checks t Case = []
-op_checks t (EndCas to) = target to t.statements ∷ []
-op_checks t DftCas = []
-op_checks t EndSel = []
+op_checks t o = parted_checks t (taken_apart o)
 
 -- all statements, one behind the other
 abbrev pub line_checks : Counts → List Line → List Check

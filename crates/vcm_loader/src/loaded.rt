@@ -19,7 +19,7 @@ use crate::walking;
 use std::alloc::Global;
 use std::marker::Model;
 use vcm_code::Version;
-use vcm_fields::{BorrowedStatement, BorrowedVariable, TextSlice, Word, known, long, read_word};
+use vcm_fields::{BorrowedStatement, BorrowedVariable, TextSlice, Word, known_long, known_word};
 use vcm_image::Scanned;
 use vcm_num::{Fault, NoMemory};
 use vcm_tables::Tables;
@@ -144,15 +144,25 @@ impl<'a> Loaded<'a> {
         self.scanned.bytes_from(n)
     }
 
-    /// The word of a statement, its source line, and the bytes of the image from its operands on, for readers that carry it out as they read it.
+    // The word of a statement, its source line, and the bytes of the image from its operands on.
     #[inline(always)]
-    pub fn operands(&self, n: usize) -> (Word, u32, &'a [u8])
+    fn head(&self, n: usize) -> (Word, u32, &'a [u8])
         requires { n < length self.now.statements }
         ensures { (s : Line) × (slice_get self.now.statements n ≡ Some s) × (result.1 ≡ s.line) × Begins (operands_at result.0) (λ op. op ≡ s.op) result.2.now }
     {
-        let (word, rest) = known(read_word(self.version(), self.bytes_from(n)));
-        let (line, operands) = known(long(rest));
+        let (word, rest) = known_word(self.bytes_from(n));
+        let (line, operands) = known_long(rest);
         (word, line, operands)
+    }
+
+    /// The word of a statement, and the bytes of the image from its operands on, for readers that carry it out as they read it.
+    #[inline(always)]
+    pub fn operands(&self, n: usize) -> (Word, &'a [u8])
+        requires { n < length self.now.statements }
+        ensures { (s : Line) × (slice_get self.now.statements n ≡ Some s) × Begins (operands_at result.0) (λ op. op ≡ s.op) result.1.now }
+    {
+        let (word, _, operands) = self.head(n);
+        (word, operands)
     }
 
     /// The source line of a statement, whose operands are not read.
@@ -160,7 +170,7 @@ impl<'a> Loaded<'a> {
         requires { n < length self.now.statements }
         ensures { (s : Line) × (slice_get self.now.statements n ≡ Some s) × (result ≡ s.line) }
     {
-        let (_, line, _) = self.operands(n);
+        let (_, line, _) = self.head(n);
         line
     }
 

@@ -29,7 +29,8 @@ use vcm_state::{Halt, World};
 /// bytes behind it.
 ///
 /// Errors: `Overflow` or `DivZero`, whichever comes first.
-pub(crate) fn value<'a>(
+#[inline(always)]
+fn value_here<'a>(
     stack: &mut BoundedStack<i64>,
     world: &World,
     bytes: &'a [u8],
@@ -46,9 +47,42 @@ pub(crate) fn value<'a>(
     }
 }
 
+/// The same, apart from what calls it.
+#[inline(never)]
+pub(crate) fn value<'a>(
+    stack: &mut BoundedStack<i64>,
+    world: &World,
+    bytes: &'a [u8],
+) -> Result<(i64, &'a [u8]), Stop>
+    requires { (k : Kind) × Begins expression_at (λ e. HasItems world.now.tables e k) bytes.now }
+    ensures value { IfOk result (λ x. OfFirst expression_at bytes.now (λ e rest. (calculated (items_value world.now.state.variables e) ≡ Gives x.0) × (x.1.now ≡ rest))) }
+    ensures fault { IfErr result (λ why. OfFirst expression_at bytes.now (λ e rest. calculated (items_value world.now.state.variables e) ≡ Stops why)) }
+{
+    value_here(stack, world, bytes)
+}
+
+/// The value of the expression that the bytes begin with, where nothing behind it is read.
+///
+/// Errors: `Overflow` or `DivZero`, whichever comes first.
+#[inline(never)]
+pub(crate) fn last_value(
+    stack: &mut BoundedStack<i64>,
+    world: &World,
+    bytes: &[u8],
+) -> Result<i64, Stop>
+    requires { (k : Kind) × Begins expression_at (λ e. HasItems world.now.tables e k) bytes.now }
+    ensures value { IfOk result (λ x. OfFirst expression_at bytes.now (λ e rest. calculated (items_value world.now.state.variables e) ≡ Gives x)) }
+    ensures fault { IfErr result (λ why. OfFirst expression_at bytes.now (λ e rest. calculated (items_value world.now.state.variables e) ≡ Stops why)) }
+    ensures truth { IfOk result (λ x. Begins expression_at (λ e. HasItems world.now.tables e Kind.Bool) bytes.now → IsTruth x) }
+{
+    let (value, _) = value_here(stack, world, bytes)?;
+    Ok(value)
+}
+
 /// The truth value of the test that the bytes begin with, in a state of the machine, and the bytes behind it.
 ///
 /// Errors: `Overflow` or `DivZero`, whichever comes first.
+#[inline(never)]
 pub(crate) fn test<'a>(
     stack: &mut BoundedStack<i64>,
     world: &World,
@@ -58,7 +92,7 @@ pub(crate) fn test<'a>(
     ensures value { IfOk result (λ x. OfFirst expression_at bytes.now (λ e rest. (test_in items_value world.now.state e ≡ Gives x.0) × (x.1.now ≡ rest))) }
     ensures fault { IfErr result (λ why. OfFirst expression_at bytes.now (λ e rest. test_in items_value world.now.state e ≡ Stops why)) }
 {
-    let (value, rest) = value(stack, world, bytes)?;
+    let (value, rest) = value_here(stack, world, bytes)?;
     Ok((is_true(value), rest))
 }
 
@@ -80,6 +114,7 @@ pub(crate) struct Lengths {
 /// The values of the three expressions that the bytes begin with, which are evaluated in the order x, y, z, and the bytes behind them.
 ///
 /// Errors: `Overflow` or `DivZero`, whichever comes first.
+#[inline(never)]
 pub(crate) fn three_lengths<'a>(
     stack: &mut BoundedStack<i64>,
     world: &World,
@@ -89,9 +124,9 @@ pub(crate) fn three_lengths<'a>(
     ensures lengths { IfOk result (λ x. OfFirst three_at bytes.now (λ o rest. (lengths_in world.now.state o.0 o.1.0 o.1.1 ≡ Gives x.0) × (x.1.now ≡ rest))) }
     ensures fault { IfErr result (λ why. OfFirst three_at bytes.now (λ o rest. lengths_in world.now.state o.0 o.1.0 o.1.1 ≡ Stops why)) }
 {
-    let (x, bytes) = value(stack, world, bytes)?;
-    let (y, bytes) = value(stack, world, bytes)?;
-    let (z, bytes) = value(stack, world, bytes)?;
+    let (x, bytes) = value_here(stack, world, bytes)?;
+    let (y, bytes) = value_here(stack, world, bytes)?;
+    let (z, bytes) = value_here(stack, world, bytes)?;
     Ok((Lengths { x, y, z }, bytes))
 }
 
@@ -136,7 +171,7 @@ pub(crate) fn assign(
     ensures tables { world.new.tables ≡ world.old.tables }
 {
     let (variable, rest) = known(short(bytes));
-    let (value, _) = value(stack, world, rest)?;
+    let value = last_value(stack, world, rest)?;
     world.assign(variable, value)
 }
 

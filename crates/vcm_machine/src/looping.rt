@@ -16,7 +16,7 @@ ghost use Rattle.vcm_machine.specs.inner.Going.{HasTurned};
 use crate::acting::value;
 use vcm_code::Pair;
 use vcm_expr::BoundedStack;
-use vcm_fields::{known, long, pair, short};
+use vcm_fields::{known, known_long, known_short, long, pair, short};
 use vcm_num::{Fault, add};
 use vcm_spec::Stop;
 use vcm_state::World;
@@ -151,7 +151,7 @@ pub(crate) fn turn(
         HasTurned (do_op setup (EndDo o.0 o.1.0 o.1.1) line world.old.state next pairs.now) next line world.old.state world.new.state pairs.now pairs.now result) }
     ensures tables { world.new.tables ≡ world.old.tables }
 {
-    let (variable, rest) = known(short(bytes));
+    let (variable, rest) = known_short(bytes);
     let (pair, rest) = known(pair(rest));
     let saved = pair_at(pairs, pair);
     if is_zero(saved.increment) {
@@ -161,7 +161,7 @@ pub(crate) fn turn(
     if is_past(world, variable, saved.limit, saved.increment) {
         Ok(next + 1)
     } else {
-        let (target, _) = known(long(rest));
+        let (target, _) = known_long(rest);
         Ok(target)
     }
 }

@@ -141,7 +141,7 @@ impl<'a, P: Part> Machine<'a, P> {
         ensures err { OnErr result ((self.new ≡ self.old) × WantsMemory self.old) }
     {
         let loaded = self.loaded;
-        let (word, line, operands) = loaded.operands(self.next as usize);
+        let (word, operands) = loaded.operands(self.next as usize);
         match carry_out(
             alloc,
             &mut self.stack,
@@ -157,6 +157,7 @@ impl<'a, P: Part> Machine<'a, P> {
                 Ok(())
             }
             Err(Halt::Stop(stop)) => {
+                let line = loaded.line(self.next as usize);
                 self.world.set_stop(stop, self.next, line);
                 Ok(())
             }

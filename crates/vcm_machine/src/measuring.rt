@@ -12,7 +12,7 @@ ghost use Rattle.vcm_state.specs.Carried.{Carried};
 ghost use Rattle.vcm_code.specs.Valid.{HasItems};
 ghost use Rattle.vcm_fields.specs.Readers.{Begins, OfFirst, both, variable_at, expression_at, three_at, axis_at, direction_at, setting_at};
 
-use crate::acting::{three_lengths, value};
+use crate::acting::{last_value, three_lengths};
 use vcm_expr::BoundedStack;
 use vcm_fields::{axis, direction, known, setting, short};
 use vcm_motion::Part;
@@ -72,6 +72,6 @@ pub(crate) fn set_length(
     ensures tables { world.new.tables ≡ world.old.tables }
 {
     let (which, rest) = known(setting(bytes));
-    let (length, _) = value(stack, world, rest)?;
+    let length = last_value(stack, world, rest)?;
     world.snset(which, length)
 }

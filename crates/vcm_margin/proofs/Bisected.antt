@@ -24,10 +24,6 @@ module _ (part : Workpiece) (c : Code) (n tip beyond : ℕ) (found : Option Diff
   pub wider : (between : ℕ) → between < beyond → GoesWith part c n between → IsBetween part c n between beyond found
   wider between below goes = record { order = below; most = h.most; goes = goes; met = h.met }
 
-  -- it doesn't
-  pub narrower : (between : ℕ) → tip < between → between < beyond → (d : Difference) → IsMet part c n between d → IsBetween part c n tip between (Some d)
-  narrower between above below d met = record { order = above; most = omega (arith, h.most, below); goes = h.goes; met = met }
-
   -- the two are neighbours
   pub ends_at : beyond - tip ≤ 1 → IsMargin part c n (record { tip = tip; met = found })
   ends_at near = record { goes = h.goes; met = subst (λ k. MetBy part c n k found) (let e : beyond ≡ tip + 1 = omega (arith, h.order, near) in e) h.met }

@@ -2,14 +2,12 @@
 
 ghost use Rattle.std.specs.Prelude.{◌≡◌};
 
-use crate::growth_tests::{LOOP, image_of};
+use crate::growth_tests::{LOOP, beside_block};
 use crate::scarce::Scarce;
 use std::alloc::Global;
 use vcm_debug::{Command, Count, Reply, Session, serve};
-use vcm_loader::{Loaded, load};
-use vcm_motion::{Blocks, Part};
-use vcm_part::read_part;
-use vcm_test_texts::{BOUNDS, ONE_BLOCK, joined};
+use vcm_loader::Loaded;
+use vcm_motion::Part;
 
 // Whether a reply tells that the session stands behind so many steps.
 fn stands(reply: &Reply, steps: u64) -> bool {
@@ -78,11 +76,11 @@ fn back_refusals<P: Part>(alloc: Global, loaded: &Loaded<'_>, part: &P) -> Optio
 
 // The same of the loop beside one block.
 fn loop_back_refusals(alloc: Global) -> Option<u32> {
-    let file = joined(alloc, &[BOUNDS, ONE_BLOCK])?;
-    let part = read_part(alloc, file.as_bytes()).ok()?;
-    let image = image_of(alloc, LOOP)?;
-    let loaded = load(alloc, &image).ok()?;
-    back_refusals(alloc, &loaded, &Blocks::new(&part))
+    beside_block(
+        alloc,
+        LOOP,
+        |loaded, part| back_refusals(alloc, loaded, part),
+    )
 }
 
 #[test]
@@ -183,11 +181,11 @@ fn all_go_back<P: Part>(alloc: Global, loaded: &Loaded<'_>, part: &P) -> Option<
 
 // The same of the moves beside one block.
 fn moves_go_back(alloc: Global) -> Option<bool> {
-    let file = joined(alloc, &[BOUNDS, ONE_BLOCK])?;
-    let part = read_part(alloc, file.as_bytes()).ok()?;
-    let image = image_of(alloc, MOVES)?;
-    let loaded = load(alloc, &image).ok()?;
-    all_go_back(alloc, &loaded, &Blocks::new(&part))
+    beside_block(
+        alloc,
+        MOVES,
+        |loaded, part| all_go_back(alloc, loaded, part),
+    )
 }
 
 #[test]
@@ -230,11 +228,11 @@ fn session_ends<P: Part>(
 
 // The same of the long loop beside one block.
 fn long_loop_ends(alloc: Global, budget: usize) -> Option<bool> {
-    let file = joined(alloc, &[BOUNDS, ONE_BLOCK])?;
-    let part = read_part(alloc, file.as_bytes()).ok()?;
-    let image = image_of(alloc, LONG)?;
-    let loaded = load(alloc, &image).ok()?;
-    session_ends(alloc, &loaded, &Blocks::new(&part), budget)
+    beside_block(
+        alloc,
+        LONG,
+        |loaded, part| session_ends(alloc, loaded, part, budget),
+    )
 }
 
 #[test]

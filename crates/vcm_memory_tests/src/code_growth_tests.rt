@@ -2,19 +2,18 @@
 
 ghost use Rattle.vcm_image.specs.Whole.{FitsImage};
 
-use crate::growth_tests::{LOOP, image_of};
+use crate::growth_tests::{LOOP, beside_block, image_of};
 use crate::sweep::{Told, answer, refusal, refusals};
 use std::alloc::Global;
 use vcm_asm::assemble;
 use vcm_code::Code;
 use vcm_fields::ImageFault;
 use vcm_image::{read, write};
-use vcm_loader::{Loaded, load};
+use vcm_loader::Loaded;
 use vcm_machine::Machine;
-use vcm_motion::{Blocks, Part};
-use vcm_part::read_part;
+use vcm_motion::Part;
 use vcm_state::World;
-use vcm_test_texts::{BOUNDS, ONE_BLOCK, joined, program_of};
+use vcm_test_texts::program_of;
 use vcm_tree::{Accepted, accept};
 
 // What assembling a program of so many statements tells.
@@ -152,11 +151,11 @@ fn machine_refusals<P: Part>(
 
 // The same of the loop beside one block.
 fn loop_refusals(alloc: Global) -> Option<(u32, u32, u32)> {
-    let file = joined(alloc, &[BOUNDS, ONE_BLOCK])?;
-    let part = read_part(alloc, file.as_bytes()).ok()?;
-    let image = image_of(alloc, LOOP)?;
-    let loaded = load(alloc, &image).ok()?;
-    machine_refusals(alloc, &loaded, &Blocks::new(&part))
+    beside_block(
+        alloc,
+        LOOP,
+        |loaded, part| machine_refusals(alloc, loaded, part),
+    )
 }
 
 #[test]

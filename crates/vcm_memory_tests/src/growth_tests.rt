@@ -4,10 +4,11 @@ use crate::sweep::{Told, answer, refusal, refusals};
 use std::alloc::Global;
 use vcm_fields::ImageFault;
 use vcm_lines::{FaultCode, SourceFault};
-use vcm_loader::load;
-use vcm_part::PartCode;
+use vcm_loader::{Loaded, load};
+use vcm_motion::Blocks;
+use vcm_part::{PartCode, read_part};
 use vcm_run::{Refusal, build_image};
-use vcm_test_texts::program_of;
+use vcm_test_texts::{BOUNDS, ONE_BLOCK, joined, program_of};
 use vcm_tree::accept;
 
 // A macro that is called twice.
@@ -76,6 +77,21 @@ fn building(alloc: Global, program: &[u8], image: &[u8]) -> Told {
 pub(crate) fn image_of(alloc: Global, lines: &str) -> Option<Vec<u8>> {
     let program = program_of(alloc, lines)?;
     Some(build_image(alloc, program.as_bytes()).ok()?.image)
+}
+
+/// What a call tells of the image of the program with these statements, loaded, and of a part with one block.
+pub(crate) fn beside_block<T: Copy, F: FnOnce(&Loaded<'_>, &Blocks<'_>) -> Option<T>>(
+    alloc: Global,
+    lines: &str,
+    call: F,
+) -> Option<T>
+    requires { F.IsAlwaysCallable call }
+{
+    let file = joined(alloc, &[BOUNDS, ONE_BLOCK])?;
+    let part = read_part(alloc, file.as_bytes()).ok()?;
+    let image = image_of(alloc, lines)?;
+    let loaded = load(alloc, &image).ok()?;
+    call(&loaded, &Blocks::new(&part))
 }
 
 // How often building it is refused.

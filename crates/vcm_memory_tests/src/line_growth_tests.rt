@@ -1,14 +1,12 @@
 //! Growths of memory that are refused to one output line after another.
 
-use crate::growth_tests::image_of;
+use crate::growth_tests::beside_block;
 use crate::scarce::Scarce;
 use std::alloc::Global;
 use vcm_debug::{Command, Count, Reply, Session};
-use vcm_loader::{Loaded, load};
+use vcm_loader::Loaded;
 use vcm_machine::{End, Machine};
-use vcm_motion::{Blocks, Part};
-use vcm_part::read_part;
-use vcm_test_texts::{BOUNDS, ONE_BLOCK, joined};
+use vcm_motion::Part;
 
 // The loop that prints three lines, in eight steps: the first one in the second step, and then one in each second step.
 const THREE: &str = "DECL/INTGR,I\nDO/I,1,3,1\nTEXT/OPER,'A'\nENDDO\n";
@@ -115,11 +113,11 @@ fn each_is_refused<P: Part>(
 
 // The same of the loop beside one block.
 fn lines_are_refused(alloc: Global, is_session: bool) -> Option<bool> {
-    let file = joined(alloc, &[BOUNDS, ONE_BLOCK])?;
-    let part = read_part(alloc, file.as_bytes()).ok()?;
-    let image = image_of(alloc, THREE)?;
-    let loaded = load(alloc, &image).ok()?;
-    each_is_refused(alloc, &loaded, &Blocks::new(&part), is_session)
+    beside_block(
+        alloc,
+        THREE,
+        |loaded, part| each_is_refused(alloc, loaded, part, is_session),
+    )
 }
 
 #[test]

@@ -1,10 +1,10 @@
 //! Growths of memory that are refused to runs and sessions.
 
-use crate::growth_tests::{LOOP, image_of, is_refused};
+use crate::growth_tests::{LOOP, beside_block, is_refused};
 use crate::sweep::{Told, answer, refusal, refusals};
 use std::alloc::Global;
 use vcm_debug::{Command, Reply, Session};
-use vcm_loader::{Loaded, load};
+use vcm_loader::Loaded;
 use vcm_motion::{Blocks, Part};
 use vcm_part::read_part;
 use vcm_run::{End, Refusal, Summary, run_text};
@@ -86,12 +86,11 @@ fn opening<P: Part>(alloc: Global, loaded: &Loaded<'_>, part: &P) -> Told {
 
 // How often opening it is refused.
 fn session_refusals(alloc: Global) -> Option<u32> {
-    let file = joined(alloc, &[BOUNDS, ONE_BLOCK])?;
-    let part = read_part(alloc, file.as_bytes()).ok()?;
-    let part = Blocks::new(&part);
-    let image = image_of(alloc, LOOP)?;
-    let loaded = load(alloc, &image).ok()?;
-    refusals(alloc, |alloc| opening(alloc, &loaded, &part))
+    beside_block(
+        alloc,
+        LOOP,
+        |loaded, part| refusals(alloc, |alloc| opening(alloc, loaded, part)),
+    )
 }
 
 #[test]

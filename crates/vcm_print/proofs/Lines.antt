@@ -104,31 +104,11 @@ operands_are : (op : Operation) → flat_map column_words (columns op) ≡ opera
 unfolding columns
 operands_are ops.EndFil = refl
 operands_are (ops.Goto x y z) = append-nil (expression x ++ (expression y ++ expression z))
-operands_are ops.GoHome = refl
 operands_are (ops.Assign v e) = ap (λ l. (86 ∷ decimal v) ∷ l) (append-nil (expression e))
-operands_are (ops.If e to) = refl
-operands_are (ops.Else to) = refl
-operands_are ops.EndIf = refl
-operands_are (ops.Do v p a b c to) = refl
-operands_are (ops.EndDo v p to) = refl
-operands_are ops.Label = refl
-operands_are (ops.JumpTo to) = refl
-operands_are (ops.Feat f x y z d) = refl
-operands_are (ops.Meas f) = refl
-operands_are (ops.PtMeas f x y z d) = refl
-operands_are ops.EndMes = refl
 operands_are (ops.SnSet which e) = ap (λ l. setting_text which ∷ l) (append-nil (expression e))
 operands_are (ops.Trans f x y z) = ap (λ l. (68 ∷ decimal f) ∷ l) (append-nil (expression x ++ (expression y ++ expression z)))
-operands_are (ops.Rotate f axis quarters) = refl
-operands_are (ops.Recall f) = refl
-operands_are (ops.Obtain v source f word) = refl
-operands_are (ops.Output source f) = refl
 operands_are (ops.Text bs) = append-nil (split 32 (39 ∷ bs ++ 39 ∷ []))
-operands_are (ops.Select e bs to) = refl
-operands_are ops.Case = refl
-operands_are (ops.EndCas to) = refl
-operands_are ops.DftCas = refl
-operands_are ops.EndSel = refl
+operands_are _ = refl
 
 assoc : (a b c p e : List ℕ) → (a ++ (b ++ (c ++ p))) ++ e ≡ (a ++ (b ++ c)) ++ (p ++ e)
 assoc a b c p e =

@@ -6,7 +6,7 @@ use Rattle.vcm_code.specs.declared.code.Code.{Code}
 use Rattle.vcm_code.specs.Code.{Code as Meaning}
 use Rattle.vcm_code.specs.Ops.{code_of}
 use Rattle.vcm_fields.specs.Parts.{Line}
-use Rattle.vcm_loader.proofs.Validity.{statements_length}
+use Rattle.vcm_image.proofs.ImageLaws.{statements_length}
 use Rattle.vcm_machine.specs.Running.{Running, later}
 use Rattle.vcm_trace.specs.declared.tracing.TraceFault.{TraceFault}
 use Rattle.vcm_trace.specs.declared.tracing.TraceFault.TheVariants as faults

@@ -42,11 +42,13 @@ goes_nowhere = refl
 abbrev middle : Touching
 middle = touching one_block opening_settings (centre_of one_block (coordinate (at 20000 20000 20500)) PlusZ) PlusZ 7
 
+-- a touch of its face: to the approach point, down to the face, and up again
 pub touched : marks_of_touch one_block home middle None ≡
     goes going.Approach home (at 20000 20000 22500) ∷ goes going.Search (at 20000 20000 22500) (at 20000 20000 20000)
     ∷ touches (at 20000 20000 20000) 7 ∷ goes going.Retract (at 20000 20000 20000) (at 20000 20000 22000) ∷ []
 touched = refl
 
+-- a touch that misses ends at the end of the search
 pub missed : marks_of_touch one_block home middle (Some Missed) ≡
     goes going.Approach home (at 20000 20000 22500) ∷ goes going.Search (at 20000 20000 22500) (at 20000 20000 18500) ∷ []
 missed = refl

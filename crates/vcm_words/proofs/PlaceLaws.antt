@@ -2,16 +2,16 @@
 use Rattle.std.proofs.Common.{◌≡◌, ℕ, ◌<◌, ◌≤◌, ◌^◌, ◌==◌, ◌&&◌, nat_le, not, Bool, true, false, List, [], ◌∷◌, refl, ap, subst, arith, IsTrue}
 use Rattle.std.specs.Prelude.{decimal}
 use Rattle.std.proofs.lemmas.Bool.{and_parts}
-use Rattle.vcm_spec.specs.TextBytes.{IsText}
+use Rattle.vcm_spec.specs.declared.expression.Item.{Item}
 use Rattle.vcm_code.specs.declared.version.Version.{Version}
 use Rattle.vcm_fields.specs.declared.word.Word.{Word}
 use Rattle.vcm_fields.specs.Words.{has_word}
-use Rattle.vcm_fields.specs.Fitting.{within, FitsExpression, FitThree, FitBranches}
-use Rattle.vcm_fields.specs.Shape.{Place, Said, Filled}
+use Rattle.vcm_fields.specs.Fitting.{within, FitThree, FitsPlace, FitsFilled}
+use Rattle.vcm_fields.specs.Shape.{Place, Said, Filled, axes, directions, settings, sources, all_words}
 use Rattle.vcm_fields.specs.Shape as at
 use Rattle.vcm_words.specs.Numbers.{number, counted, only_if}
 use Rattle.vcm_words.specs.WordReaders.{◌>>=◌, Spelling}
-use Rattle.vcm_words.specs.Operands.{single, number_text, number_at, axis_text, axes, direction_text, directions, setting_text, settings, source_text, sources, word_text, all_words, three, three_at, behind, spelling, words_of, filled_at, any_word_at, word_at}
+use Rattle.vcm_words.specs.Operands.{single, number_text, number_at, axis_text, direction_text, setting_text, source_text, word_text, three, three_at, behind, spelling, words_of, filled_at, any_word_at, word_at}
 use Rattle.vcm_words.proofs.Inverse.{Means, Reads, Ends, ends, bind_some, some_is, only_met, reads_one, reads_both, reads_tested, ends_both}
 use Rattle.vcm_words.proofs.NumberLaws.{means_number}
 use Rattle.vcm_words.proofs.WordLaws.{means_marked}
@@ -56,7 +56,7 @@ means_part = record {
 }
 
 -- three expressions
-FitsTriple : Said at.three → Type 0
+FitsTriple : List Item × (List Item × List Item) → Type 0
 FitsTriple t = FitThree t.0 t.1.0 t.1.1
 
 reads_three : Reads (three_at true) three FitsTriple
@@ -70,31 +70,16 @@ abbrev is_text : Place → Bool
 is_text at.text = true
 is_text _ = false
 
--- which values a place may have
-abbrev pub Fits : (p : Place) → Said p → Type 0
-Fits at.variable n = n < 2 ^ 16
-Fits at.feature n = n < 2 ^ 16
-Fits at.frame n = n < 2 ^ 16
-Fits at.pair n = n < 32
-Fits at.target n = n < 2 ^ 32
-Fits at.items is = FitsExpression is
-Fits at.three t = FitThree t.0 t.1.0 t.1.1
-Fits at.turn n = n < 3
-Fits at.quarters n = n < 4
-Fits at.part n = IsTrue (within 3 8 n)
-Fits at.text bs = IsText bs
-Fits at.branches bs = FitBranches bs
-Fits _ x = Unit {0}
-
-reads_place : (p : Place) → is_text p ≡ false → Undo (spelling p) (Fits p)
+reads_place : (p : Place) → is_text p ≡ false → Undo (spelling p) (FitsPlace p)
 unfolding Any IsPart FitsTriple
-reads_place at.variable h = reads_behind 86 (2 ^ 16) refl refl (omega arith)
+reads_place (at.variable k) h = reads_behind 86 (2 ^ 16) refl refl (omega arith)
 reads_place at.feature h = reads_behind 70 (2 ^ 16) refl refl (omega arith)
 reads_place at.frame h = reads_behind 68 (2 ^ 16) refl refl (omega arith)
 reads_place at.pair h = reads_behind 76 32 refl refl (omega arith)
 reads_place at.target h = reads_behind 64 (2 ^ 32) refl refl (omega arith)
-reads_place at.items h = reads_expression
-reads_place at.three h = reads_three
+reads_place (at.items k) h = reads_expression
+reads_place (at.three k) h = reads_three
+reads_place at.assigned h = reads_both (reads_behind 86 (2 ^ 16) refl refl (omega arith)) reads_expression
 reads_place at.axis h = reads_one (means_any axis_text axes axis_row)
 reads_place at.direction h = reads_one (means_any direction_text directions direction_row)
 reads_place at.setting h = reads_one (means_any setting_text settings setting_row)
@@ -105,17 +90,11 @@ reads_place at.part h = reads_one means_part
 reads_place at.text h = absurd cc
 reads_place at.branches h = reads_branches
 
-ends_place : (p : Place) → Ends ((spelling p).at true) (spelling p).words (Fits p)
+ends_place : (p : Place) → Ends ((spelling p).at true) (spelling p).words (FitsPlace p)
 ends_place at.text = ends_text
 ends_place p = ends (reads_place p refl)
 
 -- ---- places, one behind the other
-
--- which values places may have
-abbrev pub FitAll : (ps : List Place) → Filled ps → Type 0
-FitAll [] f = Unit {0}
-FitAll (p ∷ []) f = Fits p f
-FitAll (p ∷ q ∷ ps) f = Fits p f.0 × FitAll (q ∷ ps) f.1
 
 -- a text stands behind all others
 abbrev pub in_order : List Place → Bool
@@ -123,7 +102,7 @@ in_order [] = true
 in_order (p ∷ []) = true
 in_order (p ∷ q ∷ ps) = not (is_text p) && in_order (q ∷ ps)
 
-pub ends_filled : (ps : List Place) → in_order ps ≡ true → Ends (filled_at true ps) (words_of ps) (FitAll ps)
+pub ends_filled : (ps : List Place) → in_order ps ≡ true → Ends (filled_at true ps) (words_of ps) (FitsFilled ps)
 ends_filled [] h = record {
   takes = λ ws x bare e. (ap (λ (y : Unit {0} × List (List ℕ)). y.1) (some_is (tt, ws) x e), tt);
   again = λ f g. refl;

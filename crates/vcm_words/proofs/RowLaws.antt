@@ -23,7 +23,8 @@ use Rattle.vcm_words.specs.Numbers.{only_if}
 use Rattle.vcm_num.specs.Words.{look_up}
 use Rattle.vcm_words.specs.WordReaders.{Reader, one, via, ended, rows_of}
 use Rattle.vcm_words.specs.Operands.{single, number_text, line}
-use Rattle.vcm_words.specs.Rows.{ListRow, version_text, versions, kind_text, kinds, heading_text, all_headings, row_words, row_text, version_at, entry_at, indexed_at, numbered_at, row_after, row_at, row_of}
+use Rattle.vcm_fields.specs.Shape.{kinds}
+use Rattle.vcm_words.specs.Rows.{ListRow, version_text, versions, kind_text, heading_text, all_headings, row_words, row_text, version_at, entry_at, indexed_at, numbered_at, row_after, row_at, row_of}
 use Rattle.vcm_words.specs.inner.Fitting.{FitsRow}
 use Rattle.vcm_words.proofs.Cuts.{joined-split, split-joined, split_without}
 use Rattle.vcm_words.proofs.Inverse.{Means, Reads, Ends, Bare, ends, bind_some, some_is, only_met, all_append, reads_one, reads_both, via_again, ends_via, ends_both}

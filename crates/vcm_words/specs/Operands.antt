@@ -1,6 +1,6 @@
 -- The operands of statements in a listing.
 use Rattle.std.specs.Prelude.{ℕ, ◌==◌, ◌^◌, ◌&&◌, nat_le, Bool, if◌then◌else◌, List, [], ◌∷◌, ◌++◌, length, Option, Some, None, decimal}
-use Rattle.std.specs.Prelude.{codes, map}
+use Rattle.std.specs.Prelude.{codes}
 use Rattle.std.specs.List.{list_all}
 use Rattle.vcm_num.specs.declared.axis.Axis.{Axis}
 use Rattle.vcm_num.specs.declared.axis.Axis.TheVariants.{PlusX, MinusX, PlusY, MinusY, PlusZ, MinusZ}
@@ -13,7 +13,7 @@ use Rattle.vcm_fields.specs.declared.word.Word.TheVariants as words
 use Rattle.vcm_code.specs.declared.version.Version.{Version}
 use Rattle.vcm_fields.specs.Parts.{Operation, Line}
 use Rattle.vcm_fields.specs.Words.{word_of, has_word}
-use Rattle.vcm_fields.specs.Shape.{Place, Said, Filled, made, Form, form, form_of, places, values_of}
+use Rattle.vcm_fields.specs.Shape.{Place, Said, Filled, axes, directions, settings, sources, all_words, made, Form, form, form_of, places, Parted, parted, taken_apart}
 use Rattle.vcm_fields.specs.Shape as at
 use Rattle.vcm_spec.specs.TextBytes.{is_text_byte}
 use Rattle.vcm_spec.specs.declared.expression.Item.{Item}
@@ -57,18 +57,10 @@ axis_text MinusY = codes "-Y"
 axis_text PlusZ = codes "+Z"
 axis_text MinusZ = codes "-Z"
 
--- the directions
-abbrev pub axes : List Axis
-axes = PlusX ∷ MinusX ∷ PlusY ∷ MinusY ∷ PlusZ ∷ MinusZ ∷ []
-
 -- the word of a direction of a measurement; NOM stands for the nominal feature's
 abbrev pub direction_text : Option Axis → List ℕ
 direction_text None = codes "NOM"
 direction_text (Some d) = axis_text d
-
--- the directions of a measurement
-abbrev pub directions : List (Option Axis)
-directions = None ∷ map (λ d. Some d) axes
 
 -- the word of a setting of the probe
 abbrev pub setting_text : Setting → List ℕ
@@ -77,18 +69,10 @@ setting_text Retract = codes "RETRCT"
 setting_text Search = codes "SEARCH"
 setting_text Depth = codes "DEPTH"
 
--- the settings
-abbrev pub settings : List Setting
-settings = Approach ∷ Retract ∷ Search ∷ Depth ∷ []
-
 -- the word that says whether the nominal or the actual feature is meant
 abbrev pub source_text : Source → List ℕ
 source_text Nominal = codes "NOMINAL"
 source_text Actual = codes "ACTUAL"
-
--- the sources
-abbrev pub sources : List Source
-sources = Nominal ∷ Actual ∷ []
 
 -- the word of the axis of a turn: X, Y or Z
 abbrev pub turn_text : ℕ → List ℕ
@@ -150,13 +134,6 @@ word_text words.EndCas = codes "ENDCAS"
 word_text words.DftCas = codes "DFTCAS"
 word_text words.EndSel = codes "ENDSEL"
 
--- the words
-abbrev pub all_words : List Word
-all_words =
-    words.EndFil ∷ words.Goto ∷ words.GoHome ∷ words.Assign ∷ words.If ∷ words.Else ∷ words.EndIf ∷ words.Do ∷ words.EndDo ∷ words.Label
-    ∷ words.JumpTo ∷ words.Feat ∷ words.Meas ∷ words.PtMeas ∷ words.EndMes ∷ words.SnSet ∷ words.Trans ∷ words.Rotate ∷ words.Recall
-    ∷ words.Obtain ∷ words.Output ∷ words.Text ∷ words.Select ∷ words.Case ∷ words.EndCas ∷ words.DftCas ∷ words.EndSel ∷ []
-
 -- ---- places
 
 -- three expressions
@@ -175,15 +152,16 @@ below limit = record { words = number_text; at = λ exact. number_at exact limit
 abbrev pub behind : ℕ → ℕ → Spelling ℕ
 behind letter limit = record { words = lettered letter; at = λ exact. lettered_at exact letter limit }
 
--- each place: V3, F3, D3, L3, @3 or a number alone, expressions, words of tables, the number of a feature's word, a text, branches
+-- each place: a number alone or behind its letter (V, F, D, L, @), expressions, words of tables, the number of a feature's word, a text, branches
 abbrev pub spelling : (p : Place) → Spelling (Said p)
-spelling at.variable = behind 86 (2 ^ 16)
+spelling (at.variable k) = behind 86 (2 ^ 16)
 spelling at.feature = behind 70 (2 ^ 16)
 spelling at.frame = behind 68 (2 ^ 16)
 spelling at.pair = behind 76 32
 spelling at.target = behind 64 (2 ^ 32)
-spelling at.items = record { words = expression; at = expression_at }
-spelling at.three = record { words = three; at = three_at }
+spelling (at.items k) = record { words = expression; at = expression_at }
+spelling (at.three k) = record { words = three; at = three_at }
+spelling at.assigned = record { words = λ o. lettered 86 o.0 ++ expression o.1; at = λ exact. both (lettered_at exact 86 (2 ^ 16)) (expression_at exact) }
 spelling at.axis = named axis_text axes
 spelling at.direction = named direction_text directions
 spelling at.setting = named setting_text settings
@@ -208,9 +186,13 @@ filled_at exact (p ∷ q ∷ ps) = both ((spelling p).at exact) (filled_at exact
 
 -- ---- statements
 
+-- the words of the values of a statement taken apart
+abbrev pub values : Parted → List (List ℕ)
+values (parted w f) = words_of (places w) f
+
 -- the operands of a statement
 abbrev pub operands : Operation → List (List ℕ)
-operands o = words_of (places (word_of o)) (values_of o)
+operands o = values (taken_apart o)
 
 -- reading the places of a form
 abbrev pub form_at : Bool → Form → Reader Operation

@@ -11,6 +11,7 @@ use Rattle.vcm_spec.specs.Setup.{Variable as Entry}
 use Rattle.vcm_expr.specs.NameBytes.{is_name}
 use Rattle.vcm_expr.specs.Symbols.{is_variable_name}
 use Rattle.vcm_fields.specs.Parts.{Line}
+use Rattle.vcm_fields.specs.Shape.{kinds}
 use Rattle.vcm_words.specs.declared.row.Row.{Row}
 use Rattle.vcm_words.specs.declared.row.Row.TheVariants.{Head, Variable, Feature, Frame, Numbered}
 use Rattle.vcm_words.specs.declared.row.Heading.{Heading}
@@ -41,10 +42,6 @@ abbrev pub kind_text : Kind → List ℕ
 kind_text Int = codes "INTGR"
 kind_text Real = codes "REAL"
 kind_text Truth = codes "BOOL"
-
--- the kinds
-abbrev pub kinds : List Kind
-kinds = Int ∷ Real ∷ Truth ∷ []
 
 -- the word that a line begins with, where it is no statement
 abbrev pub heading_text : Heading → List ℕ

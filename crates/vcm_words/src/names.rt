@@ -3,7 +3,8 @@
 ghost use Rattle.std.specs.Prelude.{◌≡◌};
 ghost use Rattle.vcm_num.specs.Words.{look_up};
 ghost use Rattle.vcm_words.specs.WordReaders.{one, rows_of};
-ghost use Rattle.vcm_words.specs.Rows.{kind_text, kinds, name_at, variable_name_at, entry_at, indexed_at};
+ghost use Rattle.vcm_fields.specs.Shape.{kinds};
+ghost use Rattle.vcm_words.specs.Rows.{kind_text, name_at, variable_name_at, entry_at, indexed_at};
 
 use crate::places::count;
 use crate::words::{Words, table_word};

@@ -6,7 +6,8 @@ ghost use Rattle.vcm_words.specs.Numbers.{number, counted, only_if};
 ghost use Rattle.vcm_num.specs.Words.{look_up};
 ghost use Rattle.vcm_words.specs.WordReaders.{one, marked, rows_of};
 ghost use Rattle.vcm_words.specs.Enclosed.{opening};
-ghost use Rattle.vcm_words.specs.Operands.{lettered_at, number_at, axis_text, axes, direction_text, directions, setting_text, settings, source_text, sources, turn_text, turns, part_at, quoted_in, text_at};
+ghost use Rattle.vcm_fields.specs.Shape.{axes, directions, settings, sources};
+ghost use Rattle.vcm_words.specs.Operands.{lettered_at, number_at, axis_text, direction_text, setting_text, source_text, turn_text, turns, part_at, quoted_in, text_at};
 
 use crate::items::before_end;
 use crate::numbers::{long, short, small};

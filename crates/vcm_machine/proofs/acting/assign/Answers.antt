@@ -18,7 +18,7 @@ returns-in_err-value-clause-carried c part =
 pub returns-clause-carried : goal.returns-clause-carried
 returns-clause-carried c part o rest h =
     let r = read_first _ _ variable_at expression_at _ o rest _ c.short.ensures c.known-variable.ensures h in
-    let given = value_given (setup_of part c.args.world.now.tables) c.args.world.now.state o.0 o.1 _ (c.in_ok-value.ensures.value o.1 rest r.1).0 in
+    let given = value_given (setup_of part c.args.world.now.tables) c.args.world.now.state o.0 o.1 _ (c.in_ok-value.ensures.value o.1 rest r.1) in
     let fv : FitsSigned w64 c.in_ok-value.value = search rules in
     subst (λ o. Carried o c.args.world.now.state c.assign.new.self.state c.assign.result) (sym given)
     (rw (to_z-of_z fv, r.0) at (c.assign.ensures part).0)

@@ -6,18 +6,18 @@ use Rattle.vcm_fields.proofs.Taking.{three_are}
 use Rattle.vcm_machine.proofs.Effects.{first_fault, second_fault, third_fault, all_given}
 use Rattle.vcm_machine.proofs.acting.three_lengths.Goals as goal
 
-pub value-requires : goal.value-requires
-value-requires c =
+pub value_here-requires : goal.value_here-requires
+value_here-requires c =
     let t = three_are _ _ _ c.requires.2 in
     (Real, (c.requires.0.0, t.0, t.2, c.requires.3.0))
 
-pub value-requires-2 : goal.value-requires-2
-value-requires-2 c =
+pub value_here-requires-2 : goal.value_here-requires-2
+value_here-requires-2 c =
     let t = three_are _ _ _ c.requires.2 in
     (Real, (c.requires.0.1.0, t.1, ap expression_at (c.in_ok-x.ensures.value _ _ t.2).1 ∙ t.3, c.requires.3.1))
 
-pub value-requires-3 : goal.value-requires-3
-value-requires-3 c =
+pub value_here-requires-3 : goal.value_here-requires-3
+value_here-requires-3 c =
     let t = three_are _ _ _ c.requires.2 in
     let x = c.in_ok-x.ensures.value _ _ t.2 in
     let y = c.in_ok-y.ensures.value _ _ (ap expression_at x.1 ∙ t.3) in

@@ -18,7 +18,7 @@ returns-in_err-length-clause-carried c part =
 pub returns-clause-carried : goal.returns-clause-carried
 returns-clause-carried c part o rest h =
     let r = read_first _ _ setting_at expression_at c.args.bytes.now o rest _ c.setting.ensures c.known-which.ensures h in
-    let given = snset_goes (setup_of part c.args.world.now.tables) c.args.world.now.state o.0 o.1 _ (c.in_ok-length.ensures.value o.1 rest r.1).0 in
+    let given = snset_goes (setup_of part c.args.world.now.tables) c.args.world.now.state o.0 o.1 _ (c.in_ok-length.ensures.value o.1 rest r.1) in
     let fv : FitsSigned w64 c.in_ok-length.length = search rules in
     subst (λ o. Carried o c.args.world.now.state c.snset.new.self.state c.snset.result) (sym given)
     (rw (to_z-of_z fv, r.0) at (c.snset.ensures part).0)

@@ -2,7 +2,7 @@ use Rattle.std.proofs.Common.{sym, ap}
 use Rattle.vcm_spec.specs.Fitting.{kinds}
 use Rattle.vcm_spec.specs.Outcome.{calculated}
 use Rattle.vcm_machine.proofs.Evaluating.{slots_long}
-use Rattle.vcm_machine.proofs.acting.value.Goals as goal
+use Rattle.vcm_machine.proofs.acting.value_here.Goals as goal
 
 pub value_at-requires : goal.value_at-requires
 value_at-requires c =
