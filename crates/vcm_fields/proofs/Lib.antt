@@ -5,6 +5,7 @@ pub mod ItemParts
 pub mod BranchParts
 pub mod TextParts
 pub mod Shapes
+pub mod FieldPlaces
 pub mod StatementParts
 pub mod Parts
 pub mod Taking

@@ -11,10 +11,10 @@ use Rattle.vcm_fields.specs.declared.word.Word.{Word}
 use Rattle.vcm_fields.specs.declared.word.Word.TheVariants as words
 use Rattle.vcm_fields.specs.Parts.{Operation, Line}
 use Rattle.vcm_fields.specs.Words.{word_of, has_word}
-use Rattle.vcm_fields.specs.Shape.{Place, Filled, axes, directions, settings, sources, kinds, all_words, Form, form, form_of, places_in, made_in, places, op_in, Parted, parted, word_in, put_together, taken_apart}
+use Rattle.vcm_fields.specs.Shape.{Place, Filled, axes, directions, settings, sources, kinds, all_words, Form, form, form_of, places_in, made_in, places, op_in, Parted, parted, word_in, put_together, taken_apart, over_places, over_parted}
 use Rattle.vcm_fields.specs.Shape as at
 use Rattle.vcm_fields.specs.Fitting.{FitThree, within, FitsPlace, FitsFilled, FitsParted, FitsOperation, FitsLine}
-use Rattle.vcm_fields.specs.Spelling.{byte, long, three, axis_byte, direction_byte, setting_byte, source_byte, word_byte, kind_byte, place, filled, values, operands, line}
+use Rattle.vcm_fields.specs.Spelling.{byte, long, three, axis_byte, direction_byte, setting_byte, source_byte, word_byte, kind_byte, place, operands, line}
 use Rattle.vcm_fields.specs.Readers.{both, via, number_at, byte_below_at, kind_at, part_at, any_word_at, word_at, three_at, place_at, filled_at, form_at, operands_at, line_at}
 use Rattle.vcm_fields.proofs.Inverse.{Takes, Reads, ok_is, reads_as, reads_both, via_takes, via_again, reads_via, reads_tested, reads_after}
 use Rattle.vcm_fields.proofs.NumberInverse.{Found, reads_one_of, reads_byte, reads_short, reads_long}
@@ -90,13 +90,13 @@ reads_place at.part = reads_part
 reads_place at.text = reads_text
 reads_place at.branches = reads_branches
 
-reads_none : Reads (filled_at []) (filled []) (FitsFilled [])
+reads_none : Reads (filled_at []) (over_places place []) (FitsFilled [])
 reads_none = record {
   takes = λ bytes x fits e. subst (λ (y : Unit {0} × List ℕ). Takes bytes [] y.1 × Unit {0}) (ok_is (tt, bytes) x e) (record { parts = refl; rest_fits = fits }, tt);
   again = λ x rest h. refl;
 }
 
-reads_filled : (ps : List Place) → Reads (filled_at ps) (filled ps) (FitsFilled ps)
+reads_filled : (ps : List Place) → Reads (filled_at ps) (over_places place ps) (FitsFilled ps)
 reads_filled [] = reads_none
 reads_filled (p ∷ []) = reads_place p
 reads_filled (p ∷ q ∷ ps) = reads_both (reads_place p) (reads_filled (q ∷ ps))
@@ -119,14 +119,14 @@ made_fits : (w : Word) (f : Filled (places w)) → FitsFilled (places w) f → O
 unfolding Of
 made_fits w f h = (ap word_in (apart_made w f), subst FitsParted (sym (apart_made w f)) h)
 
-parted_again : (p : Parted) (rest : List ℕ) → FitsParted p → operands_at (word_in p) (values p ++ rest) ≡ Ok (put_together p, rest)
-parted_again (parted w f) rest h = operands_are w (filled (places w) f ++ rest) ∙ via_again (reads_filled (places w)) (op_in w) f rest h
+parted_again : (p : Parted) (rest : List ℕ) → FitsParted p → operands_at (word_in p) (over_parted place p ++ rest) ≡ Ok (put_together p, rest)
+parted_again (parted w f) rest h = operands_are w (over_places place (places w) f ++ rest) ∙ via_again (reads_filled (places w)) (op_in w) f rest h
 
 reads_operands : (w : Word) → Reads (operands_at w) operands (Of w)
 unfolding Of
 reads_operands w = record {
   takes = λ bytes y fits e.
-      via_takes (reads_filled (places w)) (op_in w) [] operands (Of w) (λ f h. ap values (apart_made w f)) (made_fits w) bytes y fits (sym (operands_are w bytes) ∙ e);
+      via_takes (reads_filled (places w)) (op_in w) [] operands (Of w) (λ f h. ap (over_parted place) (apart_made w f)) (made_fits w) bytes y fits (sym (operands_are w bytes) ∙ e);
   again = λ o rest h.
       ap (λ (v : Word). operands_at v (operands o ++ rest)) (sym h.0) ∙ parted_again (taken_apart o) rest h.1 ∙ ap (λ (z : Operation). Ok (z, rest)) (together_apart o);
 }

@@ -1,7 +1,7 @@
 -- What a reader took, taken apart: where it gave a value, each of its parts did.
-use Rattle.std.proofs.Common.{◌≡◌, ◌<◌, ◌≤◌, ℕ, ℤ, Bool, true, ltb, List, [], ◌∷◌, length, take, drop, arith, Result, Ok, Err, IfErr, if◌then◌else◌, nat_le, refl, sym, ap, subst, ◌∙◌}
+use Rattle.std.proofs.Common.{◌≡◌, ◌<◌, ◌≤◌, ℕ, Bool, true, ltb, List, [], ◌∷◌, length, take, drop, arith, Result, Ok, Err, IfErr, if◌then◌else◌, nat_le, refl, sym, ap, ◌∙◌}
 use Rattle.std.proofs.lemmas.Bool.{ltb-false}
-use Rattle.std.specs.Int.{Width, w16, w32, w64, byte_len, from_le_bytes, cast_signed}
+use Rattle.std.specs.Int.{Width, w16, w32, byte_len, from_le_bytes}
 use Rattle.vcm_spec.specs.declared.expression.Item.{Item}
 use Rattle.vcm_spec.specs.TextBytes.{is_text}
 use Rattle.vcm_code.specs.declared.version.Version.{Version}
@@ -13,7 +13,7 @@ use Rattle.vcm_fields.specs.declared.items.Tag.{Tag}
 use Rattle.vcm_fields.specs.Spelling.{tag_byte}
 use Rattle.vcm_fields.specs.Fitting.{within}
 use Rattle.vcm_spec.specs.Results.{◌>>=◌}
-use Rattle.vcm_fields.specs.Readers.{Reader, Gives, both, via, after, among, one_of, tested, times, byte_at, number_at, signed_at, all_tags, behind_tag, bytes_at, item_at, expression_at, three_at, text_at, word_at, operands_at, line_at}
+use Rattle.vcm_fields.specs.Readers.{Reader, Gives, both, via, after, among, one_of, tested, times, byte_at, number_at, all_tags, behind_tag, bytes_at, item_at, expression_at, three_at, text_at, word_at, operands_at, line_at}
 use Rattle.vcm_fields.proofs.Inverse.{bind_ok, guard_short, guard_met, ok_is}
 
 -- a call that reads what is there doesn't fail
@@ -27,10 +27,6 @@ gives_it view (Ok z) q y x g e k =
     let same : z ≡ x = ok_is z x k in
     ap view (sym same) ∙ ok_is (view z) y (sym g ∙ e)
 gives_it view (Err f) q y x g e k = absurd cc
-
--- what a call gave is what is there
-pub gives_ok : {X A : Type 0} (view : X → A) (r : Result X ImageFault) (q : Result A ImageFault) (x : X) → Gives view r q → r ≡ Ok x → q ≡ Ok (view x)
-gives_ok view r q x g k = subst (λ t. Gives view t q) k g
 
 -- two values, one after the other
 pub both_are : {A B : Type 0} (a : Reader A) (b : Reader B) (bytes : List ℕ) (x : A × B) (rest : List ℕ) → both a b bytes ≡ Ok (x, rest) → (middle : List ℕ) × (a bytes ≡ Ok (x.0, middle)) × (b middle ≡ Ok (x.1, rest))
@@ -73,9 +69,6 @@ byte_there (b ∷ bytes) x e = omega arith
 pub number_there : (w : Width) (bytes : List ℕ) (x : ℕ × List ℕ) → number_at w bytes ≡ Ok x → byte_len w ≤ length bytes
 number_there w bytes x e =
     ltb-false _ _ (guard_short (ltb (length bytes) (byte_len w)) Short (from_le_bytes w (take (byte_len w) bytes), drop (byte_len w) bytes) x e).0
-
-pub signed_there : (bytes : List ℕ) (x : ℤ × List ℕ) → signed_at bytes ≡ Ok x → 8 ≤ length bytes
-signed_there bytes x e = let v = via_is (cast_signed w64) (number_at w64) bytes x.0 x.1 e in number_there w64 bytes (v.0, x.1) v.1
 
 pub bytes_there : (n : ℕ) (bytes : List ℕ) (x : List ℕ × List ℕ) → bytes_at n bytes ≡ Ok x → (n ≤ length bytes) × (take n bytes ≡ x.0)
 bytes_there n bytes x e =

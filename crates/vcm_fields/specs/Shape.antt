@@ -1,6 +1,6 @@
 -- What stands behind the word of each statement, written once: its places in order, and how a statement is made of their values and taken apart. The values
 -- of the small tables.
-use Rattle.std.specs.Prelude.{ℕ, List, [], ◌∷◌, map, Option, Some, None}
+use Rattle.std.specs.Prelude.{ℕ, List, [], ◌∷◌, ◌++◌, map, Option, Some, None}
 use Rattle.vcm_num.specs.declared.number.Kind.{Kind}
 use Rattle.vcm_num.specs.declared.number.Kind.TheVariants.{Int, Real, Bool as Truths}
 use Rattle.vcm_num.specs.declared.axis.Axis.{Axis}
@@ -199,3 +199,19 @@ taken_apart Case = parted words.Case tt
 taken_apart (EndCas to) = parted words.EndCas to
 taken_apart DftCas = parted words.DftCas tt
 taken_apart EndSel = parted words.EndSel tt
+
+-- ---- folds over the places of a statement
+
+-- what a function gives for each place with its value, one behind the other
+abbrev pub over_places : {A : Type 0} → ((p : Place) → Said p → List A) → (ps : List Place) → Filled ps → List A
+over_places f [] x = []
+over_places f (p ∷ []) x = f p x
+over_places f (p ∷ q ∷ ps) x = f p x.0 ++ over_places f (q ∷ ps) x.1
+
+-- so for a statement taken apart
+abbrev pub over_parted : {A : Type 0} → ((p : Place) → Said p → List A) → Parted → List A
+over_parted f (parted w x) = over_places f (places w) x
+
+-- so for a statement
+abbrev pub over_operands : {A : Type 0} → ((p : Place) → Said p → List A) → Operation → List A
+over_operands f o = over_parted f (taken_apart o)

@@ -21,7 +21,7 @@ use Rattle.vcm_fields.specs.declared.word.Word.{Word}
 use Rattle.vcm_fields.specs.declared.word.Word.TheVariants as words
 use Rattle.vcm_fields.specs.Parts.{Operation, Line}
 use Rattle.vcm_fields.specs.Words.{word_of}
-use Rattle.vcm_fields.specs.Shape.{Place, Said, Filled, places, Parted, parted, taken_apart}
+use Rattle.vcm_fields.specs.Shape.{Place, Said, over_operands}
 use Rattle.vcm_fields.specs.Shape as at
 use Rattle.vcm_num.specs.declared.axis.Axis.{Axis}
 use Rattle.vcm_num.specs.declared.axis.Axis.TheVariants.{PlusX, MinusX, PlusY, MinusY, PlusZ, MinusZ}
@@ -202,19 +202,9 @@ place at.part n = byte n
 place at.text bs = text bs
 place at.branches bs = branches bs
 
--- what stands in places, one behind the other
-abbrev pub filled : (ps : List Place) → Filled ps → List ℕ
-filled [] f = []
-filled (p ∷ []) f = place p f
-filled (p ∷ q ∷ ps) f = place p f.0 ++ filled (q ∷ ps) f.1
-
--- the values of a statement taken apart
-abbrev pub values : Parted → List ℕ
-values (parted w f) = filled (places w) f
-
 -- the operands of a statement
 abbrev pub operands : Operation → List ℕ
-operands o = values (taken_apart o)
+operands o = over_operands place o
 
 -- the kind, the line, the operands
 abbrev pub line : Line → List ℕ

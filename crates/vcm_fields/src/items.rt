@@ -98,7 +98,7 @@ fn behind(tag: Tag, bytes: &[u8]) -> Result<(Item, &[u8]), ImageFault>
 /// Short; BadField where no item has the tag, or a truth value is neither 0 nor 1.
 #[tactic(auto, unfolding(crate::specs::Readers::item_at))]
 #[inline(always)]
-pub fn item(bytes: &[u8]) -> Result<(Item, &[u8]), ImageFault>
+pub(crate) fn item(bytes: &[u8]) -> Result<(Item, &[u8]), ImageFault>
     ensures { Gives (λ x. (x.0, x.1.now)) result (item_at bytes.now) }
 {
     let (number, rest) = byte(bytes)?;
@@ -133,7 +133,7 @@ fn known_behind(tag: Tag, bytes: &[u8]) -> (Item, &[u8])
     }
 }
 
-/// The item that the bytes begin with, and the bytes behind it, where it is known that one stands there: nothing is tested.
+/// The item that the bytes begin with, and the bytes behind it, where it is known that one stands there: whether bytes are left is not tested.
 #[inline(always)]
 pub fn known_item(bytes: &[u8]) -> (Item, &[u8])
     requires { Begins item_at (λ i. Unit {0}) bytes.now }

@@ -4,6 +4,7 @@
 
 mod branches;
 mod fault;
+mod field;
 mod fields;
 mod items;
 mod slices;
@@ -16,12 +17,13 @@ mod word;
 
 pub use branches::BranchSlice;
 pub use fault::ImageFault;
+pub use field::{BorrowedField, Field, OwnedField, fields_of};
 pub use fields::{byte_below, known_long, known_short, long, short};
-pub use items::{Tag, item, known_item};
+pub use items::{Tag, known_item};
 pub use slices::{ItemSlice, TextSlice};
 pub use standing::{known, known_text};
 pub use statements::{BorrowedOp, BorrowedStatement, branches as read_branches, pair, statement};
-pub use tags::{axis, direction, known_word, part, setting, source, word as read_word};
+pub use tags::{axis, direction, known_word, part, setting, source};
 pub use texts::name;
 pub use variables::{BorrowedVariable, variable};
 pub use word::{Word, has_word};

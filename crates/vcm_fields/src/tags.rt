@@ -60,7 +60,7 @@ fn any_word(bytes: &[u8]) -> Result<(Word, &[u8]), ImageFault>
     Ok((word_with(number)?, rest))
 }
 
-/// The word of a statement and the bytes behind it, where it is known that one stands there: nothing is tested.
+/// The word of a statement and the bytes behind it, where it is known that one stands there: whether bytes are left is not tested.
 #[inline(always)]
 pub fn known_word(bytes: &[u8]) -> (Word, &[u8])
     requires { Begins any_word_at (λ w. Unit {0}) bytes.now }
@@ -76,7 +76,7 @@ pub fn known_word(bytes: &[u8]) -> (Word, &[u8])
 ///
 /// Short; BadField where the version has no such word.
 #[inline(always)]
-pub fn word(version: Version, bytes: &[u8]) -> Result<(Word, &[u8]), ImageFault>
+pub(crate) fn word(version: Version, bytes: &[u8]) -> Result<(Word, &[u8]), ImageFault>
     ensures { Gives (λ x. (x.0, x.1.now)) result (word_at version bytes.now) }
 {
     let (word, rest) = any_word(bytes)?;

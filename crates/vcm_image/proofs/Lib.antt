@@ -3,3 +3,4 @@ pub mod Tables
 pub mod Copies
 pub mod ImageLaws
 pub mod Branches
+pub mod Ranges

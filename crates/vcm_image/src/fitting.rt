@@ -7,13 +7,15 @@ ghost use Rattle.vcm_code.specs.Ops.{op_of, statements_of, code_of};
 ghost use Rattle.vcm_code.specs.Ranges.{IsShort, OpInRange, AllInRange, IsOfVersion, AllAreNames, IsInRange};
 ghost use Rattle.vcm_expr.specs.Names.{AreNamed};
 ghost use Rattle.vcm_code.specs.Deciding.{Tells};
-ghost use Rattle.vcm_fields.specs.Fitting.{FitsItem, FitsExpression, FitThree, FitsBranch, FitBranches, FitsOperation, FitsEntry};
+ghost use Rattle.vcm_fields.specs.Fitting.{FitsItem, FitsExpression, FitThree, FitsBranch, FitBranches, FitsPlace, FitsOperation, FitsEntry};
 ghost use Rattle.vcm_image.specs.Whole.{FitsImage};
 ghost use Rattle.vcm_image.specs.inner.Fitted.{HasFitting};
+ghost use Rattle.vcm_image.specs.inner.Meeting.{FieldMeets, IsRanged};
 
 use crate::scanned::{MOST_NAMES, MOST_STATEMENTS};
-use vcm_code::{Branch, Code, Op, OwnedOp, OwnedStatement, Version, has_selection};
+use vcm_code::{Branch, Code, OwnedOp, OwnedStatement, Version, has_selection};
 use vcm_expr::{Name, is_name, is_variable_name};
+use vcm_fields::{Field, OwnedField, fields_of};
 use vcm_num::Items;
 use vcm_spec::{Item, is_text};
 use vcm_tables::Variable;
@@ -97,62 +99,63 @@ fn are_short(x: &Items<Item>, y: &Items<Item>, z: &Items<Item>) -> bool
     is_short(x) && is_short(y) && is_short(z)
 }
 
-// Whether the operands of DO are in range.
-fn is_loop(
-    variable: u16,
-    pair: u8,
-    initial: &Items<Item>,
-    limit: &Items<Item>,
-    increment: &Items<Item>,
-    exit: u32,
-) -> bool
-    ensures range { Tells result ((pair < 32) × IsShort initial.now × IsShort limit.now × IsShort increment.now) }
-    ensures fit { Tells result ((variable < 2 ^ 16) × ((pair < 32) × (FitThree initial.now limit.now increment.now × (exit < 2 ^ 32)))) }
+// Whether the index of a variable and an expression are in range.
+fn is_assigned(variable: u16, value: &Items<Item>) -> bool
+    ensures short { Tells result (IsShort value.now) }
+    ensures fits { Tells result ((variable < 2 ^ 16) × FitsExpression value.now) }
 {
-    is_index(variable) && pair < 32 && are_short(initial, limit, increment) && is_target(exit)
+    is_index(variable) && is_short(value)
 }
 
-// Whether the operands of SELECT are.
-fn is_selection(value: &Items<Item>, branches: &Items<Branch>, target: u32) -> bool
-    ensures range { Tells result (IsShort value.now × (length branches.now ≤ 20000)) }
-    ensures fit { Tells result (FitsExpression value.now × (FitBranches branches.now × (target < 2 ^ 32))) }
+// Whether branches are.
+fn are_few(branches: &Items<Branch>) -> bool
+    ensures few { Tells result (length branches.now ≤ 20000) }
+    ensures fit { Tells result (FitBranches branches.now) }
 {
-    is_short(value)
-        && is_short_enough(branches.len())
-        && are_branches(branches.as_slice())
-        && is_target(target)
+    is_short_enough(branches.len()) && are_branches(branches.as_slice())
 }
 
-// Whether a statement's fields are in range.
+// Whether what stands in one place is.
+fn is_ranged(field: &OwnedField<'_>) -> bool
+    ensures range { Tells result (FieldMeets IsRanged field.now) }
+    ensures fits { Tells result (FieldMeets FitsPlace field.now) }
+{
+    match field {
+        Field::Variable(_, n) | Field::Feature(n) | Field::Frame(n) => is_index(*n),
+        Field::Pair(n) => *n < 32,
+        Field::Target(to) => is_target(*to),
+        Field::Items(_, items) => is_short(items),
+        Field::Three(_, x, y, z) => are_short(x, y, z),
+        Field::Assigned(variable, value) => is_assigned(*variable, value),
+        Field::Turn(n) => *n < 3,
+        Field::Quarters(n) => *n < 4,
+        Field::Part(n) => 3 <= *n && *n <= 8,
+        Field::Text(bytes) => is_text(bytes.as_slice()),
+        Field::Branches(among) => are_few(among),
+        Field::Nothing | Field::Toward(_) | Field::Direction(_) => true,
+        Field::Setting(_) | Field::Source(_) => true,
+    }
+}
+
+// Whether what stands in all of them is.
+fn are_ranged(fields: &[OwnedField<'_>]) -> bool
+    ensures range { Tells result (AllByRecursion (FieldMeets IsRanged) fields.now) }
+    ensures fit { Tells result (AllByRecursion (FieldMeets FitsPlace) fields.now) }
+{
+    for it in fields {
+        if !is_ranged(it) {
+            return false;
+        }
+    }
+    true
+}
+
+// Whether a statement's fields are.
 fn op_in_range(op: &OwnedOp) -> bool
     ensures range { Tells result (OpInRange (op_of op.now)) }
-    ensures fits { Tells result (FitsOperation op.now) }
+    ensures fits { result ≡ true → FitsOperation op.now }
 {
-    match op {
-        Op::Goto(x, y, z) => are_short(x, y, z),
-        Op::Feat(index, x, y, z, _) => is_index(*index) && are_short(x, y, z),
-        Op::PtMeas(index, x, y, z, _) => is_index(*index) && are_short(x, y, z),
-        Op::Trans(index, x, y, z) => is_index(*index) && are_short(x, y, z),
-        Op::Assign(variable, e) => is_index(*variable) && is_short(e),
-        Op::If(e, target) => is_short(e) && is_target(*target),
-        Op::SnSet(_, e) => is_short(e),
-        Op::Do(variable, pair, initial, limit, increment, exit) => {
-            is_loop(*variable, *pair, initial, limit, increment, *exit)
-        }
-        Op::EndDo(variable, pair, target) => {
-            is_index(*variable) && *pair < 32 && is_target(*target)
-        }
-        Op::Rotate(frame, axis, quarters) => is_index(*frame) && *axis < 3 && *quarters < 4,
-        Op::Obtain(variable, _, feature, part) => {
-            is_index(*variable) && is_index(*feature) && 3 <= *part && *part <= 8
-        }
-        Op::Text(bytes) => is_text(bytes.as_slice()),
-        Op::Select(value, branches, target) => is_selection(value, branches, *target),
-        Op::Else(target) | Op::JumpTo(target) | Op::EndCas(target) => is_target(*target),
-        Op::Meas(index) | Op::Recall(index) | Op::Output(_, index) => is_index(*index),
-        Op::EndFil | Op::GoHome | Op::EndIf | Op::Label | Op::EndMes => true,
-        Op::Case | Op::DftCas | Op::EndSel => true,
-    }
+    are_ranged(&fields_of(op))
 }
 
 // Whether those of all statements are.

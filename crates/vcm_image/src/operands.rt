@@ -1,18 +1,22 @@
 //! The writing of expressions and statements.
 
 ghost use Rattle.std.specs.Prelude.{◌≡◌, ◌<◌, ◌≤◌, ◌^◌, ◌++◌, ◌∷◌, [], length, IsTrue, OnOk, FitsSigned};
+ghost use Rattle.std.specs.List.{flat_map, AllByRecursion};
 ghost use Rattle.std.specs.Int.{w64};
 ghost use Rattle.vcm_spec.specs.TextBytes.{IsText};
 ghost use Rattle.vcm_code.specs.Ops.{op_of};
 ghost use Rattle.vcm_code.specs.Ranges.{IsShort, OpInRange};
 ghost use Rattle.vcm_fields.specs.Words.{word_of, has_word};
-ghost use Rattle.vcm_fields.specs.Fitting.{FitsItem, FitsExpression, FitThree, FitBranches, FitsOperation, FitsLine};
-ghost use Rattle.vcm_fields.specs.Spelling.{signed, item as item_bytes, expression as expression_bytes, three as three_bytes, short as short_bytes, long as long_bytes, text as text_bytes, branches as branches_bytes, operands as operand_bytes, line as line_bytes};
+ghost use Rattle.vcm_fields.specs.Fields.{in_plain};
+ghost use Rattle.vcm_fields.specs.Fitting.{FitsItem, FitsExpression, FitThree, FitBranches, FitsPlace, FitsOperation, FitsLine};
+ghost use Rattle.vcm_image.specs.inner.Meeting.{FieldMeets, IsRanged};
+ghost use Rattle.vcm_fields.specs.Spelling.{signed, item as item_bytes, expression as expression_bytes, three as three_bytes, short as short_bytes, long as long_bytes, text as text_bytes, branches as branches_bytes, place, operands as operand_bytes, line as line_bytes};
 
 use crate::bytes::{
     axis_byte, binary_byte, direction_byte, setting_byte, source_byte, unary_byte, word_byte,
 };
-use vcm_code::{Branch, Op, OwnedOp, OwnedStatement, Version};
+use vcm_code::{Branch, OwnedOp, OwnedStatement, Version};
+use vcm_fields::{Field, OwnedField, fields_of};
 use vcm_num::{Items, NoMemory};
 use vcm_spec::{Item, Operand};
 
@@ -141,97 +145,50 @@ fn branches(out: &mut Vec<u8>, branches: &Items<Branch>) -> Result<(), NoMemory>
     Ok(())
 }
 
-// Appends the operands of SELECT.
-fn selection(
-    out: &mut Vec<u8>,
-    value: &Items<Item>,
-    among: &Items<Branch>,
-    target: u32,
-) -> Result<(), NoMemory>
-    requires { IsShort value.now × (length among.now ≤ 20000) }
-    ensures bytes { OnOk result (out.new.items ≡ out.old.items ++ (expression_bytes value.now ++ (branches_bytes among.now ++ long_bytes target))) }
-    ensures fits { OnOk result (FitsExpression value.now × FitBranches among.now) }
-{
-    expression(out, value)?;
-    branches(out, among)?;
-    long(out, target)?;
-    Ok(())
-}
-
-// Appends the operands of DO.
-fn looping(
-    out: &mut Vec<u8>,
-    variable: u16,
-    pair: u8,
-    initial: &Items<Item>,
-    limit: &Items<Item>,
-    increment: &Items<Item>,
-    exit: u32,
-) -> Result<(), NoMemory>
-    requires { IsShort initial.now × IsShort limit.now × IsShort increment.now }
-    ensures bytes { OnOk result (out.new.items ≡ out.old.items ++ (short_bytes variable ++ (pair ∷ [] ++ (three_bytes initial.now limit.now increment.now ++ long_bytes exit)))) }
-    ensures fits { OnOk result (FitThree initial.now limit.now increment.now) }
+// Appends the index of a variable and an expression.
+fn assigned(out: &mut Vec<u8>, variable: u16, value: &Items<Item>) -> Result<(), NoMemory>
+    requires { IsShort value.now }
+    ensures bytes { OnOk result (out.new.items ≡ out.old.items ++ (short_bytes variable ++ expression_bytes value.now)) }
+    ensures fits { OnOk result (FitsExpression value.now) }
 {
     short(out, variable)?;
-    byte(out, pair)?;
-    three(out, initial, limit, increment)?;
-    long(out, exit)?;
+    expression(out, value)?;
     Ok(())
 }
 
-// Appends an index and three expressions.
-fn index_three(
-    out: &mut Vec<u8>,
-    index: u16,
-    x: &Items<Item>,
-    y: &Items<Item>,
-    z: &Items<Item>,
-) -> Result<(), NoMemory>
-    requires { IsShort x.now × IsShort y.now × IsShort z.now }
-    ensures bytes { OnOk result (out.new.items ≡ out.old.items ++ (short_bytes index ++ three_bytes x.now y.now z.now)) }
-    ensures fits { OnOk result (FitThree x.now y.now z.now) }
+// Appends what stands in one place.
+fn field(out: &mut Vec<u8>, field: &OwnedField<'_>) -> Result<(), NoMemory>
+    requires { FieldMeets IsRanged field.now }
+    ensures bytes { OnOk result (out.new.items ≡ out.old.items ++ in_plain place field.now) }
+    ensures fits { OnOk result (FieldMeets FitsPlace field.now) }
 {
-    short(out, index)?;
-    three(out, x, y, z)?;
+    match field {
+        Field::Nothing => Ok(()),
+        Field::Variable(_, n) | Field::Feature(n) | Field::Frame(n) => short(out, *n),
+        Field::Pair(n) | Field::Turn(n) | Field::Quarters(n) | Field::Part(n) => byte(out, *n),
+        Field::Target(to) => long(out, *to),
+        Field::Items(_, items) => expression(out, items),
+        Field::Three(_, x, y, z) => three(out, x, y, z),
+        Field::Assigned(variable, value) => assigned(out, *variable, value),
+        Field::Toward(axis) => byte(out, axis_byte(*axis)),
+        Field::Direction(direction) => byte(out, direction_byte(*direction)),
+        Field::Setting(which) => byte(out, setting_byte(*which)),
+        Field::Source(source) => byte(out, source_byte(*source)),
+        Field::Text(bytes) => text(out, bytes),
+        Field::Branches(among) => branches(out, among),
+    }
+}
+
+// Appends what stands in places, one behind the other.
+fn fields(out: &mut Vec<u8>, fields: &[OwnedField<'_>]) -> Result<(), NoMemory>
+    requires { AllByRecursion (FieldMeets IsRanged) fields.now }
+    ensures bytes { OnOk result (out.new.items ≡ out.old.items ++ flat_map (in_plain place) fields.now) }
+    ensures fit { OnOk result (AllByRecursion (FieldMeets FitsPlace) fields.now) }
+{
+    for it in fields {
+        field(out, it)?;
+    }
     Ok(())
-}
-
-// Appends an index and three expressions, and a byte behind them.
-fn point(
-    out: &mut Vec<u8>,
-    index: u16,
-    x: &Items<Item>,
-    y: &Items<Item>,
-    z: &Items<Item>,
-    toward: u8,
-) -> Result<(), NoMemory>
-    requires { IsShort x.now × IsShort y.now × IsShort z.now }
-    ensures bytes { OnOk result (out.new.items ≡ out.old.items ++ (short_bytes index ++ (three_bytes x.now y.now z.now ++ toward ∷ []))) }
-    ensures fits { OnOk result (FitThree x.now y.now z.now) }
-{
-    short(out, index)?;
-    three(out, x, y, z)?;
-    byte(out, toward)?;
-    Ok(())
-}
-
-// Appends an index, and two bytes.
-fn turn(out: &mut Vec<u8>, index: u16, first: u8, second: u8) -> Result<(), NoMemory>
-    ensures { OnOk result (out.new.items ≡ out.old.items ++ (short_bytes index ++ first ∷ second ∷ [])) }
-{
-    short(out, index)?;
-    byte(out, first)?;
-    byte(out, second)
-}
-
-// Appends two indexes, each with a byte behind it.
-fn query(out: &mut Vec<u8>, target: u16, source: u8, index: u16, word: u8) -> Result<(), NoMemory>
-    ensures { OnOk result (out.new.items ≡ out.old.items ++ (short_bytes target ++ source ∷ (short_bytes index ++ word ∷ []))) }
-{
-    short(out, target)?;
-    byte(out, source)?;
-    short(out, index)?;
-    byte(out, word)
 }
 
 // Appends the operands of a statement.
@@ -240,48 +197,7 @@ fn operands(out: &mut Vec<u8>, op: &OwnedOp) -> Result<(), NoMemory>
     ensures bytes { OnOk result (out.new.items ≡ out.old.items ++ operand_bytes op.now) }
     ensures fits { OnOk result (FitsOperation op.now) }
 {
-    match op {
-        Op::EndFil | Op::GoHome | Op::EndIf | Op::Label | Op::EndMes => Ok(()),
-        Op::Case | Op::DftCas | Op::EndSel => Ok(()),
-        Op::Goto(x, y, z) => three(out, x, y, z),
-        Op::Assign(variable, e) => {
-            short(out, *variable)?;
-            expression(out, e)
-        }
-        Op::If(test, target) => {
-            expression(out, test)?;
-            long(out, *target)
-        }
-        Op::Else(target) | Op::JumpTo(target) | Op::EndCas(target) => long(out, *target),
-        Op::Select(value, branches, target) => selection(out, value, branches, *target),
-        Op::Do(variable, pair, initial, limit, increment, exit) => {
-            looping(out, *variable, *pair, initial, limit, increment, *exit)
-        }
-        Op::EndDo(variable, pair, target) => {
-            short(out, *variable)?;
-            byte(out, *pair)?;
-            long(out, *target)
-        }
-        Op::Feat(feature, x, y, z, toward) => point(out, *feature, x, y, z, axis_byte(*toward)),
-        Op::PtMeas(feature, x, y, z, toward) => {
-            point(out, *feature, x, y, z, direction_byte(*toward))
-        }
-        Op::SnSet(setting, length) => {
-            byte(out, setting_byte(*setting))?;
-            expression(out, length)
-        }
-        Op::Trans(frame, x, y, z) => index_three(out, *frame, x, y, z),
-        Op::Rotate(frame, axis, quarters) => turn(out, *frame, *axis, *quarters),
-        Op::Meas(index) | Op::Recall(index) => short(out, *index),
-        Op::Obtain(variable, source, feature, part) => {
-            query(out, *variable, source_byte(*source), *feature, *part)
-        }
-        Op::Output(source, feature) => {
-            byte(out, source_byte(*source))?;
-            short(out, *feature)
-        }
-        Op::Text(bytes) => text(out, bytes),
-    }
+    fields(out, &fields_of(op))
 }
 
 /// Appends a statement, whose word the version has: its word, its line, its operands.

@@ -13,7 +13,8 @@ ghost use Rattle.vcm_words.specs.Outcomes.{GivesOrWants, FaultOrWant};
 use crate::growing::Growing;
 use crate::lines::{at_line, head, next_line, step};
 use std::alloc::Global;
-use vcm_code::{Code, Version, is_valid};
+use vcm_code::{Code, Version};
+use vcm_loader::is_valid;
 use vcm_words::{ListCode, ListFault};
 
 // The lines of a listing of this version, from the second one on.

@@ -1,40 +1,44 @@
 -- The checks of all statements, one statement after the other.
 use Rattle.std.proofs.Common.{◌≡◌, ℕ, zero, suc, ◌+◌, List, [], ◌∷◌, ◌++◌, length, take, Some, slice_get, refl, sym, ap, ◌∙◌, subst, arith}
-use Rattle.std.specs.Prelude.{map}
+use Rattle.std.specs.Prelude.{map, flat_map}
 use Rattle.vcm_num.specs.declared.number.Kind.{Kind}
 use Rattle.vcm_spec.specs.Setup.{Variable}
 use Rattle.vcm_spec.specs.Fitting.{kinds}
 use Rattle.vcm_code.specs.declared.code.Code.{Code}
 use Rattle.vcm_fields.specs.declared.fault.ImageFault.{ImageFault}
 use Rattle.vcm_fields.specs.Parts.{Line}
-use Rattle.vcm_loader.specs.Checks.{Counts, counts_of, AllHold, op_checks, line_checks}
+use Rattle.vcm_loader.specs.Checks.{Check, Counts, counts_of, AllHold, op_checks}
 use Rattle.vcm_loader.specs.Loading.{FirstFailedCheck}
 use Rattle.vcm_loader.proofs.Judgements.{hold_append, hold_front, hold_back, first_here, first_later}
 
--- the statements up to here have what they want
-abbrev pub HeldUpTo : Counts → List Line → ℕ → Type 0
-HeldUpTo t ss n = AllHold (line_checks t (take n ss))
+-- the first so many of these have what they want
+abbrev pub HeldUpTo : {A : Type 0} → (A → List Check) → List A → ℕ → Type 0
+HeldUpTo wanted xs n = AllHold (flat_map wanted (take n xs))
 
 -- one more
-pub held_more : (t : Counts) (ss : List Line) (n : ℕ) (s : Line) → HeldUpTo t ss n → slice_get ss n ≡ Some s → AllHold (op_checks t s.op) → HeldUpTo t ss (n + 1)
-held_more t [] n s h e g = absurd cc
-held_more t (r ∷ ss) zero s h e g =
-    let same : r ≡ s = cc in
-    subst (λ (l : Line). AllHold (op_checks t l.op ++ [])) (sym same) (hold_append (op_checks t s.op) [] g tt)
-held_more t (r ∷ ss) (suc n) s h e g =
+pub held_more : {A : Type 0} (wanted : A → List Check) (xs : List A) (n : ℕ) (x : A) → HeldUpTo wanted xs n → slice_get xs n ≡ Some x → AllHold (wanted x) → HeldUpTo wanted xs (n + 1)
+held_more wanted [] n x h e g = absurd cc
+held_more wanted (y ∷ xs) zero x h e g =
+    let same : y ≡ x = cc in
+    subst (λ z. AllHold (wanted z ++ [])) (sym same) (hold_append (wanted x) [] g tt)
+held_more wanted (y ∷ xs) (suc n) x h e g =
     let next : suc n + 1 ≡ suc (n + 1) = omega arith in
-    let front = hold_front (op_checks t r.op) (line_checks t (take n ss)) h in
-    let back = hold_back (op_checks t r.op) (line_checks t (take n ss)) h in
-    subst (λ k. AllHold (line_checks t (take k (r ∷ ss)))) (sym next) (hold_append (op_checks t r.op) (line_checks t (take (n + 1) ss)) front (held_more t ss n s back e g))
+    let front = hold_front (wanted y) (flat_map wanted (take n xs)) h in
+    let back = hold_back (wanted y) (flat_map wanted (take n xs)) h in
+    subst (λ k. AllHold (flat_map wanted (take k (y ∷ xs)))) (sym next) (hold_append (wanted y) (flat_map wanted (take (n + 1) xs)) front (held_more wanted xs n x back e g))
 
--- the first fault of a statement, where all before it have what they want
-pub first_of : (t : Counts) (ss : List Line) (n : ℕ) (s : Line) (e : ImageFault) → HeldUpTo t ss n → slice_get ss n ≡ Some s → FirstFailedCheck (op_checks t s.op) e → FirstFailedCheck (line_checks t ss) e
-first_of t [] n s e h i f = absurd cc
-first_of t (r ∷ ss) zero s e h i f =
-    let same : r ≡ s = cc in
-    first_here (op_checks t r.op) (line_checks t ss) e (subst (λ (l : Line). FirstFailedCheck (op_checks t l.op) e) (sym same) f)
-first_of t (r ∷ ss) (suc n) s e h i f =
-    first_later (op_checks t r.op) (line_checks t ss) e (hold_front (op_checks t r.op) (line_checks t (take n ss)) h) (first_of t ss n s e (hold_back (op_checks t r.op) (line_checks t (take n ss)) h) i f)
+-- the first fault of one of them, where all before it have what they want
+pub first_of : {A : Type 0} (wanted : A → List Check) (xs : List A) (n : ℕ) (x : A) (e : ImageFault) → HeldUpTo wanted xs n → slice_get xs n ≡ Some x → FirstFailedCheck (wanted x) e → FirstFailedCheck (flat_map wanted xs) e
+first_of wanted [] n x e h i f = absurd cc
+first_of wanted (y ∷ xs) zero x e h i f =
+    let same : y ≡ x = cc in
+    first_here (wanted y) (flat_map wanted xs) e (subst (λ z. FirstFailedCheck (wanted z) e) (sym same) f)
+first_of wanted (y ∷ xs) (suc n) x e h i f =
+    first_later (wanted y) (flat_map wanted xs) e (hold_front (wanted y) (flat_map wanted (take n xs)) h) (first_of wanted xs n x e (hold_back (wanted y) (flat_map wanted (take n xs)) h) i f)
+
+-- what a statement's operands want
+abbrev pub of_line : Counts → Line → List Check
+of_line t s = op_checks t s.op
 
 -- the kinds of the first so many variables
 abbrev pub KindsUpTo : List Variable → ℕ → List Kind → Type 0

@@ -15,7 +15,7 @@ use Rattle.vcm_loader.specs.Laws.{ValidCodesHaveNoRefusal, RefusalsAreOne, Writt
 use Rattle.vcm_loader.proofs.Soundness.{valid_checked}
 
 -- where all checks hold, none is told of
-none_first : (cs : List Check) (e : ImageFault) → AllHold cs → ¬ FirstFailedCheck cs e
+pub none_first : (cs : List Check) (e : ImageFault) → AllHold cs → ¬ FirstFailedCheck cs e
 none_first [] e h f = f
 none_first (c ∷ cs) e h (inl f) = none_first cs e h.1 f.1
 none_first (c ∷ cs) e h (inr f) = f.0 h.0

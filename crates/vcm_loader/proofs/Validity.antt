@@ -10,10 +10,10 @@ use Rattle.vcm_code.specs.declared.code.Code.{Code}
 use Rattle.vcm_code.specs.Ops.{op_of, statements_of, code_of}
 use Rattle.vcm_code.specs.Valid.{OpFits, AllFit, IsValid}
 use Rattle.vcm_fields.specs.Parts.{Operation, Line}
-use Rattle.vcm_fields.specs.Shape.{Place, Said, Filled, places, Parted, parted, taken_apart}
+use Rattle.vcm_fields.specs.Shape.{Place, Said, Filled, places, Parted, parted, taken_apart, over_places, over_parted}
 use Rattle.vcm_fields.specs.Shape as at
-use Rattle.vcm_loader.specs.Checks.{Counts, AllHold, place_checks, filled_checks, parted_checks}
-use Rattle.vcm_loader.specs.Expressions.{place_expressions, filled_expressions, parted_expressions, expressions}
+use Rattle.vcm_loader.specs.Checks.{Counts, AllHold, place_checks}
+use Rattle.vcm_loader.specs.Expressions.{place_expressions, expressions}
 use Rattle.vcm_loader.proofs.Judgements.{hold_front, hold_back}
 use Rattle.vcm_loader.proofs.Soundness.{judged_by, op_holds}
 
@@ -39,15 +39,15 @@ place_typed t (at.three k) e h = ((k, h.1.0), ((k, h.1.1.1.0), ((k, h.1.1.1.1.1.
 place_typed t at.assigned o h = ((h.1.1.0.0, h.1.1.0.2), tt)
 place_typed t _ x h = tt
 
-filled_typed : (t : Counts) (ps : List Place) (f : Filled ps) → AllHold (filled_checks t ps f) → Typed t.kinds (filled_expressions ps f)
+filled_typed : (t : Counts) (ps : List Place) (f : Filled ps) → AllHold (over_places (place_checks t) ps f) → Typed t.kinds (over_places place_expressions ps f)
 filled_typed t [] f h = tt
 filled_typed t (p ∷ []) f h = place_typed t p f h
 filled_typed t (p ∷ q ∷ ps) f h =
     let here = place_checks t p f.0 in
-    let behind = filled_checks t (q ∷ ps) f.1 in
-    typed_append t.kinds (place_expressions p f.0) (filled_expressions (q ∷ ps) f.1) (place_typed t p f.0 (hold_front here behind h)) (filled_typed t (q ∷ ps) f.1 (hold_back here behind h))
+    let behind = over_places (place_checks t) (q ∷ ps) f.1 in
+    typed_append t.kinds (place_expressions p f.0) (over_places place_expressions (q ∷ ps) f.1) (place_typed t p f.0 (hold_front here behind h)) (filled_typed t (q ∷ ps) f.1 (hold_back here behind h))
 
-parted_typed : (t : Counts) (p : Parted) → AllHold (parted_checks t p) → Typed t.kinds (parted_expressions p)
+parted_typed : (t : Counts) (p : Parted) → AllHold (over_parted (place_checks t) p) → Typed t.kinds (over_parted place_expressions p)
 parted_typed t (parted w f) h = filled_typed t (places w) f h
 
 -- and so each expression of a statement that fits

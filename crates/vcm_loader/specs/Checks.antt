@@ -1,5 +1,5 @@
 -- What a valid code wants, as one list of checks in the order of its statements and their operands.
-use Rattle.std.specs.Prelude.{◌≡◌, ◌<◌, ℕ, List, [], ◌∷◌, ◌++◌, length, Some, slice_get}
+use Rattle.std.specs.Prelude.{◌≡◌, ◌<◌, ℕ, List, [], ◌∷◌, ◌++◌, flat_map, length, Some, slice_get}
 use Rattle.vcm_num.specs.declared.number.Kind.{Kind}
 use Rattle.vcm_spec.specs.declared.expression.Item.{Item}
 use Rattle.vcm_spec.specs.declared.expression.Item.TheVariants.{Push, Apply, Combine}
@@ -9,7 +9,7 @@ use Rattle.vcm_expr.specs.Typed.{VariableBelow}
 use Rattle.vcm_code.specs.declared.branch.Branch.{Branch}
 use Rattle.vcm_code.specs.declared.code.Code.{Code}
 use Rattle.vcm_fields.specs.Parts.{Operation, Line}
-use Rattle.vcm_fields.specs.Shape.{Place, Said, Filled, places, Parted, parted, taken_apart}
+use Rattle.vcm_fields.specs.Shape.{Place, Said, over_operands}
 use Rattle.vcm_fields.specs.Shape as at
 
 -- what operands are judged by: the kinds of the variables, and how many features, frames and statements there are
@@ -93,24 +93,13 @@ place_checks t at.assigned o = index o.0 (length t.kinds) ∷ indexes o.1 (lengt
 place_checks t at.branches bs = targets bs t.statements
 place_checks t _ x = []
 
--- what stands in places, in their order
-abbrev pub filled_checks : Counts → (ps : List Place) → Filled ps → List Check
-filled_checks t [] f = []
-filled_checks t (p ∷ []) f = place_checks t p f
-filled_checks t (p ∷ q ∷ ps) f = place_checks t p f.0 ++ filled_checks t (q ∷ ps) f.1
-
--- a statement taken apart
-abbrev pub parted_checks : Counts → Parted → List Check
-parted_checks t (parted w f) = filled_checks t (places w) f
-
 -- a statement: its operands in their order
 abbrev pub op_checks : Counts → Operation → List Check
-op_checks t o = parted_checks t (taken_apart o)
+op_checks t o = over_operands (place_checks t) o
 
 -- all statements, one behind the other
 abbrev pub line_checks : Counts → List Line → List Check
-line_checks t [] = []
-line_checks t (s ∷ ss) = op_checks t s.op ++ line_checks t ss
+line_checks t ss = flat_map (λ (s : Line). op_checks t s.op) ss
 
 -- all checks of a code
 abbrev pub checks : Code → List Check

@@ -2,3 +2,4 @@ pub mod Checks
 pub mod Loading
 pub mod Expressions
 pub mod Laws
+pub mod inner

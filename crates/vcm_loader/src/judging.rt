@@ -1,17 +1,59 @@
-//! Whether the operands of a statement are as it wants them.
+//! Whether the operands of a statement are as it wants them, where it lies: in an image or in memory.
 
-ghost use Rattle.std.specs.Prelude.{◌≡◌, ◌<◌, [], ◌∷◌, ◌++◌, length, slice_get, Some, OnOk, IfErr};
-ghost use Rattle.vcm_num.specs.declared.number.Kind.{Kind as KindOf};
+ghost use Rattle.std.specs.Prelude.{◌≡◌, ◌<◌, [], ◌∷◌, flat_map, length, slice_get, Some, OnOk, IfErr};
 ghost use Rattle.vcm_spec.specs.Expression.{HasKind};
 ghost use Rattle.vcm_code.specs.Deciding.{Tells};
-ghost use Rattle.vcm_loader.specs.Checks.{index, target, indexes, assigned, ItemBelow, ItemsBelow, AllHold, wants, three, variable, targets, op_checks};
+ghost use Rattle.vcm_code.specs.Copies.{listed};
+ghost use Rattle.vcm_fields.specs.Fields.{in_field};
+ghost use Rattle.vcm_loader.specs.Checks.{index, target, indexes, assigned, ItemBelow, AllHold, wants, three, variable, place_checks, op_checks};
 ghost use Rattle.vcm_loader.specs.Loading.{FirstFailedCheck};
 
 use crate::walking::items_kind;
-use vcm_code::Op;
-use vcm_fields::{BorrowedOp, BranchSlice, ImageFault, ItemSlice};
-use vcm_num::Kind;
+use vcm_code::{Branch, Op};
+use vcm_expr::postfix_kind;
+use vcm_fields::{BranchSlice, Field, ImageFault, ItemSlice, fields_of};
+use vcm_num::{Items, Kind};
 use vcm_spec::{Item, Operand};
+
+/// An expression that is judged, in an image or in memory.
+pub(crate) trait Typed {
+    ghost use Rattle.std.specs.Prelude.{List, IfSome, IfNone};
+    ghost use Rattle.vcm_num.specs.declared.number.Kind.{Kind};
+    ghost use Rattle.vcm_spec.specs.declared.expression.Item.{Item};
+    ghost use Rattle.vcm_spec.specs.Expression.{HasKind};
+    ghost use Rattle.vcm_code.specs.Deciding.{Tells};
+    ghost use Rattle.vcm_loader.specs.Checks.{ItemsBelow};
+
+    /// Its postfix items.
+    ghost items: { Self → List Item };
+
+    /// Its kind, where the variables have these kinds; none where it is ill typed, or its stack passes 32.
+    fn kind(&self, kinds: &[Kind]) -> Option<Kind>
+        ensures some { IfSome result (λ k. HasKind kinds.now (items self.now) k) }
+        ensures none { IfNone result ((k : Kind) → ¬ HasKind kinds.now (items self.now) k) };
+
+    /// Whether all its variables are below a count.
+    fn is_below(&self, count: usize) -> bool
+        ensures { Tells result (ItemsBelow count (items self.now)) };
+}
+
+/// The branches of a SELECT that are judged, in an image or in memory.
+pub(crate) trait Aimed {
+    ghost use Rattle.std.specs.Prelude.{List, OnOk, IfErr};
+    ghost use Rattle.vcm_code.specs.declared.branch.Branch.{Branch};
+    ghost use Rattle.vcm_loader.specs.Checks.{AllHold, targets};
+    ghost use Rattle.vcm_loader.specs.Loading.{FirstFailedCheck};
+
+    /// Its branches.
+    ghost branches: { Self → List Branch };
+
+    /// Their targets, in their order. There are so many statements.
+    ///
+    /// Errors: BadTarget.
+    fn judge(&self, statements: usize) -> Result<(), ImageFault>
+        ensures ok { OnOk result (AllHold (targets (branches self.now) statements)) }
+        ensures err { IfErr result (λ e. FirstFailedCheck (targets (branches self.now) statements) e) };
+}
 
 // Whether the variable of an item, if it has one, is below a count.
 fn item_below(item: Item, count: usize) -> bool
@@ -24,18 +66,40 @@ fn item_below(item: Item, count: usize) -> bool
     }
 }
 
-// Whether all variables of an expression are.
-fn items_below(items: &ItemSlice<'_>, count: usize) -> bool
-    ensures { Tells result (ItemsBelow count items.now) }
-{
-    let mut rest = items.again();
-    while let Some((item, after)) = rest.split_first() {
-        if !item_below(item, count) {
-            return false;
-        }
-        rest = after;
+impl<'a> Typed for ItemSlice<'a> {
+    ghost items = { λ s. s };
+
+    fn kind(&self, kinds: &[Kind]) -> Option<Kind> {
+        items_kind(self, kinds)
     }
-    true
+
+    fn is_below(&self, count: usize) -> bool {
+        let mut rest = self.again();
+        while let Some((item, after)) = rest.split_first() {
+            if !item_below(item, count) {
+                return false;
+            }
+            rest = after;
+        }
+        true
+    }
+}
+
+impl Typed for Items<Item> {
+    ghost items = { λ s. s };
+
+    fn kind(&self, kinds: &[Kind]) -> Option<Kind> {
+        postfix_kind(self.as_slice(), kinds)
+    }
+
+    fn is_below(&self, count: usize) -> bool {
+        for item in self.as_slice() {
+            if !item_below(*item, count) {
+                return false;
+            }
+        }
+        true
+    }
 }
 
 // Whether two kinds are the same.
@@ -51,24 +115,24 @@ fn is_same_kind(a: Kind, b: Kind) -> bool
 }
 
 // Whether an expression has a kind.
-fn has_kind(items: &ItemSlice<'_>, kinds: &[Kind], want: Kind) -> bool
-    ensures { Tells result (HasKind kinds.now items.now want) }
+fn has_kind<E: Typed>(items: &E, kinds: &[Kind], want: Kind) -> bool
+    ensures { Tells result (HasKind kinds.now (E.items items.now) want) }
 {
-    match items_kind(items, kinds) {
+    match items.kind(kinds) {
         Some(kind) => is_same_kind(kind, want),
         None => false,
     }
 }
 
 // An expression of a kind: its indexes, then its types. One that has the kind has its variables, so the indexes are looked at only where it hasn't.
-fn judge_items(items: &ItemSlice<'_>, kinds: &[Kind], want: Kind) -> Result<(), ImageFault>
-    ensures ok { OnOk result (AllHold (wants kinds.now items.now want)) }
-    ensures err { IfErr result (λ e. FirstFailedCheck (wants kinds.now items.now want) e) }
+fn judge_items<E: Typed>(items: &E, kinds: &[Kind], want: Kind) -> Result<(), ImageFault>
+    ensures ok { OnOk result (AllHold (wants kinds.now (E.items items.now) want)) }
+    ensures err { IfErr result (λ e. FirstFailedCheck (wants kinds.now (E.items items.now) want) e) }
 {
     if has_kind(items, kinds, want) {
         return Ok(());
     }
-    if items_below(items, kinds.len()) {
+    if items.is_below(kinds.len()) {
         return Err(ImageFault::BadOperand);
     }
     Err(ImageFault::BadIndex)
@@ -76,15 +140,9 @@ fn judge_items(items: &ItemSlice<'_>, kinds: &[Kind], want: Kind) -> Result<(), 
 
 // Three expressions of one kind.
 #[tactic(auto, using(crate::proofs::Judgements::hold_append, crate::proofs::Judgements::first_here, crate::proofs::Judgements::first_later))]
-fn judge_three(
-    x: &ItemSlice<'_>,
-    y: &ItemSlice<'_>,
-    z: &ItemSlice<'_>,
-    kinds: &[Kind],
-    want: Kind,
-) -> Result<(), ImageFault>
-    ensures ok { OnOk result (AllHold (three kinds.now x.now y.now z.now want)) }
-    ensures err { IfErr result (λ e. FirstFailedCheck (three kinds.now x.now y.now z.now want) e) }
+fn judge_three<E: Typed>(x: &E, y: &E, z: &E, kinds: &[Kind], want: Kind) -> Result<(), ImageFault>
+    ensures ok { OnOk result (AllHold (three kinds.now (E.items x.now) (E.items y.now) (E.items z.now) want)) }
+    ensures err { IfErr result (λ e. FirstFailedCheck (three kinds.now (E.items x.now) (E.items y.now) (E.items z.now) want) e) }
 {
     judge_items(x, kinds, want)?;
     judge_items(y, kinds, want)?;
@@ -130,19 +188,19 @@ fn judge_variable(v: u16, kinds: &[Kind], want: Kind) -> Result<(), ImageFault>
 
 // An expression of the kind that a variable has.
 #[tactic(auto, using(crate::proofs::Judgements::assigned_ok, crate::proofs::Judgements::assigned_err))]
-fn judge_assigned(v: u16, kind: Kind, e: &ItemSlice<'_>, kinds: &[Kind]) -> Result<(), ImageFault>
+fn judge_assigned<E: Typed>(v: u16, kind: Kind, e: &E, kinds: &[Kind]) -> Result<(), ImageFault>
     requires { slice_get kinds.now v ≡ Some kind }
-    ensures ok { OnOk result (AllHold (indexes e.now (length kinds.now) ∷ assigned kinds.now v e.now ∷ [])) }
-    ensures err { IfErr result (λ f. FirstFailedCheck (indexes e.now (length kinds.now) ∷ assigned kinds.now v e.now ∷ []) f) }
+    ensures ok { OnOk result (AllHold (indexes (E.items e.now) (length kinds.now) ∷ assigned kinds.now v (E.items e.now) ∷ [])) }
+    ensures err { IfErr result (λ f. FirstFailedCheck (indexes (E.items e.now) (length kinds.now) ∷ assigned kinds.now v (E.items e.now) ∷ []) f) }
 {
     judge_items(e, kinds, kind)?;
     Ok(())
 }
 
 // An ASSIGN: its variable, then an expression of that kind.
-fn judge_assign(v: u16, e: &ItemSlice<'_>, kinds: &[Kind]) -> Result<(), ImageFault>
-    ensures ok { OnOk result (AllHold (index v (length kinds.now) ∷ indexes e.now (length kinds.now) ∷ assigned kinds.now v e.now ∷ [])) }
-    ensures err { IfErr result (λ f. FirstFailedCheck (index v (length kinds.now) ∷ indexes e.now (length kinds.now) ∷ assigned kinds.now v e.now ∷ []) f) }
+fn judge_assign<E: Typed>(v: u16, e: &E, kinds: &[Kind]) -> Result<(), ImageFault>
+    ensures ok { OnOk result (AllHold (index v (length kinds.now) ∷ indexes (E.items e.now) (length kinds.now) ∷ assigned kinds.now v (E.items e.now) ∷ [])) }
+    ensures err { IfErr result (λ f. FirstFailedCheck (index v (length kinds.now) ∷ indexes (E.items e.now) (length kinds.now) ∷ assigned kinds.now v (E.items e.now) ∷ []) f) }
 {
     if usize::from(v) >= kinds.len() {
         return Err(ImageFault::BadIndex);
@@ -151,110 +209,70 @@ fn judge_assign(v: u16, e: &ItemSlice<'_>, kinds: &[Kind]) -> Result<(), ImageFa
     Ok(())
 }
 
-// An IF: its test, then its target.
-#[tactic(auto, using(crate::proofs::Judgements::hold_append, crate::proofs::Judgements::first_here, crate::proofs::Judgements::first_later))]
-fn judge_if(
-    test: &ItemSlice<'_>,
-    to: u32,
-    kinds: &[Kind],
-    statements: usize,
-) -> Result<(), ImageFault>
-    ensures ok { OnOk result (AllHold (wants kinds.now test.now KindOf.Bool ++ (target to statements ∷ []))) }
-    ensures err { IfErr result (λ e. FirstFailedCheck (wants kinds.now test.now KindOf.Bool ++ (target to statements ∷ [])) e) }
-{
-    judge_items(test, kinds, Kind::Bool)?;
-    judge_target(to, statements)?;
-    Ok(())
-}
+impl<'a> Aimed for BranchSlice<'a> {
+    ghost branches = { λ s. s };
 
-// A DO: its variable, its three values, then its exit.
-#[tactic(auto, using(crate::proofs::Judgements::hold_append, crate::proofs::Judgements::first_here, crate::proofs::Judgements::first_later))]
-fn judge_do(
-    v: u16,
-    initial: &ItemSlice<'_>,
-    limit: &ItemSlice<'_>,
-    increment: &ItemSlice<'_>,
-    exit: u32,
-    kinds: &[Kind],
-    statements: usize,
-) -> Result<(), ImageFault>
-    ensures ok { OnOk result (AllHold (variable kinds.now v KindOf.Int ++ (three kinds.now initial.now limit.now increment.now KindOf.Int ++ (target exit statements ∷ [])))) }
-    ensures err { IfErr result (λ e. FirstFailedCheck (variable kinds.now v KindOf.Int ++ (three kinds.now initial.now limit.now increment.now KindOf.Int ++ (target exit statements ∷ []))) e) }
-{
-    judge_variable(v, kinds, Kind::Int)?;
-    judge_three(initial, limit, increment, kinds, Kind::Int)?;
-    judge_target(exit, statements)?;
-    Ok(())
-}
-
-// The targets of branches, in their order.
-fn judge_branches(branches: &BranchSlice<'_>, statements: usize) -> Result<(), ImageFault>
-    ensures ok { OnOk result (AllHold (targets branches.now statements)) }
-    ensures err { IfErr result (λ e. FirstFailedCheck (targets branches.now statements) e) }
-{
-    let mut rest = branches.again();
-    while let Some((branch, after)) = rest.split_first() {
-        judge_target(branch.target, statements)?;
-        rest = after;
+    fn judge(&self, statements: usize) -> Result<(), ImageFault> {
+        let mut rest = self.again();
+        while let Some((branch, after)) = rest.split_first() {
+            judge_target(branch.target, statements)?;
+            rest = after;
+        }
+        Ok(())
     }
-    Ok(())
 }
 
-// A SELECT: its value, the targets of its branches, then its last target.
-#[tactic(auto, using(crate::proofs::Judgements::hold_append, crate::proofs::Judgements::first_here, crate::proofs::Judgements::first_later))]
-fn judge_select(
-    value: &ItemSlice<'_>,
-    branches: &BranchSlice<'_>,
-    to: u32,
+impl Aimed for Items<Branch> {
+    ghost branches = { λ s. s };
+
+    fn judge(&self, statements: usize) -> Result<(), ImageFault> {
+        for branch in self.as_slice() {
+            judge_target(branch.target, statements)?;
+        }
+        Ok(())
+    }
+}
+
+// What stands in one place.
+fn judge_field<E: Typed, T, B: Aimed>(
+    field: &Field<'_, E, T, B>,
     kinds: &[Kind],
+    features: usize,
+    frames: usize,
     statements: usize,
 ) -> Result<(), ImageFault>
-    ensures ok { OnOk result (AllHold (wants kinds.now value.now KindOf.Int ++ (targets branches.now statements ++ (target to statements ∷ [])))) }
-    ensures err { IfErr result (λ e. FirstFailedCheck (wants kinds.now value.now KindOf.Int ++ (targets branches.now statements ++ (target to statements ∷ []))) e) }
+    ensures ok { OnOk result (AllHold (in_field E.items (λ t. []) B.branches (place_checks (record { kinds = kinds.now; features = features; frames = frames; statements = statements })) field.now)) }
+    ensures err { IfErr result (λ e. FirstFailedCheck (in_field E.items (λ t. []) B.branches (place_checks (record { kinds = kinds.now; features = features; frames = frames; statements = statements })) field.now) e) }
 {
-    judge_items(value, kinds, Kind::Int)?;
-    judge_branches(branches, statements)?;
-    judge_target(to, statements)?;
-    Ok(())
+    match field {
+        Field::Variable(kind, v) => judge_variable(*v, kinds, *kind),
+        Field::Feature(f) => judge_index(*f, features),
+        Field::Frame(f) => judge_index(*f, frames),
+        Field::Target(to) => judge_target(*to, statements),
+        Field::Items(kind, e) => judge_items(*e, kinds, *kind),
+        Field::Three(kind, x, y, z) => judge_three(*x, *y, *z, kinds, *kind),
+        Field::Assigned(v, e) => judge_assign(*v, *e, kinds),
+        Field::Branches(branches) => branches.judge(statements),
+        Field::Nothing | Field::Pair(_) | Field::Turn(_) | Field::Quarters(_) => Ok(()),
+        Field::Toward(_) | Field::Direction(_) | Field::Setting(_) => Ok(()),
+        Field::Source(_) | Field::Part(_) | Field::Text(_) => Ok(()),
+    }
 }
 
-// An ENDDO: its variable, then its target.
-#[tactic(auto, using(crate::proofs::Judgements::hold_append, crate::proofs::Judgements::first_here, crate::proofs::Judgements::first_later))]
-fn judge_enddo(v: u16, to: u32, kinds: &[Kind], statements: usize) -> Result<(), ImageFault>
-    ensures ok { OnOk result (AllHold (variable kinds.now v KindOf.Int ++ (target to statements ∷ []))) }
-    ensures err { IfErr result (λ e. FirstFailedCheck (variable kinds.now v KindOf.Int ++ (target to statements ∷ [])) e) }
-{
-    judge_variable(v, kinds, Kind::Int)?;
-    judge_target(to, statements)?;
-    Ok(())
-}
-
-// An OBTAIN: its variable, then its feature.
-#[tactic(auto, using(crate::proofs::Judgements::hold_append, crate::proofs::Judgements::first_here, crate::proofs::Judgements::first_later))]
-fn judge_obtain(v: u16, f: u16, kinds: &[Kind], features: usize) -> Result<(), ImageFault>
-    ensures ok { OnOk result (AllHold (variable kinds.now v KindOf.Real ++ (index f features ∷ []))) }
-    ensures err { IfErr result (λ e. FirstFailedCheck (variable kinds.now v KindOf.Real ++ (index f features ∷ [])) e) }
-{
-    judge_variable(v, kinds, Kind::Real)?;
-    judge_index(f, features)?;
-    Ok(())
-}
-
-// A feature or a frame, of which there are so many, then three lengths.
-#[tactic(auto, using(crate::proofs::Judgements::hold_append, crate::proofs::Judgements::first_here, crate::proofs::Judgements::first_later))]
-fn judge_point(
-    i: u16,
-    count: usize,
-    x: &ItemSlice<'_>,
-    y: &ItemSlice<'_>,
-    z: &ItemSlice<'_>,
+// What stands in places, in their order.
+fn judge_fields<E: Typed, T, B: Aimed>(
+    fields: &[Field<'_, E, T, B>],
     kinds: &[Kind],
+    features: usize,
+    frames: usize,
+    statements: usize,
 ) -> Result<(), ImageFault>
-    ensures ok { OnOk result (AllHold (index i count ∷ three kinds.now x.now y.now z.now KindOf.Real)) }
-    ensures err { IfErr result (λ e. FirstFailedCheck (index i count ∷ three kinds.now x.now y.now z.now KindOf.Real) e) }
+    ensures ok { OnOk result (AllHold (flat_map (in_field E.items (λ t. []) B.branches (place_checks (record { kinds = kinds.now; features = features; frames = frames; statements = statements }))) fields.now)) }
+    ensures err { IfErr result (λ e. FirstFailedCheck (flat_map (in_field E.items (λ t. []) B.branches (place_checks (record { kinds = kinds.now; features = features; frames = frames; statements = statements }))) fields.now) e) }
 {
-    judge_index(i, count)?;
-    judge_three(x, y, z, kinds, Kind::Real)?;
+    for field in fields {
+        judge_field(field, kinds, features, frames, statements)?;
+    }
     Ok(())
 }
 
@@ -263,35 +281,15 @@ fn judge_point(
 /// # Errors
 ///
 /// BadIndex, BadTarget or BadOperand.
-pub(crate) fn judge_operation(
-    op: &BorrowedOp<'_>,
+pub(crate) fn judge_operation<E: Typed, T, B: Aimed>(
+    op: &Op<E, T, B>,
     kinds: &[Kind],
     features: usize,
     frames: usize,
     statements: usize,
 ) -> Result<(), ImageFault>
-    ensures ok { OnOk result (AllHold (op_checks (record { kinds = kinds.now; features = features; frames = frames; statements = statements }) op.now)) }
-    ensures err { IfErr result (λ e. FirstFailedCheck (op_checks (record { kinds = kinds.now; features = features; frames = frames; statements = statements }) op.now) e) }
+    ensures ok { OnOk result (AllHold (op_checks (record { kinds = kinds.now; features = features; frames = frames; statements = statements }) (listed E.items (λ t. []) B.branches op.now))) }
+    ensures err { IfErr result (λ e. FirstFailedCheck (op_checks (record { kinds = kinds.now; features = features; frames = frames; statements = statements }) (listed E.items (λ t. []) B.branches op.now)) e) }
 {
-    match op {
-        Op::EndFil | Op::GoHome | Op::EndIf | Op::Label | Op::EndMes | Op::Text(_) => Ok(()),
-        Op::Case | Op::DftCas | Op::EndSel => Ok(()),
-        Op::Goto(x, y, z) => judge_three(x, y, z, kinds, Kind::Real),
-        Op::Assign(v, e) => judge_assign(*v, e, kinds),
-        Op::If(test, to) => judge_if(test, *to, kinds, statements),
-        Op::Else(to) | Op::JumpTo(to) | Op::EndCas(to) => judge_target(*to, statements),
-        Op::Do(v, _, initial, limit, increment, exit) => {
-            judge_do(*v, initial, limit, increment, *exit, kinds, statements)
-        }
-        Op::EndDo(v, _, to) => judge_enddo(*v, *to, kinds, statements),
-        Op::Select(value, branches, to) => { judge_select(value, branches, *to, kinds, statements) }
-        Op::Feat(f, x, y, z, _) | Op::PtMeas(f, x, y, z, _) => {
-            judge_point(*f, features, x, y, z, kinds)
-        }
-        Op::Trans(f, x, y, z) => judge_point(*f, frames, x, y, z, kinds),
-        Op::SnSet(_, length) => judge_items(length, kinds, Kind::Real),
-        Op::Obtain(v, _, f, _) => judge_obtain(*v, *f, kinds, features),
-        Op::Meas(f) | Op::Output(_, f) => judge_index(*f, features),
-        Op::Rotate(f, _, _) | Op::Recall(f) => judge_index(*f, frames),
-    }
+    judge_fields(&fields_of(op), kinds, features, frames, statements)
 }

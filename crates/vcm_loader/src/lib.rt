@@ -6,10 +6,12 @@ pub mod laws;
 mod loaded;
 mod loading;
 mod places;
+mod valid;
 mod walking;
 
 pub use loaded::Loaded;
 pub use loading::load;
+pub use valid::is_valid;
 pub use vcm_fields::{
     BorrowedOp, BorrowedStatement, BorrowedVariable, BranchSlice, ImageFault, ItemSlice, TextSlice,
 };

@@ -8,39 +8,24 @@ use Rattle.vcm_spec.specs.Setup.{Variable as Entry}
 use Rattle.vcm_code.specs.declared.branch.Branch.{Branch}
 use Rattle.vcm_code.specs.declared.version.Version.{Version}
 use Rattle.vcm_code.specs.declared.version.Version.TheVariants.{One, Two}
-use Rattle.vcm_code.specs.declared.op.Op.TheVariants as ops
-use Rattle.vcm_fields.specs.Parts.{Operation, Line}
+use Rattle.vcm_fields.specs.Parts.{Line}
+use Rattle.vcm_fields.specs.Shape.{Place, Said, Filled, Parted, parted, places, taken_apart, over_places, over_parted, over_operands}
+use Rattle.vcm_fields.specs.Shape as at
 use Rattle.vcm_fields.specs.Words.{word_of}
+use Rattle.vcm_fields.specs.Fields.{PlainField, in_plain}
 use Rattle.vcm_words.specs.declared.row.Row.TheVariants as rows
-use Rattle.vcm_words.specs.Cutting.{split}
 use Rattle.vcm_words.specs.Enclosed.{closed, opened}
 use Rattle.vcm_words.specs.Items.{item_text, expression}
 use Rattle.vcm_words.specs.Branches.{branch_text, branches}
-use Rattle.vcm_words.specs.Operands.{operands, single, number_text, lettered, text, direction_text, setting_text, source_text, turn_text, word_text}
+use Rattle.vcm_words.specs.Operands.{operands, place_words, single, lettered, axis_text, direction_text, setting_text, source_text, turn_text, word_text}
 use Rattle.vcm_words.specs.Rows.{row_text, kind_text}
-use Rattle.vcm_print.specs.declared.column.Column.TheVariants.{Nothing, Variable, Feature, Frame, Pair, Target, Number, Turn, Direction, Setting, Source, Items, Three, Text, Branches}
-use Rattle.vcm_print.specs.inner.Columns.{PlainColumn, columns}
-use Rattle.vcm_print.specs.inner.Written.{heading, items_bytes, branches_bytes, three_bytes, column_bytes, columns_bytes, statement_bytes, variable_bytes, name_bytes}
+use Rattle.vcm_print.specs.inner.Written.{heading, items_bytes, branches_bytes, place_bytes, statement_bytes, variable_bytes, name_bytes}
 use Rattle.vcm_print.specs.Listed.{listed}
 use Rattle.vcm_print.proofs.Joining.{blanked, blanked_append, joined_is, text_is}
 
--- the words of a column
-abbrev column_words : PlainColumn → List (List ℕ)
-column_words Nothing = []
-column_words (Variable n) = lettered 86 n
-column_words (Feature n) = lettered 70 n
-column_words (Frame n) = lettered 68 n
-column_words (Pair n) = lettered 76 n
-column_words (Target n) = lettered 64 n
-column_words (Number n) = number_text n
-column_words (Turn axis) = single (turn_text axis)
-column_words (Direction toward) = single (direction_text toward)
-column_words (Setting which) = single (setting_text which)
-column_words (Source which) = single (source_text which)
-column_words (Items items) = expression items
-column_words (Three x y z) = expression x ++ (expression y ++ expression z)
-column_words (Text bs) = text bs
-column_words (Branches bs) = branches bs
+-- what is written of fields
+abbrev pub bytes_of : List PlainField → List ℕ
+bytes_of fs = flat_map (in_plain place_bytes) fs
 
 -- values behind the first one, with a blank in front of each
 more_of : {A : Type 0} → (A → List ℕ) → List A → List ℕ
@@ -68,47 +53,40 @@ unfolding more_of
 branches_are [] = refl
 branches_are (b ∷ bs) = enclosed_is 123 125 branch_text b bs
 
-three_are : (x y z : List Item) → blanked (expression x ++ (expression y ++ expression z)) ≡ three_bytes x y z
-three_are x y z =
-    blanked_append (expression x) (expression y ++ expression z)
-    ∙ ap (λ l. l ++ blanked (expression y ++ expression z)) (items_are x)
-    ∙ ap (λ l. items_bytes x ++ l) (blanked_append (expression y) (expression z) ∙ ap (λ l. l ++ blanked (expression z)) (items_are y) ∙ ap (λ l. items_bytes y ++ l) (items_are z))
+two_are : (v w : List (List ℕ)) (a b : List ℕ) → blanked v ≡ a → blanked w ≡ b → blanked (v ++ w) ≡ a ++ b
+two_are v w a b e f = blanked_append v w ∙ ap (λ l. l ++ blanked w) e ∙ ap (λ l. a ++ l) f
 
 one_is : (w : List ℕ) → blanked (single w) ≡ 32 ∷ w
 one_is w = ap (λ l. 32 ∷ l) (append-nil w)
 
-column_is : (p : PlainColumn) → blanked (column_words p) ≡ column_bytes p
-unfolding column_bytes
-column_is Nothing = refl
-column_is (Variable n) = one_is (86 ∷ decimal n)
-column_is (Feature n) = one_is (70 ∷ decimal n)
-column_is (Frame n) = one_is (68 ∷ decimal n)
-column_is (Pair n) = one_is (76 ∷ decimal n)
-column_is (Target n) = one_is (64 ∷ decimal n)
-column_is (Number n) = one_is (decimal n)
-column_is (Turn axis) = one_is (turn_text axis)
-column_is (Direction toward) = one_is (direction_text toward)
-column_is (Setting which) = one_is (setting_text which)
-column_is (Source which) = one_is (source_text which)
-column_is (Items is) = items_are is
-column_is (Three x y z) = three_are x y z
-column_is (Text bs) = text_is (39 ∷ bs ++ 39 ∷ [])
-column_is (Branches bs) = branches_are bs
+-- the words of a place, with a blank in front of each
+place_is : (p : Place) (x : Said p) → blanked (place_words p x) ≡ place_bytes p x
+unfolding place_bytes
+place_is (at.variable k) n = one_is (86 ∷ decimal n)
+place_is at.feature n = one_is (70 ∷ decimal n)
+place_is at.frame n = one_is (68 ∷ decimal n)
+place_is at.pair n = one_is (76 ∷ decimal n)
+place_is at.target n = one_is (64 ∷ decimal n)
+place_is (at.items k) e = items_are e
+place_is (at.three k) t = two_are (expression t.0) (expression t.1.0 ++ expression t.1.1) _ _ (items_are t.0) (two_are (expression t.1.0) (expression t.1.1) _ _ (items_are t.1.0) (items_are t.1.1))
+place_is at.assigned o = two_are (lettered 86 o.0) (expression o.1) _ _ (one_is (86 ∷ decimal o.0)) (items_are o.1)
+place_is at.axis d = one_is (axis_text d)
+place_is at.direction d = one_is (direction_text d)
+place_is at.setting which = one_is (setting_text which)
+place_is at.source which = one_is (source_text which)
+place_is at.turn axis = one_is (turn_text axis)
+place_is at.quarters n = one_is (decimal n)
+place_is at.part n = one_is (decimal n)
+place_is at.text bs = text_is (39 ∷ bs ++ 39 ∷ [])
+place_is at.branches bs = branches_are bs
 
-columns_are : (ps : List PlainColumn) → blanked (flat_map column_words ps) ≡ columns_bytes ps
-columns_are [] = refl
-columns_are (p ∷ ps) = blanked_append (column_words p) (flat_map column_words ps) ∙ ap (λ l. l ++ blanked (flat_map column_words ps)) (column_is p) ∙ ap (λ l. column_bytes p ++ l) (columns_are ps)
+places_are : (ps : List Place) (x : Filled ps) → blanked (over_places place_words ps x) ≡ over_places place_bytes ps x
+places_are [] x = refl
+places_are (p ∷ []) x = place_is p x
+places_are (p ∷ q ∷ ps) x = two_are (place_words p x.0) (over_places place_words (q ∷ ps) x.1) _ _ (place_is p x.0) (places_are (q ∷ ps) x.1)
 
--- the words of the columns are the operands
-operands_are : (op : Operation) → flat_map column_words (columns op) ≡ operands op
-unfolding columns
-operands_are ops.EndFil = refl
-operands_are (ops.Goto x y z) = append-nil (expression x ++ (expression y ++ expression z))
-operands_are (ops.Assign v e) = ap (λ l. (86 ∷ decimal v) ∷ l) (append-nil (expression e))
-operands_are (ops.SnSet which e) = ap (λ l. setting_text which ∷ l) (append-nil (expression e))
-operands_are (ops.Trans f x y z) = ap (λ l. (68 ∷ decimal f) ∷ l) (append-nil (expression x ++ (expression y ++ expression z)))
-operands_are (ops.Text bs) = append-nil (split 32 (39 ∷ bs ++ 39 ∷ []))
-operands_are _ = refl
+parted_are : (p : Parted) → blanked (over_parted place_words p) ≡ over_parted place_bytes p
+parted_are (parted w x) = places_are (places w) x
 
 assoc : (a b c p e : List ℕ) → (a ++ (b ++ (c ++ p))) ++ e ≡ (a ++ (b ++ c)) ++ (p ++ e)
 assoc a b c p e =
@@ -121,9 +99,8 @@ pub line_is : (n : ℕ) (s : Line) → statement_bytes n s ≡ listed (rows.Numb
 unfolding listed row_text
 line_is n s =
     let words : List (List ℕ) = decimal s.line ∷ word_text (word_of s.op) ∷ operands s.op in
-    let same : blanked (operands s.op) ≡ columns_bytes (columns s.op) = ap (λ ws. blanked ws) (sym (operands_are s.op)) ∙ columns_are (columns s.op) in
-    sym (ap (λ l. l ++ codes "\n") (joined_is (decimal n) words ∙ ap (λ l. decimal n ++ (32 ∷ decimal s.line ++ (32 ∷ word_text (word_of s.op) ++ l))) same)
-    ∙ assoc (decimal n) (32 ∷ decimal s.line) (32 ∷ word_text (word_of s.op)) (columns_bytes (columns s.op)) (codes "\n"))
+    sym (ap (λ l. l ++ codes "\n") (joined_is (decimal n) words ∙ ap (λ l. decimal n ++ (32 ∷ decimal s.line ++ (32 ∷ word_text (word_of s.op) ++ l))) (parted_are (taken_apart s.op)))
+    ∙ assoc (decimal n) (32 ∷ decimal s.line) (32 ∷ word_text (word_of s.op)) (over_operands place_bytes s.op) (codes "\n"))
 
 -- the line of a feature, and that of a frame
 pub feature_is : (n : ℕ) (name : List ℕ) → name_bytes (codes "FEATURE ") n name ≡ listed (rows.Feature n name)

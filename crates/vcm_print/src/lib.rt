@@ -2,8 +2,6 @@
 #![tactic(auto)]
 
 mod branches;
-mod column;
-mod columns;
 mod items;
 mod names;
 mod printing;

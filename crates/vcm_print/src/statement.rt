@@ -1,22 +1,21 @@
 //! The writing of statements.
 
-ghost use Rattle.std.specs.Prelude.{◌≡◌, ◌<◌, ◌++◌, ◌∷◌, Some, length, slice_get, decimal};
+ghost use Rattle.std.specs.Prelude.{◌≡◌, ◌<◌, ◌++◌, ◌∷◌, Some, length, slice_get, flat_map, decimal};
 ghost use Rattle.vcm_num.specs.Written.{Wrote};
 ghost use Rattle.vcm_fields.specs.Parts.{Line};
+ghost use Rattle.vcm_fields.specs.Fields.{in_plain};
 ghost use Rattle.vcm_words.specs.declared.row.Row.TheVariants.{Numbered};
-ghost use Rattle.vcm_print.specs.inner.Written.{three_bytes, column_bytes, columns_bytes, statement_bytes};
+ghost use Rattle.vcm_print.specs.inner.Written.{three_bytes, assigned_bytes, place_bytes, statement_bytes};
 ghost use Rattle.vcm_print.specs.Listed.{listed};
 
 use crate::branches::write_branches;
-use crate::column::Column;
-use crate::columns::{BorrowedColumn, columns};
 use crate::items::write_items;
-use crate::tables::{direction, setting, source, turn};
+use crate::tables::{axis, direction, setting, source, turn};
 use crate::words::word;
 use crate::writer::{write_marked, write_two};
 use itoa::Buffer;
 use std::io::Write;
-use vcm_fields::{BorrowedStatement, ItemSlice};
+use vcm_fields::{BorrowedField, BorrowedStatement, Field, ItemSlice, fields_of};
 use vcm_loader::Loaded;
 use vcm_num::{WriteFault, write_all, write_pieces};
 
@@ -50,36 +49,53 @@ fn write_three<W: Write>(
     write_items(z, writer)
 }
 
-// Writes a column with a blank in front of each of its words.
-#[tactic(auto, unfolding(crate::specs::inner::Written::column_bytes))]
-fn write_column<W: Write>(column: &BorrowedColumn<'_>, writer: &mut W) -> Result<(), WriteFault>
-    ensures { Wrote (W.contents writer.old) (W.contents writer.new) (column_bytes column.now) result }
+// Writes an expression behind the index of its variable.
+fn write_assigned<W: Write>(
+    variable: u32,
+    value: &ItemSlice<'_>,
+    writer: &mut W,
+) -> Result<(), WriteFault>
+    ensures { Wrote (W.contents writer.old) (W.contents writer.new) (assigned_bytes variable value.now) result }
 {
-    match column {
-        Column::Nothing => write_all(writer, b""),
-        Column::Variable(index) => write_lettered(b'V', u32::from(*index), writer),
-        Column::Feature(index) => write_lettered(b'F', u32::from(*index), writer),
-        Column::Frame(index) => write_lettered(b'D', u32::from(*index), writer),
-        Column::Pair(number) => write_lettered(b'L', u32::from(*number), writer),
-        Column::Target(number) => write_lettered(b'@', *number, writer),
-        Column::Number(number) => write_number(u32::from(*number), writer),
-        Column::Turn(axis) => write_two(b" ", turn(*axis), writer),
-        Column::Direction(toward) => write_two(b" ", direction(*toward), writer),
-        Column::Setting(which) => write_two(b" ", setting(*which), writer),
-        Column::Source(which) => write_two(b" ", source(*which), writer),
-        Column::Items(items) => write_items(items, writer),
-        Column::Three(x, y, z) => write_three(x, y, z, writer),
-        Column::Text(text) => write_pieces(writer, &[b" '", text.as_bytes(), b"'"]),
-        Column::Branches(branches) => write_branches(branches, writer),
+    write_lettered(b'V', variable, writer)?;
+    write_items(value, writer)
+}
+
+// Writes what stands in one place, with a blank in front of each of its words.
+#[tactic(auto, unfolding(crate::specs::inner::Written::place_bytes))]
+fn write_field<W: Write>(field: &BorrowedField<'_, '_>, writer: &mut W) -> Result<(), WriteFault>
+    ensures { Wrote (W.contents writer.old) (W.contents writer.new) (in_plain place_bytes field.now) result }
+{
+    match field {
+        Field::Nothing => write_all(writer, b""),
+        Field::Variable(_, index) => write_lettered(b'V', u32::from(*index), writer),
+        Field::Feature(index) => write_lettered(b'F', u32::from(*index), writer),
+        Field::Frame(index) => write_lettered(b'D', u32::from(*index), writer),
+        Field::Pair(number) => write_lettered(b'L', u32::from(*number), writer),
+        Field::Target(number) => write_lettered(b'@', *number, writer),
+        Field::Items(_, items) => write_items(items, writer),
+        Field::Three(_, x, y, z) => write_three(x, y, z, writer),
+        Field::Assigned(variable, value) => write_assigned(u32::from(*variable), value, writer),
+        Field::Toward(toward) => write_two(b" ", axis(*toward), writer),
+        Field::Direction(toward) => write_two(b" ", direction(*toward), writer),
+        Field::Setting(which) => write_two(b" ", setting(*which), writer),
+        Field::Source(which) => write_two(b" ", source(*which), writer),
+        Field::Turn(axis) => write_two(b" ", turn(*axis), writer),
+        Field::Quarters(number) | Field::Part(number) => write_number(u32::from(*number), writer),
+        Field::Text(text) => write_pieces(writer, &[b" '", text.as_bytes(), b"'"]),
+        Field::Branches(branches) => write_branches(branches, writer),
     }
 }
 
-// Writes the columns one behind the other.
-fn write_columns<W: Write>(columns: &[BorrowedColumn<'_>], writer: &mut W) -> Result<(), WriteFault>
-    ensures { Wrote (W.contents writer.old) (W.contents writer.new) (columns_bytes columns.now) result }
+// Writes what stands in places, one behind the other.
+fn write_fields<W: Write>(
+    fields: &[BorrowedField<'_, '_>],
+    writer: &mut W,
+) -> Result<(), WriteFault>
+    ensures { Wrote (W.contents writer.old) (W.contents writer.new) (flat_map (in_plain place_bytes) fields.now) result }
 {
-    for column in columns {
-        write_column(column, writer)?;
+    for field in fields {
+        write_field(field, writer)?;
     }
     Ok(())
 }
@@ -104,7 +120,7 @@ fn write_line<W: Write>(
     ensures { Wrote (W.contents writer.old) (W.contents writer.new) (statement_bytes n statement.now) result }
 {
     write_head(n, statement.line, word(&statement.op), writer)?;
-    write_columns(&columns(&statement.op), writer)?;
+    write_fields(&fields_of(&statement.op), writer)?;
     write_all(writer, b"\n")
 }
 

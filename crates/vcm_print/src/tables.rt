@@ -6,8 +6,8 @@ ghost use Rattle.vcm_words.specs.Operands.{axis_text, direction_text, setting_te
 use vcm_num::Axis;
 use vcm_spec::{Setting, Source};
 
-// A direction.
-fn axis(toward: Axis) -> &'static [u8]
+/// A direction.
+pub(crate) fn axis(toward: Axis) -> &'static [u8]
     ensures { result.now ≡ axis_text toward }
 {
     match toward {

@@ -7,11 +7,11 @@ use Rattle.vcm_code.specs.declared.version.Version.{Version}
 use Rattle.vcm_fields.specs.declared.word.Word.{Word}
 use Rattle.vcm_fields.specs.Words.{has_word}
 use Rattle.vcm_fields.specs.Fitting.{within, FitThree, FitsPlace, FitsFilled}
-use Rattle.vcm_fields.specs.Shape.{Place, Said, Filled, axes, directions, settings, sources, all_words}
+use Rattle.vcm_fields.specs.Shape.{Place, Said, Filled, axes, directions, settings, sources, all_words, over_places}
 use Rattle.vcm_fields.specs.Shape as at
 use Rattle.vcm_words.specs.Numbers.{number, counted, only_if}
 use Rattle.vcm_words.specs.WordReaders.{◌>>=◌, Spelling}
-use Rattle.vcm_words.specs.Operands.{single, number_text, number_at, axis_text, direction_text, setting_text, source_text, word_text, three, three_at, behind, spelling, words_of, filled_at, any_word_at, word_at}
+use Rattle.vcm_words.specs.Operands.{single, number_text, number_at, axis_text, direction_text, setting_text, source_text, word_text, three, three_at, behind, spelling, place_words, filled_at, any_word_at, word_at}
 use Rattle.vcm_words.proofs.Inverse.{Means, Reads, Ends, ends, bind_some, some_is, only_met, reads_one, reads_both, reads_tested, ends_both}
 use Rattle.vcm_words.proofs.NumberLaws.{means_number}
 use Rattle.vcm_words.proofs.WordLaws.{means_marked}
@@ -102,7 +102,7 @@ in_order [] = true
 in_order (p ∷ []) = true
 in_order (p ∷ q ∷ ps) = not (is_text p) && in_order (q ∷ ps)
 
-pub ends_filled : (ps : List Place) → in_order ps ≡ true → Ends (filled_at true ps) (words_of ps) (FitsFilled ps)
+pub ends_filled : (ps : List Place) → in_order ps ≡ true → Ends (filled_at true ps) (over_places place_words ps) (FitsFilled ps)
 ends_filled [] h = record {
   takes = λ ws x bare e. (ap (λ (y : Unit {0} × List (List ℕ)). y.1) (some_is (tt, ws) x e), tt);
   again = λ f g. refl;

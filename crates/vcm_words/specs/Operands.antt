@@ -13,7 +13,7 @@ use Rattle.vcm_fields.specs.declared.word.Word.TheVariants as words
 use Rattle.vcm_code.specs.declared.version.Version.{Version}
 use Rattle.vcm_fields.specs.Parts.{Operation, Line}
 use Rattle.vcm_fields.specs.Words.{word_of, has_word}
-use Rattle.vcm_fields.specs.Shape.{Place, Said, Filled, axes, directions, settings, sources, all_words, made, Form, form, form_of, places, Parted, parted, taken_apart}
+use Rattle.vcm_fields.specs.Shape.{Place, Said, Filled, axes, directions, settings, sources, all_words, made, Form, form, form_of, over_operands}
 use Rattle.vcm_fields.specs.Shape as at
 use Rattle.vcm_spec.specs.TextBytes.{is_text_byte}
 use Rattle.vcm_spec.specs.declared.expression.Item.{Item}
@@ -172,11 +172,9 @@ spelling at.part = record { words = number_text; at = part_at }
 spelling at.text = record { words = text; at = text_at }
 spelling at.branches = record { words = branches; at = branches_at }
 
--- the words of what stands in places
-abbrev pub words_of : (ps : List Place) → Filled ps → List (List ℕ)
-words_of [] f = []
-words_of (p ∷ []) f = (spelling p).words f
-words_of (p ∷ q ∷ ps) f = (spelling p).words f.0 ++ words_of (q ∷ ps) f.1
+-- the words of what stands in a place
+abbrev pub place_words : (p : Place) → Said p → List (List ℕ)
+place_words p x = (spelling p).words x
 
 -- reading what stands in places
 abbrev pub filled_at : Bool → (ps : List Place) → Reader (Filled ps)
@@ -186,13 +184,9 @@ filled_at exact (p ∷ q ∷ ps) = both ((spelling p).at exact) (filled_at exact
 
 -- ---- statements
 
--- the words of the values of a statement taken apart
-abbrev pub values : Parted → List (List ℕ)
-values (parted w f) = words_of (places w) f
-
 -- the operands of a statement
 abbrev pub operands : Operation → List (List ℕ)
-operands o = values (taken_apart o)
+operands o = over_operands place_words o
 
 -- reading the places of a form
 abbrev pub form_at : Bool → Form → Reader Operation

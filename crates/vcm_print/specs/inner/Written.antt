@@ -6,14 +6,13 @@ use Rattle.vcm_code.specs.declared.branch.Branch.{Branch}
 use Rattle.vcm_code.specs.declared.version.Version.{Version}
 use Rattle.vcm_code.specs.declared.version.Version.TheVariants.{One, Two}
 use Rattle.vcm_fields.specs.Parts.{Line}
+use Rattle.vcm_fields.specs.Shape.{Place, Said, over_operands}
+use Rattle.vcm_fields.specs.Shape as at
 use Rattle.vcm_fields.specs.Words.{word_of}
 use Rattle.vcm_words.specs.Branches.{branch_text}
 use Rattle.vcm_words.specs.Items.{item_text}
-use Rattle.vcm_words.specs.Operands.{direction_text, setting_text, source_text, turn_text, word_text}
+use Rattle.vcm_words.specs.Operands.{axis_text, direction_text, setting_text, source_text, turn_text, word_text}
 use Rattle.vcm_words.specs.Rows.{ListRow, text_of, numbered, kind_text}
-use Rattle.vcm_print.specs.declared.column.Column.TheVariants.{Nothing, Variable, Feature, Frame, Pair, Target, Number, Turn, Direction}
-use Rattle.vcm_print.specs.declared.column.Column.TheVariants.{Setting, Source, Items, Three, Text, Branches}
-use Rattle.vcm_print.specs.inner.Columns.{PlainColumn, columns}
 
 -- items behind the first one, with a blank in front of each
 abbrev pub more_items : List Item → List ℕ
@@ -37,27 +36,29 @@ abbrev pub branches_bytes : List Branch → List ℕ
 branches_bytes [] = codes " {}"
 branches_bytes (b ∷ bs) = (codes " {" ++ branch_text b) ++ (more_branches bs ++ codes "}")
 
--- a column with a blank in front of each of its words
-unfoldable pub column_bytes : PlainColumn → List ℕ
-column_bytes Nothing = []
-column_bytes (Variable n) = 32 ∷ 86 ∷ decimal n
-column_bytes (Feature n) = 32 ∷ 70 ∷ decimal n
-column_bytes (Frame n) = 32 ∷ 68 ∷ decimal n
-column_bytes (Pair n) = 32 ∷ 76 ∷ decimal n
-column_bytes (Target n) = 32 ∷ 64 ∷ decimal n
-column_bytes (Number n) = 32 ∷ decimal n
-column_bytes (Turn axis) = 32 ∷ turn_text axis
-column_bytes (Direction toward) = 32 ∷ direction_text toward
-column_bytes (Setting which) = 32 ∷ setting_text which
-column_bytes (Source which) = 32 ∷ source_text which
-column_bytes (Items items) = items_bytes items
-column_bytes (Three x y z) = three_bytes x y z
-column_bytes (Text bs) = codes " '" ++ (bs ++ codes "'")
-column_bytes (Branches bs) = branches_bytes bs
+-- the index of a variable and an expression, with a blank in front of each
+abbrev pub assigned_bytes : ℕ → List Item → List ℕ
+assigned_bytes v e = (32 ∷ 86 ∷ decimal v) ++ items_bytes e
 
--- columns, one behind the other
-abbrev pub columns_bytes : List PlainColumn → List ℕ
-columns_bytes ps = flat_map column_bytes ps
+-- what stands in a place, with a blank in front of each of its words
+unfoldable pub place_bytes : (p : Place) → Said p → List ℕ
+place_bytes (at.variable k) n = 32 ∷ 86 ∷ decimal n
+place_bytes at.feature n = 32 ∷ 70 ∷ decimal n
+place_bytes at.frame n = 32 ∷ 68 ∷ decimal n
+place_bytes at.pair n = 32 ∷ 76 ∷ decimal n
+place_bytes at.target n = 32 ∷ 64 ∷ decimal n
+place_bytes (at.items k) e = items_bytes e
+place_bytes (at.three k) t = three_bytes t.0 t.1.0 t.1.1
+place_bytes at.assigned o = assigned_bytes o.0 o.1
+place_bytes at.axis d = 32 ∷ axis_text d
+place_bytes at.direction d = 32 ∷ direction_text d
+place_bytes at.setting which = 32 ∷ setting_text which
+place_bytes at.source which = 32 ∷ source_text which
+place_bytes at.turn axis = 32 ∷ turn_text axis
+place_bytes at.quarters n = 32 ∷ decimal n
+place_bytes at.part n = 32 ∷ decimal n
+place_bytes at.text bs = codes " '" ++ (bs ++ codes "'")
+place_bytes at.branches bs = branches_bytes bs
 
 -- the number of a statement, its source line, and its word
 abbrev pub head_bytes : ℕ → Line → List ℕ
@@ -65,7 +66,7 @@ head_bytes n s = decimal n ++ (32 ∷ decimal s.line ++ (32 ∷ word_text (word_
 
 -- a statement's line and its end
 abbrev pub statement_bytes : ℕ → Line → List ℕ
-statement_bytes n s = head_bytes n s ++ (columns_bytes (columns s.op) ++ codes "\n")
+statement_bytes n s = head_bytes n s ++ (over_operands place_bytes s.op ++ codes "\n")
 
 -- a variable's line and its end
 abbrev pub variable_bytes : ℕ → Kind → List ℕ → ℕ → List ℕ

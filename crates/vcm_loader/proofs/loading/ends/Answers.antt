@@ -1,7 +1,7 @@
 use Rattle.std.proofs.Common.{sym, ap, ◌∙◌, ◌-◌, arith}
 use Rattle.std.proofs.lemmas.Grind.{common_steps}
 use Rattle.std.specs.Prelude.{slice_get}
-use Rattle.vcm_code.proofs.Kinded.{tells_end}
+use Rattle.vcm_loader.proofs.Kinded.{tells_end}
 use Rattle.vcm_loader.proofs.loading.ends.Goals as goal
 
 pub returns : goal.returns
