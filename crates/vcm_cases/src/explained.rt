@@ -3,7 +3,7 @@
 use crate::answers::{asm_answer, check_answer, replies, run_answer};
 use crate::tally::Tally;
 use std::alloc::Global;
-use vcm_explain::{EXPLANATIONS, Entry};
+use vcm_explain::{Entry, explanations};
 use vcm_test_texts::{BOUNDS, ONE_BLOCK, joined, program_of};
 
 // What stands before the place and the kind of an example, and before what it gives.
@@ -84,12 +84,18 @@ fn judge_entry(alloc: Global, entry: &Entry, tally: &mut Tally) -> Option<()> {
     Some(())
 }
 
+// Judges those of some explanations.
+fn judge_entries(alloc: Global, entries: &[Entry], tally: &mut Tally) -> Option<()> {
+    for entry in entries {
+        judge_entry(alloc, entry, tally)?;
+    }
+    Some(())
+}
+
 /// Judges the examples of all explanations; none where memory runs out.
 pub(crate) fn judge_examples(alloc: Global, tally: &mut Tally) -> Option<()> {
-    for entries in EXPLANATIONS {
-        for entry in entries {
-            judge_entry(alloc, entry, tally)?;
-        }
+    for entries in explanations() {
+        judge_entries(alloc, entries, tally)?;
     }
     Some(())
 }

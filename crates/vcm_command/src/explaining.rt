@@ -5,18 +5,24 @@ use crate::program::{fails, output, written};
 use std::alloc::Global;
 use std::fmt::Write as _;
 use std::io::Write;
-use vcm_explain::{EXPLANATIONS, explanation};
+use vcm_explain::{Entry, explanation, explanations};
 use vcm_num::write_all;
+
+// Appends the titles of explanations, a line each.
+fn put_titles(text: &mut String, entries: &[Entry]) -> Result<(), Message<'static>> {
+    for entry in entries {
+        if writeln!(text, "{}", entry.title()).is_err() {
+            return Err(Message::NoMemory);
+        }
+    }
+    Ok(())
+}
 
 // The titles of all explanations, a line each.
 fn titles(alloc: Global) -> Result<String, Message<'static>> {
     let mut text = String::new(alloc);
-    for entries in EXPLANATIONS {
-        for entry in entries {
-            if writeln!(text, "{}", entry.title()).is_err() {
-                return Err(Message::NoMemory);
-            }
-        }
+    for entries in explanations() {
+        put_titles(&mut text, entries)?;
     }
     Ok(text)
 }

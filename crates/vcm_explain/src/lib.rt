@@ -13,13 +13,18 @@ use crate::run_entries::RUN_ENTRIES;
 use crate::session_entries::SESSION_ENTRIES;
 pub use entry::Entry;
 
-/// All explanations: of programs, of part files, images and listings, of the debugger, and of runs.
-pub const EXPLANATIONS: [&[Entry]; 4] = [
+// All explanations. A crate above that named them would be proved with all their texts in its goals.
+const EXPLANATIONS: [&[Entry]; 4] = [
     &PROGRAM_ENTRIES,
     &FILE_ENTRIES,
     &SESSION_ENTRIES,
     &RUN_ENTRIES,
 ];
+
+/// All explanations: of programs, of part files, images and listings, of the debugger, and of runs.
+pub fn explanations() -> [&'static [Entry]; 4] {
+    EXPLANATIONS
+}
 
 // What stands behind the word STOP, with which the line of a stop begins.
 fn behind_stop(words: &[u8]) -> &[u8] {

@@ -2,24 +2,23 @@
 use Rattle.std.proofs.Common.{◌≡◌, ◌≢◌, ℕ, ◌<◌, ◌≤◌, ◌⊎◌, inl, inr, Bool, true, false, IsTrue, List, [], ◌∷◌, length, suc, get_or, Result, Ok, Err, refl, sym, ap, ◌∙◌, subst}
 use Rattle.std.specs.Prelude.{not, ◌||◌}
 use Rattle.std.specs.List.{AllByRecursion}
-use Rattle.vcm_spec.specs.declared.expression.Item.{Item}
 use Rattle.vcm_spec.specs.Setup.{Variable as Entry}
 use Rattle.vcm_code.specs.declared.code.Code.{Code}
-use Rattle.vcm_code.specs.declared.op.Op.TheVariants.{EndFil, Goto, Assign, If, Do, EndDo, Feat, PtMeas, SnSet, Trans, Rotate, Obtain, Text, Select}
+use Rattle.vcm_code.specs.declared.op.Op.TheVariants.{EndFil}
 use Rattle.vcm_code.specs.Ops.{op_of, statements_of, code_of}
 use Rattle.vcm_code.specs.declared.version.Version.{Version}
 use Rattle.vcm_code.specs.declared.version.Version.TheVariants.{One, Two}
-use Rattle.vcm_code.specs.Ranges.{IsShort, OpInRange, AllInRange, is_selection, has_selection, IsOfVersion, IsInRange}
+use Rattle.vcm_code.specs.Ranges.{AllInRange, is_selection, has_selection, IsOfVersion, IsInRange}
 use Rattle.vcm_code.specs.Deciding.{Tells}
 use Rattle.vcm_fields.specs.Words.{word_of, is_of_select, has_word}
 use Rattle.vcm_expr.specs.Names.{AreNamed}
 use Rattle.vcm_fields.specs.declared.fault.ImageFault.{ImageFault}
 use Rattle.vcm_fields.specs.Parts.{Operation, Line}
-use Rattle.vcm_fields.specs.Fitting.{FitsExpression, FitsOperation, FitsLine, FitsEntry}
-use Rattle.vcm_fields.proofs.ItemParts.{in_range}
+use Rattle.vcm_fields.specs.Fitting.{FitsLine, FitsEntry}
 use Rattle.vcm_image.specs.inner.Fitted.{HasFitting}
 use Rattle.vcm_image.specs.Whole.{FitsImage, spelling, code_at}
 use Rattle.vcm_image.proofs.Wholes.{code_takes, code_again}
+use Rattle.vcm_image.proofs.Ranges.{fits_range}
 
 one_code : (c d : Code) → (r : Result Code ImageFault) → r ≡ Ok c → r ≡ Ok d → c ≡ d
 one_code c d r e f = let both : Ok c ≡ Ok d = sym e ∙ f in cc
@@ -29,29 +28,9 @@ one_image c d f g e = one_code c d (code_at (spelling c)) (code_again c f) (ap c
 
 -- ---- ranges
 
-short : (items : List Item) → FitsExpression items → IsShort items
-short items h = in_range 1 1024 (length items) h.0
-
-op_range : (o : Operation) → FitsOperation o → OpInRange (op_of o)
-op_range EndFil h = tt
-op_range (Goto x y z) h = (short x h.0, short y h.1.0, short z h.1.1)
-op_range (Assign v e) h = short e h.1
-op_range (If e to) h = short e h.0
-op_range (Do v p a b c exit) h = (h.1.0, short a h.1.1.0.0, short b h.1.1.0.1.0, short c h.1.1.0.1.1)
-op_range (EndDo v p to) h = h.1.0
-op_range (Feat f x y z toward) h = (short x h.1.0.0, short y h.1.0.1.0, short z h.1.0.1.1)
-op_range (PtMeas f x y z toward) h = (short x h.1.0.0, short y h.1.0.1.0, short z h.1.0.1.1)
-op_range (SnSet which e) h = short e h.1
-op_range (Trans f x y z) h = (short x h.1.0, short y h.1.1.0, short z h.1.1.1)
-op_range (Rotate f axis quarters) h = (h.1.0, h.1.1)
-op_range (Obtain v source f word) h = in_range 3 8 word h.1.1.1
-op_range (Text bytes) h = h
-op_range (Select e bs to) h = (short e h.0, h.1.0.0)
-op_range _ h = tt
-
 lines_range : (v : Version) (ss : List Line) → AllByRecursion (FitsLine v) ss → AllInRange (statements_of ss)
 lines_range v [] h = tt
-lines_range v (s ∷ ss) h = (op_range s.op h.0.1.1, lines_range v ss h.1)
+lines_range v (s ∷ ss) h = (fits_range s.op h.0.1.1, lines_range v ss h.1)
 
 -- the words of SELECT are those of its statements
 pub same_selection : (o : Operation) → is_selection (op_of o) ≡ is_of_select (word_of o)

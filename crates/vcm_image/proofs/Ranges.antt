@@ -1,14 +1,17 @@
 -- The fields of a statement that is in range are, and a statement fits whose fields do.
-use Rattle.std.proofs.Common.{List, [], ◌∷◌, ◌++◌, sym, subst}
+use Rattle.std.proofs.Common.{List, [], ◌∷◌, ◌++◌, sym, subst, length}
 use Rattle.std.specs.Prelude.{flat_map}
 use Rattle.std.specs.List.{AllByRecursion}
+use Rattle.vcm_spec.specs.declared.expression.Item.{Item}
 use Rattle.vcm_code.specs.declared.op.Op.TheVariants.{EndFil, Goto, GoHome, Assign, If, Else, EndIf, Do, EndDo, Label, JumpTo, Feat, Meas}
 use Rattle.vcm_code.specs.declared.op.Op.TheVariants.{PtMeas, EndMes, SnSet, Trans, Rotate, Recall, Obtain, Output, Text, Select, Case, EndCas, DftCas, EndSel}
 use Rattle.vcm_code.specs.Ops.{op_of}
-use Rattle.vcm_code.specs.Ranges.{OpInRange}
+use Rattle.vcm_code.specs.Ranges.{IsShort, OpInRange}
 use Rattle.vcm_fields.specs.Parts.{Operation}
+use Rattle.vcm_fields.specs.Shape as at
 use Rattle.vcm_fields.specs.Shape.{Place, Said, Filled, Parted, parted, places, taken_apart, over_places, over_parted, over_operands}
-use Rattle.vcm_fields.specs.Fitting.{FitsPlace, FitsFilled, FitsParted, FitsOperation}
+use Rattle.vcm_fields.specs.Fitting.{FitsExpression, FitsPlace, FitsFilled, FitsParted, FitsOperation}
+use Rattle.vcm_fields.proofs.ItemParts.{in_range}
 use Rattle.vcm_fields.specs.Fields.{PlainField, in_plain, alone, AreFields}
 use Rattle.vcm_fields.proofs.FieldPlaces.{values_are}
 use Rattle.vcm_image.specs.inner.Meeting.{Meets, FieldMeets, IsRanged}
@@ -99,6 +102,33 @@ back (Obtain v source f part) h = h.1.1.1.0
 back (Text bs) h = h.0
 back (Select e bs to) h = (h.0, h.1.0)
 back _ h = tt
+
+-- what fits an image is in its range
+short : (items : List Item) → FitsExpression items → IsShort items
+short items h = in_range 1 1024 (length items) h.0
+
+place_range : (p : Place) (x : Said p) → FitsPlace p x → IsRanged p x
+place_range at.pair n h = h
+place_range (at.items k) e h = short e h
+place_range (at.three k) t h = (short t.0 h.0, short t.1.0 h.1.0, short t.1.1 h.1.1)
+place_range at.assigned o h = short o.1 h.1
+place_range at.turn n h = h
+place_range at.quarters n h = h
+place_range at.part n h = in_range 3 8 n h
+place_range at.text bs h = h
+place_range at.branches bs h = h.0
+place_range _ x h = tt
+
+filled_range : (ps : List Place) (x : Filled ps) → FitsFilled ps x → AllByRecursion (Meets IsRanged) (over_places alone ps x)
+filled_range [] x h = tt
+filled_range (p ∷ []) x h = (place_range p x h, tt)
+filled_range (p ∷ q ∷ ps) x h = (place_range p x.0 h.0, filled_range (q ∷ ps) x.1 h.1)
+
+parted_range : (p : Parted) → FitsParted p → AllByRecursion (Meets IsRanged) (over_parted alone p)
+parted_range (parted w x) h = filled_range (places w) x h
+
+pub fits_range : (o : Operation) → FitsOperation o → OpInRange (op_of o)
+fits_range o h = back o (parted_range (taken_apart o) h)
 
 -- the fields of a statement in range are, and the other way round
 pub fields_ranged : (fs : List PlainField) (o : Operation) → AreFields fs o → OpInRange (op_of o) → AllByRecursion (FieldMeets IsRanged) fs
