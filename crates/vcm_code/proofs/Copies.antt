@@ -7,7 +7,8 @@ use Rattle.vcm_code.specs.declared.branch.Branch.{Branch}
 use Rattle.vcm_code.specs.declared.op.Statement.{Statement}
 use Rattle.vcm_code.specs.Copies.{listed, listed_statement}
 
-same_op : (op : Op (List Item) (List ℕ) (List Branch)) → listed (λ e. e) (λ t. t) (λ b. b) op ≡ op
+-- what a statement of lists does is what its lists say
+pub same_op : (op : Op (List Item) (List ℕ) (List Branch)) → listed (λ e. e) (λ t. t) (λ b. b) op ≡ op
 same_op EndFil = refl
 same_op _ = refl
 

@@ -2,7 +2,7 @@
 
 use crate::entry::Entry;
 
-pub(crate) const FILE_ENTRIES: [Entry; 22] = [
+const PART: [Entry; 4] = [
     Entry {
         keys: &["P00", "NoMemory"],
         text: "P00 NoMemory
@@ -44,6 +44,9 @@ For example, a part file:
   home = [0, 0, 100000]
 gives: P03 OutOfRange",
     },
+];
+
+const PLACING: [Entry; 3] = [
     Entry {
         keys: &["P04", "LowAboveHigh"],
         text: "P04 LowAboveHigh
@@ -79,6 +82,9 @@ For example, a part file:
   high = [30000, 30000, 20000]
 gives: P06 HomeNotClear",
     },
+];
+
+const IMAGE: [Entry; 5] = [
     Entry {
         keys: &["I00", "NoMemory"],
         text: "I00 NoMemory
@@ -111,6 +117,9 @@ A field of the image holds a value that it can't have: a kind that isn't one or 
 image's version doesn't have, a name with a wrong letter, a count over its limit.
 Do: the image is damaged; build it anew.",
     },
+];
+
+const CODE: [Entry; 5] = [
     Entry {
         keys: &["I05", "Trailing"],
         text: "I05 Trailing
@@ -142,6 +151,9 @@ Do: as for I06.",
 The image has no statements, or its last one isn't ENDFIL, so a run could leave it.
 Do: as for I06.",
     },
+];
+
+const LISTING: [Entry; 5] = [
     Entry {
         keys: &["L00", "NoMemory"],
         text: "L00 NoMemory
@@ -196,3 +208,28 @@ For example, a listing:
 gives: L04 NotValid line 3",
     },
 ];
+
+// Explanations of part files: P00 to P03.
+pub(crate) fn part_entries() -> &'static [Entry] {
+    &PART
+}
+
+// Explanations of blocks and the home: P04 to P06.
+pub(crate) fn placing_entries() -> &'static [Entry] {
+    &PLACING
+}
+
+// Explanations of images: I00 to I04.
+pub(crate) fn image_entries() -> &'static [Entry] {
+    &IMAGE
+}
+
+// Explanations of the code in an image: I05 to I09.
+pub(crate) fn code_entries() -> &'static [Entry] {
+    &CODE
+}
+
+// Explanations of listings: L00 to L04.
+pub(crate) fn listing_entries() -> &'static [Entry] {
+    &LISTING
+}

@@ -7,23 +7,36 @@ mod program_entries;
 mod run_entries;
 mod session_entries;
 
-use crate::file_entries::FILE_ENTRIES;
-use crate::program_entries::PROGRAM_ENTRIES;
-use crate::run_entries::RUN_ENTRIES;
-use crate::session_entries::SESSION_ENTRIES;
+use crate::file_entries::{
+    code_entries, image_entries, listing_entries, part_entries, placing_entries,
+};
+use crate::program_entries::{
+    block_entries, line_entries, name_entries, size_entries, spelling_entries, value_entries,
+};
+use crate::run_entries::{arithmetic_entries, device_entries, motion_entries, notice_entries};
+use crate::session_entries::session_entries;
 pub use entry::Entry;
 
-// All explanations. A crate above that named them would be proved with all their texts in its goals.
-const EXPLANATIONS: [&[Entry]; 4] = [
-    &PROGRAM_ENTRIES,
-    &FILE_ENTRIES,
-    &SESSION_ENTRIES,
-    &RUN_ENTRIES,
-];
-
 /// All explanations: of programs, of part files, images and listings, of the debugger, and of runs.
-pub fn explanations() -> [&'static [Entry]; 4] {
-    EXPLANATIONS
+pub fn explanations() -> [&'static [Entry]; 16] {
+    [
+        line_entries(),
+        spelling_entries(),
+        value_entries(),
+        name_entries(),
+        block_entries(),
+        size_entries(),
+        part_entries(),
+        placing_entries(),
+        image_entries(),
+        code_entries(),
+        listing_entries(),
+        session_entries(),
+        motion_entries(),
+        arithmetic_entries(),
+        notice_entries(),
+        device_entries(),
+    ]
 }
 
 // What stands behind the word STOP, with which the line of a stop begins.
@@ -38,7 +51,7 @@ fn behind_stop(words: &[u8]) -> &[u8] {
 /// which nothing stands, or a blank or a colon. The word STOP may stand before it.
 pub fn explanation(words: &str) -> Option<&'static Entry> {
     let words = behind_stop(words.as_bytes());
-    for entries in EXPLANATIONS {
+    for entries in explanations() {
         if let Some(entry) = entries.iter().find(|entry| entry.explains(words)) {
             return Some(entry);
         }

@@ -2,7 +2,7 @@
 
 use crate::entry::Entry;
 
-pub(crate) const PROGRAM_ENTRIES: [Entry; 23] = [
+const LINE: [Entry; 5] = [
     Entry {
         keys: &["E00", "NoMemory"],
         text: "E00 NoMemory
@@ -54,6 +54,9 @@ For example, a program:
   ENDFIL $
 gives: E04 DanglingContinuation line 2",
     },
+];
+
+const SPELLING: [Entry; 4] = [
     Entry {
         keys: &["E05", "UnknownStatement"],
         text: "E05 UnknownStatement
@@ -104,6 +107,9 @@ For example, from line 3 on:
   GOTO/99999999999999999999,0,0
 gives: E08 NumberTooLarge line 3",
     },
+];
+
+const VALUE: [Entry; 3] = [
     Entry {
         keys: &["E09", "TooDeep"],
         text: "E09 TooDeep
@@ -132,6 +138,9 @@ For example, from line 3 on:
   F(P1)=FEAT/POINT,CART,0,0,0,0,1,1
 gives: E11 NotAxis line 3",
     },
+];
+
+const NAME: [Entry; 3] = [
     Entry {
         keys: &["E12", "BadOrder"],
         text: "E12 BadOrder
@@ -176,6 +185,9 @@ For example, from line 3 on:
   X=ASSIGN/1
 gives: ok 2 statements",
     },
+];
+
+const BLOCK: [Entry; 4] = [
     Entry {
         keys: &["E15", "BadType"],
         text: "E15 BadType
@@ -235,6 +247,9 @@ For example, from line 3 on:
   ENDMES
 gives: E18 MeasBody line 5",
     },
+];
+
+const SIZE: [Entry; 4] = [
     Entry {
         keys: &["E19", "BadArguments"],
         text: "E19 BadArguments
@@ -285,3 +300,33 @@ For example, from line 3 on:
 gives: E22 Unsupported line 3",
     },
 ];
+
+// Explanations of lines: E00 to E04.
+pub(crate) fn line_entries() -> &'static [Entry] {
+    &LINE
+}
+
+// Explanations of how statements are written: E05 to E08.
+pub(crate) fn spelling_entries() -> &'static [Entry] {
+    &SPELLING
+}
+
+// Explanations of values: E09 to E11.
+pub(crate) fn value_entries() -> &'static [Entry] {
+    &VALUE
+}
+
+// Explanations of order and names: E12 to E14.
+pub(crate) fn name_entries() -> &'static [Entry] {
+    &NAME
+}
+
+// Explanations of kinds and blocks: E15 to E18.
+pub(crate) fn block_entries() -> &'static [Entry] {
+    &BLOCK
+}
+
+// Explanations of arguments and sizes: E19 to E22.
+pub(crate) fn size_entries() -> &'static [Entry] {
+    &SIZE
+}

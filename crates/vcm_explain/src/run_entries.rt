@@ -2,7 +2,7 @@
 
 use crate::entry::Entry;
 
-pub(crate) const RUN_ENTRIES: [Entry; 16] = [
+const MOTION: [Entry; 4] = [
     Entry {
         keys: &["ENDED"],
         text: "ENDED
@@ -54,6 +54,9 @@ For example, from line 3 on, beside part-a.toml of the examples:
   GOTO/501,0,100
 gives: stop TRAVEL MOVE at 0 line 3",
     },
+];
+
+const ARITHMETIC: [Entry; 4] = [
     Entry {
         keys: &["OVERFLOW"],
         text: "OVERFLOW
@@ -99,6 +102,9 @@ For example, from line 3 on, beside part-a.toml of the examples:
   OUTPUT/FA(P1)
 gives: stop UNDEFINED FA(P1) at 1 line 4",
     },
+];
+
+const NOTICE: [Entry; 4] = [
     Entry {
         keys: &["BADSETTING"],
         text: "BADSETTING
@@ -134,6 +140,9 @@ For example, from line 3 on:
   MODE/MAN
 gives: ok 1 statements",
     },
+];
+
+const DEVICE: [Entry; 4] = [
     Entry {
         keys: &["no memory"],
         text: "no memory
@@ -160,3 +169,23 @@ Do: for a session, begin a new one; `run K` and breakpoints need fewer lines tha
 steps.",
     },
 ];
+
+// Explanations of an end, and of stops by motion.
+pub(crate) fn motion_entries() -> &'static [Entry] {
+    &MOTION
+}
+
+// Explanations of stops by arithmetic and by what was never set.
+pub(crate) fn arithmetic_entries() -> &'static [Entry] {
+    &ARITHMETIC
+}
+
+// Explanations of other stops, and of notices.
+pub(crate) fn notice_entries() -> &'static [Entry] {
+    &NOTICE
+}
+
+// Explanations of memory and devices.
+pub(crate) fn device_entries() -> &'static [Entry] {
+    &DEVICE
+}

@@ -2,7 +2,7 @@
 
 use crate::entry::Entry;
 
-pub(crate) const SESSION_ENTRIES: [Entry; 5] = [
+const SESSION: [Entry; 5] = [
     Entry {
         keys: &["G01", "UnknownCommand"],
         text: "G01 UnknownCommand
@@ -52,3 +52,8 @@ For example, in a session on lines.dmi of the examples:
 gives: G05 BeforeStart",
     },
 ];
+
+// Explanations of the debugger: G01 to G05.
+pub(crate) fn session_entries() -> &'static [Entry] {
+    &SESSION
+}

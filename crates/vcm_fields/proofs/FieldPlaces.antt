@@ -7,7 +7,7 @@ use Rattle.vcm_spec.specs.declared.expression.Item.{Item}
 use Rattle.vcm_code.specs.declared.branch.Branch.{Branch}
 use Rattle.vcm_code.specs.declared.op.Op.{Op}
 use Rattle.vcm_code.specs.Copies.{listed}
-use Rattle.vcm_code.proofs.Copies.{same_statement}
+use Rattle.vcm_code.proofs.Copies.{same_op}
 use Rattle.vcm_fields.specs.declared.field.Field.{Field}
 use Rattle.vcm_fields.specs.declared.field.Field.TheVariants as field
 use Rattle.vcm_fields.specs.Parts.{Operation}
@@ -38,9 +38,6 @@ over_values f (p ∷ q ∷ ps) x = ap (λ l. f p x.0 ++ l) (over_values f (q ∷
 
 parted_values : {A : Type 0} (f : (p : Place) → Said p → List A) (p : Parted) → flat_map (of_value f) (over_parted alone p) ≡ over_parted f p
 parted_values f (parted w x) = over_values f (places w) x
-
-same_op : (o : Operation) → listed (λ e. e) (λ t. t) (λ b. b) o ≡ o
-same_op o = ap (λ s. s.op) (same_statement (record { line = 0; op = o }))
 
 -- the values that the fields of a statement hold are those in its places
 pub values_are : (xs : List PlainField) (o : Operation) → AreFields xs o → flat_map (in_plain alone) xs ≡ over_operands alone o

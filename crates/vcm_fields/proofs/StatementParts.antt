@@ -15,7 +15,7 @@ use Rattle.vcm_fields.specs.Shape.{Place, Filled, axes, directions, settings, so
 use Rattle.vcm_fields.specs.Shape as at
 use Rattle.vcm_fields.specs.Fitting.{FitThree, within, FitsPlace, FitsFilled, FitsParted, FitsOperation, FitsLine}
 use Rattle.vcm_fields.specs.Spelling.{byte, long, three, axis_byte, direction_byte, setting_byte, source_byte, word_byte, kind_byte, place, operands, line}
-use Rattle.vcm_fields.specs.Readers.{both, via, number_at, byte_below_at, kind_at, part_at, any_word_at, word_at, three_at, place_at, filled_at, form_at, operands_at, line_at}
+use Rattle.vcm_fields.specs.Readers.{both, via, number_at, byte_below_at, kind_at, part_at, any_word_at, word_at, three_at, place_at, filled_at, form_by, operands_by, operands_at, line_at}
 use Rattle.vcm_fields.proofs.Inverse.{Takes, Reads, ok_is, reads_as, reads_both, via_takes, via_again, reads_via, reads_tested, reads_after}
 use Rattle.vcm_fields.proofs.NumberInverse.{Found, reads_one_of, reads_byte, reads_short, reads_long}
 use Rattle.vcm_fields.proofs.ItemParts.{in_range, reads_expression}
@@ -108,11 +108,11 @@ Of : Word → Operation → Type 0
 Of w o = (word_of o ≡ w) × FitsOperation o
 
 -- a form is read place by place
-form_is : (fm : Form) (bytes : List ℕ) → form_at fm bytes ≡ via (made_in fm) (filled_at (places_in fm)) bytes
+form_is : (fm : Form) (bytes : List ℕ) → form_by place_at fm bytes ≡ via (made_in fm) (filled_at (places_in fm)) bytes
 form_is (form ps make) bytes = refl
 
 pub operands_are : (w : Word) (bytes : List ℕ) → operands_at w bytes ≡ via (op_in w) (filled_at (places w)) bytes
-unfolding operands_at
+unfolding operands_by
 operands_are w bytes = form_is (form_of w) bytes
 
 made_fits : (w : Word) (f : Filled (places w)) → FitsFilled (places w) f → Of w (op_in w f)

@@ -36,6 +36,11 @@ abbrev pub Gives : {X Y : Type 0} → (X → Y) → Result X ImageFault → Resu
 Gives view (Ok x) read = read ≡ Ok (view x)
 Gives view (Err e) read = read ≡ Err e
 
+-- what a call returned, seen by view, and what it left, is what reading gives
+abbrev pub Takes : {X Y L F : Type 0} → (X → Y) → Result X F → L → Result (Y × L) F → Type 0
+Takes view (Ok x) left read = read ≡ Ok (view x, left)
+Takes view (Err e) left read = read ≡ Err e
+
 -- what a call refused is what reading refuses; of want of memory nothing is said
 abbrev pub Fails : {Y : Type 0} → ImageFault → Result Y ImageFault → Type 0
 Fails NoMemory read = Unit {0}
@@ -46,26 +51,30 @@ abbrev pub GivesOrNoMemory : {X Y : Type 0} → (X → Y) → Result X ImageFaul
 GivesOrNoMemory view (Ok x) read = read ≡ Ok (view x)
 GivesOrNoMemory view (Err e) read = Fails e read
 
--- a reader takes a value from the front, and leaves the bytes after it
+-- a reader takes a value from the front of what is left, and leaves what stands after it, or it has a fault
+abbrev pub From : Type 0 → Type 0 → Type 0 → Type 0
+From L F A = L → Result (A × L) F
+
+-- a reader of bytes
 abbrev pub Reader : Type 0 → Type 0
-Reader A = List ℕ → Result (A × List ℕ) ImageFault
+Reader A = From (List ℕ) ImageFault A
 
 -- one byte
 abbrev pub byte_at : Reader ℕ
 byte_at [] = Err Short
 byte_at (b ∷ rest) = Ok (b, rest)
 
--- a value that takes no bytes
-abbrev pub now : {A : Type 0} → A → Reader A
-now x bytes = Ok (x, bytes)
+-- a value that takes nothing
+abbrev pub now : {L F A : Type 0} → A → From L F A
+now x left = Ok (x, left)
 
 -- two values, one after the other
-abbrev pub both : {A B : Type 0} → Reader A → Reader B → Reader (A × B)
-both a b bytes = a bytes >>= λ x. b x.1 >>= λ y. Ok ((x.0, y.0), y.1)
+abbrev pub both : {L F A B : Type 0} → From L F A → From L F B → From L F (A × B)
+both a b left = a left >>= λ x. b x.1 >>= λ y. Ok ((x.0, y.0), y.1)
 
 -- what a function makes of the value that is read
-abbrev pub via : {A B : Type 0} → (A → B) → Reader A → Reader B
-via f a bytes = a bytes >>= λ x. Ok (f x.0, x.1)
+abbrev pub via : {L F A B : Type 0} → (A → B) → From L F A → From L F B
+via f a left = a left >>= λ x. Ok (f x.0, x.1)
 
 -- a value that meets the test, else this fault
 abbrev pub tested : {A : Type 0} → ImageFault → (A → Bool) → Reader A → Reader A
@@ -96,6 +105,26 @@ Begins {A} a P bytes = (x : A) × (rest : List ℕ) × (a bytes ≡ Ok (x, rest)
 -- this is so of the value that the bytes begin with, and of the bytes behind it
 abbrev pub OfFirst : {A : Type 0} → Reader A → List ℕ → (A → List ℕ → Type 0) → Type 0
 OfFirst {A} a bytes P = (x : A) (rest : List ℕ) → a bytes ≡ Ok (x, rest) → P x rest
+
+-- ---- places, however they are written
+
+-- how each place is read
+abbrev pub Format : Type 0 → Type 0 → Type 0
+Format L F = (p : Place) → From L F (Said p)
+
+-- what stands in places, one behind the other
+abbrev pub filled_by : {L F : Type 0} → Format L F → (ps : List Place) → From L F (Filled ps)
+filled_by at [] = now tt
+filled_by at (p ∷ []) = at p
+filled_by at (p ∷ q ∷ ps) = both (at p) (filled_by at (q ∷ ps))
+
+-- the places of a form
+abbrev pub form_by : {L F : Type 0} → Format L F → Form → From L F Operation
+form_by at (form ps make) = via (made ps make) (filled_by at ps)
+
+-- the operands behind a word
+unfoldable pub operands_by : {L F : Type 0} → Format L F → Word → From L F Operation
+operands_by at w = form_by at (form_of w)
 
 -- ---- fields
 
@@ -243,17 +272,11 @@ place_at at.branches = branches_at
 
 -- what stands in places, one behind the other
 abbrev pub filled_at : (ps : List Place) → Reader (Filled ps)
-filled_at [] = now tt
-filled_at (p ∷ []) = place_at p
-filled_at (p ∷ q ∷ ps) = both (place_at p) (filled_at (q ∷ ps))
-
--- the places of a form
-abbrev pub form_at : Form → Reader Operation
-form_at (form ps make) = via (made ps make) (filled_at ps)
+filled_at ps = filled_by place_at ps
 
 -- the operands behind a word
-unfoldable pub operands_at : Word → Reader Operation
-operands_at w = form_at (form_of w)
+abbrev pub operands_at : Word → Reader Operation
+operands_at w = operands_by place_at w
 
 -- a statement of a version: its word, its source line, and its operands
 unfoldable pub line_at : Version → Reader Line

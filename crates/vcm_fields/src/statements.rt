@@ -1,16 +1,21 @@
 //! Statements, whose items, texts and branches are slices of the image.
 
-ghost use Rattle.vcm_fields.specs.Readers.{Gives, expression_at, branches_at, pair_at, three_at, operands_at, line_at};
-ghost use Rattle.vcm_fields.specs.declared.word.Word.TheVariants as words;
+ghost use Rattle.std.specs.Prelude.{ℕ, List, Result};
+ghost use Rattle.vcm_fields.specs.declared.fault.ImageFault.{ImageFault};
+ghost use Rattle.vcm_fields.specs.Readers.{Gives, Takes, expression_at, branches_at, pair_at, three_at, place_at, line_at};
+ghost use Rattle.vcm_fields.specs.Shape.{assigned};
 
 use crate::branches::BranchSlice;
 use crate::fault::ImageFault;
 use crate::fields::{byte_below, long, short};
+use crate::reading::{Reading, operands};
 use crate::slices::{ItemSlice, TextSlice};
 use crate::tags::{axis, direction, part, setting, source, word};
 use crate::texts::text;
-use crate::word::Word;
+use std::marker::Model;
 use vcm_code::{Op, Statement, Version};
+use vcm_num::{Axis, Kind};
+use vcm_spec::{Setting, Source};
 
 /// What a statement of an image does.
 pub type BorrowedOp<'a> = Op<ItemSlice<'a>, TextSlice<'a>, BranchSlice<'a>>;
@@ -37,54 +42,26 @@ fn expression(bytes: &[u8]) -> Result<(ItemSlice<'_>, &[u8]), ImageFault>
     ItemSlice::cut(count, rest)
 }
 
-// Triple expressions.
-#[derive(Drop)]
-struct Triple<'a> {
-    x: ItemSlice<'a>,
-    y: ItemSlice<'a>,
-    z: ItemSlice<'a>,
-}
+// Three expressions.
+type Triple<'a> = (ItemSlice<'a>, ItemSlice<'a>, ItemSlice<'a>);
 
 #[tactic(auto, unfolding(crate::specs::Readers::three_at))]
 fn three(bytes: &[u8]) -> Result<(Triple<'_>, &[u8]), ImageFault>
-    ensures { Gives (λ t. ((t.0.x, (t.0.y, t.0.z)), t.1.now)) result (three_at bytes.now) }
+    ensures { Gives (λ t. ((t.0.0, (t.0.1, t.0.2)), t.1.now)) result (three_at bytes.now) }
 {
     let (x, rest) = expression(bytes)?;
     let (y, rest) = expression(rest)?;
     let (z, rest) = expression(rest)?;
-    Ok((Triple { x, y, z }, rest))
+    Ok(((x, y, z), rest))
 }
 
-// The operands of GOTO.
-#[tactic(auto, unfolding(crate::specs::Readers::operands_at))]
-#[inline(always)]
-fn goto(bytes: &[u8]) -> Result<(BorrowedOp<'_>, &[u8]), ImageFault>
-    ensures { Gives (λ x. (x.0, x.1.now)) result (operands_at words.Goto bytes.now) }
-{
-    let (to, rest) = three(bytes)?;
-    Ok((Op::Goto(to.x, to.y, to.z), rest))
-}
-
-// The operands of ASSIGN.
-#[tactic(auto, unfolding(crate::specs::Readers::operands_at))]
-#[inline(always)]
-fn assign(bytes: &[u8]) -> Result<(BorrowedOp<'_>, &[u8]), ImageFault>
-    ensures { Gives (λ x. (x.0, x.1.now)) result (operands_at words.Assign bytes.now) }
+// A variable and an expression.
+fn assigned(bytes: &[u8]) -> Result<((u16, ItemSlice<'_>), &[u8]), ImageFault>
+    ensures { Gives (λ x. (x.0, x.1.now)) result (place_at assigned bytes.now) }
 {
     let (variable, rest) = short(bytes)?;
     let (value, rest) = expression(rest)?;
-    Ok((Op::Assign(variable, value), rest))
-}
-
-// The operands of IF.
-#[tactic(auto, unfolding(crate::specs::Readers::operands_at))]
-#[inline(always)]
-fn choice(bytes: &[u8]) -> Result<(BorrowedOp<'_>, &[u8]), ImageFault>
-    ensures { Gives (λ x. (x.0, x.1.now)) result (operands_at words.If bytes.now) }
-{
-    let (test, rest) = expression(bytes)?;
-    let (target, rest) = long(rest)?;
-    Ok((Op::If(test, target), rest))
+    Ok(((variable, value), rest))
 }
 
 /// The number of a loop's pair: 0 to 31.
@@ -97,116 +74,6 @@ pub fn pair(bytes: &[u8]) -> Result<(u8, &[u8]), ImageFault>
     ensures { Gives (λ x. (x.0, x.1.now)) result (pair_at bytes.now) }
 {
     byte_below(32, bytes)
-}
-
-// The operands of DO.
-#[tactic(auto, unfolding(crate::specs::Readers::operands_at))]
-#[inline(always)]
-fn looping(bytes: &[u8]) -> Result<(BorrowedOp<'_>, &[u8]), ImageFault>
-    ensures { Gives (λ x. (x.0, x.1.now)) result (operands_at words.Do bytes.now) }
-{
-    let (variable, rest) = short(bytes)?;
-    let (pair, rest) = pair(rest)?;
-    let (values, rest) = three(rest)?;
-    let (exit, rest) = long(rest)?;
-    Ok((
-        Op::Do(variable, pair, values.x, values.y, values.z, exit),
-        rest,
-    ))
-}
-
-// The operands of ENDDO.
-#[tactic(auto, unfolding(crate::specs::Readers::operands_at))]
-#[inline(always)]
-fn turning(bytes: &[u8]) -> Result<(BorrowedOp<'_>, &[u8]), ImageFault>
-    ensures { Gives (λ x. (x.0, x.1.now)) result (operands_at words.EndDo bytes.now) }
-{
-    let (variable, rest) = short(bytes)?;
-    let (pair, rest) = pair(rest)?;
-    let (target, rest) = long(rest)?;
-    Ok((Op::EndDo(variable, pair, target), rest))
-}
-
-// The operands of FEAT.
-#[tactic(auto, unfolding(crate::specs::Readers::operands_at))]
-#[inline(always)]
-fn feat(bytes: &[u8]) -> Result<(BorrowedOp<'_>, &[u8]), ImageFault>
-    ensures { Gives (λ x. (x.0, x.1.now)) result (operands_at words.Feat bytes.now) }
-{
-    let (feature, rest) = short(bytes)?;
-    let (point, rest) = three(rest)?;
-    let (toward, rest) = axis(rest)?;
-    Ok((Op::Feat(feature, point.x, point.y, point.z, toward), rest))
-}
-
-// The operands of PTMEAS.
-#[tactic(auto, unfolding(crate::specs::Readers::operands_at))]
-#[inline(always)]
-fn point(bytes: &[u8]) -> Result<(BorrowedOp<'_>, &[u8]), ImageFault>
-    ensures { Gives (λ x. (x.0, x.1.now)) result (operands_at words.PtMeas bytes.now) }
-{
-    let (feature, rest) = short(bytes)?;
-    let (point, rest) = three(rest)?;
-    let (toward, rest) = direction(rest)?;
-    Ok((Op::PtMeas(feature, point.x, point.y, point.z, toward), rest))
-}
-
-// The operands of SNSET.
-#[tactic(auto, unfolding(crate::specs::Readers::operands_at))]
-#[inline(always)]
-fn set(bytes: &[u8]) -> Result<(BorrowedOp<'_>, &[u8]), ImageFault>
-    ensures { Gives (λ x. (x.0, x.1.now)) result (operands_at words.SnSet bytes.now) }
-{
-    let (setting, rest) = setting(bytes)?;
-    let (length, rest) = expression(rest)?;
-    Ok((Op::SnSet(setting, length), rest))
-}
-
-// The operands of TRANS.
-#[tactic(auto, unfolding(crate::specs::Readers::operands_at))]
-#[inline(always)]
-fn shift(bytes: &[u8]) -> Result<(BorrowedOp<'_>, &[u8]), ImageFault>
-    ensures { Gives (λ x. (x.0, x.1.now)) result (operands_at words.Trans bytes.now) }
-{
-    let (frame, rest) = short(bytes)?;
-    let (by, rest) = three(rest)?;
-    Ok((Op::Trans(frame, by.x, by.y, by.z), rest))
-}
-
-// The operands of ROTATE.
-#[tactic(auto, unfolding(crate::specs::Readers::operands_at))]
-#[inline(always)]
-fn turn(bytes: &[u8]) -> Result<(BorrowedOp<'_>, &[u8]), ImageFault>
-    ensures { Gives (λ x. (x.0, x.1.now)) result (operands_at words.Rotate bytes.now) }
-{
-    let (frame, rest) = short(bytes)?;
-    let (axis, rest) = byte_below(3, rest)?;
-    let (quarters, rest) = byte_below(4, rest)?;
-    Ok((Op::Rotate(frame, axis, quarters), rest))
-}
-
-// The operands of OBTAIN.
-#[tactic(auto, unfolding(crate::specs::Readers::operands_at))]
-#[inline(always)]
-fn obtain(bytes: &[u8]) -> Result<(BorrowedOp<'_>, &[u8]), ImageFault>
-    ensures { Gives (λ x. (x.0, x.1.now)) result (operands_at words.Obtain bytes.now) }
-{
-    let (variable, rest) = short(bytes)?;
-    let (source, rest) = source(rest)?;
-    let (feature, rest) = short(rest)?;
-    let (part, rest) = part(rest)?;
-    Ok((Op::Obtain(variable, source, feature, part), rest))
-}
-
-// The operands of OUTPUT.
-#[tactic(auto, unfolding(crate::specs::Readers::operands_at))]
-#[inline(always)]
-fn output(bytes: &[u8]) -> Result<(BorrowedOp<'_>, &[u8]), ImageFault>
-    ensures { Gives (λ x. (x.0, x.1.now)) result (operands_at words.Output bytes.now) }
-{
-    let (source, rest) = source(bytes)?;
-    let (feature, rest) = short(rest)?;
-    Ok((Op::Output(source, feature), rest))
 }
 
 /// Branches: how many they are, and each of them.
@@ -226,70 +93,143 @@ pub fn branches(bytes: &[u8]) -> Result<(BranchSlice<'_>, &[u8]), ImageFault>
     BranchSlice::cut(count, rest)
 }
 
-// The operands of SELECT.
-#[tactic(auto, unfolding(crate::specs::Readers::operands_at))]
-#[inline(always)]
-fn selection(bytes: &[u8]) -> Result<(BorrowedOp<'_>, &[u8]), ImageFault>
-    ensures { Gives (λ x. (x.0, x.1.now)) result (operands_at words.Select bytes.now) }
-{
-    let (value, rest) = expression(bytes)?;
-    let (branches, rest) = branches(rest)?;
-    let (target, rest) = long(rest)?;
-    Ok((Op::Select(value, branches, target), rest))
+// The bytes that are left to read. Contracts see them as a list.
+#[derive(Drop)]
+struct ByteReader<'a> {
+    left: &'a [u8],
 }
 
-// The operands behind a word.
-#[tactic(auto, unfolding(crate::specs::Readers::operands_at))]
-#[inline(always)]
-fn operands<'a>(word: Word, bytes: &'a [u8]) -> Result<(BorrowedOp<'a>, &'a [u8]), ImageFault>
-    ensures { Gives (λ x. (x.0, x.1.now)) result (operands_at word bytes.now) }
-{
-    match word {
-        Word::EndFil => Ok((Op::EndFil, bytes)),
-        Word::Goto => goto(bytes),
-        Word::GoHome => Ok((Op::GoHome, bytes)),
-        Word::Assign => assign(bytes),
-        Word::If => choice(bytes),
-        Word::Else => {
-            let (target, rest) = long(bytes)?;
-            Ok((Op::Else(target), rest))
-        }
-        Word::EndIf => Ok((Op::EndIf, bytes)),
-        Word::Do => looping(bytes),
-        Word::EndDo => turning(bytes),
-        Word::Label => Ok((Op::Label, bytes)),
-        Word::JumpTo => {
-            let (target, rest) = long(bytes)?;
-            Ok((Op::JumpTo(target), rest))
-        }
-        Word::Feat => feat(bytes),
-        Word::Meas => {
-            let (feature, rest) = short(bytes)?;
-            Ok((Op::Meas(feature), rest))
-        }
-        Word::PtMeas => point(bytes),
-        Word::EndMes => Ok((Op::EndMes, bytes)),
-        Word::SnSet => set(bytes),
-        Word::Trans => shift(bytes),
-        Word::Rotate => turn(bytes),
-        Word::Recall => {
-            let (frame, rest) = short(bytes)?;
-            Ok((Op::Recall(frame), rest))
-        }
-        Word::Obtain => obtain(bytes),
-        Word::Output => output(bytes),
-        Word::Text => {
-            let (text, rest) = text(bytes)?;
-            Ok((Op::Text(text), rest))
-        }
-        Word::Select => selection(bytes),
-        Word::Case => Ok((Op::Case, bytes)),
-        Word::EndCas => {
-            let (target, rest) = long(bytes)?;
-            Ok((Op::EndCas(target), rest))
-        }
-        Word::DftCas => Ok((Op::DftCas, bytes)),
-        Word::EndSel => Ok((Op::EndSel, bytes)),
+impl<'a> Model for ByteReader<'a> {
+    ghost use Rattle.std.specs.Prelude.{List, ℕ};
+
+    ghost Value = { List ℕ };
+
+    ghost view = { λ r. r.left.now };
+}
+
+impl<'a> ByteReader<'a> {
+    // What was read of them, which leaves what stands behind it.
+    #[inline(always)]
+    fn took<T>(&mut self, read: Result<(T, &'a [u8]), ImageFault>) -> Result<T, ImageFault>
+        ensures { (now : Result (T × List ℕ) ImageFault) → Gives (λ x. (x.0, x.1.now)) read.entry now → Takes (λ x. x) result self.new now }
+    {
+        let (value, rest) = read?;
+        self.left = rest;
+        Ok(value)
+    }
+}
+
+impl<'a> Reading for ByteReader<'a> {
+    ghost use Rattle.std.specs.Prelude.{List, ℕ};
+    ghost use Rattle.vcm_fields.specs.Readers.{place_at};
+
+    type Items = ItemSlice<'a>;
+
+    type Text = TextSlice<'a>;
+
+    type Branches = BranchSlice<'a>;
+
+    type Fault = ImageFault;
+
+    ghost Left = { List ℕ };
+
+    ghost items = { λ e. e };
+
+    ghost bytes = { λ t. t };
+
+    ghost branches = { λ b. b };
+
+    ghost left = { λ r. r };
+
+    ghost at = { place_at };
+
+    #[inline(always)]
+    fn variable(&mut self, _: Kind) -> Result<u16, ImageFault> {
+        self.took(short(self.left))
+    }
+
+    #[inline(always)]
+    fn feature(&mut self) -> Result<u16, ImageFault> {
+        self.took(short(self.left))
+    }
+
+    #[inline(always)]
+    fn frame(&mut self) -> Result<u16, ImageFault> {
+        self.took(short(self.left))
+    }
+
+    #[inline(always)]
+    fn pair(&mut self) -> Result<u8, ImageFault> {
+        self.took(pair(self.left))
+    }
+
+    #[inline(always)]
+    fn target(&mut self) -> Result<u32, ImageFault> {
+        self.took(long(self.left))
+    }
+
+    #[inline(always)]
+    fn items(&mut self, _: Kind) -> Result<ItemSlice<'a>, ImageFault> {
+        self.took(expression(self.left))
+    }
+
+    #[inline(always)]
+    fn three(&mut self, _: Kind) -> Result<Triple<'a>, ImageFault> {
+        let (values, rest) = three(self.left)?;
+        self.left = rest;
+        Ok(values)
+    }
+
+    #[inline(always)]
+    fn assigned(&mut self) -> Result<(u16, ItemSlice<'a>), ImageFault> {
+        let (value, rest) = assigned(self.left)?;
+        self.left = rest;
+        Ok(value)
+    }
+
+    #[inline(always)]
+    fn axis(&mut self) -> Result<Axis, ImageFault> {
+        self.took(axis(self.left))
+    }
+
+    #[inline(always)]
+    fn direction(&mut self) -> Result<Option<Axis>, ImageFault> {
+        self.took(direction(self.left))
+    }
+
+    #[inline(always)]
+    fn setting(&mut self) -> Result<Setting, ImageFault> {
+        self.took(setting(self.left))
+    }
+
+    #[inline(always)]
+    fn source(&mut self) -> Result<Source, ImageFault> {
+        self.took(source(self.left))
+    }
+
+    #[inline(always)]
+    fn turn(&mut self) -> Result<u8, ImageFault> {
+        self.took(byte_below(3, self.left))
+    }
+
+    #[inline(always)]
+    fn quarters(&mut self) -> Result<u8, ImageFault> {
+        self.took(byte_below(4, self.left))
+    }
+
+    #[inline(always)]
+    fn part(&mut self) -> Result<u8, ImageFault> {
+        self.took(part(self.left))
+    }
+
+    #[inline(always)]
+    fn text(&mut self) -> Result<TextSlice<'a>, ImageFault> {
+        self.took(text(self.left))
+    }
+
+    #[inline(always)]
+    fn branches(&mut self) -> Result<BranchSlice<'a>, ImageFault> {
+        self.took(branches(self.left))
     }
 }
 
@@ -308,6 +248,7 @@ pub fn statement(
 {
     let (word, rest) = word(version, bytes)?;
     let (line, rest) = long(rest)?;
-    let (op, rest) = operands(word, rest)?;
-    Ok((Statement { line, op }, rest))
+    let mut from = ByteReader { left: rest };
+    let op = operands(word, &mut from)?;
+    Ok((Statement { line, op }, from.left))
 }

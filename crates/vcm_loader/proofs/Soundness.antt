@@ -79,17 +79,17 @@ fit_below n (Apply op ∷ is) height f = (tt, fit_below n is height f.1)
 fit_below n (Combine op ∷ is) height f = (tt, fit_below n is (height - 1) f.1)
 
 -- the variables of an expression that has a kind are below their number
-pub typed_below : (ks : List Kind) (items : List Item) (k : Kind) → HasKind ks items k → ItemsBelow (length ks) items
+typed_below : (ks : List Kind) (items : List Item) (k : Kind) → HasKind ks items k → ItemsBelow (length ks) items
 typed_below ks items k h = fit_below (length ks) items 0 (ItemsFit-typed ks items k (length ks) h refl)
 
 -- so what an expression wants holds where it has its kind
 pub wants_hold : (ks : List Kind) (items : List Item) (k : Kind) → HasKind ks items k → AllHold (wants ks items k)
 wants_hold ks items k h = (typed_below ks items k h, (h, tt))
 
-pub three_hold : (ks : List Kind) (x y z : List Item) (k : Kind) → HasKind ks x k → HasKind ks y k → HasKind ks z k → AllHold (three ks x y z k)
+three_hold : (ks : List Kind) (x y z : List Item) (k : Kind) → HasKind ks x k → HasKind ks y k → HasKind ks z k → AllHold (three ks x y z k)
 three_hold ks x y z k f g h = hold_append (wants ks x k) (wants ks y k ++ wants ks z k) (wants_hold ks x k f) (hold_append (wants ks y k) (wants ks z k) (wants_hold ks y k g) (wants_hold ks z k h))
 
-pub variable_holds : (ks : List Kind) (v : ℕ) (k : Kind) → slice_get ks v ≡ Some k → AllHold (variable ks v k)
+variable_holds : (ks : List Kind) (v : ℕ) (k : Kind) → slice_get ks v ≡ Some k → AllHold (variable ks v k)
 variable_holds ks v k e = (slice_get_within ks v k e, (e, tt))
 
 -- a statement's checks hold where it fits

@@ -1,4 +1,4 @@
-//! Valid images, read where they lie.
+//! Valid codes: images that are read where they lie, and codes in memory that are judged.
 #![tactic(auto)]
 
 mod judging;

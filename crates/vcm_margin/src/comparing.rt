@@ -109,6 +109,22 @@ fn compare_on<P: Part, Q: Part>(
     Ok(None)
 }
 
+// What differs first in so many steps of a machine at the start of a loaded code and of one beside another workpiece.
+fn compare_beside<P: Part, Q: Part>(
+    alloc: Global,
+    loaded: &Loaded<'_>,
+    one: &mut Machine<'_, P>,
+    other: &Q,
+    steps: u64,
+) -> Result<Option<Difference>, NoMemory>
+    requires { one.old ≡ started one.old.part (code_of loaded.now) }
+    ensures differ { IfOk result (λ d. IfSome d (DifferFirst one.old.part (Q.part other.now) (code_of loaded.now) steps)) }
+    ensures alike { IfOk result (λ d. IfNone d (GoAlike one.old.part (Q.part other.now) (code_of loaded.now) steps)) }
+{
+    let mut second = Machine::new(alloc, loaded, other)?;
+    compare_on(alloc, loaded, one, &mut second, steps)
+}
+
 /// What differs first in so many steps of a loaded code beside two workpieces.
 ///
 /// Errors: want of memory.
@@ -123,6 +139,5 @@ pub(crate) fn compare<P: Part, Q: Part>(
     ensures alike { IfOk result (λ d. IfNone d (GoAlike (P.part one.now) (Q.part other.now) (code_of loaded.now) steps)) }
 {
     let mut first = Machine::new(alloc, loaded, one)?;
-    let mut second = Machine::new(alloc, loaded, other)?;
-    compare_on(alloc, loaded, &mut first, &mut second, steps)
+    compare_beside(alloc, loaded, &mut first, other, steps)
 }

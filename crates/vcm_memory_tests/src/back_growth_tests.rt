@@ -49,25 +49,12 @@ fn back_under<P: Part>(
     }
 }
 
-// The same of a new session on what was loaded.
-fn new_back_under<P: Part>(
-    alloc: Global,
-    scarce: &mut Scarce,
-    loaded: &Loaded<'_>,
-    part: &P,
-    budget: usize,
-) -> Option<bool> {
-    match &mut Session::new(alloc, loaded, part) {
-        Ok(session) => back_under(alloc, scarce, session, budget),
-        Err(_) => None,
-    }
-}
-
 // How many budgets were too small for the steps back, up to the first that was enough.
 fn back_refusals<P: Part>(alloc: Global, loaded: &Loaded<'_>, part: &P) -> Option<u32> {
     let mut scarce = Scarce::new(alloc).ok()?;
     for short in 0..=4096u32 {
-        if new_back_under(alloc, &mut scarce, loaded, part, short as usize * 16)? {
+        let budget = short as usize * 16;
+        if new_session(alloc, &mut scarce, loaded, part, budget, Asked::Back)? {
             return Some(short);
         }
     }
@@ -150,29 +137,14 @@ fn goes_back<P: Part>(
     Some(is_there && served.is_ok() && out.as_slice() == texts.1.as_bytes())
 }
 
-// The same of a new session on what was loaded.
-fn new_goes_back<P: Part>(
-    alloc: Global,
-    scarce: &mut Scarce,
-    loaded: &Loaded<'_>,
-    part: &P,
-    budget: usize,
-    texts: (&str, &str),
-) -> Option<bool> {
-    match &mut Session::new(alloc, loaded, part) {
-        Ok(session) => goes_back(alloc, scarce, session, budget, texts),
-        Err(_) => None,
-    }
-}
-
 // The same under each of 129 budgets.
 fn all_go_back<P: Part>(alloc: Global, loaded: &Loaded<'_>, part: &P) -> Option<bool> {
     let commands = all_backs(alloc)?;
     let replies = all_replies(alloc)?;
     let mut scarce = Scarce::new(alloc).ok()?;
     for budget in 0..=128usize {
-        let texts = (commands.as_str(), replies.as_str());
-        if !new_goes_back(alloc, &mut scarce, loaded, part, budget * 512, texts)? {
+        let asked = Asked::All(commands.as_str(), replies.as_str());
+        if !new_session(alloc, &mut scarce, loaded, part, budget * 512, asked)? {
             return Some(false);
         }
     }
@@ -212,7 +184,49 @@ fn ends_under<P: Part>(
     Some(ran.is_ok())
 }
 
+// What a new session is asked: ten steps back from forty; all steps back from 200, with these commands and replies; to come to the end.
+#[derive(Clone, Copy)]
+enum Asked<'a> {
+    Back,
+    All(&'a str, &'a str),
+    End,
+}
+
+// What a session answers.
+fn answered<P: Part>(
+    alloc: Global,
+    scarce: &mut Scarce,
+    session: &mut Session<'_, P>,
+    budget: usize,
+    asked: Asked<'_>,
+) -> Option<bool>
+    requires { session.old.count ≡ 0 }
+{
+    match asked {
+        Asked::Back => back_under(alloc, scarce, session, budget),
+        Asked::All(commands, replies) => {
+            goes_back(alloc, scarce, session, budget, (commands, replies))
+        }
+        Asked::End => ends_under(alloc, scarce, session, budget),
+    }
+}
+
 // The same of a new session on what was loaded.
+fn new_session<P: Part>(
+    alloc: Global,
+    scarce: &mut Scarce,
+    loaded: &Loaded<'_>,
+    part: &P,
+    budget: usize,
+    asked: Asked<'_>,
+) -> Option<bool> {
+    match &mut Session::new(alloc, loaded, part) {
+        Ok(session) => answered(alloc, scarce, session, budget, asked),
+        Err(_) => None,
+    }
+}
+
+// Whether a new session comes to the end under a budget.
 fn session_ends<P: Part>(
     alloc: Global,
     loaded: &Loaded<'_>,
@@ -220,10 +234,7 @@ fn session_ends<P: Part>(
     budget: usize,
 ) -> Option<bool> {
     let mut scarce = Scarce::new(alloc).ok()?;
-    match &mut Session::new(alloc, loaded, part) {
-        Ok(session) => ends_under(alloc, &mut scarce, session, budget),
-        Err(_) => None,
-    }
+    new_session(alloc, &mut scarce, loaded, part, budget, Asked::End)
 }
 
 // The same of the long loop beside one block.

@@ -119,21 +119,24 @@ fn copy_refusals<P: Part>(alloc: Global, machine: &Machine<'_, P>) -> Option<(u3
     Some((copied, state))
 }
 
-// The same of a machine that is made and takes 21 steps.
+// The same of a machine behind 21 steps.
+fn refusals_behind<P: Part>(alloc: Global, machine: &mut Machine<'_, P>) -> Option<(u32, u32)> {
+    let ran = machine.run(alloc, 21);
+    if ran.done == 21 {
+        copy_refusals(alloc, &*machine)
+    } else {
+        None
+    }
+}
+
+// The same of a machine that is made.
 fn copy_refusals_behind<P: Part>(
     alloc: Global,
     loaded: &Loaded<'_>,
     part: &P,
 ) -> Option<(u32, u32)> {
     match &mut Machine::new(alloc, loaded, part) {
-        Ok(machine) => {
-            let ran = machine.run(alloc, 21);
-            if ran.done == 21 {
-                copy_refusals(alloc, &*machine)
-            } else {
-                None
-            }
-        }
+        Ok(machine) => refusals_behind(alloc, machine),
         Err(_) => None,
     }
 }

@@ -1,5 +1,7 @@
 //! Growths of memory that are refused to one output line after another.
 
+ghost use Rattle.std.specs.Prelude.{◌≡◌};
+
 use crate::growth_tests::beside_block;
 use crate::scarce::Scarce;
 use std::alloc::Global;
@@ -67,12 +69,12 @@ fn stands(reply: &Reply, steps: u64) -> bool {
 fn session_under<P: Part>(
     alloc: Global,
     scarce: &mut Scarce,
-    loaded: &Loaded<'_>,
-    part: &P,
+    session: &mut Session<'_, P>,
     budget: usize,
-) -> Option<u64> {
+) -> Option<u64>
+    requires { session.old.count ≡ 0 }
+{
     let steps = Count::new(100).ok()?;
-    let mut session = Session::new(alloc, loaded, part).ok()?;
     scarce.leave(alloc, budget).ok()?;
     let ran = session.command(alloc, &Command::Run(steps));
     scarce.ease();
@@ -80,6 +82,20 @@ fn session_under<P: Part>(
     match ran {
         Ok(_) => Some(8),
         Err(halted) if stands(&here, halted.done) => Some(halted.done),
+        Err(_) => None,
+    }
+}
+
+// The same of a new session.
+fn new_session_under<P: Part>(
+    alloc: Global,
+    scarce: &mut Scarce,
+    loaded: &Loaded<'_>,
+    part: &P,
+    budget: usize,
+) -> Option<u64> {
+    match &mut Session::new(alloc, loaded, part) {
+        Ok(session) => session_under(alloc, scarce, session, budget),
         Err(_) => None,
     }
 }
@@ -96,7 +112,7 @@ fn each_is_refused<P: Part>(
     for budget in 0..4096usize {
         let budget = budget * 16;
         let done = if is_session {
-            session_under(alloc, &mut scarce, loaded, part, budget)?
+            new_session_under(alloc, &mut scarce, loaded, part, budget)?
         } else {
             new_run_under(alloc, &mut scarce, loaded, part, budget)?
         };

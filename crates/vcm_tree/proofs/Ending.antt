@@ -10,7 +10,8 @@ use Rattle.vcm_nodes.specs.Jumps.{labels_of}
 use Rattle.vcm_tree.specs.Blocks.{Behind}
 use Rattle.vcm_tree.specs.Resolving.{behind_all, start}
 use Rattle.vcm_tree.specs.inner.Taking.{behind_with}
-use Rattle.vcm_tree.proofs.Walking.{IsWalked, drop_nil, walk_ends}
+use Rattle.vcm_tree.specs.inner.Walking.{IsWalked}
+use Rattle.vcm_tree.proofs.Walking.{drop_nil, walk_ends}
 use Rattle.vcm_tree.proofs.Written.{sentence_labels, sentences_marks}
 use Rattle.vcm_tree.proofs.MeantCounts.{labels_all}
 

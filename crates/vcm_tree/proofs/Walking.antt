@@ -25,6 +25,7 @@ use Rattle.vcm_tree.specs.inner.Telling.{ToldAt}
 use Rattle.vcm_tree.specs.Program.{IsParsed, tables_of, notices_of}
 use Rattle.vcm_tree.specs.inner.Building.{blocks_of, waiting, opens_sentences, written_with}
 use Rattle.vcm_tree.specs.inner.Taking.{behind_with, Takes}
+use Rattle.vcm_tree.specs.inner.Walking.{IsWalked}
 use Rattle.vcm_tree.proofs.Builders.{blocks_depth}
 use Rattle.vcm_tree.proofs.Standing.{standing, standing_ok}
 use Rattle.vcm_tree.proofs.Cutting.{place}
@@ -37,14 +38,6 @@ pub drop_nil : {X : Type 0} → (n : ℕ) (xs : List X) → drop n xs ≡ [] →
 drop_nil n [] e = omega arith
 drop_nil zero (x ∷ xs) e = absurd cc
 drop_nil (suc n) (x ∷ xs) e = (let r = drop_nil n xs e in omega arith)
-
--- so many statements are read, a SELECT waits for its next block or not, and these are left
-pub record IsWalked (all : List Placed) (p : Progress) (waits : Option Selection) (rest : List Placed) : Type 0 where
-  pub place : ℕ
-  pub left : drop place all ≡ rest
-  pub clean : IsCleanBelow BreaksNames all place
-  pub behind : behind_with p waits ≡ behind_all start (take place all)
-  pub writes : sentences_from start all ≡ written_with p.builder waits ++ sentences_from (behind_with p waits) rest
 
 abbrev means : Meaning → Result Meaning FaultCode
 means m = Ok m

@@ -3,3 +3,4 @@ pub mod Building
 pub mod Taking
 pub mod Shifting
 pub mod Telling
+pub mod Walking

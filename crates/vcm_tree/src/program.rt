@@ -1,12 +1,15 @@
 //! Accepted programs.
 
-ghost use Rattle.std.specs.Prelude.{◌≡◌, ◌≤◌, ◌++◌, IfOk, IfErr, OnOk, IsTrue, length};
+ghost use Rattle.std.specs.Prelude.{◌≡◌, ◌≤◌, ◌++◌, IfOk, IfErr, OnOk, IsTrue, length, List, [], Option, None};
 ghost use Rattle.vcm_lines.specs.Fault.{NoMemoryOr};
 ghost use Rattle.vcm_spec.specs.Phase.{IsClean, FirstFault};
 ghost use Rattle.vcm_nodes.specs.Jumps.{labels_of};
 ghost use Rattle.vcm_tree.specs.Ended.{is_ended};
 ghost use Rattle.vcm_tree.specs.Program.{notice_of, notices_of, IsParsed};
+ghost use Rattle.vcm_macro.specs.declared.placed.Placed.{Placed as Stands};
 ghost use Rattle.vcm_tree.specs.Resolving.{BreaksNames, names_line};
+ghost use Rattle.vcm_tree.specs.declared.selection.Selection.{Selection as Waits};
+ghost use Rattle.vcm_tree.specs.inner.Walking.{IsWalked};
 
 use crate::builder::Builder;
 use crate::tables::tables_of;
@@ -76,6 +79,57 @@ fn noted(alloc: Global, written: &[Statement]) -> Result<Vec<Noticed>, AllocErro
     Ok(notices)
 }
 
+// Nothing is read, and outside blocks there is memory for so many nodes.
+fn begun(alloc: Global, nodes: usize) -> Result<Progress, AllocError>
+    ensures { IfOk result (λ read. (all : List Stands) → IsWalked all read None all) }
+{
+    let builder = Builder::new(alloc, nodes)?;
+    Ok(Progress {
+        names: Names::new(alloc),
+        features: Titles::new(alloc),
+        frames: Titles::new(alloc),
+        touched: false,
+        labels: Labels::new(alloc),
+        builder,
+    })
+}
+
+// Reads all statements, one behind the other.
+fn take_all(alloc: Global, read: &mut Progress, all: &[Placed<'_>]) -> Result<(), SourceFault>
+    requires { IsWalked all.now read.old None all.now }
+    ensures ok { IfOk result (λ _. (waits : Option Waits) × IsWalked all.now read.new waits []) }
+    ensures fault { IfErr result (NoMemoryOr (λ f. FirstFault BreaksNames names_line all.now f.code f.line)) }
+{
+    let mut selection = None;
+    for placed in all {
+        selection = take(alloc, read, selection, placed.statement(), placed.expansion)?;
+    }
+    Ok(())
+}
+
+// What is read, as a program with these notices.
+fn draft_of(read: Progress, notices: Vec<Noticed>) -> DraftProgram
+    ensures tree { result.tree ≡ read.builder.block }
+    ensures labels { result.labels ≡ read.labels }
+    ensures names { result.names ≡ record { variables = read.names; features = read.features; frames = read.frames } }
+    ensures notices { result.notices ≡ notices }
+{
+    let names = Listing {
+        variables: read.names,
+        features: read.features,
+        frames: read.frames,
+    };
+    let labels = read.labels;
+    let builder = read.builder;
+    let tree = builder.block;
+    DraftProgram {
+        tree,
+        labels,
+        names,
+        notices,
+    }
+}
+
 /// The program of the expanded statements, with the notices of those that are written, or the first fault among their names and blocks.
 pub(crate) fn drafted(
     alloc: Global,
@@ -88,40 +142,15 @@ pub(crate) fn drafted(
     ensures labels { IfOk result (λ d. d.labels ≡ labels_of d.tree) }
     ensures fault { IfErr result (NoMemoryOr (λ f. FirstFault BreaksNames names_line all.now f.code f.line)) }
 {
-    let builder = Builder::new(alloc, all.len())?;
-    let mut read = Progress {
-        names: Names::new(alloc),
-        features: Titles::new(alloc),
-        frames: Titles::new(alloc),
-        touched: false,
-        labels: Labels::new(alloc),
-        builder,
-    };
-    let mut selection = None;
-    for placed in all {
-        selection = take(
-            alloc,
-            &mut read,
-            selection,
-            placed.statement(),
-            placed.expansion,
-        )?;
-    }
     let notices = noted(alloc, written)?;
-    let names = Listing {
-        variables: read.names,
-        features: read.features,
-        frames: read.frames,
-    };
-    let labels = read.labels;
-    let builder = read.builder;
-    let tree = builder.block;
-    Ok(DraftProgram {
-        tree,
-        labels,
-        names,
-        notices,
-    })
+    let mut read = begun(alloc, all.len())?;
+    match take_all(alloc, &mut read, all) {
+        Ok(()) => Ok(draft_of(read, notices)),
+        Err(fault) => {
+            drop(read);
+            Err(fault)
+        }
+    }
 }
 
 /// An accepted program, its names, and its notices. Contracts see it as a `Parsed`.

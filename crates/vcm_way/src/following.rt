@@ -11,7 +11,7 @@ ghost use Rattle.vcm_way.specs.Tasks.{marks_of};
 ghost use Rattle.vcm_way.specs.Ways.{reason, whole_way, most_pieces};
 ghost use Rattle.vcm_way.specs.inner.Added.{IsCounted, IsAdded, StandsFor};
 ghost use Rattle.vcm_way.specs.inner.Endings.{TaskEnds};
-ghost use Rattle.vcm_way.specs.inner.Steps.{place_of, IsBefore, HasStepped};
+ghost use Rattle.vcm_way.specs.inner.Steps.{place_of, IsBefore, HasStepped, HasMarked};
 
 use crate::marks::Marks;
 use crate::moving::add_move;
@@ -210,6 +210,39 @@ fn follow_steps<'a, P: Part>(
     Ok(Ran { done, end })
 }
 
+// A run of at most so many steps: its state, and what it came to. The marks are those of its way.
+//
+// Errors: want of memory before the run, or for the marks.
+fn run_marked<'a, P: Part>(
+    alloc: Global,
+    loaded: &'a Loaded<'a>,
+    part: &'a P,
+    blocks: &PartData,
+    marks: &mut Marks,
+    steps: u64,
+    most: usize,
+) -> Result<(World, Ran), NoMemory>
+    requires tie { P.part part.now ≡ blocks.now }
+    requires most { most ≡ most_pieces }
+    requires steps { steps ≤ 1000000000000000000 }
+    requires marks { StandsFor marks.old [] }
+    ensures marked { IfOk result (λ r. HasMarked (P.part part.now) (code_of loaded.now) steps r.0 r.1 marks.new) }
+    ensures fits { OnOk result (marks.new.left_out + marks.new.pieces < 2 ^ 64) }
+{
+    let mut machine = Machine::new(alloc, loaded, part)?;
+    let ran = follow_steps(
+        alloc,
+        loaded,
+        part,
+        blocks,
+        &mut machine,
+        marks,
+        steps,
+        most,
+    )?;
+    Ok((machine.into_world(), ran))
+}
+
 /// Runs a loaded code for at most so many steps beside a workpiece, whose blocks are given too, and keeps the way of the probe. The steps
 /// are at most 10 to the 18th, so that 64 bits count all pieces. Want of memory at an output line ends the run, and `ran` tells it.
 ///
@@ -227,18 +260,7 @@ pub fn follow<'a, P: Part>(
 {
     let most = MOST_PIECES;
     let mut marks = Marks::new(alloc);
-    let mut machine = Machine::new(alloc, loaded, part)?;
-    let ran = follow_steps(
-        alloc,
-        loaded,
-        part,
-        blocks,
-        &mut machine,
-        &mut marks,
-        steps,
-        most,
-    )?;
-    let world = machine.into_world();
+    let (world, ran) = run_marked(alloc, loaded, part, blocks, &mut marks, steps, most)?;
     let way = Way::of(alloc, marks, most)?;
     Ok(Followed { world, ran, way })
 }

@@ -10,5 +10,6 @@ pub mod BranchLaws
 pub mod PlaceLaws
 pub mod SliceLaws
 pub mod TextLaws
+pub mod FormLaws
 pub mod LineLaws
 pub mod RowLaws

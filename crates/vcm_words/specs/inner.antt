@@ -4,3 +4,4 @@ pub mod Counting
 pub mod Marks
 pub mod Fitting
 pub mod Failing
+pub mod Refusing

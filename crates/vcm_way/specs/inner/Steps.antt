@@ -2,9 +2,13 @@
 use Rattle.std.specs.Prelude.{◌≡◌, ℕ, IsTrue, Some, List, ◌++◌, slice_get}
 use Rattle.vcm_num.specs.declared.point.Point.{Point}
 use Rattle.vcm_num.specs.Point.{is_near}
-use Rattle.vcm_code.specs.Code.{Statement}
-use Rattle.vcm_machine.specs.Running.{Running, setup, later}
+use Rattle.vcm_spec.specs.Setup.{setup_of}
+use Rattle.vcm_spec.specs.Workpiece.{Workpiece}
+use Rattle.vcm_code.specs.Code.{Code, Statement}
+use Rattle.vcm_machine.specs.declared.ran.Ran.{Ran}
+use Rattle.vcm_machine.specs.Running.{Running, setup, started, later, HasRun}
 use Rattle.vcm_machine.proofs.RunLemmas.{IsReached}
+use Rattle.vcm_state.specs.Held.{Held}
 use Rattle.vcm_way.specs.declared.following.Before.{Before}
 use Rattle.vcm_way.specs.declared.mark.Placed.{Placed}
 use Rattle.vcm_way.specs.declared.marks.Marks.{Marks}
@@ -28,6 +32,14 @@ pub record IsBefore (home : Point) (m : Running) (b : Before) : Type 0 where
 pub record IsFollowedTo (n : ℕ) (old now : Running) (marks : Marks) (done : ℕ) : Type 0 where
   pub reached : IsReached n old now done
   pub stands : StandsFor marks (whole_way (setup old) old.code.statements done)
+
+-- a run of at most n steps has come to this state and ran so, and the list stands for its way
+pub record HasMarked (part : Workpiece) (c : Code) (n : ℕ) (world : Held) (ran : Ran) (marks : Marks) : Type 0 where
+  pub new : Running
+  pub has_run : HasRun n (started part c) new ran
+  pub state : world.state ≡ new.state.world
+  pub tables : world.tables ≡ c.tables
+  pub stands : StandsFor marks (whole_way (setup_of part c.tables) c.statements ran.done)
 
 -- the step with this number, and the number and the line of its statement
 abbrev pub place_of : ℕ → ℕ → ℕ → Place

@@ -1,0 +1,23 @@
+use Rattle.std.proofs.Common.{ap, ◌∙◌, subst}
+use Rattle.vcm_code.specs.Ops.{code_of}
+use Rattle.vcm_machine.specs.Running.{Running, setup, started, HasRun}
+use Rattle.vcm_way.specs.Ways.{whole_way}
+use Rattle.vcm_way.specs.inner.Added.{StandsFor}
+use Rattle.vcm_way.proofs.following.run_marked.Goals as goal
+
+pub returns-clause-marked : goal.returns-clause-marked
+returns-clause-marked g c =
+    let part = g.P.Part.part c.args.part.now in
+    let code = code_of c.args.loaded.now in
+    let new = c.follow_steps.new.machine in
+    let run : HasRun c.args.steps (started part code) new c.in_ok-ran.ran =
+    subst (λ (m : Running). HasRun c.args.steps m new c.in_ok-ran.ran) c.in_ok-machine.ensures c.in_ok-ran.ensures.run in
+    let stands : StandsFor c.follow_steps.new.marks (whole_way (setup (started part code)) code.statements c.in_ok-ran.ran.done) =
+    subst (λ (m : Running). StandsFor c.follow_steps.new.marks (whole_way (setup m) m.code.statements c.in_ok-ran.ran.done)) c.in_ok-machine.ensures c.in_ok-ran.ensures.way in
+    record {
+      new = new;
+      has_run = run;
+      state = c.into_world.ensures.state;
+      tables = c.into_world.ensures.tables ∙ ap (λ (m : Running). m.code.tables) run.new_is;
+      stands = stands;
+    }
