@@ -220,10 +220,10 @@ fn new_session<P: Part>(
     budget: usize,
     asked: Asked<'_>,
 ) -> Option<bool> {
-    match &mut Session::new(alloc, loaded, part) {
-        Ok(session) => answered(alloc, scarce, session, budget, asked),
-        Err(_) => None,
-    }
+    let Ok(mut session) = Session::new(alloc, loaded, part) else {
+        return None;
+    };
+    answered(alloc, scarce, &mut session, budget, asked)
 }
 
 // Whether a new session comes to the end under a budget.

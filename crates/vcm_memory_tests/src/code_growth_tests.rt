@@ -135,10 +135,10 @@ fn copy_refusals_behind<P: Part>(
     loaded: &Loaded<'_>,
     part: &P,
 ) -> Option<(u32, u32)> {
-    match &mut Machine::new(alloc, loaded, part) {
-        Ok(machine) => refusals_behind(alloc, machine),
-        Err(_) => None,
-    }
+    let Ok(mut machine) = Machine::new(alloc, loaded, part) else {
+        return None;
+    };
+    refusals_behind(alloc, &mut machine)
 }
 
 // How often three calls are refused: making a machine, copying it behind 21 steps, and copying its state there.

@@ -46,10 +46,10 @@ fn new_run_under<P: Part>(
     part: &P,
     budget: usize,
 ) -> Option<u64> {
-    match &mut Machine::new(alloc, loaded, part) {
-        Ok(machine) => run_under(alloc, scarce, machine, budget),
-        Err(_) => None,
-    }
+    let Ok(mut machine) = Machine::new(alloc, loaded, part) else {
+        return None;
+    };
+    run_under(alloc, scarce, &mut machine, budget)
 }
 
 // Whether this is the reply of a session behind so many steps, at the line that is printed.
@@ -94,10 +94,10 @@ fn new_session_under<P: Part>(
     part: &P,
     budget: usize,
 ) -> Option<u64> {
-    match &mut Session::new(alloc, loaded, part) {
-        Ok(session) => session_under(alloc, scarce, session, budget),
-        Err(_) => None,
-    }
+    let Ok(mut session) = Session::new(alloc, loaded, part) else {
+        return None;
+    };
+    session_under(alloc, scarce, &mut session, budget)
 }
 
 // Whether each line of the loop is refused memory under one budget or another, and none behind the first budget that is enough.

@@ -165,10 +165,10 @@ fn moves_of(
 
 // The same of a new session on what was loaded.
 fn moves_on(alloc: Global, loaded: &Loaded<'_>, part: &Counting<'_>, back: u64) -> Option<u32> {
-    match &mut Session::new(alloc, loaded, part) {
-        Ok(session) => moves_of(alloc, session, part.moves, back),
-        Err(_) => None,
-    }
+    let Ok(mut session) = Session::new(alloc, loaded, part) else {
+        return None;
+    };
+    moves_of(alloc, &mut session, part.moves, back)
 }
 
 // The same on the program of moves, beside one block.

@@ -44,10 +44,10 @@ fn both_end<P: Part>(alloc: Global, machine: &mut Machine<'_, P>) -> bool {
 
 // The same of a new machine on what was loaded.
 fn both_end_on<P: Part>(alloc: Global, loaded: &Loaded<'_>, part: &P) -> bool {
-    match &mut Machine::new(alloc, loaded, part) {
-        Ok(machine) => both_end(alloc, machine),
-        Err(_) => false,
-    }
+    let Ok(mut machine) = Machine::new(alloc, loaded, part) else {
+        return false;
+    };
+    both_end(alloc, &mut machine)
 }
 
 // The same beside one block.
