@@ -27,7 +27,8 @@ use Rattle.vcm_motion.specs.declared.face.Face.{Face}
 use Rattle.vcm_motion.specs.Faces.{IsFace, IsFirstFace}
 use Rattle.vcm_motion.proofs.Inside.{one_of, some_of}
 use Rattle.vcm_motion.proofs.Ahead.{in_same}
-use Rattle.vcm_probe.specs.inner.Places.{fitting_point, retreat}
+use Rattle.vcm_probe.specs.Places.{fitting_point}
+use Rattle.vcm_probe.specs.inner.Retreats.{retreat}
 use Rattle.vcm_probe.proofs.Fitted.{there, not_there}
 use Rattle.vcm_probe.proofs.WayBack.{face_at}
 use Rattle.vcm_probe.proofs.Nearness.{way_is_near}

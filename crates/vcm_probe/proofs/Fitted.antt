@@ -4,7 +4,7 @@ use Rattle.std.specs.Prelude.{if◌then◌else◌}
 use Rattle.vcm_num.specs.Number.{fits_i64}
 use Rattle.vcm_num.specs.Point.{point}
 use Rattle.vcm_spec.specs.Outcome.{fits_place}
-use Rattle.vcm_probe.specs.inner.Places.{fitting, fitting_point}
+use Rattle.vcm_probe.specs.Places.{fitting, fitting_point}
 use Rattle.std.proofs.lemmas.Bool.{and_from}
 
 -- an option that is there where a test holds

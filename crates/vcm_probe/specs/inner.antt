@@ -1,3 +1,3 @@
 -- What only private contracts and proofs of this crate speak of.
 pub mod Ranges
-pub mod Places
+pub mod Retreats

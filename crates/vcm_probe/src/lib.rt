@@ -6,6 +6,7 @@ mod retreat;
 mod settings;
 mod touching;
 
+pub use reach::{moved, reached};
 pub use settings::Settings;
 pub use touching::touch;
 pub use vcm_motion::{Axis, Part, Point};

@@ -4,7 +4,7 @@ ghost use Rattle.std.specs.Prelude.{◌≡◌, pos, ◌+ℤ◌, ◌*ℤ◌, IsTr
 ghost use Rattle.vcm_num.specs.Axis.{unit, along};
 ghost use Rattle.vcm_num.specs.Point.{coordinate, is_near};
 ghost use Rattle.vcm_spec.specs.Outcome.{point_of};
-ghost use Rattle.vcm_probe.specs.inner.Places.{fitting, fitting_point};
+ghost use Rattle.vcm_probe.specs.Places.{fitting, fitting_point};
 
 use vcm_num::{Axis, Point};
 
@@ -21,8 +21,8 @@ fn stepped(start: i64, axis: usize, toward: Axis, distance: u32) -> Option<i64>
     }
 }
 
-/// The point at a distance along a direction, if its coordinates fit.
-pub(crate) fn reached(from: Point, toward: Axis, distance: u32) -> Option<Point>
+/// The point at a distance in micrometres along a direction, if its coordinates fit 64 bits.
+pub fn reached(from: Point, toward: Axis, distance: u32) -> Option<Point>
     ensures { result ≡ fitting_point (along (coordinate from) toward distance) }
 {
     let Point([x, y, z]) = from;
@@ -32,8 +32,8 @@ pub(crate) fn reached(from: Point, toward: Axis, distance: u32) -> Option<Point>
     Some(Point::new(x, y, z))
 }
 
-/// The point at a distance along a direction, from a point that is at most a kilometre from 0.
-pub(crate) fn moved(from: Point, toward: Axis, distance: u32) -> Point
+/// The point at a distance in micrometres along a direction, from a point that is at most a kilometre from 0.
+pub fn moved(from: Point, toward: Axis, distance: u32) -> Point
     requires { IsTrue (is_near from) }
     ensures { result ≡ point_of (along (coordinate from) toward distance) }
 {

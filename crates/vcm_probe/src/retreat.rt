@@ -6,7 +6,7 @@ ghost use Rattle.vcm_num.specs.Point.{coordinate, is_near};
 ghost use Rattle.vcm_spec.specs.Workpiece.{is_blocked};
 ghost use Rattle.vcm_spec.specs.FirstContact.{later_contact};
 ghost use Rattle.vcm_spec.specs.Outcome.{Answers, point_of};
-ghost use Rattle.vcm_probe.specs.inner.Places.{retreat};
+ghost use Rattle.vcm_probe.specs.inner.Retreats.{retreat};
 
 use crate::reach::moved;
 use vcm_motion::Part;

@@ -118,8 +118,8 @@ impl Settings {
         self.depth.max(self.search)
     }
 
-    /// The length of the whole search.
-    pub(crate) fn descent(self) -> u32
+    /// How far the probe goes down from the approach point at most, in micrometres.
+    pub fn descent(self) -> u32
         ensures { result ≡ self.approach + past self }
     {
         self.approach + self.past()

@@ -230,7 +230,7 @@ fn run_marked<'a, P: Part>(
     ensures fits { OnOk result (marks.new.left_out + marks.new.pieces < 2 ^ 64) }
 {
     let mut machine = Machine::new(alloc, loaded, part)?;
-    let ran = follow_steps(
+    let followed = follow_steps(
         alloc,
         loaded,
         part,
@@ -239,8 +239,14 @@ fn run_marked<'a, P: Part>(
         marks,
         steps,
         most,
-    )?;
-    Ok((machine.into_world(), ran))
+    );
+    match followed {
+        Ok(ran) => Ok((machine.into_world(), ran)),
+        Err(refused) => {
+            drop(machine);
+            Err(refused)
+        }
+    }
 }
 
 /// Runs a loaded code for at most so many steps beside a workpiece, whose blocks are given too, and keeps the way of the probe. The steps
@@ -261,6 +267,11 @@ pub fn follow<'a, P: Part>(
     let most = MOST_PIECES;
     let mut marks = Marks::new(alloc);
     let (world, ran) = run_marked(alloc, loaded, part, blocks, &mut marks, steps, most)?;
-    let way = Way::of(alloc, marks, most)?;
-    Ok(Followed { world, ran, way })
+    match Way::of(alloc, marks, most) {
+        Ok(way) => Ok(Followed { world, ran, way }),
+        Err(refused) => {
+            drop(world);
+            Err(refused)
+        }
+    }
 }

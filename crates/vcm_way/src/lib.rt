@@ -3,11 +3,11 @@
 #![tactic(auto)]
 
 mod following;
+mod limits;
 mod mark;
 mod marks;
 mod moving;
 mod place;
-mod reach;
 mod task;
 mod touching;
 mod way;

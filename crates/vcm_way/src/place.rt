@@ -4,8 +4,8 @@ ghost use Rattle.std.specs.Prelude.{◌≡◌, IsTrue};
 ghost use Rattle.vcm_num.specs.Point.{is_near};
 ghost use Rattle.vcm_way.specs.Marks.{goes, falls_short, contact_point, meets_block};
 
+use crate::limits::nearest;
 use crate::mark::{Contact, Going, Mark, Piece};
-use crate::reach::nearest;
 use vcm_motion::entry_point;
 use vcm_num::Point;
 use vcm_part::PartData;

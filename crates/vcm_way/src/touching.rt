@@ -1,28 +1,27 @@
 //! The marks of PTMEAS.
 
-ghost use Rattle.std.specs.Prelude.{◌≡◌, ◌≤◌, ◌+◌, ℕ, ℤ, [], ◌∷◌, IsTrue, IfSome, IfNone, IfOk, OnOk, unwrap_or};
+ghost use Rattle.std.specs.Prelude.{◌≡◌, ℕ, ℤ, [], ◌∷◌, IsTrue, IfSome, IfNone, OnOk, unwrap_or};
 ghost use Rattle.vcm_num.specs.Axis.{along, opposite};
 ghost use Rattle.vcm_num.specs.Point.{coordinate, is_near};
 ghost use Rattle.vcm_spec.specs.declared.stop.Stop.TheVariants.{Overflow};
 ghost use Rattle.vcm_spec.specs.declared.words.MovePhase.TheVariants as phases;
-ghost use Rattle.vcm_spec.specs.Touch.{centre_of, approach_of, end_of, down_of, past};
+ghost use Rattle.vcm_spec.specs.Touch.{centre_of, down_of};
 ghost use Rattle.vcm_spec.specs.FirstTouch.{first_inside, touch};
 ghost use Rattle.vcm_spec.specs.Outcome.{Stops, point_of};
 ghost use Rattle.vcm_probe.proofs.Descent.{AreAimed};
 ghost use Rattle.vcm_way.specs.declared.mark.Going.TheVariants as goings;
-ghost use Rattle.vcm_way.specs.Marks.{touching, touched_then, marks_of_touch, goes, touches};
+ghost use Rattle.vcm_way.specs.Marks.{touching, marks_of_touch, goes, touches};
 ghost use Rattle.vcm_way.specs.inner.Added.{IsCounted, IsAdded};
 ghost use Rattle.vcm_way.specs.inner.Endings.{EndsAs, HasTouched, IsNearAtHit, behind, distance_of};
 
 use crate::mark::{Going, Mark, Touched};
 use crate::marks::Marks;
 use crate::place::{Place, falls_short, goes, meets_block};
-use crate::reach::{moved, reached};
 use crate::task::Measuring;
 use vcm_motion::{Face, Part};
 use vcm_num::{Axis, NoMemory, Point};
 use vcm_part::PartData;
-use vcm_probe::Settings;
+use vcm_probe::{Settings, moved, reached};
 use vcm_spec::{MovePhase, Stop};
 
 // The approach point and the end of the search.
@@ -30,13 +29,6 @@ use vcm_spec::{MovePhase, Stop};
 struct Aims {
     approach: Point,
     end: Point,
-}
-
-// How far the tip goes down from the approach point at most.
-fn descent(settings: Settings) -> u32
-    ensures { result ≡ settings.approach + past settings }
-{
-    settings.approach() + settings.depth().max(settings.search())
 }
 
 // The approach point and the end of the search, where they can be told.
@@ -47,7 +39,7 @@ fn aims_of(part: &PartData, settings: Settings, measuring: Measuring) -> Option<
     let toward = measuring.toward;
     let up = part.bounds().tip + settings.approach();
     let approach = reached(measuring.nominal, toward, up)?;
-    let end = reached(approach, toward.opposite(), descent(settings))?;
+    let end = reached(approach, toward.opposite(), settings.descent())?;
     Some(Aims { approach, end })
 }
 
@@ -69,7 +61,7 @@ fn touch_point<P: Part>(part: &P, settings: Settings, toward: Axis, aims: Aims) 
     ensures near { (centre : ℕ → ℤ) → AreAimed settings centre toward aims.approach aims.end → IsTrue (is_near aims.end) → IsTrue (is_near result) }
 {
     let back = toward.opposite();
-    let face = part.first_face(aims.approach, back, descent(settings));
+    let face = part.first_face(aims.approach, back, settings.descent());
     moved(aims.approach, back, distance_of(face))
 }
 

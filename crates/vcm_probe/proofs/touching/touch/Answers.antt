@@ -7,7 +7,7 @@ use Rattle.vcm_spec.specs.Touch.{centre_of, past}
 use Rattle.vcm_motion.specs.Faces.{IsFace, IsFirstFace}
 use Rattle.vcm_spec.specs.declared.words.MovePhase.TheVariants.{Approach}
 use Rattle.vcm_spec.proofs.Resting.{free_rests}
-use Rattle.vcm_probe.specs.inner.Places.{retreat}
+use Rattle.vcm_probe.specs.inner.Retreats.{retreat}
 use Rattle.vcm_probe.proofs.Descent.{too_high, too_low, up_to, down_to, aimed, stopped, too_deep, missed, touched, touch_is_near, end_back, off, not_in_some, answers_too}
 use Rattle.vcm_probe.proofs.Nearness.{within_is_near}
 use Rattle.vcm_probe.proofs.touching.touch.Goals as goal

@@ -12,8 +12,8 @@ pub of-requires-clause-most : goal.of-requires-clause-most
 unfolding most_pieces
 of-requires-clause-most g c = refl
 
-pub returns : goal.returns
-returns g c =
+pub returns-in-Ok : goal.returns-in-Ok
+returns-in-Ok g c =
     let code = code_of c.args.loaded.now in
     let h = c.in_ok-world.ensures.marked in
     record {
@@ -21,5 +21,5 @@ returns g c =
       has_run = h.has_run;
       state = h.state;
       tables = h.tables;
-      kept = c.in_ok-way.ensures (whole_way (setup_of (g.P.Part.part c.args.part.now) code.tables) code.statements c.in_ok-world.ran.done) h.stands;
+      kept = c.in-Ok.ensures (whole_way (setup_of (g.P.Part.part c.args.part.now) code.tables) code.statements c.in_ok-world.ran.done) h.stands;
     }

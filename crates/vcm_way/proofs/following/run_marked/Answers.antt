@@ -5,15 +5,15 @@ use Rattle.vcm_way.specs.Ways.{whole_way}
 use Rattle.vcm_way.specs.inner.Added.{StandsFor}
 use Rattle.vcm_way.proofs.following.run_marked.Goals as goal
 
-pub returns-clause-marked : goal.returns-clause-marked
-returns-clause-marked g c =
+pub returns-in-Ok-clause-marked : goal.returns-in-Ok-clause-marked
+returns-in-Ok-clause-marked g c =
     let part = g.P.Part.part c.args.part.now in
     let code = code_of c.args.loaded.now in
-    let new = c.follow_steps.new.machine in
-    let run : HasRun c.args.steps (started part code) new c.in_ok-ran.ran =
-    subst (λ (m : Running). HasRun c.args.steps m new c.in_ok-ran.ran) c.in_ok-machine.ensures c.in_ok-ran.ensures.run in
-    let stands : StandsFor c.follow_steps.new.marks (whole_way (setup (started part code)) code.statements c.in_ok-ran.ran.done) =
-    subst (λ (m : Running). StandsFor c.follow_steps.new.marks (whole_way (setup m) m.code.statements c.in_ok-ran.ran.done)) c.in_ok-machine.ensures c.in_ok-ran.ensures.way in
+    let new = c.follow_steps-followed.new.machine in
+    let run : HasRun c.args.steps (started part code) new c.in-Ok.ran =
+    subst (λ (m : Running). HasRun c.args.steps m new c.in-Ok.ran) c.in_ok-machine.ensures c.in-Ok.ensures.run in
+    let stands : StandsFor c.follow_steps-followed.new.marks (whole_way (setup (started part code)) code.statements c.in-Ok.ran.done) =
+    subst (λ (m : Running). StandsFor c.follow_steps-followed.new.marks (whole_way (setup m) m.code.statements c.in-Ok.ran.done)) c.in_ok-machine.ensures c.in-Ok.ensures.way in
     record {
       new = new;
       has_run = run;

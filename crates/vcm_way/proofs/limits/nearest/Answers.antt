@@ -1,6 +1,6 @@
 use Rattle.std.proofs.Common.{rules, refl, w64, FitsSigned, to_z-of_z}
 use Rattle.vcm_num.specs.Point.{coordinate}
-use Rattle.vcm_way.proofs.reach.nearest.Goals as goal
+use Rattle.vcm_way.proofs.limits.nearest.Goals as goal
 
 pub returns : goal.returns
 returns c =

@@ -1,8 +1,7 @@
--- Places that may lie beyond 64 bits, and the way back from a touch.
-use Rattle.std.specs.Prelude.{ℕ, ℤ, Option, Some, None, if◌then◌else◌}
+-- The way back from a touch.
+use Rattle.std.specs.Prelude.{ℕ}
 use Rattle.vcm_num.specs.declared.point.Point.{Point}
 use Rattle.vcm_num.specs.declared.axis.Axis.{Axis}
-use Rattle.vcm_num.specs.Number.{fits_i64}
 use Rattle.vcm_num.specs.Axis.{along, opposite}
 use Rattle.vcm_num.specs.Point.{coordinate}
 use Rattle.vcm_spec.specs.declared.feature.Touch.{Touch}
@@ -10,16 +9,8 @@ use Rattle.vcm_spec.specs.declared.stop.Stop.TheVariants.{Travel}
 use Rattle.vcm_spec.specs.declared.words.MovePhase.TheVariants.{Retract}
 use Rattle.vcm_spec.specs.FirstContact.{later_contact}
 use Rattle.vcm_spec.specs.FirstTouch.{free_of}
-use Rattle.vcm_spec.specs.Outcome.{Outcome, Gives, ◌>>=◌, demand, fits_place, point_of}
+use Rattle.vcm_spec.specs.Outcome.{Outcome, Gives, ◌>>=◌, demand, point_of}
 use Rattle.vcm_spec.specs.Workpiece.{Workpiece, is_within}
-
--- the coordinate, if it is a number of 64 bits
-abbrev pub fitting : ℤ → Option ℤ
-fitting z = if fits_i64 z then Some z else None
-
--- the point at a place, if its coordinates are
-abbrev pub fitting_point : (ℕ → ℤ) → Option Point
-fitting_point x = if fits_place x then Some (point_of x) else None
 
 -- the way back from a touch, of this length, the centre of the tip being at a point
 abbrev pub retreat : Workpiece → Point → Axis → ℕ → Outcome Touch
