@@ -18,7 +18,7 @@ ghost use Rattle.vcm_fields.specs.Readers.{Begins, OfFirst, both, variable_at, e
 ghost use Rattle.vcm_machine.specs.inner.Lengths.{lengths_in};
 
 use vcm_expr::BoundedStack;
-use vcm_fields::{known, known_text, short};
+use vcm_fields::{known_short, known_text};
 use vcm_loader::value_at;
 use vcm_motion::Part;
 use vcm_num::Fault;
@@ -170,7 +170,7 @@ pub(crate) fn assign(
         Carried (effect items_value (setup_of part world.old.tables) world.old.state (Assign o.0 o.1)) world.old.state world.new.state result) }
     ensures tables { world.new.tables ≡ world.old.tables }
 {
-    let (variable, rest) = known(short(bytes));
+    let (variable, rest) = known_short(bytes);
     let value = last_value(stack, world, rest)?;
     world.assign(variable, value)
 }

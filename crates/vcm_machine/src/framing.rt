@@ -13,7 +13,7 @@ ghost use Rattle.vcm_fields.specs.Readers.{Begins, OfFirst, both, variable_at, t
 
 use crate::acting::three_lengths;
 use vcm_expr::BoundedStack;
-use vcm_fields::{byte_below, known, short};
+use vcm_fields::{byte_below, known, known_short};
 use vcm_spec::Stop;
 use vcm_state::World;
 
@@ -30,7 +30,7 @@ pub(crate) fn shift(
         Carried (effect items_value (setup_of part world.old.tables) world.old.state (Trans o.0 o.1.0 o.1.1.0 o.1.1.1)) world.old.state world.new.state result) }
     ensures tables { world.new.tables ≡ world.old.tables }
 {
-    let (frame, rest) = known(short(bytes));
+    let (frame, rest) = known_short(bytes);
     let (by, _) = three_lengths(stack, world, rest)?;
     world.trans(frame, by.x, by.y, by.z)
 }
@@ -42,7 +42,7 @@ pub(crate) fn rotate(world: &mut World, bytes: &[u8]) -> Result<(), Stop>
         Carried (effect items_value (setup_of part world.old.tables) world.old.state (Rotate o.0 o.1.0 o.1.1)) world.old.state world.new.state result) }
     ensures tables { world.new.tables ≡ world.old.tables }
 {
-    let (frame, rest) = known(short(bytes));
+    let (frame, rest) = known_short(bytes);
     let (axis, rest) = known(byte_below(3, rest));
     let (quarters, _) = known(byte_below(4, rest));
     world.rotate(frame, axis, quarters)
@@ -57,6 +57,6 @@ pub(crate) fn recall(world: &mut World, bytes: &[u8]) -> Result<(), Stop>
         Carried (effect items_value (setup_of part world.old.tables) world.old.state (Recall frame)) world.old.state world.new.state result) }
     ensures tables { world.new.tables ≡ world.old.tables }
 {
-    let (frame, _) = known(short(bytes));
+    let (frame, _) = known_short(bytes);
     world.recall(frame)
 }

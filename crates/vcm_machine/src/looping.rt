@@ -1,6 +1,6 @@
 //! Loops: DO and ENDDO.
 
-ghost use Rattle.std.specs.Prelude.{◌≡◌, ◌<◌, ◌+◌, ◌^◌, Some, ℕ, slice_get, slice_set, length, pos, int_lt, if◌then◌else◌};
+ghost use Rattle.std.specs.Prelude.{◌≡◌, ◌<◌, ◌+◌, ◌^◌, Some, ℕ, slice_get, slice_set, pos, int_lt, if◌then◌else◌};
 ghost use Rattle.vcm_num.specs.declared.number.Kind.{Kind};
 ghost use Rattle.vcm_spec.specs.Setup.{Setup};
 ghost use Rattle.vcm_spec.specs.World.{with_variable};
@@ -16,7 +16,7 @@ ghost use Rattle.vcm_machine.specs.inner.Going.{HasTurned};
 use crate::acting::value;
 use vcm_code::Pair;
 use vcm_expr::BoundedStack;
-use vcm_fields::{known, known_long, known_short, long, pair, short};
+use vcm_fields::{known, known_long, known_short, pair};
 use vcm_num::{Fault, add};
 use vcm_spec::Stop;
 use vcm_state::World;
@@ -117,7 +117,7 @@ pub(crate) fn begin(
         next line world.old.state world.new.state pairs.old pairs.new result) }
     ensures tables { world.new.tables ≡ world.old.tables }
 {
-    let (variable, rest) = known(short(bytes));
+    let (variable, rest) = known_short(bytes);
     let (pair, rest) = known(pair(rest));
     let (initial, rest) = value(stack, world, rest)?;
     let (limit, rest) = value(stack, world, rest)?;
@@ -128,7 +128,7 @@ pub(crate) fn begin(
     set_index(world, variable, initial);
     set_pair(pairs, pair, limit, increment);
     if is_past(world, variable, limit, increment) {
-        let (exit, _) = known(long(rest));
+        let (exit, _) = known_long(rest);
         Ok(exit)
     } else {
         Ok(next + 1)

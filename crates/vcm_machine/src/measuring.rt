@@ -14,7 +14,7 @@ ghost use Rattle.vcm_fields.specs.Readers.{Begins, OfFirst, both, variable_at, e
 
 use crate::acting::{last_value, three_lengths};
 use vcm_expr::BoundedStack;
-use vcm_fields::{axis, direction, known, setting, short};
+use vcm_fields::{axis, direction, known, known_short, setting};
 use vcm_motion::Part;
 use vcm_spec::Stop;
 use vcm_state::World;
@@ -32,7 +32,7 @@ pub(crate) fn declare(
         Carried (effect items_value (setup_of part world.old.tables) world.old.state (Feat o.0 o.1.0.0 o.1.0.1.0 o.1.0.1.1 o.1.1)) world.old.state world.new.state result) }
     ensures tables { world.new.tables ≡ world.old.tables }
 {
-    let (feature, rest) = known(short(bytes));
+    let (feature, rest) = known_short(bytes);
     let (at, rest) = three_lengths(stack, world, rest)?;
     let (toward, _) = known(axis(rest));
     world.feat(feature, at.x, at.y, at.z, toward)
@@ -52,7 +52,7 @@ pub(crate) fn measure<P: Part>(
         Carried (effect items_value (setup_of (P.part part.now) world.old.tables) world.old.state (PtMeas o.0 o.1.0.0 o.1.0.1.0 o.1.0.1.1 o.1.1)) world.old.state world.new.state result) }
     ensures tables { world.new.tables ≡ world.old.tables }
 {
-    let (feature, rest) = known(short(bytes));
+    let (feature, rest) = known_short(bytes);
     let (nominal, rest) = three_lengths(stack, world, rest)?;
     let (toward, _) = known(direction(rest));
     world.ptmeas(part, feature, nominal.x, nominal.y, nominal.z, toward)

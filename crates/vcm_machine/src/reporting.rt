@@ -12,7 +12,7 @@ ghost use Rattle.vcm_state.specs.Carried.{Carried, CarriedOrHalted};
 ghost use Rattle.vcm_fields.specs.Readers.{Begins, OfFirst, both, variable_at, source_at, part_at};
 
 use std::alloc::Global;
-use vcm_fields::{known, part, short, source};
+use vcm_fields::{known, known_short, part, source};
 use vcm_spec::Stop;
 use vcm_state::{Halt, World};
 
@@ -26,9 +26,9 @@ pub(crate) fn obtain(world: &mut World, bytes: &[u8]) -> Result<(), Stop>
         Carried (effect items_value (setup_of setting world.old.tables) world.old.state (Obtain o.0 o.1.0 o.1.1.0 o.1.1.1)) world.old.state world.new.state result) }
     ensures tables { world.new.tables ≡ world.old.tables }
 {
-    let (variable, rest) = known(short(bytes));
+    let (variable, rest) = known_short(bytes);
     let (source, rest) = known(source(rest));
-    let (feature, rest) = known(short(rest));
+    let (feature, rest) = known_short(rest);
     let (word, _) = known(part(rest));
     world.obtain(variable, source, feature, word)
 }
@@ -43,6 +43,6 @@ pub(crate) fn output(alloc: Global, world: &mut World, bytes: &[u8]) -> Result<(
     ensures tables { world.new.tables ≡ world.old.tables }
 {
     let (source, rest) = known(source(bytes));
-    let (feature, _) = known(short(rest));
+    let (feature, _) = known_short(rest);
     world.output(alloc, source, feature)
 }

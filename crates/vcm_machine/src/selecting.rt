@@ -12,7 +12,7 @@ ghost use Rattle.vcm_machine.specs.inner.Going.{HasTurned};
 
 use crate::acting::value;
 use vcm_expr::BoundedStack;
-use vcm_fields::{BranchSlice, known, long, read_branches};
+use vcm_fields::{BranchSlice, known, known_long, read_branches};
 use vcm_spec::Stop;
 use vcm_state::World;
 
@@ -45,6 +45,6 @@ pub(crate) fn select(
 {
     let (wanted, rest) = value(stack, world, bytes)?;
     let (branches, rest) = known(read_branches(rest));
-    let (last, _) = known(long(rest));
+    let (last, _) = known_long(rest);
     Ok(target_for(wanted, &branches, last))
 }

@@ -1,23 +1,27 @@
 use Rattle.std.proofs.Common.{ℕ, List, ap, refl, sym, ◌∙◌, subst, rules, FitsSigned, w64, to_z-of_z}
 use Rattle.std.proofs.lemmas.Result.{err_from_is_err_and}
+use Rattle.std.specs.Int.{w16}
 use Rattle.vcm_spec.specs.Setup.{setup_of}
 use Rattle.vcm_state.specs.Carried.{Carried}
 use Rattle.vcm_fields.specs.Readers.{both, variable_at, three_at, axis_at}
-use Rattle.vcm_fields.proofs.Taking.{never_fails, gives_it, both_are}
+use Rattle.vcm_fields.proofs.Taking.{never_fails, gives_it, number_there, both_are}
 use Rattle.vcm_machine.proofs.Effects.{feat_stops, feat_goes}
 use Rattle.vcm_machine.proofs.LoopBranches.{some_part}
-use Rattle.vcm_machine.proofs.Reading.{read_first, stands_first}
+use Rattle.vcm_machine.proofs.Reading.{known_first}
 use Rattle.vcm_machine.proofs.measuring.declare.Goals as goal
+
+pub known_short-feature-requires : goal.known_short-feature-requires
+known_short-feature-requires c = number_there w16 _ _ (both_are variable_at (both three_at axis_at) _ _ _ c.requires.2).1
 
 pub three_lengths-requires : goal.three_lengths-requires
 three_lengths-requires c =
-    let r = stands_first _ _ variable_at (both three_at axis_at) _ _ _ _ c.short.ensures c.known-feature.ensures c.requires.2 in
+    let r = (known_first variable_at (both three_at axis_at) _ _ _ _ c.known_short-feature.ensures c.requires.2).1 in
     let t = both_are three_at axis_at _ _ _ r in
     (c.requires.0.1.0, t.0, t.1, c.requires.3.1)
 
 pub known-toward-requires : goal.known-toward-requires
 known-toward-requires c =
-    let r = stands_first _ _ variable_at (both three_at axis_at) _ _ _ _ c.short.ensures c.known-feature.ensures c.requires.2 in
+    let r = (known_first variable_at (both three_at axis_at) _ _ _ _ c.known_short-feature.ensures c.requires.2).1 in
     let t = both_are three_at axis_at _ _ _ r in
     never_fails _ _ _ _ c.axis.ensures (ap axis_at (c.in_ok-at.ensures.lengths _ _ t.1).1 ∙ t.2)
 
@@ -25,13 +29,13 @@ pub returns-in_err-at-clause-carried : goal.returns-in_err-at-clause-carried
 returns-in_err-at-clause-carried c part =
     let p = err_from_is_err_and c.from_residual.result c.from_residual.ensures.1 in
     rw (p.1, p.2) (λ o rest h.
-    let r = read_first _ _ variable_at (both three_at axis_at) _ o rest _ c.short.ensures c.known-feature.ensures h in
+    let r = known_first variable_at (both three_at axis_at) _ o rest _ c.known_short-feature.ensures h in
     let t = both_are three_at axis_at _ o.1 rest r.1 in
     (feat_stops (setup_of part c.args.world.now.tables) c.args.world.now.state o.1.0.0 o.1.0.1.0 o.1.0.1.1 o.0 o.1.1 _ (c.in_err-at.ensures.fault o.1.0 t.0 t.1), refl))
 
 pub returns-clause-carried : goal.returns-clause-carried
 returns-clause-carried c part o rest h =
-    let r = read_first _ _ variable_at (both three_at axis_at) _ o rest _ c.short.ensures c.known-feature.ensures h in
+    let r = known_first variable_at (both three_at axis_at) _ o rest _ c.known_short-feature.ensures h in
     let t = both_are three_at axis_at _ o.1 rest r.1 in
     let lengths = c.in_ok-at.ensures.lengths o.1.0 t.0 t.1 in
     let toward = ap (λ (q : _ × List ℕ). q.0) (gives_it _ _ _ _ _ c.axis.ensures (ap axis_at lengths.1 ∙ t.2) c.known-toward.ensures) in
