@@ -95,6 +95,16 @@ impl<'a, P: Part> Checkpoints<'a, P> {
         self.spacing = spacing;
     }
 
+    // Keeps a copy of a machine that has taken so many steps. One that is refused is left out.
+    fn keep(&mut self, alloc: Global, machine: &Machine<'a, P>, count: u64)
+        ensures { (m : Running) → machine.now ≡ begun m count → All (λ k. k.machine ≡ begun m k.count) self.old.kept.items
+            → All (λ k. k.machine ≡ begun m k.count) self.new.kept.items }
+    {
+        if let Ok(machine) = machine.copy(alloc) {
+            let _ = self.kept.push(Checkpoint { count, machine });
+        }
+    }
+
     // Keeps a copy of a machine that has taken so many steps, if it is time for one. A copy that is refused is left out.
     pub(crate) fn pass(&mut self, alloc: Global, machine: &Machine<'a, P>, count: u64)
         ensures { (m : Running) → machine.now ≡ begun m count → All (λ k. k.machine ≡ begun m k.count) self.old.kept.items
@@ -106,11 +116,8 @@ impl<'a, P: Part> Checkpoints<'a, P> {
         if self.is_full(machine) {
             self.thin();
         }
-        if !self.is_full(machine)
-            && self.is_due(count)
-            && let Ok(machine) = machine.copy(alloc)
-        {
-            let _ = self.kept.push(Checkpoint { count, machine });
+        if !self.is_full(machine) && self.is_due(count) {
+            self.keep(alloc, machine, count);
         }
     }
 
@@ -176,7 +183,10 @@ pub(crate) fn machine_at<'a, P: Part>(
     let mut nearest = checkpoints.nearest(alloc, loaded, part, count)?;
     let left = count - nearest.count;
     match nearest.machine.run(alloc, left).end {
-        End::NoMemory => Err(NoMemory),
+        End::NoMemory => {
+            drop(nearest);
+            Err(NoMemory)
+        }
         End::Count => Ok(nearest.machine),
         End::Stopped => Ok(nearest.machine),
     }
