@@ -1,8 +1,8 @@
 //! The command line.
 
-use crate::forms::{FORMS, Form, More, Word};
 use clap::{Arg, ArgAction, ArgMatches, Command, Error};
 use std::alloc::Global;
+use vcm_usage::{More, Usage, Word, usages};
 use vcm_views::View;
 
 /// What a command line asks for.
@@ -104,20 +104,20 @@ fn close_option<'a>(alloc: Global) -> Arg<'a> {
 }
 
 // The command with the words behind it.
-fn with_words<'a>(alloc: Global, form: Form) -> Result<Command<'a>, Error> {
-    let mut command = Command::new(alloc, form.name)
-        .about(form.about)
-        .after_help(form.example);
-    for word in form.words {
+fn with_words<'a>(alloc: Global, usage: Usage) -> Result<Command<'a>, Error> {
+    let mut command = Command::new(alloc, usage.name)
+        .about(usage.about)
+        .after_help(usage.example);
+    for word in usage.words {
         command = command.arg(required(alloc, *word))?;
     }
     Ok(command)
 }
 
 // The command, with all that it takes.
-fn subcommand_of<'a>(alloc: Global, form: Form) -> Result<Command<'a>, Error> {
-    let command = with_words(alloc, form)?;
-    match form.more {
+fn subcommand_of<'a>(alloc: Global, usage: Usage) -> Result<Command<'a>, Error> {
+    let command = with_words(alloc, usage)?;
+    match usage.more {
         More::Nothing => Ok(command),
         More::Steps => Ok(command.arg(steps_option(alloc))?),
         More::StepsAndClose => {
@@ -136,8 +136,14 @@ fn command_of<'a>(alloc: Global, has_words: bool) -> Result<Command<'a>, Error> 
             "A virtual coordinate measuring machine. Without words it reads a job from standard input",
         )
         .subcommand_required(has_words);
-    for form in FORMS {
-        vcm = vcm.subcommand(subcommand_of(alloc, form)?)?;
+    for usage in usages() {
+        match subcommand_of(alloc, *usage) {
+            Ok(subcommand) => vcm = vcm.subcommand(subcommand)?,
+            Err(refused) => {
+                drop(vcm);
+                return Err(refused);
+            }
+        }
     }
     Ok(vcm)
 }

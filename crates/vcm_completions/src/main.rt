@@ -5,13 +5,10 @@ use std::alloc::Global;
 use std::fmt::Write as _;
 use std::process::ExitCode;
 use std::rt::Files;
-use vcm_command::command_name;
+use vcm_usage::usages;
 
 /// The files.
 const FILES: [&str; 4] = ["vcm.1", "vcm.bash", "_vcm", "vcm.fish"];
-
-/// More commands than there are.
-const MOST: usize = 100;
 
 /// The options of the command line.
 const OPTIONS: [&str; 4] = ["steps", "close", "help", "version"];
@@ -30,16 +27,13 @@ fn missing(alloc: Global, name: &str, text: &str) -> Option<String> {
             writeln!(found, "{name} lacks {option}").ok()?;
         }
     }
-    let mut count: u32 = 0;
-    for index in 0..MOST {
-        let Some(command) = command_name(index) else {
-            break;
-        };
-        if !names(text, command) {
+    for usage in usages() {
+        if !names(text, usage.name) {
+            let command = usage.name;
             writeln!(found, "{name} lacks {command}").ok()?;
         }
-        count = count.saturating_add(1);
     }
+    let count = usages().len();
     writeln!(found, "{name} names {count} commands").ok()?;
     Some(found)
 }

@@ -1,7 +1,8 @@
-//! The commands, with the words that each takes.
+//! The commands of the command line, with the words that each takes.
+#![tactic(auto)]
 
 /// A word behind a command: its name, and what it is.
-pub(crate) type Word = (&'static str, &'static str);
+pub type Word = (&'static str, &'static str);
 
 const PROGRAM: Word = ("PROGRAM", "The measuring program, a DMIS text");
 
@@ -15,7 +16,7 @@ const IMAGE: Word = ("IMAGE", "The file that the image is written to");
 
 /// What else a command takes.
 #[derive(Clone, Copy)]
-pub(crate) enum More {
+pub enum More {
     Nothing,
     /// `--steps N`.
     Steps,
@@ -27,80 +28,80 @@ pub(crate) enum More {
 
 /// A command: its name, what it does, an example, the words behind it, which all have to be there, and what else it takes.
 #[derive(Clone, Copy)]
-pub(crate) struct Form {
-    pub(crate) name: &'static str,
-    pub(crate) about: &'static str,
-    pub(crate) example: &'static str,
-    pub(crate) words: &'static [Word],
-    pub(crate) more: More,
+pub struct Usage {
+    pub name: &'static str,
+    pub about: &'static str,
+    pub example: &'static str,
+    pub words: &'static [Word],
+    pub more: More,
 }
 
-/// All commands.
-pub(crate) const FORMS: [Form; 10] = [
-    Form {
+// All commands.
+const USAGES: &[Usage] = &[
+    Usage {
         name: "check",
         about: "Tells whether a program is accepted, and how many statements it has",
         example: "For example: vcm check square.dmi",
         words: &[PROGRAM],
         more: More::Nothing,
     },
-    Form {
+    Usage {
         name: "build",
         about: "Writes the image of a program",
         example: "For example: vcm build grid.dmi grid.vcmi",
         words: &[PROGRAM, IMAGE],
         more: More::Nothing,
     },
-    Form {
+    Usage {
         name: "run",
         about: "Runs a program or an image beside a workpiece, and prints the result",
         example: "For example: vcm run above.dmi part-a.toml",
         words: &[INPUT, PART],
         more: More::Steps,
     },
-    Form {
+    Usage {
         name: "trace",
         about: "Runs a program or an image beside a workpiece, and prints what each step did, a line of CSV for each",
         example: "For example: vcm trace touch.dmi part-a.toml",
         words: &[INPUT, PART],
         more: More::Steps,
     },
-    Form {
+    Usage {
         name: "margin",
         about: "Tells how wide the tip of the probe may be for the run to go as it does, and what a wider one meets",
         example: "For example: vcm margin square.dmi part-a.toml",
         words: &[INPUT, PART],
         more: More::Steps,
     },
-    Form {
+    Usage {
         name: "picture",
         about: "Runs a program or an image beside a workpiece, and draws the workpiece and the way of the probe as SVG",
         example: "For example: vcm picture square.dmi part-a.toml --close > square.svg",
         words: &[INPUT, PART],
         more: More::StepsAndClose,
     },
-    Form {
+    Usage {
         name: "debug",
         about: "Answers the commands of standard input, a line each, on a program or an image",
         example: "For example: vcm debug lines.dmi part-a.toml",
         words: &[INPUT, PART],
         more: More::Nothing,
     },
-    Form {
+    Usage {
         name: "list",
         about: "Prints the listing of a program or an image",
         example: "For example: vcm list above.dmi",
         words: &[INPUT],
         more: More::Nothing,
     },
-    Form {
+    Usage {
         name: "asm",
         about: "Writes the image of a listing",
         example: "For example: vcm asm above.lst above.vcmi",
         words: &[LISTING, IMAGE],
         more: More::Nothing,
     },
-    Form {
+    Usage {
         name: "explain",
         about: "Tells what a code or a message means and what to do; without words, which there are",
         example: "For example: vcm explain E14",
@@ -109,7 +110,7 @@ pub(crate) const FORMS: [Form; 10] = [
     },
 ];
 
-/// The name of a command, of which there are some, counted from 0.
-pub fn command_name(index: usize) -> Option<&'static str> {
-    FORMS.get(index).map(|form| form.name)
+/// All commands.
+pub fn usages() -> &'static [Usage] {
+    USAGES
 }
