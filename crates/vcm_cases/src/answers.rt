@@ -30,19 +30,27 @@ fn printed(alloc: Global, out: &[u8], notices: &[Noticed], status: u8) -> Option
     Some(text)
 }
 
-// Whether the run of a program prints this with the blocks in strips, too, however few they are.
+// Whether the run of a program among blocks in strips prints this.
+fn prints(alloc: Global, strips: &Strips, program: &str, steps: u64, output: &[u8]) -> bool {
+    let mut out = Vec::new(alloc);
+    let Ok(summary) = run_text(alloc, strips, program.as_bytes(), steps) else {
+        return false;
+    };
+    write_result(summary.world(), &summary.ran(), &mut out).is_ok() && out.as_slice() == output
+}
+
+// The same beside a workpiece with the blocks in strips, however few they are.
 fn is_printed_by_strips(
     alloc: Global,
     part: &PartData,
     program: &str,
     steps: u64,
     output: &[u8],
-) -> Option<bool> {
-    let strips = Strips::build(alloc, part).ok()?;
-    let mut out = Vec::new(alloc);
-    let summary = run_text(alloc, &strips, program.as_bytes(), steps).ok()?;
-    let is_written = write_result(summary.world(), &summary.ran(), &mut out).is_ok();
-    Some(is_written && out.as_slice() == output)
+) -> bool {
+    match Strips::build(alloc, part) {
+        Ok(strips) => prints(alloc, &strips, program, steps, output),
+        Err(_) => false,
+    }
 }
 
 // What the run of a program beside a workpiece answers; none where it is another answer with the blocks in strips.
@@ -50,7 +58,7 @@ fn run_beside(alloc: Global, part: &PartData, program: &str, steps: u64) -> Opti
     let mut input = program.as_bytes();
     let mut out = Vec::new(alloc);
     match run(alloc, part, &mut input, steps, &mut out) {
-        Ok(done) => if is_printed_by_strips(alloc, part, program, steps, &out)? {
+        Ok(done) => if is_printed_by_strips(alloc, part, program, steps, &out) {
             printed(alloc, &out, done.notices.as_slice(), done.status)
         } else {
             None

@@ -60,20 +60,32 @@ pub(crate) struct Script {
 // What a heading says.
 fn heading_of(title: &str) -> Heading {
     match title.split_once(' ') {
-        Some(("run", steps)) => match steps.parse::<u64>() {
-            Ok(steps) => Heading::Run(steps),
-            Err(_) => Heading::Unknown,
-        },
-        Some(("trace", steps)) => view_heading(View::Trace, steps),
-        Some(("margin", steps)) => view_heading(View::Margin, steps),
-        Some(("picture", steps)) => view_heading(View::Picture { is_close: false }, steps),
-        Some(("close", steps)) => view_heading(View::Picture { is_close: true }, steps),
-        Some(("refused", _)) => Heading::Refused,
-        Some(("images", _)) => Heading::Images,
-        Some(("unlisted", _)) => Heading::Unlisted,
-        Some(("#", _)) => Heading::Remarks,
-        Some(_) => Heading::Unknown,
+        Some((word, rest)) => heading_with(word, rest),
         None => heading_word(title),
+    }
+}
+
+// What a heading says by its first word, and what stands behind that.
+fn heading_with(word: &str, rest: &str) -> Heading {
+    match word {
+        "run" => run_heading(rest),
+        "trace" => view_heading(View::Trace, rest),
+        "margin" => view_heading(View::Margin, rest),
+        "picture" => view_heading(View::Picture { is_close: false }, rest),
+        "close" => view_heading(View::Picture { is_close: true }, rest),
+        "refused" => Heading::Refused,
+        "images" => Heading::Images,
+        "unlisted" => Heading::Unlisted,
+        "#" => Heading::Remarks,
+        _ => Heading::Unknown,
+    }
+}
+
+// The heading of a run.
+fn run_heading(steps: &str) -> Heading {
+    match steps.parse::<u64>() {
+        Ok(steps) => Heading::Run(steps),
+        Err(_) => Heading::Unknown,
     }
 }
 

@@ -1,11 +1,8 @@
-//! The command line, and checks.
+//! The command line.
 
 use clap::error::ErrorKind;
 use std::alloc::Global;
 use vcm_command::{Request, request_of, steps_of};
-use vcm_job::{CheckFault, check};
-use vcm_lines::{FaultCode, SourceFault};
-use vcm_test_texts::program_of;
 use vcm_views::View;
 
 #[test]
@@ -24,85 +21,6 @@ fn numbers_of_steps(rt: HostRuntime) {
         ("1e3", None),
     ] {
         assert!(rt; steps_of(text) == steps, "{text}");
-    }
-}
-
-// What the check of these statements writes, if they are accepted.
-fn count_of(alloc: Global, statements: &str) -> Option<Vec<u8>> {
-    let program = program_of(alloc, statements)?;
-    let mut input = program.as_bytes();
-    let mut out = Vec::new(alloc);
-    check(alloc, &mut input, &mut out).ok()?;
-    Some(out)
-}
-
-// Whether the check of these statements writes this.
-fn counts(alloc: Global, statements: &str, text: &str) -> bool {
-    match count_of(alloc, statements) {
-        Some(out) => out.as_slice() == text.as_bytes(),
-        None => false,
-    }
-}
-
-#[test]
-fn accepted_programs(rt: HostRuntime) {
-    for (statements, text) in [
-        ("", "ok 1 statements\n"),
-        (
-            "DECL/INTGR,I\nDO/I,1,3,1\nTEXT/OPER,'A'\nENDDO\n",
-            "ok 4 statements\n",
-        ),
-        (
-            "DECL/INTGR,I\nDO/I,3,1\nTEXT/OPER,'A'\nENDDO\n",
-            "ok 4 statements\n",
-        ),
-        (
-            "DECL/INTGR,I,J,K\n(AGAIN)\nDO/I,1,2\nDO/J,1,2+K\nIF/(K.EQ.0)\nK=ASSIGN/1\nJUMPTO/(AGAIN)\nENDIF\nTEXT/OPER,'X'\nENDDO\nENDDO\n",
-            "ok 11 statements\n",
-        ),
-        (
-            "DECL/INTGR,I\nDO/I,9223372036854775806,9223372036854775807\nTEXT/OPER,'A'\nENDDO\n",
-            "ok 4 statements\n",
-        ),
-        (
-            "DECL/INTGR,I\nDO/I,1,5\nJUMPTO/(PAST)\nENDDO\n(PAST)\n",
-            "ok 5 statements\n",
-        ),
-        (
-            "IF/(.TRUE.)\nTEXT/OPER,'A'\nELSE\nTEXT/OPER,'B'\nENDIF\n",
-            "ok 6 statements\n",
-        ),
-    ] {
-        assert!(rt; counts(rt.alloc(), statements, text), "{statements}");
-    }
-}
-
-// How the check of these statements is refused, if it is.
-fn check_refusal(alloc: Global, statements: &str) -> Option<CheckFault> {
-    let program = program_of(alloc, statements)?;
-    let mut input = program.as_bytes();
-    let mut out = Vec::new(alloc);
-    let fault = check(alloc, &mut input, &mut out).err()?;
-    if out.is_empty() { Some(fault) } else { None }
-}
-
-#[test]
-fn refused_programs(rt: HostRuntime) {
-    for (statements, code, line) in [
-        ("IF/(.TRUE.)\n", FaultCode::Unbalanced, 4),
-        ("ENDDO\n", FaultCode::Unbalanced, 3),
-        ("JUMPTO/(NONE)\n", FaultCode::UnknownName, 3),
-        (
-            "DECL/INTGR,I\nJUMPTO/(IN)\nDO/I,1,2\n(IN)\nENDDO\n",
-            FaultCode::JumpInward,
-            4,
-        ),
-    ] {
-        let told = Some(CheckFault::Refused(SourceFault { code, line }));
-        assert!(rt;
-            check_refusal(rt.alloc(), statements) == told,
-            "{statements}"
-        );
     }
 }
 
@@ -154,6 +72,10 @@ fn requests(rt: HostRuntime) {
             Request::Build { program, image }
         )
     );
+}
+
+#[test]
+fn requests_for_views(rt: HostRuntime) {
     let input = "a.dmi";
     let part = "b";
     for (texts, view, steps) in [
@@ -196,6 +118,12 @@ fn requests(rt: HostRuntime) {
             )
         );
     }
+}
+
+#[test]
+fn requests_for_runs(rt: HostRuntime) {
+    let input = "a.dmi";
+    let part = "b";
     for (texts, steps) in [
         (["vcm", "run", "a.dmi", "b", "--steps=3"].as_slice(), "3"),
         (["vcm", "run", "--steps", "3", "a.dmi", "b"].as_slice(), "3"),

@@ -122,8 +122,8 @@ fn refusals_are_explained(rt: HostRuntime) {
     assert!(rt; all);
 }
 
-// What is asked, and the first line of the explanation that is wanted, which is empty where there is none.
-const QUESTIONS: [(&str, &str); 30] = [
+// Codes and names that are asked for, and the first line of the explanation that is wanted, which is empty where there is none.
+const CODES: [(&str, &str); 14] = [
     ("e14", "E14 UnknownName"),
     ("unknownname", "E14 UnknownName"),
     ("E14 UnknownName line 10", "E14 UnknownName"),
@@ -135,6 +135,13 @@ const QUESTIONS: [(&str, &str); 30] = [
     ("G03", "G03 NoSuchStatement"),
     ("G04", "G04 CountOutOfRange"),
     ("G05", "G05 BeforeStart"),
+    ("E1", ""),
+    ("E14x", ""),
+    ("", ""),
+];
+
+// Stops and messages, so too.
+const MESSAGES: [(&str, &str); 16] = [
     ("stop ENDED", "ENDED"),
     (
         "STOP COLLISION MOVE block 1 permille 888 at 0 line 3",
@@ -154,15 +161,23 @@ const QUESTIONS: [(&str, &str); 30] = [
     ("cannot read part.toml", "cannot read"),
     ("cannot write: disk full", "cannot write"),
     ("input too long", "input too long"),
-    ("E1", ""),
-    ("E14x", ""),
-    ("", ""),
 ];
+
+// Whether what is asked has an explanation with this first line.
+fn is_answered(asked: &str, wanted: &str) -> bool {
+    explanation(asked).map_or("", |entry| entry.title()) == wanted
+}
+
+#[test]
+fn codes_are_explained(rt: HostRuntime) {
+    for (asked, wanted) in CODES {
+        assert!(rt; is_answered(asked, wanted));
+    }
+}
 
 #[test]
 fn messages_are_explained(rt: HostRuntime) {
-    for (asked, wanted) in QUESTIONS {
-        let title = explanation(asked).map_or("", |entry| entry.title());
-        assert!(rt; title == wanted);
+    for (asked, wanted) in MESSAGES {
+        assert!(rt; is_answered(asked, wanted));
     }
 }

@@ -52,22 +52,6 @@ const SCATTERED: Layout = Layout {
     size: [5_000, 5_000, 20_000],
 };
 
-// Twenty blocks that start at one x.
-const FROM_ONE_X: Layout = Layout {
-    count: 20,
-    first: [0, -200_000, 0],
-    step: [0, 20_000, 0],
-    size: [300_000, 10_000, 20_000],
-};
-
-// One block below the whole machine.
-const OVER_ALL: Layout = Layout {
-    count: 1,
-    first: [-500_000, -500_000, -500_000],
-    step: [0, 0, 0],
-    size: [1_000_000, 1_000_000, 500_000],
-};
-
 // The low corner of a block, on one axis.
 fn low_of(layout: &Layout, block: u32, axis: usize) -> i64 {
     let gone = u64::from(layout.step[axis % 3]) * u64::from(block) % u64::from(SPAN);
@@ -111,49 +95,6 @@ fn prints_among(alloc: Global, layout: &Layout, moves: &str, output: &str) -> bo
     match blocks_of(alloc, layout) {
         Some(blocks) => prints(alloc, blocks.as_str(), moves, 100, output),
         None => false,
-    }
-}
-
-#[test]
-fn few_blocks(rt: HostRuntime) {
-    for (layout, moves, output) in [
-        (
-            TWENTY,
-            "GOTO/40,0,50\nGOTO/40,0,10\nGOTO/40,40,10\n",
-            "stop COLLISION MOVE block 2 permille 250 at 2 line 5\nposition 40.000 0.000 10.000\nsteps 3\n",
-        ),
-        (
-            TWENTY,
-            "GOTO/-10,0,10\nGOTO/-10,20,10\nGOTO/410,20,10\n",
-            "stop COLLISION MOVE block 1 permille 23 at 2 line 5\nposition -10.000 20.000 10.000\nsteps 3\n",
-        ),
-        (
-            TWENTY,
-            "GOTO/410,0,10\nGOTO/410,20,10\nGOTO/-10,20,10\n",
-            "stop COLLISION MOVE block 20 permille 23 at 2 line 5\nposition 410.000 20.000 10.000\nsteps 3\n",
-        ),
-        (
-            FROM_ONE_X,
-            "GOTO/150,-165,50\nGOTO/150,-165,10\nGOTO/150,-135,10\n",
-            "stop COLLISION MOVE block 3 permille 166 at 2 line 5\nposition 150.000 -165.000 10.000\nsteps 3\n",
-        ),
-        (
-            FROM_ONE_X,
-            "GOTO/150,-165,50\nGOTO/150,-165,10\nGOTO/290,-165,10\n",
-            "stop ENDED\nposition 290.000 -165.000 10.000\nsteps 4\n",
-        ),
-        (
-            OVER_ALL,
-            "GOTO/0,0,-10\n",
-            "stop COLLISION MOVE block 1 permille 909 at 0 line 3\nposition 0.000 0.000 100.000\nsteps 1\n",
-        ),
-        (
-            OVER_ALL,
-            "GOTO/450,0,10\nGOTO/-450,-450,0.001\nGOTO/450,-450,-0.001\n",
-            "stop COLLISION MOVE block 1 permille 500 at 2 line 5\nposition -450.000 -450.000 0.001\nsteps 3\n",
-        ),
-    ] {
-        assert!(rt; prints_among(rt.alloc(), &layout, moves, output), "{moves}");
     }
 }
 

@@ -77,13 +77,6 @@ pub(crate) fn prints(
     })
 }
 
-// Whether the variables have these values behind the steps of a program.
-pub(crate) fn has_values(alloc: Global, blocks: &str, statements: &str, values: &[i64]) -> bool {
-    shows(alloc, blocks, statements, 1_000_000, |summary| {
-        summary.world().variables() == values
-    })
-}
-
 // Whether these statements are refused so.
 pub(crate) fn is_refused(alloc: Global, statements: &str, fault: SourceFault) -> bool {
     let found = judged(alloc, ONE_BLOCK, statements, 9, |answer| match answer {

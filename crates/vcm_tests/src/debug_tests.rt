@@ -60,48 +60,13 @@ fn wrong_answer<'a>(alloc: Global, commands: &[&'a str], reply: &str) -> Option<
 
 #[test]
 fn blanks_and_ends_of_lines(rt: HostRuntime) {
-    let rows: [(&[&str], &str); 4] = [
-        (&[" \n"], "G01 UnknownCommand\n"),
-        (&["show i#0\n", "show i#00\n"], "I 0\n"),
+    let rows: [(&[&str], &str); 2] = [
         (&["  where \r\n", "where"], "step 0 next 0 line 4\n"),
         (&["\n\r\n", "", "quit\nwhere\n"], ""),
     ];
     for (commands, reply) in rows {
         assert!(rt; wrong_answer(rt.alloc(), commands, reply).is_none());
     }
-}
-
-#[test]
-fn numbers_of_steps_and_lines(rt: HostRuntime) {
-    let rows: [(&[&str], &str); 4] = [
-        (&["step 1000000", "run 1000000"], "step 8 stop ENDED\n"),
-        (&["out 1000000"], "lines 0\n"),
-        (&["back 1000000"], "G05 BeforeStart\n"),
-        (
-            &[
-                "step 1000001",
-                "run 1000001",
-                "out 1000001",
-                "back 1000001",
-                "step 0",
-                "run 0",
-                "out 0",
-                "back 0",
-            ],
-            "G04 CountOutOfRange\n",
-        ),
-    ];
-    for (commands, reply) in rows {
-        assert!(rt; wrong_answer(rt.alloc(), commands, reply).is_none());
-    }
-}
-
-#[test]
-fn as_many_steps_as_may_be(rt: HostRuntime) {
-    let commands = "step 1000000\nrun 1000000\nback 1000000\n";
-    let expected =
-        "step 1000000 next 0 line 3\ncount step 2000000 next 0 line 3\nstep 1000000 next 0 line 3\nbye\n";
-    assert!(rt; replies(rt.alloc(), "(A)\nJUMPTO/(A)\n", commands, expected) == Some(true));
 }
 
 // A line of so many bytes, and how it is answered.
