@@ -1,12 +1,13 @@
 -- The block that a SELECT chooses, and where its code goes for it.
-use Rattle.std.proofs.Common.{◌≡◌, ℕ, ◌+◌, List, [], ◌∷◌, ◌++◌, Option, Some, None, Bool, true, false, refl, sym, ap, ◌∙◌, subst, arith}
+use Rattle.std.proofs.Common.{◌≡◌, ℕ, ◌+◌, List, ◌∷◌, ◌++◌, Option, Some, None, Bool, true, false, refl, subst, arith}
 use Rattle.std.specs.Prelude.{ℤ, slice_get}
 use Rattle.std.specs.Ordering.{int_eq}
 use Rattle.vcm_spec.specs.Setup.{Setup}
 use Rattle.vcm_spec.specs.Program.{Label as Name, Block, Cases, no_more, one_case, default, sizes, case_sizes, this_or, chosen}
 use Rattle.vcm_spec.specs.Table.{if_true}
 use Rattle.vcm_spec.specs.Whole.{CasesJump}
-use Rattle.vcm_code.specs.Code.{EndCas, Statement, statement}
+use Rattle.vcm_code.specs.declared.op.Op.TheVariants.{EndCas}
+use Rattle.vcm_code.specs.Code.{Statement, statement}
 use Rattle.vcm_code.specs.CodeTable.{target_for}
 use Rattle.vcm_asm.specs.inner.Depth.{CasesDeep}
 use Rattle.vcm_asm.specs.Assembled.{marks, case_marks, block_code, case_code, branches_of, last_target}

@@ -3,15 +3,13 @@ use Rattle.std.proofs.Common.{◌≡◌, ℕ, ◌+◌, ◌≤◌, Option, Some, 
 use Rattle.std.specs.Prelude.{ℤ, OnOk}
 use Rattle.vcm_spec.specs.declared.expression.Item.{Item}
 use Rattle.vcm_spec.specs.Expression.{Tree, spelling}
-use Rattle.vcm_spec.specs.Program.{Label as Name, Node, Block, Cases, then, size, sizes, case_sizes, choice, choice_else, do_loop, meas, select, one_case, default}
+use Rattle.vcm_spec.specs.Program.{Label as Name, Node, Block, Cases, then, size, sizes, choice, choice_else, do_loop, meas, one_case}
 use Rattle.vcm_nodes.specs.Nodes.{choice_by}
-use Rattle.vcm_code.specs.declared.op.Op.{Op as Kept}
-use Rattle.vcm_code.specs.Ops.{op_of}
-use Rattle.vcm_code.specs.declared.branch.Branch.{Branch}
-use Rattle.vcm_code.specs.Code.{If, Else, EndIf, Do, EndDo, Meas, EndMes, Select, Case, EndCas, DftCas, EndSel, Statement, statement}
+use Rattle.vcm_code.specs.declared.op.Op.TheVariants.{If, Else, EndIf, Do, EndDo, Meas, EndMes, Case, EndCas}
+use Rattle.vcm_code.specs.Code.{Op, Statement, statement}
 use Rattle.vcm_asm.specs.inner.Targets.{Retargets}
-use Rattle.vcm_asm.specs.Assembled.{node_code, block_code, case_code, branches_of, last_target}
-use Rattle.vcm_asm.proofs.Place.{node_length, block_length, cases_length}
+use Rattle.vcm_asm.specs.Assembled.{node_code, block_code, case_code}
+use Rattle.vcm_asm.proofs.Place.{node_length, block_length}
 
 pub block_grows : (to : Name → ℕ) (n : Node) (b : Block) (d : ℕ) (items new : List Statement) → new ≡ items ++ node_code to n d (length items) → new ++ block_code to b d (length new) ≡ items ++ block_code to (then n b) d (length items)
 block_grows to n b d items new e =
@@ -88,7 +86,7 @@ wrote_if_else to first second d line test mid close items old c1 c2 c3 c4 c5 c6 
     ∙ ap (λ k. old ++ (statement line (If (spelling test) (base + 1 + sizes first + 1)) ∷ (one ++ (statement mid (Else k) ∷ (two ++ last ∷ []))))) at5
     ∙ ap (λ k. old ++ (statement line (If (spelling test) (base + 1 + sizes first + 1)) ∷ (one ++ (statement mid (Else (base + 1 + sizes first + 1 + sizes second + 1)) ∷ (block_code to second d k ++ last ∷ []))))) from
 
-pub wrote_do : (to : Name → ℕ) (body : Block) (d line v : ℕ) (init limit step : Tree) (close : ℕ) (old c1 c2 c3 c4 : List Statement) (start end : ℕ) (op : Kept (List Item) (List ℕ) (List Branch)) → op_of op ≡ Do v d (spelling init) (spelling limit) (spelling step) 0 → start ≡ length old → c1 ≡ old ++ statement line (op_of op) ∷ [] → c2 ≡ c1 ++ block_code to body (d + 1) (length c1) → end ≡ length c2 → Retargets c2 start (end + 1) c3 → c4 ≡ c3 ++ statement close (EndDo v d (start + 1)) ∷ [] → c4 ≡ old ++ node_code to (do_loop line v init limit step body close) d (length old)
+pub wrote_do : (to : Name → ℕ) (body : Block) (d line v : ℕ) (init limit step : Tree) (close : ℕ) (old c1 c2 c3 c4 : List Statement) (start end : ℕ) (op : Op) → op ≡ Do v d (spelling init) (spelling limit) (spelling step) 0 → start ≡ length old → c1 ≡ old ++ statement line op ∷ [] → c2 ≡ c1 ++ block_code to body (d + 1) (length c1) → end ≡ length c2 → Retargets c2 start (end + 1) c3 → c4 ≡ c3 ++ statement close (EndDo v d (start + 1)) ∷ [] → c4 ≡ old ++ node_code to (do_loop line v init limit step body close) d (length old)
 wrote_do to body d line v init limit step close old c1 c2 c3 c4 start end op is m1 e1 e2 m2 st e4 =
     let base = length old in
     let s0 = statement line (Do v d (spelling init) (spelling limit) (spelling step) 0) in
@@ -123,40 +121,6 @@ cases_grow to b d line v close rest behind old c1 c2 c3 e1 e2 e3 =
     ∙ ap (λ l. l ++ tail) (e3 ∙ ap (λ l. l ++ t ∷ []) o ∙ append_assoc old (s ∷ own) (t ∷ []))
     ∙ append_assoc old (s ∷ (own ++ t ∷ [])) tail
     ∙ ap (λ l. old ++ (s ∷ l)) (append_assoc own (t ∷ []) tail)
-
--- the block of DFTCAS
-pub wrote_default : (to : Name → ℕ) (b : Block) (d line close behind : ℕ) (old c1 c2 c3 : List Statement) → c1 ≡ old ++ statement line DftCas ∷ []
-    → c2 ≡ c1 ++ block_code to b d (length c1) → c3 ≡ c2 ++ statement close (EndCas behind) ∷ []
-    → c3 ≡ old ++ case_code to (default line b close) d (length old) behind
-wrote_default to b d line close behind old c1 c2 c3 e1 e2 e3 =
-    let s = statement line DftCas in
-    let t = statement close (EndCas behind) in
-    e3 ∙ ap (λ l. l ++ t ∷ []) (opened to b d old c1 c2 s e1 e2) ∙ append_assoc old (s ∷ block_code to b d (length old + 1)) (t ∷ [])
-
--- a SELECT
-pub wrote_select : (to : Name → ℕ) (cases : Cases) (d line : ℕ) (value : Tree) (close : ℕ) (old c1 c2 c3 : List Statement) (start count behind : ℕ) (op : Kept (List Item) (List ℕ) (List Branch))
-    → op_of op ≡ Select (spelling value) (branches_of cases (start + 1)) (last_target cases (start + 1)) → start ≡ length old → c1 ≡ old ++ statement line (op_of op) ∷ []
-    → count ≡ case_sizes cases → behind ≡ start + 1 + count + 1 → c2 ≡ c1 ++ case_code to cases d (length c1) behind → c3 ≡ c2 ++ statement close EndSel ∷ []
-    → c3 ≡ old ++ node_code to (select line value cases close) d (length old)
-wrote_select to cases d line value close old c1 c2 c3 start count behind op is m1 e1 n m2 e2 e3 =
-    let base = length old in
-    let s = statement line (Select (spelling value) (branches_of cases (base + 1)) (last_target cases (base + 1))) in
-    let last = statement close EndSel in
-    let past = base + 1 + case_sizes cases + 1 in
-    let own = case_code to cases d (base + 1) past in
-    let f1 : c1 ≡ old ++ s ∷ [] =
-    e1 ∙ ap (λ o. old ++ statement line o ∷ []) is
-    ∙ ap (λ k. old ++ statement line (Select (spelling value) (branches_of cases (k + 1)) (last_target cases (k + 1))) ∷ []) m1 in
-    let l1 : length c1 ≡ base + 1 = omega (arith, ap length f1, length-append old (s ∷ [])) in
-    let at : behind ≡ base + 1 + case_sizes cases + 1 = omega (arith, m1, m2, n) in
-    e3
-    ∙ ap (λ l. l ++ last ∷ [])
-    (e2 ∙ ap (λ k. c1 ++ case_code to cases d k behind) l1 ∙ ap (λ k. c1 ++ case_code to cases d (base + 1) k) at ∙ ap (λ l. l ++ own) f1 ∙ append_assoc old (s ∷ []) own)
-    ∙ append_assoc old (s ∷ own) (last ∷ [])
-
-pub cases_written : (to : Name → ℕ) (cs : Cases) (d behind : ℕ) (c c' : List Statement) → c' ≡ c ++ case_code to cs d (length c) behind → length c' ≡ length c + case_sizes cs
-cases_written to cs d behind c c' e =
-    omega (arith, ap length e, length-append c (case_code to cs d (length c) behind), cases_length to cs d (length c) behind)
 
 pub put_length : (c c' : List Statement) (s : Statement) → c' ≡ c ++ s ∷ [] → length c' ≡ length c + 1
 put_length c c' s e = omega (arith, ap length e, length-append c (s ∷ []))

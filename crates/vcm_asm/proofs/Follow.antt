@@ -4,7 +4,8 @@ use Rattle.std.specs.Prelude.{ℤ, IsTrue, slice_get}
 use Rattle.vcm_spec.specs.declared.stop.Stop.TheVariants.{ZeroStep}
 use Rattle.vcm_spec.specs.declared.stop.StopPlace.{StopPlace}
 use Rattle.vcm_spec.specs.Expression.{Tree, spelling}
-use Rattle.vcm_spec.specs.Simple.{Simple, Goto, GoHome, Assign, Feat, PtMeas, SnSet, Trans, Rotate, Recall, Obtain, Output, Text, with_form}
+use Rattle.vcm_spec.specs.Simple.{Simple, with_form}
+use Rattle.vcm_spec.specs.declared.simple.Simple.TheVariants.{GoHome}
 use Rattle.vcm_spec.specs.Setup.{Setup}
 use Rattle.vcm_spec.specs.World.{World, stopped}
 use Rattle.vcm_spec.specs.Control.{with_next_index, is_past}
@@ -13,7 +14,8 @@ use Rattle.vcm_spec.specs.Table.{Entry, Rest, EndIf, EndMeas, EndCas, EndSel, Lo
 use Rattle.vcm_spec.specs.Printing.{prints, takes_memory, next_node}
 use Rattle.vcm_spec.specs.Whole.{is_closed}
 use Rattle.vcm_code.specs.declared.pair.Pair.{Pair}
-use Rattle.vcm_code.specs.Code.{EndDo, Statement}
+use Rattle.vcm_code.specs.declared.op.Op.TheVariants.{EndDo}
+use Rattle.vcm_code.specs.Code.{Statement}
 use Rattle.vcm_code.specs.CodeTable.{CodeState, code_state, or_halt, turn, fetched, code_step, code_steps, start, next_prints}
 use Rattle.vcm_asm.specs.Simulation.{SameAfter}
 use Rattle.vcm_asm.specs.Assembled.{marks, node_code, place_in, flat_code}
@@ -105,18 +107,8 @@ module _ (setup : Setup) (code : List Statement) (to : Name → ℕ) where
 
   -- the code prints where the program does
   simple_prints : (what : Simple Tree) → prints (with_form spelling what) ≡ prints what
-  simple_prints (Goto x y z) = refl
   simple_prints GoHome = refl
-  simple_prints (Assign v e) = refl
-  simple_prints (Feat i x y z d) = refl
-  simple_prints (PtMeas i x y z d) = refl
-  simple_prints (SnSet which e) = refl
-  simple_prints (Trans i x y z) = refl
-  simple_prints (Rotate i axis n) = refl
-  simple_prints (Recall i) = refl
-  simple_prints (Obtain v source i word) = refl
-  simple_prints (Output source i) = refl
-  simple_prints (Text bytes) = refl
+  simple_prints _ = refl
 
   node_prints : (n : Node) (d at : ℕ) → HasAt code at (node_code to n d at) → next_prints (slice_get code at) ≡ takes_memory (Some n)
   node_prints (simple line what) d at h = ap next_prints h.0 ∙ simple_prints what

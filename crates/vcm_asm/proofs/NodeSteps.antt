@@ -17,7 +17,8 @@ use Rattle.vcm_spec.specs.Table.{Entry, Rest, EndIf, EndMeas, EndCas, EndSel, Lo
 use Rattle.vcm_spec.proofs.Postfix.{value_in-spelling, test_in-spelling, effect-spelling}
 use Rattle.vcm_spec.specs.Whole.{is_end, NodeJumps}
 use Rattle.vcm_code.specs.declared.pair.Pair.{Pair}
-use Rattle.vcm_code.specs.Code.{Op, Plain, If, Else, EndIf as OpEndIf, Do, Label, JumpTo, Meas, EndMes, Select, EndCas as OpEndCas, EndSel as OpEndSel, EndFil, Statement, statement}
+use Rattle.vcm_code.specs.declared.op.Op.TheVariants.{Plain, If, Else, EndIf as OpEndIf, Do, Label, JumpTo, Meas, EndMes, Select, EndCas as OpEndCas, EndSel as OpEndSel, EndFil}
+use Rattle.vcm_code.specs.Code.{Op, Statement, statement}
 use Rattle.vcm_code.specs.CodeTable.{pair, CodeState, code_state, or_halt, target_for, do_op, fetched}
 use Rattle.vcm_asm.specs.inner.Depth.{NodeDeep}
 use Rattle.vcm_asm.specs.Assembled.{node_marks, marks, node_code, block_code, case_code, branches_of, last_target}

@@ -9,7 +9,8 @@ use Rattle.vcm_asm.specs.inner.Once.{Absent, Once}
 use Rattle.vcm_asm.specs.inner.Depth.{NodeDeep, Deep}
 use Rattle.vcm_spec.specs.Whole.{NodeJumps, Jumps}
 use Rattle.vcm_spec.proofs.Labels.{same_label, label_itself, found_stands}
-use Rattle.vcm_code.specs.Code.{Else, EndIf, EndDo, EndMes, EndCas, EndSel, Statement, statement}
+use Rattle.vcm_code.specs.declared.op.Op.TheVariants.{Else, EndIf, EndDo, EndMes, EndCas, EndSel}
+use Rattle.vcm_code.specs.Code.{Statement, statement}
 use Rattle.vcm_asm.specs.Assembled.{Mark, node_marks, marks, node_code, block_code, case_code, place_in}
 use Rattle.vcm_spec.proofs.NeverStuck.{same_node}
 

@@ -12,7 +12,8 @@ use Rattle.vcm_spec.specs.Table.{Entry, Rest, EndIf, EndMeas, EndCas, EndSel, Lo
 use Rattle.vcm_spec.specs.Whole.{is_closed, IsAround, Jumps}
 use Rattle.vcm_spec.proofs.Labels.{missed}
 use Rattle.vcm_code.specs.declared.pair.Pair.{Pair}
-use Rattle.vcm_code.specs.Code.{Op, EndDo, Statement, statement}
+use Rattle.vcm_code.specs.declared.op.Op.TheVariants.{EndDo}
+use Rattle.vcm_code.specs.Code.{Op, Statement, statement}
 use Rattle.vcm_code.specs.CodeTable.{pair, CodeState, code_state, do_op, fetched, op_prints, next_prints}
 use Rattle.vcm_asm.specs.inner.Depth.{Deep}
 use Rattle.vcm_asm.specs.Assembled.{marks, block_code}

@@ -1,32 +1,31 @@
 -- The flat code of a whole program is valid.
 use Rattle.std.proofs.Common.{◌≡◌, ℕ, suc, ◌+◌, ◌<◌, ◌≤◌, List, [], ◌∷◌, ◌++◌, Bool, true, false, sym, subst, arith}
-use Rattle.std.specs.Prelude.{IsTrue}
+use Rattle.std.specs.Prelude.{IsTrue, length, slice_get, Some}
+use Rattle.std.proofs.lemmas.Option.{slice_get_within}
 use Rattle.vcm_num.specs.declared.number.Kind.{Kind}
+use Rattle.vcm_num.specs.declared.number.Kind.TheVariants.{Int, Bool as Truths}
+use Rattle.vcm_spec.specs.declared.expression.Item.{Item}
 use Rattle.vcm_spec.specs.Expression.{Tree, spelling}
-use Rattle.vcm_spec.specs.Simple.{Simple, Goto, GoHome, Assign, Feat, PtMeas, SnSet, Trans, Rotate, Recall, Obtain, Output, Text, with_form}
+use Rattle.vcm_spec.specs.Simple.{Simple, with_form}
+use Rattle.vcm_spec.specs.declared.simple.Simple.TheVariants.{Goto, GoHome, Assign, Feat, PtMeas, SnSet, Trans, Rotate, Recall, Obtain, Output, Text}
 use Rattle.vcm_spec.specs.Setup.{Tables}
 use Rattle.vcm_spec.specs.Fitting.{kinds, Fits, HasKindIn, NodeFits, BlockFits, CasesFit}
 use Rattle.vcm_spec.specs.Program.{Label as Name, Node, Block, Cases, simple, label, jump, choice, choice_else, do_loop, meas, select, ending, done, then, no_more, one_case, default, size, sizes, case_sizes, is_same_label}
 use Rattle.vcm_spec.specs.Table.{if_true}
 use Rattle.vcm_spec.specs.Whole.{is_end, is_closed}
 use Rattle.vcm_tree.specs.Program.{IsWhole}
+use Rattle.vcm_code.specs.declared.op.Op.TheVariants.{If, EndDo}
 use Rattle.vcm_code.specs.Code.{Statement}
-use Rattle.vcm_code.specs.Valid.{HasItems, AllBelow, AllFit, Ends, IsValid, PairsBelow}
+use Rattle.vcm_code.specs.Checks.{HasItems, AllHold, targets, OpFits}
+use Rattle.vcm_code.specs.Valid.{Ends, IsValid}
+use Rattle.vcm_code.proofs.Checked.{AllFit, all_hold, wants_hold, simple_holds, do_holds, select_holds}
 use Rattle.vcm_asm.specs.inner.Spelled.{Keeps, SimpleKeeps, NodeKeeps, BlockKeeps, CasesKeep}
-use Rattle.vcm_asm.specs.inner.Depth.{NodeDeep, Deep, CasesDeep}
 use Rattle.vcm_asm.specs.Assembled.{Mark, node_marks, marks, case_marks, node_code, block_code, case_code, branches_of, last_target, place_in, flat_code, version_of}
 use Rattle.vcm_asm.proofs.Place.{block_length}
 
 size_positive : (n : Node) → 0 < size n
-size_positive (simple line what) = omega arith
-size_positive (label line l) = omega arith
-size_positive (jump line l) = omega arith
-size_positive (choice line test first close) = omega arith
-size_positive (choice_else line test first mid second close) = omega arith
-size_positive (do_loop line v a b c body close) = omega arith
-size_positive (meas line feature body close) = omega arith
-size_positive (select line value cases close) = omega arith
 size_positive (ending line) = omega arith
+size_positive _ = omega arith
 
 -- the labels' numbers are numbers of statements
 abbrev MarksBelow : List Mark → ℕ → Type 0
@@ -70,7 +69,7 @@ place_below (m ∷ ms) s l pos h = here (is_same_label m.0 l) (place_below ms s 
     here false r = r
 
 -- where a SELECT goes, there are statements
-branches_below : (cs : Cases) (base s : ℕ) → base + case_sizes cs < s → AllBelow s (branches_of cs base)
+branches_below : (cs : Cases) (base s : ℕ) → base + case_sizes cs < s → AllHold (targets (branches_of cs base) s)
 branches_below no_more base s lt = tt
 branches_below (one_case line v b close rest) base s lt = (omega arith, branches_below rest (base + 1 + sizes b + 1) s (omega arith))
 branches_below (default line b close) base s lt = tt
@@ -99,6 +98,14 @@ module _ (tables : Tables) where
   simple_fits (Output source i) h s = h
   simple_fits (Text bytes) h s = tt
 
+  -- an IF, whose test is BOOL
+  if_holds : (s : ℕ) (e : List Item) (to : ℕ) → HasItems tables e Truths → to < s → OpFits tables s (If e to)
+  if_holds s e to h below = (let k = wants_hold (kinds tables) e Truths h in (k.0, (h, (below, tt))))
+
+  -- an ENDDO, whose variable is INT
+  end_holds : (s v p to : ℕ) → slice_get (kinds tables) v ≡ Some Int → to < s → OpFits tables s (EndDo v p to)
+  end_holds s v p to e below = (slice_get_within (kinds tables) v Int e, (e, (below, tt)))
+
   fits_join : (s : ℕ) (a b : List Statement) → AllFit tables s a → AllFit tables s b → AllFit tables s (a ++ b)
   fits_join s [] b h k = k
   fits_join s (x ∷ a) b h k = (h.0, fits_join s a b h.1 k)
@@ -106,24 +113,24 @@ module _ (tables : Tables) where
   module _ (to : Name → ℕ) (s : ℕ) (places : (l : Name) → to l < s) where
     mutual
       node_fits : (n : Node) (d base : ℕ) → base + size n < s → NodeFits tables n → NodeKeeps n → AllFit tables s (node_code to n d base)
-      node_fits (simple line what) d base lt h m = (simple_fits what h m, tt)
+      node_fits (simple line what) d base lt h m = (simple_holds tables s (with_form spelling what) (simple_fits what h m), tt)
       node_fits (label line l) d base lt h m = (tt, tt)
-      node_fits (jump line l) d base lt h m = (places l, tt)
+      node_fits (jump line l) d base lt h m = ((places l, tt), tt)
       node_fits (choice line test first close) d base lt h m =
-          ((keeps test _ h.0 m.0, omega arith), fits_join s (block_code to first d (base + 1)) _ (block_fits first d (base + 1) (omega arith) h.1 m.1) (tt, tt))
+          (if_holds s (spelling test) _ (keeps test _ h.0 m.0) (omega arith), fits_join s (block_code to first d (base + 1)) _ (block_fits first d (base + 1) (omega arith) h.1 m.1) (tt, tt))
       node_fits (choice_else line test first mid second close) d base lt h m = (
-        (keeps test _ h.0 m.0, omega arith),
+        if_holds s (spelling test) _ (keeps test _ h.0 m.0) (omega arith),
         fits_join s (block_code to first d (base + 1)) _ (block_fits first d (base + 1) (omega arith) h.1 m.1)
-            (omega arith, fits_join s (block_code to second d (base + 1 + sizes first + 1)) _ (block_fits second d (base + 1 + sizes first + 1) (omega arith) h.2 m.2) (tt, tt)),
+            ((omega arith, tt), fits_join s (block_code to second d (base + 1 + sizes first + 1)) _ (block_fits second d (base + 1 + sizes first + 1) (omega arith) h.2 m.2) (tt, tt)),
       )
       node_fits (do_loop line v a b c body close) d base lt h m = (
-        (h.0, keeps a _ h.1 m.0, keeps b _ h.2 m.1, keeps c _ h.3 m.2, omega arith),
-        fits_join s (block_code to body (suc d) (base + 1)) _ (block_fits body (suc d) (base + 1) (omega arith) h.4 m.3) ((h.0, omega arith), tt),
+        do_holds tables s v d (spelling a) (spelling b) (spelling c) _ h.0 (keeps a _ h.1 m.0) (keeps b _ h.2 m.1) (keeps c _ h.3 m.2) (omega arith, tt),
+        fits_join s (block_code to body (suc d) (base + 1)) _ (block_fits body (suc d) (base + 1) (omega arith) h.4 m.3) (end_holds s v d (base + 1) h.0 (omega arith), tt),
       )
       node_fits (meas line feature body close) d base lt h m =
-          (h.0, fits_join s (block_code to body d (base + 1)) _ (block_fits body d (base + 1) (omega arith) h.1 m) (tt, tt))
+          ((h.0, tt), fits_join s (block_code to body d (base + 1)) _ (block_fits body d (base + 1) (omega arith) h.1 m) (tt, tt))
       node_fits (select line value cases close) d base lt h m = (
-        (keeps value _ h.0 m.0, branches_below cases (base + 1) s (omega arith), last_below cases (base + 1) s (omega arith)),
+        select_holds tables s (spelling value) (branches_of cases (base + 1)) _ (keeps value _ h.0 m.0) (branches_below cases (base + 1) s (omega arith)) (last_below cases (base + 1) s (omega arith), tt),
         fits_join s (case_code to cases d (base + 1) (base + 1 + case_sizes cases + 1)) _ (cases_fit cases d (base + 1) (base + 1 + case_sizes cases + 1) (omega arith) (omega arith) h.1 m.1) (tt, tt),
       )
       node_fits (ending line) d base lt h m = (tt, tt)
@@ -138,10 +145,10 @@ module _ (tables : Tables) where
       cases_fit (one_case line v b close rest) d base behind past lt h m = (
         tt,
         fits_join s (block_code to b d (base + 1)) _ (block_fits b d (base + 1) (omega arith) h.0 m.0)
-            (past, cases_fit rest d (base + 1 + sizes b + 1) behind past (omega arith) h.1 m.1),
+            ((past, tt), cases_fit rest d (base + 1 + sizes b + 1) behind past (omega arith) h.1 m.1),
       )
       cases_fit (default line b close) d base behind past lt h m =
-          (tt, fits_join s (block_code to b d (base + 1)) _ (block_fits b d (base + 1) (omega arith) h m) (past, tt))
+          (tt, fits_join s (block_code to b d (base + 1)) _ (block_fits b d (base + 1) (omega arith) h m) ((past, tt), tt))
 
     -- the program, whose last node is ENDFIL
     whole_fits : (b : Block) (base : ℕ) → IsTrue (is_closed b) → base + sizes b ≤ s → BlockFits tables b → BlockKeeps b → AllFit tables s (block_code to b 0 base)
@@ -150,14 +157,7 @@ module _ (tables : Tables) where
       where
         last : (n : Node) → IsTrue (is_end n) → AllFit tables s (node_code to n 0 base ++ [])
         last (ending line) c = (tt, tt)
-        last (simple line what) c = absurd cc
-        last (label line l) c = absurd cc
-        last (jump line l) c = absurd cc
-        last (choice line test first close) c = absurd cc
-        last (choice_else line test first mid second close) c = absurd cc
-        last (do_loop line v x y z body close) c = absurd cc
-        last (meas line feature body close) c = absurd cc
-        last (select line value cases close) c = absurd cc
+        last _ c = absurd cc
     whole_fits (then n (then n' b)) base c le h m =
         let pos = size_positive n' in
         fits_join s (node_code to n 0 base) _ (node_fits n 0 base (omega arith) h.0 m.0) (whole_fits (then n' b) (base + size n) c (omega arith) h.1 m.1)
@@ -177,55 +177,13 @@ last_ends to (then n done) base c = last n c
   where
     last : (n : Node) → IsTrue (is_end n) → Ends (node_code to n 0 base ++ [])
     last (ending line) c = tt
-    last (simple line what) c = absurd cc
-    last (label line l) c = absurd cc
-    last (jump line l) c = absurd cc
-    last (choice line test first close) c = absurd cc
-    last (choice_else line test first mid second close) c = absurd cc
-    last (do_loop line v x y z body close) c = absurd cc
-    last (meas line feature body close) c = absurd cc
-    last (select line value cases close) c = absurd cc
+    last _ c = absurd cc
 last_ends to (then n (then n' b)) base c =
     last_after (node_code to n 0 base) _ (last_ends to (then n' b) (base + size n) c)
 
 closed_positive : (b : Block) → IsTrue (is_closed b) → 0 < sizes b
 closed_positive done c = absurd cc
 closed_positive (then n b) c = let pos = size_positive n in omega arith
-
--- the pairs of a program's code
-pairs_join : (a b : List Statement) → PairsBelow a → PairsBelow b → PairsBelow (a ++ b)
-pairs_join [] b h k = k
-pairs_join (x ∷ a) b h k = (h.0, pairs_join a b h.1 k)
-
-mutual
-  node_pairs : (to : Name → ℕ) (n : Node) (d base : ℕ) → NodeDeep n d → PairsBelow (node_code to n d base)
-  node_pairs to (simple line what) d base h = (tt, tt)
-  node_pairs to (label line l) d base h = (tt, tt)
-  node_pairs to (jump line l) d base h = (tt, tt)
-  node_pairs to (choice line test first close) d base h =
-      (tt, pairs_join (block_code to first d (base + 1)) _ (block_pairs to first d (base + 1) h) (tt, tt))
-  node_pairs to (choice_else line test first mid second close) d base h =
-      (tt, pairs_join (block_code to first d (base + 1)) _ (block_pairs to first d (base + 1) h.0) (tt, pairs_join (block_code to second d (base + 1 + sizes first + 1)) _ (block_pairs to second d (base + 1 + sizes first + 1) h.1) (tt, tt)))
-  node_pairs to (do_loop line v a b c body close) d base h =
-      (h.0, pairs_join (block_code to body (suc d) (base + 1)) _ (block_pairs to body (suc d) (base + 1) h.1) (h.0, tt))
-  node_pairs to (meas line feature body close) d base h =
-      (tt, pairs_join (block_code to body d (base + 1)) _ (block_pairs to body d (base + 1) h) (tt, tt))
-  node_pairs to (select line value cases close) d base h =
-      (tt, pairs_join (case_code to cases d (base + 1) (base + 1 + case_sizes cases + 1)) _ (case_pairs to cases d (base + 1) (base + 1 + case_sizes cases + 1) h) (tt, tt))
-  node_pairs to (ending line) d base h = (tt, tt)
-
-  block_pairs : (to : Name → ℕ) (b : Block) (d base : ℕ) → Deep b d → PairsBelow (block_code to b d base)
-  block_pairs to done d base h = tt
-  block_pairs to (then n b) d base h = pairs_join (node_code to n d base) _ (node_pairs to n d base h.0) (block_pairs to b d (base + size n) h.1)
-
-  case_pairs : (to : Name → ℕ) (cs : Cases) (d base behind : ℕ) → CasesDeep cs d → PairsBelow (case_code to cs d base behind)
-  case_pairs to no_more d base behind h = tt
-  case_pairs to (one_case line v b close rest) d base behind h =
-      (tt, pairs_join (block_code to b d (base + 1)) _ (block_pairs to b d (base + 1) h.0) (tt, case_pairs to rest d (base + 1 + sizes b + 1) behind h.1))
-  case_pairs to (default line b close) d base behind h = (tt, pairs_join (block_code to b d (base + 1)) _ (block_pairs to b d (base + 1) h) (tt, tt))
-
-pub pairs : (program : Block) → Deep program 0 → PairsBelow (flat_code program)
-pairs program h = block_pairs (place_in (marks program 0)) program 0 0 h
 
 pub valid : (program : Block) (tables : Tables) → IsWhole program tables → BlockKeeps program
     → IsValid (record { version = version_of program; tables = tables; statements = flat_code program })
@@ -234,6 +192,7 @@ valid program tables a small =
     let len = block_length to program 0 0 in
     let places = λ (l : Name). place_below (marks program 0) (sizes program) l (closed_positive program a.closed) (marks_below program 0 (sizes program) (omega arith)) in
     record {
-      fit = subst (λ n. AllFit tables n (flat_code program)) (sym len) (whole_fits tables to (sizes program) places program 0 a.closed (omega arith) a.fits small);
+      fit = all_hold tables (length (flat_code program)) (flat_code program)
+          (subst (λ n. AllFit tables n (flat_code program)) (sym len) (whole_fits tables to (sizes program) places program 0 a.closed (omega arith) a.fits small));
       ends = last_ends to program 0 a.closed;
     }

@@ -1,11 +1,17 @@
 -- The version of a program's code.
-use Rattle.std.proofs.Common.{◌≡◌, ℕ, suc, ◌+◌, Bool, true, false, List, [], ◌∷◌, ◌++◌, refl, sym, ap, ◌∙◌}
+use Rattle.std.proofs.Common.{◌≡◌, ℕ, suc, ◌+◌, Bool, true, false, List, [], ◌∷◌, ◌++◌, refl, ap, ◌∙◌}
 use Rattle.std.specs.Prelude.{◌||◌}
-use Rattle.vcm_spec.specs.Program.{Label as Name, Node, Block, simple, label, jump, choice, choice_else, do_loop, meas, select, ending, done, then, no_more, one_case, default, size, sizes}
+use Rattle.vcm_spec.specs.declared.expression.Item.{Item}
+use Rattle.vcm_spec.specs.Expression.{spelling}
+use Rattle.vcm_spec.specs.Simple.{Simple, with_form}
+use Rattle.vcm_spec.specs.declared.simple.Simple.TheVariants.{GoHome}
+use Rattle.vcm_spec.specs.Program.{Label as Name, Node, Block, simple, label, jump, choice, choice_else, do_loop, meas, select, ending, done, then, size, sizes}
 use Rattle.vcm_spec.specs.Table.{if_true}
 use Rattle.vcm_code.specs.declared.version.Version.TheVariants.{One, Two}
-use Rattle.vcm_code.specs.Code.{Else, EndIf, EndDo, EndMes, Statement, statement}
-use Rattle.vcm_code.specs.Ranges.{is_selection, has_selection, version_for, IsOfVersion}
+use Rattle.vcm_code.specs.declared.op.Op.TheVariants.{Plain, Else, EndIf, EndDo, EndMes}
+use Rattle.vcm_code.specs.Code.{Statement, statement}
+use Rattle.vcm_code.specs.Words.{is_of_select, word_of}
+use Rattle.vcm_code.specs.Ranges.{has_selection, version_for, IsOfVersion}
 use Rattle.vcm_asm.specs.Assembled.{marks, node_code, block_code, place_in, flat_code, node_selects, selects, version_of}
 
 both : (a b c d : Bool) → a ≡ c → b ≡ d → (a || b) ≡ (c || d)
@@ -21,15 +27,20 @@ or_none false = refl
 
 among_append : (a b : List Statement) → has_selection (a ++ b) ≡ (has_selection a || has_selection b)
 among_append [] b = refl
-among_append (s ∷ a) b = ap (λ x. is_selection s.op || x) (among_append a b) ∙ regroup (is_selection s.op) (has_selection a) (has_selection b)
+among_append (s ∷ a) b = ap (λ x. is_of_select (word_of s.op) || x) (among_append a b) ∙ regroup (is_of_select (word_of s.op)) (has_selection a) (has_selection b)
 
 -- a closing statement behind others
-closed : (a : List Statement) (s : Statement) (t : Bool) → is_selection s.op ≡ false → has_selection a ≡ t → has_selection (a ++ s ∷ []) ≡ t
+closed : (a : List Statement) (s : Statement) (t : Bool) → is_of_select (word_of s.op) ≡ false → has_selection a ≡ t → has_selection (a ++ s ∷ []) ≡ t
 closed a s t e h = among_append a (s ∷ []) ∙ ap (λ x. has_selection a || (x || false)) e ∙ or_none (has_selection a) ∙ h
+
+-- a simple statement
+simple_version : (what : Simple (List Item)) → is_of_select (word_of (Plain what)) ≡ false
+simple_version GoHome = refl
+simple_version _ = refl
 
 mutual
   node_version : (to : Name → ℕ) (n : Node) (d base : ℕ) → has_selection (node_code to n d base) ≡ node_selects n
-  node_version to (simple line what) d base = refl
+  node_version to (simple line what) d base = ap (λ x. x || false) (simple_version (with_form spelling what))
   node_version to (label line l) d base = refl
   node_version to (jump line l) d base = refl
   node_version to (choice line test first close) d base =

@@ -5,14 +5,15 @@ use Rattle.vcm_spec.specs.declared.expression.Relation.TheVariants.{Equal}
 use Rattle.vcm_spec.specs.declared.expression.BinaryOp.TheVariants.{Add, Compare}
 use Rattle.vcm_spec.specs.declared.expression.Item.{Item}
 use Rattle.vcm_spec.specs.declared.expression.Item.TheVariants.{Push, Combine}
-use Rattle.vcm_spec.specs.Simple.{Assign, Text}
+use Rattle.vcm_spec.specs.declared.simple.Simple.TheVariants.{Assign, Text}
 use Rattle.vcm_spec.specs.Samples.Parts.{int}
 use Rattle.vcm_spec.specs.Expression.{Value}
 use Rattle.vcm_spec.specs.Samples.Numbers.{chosen}
 use Rattle.vcm_spec.specs.Samples.Loops.{counted, again, past_loop, selections, no_block}
 use Rattle.vcm_code.specs.declared.branch.Branch.{Branch}
 use Rattle.vcm_code.specs.declared.version.Version.TheVariants.{One, Two}
-use Rattle.vcm_code.specs.Code.{Plain, If, Else, EndIf, Do, EndDo, Label, JumpTo, Select, Case, EndCas, DftCas, EndSel, EndFil, statement}
+use Rattle.vcm_code.specs.declared.op.Op.TheVariants.{Plain, If, Else, EndIf, Do, EndDo, Label, JumpTo, Select, Case, EndCas, DftCas, EndSel, EndFil}
+use Rattle.vcm_code.specs.Code.{statement}
 use Rattle.vcm_asm.specs.Assembled.{flat_code, version_of}
 
 -- a whole number as an expression

@@ -5,7 +5,8 @@ use Rattle.vcm_spec.specs.Setup.{Setup, Tables, setup_of}
 use Rattle.vcm_spec.specs.Program.{Block}
 use Rattle.vcm_spec.specs.Table.{steps, opening, front, next_number}
 use Rattle.vcm_spec.specs.Printing.{takes_memory, next_node}
-use Rattle.vcm_code.specs.Code.{Statement, Code}
+use Rattle.vcm_code.specs.declared.code.Code.{Code}
+use Rattle.vcm_code.specs.Code.{Statement}
 use Rattle.vcm_code.specs.CodeTable.{code_steps, start, next_prints}
 use Rattle.vcm_asm.specs.Assembled.{flat_code, version_of}
 

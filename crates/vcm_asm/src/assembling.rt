@@ -1,7 +1,6 @@
 //! The assembler.
 
 ghost use Rattle.std.specs.Prelude.{IfOk};
-ghost use Rattle.vcm_code.specs.Ops.{code_of};
 ghost use Rattle.vcm_code.specs.Valid.{IsValid};
 ghost use Rattle.vcm_code.specs.Ranges.{IsInRange};
 ghost use Rattle.vcm_asm.specs.Simulation.{IsAssembled};
@@ -20,9 +19,9 @@ use vcm_tree::Accepted;
 ///
 /// Errors: want of memory.
 pub fn assemble(alloc: Global, program: &Accepted) -> Result<Code, NoMemory>
-    ensures assembled { IfOk result (λ c. IsAssembled program.now.program program.now.tables (code_of c)) }
-    ensures valid { IfOk result (λ c. IsValid (code_of c)) }
-    ensures in_range { IfOk result (λ c. IsInRange (code_of c)) }
+    ensures assembled { IfOk result (λ c. IsAssembled program.now.program program.now.tables c) }
+    ensures valid { IfOk result (λ c. IsValid c) }
+    ensures in_range { IfOk result (λ c. IsInRange c) }
 {
     let tree = program.tree();
     let mut numbers = Numbers::new(alloc);

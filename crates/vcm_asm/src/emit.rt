@@ -5,8 +5,7 @@ ghost use Rattle.vcm_spec.specs.Expression.{spelling};
 ghost use Rattle.vcm_spec.specs.Simple.{with_form};
 ghost use Rattle.vcm_spec.specs.Program.{size, sizes, case_sizes};
 ghost use Rattle.vcm_nodes.specs.Nodes.{action_of, node_of};
-ghost use Rattle.vcm_code.specs.Code.{Plain, Do, Select};
-ghost use Rattle.vcm_code.specs.Ops.{op_of};
+ghost use Rattle.vcm_code.specs.declared.op.Op.TheVariants.{Do, Select};
 ghost use Rattle.vcm_asm.specs.inner.Spelled.{Keeps, KeepThree, SimpleKeeps, NodeKeeps, BlockKeeps, CasesKeep};
 ghost use Rattle.vcm_asm.specs.inner.Depth.{NodeDeep, Deep, CasesDeep};
 ghost use Rattle.vcm_asm.specs.Assembled.{node_code, block_code, case_code, branches_of, last_target, place_in};
@@ -14,11 +13,11 @@ ghost use Rattle.vcm_asm.specs.Assembled.{node_code, block_code, case_code, bran
 use crate::emitted::Emitted;
 use crate::numbers::Numbers;
 use std::alloc::Global;
-use vcm_code::{Branch, Op, OwnedOp};
+use vcm_code::{Branch, Op, OwnedOp, OwnedSimple};
 use vcm_expr::{Typed, to_postfix};
 use vcm_nodes::{Action, Block, Cases, Node, count, count_cases};
 use vcm_num::{Items, NoMemory};
-use vcm_spec::Item;
+use vcm_spec::{Item, Simple};
 
 // The postfix items of an expression.
 fn postfix(alloc: Global, e: &Typed) -> Result<Items<Item>, NoMemory>
@@ -45,47 +44,47 @@ fn three(
 }
 
 // What a simple statement does, with its expressions as postfix items.
-fn plain(alloc: Global, action: &Action) -> Result<OwnedOp, NoMemory>
-    ensures op { IfOk result (λ op. op_of op ≡ Plain (with_form spelling (action_of action.now))) }
+fn plain(alloc: Global, action: &Action) -> Result<OwnedSimple, NoMemory>
+    ensures what { IfOk result (λ what. what ≡ with_form spelling (action_of action.now)) }
     ensures keeps { OnOk result (SimpleKeeps (action_of action.now)) }
 {
     match action {
         Action::Goto(x, y, z) => {
             let (x, y, z) = three(alloc, x, y, z)?;
-            Ok(Op::Goto(x, y, z))
+            Ok(Simple::Goto(x, y, z))
         }
-        Action::GoHome => Ok(Op::GoHome),
+        Action::GoHome => Ok(Simple::GoHome),
         Action::Assign(variable, e) => {
             let e = postfix(alloc, e)?;
-            Ok(Op::Assign(*variable, e))
+            Ok(Simple::Assign(*variable, e))
         }
         Action::Feat(feature, x, y, z, toward) => {
             let (x, y, z) = three(alloc, x, y, z)?;
-            Ok(Op::Feat(*feature, x, y, z, *toward))
+            Ok(Simple::Feat(*feature, x, y, z, *toward))
         }
         Action::PtMeas(feature, x, y, z, toward) => {
             let (x, y, z) = three(alloc, x, y, z)?;
-            Ok(Op::PtMeas(*feature, x, y, z, *toward))
+            Ok(Simple::PtMeas(*feature, x, y, z, *toward))
         }
         Action::SnSet(setting, e) => {
             let e = postfix(alloc, e)?;
-            Ok(Op::SnSet(*setting, e))
+            Ok(Simple::SnSet(*setting, e))
         }
         Action::Trans(frame, x, y, z) => {
             let (x, y, z) = three(alloc, x, y, z)?;
-            Ok(Op::Trans(*frame, x, y, z))
+            Ok(Simple::Trans(*frame, x, y, z))
         }
         Action::Rotate(frame, axis, quarters) => {
-            Ok(Op::Rotate(*frame, axis.number(), quarters.number()))
+            Ok(Simple::Rotate(*frame, axis.number(), quarters.number()))
         }
-        Action::Recall(frame) => Ok(Op::Recall(*frame)),
+        Action::Recall(frame) => Ok(Simple::Recall(*frame)),
         Action::Obtain(variable, source, feature, word) => {
-            Ok(Op::Obtain(*variable, *source, *feature, word.number()))
+            Ok(Simple::Obtain(*variable, *source, *feature, word.number()))
         }
-        Action::Output(source, feature) => Ok(Op::Output(*source, *feature)),
+        Action::Output(source, feature) => Ok(Simple::Output(*source, *feature)),
         Action::Text(text) => {
             let bytes = Items::from_slice(alloc, text.as_bytes())?;
-            Ok(Op::Text(bytes))
+            Ok(Simple::Text(bytes))
         }
     }
 }
@@ -99,7 +98,7 @@ fn repeat(
     limit: &Typed,
     increment: &Typed,
 ) -> Result<OwnedOp, NoMemory>
-    ensures op { IfOk result (λ op. op_of op ≡ Do variable depth (spelling initial.now) (spelling limit.now) (spelling increment.now) 0) }
+    ensures op { IfOk result (λ op. op ≡ Do variable depth (spelling initial.now) (spelling limit.now) (spelling increment.now) 0) }
     ensures keeps { OnOk result (KeepThree initial.now limit.now increment.now) }
 {
     let initial = postfix(alloc, initial)?;
@@ -132,7 +131,7 @@ fn branches(alloc: Global, cases: &Cases, first: u32) -> Result<(Items<Branch>, 
 // A SELECT whose blocks' first statement has the number `first`.
 fn selection(alloc: Global, value: &Typed, cases: &Cases, first: u32) -> Result<OwnedOp, NoMemory>
     requires { first + case_sizes cases.now ≤ 20000 }
-    ensures op { IfOk result (λ op. op_of op ≡ Select (spelling value.now) (branches_of cases.now first) (last_target cases.now first)) }
+    ensures op { IfOk result (λ op. op ≡ Select (spelling value.now) (branches_of cases.now first) (last_target cases.now first)) }
     ensures keeps { OnOk result (Keeps value.now) }
 {
     let value = postfix(alloc, value)?;
@@ -175,7 +174,7 @@ fn emit_node(
     ensures keeps { OnOk result (NodeKeeps (node_of node.now)) }
 {
     match node {
-        Node::Simple(line, action) => code.put(*line, plain(alloc, action)?),
+        Node::Simple(line, action) => code.put(*line, Op::Plain(plain(alloc, action)?)),
         Node::Label(line, _) => code.put(*line, Op::Label),
         Node::Jump(line, label) => code.put(*line, Op::JumpTo(numbers.place_of(label))),
         Node::Choice(line, test, first, other, close) => {

@@ -2,7 +2,6 @@
 
 ghost use Rattle.std.specs.Prelude.{◌≡◌, ◌≤◌, ◌<◌, [], ◌∷◌, ◌++◌, length, IfOk, OnOk};
 ghost use Rattle.vcm_code.specs.Code.{statement};
-ghost use Rattle.vcm_code.specs.Ops.{op_of, statement_of, statements_of};
 ghost use Rattle.vcm_asm.specs.inner.Targets.{with_target, Retargets};
 
 use std::alloc::Global;
@@ -10,7 +9,7 @@ use std::marker::Model;
 use vcm_code::{Op, OwnedOp, OwnedStatement, Statement};
 use vcm_num::{Items, NoMemory};
 
-/// The statements that are written so far. Contracts see them as those of the code table.
+/// The statements that are written so far. Contracts see them as a list.
 #[derive(Drop)]
 pub(crate) struct Emitted {
     statements: Vec<OwnedStatement>,
@@ -18,16 +17,11 @@ pub(crate) struct Emitted {
 
 impl Model for Emitted {
     ghost use Rattle.std.specs.Prelude.{List};
-    ghost use Rattle.std.specs.Coded.{codes};
     ghost use Rattle.vcm_code.specs.Code.{Statement as Meaning};
-    ghost use Rattle.vcm_code.specs.inner.OpCodes.{statement_coded};
-    ghost use Rattle.vcm_code.specs.Ops.{statements_of};
 
     ghost Value = { List Meaning };
 
-    ghost coded = { Prim.hlevel (codes, statement_coded) };
-
-    ghost view = { λ e. statements_of e.statements.items };
+    ghost view = { λ e. e.statements.items };
 }
 
 impl Emitted {
@@ -49,7 +43,7 @@ impl Emitted {
 
     /// One more statement, with its source line.
     pub(crate) fn put(&mut self, line: u32, op: OwnedOp) -> Result<(), NoMemory>
-        ensures { OnOk result (self.new ≡ self.old ++ statement line (op_of op) ∷ []) }
+        ensures { OnOk result (self.new ≡ self.old ++ statement line op ∷ []) }
     {
         self.statements.push(Statement { line, op })?;
         Ok(())
@@ -66,7 +60,7 @@ impl Emitted {
 
     /// The statements alone.
     pub(crate) fn into_statements(self) -> Items<OwnedStatement>
-        ensures { statements_of result ≡ self }
+        ensures { result ≡ self }
     {
         Items::from_vec(self.statements)
     }
@@ -74,7 +68,7 @@ impl Emitted {
 
 // The same statement with another target.
 fn retarget(statement: &mut OwnedStatement, target: u32)
-    ensures { statement_of statement.new ≡ with_target (statement_of statement.old) target }
+    ensures { statement.new ≡ with_target statement.old target }
 {
     match &mut statement.op {
         Op::If(_, to) => *to = target,

@@ -15,7 +15,8 @@ use Rattle.vcm_spec.specs.Control.{test_in, with_next_index, is_zero, is_past}
 use Rattle.vcm_spec.specs.Table.{if_true, unless_stopped}
 use Rattle.vcm_code.specs.declared.pair.Pair.{Pair}
 use Rattle.vcm_code.specs.declared.branch.Branch.{Branch}
-use Rattle.vcm_code.specs.Code.{Op, Plain, If, Else, EndIf, Do, EndDo, Label, JumpTo, Meas, EndMes, Select, Case, EndCas, DftCas, EndSel, EndFil, Statement, statement}
+use Rattle.vcm_code.specs.Code.{Op, Statement, statement}
+use Rattle.vcm_code.specs.declared.op.Op.TheVariants.{Plain, If, Else, EndIf, Do, EndDo, Label, JumpTo, Meas, EndMes, Select, Case, EndCas, DftCas, EndSel, EndFil}
 use Rattle.vcm_code.specs.CodeTable.{CodeState, code_state, pair, or_halt, turn, target_for, do_op, fetched, code_step}
 use Rattle.vcm_code.specs.CodeRules.{Selects, branch_has_it, branch_has_another, none_is_left, Goes, simple_is_carried_out, if_is_true, if_is_false, branch_leaves, branch_ends, do_is_past, do_is_begun, loop_is_past, loop_turns_again, label_is_passed, jump_lands, meas_is_begun, measurement_ends, select_goes, case_is_passed, case_ends, default_is_passed, selection_ends, Halts, simple_stops, test_stops, initial_value_stops, limit_stops, increment_stops, increment_is_zero, saved_increment_is_zero, index_overflows, selected_value_stops, program_ends, CanStep, CodeSteps, goes_on, stops, stays}
 use Rattle.vcm_code.proofs.CodeRulesHold.{with_increment, with_limit, with_initial, with_index}

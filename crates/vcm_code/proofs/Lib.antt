@@ -1,3 +1,5 @@
+pub mod Checked
+pub mod Shapes
 pub mod CodeRulesHold
 pub mod CodeRulesComputed
 pub mod CodeNeverStuck

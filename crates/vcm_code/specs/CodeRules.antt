@@ -13,7 +13,8 @@ use Rattle.vcm_spec.specs.Effect.{effect, value_in}
 use Rattle.vcm_spec.specs.Control.{test_in, with_next_index}
 use Rattle.vcm_code.specs.declared.pair.Pair.{Pair}
 use Rattle.vcm_code.specs.declared.branch.Branch.{Branch}
-use Rattle.vcm_code.specs.Code.{Op, Plain, If, Else, EndIf, Do, EndDo, Label, JumpTo, Meas, EndMes, Select, Case, EndCas, DftCas, EndSel, EndFil}
+use Rattle.vcm_code.specs.Code.{Op}
+use Rattle.vcm_code.specs.declared.op.Op.TheVariants.{Plain, If, Else, EndIf, Do, EndDo, Label, JumpTo, Meas, EndMes, Select, Case, EndCas, DftCas, EndSel, EndFil}
 use Rattle.vcm_code.specs.Code.{Statement, statement}
 use Rattle.vcm_code.specs.CodeTable.{CodeState, code_state, pair, code_step, code_steps}
 use Rattle.vcm_spec.specs.Rules.{IsPast, IsNotPast}

@@ -1,63 +1,49 @@
 -- Which codes have all their fields in the ranges that an image has for them. Indexes, targets, source lines and numbers have theirs by
 -- their types.
-use Rattle.std.specs.Prelude.{◌≡◌, ℕ, ◌<◌, ◌≤◌, Bool, true, false, List, [], ◌∷◌, length}
+use Rattle.std.specs.Prelude.{◌≡◌, ℕ, ◌<◌, ◌≤◌, Bool, false, List, length}
 use Rattle.std.specs.List.{AllByRecursion, list_any}
 use Rattle.vcm_spec.specs.declared.expression.Item.{Item}
-use Rattle.vcm_spec.specs.Simple.{Simple, Goto, GoHome, Assign, Feat, PtMeas, SnSet, Trans, Rotate, Recall, Obtain, Output, Text}
 use Rattle.vcm_spec.specs.TextBytes.{IsText}
 use Rattle.vcm_spec.specs.Table.{if_true}
 use Rattle.vcm_expr.specs.NameBytes.{IsName}
 use Rattle.vcm_code.specs.declared.version.Version.{Version}
 use Rattle.vcm_code.specs.declared.version.Version.TheVariants.{One, Two}
-use Rattle.vcm_code.specs.Code.{Op, Plain, If, Do, EndDo, Select, Case, EndCas, DftCas, EndSel, Statement, Code}
+use Rattle.vcm_code.specs.Code.{Op, Statement}
+use Rattle.vcm_code.specs.declared.code.Code.{Code}
+use Rattle.vcm_code.specs.Words.{word_of, is_of_select}
+use Rattle.vcm_code.specs.Shape.{Place, Said, InOperands}
+use Rattle.vcm_code.specs.Shape as at
 use Rattle.vcm_expr.specs.Names.{AreNamed}
 
 -- an expression has at least one item and at most 1,024
 abbrev pub IsShort : List Item → Type 0
 IsShort items = (1 ≤ length items) × (length items ≤ 1024)
 
--- a simple statement: its expressions are short, its text is one, an axis is one of three, quarter turns are fewer than four, and the word
--- of a feature is the third to the eighth
-abbrev pub SimpleInRange : Simple (List Item) → Type 0
-SimpleInRange (Goto x y z) = IsShort x × IsShort y × IsShort z
-SimpleInRange GoHome = Unit {0}
-SimpleInRange (Assign v e) = IsShort e
-SimpleInRange (Feat feature x y z toward) = IsShort x × IsShort y × IsShort z
-SimpleInRange (PtMeas feature x y z toward) = IsShort x × IsShort y × IsShort z
-SimpleInRange (SnSet which e) = IsShort e
-SimpleInRange (Trans frame x y z) = IsShort x × IsShort y × IsShort z
-SimpleInRange (Rotate frame axis quarters) = (axis < 3) × (quarters < 4)
-SimpleInRange (Recall frame) = Unit {0}
-SimpleInRange (Obtain v source feature word) = (3 ≤ word) × (word ≤ 8)
-SimpleInRange (Output source feature) = Unit {0}
-SimpleInRange (Text bytes) = IsText bytes
+-- what stands in a place is in range, where its type alone doesn't keep it there: expressions are short, a pair is one of the 32, the axis of a turn one
+-- of three, quarters are fewer than four, the word of a feature is the third to the eighth, a text is one, and branches are at most 20,000
+abbrev pub IsRanged : (p : Place) → Said p → Type 0
+IsRanged at.pair n = n < 32
+IsRanged (at.items k) e = IsShort e
+IsRanged (at.three k) t = IsShort t.0 × IsShort t.1.0 × IsShort t.1.1
+IsRanged at.assigned o = IsShort o.1
+IsRanged at.turn n = n < 3
+IsRanged at.quarters n = n < 4
+IsRanged at.part n = (3 ≤ n) × (n ≤ 8)
+IsRanged at.text bs = IsText bs
+IsRanged at.branches bs = length bs ≤ 20000
+IsRanged _ x = Unit {0}
 
--- what a statement does: its expressions are short, its pair is one of the 32, and it has at most 20,000 branches
+-- a statement: what stands in all its places is
 abbrev pub OpInRange : Op → Type 0
-OpInRange (Plain what) = SimpleInRange what
-OpInRange (If test target) = IsShort test
-OpInRange (Do v pair initial limit increment target) = (pair < 32) × IsShort initial × IsShort limit × IsShort increment
-OpInRange (EndDo v pair target) = pair < 32
-OpInRange (Select value branches target) = IsShort value × (length branches ≤ 20000)
-OpInRange _ = Unit {0}
+OpInRange o = InOperands IsRanged o
 
 -- all statements are in range
 abbrev pub AllInRange : List Statement → Type 0
-AllInRange [] = Unit {0}
-AllInRange (s ∷ ss) = OpInRange s.op × AllInRange ss
+AllInRange ss = AllByRecursion (λ (s : Statement). OpInRange s.op) ss
 
--- whether a statement is SELECT, CASE, ENDCAS, DFTCAS or ENDSEL
-abbrev pub is_selection : Op → Bool
-is_selection (Select value branches target) = true
-is_selection Case = true
-is_selection (EndCas target) = true
-is_selection DftCas = true
-is_selection EndSel = true
-is_selection _ = false
-
--- whether one of these statements is
+-- whether one of these statements is SELECT, CASE, ENDCAS, DFTCAS or ENDSEL
 abbrev pub has_selection : List Statement → Bool
-has_selection ss = list_any (λ (s : Statement). is_selection s.op) ss
+has_selection ss = list_any (λ (s : Statement). is_of_select (word_of s.op)) ss
 
 -- the first version that has all these statements
 abbrev pub version_for : List Statement → Version

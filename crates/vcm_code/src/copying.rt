@@ -1,12 +1,13 @@
 //! Copies of statements whose expressions, texts and branches are read in place.
 
 ghost use Rattle.std.specs.Prelude.{◌≡◌, IfOk};
+ghost use Rattle.vcm_spec.specs.Simple.{with_forms};
 
 use crate::branch::Branch;
-use crate::op::{Op, OwnedOp, OwnedStatement, Statement};
+use crate::op::{Op, OwnedOp, OwnedSimple, OwnedStatement, Statement};
 use std::alloc::Global;
 use vcm_num::{Items, NoMemory};
-use vcm_spec::Item;
+use vcm_spec::{Item, Simple};
 
 /// An expression, however its items are kept.
 pub trait Expression {
@@ -71,6 +72,43 @@ fn three<E: Expression>(alloc: Global, x: &E, y: &E, z: &E) -> Result<Triple, No
     Ok(Triple { x, y, z })
 }
 
+// A simple statement, with items and a text of its own.
+fn simple<E: Expression, T: Line>(
+    alloc: Global,
+    what: &Simple<E, T>,
+) -> Result<OwnedSimple, NoMemory>
+    ensures { IfOk result (λ copy. copy ≡ with_forms E.items T.bytes what.now) }
+{
+    match what {
+        Simple::Goto(x, y, z) => {
+            let to = three(alloc, x, y, z)?;
+            Ok(Simple::Goto(to.x, to.y, to.z))
+        }
+        Simple::GoHome => Ok(Simple::GoHome),
+        Simple::Assign(variable, e) => Ok(Simple::Assign(*variable, e.to_items(alloc)?)),
+        Simple::Feat(feature, x, y, z, toward) => {
+            let point = three(alloc, x, y, z)?;
+            Ok(Simple::Feat(*feature, point.x, point.y, point.z, *toward))
+        }
+        Simple::PtMeas(feature, x, y, z, toward) => {
+            let point = three(alloc, x, y, z)?;
+            Ok(Simple::PtMeas(*feature, point.x, point.y, point.z, *toward))
+        }
+        Simple::SnSet(setting, length) => Ok(Simple::SnSet(*setting, length.to_items(alloc)?)),
+        Simple::Trans(frame, x, y, z) => {
+            let by = three(alloc, x, y, z)?;
+            Ok(Simple::Trans(*frame, by.x, by.y, by.z))
+        }
+        Simple::Rotate(frame, axis, quarters) => Ok(Simple::Rotate(*frame, *axis, *quarters)),
+        Simple::Recall(frame) => Ok(Simple::Recall(*frame)),
+        Simple::Obtain(target, of, feature, word) => {
+            Ok(Simple::Obtain(*target, *of, *feature, *word))
+        }
+        Simple::Output(source, feature) => Ok(Simple::Output(*source, *feature)),
+        Simple::Text(text) => Ok(Simple::Text(text.to_bytes(alloc)?)),
+    }
+}
+
 impl<E: Expression, T: Line, B: Branches> Op<E, T, B> {
     ghost use Rattle.vcm_code.specs.Copies.{listed};
 
@@ -81,13 +119,7 @@ impl<E: Expression, T: Line, B: Branches> Op<E, T, B> {
         ensures { IfOk result (λ op. op ≡ listed E.items T.bytes B.branches self.now) }
     {
         match self {
-            Op::EndFil => Ok(Op::EndFil),
-            Op::Goto(x, y, z) => {
-                let to = three(alloc, x, y, z)?;
-                Ok(Op::Goto(to.x, to.y, to.z))
-            }
-            Op::GoHome => Ok(Op::GoHome),
-            Op::Assign(variable, e) => Ok(Op::Assign(*variable, e.to_items(alloc)?)),
+            Op::Plain(what) => Ok(Op::Plain(simple(alloc, what)?)),
             Op::If(test, target) => Ok(Op::If(test.to_items(alloc)?, *target)),
             Op::Else(target) => Ok(Op::Else(*target)),
             Op::EndIf => Ok(Op::EndIf),
@@ -98,26 +130,8 @@ impl<E: Expression, T: Line, B: Branches> Op<E, T, B> {
             Op::EndDo(variable, pair, target) => Ok(Op::EndDo(*variable, *pair, *target)),
             Op::Label => Ok(Op::Label),
             Op::JumpTo(target) => Ok(Op::JumpTo(*target)),
-            Op::Feat(feature, x, y, z, toward) => {
-                let point = three(alloc, x, y, z)?;
-                Ok(Op::Feat(*feature, point.x, point.y, point.z, *toward))
-            }
             Op::Meas(feature) => Ok(Op::Meas(*feature)),
-            Op::PtMeas(feature, x, y, z, toward) => {
-                let point = three(alloc, x, y, z)?;
-                Ok(Op::PtMeas(*feature, point.x, point.y, point.z, *toward))
-            }
             Op::EndMes => Ok(Op::EndMes),
-            Op::SnSet(setting, length) => Ok(Op::SnSet(*setting, length.to_items(alloc)?)),
-            Op::Trans(frame, x, y, z) => {
-                let by = three(alloc, x, y, z)?;
-                Ok(Op::Trans(*frame, by.x, by.y, by.z))
-            }
-            Op::Rotate(frame, axis, quarters) => Ok(Op::Rotate(*frame, *axis, *quarters)),
-            Op::Recall(frame) => Ok(Op::Recall(*frame)),
-            Op::Obtain(target, of, feature, word) => Ok(Op::Obtain(*target, *of, *feature, *word)),
-            Op::Output(source, feature) => Ok(Op::Output(*source, *feature)),
-            Op::Text(text) => Ok(Op::Text(text.to_bytes(alloc)?)),
             Op::Select(value, branches, target) => {
                 let value = value.to_items(alloc)?;
                 let branches = branches.to_branches(alloc)?;
@@ -127,6 +141,7 @@ impl<E: Expression, T: Line, B: Branches> Op<E, T, B> {
             Op::EndCas(target) => Ok(Op::EndCas(*target)),
             Op::DftCas => Ok(Op::DftCas),
             Op::EndSel => Ok(Op::EndSel),
+            Op::EndFil => Ok(Op::EndFil),
         }
     }
 }

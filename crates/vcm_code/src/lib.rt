@@ -8,10 +8,12 @@ pub mod laws;
 mod op;
 mod pair;
 mod version;
+mod word;
 
 pub use branch::Branch;
 pub use code::Code;
 pub use copying::{Branches, Expression, Line};
-pub use op::{Op, OwnedOp, OwnedStatement, Statement};
+pub use op::{Op, OwnedOp, OwnedSimple, OwnedStatement, Statement};
 pub use pair::Pair;
 pub use version::{Version, has_selection, version_for};
+pub use word::{Word, has_word};

@@ -1,8 +1,8 @@
 //! The versions of codes.
 
 ghost use Rattle.std.specs.Prelude.{◌≡◌};
-ghost use Rattle.vcm_code.specs.Ops.{op_of, statements_of};
-ghost use Rattle.vcm_code.specs.Ranges.{is_selection, has_selection, version_for};
+ghost use Rattle.vcm_code.specs.Words.{is_of_select, word_of};
+ghost use Rattle.vcm_code.specs.Ranges.{has_selection, version_for};
 
 use crate::op::{OwnedOp, OwnedStatement};
 
@@ -16,7 +16,7 @@ pub enum Version {
 
 // Whether a statement is SELECT, CASE, ENDCAS, DFTCAS or ENDSEL.
 fn is_selection(op: &OwnedOp) -> bool
-    ensures { result ≡ is_selection (op_of op.now) }
+    ensures { result ≡ is_of_select (word_of op.now) }
 {
     match op {
         OwnedOp::Select(_, _, _) | OwnedOp::Case | OwnedOp::EndCas(_) => true,
@@ -27,7 +27,7 @@ fn is_selection(op: &OwnedOp) -> bool
 
 /// Whether one of these statements is SELECT, CASE, ENDCAS, DFTCAS or ENDSEL, which the first version doesn't have.
 pub fn has_selection(statements: &[OwnedStatement]) -> bool
-    ensures { result ≡ has_selection (statements_of statements.now) }
+    ensures { result ≡ has_selection statements.now }
 {
     for statement in statements {
         if is_selection(&statement.op) {
@@ -39,7 +39,7 @@ pub fn has_selection(statements: &[OwnedStatement]) -> bool
 
 /// The first version that has all these statements.
 pub fn version_for(statements: &[OwnedStatement]) -> Version
-    ensures { result ≡ version_for (statements_of statements.now) }
+    ensures { result ≡ version_for statements.now }
 {
     if has_selection(statements) {
         Version::Two

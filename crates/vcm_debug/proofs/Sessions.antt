@@ -2,7 +2,6 @@
 use Rattle.std.proofs.Common.{◌≡◌, ℕ, ◌+◌, ◌-◌, ◌≤◌, ◌<◌, ℤ, None, Bool, List, length, Err, refl, sym, ap, ◌∙◌, subst, arith}
 use Rattle.vcm_spec.specs.Workpiece.{Workpiece}
 use Rattle.vcm_code.specs.declared.code.Code.{Code}
-use Rattle.vcm_code.specs.Ops.{code_of}
 use Rattle.vcm_machine.specs.Running.{Running, started, later, WantsMemory, RunEnded, HasRun}
 use Rattle.vcm_machine.specs.declared.ran.Ran.{Ran}
 use Rattle.vcm_machine.specs.declared.ran.End.TheVariants as ends
@@ -15,14 +14,14 @@ use Rattle.vcm_debug.proofs.Coming.{later_effective}
 
 -- so many steps more
 pub further : (part : Workpiece) (code : Code) (old new : Running) (count done : ℕ) → old ≡ after part code count → new ≡ later done old → new ≡ after part code (count + done)
-further part code old new count done e f = f ∙ ap (λ h. later done h) e ∙ add_up count done (started part (code_of code))
+further part code old new count done e f = f ∙ ap (λ h. later done h) e ∙ add_up count done (started part code)
 
 -- a machine that was run from `a` to n, or to its stop
 module _ (part : Workpiece) (code : Code) (old new : Running) (a n : ℕ) (ran : Ran) (e : old ≡ after part code a) (l : a ≤ n) (r : HasRun (n - a) old new ran) where
   all_of : later (n - a) old ≡ after part code n
   all_of =
       let k : a + (n - a) ≡ n = omega arith in
-      ap (λ h. later (n - a) h) e ∙ add_up a (n - a) (started part (code_of code)) ∙ ap (λ m. after part code m) k
+      ap (λ h. later (n - a) h) e ∙ add_up a (n - a) (started part code) ∙ ap (λ m. after part code m) k
 
   pub counted_to : ran.end ≡ ends.Count → new ≡ after part code n
   counted_to c =

@@ -2,7 +2,6 @@
 use Rattle.std.specs.Prelude.{ℕ, Bool, false, List, length, replicate}
 use Rattle.vcm_spec.specs.Workpiece.{Workpiece}
 use Rattle.vcm_code.specs.declared.code.Code.{Code}
-use Rattle.vcm_code.specs.Ops.{code_of}
 use Rattle.vcm_code.specs.CodeTable.{CodeState}
 use Rattle.vcm_machine.specs.Running.{Running, started, later}
 
@@ -27,7 +26,7 @@ opened part code = record {
 
 -- the machine of a code after so many steps
 abbrev pub after : Workpiece → Code → ℕ → Running
-after part code n = later n (started part (code_of code))
+after part code n = later n (started part code)
 
 -- the machine as the session shows it
 abbrev pub shown : Debugging → Running

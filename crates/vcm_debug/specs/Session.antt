@@ -20,13 +20,13 @@ use Rattle.vcm_console.specs.declared.reply.Reply.TheVariants.{Listed, Lines, By
 use Rattle.vcm_console.specs.declared.reply.Halted.{Halted}
 use Rattle.vcm_code.specs.declared.code.Code.{Code}
 use Rattle.vcm_code.specs.CodeTable.{CodeState}
-use Rattle.vcm_fields.specs.Parts.{Line}
+use Rattle.vcm_code.specs.Code.{Statement}
 use Rattle.vcm_machine.specs.Running.{WantsMemory}
 use Rattle.vcm_debug.specs.Debugging.{Debugging, shown, now}
 use Rattle.vcm_debug.specs.Halting.{RunEnd, ends_after, run_end, reason_after, effective}
 
 -- the source line that a statement was read from
-abbrev pub line_in : Option Line → ℕ
+abbrev pub line_in : Option Statement → ℕ
 line_in None = 0
 line_in (Some s) = s.line
 

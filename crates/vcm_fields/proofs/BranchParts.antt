@@ -1,7 +1,8 @@
 -- The branches of a SELECT, read as they are spelled.
 use Rattle.std.proofs.Common.{◌≤◌, nat_le, length, refl, arith}
 use Rattle.vcm_fields.specs.declared.fault.ImageFault.TheVariants.{BadField}
-use Rattle.vcm_fields.specs.Fitting.{FitsBranch, FitBranches}
+use Rattle.vcm_fields.specs.inner.Fitting.{FitBranches}
+use Rattle.vcm_fields.specs.Widths.{FitsBranch}
 use Rattle.vcm_fields.specs.Spelling.{branch, branches}
 use Rattle.vcm_fields.specs.Readers.{branch_at, branches_at}
 use Rattle.vcm_fields.proofs.Inverse.{Reads, reads_both, reads_via, reads_tested, reads_after, reads_times}

@@ -9,7 +9,9 @@ use Rattle.vcm_spec.specs.declared.expression.Relation.TheVariants.{Equal}
 use Rattle.vcm_spec.specs.declared.expression.Item.{Item}
 use Rattle.vcm_spec.specs.declared.expression.Item.TheVariants.{Push, Apply, Combine}
 use Rattle.vcm_fields.specs.declared.fault.ImageFault.TheVariants.{BadField}
-use Rattle.vcm_fields.specs.Fitting.{FitsItem, FitsExpression, within}
+use Rattle.vcm_fields.specs.inner.Fitting.{FitsExpression}
+use Rattle.vcm_fields.specs.Readers.{within}
+use Rattle.vcm_fields.specs.Widths.{FitsItem}
 use Rattle.vcm_spec.specs.Results.{◌>>=◌}
 use Rattle.vcm_fields.specs.declared.items.Tag.{Tag}
 use Rattle.vcm_fields.specs.declared.items.Tag.TheVariants as tags
@@ -97,6 +99,10 @@ in_range low high n e = split (nat_le low n) (nat_le n high) refl refl e
     split true false p q r = absurd cc
     split false b p q r = absurd cc
 
+-- and back
+pub range_in : (low high n : ℕ) → (low ≤ n) × (n ≤ high) → within low high n ≡ true
+range_in low high n h = let a : nat_le low n ≡ true = grind (arith, h.0) in let b : nat_le n high ≡ true = grind (arith, h.1) in rw (a, b) refl
+
 pub reads_expression : Reads expression_at expression FitsExpression
 unfolding expression_at
-reads_expression = reads_after (reads_tested reads_short BadField (within 1 1024) (λ n. within 1 1024 n ≡ true) (λ n lt e. e) (λ n h. (let r = in_range 1 1024 n h in omega (arith, r.1), h))) length (reads_times reads_item)
+reads_expression = reads_after (reads_tested reads_short BadField (within 1 1024) (λ n. (1 ≤ n) × (n ≤ 1024)) (λ n lt e. in_range 1 1024 n e) (λ n h. (omega (arith, h.1), range_in 1 1024 n h))) length (reads_times reads_item)

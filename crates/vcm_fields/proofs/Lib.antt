@@ -4,7 +4,6 @@ pub mod LoopInverse
 pub mod ItemParts
 pub mod BranchParts
 pub mod TextParts
-pub mod Shapes
 pub mod FieldPlaces
 pub mod StatementParts
 pub mod Parts

@@ -1,7 +1,7 @@
 -- Tables and slices of an image, read as they are spelled.
 use Rattle.std.proofs.Common.{◌≡◌, ℕ, zero, suc, ◌-◌, ◌<◌, List, [], ◌∷◌, length, take, drop, Ok, Err, refl, sym, ap, subst, ◌∙◌, arith}
 use Rattle.vcm_fields.specs.declared.fault.ImageFault.{ImageFault}
-use Rattle.vcm_fields.specs.Fitting.{FitsEntry}
+use Rattle.vcm_fields.specs.inner.Fitting.{FitsEntry}
 use Rattle.vcm_fields.specs.Spelling.{entry}
 use Rattle.vcm_fields.specs.Readers.{Reader, times, entry_at}
 use Rattle.vcm_fields.specs.inner.Slices.{read_or_nil}

@@ -6,7 +6,7 @@ use Rattle.vcm_expr.specs.NameBytes.{is_name, is_name_byte, IsName}
 use Rattle.vcm_expr.specs.Symbols.{is_variable_name, IsVariableName}
 use Rattle.vcm_fields.specs.declared.fault.ImageFault.TheVariants.{BadField}
 use Rattle.std.specs.List.{list_all}
-use Rattle.vcm_fields.specs.Fitting.{within}
+use Rattle.vcm_fields.specs.Readers.{within}
 use Rattle.vcm_fields.specs.Spelling.{byte, name, text}
 use Rattle.vcm_fields.specs.Readers.{tested, byte_at, bytes_at, name_at, variable_name_at, text_at}
 use Rattle.vcm_fields.proofs.Inverse.{Reads, reads_as, reads_tested, reads_after}

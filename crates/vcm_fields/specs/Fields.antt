@@ -6,8 +6,8 @@ use Rattle.vcm_code.specs.declared.op.Op.{Op}
 use Rattle.vcm_code.specs.Copies.{listed}
 use Rattle.vcm_fields.specs.declared.field.Field.{Field}
 use Rattle.vcm_fields.specs.declared.field.Field.TheVariants as field
-use Rattle.vcm_fields.specs.Shape.{Place, Said, over_operands}
-use Rattle.vcm_fields.specs.Shape as at
+use Rattle.vcm_code.specs.Shape.{Place, Said, over_operands}
+use Rattle.vcm_code.specs.Shape as at
 
 -- what a function of a place and its value gives for a field, where these are the items of an expression, the bytes of a text and the branches of a SELECT
 abbrev pub in_field : {E T B A : Type 0} → (E → List Item) → (T → List ℕ) → (B → List Branch) → ((p : Place) → Said p → List A) → Field E T B → List A

@@ -1,7 +1,4 @@
-pub mod Parts
-pub mod Words
-pub mod Fitting
-pub mod Shape
+pub mod Widths
 pub mod Fields
 pub mod Spelling
 pub mod Readers

@@ -1,6 +1,6 @@
 -- Reading from the front, with the first fault that is met.
 use Rattle.std.specs.Prelude.{◌≡◌, ℕ, zero, suc, ℤ, Bool, List, [], ◌∷◌, length, take, drop, Option, Result, Ok, Err, nat_lt}
-use Rattle.std.specs.Prelude.{nat_le, ◌==◌, if◌then◌else◌}
+use Rattle.std.specs.Prelude.{nat_le, ◌==◌, ◌&&◌, if◌then◌else◌}
 use Rattle.std.specs.Int.{Width, w16, w32, w64, byte_len, from_le_bytes, cast_signed}
 use Rattle.vcm_num.specs.declared.number.Kind.{Kind}
 use Rattle.vcm_spec.specs.declared.expression.Operand.TheVariants.{Integer, Thousandths, Truth, Variable}
@@ -11,21 +11,20 @@ use Rattle.vcm_spec.specs.declared.expression.Item.{Item}
 use Rattle.vcm_spec.specs.declared.expression.Item.TheVariants.{Push, Apply, Combine}
 use Rattle.vcm_code.specs.declared.branch.Branch.{Branch}
 use Rattle.vcm_code.specs.declared.version.Version.{Version}
-use Rattle.vcm_fields.specs.Words.{has_word}
+use Rattle.vcm_code.specs.Words.{has_word}
 use Rattle.vcm_spec.specs.Setup.{Variable as Entry}
 use Rattle.vcm_spec.specs.TextBytes.{is_text}
 use Rattle.vcm_spec.specs.Results.{◌>>=◌}
 use Rattle.vcm_expr.specs.NameBytes.{is_name}
 use Rattle.vcm_expr.specs.Symbols.{is_variable_name}
-use Rattle.vcm_fields.specs.Parts.{Operation, Line}
+use Rattle.vcm_code.specs.Code.{Op, Statement}
 use Rattle.vcm_fields.specs.declared.items.Tag.{Tag}
 use Rattle.vcm_fields.specs.declared.items.Tag.TheVariants as tags
-use Rattle.vcm_fields.specs.declared.word.Word.{Word}
+use Rattle.vcm_code.specs.declared.word.Word.{Word}
 use Rattle.vcm_fields.specs.declared.fault.ImageFault.{ImageFault}
 use Rattle.vcm_fields.specs.declared.fault.ImageFault.TheVariants.{NoMemory, Short, BadField}
-use Rattle.vcm_fields.specs.Fitting.{within}
-use Rattle.vcm_fields.specs.Shape.{Place, Said, Filled, axes, directions, settings, sources, kinds, all_words, made, Form, form, form_of}
-use Rattle.vcm_fields.specs.Shape as at
+use Rattle.vcm_code.specs.Shape.{Place, Said, Filled, axes, directions, settings, sources, kinds, all_words, made, Form, form, form_of}
+use Rattle.vcm_code.specs.Shape as at
 use Rattle.vcm_fields.specs.Spelling.{tag_byte, axis_byte, direction_byte, setting_byte, source_byte, word_byte, kind_byte}
 use Rattle.vcm_num.specs.declared.axis.Axis.{Axis}
 use Rattle.vcm_spec.specs.declared.words.Setting.{Setting}
@@ -119,11 +118,11 @@ filled_by at (p ∷ []) = at p
 filled_by at (p ∷ q ∷ ps) = both (at p) (filled_by at (q ∷ ps))
 
 -- the places of a form
-abbrev pub form_by : {L F : Type 0} → Format L F → Form → From L F Operation
+abbrev pub form_by : {L F : Type 0} → Format L F → Form → From L F Op
 form_by at (form ps make) = via (made ps make) (filled_by at ps)
 
 -- the operands behind a word
-unfoldable pub operands_by : {L F : Type 0} → Format L F → Word → From L F Operation
+unfoldable pub operands_by : {L F : Type 0} → Format L F → Word → From L F Op
 operands_by at w = form_by at (form_of w)
 
 -- ---- fields
@@ -171,6 +170,10 @@ behind_tag (tags.Binary op) = now (Combine op)
 -- an item: its tag, and what it pushes
 unfoldable pub item_at : Reader Item
 item_at = after (one_of tag_byte all_tags) behind_tag
+
+-- a number from the one to the other
+abbrev pub within : ℕ → ℕ → ℕ → Bool
+within low high n = nat_le low n && nat_le n high
 
 -- an expression: the number of its items, 1 to 1,024, and the items
 unfoldable pub expression_at : Reader (List Item)
@@ -275,11 +278,11 @@ abbrev pub filled_at : (ps : List Place) → Reader (Filled ps)
 filled_at ps = filled_by place_at ps
 
 -- the operands behind a word
-abbrev pub operands_at : Word → Reader Operation
+abbrev pub operands_at : Word → Reader Op
 operands_at w = operands_by place_at w
 
 -- a statement of a version: its word, its source line, and its operands
-unfoldable pub line_at : Version → Reader Line
+unfoldable pub line_at : Version → Reader Statement
 line_at v = after (word_at v) (λ k. via (λ o. record { line = o.0; op = o.1 }) (both (number_at w32) (operands_at k)))
 
 -- ---- tables

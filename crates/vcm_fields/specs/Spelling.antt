@@ -17,12 +17,12 @@ use Rattle.vcm_code.specs.declared.branch.Branch.{Branch}
 use Rattle.vcm_spec.specs.Setup.{Variable as Entry}
 use Rattle.vcm_fields.specs.declared.items.Tag.{Tag}
 use Rattle.vcm_fields.specs.declared.items.Tag.TheVariants as tags
-use Rattle.vcm_fields.specs.declared.word.Word.{Word}
-use Rattle.vcm_fields.specs.declared.word.Word.TheVariants as words
-use Rattle.vcm_fields.specs.Parts.{Operation, Line}
-use Rattle.vcm_fields.specs.Words.{word_of}
-use Rattle.vcm_fields.specs.Shape.{Place, Said, over_operands}
-use Rattle.vcm_fields.specs.Shape as at
+use Rattle.vcm_code.specs.declared.word.Word.{Word}
+use Rattle.vcm_code.specs.declared.word.Word.TheVariants as words
+use Rattle.vcm_code.specs.Code.{Op, Statement}
+use Rattle.vcm_code.specs.Words.{word_of}
+use Rattle.vcm_code.specs.Shape.{Place, Said, over_operands}
+use Rattle.vcm_code.specs.Shape as at
 use Rattle.vcm_num.specs.declared.axis.Axis.{Axis}
 use Rattle.vcm_num.specs.declared.axis.Axis.TheVariants.{PlusX, MinusX, PlusY, MinusY, PlusZ, MinusZ}
 use Rattle.vcm_spec.specs.declared.words.Setting.{Setting}
@@ -203,11 +203,11 @@ place at.text bs = text bs
 place at.branches bs = branches bs
 
 -- the operands of a statement
-abbrev pub operands : Operation → List ℕ
+abbrev pub operands : Op → List ℕ
 operands o = over_operands place o
 
 -- the kind, the line, the operands
-abbrev pub line : Line → List ℕ
+abbrev pub line : Statement → List ℕ
 line s = byte (word_byte (word_of s.op)) ++ (long s.line ++ operands s.op)
 
 -- ---- tables

@@ -11,7 +11,7 @@ use crate::slices::{ItemSlice, TextSlice};
 use vcm_code::{Branch, Op};
 use vcm_num::Kind::{Bool, Int, Real};
 use vcm_num::{Axis, Kind};
-use vcm_spec::Item;
+use vcm_spec::{Item, Simple};
 
 /// What stands in one place of a statement, or that nothing does. `E` holds postfix items, `T` bytes and `B` branches, as in `Op`.
 #[derive(Drop)]
@@ -70,11 +70,11 @@ pub fn fields_of<E, T, B>(op: &Op<E, T, B>) -> [Field<'_, E, T, B>; 4]
     ensures { AreFields result op.now }
 {
     match op {
-        Op::EndFil | Op::GoHome | Op::EndIf => [Nothing, Nothing, Nothing, Nothing],
+        Op::EndFil | Op::Plain(Simple::GoHome) | Op::EndIf => [Nothing, Nothing, Nothing, Nothing],
         Op::Label | Op::EndMes => [Nothing, Nothing, Nothing, Nothing],
         Op::Case | Op::DftCas | Op::EndSel => [Nothing, Nothing, Nothing, Nothing],
-        Op::Goto(x, y, z) => [Three(Real, x, y, z), Nothing, Nothing, Nothing],
-        Op::Assign(v, e) => [Assigned(*v, e), Nothing, Nothing, Nothing],
+        Op::Plain(Simple::Goto(x, y, z)) => [Three(Real, x, y, z), Nothing, Nothing, Nothing],
+        Op::Plain(Simple::Assign(v, e)) => [Assigned(*v, e), Nothing, Nothing, Nothing],
         Op::If(e, to) => [Items(Bool, e), Target(*to), Nothing, Nothing],
         Op::Else(to) | Op::JumpTo(to) | Op::EndCas(to) => [Target(*to), Nothing, Nothing, Nothing],
         Op::Do(v, p, a, b, c, to) => {
@@ -82,16 +82,36 @@ pub fn fields_of<E, T, B>(op: &Op<E, T, B>) -> [Field<'_, E, T, B>; 4]
             [Variable(Int, *v), Pair(*p), values, Target(*to)]
         }
         Op::EndDo(v, p, to) => [Variable(Int, *v), Pair(*p), Target(*to), Nothing],
-        Op::Feat(f, x, y, z, d) => [Feature(*f), Three(Real, x, y, z), Toward(*d), Nothing],
+        Op::Plain(Simple::Feat(f, x, y, z, d)) => [
+            Feature(*f),
+            Three(Real, x, y, z),
+            Toward(*d),
+            Nothing,
+        ],
         Op::Meas(f) => [Feature(*f), Nothing, Nothing, Nothing],
-        Op::PtMeas(f, x, y, z, d) => [Feature(*f), Three(Real, x, y, z), Direction(*d), Nothing],
-        Op::SnSet(which, e) => [Setting(*which), Items(Real, e), Nothing, Nothing],
-        Op::Trans(f, x, y, z) => [Frame(*f), Three(Real, x, y, z), Nothing, Nothing],
-        Op::Rotate(f, axis, turns) => [Frame(*f), Turn(*axis), Quarters(*turns), Nothing],
-        Op::Recall(f) => [Frame(*f), Nothing, Nothing, Nothing],
-        Op::Obtain(v, s, f, n) => [Variable(Real, *v), Source(*s), Feature(*f), Part(*n)],
-        Op::Output(s, f) => [Source(*s), Feature(*f), Nothing, Nothing],
-        Op::Text(text) => [Text(text), Nothing, Nothing, Nothing],
+        Op::Plain(Simple::PtMeas(f, x, y, z, d)) => [
+            Feature(*f),
+            Three(Real, x, y, z),
+            Direction(*d),
+            Nothing,
+        ],
+        Op::Plain(Simple::SnSet(which, e)) => [Setting(*which), Items(Real, e), Nothing, Nothing],
+        Op::Plain(Simple::Trans(f, x, y, z)) => [Frame(*f), Three(Real, x, y, z), Nothing, Nothing],
+        Op::Plain(Simple::Rotate(f, axis, turns)) => [
+            Frame(*f),
+            Turn(*axis),
+            Quarters(*turns),
+            Nothing,
+        ],
+        Op::Plain(Simple::Recall(f)) => [Frame(*f), Nothing, Nothing, Nothing],
+        Op::Plain(Simple::Obtain(v, s, f, n)) => [
+            Variable(Real, *v),
+            Source(*s),
+            Feature(*f),
+            Part(*n),
+        ],
+        Op::Plain(Simple::Output(s, f)) => [Source(*s), Feature(*f), Nothing, Nothing],
+        Op::Plain(Simple::Text(text)) => [Text(text), Nothing, Nothing, Nothing],
         Op::Select(e, bs, to) => [Items(Int, e), Branches(bs), Target(*to), Nothing],
     }
 }

@@ -14,7 +14,6 @@ mod statements;
 mod tags;
 mod texts;
 mod variables;
-mod word;
 
 pub use branches::BranchSlice;
 pub use fault::ImageFault;
@@ -28,4 +27,3 @@ pub use statements::{BorrowedOp, BorrowedStatement, branches as read_branches, p
 pub use tags::{axis, direction, known_word, part, setting, source};
 pub use texts::name;
 pub use variables::{BorrowedVariable, variable};
-pub use word::{Word, has_word};

@@ -3,11 +3,10 @@
 ghost use Rattle.vcm_code.specs.Copies.{listed};
 ghost use Rattle.vcm_fields.specs.Readers.{operands_by, Takes};
 
-use crate::word::Word;
-use vcm_code::Op;
+use vcm_code::{Op, Word};
 use vcm_num::Kind::{Bool, Int, Real};
 use vcm_num::{Axis, Kind};
-use vcm_spec::{Setting, Source};
+use vcm_spec::{Setting, Simple, Source};
 
 /// Where operands are read from. Each call takes what stands in one place, and leaves what stands behind it.
 pub trait Reading {
@@ -15,7 +14,7 @@ pub trait Reading {
     ghost use Rattle.vcm_spec.specs.declared.expression.Item.{Item};
     ghost use Rattle.vcm_code.specs.declared.branch.Branch.{Branch};
     ghost use Rattle.vcm_fields.specs.Readers.{Format, Takes};
-    ghost use Rattle.vcm_fields.specs.Shape as place;
+    ghost use Rattle.vcm_code.specs.Shape as place;
 
     /// An expression, as it lies there.
     type Items: Drop;
@@ -133,12 +132,12 @@ pub fn operands<R: Reading>(word: Word, from: &mut R) -> Result<ReadOp<R>, R::Fa
         Word::EndFil => Op::EndFil,
         Word::Goto => {
             let (x, y, z) = from.three(Real)?;
-            Op::Goto(x, y, z)
+            Op::Plain(Simple::Goto(x, y, z))
         }
-        Word::GoHome => Op::GoHome,
+        Word::GoHome => Op::Plain(Simple::GoHome),
         Word::Assign => {
             let (variable, value) = from.assigned()?;
-            Op::Assign(variable, value)
+            Op::Plain(Simple::Assign(variable, value))
         }
         Word::If => Op::If(from.items(Bool)?, from.target()?),
         Word::Else => Op::Else(from.target()?),
@@ -154,31 +153,31 @@ pub fn operands<R: Reading>(word: Word, from: &mut R) -> Result<ReadOp<R>, R::Fa
         Word::Feat => {
             let feature = from.feature()?;
             let (x, y, z) = from.three(Real)?;
-            Op::Feat(feature, x, y, z, from.axis()?)
+            Op::Plain(Simple::Feat(feature, x, y, z, from.axis()?))
         }
         Word::Meas => Op::Meas(from.feature()?),
         Word::PtMeas => {
             let feature = from.feature()?;
             let (x, y, z) = from.three(Real)?;
-            Op::PtMeas(feature, x, y, z, from.direction()?)
+            Op::Plain(Simple::PtMeas(feature, x, y, z, from.direction()?))
         }
         Word::EndMes => Op::EndMes,
-        Word::SnSet => Op::SnSet(from.setting()?, from.items(Real)?),
+        Word::SnSet => Op::Plain(Simple::SnSet(from.setting()?, from.items(Real)?)),
         Word::Trans => {
             let frame = from.frame()?;
             let (x, y, z) = from.three(Real)?;
-            Op::Trans(frame, x, y, z)
+            Op::Plain(Simple::Trans(frame, x, y, z))
         }
-        Word::Rotate => Op::Rotate(from.frame()?, from.turn()?, from.quarters()?),
-        Word::Recall => Op::Recall(from.frame()?),
-        Word::Obtain => Op::Obtain(
+        Word::Rotate => Op::Plain(Simple::Rotate(from.frame()?, from.turn()?, from.quarters()?)),
+        Word::Recall => Op::Plain(Simple::Recall(from.frame()?)),
+        Word::Obtain => Op::Plain(Simple::Obtain(
             from.variable(Real)?,
             from.source()?,
             from.feature()?,
             from.part()?,
-        ),
-        Word::Output => Op::Output(from.source()?, from.feature()?),
-        Word::Text => Op::Text(from.text()?),
+        )),
+        Word::Output => Op::Plain(Simple::Output(from.source()?, from.feature()?)),
+        Word::Text => Op::Plain(Simple::Text(from.text()?)),
         Word::Select => Op::Select(from.items(Int)?, from.branches()?, from.target()?),
         Word::Case => Op::Case,
         Word::EndCas => Op::EndCas(from.target()?),

@@ -3,7 +3,7 @@
 ghost use Rattle.std.specs.Prelude.{ℕ, List, Result};
 ghost use Rattle.vcm_fields.specs.declared.fault.ImageFault.{ImageFault};
 ghost use Rattle.vcm_fields.specs.Readers.{Gives, Takes, expression_at, branches_at, pair_at, three_at, place_at, line_at};
-ghost use Rattle.vcm_fields.specs.Shape.{assigned};
+ghost use Rattle.vcm_code.specs.Shape.{assigned};
 
 use crate::branches::BranchSlice;
 use crate::fault::ImageFault;

@@ -1,15 +1,14 @@
 //! Bytes that stand for a word of the language: each is read by its table.
 
 ghost use Rattle.std.specs.Prelude.{◌≡◌, Ok, List, ℕ};
-ghost use Rattle.vcm_fields.specs.Shape.{all_words};
+ghost use Rattle.vcm_code.specs.Shape.{all_words};
 ghost use Rattle.vcm_fields.specs.Spelling.{word_byte};
 ghost use Rattle.vcm_fields.specs.Readers.{Gives, Begins, among, any_word_at, word_at, kind_at, axis_at, direction_at, setting_at, source_at, part_at};
 
 use crate::fault::ImageFault;
 use crate::fields::{byte, known_byte};
 use crate::standing::known;
-use crate::word::{Word, has_word};
-use vcm_code::Version;
+use vcm_code::{Version, Word, has_word};
 use vcm_num::{Axis, Kind};
 use vcm_spec::{Setting, Source};
 

@@ -4,7 +4,7 @@ use Rattle.std.specs.List.{flat_map, AllByRecursion}
 use Rattle.std.proofs.lemmas.List.{drop_more}
 use Rattle.std.proofs.lemmas.List.Concat.{flat_map-cons}
 use Rattle.vcm_code.specs.declared.branch.Branch.{Branch}
-use Rattle.vcm_fields.specs.Fitting.{FitsBranch}
+use Rattle.vcm_fields.specs.Widths.{FitsBranch}
 use Rattle.vcm_fields.specs.Spelling.{branch}
 
 module _ (bs : List Branch) (i : ℕ) (none : Branch) (l : i < length bs) where

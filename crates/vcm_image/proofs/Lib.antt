@@ -1,3 +1,4 @@
+pub mod ByTables
 pub mod Wholes
 pub mod Tables
 pub mod Copies

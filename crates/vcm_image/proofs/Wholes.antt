@@ -11,7 +11,7 @@ use Rattle.vcm_code.specs.declared.version.Version.TheVariants.{One, Two}
 use Rattle.vcm_code.specs.declared.code.Code.{Code}
 use Rattle.vcm_fields.specs.declared.fault.ImageFault.{ImageFault}
 use Rattle.vcm_fields.specs.declared.fault.ImageFault.TheVariants.{BadMagic, BadVersion, BadField, Trailing}
-use Rattle.vcm_fields.specs.Fitting.{FitsEntry, FitsLine}
+use Rattle.vcm_fields.specs.inner.Fitting.{FitsEntry, FitsLine}
 use Rattle.vcm_fields.specs.Spelling.{short, long, entry, name, line}
 use Rattle.vcm_fields.specs.Readers.{GivesOrNoMemory, tested, after, number_at}
 use Rattle.vcm_fields.proofs.Inverse.{IsBytes, Reads, bind_ok, guard_met, reads_as, reads_both, reads_via, reads_tested, reads_after, reads_times}
@@ -20,6 +20,7 @@ use Rattle.vcm_fields.proofs.TextParts.{reads_name, most, most_back}
 use Rattle.vcm_fields.proofs.StatementParts.{reads_line}
 use Rattle.vcm_fields.proofs.Parts.{reads_entry}
 use Rattle.vcm_image.specs.declared.counts.Counts.{Counts}
+use Rattle.vcm_image.proofs.ByTables.{tables_fit, fits_by_tables}
 use Rattle.vcm_image.specs.Whole.{FitsImage, counts_of, version_number, magic, is_version, version_of, version_at, header, spelling, is_number, at_most, header_at, body_at, ended, code_at}
 
 is_that : (m n : ℕ) → is_number m n ≡ true → n ≡ m
@@ -119,8 +120,8 @@ reads_body n = reads_via
 pub reads_code : Reads (after header_at body_at) spelling FitsImage
 unfolding FitsCounts body FitsBody
 reads_code = reads_as (reads_after reads_header counts_of reads_body) spelling FitsImage (λ c. refl)
-    (λ c h. record { variables = (h.0.0, h.1.0); features = (h.0.1.0, h.1.1.0); frames = (h.0.1.1.0, h.1.1.1.0); statements = (h.0.1.1.1, h.1.1.1.1) })
-    (λ c h. ((h.variables.0, (h.features.0, (h.frames.0, h.statements.0))), (h.variables.1, (h.features.1, (h.frames.1, h.statements.1)))))
+    (λ c h. fits_by_tables c (record { variables = (h.0.0, h.1.0); features = (h.0.1.0, h.1.1.0); frames = (h.0.1.1.0, h.1.1.1.0); statements = (h.0.1.1.1, h.1.1.1.1) }))
+    (λ c h. (let t = tables_fit c h in ((t.variables.0, (t.features.0, (t.frames.0, t.statements.0))), (t.variables.1, (t.features.1, (t.frames.1, t.statements.1))))))
 
 -- the two laws
 pub code_takes : (bytes : List ℕ) (c : Code) → IsBytes bytes → code_at bytes ≡ Ok c → FitsImage c × (bytes ≡ spelling c)

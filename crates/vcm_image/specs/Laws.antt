@@ -1,8 +1,6 @@
 -- Statements about images. Each is the contract of a law in src/laws.rt.
 use Rattle.std.specs.Prelude.{◌≡◌, ◌≢◌, ℕ, ◌<◌, ◌⊎◌, List, get_or, Ok, Err}
 use Rattle.vcm_code.specs.declared.code.Code.{Code}
-use Rattle.vcm_code.specs.Ops.{code_of}
-use Rattle.vcm_code.specs.Ranges.{IsInRange}
 use Rattle.vcm_fields.specs.declared.fault.ImageFault.{ImageFault}
 use Rattle.vcm_image.specs.Whole.{FitsImage, spelling, code_at}
 
@@ -13,10 +11,6 @@ WrittenIsRead = (c : Code) → FitsImage c → code_at (spelling c) ≡ Ok c
 -- codes that fit and have the same spelling are the same
 abbrev pub CodesHaveOneImage : Type 0
 CodesHaveOneImage = (c d : Code) → FitsImage c → FitsImage d → spelling c ≡ spelling d → c ≡ d
-
--- a code that fits is in the ranges of an image
-abbrev pub ReadIsInRange : Type 0
-ReadIsInRange = (c : Code) → FitsImage c → IsInRange (code_of c)
 
 -- these are bytes
 abbrev pub AreBytes : List ℕ → Type 0

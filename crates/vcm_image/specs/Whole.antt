@@ -1,25 +1,23 @@
 -- The image of a code: bytes and code are one grammar.
-use Rattle.std.specs.Prelude.{◌≤◌, ◌==◌, ◌||◌, ℕ, nat_le, Bool, List, ◌++◌, length, Result, Ok, Err, if◌then◌else◌}
-use Rattle.std.specs.List.{flat_map, AllByRecursion}
+use Rattle.std.specs.Prelude.{◌==◌, ◌||◌, ℕ, nat_le, Bool, List, ◌++◌, length, Result, Ok, Err, if◌then◌else◌}
+use Rattle.std.specs.List.{flat_map}
 use Rattle.std.specs.Int.{w16, w32}
-use Rattle.vcm_expr.specs.NameBytes.{IsName}
 use Rattle.vcm_code.specs.declared.version.Version.{Version}
 use Rattle.vcm_code.specs.declared.version.Version.TheVariants.{One, Two}
 use Rattle.vcm_code.specs.declared.code.Code.{Code}
 use Rattle.vcm_fields.specs.declared.fault.ImageFault.{ImageFault}
 use Rattle.vcm_fields.specs.declared.fault.ImageFault.TheVariants.{BadMagic, BadVersion, BadField, Trailing}
-use Rattle.vcm_fields.specs.Fitting.{FitsEntry, FitsLine}
+use Rattle.vcm_code.specs.Ranges.{IsInRange}
+use Rattle.vcm_fields.specs.Widths.{HasWidths}
 use Rattle.vcm_fields.specs.Spelling.{short, long, entry, name, line}
 use Rattle.vcm_spec.specs.Results.{◌>>=◌}
 use Rattle.vcm_fields.specs.Readers.{Reader, both, via, tested, after, times, number_at, entry_at, name_at, line_at}
 use Rattle.vcm_image.specs.declared.counts.Counts.{Counts}
 
--- no table is too long, and each field is in range
+-- a code has an image: it is in range, and its fields have their widths
 pub record FitsImage (c : Code) : Type 0 where
-  pub variables : (length c.tables.variables ≤ 4096) × AllByRecursion FitsEntry c.tables.variables
-  pub features : (length c.tables.features ≤ 4096) × AllByRecursion IsName c.tables.features
-  pub frames : (length c.tables.frames ≤ 4096) × AllByRecursion IsName c.tables.frames
-  pub statements : (length c.statements ≤ 20000) × AllByRecursion (FitsLine c.version) c.statements
+  pub range : IsInRange c
+  pub widths : HasWidths c
 
 -- the version, and how many variables, features, frames and statements there are
 abbrev pub counts_of : Code → Counts

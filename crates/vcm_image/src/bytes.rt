@@ -1,13 +1,13 @@
 //! The bytes that stand for words of the language.
 
 ghost use Rattle.std.specs.Prelude.{◌≡◌};
-ghost use Rattle.vcm_fields.specs.Words.{word_of};
+ghost use Rattle.vcm_code.specs.Words.{word_of};
 ghost use Rattle.vcm_fields.specs.Spelling.{unary, binary, axis_byte, direction_byte, setting_byte, source_byte, word_byte, kind_byte};
 ghost use Rattle.vcm_image.specs.Whole.{version_number};
 
 use vcm_code::{Op, OwnedOp, Version};
 use vcm_num::{Axis, Kind};
-use vcm_spec::{BinaryOp, Relation, Setting, Source, UnaryOp};
+use vcm_spec::{BinaryOp, Relation, Setting, Simple, Source, UnaryOp};
 
 /// The number of a version.
 pub(crate) fn version_number(version: Version) -> u16
@@ -113,9 +113,9 @@ pub(crate) fn word_byte(op: &OwnedOp) -> u8
 {
     match op {
         Op::EndFil => 0,
-        Op::Goto(_, _, _) => 1,
-        Op::GoHome => 2,
-        Op::Assign(_, _) => 3,
+        Op::Plain(Simple::Goto(_, _, _)) => 1,
+        Op::Plain(Simple::GoHome) => 2,
+        Op::Plain(Simple::Assign(_, _)) => 3,
         Op::If(_, _) => 4,
         Op::Else(_) => 5,
         Op::EndIf => 6,
@@ -123,17 +123,17 @@ pub(crate) fn word_byte(op: &OwnedOp) -> u8
         Op::EndDo(_, _, _) => 8,
         Op::Label => 9,
         Op::JumpTo(_) => 10,
-        Op::Feat(_, _, _, _, _) => 11,
+        Op::Plain(Simple::Feat(_, _, _, _, _)) => 11,
         Op::Meas(_) => 12,
-        Op::PtMeas(_, _, _, _, _) => 13,
+        Op::Plain(Simple::PtMeas(_, _, _, _, _)) => 13,
         Op::EndMes => 14,
-        Op::SnSet(_, _) => 15,
-        Op::Trans(_, _, _, _) => 16,
-        Op::Rotate(_, _, _) => 17,
-        Op::Recall(_) => 18,
-        Op::Obtain(_, _, _, _) => 19,
-        Op::Output(_, _) => 20,
-        Op::Text(_) => 21,
+        Op::Plain(Simple::SnSet(_, _)) => 15,
+        Op::Plain(Simple::Trans(_, _, _, _)) => 16,
+        Op::Plain(Simple::Rotate(_, _, _)) => 17,
+        Op::Plain(Simple::Recall(_)) => 18,
+        Op::Plain(Simple::Obtain(_, _, _, _)) => 19,
+        Op::Plain(Simple::Output(_, _)) => 20,
+        Op::Plain(Simple::Text(_)) => 21,
         Op::Select(_, _, _) => 22,
         Op::Case => 23,
         Op::EndCas(_) => 24,

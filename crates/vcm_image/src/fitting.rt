@@ -2,15 +2,13 @@
 
 ghost use Rattle.std.specs.Prelude.{◌≡◌, ◌≤◌, ◌<◌, ◌^◌, true, length};
 ghost use Rattle.std.specs.List.{AllByRecursion};
-ghost use Rattle.vcm_expr.specs.NameBytes.{IsName};
-ghost use Rattle.vcm_code.specs.Ops.{op_of, statements_of, code_of};
-ghost use Rattle.vcm_code.specs.Ranges.{IsShort, OpInRange, AllInRange, IsOfVersion, AllAreNames, IsInRange};
+ghost use Rattle.vcm_code.specs.Ranges.{IsShort, IsRanged, OpInRange, AllInRange, IsOfVersion, AllAreNames, IsInRange};
+ghost use Rattle.vcm_code.specs.Shape.{InOperands};
 ghost use Rattle.vcm_expr.specs.Names.{AreNamed};
 ghost use Rattle.vcm_code.specs.Deciding.{Tells};
-ghost use Rattle.vcm_fields.specs.Fitting.{FitsItem, FitsExpression, FitThree, FitsBranch, FitBranches, FitsPlace, FitsOperation, FitsEntry};
+ghost use Rattle.vcm_fields.specs.Widths.{FitsItem, FitsBranch, HasWidth, LineHasWidths, HasWidths};
 ghost use Rattle.vcm_image.specs.Whole.{FitsImage};
-ghost use Rattle.vcm_image.specs.inner.Fitted.{HasFitting};
-ghost use Rattle.vcm_image.specs.inner.Meeting.{FieldMeets, IsRanged};
+ghost use Rattle.vcm_image.specs.inner.Meeting.{FieldMeets};
 
 use crate::scanned::{MOST_NAMES, MOST_STATEMENTS};
 use vcm_code::{Branch, Code, OwnedOp, OwnedStatement, Version, has_selection};
@@ -86,7 +84,7 @@ fn are_branches(branches: &[Branch]) -> bool
 // Whether an expression has 1 to 1,024 items.
 fn is_short(items: &Items<Item>) -> bool
     ensures short { Tells result (IsShort items.now) }
-    ensures fits { Tells result (FitsExpression items.now) }
+    ensures widths { result ≡ true → AllByRecursion FitsItem items.now }
 {
     are_items(items.as_slice()) && 1 <= items.len() && items.len() <= LONGEST
 }
@@ -94,7 +92,7 @@ fn is_short(items: &Items<Item>) -> bool
 // Whether three expressions do.
 fn are_short(x: &Items<Item>, y: &Items<Item>, z: &Items<Item>) -> bool
     ensures short { Tells result (IsShort x.now × IsShort y.now × IsShort z.now) }
-    ensures fit { Tells result (FitThree x.now y.now z.now) }
+    ensures widths { result ≡ true → AllByRecursion FitsItem x.now × AllByRecursion FitsItem y.now × AllByRecursion FitsItem z.now }
 {
     is_short(x) && is_short(y) && is_short(z)
 }
@@ -102,7 +100,7 @@ fn are_short(x: &Items<Item>, y: &Items<Item>, z: &Items<Item>) -> bool
 // Whether the index of a variable and an expression are in range.
 fn is_assigned(variable: u16, value: &Items<Item>) -> bool
     ensures short { Tells result (IsShort value.now) }
-    ensures fits { Tells result ((variable < 2 ^ 16) × FitsExpression value.now) }
+    ensures widths { result ≡ true → (variable < 2 ^ 16) × AllByRecursion FitsItem value.now }
 {
     is_index(variable) && is_short(value)
 }
@@ -110,7 +108,7 @@ fn is_assigned(variable: u16, value: &Items<Item>) -> bool
 // Whether branches are.
 fn are_few(branches: &Items<Branch>) -> bool
     ensures few { Tells result (length branches.now ≤ 20000) }
-    ensures fit { Tells result (FitBranches branches.now) }
+    ensures widths { result ≡ true → AllByRecursion FitsBranch branches.now }
 {
     is_short_enough(branches.len()) && are_branches(branches.as_slice())
 }
@@ -118,7 +116,7 @@ fn are_few(branches: &Items<Branch>) -> bool
 // Whether what stands in one place is.
 fn is_ranged(field: &OwnedField<'_>) -> bool
     ensures range { Tells result (FieldMeets IsRanged field.now) }
-    ensures fits { Tells result (FieldMeets FitsPlace field.now) }
+    ensures widths { result ≡ true → FieldMeets HasWidth field.now }
 {
     match field {
         Field::Variable(_, n) | Field::Feature(n) | Field::Frame(n) => is_index(*n),
@@ -140,7 +138,7 @@ fn is_ranged(field: &OwnedField<'_>) -> bool
 // Whether what stands in all of them is.
 fn are_ranged(fields: &[OwnedField<'_>]) -> bool
     ensures range { Tells result (AllByRecursion (FieldMeets IsRanged) fields.now) }
-    ensures fit { Tells result (AllByRecursion (FieldMeets FitsPlace) fields.now) }
+    ensures widths { result ≡ true → AllByRecursion (FieldMeets HasWidth) fields.now }
 {
     for it in fields {
         if !is_ranged(it) {
@@ -152,16 +150,16 @@ fn are_ranged(fields: &[OwnedField<'_>]) -> bool
 
 // Whether a statement's fields are.
 fn op_in_range(op: &OwnedOp) -> bool
-    ensures range { Tells result (OpInRange (op_of op.now)) }
-    ensures fits { result ≡ true → FitsOperation op.now }
+    ensures range { Tells result (OpInRange op.now) }
+    ensures widths { result ≡ true → InOperands HasWidth op.now }
 {
     are_ranged(&fields_of(op))
 }
 
 // Whether those of all statements are.
 fn all_in_range(statements: &[OwnedStatement]) -> bool
-    ensures range { Tells result (AllInRange (statements_of statements.now)) }
-    ensures fit { result ≡ true → AllByRecursion HasFitting statements.now }
+    ensures range { Tells result (AllInRange statements.now) }
+    ensures widths { result ≡ true → AllByRecursion LineHasWidths statements.now }
 {
     for it in statements {
         if !(is_target(it.line) && op_in_range(&it.op)) {
@@ -174,7 +172,7 @@ fn all_in_range(statements: &[OwnedStatement]) -> bool
 // Whether all variables have names of variables.
 fn are_variables(variables: &[Variable]) -> bool
     ensures named { Tells result (AreNamed variables.now) }
-    ensures fit { result ≡ true → AllByRecursion FitsEntry variables.now }
+    ensures widths { result ≡ true → AllByRecursion (λ v. v.expansion < 2 ^ 32) variables.now }
 {
     for it in variables {
         if !(is_target(it.expansion()) && is_variable_name(it.name().as_bytes())) {
@@ -212,7 +210,7 @@ fn is_short_enough(count: usize) -> bool
 
 // Whether a version has all these statements.
 fn is_of_version(version: Version, statements: &[OwnedStatement]) -> bool
-    ensures { Tells result (IsOfVersion version (statements_of statements.now)) }
+    ensures { Tells result (IsOfVersion version statements.now) }
 {
     match version {
         Version::One => !has_selection(statements),
@@ -222,9 +220,8 @@ fn is_of_version(version: Version, statements: &[OwnedStatement]) -> bool
 
 // Whether a code is in an image's ranges.
 fn is_in_range(code: &Code) -> bool
-    ensures range { Tells result (IsInRange (code_of code.now)) }
-    ensures variables { result ≡ true → AllByRecursion FitsEntry code.now.tables.variables }
-    ensures statements { result ≡ true → AllByRecursion HasFitting code.now.statements }
+    ensures range { Tells result (IsInRange code.now) }
+    ensures widths { result ≡ true → HasWidths code.now }
 {
     let tables = &code.tables;
     is_few(tables.variables().len())
@@ -241,7 +238,7 @@ fn is_in_range(code: &Code) -> bool
 /// Whether a code has an image: its version has all its statements, no table is longer than an image's, and all fields are in range, as expressions of 1 to 1,024 items, texts of
 /// at most 1,024 bytes and pairs below 32. So it tells whether `write` may be asked for the image, and whether there is one. Takes no memory.
 pub fn fits(code: &Code) -> bool
-    ensures range { Tells result (IsInRange (code_of code.now)) }
+    ensures range { Tells result (IsInRange code.now) }
     ensures spelled { Tells result (FitsImage code.now) }
 {
     is_in_range(code)

@@ -1,6 +1,6 @@
 //! Laws of images, each the contract of a function without a body.
 
-ghost use Rattle.vcm_image.specs.Laws.{WrittenIsRead, CodesHaveOneImage, ReadIsInRange, ChangesAreRefusedOrOther};
+ghost use Rattle.vcm_image.specs.Laws.{WrittenIsRead, CodesHaveOneImage, ChangesAreRefusedOrOther};
 
 /// The image of a code that fits is read as that code.
 pub fn written_is_read()
@@ -10,11 +10,6 @@ pub fn written_is_read()
 /// Two codes that fit and have the same image are the same.
 pub fn codes_have_one_image()
     ensures { CodesHaveOneImage }
-{}
-
-/// What has been read is in the ranges of an image, so that it can be written again.
-pub fn read_is_in_range()
-    ensures { ReadIsInRange }
 {}
 
 /// Bytes that differ from the image of a code are refused, or are the image of another code.

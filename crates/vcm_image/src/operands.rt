@@ -1,21 +1,20 @@
 //! The writing of expressions and statements.
 
-ghost use Rattle.std.specs.Prelude.{◌≡◌, ◌<◌, ◌≤◌, ◌^◌, ◌++◌, ◌∷◌, [], length, IsTrue, OnOk, FitsSigned};
+ghost use Rattle.std.specs.Prelude.{◌≡◌, ◌<◌, ◌≤◌, ◌^◌, ◌++◌, ◌∷◌, [], length, OnOk, FitsSigned};
 ghost use Rattle.std.specs.List.{flat_map, AllByRecursion};
 ghost use Rattle.std.specs.Int.{w64};
 ghost use Rattle.vcm_spec.specs.TextBytes.{IsText};
-ghost use Rattle.vcm_code.specs.Ops.{op_of};
-ghost use Rattle.vcm_code.specs.Ranges.{IsShort, OpInRange};
-ghost use Rattle.vcm_fields.specs.Words.{word_of, has_word};
+ghost use Rattle.vcm_code.specs.Ranges.{IsShort, IsRanged, OpInRange};
+ghost use Rattle.vcm_code.specs.Shape.{InOperands};
 ghost use Rattle.vcm_fields.specs.Fields.{in_plain};
-ghost use Rattle.vcm_fields.specs.Fitting.{FitsItem, FitsExpression, FitThree, FitBranches, FitsPlace, FitsOperation, FitsLine};
-ghost use Rattle.vcm_image.specs.inner.Meeting.{FieldMeets, IsRanged};
+ghost use Rattle.vcm_fields.specs.Widths.{FitsItem, FitsBranch, HasWidth, LineHasWidths};
+ghost use Rattle.vcm_image.specs.inner.Meeting.{FieldMeets};
 ghost use Rattle.vcm_fields.specs.Spelling.{signed, item as item_bytes, expression as expression_bytes, three as three_bytes, short as short_bytes, long as long_bytes, text as text_bytes, branches as branches_bytes, place, operands as operand_bytes, line as line_bytes};
 
 use crate::bytes::{
     axis_byte, binary_byte, direction_byte, setting_byte, source_byte, unary_byte, word_byte,
 };
-use vcm_code::{Branch, OwnedOp, OwnedStatement, Version};
+use vcm_code::{Branch, OwnedOp, OwnedStatement};
 use vcm_fields::{Field, OwnedField, fields_of};
 use vcm_num::{Items, NoMemory};
 use vcm_spec::{Item, Operand};
@@ -78,7 +77,7 @@ fn item(out: &mut Vec<u8>, item: Item) -> Result<(), NoMemory>
 fn expression(out: &mut Vec<u8>, items: &Items<Item>) -> Result<(), NoMemory>
     requires { IsShort items.now }
     ensures bytes { OnOk result (out.new.items ≡ out.old.items ++ expression_bytes items.now) }
-    ensures fits { OnOk result (FitsExpression items.now) }
+    ensures widths { OnOk result (AllByRecursion FitsItem items.now) }
 {
     short(out, items.len() as u16)?;
     for x in items.as_slice() {
@@ -96,7 +95,7 @@ fn three(
 ) -> Result<(), NoMemory>
     requires { IsShort x.now × IsShort y.now × IsShort z.now }
     ensures bytes { OnOk result (out.new.items ≡ out.old.items ++ three_bytes x.now y.now z.now) }
-    ensures fits { OnOk result (FitThree x.now y.now z.now) }
+    ensures widths { OnOk result (AllByRecursion FitsItem x.now × AllByRecursion FitsItem y.now × AllByRecursion FitsItem z.now) }
 {
     expression(out, x)?;
     expression(out, y)?;
@@ -136,7 +135,7 @@ fn branch(out: &mut Vec<u8>, value: i64, target: u32) -> Result<(), NoMemory>
 fn branches(out: &mut Vec<u8>, branches: &Items<Branch>) -> Result<(), NoMemory>
     requires { length branches.now ≤ 20000 }
     ensures bytes { OnOk result (out.new.items ≡ out.old.items ++ branches_bytes branches.now) }
-    ensures fit { OnOk result (FitBranches branches.now) }
+    ensures widths { OnOk result (AllByRecursion FitsBranch branches.now) }
 {
     short(out, branches.len() as u16)?;
     for Branch { value, target } in branches.as_slice() {
@@ -149,7 +148,7 @@ fn branches(out: &mut Vec<u8>, branches: &Items<Branch>) -> Result<(), NoMemory>
 fn assigned(out: &mut Vec<u8>, variable: u16, value: &Items<Item>) -> Result<(), NoMemory>
     requires { IsShort value.now }
     ensures bytes { OnOk result (out.new.items ≡ out.old.items ++ (short_bytes variable ++ expression_bytes value.now)) }
-    ensures fits { OnOk result (FitsExpression value.now) }
+    ensures widths { OnOk result (AllByRecursion FitsItem value.now) }
 {
     short(out, variable)?;
     expression(out, value)?;
@@ -160,7 +159,7 @@ fn assigned(out: &mut Vec<u8>, variable: u16, value: &Items<Item>) -> Result<(),
 fn field(out: &mut Vec<u8>, field: &OwnedField<'_>) -> Result<(), NoMemory>
     requires { FieldMeets IsRanged field.now }
     ensures bytes { OnOk result (out.new.items ≡ out.old.items ++ in_plain place field.now) }
-    ensures fits { OnOk result (FieldMeets FitsPlace field.now) }
+    ensures widths { OnOk result (FieldMeets HasWidth field.now) }
 {
     match field {
         Field::Nothing => Ok(()),
@@ -183,7 +182,7 @@ fn field(out: &mut Vec<u8>, field: &OwnedField<'_>) -> Result<(), NoMemory>
 fn fields(out: &mut Vec<u8>, fields: &[OwnedField<'_>]) -> Result<(), NoMemory>
     requires { AllByRecursion (FieldMeets IsRanged) fields.now }
     ensures bytes { OnOk result (out.new.items ≡ out.old.items ++ flat_map (in_plain place) fields.now) }
-    ensures fit { OnOk result (AllByRecursion (FieldMeets FitsPlace) fields.now) }
+    ensures widths { OnOk result (AllByRecursion (FieldMeets HasWidth) fields.now) }
 {
     for it in fields {
         field(out, it)?;
@@ -193,23 +192,18 @@ fn fields(out: &mut Vec<u8>, fields: &[OwnedField<'_>]) -> Result<(), NoMemory>
 
 // Appends the operands of a statement.
 fn operands(out: &mut Vec<u8>, op: &OwnedOp) -> Result<(), NoMemory>
-    requires { OpInRange (op_of op.now) }
+    requires { OpInRange op.now }
     ensures bytes { OnOk result (out.new.items ≡ out.old.items ++ operand_bytes op.now) }
-    ensures fits { OnOk result (FitsOperation op.now) }
+    ensures widths { OnOk result (InOperands HasWidth op.now) }
 {
     fields(out, &fields_of(op))
 }
 
-/// Appends a statement, whose word the version has: its word, its line, its operands.
-pub(crate) fn statement(
-    out: &mut Vec<u8>,
-    version: Version,
-    statement: &OwnedStatement,
-) -> Result<(), NoMemory>
-    requires range { OpInRange (op_of statement.now.op) }
-    requires version { IsTrue (has_word version (word_of statement.now.op)) }
+/// Appends a statement: its word, its line, its operands.
+pub(crate) fn statement(out: &mut Vec<u8>, statement: &OwnedStatement) -> Result<(), NoMemory>
+    requires { OpInRange statement.now.op }
     ensures bytes { OnOk result (out.new.items ≡ out.old.items ++ line_bytes statement.now) }
-    ensures fits { OnOk result (FitsLine version statement.now) }
+    ensures widths { OnOk result (LineHasWidths statement.now) }
 {
     byte(out, word_byte(&statement.op))?;
     long(out, statement.line)?;

@@ -1,13 +1,9 @@
 //! The writing of images.
 
-ghost use Rattle.std.specs.Prelude.{◌≡◌, ◌++◌, ◌≤◌, length, IfOk, OnOk};
+ghost use Rattle.std.specs.Prelude.{◌≡◌, ◌<◌, ◌^◌, ◌++◌, IfOk, OnOk};
 ghost use Rattle.std.specs.List.{flat_map, AllByRecursion};
-ghost use Rattle.vcm_expr.specs.NameBytes.{IsName};
-ghost use Rattle.vcm_expr.specs.Symbols.{IsVariableName};
-ghost use Rattle.vcm_code.specs.Ops.{statements_of, code_of};
-ghost use Rattle.vcm_code.specs.Ranges.{AllInRange, IsOfVersion, IsInRange};
-ghost use Rattle.vcm_expr.specs.Names.{AreNamed};
-ghost use Rattle.vcm_fields.specs.Fitting.{FitsLine, FitsEntry};
+ghost use Rattle.vcm_code.specs.Ranges.{AllInRange, IsInRange};
+ghost use Rattle.vcm_fields.specs.Widths.{LineHasWidths};
 ghost use Rattle.vcm_fields.specs.Spelling.{short as short_bytes, long as long_bytes, name as name_bytes, line as line_bytes, entry as entry_bytes};
 ghost use Rattle.vcm_image.specs.Whole.{FitsImage, header as header_bytes, spelling};
 
@@ -16,15 +12,14 @@ use crate::counts::Counts;
 use crate::operands::{byte, long, short, statement};
 use crate::scanned::MAGIC;
 use std::alloc::Global;
-use vcm_code::{Code, OwnedStatement, Version};
+use vcm_code::{Code, OwnedStatement};
 use vcm_expr::Name;
 use vcm_num::NoMemory;
 use vcm_tables::Variable;
 
 // Appends a name.
 fn name(out: &mut Vec<u8>, name: &Name) -> Result<(), NoMemory>
-    ensures bytes { OnOk result (out.new.items ≡ out.old.items ++ name_bytes name.now) }
-    ensures fits { OnOk result (IsName name.now) }
+    ensures { OnOk result (out.new.items ≡ out.old.items ++ name_bytes name.now) }
 {
     let bytes = name.as_bytes();
     byte(out, bytes.len() as u8)?;
@@ -34,9 +29,8 @@ fn name(out: &mut Vec<u8>, name: &Name) -> Result<(), NoMemory>
 
 // Appends a variable.
 fn variable(out: &mut Vec<u8>, variable: &Variable) -> Result<(), NoMemory>
-    requires { IsVariableName variable.now.name }
     ensures bytes { OnOk result (out.new.items ≡ out.old.items ++ entry_bytes variable.now) }
-    ensures fits { OnOk result (FitsEntry variable.now) }
+    ensures width { OnOk result (variable.now.expansion < 2 ^ 32) }
 {
     byte(out, kind_byte(variable.kind()))?;
     long(out, variable.expansion())?;
@@ -46,9 +40,8 @@ fn variable(out: &mut Vec<u8>, variable: &Variable) -> Result<(), NoMemory>
 
 // Appends variables.
 fn variables(out: &mut Vec<u8>, variables: &[Variable]) -> Result<(), NoMemory>
-    requires { AreNamed variables.now }
     ensures bytes { OnOk result (out.new.items ≡ out.old.items ++ flat_map entry_bytes variables.now) }
-    ensures fit { OnOk result (AllByRecursion FitsEntry variables.now) }
+    ensures widths { OnOk result (AllByRecursion (λ v. v.expansion < 2 ^ 32) variables.now) }
 {
     for it in variables {
         variable(out, it)?;
@@ -58,8 +51,7 @@ fn variables(out: &mut Vec<u8>, variables: &[Variable]) -> Result<(), NoMemory>
 
 // Appends names.
 fn names(out: &mut Vec<u8>, names: &[Name]) -> Result<(), NoMemory>
-    ensures bytes { OnOk result (out.new.items ≡ out.old.items ++ flat_map name_bytes names.now) }
-    ensures fit { OnOk result (AllByRecursion IsName names.now) }
+    ensures { OnOk result (out.new.items ≡ out.old.items ++ flat_map name_bytes names.now) }
 {
     for it in names {
         name(out, it)?;
@@ -67,19 +59,14 @@ fn names(out: &mut Vec<u8>, names: &[Name]) -> Result<(), NoMemory>
     Ok(())
 }
 
-// Appends statements, all of which the version has.
-fn statements(
-    out: &mut Vec<u8>,
-    version: Version,
-    statements: &[OwnedStatement],
-) -> Result<(), NoMemory>
-    requires range { AllInRange (statements_of statements.now) }
-    requires version { IsOfVersion version (statements_of statements.now) }
+// Appends statements.
+fn statements(out: &mut Vec<u8>, statements: &[OwnedStatement]) -> Result<(), NoMemory>
+    requires { AllInRange statements.now }
     ensures bytes { OnOk result (out.new.items ≡ out.old.items ++ flat_map line_bytes statements.now) }
-    ensures fit { OnOk result (AllByRecursion (FitsLine version) statements.now) }
+    ensures widths { OnOk result (AllByRecursion LineHasWidths statements.now) }
 {
     for it in statements {
-        statement(out, version, it)?;
+        statement(out, it)?;
     }
     Ok(())
 }
@@ -111,7 +98,7 @@ fn header(out: &mut Vec<u8>, counts: Counts) -> Result<(), NoMemory>
 ///
 /// Want of memory.
 pub fn write(alloc: Global, code: &Code) -> Result<Vec<u8>, NoMemory>
-    requires { IsInRange (code_of code.now) }
+    requires { IsInRange code.now }
     ensures spelled { IfOk result (λ bytes. bytes.items ≡ spelling code.now) }
     ensures fits { OnOk result (FitsImage code.now) }
 {
@@ -127,6 +114,6 @@ pub fn write(alloc: Global, code: &Code) -> Result<Vec<u8>, NoMemory>
     variables(&mut out, code.tables.variables())?;
     names(&mut out, code.tables.features())?;
     names(&mut out, code.tables.frames())?;
-    statements(&mut out, code.version, code.statements.as_slice())?;
+    statements(&mut out, code.statements.as_slice())?;
     Ok(out)
 }

@@ -4,7 +4,6 @@ use Rattle.std.specs.Prelude.{IfSome, IfOk, IfErr, Result, Ok, Err}
 use Rattle.vcm_num.specs.Written.{AppendsFront}
 use Rattle.vcm_tree.specs.declared.program.Noticed.{Noticed}
 use Rattle.vcm_code.specs.declared.code.Code.{Code}
-use Rattle.vcm_code.specs.Ops.{code_of}
 use Rattle.vcm_code.specs.Valid.{IsValid}
 use Rattle.vcm_image.specs.Whole.{FitsImage, spelling}
 use Rattle.vcm_words.specs.Rows.{listing}
@@ -32,7 +31,7 @@ list_cut_off a bytes all text notices listed old new front = known a _ _ all (λ
 }))
 
 -- the image of the code of a listing
-pub image_of_listing : {A : Type 0} (items : A → List ℕ) (text : List ℕ) (code : Code) (r : Result A AsmFault) → FitsImage code × (IsValid (code_of code) × (text ≡ listing code))
+pub image_of_listing : {A : Type 0} (items : A → List ℕ) (text : List ℕ) (code : Code) (r : Result A AsmFault) → FitsImage code × (IsValid code × (text ≡ listing code))
     → IfOk r (λ v. items v ≡ spelling code) → IfOk r (λ v. IsPrinted (items v) text)
 image_of_listing items text code (Ok v) (fits, (valid, listed)) e = record { code = code; valid = valid; fits = fits; spelled = e; listed = listed }
 image_of_listing items text code (Err f) h e = tt

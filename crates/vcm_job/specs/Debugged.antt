@@ -4,7 +4,6 @@ use Rattle.std.specs.Io.KnownBytes.{Keeps}
 use Rattle.vcm_spec.specs.Workpiece.{Workpiece}
 use Rattle.vcm_tree.specs.declared.program.Noticed.{Noticed}
 use Rattle.vcm_code.specs.declared.code.Code.{Code}
-use Rattle.vcm_code.specs.Ops.{code_of}
 use Rattle.vcm_code.specs.Valid.{IsValid}
 use Rattle.vcm_image.specs.Whole.{FitsImage, spelling, code_at}
 use Rattle.vcm_loader.specs.Loading.{LoadFault}
@@ -35,7 +34,7 @@ IsSession part code lines after old new r = (last : Debugging) × Served 10000 1
 pub record IsServedOn (part : Workpiece) (image lines : List ℕ) (after old new : Option (List ℕ)) (r : Result (Unit {0}) ServeFault)
     : Type 0 where
   pub code : Code
-  pub valid : IsValid (code_of code)
+  pub valid : IsValid code
   pub fits : FitsImage code
   pub spelled : image ≡ spelling code
   pub session : IsSession part code lines after old new r

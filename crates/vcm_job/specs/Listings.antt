@@ -4,7 +4,6 @@ use Rattle.std.specs.Io.KnownBytes.{Appends, Keeps}
 use Rattle.vcm_num.specs.Written.{AppendsFront}
 use Rattle.vcm_tree.specs.declared.program.Noticed.{Noticed}
 use Rattle.vcm_code.specs.declared.code.Code.{Code}
-use Rattle.vcm_code.specs.Ops.{code_of}
 use Rattle.vcm_code.specs.Valid.{IsValid}
 use Rattle.vcm_image.specs.Whole.{FitsImage, spelling, code_at}
 use Rattle.vcm_loader.specs.Loading.{LoadFault}
@@ -21,7 +20,7 @@ use Rattle.vcm_job.specs.Inputs.{is_image}
 -- the bytes are the image of a valid code, and the text is that code's listing
 pub record IsPrinted (image text : List ℕ) : Type 0 where
   pub code : Code
-  pub valid : IsValid (code_of code)
+  pub valid : IsValid code
   pub fits : FitsImage code
   pub spelled : image ≡ spelling code
   pub listed : text ≡ listing code

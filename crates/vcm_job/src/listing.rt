@@ -145,7 +145,6 @@ pub fn list<R: Read, W: Write>(
 }
 
 // The image of a code.
-#[tactic(auto, using(vcm_image::proofs::ImageLaws::range_of))]
 fn image_of(alloc: Global, code: &Code) -> Result<Vec<u8>, AsmFault>
     requires { FitsImage code.now }
     ensures image { IfOk result (λ v. v.items ≡ spelling code.now) }

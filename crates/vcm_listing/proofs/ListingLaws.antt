@@ -5,11 +5,13 @@ use Rattle.std.proofs.lemmas.List.{append-nil, length-append}
 use Rattle.vcm_code.specs.declared.code.Code.{Code}
 use Rattle.vcm_code.specs.declared.version.Version.{Version}
 use Rattle.vcm_code.specs.declared.version.Version.TheVariants.{One}
-use Rattle.vcm_fields.specs.Parts.{Line}
+use Rattle.vcm_code.specs.Code.{Statement}
 use Rattle.vcm_spec.specs.Setup.{Variable as Entry}
 use Rattle.vcm_expr.specs.NameBytes.{IsName}
-use Rattle.vcm_fields.specs.Fitting.{FitsEntry, FitsLine}
+use Rattle.vcm_fields.specs.inner.Fitting.{FitsEntry, FitsLine}
 use Rattle.vcm_image.specs.Whole.{FitsImage}
+use Rattle.vcm_image.specs.inner.Fitted.{TablesFit}
+use Rattle.vcm_image.proofs.ByTables.{tables_fit}
 use Rattle.vcm_words.specs.declared.row.Row.TheVariants.{Head, Variable, Feature, Frame, Numbered}
 use Rattle.vcm_words.specs.declared.fault.ListCode.{ListCode}
 use Rattle.vcm_words.specs.declared.fault.ListFault.{ListFault}
@@ -76,7 +78,7 @@ frames_again version vs fs n front (x ∷ xs) rest h =
     = ap (λ r. on n r (λ d. reads_on (suc n) d (numbered Frame (suc (length front)) xs ++ rest))) (room_for (code version vs fs (front ++ x ∷ []) []) (length front) 4096 (omega (arith, h))) in
     (more.0, here ∙ ap (λ k. reads_on (suc n) (code version vs fs (front ++ x ∷ []) []) (numbered Frame k xs ++ rest)) (sym len) ∙ more.1 ∙ ap (λ l. reads_on more.0 (code version vs fs l []) rest) (append_assoc front (x ∷ []) xs))
 
-statements_again : (version : Version) (vs : List Entry) (fs : List (List ℕ)) (ds : List (List ℕ)) (n : ℕ) (front xs : List Line) (rest : List ListRow) → length front + length xs ≤ 20000 → (m : ℕ) × (reads_on n (code version vs fs ds front) (numbered Numbered (length front) xs ++ rest) ≡ reads_on m (code version vs fs ds (front ++ xs)) rest)
+statements_again : (version : Version) (vs : List Entry) (fs : List (List ℕ)) (ds : List (List ℕ)) (n : ℕ) (front xs : List Statement) (rest : List ListRow) → length front + length xs ≤ 20000 → (m : ℕ) × (reads_on n (code version vs fs ds front) (numbered Numbered (length front) xs ++ rest) ≡ reads_on m (code version vs fs ds (front ++ xs)) rest)
 unfolding reads_on added
 statements_again version vs fs ds n front [] rest h = (n, ap (λ l. reads_on n (code version vs fs ds l) rest) (sym (append-nil front)))
 statements_again version vs fs ds n front (x ∷ xs) rest h =
@@ -86,7 +88,7 @@ statements_again version vs fs ds n front (x ∷ xs) rest h =
     = ap (λ r. on n r (λ d. reads_on (suc n) d (numbered Numbered (suc (length front)) xs ++ rest))) (room_for (code version vs fs ds (front ++ x ∷ [])) (length front) 20000 (omega (arith, h))) in
     (more.0, here ∙ ap (λ k. reads_on (suc n) (code version vs fs ds (front ++ x ∷ [])) (numbered Numbered k xs ++ rest)) (sym len) ∙ more.1 ∙ ap (λ l. reads_on more.0 (code version vs fs ds l) rest) (append_assoc front (x ∷ []) xs))
 
-rows_again : (c : Code) (n : ℕ) → FitsImage c → reads_on n (empty c.version) (numbered Variable 0 c.tables.variables ++ (numbered Feature 0 c.tables.features ++ (numbered Frame 0 c.tables.frames ++ numbered Numbered 0 c.statements))) ≡ Ok c
+rows_again : (c : Code) (n : ℕ) → TablesFit c → reads_on n (empty c.version) (numbered Variable 0 c.tables.variables ++ (numbered Feature 0 c.tables.features ++ (numbered Frame 0 c.tables.frames ++ numbered Numbered 0 c.statements))) ≡ Ok c
 unfolding reads_on
 rows_again c n h =
     let v = variables_again c.version n [] c.tables.variables (numbered Feature 0 c.tables.features ++ (numbered Frame 0 c.tables.frames ++ numbered Numbered 0 c.statements)) (omega (arith, h.variables.0)) in
@@ -99,7 +101,7 @@ numbered_all : {A : Type 0} (version : Version) (f : ℕ → A → ListRow) (P :
 numbered_all version f P limit n [] g l h = tt
 numbered_all version f P limit n (x ∷ xs) g l h = (g n x (omega (arith, l)) h.0, numbered_all version f P limit (suc n) xs g (omega (arith, l)) h.1)
 
-pub rows_fit : (c : Code) → FitsImage c → AllByRecursion (FitsRow c.version) (rows c)
+pub rows_fit : (c : Code) → TablesFit c → AllByRecursion (FitsRow c.version) (rows c)
 rows_fit c h = (
   tt,
   all_append (FitsRow c.version) (numbered Variable 0 c.tables.variables) _ (numbered_all c.version Variable FitsEntry 4096 0 c.tables.variables (λ i x l p. (omega (arith, l), p)) (omega (arith, h.variables.0)) h.variables.1)
@@ -119,7 +121,8 @@ parts_again version (r ∷ rs) h = ap (λ o. on 1 (after_head o (row_text (Head 
 -- the listing of a code is read as that code
 pub code_again : (c : Code) → FitsImage c → code_listed (listing c) ≡ Ok c
 unfolding code_listed
-code_again c h =
+code_again c fits =
+    let h = tables_fit c fits in
     let f = rows_fit c h in
     ap parts_read (cut_lines c.version (rows c) f) ∙ parts_again c.version (numbered Variable 0 c.tables.variables ++ (numbered Feature 0 c.tables.features ++ (numbered Frame 0 c.tables.frames ++ numbered Numbered 0 c.statements))) f.1 ∙ rows_again c 2 h
 

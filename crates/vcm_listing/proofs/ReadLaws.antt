@@ -5,6 +5,7 @@ use Rattle.std.proofs.lemmas.List.{length-append}
 use Rattle.vcm_code.specs.declared.code.Code.{Code}
 use Rattle.vcm_code.specs.declared.version.Version.{Version}
 use Rattle.vcm_image.specs.Whole.{FitsImage}
+use Rattle.vcm_image.specs.inner.Fitted.{TablesFit}
 use Rattle.vcm_words.specs.declared.row.Row.TheVariants.{Variable, Feature, Frame, Numbered}
 use Rattle.vcm_words.specs.declared.fault.ListCode.{ListCode}
 use Rattle.vcm_words.specs.declared.fault.ListCode.TheVariants.{NoMemory, BadLine, BadNumber, OutOfOrder, NotValid}
@@ -22,7 +23,7 @@ use Rattle.vcm_listing.proofs.ListingLaws.{code_again}
 -- what is left of the lines
 pub record Left (version : Version) (bytes rest : List ℕ) (code : Code) (line : ℕ) : Type 0 where
   pub same : lines_read 2 (empty version) (split 10 bytes) ≡ lines_read line code (split 10 rest)
-  pub fits : FitsImage code
+  pub fits : TablesFit code
   pub count : line ≡ length (rows code) + 1
 
 pub all_left : (version : Version) (bytes : List ℕ) (c : Code) → c ≡ empty version → Left version bytes bytes c 2

@@ -1,7 +1,6 @@
 -- Statements about listings. Each is the contract of a law in src/laws.rt.
 use Rattle.std.specs.Prelude.{◌≡◌, ℕ, List, Ok}
 use Rattle.vcm_code.specs.declared.code.Code.{Code}
-use Rattle.vcm_code.specs.Ops.{code_of}
 use Rattle.vcm_code.specs.Valid.{IsValid}
 use Rattle.vcm_image.specs.Whole.{FitsImage, spelling}
 use Rattle.vcm_words.specs.declared.fault.ListFault.{ListFault}
@@ -27,10 +26,10 @@ OneFault = (bytes : List ℕ) (f g : ListFault) → ListingFault bytes f → Lis
 
 -- the listing of a valid code in range is not refused
 abbrev pub NoneOfValid : Type 0
-NoneOfValid = (c : Code) (f : ListFault) → FitsImage c → IsValid (code_of c) → ¬ ListingFault (listing c) f
+NoneOfValid = (c : Code) (f : ListFault) → FitsImage c → IsValid c → ¬ ListingFault (listing c) f
 
 -- take the listing of a valid code in range, and the code that it is read as: it is that code, with the same image, and nothing is told of the
 -- listing
 abbrev pub PrintedIsRead : Type 0
-PrintedIsRead = (c d : Code) (f : ListFault) → FitsImage c → IsValid (code_of c) → FitsImage d → listing c ≡ listing d
+PrintedIsRead = (c d : Code) (f : ListFault) → FitsImage c → IsValid c → FitsImage d → listing c ≡ listing d
     → (d ≡ c) × ((spelling d ≡ spelling c) × ¬ ListingFault (listing c) f)

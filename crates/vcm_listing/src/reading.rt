@@ -2,7 +2,6 @@
 
 ghost use Rattle.std.specs.Prelude.{◌≡◌, length, Ok, IfOk, IfErr};
 ghost use Rattle.vcm_code.specs.declared.code.Code.{Code as CodeOf};
-ghost use Rattle.vcm_code.specs.Ops.{code_of};
 ghost use Rattle.vcm_code.specs.Valid.{IsValid};
 ghost use Rattle.vcm_image.specs.Whole.{FitsImage};
 ghost use Rattle.vcm_words.specs.Cutting.{split};
@@ -80,9 +79,9 @@ fn line_count(code: &Code) -> u32
 /// belongs. NotValid at the last line where all lines can be read and their code is not valid. Want of memory, at line 0.
 pub fn read_listing(alloc: Global, bytes: &[u8]) -> Result<Code, ListFault>
     // What is read is in range and valid, and the bytes are its listing.
-    ensures found { IfOk result (λ c. FitsImage c × (IsValid (code_of c) × (bytes.now ≡ listing c))) }
+    ensures found { IfOk result (λ c. FitsImage c × (IsValid c × (bytes.now ≡ listing c))) }
     // The listing of a valid code in range is read as that code, unless memory runs out.
-    ensures only { (c : CodeOf) → FitsImage c → IsValid (code_of c) → bytes.now ≡ listing c → GivesOrWants result (Ok c) }
+    ensures only { (c : CodeOf) → FitsImage c → IsValid c → bytes.now ≡ listing c → GivesOrWants result (Ok c) }
     // Which fault it is, and where.
     ensures fault { IfErr result (λ f. FaultOrWant bytes.now f) }
 {

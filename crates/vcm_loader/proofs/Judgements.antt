@@ -5,20 +5,8 @@ use Rattle.vcm_spec.specs.declared.expression.Item.{Item}
 use Rattle.vcm_spec.specs.Expression.{HasKind}
 use Rattle.vcm_fields.specs.declared.fault.ImageFault.{ImageFault}
 use Rattle.vcm_code.specs.declared.branch.Branch.{Branch}
-use Rattle.vcm_loader.specs.Checks.{Check, target, indexes, typed, assigned, ItemsBelow, AllHold, targets}
+use Rattle.vcm_code.specs.Checks.{Check, target, indexes, typed, assigned, ItemsBelow, AllHold, targets}
 use Rattle.vcm_loader.specs.Loading.{FirstFailedCheck}
-
-pub hold_append : (cs ds : List Check) → AllHold cs → AllHold ds → AllHold (cs ++ ds)
-hold_append [] ds h g = g
-hold_append (c ∷ cs) ds h g = (h.0, hold_append cs ds h.1 g)
-
-pub hold_front : (cs ds : List Check) → AllHold (cs ++ ds) → AllHold cs
-hold_front [] ds h = tt
-hold_front (c ∷ cs) ds h = (h.0, hold_front cs ds h.1)
-
-pub hold_back : (cs ds : List Check) → AllHold (cs ++ ds) → AllHold ds
-hold_back [] ds h = h
-hold_back (c ∷ cs) ds h = hold_back cs ds h.1
 
 -- what is told of the first list is told of both
 pub first_here : (cs ds : List Check) (e : ImageFault) → FirstFailedCheck cs e → FirstFailedCheck (cs ++ ds) e

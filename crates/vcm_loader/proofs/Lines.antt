@@ -6,10 +6,11 @@ use Rattle.vcm_spec.specs.Setup.{Variable}
 use Rattle.vcm_spec.specs.Fitting.{kinds}
 use Rattle.vcm_code.specs.declared.code.Code.{Code}
 use Rattle.vcm_fields.specs.declared.fault.ImageFault.{ImageFault}
-use Rattle.vcm_fields.specs.Parts.{Line}
-use Rattle.vcm_loader.specs.Checks.{Check, Counts, counts_of, AllHold, op_checks}
+use Rattle.vcm_code.specs.Code.{Statement}
+use Rattle.vcm_code.specs.Checks.{Check, Counts, counts_of, AllHold, op_checks}
 use Rattle.vcm_loader.specs.Loading.{FirstFailedCheck}
-use Rattle.vcm_loader.proofs.Judgements.{hold_append, hold_front, hold_back, first_here, first_later}
+use Rattle.vcm_code.proofs.Checked.{hold_append, hold_front, hold_back}
+use Rattle.vcm_loader.proofs.Judgements.{first_here, first_later}
 
 -- the first so many of these have what they want
 abbrev pub HeldUpTo : {A : Type 0} → (A → List Check) → List A → ℕ → Type 0
@@ -37,7 +38,7 @@ first_of wanted (y ∷ xs) (suc n) x e h i f =
     first_later (wanted y) (flat_map wanted xs) e (hold_front (wanted y) (flat_map wanted (take n xs)) h) (first_of wanted xs n x e (hold_back (wanted y) (flat_map wanted (take n xs)) h) i f)
 
 -- what a statement's operands want
-abbrev pub of_line : Counts → Line → List Check
+abbrev pub of_line : Counts → Statement → List Check
 of_line t s = op_checks t s.op
 
 -- the kinds of the first so many variables
@@ -52,5 +53,9 @@ kinds_more vs n ks more v k h e same m = m ∙ ap (λ (j : Kind). ks ++ j ∷ []
     push (w ∷ us) zero u i = let same : w ≡ u = cc in ap (λ (x : Variable). x.kind ∷ []) (sym same)
     push (w ∷ us) (suc k) u i = let next : suc k + 1 ≡ suc (k + 1) = omega arith in ap (λ l. w.kind ∷ l) (push us k u i) ∙ ap (λ j. map (λ (x : Variable). x.kind) (take j (w ∷ us))) (sym next)
 
-pub counts_are : (c : Code) (ks : List Kind) (f d s : ℕ) → ks ≡ kinds c.tables → f ≡ length c.tables.features → d ≡ length c.tables.frames → s ≡ length c.statements → record { kinds = ks; features = f; frames = d; statements = s } ≡ counts_of c
+-- what the statements of a code are judged by
+abbrev pub judged : Code → Counts
+judged c = counts_of c.tables (length c.statements)
+
+pub counts_are : (c : Code) (ks : List Kind) (f d s : ℕ) → ks ≡ kinds c.tables → f ≡ length c.tables.features → d ≡ length c.tables.frames → s ≡ length c.statements → record { kinds = ks; features = f; frames = d; statements = s } ≡ judged c
 counts_are c ks f d s e g h i = rw (e, g, h, i) refl

@@ -2,17 +2,15 @@
 use Rattle.std.proofs.Common.{◌≡◌, inl, inr, ℕ, List, [], ◌∷◌, Result, Ok, Err, refl, sym, ap, ◌∙◌, subst}
 use Rattle.std.specs.Prelude.{IfErr}
 use Rattle.vcm_code.specs.declared.code.Code.{Code}
-use Rattle.vcm_code.specs.Ops.{code_of}
 use Rattle.vcm_code.specs.Valid.{IsValid}
 use Rattle.vcm_fields.specs.declared.fault.ImageFault.{ImageFault}
 use Rattle.vcm_fields.specs.declared.fault.ImageFault.TheVariants.{NoMemory, BadMagic, Short, BadVersion, BadField, Trailing, BadIndex, BadTarget, BadOperand, RunsOff}
 use Rattle.vcm_image.specs.Whole.{FitsImage, spelling, code_at}
 use Rattle.vcm_image.proofs.Wholes.{code_again}
 use Rattle.vcm_image.proofs.ImageLaws.{one_image}
-use Rattle.vcm_loader.specs.Checks.{Check, AllHold, checks}
+use Rattle.vcm_code.specs.Checks.{Check, AllHold, checks}
 use Rattle.vcm_loader.specs.Loading.{FirstFailedCheck, LoadFault}
 use Rattle.vcm_loader.specs.Laws.{ValidCodesHaveNoRefusal, RefusalsAreOne, WrittenIsLoaded}
-use Rattle.vcm_loader.proofs.Soundness.{valid_checked}
 
 -- where all checks hold, none is told of
 pub none_first : (cs : List Check) (e : ImageFault) → AllHold cs → ¬ FirstFailedCheck cs e
@@ -29,7 +27,7 @@ one_first (c ∷ cs) d e (inr f) (inl g) = absurd (f.0 g.0)
 one_first (c ∷ cs) d e (inr f) (inr g) = f.1 ∙ sym g.1
 
 pub no_refusal : ValidCodesHaveNoRefusal
-no_refusal c e v (inl f) = none_first (checks c) e (valid_checked c v) f
+no_refusal c e v (inl f) = none_first (checks c) e v.fit f
 no_refusal c e v (inr f) = f.1.0 v.ends
 
 pub one_refusal : RefusalsAreOne
@@ -39,7 +37,7 @@ one_refusal c d e (inr f) (inl g) = absurd (none_first (checks c) e f.0 g)
 one_refusal c d e (inr f) (inr g) = f.1.1 ∙ sym g.1.1
 
 -- of a valid code want of memory alone
-only_memory : (c : Code) (e : ImageFault) → IsValid (code_of c) → LoadFault (Ok c) e → e ≡ NoMemory
+only_memory : (c : Code) (e : ImageFault) → IsValid c → LoadFault (Ok c) e → e ≡ NoMemory
 only_memory c NoMemory v f = refl
 only_memory c BadMagic v f = absurd (no_refusal c BadMagic v f)
 only_memory c Short v f = absurd (no_refusal c Short v f)
@@ -51,7 +49,7 @@ only_memory c BadTarget v f = absurd (no_refusal c BadTarget v f)
 only_memory c BadOperand v f = absurd (no_refusal c BadOperand v f)
 only_memory c RunsOff v f = absurd (no_refusal c RunsOff v f)
 
-pub is_only : {X : Type 0} (bytes : List ℕ) (r : Result X ImageFault) → IfErr r (λ e. LoadFault (code_at bytes) e) → (c : Code) → FitsImage c → IsValid (code_of c) → bytes ≡ spelling c → IfErr r (λ e. e ≡ NoMemory)
+pub is_only : {X : Type 0} (bytes : List ℕ) (r : Result X ImageFault) → IfErr r (λ e. LoadFault (code_at bytes) e) → (c : Code) → FitsImage c → IsValid c → bytes ≡ spelling c → IfErr r (λ e. e ≡ NoMemory)
 is_only bytes (Ok x) h c f v e = tt
 is_only bytes (Err d) h c f v e = only_memory c d v (subst (λ r. LoadFault r d) (ap code_at e ∙ code_again c f) h)
 

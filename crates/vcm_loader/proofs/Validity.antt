@@ -7,21 +7,13 @@ use Rattle.vcm_spec.specs.Expression.{HasKind}
 use Rattle.vcm_spec.specs.Setup.{Variable, Tables}
 use Rattle.vcm_spec.specs.Fitting.{kinds}
 use Rattle.vcm_code.specs.declared.code.Code.{Code}
-use Rattle.vcm_code.specs.Ops.{op_of, statements_of, code_of}
-use Rattle.vcm_code.specs.Valid.{OpFits, AllFit, IsValid}
-use Rattle.vcm_fields.specs.Parts.{Operation, Line}
-use Rattle.vcm_fields.specs.Shape.{Place, Said, Filled, places, Parted, parted, taken_apart, over_places, over_parted}
-use Rattle.vcm_fields.specs.Shape as at
-use Rattle.vcm_loader.specs.Checks.{Counts, AllHold, place_checks}
+use Rattle.vcm_code.specs.Valid.{IsValid}
+use Rattle.vcm_code.specs.Code.{Op, Statement}
+use Rattle.vcm_code.specs.Shape.{Place, Said, Filled, places, Parted, parted, taken_apart, over_places, over_parted}
+use Rattle.vcm_code.specs.Shape as at
+use Rattle.vcm_code.specs.Checks.{Counts, counts_of, AllHold, place_checks, OpFits}
 use Rattle.vcm_loader.specs.Expressions.{place_expressions, expressions}
-use Rattle.vcm_loader.proofs.Judgements.{hold_front, hold_back}
-use Rattle.vcm_loader.proofs.Soundness.{judged_by, op_holds}
-
--- each statement of a valid code fits
-pub op_fits_at : (tables : Tables) (count : ℕ) (ss : List Line) (n : ℕ) (s : Line) → AllFit tables count (statements_of ss) → slice_get ss n ≡ Some s → OpFits tables count (op_of s.op)
-op_fits_at tables count [] n s h e = absurd cc
-op_fits_at tables count (r ∷ ss) zero s h e = let same : r ≡ s = cc in subst (λ (l : Line). OpFits tables count (op_of l.op)) same h.0
-op_fits_at tables count (r ∷ ss) (suc n) s h e = op_fits_at tables count ss n s h.1 e
+use Rattle.vcm_code.proofs.Checked.{hold_front, hold_back, fits_at}
 
 -- each of these has a kind
 abbrev pub Typed : List Kind → List (List Item) → Type 0
@@ -51,8 +43,8 @@ parted_typed : (t : Counts) (p : Parted) → AllHold (over_parted (place_checks 
 parted_typed t (parted w f) h = filled_typed t (places w) f h
 
 -- and so each expression of a statement that fits
-expressions_typed : (tables : Tables) (count : ℕ) (o : Operation) → OpFits tables count (op_of o) → Typed (kinds tables) (expressions o)
-expressions_typed tables count o h = parted_typed (judged_by tables count) (taken_apart o) (op_holds tables count o h)
+expressions_typed : (tables : Tables) (count : ℕ) (o : Op) → OpFits tables count o → Typed (kinds tables) (expressions o)
+expressions_typed tables count o h = parted_typed (counts_of tables count) (taken_apart o) h
 
 typed_at : (ks : List Kind) (es : List (List Item)) (i : ℕ) (e : List Item) → Typed ks es → slice_get es i ≡ Some e → (k : Kind) × HasKind ks e k
 typed_at ks [] i e h f = absurd cc
@@ -60,9 +52,9 @@ typed_at ks (d ∷ es) zero e h f = let same : d ≡ e = cc in subst (λ (is : L
 typed_at ks (d ∷ es) (suc i) e h f = typed_at ks es i e h.1 f
 
 -- an expression of a valid code has a kind
-pub valid_typed : (c : Code) (n place : ℕ) (s : Line) (e : List Item) → IsValid (code_of c) → slice_get c.statements n ≡ Some s → slice_get (expressions s.op) place ≡ Some e → (k : Kind) × HasKind (kinds c.tables) e k
+pub valid_typed : (c : Code) (n place : ℕ) (s : Statement) (e : List Item) → IsValid c → slice_get c.statements n ≡ Some s → slice_get (expressions s.op) place ≡ Some e → (k : Kind) × HasKind (kinds c.tables) e k
 valid_typed c n place s e h f g =
-    typed_at (kinds c.tables) (expressions s.op) place e (expressions_typed c.tables (length (statements_of c.statements)) s.op (op_fits_at c.tables (length (statements_of c.statements)) c.statements n s h.fit f)) g
+    typed_at (kinds c.tables) (expressions s.op) place e (expressions_typed c.tables (length c.statements) s.op (fits_at c.tables (length c.statements) c.statements n s h.fit f)) g
 
 kinds_all : (vs : List Variable) → length (map (λ (v : Variable). v.kind) vs) ≡ length vs
 kinds_all [] = refl

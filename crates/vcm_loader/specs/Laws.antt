@@ -1,7 +1,6 @@
 -- Statements about loading. Each is the contract of a law in src/laws.rt.
 use Rattle.std.specs.Prelude.{◌≡◌}
 use Rattle.vcm_code.specs.declared.code.Code.{Code}
-use Rattle.vcm_code.specs.Ops.{code_of}
 use Rattle.vcm_code.specs.Valid.{IsValid}
 use Rattle.vcm_fields.specs.declared.fault.ImageFault.{ImageFault}
 use Rattle.vcm_fields.specs.declared.fault.ImageFault.TheVariants.{NoMemory}
@@ -10,7 +9,7 @@ use Rattle.vcm_loader.specs.Loading.{RefusesCode, LoadFault}
 
 -- nothing is told of a valid code
 abbrev pub ValidCodesHaveNoRefusal : Type 0
-ValidCodesHaveNoRefusal = (c : Code) (e : ImageFault) → IsValid (code_of c) → ¬ RefusesCode c e
+ValidCodesHaveNoRefusal = (c : Code) (e : ImageFault) → IsValid c → ¬ RefusesCode c e
 
 -- no code has two refusals
 abbrev pub RefusalsAreOne : Type 0
@@ -18,5 +17,5 @@ RefusalsAreOne = (c : Code) (d e : ImageFault) → RefusesCode c d → RefusesCo
 
 -- the image of a valid code is loaded as that code, and nothing is told of it but want of memory
 abbrev pub WrittenIsLoaded : Type 0
-WrittenIsLoaded = (c d : Code) (e : ImageFault) → FitsImage c → IsValid (code_of c) → FitsImage d → spelling d ≡ spelling c
+WrittenIsLoaded = (c d : Code) (e : ImageFault) → FitsImage c → IsValid c → FitsImage d → spelling d ≡ spelling c
     → (d ≡ c) × (LoadFault (code_at (spelling c)) e → e ≡ NoMemory)

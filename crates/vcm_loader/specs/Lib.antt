@@ -1,4 +1,3 @@
-pub mod Checks
 pub mod Loading
 pub mod Expressions
 pub mod Laws

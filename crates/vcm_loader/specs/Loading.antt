@@ -1,11 +1,10 @@
 -- Which refusal loading tells.
 use Rattle.std.specs.Prelude.{◌≡◌, ◌⊎◌, List, [], ◌∷◌, Result, Ok, Err}
 use Rattle.vcm_code.specs.declared.code.Code.{Code}
-use Rattle.vcm_code.specs.Ops.{statements_of}
 use Rattle.vcm_code.specs.Valid.{Ends}
 use Rattle.vcm_fields.specs.declared.fault.ImageFault.{ImageFault}
 use Rattle.vcm_fields.specs.declared.fault.ImageFault.TheVariants.{NoMemory, BadIndex, BadTarget, BadOperand, RunsOff}
-use Rattle.vcm_loader.specs.Checks.{Check, index, target, indexes, typed, of_kind, assigned, Holds, AllHold, checks}
+use Rattle.vcm_code.specs.Checks.{Check, index, target, indexes, typed, of_kind, assigned, Holds, AllHold, checks}
 
 -- what is told of a check that doesn't hold
 abbrev pub fault_of : Check → ImageFault
@@ -23,7 +22,7 @@ FirstFailedCheck (c ∷ cs) e = (Holds c × FirstFailedCheck cs e) ⊎ ((¬ Hold
 
 -- the refusal of a code: its first check that doesn't hold; where all do, that it doesn't end with ENDFIL
 abbrev pub RefusesCode : Code → ImageFault → Type 0
-RefusesCode c e = FirstFailedCheck (checks c) e ⊎ (AllHold (checks c) × ((¬ Ends (statements_of c.statements)) × (e ≡ RunsOff)))
+RefusesCode c e = FirstFailedCheck (checks c) e ⊎ (AllHold (checks c) × ((¬ Ends c.statements) × (e ≡ RunsOff)))
 
 -- the refusal of loading: that of reading, else that of the code which is read. Of want of memory nothing is said
 abbrev pub LoadFault : Result Code ImageFault → ImageFault → Type 0

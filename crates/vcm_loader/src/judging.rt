@@ -5,7 +5,7 @@ ghost use Rattle.vcm_spec.specs.Expression.{HasKind};
 ghost use Rattle.vcm_code.specs.Deciding.{Tells};
 ghost use Rattle.vcm_code.specs.Copies.{listed};
 ghost use Rattle.vcm_fields.specs.Fields.{in_field};
-ghost use Rattle.vcm_loader.specs.Checks.{index, target, indexes, assigned, ItemBelow, AllHold, wants, three, variable, place_checks, op_checks};
+ghost use Rattle.vcm_code.specs.Checks.{index, target, indexes, assigned, ItemBelow, AllHold, wants, three, variable, place_checks, op_checks};
 ghost use Rattle.vcm_loader.specs.Loading.{FirstFailedCheck};
 
 use crate::walking::items_kind;
@@ -22,7 +22,7 @@ pub(crate) trait Typed {
     ghost use Rattle.vcm_spec.specs.declared.expression.Item.{Item};
     ghost use Rattle.vcm_spec.specs.Expression.{HasKind};
     ghost use Rattle.vcm_code.specs.Deciding.{Tells};
-    ghost use Rattle.vcm_loader.specs.Checks.{ItemsBelow};
+    ghost use Rattle.vcm_code.specs.Checks.{ItemsBelow};
 
     /// Its postfix items.
     ghost items: { Self → List Item };
@@ -41,7 +41,7 @@ pub(crate) trait Typed {
 pub(crate) trait Aimed {
     ghost use Rattle.std.specs.Prelude.{List, OnOk, IfErr};
     ghost use Rattle.vcm_code.specs.declared.branch.Branch.{Branch};
-    ghost use Rattle.vcm_loader.specs.Checks.{AllHold, targets};
+    ghost use Rattle.vcm_code.specs.Checks.{AllHold, targets};
     ghost use Rattle.vcm_loader.specs.Loading.{FirstFailedCheck};
 
     /// Its branches.
@@ -139,7 +139,7 @@ fn judge_items<E: Typed>(items: &E, kinds: &[Kind], want: Kind) -> Result<(), Im
 }
 
 // Three expressions of one kind.
-#[tactic(auto, using(crate::proofs::Judgements::hold_append, crate::proofs::Judgements::first_here, crate::proofs::Judgements::first_later))]
+#[tactic(auto, using(vcm_code::proofs::Checked::hold_append, crate::proofs::Judgements::first_here, crate::proofs::Judgements::first_later))]
 fn judge_three<E: Typed>(x: &E, y: &E, z: &E, kinds: &[Kind], want: Kind) -> Result<(), ImageFault>
     ensures ok { OnOk result (AllHold (three kinds.now (E.items x.now) (E.items y.now) (E.items z.now) want)) }
     ensures err { IfErr result (λ e. FirstFailedCheck (three kinds.now (E.items x.now) (E.items y.now) (E.items z.now) want) e) }

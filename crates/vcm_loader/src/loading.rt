@@ -4,11 +4,10 @@ ghost use Rattle.std.specs.Prelude.{◌≡◌, Ok, OnOk, IfOk, IfErr};
 ghost use Rattle.vcm_spec.specs.Fitting.{kinds as kinds_of};
 ghost use Rattle.vcm_code.specs.declared.code.Code.{Code};
 ghost use Rattle.vcm_code.specs.Deciding.{Tells};
-ghost use Rattle.vcm_code.specs.Ops.{op_of, statements_of, code_of};
 ghost use Rattle.vcm_code.specs.Valid.{IsLast, Ends, IsValid};
 ghost use Rattle.vcm_fields.specs.declared.fault.ImageFault.TheVariants.{NoMemory};
 ghost use Rattle.vcm_image.specs.Whole.{FitsImage, spelling, code_at};
-ghost use Rattle.vcm_loader.specs.Checks.{AllHold, checks};
+ghost use Rattle.vcm_code.specs.Checks.{AllHold, checks};
 ghost use Rattle.vcm_loader.specs.Loading.{FirstFailedCheck, LoadFault};
 
 use crate::judging::judge_operation;
@@ -49,14 +48,14 @@ fn judge_statements(image: &Scanned<'_>, kinds: &[Kind]) -> Result<(), ImageFaul
 
 // Whether it is ENDFIL.
 fn is_end(op: &BorrowedOp<'_>) -> bool
-    ensures { Tells result (IsLast (op_of op.now)) }
+    ensures { Tells result (IsLast op.now) }
 {
     matches!(op, Op::EndFil)
 }
 
 // Whether there is a last statement, and it is ENDFIL.
 fn ends(image: &Scanned<'_>) -> bool
-    ensures { Tells result (Ends (statements_of image.now.statements)) }
+    ensures { Tells result (Ends image.now.statements) }
 {
     let count = image.statement_count();
     if count == 0 {
@@ -68,7 +67,7 @@ fn ends(image: &Scanned<'_>) -> bool
 
 // What makes a code valid, in the order of its refusals. The kinds of its variables are let go afterwards.
 fn judge(alloc: Global, image: &Scanned<'_>) -> Result<(), ImageFault>
-    ensures ok { OnOk result (IsValid (code_of image.now)) }
+    ensures ok { OnOk result (IsValid image.now) }
     ensures err { IfErr result (λ e. LoadFault (Ok image.now) e) }
 {
     let kinds = variable_kinds(alloc, image)?;
@@ -81,7 +80,7 @@ fn judge(alloc: Global, image: &Scanned<'_>) -> Result<(), ImageFault>
 
 // The valid image that the bytes are, or the refusal.
 fn judged(alloc: Global, bytes: &[u8]) -> Result<Loaded<'_>, ImageFault>
-    ensures found { IfOk result (λ l. FitsImage l × (IsValid (code_of l) × (bytes.now ≡ spelling l))) }
+    ensures found { IfOk result (λ l. FitsImage l × (IsValid l × (bytes.now ≡ spelling l))) }
     ensures fault { IfErr result (λ e. LoadFault (code_at bytes.now) e) }
 {
     let scanned = open(alloc, bytes)?;
@@ -97,9 +96,9 @@ fn judged(alloc: Global, bytes: &[u8]) -> Result<Loaded<'_>, ImageFault>
 /// order; then RunsOff, where there is no last statement that is ENDFIL. Want of memory.
 pub fn load(alloc: Global, bytes: &[u8]) -> Result<Loaded<'_>, ImageFault>
     // What is loaded is valid, and the bytes are its one spelling.
-    ensures found { IfOk result (λ l. FitsImage l × (IsValid (code_of l) × (bytes.now ≡ spelling l))) }
+    ensures found { IfOk result (λ l. FitsImage l × (IsValid l × (bytes.now ≡ spelling l))) }
     // The spelling of a valid code is refused for want of memory alone.
-    ensures only { (c : Code) → FitsImage c → IsValid (code_of c) → bytes.now ≡ spelling c → IfErr result (λ e. e ≡ NoMemory) }
+    ensures only { (c : Code) → FitsImage c → IsValid c → bytes.now ≡ spelling c → IfErr result (λ e. e ≡ NoMemory) }
     // Which refusal it is.
     ensures fault { IfErr result (λ e. LoadFault (code_at bytes.now) e) }
 {

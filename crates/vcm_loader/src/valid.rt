@@ -3,9 +3,8 @@
 ghost use Rattle.std.specs.Prelude.{length};
 ghost use Rattle.std.specs.List.{AllByRecursion};
 ghost use Rattle.vcm_code.specs.Deciding.{Tells};
-ghost use Rattle.vcm_code.specs.Ops.{op_of, statements_of, code_of};
 ghost use Rattle.vcm_code.specs.Valid.{IsLast, Ends, IsValid};
-ghost use Rattle.vcm_loader.specs.Checks.{AllHold, op_checks};
+ghost use Rattle.vcm_code.specs.Checks.{AllHold, op_checks};
 ghost use Rattle.vcm_loader.specs.inner.Holding.{LineHolds};
 
 use crate::judging::judge_operation;
@@ -37,14 +36,14 @@ fn all_hold(statements: &[OwnedStatement], kinds: &[Kind], features: usize, fram
 
 // Whether it is ENDFIL.
 fn is_end(op: &OwnedOp) -> bool
-    ensures { Tells result (IsLast (op_of op.now)) }
+    ensures { Tells result (IsLast op.now) }
 {
     matches!(op, OwnedOp::EndFil)
 }
 
 // Whether there is a last statement, and it is ENDFIL.
 fn ends(statements: &[OwnedStatement]) -> bool
-    ensures { Tells result (Ends (statements_of statements.now)) }
+    ensures { Tells result (Ends statements.now) }
 {
     match statements.last() {
         Some(last) => is_end(&last.op),
@@ -56,7 +55,7 @@ fn ends(statements: &[OwnedStatement]) -> bool
 /// have the kinds that their places want, no stack of an expression holds more than 32, and there is a last statement, which is ENDFIL. Takes
 /// no memory.
 pub fn is_valid(code: &Code) -> bool
-    ensures { Tells result (IsValid (code_of code.now)) }
+    ensures { Tells result (IsValid code.now) }
 {
     let tables = &code.tables;
     let statements = code.statements.as_slice();

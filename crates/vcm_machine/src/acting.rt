@@ -7,13 +7,13 @@ ghost use Rattle.vcm_spec.specs.Workpiece.{Workpiece};
 ghost use Rattle.vcm_spec.specs.Setup.{setup_of};
 ghost use Rattle.vcm_spec.specs.Value.{items_value, is_true};
 ghost use Rattle.vcm_spec.specs.Outcome.{Gives, Stops, calculated};
-ghost use Rattle.vcm_spec.specs.Simple.{Goto, GoHome, Assign, Text};
+ghost use Rattle.vcm_spec.specs.declared.simple.Simple.TheVariants.{Goto, GoHome, Assign, Text};
 ghost use Rattle.vcm_spec.specs.Effect.{effect};
 ghost use Rattle.vcm_spec.specs.Control.{test_in};
 ghost use Rattle.vcm_spec.specs.Fitting.{kinds, AreLengths};
 ghost use Rattle.vcm_expr.specs.Slots.{IsTruth};
 ghost use Rattle.vcm_state.specs.Carried.{Carried, CarriedOrHalted};
-ghost use Rattle.vcm_code.specs.Valid.{HasItems};
+ghost use Rattle.vcm_code.specs.Checks.{HasItems};
 ghost use Rattle.vcm_fields.specs.Readers.{Begins, OfFirst, both, variable_at, expression_at, three_at, text_at};
 ghost use Rattle.vcm_machine.specs.inner.Lengths.{lengths_in};
 

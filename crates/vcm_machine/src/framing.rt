@@ -4,11 +4,11 @@ ghost use Rattle.std.specs.Prelude.{◌≡◌, ◌<◌, length};
 ghost use Rattle.vcm_spec.specs.Workpiece.{Workpiece};
 ghost use Rattle.vcm_spec.specs.Setup.{setup_of};
 ghost use Rattle.vcm_spec.specs.Value.{items_value};
-ghost use Rattle.vcm_spec.specs.Simple.{Trans, Rotate, Recall};
+ghost use Rattle.vcm_spec.specs.declared.simple.Simple.TheVariants.{Trans, Rotate, Recall};
 ghost use Rattle.vcm_spec.specs.Effect.{effect};
 ghost use Rattle.vcm_spec.specs.Fitting.{AreLengths};
 ghost use Rattle.vcm_state.specs.Carried.{Carried};
-ghost use Rattle.vcm_code.specs.Valid.{HasItems};
+ghost use Rattle.vcm_code.specs.Checks.{HasItems};
 ghost use Rattle.vcm_fields.specs.Readers.{Begins, OfFirst, both, variable_at, three_at, byte_below_at};
 
 use crate::acting::three_lengths;

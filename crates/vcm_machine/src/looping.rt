@@ -7,9 +7,9 @@ ghost use Rattle.vcm_spec.specs.World.{with_variable};
 ghost use Rattle.vcm_spec.specs.Control.{variable as present_value, with_next_index, is_zero, is_past};
 ghost use Rattle.vcm_spec.specs.Fitting.{kinds};
 ghost use Rattle.vcm_state.specs.Carried.{Carried};
-ghost use Rattle.vcm_code.specs.Code.{Do, EndDo};
+ghost use Rattle.vcm_code.specs.declared.op.Op.TheVariants.{Do, EndDo};
 ghost use Rattle.vcm_code.specs.CodeTable.{pair as saved_pair, do_op};
-ghost use Rattle.vcm_code.specs.Valid.{HasItems};
+ghost use Rattle.vcm_code.specs.Checks.{HasItems};
 ghost use Rattle.vcm_fields.specs.Readers.{Begins, OfFirst, both, variable_at, pair_at as pair_reader, three_at, target_at};
 ghost use Rattle.vcm_machine.specs.inner.Going.{HasTurned};
 

@@ -26,26 +26,20 @@ pub struct Machine<'a, P: Part> {
 
 impl<'a, P: Part> Model for Machine<'a, P> {
     ghost use Rattle.std.specs.Prelude.{◌≡◌, ◌<◌, length};
-    ghost use Rattle.std.specs.Coded.{codes};
     ghost use Rattle.vcm_code.specs.CodeTable.{code_state};
-    ghost use Rattle.vcm_code.specs.Ops.{code_of};
-    ghost use Rattle.vcm_code.specs.inner.OpCodes.{statement_coded};
     ghost use Rattle.vcm_machine.specs.Running.{Running};
     ghost use Rattle.vcm_machine.specs.inner.Runnable.{IsRunnable};
     ghost use Rattle.vcm_spec.specs.Rests.{Rests};
 
     ghost Value = { Running };
 
-    ghost coded = { Prim.hlevel (codes, statement_coded) };
+    ghost view = { λ m. record { part = P.part m.part.now; code = m.loaded.now; state = code_state m.world.state m.next m.pairs } };
 
-    ghost view = { λ m. record { part = P.part m.part.now; code = code_of m.loaded.now; state = code_state m.world.state m.next m.pairs } };
-
-    ghost invariant = { λ m. (m.world.tables ≡ m.loaded.now.tables) × IsRunnable (code_of m.loaded.now) × (m.next < length m.loaded.now.statements) × Rests (P.part m.part.now) m.world.state };
+    ghost invariant = { λ m. (m.world.tables ≡ m.loaded.now.tables) × IsRunnable m.loaded.now × (m.next < length m.loaded.now.statements) × Rests (P.part m.part.now) m.world.state };
 }
 
 impl<'a, P: Part> Machine<'a, P> {
     ghost use Rattle.std.specs.Prelude.{◌≡◌, ◌<◌, length, None, IfOk, OnOk, OnErr};
-    ghost use Rattle.vcm_code.specs.Ops.{code_of};
     ghost use Rattle.vcm_machine.specs.Running.{started, later, WantsMemory, HasRun};
     ghost use Rattle.vcm_spec.specs.Rests.{Rests};
 
@@ -57,7 +51,7 @@ impl<'a, P: Part> Machine<'a, P> {
         loaded: &'a Loaded<'a>,
         part: &'a P,
     ) -> Result<Machine<'a, P>, NoMemory>
-        ensures { IfOk result (λ m. m ≡ started (P.part part.now) (code_of loaded.now)) }
+        ensures { IfOk result (λ m. m ≡ started (P.part part.now) loaded.now) }
     {
         // It is called for what it tells of the code: that it is valid, and in range.
         let _count = loaded.statement_count();

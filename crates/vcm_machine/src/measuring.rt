@@ -5,11 +5,11 @@ ghost use Rattle.vcm_num.specs.declared.number.Kind.TheVariants.{Real};
 ghost use Rattle.vcm_spec.specs.Workpiece.{Workpiece};
 ghost use Rattle.vcm_spec.specs.Setup.{setup_of};
 ghost use Rattle.vcm_spec.specs.Value.{items_value};
-ghost use Rattle.vcm_spec.specs.Simple.{Feat, PtMeas, SnSet};
+ghost use Rattle.vcm_spec.specs.declared.simple.Simple.TheVariants.{Feat, PtMeas, SnSet};
 ghost use Rattle.vcm_spec.specs.Effect.{effect};
 ghost use Rattle.vcm_spec.specs.Fitting.{AreLengths};
 ghost use Rattle.vcm_state.specs.Carried.{Carried};
-ghost use Rattle.vcm_code.specs.Valid.{HasItems};
+ghost use Rattle.vcm_code.specs.Checks.{HasItems};
 ghost use Rattle.vcm_fields.specs.Readers.{Begins, OfFirst, both, variable_at, expression_at, three_at, axis_at, direction_at, setting_at};
 
 use crate::acting::{last_value, three_lengths};

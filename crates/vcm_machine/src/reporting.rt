@@ -5,7 +5,7 @@ ghost use Rattle.vcm_num.specs.declared.number.Kind.TheVariants.{Real};
 ghost use Rattle.vcm_spec.specs.Workpiece.{Workpiece};
 ghost use Rattle.vcm_spec.specs.Setup.{setup_of};
 ghost use Rattle.vcm_spec.specs.Value.{items_value};
-ghost use Rattle.vcm_spec.specs.Simple.{Obtain, Output};
+ghost use Rattle.vcm_spec.specs.declared.simple.Simple.TheVariants.{Obtain, Output};
 ghost use Rattle.vcm_spec.specs.Effect.{effect};
 ghost use Rattle.vcm_spec.specs.Fitting.{kinds};
 ghost use Rattle.vcm_state.specs.Carried.{Carried, CarriedOrHalted};

@@ -4,9 +4,9 @@ ghost use Rattle.std.specs.Prelude.{◌≡◌, ℕ, List};
 ghost use Rattle.vcm_num.specs.declared.number.Kind.{Kind};
 ghost use Rattle.vcm_spec.specs.Setup.{Setup};
 ghost use Rattle.vcm_code.specs.declared.pair.Pair.{Pair};
-ghost use Rattle.vcm_code.specs.Code.{Select};
+ghost use Rattle.vcm_code.specs.declared.op.Op.TheVariants.{Select};
 ghost use Rattle.vcm_code.specs.CodeTable.{target_for as target_of, do_op};
-ghost use Rattle.vcm_code.specs.Valid.{HasItems};
+ghost use Rattle.vcm_code.specs.Checks.{HasItems};
 ghost use Rattle.vcm_fields.specs.Readers.{Begins, OfFirst, both, expression_at, branches_at, target_at};
 ghost use Rattle.vcm_machine.specs.inner.Going.{HasTurned};
 

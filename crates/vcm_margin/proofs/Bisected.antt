@@ -1,11 +1,11 @@
 -- The steps of a bisection of half widths.
-use Rattle.std.proofs.Common.{◌≡◌, ℕ, ◌+◌, ◌-◌, ◌<◌, ◌≤◌, true, Option, Some, None, refl, subst, arith}
+use Rattle.std.proofs.Common.{◌≡◌, ℕ, ◌+◌, ◌-◌, ◌<◌, ◌≤◌, true, Option, None, refl, subst, arith}
 use Rattle.std.proofs.lemmas.Bool.{le-leb}
 use Rattle.vcm_spec.specs.Workpiece.{Workpiece, IsValid}
-use Rattle.vcm_code.specs.Code.{Code}
+use Rattle.vcm_code.specs.declared.code.Code.{Code}
 use Rattle.vcm_part.specs.Tip.{is_tip}
 use Rattle.vcm_margin.specs.declared.difference.Difference.{Difference}
-use Rattle.vcm_margin.specs.Margin.{GoesWith, IsMet, MetBy, IsMargin}
+use Rattle.vcm_margin.specs.Margin.{GoesWith, MetBy, IsMargin}
 use Rattle.vcm_margin.specs.inner.Widening.{IsBetween}
 
 -- a workpiece may have its own tip

@@ -1,12 +1,9 @@
 -- What is known of the statement that two machines take next.
 use Rattle.std.proofs.Common.{◌≡◌, ℕ, IfSome, sym, ap, ◌∙◌}
 use Rattle.std.specs.Prelude.{Option, Some, None, slice_get}
-use Rattle.vcm_code.specs.Code.{Code, Statement}
+use Rattle.vcm_code.specs.Code.{Statement}
+use Rattle.vcm_code.specs.declared.code.Code.{Code}
 use Rattle.vcm_code.specs.CodeTable.{CodeState}
-use Rattle.vcm_code.specs.Ops.{op_of, code_of, statement_of}
-use Rattle.vcm_code.specs.declared.code.Code.{Code as Kept}
-use Rattle.vcm_fields.specs.Parts.{Line}
-use Rattle.vcm_machine.proofs.Codes.{kept_at}
 use Rattle.vcm_margin.specs.declared.difference.Place.{Place}
 use Rattle.vcm_margin.specs.Alike.{measured_by, measures, measured, line_in, next_place}
 
@@ -15,12 +12,12 @@ pub if_some : {A : Type 0} (r : Option A) (P Q : A → Type 0) → ((x : A) → 
 if_some (Some x) P Q f h = f x h
 if_some None P Q f h = tt
 
-module _ (code : Code) (m : CodeState) (loaded : Kept) (number : ℕ) (s : Line) (same : code ≡ code_of loaded) (is_next : number ≡ m.next) (there : slice_get loaded.statements number ≡ Some s) where
-  stands : slice_get code.statements m.next ≡ Some (statement_of s)
-  stands = ap (λ (n : ℕ). slice_get code.statements n) (sym is_next) ∙ ap (λ (c : Code). slice_get c.statements number) same ∙ kept_at loaded.statements number s there
+module _ (code : Code) (m : CodeState) (loaded : Code) (number : ℕ) (s : Statement) (same : code ≡ loaded) (is_next : number ≡ m.next) (there : slice_get loaded.statements number ≡ Some s) where
+  stands : slice_get code.statements m.next ≡ Some s
+  stands = ap (λ (n : ℕ). slice_get code.statements n) (sym is_next) ∙ ap (λ (c : Code). slice_get c.statements number) same ∙ there
 
   -- the feature that it measures
-  pub measured_is : measured_by (op_of s.op) ≡ measures code m
+  pub measured_is : measured_by s.op ≡ measures code m
   measured_is = sym (ap measured stands)
 
   abbrev placed : ℕ → ℕ → Place

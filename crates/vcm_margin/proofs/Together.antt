@@ -1,7 +1,7 @@
 -- Two machines that have gone alike so far.
 use Rattle.std.proofs.Common.{◌≡◌, ℕ, zero, suc, ◌+◌, ◌<◌, ◌⊎◌, inl, inr, refl, sym, ap, ◌∙◌, subst, arith}
 use Rattle.vcm_spec.specs.Workpiece.{Workpiece}
-use Rattle.vcm_code.specs.Code.{Code}
+use Rattle.vcm_code.specs.declared.code.Code.{Code}
 use Rattle.vcm_machine.specs.Running.{Running, started, later}
 use Rattle.vcm_machine.proofs.LawLemmas.{add_up}
 use Rattle.vcm_margin.specs.declared.difference.Difference.{Difference}

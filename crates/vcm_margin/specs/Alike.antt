@@ -2,9 +2,11 @@
 use Rattle.std.specs.Prelude.{◌≡◌, ◌≢◌, ℕ, suc, ◌<◌, Option, Some, None, unwrap_or, slice_get}
 use Rattle.vcm_spec.specs.declared.feature.Feature.{Feature}
 use Rattle.vcm_spec.specs.Setup.{setup_of}
-use Rattle.vcm_spec.specs.Simple.{PtMeas}
+use Rattle.vcm_spec.specs.declared.simple.Simple.TheVariants.{PtMeas}
 use Rattle.vcm_spec.specs.Workpiece.{Workpiece}
-use Rattle.vcm_code.specs.Code.{Code, Statement, Op, Plain}
+use Rattle.vcm_code.specs.Code.{Statement, Op}
+use Rattle.vcm_code.specs.declared.code.Code.{Code}
+use Rattle.vcm_code.specs.declared.op.Op.TheVariants.{Plain}
 use Rattle.vcm_code.specs.CodeTable.{CodeState, code_steps, start}
 use Rattle.vcm_margin.specs.declared.difference.Difference.{Difference}
 use Rattle.vcm_margin.specs.declared.difference.Place.{Place}

@@ -2,7 +2,6 @@
 
 ghost use Rattle.std.specs.Prelude.{◌≡◌, IfOk, IfSome, IfNone};
 ghost use Rattle.vcm_code.specs.CodeTable.{CodeState};
-ghost use Rattle.vcm_code.specs.Ops.{op_of, code_of};
 ghost use Rattle.vcm_machine.specs.Running.{started};
 ghost use Rattle.vcm_margin.specs.Alike.{measured_by, measures, next_place, actual_in, IsAlike, GoAlike, Differ, DifferFirst};
 ghost use Rattle.vcm_margin.specs.inner.Stepped.{BothLater};
@@ -16,14 +15,14 @@ use vcm_loader::Loaded;
 use vcm_machine::Machine;
 use vcm_motion::Part;
 use vcm_num::NoMemory;
-use vcm_spec::Feature;
+use vcm_spec::{Feature, Simple};
 
 // The feature that a statement measures.
 fn measured(op: &BorrowedOp<'_>) -> Option<u16>
-    ensures { result ≡ measured_by (op_of op.now) }
+    ensures { result ≡ measured_by op.now }
 {
     match op {
-        Op::PtMeas(feature, _, _, _, _) => Some(*feature),
+        Op::Plain(Simple::PtMeas(feature, _, _, _, _)) => Some(*feature),
         _ => None,
     }
 }
@@ -73,7 +72,7 @@ fn step_both<P: Part, Q: Part>(
     one: &mut Machine<'_, P>,
     other: &mut Machine<'_, Q>,
 ) -> Result<Option<Difference>, NoMemory>
-    requires { one.old.code ≡ code_of loaded.now }
+    requires { one.old.code ≡ loaded.now }
     ensures stepped { IfOk result (λ d. BothLater one.old other.old one.new other.new) }
     ensures differ { IfOk result (λ d. IfSome d (Differ one.old.code one.old.state one.new.state other.new.state)) }
     ensures alike { IfOk result (λ d. IfNone d (IsAlike (measures one.old.code one.old.state) one.new.state other.new.state)) }
@@ -95,10 +94,10 @@ fn compare_on<P: Part, Q: Part>(
     other: &mut Machine<'_, Q>,
     steps: u64,
 ) -> Result<Option<Difference>, NoMemory>
-    requires one { one.old ≡ started one.old.part (code_of loaded.now) }
-    requires other { other.old ≡ started other.old.part (code_of loaded.now) }
-    ensures differ { IfOk result (λ d. IfSome d (DifferFirst one.old.part other.old.part (code_of loaded.now) steps)) }
-    ensures alike { IfOk result (λ d. IfNone d (GoAlike one.old.part other.old.part (code_of loaded.now) steps)) }
+    requires one { one.old ≡ started one.old.part loaded.now }
+    requires other { other.old ≡ started other.old.part loaded.now }
+    ensures differ { IfOk result (λ d. IfSome d (DifferFirst one.old.part other.old.part loaded.now steps)) }
+    ensures alike { IfOk result (λ d. IfNone d (GoAlike one.old.part other.old.part loaded.now steps)) }
 {
     for _step in 0..steps {
         match step_both(alloc, loaded, one, other)? {
@@ -117,9 +116,9 @@ fn compare_beside<P: Part, Q: Part>(
     other: &Q,
     steps: u64,
 ) -> Result<Option<Difference>, NoMemory>
-    requires { one.old ≡ started one.old.part (code_of loaded.now) }
-    ensures differ { IfOk result (λ d. IfSome d (DifferFirst one.old.part (Q.part other.now) (code_of loaded.now) steps)) }
-    ensures alike { IfOk result (λ d. IfNone d (GoAlike one.old.part (Q.part other.now) (code_of loaded.now) steps)) }
+    requires { one.old ≡ started one.old.part loaded.now }
+    ensures differ { IfOk result (λ d. IfSome d (DifferFirst one.old.part (Q.part other.now) loaded.now steps)) }
+    ensures alike { IfOk result (λ d. IfNone d (GoAlike one.old.part (Q.part other.now) loaded.now steps)) }
 {
     let mut second = Machine::new(alloc, loaded, other)?;
     compare_on(alloc, loaded, one, &mut second, steps)
@@ -135,8 +134,8 @@ pub(crate) fn compare<P: Part, Q: Part>(
     other: &Q,
     steps: u64,
 ) -> Result<Option<Difference>, NoMemory>
-    ensures differ { IfOk result (λ d. IfSome d (DifferFirst (P.part one.now) (Q.part other.now) (code_of loaded.now) steps)) }
-    ensures alike { IfOk result (λ d. IfNone d (GoAlike (P.part one.now) (Q.part other.now) (code_of loaded.now) steps)) }
+    ensures differ { IfOk result (λ d. IfSome d (DifferFirst (P.part one.now) (Q.part other.now) loaded.now steps)) }
+    ensures alike { IfOk result (λ d. IfNone d (GoAlike (P.part one.now) (Q.part other.now) loaded.now steps)) }
 {
     let mut first = Machine::new(alloc, loaded, one)?;
     compare_beside(alloc, loaded, &mut first, other, steps)

@@ -1,7 +1,6 @@
 //! The greatest half width of a tip with which a run goes as it does with the own one.
 
 ghost use Rattle.std.specs.Prelude.{◌≡◌, IfOk, IfSome, IfNone};
-ghost use Rattle.vcm_code.specs.Ops.{code_of};
 ghost use Rattle.vcm_margin.specs.Margin.{GoesWith, IsMet, IsMargin};
 
 use crate::comparing::compare;
@@ -25,8 +24,8 @@ fn met<P: Part>(
     tip: u32,
 ) -> Result<Option<Difference>, NoMemory>
     requires { P.part own.now ≡ part.now }
-    ensures met { IfOk result (λ d. IfSome d (IsMet part.now (code_of loaded.now) steps tip)) }
-    ensures alike { IfOk result (λ d. IfNone d (GoesWith part.now (code_of loaded.now) steps tip)) }
+    ensures met { IfOk result (λ d. IfSome d (IsMet part.now loaded.now steps tip)) }
+    ensures alike { IfOk result (λ d. IfNone d (GoesWith part.now loaded.now steps tip)) }
 {
     let Some(other) = part.with_tip(alloc, tip)? else {
         return Ok(Some(Difference::HomeNotClear));
@@ -47,7 +46,7 @@ fn margin_beside<P: Part>(
     steps: u64,
 ) -> Result<Margin, NoMemory>
     requires { P.part own.now ≡ part.now }
-    ensures { IfOk result (IsMargin part.now (code_of loaded.now) steps) }
+    ensures { IfOk result (IsMargin part.now loaded.now steps) }
 {
     let mut tip = part.bounds().tip;
     let mut beyond = WIDEST + 1;
@@ -76,7 +75,7 @@ pub fn margin(
     part: &PartData,
     steps: u64,
 ) -> Result<Margin, NoMemory>
-    ensures { IfOk result (IsMargin part.now (code_of loaded.now) steps) }
+    ensures { IfOk result (IsMargin part.now loaded.now steps) }
 {
     let own = AnyPart::of(alloc, part)?;
     margin_beside(alloc, loaded, &own, part, steps)

@@ -7,7 +7,8 @@ use Rattle.vcm_spec.specs.Setup.{Setup, Tables, setup_of}
 use Rattle.vcm_spec.specs.Program.{Block, sizes}
 use Rattle.vcm_spec.specs.Table.{State, front, step, steps, effective, opening}
 use Rattle.vcm_spec.proofs.Steps.{steps-add}
-use Rattle.vcm_code.specs.Code.{Statement, Code}
+use Rattle.vcm_code.specs.Code.{Statement}
+use Rattle.vcm_code.specs.declared.code.Code.{Code}
 use Rattle.vcm_code.specs.CodeTable.{CodeState, code_step, code_steps, code_effective, start, next_prints}
 use Rattle.vcm_spec.specs.Stepping.{unless_stopped}
 use Rattle.vcm_spec.specs.Printing.{takes_memory, next_node}
@@ -25,8 +26,6 @@ use Rattle.std.specs.Prelude.{Result, Ok, Err, IfOk}
 use Rattle.vcm_num.specs.declared.memory.NoMemory.{NoMemory}
 use Rattle.vcm_tree.specs.Program.{Parsed}
 use Rattle.vcm_tree.specs.declared.program.Noticed.{Noticed}
-use Rattle.vcm_code.specs.declared.code.Code.{Code as Kept}
-use Rattle.vcm_code.specs.Ops.{code_of}
 use Rattle.vcm_image.specs.Whole.{FitsImage, spelling}
 use Rattle.vcm_image.proofs.ImageLaws.{one_image}
 use Rattle.vcm_run.specs.Run.{Ended, IsRun}
@@ -97,14 +96,14 @@ assembled_run part program tables c n m ran a h =
 -- codes that fit and have one image run alike
 pub calls_show : CallsShowTheProgram
 calls_show part text parsed written loaded n m ran ok a f g e rs =
-    let b = subst (λ (k : Kept). IsAssembled parsed.program parsed.tables (code_of k)) (one_image written loaded f g e) a in
-    let h = follow n (started part (code_of loaded)) m ran rs in
+    let b = subst (λ (k : Code). IsAssembled parsed.program parsed.tables k) (one_image written loaded f g e) a in
+    let h = follow n (started part loaded) m ran rs in
     record {
       parsed = parsed;
       accepted = ok;
       tables_are = ap (λ x. x.code.tables) h.new_is ∙ b.tables_are;
       notices = refl;
-      run = assembled_run part parsed.program parsed.tables (code_of loaded) n m ran b h;
+      run = assembled_run part parsed.program parsed.tables loaded n m ran b h;
     }
 
 -- the probe is at rest in each state of the statement table
@@ -113,15 +112,15 @@ rests_shown part text n s valid h =
     subst (Rests part) (sym h.run.world_is) (programs_rest (setup_of part h.parsed.tables) valid h.parsed.program s.ran.done)
 
 -- the image of a program is loaded as its code
-loaded_code : (p : Parsed) (bytes : List ℕ) (l : Kept) (i : IsImageOf p bytes) → FitsImage l → bytes ≡ spelling l → i.code ≡ l
+loaded_code : (p : Parsed) (bytes : List ℕ) (l : Code) (i : IsImageOf p bytes) → FitsImage l → bytes ≡ spelling l → i.code ≡ l
 loaded_code p bytes l i f e = one_image i.code l i.fits f (sym i.spelled ∙ e)
 
 -- a run of what was loaded is a run of the text
-pub text_run : (part : Workpiece) (text bytes : List ℕ) (notices : List Noticed) (n : ℕ) (s : Shown) (l : Kept) → IsBuilt text bytes notices → FitsImage l → bytes ≡ spelling l
+pub text_run : (part : Workpiece) (text bytes : List ℕ) (notices : List Noticed) (n : ℕ) (s : Shown) (l : Code) → IsBuilt text bytes notices → FitsImage l → bytes ≡ spelling l
     → IsCodeRun part l n s → s.notices ≡ notices → IsSummary part text n s
 text_run part text bytes notices n s l b f e r ns =
-    let a = subst (λ (k : Kept). IsAssembled b.parsed.program b.parsed.tables (code_of k)) (loaded_code b.parsed bytes l b.image f e) b.image.assembled in
-    let run = assembled_run part b.parsed.program b.parsed.tables (code_of l) n r.machine s.ran a r.has_run in
+    let a = subst (λ (k : Code). IsAssembled b.parsed.program b.parsed.tables k) (loaded_code b.parsed bytes l b.image f e) b.image.assembled in
+    let run = assembled_run part b.parsed.program b.parsed.tables l n r.machine s.ran a r.has_run in
     record {
       parsed = b.parsed;
       accepted = b.accepted;
@@ -132,23 +131,23 @@ text_run part text bytes notices n s l b f e r ns =
     }
 
 -- the same of what a call returned
-pub built_runs : (part : Workpiece) (bytes : List ℕ) (notices : List Noticed) (n : ℕ) (l : Kept) (r : Result Shown NoMemory) → FitsImage l → bytes ≡ spelling l
+pub built_runs : (part : Workpiece) (bytes : List ℕ) (notices : List Noticed) (n : ℕ) (l : Code) (r : Result Shown NoMemory) → FitsImage l → bytes ≡ spelling l
     → IfOk r (IsCodeRun part l n) → IfOk r (λ s. s.notices ≡ notices) → IfOk r (λ s. (text : List ℕ) → IsBuilt text bytes notices → IsSummary part text n s)
 built_runs part bytes notices n l (Ok s) f e h k = λ text b. text_run part text bytes notices n s l b f e h k
 built_runs part bytes notices n l (Err x) f e h k = tt
 
 -- the next statement is one of the program's
-pub text_next : (text bytes : List ℕ) (notices : List Noticed) (s : Shown) (l : Kept) → IsBuilt text bytes notices → FitsImage l → bytes ≡ spelling l
-    → s.next < length (code_of l).statements → NextIsThere text s
+pub text_next : (text bytes : List ℕ) (notices : List Noticed) (s : Shown) (l : Code) → IsBuilt text bytes notices → FitsImage l → bytes ≡ spelling l
+    → s.next < length l.statements → NextIsThere text s
 text_next text bytes notices s l b f e within p ok =
-    let a = subst (λ (k : Kept). IsAssembled b.parsed.program b.parsed.tables (code_of k)) (loaded_code b.parsed bytes l b.image f e) b.image.assembled in
+    let a = subst (λ (k : Code). IsAssembled b.parsed.program b.parsed.tables k) (loaded_code b.parsed bytes l b.image f e) b.image.assembled in
     let program = b.parsed.program in
     let as_many = ap length a.statements_are ∙ block_length (place_in (marks program 0)) program 0 0 in
     let same : sizes program ≡ sizes p.program = ap (λ q. sizes q.program) (one_program text b.parsed p b.accepted ok) in
     omega (arith, within, as_many, same)
 
 -- the same of what a call returned
-pub built_next : (bytes : List ℕ) (notices : List Noticed) (l : Kept) (part : Workpiece) (n : ℕ) (r : Result Shown NoMemory) → FitsImage l → bytes ≡ spelling l
+pub built_next : (bytes : List ℕ) (notices : List Noticed) (l : Code) (part : Workpiece) (n : ℕ) (r : Result Shown NoMemory) → FitsImage l → bytes ≡ spelling l
     → IfOk r (IsCodeRun part l n) → IfOk r (λ s. (text : List ℕ) → IsBuilt text bytes notices → NextIsThere text s)
 built_next bytes notices l part n (Ok s) f e h = λ text b. text_next text bytes notices s l b f e h.within
 built_next bytes notices l part n (Err x) f e h = tt

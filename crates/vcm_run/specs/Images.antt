@@ -2,7 +2,6 @@
 use Rattle.std.specs.Prelude.{◌≡◌, ℕ, ◌<◌, List, [], length}
 use Rattle.vcm_spec.specs.Workpiece.{Workpiece}
 use Rattle.vcm_code.specs.declared.code.Code.{Code}
-use Rattle.vcm_code.specs.Ops.{code_of}
 use Rattle.vcm_code.specs.Valid.{IsValid}
 use Rattle.vcm_fields.specs.declared.fault.ImageFault.{ImageFault}
 use Rattle.vcm_image.specs.Whole.{FitsImage, spelling, code_at}
@@ -14,15 +13,15 @@ use Rattle.vcm_run.specs.Summaries.{Shown}
 pub record IsCodeRun (part : Workpiece) (c : Code) (n : ℕ) (s : Shown) : Type 0 where
   pub tables_are : s.held.tables ≡ c.tables
   pub machine : Running
-  pub has_run : HasRun n (started part (code_of c)) machine s.ran
+  pub has_run : HasRun n (started part c) machine s.ran
   pub world_is : s.held.state ≡ machine.state.world
   pub next_is : s.next ≡ machine.state.next
-  pub within : s.next < length (code_of c).statements
+  pub within : s.next < length c.statements
 
 -- the bytes are the image of a valid code, and this is a run of it for n steps, without notices
 pub record IsImageRun (part : Workpiece) (bytes : List ℕ) (n : ℕ) (s : Shown) : Type 0 where
   pub code : Code
-  pub valid : IsValid (code_of code)
+  pub valid : IsValid code
   pub fits : FitsImage code
   pub spelled : bytes ≡ spelling code
   pub run : IsCodeRun part code n s

@@ -6,7 +6,6 @@ use Rattle.vcm_tree.specs.Acceptance.{IsAccepted}
 use Rattle.vcm_tree.specs.Program.{Parsed}
 use Rattle.vcm_tree.specs.declared.program.Noticed.{Noticed}
 use Rattle.vcm_code.specs.declared.code.Code.{Code}
-use Rattle.vcm_code.specs.Ops.{code_of}
 use Rattle.vcm_image.specs.Whole.{FitsImage, spelling}
 use Rattle.vcm_asm.specs.Simulation.{IsAssembled}
 use Rattle.vcm_machine.specs.declared.ran.Ran.{Ran}
@@ -22,9 +21,9 @@ shown_by m ran notices = record { held = record { tables = m.code.tables; state 
 -- one from its start, for n steps in one run or in several: it shows what a summary of the text shows
 abbrev pub CallsShowTheProgram : Type 0
 CallsShowTheProgram = (part : Workpiece) (text : List ℕ) (parsed : Parsed) (written loaded : Code) (n : ℕ) (m : Running) (ran : Ran)
-    → IsAccepted text parsed → IsAssembled parsed.program parsed.tables (code_of written)
+    → IsAccepted text parsed → IsAssembled parsed.program parsed.tables written
     → FitsImage written → FitsImage loaded → spelling written ≡ spelling loaded
-    → HaveRun n (started part (code_of loaded)) m ran → IsSummary part text n (shown_by m ran parsed.notices)
+    → HaveRun n (started part loaded) m ran → IsSummary part text n (shown_by m ran parsed.notices)
 
 -- on a valid workpiece the probe is at rest in what a summary shows
 abbrev pub SummariesRest : Type 0

@@ -8,7 +8,6 @@ use Rattle.vcm_tree.specs.Acceptance.{IsAccepted, IsRefused}
 use Rattle.vcm_tree.specs.Program.{Parsed}
 use Rattle.vcm_tree.specs.declared.program.Noticed.{Noticed}
 use Rattle.vcm_code.specs.declared.code.Code.{Code}
-use Rattle.vcm_code.specs.Ops.{code_of}
 use Rattle.vcm_code.specs.Valid.{IsValid}
 use Rattle.vcm_image.specs.Whole.{FitsImage, spelling}
 use Rattle.vcm_asm.specs.Simulation.{IsAssembled}
@@ -32,8 +31,8 @@ NextIsThere text s = (p : Parsed) → IsAccepted text p → s.next < sizes p.pro
 -- the bytes are the image of the code of this program: a code that does what the program does, and is valid
 pub record IsImageOf (parsed : Parsed) (bytes : List ℕ) : Type 0 where
   pub code : Code
-  pub assembled : IsAssembled parsed.program parsed.tables (code_of code)
-  pub valid : IsValid (code_of code)
+  pub assembled : IsAssembled parsed.program parsed.tables code
+  pub valid : IsValid code
   pub fits : FitsImage code
   pub spelled : bytes ≡ spelling code
 

@@ -18,7 +18,8 @@ use Rattle.vcm_spec.specs.Frame.{direction, to_part}
 use Rattle.vcm_spec.specs.Touch.{IsTouch}
 use Rattle.vcm_spec.specs.FirstTouch.{free_move, touch}
 use Rattle.vcm_spec.specs.Outcome.{Outcome, Gives, Stops, ◌>>=◌, demand, found, point_at}
-use Rattle.vcm_spec.specs.Simple.{Simple, Goto, GoHome, Assign, Feat, PtMeas, SnSet, Trans, Rotate, Recall, Obtain, Output, Text}
+use Rattle.vcm_spec.specs.Simple.{Simple}
+use Rattle.vcm_spec.specs.declared.simple.Simple.TheVariants.{Goto, GoHome, Assign, Feat, PtMeas, SnSet, Trans, Rotate, Recall, Obtain, Output, Text}
 use Rattle.vcm_spec.specs.Effect.{carried_out, go, with_line, with_setting, is_allowed, measured_direction, machine_point, feature_in, at_index}
 use Rattle.vcm_spec.proofs.Touches.{touch_is}
 use Rattle.vcm_spec.proofs.Entries.{le_true}

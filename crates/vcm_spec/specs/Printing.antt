@@ -1,6 +1,7 @@
 -- Which statements make an output line, and so take memory.
 use Rattle.std.specs.Prelude.{Bool, true, false, Option, Some, None, List, [], ◌∷◌}
-use Rattle.vcm_spec.specs.Simple.{Simple, Output, Text}
+use Rattle.vcm_spec.specs.Simple.{Simple}
+use Rattle.vcm_spec.specs.declared.simple.Simple.TheVariants.{Output, Text}
 use Rattle.vcm_spec.specs.Program.{Node, simple, node_at}
 use Rattle.vcm_spec.specs.Table.{Entry, Rest, EndIf, EndMeas, EndCas, EndSel, Loop}
 

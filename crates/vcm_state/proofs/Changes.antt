@@ -14,7 +14,7 @@ use Rattle.vcm_spec.specs.Setup.{Setup}
 use Rattle.vcm_spec.specs.Texts.{feature_line}
 use Rattle.vcm_spec.specs.World.{Settings, World, with_variable}
 use Rattle.vcm_spec.specs.Outcome.{Gives, Stops, ◌>>=◌, demand, found}
-use Rattle.vcm_spec.specs.Simple.{Feat, SnSet, Rotate, Recall, Obtain, Output, Text}
+use Rattle.vcm_spec.specs.declared.simple.Simple.TheVariants.{Feat, SnSet, Rotate, Recall, Obtain, Output, Text}
 use Rattle.vcm_spec.specs.Effect.{carried_out, with_line, feature_in, at_index, is_allowed, with_setting, word_of}
 use Rattle.vcm_state.proofs.Moves.{gives_on, stops_on}
 

@@ -7,7 +7,7 @@ use Rattle.vcm_spec.specs.Frame.{Frame, to_machine}
 use Rattle.vcm_spec.specs.Setup.{Setup}
 use Rattle.vcm_spec.specs.World.{World}
 use Rattle.vcm_spec.specs.Outcome.{Outcome, Gives, Stops, ◌>>=◌, point_at}
-use Rattle.vcm_spec.specs.Simple.{Trans}
+use Rattle.vcm_spec.specs.declared.simple.Simple.TheVariants.{Trans}
 use Rattle.vcm_spec.specs.Effect.{carried_out, with_frame}
 use Rattle.vcm_spec.specs.Frame.{shifted_frame}
 use Rattle.vcm_state.proofs.Moves.{gives_on, stops_on, in_turn}

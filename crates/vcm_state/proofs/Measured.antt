@@ -11,7 +11,7 @@ use Rattle.vcm_spec.specs.FirstTouch.{touch}
 use Rattle.vcm_spec.specs.Setup.{Setup}
 use Rattle.vcm_spec.specs.World.{World}
 use Rattle.vcm_spec.specs.Outcome.{Outcome, Gives, Stops, ◌>>=◌, point_at}
-use Rattle.vcm_spec.specs.Simple.{PtMeas}
+use Rattle.vcm_spec.specs.declared.simple.Simple.TheVariants.{PtMeas}
 use Rattle.vcm_spec.specs.Effect.{carried_out, machine_point, measured_direction}
 use Rattle.vcm_state.proofs.Moves.{gives_on, stops_on}
 

@@ -2,7 +2,7 @@
 
 ghost use Rattle.std.specs.Prelude.{◌<◌, length};
 ghost use Rattle.vcm_spec.specs.Workpiece.{Workpiece};
-ghost use Rattle.vcm_spec.specs.Simple.{Trans, Rotate, Recall};
+ghost use Rattle.vcm_spec.specs.declared.simple.Simple.TheVariants.{Trans, Rotate, Recall};
 ghost use Rattle.vcm_state.specs.Carried.{Carries};
 
 use crate::indexed::kept;

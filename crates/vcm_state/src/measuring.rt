@@ -3,7 +3,7 @@
 ghost use Rattle.std.specs.Prelude.{◌<◌, length};
 ghost use Rattle.vcm_spec.specs.Workpiece.{Workpiece};
 ghost use Rattle.vcm_spec.specs.Outcome.{Answers};
-ghost use Rattle.vcm_spec.specs.Simple.{Feat, PtMeas, SnSet};
+ghost use Rattle.vcm_spec.specs.declared.simple.Simple.TheVariants.{Feat, PtMeas, SnSet};
 ghost use Rattle.vcm_spec.specs.Effect.{measured_direction};
 ghost use Rattle.vcm_state.specs.Carried.{Carries};
 

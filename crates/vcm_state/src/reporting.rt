@@ -4,7 +4,7 @@ ghost use Rattle.std.specs.Prelude.{◌≡◌, ◌<◌, ◌≤◌, length, slice
 ghost use Rattle.vcm_num.specs.declared.number.Kind.TheVariants.{Real};
 ghost use Rattle.vcm_spec.specs.Workpiece.{Workpiece};
 ghost use Rattle.vcm_spec.specs.Outcome.{Answers};
-ghost use Rattle.vcm_spec.specs.Simple.{Obtain, Output};
+ghost use Rattle.vcm_spec.specs.declared.simple.Simple.TheVariants.{Obtain, Output};
 ghost use Rattle.vcm_spec.specs.Effect.{feature_in};
 ghost use Rattle.vcm_spec.specs.Fitting.{kinds};
 ghost use Rattle.vcm_state.specs.Carried.{Carries, CarriesOrHalts};

@@ -72,7 +72,7 @@ impl World {
     ghost use Rattle.vcm_num.specs.Point.{is_near};
     ghost use Rattle.vcm_spec.specs.Workpiece.{Workpiece};
     ghost use Rattle.vcm_spec.specs.World.{opening_world, stopped};
-    ghost use Rattle.vcm_spec.specs.Simple.{Goto, GoHome, Assign, Text};
+    ghost use Rattle.vcm_spec.specs.declared.simple.Simple.TheVariants.{Goto, GoHome, Assign, Text};
     ghost use Rattle.vcm_expr.specs.Slots.{SlotsFit};
     ghost use Rattle.vcm_spec.specs.Fitting.{kinds};
     ghost use Rattle.vcm_state.specs.Held.{MayHave};

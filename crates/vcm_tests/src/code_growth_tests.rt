@@ -59,7 +59,6 @@ fn images_are_read(rt: HostRuntime) {
 }
 
 // What writing this image of a code tells.
-#[tactic(auto, using(vcm_image::proofs::ImageLaws::range_of))]
 fn writing(alloc: Global, code: &Code, image: &[u8]) -> Told
     requires { FitsImage code.now }
 {

@@ -6,7 +6,7 @@ use std::alloc::Global;
 use vcm_code::Op;
 use vcm_fields::ImageFault;
 use vcm_loader::{ItemSlice, TextSlice, load};
-use vcm_spec::{Item, Operand};
+use vcm_spec::{Item, Operand, Simple};
 use vcm_test_texts::{MOVE, changed};
 
 // The number of a refusal.
@@ -153,7 +153,7 @@ fn first_items(alloc: Global, bytes: &[u8]) -> Option<ItemSlice<'_>> {
     }
     let first = loaded.statement(0);
     match &first.op {
-        Op::Goto(x, _, _) => Some(x.again()),
+        Op::Plain(Simple::Goto(x, _, _)) => Some(x.again()),
         _ => None,
     }
 }
@@ -185,7 +185,7 @@ fn first_text(alloc: Global, bytes: &[u8]) -> Option<TextSlice<'_>> {
     }
     let first = loaded.statement(0);
     match &first.op {
-        Op::Text(text) => Some(text.again()),
+        Op::Plain(Simple::Text(text)) => Some(text.again()),
         _ => None,
     }
 }
@@ -218,7 +218,7 @@ fn height(alloc: Global, bytes: &[u8]) -> Option<i64> {
     }
     let first = loaded.statement(0);
     match &first.op {
-        Op::Goto(_, _, _) => loaded.value(0, 2, &[]).ok(),
+        Op::Plain(Simple::Goto(_, _, _)) => loaded.value(0, 2, &[]).ok(),
         _ => None,
     }
 }

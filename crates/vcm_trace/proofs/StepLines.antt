@@ -3,10 +3,7 @@ use Rattle.std.proofs.Common.{◌≡◌, ℕ, suc, ◌+◌, ◌<◌, List, lengt
 use Rattle.vcm_num.proofs.KnownWrites.{appends_nothing}
 use Rattle.vcm_spec.specs.declared.stop.StopPlace.{StopPlace}
 use Rattle.vcm_code.specs.declared.code.Code.{Code}
-use Rattle.vcm_code.specs.Code.{Code as Meaning}
-use Rattle.vcm_code.specs.Ops.{code_of}
-use Rattle.vcm_fields.specs.Parts.{Line}
-use Rattle.vcm_image.proofs.ImageLaws.{statements_length}
+use Rattle.vcm_code.specs.Code.{Statement}
 use Rattle.vcm_machine.specs.Running.{Running, later}
 use Rattle.vcm_trace.specs.declared.tracing.TraceFault.{TraceFault}
 use Rattle.vcm_trace.specs.declared.tracing.TraceFault.TheVariants as faults
@@ -15,11 +12,11 @@ use Rattle.vcm_trace.specs.Traces.{line_at, open_at}
 use Rattle.vcm_trace.specs.inner.Going.{WroteBehind, next_line, HasGone, HasEnded}
 
 -- the next statement of a machine stands in its code
-pub stands : (c : Code) (code : Meaning) (n : ℕ) → code ≡ code_of c → n < length code.statements → n < length c.statements
-stands c code n e l = subst (λ k. n < k) (ap (λ k. length k.statements) e ∙ statements_length c.statements) l
+pub stands : (c : Code) (code : Code) (n : ℕ) → code ≡ c → n < length code.statements → n < length c.statements
+stands c code n e l = subst (λ k. n < k) (ap (λ k. length k.statements) e) l
 
-module _ (c : Code) (done : ℕ) (old new : Running) (number : ℕ) (s : Line) (new_is : new ≡ later 1 old) (number_is : number ≡ old.state.next)
-    (got : slice_get c.statements number ≡ Some s) (code_is : old.code ≡ code_of c) where
+module _ (c : Code) (done : ℕ) (old new : Running) (number : ℕ) (s : Statement) (new_is : new ≡ later 1 old) (number_is : number ≡ old.state.next)
+    (got : slice_get c.statements number ≡ Some s) (code_is : old.code ≡ c) where
   tables_are : new.code.tables ≡ c.tables
   tables_are = ap (λ m. m.code.tables) new_is ∙ ap (λ k. k.tables) code_is
 
@@ -61,7 +58,7 @@ ends_cut c done m before after (faults.Memory i) e h = absurd h
 ends_cut c done m before after (faults.Write i) e h = rw e h
 
 -- the line of a machine that has not stopped
-pub rest_is : (done : ℕ) (c : Code) (m : Running) (next : ℕ) (s : Line) → next ≡ m.state.next → slice_get c.statements next ≡ Some s
+pub rest_is : (done : ℕ) (c : Code) (m : Running) (next : ℕ) (s : Statement) → next ≡ m.state.next → slice_get c.statements next ≡ Some s
     → open_line done next s.line m.state.world ≡ open_at done m.state (slice_get c.statements m.state.next)
 rest_is done c m next s e got =
     ap (λ n. open_line done n s.line m.state.world) e ∙ ap (open_at done m.state) (sym (ap (slice_get c.statements) (sym e) ∙ got))

@@ -11,7 +11,6 @@ use Rattle.vcm_spec.specs.Stepping.{unless_stopped}
 use Rattle.vcm_spec.proofs.Steps.{add_steps, next_effective, add_effective, effective_reaches}
 use Rattle.vcm_code.specs.declared.code.Code.{Code}
 use Rattle.vcm_code.specs.CodeTable.{CodeState, code_stop, code_step, fetched, start}
-use Rattle.vcm_code.specs.Ops.{code_of, statements_of}
 use Rattle.vcm_machine.specs.Running.{Running, started, later, WantsMemory}
 use Rattle.vcm_machine.proofs.RunLemmas.{IsReached, begins, goes, stops}
 use Rattle.vcm_trace.specs.declared.tracing.TraceFault.{TraceFault}
@@ -52,13 +51,13 @@ appends_into a b d xs ys rest zs k e l h j =
 module _ (part : Workpiece) (c : Code) where
   -- the machine at its start
   abbrev first : Running
-  first = started part (code_of c)
+  first = started part c
 
   abbrev go : CodeState → CodeState
-  go = code_step (setup_with part c) (statements_of c.statements)
+  go = code_step (setup_with part c) c.statements
 
   stays : (s : CodeState) (p : StopPlace) → code_stop s ≡ Some p → go s ≡ s
-  stays s p e = ap (λ o. unless_stopped o s (fetched (setup_with part c) (slice_get (statements_of c.statements) s.next) s.world s.next s.pairs)) e
+  stays s p e = ap (λ o. unless_stopped o s (fetched (setup_with part c) (slice_get c.statements s.next) s.world s.next s.pairs)) e
 
   -- ---- texts
 

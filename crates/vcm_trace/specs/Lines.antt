@@ -12,11 +12,10 @@ use Rattle.vcm_spec.specs.Setup.{Tables}
 use Rattle.vcm_spec.specs.Texts.{letters}
 use Rattle.vcm_spec.specs.World.{Settings, World}
 use Rattle.vcm_spec.specs.Effect.{at_index}
-use Rattle.vcm_code.specs.declared.op.Op.TheVariants.{EndFil, Goto, GoHome, Assign, If, Else, EndIf, Do, EndDo, Label, JumpTo, Feat, Meas}
-use Rattle.vcm_code.specs.declared.op.Op.TheVariants.{PtMeas, EndMes, SnSet, Trans, Rotate, Recall, Obtain, Output, Text}
-use Rattle.vcm_code.specs.declared.op.Op.TheVariants.{Select, Case, EndCas, DftCas, EndSel}
-use Rattle.vcm_fields.specs.Parts.{Operation, Line}
-use Rattle.vcm_fields.specs.Words.{word_of}
+use Rattle.vcm_spec.specs.declared.simple.Simple.TheVariants.{Goto, GoHome, Assign, Feat, PtMeas, SnSet, Trans, Rotate, Recall, Obtain, Output, Text}
+use Rattle.vcm_code.specs.declared.op.Op.TheVariants.{Plain, If, Else, EndIf, Do, EndDo, Label, JumpTo, Meas, EndMes, Select, Case, EndCas, DftCas, EndSel, EndFil}
+use Rattle.vcm_code.specs.Code.{Op, Statement}
+use Rattle.vcm_code.specs.Words.{word_of}
 use Rattle.vcm_words.specs.Operands.{word_text, setting_text}
 use Rattle.vcm_report.specs.Printed.{in_a_row, name_at, stopped_line}
 use Rattle.vcm_console.specs.Replies.{variable_name, value_text}
@@ -38,11 +37,11 @@ line_front count number line word at =
 -- ---- what is told of a statement that did not stop
 
 -- which statement tells what
-abbrev pub told_of : Operation → Told
+abbrev pub told_of : Op → Told
 told_of EndFil = told.Nothing
-told_of (Goto x y z) = told.Moved
-told_of GoHome = told.Moved
-told_of (Assign v e) = told.Value v
+told_of (Plain (Goto x y z)) = told.Moved
+told_of (Plain GoHome) = told.Moved
+told_of (Plain (Assign v e)) = told.Value v
 told_of (If e to) = told.Next
 told_of (Else to) = told.Next
 told_of EndIf = told.Nothing
@@ -50,17 +49,17 @@ told_of (Do v p a b c exit) = told.Index v
 told_of (EndDo v p back) = told.Index v
 told_of Label = told.Nothing
 told_of (JumpTo to) = told.Next
-told_of (Feat f x y z toward) = told.Declared f
+told_of (Plain (Feat f x y z toward)) = told.Declared f
 told_of (Meas f) = told.Nothing
-told_of (PtMeas f x y z toward) = told.Measured f
+told_of (Plain (PtMeas f x y z toward)) = told.Measured f
 told_of EndMes = told.Nothing
-told_of (SnSet which e) = told.Length which
-told_of (Trans d x y z) = told.Framed d
-told_of (Rotate d axis quarters) = told.Framed d
-told_of (Recall d) = told.Framed d
-told_of (Obtain v source f word) = told.Value v
-told_of (Output source f) = told.Printed
-told_of (Text bs) = told.Printed
+told_of (Plain (SnSet which e)) = told.Length which
+told_of (Plain (Trans d x y z)) = told.Framed d
+told_of (Plain (Rotate d axis quarters)) = told.Framed d
+told_of (Plain (Recall d)) = told.Framed d
+told_of (Plain (Obtain v source f word)) = told.Value v
+told_of (Plain (Output source f)) = told.Printed
+told_of (Plain (Text bs)) = told.Printed
 told_of (Select e bs to) = told.Next
 told_of Case = told.Nothing
 told_of (EndCas to) = told.Next
@@ -130,17 +129,17 @@ told_text tables w next told.Nothing = []
 -- ---- whole lines
 
 -- what is told of a statement, and the end of the line
-abbrev pub done_end : Tables → World → (next : ℕ) → Operation → List ℕ
+abbrev pub done_end : Tables → World → (next : ℕ) → Op → List ℕ
 done_end tables w next op = told_text tables w next (told_of op) ++ codes "\n"
 
 -- the last field of a step's line, and its end: the stop's line where it stopped, otherwise what is told of the statement
-abbrev pub step_end : Tables → World → (next : ℕ) → Operation → Option StopPlace → List ℕ
+abbrev pub step_end : Tables → World → (next : ℕ) → Op → Option StopPlace → List ℕ
 step_end tables w next op (Some p) = stopped_line tables p
 step_end tables w next op None = done_end tables w next op
 
 -- the line of a step: how many steps were taken with it, the number of the statement that was carried out, this statement, and the state
 -- and the next statement's number behind it
-abbrev pub step_line : Tables → (count number : ℕ) → Line → World → (next : ℕ) → List ℕ
+abbrev pub step_line : Tables → (count number : ℕ) → Statement → World → (next : ℕ) → List ℕ
 step_line tables count number s w next =
     line_front count number s.line (word_text (word_of s.op)) w.position ++ step_end tables w next s.op w.stop
 

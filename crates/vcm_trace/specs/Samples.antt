@@ -12,6 +12,7 @@ use Rattle.vcm_spec.specs.Control.{is_zero, is_past, with_next_index}
 use Rattle.vcm_spec.specs.Samples.Parts.{one_block}
 use Rattle.vcm_code.specs.declared.version.Version.TheVariants.{One}
 use Rattle.vcm_code.specs.declared.code.Code.{Code}
+use Rattle.vcm_spec.specs.declared.simple.Simple.TheVariants.{Text}
 use Rattle.vcm_code.specs.declared.op.Op.TheVariants as ops
 use Rattle.vcm_report.specs.Printed.{in_a_row}
 use Rattle.vcm_trace.specs.Traces.{trace_text}
@@ -26,7 +27,7 @@ looping = record {
   version = One;
   tables = record { variables = record { name = codes "I"; kind = Int; expansion = 0 } ∷ []; features = []; frames = [] };
   statements =
-      record { line = 4; op = ops.Do 0 0 (whole 1) (whole 2) (whole 1) 3 } ∷ record { line = 5; op = ops.Text (codes "A,B") }
+      record { line = 4; op = ops.Do 0 0 (whole 1) (whole 2) (whole 1) 3 } ∷ record { line = 5; op = ops.Plain (Text (codes "A,B")) }
       ∷ record { line = 6; op = ops.EndDo 0 0 1 } ∷ record { line = 7; op = ops.EndFil } ∷ [];
 }
 

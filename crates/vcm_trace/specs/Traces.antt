@@ -6,9 +6,8 @@ use Rattle.vcm_spec.specs.declared.stop.StopPlace.{StopPlace}
 use Rattle.vcm_spec.specs.Workpiece.{Workpiece}
 use Rattle.vcm_spec.specs.Setup.{Setup, setup_of}
 use Rattle.vcm_code.specs.declared.code.Code.{Code}
-use Rattle.vcm_code.specs.Ops.{code_of, statements_of}
 use Rattle.vcm_code.specs.CodeTable.{CodeState, code_steps, code_effective, start}
-use Rattle.vcm_fields.specs.Parts.{Line}
+use Rattle.vcm_code.specs.Code.{Statement}
 use Rattle.vcm_machine.specs.declared.ran.End.TheVariants.{NoMemory}
 use Rattle.vcm_machine.specs.Running.{started, later, RunEnded}
 use Rattle.vcm_trace.specs.declared.tracing.TraceFault.{TraceFault}
@@ -21,14 +20,14 @@ setup_with part c = setup_of part c.tables
 
 -- the state of a code after so many steps from its start
 abbrev pub state_after : Workpiece → Code → ℕ → CodeState
-state_after part c n = code_steps (setup_with part c) (statements_of c.statements) n (start (setup_with part c))
+state_after part c n = code_steps (setup_with part c) c.statements n (start (setup_with part c))
 
 -- how many of so many steps are taken before it has stopped
 abbrev pub steps_taken : Workpiece → Code → ℕ → ℕ
-steps_taken part c n = code_effective (setup_with part c) (statements_of c.statements) n (start (setup_with part c))
+steps_taken part c n = code_effective (setup_with part c) c.statements n (start (setup_with part c))
 
 -- the line of a step at this statement, with which so many steps were taken, and behind which the state is this one
-abbrev pub line_at : Code → (count number : ℕ) → CodeState → Option Line → List ℕ
+abbrev pub line_at : Code → (count number : ℕ) → CodeState → Option Statement → List ℕ
 line_at c count number after None = []
 line_at c count number after (Some s) = step_line c.tables count number s after.world after.next
 
@@ -42,7 +41,7 @@ step_lines part c zero = []
 step_lines part c (suc k) = step_lines part c k ++ trace_line c (suc k) (state_after part c k) (state_after part c (suc k))
 
 -- the line of a state in which it has not stopped, after so many steps, before this statement
-abbrev pub open_at : ℕ → CodeState → Option Line → List ℕ
+abbrev pub open_at : ℕ → CodeState → Option Statement → List ℕ
 open_at count m None = []
 open_at count m (Some s) = open_line count m.next s.line m.world
 
@@ -69,7 +68,7 @@ pub record IsTraced (part : Workpiece) (c : Code) (n : ℕ) (stop : Option StopP
 -- memory was refused after so many steps of a run for n, at a statement that makes an output line and would not stop; the header and the
 -- lines of these steps were written
 pub record IsHalted (part : Workpiece) (c : Code) (n done : ℕ) (old new : Option (List ℕ)) : Type 0 where
-  pub halted : RunEnded n (started part (code_of c)) (later done (started part (code_of c))) done NoMemory
+  pub halted : RunEnded n (started part c) (later done (started part c)) done NoMemory
   pub written : Appends old new (trace_front part c done)
 
 -- what is written before the line of the last of so many steps: nothing before the header

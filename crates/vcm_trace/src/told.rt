@@ -5,7 +5,7 @@ ghost use Rattle.vcm_trace.specs.Lines.{told_of};
 
 use vcm_code::Op;
 use vcm_fields::BorrowedOp;
-use vcm_spec::Setting;
+use vcm_spec::{Setting, Simple};
 
 /// What is told of a statement. Variables, features and frames go by their indexes.
 #[derive(Clone, Copy)]
@@ -38,9 +38,9 @@ pub(crate) fn told_of(op: &BorrowedOp<'_>) -> Told
 {
     match op {
         Op::EndFil => Told::Nothing,
-        Op::Goto(_, _, _) => Told::Moved,
-        Op::GoHome => Told::Moved,
-        Op::Assign(variable, _) => Told::Value(*variable),
+        Op::Plain(Simple::Goto(_, _, _)) => Told::Moved,
+        Op::Plain(Simple::GoHome) => Told::Moved,
+        Op::Plain(Simple::Assign(variable, _)) => Told::Value(*variable),
         Op::If(_, _) => Told::Next,
         Op::Else(_) => Told::Next,
         Op::EndIf => Told::Nothing,
@@ -48,17 +48,17 @@ pub(crate) fn told_of(op: &BorrowedOp<'_>) -> Told
         Op::EndDo(variable, _, _) => Told::Index(*variable),
         Op::Label => Told::Nothing,
         Op::JumpTo(_) => Told::Next,
-        Op::Feat(feature, _, _, _, _) => Told::Declared(*feature),
+        Op::Plain(Simple::Feat(feature, _, _, _, _)) => Told::Declared(*feature),
         Op::Meas(_) => Told::Nothing,
-        Op::PtMeas(feature, _, _, _, _) => Told::Measured(*feature),
+        Op::Plain(Simple::PtMeas(feature, _, _, _, _)) => Told::Measured(*feature),
         Op::EndMes => Told::Nothing,
-        Op::SnSet(which, _) => Told::Length(*which),
-        Op::Trans(frame, _, _, _) => Told::Framed(*frame),
-        Op::Rotate(frame, _, _) => Told::Framed(*frame),
-        Op::Recall(frame) => Told::Framed(*frame),
-        Op::Obtain(variable, _, _, _) => Told::Value(*variable),
-        Op::Output(_, _) => Told::Printed,
-        Op::Text(_) => Told::Printed,
+        Op::Plain(Simple::SnSet(which, _)) => Told::Length(*which),
+        Op::Plain(Simple::Trans(frame, _, _, _)) => Told::Framed(*frame),
+        Op::Plain(Simple::Rotate(frame, _, _)) => Told::Framed(*frame),
+        Op::Plain(Simple::Recall(frame)) => Told::Framed(*frame),
+        Op::Plain(Simple::Obtain(variable, _, _, _)) => Told::Value(*variable),
+        Op::Plain(Simple::Output(_, _)) => Told::Printed,
+        Op::Plain(Simple::Text(_)) => Told::Printed,
         Op::Select(_, _, _) => Told::Next,
         Op::Case => Told::Nothing,
         Op::EndCas(_) => Told::Next,

@@ -1,7 +1,6 @@
 //! Runs that are written step by step.
 
 ghost use Rattle.std.specs.Prelude.{◌≡◌, ◌<◌, ◌+◌, ◌^◌, slice_get, IfOk, IfErr};
-ghost use Rattle.vcm_code.specs.Ops.{code_of};
 ghost use Rattle.vcm_machine.specs.Running.{started};
 ghost use Rattle.vcm_trace.specs.Lines.{step_line};
 ghost use Rattle.vcm_trace.specs.Traces.{open_at, IsTraced, IsNotTraced};
@@ -55,7 +54,7 @@ fn step_on<P: Part, W: Write>(
     done: u64,
     writer: &mut W,
 ) -> Result<(), TraceFault>
-    requires code { machine.old.code ≡ code_of loaded.now }
+    requires code { machine.old.code ≡ loaded.now }
     requires few { done + 1 < 2 ^ 64 }
     ensures { HasGone loaded.now done machine.old machine.new (W.contents writer.old) (W.contents writer.new) result }
 {
@@ -74,7 +73,7 @@ fn write_rest<P: Part, W: Write>(
     done: u64,
     writer: &mut W,
 ) -> Result<(), TraceFault>
-    requires { machine.now.code ≡ code_of loaded.now }
+    requires { machine.now.code ≡ loaded.now }
     ensures { WroteBehind done (W.contents writer.old) (W.contents writer.new)
         (open_at done machine.now.state (slice_get loaded.now.statements machine.now.state.next)) result }
 {
@@ -93,7 +92,7 @@ fn finish<P: Part, W: Write>(
     done: u64,
     writer: &mut W,
 ) -> Result<Option<StopPlace>, TraceFault>
-    requires { machine.now.code ≡ code_of loaded.now }
+    requires { machine.now.code ≡ loaded.now }
     ensures { HasEnded loaded.now done machine.now (W.contents writer.old) (W.contents writer.new) result }
 {
     match machine.world().stop() {
@@ -113,7 +112,7 @@ fn write_trace<P: Part, W: Write>(
     steps: u64,
     writer: &mut W,
 ) -> Result<Option<StopPlace>, TraceFault>
-    requires { machine.old ≡ started machine.old.part (code_of loaded.now) }
+    requires { machine.old ≡ started machine.old.part loaded.now }
     ensures traced { IfOk result (λ stop. IsTraced machine.old.part loaded.now steps stop (W.contents writer.old) (W.contents writer.new)) }
     ensures fault { IfErr result (λ f. IsNotTraced machine.old.part loaded.now steps f (W.contents writer.old) (W.contents writer.new)) }
 {

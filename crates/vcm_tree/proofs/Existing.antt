@@ -5,7 +5,7 @@ use Rattle.std.proofs.lemmas.List.{append-nil}
 use Rattle.vcm_lines.specs.declared.fault.FaultCode.{FaultCode}
 use Rattle.vcm_spec.specs.Phase.{IsClean}
 use Rattle.vcm_spec.specs.Expression.{Tree}
-use Rattle.vcm_spec.specs.Simple.{GoHome, Text}
+use Rattle.vcm_spec.specs.declared.simple.Simple.TheVariants.{GoHome, Text}
 use Rattle.vcm_spec.specs.Program.{Block, done}
 use Rattle.vcm_spec.specs.Setup.{Variable}
 use Rattle.vcm_expr.specs.Typing.{typed_for}

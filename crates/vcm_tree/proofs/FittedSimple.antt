@@ -5,7 +5,8 @@ use Rattle.vcm_num.specs.declared.number.Kind.{Kind}
 use Rattle.vcm_num.specs.declared.number.Kind.TheVariants as kind
 use Rattle.vcm_lines.specs.declared.fault.FaultCode.{FaultCode}
 use Rattle.vcm_spec.specs.Expression.{Tree, kind_of}
-use Rattle.vcm_spec.specs.Simple.{Simple, Goto, Assign, Feat, PtMeas, SnSet, Trans, Rotate, Recall, Obtain, Output}
+use Rattle.vcm_spec.specs.Simple.{Simple}
+use Rattle.vcm_spec.specs.declared.simple.Simple.TheVariants.{Goto, Assign, Feat, PtMeas, SnSet, Trans, Rotate, Recall, Obtain, Output}
 use Rattle.vcm_spec.specs.Words.{axis_number, quarters_number, word_number}
 use Rattle.vcm_spec.specs.declared.words.FrameAxis.{FrameAxis}
 use Rattle.vcm_spec.specs.declared.words.FrameAxis.TheVariants as axes

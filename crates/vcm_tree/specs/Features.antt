@@ -17,7 +17,8 @@ use Rattle.vcm_spec.specs.declared.words.Quarters.{Quarters}
 use Rattle.vcm_spec.specs.declared.words.Setting.{Setting}
 use Rattle.vcm_spec.specs.declared.words.Source.{Source as Side}
 use Rattle.vcm_spec.specs.Words.{axis_number, quarters_number, word_number}
-use Rattle.vcm_spec.specs.Simple.{Simple, Feat, PtMeas, SnSet, Trans, Rotate, Recall, Obtain, Output}
+use Rattle.vcm_spec.specs.Simple.{Simple}
+use Rattle.vcm_spec.specs.declared.simple.Simple.TheVariants.{Feat, PtMeas, SnSet, Trans, Rotate, Recall, Obtain, Output}
 use Rattle.vcm_spec.specs.Program.{is_same_name}
 use Rattle.vcm_expr.specs.declared.typing.Want.TheVariants as wants
 use Rattle.vcm_spec.specs.Setup.{Variable, kinds_of}

@@ -3,7 +3,8 @@ use Rattle.std.specs.Prelude.{◌≡◌, ℕ, ◌&&◌, is_some, Bool, true, fal
 use Rattle.vcm_lines.specs.declared.fault.FaultCode.{FaultCode}
 use Rattle.vcm_lines.specs.declared.fault.FaultCode.TheVariants.{MeasBody, Unbalanced}
 use Rattle.vcm_spec.specs.Expression.{Tree}
-use Rattle.vcm_spec.specs.Simple.{Simple, GoHome, Text}
+use Rattle.vcm_spec.specs.Simple.{Simple}
+use Rattle.vcm_spec.specs.declared.simple.Simple.TheVariants.{GoHome, Text}
 use Rattle.vcm_spec.specs.Program.{Label}
 use Rattle.vcm_spec.specs.Setup.{Variable}
 use Rattle.vcm_syntax.specs.declared.statement.Form.{Form}

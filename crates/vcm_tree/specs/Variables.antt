@@ -7,7 +7,8 @@ use Rattle.vcm_num.specs.declared.number.Kind.TheVariants as kinds
 use Rattle.vcm_lines.specs.declared.fault.FaultCode.{FaultCode}
 use Rattle.vcm_lines.specs.declared.fault.FaultCode.TheVariants.{DuplicateName, UnknownName, TooManyNames}
 use Rattle.vcm_spec.specs.Expression.{Tree}
-use Rattle.vcm_spec.specs.Simple.{Simple, Goto, Assign}
+use Rattle.vcm_spec.specs.Simple.{Simple}
+use Rattle.vcm_spec.specs.declared.simple.Simple.TheVariants.{Goto, Assign}
 use Rattle.vcm_expr.specs.declared.typing.Want.{Want}
 use Rattle.vcm_expr.specs.declared.typing.Want.TheVariants as wants
 use Rattle.vcm_spec.specs.Setup.{Variable, kinds_of}

@@ -2,7 +2,7 @@
 
 ghost use Rattle.std.specs.Prelude.{◌≡◌, Some, None, IfOk, IfErr};
 ghost use Rattle.vcm_lines.specs.Fault.{NoMemoryOr};
-ghost use Rattle.vcm_spec.specs.Simple.{Text};
+ghost use Rattle.vcm_spec.specs.declared.simple.Simple.TheVariants.{Text};
 ghost use Rattle.vcm_nodes.specs.Nodes.{action_of};
 ghost use Rattle.vcm_tree.specs.Resolving.{is_barred, is_in_block, acted, stated, resolved_here};
 ghost use Rattle.vcm_tree.specs.inner.Telling.{ToldAt};

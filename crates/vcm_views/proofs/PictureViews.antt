@@ -7,26 +7,25 @@ use Rattle.vcm_num.specs.Written.{AppendsFront}
 use Rattle.vcm_spec.specs.declared.stop.StopPlace.{StopPlace}
 use Rattle.vcm_spec.specs.Workpiece.{Workpiece}
 use Rattle.vcm_code.specs.declared.code.Code.{Code}
-use Rattle.vcm_code.specs.Ops.{code_of}
 use Rattle.vcm_machine.specs.declared.ran.End.TheVariants.{NoMemory}
 use Rattle.vcm_machine.specs.declared.ran.Ran.{Ran}
-use Rattle.vcm_machine.specs.Running.{started, later, RunEnded}
+use Rattle.vcm_machine.specs.Running.{started, RunEnded}
 use Rattle.vcm_state.specs.Held.{Held}
 use Rattle.vcm_job.specs.Jobs.{status_of}
 use Rattle.vcm_job.specs.declared.inputs.RunFault.{RunFault}
 use Rattle.vcm_job.specs.declared.inputs.RunFault.TheVariants as faults
 use Rattle.vcm_way.specs.declared.mark.Placed.{Placed}
 use Rattle.vcm_way.specs.Ways.{Kept}
-use Rattle.vcm_way.specs.Following.{way_after, HasFollowed}
+use Rattle.vcm_way.specs.Following.{HasFollowed}
 use Rattle.vcm_picture.specs.Picture.{sheet, picture_text}
 use Rattle.vcm_views.specs.declared.view.View.TheVariants as views
 use Rattle.vcm_views.specs.Views.{HasRunTo, picture_of, IsViewed, IsCutShort}
 use Rattle.vcm_views.specs.inner.Drawn.{IsDrawn, IsNotDrawn}
 
 module _ (w part : Workpiece) (same : w ≡ part) (c : Code) (n : ℕ) (held : Held) (ran : Ran) (way : Kept)
-    (followed : HasFollowed w (code_of c) n held ran way) (is_close : Bool) where
-  beside : HasFollowed part (code_of c) n held ran way
-  beside = subst (λ p. HasFollowed p (code_of c) n held ran way) same followed
+    (followed : HasFollowed w c n held ran way) (is_close : Bool) where
+  beside : HasFollowed part c n held ran way
+  beside = subst (λ p. HasFollowed p c n held ran way) same followed
 
   run_to : HasRunTo part c n held ran
   run_to = record {
@@ -86,8 +85,8 @@ module _ (w part : Workpiece) (same : w ≡ part) (c : Code) (n : ℕ) (held : H
 
   pub picture_halted : ran.end ≡ NoMemory → (old : Option (List ℕ)) → IsCutShort (views.Picture is_close) part c n (faults.Memory ran.done) old old
   picture_halted e old =
-      let ended : RunEnded n (started part (code_of c)) beside.new ran.done NoMemory = subst (λ x. RunEnded n (started part (code_of c)) beside.new ran.done x) e beside.has_run.ended in
-      (subst (λ m. RunEnded n (started part (code_of c)) m ran.done NoMemory) beside.has_run.new_is ended, Keeps-refl old)
+      let ended : RunEnded n (started part c) beside.new ran.done NoMemory = subst (λ x. RunEnded n (started part c) beside.new ran.done x) e beside.has_run.ended in
+      (subst (λ m. RunEnded n (started part c) m ran.done NoMemory) beside.has_run.new_is ended, Keeps-refl old)
 
 -- what was written of the marks that a way keeps
 module _ (part : Workpiece) (held : Held) (done : ℕ) (way : Kept) (is_close : Bool) (marks : List Placed) (left_out : ℕ)

@@ -4,7 +4,6 @@ use Rattle.std.proofs.Common.{◌≡◌, refl, subst}
 use Rattle.std.proofs.KnownBytes.{Keeps-refl}
 use Rattle.vcm_spec.specs.Workpiece.{Workpiece}
 use Rattle.vcm_code.specs.declared.code.Code.{Code}
-use Rattle.vcm_code.specs.Ops.{code_of}
 use Rattle.vcm_machine.specs.declared.ran.End.TheVariants.{NoMemory}
 use Rattle.vcm_machine.specs.declared.ran.Ran.{Ran}
 use Rattle.vcm_machine.specs.Running.{Running, started, RunEnded, HasRun}
@@ -17,9 +16,9 @@ use Rattle.vcm_views.specs.Views.{HasRunTo, IsViewed, IsCutShort}
 use Rattle.vcm_views.specs.inner.Told.{IsTold, IsNotTold}
 
 module _ (w part : Workpiece) (same : w ≡ part) (c : Code) (n : ℕ) (first new : Running) (ran : Ran)
-    (begun : first ≡ started w (code_of c)) (run : HasRun n first new ran) where
-  from_start : HasRun n (started part (code_of c)) new ran
-  from_start = subst (λ p. HasRun n (started p (code_of c)) new ran) same (subst (λ m. HasRun n m new ran) begun run)
+    (begun : first ≡ started w c) (run : HasRun n first new ran) where
+  from_start : HasRun n (started part c) new ran
+  from_start = subst (λ p. HasRun n (started p c) new ran) same (subst (λ m. HasRun n m new ran) begun run)
 
   module _ (held : Held) (state : held.state ≡ new.state.world) (tables : held.tables ≡ new.code.tables) (ample : ran.end ≡ NoMemory → ⊥) where
     run_to : HasRunTo part c n held ran
@@ -58,5 +57,5 @@ module _ (w part : Workpiece) (same : w ≡ part) (c : Code) (n : ℕ) (first ne
 
   pub run_halted : ran.end ≡ NoMemory → (old : Option (List ℕ)) → IsCutShort views.Margin part c n (faults.Memory ran.done) old old
   run_halted e old =
-      let ended : RunEnded n (started part (code_of c)) new ran.done NoMemory = subst (λ x. RunEnded n (started part (code_of c)) new ran.done x) e from_start.ended in
-      (subst (λ m. RunEnded n (started part (code_of c)) m ran.done NoMemory) from_start.new_is ended, Keeps-refl old)
+      let ended : RunEnded n (started part c) new ran.done NoMemory = subst (λ x. RunEnded n (started part c) new ran.done x) e from_start.ended in
+      (subst (λ m. RunEnded n (started part c) m ran.done NoMemory) from_start.new_is ended, Keeps-refl old)

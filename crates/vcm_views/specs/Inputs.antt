@@ -4,7 +4,6 @@ use Rattle.std.specs.Io.KnownBytes.{Keeps}
 use Rattle.vcm_spec.specs.Workpiece.{Workpiece}
 use Rattle.vcm_tree.specs.declared.program.Noticed.{Noticed}
 use Rattle.vcm_code.specs.declared.code.Code.{Code}
-use Rattle.vcm_code.specs.Ops.{code_of}
 use Rattle.vcm_code.specs.Valid.{IsValid}
 use Rattle.vcm_image.specs.Whole.{FitsImage, spelling}
 use Rattle.vcm_run.specs.Programs.{IsBuilt}
@@ -17,7 +16,7 @@ use Rattle.vcm_views.specs.Views.{IsViewed, IsCutShort}
 
 -- the bytes are the image of a valid code
 pub record IsImageOf (image : List ℕ) (c : Code) : Type 0 where
-  pub valid : IsValid (code_of c)
+  pub valid : IsValid c
   pub fits : FitsImage c
   pub spelled : image ≡ spelling c
 

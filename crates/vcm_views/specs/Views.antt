@@ -4,7 +4,6 @@ use Rattle.std.specs.Io.KnownBytes.{Appends, Keeps}
 use Rattle.vcm_num.specs.Written.{AppendsFront}
 use Rattle.vcm_spec.specs.Workpiece.{Workpiece}
 use Rattle.vcm_code.specs.declared.code.Code.{Code}
-use Rattle.vcm_code.specs.Ops.{code_of}
 use Rattle.vcm_machine.specs.declared.ran.End.TheVariants.{NoMemory}
 use Rattle.vcm_machine.specs.declared.ran.Ran.{Ran}
 use Rattle.vcm_machine.specs.Running.{Running, started, later, RunEnded, HasRun}
@@ -30,13 +29,13 @@ pub record IsTrace (part : Workpiece) (c : Code) (n : ℕ) (text : List ℕ) (st
 
 -- what is told of a run that came to the program's end: its margin; of any other run its result
 abbrev pub TellsMargin : Bool → Workpiece → Code → Held → ℕ → List ℕ → Type 0
-TellsMargin true part c held done text = (m : Margin) × (IsMargin part (code_of c) done m × (text ≡ margin_text held.tables m))
+TellsMargin true part c held done text = (m : Margin) × (IsMargin part c done m × (text ≡ margin_text held.tables m))
 TellsMargin false part c held done text = text ≡ result_text held done
 
 -- a run of a code for at most n steps came to this state, with the code's tables
 pub record HasRunTo (part : Workpiece) (c : Code) (n : ℕ) (held : Held) (ran : Ran) : Type 0 where
   pub new : Running
-  pub run : HasRun n (started part (code_of c)) new ran
+  pub run : HasRun n (started part c) new ran
   pub state : held.state ≡ new.state.world
   pub tables : held.tables ≡ new.code.tables
 
@@ -59,7 +58,7 @@ pub record IsPicture (part : Workpiece) (c : Code) (n : ℕ) (is_close : Bool) (
   pub ran : Ran
   pub run : HasRunTo part c n held ran
   pub ample : ran.end ≡ NoMemory → ⊥
-  pub text_is : text ≡ picture_of part held ran.done (way_after part (code_of c) ran.done) is_close
+  pub text_is : text ≡ picture_of part held ran.done (way_after part c ran.done) is_close
   pub status_is : status ≡ status_of held.state.stop
 
 -- a view of a code beside a workpiece, in a run for at most n steps
@@ -76,7 +75,7 @@ pub record IsViewed (view : View) (part : Workpiece) (c : Code) (n : ℕ) (statu
 
 -- a run for at most n steps was refused memory after so many of them
 abbrev pub IsHaltedAfter : Workpiece → Code → ℕ → ℕ → Type 0
-IsHaltedAfter part c n done = RunEnded n (started part (code_of c)) (later done (started part (code_of c))) done NoMemory
+IsHaltedAfter part c n done = RunEnded n (started part c) (later done (started part c)) done NoMemory
 
 -- what was written of a view in a run that was refused memory after so many steps: of a trace its lines so far, of a margin or a picture nothing
 abbrev pub WrittenSoFar : View → Workpiece → Code → ℕ → Option (List ℕ) → Option (List ℕ) → Type 0

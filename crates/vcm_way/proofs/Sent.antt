@@ -12,12 +12,14 @@ use Rattle.vcm_spec.specs.Frame.{direction, to_part}
 use Rattle.vcm_spec.specs.FirstTouch.{free_move, touch}
 use Rattle.vcm_spec.specs.Outcome.{Outcome, Gives, Stops, ◌>>=◌, calculated, point_at}
 use Rattle.vcm_spec.specs.Setup.{Setup}
-use Rattle.vcm_spec.specs.Simple.{Simple, Goto, GoHome, Assign, Feat, PtMeas, SnSet, Trans, Rotate, Recall, Obtain, Output, Text, evaluated}
+use Rattle.vcm_spec.specs.Simple.{Simple, evaluated}
+use Rattle.vcm_spec.specs.declared.simple.Simple.TheVariants.{Goto, GoHome, Assign, Feat, PtMeas, SnSet, Trans, Rotate, Recall, Obtain, Output, Text}
 use Rattle.vcm_spec.specs.Value.{items_value}
 use Rattle.vcm_spec.specs.Effect.{effect, carried_out, value_in, machine_point, measured_direction}
 use Rattle.vcm_spec.specs.World.{World}
 use Rattle.vcm_code.specs.declared.pair.Pair.{Pair}
-use Rattle.vcm_code.specs.Code.{Op, Plain, If, Else, EndIf, Do, EndDo, Label, JumpTo, Meas, EndMes, Select, Case, EndCas, DftCas, EndSel, EndFil}
+use Rattle.vcm_code.specs.Code.{Op}
+use Rattle.vcm_code.specs.declared.op.Op.TheVariants.{Plain, If, Else, EndIf, Do, EndDo, Label, JumpTo, Meas, EndMes, Select, Case, EndCas, DftCas, EndSel, EndFil}
 use Rattle.vcm_code.specs.CodeTable.{code_state, or_halt, do_op}
 use Rattle.vcm_way.specs.declared.task.Task.{Task}
 use Rattle.vcm_way.specs.declared.task.Task.TheVariants.{Nowhere, Straight, Measure}

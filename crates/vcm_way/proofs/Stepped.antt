@@ -10,7 +10,8 @@ use Rattle.vcm_spec.specs.Setup.{Setup}
 use Rattle.vcm_spec.specs.Stepping.{unless_stopped}
 use Rattle.vcm_spec.specs.Workpiece.{Workpiece}
 use Rattle.vcm_spec.specs.World.{Settings}
-use Rattle.vcm_code.specs.Code.{Statement, Code}
+use Rattle.vcm_code.specs.Code.{Statement}
+use Rattle.vcm_code.specs.declared.code.Code.{Code}
 use Rattle.vcm_code.specs.CodeTable.{CodeState, do_op, fetched, code_step, code_steps, start}
 use Rattle.vcm_machine.specs.Running.{Running, setup, later, started}
 use Rattle.vcm_machine.proofs.RunLemmas.{IsReached, goes}

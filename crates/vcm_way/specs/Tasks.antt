@@ -5,13 +5,15 @@ use Rattle.vcm_num.specs.Point.{coordinate}
 use Rattle.vcm_spec.specs.declared.stop.Stop.{Stop}
 use Rattle.vcm_spec.specs.Frame.{direction}
 use Rattle.vcm_spec.specs.Outcome.{Outcome, Gives, Stops, ◌>>=◌}
-use Rattle.vcm_spec.specs.Simple.{Simple, Goto, GoHome, PtMeas, evaluated}
+use Rattle.vcm_spec.specs.Simple.{Simple, evaluated}
+use Rattle.vcm_spec.specs.declared.simple.Simple.TheVariants.{Goto, GoHome, PtMeas}
 use Rattle.vcm_spec.specs.Value.{items_value}
 use Rattle.vcm_spec.specs.Effect.{machine_point, measured_direction, value_in}
 use Rattle.vcm_spec.specs.Touch.{centre_of}
 use Rattle.vcm_spec.specs.Workpiece.{Workpiece}
 use Rattle.vcm_spec.specs.World.{Settings, World}
-use Rattle.vcm_code.specs.Code.{Op, Plain}
+use Rattle.vcm_code.specs.Code.{Op}
+use Rattle.vcm_code.specs.declared.op.Op.TheVariants.{Plain}
 use Rattle.vcm_way.specs.declared.mark.Mark.{Mark}
 use Rattle.vcm_way.specs.declared.task.Task.{Task}
 use Rattle.vcm_way.specs.declared.task.Task.TheVariants.{Nowhere, Straight, Measure}

@@ -3,7 +3,6 @@
 ghost use Rattle.std.specs.Prelude.{◌≡◌, ◌≤◌, ◌<◌, ◌+◌, ◌^◌, true, false, List, [], None, IsTrue, IfOk, OnOk};
 ghost use Rattle.vcm_num.specs.Point.{is_near};
 ghost use Rattle.vcm_spec.specs.Workpiece.{IsValid};
-ghost use Rattle.vcm_code.specs.Ops.{code_of};
 ghost use Rattle.vcm_machine.specs.Running.{setup, started, WantsMemory, HasRun};
 ghost use Rattle.vcm_way.specs.declared.mark.Placed.{Placed as Stands};
 ghost use Rattle.vcm_way.specs.Following.{HasFollowed};
@@ -55,7 +54,7 @@ pub(crate) struct Before {
 
 // What is known before the next step.
 fn look<P: Part>(loaded: &Loaded<'_>, home: Point, machine: &Machine<'_, P>) -> Before
-    requires code { machine.now.code ≡ code_of loaded.now }
+    requires code { machine.now.code ≡ loaded.now }
     requires valid { IsValid machine.now.part }
     ensures { IsBefore home machine.now result }
 {
@@ -152,7 +151,7 @@ fn follow_step<'a, P: Part>(
 ) -> Result<bool, NoMemory>
     requires tie { P.part part.now ≡ blocks.now }
     requires part { machine.old.part ≡ blocks.now }
-    requires code { machine.old.code ≡ code_of loaded.now }
+    requires code { machine.old.code ≡ loaded.now }
     requires running { machine.old.state.world.stop ≡ None }
     requires counted { IsCounted marks.old }
     ensures done { IfOk result (λ b. b ≡ true → HasStepped step machine.old machine.new marks.old marks.new) }
@@ -183,7 +182,7 @@ fn follow_steps<'a, P: Part>(
     requires tie { P.part part.now ≡ blocks.now }
     requires most { most ≡ most_pieces }
     requires steps { steps ≤ 1000000000000000000 }
-    requires start { machine.old ≡ started (P.part part.now) (code_of loaded.now) }
+    requires start { machine.old ≡ started (P.part part.now) loaded.now }
     requires marks { StandsFor marks.old [] }
     ensures run { IfOk result (λ ran. HasRun steps machine.old machine.new ran) }
     ensures way { IfOk result (λ ran. StandsFor marks.new (whole_way (setup machine.old) machine.old.code.statements ran.done)) }
@@ -226,7 +225,7 @@ fn run_marked<'a, P: Part>(
     requires most { most ≡ most_pieces }
     requires steps { steps ≤ 1000000000000000000 }
     requires marks { StandsFor marks.old [] }
-    ensures marked { IfOk result (λ r. HasMarked (P.part part.now) (code_of loaded.now) steps r.0 r.1 marks.new) }
+    ensures marked { IfOk result (λ r. HasMarked (P.part part.now) loaded.now steps r.0 r.1 marks.new) }
     ensures fits { OnOk result (marks.new.left_out + marks.new.pieces < 2 ^ 64) }
 {
     let mut machine = Machine::new(alloc, loaded, part)?;
@@ -262,7 +261,7 @@ pub fn follow<'a, P: Part>(
 ) -> Result<Followed, NoMemory>
     requires tie { P.part part.now ≡ blocks.now }
     requires steps { steps ≤ 1000000000000000000 }
-    ensures { IfOk result (λ f. HasFollowed (P.part part.now) (code_of loaded.now) steps f.world f.ran f.way) }
+    ensures { IfOk result (λ f. HasFollowed (P.part part.now) loaded.now steps f.world f.ran f.way) }
 {
     let most = MOST_PIECES;
     let mut marks = Marks::new(alloc);

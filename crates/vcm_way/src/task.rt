@@ -6,19 +6,18 @@ ghost use Rattle.vcm_num.specs.declared.point.Point.{Point as Place};
 ghost use Rattle.vcm_spec.specs.Effect.{measured_direction};
 ghost use Rattle.vcm_spec.specs.Fitting.{AreLengths};
 ghost use Rattle.vcm_spec.specs.Outcome.{Answers, calculated};
-ghost use Rattle.vcm_spec.specs.Simple.{Goto, PtMeas};
+ghost use Rattle.vcm_spec.specs.declared.simple.Simple.TheVariants.{Goto, PtMeas};
 ghost use Rattle.vcm_spec.specs.Value.{items_value};
-ghost use Rattle.vcm_code.specs.Code.{Plain};
-ghost use Rattle.vcm_code.specs.Ops.{op_of};
-ghost use Rattle.vcm_code.specs.Valid.{HasItems, OpFits};
+ghost use Rattle.vcm_code.specs.declared.op.Op.TheVariants.{Plain};
+ghost use Rattle.vcm_code.specs.Checks.{HasItems, OpFits};
 ghost use Rattle.vcm_way.specs.Tasks.{task_of};
 ghost use Rattle.vcm_way.specs.inner.Told.{point_in};
 
 use vcm_code::Op;
-use vcm_fields::{BorrowedOp, ItemSlice};
+use vcm_fields::{BorrowedOp, ItemSlice, TextSlice};
 use vcm_loader::items_value;
 use vcm_num::{Axis, Fault, Point};
-use vcm_spec::{Missing, Stop};
+use vcm_spec::{Missing, Simple, Stop};
 use vcm_state::World;
 
 /// A measurement: the machine point of the nominal place, the direction that the tip comes from, and the index of the feature.
@@ -121,15 +120,26 @@ fn measure(
     }
 }
 
+// Where a simple statement does.
+fn simple_task(world: &World, home: Point, what: &Simple<ItemSlice<'_>, TextSlice<'_>>) -> Task
+    requires { (count : ℕ) × OpFits world.now.tables count (Plain what.now) }
+    ensures { result ≡ task_of home world.now.state (Plain what.now) }
+{
+    match what {
+        Simple::Goto(x, y, z) => straight(world, x, y, z),
+        Simple::GoHome => Task::Straight(home),
+        Simple::PtMeas(feature, x, y, z, toward) => measure(world, *feature, x, y, z, *toward),
+        _ => Task::Nowhere,
+    }
+}
+
 /// Where a statement sends the probe, from a state of the machine; nowhere, where it stops before that is known.
 pub(crate) fn task_of(world: &World, home: Point, op: &BorrowedOp<'_>) -> Task
-    requires { (count : ℕ) × OpFits world.now.tables count (op_of op.now) }
-    ensures { result ≡ task_of home world.now.state (op_of op.now) }
+    requires { (count : ℕ) × OpFits world.now.tables count op.now }
+    ensures { result ≡ task_of home world.now.state op.now }
 {
     match op {
-        Op::Goto(x, y, z) => straight(world, x, y, z),
-        Op::GoHome => Task::Straight(home),
-        Op::PtMeas(feature, x, y, z, toward) => { measure(world, *feature, x, y, z, *toward) }
+        Op::Plain(what) => simple_task(world, home, what),
         _ => Task::Nowhere,
     }
 }

@@ -2,9 +2,9 @@
 use Rattle.std.proofs.Common.{◌≡◌, ℕ, List, [], ◌∷◌, Bool, Option, Some, None, Result, Ok, Err, refl, sym, ap, ◌∙◌}
 use Rattle.vcm_code.specs.Copies.{listed}
 use Rattle.vcm_code.proofs.Copies.{same_op}
-use Rattle.vcm_fields.specs.declared.word.Word.{Word}
-use Rattle.vcm_fields.specs.Parts.{Operation}
-use Rattle.vcm_fields.specs.Shape.{Place, Form, form, form_of, made}
+use Rattle.vcm_code.specs.declared.word.Word.{Word}
+use Rattle.vcm_code.specs.Code.{Op}
+use Rattle.vcm_code.specs.Shape.{Place, Form, form, form_of, made}
 use Rattle.vcm_fields.specs.Readers.{From, both as both_by, via as via_by, filled_by, form_by, operands_by}
 use Rattle.vcm_words.specs.WordReaders.{Reader, both, via}
 use Rattle.vcm_words.specs.Operands.{spelling, filled_at, form_at, operands_at}
@@ -32,23 +32,23 @@ operands_same : (exact : Bool) (w : Word) (ws : List (List ℕ)) → operands_by
 unfolding operands_by operands_at
 operands_same exact w ws = form_same exact (form_of w) ws
 
-was_some : (exact : Bool) (o : Option (Operation × List (List ℕ))) (x : Operation) (l : LeftWords) → or_refused exact o ≡ Ok (x, l) → o ≡ Some (x, l.1)
+was_some : (exact : Bool) (o : Option (Op × List (List ℕ))) (x : Op) (l : LeftWords) → or_refused exact o ≡ Ok (x, l) → o ≡ Some (x, l.1)
 was_some exact None x l e = absurd cc
-was_some exact (Some y) x l e = ap (λ (r : Result (Operation × LeftWords) (Unit {0})). words_of r) e
+was_some exact (Some y) x l e = ap (λ (r : Result (Op × LeftWords) (Unit {0})). words_of r) e
   where
-    words_of : Result (Operation × LeftWords) (Unit {0}) → Option (Operation × List (List ℕ))
+    words_of : Result (Op × LeftWords) (Unit {0}) → Option (Op × List (List ℕ))
     words_of (Ok z) = Some (z.0, z.1.1)
     words_of (Err u) = None
 
-was_none : (exact : Bool) (o : Option (Operation × List (List ℕ))) (u : Unit {0}) → or_refused exact o ≡ Err u → o ≡ None
+was_none : (exact : Bool) (o : Option (Op × List (List ℕ))) (u : Unit {0}) → or_refused exact o ≡ Err u → o ≡ None
 was_none exact None u e = refl
 was_none exact (Some y) u e = absurd cc
 
 -- what was read so is what the words say
-pub were_read : (exact : Bool) (w : Word) (ws : List (List ℕ)) (o : Operation) (l : LeftWords)
+pub were_read : (exact : Bool) (w : Word) (ws : List (List ℕ)) (o : Op) (l : LeftWords)
     → operands_by place_in w (exact, ws) ≡ Ok (listed (λ e. e) (λ t. t) (λ b. b) o, l) → operands_at exact w ws ≡ Some (o, l.1)
 were_read exact w ws o l e =
-    was_some exact (operands_at exact w ws) o l (sym (operands_same exact w ws) ∙ e ∙ ap (λ (x : Operation). Ok (x, l)) (same_op o))
+    was_some exact (operands_at exact w ws) o l (sym (operands_same exact w ws) ∙ e ∙ ap (λ (x : Op). Ok (x, l)) (same_op o))
 
 pub were_refused : (exact : Bool) (w : Word) (ws : List (List ℕ)) (u : Unit {0}) → operands_by place_in w (exact, ws) ≡ Err u → operands_at exact w ws ≡ None
 were_refused exact w ws u e = was_none exact (operands_at exact w ws) u (sym (operands_same exact w ws) ∙ e)

@@ -39,6 +39,14 @@ pub record Reads {A : Type 0} (at : Reader A) (spell : A → List (List ℕ)) (P
   pub again : (x : A) (rest : List (List ℕ)) → P x → at (spell x ++ rest) ≡ Some (x, rest)
   pub words : (x : A) → P x → AllByRecursion IsWord (spell x)
 
+-- so with what is as much as P
+pub reads_as : {A : Type 0} {a : Reader A} {s : A → List (List ℕ)} {P : A → Type 0} → Reads a s P → (Q : A → Type 0) → ((x : A) → P x → Q x) → ((x : A) → Q x → P x) → Reads a s Q
+reads_as r Q fitted back = record {
+  takes = λ ws x bare e. (let t = r.takes ws x bare e in (t.0, fitted x.0 t.1));
+  again = λ x rest h. r.again x rest (back x h);
+  words = λ x h. r.words x (back x h);
+}
+
 -- the same of a value that takes all that is left
 pub record Ends {A : Type 0} (at : Reader A) (spell : A → List (List ℕ)) (P : A → Type 0) : Type 0 where
   pub takes : (ws : List (List ℕ)) (x : A × List (List ℕ)) → Bare ws → at ws ≡ Some x → (ws ≡ spell x.0 ++ x.1) × P x.0

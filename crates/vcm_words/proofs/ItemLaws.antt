@@ -1,5 +1,5 @@
 -- Items and expressions: what is read is spelled so, and what is spelled so is read again.
-use Rattle.std.proofs.Common.{◌≡◌, ℕ, zero, suc, ◌<◌, ◌^◌, true, false, inl, inr, List, ◌∷◌, length, Some, None, refl, sym, ap, ◌∙◌, subst, arith, IsTrue}
+use Rattle.std.proofs.Common.{◌≡◌, ℕ, zero, suc, ◌<◌, ◌^◌, true, false, inl, inr, List, ◌∷◌, length, Some, None, refl, sym, ap, ◌∙◌, subst, arith}
 use Rattle.std.specs.Prelude.{decimal}
 use Rattle.std.specs.Fmt.{signed_decimal}
 use Rattle.std.specs.List.{AllByRecursion}
@@ -11,7 +11,10 @@ use Rattle.vcm_spec.specs.declared.expression.Relation.TheVariants.{Equal}
 use Rattle.vcm_spec.specs.declared.expression.BinaryOp.TheVariants.{Compare}
 use Rattle.vcm_spec.specs.declared.expression.Item.{Item}
 use Rattle.vcm_spec.specs.declared.expression.Item.TheVariants.{Push, Apply, Combine}
-use Rattle.vcm_fields.specs.Fitting.{within, FitsOperand, FitsItem, FitsExpression}
+use Rattle.vcm_fields.specs.inner.Fitting.{FitsExpression}
+use Rattle.vcm_fields.proofs.ItemParts.{in_range, range_in}
+use Rattle.vcm_fields.specs.Readers.{within}
+use Rattle.vcm_fields.specs.Widths.{FitsOperand, FitsItem}
 use Rattle.vcm_words.specs.Numbers.{natural, number, signed, counted}
 use Rattle.vcm_num.specs.Words.{look_up}
 use Rattle.vcm_words.specs.WordReaders.{marked, rows_of}
@@ -119,11 +122,8 @@ means_item = record { takes = item_takes; again = item_again; words = λ i h. (i
 reads_bracketed : Reads (between 91 93 (item_in true)) expression (SomeOf FitsItem)
 reads_bracketed = reads_between 91 93 ((refl, refl), (refl, refl)) means_item (λ i h. (item_plain i h).1)
 
-within_some : (is : List Item) → IsTrue (within 1 1024 (length is)) → 0 < length is
-within_some is h = grind arith
-
 -- an expression of 1 to 1,024 items
 pub reads_expression : Reads (expression_at true) expression FitsExpression
 unfolding expression_at
 reads_expression = reads_tested reads_bracketed (λ is. counted true (within 1 1024 (length is))) FitsExpression
-    (λ is h e. (e, h.1)) (λ is h. ((within_some is h.0, h.1), h.0))
+    (λ is h e. (in_range 1 1024 (length is) e, h.1)) (λ is h. ((omega (arith, h.0.0), h.1), range_in 1 1024 (length is) h.0))

@@ -6,14 +6,15 @@ use Rattle.vcm_spec.specs.declared.words.Setting.TheVariants.{Approach}
 use Rattle.vcm_spec.specs.declared.expression.Operand.TheVariants.{Truth}
 use Rattle.vcm_spec.specs.declared.expression.Item.TheVariants.{Push}
 use Rattle.vcm_code.specs.declared.version.Version.{Version}
-use Rattle.vcm_fields.specs.declared.word.Word.{Word}
-use Rattle.vcm_fields.specs.declared.word.Word.TheVariants as words
-use Rattle.vcm_code.specs.declared.op.Op.TheVariants.{SnSet}
-use Rattle.vcm_fields.specs.Parts.{Operation}
-use Rattle.vcm_fields.specs.Words.{word_of}
-use Rattle.vcm_fields.specs.Fitting.{FitsFilled, FitsParted, FitsOperation, FitsLine}
-use Rattle.vcm_fields.specs.Shape.{Filled, Form, form, form_of, places_in, made_in, places, op_in, Parted, parted, word_in, put_together, taken_apart, over_places, over_parted}
-use Rattle.vcm_fields.proofs.Shapes.{apart_made, together_apart}
+use Rattle.vcm_code.specs.declared.word.Word.{Word}
+use Rattle.vcm_code.specs.declared.word.Word.TheVariants as words
+use Rattle.vcm_spec.specs.declared.simple.Simple.TheVariants.{SnSet}
+use Rattle.vcm_code.specs.declared.op.Op.TheVariants.{Plain}
+use Rattle.vcm_code.specs.Code.{Op}
+use Rattle.vcm_code.specs.Words.{word_of}
+use Rattle.vcm_fields.specs.inner.Fitting.{FitsPlace, FitsOperation, FitsLine}
+use Rattle.vcm_code.specs.Shape.{Filled, Form, form, form_of, places_in, made_in, places, op_in, Parted, parted, word_in, put_together, taken_apart, over_places, over_parted, InPlaces, InParted}
+use Rattle.vcm_code.proofs.Shapes.{apart_made, together_apart}
 use Rattle.vcm_words.specs.inner.Marks.{IsWord}
 use Rattle.vcm_words.specs.WordReaders.{via}
 use Rattle.vcm_words.specs.Operands.{single, word_text, place_words, filled_at, operands, form_at, operands_at, line, op_at, line_at}
@@ -21,7 +22,7 @@ use Rattle.vcm_words.proofs.Inverse.{Ends, Bare, via_takes, via_again, ends_via,
 use Rattle.vcm_words.proofs.PlaceLaws.{in_order, ends_filled, Has, reads_number, reads_word}
 
 -- a worked example: the operands of SNSET are the word of the setting and an expression
-example_words : operands (SnSet Approach (Push (Truth true) ∷ [])) ≡ codes "APPRCH" ∷ codes "[B1]" ∷ []
+example_words : operands (Plain (SnSet Approach (Push (Truth true) ∷ []))) ≡ codes "APPRCH" ∷ codes "[B1]" ∷ []
 example_words = refl
 
 -- ---- operands
@@ -30,11 +31,11 @@ ordered : (w : Word) → in_order (places w) ≡ true
 ordered words.EndFil = refl
 ordered _ = refl
 
-ends_places : (w : Word) → Ends (filled_at true (places w)) (over_places place_words (places w)) (FitsFilled (places w))
+ends_places : (w : Word) → Ends (filled_at true (places w)) (over_places place_words (places w)) (InPlaces FitsPlace (places w))
 ends_places w = ends_filled (places w) (ordered w)
 
 -- an operation of this word that fits
-Of : Word → Operation → Type 0
+Of : Word → Op → Type 0
 Of w o = (word_of o ≡ w) × FitsOperation o
 
 -- a form is read place by place
@@ -45,24 +46,24 @@ operands_are : (w : Word) (ws : List (List ℕ)) → operands_at true w ws ≡ v
 unfolding operands_at
 operands_are w ws = form_is true (form_of w) ws
 
-made_fits : (w : Word) (f : Filled (places w)) → FitsFilled (places w) f → Of w (op_in w f)
+made_fits : (w : Word) (f : Filled (places w)) → InPlaces FitsPlace (places w) f → Of w (op_in w f)
 unfolding Of
-made_fits w f h = (ap word_in (apart_made w f), subst FitsParted (sym (apart_made w f)) h)
+made_fits w f h = (ap word_in (apart_made w f), subst (InParted FitsPlace) (sym (apart_made w f)) h)
 
-operands_take : (w : Word) (ws : List (List ℕ)) (x : Operation × List (List ℕ)) → Bare ws → operands_at true w ws ≡ Some x → (ws ≡ operands x.0 ++ x.1) × Of w x.0
+operands_take : (w : Word) (ws : List (List ℕ)) (x : Op × List (List ℕ)) → Bare ws → operands_at true w ws ≡ Some x → (ws ≡ operands x.0 ++ x.1) × Of w x.0
 operands_take w ws x bare e =
     via_takes (ends_places w) (op_in w) operands (Of w) (λ f h. ap (over_parted place_words) (apart_made w f)) (made_fits w) ws x bare (sym (operands_are w ws) ∙ e)
 
-parted_again : (p : Parted) → FitsParted p → operands_at true (word_in p) (over_parted place_words p ++ []) ≡ Some (put_together p, [])
+parted_again : (p : Parted) → InParted FitsPlace p → operands_at true (word_in p) (over_parted place_words p ++ []) ≡ Some (put_together p, [])
 parted_again (parted w f) h = operands_are w (over_places place_words (places w) f ++ []) ∙ via_again (ends_places w) (op_in w) f h
 
-operands_again : (o : Operation) → FitsOperation o → operands_at true (word_of o) (operands o ++ []) ≡ Some (o, [])
-operands_again o h = parted_again (taken_apart o) h ∙ ap (λ (y : Operation). Some (y, [])) (together_apart o)
+operands_again : (o : Op) → FitsOperation o → operands_at true (word_of o) (operands o ++ []) ≡ Some (o, [])
+operands_again o h = parted_again (taken_apart o) h ∙ ap (λ (y : Op). Some (y, [])) (together_apart o)
 
-parted_words : (p : Parted) → FitsParted p → AllByRecursion IsWord (over_parted place_words p)
+parted_words : (p : Parted) → InParted FitsPlace p → AllByRecursion IsWord (over_parted place_words p)
 parted_words (parted w f) h = (ends_places w).words f h
 
-operands_words : (o : Operation) → FitsOperation o → AllByRecursion IsWord (operands o)
+operands_words : (o : Op) → FitsOperation o → AllByRecursion IsWord (operands o)
 operands_words o h = parted_words (taken_apart o) h
 
 ends_operands : (w : Word) → Ends (operands_at true w) operands (Of w)
@@ -75,7 +76,7 @@ ends_operands w = record {
 
 -- ---- statements
 
-FitsOp : Version → Operation → Type 0
+FitsOp : Version → Op → Type 0
 FitsOp version o = Has version (word_of o) × FitsOperation o
 
 ends_op : (version : Version) → Ends (op_at version true) (λ o. single (word_text (word_of o)) ++ operands o) (FitsOp version)

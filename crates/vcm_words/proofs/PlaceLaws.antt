@@ -4,15 +4,16 @@ use Rattle.std.specs.Prelude.{decimal}
 use Rattle.std.proofs.lemmas.Bool.{and_parts}
 use Rattle.vcm_spec.specs.declared.expression.Item.{Item}
 use Rattle.vcm_code.specs.declared.version.Version.{Version}
-use Rattle.vcm_fields.specs.declared.word.Word.{Word}
-use Rattle.vcm_fields.specs.Words.{has_word}
-use Rattle.vcm_fields.specs.Fitting.{within, FitThree, FitsPlace, FitsFilled}
-use Rattle.vcm_fields.specs.Shape.{Place, Said, Filled, axes, directions, settings, sources, all_words, over_places}
-use Rattle.vcm_fields.specs.Shape as at
+use Rattle.vcm_code.specs.declared.word.Word.{Word}
+use Rattle.vcm_code.specs.Words.{has_word}
+use Rattle.vcm_fields.specs.inner.Fitting.{FitThree, FitsPlace}
+use Rattle.vcm_fields.proofs.ItemParts.{in_range}
+use Rattle.vcm_code.specs.Shape.{Place, Said, Filled, axes, directions, settings, sources, all_words, over_places, InPlaces}
+use Rattle.vcm_code.specs.Shape as at
 use Rattle.vcm_words.specs.Numbers.{number, counted, only_if}
-use Rattle.vcm_words.specs.WordReaders.{◌>>=◌, Spelling}
+use Rattle.vcm_words.specs.WordReaders.{◌>>=◌, Reader, Spelling}
 use Rattle.vcm_words.specs.Operands.{single, number_text, number_at, axis_text, direction_text, setting_text, source_text, word_text, three, three_at, behind, spelling, place_words, filled_at, any_word_at, word_at}
-use Rattle.vcm_words.proofs.Inverse.{Means, Reads, Ends, ends, bind_some, some_is, only_met, reads_one, reads_both, reads_tested, ends_both}
+use Rattle.vcm_words.proofs.Inverse.{Means, Reads, Ends, ends, bind_some, some_is, only_met, reads_as, reads_one, reads_both, reads_tested, ends_both}
 use Rattle.vcm_words.proofs.NumberLaws.{means_number}
 use Rattle.vcm_words.proofs.WordLaws.{means_marked}
 use Rattle.vcm_words.proofs.TableLaws.{turned, Any, means_any, means_turn, axis_row, direction_row, setting_row, source_row, word_row}
@@ -33,7 +34,7 @@ reads_behind : (letter limit : ℕ) → (letter == 32) ≡ false → (letter == 
 reads_behind letter limit h g l = reads_one (means_marked letter h g (means_number limit l))
 
 IsPart : ℕ → Type 0
-IsPart n = IsTrue (within 3 8 n)
+IsPart n = (3 ≤ n) × (n ≤ 8)
 
 means_part : Means (λ w. number true 9 w >>= λ n. only_if (counted true (nat_le 3 n)) n) decimal IsPart
 unfolding IsPart
@@ -45,12 +46,12 @@ means_part = record {
       let t = m.takes w p.0 p.1 in
       let small : p.0 < 9 = t.1 in
       let large : nat_le 3 p.0 ≡ true = g.0 in
-      let both : IsTrue (within 3 8 p.0) = grind arith in
-      subst (λ (k : ℕ). (w ≡ decimal k) × IsTrue (within 3 8 k)) g.1 (t.0, both);
+      let both = in_range 3 8 p.0 (grind arith) in
+      subst (λ (k : ℕ). (w ≡ decimal k) × ((3 ≤ k) × (k ≤ 8))) g.1 (t.0, both);
   again = λ n h.
       let m = means_number 9 (omega arith) in
-      let small : n < 9 = grind arith in
-      let large : nat_le 3 n ≡ true = grind arith in
+      let small : n < 9 = omega (arith, h.1) in
+      let large : nat_le 3 n ≡ true = grind (arith, h.0) in
       rw (m.again n small, large) refl;
   words = λ n h. let m = means_number 9 (omega arith) in let small : n < 9 = grind arith in m.words n small;
 }
@@ -61,7 +62,8 @@ FitsTriple t = FitThree t.0 t.1.0 t.1.1
 
 reads_three : Reads (three_at true) three FitsTriple
 unfolding three_at FitsTriple
-reads_three = reads_both reads_expression (reads_both reads_expression reads_expression)
+reads_three = reads_as (reads_both reads_expression (reads_both reads_expression reads_expression)) FitsTriple
+    (λ t h. ((h.0.0, h.1.0.0, h.1.1.0), (h.0.1, h.1.0.1, h.1.1.1))) (λ t h. ((h.0.0, h.1.0), ((h.0.1, h.1.1), (h.0.2, h.1.2))))
 
 -- ---- places
 
@@ -70,28 +72,37 @@ abbrev is_text : Place → Bool
 is_text at.text = true
 is_text _ = false
 
+-- what is in range whatever its width, and what has its width whatever it is
+module _ {A : Type 0} {a : Reader A} {s : A → List (List ℕ)} {P : A → Type 0} (r : Reads a s P) where
+  ranged : Reads a s (λ x. P x × Unit {0})
+  ranged = reads_as r (λ x. P x × Unit {0}) (λ x h. (h, tt)) (λ x h. h.0)
+
+  wide : Reads a s (λ x. Unit {0} × P x)
+  wide = reads_as r (λ x. Unit {0} × P x) (λ x h. (tt, h)) (λ x h. h.1)
+
 reads_place : (p : Place) → is_text p ≡ false → Undo (spelling p) (FitsPlace p)
 unfolding Any IsPart FitsTriple
-reads_place (at.variable k) h = reads_behind 86 (2 ^ 16) refl refl (omega arith)
-reads_place at.feature h = reads_behind 70 (2 ^ 16) refl refl (omega arith)
-reads_place at.frame h = reads_behind 68 (2 ^ 16) refl refl (omega arith)
-reads_place at.pair h = reads_behind 76 32 refl refl (omega arith)
-reads_place at.target h = reads_behind 64 (2 ^ 32) refl refl (omega arith)
+reads_place (at.variable k) h = wide (reads_behind 86 (2 ^ 16) refl refl (omega arith))
+reads_place at.feature h = wide (reads_behind 70 (2 ^ 16) refl refl (omega arith))
+reads_place at.frame h = wide (reads_behind 68 (2 ^ 16) refl refl (omega arith))
+reads_place at.pair h = ranged (reads_behind 76 32 refl refl (omega arith))
+reads_place at.target h = wide (reads_behind 64 (2 ^ 32) refl refl (omega arith))
 reads_place (at.items k) h = reads_expression
 reads_place (at.three k) h = reads_three
-reads_place at.assigned h = reads_both (reads_behind 86 (2 ^ 16) refl refl (omega arith)) reads_expression
-reads_place at.axis h = reads_one (means_any axis_text axes axis_row)
-reads_place at.direction h = reads_one (means_any direction_text directions direction_row)
-reads_place at.setting h = reads_one (means_any setting_text settings setting_row)
-reads_place at.source h = reads_one (means_any source_text sources source_row)
-reads_place at.turn h = reads_one means_turn
-reads_place at.quarters h = reads_number 4 (omega arith)
-reads_place at.part h = reads_one means_part
+reads_place at.assigned h =
+    reads_as (reads_both (reads_behind 86 (2 ^ 16) refl refl (omega arith)) reads_expression) (FitsPlace at.assigned) (λ o h. (h.1.0, (h.0, h.1.1))) (λ o h. (h.1.0, (h.0, h.1.1)))
+reads_place at.axis h = wide (reads_one (means_any axis_text axes axis_row))
+reads_place at.direction h = wide (reads_one (means_any direction_text directions direction_row))
+reads_place at.setting h = wide (reads_one (means_any setting_text settings setting_row))
+reads_place at.source h = wide (reads_one (means_any source_text sources source_row))
+reads_place at.turn h = ranged (reads_one means_turn)
+reads_place at.quarters h = ranged (reads_number 4 (omega arith))
+reads_place at.part h = ranged (reads_one means_part)
 reads_place at.text h = absurd cc
 reads_place at.branches h = reads_branches
 
 ends_place : (p : Place) → Ends ((spelling p).at true) (spelling p).words (FitsPlace p)
-ends_place at.text = ends_text
+ends_place at.text = record { takes = λ ws x bare e. (let t = ends_text.takes ws x bare e in (t.0, (t.1, tt))); again = λ x h. ends_text.again x h.0; words = λ x h. ends_text.words x h.0 }
 ends_place p = ends (reads_place p refl)
 
 -- ---- places, one behind the other
@@ -102,7 +113,7 @@ in_order [] = true
 in_order (p ∷ []) = true
 in_order (p ∷ q ∷ ps) = not (is_text p) && in_order (q ∷ ps)
 
-pub ends_filled : (ps : List Place) → in_order ps ≡ true → Ends (filled_at true ps) (over_places place_words ps) (FitsFilled ps)
+pub ends_filled : (ps : List Place) → in_order ps ≡ true → Ends (filled_at true ps) (over_places place_words ps) (InPlaces FitsPlace ps)
 ends_filled [] h = record {
   takes = λ ws x bare e. (ap (λ (y : Unit {0} × List (List ℕ)). y.1) (some_is (tt, ws) x e), tt);
   again = λ f g. refl;

@@ -12,8 +12,8 @@ use Rattle.vcm_code.specs.declared.version.Version.{Version}
 use Rattle.vcm_expr.specs.NameBytes.{is_name_byte, is_name, IsName}
 use Rattle.vcm_expr.specs.Symbols.{is_variable_name, IsVariableName}
 use Rattle.vcm_expr.proofs.NameLemmas.{variable_name_is_name}
-use Rattle.vcm_fields.specs.Parts.{Line}
-use Rattle.vcm_fields.specs.Fitting.{FitsEntry, FitsLine}
+use Rattle.vcm_code.specs.Code.{Statement}
+use Rattle.vcm_fields.specs.inner.Fitting.{FitsEntry, FitsLine}
 use Rattle.vcm_words.specs.declared.row.Row.TheVariants.{Head, Variable, Feature, Frame, Numbered}
 use Rattle.vcm_words.specs.declared.row.Heading.{Heading}
 use Rattle.vcm_words.specs.declared.row.Heading.TheVariants as headings
@@ -23,7 +23,7 @@ use Rattle.vcm_words.specs.Numbers.{only_if}
 use Rattle.vcm_num.specs.Words.{look_up}
 use Rattle.vcm_words.specs.WordReaders.{Reader, one, via, ended, rows_of}
 use Rattle.vcm_words.specs.Operands.{single, number_text, line}
-use Rattle.vcm_fields.specs.Shape.{kinds}
+use Rattle.vcm_code.specs.Shape.{kinds}
 use Rattle.vcm_words.specs.Rows.{ListRow, version_text, versions, kind_text, heading_text, all_headings, row_words, row_text, version_at, entry_at, indexed_at, numbered_at, row_after, row_at, row_of}
 use Rattle.vcm_words.specs.inner.Fitting.{FitsRow}
 use Rattle.vcm_words.proofs.Cuts.{joined-split, split-joined, split_without}
@@ -103,7 +103,7 @@ ends_indexed : Ends (indexed_at true) (λ o. number_text o.0 ++ single o.1) Fits
 unfolding indexed_at FitsIndexed
 ends_indexed = ends (reads_both (reads_number (2 ^ 32) (omega arith)) (reads_one means_name))
 
-FitsNumbered : Version → ℕ × Line → Type 0
+FitsNumbered : Version → ℕ × Statement → Type 0
 FitsNumbered version o = (o.0 < 2 ^ 32) × FitsLine version o.1
 
 ends_numbered : (version : Version) → Ends (numbered_at version true) (λ o. number_text o.0 ++ line o.1) (FitsNumbered version)

@@ -15,13 +15,13 @@ use Rattle.vcm_spec.specs.declared.words.Source.{Source}
 use Rattle.vcm_spec.specs.declared.words.Source.TheVariants.{Nominal}
 use Rattle.vcm_code.specs.declared.version.Version.{Version}
 use Rattle.vcm_code.specs.declared.version.Version.TheVariants.{One}
-use Rattle.vcm_fields.specs.declared.word.Word.{Word}
-use Rattle.vcm_fields.specs.declared.word.Word.TheVariants as words
+use Rattle.vcm_code.specs.declared.word.Word.{Word}
+use Rattle.vcm_code.specs.declared.word.Word.TheVariants as words
 use Rattle.vcm_words.specs.declared.row.Heading.{Heading}
 use Rattle.vcm_words.specs.declared.row.Heading.TheVariants as headings
 use Rattle.vcm_words.specs.inner.Marks.{Without, IsWord}
 use Rattle.vcm_words.specs.WordReaders.{rows_of}
-use Rattle.vcm_fields.specs.Shape.{axes, directions, settings, sources, kinds, all_words}
+use Rattle.vcm_code.specs.Shape.{axes, directions, settings, sources, kinds, all_words}
 use Rattle.vcm_words.specs.Operands.{axis_text, direction_text, setting_text, source_text, turn_text, turns, word_text}
 use Rattle.vcm_words.specs.Rows.{kind_text, version_text, versions, heading_text, all_headings}
 use Rattle.vcm_words.proofs.Inverse.{Means, some_is}

@@ -10,7 +10,7 @@ use Rattle.vcm_spec.specs.declared.expression.BinaryOp.{BinaryOp}
 use Rattle.vcm_spec.specs.declared.expression.BinaryOp.TheVariants.{Add, Sub, Mul, Div, And, Or, Compare}
 use Rattle.vcm_spec.specs.declared.expression.Item.{Item}
 use Rattle.vcm_spec.specs.declared.expression.Item.TheVariants.{Push, Apply, Combine}
-use Rattle.vcm_fields.specs.Fitting.{within}
+use Rattle.vcm_fields.specs.Readers.{within}
 use Rattle.vcm_words.specs.Numbers.{number, signed, counted}
 use Rattle.vcm_num.specs.Words.{look_up}
 use Rattle.vcm_words.specs.WordReaders.{Reader, marked, or_else, tested, rows_of}

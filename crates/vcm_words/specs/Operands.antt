@@ -8,13 +8,13 @@ use Rattle.vcm_spec.specs.declared.words.Setting.{Setting}
 use Rattle.vcm_spec.specs.declared.words.Setting.TheVariants.{Approach, Retract, Search, Depth}
 use Rattle.vcm_spec.specs.declared.words.Source.{Source}
 use Rattle.vcm_spec.specs.declared.words.Source.TheVariants.{Nominal, Actual}
-use Rattle.vcm_fields.specs.declared.word.Word.{Word}
-use Rattle.vcm_fields.specs.declared.word.Word.TheVariants as words
+use Rattle.vcm_code.specs.declared.word.Word.{Word}
+use Rattle.vcm_code.specs.declared.word.Word.TheVariants as words
 use Rattle.vcm_code.specs.declared.version.Version.{Version}
-use Rattle.vcm_fields.specs.Parts.{Operation, Line}
-use Rattle.vcm_fields.specs.Words.{word_of, has_word}
-use Rattle.vcm_fields.specs.Shape.{Place, Said, Filled, axes, directions, settings, sources, all_words, made, Form, form, form_of, over_operands}
-use Rattle.vcm_fields.specs.Shape as at
+use Rattle.vcm_code.specs.Code.{Op, Statement}
+use Rattle.vcm_code.specs.Words.{word_of, has_word}
+use Rattle.vcm_code.specs.Shape.{Place, Said, Filled, axes, directions, settings, sources, all_words, made, Form, form, form_of, over_operands}
+use Rattle.vcm_code.specs.Shape as at
 use Rattle.vcm_spec.specs.TextBytes.{is_text_byte}
 use Rattle.vcm_spec.specs.declared.expression.Item.{Item}
 use Rattle.vcm_words.specs.Cutting.{split, joined}
@@ -185,15 +185,15 @@ filled_at exact (p ∷ q ∷ ps) = both ((spelling p).at exact) (filled_at exact
 -- ---- statements
 
 -- the operands of a statement
-abbrev pub operands : Operation → List (List ℕ)
+abbrev pub operands : Op → List (List ℕ)
 operands o = over_operands place_words o
 
 -- reading the places of a form
-abbrev pub form_at : Bool → Form → Reader Operation
+abbrev pub form_at : Bool → Form → Reader Op
 form_at exact (form ps make) = via (made ps make) (filled_at exact ps)
 
 -- reading the operands behind a word
-unfoldable pub operands_at : Bool → Word → Reader Operation
+unfoldable pub operands_at : Bool → Word → Reader Op
 operands_at exact w = form_at exact (form_of w)
 
 -- reading the word of a statement, of any version
@@ -205,13 +205,13 @@ abbrev pub word_at : Version → Reader Word
 word_at version = tested (has_word version) any_word_at
 
 -- the words of a statement: its source line, its word, its operands
-abbrev pub line : Line → List (List ℕ)
+abbrev pub line : Statement → List (List ℕ)
 line s = number_text s.line ++ (single (word_text (word_of s.op)) ++ operands s.op)
 
 -- reading the word of a statement and its operands
-unfoldable pub op_at : Version → Bool → Reader Operation
+unfoldable pub op_at : Version → Bool → Reader Op
 op_at version exact = after (word_at version) (operands_at exact)
 
 -- reading a statement of a version
-unfoldable pub line_at : Version → Bool → Reader Line
+unfoldable pub line_at : Version → Bool → Reader Statement
 line_at version exact = via (λ o. record { line = o.0; op = o.1 }) (both (number_at exact (2 ^ 32)) (op_at version exact))

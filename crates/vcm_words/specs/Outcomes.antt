@@ -1,7 +1,6 @@
 -- What the reading of a listing may answer.
 use Rattle.std.specs.Prelude.{◌≡◌, ◌⊎◌, ◌-◌, ℕ, List, length, Result, Ok, Err}
 use Rattle.vcm_code.specs.declared.code.Code.{Code}
-use Rattle.vcm_code.specs.Ops.{code_of}
 use Rattle.vcm_code.specs.Valid.{IsValid}
 use Rattle.vcm_words.specs.declared.fault.ListCode.TheVariants.{NoMemory, NotValid}
 use Rattle.vcm_words.specs.declared.fault.ListFault.{ListFault}
@@ -24,7 +23,7 @@ last_line bytes = length (split 10 bytes) - 1
 -- what the reading of these bytes refuses: the first line with a fault, or at the last line a code that is not valid
 abbrev pub ListingFault : List ℕ → ListFault → Type 0
 ListingFault bytes f =
-    (code_listed bytes ≡ Err f) ⊎ ((c : Code) × (code_listed bytes ≡ Ok c) × (¬ IsValid (code_of c))
+    (code_listed bytes ≡ Err f) ⊎ ((c : Code) × (code_listed bytes ≡ Ok c) × (¬ IsValid c)
     × (f ≡ told (last_line bytes) NotValid))
 
 -- bytes are refused so, or memory ran out

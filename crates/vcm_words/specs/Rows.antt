@@ -10,8 +10,8 @@ use Rattle.vcm_code.specs.declared.version.Version.TheVariants.{One, Two}
 use Rattle.vcm_spec.specs.Setup.{Variable as Entry}
 use Rattle.vcm_expr.specs.NameBytes.{is_name}
 use Rattle.vcm_expr.specs.Symbols.{is_variable_name}
-use Rattle.vcm_fields.specs.Parts.{Line}
-use Rattle.vcm_fields.specs.Shape.{kinds}
+use Rattle.vcm_code.specs.Code.{Statement}
+use Rattle.vcm_code.specs.Shape.{kinds}
 use Rattle.vcm_words.specs.declared.row.Row.{Row}
 use Rattle.vcm_words.specs.declared.row.Row.TheVariants.{Head, Variable, Feature, Frame, Numbered}
 use Rattle.vcm_words.specs.declared.row.Heading.{Heading}
@@ -115,7 +115,7 @@ unfoldable pub indexed_at : Bool → Reader (ℕ × List ℕ)
 indexed_at exact = both (number_at exact (2 ^ 32)) name_at
 
 -- reading a statement of a version and its number
-unfoldable pub numbered_at : Version → Bool → Reader (ℕ × Line)
+unfoldable pub numbered_at : Version → Bool → Reader (ℕ × Statement)
 numbered_at version exact = both (number_at exact (2 ^ 32)) (line_at version exact)
 
 -- the line whose first word has this heading, or none: then it is a statement's

@@ -4,8 +4,7 @@ ghost use Rattle.std.specs.Prelude.{◌≡◌};
 ghost use Rattle.vcm_words.specs.Operands.{any_word_at, word_at};
 
 use crate::words::{Words, table_word};
-use vcm_code::Version;
-use vcm_fields::{Word, has_word};
+use vcm_code::{Version, Word, has_word};
 
 // The word of a statement of any version, and the words behind it.
 fn any_kind<'a>(words: &Words<'a>) -> Option<(Word, Words<'a>)>

@@ -3,7 +3,7 @@
 ghost use Rattle.std.specs.Prelude.{◌≡◌};
 ghost use Rattle.vcm_num.specs.Words.{look_up};
 ghost use Rattle.vcm_words.specs.WordReaders.{one, rows_of};
-ghost use Rattle.vcm_fields.specs.Shape.{kinds};
+ghost use Rattle.vcm_code.specs.Shape.{kinds};
 ghost use Rattle.vcm_words.specs.Rows.{kind_text, name_at, variable_name_at, entry_at, indexed_at};
 
 use crate::places::count;

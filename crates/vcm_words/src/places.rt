@@ -1,12 +1,12 @@
 //! The places of a statement's operands. Each is read exactly, or for its shape alone: then whatever has the shape of a number
 //! stands for one.
 
-ghost use Rattle.std.specs.Prelude.{◌≡◌, ◌^◌, ◌<◌, ◌==◌, nat_le, Some, None, MatchOption};
-ghost use Rattle.vcm_words.specs.Numbers.{number, counted, only_if};
+ghost use Rattle.std.specs.Prelude.{◌≡◌, ◌^◌, ◌<◌, ◌==◌, Some, None, MatchOption};
+ghost use Rattle.vcm_words.specs.Numbers.{number};
 ghost use Rattle.vcm_num.specs.Words.{look_up};
-ghost use Rattle.vcm_words.specs.WordReaders.{one, marked, rows_of};
+ghost use Rattle.vcm_words.specs.WordReaders.{one, rows_of};
 ghost use Rattle.vcm_words.specs.Enclosed.{opening};
-ghost use Rattle.vcm_fields.specs.Shape.{axes, directions, settings, sources};
+ghost use Rattle.vcm_code.specs.Shape.{axes, directions, settings, sources};
 ghost use Rattle.vcm_words.specs.Operands.{lettered_at, number_at, axis_text, direction_text, setting_text, source_text, turn_text, turns, part_at, quoted_in, text_at};
 
 use crate::items::before_end;

@@ -4,7 +4,7 @@
 
 ghost use Rattle.std.specs.Prelude.{◌≡◌, option_map};
 ghost use Rattle.vcm_fields.specs.Readers.{Takes};
-ghost use Rattle.vcm_fields.specs.Shape.{assigned};
+ghost use Rattle.vcm_code.specs.Shape.{assigned};
 ghost use Rattle.vcm_words.specs.Operands.{spelling, three_at, operands_at, op_at, line_at};
 ghost use Rattle.vcm_words.specs.inner.Refusing.{or_refused};
 
@@ -15,8 +15,8 @@ use crate::places::{
 };
 use crate::slices::{ItemWords, TextWords, expression};
 use crate::words::Words;
-use vcm_code::{Op, Statement, Version};
-use vcm_fields::{Reading, Word, operands};
+use vcm_code::{Op, Statement, Version, Word};
+use vcm_fields::{Reading, operands};
 use vcm_num::{Axis, Kind};
 use vcm_spec::{Setting, Source};
 

@@ -1,6 +1,7 @@
 -- Statements with another target.
 use Rattle.std.specs.Prelude.{◌≡◌, ℕ, List, ◌∷◌, ◌++◌, length}
-use Rattle.vcm_code.specs.Code.{Op, If, Else, Do, Statement, statement}
+use Rattle.vcm_code.specs.declared.op.Op.TheVariants.{If, Else, Do}
+use Rattle.vcm_code.specs.Code.{Op, Statement, statement}
 
 abbrev pub op_to : Op → ℕ → Op
 op_to (If test t) n = If test n

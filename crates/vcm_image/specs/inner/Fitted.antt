@@ -1,8 +1,13 @@
--- Statements that fit an image, whatever its version.
-use Rattle.std.specs.Prelude.{◌<◌, ◌^◌}
-use Rattle.vcm_fields.specs.Parts.{Line}
-use Rattle.vcm_fields.specs.Fitting.{FitsOperation}
+-- Codes that fit an image, table by table.
+use Rattle.std.specs.Prelude.{◌≤◌, length}
+use Rattle.std.specs.List.{AllByRecursion}
+use Rattle.vcm_expr.specs.NameBytes.{IsName}
+use Rattle.vcm_code.specs.declared.code.Code.{Code}
+use Rattle.vcm_fields.specs.inner.Fitting.{FitsLine, FitsEntry}
 
--- the source line has 32 bits, and the operands fit
-abbrev pub HasFitting : Line → Type 0
-HasFitting s = (s.line < 2 ^ 32) × FitsOperation s.op
+-- no table is too long, and all in it fit
+pub record TablesFit (c : Code) : Type 0 where
+  pub variables : (length c.tables.variables ≤ 4096) × AllByRecursion FitsEntry c.tables.variables
+  pub features : (length c.tables.features ≤ 4096) × AllByRecursion IsName c.tables.features
+  pub frames : (length c.tables.frames ≤ 4096) × AllByRecursion IsName c.tables.frames
+  pub statements : (length c.statements ≤ 20000) × AllByRecursion (FitsLine c.version) c.statements

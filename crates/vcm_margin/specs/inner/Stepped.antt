@@ -1,7 +1,7 @@
 -- Two machines that are stepped together.
 use Rattle.std.specs.Prelude.{◌≡◌, ℕ}
 use Rattle.vcm_spec.specs.Workpiece.{Workpiece}
-use Rattle.vcm_code.specs.Code.{Code}
+use Rattle.vcm_code.specs.declared.code.Code.{Code}
 use Rattle.vcm_machine.specs.Running.{Running, started, later}
 use Rattle.vcm_margin.specs.Alike.{GoAlike}
 

@@ -1,7 +1,7 @@
 -- A bisection of half widths.
 use Rattle.std.specs.Prelude.{ℕ, ◌<◌, ◌≤◌, Option}
 use Rattle.vcm_spec.specs.Workpiece.{Workpiece}
-use Rattle.vcm_code.specs.Code.{Code}
+use Rattle.vcm_code.specs.declared.code.Code.{Code}
 use Rattle.vcm_margin.specs.declared.difference.Difference.{Difference}
 use Rattle.vcm_margin.specs.Margin.{GoesWith, MetBy}
 

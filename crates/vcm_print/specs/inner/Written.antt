@@ -5,10 +5,10 @@ use Rattle.vcm_spec.specs.declared.expression.Item.{Item}
 use Rattle.vcm_code.specs.declared.branch.Branch.{Branch}
 use Rattle.vcm_code.specs.declared.version.Version.{Version}
 use Rattle.vcm_code.specs.declared.version.Version.TheVariants.{One, Two}
-use Rattle.vcm_fields.specs.Parts.{Line}
-use Rattle.vcm_fields.specs.Shape.{Place, Said, over_operands}
-use Rattle.vcm_fields.specs.Shape as at
-use Rattle.vcm_fields.specs.Words.{word_of}
+use Rattle.vcm_code.specs.Code.{Statement}
+use Rattle.vcm_code.specs.Shape.{Place, Said, over_operands}
+use Rattle.vcm_code.specs.Shape as at
+use Rattle.vcm_code.specs.Words.{word_of}
 use Rattle.vcm_words.specs.Branches.{branch_text}
 use Rattle.vcm_words.specs.Items.{item_text}
 use Rattle.vcm_words.specs.Operands.{axis_text, direction_text, setting_text, source_text, turn_text, word_text}
@@ -61,11 +61,11 @@ place_bytes at.text bs = codes " '" ++ (bs ++ codes "'")
 place_bytes at.branches bs = branches_bytes bs
 
 -- the number of a statement, its source line, and its word
-abbrev pub head_bytes : ℕ → Line → List ℕ
+abbrev pub head_bytes : ℕ → Statement → List ℕ
 head_bytes n s = decimal n ++ (32 ∷ decimal s.line ++ (32 ∷ word_text (word_of s.op)))
 
 -- a statement's line and its end
-abbrev pub statement_bytes : ℕ → Line → List ℕ
+abbrev pub statement_bytes : ℕ → Statement → List ℕ
 statement_bytes n s = head_bytes n s ++ (over_operands place_bytes s.op ++ codes "\n")
 
 -- a variable's line and its end

@@ -6,7 +6,8 @@ use Rattle.vcm_num.specs.contracts.axis.Axis as axis
 use Rattle.vcm_num.specs.declared.axis.Axis.{Axis}
 use Rattle.vcm_spec.specs.contracts.words.Setting as setting
 use Rattle.vcm_spec.specs.contracts.words.Source as source
-use Rattle.vcm_spec.specs.Simple.{Simple, Goto, GoHome, Assign, Feat, PtMeas, SnSet, Trans, Rotate, Recall, Obtain, Output, Text}
+use Rattle.vcm_spec.specs.Simple.{Simple}
+use Rattle.vcm_spec.specs.declared.simple.Simple.TheVariants.{Goto, GoHome, Assign, Feat, PtMeas, SnSet, Trans, Rotate, Recall, Obtain, Output, Text}
 
 -- bytes
 abbrev pub bytes_code : List ℕ → Gv

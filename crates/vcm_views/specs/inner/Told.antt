@@ -4,7 +4,6 @@ use Rattle.std.specs.Io.KnownBytes.{Appends, Keeps}
 use Rattle.vcm_num.specs.Written.{AppendsFront}
 use Rattle.vcm_spec.specs.Workpiece.{Workpiece}
 use Rattle.vcm_code.specs.declared.code.Code.{Code}
-use Rattle.vcm_code.specs.Ops.{code_of}
 use Rattle.vcm_state.specs.Held.{Held}
 use Rattle.vcm_job.specs.Jobs.{status_of}
 use Rattle.vcm_job.specs.declared.inputs.RunFault.{RunFault}
@@ -17,13 +16,13 @@ use Rattle.vcm_views.specs.Views.{TellsMargin}
 -- a margin was written, and nothing else
 pub record IsMarginTold (part : Workpiece) (c : Code) (held : Held) (done : ℕ) (old new : Option (List ℕ)) : Type 0 where
   pub margin : Margin
-  pub is_margin : IsMargin part (code_of c) done margin
+  pub is_margin : IsMargin part c done margin
   pub written : Appends old new (margin_text held.tables margin)
 
 -- a front of it was, and not all of it
 pub record IsMarginCutOff (part : Workpiece) (c : Code) (held : Held) (done : ℕ) (old new : Option (List ℕ)) : Type 0 where
   pub margin : Margin
-  pub is_margin : IsMargin part (code_of c) done margin
+  pub is_margin : IsMargin part c done margin
   pub front : AppendsFront old new (margin_text held.tables margin)
 
 -- why no margin was told: memory was refused, and nothing was written; or a write failed

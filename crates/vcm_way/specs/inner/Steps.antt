@@ -4,7 +4,8 @@ use Rattle.vcm_num.specs.declared.point.Point.{Point}
 use Rattle.vcm_num.specs.Point.{is_near}
 use Rattle.vcm_spec.specs.Setup.{setup_of}
 use Rattle.vcm_spec.specs.Workpiece.{Workpiece}
-use Rattle.vcm_code.specs.Code.{Code, Statement}
+use Rattle.vcm_code.specs.Code.{Statement}
+use Rattle.vcm_code.specs.declared.code.Code.{Code}
 use Rattle.vcm_machine.specs.declared.ran.Ran.{Ran}
 use Rattle.vcm_machine.specs.Running.{Running, setup, started, later, HasRun}
 use Rattle.vcm_machine.proofs.RunLemmas.{IsReached}

@@ -1,6 +1,5 @@
 use Rattle.std.proofs.Common.{◌++◌, length, ap, ◌∙◌, subst}
 use Rattle.vcm_code.specs.Valid.{IsValid}
-use Rattle.vcm_code.specs.Ops.{statements_of}
 use Rattle.vcm_code.specs.Ranges.{version_for, IsInRange}
 use Rattle.vcm_asm.specs.Assembled.{marks, block_code, place_in, flat_code}
 use Rattle.vcm_asm.specs.inner.Spelled.{BlockKeeps}
@@ -29,7 +28,7 @@ returns-clause-assembled c =
     ∙ ap (λ l. l ++ block_code (place_in c.mark_block.new.numbers) c.tree-tree.result.now 0 (length l)) c.in_ok-code.ensures
     ∙ ap (λ ms. block_code (place_in ms) c.tree-tree.result.now 0 0) marked
     ∙ ap flat_code tree in
-    with_code program c.args.program.now.tables c.tree-tree.ensures.whole (IsAssembled program c.args.program.now.tables) _ _ _ (c.version_for-version.ensures ∙ ap (λ ss. version_for (statements_of ss)) c.as_slice.ensures) c.in_ok-tables.ensures.tables written
+    with_code program c.args.program.now.tables c.tree-tree.ensures.whole (IsAssembled program c.args.program.now.tables) _ _ _ (c.version_for-version.ensures ∙ ap version_for c.as_slice.ensures) c.in_ok-tables.ensures.tables written
     (assembled program c.args.program.now.tables c.tree-tree.ensures.whole)
 
 pub returns-clause-valid : goal.returns-clause-valid
@@ -42,7 +41,7 @@ returns-clause-valid c =
     ∙ ap (λ l. l ++ block_code (place_in c.mark_block.new.numbers) c.tree-tree.result.now 0 (length l)) c.in_ok-code.ensures
     ∙ ap (λ ms. block_code (place_in ms) c.tree-tree.result.now 0 0) marked
     ∙ ap flat_code tree in
-    with_code program c.args.program.now.tables c.tree-tree.ensures.whole IsValid _ _ _ (c.version_for-version.ensures ∙ ap (λ ss. version_for (statements_of ss)) c.as_slice.ensures) c.in_ok-tables.ensures.tables written
+    with_code program c.args.program.now.tables c.tree-tree.ensures.whole IsValid _ _ _ (c.version_for-version.ensures ∙ ap version_for c.as_slice.ensures) c.in_ok-tables.ensures.tables written
     (all_valid program c.args.program.now.tables c.tree-tree.ensures.whole (subst BlockKeeps tree c.in_ok-emit_block.ensures.keeps))
 
 pub returns-clause-in_range : goal.returns-clause-in_range
@@ -56,5 +55,5 @@ returns-clause-in_range c =
     ∙ ap (λ ms. block_code (place_in ms) c.tree-tree.result.now 0 0) marked
     ∙ ap flat_code tree in
     let few = c.in_ok-tables.ensures.variables in
-    with_code program c.args.program.now.tables c.tree-tree.ensures.whole IsInRange _ _ _ (c.version_for-version.ensures ∙ ap (λ ss. version_for (statements_of ss)) c.as_slice.ensures) c.in_ok-tables.ensures.tables written
+    with_code program c.args.program.now.tables c.tree-tree.ensures.whole IsInRange _ _ _ (c.version_for-version.ensures ∙ ap version_for c.as_slice.ensures) c.in_ok-tables.ensures.tables written
     (in_range program c.args.program.now.tables c.tree-tree.ensures.whole few c.in_ok-tables.ensures.features c.in_ok-tables.ensures.frames (subst BlockKeeps tree c.in_ok-emit_block.ensures.keeps))

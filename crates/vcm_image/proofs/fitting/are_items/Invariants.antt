@@ -1,6 +1,6 @@
 use Rattle.std.proofs.Common.{drop}
 use Rattle.std.specs.List.{AllByRecursion}
-use Rattle.vcm_fields.specs.Fitting.{FitsItem}
+use Rattle.vcm_fields.specs.Widths.{FitsItem}
 use Rattle.vcm_image.proofs.fitting.are_items.Given as goal
 
 abbrev pub invariant-loop-it : goal.invariant-loop-it

@@ -1,6 +1,6 @@
 use Rattle.std.proofs.Common.{◌≡◌, ◌<◌, ◌++◌, ◌∙◌, length, subst, get_or, pos, rules, FitsSigned, w64, to_z-of_z}
 use Rattle.vcm_code.specs.declared.branch.Branch.{Branch}
-use Rattle.vcm_fields.specs.Fitting.{FitsBranch}
+use Rattle.vcm_fields.specs.Widths.{FitsBranch}
 use Rattle.vcm_fields.specs.Spelling.{branch}
 use Rattle.vcm_image.proofs.Branches.{one_written, one_fits}
 use Rattle.vcm_image.proofs.operands.branches.Goals as goal
@@ -18,5 +18,5 @@ loop-value-preserved c =
     let g = subst (λ xs. FitsBranch (get_or xs l.value-index none)) same (rw (to_z-of_z f) at c.in_ok-branch.ensures.fits) in
     record {
       bytes = one_written bs l.value-index none within l.out.items c.branch-out.new.out.items w ∙ l.invariant.bytes;
-      fits = λ h. l.invariant.fits (one_fits bs l.value-index none within g h);
+      widths = λ h. l.invariant.widths (one_fits bs l.value-index none within g h);
     }

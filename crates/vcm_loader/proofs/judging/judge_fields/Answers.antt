@@ -2,7 +2,7 @@ use Rattle.std.proofs.Common.{[]}
 use Rattle.std.proofs.lemmas.Option.{slice_get-get_or}
 use Rattle.std.proofs.lemmas.Result.{err_from_is_err_and}
 use Rattle.vcm_fields.specs.Fields.{in_field}
-use Rattle.vcm_loader.specs.Checks.{place_checks}
+use Rattle.vcm_code.specs.Checks.{place_checks}
 use Rattle.vcm_loader.proofs.Lines.{held_more, first_of}
 use Rattle.vcm_loader.proofs.judging.judge_fields.Goals as goal
 

@@ -1,6 +1,6 @@
 use Rattle.std.proofs.Common.{[]}
 use Rattle.vcm_fields.specs.Fields.{in_field}
-use Rattle.vcm_loader.specs.Checks.{place_checks}
+use Rattle.vcm_code.specs.Checks.{place_checks}
 use Rattle.vcm_loader.proofs.Lines.{HeldUpTo}
 use Rattle.vcm_loader.proofs.judging.judge_fields.Given as goal
 

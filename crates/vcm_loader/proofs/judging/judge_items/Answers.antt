@@ -1,4 +1,4 @@
-use Rattle.vcm_loader.proofs.Soundness.{wants_hold}
+use Rattle.vcm_code.proofs.Checked.{wants_hold}
 use Rattle.vcm_loader.proofs.judging.judge_items.Goals as goal
 
 pub returns-then-has_kind-clause-ok : goal.returns-then-has_kind-clause-ok

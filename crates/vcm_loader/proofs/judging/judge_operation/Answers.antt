@@ -1,6 +1,6 @@
 use Rattle.std.proofs.Common.{[]}
 use Rattle.vcm_fields.proofs.FieldPlaces.{over_fields_in}
-use Rattle.vcm_loader.specs.Checks.{place_checks}
+use Rattle.vcm_code.specs.Checks.{place_checks}
 use Rattle.vcm_loader.proofs.judging.judge_operation.Goals as goal
 
 pub returns-clause-ok : goal.returns-clause-ok

@@ -1,6 +1,5 @@
 use Rattle.std.proofs.Common.{refl}
 use Rattle.vcm_spec.specs.Setup.{setup_of}
-use Rattle.vcm_code.specs.Ops.{code_of}
 use Rattle.vcm_way.specs.Ways.{most_pieces, whole_way}
 use Rattle.vcm_way.proofs.following.follow.Goals as goal
 
@@ -14,7 +13,7 @@ of-requires-clause-most g c = refl
 
 pub returns-in-Ok : goal.returns-in-Ok
 returns-in-Ok g c =
-    let code = code_of c.args.loaded.now in
+    let code = c.args.loaded.now in
     let h = c.in_ok-world.ensures.marked in
     record {
       new = h.new;

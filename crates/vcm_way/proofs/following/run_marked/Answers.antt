@@ -1,5 +1,4 @@
 use Rattle.std.proofs.Common.{ap, ◌∙◌, subst}
-use Rattle.vcm_code.specs.Ops.{code_of}
 use Rattle.vcm_machine.specs.Running.{Running, setup, started, HasRun}
 use Rattle.vcm_way.specs.Ways.{whole_way}
 use Rattle.vcm_way.specs.inner.Added.{StandsFor}
@@ -8,7 +7,7 @@ use Rattle.vcm_way.proofs.following.run_marked.Goals as goal
 pub returns-in-Ok-clause-marked : goal.returns-in-Ok-clause-marked
 returns-in-Ok-clause-marked g c =
     let part = g.P.Part.part c.args.part.now in
-    let code = code_of c.args.loaded.now in
+    let code = c.args.loaded.now in
     let new = c.follow_steps-followed.new.machine in
     let run : HasRun c.args.steps (started part code) new c.in-Ok.ran =
     subst (λ (m : Running). HasRun c.args.steps m new c.in-Ok.ran) c.in_ok-machine.ensures c.in-Ok.ensures.run in

@@ -1,4 +1,4 @@
-use Rattle.vcm_fields.specs.Fitting.{FitsEntry}
+use Rattle.vcm_expr.specs.Symbols.{IsVariableName}
 use Rattle.std.proofs.Common.{◌<◌, ◌≡◌, length, slice_get, Some, sym, subst, arith}
 use Rattle.vcm_code.specs.declared.code.Code.{Code}
 use Rattle.vcm_fields.specs.Readers.{entry_at}
@@ -18,4 +18,4 @@ pub returns-clause-is : goal.returns-clause-is
 returns-clause-is c = subst (λ (d : Code). slice_get d.tables.variables c.args.n ≡ Some c.in-Ok.variable) c.self.view_is (Found-ok entry_at _ _ _ _ _ _ _ (Begin-index entry_at _ _ _ _ _ _ c.self.invariant.variables_begin (subst (λ (d : Code). c.args.n < length d.tables.variables) (sym c.self.view_is) c.requires) c.index-start.ensures) c.after.ensures c.in-Ok.ensures)
 
 pub returns-clause-name : goal.returns-clause-name
-returns-clause-name c = (all_at FitsEntry _ _ _ c.self.invariant.fits.variables.1 (Found-ok entry_at _ _ _ _ _ _ _ (Begin-index entry_at _ _ _ _ _ _ c.self.invariant.variables_begin (subst (λ (d : Code). c.args.n < length d.tables.variables) (sym c.self.view_is) c.requires) c.index-start.ensures) c.after.ensures c.in-Ok.ensures)).1
+returns-clause-name c = all_at (λ v. IsVariableName v.name) _ _ _ c.self.invariant.fits.range.variables.1 (Found-ok entry_at _ _ _ _ _ _ _ (Begin-index entry_at _ _ _ _ _ _ c.self.invariant.variables_begin (subst (λ (d : Code). c.args.n < length d.tables.variables) (sym c.self.view_is) c.requires) c.index-start.ensures) c.after.ensures c.in-Ok.ensures)

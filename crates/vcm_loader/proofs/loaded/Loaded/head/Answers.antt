@@ -1,8 +1,8 @@
 use Rattle.std.proofs.Common.{ℕ, List, refl, sym, ap, ◌∙◌}
 use Rattle.std.specs.Int.{w32}
 use Rattle.vcm_fields.specs.declared.fault.ImageFault.TheVariants.{BadField}
-use Rattle.vcm_fields.specs.declared.word.Word.{Word}
-use Rattle.vcm_fields.specs.Words.{has_word}
+use Rattle.vcm_code.specs.declared.word.Word.{Word}
+use Rattle.vcm_code.specs.Words.{has_word}
 use Rattle.vcm_fields.specs.Readers.{any_word_at, number_at, operands_at}
 use Rattle.vcm_fields.proofs.Inverse.{ok_is}
 use Rattle.vcm_fields.proofs.Taking.{tested_is, number_there, line_is}

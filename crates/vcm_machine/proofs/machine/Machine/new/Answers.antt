@@ -1,7 +1,7 @@
 use Rattle.std.proofs.Common.{sym, ap, ◌∙◌}
 use Rattle.vcm_state.proofs.Places.{within_is_near}
-use Rattle.vcm_code.specs.Ops.{code_of}
-use Rattle.vcm_machine.proofs.Codes.{runnable, some_first}
+use Rattle.vcm_code.proofs.CodeNeverStuck.{some_first}
+use Rattle.vcm_machine.proofs.Codes.{runnable}
 use Rattle.vcm_machine.proofs.RestsAlong.{opened_rests}
 use Rattle.vcm_machine.proofs.StepLemmas.{at_start}
 use Rattle.vcm_machine.proofs.machine.Machine.new.Goals as goal
@@ -25,4 +25,4 @@ invariant_of-result g c =
 pub returns : goal.returns
 returns g c =
     let part = g.P.Part.part c.args.part.now in
-    at_start part (code_of c.args.loaded.now) c.in_ok-world.world c.in_ok-tables.tables c.in_ok-tables.ensures (c.in_ok-world.ensures.state part (ap (λ b. b.home) (sym c.bounds.ensures)))
+    at_start part c.args.loaded.now c.in_ok-world.world c.in_ok-tables.tables c.in_ok-tables.ensures (c.in_ok-world.ensures.state part (ap (λ b. b.home) (sym c.bounds.ensures)))

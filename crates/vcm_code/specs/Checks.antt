@@ -4,13 +4,14 @@ use Rattle.vcm_num.specs.declared.number.Kind.{Kind}
 use Rattle.vcm_spec.specs.declared.expression.Item.{Item}
 use Rattle.vcm_spec.specs.declared.expression.Item.TheVariants.{Push, Apply, Combine}
 use Rattle.vcm_spec.specs.Expression.{HasKind}
+use Rattle.vcm_spec.specs.Setup.{Tables}
 use Rattle.vcm_spec.specs.Fitting.{kinds as kinds_of}
 use Rattle.vcm_expr.specs.Typed.{VariableBelow}
 use Rattle.vcm_code.specs.declared.branch.Branch.{Branch}
+use Rattle.vcm_code.specs.Code.{Op, Statement}
 use Rattle.vcm_code.specs.declared.code.Code.{Code}
-use Rattle.vcm_fields.specs.Parts.{Operation, Line}
-use Rattle.vcm_fields.specs.Shape.{Place, Said, over_operands}
-use Rattle.vcm_fields.specs.Shape as at
+use Rattle.vcm_code.specs.Shape.{Place, Said, over_operands}
+use Rattle.vcm_code.specs.Shape as at
 
 -- what operands are judged by: the kinds of the variables, and how many features, frames and statements there are
 pub record Counts : Type 0 where
@@ -19,15 +20,9 @@ pub record Counts : Type 0 where
   pub frames : ℕ
   pub statements : ℕ
 
--- those of a code
-abbrev pub counts_of : Code → Counts
-counts_of c =
-    record {
-      kinds = kinds_of c.tables;
-      features = length c.tables.features;
-      frames = length c.tables.frames;
-      statements = length c.statements;
-    }
+-- those of tables, beside so many statements
+abbrev pub counts_of : Tables → ℕ → Counts
+counts_of tables count = record { kinds = kinds_of tables; features = length tables.features; frames = length tables.frames; statements = count }
 
 -- one thing that has to hold: an index or a target is below a count, all variables of an expression are, an expression has a kind, a
 -- variable has one, or a variable and an expression have the same
@@ -94,13 +89,21 @@ place_checks t at.branches bs = targets bs t.statements
 place_checks t _ x = []
 
 -- a statement: its operands in their order
-abbrev pub op_checks : Counts → Operation → List Check
+abbrev pub op_checks : Counts → Op → List Check
 op_checks t o = over_operands (place_checks t) o
 
+-- a statement has all that it wants
+abbrev pub OpFits : Tables → ℕ → Op → Type 0
+OpFits tables count o = AllHold (op_checks (counts_of tables count) o)
+
 -- all statements, one behind the other
-abbrev pub line_checks : Counts → List Line → List Check
-line_checks t ss = flat_map (λ (s : Line). op_checks t s.op) ss
+abbrev pub line_checks : Counts → List Statement → List Check
+line_checks t ss = flat_map (λ (s : Statement). op_checks t s.op) ss
 
 -- all checks of a code
 abbrev pub checks : Code → List Check
-checks c = line_checks (counts_of c) c.statements
+checks c = line_checks (counts_of c.tables (length c.statements)) c.statements
+
+-- the items have a kind, where the variables have the kinds of the tables
+abbrev pub HasItems : Tables → List Item → Kind → Type 0
+HasItems tables items k = HasKind (kinds_of tables) items k

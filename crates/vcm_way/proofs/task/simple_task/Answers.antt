@@ -1,4 +1,4 @@
-use Rattle.vcm_way.proofs.task.task_of.Goals as goal
+use Rattle.vcm_way.proofs.task.simple_task.Goals as goal
 
 pub returns-in-Goto : goal.returns-in-Goto
 returns-in-Goto c = rw c.in-Goto.is (c.straight.ensures c.args.home)

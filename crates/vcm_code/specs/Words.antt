@@ -2,13 +2,13 @@
 use Rattle.std.specs.Prelude.{Bool, true, false, not}
 use Rattle.vcm_code.specs.declared.version.Version.{Version}
 use Rattle.vcm_code.specs.declared.version.Version.TheVariants.{One, Two}
-use Rattle.vcm_fields.specs.declared.word.Word.{Word}
-use Rattle.vcm_fields.specs.declared.word.Word.TheVariants as words
-use Rattle.vcm_fields.specs.Parts.{Operation}
-use Rattle.vcm_fields.specs.Shape.{word_in, taken_apart}
+use Rattle.vcm_code.specs.declared.word.Word.{Word}
+use Rattle.vcm_code.specs.declared.word.Word.TheVariants as words
+use Rattle.vcm_code.specs.Code.{Op}
+use Rattle.vcm_code.specs.Shape.{word_in, taken_apart}
 
 -- the word that a statement goes by
-abbrev pub word_of : Operation → Word
+abbrev pub word_of : Op → Word
 word_of o = word_in (taken_apart o)
 
 -- whether a word is SELECT, CASE, ENDCAS, DFTCAS or ENDSEL

@@ -1,0 +1,35 @@
+//! Simple statements, by which control does not go.
+
+use crate::words::{Setting, Source};
+use vcm_num::Axis;
+
+/// What a simple statement does, with expressions of the form `E` and texts of the form `T`. Variables, features and frames go by their indexes, and
+/// lengths are in micrometres. The definitions speak of expressions as trees in a program, as postfix items in its code and as whole numbers once they
+/// are evaluated.
+#[derive(Drop)]
+pub enum Simple<E, T> {
+    /// `GOTO`: x, y and z of part coordinates.
+    Goto(E, E, E),
+    /// `GOHOME`.
+    GoHome,
+    /// `ASSIGN`: a variable, and its new value.
+    Assign(u16, E),
+    /// `FEAT`: a feature, its nominal point in part coordinates, and its direction out of the material.
+    Feat(u16, E, E, E, Axis),
+    /// `PTMEAS`: its feature, a point in part coordinates, and a direction; without one it is the nominal feature's.
+    PtMeas(u16, E, E, E, Option<Axis>),
+    /// `SNSET`: a setting, and its new length.
+    SnSet(Setting, E),
+    /// `TRANS`: a frame, and the shift of its origin along x, y and z.
+    Trans(u16, E, E, E),
+    /// `ROTATE`: a frame, an axis (0 to 2), and a number of quarter turns (0 to 3).
+    Rotate(u16, u8, u8),
+    /// `RECALL`: a frame.
+    Recall(u16),
+    /// `OBTAIN`: a variable, whether the nominal or the actual feature is meant, the feature, and the number of its word (3 to 8).
+    Obtain(u16, Source, u16, u8),
+    /// `OUTPUT`: whether the nominal or the actual feature is meant, and the feature.
+    Output(Source, u16),
+    /// `TEXT`: an output line.
+    Text(T),
+}
