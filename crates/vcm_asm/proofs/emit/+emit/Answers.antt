@@ -1,4 +1,5 @@
 use Rattle.std.proofs.Common.{◌≡◌, suc, ◌+◌, ◌<◌, ◌++◌, ◌∷◌, length, drop, ap, sym, ◌∙◌, arith, subst, length-append, add-one, drop-cons}
+use Rattle.std.proofs.lemmas.Grind.{common_steps}
 use Rattle.vcm_spec.specs.Program.{size, sizes, case_sizes}
 use Rattle.vcm_nodes.specs.Nodes.{node_of, block_of, choice_by, cases_of, other_of}
 use Rattle.vcm_nodes.proofs.CaseSteps.{cases_next}
@@ -184,3 +185,6 @@ emit_cases-loop-line-preserved t c =
     let grown = cases_grow to item.2 c.args.depth item.0 item.1 item.3 rest c.args.behind l.code c.put.new.self c.emit_block.new.code c.put-in-loop-line.new.self
     c.in_ok-put.ensures c.in_ok-emit_block.ensures.code c.in_ok-put-2.ensures in
     (grown ∙ here, deep.1, omega arith, omega arith, keeps)
+
+pub emit_node-returns-in_ok-emit_cases-in-Select-clause-code : goal.emit_node-returns-in_ok-emit_cases-in-Select-clause-code
+emit_node-returns-in_ok-emit_cases-in-Select-clause-code t c = grind (arith, common_steps)

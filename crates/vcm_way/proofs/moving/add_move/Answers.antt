@@ -14,3 +14,6 @@ meets_block-requires-clause-aim c =
     let e : c.args.stop ≡ Some (Collision Move hit) = search rules in
     within_is_near c.args.part.now c.bounds-bounds.ensures.valid c.args.to
     (aim_within c.args.part.now (coordinate c.args.from) (coordinate c.args.to) hit (subst (EndsAs (free_move Move c.args.part.now (coordinate c.args.from) (coordinate c.args.to))) e c.requires.ends))
+
+pub returns-in-Some-Travel-Move : goal.returns-in-Some-Travel-Move
+returns-in-Some-Travel-Move c = search rules

@@ -1,4 +1,4 @@
-use Rattle.std.proofs.Common.{◌∙◌, arith}
+use Rattle.std.proofs.Common.{◌∙◌, arith, rules}
 use Rattle.vcm_expr.proofs.PieceLemmas.{between_view, between_holds, between_sized}
 use Rattle.vcm_expr.proofs.draft.Draft.joined.Goals as goal
 
@@ -11,3 +11,6 @@ returns-clause-ok c e f es h y z =
       between_view c.args.op e f es _ _ (c.self.view_is ∙ h) c.self.invariant c.in_ok-push.ensures.items,
       between_sized c.in_ok-size.size c.args.a c.args.b c.args.op e f (omega (arith, s.0, c.max.ensures, c.from-depth.ensures)) (omega (arith, s.1, c.from.ensures, c.from-2.ensures)) (omega (arith, s.0, s.2)) (omega (arith, s.1, s.3)) y z,
     )
+
+pub returns-in_err-size-clause-unchanged : goal.returns-in_err-size-clause-unchanged
+returns-in_err-size-clause-unchanged c = search rules
