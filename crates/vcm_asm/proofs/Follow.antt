@@ -10,7 +10,7 @@ use Rattle.vcm_spec.specs.Setup.{Setup}
 use Rattle.vcm_spec.specs.World.{World, stopped}
 use Rattle.vcm_spec.specs.Control.{with_next_index, is_past}
 use Rattle.vcm_spec.specs.Program.{Label as Name, Node, Block, simple, label, jump, choice, choice_else, do_loop, meas, select, ending, done, then, sizes, node_at, number_at}
-use Rattle.vcm_spec.specs.Table.{Entry, Rest, EndIf, EndMeas, EndCas, EndSel, Loop, State, state, front, next_number, if_true, at_node, act, unless_stopped, step, steps, opening}
+use Rattle.vcm_spec.specs.Table.{Entry, Rest, Closes, Loop, State, state, front, next_number, if_true, at_node, act, unless_stopped, step, steps, opening}
 use Rattle.vcm_spec.specs.Printing.{prints, takes_memory, next_node}
 use Rattle.vcm_spec.specs.Whole.{is_closed}
 use Rattle.vcm_code.specs.declared.pair.Pair.{Pair}
@@ -65,18 +65,9 @@ module _ (setup : Setup) (code : List Statement) (to : Name → ℕ) where
       subst (λ k. Matched (act setup (Rest b base i ∷ es) w old) (fetched setup (slice_get code k) w k ps)) (sym h.0)
       (subst (λ o. Matched (at_node setup o num w old (Rest b base i ∷ es) (Rest b base (suc i) ∷ es)) (fetched setup (slice_get code num) w num ps)) (sym live.1)
       (node_follows setup code to ps b base i es d old w live.0 a))
-  act_follows ps (EndIf n ∷ es) d pc old w h bot live room old_sits old_bottom =
+  act_follows ps (Closes n ∷ es) d pc old w h bot live room old_sits old_bottom =
       subst (λ m. Matched (state w es) m) (sym ((h.2).goes w ps))
-      (record { world = refl; depth = d; sits = h.3; bottom = bottom_pop (EndIf n) es (λ x. x) bot; room = room })
-  act_follows ps (EndMeas n ∷ es) d pc old w h bot live room old_sits old_bottom =
-      subst (λ m. Matched (state w es) m) (sym ((h.2).goes w ps))
-      (record { world = refl; depth = d; sits = h.3; bottom = bottom_pop (EndMeas n) es (λ x. x) bot; room = room })
-  act_follows ps (EndCas n ∷ es) d pc old w h bot live room old_sits old_bottom =
-      subst (λ m. Matched (state w es) m) (sym ((h.2).goes w ps))
-      (record { world = refl; depth = d; sits = h.3; bottom = bottom_pop (EndCas n) es (λ x. x) bot; room = room })
-  act_follows ps (EndSel n ∷ es) d pc old w h bot live room old_sits old_bottom =
-      subst (λ m. Matched (state w es) m) (sym ((h.2).goes w ps))
-      (record { world = refl; depth = d; sits = h.3; bottom = bottom_pop (EndSel n) es (λ x. x) bot; room = room })
+      (record { world = refl; depth = d; sits = h.3; bottom = bottom_pop (Closes n) es (λ x. x) bot; room = room })
   act_follows ps (Loop at v b c lim inc ∷ es) zero pc old w h bot live room old_sits old_bottom = absurd h
   act_follows ps (Loop at v b c lim inc ∷ es) (suc d) pc old w h bot live room old_sits old_bottom =
       let e = (h.0).number in
@@ -127,10 +118,7 @@ module _ (setup : Setup) (code : List Statement) (to : Name → ℕ) where
       ap (λ k. next_prints (slice_get code k)) h.0
       ∙ node_prints live.0 d (number_at b base i) (has_node code to b d base i live.0 live.1 (h.1).has)
       ∙ sym (ap takes_memory live.1)
-  front_prints ps (EndIf n ∷ es) d pc h live = (h.2).silent
-  front_prints ps (EndMeas n ∷ es) d pc h live = (h.2).silent
-  front_prints ps (EndCas n ∷ es) d pc h live = (h.2).silent
-  front_prints ps (EndSel n ∷ es) d pc h live = (h.2).silent
+  front_prints ps (Closes n ∷ es) d pc h live = (h.2).silent
   front_prints ps (Loop at v b c lim inc ∷ es) zero pc h live = absurd h
   front_prints ps (Loop at v b c lim inc ∷ es) (suc d) pc h live = ap next_prints (h.0).op
 

@@ -13,11 +13,11 @@ use Rattle.vcm_spec.specs.Outcome.{Outcome, Gives, Stops}
 use Rattle.vcm_spec.specs.Effect.{effect, value_in}
 use Rattle.vcm_spec.specs.Control.{test_in, is_zero, is_past}
 use Rattle.vcm_spec.specs.Program.{Label as Name, Node, Block, Cases, simple, label, jump, choice, choice_else, do_loop, meas, select, ending, size, sizes, case_sizes, node_at, number_at, chosen}
-use Rattle.vcm_spec.specs.Table.{Entry, Rest, EndIf, EndMeas, EndCas, EndSel, Loop, State, state, or_stop, if_true, selected, at_node, step}
+use Rattle.vcm_spec.specs.Table.{Entry, Rest, Closes, Loop, State, state, or_stop, if_true, selected, at_node, step}
 use Rattle.vcm_spec.proofs.Postfix.{value_in-spelling, test_in-spelling, effect-spelling}
 use Rattle.vcm_spec.specs.Whole.{is_end, NodeJumps}
 use Rattle.vcm_code.specs.declared.pair.Pair.{Pair}
-use Rattle.vcm_code.specs.declared.op.Op.TheVariants.{Plain, If, Else, EndIf as OpEndIf, Do, Label, JumpTo, Meas, EndMes, Select, EndCas as OpEndCas, EndSel as OpEndSel, EndFil}
+use Rattle.vcm_code.specs.declared.op.Op.TheVariants.{Plain, If, Else, EndIf, Do, Label, JumpTo, Meas, EndMes, Select, EndCas, EndSel, EndFil}
 use Rattle.vcm_code.specs.Code.{Op, Statement, statement}
 use Rattle.vcm_code.specs.CodeTable.{pair, CodeState, code_state, or_halt, target_for, do_op, fetched}
 use Rattle.vcm_asm.specs.inner.Depth.{NodeDeep}
@@ -122,12 +122,12 @@ module _ (setup : Setup) (code : List Statement) (to : Name → ℕ) where
     choice_follows : (line : ℕ) (test : Tree) (first : Block) (close : ℕ) → At ps b base i es d old (choice line test first close) → Matched (at_node setup (Some (choice line test first close)) num w old (Rest b base i ∷ es) on) (fetched setup (slice_get code num) w num ps)
     choice_follows line test first close a =
         with_op _ (If (spelling test) end) line w num ps h.0 (fork (test_in value_of w test) (test_in items_value w (spelling test)) (test_in-spelling w test) w num line old ps
-        (λ t. if_true t (state w (Rest first (num + 1) 0 ∷ EndIf end ∷ on)) (state w (EndIf end ∷ on)))
+        (λ t. if_true t (state w (Rest first (num + 1) 0 ∷ Closes end ∷ on)) (state w (Closes end ∷ on)))
         (λ t. if_true t (code_state w (num + 1) ps) (code_state w end ps))
         (stays n line a)
         (λ t. choose t _ _ _ _
-        (λ e. record { world = refl; depth = d; sits = (sym (number_zero first (num + 1)), placed, closing); bottom = bottom_push (Rest first (num + 1) 0) (EndIf end ∷ on) (bottom_push (EndIf end) on (on_bottom n a refl)); room = a.room })
-        (λ e. record { world = refl; depth = d; sits = closing; bottom = bottom_push (EndIf end) on (on_bottom n a refl); room = a.room })))
+        (λ e. record { world = refl; depth = d; sits = (sym (number_zero first (num + 1)), placed, closing); bottom = bottom_push (Rest first (num + 1) 0) (Closes end ∷ on) (bottom_push (Closes end) on (on_bottom n a refl)); room = a.room })
+        (λ e. record { world = refl; depth = d; sits = closing; bottom = bottom_push (Closes end) on (on_bottom n a refl); room = a.room })))
       where
         n : Node
         n = choice line test first close
@@ -141,21 +141,21 @@ module _ (setup : Setup) (code : List Statement) (to : Name → ℕ) where
         placed : Placed d (num + 1) first (b ∷ scopes es)
         placed = record { has = has_front code (num + 1) (block_code to first d (num + 1)) _ h.1; jumps = jumps_of n a; marked = marked_of n a; deep = deep_of n a }
 
-        closing : Sits ps (EndIf (num + 1 + sizes first) ∷ on) d (num + 1 + sizes first)
+        closing : Sits ps (Closes (num + 1 + sizes first) ∷ on) d (num + 1 + sizes first)
         closing =
             let last = tail_at first d (num + 1) _ h.1 in
             let after : num + size n ≡ num + 1 + sizes first + 1 = omega arith in
-            (refl, num + 1 + sizes first + 1, goes_by setup code to _ _ close OpEndIf last.0 refl (λ w ps. refl), on_sits n ps _ a a.rest after)
+            (refl, num + 1 + sizes first + 1, goes_by setup code to _ _ close EndIf last.0 refl (λ w ps. refl), on_sits n ps _ a a.rest after)
 
     choice_else_follows : (line : ℕ) (test : Tree) (first : Block) (mid : ℕ) (second : Block) (close : ℕ) → At ps b base i es d old (choice_else line test first mid second close) → Matched (at_node setup (Some (choice_else line test first mid second close)) num w old (Rest b base i ∷ es) on) (fetched setup (slice_get code num) w num ps)
     choice_else_follows line test first mid second close a =
         with_op _ (If (spelling test) (end + 1)) line w num ps h.0 (fork (test_in value_of w test) (test_in items_value w (spelling test)) (test_in-spelling w test) w num line old ps
-        (λ t. if_true t (state w (Rest first (num + 1) 0 ∷ EndIf end ∷ on)) (state w (Rest second (end + 1) 0 ∷ EndIf (end + 1 + sizes second) ∷ on)))
+        (λ t. if_true t (state w (Rest first (num + 1) 0 ∷ Closes end ∷ on)) (state w (Rest second (end + 1) 0 ∷ Closes (end + 1 + sizes second) ∷ on)))
         (λ t. if_true t (code_state w (num + 1) ps) (code_state w (end + 1) ps))
         (stays n line a)
         (λ t. choose t _ _ _ _
-        (λ e. record { world = refl; depth = d; sits = (sym (number_zero first (num + 1)), placed, middle); bottom = bottom_push (Rest first (num + 1) 0) (EndIf end ∷ on) (bottom_push (EndIf end) on (on_bottom n a refl)); room = a.room })
-        (λ e. record { world = refl; depth = d; sits = (sym (number_zero second (end + 1)), placed2, closing); bottom = bottom_push (Rest second (end + 1) 0) (EndIf (end + 1 + sizes second) ∷ on) (bottom_push (EndIf (end + 1 + sizes second)) on (on_bottom n a refl)); room = a.room })))
+        (λ e. record { world = refl; depth = d; sits = (sym (number_zero first (num + 1)), placed, middle); bottom = bottom_push (Rest first (num + 1) 0) (Closes end ∷ on) (bottom_push (Closes end) on (on_bottom n a refl)); room = a.room })
+        (λ e. record { world = refl; depth = d; sits = (sym (number_zero second (end + 1)), placed2, closing); bottom = bottom_push (Rest second (end + 1) 0) (Closes (end + 1 + sizes second) ∷ on) (bottom_push (Closes (end + 1 + sizes second)) on (on_bottom n a refl)); room = a.room })))
       where
         n : Node
         n = choice_else line test first mid second close
@@ -166,7 +166,7 @@ module _ (setup : Setup) (code : List Statement) (to : Name → ℕ) where
         h : HasAt code num (node_code to (choice_else line test first mid second close) d num)
         h = has (choice_else line test first mid second close) a
 
-        h2 : HasAt code (num + 1 + sizes first) (statement mid (Else (num + 1 + sizes first + 1 + sizes second + 1)) ∷ (block_code to second d (num + 1 + sizes first + 1) ++ statement close OpEndIf ∷ []))
+        h2 : HasAt code (num + 1 + sizes first) (statement mid (Else (num + 1 + sizes first + 1 + sizes second + 1)) ∷ (block_code to second d (num + 1 + sizes first + 1) ++ statement close EndIf ∷ []))
         h2 = tail_at first d (num + 1) _ h.1
 
         placed : Placed d (num + 1) first (b ∷ scopes es)
@@ -175,21 +175,21 @@ module _ (setup : Setup) (code : List Statement) (to : Name → ℕ) where
         placed2 : Placed d (num + 1 + sizes first + 1) second (b ∷ scopes es)
         placed2 = record { has = has_front code _ (block_code to second d (num + 1 + sizes first + 1)) _ h2.1; jumps = (jumps_of n a).1; marked = marked_back to (marks first (num + 1)) _ (marked_of n a); deep = (deep_of n a).1 }
 
-        middle : Sits ps (EndIf (num + 1 + sizes first) ∷ on) d (num + 1 + sizes first)
+        middle : Sits ps (Closes (num + 1 + sizes first) ∷ on) d (num + 1 + sizes first)
         middle =
             let after : num + size n ≡ num + 1 + sizes first + 1 + sizes second + 1 = omega arith in
             (refl, num + 1 + sizes first + 1 + sizes second + 1, goes_by setup code to _ _ mid (Else (num + 1 + sizes first + 1 + sizes second + 1)) h2.0 refl (λ w ps. refl), on_sits n ps _ a a.rest after)
 
-        closing : Sits ps (EndIf (num + 1 + sizes first + 1 + sizes second) ∷ on) d (num + 1 + sizes first + 1 + sizes second)
+        closing : Sits ps (Closes (num + 1 + sizes first + 1 + sizes second) ∷ on) d (num + 1 + sizes first + 1 + sizes second)
         closing =
             let last = tail_at second d (num + 1 + sizes first + 1) _ h2.1 in
             let after : num + size n ≡ num + 1 + sizes first + 1 + sizes second + 1 = omega arith in
-            (refl, num + 1 + sizes first + 1 + sizes second + 1, goes_by setup code to _ _ close OpEndIf last.0 refl (λ w ps. refl), on_sits n ps _ a a.rest after)
+            (refl, num + 1 + sizes first + 1 + sizes second + 1, goes_by setup code to _ _ close EndIf last.0 refl (λ w ps. refl), on_sits n ps _ a a.rest after)
 
     meas_follows : (line feature : ℕ) (body : Block) (close : ℕ) → At ps b base i es d old (meas line feature body close) → Matched (at_node setup (Some (meas line feature body close)) num w old (Rest b base i ∷ es) on) (fetched setup (slice_get code num) w num ps)
     meas_follows line feature body close a =
         with_op _ (Meas feature) line w num ps h.0
-        (record { world = refl; depth = d; sits = (sym (number_zero body (num + 1)), placed, closing); bottom = bottom_push (Rest body (num + 1) 0) (EndMeas (num + 1 + sizes body) ∷ on) (bottom_push (EndMeas (num + 1 + sizes body)) on (on_bottom n a refl)); room = a.room })
+        (record { world = refl; depth = d; sits = (sym (number_zero body (num + 1)), placed, closing); bottom = bottom_push (Rest body (num + 1) 0) (Closes (num + 1 + sizes body) ∷ on) (bottom_push (Closes (num + 1 + sizes body)) on (on_bottom n a refl)); room = a.room })
       where
         n : Node
         n = meas line feature body close
@@ -200,7 +200,7 @@ module _ (setup : Setup) (code : List Statement) (to : Name → ℕ) where
         placed : Placed d (num + 1) body (b ∷ scopes es)
         placed = record { has = has_front code (num + 1) (block_code to body d (num + 1)) _ h.1; jumps = jumps_of n a; marked = marked_of n a; deep = deep_of n a }
 
-        closing : Sits ps (EndMeas (num + 1 + sizes body) ∷ on) d (num + 1 + sizes body)
+        closing : Sits ps (Closes (num + 1 + sizes body) ∷ on) d (num + 1 + sizes body)
         closing =
             let last = tail_at body d (num + 1) _ h.1 in
             let after : num + size n ≡ num + 1 + sizes body + 1 = omega arith in
@@ -208,17 +208,17 @@ module _ (setup : Setup) (code : List Statement) (to : Name → ℕ) where
 
     -- the entries behind a SELECT whose choice is known
     select_lands : (line : ℕ) (value : Tree) (cases : Cases) (close : ℕ) → At ps b base i es d old (select line value cases close)
-        → slice_get code (num + 1 + case_sizes cases) ≡ Some (statement close OpEndSel) → (o : Option (Block × ℕ)) (target : ℕ)
+        → slice_get code (num + 1 + case_sizes cases) ≡ Some (statement close EndSel) → (o : Option (Block × ℕ)) (target : ℕ)
         → IsSelected setup code to d (num + 1) (num + 1 + case_sizes cases + 1) (b ∷ scopes es) (case_sizes cases) o target
         → Matched (state w (selected o (num + 1 + case_sizes cases) on)) (code_state w target ps)
     select_lands line value cases close a last None target h =
-        record { world = refl; depth = d; sits = (h, num + 1 + case_sizes cases + 1, goes, after); bottom = bottom_push (EndSel (num + 1 + case_sizes cases)) on (on_bottom n a refl); room = a.room }
+        record { world = refl; depth = d; sits = (h, num + 1 + case_sizes cases + 1, goes, after); bottom = bottom_push (Closes (num + 1 + case_sizes cases)) on (on_bottom n a refl); room = a.room }
       where
         n : Node
         n = select line value cases close
 
         goes : Goes setup code to target (num + 1 + case_sizes cases + 1)
-        goes = subst (λ k. Goes setup code to k (num + 1 + case_sizes cases + 1)) (sym h) (goes_by setup code to _ _ close OpEndSel last refl (λ w ps. refl))
+        goes = subst (λ k. Goes setup code to k (num + 1 + case_sizes cases + 1)) (sym h) (goes_by setup code to _ _ close EndSel last refl (λ w ps. refl))
 
         after : Sits ps on d (num + 1 + case_sizes cases + 1)
         after = (let e : num + size n ≡ num + 1 + case_sizes cases + 1 = omega arith in on_sits n ps _ a a.rest e)
@@ -226,8 +226,8 @@ module _ (setup : Setup) (code : List Statement) (to : Name → ℕ) where
         record {
           world = refl;
           depth = d;
-          sits = (h.target ∙ sym (number_zero p.0 p.1), h.placed, (refl, num + 1 + case_sizes cases + 1, goes_by setup code to _ _ h.line (OpEndCas (num + 1 + case_sizes cases + 1)) h.closing refl (λ w ps. refl), after));
-          bottom = bottom_push (Rest p.0 p.1 0) (EndCas (p.1 + sizes p.0) ∷ on) (bottom_push (EndCas (p.1 + sizes p.0)) on (on_bottom n a refl));
+          sits = (h.target ∙ sym (number_zero p.0 p.1), h.placed, (refl, num + 1 + case_sizes cases + 1, goes_by setup code to _ _ h.line (EndCas (num + 1 + case_sizes cases + 1)) h.closing refl (λ w ps. refl), after));
+          bottom = bottom_push (Rest p.0 p.1 0) (Closes (p.1 + sizes p.0) ∷ on) (bottom_push (Closes (p.1 + sizes p.0)) on (on_bottom n a refl));
           room = a.room;
         }
       where
@@ -259,9 +259,9 @@ module _ (setup : Setup) (code : List Statement) (to : Name → ℕ) where
         placed : CasesPlaced setup code to d (num + 1) (num + 1 + case_sizes cases + 1) (b ∷ scopes es) cases
         placed = record { has = has_front code (num + 1) (case_code to cases d (num + 1) (num + 1 + case_sizes cases + 1)) _ h.1; jumps = jumps_of n a; marked = marked_of n a; deep = deep_of n a }
 
-        last : HasAt code (num + 1 + case_sizes cases) (statement close OpEndSel ∷ [])
+        last : HasAt code (num + 1 + case_sizes cases) (statement close EndSel ∷ [])
         last =
-            subst (λ k. HasAt code (num + 1 + k) (statement close OpEndSel ∷ [])) (cases_length to cases d (num + 1) (num + 1 + case_sizes cases + 1))
+            subst (λ k. HasAt code (num + 1 + k) (statement close EndSel ∷ [])) (cases_length to cases d (num + 1) (num + 1 + case_sizes cases + 1))
             (has_back code (num + 1) (case_code to cases d (num + 1) (num + 1 + case_sizes cases + 1)) _ h.1)
 
     do_follows : (line v : ℕ) (init limit step : Tree) (body : Block) (close : ℕ) → At ps b base i es d old (do_loop line v init limit step body close) → Matched (at_node setup (Some (do_loop line v init limit step body close)) num w old (Rest b base i ∷ es) on) (fetched setup (slice_get code num) w num ps)

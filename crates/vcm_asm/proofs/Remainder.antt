@@ -8,7 +8,7 @@ use Rattle.vcm_spec.specs.Setup.{Setup}
 use Rattle.vcm_spec.specs.World.{World}
 use Rattle.vcm_spec.specs.Control.{is_zero}
 use Rattle.vcm_spec.specs.Program.{Label as Name, Node, Block, label, sizes, node_at, number_at, label_index}
-use Rattle.vcm_spec.specs.Table.{Entry, Rest, EndIf, EndMeas, EndCas, EndSel, Loop, State, drop_if_none, front, number_of, land_in, landing}
+use Rattle.vcm_spec.specs.Table.{Entry, Rest, Closes, Loop, State, drop_if_none, front, number_of, land_in, landing}
 use Rattle.vcm_spec.specs.Whole.{is_closed, IsAround, Jumps}
 use Rattle.vcm_spec.proofs.Labels.{missed}
 use Rattle.vcm_code.specs.declared.pair.Pair.{Pair}
@@ -23,10 +23,7 @@ use Rattle.vcm_asm.proofs.Place.{HasAt, past_end, Marked, marked_at, label_at}
 abbrev pub scopes : List Entry → List Block
 scopes [] = []
 scopes (Rest b base i ∷ es) = b ∷ scopes es
-scopes (EndIf n ∷ es) = scopes es
-scopes (EndMeas n ∷ es) = scopes es
-scopes (EndCas n ∷ es) = scopes es
-scopes (EndSel n ∷ es) = scopes es
+scopes (Closes n ∷ es) = scopes es
 scopes (Loop at v b c lim inc ∷ es) = scopes es
 
 pub get_set_other : (ps : List Pair) (i j : ℕ) (p x : Pair) → i < j → slice_get ps i ≡ Some x → slice_get (slice_set ps j p) i ≡ Some x
@@ -44,10 +41,7 @@ get_set_same ps j p lt =
 -- the last entry is the program, before its end
 abbrev pub BottomEntry : Entry → Type 0
 BottomEntry (Rest b base i) = ((n : Node) × (node_at b i ≡ Some n)) × IsTrue (is_closed b)
-BottomEntry (EndIf n) = ⊥
-BottomEntry (EndMeas n) = ⊥
-BottomEntry (EndCas n) = ⊥
-BottomEntry (EndSel n) = ⊥
+BottomEntry (Closes n) = ⊥
 BottomEntry (Loop at v b c lim inc) = ⊥
 
 abbrev pub Bottom : List Entry → Type 0
@@ -75,10 +69,7 @@ bottom_outer l e (f ∷ es) r h = h
 abbrev pub Live : List Entry → Type 0
 Live [] = ⊥
 Live (Rest b base i ∷ es) = (n : Node) × (node_at b i ≡ Some n)
-Live (EndIf n ∷ es) = Unit {0}
-Live (EndMeas n ∷ es) = Unit {0}
-Live (EndCas n ∷ es) = Unit {0}
-Live (EndSel n ∷ es) = Unit {0}
+Live (Closes n ∷ es) = Unit {0}
 Live (Loop at v b c lim inc ∷ es) = Unit {0}
 
 pub bottom_dropped : (b : Block) (base i : ℕ) (es : List Entry) → node_at b i ≡ None → Bottom (Rest b base i ∷ es) → Bottom es
@@ -112,10 +103,7 @@ module _ (setup : Setup) (code : List Statement) (to : Name → ℕ) where
   abbrev pub Sits : List Pair → List Entry → ℕ → ℕ → Type 0
   Sits ps [] d pc = Unit {0}
   Sits ps (Rest b base i ∷ es) d pc = (pc ≡ number_at b base i) × Placed d base b (scopes es) × Sits ps es d (base + sizes b)
-  Sits ps (EndIf n ∷ es) d pc = (pc ≡ n) × (target : ℕ) × Goes pc target × Sits ps es d target
-  Sits ps (EndMeas n ∷ es) d pc = (pc ≡ n) × (target : ℕ) × Goes pc target × Sits ps es d target
-  Sits ps (EndCas n ∷ es) d pc = (pc ≡ n) × (target : ℕ) × Goes pc target × Sits ps es d target
-  Sits ps (EndSel n ∷ es) d pc = (pc ≡ n) × (target : ℕ) × Goes pc target × Sits ps es d target
+  Sits ps (Closes n ∷ es) d pc = (pc ≡ n) × (target : ℕ) × Goes pc target × Sits ps es d target
   Sits ps (Loop at v b c lim inc ∷ es) zero pc = ⊥
   Sits ps (Loop at v b c lim inc ∷ es) (suc d) pc = Turns ps d pc at v b c lim inc × Placed (suc d) (at + 1) b (scopes es) × Sits ps es d (pc + 1)
 
@@ -123,10 +111,7 @@ module _ (setup : Setup) (code : List Statement) (to : Name → ℕ) where
   pub sits_set : (ps : List Pair) (j : ℕ) (p : Pair) (es : List Entry) (d pc : ℕ) → d ≤ j → Sits ps es d pc → Sits (slice_set ps j p) es d pc
   sits_set ps j p [] d pc le h = tt
   sits_set ps j p (Rest b base i ∷ es) d pc le h = (h.0, h.1, sits_set ps j p es d (base + sizes b) le h.2)
-  sits_set ps j p (EndIf n ∷ es) d pc le h = (h.0, h.1, h.2, sits_set ps j p es d h.1 le h.3)
-  sits_set ps j p (EndMeas n ∷ es) d pc le h = (h.0, h.1, h.2, sits_set ps j p es d h.1 le h.3)
-  sits_set ps j p (EndCas n ∷ es) d pc le h = (h.0, h.1, h.2, sits_set ps j p es d h.1 le h.3)
-  sits_set ps j p (EndSel n ∷ es) d pc le h = (h.0, h.1, h.2, sits_set ps j p es d h.1 le h.3)
+  sits_set ps j p (Closes n ∷ es) d pc le h = (h.0, h.1, h.2, sits_set ps j p es d h.1 le h.3)
   sits_set ps j p (Loop at v b c lim inc ∷ es) zero pc le h = absurd h
   sits_set ps j p (Loop at v b c lim inc ∷ es) (suc d) pc le h =
       let below : d < j = omega arith in
@@ -149,10 +134,7 @@ module _ (setup : Setup) (code : List Statement) (to : Name → ℕ) where
           let r' : IsAround l (scopes es) = ⊎_elim (λ (x : (k : ℕ) × (line : ℕ) × (node_at b k ≡ Some (label line l))). absurd (missed b l e x.0 x.1 x.2)) (λ x. x) r in
           next r'
       here next (Some k) e = (d, (at_label k e, h.1, h.2), bottom_move b base i k es (λ c. let f = label_at b l k e in (label f.0 l, f.1)) bot)
-  landed l ps (EndIf n ∷ es) d pc h r bot = landed l ps es d h.1 h.3 r (bottom_outer l (EndIf n) es r bot)
-  landed l ps (EndMeas n ∷ es) d pc h r bot = landed l ps es d h.1 h.3 r (bottom_outer l (EndMeas n) es r bot)
-  landed l ps (EndCas n ∷ es) d pc h r bot = landed l ps es d h.1 h.3 r (bottom_outer l (EndCas n) es r bot)
-  landed l ps (EndSel n ∷ es) d pc h r bot = landed l ps es d h.1 h.3 r (bottom_outer l (EndSel n) es r bot)
+  landed l ps (Closes n ∷ es) d pc h r bot = landed l ps es d h.1 h.3 r (bottom_outer l (Closes n) es r bot)
   landed l ps (Loop at v b c lim inc ∷ es) zero pc h r bot = absurd h
   landed l ps (Loop at v b c lim inc ∷ es) (suc d) pc h r bot = landed l ps es d (pc + 1) h.2 r (bottom_outer l (Loop at v b c lim inc) es r bot)
 
@@ -165,19 +147,13 @@ module _ (setup : Setup) (code : List Statement) (to : Name → ℕ) where
           let r = next (bottom_dropped b base i es e bot) in
           (subst (λ n. Sits ps (front es) d n) (sym (h.0 ∙ past_end b base i e)) r.0, r.1, r.2)
       here next (Some n) e = (h, bot, (n, e))
-  in_front ps (EndIf n ∷ es) d pc h bot = (h, bot, tt)
-  in_front ps (EndMeas n ∷ es) d pc h bot = (h, bot, tt)
-  in_front ps (EndCas n ∷ es) d pc h bot = (h, bot, tt)
-  in_front ps (EndSel n ∷ es) d pc h bot = (h, bot, tt)
+  in_front ps (Closes n ∷ es) d pc h bot = (h, bot, tt)
   in_front ps (Loop at v b c lim inc ∷ es) d pc h bot = (h, bot, tt)
 
   pub number_is : (ps : List Pair) (es : List Entry) (d pc : ℕ) → Sits ps es d pc → Live es → pc ≡ number_of es
   number_is ps [] d pc h live = absurd live
   number_is ps (Rest b base i ∷ es) d pc h live = h.0
-  number_is ps (EndIf n ∷ es) d pc h live = h.0
-  number_is ps (EndMeas n ∷ es) d pc h live = h.0
-  number_is ps (EndCas n ∷ es) d pc h live = h.0
-  number_is ps (EndSel n ∷ es) d pc h live = h.0
+  number_is ps (Closes n ∷ es) d pc h live = h.0
   number_is ps (Loop at v b c lim inc ∷ es) zero pc h live = absurd h
   number_is ps (Loop at v b c lim inc ∷ es) (suc d) pc h live = (h.0).number
 

@@ -7,8 +7,8 @@ use Rattle.vcm_spec.specs.Program.{Label, Node, Block, Cases, simple, label, jum
 use Rattle.vcm_spec.specs.Whole.{Jumps}
 use Rattle.vcm_spec.proofs.Labels.{label_itself}
 use Rattle.vcm_nodes.specs.Jumps.{is_among, node_labels, labels_of, labels_among}
-use Rattle.vcm_tree.specs.Program.{NodeNests, BlockNests, CasesNest, AreDistinct, IsWhole}
-use Rattle.vcm_tree.proofs.Reaching.{whole_steps}
+use Rattle.vcm_program.specs.Program.{NodeNests, BlockNests, CasesNest, AreDistinct, IsWhole}
+use Rattle.vcm_program.proofs.Reaching.{whole_steps}
 use Rattle.vcm_asm.specs.Assembled.{Mark, node_marks, marks, case_marks}
 use Rattle.vcm_asm.specs.inner.Once.{Absent, Once}
 use Rattle.vcm_asm.specs.inner.Depth.{NodeDeep, Deep, CasesDeep}

@@ -13,7 +13,7 @@ use Rattle.vcm_spec.specs.Fitting.{kinds, Fits, HasKindIn, NodeFits, BlockFits, 
 use Rattle.vcm_spec.specs.Program.{Label as Name, Node, Block, Cases, simple, label, jump, choice, choice_else, do_loop, meas, select, ending, done, then, no_more, one_case, default, size, sizes, case_sizes, is_same_label}
 use Rattle.vcm_spec.specs.Table.{if_true}
 use Rattle.vcm_spec.specs.Whole.{is_end, is_closed}
-use Rattle.vcm_tree.specs.Program.{IsWhole}
+use Rattle.vcm_program.specs.Program.{IsWhole}
 use Rattle.vcm_code.specs.declared.op.Op.TheVariants.{If, EndDo}
 use Rattle.vcm_code.specs.Code.{Statement}
 use Rattle.vcm_code.specs.Checks.{HasItems, AllHold, targets, OpFits}

@@ -2,7 +2,7 @@
 use Rattle.std.proofs.Common.{◌≡◌, ◌≤◌, List, length, refl, sym, ap, ◌∙◌, subst, arith}
 use Rattle.vcm_spec.specs.Setup.{Tables, setup_of}
 use Rattle.vcm_spec.specs.Program.{Block}
-use Rattle.vcm_tree.specs.Program.{IsWhole, AreNames as AreFewNames}
+use Rattle.vcm_program.specs.Program.{IsWhole, AreNames as AreFewNames}
 use Rattle.vcm_code.specs.declared.code.Code.{Code}
 use Rattle.vcm_code.specs.Code.{Statement}
 use Rattle.vcm_code.specs.Valid.{IsValid}

@@ -12,7 +12,7 @@ use crate::numbers::Numbers;
 use std::alloc::Global;
 use vcm_code::{Code, version_for};
 use vcm_num::NoMemory;
-use vcm_tree::Accepted;
+use vcm_program::Accepted;
 
 /// The statement code of an accepted program. It does, on each workpiece and after any number of steps, what the program does; it is valid, and
 /// its fields are in the ranges of an image.

@@ -2,15 +2,15 @@
 
 use std::alloc::Global;
 use std::fmt::Write as _;
-use vcm_command::{
-    Message, NoticeLine, asm_message, check_message, list_message, part_file_message, run_message,
-    status_of,
-};
 use vcm_job::{asm, build, check, debug, list, part_from, run};
+use vcm_messages::{
+    Message, NoticeLine, asm_message, check_message, debug_message, list_message,
+    part_file_message, run_message, status_of,
+};
 use vcm_motion::Strips;
 use vcm_part::PartData;
+use vcm_program::Noticed;
 use vcm_run::{run_text, write_result};
-use vcm_tree::Noticed;
 use vcm_views::{View, view_of};
 
 // A fault, and its exit status.
@@ -124,8 +124,15 @@ pub(crate) fn replies(alloc: Global, part: &str, program: &str, commands: &str) 
     let mut input = program.as_bytes();
     let mut lines = commands.as_bytes();
     let mut out = Vec::new(alloc);
-    let notices = debug(alloc, &part, &mut input, &mut lines, &mut out).ok()?;
-    printed(alloc, &out, notices.as_slice(), 0)
+    match debug(alloc, &part, &mut input, &mut lines, &mut out) {
+        Ok(notices) => printed(alloc, &out, notices.as_slice(), 0),
+        Err(fault) => {
+            let mut text = String::from_str(alloc, std::str::from_utf8(&out).ok()?).ok()?;
+            text.push_str(&told(alloc, debug_message(fault, "the program"))?)
+                .ok()?;
+            Some(text)
+        }
+    }
 }
 
 // Whether the image of a listing is that of a program.

@@ -4,7 +4,7 @@ use crate::answers::{asm_answer, check_answer, replies, run_answer};
 use crate::tally::Tally;
 use std::alloc::Global;
 use vcm_explain::{Entry, explanations};
-use vcm_test_texts::{BOUNDS, ONE_BLOCK, joined, program_of};
+use vcm_test_tools::{BOUNDS, ONE_BLOCK, joined, program_of};
 
 // What stands before the place and the kind of an example, and before what it gives.
 const BEGINS: &str = "For example, ";

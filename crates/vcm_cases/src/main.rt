@@ -3,7 +3,10 @@
 #![tactic(auto)]
 
 mod answers;
+mod asking;
 mod explained;
+mod faults;
+mod messages;
 mod script;
 mod tally;
 
@@ -21,7 +24,7 @@ fn main(rt: HostRuntime) -> ExitCode {
             return ExitCode::FAILURE;
         }
     }
-    if script.end(rt.alloc()).is_none() || script.explanations(rt.alloc()).is_none() {
+    if script.finish(rt.alloc()).is_none() || script.explanations(rt.alloc()).is_none() {
         return ExitCode::FAILURE;
     }
     let (wrong, right) = (script.tally().wrong(), script.tally().right());

@@ -3,10 +3,13 @@
 use crate::answers::{
     asm_answer, check_answer, image, image_answer, listing, replies, run_answer, view_answer,
 };
+use crate::asking::{explain_answer, words_answer};
 use crate::explained::judge_examples;
+use crate::messages::messages;
 use crate::tally::{MARK, Tally};
 use std::alloc::Global;
-use vcm_test_texts::program_of;
+use std::fmt::Write as _;
+use vcm_test_tools::program_of;
 use vcm_views::View;
 
 /// What stands below a heading.
@@ -42,6 +45,14 @@ enum Heading {
     Unlisted,
     /// A listing that has an image.
     Assembled,
+    /// Command lines, a line each, that ask for what the heading says.
+    Words,
+    /// Words, a line each, whose explanation begins with the line that the heading has.
+    Explain,
+    /// Words, a line each, of which nothing is known.
+    Unexplained,
+    /// What a command tells of each of its faults.
+    Messages,
     /// None of these.
     Unknown,
 }
@@ -54,6 +65,8 @@ pub(crate) struct Script {
     commands: String,
     title: String,
     body: String,
+    repeated: String,
+    times: u32,
     tally: Tally,
 }
 
@@ -76,6 +89,9 @@ fn heading_with(word: &str, rest: &str) -> Heading {
         "refused" => Heading::Refused,
         "images" => Heading::Images,
         "unlisted" => Heading::Unlisted,
+        "words" => Heading::Words,
+        "explain" => Heading::Explain,
+        "messages" => Heading::Messages,
         "#" => Heading::Remarks,
         _ => Heading::Unknown,
     }
@@ -110,6 +126,7 @@ fn heading_word(title: &str) -> Heading {
         "listing" => Heading::Listing,
         "image" => Heading::Image,
         "assembled" => Heading::Assembled,
+        "unexplained" => Heading::Unexplained,
         _ => Heading::Unknown,
     }
 }
@@ -125,16 +142,40 @@ fn answer(alloc: Global, script: &Script) -> Option<String> {
         Heading::Replies => replies(alloc, &script.part, &script.program, &script.commands),
         Heading::Listing => listing(alloc, &script.program),
         Heading::Image => image(alloc, &script.program),
+        Heading::Messages => messages(alloc, behind_word(&script.title)),
         _ => None,
+    }
+}
+
+// How often the lines below a heading are to stand there; none where it says nothing of that.
+fn times_of(title: &str) -> Option<u32> {
+    title.strip_prefix("repeat ")?.parse::<u32>().ok()
+}
+
+// A line with a number where the sign for it stands.
+fn numbered(alloc: Global, line: &str, number: u32) -> Option<String> {
+    let mut text = String::new(alloc);
+    for (place, piece) in line.split('%').enumerate() {
+        if place > 0 {
+            write!(text, "{number}").ok()?;
+        }
+        text.push_str(piece).ok()?;
+    }
+    Some(text)
+}
+
+// What a heading has behind its first word.
+fn behind_word(title: &str) -> &str {
+    match title.split_once(' ') {
+        Some((_, rest)) => rest,
+        None => "",
     }
 }
 
 // The answer to what is refused as a heading says, behind its first word, at a place.
 fn refusal(alloc: Global, title: &str, place: &str) -> Option<String> {
-    match title.split_once(' ') {
-        Some((_, words)) => format!(in alloc; "{words}{place}\nstatus 1\n").ok(),
-        None => None,
-    }
+    let words = behind_word(title);
+    format!(in alloc; "{words}{place}\nstatus 1\n").ok()
 }
 
 impl Script {
@@ -146,20 +187,60 @@ impl Script {
             commands: String::new(alloc),
             title: String::new(alloc),
             body: String::new(alloc),
+            repeated: String::new(alloc),
+            times: 0,
             tally: Tally::new(alloc),
         }
     }
 
     /// Reads one more line; none where memory runs out.
     pub(crate) fn take(&mut self, alloc: Global, line: &str) -> Option<()> {
-        if let Some(title) = line.strip_prefix(MARK) {
-            self.end(alloc)?;
-            self.title = String::from_str(alloc, title).ok()?;
+        match line.strip_prefix(MARK) {
+            Some(title) => self.take_heading(alloc, title),
+            None if self.times > 0 => {
+                self.repeated.push_str(line).ok()?;
+                self.repeated.push_str("\n").ok()
+            }
+            None => self.take_line(alloc, line),
+        }
+    }
+
+    // Reads a heading: one that goes on with what stands below the last one, or another.
+    fn take_heading(&mut self, alloc: Global, title: &str) -> Option<()> {
+        self.repeat(alloc)?;
+        if title == "then" {
             return Some(());
         }
+        if let Some(times) = times_of(title) {
+            self.times = times;
+            return Some(());
+        }
+        self.end(alloc)?;
+        self.title = String::from_str(alloc, title).ok()?;
+        Some(())
+    }
+
+    // Reads the lines that stand several times, with their number.
+    fn repeat(&mut self, alloc: Global) -> Option<()> {
+        let lines = std::mem::replace(&mut self.repeated, String::new(alloc));
+        let times = std::mem::replace(&mut self.times, 0);
+        for number in 0..times {
+            for line in lines.lines() {
+                let line = numbered(alloc, line, number)?;
+                self.take_line(alloc, &line)?;
+            }
+        }
+        Some(())
+    }
+
+    // Reads a line that is no heading.
+    fn take_line(&mut self, alloc: Global, line: &str) -> Option<()> {
         match heading_of(&self.title) {
             Heading::Refused => self.judge_refusal(alloc, line),
             Heading::Images => self.judge_image(alloc, line),
+            Heading::Words => self.judge_line(line, words_answer(alloc, line)),
+            Heading::Explain => self.judge_line(line, explain_answer(alloc, line)),
+            Heading::Unexplained => self.judge_unexplained(alloc, line),
             _ => {
                 self.body.push_str(line).ok()?;
                 self.body.push_str("\n").ok()
@@ -167,11 +248,18 @@ impl Script {
         }
     }
 
-    /// Ends what stands below a heading: it is set, or judged.
-    pub(crate) fn end(&mut self, alloc: Global) -> Option<()> {
+    /// Ends the text.
+    pub(crate) fn finish(&mut self, alloc: Global) -> Option<()> {
+        self.repeat(alloc)?;
+        self.end(alloc)
+    }
+
+    // Ends what stands below a heading: it is set, or judged.
+    fn end(&mut self, alloc: Global) -> Option<()> {
         let body = std::mem::replace(&mut self.body, String::new(alloc));
         match heading_of(&self.title) {
             Heading::Remarks | Heading::Refused | Heading::Images => Some(()),
+            Heading::Words | Heading::Explain | Heading::Unexplained => Some(()),
             Heading::Part => {
                 self.part = body;
                 Some(())
@@ -213,6 +301,19 @@ impl Script {
     fn judge_image(&mut self, alloc: Global, line: &str) -> Option<()> {
         let wanted = refusal(alloc, &self.title, "")?;
         let found = image_answer(alloc, line);
+        self.tally.judge(&self.title, line, &wanted, found)
+    }
+
+    // Judges the answer to a line, which is to be what the heading has behind its first word.
+    fn judge_line(&mut self, line: &str, found: Option<String>) -> Option<()> {
+        let wanted = behind_word(&self.title);
+        self.tally.judge(&self.title, line, wanted, found)
+    }
+
+    // Judges what is told where words have no explanation.
+    fn judge_unexplained(&mut self, alloc: Global, line: &str) -> Option<()> {
+        let wanted = format!(in alloc; "2 usage: nothing is known of {line}").ok()?;
+        let found = explain_answer(alloc, line);
         self.tally.judge(&self.title, line, &wanted, found)
     }
 

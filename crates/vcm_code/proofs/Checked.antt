@@ -11,8 +11,8 @@ use Rattle.vcm_spec.specs.Simple.{Simple}
 use Rattle.vcm_spec.specs.Expression.{HasKind}
 use Rattle.vcm_spec.specs.Setup.{Tables}
 use Rattle.vcm_spec.specs.Fitting.{kinds, Fits}
-use Rattle.vcm_expr.specs.inner.Runs.{ItemsFit}
-use Rattle.vcm_expr.proofs.Runs.{ItemsFit-typed}
+use Rattle.vcm_items.specs.Run.{ItemsFit}
+use Rattle.vcm_items.proofs.Runs.{ItemsFit-typed}
 use Rattle.vcm_code.specs.Code.{Statement}
 use Rattle.vcm_code.specs.declared.op.Op.TheVariants.{Plain, Do, Select}
 use Rattle.vcm_code.specs.declared.branch.Branch.{Branch}
@@ -97,20 +97,6 @@ module _ (t : Tables) (n : ℕ) where
   simple_holds (Obtain v source i word) f = (slice_get_within (kinds t) v Real f.0, (f.0, (f.1, tt)))
   simple_holds (Output source i) f = (f, tt)
   simple_holds (Text bytes) f = tt
-
-  pub simple_fits : (what : Simple (List Item)) → OpFits t n (Plain what) → Fits (HasItems t) t what
-  simple_fits (Goto x y z) h = (h.1.0, h.1.1.1.0, h.1.1.1.1.1.0)
-  simple_fits GoHome h = tt
-  simple_fits (Assign v e) h = h.1.1.0
-  simple_fits (Feat f x y z d) h = (h.0, (h.1.1.0, h.1.1.1.1.0, h.1.1.1.1.1.1.0))
-  simple_fits (PtMeas f x y z d) h = (h.0, (h.1.1.0, h.1.1.1.1.0, h.1.1.1.1.1.1.0))
-  simple_fits (SnSet which e) h = h.1.0
-  simple_fits (Trans f x y z) h = (h.0, (h.1.1.0, h.1.1.1.1.0, h.1.1.1.1.1.1.0))
-  simple_fits (Rotate f axis quarters) h = h.0
-  simple_fits (Recall f) h = h.0
-  simple_fits (Obtain v source f word) h = (h.1.0, h.1.1.0)
-  simple_fits (Output source f) h = h.0
-  simple_fits (Text bytes) h = tt
 
   -- a DO, whose values are INT
   pub do_holds : (v p : ℕ) (a b c : List Item) (exit : ℕ) → slice_get (kinds t) v ≡ Some Int → HasItems t a Int → HasItems t b Int → HasItems t c Int

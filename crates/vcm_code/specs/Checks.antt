@@ -6,7 +6,7 @@ use Rattle.vcm_spec.specs.declared.expression.Item.TheVariants.{Push, Apply, Com
 use Rattle.vcm_spec.specs.Expression.{HasKind}
 use Rattle.vcm_spec.specs.Setup.{Tables}
 use Rattle.vcm_spec.specs.Fitting.{kinds as kinds_of}
-use Rattle.vcm_expr.specs.Typed.{VariableBelow}
+use Rattle.vcm_items.specs.Typed.{VariableBelow}
 use Rattle.vcm_code.specs.declared.branch.Branch.{Branch}
 use Rattle.vcm_code.specs.Code.{Op, Statement}
 use Rattle.vcm_code.specs.declared.code.Code.{Code}

@@ -1,11 +1,9 @@
 pub mod Code
 pub mod CodeTable
-pub mod CodeRules
 pub mod Shape
 pub mod Words
 pub mod Checks
 pub mod Valid
 pub mod Ranges
-pub mod CodeLaws
 pub mod Copies
 pub mod Deciding

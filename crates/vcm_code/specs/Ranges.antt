@@ -5,7 +5,7 @@ use Rattle.std.specs.List.{AllByRecursion, list_any}
 use Rattle.vcm_spec.specs.declared.expression.Item.{Item}
 use Rattle.vcm_spec.specs.TextBytes.{IsText}
 use Rattle.vcm_spec.specs.Table.{if_true}
-use Rattle.vcm_expr.specs.NameBytes.{IsName}
+use Rattle.vcm_items.specs.NameBytes.{IsName}
 use Rattle.vcm_code.specs.declared.version.Version.{Version}
 use Rattle.vcm_code.specs.declared.version.Version.TheVariants.{One, Two}
 use Rattle.vcm_code.specs.Code.{Op, Statement}
@@ -13,7 +13,7 @@ use Rattle.vcm_code.specs.declared.code.Code.{Code}
 use Rattle.vcm_code.specs.Words.{word_of, is_of_select}
 use Rattle.vcm_code.specs.Shape.{Place, Said, InOperands}
 use Rattle.vcm_code.specs.Shape as at
-use Rattle.vcm_expr.specs.Names.{AreNamed}
+use Rattle.vcm_items.specs.Names.{AreNamed}
 
 -- an expression has at least one item and at most 1,024
 abbrev pub IsShort : List Item → Type 0

@@ -1,12 +1,13 @@
 -- What makes a code valid, so that a machine can carry it out without a test.
 use Rattle.std.specs.Prelude.{List, [], ◌∷◌}
-use Rattle.vcm_code.specs.Code.{Op, Statement}
+use Rattle.vcm_code.specs.Code.{Statement}
 use Rattle.vcm_code.specs.declared.code.Code.{Code}
+use Rattle.vcm_code.specs.declared.op.Op.{Op as Kept}
 use Rattle.vcm_code.specs.declared.op.Op.TheVariants.{EndFil}
 use Rattle.vcm_code.specs.Checks.{AllHold, checks}
 
--- it is ENDFIL
-abbrev pub IsLast : Op → Type 0
+-- it is ENDFIL, however the expressions, the texts and the branches of statements are kept
+abbrev pub IsLast : {E T B : Type 0} → Kept E T B → Type 0
 IsLast EndFil = Unit {0}
 IsLast _ = ⊥
 

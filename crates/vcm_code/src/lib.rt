@@ -4,7 +4,6 @@
 mod branch;
 mod code;
 mod copying;
-pub mod laws;
 mod op;
 mod pair;
 mod version;

@@ -6,7 +6,7 @@ use vcm_usage::{More, Usage, Word, usages};
 use vcm_views::View;
 
 /// What a command line asks for.
-#[derive(Clone, Copy, PartialEq, Eq)]
+#[derive(Clone, Copy)]
 pub enum Request<'a> {
     /// No words: a job from standard input.
     Job,

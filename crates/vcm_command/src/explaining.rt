@@ -1,11 +1,11 @@
 //! Explanations, on the standard devices.
 
-use crate::message::Message;
 use crate::program::{fails, output, written};
 use std::alloc::Global;
 use std::fmt::Write as _;
 use std::io::Write;
 use vcm_explain::{Entry, explanation, explanations};
+use vcm_messages::Message;
 use vcm_num::write_all;
 
 // Appends the titles of explanations, a line each.

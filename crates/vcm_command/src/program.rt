@@ -2,10 +2,6 @@
 
 use crate::command_line::{Request, request_of, steps_of};
 use crate::explaining::explain;
-use crate::message::{
-    Message, NoticeLine, asm_message, build_message, check_message, debug_message, job_message,
-    list_message, part_file_message, run_message, status_of,
-};
 use clap::Error;
 use clap::error::ErrorKind;
 use std::alloc::Global;
@@ -13,9 +9,13 @@ use std::fmt::{self, Write as _};
 use std::io::{self, BufWriter, Printer, Read, Write};
 use std::rt::{Env, Files};
 use vcm_job::{Done, asm, build, check, debug, job, list, part_from, run};
+use vcm_messages::{
+    Message, NoticeLine, asm_message, build_message, check_message, debug_message, job_message,
+    list_message, part_file_message, run_message, status_of,
+};
 use vcm_num::write_all;
 use vcm_part::PartData;
-use vcm_tree::Noticed;
+use vcm_program::Noticed;
 use vcm_views::{View, view_of};
 
 // Tells a fault on standard error, and gives its exit status.

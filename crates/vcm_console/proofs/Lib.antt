@@ -2,3 +2,4 @@ pub mod LinesRead
 pub mod LineRoom
 pub mod RaisedNames
 pub mod ListedLine
+pub mod OneLine

@@ -1,8 +1,8 @@
 -- Lines that are read byte by byte.
-use Rattle.std.proofs.Common.{◌≡◌, ◌≢◌, ℕ, zero, suc, ◌+◌, ◌≤◌, false, List, [], ◌∷◌, ◌++◌, length, take, drop, Option, Some, None, refl, sym, ap, ◌∙◌, subst, arith, append_assoc, length-append}
-use Rattle.std.proofs.lemmas.List.{append-nil, drop_at}
+use Rattle.std.proofs.Common.{◌≡◌, ◌≢◌, ℕ, zero, suc, ◌+◌, List, [], ◌∷◌, ◌++◌, length, take, drop, Option, Some, None, refl, sym, ap, ◌∙◌, subst, arith, append_assoc, length-append}
+use Rattle.std.proofs.lemmas.List.{drop_at}
 use Rattle.std.specs.Prelude.{IfSome}
-use Rattle.vcm_console.specs.Reading.{IsNextOf, AllPlain, IsLong, kept_of, HasLine}
+use Rattle.vcm_console.specs.Reading.{IsNextOf, AllPlain, IsLong, kept_of}
 
 -- these bytes of a line were read, and this is left
 pub record HasRead (input : List ℕ) (after : Option (List ℕ)) (kept : List ℕ) (used : ℕ) : Type 0 where
@@ -18,18 +18,6 @@ pub record HasRead (input : List ℕ) (after : Option (List ℕ)) (kept : List �
 abbrev pub HasReadOf : Option (List ℕ) → Option (List ℕ) → List ℕ → ℕ → Type 0
 HasReadOf known after kept used = IfSome known (λ input. HasRead input after kept used)
 
-pub none_read : (known : Option (List ℕ)) → HasReadOf known known [] 0
-none_read None = tt
-none_read (Some input) = record {
-  seen = [];
-  rest = input;
-  cut = refl;
-  plain = tt;
-  used_is = refl;
-  kept_is = refl;
-  after_is = refl;
-}
-
 plain_more : (xs : List ℕ) (b : ℕ) → AllPlain xs → b ≢ 10 → AllPlain (xs ++ b ∷ [])
 plain_more [] b h n = (n, tt)
 plain_more (x ∷ xs) b h n = (h.0, plain_more xs b h.1 n)
@@ -39,9 +27,6 @@ kept_from : (n : ℕ) (xs : List ℕ) (b : ℕ) → take n (take n xs ++ b ∷ [
 kept_from zero xs b = refl
 kept_from (suc n) [] b = refl
 kept_from (suc n) (x ∷ xs) b = ap (λ l. x ∷ l) (kept_from n xs b)
-
-some_is : {A : Type 0} (x y : A) → Some x ≡ Some y → x ≡ y
-some_is x y e = cc
 
 one_read : (input : List ℕ) (after later : Option (List ℕ)) (kept more : List ℕ) (used b : ℕ) → HasRead input after kept used
     → IfSome after (λ i. IsNextOf i later (Some b)) → b ≢ 10 → more ≡ take 258 (kept ++ b ∷ []) → HasRead input later more (used + 1)
@@ -77,32 +62,3 @@ too_long left (Some input) after later kept used b e h next =
       record { seen = h.seen; rest = h.rest; cut = h.cut; plain = h.plain; long = omega (arith, u, e); more = omega (arith, some) },
       k.2 ∙ ap Some (sym (ap (drop (left + 1)) cut ∙ drop_at (h.seen ++ b ∷ []) k.0 (left + 1) n)),
     )
-
--- the input's end
-pub none_left : (known after later : Option (List ℕ)) (kept : List ℕ) (used : ℕ) → used ≡ 0 → HasReadOf known after kept used
-    → IfSome after (λ i. IsNextOf i later None) → IfSome known (λ input. (input ≡ []) × (later ≡ Some []))
-none_left None after later kept used e h next = tt
-none_left (Some input) after later kept used e h next =
-    let k = subst (λ a. IfSome a (λ i. IsNextOf i later None)) h.after_is next in
-    let u = h.used_is in
-    (h.cut ∙ ap (λ l. h.seen ++ l) k.0 ∙ append-nil h.seen ∙ nothing h.seen (omega (arith, e, u)), k.1 ∙ ap Some k.0)
-  where
-    nothing : (xs : List ℕ) → length xs ≡ 0 → xs ≡ []
-    nothing [] e = refl
-    nothing (x ∷ xs) e = absurd (omega arith)
-
-pub last_read : (left : ℕ) (known after later : Option (List ℕ)) (kept : List ℕ) (used : ℕ) → used ≤ left → (used ≡ 0 → ⊥) → HasReadOf known after kept used
-    → IfSome after (λ i. IsNextOf i later None) → IfSome known (λ input. HasLine left input later kept false used)
-last_read left None after later kept used l z h next = tt
-last_read left (Some input) after later kept used l z h next =
-    let k = subst (λ a. IfSome a (λ i. IsNextOf i later None)) h.after_is next in
-    let u = h.used_is in
-    record {
-      raw = h.seen;
-      rest = [];
-      begins = (h.cut ∙ ap (λ l. h.seen ++ l) k.0 ∙ append-nil h.seen, refl, h.plain, omega (arith, u, z));
-      kept_is = h.kept_is;
-      used_is = u;
-      fits = l;
-      after_is = k.1 ∙ ap Some k.0;
-    }

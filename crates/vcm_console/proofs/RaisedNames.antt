@@ -5,7 +5,7 @@ use Rattle.std.specs.List.{list_all}
 use Rattle.std.proofs.lemmas.Bool.{and_parts, and_from}
 use Rattle.std.proofs.lemmas.List.{length-map, take_all}
 use Rattle.vcm_lines.specs.Bytes.{upper}
-use Rattle.vcm_expr.specs.NameBytes.{is_name_byte, IsName}
+use Rattle.vcm_items.specs.NameBytes.{is_name_byte, IsName}
 use Rattle.vcm_console.specs.Parsing.{may_stand_in_name}
 
 raised_byte : (b : ℕ) → may_stand_in_name b ≡ true → is_name_byte (upper b) ≡ true

@@ -1,3 +1,4 @@
 pub mod Parsing
 pub mod Replies
 pub mod Reading
+pub mod Laws

@@ -2,7 +2,7 @@
 
 use crate::reply::CommandRefusal;
 use std::marker::Model;
-use vcm_expr::Name;
+use vcm_items::Name;
 
 /// The most steps or lines of a command.
 const MOST: u64 = 1_000_000;

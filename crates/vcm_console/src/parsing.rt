@@ -9,7 +9,7 @@ ghost use Rattle.vcm_lines.specs.Bytes.{upper};
 
 use crate::command::{Command, Count, VariableRef};
 use crate::reply::{CommandRefusal, Reply};
-use vcm_expr::Name;
+use vcm_items::Name;
 use vcm_lines::upper;
 use vcm_num::is;
 

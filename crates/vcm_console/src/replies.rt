@@ -10,9 +10,8 @@ ghost use Rattle.vcm_spec.specs.declared.words.Source.TheVariants.{Nominal, Actu
 use crate::reply::{CommandRefusal, Reason, Reply, Standing};
 use itoa::Buffer;
 use std::io::Write;
-use vcm_expr::Kind;
 use vcm_loader::Loaded;
-use vcm_num::{WriteFault, int_text, thousandths_text, write_all, write_pieces};
+use vcm_num::{Kind, WriteFault, int_text, thousandths_text, write_all, write_pieces};
 use vcm_output::Lines;
 use vcm_print::write_statement;
 use vcm_report::{write_feature, write_last_lines, write_stop_line};

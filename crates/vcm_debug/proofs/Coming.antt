@@ -1,5 +1,5 @@
 -- Machines that take steps.
-use Rattle.std.proofs.Common.{◌≡◌, ℕ, suc, ◌+◌, ◌-◌, ◌<◌, ◌≤◌, Option, Some, None, Ok, Err, refl, sym, ap, ◌∙◌, subst, arith, true, false}
+use Rattle.std.proofs.Common.{◌≡◌, ℕ, suc, ◌+◌, ◌-◌, ◌<◌, ◌≤◌, Option, Some, None, Ok, refl, sym, ap, ◌∙◌, arith, true, false}
 use Rattle.std.specs.Prelude.{List, slice_get}
 use Rattle.std.specs.Option.{is_some}
 use Rattle.vcm_spec.specs.declared.stop.StopPlace.{StopPlace}
@@ -8,7 +8,7 @@ use Rattle.vcm_spec.specs.Stepping.{unless_stopped}
 use Rattle.vcm_spec.proofs.Steps.{none_effective, effective_reaches}
 use Rattle.vcm_code.specs.Code.{Statement}
 use Rattle.vcm_code.specs.CodeTable.{CodeState, code_stop, code_step, fetched}
-use Rattle.vcm_machine.specs.Running.{Running, setup, moved, started, later, WantsMemory}
+use Rattle.vcm_machine.specs.Running.{Running, setup, moved, started, later}
 use Rattle.vcm_machine.proofs.LawLemmas.{add_up}
 use Rattle.vcm_debug.specs.Halting.{effective}
 use Rattle.vcm_debug.specs.inner.Going.{begun, HasStepped}
@@ -40,13 +40,6 @@ pub record HasGone (k : ℕ) (old new : Running) (done : ℕ) : Type 0 where
   pub rest : done + effective (k - done) (later done old) ≡ effective k old
 
 module _ (k : ℕ) (old : Running) where
-  pub sets_out : HasGone k old old 0
-  sets_out = record {
-    new_is = refl;
-    within = omega arith;
-    rest = (let e : k - 0 ≡ k = omega arith in let f = ap (λ m. effective m old) e in omega (arith, f));
-  }
-
   module _ (new : Running) (done : ℕ) (gone : HasGone k old new done) where
     abbrev s : Running
     s = later done old
@@ -66,13 +59,7 @@ module _ (k : ℕ) (old : Running) where
           rest = (let r = gone.rest in omega (arith, counted, again, r));
         }
 
-    -- all k are taken, or it has stopped
-    pub counts : k ≤ done → HasStepped k old new (Ok done)
-    counts l =
-        let z : k - done ≡ 0 = omega arith in
-        let none = ap (λ m. effective m s) z in
-        (gone.new_is, (let r = gone.rest in omega (arith, none, r)), gone.within)
-
+    -- it has stopped
     pub stops : (p : StopPlace) → new.state.world.stop ≡ Some p → HasStepped k old new (Ok done)
     stops p e =
         let none = stopped_effective (k - done) s p (sym (ap (λ h. h.state.world.stop) gone.new_is) ∙ e) in
@@ -82,9 +69,6 @@ module _ (k : ℕ) (old : Running) where
     pub has_stopped : (o : Option StopPlace) → new.state.world.stop ≡ o → is_some o ≡ true → HasStepped k old new (Ok done)
     has_stopped None e f = absurd cc
     has_stopped (Some p) e f = stops p e
-
-    pub refused : (next : Running) → done < k → next ≡ new → WantsMemory new → HasStepped k old next (Err done)
-    refused next l e wants = (e ∙ gone.new_is, l, subst WantsMemory (sym e) wants)
 
 pub none_of : {A : Type 0} → (o : Option A) → is_some o ≡ false → o ≡ None
 none_of None e = refl

@@ -4,7 +4,7 @@ use Rattle.std.specs.Prelude.{All}
 use Rattle.std.proofs.lemmas.List.Elements.{All-push}
 use Rattle.vcm_spec.specs.Setup.{Tables}
 use Rattle.vcm_spec.specs.Fitting.{kinds}
-use Rattle.vcm_expr.specs.Slots.{SlotsFit}
+use Rattle.vcm_items.specs.Slots.{SlotsFit}
 use Rattle.vcm_machine.proofs.Evaluating.{slots_long}
 use Rattle.std.proofs.lemmas.List.{length-map}
 

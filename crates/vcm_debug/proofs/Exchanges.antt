@@ -14,7 +14,6 @@ use Rattle.vcm_console.specs.declared.reply.Reply.TheVariants.{Refused}
 use Rattle.vcm_console.specs.Parsing.{command_or_refusal, replied, command_of}
 use Rattle.vcm_console.specs.Replies.{ReplyFits}
 use Rattle.vcm_debug.specs.Debugging.{Debugging}
-use Rattle.vcm_debug.specs.Session.{Carries}
 use Rattle.vcm_debug.specs.Serving.{answer_text, AnswersTo, is_bye, Exchange, IsExchange}
 use Rattle.vcm_debug.specs.inner.Exchanges.{HasExchanged}
 
@@ -46,11 +45,7 @@ pub exchange_cut : (old new : Debugging) (line : List ℕ) (told : Result Reply 
     → AnswersTo old (command_of line) new told → AppendsFront before after (answer_text new told) → HasExchanged old line new before after (Err e)
 exchange_cut old new line told before after e l a w = (answer_text new told, is_bye told, told_exchange old new line told l a, inl w)
 
--- a command is carried out, and a line that spells none is refused
-pub carried : (old new : Debugging) (line : List ℕ) (what : Command) (told : Result Reply Halted) → Ok what ≡ command_of line → Carries old what new told
-    → AnswersTo old (command_of line) new told
-carried old new line what told e c = subst (λ r. AnswersTo old r new told) e c
-
+-- a line that spells no command is refused
 pub refused : (d : Debugging) (line : List ℕ) (reply : Reply) → Err reply ≡ command_of line → AnswersTo d (command_of line) d (Ok reply)
 refused d line reply e = subst (λ r. AnswersTo d r d (Ok reply)) e (refl, refl)
 

@@ -9,7 +9,7 @@ use Rattle.vcm_machine.proofs.LawLemmas.{add_up}
 use Rattle.vcm_debug.specs.Debugging.{Debugging, after, shown}
 use Rattle.vcm_debug.specs.Halting.{reason_after}
 use Rattle.vcm_debug.specs.Session.{HaltsAfter}
-use Rattle.vcm_debug.specs.inner.Going.{IsSession, begun, IsHaltedRun, HasStepped}
+use Rattle.vcm_debug.specs.inner.Going.{IsSession, IsHaltedRun, HasStepped}
 use Rattle.vcm_debug.proofs.Coming.{later_effective}
 
 -- so many steps more
@@ -32,10 +32,6 @@ module _ (part : Workpiece) (code : Code) (old new : Running) (a n : ℕ) (ran :
   stopped_by c =
       let d = subst (λ x. RunEnded (n - a) old new ran.done x) c r.ended in
       r.new_is ∙ ap (λ m. later m old) d.0 ∙ sym (later_effective (n - a) old) ∙ all_of
-
--- the machine of a session is at its count from its own start
-pub at_own : (part : Workpiece) (code : Code) (m : Running) (count : ℕ) → m ≡ after part code count → m ≡ begun m count
-at_own part code m count e = subst (λ x. x ≡ begun x count) (sym e) refl
 
 -- the session of a machine that has taken more steps
 pub moved_on : (part : Workpiece) (code : Code) (old new : Running) (count done : ℕ) (breakpoints watches : List Bool) (before room : List ℤ)

@@ -1,10 +1,10 @@
 -- Runs that haven't ended.
-use Rattle.std.proofs.Common.{◌≡◌, ℕ, zero, suc, ◌+◌, ◌-◌, ◌<◌, ◌≤◌, Bool, true, false, List, length, get_or, slice_get, Option, Some, None, Ok, Err, refl, sym, ap, ◌∙◌, subst, arith, below_more}
+use Rattle.std.proofs.Common.{◌≡◌, ℕ, suc, ◌+◌, ◌-◌, ◌<◌, ◌≤◌, Bool, true, false, List, length, get_or, slice_get, Option, Some, None, Ok, sym, ap, ◌∙◌, arith, below_more}
 use Rattle.std.proofs.lemmas.Option.{slice_get-get_or}
-use Rattle.vcm_machine.specs.Running.{Running, later, WantsMemory}
+use Rattle.vcm_machine.specs.Running.{Running, later}
 use Rattle.vcm_machine.proofs.LawLemmas.{add_up}
 use Rattle.vcm_console.specs.declared.reply.Reason.{Reason}
-use Rattle.vcm_console.specs.declared.reply.Reason.TheVariants.{Break, Count}
+use Rattle.vcm_console.specs.declared.reply.Reason.TheVariants.{Break}
 use Rattle.vcm_debug.specs.Halting.{changed_from, watch_reason, break_reason, stop_reason, reason, reason_after, ends_after, run_end}
 use Rattle.vcm_debug.specs.inner.Going.{HasRun}
 
@@ -27,14 +27,6 @@ module _ (breakpoints watches : List Bool) (k : ℕ) (old : Running) where
     pub within : done ≤ k
     pub none_ends : (i : ℕ) → i < done → reason_after breakpoints watches old i ≡ None
     pub rest : run_end breakpoints watches (k - done) done (later done old) ≡ run_end breakpoints watches k 0 old
-
-  pub begins : HasCome old 0
-  begins = record {
-    new_is = refl;
-    within = omega arith;
-    none_ends = λ i l. absurd (omega arith);
-    rest = (let e : k - 0 ≡ k = omega arith in ap (λ m. run_end breakpoints watches m 0 old) e);
-  }
 
   module _ (new after : Running) (done : ℕ) (come : HasCome new done) (l : done < k) (stepped : after ≡ later 1 new) where
     abbrev s : Running
@@ -83,14 +75,3 @@ module _ (breakpoints watches : List Bool) (k : ℕ) (old : Running) where
 
     pub come_is : after ≡ later (done + 1) old
     come_is = after_is ∙ one_on
-
-  module _ (new : Running) (done : ℕ) (come : HasCome new done) where
-    -- all steps are taken
-    pub counts : k ≤ done → HasRun breakpoints watches k old new (Ok (done, Count))
-    counts l =
-        let z : k - done ≡ zero = omega arith in
-        (come.new_is, sym (ap (λ m. run_end breakpoints watches m done (later done old)) z) ∙ come.rest, come.within)
-
-    -- memory was refused
-    pub refused : (next : Running) → done < k → next ≡ new → WantsMemory new → HasRun breakpoints watches k old next (Err done)
-    refused next l e wants = record { new_is = e ∙ come.new_is; within = l; none_ends = come.none_ends; wants = subst WantsMemory (sym e) wants }

@@ -9,7 +9,7 @@ use crate::forward::{run_on, step_on, values};
 use crate::session::Session;
 use std::alloc::Global;
 use vcm_console::{CommandRefusal, Halted, Reason, Reply, VariableRef};
-use vcm_expr::Name;
+use vcm_items::Name;
 use vcm_machine::Machine;
 use vcm_motion::Part;
 use vcm_num::NoMemory;

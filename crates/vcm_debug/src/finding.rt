@@ -6,7 +6,7 @@ ghost use Rattle.std.specs.Str.{bytes_eq};
 ghost use Rattle.vcm_debug.specs.Session.{is_wanted, recorded};
 
 use vcm_console::VariableRef;
-use vcm_expr::Name;
+use vcm_items::Name;
 use vcm_loader::Loaded;
 use vcm_spec::Feature;
 use vcm_tables::{Tables, Variable};

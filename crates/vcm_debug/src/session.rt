@@ -11,7 +11,7 @@ use std::alloc::Global;
 use std::io::Write;
 use std::marker::Model;
 use vcm_console::{Command, Halted, Reply, Standing, VariableRef, write_halt, write_reply};
-use vcm_expr::Name;
+use vcm_items::Name;
 use vcm_loader::Loaded;
 use vcm_machine::Machine;
 use vcm_motion::Part;

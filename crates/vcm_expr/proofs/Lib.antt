@@ -1,7 +1,3 @@
-pub mod Runs
-pub mod PostfixKinds
-pub mod Truths
-pub mod NameLemmas
 pub mod TypedKinds
 pub mod PieceLemmas
 pub mod TypingSteps

@@ -17,15 +17,14 @@ use Rattle.vcm_lines.specs.declared.fault.SourceFault.{SourceFault}
 use Rattle.vcm_expr.specs.declared.expression.Term.{Term}
 use Rattle.vcm_expr.specs.declared.expression.Piece.{Piece}
 use Rattle.vcm_expr.specs.declared.typing.Want.{Want}
-use Rattle.vcm_expr.specs.Source.{Source, Plain, depth_of, nodes_of, is_small}
-use Rattle.vcm_expr.specs.Typed.{VariableBelow, VariablesBelow}
+use Rattle.vcm_expr.specs.Source.{Source, Plain, depth_of, nodes_of, is_small, parts}
+use Rattle.vcm_items.specs.Typed.{VariableBelow, VariablesBelow}
 use Rattle.vcm_expr.specs.Typing.{leaf_of, kinded, is_scaled, scaled, scaled_kind, typed_as, pair_by, and_then, typed_of, wanted_by, wanted_kind, typed_for}
-use Rattle.vcm_expr.specs.Source.{parts}
-use Rattle.vcm_expr.specs.inner.Runs.{ItemsFit}
+use Rattle.vcm_items.specs.Run.{ItemsFit}
 use Rattle.vcm_expr.specs.inner.Trees.{topmost, scaling, Spelled, SpelledFor}
-use Rattle.vcm_expr.proofs.Runs.{ItemsFit-spelling}
-use Rattle.vcm_expr.proofs.PostfixKinds.{need-le-depth, spelling-HasKind}
-use Rattle.vcm_expr.proofs.Truths.{spelling-short}
+use Rattle.vcm_items.proofs.Runs.{ItemsFit-spelling}
+use Rattle.vcm_items.proofs.PostfixKinds.{need-le-depth, spelling-HasKind}
+use Rattle.vcm_items.proofs.Truths.{spelling-short}
 use Rattle.vcm_expr.proofs.TypedKinds.{typed_for_fine}
 
 -- what is kept is the tree that the items spell

@@ -18,7 +18,7 @@ use Rattle.vcm_expr.specs.declared.typing.Want.{Want}
 use Rattle.vcm_expr.specs.declared.typing.Want.TheVariants.{Int as WantInt, Length, Bool as WantBool}
 use Rattle.vcm_expr.specs.Source.{Source, Plain, Prefixed, Pair, depth_of, nodes_of}
 use Rattle.vcm_spec.specs.Setup.{Variable, kinds_of}
-use Rattle.vcm_expr.specs.Names.{variable_of}
+use Rattle.vcm_items.specs.Names.{variable_of}
 use Rattle.vcm_expr.specs.Typing.{Kinded, kinded, variable_by, named_by, leaf_of, prefixed_by, typed_as, is_scaled, scaled, scaled_kind, pair_by, and_then, typed_of, wanted_by, wanted_kind, typed_for}
 
 -- only whole numbers are scaled

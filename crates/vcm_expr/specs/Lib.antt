@@ -1,8 +1,3 @@
-pub mod Typed
-pub mod Slots
-pub mod Run
-pub mod NameBytes
-pub mod Names
 pub mod Source
 pub mod Typing
 pub mod Digits

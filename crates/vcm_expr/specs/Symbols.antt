@@ -1,6 +1,5 @@
 -- The words of a statement as symbols of an expression.
-use Rattle.std.specs.Prelude.{◌≡◌, ℕ, ◌&&◌, if◌then◌else◌, Bool, true, false, List, [], ◌∷◌, map, Option, Some, None, Result, Ok, Err}
-use Rattle.std.specs.Char.{is_ascii_uppercase}
+use Rattle.std.specs.Prelude.{ℕ, if◌then◌else◌, List, map, Option, Some, None, Result, Ok, Err}
 use Rattle.vcm_num.specs.Words.{look_up}
 use Rattle.vcm_num.specs.declared.number.Literal.{Literal}
 use Rattle.vcm_num.specs.declared.read.NumFault.{NumFault}
@@ -18,16 +17,7 @@ use Rattle.vcm_expr.specs.declared.symbol.Symbol.{Symbol}
 use Rattle.vcm_expr.specs.declared.symbol.Symbol.TheVariants.{Operand, Dash, Cross, Star, Slash, NotWord, AndWord}
 use Rattle.vcm_expr.specs.declared.symbol.Symbol.TheVariants.{OrWord, RelationWord, Opening, Closing, Other}
 use Rattle.vcm_expr.specs.Digits.{read_of}
-use Rattle.vcm_expr.specs.NameBytes.{is_name}
-
--- whether bytes are a variable's name: a name that begins with a letter
-abbrev pub is_variable_name : List ℕ → Bool
-is_variable_name [] = false
-is_variable_name (b ∷ bs) = is_ascii_uppercase b && is_name (b ∷ bs)
-
--- the bytes are a variable's name
-abbrev pub IsVariableName : List ℕ → Type 0
-IsVariableName bs = is_variable_name bs ≡ true
+use Rattle.vcm_items.specs.NameBytes.{is_variable_name}
 
 -- what digits mean, or the code of what is wrong with them
 abbrev pub number_term : Result Literal NumFault → Result Term FaultCode

@@ -18,7 +18,7 @@ use Rattle.vcm_expr.specs.declared.typing.Want.{Want}
 use Rattle.vcm_expr.specs.declared.typing.Want.TheVariants.{Int as WantInt, Length, Bool as WantBool}
 use Rattle.vcm_expr.specs.Source.{Source, Plain, Prefixed, Pair}
 use Rattle.vcm_spec.specs.Setup.{Variable, kinds_of}
-use Rattle.vcm_expr.specs.Names.{variable_of}
+use Rattle.vcm_items.specs.Names.{variable_of}
 
 -- a typed tree and its kind
 pub record Kinded : Type 0 where

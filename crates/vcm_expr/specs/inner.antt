@@ -3,7 +3,6 @@ pub mod Codes
 pub mod SourceCodes
 pub mod Levels
 pub mod Marks
-pub mod Runs
 pub mod Pieces
 pub mod Trees
 pub mod Typings

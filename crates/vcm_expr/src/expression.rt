@@ -6,10 +6,10 @@ ghost use Rattle.vcm_expr.specs.Source.{Plain, IsSize, is_small, parts, leaf_in,
 ghost use Rattle.vcm_expr.specs.inner.Pieces.{pieces_of, source_of, term_in};
 ghost use Rattle.vcm_lines.specs.declared.fault.FaultCode.{FaultCode};
 
-use crate::name::Name;
 use std::alloc::Global;
 use std::marker::Model;
 use std::slice::from_ref;
+use vcm_items::Name;
 use vcm_lines::{FaultCode, SourceFault};
 use vcm_num::Literal;
 use vcm_spec::BinaryOp;

@@ -1,7 +1,9 @@
 //! Laws of the definitions, each the contract of a function without a body.
 
-ghost use Rattle.std.specs.Prelude.{◌≡◌, ℕ, List, Ok, Err};
+ghost use Rattle.std.specs.Prelude.{◌≡◌, ℕ, List, Result, Ok, Err};
 ghost use Rattle.vcm_num.specs.Literals.{Reads};
+ghost use Rattle.vcm_num.specs.declared.number.Literal.{Literal};
+ghost use Rattle.vcm_num.specs.declared.read.NumFault.{NumFault};
 ghost use Rattle.vcm_lines.specs.Lexemes.{Lexeme};
 ghost use Rattle.vcm_lines.specs.declared.fault.FaultCode.{FaultCode};
 ghost use Rattle.vcm_expr.specs.Digits.{read_of};
@@ -10,9 +12,10 @@ ghost use Rattle.vcm_expr.specs.Grammar.{SpellsExpr};
 ghost use Rattle.vcm_expr.specs.Parsing.{IsExpr, BreaksExpr, expr_of};
 ghost use Rattle.vcm_expr.specs.declared.symbol.Symbol.{Symbol};
 
-/// The reading of a number, as a function, is what the relation says of its bytes.
+/// The reading of a number, as a function, is what the relation says of its bytes, and the relation says no more than one thing.
 pub fn numbers_are_read()
-    ensures { (bytes : List ℕ) → Reads bytes (read_of bytes) }
+    ensures read { (bytes : List ℕ) → Reads bytes (read_of bytes) }
+    ensures one { (bytes : List ℕ) (r s : Result Literal NumFault) → Reads bytes r → Reads bytes s → r ≡ s }
 {}
 
 /// Symbols spell one expression at most, however deep and large it is.

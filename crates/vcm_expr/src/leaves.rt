@@ -7,8 +7,8 @@ ghost use Rattle.vcm_expr.specs.declared.expression.Term.TheVariants as term;
 ghost use Rattle.vcm_expr.specs.Typing.{kinded, leaf_of};
 
 use crate::expression::Term;
-use crate::name::Name;
 use crate::names::Names;
+use vcm_items::Name;
 use vcm_lines::{FaultCode, SourceFault};
 use vcm_num::{Kind, Literal};
 use vcm_spec::Operand;

@@ -3,13 +3,12 @@
 ghost use Rattle.std.specs.Prelude.{◌≡◌, ◌<◌, ◌≤◌, ◌∷◌, ◌++◌, [], length, slice_get, not, if◌then◌else◌, Some, None, IfOk, OnErr, IfSome, IfNone, MatchOption};
 ghost use Rattle.std.specs.List.{list_any, position};
 ghost use Rattle.vcm_spec.specs.Setup.{kinds_of};
-ghost use Rattle.vcm_expr.specs.Names.{AreNamed, is_named, variable_of, first_of};
+ghost use Rattle.vcm_items.specs.Names.{AreNamed, is_named, variable_of, first_of};
 
-use crate::name::Name;
-use crate::variable_name::VariableName;
 use indexmap::IndexMap;
 use std::alloc::Global;
 use std::marker::Model;
+use vcm_items::{Name, VariableName};
 use vcm_num::{Kind, NoMemory};
 
 /// The variables that are declared, at most 4,096, in the order of their declarations. Each has a variable's name. Contracts see them as a list
@@ -22,7 +21,7 @@ pub struct Names {
 impl Model for Names {
     ghost use Rattle.std.specs.Prelude.{List, length, map, ◌≤◌};
     ghost use Rattle.vcm_spec.specs.Setup.{Variable};
-    ghost use Rattle.vcm_expr.specs.Names.{variable_in, AreNamed};
+    ghost use Rattle.vcm_items.specs.Names.{variable_in, AreNamed};
 
     ghost Value = { List Variable };
 

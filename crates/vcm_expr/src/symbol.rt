@@ -3,13 +3,12 @@
 ghost use Rattle.std.specs.Prelude.{◌≡◌, ◌∷◌, [], true, MatchOption, IfSome, IfNone, Ok};
 ghost use Rattle.vcm_num.specs.Literals.{Reads};
 ghost use Rattle.vcm_lines.specs.Lexemes.{lexeme};
-ghost use Rattle.vcm_expr.specs.Symbols.{is_variable_name, number_term, run_term, dotted_symbol, symbol_of};
+ghost use Rattle.vcm_expr.specs.Symbols.{number_term, run_term, dotted_symbol, symbol_of};
 ghost use Rattle.vcm_expr.specs.Digits.{read_of};
-ghost use Rattle.vcm_expr.specs.NameBytes.{IsName};
 
 use crate::expression::Term;
-use crate::name::{Name, is_name};
 use std::marker::Model;
+use vcm_items::{Name, is_variable_name};
 use vcm_lines::{DottedWord, FaultCode, Phrase, Token, dotted_word};
 use vcm_num::{Literal, NumFault, read_number};
 use vcm_spec::Relation;
@@ -41,17 +40,6 @@ pub enum Symbol {
     Closing,
     /// A word that stands in no expression.
     Other,
-}
-
-/// Whether bytes are a variable's name: a name that begins with a letter.
-pub fn is_variable_name(bytes: &[u8]) -> bool
-    ensures value { result ≡ is_variable_name bytes.now }
-    ensures name { result ≡ true → IsName bytes.now }
-{
-    match bytes {
-        [] => false,
-        [first, ..] => first.is_ascii_uppercase() && is_name(bytes),
-    }
 }
 
 /// What digits mean, or the code of what is wrong with them.

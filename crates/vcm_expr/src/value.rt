@@ -4,12 +4,11 @@ ghost use Rattle.std.specs.Prelude.{◌≡◌, length, Some, List, IfOk};
 ghost use Rattle.vcm_num.specs.declared.number.Kind.{Kind};
 ghost use Rattle.vcm_spec.specs.Expression.{kind_of};
 ghost use Rattle.vcm_spec.specs.Value.{value_of};
-ghost use Rattle.vcm_expr.specs.Typed.{VariablesBelow};
-ghost use Rattle.vcm_expr.specs.Slots.{IsTruth, SlotsFit};
+ghost use Rattle.vcm_items.specs.Typed.{VariablesBelow};
+ghost use Rattle.vcm_items.specs.Slots.{IsTruth, SlotsFit};
 
-use crate::operators;
-use crate::postfix::carried_out;
 use crate::typed::{Kept, Typed};
+use vcm_items::{carried_out, operators};
 use vcm_num::Fault;
 use vcm_spec::UnaryOp;
 

@@ -73,7 +73,7 @@ unfolding three_at
 reads_three = reads_as (reads_both reads_expression (reads_both reads_expression reads_expression)) (λ t. three t.0 t.1.0 t.1.1) (λ t. FitThree t.0 t.1.0 t.1.1) (λ t. refl)
     (λ t h. ((h.0.0, h.1.0.0, h.1.1.0), (h.0.1, h.1.0.1, h.1.1.1))) (λ t h. ((h.0.0, h.1.0), ((h.0.1, h.1.1), (h.0.2, h.1.2))))
 
--- what is in range whatever its width, what has its width whatever it is, and what has neither range nor width
+-- what is in range whatever its width, and what has its width whatever it is
 module _ {A : Type 0} {a : Reader A} {spelled : A → List ℕ} {P : A → Type 0} (r : Reads a spelled P) where
   ranged : Reads a spelled (λ x. P x × Unit {0})
   ranged = reads_as r spelled (λ x. P x × Unit {0}) (λ x. refl) (λ x h. (h, tt)) (λ x h. h.0)

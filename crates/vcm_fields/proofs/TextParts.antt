@@ -1,14 +1,12 @@
 -- Names and texts, read as they are spelled.
 use Rattle.std.proofs.Common.{◌≡◌, ℕ, ◌≤◌, Bool, true, nat_le, IsTrue, List, length, refl, arith}
 use Rattle.vcm_spec.specs.TextBytes.{is_text_byte, is_text, IsText}
-use Rattle.vcm_expr.proofs.NameLemmas.{variable_name_is_name}
-use Rattle.vcm_expr.specs.NameBytes.{is_name, is_name_byte, IsName}
-use Rattle.vcm_expr.specs.Symbols.{is_variable_name, IsVariableName}
+use Rattle.vcm_items.proofs.NameLemmas.{variable_name_is_name}
+use Rattle.vcm_items.specs.NameBytes.{is_name, is_name_byte, IsName, is_variable_name, IsVariableName}
 use Rattle.vcm_fields.specs.declared.fault.ImageFault.TheVariants.{BadField}
 use Rattle.std.specs.List.{list_all}
-use Rattle.vcm_fields.specs.Readers.{within}
+use Rattle.vcm_fields.specs.Readers.{within, tested, byte_at, bytes_at, name_at, variable_name_at, text_at}
 use Rattle.vcm_fields.specs.Spelling.{byte, name, text}
-use Rattle.vcm_fields.specs.Readers.{tested, byte_at, bytes_at, name_at, variable_name_at, text_at}
 use Rattle.vcm_fields.proofs.Inverse.{Reads, reads_as, reads_tested, reads_after}
 use Rattle.vcm_fields.proofs.NumberInverse.{reads_byte, reads_short, reads_bytes}
 use Rattle.vcm_fields.proofs.ItemParts.{in_range}

@@ -1,6 +1,5 @@
 -- Reading from the front, with the first fault that is met.
-use Rattle.std.specs.Prelude.{◌≡◌, ℕ, zero, suc, ℤ, Bool, List, [], ◌∷◌, length, take, drop, Option, Result, Ok, Err, nat_lt}
-use Rattle.std.specs.Prelude.{nat_le, ◌==◌, ◌&&◌, if◌then◌else◌}
+use Rattle.std.specs.Prelude.{◌≡◌, ℕ, zero, suc, ℤ, Bool, List, [], ◌∷◌, length, take, drop, Option, Result, Ok, Err, nat_lt, nat_le, ◌==◌, ◌&&◌, if◌then◌else◌}
 use Rattle.std.specs.Int.{Width, w16, w32, w64, byte_len, from_le_bytes, cast_signed}
 use Rattle.vcm_num.specs.declared.number.Kind.{Kind}
 use Rattle.vcm_spec.specs.declared.expression.Operand.TheVariants.{Integer, Thousandths, Truth, Variable}
@@ -15,8 +14,7 @@ use Rattle.vcm_code.specs.Words.{has_word}
 use Rattle.vcm_spec.specs.Setup.{Variable as Entry}
 use Rattle.vcm_spec.specs.TextBytes.{is_text}
 use Rattle.vcm_spec.specs.Results.{◌>>=◌}
-use Rattle.vcm_expr.specs.NameBytes.{is_name}
-use Rattle.vcm_expr.specs.Symbols.{is_variable_name}
+use Rattle.vcm_items.specs.NameBytes.{is_name, is_variable_name}
 use Rattle.vcm_code.specs.Code.{Op, Statement}
 use Rattle.vcm_fields.specs.declared.items.Tag.{Tag}
 use Rattle.vcm_fields.specs.declared.items.Tag.TheVariants as tags

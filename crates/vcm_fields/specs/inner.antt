@@ -1,3 +1,4 @@
 -- What only private contracts and proofs of this crate speak of.
 pub mod Slices
 pub mod Fitting
+pub mod Words

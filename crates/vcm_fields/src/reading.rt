@@ -1,7 +1,11 @@
 //! What the operands of a statement are read from, place by place: the bytes of an image, the words of a listing.
 
+ghost use Rattle.std.specs.Prelude.{◌≡◌, true};
+ghost use Rattle.vcm_spec.specs.Simple.{with_forms};
+ghost use Rattle.vcm_code.specs.declared.op.Op.TheVariants.{Plain};
 ghost use Rattle.vcm_code.specs.Copies.{listed};
 ghost use Rattle.vcm_fields.specs.Readers.{operands_by, Takes};
+ghost use Rattle.vcm_fields.specs.inner.Words.{is_simple};
 
 use vcm_code::{Op, Word};
 use vcm_num::Kind::{Bool, Int, Real};
@@ -118,6 +122,56 @@ pub trait Reading {
 /// What a statement does whose operands are read so.
 pub type ReadOp<R> = Op<<R as Reading>::Items, <R as Reading>::Text, <R as Reading>::Branches>;
 
+// The simple statement whose operands are read so.
+type ReadSimple<R> = Simple<<R as Reading>::Items, <R as Reading>::Text>;
+
+// The operands behind the word of a simple statement.
+#[tactic(auto, unfolding(crate::specs::Readers::operands_by))]
+#[inline(always)]
+fn simple<R: Reading>(word: Word, from: &mut R) -> Result<ReadSimple<R>, R::Fault>
+    requires { is_simple word ≡ true }
+    ensures { Takes (λ what. Plain (with_forms R.items R.bytes what)) result (R.left from.new) (operands_by R.at word (R.left from.old)) }
+{
+    Ok(match word {
+        Word::Goto => {
+            let (x, y, z) = from.three(Real)?;
+            Simple::Goto(x, y, z)
+        }
+        Word::GoHome => Simple::GoHome,
+        Word::Assign => {
+            let (variable, value) = from.assigned()?;
+            Simple::Assign(variable, value)
+        }
+        Word::Feat => {
+            let feature = from.feature()?;
+            let (x, y, z) = from.three(Real)?;
+            Simple::Feat(feature, x, y, z, from.axis()?)
+        }
+        Word::PtMeas => {
+            let feature = from.feature()?;
+            let (x, y, z) = from.three(Real)?;
+            Simple::PtMeas(feature, x, y, z, from.direction()?)
+        }
+        Word::SnSet => Simple::SnSet(from.setting()?, from.items(Real)?),
+        Word::Trans => {
+            let frame = from.frame()?;
+            let (x, y, z) = from.three(Real)?;
+            Simple::Trans(frame, x, y, z)
+        }
+        Word::Rotate => Simple::Rotate(from.frame()?, from.turn()?, from.quarters()?),
+        Word::Recall => Simple::Recall(from.frame()?),
+        Word::Obtain => Simple::Obtain(
+            from.variable(Real)?,
+            from.source()?,
+            from.feature()?,
+            from.part()?,
+        ),
+        Word::Output => Simple::Output(from.source()?, from.feature()?),
+        Word::Text => Simple::Text(from.text()?),
+        _ => unreachable!(),
+    })
+}
+
 /// The operands behind a word.
 ///
 /// # Errors
@@ -130,15 +184,6 @@ pub fn operands<R: Reading>(word: Word, from: &mut R) -> Result<ReadOp<R>, R::Fa
 {
     Ok(match word {
         Word::EndFil => Op::EndFil,
-        Word::Goto => {
-            let (x, y, z) = from.three(Real)?;
-            Op::Plain(Simple::Goto(x, y, z))
-        }
-        Word::GoHome => Op::Plain(Simple::GoHome),
-        Word::Assign => {
-            let (variable, value) = from.assigned()?;
-            Op::Plain(Simple::Assign(variable, value))
-        }
         Word::If => Op::If(from.items(Bool)?, from.target()?),
         Word::Else => Op::Else(from.target()?),
         Word::EndIf => Op::EndIf,
@@ -150,38 +195,13 @@ pub fn operands<R: Reading>(word: Word, from: &mut R) -> Result<ReadOp<R>, R::Fa
         Word::EndDo => Op::EndDo(from.variable(Int)?, from.pair()?, from.target()?),
         Word::Label => Op::Label,
         Word::JumpTo => Op::JumpTo(from.target()?),
-        Word::Feat => {
-            let feature = from.feature()?;
-            let (x, y, z) = from.three(Real)?;
-            Op::Plain(Simple::Feat(feature, x, y, z, from.axis()?))
-        }
         Word::Meas => Op::Meas(from.feature()?),
-        Word::PtMeas => {
-            let feature = from.feature()?;
-            let (x, y, z) = from.three(Real)?;
-            Op::Plain(Simple::PtMeas(feature, x, y, z, from.direction()?))
-        }
         Word::EndMes => Op::EndMes,
-        Word::SnSet => Op::Plain(Simple::SnSet(from.setting()?, from.items(Real)?)),
-        Word::Trans => {
-            let frame = from.frame()?;
-            let (x, y, z) = from.three(Real)?;
-            Op::Plain(Simple::Trans(frame, x, y, z))
-        }
-        Word::Rotate => Op::Plain(Simple::Rotate(from.frame()?, from.turn()?, from.quarters()?)),
-        Word::Recall => Op::Plain(Simple::Recall(from.frame()?)),
-        Word::Obtain => Op::Plain(Simple::Obtain(
-            from.variable(Real)?,
-            from.source()?,
-            from.feature()?,
-            from.part()?,
-        )),
-        Word::Output => Op::Plain(Simple::Output(from.source()?, from.feature()?)),
-        Word::Text => Op::Plain(Simple::Text(from.text()?)),
         Word::Select => Op::Select(from.items(Int)?, from.branches()?, from.target()?),
         Word::Case => Op::Case,
         Word::EndCas => Op::EndCas(from.target()?),
         Word::DftCas => Op::DftCas,
         Word::EndSel => Op::EndSel,
+        _ => Op::Plain(simple(word, from)?),
     })
 }

@@ -6,7 +6,7 @@ ghost use Rattle.vcm_fields.specs.Readers.{Gives, length_at, name_at, variable_n
 use crate::fault::ImageFault;
 use crate::fields::{byte, short, some_bytes};
 use crate::slices::TextSlice;
-use vcm_expr::{is_name, is_variable_name};
+use vcm_items::{is_name, is_variable_name};
 use vcm_spec::is_text;
 
 /// The most bytes of a name.

@@ -3,7 +3,7 @@ use Rattle.std.proofs.Common.{◌≡◌, ◌<◌, ◌^◌, Bool, true, false, Is
 use Rattle.std.specs.Prelude.{not, ◌||◌}
 use Rattle.std.specs.List.{AllByRecursion}
 use Rattle.vcm_spec.specs.Setup.{Variable as Entry}
-use Rattle.vcm_expr.specs.Names.{AreNamed}
+use Rattle.vcm_items.specs.Names.{AreNamed}
 use Rattle.vcm_code.specs.declared.code.Code.{Code}
 use Rattle.vcm_code.specs.declared.version.Version.{Version}
 use Rattle.vcm_code.specs.declared.version.Version.TheVariants.{One, Two}
@@ -32,7 +32,7 @@ apart true b e = absurd cc
 apart false b e = (refl, e)
 
 -- a version that has these statements has the first word of them, and the others
-pub of_version_next : (v : Version) (s : Statement) (ss : List Statement) → IsOfVersion v (s ∷ ss) → IsTrue (has_word v (word_of s.op)) × IsOfVersion v ss
+of_version_next : (v : Version) (s : Statement) (ss : List Statement) → IsOfVersion v (s ∷ ss) → IsTrue (has_word v (word_of s.op)) × IsOfVersion v ss
 of_version_next Two s ss h = (refl, tt)
 of_version_next One s ss h = apart (is_of_select (word_of s.op)) (has_selection ss) h
 

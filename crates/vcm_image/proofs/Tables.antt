@@ -26,16 +26,6 @@ Begin-length a whole [] (y ∷ ys) h = absurd h
 Begin-length a whole (p ∷ ps) [] h = absurd h
 Begin-length a whole (p ∷ ps) (y ∷ ys) h = ap suc (Begin-length a whole ps ys h.1)
 
--- the place of the i-th value
-pub Begin-at : {A : Type 0} (a : Reader A) (whole os : List ℕ) (xs : List A) (i o : ℕ) → Begin a whole os xs → slice_get os i ≡ Some o → (o ≤ length whole) × ((x : A) × (rest : List ℕ) × (slice_get xs i ≡ Some x) × (a (drop o whole) ≡ Ok (x, rest)))
-Begin-at a whole [] [] i o h e = absurd cc
-Begin-at a whole [] (y ∷ ys) i o h e = absurd h
-Begin-at a whole (p ∷ ps) [] i o h e = absurd h
-Begin-at a whole (p ∷ ps) (y ∷ ys) zero o h e =
-    let same : p ≡ o = cc in
-    subst (λ (q : ℕ). (q ≤ length whole) × ((x : _) × (rest : List ℕ) × (Some y ≡ Some x) × (a (drop q whole) ≡ Ok (x, rest)))) same (h.0.0, (y, h.0.1.0, refl, h.0.1.1))
-Begin-at a whole (p ∷ ps) (y ∷ ys) (suc i) o h e = Begin-at a whole ps ys i o h.1 e
-
 -- the value that begins at the i-th place
 pub record Found {A : Type 0} (a : Reader A) (whole : List ℕ) (xs : List A) (i o : ℕ) : Type 0 where
   pub value : A

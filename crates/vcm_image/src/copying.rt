@@ -1,14 +1,13 @@
 //! Copies of what an image has, on their own.
 
 ghost use Rattle.std.specs.Prelude.{◌≡◌, IfOk};
-ghost use Rattle.vcm_expr.specs.NameBytes.{IsName};
-ghost use Rattle.vcm_expr.specs.Symbols.{IsVariableName};
+ghost use Rattle.vcm_items.specs.NameBytes.{IsName, IsVariableName};
 
 use crate::scanned::Scanned;
 use std::alloc::Global;
 use vcm_code::OwnedStatement;
-use vcm_expr::Name;
 use vcm_fields::{BorrowedVariable, TextSlice};
+use vcm_items::Name;
 use vcm_num::{Items, NoMemory};
 use vcm_tables::{Tables, Variable};
 
@@ -35,7 +34,7 @@ fn name(from: &TextSlice<'_>) -> Name
 }
 
 // A variable.
-#[tactic(auto, using(vcm_expr::proofs::NameLemmas::variable_name_is_name))]
+#[tactic(auto, using(vcm_items::proofs::NameLemmas::variable_name_is_name))]
 fn variable(from: &BorrowedVariable<'_>) -> Variable
     requires { IsVariableName from.now.name }
     ensures { result ≡ from.now }

@@ -4,7 +4,7 @@ ghost use Rattle.std.specs.Prelude.{◌≡◌, ◌≤◌, ◌<◌, ◌^◌, true
 ghost use Rattle.std.specs.List.{AllByRecursion};
 ghost use Rattle.vcm_code.specs.Ranges.{IsShort, IsRanged, OpInRange, AllInRange, IsOfVersion, AllAreNames, IsInRange};
 ghost use Rattle.vcm_code.specs.Shape.{InOperands};
-ghost use Rattle.vcm_expr.specs.Names.{AreNamed};
+ghost use Rattle.vcm_items.specs.Names.{AreNamed};
 ghost use Rattle.vcm_code.specs.Deciding.{Tells};
 ghost use Rattle.vcm_fields.specs.Widths.{FitsItem, FitsBranch, HasWidth, LineHasWidths, HasWidths};
 ghost use Rattle.vcm_image.specs.Whole.{FitsImage};
@@ -12,8 +12,8 @@ ghost use Rattle.vcm_image.specs.inner.Meeting.{FieldMeets};
 
 use crate::scanned::{MOST_NAMES, MOST_STATEMENTS};
 use vcm_code::{Branch, Code, OwnedOp, OwnedStatement, Version, has_selection};
-use vcm_expr::{Name, is_name, is_variable_name};
 use vcm_fields::{Field, OwnedField, fields_of};
+use vcm_items::{Name, is_name, is_variable_name};
 use vcm_num::Items;
 use vcm_spec::{Item, is_text};
 use vcm_tables::Variable;

@@ -2,7 +2,7 @@
 
 ghost use Rattle.std.specs.Prelude.{◌≡◌, ◌<◌, ◌≤◌, drop, Ok, Some, IfOk, IfErr, length, slice_get};
 ghost use Rattle.std.specs.Int.{w16, w32};
-ghost use Rattle.vcm_expr.specs.NameBytes.{IsName};
+ghost use Rattle.vcm_items.specs.NameBytes.{IsName};
 ghost use Rattle.vcm_code.specs.declared.code.Code.{Code};
 ghost use Rattle.vcm_fields.specs.Readers.{Gives, Fails, GivesOrNoMemory, Begins, times, name_at, line_at, entry_at};
 ghost use Rattle.vcm_image.specs.Whole.{FitsImage, spelling, version_at, header_at, count_at, code_at};
@@ -223,7 +223,7 @@ fn after(bytes: &[u8], start: usize) -> &[u8]
 }
 
 impl<'a> Scanned<'a> {
-    ghost use Rattle.vcm_expr.specs.Symbols.{IsVariableName};
+    ghost use Rattle.vcm_items.specs.NameBytes.{IsVariableName};
 
     /// Its version.
     pub fn version(&self) -> Version

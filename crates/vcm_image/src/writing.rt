@@ -13,7 +13,7 @@ use crate::operands::{byte, long, short, statement};
 use crate::scanned::MAGIC;
 use std::alloc::Global;
 use vcm_code::{Code, OwnedStatement};
-use vcm_expr::Name;
+use vcm_items::Name;
 use vcm_num::NoMemory;
 use vcm_tables::Variable;
 

@@ -1,5 +1,5 @@
 -- What is left of an input behind lines that are no mark.
-use Rattle.std.proofs.Common.{◌≡◌, ℕ, ◌-◌, Bool, true, false, List, [], ◌∷◌, ◌++◌, length, take, refl, sym, ap, ◌∙◌, append_assoc, length-append, arith}
+use Rattle.std.proofs.Common.{◌≡◌, ℕ, Bool, true, false, List, [], ◌∷◌, ◌++◌, sym, ap, ◌∙◌, append_assoc}
 use Rattle.std.specs.Prelude.{if◌then◌else◌, flat_map}
 use Rattle.vcm_job.specs.Jobs.{raw_lines, is_mark, before_mark, behind_mark, part_text, program_text}
 use Rattle.vcm_job.proofs.JobLines.{lines_all}
@@ -10,9 +10,6 @@ pub record IsLeft (input rest : List ℕ) : Type 0 where
   pub cut : input ≡ front ++ rest
   pub part : part_text input ≡ front ++ part_text rest
   pub program : program_text input ≡ program_text rest
-
-pub all_left : (input : List ℕ) → IsLeft input input
-all_left input = record { front = []; cut = refl; part = refl; program = refl }
 
 -- behind one more line
 pub less_left : (input rest line after : List ℕ) → IsLeft input rest → raw_lines rest ≡ line ∷ raw_lines after → rest ≡ line ++ after → is_mark line ≡ false → IsLeft input after
@@ -28,13 +25,6 @@ less_left input rest line after h lines cut no_mark = record {
 
     behind : behind_mark (line ∷ raw_lines after) ≡ program_text after
     behind = ap (λ (b : Bool). if b then flat_map (λ k. k) (raw_lines after) else program_text after) no_mark
-
-take_front : (xs ys : List ℕ) → take (length (xs ++ ys) - length ys) (xs ++ ys) ≡ xs
-take_front xs ys = (let l : length (xs ++ ys) - length ys ≡ length xs = omega (arith, length-append xs ys) in rw l (take_all_of xs ys))
-  where
-    take_all_of : (xs ys : List ℕ) → take (length xs) (xs ++ ys) ≡ xs
-    take_all_of [] ys = refl
-    take_all_of (x ∷ xs) ys = ap (λ l. x ∷ l) (take_all_of xs ys)
 
 pub program_at_mark : (input rest line after : List ℕ) → IsLeft input rest → raw_lines rest ≡ line ∷ raw_lines after → is_mark line ≡ true → after ≡ program_text input
 program_at_mark input rest line after h lines mark =

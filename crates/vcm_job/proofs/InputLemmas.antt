@@ -4,7 +4,7 @@ use Rattle.std.specs.Prelude.{IfSome, IfOk, IfErr, Result, Ok, Err}
 use Rattle.std.specs.Io.KnownBytes.{Keeps}
 use Rattle.std.proofs.KnownBytes.{Keeps-refl}
 use Rattle.vcm_spec.specs.Workpiece.{Workpiece}
-use Rattle.vcm_tree.specs.declared.program.Noticed.{Noticed}
+use Rattle.vcm_program.specs.declared.accepted.Noticed.{Noticed}
 use Rattle.vcm_run.specs.Summaries.{Shown}
 use Rattle.vcm_job.specs.declared.running.Done.{Done}
 use Rattle.vcm_job.specs.declared.inputs.RunFault.{RunFault}

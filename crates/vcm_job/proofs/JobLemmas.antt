@@ -11,7 +11,7 @@ use Rattle.vcm_spec.specs.World.{World}
 use Rattle.vcm_spec.specs.Table.{State, steps, effective}
 use Rattle.vcm_spec.proofs.Steps.{steps-effective}
 use Rattle.vcm_state.specs.Held.{Held}
-use Rattle.vcm_tree.specs.declared.program.Noticed.{Noticed}
+use Rattle.vcm_program.specs.declared.accepted.Noticed.{Noticed}
 use Rattle.vcm_machine.specs.declared.ran.End.{End}
 use Rattle.vcm_machine.specs.declared.ran.End.TheVariants as ends
 use Rattle.vcm_run.specs.declared.run.Refusal.TheVariants.{Source, Part}

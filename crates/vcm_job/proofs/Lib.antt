@@ -5,3 +5,8 @@ pub mod InputLemmas
 pub mod ListLemmas
 pub mod DebugLemmas
 pub mod UnreadLemmas
+pub mod Answering
+pub mod Told
+pub mod RunAnswers
+pub mod FileAnswers
+pub mod ListAnswers

@@ -2,7 +2,7 @@
 use Rattle.std.proofs.Common.{◌≡◌, ℕ, List, Option, subst, sym}
 use Rattle.std.specs.Prelude.{IfSome, IfOk, IfErr, Result, Ok, Err}
 use Rattle.vcm_num.specs.Written.{AppendsFront}
-use Rattle.vcm_tree.specs.declared.program.Noticed.{Noticed}
+use Rattle.vcm_program.specs.declared.accepted.Noticed.{Noticed}
 use Rattle.vcm_code.specs.declared.code.Code.{Code}
 use Rattle.vcm_code.specs.Valid.{IsValid}
 use Rattle.vcm_image.specs.Whole.{FitsImage, spelling}

@@ -4,9 +4,9 @@ use Rattle.std.specs.Io.KnownBytes.{Appends, Keeps}
 use Rattle.vcm_num.specs.Written.{AppendsFront}
 use Rattle.vcm_lines.specs.Fault.{NoMemoryOr}
 use Rattle.vcm_spec.specs.Program.{sizes}
-use Rattle.vcm_tree.specs.declared.program.Noticed.{Noticed}
+use Rattle.vcm_program.specs.declared.accepted.Noticed.{Noticed}
 use Rattle.vcm_tree.specs.Acceptance.{IsAccepted, IsRefused}
-use Rattle.vcm_tree.specs.Program.{Parsed}
+use Rattle.vcm_program.specs.Program.{Parsed}
 use Rattle.vcm_job.specs.Reading.{most_bytes, ReadsAtMost}
 use Rattle.vcm_job.specs.declared.checking.CheckFault.{CheckFault}
 use Rattle.vcm_job.specs.declared.checking.CheckFault.TheVariants.{Refused, NoMemory, Read, Write, TooLong}

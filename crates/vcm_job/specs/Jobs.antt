@@ -10,7 +10,7 @@ use Rattle.vcm_spec.specs.Setup.{Setup}
 use Rattle.vcm_spec.specs.Table.{State, steps, effective, opening}
 use Rattle.vcm_state.specs.Held.{Held}
 use Rattle.vcm_state.specs.Carried.{setup_of}
-use Rattle.vcm_tree.specs.Program.{Parsed}
+use Rattle.vcm_program.specs.Program.{Parsed}
 use Rattle.vcm_tree.specs.Acceptance.{IsAccepted}
 use Rattle.vcm_run.specs.Printed.{result_text}
 

@@ -7,4 +7,7 @@ pub mod Inputs
 pub mod Listings
 pub mod Checks
 pub mod Debugged
+pub mod Causes
+pub mod Answers
+pub mod Laws
 pub mod inner

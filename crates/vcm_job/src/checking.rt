@@ -15,7 +15,8 @@ use std::alloc::Global;
 use std::io::{Read, Write};
 use vcm_lines::SourceFault;
 use vcm_num::{WriteFault, write_pieces};
-use vcm_tree::{Noticed, accept};
+use vcm_program::Noticed;
+use vcm_tree::accept;
 
 /// Why a check told no number of statements.
 #[derive(Clone, Copy, PartialEq, Eq)]

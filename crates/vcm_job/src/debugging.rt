@@ -15,8 +15,8 @@ use vcm_fields::ImageFault;
 use vcm_loader::{Loaded, load};
 use vcm_motion::{AnyPart, Part};
 use vcm_part::PartData;
+use vcm_program::Noticed;
 use vcm_run::{Built, Refusal, build_image};
-use vcm_tree::Noticed;
 
 /// Why a session didn't come to its end.
 #[derive(Clone, Copy, PartialEq, Eq)]

@@ -7,6 +7,7 @@ mod checking;
 mod cutting;
 mod debugging;
 mod inputs;
+pub mod laws;
 mod listing;
 mod parts;
 mod reading;

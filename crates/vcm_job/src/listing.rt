@@ -17,8 +17,8 @@ use vcm_image::write;
 use vcm_listing::{ListFault, print, read_listing};
 use vcm_loader::load;
 use vcm_num::write_all;
+use vcm_program::Noticed;
 use vcm_run::{Built, Refusal, build_image};
-use vcm_tree::Noticed;
 
 /// Why no listing was written.
 #[derive(Clone, Copy, PartialEq, Eq)]

@@ -14,9 +14,9 @@ use std::alloc::Global;
 use std::io::{Read, Write};
 use vcm_motion::{AnyPart, Part};
 use vcm_part::{PartData, read_part};
+use vcm_program::Noticed;
 use vcm_run::{End, Ran, Refusal, Summary, run_text, write_result};
 use vcm_spec::{Stop, StopPlace};
-use vcm_tree::Noticed;
 
 /// The most steps of a job.
 const MAX_STEPS: u64 = 1_000_000;

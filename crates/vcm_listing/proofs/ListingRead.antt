@@ -9,7 +9,7 @@ use Rattle.vcm_code.specs.declared.version.Version.{Version}
 use Rattle.vcm_code.specs.declared.version.Version.TheVariants.{One}
 use Rattle.vcm_code.specs.Code.{Statement}
 use Rattle.vcm_spec.specs.Setup.{Variable as Entry}
-use Rattle.vcm_expr.specs.NameBytes.{IsName}
+use Rattle.vcm_items.specs.NameBytes.{IsName}
 use Rattle.vcm_fields.specs.inner.Fitting.{FitsEntry, FitsLine}
 use Rattle.vcm_image.specs.Whole.{FitsImage}
 use Rattle.vcm_image.specs.inner.Fitted.{TablesFit}

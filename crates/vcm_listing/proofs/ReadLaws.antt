@@ -4,30 +4,25 @@ use Rattle.std.specs.Prelude.{◌==◌}
 use Rattle.std.proofs.lemmas.List.{length-append}
 use Rattle.vcm_code.specs.declared.code.Code.{Code}
 use Rattle.vcm_code.specs.declared.version.Version.{Version}
-use Rattle.vcm_image.specs.Whole.{FitsImage}
 use Rattle.vcm_image.specs.inner.Fitted.{TablesFit}
 use Rattle.vcm_words.specs.declared.row.Row.TheVariants.{Variable, Feature, Frame, Numbered}
 use Rattle.vcm_words.specs.declared.fault.ListCode.{ListCode}
 use Rattle.vcm_words.specs.declared.fault.ListCode.TheVariants.{NoMemory, BadLine, BadNumber, OutOfOrder, NotValid}
 use Rattle.vcm_words.specs.declared.fault.ListFault.{ListFault}
 use Rattle.vcm_words.specs.Cutting.{split, joined}
-use Rattle.vcm_words.specs.Rows.{ListRow, numbered, rows, listing, row_of}
+use Rattle.vcm_words.specs.Rows.{ListRow, numbered, rows, row_of}
 use Rattle.vcm_words.specs.Listing.{is_empty, after_line, first_row, after_head, empty, told, on, lines_read, parts_read, code_listed}
 use Rattle.vcm_words.specs.Outcomes.{IsWant, GivesOrWants}
 use Rattle.vcm_words.specs.inner.Failing.{FailsLine}
 use Rattle.vcm_words.proofs.Cuts.{joined-split, split_some}
 use Rattle.vcm_words.proofs.RowLaws.{row_takes}
-use Rattle.vcm_listing.proofs.ListingRead.{Grows, added_takes, line_takes, empty_fits}
-use Rattle.vcm_listing.proofs.ListingLaws.{code_again}
+use Rattle.vcm_listing.proofs.ListingRead.{Grows, added_takes, line_takes}
 
 -- what is left of the lines
 pub record Left (version : Version) (bytes rest : List ℕ) (code : Code) (line : ℕ) : Type 0 where
   pub same : lines_read 2 (empty version) (split 10 bytes) ≡ lines_read line code (split 10 rest)
   pub fits : TablesFit code
   pub count : line ≡ length (rows code) + 1
-
-pub all_left : (version : Version) (bytes : List ℕ) (c : Code) → c ≡ empty version → Left version bytes bytes c 2
-all_left version bytes c e = subst (λ (d : Code). Left version bytes bytes d 2) (sym e) (record { same = refl; fits = empty_fits version; count = refl })
 
 numbered-length : {A : Type 0} (f : ℕ → A → ListRow) (n : ℕ) (xs : List A) → length (numbered f n xs) ≡ length xs
 numbered-length f n [] = refl
@@ -130,9 +125,6 @@ pub first_goes : (version : Version) (bytes text after : List ℕ) (r : Result C
 first_goes version bytes text after r s h g = subst (GivesOrWants r) (sym (first_on bytes text after s ∙ ap (λ o. on 1 o (λ c. lines_read 2 c (split 10 after))) h)) g
 
 -- ---- the two laws
-
-pub is_only : (bytes : List ℕ) (r : Result Code ListFault) → GivesOrWants r (code_listed bytes) → (c : Code) → FitsImage c → bytes ≡ listing c → GivesOrWants r (Ok c)
-is_only bytes r g c h e = subst (GivesOrWants r) (ap code_listed e ∙ code_again c h) g
 
 -- what is left is shorter
 pub cut_shorter : (rest text after : List ℕ) → split 10 rest ≡ text ∷ split 10 after → length after < length rest

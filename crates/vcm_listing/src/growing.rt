@@ -8,7 +8,7 @@ ghost use Rattle.vcm_words.specs.inner.Failing.{FailsLine};
 use std::alloc::Global;
 use std::marker::Model;
 use vcm_code::{Code, OwnedStatement, Version};
-use vcm_expr::Name;
+use vcm_items::Name;
 use vcm_num::{Items, NoMemory};
 use vcm_tables::{Tables, Variable};
 use vcm_words::{BorrowedRow, BorrowedStatement, ListCode, Row};

@@ -4,14 +4,15 @@ ghost use Rattle.std.specs.Prelude.{◌≡◌, ◌<◌, [], ◌∷◌, flat_map,
 ghost use Rattle.vcm_spec.specs.Expression.{HasKind};
 ghost use Rattle.vcm_code.specs.Deciding.{Tells};
 ghost use Rattle.vcm_code.specs.Copies.{listed};
+ghost use Rattle.vcm_code.specs.Valid.{IsLast};
 ghost use Rattle.vcm_fields.specs.Fields.{in_field};
 ghost use Rattle.vcm_code.specs.Checks.{index, target, indexes, assigned, ItemBelow, AllHold, wants, three, variable, place_checks, op_checks};
 ghost use Rattle.vcm_loader.specs.Loading.{FirstFailedCheck};
 
 use crate::walking::items_kind;
 use vcm_code::{Branch, Op};
-use vcm_expr::postfix_kind;
 use vcm_fields::{BranchSlice, Field, ImageFault, ItemSlice, fields_of};
+use vcm_items::postfix_kind;
 use vcm_num::{Items, Kind};
 use vcm_spec::{Item, Operand};
 
@@ -274,6 +275,13 @@ fn judge_fields<E: Typed, T, B: Aimed>(
         judge_field(field, kinds, features, frames, statements)?;
     }
     Ok(())
+}
+
+/// Whether a statement is ENDFIL.
+pub(crate) fn is_end<E, T, B>(op: &Op<E, T, B>) -> bool
+    ensures { Tells result (IsLast op.now) }
+{
+    matches!(op, Op::EndFil)
 }
 
 /// The operands of a statement, in their order: the first refusal, if there is one. There are so many features, frames and statements.

@@ -6,7 +6,7 @@ ghost use Rattle.vcm_spec.specs.declared.expression.Item.{Item};
 ghost use Rattle.vcm_spec.specs.Expression.{HasKind};
 ghost use Rattle.vcm_spec.specs.Value.{items_value};
 ghost use Rattle.vcm_spec.specs.Fitting.{kinds as kinds_of};
-ghost use Rattle.vcm_expr.specs.Slots.{IsTruth, SlotsFit};
+ghost use Rattle.vcm_items.specs.Slots.{IsTruth, SlotsFit};
 ghost use Rattle.vcm_code.specs.Valid.{IsValid};
 ghost use Rattle.vcm_code.specs.Code.{Statement};
 ghost use Rattle.vcm_fields.specs.Readers.{Begins, line_at, operands_at};

@@ -4,17 +4,16 @@ ghost use Rattle.std.specs.Prelude.{◌≡◌, Ok, OnOk, IfOk, IfErr};
 ghost use Rattle.vcm_spec.specs.Fitting.{kinds as kinds_of};
 ghost use Rattle.vcm_code.specs.declared.code.Code.{Code};
 ghost use Rattle.vcm_code.specs.Deciding.{Tells};
-ghost use Rattle.vcm_code.specs.Valid.{IsLast, Ends, IsValid};
+ghost use Rattle.vcm_code.specs.Valid.{Ends, IsValid};
 ghost use Rattle.vcm_fields.specs.declared.fault.ImageFault.TheVariants.{NoMemory};
 ghost use Rattle.vcm_image.specs.Whole.{FitsImage, spelling, code_at};
 ghost use Rattle.vcm_code.specs.Checks.{AllHold, checks};
 ghost use Rattle.vcm_loader.specs.Loading.{FirstFailedCheck, LoadFault};
 
-use crate::judging::judge_operation;
+use crate::judging::{is_end, judge_operation};
 use crate::loaded::Loaded;
 use std::alloc::Global;
-use vcm_code::Op;
-use vcm_fields::{BorrowedOp, ImageFault};
+use vcm_fields::ImageFault;
 use vcm_image::{Scanned, open};
 use vcm_num::Kind;
 
@@ -44,13 +43,6 @@ fn judge_statements(image: &Scanned<'_>, kinds: &[Kind]) -> Result<(), ImageFaul
         judge_operation(&statement.op, kinds, features, frames, statements)?;
     }
     Ok(())
-}
-
-// Whether it is ENDFIL.
-fn is_end(op: &BorrowedOp<'_>) -> bool
-    ensures { Tells result (IsLast op.now) }
-{
-    matches!(op, Op::EndFil)
 }
 
 // Whether there is a last statement, and it is ENDFIL.

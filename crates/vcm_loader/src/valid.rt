@@ -3,11 +3,11 @@
 ghost use Rattle.std.specs.Prelude.{length};
 ghost use Rattle.std.specs.List.{AllByRecursion};
 ghost use Rattle.vcm_code.specs.Deciding.{Tells};
-ghost use Rattle.vcm_code.specs.Valid.{IsLast, Ends, IsValid};
+ghost use Rattle.vcm_code.specs.Valid.{Ends, IsValid};
 ghost use Rattle.vcm_code.specs.Checks.{AllHold, op_checks};
 ghost use Rattle.vcm_loader.specs.inner.Holding.{LineHolds};
 
-use crate::judging::judge_operation;
+use crate::judging::{is_end, judge_operation};
 use vcm_code::{Code, OwnedOp, OwnedStatement};
 use vcm_num::Kind;
 
@@ -32,13 +32,6 @@ fn all_hold(statements: &[OwnedStatement], kinds: &[Kind], features: usize, fram
         }
     }
     true
-}
-
-// Whether it is ENDFIL.
-fn is_end(op: &OwnedOp) -> bool
-    ensures { Tells result (IsLast op.now) }
-{
-    matches!(op, OwnedOp::EndFil)
 }
 
 // Whether there is a last statement, and it is ENDFIL.

@@ -12,7 +12,7 @@ use Rattle.vcm_spec.specs.Effect.{effect, value_in}
 use Rattle.vcm_spec.specs.Control.{test_in, with_next_index, is_zero, is_past}
 use Rattle.vcm_spec.specs.Program.{Node, simple, label, jump, choice, choice_else, do_loop, meas, select, ending}
 use Rattle.vcm_spec.specs.Program.{sizes, case_sizes, node_at, number_at, chosen}
-use Rattle.vcm_spec.specs.Table.{Entry, Rest, EndIf, EndMeas, EndCas, EndSel, Loop, State, state, unless_stopped, or_stop, if_true}
+use Rattle.vcm_spec.specs.Table.{Entry, Rest, Closes, Loop, State, state, unless_stopped, or_stop, if_true}
 use Rattle.vcm_spec.specs.Table.{front, landing, selected, at_node, act, step, steps, opening}
 use Rattle.vcm_spec.specs.Rests.{Rests}
 use Rattle.vcm_spec.proofs.StayingAtRest.{opens_at_rest}
@@ -62,21 +62,21 @@ module _ (su : Setup) (valid : IsValid su.part) (w : World) (r : Rests su.part w
   node_rests (Some (jump line l)) n es on = here (landing l es)
   node_rests (Some (choice line test first close)) n es on =
       goes_or_stops (test_in value_of w test) n line
-      (λ t. if_true t (state w (Rest first (n + 1) 0 ∷ EndIf (n + 1 + sizes first) ∷ on)) (state w (EndIf (n + 1 + sizes first) ∷ on)))
-      (λ t e. picks t (state w (Rest first (n + 1) 0 ∷ EndIf (n + 1 + sizes first) ∷ on)) (state w (EndIf (n + 1 + sizes first) ∷ on))
-      (here (Rest first (n + 1) 0 ∷ EndIf (n + 1 + sizes first) ∷ on)) (here (EndIf (n + 1 + sizes first) ∷ on)))
+      (λ t. if_true t (state w (Rest first (n + 1) 0 ∷ Closes (n + 1 + sizes first) ∷ on)) (state w (Closes (n + 1 + sizes first) ∷ on)))
+      (λ t e. picks t (state w (Rest first (n + 1) 0 ∷ Closes (n + 1 + sizes first) ∷ on)) (state w (Closes (n + 1 + sizes first) ∷ on))
+      (here (Rest first (n + 1) 0 ∷ Closes (n + 1 + sizes first) ∷ on)) (here (Closes (n + 1 + sizes first) ∷ on)))
   node_rests (Some (choice_else line test first mid second close)) n es on =
       goes_or_stops (test_in value_of w test) n line
-      (λ t. if_true t (state w (Rest first (n + 1) 0 ∷ EndIf (n + 1 + sizes first) ∷ on))
-      (state w (Rest second (n + 1 + sizes first + 1) 0 ∷ EndIf (n + 1 + sizes first + 1 + sizes second) ∷ on)))
-      (λ t e. picks t (state w (Rest first (n + 1) 0 ∷ EndIf (n + 1 + sizes first) ∷ on))
-      (state w (Rest second (n + 1 + sizes first + 1) 0 ∷ EndIf (n + 1 + sizes first + 1 + sizes second) ∷ on))
-      (here (Rest first (n + 1) 0 ∷ EndIf (n + 1 + sizes first) ∷ on))
-      (here (Rest second (n + 1 + sizes first + 1) 0 ∷ EndIf (n + 1 + sizes first + 1 + sizes second) ∷ on)))
+      (λ t. if_true t (state w (Rest first (n + 1) 0 ∷ Closes (n + 1 + sizes first) ∷ on))
+      (state w (Rest second (n + 1 + sizes first + 1) 0 ∷ Closes (n + 1 + sizes first + 1 + sizes second) ∷ on)))
+      (λ t e. picks t (state w (Rest first (n + 1) 0 ∷ Closes (n + 1 + sizes first) ∷ on))
+      (state w (Rest second (n + 1 + sizes first + 1) 0 ∷ Closes (n + 1 + sizes first + 1 + sizes second) ∷ on))
+      (here (Rest first (n + 1) 0 ∷ Closes (n + 1 + sizes first) ∷ on))
+      (here (Rest second (n + 1 + sizes first + 1) 0 ∷ Closes (n + 1 + sizes first + 1 + sizes second) ∷ on)))
   node_rests (Some (do_loop line v initial limit increment body close)) n es on =
       begins n line v on (λ b c. Rest body (n + 1) 0 ∷ Loop n v body close b c ∷ on)
       (value_in value_of w initial) (value_in value_of w limit) (value_in value_of w increment)
-  node_rests (Some (meas line feature body close)) n es on = here (Rest body (n + 1) 0 ∷ EndMeas (n + 1 + sizes body) ∷ on)
+  node_rests (Some (meas line feature body close)) n es on = here (Rest body (n + 1) 0 ∷ Closes (n + 1 + sizes body) ∷ on)
   node_rests (Some (select line value cases close)) n es on =
       goes_or_stops (value_in value_of w value) n line (λ z. state w (selected (chosen z cases (n + 1)) (n + 1 + case_sizes cases) on))
       (λ z e. here (selected (chosen z cases (n + 1)) (n + 1 + case_sizes cases) on))
@@ -86,10 +86,7 @@ module _ (su : Setup) (valid : IsValid su.part) (w : World) (r : Rests su.part w
   act_rests : (es : List Entry) → Still su.part (act su es w old)
   act_rests [] = here old
   act_rests (Rest b base i ∷ es) = node_rests (node_at b i) (number_at b base i) (Rest b base i ∷ es) (Rest b base (suc i) ∷ es)
-  act_rests (EndIf n ∷ es) = here es
-  act_rests (EndMeas n ∷ es) = here es
-  act_rests (EndCas n ∷ es) = here es
-  act_rests (EndSel n ∷ es) = here es
+  act_rests (Closes n ∷ es) = here es
   act_rests (Loop at v b close limit increment ∷ es) =
       goes_or_stops (with_next_index w v increment) (at + 1 + sizes b) close
       (λ w'. if_true (is_past w' v limit increment) (state w' es) (state w' (Rest b (at + 1) 0 ∷ Loop at v b close limit increment ∷ es)))

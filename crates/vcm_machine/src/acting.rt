@@ -11,14 +11,14 @@ ghost use Rattle.vcm_spec.specs.declared.simple.Simple.TheVariants.{Goto, GoHome
 ghost use Rattle.vcm_spec.specs.Effect.{effect};
 ghost use Rattle.vcm_spec.specs.Control.{test_in};
 ghost use Rattle.vcm_spec.specs.Fitting.{kinds, AreLengths};
-ghost use Rattle.vcm_expr.specs.Slots.{IsTruth};
+ghost use Rattle.vcm_items.specs.Slots.{IsTruth};
 ghost use Rattle.vcm_state.specs.Carried.{Carried, CarriedOrHalted};
 ghost use Rattle.vcm_code.specs.Checks.{HasItems};
 ghost use Rattle.vcm_fields.specs.Readers.{Begins, OfFirst, both, variable_at, expression_at, three_at, text_at};
 ghost use Rattle.vcm_machine.specs.inner.Lengths.{lengths_in};
 
-use vcm_expr::BoundedStack;
 use vcm_fields::{known_short, known_text};
+use vcm_items::BoundedStack;
 use vcm_loader::value_at;
 use vcm_motion::Part;
 use vcm_num::Fault;

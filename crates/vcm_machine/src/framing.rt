@@ -12,8 +12,8 @@ ghost use Rattle.vcm_code.specs.Checks.{HasItems};
 ghost use Rattle.vcm_fields.specs.Readers.{Begins, OfFirst, both, variable_at, three_at, byte_below_at};
 
 use crate::acting::three_lengths;
-use vcm_expr::BoundedStack;
 use vcm_fields::{byte_below, known, known_short};
+use vcm_items::BoundedStack;
 use vcm_spec::Stop;
 use vcm_state::World;
 

@@ -3,7 +3,7 @@
 ghost use Rattle.vcm_machine.specs.Laws.{RunIsOne, RunsFollow, RunsAddUp};
 ghost use Rattle.vcm_machine.specs.RestsAlways.{RestsAlways, ProgramsRest};
 
-/// Runs of the same number of steps from one state come to one state after as many steps, unless memory is refused.
+/// Runs of the same number of steps from one state come to one state after as many steps and end alike, unless memory is refused.
 pub fn run_is_one()
     ensures { RunIsOne }
 {}

@@ -15,8 +15,8 @@ ghost use Rattle.vcm_machine.specs.inner.Going.{HasTurned};
 
 use crate::acting::value;
 use vcm_code::Pair;
-use vcm_expr::BoundedStack;
 use vcm_fields::{known, known_long, known_short, pair};
+use vcm_items::BoundedStack;
 use vcm_num::{Fault, add};
 use vcm_spec::Stop;
 use vcm_state::World;

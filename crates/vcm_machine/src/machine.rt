@@ -5,7 +5,7 @@ use crate::stepping::carry_out;
 use std::alloc::Global;
 use std::marker::Model;
 use vcm_code::Pair;
-use vcm_expr::BoundedStack;
+use vcm_items::BoundedStack;
 use vcm_loader::Loaded;
 use vcm_motion::Part;
 use vcm_num::NoMemory;

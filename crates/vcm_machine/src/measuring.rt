@@ -13,8 +13,8 @@ ghost use Rattle.vcm_code.specs.Checks.{HasItems};
 ghost use Rattle.vcm_fields.specs.Readers.{Begins, OfFirst, both, variable_at, expression_at, three_at, axis_at, direction_at, setting_at};
 
 use crate::acting::{last_value, three_lengths};
-use vcm_expr::BoundedStack;
 use vcm_fields::{axis, direction, known, known_short, setting};
+use vcm_items::BoundedStack;
 use vcm_motion::Part;
 use vcm_spec::Stop;
 use vcm_state::World;

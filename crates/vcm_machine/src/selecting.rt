@@ -11,8 +11,8 @@ ghost use Rattle.vcm_fields.specs.Readers.{Begins, OfFirst, both, expression_at,
 ghost use Rattle.vcm_machine.specs.inner.Going.{HasTurned};
 
 use crate::acting::value;
-use vcm_expr::BoundedStack;
 use vcm_fields::{BranchSlice, known, known_long, read_branches};
+use vcm_items::BoundedStack;
 use vcm_spec::Stop;
 use vcm_state::World;
 

@@ -5,7 +5,7 @@ use Rattle.vcm_lines.specs.declared.fault.FaultCode.TheVariants.{BadOrder}
 use Rattle.vcm_lines.specs.declared.fault.SourceFault.{SourceFault}
 use Rattle.vcm_spec.proofs.PhaseLemmas.{clean_or_fault, one_line}
 use Rattle.vcm_macro.specs.declared.placed.Placed.{Placed}
-use Rattle.vcm_syntax.specs.declared.statement.Statement.{Statement}
+use Rattle.vcm_forms.specs.declared.statement.Statement.{Statement}
 use Rattle.vcm_macro.specs.Order.{BreaksOrder, order_line}
 use Rattle.vcm_macro.specs.Walk.{walk}
 use Rattle.vcm_macro.specs.Rules.{BreaksMacros, macros_line}

@@ -4,7 +4,7 @@ use Rattle.std.proofs.lemmas.Bool.{and_parts}
 use Rattle.std.proofs.lemmas.List.{drop_more}
 use Rattle.vcm_lines.specs.declared.fault.FaultCode.TheVariants.{BadArguments}
 use Rattle.vcm_lines.specs.declared.fault.SourceFault.{SourceFault}
-use Rattle.vcm_syntax.specs.declared.statement.Argument.{Argument}
+use Rattle.vcm_forms.specs.declared.statement.Argument.{Argument}
 use Rattle.vcm_substitution.specs.Sizes.{is_small_option, are_small_arguments}
 use Rattle.vcm_substitution.specs.Substitution.{Scope, put_argument}
 use Rattle.vcm_macro.specs.declared.fitting.Wanted.{Wanted}

@@ -4,10 +4,10 @@ use Rattle.std.proofs.lemmas.List.{append_assoc}
 use Rattle.vcm_lines.specs.declared.fault.SourceFault.{SourceFault}
 use Rattle.std.specs.Prelude.{map}
 use Rattle.vcm_lines.specs.Fault.{NoMemoryOr}
-use Rattle.vcm_syntax.specs.declared.statement.Statement.{Statement}
-use Rattle.vcm_syntax.specs.declared.statement.Argument.{Argument}
-use Rattle.vcm_syntax.specs.declared.statement.Form.{Form}
-use Rattle.vcm_syntax.specs.declared.statement.Form.TheVariants.{Call}
+use Rattle.vcm_forms.specs.declared.statement.Statement.{Statement}
+use Rattle.vcm_forms.specs.declared.statement.Argument.{Argument}
+use Rattle.vcm_forms.specs.declared.statement.Form.{Form}
+use Rattle.vcm_forms.specs.declared.statement.Form.TheVariants.{Call}
 use Rattle.vcm_substitution.specs.Substitution.{Scope, put_form, put_argument}
 use Rattle.vcm_macro.specs.Walk.{Place, Stands, Caller, behind, statement_in, body_in}
 use Rattle.vcm_macro.specs.inner.Expanding.{Done, TellsFirst, Walked, stands}

@@ -1,15 +1,14 @@
 -- A CALL: where it is refused, and what it carries out.
 use Rattle.std.proofs.Common.{◌≡◌, ℕ, suc, ◌+◌, true, false, ◌||◌, List, [], ◌∷◌, take, Option, Some, None, refl, sym, ◌∙◌, inl, inr, arith, get_or}
-use Rattle.std.specs.Prelude.{reverse, nat_lt}
+use Rattle.std.specs.Prelude.{reverse, nat_lt, Result, Ok, Err, OnOk, IfErr}
 use Rattle.std.specs.List.{slice_get}
-use Rattle.std.specs.Prelude.{Result, Ok, Err, OnOk, IfErr}
 use Rattle.std.proofs.lemmas.List.{append-nil}
 use Rattle.std.proofs.lemmas.Option.{slice_get_read}
 use Rattle.vcm_lines.specs.declared.fault.SourceFault.{SourceFault}
 use Rattle.vcm_lines.specs.declared.fault.FaultCode.TheVariants.{UnknownName, TooLong}
 use Rattle.vcm_lines.specs.Fault.{NoMemoryOr}
-use Rattle.vcm_syntax.specs.declared.statement.Argument.{Argument}
-use Rattle.vcm_syntax.specs.declared.statement.Statement.{Statement}
+use Rattle.vcm_forms.specs.declared.statement.Argument.{Argument}
+use Rattle.vcm_forms.specs.declared.statement.Statement.{Statement}
 use Rattle.vcm_substitution.specs.Substitution.{Scope}
 use Rattle.vcm_macro.specs.Walk.{Defined, Calls, call_in, body_in}
 use Rattle.vcm_macro.specs.Rules.{is_full, called_codes}

@@ -4,7 +4,7 @@ use Rattle.vcm_lines.specs.declared.fault.FaultCode.{FaultCode}
 use Rattle.vcm_lines.specs.Fault.{NoMemoryOr}
 use Rattle.vcm_lines.specs.declared.fault.SourceFault.{SourceFault}
 use Rattle.vcm_spec.specs.Phase.{IsClean, FirstFault}
-use Rattle.vcm_syntax.specs.declared.statement.Statement.{Statement}
+use Rattle.vcm_forms.specs.declared.statement.Statement.{Statement}
 use Rattle.vcm_macro.specs.Walk.{Place, walk}
 use Rattle.vcm_macro.specs.Rules.{BreaksMacros, macros_line, codes_at, weight, line_at}
 use Rattle.vcm_macro.specs.Computed.{leftmost, fault_or, fault_among, macro_fault}

@@ -7,7 +7,7 @@ use Rattle.std.proofs.lemmas.Option.{slice_get_read}
 use Rattle.vcm_substitution.specs.Substitution.{is_same}
 use Rattle.vcm_macro.specs.Walk.{Defined, Calls, body_in, call_in}
 use Rattle.vcm_macro.specs.inner.Expanding.{found, IsFoundAt, call_by}
-use Rattle.vcm_syntax.specs.declared.statement.Argument.{Argument}
+use Rattle.vcm_forms.specs.declared.statement.Argument.{Argument}
 
 take_more : {A : Type 0} (xs : List A) (i : ℕ) (x : A) → slice_get xs i ≡ Some x → take (suc i) xs ≡ take i xs ++ x ∷ []
 take_more [] i x e = absurd cc

@@ -4,8 +4,8 @@ use Rattle.std.specs.Prelude.{if◌then◌else◌}
 use Rattle.std.proofs.lemmas.List.{append_assoc}
 use Rattle.vcm_lines.specs.declared.fault.FaultCode.TheVariants.{DuplicateName, Unbalanced}
 use Rattle.vcm_lines.specs.declared.fault.SourceFault.{SourceFault}
-use Rattle.vcm_syntax.specs.declared.statement.Parameter.{Parameter}
-use Rattle.vcm_syntax.specs.declared.statement.Statement.{Statement}
+use Rattle.vcm_forms.specs.declared.statement.Parameter.{Parameter}
+use Rattle.vcm_forms.specs.declared.statement.Statement.{Statement}
 use Rattle.vcm_macro.specs.declared.blocks.Opener.{Opener}
 use Rattle.vcm_macro.specs.Walk.{Defined, Place, Inside, with_statement}
 use Rattle.vcm_macro.specs.Rules.{codes_at, weigh, redeclares, unbalances, blocks_behind, blocks_after}

@@ -3,7 +3,7 @@ use Rattle.std.proofs.Common.{◌≡◌, false, List, [], ◌∷◌, ◌++◌, S
 use Rattle.std.specs.Prelude.{not}
 use Rattle.vcm_lines.specs.declared.fault.FaultCode.{FaultCode}
 use Rattle.vcm_lines.specs.declared.fault.FaultCode.TheVariants.{BadOrder}
-use Rattle.vcm_syntax.specs.declared.statement.Statement.{Statement}
+use Rattle.vcm_forms.specs.declared.statement.Statement.{Statement}
 use Rattle.vcm_macro.specs.declared.order.Order.{Order}
 use Rattle.vcm_macro.specs.Order.{nothing_before, order_behind, order_after, is_misplaced, BreaksOrder}
 use Rattle.vcm_macro.proofs.Places.{never}

@@ -3,7 +3,7 @@ use Rattle.std.proofs.Common.{◌≡◌, true, false, Option, Some, None, refl}
 use Rattle.std.specs.Prelude.{option_map}
 use Rattle.vcm_expr.specs.Source.{Source, Plain, Prefixed, Pair}
 use Rattle.vcm_expr.specs.declared.expression.Term.TheVariants.{Number, Truth, Variable}
-use Rattle.vcm_syntax.specs.declared.statement.Argument.{Argument}
+use Rattle.vcm_forms.specs.declared.statement.Argument.{Argument}
 use Rattle.vcm_substitution.specs.Sizes.{is_small_option}
 use Rattle.vcm_substitution.specs.Substitution.{Scope, put_argument, variable_of}
 use Rattle.vcm_macro.specs.declared.fitting.Wanted.TheVariants.{Name as AName, Variable as AVariable, Value as AValue}

@@ -4,8 +4,8 @@ use Rattle.std.specs.List.{list_all}
 use Rattle.vcm_expr.specs.declared.expression.Piece.{Piece}
 use Rattle.vcm_expr.specs.declared.expression.Term.TheVariants.{Number, Truth, Variable}
 use Rattle.vcm_expr.specs.Source.{Source, Plain, Prefixed, Pair, parts}
-use Rattle.vcm_syntax.specs.declared.statement.Parameter.{Parameter}
-use Rattle.vcm_syntax.specs.declared.statement.Argument.{Argument}
+use Rattle.vcm_forms.specs.declared.statement.Parameter.{Parameter}
+use Rattle.vcm_forms.specs.declared.statement.Argument.{Argument}
 use Rattle.vcm_substitution.specs.Substitution.{put, put_argument, put_name}
 use Rattle.vcm_macro.specs.inner.Staying.{is_here}
 use Rattle.std.proofs.lemmas.Bool.{and_parts}

@@ -2,7 +2,7 @@
 use Rattle.std.specs.Prelude.{ℕ, ◌+◌, List, [], ◌∷◌, Option, Some, None}
 use Rattle.vcm_lines.specs.declared.fault.FaultCode.{FaultCode}
 use Rattle.vcm_lines.specs.declared.fault.SourceFault.{SourceFault}
-use Rattle.vcm_syntax.specs.declared.statement.Statement.{Statement}
+use Rattle.vcm_forms.specs.declared.statement.Statement.{Statement}
 use Rattle.vcm_macro.specs.Walk.{Place, walk}
 use Rattle.vcm_macro.specs.Rules.{codes_at, weight, line_at}
 

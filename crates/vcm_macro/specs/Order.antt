@@ -3,10 +3,10 @@
 use Rattle.std.specs.Prelude.{ℕ, IsTrue, Bool, true, false, not, ◌&&◌, ◌||◌, if◌then◌else◌, List, [], ◌∷◌, Option, Some, None}
 use Rattle.vcm_lines.specs.declared.fault.FaultCode.{FaultCode}
 use Rattle.vcm_lines.specs.declared.fault.FaultCode.TheVariants.{BadOrder}
-use Rattle.vcm_syntax.specs.declared.statement.Form.{Form}
-use Rattle.vcm_syntax.specs.declared.statement.Form.TheVariants.{Opening, Measures, Macro, MacroEnd, Call, Ending}
-use Rattle.vcm_syntax.specs.declared.statement.Statement.{Statement}
-use Rattle.vcm_syntax.specs.Statements.{is_counted}
+use Rattle.vcm_forms.specs.declared.statement.Form.{Form}
+use Rattle.vcm_forms.specs.declared.statement.Form.TheVariants.{Opening, Measures, Macro, MacroEnd, Call, Ending}
+use Rattle.vcm_forms.specs.declared.statement.Statement.{Statement}
+use Rattle.vcm_forms.specs.Statements.{is_counted}
 use Rattle.vcm_macro.specs.declared.order.Order.{Order}
 
 -- before the first statement: whether one stands before, whether a UNITS and an ENDFIL do, whether a MACRO is open, and the last line

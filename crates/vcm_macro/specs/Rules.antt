@@ -4,13 +4,13 @@ use Rattle.std.specs.Prelude.{length, map, Contains, Option, Some, None}
 use Rattle.std.specs.List.{list_any}
 use Rattle.vcm_lines.specs.declared.fault.FaultCode.{FaultCode}
 use Rattle.vcm_lines.specs.declared.fault.FaultCode.TheVariants.{TooDeep, DuplicateName, UnknownName, Unbalanced, BadArguments, TooLong}
-use Rattle.vcm_syntax.specs.declared.statement.Parameter.{Parameter}
-use Rattle.vcm_syntax.specs.declared.statement.Argument.{Argument}
-use Rattle.vcm_syntax.specs.declared.statement.Form.{Form}
-use Rattle.vcm_syntax.specs.declared.statement.Form.TheVariants.{Declaration, Assignment, Test, Otherwise, TestEnd, Repeat, RepeatEnd}
-use Rattle.vcm_syntax.specs.declared.statement.Form.TheVariants.{Measure, MeasureEnd, Query, Macro}
-use Rattle.vcm_syntax.specs.declared.statement.Form.TheVariants.{MacroEnd, Choose, Case, Default, CaseEnd, ChooseEnd}
-use Rattle.vcm_syntax.specs.declared.statement.Statement.{Statement}
+use Rattle.vcm_forms.specs.declared.statement.Parameter.{Parameter}
+use Rattle.vcm_forms.specs.declared.statement.Argument.{Argument}
+use Rattle.vcm_forms.specs.declared.statement.Form.{Form}
+use Rattle.vcm_forms.specs.declared.statement.Form.TheVariants.{Declaration, Assignment, Test, Otherwise, TestEnd, Repeat, RepeatEnd}
+use Rattle.vcm_forms.specs.declared.statement.Form.TheVariants.{Measure, MeasureEnd, Query, Macro}
+use Rattle.vcm_forms.specs.declared.statement.Form.TheVariants.{MacroEnd, Choose, Case, Default, CaseEnd, ChooseEnd}
+use Rattle.vcm_forms.specs.declared.statement.Statement.{Statement}
 use Rattle.vcm_macro.specs.declared.placed.Placed.{Placed}
 use Rattle.vcm_macro.specs.declared.fitting.Wanted.{Wanted}
 use Rattle.vcm_macro.specs.declared.fitting.Wanted.TheVariants.{Name as AName, Variable as AVariable, Value as AValue}

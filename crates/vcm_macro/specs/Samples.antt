@@ -7,16 +7,16 @@ use Rattle.vcm_lines.specs.declared.fault.SourceFault.{SourceFault}
 use Rattle.vcm_spec.specs.declared.expression.BinaryOp.TheVariants.{Add, Mul}
 use Rattle.vcm_expr.specs.declared.expression.Term.TheVariants.{Number, Variable}
 use Rattle.vcm_expr.specs.Source.{Source, Plain, Pair}
-use Rattle.vcm_syntax.specs.declared.statement.Form.{Form}
-use Rattle.vcm_syntax.specs.declared.statement.Form.TheVariants as says
-use Rattle.vcm_syntax.specs.declared.statement.Argument.{Argument}
-use Rattle.vcm_syntax.specs.declared.statement.Parameter.{Parameter}
-use Rattle.vcm_syntax.specs.declared.statement.Spot.{Spot}
-use Rattle.vcm_syntax.specs.Places.{as_read}
+use Rattle.vcm_forms.specs.declared.statement.Form.{Form}
+use Rattle.vcm_forms.specs.declared.statement.Form.TheVariants as says
+use Rattle.vcm_forms.specs.declared.statement.Argument.{Argument}
+use Rattle.vcm_forms.specs.declared.statement.Parameter.{Parameter}
+use Rattle.vcm_forms.specs.declared.statement.Spot.{Spot}
+use Rattle.vcm_forms.specs.Statements.{as_read}
 use Rattle.vcm_spec.specs.declared.words.Source.TheVariants.{Actual}
 use Rattle.vcm_spec.specs.declared.words.Setting.TheVariants.{Depth}
 use Rattle.vcm_spec.specs.declared.words.FeatureWord.TheVariants.{Z}
-use Rattle.vcm_syntax.specs.declared.statement.Statement.{Statement}
+use Rattle.vcm_forms.specs.declared.statement.Statement.{Statement}
 use Rattle.vcm_macro.specs.declared.placed.Placed.{Placed}
 use Rattle.vcm_macro.specs.Order.{nothing_before, order_after, is_misplaced}
 use Rattle.vcm_macro.specs.Walk.{walk}

@@ -1,11 +1,11 @@
 -- The places of the phase of macros: the statements of a program, each CALL with the body of its macro behind it.
 use Rattle.std.specs.Prelude.{ℕ, suc, ◌+◌, Bool, true, false, not, ◌&&◌, List, [], ◌∷◌, ◌++◌, map, Option, Some, None}
-use Rattle.vcm_syntax.specs.declared.statement.Parameter.{Parameter}
-use Rattle.vcm_syntax.specs.declared.statement.Argument.{Argument}
-use Rattle.vcm_syntax.specs.declared.statement.Form.{Form}
-use Rattle.vcm_syntax.specs.declared.statement.Form.TheVariants.{Declaration, Macro, MacroEnd, Call, Choose, CaseEnd}
-use Rattle.vcm_syntax.specs.Statements.{is_counted}
-use Rattle.vcm_syntax.specs.declared.statement.Statement.{Statement}
+use Rattle.vcm_forms.specs.declared.statement.Parameter.{Parameter}
+use Rattle.vcm_forms.specs.declared.statement.Argument.{Argument}
+use Rattle.vcm_forms.specs.declared.statement.Form.{Form}
+use Rattle.vcm_forms.specs.declared.statement.Form.TheVariants.{Declaration, Macro, MacroEnd, Call, Choose, CaseEnd}
+use Rattle.vcm_forms.specs.Statements.{is_counted}
+use Rattle.vcm_forms.specs.declared.statement.Statement.{Statement}
 use Rattle.vcm_substitution.specs.Substitution.{Scope, outside, is_same, put_form, put_argument}
 
 -- a macro

@@ -5,7 +5,7 @@ ghost use Rattle.vcm_macro.specs.Walk.{is_in_block};
 
 use std::alloc::{AllocError, Global};
 use std::marker::Model;
-use vcm_syntax::Form;
+use vcm_forms::Form;
 
 /// A block that is open.
 #[derive(Clone, Copy)]

@@ -7,9 +7,9 @@ ghost use Rattle.vcm_macro.specs.inner.Expanding.{is_macro_end, inside, begun, I
 use crate::blocks::Blocks;
 use crate::parameters::redeclares;
 use std::alloc::Global;
-use vcm_expr::Name;
+use vcm_forms::{Form, Parameter, Statement};
+use vcm_items::Name;
 use vcm_lines::{FaultCode, SourceFault};
-use vcm_syntax::{Form, Parameter, Statement};
 
 // Whether a statement is ENDMAC.
 fn is_macro_end(form: &Form) -> bool

@@ -10,8 +10,8 @@ use crate::fitting::{Wanted, all_wanted};
 use crate::kept::active_of;
 use std::alloc::{AllocError, Global};
 use std::marker::Model;
-use vcm_expr::Name;
-use vcm_syntax::{Parameter, Statement};
+use vcm_forms::{Parameter, Statement};
+use vcm_items::Name;
 
 /// A macro, with what has to be given for each of its parameters, and the statements of its body that leave something in an expansion.
 /// Contracts see it as a `Defined`.
@@ -30,8 +30,8 @@ impl<'a> Model for Definition<'a> {
     ghost use Rattle.vcm_macro.specs.Walk.{Defined};
     ghost use Rattle.vcm_macro.specs.Rules.{wanted_by};
     ghost use Rattle.vcm_macro.specs.inner.Expanding.{active_of, referred};
-    ghost use Rattle.vcm_syntax.specs.contracts.statement.Parameter as parameter;
-    ghost use Rattle.vcm_syntax.specs.contracts.statement.Statement as statement;
+    ghost use Rattle.vcm_forms.specs.contracts.statement.Parameter as parameter;
+    ghost use Rattle.vcm_forms.specs.contracts.statement.Statement as statement;
 
     ghost Value = { Defined };
 

@@ -13,10 +13,10 @@ use crate::expansion::Expansion;
 use crate::fitting::{Wanted, all_suit, suits, suits_deep, wanted_at};
 use crate::staying::{Given, all_stay};
 use std::alloc::Global;
-use vcm_expr::Name;
+use vcm_forms::{Argument, Form, Statement};
+use vcm_items::Name;
 use vcm_lines::{FaultCode, SourceFault};
 use vcm_substitution::Bindings;
-use vcm_syntax::{Argument, Form, Statement};
 
 // The refusal of a call, at its line.
 fn refused(code: FaultCode, line: u32) -> SourceFault

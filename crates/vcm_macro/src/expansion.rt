@@ -11,9 +11,9 @@ use crate::kept::is_kept;
 use crate::placed::{Origin, Placed, Said};
 use std::alloc::{AllocError, Global};
 use std::marker::Model;
+use vcm_forms::Statement;
 use vcm_lines::{FaultCode, SourceFault};
 use vcm_substitution::{Bindings, are_small, put_form};
-use vcm_syntax::Statement;
 
 /// The most that may count in an expanded program.
 pub(crate) const MOST: u32 = 20000;

@@ -8,9 +8,9 @@ ghost use Rattle.vcm_macro.specs.Rules.{assigns, wanted_by, suits};
 ghost use Rattle.vcm_macro.specs.inner.Suiting.{all_suit};
 
 use std::alloc::{AllocError, Global};
-use vcm_expr::Name;
+use vcm_forms::{Argument, Form, Parameter, Statement};
+use vcm_items::Name;
 use vcm_substitution::variable_of;
-use vcm_syntax::{Argument, Form, Parameter, Statement};
 
 /// What has to be given for a parameter.
 #[derive(Clone, Copy)]

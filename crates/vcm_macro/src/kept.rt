@@ -5,7 +5,7 @@ ghost use Rattle.vcm_substitution.specs.Kept.{is_kept};
 ghost use Rattle.vcm_macro.specs.inner.Expanding.{is_active, active_of, referred};
 
 use std::alloc::{AllocError, Global};
-use vcm_syntax::{Form, Statement};
+use vcm_forms::{Form, Statement};
 
 /// Whether a statement is one of the expanded program, and counts there: a step of the machine, or DECL.
 pub(crate) fn is_kept(form: &Form) -> bool

@@ -4,8 +4,8 @@ ghost use Rattle.std.specs.Prelude.{◌≡◌, MatchResult};
 ghost use Rattle.vcm_spec.specs.Phase.{IsClean, FirstFault};
 ghost use Rattle.vcm_macro.specs.Order.{wants_units, is_out_of_place, is_misplaced, is_open_behind, order_behind, BreaksOrder, order_line};
 
+use vcm_forms::{Form, Statement};
 use vcm_lines::{FaultCode, SourceFault};
-use vcm_syntax::{Form, Statement};
 
 /// What stands before a statement.
 #[derive(Clone, Copy)]

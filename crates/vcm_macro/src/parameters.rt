@@ -4,8 +4,8 @@ ghost use Rattle.std.specs.Prelude.{◌≡◌};
 ghost use Rattle.std.specs.List.{list_any};
 ghost use Rattle.vcm_macro.specs.Rules.{is_parameter, has_twins, redeclares};
 
-use vcm_expr::{Name, VariableName};
-use vcm_syntax::{Form, Parameter};
+use vcm_forms::{Form, Parameter};
+use vcm_items::{Name, VariableName};
 
 // Whether a parameter of these has the name.
 fn is_parameter(parameters: &[Parameter], name: &Name) -> bool

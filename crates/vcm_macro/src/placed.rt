@@ -1,7 +1,7 @@
 //! Statements of an expanded program.
 
 use std::marker::Model;
-use vcm_syntax::Statement;
+use vcm_forms::Statement;
 
 /// A statement as it is written outside macros, or one of a macro with what is put into it, which is boxed: most programs have more of the first.
 #[derive(Drop)]
@@ -17,8 +17,8 @@ pub(crate) struct Said<'a> {
 }
 
 impl<'a> Model for Said<'a> {
-    ghost use Rattle.vcm_syntax.specs.declared.statement.Statement.{Statement};
-    ghost use Rattle.vcm_syntax.specs.contracts.statement.Statement as contract;
+    ghost use Rattle.vcm_forms.specs.declared.statement.Statement.{Statement};
+    ghost use Rattle.vcm_forms.specs.contracts.statement.Statement as contract;
     ghost use Rattle.vcm_macro.specs.inner.Saying.{said_of};
 
     ghost Value = { Statement };

@@ -7,8 +7,8 @@ ghost use Rattle.vcm_substitution.specs.Substitution.{put_argument};
 ghost use Rattle.vcm_macro.specs.inner.Staying.{is_here};
 
 use vcm_expr::Piece;
+use vcm_forms::Argument;
 use vcm_substitution::Bindings;
-use vcm_syntax::Argument;
 
 /// The arguments of a call as they are written, or what is put in their place.
 #[derive(Drop)]

@@ -18,10 +18,10 @@ use crate::order::check_order;
 use crate::parameters::has_twins;
 use crate::placed::Placed;
 use std::alloc::Global;
-use vcm_expr::Name;
+use vcm_forms::{Form, Parameter, Statement};
+use vcm_items::Name;
 use vcm_lines::{FaultCode, SourceFault};
 use vcm_substitution::Bindings;
-use vcm_syntax::{Form, Parameter, Statement};
 
 // The macro that is defined here, behind the statement MACRO.
 fn define<'a>(

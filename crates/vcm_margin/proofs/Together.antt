@@ -19,10 +19,6 @@ before_or_last (suc k) (suc n) l = by (before_or_last k n (omega (arith, l)))
     by (inl before) = inl (omega (arith, before))
     by (inr last) = inr (ap suc last)
 
--- at the start
-pub begins : (part other : Workpiece) (c : Code) (one two : Running) → one ≡ started part c → two ≡ started other c → HaveGone part other c 0 one two
-begins part other c one two e f = record { first = e; second = f; alike = λ k h. absurd (omega (arith, h)) }
-
 module _ (part other : Workpiece) (c : Code) (n : ℕ) (one two new_one new_two : Running) (h : HaveGone part other c n one two)
     (s : BothLater one two new_one new_two) where
   first_on : new_one ≡ later (suc n) (started part c)

@@ -1,7 +1,7 @@
 -- The blocks of a SELECT, one by one: how many statements they have, and their jumps.
-use Rattle.std.proofs.Common.{◌≡◌, ℕ, zero, suc, ◌+◌, ◌<◌, ◌≤◌, List, [], ◌∷◌, ◌++◌, length, drop, get_or, Option, Some, None, sym, ap, ◌∙◌, subst, append_assoc, inl, inr, arith}
+use Rattle.std.proofs.Common.{◌≡◌, ℕ, zero, suc, ◌+◌, ◌<◌, ◌≤◌, List, [], ◌∷◌, ◌++◌, length, drop, get_or, Option, Some, sym, ap, ◌∙◌, subst, append_assoc, inl, inr, arith}
 use Rattle.std.specs.Prelude.{ℤ}
-use Rattle.std.proofs.lemmas.List.{append-nil, drop_more, drop_all}
+use Rattle.std.proofs.lemmas.List.{drop_more, drop_all}
 use Rattle.vcm_lines.specs.declared.fault.SourceFault.{SourceFault}
 use Rattle.vcm_lines.specs.Fault.{NoMemoryOr}
 use Rattle.vcm_spec.specs.Program.{Label, Block, Cases, no_more, one_case, default, sizes, case_sizes}
@@ -69,13 +69,6 @@ module _ (all reach : List Label) (cs : Cases) where
   told_case now items o i c f l e same j h =
       told_one c.0 c.1 c.2 c.3 (cases_of (drop (i + 1) items) o) f (subst (AreJudged all reach cs) (cases_next items o i c l e) j)
       (subst (λ r. NoMemoryOr (IsFirst all (jumps_in c.2 (r ++ own_labels c.2))) f) same h)
-
-  -- no block is left
-  pub judged_none : (items : List Case) (o : Option (ℕ × Block × ℕ)) (i : ℕ) → length items ≤ i → None ≡ o → AreJudged all reach cs (cases_of (drop i items) o)
-      → AllReach all (jumps_among cs reach)
-  judged_none items o i le e j =
-      let k = subst (AreJudged all reach cs) (cases_end items o i le ∙ ap default_by (sym e)) j in
-      subst (AllReach all) (sym (k.cut ∙ append-nil k.before)) k.reached
 
   module _ (now : List Label) (items : List Case) (o : Option (ℕ × Block × ℕ)) (i : ℕ) (d : ℕ × Block × ℕ) (le : length items ≤ i) (e : Some d ≡ o) (same : now ≡ reach)
       (j : AreJudged all reach cs (cases_of (drop i items) o)) where

@@ -7,10 +7,11 @@ ghost use Rattle.vcm_nodes.specs.Nodes.{with_last, with_case, with_default, node
 use std::alloc::{AllocError, Global};
 use std::hash::{Hash, Hasher};
 use std::marker::Model;
-use vcm_expr::{Name, Typed};
+use vcm_expr::Typed;
+use vcm_forms::OperatorText;
+use vcm_items::Name;
 use vcm_num::Axis;
 use vcm_spec::{FeatureWord, FrameAxis, Quarters, Setting, Source};
-use vcm_syntax::OperatorText;
 
 /// A simple statement: its expressions are typed, and variables, features and frames go by their indexes. Lengths are in micrometres.
 #[derive(Drop)]

@@ -5,7 +5,7 @@ use Rattle.std.proofs.lemmas.Bool.{cond-false}
 use Rattle.std.specs.Int.{int_div_euclid, int_min}
 use Rattle.std.specs.List.{find}
 use Rattle.std.specs.Prelude.{Option, Some, int_lt, not, option_map, decimal}
-use Rattle.vcm_way.specs.declared.mark.Contact.{Contact}
+use Rattle.vcm_marks.specs.declared.mark.Contact.{Contact}
 use Rattle.vcm_svg.specs.declared.rect.Rect.{Rect}
 use Rattle.vcm_picture.specs.declared.shown.Face.{Face}
 use Rattle.vcm_picture.specs.declared.shown.Figure.{Figure}

@@ -1,6 +1,6 @@
 -- Pieces that are counted.
 use Rattle.std.proofs.Common.{◌≡◌, ℕ, ◌+◌, Bool, true, false, arith}
-use Rattle.vcm_way.specs.Ways.{counted}
+use Rattle.vcm_marks.specs.Pieces.{counted}
 
 -- one more is one and the rest
 pub counted_more : (b : Bool) (n : ℕ) → counted b n ≡ counted b 0 + n

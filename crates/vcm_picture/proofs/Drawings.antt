@@ -2,11 +2,11 @@
 use Rattle.std.proofs.Common.{◌≡◌, ◌∙◌, ap, ℕ, List, ◌++◌, []}
 use Rattle.std.specs.Prelude.{Result, OnOk, Option}
 use Rattle.vcm_num.specs.declared.point.Point.{Point}
-use Rattle.vcm_way.specs.declared.mark.Placed.{Placed}
+use Rattle.vcm_marks.specs.declared.mark.Placed.{Placed}
 use Rattle.vcm_picture.specs.declared.names.FirstNames.{FirstNames}
 use Rattle.vcm_picture.specs.declared.names.Named.{Named}
 use Rattle.vcm_svg.specs.declared.rect.Rect.{Rect}
-use Rattle.vcm_way.specs.declared.mark.Contact.{Contact}
+use Rattle.vcm_marks.specs.declared.mark.Contact.{Contact}
 use Rattle.vcm_picture.specs.declared.shown.Seen.{Seen}
 use Rattle.vcm_picture.specs.declared.view.Scope.{Scope}
 use Rattle.vcm_picture.specs.Drawing.{first_names_text, feature_names_text, names_beside, names_of}

@@ -5,7 +5,7 @@ use Rattle.std.proofs.lemmas.List.{append-nil, at_drop_more, drop_all, drop_more
 use Rattle.std.specs.List.{AllByRecursion, list_all}
 use Rattle.std.specs.Prelude.{Option, option_to_list}
 use Rattle.vcm_spec.specs.declared.workpiece.Block3.{Block3}
-use Rattle.vcm_way.specs.declared.mark.Placed.{Placed}
+use Rattle.vcm_marks.specs.declared.mark.Placed.{Placed}
 use Rattle.vcm_picture.specs.declared.shown.Face.{Face}
 use Rattle.vcm_picture.specs.declared.shown.Seen.{Seen}
 use Rattle.vcm_picture.specs.declared.view.Scope.{Scope}

@@ -6,7 +6,7 @@ use Rattle.std.proofs.Math.IntN.{pos-*ℤ-pos}
 use Rattle.std.proofs.Math.Nat.{mul-le-mul_right}
 use Rattle.vcm_spec.specs.Workpiece.{Workpiece}
 use Rattle.vcm_state.specs.Held.{Held}
-use Rattle.vcm_way.specs.declared.mark.Placed.{Placed}
+use Rattle.vcm_marks.specs.declared.mark.Placed.{Placed}
 use Rattle.vcm_picture.specs.declared.picture.Layout.{Layout}
 use Rattle.vcm_picture.specs.declared.picture.PictureFault.{PictureFault}
 use Rattle.vcm_picture.specs.Outcome.{IsPicture}

@@ -1,7 +1,7 @@
 -- The blocks of a view, and their numbers.
 use Rattle.std.specs.Prelude.{ℕ, pos, ◌-◌, ◌+ℤ◌, ◌*ℤ◌, List, [], ◌∷◌, Option, Some, None, slice_get, decimal, codes}
 use Rattle.std.specs.List.{flat_map}
-use Rattle.vcm_way.specs.declared.mark.Contact.{Contact}
+use Rattle.vcm_marks.specs.declared.mark.Contact.{Contact}
 use Rattle.vcm_svg.specs.declared.shapes.Class.{Class}
 use Rattle.vcm_svg.specs.declared.shapes.Class.TheVariants as class
 use Rattle.vcm_svg.specs.declared.shapes.Lettering.TheVariants.{Number}

@@ -7,8 +7,8 @@ use Rattle.vcm_report.specs.Printed.{name_at}
 use Rattle.vcm_spec.specs.declared.workpiece.Bounds.{Bounds}
 use Rattle.vcm_spec.specs.Workpiece.{Workpiece}
 use Rattle.vcm_state.specs.Held.{Held}
-use Rattle.vcm_way.specs.declared.mark.Contact.{Contact}
-use Rattle.vcm_way.specs.declared.mark.Placed.{Placed}
+use Rattle.vcm_marks.specs.declared.mark.Contact.{Contact}
+use Rattle.vcm_marks.specs.declared.mark.Placed.{Placed}
 use Rattle.vcm_picture.specs.declared.names.FirstNames.{FirstNames}
 use Rattle.vcm_picture.specs.declared.names.Named.{Named}
 use Rattle.vcm_svg.specs.declared.rect.Rect.{Rect}

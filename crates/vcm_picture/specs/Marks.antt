@@ -1,10 +1,10 @@
 -- The marks of a way.
 use Rattle.std.specs.Prelude.{nat_le, Bool, List, [], ◌∷◌, Option, Some, None}
-use Rattle.vcm_way.specs.declared.mark.Contact.{Contact}
-use Rattle.vcm_way.specs.declared.mark.Mark.{Mark}
-use Rattle.vcm_way.specs.declared.mark.Mark.TheVariants.{Goes, Touches, Meets}
-use Rattle.vcm_way.specs.declared.mark.Placed.{Placed}
-use Rattle.vcm_way.specs.Ways.{pieces}
+use Rattle.vcm_marks.specs.declared.mark.Contact.{Contact}
+use Rattle.vcm_marks.specs.declared.mark.Mark.{Mark}
+use Rattle.vcm_marks.specs.declared.mark.Mark.TheVariants.{Goes, Touches, Meets}
+use Rattle.vcm_marks.specs.declared.mark.Placed.{Placed}
+use Rattle.vcm_marks.specs.Pieces.{pieces}
 
 -- the contact of a mark, or else that of the marks behind it
 abbrev pub contact_or : Mark → Option Contact → Option Contact

@@ -7,11 +7,11 @@ use Rattle.std.specs.List.{list_any, find, flat_map}
 use Rattle.vcm_num.specs.declared.point.Point.{Point}
 use Rattle.vcm_num.specs.Point.{coordinate, on_each}
 use Rattle.vcm_report.specs.Printed.{name_at}
-use Rattle.vcm_way.specs.declared.mark.Contact.{Contact}
-use Rattle.vcm_way.specs.declared.mark.Mark.{Mark}
-use Rattle.vcm_way.specs.declared.mark.Mark.TheVariants.{Goes, Touches, Meets}
-use Rattle.vcm_way.specs.declared.mark.Placed.{Placed}
-use Rattle.vcm_way.specs.declared.mark.Touched.{Touched}
+use Rattle.vcm_marks.specs.declared.mark.Contact.{Contact}
+use Rattle.vcm_marks.specs.declared.mark.Mark.{Mark}
+use Rattle.vcm_marks.specs.declared.mark.Mark.TheVariants.{Goes, Touches, Meets}
+use Rattle.vcm_marks.specs.declared.mark.Placed.{Placed}
+use Rattle.vcm_marks.specs.declared.mark.Touched.{Touched}
 use Rattle.vcm_picture.specs.declared.names.FirstNames.{FirstNames}
 use Rattle.vcm_picture.specs.declared.names.Named.{Named}
 use Rattle.vcm_svg.specs.declared.rect.Rect.{Rect}

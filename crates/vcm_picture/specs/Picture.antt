@@ -7,7 +7,7 @@ use Rattle.vcm_num.specs.Point.{coordinate}
 use Rattle.vcm_spec.specs.declared.workpiece.Block3.{Block3}
 use Rattle.vcm_spec.specs.Workpiece.{Workpiece}
 use Rattle.vcm_state.specs.Held.{Held}
-use Rattle.vcm_way.specs.declared.mark.Placed.{Placed}
+use Rattle.vcm_marks.specs.declared.mark.Placed.{Placed}
 use Rattle.vcm_svg.specs.Heading.{heading_text}
 use Rattle.vcm_svg.specs.Legend.{legend_text, bar_text}
 use Rattle.vcm_svg.specs.Outlines.{square}

@@ -7,14 +7,14 @@ use Rattle.std.specs.Ordering.{int_eq}
 use Rattle.vcm_num.specs.declared.point.Point.{Point}
 use Rattle.vcm_report.specs.Printed.{name_at}
 use Rattle.vcm_spec.specs.declared.workpiece.Bounds.{Bounds}
-use Rattle.vcm_way.specs.declared.mark.Contact.{Contact}
-use Rattle.vcm_way.specs.declared.mark.Going.{Going}
-use Rattle.vcm_way.specs.declared.mark.Going.TheVariants.{Move, Approach, Search, Retract, Rest}
-use Rattle.vcm_way.specs.declared.mark.Mark.{Mark}
-use Rattle.vcm_way.specs.declared.mark.Mark.TheVariants.{Goes, Touches, Meets}
-use Rattle.vcm_way.specs.declared.mark.Piece.{Piece}
-use Rattle.vcm_way.specs.declared.mark.Placed.{Placed}
-use Rattle.vcm_way.specs.declared.mark.Touched.{Touched}
+use Rattle.vcm_marks.specs.declared.mark.Contact.{Contact}
+use Rattle.vcm_marks.specs.declared.mark.Going.{Going}
+use Rattle.vcm_marks.specs.declared.mark.Going.TheVariants.{Move, Approach, Search, Retract, Rest}
+use Rattle.vcm_marks.specs.declared.mark.Mark.{Mark}
+use Rattle.vcm_marks.specs.declared.mark.Mark.TheVariants.{Goes, Touches, Meets}
+use Rattle.vcm_marks.specs.declared.mark.Piece.{Piece}
+use Rattle.vcm_marks.specs.declared.mark.Placed.{Placed}
+use Rattle.vcm_marks.specs.declared.mark.Touched.{Touched}
 use Rattle.vcm_svg.specs.declared.rect.Rect.{Rect}
 use Rattle.vcm_svg.specs.declared.rect.Spot.{Spot}
 use Rattle.vcm_svg.specs.declared.shapes.Class.{Class}

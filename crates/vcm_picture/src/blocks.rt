@@ -6,9 +6,9 @@ ghost use Rattle.vcm_svg.specs.Ranges.{IsRect};
 ghost use Rattle.vcm_picture.specs.inner.Drawable.{AreFaces, AreSeen, IsSeen, IsFigure};
 
 use crate::shown::{Face, Figure, Seen, Shown};
+use vcm_marks::Contact;
 use vcm_num::NoMemory;
 use vcm_svg::{Class, Label, Lettering, Piece, Spot, put_path, put_text, put_told, rect_outline};
-use vcm_way::Contact;
 
 // Appends a block with its tooltip.
 fn put_block(out: &mut Vec<u8>, class: Class, face: &Face) -> Result<(), NoMemory>

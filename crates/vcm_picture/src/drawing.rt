@@ -15,13 +15,13 @@ use crate::shown::{Face, Seen, all_seen, faces_of};
 use crate::view::{Scope, View, clip, title};
 use crate::way::{put_all_touched, put_ends, put_limits, put_pieces};
 use std::alloc::Global;
-use vcm_expr::Name;
+use vcm_items::Name;
+use vcm_marks::{Contact, Placed};
 use vcm_num::{NoMemory, Point};
 use vcm_part::PartData;
 use vcm_spec::Bounds;
 use vcm_state::World;
 use vcm_svg::{Class, Label, Lettering, Piece, Rect, Spot, put, put_path, put_text, square};
-use vcm_way::{Contact, Placed};
 
 // Where a name stands in its box.
 fn name_label(area: Rect, unit: i64) -> Label

@@ -1,10 +1,10 @@
 //! Questions of the marks of a way.
 
 ghost use Rattle.std.specs.Prelude.{◌≡◌, ◌≤◌};
-ghost use Rattle.vcm_way.specs.Ways.{counted, is_piece};
+ghost use Rattle.vcm_marks.specs.Pieces.{counted, is_piece};
 ghost use Rattle.vcm_picture.specs.Marks.{are_few, contact_of};
 
-use vcm_way::{Contact, Mark, Placed};
+use vcm_marks::{Contact, Mark, Placed};
 
 /// The most pieces of a picture with arrows.
 const FEW_PIECES: u64 = 500;

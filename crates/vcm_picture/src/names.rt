@@ -12,10 +12,10 @@ ghost use Rattle.vcm_picture.specs.inner.Drawable.{AreBoxes, AreNamed, MayName, 
 use crate::shown::{Seen, Shown};
 use crate::view::{Scope, spot_of};
 use crate::whole::letters_wide;
-use vcm_expr::Name;
+use vcm_items::Name;
+use vcm_marks::{Contact, Mark, Placed, Touched};
 use vcm_num::{NoMemory, Point, int_text};
 use vcm_svg::{Rect, Spot, boxed, meets};
-use vcm_way::{Contact, Mark, Placed, Touched};
 
 /// The name of a feature that found room: its place, its box and its feature's index.
 #[derive(Clone, Copy)]

@@ -20,6 +20,7 @@ use crate::view::{View, clip, scope_of};
 use crate::window::{Window, window_of};
 use std::alloc::Global;
 use std::io::Write;
+use vcm_marks::Placed;
 use vcm_num::{NoMemory, Point, write_all};
 use vcm_part::PartData;
 use vcm_spec::Block3;
@@ -28,7 +29,6 @@ use vcm_svg::{
     Class, Piece, Spot, put, put_bar, put_heading, put_legend, put_path, put_style, quotient,
     square,
 };
-use vcm_way::Placed;
 
 /// Why a picture isn't written.
 #[derive(Clone, Copy, PartialEq, Eq)]

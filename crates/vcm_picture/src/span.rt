@@ -8,9 +8,9 @@ ghost use Rattle.vcm_picture.specs.Span.{widened, single, over_block, of_block, 
 ghost use Rattle.vcm_picture.specs.inner.Ranges.{IsSpan};
 
 use crate::drawn::drawn_at;
+use vcm_marks::{Mark, Placed};
 use vcm_num::Point;
 use vcm_spec::Block3;
-use vcm_way::{Mark, Placed};
 
 /// The least and the greatest coordinate of some points on an axis, in micrometres.
 #[derive(Clone, Copy)]

@@ -9,14 +9,14 @@ ghost use Rattle.vcm_svg.specs.Ranges.{IsExtent, IsFew, IsReach, IsRect};
 
 use crate::names::name_at;
 use crate::view::{Scope, rect_of, spot_of};
-use vcm_expr::Name;
+use vcm_items::Name;
+use vcm_marks::{Contact, Going, Mark, Piece, Placed, Touched};
 use vcm_num::{NoMemory, Point};
 use vcm_spec::Bounds;
 use vcm_svg::{
     Class, Piece as Words, Reach, Rect, Spot, circle, cross, line, put_told, quotient,
     rect_outline, square_about, square_round,
 };
-use vcm_way::{Contact, Going, Mark, Piece, Placed, Touched};
 
 // A distance of so many units from where a point stands.
 fn reach(scope: Scope, at: Point, count: i64) -> Reach

@@ -3,7 +3,7 @@
 ghost use Rattle.std.specs.Prelude.{◌≡◌};
 ghost use Rattle.vcm_report.specs.Printed.{name_at};
 
-use vcm_expr::Name;
+use vcm_items::Name;
 
 /// The name at an index; none where the names end before it.
 pub fn name_at(names: &[Name], index: u16) -> &[u8]

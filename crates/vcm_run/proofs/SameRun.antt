@@ -1,5 +1,5 @@
 -- A run of an assembled code is a run of its program.
-use Rattle.std.specs.Prelude.{slice_get}
+use Rattle.std.specs.Prelude.{slice_get, Result, Ok, Err, IfOk}
 use Rattle.std.proofs.Common.{◌≡◌, ℕ, zero, suc, ◌+◌, ◌<◌, List, length, true, None, refl, sym, ap, ◌∙◌, subst, arith}
 use Rattle.vcm_spec.specs.Workpiece.{Workpiece}
 use Rattle.vcm_spec.specs.Rests.{Rests}
@@ -22,10 +22,9 @@ use Rattle.vcm_machine.specs.declared.ran.Ran.{Ran}
 use Rattle.vcm_machine.specs.Running.{Running, setup, started, later, WantsMemory, RunEnded, HasRun}
 use Rattle.vcm_machine.proofs.LawLemmas.{follow}
 use Rattle.vcm_machine.proofs.ProgramRests.{programs_rest}
-use Rattle.std.specs.Prelude.{Result, Ok, Err, IfOk}
 use Rattle.vcm_num.specs.declared.memory.NoMemory.{NoMemory}
-use Rattle.vcm_tree.specs.Program.{Parsed}
-use Rattle.vcm_tree.specs.declared.program.Noticed.{Noticed}
+use Rattle.vcm_program.specs.Program.{Parsed}
+use Rattle.vcm_program.specs.declared.accepted.Noticed.{Noticed}
 use Rattle.vcm_image.specs.Whole.{FitsImage, spelling}
 use Rattle.vcm_image.proofs.ImageLaws.{one_image}
 use Rattle.vcm_run.specs.Run.{Ended, IsRun}

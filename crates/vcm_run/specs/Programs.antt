@@ -5,8 +5,8 @@ use Rattle.vcm_spec.specs.Workpiece.{Workpiece}
 use Rattle.vcm_spec.specs.Program.{sizes}
 use Rattle.vcm_state.specs.Carried.{setup_of}
 use Rattle.vcm_tree.specs.Acceptance.{IsAccepted, IsRefused}
-use Rattle.vcm_tree.specs.Program.{Parsed}
-use Rattle.vcm_tree.specs.declared.program.Noticed.{Noticed}
+use Rattle.vcm_program.specs.Program.{Parsed}
+use Rattle.vcm_program.specs.declared.accepted.Noticed.{Noticed}
 use Rattle.vcm_code.specs.declared.code.Code.{Code}
 use Rattle.vcm_code.specs.Valid.{IsValid}
 use Rattle.vcm_image.specs.Whole.{FitsImage, spelling}

@@ -10,7 +10,8 @@ use vcm_image::write;
 use vcm_loader::load;
 use vcm_motion::Part;
 use vcm_num::NoMemory;
-use vcm_tree::{Accepted, Noticed, accept};
+use vcm_program::{Accepted, Noticed};
+use vcm_tree::accept;
 
 /// The image of a program, and the lines of its text that have no effect.
 #[derive(Drop)]

@@ -11,8 +11,8 @@ use vcm_machine::{Machine, Ran};
 use vcm_motion::Part;
 use vcm_num::NoMemory;
 use vcm_part::PartFault;
+use vcm_program::Noticed;
 use vcm_state::World;
-use vcm_tree::Noticed;
 
 /// Why a program isn't run.
 #[derive(Clone, Copy, PartialEq, Eq)]

@@ -3,7 +3,7 @@ use Rattle.std.specs.Prelude.{Bool, true, false, Option, Some, None, List, [], �
 use Rattle.vcm_spec.specs.Simple.{Simple}
 use Rattle.vcm_spec.specs.declared.simple.Simple.TheVariants.{Output, Text}
 use Rattle.vcm_spec.specs.Program.{Node, simple, node_at}
-use Rattle.vcm_spec.specs.Table.{Entry, Rest, EndIf, EndMeas, EndCas, EndSel, Loop}
+use Rattle.vcm_spec.specs.Table.{Entry, Rest, Closes, Loop}
 
 -- whether a simple statement makes an output line
 abbrev pub prints : {E : Type 0} → Simple E → Bool
@@ -20,8 +20,5 @@ takes_memory _ = false
 abbrev pub next_node : List Entry → Option Node
 next_node [] = None
 next_node (Rest b base i ∷ es) = node_at b i
-next_node (EndIf n ∷ es) = None
-next_node (EndMeas n ∷ es) = None
-next_node (EndCas n ∷ es) = None
-next_node (EndSel n ∷ es) = None
+next_node (Closes n ∷ es) = None
 next_node (Loop at v b close limit increment ∷ es) = None

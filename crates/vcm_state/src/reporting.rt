@@ -14,7 +14,7 @@ use crate::printed::{feature_line, word_of};
 use crate::stop::Halt;
 use crate::world::{MAX_LINES, World};
 use std::alloc::Global;
-use vcm_expr::Name;
+use vcm_items::Name;
 use vcm_spec::{Feature, Missing, Source, Stop};
 
 impl World {

@@ -42,7 +42,7 @@ pub struct World {
 impl Model for World {
     ghost use Rattle.std.specs.Prelude.{◌≡◌, length, IsTrue};
     ghost use Rattle.vcm_num.specs.Point.{is_near};
-    ghost use Rattle.vcm_expr.specs.Slots.{SlotsFit};
+    ghost use Rattle.vcm_items.specs.Slots.{SlotsFit};
     ghost use Rattle.vcm_spec.specs.Fitting.{kinds};
     ghost use Rattle.vcm_state.specs.Held.{Held};
 
@@ -73,7 +73,7 @@ impl World {
     ghost use Rattle.vcm_spec.specs.Workpiece.{Workpiece};
     ghost use Rattle.vcm_spec.specs.World.{opening_world, stopped};
     ghost use Rattle.vcm_spec.specs.declared.simple.Simple.TheVariants.{Goto, GoHome, Assign, Text};
-    ghost use Rattle.vcm_expr.specs.Slots.{SlotsFit};
+    ghost use Rattle.vcm_items.specs.Slots.{SlotsFit};
     ghost use Rattle.vcm_spec.specs.Fitting.{kinds};
     ghost use Rattle.vcm_state.specs.Held.{MayHave};
     ghost use Rattle.vcm_state.specs.Carried.{setup_of, Carries, CarriesOrHalts};

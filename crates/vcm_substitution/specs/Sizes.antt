@@ -4,12 +4,12 @@ use Rattle.std.specs.List.{list_all}
 use Rattle.vcm_lines.specs.declared.fault.FaultCode.TheVariants.{TooDeep}
 use Rattle.vcm_lines.specs.declared.fault.SourceFault.{SourceFault}
 use Rattle.vcm_expr.specs.Source.{Source, is_small}
-use Rattle.vcm_syntax.specs.declared.statement.Argument.{Argument}
-use Rattle.vcm_syntax.specs.declared.statement.Form.{Form}
-use Rattle.vcm_syntax.specs.declared.statement.Form.TheVariants.{Assignment, Move, Test, Repeat, Feature, Touch, Configure, Shift, Choose}
-use Rattle.vcm_syntax.specs.declared.statement.Spot.{Spot}
-use Rattle.vcm_syntax.specs.declared.statement.Rounds.{Rounds}
-use Rattle.vcm_syntax.specs.declared.statement.Offset.{Offset}
+use Rattle.vcm_forms.specs.declared.statement.Argument.{Argument}
+use Rattle.vcm_forms.specs.declared.statement.Form.{Form}
+use Rattle.vcm_forms.specs.declared.statement.Form.TheVariants.{Assignment, Move, Test, Repeat, Feature, Touch, Configure, Shift, Choose}
+use Rattle.vcm_forms.specs.declared.statement.Spot.{Spot}
+use Rattle.vcm_forms.specs.declared.statement.Rounds.{Rounds}
+use Rattle.vcm_forms.specs.declared.statement.Offset.{Offset}
 
 -- whether an expression is small enough, where there is one
 abbrev pub is_small_option : Option Source → Bool

@@ -4,15 +4,15 @@ use Rattle.std.specs.Cmp.Lexicographic.{pointwise}
 use Rattle.vcm_expr.specs.declared.expression.Term.{Term}
 use Rattle.vcm_expr.specs.declared.expression.Term.TheVariants.{Number, Truth, Variable}
 use Rattle.vcm_expr.specs.Source.{Source, Plain, Prefixed, Pair}
-use Rattle.vcm_syntax.specs.declared.statement.Parameter.{Parameter}
-use Rattle.vcm_syntax.specs.declared.statement.Argument.{Argument}
-use Rattle.vcm_syntax.specs.declared.statement.Target.{Target}
-use Rattle.vcm_syntax.specs.declared.statement.Spot.{Spot}
-use Rattle.vcm_syntax.specs.declared.statement.Rounds.{Rounds}
-use Rattle.vcm_syntax.specs.declared.statement.Offset.{Offset}
-use Rattle.vcm_syntax.specs.declared.statement.Form.{Form}
-use Rattle.vcm_syntax.specs.declared.statement.Form.TheVariants.{Assignment, Move, Test, Repeat, Feature, Measure, Touch, Configure, Shift, Choose}
-use Rattle.vcm_syntax.specs.declared.statement.Form.TheVariants.{Rotation, Restore, Query, Report}
+use Rattle.vcm_forms.specs.declared.statement.Parameter.{Parameter}
+use Rattle.vcm_forms.specs.declared.statement.Argument.{Argument}
+use Rattle.vcm_forms.specs.declared.statement.Target.{Target}
+use Rattle.vcm_forms.specs.declared.statement.Spot.{Spot}
+use Rattle.vcm_forms.specs.declared.statement.Rounds.{Rounds}
+use Rattle.vcm_forms.specs.declared.statement.Offset.{Offset}
+use Rattle.vcm_forms.specs.declared.statement.Form.{Form}
+use Rattle.vcm_forms.specs.declared.statement.Form.TheVariants.{Assignment, Move, Test, Repeat, Feature, Measure, Touch, Configure, Shift, Choose}
+use Rattle.vcm_forms.specs.declared.statement.Form.TheVariants.{Rotation, Restore, Query, Report}
 use Rattle.std.specs.Option.{option_map}
 
 -- what a body is expanded with: the parameters, what stands for them, one by one, and the number of the expansion

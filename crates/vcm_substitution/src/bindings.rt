@@ -12,9 +12,10 @@ ghost use Rattle.vcm_substitution.specs.Substitution.{put, put_term, put_variabl
 
 use std::alloc::Global;
 use std::marker::Model;
-use vcm_expr::{Draft, Expr, Name, Piece, Size, Stack, Term};
+use vcm_expr::{Draft, Expr, Piece, Size, Stack, Term};
+use vcm_forms::{Argument, Parameter, Target};
+use vcm_items::Name;
 use vcm_lines::SourceFault;
-use vcm_syntax::{Argument, Parameter, Target};
 
 /// What a body is expanded with. Contracts see it as a `Scope`.
 #[derive(Drop)]
@@ -27,8 +28,8 @@ pub struct Bindings<'a> {
 impl<'a> Model for Bindings<'a> {
     ghost use Rattle.vcm_substitution.specs.Substitution.{Scope};
     ghost use Rattle.std.specs.Coded.{codes};
-    ghost use Rattle.vcm_syntax.specs.contracts.statement.Parameter as parameter;
-    ghost use Rattle.vcm_syntax.specs.contracts.statement.Argument as argument;
+    ghost use Rattle.vcm_forms.specs.contracts.statement.Parameter as parameter;
+    ghost use Rattle.vcm_forms.specs.contracts.statement.Argument as argument;
 
     ghost Value = { Scope };
 

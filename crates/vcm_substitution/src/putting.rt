@@ -7,14 +7,15 @@ ghost use Rattle.vcm_substitution.specs.Sizes.{is_small_option, is_small_spot, a
 ghost use Rattle.std.specs.Option.{option_map};
 ghost use Rattle.vcm_substitution.specs.Substitution.{put, put_name, put_spot, put_rounds, put_offset, put_form};
 ghost use Rattle.vcm_substitution.specs.inner.Plain.{is_plain};
-ghost use Rattle.vcm_syntax.specs.declared.statement.Form.{Form};
+ghost use Rattle.vcm_forms.specs.declared.statement.Form.{Form};
 
 use crate::bindings::Bindings;
 use std::alloc::Global;
-use vcm_expr::{Expr, Name, VariableName};
+use vcm_expr::Expr;
+use vcm_forms::{Form, Offset, OperatorText, Rounds, Spot};
+use vcm_items::{Name, VariableName};
 use vcm_lines::SourceFault;
 use vcm_num::{Axis, Items};
-use vcm_syntax::{Form, Offset, OperatorText, Rounds, Spot};
 
 // The same names.
 fn copied_names(alloc: Global, names: &[VariableName]) -> Result<Items<VariableName>, SourceFault>

@@ -29,8 +29,3 @@ five r o p q s t m a b d g j e f i k h = two r o p m a (b ++ (d ++ (g ++ j))) e 
 pub six : {A E : Type 0} (r : Result A E) (o p q s t u m a b d g j l : List ℕ) → p ≡ o ++ a → q ≡ p ++ b → s ≡ q ++ d → t ≡ s ++ g
     → u ≡ t ++ j → OnOk r (m ≡ u ++ l) → OnOk r (m ≡ o ++ (a ++ (b ++ (d ++ (g ++ (j ++ l))))))
 six r o p q s t u m a b d g j l e f i k n h = two r o p m a (b ++ (d ++ (g ++ (j ++ l)))) e (five r p q s t u m b d g j l f i k n h)
-
-pub seven : {A E : Type 0} (r : Result A E) (o p q s t u v m a b d g j l w : List ℕ) → p ≡ o ++ a → q ≡ p ++ b → s ≡ q ++ d
-    → t ≡ s ++ g → u ≡ t ++ j → v ≡ u ++ l → OnOk r (m ≡ v ++ w) → OnOk r (m ≡ o ++ (a ++ (b ++ (d ++ (g ++ (j ++ (l ++ w)))))))
-seven r o p q s t u v m a b d g j l w e f i k n x h =
-    two r o p m a (b ++ (d ++ (g ++ (j ++ (l ++ w))))) e (six r p q s t u v m b d g j l w f i k n x h)

@@ -3,7 +3,7 @@ use Rattle.std.proofs.Common.{◌≡◌, List, Ok, Err, sym, ◌∙◌}
 use Rattle.std.specs.Prelude.{Result}
 use Rattle.vcm_lines.specs.declared.fault.FaultCode.{FaultCode}
 use Rattle.vcm_lines.specs.Lexemes.{Lexeme}
-use Rattle.vcm_syntax.specs.declared.statement.Form.{Form}
+use Rattle.vcm_forms.specs.declared.statement.Form.{Form}
 use Rattle.vcm_syntax.specs.Statements.{SpellsStatement, BreaksStatement, statement_of}
 
 one_form : (r : Result Form FaultCode) (form other : Form) → r ≡ Ok form → r ≡ Ok other → form ≡ other

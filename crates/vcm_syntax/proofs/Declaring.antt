@@ -5,16 +5,16 @@ use Rattle.vcm_lines.specs.declared.fault.FaultCode.TheVariants.{BadSyntax, Unsu
 use Rattle.vcm_lines.specs.Lexemes.{Lexeme, Open}
 use Rattle.vcm_spec.specs.Results.{◌>>=◌}
 use Rattle.vcm_expr.specs.Parsing.{expr_of}
-use Rattle.vcm_syntax.specs.declared.statement.Major.{Major}
-use Rattle.vcm_syntax.specs.declared.statement.Major.TheVariants as major
-use Rattle.vcm_syntax.specs.declared.statement.Letter.TheVariants as letters
-use Rattle.vcm_syntax.specs.declared.statement.Prefix.{Prefix}
-use Rattle.vcm_syntax.specs.declared.statement.Form.{Form}
-use Rattle.vcm_syntax.specs.declared.statement.Form.TheVariants.{Opening, Measures, Ignored, Declaration, Assignment, Move, Home, Say}
-use Rattle.vcm_syntax.specs.declared.statement.Form.TheVariants.{Test, Otherwise, TestEnd, Repeat, RepeatEnd, Mark, Leap, Ending}
-use Rattle.vcm_syntax.specs.declared.statement.Form.TheVariants.{Feature, Measure, Touch, MeasureEnd, Configure, Shift}
-use Rattle.vcm_syntax.specs.declared.statement.Form.TheVariants.{Rotation, Restore, Query, Report, Macro, MacroEnd, Call}
-use Rattle.vcm_syntax.specs.declared.statement.Form.TheVariants.{Choose, Case, CaseEnd, Default, ChooseEnd}
+use Rattle.vcm_syntax.specs.declared.heads.Major.{Major}
+use Rattle.vcm_syntax.specs.declared.heads.Major.TheVariants as major
+use Rattle.vcm_syntax.specs.declared.heads.Letter.TheVariants as letters
+use Rattle.vcm_syntax.specs.declared.heads.Prefix.{Prefix}
+use Rattle.vcm_forms.specs.declared.statement.Form.{Form}
+use Rattle.vcm_forms.specs.declared.statement.Form.TheVariants.{Opening, Measures, Ignored, Declaration, Assignment, Move, Home, Say}
+use Rattle.vcm_forms.specs.declared.statement.Form.TheVariants.{Test, Otherwise, TestEnd, Repeat, RepeatEnd, Mark, Leap, Ending}
+use Rattle.vcm_forms.specs.declared.statement.Form.TheVariants.{Feature, Measure, Touch, MeasureEnd, Configure, Shift}
+use Rattle.vcm_forms.specs.declared.statement.Form.TheVariants.{Rotation, Restore, Query, Report, Macro, MacroEnd, Call}
+use Rattle.vcm_forms.specs.declared.statement.Form.TheVariants.{Choose, Case, CaseEnd, Default, ChooseEnd}
 use Rattle.vcm_syntax.specs.Readers.{end_of, field, some_field, each_of}
 use Rattle.vcm_syntax.specs.Majors.{prefix_of, major_of}
 use Rattle.vcm_syntax.specs.Places.{bare_of, titled_of, target_of, word_of, kind_of, setting_of, axis_of, system_of, unscoped, lengths_in, any_text_of, message_of}

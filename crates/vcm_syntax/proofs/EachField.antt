@@ -1,5 +1,5 @@
 -- Fields are read one at a time.
-use Rattle.std.proofs.Common.{◌≡◌, ℕ, List, [], ◌∷◌, ◌++◌, drop, Result, Ok, Err, refl, sym, ap, append_assoc}
+use Rattle.std.proofs.Common.{◌≡◌, ℕ, List, ◌++◌, drop, Result, Ok}
 use Rattle.vcm_lines.specs.declared.fault.FaultCode.{FaultCode}
 use Rattle.vcm_lines.specs.Lexemes.{Lexeme}
 use Rattle.vcm_spec.specs.Results.{◌>>=◌}
@@ -12,11 +12,3 @@ with_all xs r = r >>= λ ys. Ok (xs ++ ys)
 -- these were read of the first i fields: with those of the fields behind them they are those of all
 pub record AreRead {A : Type 0} (read : List Lexeme → Result A FaultCode) (fs : List (List Lexeme)) (i : ℕ) (xs : List A) : Type 0 where
   pub whole : each_of read fs ≡ with_all xs (each_of read (drop i fs))
-
-pub with_none : {A : Type 0} (r : Result (List A) FaultCode) → r ≡ with_all [] r
-with_none (Ok ys) = refl
-with_none (Err c) = refl
-
-pub with_more : {A : Type 0} (xs : List A) (x : A) (r : Result (List A) FaultCode) → with_all xs (r >>= λ ys. Ok (x ∷ ys)) ≡ with_all (xs ++ x ∷ []) r
-with_more xs x (Ok ys) = ap Ok (sym (append_assoc xs (x ∷ []) ys))
-with_more xs x (Err c) = refl

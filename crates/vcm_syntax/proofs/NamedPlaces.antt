@@ -3,8 +3,8 @@ use Rattle.std.proofs.Common.{◌≡◌, ℕ, List, [], ◌∷◌, Ok, Err, refl
 use Rattle.std.specs.Prelude.{Some, None}
 use Rattle.vcm_lines.specs.declared.fault.FaultCode.TheVariants.{BadSyntax}
 use Rattle.vcm_lines.specs.Lexemes.{Lexeme, Run, Equals, Open, Close}
-use Rattle.vcm_syntax.specs.declared.statement.Letter.{Letter}
-use Rattle.vcm_syntax.specs.declared.statement.Prefix.TheVariants.{Bare}
+use Rattle.vcm_syntax.specs.declared.heads.Letter.{Letter}
+use Rattle.vcm_syntax.specs.declared.heads.Prefix.TheVariants.{Bare}
 use Rattle.vcm_syntax.specs.Majors.{title_of}
 use Rattle.vcm_syntax.specs.Places.{named_of, source_of}
 

@@ -5,7 +5,7 @@ use Rattle.vcm_lines.specs.declared.fault.FaultCode.{FaultCode}
 use Rattle.vcm_lines.specs.declared.fault.FaultCode.TheVariants.{BadSyntax}
 use Rattle.vcm_lines.specs.Lexemes.{Lexeme}
 use Rattle.vcm_spec.specs.Results.{◌>>=◌}
-use Rattle.vcm_syntax.specs.declared.statement.Offset.{Offset}
+use Rattle.vcm_forms.specs.declared.statement.Offset.{Offset}
 use Rattle.vcm_syntax.specs.Measuring.{offset_of, offsets_of}
 
 -- these are the shifts of the first i fields: with those of the fields behind them they are those of all

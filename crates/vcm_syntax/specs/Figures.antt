@@ -1,6 +1,5 @@
 -- Number literals that stand for whole numbers: counts, angles, words of features and components of directions.
-use Rattle.std.specs.Prelude.{ℤ, pos, negsuc, neg_ℤ, ◌*ℤ◌, ◌&&◌, ◌||◌, if◌then◌else◌, Bool}
-use Rattle.std.specs.Prelude.{true, false, List, ◌∷◌, Option, Some, None, Result, Ok, Err}
+use Rattle.std.specs.Prelude.{ℤ, pos, negsuc, neg_ℤ, ◌*ℤ◌, ◌&&◌, ◌||◌, if◌then◌else◌, Bool, true, false, List, ◌∷◌, Option, Some, None, Result, Ok, Err}
 use Rattle.std.specs.Ordering.{int_eq}
 use Rattle.vcm_num.specs.declared.axis.Axis.{Axis}
 use Rattle.vcm_num.specs.declared.axis.Axis.TheVariants.{PlusX, MinusX, PlusY, MinusY, PlusZ, MinusZ}
@@ -19,7 +18,8 @@ use Rattle.vcm_spec.specs.declared.words.FeatureWord.{FeatureWord}
 use Rattle.vcm_spec.specs.declared.words.FeatureWord.TheVariants as words
 use Rattle.vcm_expr.specs.Digits.{read_of}
 use Rattle.vcm_syntax.specs.declared.figures.Figure.{Figure}
-use Rattle.vcm_syntax.specs.Readers.{or_fault, alone, field}
+use Rattle.vcm_lines.specs.Fault.{or_fault}
+use Rattle.vcm_syntax.specs.Readers.{alone, field}
 use Rattle.vcm_spec.specs.Results.{◌>>=◌}
 
 -- digits behind a sign, or what is wrong with them

@@ -5,16 +5,15 @@ use Rattle.vcm_lines.specs.declared.fault.FaultCode.TheVariants.{BadSyntax}
 use Rattle.vcm_lines.specs.Bytes.{upper}
 use Rattle.vcm_lines.specs.Lexemes.{Lexeme, Run, Quoted}
 use Rattle.vcm_spec.specs.Results.{◌>>=◌}
-use Rattle.vcm_expr.specs.NameBytes.{is_name}
-use Rattle.vcm_expr.specs.Symbols.{is_variable_name}
+use Rattle.vcm_items.specs.NameBytes.{is_name, is_variable_name}
 use Rattle.vcm_expr.specs.Source.{Source}
 use Rattle.vcm_expr.specs.Parsing.{expr_of}
-use Rattle.vcm_syntax.specs.declared.statement.Argument.{Argument}
-use Rattle.vcm_syntax.specs.declared.statement.Parameter.{Parameter}
-use Rattle.vcm_syntax.specs.declared.statement.Letter.TheVariants as letters
-use Rattle.vcm_syntax.specs.declared.statement.Prefix.{Prefix}
-use Rattle.vcm_syntax.specs.declared.statement.Form.{Form}
-use Rattle.vcm_syntax.specs.declared.statement.Form.TheVariants.{Macro, Call}
+use Rattle.vcm_forms.specs.declared.statement.Argument.{Argument}
+use Rattle.vcm_forms.specs.declared.statement.Parameter.{Parameter}
+use Rattle.vcm_syntax.specs.declared.heads.Letter.TheVariants as letters
+use Rattle.vcm_syntax.specs.declared.heads.Prefix.{Prefix}
+use Rattle.vcm_forms.specs.declared.statement.Form.{Form}
+use Rattle.vcm_forms.specs.declared.statement.Form.TheVariants.{Macro, Call}
 use Rattle.vcm_syntax.specs.Readers.{field, each_of}
 use Rattle.vcm_syntax.specs.Places.{bare_of, titled_of, named_of}
 

@@ -12,13 +12,13 @@ use Rattle.vcm_spec.specs.Words.{axis_number}
 use Rattle.vcm_spec.specs.declared.words.FrameAxis.{FrameAxis}
 use Rattle.vcm_spec.specs.declared.words.FrameAxis.TheVariants as axes
 use Rattle.vcm_expr.specs.Parsing.{expr_of}
-use Rattle.vcm_syntax.specs.declared.statement.Letter.TheVariants as letters
-use Rattle.vcm_syntax.specs.declared.statement.Prefix.{Prefix}
-use Rattle.vcm_syntax.specs.declared.statement.Form.{Form}
-use Rattle.vcm_syntax.specs.declared.statement.Form.TheVariants.{Feature, Measure, Touch, Configure}
-use Rattle.vcm_syntax.specs.declared.statement.Form.TheVariants.{Shift, Rotation, Restore, Query, Report}
-use Rattle.vcm_syntax.specs.declared.statement.Offset.{Offset}
-use Rattle.vcm_syntax.specs.Readers.{or_fault, end_of, field, some_field}
+use Rattle.vcm_syntax.specs.declared.heads.Letter.TheVariants as letters
+use Rattle.vcm_syntax.specs.declared.heads.Prefix.{Prefix}
+use Rattle.vcm_forms.specs.declared.statement.Form.{Form}
+use Rattle.vcm_forms.specs.declared.statement.Form.TheVariants.{Feature, Measure, Touch, Configure, Shift, Rotation, Restore, Query, Report}
+use Rattle.vcm_forms.specs.declared.statement.Offset.{Offset}
+use Rattle.vcm_lines.specs.Fault.{or_fault}
+use Rattle.vcm_syntax.specs.Readers.{end_of, field, some_field}
 use Rattle.vcm_syntax.specs.Places.{bare_of, titled_of, target_of, word_of, setting_of, axis_of, system_of, named_of, source_of, spot_of}
 use Rattle.vcm_syntax.specs.Figures.{vector_of, angle_of, feature_word_of, one_of}
 

@@ -17,17 +17,18 @@ use Rattle.vcm_spec.specs.declared.words.Setting.{Setting}
 use Rattle.vcm_spec.specs.declared.words.Setting.TheVariants as settings
 use Rattle.vcm_spec.specs.declared.words.Source.{Source as FeatureSource}
 use Rattle.vcm_spec.specs.declared.words.Source.TheVariants.{Nominal, Actual}
-use Rattle.vcm_expr.specs.NameBytes.{is_name}
-use Rattle.vcm_expr.specs.Symbols.{is_variable_name}
+use Rattle.vcm_items.specs.NameBytes.{is_name, is_variable_name}
 use Rattle.vcm_expr.specs.Source.{Source}
 use Rattle.vcm_expr.specs.Parsing.{expr_of}
-use Rattle.vcm_syntax.specs.declared.statement.Letter.{Letter}
-use Rattle.vcm_syntax.specs.declared.statement.Letter.TheVariants as letters
-use Rattle.vcm_syntax.specs.declared.statement.Prefix.{Prefix}
-use Rattle.vcm_syntax.specs.declared.statement.Prefix.TheVariants.{Bare, Assigned, Titled}
-use Rattle.vcm_syntax.specs.declared.statement.Target.{Target}
-use Rattle.vcm_syntax.specs.declared.statement.Spot.{Spot}
-use Rattle.vcm_syntax.specs.Readers.{or_fault, alone, field}
+use Rattle.vcm_syntax.specs.declared.heads.Letter.{Letter}
+use Rattle.vcm_syntax.specs.declared.heads.Letter.TheVariants as letters
+use Rattle.vcm_syntax.specs.declared.heads.Prefix.{Prefix}
+use Rattle.vcm_syntax.specs.declared.heads.Prefix.TheVariants.{Bare, Assigned, Titled}
+use Rattle.vcm_forms.specs.declared.statement.Target.{Target}
+use Rattle.vcm_forms.specs.declared.statement.Spot.{Spot}
+use Rattle.vcm_forms.specs.Statements.{as_read}
+use Rattle.vcm_lines.specs.Fault.{or_fault}
+use Rattle.vcm_syntax.specs.Readers.{alone, field}
 
 -- ---- before the major word
 
@@ -44,10 +45,6 @@ titled_of letters.M (Titled (Some letters.M) l) = Ok l
 titled_of letters.S (Titled (Some letters.S) l) = Ok l
 titled_of letters.V (Titled (Some letters.V) l) = Ok l
 titled_of _ _ = Err BadSyntax
-
--- the variable of this name, in no expansion of a macro as far as it is known here
-abbrev pub as_read : List ℕ → Target
-as_read name = record { name = name; expansion = 0 }
 
 -- the variable that gets a value
 abbrev pub target_of : Prefix → Result Target FaultCode

@@ -1,14 +1,10 @@
 -- How a statement is read: from the left, up to the leftmost fault, whose code is the answer. A field is a list of words.
-use Rattle.std.specs.Prelude.{ℕ, List, [], ◌∷◌, slice_get, Option, Some, None, Result, Ok, Err}
+use Rattle.std.specs.Prelude.{ℕ, List, [], ◌∷◌, slice_get, Result, Ok, Err}
 use Rattle.vcm_lines.specs.declared.fault.FaultCode.{FaultCode}
 use Rattle.vcm_lines.specs.declared.fault.FaultCode.TheVariants.{BadSyntax}
 use Rattle.vcm_lines.specs.Lexemes.{Lexeme}
+use Rattle.vcm_lines.specs.Fault.{or_fault}
 use Rattle.vcm_spec.specs.Results.{◌>>=◌}
-
--- what is there, or the fault
-abbrev pub or_fault : {A : Type 0} → FaultCode → Option A → Result A FaultCode
-or_fault e (Some x) = Ok x
-or_fault e None = Err e
 
 -- nothing is left
 abbrev pub end_of : {X : Type 0} → List X → Result (Unit {0}) FaultCode

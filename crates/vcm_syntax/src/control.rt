@@ -4,11 +4,12 @@ ghost use Rattle.vcm_expr.specs.Parsing.{ReadAs};
 ghost use Rattle.vcm_syntax.specs.Forms.{if_of, step_of, do_of, jumpto_of, select_of, case_of};
 
 use crate::figures::integer;
+use crate::heads::Prefix;
 use crate::named::{aim, index};
 use crate::places::{behind, complete, expression, field, test};
-use crate::statement::{Form, Prefix, Rounds};
 use std::alloc::Global;
 use vcm_expr::{Expr, read_expr};
+use vcm_forms::{Form, Rounds};
 use vcm_lines::{Phrase, SourceFault};
 
 pub(crate) fn iff(alloc: Global, line: u32, fields: &[Phrase<'_>]) -> Result<Form, SourceFault>

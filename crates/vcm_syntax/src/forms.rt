@@ -7,14 +7,15 @@ ghost use Rattle.vcm_syntax.specs.Forms.{declaration_of, decl_of, assign_of, pla
 ghost use Rattle.vcm_syntax.specs.inner.Steps.{ignored_of};
 
 use crate::control::{case, iff, jumpto, repeat, select};
+use crate::heads::{Letter, Major, Prefix};
 use crate::macros::{call, macro_form};
 use crate::measuring::{feat, meas, obtain, output, ptmeas, recall, rotate, snset, trans};
 use crate::named::{kind, lengths, unscoped, variable};
 use crate::opening::{dmismn, units};
 use crate::places::{behind, complete, expression, message, some_field, spot, target, word_at};
-use crate::statement::{Form, Letter, Major, Notice, Prefix};
 use std::alloc::Global;
-use vcm_expr::{Name, VariableName};
+use vcm_forms::{Form, Notice};
+use vcm_items::{Name, VariableName};
 use vcm_lines::{FaultCode, Phrase, SourceFault, bad_syntax};
 use vcm_num::Items;
 

@@ -4,6 +4,7 @@
 mod control;
 mod figures;
 mod forms;
+mod heads;
 pub mod laws;
 mod macros;
 mod majors;
@@ -11,13 +12,10 @@ mod measuring;
 mod named;
 mod offsets;
 mod opening;
-mod operator_text;
 mod parse;
 mod places;
-mod statement;
 
-pub use operator_text::OperatorText;
 pub use parse::parse_statement;
-pub use statement::{Argument, Form, Notice, Offset, Parameter, Rounds, Spot, Statement, Target};
+pub use vcm_forms::Statement;
 pub use vcm_num::Axis;
 pub use vcm_spec::{FeatureWord, FrameAxis, Quarters, Setting, Source};

@@ -3,16 +3,18 @@
 ghost use Rattle.std.specs.Prelude.{◌≡◌, ◌∷◌, [], true, false, Some, IfOk, IfErr, MatchOption};
 ghost use Rattle.vcm_lines.specs.Fault.{no_memory};
 ghost use Rattle.vcm_lines.specs.Lexemes.{Quoted};
-ghost use Rattle.vcm_expr.specs.NameBytes.{is_name};
+ghost use Rattle.vcm_items.specs.NameBytes.{is_name};
 ghost use Rattle.vcm_expr.specs.Parsing.{ReadAs, expr_of};
 ghost use Rattle.vcm_syntax.specs.Readers.{each_of};
 ghost use Rattle.vcm_syntax.specs.Macros.{raised, parameter_of, if_read, valued_of, argument_of, macro_of, call_of};
 
+use crate::heads::{Letter, Prefix};
 use crate::named::named;
 use crate::places::{behind, only};
-use crate::statement::{Argument, Form, Letter, Parameter, Prefix};
 use std::alloc::Global;
-use vcm_expr::{Expr, Name, is_name, is_variable_name, read_expr};
+use vcm_expr::{Expr, read_expr};
+use vcm_forms::{Argument, Form, Parameter};
+use vcm_items::{Name, is_name, is_variable_name};
 use vcm_lines::{FaultCode, Phrase, SourceFault, Token, bad_syntax};
 use vcm_num::Items;
 

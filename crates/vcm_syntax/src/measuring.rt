@@ -6,14 +6,15 @@ ghost use Rattle.vcm_syntax.specs.Measuring.{offsets_of, feat_of, meas_of, given
 ghost use Rattle.vcm_syntax.specs.inner.Steps.{feature_of};
 
 use crate::figures::{angle, feature_word, one, vector};
+use crate::heads::{Letter, Prefix};
 use crate::named::{axis, named, setting, source};
 use crate::offsets::offsets;
 use crate::places::{
     behind, complete, expression, some_field, spot, system, target, unsupported, word_at,
 };
-use crate::statement::{Form, Letter, Prefix};
 use std::alloc::Global;
-use vcm_expr::Name;
+use vcm_forms::Form;
+use vcm_items::Name;
 use vcm_lines::{FaultCode, Phrase, SourceFault};
 use vcm_num::Axis;
 

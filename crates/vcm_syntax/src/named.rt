@@ -8,8 +8,8 @@ ghost use Rattle.vcm_syntax.specs.inner.Steps.{label_of, at_place};
 ghost use Rattle.vcm_syntax.specs.Places.{choice_of, kind_of, setting_of, axis_of, is_scope, unscoped, lengths_in, variable_of, index_of, aim_of, named_of, source_word, source_of};
 
 use crate::places::{field, found, only};
-use crate::statement::Target;
-use vcm_expr::{Name, VariableName, is_name, is_variable_name};
+use vcm_forms::Target;
+use vcm_items::{Name, VariableName, is_name, is_variable_name};
 use vcm_lines::{FaultCode, Phrase, SourceFault, Token, bad_syntax};
 use vcm_num::{Kind, is, look_up};
 use vcm_spec::{FrameAxis, Setting, Source};

@@ -6,9 +6,9 @@ ghost use Rattle.vcm_expr.specs.Parsing.{ReadAs};
 ghost use Rattle.vcm_syntax.specs.Measuring.{origin_word, is_along, free_axis, origin_in, offset_of, offsets_of};
 
 use crate::places::only;
-use crate::statement::Offset;
 use std::alloc::Global;
 use vcm_expr::read_expr;
+use vcm_forms::Offset;
 use vcm_lines::{Phrase, SourceFault, Token, bad_syntax};
 use vcm_num::{Items, look_up};
 use vcm_spec::FrameAxis;

@@ -3,8 +3,9 @@
 ghost use Rattle.vcm_expr.specs.Parsing.{ReadAs};
 ghost use Rattle.vcm_syntax.specs.Forms.{dmismn_of, temperature_of, units_of};
 
+use crate::heads::Prefix;
 use crate::places::{behind, end, quoted, single, unused, word_at};
-use crate::statement::{Form, Prefix};
+use vcm_forms::Form;
 use vcm_lines::{FaultCode, Phrase, SourceFault};
 
 /// The first statement: the title of a program.

@@ -5,13 +5,14 @@ ghost use Rattle.std.specs.List.{list_all};
 ghost use Rattle.vcm_lines.specs.Lexemes.{Lexeme, lexeme, is_spelled};
 ghost use Rattle.vcm_expr.specs.Parsing.{ReadAs, expr_of};
 ghost use Rattle.vcm_syntax.specs.Readers.{end_of, alone, field, some_field};
-ghost use Rattle.vcm_syntax.specs.Places.{as_read, word_of, single_of, system_of, any_text_of, message_of, unused_of, test_of, spot_of};
+ghost use Rattle.vcm_forms.specs.Statements.{as_read};
+ghost use Rattle.vcm_syntax.specs.Places.{word_of, single_of, system_of, any_text_of, message_of, unused_of, test_of, spot_of};
 ghost use Rattle.vcm_syntax.specs.inner.Steps.{complete, found_of, at_place};
 
-use crate::operator_text::OperatorText;
-use crate::statement::{Spot, Target};
 use std::alloc::Global;
-use vcm_expr::{Expr, Name, read_expr};
+use vcm_expr::{Expr, read_expr};
+use vcm_forms::{OperatorText, Spot, Target};
+use vcm_items::Name;
 use vcm_lines::{FaultCode, Phrase, SourceFault, Token, bad_syntax};
 use vcm_num::is;
 use vcm_spec::is_text;

@@ -6,8 +6,8 @@ ghost use Rattle.vcm_spec.specs.Setup.{kinds_of};
 use crate::variable::Variable;
 use std::alloc::Global;
 use std::marker::Model;
-use vcm_expr::{Kind, Name};
-use vcm_num::{Items, NoMemory};
+use vcm_items::Name;
+use vcm_num::{Items, Kind, NoMemory};
 
 /// The names of a program, each at its index: its variables with their kinds, its features and its frames. Contracts see it as the `Tables` of
 /// the definitions.

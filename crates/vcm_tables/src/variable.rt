@@ -3,7 +3,8 @@
 ghost use Rattle.std.specs.Prelude.{◌≡◌};
 
 use std::marker::Model;
-use vcm_expr::{Kind, Name};
+use vcm_items::Name;
+use vcm_num::Kind;
 
 /// A variable of a program: its name, its kind, and the number of the macro expansion that it belongs to, 0 outside macros.
 #[derive(Drop)]

@@ -6,8 +6,8 @@ use Rattle.vcm_lines.specs.declared.logical.Logical.{Logical}
 use Rattle.vcm_lines.specs.Statements.{lines_of, kept_lines, grouped, Breaks, told_line}
 use Rattle.vcm_spec.specs.Phase.{FirstFault}
 use Rattle.vcm_spec.proofs.PhaseLemmas.{clean_or_fault, one_line}
-use Rattle.vcm_syntax.specs.declared.statement.Form.{Form}
-use Rattle.vcm_syntax.specs.declared.statement.Statement.{Statement}
+use Rattle.vcm_forms.specs.declared.statement.Form.{Form}
+use Rattle.vcm_forms.specs.declared.statement.Statement.{Statement}
 use Rattle.vcm_syntax.proofs.Answering.{statement_once}
 use Rattle.vcm_tree.specs.Statements.{IsSpelled, AreSpelled, BreaksStatements, statement_line}
 use Rattle.vcm_macro.specs.declared.placed.Placed.{Placed}
@@ -16,9 +16,10 @@ use Rattle.vcm_macro.proofs.Answered.{either as no_refusal, refusal as one_refus
 use Rattle.vcm_tree.specs.Resolving.{BreaksNames, names_line}
 use Rattle.vcm_nodes.specs.Jumps.{labels_of, jumps_of, BreaksJumps, jumps_line}
 use Rattle.vcm_spec.specs.Setup.{Tables}
-use Rattle.vcm_tree.specs.Program.{Parsed, IsParsed}
+use Rattle.vcm_program.specs.Program.{Parsed}
+use Rattle.vcm_tree.specs.Program.{IsParsed}
 use Rattle.vcm_spec.specs.Program.{Block}
-use Rattle.vcm_tree.specs.declared.program.Noticed.{Noticed}
+use Rattle.vcm_program.specs.declared.accepted.Noticed.{Noticed}
 use Rattle.vcm_tree.proofs.OneProgram.{one_writing}
 use Rattle.vcm_tree.specs.Acceptance.{ReadsLines, ReadsStatements, ReadsText, ReadsProgram, IsAccepted, IsRefused, in_lines, in_statements, in_expansion, in_names, in_jumps}
 

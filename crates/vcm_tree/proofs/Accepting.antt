@@ -4,13 +4,13 @@ use Rattle.vcm_lines.specs.declared.fault.SourceFault.{SourceFault}
 use Rattle.vcm_lines.specs.declared.logical.Logical.{Logical}
 use Rattle.vcm_lines.specs.Fault.{NoMemoryOr}
 use Rattle.vcm_spec.specs.Phase.{IsClean, FirstFault}
-use Rattle.vcm_syntax.specs.declared.statement.Statement.{Statement}
+use Rattle.vcm_forms.specs.declared.statement.Statement.{Statement}
 use Rattle.vcm_macro.specs.declared.placed.Placed.{Placed}
 use Rattle.vcm_macro.specs.Expansion.{IsRefused as IsUnexpanded}
 use Rattle.vcm_tree.specs.Statements.{BreaksStatements, statement_line}
 use Rattle.vcm_tree.specs.Resolving.{start, BreaksNames, names_line}
 use Rattle.vcm_nodes.specs.Jumps.{labels_of, jumps_of, BreaksJumps, jumps_line}
-use Rattle.vcm_tree.specs.Program.{Parsed, IsWhole}
+use Rattle.vcm_program.specs.Program.{Parsed, IsWhole}
 use Rattle.vcm_tree.specs.Acceptance.{ReadsLines, ReadsStatements, ReadsText, ReadsProgram, IsAccepted, IsRefused, in_statements, in_expansion, in_names, in_jumps}
 use Rattle.vcm_tree.proofs.Kept.{ended_all, lettered_all}
 use Rattle.vcm_tree.proofs.FewKept.{few_all}

@@ -4,7 +4,7 @@ use Rattle.vcm_lines.specs.declared.fault.FaultCode.{FaultCode}
 use Rattle.vcm_lines.specs.declared.fault.FaultCode.TheVariants.{Unbalanced}
 use Rattle.vcm_lines.specs.declared.fault.SourceFault.{SourceFault}
 use Rattle.vcm_lines.specs.Fault.{NoMemoryOr}
-use Rattle.vcm_syntax.specs.declared.statement.Form.{Form}
+use Rattle.vcm_forms.specs.declared.statement.Form.{Form}
 use Rattle.vcm_macro.specs.declared.placed.Placed.{Placed}
 use Rattle.vcm_tree.specs.declared.builder.Head.{Head}
 use Rattle.vcm_tree.specs.declared.builder.Head.TheVariants.{First, Second, Body, Measuring, Case}
@@ -15,7 +15,7 @@ use Rattle.vcm_tree.specs.declared.taking.Progress.{Progress}
 use Rattle.vcm_tree.specs.Sentences.{Step}
 use Rattle.vcm_tree.specs.Blocks.{Opened, InFirst, InSecond, InBody, InMeasure, InSelect, InCase, case_begun, select_ended, is_choosing}
 use Rattle.vcm_tree.specs.Resolving.{stated, is_measuring, is_barred, is_in_block, unless_barred, unless_choosing, resolved, resolved_here}
-use Rattle.vcm_tree.specs.inner.Telling.{ToldAt}
+use Rattle.vcm_program.specs.Telling.{ToldAt}
 use Rattle.vcm_tree.specs.inner.Building.{opened_by, blocks_of}
 use Rattle.vcm_tree.specs.inner.Taking.{behind_with, behind_of, Takes, TakesStated}
 

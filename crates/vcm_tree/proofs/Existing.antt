@@ -10,16 +10,18 @@ use Rattle.vcm_spec.specs.Program.{Block, done}
 use Rattle.vcm_spec.specs.Setup.{Variable}
 use Rattle.vcm_expr.specs.Typing.{typed_for}
 use Rattle.vcm_expr.specs.declared.typing.Want.TheVariants as wants
-use Rattle.vcm_syntax.specs.declared.statement.Form.{Form}
-use Rattle.vcm_syntax.specs.declared.statement.Form.TheVariants.{Opening, Measures as Units, Ignored, Declaration, Assignment, Move, Home, Say, Test, Otherwise, TestEnd, Repeat, RepeatEnd, Mark, Leap, Feature, Measure, Touch, MeasureEnd, Choose, Case, CaseEnd, Default, ChooseEnd, Configure, Shift, Rotation, Restore, Query, Report, Macro, MacroEnd, Call, Ending}
-use Rattle.vcm_syntax.specs.declared.statement.Statement.{Statement}
+use Rattle.vcm_forms.specs.declared.statement.Form.{Form}
+use Rattle.vcm_forms.specs.declared.statement.Form.TheVariants.{Opening, Measures as Units, Ignored, Declaration, Assignment, Move, Home, Say, Test, Otherwise, TestEnd, Repeat, RepeatEnd, Mark, Leap, Feature, Measure, Touch, MeasureEnd, Choose, Case, CaseEnd, Default, ChooseEnd, Configure, Shift, Rotation, Restore, Query, Report, Macro, MacroEnd, Call, Ending}
+use Rattle.vcm_forms.specs.declared.statement.Statement.{Statement}
 use Rattle.vcm_macro.specs.declared.placed.Placed.{Placed}
 use Rattle.vcm_tree.specs.Ended.{is_ended}
 use Rattle.vcm_tree.specs.Sentences.{Step, Sentence, Does, Leaps, Tests, Measures, BeginsCase, BeginsDefault, sentences}
-use Rattle.vcm_tree.specs.Program.{Parsed, IsParsed, tables_of, notices_of}
+use Rattle.vcm_program.specs.Program.{Parsed}
+use Rattle.vcm_tree.specs.Program.{IsParsed, tables_of, notices_of}
 use Rattle.vcm_tree.specs.Variables.{with_all, assigned, moved}
 use Rattle.vcm_tree.specs.Blocks.{Behind, Opened, InSelect, room, nested, tested, selected, repeated, divided, test_ended, repeat_ended, case_begun, case_ended, select_ended, is_choosing, ended, marked, label_of}
-use Rattle.vcm_tree.specs.Features.{known, declared, opened_measure, touched, measure_ended, configured, shifted, rotated, recalled, obtained, reported}
+use Rattle.vcm_program.specs.Titles.{known}
+use Rattle.vcm_tree.specs.Features.{declared, opened_measure, touched, measure_ended, configured, shifted, rotated, recalled, obtained, reported}
 use Rattle.vcm_tree.specs.Resolving.{Meaning, Declares, does, counts, stated, is_in_block, resolved_here, blocks_after, behind_by, behind_one, behind_all, start, sentences_by, sentences_from, BreaksNames}
 use Rattle.vcm_tree.proofs.Standing.{standing, standing_ok, standing_placed}
 use Rattle.vcm_tree.proofs.Walking.{AllMean, all_mean, last_shuts}

@@ -4,7 +4,7 @@ use Rattle.std.specs.Prelude.{IsTrue, nat_lt}
 use Rattle.vcm_lines.specs.declared.fault.FaultCode.{FaultCode}
 use Rattle.vcm_lines.specs.declared.fault.FaultCode.TheVariants.{TooDeep, TooLong}
 use Rattle.vcm_spec.specs.Phase.{IsClean}
-use Rattle.vcm_syntax.specs.declared.statement.Statement.{Statement}
+use Rattle.vcm_forms.specs.declared.statement.Statement.{Statement}
 use Rattle.vcm_macro.specs.declared.placed.Placed.{Placed}
 use Rattle.vcm_macro.specs.Expansion.{IsExpanded}
 use Rattle.vcm_macro.specs.Rules.{one_if, is_full, weight, weigh, code_if, called_codes, BreaksBehind, BreaksMacros}

@@ -16,19 +16,20 @@ use Rattle.vcm_spec.specs.Setup.{Variable, Tables, kinds_of}
 use Rattle.vcm_expr.specs.Source.{Source}
 use Rattle.vcm_expr.specs.Typing.{typed_for}
 use Rattle.vcm_expr.proofs.TypedKinds.{typed_for_fine}
-use Rattle.vcm_syntax.specs.declared.statement.Target.{Target}
-use Rattle.vcm_syntax.specs.declared.statement.Rounds.{Rounds}
-use Rattle.vcm_syntax.specs.declared.statement.Form.{Form}
-use Rattle.vcm_syntax.specs.declared.statement.Form.TheVariants.{Opening, Measures as Units, Ignored, Declaration, Assignment, Move, Home, Say, Test, Otherwise, TestEnd, Repeat, RepeatEnd, Mark, Leap, Feature, Measure, Touch, MeasureEnd, Choose, Case, CaseEnd, Default, ChooseEnd, Configure, Shift, Rotation, Restore, Query, Report, Macro, MacroEnd, Call, Ending}
+use Rattle.vcm_forms.specs.declared.statement.Target.{Target}
+use Rattle.vcm_forms.specs.declared.statement.Rounds.{Rounds}
+use Rattle.vcm_forms.specs.declared.statement.Form.{Form}
+use Rattle.vcm_forms.specs.declared.statement.Form.TheVariants.{Opening, Measures as Units, Ignored, Declaration, Assignment, Move, Home, Say, Test, Otherwise, TestEnd, Repeat, RepeatEnd, Mark, Leap, Feature, Measure, Touch, MeasureEnd, Choose, Case, CaseEnd, Default, ChooseEnd, Configure, Shift, Rotation, Restore, Query, Report, Macro, MacroEnd, Call, Ending}
 use Rattle.vcm_macro.specs.declared.placed.Placed.{Placed}
 use Rattle.vcm_tree.specs.Sentences.{Step, Sentence, Does, Marks, Leaps, Tests, Divides, EndsTest, Repeats, EndsRepeat, Measures, EndsMeasure, Selects, BeginsCase, BeginsDefault, EndsCase, EndsSelect, Ends}
 use Rattle.vcm_tree.specs.Variables.{with_all, target_of, assigned, moved}
 use Rattle.vcm_tree.specs.Blocks.{Behind, Opened, InFirst, InSecond, InBody, InMeasure, InSelect, InCase, room, nested, tested, selected, indexed, index_by, index_to, increment_of, repeated, divided, test_ended, repeat_ended, case_begun, case_ended, select_ended, is_choosing, ended, marked, label_of}
-use Rattle.vcm_tree.specs.Features.{known, declared, opened_measure, touched, measure_ended, configured, shifted, rotated, recalled, obtained, reported}
+use Rattle.vcm_program.specs.Titles.{known}
+use Rattle.vcm_tree.specs.Features.{declared, opened_measure, touched, measure_ended, configured, shifted, rotated, recalled, obtained, reported}
 use Rattle.vcm_tree.specs.Resolving.{Meaning, Silent, Declares, Counts, measured_after, blocks_after, unless_barred, unless_choosing, is_measuring, is_barred, is_in_block, stated, does, counts, resolved, resolved_here, behind_by, behind_one, behind_all, start, sentences_by, sentences_from}
 use Rattle.vcm_tree.specs.Program.{tables_of}
 use Rattle.vcm_tree.proofs.Written.{StepFits, SentencesFit}
-use Rattle.vcm_tree.proofs.Titled.{known_below}
+use Rattle.vcm_program.proofs.Titled.{known_below}
 use Rattle.vcm_tree.proofs.GrownTables.{Grown, all_statements_grown, twice_least, one_least, all_least, Within, outer_within}
 use Rattle.vcm_tree.proofs.FittedSimple.{has_kind, has_place, assigned_fits, moved_fits, declared_fits, touched_fits, configured_fits, shifted_fits, rotated_fits, recalled_fits, obtained_fits, reported_fits}
 use Rattle.vcm_spec.specs.Results.{◌>>=◌}

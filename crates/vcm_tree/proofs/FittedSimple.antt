@@ -21,13 +21,14 @@ use Rattle.vcm_spec.specs.Setup.{Variable, Tables, kinds_of}
 use Rattle.vcm_expr.specs.Source.{Source}
 use Rattle.vcm_expr.specs.Typing.{typed_for, wanted_kind}
 use Rattle.vcm_expr.proofs.TypedKinds.{typed_for_fine}
-use Rattle.vcm_syntax.specs.declared.statement.Offset.{Offset}
-use Rattle.vcm_syntax.specs.declared.statement.Spot.{Spot}
-use Rattle.vcm_syntax.specs.declared.statement.Target.{Target}
+use Rattle.vcm_forms.specs.declared.statement.Offset.{Offset}
+use Rattle.vcm_forms.specs.declared.statement.Spot.{Spot}
+use Rattle.vcm_forms.specs.declared.statement.Target.{Target}
 use Rattle.vcm_tree.specs.Variables.{want_of, target_of, assigned, assigned_by, assigned_to, moved}
 use Rattle.vcm_tree.specs.Blocks.{Opened}
-use Rattle.vcm_tree.specs.Features.{lengths, declared_at, touched_in, Shifts, no_shifts, with_shift, shifts_of, real_to, real_by, real_named, known, entered, with_name, declared, touched, configured, shifted, rotated, recalled, obtained, reported}
-use Rattle.vcm_tree.proofs.Titled.{known_below, entered_below}
+use Rattle.vcm_tree.specs.Features.{lengths, declared_at, touched_in, Shifts, no_shifts, with_shift, shifts_of, real_to, real_by, real_named, declared, touched, configured, shifted, rotated, recalled, obtained, reported}
+use Rattle.vcm_program.specs.Titles.{known, entered, with_name}
+use Rattle.vcm_program.proofs.Titled.{known_below, entered_below}
 use Rattle.vcm_tree.proofs.GrownTables.{bind-Ok, Grown, Within, touched_below, get_grown, kind_grown, kinds_grown}
 use Rattle.vcm_spec.specs.Results.{◌>>=◌}
 

@@ -9,16 +9,16 @@ use Rattle.vcm_spec.specs.declared.expression.Operand.TheVariants.{Integer, Thou
 use Rattle.vcm_spec.specs.Expression.{Tree, Value, One, Two, kind_of, kind_after_one, kind_after_two, unary_kind, binary_kind}
 use Rattle.vcm_spec.specs.Fitting.{kinds}
 use Rattle.vcm_spec.specs.Setup.{Variable, Tables, kinds_of}
-use Rattle.vcm_expr.proofs.Runs.{kind_after_one-Some, kind_after_two-Some}
-use Rattle.vcm_syntax.specs.declared.statement.Form.{Form}
-use Rattle.vcm_syntax.specs.declared.statement.Form.TheVariants.{Opening, Measures as Units, Ignored, Declaration, Assignment, Move, Home, Say, Test, Otherwise, TestEnd, Repeat, RepeatEnd, Mark, Leap, Feature, Measure, Touch, MeasureEnd, Choose, Case, CaseEnd, Default, ChooseEnd, Configure, Shift, Rotation, Restore, Query, Report, Macro, MacroEnd, Call, Ending}
+use Rattle.vcm_items.proofs.Runs.{kind_after_one-Some, kind_after_two-Some}
+use Rattle.vcm_forms.specs.declared.statement.Form.{Form}
+use Rattle.vcm_forms.specs.declared.statement.Form.TheVariants.{Opening, Measures as Units, Ignored, Declaration, Assignment, Move, Home, Say, Test, Otherwise, TestEnd, Repeat, RepeatEnd, Mark, Leap, Feature, Measure, Touch, MeasureEnd, Choose, Case, CaseEnd, Default, ChooseEnd, Configure, Shift, Rotation, Restore, Query, Report, Macro, MacroEnd, Call, Ending}
 use Rattle.vcm_macro.specs.declared.placed.Placed.{Placed}
 use Rattle.vcm_tree.specs.Sentences.{Step, BeginsCase, BeginsDefault}
 use Rattle.vcm_tree.specs.Variables.{is_declared, with_one, with_all, assigned, moved}
 use Rattle.vcm_tree.specs.Blocks.{Behind, Opened, InFirst, InSecond, InBody, InMeasure, InSelect, InCase, Measured, nested, tested, selected, repeated, divided, test_ended, repeat_ended, case_begun, case_ended, select_ended, is_choosing, ended, marked, label_of}
 use Rattle.vcm_tree.specs.Features.{touched_in, declared, opened_measure, touched, measure_ended, configured, shifted, rotated, recalled, obtained, reported}
-use Rattle.vcm_tree.specs.Resolving.{Declares, measured_after, outer, unless_barred, unless_choosing, is_measuring, is_barred, is_in_block, stated, does, counts, resolved, resolved_here, behind_by, behind_one, behind_all}
-use Rattle.vcm_tree.proofs.Titled.{with_name_longer, measured_is}
+use Rattle.vcm_tree.specs.Resolving.{Meaning, Silent, Counts, Declares, measured_after, outer, unless_barred, unless_choosing, is_measuring, is_barred, is_in_block, stated, does, counts, resolved, resolved_here, behind_by, behind_one, behind_all}
+use Rattle.vcm_program.proofs.Titled.{with_name_longer}
 use Rattle.vcm_spec.specs.Results.{◌>>=◌}
 
 -- ---- the table grows
@@ -132,6 +132,13 @@ after_least ms (Rotation l axis n) = record { features = omega arith; frames = w
 after_least ms (Measure l) = record { features = omega arith; frames = omega arith }
 after_least ms (Touch p given) = record { features = omega arith; frames = omega arith }
 after_least ms _ = same_least ms
+
+-- what is said of features and frames goes by the statement alone
+measured_is : (b : Behind) (form : Form) (r : Result Meaning FaultCode) → (behind_by b form r).measured ≡ measured_after b.measured form
+measured_is b form (Ok Silent) = refl
+measured_is b form (Ok (Declares ws)) = refl
+measured_is b form (Ok (Counts s)) = refl
+measured_is b form (Err e) = refl
 
 pub one_least : (b : Behind) (s : Placed) → AtLeast (measured_after b.measured s.statement.form) (behind_one b s).measured
 one_least b s = subst (λ ms. AtLeast (measured_after b.measured s.statement.form) ms) (sym (measured_is b s.statement.form (resolved_here b s))) (same_least (measured_after b.measured s.statement.form))

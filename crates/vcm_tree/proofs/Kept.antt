@@ -4,11 +4,11 @@ use Rattle.std.specs.Prelude.{IsTrue, map, if◌then◌else◌}
 use Rattle.std.specs.List.{AllByRecursion}
 use Rattle.vcm_lines.specs.declared.fault.FaultCode.TheVariants.{BadOrder}
 use Rattle.vcm_spec.specs.Phase.{IsClean}
-use Rattle.vcm_expr.specs.Symbols.{IsVariableName}
-use Rattle.vcm_syntax.specs.declared.statement.Argument.{Argument}
-use Rattle.vcm_syntax.specs.declared.statement.Form.{Form}
-use Rattle.vcm_syntax.specs.declared.statement.Form.TheVariants.{Opening, Measures, Ignored, Declaration, Macro, MacroEnd, Call, Ending}
-use Rattle.vcm_syntax.specs.declared.statement.Statement.{Statement}
+use Rattle.vcm_items.specs.NameBytes.{IsVariableName}
+use Rattle.vcm_forms.specs.declared.statement.Argument.{Argument}
+use Rattle.vcm_forms.specs.declared.statement.Form.{Form}
+use Rattle.vcm_forms.specs.declared.statement.Form.TheVariants.{Opening, Measures, Ignored, Declaration, Macro, MacroEnd, Call, Ending}
+use Rattle.vcm_forms.specs.declared.statement.Statement.{Statement}
 use Rattle.vcm_macro.specs.declared.placed.Placed.{Placed}
 use Rattle.vcm_macro.specs.Expansion.{IsExpanded}
 use Rattle.vcm_macro.specs.Order.{nothing_before, is_ending, is_open_behind, order_after, wants_units, is_misplaced, BreaksOrder}

@@ -26,7 +26,4 @@ pub mod AcceptanceLaws
 pub mod OpenBlocks
 pub mod Around
 pub mod Existing
-pub mod Reaching
-pub mod Tabling
 pub mod Standing
-pub mod Titled

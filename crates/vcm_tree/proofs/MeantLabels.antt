@@ -11,17 +11,18 @@ use Rattle.vcm_spec.specs.Setup.{Variable}
 use Rattle.vcm_expr.specs.Source.{Source}
 use Rattle.vcm_expr.specs.Typing.{typed_for}
 use Rattle.vcm_expr.specs.declared.typing.Want.TheVariants as wants
-use Rattle.vcm_syntax.specs.declared.statement.Rounds.{Rounds}
-use Rattle.vcm_syntax.specs.declared.statement.Form.{Form}
-use Rattle.vcm_syntax.specs.declared.statement.Form.TheVariants.{Opening, Measures as Units, Ignored, Declaration, Assignment, Move, Home, Say, Test, Otherwise, TestEnd, Repeat, RepeatEnd, Mark, Leap, Feature, Measure, Touch, MeasureEnd, Choose, Case, CaseEnd, Default, ChooseEnd, Configure, Shift, Rotation, Restore, Query, Report, Macro, MacroEnd, Call, Ending}
+use Rattle.vcm_forms.specs.declared.statement.Rounds.{Rounds}
+use Rattle.vcm_forms.specs.declared.statement.Form.{Form}
+use Rattle.vcm_forms.specs.declared.statement.Form.TheVariants.{Opening, Measures as Units, Ignored, Declaration, Assignment, Move, Home, Say, Test, Otherwise, TestEnd, Repeat, RepeatEnd, Mark, Leap, Feature, Measure, Touch, MeasureEnd, Choose, Case, CaseEnd, Default, ChooseEnd, Configure, Shift, Rotation, Restore, Query, Report, Macro, MacroEnd, Call, Ending}
 use Rattle.vcm_macro.specs.declared.placed.Placed.{Placed}
 use Rattle.vcm_tree.specs.Sentences.{Step, Marks, Tests, Repeats, Measures, Selects, BeginsCase, BeginsDefault}
 use Rattle.vcm_nodes.specs.Jumps.{is_among}
-use Rattle.vcm_tree.specs.Program.{AreDistinct}
+use Rattle.vcm_program.specs.Program.{AreDistinct}
 use Rattle.vcm_nodes.specs.inner.SameLabels.{label_sym}
 use Rattle.vcm_tree.specs.Variables.{with_all, assigned, moved}
 use Rattle.vcm_tree.specs.Blocks.{Behind, Opened, InFirst, InSecond, InBody, InMeasure, InSelect, InCase, room, nested, tested, selected, indexed, increment_of, repeated, divided, test_ended, repeat_ended, case_begun, case_ended, select_ended, ended, marked, label_of}
-use Rattle.vcm_tree.specs.Features.{known, declared, opened_measure, touched, measure_ended, configured, shifted, rotated, recalled, obtained, reported}
+use Rattle.vcm_program.specs.Titles.{known}
+use Rattle.vcm_tree.specs.Features.{declared, opened_measure, touched, measure_ended, configured, shifted, rotated, recalled, obtained, reported}
 use Rattle.vcm_tree.specs.Resolving.{Meaning, Declares, does, counts, stated, behind_by, behind_one, behind_all}
 use Rattle.vcm_tree.proofs.Standing.{standing, standing_ok}
 use Rattle.vcm_tree.proofs.Walking.{AllMean}

@@ -7,12 +7,12 @@ use Rattle.vcm_lines.specs.declared.fault.FaultCode.TheVariants.{BadSyntax, Dupl
 use Rattle.vcm_lines.specs.declared.logical.Logical.{Logical}
 use Rattle.vcm_lines.specs.Lexemes.{Lexeme, Run}
 use Rattle.vcm_spec.specs.Setup.{Variable}
-use Rattle.vcm_expr.specs.Names.{AreNamed}
-use Rattle.vcm_expr.specs.Symbols.{is_variable_name, IsVariableName}
-use Rattle.vcm_expr.proofs.NameLemmas.{one_more_named}
-use Rattle.vcm_syntax.specs.declared.statement.Form.{Form}
-use Rattle.vcm_syntax.specs.declared.statement.Form.TheVariants.{Opening, Measures as Units, Ignored, Declaration, Assignment, Move, Home, Say, Test, Otherwise, TestEnd, Repeat, RepeatEnd, Mark, Leap, Feature, Measure, Touch, MeasureEnd, Choose, Case, CaseEnd, Default, ChooseEnd, Configure, Shift, Rotation, Restore, Query, Report, Macro, MacroEnd, Call, Ending}
-use Rattle.vcm_syntax.specs.declared.statement.Statement.{Statement}
+use Rattle.vcm_items.specs.Names.{AreNamed}
+use Rattle.vcm_items.specs.NameBytes.{is_variable_name, IsVariableName}
+use Rattle.vcm_items.proofs.NameLemmas.{one_more_named}
+use Rattle.vcm_forms.specs.declared.statement.Form.{Form}
+use Rattle.vcm_forms.specs.declared.statement.Form.TheVariants.{Opening, Measures as Units, Ignored, Declaration, Assignment, Move, Home, Say, Test, Otherwise, TestEnd, Repeat, RepeatEnd, Mark, Leap, Feature, Measure, Touch, MeasureEnd, Choose, Case, CaseEnd, Default, ChooseEnd, Configure, Shift, Rotation, Restore, Query, Report, Macro, MacroEnd, Call, Ending}
+use Rattle.vcm_forms.specs.declared.statement.Statement.{Statement}
 use Rattle.vcm_macro.specs.declared.placed.Placed.{Placed}
 use Rattle.vcm_syntax.specs.Readers.{each_of}
 use Rattle.vcm_syntax.specs.Places.{variable_of}

@@ -10,7 +10,7 @@ use Rattle.vcm_spec.specs.Program.{Label, is_same_label}
 use Rattle.vcm_spec.specs.Setup.{Variable}
 use Rattle.vcm_expr.specs.Typing.{typed_for}
 use Rattle.vcm_expr.specs.declared.typing.Want.TheVariants as wants
-use Rattle.vcm_syntax.specs.declared.statement.Rounds.{Rounds}
+use Rattle.vcm_forms.specs.declared.statement.Rounds.{Rounds}
 use Rattle.vcm_expr.specs.Source.{Source}
 use Rattle.vcm_tree.specs.Sentences.{Step, Marks, Divides, EndsTest, Repeats, EndsRepeat, EndsMeasure, Selects, BeginsCase, BeginsDefault, EndsCase, EndsSelect}
 use Rattle.vcm_tree.specs.Blocks.{Opened, InFirst, InSecond, InBody, InMeasure, InSelect, InCase, room, selected, indexed, increment_of, repeated, divided, test_ended, repeat_ended, case_begun, case_ended, select_ended, ended, marked}

@@ -1,7 +1,7 @@
 -- A statement that has a meaning behind others may stand there.
 use Rattle.std.proofs.Common.{◌≡◌, ℕ, Bool, true, false, ◌&&◌, Result, Ok, refl, sym, ◌∙◌}
 use Rattle.vcm_lines.specs.declared.fault.FaultCode.{FaultCode}
-use Rattle.vcm_syntax.specs.declared.statement.Form.{Form}
+use Rattle.vcm_forms.specs.declared.statement.Form.{Form}
 use Rattle.vcm_tree.specs.Blocks.{Behind, is_choosing}
 use Rattle.vcm_tree.specs.Resolving.{Meaning, stated, is_measuring, is_barred, is_in_block, unless_barred, unless_choosing, resolved}
 

@@ -9,7 +9,7 @@ use Rattle.vcm_spec.specs.Expression.{Tree}
 use Rattle.vcm_spec.specs.Simple.{Simple}
 use Rattle.vcm_spec.specs.Setup.{Variable}
 use Rattle.vcm_expr.specs.Source.{Source}
-use Rattle.vcm_syntax.specs.declared.statement.Form.TheVariants.{Declaration, Mark, Choose}
+use Rattle.vcm_forms.specs.declared.statement.Form.TheVariants.{Declaration, Mark, Choose}
 use Rattle.vcm_macro.specs.declared.placed.Placed.{Placed}
 use Rattle.vcm_tree.specs.declared.builder.Builder.{Builder}
 use Rattle.vcm_tree.specs.declared.selection.Selection.{Selection}
@@ -21,7 +21,7 @@ use Rattle.vcm_tree.specs.Blocks.{Behind, behind, Measured, selected, marked, la
 use Rattle.vcm_tree.specs.Resolving.{measured_after, Declares, Counts, counts, stated, stated_by, blocks_after, labels_after}
 use Rattle.vcm_tree.specs.inner.Building.{blocks_of, waiting, written, selection_sentences, ReadsWith, Reads}
 use Rattle.vcm_tree.specs.inner.Taking.{IsSelected, measured_of, behind_with, behind_of, ActsSo, unselected, TakesStated}
-use Rattle.vcm_tree.specs.inner.Telling.{ToldAt}
+use Rattle.vcm_program.specs.Telling.{ToldAt}
 use Rattle.vcm_spec.specs.Results.{◌>>=◌}
 
 -- what is read behind others, by its parts

@@ -8,9 +8,9 @@ use Rattle.vcm_lines.specs.declared.fault.SourceFault.{SourceFault}
 use Rattle.vcm_lines.specs.Fault.{NoMemoryOr}
 use Rattle.vcm_spec.specs.Phase.{IsClean, IsCleanBelow, FirstFault}
 use Rattle.vcm_spec.proofs.PhaseLemmas.{place_at, clean_more, clean_done, fault_at}
-use Rattle.vcm_syntax.specs.declared.statement.Form.{Form}
-use Rattle.vcm_syntax.specs.declared.statement.Form.TheVariants.{Opening, Measures, Ignored, Declaration, Assignment, Move, Home, Say, Test, Otherwise, TestEnd, Repeat, RepeatEnd, Mark, Leap, Feature, Measure, Touch, MeasureEnd, Choose, Case, CaseEnd, Default, ChooseEnd, Configure, Shift, Rotation, Restore, Query, Report, Macro, MacroEnd, Call, Ending}
-use Rattle.vcm_syntax.specs.declared.statement.Statement.{Statement}
+use Rattle.vcm_forms.specs.declared.statement.Form.{Form}
+use Rattle.vcm_forms.specs.declared.statement.Form.TheVariants.{Opening, Measures, Ignored, Declaration, Assignment, Move, Home, Say, Test, Otherwise, TestEnd, Repeat, RepeatEnd, Mark, Leap, Feature, Measure, Touch, MeasureEnd, Choose, Case, CaseEnd, Default, ChooseEnd, Configure, Shift, Rotation, Restore, Query, Report, Macro, MacroEnd, Call, Ending}
+use Rattle.vcm_forms.specs.declared.statement.Statement.{Statement}
 use Rattle.vcm_macro.specs.declared.placed.Placed.{Placed}
 use Rattle.vcm_tree.specs.declared.builder.Open.{Open}
 use Rattle.vcm_tree.specs.declared.selection.Selection.{Selection}
@@ -21,7 +21,7 @@ use Rattle.vcm_tree.specs.Ended.{is_ended}
 use Rattle.vcm_tree.specs.Sentences.{sentences}
 use Rattle.vcm_tree.specs.Blocks.{Behind, Opened, depth, ended}
 use Rattle.vcm_tree.specs.Resolving.{Meaning, counts, stated, resolved_here, behind_by, behind_one, behind_all, start, sentences_by, sentences_from, BreaksNames, names_line}
-use Rattle.vcm_tree.specs.inner.Telling.{ToldAt}
+use Rattle.vcm_program.specs.Telling.{ToldAt}
 use Rattle.vcm_tree.specs.Program.{IsParsed, tables_of, notices_of}
 use Rattle.vcm_tree.specs.inner.Building.{blocks_of, waiting, opens_sentences, written_with}
 use Rattle.vcm_tree.specs.inner.Taking.{behind_with, Takes}

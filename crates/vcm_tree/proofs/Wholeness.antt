@@ -6,15 +6,16 @@ use Rattle.std.proofs.lemmas.List.{append-nil}
 use Rattle.vcm_spec.specs.Phase.{IsClean}
 use Rattle.vcm_spec.specs.Setup.{Tables}
 use Rattle.vcm_spec.specs.Program.{sizes}
-use Rattle.vcm_expr.specs.Names.{AreNamed}
-use Rattle.vcm_syntax.specs.declared.statement.Statement.{Statement}
+use Rattle.vcm_items.specs.Names.{AreNamed}
+use Rattle.vcm_forms.specs.declared.statement.Statement.{Statement}
 use Rattle.vcm_macro.specs.declared.placed.Placed.{Placed}
-use Rattle.vcm_syntax.specs.Statements.{is_counted}
+use Rattle.vcm_forms.specs.Statements.{is_counted}
 use Rattle.vcm_tree.specs.Ended.{is_ended}
 use Rattle.vcm_nodes.specs.Jumps.{labels_of, jumps_of, BreaksJumps}
 use Rattle.vcm_tree.specs.Sentences.{Sentence, sentences}
 use Rattle.vcm_tree.specs.Resolving.{behind_all, start, BreaksNames}
-use Rattle.vcm_tree.specs.Program.{Parsed, IsParsed, IsWhole, AreDistinct, tables_of}
+use Rattle.vcm_program.specs.Program.{Parsed, IsWhole, AreDistinct}
+use Rattle.vcm_tree.specs.Program.{IsParsed, tables_of}
 use Rattle.vcm_tree.proofs.Walking.{all_mean}
 use Rattle.vcm_tree.proofs.Written.{sentence_labels, SentencesNest, SentencesFit, ends_last, sentences_length, sentences_marks, sentences_nests, closed_last, sentences_fit}
 use Rattle.vcm_tree.proofs.MeantCounts.{labels_all, counted_all, few_sentences, last_ends}

@@ -9,7 +9,7 @@ use Rattle.std.specs.Prelude.{slice_get, Some}
 use Rattle.vcm_tree.specs.Sentences.{Step, Sentence, sentence, Does, Marks, Tests, Divides, EndsTest, Repeats, EndsRepeat, Measures, EndsMeasure, Selects, BeginsCase, BeginsDefault, EndsCase, EndsSelect, Ends, node_sentences, sentences, case_sentences}
 use Rattle.vcm_nodes.specs.Jumps.{node_labels, labels_of, labels_among}
 use Rattle.vcm_spec.specs.Whole.{is_end, is_closed}
-use Rattle.vcm_tree.specs.Program.{NodeNests, BlockNests, CasesNest}
+use Rattle.vcm_program.specs.Program.{NodeNests, BlockNests, CasesNest}
 
 -- ---- how many
 

@@ -4,13 +4,14 @@ use Rattle.vcm_lines.specs.declared.fault.SourceFault.{SourceFault}
 use Rattle.vcm_lines.specs.declared.logical.Logical.{Logical}
 use Rattle.vcm_lines.specs.Statements.{lines_of, kept_lines, grouped, AreLogical, Breaks, told_line}
 use Rattle.vcm_spec.specs.Phase.{IsClean, FirstFault}
-use Rattle.vcm_syntax.specs.declared.statement.Statement.{Statement}
+use Rattle.vcm_forms.specs.declared.statement.Statement.{Statement}
 use Rattle.vcm_tree.specs.Statements.{AreSpelled, BreaksStatements, statement_line}
 use Rattle.vcm_macro.specs.declared.placed.Placed.{Placed}
 use Rattle.vcm_macro.specs.Expansion.{IsExpanded, IsRefused as IsUnexpanded}
 use Rattle.vcm_tree.specs.Resolving.{BreaksNames, names_line}
 use Rattle.vcm_nodes.specs.Jumps.{labels_of, jumps_of, BreaksJumps, jumps_line}
-use Rattle.vcm_tree.specs.Program.{Parsed, IsParsed}
+use Rattle.vcm_program.specs.Program.{Parsed}
+use Rattle.vcm_tree.specs.Program.{IsParsed}
 
 -- these are the statements of the text before they are read, and no rule of lines is broken
 pub record ReadsLines (text : List ℕ) (ls : List Logical) : Type 0 where

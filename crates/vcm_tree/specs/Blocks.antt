@@ -1,6 +1,5 @@
 -- What statements leave behind them, such as the blocks that are open, and what the words of blocks and labels mean behind it.
-use Rattle.std.specs.Prelude.{ℕ, suc, pos, nat_lt, Bool, true, false, if◌then◌else◌, List, [], ◌∷◌, slice_get, Option, Some, None}
-use Rattle.std.specs.Prelude.{Result, Ok, Err}
+use Rattle.std.specs.Prelude.{ℕ, suc, pos, nat_lt, Bool, true, false, if◌then◌else◌, List, [], ◌∷◌, slice_get, Option, Some, None, Result, Ok, Err}
 use Rattle.std.specs.List.{list_any}
 use Rattle.vcm_num.specs.declared.number.Kind.{Kind}
 use Rattle.vcm_num.specs.declared.number.Kind.TheVariants as kinds
@@ -13,8 +12,8 @@ use Rattle.vcm_expr.specs.declared.typing.Want.TheVariants as wants
 use Rattle.vcm_spec.specs.Setup.{Variable, kinds_of}
 use Rattle.vcm_expr.specs.Source.{Source}
 use Rattle.vcm_expr.specs.Typing.{typed_for}
-use Rattle.vcm_syntax.specs.declared.statement.Rounds.{Rounds}
-use Rattle.vcm_syntax.specs.declared.statement.Target.{Target}
+use Rattle.vcm_forms.specs.declared.statement.Rounds.{Rounds}
+use Rattle.vcm_forms.specs.declared.statement.Target.{Target}
 use Rattle.vcm_tree.specs.Sentences.{Step, Marks, Tests, Divides, EndsTest, Repeats, EndsRepeat, Selects, EndsCase, EndsSelect, Ends}
 use Rattle.vcm_tree.specs.Variables.{target_of}
 use Rattle.vcm_spec.specs.Results.{◌>>=◌}

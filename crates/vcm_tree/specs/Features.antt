@@ -1,8 +1,6 @@
 -- What the statements of features and frames mean once their names are looked up. The features stand in the order of their first FEAT, the
 -- frames in that of their first TRANS or ROTATE.
-use Rattle.std.specs.Prelude.{ℕ, pos, nat_lt, Bool, true, false, if◌then◌else◌, List, [], ◌∷◌, ◌++◌, length, slice_get, Option, Some, None}
-use Rattle.std.specs.Prelude.{Result, Ok, Err}
-use Rattle.std.specs.List.{position}
+use Rattle.std.specs.Prelude.{ℕ, pos, nat_lt, Bool, true, false, if◌then◌else◌, List, [], ◌∷◌, ◌++◌, length, slice_get, Option, Some, None, Result, Ok, Err}
 use Rattle.vcm_num.specs.declared.axis.Axis.{Axis}
 use Rattle.vcm_num.specs.declared.number.Kind.{Kind}
 use Rattle.vcm_num.specs.declared.number.Kind.TheVariants as kinds
@@ -24,40 +22,15 @@ use Rattle.vcm_expr.specs.declared.typing.Want.TheVariants as wants
 use Rattle.vcm_spec.specs.Setup.{Variable, kinds_of}
 use Rattle.vcm_expr.specs.Source.{Source}
 use Rattle.vcm_expr.specs.Typing.{typed_for}
-use Rattle.vcm_syntax.specs.declared.statement.Offset.{Offset}
-use Rattle.vcm_syntax.specs.declared.statement.Spot.{Spot}
-use Rattle.vcm_syntax.specs.declared.statement.Target.{Target}
-use Rattle.vcm_syntax.specs.Readers.{or_fault}
+use Rattle.vcm_forms.specs.declared.statement.Offset.{Offset}
+use Rattle.vcm_forms.specs.declared.statement.Spot.{Spot}
+use Rattle.vcm_forms.specs.declared.statement.Target.{Target}
+use Rattle.vcm_lines.specs.Fault.{or_fault}
 use Rattle.vcm_tree.specs.Sentences.{Step, Measures, EndsMeasure}
 use Rattle.vcm_tree.specs.Variables.{target_of}
 use Rattle.vcm_tree.specs.Blocks.{Opened, InMeasure}
 use Rattle.vcm_spec.specs.Results.{◌>>=◌}
-
--- the index of a name, if it is there
-abbrev pub index_of : List (List ℕ) → List ℕ → Option ℕ
-index_of names l = position (λ n. is_same_name l n) names
-
--- the index of a name that is declared above
-abbrev pub known : List (List ℕ) → List ℕ → Result ℕ FaultCode
-known names l = or_fault UnknownName (index_of names l)
-
--- the index of a name that is entered: its own, or the next one; there are 4,096 at most
-abbrev pub entered_by : List (List ℕ) → Option ℕ → Result ℕ FaultCode
-entered_by names (Some i) = Ok i
-entered_by names None = if nat_lt (length names) 4096 then Ok (length names) else Err TooManyNames
-
--- the index of a name that is entered
-abbrev pub entered : List (List ℕ) → List ℕ → Result ℕ FaultCode
-entered names l = entered_by names (index_of names l)
-
--- the names with this one, which is added where it isn't there
-abbrev pub with_name_by : List (List ℕ) → List ℕ → Option ℕ → List (List ℕ)
-with_name_by names l (Some i) = names
-with_name_by names l None = names ++ l ∷ []
-
--- the names with this one, which is added where it isn't there
-abbrev pub with_name : List (List ℕ) → List ℕ → List (List ℕ)
-with_name names l = with_name_by names l (index_of names l)
+use Rattle.vcm_program.specs.Titles.{known, entered}
 
 -- three lengths, from the left
 abbrev pub lengths : List Variable → Spot → Result (Tree × Tree × Tree) FaultCode

@@ -6,11 +6,12 @@ use Rattle.vcm_lines.specs.declared.fault.SourceFault.{SourceFault}
 use Rattle.vcm_spec.specs.Phase.{IsClean}
 use Rattle.vcm_spec.specs.Program.{sizes}
 use Rattle.vcm_spec.specs.Whole.{AlwaysSteps}
-use Rattle.vcm_syntax.specs.declared.statement.Statement.{Statement}
-use Rattle.vcm_syntax.specs.Statements.{is_counted}
+use Rattle.vcm_forms.specs.declared.statement.Statement.{Statement}
+use Rattle.vcm_forms.specs.Statements.{is_counted}
 use Rattle.vcm_macro.specs.declared.placed.Placed.{Placed}
 use Rattle.vcm_tree.specs.Resolving.{BreaksNames}
-use Rattle.vcm_tree.specs.Program.{Parsed, IsParsed, IsWhole}
+use Rattle.vcm_program.specs.Program.{Parsed, IsWhole}
+use Rattle.vcm_tree.specs.Program.{IsParsed}
 use Rattle.vcm_tree.specs.Acceptance.{IsAccepted, IsRefused}
 
 -- a text that is accepted isn't refused

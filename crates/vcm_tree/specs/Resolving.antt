@@ -7,22 +7,22 @@ use Rattle.vcm_spec.specs.Simple.{Simple}
 use Rattle.vcm_spec.specs.declared.simple.Simple.TheVariants.{GoHome, Text}
 use Rattle.vcm_spec.specs.Program.{Label}
 use Rattle.vcm_spec.specs.Setup.{Variable}
-use Rattle.vcm_syntax.specs.declared.statement.Form.{Form}
-use Rattle.vcm_syntax.specs.declared.statement.Form.TheVariants.{Declaration, Assignment, Move, Home, Say, Test, Otherwise, TestEnd, Repeat}
-use Rattle.vcm_syntax.specs.declared.statement.Form.TheVariants.{RepeatEnd, Mark, Leap, Feature, Measure, Touch, MeasureEnd, Configure}
-use Rattle.vcm_syntax.specs.declared.statement.Form.TheVariants.{Shift, Rotation, Restore, Query, Report, Ending}
-use Rattle.vcm_syntax.specs.declared.statement.Form.TheVariants.{Choose, Case, CaseEnd, Default, ChooseEnd}
-use Rattle.vcm_syntax.specs.Statements.{is_counted}
+use Rattle.vcm_forms.specs.declared.statement.Form.{Form}
+use Rattle.vcm_forms.specs.declared.statement.Form.TheVariants.{Declaration, Assignment, Move, Home, Say, Test, Otherwise, TestEnd, Repeat}
+use Rattle.vcm_forms.specs.declared.statement.Form.TheVariants.{RepeatEnd, Mark, Leap, Feature, Measure, Touch, MeasureEnd, Configure}
+use Rattle.vcm_forms.specs.declared.statement.Form.TheVariants.{Shift, Rotation, Restore, Query, Report, Ending}
+use Rattle.vcm_forms.specs.declared.statement.Form.TheVariants.{Choose, Case, CaseEnd, Default, ChooseEnd}
+use Rattle.vcm_forms.specs.Statements.{is_counted}
 use Rattle.vcm_macro.specs.declared.placed.Placed.{Placed}
-pub use Rattle.vcm_syntax.specs.Readers.{or_fault}
+use Rattle.vcm_lines.specs.Fault.{or_fault}
 use Rattle.vcm_tree.specs.Sentences.{Step, Sentence, sentence, Does, Marks, Leaps, Tests, Divides, EndsTest, Repeats, EndsRepeat, Measures}
 use Rattle.vcm_tree.specs.Sentences.{EndsMeasure, Selects, BeginsCase, BeginsDefault, EndsCase, EndsSelect}
 use Rattle.vcm_tree.specs.Variables.{with_all, assigned, moved}
 use Rattle.vcm_tree.specs.Blocks.{Opened, InFirst, InSecond, InBody, InMeasure, InSelect, InCase, Measured, measured, Behind, behind}
 use Rattle.vcm_tree.specs.Blocks.{nested, divided, test_ended, repeat_ended, case_begun, case_ended, select_ended, is_choosing, ended}
 use Rattle.vcm_tree.specs.Blocks.{tested, selected, repeated, label_of, marked}
-use Rattle.vcm_tree.specs.Features.{with_name, declared, opened_measure, measuring, touched, measure_ended, configured, shifted, rotated}
-use Rattle.vcm_tree.specs.Features.{recalled, obtained, reported}
+use Rattle.vcm_program.specs.Titles.{with_name}
+use Rattle.vcm_tree.specs.Features.{declared, opened_measure, measuring, touched, measure_ended, configured, shifted, rotated, recalled, obtained, reported}
 use Rattle.vcm_spec.specs.Results.{◌>>=◌}
 
 -- what a statement does to a program: nothing, new variables in its table, a counted statement

@@ -12,10 +12,10 @@ use Rattle.vcm_spec.specs.declared.simple.Simple.TheVariants.{Goto, Assign}
 use Rattle.vcm_expr.specs.declared.typing.Want.{Want}
 use Rattle.vcm_expr.specs.declared.typing.Want.TheVariants as wants
 use Rattle.vcm_spec.specs.Setup.{Variable, kinds_of}
-use Rattle.vcm_expr.specs.Names.{is_named, variable_of}
+use Rattle.vcm_items.specs.Names.{is_named, variable_of}
 use Rattle.vcm_expr.specs.Source.{Source}
 use Rattle.vcm_expr.specs.Typing.{typed_for}
-use Rattle.vcm_syntax.specs.declared.statement.Target.{Target}
+use Rattle.vcm_forms.specs.declared.statement.Target.{Target}
 use Rattle.vcm_spec.specs.Results.{◌>>=◌}
 
 -- whether a variable of this very expansion has this name

@@ -2,5 +2,4 @@
 pub mod Building
 pub mod Taking
 pub mod Shifting
-pub mod Telling
 pub mod Walking

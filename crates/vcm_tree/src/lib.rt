@@ -10,11 +10,7 @@ mod program;
 mod resolving;
 mod selection;
 mod statements;
-mod tables;
 mod taking;
-mod titles;
 
 pub use phases::accept;
-pub use program::{Accepted, Noticed};
-pub use titles::Titles;
-pub use vcm_nodes::{Action, Block, Label, Node};
+pub use vcm_program::{Accepted, Noticed};

@@ -4,20 +4,22 @@ ghost use Rattle.std.specs.Prelude.{◌≡◌, Ok, OnOk, IfOk, IfErr, MatchResul
 ghost use Rattle.vcm_lines.specs.Fault.{NoMemoryOr};
 ghost use Rattle.vcm_nodes.specs.Nodes.{action_of};
 ghost use Rattle.vcm_tree.specs.Blocks.{nested};
-ghost use Rattle.vcm_tree.specs.Features.{lengths, declared, opened_measure, touched, configured, shifts_of, no_shifts, with_shift, shifted, rotated, recalled, real_named, obtained, reported, with_name};
-ghost use Rattle.vcm_tree.specs.inner.Telling.{ToldAt};
+ghost use Rattle.vcm_tree.specs.Features.{lengths, declared, opened_measure, touched, configured, shifts_of, no_shifts, with_shift, shifted, rotated, recalled, real_named, obtained, reported};
+ghost use Rattle.vcm_program.specs.Titles.{with_name};
+ghost use Rattle.vcm_program.specs.Telling.{ToldAt};
 ghost use Rattle.vcm_tree.specs.inner.Building.{blocks_of, Reads};
 ghost use Rattle.vcm_tree.specs.inner.Shifting.{shifts};
 
 use crate::builder::{Builder, Head, bad_body};
-use crate::titles::Titles;
 use std::alloc::Global;
-use vcm_expr::{Expr, Name, Names, Typed, Want, type_expr};
+use vcm_expr::{Expr, Names, Typed, Want, type_expr};
+use vcm_forms::{Offset, Spot, Target};
+use vcm_items::Name;
 use vcm_lines::{FaultCode, SourceFault};
 use vcm_nodes::Action;
 use vcm_num::{Axis, Kind};
+use vcm_program::Titles;
 use vcm_spec::{FeatureWord, FrameAxis, Operand, Quarters, Setting, Source};
-use vcm_syntax::{Offset, Spot, Target};
 
 /// Three lengths, from the left.
 pub(crate) fn lengths(

@@ -6,7 +6,7 @@ ghost use Rattle.vcm_nodes.specs.Nodes.{action_of};
 ghost use Rattle.vcm_tree.specs.Sentences.{sentence, Marks};
 ghost use Rattle.vcm_tree.specs.Variables.{is_declared, with_one, with_all, want_of, assigned, moved};
 ghost use Rattle.vcm_tree.specs.Blocks.{indexed, increment_of, repeated, nested, tested, selected, marked};
-ghost use Rattle.vcm_tree.specs.inner.Telling.{ToldAt};
+ghost use Rattle.vcm_program.specs.Telling.{ToldAt};
 ghost use Rattle.vcm_tree.specs.inner.Building.{blocks_of, written, Reads};
 ghost use Rattle.vcm_tree.specs.inner.Taking.{IsBody, IsSelected};
 
@@ -15,12 +15,13 @@ use crate::cases::CaseBlocks;
 use crate::measuring::lengths;
 use crate::selection::Selection;
 use std::alloc::Global;
-use vcm_expr::{Expr, Name, Names, Typed, VariableName, Want, type_expr};
+use vcm_expr::{Expr, Names, Typed, Want, type_expr};
+use vcm_forms::{Rounds, Spot, Target};
+use vcm_items::{Name, VariableName};
 use vcm_lines::{FaultCode, SourceFault};
 use vcm_nodes::{Action, Label, Labels};
 use vcm_num::Kind;
 use vcm_spec::Operand;
-use vcm_syntax::{Rounds, Spot, Target};
 
 /// The most variables of a program.
 const MAX_VARIABLES: usize = 4096;

@@ -3,7 +3,7 @@
 ghost use Rattle.std.specs.Prelude.{Some, None, OnOk, IfOk, IfErr};
 ghost use Rattle.vcm_lines.specs.Fault.{NoMemoryOr};
 ghost use Rattle.vcm_tree.specs.Blocks.{case_begun, case_ended, select_ended};
-ghost use Rattle.vcm_tree.specs.inner.Telling.{ToldAt};
+ghost use Rattle.vcm_program.specs.Telling.{ToldAt};
 ghost use Rattle.vcm_tree.specs.inner.Building.{begins, blocks_of, waiting, ReadsWith};
 
 use crate::builder::{Builder, Head, Open, unbalanced};

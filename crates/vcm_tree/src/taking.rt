@@ -5,7 +5,7 @@ ghost use Rattle.vcm_lines.specs.Fault.{NoMemoryOr};
 ghost use Rattle.vcm_spec.specs.declared.simple.Simple.TheVariants.{Text};
 ghost use Rattle.vcm_nodes.specs.Nodes.{action_of};
 ghost use Rattle.vcm_tree.specs.Resolving.{is_barred, is_in_block, acted, stated, resolved_here};
-ghost use Rattle.vcm_tree.specs.inner.Telling.{ToldAt};
+ghost use Rattle.vcm_program.specs.Telling.{ToldAt};
 ghost use Rattle.vcm_tree.specs.inner.Taking.{behind_with, behind_of, Acts, ActedAt, unselected, Takes, TakesStated};
 
 use crate::builder::{Builder, bad_body, unbalanced};
@@ -14,12 +14,12 @@ use crate::measuring::{
 };
 use crate::resolving::{assign, declare_all, go_to, mark, repeat, select, test};
 use crate::selection::Selection;
-use crate::titles::Titles;
 use std::alloc::{AllocError, Global};
 use vcm_expr::Names;
+use vcm_forms::{Form, OperatorText, Statement};
 use vcm_lines::SourceFault;
 use vcm_nodes::{Action, Label, Labels};
-use vcm_syntax::{Form, OperatorText, Statement};
+use vcm_program::Titles;
 
 /// What is read of a program: its variables, its features and frames, its jump labels, its blocks, and whether the `MEAS` block that is open
 /// has its `PTMEAS`.

@@ -14,7 +14,7 @@ use Rattle.vcm_state.specs.Held.{Held}
 use Rattle.vcm_job.specs.Jobs.{status_of}
 use Rattle.vcm_job.specs.declared.inputs.RunFault.{RunFault}
 use Rattle.vcm_job.specs.declared.inputs.RunFault.TheVariants as faults
-use Rattle.vcm_way.specs.declared.mark.Placed.{Placed}
+use Rattle.vcm_marks.specs.declared.mark.Placed.{Placed}
 use Rattle.vcm_way.specs.Ways.{Kept}
 use Rattle.vcm_way.specs.Following.{HasFollowed}
 use Rattle.vcm_picture.specs.Picture.{sheet, picture_text}

@@ -1,3 +1,4 @@
 pub mod Views
 pub mod Inputs
+pub mod Laws
 pub mod inner

@@ -12,7 +12,7 @@ use Rattle.vcm_spec.specs.World.{Settings}
 use Rattle.vcm_spec.specs.FirstContact.{contact, later_contact}
 use Rattle.vcm_spec.specs.Touch.{centre_of, approach_of, end_of, down_of, back_of, touched_of}
 use Rattle.vcm_spec.specs.FirstTouch.{free_of, free_move, first_inside, touch}
-use Rattle.vcm_spec.specs.Outcome.{Outcome, Gives, Stops, ◌>>=◌, demand, found, fits_place, point_of}
+use Rattle.vcm_spec.specs.Outcome.{Outcome, Gives, ◌>>=◌, demand, found, fits_place, point_of}
 use Rattle.vcm_way.specs.inner.Endings.{EndsAs, HasTouched}
 
 -- ---- a straight move
@@ -79,10 +79,6 @@ module _ (back : ℕ → Bool) (later : ℕ → Option Hit) (made : ℕ → Touc
       at : (b : Bool) → back t ≡ b → EndsAs (demand b (Travel Retract) >>= (λ _. free_of Retract (later t) >>= (λ _. Gives (made t)))) stop → back t ≡ true
       at true q k = q
       at false q k = absurd (other HasReturned stop p (Travel Retract) (λ x. x) k)
-
--- a stop that is the whole outcome
-pub ends_stopped : {A : Type 0} (o : Outcome A) (why : Stop) (stop : Option Stop) → o ≡ Stops why → EndsAs o stop → stop ≡ Some why
-ends_stopped o why stop e h = subst (λ p. EndsAs p stop) e h
 
 module _ (part : Workpiece) (s : Settings) (from nominal : ℕ → ℤ) (d : Axis) (stop : Option Stop) (ends : EndsAs (touch part s from nominal d) stop) where
   abbrev centre : ℕ → ℤ

@@ -3,3 +3,4 @@ pub mod Ends
 pub mod Sent
 pub mod Descents
 pub mod Stepped
+pub mod OneWay

@@ -1,11 +1,12 @@
 -- Lists of marks and their last pieces.
 use Rattle.std.proofs.Common.{◌≡◌, ℕ, suc, ◌+◌, ◌-◌, ◌≤◌, ◌<◌, Bool, true, false, List, [], ◌∷◌, ◌++◌, length, Result, Ok, Err, refl, sym, ap, ◌∙◌, subst, arith}
 use Rattle.std.specs.Prelude.{nat_le, OnOk, if◌then◌else◌}
-use Rattle.vcm_way.specs.declared.mark.Mark.{Mark}
-use Rattle.vcm_way.specs.declared.mark.Placed.{Placed}
+use Rattle.vcm_marks.specs.declared.mark.Mark.{Mark}
+use Rattle.vcm_marks.specs.declared.mark.Placed.{Placed}
 use Rattle.vcm_way.specs.declared.marks.Marks.{Marks}
 use Rattle.vcm_way.specs.declared.place.Place.{Place}
-use Rattle.vcm_way.specs.Ways.{is_piece, counted, pieces, placed, last_pieces, most_pieces, Kept, kept_of}
+use Rattle.vcm_marks.specs.Pieces.{is_piece, counted, pieces}
+use Rattle.vcm_way.specs.Ways.{placed, last_pieces, most_pieces, Kept, kept_of}
 use Rattle.vcm_way.specs.inner.Added.{IsCounted, IsAdded, StandsFor}
 
 append-nil : (xs : List Placed) → xs ++ [] ≡ xs
@@ -65,14 +66,6 @@ last_append most (x ∷ xs) ys = by (nat_le (pieces (x ∷ xs)) most) refl (last
         ap (λ (zs : List Placed). last_pieces most (zs ++ ys)) (many_last most x xs many) ∙ h ∙ sym (many_last most x (xs ++ ys) more)
 
 -- ---- a list that stands for a way
-
--- an empty one
-pub stands_empty : (m : Marks) → m.list.items ≡ [] → m.pieces ≡ 0 → m.left_out ≡ 0 → StandsFor m []
-stands_empty m e p l = record {
-  counted = p ∙ sym (ap pieces e);
-  total = omega (arith, p, l);
-  last = λ ms. ap (λ (xs : List Placed). last_pieces most_pieces (xs ++ ms)) e;
-}
 
 abbrev kept : List Placed → ℕ → Kept
 kept ms n = record { marks = ms; left_out = n }
@@ -155,22 +148,6 @@ pub record IsAdding (at : Place) (old now : Marks) (left all : List Mark) : Type
   pub counted : IsCounted now
   pub left_out : now.left_out ≡ old.left_out
 
-pub adding_begins : (at : Place) (old : Marks) (all : List Mark) → IsCounted old → IsAdding at old old all all
-adding_begins at old all c = record { list = refl; counted = c; left_out = refl }
-
-pub adding_goes : (at : Place) (old now new : Marks) (mark : Mark) (left all : List Mark) → IsAdding at old now (mark ∷ left) all → IsAdded at (mark ∷ []) now new → IsAdding at old new left all
-adding_goes at old now new mark left all h added = record {
-  list =
-      ap (λ (xs : List Placed). xs ++ placed at.step at.number at.line left) added.list
-      ∙ append-append now.list.items (placed at.step at.number at.line (mark ∷ [])) (placed at.step at.number at.line left)
-      ∙ h.list;
-  counted = added.counted;
-  left_out = added.left_out ∙ h.left_out;
-}
-
-pub adding_ends : (at : Place) (old now : Marks) (all : List Mark) → IsAdding at old now [] all → IsAdded at all old now
-adding_ends at old now all h = record { list = sym (append-nil now.list.items) ∙ h.list; counted = h.counted; left_out = h.left_out }
-
 placed_append : (step number line : ℕ) (xs ys : List Mark) → placed step number line (xs ++ ys) ≡ placed step number line xs ++ placed step number line ys
 placed_append step number line [] ys = refl
 placed_append step number line (x ∷ xs) ys =
@@ -193,32 +170,6 @@ pub record IsSought (most count left : ℕ) (rest all : List Placed) : Type 0 wh
   pub counted : left ≡ pieces rest
   pub last : last_pieces most rest ≡ last_pieces most all
   pub fewer : left ≤ count
-
-pub sought_begins : (most count : ℕ) (all : List Placed) → count ≡ pieces all → IsSought most count count all all
-sought_begins most count all e = record { counted = e; last = refl; fewer = omega arith }
-
-counted_less : (t : Bool) (n m : ℕ) → counted t n ≡ counted t m → n ≡ m
-counted_less true n m e = omega arith
-counted_less false n m e = e
-
-counted_le : (t : Bool) (n : ℕ) → n ≤ counted t n
-counted_le true n = omega arith
-counted_le false n = omega arith
-
-pub sought_goes : (most count left next : ℕ) (first : Placed) (rest all : List Placed) → IsSought most count left (first ∷ rest) all → most < left → counted (is_piece first.mark) next ≡ left
-    → IsSought most count next rest all
-sought_goes most count left next first rest all h l e = record {
-  counted = counted_less (is_piece first.mark) next (pieces rest) (e ∙ h.counted);
-  last = sym (many_last most first rest (let c = h.counted in omega (arith, c))) ∙ h.last;
-  fewer = (let f = h.fewer in let g = counted_le (is_piece first.mark) next in omega (arith, e, f, g));
-}
-
-pub sought_found : (most count left : ℕ) (rest all : List Placed) → IsSought most count left rest all → left ≤ most → rest ≡ last_pieces most all
-sought_found most count left rest all h l = sym (few_last most rest (let c = h.counted in omega (arith, c))) ∙ h.last
-
-pub sought_here : (most count left : ℕ) (first : Placed) (rest all : List Placed) → IsSought most count left (first ∷ rest) all → is_piece first.mark ≡ true → 0 < left
-sought_here most count left first rest all h e =
-    let c = h.counted ∙ sym (one_more (is_piece first.mark) (pieces rest) e) in omega (arith, c)
 
 -- some marks, and then more where a call succeeds
 pub on_ok_then : {A B : Type 0} (r : Result A B) (at : Place) (xs ys zs : List Mark) (old now new : Marks) → IsAdded at xs old now → OnOk r (IsAdded at ys now new) → xs ++ ys ≡ zs

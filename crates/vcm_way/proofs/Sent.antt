@@ -106,9 +106,6 @@ module _ (w : World) (a b c : List Item) where
         → Nowhere ≡ task_of home w (Plain (PtMeas i a b c given))
     measure_lost home d why e f = sym (measure_is home ∙ ap (λ m. measured m (point_in w a b c)) e ∙ ap (measured (Gives d)) f)
 
-    pub measure_nowhere : (home : Point) (why : Stop) → measured_direction w i given ≡ Stops why → Nowhere ≡ task_of home w (Plain (PtMeas i a b c given))
-    measure_nowhere home why e = sym (measure_is home ∙ ap (λ m. measured m (point_in w a b c)) e)
-
 -- ---- how a task ends
 
 module _ (setup : Setup) (w : World) (line n : ℕ) (ps : List Pair) where

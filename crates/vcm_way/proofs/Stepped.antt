@@ -14,16 +14,17 @@ use Rattle.vcm_code.specs.Code.{Statement}
 use Rattle.vcm_code.specs.declared.code.Code.{Code}
 use Rattle.vcm_code.specs.CodeTable.{CodeState, do_op, fetched, code_step, code_steps, start}
 use Rattle.vcm_machine.specs.Running.{Running, setup, later, started}
-use Rattle.vcm_machine.proofs.RunLemmas.{IsReached, goes}
+use Rattle.vcm_machine.proofs.RunLemmas.{goes}
 use Rattle.vcm_way.specs.declared.following.Before.{Before}
-use Rattle.vcm_way.specs.declared.mark.Mark.{Mark}
-use Rattle.vcm_way.specs.declared.mark.Placed.{Placed}
+use Rattle.vcm_marks.specs.declared.mark.Mark.{Mark}
+use Rattle.vcm_marks.specs.declared.mark.Placed.{Placed}
 use Rattle.vcm_way.specs.declared.marks.Marks.{Marks}
 use Rattle.vcm_way.specs.declared.task.Task.{Task}
 use Rattle.vcm_way.specs.declared.task.Task.TheVariants.{Nowhere, Straight, Measure}
 use Rattle.vcm_way.specs.Marks.{marks_of_move, marks_of_touch, Touching}
 use Rattle.vcm_way.specs.Tasks.{task_of, marks_of}
-use Rattle.vcm_way.specs.Ways.{reason, placed, pieces, marks_at, marks_of_step, whole_way}
+use Rattle.vcm_way.specs.Ways.{reason, placed, marks_at, marks_of_step, whole_way}
+use Rattle.vcm_marks.specs.Pieces.{pieces}
 use Rattle.vcm_way.specs.inner.Added.{IsAdded, StandsFor}
 use Rattle.vcm_way.specs.inner.Endings.{TaskEnds}
 use Rattle.vcm_way.specs.inner.Steps.{place_of, IsBefore, IsFollowedTo, HasStepped}
@@ -85,9 +86,6 @@ module _ (old : Running) (b : Before) (home : Point) (is : IsBefore home old b) 
   }
 
 -- ---- steps
-
-pub followed_begins : (n : ℕ) (old : Running) (marks : Marks) → IsReached n old old 0 → StandsFor marks [] → IsFollowedTo n old old marks 0
-followed_begins n old marks r s = record { reached = r; stands = s }
 
 pub followed_goes : (n : ℕ) (old now next : Running) (before between after : Marks) (done : ℕ) → old.state ≡ start (setup old) → IsFollowedTo n old now before done → done < n
     → now.state.world.stop ≡ None → HasStepped (done + 1) now next before between → ((whole : List Placed) → StandsFor between whole → StandsFor after whole)
@@ -191,13 +189,6 @@ when_ok (Err x) P e h = absurd cc
 -- a machine at the start of a code
 pub at_start : (m : Running) (part : Workpiece) (c : Code) → m ≡ started part c → m.state ≡ start (setup m)
 at_start m part c e = subst (λ (k : Running). k.state ≡ start (setup k)) (sym e) refl
-
--- a machine has the workpiece and the code with which it began
-pub same_part : (old now : Running) (n done : ℕ) (part : Workpiece) (c : Code) → IsReached n old now done → old ≡ started part c → now.part ≡ part
-same_part old now n done part c r e = ap (λ (m : Running). m.part) r.reached ∙ ap (λ (m : Running). m.part) e
-
-pub same_code : (old now : Running) (n done : ℕ) (part : Workpiece) (c : Code) → IsReached n old now done → old ≡ started part c → now.code ≡ c
-same_code old now n done part c r e = ap (λ (m : Running). m.code) r.reached ∙ ap (λ (m : Running). m.code) e
 
 -- the stop that is there
 pub there_is : {A : Type 0} (o : Option A) → is_some o ≡ true → (x : A) × (o ≡ Some x)

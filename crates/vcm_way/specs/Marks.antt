@@ -14,10 +14,10 @@ use Rattle.vcm_spec.specs.Touch.{approach_of, end_of, down_of, back_of, touched_
 use Rattle.vcm_spec.specs.FirstTouch.{first_inside}
 use Rattle.vcm_spec.specs.Outcome.{point_of}
 use Rattle.vcm_motion.specs.Places.{entry_point}
-use Rattle.vcm_way.specs.declared.mark.Going.{Going}
-use Rattle.vcm_way.specs.declared.mark.Going.TheVariants as going
-use Rattle.vcm_way.specs.declared.mark.Mark.{Mark}
-use Rattle.vcm_way.specs.declared.mark.Mark.TheVariants.{Goes, Touches, Meets}
+use Rattle.vcm_marks.specs.declared.mark.Going.{Going}
+use Rattle.vcm_marks.specs.declared.mark.Going.TheVariants as going
+use Rattle.vcm_marks.specs.declared.mark.Mark.{Mark}
+use Rattle.vcm_marks.specs.declared.mark.Mark.TheVariants.{Goes, Touches, Meets}
 
 -- the number from low to high that is nearest to z
 abbrev pub clipped : ℤ → ℤ → ℤ → ℤ

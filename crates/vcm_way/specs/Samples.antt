@@ -8,10 +8,10 @@ use Rattle.vcm_spec.specs.declared.words.MovePhase.TheVariants.{Move}
 use Rattle.vcm_spec.specs.Touch.{centre_of}
 use Rattle.vcm_spec.specs.World.{opening_settings}
 use Rattle.vcm_spec.specs.Samples.Parts.{one_block, at, hit}
-use Rattle.vcm_way.specs.declared.mark.Going.TheVariants as going
-use Rattle.vcm_way.specs.declared.mark.Mark.{Mark}
-use Rattle.vcm_way.specs.declared.mark.Mark.TheVariants.{Goes, Meets}
-use Rattle.vcm_way.specs.declared.mark.Placed.{Placed}
+use Rattle.vcm_marks.specs.declared.mark.Going.TheVariants as going
+use Rattle.vcm_marks.specs.declared.mark.Mark.{Mark}
+use Rattle.vcm_marks.specs.declared.mark.Mark.TheVariants.{Goes, Meets}
+use Rattle.vcm_marks.specs.declared.mark.Placed.{Placed}
 use Rattle.vcm_way.specs.Marks.{Touching, goes, touches, touching, marks_of_move, marks_of_touch}
 use Rattle.vcm_way.specs.Ways.{last_pieces}
 

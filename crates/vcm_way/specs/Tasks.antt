@@ -14,7 +14,7 @@ use Rattle.vcm_spec.specs.Workpiece.{Workpiece}
 use Rattle.vcm_spec.specs.World.{Settings, World}
 use Rattle.vcm_code.specs.Code.{Op}
 use Rattle.vcm_code.specs.declared.op.Op.TheVariants.{Plain}
-use Rattle.vcm_way.specs.declared.mark.Mark.{Mark}
+use Rattle.vcm_marks.specs.declared.mark.Mark.{Mark}
 use Rattle.vcm_way.specs.declared.task.Task.{Task}
 use Rattle.vcm_way.specs.declared.task.Task.TheVariants.{Nowhere, Straight, Measure}
 use Rattle.vcm_way.specs.Marks.{marks_of_move, marks_of_touch, touching}

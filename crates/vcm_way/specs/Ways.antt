@@ -1,15 +1,14 @@
 -- The way of a run, step by step, and what a way keeps of it.
-use Rattle.std.specs.Prelude.{ℕ, zero, suc, ◌-◌, Bool, true, false, nat_le, if◌then◌else◌, List, [], ◌∷◌, ◌++◌, map, slice_get}
-use Rattle.std.specs.Prelude.{Option, Some, None}
+use Rattle.std.specs.Prelude.{ℕ, zero, suc, ◌-◌, nat_le, if◌then◌else◌, List, [], ◌∷◌, ◌++◌, map, slice_get, Option, Some, None}
 use Rattle.vcm_spec.specs.declared.stop.Stop.{Stop}
 use Rattle.vcm_spec.specs.declared.stop.StopPlace.{StopPlace}
 use Rattle.vcm_spec.specs.Setup.{Setup}
 use Rattle.vcm_spec.specs.Stepping.{unless_stopped}
 use Rattle.vcm_code.specs.Code.{Statement}
 use Rattle.vcm_code.specs.CodeTable.{CodeState, code_step, code_steps, start}
-use Rattle.vcm_way.specs.declared.mark.Mark.{Mark}
-use Rattle.vcm_way.specs.declared.mark.Mark.TheVariants.{Goes}
-use Rattle.vcm_way.specs.declared.mark.Placed.{Placed}
+use Rattle.vcm_marks.specs.declared.mark.Mark.{Mark}
+use Rattle.vcm_marks.specs.Pieces.{pieces}
+use Rattle.vcm_marks.specs.declared.mark.Placed.{Placed}
 use Rattle.vcm_way.specs.Tasks.{task_of, marks_of}
 
 -- the reason of a stop
@@ -37,21 +36,6 @@ marks_of_step setup code n m =
 abbrev pub whole_way : Setup → List Statement → ℕ → List Placed
 whole_way setup code zero = []
 whole_way setup code (suc n) = whole_way setup code n ++ marks_of_step setup code (suc n) (code_steps setup code n (start setup))
-
--- whether a mark is a piece
-abbrev pub is_piece : Mark → Bool
-is_piece (Goes piece) = true
-is_piece _ = false
-
--- one more, where the test holds
-abbrev pub counted : Bool → ℕ → ℕ
-counted true n = suc n
-counted false n = n
-
--- how many pieces there are among marks
-abbrev pub pieces : List Placed → ℕ
-pieces [] = 0
-pieces (m ∷ ms) = counted (is_piece m.mark) (pieces ms)
 
 -- the longest rest of the marks that has at most so many pieces
 abbrev pub last_pieces : ℕ → List Placed → List Placed

@@ -4,7 +4,7 @@ ghost use Rattle.std.specs.Prelude.{◌≡◌, ◌≤◌, ◌<◌, ◌+◌, ◌^
 ghost use Rattle.vcm_num.specs.Point.{is_near};
 ghost use Rattle.vcm_spec.specs.Workpiece.{IsValid};
 ghost use Rattle.vcm_machine.specs.Running.{setup, started, WantsMemory, HasRun};
-ghost use Rattle.vcm_way.specs.declared.mark.Placed.{Placed as Stands};
+ghost use Rattle.vcm_marks.specs.declared.mark.Placed.{Placed as Stands};
 ghost use Rattle.vcm_way.specs.Following.{HasFollowed};
 ghost use Rattle.vcm_way.specs.Tasks.{marks_of};
 ghost use Rattle.vcm_way.specs.Ways.{reason, whole_way, most_pieces};

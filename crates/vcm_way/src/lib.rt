@@ -3,8 +3,8 @@
 #![tactic(auto)]
 
 mod following;
+pub mod laws;
 mod limits;
-mod mark;
 mod marks;
 mod moving;
 mod place;
@@ -13,7 +13,6 @@ mod touching;
 mod way;
 
 pub use following::{Followed, follow};
-pub use mark::{Contact, Going, Mark, Piece, Placed, Touched};
 pub use vcm_machine::{End, Ran};
 pub use vcm_num::{NoMemory, Point};
 pub use way::Way;

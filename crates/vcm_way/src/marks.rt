@@ -1,13 +1,14 @@
 //! The list of marks, of which the last pieces are kept.
 
 ghost use Rattle.std.specs.Prelude.{◌≡◌, ◌≤◌, ◌<◌, ◌+◌, ◌^◌, true, List, [], ◌∷◌, OnOk};
-ghost use Rattle.vcm_way.specs.declared.mark.Placed.{Placed as Stands};
-ghost use Rattle.vcm_way.specs.Ways.{is_piece, counted, pieces, last_pieces, most_pieces};
+ghost use Rattle.vcm_marks.specs.declared.mark.Placed.{Placed as Stands};
+ghost use Rattle.vcm_marks.specs.Pieces.{is_piece, counted, pieces};
+ghost use Rattle.vcm_way.specs.Ways.{last_pieces, most_pieces};
 ghost use Rattle.vcm_way.specs.inner.Added.{IsCounted, IsAdded, StandsFor};
 
-use crate::mark::{Mark, Placed};
 use crate::place::Place;
 use std::alloc::Global;
+use vcm_marks::{Mark, Placed};
 use vcm_num::NoMemory;
 
 // Whether a mark is a piece.

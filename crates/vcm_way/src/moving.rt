@@ -8,9 +8,9 @@ ghost use Rattle.vcm_way.specs.Marks.{marks_of_move};
 ghost use Rattle.vcm_way.specs.inner.Added.{IsCounted, IsAdded};
 ghost use Rattle.vcm_way.specs.inner.Endings.{EndsAs};
 
-use crate::mark::Going;
 use crate::marks::Marks;
 use crate::place::{Place, falls_short, goes, meets_block};
+use vcm_marks::Going;
 use vcm_num::{NoMemory, Point};
 use vcm_part::PartData;
 use vcm_spec::{MovePhase, Stop};

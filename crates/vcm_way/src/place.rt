@@ -5,7 +5,7 @@ ghost use Rattle.vcm_num.specs.Point.{is_near};
 ghost use Rattle.vcm_way.specs.Marks.{goes, falls_short, contact_point, meets_block};
 
 use crate::limits::nearest;
-use crate::mark::{Contact, Going, Mark, Piece};
+use vcm_marks::{Contact, Going, Mark, Piece};
 use vcm_motion::entry_point;
 use vcm_num::Point;
 use vcm_part::PartData;

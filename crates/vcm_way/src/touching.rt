@@ -9,15 +9,15 @@ ghost use Rattle.vcm_spec.specs.Touch.{centre_of, down_of};
 ghost use Rattle.vcm_spec.specs.FirstTouch.{first_inside, touch};
 ghost use Rattle.vcm_spec.specs.Outcome.{Stops, point_of};
 ghost use Rattle.vcm_probe.proofs.Descent.{AreAimed};
-ghost use Rattle.vcm_way.specs.declared.mark.Going.TheVariants as goings;
+ghost use Rattle.vcm_marks.specs.declared.mark.Going.TheVariants as goings;
 ghost use Rattle.vcm_way.specs.Marks.{touching, marks_of_touch, goes, touches};
 ghost use Rattle.vcm_way.specs.inner.Added.{IsCounted, IsAdded};
 ghost use Rattle.vcm_way.specs.inner.Endings.{EndsAs, HasTouched, IsNearAtHit, behind, distance_of};
 
-use crate::mark::{Going, Mark, Touched};
 use crate::marks::Marks;
 use crate::place::{Place, falls_short, goes, meets_block};
 use crate::task::Measuring;
+use vcm_marks::{Going, Mark, Touched};
 use vcm_motion::{Face, Part};
 use vcm_num::{Axis, NoMemory, Point};
 use vcm_part::PartData;

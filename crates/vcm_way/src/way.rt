@@ -1,14 +1,14 @@
 //! The way.
 
 ghost use Rattle.std.specs.Prelude.{◌≡◌, ◌<◌, ◌+◌, ◌^◌, List, IfOk};
-ghost use Rattle.vcm_way.specs.declared.mark.Placed.{Placed as Stands};
+ghost use Rattle.vcm_marks.specs.declared.mark.Placed.{Placed as Stands};
 ghost use Rattle.vcm_way.specs.Ways.{most_pieces, kept_of};
 ghost use Rattle.vcm_way.specs.inner.Added.{IsCounted, StandsFor};
 
-use crate::mark::Placed;
 use crate::marks::Marks;
 use std::alloc::Global;
 use std::marker::Model;
+use vcm_marks::Placed;
 use vcm_num::NoMemory;
 
 /// The way of the probe: its last 20,000 pieces, and the touched points and the contact of the steps that these belong to. Contracts see it
@@ -21,7 +21,7 @@ pub struct Way {
 
 impl Model for Way {
     ghost use Rattle.std.specs.Coded.{codes};
-    ghost use Rattle.vcm_way.specs.contracts.mark.Placed as placed;
+    ghost use Rattle.vcm_marks.specs.contracts.mark.Placed as placed;
     ghost use Rattle.vcm_way.specs.Ways.{Kept};
 
     ghost Value = { Kept };

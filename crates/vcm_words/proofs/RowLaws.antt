@@ -9,9 +9,8 @@ use Rattle.std.proofs.lemmas.Fmt.{decimal_nonempty}
 use Rattle.vcm_num.specs.Literals.{AllDigits}
 use Rattle.vcm_spec.specs.Setup.{Variable as Entry}
 use Rattle.vcm_code.specs.declared.version.Version.{Version}
-use Rattle.vcm_expr.specs.NameBytes.{is_name_byte, is_name, IsName}
-use Rattle.vcm_expr.specs.Symbols.{is_variable_name, IsVariableName}
-use Rattle.vcm_expr.proofs.NameLemmas.{variable_name_is_name}
+use Rattle.vcm_items.specs.NameBytes.{is_name_byte, is_name, IsName, is_variable_name, IsVariableName}
+use Rattle.vcm_items.proofs.NameLemmas.{variable_name_is_name}
 use Rattle.vcm_code.specs.Code.{Statement}
 use Rattle.vcm_fields.specs.inner.Fitting.{FitsEntry, FitsLine}
 use Rattle.vcm_words.specs.declared.row.Row.TheVariants.{Head, Variable, Feature, Frame, Numbered}

@@ -46,13 +46,6 @@ pub record IsRead {A : Type 0} (mark : ℕ) (f : List ℕ → Option A) (most : 
   pub same : up_to mark f words ≡ with_front front (up_to mark f rest)
   pub counted : IsCount most count (length front)
 
-pub none_read : {A : Type 0} (mark : ℕ) (f : List ℕ → Option A) (most : ℕ) (words rest : List (List ℕ)) → rest ≡ words → IsRead mark f most words rest 0
-none_read {A} mark f most words rest e = record { front = []; same = by (up_to mark f words) ∙ ap (λ ws. with_front [] (up_to mark f ws)) (sym e); counted = (omega arith, (λ h. refl, omega arith)) }
-  where
-    by : (o : Option (List A × List (List ℕ))) → o ≡ with_front [] o
-    by None = refl
-    by (Some x) = refl
-
 -- one more value
 pub one_read : {A : Type 0} (mark : ℕ) (f : List ℕ → Option A) (most : ℕ) (words rest : List (List ℕ)) (count next : ℕ) (w : List ℕ) (more : List (List ℕ)) (x : A) → IsRead mark f most words rest count → rest ≡ w ∷ more → ending mark w ≡ None → f w ≡ Some x → Next most count next → IsRead mark f most words more next
 one_read mark f most words rest count next w more x r e g h n = record {

@@ -8,8 +8,7 @@ use Rattle.vcm_code.specs.declared.code.Code.{Code}
 use Rattle.vcm_code.specs.declared.version.Version.{Version}
 use Rattle.vcm_code.specs.declared.version.Version.TheVariants.{One, Two}
 use Rattle.vcm_spec.specs.Setup.{Variable as Entry}
-use Rattle.vcm_expr.specs.NameBytes.{is_name}
-use Rattle.vcm_expr.specs.Symbols.{is_variable_name}
+use Rattle.vcm_items.specs.NameBytes.{is_name, is_variable_name}
 use Rattle.vcm_code.specs.Code.{Statement}
 use Rattle.vcm_code.specs.Shape.{kinds}
 use Rattle.vcm_words.specs.declared.row.Row.{Row}

@@ -8,7 +8,7 @@ ghost use Rattle.vcm_words.specs.Rows.{kind_text, name_at, variable_name_at, ent
 
 use crate::places::count;
 use crate::words::{Words, table_word};
-use vcm_expr::{Name, is_name, is_variable_name};
+use vcm_items::{Name, is_name, is_variable_name};
 use vcm_num::Kind;
 use vcm_tables::Variable;
 
@@ -25,7 +25,7 @@ fn name<'a>(words: &Words<'a>) -> Option<(Name, Words<'a>)>
 }
 
 // The name of a variable, and the words behind it.
-#[tactic(auto, using(vcm_expr::proofs::NameLemmas::variable_name_is_name))]
+#[tactic(auto, using(vcm_items::proofs::NameLemmas::variable_name_is_name))]
 fn variable_name<'a>(words: &Words<'a>) -> Option<(Name, Words<'a>)>
     ensures { result ≡ variable_name_at words.now }
 {

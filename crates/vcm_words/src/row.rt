@@ -1,7 +1,7 @@
 //! The lines of a listing.
 
 use vcm_code::{Statement, Version};
-use vcm_expr::Name;
+use vcm_items::Name;
 use vcm_tables::Variable;
 
 /// A line of a listing, with expressions of the form `E`, texts of the form `T` and branches of the form `B`.

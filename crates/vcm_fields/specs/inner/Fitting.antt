@@ -3,7 +3,7 @@ use Rattle.std.specs.Prelude.{◌<◌, ◌≤◌, ◌^◌, IsTrue, List, length}
 use Rattle.std.specs.List.{AllByRecursion}
 use Rattle.vcm_spec.specs.declared.expression.Item.{Item}
 use Rattle.vcm_spec.specs.Setup.{Variable as Entry}
-use Rattle.vcm_expr.specs.Symbols.{IsVariableName}
+use Rattle.vcm_items.specs.NameBytes.{IsVariableName}
 use Rattle.vcm_code.specs.declared.branch.Branch.{Branch}
 use Rattle.vcm_code.specs.declared.version.Version.{Version}
 use Rattle.vcm_code.specs.Code.{Op, Statement}

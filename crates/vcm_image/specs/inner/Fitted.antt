@@ -1,7 +1,7 @@
 -- Codes that fit an image, table by table.
 use Rattle.std.specs.Prelude.{◌≤◌, length}
 use Rattle.std.specs.List.{AllByRecursion}
-use Rattle.vcm_expr.specs.NameBytes.{IsName}
+use Rattle.vcm_items.specs.NameBytes.{IsName}
 use Rattle.vcm_code.specs.declared.code.Code.{Code}
 use Rattle.vcm_fields.specs.inner.Fitting.{FitsLine, FitsEntry}
 

@@ -6,12 +6,11 @@ use Rattle.std.specs.Prelude.{◌∷◌, ◌++◌, Option, Some, None, if◌then
 use Rattle.vcm_lines.specs.declared.fault.FaultCode.{FaultCode}
 use Rattle.vcm_lines.specs.declared.fault.SourceFault.{SourceFault}
 use Rattle.vcm_macro.specs.declared.placed.Placed.{Placed}
-use Rattle.vcm_syntax.specs.declared.statement.Argument.{Argument}
-use Rattle.vcm_syntax.specs.declared.statement.Parameter.{Parameter}
-use Rattle.vcm_syntax.specs.declared.statement.Form.{Form}
-use Rattle.vcm_syntax.specs.declared.statement.Form.TheVariants.{Macro}
-use Rattle.vcm_syntax.specs.declared.statement.Form.TheVariants.{MacroEnd, Call}
-use Rattle.vcm_syntax.specs.declared.statement.Statement.{Statement}
+use Rattle.vcm_forms.specs.declared.statement.Argument.{Argument}
+use Rattle.vcm_forms.specs.declared.statement.Parameter.{Parameter}
+use Rattle.vcm_forms.specs.declared.statement.Form.{Form}
+use Rattle.vcm_forms.specs.declared.statement.Form.TheVariants.{Macro, MacroEnd, Call}
+use Rattle.vcm_forms.specs.declared.statement.Statement.{Statement}
 use Rattle.vcm_substitution.specs.Substitution.{Scope, is_same, put_form}
 use Rattle.vcm_macro.specs.Walk.{Defined, Place, Opens, Inside, Stands, Calls, with_statement, calls_in, body_in, call_in, walk_from}
 use Rattle.vcm_macro.specs.Rules.{codes_at, line_at, weight, weigh, kept}

@@ -1,5 +1,5 @@
 -- Statements that are referred to, or put together.
-use Rattle.vcm_syntax.specs.declared.statement.Statement.{Statement}
+use Rattle.vcm_forms.specs.declared.statement.Statement.{Statement}
 use Rattle.vcm_macro.specs.declared.placed.Origin.{Origin}
 use Rattle.vcm_macro.specs.declared.placed.Origin.TheVariants.{Written, Put}
 

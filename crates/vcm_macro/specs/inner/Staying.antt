@@ -2,7 +2,7 @@
 use Rattle.std.specs.Prelude.{ℕ, Bool, true, ◌==◌, List}
 use Rattle.vcm_expr.specs.declared.expression.Piece.{Piece}
 use Rattle.vcm_expr.specs.declared.expression.Piece.TheVariants.{Variable}
-use Rattle.vcm_syntax.specs.declared.statement.Argument.{Argument}
+use Rattle.vcm_forms.specs.declared.statement.Argument.{Argument}
 use Rattle.vcm_macro.specs.declared.staying.Given.{Given}
 use Rattle.vcm_macro.specs.declared.staying.Given.TheVariants.{Written, Put}
 

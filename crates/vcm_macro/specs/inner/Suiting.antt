@@ -1,6 +1,6 @@
 -- Arguments of which each is what is wanted in its place.
 use Rattle.std.specs.Prelude.{Bool, true, false, ◌&&◌, List, [], ◌∷◌}
-use Rattle.vcm_syntax.specs.declared.statement.Argument.{Argument}
+use Rattle.vcm_forms.specs.declared.statement.Argument.{Argument}
 use Rattle.vcm_macro.specs.declared.fitting.Wanted.{Wanted}
 use Rattle.vcm_macro.specs.Rules.{suits}
 

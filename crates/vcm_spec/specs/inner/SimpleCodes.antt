@@ -81,6 +81,3 @@ module _ {E : Type 0} (c : Coded E) where
       let h4 : source.the_row.coded.code s ≡ source.the_row.coded.code s' = cc in let k4 = source.the_row.coded.inj s s' h4 in cc
   simple_inj (Text x) (Text y) e = let h : bytes_code x ≡ bytes_code y = cc in let k = bytes_inj x y h in cc
   simple_inj _ _ e = cc
-
-  abbrev pub simple_coded : Coded (Simple E)
-  simple_coded = record { code = simple_code; inj = simple_inj }

@@ -1,7 +1,7 @@
 -- Statements without expressions.
 use Rattle.std.specs.Prelude.{Bool, false}
-use Rattle.vcm_syntax.specs.declared.statement.Form.{Form}
-use Rattle.vcm_syntax.specs.declared.statement.Form.TheVariants.{Assignment, Move, Test, Choose, Repeat, Feature, Touch, Configure, Shift}
+use Rattle.vcm_forms.specs.declared.statement.Form.{Form}
+use Rattle.vcm_forms.specs.declared.statement.Form.TheVariants.{Assignment, Move, Test, Choose, Repeat, Feature, Touch, Configure, Shift}
 use Rattle.vcm_substitution.specs.Kept.{is_kept}
 
 -- whether a statement of the expanded program has no expressions

@@ -4,12 +4,13 @@ use Rattle.vcm_lines.specs.declared.fault.FaultCode.{FaultCode}
 use Rattle.vcm_lines.specs.declared.fault.FaultCode.TheVariants.{BadSyntax}
 use Rattle.vcm_lines.specs.Lexemes.{Lexeme}
 use Rattle.vcm_spec.specs.Results.{◌>>=◌}
-use Rattle.vcm_expr.specs.NameBytes.{is_name}
-use Rattle.vcm_syntax.specs.declared.statement.Prefix.{Prefix}
-use Rattle.vcm_syntax.specs.declared.statement.Notice.{Notice}
-use Rattle.vcm_syntax.specs.declared.statement.Form.{Form}
-use Rattle.vcm_syntax.specs.declared.statement.Form.TheVariants.{Ignored, Feature}
-use Rattle.vcm_syntax.specs.Readers.{or_fault, end_of, alone, field, some_field}
+use Rattle.vcm_items.specs.NameBytes.{is_name}
+use Rattle.vcm_syntax.specs.declared.heads.Prefix.{Prefix}
+use Rattle.vcm_forms.specs.declared.statement.Notice.{Notice}
+use Rattle.vcm_forms.specs.declared.statement.Form.{Form}
+use Rattle.vcm_forms.specs.declared.statement.Form.TheVariants.{Ignored, Feature}
+use Rattle.vcm_lines.specs.Fault.{or_fault}
+use Rattle.vcm_syntax.specs.Readers.{end_of, alone, field, some_field}
 use Rattle.vcm_syntax.specs.Majors.{major_of}
 use Rattle.vcm_syntax.specs.Places.{spot_of}
 use Rattle.vcm_syntax.specs.Figures.{vector_of}

@@ -1,8 +1,8 @@
 -- What is read of a program, and one statement more.
 use Rattle.std.specs.Prelude.{◌≡◌, ℕ, List, ◌++◌, Option, Some, None, Result, Ok, Err}
 use Rattle.vcm_spec.specs.Setup.{Variable}
-use Rattle.vcm_syntax.specs.declared.statement.Rounds.{Rounds}
-use Rattle.vcm_syntax.specs.declared.statement.Statement.{Statement}
+use Rattle.vcm_forms.specs.declared.statement.Rounds.{Rounds}
+use Rattle.vcm_forms.specs.declared.statement.Statement.{Statement}
 use Rattle.vcm_macro.specs.declared.placed.Placed.{Placed}
 use Rattle.vcm_lines.specs.declared.fault.SourceFault.{SourceFault}
 use Rattle.vcm_spec.specs.Expression.{Tree}

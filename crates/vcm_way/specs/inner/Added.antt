@@ -1,10 +1,11 @@
 -- What a list of marks stands for.
 use Rattle.std.specs.Prelude.{◌≡◌, ◌+◌, List, ◌++◌}
-use Rattle.vcm_way.specs.declared.mark.Mark.{Mark}
-use Rattle.vcm_way.specs.declared.mark.Placed.{Placed}
+use Rattle.vcm_marks.specs.declared.mark.Mark.{Mark}
+use Rattle.vcm_marks.specs.declared.mark.Placed.{Placed}
 use Rattle.vcm_way.specs.declared.marks.Marks.{Marks}
 use Rattle.vcm_way.specs.declared.place.Place.{Place}
-use Rattle.vcm_way.specs.Ways.{pieces, placed, last_pieces, most_pieces}
+use Rattle.vcm_marks.specs.Pieces.{pieces}
+use Rattle.vcm_way.specs.Ways.{placed, last_pieces, most_pieces}
 
 -- its pieces are counted
 abbrev pub IsCounted : Marks → Type 0

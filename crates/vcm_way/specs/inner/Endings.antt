@@ -10,8 +10,8 @@ use Rattle.vcm_spec.specs.Outcome.{Outcome, Gives, Stops}
 use Rattle.vcm_spec.specs.Workpiece.{Workpiece}
 use Rattle.vcm_spec.specs.World.{Settings}
 use Rattle.vcm_motion.specs.declared.face.Face.{Face}
-use Rattle.vcm_way.specs.declared.mark.Going.TheVariants as going
-use Rattle.vcm_way.specs.declared.mark.Mark.{Mark}
+use Rattle.vcm_marks.specs.declared.mark.Going.TheVariants as going
+use Rattle.vcm_marks.specs.declared.mark.Mark.{Mark}
 use Rattle.vcm_way.specs.declared.task.Task.{Task}
 use Rattle.vcm_way.specs.declared.task.Task.TheVariants.{Nowhere, Straight, Measure}
 use Rattle.vcm_way.specs.Marks.{goes, falls_short, meets_block}

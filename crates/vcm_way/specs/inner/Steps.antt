@@ -11,7 +11,7 @@ use Rattle.vcm_machine.specs.Running.{Running, setup, started, later, HasRun}
 use Rattle.vcm_machine.proofs.RunLemmas.{IsReached}
 use Rattle.vcm_state.specs.Held.{Held}
 use Rattle.vcm_way.specs.declared.following.Before.{Before}
-use Rattle.vcm_way.specs.declared.mark.Placed.{Placed}
+use Rattle.vcm_marks.specs.declared.mark.Placed.{Placed}
 use Rattle.vcm_way.specs.declared.marks.Marks.{Marks}
 use Rattle.vcm_way.specs.declared.place.Place.{Place}
 use Rattle.vcm_way.specs.Tasks.{task_of}

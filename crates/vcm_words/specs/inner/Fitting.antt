@@ -1,6 +1,6 @@
 -- Lines of a listing that have a spelling.
 use Rattle.std.specs.Prelude.{◌<◌, ◌^◌}
-use Rattle.vcm_expr.specs.NameBytes.{IsName}
+use Rattle.vcm_items.specs.NameBytes.{IsName}
 use Rattle.vcm_code.specs.declared.version.Version.{Version}
 use Rattle.vcm_fields.specs.inner.Fitting.{FitsEntry, FitsLine}
 use Rattle.vcm_words.specs.declared.row.Row.TheVariants.{Head, Variable, Feature, Frame, Numbered}

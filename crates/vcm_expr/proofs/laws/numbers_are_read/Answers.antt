@@ -1,5 +1,8 @@
-use Rattle.vcm_expr.proofs.NumberReading.{reads_of}
+use Rattle.vcm_expr.proofs.NumberReading.{reads_of, reads_same}
 use Rattle.vcm_expr.proofs.laws.numbers_are_read.Goals as goal
 
-pub returns : goal.returns
-returns c = reads_of
+pub returns-clause-read : goal.returns-clause-read
+returns-clause-read c = reads_of
+
+pub returns-clause-one : goal.returns-clause-one
+returns-clause-one c = reads_same

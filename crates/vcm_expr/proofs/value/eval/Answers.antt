@@ -4,7 +4,7 @@ use Rattle.vcm_spec.specs.Value.{value_of, unary_value}
 use Rattle.vcm_spec.specs.declared.expression.UnaryOp.TheVariants.{Scale}
 use Rattle.vcm_expr.specs.inner.Trees.{items_of}
 use Rattle.vcm_expr.proofs.TypedItems.{leaf_is, leaf_below, scaled_is, scaled_below, spelled_fit}
-use Rattle.vcm_expr.proofs.Truths.{truth_of, truth_result}
+use Rattle.vcm_items.proofs.Truths.{truth_of, truth_result}
 use Rattle.vcm_expr.proofs.value.eval.Goals as goal
 
 pub operand-requires : goal.operand-requires

@@ -1,6 +1,6 @@
 use Rattle.std.proofs.Common.{◌<◌, ◌^◌, drop}
 use Rattle.std.specs.List.{AllByRecursion}
-use Rattle.vcm_expr.specs.Names.{AreNamed}
+use Rattle.vcm_items.specs.Names.{AreNamed}
 use Rattle.vcm_image.proofs.fitting.are_variables.Given as goal
 
 abbrev pub invariant-loop-it : goal.invariant-loop-it

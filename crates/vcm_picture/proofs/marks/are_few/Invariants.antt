@@ -1,5 +1,5 @@
 use Rattle.std.proofs.Common.{◌≡◌, ◌≤◌, ◌+◌, drop}
-use Rattle.vcm_way.specs.Ways.{pieces}
+use Rattle.vcm_marks.specs.Pieces.{pieces}
 use Rattle.vcm_picture.proofs.marks.are_few.Given as goal
 
 abbrev pub invariant-loop-placed : goal.invariant-loop-placed

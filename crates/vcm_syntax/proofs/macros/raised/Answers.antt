@@ -1,5 +1,5 @@
 use Rattle.std.proofs.Common.{List, ℕ, [], ◌∷◌, sym, ap, ◌∙◌}
-use Rattle.vcm_expr.specs.NameBytes.{is_name}
+use Rattle.vcm_items.specs.NameBytes.{is_name}
 use Rattle.vcm_syntax.proofs.Calling.{raised_front}
 use Rattle.vcm_syntax.proofs.macros.raised.Goals as goal
 

@@ -1,5 +1,5 @@
 use Rattle.vcm_tree.proofs.Accepting.{accepted_whole}
-use Rattle.vcm_tree.proofs.Reaching.{whole_steps}
+use Rattle.vcm_program.proofs.Reaching.{whole_steps}
 use Rattle.vcm_tree.proofs.laws.accepted_programs_always_step.Goals as goal
 
 pub returns : goal.returns

@@ -1,10 +1,10 @@
 use Rattle.std.proofs.Common.{◌<◌, length, not, ap, sym, ◌∙◌, subst}
 use Rattle.std.specs.Prelude.{map}
 use Rattle.std.proofs.lemmas.List.{map-append}
-use Rattle.vcm_expr.specs.Names.{variable_in}
-use Rattle.vcm_expr.specs.Symbols.{IsVariableName}
+use Rattle.vcm_items.specs.Names.{variable_in}
+use Rattle.vcm_items.specs.NameBytes.{IsVariableName}
 use Rattle.indexmap.proofs.CallerLemmas.{insert_entry-new}
-use Rattle.vcm_expr.proofs.NameLemmas.{lookup_named, lookup_none, one_more}
+use Rattle.vcm_items.proofs.NameLemmas.{lookup_named, lookup_none, one_more}
 use Rattle.vcm_expr.proofs.names.Names.declare.Goals as goal
 
 pub returns-then-contains_key-clause-new : goal.returns-then-contains_key-clause-new

@@ -1,5 +1,5 @@
 use Rattle.std.proofs.Common.{rules, sym}
-use Rattle.vcm_expr.proofs.NameLemmas.{kind_at}
+use Rattle.vcm_items.proofs.NameLemmas.{kind_at}
 use Rattle.vcm_expr.proofs.names.Names.find.Goals as goal
 
 pub returns-in_err-index-in-None : goal.returns-in_err-index-in-None

@@ -1,5 +1,5 @@
 use Rattle.std.proofs.Common.{◌∙◌}
-use Rattle.vcm_expr.proofs.NameLemmas.{position_named}
+use Rattle.vcm_items.proofs.NameLemmas.{position_named}
 use Rattle.vcm_expr.proofs.names.Names.index_in.Goals as goal
 
 pub returns : goal.returns

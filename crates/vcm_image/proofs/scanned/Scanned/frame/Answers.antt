@@ -1,4 +1,4 @@
-use Rattle.vcm_expr.specs.NameBytes.{IsName}
+use Rattle.vcm_items.specs.NameBytes.{IsName}
 use Rattle.std.proofs.Common.{◌<◌, ◌≡◌, length, slice_get, Some, sym, subst, arith}
 use Rattle.vcm_code.specs.declared.code.Code.{Code}
 use Rattle.vcm_fields.specs.Readers.{name_at}

@@ -1,4 +1,4 @@
-use Rattle.vcm_expr.specs.Symbols.{IsVariableName}
+use Rattle.vcm_items.specs.NameBytes.{IsVariableName}
 use Rattle.std.proofs.Common.{◌<◌, ◌≡◌, length, slice_get, Some, sym, subst, arith}
 use Rattle.vcm_code.specs.declared.code.Code.{Code}
 use Rattle.vcm_fields.specs.Readers.{entry_at}

@@ -1,5 +1,6 @@
 use Rattle.std.proofs.Common.{sym, ap, ◌∙◌, arith}
-use Rattle.vcm_way.specs.Ways.{pieces, last_pieces, most_pieces}
+use Rattle.vcm_marks.specs.Pieces.{pieces}
+use Rattle.vcm_way.specs.Ways.{last_pieces, most_pieces}
 use Rattle.vcm_way.proofs.Lists.{stands_last}
 use Rattle.vcm_way.proofs.marks.Marks.keep_last.Goals as goal
 

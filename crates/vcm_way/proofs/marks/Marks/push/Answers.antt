@@ -1,6 +1,6 @@
 use Rattle.std.proofs.Common.{◌<◌, ◌^◌, length, arith, refl, rules}
 use Rattle.vcm_way.proofs.Lists.{pieces_le, one_more, no_more, added_one}
-use Rattle.vcm_way.specs.Ways.{is_piece}
+use Rattle.vcm_marks.specs.Pieces.{is_piece}
 use Rattle.vcm_way.proofs.marks.Marks.push.Goals as goal
 
 pub overflow_add-self : goal.overflow_add-self

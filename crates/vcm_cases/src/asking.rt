@@ -1,0 +1,87 @@
+//! What a command line asks for, and which explanation words have.
+
+use crate::messages::line_of;
+use std::alloc::Global;
+use vcm_command::{Request, request_of, steps_of};
+use vcm_explain::explanation;
+use vcm_messages::Message;
+use vcm_views::View;
+
+// The words of a command line. One between apostrophes may have blanks, or nothing.
+fn words_of(alloc: Global, line: &str) -> Option<Vec<String>> {
+    let mut words = Vec::new(alloc);
+    for (place, piece) in line.split('\'').enumerate() {
+        if place % 2 == 1 {
+            words.push(String::from_str(alloc, piece).ok()?).ok()?;
+        } else {
+            for word in piece.split(' ').filter(|word| !word.is_empty()) {
+                words.push(String::from_str(alloc, word).ok()?).ok()?;
+            }
+        }
+    }
+    Some(words)
+}
+
+// A run, or a view of one, that is asked for.
+fn run_asked(alloc: Global, name: &str, input: &str, part: &str, steps: &str) -> Option<String> {
+    match steps_of(steps) {
+        Some(steps) => format!(in alloc; "{name} input={input} part={part} steps={steps}").ok(),
+        None => line_of(alloc, Message::Steps),
+    }
+}
+
+// The name of a view.
+fn name_of(view: View) -> &'static str {
+    match view {
+        View::Trace => "trace",
+        View::Margin => "margin",
+        View::Picture { is_close: false } => "picture",
+        View::Picture { is_close: true } => "close",
+    }
+}
+
+// What is asked for.
+fn asked(alloc: Global, request: Request<'_>) -> Option<String> {
+    match request {
+        Request::Job => String::from_str(alloc, "job").ok(),
+        Request::Check { program } => format!(in alloc; "check program={program}").ok(),
+        Request::Build { program, image } => {
+            format!(in alloc; "build program={program} image={image}").ok()
+        }
+        Request::Run { input, part, steps } => run_asked(alloc, "run", input, part, steps),
+        Request::View {
+            view,
+            input,
+            part,
+            steps,
+        } => run_asked(alloc, name_of(view), input, part, steps),
+        Request::Debug { input, part } => {
+            format!(in alloc; "debug input={input} part={part}").ok()
+        }
+        Request::List { input } => format!(in alloc; "list input={input}").ok(),
+        Request::Asm { listing, image } => {
+            format!(in alloc; "asm listing={listing} image={image}").ok()
+        }
+        Request::Explain { words } => {
+            let words = words.join(alloc, " ").ok()?;
+            format!(in alloc; "explain words={words}").ok()
+        }
+    }
+}
+
+/// What a command line asks for, or its exit status and its fault; none where memory runs out.
+pub(crate) fn words_answer(alloc: Global, line: &str) -> Option<String> {
+    let words = words_of(alloc, line)?;
+    match request_of(alloc, words.as_slice()) {
+        Ok(request) => asked(alloc, request),
+        Err(error) => format!(in alloc; "{} {:?}", error.exit_code(), error.kind()).ok(),
+    }
+}
+
+/// The first line of the explanation of words, or the exit status and what is told where they have none.
+pub(crate) fn explain_answer(alloc: Global, words: &str) -> Option<String> {
+    match explanation(words) {
+        Some(entry) => String::from_str(alloc, entry.title()).ok(),
+        None => line_of(alloc, Message::Unknown { words }),
+    }
+}

@@ -1,0 +1,8 @@
+//! What statements are, apart from how they are read.
+#![tactic(auto)]
+
+mod operator_text;
+mod statement;
+
+pub use operator_text::OperatorText;
+pub use statement::{Argument, Form, Notice, Offset, Parameter, Rounds, Spot, Statement, Target};

@@ -1,0 +1,4 @@
+pub mod NameLemmas
+pub mod Runs
+pub mod PostfixKinds
+pub mod Truths

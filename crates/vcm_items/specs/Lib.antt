@@ -1,0 +1,6 @@
+pub mod NameBytes
+pub mod Names
+pub mod Typed
+pub mod Slots
+pub mod Run
+pub mod inner

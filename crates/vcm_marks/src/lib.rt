@@ -1,0 +1,6 @@
+//! The marks of a way, apart from the run that makes them.
+#![tactic(auto)]
+
+mod mark;
+
+pub use mark::{Contact, Going, Mark, Piece, Placed, Touched};

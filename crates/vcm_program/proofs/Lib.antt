@@ -1,0 +1,3 @@
+pub mod Tabling
+pub mod Titled
+pub mod Reaching

@@ -1,0 +1,3 @@
+pub mod Telling
+pub mod Titles
+pub mod Program

@@ -1,0 +1,36 @@
+-- Statements about views of one input. Each is a clause of a law in src/laws.rt.
+use Rattle.std.specs.Prelude.{◌≡◌, ◌≢◌, ℕ, List, Option, Some, Result, IfOk, IfErr}
+use Rattle.vcm_spec.specs.Workpiece.{Workpiece}
+use Rattle.vcm_program.specs.declared.accepted.Noticed.{Noticed}
+use Rattle.vcm_job.specs.declared.running.Done.{Done}
+use Rattle.vcm_job.specs.declared.inputs.RunFault.{RunFault}
+use Rattle.vcm_job.specs.Reading.{AnswersUnread}
+use Rattle.vcm_job.specs.Unread.{input_not_read}
+use Rattle.vcm_job.specs.Causes.{Cause}
+use Rattle.vcm_job.specs.Answers.{run_told}
+use Rattle.vcm_job.specs.Laws.{WroteTheSame}
+use Rattle.vcm_views.specs.declared.view.View.{View}
+use Rattle.vcm_views.specs.declared.view.View.TheVariants as views
+use Rattle.vcm_views.specs.Inputs.{IsShown, IsNoView}
+
+-- what `view_of` answers to a known input beside a workpiece, for at most n steps: the clauses of its contract. `rest` is what of the input is left
+-- behind the call, `old` and `new` are what its writer had before and has behind it
+pub record IsViewAnswer (view : View) (part : Workpiece) (n : ℕ) (input : List ℕ) (r : Result Done RunFault) (rest old new : Option (List ℕ)) : Type 0
+  where
+    pub done : IfOk r (λ d. IsShown view part input n d.status d.notices.items old new)
+    pub fault : IfErr r (λ f. IsNoView view part n (Some input) rest f old new)
+    pub long : AnswersUnread input_not_read (Some input) r
+
+-- of two traces or two pictures of one input, each of which tells something, both tell the same and wrote the same
+abbrev pub ViewsAreOne : Type 0
+ViewsAreOne =
+    (view : View) (part : Workpiece) (n : ℕ) (input : List ℕ) (r s : Result Done RunFault) (rest left old new other now : Option (List ℕ))
+    (x y : Result (ℕ × List Noticed) Cause) → view ≢ views.Margin → IsViewAnswer view part n input r rest old new
+    → IsViewAnswer view part n input s left other now → run_told r ≡ Some x → run_told s ≡ Some y → (x ≡ y) × WroteTheSame old new other now
+
+-- of two margins both tell the same. What they wrote isn't said to be the same: a greater width might do too
+abbrev pub MarginsTellTheSame : Type 0
+MarginsTellTheSame =
+    (part : Workpiece) (n : ℕ) (input : List ℕ) (r s : Result Done RunFault) (rest left old new other now : Option (List ℕ))
+    (x y : Result (ℕ × List Noticed) Cause) → IsViewAnswer views.Margin part n input r rest old new
+    → IsViewAnswer views.Margin part n input s left other now → run_told r ≡ Some x → run_told s ≡ Some y → x ≡ y
