@@ -86,38 +86,9 @@ fn of_parts(alloc: Global) -> Option<String> {
     })
 }
 
-/// What a command tells of each of its faults; none where there is no such command.
-pub(crate) fn messages(alloc: Global, command: &str) -> Option<String> {
+// The same of the commands that build or run a program.
+fn of_runs(alloc: Global, command: &str) -> Option<String> {
     match command {
-        "usage" => usage(alloc),
-        "part" => of_parts(alloc),
-        "check" => {
-            let first = CheckFault::Refused(refused_text(FaultCode::NoMemory));
-            told(
-                alloc,
-                first,
-                next_check_fault,
-                |fault| line_of(alloc, check_message(fault, FILE)),
-            )
-        }
-        "list" => {
-            let first = PrintFault::Refused(first_refusal());
-            told(
-                alloc,
-                first,
-                next_print_fault,
-                |fault| line_of(alloc, list_message(fault, FILE)),
-            )
-        }
-        "asm" => {
-            let first = AsmFault::Refused(refused_listing(ListCode::NoMemory));
-            told(
-                alloc,
-                first,
-                next_asm_fault,
-                |fault| line_of(alloc, asm_message(fault, FILE)),
-            )
-        }
         "build" => {
             let first = BuildFault::Refused(first_refusal());
             told(
@@ -155,5 +126,41 @@ pub(crate) fn messages(alloc: Global, command: &str) -> Option<String> {
             )
         }
         _ => None,
+    }
+}
+
+/// What a command tells of each of its faults; none where there is no such command.
+pub(crate) fn messages(alloc: Global, command: &str) -> Option<String> {
+    match command {
+        "usage" => usage(alloc),
+        "part" => of_parts(alloc),
+        "check" => {
+            let first = CheckFault::Refused(refused_text(FaultCode::NoMemory));
+            told(
+                alloc,
+                first,
+                next_check_fault,
+                |fault| line_of(alloc, check_message(fault, FILE)),
+            )
+        }
+        "list" => {
+            let first = PrintFault::Refused(first_refusal());
+            told(
+                alloc,
+                first,
+                next_print_fault,
+                |fault| line_of(alloc, list_message(fault, FILE)),
+            )
+        }
+        "asm" => {
+            let first = AsmFault::Refused(refused_listing(ListCode::NoMemory));
+            told(
+                alloc,
+                first,
+                next_asm_fault,
+                |fault| line_of(alloc, asm_message(fault, FILE)),
+            )
+        }
+        _ => of_runs(alloc, command),
     }
 }

@@ -199,11 +199,15 @@ fn request_behind<'a>(name: &str, behind: &ArgMatches<'a>) -> Request<'a> {
     }
 }
 
-// The words behind the program's name and a command.
-fn words_behind(words: &[String]) -> &[String] {
+// The words that are to be explained, as they stand, where no help is asked for. The two dashes that end options may stand in front.
+fn words_to_explain(words: &[String]) -> Option<&[String]> {
     match words {
-        [_, _, rest @ ..] => rest,
-        _ => &[],
+        [_, command, rest @ ..] if command.as_str() == "explain" => match rest {
+            [first, ..] if first.as_str() == "--help" || first.as_str() == "-h" => None,
+            [first, behind @ ..] if first.as_str() == "--" => Some(behind),
+            _ => Some(rest),
+        },
+        _ => None,
     }
 }
 
@@ -211,11 +215,11 @@ fn words_behind(words: &[String]) -> &[String] {
 ///
 /// Errors: a wrong command line, a request for help or the version, or want of memory.
 pub fn request_of<'a>(alloc: Global, words: &'a [String]) -> Result<Request<'a>, Error> {
+    if let Some(words) = words_to_explain(words) {
+        return Ok(Request::Explain { words });
+    }
     let matches = command_of(alloc, words.len() > 1)?.try_get_matches_from(words)?;
     match matches.subcommand() {
-        Some(("explain", _)) => Ok(Request::Explain {
-            words: words_behind(words),
-        }),
         Some((name, behind)) => Ok(request_behind(name, behind)),
         None => Ok(Request::Job),
     }

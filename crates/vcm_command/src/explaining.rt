@@ -27,10 +27,18 @@ fn titles(alloc: Global) -> Result<String, Message<'static>> {
     Ok(text)
 }
 
-// Prints a text on standard output.
-fn print_text<R: Print + AllocGlobal>(rt: &R, text: &str) -> Result<(), Message<'static>> {
+// Prints a text and what stands behind it on standard output, both or, where memory is refused, nothing.
+fn print_text<R: Print + AllocGlobal>(
+    rt: &R,
+    text: &str,
+    behind: &str,
+) -> Result<(), Message<'static>> {
     let mut out = output(rt)?;
-    let done = write_all(&mut out, text.as_bytes()).map_err(|_| Message::Write {
+    let done = match write_all(&mut out, text.as_bytes()) {
+        Ok(()) => write_all(&mut out, behind.as_bytes()),
+        Err(fault) => Err(fault),
+    };
+    let done = done.map_err(|_| Message::Write {
         name: "standard output",
     });
     written(&mut out, done)
@@ -50,7 +58,7 @@ fn explained<R: Print + Eprint + AllocGlobal>(
     words: &[String],
 ) -> Result<u8, Message<'static>> {
     if words.is_empty() {
-        print_text(rt, &titles(rt.alloc())?)?;
+        print_text(rt, &titles(rt.alloc())?, "")?;
         return Ok(0);
     }
     let Ok(words) = words.join(rt.alloc(), " ") else {
@@ -59,8 +67,7 @@ fn explained<R: Print + Eprint + AllocGlobal>(
     let Some(entry) = explanation(&words) else {
         return tell_unknown(rt, &words);
     };
-    print_text(rt, entry.text())?;
-    print_text(rt, "\n")?;
+    print_text(rt, entry.text(), "\n")?;
     Ok(0)
 }
 

@@ -94,8 +94,8 @@ Memory ran out while an image was loaded: `no memory`, status 5.",
         keys: &["I01", "BadMagic"],
         text: "I01 BadMagic
 An image begins with the four bytes `VCMI`, and this one doesn't.
-Do: `vcm run`, `debug` and `list` take a file without them for a program's text, so you
-meet this only from other tools. Build the image anew with `vcm build`.",
+Do: every command of vcm takes a file without them for a program's text, so you meet this
+only from other tools. Build the image anew with `vcm build`.",
     },
     Entry {
         keys: &["I02", "Short"],

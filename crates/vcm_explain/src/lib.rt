@@ -39,22 +39,53 @@ pub fn explanations() -> [&'static [Entry]; 16] {
     ]
 }
 
-// What stands behind the word STOP, with which the line of a stop begins.
-fn behind_stop(words: &[u8]) -> &[u8] {
-    match words {
-        [s, t, o, p, b' ', rest @ ..] if [*s, *t, *o, *p].eq_ignore_ascii_case(b"STOP") => rest,
-        _ => words,
+// The words from the first one on that is no blank.
+fn without_blanks(words: &[u8]) -> &[u8] {
+    match words.iter().position(|byte| !byte.is_ascii_whitespace()) {
+        Some(at) => &words[at..],
+        None => &[],
     }
 }
 
-/// The explanation of a code, a name or a whole message, whatever its case: the first one whose code, name or words stand at its beginning, behind
-/// which nothing stands, or a blank or a colon. The word STOP may stand before it.
-pub fn explanation(words: &str) -> Option<&'static Entry> {
-    let words = behind_stop(words.as_bytes());
+// The words behind the first one.
+fn behind_word(words: &[u8]) -> &[u8] {
+    match words.iter().position(|byte| byte.is_ascii_whitespace()) {
+        Some(at) => without_blanks(&words[at..]),
+        None => &[],
+    }
+}
+
+// What stands behind the word STOP, with which a line, or the end of a line, tells of a stop.
+fn behind_stop(words: &[u8]) -> &[u8] {
+    let mut rest = words;
+    for _ in 0..words.len() {
+        match rest {
+            [s, t, o, p, b' ', stop @ ..] if [*s, *t, *o, *p].eq_ignore_ascii_case(b"STOP") => {
+                return stop;
+            }
+            [] => return words,
+            _ => rest = behind_word(rest),
+        }
+    }
+    words
+}
+
+// The explanation of what words begin with.
+fn explained(words: &[u8]) -> Option<&'static Entry> {
     for entries in explanations() {
         if let Some(entry) = entries.iter().find(|entry| entry.explains(words)) {
             return Some(entry);
         }
     }
     None
+}
+
+/// The explanation of a code, a name or a whole message, whatever its case: the first one whose code, name or words stand at its beginning, behind
+/// which nothing stands, or a blank, a colon or a full stop. A line that tells of a stop is explained by its stop, also where other words stand in front of it.
+pub fn explanation(words: &str) -> Option<&'static Entry> {
+    let words = without_blanks(words.as_bytes());
+    match explained(words) {
+        Some(entry) => Some(entry),
+        None => explained(behind_stop(words)),
+    }
 }

@@ -173,8 +173,10 @@ gives: E13 DuplicateName line 4",
         keys: &["E14", "UnknownName"],
         text: "E14 UnknownName
 A variable, feature, frame, macro or label isn't there. All but labels have to stand
-above their use, in writing; a macro can't call itself. A jump label is looked for in
-the text outside macros, or in the body of the macro that the jump stands in.
+above their use: a macro above its CALL in writing, what a macro's body names above the
+CALL, since it is looked up where the body is put in. A macro can't call itself. A jump
+label is looked for in the text outside macros, or in the body of the macro that the jump
+stands in.
 Do: look at the spelling, then at the order of the lines. A variable needs a DECL, a
 feature a FEAT, a frame a TRANS or ROTATE.
 For example, from line 3 on:
@@ -291,8 +293,8 @@ again.",
 A statement, word or field of the standard that vcm knows and doesn't carry out: other
 units than MM and ANGDEC, other features than POINT, POL, a kind of variable beside
 INTGR, LONG, REAL, DOUBLE and BOOL, SNSET with another word than APPRCH, RETRCT, SEARCH,
-DEPTH, MEAS with another count than 1, TEXT to another place than OPER, OUTPUT of two
-things.
+DEPTH, MEAS with another count than 1, OBTAIN of another word than 3 to 8, TEXT to
+another place than OPER, OUTPUT of two things.
 Do: leave it out for the trial, or write it with what there is. The line told is the
 first one; run `vcm check` again for the next.
 For example, from line 3 on:

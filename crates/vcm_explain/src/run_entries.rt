@@ -95,8 +95,8 @@ gives: stop ZEROSTEP at 0 line 4",
         text: "UNDEFINED
 Something is read that isn't there yet: `F(P1)` where its FEAT wasn't carried out,
 `FA(P1)` where it wasn't measured, `D(D1)` where no TRANS or ROTATE of that name was
-carried out. They stand above in the text, and control didn't come by. Status 3.
-Do: look at the IFs and jumps around the declaration or measurement.
+carried out. Control didn't come by, or no MEAS of the text measures it. Status 3.
+Do: look for the measurement, and at the IFs and jumps around it or the declaration.
 For example, from line 3 on, beside part-a.toml of the examples:
   F(P1)=FEAT/POINT,CART,20,20,20,0,0,1
   OUTPUT/FA(P1)
@@ -142,12 +142,13 @@ gives: ok 1 statements",
     },
 ];
 
-const DEVICE: [Entry; 4] = [
+const DEVICE: [Entry; 5] = [
     Entry {
         keys: &["no memory"],
         text: "no memory
 Memory ran out. `no memory after N steps` is told in a run, `no memory` elsewhere.
-Status 5. Nothing is printed on standard output.",
+Status 5. Standard output stays empty, but for the lines of a trace and the replies of a
+session that were written before.",
     },
     Entry {
         keys: &["cannot read"],
@@ -168,6 +169,14 @@ lines or 1,048,576 bytes of commands. Status 6.
 Do: for a session, begin a new one; `run K` and breakpoints need fewer lines than single
 steps.",
     },
+    Entry {
+        keys: &["usage"],
+        text: "usage
+The command line has a form that vcm doesn't know, or asks for something that nothing is
+known of. Status 2.
+Do: `vcm help` lists the commands, `vcm help run` tells what one of them takes. The N of
+`--steps N` is decimal digits alone, a number from 0 to 1000000000.",
+    },
 ];
 
 // Explanations of an end, and of stops by motion.
@@ -185,7 +194,7 @@ pub(crate) fn notice_entries() -> &'static [Entry] {
     &NOTICE
 }
 
-// Explanations of memory and devices.
+// Explanations of memory, of devices and of the command line.
 pub(crate) fn device_entries() -> &'static [Entry] {
     &DEVICE
 }

@@ -1,5 +1,5 @@
 -- The steps of a bisection of half widths.
-use Rattle.std.proofs.Common.{◌≡◌, ℕ, ◌-◌, true, None, refl, arith}
+use Rattle.std.proofs.Common.{◌≡◌, ℕ, true, None, refl, arith}
 use Rattle.std.proofs.lemmas.Bool.{le-leb}
 use Rattle.vcm_spec.specs.Workpiece.{Workpiece, IsValid}
 use Rattle.vcm_code.specs.declared.code.Code.{Code}
@@ -16,4 +16,4 @@ own_goes : (part : Workpiece) (c : Code) (n : ℕ) → IsValid part → GoesWith
 own_goes part c n v = record { may = own_may part v; alike = λ k l. record { stop = refl; next = refl; feature = λ i e. refl } }
 
 pub begins_at : (part : Workpiece) (c : Code) (n : ℕ) → IsValid part → IsBetween part c n part.bounds.tip 50001 None
-begins_at part c n v = record { order = omega (arith, v.tip); most = omega arith; goes = own_goes part c n v; met = refl }
+begins_at part c n v = record { least = omega arith; order = omega (arith, v.tip); most = omega arith; goes = own_goes part c n v; met = refl }

@@ -1,3 +1,12 @@
 mod Bisected
 mod Together
 mod Looked
+mod Cubes
+mod Squeezed
+mod Sound
+mod Beside
+mod Between
+mod Controlled
+mod Going
+mod Widths
+pub mod OneMargin

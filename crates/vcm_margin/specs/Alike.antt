@@ -53,14 +53,15 @@ line_in None = 0
 abbrev pub next_place : Code → CodeState → Place
 next_place c m = record { number = m.next; line = line_in (slice_get c.statements m.next) }
 
--- behind the step from a state the two states that come of it differ: in their stops; or in the next statement; or in the feature that the step
--- measured. What is told is that of the second one
+-- behind the step from a state the two states that come of it differ, and this is told of the second one: its stop, where the stops differ; with equal
+-- stops the next statement, where these differ; and with both equal the feature that the step measured, where that differs
 abbrev pub Differ : Code → CodeState → CodeState → CodeState → Difference → Type 0
 Differ c before a b HomeNotClear = ⊥
 Differ c before a b (Stop s) = (a.world.stop ≢ b.world.stop) × (s ≡ b.world.stop)
-Differ c before a b (Next n) = (a.next ≢ b.next) × (n ≡ b.next)
+Differ c before a b (Next n) = (a.world.stop ≡ b.world.stop) × ((a.next ≢ b.next) × (n ≡ b.next))
 Differ c before a b (Measured i f place) =
-    (measures c before ≡ Some i) × ((place ≡ next_place c before) × ((actual_in a i ≢ actual_in b i) × (f ≡ actual_in b i)))
+    (a.world.stop ≡ b.world.stop) × ((a.next ≡ b.next) × ((measures c before ≡ Some i)
+    × ((place ≡ next_place c before) × ((actual_in a i ≢ actual_in b i) × (f ≡ actual_in b i)))))
 
 -- in so many steps they go alike up to one, behind which they differ so
 pub record DifferFirst (part other : Workpiece) (c : Code) (n : ℕ) (d : Difference) : Type 0 where

@@ -1,4 +1,5 @@
 pub mod Alike
 pub mod Margin
+pub mod Laws
 pub mod Printed
 pub mod inner

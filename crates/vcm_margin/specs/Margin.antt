@@ -1,5 +1,5 @@
 -- How much wider the tip may be: the greatest half width with which a run goes as it does with the workpiece's own tip.
-use Rattle.std.specs.Prelude.{◌≡◌, ℕ, ◌+◌, false, IsTrue, Option, Some, None}
+use Rattle.std.specs.Prelude.{◌≡◌, ℕ, ◌+◌, ◌≤◌, false, IsTrue, Option, Some, None}
 use Rattle.vcm_spec.specs.Workpiece.{Workpiece}
 use Rattle.vcm_code.specs.declared.code.Code.{Code}
 use Rattle.vcm_part.specs.Tip.{with_tip, is_tip}
@@ -18,12 +18,14 @@ abbrev pub IsMet : Workpiece → Code → ℕ → ℕ → Difference → Type 0
 IsMet part c n h HomeNotClear = is_tip part h ≡ false
 IsMet part c n h d = IsTrue (is_tip part h) × DifferFirst part (with_tip h part) c n d
 
--- what is met with a half width, if there is a wider tip than the one before it
+-- what is met with a half width: something up to 50,000, which is the widest, and nothing with one more
 abbrev pub MetBy : Workpiece → Code → ℕ → ℕ → Option Difference → Type 0
 MetBy part c n h None = h ≡ 50001
-MetBy part c n h (Some d) = IsMet part c n h d
+MetBy part c n h (Some d) = (h ≤ 50000) × IsMet part c n h d
 
--- how wide the tip may be: with this half width the run goes as it does, and with one micrometre more it doesn't, if there is so wide a tip
+-- how wide the tip may be: a half width, not below the own one, with which the run goes as it does, while with one micrometre more it doesn't, if there
+-- is so wide a tip. Where the run comes to the program's end, it is the greatest one (Laws.antt)
 pub record IsMargin (part : Workpiece) (c : Code) (n : ℕ) (m : Margin) : Type 0 where
+  pub least : part.bounds.tip ≤ m.tip
   pub goes : GoesWith part c n m.tip
   pub met : MetBy part c n (m.tip + 1) m.met

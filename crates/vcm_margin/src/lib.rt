@@ -3,6 +3,7 @@
 
 mod comparing;
 mod difference;
+pub mod laws;
 mod printing;
 mod same;
 mod widening;

@@ -64,9 +64,10 @@ fn margin_beside<P: Part>(
     Ok(Margin { tip, met: found })
 }
 
-/// How wide the tip may be for a loaded code that runs for so many steps beside a workpiece: the half width that was found between the own one and 50,000
-/// micrometres with which the run goes as with the own one, while with one micrometre more it doesn't; and what it meets then. Two runs go alike
-/// where after each step both have the same stop and the same next statement, and the same measured point behind a PTMEAS.
+/// How wide the tip may be for a loaded code that runs for so many steps beside a workpiece: a half width from the own one to 50,000 micrometres with which
+/// the run goes as with the own one, while with one micrometre more it doesn't; and what it meets then. Of a run that comes to the program's end it is the
+/// greatest (`margins_are_greatest`). Two runs go alike where after each step both have the same stop and the same next statement, and the same measured
+/// point behind a PTMEAS.
 ///
 /// Errors: want of memory.
 pub fn margin(

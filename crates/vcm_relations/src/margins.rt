@@ -9,7 +9,7 @@ use vcm_margin::{Margin, margin};
 use vcm_num::NoMemory;
 use vcm_part::PartData;
 
-/// A width with which a run goes as it does; a greater one might do too.
+/// The greatest width with which a run that comes to its end goes as it does; of other runs a greater one might do too.
 pub fn called_margin(
     alloc: Global,
     loaded: &Loaded<'_>,

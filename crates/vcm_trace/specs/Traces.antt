@@ -1,44 +1,23 @@
 -- The trace of a run of a loaded code.
-use Rattle.std.specs.Prelude.{◌≡◌, ℕ, zero, suc, ◌<◌, ◌≤◌, ◌==◌, List, [], ◌++◌, length, slice_get, Option, Some, None, if◌then◌else◌}
+use Rattle.std.specs.Prelude.{◌≡◌, ℕ, zero, suc, ◌<◌, ◌≤◌, ◌==◌, List, [], ◌++◌, length, flat_map, slice_get, Option, Some, None, if◌then◌else◌}
 use Rattle.std.specs.Io.KnownBytes.{Appends, Keeps}
 use Rattle.vcm_num.specs.Written.{AppendsFront}
 use Rattle.vcm_spec.specs.declared.stop.StopPlace.{StopPlace}
 use Rattle.vcm_spec.specs.Workpiece.{Workpiece}
-use Rattle.vcm_spec.specs.Setup.{Setup, setup_of}
+use Rattle.vcm_spec.specs.Setup.{Tables}
 use Rattle.vcm_code.specs.declared.code.Code.{Code}
-use Rattle.vcm_code.specs.CodeTable.{CodeState, code_steps, code_effective, start}
+use Rattle.vcm_code.specs.CodeTable.{CodeState}
 use Rattle.vcm_code.specs.Code.{Statement}
 use Rattle.vcm_machine.specs.declared.ran.End.TheVariants.{NoMemory}
 use Rattle.vcm_machine.specs.Running.{started, later, RunEnded}
+use Rattle.vcm_steps.specs.Passages.{Passage, state_after, steps_taken, passages}
 use Rattle.vcm_trace.specs.declared.tracing.TraceFault.{TraceFault}
 use Rattle.vcm_trace.specs.declared.tracing.TraceFault.TheVariants as faults
 use Rattle.vcm_trace.specs.Lines.{heading, step_line, open_line}
 
--- what a code is carried out on
-abbrev pub setup_with : Workpiece → Code → Setup
-setup_with part c = setup_of part c.tables
-
--- the state of a code after so many steps from its start
-abbrev pub state_after : Workpiece → Code → ℕ → CodeState
-state_after part c n = code_steps (setup_with part c) c.statements n (start (setup_with part c))
-
--- how many of so many steps are taken before it has stopped
-abbrev pub steps_taken : Workpiece → Code → ℕ → ℕ
-steps_taken part c n = code_effective (setup_with part c) c.statements n (start (setup_with part c))
-
--- the line of a step at this statement, with which so many steps were taken, and behind which the state is this one
-abbrev pub line_at : Code → (count number : ℕ) → CodeState → Option Statement → List ℕ
-line_at c count number after None = []
-line_at c count number after (Some s) = step_line c.tables count number s after.world after.next
-
--- the line of a step from a state to the next one, with which so many steps were taken
-abbrev pub trace_line : Code → ℕ → CodeState → CodeState → List ℕ
-trace_line c count before after = line_at c count before.next after (slice_get c.statements before.next)
-
--- the lines of the first so many steps
-abbrev pub step_lines : Workpiece → Code → ℕ → List ℕ
-step_lines part c zero = []
-step_lines part c (suc k) = step_lines part c k ++ trace_line c (suc k) (state_after part c k) (state_after part c (suc k))
+-- the line of a step
+abbrev pub trace_line : Tables → Passage → List ℕ
+trace_line tables p = step_line tables p.count p.number p.statement p.after p.next
 
 -- the line of a state in which it has not stopped, after so many steps, before this statement
 abbrev pub open_at : ℕ → CodeState → Option Statement → List ℕ
@@ -52,13 +31,12 @@ last_line c count m None = open_at count m (slice_get c.statements m.next)
 
 -- the header, and the lines of the first so many steps
 abbrev pub trace_front : Workpiece → Code → ℕ → List ℕ
-trace_front part c k = heading ++ step_lines part c k
+trace_front part c k = heading ++ flat_map (trace_line c.tables) (passages part c k)
 
 -- the trace of a run for at most n steps: the header, the line of each step that is taken, and one more where it has not stopped
 abbrev pub trace_text : Workpiece → Code → ℕ → List ℕ
 trace_text part c n =
-    trace_front part c (steps_taken part c n)
-    ++ last_line c (steps_taken part c n) (state_after part c n) (state_after part c n).world.stop
+    trace_front part c n ++ last_line c (steps_taken part c n) (state_after part c n) (state_after part c n).world.stop
 
 -- a run for at most n steps was traced to its end, which is this stop, if it came to one
 pub record IsTraced (part : Workpiece) (c : Code) (n : ℕ) (stop : Option StopPlace) (old new : Option (List ℕ)) : Type 0 where

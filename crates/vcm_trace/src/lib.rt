@@ -2,6 +2,7 @@
 #![tactic(auto)]
 
 mod fields;
+mod line_writer;
 mod lines;
 mod told;
 mod tracing;

@@ -1,20 +1,20 @@
 //! Runs that are written step by step.
 
-ghost use Rattle.std.specs.Prelude.{◌≡◌, ◌<◌, ◌+◌, ◌^◌, slice_get, IfOk, IfErr};
+ghost use Rattle.std.specs.Prelude.{◌≡◌, slice_get, IfOk, IfErr};
 ghost use Rattle.vcm_machine.specs.Running.{started};
-ghost use Rattle.vcm_trace.specs.Lines.{step_line};
 ghost use Rattle.vcm_trace.specs.Traces.{open_at, IsTraced, IsNotTraced};
-ghost use Rattle.vcm_trace.specs.inner.Going.{WroteBehind, HasGone, HasEnded};
+ghost use Rattle.vcm_trace.specs.inner.Going.{WroteBehind};
 
-use crate::lines::{write_open, write_step};
+use crate::line_writer::LineWriter;
+use crate::lines::write_open;
 use std::alloc::Global;
 use std::io::Write;
-use vcm_fields::BorrowedStatement;
 use vcm_loader::Loaded;
-use vcm_machine::Machine;
+use vcm_machine::{End, Machine};
 use vcm_motion::Part;
 use vcm_num::write_all;
 use vcm_spec::StopPlace;
+use vcm_steps::follow_run;
 
 /// Why a run isn't traced to its end.
 #[derive(Clone, Copy, PartialEq, Eq)]
@@ -26,44 +26,6 @@ pub enum TraceFault {
     /// The writer failed, or took no byte, after so many steps: in the line of the last of them, in the one behind it where there are no more
     /// steps, or in the header. It has taken all before that line, and a front of the trace that is not all.
     Write { done: u64 },
-}
-
-// Writes the line of a step at this statement, with which so many steps were taken.
-fn write_line<P: Part, W: Write>(
-    count: u64,
-    number: u32,
-    statement: &BorrowedStatement<'_>,
-    machine: &Machine<'_, P>,
-    writer: &mut W,
-) -> Result<(), TraceFault>
-    ensures { WroteBehind count (W.contents writer.old) (W.contents writer.new)
-        (step_line machine.now.code.tables count number statement.now machine.now.state.world machine.now.state.next) result }
-{
-    let world = machine.world();
-    match write_step(count, number, statement, world, machine.next(), writer) {
-        Ok(()) => Ok(()),
-        Err(_) => Err(TraceFault::Write { done: count }),
-    }
-}
-
-// One step behind so many others, and its line.
-fn step_on<P: Part, W: Write>(
-    alloc: Global,
-    loaded: &Loaded<'_>,
-    machine: &mut Machine<'_, P>,
-    done: u64,
-    writer: &mut W,
-) -> Result<(), TraceFault>
-    requires code { machine.old.code ≡ loaded.now }
-    requires few { done + 1 < 2 ^ 64 }
-    ensures { HasGone loaded.now done machine.old machine.new (W.contents writer.old) (W.contents writer.new) result }
-{
-    let number = machine.next();
-    let statement = loaded.statement(number as usize);
-    match machine.step(alloc) {
-        Ok(()) => write_line(done + 1, number, &statement, machine, writer),
-        Err(_) => Err(TraceFault::Memory { done }),
-    }
 }
 
 // Writes the line of a machine that has not stopped, behind so many steps.
@@ -85,25 +47,6 @@ fn write_rest<P: Part, W: Write>(
     }
 }
 
-// The end of a trace behind so many steps: the stop, or one more line where there is none.
-fn finish<P: Part, W: Write>(
-    loaded: &Loaded<'_>,
-    machine: &Machine<'_, P>,
-    done: u64,
-    writer: &mut W,
-) -> Result<Option<StopPlace>, TraceFault>
-    requires { machine.now.code ≡ loaded.now }
-    ensures { HasEnded loaded.now done machine.now (W.contents writer.old) (W.contents writer.new) result }
-{
-    match machine.world().stop() {
-        Some(place) => Ok(Some(place)),
-        None => match write_rest(loaded, machine, done, writer) {
-            Ok(()) => Ok(None),
-            Err(fault) => Err(fault),
-        },
-    }
-}
-
 // Writes the trace of a machine that stands at the start.
 fn write_trace<P: Part, W: Write>(
     alloc: Global,
@@ -119,17 +62,17 @@ fn write_trace<P: Part, W: Write>(
     let Ok(()) = write_all(writer, b"step,statement,line,word,x,y,z,done\n") else {
         return Err(TraceFault::Write { done: 0 });
     };
-    let mut done = 0;
-    while done < steps {
-        match machine.world().stop() {
-            Some(place) => return Ok(Some(place)),
-            None => match step_on(alloc, loaded, machine, done, writer) {
-                Ok(()) => done += 1,
-                Err(fault) => return Err(fault),
+    match follow_run(alloc, loaded, machine, steps, &LineWriter, writer) {
+        Ok(ran) => match ran.end {
+            End::Count => match write_rest(loaded, machine, ran.done, writer) {
+                Ok(()) => Ok(None),
+                Err(fault) => Err(fault),
             },
-        }
+            End::Stopped => Ok(machine.world().stop()),
+            End::NoMemory => Err(TraceFault::Memory { done: ran.done }),
+        },
+        Err(fault) => Err(fault),
     }
-    finish(loaded, machine, done, writer)
 }
 
 /// Runs a loaded code for at most so many steps beside a workpiece, and writes its trace as the steps are taken: a header, a line for each

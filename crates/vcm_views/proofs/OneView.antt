@@ -1,17 +1,27 @@
--- Two traces or two pictures of one input are one; two margins tell the same.
-use Rattle.std.proofs.Common.{◌≡◌, ◌≢◌, ℕ, ◌<◌, Bool, true, false, List, [], length, Option, Some, None, Result, Ok, Err, refl, sym, ap, ◌∙◌, subst}
+-- Two views of one input are one.
+use Rattle.std.proofs.Common.{◌≡◌, ◌≢◌, ℕ, ◌<◌, Bool, true, false, List, [], length, Option, Some, None, Result, Ok, Err, refl, sym, ap, ◌∙◌, subst, arith}
 use Rattle.std.specs.Io.KnownBytes.{Keeps}
-use Rattle.vcm_spec.specs.Workpiece.{Workpiece}
+use Rattle.std.specs.Prelude.{nat_eq}
+use Rattle.std.proofs.lemmas.Bool.{eqb-true}
+use Rattle.vcm_spec.specs.declared.stop.Stop.{Stop}
+use Rattle.vcm_spec.specs.declared.stop.Stop.TheVariants.{Ended}
+use Rattle.vcm_spec.specs.declared.stop.StopPlace.{StopPlace}
+use Rattle.vcm_spec.specs.Workpiece.{Workpiece, IsValid}
 use Rattle.vcm_spec.specs.Setup.{Tables}
 use Rattle.vcm_spec.specs.World.{World}
 use Rattle.vcm_program.specs.declared.accepted.Noticed.{Noticed}
 use Rattle.vcm_code.specs.declared.code.Code.{Code}
+use Rattle.vcm_code.specs.Valid as codes
 use Rattle.vcm_image.proofs.ImageLaws.{one_image}
 use Rattle.vcm_machine.specs.declared.ran.End.TheVariants.{NoMemory}
 use Rattle.vcm_machine.specs.declared.ran.Ran.{Ran}
-use Rattle.vcm_machine.specs.Running.{started}
+use Rattle.vcm_machine.specs.Running.{Running, started}
 use Rattle.vcm_machine.proofs.LawLemmas.{one_run}
 use Rattle.vcm_state.specs.Held.{Held}
+use Rattle.vcm_margin.specs.Alike.{reached}
+use Rattle.vcm_margin.specs.Laws.{NoneOrEnd, ComesThrough}
+use Rattle.vcm_margin.specs.Printed.{margin_text}
+use Rattle.vcm_margin.proofs.OneMargin.{one_margin}
 use Rattle.vcm_way.specs.Following.{way_after}
 use Rattle.vcm_run.proofs.OneRun.{one_build}
 use Rattle.vcm_job.specs.declared.running.Done.{Done}
@@ -24,13 +34,14 @@ use Rattle.vcm_job.specs.Inputs.{is_image}
 use Rattle.vcm_job.specs.Causes.{Cause, too_long, run_cause}
 use Rattle.vcm_job.specs.Answers.{status_and_notices, run_told}
 use Rattle.vcm_job.proofs.Answering.{Refuses, Tells as AnswerTells, one_answer, telling, not_long, long_told, told_long, told_other}
+use Rattle.vcm_job.specs.Laws.{WroteTheSame}
 use Rattle.vcm_job.proofs.Told.{never_text, never_bad_image, RefusedAs, InputRefused, one_input}
 use Rattle.vcm_job.proofs.RunAnswers.{run_unread, input_told}
 use Rattle.vcm_views.specs.declared.view.View.{View}
 use Rattle.vcm_views.specs.declared.view.View.TheVariants as views
-use Rattle.vcm_views.specs.Views.{Tells, HasRunTo, picture_of}
+use Rattle.vcm_views.specs.Views.{Tells, TellsMargin, HasRunTo, picture_of}
 use Rattle.vcm_views.specs.Inputs.{IsImageOf, CodeAs, IsCodeOf, IsShown, IsNoView}
-use Rattle.vcm_views.specs.Laws.{IsViewAnswer, ViewsAreOne, MarginsTellTheSame}
+use Rattle.vcm_views.specs.Laws.{IsViewAnswer, ViewsAreOne, MarginsAreOne}
 
 abbrev held : Tables → World → Held
 held tables state = record { tables = tables; state = state }
@@ -47,11 +58,45 @@ one_run_to part c n h k x y a b p q =
     let one : held h.tables h.state ≡ held k.tables k.state = ap (λ x. held x h.state) tables ∙ ap (held k.tables) state in
     (one, same.1)
 
-one_told : (view : View) (part : Workpiece) (c : Code) (n : ℕ) (text other : List ℕ) (status more : ℕ) → view ≢ views.Margin → Tells view part c n text status → Tells view part c n other more
-    → (text ≡ other) × (status ≡ more)
-one_told views.Trace part c n text other status more m h k = (h.text_is ∙ sym k.text_is, h.status_is ∙ sym k.status_is)
-one_told views.Margin part c n text other status more m h k = absurd (m refl)
-one_told (views.Picture is_close) part c n text other status more m h k =
+-- a run that ends with status 0 came to the program's end
+ended : (o : Option StopPlace) → status_of o ≡ 0 → NoneOrEnd o
+ended None e = tt
+ended (Some p) e = by p.stop e
+  where
+    by : (s : Stop) → (elim s as (λ x. ℕ) [ Ended ↦ 0 | _ ↦ 3 ]) ≡ 0 → s ≡ Ended
+    by Ended f = refl
+    by _ f = absurd (omega (arith, f))
+
+came_through : (part : Workpiece) (c : Code) (n : ℕ) (h : Held) (x : Ran) → HasRunTo part c n h x → status_of h.state.stop ≡ 0 → ComesThrough part c x.done
+came_through part c n h x r e =
+    let state : h.state ≡ (reached part c x.done).world = r.state ∙ ap (λ (m : Running). m.state.world) r.run.new_is in
+    subst (λ (w : World). NoneOrEnd w.stop) state (ended h.state.stop e)
+
+-- the text of a margin, or of a result in its place
+one_text : (part : Workpiece) → IsValid part → (c : Code) → codes.IsValid c → (done : ℕ) (h : Held) (is_end : Bool) → (is_end ≡ true → ComesThrough part c done) → (text other : List ℕ)
+    → TellsMargin is_end part c h done text → TellsMargin is_end part c h done other → text ≡ other
+one_text part valid c ok done h true comes text other x y =
+    x.1.1 ∙ ap (margin_text h.tables) (one_margin part valid c ok done (comes refl) x.0 y.0 x.1.0 y.1.0) ∙ sym y.1.1
+one_text part valid c ok done h false comes text other x y = x ∙ sym y
+
+module _ (part : Workpiece) (valid : IsValid part) (c : Code) (ok : codes.IsValid c) (n : ℕ) (text other : List ℕ) (status more : ℕ) where
+  one_margin_told : Tells views.Margin part c n text status → Tells views.Margin part c n other more → (text ≡ other) × (status ≡ more)
+  one_margin_told h k =
+      let same = one_run_to part c n h.held k.held h.ran k.ran h.run k.run h.ample k.ample in
+      let given : status ≡ more = h.status_is ∙ ap (λ (x : Held). status_of x.state.stop) same.0 ∙ sym k.status_is in
+      let told : TellsMargin (nat_eq status 0) part c h.held h.ran.done other =
+      subst (λ (x : Held). TellsMargin (nat_eq status 0) part c x h.ran.done other) (sym same.0)
+      (subst (λ (r : Ran). TellsMargin (nat_eq status 0) part c k.held r.done other) (sym same.1)
+      (subst (λ s. TellsMargin (nat_eq s 0) part c k.held k.ran.done other) (sym given) k.told)) in
+      let comes : nat_eq status 0 ≡ true → ComesThrough part c h.ran.done =
+      λ e. came_through part c n h.held h.ran h.run (sym h.status_is ∙ eqb-true status 0 e) in
+      (one_text part valid c ok h.ran.done h.held (nat_eq status 0) comes text other h.told told, given)
+
+one_told : (view : View) (part : Workpiece) (c : Code) (n : ℕ) (text other : List ℕ) (status more : ℕ) → (view ≡ views.Margin → IsValid part) → codes.IsValid c
+    → Tells view part c n text status → Tells view part c n other more → (text ≡ other) × (status ≡ more)
+one_told views.Trace part c n text other status more v ok h k = (h.text_is ∙ sym k.text_is, h.status_is ∙ sym k.status_is)
+one_told views.Margin part c n text other status more v ok h k = one_margin_told part (v refl) c ok n text other status more h k
+one_told (views.Picture is_close) part c n text other status more v ok h k =
     let same = one_run_to part c n h.held k.held h.ran k.ran h.run k.run h.ample k.ample in
     let drawn : picture_of part h.held h.ran.done (way_after part c h.ran.done) is_close ≡ picture_of part k.held k.ran.done (way_after part c k.ran.done) is_close =
     ap (λ x. picture_of part x h.ran.done (way_after part c h.ran.done) is_close) same.0 ∙ ap (λ (r : Ran). picture_of part k.held r.done (way_after part c r.done) is_close) same.1 in
@@ -67,6 +112,10 @@ one_code_as true input c d a b h k = (one_code_of input c d h.0 k.0, h.1 ∙ sym
 one_code_as false input c d a b h k =
     let same = one_build input h.0 k.0 a b h.1.0 k.1.0 in
     (one_code_of k.0 c d (subst (λ (l : List ℕ). IsImageOf l c) same.0 h.1.1) k.1.1, same.1)
+
+valid_code : (image : Bool) (input : List ℕ) (c : Code) (a : List Noticed) → CodeAs image input c a → codes.IsValid c
+valid_code true input c a h = h.0.valid
+valid_code false input c a h = h.1.1.valid
 
 never_code_as : (image : Bool) (input : List ℕ) (code : Code) (a : List Noticed) (c : Cause) → CodeAs image input code a → RefusedAs image input c → ⊥
 never_code_as true input code a c h k = never_bad_image input code c h.0.valid h.0.fits h.0.spelled k
@@ -98,14 +147,14 @@ view_refused view part n input f rest old new h l c e = by f h e (long_told inpu
     by (runs.Write done) h e only = absurd cc
     by runs.TooLong h e only = (told_long (InputRefused input) (most_bytes < length input) c h.0 only, h.1)
 
-module _ (view : View) (other_view : view ≢ views.Margin) (part : Workpiece) (n : ℕ) (input : List ℕ) where
+module _ (view : View) (part : Workpiece) (fair : view ≡ views.Margin → IsValid part) (n : ℕ) (input : List ℕ) where
   abbrev ViewTells : Result (ℕ × List Noticed) Cause → Option (List ℕ) → Option (List ℕ) → Type 0
   ViewTells x old new = AnswerTells (ViewGives view part n input) (InputRefused input) (most_bytes < length input) x old new
 
   one_given : (a b : ℕ × List Noticed) (xs ys : List ℕ) → ViewGives view part n input a xs → ViewGives view part n input b ys → (a ≡ b) × (xs ≡ ys)
   one_given a b xs ys h k =
       let same = one_code_as (is_image input) input h.code k.code a.1 b.1 h.is_code k.is_code in
-      let told = one_told view part k.code n xs ys a.0 b.0 other_view (subst (λ (c : Code). Tells view part c n xs a.0) same.0 h.tells) k.tells in
+      let told = one_told view part k.code n xs ys a.0 b.0 fair (valid_code (is_image input) input k.code b.1 k.is_code) (subst (λ (c : Code). Tells view part c n xs a.0) same.0 h.tells) k.tells in
       let given : pair a.0 a.1 ≡ pair b.0 b.1 = ap (λ x. pair x a.1) told.1 ∙ ap (pair b.0) same.1 in
       (given, told.0)
 
@@ -122,49 +171,16 @@ module _ (view : View) (other_view : view ≢ views.Margin) (part : Workpiece) (
   view_tells (Ok d) rest old new x h e = telling status_and_notices run_cause (λ z. ViewTells z old new) (Ok d) x (view_gives d old new h.done h.long) tt e
   view_tells (Err f) rest old new x h e = telling status_and_notices run_cause (λ z. ViewTells z old new) (Err f) x tt (view_refused view part n input f rest old new h.fault h.long) e
 
+  one_answer_told : (r s : Result Done RunFault) (rest left old new other now : Option (List ℕ)) (x y : Result (ℕ × List Noticed) Cause) → IsViewAnswer view part n input r rest old new
+      → IsViewAnswer view part n input s left other now → run_told r ≡ Some x → run_told s ≡ Some y → (x ≡ y) × WroteTheSame old new other now
+  one_answer_told r s rest left old new other now x y h k p q =
+      one_answer (ViewGives view part n input) (InputRefused input) (most_bytes < length input) one_given (one_input input) never_given x y
+      old new other now (view_tells r rest old new x h p) (view_tells s left other now y k q)
+
 pub one_view : ViewsAreOne
 one_view view part n input r s rest left old new other now x y m h k p q =
-    one_answer (ViewGives view part n input) (InputRefused input) (most_bytes < length input) (one_given view m part n input) (one_input input) (never_given view m part n input) x y
-    old new other now (view_tells view m part n input r rest old new x h p) (view_tells view m part n input s left other now y k q)
+    one_answer_told view part (λ e. absurd (m e)) n input r s rest left old new other now x y h k p q
 
--- ---- margins of an input
-
--- what a margin gives, whatever it writes
-abbrev MarginGives : Workpiece → ℕ → List ℕ → ℕ × List Noticed → List ℕ → Type 0
-MarginGives part n input b bytes = (text : List ℕ) × (ViewGives views.Margin part n input b text × (bytes ≡ []))
-
--- the run of a margin has one exit status
-one_status : (part : Workpiece) (c : Code) (n : ℕ) (text other : List ℕ) (status more : ℕ) → Tells views.Margin part c n text status → Tells views.Margin part c n other more → status ≡ more
-one_status part c n text other status more h k =
-    let same = one_run_to part c n h.held k.held h.ran k.ran h.run k.run h.ample k.ample in
-    h.status_is ∙ ap (λ (x : Held). status_of x.state.stop) same.0 ∙ sym k.status_is
-
-module _ (part : Workpiece) (n : ℕ) (input : List ℕ) where
-  abbrev MarginTells : Result (ℕ × List Noticed) Cause → Type 0
-  MarginTells x = AnswerTells (MarginGives part n input) (InputRefused input) (most_bytes < length input) x None None
-
-  one_margin_given : (a b : ℕ × List Noticed) (xs ys : List ℕ) → MarginGives part n input a xs → MarginGives part n input b ys → (a ≡ b) × (xs ≡ ys)
-  one_margin_given a b xs ys (text, (h, none)) (other, (k, neither)) =
-      let same = one_code_as (is_image input) input h.code k.code a.1 b.1 h.is_code k.is_code in
-      let status = one_status part k.code n text other a.0 b.0 (subst (λ (c : Code). Tells views.Margin part c n text a.0) same.0 h.tells) k.tells in
-      let given : pair a.0 a.1 ≡ pair b.0 b.1 = ap (λ x. pair x a.1) status ∙ ap (pair b.0) same.1 in
-      (given, none ∙ sym neither)
-
-  never_margin_given : (b : ℕ × List Noticed) (xs : List ℕ) (c : Cause) → MarginGives part n input b xs → InputRefused input c → ⊥
-  never_margin_given b xs c h k = never_code_as (is_image input) input h.1.0.code b.1 c h.1.0.is_code k
-
-  margin_gives : (d : Done) (old new : Option (List ℕ)) → IsShown views.Margin part input n d.status d.notices.items old new
-      → AnswersUnread {F = RunFault} input_not_read (Some input) (Ok d) → MarginTells (Ok (status_and_notices d))
-  margin_gives d old new h l =
-      (not_long input_not_read input d l, ([], ((h.viewed.text, (record { code = h.code; is_code = h.is_code; tells = h.viewed.tells }, refl)), tt)))
-
-  margin_tells : (r : Result Done RunFault) (rest old new : Option (List ℕ)) (x : Result (ℕ × List Noticed) Cause) → IsViewAnswer views.Margin part n input r rest old new
-      → run_told r ≡ Some x → MarginTells x
-  margin_tells (Ok d) rest old new x h e = telling status_and_notices run_cause MarginTells (Ok d) x (margin_gives d old new h.done h.long) tt e
-  margin_tells (Err f) rest old new x h e =
-      telling status_and_notices run_cause MarginTells (Err f) x tt (λ c e. ((view_refused views.Margin part n input f rest old new h.fault h.long c e).0, tt)) e
-
-pub one_margin_told : MarginsTellTheSame
-one_margin_told part n input r s rest left old new other now x y h k p q =
-    (one_answer (MarginGives part n input) (InputRefused input) (most_bytes < length input) (one_margin_given part n input) (one_input input) (never_margin_given part n input) x y None
-    None None None (margin_tells part n input r rest old new x h p) (margin_tells part n input s left other now y k q)).0
+pub margins_one : MarginsAreOne
+margins_one part n input r s rest left old new other now x y valid h k p q =
+    one_answer_told views.Margin part (λ e. valid) n input r s rest left old new other now x y h k p q

@@ -6,7 +6,8 @@ use Rattle.vcm_spec.specs.Workpiece.{Workpiece}
 use Rattle.vcm_code.specs.declared.code.Code.{Code}
 use Rattle.vcm_job.specs.Jobs.{status_of}
 use Rattle.vcm_job.specs.declared.inputs.RunFault.TheVariants as faults
-use Rattle.vcm_trace.specs.Traces.{trace_text, state_after, IsTraced, IsHalted, IsCutOff as IsTraceCutOff}
+use Rattle.vcm_steps.specs.Passages.{state_after}
+use Rattle.vcm_trace.specs.Traces.{trace_text, IsTraced, IsHalted, IsCutOff as IsTraceCutOff}
 use Rattle.vcm_views.specs.declared.view.View.TheVariants as views
 use Rattle.vcm_views.specs.Views.{IsViewed, IsCutShort}
 

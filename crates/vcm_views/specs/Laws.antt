@@ -1,6 +1,6 @@
 -- Statements about views of one input. Each is a clause of a law in src/laws.rt.
 use Rattle.std.specs.Prelude.{◌≡◌, ◌≢◌, ℕ, List, Option, Some, Result, IfOk, IfErr}
-use Rattle.vcm_spec.specs.Workpiece.{Workpiece}
+use Rattle.vcm_spec.specs.Workpiece.{Workpiece, IsValid}
 use Rattle.vcm_program.specs.declared.accepted.Noticed.{Noticed}
 use Rattle.vcm_job.specs.declared.running.Done.{Done}
 use Rattle.vcm_job.specs.declared.inputs.RunFault.{RunFault}
@@ -28,9 +28,9 @@ ViewsAreOne =
     (x y : Result (ℕ × List Noticed) Cause) → view ≢ views.Margin → IsViewAnswer view part n input r rest old new
     → IsViewAnswer view part n input s left other now → run_told r ≡ Some x → run_told s ≡ Some y → (x ≡ y) × WroteTheSame old new other now
 
--- of two margins both tell the same. What they wrote isn't said to be the same: a greater width might do too
-abbrev pub MarginsTellTheSame : Type 0
-MarginsTellTheSame =
+-- so it is of two margins, beside a valid workpiece
+abbrev pub MarginsAreOne : Type 0
+MarginsAreOne =
     (part : Workpiece) (n : ℕ) (input : List ℕ) (r s : Result Done RunFault) (rest left old new other now : Option (List ℕ))
-    (x y : Result (ℕ × List Noticed) Cause) → IsViewAnswer views.Margin part n input r rest old new
-    → IsViewAnswer views.Margin part n input s left other now → run_told r ≡ Some x → run_told s ≡ Some y → x ≡ y
+    (x y : Result (ℕ × List Noticed) Cause) → IsValid part → IsViewAnswer views.Margin part n input r rest old new
+    → IsViewAnswer views.Margin part n input s left other now → run_told r ≡ Some x → run_told s ≡ Some y → (x ≡ y) × WroteTheSame old new other now

@@ -12,7 +12,8 @@ use Rattle.vcm_run.specs.Printed.{result_text}
 use Rattle.vcm_job.specs.Jobs.{status_of}
 use Rattle.vcm_job.specs.declared.inputs.RunFault.{RunFault}
 use Rattle.vcm_job.specs.declared.inputs.RunFault.TheVariants as faults
-use Rattle.vcm_trace.specs.Traces.{state_after, trace_front, trace_text}
+use Rattle.vcm_steps.specs.Passages.{state_after}
+use Rattle.vcm_trace.specs.Traces.{trace_front, trace_text}
 use Rattle.vcm_margin.specs.declared.difference.Margin.{Margin}
 use Rattle.vcm_margin.specs.Margin.{IsMargin}
 use Rattle.vcm_margin.specs.Printed.{margin_text}

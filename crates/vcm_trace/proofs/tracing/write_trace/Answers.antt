@@ -1,33 +1,34 @@
-use Rattle.std.proofs.Common.{sym, ap, ◌∙◌, ◌≤◌, arith}
-use Rattle.vcm_trace.proofs.TraceLemmas.{goes_on, has_stopped, not_gone, not_begun, traced_end, fault_end}
+use Rattle.std.proofs.Common.{ap, ◌∙◌}
+use Rattle.vcm_trace.proofs.TraceLemmas.{not_begun, broken_off, halted, has_stopped, is_open, cut_last}
 use Rattle.vcm_trace.proofs.tracing.write_trace.Goals as goal
 
 pub returns-in_default-clause-fault : goal.returns-in_default-clause-fault
 returns-in_default-clause-fault g c = not_begun c.args.machine.now.part c.args.loaded.now c.args.steps _ _ c.in_default.ensures
 
-pub returns-in-Some-clause-traced : goal.returns-in-Some-clause-traced
-returns-in-Some-clause-traced g c =
-    let stop = sym (c.in-Some.ensures ∙ ap (λ s. s.stop) c.world.ensures.state) in
-    has_stopped c.args.machine.now.part c.args.loaded.now c.args.steps c.loop-done.machine c.loop-done.done _ _ c.in-Some.place c.loop-done.invariant stop
+pub returns-in-Ok-write_rest-clause-traced : goal.returns-in-Ok-write_rest-clause-traced
+returns-in-Ok-write_rest-clause-traced g c =
+    let r = c.in-Ok-follow_run.ran in
+    is_open c.args.machine.now.part c.args.loaded.now c.args.steps c.args.machine.now c.follow_run.new.machine r c.requires c.in-Ok-follow_run.ensures.run _ _ _
+    c.in-Ok.ensures c.in-Ok-follow_run.ensures.has c.in-Count.is _ c.in-Ok-write_rest.ensures
 
-pub loop-done-preserved : goal.loop-done-preserved
-loop-done-preserved g c =
-    let none = sym (c.in-None.ensures ∙ ap (λ s. s.stop) c.world.ensures.state) in
-    goes_on c.args.machine.now.part c.args.loaded.now c.args.steps c.loop-done.machine c.step_on.new.machine c.loop-done.done _ _ _ c.loop-done.invariant
-    c.loop-done-test.true none c.in-Ok-step_on.ensures.0 c.in-Ok-step_on.ensures.1
+pub returns-in-Err-write_rest-clause-fault : goal.returns-in-Err-write_rest-clause-fault
+returns-in-Err-write_rest-clause-fault g c =
+    let r = c.in-Ok-follow_run.ran in
+    cut_last c.args.machine.now.part c.args.loaded.now c.args.steps c.args.machine.now c.follow_run.new.machine r c.requires c.in-Ok-follow_run.ensures.run _ _ _
+    c.in-Ok.ensures c.in-Ok-follow_run.ensures.has c.in-Count.is _ c.in-Err-write_rest.fault c.in-Err-write_rest.ensures
+
+pub returns-in-Stopped-clause-traced : goal.returns-in-Stopped-clause-traced
+returns-in-Stopped-clause-traced g c =
+    let r = c.in-Ok-follow_run.ran in
+    has_stopped c.args.machine.now.part c.args.loaded.now c.args.steps c.args.machine.now c.follow_run.new.machine r c.requires c.in-Ok-follow_run.ensures.run _ _ _
+    c.in-Ok.ensures c.in-Ok-follow_run.ensures.has c.stop.result c.in-Stopped.is (c.stop.ensures ∙ ap (λ s. s.stop) c.world.ensures.state)
+
+pub returns-in-NoMemory-clause-fault : goal.returns-in-NoMemory-clause-fault
+returns-in-NoMemory-clause-fault g c =
+    let r = c.in-Ok-follow_run.ran in
+    halted c.args.machine.now.part c.args.loaded.now c.args.steps c.args.machine.now c.follow_run.new.machine r c.requires c.in-Ok-follow_run.ensures.run _ _ _
+    c.in-Ok.ensures c.in-Ok-follow_run.ensures.has c.in-NoMemory.is
 
 pub returns-in-Err-clause-fault : goal.returns-in-Err-clause-fault
 returns-in-Err-clause-fault g c =
-    let none = sym (c.in-None.ensures ∙ ap (λ s. s.stop) c.world.ensures.state) in
-    not_gone c.args.machine.now.part c.args.loaded.now c.args.steps c.loop-done.machine c.step_on.new.machine c.loop-done.done _ _ _ c.in-Err.fault c.loop-done.invariant
-    c.loop-done-test.true none c.in-Err.ensures
-
-pub returns-clause-traced : goal.returns-clause-traced
-returns-clause-traced g c =
-    let over : c.args.steps ≤ c.loop-done.done = omega (arith, c.loop-done-test.false) in
-    traced_end c.args.machine.now.part c.args.loaded.now c.args.steps c.loop-done.machine c.loop-done.done _ _ _ c.loop-done.invariant over c.finish.result c.finish.ensures
-
-pub returns-clause-fault : goal.returns-clause-fault
-returns-clause-fault g c =
-    let over : c.args.steps ≤ c.loop-done.done = omega (arith, c.loop-done-test.false) in
-    fault_end c.args.machine.now.part c.args.loaded.now c.args.steps c.loop-done.machine c.loop-done.done _ _ _ c.loop-done.invariant over c.finish.result c.finish.ensures
+    broken_off c.args.machine.now.part c.args.loaded.now c.args.steps _ _ _ c.in-Err.fault c.in-Ok.ensures c.in-Err.ensures.err
