@@ -8,7 +8,7 @@ use crate::op::{OwnedOp, OwnedStatement};
 
 /// The version of a code, which its image and its listing tell: the second one has SELECT, CASE, ENDCAS, DFTCAS and ENDSEL, the first one has all
 /// else.
-#[derive(Clone, Copy, PartialEq, Eq)]
+#[derive(Clone, Copy)]
 pub enum Version {
     One,
     Two,

@@ -15,7 +15,7 @@ use vcm_num::Literal;
 use vcm_spec::BinaryOp;
 
 /// What may stand before an expression.
-#[derive(Clone, Copy, PartialEq, Eq)]
+#[derive(Clone, Copy)]
 pub enum Prefix {
     Minus,
     Plus,

@@ -26,7 +26,7 @@ use vcm_num::Kind;
 use vcm_spec::{BinaryOp, Item, Operand, UnaryOp};
 
 /// What the place of an expression takes.
-#[derive(Clone, Copy, PartialEq, Eq)]
+#[derive(Clone, Copy)]
 pub enum Want {
     /// A whole number.
     Int,

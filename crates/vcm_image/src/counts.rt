@@ -3,7 +3,7 @@
 use vcm_code::Version;
 
 /// The version of an image, and how many variables, features, frames and statements it has.
-#[derive(Clone, Copy, PartialEq, Eq)]
+#[derive(Clone, Copy)]
 pub struct Counts {
     pub version: Version,
     pub variables: u16,

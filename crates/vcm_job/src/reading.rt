@@ -10,7 +10,7 @@ use std::io::Read;
 const LIMIT: usize = 33_554_432;
 
 /// Why an input wasn't read whole.
-#[derive(Clone, Copy, PartialEq, Eq)]
+#[derive(Clone, Copy)]
 pub enum ReadFault {
     /// A growth of memory was refused.
     NoMemory,

@@ -1,6 +1,6 @@
 -- What statements keep of a state: its frames are turns, and it has as many features. None stops as at the end of the program.
-use Rattle.std.proofs.Common.{◌≡◌, ◌⊎◌, ℕ, zero, suc, ℤ, Bool, true, false, ◌&&◌, Option, Some, None, List, [], ◌∷◌, Result, Ok, Err, refl, sym, ap, ◌∙◌, inl, inr, subst}
-use Rattle.std.specs.Prelude.{IsTrue, length, ◌++◌, nat_lt, unsigned_abs, slice_get, slice_set, option_and_then}
+use Rattle.std.proofs.Common.{◌≡◌, ℕ, zero, suc, ℤ, Bool, true, false, ◌&&◌, Option, Some, None, List, [], ◌∷◌, Result, Ok, Err, refl, ◌∙◌}
+use Rattle.std.specs.Prelude.{IsTrue, length, ◌++◌, nat_lt, unsigned_abs, slice_get, option_and_then}
 use Rattle.std.proofs.lemmas.List.{length-set}
 use Rattle.vcm_num.specs.declared.axis.Axis.{Axis}
 use Rattle.vcm_num.specs.declared.number.Fault.{Fault}
@@ -29,6 +29,7 @@ use Rattle.vcm_spec.specs.declared.simple.Simple.TheVariants.{Goto, GoHome, Assi
 use Rattle.vcm_spec.specs.Effect.{effect, carried_out, value_in, go, with_frame, with_line, measured_direction, machine_point, feature_in, at_index, is_allowed, with_setting}
 use Rattle.vcm_spec.specs.Laws.{FramesAreTurns}
 use Rattle.vcm_spec.proofs.Turns.{quarters_turn}
+use Rattle.vcm_spec.proofs.FramesStay.{same_frames, with_frame_keeps as frame_keeps}
 
 -- a state of so many features, whose frames are turns
 pub record IsSound (n : ℕ) (w : World) : Type 0 where
@@ -135,44 +136,10 @@ gives t = record { fine = t }
 
 -- a state with the frames and the number of features of one that is sound
 same : {n : ℕ} {w w' : World} → w'.frame ≡ w.frame → w'.saved ≡ w.saved → length w'.actual ≡ length w.actual → IsSound n w → IsSound n w'
-same e f l t = record {
-  turns = record {
-    current = subst (λ g. IsTrue (is_turn g.turn)) (sym e) t.turns.current;
-    saved = λ i g at. t.turns.saved i g (ap (λ s. slice_get s i) (sym f) ∙ at);
-  };
-  features = l ∙ t.features;
-}
-
--- the elements of a list with one changed are that one and those before
-set_is : {A : Type 0} (xs : List A) (i k : ℕ) (y z : A) → slice_get (slice_set xs i y) k ≡ Some z → (y ≡ z) ⊎ (slice_get xs k ≡ Some z)
-set_is [] i k y z e = inr e
-set_is {A = A} (x ∷ xs) zero zero y z e = inl (ap (λ o. unwrap o) e)
-  where
-    unwrap : Option A → A
-    unwrap (Some a) = a
-    unwrap None = y
-set_is (x ∷ xs) zero (suc k) y z e = inr e
-set_is (x ∷ xs) (suc i) zero y z e = inr e
-set_is (x ∷ xs) (suc i) (suc k) y z e = set_is xs i k y z e
-
-some_is : {A : Type 0} {x y : A} → Some x ≡ Some y → x ≡ y
-some_is {A = A} {x = x} e = ap (λ o. inside o) e
-  where
-    inside : Option A → A
-    inside (Some a) = a
-    inside None = x
+same e f l t = record { turns = same_frames e f t.turns; features = l ∙ t.features }
 
 with_frame_keeps : (n : ℕ) (w : World) (i : ℕ) (f : Frame) → IsTrue (is_turn f.turn) → IsSound n w → IsSound n (with_frame w i f)
-with_frame_keeps n w i f ok t = record {
-  turns = record {
-    current = ok;
-    saved = λ k g at. elim (set_is w.saved i k (Some f) (Some g) at) [
-      | inl is ↦ subst (λ h. IsTrue (is_turn h.turn)) (some_is is) ok
-      | inr was ↦ t.turns.saved k g was
-    ];
-  };
-  features = t.features;
-}
+with_frame_keeps n w i f ok t = record { turns = frame_keeps w i f ok t.turns; features = t.features }
 
 pub variable_sound : (n : ℕ) (w : World) (v : ℕ) (x : ℤ) → IsSound n w → IsSound n (with_variable w v x)
 unfolding with_variable

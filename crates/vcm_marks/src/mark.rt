@@ -4,7 +4,7 @@
 use vcm_num::Point;
 
 /// How the probe goes a piece.
-#[derive(Clone, Copy, PartialEq, Eq)]
+#[derive(Clone, Copy)]
 pub enum Going {
     /// GOTO or GOHOME.
     Move,
@@ -19,7 +19,7 @@ pub enum Going {
 }
 
 /// A straight piece of the way, and where it was to end.
-#[derive(Clone, Copy, PartialEq, Eq)]
+#[derive(Clone, Copy)]
 pub struct Piece {
     pub going: Going,
     pub from: Point,
@@ -28,14 +28,14 @@ pub struct Piece {
 }
 
 /// A point that was touched, on the middle of the tip's face, and the index of its feature.
-#[derive(Clone, Copy, PartialEq, Eq)]
+#[derive(Clone, Copy)]
 pub struct Touched {
     pub at: Point,
     pub feature: u16,
 }
 
 /// Where the centre of the tip stands as the tip meets a block on a straight way, with the block's number, the first being 1.
-#[derive(Clone, Copy, PartialEq, Eq)]
+#[derive(Clone, Copy)]
 pub struct Contact {
     pub at: Point,
     pub block: u32,
@@ -44,7 +44,7 @@ pub struct Contact {
 }
 
 /// A mark of the way.
-#[derive(Clone, Copy, PartialEq, Eq)]
+#[derive(Clone, Copy)]
 pub enum Mark {
     Goes(Piece),
     Touches(Touched),
@@ -52,7 +52,7 @@ pub enum Mark {
 }
 
 /// A mark with its step, counted from 1, and the number and the source line of its statement.
-#[derive(Clone, Copy, PartialEq, Eq)]
+#[derive(Clone, Copy)]
 pub struct Placed {
     pub mark: Mark,
     pub step: u64,

@@ -31,7 +31,7 @@ use vcm_svg::{
 };
 
 /// Why a picture isn't written.
-#[derive(Clone, Copy, PartialEq, Eq)]
+#[derive(Clone, Copy)]
 pub enum PictureFault {
     /// A growth of memory was refused; nothing was written.
     NoMemory,

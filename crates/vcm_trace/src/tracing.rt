@@ -17,7 +17,7 @@ use vcm_spec::StopPlace;
 use vcm_steps::follow_run;
 
 /// Why a run isn't traced to its end.
-#[derive(Clone, Copy, PartialEq, Eq)]
+#[derive(Clone, Copy)]
 pub enum TraceFault {
     /// A growth of memory was refused before the run. Nothing is written.
     NoMemory,

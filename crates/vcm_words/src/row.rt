@@ -20,7 +20,7 @@ pub enum Row<E, T, B> {
 }
 
 /// The word that a line begins with, where it is no statement.
-#[derive(Clone, Copy, PartialEq, Eq)]
+#[derive(Clone, Copy)]
 pub enum Heading {
     /// `VCM-LISTING`.
     Head,
