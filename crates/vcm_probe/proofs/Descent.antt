@@ -28,6 +28,7 @@ use Rattle.vcm_motion.specs.Faces.{IsFace, IsFirstFace}
 use Rattle.vcm_motion.proofs.Inside.{one_of, some_of}
 use Rattle.vcm_motion.proofs.Ahead.{in_same}
 use Rattle.vcm_probe.specs.Places.{fitting_point}
+use Rattle.vcm_probe.specs.Aims.{AreAimed}
 use Rattle.vcm_probe.specs.inner.Retreats.{retreat}
 use Rattle.vcm_probe.proofs.Fitted.{there, not_there}
 use Rattle.vcm_probe.proofs.WayBack.{face_at}
@@ -97,13 +98,6 @@ unmet b why f e = ap (λ t. demand t why >>= f) e
 same_contact : (part : Workpiece) (x y : ℕ → ℤ) → contact part x (coordinate (point_of y)) ≡ contact part x y
 unfolding contact
 same_contact part x y = refl
-
--- the approach point and the end of the search, as the code has them
-pub record AreAimed (s : Settings) (centre : ℕ → ℤ) (d : Axis) (approach end : Point) : Type 0 where
-  pub up : fits_place (approach_of s centre d) ≡ true
-  pub down : fits_place (end_of s centre d) ≡ true
-  pub approach_is : approach ≡ point_of (approach_of s centre d)
-  pub end_is : end ≡ point_of (end_of s centre d)
 
 -- some steps and then more are all of them
 more_steps : (x u : ℤ) (m n : ℕ) → x +ℤ (pos (m + n) *ℤ u) ≡ (x +ℤ (pos m *ℤ u)) +ℤ (pos n *ℤ u)

@@ -7,7 +7,8 @@ ghost use Rattle.vcm_spec.specs.FirstTouch.{free_move, touch};
 ghost use Rattle.vcm_spec.specs.Outcome.{Answers};
 
 use crate::ProbeStop;
-use crate::reach::{moved, reached};
+use crate::aiming::aims_of;
+use crate::reach::moved;
 use crate::retreat::retreat;
 use crate::settings::Settings;
 use vcm_motion::{Part, contact_of};
@@ -54,19 +55,16 @@ pub fn touch<P: Part>(
     let back = toward.opposite();
     let bounds = part.bounds();
     let length = settings.descent();
-    let Some(approach) = reached(nominal, toward, bounds.tip + settings.approach()) else {
+    let Some(aims) = aims_of(part, nominal, toward, settings) else {
         return Err(ProbeStop::Overflow);
     };
-    let Some(end) = reached(approach, back, length) else {
-        return Err(ProbeStop::Overflow);
-    };
-    approach_freely(part, from, approach)?;
-    if !is_within(&bounds, end) {
+    approach_freely(part, from, aims.approach)?;
+    if !is_within(&bounds, aims.end) {
         return Err(ProbeStop::Travel(MovePhase::Search));
     }
-    let Some(face) = part.first_face(approach, back, length) else {
+    let Some(face) = part.first_face(aims.approach, back, length) else {
         return Err(ProbeStop::Missed);
     };
-    let centre = moved(approach, back, face.distance);
+    let centre = moved(aims.approach, back, face.distance);
     retreat(part, centre, toward, settings.retract())
 }

@@ -1,6 +1,6 @@
 -- The steps of a run, one after another.
 use Rattle.std.specs.Prelude.{◌<◌}
-use Rattle.std.proofs.Common.{◌≡◌, ℕ, zero, suc, ◌+◌, ◌-◌, ◌≤◌, List, [], ◌∷◌, ◌++◌, slice_get, Option, Some, None, sym, ap, ◌∙◌, subst, arith, append_assoc}
+use Rattle.std.proofs.Common.{◌≡◌, ℕ, zero, suc, ◌+◌, ◌-◌, ◌≤◌, List, [], ◌∷◌, ◌++◌, slice_get, Option, Some, None, refl, sym, ap, ◌∙◌, subst, arith, append_assoc}
 use Rattle.std.proofs.lemmas.List.{append-nil}
 use Rattle.vcm_spec.specs.declared.stop.StopPlace.{StopPlace}
 use Rattle.vcm_spec.specs.Workpiece.{Workpiece}
@@ -63,7 +63,8 @@ module _ (done : ℕ) (old new : Running) (c : Code) (number : ℕ) (s : Stateme
       → Rests old.part old.state.world → before ≡ old.state.world → after ≡ new.state.world → known before → WasNext fits known s after
   was_next fits known before after fit none rests b a h = record {
     before = before;
-    is_next = record { machine = old; fit = fit; stands = stands; running = none; rests = rests; world_is = sym b };
+    tables = old.code.tables;
+    is_next = record { machine = old; fit = fit; stands = stands; running = none; rests = rests; world_is = sym b; tables_are = refl };
     known_before = h;
     after_is = ap (λ m. m.state.world) (sym new_is) ∙ sym a;
   }

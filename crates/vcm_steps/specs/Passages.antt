@@ -1,7 +1,7 @@
 -- The steps of a run of a loaded code, one by one.
 use Rattle.std.specs.Prelude.{◌≡◌, ℕ, zero, suc, ◌≤◌, List, [], ◌∷◌, ◌++◌, slice_get, Option, Some, None}
 use Rattle.vcm_spec.specs.Workpiece.{Workpiece}
-use Rattle.vcm_spec.specs.Setup.{Setup, setup_of}
+use Rattle.vcm_spec.specs.Setup.{Setup, Tables, setup_of}
 use Rattle.vcm_spec.specs.World.{World}
 use Rattle.vcm_spec.specs.Rests.{Rests}
 use Rattle.vcm_machine.specs.Running.{Running, later}
@@ -51,19 +51,21 @@ abbrev pub passages : Workpiece → Code → ℕ → List Passage
 passages part c zero = []
 passages part c (suc k) = passages part c k ++ passage_from part c (suc k) (state_after part c k)
 
--- the statement comes next in this state, for a machine that has not stopped beside a workpiece and over a code that fit
-pub record IsNext (fits : Workpiece → Code → Type 0) (w : World) (s : Statement) : Type 0 where
+-- the statement comes next in this state and by these tables, for a machine that has not stopped beside a workpiece and over a code that fit
+pub record IsNext (fits : Workpiece → Code → Type 0) (tables : Tables) (w : World) (s : Statement) : Type 0 where
   pub machine : Running
   pub fit : fits machine.part machine.code
   pub stands : slice_get machine.code.statements machine.state.next ≡ Some s
   pub running : machine.state.world.stop ≡ None
   pub rests : Rests machine.part machine.state.world
   pub world_is : machine.state.world ≡ w
+  pub tables_are : machine.code.tables ≡ tables
 
 -- the statement came next in a state of which this is known, and this is the state behind it
 pub record WasNext (fits : Workpiece → Code → Type 0) (known : World → Type 0) (s : Statement) (after : World) : Type 0 where
   pub before : World
-  pub is_next : IsNext fits before s
+  pub tables : Tables
+  pub is_next : IsNext fits tables before s
   pub known_before : known before
   pub after_is : (later 1 is_next.machine).state.world ≡ after
 

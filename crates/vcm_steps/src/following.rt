@@ -39,7 +39,7 @@ pub trait Follows<To> {
 
     /// What it keeps of the state before a statement.
     fn look(&self, world: &World, statement: &BorrowedStatement<'_>) -> Self::Before
-        requires { IsNext (Fits self.now) world.now.state statement.now }
+        requires { IsNext (Fits self.now) world.now.tables world.now.state statement.now }
         ensures { Looked self.now result world.now.state statement.now };
 
     /// Puts what it makes of a step: with it so many were taken, the statement has this number, and the state and the number of the next

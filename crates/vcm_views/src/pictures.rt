@@ -15,9 +15,6 @@ use vcm_picture::{PictureFault, write_picture};
 use vcm_state::World;
 use vcm_way::{Way, follow};
 
-/// The most steps whose pieces are counted; no command line asks for as many.
-const MOST_STEPS: u64 = 1_000_000_000_000_000_000;
-
 // Writes the picture of a run that came to a state behind so many steps, and gives the exit status.
 fn draw<W: Write>(
     alloc: Global,
@@ -49,8 +46,7 @@ fn draw<W: Write>(
     }
 }
 
-/// Writes the picture of a loaded code in a run for at most so many steps, and gives the exit status. Where more steps are asked for than are counted, it
-/// answers want of memory.
+/// Writes the picture of a loaded code in a run for at most so many steps, and gives the exit status.
 pub(crate) fn show_picture<W: Write>(
     alloc: Global,
     loaded: &Loaded<'_>,
@@ -62,9 +58,6 @@ pub(crate) fn show_picture<W: Write>(
     ensures shown { IfOk result (λ status. IsViewed (Picture is_close) part.now loaded.now steps status (W.contents writer.old) (W.contents writer.new)) }
     ensures fault { IfErr result (λ f. IsCutShort (Picture is_close) part.now loaded.now steps f (W.contents writer.old) (W.contents writer.new)) }
 {
-    if steps > MOST_STEPS {
-        return Err(RunFault::NoMemory);
-    }
     let Ok(workpiece) = AnyPart::of(alloc, part) else {
         return Err(RunFault::NoMemory);
     };

@@ -16,13 +16,15 @@ use Rattle.vcm_spec.specs.FirstTouch.{first_inside, touch}
 use Rattle.vcm_spec.specs.Outcome.{point_of}
 use Rattle.vcm_motion.specs.declared.face.Face.{Face}
 use Rattle.vcm_motion.specs.Faces.{IsFace, IsFirstFace}
-use Rattle.vcm_probe.proofs.Descent.{AreAimed, face_is_first, none_is_first, end_back, touch_is_near}
+use Rattle.vcm_probe.specs.Aims.{AreAimed}
+use Rattle.vcm_probe.proofs.Descent.{face_is_first, none_is_first, end_back, touch_is_near}
 use Rattle.vcm_probe.proofs.WayBack.{face_at}
 use Rattle.vcm_probe.proofs.Nearness.{within_is_near}
 use Rattle.vcm_marks.specs.declared.mark.Mark.{Mark}
 use Rattle.vcm_marks.specs.declared.mark.Going.TheVariants as going
 use Rattle.vcm_way.specs.Marks.{goes, touches, Touching, touching, touched_then, marks_of_touch}
-use Rattle.vcm_way.specs.inner.Endings.{EndsAs, HasTouched, IsNearAtHit, behind, distance_of}
+use Rattle.vcm_way.specs.Steps.{EndsAs}
+use Rattle.vcm_way.specs.inner.Endings.{HasTouched, IsNearAtHit, behind, distance_of}
 use Rattle.vcm_way.proofs.Ends.{HasAimed, HasReturned, approach_within, end_within, back_within}
 
 -- the retract point is near where the way to it meets a block

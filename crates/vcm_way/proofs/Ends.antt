@@ -13,7 +13,8 @@ use Rattle.vcm_spec.specs.FirstContact.{contact, later_contact}
 use Rattle.vcm_spec.specs.Touch.{centre_of, approach_of, end_of, down_of, back_of, touched_of}
 use Rattle.vcm_spec.specs.FirstTouch.{free_of, free_move, first_inside, touch}
 use Rattle.vcm_spec.specs.Outcome.{Outcome, Gives, ◌>>=◌, demand, found, fits_place, point_of}
-use Rattle.vcm_way.specs.inner.Endings.{EndsAs, HasTouched}
+use Rattle.vcm_way.specs.Steps.{EndsAs}
+use Rattle.vcm_way.specs.inner.Endings.{HasTouched}
 
 -- ---- a straight move
 

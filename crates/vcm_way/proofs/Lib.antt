@@ -4,3 +4,7 @@ pub mod Sent
 pub mod Descents
 pub mod Stepped
 pub mod OneWay
+pub mod Went
+pub mod Depth
+pub mod Hanging
+pub mod Clearing

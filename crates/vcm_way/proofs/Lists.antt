@@ -1,13 +1,10 @@
 -- Lists of marks and their last pieces.
-use Rattle.std.proofs.Common.{◌≡◌, ℕ, suc, ◌+◌, ◌-◌, ◌≤◌, ◌<◌, Bool, true, false, List, [], ◌∷◌, ◌++◌, length, Result, Ok, Err, refl, sym, ap, ◌∙◌, subst, arith}
-use Rattle.std.specs.Prelude.{nat_le, OnOk, if◌then◌else◌}
-use Rattle.vcm_marks.specs.declared.mark.Mark.{Mark}
+use Rattle.std.proofs.Common.{◌≡◌, ℕ, suc, ◌+◌, ◌-◌, ◌≤◌, ◌<◌, Bool, true, false, List, [], ◌∷◌, ◌++◌, length, refl, sym, ap, ◌∙◌, arith}
+use Rattle.std.specs.Prelude.{nat_le, if◌then◌else◌}
 use Rattle.vcm_marks.specs.declared.mark.Placed.{Placed}
-use Rattle.vcm_way.specs.declared.marks.Marks.{Marks}
-use Rattle.vcm_way.specs.declared.place.Place.{Place}
 use Rattle.vcm_marks.specs.Pieces.{is_piece, counted, pieces}
-use Rattle.vcm_way.specs.Ways.{placed, last_pieces, most_pieces, Kept, kept_of}
-use Rattle.vcm_way.specs.inner.Added.{IsCounted, IsAdded, StandsFor}
+use Rattle.vcm_way.specs.Ways.{last_pieces, most_pieces, Kept, kept_of}
+use Rattle.vcm_way.specs.inner.Added.{kept, more, shortened, StandsFor}
 
 append-nil : (xs : List Placed) → xs ++ [] ≡ xs
 append-nil [] = refl
@@ -65,52 +62,52 @@ last_append most (x ∷ xs) ys = by (nat_le (pieces (x ∷ xs)) most) refl (last
         let more : most < pieces (x ∷ (xs ++ ys)) = (let p = pieces_append (x ∷ xs) ys in omega (arith, p, many)) in
         ap (λ (zs : List Placed). last_pieces most (zs ++ ys)) (many_last most x xs many) ∙ h ∙ sym (many_last most x (xs ++ ys) more)
 
--- ---- a list that stands for a way
+plus_counted : (t : Bool) (a : ℕ) → counted t a ≡ a + counted t 0
+plus_counted true a = omega arith
+plus_counted false a = omega arith
 
-abbrev kept : List Placed → ℕ → Kept
-kept ms n = record { marks = ms; left_out = n }
+-- ---- what is kept stands for a way
 
-module _ (old new : Marks) (whole : List Placed) (stands : StandsFor old whole) where
+-- what is left out of a list
+last_le : (most : ℕ) (ms : List Placed) → pieces (last_pieces most ms) ≤ pieces ms
+last_le most [] = omega arith
+last_le most (m ∷ ms) = by (nat_le (pieces (m ∷ ms)) most) (last_le most ms)
+  where
+    by : (t : Bool) → pieces (last_pieces most ms) ≤ pieces ms → pieces (if t then m ∷ ms else last_pieces most ms) ≤ pieces (m ∷ ms)
+    by true l = omega arith
+    by false l = let c = counted_plus (is_piece m.mark) 0 (pieces ms) in let e = plus_counted (is_piece m.mark) (pieces ms) in omega (arith, l, c, e)
+
+pub stands_for_none : StandsFor (kept [] 0) []
+stands_for_none = record { total = refl; last = λ ms. refl }
+
+module _ (k : Kept) (whole : List Placed) (stands : StandsFor k whole) where
   -- more marks come behind it
-  pub stands_more : (at : Place) (ms : List Mark) → IsAdded at ms old new → StandsFor new (whole ++ placed at.step at.number at.line ms)
-  stands_more at ms added = record {
-    counted = added.counted;
-    total = (
-        let c = added.counted in
-        let l = added.left_out in
-        let o = stands.counted in
-        let t = stands.total in
-        let p = ap pieces added.list ∙ pieces_append old.list.items (placed at.step at.number at.line ms) in
-        let q = pieces_append whole (placed at.step at.number at.line ms) in
-        omega (arith, c, l, o, t, p, q));
+  pub stands_more : (ms : List Placed) → StandsFor (more k ms) (whole ++ ms)
+  stands_more ms = record {
+    total = (let t = stands.total in let p = pieces_append k.marks ms in let q = pieces_append whole ms in omega (arith, t, p, q));
     last = λ zs.
-        ap (λ (xs : List Placed). last_pieces most_pieces (xs ++ zs)) added.list
-        ∙ ap (last_pieces most_pieces) (append-append old.list.items (placed at.step at.number at.line ms) zs)
-        ∙ stands.last (placed at.step at.number at.line ms ++ zs)
-        ∙ sym (ap (last_pieces most_pieces) (append-append whole (placed at.step at.number at.line ms) zs));
+        ap (last_pieces most_pieces) (append-append k.marks ms zs)
+        ∙ stands.last (ms ++ zs)
+        ∙ sym (ap (last_pieces most_pieces) (append-append whole ms zs));
   }
 
   -- its first marks are left out
-  pub stands_last : new.list.items ≡ last_pieces most_pieces old.list.items → IsCounted new → new.left_out + new.pieces ≡ old.left_out + old.pieces → StandsFor new whole
-  stands_last e c t = record {
-    counted = c;
-    total = t ∙ stands.total;
-    last = λ zs.
-        ap (λ (xs : List Placed). last_pieces most_pieces (xs ++ zs)) e
-        ∙ last_append most_pieces old.list.items zs
-        ∙ stands.last zs;
+  pub stands_shortened : StandsFor (shortened k) whole
+  stands_shortened = record {
+    total = (let t = stands.total in let l = last_le most_pieces k.marks in omega (arith, t, l));
+    last = λ zs. last_append most_pieces k.marks zs ∙ stands.last zs;
   }
 
   -- what is kept of the way in the end
-  pub kept_is : new.list.items ≡ last_pieces most_pieces old.list.items → StandsFor new whole → record { marks = new.list.items; left_out = new.left_out } ≡ kept_of whole
-  kept_is e s =
-      let list : new.list.items ≡ last_pieces most_pieces whole =
-      e ∙ ap (last_pieces most_pieces) (sym (append-nil old.list.items)) ∙ stands.last [] ∙ ap (last_pieces most_pieces) (append-nil whole) in
-      let left : new.left_out ≡ pieces whole - pieces (last_pieces most_pieces whole) =
-      (let c = s.counted ∙ ap pieces list in let t = s.total in omega (arith, c, t)) in
-      ap (λ (ms : List Placed). kept ms new.left_out) list ∙ ap (kept (last_pieces most_pieces whole)) left
+  pub kept_is : shortened k ≡ kept_of whole
+  kept_is =
+      let list : last_pieces most_pieces k.marks ≡ last_pieces most_pieces whole =
+      ap (last_pieces most_pieces) (sym (append-nil k.marks)) ∙ stands.last [] ∙ ap (last_pieces most_pieces) (append-nil whole) in
+      let left : k.left_out + (pieces k.marks - pieces (last_pieces most_pieces k.marks)) ≡ pieces whole - pieces (last_pieces most_pieces whole) =
+      (let c = ap pieces list in let t = stands.total in let l = last_le most_pieces k.marks in omega (arith, c, t, l)) in
+      ap (λ (n : ℕ). kept (last_pieces most_pieces k.marks) n) left ∙ ap (λ (ms : List Placed). kept ms (pieces whole - pieces (last_pieces most_pieces whole))) list
 
--- ---- marks are added
+-- ---- pieces are counted
 
 pub pieces_le : (ms : List Placed) → pieces ms ≤ length ms
 pieces_le [] = omega arith
@@ -128,51 +125,9 @@ pub no_more : (t : Bool) (n : ℕ) → t ≡ false → n ≡ counted t n
 no_more true n e = cc
 no_more false n e = refl
 
-plus_counted : (t : Bool) (a : ℕ) → counted t a ≡ a + counted t 0
-plus_counted true a = omega arith
-plus_counted false a = omega arith
-
-pub added_one : (at : Place) (mark : Mark) (old new : Marks) → IsCounted old → new.list.items ≡ old.list.items ++ placed at.step at.number at.line (mark ∷ [])
-    → new.pieces ≡ counted (is_piece mark) old.pieces → new.left_out ≡ old.left_out → IsAdded at (mark ∷ []) old new
-added_one at mark old new c e p l = record {
-  list = e;
-  counted =
-      p ∙ plus_counted (is_piece mark) old.pieces ∙ ap (λ (n : ℕ). n + counted (is_piece mark) 0) c
-      ∙ sym (ap pieces e ∙ pieces_append old.list.items (placed at.step at.number at.line (mark ∷ [])));
-  left_out = l;
-}
-
--- the marks that are left are still to be added
-pub record IsAdding (at : Place) (old now : Marks) (left all : List Mark) : Type 0 where
-  pub list : now.list.items ++ placed at.step at.number at.line left ≡ old.list.items ++ placed at.step at.number at.line all
-  pub counted : IsCounted now
-  pub left_out : now.left_out ≡ old.left_out
-
-placed_append : (step number line : ℕ) (xs ys : List Mark) → placed step number line (xs ++ ys) ≡ placed step number line xs ++ placed step number line ys
-placed_append step number line [] ys = refl
-placed_append step number line (x ∷ xs) ys =
-    ap (λ (ps : List Placed). record { mark = x; step = step; number = number; line = line } ∷ ps) (placed_append step number line xs ys)
-
--- some marks and then more
-pub added_then : (at : Place) (xs ys : List Mark) (old now new : Marks) → IsAdded at xs old now → IsAdded at ys now new → IsAdded at (xs ++ ys) old new
-added_then at xs ys old now new a b = record {
-  list =
-      b.list ∙ ap (λ (ps : List Placed). ps ++ placed at.step at.number at.line ys) a.list
-      ∙ append-append old.list.items (placed at.step at.number at.line xs) (placed at.step at.number at.line ys)
-      ∙ ap (λ (ps : List Placed). old.list.items ++ ps) (sym (placed_append at.step at.number at.line xs ys));
-  counted = b.counted;
-  left_out = b.left_out ∙ a.left_out;
-}
-
 -- ---- the search for the last pieces
 
 pub record IsSought (most count left : ℕ) (rest all : List Placed) : Type 0 where
   pub counted : left ≡ pieces rest
   pub last : last_pieces most rest ≡ last_pieces most all
   pub fewer : left ≤ count
-
--- some marks, and then more where a call succeeds
-pub on_ok_then : {A B : Type 0} (r : Result A B) (at : Place) (xs ys zs : List Mark) (old now new : Marks) → IsAdded at xs old now → OnOk r (IsAdded at ys now new) → xs ++ ys ≡ zs
-    → OnOk r (IsAdded at zs old new)
-on_ok_then (Ok x) at xs ys zs old now new a b e = subst (λ (ms : List Mark). IsAdded at ms old new) e (added_then at xs ys old now new a b)
-on_ok_then (Err x) at xs ys zs old now new a b e = b

@@ -25,7 +25,7 @@ use Rattle.vcm_way.specs.declared.task.Task.{Task}
 use Rattle.vcm_way.specs.declared.task.Task.TheVariants.{Nowhere, Straight, Measure}
 use Rattle.vcm_way.specs.Tasks.{sent, or_nowhere, task_of}
 use Rattle.vcm_way.specs.Ways.{reason}
-use Rattle.vcm_way.specs.inner.Endings.{TaskEnds}
+use Rattle.vcm_way.specs.Steps.{TaskEnds}
 use Rattle.vcm_way.specs.inner.Told.{point_in}
 
 abbrev three : {A : Type 0} → Outcome ℤ → Outcome ℤ → Outcome ℤ → (ℤ → ℤ → ℤ → Outcome A) → Outcome A

@@ -1,4 +1,6 @@
 pub mod Marks
+pub mod Steps
+pub mod Meaning
 pub mod Tasks
 pub mod Ways
 pub mod Following

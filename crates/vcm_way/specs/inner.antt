@@ -2,4 +2,3 @@
 pub mod Added
 pub mod Endings
 pub mod Told
-pub mod Steps

@@ -5,14 +5,16 @@
 mod following;
 pub mod laws;
 mod limits;
-mod marks;
 mod moving;
 mod place;
+mod step;
 mod task;
 mod touching;
 mod way;
 
 pub use following::{Followed, follow};
+pub use step::{Before, StepMarks, look, marks_of_step, reason};
+pub use task::{Measuring, Task};
 pub use vcm_machine::{End, Ran};
 pub use vcm_num::{NoMemory, Point};
 pub use way::Way;

@@ -22,15 +22,15 @@ use vcm_state::World;
 
 /// A measurement: the machine point of the nominal place, the direction that the tip comes from, and the index of the feature.
 #[derive(Clone, Copy)]
-pub(crate) struct Measuring {
-    pub(crate) nominal: Point,
-    pub(crate) toward: Axis,
-    pub(crate) feature: u16,
+pub struct Measuring {
+    pub nominal: Point,
+    pub toward: Axis,
+    pub feature: u16,
 }
 
 /// Where a statement sends the probe.
 #[derive(Clone, Copy)]
-pub(crate) enum Task {
+pub enum Task {
     Nowhere,
     Straight(Point),
     Measure(Measuring),

@@ -1,47 +1,26 @@
 //! The marks of PTMEAS.
 
-ghost use Rattle.std.specs.Prelude.{◌≡◌, ℕ, ℤ, [], ◌∷◌, IsTrue, IfSome, IfNone, OnOk, unwrap_or};
+ghost use Rattle.std.specs.Prelude.{◌≡◌, ℕ, ℤ, ◌∷◌, IsTrue, unwrap_or};
 ghost use Rattle.vcm_num.specs.Axis.{along, opposite};
 ghost use Rattle.vcm_num.specs.Point.{coordinate, is_near};
-ghost use Rattle.vcm_spec.specs.declared.stop.Stop.TheVariants.{Overflow};
-ghost use Rattle.vcm_spec.specs.declared.words.MovePhase.TheVariants as phases;
 ghost use Rattle.vcm_spec.specs.Touch.{centre_of, down_of};
 ghost use Rattle.vcm_spec.specs.FirstTouch.{first_inside, touch};
-ghost use Rattle.vcm_spec.specs.Outcome.{Stops, point_of};
-ghost use Rattle.vcm_probe.proofs.Descent.{AreAimed};
+ghost use Rattle.vcm_spec.specs.Outcome.{point_of};
+ghost use Rattle.vcm_probe.specs.Aims.{AreAimed};
 ghost use Rattle.vcm_marks.specs.declared.mark.Going.TheVariants as goings;
 ghost use Rattle.vcm_way.specs.Marks.{touching, marks_of_touch, goes, touches};
-ghost use Rattle.vcm_way.specs.inner.Added.{IsCounted, IsAdded};
-ghost use Rattle.vcm_way.specs.inner.Endings.{EndsAs, HasTouched, IsNearAtHit, behind, distance_of};
+ghost use Rattle.vcm_way.specs.Steps.{EndsAs, listed};
+ghost use Rattle.vcm_way.specs.inner.Endings.{HasTouched, IsNearAtHit, behind, distance_of};
 
-use crate::marks::Marks;
-use crate::place::{Place, falls_short, goes, meets_block};
+use crate::place::{falls_short, goes, meets_block};
+use crate::step::StepMarks;
 use crate::task::Measuring;
 use vcm_marks::{Going, Mark, Touched};
 use vcm_motion::{Face, Part};
-use vcm_num::{Axis, NoMemory, Point};
+use vcm_num::{Axis, Point};
 use vcm_part::PartData;
-use vcm_probe::{Settings, moved, reached};
+use vcm_probe::{Aims, Settings, aims_of, moved};
 use vcm_spec::{MovePhase, Stop};
-
-// The approach point and the end of the search.
-#[derive(Clone, Copy)]
-struct Aims {
-    approach: Point,
-    end: Point,
-}
-
-// The approach point and the end of the search, where they can be told.
-fn aims_of(part: &PartData, settings: Settings, measuring: Measuring) -> Option<Aims>
-    ensures some { IfSome result (λ a. AreAimed settings (centre_of part.now (coordinate measuring.nominal) measuring.toward) measuring.toward a.approach a.end) }
-    ensures none { IfNone result ((from : ℕ → ℤ) → touch part.now settings from (coordinate measuring.nominal) measuring.toward ≡ Stops Overflow) }
-{
-    let toward = measuring.toward;
-    let up = part.bounds().tip + settings.approach();
-    let approach = reached(measuring.nominal, toward, up)?;
-    let end = reached(approach, toward.opposite(), settings.descent())?;
-    Some(Aims { approach, end })
-}
 
 // The distance of a face; 0, where there is none.
 fn distance_of(face: Option<Face>) -> u32
@@ -65,73 +44,44 @@ fn touch_point<P: Part>(part: &P, settings: Settings, toward: Axis, aims: Aims) 
     moved(aims.approach, back, distance_of(face))
 }
 
-// Adds the ways to the approach point and down to the touch, and the touched point.
-//
-// Errors: want of memory.
-fn add_descent(
-    marks: &mut Marks,
-    place: Place,
-    tip: u32,
+// The marks of a measurement that touches with the centre of the tip at a point, its statement having this stop.
+fn marks_round(
+    part: &PartData,
     from: Point,
     approach: Point,
     touch: Point,
+    retract: Point,
     measuring: Measuring,
-) -> Result<(), NoMemory>
-    requires counted { IsCounted marks.old }
+    stop: Option<Stop>,
+) -> StepMarks
     requires touch { IsTrue (is_near touch) }
-    ensures { OnOk result (IsAdded place (goes goings.Approach from approach ∷ goes goings.Search approach touch
-        ∷ touches (point_of (along (coordinate touch) (opposite measuring.toward) tip)) measuring.feature ∷ []) marks.old marks.new) }
+    requires retract { IsNearAtHit retract stop }
+    ensures { listed result ≡ goes goings.Approach from approach ∷ goes goings.Search approach touch
+        ∷ touches (point_of (along (coordinate touch) (opposite measuring.toward) part.now.bounds.tip)) measuring.feature ∷ behind part.now touch retract stop }
 {
-    let at = moved(touch, measuring.toward.opposite(), tip);
+    let bounds = part.bounds();
+    let to = goes(Going::Approach, from, approach);
+    let down = goes(Going::Search, approach, touch);
+    let at = moved(touch, measuring.toward.opposite(), bounds.tip);
     let touched = Mark::Touches(Touched {
         at,
         feature: measuring.feature,
     });
-    marks.add(
-        place,
-        &[
-            goes(Going::Approach, from, approach),
-            goes(Going::Search, approach, touch),
-            touched,
-        ],
-    )
-}
-
-// Adds what comes behind the touch, the statement having this stop.
-//
-// Errors: want of memory.
-fn add_behind(
-    marks: &mut Marks,
-    place: Place,
-    part: &PartData,
-    touch: Point,
-    retract: Point,
-    stop: Option<Stop>,
-) -> Result<(), NoMemory>
-    requires counted { IsCounted marks.old }
-    requires touch { IsTrue (is_near touch) }
-    requires retract { IsNearAtHit retract stop }
-    ensures { OnOk result (IsAdded place (behind part.now touch retract stop) marks.old marks.new) }
-{
     match stop {
-        None => marks.add(place, &[goes(Going::Retract, touch, retract)]),
+        None => StepMarks::Four([to, down, touched, goes(Going::Retract, touch, retract)]),
         Some(Stop::Travel(MovePhase::Retract)) => {
-            marks.add(place, &[falls_short(&part.bounds(), touch, retract)])
+            StepMarks::Four([to, down, touched, falls_short(&bounds, touch, retract)])
         }
-        Some(Stop::Collision(MovePhase::Retract, hit)) => marks.add(
-            place,
-            &meets_block(part, Going::Retract, touch, retract, hit.block),
-        ),
-        Some(_) => marks.add(place, &[]),
+        Some(Stop::Collision(MovePhase::Retract, hit)) => {
+            let [gone, left, met] = meets_block(part, Going::Retract, touch, retract, hit.block);
+            StepMarks::Six([to, down, touched, gone, left, met])
+        }
+        Some(_) => StepMarks::Three([to, down, touched]),
     }
 }
 
-// Adds what a measurement adds that has touched.
-//
-// Errors: want of memory.
-fn add_touched<P: Part>(
-    marks: &mut Marks,
-    place: Place,
+// The marks of a measurement that has touched.
+fn marks_of_touched<P: Part>(
     part: &P,
     blocks: &PartData,
     settings: Settings,
@@ -139,83 +89,65 @@ fn add_touched<P: Part>(
     measuring: Measuring,
     aims: Aims,
     stop: Option<Stop>,
-) -> Result<(), NoMemory>
+) -> StepMarks
     requires tie { P.part part.now ≡ blocks.now }
-    requires counted { IsCounted marks.old }
     requires from { IsTrue (is_near from) }
     requires aims { AreAimed settings (centre_of blocks.now (coordinate measuring.nominal) measuring.toward) measuring.toward aims.approach aims.end }
     requires ends { EndsAs (touch blocks.now settings (coordinate from) (coordinate measuring.nominal) measuring.toward) stop }
     requires touched { HasTouched stop }
-    ensures { OnOk result (IsAdded place (marks_of_touch blocks.now from
-        (touching blocks.now settings (centre_of blocks.now (coordinate measuring.nominal) measuring.toward) measuring.toward measuring.feature) stop) marks.old marks.new) }
+    ensures { listed result ≡ marks_of_touch blocks.now from
+        (touching blocks.now settings (centre_of blocks.now (coordinate measuring.nominal) measuring.toward) measuring.toward measuring.feature) stop }
 {
+    // It is called for what it tells of the limits: that they are valid.
+    let _bounds = blocks.bounds();
     let toward = measuring.toward;
-    let tip = blocks.bounds().tip;
     let touch = touch_point(part, settings, toward, aims);
     let retract = moved(touch, toward, settings.retract());
-    add_descent(marks, place, tip, from, aims.approach, touch, measuring)?;
-    add_behind(marks, place, blocks, touch, retract, stop)
+    marks_round(blocks, from, aims.approach, touch, retract, measuring, stop)
 }
 
-/// Adds what a measurement adds, whose statement had this stop.
-///
-/// Errors: want of memory.
-pub(crate) fn add_touch<P: Part>(
-    marks: &mut Marks,
-    place: Place,
+/// The marks of a measurement, whose statement had this stop.
+pub(crate) fn marks_of_touch<P: Part>(
     part: &P,
     blocks: &PartData,
     settings: Settings,
     from: Point,
     measuring: Measuring,
     stop: Option<Stop>,
-) -> Result<(), NoMemory>
+) -> StepMarks
     requires tie { P.part part.now ≡ blocks.now }
-    requires counted { IsCounted marks.old }
     requires from { IsTrue (is_near from) }
     requires ends { EndsAs (touch blocks.now settings (coordinate from) (coordinate measuring.nominal) measuring.toward) stop }
-    ensures { OnOk result (IsAdded place (marks_of_touch blocks.now from
-        (touching blocks.now settings (centre_of blocks.now (coordinate measuring.nominal) measuring.toward) measuring.toward measuring.feature) stop) marks.old marks.new) }
+    ensures { listed result ≡ marks_of_touch blocks.now from
+        (touching blocks.now settings (centre_of blocks.now (coordinate measuring.nominal) measuring.toward) measuring.toward measuring.feature) stop }
 {
     let bounds = blocks.bounds();
-    let Some(aims) = aims_of(blocks, settings, measuring) else {
-        return marks.add(place, &[]);
+    let Some(aims) = aims_of(part, measuring.nominal, measuring.toward, settings) else {
+        return StepMarks::Zero;
     };
+    let to = goes(Going::Approach, from, aims.approach);
     match stop {
-        None => add_touched(
-            marks, place, part, blocks, settings, from, measuring, aims, stop,
-        ),
+        None => marks_of_touched(part, blocks, settings, from, measuring, aims, stop),
         Some(Stop::Travel(MovePhase::Approach)) => {
-            marks.add(place, &[falls_short(&bounds, from, aims.approach)])
+            StepMarks::One([falls_short(&bounds, from, aims.approach)])
         }
-        Some(Stop::Collision(MovePhase::Approach, hit)) => marks.add(
-            place,
-            &meets_block(blocks, Going::Approach, from, aims.approach, hit.block),
-        ),
-        Some(Stop::Travel(MovePhase::Search)) => marks.add(
-            place,
-            &[
-                goes(Going::Approach, from, aims.approach),
-                falls_short(&bounds, aims.approach, aims.end),
-            ],
-        ),
-        Some(Stop::Missed) => marks.add(
-            place,
-            &[
-                goes(Going::Approach, from, aims.approach),
-                goes(Going::Search, aims.approach, aims.end),
-            ],
-        ),
+        Some(Stop::Collision(MovePhase::Approach, hit)) => StepMarks::Three(meets_block(
+            blocks,
+            Going::Approach,
+            from,
+            aims.approach,
+            hit.block,
+        )),
+        Some(Stop::Travel(MovePhase::Search)) => {
+            StepMarks::Two([to, falls_short(&bounds, aims.approach, aims.end)])
+        }
+        Some(Stop::Missed) => StepMarks::Two([to, goes(Going::Search, aims.approach, aims.end)]),
         Some(Stop::Travel(MovePhase::Retract)) => {
-            add_touched(
-                marks, place, part, blocks, settings, from, measuring, aims, stop,
-            )
+            marks_of_touched(part, blocks, settings, from, measuring, aims, stop)
         }
         Some(Stop::Collision(MovePhase::Retract, _)) => {
-            add_touched(
-                marks, place, part, blocks, settings, from, measuring, aims, stop,
-            )
+            marks_of_touched(part, blocks, settings, from, measuring, aims, stop)
         }
-        Some(_) => marks.add(place, &[]),
+        Some(_) => StepMarks::Zero,
     }
 }

@@ -1,24 +1,39 @@
--- What a list of marks stands for.
-use Rattle.std.specs.Prelude.{◌≡◌, ◌+◌, List, ◌++◌}
-use Rattle.vcm_marks.specs.declared.mark.Mark.{Mark}
+-- What is kept of a way.
+use Rattle.std.specs.Prelude.{◌≡◌, ℕ, ◌+◌, ◌-◌, List, [], ◌++◌}
+use Rattle.vcm_spec.specs.Workpiece.{Workpiece}
+use Rattle.vcm_code.specs.declared.code.Code.{Code}
+use Rattle.vcm_machine.specs.declared.ran.Ran.{Ran}
+use Rattle.vcm_machine.specs.Running.{Running, started, HasRun}
+use Rattle.vcm_state.specs.Held.{Held}
 use Rattle.vcm_marks.specs.declared.mark.Placed.{Placed}
-use Rattle.vcm_way.specs.declared.marks.Marks.{Marks}
-use Rattle.vcm_way.specs.declared.place.Place.{Place}
 use Rattle.vcm_marks.specs.Pieces.{pieces}
-use Rattle.vcm_way.specs.Ways.{placed, last_pieces, most_pieces}
+use Rattle.vcm_way.specs.Ways.{Kept, last_pieces, most_pieces, whole_way}
 
--- its pieces are counted
-abbrev pub IsCounted : Marks → Type 0
-IsCounted m = m.pieces ≡ pieces m.list.items
+-- these marks, so many pieces being left out before them
+abbrev pub kept : List Placed → ℕ → Kept
+kept marks left_out = record { marks = marks; left_out = left_out }
 
--- these marks were added to it at a place
-pub record IsAdded (at : Place) (ms : List Mark) (old new : Marks) : Type 0 where
-  pub list : new.list.items ≡ old.list.items ++ placed at.step at.number at.line ms
-  pub counted : IsCounted new
-  pub left_out : new.left_out ≡ old.left_out
+-- with more marks behind them
+abbrev pub more : Kept → List Placed → Kept
+more k marks = kept (k.marks ++ marks) k.left_out
+
+-- with the last pieces alone
+abbrev pub shortened : Kept → Kept
+shortened k = kept (last_pieces most_pieces k.marks) (k.left_out + (pieces k.marks - pieces (last_pieces most_pieces k.marks)))
 
 -- it stands for a whole way: its last pieces are those of the way, whatever comes behind, and all others are left out
-pub record StandsFor (m : Marks) (whole : List Placed) : Type 0 where
-  pub counted : IsCounted m
-  pub total : m.left_out + m.pieces ≡ pieces whole
-  pub last : (ms : List Placed) → last_pieces most_pieces (m.list.items ++ ms) ≡ last_pieces most_pieces (whole ++ ms)
+pub record StandsFor (k : Kept) (whole : List Placed) : Type 0 where
+  pub total : k.left_out + pieces k.marks ≡ pieces whole
+  pub last : (ms : List Placed) → last_pieces most_pieces (k.marks ++ ms) ≡ last_pieces most_pieces (whole ++ ms)
+
+-- what stood for no step stands for this way now
+abbrev pub Keeps : Kept → Kept → List Placed → Type 0
+Keeps from to whole = StandsFor from [] → StandsFor to whole
+
+-- a run of at most n steps has come to this state and ran so, and its way is kept
+pub record HasKept (part : Workpiece) (c : Code) (n : ℕ) (world : Held) (ran : Ran) (from to : Kept) : Type 0 where
+  pub new : Running
+  pub has_run : HasRun n (started part c) new ran
+  pub state : world.state ≡ new.state.world
+  pub tables : world.tables ≡ c.tables
+  pub keeps : Keeps from to (whole_way part c ran.done)

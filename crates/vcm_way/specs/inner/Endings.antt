@@ -1,31 +1,15 @@
--- How a task ends.
-use Rattle.std.specs.Prelude.{◌≡◌, ℕ, IsTrue, Option, Some, None, List, [], ◌∷◌}
+-- How a measurement ends.
+use Rattle.std.specs.Prelude.{ℕ, IsTrue, Option, Some, None, List, [], ◌∷◌}
 use Rattle.vcm_num.specs.declared.point.Point.{Point}
-use Rattle.vcm_num.specs.Point.{coordinate, is_near}
+use Rattle.vcm_num.specs.Point.{is_near}
 use Rattle.vcm_spec.specs.declared.stop.Stop.{Stop}
 use Rattle.vcm_spec.specs.declared.stop.Stop.TheVariants.{Travel, Collision}
-use Rattle.vcm_spec.specs.declared.words.MovePhase.TheVariants.{Move, Retract}
-use Rattle.vcm_spec.specs.FirstTouch.{free_move, touch}
-use Rattle.vcm_spec.specs.Outcome.{Outcome, Gives, Stops}
+use Rattle.vcm_spec.specs.declared.words.MovePhase.TheVariants.{Retract}
 use Rattle.vcm_spec.specs.Workpiece.{Workpiece}
-use Rattle.vcm_spec.specs.World.{Settings}
 use Rattle.vcm_motion.specs.declared.face.Face.{Face}
 use Rattle.vcm_marks.specs.declared.mark.Going.TheVariants as going
 use Rattle.vcm_marks.specs.declared.mark.Mark.{Mark}
-use Rattle.vcm_way.specs.declared.task.Task.{Task}
-use Rattle.vcm_way.specs.declared.task.Task.TheVariants.{Nowhere, Straight, Measure}
 use Rattle.vcm_way.specs.Marks.{goes, falls_short, meets_block}
-
--- where the motion stops, its statement has that stop
-abbrev pub EndsAs : {A : Type 0} → Outcome A → Option Stop → Type 0
-EndsAs (Gives x) stop = Unit {0}
-EndsAs (Stops why) stop = stop ≡ Some why
-
--- the statement of a task from the point p with these settings has the stop of its motion, if that has one
-abbrev pub TaskEnds : Workpiece → Point → Settings → Task → Option Stop → Type 0
-TaskEnds part p s Nowhere stop = Unit {0}
-TaskEnds part p s (Straight target) stop = EndsAs (free_move Move part (coordinate p) (coordinate target)) stop
-TaskEnds part p s (Measure m) stop = EndsAs (touch part s (coordinate p) (coordinate m.nominal) m.toward) stop
 
 -- a measurement with this stop, or with none, has touched
 abbrev pub HasTouched : Option Stop → Type 0

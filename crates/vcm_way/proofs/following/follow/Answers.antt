@@ -1,24 +1,25 @@
-use Rattle.std.proofs.Common.{refl}
-use Rattle.vcm_spec.specs.Setup.{setup_of}
-use Rattle.vcm_way.specs.Ways.{most_pieces, whole_way}
+use Rattle.std.proofs.Common.{[], refl, sym, ◌∙◌, subst}
+use Rattle.vcm_way.specs.Ways.{Kept, most_pieces, whole_way}
+use Rattle.vcm_way.specs.inner.Added.{StandsFor}
+use Rattle.vcm_way.proofs.Lists.{stands_for_none, kept_is}
 use Rattle.vcm_way.proofs.following.follow.Goals as goal
 
-pub run_marked-requires-clause-most : goal.run_marked-requires-clause-most
+pub run_kept-requires-clause-most : goal.run_kept-requires-clause-most
 unfolding most_pieces
-run_marked-requires-clause-most g c = refl
+run_kept-requires-clause-most g c = refl
 
-pub of-requires-clause-most : goal.of-requires-clause-most
+pub keep_last-requires : goal.keep_last-requires
 unfolding most_pieces
-of-requires-clause-most g c = refl
+keep_last-requires g c = refl
 
 pub returns-in-Ok : goal.returns-in-Ok
 returns-in-Ok g c =
-    let code = c.args.loaded.now in
-    let h = c.in_ok-world.ensures.marked in
+    let h = c.in_ok-world.ensures in
+    let start = subst (λ (k : Kept). StandsFor k []) (sym c.new-way.ensures) stands_for_none in
     record {
       new = h.new;
       has_run = h.has_run;
       state = h.state;
       tables = h.tables;
-      kept = c.in-Ok.ensures (whole_way (setup_of (g.P.Part.part c.args.part.now) code.tables) code.statements c.in_ok-world.ran.done) h.stands;
+      kept = c.in-Ok.ensures ∙ kept_is c.run_kept.new.way (whole_way (g.P.Part.part c.args.part.now) c.args.loaded.now c.in_ok-world.ran.done) (h.keeps start);
     }

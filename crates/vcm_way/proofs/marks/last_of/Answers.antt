@@ -1,5 +1,0 @@
-use Rattle.std.proofs.Common.{rules}
-use Rattle.vcm_way.proofs.marks.last_of.Goals as goal
-
-pub loop-first-preserved : goal.loop-first-preserved
-loop-first-preserved c = search rules
