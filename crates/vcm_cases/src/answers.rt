@@ -8,6 +8,7 @@ use vcm_messages::{
     part_file_message, run_message, status_of,
 };
 use vcm_motion::Strips;
+use vcm_page::{Texts, page_of};
 use vcm_part::PartData;
 use vcm_program::Noticed;
 use vcm_run::{run_text, write_result};
@@ -103,6 +104,29 @@ pub(crate) fn view_answer(
     let mut file = part.as_bytes();
     match part_from(alloc, &mut file) {
         Ok(part) => view_beside(alloc, view, &part, program, steps),
+        Err(fault) => told(alloc, part_file_message(fault, "the part")),
+    }
+}
+
+// What stands in the page of a run of a program beside a workpiece between the fixed texts.
+fn story_beside(alloc: Global, part: &PartData, program: &str, steps: u64) -> Option<String> {
+    let mut input = program.as_bytes();
+    let mut out = Vec::new(alloc);
+    let texts = Texts {
+        front: &[],
+        back: &[],
+    };
+    match page_of(alloc, part, texts, &mut input, steps, &mut out) {
+        Ok(done) => printed(alloc, &out, done.notices.as_slice(), done.status),
+        Err(fault) => told(alloc, run_message(fault, "the program")),
+    }
+}
+
+/// What stands in the page of a run of a program beside the workpiece of a part file between the fixed texts, after so many steps at most.
+pub(crate) fn story_answer(alloc: Global, part: &str, program: &str, steps: u64) -> Option<String> {
+    let mut file = part.as_bytes();
+    match part_from(alloc, &mut file) {
+        Ok(part) => story_beside(alloc, &part, program, steps),
         Err(fault) => told(alloc, part_file_message(fault, "the part")),
     }
 }

@@ -55,6 +55,7 @@ fn asked(alloc: Global, request: Request<'_>) -> Option<String> {
             part,
             steps,
         } => run_asked(alloc, name_of(view), input, part, steps),
+        Request::Page { input, part, steps } => run_asked(alloc, "view", input, part, steps),
         Request::Debug { input, part } => {
             format!(in alloc; "debug input={input} part={part}").ok()
         }

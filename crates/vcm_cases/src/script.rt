@@ -1,7 +1,8 @@
 //! The text of worked examples, line by line.
 
 use crate::answers::{
-    asm_answer, check_answer, image, image_answer, listing, replies, run_answer, view_answer,
+    asm_answer, check_answer, image, image_answer, listing, replies, run_answer, story_answer,
+    view_answer,
 };
 use crate::asking::{explain_answer, words_answer};
 use crate::explained::judge_examples;
@@ -29,6 +30,8 @@ enum Heading {
     Run(u64),
     /// What a view of a run answers after so many steps at most.
     View(View, u64),
+    /// What stands in the page of a run between the fixed texts, after so many steps at most.
+    Story(u64),
     /// What a check answers.
     Check,
     /// What the debugger answers.
@@ -86,6 +89,7 @@ fn heading_with(word: &str, rest: &str) -> Heading {
         "margin" => view_heading(View::Margin, rest),
         "picture" => view_heading(View::Picture { is_close: false }, rest),
         "close" => view_heading(View::Picture { is_close: true }, rest),
+        "story" => story_heading(rest),
         "refused" => Heading::Refused,
         "images" => Heading::Images,
         "unlisted" => Heading::Unlisted,
@@ -109,6 +113,14 @@ fn run_heading(steps: &str) -> Heading {
 fn view_heading(view: View, steps: &str) -> Heading {
     match steps.parse::<u64>() {
         Ok(steps) => Heading::View(view, steps),
+        Err(_) => Heading::Unknown,
+    }
+}
+
+// The heading of a story.
+fn story_heading(steps: &str) -> Heading {
+    match steps.parse::<u64>() {
+        Ok(steps) => Heading::Story(steps),
         Err(_) => Heading::Unknown,
     }
 }
@@ -138,6 +150,7 @@ fn answer(alloc: Global, script: &Script) -> Option<String> {
         Heading::View(view, steps) => {
             view_answer(alloc, view, &script.part, &script.program, steps)
         }
+        Heading::Story(steps) => story_answer(alloc, &script.part, &script.program, steps),
         Heading::Check => check_answer(alloc, &script.program),
         Heading::Replies => replies(alloc, &script.part, &script.program, &script.commands),
         Heading::Listing => listing(alloc, &script.program),

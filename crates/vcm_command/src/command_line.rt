@@ -33,6 +33,12 @@ pub enum Request<'a> {
         part: &'a str,
         steps: &'a str,
     },
+    /// `view INPUT PART [--steps N]`: the page of the run of the program or image in this file, beside the workpiece in that one for at most so many steps.
+    Page {
+        input: &'a str,
+        part: &'a str,
+        steps: &'a str,
+    },
     /// `debug INPUT PART`: a session of the debugger on the program or image in this file, beside the workpiece in that one.
     Debug {
         input: &'a str,
@@ -184,6 +190,11 @@ fn request_behind<'a>(name: &str, behind: &ArgMatches<'a>) -> Request<'a> {
             let is_close = behind.get_flag("close");
             view_request(View::Picture { is_close }, behind)
         }
+        "view" => Request::Page {
+            input: word(behind, "INPUT"),
+            part: word(behind, "PART"),
+            steps: behind.get_str("steps").unwrap_or(STEPS),
+        },
         "debug" => Request::Debug {
             input: word(behind, "INPUT"),
             part: word(behind, "PART"),

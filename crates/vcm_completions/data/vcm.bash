@@ -3,11 +3,11 @@ _vcm() {
   local word=${COMP_WORDS[COMP_CWORD]} command=${COMP_WORDS[1]}
   COMPREPLY=()
   if [ "$COMP_CWORD" -eq 1 ]; then
-    COMPREPLY=($(compgen -W "check build run trace margin picture debug list asm explain help --help --version" -- "$word"))
+    COMPREPLY=($(compgen -W "check build run trace margin picture view debug list asm explain help --help --version" -- "$word"))
     return
   fi
   case $command in
-    run | trace | margin)
+    run | trace | margin | view)
       if [ "${COMP_WORDS[COMP_CWORD-1]}" = --steps ]; then
         return
       fi
@@ -26,7 +26,7 @@ _vcm() {
       fi
       ;;
     help)
-      COMPREPLY=($(compgen -W "check build run trace margin picture debug list asm explain" -- "$word"))
+      COMPREPLY=($(compgen -W "check build run trace margin picture view debug list asm explain" -- "$word"))
       return
       ;;
     explain)

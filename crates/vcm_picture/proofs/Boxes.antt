@@ -7,7 +7,6 @@ use Rattle.std.specs.List.{find}
 use Rattle.std.specs.Prelude.{Option, Some, int_lt, not, option_map, decimal}
 use Rattle.vcm_marks.specs.declared.mark.Contact.{Contact}
 use Rattle.vcm_svg.specs.declared.rect.Rect.{Rect}
-use Rattle.vcm_picture.specs.declared.shown.Face.{Face}
 use Rattle.vcm_picture.specs.declared.shown.Figure.{Figure}
 use Rattle.vcm_svg.specs.declared.rect.Spot.{Spot}
 use Rattle.vcm_picture.specs.declared.view.Scope.{Scope}
@@ -52,18 +51,18 @@ unless_small z x y r h e = e ∙ sym (cond-false (int_lt z (pos 1)) x y h)
 abbrev pub figure_at : ℤ → Rect → Figure
 figure_at size area = record { area = area; size = size }
 
-pub figured : (before : List Face) (f : Face) (after : List Face) (wide size w : ℤ) (o r : Option Rect) → o ≡ r → r ≡ room before f after w size → w ≡ wide
-    → option_map (figure_at size) o ≡ option_map (figure_at size) (room before f after wide size)
-figured before f after wide size w o r e h k = ap (option_map (figure_at size)) (e ∙ h ∙ ap (λ w. room before f after w size) k)
+pub figured : (before : List Rect) (f : Rect) (wide size w : ℤ) (o r : Option Rect) → o ≡ r → r ≡ room before f w size → w ≡ wide
+    → option_map (figure_at size) o ≡ option_map (figure_at size) (room before f wide size)
+figured before f wide size w o r e h k = ap (option_map (figure_at size)) (e ∙ h ∙ ap (λ w. room before f w size) k)
 
 pub found_beside : (s : Scope) (p : Spot) (letters wide : ℤ) (taken boxes : List Rect) (r : Option Rect) → r ≡ find (λ a. is_free a s.wide taken) boxes
     → boxes ≡ sides p s.unit wide → wide ≡ pos 6 *ℤ letters *ℤ s.unit → r ≡ beside s p letters taken
 found_beside s p letters wide taken boxes r e h k =
     e ∙ ap (find (λ a. is_free a s.wide taken)) (h ∙ ap (sides p s.unit) k)
 
-pub found_corner : (before : List Face) (f : Face) (after : List Face) (wide size : ℤ) (boxes : List Rect) (r : Option Rect)
-    → r ≡ find (λ a. not (is_covered before f.near after a)) boxes → boxes ≡ corners f.rect wide size → r ≡ room before f after wide size
-found_corner before f after wide size boxes r e h = e ∙ ap (find (λ a. not (is_covered before f.near after a))) h
+pub found_corner : (before : List Rect) (f : Rect) (wide size : ℤ) (boxes : List Rect) (r : Option Rect)
+    → r ≡ find (λ a. not (is_covered before a)) boxes → boxes ≡ corners f wide size → r ≡ room before f wide size
+found_corner before f wide size boxes r e h = e ∙ ap (find (λ a. not (is_covered before a))) h
 
 -- the boxes that are taken, and the names that stand
 abbrev pub naming : List Rect → List Named → Naming

@@ -1,16 +1,15 @@
 -- Lists of blocks in a view, and of marks.
-use Rattle.std.proofs.Common.{◌≡◌, ℕ, ℤ, ◌+◌, ◌<◌, ◌≤◌, Bool, true, List, [], ◌∷◌, ◌++◌, get_or, length, take, drop, refl, arith, append_assoc, ap, sym, ◌∙◌}
+use Rattle.std.proofs.Common.{◌≡◌, ℕ, ℤ, ◌+◌, ◌<◌, Bool, true, List, [], ◌∷◌, ◌++◌, get_or, length, map, flat_map, take, drop, refl, arith, append_assoc, ap, sym, ◌∙◌}
 use Rattle.std.proofs.lemmas.Bool.{and_parts}
-use Rattle.std.proofs.lemmas.List.{append-nil, at_drop_more, drop_all, drop_more, take_more}
+use Rattle.std.proofs.lemmas.List.{at_drop_more, drop_more, take_more}
 use Rattle.std.specs.List.{AllByRecursion, list_all}
-use Rattle.std.specs.Prelude.{Option, option_to_list}
 use Rattle.vcm_spec.specs.declared.workpiece.Block3.{Block3}
 use Rattle.vcm_marks.specs.declared.mark.Placed.{Placed}
 use Rattle.vcm_picture.specs.declared.shown.Face.{Face}
 use Rattle.vcm_picture.specs.declared.shown.Seen.{Seen}
 use Rattle.vcm_picture.specs.declared.view.Scope.{Scope}
 use Rattle.vcm_picture.specs.Names.{Naming, with_mark, with_all_touched}
-use Rattle.vcm_picture.specs.Shown.{face_of, faces_from, first_seen, seen_from}
+use Rattle.vcm_picture.specs.Shown.{face_of, faces_from, rects_before, seen_of, shown_of}
 
 -- what holds of each holds of each with one more
 pub all_pushed : {X : Type 0} (P : X → Type 0) (xs : List X) (x : X) → AllByRecursion P xs → P x → AllByRecursion P (xs ++ x ∷ [])
@@ -25,27 +24,19 @@ pub all_on : {X : Type 0} (P : X → Type 0) (xs : List X) (i : ℕ) → i < len
 all_on P [] i h k = absurd (omega arith)
 all_on P (x ∷ xs) i h k = next_all P x (x ∷ xs) i h k
 
-next_seen : (unit : ℤ) (d : Face) (fs : List Face) (i : ℕ) → i < length fs
-    → seen_from unit (take i fs) (drop i fs) ≡ option_to_list (first_seen unit (take i fs) (drop i fs)) ++ seen_from unit (take (i + 1) fs) (drop (i + 1) fs)
-next_seen unit d fs i h = rw (drop_more fs i d h, take_more fs i d h) refl
+map_push : {X Y : Type 0} (g : X → Y) (xs : List X) (x : X) → map g (xs ++ x ∷ []) ≡ map g xs ++ g x ∷ []
+map_push g [] x = refl
+map_push g (y ∷ ys) x = ap (λ l. g y ∷ l) (map_push g ys x)
 
--- how the next block is shown, and those behind it
-seen_more : (unit : ℤ) (fs : List Face) (i : ℕ) → i < length fs
-    → seen_from unit (take i fs) (drop i fs) ≡ option_to_list (first_seen unit (take i fs) (drop i fs)) ++ seen_from unit (take (i + 1) fs) (drop (i + 1) fs)
-seen_more unit [] i h = absurd (omega arith)
-seen_more unit (f ∷ fs) i h = next_seen unit f (f ∷ fs) i h
-
--- one more is appended
-pub seen_on : (unit : ℤ) (fs : List Face) (i : ℕ) (all new whole : List Seen) (o : Option Seen) (before rest : List Face) → i < length fs
-    → before ≡ take i fs → rest ≡ drop i fs → o ≡ first_seen unit before rest → new ≡ all ++ option_to_list o
-    → all ++ seen_from unit (take i fs) (drop i fs) ≡ whole → new ++ seen_from unit (take (i + 1) fs) (drop (i + 1) fs) ≡ whole
-seen_on unit fs i all new whole o before rest h b r e n w =
-    rw (n, e, b, r) (append_assoc all _ _ ∙ ap (λ l. all ++ l) (sym (seen_more unit fs i h)) ∙ w)
-
--- all are appended
-pub seen_done : (unit : ℤ) (fs : List Face) (i : ℕ) (all whole : List Seen) → length fs ≤ i → all ++ seen_from unit (take i fs) (drop i fs) ≡ whole
-    → all ≡ whole
-seen_done unit fs i all whole h e = sym (append-nil all) ∙ ap (λ l. all ++ seen_from unit (take i fs) l) (sym (drop_all i fs h)) ∙ e
+-- one more is shown
+pub seen_on : (unit : ℤ) (all rivals : List Face) (i : ℕ) (d : Face) (seen new : List Seen) (x : Seen) → i < length all
+    → x ≡ seen_of unit rivals (get_or all i d) → rects_before (get_or all i d) rivals ≡ rects_before (get_or all i d) all
+    → new ≡ seen ++ x ∷ [] → seen ≡ map (seen_of unit all) (take i all) → new ≡ map (seen_of unit all) (take (i + 1) all)
+seen_on unit all rivals i d seen new x h e r p w =
+    let f = get_or all i d in
+    let same : x ≡ seen_of unit all f = e ∙ ap (λ b. record { face = f; shown = shown_of b f unit }) r in
+    p ∙ ap (λ s. s ++ x ∷ []) w ∙ ap (λ y. map (seen_of unit all) (take i all) ++ y ∷ []) same ∙ sym (map_push (seen_of unit all) (take i all) f)
+    ∙ ap (map (seen_of unit all)) (sym (take_more all i d h))
 
 -- of the blocks in a view one more is listed
 pub faces_on : (s : Scope) (bs : List Block3) (i n : ℕ) (d : Block3) (fs new whole : List Face) (f : Face) → i < length bs → n ≡ i
@@ -68,3 +59,9 @@ tests_on test (x ∷ xs) i h k = next_test test x (x ∷ xs) i h k
 pub named_on : (s : Scope) (fs : List (List ℕ)) (marks : List Placed) (i : ℕ) (d : Placed) (n m whole : Naming) → i < length marks
     → m ≡ with_mark s fs (get_or marks i d).mark n → with_all_touched s fs (drop i marks) n ≡ whole → with_all_touched s fs (drop (i + 1) marks) m ≡ whole
 named_on s fs marks i d n m whole h e w = rw e (sym (at_drop_more (λ ms. with_all_touched s fs ms n) marks i d h) ∙ w)
+
+-- of what each of some things gives, what the next one gives is appended
+pub given_on : {X A : Type 0} (f : A → List X) (xs : List A) (i : ℕ) (d : A) (o n whole : List X) → i < length xs → n ≡ o ++ f (get_or xs i d)
+    → o ++ flat_map f (drop i xs) ≡ whole → n ++ flat_map f (drop (i + 1) xs) ≡ whole
+given_on f xs i d o n whole h e w =
+    rw e (append_assoc o (f (get_or xs i d)) (flat_map f (drop (i + 1) xs)) ∙ ap (λ l. o ++ l) (sym (at_drop_more (λ l. flat_map f l) xs i d h)) ∙ w)

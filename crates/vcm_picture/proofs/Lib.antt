@@ -1,3 +1,4 @@
+pub mod Apart
 pub mod Boxes
 pub mod Clips
 pub mod Counting
@@ -5,6 +6,8 @@ pub mod Drawings
 pub mod Extents
 pub mod Faces
 pub mod Layouting
+pub mod MarkShapes
+pub mod Reaching
 pub mod Scopes
 pub mod Signed
 pub mod Spans

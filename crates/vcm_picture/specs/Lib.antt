@@ -5,10 +5,13 @@ pub mod Window
 pub mod View
 pub mod Shown
 pub mod Names
+pub mod Shapes
 pub mod Blocks
 pub mod Way
 pub mod Heading
 pub mod Drawing
 pub mod Picture
 pub mod Outcome
+pub mod Laws
+pub mod Samples
 pub mod inner

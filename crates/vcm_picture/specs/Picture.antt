@@ -1,5 +1,5 @@
 -- The whole picture.
-use Rattle.std.specs.Prelude.{ℕ, ℤ, pos, ◌+ℤ◌, ◌-ℤ◌, ◌*ℤ◌, Bool, nat_eq, if◌then◌else◌, List, [], ◌∷◌, ◌++◌, length, codes}
+use Rattle.std.specs.Prelude.{ℕ, ℤ, pos, ◌+ℤ◌, ◌-ℤ◌, ◌*ℤ◌, Bool, nat_eq, if◌then◌else◌, List, [], ◌∷◌, ◌++◌, flat_map, length, codes}
 use Rattle.std.specs.Fmt.{signed_decimal}
 use Rattle.std.specs.Int.{int_div_euclid}
 use Rattle.vcm_num.specs.declared.point.Point.{Point}
@@ -10,7 +10,8 @@ use Rattle.vcm_state.specs.Held.{Held}
 use Rattle.vcm_marks.specs.declared.mark.Placed.{Placed}
 use Rattle.vcm_svg.specs.Heading.{heading_text}
 use Rattle.vcm_svg.specs.Legend.{legend_text, bar_text}
-use Rattle.vcm_svg.specs.Outlines.{square}
+use Rattle.vcm_svg.specs.declared.outlines.Outline.TheVariants.{Rectangle}
+use Rattle.vcm_svg.specs.Outlines.{outline_text}
 use Rattle.vcm_svg.specs.Pieces.{joined}
 use Rattle.vcm_svg.specs.Rect.{spot}
 use Rattle.vcm_svg.specs.Shapes.{path}
@@ -95,16 +96,23 @@ head_text l u first =
     ∷ codes "\" width=\"" ∷ signed_decimal (int_div_euclid l.wide u) ∷ codes "\" height=\"" ∷ signed_decimal (int_div_euclid l.high u)
     ∷ codes "\">\n<title>" ∷ first ∷ codes "</title>\n" ∷ [])
 
+-- the views, in the order in which they are drawn
+abbrev pub views : List View
+views = Top ∷ Front ∷ Side ∷ []
+
 -- the clip path of a view
-abbrev pub clip_text : View → Window → List ℕ
-clip_text v w =
+abbrev pub clip_text : Window → View → List ℕ
+clip_text w v =
     joined (codes "<clipPath id=\"v" ∷ clip v ∷ codes "\"><path d=\"" ∷ [])
-    ++ (square (spot (pos 0) (pos 0)) (scope_of w v).wide (scope_of w v).high ++ codes "\"/></clipPath>\n")
+    ++ (outline_text (Rectangle (spot (pos 0) (pos 0)) (scope_of w v).wide (scope_of w v).high) ++ codes "\"/></clipPath>\n")
+
+-- the clip paths of some views
+abbrev pub clips_text : Window → List View → List ℕ
+clips_text w vs = flat_map (clip_text w) vs
 
 -- the clip paths, and the background
 abbrev pub background_text : Window → Layout → List ℕ
-background_text w l =
-    clip_text Top w ++ (clip_text Front w ++ (clip_text Side w ++ path class.Sheet (square (spot (pos 0) (pos 0)) l.wide l.high)))
+background_text w l = clips_text w views ++ path class.Sheet (Rectangle (spot (pos 0) (pos 0)) l.wide l.high)
 
 -- where a view stands: the front view below the top view, the right side view beside the front view
 abbrev pub view_spot : Layout → View → Spot
@@ -116,13 +124,9 @@ view_spot l Side = spot l.side l.front
 abbrev pub view_at : Window → Layout → Scene → List Placed → View → List ℕ
 view_at w l s marks v = view_text (scope_of w v) (view_spot l v) s marks
 
--- the front view and the right side view
-abbrev pub lower_views : Window → Layout → Scene → List Placed → List ℕ
-lower_views w l s marks = view_at w l s marks Front ++ view_at w l s marks Side
-
--- the three views
-abbrev pub views_text : Window → Layout → Scene → List Placed → List ℕ
-views_text w l s marks = view_at w l s marks Top ++ lower_views w l s marks
+-- views, each at its place
+abbrev pub views_text : Window → Layout → Scene → List Placed → List View → List ℕ
+views_text w l s marks vs = flat_map (view_at w l s marks) vs
 
 -- where the legend stands
 abbrev pub legend_spot : Layout → ℤ → Spot
@@ -143,7 +147,7 @@ picture_of part held done marks left_out w l first =
     head_text l w.unit first
     ++ (style_text w.unit (length part.blocks) (are_few marks)
     ++ (background_text w l
-    ++ (heading_text w.unit first held.state.position done left_out ++ (views_text w l (scene part held first) marks ++ foot_text w l))))
+    ++ (heading_text w.unit first held.state.position done left_out ++ (views_text w l (scene part held first) marks views ++ foot_text w l))))
 
 -- the same of a sheet
 abbrev pub picture_with : Sheet → Window → Layout → List ℕ → List ℕ

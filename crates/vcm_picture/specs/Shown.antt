@@ -1,8 +1,9 @@
 -- Which blocks a view shows, how, and where their numbers stand.
-use Rattle.std.specs.Prelude.{ℕ, ℤ, pos, ◌+◌, ◌+ℤ◌, ◌-ℤ◌, ◌*ℤ◌, Bool, ◌&&◌, ◌||◌, not, int_le, int_lt, if◌then◌else◌}
-use Rattle.std.specs.Prelude.{List, [], ◌∷◌, ◌++◌, length, Option, Some, None, option_map, decimal}
+use Rattle.std.specs.Prelude.{ℕ, ℤ, pos, ◌+◌, ◌+ℤ◌, ◌-ℤ◌, ◌*ℤ◌, Bool, ◌&&◌, ◌||◌, not, nat_lt, int_lt, if◌then◌else◌}
+use Rattle.std.specs.Prelude.{List, [], ◌∷◌, map, length, Option, None, option_map, decimal}
 use Rattle.std.specs.Int.{int_min, int_div_euclid}
-use Rattle.std.specs.List.{list_any, find}
+use Rattle.std.specs.List.{list_any, find, flat_map}
+use Rattle.std.specs.Ordering.{int_eq}
 use Rattle.vcm_spec.specs.declared.workpiece.Block3.{Block3}
 use Rattle.vcm_svg.specs.declared.rect.Rect.{Rect}
 use Rattle.vcm_picture.specs.declared.shown.Face.{Face}
@@ -23,23 +24,33 @@ abbrev pub faces_from : Scope → ℕ → List Block3 → List Face
 faces_from s n [] = []
 faces_from s n (b ∷ bs) = face_of s n b ∷ faces_from s (n + 1) bs
 
--- whether the rectangle of a nearer block passes a test; of two that are equally near the first is the nearer one, so of the blocks before one
--- those count that are at least as near as it, of those behind it those that are nearer
-abbrev pub some_nearer : List Face → ℤ → List Face → (Rect → Bool) → Bool
-some_nearer before near after test =
-    list_any (λ o. int_le near o.near && test o.rect) before || list_any (λ o. int_lt near o.near && test o.rect) after
+-- whether a block is nearer than another one: of two that are equally near the first is
+abbrev pub is_nearer : Face → Face → Bool
+is_nearer o f = int_lt f.near o.near || (int_eq f.near o.near && nat_lt o.number f.number)
 
--- whether a nearer block has the same rectangle
-abbrev pub is_repeated : List Face → Face → List Face → Bool
-is_repeated before f after = some_nearer before f.near after (λ r. is_same r f.rect)
+-- whether it stands before the other one: it is nearer, and their rectangles meet
+abbrev pub stands_before : Face → Face → Bool
+stands_before o f = is_nearer o f && meets o.rect f.rect
 
--- whether the rectangle of a nearer block contains its own
-abbrev pub is_hidden : List Face → Face → List Face → Bool
-is_hidden before f after = some_nearer before f.near after (λ r. contains r f.rect)
+-- the rectangle of a block, if it stands before another one
+abbrev pub rect_before : Face → Face → List Rect
+rect_before f o = if stands_before o f then o.rect ∷ [] else []
 
--- whether an area meets the rectangle of a nearer block
-abbrev pub is_covered : List Face → ℤ → List Face → Rect → Bool
-is_covered before near after area = some_nearer before near after (λ r. meets r area)
+-- the rectangles of the blocks that stand before one
+abbrev pub rects_before : Face → List Face → List Rect
+rects_before f all = flat_map (rect_before f) all
+
+-- whether one of some rectangles is the same
+abbrev pub is_repeated : List Rect → Rect → Bool
+is_repeated before r = list_any (λ o. is_same o r) before
+
+-- whether one of them contains it
+abbrev pub is_hidden : List Rect → Rect → Bool
+is_hidden before r = list_any (λ o. contains o r) before
+
+-- whether one of them meets it
+abbrev pub is_covered : List Rect → Rect → Bool
+is_covered before r = list_any (λ o. meets o r) before
 
 -- the size of the letters of a number with so many digits
 abbrev pub size_of : Rect → ℤ → ℤ → ℤ
@@ -54,38 +65,32 @@ corners r wide f =
     ∷ boxed (r.right -ℤ pos 2 *ℤ f -ℤ wide) (r.bottom -ℤ pos 10 *ℤ f) wide (pos 9 *ℤ f) ∷ []
 
 -- the first corner where a number finds room
-abbrev pub room : List Face → Face → List Face → ℤ → ℤ → Option Rect
-room before f after wide size = find (λ a. not (is_covered before f.near after a)) (corners f.rect wide size)
+abbrev pub room : List Rect → Rect → ℤ → ℤ → Option Rect
+room before r wide size = find (λ a. not (is_covered before a)) (corners r wide size)
 
 -- where the number of a block stands with letters of that size, if there is room
-abbrev pub figure_with : List Face → Face → List Face → ℤ → ℤ → Option Figure
-figure_with before f after digits size =
+abbrev pub figure_with : List Rect → Rect → ℤ → ℤ → Option Figure
+figure_with before r digits size =
     if int_lt size (pos 1) then None
-    else option_map (λ a. record { area = a; size = size }) (room before f after (pos 6 *ℤ digits *ℤ size) size)
+    else option_map (λ a. record { area = a; size = size }) (room before r (pos 6 *ℤ digits *ℤ size) size)
 
 -- how many digits a number has
 abbrev pub digits_of : ℕ → ℤ
 digits_of n = pos (length (decimal n))
 
 -- where the number of a block stands, if there is room
-abbrev pub figure_of : List Face → Face → List Face → ℤ → Option Figure
-figure_of before f after unit = figure_with before f after (digits_of f.number) (size_of f.rect (digits_of f.number) unit)
+abbrev pub figure_of : List Rect → Face → ℤ → Option Figure
+figure_of before f unit = figure_with before f.rect (digits_of f.number) (size_of f.rect (digits_of f.number) unit)
 
--- how a block is shown, between those before it and those behind it
-abbrev pub shown_of : List Face → Face → List Face → ℤ → Shown
-shown_of before f after unit =
-    if is_repeated before f after then Repeated else (if is_hidden before f after then Hidden else Open (figure_of before f after unit))
+-- how a block is shown behind these rectangles
+abbrev pub shown_of : List Rect → Face → ℤ → Shown
+shown_of before f unit =
+    if is_repeated before f.rect then Repeated else (if is_hidden before f.rect then Hidden else Open (figure_of before f unit))
 
--- a block and how it is shown
-abbrev pub seen_of : List Face → Face → List Face → ℤ → Seen
-seen_of before f after unit = record { face = f; shown = shown_of before f after unit }
+-- a block among all, and how it is shown
+abbrev pub seen_of : ℤ → List Face → Face → Seen
+seen_of unit all f = record { face = f; shown = shown_of (rects_before f all) f unit }
 
--- how the first of the blocks is shown, behind those before it
-abbrev pub first_seen : ℤ → List Face → List Face → Option Seen
-first_seen unit before [] = None
-first_seen unit before (f ∷ after) = Some (seen_of before f after unit)
-
--- how each of the blocks is shown, behind those before them
-abbrev pub seen_from : ℤ → List Face → List Face → List Seen
-seen_from unit before [] = []
-seen_from unit before (f ∷ after) = seen_of before f after unit ∷ seen_from unit (before ++ f ∷ []) after
+-- how each of the blocks is shown
+abbrev pub all_seen : ℤ → List Face → List Seen
+all_seen unit all = map (seen_of unit all) all

@@ -1,3 +1,4 @@
 pub mod Ranges
 pub mod Drawable
 pub mod Layouts
+pub mod Strips

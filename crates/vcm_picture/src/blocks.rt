@@ -1,105 +1,60 @@
 //! The blocks of a view, and their numbers.
 
 ghost use Rattle.std.specs.Prelude.{◌≡◌, ◌++◌, OnOk};
-ghost use Rattle.vcm_picture.specs.Blocks.{block_text, open_text, hidden_text, face_text, hit_text, figure_label, figure_text, number_text, all_open, all_hidden, all_numbers};
+ghost use Rattle.vcm_picture.specs.Blocks.{block_shape, open_shape, hidden_shape, hit_shape, figure_label, number_shape, open_shapes, hidden_shapes, number_shapes, blocks_shapes};
 ghost use Rattle.vcm_svg.specs.Ranges.{IsRect};
 ghost use Rattle.vcm_picture.specs.inner.Drawable.{AreFaces, AreSeen, IsSeen, IsFigure};
 
+use crate::shapes::{Shape, Tip, Words, push_shape};
 use crate::shown::{Face, Figure, Seen, Shown};
 use vcm_marks::Contact;
 use vcm_num::NoMemory;
-use vcm_svg::{Class, Label, Lettering, Piece, Spot, put_path, put_text, put_told, rect_outline};
+use vcm_svg::{Class, Label, Lettering, Spot, rect_outline};
 
-// Appends a block with its tooltip.
-fn put_block(out: &mut Vec<u8>, class: Class, face: &Face) -> Result<(), NoMemory>
+// A block with its tooltip.
+fn block_shape(class: Class, face: &Face) -> Shape
     requires { IsRect face.now.rect }
-    ensures { OnOk result (out.new.items ≡ out.old.items ++ block_text class face.now) }
+    ensures { result ≡ block_shape class face.now }
 {
-    put_told(
-        out,
+    Shape::Told(
         class,
-        &rect_outline(face.rect),
-        &[
-            Piece::Text(b"block "),
-            Piece::Count(u64::from(face.number)),
-            Piece::Text(b": "),
-            Piece::At(face.block.low),
-            Piece::Text(b" to "),
-            Piece::At(face.block.high),
-        ],
+        rect_outline(face.rect),
+        Tip::Block(face.number, face.block),
     )
 }
 
-// Appends a block where it is open.
-fn put_if_open(out: &mut Vec<u8>, seen: &Seen) -> Result<(), NoMemory>
+// A block, where it is open.
+fn open_shape(seen: &Seen) -> Option<Shape>
     requires { IsSeen seen.now }
-    ensures { OnOk result (out.new.items ≡ out.old.items ++ open_text seen.now.face seen.now.shown) }
+    ensures { result ≡ open_shape seen.now.face seen.now.shown }
 {
     match seen.shown {
-        Shown::Open(_) => put_block(out, Class::Block, &seen.face),
-        Shown::Hidden => Ok(()),
-        Shown::Repeated => Ok(()),
+        Shown::Open(_) => Some(block_shape(Class::Block, &seen.face)),
+        Shown::Hidden => None,
+        Shown::Repeated => None,
     }
 }
 
-// Appends a block where it is hidden.
-fn put_if_hidden(out: &mut Vec<u8>, seen: &Seen) -> Result<(), NoMemory>
+// A block, where it is hidden.
+fn hidden_shape(seen: &Seen) -> Option<Shape>
     requires { IsSeen seen.now }
-    ensures { OnOk result (out.new.items ≡ out.old.items ++ hidden_text seen.now.face seen.now.shown) }
+    ensures { result ≡ hidden_shape seen.now.face seen.now.shown }
 {
     match seen.shown {
-        Shown::Hidden => put_block(out, Class::Hidden, &seen.face),
-        Shown::Open(_) => Ok(()),
-        Shown::Repeated => Ok(()),
+        Shown::Hidden => Some(block_shape(Class::Hidden, &seen.face)),
+        Shown::Open(_) => None,
+        Shown::Repeated => None,
     }
 }
 
-/// Appends the open blocks.
-pub(crate) fn put_open(out: &mut Vec<u8>, all: &[Seen]) -> Result<(), NoMemory>
-    requires { AreSeen all.now }
-    ensures { OnOk result (out.new.items ≡ out.old.items ++ all_open all.now) }
-{
-    for seen in all {
-        put_if_open(out, seen)?;
-    }
-    Ok(())
-}
-
-/// Appends the hidden blocks.
-pub(crate) fn put_hidden(out: &mut Vec<u8>, all: &[Seen]) -> Result<(), NoMemory>
-    requires { AreSeen all.now }
-    ensures { OnOk result (out.new.items ≡ out.old.items ++ all_hidden all.now) }
-{
-    for seen in all {
-        put_if_hidden(out, seen)?;
-    }
-    Ok(())
-}
-
-// Appends the outline of a block.
-fn put_outline(out: &mut Vec<u8>, face: &Face) -> Result<(), NoMemory>
-    requires { IsRect face.now.rect }
-    ensures { OnOk result (out.new.items ≡ out.old.items ++ face_text (Some face.now)) }
-{
-    put_path(out, Class::Hit, &rect_outline(face.rect))
-}
-
-/// Appends the outline of the block of the contact.
-pub(crate) fn put_hit(
-    out: &mut Vec<u8>,
-    faces: &[Face],
-    contact: Option<Contact>,
-) -> Result<(), NoMemory>
+// The outline of the block of the contact.
+fn hit_shape(faces: &[Face], contact: Option<Contact>) -> Option<Shape>
     requires { AreFaces faces.now }
-    ensures { OnOk result (out.new.items ≡ out.old.items ++ hit_text faces.now contact) }
+    ensures { result ≡ hit_shape faces.now contact }
 {
-    let Some(contact) = contact else {
-        return Ok(());
-    };
-    match faces.get((contact.block as usize).saturating_sub(1)) {
-        Some(face) => put_outline(out, face),
-        None => Ok(()),
-    }
+    let contact = contact?;
+    let face = faces.get((contact.block as usize).saturating_sub(1))?;
+    Some(Shape::Path(Class::Hit, rect_outline(face.rect)))
 }
 
 // Where the number of a block stands.
@@ -117,38 +72,68 @@ fn figure_label(figure: &Figure) -> Label
     }
 }
 
-// Appends the number of a block in its box.
-fn put_figure(out: &mut Vec<u8>, face: &Face, figure: &Figure) -> Result<(), NoMemory>
-    requires { IsFigure figure.now }
-    ensures { OnOk result (out.new.items ≡ out.old.items ++ figure_text face.now figure.now) }
-{
-    put_text(
-        out,
-        figure_label(figure),
-        &[Piece::Count(u64::from(face.number))],
-    )
-}
-
-// Appends the number of a block, if it has a box.
-fn put_number(out: &mut Vec<u8>, seen: &Seen) -> Result<(), NoMemory>
+// The number of a block, if it has a box.
+fn number_shape(seen: &Seen) -> Option<Shape>
     requires { IsSeen seen.now }
-    ensures { OnOk result (out.new.items ≡ out.old.items ++ number_text seen.now.face seen.now.shown) }
+    ensures { result ≡ number_shape seen.now.face seen.now.shown }
 {
     match seen.shown {
-        Shown::Open(Some(figure)) => put_figure(out, &seen.face, &figure),
-        Shown::Open(None) => Ok(()),
-        Shown::Hidden => Ok(()),
-        Shown::Repeated => Ok(()),
+        Shown::Open(Some(figure)) => Some(Shape::Text(
+            figure_label(&figure),
+            Words::Number(seen.face.number),
+        )),
+        Shown::Open(None) => None,
+        Shown::Hidden => None,
+        Shown::Repeated => None,
     }
 }
 
-/// Appends the numbers that have a box.
-pub(crate) fn put_figures(out: &mut Vec<u8>, all: &[Seen]) -> Result<(), NoMemory>
+// Appends the open blocks.
+fn push_open(shapes: &mut Vec<Shape>, all: &[Seen]) -> Result<(), NoMemory>
     requires { AreSeen all.now }
-    ensures { OnOk result (out.new.items ≡ out.old.items ++ all_numbers all.now) }
+    ensures { OnOk result (shapes.new.items ≡ shapes.old.items ++ open_shapes all.now) }
 {
     for seen in all {
-        put_number(out, seen)?;
+        push_shape(shapes, open_shape(seen))?;
     }
     Ok(())
+}
+
+// Appends the hidden blocks.
+fn push_hidden(shapes: &mut Vec<Shape>, all: &[Seen]) -> Result<(), NoMemory>
+    requires { AreSeen all.now }
+    ensures { OnOk result (shapes.new.items ≡ shapes.old.items ++ hidden_shapes all.now) }
+{
+    for seen in all {
+        push_shape(shapes, hidden_shape(seen))?;
+    }
+    Ok(())
+}
+
+// Appends the numbers.
+fn push_numbers(shapes: &mut Vec<Shape>, all: &[Seen]) -> Result<(), NoMemory>
+    requires { AreSeen all.now }
+    ensures { OnOk result (shapes.new.items ≡ shapes.old.items ++ number_shapes all.now) }
+{
+    for seen in all {
+        push_shape(shapes, number_shape(seen))?;
+    }
+    Ok(())
+}
+
+/// Appends the blocks of a view, with the outline of the block of the contact.
+pub(crate) fn push_blocks(
+    shapes: &mut Vec<Shape>,
+    faces: &[Face],
+    all: &[Seen],
+    contact: Option<Contact>,
+) -> Result<(), NoMemory>
+    requires faces { AreFaces faces.now }
+    requires seen { AreSeen all.now }
+    ensures { OnOk result (shapes.new.items ≡ shapes.old.items ++ blocks_shapes faces.now all.now contact) }
+{
+    push_open(shapes, all)?;
+    push_hidden(shapes, all)?;
+    push_shape(shapes, hit_shape(faces, contact))?;
+    push_numbers(shapes, all)
 }

@@ -1,27 +1,29 @@
 //! A view, drawn.
 
-ghost use Rattle.std.specs.Prelude.{◌≡◌, ◌++◌, [], Some, OnOk, IfOk};
-ghost use Rattle.vcm_picture.specs.Drawing.{name_label, name_text, contact_name, first_names_text, feature_name_text, feature_names_text, title_label, group_text, view_front, blocks_text, way_of, way_text, names_beside, names_of, names_text, view_of, view_text, scene};
-ghost use Rattle.vcm_svg.specs.Pieces.{texts};
-ghost use Rattle.vcm_picture.specs.Marks.{contact_of};
+ghost use Rattle.std.specs.Prelude.{◌≡◌, ◌≤◌, ◌++◌, length, Some, OnOk, IfOk, IsTrue};
+ghost use Rattle.std.specs.List.{list_all};
+ghost use Rattle.vcm_spec.specs.Workpiece.{is_block};
+ghost use Rattle.vcm_picture.specs.Drawing.{name_label, name_shape, contact_name, first_shapes, feature_name, feature_shapes, title_label, group_text, view_front, names_beside, names_shapes, view_shapes, view_text, scene};
 ghost use Rattle.vcm_picture.specs.inner.Ranges.{IsScope};
 ghost use Rattle.vcm_svg.specs.Ranges.{IsUnit, IsLarge, IsSpot};
-ghost use Rattle.vcm_picture.specs.inner.Drawable.{AreFaces, AreSeen, AreFirst, AreNamed, MayName};
+ghost use Rattle.vcm_picture.specs.inner.Drawable.{AreFirst, AreNamed, MayName};
 
-use crate::blocks::{put_figures, put_hidden, put_hit, put_open};
-use crate::marks::{are_few, contact_of};
-use crate::names::{FirstNames, Named, feature_names, first_names, name_at, take_figures};
-use crate::shown::{Face, Seen, all_seen, faces_of};
+use crate::blocks::push_blocks;
+use crate::marks::contact_of;
+use crate::names::{FirstNames, Named, feature_names, first_names, take_figures};
+use crate::shapes::{Shape, Words, push_shape, push_shapes, put_shapes};
+use crate::shown::{Seen, faces_of};
+use crate::strips::all_seen;
 use crate::view::{Scope, View, clip, title};
-use crate::way::{put_all_touched, put_ends, put_limits, put_pieces};
+use crate::way::push_way;
 use std::alloc::Global;
 use vcm_items::Name;
 use vcm_marks::{Contact, Placed};
 use vcm_num::{NoMemory, Point};
 use vcm_part::PartData;
-use vcm_spec::Bounds;
+use vcm_spec::{Block3, Bounds};
 use vcm_state::World;
-use vcm_svg::{Class, Label, Lettering, Piece, Rect, Spot, put, put_path, put_text, square};
+use vcm_svg::{Class, Label, Lettering, Outline, Piece, Rect, Spot, put, put_path, put_text};
 
 // Where a name stands in its box.
 fn name_label(area: Rect, unit: i64) -> Label
@@ -39,94 +41,136 @@ fn name_label(area: Rect, unit: i64) -> Label
     }
 }
 
-// Appends a name in its box, if it has one.
-fn put_name(
-    out: &mut Vec<u8>,
-    area: Option<Rect>,
-    unit: i64,
-    words: &[Piece],
-) -> Result<(), NoMemory>
+// A name in its box, if it has one.
+fn name_shape(area: Option<Rect>, unit: i64, words: Words) -> Option<Shape>
     requires area { MayName area }
     requires unit { IsUnit unit }
-    ensures { OnOk result (out.new.items ≡ out.old.items ++ name_text area unit (texts words.now)) }
+    ensures { result ≡ name_shape area unit words }
 {
     match area {
-        Some(area) => put_text(out, name_label(area, unit), words),
-        None => Ok(()),
+        Some(area) => Some(Shape::Text(name_label(area, unit), words)),
+        None => None,
     }
 }
 
-// Appends the name of the contact, if it has a box.
-fn put_contact_name(
-    out: &mut Vec<u8>,
-    area: Option<Rect>,
-    unit: i64,
-    contact: Option<Contact>,
-) -> Result<(), NoMemory>
+// The name of the contact, if it has a box.
+fn contact_name(area: Option<Rect>, unit: i64, contact: Option<Contact>) -> Option<Shape>
     requires area { MayName area }
     requires unit { IsUnit unit }
-    ensures { OnOk result (out.new.items ≡ out.old.items ++ contact_name area unit contact) }
+    ensures { result ≡ contact_name area unit contact }
 {
     match contact {
-        Some(contact) => {
-            let block = u64::from(contact.block);
-            put_name(
-                out,
-                area,
-                unit,
-                &[Piece::Text(b"block "), Piece::Count(block)],
-            )
-        }
-        None => Ok(()),
+        Some(contact) => name_shape(area, unit, Words::Block(contact.block)),
+        None => None,
     }
 }
 
-// Appends the names of the contact, of the end and of home.
-fn put_first_names(
-    out: &mut Vec<u8>,
-    unit: i64,
-    contact: Option<Contact>,
-    names: FirstNames,
-) -> Result<(), NoMemory>
+// The names of the contact, of the end and of home.
+fn first_shapes(unit: i64, contact: Option<Contact>, names: FirstNames) -> [Option<Shape>; 3]
     requires names { AreFirst names }
     requires unit { IsUnit unit }
-    ensures { OnOk result (out.new.items ≡ out.old.items ++ first_names_text unit contact names) }
+    ensures { result ≡ first_shapes unit contact names }
 {
-    put_contact_name(out, names.contact, unit, contact)?;
-    put_name(out, names.end, unit, &[Piece::Text(b"end")])?;
-    put_name(out, names.home, unit, &[Piece::Text(b"home")])
+    [
+        contact_name(names.contact, unit, contact),
+        name_shape(names.end, unit, Words::End),
+        name_shape(names.home, unit, Words::Home),
+    ]
 }
 
-// Appends the name of a touched point.
-fn put_feature_name(
-    out: &mut Vec<u8>,
-    scope: Scope,
-    features: &[Name],
-    named: &Named,
-) -> Result<(), NoMemory>
+// The name of a touched point.
+fn feature_name(unit: i64, named: &Named) -> Option<Shape>
     requires top { IsLarge named.now.area.top }
-    requires scope { IsScope scope }
-    ensures { OnOk result (out.new.items ≡ out.old.items ++ feature_name_text scope.unit features.now named.now) }
+    requires unit { IsUnit unit }
+    ensures { result ≡ Some (feature_name unit named.now) }
 {
-    let name = name_at(features, named.feature);
-    put_name(out, Some(named.area), scope.unit, &[Piece::Text(name)])
+    name_shape(Some(named.area), unit, Words::Feature(named.feature))
 }
 
 // Appends the names of the touched points.
-fn put_feature_names(
-    out: &mut Vec<u8>,
-    scope: Scope,
-    features: &[Name],
-    named: &[Named],
-) -> Result<(), NoMemory>
+fn push_features(shapes: &mut Vec<Shape>, unit: i64, named: &[Named]) -> Result<(), NoMemory>
     requires named { AreNamed named.now }
-    requires scope { IsScope scope }
-    ensures { OnOk result (out.new.items ≡ out.old.items ++ feature_names_text scope.unit features.now named.now) }
+    requires unit { IsUnit unit }
+    ensures { OnOk result (shapes.new.items ≡ shapes.old.items ++ feature_shapes unit named.now) }
 {
     for one in named {
-        put_feature_name(out, scope, features, one)?;
+        push_shape(shapes, feature_name(unit, one))?;
     }
     Ok(())
+}
+
+// The names of the touched points that find room beside what is taken.
+fn names_beside(
+    alloc: Global,
+    scope: Scope,
+    features: &[Name],
+    marks: &[Placed],
+    taken: &mut Vec<Rect>,
+) -> Result<Vec<Named>, NoMemory>
+    requires scope { IsScope scope }
+    ensures names { IfOk result (λ named. named.items ≡ names_beside scope features.now marks.now taken.old.items) }
+    ensures ranges { IfOk result (λ named. AreNamed named.items) }
+{
+    let mut named = Vec::new(alloc);
+    feature_names(scope, features, marks, taken, &mut named)?;
+    Ok(named)
+}
+
+// Appends the names of a view with this home, these names and this position, beside the numbers of its blocks.
+fn push_names(
+    alloc: Global,
+    shapes: &mut Vec<Shape>,
+    scope: Scope,
+    home: Point,
+    features: &[Name],
+    position: Point,
+    marks: &[Placed],
+    all: &[Seen],
+) -> Result<(), NoMemory>
+    requires scope { IsScope scope }
+    ensures { OnOk result (shapes.new.items ≡ shapes.old.items ++ names_shapes scope home features.now position marks.now all.now) }
+{
+    let contact = contact_of(marks);
+    let mut taken = Vec::new(alloc);
+    let first = first_names(scope, contact, position, home, &mut taken)?;
+    take_figures(&mut taken, all)?;
+    let named = names_beside(alloc, scope, features, marks, &mut taken)?;
+    push_shapes(shapes, &first_shapes(scope.unit, contact, first))?;
+    push_features(shapes, scope.unit, named.as_slice())
+}
+
+// The shapes of a view of these blocks, limits, names and marks, with this position at the end.
+fn view_shapes(
+    alloc: Global,
+    scope: Scope,
+    blocks: &[Block3],
+    bounds: Bounds,
+    features: &[Name],
+    position: Point,
+    marks: &[Placed],
+) -> Result<Vec<Shape>, NoMemory>
+    requires scope { IsScope scope }
+    requires few { length blocks.now ≤ 4096 }
+    requires blocks { IsTrue (list_all is_block blocks.now) }
+    ensures { IfOk result (λ shapes. shapes.items ≡ view_shapes scope blocks.now bounds features.now position marks.now) }
+{
+    let faces = faces_of(alloc, scope, blocks)?;
+    let all = all_seen(alloc, scope.wide, faces.as_slice(), scope.unit)?;
+    let seen = all.as_slice();
+    let mut shapes = Vec::new(alloc);
+    push_blocks(&mut shapes, faces.as_slice(), seen, contact_of(marks))?;
+    push_way(&mut shapes, scope, bounds, position, marks)?;
+    push_names(
+        alloc,
+        &mut shapes,
+        scope,
+        bounds.home,
+        features,
+        position,
+        marks,
+        seen,
+    )?;
+    Ok(shapes)
 }
 
 // Where the title of a view stands, at a place of the picture.
@@ -175,159 +219,8 @@ fn begin_view(out: &mut Vec<u8>, scope: Scope, at: Spot) -> Result<(), NoMemory>
         &[Piece::Text(title(scope.view))],
     )?;
     begin_group(out, scope.view, at)?;
-    let frame = square(Spot { x: 0, y: 0 }, scope.wide, scope.high);
-    put_path(out, Class::Frame, &frame)
-}
-
-// Appends the blocks of a view.
-fn put_blocks(
-    out: &mut Vec<u8>,
-    faces: &[Face],
-    all: &[Seen],
-    contact: Option<Contact>,
-) -> Result<(), NoMemory>
-    requires faces { AreFaces faces.now }
-    requires seen { AreSeen all.now }
-    ensures { OnOk result (out.new.items ≡ out.old.items ++ blocks_text faces.now all.now contact) }
-{
-    put_open(out, all)?;
-    put_hidden(out, all)?;
-    put_hit(out, faces, contact)?;
-    put_figures(out, all)
-}
-
-// Appends the way in a view, of these limits, names, position and first line.
-fn put_way_of(
-    out: &mut Vec<u8>,
-    scope: Scope,
-    bounds: Bounds,
-    features: &[Name],
-    position: Point,
-    stopped: &[u8],
-    marks: &[Placed],
-) -> Result<(), NoMemory>
-    requires scope { IsScope scope }
-    ensures { OnOk result (out.new.items ≡ out.old.items ++ way_of scope bounds features.now position stopped.now marks.now) }
-{
-    let contact = contact_of(marks);
-    put_limits(out, scope, bounds.low, bounds.high)?;
-    put_pieces(out, scope, are_few(marks), marks)?;
-    put_all_touched(out, scope, features, marks)?;
-    put_ends(out, scope, bounds, position, contact, stopped)
-}
-
-// Appends the way in a view.
-fn put_way(
-    out: &mut Vec<u8>,
-    scope: Scope,
-    part: &PartData,
-    world: &World,
-    stopped: &[u8],
-    marks: &[Placed],
-) -> Result<(), NoMemory>
-    requires scope { IsScope scope }
-    ensures { OnOk result (out.new.items ≡ out.old.items ++ way_text scope (scene part.now world.now stopped.now) marks.now) }
-{
-    put_way_of(
-        out,
-        scope,
-        part.bounds(),
-        world.tables().features(),
-        world.position(),
-        stopped,
-        marks,
-    )
-}
-
-// The names of the touched points that find room beside what is taken.
-fn names_beside(
-    alloc: Global,
-    scope: Scope,
-    features: &[Name],
-    marks: &[Placed],
-    taken: &mut Vec<Rect>,
-) -> Result<Vec<Named>, NoMemory>
-    requires scope { IsScope scope }
-    ensures names { IfOk result (λ named. named.items ≡ names_beside scope features.now marks.now taken.old.items) }
-    ensures ranges { IfOk result (λ named. AreNamed named.items) }
-{
-    let mut named = Vec::new(alloc);
-    feature_names(scope, features, marks, taken, &mut named)?;
-    Ok(named)
-}
-
-// Appends the names of a view with this home, these names and this position.
-fn put_names_of(
-    alloc: Global,
-    out: &mut Vec<u8>,
-    scope: Scope,
-    home: Point,
-    features: &[Name],
-    position: Point,
-    marks: &[Placed],
-    all: &[Seen],
-) -> Result<(), NoMemory>
-    requires scope { IsScope scope }
-    ensures { OnOk result (out.new.items ≡ out.old.items ++ names_of scope home features.now position marks.now all.now) }
-{
-    let contact = contact_of(marks);
-    let mut taken = Vec::new(alloc);
-    let first = first_names(scope, contact, position, home, &mut taken)?;
-    take_figures(&mut taken, all)?;
-    let named = names_beside(alloc, scope, features, marks, &mut taken)?;
-    put_first_names(out, scope.unit, contact, first)?;
-    put_feature_names(out, scope, features, named.as_slice())
-}
-
-// Appends the names of a view, beside the numbers of its blocks.
-fn put_names(
-    alloc: Global,
-    out: &mut Vec<u8>,
-    scope: Scope,
-    part: &PartData,
-    world: &World,
-    marks: &[Placed],
-    all: &[Seen],
-) -> Result<(), NoMemory>
-    requires scope { IsScope scope }
-    ensures { OnOk result (out.new.items ≡ out.old.items ++ names_text scope (scene part.now world.now []) marks.now all.now) }
-{
-    put_names_of(
-        alloc,
-        out,
-        scope,
-        part.bounds().home,
-        world.tables().features(),
-        world.position(),
-        marks,
-        all,
-    )
-}
-
-// Appends a view of these blocks at a place of the picture.
-fn put_view_of(
-    alloc: Global,
-    out: &mut Vec<u8>,
-    scope: Scope,
-    at: Spot,
-    part: &PartData,
-    world: &World,
-    stopped: &[u8],
-    marks: &[Placed],
-    faces: &[Face],
-    all: &[Seen],
-) -> Result<(), NoMemory>
-    requires scope { IsScope scope }
-    requires at { IsSpot at }
-    requires faces { AreFaces faces.now }
-    requires seen { AreSeen all.now }
-    ensures { OnOk result (out.new.items ≡ out.old.items ++ view_of scope at (scene part.now world.now stopped.now) marks.now faces.now all.now) }
-{
-    begin_view(out, scope, at)?;
-    put_blocks(out, faces, all, contact_of(marks))?;
-    put_way(out, scope, part, world, stopped, marks)?;
-    put_names(alloc, out, scope, part, world, marks, all)?;
-    put(out, &[Piece::Text(b"</g>\n")])
+    let frame = Outline::Rectangle(Spot { x: 0, y: 0 }, scope.wide, scope.high);
+    put_path(out, Class::Frame, frame)
 }
 
 /// Appends a view at a place of the picture.
@@ -345,18 +238,19 @@ pub(crate) fn put_view(
     requires at { IsSpot at }
     ensures { OnOk result (out.new.items ≡ out.old.items ++ view_text scope at (scene part.now world.now stopped.now) marks.now) }
 {
-    let faces = faces_of(alloc, scope, part.blocks())?;
-    let all = all_seen(alloc, faces.as_slice(), scope.unit)?;
-    put_view_of(
+    let features = world.tables().features();
+    let bounds = part.bounds();
+    let position = world.position();
+    let shapes = view_shapes(
         alloc,
-        out,
         scope,
-        at,
-        part,
-        world,
-        stopped,
+        part.blocks(),
+        bounds,
+        features,
+        position,
         marks,
-        faces.as_slice(),
-        all.as_slice(),
-    )
+    )?;
+    begin_view(out, scope, at)?;
+    put_shapes(out, features, stopped, shapes.as_slice())?;
+    put(out, &[Piece::Text(b"</g>\n")])
 }

@@ -3,7 +3,7 @@
 ghost use Rattle.std.specs.Prelude.{◌≡◌, ◌++◌, ◌<◌, OnOk, IfOk, IsTrue};
 ghost use Rattle.std.specs.List.{list_all};
 ghost use Rattle.vcm_spec.specs.Workpiece.{is_block};
-ghost use Rattle.vcm_picture.specs.Picture.{above, units, laid_out, layout_with, layout_of, head_text, clip_text, background_text, window_for, window_round, view_spot, lower_views, views_text, legend_spot, bar_place, foot_text, picture_of, picture_text, sheet};
+ghost use Rattle.vcm_picture.specs.Picture.{above, units, laid_out, layout_with, layout_of, head_text, clip_text, clips_text, background_text, window_for, window_round, view_spot, views_text, legend_spot, bar_place, foot_text, picture_of, picture_text, sheet};
 ghost use Rattle.vcm_picture.specs.Drawing.{scene, view_text};
 ghost use Rattle.vcm_picture.specs.inner.Ranges.{IsBorder, IsLine, IsWindow};
 ghost use Rattle.vcm_svg.specs.Ranges.{IsSize, IsSmall, IsSpot, IsUnit};
@@ -26,8 +26,8 @@ use vcm_part::PartData;
 use vcm_spec::Block3;
 use vcm_state::World;
 use vcm_svg::{
-    Class, Piece, Spot, put, put_bar, put_heading, put_legend, put_path, put_style, quotient,
-    square,
+    Class, Outline, Piece, Spot, put, put_bar, put_heading, put_legend, put_outline, put_path,
+    put_style, quotient,
 };
 
 /// Why a picture isn't written.
@@ -38,6 +38,9 @@ pub enum PictureFault {
     /// The writer failed, or took no byte; it has taken a front of the picture that is not all.
     Write,
 }
+
+/// The views, in the order in which they are drawn.
+const VIEWS: [View; 3] = [View::Top, View::Front, View::Side];
 
 /// Where the parts of a picture stand, and its size, in its units.
 #[derive(Clone, Copy)]
@@ -142,7 +145,7 @@ fn put_head(out: &mut Vec<u8>, layout: Layout, unit: i64, first: &[u8]) -> Resul
 // Appends the clip path of a view.
 fn put_clip(out: &mut Vec<u8>, view: View, window: Window) -> Result<(), NoMemory>
     requires { IsWindow window }
-    ensures { OnOk result (out.new.items ≡ out.old.items ++ clip_text view window) }
+    ensures { OnOk result (out.new.items ≡ out.old.items ++ clip_text window view) }
 {
     let scope = scope_of(window, view);
     put(
@@ -153,21 +156,30 @@ fn put_clip(out: &mut Vec<u8>, view: View, window: Window) -> Result<(), NoMemor
             Piece::Text(b"\"><path d=\""),
         ],
     )?;
-    put(out, &square(Spot { x: 0, y: 0 }, scope.wide, scope.high))?;
+    let frame = Outline::Rectangle(Spot { x: 0, y: 0 }, scope.wide, scope.high);
+    put_outline(out, frame)?;
     put(out, &[Piece::Text(b"\"/></clipPath>\n")])
+}
+
+// Appends the clip paths of some views.
+fn put_clips(out: &mut Vec<u8>, views: &[View], window: Window) -> Result<(), NoMemory>
+    requires window { IsWindow window }
+    ensures { OnOk result (out.new.items ≡ out.old.items ++ clips_text window views.now) }
+{
+    for view in views {
+        put_clip(out, *view, window)?;
+    }
+    Ok(())
 }
 
 // Appends the clip paths, and the background.
 fn put_background(out: &mut Vec<u8>, window: Window, layout: Layout) -> Result<(), NoMemory>
     requires window { IsWindow window }
-    requires layout { IsLayout layout }
     ensures { OnOk result (out.new.items ≡ out.old.items ++ background_text window layout) }
 {
-    put_clip(out, View::Top, window)?;
-    put_clip(out, View::Front, window)?;
-    put_clip(out, View::Side, window)?;
-    let sheet = square(Spot { x: 0, y: 0 }, layout.wide, layout.high);
-    put_path(out, Class::Sheet, &sheet)
+    put_clips(out, &VIEWS, window)?;
+    let sheet = Outline::Rectangle(Spot { x: 0, y: 0 }, layout.wide, layout.high);
+    put_path(out, Class::Sheet, sheet)
 }
 
 // The window round these points, blocks and marks.
@@ -249,49 +261,11 @@ fn put_view_at(
     put_view(alloc, out, scope, at, part, world, stopped, marks)
 }
 
-// Appends the front view and the right side view.
-fn put_lower_views(
-    alloc: Global,
-    out: &mut Vec<u8>,
-    window: Window,
-    layout: Layout,
-    part: &PartData,
-    world: &World,
-    stopped: &[u8],
-    marks: &[Placed],
-) -> Result<(), NoMemory>
-    requires window { IsWindow window }
-    requires layout { IsLayout layout }
-    ensures { OnOk result (out.new.items ≡ out.old.items ++ lower_views window layout (scene part.now world.now stopped.now) marks.now) }
-{
-    put_view_at(
-        alloc,
-        out,
-        window,
-        layout,
-        View::Front,
-        part,
-        world,
-        stopped,
-        marks,
-    )?;
-    put_view_at(
-        alloc,
-        out,
-        window,
-        layout,
-        View::Side,
-        part,
-        world,
-        stopped,
-        marks,
-    )
-}
-
-// Appends the three views.
+// Appends views, each at its place.
 fn put_views(
     alloc: Global,
     out: &mut Vec<u8>,
+    views: &[View],
     window: Window,
     layout: Layout,
     part: &PartData,
@@ -301,20 +275,14 @@ fn put_views(
 ) -> Result<(), NoMemory>
     requires window { IsWindow window }
     requires layout { IsLayout layout }
-    ensures { OnOk result (out.new.items ≡ out.old.items ++ views_text window layout (scene part.now world.now stopped.now) marks.now) }
+    ensures { OnOk result (out.new.items ≡ out.old.items ++ views_text window layout (scene part.now world.now stopped.now) marks.now views.now) }
 {
-    put_view_at(
-        alloc,
-        out,
-        window,
-        layout,
-        View::Top,
-        part,
-        world,
-        stopped,
-        marks,
-    )?;
-    put_lower_views(alloc, out, window, layout, part, world, stopped, marks)
+    for view in views {
+        put_view_at(
+            alloc, out, window, layout, *view, part, world, stopped, marks,
+        )?;
+    }
+    Ok(())
 }
 
 // Where the legend stands.
@@ -385,7 +353,9 @@ fn put_picture(
     put_style(out, unit, part.blocks().len(), are_few(marks))?;
     put_background(out, window, layout)?;
     put_heading(out, unit, first, world.position(), done, left_out)?;
-    put_views(alloc, out, window, layout, part, world, first, marks)?;
+    put_views(
+        alloc, out, &VIEWS, window, layout, part, world, first, marks,
+    )?;
     put_foot(out, window, layout)
 }
 

@@ -1,13 +1,12 @@
 //! Which blocks a view shows, how, and where their numbers stand.
 
-ghost use Rattle.std.specs.Prelude.{◌≡◌, ◌≤◌, ◌≤ℤ◌, ◌*ℤ◌, ◌++◌, ◌&&◌, [], length, pos, int_le, int_lt, not, option_map, option_to_list, OnOk, IfOk, IfSome, IsTrue};
-ghost use Rattle.std.specs.List.{list_all, list_any, find};
+ghost use Rattle.std.specs.Prelude.{◌≡◌, ◌≤◌, ◌≤ℤ◌, ◌*ℤ◌, length, pos, not, option_map, IfOk, IsTrue};
+ghost use Rattle.std.specs.List.{list_all, find};
 ghost use Rattle.vcm_spec.specs.Workpiece.{is_block};
-ghost use Rattle.vcm_svg.specs.Rect.{meets, contains, is_same};
-ghost use Rattle.vcm_picture.specs.Shown.{face_of, faces_from, is_repeated, is_hidden, is_covered, size_of, corners, room, figure_with, digits_of, figure_of, shown_of, first_seen, seen_from};
+ghost use Rattle.vcm_picture.specs.Shown.{face_of, faces_from, is_repeated, is_hidden, is_covered, size_of, corners, room, figure_with, digits_of, figure_of, shown_of};
 ghost use Rattle.vcm_picture.specs.inner.Ranges.{IsScope, IsLetters};
 ghost use Rattle.vcm_svg.specs.Ranges.{IsRect, IsUnit, IsExtent};
-ghost use Rattle.vcm_picture.specs.inner.Drawable.{AreBoxes, AreFaces, AreSeen, IsSeen, IsShown, MayName, MayStand};
+ghost use Rattle.vcm_picture.specs.inner.Drawable.{AreBoxes, AreFaces, IsShown, MayName, MayStand};
 
 use crate::view::{Scope, nearness, rect_of};
 use crate::whole::letters_wide;
@@ -86,74 +85,25 @@ pub(crate) fn faces_of(
     Ok(faces)
 }
 
-// Of two blocks that are equally near the one that stands first is the nearer one: so of those before a block each that is at least as near
-// counts, of those behind it each that is nearer.
-
-// Whether a block before it that is as near or nearer has the same rectangle.
-fn is_repeated_before(before: &[Face], face: &Face) -> bool
-    ensures { result ≡ list_any (λ o. int_le face.now.near o.near && is_same o.rect face.now.rect) before.now }
+// Whether one of the rectangles before it is the same.
+fn is_repeated(before: &[Rect], rect: Rect) -> bool
+    ensures { result ≡ is_repeated before.now rect }
 {
-    before.iter().any(|other| face.near <= other.near && is_same(other.rect, face.rect))
+    before.iter().any(|other| is_same(*other, rect))
 }
 
-// Whether a nearer block behind it has the same rectangle.
-fn is_repeated_behind(face: &Face, after: &[Face]) -> bool
-    ensures { result ≡ list_any (λ o. int_lt face.now.near o.near && is_same o.rect face.now.rect) after.now }
+// Whether one of the rectangles before it contains it.
+fn is_hidden(before: &[Rect], rect: Rect) -> bool
+    ensures { result ≡ is_hidden before.now rect }
 {
-    after.iter().any(|other| face.near < other.near && is_same(other.rect, face.rect))
+    before.iter().any(|other| contains(*other, rect))
 }
 
-// Whether a nearer block has the same rectangle.
-fn is_repeated(before: &[Face], face: &Face, after: &[Face]) -> bool
-    ensures { result ≡ is_repeated before.now face.now after.now }
+// Whether one of the rectangles before it meets it.
+fn is_covered(before: &[Rect], area: Rect) -> bool
+    ensures { result ≡ is_covered before.now area }
 {
-    is_repeated_before(before, face) || is_repeated_behind(face, after)
-}
-
-// Whether the rectangle of a block before it that is as near or nearer contains its own.
-fn is_hidden_before(before: &[Face], face: &Face) -> bool
-    ensures { result ≡ list_any (λ o. int_le face.now.near o.near && contains o.rect face.now.rect) before.now }
-{
-    before.iter().any(|other| face.near <= other.near && contains(other.rect, face.rect))
-}
-
-// Whether the rectangle of a nearer block behind it contains its own.
-fn is_hidden_behind(face: &Face, after: &[Face]) -> bool
-    ensures { result ≡ list_any (λ o. int_lt face.now.near o.near && contains o.rect face.now.rect) after.now }
-{
-    after.iter().any(|other| face.near < other.near && contains(other.rect, face.rect))
-}
-
-// Whether the rectangle of a nearer block contains its own.
-fn is_hidden(before: &[Face], face: &Face, after: &[Face]) -> bool
-    ensures { result ≡ is_hidden before.now face.now after.now }
-{
-    is_hidden_before(before, face) || is_hidden_behind(face, after)
-}
-
-// Whether an area meets the rectangle of a block before it that is as near or nearer.
-fn is_covered_before(before: &[Face], face: &Face, area: Rect) -> bool
-    ensures { result ≡ list_any (λ o. int_le face.now.near o.near && meets o.rect area) before.now }
-{
-    before
-        .iter()
-        .any(|other| face.near <= other.near && meets(other.rect, area))
-}
-
-// Whether an area meets the rectangle of a nearer block behind it.
-fn is_covered_behind(face: &Face, after: &[Face], area: Rect) -> bool
-    ensures { result ≡ list_any (λ o. int_lt face.now.near o.near && meets o.rect area) after.now }
-{
-    after
-        .iter()
-        .any(|other| face.near < other.near && meets(other.rect, area))
-}
-
-// Whether an area meets the rectangle of a nearer block.
-fn is_covered(before: &[Face], face: &Face, after: &[Face], area: Rect) -> bool
-    ensures { result ≡ is_covered before.now face.now.near after.now area }
-{
-    is_covered_before(before, face, area) || is_covered_behind(face, after, area)
+    before.iter().any(|other| meets(*other, area))
 }
 
 // The size of the letters of a number with so many digits.
@@ -189,67 +139,54 @@ fn corners(rect: Rect, wide: i64, size: i64) -> [Rect; 4]
     ]
 }
 
-// Whether an area meets no nearer block.
-fn is_open(before: &[Face], face: &Face, after: &[Face], area: Rect) -> bool
-    ensures { result ≡ not (is_covered before.now face.now.near after.now area) }
-{
-    !is_covered(before, face, after, area)
-}
-
-// The first of some boxes that meets no nearer block.
-fn first_open(before: &[Face], face: &Face, after: &[Face], boxes: &[Rect]) -> Option<Rect>
-    ensures { result ≡ find (λ a. not (is_covered before.now face.now.near after.now a)) boxes.now }
+// The first of some boxes that meets none of the rectangles before it.
+fn first_open(before: &[Rect], boxes: &[Rect]) -> Option<Rect>
+    ensures { result ≡ find (λ a. not (is_covered before.now a)) boxes.now }
 {
     boxes
         .iter()
         .copied()
-        .find(|area| is_open(before, face, after, *area))
+        .find(|area| !is_covered(before, *area))
 }
 
-// The first corner of its rectangle where a number finds room.
-fn room(before: &[Face], face: &Face, after: &[Face], wide: i64, size: i64) -> Option<Rect>
-    requires rect { IsRect face.now.rect }
+// The first corner of a rectangle where a number finds room.
+fn room(before: &[Rect], rect: Rect, wide: i64, size: i64) -> Option<Rect>
+    requires rect { IsRect rect }
     requires wide { IsExtent wide }
     requires size { IsUnit size }
-    ensures area { result ≡ room before.now face.now after.now wide size }
+    ensures area { result ≡ room before.now rect wide size }
     ensures ranges { MayName result }
 {
-    let boxes = corners(face.rect, wide, size);
-    first_open(before, face, after, &boxes)
+    let boxes = corners(rect, wide, size);
+    first_open(before, &boxes)
 }
 
-// Where the number of a block stands with letters of that size, which is 1 at least, if there is room.
-fn figure_in(before: &[Face], face: &Face, after: &[Face], digits: i64, size: i64) -> Option<Figure>
-    requires rect { IsRect face.now.rect }
+// Where a number stands in a rectangle with letters of that size, which is 1 at least, if there is room.
+fn figure_in(before: &[Rect], rect: Rect, digits: i64, size: i64) -> Option<Figure>
+    requires rect { IsRect rect }
     requires digits { IsLetters digits }
     requires size { IsUnit size }
-    ensures figure { result ≡ option_map (λ a. record { area = a; size = size }) (room before.now face.now after.now (pos 6 *ℤ digits *ℤ size) size) }
+    ensures figure { result ≡ option_map (λ a. record { area = a; size = size }) (room before.now rect (pos 6 *ℤ digits *ℤ size) size) }
     ensures ranges { MayStand result }
 {
-    match room(before, face, after, letters_wide(digits, size), size) {
+    match room(before, rect, letters_wide(digits, size), size) {
         Some(area) => Some(Figure { area, size }),
         None => None,
     }
 }
 
-// Where the number of a block stands with letters of that size, if there is room.
-fn figure_with(
-    before: &[Face],
-    face: &Face,
-    after: &[Face],
-    digits: i64,
-    size: i64,
-) -> Option<Figure>
-    requires rect { IsRect face.now.rect }
+// Where a number stands in a rectangle with letters of that size, if there is room.
+fn figure_with(before: &[Rect], rect: Rect, digits: i64, size: i64) -> Option<Figure>
+    requires rect { IsRect rect }
     requires digits { IsLetters digits }
     requires size { size ≤ℤ pos 8589934592 }
-    ensures figure { result ≡ figure_with before.now face.now after.now digits size }
+    ensures figure { result ≡ figure_with before.now rect digits size }
     ensures ranges { MayStand result }
 {
     if size < 1 {
         return None;
     }
-    figure_in(before, face, after, digits, size)
+    figure_in(before, rect, digits, size)
 }
 
 // How many digits a number has.
@@ -261,73 +198,29 @@ fn digits_of(number: u32) -> i64
 }
 
 // Where the number of a block stands, if there is room.
-fn figure_of(before: &[Face], face: &Face, after: &[Face], unit: i64) -> Option<Figure>
+fn figure_of(before: &[Rect], face: &Face, unit: i64) -> Option<Figure>
     requires rect { IsRect face.now.rect }
     requires unit { IsUnit unit }
-    ensures figure { result ≡ figure_of before.now face.now after.now unit }
+    ensures figure { result ≡ figure_of before.now face.now unit }
     ensures ranges { MayStand result }
 {
     let digits = digits_of(face.number);
     let size = size_of(face.rect, digits, unit);
-    figure_with(before, face, after, digits, size)
+    figure_with(before, face.rect, digits, size)
 }
 
-// How a block is shown, between those before it and those behind it.
-fn shown_of(before: &[Face], face: &Face, after: &[Face], unit: i64) -> Shown
+/// How a block is shown behind these rectangles.
+pub(crate) fn shown_of(before: &[Rect], face: &Face, unit: i64) -> Shown
     requires rect { IsRect face.now.rect }
     requires unit { IsUnit unit }
-    ensures shown { result ≡ shown_of before.now face.now after.now unit }
+    ensures shown { result ≡ shown_of before.now face.now unit }
     ensures ranges { IsShown result }
 {
-    if is_repeated(before, face, after) {
+    if is_repeated(before, face.rect) {
         return Shown::Repeated;
     }
-    if is_hidden(before, face, after) {
+    if is_hidden(before, face.rect) {
         return Shown::Hidden;
     }
-    Shown::Open(figure_of(before, face, after, unit))
-}
-
-// How the first of the blocks that are left is shown, behind those before it.
-fn first_seen(before: &[Face], rest: &[Face], unit: i64) -> Option<Seen>
-    requires faces { AreFaces rest.now }
-    requires unit { IsUnit unit }
-    ensures seen { result ≡ first_seen unit before.now rest.now }
-    ensures ranges { IfSome result IsSeen }
-{
-    match rest.split_first() {
-        Some((face, after)) => Some(Seen {
-            face: *face,
-            shown: shown_of(before, face, after, unit),
-        }),
-        None => None,
-    }
-}
-
-// Appends a block with how it is shown, if there is one.
-fn push_seen(all: &mut Vec<Seen>, seen: Option<Seen>) -> Result<(), NoMemory>
-    requires all { AreSeen all.old.items }
-    requires seen { IfSome seen IsSeen }
-    ensures items { OnOk result (all.new.items ≡ all.old.items ++ option_to_list seen) }
-    ensures ranges { OnOk result (AreSeen all.new.items) }
-{
-    if let Some(seen) = seen {
-        all.push(seen)?;
-    }
-    Ok(())
-}
-
-/// How each block is shown.
-pub(crate) fn all_seen(alloc: Global, faces: &[Face], unit: i64) -> Result<Vec<Seen>, NoMemory>
-    requires faces { AreFaces faces.now }
-    requires unit { IsUnit unit }
-    ensures seen { IfOk result (λ seen. seen.items ≡ seen_from unit [] faces.now) }
-    ensures ranges { IfOk result (λ seen. AreSeen seen.items) }
-{
-    let mut all = Vec::new(alloc);
-    for index in 0..faces.len() {
-        let (before, rest) = faces.split_at(index);
-        push_seen(&mut all, first_seen(before, rest, unit))?;
-    }
-    Ok(all)
+    Shown::Open(figure_of(before, face, unit))
 }

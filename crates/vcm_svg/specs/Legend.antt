@@ -1,16 +1,19 @@
 -- The legend, and the bar that shows a length.
-use Rattle.std.specs.Prelude.{ℕ, ℤ, pos, ◌+ℤ◌, ◌*ℤ◌, int_le, if◌then◌else◌, List, [], ◌∷◌, ◌++◌, flat_map, codes}
+use Rattle.std.specs.Prelude.{ℕ, ℤ, pos, ◌+ℤ◌, ◌*ℤ◌, int_le, if◌then◌else◌, map, List, [], ◌∷◌, ◌++◌, flat_map, codes}
 use Rattle.std.specs.Int.{int_div_euclid}
 use Rattle.vcm_num.specs.Texts.{thousandths}
 use Rattle.vcm_svg.specs.declared.legend.Sign.{Sign}
+use Rattle.vcm_svg.specs.declared.legend.TheConstants.{BARS, ROWS}
 use Rattle.vcm_svg.specs.declared.legend.Sign.TheVariants as sign
+use Rattle.vcm_svg.specs.declared.outlines.Outline.{Outline}
+use Rattle.vcm_svg.specs.declared.outlines.Outline.TheVariants.{Dash}
 use Rattle.vcm_svg.specs.declared.outlines.Reach.{Reach}
 use Rattle.vcm_svg.specs.declared.rect.Spot.{Spot}
 use Rattle.vcm_svg.specs.declared.shapes.Class.{Class}
 use Rattle.vcm_svg.specs.declared.shapes.Class.TheVariants as class
 use Rattle.vcm_svg.specs.declared.shapes.Label.{Label}
 use Rattle.vcm_svg.specs.declared.shapes.Lettering.TheVariants.{Plain}
-use Rattle.vcm_svg.specs.Outlines.{bar_line, circle, cross, dash, square_round}
+use Rattle.vcm_svg.specs.Outlines.{bar_line, circle, cross, square_round}
 use Rattle.vcm_svg.specs.Pieces.{joined}
 use Rattle.vcm_svg.specs.Rect.{spot}
 use Rattle.vcm_svg.specs.Shapes.{label, path, text}
@@ -36,8 +39,8 @@ abbrev pub sign_reach : Spot → ℤ → ℕ → Sign → Reach
 sign_reach at u down s = record { at = spot (at.x +ℤ right_of s *ℤ u) (at.y +ℤ pos down *ℤ u); count = size_of s; unit = u }
 
 -- the outline of a sign at a place, of this size
-abbrev pub sign_outline : Sign → Spot → ℤ → List ℕ
-sign_outline sign.Line at size = dash at size
+abbrev pub sign_outline : Sign → Spot → ℤ → Outline
+sign_outline sign.Line at size = Dash at size
 sign_outline sign.Point at size = circle at size
 sign_outline sign.Circle at size = circle at size
 sign_outline sign.Square at size = square_round at size
@@ -60,25 +63,9 @@ row_text at u row =
 abbrev pub rows_text : Spot → ℤ → List (ℕ × Class × Sign × List ℕ) → List ℕ
 rows_text at u rows = flat_map (row_text at u) rows
 
--- the rows of the legend
-abbrev pub rows : List (ℕ × Class × Sign × List ℕ)
-rows =
-    (0, class.Move, sign.Line, codes "move") ∷ (15, class.Approach, sign.Line, codes "approach") ∷ (30, class.Search, sign.Line, codes "search")
-    ∷ (45, class.Retract, sign.Line, codes "retract") ∷ (60, class.Rest, sign.Line, codes "not reached")
-    ∷ (75, class.Touched, sign.Point, codes "point touched") ∷ (90, class.Place, sign.Circle, codes "end")
-    ∷ (105, class.Place, sign.Square, codes "home") ∷ (120, class.Cross, sign.Cross, codes "contact")
-    ∷ (135, class.Limits, sign.Line, codes "limits") ∷ (150, class.Hidden, sign.Line, codes "hidden block") ∷ []
-
 -- the legend at a place
 abbrev pub legend_text : Spot → ℤ → List ℕ
-legend_text at u = rows_text at u rows
-
--- the lengths that a bar may have, in units of the picture
-abbrev pub bars : List ℤ
-bars =
-    pos 1 ∷ pos 2 ∷ pos 5 ∷ pos 10 ∷ pos 20 ∷ pos 50 ∷ pos 100 ∷ pos 200 ∷ pos 500 ∷ pos 1000 ∷ pos 2000 ∷ pos 5000 ∷ pos 10000 ∷ pos 20000
-    ∷ pos 50000 ∷ pos 100000 ∷ pos 200000 ∷ pos 500000 ∷ pos 1000000 ∷ pos 2000000 ∷ pos 5000000 ∷ pos 10000000 ∷ pos 20000000 ∷ pos 50000000
-    ∷ pos 100000000 ∷ pos 200000000 ∷ pos 500000000 ∷ pos 1000000000 ∷ pos 2000000000 ∷ pos 5000000000 ∷ []
+legend_text at u = rows_text at u (map (λ row. (row.0, row.1, row.2, row.3.now)) ROWS.now)
 
 -- the last of lengths that is at most a number, or else the one that is given
 abbrev pub last_within : ℤ → ℤ → List ℤ → ℤ
@@ -87,7 +74,7 @@ last_within most best (b ∷ bs) = last_within most (if int_le b most then b els
 
 -- the length of the bar: the greatest of 1, 2, 5, 10, 20, 50 and so on that is at most a number
 abbrev pub bar_of : ℤ → ℤ
-bar_of most = last_within most (pos 1) bars
+bar_of most = last_within most (pos 1) BARS
 
 -- where the words of a bar of a length stand
 abbrev pub bar_label : Spot → ℤ → ℤ → Label

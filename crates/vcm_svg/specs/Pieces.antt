@@ -1,11 +1,11 @@
 -- Texts in pieces.
-use Rattle.std.specs.Prelude.{ℕ, List, ◌++◌, flat_map, decimal, codes}
+use Rattle.std.specs.Prelude.{ℕ, neg_ℤ, List, ◌++◌, flat_map, decimal, codes}
 use Rattle.std.specs.Fmt.{signed_decimal}
 use Rattle.vcm_num.specs.declared.point.Point.{Point}
 use Rattle.vcm_num.specs.Point.{coordinate}
 use Rattle.vcm_num.specs.Texts.{thousandths}
 use Rattle.vcm_svg.specs.declared.pieces.Piece.{Piece}
-use Rattle.vcm_svg.specs.declared.pieces.Piece.TheVariants.{Text, Number, Count, Length, At}
+use Rattle.vcm_svg.specs.declared.pieces.Piece.TheVariants.{Text, Number, Back, Count, Length, At}
 
 -- texts one after another
 abbrev pub joined : List (List ℕ) → List ℕ
@@ -20,6 +20,7 @@ point_text p =
 abbrev pub piece_text : Piece → List ℕ
 piece_text (Text bytes) = bytes.now
 piece_text (Number z) = signed_decimal z
+piece_text (Back z) = signed_decimal (neg_ℤ z)
 piece_text (Count n) = decimal n
 piece_text (Length z) = thousandths z
 piece_text (At p) = point_text p

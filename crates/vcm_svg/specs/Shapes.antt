@@ -7,6 +7,8 @@ use Rattle.vcm_svg.specs.declared.shapes.Class.TheVariants as class
 use Rattle.vcm_svg.specs.declared.shapes.Label.{Label}
 use Rattle.vcm_svg.specs.declared.shapes.Lettering.{Lettering}
 use Rattle.vcm_svg.specs.declared.shapes.Lettering.TheVariants.{Plain, Heading, Number, Name}
+use Rattle.vcm_svg.specs.declared.outlines.Outline.{Outline}
+use Rattle.vcm_svg.specs.Outlines.{outline_text}
 use Rattle.vcm_svg.specs.Pieces.{joined}
 
 -- what a text's class adds to its element
@@ -54,9 +56,9 @@ abbrev pub path_front : Class → List ℕ
 path_front c = joined (codes "<path class=\"" ∷ class_name c ∷ codes "\" d=\"" ∷ [])
 
 -- a path of an outline
-abbrev pub path : Class → List ℕ → List ℕ
-path c outline = path_front c ++ (outline ++ codes "\"/>\n")
+abbrev pub path : Class → Outline → List ℕ
+path c outline = path_front c ++ (outline_text outline ++ codes "\"/>\n")
 
 -- the same with a tooltip
-abbrev pub told : Class → List ℕ → List ℕ → List ℕ
-told c outline tip = path_front c ++ (outline ++ (codes "\"><title>" ++ (tip ++ codes "</title></path>\n")))
+abbrev pub told : Class → Outline → List ℕ → List ℕ
+told c outline tip = path_front c ++ (outline_text outline ++ (codes "\"><title>" ++ (tip ++ codes "</title></path>\n")))

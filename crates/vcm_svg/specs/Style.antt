@@ -1,6 +1,7 @@
 -- The style of a picture. Widths and lengths are multiples of its unit.
-use Rattle.std.specs.Prelude.{ℕ, ℤ, pos, ◌*ℤ◌, Bool, nat_le, if◌then◌else◌, List, [], ◌∷◌, ◌++◌, flat_map, codes}
+use Rattle.std.specs.Prelude.{ℕ, ℤ, pos, ◌*ℤ◌, Bool, nat_le, if◌then◌else◌, map, List, ◌++◌, flat_map}
 use Rattle.std.specs.Fmt.{signed_decimal}
+use Rattle.vcm_svg.specs.declared.style.TheConstants.{GENERAL, BLOCKS, MOVES, WAYS, ARROW, END}
 use Rattle.std.specs.Int.{int_max, int_div_euclid}
 
 -- a text, and behind it so many times a unit
@@ -21,38 +22,21 @@ broad_if is_few = if is_few then 2 else 1
 
 -- the style of texts, and of all that is no block and no way
 abbrev pub general : List (List ℕ × ℕ)
-general =
-    (codes "<style>\ntext{font:10px monospace;fill:#000}\n.h{font-size:13px}\n.w{fill:#fff}\n.f{fill:#fff;stroke:#999;stroke-width:", 1)
-    ∷ (codes "}\n.l{fill:none;stroke:#000;stroke-width:", 1) ∷ (codes ";stroke-dasharray:", 8) ∷ (codes " ", 2) ∷ (codes " ", 1) ∷ (codes " ", 2) ∷ []
+general = map (λ row. (row.0.now, row.1)) GENERAL.now
 
 -- the style of blocks, in units of their edges
 abbrev pub blocks : List (List ℕ × ℕ)
-blocks =
-    (codes "}\n.b{fill:#ddd;fill-opacity:.7;stroke:#555;stroke-width:", 1) ∷ (codes "}\n.i{fill:none;stroke:#555;stroke-width:", 1)
-    ∷ (codes ";stroke-dasharray:", 3) ∷ (codes " ", 3) ∷ (codes "}\n.g{fill:none;stroke:#000;stroke-width:", 3) ∷ []
+blocks = map (λ row. (row.0.now, row.1)) BLOCKS.now
 
--- the style of texts on blocks, and of moves and approaches
-abbrev pub moves : Bool → List (List ℕ × ℕ)
-moves is_few =
-    (codes "}\n.n{fill:#555}\n.p,.n{paint-order:stroke;stroke:#fff;stroke-width:3px;stroke-linejoin:round}\n.move,.approach,.search,.retract,.rest{fill:none;stroke-linecap:round}\n.move{stroke:#0072b2;stroke-width:", broad_if is_few)
-    ∷ (codes "}\n.approach{stroke:#009e73;stroke-width:", 2) ∷ (codes ";stroke-dasharray:", 8) ∷ (codes " ", 4) ∷ []
-
--- the style of searches, retracts and what was not reached, and of points and signs
+-- the style of approaches, searches, retracts and what was not reached, and of points and signs
 abbrev pub ways : List (List ℕ × ℕ)
-ways =
-    (codes "}\n.search{stroke:#d55e00;stroke-width:", 4) ∷ (codes "}\n.retract{stroke:#cc79a7;stroke-width:", 2) ∷ (codes ";stroke-dasharray:", 1)
-    ∷ (codes " ", 4) ∷ (codes "}\n.rest{stroke:#000;stroke-width:", 1) ∷ (codes ";stroke-dasharray:", 2) ∷ (codes " ", 4)
-    ∷ (codes "}\n.d{fill:#d55e00;stroke:#fff;stroke-width:", 1) ∷ (codes "}\n.o{fill:none;stroke:#000;stroke-width:", 2)
-    ∷ (codes "}\n.q{fill:none;stroke:#000;stroke-width:", 1) ∷ (codes "}\n.x{fill:none;stroke:#000;stroke-width:", 3) ∷ []
+ways = map (λ row. (row.0.now, row.1)) WAYS.now
 
--- the end of the style, and the arrow at the end of moves, where there is one
-abbrev pub arrow_text : Bool → List ℕ
-arrow_text is_few =
-    if is_few
-    then codes "}\n</style>\n<defs><marker id=\"a\" viewBox=\"0 0 8 6\" refX=\"8\" refY=\"3\" markerWidth=\"5\" markerHeight=\"4\" " ++ codes "orient=\"auto\"><path d=\"M0 0L8 3L0 6z\" fill=\"#0072b2\"/></marker></defs>\n<style>.a{marker-end:url(#a)}</style>\n"
-    else codes "}\n</style>\n"
+-- the end of the style, with the arrow at the end of moves, where there is one
+abbrev pub end_text : Bool → List ℕ
+end_text is_few = if is_few then ARROW.now else END.now
 
 -- the style of a picture with this unit, so many blocks, and few pieces or many
 abbrev pub style_text : ℤ → ℕ → Bool → List ℕ
 style_text u count is_few =
-    widths u general ++ (widths (edge_of u count) blocks ++ (widths u (moves is_few) ++ (widths u ways ++ arrow_text is_few)))
+    widths u general ++ (widths (edge_of u count) blocks ++ (width_text u (MOVES.now, broad_if is_few) ++ (widths u ways ++ end_text is_few)))

@@ -1,10 +1,10 @@
 //! The legend, and the bar that shows a length.
 
-ghost use Rattle.std.specs.Prelude.{◌≡◌, ◌++◌, ◌≤ℤ◌, pos, map, OnOk};
-ghost use Rattle.vcm_svg.specs.Legend.{right_of, size_of, sign_reach, sign_text, row_text, words_label, rows_text, legend_text, last_within, bar_of, bar_label, bar_with, bar_text};
+ghost use Rattle.std.specs.Prelude.{◌≡◌, ◌++◌, ◌*ℤ◌, ◌≤ℤ◌, pos, map, OnOk};
+ghost use Rattle.vcm_svg.specs.Legend.{right_of, size_of, sign_reach, sign_outline, sign_text, row_text, words_label, rows_text, legend_text, last_within, bar_of, bar_label, bar_with, bar_text};
 ghost use Rattle.vcm_svg.specs.Ranges.{IsFew, IsReach, IsSize, IsSpot, IsUnit};
 
-use crate::outlines::{Reach, bar_line, circle, cross, dash, square_round};
+use crate::outlines::{Outline, Reach, bar_line, circle, cross, dash, square_round};
 use crate::pieces::Piece;
 use crate::rect::Spot;
 use crate::shapes::{Class, Label, Lettering, put_path, put_text};
@@ -63,18 +63,26 @@ fn sign_reach(at: Spot, unit: i64, down: u8, sign: Sign) -> Reach
     }
 }
 
+// The outline of a sign.
+fn sign_outline(sign: Sign, reach: Reach) -> Outline
+    requires { IsReach reach }
+    ensures { result ≡ sign_outline sign reach.at (reach.count *ℤ reach.unit) }
+{
+    match sign {
+        Sign::Line => dash(reach),
+        Sign::Point => circle(reach),
+        Sign::Circle => circle(reach),
+        Sign::Square => square_round(reach),
+        Sign::Cross => cross(reach),
+    }
+}
+
 // Appends a sign.
 fn put_sign(out: &mut Vec<u8>, class: Class, sign: Sign, reach: Reach) -> Result<(), NoMemory>
     requires { IsReach reach }
     ensures { OnOk result (out.new.items ≡ out.old.items ++ sign_text class sign reach) }
 {
-    match sign {
-        Sign::Line => put_path(out, class, &dash(reach)),
-        Sign::Point => put_path(out, class, &circle(reach)),
-        Sign::Circle => put_path(out, class, &circle(reach)),
-        Sign::Square => put_path(out, class, &square_round(reach)),
-        Sign::Cross => put_path(out, class, &cross(reach)),
-    }
+    put_path(out, class, sign_outline(sign, reach))
 }
 
 // Where the words of a row stand, so many units below a place.
@@ -125,30 +133,28 @@ fn put_rows(
     Ok(())
 }
 
+/// The rows of the legend: how many units each stands below the first one, the class and the form of its sign, and its words.
+const ROWS: &[(u8, Class, Sign, &[u8])] = &[
+    (0, Class::Move, Sign::Line, b"move"),
+    (15, Class::Approach, Sign::Line, b"approach"),
+    (30, Class::Search, Sign::Line, b"search"),
+    (45, Class::Retract, Sign::Line, b"retract"),
+    (60, Class::Rest, Sign::Line, b"not reached"),
+    (75, Class::Touched, Sign::Point, b"point touched"),
+    (90, Class::Place, Sign::Circle, b"end"),
+    (105, Class::Place, Sign::Square, b"home"),
+    (120, Class::Cross, Sign::Cross, b"contact"),
+    (135, Class::Limits, Sign::Line, b"limits"),
+    (150, Class::Hidden, Sign::Line, b"hidden block"),
+];
+
 /// Appends the legend at a place.
 pub fn put_legend(out: &mut Vec<u8>, at: Spot, unit: i64) -> Result<(), NoMemory>
     requires at { IsSpot at }
     requires unit { IsUnit unit }
     ensures { OnOk result (out.new.items ≡ out.old.items ++ legend_text at unit) }
 {
-    put_rows(
-        out,
-        at,
-        unit,
-        &[
-            (0, Class::Move, Sign::Line, b"move"),
-            (15, Class::Approach, Sign::Line, b"approach"),
-            (30, Class::Search, Sign::Line, b"search"),
-            (45, Class::Retract, Sign::Line, b"retract"),
-            (60, Class::Rest, Sign::Line, b"not reached"),
-            (75, Class::Touched, Sign::Point, b"point touched"),
-            (90, Class::Place, Sign::Circle, b"end"),
-            (105, Class::Place, Sign::Square, b"home"),
-            (120, Class::Cross, Sign::Cross, b"contact"),
-            (135, Class::Limits, Sign::Line, b"limits"),
-            (150, Class::Hidden, Sign::Line, b"hidden block"),
-        ],
-    )
+    put_rows(out, at, unit, ROWS)
 }
 
 // The lengths that a bar may have, in units of the picture.
@@ -214,7 +220,7 @@ fn put_bar_with(
     put_path(
         out,
         Class::Cross,
-        &bar_line(Reach { at, count: 5, unit }, long),
+        bar_line(Reach { at, count: 5, unit }, long),
     )?;
     put_text(
         out,

@@ -13,7 +13,9 @@ mod whole;
 
 pub use heading::put_heading;
 pub use legend::{put_bar, put_legend};
-pub use outlines::{Reach, circle, cross, line, rect_outline, square, square_about, square_round};
+pub use outlines::{
+    Outline, Reach, circle, cross, put_outline, rect_outline, square_about, square_round,
+};
 pub use pieces::{Piece, put};
 pub use rect::{Rect, Spot, boxed, contains, is_same, meets};
 pub use shapes::{Class, Label, Lettering, put_path, put_text, put_told};

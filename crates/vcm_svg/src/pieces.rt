@@ -1,6 +1,7 @@
 //! Pieces of a picture's text, which are appended one after another.
 
-ghost use Rattle.std.specs.Prelude.{◌≡◌, ◌++◌, decimal, OnOk};
+ghost use Rattle.std.specs.Fmt.{signed_decimal};
+ghost use Rattle.std.specs.Prelude.{◌≡◌, ◌++◌, neg_ℤ, decimal, OnOk};
 ghost use Rattle.vcm_svg.specs.Pieces.{point_text, piece_text, texts};
 
 use itoa::Buffer;
@@ -13,6 +14,8 @@ pub enum Piece<'a> {
     Text(&'a [u8]),
     /// A whole number.
     Number(i64),
+    /// A whole number, the other way round: its negative.
+    Back(i64),
     /// How many there are.
     Count(u64),
     /// A length in micrometres, told in millimetres.
@@ -21,8 +24,8 @@ pub enum Piece<'a> {
     At(Point),
 }
 
-// Appends some bytes.
-fn put_bytes(out: &mut Vec<u8>, bytes: &[u8]) -> Result<(), NoMemory>
+/// Appends some bytes.
+pub(crate) fn put_bytes(out: &mut Vec<u8>, bytes: &[u8]) -> Result<(), NoMemory>
     ensures { OnOk result (out.new.items ≡ out.old.items ++ bytes.now) }
 {
     out.extend_from_slice(bytes)?;
@@ -35,6 +38,17 @@ fn put_count(out: &mut Vec<u8>, count: u64) -> Result<(), NoMemory>
 {
     let mut buffer = Buffer::new();
     put_bytes(out, buffer.format(count).as_bytes())
+}
+
+// Appends the negative of a number.
+fn put_back(out: &mut Vec<u8>, number: i64) -> Result<(), NoMemory>
+    ensures { OnOk result (out.new.items ≡ out.old.items ++ signed_decimal (neg_ℤ number)) }
+{
+    if number == i64::MIN {
+        put_count(out, 9_223_372_036_854_775_808)
+    } else {
+        write_int(-number, out)
+    }
 }
 
 // Appends a point.
@@ -56,6 +70,7 @@ fn put_piece(out: &mut Vec<u8>, piece: Piece) -> Result<(), NoMemory>
     match piece {
         Piece::Text(bytes) => put_bytes(out, bytes),
         Piece::Number(number) => write_int(number, out),
+        Piece::Back(number) => put_back(out, number),
         Piece::Count(count) => put_count(out, count),
         Piece::Length(length) => write_thousandths(length, out),
         Piece::At(point) => put_point(out, point),

@@ -4,6 +4,7 @@ ghost use Rattle.std.specs.Prelude.{◌≡◌, ◌++◌, OnOk};
 ghost use Rattle.vcm_svg.specs.Pieces.{texts};
 ghost use Rattle.vcm_svg.specs.Shapes.{attribute, class_name, text_front, text, path_front, path, told};
 
+use crate::outlines::{Outline, put_outline};
 use crate::pieces::{Piece, put};
 use crate::rect::Spot;
 use vcm_num::NoMemory;
@@ -128,11 +129,11 @@ fn begin_path(out: &mut Vec<u8>, class: Class) -> Result<(), NoMemory>
 }
 
 /// Appends a path of an outline.
-pub fn put_path(out: &mut Vec<u8>, class: Class, outline: &[Piece]) -> Result<(), NoMemory>
-    ensures { OnOk result (out.new.items ≡ out.old.items ++ path class (texts outline.now)) }
+pub fn put_path(out: &mut Vec<u8>, class: Class, outline: Outline) -> Result<(), NoMemory>
+    ensures { OnOk result (out.new.items ≡ out.old.items ++ path class outline) }
 {
     begin_path(out, class)?;
-    put(out, outline)?;
+    put_outline(out, outline)?;
     put(out, &[Piece::Text(b"\"/>\n")])
 }
 
@@ -140,13 +141,13 @@ pub fn put_path(out: &mut Vec<u8>, class: Class, outline: &[Piece]) -> Result<()
 pub fn put_told(
     out: &mut Vec<u8>,
     class: Class,
-    outline: &[Piece],
+    outline: Outline,
     tip: &[Piece],
 ) -> Result<(), NoMemory>
-    ensures { OnOk result (out.new.items ≡ out.old.items ++ told class (texts outline.now) (texts tip.now)) }
+    ensures { OnOk result (out.new.items ≡ out.old.items ++ told class outline (texts tip.now)) }
 {
     begin_path(out, class)?;
-    put(out, outline)?;
+    put_outline(out, outline)?;
     put(out, &[Piece::Text(b"\"><title>")])?;
     put(out, tip)?;
     put(out, &[Piece::Text(b"</title></path>\n")])

@@ -1,15 +1,69 @@
 //! The style of a picture.
 
 ghost use Rattle.std.specs.Prelude.{◌≡◌, ◌++◌, map, OnOk};
-ghost use Rattle.vcm_svg.specs.Style.{width_text, widths, edge_of, broad_if, general, blocks, moves, ways, arrow_text, style_text};
+ghost use Rattle.vcm_svg.specs.Style.{width_text, widths, edge_of, broad_if, end_text, style_text};
 ghost use Rattle.vcm_svg.specs.Ranges.{IsUnit};
 
-use crate::pieces::{Piece, put};
+use crate::pieces::{Piece, put, put_bytes};
 use crate::whole::{quotient, times};
 use vcm_num::NoMemory;
 
 /// The most blocks of a picture with broad edges.
 const FEW_BLOCKS: usize = 500;
+
+/// The style of texts, and of all that is no block and no way. Behind each text stands so many times a width.
+const GENERAL: &[(&[u8], u8)] = &[
+    (
+        b"<style>\ntext{font:10px monospace;fill:#000}\n.h{font-size:13px}\n.w{fill:#fff}\n.f{fill:#fff;stroke:#999;stroke-width:",
+        1,
+    ),
+    (b"}\n.l{fill:none;stroke:#000;stroke-width:", 1),
+    (b";stroke-dasharray:", 8),
+    (b" ", 2),
+    (b" ", 1),
+    (b" ", 2),
+];
+
+/// The style of blocks.
+const BLOCKS: &[(&[u8], u8)] = &[
+    (
+        b"}\n.b{fill:#ddd;fill-opacity:.7;stroke:#555;stroke-width:",
+        1,
+    ),
+    (b"}\n.i{fill:none;stroke:#555;stroke-width:", 1),
+    (b";stroke-dasharray:", 3),
+    (b" ", 3),
+    (b"}\n.g{fill:none;stroke:#000;stroke-width:", 3),
+];
+
+/// The style of texts on blocks, and of moves.
+const MOVES: &[u8] =
+    b"}\n.n{fill:#555}\n.p,.n{paint-order:stroke;stroke:#fff;stroke-width:3px;stroke-linejoin:round}\n.move,.approach,.search,.retract,.rest{fill:none;stroke-linecap:round}\n.move{stroke:#0072b2;stroke-width:";
+
+/// The style of approaches, searches, retracts and what wasn't reached, and of points and signs.
+const WAYS: &[(&[u8], u8)] = &[
+    (b"}\n.approach{stroke:#009e73;stroke-width:", 2),
+    (b";stroke-dasharray:", 8),
+    (b" ", 4),
+    (b"}\n.search{stroke:#d55e00;stroke-width:", 4),
+    (b"}\n.retract{stroke:#cc79a7;stroke-width:", 2),
+    (b";stroke-dasharray:", 1),
+    (b" ", 4),
+    (b"}\n.rest{stroke:#000;stroke-width:", 1),
+    (b";stroke-dasharray:", 2),
+    (b" ", 4),
+    (b"}\n.d{fill:#d55e00;stroke:#fff;stroke-width:", 1),
+    (b"}\n.o{fill:none;stroke:#000;stroke-width:", 2),
+    (b"}\n.q{fill:none;stroke:#000;stroke-width:", 1),
+    (b"}\n.x{fill:none;stroke:#000;stroke-width:", 3),
+];
+
+/// The end of the style where moves have no arrows.
+const END: &[u8] = b"}\n</style>\n";
+
+/// The end of the style, and the arrow at the end of moves.
+const ARROW: &[u8] =
+    b"}\n</style>\n<defs><marker id=\"a\" viewBox=\"0 0 8 6\" refX=\"8\" refY=\"3\" markerWidth=\"5\" markerHeight=\"4\" orient=\"auto\"><path d=\"M0 0L8 3L0 6z\" fill=\"#0072b2\"/></marker></defs>\n<style>.a{marker-end:url(#a)}</style>\n";
 
 // The width of the edges of blocks.
 fn edge_of(unit: i64, blocks: usize) -> i64
@@ -39,57 +93,14 @@ fn put_width(out: &mut Vec<u8>, unit: i64, text: &[u8], count: u8) -> Result<(),
 }
 
 // Appends texts, and behind each so many times a unit.
-fn put_widths(out: &mut Vec<u8>, unit: i64, rows: &[(&[u8], u8)]) -> Result<(), NoMemory>
+fn put_widths(out: &mut Vec<u8>, unit: i64, table: &[(&[u8], u8)]) -> Result<(), NoMemory>
     requires { IsUnit unit }
-    ensures { OnOk result (out.new.items ≡ out.old.items ++ widths unit (map (λ row. (row.0.now, row.1)) rows.now)) }
+    ensures { OnOk result (out.new.items ≡ out.old.items ++ widths unit (map (λ row. (row.0.now, row.1)) table.now)) }
 {
-    for row in rows {
+    for row in table {
         put_width(out, unit, row.0, row.1)?;
     }
     Ok(())
-}
-
-// Appends the style of texts, and of all that is no block and no way.
-fn put_general(out: &mut Vec<u8>, unit: i64) -> Result<(), NoMemory>
-    requires { IsUnit unit }
-    ensures { OnOk result (out.new.items ≡ out.old.items ++ widths unit general) }
-{
-    put_widths(
-        out,
-        unit,
-        &[
-            (
-                b"<style>\ntext{font:10px monospace;fill:#000}\n.h{font-size:13px}\n.w{fill:#fff}\n.f{fill:#fff;stroke:#999;stroke-width:",
-                1,
-            ),
-            (b"}\n.l{fill:none;stroke:#000;stroke-width:", 1),
-            (b";stroke-dasharray:", 8),
-            (b" ", 2),
-            (b" ", 1),
-            (b" ", 2),
-        ],
-    )
-}
-
-// Appends the style of blocks, whose edges have a width of their own.
-fn put_blocks(out: &mut Vec<u8>, edge: i64) -> Result<(), NoMemory>
-    requires { IsUnit edge }
-    ensures { OnOk result (out.new.items ≡ out.old.items ++ widths edge blocks) }
-{
-    put_widths(
-        out,
-        edge,
-        &[
-            (
-                b"}\n.b{fill:#ddd;fill-opacity:.7;stroke:#555;stroke-width:",
-                1,
-            ),
-            (b"}\n.i{fill:none;stroke:#555;stroke-width:", 1),
-            (b";stroke-dasharray:", 3),
-            (b" ", 3),
-            (b"}\n.g{fill:none;stroke:#000;stroke-width:", 3),
-        ],
-    )
 }
 
 // How many units wide moves are.
@@ -99,68 +110,15 @@ fn broad_if(is_few: bool) -> u8
     if is_few { 2 } else { 1 }
 }
 
-// Appends the style of texts on blocks, and of moves and approaches.
-fn put_moves(out: &mut Vec<u8>, unit: i64, is_few: bool) -> Result<(), NoMemory>
-    requires { IsUnit unit }
-    ensures { OnOk result (out.new.items ≡ out.old.items ++ widths unit (moves is_few)) }
+// Appends the end of the style.
+fn put_end(out: &mut Vec<u8>, is_few: bool) -> Result<(), NoMemory>
+    ensures { OnOk result (out.new.items ≡ out.old.items ++ end_text is_few) }
 {
-    put_widths(
-        out,
-        unit,
-        &[
-            (
-                b"}\n.n{fill:#555}\n.p,.n{paint-order:stroke;stroke:#fff;stroke-width:3px;stroke-linejoin:round}\n.move,.approach,.search,.retract,.rest{fill:none;stroke-linecap:round}\n.move{stroke:#0072b2;stroke-width:",
-                broad_if(is_few),
-            ),
-            (b"}\n.approach{stroke:#009e73;stroke-width:", 2),
-            (b";stroke-dasharray:", 8),
-            (b" ", 4),
-        ],
-    )
-}
-
-// Appends the style of searches, retracts and what wasn't reached, and of points and signs.
-fn put_ways(out: &mut Vec<u8>, unit: i64) -> Result<(), NoMemory>
-    requires { IsUnit unit }
-    ensures { OnOk result (out.new.items ≡ out.old.items ++ widths unit ways) }
-{
-    put_widths(
-        out,
-        unit,
-        &[
-            (b"}\n.search{stroke:#d55e00;stroke-width:", 4),
-            (b"}\n.retract{stroke:#cc79a7;stroke-width:", 2),
-            (b";stroke-dasharray:", 1),
-            (b" ", 4),
-            (b"}\n.rest{stroke:#000;stroke-width:", 1),
-            (b";stroke-dasharray:", 2),
-            (b" ", 4),
-            (b"}\n.d{fill:#d55e00;stroke:#fff;stroke-width:", 1),
-            (b"}\n.o{fill:none;stroke:#000;stroke-width:", 2),
-            (b"}\n.q{fill:none;stroke:#000;stroke-width:", 1),
-            (b"}\n.x{fill:none;stroke:#000;stroke-width:", 3),
-        ],
-    )
-}
-
-// Appends the end of the style, and the arrow at the end of moves, where there is one.
-fn put_arrow(out: &mut Vec<u8>, is_few: bool) -> Result<(), NoMemory>
-    ensures { OnOk result (out.new.items ≡ out.old.items ++ arrow_text is_few) }
-{
-    if !is_few {
-        return put(out, &[Piece::Text(b"}\n</style>\n")]);
+    if is_few {
+        put_bytes(out, ARROW)
+    } else {
+        put_bytes(out, END)
     }
-    put(
-        out,
-        &[
-            Piece::Text(
-                b"}\n</style>\n<defs><marker id=\"a\" viewBox=\"0 0 8 6\" refX=\"8\" refY=\"3\" markerWidth=\"5\" markerHeight=\"4\" ",
-            ),
-            Piece::Text(
-                b"orient=\"auto\"><path d=\"M0 0L8 3L0 6z\" fill=\"#0072b2\"/></marker></defs>\n<style>.a{marker-end:url(#a)}</style>\n",
-            ),
-        ],
-    )
 }
 
 /// Appends the style of a picture with this unit, so many blocks, and few pieces or many.
@@ -168,9 +126,9 @@ pub fn put_style(out: &mut Vec<u8>, unit: i64, blocks: usize, is_few: bool) -> R
     requires { IsUnit unit }
     ensures { OnOk result (out.new.items ≡ out.old.items ++ style_text unit blocks is_few) }
 {
-    put_general(out, unit)?;
-    put_blocks(out, edge_of(unit, blocks))?;
-    put_moves(out, unit, is_few)?;
-    put_ways(out, unit)?;
-    put_arrow(out, is_few)
+    put_widths(out, unit, GENERAL)?;
+    put_widths(out, edge_of(unit, blocks), BLOCKS)?;
+    put_width(out, unit, MOVES, broad_if(is_few))?;
+    put_widths(out, unit, WAYS)?;
+    put_end(out, is_few)
 }

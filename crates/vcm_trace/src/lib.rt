@@ -7,4 +7,6 @@ mod lines;
 mod told;
 mod tracing;
 
+pub use lines::{write_open, write_step};
+pub use told::{Told, told_of};
 pub use tracing::{TraceFault, trace};

@@ -46,7 +46,7 @@ fn write_step_end<W: Write>(
 /// state and the next statement's number are those behind it.
 ///
 /// Errors: the writer failed, or took no byte; then it has taken a front of the line, and not all of it.
-pub(crate) fn write_step<W: Write>(
+pub fn write_step<W: Write>(
     count: u64,
     number: u32,
     statement: &BorrowedStatement<'_>,
@@ -85,7 +85,7 @@ fn write_open_end<W: Write>(count: u64, writer: &mut W) -> Result<(), WriteFault
 /// Writes the line of a run that has not stopped: how many steps were taken, the next statement's number, and its source line.
 ///
 /// Errors: the writer failed, or took no byte; then it has taken a front of the line, and not all of it.
-pub(crate) fn write_open<W: Write>(
+pub fn write_open<W: Write>(
     count: u64,
     next: u32,
     line: u32,

@@ -33,7 +33,7 @@ pub enum Told {
 }
 
 /// What is told of a statement.
-pub(crate) fn told_of(op: &BorrowedOp<'_>) -> Told
+pub fn told_of(op: &BorrowedOp<'_>) -> Told
     ensures { result ≡ told_of op.now }
 {
     match op {

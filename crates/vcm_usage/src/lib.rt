@@ -81,6 +81,13 @@ const USAGES: &[Usage] = &[
         more: More::StepsAndClose,
     },
     Usage {
+        name: "view",
+        about: "Runs a program or an image beside a workpiece, and writes a page for a browser that shows each step",
+        example: "For example: vcm view square.dmi part-a.toml > square.html",
+        words: &[INPUT, PART],
+        more: More::Steps,
+    },
+    Usage {
         name: "debug",
         about: "Answers the commands of standard input, a line each, on a program or an image",
         example: "For example: vcm debug lines.dmi part-a.toml",

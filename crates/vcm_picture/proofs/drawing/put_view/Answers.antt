@@ -1,19 +1,26 @@
-use Rattle.std.proofs.Common.{◌≡◌, ◌∙◌, ap, [], rules, w64, FitsSigned, to_z-of_z}
-use Rattle.vcm_picture.specs.Drawing.{scene, view_of}
-use Rattle.vcm_picture.specs.Shown.{faces_from, seen_from}
-use Rattle.vcm_svg.proofs.Appended.{last_same}
+use Rattle.std.proofs.Common.{◌≡◌, ◌∙◌, ap}
+use Rattle.std.specs.Prelude.{codes}
+use Rattle.vcm_picture.specs.Drawing.{scene, scene_shapes, view_front, view_shapes}
+use Rattle.vcm_picture.specs.Shapes.{shapes_text}
+use Rattle.vcm_svg.proofs.Appended.{text_same, three}
 use Rattle.vcm_picture.proofs.drawing.put_view.Goals as goal
 
 pub returns : goal.returns
 returns c =
-    let fu : FitsSigned w64 c.args.scope.unit = search rules in
     let s = c.args.scope in
-    let shown = scene c.args.part.now c.args.world.now c.args.stopped.now in
+    let world = c.args.world.now in
+    let stopped = c.args.stopped.now in
     let marks = c.args.marks.now in
-    let made : c.in_ok-faces.faces.items ≡ faces_from s 1 c.args.part.now.blocks =
-    c.in_ok-faces.ensures.faces ∙ ap (λ b. faces_from s 1 b) c.blocks-2.ensures.blocks in
-    let faces : c.as_slice-2.result.now ≡ faces_from s 1 c.args.part.now.blocks = c.as_slice-2.ensures.value ∙ made in
-    let seen : c.as_slice-3.result.now ≡ seen_from s.unit [] (faces_from s 1 c.args.part.now.blocks) =
-    c.as_slice-3.ensures.value ∙ (simp to_z-of_z at c.in_ok-all.ensures.seen) ∙ ap (λ f. seen_from s.unit [] f) (c.as_slice.ensures.value ∙ made) in
-    last_same _ _ _ (λ f. view_of s c.args.at shown marks f (seen_from s.unit [] (faces_from s 1 c.args.part.now.blocks))) _ _ faces
-    (last_same _ _ _ (λ v. view_of s c.args.at shown marks c.as_slice-2.result.now v) _ _ seen c.put_view_of.ensures)
+    let part = c.args.part.now in
+    let shown = scene part world stopped in
+    let features : c.features-features.result.now ≡ world.tables.features = c.features-features.ensures ∙ ap (λ t. t.features) c.tables.ensures in
+    let shapes : c.as_slice.result.now ≡ scene_shapes s shown marks =
+    c.as_slice.ensures.value ∙ c.in_ok-shapes.ensures
+    ∙ ap (λ b. view_shapes s b c.bounds-bounds.result c.features-features.result.now c.position-position.result marks) c.blocks-2.ensures.blocks
+    ∙ ap (λ b. view_shapes s part.blocks b c.features-features.result.now c.position-position.result marks) c.bounds-bounds.ensures.bounds
+    ∙ ap (λ f. view_shapes s part.blocks part.bounds f c.position-position.result marks) features
+    ∙ ap (λ p. view_shapes s part.blocks part.bounds world.tables.features p marks) c.position-position.ensures in
+    three _ _ _ _ _ (view_front s c.args.at) (shapes_text world.tables.features stopped (scene_shapes s shown marks)) (codes "</g>\n")
+    c.in_ok-begin_view.ensures
+    (text_same _ _ (λ l. shapes_text world.tables.features stopped l) _ _ shapes
+    (text_same _ _ (λ f. shapes_text f stopped c.as_slice.result.now) _ _ features c.in_ok-put_shapes.ensures)) c.put.ensures

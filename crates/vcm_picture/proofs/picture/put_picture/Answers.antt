@@ -3,7 +3,7 @@ use Rattle.vcm_spec.specs.declared.workpiece.Block3.{Block3}
 use Rattle.vcm_picture.specs.Drawing.{scene}
 use Rattle.vcm_svg.specs.Heading.{heading_text}
 use Rattle.vcm_picture.specs.Marks.{are_few}
-use Rattle.vcm_picture.specs.Picture.{foot_text, head_text, background_text, views_text}
+use Rattle.vcm_picture.specs.Picture.{foot_text, head_text, background_text, views, views_text}
 use Rattle.vcm_svg.specs.Style.{style_text}
 use Rattle.vcm_svg.proofs.Appended.{six, text_same}
 use Rattle.vcm_picture.proofs.picture.put_picture.Goals as goal
@@ -19,7 +19,7 @@ returns c =
     let l = c.args.layout in
     let first = c.args.first.now in
     six _ _ _ _ _ _ _ _ (head_text l u first) (style_text u (length part.blocks) (are_few marks)) (background_text w l)
-    (heading_text u first world.state.position c.args.done c.args.left_out) (views_text w l (scene part world first) marks) (foot_text w l)
+    (heading_text u first world.state.position c.args.done c.args.left_out) (views_text w l (scene part world first) marks views) (foot_text w l)
     (simp to_z-of_z at c.in_ok-put_head.ensures)
     (text_same _ _ (λ n. style_text u n (are_few marks)) _ _ (ap (λ (b : List Block3). length b) c.blocks-2.ensures.blocks)
     (text_same _ _ (λ f. style_text u (length c.blocks-2.result.now) f) _ _ c.are_few.ensures (simp to_z-of_z at c.in_ok-put_style.ensures)))

@@ -9,7 +9,7 @@ returns-in-Some-clause-figure c =
     let fw : FitsSigned w64 c.letters_wide.result = search rules in
     let e = simp to_z-of_z at c.in-Some.ensures.area in
     let w = simp to_z-of_z at c.letters_wide.ensures.value in
-    simp to_z-of_z (figured c.args.before.now c.args.face.now c.args.after.now _ c.args.size _ _ _ refl e w)
+    simp to_z-of_z (figured c.args.before.now c.args.rect _ c.args.size _ _ _ refl e w)
 
 pub returns-in-None-clause-figure : goal.returns-in-None-clause-figure
 returns-in-None-clause-figure c =
@@ -18,4 +18,4 @@ returns-in-None-clause-figure c =
     let fw : FitsSigned w64 c.letters_wide.result = search rules in
     let e = simp to_z-of_z at c.in-None.ensures.area in
     let w = simp to_z-of_z at c.letters_wide.ensures.value in
-    figured c.args.before.now c.args.face.now c.args.after.now _ c.args.size _ _ _ refl e w
+    figured c.args.before.now c.args.rect _ c.args.size _ _ _ refl e w

@@ -7,7 +7,7 @@ returns-clause-area c =
     let fw : FitsSigned w64 c.args.wide = search rules in
     let fs : FitsSigned w64 c.args.size = search rules in
     let e = simp to_z-of_z at c.corners-boxes.ensures.boxes in
-    found_corner c.args.before.now c.args.face.now c.args.after.now c.args.wide c.args.size _ _ c.first_open.ensures e
+    found_corner c.args.before.now c.args.rect c.args.wide c.args.size _ _ c.first_open.ensures e
 
 pub returns-clause-ranges : goal.returns-clause-ranges
 returns-clause-ranges c = rw c.first_open.ensures (found_large _ _ c.corners-boxes.ensures.ranges)

@@ -1,4 +1,4 @@
-use Rattle.std.proofs.Common.{◌-ℤ◌, rules, arith, w64, FitsSigned, to_z-of_z}
+use Rattle.std.proofs.Common.{◌-ℤ◌, refl, rules, arith, w64, FitsSigned, to_z-of_z}
 use Rattle.std.proofs.lemmas.Int.{ints}
 use Rattle.vcm_svg.proofs.outlines.rect_outline.Goals as goal
 
@@ -10,4 +10,4 @@ returns c =
     let f3 : FitsSigned w64 c.args.area.bottom = search rules in
     let f4 : FitsSigned w64 (c.args.area.right -ℤ c.args.area.left) = omega (arith, ints) in
     let f5 : FitsSigned w64 (c.args.area.bottom -ℤ c.args.area.top) = omega (arith, ints) in
-    simp to_z-of_z at c.square.ensures
+    simp to_z-of_z refl

@@ -1,4 +1,4 @@
-use Rattle.std.proofs.Common.{◌-ℤ◌, ◌*ℤ◌, pos, rules, arith, w64, FitsSigned, to_z-of_z}
+use Rattle.std.proofs.Common.{◌-ℤ◌, ◌*ℤ◌, pos, refl, rules, arith, w64, FitsSigned, to_z-of_z}
 use Rattle.std.proofs.lemmas.Int.{ints}
 use Rattle.vcm_svg.proofs.outlines.square_about.Goals as goal
 
@@ -10,4 +10,4 @@ returns c =
     let f3 : FitsSigned w64 (c.args.at.x -ℤ c.args.half) = omega (arith, ints) in
     let f4 : FitsSigned w64 (c.args.at.y -ℤ c.args.half) = omega (arith, ints) in
     let f5 : FitsSigned w64 (pos 2 *ℤ c.args.half) = omega (arith, ints) in
-    simp to_z-of_z at c.square.ensures
+    simp to_z-of_z refl

@@ -5,5 +5,5 @@ use Rattle.vcm_svg.proofs.style.put_widths.Given as goal
 
 abbrev pub invariant-loop-row : goal.invariant-loop-row
 invariant-loop-row l = record {
-  bytes : l.out.items ++ widths l.fn.unit (map (λ row. (row.0.now, row.1)) (drop l.row-index l.rows)) ≡ l.fn.out.items ++ widths l.fn.unit (map (λ row. (row.0.now, row.1)) l.rows);
+  bytes : l.out.items ++ widths l.fn.unit (map (λ row. (row.0.now, row.1)) (drop l.row-index l.table)) ≡ l.fn.out.items ++ widths l.fn.unit (map (λ row. (row.0.now, row.1)) l.table);
 }

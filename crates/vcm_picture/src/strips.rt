@@ -1,0 +1,216 @@
+//! Which blocks of a view stand before which. A view is cut into strips, so that a block is compared only with those that reach into its strip, and
+//! not with each other one.
+
+ghost use Rattle.std.specs.Prelude.{◌≡◌, ◌++◌, pos, ◌≤ℤ◌, filter, OnOk, IfOk};
+ghost use Rattle.std.specs.List.{AllByRecursion};
+ghost use Rattle.vcm_svg.specs.Ranges.{IsRect, IsUnit};
+ghost use Rattle.vcm_picture.specs.Shown.{is_nearer, stands_before, rect_before, rects_before, seen_of, all_seen};
+ghost use Rattle.vcm_picture.specs.inner.Drawable.{AreFaces, AreSeen, IsSeen};
+ghost use Rattle.vcm_picture.specs.inner.Strips.{reaches, IsStrip};
+
+use crate::shown::{Face, Seen, shown_of};
+use std::alloc::Global;
+use vcm_num::NoMemory;
+use vcm_svg::{Rect, meets, quotient};
+
+/// How many strips a view has.
+const STRIPS: usize = 32;
+
+/// Many are more than this part of all.
+const MANY: usize = 8;
+
+/// A strip of a view, wide enough for the blocks that begin there, and the blocks that reach into it, unless these are many.
+#[derive(Drop)]
+pub struct Strip {
+    pub left: i64,
+    pub right: i64,
+    pub faces: Option<Vec<Face>>,
+}
+
+// Whether a block is nearer than another one.
+fn is_nearer(other: &Face, face: &Face) -> bool
+    ensures { result ≡ is_nearer other.now face.now }
+{
+    face.near < other.near || (face.near == other.near && other.number < face.number)
+}
+
+// Whether it stands before the other one.
+fn stands_before(other: &Face, face: &Face) -> bool
+    ensures { result ≡ stands_before other.now face.now }
+{
+    is_nearer(other, face) && meets(other.rect, face.rect)
+}
+
+// Appends the rectangle of a block, if it stands before another one.
+fn push_before(before: &mut Vec<Rect>, face: &Face, other: &Face) -> Result<(), NoMemory>
+    ensures { OnOk result (before.new.items ≡ before.old.items ++ rect_before face.now other.now) }
+{
+    if stands_before(other, face) {
+        before.push(other.rect)?;
+    }
+    Ok(())
+}
+
+// The rectangles of the blocks that stand before one.
+fn rects_before(alloc: Global, face: &Face, all: &[Face]) -> Result<Vec<Rect>, NoMemory>
+    ensures { IfOk result (λ before. before.items ≡ rects_before face.now all.now) }
+{
+    let mut before = Vec::new(alloc);
+    for other in all {
+        push_before(&mut before, face, other)?;
+    }
+    Ok(before)
+}
+
+// Whether a block reaches into a strip.
+fn reaches(left: i64, right: i64, face: &Face) -> bool
+    ensures { result ≡ reaches left right face.now }
+{
+    face.rect.left <= right && left <= face.rect.right
+}
+
+// The blocks that reach into a strip.
+fn reaching(alloc: Global, left: i64, right: i64, all: &[Face]) -> Result<Vec<Face>, NoMemory>
+    ensures { IfOk result (λ faces. faces.items ≡ filter (reaches left right) all.now) }
+{
+    let mut faces = Vec::new(alloc);
+    for face in all {
+        if reaches(left, right, face) {
+            faces.push(*face)?;
+        }
+    }
+    Ok(faces)
+}
+
+// In which strip a block begins, of strips of that width.
+fn index_of(face: &Face, wide: i64) -> usize
+    requires { pos 1 ≤ℤ wide }
+{
+    let index = quotient(face.rect.left, wide);
+    if index < 0 {
+        0
+    } else {
+        (index as usize).min(STRIPS - 1)
+    }
+}
+
+// From where to where the blocks extend that begin in a strip.
+fn extent(index: usize, wide: i64, all: &[Face]) -> (i64, i64)
+    requires { pos 1 ≤ℤ wide }
+{
+    let mut left = i64::MAX;
+    let mut right = i64::MIN;
+    for face in all {
+        if index_of(face, wide) == index {
+            left = left.min(face.rect.left);
+            right = right.max(face.rect.right);
+        }
+    }
+    (left, right)
+}
+
+// A strip of a view.
+fn strip_at(alloc: Global, index: usize, wide: i64, all: &[Face]) -> Result<Strip, NoMemory>
+    requires { pos 1 ≤ℤ wide }
+    ensures { IfOk result (IsStrip all.now) }
+{
+    let (left, right) = extent(index, wide, all);
+    let faces = reaching(alloc, left, right, all)?;
+    let faces = if faces.len() <= all.len() / MANY {
+        Some(faces)
+    } else {
+        None
+    };
+    Ok(Strip { left, right, faces })
+}
+
+// The strips of a view.
+fn strips_of(alloc: Global, wide: i64, all: &[Face]) -> Result<Vec<Strip>, NoMemory>
+    requires { pos 1 ≤ℤ wide }
+    ensures { IfOk result (λ strips. AllByRecursion (IsStrip all.now) strips.items) }
+{
+    let mut strips = Vec::new(alloc);
+    for index in 0..STRIPS {
+        strips.push(strip_at(alloc, index, wide, all)?)?;
+    }
+    Ok(strips)
+}
+
+// Blocks among which all stand that stand before one: those of a strip if it lies within the strip, or else all.
+fn rivals<'a>(strip: &'a Strip, face: &Face, all: &'a [Face]) -> &'a [Face]
+    requires { IsStrip all.now strip.now }
+    ensures { rects_before face.now result.now ≡ rects_before face.now all.now }
+{
+    let Some(faces) = &strip.faces else {
+        return all;
+    };
+    if strip.left <= face.rect.left && face.rect.right <= strip.right {
+        faces.as_slice()
+    } else {
+        all
+    }
+}
+
+// The same, of these strips.
+fn rivals_in<'a>(strips: &'a [Strip], wide: i64, face: &Face, all: &'a [Face]) -> &'a [Face]
+    requires wide { pos 1 ≤ℤ wide }
+    requires strips { AllByRecursion (IsStrip all.now) strips.now }
+    ensures { rects_before face.now result.now ≡ rects_before face.now all.now }
+{
+    match strips.get(index_of(face, wide)) {
+        Some(strip) => rivals(strip, face, all),
+        None => all,
+    }
+}
+
+// A block and how it is shown behind those of its rivals that stand before it.
+fn seen_among(alloc: Global, face: &Face, rivals: &[Face], unit: i64) -> Result<Seen, NoMemory>
+    requires rect { IsRect face.now.rect }
+    requires unit { IsUnit unit }
+    ensures seen { IfOk result (λ seen. seen ≡ seen_of unit rivals.now face.now) }
+    ensures ranges { IfOk result IsSeen }
+{
+    let before = rects_before(alloc, face, rivals)?;
+    let shown = shown_of(before.as_slice(), face, unit);
+    Ok(Seen { face: *face, shown })
+}
+
+// How each block is shown, with these strips.
+fn seen_in(
+    alloc: Global,
+    strips: &[Strip],
+    wide: i64,
+    all: &[Face],
+    unit: i64,
+) -> Result<Vec<Seen>, NoMemory>
+    requires wide { pos 1 ≤ℤ wide }
+    requires strips { AllByRecursion (IsStrip all.now) strips.now }
+    requires faces { AreFaces all.now }
+    requires unit { IsUnit unit }
+    ensures seen { IfOk result (λ seen. seen.items ≡ all_seen unit all.now) }
+    ensures ranges { IfOk result (λ seen. AreSeen seen.items) }
+{
+    let mut seen = Vec::new(alloc);
+    for face in all {
+        let rivals = rivals_in(strips, wide, face, all);
+        seen.push(seen_among(alloc, face, rivals, unit)?)?;
+    }
+    Ok(seen)
+}
+
+/// How each block of a view of that width is shown.
+pub(crate) fn all_seen(
+    alloc: Global,
+    wide: i64,
+    all: &[Face],
+    unit: i64,
+) -> Result<Vec<Seen>, NoMemory>
+    requires faces { AreFaces all.now }
+    requires unit { IsUnit unit }
+    ensures seen { IfOk result (λ seen. seen.items ≡ all_seen unit all.now) }
+    ensures ranges { IfOk result (λ seen. AreSeen seen.items) }
+{
+    let wide = quotient(wide, STRIPS as i64).max(1);
+    let strips = strips_of(alloc, wide, all)?;
+    seen_in(alloc, strips.as_slice(), wide, all, unit)
+}

@@ -1,0 +1,4 @@
+pub mod State
+pub mod Steps
+pub mod Stories
+pub mod inner

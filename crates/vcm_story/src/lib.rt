@@ -1,0 +1,10 @@
+//! The story of a run: rows of printable text that tell the workpiece, the program, the state at the first step that is shown, and what each step
+//! did. Nothing is held but the machine.
+#![tactic(auto)]
+
+mod following;
+mod state_rows;
+mod step_rows;
+mod story;
+
+pub use story::{ShownText, StoryFault, write_story};

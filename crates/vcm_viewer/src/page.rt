@@ -1,0 +1,130 @@
+//! The texts of the page in order: tools/make_viewer.py makes this file from viewer/.
+
+use crate::body::{between_1, end_1, head_1, middle_1, middle_2, middle_3, middle_4};
+use crate::script::{
+    script_1, script_2, script_3, script_4, script_5, script_6, script_7, script_8, script_9,
+    script_10, script_11, script_12, script_13, script_14, script_15, script_16, script_17,
+    script_18, script_19, script_20, script_21, script_22, script_23, script_24, script_25,
+    script_26, script_27, script_28, script_29, script_30, script_31, script_32, script_33,
+    script_34, script_35, script_36,
+};
+use crate::style::{style_1, style_2, style_3, style_4, style_5, style_6, style_7, style_8};
+
+/// What stands before the story, in order.
+pub fn front() -> [&'static [u8]; 13] {
+    [
+        head_1(),
+        style_1(),
+        style_2(),
+        style_3(),
+        style_4(),
+        style_5(),
+        style_6(),
+        style_7(),
+        style_8(),
+        middle_1(),
+        middle_2(),
+        middle_3(),
+        middle_4(),
+    ]
+}
+
+/// What stands behind the story and the end of its element, in order.
+pub fn back() -> [&'static [u8]; 38] {
+    [
+        between_1(),
+        script_1(),
+        script_2(),
+        script_3(),
+        script_4(),
+        script_5(),
+        script_6(),
+        script_7(),
+        script_8(),
+        script_9(),
+        script_10(),
+        script_11(),
+        script_12(),
+        script_13(),
+        script_14(),
+        script_15(),
+        script_16(),
+        script_17(),
+        script_18(),
+        script_19(),
+        script_20(),
+        script_21(),
+        script_22(),
+        script_23(),
+        script_24(),
+        script_25(),
+        script_26(),
+        script_27(),
+        script_28(),
+        script_29(),
+        script_30(),
+        script_31(),
+        script_32(),
+        script_33(),
+        script_34(),
+        script_35(),
+        script_36(),
+        end_1(),
+    ]
+}
+
+/// The style, in order.
+pub fn style_parts() -> [&'static [u8]; 8] {
+    [
+        style_1(),
+        style_2(),
+        style_3(),
+        style_4(),
+        style_5(),
+        style_6(),
+        style_7(),
+        style_8(),
+    ]
+}
+
+/// The script, in order.
+pub fn script_parts() -> [&'static [u8]; 36] {
+    [
+        script_1(),
+        script_2(),
+        script_3(),
+        script_4(),
+        script_5(),
+        script_6(),
+        script_7(),
+        script_8(),
+        script_9(),
+        script_10(),
+        script_11(),
+        script_12(),
+        script_13(),
+        script_14(),
+        script_15(),
+        script_16(),
+        script_17(),
+        script_18(),
+        script_19(),
+        script_20(),
+        script_21(),
+        script_22(),
+        script_23(),
+        script_24(),
+        script_25(),
+        script_26(),
+        script_27(),
+        script_28(),
+        script_29(),
+        script_30(),
+        script_31(),
+        script_32(),
+        script_33(),
+        script_34(),
+        script_35(),
+        script_36(),
+    ]
+}
