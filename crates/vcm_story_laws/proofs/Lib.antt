@@ -1,0 +1,4 @@
+pub mod ReadTexts
+pub mod ClearTexts
+pub mod FineTexts
+pub mod ClearStories

@@ -1,0 +1,4 @@
+//! Laws of stories, apart from what writes them.
+#![tactic(auto)]
+
+pub mod laws;
