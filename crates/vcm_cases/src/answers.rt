@@ -12,6 +12,7 @@ use vcm_page::{Texts, page_of};
 use vcm_part::PartData;
 use vcm_program::Noticed;
 use vcm_run::{run_text, write_result};
+use vcm_survey::{Options, Shape, adapt, survey};
 use vcm_views::{View, view_of};
 
 // A fault, and its exit status.
@@ -139,6 +140,45 @@ pub(crate) fn check_answer(alloc: Global, program: &str) -> Option<String> {
         Ok(notices) => printed(alloc, &out, notices.as_slice(), 0),
         Err(fault) => told(alloc, check_message(fault, "the program")),
     }
+}
+
+/// What the survey of a program tells, for a tip of so many micrometres.
+pub(crate) fn survey_answer(alloc: Global, program: &str, tip: i64) -> Option<String> {
+    let options = Options {
+        tip,
+        frames: Vec::new(alloc),
+        is_exact: false,
+    };
+    let told = survey(
+        alloc,
+        b"program",
+        program.as_bytes(),
+        &options,
+        Shape::Groups,
+    )
+    .ok()?;
+    let findings = told.ok()?;
+    let status = if findings.is_clean { 0 } else { 1 };
+    let mut text = String::from_str(alloc, std::str::from_utf8(&findings.text).ok()?).ok()?;
+    writeln!(text, "status {status}").ok()?;
+    Some(text)
+}
+
+/// The text that a program is adapted to, for a tip of so many micrometres, what is told beside it, and what its check answers.
+pub(crate) fn adapt_answer(alloc: Global, program: &str, tip: i64) -> Option<String> {
+    let options = Options {
+        tip,
+        frames: Vec::new(alloc),
+        is_exact: false,
+    };
+    let told = adapt(alloc, program.as_bytes(), &options).ok()?;
+    let adaptation = told.ok()?;
+    let adapted = std::str::from_utf8(&adaptation.text).ok()?;
+    let mut text = String::from_str(alloc, adapted).ok()?;
+    text.push_str(std::str::from_utf8(&adaptation.warnings).ok()?)
+        .ok()?;
+    text.push_str(&check_answer(alloc, adapted)?).ok()?;
+    Some(text)
 }
 
 /// The replies of the debugger to these commands on a program beside the workpiece of a part file.

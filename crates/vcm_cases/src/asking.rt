@@ -2,7 +2,7 @@
 
 use crate::messages::line_of;
 use std::alloc::Global;
-use vcm_command::{Request, request_of, steps_of};
+use vcm_command::{Produced, Request, Wanted, request_of, steps_of};
 use vcm_explain::explanation;
 use vcm_messages::Message;
 use vcm_views::View;
@@ -40,11 +40,31 @@ fn name_of(view: View) -> &'static str {
     }
 }
 
+// What is asked for of a producer's text.
+fn produced_asked(alloc: Global, produced: Produced<'_>) -> Option<String> {
+    let name = match produced.wanted {
+        Wanted::Groups => "survey",
+        Wanted::Lines => "lines",
+        Wanted::Adapted => "adapt",
+    };
+    let program = produced.program;
+    let tip = produced.tip.unwrap_or("");
+    let part = produced.part.unwrap_or("");
+    let is_exact = produced.is_exact;
+    format!(in alloc; "{name} program={program} tip={tip} part={part} exact={is_exact}").ok()
+}
+
 // What is asked for.
 fn asked(alloc: Global, request: Request<'_>) -> Option<String> {
     match request {
         Request::Job => String::from_str(alloc, "job").ok(),
         Request::Check { program } => format!(in alloc; "check program={program}").ok(),
+        Request::Checks(checks) => {
+            let words = checks.words.join(alloc, " ").ok()?;
+            let is_all = checks.is_all;
+            format!(in alloc; "checks words={words} all={is_all}").ok()
+        }
+        Request::Produced(produced) => produced_asked(alloc, produced),
         Request::Build { program, image } => {
             format!(in alloc; "build program={program} image={image}").ok()
         }

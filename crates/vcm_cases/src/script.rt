@@ -1,8 +1,8 @@
 //! The text of worked examples, line by line.
 
 use crate::answers::{
-    asm_answer, check_answer, image, image_answer, listing, replies, run_answer, story_answer,
-    view_answer,
+    adapt_answer, asm_answer, check_answer, image, image_answer, listing, replies, run_answer,
+    story_answer, survey_answer, view_answer,
 };
 use crate::asking::{explain_answer, words_answer};
 use crate::explained::judge_examples;
@@ -34,6 +34,10 @@ enum Heading {
     Story(u64),
     /// What a check answers.
     Check,
+    /// What a survey tells, for a tip of so many micrometres.
+    Survey(i64),
+    /// What the program is adapted to, for a tip of so many micrometres.
+    Adapt(i64),
     /// What the debugger answers.
     Replies,
     /// The listing.
@@ -90,6 +94,8 @@ fn heading_with(word: &str, rest: &str) -> Heading {
         "picture" => view_heading(View::Picture { is_close: false }, rest),
         "close" => view_heading(View::Picture { is_close: true }, rest),
         "story" => story_heading(rest),
+        "survey" => survey_heading(rest),
+        "adapt" => adapt_heading(rest),
         "refused" => Heading::Refused,
         "images" => Heading::Images,
         "unlisted" => Heading::Unlisted,
@@ -105,6 +111,22 @@ fn heading_with(word: &str, rest: &str) -> Heading {
 fn run_heading(steps: &str) -> Heading {
     match steps.parse::<u64>() {
         Ok(steps) => Heading::Run(steps),
+        Err(_) => Heading::Unknown,
+    }
+}
+
+// The heading of a survey.
+fn survey_heading(tip: &str) -> Heading {
+    match tip.parse::<i64>() {
+        Ok(tip) => Heading::Survey(tip),
+        Err(_) => Heading::Unknown,
+    }
+}
+
+// The heading of an adapted text.
+fn adapt_heading(tip: &str) -> Heading {
+    match tip.parse::<i64>() {
+        Ok(tip) => Heading::Adapt(tip),
         Err(_) => Heading::Unknown,
     }
 }
@@ -152,6 +174,8 @@ fn answer(alloc: Global, script: &Script) -> Option<String> {
         }
         Heading::Story(steps) => story_answer(alloc, &script.part, &script.program, steps),
         Heading::Check => check_answer(alloc, &script.program),
+        Heading::Survey(tip) => survey_answer(alloc, &script.program, tip),
+        Heading::Adapt(tip) => adapt_answer(alloc, &script.program, tip),
         Heading::Replies => replies(alloc, &script.part, &script.program, &script.commands),
         Heading::Listing => listing(alloc, &script.program),
         Heading::Image => image(alloc, &script.program),

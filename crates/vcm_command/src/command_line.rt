@@ -14,6 +14,10 @@ pub enum Request<'a> {
     Check {
         program: &'a str,
     },
+    /// `check --all PROGRAM`, or `check` with several programs: what is told of each of them.
+    Checks(Checks<'a>),
+    /// `survey PROGRAM` or `adapt PROGRAM`, with what these take: what is told of a producer's text, or the text that it is adapted to.
+    Produced(Produced<'a>),
     /// `build PROGRAM IMAGE`: the image of the program in this file, written to that one.
     Build {
         program: &'a str,
@@ -59,6 +63,43 @@ pub enum Request<'a> {
     },
 }
 
+/// What is asked for of programs.
+#[derive(Clone, Copy)]
+pub struct Checks<'a> {
+    /// The words behind the command, the programs among them.
+    pub words: &'a [String],
+    /// Whether all faults of lines and statements are to be told.
+    pub is_all: bool,
+    /// Whether there are several.
+    pub are_several: bool,
+}
+
+/// What is asked for of a producer's text.
+#[derive(Clone, Copy)]
+pub struct Produced<'a> {
+    pub program: &'a str,
+    /// What is to be written.
+    pub wanted: Wanted,
+    /// What `--tip` gives.
+    pub tip: Option<&'a str>,
+    /// What `--part` gives.
+    pub part: Option<&'a str>,
+    /// All words of the command line, those of `--frame` among them.
+    pub words: &'a [String],
+    pub is_exact: bool,
+}
+
+/// What is to be written of a producer's text.
+#[derive(Clone, Copy)]
+pub enum Wanted {
+    /// Its survey.
+    Groups,
+    /// Its survey, a line for each statement.
+    Lines,
+    /// The adapted text.
+    Adapted,
+}
+
 /// The number of steps where `--steps` isn't given.
 const STEPS: &str = "1000000";
 
@@ -93,6 +134,23 @@ fn any_words<'a>(alloc: Global) -> Arg<'a> {
         .help("A code, as E14, or a message of vcm")
 }
 
+// Programs, one at least.
+fn programs<'a>(alloc: Global) -> Arg<'a> {
+    Arg::new(alloc, "PROGRAM")
+        .required(true)
+        .num_args(1..)
+        .action(ArgAction::Set)
+        .help("The measuring programs, DMIS texts; `-` is standard input")
+}
+
+// `--all`.
+fn all_option<'a>(alloc: Global) -> Arg<'a> {
+    Arg::new(alloc, "all")
+        .long("all")
+        .action(ArgAction::SetTrue)
+        .help("Tells all faults of lines and statements, with what stands there")
+}
+
 // `--steps N`.
 fn steps_option<'a>(alloc: Global) -> Arg<'a> {
     Arg::new(alloc, "steps")
@@ -107,6 +165,38 @@ fn close_option<'a>(alloc: Global) -> Arg<'a> {
         .long("close")
         .action(ArgAction::SetTrue)
         .help("Shows the blocks as large as they are, and of the way what lies beside them")
+}
+
+// `--tip N`, `--part PART`, `--frame L=X,Y,Z` and `--exact`.
+fn with_producer_options<'a>(alloc: Global, command: Command<'a>) -> Result<Command<'a>, Error> {
+    let tip = Arg::new(alloc, "tip")
+        .long("tip")
+        .action(ArgAction::Set)
+        .help("Half the width of the tip, in micrometres, 0 to 50000");
+    let part = Arg::new(alloc, "part")
+        .long("part")
+        .action(ArgAction::Set)
+        .help("The workpiece whose tip is taken");
+    let frame = Arg::new(alloc, "frame")
+        .long("frame")
+        .action(ArgAction::Append)
+        .help("Where the origin of a frame by datums lies in machine coordinates: LABEL=X,Y,Z");
+    let exact = Arg::new(alloc, "exact")
+        .long("exact")
+        .action(ArgAction::SetTrue)
+        .help("Rounds nothing: what has digits behind the micrometre isn't tried");
+    let command = command.arg(tip)?;
+    let command = command.arg(part)?;
+    let command = command.arg(frame)?;
+    Ok(command.arg(exact)?)
+}
+
+// `--lines`.
+fn lines_option<'a>(alloc: Global) -> Arg<'a> {
+    Arg::new(alloc, "lines")
+        .long("lines")
+        .action(ArgAction::SetTrue)
+        .help("A line for each statement that neither fits nor has a notice")
 }
 
 // The command with the words behind it.
@@ -131,6 +221,15 @@ fn subcommand_of<'a>(alloc: Global, usage: Usage) -> Result<Command<'a>, Error> 
             Ok(command.arg(close_option(alloc))?)
         }
         More::Words => Ok(command.arg(any_words(alloc))?),
+        More::Programs => {
+            let command = command.arg(programs(alloc))?;
+            Ok(command.arg(all_option(alloc))?)
+        }
+        More::Survey => {
+            let command = with_producer_options(alloc, command)?;
+            Ok(command.arg(lines_option(alloc))?)
+        }
+        More::Adapt => with_producer_options(alloc, command),
     }
 }
 
@@ -169,12 +268,57 @@ fn view_request<'a>(view: View, behind: &ArgMatches<'a>) -> Request<'a> {
     }
 }
 
+// The request to check programs.
+fn checks_request<'a>(behind: &ArgMatches<'a>, words: &'a [String]) -> Request<'a> {
+    let program = word(behind, "PROGRAM");
+    let is_all = behind.get_flag("all");
+    let are_several = behind
+        .get_strs("PROGRAM")
+        .is_some_and(|names| names.len() > 1);
+    let words = match words {
+        [_, _, words @ ..] => words,
+        _ => words,
+    };
+    if is_all || are_several || program == "-" {
+        Request::Checks(Checks {
+            words,
+            is_all,
+            are_several,
+        })
+    } else {
+        Request::Check { program }
+    }
+}
+
+// The request for a producer's text.
+fn produced_request<'a>(
+    wanted: Wanted,
+    behind: &ArgMatches<'a>,
+    words: &'a [String],
+) -> Request<'a> {
+    Request::Produced(Produced {
+        program: word(behind, "PROGRAM"),
+        wanted,
+        tip: behind.get_str("tip"),
+        part: behind.get_str("part"),
+        words,
+        is_exact: behind.get_flag("exact"),
+    })
+}
+
 // The request of a command with what stands behind it.
-fn request_behind<'a>(name: &str, behind: &ArgMatches<'a>) -> Request<'a> {
+fn request_behind<'a>(name: &str, behind: &ArgMatches<'a>, words: &'a [String]) -> Request<'a> {
     match name {
-        "check" => Request::Check {
-            program: word(behind, "PROGRAM"),
-        },
+        "survey" => {
+            let wanted = if behind.get_flag("lines") {
+                Wanted::Lines
+            } else {
+                Wanted::Groups
+            };
+            produced_request(wanted, behind, words)
+        }
+        "adapt" => produced_request(Wanted::Adapted, behind, words),
+        "check" => checks_request(behind, words),
         "build" => Request::Build {
             program: word(behind, "PROGRAM"),
             image: word(behind, "IMAGE"),
@@ -231,7 +375,7 @@ pub fn request_of<'a>(alloc: Global, words: &'a [String]) -> Result<Request<'a>,
     }
     let matches = command_of(alloc, words.len() > 1)?.try_get_matches_from(words)?;
     match matches.subcommand() {
-        Some((name, behind)) => Ok(request_behind(name, behind)),
+        Some((name, behind)) => Ok(request_behind(name, behind, words)),
         None => Ok(Request::Job),
     }
 }

@@ -7,6 +7,7 @@ use std::io::Write;
 use vcm_explain::{Entry, explanation, explanations};
 use vcm_messages::Message;
 use vcm_num::write_all;
+use vcm_standard::{WordClass, class_of};
 
 // Appends the titles of explanations, a line each.
 fn put_titles(text: &mut String, entries: &[Entry]) -> Result<(), Message<'static>> {
@@ -52,6 +53,60 @@ fn tell_unknown<R: Eprint + AllocGlobal>(rt: &R, words: &str) -> Result<u8, Mess
     Ok(status)
 }
 
+// What becomes of the statements of a word of the standard, if it is one that is known here.
+fn standard_text(word: &str) -> Option<(&'static str, &'static str)> {
+    match class_of(word.as_bytes())? {
+        WordClass::Ruled => Some((
+            "takes it as it is, or has rules for it",
+            "docs/PRODUCERS.md has them",
+        )),
+        WordClass::Notice => Some(("takes it", "it has no effect")),
+        WordClass::LeftOut(reason) => Some(("leaves it out", reason.words())),
+        WordClass::NotTried(reason) => Some(("doesn't try it", reason.words())),
+    }
+}
+
+// Prints what words mean: codes and messages, or a word of the standard.
+fn explain_words<R: Print + Eprint + AllocGlobal>(
+    rt: &R,
+    words: &str,
+) -> Result<u8, Message<'static>> {
+    if let Some(entry) = explanation(words) {
+        print_text(rt, entry.text(), "\n")?;
+        return Ok(0);
+    }
+    let Some((what, why)) = standard_text(words) else {
+        return tell_unknown(rt, words);
+    };
+    let Ok(text) = format!(in rt.alloc(); "{words}: vcm adapt {what}: {why}") else {
+        return Err(Message::NoMemory);
+    };
+    print_text(rt, &text, "\n")?;
+    Ok(0)
+}
+
+// Whether each of several words has an explanation of its own.
+fn are_apart(words: &[String]) -> bool {
+    words.len() > 1
+        && words.iter().all(|word| explanation(word).is_some() || standard_text(word).is_some())
+}
+
+// Prints what words mean one by one, an empty line between them.
+fn explain_each<R: Print + Eprint + AllocGlobal>(
+    rt: &R,
+    words: &[String],
+) -> Result<u8, Message<'static>> {
+    let mut is_first = true;
+    for word in words {
+        if !is_first {
+            print_text(rt, "\n", "")?;
+        }
+        is_first = false;
+        explain_words(rt, word)?;
+    }
+    Ok(0)
+}
+
 // Prints what words mean, or where there are none, of what something is known.
 fn explained<R: Print + Eprint + AllocGlobal>(
     rt: &R,
@@ -61,14 +116,13 @@ fn explained<R: Print + Eprint + AllocGlobal>(
         print_text(rt, &titles(rt.alloc())?, "")?;
         return Ok(0);
     }
+    if are_apart(words) {
+        return explain_each(rt, words);
+    }
     let Ok(words) = words.join(rt.alloc(), " ") else {
         return Err(Message::NoMemory);
     };
-    let Some(entry) = explanation(&words) else {
-        return tell_unknown(rt, &words);
-    };
-    print_text(rt, entry.text(), "\n")?;
-    Ok(0)
+    explain_words(rt, &words)
 }
 
 /// Prints what a code or a message means, and gives the exit status: 0, or 2 where nothing is known of it.

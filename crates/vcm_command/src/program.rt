@@ -1,7 +1,9 @@
 //! The program: its words are read, and the command is carried out on the standard devices and files.
 
+use crate::checks::check_all;
 use crate::command_line::{Request, request_of, steps_of};
 use crate::explaining::explain;
+use crate::producing::produced;
 use clap::Error;
 use clap::error::ErrorKind;
 use std::alloc::Global;
@@ -52,7 +54,7 @@ pub(crate) fn written<'a, T: Drop, W: Write>(
 }
 
 // A line that has no effect, as it is printed.
-fn notice_line(notice: &Noticed) -> NoticeLine<'static> {
+pub(crate) fn notice_line(notice: &Noticed) -> NoticeLine<'static> {
     NoticeLine {
         line: notice.line,
         word: std::str::from_utf8(notice.word.word()).unwrap_or(""),
@@ -185,7 +187,10 @@ fn asm_file<R: Files + Eprint + AllocGlobal>(rt: &R, name: &str, image: &str) ->
 }
 
 // The workpiece of a file.
-fn part_of<'a, R: Files + AllocGlobal>(rt: &R, name: &'a str) -> Result<PartData, Message<'a>> {
+pub(crate) fn part_of<'a, R: Files + AllocGlobal>(
+    rt: &R,
+    name: &'a str,
+) -> Result<PartData, Message<'a>> {
     let Ok(mut file) = std::fs::open(rt, name) else {
         return Err(Message::Read { name });
     };
@@ -329,6 +334,8 @@ pub fn status<R: Env + Files + Input + Print + Eprint + AllocGlobal>(rt: &R) -> 
     match request_of(rt.alloc(), words.as_slice()) {
         Ok(Request::Job) => status_after(rt, run_job(rt)),
         Ok(Request::Check { program }) => status_of_notices(rt, check_file(rt, program)),
+        Ok(Request::Checks(asked)) => check_all(rt, asked),
+        Ok(Request::Produced(asked)) => produced(rt, asked),
         Ok(Request::Build { program, image }) => build_file(rt, program, image),
         Ok(Request::Run { input, part, steps }) => status_after(
             rt,

@@ -3,7 +3,7 @@ _vcm() {
   local word=${COMP_WORDS[COMP_CWORD]} command=${COMP_WORDS[1]}
   COMPREPLY=()
   if [ "$COMP_CWORD" -eq 1 ]; then
-    COMPREPLY=($(compgen -W "check build run trace margin picture view debug list asm explain help --help --version" -- "$word"))
+    COMPREPLY=($(compgen -W "check survey adapt build run trace margin picture view debug list asm explain help --help --version" -- "$word"))
     return
   fi
   case $command in
@@ -25,8 +25,20 @@ _vcm() {
         return
       fi
       ;;
+    check)
+      if [[ $word == -* ]]; then
+        COMPREPLY=($(compgen -W "--all --help" -- "$word"))
+        return
+      fi
+      ;;
+    survey | adapt)
+      if [[ $word == -* ]]; then
+        COMPREPLY=($(compgen -W "--tip --part --frame --exact --lines --help" -- "$word"))
+        return
+      fi
+      ;;
     help)
-      COMPREPLY=($(compgen -W "check build run trace margin picture view debug list asm explain" -- "$word"))
+      COMPREPLY=($(compgen -W "check survey adapt build run trace margin picture view debug list asm explain" -- "$word"))
       return
       ;;
     explain)

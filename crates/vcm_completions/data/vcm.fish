@@ -1,6 +1,8 @@
 # Completions of vcm for fish: put this file into ~/.config/fish/completions.
 complete -c vcm -f
 complete -c vcm -n __fish_use_subcommand -a check -d 'tell whether a program is accepted'
+complete -c vcm -n __fish_use_subcommand -a survey -d 'tell what of the text of a producer fits'
+complete -c vcm -n __fish_use_subcommand -a adapt -d 'write the program that the text of a producer comes to'
 complete -c vcm -n __fish_use_subcommand -a build -d 'write the image of a program'
 complete -c vcm -n __fish_use_subcommand -a run -d 'run a program or an image beside a workpiece'
 complete -c vcm -n __fish_use_subcommand -a trace -d 'print what each step of a run did'
@@ -14,7 +16,13 @@ complete -c vcm -n __fish_use_subcommand -a explain -d 'tell what a code or a me
 complete -c vcm -n __fish_use_subcommand -a help -d 'print help'
 complete -c vcm -n __fish_use_subcommand -l version -d 'print the version'
 complete -c vcm -l help -d 'print help'
-complete -c vcm -n '__fish_seen_subcommand_from check build run trace margin picture view debug list asm' -F
+complete -c vcm -n '__fish_seen_subcommand_from check survey adapt build run trace margin picture view debug list asm' -F
 complete -c vcm -n '__fish_seen_subcommand_from run trace margin picture view' -l steps -x -d 'the most steps'
 complete -c vcm -n '__fish_seen_subcommand_from picture' -l close -d 'show the blocks large'
+complete -c vcm -n '__fish_seen_subcommand_from check' -l all -d 'tell all faults'
+complete -c vcm -n '__fish_seen_subcommand_from survey adapt' -l tip -x -d 'half the width of the tip'
+complete -c vcm -n '__fish_seen_subcommand_from survey adapt' -l part -r -d 'the part file'
+complete -c vcm -n '__fish_seen_subcommand_from survey adapt' -l frame -x -d 'where a frame lies'
+complete -c vcm -n '__fish_seen_subcommand_from survey adapt' -l exact -d 'round nothing'
+complete -c vcm -n '__fish_seen_subcommand_from survey' -l lines -d 'a line for each statement'
 complete -c vcm -n '__fish_seen_subcommand_from explain' -a '(vcm explain 2>/dev/null | string split -f1 " ")'

@@ -60,10 +60,11 @@ const SPELLING: [Entry; 4] = [
     Entry {
         keys: &["E05", "UnknownStatement"],
         text: "E05 UnknownStatement
-The first word of the statement isn't one that vcm knows. Words of DMIS that vcm knows
-and doesn't carry out are told as E22, or get a notice.
-Do: look at the spelling. A statement of the standard that vcm doesn't have is to be
-taken out or written in other ones.
+The first word of the statement is none of the subset: a slip, or a word of DMIS that
+vcm doesn't have, as TOL or DATSET.
+Do: look at the spelling. What becomes of a word of DMIS, `vcm explain` tells, as in
+`vcm explain TOL`; `vcm survey` tells it of a whole text, and `vcm adapt` brings the text
+into the subset.
 For example, from line 3 on:
   GOTTO/20,20,50
 gives: E05 UnknownStatement line 3",

@@ -38,6 +38,8 @@ pub enum Message<'a> {
     Unknown { words: &'a str },
     #[error("usage: --steps wants decimal digits, a number from 0 to 1000000000")]
     Steps,
+    #[error("usage: {words}")]
+    Option { words: &'static str },
 }
 
 /// A line of a program that has no effect, as it is printed.
@@ -290,7 +292,7 @@ pub fn status_of(message: Message<'_>) -> u8 {
     match message {
         Message::Source { .. } | Message::Block { .. } => 1,
         Message::Part { .. } | Message::Image { .. } => 1,
-        Message::Usage | Message::Steps | Message::Unknown { .. } => 2,
+        Message::Usage | Message::Steps | Message::Option { .. } | Message::Unknown { .. } => 2,
         Message::NoMemory | Message::Halted { .. } => 5,
         Message::Read { .. } | Message::Write { .. } | Message::TooLong => 6,
     }

@@ -10,6 +10,8 @@ const INPUT: Word = ("INPUT", "The measuring program, a DMIS text, or its image"
 
 const PART: Word = ("PART", "The workpiece, a TOML text");
 
+const PRODUCED: Word = ("PROGRAM", "The text of a producer, as its system writes it");
+
 const LISTING: Word = ("LISTING", "The listing of a code");
 
 const IMAGE: Word = ("IMAGE", "The file that the image is written to");
@@ -24,6 +26,12 @@ pub enum More {
     StepsAndClose,
     /// Any words.
     Words,
+    /// Programs, one at least, and `--all`.
+    Programs,
+    /// What a text is surveyed with, and `--lines`.
+    Survey,
+    /// What a text is surveyed with.
+    Adapt,
 }
 
 /// A command: its name, what it does, an example, the words behind it, which all have to be there, and what else it takes.
@@ -40,10 +48,24 @@ pub struct Usage {
 const USAGES: &[Usage] = &[
     Usage {
         name: "check",
-        about: "Tells whether a program is accepted, and how many statements it has",
+        about: "Tells whether programs are accepted, and how many statements each has",
         example: "For example: vcm check square.dmi",
-        words: &[PROGRAM],
-        more: More::Nothing,
+        words: &[],
+        more: More::Programs,
+    },
+    Usage {
+        name: "survey",
+        about: "Tells of a producer's text what fits, what vcm adapt puts otherwise, and what isn't tried",
+        example: "For example: vcm survey camio.dmi --tip 1000",
+        words: &[PRODUCED],
+        more: More::Survey,
+    },
+    Usage {
+        name: "adapt",
+        about: "Writes the program that a producer's text is adapted to, line by line",
+        example: "For example: vcm adapt camio.dmi --tip 1000 > adapted.dmi",
+        words: &[PRODUCED],
+        more: More::Adapt,
     },
     Usage {
         name: "build",

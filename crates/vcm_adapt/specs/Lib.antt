@@ -1,0 +1,5 @@
+pub mod Marks
+pub mod Adapted
+pub mod Laws
+pub mod Read
+pub mod Choices

@@ -1,0 +1,164 @@
+//! Checks of several programs, and of all faults.
+
+use crate::command_line::Checks;
+use crate::producing::{bytes_of, print_bytes, tell_bytes};
+use crate::program::{fails, notice_line};
+use std::alloc::Global;
+use std::fmt::Write as _;
+use std::rt::Files;
+use vcm_job::{CheckFault, read_all};
+use vcm_lines::SourceFault;
+use vcm_messages::{Message, check_message, status_of};
+use vcm_num::NoMemory;
+use vcm_program::Noticed;
+use vcm_survey::faults_of;
+use vcm_tree::accept;
+
+// A program that is checked: its name, and what stands in front of what is told of it.
+#[derive(Clone, Copy)]
+struct Checked<'a> {
+    name: &'a str,
+    is_named: bool,
+    is_all: bool,
+}
+
+// The bytes of a program, or of standard input.
+fn text_of<'a, R: Files + Input + AllocGlobal>(
+    rt: &R,
+    name: &'a str,
+) -> Result<Vec<u8>, Message<'a>> {
+    if name != "-" {
+        return bytes_of(rt, name);
+    }
+    match read_all(rt.alloc(), &mut rt.reader()) {
+        Ok(bytes) => Ok(bytes),
+        Err(fault) => Err(check_message(CheckFault::from(fault), "standard input")),
+    }
+}
+
+// How many statements a program has that is accepted, and its lines that have no effect.
+fn counted(alloc: Global, text: &[u8]) -> Result<(usize, Vec<Noticed>), SourceFault> {
+    let accepted = accept(alloc, text)?;
+    let count = accepted.count();
+    Ok((count, accepted.into_notices()))
+}
+
+// Tells a fault of a program, and gives its exit status.
+fn tell_fault<R: Eprint>(rt: &R, checked: Checked<'_>, message: Message<'_>) -> u8 {
+    if !checked.is_named {
+        return fails(rt, message);
+    }
+    let name = checked.name;
+    let _ = eprintln!(rt; "{name}: {message}");
+    status_of(message)
+}
+
+// Tells a line that has no effect.
+fn tell_notice<R: Eprint>(rt: &R, checked: Checked<'_>, notice: &Noticed) {
+    let line = notice_line(notice);
+    let name = checked.name;
+    let _ = if checked.is_named {
+        eprintln!(rt; "{name}: {line}")
+    } else {
+        eprintln!(rt; "{line}")
+    };
+}
+
+// The line that tells how many statements a program has.
+fn count_line(alloc: Global, checked: Checked<'_>, count: usize) -> Result<String, NoMemory> {
+    let mut line = String::new(alloc);
+    let name = checked.name;
+    let done = if checked.is_named {
+        writeln!(line, "{name}: ok {count} statements")
+    } else {
+        writeln!(line, "ok {count} statements")
+    };
+    match done {
+        Ok(()) => Ok(line),
+        Err(_) => Err(NoMemory),
+    }
+}
+
+// Tells that a program is accepted, and gives the exit status.
+fn tell_accepted<R: Print + Eprint + AllocGlobal>(
+    rt: &R,
+    checked: Checked<'_>,
+    count: usize,
+    notices: &[Noticed],
+) -> u8 {
+    let Ok(line) = count_line(rt.alloc(), checked, count) else {
+        return tell_fault(rt, checked, Message::NoMemory);
+    };
+    if let Err(message) = print_bytes(rt, line.as_bytes()) {
+        return tell_fault(rt, checked, message);
+    }
+    for notice in notices {
+        tell_notice(rt, checked, notice);
+    }
+    0
+}
+
+// Tells all faults of lines and statements of a text, and whether there is one.
+fn tell_all<R: Eprint + AllocGlobal>(
+    rt: &R,
+    checked: Checked<'_>,
+    text: &[u8],
+) -> Result<bool, NoMemory> {
+    let front = if checked.is_named { checked.name } else { "" };
+    let told = faults_of(rt.alloc(), front.as_bytes(), text)?;
+    tell_bytes(rt, told.text.as_slice());
+    Ok(told.count != 0)
+}
+
+// Judges the text of a program, and gives the exit status.
+fn judge<R: Print + Eprint + AllocGlobal>(rt: &R, checked: Checked<'_>, text: &[u8]) -> u8 {
+    if checked.is_all {
+        match tell_all(rt, checked, text) {
+            Ok(false) => {}
+            Ok(true) => return 1,
+            Err(_) => return tell_fault(rt, checked, Message::NoMemory),
+        }
+    }
+    match counted(rt.alloc(), text) {
+        Ok((count, notices)) => tell_accepted(rt, checked, count, notices.as_slice()),
+        Err(fault) => {
+            let message = check_message(CheckFault::Refused(fault), checked.name);
+            tell_fault(rt, checked, message)
+        }
+    }
+}
+
+// Checks a program, and gives the exit status.
+fn check_one<R: Files + Input + Print + Eprint + AllocGlobal>(rt: &R, checked: Checked<'_>) -> u8 {
+    match text_of(rt, checked.name) {
+        Ok(text) => judge(rt, checked, &text),
+        Err(message) => tell_fault(rt, checked, message),
+    }
+}
+
+// Whether a word is a program's name; behind two dashes each is.
+fn is_name(word: &str, are_all: bool) -> bool {
+    are_all || word == "-" || !word.starts_with('-')
+}
+
+/// Checks programs one after another, and gives the greatest exit status: 1 where one is refused.
+pub(crate) fn check_all<R: Files + Input + Print + Eprint + AllocGlobal>(
+    rt: &R,
+    asked: Checks<'_>,
+) -> u8 {
+    let mut status = 0;
+    let mut are_all = false;
+    for word in asked.words {
+        if is_name(word.as_str(), are_all) {
+            let checked = Checked {
+                name: word.as_str(),
+                is_named: asked.are_several,
+                is_all: asked.is_all,
+            };
+            status = check_one(rt, checked).max(status);
+        } else if word.as_str() == "--" {
+            are_all = true;
+        }
+    }
+    status
+}

@@ -1,0 +1,14 @@
+//! The statements of any text, behind faults too, and what their parts are.
+#![tactic(auto)]
+
+mod cleaning;
+mod decimals;
+mod parts;
+mod sentences;
+mod table;
+
+pub use cleaning::{Cleaner, trimmed};
+pub use decimals::{Decimal, has_fine_digits, micrometres, read_decimal};
+pub use parts::{Parts, fields_of, has_function, is_name_byte, parts_of, piece};
+pub use sentences::{Owner, Sentence, Sentences, fault_of, sentences_of};
+pub use table::Table;

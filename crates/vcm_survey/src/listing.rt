@@ -1,0 +1,57 @@
+//! A survey as a line for each statement.
+
+use crate::groups::reason_words;
+use crate::words::class_words;
+use std::alloc::Global;
+use vcm_num::{NoMemory, line_feed, write_int};
+use vcm_rules::{Class, Row};
+use vcm_sentences::trimmed;
+
+// The first line with its line feed, and what stands behind it.
+fn split_line(text: &[u8]) -> (&[u8], &[u8]) {
+    match line_feed(text) {
+        None => (text, &[]),
+        Some(end) => (&text[..end + 1], &text[end + 1..]),
+    }
+}
+
+/// The lines of a text, each with its line feed.
+pub(crate) fn whole_lines(alloc: Global, text: &[u8]) -> Result<Vec<&[u8]>, NoMemory> {
+    let mut lines = Vec::new(alloc);
+    let mut rest = text;
+    for _ in 0..text.len() {
+        if rest.is_empty() {
+            break;
+        }
+        let (line, after) = split_line(rest);
+        lines.push(line)?;
+        rest = after;
+    }
+    Ok(lines)
+}
+
+// Appends the line of a statement.
+fn put_row(row: &Row, lines: &[&[u8]], out: &mut Vec<u8>) -> Result<(), NoMemory> {
+    out.extend_from_slice(b"line ")?;
+    write_int(i64::from(row.line), out)?;
+    out.extend_from_slice(b": ")?;
+    out.extend_from_slice(class_words(row.class).as_bytes())?;
+    out.extend_from_slice(b": ")?;
+    out.extend_from_slice(reason_words(row).as_bytes())?;
+    out.extend_from_slice(b": ")?;
+    if let Some(line) = lines.get((row.line as usize).saturating_sub(1)) {
+        out.extend_from_slice(trimmed(line))?;
+    }
+    out.push(b'\n')?;
+    Ok(())
+}
+
+/// Appends a line for each statement that neither fits nor has a notice.
+pub(crate) fn put_rows(rows: &[Row], lines: &[&[u8]], out: &mut Vec<u8>) -> Result<(), NoMemory> {
+    for row in rows {
+        if !row.class.is(Class::Fits) && !row.class.is(Class::Notice) {
+            put_row(row, lines, out)?;
+        }
+    }
+    Ok(())
+}
