@@ -4,8 +4,8 @@
 usage: tools/refuse.py [--vcm PROGRAM]     at the top of the repository, when the program is built (crates/vcm/out/vcm); wants gcc and Linux
 
 Each command runs once as it is, and then again and again with its first, second, .. growth refused, until none is refused any more. An answer is
-right where the status is 5, standard output is empty (or has the first lines of a trace), standard error has one line, `no memory` or `no memory after N steps`, and no byte of an
-image is written; a session of the debugger may also reply `no memory ..` to one command. It is the same where status, output and image are those of the command as it
+right where the status is 5, standard output is empty (or has the first lines of a trace, of points or of a clearance), standard error has one line, `no memory` or `no memory after N steps`, and no byte of an
+image is written; an adapted text may stand there whole, where memory runs out as it is judged; a session of the debugger may also reply `no memory ..` to one command. It is the same where status, output and image are those of the command as it
 is: the growth was one that may be left out, as that of a copy for `back`. Anything else is wrong, and the exit status is then 1.
 """
 import argparse
@@ -23,18 +23,23 @@ COMMANDS = b"break 1\nrun\nstep 3\nwatch i\nrun\nback 2\nshow i\nout\nrun\nback 
 
 
 def cases():
-    """The command lines, each with what it reads from standard input, and whether it is a session, a trace, or neither."""
+    """The command lines, each with what it reads from standard input, and whether it is a session, lines that are written as steps are taken, or neither."""
     for name in PROGRAMS:
         yield ["run", name, "part-a.toml"], b"", ""
-        yield ["trace", name, "part-a.toml"], b"", "trace"
+        yield ["trace", name, "part-a.toml"], b"", "lines"
+        yield ["points", name, "part-a.toml"], b"", "lines"
+        yield ["clearance", name, "part-a.toml", "stylus.toml"], b"", "lines"
         yield ["margin", name, "part-a.toml"], b"", ""
         yield ["picture", name, "part-a.toml"], b"", ""
         yield ["check", name], b"", ""
+        yield ["check", "--all", name], b"", ""
         yield ["build", name, "{image}"], b"", ""
         yield ["list", name], b"", ""
         with open(name.replace(".dmi", ".job"), "rb") as it:
             yield [], it.read(), ""
         yield ["debug", name, "part-a.toml"], COMMANDS, "session"
+    yield ["survey", "camio.dmi", "--tip", "1000"], b"", ""
+    yield ["adapt", "camio.dmi", "--tip", "1000"], b"", "adapted"
 
 
 def answer(vcm, words, given, image, room, number):
@@ -59,8 +64,10 @@ def judged(wanted, found, kind):
     status, out, told, written = found
     if found == wanted:
         return "same"
-    is_front = kind == "trace" and out.endswith(b"\n") and wanted[1].startswith(out)
+    is_front = kind == "lines" and out.endswith(b"\n") and wanted[1].startswith(out)
     if status == 5 and (not out or is_front) and NO_MEMORY.fullmatch(told) and not written:
+        return "right"
+    if kind == "adapted" and status == 5 and out == wanted[1] and told.endswith(b"\nno memory\n"):
         return "right"
     if kind == "session" and status == 0 and not told and len(HALTED.findall(out)) == 1:
         return "right"

@@ -18,6 +18,8 @@ private contracts and proofs name stands in folders `specs/inner/`. One thing th
 `turn_of` of a `Turn`; of an expression, a typed one and a placed statement a public reader shows what they hold (`Expr::pieces`, `to_postfix`,
 `Placed::statement`). Worked examples are theorems, computed by the checker.
 
+What is trusted besides definitions, the README says; what the page `docs/vcm.html` rests on in place of the native program's C library and processor, `docs/BROWSER.md`.
+
 `tools/trusted.py` writes this list from the first sentence of each file.
 """
 

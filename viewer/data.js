@@ -90,7 +90,7 @@ function readRun(text) {
   const run = {
     low: null, high: null, home: null, tip: 0, blocks: [], lines: [], code: [], notices: [], from: 0, listed: null, aims: new Map(),
     variables: new Map(), settings: new Map(), nominal: new Map(), actual: new Map(), frame: new Changes(null),
-    output: new Changes(null), touches: [], contact: null, stop: null, open: null, counts: new Map(),
+    output: new Changes(null), touches: [], contact: null, stop: null, open: null, counts: new Map(), boxes: [],
   };
   const statement = new Numbers(Uint32Array), line = new Numbers(Uint32Array), position = new Numbers(Float64Array);
   const done = [""], pieceFrom = new Numbers(Uint32Array);
@@ -190,6 +190,21 @@ function readRun(text) {
   return run;
 }
 
+// The boxes of a probe, from lines `Q NAME LOW HIGH`, each with its contacts in the run and with how much room is left round it, from the lines of its clearance.
+function readBoxes(run, text) {
+  const named = (name) => run.boxes.find((it) => it.name === name);
+  for (const row of text.split("\n")) {
+    const words = row.split(" ");
+    if (words[0] === "Q") run.boxes.push({ name: words[1], low: words.slice(2, 5).map(Number), high: words.slice(5, 8).map(Number), contacts: [] });
+    if (words[0] === "box" && words[2] === "clear") named(words[1]).room = Number(words[3]);
+    if (words[0] !== "contact") continue;
+    const [, name, kind, , block, , permille, , , , line, , step, , x, y, z] = words;
+    const contact = { name, kind, block: Number(block), permille: Number(permille), line: Number(line), step: Number(step) - run.from, at: [x, y, z].map(micrometres) };
+    named(name).contacts.push(contact);
+    run.firstMet = run.firstMet || contact;
+  }
+}
+
 // ---- what is asked of a run
 
 // the line of the shown text that a statement stands on: of a program its source line, of a listing its own
@@ -219,6 +234,9 @@ function millimetres(x) {
   return (x < 0 ? "-" : "") + Math.floor(size / 1000) + "." + String(size % 1000).padStart(3, "0");
 }
 const pointText = (at) => at.map(millimetres).join("  ");
+
+// the contacts of the probe's boxes in a step, each with its box
+const contactsIn = (run, k) => run.boxes.flatMap((box) => box.contacts.filter((it) => it.step === k).map((contact) => ({ box, contact })));
 
 // steps that move the probe or print
 function isEvent(run, k) {

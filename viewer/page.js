@@ -5,6 +5,7 @@
   let run;
   try {
     run = readRun($("run").textContent);
+    if ($("probe-boxes")) readBoxes(run, $("probe-boxes").textContent);
   } catch (fault) {
     $("fault").hidden = false;
     $("fault").textContent = "The run in this page cannot be read: " + fault.message + ".";
@@ -35,7 +36,14 @@
     else text = (stopWords[word] || "Stopped: " + word) + (word === "TRAVEL" ? " (" + line.split(" ")[1].toLowerCase() + ")" : "") + (place ? " on line " + place[2] : "");
     return { kind, text, line };
   }
-  const told = verdict();
+  // What the boxes of the probe meet is told behind how the run ended, which hangs on the tip alone.
+  function withBoxes(told) {
+    const first = run.firstMet, more = run.boxes.filter((it) => it.contacts.length).length - 1;
+    if (!first) return told;
+    const text = `${told.text.replace(", no collision", "")}; ${first.name} meets block ${first.block} on line ${first.line}`;
+    return { ...told, kind: "bad", text: text + (more > 0 ? `, and ${more} more of the boxes meet blocks` : "") };
+  }
+  const told = withBoxes(verdict());
   $("title").textContent = run.title;
   document.title = run.title + " \u2013 " + told.text;
   $("verdict").className = "verdict " + told.kind;
@@ -44,6 +52,7 @@
   const counted = (n, one, more) => n.toLocaleString("en") + " " + (n === 1 ? one : more);
   const facts = [counted(run.length + run.from, "step", "steps"), counted(run.blocks.length, "block", "blocks"), run.tip ? `tip ${millimetres(2 * run.tip)} mm` : "tip a point"];
   if (run.touches.length) facts.push(counted(run.touches.length, "measured point", "measured points"));
+  if (run.boxes.length) facts.push(counted(run.boxes.length, "box of the probe", "boxes of the probe"));
   if (run.notices.length) facts.push(counted(run.notices.length, "notice", "notices"));
   $("facts").textContent = facts.join(" \u00b7 ") + (run.from ? ` \u00b7 shown: the last ${run.length.toLocaleString("en")} steps` : "");
 
@@ -210,6 +219,8 @@
     for (const touch of run.touches) if (many) { g.fillStyle = colours.s; g.fillRect(x(touch.step) - 0.5, 1, 1, 3); } else dot(touch.step, 4, colours.s, 2.5);
     g.fillStyle = colours.ink;
     for (const k of run.output.steps) g.fillRect(x(k) - 0.5, h - 4, 1, 4);
+    g.fillStyle = colours.danger;
+    for (const box of run.boxes) for (const contact of box.contacts) if (contact.step > 0) g.fillRect(x(contact.step) - 2, 0, 4, 5);
     if (stopLine) { const sx = x(run.stop.step); g.strokeStyle = colours.danger; g.lineWidth = 2.4; g.beginPath(); g.moveTo(sx - 4, 3); g.lineTo(sx + 4, 11); g.moveTo(sx + 4, 3); g.lineTo(sx - 4, 11); g.stroke(); }
     g.fillStyle = colours.ink;
     g.fillRect(x(now) - 0.75, 0, 1.5, h);
@@ -303,6 +314,8 @@
     $("points").hidden = points.length === 0;
     $("points-count").textContent = touched + " of " + run.touches.length;
 
+    showBoxes(k);
+
     const printed = run.output.count(k), lines = [];
     $("output-section").hidden = run.output.steps.length === 0;
     for (let i = Math.max(0, printed - 50); i < printed; i++) {
@@ -318,6 +331,24 @@
     const settings = $("settings");
     settings.replaceChildren();
     for (const [name, it] of run.settings) entry(settings, name, it.changes.at(k) + " mm", "mono" + (it.changes.setAt(k) === k && k ? " changed" : ""));
+  }
+
+  // The boxes that are fixed to the tip, each with where it enters a block, the first time first, or with how much room is left round it.
+  function showBoxes(k) {
+    const rows = [];
+    $("boxes-section").hidden = run.boxes.length === 0;
+    for (const box of run.boxes) {
+      if (box.contacts.length === 0) rows.push(boxRow(box.name, `clear by ${millimetres(box.room)} mm${box.room < 50000 ? "" : " or more"}`, null, k));
+      box.contacts.slice(0, 50).forEach((contact, i) => rows.push(boxRow(i ? "" : box.name, `${contact.kind} block ${contact.block} at ${pointText(contact.at)}`, contact, k)));
+    }
+    $("boxes").tBodies[0].replaceChildren(...rows);
+  }
+  function boxRow(name, text, contact, k) {
+    const row = element("tr", undefined, contact && contact.step === k && k ? "changed" : ""), head = element("th", name), step = cell("", "n");
+    head.scope = "row";
+    if (contact && contact.step > 0) step.append(jump(contact.step));
+    row.append(head, cell(text, contact ? "bad" : ""), step);
+    return row;
   }
 
   // How far an actual point lies from its nominal one along its direction, in micrometres.

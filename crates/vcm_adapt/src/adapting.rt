@@ -22,7 +22,11 @@ pub(crate) fn split_line(text: &[u8]) -> (&[u8], &[u8])
 }
 
 /// Appends what becomes of a line.
-fn put_line(out: &mut Vec<u8>, edit: &Edit, line: &[u8]) -> Result<(), NoMemory>
+///
+/// # Errors
+///
+/// Out of memory.
+pub fn put_line(out: &mut Vec<u8>, edit: &Edit, line: &[u8]) -> Result<(), NoMemory>
     ensures { OnOk result (out.new.items ≡ out.old.items ++ edited edit.now line.now) }
 {
     match edit {

@@ -6,6 +6,6 @@ mod back;
 mod edit;
 pub mod laws;
 
-pub use adapting::adapted;
+pub use adapting::{adapted, put_line};
 pub use back::restored;
 pub use edit::{Edit, NewLine};

@@ -1,18 +1,21 @@
 //! What vcm answers: what it prints, then its notices or its fault, then its exit status.
 
+use crate::tips::is_told_by_its_box;
 use std::alloc::Global;
 use std::fmt::Write as _;
-use vcm_job::{asm, build, check, debug, list, part_from, run};
+use vcm_boxes::{Boxes, read_boxes};
+use vcm_job::{CheckFault, asm, build, check, debug, list, part_from, run};
+use vcm_lines::SourceFault;
 use vcm_messages::{
     Message, NoticeLine, asm_message, check_message, debug_message, list_message,
-    part_file_message, run_message, status_of,
+    part_file_message, probe_message, run_message, status_of,
 };
 use vcm_motion::Strips;
 use vcm_page::{Texts, page_of};
 use vcm_part::PartData;
 use vcm_program::Noticed;
 use vcm_run::{run_text, write_result};
-use vcm_survey::{Options, Shape, adapt, survey};
+use vcm_survey::{GivenFrame, Options, Shape, adapt, survey};
 use vcm_views::{View, view_of};
 
 // A fault, and its exit status.
@@ -55,12 +58,14 @@ fn is_printed_by_strips(
     }
 }
 
-// What the run of a program beside a workpiece answers; none where it is another answer with the blocks in strips.
+// What the run of a program beside a workpiece answers; none where it is another answer with the blocks in strips, or where the box that is the tip tells anything else.
 fn run_beside(alloc: Global, part: &PartData, program: &str, steps: u64) -> Option<String> {
     let mut input = program.as_bytes();
     let mut out = Vec::new(alloc);
     match run(alloc, part, &mut input, steps, &mut out) {
-        Ok(done) => if is_printed_by_strips(alloc, part, program, steps, &out) {
+        Ok(done) => if is_printed_by_strips(alloc, part, program, steps, &out)
+            && is_told_by_its_box(alloc, part, program, steps, &out)
+        {
             printed(alloc, &out, done.notices.as_slice(), done.status)
         } else {
             None
@@ -132,6 +137,48 @@ pub(crate) fn story_answer(alloc: Global, part: &str, program: &str, steps: u64)
     }
 }
 
+// What the clearance of boxes answers in a run of a program beside a workpiece, after so many steps at most.
+fn clearance_beside(
+    alloc: Global,
+    part: &PartData,
+    boxes: &Boxes,
+    program: &str,
+    steps: u64,
+) -> Option<String> {
+    let mut input = program.as_bytes();
+    let mut out = Vec::new(alloc);
+    match view_of(
+        alloc,
+        View::Clearance(boxes),
+        part,
+        &mut input,
+        steps,
+        &mut out,
+    ) {
+        Ok(done) => printed(alloc, &out, done.notices.as_slice(), done.status),
+        Err(fault) => told(alloc, run_message(fault, "the program")),
+    }
+}
+
+/// What the clearance of the boxes of a probe file answers in a run of a program beside the workpiece of a part file, after so many steps at most.
+pub(crate) fn clearance_answer(
+    alloc: Global,
+    part: &str,
+    probe: &str,
+    program: &str,
+    steps: u64,
+) -> Option<String> {
+    let mut file = part.as_bytes();
+    let part = match part_from(alloc, &mut file) {
+        Ok(part) => part,
+        Err(fault) => return told(alloc, part_file_message(fault, "the part")),
+    };
+    match read_boxes(alloc, probe.as_bytes()) {
+        Ok(boxes) => clearance_beside(alloc, &part, &boxes, program, steps),
+        Err(fault) => told(alloc, probe_message(&fault)),
+    }
+}
+
 /// What a check of a program answers.
 pub(crate) fn check_answer(alloc: Global, program: &str) -> Option<String> {
     let mut input = program.as_bytes();
@@ -142,37 +189,63 @@ pub(crate) fn check_answer(alloc: Global, program: &str) -> Option<String> {
     }
 }
 
-/// What the survey of a program tells, for a tip of so many micrometres.
-pub(crate) fn survey_answer(alloc: Global, program: &str, tip: i64) -> Option<String> {
-    let options = Options {
-        tip,
+// A refusal of the program, and its exit status.
+fn refused(alloc: Global, fault: SourceFault) -> Option<String> {
+    told(
+        alloc,
+        check_message(CheckFault::Refused(fault), "the program"),
+    )
+}
+
+// What is said of the machine and the part: the width of the tip to each side, then `exact`, `touch` and frames as `--frame` has them.
+fn options_of(alloc: Global, words: &str) -> Option<Options> {
+    let mut options = Options {
+        tip: 0,
         frames: Vec::new(alloc),
         is_exact: false,
+        is_touch: false,
     };
-    let told = survey(
+    for word in words.split(' ') {
+        match word.split_once('=') {
+            Some((name, place)) => {
+                let frame = GivenFrame::read(alloc, name.as_bytes(), place.as_bytes()).ok()?;
+                options.frames.push(frame?).ok()?;
+            }
+            None if word == "exact" => options.is_exact = true,
+            None if word == "touch" => options.is_touch = true,
+            None => options.tip = word.parse::<i64>().ok()?,
+        }
+    }
+    Some(options)
+}
+
+/// What the survey of a program tells, with these options.
+pub(crate) fn survey_answer(alloc: Global, program: &str, words: &str) -> Option<String> {
+    let options = options_of(alloc, words)?;
+    let answer = survey(
         alloc,
         b"program",
         program.as_bytes(),
         &options,
         Shape::Groups,
-    )
-    .ok()?;
-    let findings = told.ok()?;
+    );
+    let findings = match answer.ok()? {
+        Ok(findings) => findings,
+        Err(fault) => return refused(alloc, fault),
+    };
     let status = if findings.is_clean { 0 } else { 1 };
     let mut text = String::from_str(alloc, std::str::from_utf8(&findings.text).ok()?).ok()?;
     writeln!(text, "status {status}").ok()?;
     Some(text)
 }
 
-/// The text that a program is adapted to, for a tip of so many micrometres, what is told beside it, and what its check answers.
-pub(crate) fn adapt_answer(alloc: Global, program: &str, tip: i64) -> Option<String> {
-    let options = Options {
-        tip,
-        frames: Vec::new(alloc),
-        is_exact: false,
+/// The text that a program is adapted to with these options, what is told beside it, and what its check answers.
+pub(crate) fn adapt_answer(alloc: Global, program: &str, words: &str) -> Option<String> {
+    let options = options_of(alloc, words)?;
+    let adaptation = match adapt(alloc, program.as_bytes(), &options).ok()? {
+        Ok(adaptation) => adaptation,
+        Err(fault) => return refused(alloc, fault),
     };
-    let told = adapt(alloc, program.as_bytes(), &options).ok()?;
-    let adaptation = told.ok()?;
     let adapted = std::str::from_utf8(&adaptation.text).ok()?;
     let mut text = String::from_str(alloc, adapted).ok()?;
     text.push_str(std::str::from_utf8(&adaptation.warnings).ok()?)

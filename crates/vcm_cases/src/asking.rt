@@ -2,7 +2,7 @@
 
 use crate::messages::line_of;
 use std::alloc::Global;
-use vcm_command::{Produced, Request, Wanted, request_of, steps_of};
+use vcm_command::{Asked, Produced, Request, Wanted, request_of, steps_of};
 use vcm_explain::explanation;
 use vcm_messages::Message;
 use vcm_views::View;
@@ -23,20 +23,29 @@ fn words_of(alloc: Global, line: &str) -> Option<Vec<String>> {
 }
 
 // A run, or a view of one, that is asked for.
-fn run_asked(alloc: Global, name: &str, input: &str, part: &str, steps: &str) -> Option<String> {
+fn run_asked(alloc: Global, name: &str, asked: Asked<'_>) -> Option<String> {
+    let Asked { input, part, steps } = asked;
     match steps_of(steps) {
         Some(steps) => format!(in alloc; "{name} input={input} part={part} steps={steps}").ok(),
         None => line_of(alloc, Message::Steps),
     }
 }
 
+// What is asked for with a probe.
+fn probe_asked(alloc: Global, name: &str, asked: Asked<'_>, probe: &str) -> Option<String> {
+    let name = format!(in alloc; "{name} probe={probe}").ok()?;
+    run_asked(alloc, &name, asked)
+}
+
 // The name of a view.
-fn name_of(view: View) -> &'static str {
+fn name_of(view: View<'_>) -> &'static str {
     match view {
         View::Trace => "trace",
         View::Margin => "margin",
+        View::Points => "points",
         View::Picture { is_close: false } => "picture",
         View::Picture { is_close: true } => "close",
+        View::Clearance(_) => "clearance",
     }
 }
 
@@ -46,6 +55,7 @@ fn produced_asked(alloc: Global, produced: Produced<'_>) -> Option<String> {
         Wanted::Groups => "survey",
         Wanted::Lines => "lines",
         Wanted::Adapted => "adapt",
+        Wanted::Touched => "touch",
     };
     let program = produced.program;
     let tip = produced.tip.unwrap_or("");
@@ -68,14 +78,14 @@ fn asked(alloc: Global, request: Request<'_>) -> Option<String> {
         Request::Build { program, image } => {
             format!(in alloc; "build program={program} image={image}").ok()
         }
-        Request::Run { input, part, steps } => run_asked(alloc, "run", input, part, steps),
-        Request::View {
-            view,
-            input,
-            part,
-            steps,
-        } => run_asked(alloc, name_of(view), input, part, steps),
-        Request::Page { input, part, steps } => run_asked(alloc, "view", input, part, steps),
+        Request::Run(asked) => run_asked(alloc, "run", asked),
+        Request::View(view, asked) => run_asked(alloc, name_of(view), asked),
+        Request::Page { asked, probe: None } => run_asked(alloc, "view", asked),
+        Request::Page {
+            asked,
+            probe: Some(probe),
+        } => probe_asked(alloc, "view", asked, probe),
+        Request::Clearance { asked, probe } => probe_asked(alloc, "clearance", asked, probe),
         Request::Debug { input, part } => {
             format!(in alloc; "debug input={input} part={part}").ok()
         }

@@ -1,6 +1,6 @@
 //! The examples of explanations: each gives what it says.
 
-use crate::answers::{asm_answer, check_answer, replies, run_answer};
+use crate::answers::{asm_answer, check_answer, clearance_answer, replies, run_answer};
 use crate::tally::Tally;
 use std::alloc::Global;
 use vcm_explain::{Entry, explanations};
@@ -30,6 +30,7 @@ fn answer(alloc: Global, kind: &str, lines: &str) -> Option<String> {
             STEPS,
         ),
         "a part file" => run_answer(alloc, lines, &program_of(alloc, "")?, STEPS),
+        "a probe file" => clearance_answer(alloc, &part, lines, &program_of(alloc, "")?, STEPS),
         "a listing" => asm_answer(alloc, lines),
         "in a session on lines.dmi of the examples" => {
             replies(alloc, &part, &program_of(alloc, LINES)?, lines)

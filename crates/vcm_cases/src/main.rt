@@ -9,6 +9,7 @@ mod faults;
 mod messages;
 mod script;
 mod tally;
+mod tips;
 
 use crate::script::Script;
 use std::process::ExitCode;

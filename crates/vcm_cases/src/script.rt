@@ -1,8 +1,8 @@
 //! The text of worked examples, line by line.
 
 use crate::answers::{
-    adapt_answer, asm_answer, check_answer, image, image_answer, listing, replies, run_answer,
-    story_answer, survey_answer, view_answer,
+    adapt_answer, asm_answer, check_answer, clearance_answer, image, image_answer, listing,
+    replies, run_answer, story_answer, survey_answer, view_answer,
 };
 use crate::asking::{explain_answer, words_answer};
 use crate::explained::judge_examples;
@@ -14,7 +14,7 @@ use vcm_test_tools::program_of;
 use vcm_views::View;
 
 /// What stands below a heading.
-#[derive(Clone, Copy, PartialEq, Eq)]
+#[derive(Clone, Copy)]
 enum Heading {
     /// Remarks, and nothing to be judged.
     Remarks,
@@ -28,16 +28,20 @@ enum Heading {
     Commands,
     /// What a run answers after so many steps at most.
     Run(u64),
+    /// A probe file, for all that follows.
+    Probe,
     /// What a view of a run answers after so many steps at most.
-    View(View, u64),
+    View(View<'static>, u64),
+    /// What the clearance of the probe's boxes answers after so many steps at most.
+    Clearance(u64),
     /// What stands in the page of a run between the fixed texts, after so many steps at most.
     Story(u64),
     /// What a check answers.
     Check,
-    /// What a survey tells, for a tip of so many micrometres.
-    Survey(i64),
-    /// What the program is adapted to, for a tip of so many micrometres.
-    Adapt(i64),
+    /// What a survey tells.
+    Survey,
+    /// What the program is adapted to.
+    Adapt,
     /// What the debugger answers.
     Replies,
     /// The listing.
@@ -68,6 +72,7 @@ enum Heading {
 #[derive(Drop)]
 pub(crate) struct Script {
     part: String,
+    probe: String,
     program: String,
     commands: String,
     title: String,
@@ -91,11 +96,13 @@ fn heading_with(word: &str, rest: &str) -> Heading {
         "run" => run_heading(rest),
         "trace" => view_heading(View::Trace, rest),
         "margin" => view_heading(View::Margin, rest),
+        "points" => view_heading(View::Points, rest),
         "picture" => view_heading(View::Picture { is_close: false }, rest),
         "close" => view_heading(View::Picture { is_close: true }, rest),
+        "clearance" => clearance_heading(rest),
         "story" => story_heading(rest),
-        "survey" => survey_heading(rest),
-        "adapt" => adapt_heading(rest),
+        "survey" => Heading::Survey,
+        "adapt" => Heading::Adapt,
         "refused" => Heading::Refused,
         "images" => Heading::Images,
         "unlisted" => Heading::Unlisted,
@@ -115,24 +122,16 @@ fn run_heading(steps: &str) -> Heading {
     }
 }
 
-// The heading of a survey.
-fn survey_heading(tip: &str) -> Heading {
-    match tip.parse::<i64>() {
-        Ok(tip) => Heading::Survey(tip),
-        Err(_) => Heading::Unknown,
-    }
-}
-
-// The heading of an adapted text.
-fn adapt_heading(tip: &str) -> Heading {
-    match tip.parse::<i64>() {
-        Ok(tip) => Heading::Adapt(tip),
+// The heading of a clearance.
+fn clearance_heading(steps: &str) -> Heading {
+    match steps.parse::<u64>() {
+        Ok(steps) => Heading::Clearance(steps),
         Err(_) => Heading::Unknown,
     }
 }
 
 // The heading of a view.
-fn view_heading(view: View, steps: &str) -> Heading {
+fn view_heading(view: View<'static>, steps: &str) -> Heading {
     match steps.parse::<u64>() {
         Ok(steps) => Heading::View(view, steps),
         Err(_) => Heading::Unknown,
@@ -152,6 +151,7 @@ fn heading_word(title: &str) -> Heading {
     match title {
         "" => Heading::Remarks,
         "part" => Heading::Part,
+        "probe" => Heading::Probe,
         "program" => Heading::Program,
         "statements" => Heading::Statements,
         "commands" => Heading::Commands,
@@ -172,10 +172,13 @@ fn answer(alloc: Global, script: &Script) -> Option<String> {
         Heading::View(view, steps) => {
             view_answer(alloc, view, &script.part, &script.program, steps)
         }
+        Heading::Clearance(steps) => {
+            clearance_answer(alloc, &script.part, &script.probe, &script.program, steps)
+        }
         Heading::Story(steps) => story_answer(alloc, &script.part, &script.program, steps),
         Heading::Check => check_answer(alloc, &script.program),
-        Heading::Survey(tip) => survey_answer(alloc, &script.program, tip),
-        Heading::Adapt(tip) => adapt_answer(alloc, &script.program, tip),
+        Heading::Survey => survey_answer(alloc, &script.program, behind_word(&script.title)),
+        Heading::Adapt => adapt_answer(alloc, &script.program, behind_word(&script.title)),
         Heading::Replies => replies(alloc, &script.part, &script.program, &script.commands),
         Heading::Listing => listing(alloc, &script.program),
         Heading::Image => image(alloc, &script.program),
@@ -220,6 +223,7 @@ impl Script {
     pub(crate) fn new(alloc: Global) -> Script {
         Script {
             part: String::new(alloc),
+            probe: String::new(alloc),
             program: String::new(alloc),
             commands: String::new(alloc),
             title: String::new(alloc),
@@ -299,6 +303,10 @@ impl Script {
             Heading::Words | Heading::Explain | Heading::Unexplained => Some(()),
             Heading::Part => {
                 self.part = body;
+                Some(())
+            }
+            Heading::Probe => {
+                self.probe = body;
                 Some(())
             }
             Heading::Program => {

@@ -23,25 +23,19 @@ pub enum Request<'a> {
         program: &'a str,
         image: &'a str,
     },
-    /// `run INPUT PART [--steps N]`: the program or image in this file, run beside the workpiece in that one for at most so many steps.
-    Run {
-        input: &'a str,
-        part: &'a str,
-        steps: &'a str,
-    },
-    /// `trace` or `margin`, then `INPUT PART [--steps N]`, or `picture INPUT PART [--steps N] [--close]`: a view of the run of the program or image in
-    /// this file, beside the workpiece in that one for at most so many steps.
-    View {
-        view: View,
-        input: &'a str,
-        part: &'a str,
-        steps: &'a str,
-    },
-    /// `view INPUT PART [--steps N]`: the page of the run of the program or image in this file, beside the workpiece in that one for at most so many steps.
+    /// `run INPUT PART [--steps N]`: the result of a run.
+    Run(Asked<'a>),
+    /// `trace`, `margin` or `points`, then `INPUT PART [--steps N]`, or `picture INPUT PART [--steps N] [--close]`: a view of a run.
+    View(View<'static>, Asked<'a>),
+    /// `view INPUT PART [--steps N] [--probe PROBE]`: the page of a run, with the boxes of the probe in this file, if one is given.
     Page {
-        input: &'a str,
-        part: &'a str,
-        steps: &'a str,
+        asked: Asked<'a>,
+        probe: Option<&'a str>,
+    },
+    /// `clearance INPUT PART PROBE [--steps N]`: which boxes of the probe in this file meet a block in a run, and how much room the others have.
+    Clearance {
+        asked: Asked<'a>,
+        probe: &'a str,
     },
     /// `debug INPUT PART`: a session of the debugger on the program or image in this file, beside the workpiece in that one.
     Debug {
@@ -61,6 +55,14 @@ pub enum Request<'a> {
     Explain {
         words: &'a [String],
     },
+}
+
+/// A run that is asked for: of the program or image in this file, beside the workpiece in that one, for at most so many steps.
+#[derive(Clone, Copy)]
+pub struct Asked<'a> {
+    pub input: &'a str,
+    pub part: &'a str,
+    pub steps: &'a str,
 }
 
 /// What is asked for of programs.
@@ -98,6 +100,8 @@ pub enum Wanted {
     Lines,
     /// The adapted text.
     Adapted,
+    /// The adapted text with points touched one by one.
+    Touched,
 }
 
 /// The number of steps where `--steps` isn't given.
@@ -167,6 +171,16 @@ fn close_option<'a>(alloc: Global) -> Arg<'a> {
         .help("Shows the blocks as large as they are, and of the way what lies beside them")
 }
 
+// `--probe PROBE`.
+fn probe_option<'a>(alloc: Global) -> Arg<'a> {
+    Arg::new(alloc, "probe")
+        .long("probe")
+        .action(ArgAction::Set)
+        .help(
+            "The boxes that are fixed to the tip, a TOML text; the page shows them, and where they meet a block",
+        )
+}
+
 // `--tip N`, `--part PART`, `--frame L=X,Y,Z` and `--exact`.
 fn with_producer_options<'a>(alloc: Global, command: Command<'a>) -> Result<Command<'a>, Error> {
     let tip = Arg::new(alloc, "tip")
@@ -180,7 +194,9 @@ fn with_producer_options<'a>(alloc: Global, command: Command<'a>) -> Result<Comm
     let frame = Arg::new(alloc, "frame")
         .long("frame")
         .action(ArgAction::Append)
-        .help("Where the origin of a frame by datums lies in machine coordinates: LABEL=X,Y,Z");
+        .help(
+            "Where the origin of a frame by datums lies in machine coordinates: LABEL=X,Y,Z, or LABEL=X,Y,Z,Z90",
+        );
     let exact = Arg::new(alloc, "exact")
         .long("exact")
         .action(ArgAction::SetTrue)
@@ -189,6 +205,14 @@ fn with_producer_options<'a>(alloc: Global, command: Command<'a>) -> Result<Comm
     let command = command.arg(part)?;
     let command = command.arg(frame)?;
     Ok(command.arg(exact)?)
+}
+
+// `--touch`.
+fn touch_option<'a>(alloc: Global) -> Arg<'a> {
+    Arg::new(alloc, "touch")
+        .long("touch")
+        .action(ArgAction::SetTrue)
+        .help("Touches each point along an axis of a feature of several, in lines of its own")
 }
 
 // `--lines`.
@@ -220,6 +244,10 @@ fn subcommand_of<'a>(alloc: Global, usage: Usage) -> Result<Command<'a>, Error> 
             let command = command.arg(steps_option(alloc))?;
             Ok(command.arg(close_option(alloc))?)
         }
+        More::StepsAndProbe => {
+            let command = command.arg(steps_option(alloc))?;
+            Ok(command.arg(probe_option(alloc))?)
+        }
         More::Words => Ok(command.arg(any_words(alloc))?),
         More::Programs => {
             let command = command.arg(programs(alloc))?;
@@ -229,7 +257,10 @@ fn subcommand_of<'a>(alloc: Global, usage: Usage) -> Result<Command<'a>, Error> 
             let command = with_producer_options(alloc, command)?;
             Ok(command.arg(lines_option(alloc))?)
         }
-        More::Adapt => with_producer_options(alloc, command),
+        More::Adapt => {
+            let command = with_producer_options(alloc, command)?;
+            Ok(command.arg(touch_option(alloc))?)
+        }
     }
 }
 
@@ -258,10 +289,9 @@ fn word<'a>(matches: &ArgMatches<'a>, name: &str) -> &'a str {
     matches.get_str(name).unwrap_or("")
 }
 
-// The request for a view of a run.
-fn view_request<'a>(view: View, behind: &ArgMatches<'a>) -> Request<'a> {
-    Request::View {
-        view,
+// The run that is asked for.
+fn run_asked<'a>(behind: &ArgMatches<'a>) -> Asked<'a> {
+    Asked {
         input: word(behind, "INPUT"),
         part: word(behind, "PART"),
         steps: behind.get_str("steps").unwrap_or(STEPS),
@@ -306,38 +336,56 @@ fn produced_request<'a>(
     })
 }
 
-// The request of a command with what stands behind it.
-fn request_behind<'a>(name: &str, behind: &ArgMatches<'a>, words: &'a [String]) -> Request<'a> {
+// The request for a survey.
+fn survey_request<'a>(behind: &ArgMatches<'a>, words: &'a [String]) -> Request<'a> {
+    let wanted = if behind.get_flag("lines") {
+        Wanted::Lines
+    } else {
+        Wanted::Groups
+    };
+    produced_request(wanted, behind, words)
+}
+
+// The request for an adapted text.
+fn adapt_request<'a>(behind: &ArgMatches<'a>, words: &'a [String]) -> Request<'a> {
+    let wanted = if behind.get_flag("touch") {
+        Wanted::Touched
+    } else {
+        Wanted::Adapted
+    };
+    produced_request(wanted, behind, words)
+}
+
+// The request for a run, or for what is shown of one, if this command asks for that.
+fn run_request<'a>(name: &str, behind: &ArgMatches<'a>) -> Option<Request<'a>> {
+    let asked = run_asked(behind);
     match name {
-        "survey" => {
-            let wanted = if behind.get_flag("lines") {
-                Wanted::Lines
-            } else {
-                Wanted::Groups
-            };
-            produced_request(wanted, behind, words)
+        "run" => Some(Request::Run(asked)),
+        "trace" => Some(Request::View(View::Trace, asked)),
+        "margin" => Some(Request::View(View::Margin, asked)),
+        "points" => Some(Request::View(View::Points, asked)),
+        "picture" => {
+            let is_close = behind.get_flag("close");
+            Some(Request::View(View::Picture { is_close }, asked))
         }
-        "adapt" => produced_request(Wanted::Adapted, behind, words),
-        "check" => checks_request(behind, words),
+        "view" => Some(Request::Page {
+            asked,
+            probe: behind.get_str("probe"),
+        }),
+        "clearance" => Some(Request::Clearance {
+            asked,
+            probe: word(behind, "PROBE"),
+        }),
+        _ => None,
+    }
+}
+
+// The request for files that are read and written, if this command asks for that.
+fn file_request<'a>(name: &str, behind: &ArgMatches<'a>) -> Request<'a> {
+    match name {
         "build" => Request::Build {
             program: word(behind, "PROGRAM"),
             image: word(behind, "IMAGE"),
-        },
-        "run" => Request::Run {
-            input: word(behind, "INPUT"),
-            part: word(behind, "PART"),
-            steps: behind.get_str("steps").unwrap_or(STEPS),
-        },
-        "trace" => view_request(View::Trace, behind),
-        "margin" => view_request(View::Margin, behind),
-        "picture" => {
-            let is_close = behind.get_flag("close");
-            view_request(View::Picture { is_close }, behind)
-        }
-        "view" => Request::Page {
-            input: word(behind, "INPUT"),
-            part: word(behind, "PART"),
-            steps: behind.get_str("steps").unwrap_or(STEPS),
         },
         "debug" => Request::Debug {
             input: word(behind, "INPUT"),
@@ -351,6 +399,19 @@ fn request_behind<'a>(name: &str, behind: &ArgMatches<'a>, words: &'a [String]) 
             image: word(behind, "IMAGE"),
         },
         _ => Request::Job,
+    }
+}
+
+// The request of a command with what stands behind it.
+fn request_behind<'a>(name: &str, behind: &ArgMatches<'a>, words: &'a [String]) -> Request<'a> {
+    match name {
+        "survey" => survey_request(behind, words),
+        "adapt" => adapt_request(behind, words),
+        "check" => checks_request(behind, words),
+        _ => match run_request(name, behind) {
+            Some(request) => request,
+            None => file_request(name, behind),
+        },
     }
 }
 

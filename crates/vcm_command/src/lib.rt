@@ -6,6 +6,7 @@ mod command_line;
 mod explaining;
 mod producing;
 mod program;
+mod showing;
 
-pub use command_line::{Checks, Produced, Request, Wanted, request_of, steps_of};
+pub use command_line::{Asked, Checks, Produced, Request, Wanted, request_of, steps_of};
 pub use program::status;

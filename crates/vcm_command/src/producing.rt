@@ -9,8 +9,7 @@ use vcm_job::{CheckFault, read_all};
 use vcm_lines::SourceFault;
 use vcm_messages::{Message, check_message};
 use vcm_num::{NoMemory, line_feed, write_all};
-use vcm_sentences::{fields_of, read_decimal};
-use vcm_survey::{Adaptation, Findings, GivenFrame, Options, Place, Shape, adapt, survey};
+use vcm_survey::{Adaptation, Findings, GivenFrame, Options, Shape, adapt, survey};
 use vcm_tree::accept;
 
 // The widest tip that a part file may have, in micrometres to each side.
@@ -21,7 +20,7 @@ const TIP: Message<'static> = Message::Option {
 };
 
 const FRAME: Message<'static> = Message::Option {
-    words: "--frame wants LABEL=X,Y,Z, each label once, in millimetres with three decimals at most",
+    words: "--frame wants LABEL=X,Y,Z or LABEL=X,Y,Z,Z90, each label once, in millimetres with three decimals at most",
 };
 
 // The number of micrometres that `--tip` gives.
@@ -35,53 +34,21 @@ fn tip_of(text: &str) -> Option<i64> {
     }
 }
 
-// A length in millimetres as micrometres, where it has no finer digits.
-fn length_of(text: &[u8]) -> Option<i64> {
-    let length = read_decimal(text)?;
-    if length.is_fine {
-        None
-    } else {
-        Some(length.value / 10_000)
-    }
-}
-
-// The place of a frame: three lengths.
-fn place_of(alloc: Global, text: &[u8]) -> Result<Option<Place>, NoMemory> {
-    let fields = fields_of(alloc, text)?;
-    Ok(match fields.as_slice() {
-        [x, y, z] => match (length_of(x), length_of(y), length_of(z)) {
-            (Some(x), Some(y), Some(z)) => Some(Place { x, y, z }),
-            _ => None,
-        },
-        _ => None,
-    })
-}
-
-// The name of a frame as programs have it.
-fn label_of(alloc: Global, text: &[u8]) -> Result<Vec<u8>, NoMemory> {
-    let mut label = Vec::new(alloc);
-    for byte in text {
-        label.push(byte.to_ascii_uppercase())?;
-    }
-    Ok(label)
-}
-
 // Adds a frame that a word gives, and says whether it could be.
 fn add_frame(alloc: Global, frames: &mut Vec<GivenFrame>, word: &str) -> Result<bool, NoMemory> {
-    let Some((label, place)) = word.split_once('=') else {
+    let Some((name, place)) = word.split_once('=') else {
         return Ok(false);
     };
-    let Some(origin) = place_of(alloc, place.as_bytes())? else {
+    let Some(frame) = GivenFrame::read(alloc, name.as_bytes(), place.as_bytes())? else {
         return Ok(false);
     };
-    let label = label_of(alloc, label.as_bytes())?;
     let is_there = frames
         .iter()
-        .any(|frame| frame.label.as_slice() == label.as_slice());
-    if label.is_empty() || is_there {
+        .any(|other| other.label.as_slice() == frame.label.as_slice());
+    if is_there {
         return Ok(false);
     }
-    frames.push(GivenFrame { label, origin })?;
+    frames.push(frame)?;
     Ok(true)
 }
 
@@ -131,6 +98,7 @@ fn options_of<'a, R: Files + AllocGlobal>(
             tip,
             frames,
             is_exact: asked.is_exact,
+            is_touch: matches!(asked.wanted, Wanted::Touched),
         }),
         Ok(None) => Err(FRAME),
         Err(_) => Err(Message::NoMemory),
@@ -318,7 +286,7 @@ fn answer<'a, R: Files + Print + Eprint + AllocGlobal>(
     match asked.wanted {
         Wanted::Groups => survey_text(rt, asked.program, &text, &options, Shape::Groups),
         Wanted::Lines => survey_text(rt, asked.program, &text, &options, Shape::Lines),
-        Wanted::Adapted => adapt_text(rt, asked.program, &text, &options),
+        Wanted::Adapted | Wanted::Touched => adapt_text(rt, asked.program, &text, &options),
     }
 }
 

@@ -1,26 +1,24 @@
 //! The program: its words are read, and the command is carried out on the standard devices and files.
 
 use crate::checks::check_all;
-use crate::command_line::{Request, request_of, steps_of};
+use crate::command_line::{Request, request_of};
 use crate::explaining::explain;
 use crate::producing::produced;
+use crate::showing::{BoxesIn, Shown, show_boxes, show_run};
 use clap::Error;
 use clap::error::ErrorKind;
 use std::alloc::Global;
 use std::fmt::{self, Write as _};
 use std::io::{self, BufWriter, Printer, Read, Write};
 use std::rt::{Env, Files};
-use vcm_job::{Done, RunFault, asm, build, check, debug, job, list, part_from, run};
+use vcm_job::{Done, asm, build, check, debug, job, list, part_from};
 use vcm_messages::{
     Message, NoticeLine, asm_message, build_message, check_message, debug_message, job_message,
-    list_message, part_file_message, run_message, status_of,
+    list_message, part_file_message, status_of,
 };
 use vcm_num::write_all;
-use vcm_page::{Texts, page_of};
 use vcm_part::PartData;
 use vcm_program::Noticed;
-use vcm_viewer::{back, front};
-use vcm_views::{View, view_of};
 
 // Tells a fault on standard error, and gives its exit status.
 pub(crate) fn fails<R: Eprint>(rt: &R, message: Message<'_>) -> u8 {
@@ -85,7 +83,7 @@ fn tell_notices<R: Eprint + AllocGlobal>(rt: &R, notices: &[Noticed]) {
 }
 
 // The exit status of a run that was done, whose lines without effect are told.
-fn status_after<R: Eprint + AllocGlobal>(rt: &R, done: Result<Done, Message<'_>>) -> u8 {
+pub(crate) fn status_after<R: Eprint + AllocGlobal>(rt: &R, done: Result<Done, Message<'_>>) -> u8 {
     match done {
         Ok(done) => {
             tell_notices(rt, done.notices.as_slice());
@@ -200,81 +198,6 @@ pub(crate) fn part_of<'a, R: Files + AllocGlobal>(
     }
 }
 
-// Runs the program or image of a file beside the workpiece of another one, which is judged first.
-fn run_file<'a, R: Files + Print + AllocGlobal>(
-    rt: &R,
-    name: &'a str,
-    part: &'a str,
-    steps: &str,
-) -> Result<Done, Message<'a>> {
-    let Some(steps) = steps_of(steps) else {
-        return Err(Message::Steps);
-    };
-    let part = part_of(rt, part)?;
-    let Ok(mut file) = std::fs::open(rt, name) else {
-        return Err(Message::Read { name });
-    };
-    let mut out = output(rt)?;
-    let done = run(rt.alloc(), &part, &mut file, steps, &mut out);
-    written(&mut out, done.map_err(|fault| run_message(fault, name)))
-}
-
-// Prints a view of the run of the program or image of a file beside the workpiece of another one, which is judged first.
-fn view_file<'a, R: Files + Print + AllocGlobal>(
-    rt: &R,
-    view: View,
-    name: &'a str,
-    part: &'a str,
-    steps: &str,
-) -> Result<Done, Message<'a>> {
-    let Some(steps) = steps_of(steps) else {
-        return Err(Message::Steps);
-    };
-    let part = part_of(rt, part)?;
-    let Ok(mut file) = std::fs::open(rt, name) else {
-        return Err(Message::Read { name });
-    };
-    let mut out = output(rt)?;
-    let done = view_of(rt.alloc(), view, &part, &mut file, steps, &mut out);
-    written(&mut out, done.map_err(|fault| run_message(fault, name)))
-}
-
-// Writes the page of a run of the program or image that a reader gives.
-fn write_page<R: Read, W: Write>(
-    alloc: Global,
-    part: &PartData,
-    reader: &mut R,
-    steps: u64,
-    writer: &mut W,
-) -> Result<Done, RunFault> {
-    let front = front();
-    let back = back();
-    let texts = Texts {
-        front: &front,
-        back: &back,
-    };
-    page_of(alloc, part, texts, reader, steps, writer)
-}
-
-// Prints the page of a run of the program or image of a file beside the workpiece of another one, which is judged first.
-fn page_file<'a, R: Files + Print + AllocGlobal>(
-    rt: &R,
-    name: &'a str,
-    part: &'a str,
-    steps: &str,
-) -> Result<Done, Message<'a>> {
-    let Some(steps) = steps_of(steps) else {
-        return Err(Message::Steps);
-    };
-    let part = part_of(rt, part)?;
-    let Ok(mut file) = std::fs::open(rt, name) else {
-        return Err(Message::Read { name });
-    };
-    let mut out = output(rt)?;
-    let done = write_page(rt.alloc(), &part, &mut file, steps, &mut out);
-    written(&mut out, done.map_err(|fault| run_message(fault, name)))
-}
-
 // Answers the commands of standard input on the program or image of a file beside the workpiece of another one, which is judged first. Each
 // reply is handed on at once. A read of no byte shows whether standard input is open: where it is closed, the file would get its number.
 fn debug_file<'a, R: Files + Input + Print + AllocGlobal>(
@@ -337,22 +260,16 @@ pub fn status<R: Env + Files + Input + Print + Eprint + AllocGlobal>(rt: &R) -> 
         Ok(Request::Checks(asked)) => check_all(rt, asked),
         Ok(Request::Produced(asked)) => produced(rt, asked),
         Ok(Request::Build { program, image }) => build_file(rt, program, image),
-        Ok(Request::Run { input, part, steps }) => status_after(
-            rt,
-            run_file(rt, input, part, steps),
-        ),
+        Ok(Request::Run(asked)) => show_run(rt, Shown::Result, asked),
+        Ok(Request::View(view, asked)) => show_run(rt, Shown::View(view), asked),
+        Ok(Request::Page { asked, probe: None }) => show_run(rt, Shown::Page, asked),
         Ok(
-            Request::View {
-                view,
-                input,
-                part,
-                steps,
+            Request::Page {
+                asked,
+                probe: Some(probe),
             },
-        ) => status_after(rt, view_file(rt, view, input, part, steps)),
-        Ok(Request::Page { input, part, steps }) => status_after(
-            rt,
-            page_file(rt, input, part, steps),
-        ),
+        ) => show_boxes(rt, BoxesIn::Page, asked, probe),
+        Ok(Request::Clearance { asked, probe }) => show_boxes(rt, BoxesIn::Clearance, asked, probe),
         Ok(Request::Debug { input, part }) => status_of_notices(rt, debug_file(rt, input, part)),
         Ok(Request::List { input }) => status_of_notices(rt, list_file(rt, input)),
         Ok(Request::Asm { listing, image }) => asm_file(rt, listing, image),

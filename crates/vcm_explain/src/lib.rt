@@ -3,6 +3,7 @@
 
 mod entry;
 mod file_entries;
+mod probe_entries;
 mod program_entries;
 mod run_entries;
 mod session_entries;
@@ -10,6 +11,7 @@ mod session_entries;
 use crate::file_entries::{
     code_entries, image_entries, listing_entries, part_entries, placing_entries,
 };
+use crate::probe_entries::{box_entries, box_name_entries, clearance_entries};
 use crate::program_entries::{
     block_entries, line_entries, name_entries, size_entries, spelling_entries, value_entries,
 };
@@ -17,8 +19,8 @@ use crate::run_entries::{arithmetic_entries, device_entries, motion_entries, not
 use crate::session_entries::session_entries;
 pub use entry::Entry;
 
-/// All explanations: of programs, of part files, images and listings, of the debugger, and of runs.
-pub fn explanations() -> [&'static [Entry]; 16] {
+/// All explanations: of programs, of part files, probe files, images and listings, of the debugger, of runs, and of a clearance.
+pub fn explanations() -> [&'static [Entry]; 19] {
     [
         line_entries(),
         spelling_entries(),
@@ -28,6 +30,8 @@ pub fn explanations() -> [&'static [Entry]; 16] {
         size_entries(),
         part_entries(),
         placing_entries(),
+        box_entries(),
+        box_name_entries(),
         image_entries(),
         code_entries(),
         listing_entries(),
@@ -36,6 +40,7 @@ pub fn explanations() -> [&'static [Entry]; 16] {
         arithmetic_entries(),
         notice_entries(),
         device_entries(),
+        clearance_entries(),
     ]
 }
 

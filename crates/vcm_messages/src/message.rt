@@ -1,6 +1,7 @@
 //! What the program says on standard error, and its exit statuses.
 
 use thiserror::Error;
+use vcm_boxes::{BoxKey, BoxesFault, Label, Refusal as BoxRefusal};
 use vcm_debug::ServeFault;
 use vcm_fields::ImageFault;
 use vcm_job::{
@@ -15,31 +16,67 @@ use vcm_run::Refusal;
 #[derive(Clone, Copy, Debug, Error)]
 pub enum Message<'a> {
     #[error("{words} line {line}")]
-    Source { words: &'static str, line: u32 },
+    Source {
+        words: &'static str,
+        line: u32,
+    },
     #[error("{words} block {block}")]
-    Block { words: &'static str, block: u32 },
+    Block {
+        words: &'static str,
+        block: u32,
+    },
+    #[error("{words} {key}")]
+    Key {
+        words: &'static str,
+        key: &'a str,
+    },
+    #[error("{words} box {number}")]
+    Box {
+        words: &'static str,
+        number: u32,
+    },
+    #[error("{words} box {number} {key}")]
+    BoxKey {
+        words: &'static str,
+        number: u32,
+        key: &'a str,
+    },
     #[error("{words}")]
-    Part { words: &'static str },
+    Part {
+        words: &'static str,
+    },
     #[error("{words}")]
-    Image { words: &'static str },
+    Image {
+        words: &'static str,
+    },
     #[error("no memory")]
     NoMemory,
     #[error("no memory after {done} steps")]
-    Halted { done: u64 },
+    Halted {
+        done: u64,
+    },
     #[error("cannot read {name}")]
-    Read { name: &'a str },
+    Read {
+        name: &'a str,
+    },
     #[error("cannot write {name}")]
-    Write { name: &'a str },
+    Write {
+        name: &'a str,
+    },
     #[error("input too long")]
     TooLong,
     #[error("usage: a word of the command line is no text")]
     Usage,
     #[error("usage: nothing is known of {words}")]
-    Unknown { words: &'a str },
+    Unknown {
+        words: &'a str,
+    },
     #[error("usage: --steps wants decimal digits, a number from 0 to 1000000000")]
     Steps,
     #[error("usage: {words}")]
-    Option { words: &'static str },
+    Option {
+        words: &'static str,
+    },
 }
 
 /// A line of a program that has no effect, as it is printed.
@@ -89,6 +126,66 @@ fn part_words(code: PartCode) -> &'static str {
         PartCode::LowAboveHigh => "P04 LowAboveHigh",
         PartCode::TooManyBlocks => "P05 TooManyBlocks",
         PartCode::HomeNotClear => "P06 HomeNotClear",
+    }
+}
+
+// The key of a probe file as it is told: a sign for it where it is no label.
+fn key_words(key: &Option<Label>) -> &str {
+    match key {
+        Some(label) => std::str::from_utf8(label.as_bytes()).unwrap_or("?"),
+        None => "?",
+    }
+}
+
+// How a refusal of a key of a box is told.
+fn box_key_message(words: &'static str, number: u32, key: BoxKey) -> Message<'static> {
+    Message::BoxKey {
+        words,
+        number,
+        key: key.word(),
+    }
+}
+
+// How a refused probe file is told.
+fn boxes_message(refusal: &BoxRefusal) -> Message<'_> {
+    match refusal {
+        BoxRefusal::NotToml => Message::Part {
+            words: "B01 NotToml",
+        },
+        BoxRefusal::UnknownKey(key) => Message::Key {
+            words: "B06 UnknownKey",
+            key: key_words(key),
+        },
+        BoxRefusal::NoBoxes => Message::Key {
+            words: "B02 BadKey",
+            key: "box",
+        },
+        BoxRefusal::TooManyBoxes => Message::Part {
+            words: "B05 TooManyBoxes",
+        },
+        BoxRefusal::UnknownBoxKey(number, key) => Message::BoxKey {
+            words: "B06 UnknownKey",
+            number: *number,
+            key: key_words(key),
+        },
+        BoxRefusal::BadKey(number, key) => box_key_message("B02 BadKey", *number, *key),
+        BoxRefusal::OutOfRange(number, key) => box_key_message("B03 OutOfRange", *number, *key),
+        BoxRefusal::LowAboveHigh(number) => Message::Box {
+            words: "B04 LowAboveHigh",
+            number: *number,
+        },
+        BoxRefusal::DuplicateName(number) => Message::Box {
+            words: "B07 DuplicateName",
+            number: *number,
+        },
+    }
+}
+
+/// How the fault of a probe file is told.
+pub fn probe_message(fault: &BoxesFault) -> Message<'_> {
+    match fault {
+        BoxesFault::NoMemory => Message::NoMemory,
+        BoxesFault::Refused(refusal) => boxes_message(refusal),
     }
 }
 
@@ -291,6 +388,7 @@ pub fn check_message<'a>(fault: CheckFault, name: &'a str) -> Message<'a> {
 pub fn status_of(message: Message<'_>) -> u8 {
     match message {
         Message::Source { .. } | Message::Block { .. } => 1,
+        Message::Key { .. } | Message::Box { .. } | Message::BoxKey { .. } => 1,
         Message::Part { .. } | Message::Image { .. } => 1,
         Message::Usage | Message::Steps | Message::Option { .. } | Message::Unknown { .. } => 2,
         Message::NoMemory | Message::Halted { .. } => 5,

@@ -43,9 +43,11 @@ face n near r = record { number = n; block = record { low = point near near near
 abbrev low : Face
 low = face 1 (pos 5) (boxed (pos 10) (pos 10) (pos 20) (pos 20))
 
+-- a block nearer to the viewer, with the rectangle of the low one
 abbrev high : Face
 high = face 2 (pos 9) (boxed (pos 10) (pos 10) (pos 20) (pos 20))
 
+-- one as near, whose rectangle holds both
 abbrev wide : Face
 wide = face 3 (pos 9) (boxed (pos 0) (pos 0) (pos 90) (pos 90))
 

@@ -1,28 +1,22 @@
 //! What becomes of each statement of a producer's text.
 #![tactic(auto)]
 
-mod ahead;
-mod approaching;
-mod class;
+mod calls;
 mod control;
-mod facts;
-mod flow;
+mod expressions;
 mod frames;
-mod judging;
+mod given;
+mod losing;
 mod measuring;
 mod moving;
-mod naming;
-mod naming_labels;
-mod options;
-mod spelling;
-mod values;
-mod walk;
+mod pages;
+mod points;
+mod settings;
+mod spelled;
+mod view;
 mod walking;
 
-pub use class::Class;
-pub use flow::Place;
-pub use judging::Row;
-pub use naming::Renaming;
-pub use options::{GivenFrame, Options};
-pub use walk::{Caution, Surveyed};
+pub use pages::{Caution, Surveyed};
+pub use vcm_classes::{Class, GivenFrame, Options, Place, Row, Stand, Turn};
+pub use vcm_spelling::Renaming;
 pub use walking::surveyed;

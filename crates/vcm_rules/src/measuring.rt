@@ -1,14 +1,15 @@
 //! Features, and blocks of measuring.
 
-use crate::approaching::{Direction, direction_in};
-use crate::flow::Frame;
-use crate::judging::Ruling;
-use crate::moving::Lengths;
-use crate::naming_labels::Named;
-use crate::spelling::joined;
-use crate::walk::{Measured, Measuring, Walk};
+use crate::expressions::untried_value;
+use crate::moving::untried_move;
+use crate::pages::Page;
+use crate::points::{approached_point, point_name, touched_point};
+use crate::spelled::{Lengths, standing, with_lengths};
+use crate::view::{Features, Here, Measured, Measuring, Said};
+use vcm_classes::{Facts, Frame, Row, Ruling};
 use vcm_num::{NoMemory, is};
-use vcm_sentences::{Parts, read_decimal};
+use vcm_sentences::read_decimal;
+use vcm_spelling::{Direction, Named, Rounding, direction_in};
 use vcm_standard::Reason;
 
 /// The feature of `F(..)` or `FA(..)`, and whether it is the measured one.
@@ -39,182 +40,281 @@ fn is_point(fields: &[&[u8]]) -> bool {
     }
 }
 
-impl<'a> Walk<'a> {
-    /// FEAT.
-    pub(crate) fn feature(
-        &mut self,
-        bytes: &'a [u8],
-        parts: Parts<'a>,
-    ) -> Result<Ruling, NoMemory> {
-        let fields = self.fields(parts)?;
-        let is_along = is_axis_point(fields.as_slice());
-        let was_along = self.features.get(parts.title).unwrap_or(true);
-        let stays = is_along && (was_along || self.is_outside());
-        self.features.set(parts.title, stays)?;
-        if is_along {
-            if let Some(reason) = self.untried_value(parts.rest) {
-                self.features.set(parts.title, false)?;
-                return Ok(Ruling::NotTried(reason));
+// A feature that is a point along an axis.
+fn axis_feature<'a>(
+    said: Said<'_, 'a>,
+    facts: &Facts<'a>,
+    features: &mut Features<'a>,
+    rounding: &mut Rounding,
+) -> Result<Ruling, NoMemory> {
+    match untried_value(facts, said.parts.rest, said.ground.options.is_exact) {
+        Some(reason) => {
+            features.along.set(said.parts.title, false)?;
+            Ok(Ruling::NotTried(reason))
+        }
+        None => with_lengths(said, Lengths::From(2, 5), rounding),
+    }
+}
+
+/// FEAT.
+pub(crate) fn feature<'a>(
+    said: Said<'_, 'a>,
+    here: &Here<'a>,
+    facts: &Facts<'a>,
+    features: &mut Features<'a>,
+    rounding: &mut Rounding,
+) -> Result<Ruling, NoMemory> {
+    let title = said.parts.title;
+    let is_along = is_axis_point(said.fields);
+    let was_along = features.along.get(title).unwrap_or(true);
+    let stays = is_along && (was_along || here.is_outside);
+    features.along.set(title, stays)?;
+    if is_along {
+        return axis_feature(said, facts, features, rounding);
+    }
+    Ok(Ruling::LeftOut(if is_point(said.fields) {
+        Reason::OtherDirections
+    } else {
+        Reason::OtherFeatures
+    }))
+}
+
+/// A feature is measured here.
+pub(crate) fn measure<'a>(
+    row: usize,
+    here: &Here<'a>,
+    features: &mut Features<'a>,
+    label: &'a [u8],
+) -> Result<(), NoMemory> {
+    let frame = match here.flow.frame {
+        Frame::Known(frame) if here.is_outside => frame,
+        _ => u32::MAX,
+    };
+    features.measured.set(label, Measured { frame, row })
+}
+
+// The feature of a MEAS, and whether it is of one point.
+fn measured_feature<'a>(fields: &[&'a [u8]]) -> (&'a [u8], bool) {
+    match fields {
+        [kind, feature, count] => match feature_in(feature) {
+            Some((label, false)) => (label, is(kind, b"POINT") && is(count, b"1")),
+            _ => (&[], false),
+        },
+        _ => (&[], false),
+    }
+}
+
+// What a MEAS of this feature is taken for, where it is tried.
+fn measuring_of<'a>(
+    said: Said<'_, 'a>,
+    here: &Here<'a>,
+    features: &Features<'a>,
+    label: &'a [u8],
+    is_one: bool,
+) -> Measuring {
+    let Some(outlook) = said.outlook() else {
+        return Measuring::Nothing;
+    };
+    if outlook.points == 0 {
+        Measuring::Untried(Reason::Scans)
+    } else if is_one
+        && outlook.points == 1
+        && outlook.is_along_axes
+        && features.is_along(here.body, label)
+    {
+        Measuring::Point
+    } else {
+        Measuring::Approached
+    }
+}
+
+/// MEAS.
+pub(crate) fn begin_measuring<'a>(
+    said: Said<'_, 'a>,
+    here: &mut Here<'a>,
+    features: &mut Features<'a>,
+    rounding: &mut Rounding,
+) -> Result<Ruling, NoMemory> {
+    here.measuring = Measuring::Nothing;
+    let untried = match untried_move(said.ground.traits.is_followed, here) {
+        Some(Reason::MovedByHand) => Some(Reason::ByHand),
+        other => other,
+    };
+    if let Some(reason) = untried {
+        here.measuring = Measuring::Untried(reason);
+        return Ok(Ruling::NotTried(reason));
+    }
+    let (label, is_one) = measured_feature(said.fields);
+    let measuring = measuring_of(said, here, features, label, is_one);
+    here.measuring = measuring;
+    here.feature = label;
+    here.begun = said.row;
+    match measuring {
+        Measuring::Nothing => standing(said, rounding),
+        Measuring::Untried(reason) => Ok(Ruling::NotTried(reason)),
+        Measuring::Approached => Ok(Ruling::Replaced(Reason::Approached)),
+        Measuring::Point => {
+            measure(said.row, here, features, label)?;
+            standing(said, rounding)
+        }
+    }
+}
+
+// Whether a row has points that are touched.
+fn is_touched(row: &Row) -> bool {
+    row.lines.is_some()
+}
+
+// Whether a row from this one on has points that are touched.
+fn has_touched(page: &Page, from: usize) -> bool {
+    match page.rows.as_slice().get(from..) {
+        Some(rows) => rows.iter().any(is_touched),
+        None => false,
+    }
+}
+
+/// ENDMES.
+pub(crate) fn end_measuring<'a>(
+    said: Said<'_, 'a>,
+    here: &mut Here<'a>,
+    features: &mut Features<'a>,
+    page: &mut Page,
+) -> Result<Ruling, NoMemory> {
+    let measuring = here.measuring;
+    here.measuring = Measuring::Nothing;
+    match measuring {
+        Measuring::Nothing => Ok(Ruling::NotTried(Reason::NoDirection)),
+        Measuring::Point => standing(said, &mut page.rounding),
+        Measuring::Approached => {
+            if has_touched(page, here.begun) {
+                features.touched.set(here.feature, (here.begun, said.row))?;
             }
-            return self.with_lengths(bytes, parts, Lengths::From(2, 5));
+            Ok(Ruling::Replaced(Reason::Approached))
         }
-        Ok(Ruling::LeftOut(if is_point(fields.as_slice()) {
-            Reason::OtherDirections
-        } else {
-            Reason::OtherFeatures
-        }))
+        Measuring::Untried(reason) => Ok(Ruling::NotTried(reason)),
     }
+}
 
-    // Whether a name is a parameter of the macro that stands for a feature.
-    fn is_parameter(&self, label: &[u8]) -> bool {
-        self.parameters.iter().any(|name| *name == label)
+/// PTMEAS.
+pub(crate) fn point<'a>(
+    said: Said<'_, 'a>,
+    here: &Here<'a>,
+    facts: &Facts<'a>,
+    rounding: &mut Rounding,
+) -> Result<Ruling, NoMemory> {
+    if let Measuring::Untried(reason) = here.measuring {
+        return Ok(Ruling::NotTried(reason));
     }
-
-    /// Whether a feature is a point along an axis: in a macro, a parameter in quotes is, where it is at all calls.
-    pub(crate) fn is_axis_feature(&self, label: &'a [u8]) -> bool {
-        match self.body {
-            Some(body) if self.is_parameter(label) => body.has_points,
-            _ => self.features.get(label).unwrap_or(false),
+    if let Some(reason) = untried_value(facts, said.parts.rest, said.ground.options.is_exact) {
+        return Ok(Ruling::NotTried(reason));
+    }
+    let name = point_name(said.ground, said.row);
+    match here.measuring {
+        Measuring::Point => with_lengths(said, Lengths::From(1, 4), rounding),
+        Measuring::Approached if !name.is_empty() && !said.ground.traits.is_inch => {
+            touched_point(said, name, rounding)
         }
+        Measuring::Approached => approached_point(said, here, rounding),
+        _ => Ok(Ruling::NotTried(Reason::NoDirection)),
     }
+}
 
-    /// Whether a feature was measured above, where that is tried.
-    pub(crate) fn is_measured(&self, label: &'a [u8]) -> bool {
-        self.body.is_some() && self.is_parameter(label) || self.measured.get(label).is_some()
+// The feature of a field, where its coordinates or the measured ones are there.
+fn given_feature<'a>(
+    here: &Here<'a>,
+    features: &Features<'a>,
+    field: &'a [u8],
+) -> Option<&'a [u8]> {
+    let (label, is_actual) = feature_in(field)?;
+    let is_there = !is_actual || features.is_measured(here.body, label);
+    if features.is_along(here.body, label) && is_there {
+        Some(label)
+    } else {
+        None
     }
+}
 
-    /// A feature is measured here.
-    pub(crate) fn measure(&mut self, label: &'a [u8]) -> Result<(), NoMemory> {
-        let frame = match self.flow.frame {
-            Frame::Known(frame) if self.is_outside() => frame,
-            _ => u32::MAX,
-        };
-        let row = self.rows.len();
-        self.measured.set(label, Measured { frame, row })
+// What stands in front of a label in an OUTPUT.
+fn output_front(field: &[u8]) -> &'static [u8] {
+    if field.starts_with(b"FA") {
+        b"OUTPUT/FA("
+    } else {
+        b"OUTPUT/F("
     }
+}
 
-    // What a MEAS with these fields is taken for, where it is tried.
-    fn measuring_of(&self, fields: &[&'a [u8]]) -> (Measuring, Option<&'a [u8]>) {
-        let Some(outlook) = self.outlook() else {
-            return (Measuring::Nothing, None);
-        };
-        if outlook.points == 0 {
-            return (Measuring::Untried(Reason::Scans), None);
-        }
-        let (kind, feature, count) = match fields {
-            [kind, feature, count] => (*kind, *feature, *count),
-            _ => return (Measuring::Approached, None),
-        };
-        let Some((label, false)) = feature_in(feature) else {
-            return (Measuring::Approached, None);
-        };
-        let is_one = is(kind, b"POINT") && is(count, b"1") && outlook.points == 1;
-        if is_one && outlook.is_along_axes && self.is_axis_feature(label) {
-            (Measuring::Point, Some(label))
-        } else {
-            (Measuring::Approached, None)
-        }
-    }
-
-    /// MEAS.
-    pub(crate) fn begin_measuring(
-        &mut self,
-        bytes: &'a [u8],
-        parts: Parts<'a>,
-    ) -> Result<Ruling, NoMemory> {
-        self.measuring = Measuring::Nothing;
-        match self.untried_move() {
-            Some(Reason::MovedByHand) => {
-                self.measuring = Measuring::Untried(Reason::ByHand);
-                return Ok(Ruling::NotTried(Reason::ByHand));
-            }
-            Some(reason) => {
-                self.measuring = Measuring::Untried(reason);
-                return Ok(Ruling::NotTried(reason));
-            }
-            None => {}
-        }
-        let fields = self.fields(parts)?;
-        let (measuring, label) = self.measuring_of(fields.as_slice());
-        self.measuring = measuring;
-        match measuring {
-            Measuring::Nothing => self.standing(bytes),
-            Measuring::Untried(reason) => Ok(Ruling::NotTried(reason)),
-            Measuring::Approached => Ok(Ruling::Replaced(Reason::Approached)),
-            Measuring::Point => {
-                if let Some(label) = label {
-                    self.measure(label)?;
-                }
-                self.standing(bytes)
-            }
+// The output of the points between two rows that are touched.
+fn touched_output(
+    said: Said<'_, '_>,
+    field: &[u8],
+    rows: (usize, usize),
+    page: &Page,
+) -> Result<Ruling, NoMemory> {
+    let mut statements = Vec::new(said.ground.alloc);
+    for row in rows.0..rows.1 {
+        if page.rows.get(row).is_some_and(is_touched) {
+            statements.extend_from_slice(output_front(field))?;
+            statements.extend_from_slice(point_name(said.ground, row))?;
+            statements.extend_from_slice(b")\n")?;
         }
     }
+    Ok(Ruling::Several(Reason::Touched, statements))
+}
 
-    /// ENDMES.
-    pub(crate) fn end_measuring(&mut self, bytes: &'a [u8]) -> Result<Ruling, NoMemory> {
-        let measuring = self.measuring;
-        self.measuring = Measuring::Nothing;
-        match measuring {
-            Measuring::Nothing => Ok(Ruling::NotTried(Reason::NoDirection)),
-            Measuring::Point => self.standing(bytes),
-            Measuring::Approached => Ok(Ruling::Replaced(Reason::Approached)),
-            Measuring::Untried(reason) => Ok(Ruling::NotTried(reason)),
+// The output of a feature without what stands behind it.
+fn plain_output(said: Said<'_, '_>, field: &[u8], label: &[u8]) -> Result<Ruling, NoMemory> {
+    let mut new = Vec::new(said.ground.alloc);
+    new.extend_from_slice(output_front(field))?;
+    new.extend_from_slice(said.ground.naming.label(Named::Feature, label))?;
+    new.push(b')')?;
+    Ok(Ruling::Put(Reason::OutputTolerances, new))
+}
+
+/// OUTPUT.
+pub(crate) fn output<'a>(
+    said: Said<'_, 'a>,
+    here: &Here<'a>,
+    features: &Features<'a>,
+    page: &mut Page,
+) -> Result<Ruling, NoMemory> {
+    let [first, others @ ..] = said.fields else {
+        return Ok(Ruling::LeftOut(Reason::OtherOutput));
+    };
+    if others.iter().any(|field| feature_in(field).is_some()) {
+        return Ok(Ruling::LeftOut(Reason::OtherOutput));
+    }
+    if let Some((label, _)) = feature_in(first) {
+        if let Some(rows) = features.touched.get(label) {
+            return touched_output(said, first, rows, page);
         }
     }
-
-    // Whether a feature's coordinates or the measured ones are there.
-    fn is_given(&self, field: &'a [u8]) -> Option<&'a [u8]> {
-        let (label, is_actual) = feature_in(field)?;
-        if self.is_axis_feature(label) && (!is_actual || self.is_measured(label)) {
-            Some(label)
-        } else {
-            None
-        }
+    match given_feature(here, features, first) {
+        None => Ok(Ruling::LeftOut(Reason::OtherOutput)),
+        Some(_) if others.is_empty() => standing(said, &mut page.rounding),
+        Some(label) => plain_output(said, first, label),
     }
+}
 
-    /// OUTPUT.
-    pub(crate) fn output(&mut self, bytes: &'a [u8], parts: Parts<'a>) -> Result<Ruling, NoMemory> {
-        let fields = self.fields(parts)?;
-        let (first, others) = match fields.as_slice() {
-            [first, others @ ..] => (*first, others),
-            [] => return Ok(Ruling::LeftOut(Reason::OtherOutput)),
-        };
-        let Some(label) = self.is_given(first) else {
-            return Ok(Ruling::LeftOut(Reason::OtherOutput));
-        };
-        if others.is_empty() {
-            return self.standing(bytes);
-        }
-        if others.iter().any(|field| feature_in(field).is_some()) {
-            return Ok(Ruling::LeftOut(Reason::OtherOutput));
-        }
-        let front: &[u8] = if first.starts_with(b"FA") {
-            b"OUTPUT/FA("
-        } else {
-            b"OUTPUT/F("
-        };
-        let name = self.ground.naming.label(Named::Feature, label);
-        let new = joined(self.ground.alloc, &[front, name, b")"])?;
-        Ok(Ruling::Put(Reason::OutputTolerances, new))
+// Whether a field spells a word of a point that can be asked for.
+fn is_word(field: &[u8]) -> bool {
+    match read_decimal(field) {
+        Some(number) => 30_000_000 <= number.value && number.value <= 80_000_000,
+        None => false,
     }
+}
 
-    /// OBTAIN.
-    pub(crate) fn obtain(&mut self, bytes: &'a [u8], parts: Parts<'a>) -> Result<Ruling, NoMemory> {
-        let fields = self.fields(parts)?;
-        let is_there = match fields.as_slice() {
-            [feature, word] => {
-                let is_word = match read_decimal(word) {
-                    Some(number) => 30_000_000 <= number.value && number.value <= 80_000_000,
-                    None => false,
-                };
-                is_word && self.is_given(feature).is_some()
-            }
-            _ => false,
-        };
-        if is_there && !self.ground.is_inch {
-            return self.standing(bytes);
+/// OBTAIN: whether the value is there.
+pub(crate) fn is_obtained<'a>(
+    said: Said<'_, 'a>,
+    here: &Here<'a>,
+    features: &Features<'a>,
+) -> bool {
+    match said.fields {
+        [feature, word] => {
+            is_word(word)
+                && given_feature(here, features, feature).is_some()
+                && !said.ground.traits.is_inch
         }
-        self.facts.lose(parts.title)?;
-        Ok(Ruling::NotTried(Reason::UnknownValues))
+        _ => false,
     }
 }

@@ -14,17 +14,20 @@ use vcm_lines::{FaultCode, Logical, LogicalLines, SourceFault, logical_lines};
 use vcm_num::{NoMemory, line_feed};
 use vcm_syntax::parse_statement;
 
-/// A statement of a text.
+/// A statement of a text. Its fault is what the readers of lines and of statements say of its lines, no more and no less.
 #[derive(Drop)]
 pub struct Sentence {
     /// The line that it begins on, from 1 on.
     pub line: u32,
+    /// Its lines as they stand in the text, and those without any statement between them.
+    pub lines: Vec<u8>,
     /// The blanks in front of it.
     pub indent: Vec<u8>,
     /// Its bytes without blanks and comments, in upper case outside texts. None where a line has nothing but a fault.
     pub bytes: Vec<u8>,
     /// What the readers of lines and of statements say of it.
     pub fault: Option<SourceFault>,
+    ghost judged: { ∥ IsJudged lines.items fault ∥₁ },
 }
 
 /// What a line is to the statements.
@@ -135,6 +138,20 @@ pub fn fault_of(alloc: Global, lines: &[u8], line: u32) -> Result<Option<SourceF
     }
 }
 
+// A copy of the lines of one statement, and what the readers say of them.
+fn judged(
+    alloc: Global,
+    lines: &[u8],
+    line: u32,
+) -> Result<(Vec<u8>, Option<SourceFault>), NoMemory>
+    ensures { IfOk result (λ r. IsJudged r.0.items r.1) }
+{
+    let fault = fault_of(alloc, lines, line)?;
+    let mut copy = Vec::with_capacity(alloc, lines.len())?;
+    copy.extend_from_slice(lines)?;
+    Ok((copy, fault))
+}
+
 // Gathers statements.
 #[derive(Drop)]
 struct Gathering<'a> {
@@ -167,11 +184,12 @@ impl<'a> Gathering<'a> {
         let Some((text, line)) = self.begun else {
             return Ok(());
         };
-        let fault = fault_of(self.alloc, front(text, rest), line)?;
+        let (lines, fault) = judged(self.alloc, front(text, rest), line)?;
         let bytes = replace(&mut self.bytes, Vec::new(self.alloc));
         let indent = replace(&mut self.indent, Vec::new(self.alloc));
         self.found.items.push(Sentence {
             line,
+            lines,
             indent,
             bytes,
             fault,
@@ -182,23 +200,29 @@ impl<'a> Gathering<'a> {
 
     // A line with nothing for a statement: it may have a fault all the same.
     fn empty(&mut self, line: &[u8], number: u32) -> Result<(), NoMemory> {
-        let owner = match self.begun {
-            Some(_) => Owner::Nobody,
-            None => match fault_of(self.alloc, line, number)? {
-                None => Owner::Nobody,
-                Some(fault) => {
-                    self.found.items.push(Sentence {
-                        line: number,
-                        indent: Vec::new(self.alloc),
-                        bytes: Vec::new(self.alloc),
-                        fault: Some(fault),
-                    })?;
-                    Owner::First
-                }
-            },
+        let owner = if self.begun.is_some() {
+            Owner::Nobody
+        } else {
+            self.alone(line, number)?
         };
         self.found.owners.push(owner)?;
         Ok(())
+    }
+
+    // A line with nothing for a statement, outside of one.
+    fn alone(&mut self, line: &[u8], number: u32) -> Result<Owner, NoMemory> {
+        let (lines, fault) = judged(self.alloc, line, number)?;
+        if fault.is_none() {
+            return Ok(Owner::Nobody);
+        }
+        self.found.items.push(Sentence {
+            line: number,
+            lines,
+            indent: Vec::new(self.alloc),
+            bytes: Vec::new(self.alloc),
+            fault,
+        })?;
+        Ok(Owner::First)
     }
 
     // The next line: `text` begins with it, and `rest` stands behind it.

@@ -120,6 +120,12 @@ pub enum Reason {
     LongNames,
     /// Inches.
     Inches,
+    /// A word of the standard that isn't known here.
+    OtherWord,
+    /// Features of several points, touched.
+    Touched,
+    /// Numbers with exponents.
+    Exponents,
 }
 
 // Why statements are left out.
@@ -171,6 +177,10 @@ const NOT_TRIED: &[(Reason, &str)] = &[
     (Reason::UnknownFrames, "frames that aren't known"),
     (Reason::Units, "units"),
     (Reason::UnknownWord, "not a word of DMIS that is known here"),
+    (
+        Reason::OtherWord,
+        "a word of the standard that isn't known here",
+    ),
     (Reason::OtherKinds, "kinds of variables"),
     (Reason::TestFunctions, "functions and texts in a test"),
     (Reason::Functions, "functions in expressions"),
@@ -208,6 +218,8 @@ const PUT_OTHERWISE: &[(Reason, &str)] = &[
     (Reason::Digits, "digits finer than a micrometre"),
     (Reason::LongNames, "names over 16 characters"),
     (Reason::Inches, "inches"),
+    (Reason::Touched, "features of several points, touched"),
+    (Reason::Exponents, "numbers with exponents"),
 ];
 
 // The words that are beside a reason, if it is in the table.

@@ -116,6 +116,7 @@ const WORDS: &[(&[u8], WordClass)] = &[
     (b"BADTST", WordClass::LeftOut(Reason::Fitting)),
     (b"CUTCOM", WordClass::LeftOut(Reason::Fitting)),
     (b"DATTRG", WordClass::LeftOut(Reason::Datums)),
+    (b"DATTRGDEF", WordClass::LeftOut(Reason::Datums)),
     (b"CONST", WordClass::LeftOut(Reason::Constructed)),
     (b"GEOM", WordClass::LeftOut(Reason::Constructed)),
     (b"EQUATE", WordClass::LeftOut(Reason::Constructed)),
@@ -162,6 +163,9 @@ const WORDS: &[(&[u8], WordClass)] = &[
     (b"CRMODE", WordClass::NotTried(Reason::Carriages)),
     (b"LOCATE", WordClass::NotTried(Reason::BestFit)),
     (b"ITERAT", WordClass::NotTried(Reason::BestFit)),
+    (b"GECOMP", WordClass::NotTried(Reason::OtherWord)),
+    (b"PUSH", WordClass::NotTried(Reason::OtherWord)),
+    (b"POP", WordClass::NotTried(Reason::OtherWord)),
 ];
 
 /// What becomes of the statements of a word, if it is one that is known here.

@@ -13,8 +13,8 @@ use Rattle.vcm_code.specs.declared.code.Code.{Code}
 use Rattle.vcm_code.specs.Code.{Statement}
 use Rattle.vcm_code.specs.CodeTable.{CodeState, code_stop, code_step, code_effective, fetched, start}
 use Rattle.vcm_machine.specs.declared.ran.End.TheVariants as ends
-use Rattle.vcm_machine.specs.Running.{Running, setup, started, later, WantsMemory, HasRun}
-use Rattle.vcm_machine.proofs.RunLemmas.{IsReached, begins, goes, stops}
+use Rattle.vcm_machine.specs.Running.{Running, setup, started, later, HasRun}
+use Rattle.vcm_machine.proofs.RunLemmas.{IsReached, goes, stops}
 use Rattle.vcm_steps.specs.Passages.{Passage, passage, passage_at, passage_from, passages, setup_with, state_after, steps_taken, WasNext, IsBroken}
 use Rattle.vcm_steps.specs.inner.Stepping.{next_passage}
 
@@ -29,10 +29,6 @@ module _ (n : ℕ) (old new : Running) (done : ℕ) (at : IsReached n old new do
         new_is = at.reached;
         ended = (all, sym (ap (λ k. code_effective (setup old) old.code.statements k old.state) (sym all) ∙ at.counted ∙ all), e);
       }
-
-  -- memory was refused
-  refused : (next : Running) → done < n → next ≡ new → WantsMemory new → HasRun n old next (record { done = done; end = ends.NoMemory })
-  refused next l e w = record { new_is = e ∙ at.reached; ended = (l, sym at.counted, subst WantsMemory (sym e) w) }
 
 -- ---- one step
 
@@ -148,9 +144,6 @@ module _ (part : Workpiece) (c : Code) where
     pub reached : IsReached n first m done
     pub followed : has (passages part c done)
 
-  pub begun : (n : ℕ) (m : Running) (has : List Passage → Type 0) → m ≡ first → has [] → IsFollowed n m 0 has
-  begun n m has e h = record { reached = subst (λ m. IsReached n first m 0) (sym e) (begins n first); followed = h }
-
   module _ (n : ℕ) (m : Running) (k : ℕ) (has : List Passage → Type 0) (w : IsFollowed n m k has) where
     pub still_fits : (fits : Workpiece → Code → Type 0) → fits part c → fits m.part m.code
     still_fits fits h = subst (λ r. fits r.part r.code) (sym w.reached.reached) h
@@ -189,6 +182,3 @@ module _ (part : Workpiece) (c : Code) where
 
       pub counted : n ≤ k → m.state.world.stop ≡ None → HasRun n old m (record { done = k; end = ends.Count })
       counted l e = subst (λ o. HasRun n o m (record { done = k; end = ends.Count })) (sym is) (counts n first m k w.reached l e)
-
-      pub halted : (next : Running) → k < n → next ≡ m → WantsMemory m → HasRun n old next (record { done = k; end = ends.NoMemory })
-      halted next l e h = subst (λ o. HasRun n o next (record { done = k; end = ends.NoMemory })) (sym is) (refused n first m k w.reached next l e h)

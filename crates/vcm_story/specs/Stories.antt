@@ -32,6 +32,7 @@ abbrev pub story_front : Workpiece → Code → (shown : List ℕ) → (is_listi
 story_front part c shown is_listing notices from k =
     (opening_rows part c shown is_listing notices ++ start_rows part c from) ++ flat_map (passage_rows part c.tables from) (passages part c k)
 
+-- the whole story, with what the last line says of the end
 abbrev pub story_text : Workpiece → Code → (shown : List ℕ) → (is_listing : Bool) → List Noticed → (from n : ℕ) → List ℕ
 story_text part c shown is_listing notices from n =
     story_front part c shown is_listing notices from n ++ last_line c (steps_taken part c n) (state_after part c n) (state_after part c n).world.stop

@@ -114,8 +114,8 @@ fn write_settings<W: Write>(settings: Settings, writer: &mut W) -> Result<(), Wr
     write_setting(Setting::Depth, settings.depth(), writer)
 }
 
-// The feature that stands at an index, if there is one.
-fn feature_at(features: &[Option<Feature>], index: u16) -> Option<Feature>
+/// The feature that stands at an index, if there is one.
+pub(crate) fn feature_at(features: &[Option<Feature>], index: u16) -> Option<Feature>
     ensures { result ≡ at_index features.now index }
 {
     match features.get(index as usize) {
@@ -124,17 +124,18 @@ fn feature_at(features: &[Option<Feature>], index: u16) -> Option<Feature>
     }
 }
 
-// Writes the row of a feature.
-fn write_feature_row<W: Write>(
+/// Writes the row of a feature, behind these letters.
+pub(crate) fn write_feature_row<W: Write>(
+    letters: &[u8],
     tables: &Tables,
     source: Source,
     index: u16,
     feature: Option<Feature>,
     writer: &mut W,
 ) -> Result<(), WriteFault>
-    ensures { Wrote (W.contents writer.old) (W.contents writer.new) (codes "F " ++ feature_text tables.now source index feature) result }
+    ensures { Wrote (W.contents writer.old) (W.contents writer.new) (letters.now ++ feature_text tables.now source index feature) result }
 {
-    write_all(writer, b"F ")?;
+    write_all(writer, letters)?;
     write_feature(tables, source, index, feature, writer)
 }
 
@@ -149,7 +150,7 @@ fn write_there<W: Write>(
     ensures { Wrote (W.contents writer.old) (W.contents writer.new) (there_row tables.now source index feature) result }
 {
     match feature {
-        Some(_) => write_feature_row(tables, source, index, feature, writer),
+        Some(_) => write_feature_row(b"F ", tables, source, index, feature, writer),
         None => Ok(()),
     }
 }

@@ -1,24 +1,22 @@
 //! The rows of a step. Nothing here takes memory.
 
-ghost use Rattle.std.specs.Prelude.{◌≡◌, ◌++◌, codes};
-ghost use Rattle.vcm_report.specs.Printed.{feature_text};
+ghost use Rattle.std.specs.Prelude.{◌≡◌};
 ghost use Rattle.vcm_num.specs.Written.{Wrote};
-ghost use Rattle.vcm_spec.specs.Effect.{at_index};
 ghost use Rattle.vcm_spec.specs.World.{World as Shown};
 ghost use Rattle.vcm_trace.specs.Lines.{step_line, told_of};
 ghost use Rattle.vcm_steps.specs.Passages.{passage};
 ghost use Rattle.vcm_story.specs.Steps.{way_rows, last_printed, printed_row, framed_row, change_row, change_rows, step_rows};
 
+use crate::state_rows::{feature_at, write_feature_row};
 use std::io::Write;
 use vcm_fields::BorrowedStatement;
 use vcm_marks::Mark;
 use vcm_num::{WriteFault, write_all, write_pieces};
 use vcm_output::Line;
-use vcm_report::{name_at, write_feature};
+use vcm_report::name_at;
 use vcm_rows::{write_frame, write_marks, write_spelled};
-use vcm_spec::{Feature, Source};
+use vcm_spec::Source;
 use vcm_state::World;
-use vcm_tables::Tables;
 use vcm_trace::{Told, told_of, write_step};
 
 // Writes the rows of what a step adds to the way.
@@ -66,30 +64,6 @@ fn write_framed<W: Write>(name: &[u8], world: &World, writer: &mut W) -> Result<
     write_frame(world.frame(), writer)
 }
 
-// The feature that stands at an index, if there is one.
-fn feature_at(features: &[Option<Feature>], index: u16) -> Option<Feature>
-    ensures { result ≡ at_index features.now index }
-{
-    match features.get(index as usize) {
-        Some(feature) => *feature,
-        None => None,
-    }
-}
-
-// Writes the row of a feature that was declared or measured.
-fn write_feature_row<W: Write>(
-    tables: &Tables,
-    source: Source,
-    index: u16,
-    feature: Option<Feature>,
-    writer: &mut W,
-) -> Result<(), WriteFault>
-    ensures { Wrote (W.contents writer.old) (W.contents writer.new) (codes "f " ++ feature_text tables.now source index feature) result }
-{
-    write_all(writer, b"f ")?;
-    write_feature(tables, source, index, feature, writer)
-}
-
 // Writes what a statement changed, in the state behind it.
 fn write_change<W: Write>(world: &World, told: Told, writer: &mut W) -> Result<(), WriteFault>
     ensures { Wrote (W.contents writer.old) (W.contents writer.new) (change_row world.now.tables world.now.state told) result }
@@ -98,11 +72,11 @@ fn write_change<W: Write>(world: &World, told: Told, writer: &mut W) -> Result<(
     match told {
         Told::Declared(index) => {
             let feature = feature_at(world.nominal(), index);
-            write_feature_row(tables, Source::Nominal, index, feature, writer)
+            write_feature_row(b"f ", tables, Source::Nominal, index, feature, writer)
         }
         Told::Measured(index) => {
             let feature = feature_at(world.actual(), index);
-            write_feature_row(tables, Source::Actual, index, feature, writer)
+            write_feature_row(b"f ", tables, Source::Actual, index, feature, writer)
         }
         Told::Framed(index) => write_framed(name_at(tables.frames(), index), world, writer),
         Told::Printed => write_printed(last_printed(world.lines().as_slice()), writer),

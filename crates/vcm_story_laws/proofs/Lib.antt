@@ -1,4 +1,4 @@
 pub mod ReadTexts
-pub mod ClearTexts
-pub mod FineTexts
-pub mod ClearStories
+pub mod LineTexts
+pub mod InnerTexts
+pub mod StoryLines

@@ -1,12 +1,16 @@
 //! All faults of lines and statements.
 
+ghost use Rattle.std.specs.Prelude.{◌≡◌, ◌++◌, List, IfOk, OnOk};
+ghost use Rattle.vcm_lines.specs.declared.fault.SourceFault.{SourceFault};
+ghost use Rattle.vcm_survey.specs.Faults.{with_fault, faults_in};
+
 use crate::listing::whole_lines;
 use crate::surveying::{is_too_long, too_many};
 use crate::words::fault_words;
 use std::alloc::Global;
 use vcm_lines::SourceFault;
 use vcm_num::{NoMemory, write_int};
-use vcm_sentences::{sentences_of, trimmed};
+use vcm_sentences::{Sentence, sentences_of, trimmed};
 
 /// The faults of a text, as they are told.
 #[derive(Drop)]
@@ -39,6 +43,45 @@ fn put_fault(
     Ok(())
 }
 
+// Appends a fault, if there is one.
+fn push_fault(fault: Option<SourceFault>, out: &mut Vec<SourceFault>) -> Result<(), NoMemory>
+    ensures { OnOk result ((fs : List SourceFault) → out.new.items ++ fs ≡ out.old.items ++ with_fault fault fs) }
+{
+    match fault {
+        None => Ok(()),
+        Some(fault) => {
+            out.push(fault)?;
+            Ok(())
+        }
+    }
+}
+
+/// The faults that statements have, in their order, each with what it says alone.
+///
+/// # Errors
+///
+/// Out of memory.
+pub fn faults_in(alloc: Global, sentences: &[Sentence]) -> Result<Vec<SourceFault>, NoMemory>
+    ensures { IfOk result (λ out. out.items ≡ faults_in sentences.now) }
+{
+    let mut faults = Vec::new(alloc);
+    'sentences: for sentence in sentences {
+        push_fault(sentence.fault, &mut faults)?;
+    }
+    Ok(faults)
+}
+
+// The faults of a text: that it has too many lines, or those of its statements.
+fn text_faults(alloc: Global, text: &[u8]) -> Result<Vec<SourceFault>, NoMemory> {
+    if is_too_long(text) {
+        let mut faults = Vec::new(alloc);
+        faults.push(too_many())?;
+        return Ok(faults);
+    }
+    let found = sentences_of(alloc, text)?;
+    faults_in(alloc, found.items.as_slice())
+}
+
 /// The faults of the lines and the statements of a text, in the order of its statements, each behind this name if there is one.
 ///
 /// # Errors
@@ -46,21 +89,13 @@ fn put_fault(
 /// Out of memory.
 pub fn faults_of(alloc: Global, front: &[u8], text: &[u8]) -> Result<Told, NoMemory> {
     let lines = whole_lines(alloc, text)?;
+    let faults = text_faults(alloc, text)?;
     let mut out = Vec::new(alloc);
-    if is_too_long(lines.len()) {
-        put_fault(front, too_many(), lines.as_slice(), &mut out)?;
-        return Ok(Told {
-            text: out,
-            count: 1,
-        });
+    for fault in &faults {
+        put_fault(front, *fault, lines.as_slice(), &mut out)?;
     }
-    let found = sentences_of(alloc, text)?;
-    let mut count = 0usize;
-    for sentence in &found.items {
-        if let Some(fault) = sentence.fault {
-            count = count.saturating_add(1);
-            put_fault(front, fault, lines.as_slice(), &mut out)?;
-        }
-    }
-    Ok(Told { text: out, count })
+    Ok(Told {
+        text: out,
+        count: faults.len(),
+    })
 }

@@ -5,12 +5,15 @@ mod adapting;
 mod faults;
 mod groups;
 mod listing;
+mod reading;
 mod report;
 mod surveying;
+mod touching;
 mod words;
 
-pub use adapting::{Adaptation, adapt};
-pub use faults::{Told, faults_of};
+pub use adapting::{Adaptation, adapt, adapted_text};
+pub use faults::{Told, faults_in, faults_of};
+pub use reading::{Reading, read_text};
 pub use surveying::{Findings, Shape, survey};
-pub use vcm_rules::{GivenFrame, Options, Place};
+pub use vcm_rules::{GivenFrame, Options, Place, Stand, Turn};
 pub use words::fault_words;

@@ -2,7 +2,7 @@
 
 ghost use Rattle.std.specs.Prelude.{◌≡◌};
 ghost use Rattle.std.specs.List.{count_by};
-ghost use Rattle.vcm_rules.specs.Rows.{same_class};
+ghost use Rattle.vcm_classes.specs.Rows.{same_class};
 
 use crate::groups::{put_count, put_groups};
 use crate::words::{caution_words, count_words};
@@ -55,28 +55,63 @@ pub(crate) fn put_counts(
 }
 
 // Appends a name as it stands in a statement.
-fn put_name(letters: &[u8], name: &[u8], out: &mut Vec<u8>) -> Result<(), NoMemory> {
-    out.extend_from_slice(letters)?;
+fn put_name(renaming: &Renaming, name: &[u8], out: &mut Vec<u8>) -> Result<(), NoMemory> {
+    if !renaming.is_label {
+        out.extend_from_slice(name)?;
+        return Ok(());
+    }
+    out.extend_from_slice(renaming.letters)?;
     out.push(b'(')?;
     out.extend_from_slice(name)?;
     out.push(b')')?;
     Ok(())
 }
 
-// Appends the names that are replaced, where there are any.
-fn put_names(renamings: &[Renaming], out: &mut Vec<u8>) -> Result<(), NoMemory> {
-    if renamings.is_empty() {
+// Appends a name and the one that stands for it.
+fn put_renaming(renaming: &Renaming, out: &mut Vec<u8>) -> Result<(), NoMemory> {
+    out.extend_from_slice(b"      ")?;
+    put_name(renaming, renaming.old.as_slice(), out)?;
+    out.extend_from_slice(b" is ")?;
+    put_name(renaming, renaming.new.as_slice(), out)?;
+    out.push(b'\n')?;
+    Ok(())
+}
+
+// Appends the name of a point that is touched.
+fn put_point(row: &Row, name: &[u8], out: &mut Vec<u8>) -> Result<(), NoMemory> {
+    out.extend_from_slice(b"      F(")?;
+    out.extend_from_slice(name)?;
+    out.extend_from_slice(b") is the point of line ")?;
+    write_int(i64::from(row.line), out)?;
+    out.push(b'\n')?;
+    Ok(())
+}
+
+// Appends the names of the points that are touched.
+fn put_points(surveyed: &Surveyed, out: &mut Vec<u8>) -> Result<(), NoMemory> {
+    for (row, name) in surveyed.rows.iter().zip(surveyed.points.iter()) {
+        if row.lines.is_some() && !name.is_empty() {
+            put_point(row, name.as_slice(), out)?;
+        }
+    }
+    Ok(())
+}
+
+// Whether points are touched one by one.
+fn has_points(rows: &[Row]) -> bool {
+    rows.iter().any(|row| row.lines.is_some())
+}
+
+// Appends the names that are replaced, and those of points, where there are any.
+fn put_names(surveyed: &Surveyed, out: &mut Vec<u8>) -> Result<(), NoMemory> {
+    if surveyed.renamings.is_empty() && !has_points(surveyed.rows.as_slice()) {
         return Ok(());
     }
     out.extend_from_slice(b"names\n")?;
-    for renaming in renamings {
-        out.extend_from_slice(b"      ")?;
-        put_name(renaming.letters, renaming.old.as_slice(), out)?;
-        out.extend_from_slice(b" is ")?;
-        put_name(renaming.letters, renaming.new.as_slice(), out)?;
-        out.push(b'\n')?;
+    for renaming in &surveyed.renamings {
+        put_renaming(renaming, out)?;
     }
-    Ok(())
+    put_points(surveyed, out)
 }
 
 // Appends hundred thousandths with their five decimals.
@@ -128,6 +163,31 @@ fn put_home(home: Option<(u32, Place)>, out: &mut Vec<u8>) -> Result<(), NoMemor
     Ok(())
 }
 
+// Appends where a way begins elsewhere.
+fn put_beginning(line: u32, out: &mut Vec<u8>) -> Result<(), NoMemory> {
+    out.extend_from_slice(b"the way to here begins ")?;
+    if line == 0 {
+        out.extend_from_slice(b"at home")?;
+    } else {
+        out.extend_from_slice(b"where line ")?;
+        write_int(i64::from(line), out)?;
+        out.extend_from_slice(b" left the probe")?;
+    }
+    out.extend_from_slice(b"; that part of the way isn't the machine's")?;
+    Ok(())
+}
+
+// Appends what may matter at a line.
+fn put_caution(line: u32, caution: Caution, out: &mut Vec<u8>) -> Result<(), NoMemory> {
+    put_line_number(line, out)?;
+    match caution {
+        Caution::OtherBeginning(left) => put_beginning(left, out)?,
+        _ => out.extend_from_slice(caution_words(caution).as_bytes())?,
+    }
+    out.push(b'\n')?;
+    Ok(())
+}
+
 // Appends what may matter, where there is anything.
 fn put_cautions(cautions: &[(u32, Caution)], out: &mut Vec<u8>) -> Result<(), NoMemory> {
     if cautions.is_empty() {
@@ -135,16 +195,14 @@ fn put_cautions(cautions: &[(u32, Caution)], out: &mut Vec<u8>) -> Result<(), No
     }
     out.extend_from_slice(b"look at\n")?;
     for (line, caution) in cautions {
-        put_line_number(*line, out)?;
-        out.extend_from_slice(caution_words(*caution).as_bytes())?;
-        out.push(b'\n')?;
+        put_caution(*line, *caution, out)?;
     }
     Ok(())
 }
 
 // Appends what stands behind the groups.
 fn put_notes(surveyed: &Surveyed, out: &mut Vec<u8>) -> Result<(), NoMemory> {
-    put_names(surveyed.renamings.as_slice(), out)?;
+    put_names(surveyed, out)?;
     put_rounded(surveyed, out)?;
     put_home(surveyed.home, out)?;
     put_cautions(surveyed.cautions.as_slice(), out)

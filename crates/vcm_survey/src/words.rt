@@ -68,5 +68,10 @@ pub(crate) fn caution_words(caution: Caution) -> &'static str {
             "FLY: the machine rounds corners; the corners themselves are tried"
         }
         Caution::FaultJump => "ERROR: a jump behind a fault isn't tried",
+        Caution::OtherCarriage => "CRSLCT: another carriage moves from here on, which isn't tried",
+        Caution::OtherZone => "CZSLCT: the machine keeps to a zone from here on, which isn't tried",
+        Caution::OtherBeginning(_) => {
+            "the way to here begins elsewhere; that part of the way isn't the machine's"
+        }
     }
 }

@@ -10,6 +10,8 @@ const INPUT: Word = ("INPUT", "The measuring program, a DMIS text, or its image"
 
 const PART: Word = ("PART", "The workpiece, a TOML text");
 
+const PROBE: Word = ("PROBE", "The boxes that are fixed to the tip, a TOML text");
+
 const PRODUCED: Word = ("PROGRAM", "The text of a producer, as its system writes it");
 
 const LISTING: Word = ("LISTING", "The listing of a code");
@@ -24,6 +26,8 @@ pub enum More {
     Steps,
     /// `--steps N` and `--close`.
     StepsAndClose,
+    /// `--steps N` and `--probe PROBE`.
+    StepsAndProbe,
     /// Any words.
     Words,
     /// Programs, one at least, and `--all`.
@@ -96,6 +100,20 @@ const USAGES: &[Usage] = &[
         more: More::Steps,
     },
     Usage {
+        name: "points",
+        about: "Runs a program or an image beside a workpiece, and prints the measured points with their deviation, a line of CSV for each",
+        example: "For example: vcm points grid.dmi part-a.toml",
+        words: &[INPUT, PART],
+        more: More::Steps,
+    },
+    Usage {
+        name: "clearance",
+        about: "Tells which boxes of the probe, its shaft or head, meet a block in a run, and how much room the others have",
+        example: "For example: vcm clearance square.dmi part-a.toml stylus.toml",
+        words: &[INPUT, PART, PROBE],
+        more: More::Steps,
+    },
+    Usage {
         name: "picture",
         about: "Runs a program or an image beside a workpiece, and draws the workpiece and the way of the probe as SVG",
         example: "For example: vcm picture square.dmi part-a.toml --close > square.svg",
@@ -107,7 +125,7 @@ const USAGES: &[Usage] = &[
         about: "Runs a program or an image beside a workpiece, and writes a page for a browser that shows each step",
         example: "For example: vcm view square.dmi part-a.toml > square.html",
         words: &[INPUT, PART],
-        more: More::Steps,
+        more: More::StepsAndProbe,
     },
     Usage {
         name: "debug",

@@ -6,7 +6,7 @@ pub(crate) fn head_1() -> &'static [u8] {
 <html lang=\"en\">
 <head>
 <meta charset=\"utf-8\">
-<meta http-equiv=\"Content-Security-Policy\" content=\"default-src 'none'; script-src 'sha256-TawUYbFbQs9LEowog2g6a5R1AVuQ6SSz5Q+O1EDmrCE='; style-src 'sha256-1b/6J1Old676dzWBLY41kwQJy6G0ADx/FpLc8HS6edo='; base-uri 'none'; form-action 'none'\">
+<meta http-equiv=\"Content-Security-Policy\" content=\"default-src 'none'; script-src 'sha256-4Un6zbT5WS+eunPqBHgUfJK2LYUsAy5mSj7g+pbcHc8='; style-src 'sha256-tZAYo0hNMEcehlRa48FhV2BSLA/THZsWiqOfYxc+Ifw='; base-uri 'none'; form-action 'none'\">
 <meta name=\"viewport\" content=\"width=device-width, initial-scale=1\">
 <meta name=\"color-scheme\" content=\"light dark\">
 <title>vcm view</title>
@@ -72,7 +72,8 @@ pub(crate) fn middle_2() -> &'static [u8] {
 
 /// Part 3 of what stands between the style and the story.
 pub(crate) fn middle_3() -> &'static [u8] {
-    b"    <section id=\"output-section\"><h2>Output <span id=\"output-count\" class=\"count\"></span></h2><ol id=\"output\"></ol></section>
+    b"    <section id=\"boxes-section\"><h2>Boxes of the probe</h2><table id=\"boxes\"><thead><tr><th scope=\"col\">Name</th><th scope=\"col\">Contact, or room</th><th scope=\"col\" class=\"n\">Step</th></tr></thead><tbody></tbody></table></section>
+    <section id=\"output-section\"><h2>Output <span id=\"output-count\" class=\"count\"></span></h2><ol id=\"output\"></ol></section>
     <section><h2>Settings</h2><dl id=\"settings\" class=\"rows\"></dl></section>
     <section id=\"notices-section\"><h2>Notices</h2><ul id=\"notices\"></ul></section>
   </aside>
@@ -97,14 +98,14 @@ pub(crate) fn middle_3() -> &'static [u8] {
   <h2 id=\"keys-title\">Keys</h2>
   <table>
     <tr><td><kbd>&#8592;</kbd> <kbd>&#8594;</kbd></td><td>one step back, one step on</td></tr>
-    <tr><td><kbd>Shift</kbd> <kbd>&#8592;</kbd> <kbd>&#8594;</kbd></td><td>to the step before or behind that moves the probe or prints</td></tr>
-    <tr><td><kbd>Home</kbd> <kbd>End</kbd></td><td>to the start, to the end</td></tr>
 "
 }
 
 /// Part 4 of what stands between the style and the story.
 pub(crate) fn middle_4() -> &'static [u8] {
-    b"    <tr><td><kbd>Space</kbd></td><td>play, and stop playing</td></tr>
+    b"    <tr><td><kbd>Shift</kbd> <kbd>&#8592;</kbd> <kbd>&#8594;</kbd></td><td>to the step before or behind that moves the probe or prints</td></tr>
+    <tr><td><kbd>Home</kbd> <kbd>End</kbd></td><td>to the start, to the end</td></tr>
+    <tr><td><kbd>Space</kbd></td><td>play, and stop playing</td></tr>
     <tr><td><kbd>[</kbd> <kbd>]</kbd></td><td>to the time before or behind at which this line is carried out</td></tr>
     <tr><td><kbd>W</kbd> <kbd>P</kbd> <kbd>F</kbd></td><td>the whole, the part, or follow the probe</td></tr>
     <tr><td><kbd>1</kbd> to <kbd>5</kbd></td><td>all views, 3D, top, front, side</td></tr>

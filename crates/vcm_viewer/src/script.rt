@@ -100,7 +100,7 @@ function readRun(text) {
   const run = {
     low: null, high: null, home: null, tip: 0, blocks: [], lines: [], code: [], notices: [], from: 0, listed: null, aims: new Map(),
     variables: new Map(), settings: new Map(), nominal: new Map(), actual: new Map(), frame: new Changes(null),
-    output: new Changes(null), touches: [], contact: null, stop: null, open: null, counts: new Map(),
+    output: new Changes(null), touches: [], contact: null, stop: null, open: null, counts: new Map(), boxes: [],
   };
   const statement = new Numbers(Uint32Array), line = new Numbers(Uint32Array), position = new Numbers(Float64Array);
   const done = [\"\"], pieceFrom = new Numbers(Uint32Array);
@@ -210,14 +210,29 @@ pub(crate) fn script_4() -> &'static [u8] {
   return run;
 }
 
-// ---- what is asked of a run
-
 "
 }
 
 /// Part 5 of the script.
 pub(crate) fn script_5() -> &'static [u8] {
-    b"// the line of the shown text that a statement stands on: of a program its source line, of a listing its own
+    b"// The boxes of a probe, from lines `Q NAME LOW HIGH`, each with its contacts in the run and with how much room is left round it, from the lines of its clearance.
+function readBoxes(run, text) {
+  const named = (name) => run.boxes.find((it) => it.name === name);
+  for (const row of text.split(\"\\n\")) {
+    const words = row.split(\" \");
+    if (words[0] === \"Q\") run.boxes.push({ name: words[1], low: words.slice(2, 5).map(Number), high: words.slice(5, 8).map(Number), contacts: [] });
+    if (words[0] === \"box\" && words[2] === \"clear\") named(words[1]).room = Number(words[3]);
+    if (words[0] !== \"contact\") continue;
+    const [, name, kind, , block, , permille, , , , line, , step, , x, y, z] = words;
+    const contact = { name, kind, block: Number(block), permille: Number(permille), line: Number(line), step: Number(step) - run.from, at: [x, y, z].map(micrometres) };
+    named(name).contacts.push(contact);
+    run.firstMet = run.firstMet || contact;
+  }
+}
+
+// ---- what is asked of a run
+
+// the line of the shown text that a statement stands on: of a program its source line, of a listing its own
 const rowOf = (run, statement) => run.listed === null ? (run.code[statement] ? run.code[statement].line : 0) : run.listed + statement + 1;
 const rowAt = (run, k) => rowOf(run, run.statement[k]);
 
@@ -241,9 +256,17 @@ function inFrame(frame, at) {
 // micrometres as millimetres with three decimals
 function millimetres(x) {
   const size = Math.abs(x);
-  return (x < 0 ? \"-\" : \"\") + Math.floor(size / 1000) + \".\" + String(size % 1000).padStart(3, \"0\");
+"
+}
+
+/// Part 6 of the script.
+pub(crate) fn script_6() -> &'static [u8] {
+    b"  return (x < 0 ? \"-\" : \"\") + Math.floor(size / 1000) + \".\" + String(size % 1000).padStart(3, \"0\");
 }
 const pointText = (at) => at.map(millimetres).join(\"  \");
+
+// the contacts of the probe's boxes in a step, each with its box
+const contactsIn = (run, k) => run.boxes.flatMap((box) => box.contacts.filter((it) => it.step === k).map((contact) => ({ box, contact })));
 
 // steps that move the probe or print
 function isEvent(run, k) {
@@ -262,12 +285,7 @@ const kindNames = { m: \"move\", a: \"approach\", s: \"search\", r: \"retract\",
 const dashes = { m: [], a: [7, 4], s: [], r: [2, 4], x: [5, 5] };
 const widths = { m: 1.6, a: 1.6, s: 2.6, r: 1.8, x: 1.2 };
 
-"
-}
-
-/// Part 6 of the script.
-pub(crate) fn script_6() -> &'static [u8] {
-    b"// The colours of the scheme that is shown, as the style sheet has them.
+// The colours of the scheme that is shown, as the style sheet has them.
 function readColours() {
   const style = getComputedStyle(document.documentElement);
   const get = (name) => style.getPropertyValue(\"--\" + name).trim();
@@ -281,7 +299,12 @@ function between(one, two, t) {
   return \"#\" + [0, 1, 2].map((i) => Math.round(of(one, i) + t * (of(two, i) - of(one, i))).toString(16).padStart(2, \"0\")).join(\"\");
 }
 
-// A step of 1, 2 or 5 times a power of ten micrometres that is at least so long.
+"
+}
+
+/// Part 7 of the script.
+pub(crate) fn script_7() -> &'static [u8] {
+    b"// A step of 1, 2 or 5 times a power of ten micrometres that is at least so long.
 function niceStep(least) {
   const power = 10 ** Math.floor(Math.log10(Math.max(least, 1)));
   return [1, 2, 5, 10].map((x) => x * power).find((x) => x >= least);
@@ -314,12 +337,7 @@ class Labels {
   put(text, x, y, colour, always = false, away = 10) {
     const g = this.g;
     if (this.points.some((it) => it[0] === text && Math.hypot(it[1] - x, it[2] - y) < 8)) return;
-"
-}
-
-/// Part 7 of the script.
-pub(crate) fn script_7() -> &'static [u8] {
-    b"    this.points.push([text, x, y]);
+    this.points.push([text, x, y]);
     g.font = \"600 11px system-ui, sans-serif\";
     const w = g.measureText(text).width;
     for (const [left, top] of [[x + away, y - 17], [x + away, y + 4], [x - away - w, y - 17], [x - away - w, y + 4]]) {
@@ -331,7 +349,12 @@ pub(crate) fn script_7() -> &'static [u8] {
       this.taken.push(box);
       g.lineJoin = \"round\";
       g.strokeStyle = this.colours.paper;
-      g.lineWidth = 3.5;
+"
+}
+
+/// Part 8 of the script.
+pub(crate) fn script_8() -> &'static [u8] {
+    b"      g.lineWidth = 3.5;
       g.strokeText(text, left, top + 11);
       g.fillStyle = colour;
       g.fillText(text, left, top + 11);
@@ -370,12 +393,7 @@ class Sheet {
     return w > 0 && h > 0;
   }
 
-"
-}
-
-/// Part 8 of the script.
-pub(crate) fn script_8() -> &'static [u8] {
-    b"  x(p) { return this.width / 2 + (p - this.camera.centre[this.sheet.right]) * this.camera.scale; }
+  x(p) { return this.width / 2 + (p - this.camera.centre[this.sheet.right]) * this.camera.scale; }
   y(p) { return this.height / 2 - (p - this.camera.centre[this.sheet.up]) * this.camera.scale; }
   place(at) { return [this.x(at[this.sheet.right]), this.y(at[this.sheet.up])]; }
 
@@ -388,7 +406,12 @@ pub(crate) fn script_8() -> &'static [u8] {
     this.fixed.width = this.canvas.width;
     this.fixed.height = this.canvas.height;
     const g = this.fixed.getContext(\"2d\");
-    g.scale(this.ratio, this.ratio);
+"
+}
+
+/// Part 9 of the script.
+pub(crate) fn script_9() -> &'static [u8] {
+    b"    g.scale(this.ratio, this.ratio);
     g.fillStyle = colours.paper;
     g.fillRect(0, 0, this.width, this.height);
     this.drawGrid(g, colours);
@@ -417,12 +440,7 @@ pub(crate) fn script_8() -> &'static [u8] {
   }
 
   drawScale(g, colours) {
-"
-}
-
-/// Part 9 of the script.
-pub(crate) fn script_9() -> &'static [u8] {
-    b"    const step = niceStep(44 / this.camera.scale), long = step * this.camera.scale, text = step < 1000 ? step + \" \\u00b5m\" : step / 1000 + \" mm\";
+    const step = niceStep(44 / this.camera.scale), long = step * this.camera.scale, text = step < 1000 ? step + \" \\u00b5m\" : step / 1000 + \" mm\";
     g.font = \"11px system-ui, sans-serif\";
     for (const [colour, wide] of [[colours.paper, 4], [colours.ink, 1]]) {
       g.strokeStyle = colour;
@@ -438,7 +456,12 @@ pub(crate) fn script_9() -> &'static [u8] {
 
   drawBlocks(g, colours, hit) {
     const { right, up, near } = this.sheet, scale = this.camera.scale;
-    const many = this.sorted.length > 500;
+"
+}
+
+/// Part 10 of the script.
+pub(crate) fn script_10() -> &'static [u8] {
+    b"    const many = this.sorted.length > 500;
     const span = this.most - this.least;
     for (const { b, number } of this.sorted) {
       const x = this.x(b[right]), y = this.y(b[up + 3]), w = (b[right + 3] - b[right]) * scale, h = (b[up + 3] - b[up]) * scale;
@@ -463,12 +486,7 @@ pub(crate) fn script_9() -> &'static [u8] {
     const thin = this.run.kinds.length > 2000 ? 0.6 : 1;
     for (const kind of \"maxrs\") {
       g.strokeStyle = colours[kind];
-"
-}
-
-/// Part 10 of the script.
-pub(crate) fn script_10() -> &'static [u8] {
-    b"      g.lineWidth = widths[kind] * wide * thin;
+      g.lineWidth = widths[kind] * wide * thin;
       g.setLineDash(to - from > 20000 ? [] : dashes[kind]);
       // a stroke of very many pieces that lie over each other is slow: so few in one go, and none that would not be seen
       let held = 0, lastX = NaN, lastY = NaN;
@@ -478,7 +496,12 @@ pub(crate) fn script_10() -> &'static [u8] {
         const x = this.x(ends[6 * i + right]), y = this.y(ends[6 * i + up]), p = this.x(ends[6 * i + 3 + right]), q = this.y(ends[6 * i + 3 + up]);
         if (Math.max(x, p) < 0 || Math.min(x, p) > this.width || Math.max(y, q) < 0 || Math.min(y, q) > this.height) continue;
         if (to - from > 5000 && Math.abs(p - x) + Math.abs(q - y) < 0.4) continue;
-        if (x !== lastX || y !== lastY) g.moveTo(x, y);
+"
+}
+
+/// Part 11 of the script.
+pub(crate) fn script_11() -> &'static [u8] {
+    b"        if (x !== lastX || y !== lastY) g.moveTo(x, y);
         g.lineTo(p, q);
         lastX = p;
         lastY = q;
@@ -506,13 +529,9 @@ pub(crate) fn script_10() -> &'static [u8] {
     for (let i = Math.max(0, touched - 2500); i < touched; i++) this.dot(g, colours, run.touches[i].at, colours.s, many ? 2 : 3.5);
     this.labels = new Labels(g, colours, this.width, this.height);
     this.labels.keep(...this.place(probe), 7);
-"
-}
-
-/// Part 11 of the script.
-pub(crate) fn script_11() -> &'static [u8] {
-    b"    if (run.contact && run.contact.step === k) this.labels.put(\"block \" + run.contact.block, ...this.place(run.contact.at), colours.danger, true, Math.max(10, run.tip * this.camera.scale + 5));
+    if (run.contact && run.contact.step === k) this.labels.put(\"block \" + run.contact.block, ...this.place(run.contact.at), colours.danger, true, Math.max(10, run.tip * this.camera.scale + 5));
     this.mark(g, colours, run.home, \"home\", colours.muted);
+    this.drawBoxes(g, colours, k, probe);
     this.drawProbe(g, colours, probe);
     if (run.contact && run.contact.step === k) this.drawContact(g, colours, run.contact);
     if (run.touches.length <= 200) this.names(touched, colours.ink);
@@ -522,7 +541,12 @@ pub(crate) fn script_11() -> &'static [u8] {
     const { right, up } = this.sheet, ends = this.run.ends, kind = this.run.kinds[i];
     const x = this.x(ends[6 * i + right]), y = this.y(ends[6 * i + up]), p = this.x(ends[6 * i + 3 + right]), q = this.y(ends[6 * i + 3 + up]);
     g.strokeStyle = colours.paper;
-    g.lineWidth = widths[kind] * 2.2 + 3;
+"
+}
+
+/// Part 12 of the script.
+pub(crate) fn script_12() -> &'static [u8] {
+    b"    g.lineWidth = widths[kind] * 2.2 + 3;
     g.beginPath(); g.moveTo(x, y); g.lineTo(p, q); g.stroke();
     g.strokeStyle = colours[kind];
     g.lineWidth = widths[kind] * 2.2;
@@ -556,12 +580,7 @@ pub(crate) fn script_11() -> &'static [u8] {
     for (let i = touched - 1; i >= 0; i--) this.labels.put(this.run.touches[i].name, ...this.place(this.run.touches[i].at), colour);
   }
 
-"
-}
-
-/// Part 12 of the script.
-pub(crate) fn script_12() -> &'static [u8] {
-    b"  drawProbe(g, colours, at) {
+  drawProbe(g, colours, at) {
     const [x, y] = this.place(at), half = this.run.tip * this.camera.scale;
     g.strokeStyle = colours.probe;
     g.fillStyle = colours.probe;
@@ -575,6 +594,28 @@ pub(crate) fn script_12() -> &'static [u8] {
       g.beginPath(); g.arc(x, y, 7, 0, 7); g.stroke();
     }
     g.beginPath(); g.arc(x, y, 2, 0, 7); g.fill();
+  }
+
+  // The boxes that are fixed to the tip; one that enters a block in this step stands there too.
+  drawBoxes(g, colours, k, probe) {
+    for (const box of this.run.boxes) this.outline(g, box, probe, colours.probe, 1);
+"
+}
+
+/// Part 13 of the script.
+pub(crate) fn script_13() -> &'static [u8] {
+    b"    for (const { box, contact } of contactsIn(this.run, k)) {
+      this.outline(g, box, contact.at, colours.danger, 2);
+      this.labels.put(box.name + \", block \" + contact.block, ...this.place(contact.at), colours.danger);
+    }
+  }
+
+  outline(g, box, at, colour, width) {
+    const { right, up } = this.sheet;
+    const x = this.x(at[right] + box.low[right]), y = this.y(at[up] + box.high[up]);
+    g.strokeStyle = colour;
+    g.lineWidth = width;
+    g.strokeRect(x, y, this.x(at[right] + box.high[right]) - x, this.y(at[up] + box.low[up]) - y);
   }
 
   drawContact(g, colours, contact) {
@@ -612,13 +653,13 @@ function distance(x, y, a, b, c, d) {
 
 // The view in space, by WebGL: blocks with their depths, the way in front of and, faintly, behind them.
 
-const blockShader = [
 "
 }
 
-/// Part 13 of the script.
-pub(crate) fn script_13() -> &'static [u8] {
-    b"  `attribute vec3 at; attribute vec3 face; attribute float hit; uniform mat4 look; uniform vec3 tone, high, struck; varying vec3 shown;
+/// Part 14 of the script.
+pub(crate) fn script_14() -> &'static [u8] {
+    b"const blockShader = [
+  `attribute vec3 at; attribute vec3 face; attribute float hit; uniform mat4 look; uniform vec3 tone, high, struck; varying vec3 shown;
    void main() { gl_Position = look * vec4(at, 1.0); float light = face.z > 0.5 ? 1.0 : face.z < -0.5 ? 0.35 : abs(face.x) > 0.5 ? 0.62 : 0.8;
      shown = (hit > 0.5 ? struck : mix(tone, high, light)) * (0.72 + 0.28 * light); }`,
   `precision mediump float; varying vec3 shown; void main() { gl_FragColor = vec4(shown, 1.0); }`,
@@ -637,14 +678,14 @@ const wayShader = [
      int n = int(piece.y + 0.5); shown = n == 0 ? colours[0] : n == 1 ? colours[1] : n == 2 ? colours[2] : n == 3 ? colours[3] : colours[4];
      shown.a *= faint * (piece.x > now ? 0.22 : 1.0); along = corner.x * len; kind = piece.y; }`,
   `precision mediump float; varying vec4 shown; varying float along, kind;
-   void main() { float n = floor(kind + 0.5); if ((n == 1.0 || n == 4.0) && mod(along, 11.0) > 7.0) discard; if (n == 2.0 && mod(along, 6.0) > 2.5) discard; gl_FragColor = vec4(shown.rgb * shown.a, shown.a); }`,
-];
 "
 }
 
-/// Part 14 of the script.
-pub(crate) fn script_14() -> &'static [u8] {
-    b"const wayKinds = \"marsx\";
+/// Part 15 of the script.
+pub(crate) fn script_15() -> &'static [u8] {
+    b"   void main() { float n = floor(kind + 0.5); if ((n == 1.0 || n == 4.0) && mod(along, 11.0) > 7.0) discard; if (n == 2.0 && mod(along, 6.0) > 2.5) discard; gl_FragColor = vec4(shown.rgb * shown.a, shown.a); }`,
+];
+const wayKinds = \"marsx\";
 
 class Solid {
   constructor(run, canvas, over, camera) {
@@ -692,16 +733,16 @@ class Solid {
     return buffer;
   }
 
-  local(p) { return [(p[0] - this.middle[0]) / 1000, (p[1] - this.middle[1]) / 1000, (p[2] - this.middle[2]) / 1000]; }
-
-  makeBlocks() {
-    const n = this.run.blocks.length, faces = new Float32Array(n * 36 * 7), lines = new Float32Array(n * 24 * 3), hit = this.run.contact && this.run.contact.block;
 "
 }
 
-/// Part 15 of the script.
-pub(crate) fn script_15() -> &'static [u8] {
-    b"    const sides = [[0, 2, 6, 4, -1, 0, 0], [1, 3, 7, 5, 1, 0, 0], [0, 1, 5, 4, 0, -1, 0], [2, 3, 7, 6, 0, 1, 0], [0, 1, 3, 2, 0, 0, -1], [4, 5, 7, 6, 0, 0, 1]];
+/// Part 16 of the script.
+pub(crate) fn script_16() -> &'static [u8] {
+    b"  local(p) { return [(p[0] - this.middle[0]) / 1000, (p[1] - this.middle[1]) / 1000, (p[2] - this.middle[2]) / 1000]; }
+
+  makeBlocks() {
+    const n = this.run.blocks.length, faces = new Float32Array(n * 36 * 7), lines = new Float32Array(n * 24 * 3), hit = this.run.contact && this.run.contact.block;
+    const sides = [[0, 2, 6, 4, -1, 0, 0], [1, 3, 7, 5, 1, 0, 0], [0, 1, 5, 4, 0, -1, 0], [2, 3, 7, 6, 0, 1, 0], [0, 1, 3, 2, 0, 0, -1], [4, 5, 7, 6, 0, 0, 1]];
     const edges = [0, 1, 0, 2, 0, 4, 1, 3, 1, 5, 2, 3, 2, 6, 3, 7, 4, 5, 4, 6, 5, 7, 6, 7];
     let f = 0, e = 0;
     this.run.blocks.forEach((b, i) => {
@@ -733,14 +774,14 @@ pub(crate) fn script_15() -> &'static [u8] {
   }
 
   makeFloor() {
-    const { low, high } = this.box, span = Math.max(high[0] - low[0], high[1] - low[1], 1000), step = niceStep(span / 9), lines = [];
-    const from = [0, 1].map((k) => Math.floor((low[k] - step / 2) / step) * step), to = [0, 1].map((k) => Math.ceil((high[k] + step / 2) / step) * step);
 "
 }
 
-/// Part 16 of the script.
-pub(crate) fn script_16() -> &'static [u8] {
-    b"    for (let x = from[0]; x <= to[0]; x += step) lines.push(...this.local([x, from[1], this.floor]), ...this.local([x, to[1], this.floor]));
+/// Part 17 of the script.
+pub(crate) fn script_17() -> &'static [u8] {
+    b"    const { low, high } = this.box, span = Math.max(high[0] - low[0], high[1] - low[1], 1000), step = niceStep(span / 9), lines = [];
+    const from = [0, 1].map((k) => Math.floor((low[k] - step / 2) / step) * step), to = [0, 1].map((k) => Math.ceil((high[k] + step / 2) / step) * step);
+    for (let x = from[0]; x <= to[0]; x += step) lines.push(...this.local([x, from[1], this.floor]), ...this.local([x, to[1], this.floor]));
     for (let y = from[1]; y <= to[1]; y += step) lines.push(...this.local([from[0], y, this.floor]), ...this.local([to[0], y, this.floor]));
     this.ground = { buffer: this.buffer(new Float32Array(lines)), count: lines.length / 3 };
   }
@@ -765,18 +806,18 @@ pub(crate) fn script_16() -> &'static [u8] {
       const x = p[0] - c[0], y = p[1] - c[1], z = p[2] - c[2], u = ca * x + sa * y, v = (ca * y - sa * x) * se + z * ce;
       left = Math.min(left, u); right = Math.max(right, u); low = Math.min(low, v); high = Math.max(high, v);
     }
-    const u = (left + right) / 2, v = (low + high) / 2;
+"
+}
+
+/// Part 18 of the script.
+pub(crate) fn script_18() -> &'static [u8] {
+    b"    const u = (left + right) / 2, v = (low + high) / 2;
     this.offset = [ca * u - sa * se * v, sa * u + ca * se * v, ce * v];
     return Math.min(width / Math.max(right - left, 2000), height / Math.max(high - low, 2000));
   }
 
   matrix() {
-"
-}
-
-/// Part 17 of the script.
-pub(crate) fn script_17() -> &'static [u8] {
-    b"    const sa = Math.sin(this.azimuth), ca = Math.cos(this.azimuth), se = Math.sin(this.elevation), ce = Math.cos(this.elevation), s = this.scale() * 1000;
+    const sa = Math.sin(this.azimuth), ca = Math.cos(this.azimuth), se = Math.sin(this.elevation), ce = Math.cos(this.elevation), s = this.scale() * 1000;
     const u = (2 * s) / this.width, v = (2 * s) / this.height, d = 1 / this.depth;
     const c = this.local(this.centre());
     const rows = [[ca * u, sa * u, 0], [-sa * se * v, ca * se * v, ce * v], [-sa * ce * d, ca * ce * d, -se * d]];
@@ -809,17 +850,17 @@ pub(crate) fn script_17() -> &'static [u8] {
     gl.enable(gl.BLEND);
     gl.blendFunc(gl.ONE, gl.ONE_MINUS_SRC_ALPHA);
     const begin = (program) => { gl.useProgram(program); gl.uniformMatrix4fv(gl.getUniformLocation(program, \"look\"), false, look); };
-    const attribute = (program, name, size, stride, offset) => {
+"
+}
+
+/// Part 19 of the script.
+pub(crate) fn script_19() -> &'static [u8] {
+    b"    const attribute = (program, name, size, stride, offset) => {
       const at = gl.getAttribLocation(program, name);
       gl.enableVertexAttribArray(at);
       gl.vertexAttribPointer(at, size, gl.FLOAT, false, 4 * stride, 4 * offset);
     };
-"
-}
-
-/// Part 18 of the script.
-pub(crate) fn script_18() -> &'static [u8] {
-    b"    const lines = (what, colour, alpha, lift) => {
+    const lines = (what, colour, alpha, lift) => {
       begin(this.lineProgram);
       gl.bindBuffer(gl.ARRAY_BUFFER, what.buffer);
       attribute(this.lineProgram, \"at\", 3, 3, 0);
@@ -848,14 +889,14 @@ pub(crate) fn script_18() -> &'static [u8] {
     gl.uniform1f(gl.getUniformLocation(way, \"wide\"), this.run.kinds.length > 2000 ? 0.6 : 1);
     gl.uniform4fv(gl.getUniformLocation(way, \"colours\"), [...wayKinds].flatMap((kind) => [...rgb(kind), 1]));
     // where a frame takes long, of the way what is near this step
-    const pieces = this.run.kinds.length, at = this.run.pieceFrom[k], from = this.isSlow ? Math.max(0, at - 2500) : 0, to = this.isSlow ? Math.min(pieces, at + 2500) : pieces;
-    gl.depthMask(false);
 "
 }
 
-/// Part 19 of the script.
-pub(crate) fn script_19() -> &'static [u8] {
-    b"    gl.uniform1f(gl.getUniformLocation(way, \"faint\"), 1);
+/// Part 20 of the script.
+pub(crate) fn script_20() -> &'static [u8] {
+    b"    const pieces = this.run.kinds.length, at = this.run.pieceFrom[k], from = this.isSlow ? Math.max(0, at - 2500) : 0, to = this.isSlow ? Math.min(pieces, at + 2500) : pieces;
+    gl.depthMask(false);
+    gl.uniform1f(gl.getUniformLocation(way, \"faint\"), 1);
     gl.drawArrays(gl.TRIANGLES, 6 * from, 6 * (to - from));
     if (pieces <= 5000) {
       gl.disable(gl.DEPTH_TEST);
@@ -889,14 +930,14 @@ pub(crate) fn script_19() -> &'static [u8] {
     const [x, y] = this.place(probe), [fx, fy] = this.place([probe[0], probe[1], this.floor]);
     g.strokeStyle = colours.muted; g.lineWidth = 1; g.setLineDash([3, 3]);
     g.beginPath(); g.moveTo(x, y); g.lineTo(fx, fy); g.stroke(); g.setLineDash([]);
-    g.beginPath(); g.ellipse(fx, fy, 5, 5 * Math.max(0.15, Math.sin(this.elevation)), 0, 0, 7); g.stroke();
-    g.strokeStyle = colours.probe; g.fillStyle = colours.probe; g.lineWidth = 2;
 "
 }
 
-/// Part 20 of the script.
-pub(crate) fn script_20() -> &'static [u8] {
-    b"    if (run.tip * this.scale() > 4) this.cube(g, probe, run.tip); else { g.beginPath(); g.arc(x, y, 7, 0, 7); g.stroke(); }
+/// Part 21 of the script.
+pub(crate) fn script_21() -> &'static [u8] {
+    b"    g.beginPath(); g.ellipse(fx, fy, 5, 5 * Math.max(0.15, Math.sin(this.elevation)), 0, 0, 7); g.stroke();
+    g.strokeStyle = colours.probe; g.fillStyle = colours.probe; g.lineWidth = 2;
+    if (run.tip * this.scale() > 4) this.wire(g, probe.map((p) => p - run.tip), probe.map((p) => p + run.tip), 1.5); else { g.beginPath(); g.arc(x, y, 7, 0, 7); g.stroke(); }
     g.beginPath(); g.arc(x, y, 2, 0, 7); g.fill();
     if (run.contact && run.contact.step === k) {
       const [cx, cy] = this.place(run.contact.at);
@@ -904,6 +945,11 @@ pub(crate) fn script_20() -> &'static [u8] {
         g.strokeStyle = colour; g.lineWidth = width;
         g.beginPath(); g.moveTo(cx - 7, cy - 7); g.lineTo(cx + 7, cy + 7); g.moveTo(cx + 7, cy - 7); g.lineTo(cx - 7, cy + 7); g.stroke();
       }
+    }
+    for (const box of run.boxes) this.wire(g, box.low.map((low, i) => probe[i] + low), box.high.map((high, i) => probe[i] + high), 1);
+    for (const { box, contact } of contactsIn(run, k)) {
+      g.strokeStyle = colours.danger;
+      this.wire(g, box.low.map((low, i) => contact.at[i] + low), box.high.map((high, i) => contact.at[i] + high), 2);
     }
     labels.keep(x, y, 7);
     if (run.contact && run.contact.step === k) labels.put(\"block \" + run.contact.block, ...this.place(run.contact.at), colours.danger, true, Math.max(10, 1.4 * run.tip * this.scale() + 5));
@@ -915,27 +961,28 @@ pub(crate) fn script_20() -> &'static [u8] {
       const unit = [0, 0, 0]; unit[i] = 1;
       const c = this.centre(), [u, v] = this.seen([c[0] + unit[0], c[1] + unit[1], c[2] + unit[2]]), long = 18 / this.scale();
       g.strokeStyle = colours.ink; g.fillStyle = colours.ink; g.lineWidth = 1.5;
-      g.beginPath(); g.moveTo(ox, oy); g.lineTo(ox + u * long, oy - v * long); g.stroke();
+"
+}
+
+/// Part 22 of the script.
+pub(crate) fn script_22() -> &'static [u8] {
+    b"      g.beginPath(); g.moveTo(ox, oy); g.lineTo(ox + u * long, oy - v * long); g.stroke();
       g.fillText(name, ox + u * long * 1.45 - 3, oy - v * long * 1.45 + 4);
     });
   }
 
-  cube(g, at, half) {
-    const p = [0, 1, 2, 3, 4, 5, 6, 7].map((n) => this.place([at[0] + (n & 1 ? half : -half), at[1] + (n & 2 ? half : -half), at[2] + (n & 4 ? half : -half)]));
+  // The edges of a box between two corners.
+  wire(g, low, high, width) {
+    const p = [0, 1, 2, 3, 4, 5, 6, 7].map((n) => this.place([n & 1 ? high[0] : low[0], n & 2 ? high[1] : low[1], n & 4 ? high[2] : low[2]]));
     g.beginPath();
     for (const [a, b] of [[0, 1], [0, 2], [0, 4], [1, 3], [1, 5], [2, 3], [2, 6], [3, 7], [4, 5], [4, 6], [5, 7], [6, 7]]) { g.moveTo(...p[a]); g.lineTo(...p[b]); }
-    g.lineWidth = 1.5;
+    g.lineWidth = width;
     g.stroke();
   }
 
   turn(x, y) {
     this.azimuth -= x;
-"
-}
-
-/// Part 21 of the script.
-pub(crate) fn script_21() -> &'static [u8] {
-    b"    this.elevation = Math.max(0.02, Math.min(Math.PI / 2, this.elevation + y));
+    this.elevation = Math.max(0.02, Math.min(Math.PI / 2, this.elevation + y));
   }
 
   find(x, y) {
@@ -957,6 +1004,7 @@ pub(crate) fn script_21() -> &'static [u8] {
   let run;
   try {
     run = readRun($(\"run\").textContent);
+    if ($(\"probe-boxes\")) readBoxes(run, $(\"probe-boxes\").textContent);
   } catch (fault) {
     $(\"fault\").hidden = false;
     $(\"fault\").textContent = \"The run in this page cannot be read: \" + fault.message + \".\";
@@ -974,7 +1022,12 @@ pub(crate) fn script_21() -> &'static [u8] {
 
   // ---- the head
 
-  const stopWords = { TRAVEL: \"Outside the limits\", MISSED: \"Touched nothing\" };
+"
+}
+
+/// Part 23 of the script.
+pub(crate) fn script_23() -> &'static [u8] {
+    b"  const stopWords = { TRAVEL: \"Outside the limits\", MISSED: \"Touched nothing\" };
   function verdict() {
     const line = run.stop ? run.stop.text.slice(5) : run.open ? run.open.text : \"\";
     const word = line.split(\" \")[0];
@@ -984,15 +1037,17 @@ pub(crate) fn script_21() -> &'static [u8] {
     if (word === \"ENDED\") [kind, text] = [\"ok\", \"Came to its end, no collision\"];
     else if (!run.stop) [kind, text] = [\"warn\", \"Not at its end: \" + line];
     else if (hit) text = `Collision with block ${hit[1]} on line ${place[2]}, after ${hit[2]} thousandths of the ${line.split(\" \")[1].toLowerCase()}`;
-"
-}
-
-/// Part 22 of the script.
-pub(crate) fn script_22() -> &'static [u8] {
-    b"    else text = (stopWords[word] || \"Stopped: \" + word) + (word === \"TRAVEL\" ? \" (\" + line.split(\" \")[1].toLowerCase() + \")\" : \"\") + (place ? \" on line \" + place[2] : \"\");
+    else text = (stopWords[word] || \"Stopped: \" + word) + (word === \"TRAVEL\" ? \" (\" + line.split(\" \")[1].toLowerCase() + \")\" : \"\") + (place ? \" on line \" + place[2] : \"\");
     return { kind, text, line };
   }
-  const told = verdict();
+  // What the boxes of the probe meet is told behind how the run ended, which hangs on the tip alone.
+  function withBoxes(told) {
+    const first = run.firstMet, more = run.boxes.filter((it) => it.contacts.length).length - 1;
+    if (!first) return told;
+    const text = `${told.text.replace(\", no collision\", \"\")}; ${first.name} meets block ${first.block} on line ${first.line}`;
+    return { ...told, kind: \"bad\", text: text + (more > 0 ? `, and ${more} more of the boxes meet blocks` : \"\") };
+  }
+  const told = withBoxes(verdict());
   $(\"title\").textContent = run.title;
   document.title = run.title + \" \\u2013 \" + told.text;
   $(\"verdict\").className = \"verdict \" + told.kind;
@@ -1000,7 +1055,13 @@ pub(crate) fn script_22() -> &'static [u8] {
   $(\"verdict\").title = run.stop ? run.stop.text : told.line;
   const counted = (n, one, more) => n.toLocaleString(\"en\") + \" \" + (n === 1 ? one : more);
   const facts = [counted(run.length + run.from, \"step\", \"steps\"), counted(run.blocks.length, \"block\", \"blocks\"), run.tip ? `tip ${millimetres(2 * run.tip)} mm` : \"tip a point\"];
-  if (run.touches.length) facts.push(counted(run.touches.length, \"measured point\", \"measured points\"));
+"
+}
+
+/// Part 24 of the script.
+pub(crate) fn script_24() -> &'static [u8] {
+    b"  if (run.touches.length) facts.push(counted(run.touches.length, \"measured point\", \"measured points\"));
+  if (run.boxes.length) facts.push(counted(run.boxes.length, \"box of the probe\", \"boxes of the probe\"));
   if (run.notices.length) facts.push(counted(run.notices.length, \"notice\", \"notices\"));
   $(\"facts\").textContent = facts.join(\" \\u00b7 \") + (run.from ? ` \\u00b7 shown: the last ${run.length.toLocaleString(\"en\")} steps` : \"\");
 
@@ -1024,12 +1085,7 @@ pub(crate) fn script_22() -> &'static [u8] {
     let chunk = null;
     const all = document.createDocumentFragment();
     run.lines.forEach((text, i) => {
-"
-}
-
-/// Part 23 of the script.
-pub(crate) fn script_23() -> &'static [u8] {
-    b"      if (i % 100 === 0) { chunk = element(\"div\", undefined, \"chunk\"); all.append(chunk); }
+      if (i % 100 === 0) { chunk = element(\"div\", undefined, \"chunk\"); all.append(chunk); }
       const n = i + 1, row = element(\"div\", undefined, \"line\"), times = run.counts.get(n);
       row.dataset.line = n;
       const number = element(\"span\", String(n), \"number\");
@@ -1038,7 +1094,12 @@ pub(crate) fn script_23() -> &'static [u8] {
       else if (touchLines.has(n)) sign.title = \"measures\";
       else if (noticed.has(n)) sign.title = noticed.get(n) + \" has no effect\";
       if (times) row.classList.add(\"ran\");
-      else if (stated.has(n)) { row.classList.add(\"idle\"); row.title = \"not carried out in this run\"; }
+"
+}
+
+/// Part 25 of the script.
+pub(crate) fn script_25() -> &'static [u8] {
+    b"      else if (stated.has(n)) { row.classList.add(\"idle\"); row.title = \"not carried out in this run\"; }
       row.append(number, sign, coloured(text));
       if (times && times.length > 1) { const count = element(\"span\", \"\\u00d7\" + times.length.toLocaleString(\"en\"), \"times\"); count.title = \"carried out \" + times.length + \" times\"; row.append(count); }
       row.append(element(\"span\", \"\", \"done\"));
@@ -1064,12 +1125,7 @@ pub(crate) fn script_23() -> &'static [u8] {
   const boxes = { all: boxOf(pointsOfWhole(run)), part: run.blocks.length ? boxOf(pointsOfPart(run)) : boxOf(pointsOfWhole(run)) };
   function fit(what) {
     fitting = what;
-"
-}
-
-/// Part 24 of the script.
-pub(crate) fn script_24() -> &'static [u8] {
-    b"    for (const it of document.getElementsByName(\"fit\")) it.checked = it.value === what;
+    for (const it of document.getElementsByName(\"fit\")) it.checked = it.value === what;
     fitNow();
   }
   function fitNow() {
@@ -1088,7 +1144,12 @@ pub(crate) fn script_24() -> &'static [u8] {
       scale = Math.min(scale, (0.8 * w) / size[sheet.sheet.right], (0.74 * h) / size[sheet.sheet.up]);
     }
     const over = canvasOf(\"solid\");
-    if (solid && over.clientWidth) {
+"
+}
+
+/// Part 26 of the script.
+pub(crate) fn script_26() -> &'static [u8] {
+    b"    if (solid && over.clientWidth) {
       const corners = [0, 1, 2, 3, 4, 5, 6, 7].map((n) => camera.centre.map((x, k) => x + (n & (1 << k) ? 0.5 : -0.5) * size[k]));
       const own = solid.fit(fitting === \"all\" ? pointsOfWhole(run) : fitting === \"part\" ? pointsOfPart(run) : corners, 0.84 * over.clientWidth, 0.76 * over.clientHeight);
       if (scale === Infinity) scale = own;
@@ -1120,12 +1181,7 @@ pub(crate) fn script_24() -> &'static [u8] {
     requestAnimationFrame(() => { wanted = false; drawNow(devicePixelRatio || 1); });
   }
   function drawNow(ratio) {
-"
-}
-
-/// Part 25 of the script.
-pub(crate) fn script_25() -> &'static [u8] {
-    b"    for (const sheet of flat) if (sheet.size(ratio)) sheet.draw(colours, now, probe);
+    for (const sheet of flat) if (sheet.size(ratio)) sheet.draw(colours, now, probe);
     if (solid) drawSolid(ratio);
     drawProfile(ratio);
   }
@@ -1142,7 +1198,12 @@ pub(crate) fn script_25() -> &'static [u8] {
   if (run.touches.length) legend.append(element(\"span\", \"touched\", \"key dot\"), \" \");
   legend.append(element(\"span\", \"probe\", \"key ring\"));
 
-  // ---- the time line: how high the probe is behind each step, with what happens
+"
+}
+
+/// Part 27 of the script.
+pub(crate) fn script_27() -> &'static [u8] {
+    b"  // ---- the time line: how high the probe is behind each step, with what happens
 
   function drawProfile(ratio) {
     const canvas = $(\"profile\"), w = canvas.clientWidth, h = canvas.clientHeight, n = run.length;
@@ -1164,12 +1225,7 @@ pub(crate) fn script_25() -> &'static [u8] {
         const a = Math.round(k), b = Math.min(to, Math.round(k + step));
         let least = Infinity, most = -Infinity;
         for (let i = a; i < Math.max(b, a + 1); i++) { const z = run.position[3 * i + 2]; if (z < least) least = z; if (z > most) most = z; }
-"
-}
-
-/// Part 26 of the script.
-pub(crate) fn script_26() -> &'static [u8] {
-    b"        if (step > 1) { g.lineTo(x(a), y(most)); g.lineTo(x(a), y(least)); } else g.lineTo(x(a), y(run.position[3 * a + 2]));
+        if (step > 1) { g.lineTo(x(a), y(most)); g.lineTo(x(a), y(least)); } else g.lineTo(x(a), y(run.position[3 * a + 2]));
       }
       g.lineTo(x(to), y(run.position[3 * to + 2]));
       g.lineTo(x(to), h - 4);
@@ -1186,7 +1242,14 @@ pub(crate) fn script_26() -> &'static [u8] {
     const many = run.touches.length > 400;
     for (const touch of run.touches) if (many) { g.fillStyle = colours.s; g.fillRect(x(touch.step) - 0.5, 1, 1, 3); } else dot(touch.step, 4, colours.s, 2.5);
     g.fillStyle = colours.ink;
-    for (const k of run.output.steps) g.fillRect(x(k) - 0.5, h - 4, 1, 4);
+"
+}
+
+/// Part 28 of the script.
+pub(crate) fn script_28() -> &'static [u8] {
+    b"    for (const k of run.output.steps) g.fillRect(x(k) - 0.5, h - 4, 1, 4);
+    g.fillStyle = colours.danger;
+    for (const box of run.boxes) for (const contact of box.contacts) if (contact.step > 0) g.fillRect(x(contact.step) - 2, 0, 4, 5);
     if (stopLine) { const sx = x(run.stop.step); g.strokeStyle = colours.danger; g.lineWidth = 2.4; g.beginPath(); g.moveTo(sx - 4, 3); g.lineTo(sx + 4, 11); g.moveTo(sx + 4, 3); g.lineTo(sx - 4, 11); g.stroke(); }
     g.fillStyle = colours.ink;
     g.fillRect(x(now) - 0.75, 0, 1.5, h);
@@ -1206,12 +1269,7 @@ pub(crate) fn script_26() -> &'static [u8] {
     if (/^F\\(/.test(said)) return \"declares \" + said;
     if (/^D\\(/.test(said)) return frameText(run.frame.at(k));
     if (said.includes(\"=\")) return said.split(\" \")[0].replace(\"=\", \" = \") + (where ? \", \" + where : \"\");
-"
-}
-
-/// Part 27 of the script.
-pub(crate) fn script_27() -> &'static [u8] {
-    b"    return where;
+    return where;
   }
   const frameText = (frame) => (frame.name ? frame.name + \": \" : \"\") + \"origin \" + frame.origin.map(millimetres).join(\" \") + \", X \" + frame.axes[0] + \", Y \" + frame.axes[1] + \", Z \" + frame.axes[2];
 
@@ -1223,7 +1281,12 @@ pub(crate) fn script_27() -> &'static [u8] {
     return it;
   }
   const cell = (text, className) => element(\"td\", text, className);
-  const entry = (list, name, value, className) => { list.append(element(\"dt\", name), element(\"dd\", value, className)); };
+"
+}
+
+/// Part 29 of the script.
+pub(crate) fn script_29() -> &'static [u8] {
+    b"  const entry = (list, name, value, className) => { list.append(element(\"dt\", name), element(\"dd\", value, className)); };
 
   function showState() {
     const k = now, title = $(\"step-title\");
@@ -1244,18 +1307,18 @@ pub(crate) fn script_27() -> &'static [u8] {
       entry(list, \"Origin\", pointText(frame.origin), \"mono\");
       if (frame.axes.join() !== \"+X,+Y,+Z\") entry(list, \"Axes\", \"X along \" + frame.axes[0] + \", Y \" + frame.axes[1] + \", Z \" + frame.axes[2]);
     }
-"
-}
-
-/// Part 28 of the script.
-pub(crate) fn script_28() -> &'static [u8] {
-    b"    const touches = run.contact !== null && run.contact.step === k;
+    const touches = run.contact !== null && run.contact.step === k;
     if (touches) entry(list, \"Contact\", pointText(run.contact.at), \"mono bad\");
     for (let i = k ? run.pieceFrom[k] : 0; i < (k ? run.pieceFrom[k + 1] : 0); i++) if (run.kinds[i] === \"x\") entry(list, \"Aim\", run.aims.get(i) || pointText([...run.ends.subarray(6 * i + 3, 6 * i + 6)]), \"mono\");
     if (touches) {
       const block = run.blocks[run.contact.block - 1];
       entry(list, \"Block \" + run.contact.block, pointText(block.slice(0, 3)) + \"\\n\" + pointText(block.slice(3)), \"mono\");
-    }
+"
+}
+
+/// Part 30 of the script.
+pub(crate) fn script_30() -> &'static [u8] {
+    b"    }
     const next = nextAt(run, k);
     entry(list, \"Next\", next ? \"line \" + next.line + \" \" + (run.code[next.statement] ? run.code[next.statement].word : \"\") : \"nothing: the run has stopped\");
 
@@ -1280,12 +1343,7 @@ pub(crate) fn script_28() -> &'static [u8] {
     for (let i = touched - 1; i >= 0 && points.length < 50; i--) {
       const touch = run.touches[i], actual = run.actual.get(touch.name), value = actual && actual.setAt(touch.step) === touch.step ? actual.at(touch.step) : null;
       const row = element(\"tr\", undefined, touch.step === k ? \"changed\" : \"\"), head = element(\"th\", touch.name);
-"
-}
-
-/// Part 29 of the script.
-pub(crate) fn script_29() -> &'static [u8] {
-    b"      head.scope = \"row\";
+      head.scope = \"row\";
       const off = value ? deviation(touch.name, touch.step) : null, step = cell(\"\", \"n\");
       step.append(jump(touch.step));
       row.append(head, ...(value ? value.slice(0, 3) : touch.at.map(millimetres)).map((x) => cell(x, \"n mono\")), cell(off === null ? \"\" : (off > 0 ? \"+\" : \"\") + millimetres(off), \"n mono\"), step);
@@ -1294,6 +1352,13 @@ pub(crate) fn script_29() -> &'static [u8] {
     $(\"points\").tBodies[0].replaceChildren(...points);
     $(\"points\").hidden = points.length === 0;
     $(\"points-count\").textContent = touched + \" of \" + run.touches.length;
+
+"
+}
+
+/// Part 31 of the script.
+pub(crate) fn script_31() -> &'static [u8] {
+    b"    showBoxes(k);
 
     const printed = run.output.count(k), lines = [];
     $(\"output-section\").hidden = run.output.steps.length === 0;
@@ -1312,8 +1377,31 @@ pub(crate) fn script_29() -> &'static [u8] {
     for (const [name, it] of run.settings) entry(settings, name, it.changes.at(k) + \" mm\", \"mono\" + (it.changes.setAt(k) === k && k ? \" changed\" : \"\"));
   }
 
+  // The boxes that are fixed to the tip, each with where it enters a block, the first time first, or with how much room is left round it.
+  function showBoxes(k) {
+    const rows = [];
+    $(\"boxes-section\").hidden = run.boxes.length === 0;
+    for (const box of run.boxes) {
+      if (box.contacts.length === 0) rows.push(boxRow(box.name, `clear by ${millimetres(box.room)} mm${box.room < 50000 ? \"\" : \" or more\"}`, null, k));
+      box.contacts.slice(0, 50).forEach((contact, i) => rows.push(boxRow(i ? \"\" : box.name, `${contact.kind} block ${contact.block} at ${pointText(contact.at)}`, contact, k)));
+    }
+    $(\"boxes\").tBodies[0].replaceChildren(...rows);
+  }
+  function boxRow(name, text, contact, k) {
+    const row = element(\"tr\", undefined, contact && contact.step === k && k ? \"changed\" : \"\"), head = element(\"th\", name), step = cell(\"\", \"n\");
+    head.scope = \"row\";
+    if (contact && contact.step > 0) step.append(jump(contact.step));
+    row.append(head, cell(text, contact ? \"bad\" : \"\"), step);
+    return row;
+  }
+
   // How far an actual point lies from its nominal one along its direction, in micrometres.
-  function deviation(name, step) {
+"
+}
+
+/// Part 32 of the script.
+pub(crate) fn script_32() -> &'static [u8] {
+    b"  function deviation(name, step) {
     const nominal = run.nominal.get(name), actual = run.actual.get(name);
     const n = nominal && nominal.at(step), a = actual && actual.at(step);
     if (!n || !a) return null;
@@ -1321,12 +1409,7 @@ pub(crate) fn script_29() -> &'static [u8] {
   }
 
   $(\"notices-section\").hidden = run.notices.length === 0;
-"
-}
-
-/// Part 30 of the script.
-pub(crate) fn script_30() -> &'static [u8] {
-    b"  for (const it of run.notices.slice(0, 200)) $(\"notices\").append(element(\"li\", `line ${it.line}: ${it.word} has no effect`));
+  for (const it of run.notices.slice(0, 200)) $(\"notices\").append(element(\"li\", `line ${it.line}: ${it.word} has no effect`));
 
   // ---- from step to step
 
@@ -1363,7 +1446,12 @@ pub(crate) fn script_30() -> &'static [u8] {
     probe = positionAt(run, k);
     // where a step met a block, the tip is shown at the contact that stopped it
     if (run.contact && run.contact.step === k) probe = run.contact.at;
-    const slider = $(\"slider\");
+"
+}
+
+/// Part 33 of the script.
+pub(crate) fn script_33() -> &'static [u8] {
+    b"    const slider = $(\"slider\");
     slider.value = k;
     slider.setAttribute(\"aria-valuetext\", k ? `step ${k + run.from}, line ${run.line[k]}, ${run.code[run.statement[k]].word} ${doneText(k)}` : \"the start\");
     $(\"number\").value = k + run.from;
@@ -1371,12 +1459,7 @@ pub(crate) fn script_30() -> &'static [u8] {
     showProgram();
     showState();
     for (const id of [\"to-start\", \"step-back\"]) $(id).disabled = k === 0;
-"
-}
-
-/// Part 31 of the script.
-pub(crate) fn script_31() -> &'static [u8] {
-    b"    for (const id of [\"to-end\", \"step-on\"]) $(id).disabled = k === run.length;
+    for (const id of [\"to-end\", \"step-on\"]) $(id).disabled = k === run.length;
     for (const sheet of flat) sheet.canvas.setAttribute(\"aria-label\", `${sheet.sheet.name}: the probe is at ${positionAt(run, k).map(millimetres).join(\" \")}`);
     canvasOf(\"solid\").setAttribute(\"aria-label\", \"View in space\");
     if (speaks && !playing) $(\"said\").textContent = slider.getAttribute(\"aria-valuetext\");
@@ -1407,7 +1490,12 @@ pub(crate) fn script_31() -> &'static [u8] {
     return places;
   }
   function time(k) {
-    const long = wayOf(k).reduce((sum, [a, b]) => sum + Math.hypot(b[0] - a[0], b[1] - a[1], b[2] - a[2]), 0);
+"
+}
+
+/// Part 34 of the script.
+pub(crate) fn script_34() -> &'static [u8] {
+    b"    const long = wayOf(k).reduce((sum, [a, b]) => sum + Math.hypot(b[0] - a[0], b[1] - a[1], b[2] - a[2]), 0);
     return Math.max(140, Math.min(1600, (2200 * long) / whole)) / Number($(\"speed\").value);
   }
   function frame(t) {
@@ -1416,12 +1504,7 @@ pub(crate) fn script_31() -> &'static [u8] {
     while (now < run.length) {
       const takes = calm.matches ? Math.max(400 / Number($(\"speed\").value), 60) : time(now + 1);
       if (t - began < takes) break;
-"
-}
-
-/// Part 32 of the script.
-pub(crate) fn script_32() -> &'static [u8] {
-    b"      began += takes;
+      began += takes;
       now++;
       moved = true;
     }
@@ -1462,7 +1545,12 @@ pub(crate) fn script_32() -> &'static [u8] {
   $(\"to-end\").onclick = () => stepTo(run.length);
   $(\"step-back\").onclick = () => stepTo(now - 1);
   $(\"step-on\").onclick = () => stepTo(now + 1);
-  $(\"play\").onclick = () => play(!playing);
+"
+}
+
+/// Part 35 of the script.
+pub(crate) fn script_35() -> &'static [u8] {
+    b"  $(\"play\").onclick = () => play(!playing);
   $(\"slider\").oninput = () => stepTo(Number($(\"slider\").value));
   $(\"number\").onchange = () => stepTo(Number($(\"number\").value) - run.from);
   $(\"variables-filter\").oninput = showState;
@@ -1470,12 +1558,7 @@ pub(crate) fn script_32() -> &'static [u8] {
     const to = event.target.closest(\"[data-step]\");
     if (to && to.tagName === \"BUTTON\") stepTo(Number(to.dataset.step));
     const row = event.target.closest(\".line\");
-"
-}
-
-/// Part 33 of the script.
-pub(crate) fn script_33() -> &'static [u8] {
-    b"    if (row && !String(getSelection())) toSame(event.shiftKey ? -1 : 1, Number(row.dataset.line));
+    if (row && !String(getSelection())) toSame(event.shiftKey ? -1 : 1, Number(row.dataset.line));
   });
   $(\"profile\").addEventListener(\"pointerdown\", (event) => {
     const to = (e) => { const box = $(\"profile\").getBoundingClientRect(); stepTo(((e.clientX - box.left - 8) / (box.width - 16)) * run.length); };
@@ -1506,19 +1589,19 @@ pub(crate) fn script_33() -> &'static [u8] {
 
   $(\"keys-open\").onclick = () => $(\"keys\").showModal();
   $(\"letters\").onchange = () => { lettersWork = $(\"letters\").checked; };
-  const views = [\"all\", \"solid\", \"top\", \"front\", \"side\"];
+"
+}
+
+/// Part 36 of the script.
+pub(crate) fn script_36() -> &'static [u8] {
+    b"  const views = [\"all\", \"solid\", \"top\", \"front\", \"side\"];
   document.addEventListener(\"keydown\", (event) => {
     const on = event.target, tag = on.tagName;
     if (event.ctrlKey || event.metaKey || event.altKey || $(\"keys\").open) return;
     if (tag === \"SELECT\" || (tag === \"INPUT\" && (on.type === \"number\" || on.type === \"search\"))) return;
     const radio = tag === \"INPUT\" && on.type === \"radio\";
     let used = true;
-"
-}
-
-/// Part 34 of the script.
-pub(crate) fn script_34() -> &'static [u8] {
-    b"    if (event.key === \"ArrowLeft\" && !radio) event.shiftKey ? toEvent(-1) : stepTo(now - 1);
+    if (event.key === \"ArrowLeft\" && !radio) event.shiftKey ? toEvent(-1) : stepTo(now - 1);
     else if (event.key === \"ArrowRight\" && !radio) event.shiftKey ? toEvent(1) : stepTo(now + 1);
     else if (event.key === \"Home\") stepTo(0);
     else if (event.key === \"End\") stepTo(run.length);
@@ -1548,7 +1631,12 @@ pub(crate) fn script_34() -> &'static [u8] {
     return `block ${found.block}: ${b.slice(0, 3).map(millimetres).join(\" \")} to ${b.slice(3).map(millimetres).join(\" \")}`;
   }
   for (const sheet of [...flat, ...(solid ? [solid] : [])]) {
-    const canvas = sheet.sheet ? sheet.canvas : sheet.over, tip = $(\"tip\");
+"
+}
+
+/// Part 37 of the script.
+pub(crate) fn script_37() -> &'static [u8] {
+    b"    const canvas = sheet.sheet ? sheet.canvas : sheet.over, tip = $(\"tip\");
     const pointers = new Map();
     let travelled = 0, apart = 0;
     canvas.addEventListener(\"pointerdown\", (event) => {
@@ -1558,12 +1646,7 @@ pub(crate) fn script_34() -> &'static [u8] {
       canvas.setPointerCapture(event.pointerId);
     });
     canvas.addEventListener(\"pointermove\", (event) => {
-"
-}
-
-/// Part 35 of the script.
-pub(crate) fn script_35() -> &'static [u8] {
-    b"      const old = pointers.get(event.pointerId), box = canvas.getBoundingClientRect(), x = event.clientX - box.left, y = event.clientY - box.top;
+      const old = pointers.get(event.pointerId), box = canvas.getBoundingClientRect(), x = event.clientX - box.left, y = event.clientY - box.top;
       if (old) {
         const dx = event.clientX - old[0], dy = event.clientY - old[1];
         travelled += Math.abs(dx) + Math.abs(dy);
@@ -1596,7 +1679,12 @@ pub(crate) fn script_35() -> &'static [u8] {
     const end = (event) => { pointers.delete(event.pointerId); };
     canvas.addEventListener(\"pointerup\", (event) => {
       if (pointers.size === 1 && travelled < 5) {
-        const box = canvas.getBoundingClientRect(), found = sheet.find(event.clientX - box.left, event.clientY - box.top);
+"
+}
+
+/// Part 38 of the script.
+pub(crate) fn script_38() -> &'static [u8] {
+    b"        const box = canvas.getBoundingClientRect(), found = sheet.find(event.clientX - box.left, event.clientY - box.top);
         if (found && found.piece !== undefined) stepTo(run.pieceStep[found.piece]);
       }
       end(event);
@@ -1605,12 +1693,7 @@ pub(crate) fn script_35() -> &'static [u8] {
     canvas.addEventListener(\"pointerleave\", () => { tip.hidden = true; });
     canvas.addEventListener(\"wheel\", (event) => {
       event.preventDefault();
-"
-}
-
-/// Part 36 of the script.
-pub(crate) fn script_36() -> &'static [u8] {
-    b"      const box = canvas.getBoundingClientRect();
+      const box = canvas.getBoundingClientRect();
       zoom(Math.exp(-event.deltaY * 0.0015), sheet, event.clientX - box.left, event.clientY - box.top);
     }, { passive: false });
   }

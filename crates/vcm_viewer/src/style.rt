@@ -36,7 +36,7 @@ button, input, select { font: inherit; color: inherit; }
 
 /// Part 2 of the style.
 pub(crate) fn style_2() -> &'static [u8] {
-    b"header { grid-row: 1; display: flex; align-items: center; gap: 6px 16px; flex-wrap: wrap; padding: 8px 16px; border-bottom: 1px solid var(--line); background: var(--panel); }
+    b"header { grid-row: 1; display: flex; align-items: center; gap: 6px 16px; flex-wrap: wrap; padding: 8px 16px; border-bottom: 1px solid var(--line); background: var(--panel); } h1 { min-width: 0; max-width: 100%; overflow: hidden; text-overflow: ellipsis; white-space: nowrap; } header #keys-open { margin-left: auto; }
 h1 { font-size: 17px; font-weight: 650; letter-spacing: -0.01em; }
 .verdict { padding: 2px 10px 2px 8px; border-radius: 6px; font-weight: 600; }
 .verdict.ok { color: var(--ok); background: var(--ok-soft); } .verdict.bad { color: var(--danger); background: var(--danger-soft); } .verdict.warn { color: var(--warn); background: var(--warn-soft); }
@@ -55,14 +55,14 @@ main { grid-row: 3; min-height: 0; display: grid; grid-template-columns: minmax(
 .line { display: grid; grid-template-columns: 44px 16px auto auto 1fr; align-items: baseline; min-height: 20.5px; padding-right: 12px; white-space: pre; font-size: 12.5px; border-left: 3px solid transparent; cursor: default; }
 .line.ran { border-left-color: color-mix(in srgb, var(--ok) 45%, transparent); }
 .line.idle { border-left-color: var(--line); }
-.line:hover { background: var(--soft); }
-.number { color: var(--muted); text-align: right; padding-right: 6px; font-size: 11.5px; user-select: none; }
 "
 }
 
 /// Part 3 of the style.
 pub(crate) fn style_3() -> &'static [u8] {
-    b".line .sign { font-size: 10px; text-align: center; user-select: none; } .sign.stop { color: var(--danger); font-weight: 700; } .sign.touch { color: var(--s); } .sign.notice { color: var(--warn); font-weight: 700; }
+    b".line:hover { background: var(--soft); }
+.number { color: var(--muted); text-align: right; padding-right: 6px; font-size: 11.5px; user-select: none; }
+.line .sign { font-size: 10px; text-align: center; user-select: none; } .sign.stop { color: var(--danger); font-weight: 700; } .sign.touch { color: var(--s); } .sign.notice { color: var(--warn); font-weight: 700; }
 .line code i { color: var(--muted); } .line code q { color: var(--string); quotes: none; }
 .line.idle code { color: var(--muted); }
 .times { color: var(--muted); font-size: 11px; padding-left: 10px; user-select: none; }
@@ -81,13 +81,13 @@ pub(crate) fn style_3() -> &'static [u8] {
 .choice input:checked + span { background: var(--accent); color: var(--panel); font-weight: 600; }
 .choice input:focus-visible + span { outline: 2px solid var(--accent); outline-offset: -4px; } .choice input:checked:focus-visible + span { outline-color: var(--panel); }
 .sheets { display: grid; grid-template-columns: 1fr 1fr; grid-template-rows: 1fr 1fr; gap: 1px; background: var(--line); border-block: 1px solid var(--line); min-height: 0; }
-figure { position: relative; background: var(--paper); min-width: 0; min-height: 0; overflow: hidden; }
 "
 }
 
 /// Part 4 of the style.
 pub(crate) fn style_4() -> &'static [u8] {
-    b"figure canvas { position: absolute; inset: 0; width: 100%; height: 100%; touch-action: none; cursor: grab; } figure canvas:active { cursor: grabbing; } figure canvas.found { cursor: pointer; }
+    b"figure { position: relative; background: var(--paper); min-width: 0; min-height: 0; overflow: hidden; }
+figure canvas { position: absolute; inset: 0; width: 100%; height: 100%; touch-action: none; cursor: grab; } figure canvas:active { cursor: grabbing; } figure canvas.found { cursor: pointer; }
 figure .gl { pointer-events: none; }
 figcaption { position: absolute; z-index: 2; left: 8px; top: 6px; font-weight: 600; font-size: 12px; pointer-events: none; text-shadow: 0 0 3px var(--paper), 0 0 3px var(--paper), 0 0 3px var(--paper); } figcaption small { font-weight: 400; color: var(--muted); font-size: 11px; }
 .turns { position: absolute; right: 6px; bottom: 6px; display: flex; gap: 3px; z-index: 2; } .turns button { padding: 0 7px; min-height: 24px; font-size: 12px; opacity: 0.75; } .turns button:hover, .turns button:focus-visible { opacity: 1; }
@@ -109,7 +109,7 @@ pub(crate) fn style_5() -> &'static [u8] {
 #state h2 { font-size: 12px; font-weight: 600; color: var(--muted); margin-bottom: 4px; } .count { font-weight: 400; }
 #state .step h2 { font-size: 14px; color: var(--ink); }
 .step .done { overflow-wrap: anywhere; min-height: 2.9em; } .done.bad { color: var(--danger); font-weight: 600; } .done.ok { color: var(--ok); }
-.raw { font: 12px ui-monospace, \"DejaVu Sans Mono\", monospace; color: var(--muted); overflow-wrap: anywhere; } dd.bad { color: var(--danger); font-weight: 600; }
+.raw { font: 12px ui-monospace, \"DejaVu Sans Mono\", monospace; color: var(--muted); overflow-wrap: anywhere; } dd.bad, td.bad { color: var(--danger); font-weight: 600; }
 .rows { display: grid; grid-template-columns: auto 1fr; gap: 2px 14px; } .rows dt { color: var(--muted); } .rows dd { margin: 0; overflow-wrap: anywhere; } .rows .mono { font-size: 13px; white-space: pre; }
 .rows small { color: var(--muted); }
 table { border-collapse: collapse; width: 100%; font-size: 13px; } th, td { text-align: left; padding: 2px 8px 2px 0; font-weight: 400; } thead th, thead th.n { color: var(--muted); font-size: 11.5px; font-family: inherit; } th.n, td.n { text-align: right; padding-right: 0; padding-left: 8px; }
@@ -151,8 +151,9 @@ kbd { display: inline-block; min-width: 22px; padding: 0 5px; text-align: center
 
 /// Part 8 of the style.
 pub(crate) fn style_8() -> &'static [u8] {
-    b"  footer { grid-template-columns: minmax(0, 1fr) auto; gap: 4px 8px; padding: 6px 12px calc(8px + env(safe-area-inset-bottom)); } .time { grid-row: 1; grid-column: 1 / 3; } .buttons button { min-height: 42px; min-width: 40px; } #play { min-width: 50px; } .speed { display: none; } #profile { height: 30px; } .where { font-size: 13px; } .where input[type=\"number\"] { width: 3.9em; }
+    b"  footer { grid-template-columns: minmax(0, 1fr) auto; gap: 4px 8px; padding: 6px 12px calc(8px + env(safe-area-inset-bottom)); } .time { grid-row: 1; grid-column: 1 / 3; } .buttons button { min-height: 42px; min-width: 40px; } #play { min-width: 50px; } .speed { display: none; } #profile { height: 30px; } .where { font-size: 13px; } .where input[type=\"number\"] { width: 5.2em; }
 }
+@media (max-width: 430px) { footer { grid-template-columns: minmax(0, 1fr); } .time { grid-column: 1; } }
 @media (prefers-reduced-motion: reduce) { * { scroll-behavior: auto !important; transition: none !important; } }
 @media print {
   @page { margin: 12mm; }

@@ -1,4 +1,6 @@
 pub mod TraceViews
+pub mod PointViews
+pub mod ClearanceViews
 pub mod RunViews
 pub mod PictureViews
 pub mod InputViews

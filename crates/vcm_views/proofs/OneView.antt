@@ -1,5 +1,5 @@
 -- Two views of one input are one.
-use Rattle.std.proofs.Common.{◌≡◌, ◌≢◌, ℕ, ◌<◌, Bool, true, false, List, [], length, Option, Some, None, Result, Ok, Err, refl, sym, ap, ◌∙◌, subst, arith}
+use Rattle.std.proofs.Common.{◌≡◌, ◌≢◌, ℕ, ◌<◌, Bool, true, false, List, length, Option, Some, None, Result, Ok, Err, refl, sym, ap, ◌∙◌, subst, arith}
 use Rattle.std.specs.Io.KnownBytes.{Keeps}
 use Rattle.std.specs.Prelude.{nat_eq}
 use Rattle.std.proofs.lemmas.Bool.{eqb-true}
@@ -41,7 +41,8 @@ use Rattle.vcm_views.specs.declared.view.View.{View}
 use Rattle.vcm_views.specs.declared.view.View.TheVariants as views
 use Rattle.vcm_views.specs.Views.{Tells, TellsMargin, HasRunTo, picture_of}
 use Rattle.vcm_views.specs.Inputs.{IsImageOf, CodeAs, IsCodeOf, IsShown, IsNoView}
-use Rattle.vcm_views.specs.Laws.{IsViewAnswer, ViewsAreOne, MarginsAreOne}
+use Rattle.vcm_views.specs.Laws.{IsFair, IsViewAnswer, ViewsAreOne}
+use Rattle.vcm_views.proofs.ClearanceViews.{same_clearance}
 
 abbrev held : Tables → World → Held
 held tables state = record { tables = tables; state = state }
@@ -92,10 +93,12 @@ module _ (part : Workpiece) (valid : IsValid part) (c : Code) (ok : codes.IsVali
       λ e. came_through part c n h.held h.ran h.run (sym h.status_is ∙ eqb-true status 0 e) in
       (one_text part valid c ok h.ran.done h.held (nat_eq status 0) comes text other h.told told, given)
 
-one_told : (view : View) (part : Workpiece) (c : Code) (n : ℕ) (text other : List ℕ) (status more : ℕ) → (view ≡ views.Margin → IsValid part) → codes.IsValid c
+one_told : (view : View) (part : Workpiece) (c : Code) (n : ℕ) (text other : List ℕ) (status more : ℕ) → IsFair view part → codes.IsValid c
     → Tells view part c n text status → Tells view part c n other more → (text ≡ other) × (status ≡ more)
 one_told views.Trace part c n text other status more v ok h k = (h.text_is ∙ sym k.text_is, h.status_is ∙ sym k.status_is)
-one_told views.Margin part c n text other status more v ok h k = one_margin_told part (v refl) c ok n text other status more h k
+one_told views.Points part c n text other status more v ok h k = (h.text_is ∙ sym k.text_is, h.status_is ∙ sym k.status_is)
+one_told views.Margin part c n text other status more v ok h k = one_margin_told part v c ok n text other status more h k
+one_told (views.Clearance boxes) part c n text other status more v ok h k = same_clearance part boxes c n v.0 v.1 text other status more h k
 one_told (views.Picture is_close) part c n text other status more v ok h k =
     let same = one_run_to part c n h.held k.held h.ran k.ran h.run k.run h.ample k.ample in
     let drawn : picture_of part h.held h.ran.done (way_after part c h.ran.done) is_close ≡ picture_of part k.held k.ran.done (way_after part c k.ran.done) is_close =
@@ -147,7 +150,7 @@ view_refused view part n input f rest old new h l c e = by f h e (long_told inpu
     by (runs.Write done) h e only = absurd cc
     by runs.TooLong h e only = (told_long (InputRefused input) (most_bytes < length input) c h.0 only, h.1)
 
-module _ (view : View) (part : Workpiece) (fair : view ≡ views.Margin → IsValid part) (n : ℕ) (input : List ℕ) where
+module _ (view : View) (part : Workpiece) (fair : IsFair view part) (n : ℕ) (input : List ℕ) where
   abbrev ViewTells : Result (ℕ × List Noticed) Cause → Option (List ℕ) → Option (List ℕ) → Type 0
   ViewTells x old new = AnswerTells (ViewGives view part n input) (InputRefused input) (most_bytes < length input) x old new
 
@@ -178,9 +181,5 @@ module _ (view : View) (part : Workpiece) (fair : view ≡ views.Margin → IsVa
       old new other now (view_tells r rest old new x h p) (view_tells s left other now y k q)
 
 pub one_view : ViewsAreOne
-one_view view part n input r s rest left old new other now x y m h k p q =
-    one_answer_told view part (λ e. absurd (m e)) n input r s rest left old new other now x y h k p q
-
-pub margins_one : MarginsAreOne
-margins_one part n input r s rest left old new other now x y valid h k p q =
-    one_answer_told views.Margin part (λ e. valid) n input r s rest left old new other now x y h k p q
+one_view view part n input r s rest left old new other now x y fair h k p q =
+    one_answer_told view part fair n input r s rest left old new other now x y h k p q

@@ -1,7 +1,9 @@
 -- What the views of a run show of a code beside a workpiece: their text, and the exit status.
 use Rattle.std.specs.Prelude.{◌≡◌, ℕ, Bool, true, false, nat_eq, List, Option}
+use Rattle.std.specs.List.{list_any}
 use Rattle.std.specs.Io.KnownBytes.{Appends, Keeps}
 use Rattle.vcm_num.specs.Written.{AppendsFront}
+use Rattle.vcm_spec.specs.declared.stop.StopPlace.{StopPlace}
 use Rattle.vcm_spec.specs.Workpiece.{Workpiece}
 use Rattle.vcm_code.specs.declared.code.Code.{Code}
 use Rattle.vcm_machine.specs.declared.ran.End.TheVariants.{NoMemory}
@@ -20,6 +22,12 @@ use Rattle.vcm_margin.specs.Printed.{margin_text}
 use Rattle.vcm_way.specs.Ways.{Kept}
 use Rattle.vcm_way.specs.Following.{way_after}
 use Rattle.vcm_picture.specs.Picture.{sheet, picture_text}
+use Rattle.vcm_points.specs.Points.{points_text}
+use Rattle.vcm_boxes.specs.declared.boxes.ProbeBox.{ProbeBox}
+use Rattle.vcm_gone.specs.Gone.{ways_of}
+use Rattle.vcm_clearance.specs.declared.room.Room.{Room}
+use Rattle.vcm_clearance.specs.Rooms.{AreRooms, is_met_room}
+use Rattle.vcm_clearance.specs.Clearance.{contact_lines, clearance_text}
 use Rattle.vcm_views.specs.declared.view.View.{View}
 use Rattle.vcm_views.specs.declared.view.View.TheVariants as views
 
@@ -62,10 +70,29 @@ pub record IsPicture (part : Workpiece) (c : Code) (n : ℕ) (is_close : Bool) (
   pub text_is : text ≡ picture_of part held ran.done (way_after part c ran.done) is_close
   pub status_is : status ≡ status_of held.state.stop
 
+-- the measured points of a run for at most n steps
+pub record ArePointsOf (part : Workpiece) (c : Code) (n : ℕ) (text : List ℕ) (status : ℕ) : Type 0 where
+  pub text_is : text ≡ points_text part c n
+  pub status_is : status ≡ status_of (state_after part c n).world.stop
+
+-- the exit status of a clearance: 3 where a box is met, else that of the run
+abbrev pub clearance_status : Bool → Option StopPlace → ℕ
+clearance_status true stop = 3
+clearance_status false stop = status_of stop
+
+-- the clearance of boxes in a run for at most n steps
+pub record IsClearanceOf (part : Workpiece) (boxes : List ProbeBox) (c : Code) (n : ℕ) (text : List ℕ) (status : ℕ) : Type 0 where
+  pub rooms : List Room
+  pub are_rooms : AreRooms part.blocks boxes (ways_of part c n) rooms
+  pub text_is : text ≡ clearance_text part boxes c n rooms
+  pub status_is : status ≡ clearance_status (list_any is_met_room rooms) (state_after part c n).world.stop
+
 -- a view of a code beside a workpiece, in a run for at most n steps
 abbrev pub Tells : View → Workpiece → Code → ℕ → List ℕ → ℕ → Type 0
 Tells views.Trace part c n text status = IsTrace part c n text status
 Tells views.Margin part c n text status = IsMarginOrResult part c n text status
+Tells views.Points part c n text status = ArePointsOf part c n text status
+Tells (views.Clearance boxes) part c n text status = IsClearanceOf part boxes.now c n text status
 Tells (views.Picture is_close) part c n text status = IsPicture part c n is_close text status
 
 -- it was written and nothing else, and this is the exit status
@@ -78,10 +105,12 @@ pub record IsViewed (view : View) (part : Workpiece) (c : Code) (n : ℕ) (statu
 abbrev pub IsHaltedAfter : Workpiece → Code → ℕ → ℕ → Type 0
 IsHaltedAfter part c n done = RunEnded n (started part c) (later done (started part c)) done NoMemory
 
--- what was written of a view in a run that was refused memory after so many steps: of a trace its lines so far, of a margin or a picture nothing
+-- what was written of a view in a run that was refused memory after so many steps: of a trace, of points and of a clearance the lines so far, of a margin or a picture nothing
 abbrev pub WrittenSoFar : View → Workpiece → Code → ℕ → Option (List ℕ) → Option (List ℕ) → Type 0
 WrittenSoFar views.Trace part c done old new = Appends old new (trace_front part c done)
 WrittenSoFar views.Margin part c done old new = Keeps old new
+WrittenSoFar views.Points part c done old new = Appends old new (points_text part c done)
+WrittenSoFar (views.Clearance boxes) part c done old new = Appends old new (contact_lines part boxes.now c done)
 WrittenSoFar (views.Picture is_close) part c done old new = Keeps old new
 
 -- a front of a view was written, and not all of it

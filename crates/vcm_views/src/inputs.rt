@@ -18,14 +18,14 @@ use vcm_run::{Built, build_image};
 // Writes a view of an image, and gives the exit status.
 fn view_image<W: Write>(
     alloc: Global,
-    view: View,
+    view: View<'_>,
     part: &PartData,
     image: &[u8],
     steps: u64,
     writer: &mut W,
 ) -> Result<u8, RunFault>
-    ensures shown { IfOk result (λ status. IsImageViewed view part.now image.now steps status (W.contents writer.old) (W.contents writer.new)) }
-    ensures fault { IfErr result (λ f. IsImageNotViewed view part.now image.now steps f (W.contents writer.old) (W.contents writer.new)) }
+    ensures shown { IfOk result (λ status. IsImageViewed view.entry part.now image.now steps status (W.contents writer.old) (W.contents writer.new)) }
+    ensures fault { IfErr result (λ f. IsImageNotViewed view.entry part.now image.now steps f (W.contents writer.old) (W.contents writer.new)) }
 {
     match load(alloc, image) {
         Ok(loaded) => show(alloc, view, &loaded, part, steps, writer),
@@ -36,14 +36,14 @@ fn view_image<W: Write>(
 // Writes a view of an input.
 fn view_input<W: Write>(
     alloc: Global,
-    view: View,
+    view: View<'_>,
     part: &PartData,
     input: &[u8],
     steps: u64,
     writer: &mut W,
 ) -> Result<Done, RunFault>
-    ensures done { IfOk result (λ d. IsShown view part.now input.now steps d.status d.notices.items (W.contents writer.old) (W.contents writer.new)) }
-    ensures fault { IfErr result (λ f. IsInputNotViewed view part.now input.now steps f (W.contents writer.old) (W.contents writer.new)) }
+    ensures done { IfOk result (λ d. IsShown view.entry part.now input.now steps d.status d.notices.items (W.contents writer.old) (W.contents writer.new)) }
+    ensures fault { IfErr result (λ f. IsInputNotViewed view.entry part.now input.now steps f (W.contents writer.old) (W.contents writer.new)) }
 {
     if is_image(input) {
         let status = view_image(alloc, view, part, input, steps, writer)?;
@@ -70,14 +70,14 @@ fn view_input<W: Write>(
 /// that were done. After a failed write the writer has taken a front of the view, and not all of it.
 pub fn view_of<R: Read, W: Write>(
     alloc: Global,
-    view: View,
+    view: View<'_>,
     part: &PartData,
     reader: &mut R,
     steps: u64,
     writer: &mut W,
 ) -> Result<Done, RunFault>
-    ensures done { IfOk result (λ d. IfSome (R.remaining reader.old) (λ input. IsShown view part.now input steps d.status d.notices.items (W.contents writer.old) (W.contents writer.new))) }
-    ensures fault { IfErr result (λ f. IsNoView view part.now steps (R.remaining reader.old) (R.remaining reader.new) f (W.contents writer.old) (W.contents writer.new)) }
+    ensures done { IfOk result (λ d. IfSome (R.remaining reader.old) (λ input. IsShown view.entry part.now input steps d.status d.notices.items (W.contents writer.old) (W.contents writer.new))) }
+    ensures fault { IfErr result (λ f. IsNoView view.entry part.now steps (R.remaining reader.old) (R.remaining reader.new) f (W.contents writer.old) (W.contents writer.new)) }
     ensures long { AnswersUnread input_not_read (R.remaining reader.old) result }
     ensures little { ReadsLittle (R.remaining reader.old) (R.remaining reader.new) }
 {

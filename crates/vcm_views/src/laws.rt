@@ -1,10 +1,9 @@
 //! The law of views, the contract of a function without a body.
 
-ghost use Rattle.vcm_views.specs.Laws.{ViewsAreOne, MarginsAreOne};
+ghost use Rattle.vcm_views.specs.Laws.{ViewsAreOne};
 
-/// Two traces, two pictures or two margins of one input, neither of which want of memory or a failed device cut short, are one: they have the same
-/// status and notices, or tell the same cause, and the same bytes were written.
+/// Two views of one input, neither of which want of memory or a failed device cut short, are one: they have the same status and notices, or tell the same
+/// cause, and the same bytes were written.
 pub fn views_are_one()
-    ensures views { ViewsAreOne }
-    ensures margins { MarginsAreOne }
+    ensures { ViewsAreOne }
 {}

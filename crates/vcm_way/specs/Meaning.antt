@@ -57,6 +57,7 @@ IsClearBy part piece Search = IsSearch part piece
 IsClearBy part piece Rest = Unit {0}
 IsClearBy part piece going = IsClear part.blocks (met_on part going piece.from piece.aim)
 
+-- a piece is clear by the way it is gone
 abbrev pub IsClearPiece : Workpiece → Piece → Type 0
 IsClearPiece part piece = IsClearBy part piece piece.going
 

@@ -1,0 +1,5 @@
+pub mod Carried
+pub mod FirstCarried
+pub mod Laws
+pub mod Samples
+pub mod inner

@@ -1,0 +1,10 @@
+pub mod Answers
+pub mod Roominess
+pub mod Chains
+pub mod Existing
+pub mod Running
+pub mod Single
+pub mod Sizes
+pub mod Telling
+pub mod Trials
+pub mod Tried

@@ -1,0 +1,221 @@
+-- The ways of a run, step by step, and the clearance at its end.
+use Rattle.std.proofs.Common.{◌≡◌, ℕ, suc, ◌+◌, ◌-◌, ◌≤◌, ◌∙◌, true, false, List, [], ◌∷◌, ◌++◌, length, Option, Some, refl, sym, ap, subst, arith, append_assoc}
+use Rattle.std.specs.Prelude.{map, flat_map}
+use Rattle.std.specs.List.{list_any}
+use Rattle.std.specs.Io.KnownBytes.{Appends}
+use Rattle.std.proofs.lemmas.Grind.{flat_map-append}
+use Rattle.std.proofs.lemmas.List.{flat_map_more}
+use Rattle.vcm_num.specs.declared.point.Point.{Point}
+use Rattle.vcm_num.specs.Written.{AppendsFront}
+use Rattle.vcm_num.proofs.KnownWrites.{appends_more, front_first, front_then}
+use Rattle.vcm_spec.specs.declared.workpiece.Block3.{Block3}
+use Rattle.vcm_spec.specs.Workpiece.{Workpiece, IsValid}
+use Rattle.vcm_spec.specs.declared.stop.StopPlace.{StopPlace}
+use Rattle.vcm_spec.specs.Setup.{setup_of}
+use Rattle.vcm_spec.specs.World.{World, Settings}
+use Rattle.vcm_code.specs.Code.{Statement}
+use Rattle.vcm_code.specs.declared.code.Code.{Code}
+use Rattle.vcm_code.specs.CodeTable.{code_steps}
+use Rattle.vcm_machine.specs.declared.ran.End.{End}
+use Rattle.vcm_machine.specs.declared.ran.End.TheVariants as ends
+use Rattle.vcm_machine.specs.declared.ran.Ran.{Ran}
+use Rattle.vcm_machine.specs.Running.{Running, started, later, RunEnded, HasRun}
+use Rattle.vcm_steps.specs.Passages.{Passage, passage, passages, state_after, steps_taken, IsBroken}
+use Rattle.vcm_steps.proofs.PassageLemmas.{rest_of, taken_most, state_stopped, passages_stopped}
+use Rattle.vcm_way.specs.declared.step.Before.{Before}
+use Rattle.vcm_way.specs.declared.task.Task.{Task}
+use Rattle.vcm_way.specs.Steps.{IsBefore}
+use Rattle.vcm_way.specs.Ways.{reason}
+use Rattle.vcm_boxes.specs.declared.boxes.ProbeBox.{ProbeBox}
+use Rattle.vcm_boxes.specs.Boxes.{AreBoxes}
+use Rattle.vcm_gone.specs.declared.ways.Gone.{Gone as Went}
+use Rattle.vcm_gone.specs.Gone.{Gone, Placed, gone_in, placed_ways, ways_of}
+use Rattle.vcm_gone.specs.Seen.{AreSame}
+use Rattle.vcm_clearance.specs.declared.clearing.Cleared.{Cleared}
+use Rattle.vcm_clearance.specs.declared.clearing.ClearanceFault.{ClearanceFault}
+use Rattle.vcm_clearance.specs.declared.clearing.ClearanceFault.TheVariants as faults
+use Rattle.vcm_clearance.specs.declared.rooms.Place.{Place}
+use Rattle.vcm_clearance.specs.declared.room.Room.{Room}
+use Rattle.vcm_clearance.specs.Rooms.{AreRooms, counted, is_met_room}
+use Rattle.vcm_clearance.specs.Printed.{way_lines, run_lines, ways_text, boxes_lines, end_line}
+use Rattle.vcm_clearance.specs.Clearance.{contact_lines, summary, IsClearance, IsHalted, IsCutOff, IsNotCleared}
+use Rattle.vcm_clearance.specs.inner.Following.{ArePlaced, IsDone, is_empty, ways_in, HasTried, HasBroken}
+use Rattle.vcm_clearance.proofs.Existing.{rooms_exist}
+use Rattle.vcm_clearance.proofs.Sizes.{box_at}
+
+-- ---- lines of more ways
+
+module _ (blocks : List Block3) (boxes : List ProbeBox) where
+  later_lines : (ws ps : List Placed) → run_lines blocks boxes false ws ++ run_lines blocks boxes false ps ≡ run_lines blocks boxes false (ws ++ ps)
+  later_lines [] ps = refl
+  later_lines (w ∷ ws) ps =
+      append_assoc (way_lines blocks boxes false w) (run_lines blocks boxes false ws) (run_lines blocks boxes false ps)
+      ∙ ap (λ l. way_lines blocks boxes false w ++ l) (later_lines ws ps)
+
+  pub more_lines : (ws ps : List Placed) → run_lines blocks boxes true ws ++ run_lines blocks boxes (is_empty ws) ps ≡ run_lines blocks boxes true (ws ++ ps)
+  more_lines [] ps = refl
+  more_lines (w ∷ ws) ps =
+      append_assoc (way_lines blocks boxes true w) (run_lines blocks boxes false ws) (run_lines blocks boxes false ps)
+      ∙ ap (λ l. way_lines blocks boxes true w ++ l) (later_lines ws ps)
+
+-- ---- a step
+
+placed_same : (step number line : ℕ) (vs : List Went) (gs : List Gone) → AreSame vs gs
+    → ArePlaced (record { step = step; number = number; line = line }) vs (map (λ way. record { way = way; step = step; number = number; line = line }) gs)
+placed_same step number line [] [] h = tt
+placed_same step number line [] (g ∷ gs) h = absurd h
+placed_same step number line (v ∷ vs) [] h = absurd h
+placed_same step number line (v ∷ vs) (g ∷ gs) h = (record { way = h.0; step = refl; number = refl; line = refl }, placed_same step number line vs gs h.1)
+
+-- the ways of a step, by what was known before it
+pub step_placed : (part : Workpiece) (b : Before) (s : Statement) (w after : World) → IsBefore part.bounds.home w s b → (count number next : ℕ) (vs : List Went)
+    → AreSame vs (gone_in part b.position b.settings b.task (reason after.stop))
+    → ArePlaced (record { step = count; number = number; line = s.line }) vs (placed_ways part (passage count number s w after next))
+step_placed part b s w after is count number next vs h =
+    let e =
+    ap (λ (p : Point). gone_in part p b.settings b.task (reason after.stop)) is.position
+    ∙ ap (λ (t : Settings). gone_in part w.position t b.task (reason after.stop)) is.settings
+    ∙ ap (λ (t : Task). gone_in part w.position w.settings t (reason after.stop)) is.task in
+    placed_same count number s.line vs _ (subst (AreSame vs) e h)
+
+module _ (part : Workpiece) (boxes : List ProbeBox) (rooms : List Room) (count : ℕ) (old mid : Option (List ℕ)) (between : List Room) (sum : ℕ) (ps : List Passage)
+    (tried : HasTried part boxes rooms count old between sum mid ps) (p : Passage) (place : Place) (vs : List Went) (placed : ArePlaced place vs (placed_ways part p)) where
+  more_in : ways_in part ps ++ placed_ways part p ≡ ways_in part (ps ++ p ∷ [])
+  more_in = flat_map_more (placed_ways part) [] ps p
+
+  lines_in : run_lines part.blocks boxes true (ways_in part ps) ++ run_lines part.blocks boxes (is_empty (ways_in part ps)) (placed_ways part p)
+      ≡ run_lines part.blocks boxes true (ways_in part (ps ++ p ∷ []))
+  lines_in = more_lines part.blocks boxes (ways_in part ps) (placed_ways part p) ∙ ap (run_lines part.blocks boxes true) more_in
+
+  pub step_tried : (after : List Room) (total : ℕ) (new : Option (List ℕ))
+      → ((ws qs : List Placed) → ArePlaced place vs qs → IsDone part.blocks boxes ws between sum → IsDone part.blocks boxes (ws ++ qs) after total × Appends mid new (run_lines part.blocks boxes (is_empty ws) qs))
+      → HasTried part boxes rooms count old after total new (ps ++ p ∷ [])
+  step_tried after total new h start =
+      let so_far = tried start in
+      let now = h (ways_in part ps) (placed_ways part p) placed so_far.0 in (
+        subst (λ l. IsDone part.blocks boxes l after total) more_in now.0,
+        appends_more old mid new _ _ _ lines_in so_far.1 now.1,
+      )
+
+  pub step_broken : (new : Option (List ℕ))
+      → ((ws qs : List Placed) → ArePlaced place vs qs → IsDone part.blocks boxes ws between sum → AppendsFront mid new (run_lines part.blocks boxes (is_empty ws) qs))
+      → (n : ℕ) → n ≡ p.count → HasBroken part boxes rooms count old new ps p (faults.Write n)
+  step_broken new h n e = (
+    e,
+    λ start. (let so_far = tried start in
+        front_then old mid new _ _ _ lines_in so_far.1 (h (ways_in part ps) (placed_ways part p) placed so_far.0)),
+  )
+
+-- ---- the end of a run
+
+module _ (part : Workpiece) (valid : IsValid part) (boxes : List ProbeBox) (are : AreBoxes boxes) (c : Code) (n : ℕ) where
+  -- the ways of a run begin with those of its first steps
+  ways_front : (k : ℕ) → k ≤ n → (rest : List Placed) × (ways_in part (passages part c k) ++ rest ≡ ways_of part c n)
+  ways_front k l =
+      let r = rest_of part c k (n - k) in
+      let all : k + (n - k) ≡ n = omega (arith, l) in
+      (flat_map (placed_ways part) r.0, sym (flat_map-append (placed_ways part) (passages part c k) r.0) ∙ ap (ways_in part) r.1 ∙ ap (λ i. ways_in part (passages part c i)) all)
+
+  -- a line of a contact could not be written
+  pub broken_off : (rooms : List Room) (count : ℕ) (old new : Option (List ℕ)) → IsDone part.blocks boxes [] rooms count → (f : ClearanceFault)
+      → IsBroken n part c (λ ps p. HasBroken part boxes rooms count old new ps p f) → IsNotCleared part boxes c n f old new
+  broken_off rooms count old new start faults.NoMemory i = absurd i.broken
+  broken_off rooms count old new start (faults.Memory done) i = absurd i.broken
+  broken_off rooms count old new start (faults.Write done) i =
+      let k = suc i.done in
+      let r = ways_front k (let t = taken_most part c n in let u = i.taken in omega (arith, t, u)) in
+      let front : AppendsFront old new (run_lines part.blocks boxes true (ways_in part (passages part c k))) =
+      subst (λ ps. AppendsFront old new (run_lines part.blocks boxes true (ways_in part ps))) (sym i.passages_are) (i.broken.1 start) in
+      let more = run_lines part.blocks boxes (is_empty (ways_in part (passages part c k))) r.0 in
+      let lines : run_lines part.blocks boxes true (ways_in part (passages part c k)) ++ more ≡ contact_lines part boxes c n =
+      more_lines part.blocks boxes (ways_in part (passages part c k)) r.0 ∙ ap (run_lines part.blocks boxes true) r.1 in
+      let all = rooms_exist part.blocks valid.each (ways_of part c n) boxes (box_at boxes are) in
+      record {
+        rooms = all.0;
+        are_rooms = all.1;
+        front = front_first old new (contact_lines part boxes c n) _ _ refl (front_first old new _ more _ lines front);
+      }
+
+  module _ (first m : Running) (ran : Ran) (is : first ≡ started part c) (run : HasRun n first m ran) where
+    ended : RunEnded n (started part c) m ran.done ran.end
+    ended = subst (λ o. RunEnded n o m ran.done ran.end) is run.ended
+
+    state : m.state ≡ state_after part c ran.done
+    state = ap (λ r. r.state) run.new_is ∙ ap (λ o. code_steps (setup_of o.part o.code.tables) o.code.statements ran.done o.state) is
+
+    -- the tables are those of the code
+    pub tables_are : m.code.tables ≡ c.tables
+    tables_are = ap (λ r. r.code.tables) run.new_is ∙ ap (λ o. o.code.tables) is
+
+    -- a run that memory did not cut short
+    record IsWhole (stop : Option StopPlace) : Type 0 where
+      ways : ways_in part (passages part c ran.done) ≡ ways_of part c n
+      steps : ran.done ≡ steps_taken part c n
+      stop_is : stop ≡ (state_after part c n).world.stop
+
+    whole_by : (end : End) → RunEnded n (started part c) m ran.done end → (end ≡ ends.NoMemory → ⊥) → (stop : Option StopPlace) → stop ≡ m.state.world.stop → IsWhole stop
+    whole_by ends.NoMemory r ample stop s = absurd (ample refl)
+    whole_by ends.Stopped r ample stop s =
+        let here : (state_after part c ran.done).world.stop ≡ Some r.1.0 = ap (λ x. x.world.stop) (sym state) ∙ r.1.1 in
+        record {
+          ways = ap (ways_in part) (sym (passages_stopped part c n ran.done r.1.0 r.0 here));
+          steps = r.0;
+          stop_is = s ∙ ap (λ x. x.world.stop) state ∙ ap (λ x. x.world.stop) (sym (state_stopped part c n ran.done r.0));
+        }
+    whole_by ends.Count r ample stop s = record {
+      ways = ap (λ i. ways_in part (passages part c i)) r.0;
+      steps = r.0 ∙ r.1;
+      stop_is = s ∙ ap (λ x. x.world.stop) state ∙ ap (λ i. (state_after part c i).world.stop) r.0;
+    }
+
+    module _ (rooms after : List Room) (sum : ℕ) (old mid : Option (List ℕ)) (start : IsDone part.blocks boxes [] rooms 0)
+        (tried : HasTried part boxes rooms 0 old after sum mid (passages part c ran.done)) where
+      -- memory was refused to a step
+      pub halted : ran.end ≡ ends.NoMemory → IsHalted part boxes c n ran.done old mid
+      halted e = record {
+        halted = subst (λ o. RunEnded n (started part c) (later ran.done o) ran.done ends.NoMemory) is
+            (subst (λ r. RunEnded n (started part c) r ran.done ends.NoMemory) run.new_is (subst (λ x. RunEnded n (started part c) m ran.done x) e ended));
+        written = (tried start).1;
+      }
+
+      module _ (ample : ran.end ≡ ends.NoMemory → ⊥) (stop : Option StopPlace) (stop_is : stop ≡ m.state.world.stop) where
+        whole : IsWhole stop
+        whole = whole_by ran.end ended ample stop stop_is
+
+        are_rooms : AreRooms part.blocks boxes (ways_of part c n) after
+        are_rooms = subst (λ l. AreRooms part.blocks boxes l after) whole.ways (tried start).0.are_rooms
+
+        lines : Appends old mid (contact_lines part boxes c n)
+        lines = subst (λ l. Appends old mid (run_lines part.blocks boxes true l)) whole.ways (tried start).1
+
+        summary_is : summary boxes c (ways_of part c n) after stop ran.done ≡ summary boxes c (ways_of part c n) after (state_after part c n).world.stop (steps_taken part c n)
+        summary_is =
+            ap (λ o. summary boxes c (ways_of part c n) after o ran.done) whole.stop_is
+            ∙ ap (summary boxes c (ways_of part c n) after (state_after part c n).world.stop) whole.steps
+
+        count_is : sum ≡ counted (length (ways_of part c n))
+        count_is = (tried start).0.counted_is ∙ ap (λ l. counted (length l)) whole.ways
+
+        abbrev end_text : List ℕ
+        end_text = ways_text sum ++ (boxes_lines boxes after ++ end_line c.tables stop ran.done)
+
+        end_is : end_text ≡ summary boxes c (ways_of part c n) after (state_after part c n).world.stop (steps_taken part c n)
+        end_is = ap (λ k. ways_text k ++ (boxes_lines boxes after ++ end_line c.tables stop ran.done)) count_is ∙ summary_is
+
+        -- all was written
+        pub cleared : (told : Cleared) (new : Option (List ℕ)) → told.is_met ≡ list_any is_met_room after → told.stop ≡ stop → Appends mid new end_text → IsClearance part boxes c n told old new
+        cleared told new met same w = record {
+          rooms = after;
+          are_rooms = are_rooms;
+          is_met = met;
+          stop = same ∙ whole.stop_is;
+          written = appends_more old mid new _ _ _ (ap (λ l. contact_lines part boxes c n ++ l) end_is) lines w;
+        }
+
+        -- what comes behind the contacts could not be written
+        pub cut_off : (new : Option (List ℕ)) → AppendsFront mid new end_text → IsCutOff part boxes c n old new
+        cut_off new w = record {
+          rooms = after;
+          are_rooms = are_rooms;
+          front = front_then old mid new _ _ _ (ap (λ l. contact_lines part boxes c n ++ l) end_is) lines w;
+        }

@@ -1,0 +1,197 @@
+-- Boxes that are tried on one way, and on the ways of a step.
+use Rattle.std.proofs.Common.{◌≡◌, ℕ, zero, suc, ◌+◌, ◌≤◌, ◌∙◌, Bool, false, List, [], ◌∷◌, ◌++◌, length, take, drop, slice_get, slice_set, Option, Some, None, Result, Ok, Err, refl, sym, ap, subst, inl, inr, arith, append_assoc}
+use Rattle.std.specs.Prelude.{flat_map, min, ◌==◌, IfOk, IfErr}
+use Rattle.std.specs.Io.KnownBytes.{Appends}
+use Rattle.std.proofs.Math.Nat.{le-min, min-eq_left}
+use Rattle.std.proofs.Math.Seq.{take-suc}
+use Rattle.std.proofs.lemmas.Bool.{cases_lt}
+use Rattle.std.proofs.lemmas.Grind.{flat_map-append}
+use Rattle.std.proofs.lemmas.List.{append-nil, flat_map_more, length-set, length-append, take_all, take-append-drop}
+use Rattle.std.proofs.lemmas.Option.{slice_get_within, get_or_from_slice_get}
+use Rattle.vcm_num.specs.Written.{AppendsFront}
+use Rattle.vcm_num.proofs.KnownWrites.{appends_nothing, appends_more, front_first, front_then}
+use Rattle.vcm_spec.specs.declared.workpiece.Block3.{Block3}
+use Rattle.vcm_boxes.specs.declared.boxes.ProbeBox.{ProbeBox}
+use Rattle.vcm_gone.specs.declared.ways.Gone.{Gone as Went}
+use Rattle.vcm_gone.specs.Gone.{Placed}
+use Rattle.vcm_clearance.specs.declared.rooms.Place.{Place}
+use Rattle.vcm_clearance.specs.declared.room.Room.{Room}
+use Rattle.vcm_clearance.specs.declared.room.Room.TheVariants.{Clear}
+use Rattle.vcm_clearance.specs.Contacts.{told_on}
+use Rattle.vcm_clearance.specs.Rooms.{most, counted, IsRoom, AreRooms}
+use Rattle.vcm_clearance.specs.Printed.{contact_line, way_lines, run_lines}
+use Rattle.vcm_clearance.specs.inner.Following.{AreTried, IsDone, IsPlaced, ArePlaced, is_empty, opening}
+use Rattle.vcm_clearance.proofs.Roominess.{count_more}
+
+-- ---- a room that is set
+
+set_there : (xs : List Room) (n : ℕ) (v r : Room) → slice_get (slice_set xs n v) n ≡ Some r → r ≡ v
+set_there [] n v r e = absurd (let no : None ≡ Some r = e in cc)
+set_there (x ∷ xs) zero v r e = (let same : Some v ≡ Some r = e in cc)
+set_there (x ∷ xs) (suc n) v r e = set_there xs n v r e
+
+set_elsewhere : (xs : List Room) (n i : ℕ) (v : Room) → (i ≡ n → ⊥) → slice_get (slice_set xs n v) i ≡ slice_get xs i
+set_elsewhere [] n i v h = refl
+set_elsewhere (x ∷ xs) zero zero v h = absurd (h refl)
+set_elsewhere (x ∷ xs) zero (suc i) v h = refl
+set_elsewhere (x ∷ xs) (suc n) zero v h = refl
+set_elsewhere (x ∷ xs) (suc n) (suc i) v h = set_elsewhere xs n i v (λ e. h (ap suc e))
+
+-- ---- one way
+
+module _ (blocks : List Block3) (boxes : List ProbeBox) (is_first : Bool) (ws : List Placed) (p : Placed) where
+  abbrev line : ProbeBox → List ℕ
+  line b = contact_line b.name (told_on blocks is_first b.block p)
+
+  pub begun : (rooms : List Room) (old : Option (List ℕ)) → AreRooms blocks boxes ws rooms → AreTried blocks boxes is_first ws p 0 rooms old old
+  begun rooms old h = record {
+    count = h.count;
+    before = λ i b r l at stands. h.each i b r at stands;
+    behind = λ i b r l. absurd (omega arith);
+    written = appends_nothing old;
+  }
+
+  module _ (n : ℕ) (rooms : List Room) (old mid : Option (List ℕ)) (h : AreTried blocks boxes is_first ws p n rooms old mid) (b : ProbeBox) (at : slice_get boxes n ≡ Some b) where
+    -- its room is that before the way
+    pub room_before : (r : Room) → slice_get rooms n ≡ Some r → IsRoom blocks b.block ws r
+    room_before r stands = h.before n b r (omega arith) at stands
+
+    front_is : flat_map line (take n boxes) ++ line b ≡ flat_map line (take (n + 1) boxes)
+    front_is =
+        let within = slice_get_within boxes n b at in
+        let more : take (suc n) boxes ≡ take n boxes ++ b ∷ [] = take-suc boxes n b within ∙ ap (λ x. take n boxes ++ x ∷ []) (get_or_from_slice_get boxes n b b at) in
+        flat_map_more line [] (take n boxes) b ∙ ap (flat_map line) (sym more) ∙ ap (λ k. flat_map line (take k boxes)) (let e : suc n ≡ n + 1 = omega arith in e)
+
+    -- one more is tried
+    pub next : (r : Room) → IsRoom blocks b.block (ws ++ p ∷ []) r → (new : Option (List ℕ)) → Appends mid new (line b)
+        → AreTried blocks boxes is_first ws p (n + 1) (slice_set rooms n r) old new
+    next r room new w = record {
+      count = length-set rooms n r ∙ h.count;
+      before = λ i c s l there stands. h.before i c s (omega arith) there (sym (set_elsewhere rooms n i r (λ e. absurd (omega (arith, e, l)))) ∙ stands);
+      behind = λ i c s l there stands. elim (cases_lt i n) [
+        | inl less ↦ h.behind i c s less there (sym (set_elsewhere rooms n i r (λ e. absurd (omega (arith, e, less)))) ∙ stands)
+        | inr past ↦ (let e : i ≡ n = omega arith in
+            let same : s ≡ r = set_there rooms n r s (subst (λ k. slice_get (slice_set rooms n r) k ≡ Some s) e stands) in
+            let own : Some b ≡ Some c = sym at ∙ subst (λ k. slice_get boxes k ≡ Some c) e there in
+            let box : b ≡ c = cc in
+            subst (λ (x : ProbeBox). IsRoom blocks x.block (ws ++ p ∷ []) s) box (subst (IsRoom blocks b.block (ws ++ p ∷ [])) (sym same) room))
+      ];
+      written = appends_more old mid new _ _ _ front_is h.written w;
+    }
+
+    -- its line could not be written
+    pub cut : (new : Option (List ℕ)) → AppendsFront mid new (line b) → AppendsFront old new (way_lines blocks boxes is_first p)
+    cut new f =
+        let rest = flat_map line (drop (n + 1) boxes) in
+        let all : flat_map line (take (n + 1) boxes) ++ rest ≡ flat_map line boxes =
+        sym (flat_map-append line (take (n + 1) boxes) (drop (n + 1) boxes)) ∙ ap (flat_map line) (take-append-drop (n + 1) boxes) in
+        front_first old new (flat_map line (take (n + 1) boxes)) rest _ all (front_then old mid new _ _ _ front_is h.written f)
+
+  -- all are tried
+  pub ended : (n : ℕ) (rooms : List Room) (old new : Option (List ℕ)) → AreTried blocks boxes is_first ws p n rooms old new → length boxes ≤ n
+      → AreRooms blocks boxes (ws ++ p ∷ []) rooms × Appends old new (way_lines blocks boxes is_first p)
+  ended n rooms old new h all = (
+    record { count = h.count; each = λ i b r at stands. h.behind i b r (let l = slice_get_within boxes i b at in omega (arith, l, all)) at stands },
+    subst (Appends old new) (ap (flat_map line) (take_all n boxes all)) h.written,
+  )
+
+-- ---- the ways of a step
+
+first_is : (n count : ℕ) → count ≡ counted (suc n) → (count == 0) ≡ false
+unfolding most
+first_is n count e =
+    let some : 1 ≤ count = subst (λ k. 1 ≤ k) (sym e) (le-min {k = 1} {a = suc n} {b = most} (omega arith) (omega arith)) in
+    grind (arith, some)
+
+-- the first way of a run is that behind none
+pub is_first_way : (ws : List Placed) (count : ℕ) → count ≡ counted (length ws) → (count == 0) ≡ is_empty ws
+is_first_way [] count e = (let none : count ≡ 0 = e ∙ min-eq_left {n = 0} {m = most} (omega arith) in rw none refl)
+is_first_way (w ∷ ws) count e = first_is (length ws) count e
+
+not_empty : (ws : List Placed) (p : Placed) → is_empty (ws ++ p ∷ []) ≡ false
+not_empty [] p = refl
+not_empty (w ∷ ws) p = refl
+
+module _ (blocks : List Block3) (boxes : List ProbeBox) (place : Place) where
+  pub no_way : (ws ps : List Placed) (rooms : List Room) (count : ℕ) (old : Option (List ℕ)) → ArePlaced place [] ps → IsDone blocks boxes ws rooms count
+      → IsDone blocks boxes (ws ++ ps) rooms count × Appends old old (run_lines blocks boxes (is_empty ws) ps)
+  no_way ws [] rooms count old h d = (subst (λ l. IsDone blocks boxes l rooms count) (sym (append-nil ws)) d, appends_nothing old)
+  no_way ws (p ∷ ps) rooms count old h d = absurd h
+
+  -- one more way was tried, and is counted
+  pub one_done : (ws : List Placed) (p : Placed) (rooms : List Room) (count sum : ℕ) → count ≡ counted (length ws) → sum ≡ min (count + 1) most
+      → AreRooms blocks boxes (ws ++ p ∷ []) rooms → IsDone blocks boxes (ws ++ p ∷ []) rooms sum
+  one_done ws p rooms count sum e f h = record {
+    are_rooms = h;
+    counted_is = count_more (length ws) count sum e f ∙ ap counted (sym (length-append ws (p ∷ [])));
+  }
+
+  module _ (v : Went) (vs : List Went) (count : ℕ) where
+    -- the first way, and those behind it
+    pub more_ways : (is_first : Bool) → is_first ≡ (count == 0) → (start first last : List Room) (sum total : ℕ) (old mid new : Option (List ℕ)) → sum ≡ min (count + 1) most
+        → ((ws : List Placed) (p : Placed) → IsPlaced place v p → AreRooms blocks boxes ws start → AreRooms blocks boxes (ws ++ p ∷ []) first × Appends old mid (way_lines blocks boxes is_first p))
+        → ((ws ps : List Placed) → ArePlaced place vs ps → IsDone blocks boxes ws first sum → IsDone blocks boxes (ws ++ ps) last total × Appends mid new (run_lines blocks boxes (is_empty ws) ps))
+        → (ws ps : List Placed) → ArePlaced place (v ∷ vs) ps → IsDone blocks boxes ws start count → IsDone blocks boxes (ws ++ ps) last total × Appends old new (run_lines blocks boxes (is_empty ws) ps)
+    more_ways is_first f start first last sum total old mid new s one rest ws [] h d = absurd h
+    more_ways is_first f start first last sum total old mid new s one rest ws (p ∷ ps) h d =
+        let flag : is_first ≡ is_empty ws = f ∙ is_first_way ws count d.counted_is in
+        let here = one ws p h.0 d.are_rooms in
+        let there = rest (ws ++ p ∷ []) ps h.1 (one_done ws p first count sum d.counted_is s here.0) in (
+          subst (λ l. IsDone blocks boxes l last total) (append_assoc ws (p ∷ []) ps) there.0,
+          appends_more old mid new (way_lines blocks boxes (is_empty ws) p) (run_lines blocks boxes false ps) _ refl
+              (subst (λ b. Appends old mid (way_lines blocks boxes b p)) flag here.1)
+              (subst (λ b. Appends mid new (run_lines blocks boxes b ps)) (not_empty ws p) there.1),
+        )
+
+    -- a line of the first could not be written
+    pub cut_first : (is_first : Bool) → is_first ≡ (count == 0) → (start : List Room) (old new : Option (List ℕ))
+        → ((ws : List Placed) (p : Placed) → IsPlaced place v p → AreRooms blocks boxes ws start → AppendsFront old new (way_lines blocks boxes is_first p))
+        → (ws ps : List Placed) → ArePlaced place (v ∷ vs) ps → IsDone blocks boxes ws start count → AppendsFront old new (run_lines blocks boxes (is_empty ws) ps)
+    cut_first is_first f start old new one ws [] h d = absurd h
+    cut_first is_first f start old new one ws (p ∷ ps) h d =
+        let flag : is_first ≡ is_empty ws = f ∙ is_first_way ws count d.counted_is in
+        front_first old new (way_lines blocks boxes (is_empty ws) p) (run_lines blocks boxes false ps) _ refl
+        (subst (λ b. AppendsFront old new (way_lines blocks boxes b p)) flag (one ws p h.0 d.are_rooms))
+
+    -- a line of those behind it could not
+    pub cut_later : (is_first : Bool) → is_first ≡ (count == 0) → (start first : List Room) (sum : ℕ) (old mid new : Option (List ℕ)) → sum ≡ min (count + 1) most
+        → ((ws : List Placed) (p : Placed) → IsPlaced place v p → AreRooms blocks boxes ws start → AreRooms blocks boxes (ws ++ p ∷ []) first × Appends old mid (way_lines blocks boxes is_first p))
+        → ((ws ps : List Placed) → ArePlaced place vs ps → IsDone blocks boxes ws first sum → AppendsFront mid new (run_lines blocks boxes (is_empty ws) ps))
+        → (ws ps : List Placed) → ArePlaced place (v ∷ vs) ps → IsDone blocks boxes ws start count → AppendsFront old new (run_lines blocks boxes (is_empty ws) ps)
+    cut_later is_first f start first sum old mid new s one rest ws [] h d = absurd h
+    cut_later is_first f start first sum old mid new s one rest ws (p ∷ ps) h d =
+        let flag : is_first ≡ is_empty ws = f ∙ is_first_way ws count d.counted_is in
+        let here = one ws p h.0 d.are_rooms in
+        let there = rest (ws ++ p ∷ []) ps h.1 (one_done ws p first count sum d.counted_is s here.0) in
+        front_then old mid new (way_lines blocks boxes (is_empty ws) p) (run_lines blocks boxes false ps) _ refl
+        (subst (λ b. Appends old mid (way_lines blocks boxes b p)) flag here.1)
+        (subst (λ b. AppendsFront mid new (run_lines blocks boxes b ps)) (not_empty ws p) there)
+
+-- ---- before the first way
+
+all_free : (blocks : List Block3) (boxes : List ProbeBox) (i : ℕ) (b : ProbeBox) (r : Room) → slice_get boxes i ≡ Some b → slice_get (opening boxes) i ≡ Some r
+    → IsRoom blocks b.block [] r
+all_free blocks [] i b r at stands = absurd (let no : None ≡ Some b = at in cc)
+all_free blocks (c ∷ cs) zero b r at stands = (let free : Clear 50000 None ≡ r = (let e : Some (Clear 50000 None) ≡ Some r = stands in cc) in
+    subst (IsRoom blocks b.block []) free (refl, tt))
+all_free blocks (c ∷ cs) (suc i) b r at stands = all_free blocks cs i b r at stands
+
+as_many : (boxes : List ProbeBox) → length (opening boxes) ≡ length boxes
+as_many [] = refl
+as_many (b ∷ bs) = ap suc (as_many bs)
+
+pub opened : (blocks : List Block3) (boxes : List ProbeBox) → IsDone blocks boxes [] (opening boxes) 0
+opened blocks boxes = record {
+  are_rooms = record { count = as_many boxes; each = all_free blocks boxes };
+  counted_is = sym (min-eq_left {n = 0} {m = most} (omega arith));
+}
+
+-- ---- what follows of what a call ensures
+
+pub if_ok : {A E : Type 0} (r : Result A E) (P Q : A → Type 0) → ((a : A) → P a → Q a) → IfOk r P → IfOk r Q
+if_ok (Ok a) P Q f h = f a h
+if_ok (Err e) P Q f h = h
+
+pub if_err : {A E : Type 0} (r : Result A E) (P Q : E → Type 0) → ((e : E) → P e → Q e) → IfErr r P → IfErr r Q
+if_err (Ok a) P Q f h = h
+if_err (Err e) P Q f h = f e h

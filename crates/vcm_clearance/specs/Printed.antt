@@ -1,0 +1,106 @@
+-- Contacts and rooms as text.
+use Rattle.std.specs.Prelude.{ℕ, ◌+◌, Bool, false, List, [], ◌∷◌, ◌++◌, flat_map, Option, Some, None, decimal, codes}
+use Rattle.vcm_num.specs.declared.point.Point.{Point}
+use Rattle.vcm_num.specs.Point.{coordinate}
+use Rattle.vcm_num.specs.Texts.{thousandths}
+use Rattle.vcm_spec.specs.declared.stop.StopPlace.{StopPlace}
+use Rattle.vcm_spec.specs.declared.workpiece.Block3.{Block3}
+use Rattle.vcm_spec.specs.declared.workpiece.Hit.{Hit}
+use Rattle.vcm_spec.specs.Setup.{Tables}
+use Rattle.vcm_report.specs.Printed.{in_a_row, stopped_line}
+use Rattle.vcm_marks.specs.declared.mark.Going.{Going}
+use Rattle.vcm_marks.specs.declared.mark.Going.TheVariants as going
+use Rattle.vcm_boxes.specs.declared.boxes.ProbeBox.{ProbeBox}
+use Rattle.vcm_gone.specs.Gone.{Placed}
+use Rattle.vcm_clearance.specs.declared.told.Told.{Told}
+use Rattle.vcm_clearance.specs.declared.room.Room.{Room}
+use Rattle.vcm_clearance.specs.declared.room.Room.TheVariants.{Met, Clear}
+use Rattle.vcm_clearance.specs.Contacts.{told_on}
+
+-- the word of a way
+abbrev pub going_text : Going → List ℕ
+going_text going.Move = codes "MOVE"
+going_text going.Approach = codes "APPROACH"
+going_text going.Search = codes "SEARCH"
+going_text going.Retract = codes "RETRACT"
+going_text going.Rest = codes "REST"
+
+-- the position of a contact, in millimetres, and the end of the line
+abbrev pub position_text : Point → List ℕ
+position_text p =
+    in_a_row (codes " position " ∷ thousandths (coordinate p 0) ∷ codes " " ∷ thousandths (coordinate p 1) ∷ codes " " ∷ thousandths (coordinate p 2) ∷ codes "\n" ∷ [])
+
+-- where in the run a contact is
+abbrev pub place_text : Told → List ℕ
+place_text t = in_a_row (codes " at " ∷ decimal t.number ∷ codes " line " ∷ decimal t.line ∷ codes " step " ∷ decimal t.step ∷ [])
+
+-- what is met on a way with this word
+abbrev pub hit_text : List ℕ → Hit → List ℕ
+hit_text word hit = in_a_row (codes " " ∷ word ∷ codes " block " ∷ decimal hit.block ∷ codes " permille " ∷ decimal hit.permille ∷ [])
+
+-- what the box of this name meets
+abbrev pub met_text : List ℕ → Told → List ℕ
+met_text name t = name ++ hit_text (going_text t.going) t.contact.hit
+
+-- where that is, and the end of the line
+abbrev pub where_text : Told → List ℕ
+where_text t = place_text t ++ position_text t.contact.at
+
+-- a contact of the box of this name
+abbrev pub told_text : List ℕ → Told → List ℕ
+told_text name t = met_text name t ++ where_text t
+
+-- the line of a contact, if there is one
+abbrev pub contact_line : List ℕ → Option Told → List ℕ
+contact_line name None = []
+contact_line name (Some t) = codes "contact " ++ told_text name t
+
+-- the lines of a way, box by box
+abbrev pub way_lines : List Block3 → List ProbeBox → Bool → Placed → List ℕ
+way_lines blocks boxes is_first p = flat_map (λ b. contact_line b.name (told_on blocks is_first b.block p)) boxes
+
+-- the lines of ways, of which the first is that of the run, or not
+abbrev pub run_lines : List Block3 → List ProbeBox → Bool → List Placed → List ℕ
+run_lines blocks boxes is_first [] = []
+run_lines blocks boxes is_first (p ∷ ps) = way_lines blocks boxes is_first p ++ run_lines blocks boxes false ps
+
+-- how many ways there are
+abbrev pub ways_text : ℕ → List ℕ
+ways_text count = in_a_row (codes "ways " ∷ decimal count ∷ codes "\n" ∷ [])
+
+-- that a box is met, and on how many ways
+abbrev pub met_line : List ℕ → ℕ → List ℕ
+met_line name k = in_a_row (codes "box " ∷ name ∷ codes " met " ∷ decimal k ∷ codes "\n" ∷ [])
+
+-- how much room is left round a box
+abbrev pub clear_line : List ℕ → ℕ → List ℕ
+clear_line name g = in_a_row (codes "box " ∷ name ∷ codes " clear " ∷ decimal g ∷ codes "\n" ∷ [])
+
+-- with how much more a box meets a block
+abbrev pub more_text : ℕ → List ℕ
+more_text g = in_a_row (codes "at " ∷ decimal (g + 1) ∷ codes " " ∷ [])
+
+-- what it then meets, if there is so much room
+abbrev pub narrow_line : List ℕ → ℕ → Option Told → List ℕ
+narrow_line name g None = []
+narrow_line name g (Some t) = more_text g ++ told_text name t
+
+-- the lines of a box
+abbrev pub box_lines : List ℕ → Room → List ℕ
+box_lines name (Met k) = met_line name k
+box_lines name (Clear g told) = clear_line name g ++ narrow_line name g told
+
+-- the lines of all boxes
+abbrev pub boxes_lines : List ProbeBox → List Room → List ℕ
+boxes_lines [] rooms = []
+boxes_lines (b ∷ bs) [] = []
+boxes_lines (b ∷ bs) (r ∷ rs) = box_lines b.name r ++ boxes_lines bs rs
+
+-- that there was no stop in so many steps
+abbrev pub no_stop_text : ℕ → List ℕ
+no_stop_text done = in_a_row (codes "no stop after " ∷ decimal done ∷ codes " steps\n" ∷ [])
+
+-- how the run ended: its stop, or after how many steps there was none
+abbrev pub end_line : Tables → Option StopPlace → ℕ → List ℕ
+end_line tables (Some place) done = stopped_line tables place
+end_line tables None done = no_stop_text done

@@ -1,0 +1,80 @@
+-- What is known while the ways of a run are tried.
+use Rattle.std.specs.Prelude.{◌≡◌, ℕ, ◌+◌, ◌<◌, Bool, true, false, List, [], ◌∷◌, ◌++◌, length, map, take, flat_map, slice_get, Option, Some, None}
+use Rattle.std.specs.Io.KnownBytes.{Appends}
+use Rattle.vcm_num.specs.Written.{AppendsFront}
+use Rattle.vcm_spec.specs.declared.workpiece.Block3.{Block3}
+use Rattle.vcm_spec.specs.Workpiece.{Workpiece, grown}
+use Rattle.vcm_carried.specs.declared.contact.Contact.{Contact}
+use Rattle.vcm_boxes.specs.declared.boxes.ProbeBox.{ProbeBox}
+use Rattle.vcm_steps.specs.Passages.{Passage}
+use Rattle.vcm_gone.specs.declared.ways.Gone.{Gone as Went}
+use Rattle.vcm_gone.specs.Gone.{Gone, Placed, placed_ways}
+use Rattle.vcm_gone.specs.Seen.{IsSameWay, seen}
+use Rattle.vcm_clearance.specs.declared.clearing.ClearanceFault.{ClearanceFault}
+use Rattle.vcm_clearance.specs.declared.clearing.ClearanceFault.TheVariants as faults
+use Rattle.vcm_clearance.specs.declared.rooms.Place.{Place}
+use Rattle.vcm_clearance.specs.declared.room.Room.{Room}
+use Rattle.vcm_clearance.specs.declared.room.Room.TheVariants.{Clear}
+use Rattle.vcm_clearance.specs.Contacts.{contact_on, told_on}
+use Rattle.vcm_clearance.specs.Rooms.{counted, IsRoom, AreRooms}
+use Rattle.vcm_clearance.specs.Printed.{contact_line, run_lines}
+
+-- the way of the code at a place is this way of the run
+pub record IsPlaced (place : Place) (v : Went) (p : Placed) : Type 0 where
+  pub way : IsSameWay (seen v) p.way
+  pub step : p.step ≡ place.step
+  pub number : p.number ≡ place.number
+  pub line : p.line ≡ place.line
+
+-- the ways of the code at a place are these ways of the run
+abbrev pub ArePlaced : Place → List Went → List Placed → Type 0
+ArePlaced place [] [] = Unit {0}
+ArePlaced place [] (p ∷ ps) = ⊥
+ArePlaced place (v ∷ vs) [] = ⊥
+ArePlaced place (v ∷ vs) (p ∷ ps) = IsPlaced place v p × ArePlaced place vs ps
+
+-- with its sides moved out by g, the box meets no block on the way of the code
+abbrev pub IsClearWith : List Block3 → Block3 → Went → ℕ → Type 0
+IsClearWith blocks box v g = (w : Gone) → IsSameWay (seen v) w → contact_on blocks true (grown g box) w ≡ None
+
+-- it then meets this first
+abbrev pub IsMetWith : List Block3 → Block3 → Went → ℕ → Contact → Type 0
+IsMetWith blocks box v g contact = (w : Gone) → IsSameWay (seen v) w → contact_on blocks true (grown g box) w ≡ Some contact
+
+-- whether there is none
+abbrev pub is_empty : {A : Type 0} → List A → Bool
+is_empty [] = true
+is_empty (x ∷ xs) = false
+
+-- the first n boxes were tried on one more way, and their lines were written
+pub record AreTried (blocks : List Block3) (boxes : List ProbeBox) (is_first : Bool) (ws : List Placed) (p : Placed) (n : ℕ) (rooms : List Room)
+    (old new : Option (List ℕ)) : Type 0 where
+  pub count : length rooms ≡ length boxes
+  pub before : (i : ℕ) (b : ProbeBox) (r : Room) → n < i + 1 → slice_get boxes i ≡ Some b → slice_get rooms i ≡ Some r → IsRoom blocks b.block ws r
+  pub behind : (i : ℕ) (b : ProbeBox) (r : Room) → i < n → slice_get boxes i ≡ Some b → slice_get rooms i ≡ Some r → IsRoom blocks b.block (ws ++ p ∷ []) r
+  pub written : Appends old new (flat_map (λ b. contact_line b.name (told_on blocks is_first b.block p)) (take n boxes))
+
+-- these ways were tried, and so many were counted
+pub record IsDone (blocks : List Block3) (boxes : List ProbeBox) (ws : List Placed) (rooms : List Room) (count : ℕ) : Type 0 where
+  pub are_rooms : AreRooms blocks boxes ws rooms
+  pub counted_is : count ≡ counted (length ws)
+
+-- the ways of a run's steps
+abbrev pub ways_in : Workpiece → List Passage → List Placed
+ways_in part ps = flat_map (placed_ways part) ps
+
+-- beside a run that begins with nothing known, the ways of these steps were tried
+abbrev pub HasTried : Workpiece → List ProbeBox → List Room → ℕ → Option (List ℕ) → List Room → ℕ → Option (List ℕ) → List Passage → Type 0
+HasTried part boxes rooms count old after sum new ps =
+    IsDone part.blocks boxes [] rooms count
+    → IsDone part.blocks boxes (ways_in part ps) after sum × Appends old new (run_lines part.blocks boxes true (ways_in part ps))
+
+-- and a write failed in the step behind them
+abbrev pub HasBroken : Workpiece → List ProbeBox → List Room → ℕ → Option (List ℕ) → Option (List ℕ) → List Passage → Passage → ClearanceFault → Type 0
+HasBroken part boxes rooms count old new ps p (faults.Write n) =
+    (n ≡ p.count) × (IsDone part.blocks boxes [] rooms count → AppendsFront old new (run_lines part.blocks boxes true (ways_in part (ps ++ p ∷ []))))
+HasBroken part boxes rooms count old new ps p f = ⊥
+
+-- the rooms of boxes before the first way
+abbrev pub opening : List ProbeBox → List Room
+opening boxes = map (λ b. Clear 50000 None) boxes

@@ -1,0 +1,221 @@
+//! The clearance of a run.
+
+ghost use Rattle.std.specs.Prelude.{◌≡◌, ◌++◌, IfOk, IfErr};
+ghost use Rattle.std.specs.List.{list_any};
+ghost use Rattle.vcm_num.specs.Written.{Wrote};
+ghost use Rattle.vcm_machine.specs.Running.{started, HasRun};
+ghost use Rattle.vcm_steps.specs.Passages.{passages, IsBroken};
+ghost use Rattle.vcm_clearance.specs.Clearance.{IsClearance, IsNotCleared};
+ghost use Rattle.vcm_clearance.specs.Printed.{ways_text, boxes_lines, end_line};
+ghost use Rattle.vcm_clearance.specs.Rooms.{is_met_room};
+ghost use Rattle.vcm_clearance.specs.inner.Following.{HasTried, HasBroken, opening};
+
+use crate::following::{Progress, Trier};
+use crate::printing::{write_boxes, write_end, write_ways};
+use crate::room::Room;
+use std::alloc::Global;
+use std::io::Write;
+use vcm_boxes::{Boxes, ProbeBox};
+use vcm_loader::Loaded;
+use vcm_machine::{End, Machine, Ran};
+use vcm_motion::Part;
+use vcm_num::{NoMemory, WriteFault};
+use vcm_part::PartData;
+use vcm_spec::StopPlace;
+use vcm_state::World;
+use vcm_steps::follow_run;
+
+/// The most micrometres by which the sides of a box are moved out.
+const WIDEST: u32 = 50_000;
+
+/// What a run with its boxes came to: whether a box meets a block, and the stop of the run, if it came to one.
+#[derive(Clone, Copy)]
+pub struct Cleared {
+    pub is_met: bool,
+    pub stop: Option<StopPlace>,
+}
+
+/// Why a clearance isn't written to its end.
+#[derive(Clone, Copy)]
+pub enum ClearanceFault {
+    /// A growth of memory was refused before the run. Nothing is written.
+    NoMemory,
+    /// A growth of memory was refused to an output line, after so many steps. The contacts in these are written.
+    Memory { done: u64 },
+    /// The writer failed, or took no byte, after so many steps. It has taken a front of the clearance that is not all.
+    Write { done: u64 },
+}
+
+// The rooms of boxes before the first way.
+fn opening_rooms(alloc: Global, boxes: &[ProbeBox]) -> Result<Vec<Room>, NoMemory>
+    ensures { IfOk result (λ r. r.items ≡ opening boxes.now) }
+{
+    let mut rooms = Vec::new(alloc);
+    for _tried in boxes {
+        rooms.push(Room::Clear(WIDEST, None))?;
+    }
+    Ok(rooms)
+}
+
+// Whether a box is met.
+fn is_met(room: &Room) -> bool
+    ensures { result ≡ is_met_room room.now }
+{
+    match room {
+        Room::Met(_) => true,
+        Room::Clear(_, _) => false,
+    }
+}
+
+// Whether one of them is.
+fn is_some_met(rooms: &[Room]) -> bool
+    ensures { result ≡ list_any is_met_room rooms.now }
+{
+    rooms.iter().any(|room| is_met(room))
+}
+
+// Writes the rooms, and how the run ended.
+fn write_rest<W: Write>(
+    boxes: &[ProbeBox],
+    rooms: &[Room],
+    world: &World,
+    done: u64,
+    writer: &mut W,
+) -> Result<(), WriteFault>
+    ensures { Wrote (W.contents writer.old) (W.contents writer.new)
+        (boxes_lines boxes.now rooms.now ++ end_line world.now.tables world.now.state.stop done) result }
+{
+    write_boxes(boxes, rooms, writer)?;
+    write_end(world.tables(), world.stop(), done, writer)
+}
+
+// Writes what comes behind the contacts.
+fn write_summary<W: Write>(
+    boxes: &[ProbeBox],
+    rooms: &[Room],
+    count: u64,
+    world: &World,
+    done: u64,
+    writer: &mut W,
+) -> Result<(), WriteFault>
+    ensures { Wrote (W.contents writer.old) (W.contents writer.new)
+        (ways_text count ++ (boxes_lines boxes.now rooms.now ++ end_line world.now.tables world.now.state.stop done)) result }
+{
+    write_ways(count, writer)?;
+    write_rest(boxes, rooms, world, done, writer)
+}
+
+// Follows a run with its boxes: how it went, and how many ways there were.
+fn try_run<P: Part, W: Write>(
+    alloc: Global,
+    loaded: &Loaded<'_>,
+    machine: &mut Machine<'_, P>,
+    trier: &Trier<'_, P>,
+    steps: u64,
+    rooms: &mut Vec<Room>,
+    writer: &mut W,
+) -> Result<(Ran, u64), ClearanceFault>
+    requires start { machine.old ≡ started machine.old.part loaded.now }
+    requires tie { P.part trier.now.part.now ≡ trier.now.blocks.now }
+    requires beside { machine.old.part ≡ trier.now.blocks.now }
+    ensures run { IfOk result (λ r. HasRun steps machine.old machine.new r.0) }
+    ensures has { IfOk result (λ r. HasTried trier.now.blocks.now trier.now.boxes.now rooms.old.items 0 (W.contents writer.old)
+        rooms.new.items r.1 (W.contents writer.new) (passages machine.old.part loaded.now r.0.done)) }
+    ensures err { IfErr result (λ f. IsBroken steps machine.old.part loaded.now
+        (λ ps p. HasBroken trier.now.blocks.now trier.now.boxes.now rooms.old.items 0 (W.contents writer.old) (W.contents writer.new) ps p f)) }
+{
+    // It is called for what it tells of the code: that it is valid.
+    let _count = loaded.statement_count();
+    let mut progress = Progress {
+        writer,
+        rooms,
+        count: 0,
+    };
+    match follow_run(alloc, loaded, machine, steps, trier, &mut progress) {
+        Ok(ran) => Ok((ran, progress.count)),
+        Err(fault) => Err(fault),
+    }
+}
+
+// Writes the clearance of a machine that stands at the start.
+fn clear_run<P: Part, W: Write>(
+    alloc: Global,
+    loaded: &Loaded<'_>,
+    machine: &mut Machine<'_, P>,
+    trier: &Trier<'_, P>,
+    steps: u64,
+    rooms: &mut Vec<Room>,
+    writer: &mut W,
+) -> Result<Cleared, ClearanceFault>
+    requires start { machine.old ≡ started machine.old.part loaded.now }
+    requires tie { P.part trier.now.part.now ≡ trier.now.blocks.now }
+    requires beside { machine.old.part ≡ trier.now.blocks.now }
+    requires rooms { rooms.old.items ≡ opening trier.now.boxes.now }
+    ensures cleared { IfOk result (λ t. IsClearance trier.now.blocks.now trier.now.boxes.now loaded.now steps t (W.contents writer.old) (W.contents writer.new)) }
+    ensures fault { IfErr result (λ f. IsNotCleared trier.now.blocks.now trier.now.boxes.now loaded.now steps f (W.contents writer.old) (W.contents writer.new)) }
+{
+    // It is called for what it tells of the workpiece: that it is valid.
+    let _bounds = trier.blocks.bounds();
+    let boxes = trier.boxes.as_slice();
+    let (ran, count) = match try_run(alloc, loaded, machine, trier, steps, rooms, writer) {
+        Ok(tried) => tried,
+        Err(fault) => return Err(fault),
+    };
+    let done = ran.done;
+    match ran.end {
+        End::NoMemory => return Err(ClearanceFault::Memory { done }),
+        End::Count => {}
+        End::Stopped => {}
+    }
+    let world = machine.world();
+    let known = rooms.as_slice();
+    match write_summary(boxes, known, count, world, done, writer) {
+        Ok(()) => Ok(Cleared {
+            is_met: is_some_met(known),
+            stop: world.stop(),
+        }),
+        Err(_) => Err(ClearanceFault::Write { done }),
+    }
+}
+
+/// Runs a loaded code for at most so many steps beside a workpiece, whose blocks are given too, tries boxes that are fixed to the tip on each way of the run, and writes
+/// as the steps are taken where a box enters a block; behind that how many ways there were, for each box on how many it meets a block, or how much room is left round it and
+/// where that is narrowest; and how the run ended. The tip alone decides the run. Fractions and contacts are exact; lengths are whole micrometres; ways are counted up to
+/// 18,446,744,073,709,551,615.
+///
+/// Errors: see `ClearanceFault`.
+pub fn clearance<P: Part, W: Write>(
+    alloc: Global,
+    loaded: &Loaded<'_>,
+    part: &P,
+    blocks: &PartData,
+    boxes: &Boxes,
+    steps: u64,
+    writer: &mut W,
+) -> Result<Cleared, ClearanceFault>
+    requires { P.part part.now ≡ blocks.now }
+    ensures cleared { IfOk result (λ t. IsClearance (P.part part.now) boxes.now loaded.now steps t (W.contents writer.old) (W.contents writer.new)) }
+    ensures fault { IfErr result (λ f. IsNotCleared (P.part part.now) boxes.now loaded.now steps f (W.contents writer.old) (W.contents writer.new)) }
+{
+    let Ok(mut rooms) = opening_rooms(alloc, boxes.as_slice()) else {
+        return Err(ClearanceFault::NoMemory);
+    };
+    let trier = Trier {
+        part,
+        blocks,
+        boxes,
+    };
+    let mut machine = match Machine::new(alloc, loaded, part) {
+        Ok(machine) => machine,
+        Err(_) => return Err(ClearanceFault::NoMemory),
+    };
+    clear_run(
+        alloc,
+        loaded,
+        &mut machine,
+        &trier,
+        steps,
+        &mut rooms,
+        writer,
+    )
+}

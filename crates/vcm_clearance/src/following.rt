@@ -1,0 +1,94 @@
+//! What tries boxes on the ways of a run.
+
+ghost use Rattle.std.specs.Prelude.{◌≡◌, refl, [], ◌∷◌, ◌++◌};
+ghost use Rattle.std.specs.Io.KnownBytes.{Appends};
+ghost use Rattle.vcm_num.specs.Written.{AppendsFront};
+ghost use Rattle.vcm_num.proofs.KnownWrites.{appends_nothing};
+ghost use Rattle.vcm_code.specs.Valid.{IsValid};
+ghost use Rattle.vcm_way.specs.Steps.{IsBefore};
+ghost use Rattle.vcm_clearance.specs.inner.Following.{HasTried, HasBroken};
+
+use crate::clearing::ClearanceFault;
+use crate::room::Room;
+use crate::rooms::Place;
+use crate::trying::try_ways;
+use std::io::Write;
+use vcm_boxes::Boxes;
+use vcm_fields::BorrowedStatement;
+use vcm_gone::ways_of_step;
+use vcm_motion::Part;
+use vcm_part::PartData;
+use vcm_state::World;
+use vcm_steps::Follows;
+use vcm_way::{Before, look, reason};
+
+/// What is known so far: the rooms of the boxes, and how many ways there were; and where contacts are written.
+#[derive(Drop)]
+pub(crate) struct Progress<'a, W: Write> {
+    pub(crate) writer: &'a mut W,
+    pub(crate) rooms: &'a mut Vec<Room>,
+    pub(crate) count: u64,
+}
+
+/// Tries boxes beside a workpiece, whose blocks are given too.
+#[derive(Clone, Copy)]
+pub(crate) struct Trier<'a, P: Part> {
+    pub(crate) part: &'a P,
+    pub(crate) blocks: &'a PartData,
+    pub(crate) boxes: &'a Boxes,
+}
+
+impl<'a, P: Part, W: Write> Follows<Progress<'a, W>> for Trier<'_, P> {
+    type Before = Before;
+
+    type Fault = ClearanceFault;
+
+    ghost Fits = { λ s part c. (P.part s.part.now ≡ s.blocks.now) × (part ≡ s.blocks.now) × IsValid c };
+
+    ghost Looked = { λ s b w statement. IsBefore s.blocks.now.bounds.home w statement b };
+
+    ghost Has = { λ s tables from to ps. (to.writer.ghost_name ≡ from.writer.ghost_name) × (to.rooms.ghost_name ≡ from.rooms.ghost_name)
+        × HasTried s.blocks.now s.boxes.now from.rooms.now.items from.count (W.contents from.writer.now) to.rooms.now.items to.count (W.contents to.writer.now) ps };
+
+    ghost Broke = { λ s tables from to ps p f. (to.writer.ghost_name ≡ from.writer.ghost_name) × (to.rooms.ghost_name ≡ from.rooms.ghost_name)
+        × HasBroken s.blocks.now s.boxes.now from.rooms.now.items from.count (W.contents from.writer.now) (W.contents to.writer.now) ps p f };
+
+    ghost nothing = { λ s tables x. (refl, refl, λ h. (h, appends_nothing (W.contents x.writer.now))) };
+
+    fn look(&self, world: &World, statement: &BorrowedStatement<'_>) -> Before {
+        look(world, self.blocks.bounds().home, statement)
+    }
+
+    fn see(
+        &self,
+        before: Before,
+        count: u64,
+        number: u32,
+        statement: &BorrowedStatement<'_>,
+        world: &World,
+        _next: u32,
+        to: &mut Progress<'a, W>,
+    ) -> Result<(), ClearanceFault> {
+        let ways = ways_of_step(self.part, self.blocks, &before, reason(world.stop()));
+        let place = Place {
+            step: count,
+            number,
+            line: statement.line,
+        };
+        match try_ways(
+            self.blocks,
+            self.boxes.as_slice(),
+            place,
+            ways.as_slice(),
+            to.count,
+            to.rooms,
+            to.writer,
+        ) {
+            Ok(sum) => {
+                to.count = sum;
+                Ok(())
+            }
+            Err(_) => Err(ClearanceFault::Write { done: count }),
+        }
+    }
+}

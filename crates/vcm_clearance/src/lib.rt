@@ -1,0 +1,16 @@
+//! The clearance of a probe in a run: which blocks the boxes that are fixed to its tip meet on the ways of the run, and how much room is left round those that meet none.
+//! Lengths are whole micrometres.
+#![tactic(auto)]
+
+mod clearing;
+mod following;
+pub mod laws;
+mod printing;
+mod room;
+mod rooms;
+mod told;
+mod trying;
+
+pub use clearing::{ClearanceFault, Cleared, clearance};
+pub use room::Room;
+pub use told::Told;

@@ -1,0 +1,262 @@
+//! Contacts and rooms as text. Nothing here takes memory.
+
+ghost use Rattle.std.specs.Prelude.{◌≡◌, ◌++◌, codes};
+ghost use Rattle.vcm_num.specs.Written.{Wrote};
+ghost use Rattle.vcm_clearance.specs.Printed.{going_text, position_text, place_text, hit_text, met_text, where_text, told_text, contact_line, ways_text, met_line, clear_line, more_text, narrow_line, box_lines, boxes_lines, no_stop_text, end_line};
+
+use crate::room::Room;
+use crate::told::Told;
+use itoa::Buffer;
+use std::io::Write;
+use vcm_boxes::ProbeBox;
+use vcm_marks::Going;
+use vcm_num::{Point, WriteFault, thousandths_text, write_all, write_pieces};
+use vcm_report::write_stop_line;
+use vcm_spec::{Hit, StopPlace};
+use vcm_tables::Tables;
+
+// The word of a way.
+fn going_text(going: Going) -> &'static [u8]
+    ensures { result.now ≡ going_text going }
+{
+    match going {
+        Going::Move => b"MOVE",
+        Going::Approach => b"APPROACH",
+        Going::Search => b"SEARCH",
+        Going::Retract => b"RETRACT",
+        Going::Rest => b"REST",
+    }
+}
+
+// Writes how a way is gone, and what is met on it.
+fn write_hit<W: Write>(word: &[u8], hit: Hit, writer: &mut W) -> Result<(), WriteFault>
+    ensures { Wrote (W.contents writer.old) (W.contents writer.new) (hit_text word.now hit) result }
+{
+    let mut block = Buffer::new();
+    let mut permille = Buffer::new();
+    let block = block.format(hit.block).as_bytes();
+    let permille = permille.format(hit.permille).as_bytes();
+    write_pieces(
+        writer,
+        &[b" ", word, b" block ", block, b" permille ", permille],
+    )
+}
+
+// Writes what a box of this name meets.
+fn write_met<W: Write>(name: &[u8], told: &Told, writer: &mut W) -> Result<(), WriteFault>
+    ensures { Wrote (W.contents writer.old) (W.contents writer.new) (met_text name.now told.now) result }
+{
+    write_all(writer, name)?;
+    write_hit(going_text(told.going), told.contact.hit, writer)
+}
+
+// Writes where in the run that is.
+fn write_place<W: Write>(told: &Told, writer: &mut W) -> Result<(), WriteFault>
+    ensures { Wrote (W.contents writer.old) (W.contents writer.new) (place_text told.now) result }
+{
+    let mut number = Buffer::new();
+    let mut line = Buffer::new();
+    let mut step = Buffer::new();
+    let number = number.format(told.number).as_bytes();
+    let line = line.format(told.line).as_bytes();
+    let step = step.format(told.step).as_bytes();
+    write_pieces(writer, &[b" at ", number, b" line ", line, b" step ", step])
+}
+
+// Writes where the tip then stands, and ends the line.
+fn write_position<W: Write>(at: Point, writer: &mut W) -> Result<(), WriteFault>
+    ensures { Wrote (W.contents writer.old) (W.contents writer.new) (position_text at) result }
+{
+    let Point([x, y, z]) = at;
+    let x = thousandths_text(x);
+    let y = thousandths_text(y);
+    let z = thousandths_text(z);
+    write_pieces(
+        writer,
+        &[
+            b" position ",
+            x.as_slice(),
+            b" ",
+            y.as_slice(),
+            b" ",
+            z.as_slice(),
+            b"\n",
+        ],
+    )
+}
+
+// Writes where a contact is, and ends the line.
+fn write_where<W: Write>(told: &Told, writer: &mut W) -> Result<(), WriteFault>
+    ensures { Wrote (W.contents writer.old) (W.contents writer.new) (where_text told.now) result }
+{
+    write_place(told, writer)?;
+    write_position(told.contact.at, writer)
+}
+
+// Writes a contact, and ends the line.
+fn write_told<W: Write>(name: &[u8], told: &Told, writer: &mut W) -> Result<(), WriteFault>
+    ensures { Wrote (W.contents writer.old) (W.contents writer.new) (told_text name.now told.now) result }
+{
+    write_met(name, told, writer)?;
+    write_where(told, writer)
+}
+
+// Writes the line of a contact.
+fn write_contact_line<W: Write>(name: &[u8], told: &Told, writer: &mut W) -> Result<(), WriteFault>
+    ensures { Wrote (W.contents writer.old) (W.contents writer.new) (codes "contact " ++ told_text name.now told.now) result }
+{
+    write_all(writer, b"contact ")?;
+    write_told(name, told, writer)
+}
+
+/// Writes the line of a contact of a box with this name, if there is one.
+///
+/// Errors: the writer failed, or took no byte; then it has taken a front of the line, and not all of it.
+pub(crate) fn write_contact<W: Write>(
+    name: &[u8],
+    told: Option<Told>,
+    writer: &mut W,
+) -> Result<(), WriteFault>
+    ensures { Wrote (W.contents writer.old) (W.contents writer.new) (contact_line name.now told) result }
+{
+    match told {
+        None => Ok(()),
+        Some(told) => write_contact_line(name, &told, writer),
+    }
+}
+
+/// Writes how many ways there are.
+///
+/// Errors: the writer failed, or took no byte; then it has taken a front of the line, and not all of it.
+pub(crate) fn write_ways<W: Write>(count: u64, writer: &mut W) -> Result<(), WriteFault>
+    ensures { Wrote (W.contents writer.old) (W.contents writer.new) (ways_text count) result }
+{
+    let mut digits = Buffer::new();
+    write_pieces(writer, &[b"ways ", digits.format(count).as_bytes(), b"\n"])
+}
+
+// Writes that a box is met.
+fn write_met_line<W: Write>(name: &[u8], count: u64, writer: &mut W) -> Result<(), WriteFault>
+    ensures { Wrote (W.contents writer.old) (W.contents writer.new) (met_line name.now count) result }
+{
+    let mut digits = Buffer::new();
+    let count = digits.format(count).as_bytes();
+    write_pieces(writer, &[b"box ", name, b" met ", count, b"\n"])
+}
+
+// Writes how much room is left.
+fn write_clear_line<W: Write>(name: &[u8], by: u32, writer: &mut W) -> Result<(), WriteFault>
+    ensures { Wrote (W.contents writer.old) (W.contents writer.new) (clear_line name.now by) result }
+{
+    let mut digits = Buffer::new();
+    let by = digits.format(by).as_bytes();
+    write_pieces(writer, &[b"box ", name, b" clear ", by, b"\n"])
+}
+
+// Writes with how much more a box meets a block.
+fn write_more<W: Write>(by: u32, writer: &mut W) -> Result<(), WriteFault>
+    ensures { Wrote (W.contents writer.old) (W.contents writer.new) (more_text by) result }
+{
+    let more = u64::from(by) + 1;
+    let mut digits = Buffer::new();
+    write_pieces(writer, &[b"at ", digits.format(more).as_bytes(), b" "])
+}
+
+// Writes what it then meets.
+fn write_narrow_line<W: Write>(
+    name: &[u8],
+    by: u32,
+    told: &Told,
+    writer: &mut W,
+) -> Result<(), WriteFault>
+    ensures { Wrote (W.contents writer.old) (W.contents writer.new) (more_text by ++ told_text name.now told.now) result }
+{
+    write_more(by, writer)?;
+    write_told(name, told, writer)
+}
+
+// The same, if it meets a block.
+fn write_narrow<W: Write>(
+    name: &[u8],
+    by: u32,
+    told: Option<Told>,
+    writer: &mut W,
+) -> Result<(), WriteFault>
+    ensures { Wrote (W.contents writer.old) (W.contents writer.new) (narrow_line name.now by told) result }
+{
+    match told {
+        None => Ok(()),
+        Some(told) => write_narrow_line(name, by, &told, writer),
+    }
+}
+
+// Writes the room round a box that meets no block.
+fn write_clear<W: Write>(
+    name: &[u8],
+    by: u32,
+    told: Option<Told>,
+    writer: &mut W,
+) -> Result<(), WriteFault>
+    ensures { Wrote (W.contents writer.old) (W.contents writer.new) (clear_line name.now by ++ narrow_line name.now by told) result }
+{
+    write_clear_line(name, by, writer)?;
+    write_narrow(name, by, told, writer)
+}
+
+// Writes the lines of a box.
+fn write_box<W: Write>(name: &[u8], room: Room, writer: &mut W) -> Result<(), WriteFault>
+    ensures { Wrote (W.contents writer.old) (W.contents writer.new) (box_lines name.now room) result }
+{
+    match room {
+        Room::Met(count) => write_met_line(name, count, writer),
+        Room::Clear(by, told) => write_clear(name, by, told, writer),
+    }
+}
+
+/// Writes the lines of boxes with their rooms.
+///
+/// Errors: the writer failed, or took no byte; then it has taken a front of the lines, and not all of them.
+pub(crate) fn write_boxes<W: Write>(
+    boxes: &[ProbeBox],
+    rooms: &[Room],
+    writer: &mut W,
+) -> Result<(), WriteFault>
+    ensures { Wrote (W.contents writer.old) (W.contents writer.new) (boxes_lines boxes.now rooms.now) result }
+{
+    match boxes.split_first() {
+        None => Ok(()),
+        Some((first, boxes)) => match rooms.split_first() {
+            None => Ok(()),
+            Some((room, rooms)) => match write_box(first.name.as_bytes(), *room, writer) {
+                Ok(()) => write_boxes(boxes, rooms, writer),
+                Err(fault) => Err(fault),
+            },
+        },
+    }
+}
+
+// Writes that there was no stop.
+fn write_no_stop<W: Write>(done: u64, writer: &mut W) -> Result<(), WriteFault>
+    ensures { Wrote (W.contents writer.old) (W.contents writer.new) (no_stop_text done) result }
+{
+    let mut steps = Buffer::new();
+    let steps = steps.format(done).as_bytes();
+    write_pieces(writer, &[b"no stop after ", steps, b" steps\n"])
+}
+
+/// Writes how a run ended: its stop, or after how many steps there was none.
+///
+/// Errors: the writer failed, or took no byte; then it has taken a front of the line, and not all of it.
+pub(crate) fn write_end<W: Write>(
+    tables: &Tables,
+    stop: Option<StopPlace>,
+    done: u64,
+    writer: &mut W,
+) -> Result<(), WriteFault>
+    ensures { Wrote (W.contents writer.old) (W.contents writer.new) (end_line tables.now stop done) result }
+{
+    match stop {
+        Some(place) => write_stop_line(tables, place, writer),
+        None => write_no_stop(done, writer),
+    }
+}

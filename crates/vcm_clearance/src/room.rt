@@ -1,0 +1,12 @@
+//! How much room is left round a box.
+
+use crate::told::Told;
+
+/// What is known of a box.
+#[derive(Clone, Copy)]
+pub enum Room {
+    /// On so many ways it meets a block.
+    Met(u64),
+    /// It meets none, and none with all its sides moved out by so many micrometres, at most 50,000; and the first contact with one more, if there may be more.
+    Clear(u32, Option<Told>),
+}

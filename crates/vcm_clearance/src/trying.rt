@@ -1,0 +1,87 @@
+//! Boxes, tried on the ways of one step.
+
+ghost use Rattle.std.specs.Prelude.{◌≡◌, ◌+◌, min, List, [], ◌∷◌, ◌++◌, IfOk, IfErr};
+ghost use Rattle.std.specs.Io.KnownBytes.{Appends};
+ghost use Rattle.vcm_num.specs.Written.{AppendsFront};
+ghost use Rattle.vcm_boxes.specs.Boxes.{AreBoxes};
+ghost use Rattle.vcm_gone.specs.Gone.{Placed};
+ghost use Rattle.vcm_clearance.specs.Rooms.{most, AreRooms};
+ghost use Rattle.vcm_clearance.specs.Printed.{way_lines, run_lines};
+ghost use Rattle.vcm_clearance.specs.inner.Following.{IsPlaced, ArePlaced, IsDone, is_empty};
+
+use crate::printing::write_contact;
+use crate::room::Room;
+use crate::rooms::{Place, next_room, told_on};
+use std::io::Write;
+use vcm_boxes::ProbeBox;
+use vcm_gone::Gone;
+use vcm_num::WriteFault;
+use vcm_part::PartData;
+
+// A count and one more; 64 bits count no more than they count.
+pub(crate) fn one_more(count: u64) -> u64
+    ensures { result ≡ min (count + 1) most }
+{
+    if count == u64::MAX { count } else { count + 1 }
+}
+
+// Tries all boxes on one way, and writes what is told of them.
+fn try_way<W: Write>(
+    blocks: &PartData,
+    boxes: &[ProbeBox],
+    place: Place,
+    gone: &Gone,
+    is_first: bool,
+    rooms: &mut Vec<Room>,
+    writer: &mut W,
+) -> Result<(), WriteFault>
+    requires { AreBoxes boxes.now }
+    ensures ok { IfOk result (λ u. (ws : List Placed) (p : Placed) → IsPlaced place gone.now p → AreRooms blocks.now.blocks boxes.now ws rooms.old.items
+        → AreRooms blocks.now.blocks boxes.now (ws ++ p ∷ []) rooms.new.items
+        × Appends (W.contents writer.old) (W.contents writer.new) (way_lines blocks.now.blocks boxes.now is_first p)) }
+    ensures err { IfErr result (λ f. (ws : List Placed) (p : Placed) → IsPlaced place gone.now p → AreRooms blocks.now.blocks boxes.now ws rooms.old.items
+        → AppendsFront (W.contents writer.old) (W.contents writer.new) (way_lines blocks.now.blocks boxes.now is_first p)) }
+{
+    for (index, tried) in boxes.iter().enumerate() {
+        // Each box has a room.
+        let Some(room) = rooms.get(index) else {
+            return Ok(());
+        };
+        let room = next_room(blocks, &tried.block, *room, place, gone);
+        let told = told_on(blocks, &tried.block, room, place, gone, is_first);
+        rooms[index] = room;
+        write_contact(tried.name.as_bytes(), told, writer)?;
+    }
+    Ok(())
+}
+
+/// Tries all boxes on the ways of a step, behind so many ways of the run, and writes what is told of them. It answers how many ways there are with these.
+///
+/// Errors: the writer failed, or took no byte; then it has taken a front of the lines, and not all of them.
+pub(crate) fn try_ways<W: Write>(
+    blocks: &PartData,
+    boxes: &[ProbeBox],
+    place: Place,
+    ways: &[Gone],
+    count: u64,
+    rooms: &mut Vec<Room>,
+    writer: &mut W,
+) -> Result<u64, WriteFault>
+    requires { AreBoxes boxes.now }
+    ensures ok { IfOk result (λ n. (ws ps : List Placed) → ArePlaced place ways.now ps → IsDone blocks.now.blocks boxes.now ws rooms.old.items count
+        → IsDone blocks.now.blocks boxes.now (ws ++ ps) rooms.new.items n
+        × Appends (W.contents writer.old) (W.contents writer.new) (run_lines blocks.now.blocks boxes.now (is_empty ws) ps)) }
+    ensures err { IfErr result (λ f. (ws ps : List Placed) → ArePlaced place ways.now ps → IsDone blocks.now.blocks boxes.now ws rooms.old.items count
+        → AppendsFront (W.contents writer.old) (W.contents writer.new) (run_lines blocks.now.blocks boxes.now (is_empty ws) ps)) }
+{
+    match ways.split_first() {
+        None => Ok(count),
+        Some((first, behind)) => {
+            let is_first = count == 0;
+            match try_way(blocks, boxes, place, first, is_first, rooms, writer) {
+                Ok(()) => try_ways(blocks, boxes, place, behind, one_more(count), rooms, writer),
+                Err(fault) => Err(fault),
+            }
+        }
+    }
+}

@@ -1,0 +1,252 @@
+//! What is shown of a run: its result, its views and its page, on the standard devices.
+
+use crate::command_line::{Asked, steps_of};
+use crate::program::{fails, output, part_of, status_after, written};
+use std::alloc::Global;
+use std::fmt::{self, Write as _};
+use std::io::{Read, Write};
+use std::rt::Files;
+use vcm_boxes::{Boxes, BoxesFault, read_boxes};
+use vcm_job::{Done, ReadFault, RunFault, read_all, run};
+use vcm_messages::{Message, probe_message, run_message};
+use vcm_num::{Point, write_all};
+use vcm_page::{Texts, page_of};
+use vcm_part::PartData;
+use vcm_viewer::{back, front};
+use vcm_views::{View, view_of};
+
+// Why the boxes of a file aren't read.
+#[derive(Drop)]
+enum Unread {
+    Refused(BoxesFault),
+    Device,
+    TooLong,
+}
+
+/// What is shown of a run.
+#[derive(Clone, Copy)]
+pub(crate) enum Shown<'a> {
+    Result,
+    View(View<'a>),
+    Page,
+    /// The page, with boxes that are fixed to the tip.
+    PageWith(&'a Boxes),
+}
+
+/// Where boxes are shown.
+#[derive(Clone, Copy)]
+pub(crate) enum BoxesIn {
+    Clearance,
+    Page,
+}
+
+// The boxes of a file.
+fn boxes_of<R: Files + AllocGlobal>(rt: &R, name: &str) -> Result<Boxes, Unread> {
+    let Ok(mut file) = std::fs::open(rt, name) else {
+        return Err(Unread::Device);
+    };
+    let bytes = match read_all(rt.alloc(), &mut file) {
+        Ok(bytes) => bytes,
+        Err(ReadFault::NoMemory) => return Err(Unread::Refused(BoxesFault::NoMemory)),
+        Err(ReadFault::Device) => return Err(Unread::Device),
+        Err(ReadFault::TooLong) => return Err(Unread::TooLong),
+    };
+    match read_boxes(rt.alloc(), &bytes) {
+        Ok(boxes) => Ok(boxes),
+        Err(fault) => Err(Unread::Refused(fault)),
+    }
+}
+
+// Tells why a probe file isn't read, and gives the exit status.
+fn tell_unread<R: Eprint>(rt: &R, unread: &Unread, name: &str) -> u8 {
+    match unread {
+        Unread::Refused(fault) => fails(rt, probe_message(fault)),
+        Unread::Device => fails(rt, Message::Read { name }),
+        Unread::TooLong => fails(rt, Message::TooLong),
+    }
+}
+
+// Writes the page of a run of the program or image that a reader gives.
+fn write_page<R: Read, W: Write>(
+    alloc: Global,
+    part: &PartData,
+    reader: &mut R,
+    steps: u64,
+    writer: &mut W,
+) -> Result<Done, RunFault> {
+    let front = front();
+    let back = back();
+    let texts = Texts {
+        front: &front,
+        back: &back,
+    };
+    page_of(alloc, part, texts, reader, steps, writer)
+}
+
+// The boxes as lines: Q, their names and their corners in micrometres.
+fn box_lines(alloc: Global, boxes: &Boxes) -> Result<String, fmt::Error> {
+    let mut text = String::new(alloc);
+    for tried in boxes.as_slice() {
+        let name = std::str::from_utf8(tried.name.as_bytes()).unwrap_or("");
+        let Point([a, b, c]) = tried.block.low;
+        let Point([d, e, f]) = tried.block.high;
+        writeln!(text, "Q {name} {a} {b} {c} {d} {e} {f}")?;
+    }
+    Ok(text)
+}
+
+// Writes bytes to memory.
+fn put(out: &mut Vec<u8>, bytes: &[u8]) -> Result<(), RunFault> {
+    match write_all(out, bytes) {
+        Ok(()) => Ok(()),
+        Err(_) => Err(RunFault::NoMemory),
+    }
+}
+
+// The element of a page that tells of boxes: their lines, and their clearance in the run of an input.
+fn boxes_element(
+    alloc: Global,
+    part: &PartData,
+    boxes: &Boxes,
+    input: &[u8],
+    steps: u64,
+) -> Result<Vec<u8>, RunFault> {
+    let Ok(lines) = box_lines(alloc, boxes) else {
+        return Err(RunFault::NoMemory);
+    };
+    let mut out = Vec::new(alloc);
+    put(
+        &mut out,
+        b"<script type=\"text/plain\" id=\"probe-boxes\">\n",
+    )?;
+    put(&mut out, lines.as_bytes())?;
+    let mut reader = input;
+    match view_of(
+        alloc,
+        View::Clearance(boxes),
+        part,
+        &mut reader,
+        steps,
+        &mut out,
+    ) {
+        Ok(_) => {}
+        Err(RunFault::Write { .. }) => return Err(RunFault::NoMemory),
+        Err(fault) => return Err(fault),
+    }
+    put(&mut out, b"</script>\n")?;
+    Ok(out)
+}
+
+// What stands behind the story of a page with boxes: their element, and then what always does.
+fn back_with<'a>(alloc: Global, element: &'a [u8]) -> Result<Vec<&'a [u8]>, RunFault> {
+    let mut pieces = Vec::new(alloc);
+    let Ok(()) = pieces.push(element) else {
+        return Err(RunFault::NoMemory);
+    };
+    match pieces.extend_from_slice(&back()) {
+        Ok(()) => Ok(pieces),
+        Err(_) => Err(RunFault::NoMemory),
+    }
+}
+
+// Writes the page of a run, with boxes that are fixed to the tip. The input is read once, and its run is made three times: for the boxes, to count its steps, and for the page.
+fn write_page_with<R: Read, W: Write>(
+    alloc: Global,
+    part: &PartData,
+    boxes: &Boxes,
+    reader: &mut R,
+    steps: u64,
+    writer: &mut W,
+) -> Result<Done, RunFault> {
+    let input = read_all(alloc, reader)?;
+    let element = boxes_element(alloc, part, boxes, &input, steps)?;
+    let back = back_with(alloc, &element)?;
+    let front = front();
+    let texts = Texts {
+        front: &front,
+        back: &back,
+    };
+    let mut again = input.as_slice();
+    page_of(alloc, part, texts, &mut again, steps, writer)
+}
+
+// Writes what is shown of a run of the program or image that a reader gives.
+fn show<R: Read, W: Write>(
+    alloc: Global,
+    shown: Shown<'_>,
+    part: &PartData,
+    reader: &mut R,
+    steps: u64,
+    writer: &mut W,
+) -> Result<Done, RunFault> {
+    match shown {
+        Shown::Result => run(alloc, part, reader, steps, writer),
+        Shown::View(view) => view_of(alloc, view, part, reader, steps, writer),
+        Shown::Page => write_page(alloc, part, reader, steps, writer),
+        Shown::PageWith(boxes) => write_page_with(alloc, part, boxes, reader, steps, writer),
+    }
+}
+
+// Prints what is shown of a run of the program or image of a file.
+fn show_file<'a, R: Files + Print + AllocGlobal>(
+    rt: &R,
+    shown: Shown<'_>,
+    part: &PartData,
+    input: &'a str,
+    steps: u64,
+) -> Result<Done, Message<'a>> {
+    let Ok(mut file) = std::fs::open(rt, input) else {
+        return Err(Message::Read { name: input });
+    };
+    let mut out = output(rt)?;
+    let done = show(rt.alloc(), shown, part, &mut file, steps, &mut out);
+    written(&mut out, done.map_err(|fault| run_message(fault, input)))
+}
+
+// The number of steps and the workpiece of a run, judged in this order.
+fn given_of<'a, R: Files + AllocGlobal>(
+    rt: &R,
+    asked: Asked<'a>,
+) -> Result<(u64, PartData), Message<'a>> {
+    let Some(steps) = steps_of(asked.steps) else {
+        return Err(Message::Steps);
+    };
+    match part_of(rt, asked.part) {
+        Ok(part) => Ok((steps, part)),
+        Err(message) => Err(message),
+    }
+}
+
+/// Prints what is shown of a run, and gives the exit status.
+pub(crate) fn show_run<R: Files + Print + Eprint + AllocGlobal>(
+    rt: &R,
+    shown: Shown<'_>,
+    asked: Asked<'_>,
+) -> u8 {
+    match given_of(rt, asked) {
+        Ok((steps, part)) => status_after(rt, show_file(rt, shown, &part, asked.input, steps)),
+        Err(message) => fails(rt, message),
+    }
+}
+
+/// Prints what the boxes of a file come to in a run, and gives the exit status. They are judged behind the workpiece.
+pub(crate) fn show_boxes<R: Files + Print + Eprint + AllocGlobal>(
+    rt: &R,
+    shown_in: BoxesIn,
+    asked: Asked<'_>,
+    probe: &str,
+) -> u8 {
+    let (steps, part) = match given_of(rt, asked) {
+        Ok(given) => given,
+        Err(message) => return fails(rt, message),
+    };
+    let boxes = match boxes_of(rt, probe) {
+        Ok(boxes) => boxes,
+        Err(unread) => return tell_unread(rt, &unread, probe),
+    };
+    let shown = match shown_in {
+        BoxesIn::Clearance => Shown::View(View::Clearance(&boxes)),
+        BoxesIn::Page => Shown::PageWith(&boxes),
+    };
+    status_after(rt, show_file(rt, shown, &part, asked.input, steps))
+}
