@@ -131,6 +131,9 @@ int open(const char *name, int flags, ...) {
 
 int close(int file) { return 0; }
 
+// No file is a terminal.
+int isatty(int file) { return 0; }
+
 long lseek(int file, long at, int from) {
   error = NO_SEEK;
   return -1;

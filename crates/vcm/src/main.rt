@@ -2,9 +2,14 @@
 //! text, a line that is exactly `%%`, and the program text; it writes the result of the run on standard output.
 #![tactic(auto)]
 
+use std::io::IsTerminal;
 use std::process::ExitCode;
-use vcm_command::status;
+use vcm_command::{Terminals, status};
 
 fn main(rt: HostRuntime) -> ExitCode {
-    ExitCode::from(status(&rt))
+    let terminals = Terminals {
+        input: rt.stdin().is_terminal(),
+        errors: rt.stderr().is_terminal(),
+    };
+    ExitCode::from(status(&rt, terminals))
 }

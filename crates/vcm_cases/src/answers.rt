@@ -1,6 +1,7 @@
 //! What vcm answers: what it prints, then its notices or its fault, then its exit status.
 
 use crate::tips::is_told_by_its_box;
+use crate::ways::comes_to_the_same;
 use std::alloc::Global;
 use std::fmt::Write as _;
 use vcm_boxes::{Boxes, read_boxes};
@@ -14,17 +15,23 @@ use vcm_motion::Strips;
 use vcm_page::{Texts, page_of};
 use vcm_part::PartData;
 use vcm_program::Noticed;
+use vcm_prompt::{Prompts, debug_by_hand};
 use vcm_run::{run_text, write_result};
 use vcm_survey::{GivenFrame, Options, Shape, adapt, survey};
 use vcm_views::{View, view_of};
 
-// A fault, and its exit status.
-fn told(alloc: Global, message: Message<'_>) -> Option<String> {
+/// A fault, and its exit status.
+pub(crate) fn told(alloc: Global, message: Message<'_>) -> Option<String> {
     format!(in alloc; "{message}\nstatus {}\n", status_of(message)).ok()
 }
 
-// What was printed, the lines that have no effect, and the exit status.
-fn printed(alloc: Global, out: &[u8], notices: &[Noticed], status: u8) -> Option<String> {
+/// What was printed, the lines that have no effect, and the exit status.
+pub(crate) fn printed(
+    alloc: Global,
+    out: &[u8],
+    notices: &[Noticed],
+    status: u8,
+) -> Option<String> {
     let mut text = String::from_str(alloc, std::str::from_utf8(out).ok()?).ok()?;
     for notice in notices {
         let line = notice.line;
@@ -58,13 +65,15 @@ fn is_printed_by_strips(
     }
 }
 
-// What the run of a program beside a workpiece answers; none where it is another answer with the blocks in strips, or where the box that is the tip tells anything else.
+// What the run of a program beside a workpiece answers; none where it is another answer with the blocks in strips, from the
+// program's image, in its trace or in the debugger, or where the box that is the tip tells anything else.
 fn run_beside(alloc: Global, part: &PartData, program: &str, steps: u64) -> Option<String> {
     let mut input = program.as_bytes();
     let mut out = Vec::new(alloc);
     match run(alloc, part, &mut input, steps, &mut out) {
         Ok(done) => if is_printed_by_strips(alloc, part, program, steps, &out)
             && is_told_by_its_box(alloc, part, program, steps, &out)
+            && comes_to_the_same(alloc, part, program, steps, &out, done.status)
         {
             printed(alloc, &out, done.notices.as_slice(), done.status)
         } else {
@@ -270,6 +279,31 @@ pub(crate) fn replies(alloc: Global, part: &str, program: &str, commands: &str) 
             Some(text)
         }
     }
+}
+
+// Prompts that nobody sees.
+#[derive(Clone, Copy)]
+struct Unseen;
+
+impl Prompts for Unseen {
+    fn prompt(&self) {}
+}
+
+/// What the debugger answers to these lines, typed by hand, on a program beside the workpiece of a part file.
+pub(crate) fn talked(alloc: Global, part: &str, program: &str, lines: &str) -> Option<String> {
+    let mut file = part.as_bytes();
+    let part = part_from(alloc, &mut file).ok()?;
+    let mut lines = lines.as_bytes();
+    let mut out = Vec::new(alloc);
+    let done = debug_by_hand(
+        alloc,
+        &part,
+        program.as_bytes(),
+        &mut lines,
+        &mut out,
+        &Unseen,
+    );
+    printed(alloc, &out, done.ok()?.as_slice(), 0)
 }
 
 // Whether the image of a listing is that of a program.

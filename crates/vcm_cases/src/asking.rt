@@ -79,6 +79,11 @@ fn asked(alloc: Global, request: Request<'_>) -> Option<String> {
             format!(in alloc; "build program={program} image={image}").ok()
         }
         Request::Run(asked) => run_asked(alloc, "run", asked),
+        Request::Why(asked) => run_asked(alloc, "why", asked),
+        Request::Values { asked, names } => {
+            let name = format!(in alloc; "run show={names}").ok()?;
+            run_asked(alloc, &name, asked)
+        }
         Request::View(view, asked) => run_asked(alloc, name_of(view), asked),
         Request::Page { asked, probe: None } => run_asked(alloc, "view", asked),
         Request::Page {
@@ -93,6 +98,7 @@ fn asked(alloc: Global, request: Request<'_>) -> Option<String> {
         Request::Asm { listing, image } => {
             format!(in alloc; "asm listing={listing} image={image}").ok()
         }
+        Request::Part { part } => format!(in alloc; "part part={part}").ok(),
         Request::Explain { words } => {
             let words = words.join(alloc, " ").ok()?;
             format!(in alloc; "explain words={words}").ok()

@@ -7,9 +7,13 @@ mod asking;
 mod explained;
 mod faults;
 mod messages;
+mod parts;
+mod reasons;
 mod script;
+mod shown;
 mod tally;
 mod tips;
+mod ways;
 
 use crate::script::Script;
 use std::process::ExitCode;

@@ -2,11 +2,14 @@
 
 use crate::answers::{
     adapt_answer, asm_answer, check_answer, clearance_answer, image, image_answer, listing,
-    replies, run_answer, story_answer, survey_answer, view_answer,
+    replies, run_answer, story_answer, survey_answer, talked, view_answer,
 };
 use crate::asking::{explain_answer, words_answer};
 use crate::explained::judge_examples;
 use crate::messages::messages;
+use crate::parts::{notices_answer, part_answer};
+use crate::reasons::why_answer;
+use crate::shown::shown_answer;
 use crate::tally::{MARK, Tally};
 use std::alloc::Global;
 use std::fmt::Write as _;
@@ -34,8 +37,16 @@ enum Heading {
     View(View<'static>, u64),
     /// What the clearance of the probe's boxes answers after so many steps at most.
     Clearance(u64),
+    /// Why a run stops where it does, after so many steps at most; that of the program's image, or of its text.
+    Why(u64, bool),
     /// What stands in the page of a run between the fixed texts, after so many steps at most.
     Story(u64),
+    /// What a run answers that shows variables at its end.
+    Shown,
+    /// What is told of the part file.
+    PartTold,
+    /// What is told of all notices in one line.
+    Notices,
     /// What a check answers.
     Check,
     /// What a survey tells.
@@ -44,6 +55,8 @@ enum Heading {
     Adapt,
     /// What the debugger answers.
     Replies,
+    /// What the debugger answers to lines that are typed.
+    Talked,
     /// The listing.
     Listing,
     /// The bytes of the image.
@@ -100,7 +113,10 @@ fn heading_with(word: &str, rest: &str) -> Heading {
         "picture" => view_heading(View::Picture { is_close: false }, rest),
         "close" => view_heading(View::Picture { is_close: true }, rest),
         "clearance" => clearance_heading(rest),
+        "why" => why_heading(rest, false),
+        "why-image" => why_heading(rest, true),
         "story" => story_heading(rest),
+        "shown" => Heading::Shown,
         "survey" => Heading::Survey,
         "adapt" => Heading::Adapt,
         "refused" => Heading::Refused,
@@ -130,6 +146,14 @@ fn clearance_heading(steps: &str) -> Heading {
     }
 }
 
+// The heading of a stop that is told.
+fn why_heading(steps: &str, is_image: bool) -> Heading {
+    match steps.parse::<u64>() {
+        Ok(steps) => Heading::Why(steps, is_image),
+        Err(_) => Heading::Unknown,
+    }
+}
+
 // The heading of a view.
 fn view_heading(view: View<'static>, steps: &str) -> Heading {
     match steps.parse::<u64>() {
@@ -155,8 +179,11 @@ fn heading_word(title: &str) -> Heading {
         "program" => Heading::Program,
         "statements" => Heading::Statements,
         "commands" => Heading::Commands,
+        "part-told" => Heading::PartTold,
+        "notices" => Heading::Notices,
         "check" => Heading::Check,
         "replies" => Heading::Replies,
+        "talked" => Heading::Talked,
         "listing" => Heading::Listing,
         "image" => Heading::Image,
         "assembled" => Heading::Assembled,
@@ -175,11 +202,23 @@ fn answer(alloc: Global, script: &Script) -> Option<String> {
         Heading::Clearance(steps) => {
             clearance_answer(alloc, &script.part, &script.probe, &script.program, steps)
         }
+        Heading::Why(steps, is_image) => {
+            why_answer(alloc, &script.part, &script.program, steps, is_image)
+        }
         Heading::Story(steps) => story_answer(alloc, &script.part, &script.program, steps),
+        Heading::Shown => shown_answer(
+            alloc,
+            &script.part,
+            &script.program,
+            behind_word(&script.title),
+        ),
+        Heading::PartTold => part_answer(alloc, &script.part),
+        Heading::Notices => notices_answer(alloc, &script.program),
         Heading::Check => check_answer(alloc, &script.program),
         Heading::Survey => survey_answer(alloc, &script.program, behind_word(&script.title)),
         Heading::Adapt => adapt_answer(alloc, &script.program, behind_word(&script.title)),
         Heading::Replies => replies(alloc, &script.part, &script.program, &script.commands),
+        Heading::Talked => talked(alloc, &script.part, &script.program, &script.commands),
         Heading::Listing => listing(alloc, &script.program),
         Heading::Image => image(alloc, &script.program),
         Heading::Messages => messages(alloc, behind_word(&script.title)),

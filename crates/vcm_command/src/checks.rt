@@ -3,6 +3,7 @@
 use crate::command_line::Checks;
 use crate::producing::{bytes_of, print_bytes, tell_bytes};
 use crate::program::{fails, notice_line};
+use crate::talking::Voice;
 use std::alloc::Global;
 use std::fmt::Write as _;
 use std::rt::Files;
@@ -12,6 +13,7 @@ use vcm_messages::{Message, check_message, status_of};
 use vcm_num::NoMemory;
 use vcm_program::Noticed;
 use vcm_survey::faults_of;
+use vcm_telling::summary_line;
 use vcm_tree::accept;
 
 // A program that is checked: its name, and what stands in front of what is told of it.
@@ -20,6 +22,7 @@ struct Checked<'a> {
     name: &'a str,
     is_named: bool,
     is_all: bool,
+    voice: Voice,
 }
 
 // The bytes of a program, or of standard input.
@@ -64,6 +67,27 @@ fn tell_notice<R: Eprint>(rt: &R, checked: Checked<'_>, notice: &Noticed) {
     };
 }
 
+// Tells the lines that have no effect: each of them, all in one line, or none.
+fn tell_notices<R: Eprint + AllocGlobal>(rt: &R, checked: Checked<'_>, notices: &[Noticed]) {
+    if checked.voice.is_quiet || notices.is_empty() {
+        return;
+    }
+    if checked.voice.is_summary {
+        if let Ok(line) = summary_line(rt.alloc(), notices) {
+            let name = checked.name;
+            let _ = if checked.is_named {
+                eprint!(rt; "{name}: {line}")
+            } else {
+                eprint!(rt; "{line}")
+            };
+            return;
+        }
+    }
+    for notice in notices {
+        tell_notice(rt, checked, notice);
+    }
+}
+
 // The line that tells how many statements a program has.
 fn count_line(alloc: Global, checked: Checked<'_>, count: usize) -> Result<String, NoMemory> {
     let mut line = String::new(alloc);
@@ -92,9 +116,7 @@ fn tell_accepted<R: Print + Eprint + AllocGlobal>(
     if let Err(message) = print_bytes(rt, line.as_bytes()) {
         return tell_fault(rt, checked, message);
     }
-    for notice in notices {
-        tell_notice(rt, checked, notice);
-    }
+    tell_notices(rt, checked, notices);
     0
 }
 
@@ -144,6 +166,7 @@ fn is_name(word: &str, are_all: bool) -> bool {
 /// Checks programs one after another, and gives the greatest exit status: 1 where one is refused.
 pub(crate) fn check_all<R: Files + Input + Print + Eprint + AllocGlobal>(
     rt: &R,
+    voice: Voice,
     asked: Checks<'_>,
 ) -> u8 {
     let mut status = 0;
@@ -154,6 +177,7 @@ pub(crate) fn check_all<R: Files + Input + Print + Eprint + AllocGlobal>(
                 name: word.as_str(),
                 is_named: asked.are_several,
                 is_all: asked.is_all,
+                voice,
             };
             status = check_one(rt, checked).max(status);
         } else if word.as_str() == "--" {

@@ -1,5 +1,6 @@
 //! The command line.
 
+use crate::manner::{Manner, PLAIN, manner_of, with_manner};
 use clap::{Arg, ArgAction, ArgMatches, Command, Error};
 use std::alloc::Global;
 use vcm_usage::{More, Usage, Word, usages};
@@ -25,6 +26,13 @@ pub enum Request<'a> {
     },
     /// `run INPUT PART [--steps N]`: the result of a run.
     Run(Asked<'a>),
+    /// `why INPUT PART [--steps N]`: why a run stops where it does.
+    Why(Asked<'a>),
+    /// `run INPUT PART --show NAMES [--steps N]`: the result of a run, and the values of variables.
+    Values {
+        asked: Asked<'a>,
+        names: &'a str,
+    },
     /// `trace`, `margin` or `points`, then `INPUT PART [--steps N]`, or `picture INPUT PART [--steps N] [--close]`: a view of a run.
     View(View<'static>, Asked<'a>),
     /// `view INPUT PART [--steps N] [--probe PROBE]`: the page of a run, with the boxes of the probe in this file, if one is given.
@@ -50,6 +58,10 @@ pub enum Request<'a> {
     Asm {
         listing: &'a str,
         image: &'a str,
+    },
+    /// `part PART`: the workpiece in this file, as it was read.
+    Part {
+        part: &'a str,
     },
     /// `explain [WORD ..]`: what a code or a message means.
     Explain {
@@ -163,6 +175,14 @@ fn steps_option<'a>(alloc: Global) -> Arg<'a> {
         .help("The most steps, 0 to 1000000000; 1000000 if not given")
 }
 
+// `--show NAMES`.
+fn show_option<'a>(alloc: Global) -> Arg<'a> {
+    Arg::new(alloc, "show")
+        .long("show")
+        .action(ArgAction::Set)
+        .help("Variables whose values are printed at the end, with commas between them, as I,R#2")
+}
+
 // `--close`.
 fn close_option<'a>(alloc: Global) -> Arg<'a> {
     Arg::new(alloc, "close")
@@ -236,10 +256,14 @@ fn with_words<'a>(alloc: Global, usage: Usage) -> Result<Command<'a>, Error> {
 
 // The command, with all that it takes.
 fn subcommand_of<'a>(alloc: Global, usage: Usage) -> Result<Command<'a>, Error> {
-    let command = with_words(alloc, usage)?;
+    let command = with_manner(alloc, usage.name, with_words(alloc, usage)?)?;
     match usage.more {
         More::Nothing => Ok(command),
         More::Steps => Ok(command.arg(steps_option(alloc))?),
+        More::StepsAndShow => {
+            let command = command.arg(steps_option(alloc))?;
+            Ok(command.arg(show_option(alloc))?)
+        }
         More::StepsAndClose => {
             let command = command.arg(steps_option(alloc))?;
             Ok(command.arg(close_option(alloc))?)
@@ -360,7 +384,11 @@ fn adapt_request<'a>(behind: &ArgMatches<'a>, words: &'a [String]) -> Request<'a
 fn run_request<'a>(name: &str, behind: &ArgMatches<'a>) -> Option<Request<'a>> {
     let asked = run_asked(behind);
     match name {
-        "run" => Some(Request::Run(asked)),
+        "run" => match behind.get_str("show") {
+            Some(names) => Some(Request::Values { asked, names }),
+            None => Some(Request::Run(asked)),
+        },
+        "why" => Some(Request::Why(asked)),
         "trace" => Some(Request::View(View::Trace, asked)),
         "margin" => Some(Request::View(View::Margin, asked)),
         "points" => Some(Request::View(View::Points, asked)),
@@ -389,6 +417,9 @@ fn file_request<'a>(name: &str, behind: &ArgMatches<'a>) -> Request<'a> {
         },
         "debug" => Request::Debug {
             input: word(behind, "INPUT"),
+            part: word(behind, "PART"),
+        },
+        "part" => Request::Part {
             part: word(behind, "PART"),
         },
         "list" => Request::List {
@@ -427,16 +458,27 @@ fn words_to_explain(words: &[String]) -> Option<&[String]> {
     }
 }
 
+/// The request of a command line, whose first word is the program's name, and how much is to be told.
+///
+/// Errors: a wrong command line, a request for help or the version, or want of memory.
+pub(crate) fn asked_of<'a>(
+    alloc: Global,
+    words: &'a [String],
+) -> Result<(Request<'a>, Manner), Error> {
+    if let Some(words) = words_to_explain(words) {
+        return Ok((Request::Explain { words }, PLAIN));
+    }
+    let matches = command_of(alloc, words.len() > 1)?.try_get_matches_from(words)?;
+    match matches.subcommand() {
+        Some((name, behind)) => Ok((request_behind(name, behind, words), manner_of(name, behind))),
+        None => Ok((Request::Job, PLAIN)),
+    }
+}
+
 /// The request of a command line, whose first word is the program's name.
 ///
 /// Errors: a wrong command line, a request for help or the version, or want of memory.
 pub fn request_of<'a>(alloc: Global, words: &'a [String]) -> Result<Request<'a>, Error> {
-    if let Some(words) = words_to_explain(words) {
-        return Ok(Request::Explain { words });
-    }
-    let matches = command_of(alloc, words.len() > 1)?.try_get_matches_from(words)?;
-    match matches.subcommand() {
-        Some((name, behind)) => Ok(request_behind(name, behind, words)),
-        None => Ok(Request::Job),
-    }
+    let (request, _) = asked_of(alloc, words)?;
+    Ok(request)
 }

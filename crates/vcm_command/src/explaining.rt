@@ -1,5 +1,6 @@
 //! Explanations, on the standard devices.
 
+use crate::closing::fails_unless_closed;
 use crate::program::{fails, output, written};
 use std::alloc::Global;
 use std::fmt::Write as _;
@@ -129,6 +130,6 @@ fn explained<R: Print + Eprint + AllocGlobal>(
 pub(crate) fn explain<R: Print + Eprint + AllocGlobal>(rt: &R, words: &[String]) -> u8 {
     match explained(rt, words) {
         Ok(status) => status,
-        Err(message) => fails(rt, message),
+        Err(message) => fails_unless_closed(rt, message),
     }
 }

@@ -2,11 +2,22 @@
 #![tactic(auto)]
 
 mod checks;
+mod closing;
 mod command_line;
 mod explaining;
+mod hand;
+mod jobs;
+mod manner;
+mod parts;
 mod producing;
 mod program;
 mod showing;
+mod talking;
+mod values;
+mod why;
 
 pub use command_line::{Asked, Checks, Produced, Request, Wanted, request_of, steps_of};
+pub use manner::Manner;
 pub use program::status;
+pub use talking::Terminals;
+pub use why::write_why;

@@ -1,5 +1,6 @@
 //! Producers' texts: what is told of them, and what they are adapted to.
 
+use crate::closing::fails_unless_closed;
 use crate::command_line::{Produced, Wanted};
 use crate::program::{fails, output, part_of, written};
 use std::alloc::Global;
@@ -214,7 +215,7 @@ fn tell_findings<R: Print + Eprint + AllocGlobal>(
     name: &str,
 ) -> u8 {
     if let Err(message) = print_bytes(rt, findings.text.as_slice()) {
-        return fails(rt, message);
+        return fails_unless_closed(rt, message);
     }
     tell_bytes(rt, findings.warnings.as_slice());
     if findings.is_clean {
@@ -231,7 +232,7 @@ fn tell_adaptation<R: Print + Eprint + AllocGlobal>(
     name: &str,
 ) -> u8 {
     if let Err(message) = print_bytes(rt, adaptation.text.as_slice()) {
-        return fails(rt, message);
+        return fails_unless_closed(rt, message);
     }
     tell_bytes(rt, adaptation.warnings.as_slice());
     let status = status_of_text(rt, adaptation.text.as_slice(), name);

@@ -1,14 +1,18 @@
 //! The program: its words are read, and the command is carried out on the standard devices and files.
 
 use crate::checks::check_all;
-use crate::command_line::{Request, request_of};
+use crate::command_line::{Request, asked_of};
 use crate::explaining::explain;
+use crate::hand::debug_typed;
+use crate::jobs::talk_job;
+use crate::parts::{part_of as told_part_of, show_part};
 use crate::producing::produced;
 use crate::showing::{BoxesIn, Shown, show_boxes, show_run};
+use crate::talking::{Terminals, Voice, fails_in, fails_twice, tell_notices, voice_of};
+use crate::values::show_values;
 use clap::Error;
 use clap::error::ErrorKind;
 use std::alloc::Global;
-use std::fmt::{self, Write as _};
 use std::io::{self, BufWriter, Printer, Read, Write};
 use std::rt::{Env, Files};
 use vcm_job::{Done, asm, build, check, debug, job, list, part_from};
@@ -59,34 +63,15 @@ pub(crate) fn notice_line(notice: &Noticed) -> NoticeLine<'static> {
     }
 }
 
-// The lines that have no effect, as they are printed.
-fn notice_text(alloc: Global, notices: &[Noticed]) -> Result<String, fmt::Error> {
-    let mut text = String::new(alloc);
-    for notice in notices {
-        writeln!(text, "{}", notice_line(notice))?;
-    }
-    Ok(text)
-}
-
-// Tells the lines that have no effect on standard error, at once where there is memory.
-fn tell_notices<R: Eprint + AllocGlobal>(rt: &R, notices: &[Noticed]) {
-    match notice_text(rt.alloc(), notices) {
-        Ok(text) => {
-            let _ = eprint!(rt; "{text}");
-        }
-        Err(_) => {
-            for notice in notices {
-                let _ = eprintln!(rt; "{}", notice_line(notice));
-            }
-        }
-    }
-}
-
 // The exit status of a run that was done, whose lines without effect are told.
-pub(crate) fn status_after<R: Eprint + AllocGlobal>(rt: &R, done: Result<Done, Message<'_>>) -> u8 {
+pub(crate) fn status_after<R: Eprint + AllocGlobal>(
+    rt: &R,
+    voice: Voice,
+    done: Result<Done, Message<'_>>,
+) -> u8 {
     match done {
         Ok(done) => {
-            tell_notices(rt, done.notices.as_slice());
+            tell_notices(rt, voice, done.notices.as_slice());
             done.status
         }
         Err(message) => fails(rt, message),
@@ -96,11 +81,12 @@ pub(crate) fn status_after<R: Eprint + AllocGlobal>(rt: &R, done: Result<Done, M
 // The exit status where no run was asked for, the lines without effect being told.
 fn status_of_notices<R: Eprint + AllocGlobal>(
     rt: &R,
+    voice: Voice,
     done: Result<Vec<Noticed>, Message<'_>>,
 ) -> u8 {
     match done {
         Ok(notices) => {
-            tell_notices(rt, notices.as_slice());
+            tell_notices(rt, voice, notices.as_slice());
             0
         }
         Err(message) => fails(rt, message),
@@ -131,6 +117,7 @@ fn check_file<'a, R: Files + Print + AllocGlobal>(
 // in the file, which is none. The file is let go before anything is told: where standard error is closed, the file may have its number.
 fn write_image<R: Files + Eprint + AllocGlobal>(
     rt: &R,
+    voice: Voice,
     name: &str,
     image: &[u8],
     notices: &[Noticed],
@@ -142,7 +129,7 @@ fn write_image<R: Files + Eprint + AllocGlobal>(
     drop(file);
     match done {
         Ok(()) => {
-            tell_notices(rt, notices);
+            tell_notices(rt, voice, notices);
             0
         }
         Err(_) => fails(rt, Message::Write { name }),
@@ -150,12 +137,17 @@ fn write_image<R: Files + Eprint + AllocGlobal>(
 }
 
 // Writes the image of a file's program to another file, and gives the exit status.
-fn build_file<R: Files + Eprint + AllocGlobal>(rt: &R, name: &str, image: &str) -> u8 {
+fn build_file<R: Files + Eprint + AllocGlobal>(
+    rt: &R,
+    voice: Voice,
+    name: &str,
+    image: &str,
+) -> u8 {
     let Ok(mut file) = std::fs::open(rt, name) else {
         return fails(rt, Message::Read { name });
     };
     match build(rt.alloc(), &mut file) {
-        Ok(built) => write_image(rt, image, &built.image, built.notices.as_slice()),
+        Ok(built) => write_image(rt, voice, image, &built.image, built.notices.as_slice()),
         Err(fault) => fails(rt, build_message(fault, name)),
     }
 }
@@ -174,12 +166,12 @@ fn list_file<'a, R: Files + Print + AllocGlobal>(
 }
 
 // Writes the image of a file's listing to another file, and gives the exit status.
-fn asm_file<R: Files + Eprint + AllocGlobal>(rt: &R, name: &str, image: &str) -> u8 {
+fn asm_file<R: Files + Eprint + AllocGlobal>(rt: &R, voice: Voice, name: &str, image: &str) -> u8 {
     let Ok(mut file) = std::fs::open(rt, name) else {
         return fails(rt, Message::Read { name });
     };
     match asm(rt.alloc(), &mut file) {
-        Ok(bytes) => write_image(rt, image, &bytes, &[]),
+        Ok(bytes) => write_image(rt, voice, image, &bytes, &[]),
         Err(fault) => fails(rt, asm_message(fault, name)),
     }
 }
@@ -198,14 +190,14 @@ pub(crate) fn part_of<'a, R: Files + AllocGlobal>(
     }
 }
 
-// Answers the commands of standard input on the program or image of a file beside the workpiece of another one, which is judged first. Each
-// reply is handed on at once. A read of no byte shows whether standard input is open: where it is closed, the file would get its number.
-fn debug_file<'a, R: Files + Input + Print + AllocGlobal>(
+// Answers the commands of standard input on the program or image of a file beside a workpiece. Each reply is handed on at once. A read of no
+// byte shows whether standard input is open: where it is closed, the file would get its number.
+fn debug_beside<'a, R: Files + Input + Print + Eprint + AllocGlobal>(
     rt: &R,
+    voice: Voice,
     name: &'a str,
-    part: &'a str,
+    part: &PartData,
 ) -> Result<Vec<Noticed>, Message<'a>> {
-    let part = part_of(rt, part)?;
     let Ok(_) = rt.reader().read(&mut []) else {
         return Err(Message::Read {
             name: "standard input",
@@ -215,8 +207,33 @@ fn debug_file<'a, R: Files + Input + Print + AllocGlobal>(
         return Err(Message::Read { name });
     };
     let mut out = output(rt)?;
-    let done = debug(rt.alloc(), &part, &mut file, &mut rt.reader(), &mut out);
+    let done = if voice.is_by_hand {
+        debug_typed(rt, part, &mut file, &mut out)
+    } else {
+        debug(rt.alloc(), part, &mut file, &mut rt.reader(), &mut out)
+    };
     written(&mut out, done.map_err(|fault| debug_message(fault, name)))
+}
+
+// Answers the commands of standard input on the program or image of a file beside the workpiece of another one, which is judged first, and gives the
+// exit status.
+fn debug_file<R: Files + Input + Print + Eprint + AllocGlobal>(
+    rt: &R,
+    voice: Voice,
+    name: &str,
+    part: &str,
+) -> u8 {
+    let part = match told_part_of(rt, voice, part) {
+        Ok(part) => part,
+        Err(told) => return fails_twice(rt, &told),
+    };
+    match debug_beside(rt, voice, name, &part) {
+        Ok(notices) => {
+            tell_notices(rt, voice, notices.as_slice());
+            0
+        }
+        Err(message) => fails_in(rt, voice, message, name),
+    }
 }
 
 // Answers a request for help or the version on standard output, tells a wrong command line on standard error, and gives the exit status.
@@ -227,6 +244,7 @@ fn tell_usage<R: Print + Eprint>(rt: &R, error: &Error) -> u8 {
     match (error.print(rt), error.use_stderr()) {
         (_, true) => 2,
         (Ok(()), false) => 0,
+        (Err(error), false) if error.kind() == io::ErrorKind::BrokenPipe => 0,
         (Err(_), false) => fails(
             rt,
             Message::Write {
@@ -247,33 +265,51 @@ fn words_of<R: Env + AllocGlobal>(rt: &R) -> Result<Vec<String>, Message<'static
     }
 }
 
+// Carries out a request, and gives the exit status.
+fn carry_out<R: Files + Input + Print + Eprint + AllocGlobal>(
+    rt: &R,
+    voice: Voice,
+    request: Request<'_>,
+) -> u8 {
+    match request {
+        Request::Job => status_after(rt, voice, run_job(rt)),
+        Request::Check { program } => status_of_notices(rt, voice, check_file(rt, program)),
+        Request::Checks(asked) => check_all(rt, voice, asked),
+        Request::Produced(asked) => produced(rt, asked),
+        Request::Build { program, image } => build_file(rt, voice, program, image),
+        Request::Run(asked) => show_run(rt, voice, Shown::Result, asked),
+        Request::Why(asked) => show_run(rt, voice, Shown::Why, asked),
+        Request::Values { asked, names } => show_values(rt, voice, asked, names),
+        Request::View(view, asked) => show_run(rt, voice, Shown::View(view), asked),
+        Request::Page { asked, probe: None } => show_run(rt, voice, Shown::Page, asked),
+        Request::Page {
+            asked,
+            probe: Some(probe),
+        } => show_boxes(rt, voice, BoxesIn::Page, asked, probe),
+        Request::Clearance { asked, probe } => {
+            show_boxes(rt, voice, BoxesIn::Clearance, asked, probe)
+        }
+        Request::Debug { input, part } => debug_file(rt, voice, input, part),
+        Request::List { input } => status_of_notices(rt, voice, list_file(rt, input)),
+        Request::Asm { listing, image } => asm_file(rt, voice, listing, image),
+        Request::Part { part } => show_part(rt, voice, part),
+        Request::Explain { words } => explain(rt, words),
+    }
+}
+
 /// Carries out what the command line asks for, and gives the exit status: 0 done, or the program ended; 1 refused; 2 a wrong command line; 3
-/// another stop; 4 the step limit; 5 want of memory; 6 a device.
-pub fn status<R: Env + Files + Input + Print + Eprint + AllocGlobal>(rt: &R) -> u8 {
+/// another stop; 4 the step limit; 5 want of memory; 6 a device. At a terminal it tells more on standard error.
+pub fn status<R: Env + Files + Input + Print + Eprint + AllocGlobal>(
+    rt: &R,
+    terminals: Terminals,
+) -> u8 {
     let words = match words_of(rt) {
         Ok(words) => words,
         Err(message) => return fails(rt, message),
     };
-    match request_of(rt.alloc(), words.as_slice()) {
-        Ok(Request::Job) => status_after(rt, run_job(rt)),
-        Ok(Request::Check { program }) => status_of_notices(rt, check_file(rt, program)),
-        Ok(Request::Checks(asked)) => check_all(rt, asked),
-        Ok(Request::Produced(asked)) => produced(rt, asked),
-        Ok(Request::Build { program, image }) => build_file(rt, program, image),
-        Ok(Request::Run(asked)) => show_run(rt, Shown::Result, asked),
-        Ok(Request::View(view, asked)) => show_run(rt, Shown::View(view), asked),
-        Ok(Request::Page { asked, probe: None }) => show_run(rt, Shown::Page, asked),
-        Ok(
-            Request::Page {
-                asked,
-                probe: Some(probe),
-            },
-        ) => show_boxes(rt, BoxesIn::Page, asked, probe),
-        Ok(Request::Clearance { asked, probe }) => show_boxes(rt, BoxesIn::Clearance, asked, probe),
-        Ok(Request::Debug { input, part }) => status_of_notices(rt, debug_file(rt, input, part)),
-        Ok(Request::List { input }) => status_of_notices(rt, list_file(rt, input)),
-        Ok(Request::Asm { listing, image }) => asm_file(rt, listing, image),
-        Ok(Request::Explain { words }) => explain(rt, words),
+    match asked_of(rt.alloc(), words.as_slice()) {
+        Ok((Request::Job, _)) if terminals.errors => talk_job(rt, terminals),
+        Ok((request, manner)) => carry_out(rt, voice_of(&request, manner, terminals), request),
         Err(error) => tell_usage(rt, &error),
     }
 }

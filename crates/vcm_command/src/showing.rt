@@ -1,7 +1,10 @@
 //! What is shown of a run: its result, its views and its page, on the standard devices.
 
 use crate::command_line::{Asked, steps_of};
-use crate::program::{fails, output, part_of, status_after, written};
+use crate::parts::part_of;
+use crate::program::{fails, output, status_after, written};
+use crate::talking::{Told, Voice, alone, fails_in, fails_in_view, fails_twice};
+use crate::why::write_why;
 use std::alloc::Global;
 use std::fmt::{self, Write as _};
 use std::io::{Read, Write};
@@ -27,6 +30,7 @@ enum Unread {
 #[derive(Clone, Copy)]
 pub(crate) enum Shown<'a> {
     Result,
+    Why,
     View(View<'a>),
     Page,
     /// The page, with boxes that are fixed to the tip.
@@ -58,9 +62,9 @@ fn boxes_of<R: Files + AllocGlobal>(rt: &R, name: &str) -> Result<Boxes, Unread>
 }
 
 // Tells why a probe file isn't read, and gives the exit status.
-fn tell_unread<R: Eprint>(rt: &R, unread: &Unread, name: &str) -> u8 {
+fn tell_unread<R: Eprint>(rt: &R, voice: Voice, unread: &Unread, name: &str) -> u8 {
     match unread {
-        Unread::Refused(fault) => fails(rt, probe_message(fault)),
+        Unread::Refused(fault) => fails_in(rt, voice, probe_message(fault), name),
         Unread::Device => fails(rt, Message::Read { name }),
         Unread::TooLong => fails(rt, Message::TooLong),
     }
@@ -180,6 +184,7 @@ fn show<R: Read, W: Write>(
     writer: &mut W,
 ) -> Result<Done, RunFault> {
     match shown {
+        Shown::Why => write_why(alloc, part, reader, steps, writer),
         Shown::Result => run(alloc, part, reader, steps, writer),
         Shown::View(view) => view_of(alloc, view, part, reader, steps, writer),
         Shown::Page => write_page(alloc, part, reader, steps, writer),
@@ -203,50 +208,69 @@ fn show_file<'a, R: Files + Print + AllocGlobal>(
     written(&mut out, done.map_err(|fault| run_message(fault, input)))
 }
 
-// The number of steps and the workpiece of a run, judged in this order.
-fn given_of<'a, R: Files + AllocGlobal>(
+/// The number of steps and the workpiece of a run, judged in this order.
+pub(crate) fn given_of<'a, R: Files + Eprint + AllocGlobal>(
     rt: &R,
+    voice: Voice,
     asked: Asked<'a>,
-) -> Result<(u64, PartData), Message<'a>> {
+) -> Result<(u64, PartData), Told<'a>> {
     let Some(steps) = steps_of(asked.steps) else {
-        return Err(Message::Steps);
+        return Err(alone(Message::Steps));
     };
-    match part_of(rt, asked.part) {
+    match part_of(rt, voice, asked.part) {
         Ok(part) => Ok((steps, part)),
-        Err(message) => Err(message),
+        Err(told) => Err(told),
+    }
+}
+
+// Prints what is shown of a run beside a workpiece, and gives the exit status.
+fn show_beside<R: Files + Print + Eprint + AllocGlobal>(
+    rt: &R,
+    voice: Voice,
+    shown: Shown<'_>,
+    part: &PartData,
+    input: &str,
+    steps: u64,
+) -> u8 {
+    match (shown, show_file(rt, shown, part, input, steps)) {
+        (_, Ok(done)) => status_after(rt, voice, Ok(done)),
+        (Shown::Result, Err(message)) => fails_in(rt, voice, message, input),
+        (_, Err(message)) => fails_in_view(rt, voice, message, input),
     }
 }
 
 /// Prints what is shown of a run, and gives the exit status.
 pub(crate) fn show_run<R: Files + Print + Eprint + AllocGlobal>(
     rt: &R,
+    voice: Voice,
     shown: Shown<'_>,
     asked: Asked<'_>,
 ) -> u8 {
-    match given_of(rt, asked) {
-        Ok((steps, part)) => status_after(rt, show_file(rt, shown, &part, asked.input, steps)),
-        Err(message) => fails(rt, message),
+    match given_of(rt, voice, asked) {
+        Ok((steps, part)) => show_beside(rt, voice, shown, &part, asked.input, steps),
+        Err(told) => fails_twice(rt, &told),
     }
 }
 
 /// Prints what the boxes of a file come to in a run, and gives the exit status. They are judged behind the workpiece.
 pub(crate) fn show_boxes<R: Files + Print + Eprint + AllocGlobal>(
     rt: &R,
+    voice: Voice,
     shown_in: BoxesIn,
     asked: Asked<'_>,
     probe: &str,
 ) -> u8 {
-    let (steps, part) = match given_of(rt, asked) {
+    let (steps, part) = match given_of(rt, voice, asked) {
         Ok(given) => given,
-        Err(message) => return fails(rt, message),
+        Err(told) => return fails_twice(rt, &told),
     };
     let boxes = match boxes_of(rt, probe) {
         Ok(boxes) => boxes,
-        Err(unread) => return tell_unread(rt, &unread, probe),
+        Err(unread) => return tell_unread(rt, voice, &unread, probe),
     };
     let shown = match shown_in {
         BoxesIn::Clearance => Shown::View(View::Clearance(&boxes)),
         BoxesIn::Page => Shown::PageWith(&boxes),
     };
-    status_after(rt, show_file(rt, shown, &part, asked.input, steps))
+    show_beside(rt, voice, shown, &part, asked.input, steps)
 }

@@ -13,7 +13,7 @@ _vcm_place() {
   local i place=0
   for ((i = 2; i < COMP_CWORD; i++)); do
     case ${COMP_WORDS[i]} in
-      --steps | --probe | --tip | --part | --frame) ((i++)) ;;
+      --steps | --show | --probe | --tip | --part | --frame) ((i++)) ;;
       -*) ;;
       *) ((place++)) ;;
     esac
@@ -24,16 +24,25 @@ _vcm() {
   local word=${COMP_WORDS[COMP_CWORD]} command=${COMP_WORDS[1]}
   COMPREPLY=()
   if [ "$COMP_CWORD" -eq 1 ]; then
-    COMPREPLY=($(compgen -W "check survey adapt build run trace margin points clearance picture view debug list asm explain help --help --version" -- "$word"))
+    COMPREPLY=($(compgen -W "check survey adapt build run why trace margin points clearance picture view part debug list asm explain help --help --version" -- "$word"))
     return
   fi
   case $command in
-    run | trace | margin | points | clearance)
+    run)
       if [ "${COMP_WORDS[COMP_CWORD-1]}" = --steps ]; then
         return
       fi
       if [[ $word == -* ]]; then
-        COMPREPLY=($(compgen -W "--steps --help" -- "$word"))
+        COMPREPLY=($(compgen -W "--steps --show --talk --quiet --help" -- "$word"))
+        return
+      fi
+      ;;
+    why | trace | margin | points | clearance)
+      if [ "${COMP_WORDS[COMP_CWORD-1]}" = --steps ]; then
+        return
+      fi
+      if [[ $word == -* ]]; then
+        COMPREPLY=($(compgen -W "--steps --quiet --help" -- "$word"))
         return
       fi
       ;;
@@ -42,7 +51,7 @@ _vcm() {
         return
       fi
       if [[ $word == -* ]]; then
-        COMPREPLY=($(compgen -W "--steps --probe --help" -- "$word"))
+        COMPREPLY=($(compgen -W "--steps --probe --quiet --help" -- "$word"))
         return
       fi
       ;;
@@ -51,13 +60,31 @@ _vcm() {
         return
       fi
       if [[ $word == -* ]]; then
-        COMPREPLY=($(compgen -W "--steps --close --help" -- "$word"))
+        COMPREPLY=($(compgen -W "--steps --close --quiet --help" -- "$word"))
         return
       fi
       ;;
     check)
       if [[ $word == -* ]]; then
-        COMPREPLY=($(compgen -W "--all --help" -- "$word"))
+        COMPREPLY=($(compgen -W "--all --talk --quiet --help" -- "$word"))
+        return
+      fi
+      ;;
+    build | debug | list)
+      if [[ $word == -* ]]; then
+        COMPREPLY=($(compgen -W "--talk --quiet --help" -- "$word"))
+        return
+      fi
+      ;;
+    asm)
+      if [[ $word == -* ]]; then
+        COMPREPLY=($(compgen -W "--talk --help" -- "$word"))
+        return
+      fi
+      ;;
+    part)
+      if [[ $word == -* ]]; then
+        COMPREPLY=($(compgen -W "--quiet --help" -- "$word"))
         return
       fi
       ;;
@@ -68,7 +95,7 @@ _vcm() {
       fi
       ;;
     help)
-      COMPREPLY=($(compgen -W "check survey adapt build run trace margin points clearance picture view debug list asm explain" -- "$word"))
+      COMPREPLY=($(compgen -W "check survey adapt build run why trace margin points clearance picture view part debug list asm explain" -- "$word"))
       return
       ;;
     explain)
@@ -85,7 +112,7 @@ _vcm() {
       _vcm_files "$word" toml
       return
       ;;
-    --tip | --frame)
+    --tip | --frame | --show)
       return
       ;;
   esac
@@ -93,10 +120,10 @@ _vcm() {
     check:* | survey:0 | adapt:0 | build:0)
       _vcm_files "$word" dmi dmis
       ;;
-    run:0 | trace:0 | margin:0 | points:0 | clearance:0 | picture:0 | view:0 | debug:0 | list:0)
+    run:0 | why:0 | trace:0 | margin:0 | points:0 | clearance:0 | picture:0 | view:0 | debug:0 | list:0)
       _vcm_files "$word" dmi dmis vcmi
       ;;
-    run:1 | trace:1 | margin:1 | points:1 | clearance:[12] | picture:1 | view:1 | debug:1)
+    part:0 | run:1 | why:1 | trace:1 | margin:1 | points:1 | clearance:[12] | picture:1 | view:1 | debug:1)
       _vcm_files "$word" toml
       ;;
     build:1 | asm:*)

@@ -104,8 +104,9 @@ command_of_words w a =
     else (if bytes_eq w (codes "list") then with c.List (optional_number a)
     else (if bytes_eq w (codes "out") then with c.Out (count_of 10 a)
     else (if bytes_eq w (codes "back") then with c.Back (count_of 1 a)
+    else (if bytes_eq w (codes "reverse") then alone c.Reverse a
     else (if bytes_eq w (codes "quit") then alone c.Quit a
-    else Err UnknownCommand)))))))))))))
+    else Err UnknownCommand))))))))))))))
 
 -- a command, or the reply that refuses it
 abbrev pub replied : Result Command CommandRefusal → Result Command Reply

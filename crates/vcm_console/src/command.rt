@@ -76,5 +76,6 @@ pub enum Command {
     List(Option<u64>),
     Out(Count),
     Back(Count),
+    Reverse,
     Quit,
 }

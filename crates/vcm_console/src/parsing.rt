@@ -224,6 +224,8 @@ fn command_of(word: &[u8], argument: &[u8]) -> Result<Command, CommandRefusal>
         Ok(Command::Out(count(10, argument)?))
     } else if is(word, b"back") {
         Ok(Command::Back(count(1, argument)?))
+    } else if is(word, b"reverse") {
+        alone(Command::Reverse, argument)
     } else if is(word, b"quit") {
         alone(Command::Quit, argument)
     } else {

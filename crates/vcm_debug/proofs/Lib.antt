@@ -4,6 +4,8 @@ pub mod Coming
 pub mod Lines
 pub mod Sessions
 pub mod RunEnding
+pub mod Backwards
+pub mod Flags
 pub mod Copies
 pub mod KeptLines
 pub mod Exchanges

@@ -74,6 +74,30 @@ run_end breakpoints watches (suc k) done now =
       | None ↦ run_end breakpoints watches k (suc done) (later 1 now)
     ]
 
+-- the last of the first k steps from the machine `start` after which a run would have ended, and why
+abbrev pub last_end : List Bool → List Bool → Running → ℕ → Option RunEnd
+last_end breakpoints watches start zero = None
+last_end breakpoints watches start (suc k) =
+    elim (reason_after breakpoints watches start k) [
+      | Some why ↦ Some (ends_after (suc k) why)
+      | None ↦ last_end breakpoints watches start k
+    ]
+
+-- behind none of the first k steps from the machine `start` a run would have ended
+abbrev pub HasNoEnd : List Bool → List Bool → Running → ℕ → Type 0
+HasNoEnd breakpoints watches start k = (i : ℕ) → i < k → reason_after breakpoints watches start i ≡ None
+
+-- of the first k steps from the machine `start`, the one behind j others is the last after which a run would have ended, and this is why
+pub record IsLastEnd (breakpoints watches : List Bool) (start : Running) (k j : ℕ) (why : Reason) : Type 0 where
+  pub within : j < k
+  pub found : reason_after breakpoints watches start j ≡ Some why
+  pub none_later : (i : ℕ) → j < i → i < k → reason_after breakpoints watches start i ≡ None
+
+-- running back over the first k steps from the machine `start` ends so: at the last of these ends, or there is none
+abbrev pub EndsLast : List Bool → List Bool → Running → ℕ → Option RunEnd → Type 0
+EndsLast breakpoints watches start k None = HasNoEnd breakpoints watches start k
+EndsLast breakpoints watches start k (Some e) = (j : ℕ) × (e.steps ≡ suc j) × IsLastEnd breakpoints watches start k j e.why
+
 -- how many of k steps are taken at a machine that has not stopped
 abbrev pub effective : ℕ → Running → ℕ
 effective k m = code_effective (setup m) m.code.statements k m.state

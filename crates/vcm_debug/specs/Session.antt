@@ -1,6 +1,6 @@
 -- The debugger: what each command answers, and where the session stands afterwards.
 use Rattle.std.specs.Prelude.{◌≡◌, ℕ, ◌+◌, ◌-◌, ◌<◌, ◌==◌, nat_lt, nat_le, min, pos, Bool, true, false, ◌&&◌, List, length, slice_get}
-use Rattle.std.specs.Prelude.{slice_set, slice_index_or, position, Option, Some, None, Result, Ok, Err, if◌then◌else◌}
+use Rattle.std.specs.Prelude.{slice_set, slice_index_or, position, Option, Some, None, Result, Ok, Err, [], ◌∷◌, if◌then◌else◌}
 use Rattle.std.specs.List.{position_from}
 use Rattle.std.specs.Str.{bytes_eq}
 use Rattle.vcm_spec.specs.declared.feature.Feature.{Feature}
@@ -21,9 +21,9 @@ use Rattle.vcm_console.specs.declared.reply.Halted.{Halted}
 use Rattle.vcm_code.specs.declared.code.Code.{Code}
 use Rattle.vcm_code.specs.CodeTable.{CodeState}
 use Rattle.vcm_code.specs.Code.{Statement}
-use Rattle.vcm_machine.specs.Running.{WantsMemory}
+use Rattle.vcm_machine.specs.Running.{WantsMemory, started}
 use Rattle.vcm_debug.specs.Debugging.{Debugging, shown, now}
-use Rattle.vcm_debug.specs.Halting.{RunEnd, ends_after, run_end, reason_after, effective}
+use Rattle.vcm_debug.specs.Halting.{RunEnd, ends_after, run_end, last_end, reason_after, effective}
 
 -- the source line that a statement was read from
 abbrev pub line_in : Option Statement → ℕ
@@ -77,6 +77,11 @@ run_of d k = run_or_stay (now d).world.stop (run_end d.breakpoints d.watches k 0
 abbrev pub ran_to : Debugging → ℕ → Reason → Answer
 ran_to d n why = answers (at_count d n) (Ran why (standing d.code n (now (at_count d n))))
 
+-- running back came to this end of a run, or to the start
+abbrev pub back_to : Debugging → Option RunEnd → Answer
+back_to d None = stands (at_count d 0)
+back_to d (Some e) = ran_to d e.steps e.why
+
 -- the session after a run that ended so, and its reply
 abbrev pub ran : Debugging → RunEnd → Answer
 ran d h = ran_to d (d.count + h.steps) h.why
@@ -106,6 +111,16 @@ variable_of d v = position (is_wanted v) d.code.tables.variables
 abbrev pub feature_of : Debugging → List ℕ → Option ℕ
 feature_of d name = position (λ x. bytes_eq x name) d.code.tables.features
 
+-- each statement of a source line gets this flag, and every other one keeps its own
+abbrev pub flagged : ℕ → Bool → List Statement → List Bool → List Bool
+flagged line flag [] bs = bs
+flagged line flag (s ∷ ss) [] = []
+flagged line flag (s ∷ ss) (b ∷ bs) = (if s.line == line then flag else b) ∷ flagged line flag ss bs
+
+-- the session with a breakpoint at each statement of a source line, or with none there
+abbrev pub with_line : Debugging → ℕ → Bool → Debugging
+with_line d line is_set = record d { breakpoints = flagged line is_set d.code.statements d.breakpoints }
+
 -- what each command answers, and where the session stands afterwards
 abbrev pub answer : Debugging → Command → Answer
 answer d (c.Break n) = at_statement d n (answers (record d { breakpoints = slice_set d.breakpoints n true }) (Set n))
@@ -127,6 +142,7 @@ answer d (c.List None) = answers d (Listed (now d).next)
 answer d (c.List (Some n)) = at_statement d n (answers d (Listed n))
 answer d (c.Out k) = answers d (Lines (length (now d).world.lines) (min k (length (now d).world.lines)))
 answer d (c.Back k) = if nat_le k d.count then stands (at_count d (d.count - k)) else answers d (Refused BeforeStart)
+answer d c.Reverse = back_to d (last_end d.breakpoints d.watches (started d.part d.code) (d.count - 1))
 answer d c.Quit = answers d Bye
 
 -- memory was refused after `done` of k steps: there the session stands, and its next statement makes an output line and would not stop
@@ -141,6 +157,7 @@ abbrev pub Halts : Debugging → Command → Debugging → ℕ → Type 0
 Halts d (c.Step k) new done = HaltsAfter d k done new
 Halts d (c.Run k) new done = HaltsAfter d k done new × ((i : ℕ) → i < done → reason_after d.breakpoints d.watches (shown d) i ≡ None)
 Halts d (c.Back k) new done = (new ≡ d) × (done ≡ 0)
+Halts d c.Reverse new done = (new ≡ d) × (done ≡ 0)
 Halts d _ new done = ⊥
 
 -- a session carried a command out, or was refused memory in it

@@ -1,3 +1,4 @@
 -- What only private contracts and proofs of this crate speak of.
 pub mod Going
+pub mod Backwards
 pub mod Exchanges

@@ -80,7 +80,7 @@ impl<'a, P: Part> Checkpoints<'a, P> {
     }
 
     // Lets go of all copies.
-    fn clear(&mut self)
+    pub(crate) fn clear(&mut self)
         ensures { (m : Running) → All (λ k. k.machine ≡ begun m k.count) self.new.kept.items }
     {
         self.kept.clear();

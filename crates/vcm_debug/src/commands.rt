@@ -6,6 +6,7 @@ ghost use Rattle.vcm_debug.specs.Session.{recorded};
 use crate::checkpoints::machine_at_last;
 use crate::finding::{recorded, statement_on};
 use crate::forward::{run_on, step_on, values};
+use crate::reversing::{Ending, last_ending_before};
 use crate::session::Session;
 use std::alloc::Global;
 use vcm_console::{CommandRefusal, Halted, Reason, Reply, VariableRef};
@@ -15,11 +16,14 @@ use vcm_motion::Part;
 use vcm_num::NoMemory;
 
 impl<'a, P: Part> Session<'a, P> {
-    ghost use Rattle.std.specs.Prelude.{◌≡◌, ◌<◌, ◌≤◌, ◌+◌, ◌^◌, IfOk, Some, None};
+    ghost use Rattle.std.specs.Prelude.{◌≡◌, ◌<◌, ◌≤◌, ◌+◌, ◌-◌, ◌^◌, IfOk, OnOk, OnErr, Some, None};
     ghost use Rattle.vcm_console.specs.Replies.{ReplyFits};
     ghost use Rattle.vcm_console.specs.declared.command.Command.TheVariants as c;
     ghost use Rattle.vcm_debug.specs.Debugging.{after, now};
     ghost use Rattle.vcm_debug.specs.Session.{Carries, answer, at_count, standing};
+    ghost use Rattle.vcm_machine.specs.Running.{started};
+    ghost use Rattle.vcm_debug.specs.Halting.{last_end};
+    ghost use Rattle.vcm_debug.specs.inner.Backwards.{ended};
 
     /// Sets a breakpoint.
     pub(crate) fn set_break(&mut self, number: u64) -> Reply
@@ -202,13 +206,59 @@ impl<'a, P: Part> Session<'a, P> {
         if u64::from(k) > self.count {
             return Ok(Reply::Refused(CommandRefusal::BeforeStart));
         }
-        let count = self.count - u64::from(k);
+        match self.go_to(alloc, self.count - u64::from(k)) {
+            Ok(()) => Ok(Reply::Stands(self.standing())),
+            Err(_) => Err(Halted { done: 0 }),
+        }
+    }
+
+    /// Goes back to the last step before this one at which a run would have ended, or to the start. Where memory is refused, all is as it was.
+    pub(crate) fn reverse(&mut self, alloc: Global) -> Result<Reply, Halted>
+        ensures carried { Carries self.old c.Reverse self.new result }
+        ensures few { self.new.count ≤ self.old.count }
+        ensures fits { IfOk result (ReplyFits self.new.code (now self.new).world.lines) }
+    {
+        match self.last_ending(alloc) {
+            Ok(Some(ending)) => match self.go_to(alloc, ending.steps) {
+                Ok(()) => Ok(Reply::Ran(ending.why, self.standing())),
+                Err(_) => Err(Halted { done: 0 }),
+            },
+            Ok(None) => match self.go_to(alloc, 0) {
+                Ok(()) => Ok(Reply::Stands(self.standing())),
+                Err(_) => Err(Halted { done: 0 }),
+            },
+            Err(_) => Err(Halted { done: 0 }),
+        }
+    }
+
+    // The last end of a run before this step.
+    fn last_ending(&mut self, alloc: Global) -> Result<Option<Ending>, NoMemory>
+        ensures same { self.new ≡ self.old }
+        ensures found { IfOk result (λ f. ended f ≡ last_end self.old.breakpoints self.old.watches (started self.old.part self.old.code) (self.old.count - 1)) }
+    {
+        last_ending_before(
+            alloc,
+            self.loaded,
+            self.part,
+            &mut self.checkpoints,
+            &self.breakpoints,
+            &self.watches,
+            &mut self.before,
+            self.count,
+        )
+    }
+
+    // Goes to so many steps. Where memory is refused, all is as it was.
+    fn go_to(&mut self, alloc: Global, count: u64) -> Result<(), NoMemory>
+        ensures gone { OnOk result (self.new ≡ at_count self.old count) }
+        ensures stays { OnErr result (self.new ≡ self.old) }
+    {
         match machine_at_last(alloc, self.loaded, self.part, &mut self.checkpoints, count) {
             Ok(machine) => {
                 self.stand_at(machine, count);
-                Ok(Reply::Stands(self.standing()))
+                Ok(())
             }
-            Err(NoMemory) => Err(Halted { done: 0 }),
+            Err(refused) => Err(refused),
         }
     }
 

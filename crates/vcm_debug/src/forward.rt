@@ -50,7 +50,7 @@ fn watched_change(noting: bool, watches: &[bool], before: &[i64], now: &[i64]) -
 
 // Why a run ends at the machine's state, one step after a state in which the variables had these values, if it does. Where no variable is watched
 // the values are of no account.
-fn reason<'a, P: Part>(
+pub(crate) fn reason<'a, P: Part>(
     machine: &Machine<'a, P>,
     breakpoints: &[bool],
     watches: &[bool],
@@ -85,14 +85,14 @@ pub(crate) fn values<'b, 'a, P: Part>(machine: &'b Machine<'a, P>) -> &'b [i64]
 }
 
 // Whether a variable is watched.
-fn has_watch(watches: &[bool]) -> bool
+pub(crate) fn has_watch(watches: &[bool]) -> bool
     ensures { result ≡ some_watched watches.now }
 {
     watches.iter().any(|watched| *watched)
 }
 
 // Notes the values of the variables, if they are wanted.
-fn note(noting: bool, before: &mut Vec<i64>, now: &[i64])
+pub(crate) fn note(noting: bool, before: &mut Vec<i64>, now: &[i64])
     requires { length before.old.items ≡ length now.now }
     ensures room { length before.new.items ≡ length before.old.items }
     ensures noted { noting ≡ true → before.new.items ≡ now.now }

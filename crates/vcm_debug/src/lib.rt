@@ -1,11 +1,13 @@
 //! The debugger: a session steps a machine forwards and back, with breakpoints and watches.
 #![tactic(auto)]
 
+mod breaking;
 mod checkpoints;
 mod commands;
 mod finding;
 mod forward;
 pub mod laws;
+mod reversing;
 mod serving;
 mod session;
 

@@ -5,6 +5,7 @@ ghost use Rattle.std.specs.Str.{bytes_eq};
 ghost use Rattle.vcm_debug.specs.Debugging.{after};
 ghost use Rattle.vcm_debug.specs.Session.{is_wanted};
 
+use crate::breaking::flag_line;
 use crate::checkpoints::Checkpoints;
 use crate::finding::{feature_of, variable_of};
 use std::alloc::Global;
@@ -16,6 +17,7 @@ use vcm_loader::Loaded;
 use vcm_machine::Machine;
 use vcm_motion::Part;
 use vcm_num::{NoMemory, WriteFault};
+use vcm_state::World;
 
 /// A session on a code and a workpiece: a machine, how many steps it has taken, breakpoints and watches. Contracts see it as a `Debugging`.
 #[derive(Drop)]
@@ -44,13 +46,14 @@ impl<'a, P: Part> Model for Session<'a, P> {
 }
 
 impl<'a, P: Part> Session<'a, P> {
-    ghost use Rattle.std.specs.Prelude.{◌≡◌, ◌<◌, ◌≤◌, ◌+◌, ◌^◌, length, IfOk, nat_lt, if◌then◌else◌, Some, None};
+    ghost use Rattle.std.specs.Prelude.{◌≡◌, ◌<◌, ◌≤◌, ◌+◌, ◌^◌, length, IfOk, nat_lt, slice_index_or, if◌then◌else◌, Some, None, false};
     ghost use Rattle.vcm_num.specs.Written.{Wrote};
     ghost use Rattle.vcm_console.specs.Replies.{ReplyFits, reply_text, halt_text};
     ghost use Rattle.vcm_console.specs.Parsing.{steps_of};
     ghost use Rattle.vcm_console.specs.declared.command.Command.TheVariants as c;
+    ghost use Rattle.vcm_console.specs.declared.reply.Reply.TheVariants.{Listed};
     ghost use Rattle.vcm_debug.specs.Debugging.{opened, now};
-    ghost use Rattle.vcm_debug.specs.Session.{Carries, standing};
+    ghost use Rattle.vcm_debug.specs.Session.{Carries, standing, with_line};
 
     /// A session at the start of a code, without breakpoints and watches. All room for these is made here.
     ///
@@ -83,8 +86,8 @@ impl<'a, P: Part> Session<'a, P> {
 
     /// Carries a command out. A refused command is a reply, and changes nothing.
     ///
-    /// Errors: want of memory, in `Step`, `Run` and `Back` alone. After `Step` and `Run` the session stands at the steps done, after `Back` it is
-    /// unchanged.
+    /// Errors: want of memory, in `Step`, `Run`, `Back` and `Reverse` alone. After `Step` and `Run` the session stands at the steps done, after
+    /// the other two it is unchanged.
     pub fn command(&mut self, alloc: Global, command: &Command) -> Result<Reply, Halted>
         requires { self.old.count + steps_of command.now < 2 ^ 64 }
         ensures carried { Carries self.old command.now self.new result }
@@ -105,6 +108,7 @@ impl<'a, P: Part> Session<'a, P> {
             Command::List(number) => Ok(self.list(*number)),
             Command::Out(k) => Ok(self.out(k.get())),
             Command::Back(k) => self.back(alloc, k.get()),
+            Command::Reverse => self.reverse(alloc),
             Command::Quit => Ok(Reply::Bye),
         }
     }
@@ -121,10 +125,58 @@ impl<'a, P: Part> Session<'a, P> {
     }
 
     /// Writes that memory was refused, and where it stands.
-    pub(crate) fn write_halted<W: Write>(&self, writer: &mut W) -> Result<(), WriteFault>
+    pub fn write_halted<W: Write>(&self, writer: &mut W) -> Result<(), WriteFault>
         ensures { Wrote (W.contents writer.old) (W.contents writer.new) (halt_text self.now.code.tables (standing self.now.code self.now.count (now self.now))) result }
     {
         write_halt(self.machine.world().tables(), self.standing(), writer)
+    }
+
+    /// The code that it speaks of.
+    pub fn loaded(&self) -> &'a Loaded<'a>
+        ensures { result.now ≡ self.now.code }
+    {
+        self.loaded
+    }
+
+    /// The state that it shows, with the tables of its names.
+    pub fn world(&self) -> &World
+        ensures state { result.now.state ≡ (now self.now).world }
+        ensures tables { result.now.tables ≡ self.now.code.tables }
+    {
+        self.machine.world()
+    }
+
+    /// Whether the next statement has a breakpoint.
+    pub fn is_at_breakpoint(&self) -> bool
+        ensures { result ≡ slice_index_or self.now.breakpoints (now self.now).next false }
+    {
+        self.has_break(self.next() as usize)
+    }
+
+    /// Whether the statement of this number has a breakpoint.
+    pub fn has_break(&self, number: usize) -> bool
+        ensures { result ≡ slice_index_or self.now.breakpoints number false }
+    {
+        match self.breakpoints.get(number) {
+            Some(flag) => *flag,
+            None => false,
+        }
+    }
+
+    /// Writes the listing line of the next statement.
+    ///
+    /// Errors: the writer failed, or took no byte; then it has taken a front of the line.
+    pub fn write_next<W: Write>(&self, writer: &mut W) -> Result<(), WriteFault>
+        ensures { Wrote (W.contents writer.old) (W.contents writer.new) (reply_text self.now.code (now self.now).world.lines (Listed (now self.now).next)) result }
+    {
+        self.write_reply(&Reply::Listed(self.next()), writer)
+    }
+
+    /// Gives each statement of a source line a breakpoint, or none; a macro's line has one in each expansion.
+    pub fn set_line(&mut self, line: u64, is_set: bool)
+        ensures { self.new ≡ with_line self.old line is_set }
+    {
+        flag_line(self.loaded, line, is_set, &mut self.breakpoints);
     }
 
     /// The number of the next statement.
@@ -136,7 +188,7 @@ impl<'a, P: Part> Session<'a, P> {
     }
 
     /// Where it stands.
-    pub(crate) fn standing(&self) -> Standing
+    pub fn standing(&self) -> Standing
         ensures { result ≡ standing self.now.code self.now.count (now self.now) }
     {
         let next = self.next();

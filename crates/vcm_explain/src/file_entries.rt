@@ -13,8 +13,9 @@ Memory ran out while the part file was read: `no memory`, status 5.",
         text: "P01 NotToml
 The part file isn't TOML, or isn't UTF-8. Numbers are written without blanks or units,
 lists in brackets with commas.
-Do: compare it with the example. A TOML checker or editor shows the place; vcm tells
-none.
+At a terminal, with `--talk`, and from `vcm part FILE`, a second line names the file and
+the line on which the statement begins that never ends as TOML.
+Do: look there for a bracket, a comma or a quotation mark that is missing.
 For example, a part file:
   low = -500000, -500000, -500000
 gives: P01 NotToml",
@@ -26,6 +27,8 @@ gives: P01 NotToml",
 whole number, or `block` isn't written as `[[block]]` tables. With a number behind it,
 that block's `low` or `high` is meant; blocks count from 1. A number with a point is no
 whole number: 10 mm is 10000, not 10.0.
+At a terminal, with `--talk`, and from `vcm part FILE`, a second line names the file, the
+line and the key, and what it wants.
 For example, a part file:
   low = [-500000, -500000, -500000]
   high = [500000, 500000, 500000]

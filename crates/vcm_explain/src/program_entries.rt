@@ -78,9 +78,14 @@ last thing of its line or was left there by mistake, so that the next line belon
 the statement, and a name with more than 16 characters.
 Do: compare it with the forms in the language page. Points have three lengths with
 commas between them; a test stands in parentheses; names are letters, digits and
-underscores.
+underscores. Of measurements there is `MEAS/POINT` alone: `MEAS/PLANE`, `MEAS/CIRCLE` and
+the like are told so too, and `CALL/EXTERN` and functions such as `ABS(X)` and `CONCAT`.
+`vcm survey` tells of each of them what becomes of it.
 For example, from line 3 on:
   GOTO/20,20
+gives: E06 BadSyntax line 3
+For example, from line 3 on:
+  MEAS/PLANE,F(A),4
 gives: E06 BadSyntax line 3
 For example, from line 3 on:
   TEXT/OPER,'ready

@@ -1,6 +1,10 @@
 //! The commands of the command line, with the words that each takes.
 #![tactic(auto)]
 
+mod manner;
+
+pub use manner::{takes_quiet, takes_talk};
+
 /// A word behind a command: its name, and what it is.
 pub type Word = (&'static str, &'static str);
 
@@ -24,6 +28,8 @@ pub enum More {
     Nothing,
     /// `--steps N`.
     Steps,
+    /// `--steps N` and `--show NAMES`.
+    StepsAndShow,
     /// `--steps N` and `--close`.
     StepsAndClose,
     /// `--steps N` and `--probe PROBE`.
@@ -83,6 +89,13 @@ const USAGES: &[Usage] = &[
         about: "Runs a program or an image beside a workpiece, and prints the result",
         example: "For example: vcm run above.dmi part-a.toml",
         words: &[INPUT, PART],
+        more: More::StepsAndShow,
+    },
+    Usage {
+        name: "why",
+        about: "Tells why a run stops where it does: the line, its calls and loops, the way, what is met, and where it would be free",
+        example: "For example: vcm why above.dmi part-a.toml",
+        words: &[INPUT, PART],
         more: More::Steps,
     },
     Usage {
@@ -126,6 +139,13 @@ const USAGES: &[Usage] = &[
         example: "For example: vcm view square.dmi part-a.toml > square.html",
         words: &[INPUT, PART],
         more: More::StepsAndProbe,
+    },
+    Usage {
+        name: "part",
+        about: "Prints a workpiece as it was read, and tells which keys of its file nothing uses",
+        example: "For example: vcm part part-a.toml",
+        words: &[PART],
+        more: More::Nothing,
     },
     Usage {
         name: "debug",

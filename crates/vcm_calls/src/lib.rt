@@ -1,0 +1,13 @@
+//! Which CALLs a statement of an expanded program comes from, and the lines of a text.
+#![tactic(auto)]
+
+mod called;
+mod chain;
+mod expanding;
+pub mod laws;
+mod lines;
+mod macros;
+
+pub use chain::chain_of;
+pub use lines::source_line;
+pub use macros::macro_called;

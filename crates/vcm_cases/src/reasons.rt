@@ -1,0 +1,46 @@
+//! What vcm answers to the question why a run stops.
+
+use crate::answers::{printed, told};
+use std::alloc::Global;
+use vcm_command::write_why;
+use vcm_job::{build, part_from};
+use vcm_messages::{part_file_message, run_message};
+use vcm_part::PartData;
+
+// Why the run of an input stops beside a workpiece.
+fn why_beside(alloc: Global, part: &PartData, input: &[u8], steps: u64) -> Option<String> {
+    let mut reader = input;
+    let mut out = Vec::new(alloc);
+    match write_why(alloc, part, &mut reader, steps, &mut out) {
+        Ok(done) => printed(alloc, &out, done.notices.as_slice(), done.status),
+        Err(fault) => told(alloc, run_message(fault, "the program")),
+    }
+}
+
+// Why the run of a program's image stops.
+fn why_image(alloc: Global, part: &PartData, program: &str, steps: u64) -> Option<String> {
+    let mut text = program.as_bytes();
+    match build(alloc, &mut text) {
+        Ok(built) => why_beside(alloc, part, &built.image, steps),
+        Err(_) => None,
+    }
+}
+
+/// Why the run of a program stops beside the workpiece of a part file, after so many steps at most: as its image, or as its text.
+pub(crate) fn why_answer(
+    alloc: Global,
+    part: &str,
+    program: &str,
+    steps: u64,
+    is_image: bool,
+) -> Option<String> {
+    let mut file = part.as_bytes();
+    match part_from(alloc, &mut file) {
+        Ok(part) => if is_image {
+            why_image(alloc, &part, program, steps)
+        } else {
+            why_beside(alloc, &part, program.as_bytes(), steps)
+        },
+        Err(fault) => told(alloc, part_file_message(fault, "the part")),
+    }
+}

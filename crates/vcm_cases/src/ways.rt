@@ -1,0 +1,156 @@
+//! That a run comes to the same by whatever way it is asked for: from the image of its program, in the last line of its trace, and in a session of the debugger.
+
+use std::alloc::Global;
+use vcm_job::{build, debug, run};
+use vcm_part::PartData;
+use vcm_views::{View, view_of};
+
+// The most steps that one command of the debugger takes.
+const MOST: u64 = 1_000_000;
+
+// Runs whose number of steps has more digits are not asked for again.
+const FEW_DIGITS: usize = 3;
+
+/// What a run printed at its end.
+#[derive(Clone, Copy)]
+struct Ending<'a> {
+    /// The line of the stop, or of the steps that were done where there is none.
+    stop: &'a str,
+    /// The position, in millimetres, with blanks between the three.
+    position: &'a str,
+    steps: &'a str,
+}
+
+// The line that stands so many lines before the end of a text, whose lines all end with a line feed.
+fn line_from_end(text: &str, back: usize) -> &str {
+    let count = text.split('\n').count();
+    for (index, line) in text.split('\n').enumerate() {
+        if index.saturating_add(back).saturating_add(1) == count {
+            return line;
+        }
+    }
+    ""
+}
+
+// What stands behind a word at the front of a line.
+fn behind<'a>(line: &'a str, word: &str) -> &'a str {
+    line.strip_prefix(word).unwrap_or("")
+}
+
+// How a run ended, by its output.
+fn ending_of(output: &str) -> Ending<'_> {
+    Ending {
+        stop: line_from_end(output, 3),
+        position: behind(line_from_end(output, 2), "position "),
+        steps: behind(line_from_end(output, 1), "steps "),
+    }
+}
+
+// Whether the run of the program's image prints the same.
+fn is_that_of_its_image(
+    alloc: Global,
+    part: &PartData,
+    program: &str,
+    steps: u64,
+    output: &[u8],
+    status: u8,
+) -> bool {
+    let mut input = program.as_bytes();
+    let Ok(built) = build(alloc, &mut input) else {
+        return false;
+    };
+    let mut image = built.image.as_slice();
+    let mut out = Vec::new(alloc);
+    match run(alloc, part, &mut image, steps, &mut out) {
+        Ok(done) => done.status == status && out.as_slice() == output,
+        Err(_) => false,
+    }
+}
+
+// Whether the last line of a trace tells this end.
+fn tells(alloc: Global, trace: &str, ending: Ending<'_>) -> Option<bool> {
+    let line = line_from_end(trace, 1);
+    let front = format!(in alloc; "{},", ending.steps).ok()?;
+    let place = ending.position.replace(alloc, " ", ",").ok()?;
+    let back = format!(in alloc; ",{place},{}", ending.stop).ok()?;
+    Some(line.starts_with(front.as_str()) && line.ends_with(back.as_str()))
+}
+
+// Whether the last line of the run's trace tells its end.
+fn is_that_of_its_trace(
+    alloc: Global,
+    part: &PartData,
+    program: &str,
+    steps: u64,
+    ending: Ending<'_>,
+) -> bool {
+    let mut input = program.as_bytes();
+    let mut out = Vec::new(alloc);
+    if view_of(alloc, View::Trace, part, &mut input, steps, &mut out).is_err() {
+        return false;
+    }
+    match std::str::from_utf8(&out) {
+        Ok(trace) => tells(alloc, trace, ending).unwrap_or(false),
+        Err(_) => false,
+    }
+}
+
+// What a session of the debugger answers to `run` with so many steps.
+fn replies(alloc: Global, part: &PartData, program: &str, steps: u64) -> Option<Vec<u8>> {
+    let mut input = program.as_bytes();
+    let lines = format!(in alloc; "run {steps}\n").ok()?;
+    let mut commands = lines.as_bytes();
+    let mut out = Vec::new(alloc);
+    match debug(alloc, part, &mut input, &mut commands, &mut out) {
+        Ok(_) => Some(out),
+        Err(_) => None,
+    }
+}
+
+// Whether replies tell this end.
+fn are_of(alloc: Global, replies: &str, ending: Ending<'_>) -> Option<bool> {
+    let steps = ending.steps;
+    let wanted = if ending.stop.starts_with("stop ") {
+        format!(in alloc; "step {steps} {}\n", ending.stop).ok()?
+    } else {
+        format!(in alloc; "count step {steps} next ").ok()?
+    };
+    Some(replies.starts_with(wanted.as_str()))
+}
+
+// Whether the debugger's `run` tells the run's end; no run of no step is asked of it, and none of more than it takes at once.
+fn is_that_of_the_debugger(
+    alloc: Global,
+    part: &PartData,
+    program: &str,
+    steps: u64,
+    ending: Ending<'_>,
+) -> bool {
+    if steps == 0 || steps > MOST {
+        return true;
+    }
+    let Some(replies) = replies(alloc, part, program, steps) else {
+        return false;
+    };
+    match std::str::from_utf8(&replies) {
+        Ok(replies) => are_of(alloc, replies, ending).unwrap_or(false),
+        Err(_) => false,
+    }
+}
+
+/// Whether the run of a program beside a workpiece, whose output and exit status these are, comes to the same from its image, in its trace and in the debugger, if it
+/// has fewer than 1,000 steps.
+pub(crate) fn comes_to_the_same(
+    alloc: Global,
+    part: &PartData,
+    program: &str,
+    steps: u64,
+    output: &[u8],
+    status: u8,
+) -> bool {
+    let ending = ending_of(std::str::from_utf8(output).unwrap_or(""));
+    ending.steps.len() > FEW_DIGITS
+        || is_that_of_its_image(alloc, part, program, steps, output, status)
+            && is_that_of_its_trace(alloc, part, program, steps, ending)
+            && is_that_of_the_debugger(alloc, part, program, steps, ending)
+}

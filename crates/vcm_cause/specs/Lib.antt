@@ -1,0 +1,5 @@
+pub mod Free
+pub mod Cause
+pub mod Behind
+pub mod Watched
+pub mod Laws

@@ -1,0 +1,14 @@
+//! Why a run stopped where it did: what its last step adds to the way of the probe, where a way past the block that was met is free of it, and how many
+//! rounds each loop has begun. Lengths are whole micrometres.
+#![tactic(auto)]
+
+mod cause;
+pub mod laws;
+mod rounds;
+mod sides;
+mod watching;
+
+pub use cause::{Cause, Obstacle, cause_of};
+pub use rounds::{MOST_LOOPS, Rounds, round_of};
+pub use sides::{FreeSide, Side};
+pub use watching::{Progress, Watched, watch};

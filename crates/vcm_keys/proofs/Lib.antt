@@ -1,0 +1,4 @@
+pub mod Members
+pub mod Reading
+pub mod Told
+pub mod Same

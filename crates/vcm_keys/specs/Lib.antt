@@ -1,0 +1,4 @@
+pub mod Statements
+pub mod Places
+pub mod Unused
+pub mod Laws

@@ -1,0 +1,7 @@
+use Rattle.std.proofs.Common.{refl, sym, ap, ◌∙◌, rules, w64, FitsSigned, to_z-of_z}
+use Rattle.std.proofs.lemmas.Result.{err_from_is_err_and}
+use Rattle.vcm_num.proofs.KnownWrites.{front_first, front_then, wrote_then}
+use Rattle.vcm_why.proofs.causes.write_free.Goals as goal
+
+pub returns-in-Some : goal.returns-in-Some
+returns-in-Some g c = let fx : FitsSigned w64 c.in-Some.height = search rules in rw c.in-Some.is (rw (to_z-of_z fx) at c.write_over.ensures)

@@ -1,0 +1,12 @@
+use Rattle.std.proofs.Common.{refl, sym, ap, ◌∙◌, rules, w64, FitsSigned, to_z-of_z}
+use Rattle.std.proofs.lemmas.Result.{err_from_is_err_and}
+use Rattle.vcm_num.proofs.KnownWrites.{front_first, front_then, wrote_then}
+use Rattle.vcm_why.proofs.causes.write_over.Goals as goal
+
+pub returns-in_err-write_height : goal.returns-in_err-write_height
+returns-in_err-write_height g c =
+    let fx : FitsSigned w64 c.args.height = search rules in
+    let p = err_from_is_err_and c.from_residual.result c.from_residual.ensures.1 in rw p.1 (front_first _ _ _ _ _ refl (rw (to_z-of_z fx) at c.in_err-write_height.ensures))
+
+pub returns : goal.returns
+returns g c = let fx : FitsSigned w64 c.args.height = search rules in wrote_then _ _ _ _ _ _ _ refl (rw (to_z-of_z fx) at c.in_ok-write_height.ensures) c.write_beside.ensures

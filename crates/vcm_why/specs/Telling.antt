@@ -1,0 +1,53 @@
+-- A run of which it is told why it stopped.
+use Rattle.std.specs.Prelude.{◌≡◌, ℕ, List, Option, Some, None}
+use Rattle.std.specs.Io.KnownBytes.{Appends, Keeps}
+use Rattle.vcm_num.specs.Written.{AppendsFront}
+use Rattle.vcm_spec.specs.declared.stop.StopPlace.{StopPlace}
+use Rattle.vcm_spec.specs.Workpiece.{Workpiece}
+use Rattle.vcm_code.specs.declared.code.Code.{Code}
+use Rattle.vcm_machine.specs.declared.ran.End.TheVariants.{NoMemory}
+use Rattle.vcm_machine.specs.declared.ran.Ran.{Ran}
+use Rattle.vcm_machine.specs.Running.{started, later, RunEnded}
+use Rattle.vcm_state.specs.Held.{Held}
+use Rattle.vcm_cause.specs.declared.watching.Progress.{Progress}
+use Rattle.vcm_cause.specs.Watched.{seen, HasWatched}
+use Rattle.vcm_why.specs.declared.telling.WhyFault.{WhyFault}
+use Rattle.vcm_why.specs.declared.telling.WhyFault.TheVariants as faults
+use Rattle.vcm_why.specs.Origins.{Traced, IsOrigin}
+use Rattle.vcm_why.specs.Reasons.{why_lines}
+
+-- where the statement with this number comes from, if there is a text
+abbrev pub IsTraced : Option (List ℕ) → (number : ℕ) → Option Traced → Type 0
+IsTraced (Some text) number (Some t) = IsOrigin text number t
+IsTraced (Some text) number None = ⊥
+IsTraced None number (Some t) = ⊥
+IsTraced None number None = Unit {0}
+
+-- what is told of a run for at most n steps that memory didn't cut short, of a code from this text or from none; W is what became of it
+pub record IsReason (text : Option (List ℕ)) (part : Workpiece) (c : Code) (n : ℕ) (stop : Option StopPlace) (W : List ℕ → Type 0) : Type 0 where
+  pub held : Held
+  pub number : ℕ
+  pub ran : Ran
+  pub progress : Progress
+  pub watched : HasWatched part c n held number ran progress
+  pub ample : ran.end ≡ NoMemory → ⊥
+  pub traced : Option Traced
+  pub is_traced : IsTraced text number traced
+  pub stop_is : stop ≡ held.state.stop
+  pub written : W (why_lines traced part c.statements held number (seen progress) ran.done)
+
+-- it was written and nothing else, and this is the stop of the run, if it came to one
+abbrev pub IsWhy : Option (List ℕ) → Workpiece → Code → ℕ → Option StopPlace → Option (List ℕ) → Option (List ℕ) → Type 0
+IsWhy text part c n stop old new = IsReason text part c n stop (Appends old new)
+
+-- a run for at most n steps was refused memory after so many of them
+abbrev pub IsHaltedAfter : Workpiece → Code → ℕ → ℕ → Type 0
+IsHaltedAfter part c n done = RunEnded n (started part c) (later done (started part c)) done NoMemory
+
+-- why it wasn't written to the end: memory was refused before the run or in it, or the text was, and nothing was written; or a write failed, and a front of it
+-- was written that is not all
+abbrev pub IsNoWhy : Option (List ℕ) → Workpiece → Code → ℕ → WhyFault → Option (List ℕ) → Option (List ℕ) → Type 0
+IsNoWhy text part c n faults.NoMemory old new = Keeps old new
+IsNoWhy text part c n (faults.Memory done) old new = IsHaltedAfter part c n done × Keeps old new
+IsNoWhy text part c n (faults.Text f) old new = Keeps old new
+IsNoWhy text part c n (faults.Write done) old new = (stop : Option StopPlace) × IsReason text part c n stop (AppendsFront old new)

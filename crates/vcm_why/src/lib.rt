@@ -1,0 +1,11 @@
+//! The stop of a run in a planner's words: its line, where the statement stands in the text, the way on which it stopped, and where a way past the block is free.
+#![tactic(auto)]
+
+mod causes;
+mod loops;
+mod origin;
+mod source;
+mod stops;
+mod telling;
+
+pub use telling::{WhyFault, why_image, why_text};

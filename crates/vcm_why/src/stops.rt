@@ -1,0 +1,129 @@
+//! What is told of a run that was watched. Nothing here takes memory.
+
+ghost use Rattle.std.specs.Prelude.{◌≡◌, ◌<◌, length};
+ghost use Rattle.vcm_num.specs.Written.{Wrote};
+ghost use Rattle.vcm_cause.specs.Watched.{seen};
+ghost use Rattle.vcm_why.specs.Reasons.{steps_line, text_lines, where_lines, stop_lines, is_ended, why_lines};
+
+use crate::causes::write_cause;
+use crate::loops::write_loops;
+use crate::origin::Origin;
+use crate::source::write_origin;
+use itoa::Buffer;
+use std::io::Write;
+use vcm_cause::{Progress, Rounds, cause_of};
+use vcm_loader::Loaded;
+use vcm_num::{WriteFault, write_all, write_pieces};
+use vcm_part::PartData;
+use vcm_report::write_stop_line;
+use vcm_spec::{Stop, StopPlace};
+use vcm_state::World;
+
+// Writes how many steps were done without a stop.
+fn write_steps<W: Write>(done: u64, writer: &mut W) -> Result<(), WriteFault>
+    ensures { Wrote (W.contents writer.old) (W.contents writer.new) (steps_line done) result }
+{
+    let mut steps = Buffer::new();
+    let steps = steps.format(done).as_bytes();
+    write_pieces(writer, &[b"no stop after ", steps, b" steps\n"])
+}
+
+// Writes the line of the text and the CALLs that a statement comes from, and the loops round it.
+fn write_text<W: Write>(
+    origin: &Origin<'_>,
+    loaded: &Loaded<'_>,
+    world: &World,
+    rounds: &Rounds,
+    number: u32,
+    line: u32,
+    writer: &mut W,
+) -> Result<(), WriteFault>
+    requires { number < length loaded.now.statements }
+    ensures { Wrote (W.contents writer.old) (W.contents writer.new) (text_lines origin.now loaded.now.statements world.now rounds.now number line) result }
+{
+    write_origin(origin, line, writer)?;
+    write_loops(loaded, world, rounds, number, writer)
+}
+
+// Writes where a statement comes from.
+fn write_where<W: Write>(
+    origin: &Option<Origin<'_>>,
+    loaded: &Loaded<'_>,
+    world: &World,
+    rounds: &Rounds,
+    number: u32,
+    line: u32,
+    writer: &mut W,
+) -> Result<(), WriteFault>
+    requires { number < length loaded.now.statements }
+    ensures { Wrote (W.contents writer.old) (W.contents writer.new) (where_lines origin.now loaded.now.statements world.now rounds.now number line) result }
+{
+    match origin {
+        Some(origin) => write_text(origin, loaded, world, rounds, number, line, writer),
+        None => write_all(
+            writer,
+            b"the source line, the calls and the loops stand in the program's text; an image has none\n",
+        ),
+    }
+}
+
+// Whether the run came to the end of its program.
+fn is_ended(stop: Stop) -> bool
+    ensures { result ≡ is_ended stop }
+{
+    matches!(stop, Stop::Ended)
+}
+
+// Writes a stop that isn't the program's end.
+fn write_stop<W: Write>(
+    origin: &Option<Origin<'_>>,
+    loaded: &Loaded<'_>,
+    part: &PartData,
+    world: &World,
+    progress: &Progress,
+    number: u32,
+    place: StopPlace,
+    writer: &mut W,
+) -> Result<(), WriteFault>
+    requires { number < length loaded.now.statements }
+    ensures { Wrote (W.contents writer.old) (W.contents writer.new) (stop_lines origin.now part.now loaded.now.statements world.now number (seen progress.now) place) result }
+{
+    write_stop_line(world.tables(), place, writer)?;
+    write_where(
+        origin,
+        loaded,
+        world,
+        &progress.rounds,
+        number,
+        place.line,
+        writer,
+    )?;
+    write_cause(&cause_of(part, progress.marks.as_slice()), writer)
+}
+
+/// Writes what is told of a run that came to a state with this number of the next statement behind so many steps.
+///
+/// Errors: the writer failed, or took no byte; then it has taken a front of the text, and not all of it.
+pub(crate) fn write_why<W: Write>(
+    origin: &Option<Origin<'_>>,
+    loaded: &Loaded<'_>,
+    part: &PartData,
+    world: &World,
+    progress: &Progress,
+    number: u32,
+    done: u64,
+    writer: &mut W,
+) -> Result<(), WriteFault>
+    requires { number < length loaded.now.statements }
+    ensures { Wrote (W.contents writer.old) (W.contents writer.new) (why_lines origin.now part.now loaded.now.statements world.now number (seen progress.now) done) result }
+{
+    match world.stop() {
+        None => write_steps(done, writer),
+        Some(place) => {
+            if is_ended(place.stop) {
+                return write_stop_line(world.tables(), place, writer);
+            }
+            write_stop(origin, loaded, part, world, progress, number, place, writer)
+        }
+    }
+}

@@ -1,0 +1,135 @@
+//! Runs of which it is told why they stopped.
+
+ghost use Rattle.std.specs.Prelude.{◌≡◌, ◌<◌, Some, None, length, IfOk, IfErr};
+ghost use Rattle.vcm_why.specs.inner.Watching.{IsAmple, IsHalted, IsTold, IsNotTold};
+ghost use Rattle.vcm_why.specs.Telling.{IsWhy, IsNoWhy};
+
+use crate::origin::{Origin, origin_of};
+use crate::stops::write_why;
+use std::alloc::Global;
+use std::io::Write;
+use vcm_cause::{Watched, watch};
+use vcm_lines::SourceFault;
+use vcm_loader::Loaded;
+use vcm_machine::End;
+use vcm_motion::Part;
+use vcm_part::PartData;
+use vcm_spec::StopPlace;
+
+/// Why it isn't told to its end.
+#[derive(Clone, Copy)]
+pub enum WhyFault {
+    /// A growth of memory was refused before the run. Nothing is written.
+    NoMemory,
+    /// A growth of memory was refused to an output line, after so many steps. Nothing is written.
+    Memory { done: u64 },
+    /// The text is refused, or memory was refused to its statements. Nothing is written.
+    Text(SourceFault),
+    /// The writer failed, or took no byte, after so many steps. It has taken a front of the text that is not all.
+    Write { done: u64 },
+}
+
+// Writes what is told of a run that was watched, and gives its stop.
+fn tell<W: Write>(
+    origin: &Option<Origin<'_>>,
+    loaded: &Loaded<'_>,
+    part: &PartData,
+    watched: &Watched,
+    writer: &mut W,
+) -> Result<Option<StopPlace>, WhyFault>
+    requires { watched.now.next < length loaded.now.statements }
+    ensures told { IfOk result (λ stop. IsTold origin.now part.now loaded.now watched.now stop (W.contents writer.old) (W.contents writer.new)) }
+    ensures fault { IfErr result (λ f. IsNotTold origin.now part.now loaded.now watched.now f (W.contents writer.old) (W.contents writer.new)) }
+{
+    let world = &watched.world;
+    let done = watched.ran.done;
+    match write_why(
+        origin,
+        loaded,
+        part,
+        world,
+        &watched.progress,
+        watched.next,
+        done,
+        writer,
+    ) {
+        Ok(()) => Ok(world.stop()),
+        Err(_) => Err(WhyFault::Write { done }),
+    }
+}
+
+// Runs a loaded code, whose steps are watched.
+fn run_watched<P: Part>(
+    alloc: Global,
+    loaded: &Loaded<'_>,
+    part: &P,
+    blocks: &PartData,
+    steps: u64,
+) -> Result<Watched, WhyFault>
+    requires { P.part part.now ≡ blocks.now }
+    ensures watched { IfOk result (IsAmple blocks.now loaded.now steps) }
+    ensures within { IfOk result (λ w. w.next < length loaded.now.statements) }
+    ensures fault { IfErr result (IsHalted blocks.now loaded.now steps) }
+{
+    let watched = match watch(alloc, loaded, part, blocks, steps) {
+        Ok(watched) => watched,
+        Err(_) => return Err(WhyFault::NoMemory),
+    };
+    let done = watched.ran.done;
+    match watched.ran.end {
+        End::NoMemory => Err(WhyFault::Memory { done }),
+        _ => Ok(watched),
+    }
+}
+
+/// Runs the code of a program's text for at most so many steps beside a workpiece, whose blocks are given too, and writes why the run stopped where it did.
+/// It answers the stop, if it came to one.
+///
+/// Errors: see `WhyFault`.
+pub fn why_text<P: Part, W: Write>(
+    alloc: Global,
+    loaded: &Loaded<'_>,
+    part: &P,
+    blocks: &PartData,
+    text: &[u8],
+    steps: u64,
+    writer: &mut W,
+) -> Result<Option<StopPlace>, WhyFault>
+    requires { P.part part.now ≡ blocks.now }
+    ensures why { IfOk result (λ stop. IsWhy (Some text.now) blocks.now loaded.now steps stop (W.contents writer.old) (W.contents writer.new)) }
+    ensures fault { IfErr result (λ f. IsNoWhy (Some text.now) blocks.now loaded.now steps f (W.contents writer.old) (W.contents writer.new)) }
+{
+    let watched = match run_watched(alloc, loaded, part, blocks, steps) {
+        Ok(watched) => watched,
+        Err(fault) => return Err(fault),
+    };
+    match origin_of(alloc, text, watched.next) {
+        Ok(origin) => {
+            let origin = Some(origin);
+            tell(&origin, loaded, blocks, &watched, writer)
+        }
+        Err(fault) => Err(WhyFault::Text(fault)),
+    }
+}
+
+/// The same of the code of an image, which has no text.
+///
+/// Errors: see `WhyFault`.
+pub fn why_image<P: Part, W: Write>(
+    alloc: Global,
+    loaded: &Loaded<'_>,
+    part: &P,
+    blocks: &PartData,
+    steps: u64,
+    writer: &mut W,
+) -> Result<Option<StopPlace>, WhyFault>
+    requires { P.part part.now ≡ blocks.now }
+    ensures why { IfOk result (λ stop. IsWhy None blocks.now loaded.now steps stop (W.contents writer.old) (W.contents writer.new)) }
+    ensures fault { IfErr result (λ f. IsNoWhy None blocks.now loaded.now steps f (W.contents writer.old) (W.contents writer.new)) }
+{
+    let watched = match run_watched(alloc, loaded, part, blocks, steps) {
+        Ok(watched) => watched,
+        Err(fault) => return Err(fault),
+    };
+    tell(&None, loaded, blocks, &watched, writer)
+}
