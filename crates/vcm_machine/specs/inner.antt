@@ -1,4 +1,3 @@
 -- What only private contracts and proofs of this crate speak of.
 pub mod Lengths
-pub mod Going
 pub mod Runnable

@@ -14,3 +14,4 @@ mod stepping;
 
 pub use machine::Machine;
 pub use ran::{End, Ran};
+pub use stepping::carry_out;

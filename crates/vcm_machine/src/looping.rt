@@ -11,7 +11,7 @@ ghost use Rattle.vcm_code.specs.declared.op.Op.TheVariants.{Do, EndDo};
 ghost use Rattle.vcm_code.specs.CodeTable.{pair as saved_pair, do_op};
 ghost use Rattle.vcm_code.specs.Checks.{HasItems};
 ghost use Rattle.vcm_fields.specs.Readers.{Begins, OfFirst, both, variable_at, pair_at as pair_reader, three_at, target_at};
-ghost use Rattle.vcm_machine.specs.inner.Going.{HasTurned};
+ghost use Rattle.vcm_machine.specs.Going.{HasTurned};
 
 use crate::acting::value;
 use vcm_code::Pair;

@@ -8,7 +8,7 @@ ghost use Rattle.vcm_code.specs.declared.op.Op.TheVariants.{Select};
 ghost use Rattle.vcm_code.specs.CodeTable.{target_for as target_of, do_op};
 ghost use Rattle.vcm_code.specs.Checks.{HasItems};
 ghost use Rattle.vcm_fields.specs.Readers.{Begins, OfFirst, both, expression_at, branches_at, target_at};
-ghost use Rattle.vcm_machine.specs.inner.Going.{HasTurned};
+ghost use Rattle.vcm_machine.specs.Going.{HasTurned};
 
 use crate::acting::value;
 use vcm_fields::{BranchSlice, known, known_long, read_branches};

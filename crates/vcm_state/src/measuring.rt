@@ -1,6 +1,6 @@
 //! What statements do to the settings of the probe and to features: SNSET, FEAT and PTMEAS.
 
-ghost use Rattle.std.specs.Prelude.{◌<◌, length};
+ghost use Rattle.std.specs.Prelude.{◌≡◌, ◌<◌, length, slice_set, Some};
 ghost use Rattle.vcm_spec.specs.Workpiece.{Workpiece};
 ghost use Rattle.vcm_spec.specs.Outcome.{Answers};
 ghost use Rattle.vcm_spec.specs.declared.simple.Simple.TheVariants.{Feat, PtMeas, SnSet};
@@ -78,6 +78,14 @@ impl World {
         );
         self.position = touched.retract;
         Ok(())
+    }
+
+    /// A feature, given by its index, is measured: it is then at a point, in micrometres of part coordinates, with a direction. All else stays.
+    pub fn set_actual(&mut self, feature: u16, measured: Feature)
+        requires { feature < length self.old.tables.features }
+        ensures { self.new ≡ record { tables = self.old.tables; state = record (self.old.state) { actual = slice_set self.old.state.actual feature (Some measured) } } }
+    {
+        self.actual.set(usize::from(feature), Some(measured));
     }
 
     // The direction of a measurement: the given one, or the declared feature's.

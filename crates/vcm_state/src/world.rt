@@ -225,6 +225,14 @@ impl World {
         Ok(())
     }
 
+    /// The probe is put at a point, in micrometres of machine coordinates, without a move; all else stays.
+    pub fn put(&mut self, at: Point)
+        requires { IsTrue (is_near at) }
+        ensures { self.new ≡ record { tables = self.old.tables; state = record (self.old.state) { position = at } } }
+    {
+        self.position = at;
+    }
+
     /// The run stops at a statement, given by its number and source line; all else stays.
     pub fn set_stop(&mut self, stop: Stop, number: u32, line: u32)
         ensures { self.new ≡ record { tables = self.old.tables; state = stopped self.old.state stop number line } }
