@@ -1,0 +1,70 @@
+-- A run that passes, as it stands behind so many steps.
+use Rattle.std.specs.Prelude.{◌≡◌, ℕ, ◌<◌, List, [], ◌∷◌, length, Option, Some, None, slice_get, IsTrue}
+use Rattle.vcm_num.specs.Point.{is_near}
+use Rattle.vcm_spec.specs.declared.stop.Stop.{Stop}
+use Rattle.vcm_spec.specs.declared.stop.Stop.TheVariants.{Collision}
+use Rattle.vcm_spec.specs.declared.words.MovePhase.{MovePhase}
+use Rattle.vcm_spec.specs.declared.workpiece.Hit.{Hit}
+use Rattle.vcm_spec.specs.Workpiece.{Workpiece}
+use Rattle.vcm_spec.specs.World.{stopped}
+use Rattle.vcm_spec.specs.Setup.{Tables}
+use Rattle.vcm_code.specs.Code.{Op, Statement}
+use Rattle.vcm_code.specs.Valid.{IsLast}
+use Rattle.vcm_code.specs.declared.code.Code.{Code}
+use Rattle.vcm_code.specs.CodeTable.{code_state}
+use Rattle.vcm_machine.specs.Running.{Running, moved}
+use Rattle.vcm_way.specs.Steps.{TaskEnds}
+use Rattle.vcm_way.specs.Tasks.{task_of}
+use Rattle.vcm_contacts.specs.declared.contact.Contact.{Contact}
+use Rattle.vcm_contacts.specs.declared.contact.Lead.{Lead}
+use Rattle.vcm_contacts.specs.declared.contact.Lead.TheVariants.{On, Again, Back, Stops}
+use Rattle.vcm_contacts.specs.Leading.{lead}
+use Rattle.vcm_contacts.specs.Passing.{Passed, led, pass, passed_after}
+
+-- behind n steps it is in this state, with these contacts
+pub record HasPassed (part : Workpiece) (c : Code) (n : ℕ) (m : Running) (contacts : List Contact) : Type 0 where
+  pub part_is : m.part ≡ part
+  pub code_is : m.code ≡ c
+  pub state_is : m.state ≡ (passed_after part c n).state
+  pub contacts_are : contacts ≡ (passed_after part c n).contacts
+
+-- a contact, if there is one
+abbrev pub listed : Option Contact → List Contact
+listed None = []
+listed (Some contact) = contact ∷ []
+
+-- a step has gone from the first to the second, with this contact or with none
+pub record HasMet (old : Running) (met : Option Contact) (new : Running) : Type 0 where
+  pub part_is : new.part ≡ old.part
+  pub code_is : new.code ≡ old.code
+  pub passed : pass old.part old.code old.state ≡ record { state = new.state; contacts = listed met }
+
+-- the contact of a statement that is next
+abbrev pub contact_at : Running → MovePhase → Hit → Statement → Contact
+contact_at m phase hit s = record { phase = phase; hit = hit; number = m.state.next; line = s.line }
+
+-- a lead can be carried out behind a statement: its point is near, its feature is there, and where it goes on behind the statement, that isn't the last
+abbrev pub IsSound : Tables → Op → Lead → Type 0
+IsSound tables op (On p) = IsTrue (is_near p) × (IsLast op → ⊥)
+IsSound tables op (Again p) = IsTrue (is_near p)
+IsSound tables op (Back p i f) = IsTrue (is_near p) × ((i < length tables.features) × (IsLast op → ⊥))
+IsSound tables op (Stops why) = Unit {0}
+
+-- the machine stands at the statement that is next, and this is its motion's stop
+pub record IsStopping (m : Running) (why : Stop) (s : Statement) : Type 0 where
+  pub stands : slice_get m.code.statements m.state.next ≡ Some s
+  pub ends : TaskEnds m.part m.state.world.position m.state.world.settings (task_of m.part.bounds.home m.state.world s.op) (Some why)
+
+-- with a lead carried out
+abbrev pub led_on : Running → Statement → Lead → Running
+led_on m s l = moved m (led m.state s.line l)
+
+-- with a stop at the statement that is next
+abbrev pub halted : Running → Statement → Stop → Running
+halted m s why = moved m (code_state (stopped m.state.world why m.state.next s.line) m.state.next m.state.pairs)
+
+-- behind the statement that is next, which has this stop: where that is a contact, the run goes on behind it
+abbrev pub IsLed : Running → Statement → Stop → Option Contact → Running → Type 0
+IsLed old s (Collision phase hit) met new =
+    (met ≡ Some (contact_at old phase hit s)) × (new ≡ led_on old s (lead old.part old.state.world s.op phase hit))
+IsLed old s why met new = (met ≡ None) × (new ≡ halted old s why)
