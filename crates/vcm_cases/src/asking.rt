@@ -80,6 +80,7 @@ fn asked(alloc: Global, request: Request<'_>) -> Option<String> {
         }
         Request::Run(asked) => run_asked(alloc, "run", asked),
         Request::Why(asked) => run_asked(alloc, "why", asked),
+        Request::Contacts(asked) => run_asked(alloc, "contacts", asked),
         Request::Values { asked, names } => {
             let name = format!(in alloc; "run show={names}").ok()?;
             run_asked(alloc, &name, asked)

@@ -1,8 +1,8 @@
-//! What vcm answers to the question why a run stops.
+//! What vcm answers to the questions why a run stops, and which contacts it has.
 
 use crate::answers::{printed, told};
 use std::alloc::Global;
-use vcm_command::write_why;
+use vcm_command::{tell_contacts, write_why};
 use vcm_job::{build, part_from};
 use vcm_messages::{part_file_message, run_message};
 use vcm_part::PartData;
@@ -41,6 +41,30 @@ pub(crate) fn why_answer(
         } else {
             why_beside(alloc, &part, program.as_bytes(), steps)
         },
+        Err(fault) => told(alloc, part_file_message(fault, "the part")),
+    }
+}
+
+// The contacts of an input beside a workpiece.
+fn contacts_beside(alloc: Global, part: &PartData, input: &[u8], steps: u64) -> Option<String> {
+    let mut reader = input;
+    let mut out = Vec::new(alloc);
+    match tell_contacts(alloc, part, &mut reader, steps, &mut out) {
+        Ok(done) => printed(alloc, &out, done.notices.as_slice(), done.status),
+        Err(fault) => told(alloc, run_message(fault, "the program")),
+    }
+}
+
+/// The contacts of a program beside the workpiece of a part file, in a run for so many steps at most.
+pub(crate) fn contacts_answer(
+    alloc: Global,
+    part: &str,
+    program: &str,
+    steps: u64,
+) -> Option<String> {
+    let mut file = part.as_bytes();
+    match part_from(alloc, &mut file) {
+        Ok(part) => contacts_beside(alloc, &part, program.as_bytes(), steps),
         Err(fault) => told(alloc, part_file_message(fault, "the part")),
     }
 }

@@ -8,7 +8,7 @@ use crate::asking::{explain_answer, words_answer};
 use crate::explained::judge_examples;
 use crate::messages::messages;
 use crate::parts::{notices_answer, part_answer};
-use crate::reasons::why_answer;
+use crate::reasons::{contacts_answer, why_answer};
 use crate::shown::shown_answer;
 use crate::tally::{MARK, Tally};
 use std::alloc::Global;
@@ -39,6 +39,8 @@ enum Heading {
     Clearance(u64),
     /// Why a run stops where it does, after so many steps at most; that of the program's image, or of its text.
     Why(u64, bool),
+    /// All contacts of a run, after so many steps at most.
+    Contacts(u64),
     /// What stands in the page of a run between the fixed texts, after so many steps at most.
     Story(u64),
     /// What a run answers that shows variables at its end.
@@ -115,6 +117,7 @@ fn heading_with(word: &str, rest: &str) -> Heading {
         "clearance" => clearance_heading(rest),
         "why" => why_heading(rest, false),
         "why-image" => why_heading(rest, true),
+        "contacts" => contacts_heading(rest),
         "story" => story_heading(rest),
         "shown" => Heading::Shown,
         "survey" => Heading::Survey,
@@ -150,6 +153,14 @@ fn clearance_heading(steps: &str) -> Heading {
 fn why_heading(steps: &str, is_image: bool) -> Heading {
     match steps.parse::<u64>() {
         Ok(steps) => Heading::Why(steps, is_image),
+        Err(_) => Heading::Unknown,
+    }
+}
+
+// The heading of contacts.
+fn contacts_heading(steps: &str) -> Heading {
+    match steps.parse::<u64>() {
+        Ok(steps) => Heading::Contacts(steps),
         Err(_) => Heading::Unknown,
     }
 }
@@ -205,6 +216,7 @@ fn answer(alloc: Global, script: &Script) -> Option<String> {
         Heading::Why(steps, is_image) => {
             why_answer(alloc, &script.part, &script.program, steps, is_image)
         }
+        Heading::Contacts(steps) => { contacts_answer(alloc, &script.part, &script.program, steps) }
         Heading::Story(steps) => story_answer(alloc, &script.part, &script.program, steps),
         Heading::Shown => shown_answer(
             alloc,

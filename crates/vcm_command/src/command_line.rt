@@ -28,6 +28,8 @@ pub enum Request<'a> {
     Run(Asked<'a>),
     /// `why INPUT PART [--steps N]`: why a run stops where it does.
     Why(Asked<'a>),
+    /// `contacts INPUT PART [--steps N]`: all contacts of a run that goes on behind each.
+    Contacts(Asked<'a>),
     /// `run INPUT PART --show NAMES [--steps N]`: the result of a run, and the values of variables.
     Values {
         asked: Asked<'a>,
@@ -389,6 +391,7 @@ fn run_request<'a>(name: &str, behind: &ArgMatches<'a>) -> Option<Request<'a>> {
             None => Some(Request::Run(asked)),
         },
         "why" => Some(Request::Why(asked)),
+        "contacts" => Some(Request::Contacts(asked)),
         "trace" => Some(Request::View(View::Trace, asked)),
         "margin" => Some(Request::View(View::Margin, asked)),
         "points" => Some(Request::View(View::Points, asked)),

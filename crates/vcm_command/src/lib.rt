@@ -4,6 +4,7 @@
 mod checks;
 mod closing;
 mod command_line;
+mod contacts;
 mod explaining;
 mod hand;
 mod jobs;
@@ -17,6 +18,7 @@ mod values;
 mod why;
 
 pub use command_line::{Asked, Checks, Produced, Request, Wanted, request_of, steps_of};
+pub use contacts::tell_contacts;
 pub use manner::Manner;
 pub use program::status;
 pub use talking::Terminals;

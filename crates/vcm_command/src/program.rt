@@ -279,6 +279,7 @@ fn carry_out<R: Files + Input + Print + Eprint + AllocGlobal>(
         Request::Build { program, image } => build_file(rt, voice, program, image),
         Request::Run(asked) => show_run(rt, voice, Shown::Result, asked),
         Request::Why(asked) => show_run(rt, voice, Shown::Why, asked),
+        Request::Contacts(asked) => show_run(rt, voice, Shown::Contacts, asked),
         Request::Values { asked, names } => show_values(rt, voice, asked, names),
         Request::View(view, asked) => show_run(rt, voice, Shown::View(view), asked),
         Request::Page { asked, probe: None } => show_run(rt, voice, Shown::Page, asked),

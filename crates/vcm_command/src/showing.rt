@@ -1,6 +1,7 @@
 //! What is shown of a run: its result, its views and its page, on the standard devices.
 
 use crate::command_line::{Asked, steps_of};
+use crate::contacts::tell_contacts;
 use crate::parts::part_of;
 use crate::program::{fails, output, status_after, written};
 use crate::talking::{Told, Voice, alone, fails_in, fails_in_view, fails_twice};
@@ -31,6 +32,7 @@ enum Unread {
 pub(crate) enum Shown<'a> {
     Result,
     Why,
+    Contacts,
     View(View<'a>),
     Page,
     /// The page, with boxes that are fixed to the tip.
@@ -185,6 +187,7 @@ fn show<R: Read, W: Write>(
 ) -> Result<Done, RunFault> {
     match shown {
         Shown::Why => write_why(alloc, part, reader, steps, writer),
+        Shown::Contacts => tell_contacts(alloc, part, reader, steps, writer),
         Shown::Result => run(alloc, part, reader, steps, writer),
         Shown::View(view) => view_of(alloc, view, part, reader, steps, writer),
         Shown::Page => write_page(alloc, part, reader, steps, writer),

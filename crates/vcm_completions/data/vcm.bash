@@ -24,7 +24,7 @@ _vcm() {
   local word=${COMP_WORDS[COMP_CWORD]} command=${COMP_WORDS[1]}
   COMPREPLY=()
   if [ "$COMP_CWORD" -eq 1 ]; then
-    COMPREPLY=($(compgen -W "check survey adapt build run why trace margin points clearance picture view part debug list asm explain help --help --version" -- "$word"))
+    COMPREPLY=($(compgen -W "check survey adapt build run why contacts trace margin points clearance picture view part debug list asm explain help --help --version" -- "$word"))
     return
   fi
   case $command in
@@ -37,7 +37,7 @@ _vcm() {
         return
       fi
       ;;
-    why | trace | margin | points | clearance)
+    why | contacts | trace | margin | points | clearance)
       if [ "${COMP_WORDS[COMP_CWORD-1]}" = --steps ]; then
         return
       fi
@@ -95,7 +95,7 @@ _vcm() {
       fi
       ;;
     help)
-      COMPREPLY=($(compgen -W "check survey adapt build run why trace margin points clearance picture view part debug list asm explain" -- "$word"))
+      COMPREPLY=($(compgen -W "check survey adapt build run why contacts trace margin points clearance picture view part debug list asm explain" -- "$word"))
       return
       ;;
     explain)
@@ -120,10 +120,10 @@ _vcm() {
     check:* | survey:0 | adapt:0 | build:0)
       _vcm_files "$word" dmi dmis
       ;;
-    run:0 | why:0 | trace:0 | margin:0 | points:0 | clearance:0 | picture:0 | view:0 | debug:0 | list:0)
+    run:0 | why:0 | contacts:0 | trace:0 | margin:0 | points:0 | clearance:0 | picture:0 | view:0 | debug:0 | list:0)
       _vcm_files "$word" dmi dmis vcmi
       ;;
-    part:0 | run:1 | why:1 | trace:1 | margin:1 | points:1 | clearance:[12] | picture:1 | view:1 | debug:1)
+    part:0 | run:1 | why:1 | contacts:1 | trace:1 | margin:1 | points:1 | clearance:[12] | picture:1 | view:1 | debug:1)
       _vcm_files "$word" toml
       ;;
     build:1 | asm:*)

@@ -1,17 +1,20 @@
 -- A lead can be carried out.
-use Rattle.std.proofs.Common.{◌≡◌, ◌≢◌, ℕ, ◌<◌, Bool, true, false, length, Option, Some, None, refl, sym, subst}
-use Rattle.std.specs.Prelude.{if◌then◌else◌, IsTrue, unwrap_or}
+use Rattle.std.proofs.Common.{◌≡◌, ◌≢◌, ℕ, ◌<◌, Bool, true, false, length, Option, Some, None, refl, ap, ◌∙◌}
+use Rattle.std.specs.Prelude.{if◌then◌else◌, unwrap_or}
 use Rattle.vcm_num.specs.declared.axis.Axis.{Axis}
 use Rattle.vcm_num.specs.declared.point.Point.{Point}
 use Rattle.vcm_num.specs.Point.{coordinate, is_near}
 use Rattle.vcm_spec.specs.declared.feature.Feature.{Feature}
+use Rattle.vcm_spec.specs.declared.stop.Stop.{Stop}
 use Rattle.vcm_spec.specs.declared.stop.Stop.TheVariants.{Collision}
+use Rattle.vcm_spec.specs.Effect.{measured_direction}
+use Rattle.vcm_spec.specs.Frame.{to_part}
 use Rattle.vcm_spec.specs.declared.words.MovePhase.{MovePhase}
 use Rattle.vcm_spec.specs.declared.words.MovePhase.TheVariants.{Move, Approach, Search, Retract}
 use Rattle.vcm_spec.specs.declared.workpiece.Hit.{Hit}
 use Rattle.vcm_spec.specs.declared.simple.Simple.TheVariants.{PtMeas}
 use Rattle.vcm_spec.specs.FirstTouch.{first_inside}
-use Rattle.vcm_spec.specs.Outcome.{Outcome, Gives, Stops as Halts, point_of}
+use Rattle.vcm_spec.specs.Outcome.{Outcome, Gives, Stops as Halts, ◌>>=◌, point_at, point_of}
 use Rattle.vcm_spec.specs.Setup.{Tables}
 use Rattle.vcm_spec.specs.Touch.{centre_of, approach_of, back_of}
 use Rattle.vcm_spec.specs.Workpiece.{Workpiece, IsValid, is_blocked}
@@ -28,8 +31,15 @@ use Rattle.vcm_way.specs.Steps.{TaskEnds}
 use Rattle.vcm_way.specs.Tasks.{task_of, marks_of}
 use Rattle.vcm_way.proofs.Ends.{aim_within, approach_within, back_within}
 use Rattle.vcm_contacts.specs.declared.contact.Lead.TheVariants.{On, Again}
-use Rattle.vcm_contacts.specs.Leading.{toward, feature_at, back_with, measured, aim_in, touched_in, lead_to, lead_by, lead}
+use Rattle.vcm_contacts.specs.Leading.{feature_at, back_with, measured, aim_in, touched_in, lead_to, lead_by, lead}
 use Rattle.vcm_contacts.specs.inner.Standing.{IsSound}
+
+-- a measured feature whose part coordinates don't fit
+pub lost_at : (w : World) (i : ℕ) (given : Option Axis) (touched : Point) (d : Axis) (why : Stop) → measured_direction w i given ≡ Gives d
+    → point_at (to_part w.frame (coordinate touched)) ≡ Halts why → feature_at w i given touched ≡ Halts why
+lost_at w i given touched d why e f =
+    ap (λ (o : Outcome Axis). o >>= (λ d. point_at (to_part w.frame (coordinate touched)) >>= (λ at. Gives (record { at = at; toward = d })))) e
+    ∙ ap (λ (o : Outcome Point). o >>= (λ at. Gives (record { at = at; toward = d }))) f
 
 -- a statement that sends the probe somewhere isn't the last
 not_last : (home : Point) (w : World) (op : Op) → task_of home w op ≢ Nowhere → IsLast op → ⊥
@@ -39,7 +49,7 @@ not_last home w _ h l = h refl
 module _ (part : Workpiece) (w : World) (tables : Tables) (count : ℕ) where
   back_sound : (op : Op) (aim : Point) (i : ℕ) → is_near aim ≡ true → i < length tables.features → (IsLast op → ⊥) → (o : Outcome Feature)
       → IsSound tables op (back_with aim i o)
-  back_sound op aim i near below last (Gives f) = (near, below, last)
+  back_sound op aim i near below last (Gives f) = (near, (below, last))
   back_sound op aim i near below last (Halts why) = tt
 
   measured_sound : (op : Op) (touched : Touched) (aim : Point) → is_near aim ≡ true → (IsLast op → ⊥) → OpFits tables count op
@@ -80,7 +90,7 @@ module _ (part : Workpiece) (w : World) (tables : Tables) (count : ℕ) where
         let centre = centre_of part (coordinate m.nominal) m.toward in
         let back = point_of (back_of w.settings centre m.toward (unwrap_or (first_inside part w.settings centre m.toward) 0)) in
         to_sound op back (within_is_near part valid back (back_within part w.settings (coordinate w.position) (coordinate m.nominal) m.toward (Some (Collision Retract hit)) ends tt))
-        (not_last part.bounds.home w op (λ n. cc (n, e))) fits _
+        (not_last part.bounds.home w op (λ n. cc (n, e))) fits (touched_in (marks_of part w.position w.settings (Measure m) (Some (Collision Retract hit))))
 
 -- the lead of a statement that met a block can be carried out
 pub lead_sound : (part : Workpiece) → IsValid part → (w : World) (tables : Tables) (op : Op) → ((count : ℕ) × OpFits tables count op) → (phase : MovePhase) (hit : Hit)

@@ -1,3 +1,4 @@
 mod Leads
+mod Lines
 mod Steps
 mod Agreeing

@@ -1,5 +1,5 @@
 -- Contacts as text.
-use Rattle.std.specs.Prelude.{ℕ, List, [], ◌∷◌, ◌++◌, length, flat_map, Option, Some, None, decimal, codes}
+use Rattle.std.specs.Prelude.{ℕ, nat_eq, if◌then◌else◌, List, [], ◌∷◌, ◌++◌, length, flat_map, Option, Some, None, decimal, codes}
 use Rattle.vcm_spec.specs.declared.stop.StopPlace.{StopPlace}
 use Rattle.vcm_spec.specs.Setup.{Tables}
 use Rattle.vcm_report.specs.Printed.{in_a_row, phase_text, stopped_line}
@@ -10,12 +10,18 @@ abbrev pub contact_line : Contact → List ℕ
 contact_line c = in_a_row (codes "COLLISION " ∷ phase_text c.phase ∷ codes " block " ∷ decimal c.hit.block ∷ codes " permille " ∷ decimal c.hit.permille
     ∷ codes " at " ∷ decimal c.number ∷ codes " line " ∷ decimal c.line ∷ codes "\n" ∷ [])
 
--- how many contacts there are, and that all behind the line of the first is a guess
+-- one contact, or several
+abbrev pub contacts_word : ℕ → List ℕ
+contacts_word n = if nat_eq n 1 then codes " contact" else codes " contacts"
+
+-- how many contacts there are, the first on this line, and that all behind it is a guess
+abbrev pub some_line : ℕ → ℕ → List ℕ
+some_line n line = in_a_row (decimal n ∷ contacts_word n ∷ codes "; behind line " ∷ decimal line ∷ codes " the run is one that would not take place\n" ∷ [])
+
+-- the same, or that there is none
 abbrev pub count_line : List Contact → List ℕ
 count_line [] = codes "0 contacts\n"
-count_line (c ∷ []) = in_a_row (codes "1 contact; behind line " ∷ decimal c.line ∷ codes " the run is one that would not take place\n" ∷ [])
-count_line (c ∷ d ∷ rest) = in_a_row (decimal (length (c ∷ d ∷ rest)) ∷ codes " contacts; behind line " ∷ decimal c.line
-    ∷ codes " the run is one that would not take place\n" ∷ [])
+count_line (c ∷ cs) = some_line (length (c ∷ cs)) c.line
 
 -- that there was no stop in so many steps
 abbrev pub no_stop_line : ℕ → List ℕ

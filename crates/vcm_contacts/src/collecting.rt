@@ -1,14 +1,16 @@
 //! The contacts of a run.
 
-ghost use Rattle.std.specs.Prelude.{◌≡◌, IfOk, IfErr};
+ghost use Rattle.std.specs.Prelude.{◌≡◌, ◌++◌, [], IfOk, IfErr, OnOk};
 ghost use Rattle.vcm_machine.specs.Running.{started};
 ghost use Rattle.vcm_contacts.specs.Collecting.{AreContacts, AreNoContacts};
+ghost use Rattle.vcm_contacts.specs.inner.Standing.{listed};
 
 use crate::contact::Contact;
 use crate::passing::Passing;
 use std::alloc::Global;
 use vcm_loader::Loaded;
 use vcm_motion::Part;
+use vcm_num::NoMemory;
 use vcm_part::PartData;
 use vcm_spec::StopPlace;
 
@@ -28,34 +30,45 @@ pub enum ContactsFault {
     Memory { done: u64 },
 }
 
-// Runs a machine that stands at the start.
+// Notes a contact, if there is one.
+fn note(contacts: &mut Vec<Contact>, met: Option<Contact>) -> Result<(), NoMemory>
+    ensures { OnOk result (contacts.new.items ≡ contacts.old.items ++ listed met) }
+{
+    match met {
+        Some(contact) => {
+            contacts.push(contact)?;
+            Ok(())
+        }
+        None => Ok(()),
+    }
+}
+
+// Runs a machine that stands at the start, and notes its contacts: its stop, if it comes to one.
 fn run_on<P: Part>(
     alloc: Global,
     machine: &mut Passing<'_, P>,
     steps: u64,
-) -> Result<Contacts, ContactsFault>
-    requires { machine.old ≡ started machine.old.part machine.old.code }
-    ensures contacts { IfOk result (λ x. AreContacts machine.old.part machine.old.code steps x.contacts.items x.stop) }
+    contacts: &mut Vec<Contact>,
+) -> Result<Option<StopPlace>, ContactsFault>
+    requires start { machine.old ≡ started machine.old.part machine.old.code }
+    requires empty { contacts.old.items ≡ [] }
+    ensures contacts { IfOk result (AreContacts machine.old.part machine.old.code steps contacts.new.items) }
     ensures fault { IfErr result (AreNoContacts machine.old.part machine.old.code steps) }
 {
-    let mut contacts = Vec::new(alloc);
-    for done in 0..steps {
+    let mut done = 0;
+    while done < steps {
         match machine.world().stop() {
-            Some(_) => break,
-            None => {}
-        }
-        match machine.step(alloc) {
-            Ok(Some(contact)) => {
-                if contacts.push(contact).is_err() {
-                    return Err(ContactsFault::NoMemory);
-                }
-            }
-            Ok(None) => {}
-            Err(_) => return Err(ContactsFault::Memory { done }),
+            Some(stop) => return Ok(Some(stop)),
+            None => match machine.step(alloc) {
+                Ok(met) => match note(contacts, met) {
+                    Ok(()) => done += 1,
+                    Err(_) => return Err(ContactsFault::NoMemory),
+                },
+                Err(_) => return Err(ContactsFault::Memory { done }),
+            },
         }
     }
-    let stop = machine.world().stop();
-    Ok(Contacts { contacts, stop })
+    Ok(machine.world().stop())
 }
 
 /// Runs a loaded code for at most so many steps beside a workpiece, whose blocks are given too, and goes on behind each contact: the motion that met a block is
@@ -73,8 +86,13 @@ pub fn collect_contacts<P: Part>(
     ensures contacts { IfOk result (λ x. AreContacts blocks.now loaded.now steps x.contacts.items x.stop) }
     ensures fault { IfErr result (AreNoContacts blocks.now loaded.now steps) }
 {
-    match Passing::new(alloc, loaded, part, blocks) {
-        Ok(mut machine) => run_on(alloc, &mut machine, steps),
-        Err(_) => Err(ContactsFault::NoMemory),
+    let mut contacts = Vec::new(alloc);
+    let mut machine = match Passing::new(alloc, loaded, part, blocks) {
+        Ok(machine) => machine,
+        Err(_) => return Err(ContactsFault::NoMemory),
+    };
+    match run_on(alloc, &mut machine, steps, &mut contacts) {
+        Ok(stop) => Ok(Contacts { contacts, stop }),
+        Err(fault) => Err(fault),
     }
 }

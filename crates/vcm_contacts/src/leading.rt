@@ -9,7 +9,8 @@ ghost use Rattle.vcm_spec.specs.declared.stop.Stop.TheVariants.{Collision};
 ghost use Rattle.vcm_code.specs.Checks.{OpFits};
 ghost use Rattle.vcm_way.specs.Steps.{TaskEnds};
 ghost use Rattle.vcm_way.specs.Tasks.{task_of};
-ghost use Rattle.vcm_contacts.specs.Leading.{direction_of, toward, feature_at, measured, aim_by, aim_in, touched_by, touched_in, lead_to, lead_by, lead};
+ghost use Rattle.vcm_contacts.specs.inner.Standing.{IsSound};
+ghost use Rattle.vcm_contacts.specs.Leading.{toward, feature_at, back_with, measured, aim_by, aim_in, touched_by, touched_in, lead_to, lead_by, lead};
 
 use crate::contact::Lead;
 use vcm_code::Op;
@@ -158,6 +159,27 @@ fn lead_by<P: Part>(
     }
 }
 
+// How a run goes on behind a statement that meets a block, by what its step adds to the way.
+fn lead_of<P: Part>(
+    part: &P,
+    blocks: &PartData,
+    world: &World,
+    statement: &BorrowedStatement<'_>,
+    phase: MovePhase,
+    hit: Hit,
+) -> Lead
+    requires tie { P.part part.now ≡ blocks.now }
+    requires fits { (count : ℕ) × OpFits world.now.tables count statement.now.op }
+    requires near { IsTrue (is_near world.now.state.position) }
+    requires ends { TaskEnds blocks.now world.now.state.position world.now.state.settings (task_of blocks.now.bounds.home world.now.state statement.now.op) (Some (Collision phase hit)) }
+    ensures { result ≡ lead blocks.now world.now.state statement.now.op phase hit }
+{
+    let before = look(world, blocks.bounds().home, statement);
+    let stop = Stop::Collision(phase, hit);
+    let marks = marks_of_step(part, blocks, &before, Some(stop));
+    lead_by(part, world, &statement.op, phase, hit, marks.as_slice())
+}
+
 /// How a run goes on behind a statement that meets a block in a state of the machine, beside a workpiece whose blocks are given too.
 pub(crate) fn lead<P: Part>(
     part: &P,
@@ -174,8 +196,7 @@ pub(crate) fn lead<P: Part>(
     ensures is { result ≡ lead blocks.now world.now.state statement.now.op phase hit }
     ensures sound { IsSound world.now.tables statement.now.op result }
 {
-    let before = look(world, blocks.bounds().home, statement);
-    let stop = Stop::Collision(phase, hit);
-    let marks = marks_of_step(part, blocks, &before, Some(stop));
-    lead_by(part, world, &statement.op, phase, hit, marks.as_slice())
+    // It is called for what it tells of the workpiece: that it is valid.
+    let _bounds = blocks.bounds();
+    lead_of(part, blocks, world, statement, phase, hit)
 }

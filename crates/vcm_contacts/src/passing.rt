@@ -101,6 +101,8 @@ impl<'a, P: Part> Passing<'a, P> {
         ensures { (s : Statement) × (slice_get self.old.code.statements self.old.state.next ≡ Some s) × (result ≡ contact_at self.old phase hit s)
             × (self.new ≡ led_on self.old s (lead self.old.part self.old.state.world s.op phase hit)) }
     {
+        // It is called for what it tells of the place: that it is near.
+        let _at = self.world.near_position();
         let number = self.next;
         let statement = self.loaded.statement(number as usize);
         match lead(self.part, self.blocks, &self.world, &statement, phase, hit) {

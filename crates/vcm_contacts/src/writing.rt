@@ -3,7 +3,7 @@
 ghost use Rattle.std.specs.Prelude.{◌≡◌, ◌++◌, flat_map};
 ghost use Rattle.vcm_num.specs.Written.{Wrote};
 ghost use Rattle.vcm_report.specs.Printed.{phase_text};
-ghost use Rattle.vcm_contacts.specs.Printed.{contact_line, count_line, no_stop_line, end_line, contacts_text};
+ghost use Rattle.vcm_contacts.specs.Printed.{contact_line, contacts_word, some_line, count_line, no_stop_line, end_line, contacts_text};
 
 use crate::contact::Contact;
 use itoa::Buffer;
@@ -66,33 +66,45 @@ fn write_each<W: Write>(contacts: &[Contact], writer: &mut W) -> Result<(), Writ
     Ok(())
 }
 
-// Writes how many contacts there are, and what stands behind the first.
+// One contact, or several.
+fn contacts_word(count: usize) -> &'static [u8]
+    ensures { result.now ≡ contacts_word count }
+{
+    if count == 1 {
+        b" contact"
+    } else {
+        b" contacts"
+    }
+}
+
+// Writes how many contacts there are, the first on this line, and what stands behind it.
+fn write_some<W: Write>(count: usize, line: u32, writer: &mut W) -> Result<(), WriteFault>
+    ensures { Wrote (W.contents writer.old) (W.contents writer.new) (some_line count line) result }
+{
+    let word = contacts_word(count);
+    let mut number = Buffer::new();
+    let mut place = Buffer::new();
+    let number = number.format(count).as_bytes();
+    let place = place.format(line).as_bytes();
+    write_pieces(
+        writer,
+        &[
+            number,
+            word,
+            b"; behind line ",
+            place,
+            b" the run is one that would not take place\n",
+        ],
+    )
+}
+
+// Writes how many contacts there are.
 fn write_count<W: Write>(contacts: &[Contact], writer: &mut W) -> Result<(), WriteFault>
     ensures { Wrote (W.contents writer.old) (W.contents writer.new) (count_line contacts.now) result }
 {
-    let mut line = Buffer::new();
-    match contacts {
-        [] => write_all(writer, b"0 contacts\n"),
-        [first] => write_pieces(
-            writer,
-            &[
-                b"1 contact; behind line ",
-                line.format(first.line).as_bytes(),
-                b" the run is one that would not take place\n",
-            ],
-        ),
-        [first, ..] => {
-            let mut count = Buffer::new();
-            write_pieces(
-                writer,
-                &[
-                    count.format(contacts.len()).as_bytes(),
-                    b" contacts; behind line ",
-                    line.format(first.line).as_bytes(),
-                    b" the run is one that would not take place\n",
-                ],
-            )
-        }
+    match contacts.split_first() {
+        None => write_all(writer, b"0 contacts\n"),
+        Some((first, _)) => write_some(contacts.len(), first.line, writer),
     }
 }
 
@@ -120,6 +132,20 @@ fn write_end<W: Write>(
     }
 }
 
+// Writes how many contacts there are, and how the run ended.
+fn write_rest<W: Write>(
+    tables: &Tables,
+    contacts: &[Contact],
+    stop: Option<StopPlace>,
+    steps: u64,
+    writer: &mut W,
+) -> Result<(), WriteFault>
+    ensures { Wrote (W.contents writer.old) (W.contents writer.new) (count_line contacts.now ++ end_line tables.now stop steps) result }
+{
+    write_count(contacts, writer)?;
+    write_end(tables, stop, steps, writer)
+}
+
 /// Writes the contacts of a run for so many steps, a line for each, how many they are, that what stands behind the first is a guess, and how the run ended.
 ///
 /// Errors: the writer failed, or took no byte; then it has taken a front of the text, and not all of it.
@@ -133,6 +159,5 @@ pub fn write_contacts<W: Write>(
     ensures { Wrote (W.contents writer.old) (W.contents writer.new) (contacts_text tables.now contacts.now stop steps) result }
 {
     write_each(contacts, writer)?;
-    write_count(contacts, writer)?;
-    write_end(tables, stop, steps, writer)
+    write_rest(tables, contacts, stop, steps, writer)
 }

@@ -8,16 +8,18 @@ use Rattle.vcm_code.specs.declared.code.Code.{Code}
 use Rattle.vcm_code.specs.CodeTable.{CodeState}
 use Rattle.vcm_part.specs.Tip.{is_tip, with_tip}
 use Rattle.vcm_margin.specs.declared.difference.Difference.{Difference}
-use Rattle.vcm_margin.specs.declared.difference.Difference.TheVariants.{HomeNotClear, Stop, Next, Feature as Measured}
+use Rattle.vcm_margin.specs.declared.difference.Difference.TheVariants.{Stop, Next, Feature as Measured}
+use Rattle.vcm_margin.specs.declared.difference.Met.{Met}
+use Rattle.vcm_margin.specs.declared.difference.Met.TheVariants.{Home, Behind}
+use Rattle.vcm_margin.specs.declared.difference.Seen.{Seen}
 use Rattle.vcm_margin.specs.Alike.{reached, measures, actual_in, IsAlike, GoAlike, Differ, DifferFirst}
 use Rattle.vcm_margin.specs.Margin.{GoesWith, IsMet, MetBy}
-use Rattle.vcm_margin.specs.Laws.{ComesThrough, MarginsAreGreatest, MarginsAreOne, IsTellable, MarginsTellFaultsOrPoints}
+use Rattle.vcm_margin.specs.Laws.{ComesThrough, MarginsAreGreatest, MarginsAreOne, IsTold, MarginsTellFaultsOrPoints}
 use Rattle.vcm_margin.proofs.Widths.{tellable, monotone}
 
 -- ---- what differs
 
 not_both : (c : Code) (before a b : CodeState) (d : Difference) → Differ c before a b d → IsAlike (measures c before) a b → ⊥
-not_both c before a b HomeNotClear x y = x
 not_both c before a b (Stop s) x y = x.0 y.stop
 not_both c before a b (Next n) x y = x.1.0 y.next
 not_both c before a b (Measured i f place) x y = x.1.1.1.1.0 (y.feature i x.1.1.0)
@@ -26,16 +28,12 @@ same_index : (i j : ℕ) → Some i ≡ Some j → i ≡ j
 same_index i j e = cc
 
 differ_one : (c : Code) (before a b : CodeState) (d e : Difference) → Differ c before a b d → Differ c before a b e → d ≡ e
-differ_one c before a b HomeNotClear e x y = absurd x
-differ_one c before a b (Stop s) HomeNotClear x y = absurd y
 differ_one c before a b (Stop s) (Stop t) x y = ap (λ z. Stop z) (x.1 ∙ sym y.1)
 differ_one c before a b (Stop s) (Next n) x y = absurd (x.0 y.0)
 differ_one c before a b (Stop s) (Measured i f place) x y = absurd (x.0 y.0)
-differ_one c before a b (Next n) HomeNotClear x y = absurd y
 differ_one c before a b (Next n) (Stop t) x y = absurd (y.0 x.0)
 differ_one c before a b (Next n) (Next m) x y = ap (λ z. Next z) (x.1.1 ∙ sym y.1.1)
 differ_one c before a b (Next n) (Measured i f place) x y = absurd (x.1.0 y.1.0)
-differ_one c before a b (Measured i f place) HomeNotClear x y = absurd y
 differ_one c before a b (Measured i f place) (Stop t) x y = absurd (y.0 x.0)
 differ_one c before a b (Measured i f place) (Next n) x y = absurd (y.1.0 x.1.0)
 differ_one c before a b (Measured i f place) (Measured j g there) x y =
@@ -46,17 +44,26 @@ differ_one c before a b (Measured i f place) (Measured j g there) x y =
 
 module _ (part other : Workpiece) (c : Code) (n : ℕ) where
   -- two runs don't differ first at a step behind which they are alike
-  not_there : (d : Difference) (x : DifferFirst part other c n d)
+  not_there : (seen : Seen) (x : DifferFirst part other c n seen)
       → IsAlike (measures c (reached part c x.before)) (reached part c (suc x.before)) (reached other c (suc x.before)) → ⊥
-  not_there d x a = not_both c (reached part c x.before) (reached part c (suc x.before)) (reached other c (suc x.before)) d x.differ a
+  not_there seen x a = not_both c (reached part c x.before) (reached part c (suc x.before)) (reached other c (suc x.before)) seen.what x.differ a
 
-  not_first : (d : Difference) → DifferFirst part other c n d → (m : ℕ) → n ≤ m → GoAlike part other c m → ⊥
-  not_first d x m l g = not_there d x (g x.before (let w = x.within in omega (arith, w, l)))
+  not_first : (seen : Seen) → DifferFirst part other c n seen → (m : ℕ) → n ≤ m → GoAlike part other c m → ⊥
+  not_first seen x m l g = not_there seen x (g x.before (let w = x.within in omega (arith, w, l)))
 
-  first_one : (d e : Difference) → DifferFirst part other c n d → DifferFirst part other c n e → d ≡ e
+  -- where they differ first behind as many steps, they differ there in one thing
+  first_there : (d e : Seen) (x : DifferFirst part other c n d) (y : DifferFirst part other c n e) → x.before ≡ y.before → d ≡ e
+  first_there d e x y same =
+      let what : d.what ≡ e.what =
+      differ_one c (reached part c y.before) (reached part c (suc y.before)) (reached other c (suc y.before)) d.what e.what
+      (subst (λ k. Differ c (reached part c k) (reached part c (suc k)) (reached other c (suc k)) d.what) same x.differ) y.differ in
+      let steps : d.steps ≡ e.steps = x.steps_are ∙ ap suc same ∙ sym y.steps_are in
+      let position : d.position ≡ e.position = x.position_is ∙ ap (λ k. (reached other c (suc k)).world.position) same ∙ sym y.position_is in
+      λ t. record { what = what t; steps = steps t; position = position t }
+
+  first_one : (d e : Seen) → DifferFirst part other c n d → DifferFirst part other c n e → d ≡ e
   first_one d e x y = elim (cases_order x.before y.before) [
-    | inl same ↦ differ_one c (reached part c y.before) (reached part c (suc y.before)) (reached other c (suc y.before)) d e
-        (subst (λ k. Differ c (reached part c k) (reached part c (suc k)) (reached other c (suc k)) d) same x.differ) y.differ
+    | inl same ↦ first_there d e x y same
     | inr (inl l) ↦ absurd (not_there d x (y.alike x.before l))
     | inr (inr l) ↦ absurd (not_there e y (x.alike y.before l))
   ]
@@ -66,34 +73,23 @@ module _ (part : Workpiece) (c : Code) (n h : ℕ) where
   both_tips e f = (let both : false ≡ true = sym e ∙ f in cc)
 
   -- what is met with a width excludes that the run goes with it
-  not_met : (d : Difference) → IsMet part c n h d → GoesWith part c n h → ⊥
-  not_met HomeNotClear m g = both_tips m g.may
-  not_met (Stop s) m g = not_first part (with_tip h part) c n (Stop s) m.1 n (omega arith) g.alike
-  not_met (Next k) m g = not_first part (with_tip h part) c n (Next k) m.1 n (omega arith) g.alike
-  not_met (Measured i f place) m g = not_first part (with_tip h part) c n (Measured i f place) m.1 n (omega arith) g.alike
+  not_met : (d : Met) → IsMet part c n h d → GoesWith part c n h → ⊥
+  not_met Home m g = both_tips m g.may
+  not_met (Behind seen) m g = not_first part (with_tip h part) c n seen m.1 n (omega arith) g.alike
 
-  other_one : (d : Difference) → IsTrue (is_tip part h) → DifferFirst part (with_tip h part) c n d → (e : Difference) → IsMet part c n h e → d ≡ e
-  other_one d may x HomeNotClear m = absurd (both_tips m may)
-  other_one d may x (Stop s) m = first_one part (with_tip h part) c n d (Stop s) x m.1
-  other_one d may x (Next k) m = first_one part (with_tip h part) c n d (Next k) x m.1
-  other_one d may x (Measured i f place) m = first_one part (with_tip h part) c n d (Measured i f place) x m.1
+  met_one : (d e : Met) → IsMet part c n h d → IsMet part c n h e → d ≡ e
+  met_one Home Home m k = refl
+  met_one Home (Behind s) m k = absurd (both_tips m k.0)
+  met_one (Behind s) Home m k = absurd (both_tips k m.0)
+  met_one (Behind s) (Behind t) m k = ap (λ z. Behind z) (first_one part (with_tip h part) c n s t m.1 k.1)
 
-  met_one : (d e : Difference) → IsMet part c n h d → IsMet part c n h e → d ≡ e
-  met_one HomeNotClear HomeNotClear m k = refl
-  met_one HomeNotClear (Stop s) m k = absurd (both_tips m k.0)
-  met_one HomeNotClear (Next j) m k = absurd (both_tips m k.0)
-  met_one HomeNotClear (Measured i f place) m k = absurd (both_tips m k.0)
-  met_one (Stop s) e m k = other_one (Stop s) m.0 m.1 e k
-  met_one (Next j) e m k = other_one (Next j) m.0 m.1 e k
-  met_one (Measured i f place) e m k = other_one (Measured i f place) m.0 m.1 e k
-
-  by_one : (d e : Option Difference) → MetBy part c n h d → MetBy part c n h e → d ≡ e
+  by_one : (d e : Option Met) → MetBy part c n h d → MetBy part c n h e → d ≡ e
   by_one None None m k = refl
   by_one None (Some e) m k = absurd (let l = k.0 in omega (arith, m, l))
   by_one (Some d) None m k = absurd (let l = m.0 in omega (arith, k, l))
   by_one (Some d) (Some e) m k = ap (λ z. Some z) (met_one d e m.1 k.1)
 
-  not_met_by : (d : Option Difference) → MetBy part c n h d → GoesWith part c n h → ⊥
+  not_met_by : (d : Option Met) → MetBy part c n h d → GoesWith part c n h → ⊥
   not_met_by None m g =
       let most = leb-true h 50000 (and_parts (nat_le h 50000) (not (is_some_met h part.blocks (coordinate part.bounds.home))) g.may).0 in
       absurd (omega (arith, m, most))
@@ -115,11 +111,9 @@ one_margin part valid c ok n comes m o x y = elim (cases_order m.tip o.tip) [
   | inr (inr l) ↦ absurd (greatest part valid c ok n comes o y m.tip l x.goes)
 ]
 
-met_tellable : (part : Workpiece) (c : Code) (n : ℕ) → ComesThrough part c n → (h : ℕ) (d : Difference) → IsMet part c n h d → IsTellable d
-met_tellable part c n comes h HomeNotClear x = tt
-met_tellable part c n comes h (Stop s) x = tellable part (with_tip h part) c n (Stop s) x.1 comes
-met_tellable part c n comes h (Next k) x = tellable part (with_tip h part) c n (Next k) x.1 comes
-met_tellable part c n comes h (Measured i f place) x = tt
+met_told : (part : Workpiece) (c : Code) (n : ℕ) → ComesThrough part c n → (h : ℕ) (d : Met) → IsMet part c n h d → IsTold d
+met_told part c n comes h Home x = tt
+met_told part c n comes h (Behind seen) x = tellable part (with_tip h part) c n seen x.1 comes
 
 pub told_so : MarginsTellFaultsOrPoints
-told_so part c n comes m x d e = met_tellable part c n comes (m.tip + 1) d (subst (λ o. MetBy part c n (m.tip + 1) o) e x.met).1
+told_so part c n comes m x d e = met_told part c n comes (m.tip + 1) d (subst (λ o. MetBy part c n (m.tip + 1) o) e x.met).1

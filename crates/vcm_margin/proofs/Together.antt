@@ -2,9 +2,12 @@
 use Rattle.std.proofs.Common.{◌≡◌, ℕ, zero, suc, ◌+◌, ◌<◌, ◌⊎◌, inl, inr, refl, sym, ap, ◌∙◌, subst, arith}
 use Rattle.vcm_spec.specs.Workpiece.{Workpiece}
 use Rattle.vcm_code.specs.declared.code.Code.{Code}
+use Rattle.vcm_code.specs.CodeTable.{CodeState}
 use Rattle.vcm_machine.specs.Running.{Running, started, later}
 use Rattle.vcm_machine.proofs.LawLemmas.{add_up}
+use Rattle.vcm_num.specs.declared.point.Point.{Point}
 use Rattle.vcm_margin.specs.declared.difference.Difference.{Difference}
+use Rattle.vcm_margin.specs.declared.difference.Seen.{Seen}
 use Rattle.vcm_margin.specs.Alike.{reached, measures, IsAlike, GoAlike, Differ, DifferFirst}
 use Rattle.vcm_margin.specs.inner.Stepped.{BothLater, HaveGone}
 
@@ -71,6 +74,13 @@ module _ (part other : Workpiece) (c : Code) (n : ℕ) (one two new_one new_two 
       (record { first = first_on; second = second_on; alike = more_alike a })
 
   -- here they differ
-  pub differs : (steps : ℕ) → n < steps → (d : Difference) → Differ one.code one.state new_one.state new_two.state d
-      → DifferFirst part other c steps d
-  differs steps l d a = record { before = n; within = l; alike = h.alike; differ = differ_there d a }
+  pub differs : (steps : ℕ) → n < steps → (seen : Seen) → Differ one.code one.state new_one.state new_two.state seen.what → seen.steps ≡ n + 1
+      → seen.position ≡ new_two.state.world.position → DifferFirst part other c steps seen
+  differs steps l seen a count place = record {
+    before = n;
+    within = l;
+    alike = h.alike;
+    differ = differ_there seen.what a;
+    steps_are = count ∙ (let e : n + 1 ≡ suc n = omega arith in e);
+    position_is = place ∙ ap (λ (m : CodeState). m.world.position) other_is;
+  }

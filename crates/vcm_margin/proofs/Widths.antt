@@ -21,7 +21,8 @@ use Rattle.vcm_code.proofs.Checked.{fits_at}
 use Rattle.vcm_part.specs.Tip.{with_tip, is_tip}
 use Rattle.vcm_machine.proofs.RestsAlong.{rests_always}
 use Rattle.vcm_margin.specs.declared.difference.Difference.{Difference}
-use Rattle.vcm_margin.specs.declared.difference.Difference.TheVariants.{HomeNotClear, Stop, Next, Feature as Measured}
+use Rattle.vcm_margin.specs.declared.difference.Difference.TheVariants.{Stop, Next, Feature as Measured}
+use Rattle.vcm_margin.specs.declared.difference.Seen.{Seen}
 use Rattle.vcm_margin.specs.Alike.{reached, measured_by, measured, measures, IsAlike, GoAlike, Differ, DifferFirst}
 use Rattle.vcm_margin.specs.Laws.{moved_to, ShowTheSame, AlikeRunsShowTheSame, NoneOrEnd, ComesThrough, GoingAlikeIsMonotone, IsTellable}
 use Rattle.vcm_margin.proofs.Cubes.{lies_there, some_met_wider}
@@ -91,7 +92,7 @@ along_sound part c (suc k) =
     (step_sound (length c.tables.features) (setup_of part c.tables) c.statements (reached part c k) (along_sound part c k))
 
 -- where two runs differ first, it is not in the next statement; nor by no stop, where the first one comes through
-module _ (part other : Workpiece) (c : Code) (n : ℕ) (d : Difference) (x : DifferFirst part other c n d) where
+module _ (part other : Workpiece) (c : Code) (n : ℕ) (seen : Seen) (x : DifferFirst part other c n seen) where
   near : IsNear (reached part c (suc x.before)) (reached other c (suc x.before))
   near =
       let m : CodeState = reached part c x.before in
@@ -102,14 +103,13 @@ module _ (part other : Workpiece) (c : Code) (n : ℕ) (d : Difference) (x : Dif
       (subst (IsNear (code_step (setup_of part c.tables) c.statements m)) (sym y)
       (step_near part other c.tables c.statements m (reached other c x.before).world.position (along_sound part c x.before)))
 
-  pub tellable : ComesThrough part c n → IsTellable d
-  tellable comes = by d x.differ
+  pub tellable : ComesThrough part c n → IsTellable seen.what
+  tellable comes = by seen.what x.differ
     where
       come : NoneOrEnd (reached part c (suc x.before)).world.stop
       come = comes_before part c n comes (suc x.before) (let w = x.within in omega (arith, w))
 
       by : (e : Difference) → Differ c (reached part c x.before) (reached part c (suc x.before)) (reached other c (suc x.before)) e → IsTellable e
-      by HomeNotClear y = tt
       by (Stop (Some p)) y = tt
       by (Stop None) y = y.0 (near.stop come (sym y.1) ∙ y.1)
       by (Next k) y = y.1.0 (near.next y.0)

@@ -10,7 +10,8 @@ use Rattle.vcm_code.specs.declared.op.Op.TheVariants.{Plain}
 use Rattle.vcm_code.specs.CodeTable.{CodeState, code_steps, start}
 use Rattle.vcm_margin.specs.declared.difference.Difference.{Difference}
 use Rattle.vcm_margin.specs.declared.difference.Place.{Place}
-use Rattle.vcm_margin.specs.declared.difference.Difference.TheVariants.{HomeNotClear, Stop, Next, Feature as Measured}
+use Rattle.vcm_margin.specs.declared.difference.Difference.TheVariants.{Stop, Next, Feature as Measured}
+use Rattle.vcm_margin.specs.declared.difference.Seen.{Seen}
 
 -- the state of a code beside a workpiece after so many steps
 abbrev pub reached : Workpiece → Code → ℕ → CodeState
@@ -56,16 +57,17 @@ next_place c m = record { number = m.next; line = line_in (slice_get c.statement
 -- behind the step from a state the two states that come of it differ, and this is told of the second one: its stop, where the stops differ; with equal
 -- stops the next statement, where these differ; and with both equal the feature that the step measured, where that differs
 abbrev pub Differ : Code → CodeState → CodeState → CodeState → Difference → Type 0
-Differ c before a b HomeNotClear = ⊥
 Differ c before a b (Stop s) = (a.world.stop ≢ b.world.stop) × (s ≡ b.world.stop)
 Differ c before a b (Next n) = (a.world.stop ≡ b.world.stop) × ((a.next ≢ b.next) × (n ≡ b.next))
 Differ c before a b (Measured i f place) =
     (a.world.stop ≡ b.world.stop) × ((a.next ≡ b.next) × ((measures c before ≡ Some i)
     × ((place ≡ next_place c before) × ((actual_in a i ≢ actual_in b i) × (f ≡ actual_in b i)))))
 
--- in so many steps they go alike up to one, behind which they differ so
-pub record DifferFirst (part other : Workpiece) (c : Code) (n : ℕ) (d : Difference) : Type 0 where
+-- in so many steps they go alike up to one, behind which they differ so; with it so many were taken, and beside the second workpiece the probe is at this place
+pub record DifferFirst (part other : Workpiece) (c : Code) (n : ℕ) (seen : Seen) : Type 0 where
   pub before : ℕ
   pub within : before < n
   pub alike : GoAlike part other c before
-  pub differ : Differ c (reached part c before) (reached part c (suc before)) (reached other c (suc before)) d
+  pub differ : Differ c (reached part c before) (reached part c (suc before)) (reached other c (suc before)) seen.what
+  pub steps_are : seen.steps ≡ suc before
+  pub position_is : seen.position ≡ (reached other c (suc before)).world.position

@@ -10,6 +10,8 @@ use Rattle.vcm_code.specs.Valid as codes
 use Rattle.vcm_margin.specs.declared.difference.Difference.{Difference}
 use Rattle.vcm_margin.specs.declared.difference.Difference.TheVariants.{Stop, Next}
 use Rattle.vcm_margin.specs.declared.difference.Margin.{Margin}
+use Rattle.vcm_margin.specs.declared.difference.Met.{Met}
+use Rattle.vcm_margin.specs.declared.difference.Met.TheVariants.{Home, Behind}
 use Rattle.vcm_margin.specs.Alike.{reached, GoAlike}
 use Rattle.vcm_margin.specs.Margin.{GoesWith, IsMargin}
 
@@ -53,13 +55,18 @@ MarginsAreOne =
     (part : Workpiece) → IsValid part → (c : Code) → codes.IsValid c → (n : ℕ) → ComesThrough part c n → (m o : Margin) → IsMargin part c n m
     → IsMargin part c n o → m ≡ o
 
--- something that a margin tells: a block at home, a stop, or a feature; not another next statement, and not that there is no stop
+-- a stop, or a feature; not another next statement, and not that there is no stop
 abbrev pub IsTellable : Difference → Type 0
 IsTellable (Stop None) = ⊥
 IsTellable (Next n) = ⊥
 IsTellable d = Unit {0}
 
--- what a margin tells is such a thing
+-- a block at home, or such a thing
+abbrev pub IsTold : Met → Type 0
+IsTold Home = Unit {0}
+IsTold (Behind seen) = IsTellable seen.what
+
+-- what a margin tells is that
 abbrev pub MarginsTellFaultsOrPoints : Type 0
 MarginsTellFaultsOrPoints =
-    (part : Workpiece) (c : Code) (n : ℕ) → ComesThrough part c n → (m : Margin) → IsMargin part c n m → (d : Difference) → m.met ≡ Some d → IsTellable d
+    (part : Workpiece) (c : Code) (n : ℕ) → ComesThrough part c n → (m : Margin) → IsMargin part c n m → (d : Met) → m.met ≡ Some d → IsTold d

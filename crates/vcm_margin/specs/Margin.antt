@@ -3,9 +3,9 @@ use Rattle.std.specs.Prelude.{◌≡◌, ℕ, ◌+◌, ◌≤◌, false, IsTrue,
 use Rattle.vcm_spec.specs.Workpiece.{Workpiece}
 use Rattle.vcm_code.specs.declared.code.Code.{Code}
 use Rattle.vcm_part.specs.Tip.{with_tip, is_tip}
-use Rattle.vcm_margin.specs.declared.difference.Difference.{Difference}
+use Rattle.vcm_margin.specs.declared.difference.Met.{Met}
 use Rattle.vcm_margin.specs.declared.difference.Margin.{Margin}
-use Rattle.vcm_margin.specs.declared.difference.Difference.TheVariants.{HomeNotClear}
+use Rattle.vcm_margin.specs.declared.difference.Met.TheVariants.{Home, Behind}
 use Rattle.vcm_margin.specs.Alike.{GoAlike, DifferFirst}
 
 -- with a tip of half width h, which the workpiece may have, a code goes in so many steps as it does with the own one
@@ -14,12 +14,12 @@ pub record GoesWith (part : Workpiece) (c : Code) (n h : ℕ) : Type 0 where
   pub alike : GoAlike part (with_tip h part) c n
 
 -- with that tip it doesn't: the tip isn't clear at home; or it is, and this is what differs first
-abbrev pub IsMet : Workpiece → Code → ℕ → ℕ → Difference → Type 0
-IsMet part c n h HomeNotClear = is_tip part h ≡ false
-IsMet part c n h d = IsTrue (is_tip part h) × DifferFirst part (with_tip h part) c n d
+abbrev pub IsMet : Workpiece → Code → ℕ → ℕ → Met → Type 0
+IsMet part c n h Home = is_tip part h ≡ false
+IsMet part c n h (Behind seen) = IsTrue (is_tip part h) × DifferFirst part (with_tip h part) c n seen
 
 -- what is met with a half width: something up to 50,000, which is the widest, and nothing with one more
-abbrev pub MetBy : Workpiece → Code → ℕ → ℕ → Option Difference → Type 0
+abbrev pub MetBy : Workpiece → Code → ℕ → ℕ → Option Met → Type 0
 MetBy part c n h None = h ≡ 50001
 MetBy part c n h (Some d) = (h ≤ 50000) × IsMet part c n h d
 

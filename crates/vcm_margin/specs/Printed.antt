@@ -1,12 +1,18 @@
 -- A margin as text.
 use Rattle.std.specs.Prelude.{ℕ, ◌+◌, List, [], ◌∷◌, ◌++◌, Option, Some, None, decimal, codes}
+use Rattle.vcm_num.specs.declared.point.Point.{Point}
+use Rattle.vcm_num.specs.Point.{coordinate}
+use Rattle.vcm_num.specs.Texts.{thousandths}
 use Rattle.vcm_spec.specs.declared.feature.Feature.{Feature}
 use Rattle.vcm_spec.specs.declared.words.Source.TheVariants.{Actual}
 use Rattle.vcm_spec.specs.Setup.{Tables}
 use Rattle.vcm_report.specs.Printed.{in_a_row, feature_words, stopped_line}
 use Rattle.vcm_margin.specs.declared.difference.Difference.{Difference}
-use Rattle.vcm_margin.specs.declared.difference.Difference.TheVariants.{HomeNotClear, Stop, Next, Feature as Measured}
+use Rattle.vcm_margin.specs.declared.difference.Difference.TheVariants.{Stop, Next, Feature as Measured}
 use Rattle.vcm_margin.specs.declared.difference.Margin.{Margin}
+use Rattle.vcm_margin.specs.declared.difference.Met.{Met}
+use Rattle.vcm_margin.specs.declared.difference.Met.TheVariants.{Home, Behind}
+use Rattle.vcm_margin.specs.declared.difference.Seen.{Seen}
 use Rattle.vcm_margin.specs.declared.difference.Place.{Place}
 
 -- which statement measures a point, and the end of the line
@@ -21,13 +27,34 @@ feature_text tables i f place = feature_words tables Actual i f ++ place_text pl
 abbrev pub next_text : ℕ → List ℕ
 next_text n = in_a_row (codes "next " ∷ decimal n ∷ codes "\n" ∷ [])
 
--- what is met
+-- in what a run differs
 abbrev pub difference_text : Tables → Difference → List ℕ
-difference_text tables HomeNotClear = codes "P06 HomeNotClear\n"
 difference_text tables (Stop (Some place)) = stopped_line tables place
 difference_text tables (Stop None) = codes "no stop\n"
 difference_text tables (Next n) = next_text n
 difference_text tables (Measured i f place) = feature_text tables i f place
+
+-- where the probe is
+abbrev pub position_line : Point → List ℕ
+position_line p = in_a_row (codes "position " ∷ thousandths (coordinate p 0) ∷ codes " " ∷ thousandths (coordinate p 1) ∷ codes " "
+    ∷ thousandths (coordinate p 2) ∷ codes "\n" ∷ [])
+
+-- how many steps were taken
+abbrev pub steps_line : ℕ → List ℕ
+steps_line n = in_a_row (codes "steps " ∷ decimal n ∷ codes "\n" ∷ [])
+
+-- both
+abbrev pub state_lines : Point → ℕ → List ℕ
+state_lines p n = position_line p ++ steps_line n
+
+-- in what a run differs, and where
+abbrev pub seen_text : Tables → Seen → List ℕ
+seen_text tables seen = difference_text tables seen.what ++ state_lines seen.position seen.steps
+
+-- what is met
+abbrev pub difference_or_home : Tables → Met → List ℕ
+difference_or_home tables Home = codes "P06 HomeNotClear\n"
+difference_or_home tables (Behind seen) = seen_text tables seen
 
 -- the half width
 abbrev pub width_text : ℕ → List ℕ
@@ -38,9 +65,9 @@ abbrev pub wider_text : ℕ → List ℕ
 wider_text h = in_a_row (codes "at " ∷ decimal (h + 1) ∷ codes " " ∷ [])
 
 -- what is met with it, if there is a wider tip
-abbrev pub met_text : Tables → ℕ → Option Difference → List ℕ
+abbrev pub met_text : Tables → ℕ → Option Met → List ℕ
 met_text tables h None = []
-met_text tables h (Some d) = wider_text h ++ difference_text tables d
+met_text tables h (Some met) = wider_text h ++ difference_or_home tables met
 
 -- the half width, and what is met
 abbrev pub margin_text : Tables → Margin → List ℕ

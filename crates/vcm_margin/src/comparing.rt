@@ -6,7 +6,7 @@ ghost use Rattle.vcm_machine.specs.Running.{started};
 ghost use Rattle.vcm_margin.specs.Alike.{measured_by, measures, next_place, actual_in, IsAlike, GoAlike, Differ, DifferFirst};
 ghost use Rattle.vcm_margin.specs.inner.Stepped.{BothLater};
 
-use crate::difference::{Difference, Place};
+use crate::difference::{Difference, Place, Seen};
 use crate::same::{is_same_feature, is_same_stop};
 use std::alloc::Global;
 use vcm_code::Op;
@@ -86,36 +86,44 @@ fn step_both<P: Part, Q: Part>(
     Ok(differing(which, Place { number, line }, one, other))
 }
 
-// What differs first in so many steps of two machines at the start of one code.
+// Where two machines differ first in so many steps from the start of one code.
 fn compare_on<P: Part, Q: Part>(
     alloc: Global,
     loaded: &Loaded<'_>,
     one: &mut Machine<'_, P>,
     other: &mut Machine<'_, Q>,
     steps: u64,
-) -> Result<Option<Difference>, NoMemory>
+) -> Result<Option<Seen>, NoMemory>
     requires one { one.old ≡ started one.old.part loaded.now }
     requires other { other.old ≡ started other.old.part loaded.now }
     ensures differ { IfOk result (λ d. IfSome d (DifferFirst one.old.part other.old.part loaded.now steps)) }
     ensures alike { IfOk result (λ d. IfNone d (GoAlike one.old.part other.old.part loaded.now steps)) }
 {
-    for _step in 0..steps {
+    for step in 0..steps {
         match step_both(alloc, loaded, one, other)? {
-            Some(difference) => return Ok(Some(difference)),
+            Some(what) => {
+                let position = other.world().position();
+                let steps = step + 1;
+                return Ok(Some(Seen {
+                    what,
+                    steps,
+                    position,
+                }));
+            }
             None => {}
         }
     }
     Ok(None)
 }
 
-// What differs first in so many steps of a machine at the start of a loaded code and of one beside another workpiece.
+// Where a machine at the start of a loaded code and one beside another workpiece differ first in so many steps.
 fn compare_beside<P: Part, Q: Part>(
     alloc: Global,
     loaded: &Loaded<'_>,
     one: &mut Machine<'_, P>,
     other: &Q,
     steps: u64,
-) -> Result<Option<Difference>, NoMemory>
+) -> Result<Option<Seen>, NoMemory>
     requires { one.old ≡ started one.old.part loaded.now }
     ensures differ { IfOk result (λ d. IfSome d (DifferFirst one.old.part (Q.part other.now) loaded.now steps)) }
     ensures alike { IfOk result (λ d. IfNone d (GoAlike one.old.part (Q.part other.now) loaded.now steps)) }
@@ -124,7 +132,7 @@ fn compare_beside<P: Part, Q: Part>(
     compare_on(alloc, loaded, one, &mut second, steps)
 }
 
-/// What differs first in so many steps of a loaded code beside two workpieces.
+/// Where the runs of a loaded code beside two workpieces differ first in so many steps; the position is that beside the second.
 ///
 /// Errors: want of memory.
 pub(crate) fn compare<P: Part, Q: Part>(
@@ -133,7 +141,7 @@ pub(crate) fn compare<P: Part, Q: Part>(
     one: &P,
     other: &Q,
     steps: u64,
-) -> Result<Option<Difference>, NoMemory>
+) -> Result<Option<Seen>, NoMemory>
     ensures differ { IfOk result (λ d. IfSome d (DifferFirst (P.part one.now) (Q.part other.now) loaded.now steps)) }
     ensures alike { IfOk result (λ d. IfNone d (GoAlike (P.part one.now) (Q.part other.now) loaded.now steps)) }
 {

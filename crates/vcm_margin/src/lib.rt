@@ -8,6 +8,6 @@ mod printing;
 mod same;
 mod widening;
 
-pub use difference::{Difference, Margin, Place};
+pub use difference::{Difference, Margin, Met, Place, Seen};
 pub use printing::write_margin;
 pub use widening::margin;

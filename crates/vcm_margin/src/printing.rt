@@ -1,12 +1,12 @@
 //! A margin as text. Nothing here takes memory.
 
 ghost use Rattle.vcm_num.specs.Written.{Wrote};
-ghost use Rattle.vcm_margin.specs.Printed.{place_text, feature_text, difference_text, next_text, width_text, wider_text, met_text, margin_text};
+ghost use Rattle.vcm_margin.specs.Printed.{place_text, feature_text, difference_text, next_text, position_line, steps_line, state_lines, seen_text, difference_or_home, width_text, wider_text, met_text, margin_text};
 
-use crate::difference::{Difference, Margin, Place};
+use crate::difference::{Difference, Margin, Met, Place, Seen};
 use itoa::Buffer;
 use std::io::Write;
-use vcm_num::{WriteFault, write_all, write_pieces};
+use vcm_num::{Point, WriteFault, thousandths_text, write_all, write_pieces};
 use vcm_report::{write_feature_words, write_stop_line};
 use vcm_spec::{Feature, Source};
 use vcm_tables::Tables;
@@ -53,13 +53,72 @@ fn write_difference<W: Write>(
     ensures { Wrote (W.contents writer.old) (W.contents writer.new) (difference_text tables.now difference) result }
 {
     match difference {
-        Difference::HomeNotClear => write_all(writer, b"P06 HomeNotClear\n"),
         Difference::Stop(Some(place)) => write_stop_line(tables, place, writer),
         Difference::Stop(None) => write_all(writer, b"no stop\n"),
         Difference::Next(number) => write_next(number, writer),
         Difference::Feature(index, feature, place) => {
             write_measured(tables, index, feature, place, writer)
         }
+    }
+}
+
+// Writes where the probe is.
+fn write_position<W: Write>(at: Point, writer: &mut W) -> Result<(), WriteFault>
+    ensures { Wrote (W.contents writer.old) (W.contents writer.new) (position_line at) result }
+{
+    let Point([x, y, z]) = at;
+    let x = thousandths_text(x);
+    let y = thousandths_text(y);
+    let z = thousandths_text(z);
+    write_pieces(
+        writer,
+        &[
+            b"position ",
+            x.as_slice(),
+            b" ",
+            y.as_slice(),
+            b" ",
+            z.as_slice(),
+            b"\n",
+        ],
+    )
+}
+
+// Writes how many steps were taken.
+fn write_steps<W: Write>(steps: u64, writer: &mut W) -> Result<(), WriteFault>
+    ensures { Wrote (W.contents writer.old) (W.contents writer.new) (steps_line steps) result }
+{
+    let mut text = Buffer::new();
+    write_pieces(writer, &[b"steps ", text.format(steps).as_bytes(), b"\n"])
+}
+
+// Writes where the probe is, and how many steps were taken.
+fn write_state<W: Write>(at: Point, steps: u64, writer: &mut W) -> Result<(), WriteFault>
+    ensures { Wrote (W.contents writer.old) (W.contents writer.new) (state_lines at steps) result }
+{
+    write_position(at, writer)?;
+    write_steps(steps, writer)
+}
+
+// Writes in what a run differs, and where.
+fn write_seen<W: Write>(tables: &Tables, seen: &Seen, writer: &mut W) -> Result<(), WriteFault>
+    ensures { Wrote (W.contents writer.old) (W.contents writer.new) (seen_text tables.now seen.now) result }
+{
+    write_difference(tables, seen.what, writer)?;
+    write_state(seen.position, seen.steps, writer)
+}
+
+// Writes what is met.
+fn write_difference_or_home<W: Write>(
+    tables: &Tables,
+    met: &Met,
+    writer: &mut W,
+) -> Result<(), WriteFault>
+    ensures { Wrote (W.contents writer.old) (W.contents writer.new) (difference_or_home tables.now met.now) result }
+{
+    match met {
+        Met::Home => write_all(writer, b"P06 HomeNotClear\n"),
+        Met::Behind(seen) => write_seen(tables, seen, writer),
     }
 }
 
@@ -84,16 +143,16 @@ fn write_wider<W: Write>(tip: u32, writer: &mut W) -> Result<(), WriteFault>
 fn write_met<W: Write>(
     tables: &Tables,
     tip: u32,
-    met: Option<Difference>,
+    met: Option<Met>,
     writer: &mut W,
 ) -> Result<(), WriteFault>
     ensures { Wrote (W.contents writer.old) (W.contents writer.new) (met_text tables.now tip met) result }
 {
     match met {
         None => Ok(()),
-        Some(difference) => {
+        Some(met) => {
             write_wider(tip, writer)?;
-            write_difference(tables, difference, writer)
+            write_difference_or_home(tables, &met, writer)
         }
     }
 }

@@ -4,7 +4,7 @@ ghost use Rattle.std.specs.Prelude.{◌≡◌, IfOk, IfSome, IfNone};
 ghost use Rattle.vcm_margin.specs.Margin.{GoesWith, IsMet, IsMargin};
 
 use crate::comparing::compare;
-use crate::difference::{Difference, Margin};
+use crate::difference::{Margin, Met};
 use std::alloc::Global;
 use vcm_loader::Loaded;
 use vcm_motion::{AnyPart, Part};
@@ -22,17 +22,17 @@ fn met<P: Part>(
     part: &PartData,
     steps: u64,
     tip: u32,
-) -> Result<Option<Difference>, NoMemory>
+) -> Result<Option<Met>, NoMemory>
     requires { P.part own.now ≡ part.now }
     ensures met { IfOk result (λ d. IfSome d (IsMet part.now loaded.now steps tip)) }
     ensures alike { IfOk result (λ d. IfNone d (GoesWith part.now loaded.now steps tip)) }
 {
     let Some(other) = part.with_tip(alloc, tip)? else {
-        return Ok(Some(Difference::HomeNotClear));
+        return Ok(Some(Met::Home));
     };
     let beside = AnyPart::of(alloc, &other)?;
     match compare(alloc, loaded, own, &beside, steps)? {
-        Some(difference) => Ok(Some(difference)),
+        Some(seen) => Ok(Some(Met::Behind(seen))),
         None => Ok(None),
     }
 }

@@ -99,6 +99,13 @@ const USAGES: &[Usage] = &[
         more: More::Steps,
     },
     Usage {
+        name: "contacts",
+        about: "Tells all contacts of a run in one go: behind each the motion is taken as done, so what stands behind the first is a guess",
+        example: "For example: vcm contacts into.dmi part-a.toml",
+        words: &[INPUT, PART],
+        more: More::Steps,
+    },
+    Usage {
         name: "trace",
         about: "Runs a program or an image beside a workpiece, and prints what each step did, a line of CSV for each",
         example: "For example: vcm trace touch.dmi part-a.toml",

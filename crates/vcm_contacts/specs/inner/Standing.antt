@@ -19,7 +19,7 @@ use Rattle.vcm_contacts.specs.declared.contact.Contact.{Contact}
 use Rattle.vcm_contacts.specs.declared.contact.Lead.{Lead}
 use Rattle.vcm_contacts.specs.declared.contact.Lead.TheVariants.{On, Again, Back, Stops}
 use Rattle.vcm_contacts.specs.Leading.{lead}
-use Rattle.vcm_contacts.specs.Passing.{Passed, led, pass, passed_after}
+use Rattle.vcm_contacts.specs.Passing.{led, pass, passed_after}
 
 -- behind n steps it is in this state, with these contacts
 pub record HasPassed (part : Workpiece) (c : Code) (n : ℕ) (m : Running) (contacts : List Contact) : Type 0 where

@@ -10,4 +10,4 @@ returns-in_err-write_wider-in-Some g c =
 
 pub returns-in_ok-write_wider-in-Some : goal.returns-in_ok-write_wider-in-Some
 returns-in_ok-write_wider-in-Some g c =
-    rw c.in-Some.is (wrote_then _ _ _ _ _ _ _ refl c.in_ok-write_wider-in-Some.ensures c.write_difference.ensures)
+    rw c.in-Some.is (wrote_then _ _ _ _ _ _ _ refl c.in_ok-write_wider-in-Some.ensures c.write_difference_or_home.ensures)

@@ -1,0 +1,21 @@
+use Rattle.std.proofs.Common.{sym, ap, ◌∙◌}
+use Rattle.vcm_state.proofs.Places.{within_is_near}
+use Rattle.vcm_code.proofs.CodeNeverStuck.{some_first}
+use Rattle.vcm_machine.proofs.Codes.{runnable}
+use Rattle.vcm_machine.proofs.StepLemmas.{at_start}
+use Rattle.vcm_contacts.proofs.passing.Passing.new.Goals as goal
+
+pub opening-requires : goal.opening-requires
+opening-requires g c =
+    let valid = g.met.P.Part.valid c.args.part.now in
+    rw c.bounds.ensures (within_is_near (g.P.Part.part c.args.part.now) valid (g.P.Part.part c.args.part.now).bounds.home valid.home)
+
+pub invariant_of-result : goal.invariant_of-result
+invariant_of-result g c =
+    let known = c.statement_count-count.ensures in
+    (c.requires, c.in_ok-world.ensures.tables ∙ c.in_ok-tables.ensures, runnable c.args.loaded.now known.fits known.valid, some_first c.args.loaded.now.statements (known.valid).ends)
+
+pub returns : goal.returns
+returns g c =
+    at_start c.args.blocks.now c.args.loaded.now c.in_ok-world.world c.in_ok-tables.tables c.in_ok-tables.ensures
+    (c.in_ok-world.ensures.state c.args.blocks.now (ap (λ b. b.home) (ap (λ p. p.bounds) (sym c.requires) ∙ sym c.bounds.ensures)))

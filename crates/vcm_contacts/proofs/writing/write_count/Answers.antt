@@ -1,0 +1,5 @@
+use Rattle.vcm_contacts.proofs.Lines.{none_there}
+use Rattle.vcm_contacts.proofs.writing.write_count.Goals as goal
+
+pub returns-in-None : goal.returns-in-None
+returns-in-None g c = rw (none_there c.args.contacts.now c.in-None.ensures.cases) c.write_all.ensures
