@@ -1,6 +1,6 @@
 -- A run has one margin.
 use Rattle.std.proofs.Common.{◌≡◌, ℕ, suc, ◌+◌, ◌≤◌, Option, Some, None, refl, sym, ap, ◌∙◌, inl, inr, subst, arith}
-use Rattle.std.specs.Prelude.{false, true, nat_le, not, IsTrue}
+use Rattle.std.specs.Prelude.{false, true, nat_le, not}
 use Rattle.std.proofs.lemmas.Bool.{and_parts, leb-true, cases_order}
 use Rattle.vcm_num.specs.Point.{coordinate}
 use Rattle.vcm_spec.specs.Workpiece.{Workpiece, is_some_met}

@@ -1,5 +1,5 @@
 -- What statements keep of a state: its frames are turns, and it has as many features. None stops as at the end of the program.
-use Rattle.std.proofs.Common.{◌≡◌, ℕ, zero, suc, ℤ, Bool, true, false, ◌&&◌, Option, Some, None, List, [], ◌∷◌, Result, Ok, Err, refl, ◌∙◌}
+use Rattle.std.proofs.Common.{◌≡◌, ℕ, ℤ, Bool, true, false, ◌&&◌, Option, Some, None, List, [], ◌∷◌, Result, Ok, Err, refl, ◌∙◌}
 use Rattle.std.specs.Prelude.{IsTrue, length, ◌++◌, nat_lt, unsigned_abs, slice_get, option_and_then}
 use Rattle.std.proofs.lemmas.List.{length-set}
 use Rattle.vcm_num.specs.declared.axis.Axis.{Axis}

@@ -5,7 +5,6 @@ use Rattle.vcm_code.specs.declared.code.Code.{Code}
 use Rattle.vcm_code.specs.CodeTable.{CodeState}
 use Rattle.vcm_machine.specs.Running.{Running, started, later}
 use Rattle.vcm_machine.proofs.LawLemmas.{add_up}
-use Rattle.vcm_num.specs.declared.point.Point.{Point}
 use Rattle.vcm_margin.specs.declared.difference.Difference.{Difference}
 use Rattle.vcm_margin.specs.declared.difference.Seen.{Seen}
 use Rattle.vcm_margin.specs.Alike.{reached, measures, IsAlike, GoAlike, Differ, DifferFirst}
