@@ -30,6 +30,8 @@ def cases():
         yield ["points", name, "part-a.toml"], b"", "lines"
         yield ["clearance", name, "part-a.toml", "stylus.toml"], b"", "lines"
         yield ["margin", name, "part-a.toml"], b"", ""
+        yield ["why", name, "part-a.toml"], b"", ""
+        yield ["contacts", name, "part-a.toml"], b"", ""
         yield ["picture", name, "part-a.toml"], b"", ""
         yield ["check", name], b"", ""
         yield ["check", "--all", name], b"", ""
@@ -38,6 +40,9 @@ def cases():
         with open(name.replace(".dmi", ".job"), "rb") as it:
             yield [], it.read(), ""
         yield ["debug", name, "part-a.toml"], COMMANDS, "session"
+    yield ["why", "into.dmi", "part-a.toml"], b"", ""
+    yield ["contacts", "into.dmi", "part-a.toml"], b"", ""
+    yield ["part", "part-a.toml"], b"", ""
     yield ["survey", "camio.dmi", "--tip", "1000"], b"", ""
     yield ["adapt", "camio.dmi", "--tip", "1000"], b"", "adapted"
 

@@ -8,6 +8,7 @@ const QUIET: &[&str] = &[
     "check",
     "build",
     "run",
+    "contacts",
     "trace",
     "margin",
     "points",
