@@ -8,6 +8,7 @@ const QUIET: &[&str] = &[
     "check",
     "build",
     "run",
+    "why",
     "contacts",
     "trace",
     "margin",
