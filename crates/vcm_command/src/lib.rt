@@ -4,6 +4,7 @@
 mod checks;
 mod closing;
 mod command_line;
+mod dap;
 mod explaining;
 mod hand;
 mod jobs;
