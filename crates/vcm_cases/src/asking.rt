@@ -95,6 +95,7 @@ fn asked(alloc: Global, request: Request<'_>) -> Option<String> {
         Request::Debug { input, part } => {
             format!(in alloc; "debug input={input} part={part}").ok()
         }
+        Request::Dap => String::from_str(alloc, "dap").ok(),
         Request::List { input } => format!(in alloc; "list input={input}").ok(),
         Request::Asm { listing, image } => {
             format!(in alloc; "asm listing={listing} image={image}").ok()

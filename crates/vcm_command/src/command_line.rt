@@ -52,6 +52,8 @@ pub enum Request<'a> {
         input: &'a str,
         part: &'a str,
     },
+    /// `dap`: the Debug Adapter Protocol on standard input and output.
+    Dap,
     /// `list INPUT`: the listing of the program or image in this file.
     List {
         input: &'a str,
@@ -422,6 +424,7 @@ fn file_request<'a>(name: &str, behind: &ArgMatches<'a>) -> Request<'a> {
             input: word(behind, "INPUT"),
             part: word(behind, "PART"),
         },
+        "dap" => Request::Dap,
         "part" => Request::Part {
             part: word(behind, "PART"),
         },

@@ -5,6 +5,7 @@ mod checks;
 mod closing;
 mod command_line;
 mod contacts;
+mod dap;
 mod explaining;
 mod hand;
 mod jobs;

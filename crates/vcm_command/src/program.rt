@@ -2,6 +2,7 @@
 
 use crate::checks::check_all;
 use crate::command_line::{Request, asked_of};
+use crate::dap::serve_editor;
 use crate::explaining::explain;
 use crate::hand::debug_typed;
 use crate::jobs::talk_job;
@@ -291,6 +292,7 @@ fn carry_out<R: Files + Input + Print + Eprint + AllocGlobal>(
             show_boxes(rt, voice, BoxesIn::Clearance, asked, probe)
         }
         Request::Debug { input, part } => debug_file(rt, voice, input, part),
+        Request::Dap => serve_editor(rt),
         Request::List { input } => status_of_notices(rt, voice, list_file(rt, input)),
         Request::Asm { listing, image } => asm_file(rt, voice, listing, image),
         Request::Part { part } => show_part(rt, voice, part),

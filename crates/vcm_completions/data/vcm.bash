@@ -24,7 +24,7 @@ _vcm() {
   local word=${COMP_WORDS[COMP_CWORD]} command=${COMP_WORDS[1]}
   COMPREPLY=()
   if [ "$COMP_CWORD" -eq 1 ]; then
-    COMPREPLY=($(compgen -W "check survey adapt build run why contacts trace margin points clearance picture view part debug list asm explain help --help --version" -- "$word"))
+    COMPREPLY=($(compgen -W "check survey adapt build run why contacts trace margin points clearance picture view part debug dap list asm explain help --help --version" -- "$word"))
     return
   fi
   case $command in
@@ -95,7 +95,7 @@ _vcm() {
       fi
       ;;
     help)
-      COMPREPLY=($(compgen -W "check survey adapt build run why contacts trace margin points clearance picture view part debug list asm explain" -- "$word"))
+      COMPREPLY=($(compgen -W "check survey adapt build run why contacts trace margin points clearance picture view part debug dap list asm explain" -- "$word"))
       return
       ;;
     explain)

@@ -15,6 +15,7 @@ complete -c vcm -n __fish_use_subcommand -a picture -d 'draw the workpiece and t
 complete -c vcm -n __fish_use_subcommand -a view -d 'write a page that shows each step'
 complete -c vcm -n __fish_use_subcommand -a part -d 'print a workpiece as it was read'
 complete -c vcm -n __fish_use_subcommand -a debug -d 'answer commands on a program or an image'
+complete -c vcm -n __fish_use_subcommand -a dap -d 'speak with an editor that debugs'
 complete -c vcm -n __fish_use_subcommand -a list -d 'print the listing of a program or an image'
 complete -c vcm -n __fish_use_subcommand -a asm -d 'write the image of a listing'
 complete -c vcm -n __fish_use_subcommand -a explain -d 'tell what a code or a message means'

@@ -162,6 +162,13 @@ const USAGES: &[Usage] = &[
         more: More::Nothing,
     },
     Usage {
+        name: "dap",
+        about: "Speaks the Debug Adapter Protocol on standard input and output, for editors",
+        example: "For example, as the adapter of an editor: vcm dap",
+        words: &[],
+        more: More::Nothing,
+    },
+    Usage {
         name: "list",
         about: "Prints the listing of a program or an image",
         example: "For example: vcm list above.dmi",

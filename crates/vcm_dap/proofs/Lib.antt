@@ -1,0 +1,7 @@
+mod Counts
+mod Looks
+mod Settling
+mod Clearing
+mod Watches
+mod Told
+mod Motions

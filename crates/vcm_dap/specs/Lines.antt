@@ -1,0 +1,73 @@
+-- Breakpoints on source lines, and watches.
+use Rattle.std.specs.Prelude.{ℕ, min, nat_lt, Bool, true, false, List, [], ◌∷◌, map, Option, Some, None, option_and_then, if◌then◌else◌}
+use Rattle.vcm_spec.specs.Setup.{Variable}
+use Rattle.vcm_code.specs.Code.{Statement}
+use Rattle.vcm_console.specs.declared.command.VariableRef.{VariableRef}
+use Rattle.vcm_console.specs.declared.command.Command.TheVariants.{Watch, Unwatch}
+use Rattle.vcm_debug.specs.Debugging.{Debugging}
+use Rattle.vcm_debug.specs.Session.{answer, with_line}
+
+-- the lesser of two lines, the first of which may be none
+abbrev pub lesser : Option ℕ → ℕ → ℕ
+lesser None at = at
+lesser (Some known) at = min known at
+
+-- the lesser of the least line so far and another one, if this isn't above the wanted line
+abbrev pub nearer : ℕ → Option ℕ → ℕ → Option ℕ
+nearer line least at = if nat_lt at line then least else Some (lesser least at)
+
+-- the same over statements, one after another
+abbrev pub nearest : ℕ → Option ℕ → List Statement → Option ℕ
+nearest line least [] = least
+nearest line least (s ∷ ss) = nearest line (nearer line least s.line) ss
+
+-- where a breakpoint on a line comes to stand: on the least line, not above it, that a statement begins on
+abbrev pub settled : List Statement → ℕ → Option ℕ
+settled ss line = nearest line None ss
+
+-- the flag of each statement is taken away
+abbrev pub unflagged : List Statement → List Bool → List Bool
+unflagged [] bs = bs
+unflagged (s ∷ ss) [] = []
+unflagged (s ∷ ss) (b ∷ bs) = false ∷ unflagged ss bs
+
+-- the session without any breakpoint
+abbrev pub cleared : Debugging → Debugging
+cleared d = record d { breakpoints = unflagged d.code.statements d.breakpoints }
+
+-- the session with a breakpoint at each statement of this line too, if there is one
+abbrev pub with_place : Debugging → Option ℕ → Debugging
+with_place d None = d
+with_place d (Some line) = with_line d line true
+
+-- the same of these lines, one after another
+abbrev pub with_places : Debugging → List (Option ℕ) → Debugging
+with_places d [] = d
+with_places d (p ∷ ps) = with_places (with_place d p) ps
+
+-- the session with the breakpoints that are asked for, and with no others: each line that is asked for goes to where it settles
+abbrev pub with_breakpoints : Debugging → List (Option ℕ) → Debugging
+with_breakpoints d asked = with_places (cleared d) (map (option_and_then (settled d.code.statements)) asked)
+
+-- a variable, as a command names it
+abbrev pub named : Variable → VariableRef
+named v = record { name = v.name; expansion = v.expansion }
+
+-- the session in which none of these variables is watched any more, each named
+abbrev pub without_watches : Debugging → List Variable → Debugging
+without_watches d [] = d
+without_watches d (v ∷ vs) = without_watches (answer d (Unwatch (named v))).session vs
+
+-- the session that watches this variable too, if there is one
+abbrev pub watching : Debugging → Option VariableRef → Debugging
+watching d None = d
+watching d (Some v) = (answer d (Watch v)).session
+
+-- the same of these variables, one after another
+abbrev pub watching_all : Debugging → List (Option VariableRef) → Debugging
+watching_all d [] = d
+watching_all d (v ∷ vs) = watching_all (watching d v) vs
+
+-- the session that watches these variables and no others
+abbrev pub with_watches : Debugging → List (Option VariableRef) → Debugging
+with_watches d wanted = watching_all (without_watches d d.code.tables.variables) wanted

@@ -1,0 +1,254 @@
+//! The adapter, once a program is launched.
+
+ghost use Rattle.std.specs.Prelude.{◌≡◌, if◌then◌else◌};
+ghost use Rattle.vcm_dap.specs.declared.adapter.Served.TheVariants.{Done, Refused};
+
+use crate::answers::{evaluate, exception_info, scopes, stack_trace, variables};
+use crate::asking::{Ask, Look, Motion, ask_of};
+use crate::breakpoints::set_breakpoints;
+use crate::fault::DapFault;
+use crate::moving::go;
+use crate::output::{tell_lines, tell_placed, tell_text};
+use crate::settings::Settings;
+use crate::standing::{Then, finish, stand, tell_result, then_of};
+use crate::talk::Talk;
+use crate::watching::{set_watches, tell_watchable};
+use std::io::Write;
+use std::marker::Model;
+use vcm_console::{Halted, Reply};
+use vcm_debug::Session;
+use vcm_motion::Part;
+use vcm_wire::Request;
+
+/// How a request was served.
+#[derive(Clone, Copy)]
+pub enum Served {
+    /// It was done.
+    Done,
+    /// It was refused.
+    Refused,
+    /// It was done, and the client wants nothing more.
+    Over,
+}
+
+/// The adapter of a session: what the launch asked for, and how many output lines were told. Contracts see it as an `Adapting`.
+#[derive(Drop)]
+pub struct Adapter<'a, 's, P: Part> {
+    session: Session<'a, P>,
+    settings: Settings<'s>,
+    told: usize,
+}
+
+impl<'a, 's, P: Part> Model for Adapter<'a, 's, P> {
+    ghost use Rattle.vcm_dap.specs.Adapting.{Adapting};
+
+    ghost Value = { Adapting };
+
+    ghost view = { λ a. record { session = a.session; wanted = a.settings; told = a.told } };
+}
+
+// How a request was served that may be refused.
+fn how_served(is_done: bool) -> Served
+    ensures { result ≡ (if is_done then Done else Refused) }
+{
+    if is_done {
+        Served::Done
+    } else {
+        Served::Refused
+    }
+}
+
+impl<'a, 's, P: Part> Adapter<'a, 's, P> {
+    ghost use Rattle.std.specs.Prelude.{◌≡◌, ◌<◌, ◌≤◌, ◌+◌, ◌^◌, max, length, IfOk};
+    ghost use Rattle.json.specs.Value.{value_view};
+    ghost use Rattle.vcm_debug.specs.Debugging.{now};
+    ghost use Rattle.vcm_dap.specs.Asking.{ask_of};
+    ghost use Rattle.vcm_dap.specs.Moving.{IsMoved};
+    ghost use Rattle.vcm_dap.specs.Served.{IsServed};
+
+    /// The adapter of a session of which nothing was told yet.
+    pub fn new(session: Session<'a, P>, settings: Settings<'s>) -> Adapter<'a, 's, P>
+        ensures { result ≡ record { session = session.entry; wanted = settings.entry; told = 0 } }
+    {
+        Adapter {
+            session,
+            settings,
+            told: 0,
+        }
+    }
+
+    /// Tells a line of the program that has no effect.
+    ///
+    /// Errors: see `DapFault`.
+    pub fn notice<W: Write>(
+        &self,
+        talk: &mut Talk<W>,
+        text: &[u8],
+        line: u32,
+    ) -> Result<(), DapFault> {
+        tell_placed(talk, &self.settings, "stderr", text, line)
+    }
+
+    /// Tells that the client may set its breakpoints.
+    ///
+    /// Errors: see `DapFault`.
+    pub fn ready<W: Write>(&self, talk: &mut Talk<W>) -> Result<(), DapFault> {
+        talk.tell("initialized")
+    }
+
+    /// Serves a request: answers it, does what it asks for, and tells what came of it. A motion is answered first.
+    ///
+    /// Errors: see `DapFault`. The adapter is to end then.
+    pub fn serve<W: Write>(
+        &mut self,
+        talk: &mut Talk<W>,
+        request: &Request<'_, '_>,
+    ) -> Result<Served, DapFault>
+        requires { self.old.session.count + 1000000 < 2 ^ 64 }
+        ensures served { IfOk result (λ s. IsServed self.old (value_view request.now.message.now) (ask_of request.now.command.now) s self.new) }
+        ensures few { self.new.session.count ≤ self.old.session.count + 1000000 }
+    {
+        match ask_of(request.command) {
+            Ask::Move(motion) => {
+                self.move_on(talk, request, motion)?;
+                Ok(Served::Done)
+            }
+            Ask::Breakpoints => {
+                set_breakpoints(talk, &mut self.session, &self.settings, request)?;
+                Ok(Served::Done)
+            }
+            Ask::DataBreakpoints => {
+                set_watches(talk, &mut self.session, request)?;
+                Ok(Served::Done)
+            }
+            Ask::Show(look) => self.show(talk, request, look),
+        }
+    }
+
+    // Serves a request that leaves the session as it is.
+    fn show<W: Write>(
+        &mut self,
+        talk: &mut Talk<W>,
+        request: &Request<'_, '_>,
+        look: Look,
+    ) -> Result<Served, DapFault>
+        requires { self.old.session.count + 1000000 < 2 ^ 64 }
+        ensures same { self.new ≡ self.old }
+    {
+        match look {
+            Look::Initialize => Ok(how_served(talk.initialize(request)?)),
+            Look::Launch => {
+                talk.refuse(request, "a program is launched already")?;
+                Ok(Served::Refused)
+            }
+            Look::Threads => {
+                talk.threads(request)?;
+                Ok(Served::Done)
+            }
+            Look::ExceptionBreakpoints => {
+                talk.done(request)?;
+                Ok(Served::Done)
+            }
+            Look::DataBreakpointInfo => {
+                tell_watchable(talk, &mut self.session, request)?;
+                Ok(Served::Done)
+            }
+            Look::StackTrace => {
+                stack_trace(talk, &self.session, &self.settings, request)?;
+                Ok(Served::Done)
+            }
+            Look::Scopes => {
+                scopes(talk, request)?;
+                Ok(Served::Done)
+            }
+            Look::Variables => Ok(how_served(variables(
+                talk,
+                &self.session,
+                &self.settings,
+                request,
+            )?)),
+            Look::Evaluate => Ok(how_served(evaluate(talk, &mut self.session, request)?)),
+            Look::ExceptionInfo => Ok(how_served(exception_info(talk, &self.session, request)?)),
+            Look::Disconnect => {
+                talk.done(request)?;
+                Ok(Served::Over)
+            }
+            Look::Unknown => {
+                talk.refuse_unknown(request)?;
+                Ok(Served::Refused)
+            }
+        }
+    }
+
+    // Serves a motion: it is answered, carried out, and then told.
+    fn move_on<W: Write>(
+        &mut self,
+        talk: &mut Talk<W>,
+        request: &Request<'_, '_>,
+        motion: Motion,
+    ) -> Result<(), DapFault>
+        requires { self.old.session.count + 1000000 < 2 ^ 64 }
+        ensures moved { IfOk result (λ u. IsMoved self.old.wanted self.old.session motion self.new.session) }
+        ensures told { IfOk result (λ u. self.new.told ≡ max self.old.told (length (now self.new.session).world.lines)) }
+        ensures wanted { self.new.wanted ≡ self.old.wanted }
+        ensures few { self.new.session.count ≤ self.old.session.count + 1000000 }
+    {
+        answer_motion(talk, request, motion)?;
+        let came = go(talk.alloc(), &mut self.session, &self.settings, motion);
+        self.tell(talk, motion, came)
+    }
+
+    // Tells what came of a motion: the output lines that weren't told, and where it stands.
+    fn tell<W: Write>(
+        &mut self,
+        talk: &mut Talk<W>,
+        motion: Motion,
+        came: Result<Option<Reply>, Halted>,
+    ) -> Result<(), DapFault>
+        ensures told { IfOk result (λ u. self.new.told ≡ max self.old.told (length (now self.new.session).world.lines)) }
+        ensures session { self.new.session ≡ self.old.session }
+        ensures wanted { self.new.wanted ≡ self.old.wanted }
+    {
+        if let Motion::StepOut = motion {
+            tell_text(
+                talk,
+                "stderr",
+                b"there are no calls to step out of: macros stand expanded\n",
+            )?;
+        }
+        self.tell_output(talk)?;
+        match then_of(motion, &self.session, &self.settings, came) {
+            Then::Stands(why) => stand(talk, &self.session, &self.settings, why),
+            Then::Result => tell_result(talk, &self.session, &self.settings),
+            Then::Ends => finish(talk, &self.session),
+        }
+    }
+
+    // Tells the output lines that weren't told.
+    fn tell_output<W: Write>(&mut self, talk: &mut Talk<W>) -> Result<(), DapFault>
+        ensures told { IfOk result (λ u. self.new.told ≡ max self.old.told (length (now self.new.session).world.lines)) }
+        ensures session { self.new.session ≡ self.old.session }
+        ensures wanted { self.new.wanted ≡ self.old.wanted }
+    {
+        let lines = self.session.world().lines().as_slice();
+        let count = lines.len();
+        if self.told < count {
+            tell_lines(talk, lines.split_at(self.told).1)?;
+            self.told = count;
+        }
+        Ok(())
+    }
+}
+
+// Answers that a motion is done, before it is.
+fn answer_motion<W: Write>(
+    talk: &mut Talk<W>,
+    request: &Request<'_, '_>,
+    motion: Motion,
+) -> Result<(), DapFault> {
+    let mut message = talk.answer(request)?;
+    if let Motion::Continue = motion {
+        message.flag("allThreadsContinued", true)?;
+    }
+    talk.send(message)
+}

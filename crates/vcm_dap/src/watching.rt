@@ -1,0 +1,278 @@
+//! Watches: the requests for breakpoints on the change of variables.
+
+ghost use Rattle.std.specs.Prelude.{◌≡◌, ◌<◌, ◌+◌, ◌^◌, length, Some, option_map, slice_get, IfOk};
+ghost use Rattle.vcm_console.specs.declared.command.Command.TheVariants.{Watch, Unwatch};
+ghost use Rattle.vcm_debug.specs.Session.{answer};
+ghost use Rattle.vcm_dap.specs.Lines.{named, without_watches, watching, with_watches};
+ghost use Rattle.vcm_dap.specs.Served.{IsWatching};
+
+use crate::breakpoints::{has_condition, put_unverified};
+use crate::fault::DapFault;
+use crate::looking::{look, typed};
+use crate::talk::Talk;
+use json::Value;
+use std::alloc::Global;
+use std::io::Write;
+use vcm_console::{Command, Reply, VariableRef, write_variable};
+use vcm_debug::Session;
+use vcm_motion::Part;
+use vcm_tables::Variable;
+use vcm_wire::{Message, Request};
+
+// The variable that a name names, and its index.
+fn variable_of<P: Part>(
+    alloc: Global,
+    session: &mut Session<'_, P>,
+    name: &str,
+) -> Result<Option<(u16, VariableRef)>, DapFault>
+    requires { session.old.count + 1000000 < 2 ^ 64 }
+    ensures { session.new ≡ session.old }
+{
+    let Some(command) = typed(alloc, b"show", name.as_bytes())? else {
+        return Ok(None);
+    };
+    let Some(Reply::Value(v, _)) = look(alloc, session, &command) else {
+        return Ok(None);
+    };
+    match command {
+        Command::Show(wanted) => Ok(Some((v, wanted))),
+        _ => Ok(None),
+    }
+}
+
+// The name of a variable that the client asks about: a row of `Variables`, or a name alone.
+fn asked_name<'v>(request: &Request<'v, '_>) -> Option<&'v str> {
+    let reference = request
+        .argument("variablesReference")
+        .and_then(Value::as_u64);
+    match reference {
+        None | Some(1) => request.argument("name").and_then(Value::as_str),
+        _ => None,
+    }
+}
+
+// Says that a variable can be watched.
+fn put_watchable<P: Part>(
+    alloc: Global,
+    session: &Session<'_, P>,
+    v: u16,
+    message: &mut Message,
+) -> Result<(), DapFault> {
+    let mut name = Vec::new(alloc);
+    write_variable(session.world().tables(), v, &mut name)?;
+    message.bytes("dataId", &name)?;
+    message.bytes("description", &name)?;
+    message.begin_list("accessTypes")?;
+    message.word("write")?;
+    message.end_list()?;
+    message.flag("canPersist", true)?;
+    Ok(())
+}
+
+/// Tells whether a row can be watched.
+pub(crate) fn tell_watchable<P: Part, W: Write>(
+    talk: &mut Talk<W>,
+    session: &mut Session<'_, P>,
+    request: &Request<'_, '_>,
+) -> Result<(), DapFault>
+    requires { session.old.count + 1000000 < 2 ^ 64 }
+    ensures { session.new ≡ session.old }
+{
+    let alloc = talk.alloc();
+    let found = match asked_name(request) {
+        Some(name) => variable_of(alloc, session, name)?,
+        None => None,
+    };
+    let mut message = talk.answer(request)?;
+    match found {
+        Some((v, _)) => put_watchable(alloc, session, v, &mut message)?,
+        None => {
+            message.null("dataId")?;
+            message.text("description", "only variables can be watched")?;
+        }
+    }
+    talk.send(message)
+}
+
+// Whether an item asks for changes, whatever they are.
+fn is_plain(item: &Value<'_>) -> bool {
+    let access = item.get("accessType").and_then(Value::as_str);
+    !has_condition(item) && access.unwrap_or("write") == "write"
+}
+
+// The variable that an item asks for.
+fn asked_variable<P: Part>(
+    alloc: Global,
+    session: &mut Session<'_, P>,
+    item: &Value<'_>,
+) -> Result<Option<VariableRef>, DapFault>
+    requires { session.old.count + 1000000 < 2 ^ 64 }
+    ensures { session.new ≡ session.old }
+{
+    if !is_plain(item) {
+        return Ok(None);
+    }
+    let Some(name) = item.get("dataId").and_then(Value::as_str) else {
+        return Ok(None);
+    };
+    match variable_of(alloc, session, name)? {
+        Some((_, wanted)) => Ok(Some(wanted)),
+        None => Ok(None),
+    }
+}
+
+// The variables that are asked for.
+fn asked_variables<P: Part>(
+    alloc: Global,
+    session: &mut Session<'_, P>,
+    items: &[Value<'_>],
+) -> Result<Vec<Option<VariableRef>>, DapFault>
+    requires { session.old.count + 1000000 < 2 ^ 64 }
+    ensures { session.new ≡ session.old }
+{
+    let mut wanted = Vec::with_capacity(alloc, items.len())?;
+    for item in items {
+        wanted.push(asked_variable(alloc, session, item)?)?;
+    }
+    Ok(wanted)
+}
+
+// A variable, as a command names it.
+fn named(variable: &Variable) -> VariableRef
+    ensures { result ≡ named variable.now }
+{
+    VariableRef {
+        name: variable.name().copy(),
+        expansion: u64::from(variable.expansion()),
+    }
+}
+
+// The same variable.
+fn same(variable: &VariableRef) -> VariableRef
+    ensures { result ≡ variable.now }
+{
+    VariableRef {
+        name: variable.name.copy(),
+        expansion: variable.expansion,
+    }
+}
+
+// The variable of this index, as a command names it.
+fn named_at<P: Part>(session: &Session<'_, P>, index: usize) -> VariableRef
+    requires { index < length session.now.code.tables.variables }
+    ensures { option_map named (slice_get session.now.code.tables.variables index) ≡ Some result }
+{
+    named(&session.world().tables().variables()[index])
+}
+
+// Watches a variable no longer.
+fn unwatch<P: Part>(alloc: Global, session: &mut Session<'_, P>, variable: VariableRef)
+    requires { session.old.count + 1000000 < 2 ^ 64 }
+    ensures { session.new ≡ (answer session.old (Unwatch variable)).session }
+{
+    let _ = session.command(alloc, &Command::Unwatch(variable));
+}
+
+// Watches nothing any more.
+fn unwatch_all<P: Part>(alloc: Global, session: &mut Session<'_, P>)
+    requires { session.old.count + 1000000 < 2 ^ 64 }
+    ensures { session.new ≡ without_watches session.old session.old.code.tables.variables }
+{
+    let count = session.world().tables().variables().len();
+    for i in 0..count {
+        let variable = named_at(session, i);
+        unwatch(alloc, session, variable);
+    }
+}
+
+// Watches a variable.
+fn watch_one<P: Part>(alloc: Global, session: &mut Session<'_, P>, variable: VariableRef)
+    requires { session.old.count + 1000000 < 2 ^ 64 }
+    ensures { session.new ≡ (answer session.old (Watch variable)).session }
+{
+    let _ = session.command(alloc, &Command::Watch(variable));
+}
+
+// Watches a variable, if there is one.
+fn watch<P: Part>(alloc: Global, session: &mut Session<'_, P>, wanted: &Option<VariableRef>)
+    requires { session.old.count + 1000000 < 2 ^ 64 }
+    ensures { session.new ≡ watching session.old wanted.now }
+{
+    match wanted {
+        Some(variable) => watch_one(alloc, session, same(variable)),
+        None => {}
+    }
+}
+
+// Watches these variables and no others.
+fn watch_all<P: Part>(alloc: Global, session: &mut Session<'_, P>, wanted: &[Option<VariableRef>])
+    requires { session.old.count + 1000000 < 2 ^ 64 }
+    ensures { session.new ≡ with_watches session.old wanted.now }
+{
+    unwatch_all(alloc, session);
+    for variable in wanted {
+        watch(alloc, session, variable);
+    }
+}
+
+// Says whether a variable is watched.
+fn put_watch(item: &Value<'_>, is_found: bool, message: &mut Message) -> Result<(), DapFault> {
+    if !is_plain(item) {
+        return put_unverified(message, "vcm watches for changes alone");
+    }
+    if !is_found {
+        return put_unverified(message, "no variable has this name");
+    }
+    message.begin_item()?;
+    message.flag("verified", true)?;
+    message.end()?;
+    Ok(())
+}
+
+// The answer for the watches.
+fn answer_watches<W: Write>(
+    talk: &mut Talk<W>,
+    request: &Request<'_, '_>,
+    items: &[Value<'_>],
+    wanted: &[Option<VariableRef>],
+) -> Result<(), DapFault> {
+    let mut message = talk.answer(request)?;
+    message.begin_list("breakpoints")?;
+    for (item, variable) in items.iter().zip(wanted.iter()) {
+        put_watch(item, variable.is_some(), &mut message)?;
+    }
+    message.end_list()?;
+    talk.send(message)
+}
+
+// Watches the variables of these items, in place of all before.
+fn set_items<P: Part, W: Write>(
+    talk: &mut Talk<W>,
+    session: &mut Session<'_, P>,
+    request: &Request<'_, '_>,
+    items: &[Value<'_>],
+) -> Result<(), DapFault>
+    requires { session.old.count + 1000000 < 2 ^ 64 }
+    ensures watches { IfOk result (λ u. IsWatching session.old session.new) }
+    ensures same { session.new.count ≡ session.old.count }
+{
+    let wanted = asked_variables(talk.alloc(), session, items)?;
+    watch_all(talk.alloc(), session, &wanted);
+    answer_watches(talk, request, items, &wanted)
+}
+
+/// Watches the variables that are asked for, in place of all before.
+pub(crate) fn set_watches<P: Part, W: Write>(
+    talk: &mut Talk<W>,
+    session: &mut Session<'_, P>,
+    request: &Request<'_, '_>,
+) -> Result<(), DapFault>
+    requires { session.old.count + 1000000 < 2 ^ 64 }
+    ensures watches { IfOk result (λ u. IsWatching session.old session.new) }
+    ensures same { session.new.count ≡ session.old.count }
+{
+    match request.argument("breakpoints") {
+        Some(Value::Array(items)) => set_items(talk, session, request, items),
+        _ => set_items(talk, session, request, &[]),
+    }
+}
