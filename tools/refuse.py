@@ -5,7 +5,8 @@ usage: tools/refuse.py [--vcm PROGRAM]     at the top of the repository, when th
 
 Each command runs once as it is, and then again and again with its first, second, .. growth refused, until none is refused any more. An answer is
 right where the status is 5, standard output is empty (or has the first lines of a trace, of points or of a clearance), standard error has one line, `no memory` or `no memory after N steps`, and no byte of an
-image is written; an adapted text may stand there whole, where memory runs out as it is judged; a session of the debugger may also reply `no memory ..` to one command. It is the same where status, output and image are those of the command as it
+image is written; an adapted text may stand there whole, where memory runs out as it is judged; a session of the debugger may also reply `no memory ..` to one command, and the debug adapter tell `no memory` in one message,
+or have written some first messages whole. It is the same where status, output and image are those of the command as it
 is: the growth was one that may be left out, as that of a copy for `back`. Anything else is wrong, and the exit status is then 1.
 """
 import argparse
@@ -16,9 +17,14 @@ import sys
 import tempfile
 
 HERE = os.path.dirname(os.path.abspath(__file__))
+sys.path.insert(0, f"{HERE}/dap")
+sys.dont_write_bytecode = True
+import rows
+
 NO_MEMORY = re.compile(rb"no memory( after [0-9]+ steps)?\n")
 HALTED = re.compile(rb"^no memory step [0-9]+ ", re.M)
 PROGRAMS = ("above.dmi", "touch.dmi", "grid.dmi", "lines.dmi", "stations.dmi")
+TALKS = ("Emacs grid", "Emacs without-debugging", "VS Code grid")
 COMMANDS = b"break 1\nrun\nstep 3\nwatch i\nrun\nback 2\nshow i\nout\nrun\nback 8\nrun\nquit\n"
 
 
@@ -43,6 +49,9 @@ def cases():
     yield ["why", "into.dmi", "part-a.toml"], b"", ""
     yield ["contacts", "into.dmi", "part-a.toml"], b"", ""
     yield ["part", "part-a.toml"], b"", ""
+    for name, lines in rows.sections():
+        if name in TALKS:
+            yield ["dap"], rows.bytes_sent(lines), "adapter"
     yield ["survey", "camio.dmi", "--tip", "1000"], b"", ""
     yield ["adapt", "camio.dmi", "--tip", "1000"], b"", "adapted"
 
@@ -64,6 +73,18 @@ def answer(vcm, words, given, image, room, number):
     return (ran.returncode, ran.stdout, ran.stderr, written), was_refused
 
 
+def is_right_talk(wanted, found):
+    """Whether the debug adapter ended for want of memory behind whole messages, the first ones of those that are wanted, or told it in one message and went on."""
+    status, out, told, _ = found
+    messages = rows.messages_in(out)
+    if messages is None:
+        return False
+    wants = [message for message in messages if "no memory" in (message.get("message"), message["body"].get("description"))]
+    if status == 5:
+        return bool(NO_MEMORY.fullmatch(told)) and (len(wants) == 1 or wanted[1].startswith(out))
+    return status == 0 and not told and len(wants) == 1
+
+
 def judged(wanted, found, kind):
     """Whether an answer is right, the same as without a refusal, or wrong."""
     status, out, told, written = found
@@ -74,6 +95,8 @@ def judged(wanted, found, kind):
         return "right"
     if kind == "adapted" and status == 5 and out == wanted[1] and told.endswith(b"\nno memory\n"):
         return "right"
+    if kind == "adapter":
+        return "right" if is_right_talk(wanted, found) else "wrong"
     if kind == "session" and status == 0 and not told and len(HALTED.findall(out)) == 1:
         return "right"
     return "wrong"

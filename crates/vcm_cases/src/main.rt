@@ -2,6 +2,7 @@
 //! something else. `docs/CASES.md` has the form of the text. The examples of `vcm explain` are tried, too.
 #![tactic(auto)]
 
+mod adapter;
 mod answers;
 mod asking;
 mod explained;
@@ -22,14 +23,14 @@ fn main(rt: HostRuntime) -> ExitCode {
     let mut script = Script::new(rt.alloc());
     for line in rt.lines(rt.alloc()) {
         let is_read = match line {
-            Ok(line) => script.take(rt.alloc(), line.as_str()).is_some(),
+            Ok(line) => script.take(&rt, line.as_str()).is_some(),
             Err(_) => false,
         };
         if !is_read {
             return ExitCode::FAILURE;
         }
     }
-    if script.finish(rt.alloc()).is_none() || script.explanations(rt.alloc()).is_none() {
+    if script.finish(&rt).is_none() || script.explanations(rt.alloc()).is_none() {
         return ExitCode::FAILURE;
     }
     let (wrong, right) = (script.tally().wrong(), script.tally().right());

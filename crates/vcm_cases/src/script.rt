@@ -1,5 +1,6 @@
 //! The text of worked examples, line by line.
 
+use crate::adapter::{adapter_answer, wanted_in};
 use crate::answers::{
     adapt_answer, asm_answer, check_answer, clearance_answer, image, image_answer, listing,
     replies, run_answer, story_answer, survey_answer, talked, view_answer,
@@ -13,6 +14,7 @@ use crate::shown::shown_answer;
 use crate::tally::{MARK, Tally};
 use std::alloc::Global;
 use std::fmt::Write as _;
+use std::rt::Files;
 use vcm_test_tools::program_of;
 use vcm_views::View;
 
@@ -79,6 +81,8 @@ enum Heading {
     Unexplained,
     /// What a command tells of each of its faults.
     Messages,
+    /// What is sent to the debug adapter, and what comes back.
+    Adapter,
     /// None of these.
     Unknown,
 }
@@ -128,6 +132,7 @@ fn heading_with(word: &str, rest: &str) -> Heading {
         "words" => Heading::Words,
         "explain" => Heading::Explain,
         "messages" => Heading::Messages,
+        "dap" => Heading::Adapter,
         "#" => Heading::Remarks,
         _ => Heading::Unknown,
     }
@@ -286,20 +291,20 @@ impl Script {
     }
 
     /// Reads one more line; none where memory runs out.
-    pub(crate) fn take(&mut self, alloc: Global, line: &str) -> Option<()> {
+    pub(crate) fn take<R: Files + AllocGlobal>(&mut self, rt: &R, line: &str) -> Option<()> {
         match line.strip_prefix(MARK) {
-            Some(title) => self.take_heading(alloc, title),
+            Some(title) => self.take_heading(rt, title),
             None if self.times > 0 => {
                 self.repeated.push_str(line).ok()?;
                 self.repeated.push_str("\n").ok()
             }
-            None => self.take_line(alloc, line),
+            None => self.take_line(rt.alloc(), line),
         }
     }
 
     // Reads a heading: one that goes on with what stands below the last one, or another.
-    fn take_heading(&mut self, alloc: Global, title: &str) -> Option<()> {
-        self.repeat(alloc)?;
+    fn take_heading<R: Files + AllocGlobal>(&mut self, rt: &R, title: &str) -> Option<()> {
+        self.repeat(rt.alloc())?;
         if title == "then" {
             return Some(());
         }
@@ -307,8 +312,8 @@ impl Script {
             self.times = times;
             return Some(());
         }
-        self.end(alloc)?;
-        self.title = String::from_str(alloc, title).ok()?;
+        self.end(rt)?;
+        self.title = String::from_str(rt.alloc(), title).ok()?;
         Some(())
     }
 
@@ -341,13 +346,14 @@ impl Script {
     }
 
     /// Ends the text.
-    pub(crate) fn finish(&mut self, alloc: Global) -> Option<()> {
-        self.repeat(alloc)?;
-        self.end(alloc)
+    pub(crate) fn finish<R: Files + AllocGlobal>(&mut self, rt: &R) -> Option<()> {
+        self.repeat(rt.alloc())?;
+        self.end(rt)
     }
 
     // Ends what stands below a heading: it is set, or judged.
-    fn end(&mut self, alloc: Global) -> Option<()> {
+    fn end<R: Files + AllocGlobal>(&mut self, rt: &R) -> Option<()> {
+        let alloc = rt.alloc();
         let body = std::mem::replace(&mut self.body, String::new(alloc));
         match heading_of(&self.title) {
             Heading::Remarks | Heading::Refused | Heading::Images => Some(()),
@@ -376,6 +382,7 @@ impl Script {
                 let wanted = refusal(alloc, &self.title, "")?;
                 self.judge_listing(alloc, &body, &wanted)
             }
+            Heading::Adapter => self.judge_adapter(rt, &body),
             Heading::Assembled => self.judge_listing(alloc, &body, "status 0\n"),
             _ => {
                 let found = answer(alloc, self);
@@ -417,6 +424,13 @@ impl Script {
     fn judge_listing(&mut self, alloc: Global, listing: &str, wanted: &str) -> Option<()> {
         let found = asm_answer(alloc, listing);
         self.tally.judge(&self.title, listing, wanted, found)
+    }
+
+    // Judges what comes back of what is sent to the debug adapter.
+    fn judge_adapter<R: Files + AllocGlobal>(&mut self, rt: &R, talk: &str) -> Option<()> {
+        let wanted = wanted_in(rt.alloc(), talk)?;
+        let found = adapter_answer(rt, talk);
+        self.tally.judge(&self.title, "", &wanted, found)
     }
 
     /// Judges the examples of explanations; none where memory runs out.

@@ -3,7 +3,7 @@
 ghost use Rattle.std.specs.Prelude.{◌<◌, ◌≤◌, ◌+◌, ◌^◌};
 
 use crate::program::{fails, notice_line, output, part_of};
-use json::{Scratch, Value};
+use json::{Error, Scratch, Value};
 use std::alloc::Global;
 use std::fmt::Write as _;
 use std::io::{Read, Write};
@@ -46,6 +46,14 @@ fn frame_message(fault: FrameFault) -> Message<'static> {
     }
 }
 
+// How it is told that a message is no JSON, or that memory was refused as it was read.
+fn json_message(fault: Error) -> Message<'static> {
+    match fault {
+        Error::OutOfMemory => Message::NoMemory,
+        _ => BROKEN,
+    }
+}
+
 // Answers one message to an adapter, and tells whether there may be another one.
 fn serve_message<W: Write>(
     alloc: Global,
@@ -57,8 +65,9 @@ fn serve_message<W: Write>(
     ensures { adapter.new.session.count ≤ adapter.old.session.count + 1000000 }
 {
     let mut scratch = Scratch::new(alloc);
-    let Ok(message) = Value::from_slice(alloc, bytes, &mut scratch) else {
-        return Err(BROKEN);
+    let message = match Value::from_slice(alloc, bytes, &mut scratch) {
+        Ok(message) => message,
+        Err(fault) => return Err(json_message(fault)),
     };
     match request_of(&message) {
         Ok(request) => match adapter.serve(talk, &request) {
@@ -351,8 +360,9 @@ fn serve_first_message<Rt: Files + AllocGlobal, R: Read, W: Write>(
     input: &mut R,
 ) -> Result<bool, Message<'static>> {
     let mut scratch = Scratch::new(rt.alloc());
-    let Ok(message) = Value::from_slice(rt.alloc(), bytes, &mut scratch) else {
-        return Err(BROKEN);
+    let message = match Value::from_slice(rt.alloc(), bytes, &mut scratch) {
+        Ok(message) => message,
+        Err(fault) => return Err(json_message(fault)),
     };
     match request_of(&message) {
         Ok(request) => serve_first(rt, talk, &request, input),
@@ -361,19 +371,30 @@ fn serve_first_message<Rt: Files + AllocGlobal, R: Read, W: Write>(
     }
 }
 
-// Answers all requests of standard input.
-fn serve<Rt: Files + Input + Print + AllocGlobal>(rt: &Rt) -> Result<(), Message<'static>> {
-    let mut input = rt.reader();
-    let mut talk = Talk::new(rt.alloc(), output(rt)?);
-    for _ in 0..u32::MAX {
-        let Some(bytes) = read_frame(rt.alloc(), &mut input).map_err(frame_message)? else {
+/// Speaks the Debug Adapter Protocol: reads requests up to their end, and writes what is answered and told. A launch opens files of the runtime.
+///
+/// Errors: how it is told that what was read is no request, is too long or could not be read, each as a fault of standard input; that the writer
+/// failed, as one of standard output; that a growth of memory was refused. What was written before stands.
+pub fn serve_dap<Rt: Files + AllocGlobal, R: Read, W: Write + Drop>(
+    rt: &Rt,
+    input: &mut R,
+    out: W,
+) -> Result<(), Message<'static>> {
+    let mut talk = Talk::new(rt.alloc(), out);
+    for _served in 0..u32::MAX {
+        let Some(bytes) = read_frame(rt.alloc(), input).map_err(frame_message)? else {
             return Ok(());
         };
-        if !serve_first_message(rt, &mut talk, &bytes, &mut input)? {
+        if !serve_first_message(rt, &mut talk, &bytes, input)? {
             return Ok(());
         }
     }
     Err(Message::TooLong)
+}
+
+// Answers all requests of standard input.
+fn serve<Rt: Files + Input + Print + AllocGlobal>(rt: &Rt) -> Result<(), Message<'static>> {
+    serve_dap(rt, &mut rt.reader(), output(rt)?)
 }
 
 /// Speaks the Debug Adapter Protocol on standard input and output, and gives the exit status: 0 at the end; 5 want of memory; 6 a device, or an input that

@@ -88,3 +88,22 @@ impl Write for Unflushed {
         Ok(())
     }
 }
+
+/// Takes bytes, and keeps at each flush how many there are.
+#[derive(Drop)]
+pub(crate) struct Marked {
+    pub(crate) taken: Vec<u8>,
+    pub(crate) flushed: usize,
+}
+
+impl Write for Marked {
+    fn write(&mut self, buf: &[u8]) -> io::Result<usize> {
+        self.taken.extend_from_slice(buf)?;
+        Ok(buf.len())
+    }
+
+    fn flush(&mut self) -> io::Result<()> {
+        self.flushed = self.taken.len();
+        Ok(())
+    }
+}

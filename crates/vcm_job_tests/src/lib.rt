@@ -1,4 +1,4 @@
-//! The tests of jobs, inputs and sessions of the debugger: what no row of `vcm_cases` shows, as devices that fail; and calls whose growths of memory are
+//! The tests of jobs, inputs, sessions of the debugger and the debug adapter: what no row of `vcm_cases` shows, as devices that fail; and calls whose growths of memory are
 //! refused in turn.
 #![tactic(auto)]
 
@@ -6,6 +6,8 @@
 mod back_growth_tests;
 #[cfg(test)]
 mod back_tests;
+#[cfg(test)]
+mod dap_growth_tests;
 #[cfg(test)]
 mod debug_tests;
 #[cfg(test)]
@@ -22,3 +24,5 @@ mod job_tests;
 mod session_growth_tests;
 #[cfg(test)]
 mod session_tests;
+#[cfg(test)]
+mod wire_tests;
