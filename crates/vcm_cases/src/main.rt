@@ -10,6 +10,7 @@ mod messages;
 mod parts;
 mod reasons;
 mod script;
+mod sheets;
 mod shown;
 mod tally;
 mod tips;

@@ -3,6 +3,7 @@
 use crate::command_line::{Asked, steps_of};
 use crate::parts::part_of;
 use crate::program::{fails, output, status_after, written};
+use crate::sheets::{Titles, write_sheet_of};
 use crate::talking::{Told, Voice, alone, fails_in, fails_in_view, fails_twice};
 use crate::why::write_why;
 use std::alloc::Global;
@@ -32,6 +33,8 @@ pub(crate) enum Shown<'a> {
     Result,
     Why,
     View(View<'a>),
+    /// The picture as a sheet.
+    Sheet(Titles<'a>),
     Page,
     /// The page, with boxes that are fixed to the tip.
     PageWith(&'a Boxes),
@@ -187,6 +190,7 @@ fn show<R: Read, W: Write>(
         Shown::Why => write_why(alloc, part, reader, steps, writer),
         Shown::Result => run(alloc, part, reader, steps, writer),
         Shown::View(view) => view_of(alloc, view, part, reader, steps, writer),
+        Shown::Sheet(titles) => write_sheet_of(alloc, titles, part, reader, steps, writer),
         Shown::Page => write_page(alloc, part, reader, steps, writer),
         Shown::PageWith(boxes) => write_page_with(alloc, part, boxes, reader, steps, writer),
     }
@@ -223,8 +227,8 @@ pub(crate) fn given_of<'a, R: Files + Eprint + AllocGlobal>(
     }
 }
 
-// Prints what is shown of a run beside a workpiece, and gives the exit status.
-fn show_beside<R: Files + Print + Eprint + AllocGlobal>(
+/// Prints what is shown of a run beside a workpiece, and gives the exit status.
+pub(crate) fn show_beside<R: Files + Print + Eprint + AllocGlobal>(
     rt: &R,
     voice: Voice,
     shown: Shown<'_>,

@@ -142,6 +142,7 @@ pub(crate) fn go_to<P: Part>(
     requires { Begins three_at (λ o. AreLengths (HasItems world.old.tables) o.0 o.1.0 o.1.1) bytes.now }
     ensures carried { OfFirst three_at bytes.now (λ o rest. Carried (effect items_value (setup_of (P.part part.now) world.old.tables) world.old.state (Goto o.0 o.1.0 o.1.1)) world.old.state world.new.state result) }
     ensures tables { world.new.tables ≡ world.old.tables }
+    ensures stop { world.new.state.stop ≡ world.old.state.stop }
 {
     let (to, _) = three_lengths(stack, world, bytes)?;
     world.goto(part, to.x, to.y, to.z)
@@ -153,6 +154,7 @@ pub(crate) fn go_to<P: Part>(
 pub(crate) fn go_home<P: Part>(part: &P, world: &mut World) -> Result<(), Stop>
     ensures carried { Carried (effect items_value (setup_of (P.part part.now) world.old.tables) world.old.state GoHome) world.old.state world.new.state result }
     ensures tables { world.new.tables ≡ world.old.tables }
+    ensures stop { world.new.state.stop ≡ world.old.state.stop }
 {
     world.go_home(part)
 }
@@ -169,6 +171,7 @@ pub(crate) fn assign(
     ensures carried { (part : Workpiece) → OfFirst (both variable_at expression_at) bytes.now (λ o rest.
         Carried (effect items_value (setup_of part world.old.tables) world.old.state (Assign o.0 o.1)) world.old.state world.new.state result) }
     ensures tables { world.new.tables ≡ world.old.tables }
+    ensures stop { world.new.state.stop ≡ world.old.state.stop }
 {
     let (variable, rest) = known_short(bytes);
     let value = last_value(stack, world, rest)?;
@@ -183,6 +186,7 @@ pub(crate) fn print(world: &mut World, bytes: &[u8]) -> Result<(), Halt>
     ensures carried { (part : Workpiece) → OfFirst text_at bytes.now (λ t rest.
         CarriedOrHalted (effect items_value (setup_of part world.old.tables) world.old.state (Text t)) world.old.state world.new.state result) }
     ensures tables { world.new.tables ≡ world.old.tables }
+    ensures stop { world.new.state.stop ≡ world.old.state.stop }
 {
     world.text(known_text(bytes).as_bytes())
 }

@@ -29,6 +29,7 @@ pub(crate) fn shift(
     ensures carried { (part : Workpiece) → OfFirst (both variable_at three_at) bytes.now (λ o rest.
         Carried (effect items_value (setup_of part world.old.tables) world.old.state (Trans o.0 o.1.0 o.1.1.0 o.1.1.1)) world.old.state world.new.state result) }
     ensures tables { world.new.tables ≡ world.old.tables }
+    ensures stop { world.new.state.stop ≡ world.old.state.stop }
 {
     let (frame, rest) = known_short(bytes);
     let (by, _) = three_lengths(stack, world, rest)?;
@@ -41,6 +42,7 @@ pub(crate) fn rotate(world: &mut World, bytes: &[u8]) -> Result<(), Stop>
     ensures carried { (part : Workpiece) → OfFirst (both variable_at (both (byte_below_at 3) (byte_below_at 4))) bytes.now (λ o rest.
         Carried (effect items_value (setup_of part world.old.tables) world.old.state (Rotate o.0 o.1.0 o.1.1)) world.old.state world.new.state result) }
     ensures tables { world.new.tables ≡ world.old.tables }
+    ensures stop { world.new.state.stop ≡ world.old.state.stop }
 {
     let (frame, rest) = known_short(bytes);
     let (axis, rest) = known(byte_below(3, rest));
@@ -56,6 +58,7 @@ pub(crate) fn recall(world: &mut World, bytes: &[u8]) -> Result<(), Stop>
     ensures carried { (part : Workpiece) → OfFirst variable_at bytes.now (λ frame rest.
         Carried (effect items_value (setup_of part world.old.tables) world.old.state (Recall frame)) world.old.state world.new.state result) }
     ensures tables { world.new.tables ≡ world.old.tables }
+    ensures stop { world.new.state.stop ≡ world.old.state.stop }
 {
     let (frame, _) = known_short(bytes);
     world.recall(frame)

@@ -34,6 +34,7 @@ fn set_index(world: &mut World, variable: u16, value: i64)
     requires { slice_get (kinds world.old.tables) variable ≡ Some Kind.Int }
     ensures state { world.new.state ≡ with_variable world.old.state variable value }
     ensures tables { world.new.tables ≡ world.old.tables }
+    ensures stop { world.new.state.stop ≡ world.old.state.stop }
 {
     let _done = world.assign(variable, value);
 }
@@ -70,6 +71,7 @@ fn advance(world: &mut World, variable: u16, increment: i64) -> Result<(), Stop>
     requires { slice_get (kinds world.old.tables) variable ≡ Some Kind.Int }
     ensures carried { Carried (with_next_index world.old.state variable increment) world.old.state world.new.state result }
     ensures tables { world.new.tables ≡ world.old.tables }
+    ensures stop { world.new.state.stop ≡ world.old.state.stop }
 {
     let present = present(world, variable);
     match add(present, increment) {
@@ -116,6 +118,7 @@ pub(crate) fn begin(
         HasTurned (do_op setup (Do o.0 o.1.0 o.1.1.0.0 o.1.1.0.1.0 o.1.1.0.1.1 o.1.1.1) line world.old.state next pairs.old)
         next line world.old.state world.new.state pairs.old pairs.new result) }
     ensures tables { world.new.tables ≡ world.old.tables }
+    ensures stop { world.new.state.stop ≡ world.old.state.stop }
 {
     let (variable, rest) = known_short(bytes);
     let (pair, rest) = known(pair(rest));
@@ -150,6 +153,7 @@ pub(crate) fn turn(
     ensures turned { (setup : Setup) → (line : ℕ) → OfFirst (both variable_at (both pair_reader target_at)) bytes.now (λ o rest.
         HasTurned (do_op setup (EndDo o.0 o.1.0 o.1.1) line world.old.state next pairs.now) next line world.old.state world.new.state pairs.now pairs.now result) }
     ensures tables { world.new.tables ≡ world.old.tables }
+    ensures stop { world.new.state.stop ≡ world.old.state.stop }
 {
     let (variable, rest) = known_short(bytes);
     let (pair, rest) = known(pair(rest));

@@ -31,6 +31,7 @@ pub(crate) fn declare(
     ensures carried { (part : Workpiece) → OfFirst (both variable_at (both three_at axis_at)) bytes.now (λ o rest.
         Carried (effect items_value (setup_of part world.old.tables) world.old.state (Feat o.0 o.1.0.0 o.1.0.1.0 o.1.0.1.1 o.1.1)) world.old.state world.new.state result) }
     ensures tables { world.new.tables ≡ world.old.tables }
+    ensures stop { world.new.state.stop ≡ world.old.state.stop }
 {
     let (feature, rest) = known_short(bytes);
     let (at, rest) = three_lengths(stack, world, rest)?;
@@ -51,6 +52,7 @@ pub(crate) fn measure<P: Part>(
     ensures carried { OfFirst (both variable_at (both three_at direction_at)) bytes.now (λ o rest.
         Carried (effect items_value (setup_of (P.part part.now) world.old.tables) world.old.state (PtMeas o.0 o.1.0.0 o.1.0.1.0 o.1.0.1.1 o.1.1)) world.old.state world.new.state result) }
     ensures tables { world.new.tables ≡ world.old.tables }
+    ensures stop { world.new.state.stop ≡ world.old.state.stop }
 {
     let (feature, rest) = known_short(bytes);
     let (nominal, rest) = three_lengths(stack, world, rest)?;
@@ -70,6 +72,7 @@ pub(crate) fn set_length(
     ensures carried { (part : Workpiece) → OfFirst (both setting_at expression_at) bytes.now (λ o rest.
         Carried (effect items_value (setup_of part world.old.tables) world.old.state (SnSet o.0 o.1)) world.old.state world.new.state result) }
     ensures tables { world.new.tables ≡ world.old.tables }
+    ensures stop { world.new.state.stop ≡ world.old.state.stop }
 {
     let (which, rest) = known(setting(bytes));
     let length = last_value(stack, world, rest)?;

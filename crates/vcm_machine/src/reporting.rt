@@ -25,6 +25,7 @@ pub(crate) fn obtain(world: &mut World, bytes: &[u8]) -> Result<(), Stop>
     ensures carried { (setting : Workpiece) → OfFirst (both variable_at (both source_at (both variable_at part_at))) bytes.now (λ o rest.
         Carried (effect items_value (setup_of setting world.old.tables) world.old.state (Obtain o.0 o.1.0 o.1.1.0 o.1.1.1)) world.old.state world.new.state result) }
     ensures tables { world.new.tables ≡ world.old.tables }
+    ensures stop { world.new.state.stop ≡ world.old.state.stop }
 {
     let (variable, rest) = known_short(bytes);
     let (source, rest) = known(source(rest));
@@ -41,6 +42,7 @@ pub(crate) fn output(alloc: Global, world: &mut World, bytes: &[u8]) -> Result<(
     ensures carried { (setting : Workpiece) → OfFirst (both source_at variable_at) bytes.now (λ o rest.
         CarriedOrHalted (effect items_value (setup_of setting world.old.tables) world.old.state (Output o.0 o.1)) world.old.state world.new.state result) }
     ensures tables { world.new.tables ≡ world.old.tables }
+    ensures stop { world.new.state.stop ≡ world.old.state.stop }
 {
     let (source, rest) = known(source(bytes));
     let (feature, _) = known_short(rest);

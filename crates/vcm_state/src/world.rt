@@ -120,6 +120,14 @@ impl World {
         self.position
     }
 
+    /// The same, with what is known of it: it is at most 1,000,000,000 micrometres from 0 on each axis.
+    pub fn near_position(&self) -> Point
+        ensures is { result ≡ self.now.state.position }
+        ensures near { IsTrue (is_near self.now.state.position) }
+    {
+        self.position
+    }
+
     /// The current frame: what part coordinates are in the machine's.
     pub fn frame(&self) -> Frame
         ensures { result ≡ self.now.state.frame }

@@ -29,4 +29,7 @@ returns-clause-carried c part o rest h =
     (rw (to_z-of_z fv, r.0) at (c.assign.ensures part).0)
 
 pub returns-clause-tables : goal.returns-clause-tables
-returns-clause-tables c = (c.assign.ensures some_part).1
+returns-clause-tables c = (c.assign.ensures some_part).1.0
+
+pub returns-clause-stop : goal.returns-clause-stop
+returns-clause-stop c = (c.assign.ensures some_part).1.1

@@ -12,4 +12,7 @@ returns-clause-carried c part t rest h =
     (rw (c.as_bytes.ensures, c.known_text.ensures t rest h) at (c.text.ensures part)).0
 
 pub returns-clause-tables : goal.returns-clause-tables
-returns-clause-tables c = (c.text.ensures some_part).1
+returns-clause-tables c = (c.text.ensures some_part).1.0
+
+pub returns-clause-stop : goal.returns-clause-stop
+returns-clause-stop c = (c.text.ensures some_part).1.1

@@ -18,4 +18,7 @@ returns-clause-carried c part frame rest h =
     subst (λ o. Carried o c.args.world.now.state c.recall.new.self.state c.recall.result) (sym is) (rw there at (c.recall.ensures part).0)
 
 pub returns-clause-tables : goal.returns-clause-tables
-returns-clause-tables c = (c.recall.ensures some_part).1
+returns-clause-tables c = (c.recall.ensures some_part).1.0
+
+pub returns-clause-stop : goal.returns-clause-stop
+returns-clause-stop c = (c.recall.ensures some_part).1.1

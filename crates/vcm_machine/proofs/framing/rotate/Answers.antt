@@ -21,4 +21,7 @@ returns-clause-carried c part o rest h =
     subst (λ o. Carried o c.args.world.now.state c.rotate.new.self.state c.rotate.result) (sym is) (rw (f.0, a.0, q) at (c.rotate.ensures part).0)
 
 pub returns-clause-tables : goal.returns-clause-tables
-returns-clause-tables c = (c.rotate.ensures some_part).1
+returns-clause-tables c = (c.rotate.ensures some_part).1.0
+
+pub returns-clause-stop : goal.returns-clause-stop
+returns-clause-stop c = (c.rotate.ensures some_part).1.1

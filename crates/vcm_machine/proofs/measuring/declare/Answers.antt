@@ -47,4 +47,7 @@ returns-clause-carried c part o rest h =
     (rw (to_z-of_z fx, to_z-of_z fy, to_z-of_z fz, r.0, toward) at (c.feat.ensures part).0)
 
 pub returns-clause-tables : goal.returns-clause-tables
-returns-clause-tables c = (c.feat.ensures some_part).1
+returns-clause-tables c = (c.feat.ensures some_part).1.0
+
+pub returns-clause-stop : goal.returns-clause-stop
+returns-clause-stop c = (c.feat.ensures some_part).1.1

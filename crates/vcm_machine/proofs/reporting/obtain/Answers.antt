@@ -28,4 +28,7 @@ returns-clause-carried c setting o rest h =
     subst (λ o. Carried o c.args.world.now.state c.obtain.new.self.state c.obtain.result) (sym is) (rw (v.0, s.0, f.0, w) at (c.obtain.ensures setting).0)
 
 pub returns-clause-tables : goal.returns-clause-tables
-returns-clause-tables c = (c.obtain.ensures some_part).1
+returns-clause-tables c = (c.obtain.ensures some_part).1.0
+
+pub returns-clause-stop : goal.returns-clause-stop
+returns-clause-stop c = (c.obtain.ensures some_part).1.1

@@ -22,4 +22,7 @@ returns-clause-carried c setting o rest h =
     subst (λ o. CarriedOrHalted o c.args.world.now.state c.output.new.self.state c.output.result) (sym is) (rw (s.0, f) at (c.output.ensures setting).0)
 
 pub returns-clause-tables : goal.returns-clause-tables
-returns-clause-tables c = (c.output.ensures some_part).1
+returns-clause-tables c = (c.output.ensures some_part).1.0
+
+pub returns-clause-stop : goal.returns-clause-stop
+returns-clause-stop c = (c.output.ensures some_part).1.1
