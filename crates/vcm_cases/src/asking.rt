@@ -2,7 +2,7 @@
 
 use crate::messages::line_of;
 use std::alloc::Global;
-use vcm_command::{Asked, Produced, Request, Wanted, request_of, steps_of};
+use vcm_command::{Asked, Produced, Request, Wanted, lines_of, request_of, steps_of};
 use vcm_explain::explanation;
 use vcm_messages::Message;
 use vcm_views::View;
@@ -64,6 +64,18 @@ fn produced_asked(alloc: Global, produced: Produced<'_>) -> Option<String> {
     format!(in alloc; "{name} program={program} tip={tip} part={part} exact={is_exact}").ok()
 }
 
+// The source lines of a sheet.
+fn lines_words<'a>(lines: Option<&'a str>) -> &'a str {
+    match lines {
+        Some(text) => if lines_of(text).is_some() {
+            text
+        } else {
+            "refused"
+        },
+        None => "all",
+    }
+}
+
 // What is asked for.
 fn asked(alloc: Global, request: Request<'_>) -> Option<String> {
     match request {
@@ -86,6 +98,15 @@ fn asked(alloc: Global, request: Request<'_>) -> Option<String> {
             run_asked(alloc, &name, asked)
         }
         Request::View(view, asked) => run_asked(alloc, name_of(view), asked),
+        Request::Sheet {
+            asked,
+            is_close,
+            lines,
+        } => {
+            let lines = lines_words(lines);
+            let name = format!(in alloc; "sheet close={is_close} lines={lines}").ok()?;
+            run_asked(alloc, &name, asked)
+        }
         Request::Page { asked, probe: None } => run_asked(alloc, "view", asked),
         Request::Page {
             asked,

@@ -11,6 +11,7 @@ mod messages;
 mod parts;
 mod reasons;
 mod script;
+mod sheets;
 mod shown;
 mod tally;
 mod tips;

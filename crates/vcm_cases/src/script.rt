@@ -10,6 +10,7 @@ use crate::explained::judge_examples;
 use crate::messages::messages;
 use crate::parts::{notices_answer, part_answer};
 use crate::reasons::{contacts_answer, why_answer};
+use crate::sheets::sheet_answer;
 use crate::shown::shown_answer;
 use crate::tally::{MARK, Tally};
 use std::alloc::Global;
@@ -45,6 +46,8 @@ enum Heading {
     Contacts(u64),
     /// What stands in the page of a run between the fixed texts, after so many steps at most.
     Story(u64),
+    /// The texts of the sheet of a run.
+    Sheet,
     /// What a run answers that shows variables at its end.
     Shown,
     /// What is told of the part file.
@@ -123,6 +126,7 @@ fn heading_with(word: &str, rest: &str) -> Heading {
         "why-image" => why_heading(rest, true),
         "contacts" => contacts_heading(rest),
         "story" => story_heading(rest),
+        "sheet" => Heading::Sheet,
         "shown" => Heading::Shown,
         "survey" => Heading::Survey,
         "adapt" => Heading::Adapt,
@@ -223,6 +227,12 @@ fn answer(alloc: Global, script: &Script) -> Option<String> {
         }
         Heading::Contacts(steps) => { contacts_answer(alloc, &script.part, &script.program, steps) }
         Heading::Story(steps) => story_answer(alloc, &script.part, &script.program, steps),
+        Heading::Sheet => sheet_answer(
+            alloc,
+            &script.part,
+            &script.program,
+            behind_word(&script.title),
+        ),
         Heading::Shown => shown_answer(
             alloc,
             &script.part,

@@ -37,6 +37,12 @@ pub enum Request<'a> {
     },
     /// `trace`, `margin` or `points`, then `INPUT PART [--steps N]`, or `picture INPUT PART [--steps N] [--close]`: a view of a run.
     View(View<'static>, Asked<'a>),
+    /// `picture INPUT PART [--steps N] [--close] --sheet [--lines A-B]`: the picture of a run as a sheet, of the statements on some lines.
+    Sheet {
+        asked: Asked<'a>,
+        is_close: bool,
+        lines: Option<&'a str>,
+    },
     /// `view INPUT PART [--steps N] [--probe PROBE]`: the page of a run, with the boxes of the probe in this file, if one is given.
     Page {
         asked: Asked<'a>,
@@ -195,6 +201,22 @@ fn close_option<'a>(alloc: Global) -> Arg<'a> {
         .help("Shows the blocks as large as they are, and of the way what lies beside them")
 }
 
+// `--sheet`.
+fn sheet_option<'a>(alloc: Global) -> Arg<'a> {
+    Arg::new(alloc, "sheet")
+        .long("sheet")
+        .action(ArgAction::SetTrue)
+        .help("Draws a sheet to be filed, with millimetres, the numbers of the points, and tables")
+}
+
+// `--lines A-B`.
+fn stretch_option<'a>(alloc: Global) -> Arg<'a> {
+    Arg::new(alloc, "lines")
+        .long("lines")
+        .action(ArgAction::Set)
+        .help("Draws a sheet with the way of the statements on these source lines alone, as 80-115")
+}
+
 // `--probe PROBE`.
 fn probe_option<'a>(alloc: Global) -> Arg<'a> {
     Arg::new(alloc, "probe")
@@ -268,9 +290,11 @@ fn subcommand_of<'a>(alloc: Global, usage: Usage) -> Result<Command<'a>, Error> 
             let command = command.arg(steps_option(alloc))?;
             Ok(command.arg(show_option(alloc))?)
         }
-        More::StepsAndClose => {
+        More::StepsAndSheet => {
             let command = command.arg(steps_option(alloc))?;
-            Ok(command.arg(close_option(alloc))?)
+            let command = command.arg(close_option(alloc))?;
+            let command = command.arg(sheet_option(alloc))?;
+            Ok(command.arg(stretch_option(alloc))?)
         }
         More::StepsAndProbe => {
             let command = command.arg(steps_option(alloc))?;
@@ -384,6 +408,21 @@ fn adapt_request<'a>(behind: &ArgMatches<'a>, words: &'a [String]) -> Request<'a
     produced_request(wanted, behind, words)
 }
 
+// The request for a picture, which `--lines` makes a sheet too.
+fn picture_request<'a>(behind: &ArgMatches<'a>, asked: Asked<'a>) -> Request<'a> {
+    let is_close = behind.get_flag("close");
+    let lines = behind.get_str("lines");
+    if behind.get_flag("sheet") || lines.is_some() {
+        Request::Sheet {
+            asked,
+            is_close,
+            lines,
+        }
+    } else {
+        Request::View(View::Picture { is_close }, asked)
+    }
+}
+
 // The request for a run, or for what is shown of one, if this command asks for that.
 fn run_request<'a>(name: &str, behind: &ArgMatches<'a>) -> Option<Request<'a>> {
     let asked = run_asked(behind);
@@ -397,10 +436,7 @@ fn run_request<'a>(name: &str, behind: &ArgMatches<'a>) -> Option<Request<'a>> {
         "trace" => Some(Request::View(View::Trace, asked)),
         "margin" => Some(Request::View(View::Margin, asked)),
         "points" => Some(Request::View(View::Points, asked)),
-        "picture" => {
-            let is_close = behind.get_flag("close");
-            Some(Request::View(View::Picture { is_close }, asked))
-        }
+        "picture" => Some(picture_request(behind, asked)),
         "view" => Some(Request::Page {
             asked,
             probe: behind.get_str("probe"),

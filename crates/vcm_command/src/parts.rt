@@ -6,6 +6,7 @@ use crate::talking::{Told, Voice, alone, fails_twice};
 use std::alloc::Global;
 use std::rt::Files;
 use vcm_job::PartFileFault;
+use vcm_keys::block_names;
 use vcm_messages::{Message, part_file_message};
 use vcm_num::NoMemory;
 use vcm_part::{PartData, PartFault, read_part};
@@ -71,6 +72,24 @@ pub(crate) fn part_of<'a, R: Files + Eprint + AllocGlobal>(
     let part = part_in(rt.alloc(), voice, name, &bytes)?;
     tell_unused(rt, voice, name, &bytes);
     Ok(part)
+}
+
+/// The same, with the names of its blocks, each empty where a block has none.
+pub(crate) fn named_part_of<'a, R: Files + Eprint + AllocGlobal>(
+    rt: &R,
+    voice: Voice,
+    name: &'a str,
+) -> Result<(PartData, Vec<Vec<u8>>), Told<'a>> {
+    let bytes = match bytes_of(rt, name) {
+        Ok(bytes) => bytes,
+        Err(message) => return Err(alone(message)),
+    };
+    let part = part_in(rt.alloc(), voice, name, &bytes)?;
+    tell_unused(rt, voice, name, &bytes);
+    match block_names(rt.alloc(), &bytes) {
+        Ok(names) => Ok((part, names)),
+        Err(_) => Err(alone(Message::NoMemory)),
+    }
 }
 
 // What is printed of a workpiece, and its notices.

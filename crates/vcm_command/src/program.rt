@@ -8,6 +8,7 @@ use crate::hand::debug_typed;
 use crate::jobs::talk_job;
 use crate::parts::{part_of as told_part_of, show_part};
 use crate::producing::produced;
+use crate::sheets::show_sheet;
 use crate::showing::{BoxesIn, Shown, show_boxes, show_run};
 use crate::talking::{Terminals, Voice, fails_in, fails_twice, tell_notices, voice_of};
 use crate::values::show_values;
@@ -283,6 +284,11 @@ fn carry_out<R: Files + Input + Print + Eprint + AllocGlobal>(
         Request::Contacts(asked) => show_run(rt, voice, Shown::Contacts, asked),
         Request::Values { asked, names } => show_values(rt, voice, asked, names),
         Request::View(view, asked) => show_run(rt, voice, Shown::View(view), asked),
+        Request::Sheet {
+            asked,
+            is_close,
+            lines,
+        } => show_sheet(rt, voice, asked, is_close, lines),
         Request::Page { asked, probe: None } => show_run(rt, voice, Shown::Page, asked),
         Request::Page {
             asked,

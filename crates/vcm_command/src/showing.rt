@@ -4,6 +4,7 @@ use crate::command_line::{Asked, steps_of};
 use crate::contacts::tell_contacts;
 use crate::parts::part_of;
 use crate::program::{fails, output, status_after, written};
+use crate::sheets::{Titles, write_sheet_of};
 use crate::talking::{Told, Voice, alone, fails_in, fails_in_view, fails_twice};
 use crate::why::write_why;
 use std::alloc::Global;
@@ -34,6 +35,8 @@ pub(crate) enum Shown<'a> {
     Why,
     Contacts,
     View(View<'a>),
+    /// The picture as a sheet.
+    Sheet(Titles<'a>),
     Page,
     /// The page, with boxes that are fixed to the tip.
     PageWith(&'a Boxes),
@@ -190,6 +193,7 @@ fn show<R: Read, W: Write>(
         Shown::Contacts => tell_contacts(alloc, part, reader, steps, writer),
         Shown::Result => run(alloc, part, reader, steps, writer),
         Shown::View(view) => view_of(alloc, view, part, reader, steps, writer),
+        Shown::Sheet(titles) => write_sheet_of(alloc, titles, part, reader, steps, writer),
         Shown::Page => write_page(alloc, part, reader, steps, writer),
         Shown::PageWith(boxes) => write_page_with(alloc, part, boxes, reader, steps, writer),
     }
@@ -226,8 +230,8 @@ pub(crate) fn given_of<'a, R: Files + Eprint + AllocGlobal>(
     }
 }
 
-// Prints what is shown of a run beside a workpiece, and gives the exit status.
-fn show_beside<R: Files + Print + Eprint + AllocGlobal>(
+/// Prints what is shown of a run beside a workpiece, and gives the exit status.
+pub(crate) fn show_beside<R: Files + Print + Eprint + AllocGlobal>(
     rt: &R,
     voice: Voice,
     shown: Shown<'_>,

@@ -56,11 +56,11 @@ _vcm() {
       fi
       ;;
     picture)
-      if [ "${COMP_WORDS[COMP_CWORD-1]}" = --steps ]; then
+      if [[ ${COMP_WORDS[COMP_CWORD-1]} == --steps || ${COMP_WORDS[COMP_CWORD-1]} == --lines ]]; then
         return
       fi
       if [[ $word == -* ]]; then
-        COMPREPLY=($(compgen -W "--steps --close --quiet --help" -- "$word"))
+        COMPREPLY=($(compgen -W "--steps --close --sheet --lines --quiet --help" -- "$word"))
         return
       fi
       ;;

@@ -30,6 +30,8 @@ complete -c vcm -n '__fish_seen_subcommand_from run why contacts trace margin po
 complete -c vcm -n '__fish_seen_subcommand_from run' -l show -x -d 'show variables at the end'
 complete -c vcm -n '__fish_seen_subcommand_from view' -l probe -r -d 'the boxes of the probe'
 complete -c vcm -n '__fish_seen_subcommand_from picture' -l close -d 'show the blocks large'
+complete -c vcm -n '__fish_seen_subcommand_from picture' -l sheet -d 'draw a sheet to be filed'
+complete -c vcm -n '__fish_seen_subcommand_from picture' -l lines -x -d 'the source lines of the way'
 complete -c vcm -n '__fish_seen_subcommand_from check build run debug list asm' -l talk -d 'tell more, as at a terminal'
 complete -c vcm -n '__fish_seen_subcommand_from check build run trace margin points clearance picture view part debug list' -l quiet -d 'tell no notices'
 complete -c vcm -n '__fish_seen_subcommand_from check' -l all -d 'tell all faults'

@@ -15,9 +15,9 @@ use vcm_viewer::{back, front, script_parts, style_parts};
 const FILES: [&str; 4] = ["vcm.1", "vcm.bash", "_vcm", "vcm.fish"];
 
 /// The options of the command line.
-const OPTIONS: [&str; 15] = [
-    "steps", "close", "probe", "all", "tip", "part", "frame", "exact", "lines", "touch", "talk",
-    "quiet", "show", "help", "version",
+const OPTIONS: [&str; 16] = [
+    "steps", "close", "sheet", "probe", "all", "tip", "part", "frame", "exact", "lines", "touch",
+    "talk", "quiet", "show", "help", "version",
 ];
 
 // Whether one of the words of a text, which are parted by anything but letters, is this.

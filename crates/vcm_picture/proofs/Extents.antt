@@ -4,7 +4,7 @@ use Rattle.std.proofs.lemmas.Int.{ints}
 use Rattle.std.specs.Int.{int_div_euclid, int_max}
 use Rattle.vcm_picture.specs.declared.span.Span.{Span}
 use Rattle.vcm_picture.specs.Window.{size, grown, low_of, most_of}
-use Rattle.vcm_picture.specs.inner.Ranges.{IsMost, IsPart}
+use Rattle.vcm_picture.specs.Ranges.{IsMost, IsPart}
 
 -- a sixteenth of the greatest extent
 pub sixteenth : (m r : ℤ) → IsMost m → r ≡ int_div_euclid m (pos 16) → IsPart r

@@ -14,7 +14,7 @@ use Rattle.vcm_picture.specs.declared.window.Window.{Window}
 use Rattle.vcm_picture.specs.Heading.{first_line}
 use Rattle.vcm_picture.specs.Picture.{above, layout_of, layout_with, picture_of, picture_text, sheet, window_round}
 use Rattle.vcm_picture.specs.inner.Layouts.{IsLayout, IsSlim}
-use Rattle.vcm_picture.specs.inner.Ranges.{IsLine}
+use Rattle.vcm_picture.specs.Ranges.{IsLine}
 use Rattle.vcm_svg.specs.Ranges.{IsSize}
 
 -- how high the heading is

@@ -1,4 +1,5 @@
 pub mod Apart
+pub mod Before
 pub mod Boxes
 pub mod Clips
 pub mod Counting

@@ -2,7 +2,7 @@
 use Rattle.std.proofs.Common.{◌≡◌, ℤ, pos, negsuc, ◌+ℤ◌, ◌-ℤ◌, ◌≤ℤ◌, w64, to_z, of_z, arith, ap, ◌∙◌}
 use Rattle.std.proofs.lemmas.Int.{ints, to_z-of_z}
 use Rattle.vcm_num.specs.Point.{IsNear}
-use Rattle.vcm_picture.specs.inner.Ranges.{IsBorder, IsEdge}
+use Rattle.vcm_picture.specs.Ranges.{IsBorder, IsEdge}
 use Rattle.vcm_svg.specs.Ranges.{IsSize, IsSmall}
 use Rattle.vcm_svg.specs.Rect.{spot}
 

@@ -5,7 +5,7 @@ use Rattle.vcm_num.specs.Point.{point, coordinate}
 use Rattle.vcm_picture.specs.declared.span.Span.{Span}
 use Rattle.vcm_picture.specs.declared.window.Window.{Window}
 use Rattle.vcm_picture.specs.Window.{most_of, low_of, full_of, longest, grain_of, unit_of, window_of}
-use Rattle.vcm_picture.specs.inner.Ranges.{IsEdge}
+use Rattle.vcm_picture.specs.Ranges.{IsEdge}
 use Rattle.vcm_svg.specs.Ranges.{IsSize}
 
 -- a window of these

@@ -1,5 +1,6 @@
 pub mod Marks
 pub mod Drawn
+pub mod Ranges
 pub mod Span
 pub mod Window
 pub mod View

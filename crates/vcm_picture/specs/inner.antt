@@ -1,4 +1,3 @@
-pub mod Ranges
 pub mod Drawable
 pub mod Layouts
 pub mod Strips

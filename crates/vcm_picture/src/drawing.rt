@@ -1,10 +1,10 @@
 //! A view, drawn.
 
-ghost use Rattle.std.specs.Prelude.{◌≡◌, ◌≤◌, ◌++◌, length, Some, OnOk, IfOk, IsTrue};
+ghost use Rattle.std.specs.Prelude.{◌≡◌, ◌≤◌, ◌++◌, [], length, Some, OnOk, IfOk, IsTrue};
 ghost use Rattle.std.specs.List.{list_all};
 ghost use Rattle.vcm_spec.specs.Workpiece.{is_block};
-ghost use Rattle.vcm_picture.specs.Drawing.{name_label, name_shape, contact_name, first_shapes, feature_name, feature_shapes, title_label, group_text, view_front, names_beside, names_shapes, view_shapes, view_text, scene};
-ghost use Rattle.vcm_picture.specs.inner.Ranges.{IsScope};
+ghost use Rattle.vcm_picture.specs.Drawing.{name_label, name_shape, contact_name, first_shapes, feature_name, feature_shapes, title_label, group_text, view_front, names_beside, names_shapes, view_shapes, view_text, scene, scene_shapes};
+ghost use Rattle.vcm_picture.specs.Ranges.{IsScope};
 ghost use Rattle.vcm_svg.specs.Ranges.{IsUnit, IsLarge, IsSpot};
 ghost use Rattle.vcm_picture.specs.inner.Drawable.{AreFirst, AreNamed, MayName};
 
@@ -207,8 +207,8 @@ fn begin_group(out: &mut Vec<u8>, view: View, at: Spot) -> Result<(), NoMemory>
     )
 }
 
-// Appends the title of a view and begins its group, at a place of the picture.
-fn begin_view(out: &mut Vec<u8>, scope: Scope, at: Spot) -> Result<(), NoMemory>
+/// Appends the title of a view, begins its group and draws its frame, at a place of the picture.
+pub fn begin_view(out: &mut Vec<u8>, scope: Scope, at: Spot) -> Result<(), NoMemory>
     requires scope { IsScope scope }
     requires at { IsSpot at }
     ensures { OnOk result (out.new.items ≡ out.old.items ++ view_front scope at) }
@@ -221,6 +221,32 @@ fn begin_view(out: &mut Vec<u8>, scope: Scope, at: Spot) -> Result<(), NoMemory>
     begin_group(out, scope.view, at)?;
     let frame = Outline::Rectangle(Spot { x: 0, y: 0 }, scope.wide, scope.high);
     put_path(out, Class::Frame, frame)
+}
+
+/// The shapes of a view of a workpiece and of the marks of a way, with the state at the end: blocks, way and names.
+pub fn scene_shapes(
+    alloc: Global,
+    scope: Scope,
+    part: &PartData,
+    world: &World,
+    marks: &[Placed],
+) -> Result<Vec<Shape>, NoMemory>
+    requires scope { IsScope scope }
+    ensures { IfOk result (λ shapes. shapes.items ≡ scene_shapes scope (scene part.now world.now []) marks.now) }
+{
+    let features = world.tables().features();
+    let bounds = part.bounds();
+    let position = world.position();
+    let shapes = view_shapes(
+        alloc,
+        scope,
+        part.blocks(),
+        bounds,
+        features,
+        position,
+        marks,
+    )?;
+    Ok(shapes)
 }
 
 /// Appends a view at a place of the picture.
@@ -239,17 +265,7 @@ pub(crate) fn put_view(
     ensures { OnOk result (out.new.items ≡ out.old.items ++ view_text scope at (scene part.now world.now stopped.now) marks.now) }
 {
     let features = world.tables().features();
-    let bounds = part.bounds();
-    let position = world.position();
-    let shapes = view_shapes(
-        alloc,
-        scope,
-        part.blocks(),
-        bounds,
-        features,
-        position,
-        marks,
-    )?;
+    let shapes = scene_shapes(alloc, scope, part, world, marks)?;
     begin_view(out, scope, at)?;
     put_shapes(out, features, stopped, shapes.as_slice())?;
     put(out, &[Piece::Text(b"</g>\n")])

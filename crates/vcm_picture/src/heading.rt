@@ -39,7 +39,7 @@ fn step_words(alloc: Global, done: u64) -> Result<Vec<u8>, NoMemory>
 }
 
 /// The first line of the heading: why the run stopped, or how many steps were done without a stop.
-pub(crate) fn first_line(
+pub fn first_line(
     alloc: Global,
     tables: &Tables,
     stop: Option<StopPlace>,

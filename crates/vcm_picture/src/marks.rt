@@ -23,7 +23,7 @@ fn pieces_in(mark: &Mark) -> u64
 
 /// Whether pieces are few enough for arrows.
 #[tactic(auto, using(crate::proofs::Counting::counted_more))]
-pub(crate) fn are_few(marks: &[Placed]) -> bool
+pub fn are_few(marks: &[Placed]) -> bool
     ensures { result ≡ are_few marks.now }
 {
     let mut count = 0;
@@ -33,8 +33,8 @@ pub(crate) fn are_few(marks: &[Placed]) -> bool
     count <= FEW_PIECES
 }
 
-/// The contact of a way.
-pub(crate) fn contact_of(marks: &[Placed]) -> Option<Contact>
+/// The contact of a way, if there is one.
+pub fn contact_of(marks: &[Placed]) -> Option<Contact>
     ensures { result ≡ contact_of marks.now }
 {
     for placed in marks {

@@ -5,7 +5,7 @@ ghost use Rattle.std.specs.List.{list_any, find};
 ghost use Rattle.vcm_report.specs.Printed.{name_at};
 ghost use Rattle.vcm_svg.specs.Rect.{meets};
 ghost use Rattle.vcm_picture.specs.Names.{is_free, sides, beside, contact_box, some_contact_box, is_at, end_box, first_names, with_first, figure_boxes, all_figure_boxes, is_same_name, is_named, feature_box, with_touched, with_mark, with_all_touched};
-ghost use Rattle.vcm_picture.specs.inner.Ranges.{IsScope, IsLetters};
+ghost use Rattle.vcm_picture.specs.Ranges.{IsScope, IsLetters};
 ghost use Rattle.vcm_svg.specs.Ranges.{IsSpot, IsUnit, IsExtent};
 ghost use Rattle.vcm_picture.specs.inner.Drawable.{AreBoxes, AreNamed, MayName, AreFirst};
 
@@ -33,8 +33,8 @@ pub struct FirstNames {
     pub home: Option<Rect>,
 }
 
-/// The name of a feature.
-pub(crate) fn name_at(features: &[Name], index: u16) -> &[u8]
+/// The name of the feature with an index, or nothing where there is none.
+pub fn name_at(features: &[Name], index: u16) -> &[u8]
     ensures name { result.now ≡ name_at features.now index }
     ensures short { length result.now ≤ 16 }
 {
@@ -106,6 +106,17 @@ fn beside(scope: Scope, at: Spot, letters: i64, taken: &[Rect]) -> Option<Rect>
 {
     let boxes = sides(at, scope.unit, letters_wide(letters, scope.unit));
     first_free(scope, &boxes, taken)
+}
+
+/// The first of four boxes beside a place where a text of so many letters lies in the width of a view and meets nothing that is taken: right above,
+/// right below, left above, left below.
+pub fn label_beside(scope: Scope, at: Spot, letters: i64, taken: &[Rect]) -> Option<Rect>
+    requires scope { IsScope scope }
+    requires at { IsSpot at }
+    requires letters { IsLetters letters }
+    ensures { result ≡ beside scope at letters taken.now }
+{
+    beside(scope, at, letters, taken)
 }
 
 // Takes a box, if there is one.

@@ -5,7 +5,7 @@ ghost use Rattle.std.specs.List.{list_all};
 ghost use Rattle.vcm_spec.specs.Workpiece.{is_block};
 ghost use Rattle.vcm_picture.specs.Picture.{above, units, laid_out, layout_with, layout_of, head_text, clip_text, clips_text, background_text, window_for, window_round, view_spot, views_text, legend_spot, bar_place, foot_text, picture_of, picture_text, sheet};
 ghost use Rattle.vcm_picture.specs.Drawing.{scene, view_text};
-ghost use Rattle.vcm_picture.specs.inner.Ranges.{IsBorder, IsLine, IsWindow};
+ghost use Rattle.vcm_picture.specs.Ranges.{IsBorder, IsLine, IsWindow};
 ghost use Rattle.vcm_svg.specs.Ranges.{IsSize, IsSmall, IsSpot, IsUnit};
 ghost use Rattle.vcm_picture.specs.inner.Layouts.{IsLayout, IsSlim};
 ghost use Rattle.vcm_picture.specs.Outcome.{IsPicture};
@@ -161,8 +161,8 @@ fn put_clip(out: &mut Vec<u8>, view: View, window: Window) -> Result<(), NoMemor
     put(out, &[Piece::Text(b"\"/></clipPath>\n")])
 }
 
-// Appends the clip paths of some views.
-fn put_clips(out: &mut Vec<u8>, views: &[View], window: Window) -> Result<(), NoMemory>
+/// Appends the clip paths of some views.
+pub fn put_clips(out: &mut Vec<u8>, views: &[View], window: Window) -> Result<(), NoMemory>
     requires window { IsWindow window }
     ensures { OnOk result (out.new.items ≡ out.old.items ++ clips_text window views.now) }
 {
@@ -215,6 +215,14 @@ fn window_round(part: &PartData, world: &World, marks: &[Placed], is_close: bool
         part.blocks(),
         marks,
     )
+}
+
+/// The window of a picture: of home, the position at the end, the blocks and the pieces, or, of a close one, of the blocks alone.
+pub fn window_shown(part: &PartData, world: &World, marks: &[Placed], is_close: bool) -> Window
+    ensures window { result ≡ window_round part.now world.now marks.now is_close }
+    ensures ranges { IsWindow result }
+{
+    window_round(part, world, marks, is_close)
 }
 
 // A place of small numbers.

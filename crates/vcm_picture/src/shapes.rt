@@ -62,7 +62,7 @@ pub enum Shape {
 }
 
 /// The step of a mark.
-pub(crate) fn step_of(placed: &Placed) -> Step
+pub fn step_of(placed: &Placed) -> Step
     ensures { result ≡ step_of placed.now }
 {
     Step {
@@ -287,7 +287,7 @@ fn put_shape(
 }
 
 /// Appends shapes, in a view whose features have these names, of a run with this first line of the heading.
-pub(crate) fn put_shapes(
+pub fn put_shapes(
     out: &mut Vec<u8>,
     features: &[Name],
     stopped: &[u8],

@@ -4,7 +4,7 @@ ghost use Rattle.std.specs.Prelude.{◌≡◌, ◌≤◌, ◌≤ℤ◌, ◌*ℤ�
 ghost use Rattle.std.specs.List.{list_all, find};
 ghost use Rattle.vcm_spec.specs.Workpiece.{is_block};
 ghost use Rattle.vcm_picture.specs.Shown.{face_of, faces_from, is_repeated, is_hidden, is_covered, size_of, corners, room, figure_with, digits_of, figure_of, shown_of};
-ghost use Rattle.vcm_picture.specs.inner.Ranges.{IsScope, IsLetters};
+ghost use Rattle.vcm_picture.specs.Ranges.{IsScope, IsLetters};
 ghost use Rattle.vcm_svg.specs.Ranges.{IsRect, IsUnit, IsExtent};
 ghost use Rattle.vcm_picture.specs.inner.Drawable.{AreBoxes, AreFaces, IsShown, MayName, MayStand};
 
@@ -209,18 +209,18 @@ fn figure_of(before: &[Rect], face: &Face, unit: i64) -> Option<Figure>
     figure_with(before, face.rect, digits, size)
 }
 
-/// How a block is shown behind these rectangles.
+/// How a block is shown behind these rectangles. What isn't hidden isn't repeated, and so is asked once.
 pub(crate) fn shown_of(before: &[Rect], face: &Face, unit: i64) -> Shown
     requires rect { IsRect face.now.rect }
     requires unit { IsUnit unit }
     ensures shown { result ≡ shown_of before.now face.now unit }
     ensures ranges { IsShown result }
 {
+    if !is_hidden(before, face.rect) {
+        return Shown::Open(figure_of(before, face, unit));
+    }
     if is_repeated(before, face.rect) {
         return Shown::Repeated;
     }
-    if is_hidden(before, face.rect) {
-        return Shown::Hidden;
-    }
-    Shown::Open(figure_of(before, face, unit))
+    Shown::Hidden
 }

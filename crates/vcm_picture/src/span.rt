@@ -5,7 +5,7 @@ ghost use Rattle.std.specs.List.{list_all};
 ghost use Rattle.vcm_num.specs.Point.{IsNear, is_near, coordinate};
 ghost use Rattle.vcm_spec.specs.Workpiece.{is_block};
 ghost use Rattle.vcm_picture.specs.Span.{widened, single, over_block, of_block, over_blocks, over_mark, over_marks, span_of_all, span_of};
-ghost use Rattle.vcm_picture.specs.inner.Ranges.{IsSpan};
+ghost use Rattle.vcm_picture.specs.Ranges.{IsSpan};
 
 use crate::drawn::drawn_at;
 use vcm_marks::{Mark, Placed};

@@ -6,7 +6,7 @@ ghost use Rattle.vcm_num.specs.Point.{is_near};
 ghost use Rattle.vcm_spec.specs.Workpiece.{is_block};
 ghost use Rattle.vcm_picture.specs.View.{right_axis, up_axis, title, clip, nearness, scope_of, near_spot, spot_of, rect_of};
 ghost use Rattle.vcm_svg.specs.Rect.{spot};
-ghost use Rattle.vcm_picture.specs.inner.Ranges.{IsBorder, IsWindow, IsScope};
+ghost use Rattle.vcm_picture.specs.Ranges.{IsBorder, IsWindow, IsScope};
 ghost use Rattle.vcm_svg.specs.Ranges.{IsSmall, IsUnit, IsSpot, IsRect};
 
 use crate::drawn::drawn_at;
@@ -36,8 +36,8 @@ pub struct Scope {
     pub high: i64,
 }
 
-// The axis to the right.
-fn right_axis(view: View) -> usize
+/// The axis that goes to the right in a view, 0 being X.
+pub fn right_axis(view: View) -> usize
     ensures axis { result ≡ right_axis view }
     ensures below { result < 3 }
 {
@@ -48,8 +48,8 @@ fn right_axis(view: View) -> usize
     }
 }
 
-// The axis up.
-fn up_axis(view: View) -> usize
+/// The axis that goes up in a view.
+pub fn up_axis(view: View) -> usize
     ensures axis { result ≡ up_axis view }
     ensures below { result < 3 }
 {
@@ -94,8 +94,8 @@ pub(crate) fn nearness(view: View, block: &Block3) -> i64
     }
 }
 
-/// What a view shows of a window.
-pub(crate) fn scope_of(window: Window, view: View) -> Scope
+/// What a view shows of a window, in micrometres and in units of the picture.
+pub fn scope_of(window: Window, view: View) -> Scope
     requires { IsWindow window }
     ensures scope { result ≡ scope_of window view }
     ensures ranges { IsScope result }
@@ -149,8 +149,8 @@ fn near_spot(scope: Scope, at: Point) -> Spot
     )
 }
 
-/// Where a point stands in a view.
-pub(crate) fn spot_of(scope: Scope, at: Point) -> Spot
+/// Where a point stands in a view, in units of the picture from its upper left corner.
+pub fn spot_of(scope: Scope, at: Point) -> Spot
     requires { IsScope scope }
     ensures spot { result ≡ spot_of scope at }
     ensures ranges { IsSpot result }

@@ -3,7 +3,7 @@
 ghost use Rattle.std.specs.Prelude.{◌≡◌, ◌++◌, OnOk};
 ghost use Rattle.vcm_marks.specs.declared.mark.Going.TheVariants as going;
 ghost use Rattle.vcm_picture.specs.Way.{reach, class_of, piece_shape, mark_piece, pieces, touched_shape, mark_touched, touched_points, in_view, limits_in, limits_shape, home_shape, end_shape, tip_shape, half_of, tip_at, tip_at_contact, contact_shape, ends, way_shapes};
-ghost use Rattle.vcm_picture.specs.inner.Ranges.{IsScope};
+ghost use Rattle.vcm_picture.specs.Ranges.{IsScope};
 ghost use Rattle.vcm_svg.specs.Ranges.{IsExtent, IsFew, IsReach, IsRect};
 
 use crate::marks::{are_few, contact_of};

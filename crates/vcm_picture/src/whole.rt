@@ -1,7 +1,7 @@
 //! Arithmetic on whole numbers.
 
 ghost use Rattle.std.specs.Prelude.{◌≡◌, pos, ◌*ℤ◌};
-ghost use Rattle.vcm_picture.specs.inner.Ranges.{IsLetters};
+ghost use Rattle.vcm_picture.specs.Ranges.{IsLetters};
 ghost use Rattle.vcm_svg.specs.Ranges.{IsUnit, IsExtent};
 
 /// The width of so many letters whose size is given: 6 for each.

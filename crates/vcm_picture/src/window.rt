@@ -2,7 +2,7 @@
 
 ghost use Rattle.std.specs.Prelude.{◌≡◌, ◌≤ℤ◌, pos};
 ghost use Rattle.vcm_picture.specs.Window.{size, most_of, grown, low_of, full_of, longest, grain_of, unit_of, window_of};
-ghost use Rattle.vcm_picture.specs.inner.Ranges.{IsSpan, IsMost, IsEdge, IsWindow};
+ghost use Rattle.vcm_picture.specs.Ranges.{IsSpan, IsMost, IsEdge, IsWindow};
 ghost use Rattle.vcm_svg.specs.Ranges.{IsSize, IsUnit};
 
 use crate::span::Span;

@@ -98,8 +98,8 @@ fn words_label(at: Spot, unit: i64, down: u8) -> Label
     }
 }
 
-// Appends a row, so many units below a place.
-fn put_row(
+/// Appends a row of a legend: a sign and its words, so many units below a place.
+pub fn put_row(
     out: &mut Vec<u8>,
     at: Spot,
     unit: i64,

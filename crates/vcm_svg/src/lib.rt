@@ -12,7 +12,7 @@ mod style;
 mod whole;
 
 pub use heading::put_heading;
-pub use legend::{put_bar, put_legend};
+pub use legend::{Sign, put_bar, put_legend, put_row};
 pub use outlines::{
     Outline, Reach, circle, cross, put_outline, rect_outline, square_about, square_round,
 };

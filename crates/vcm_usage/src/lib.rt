@@ -30,8 +30,8 @@ pub enum More {
     Steps,
     /// `--steps N` and `--show NAMES`.
     StepsAndShow,
-    /// `--steps N` and `--close`.
-    StepsAndClose,
+    /// `--steps N`, `--close`, `--sheet` and `--lines A-B`.
+    StepsAndSheet,
     /// `--steps N` and `--probe PROBE`.
     StepsAndProbe,
     /// Any words.
@@ -138,7 +138,7 @@ const USAGES: &[Usage] = &[
         about: "Runs a program or an image beside a workpiece, and draws the workpiece and the way of the probe as SVG",
         example: "For example: vcm picture square.dmi part-a.toml --close > square.svg",
         words: &[INPUT, PART],
-        more: More::StepsAndClose,
+        more: More::StepsAndSheet,
     },
     Usage {
         name: "view",

@@ -1,7 +1,7 @@
 -- Layouts in range.
 use Rattle.std.specs.Prelude.{ℤ, pos, ◌≤ℤ◌}
 use Rattle.vcm_picture.specs.declared.picture.Layout.{Layout}
-use Rattle.vcm_picture.specs.inner.Ranges.{IsBorder}
+use Rattle.vcm_picture.specs.Ranges.{IsBorder}
 
 -- the unit of marks and texts of a window
 pub record IsSlim (z : ℤ) : Type 0 where

@@ -1,6 +1,6 @@
 use Rattle.std.proofs.Common.{◌≡◌, ◌∙◌, ap}
 use Rattle.std.specs.Prelude.{codes}
-use Rattle.vcm_picture.specs.Drawing.{scene, scene_shapes, view_front, view_shapes}
+use Rattle.vcm_picture.specs.Drawing.{scene, scene_shapes, view_front}
 use Rattle.vcm_picture.specs.Shapes.{shapes_text}
 use Rattle.vcm_svg.proofs.Appended.{text_same, three}
 use Rattle.vcm_picture.proofs.drawing.put_view.Goals as goal
@@ -11,15 +11,9 @@ returns c =
     let world = c.args.world.now in
     let stopped = c.args.stopped.now in
     let marks = c.args.marks.now in
-    let part = c.args.part.now in
-    let shown = scene part world stopped in
+    let shown = scene c.args.part.now world stopped in
     let features : c.features-features.result.now ≡ world.tables.features = c.features-features.ensures ∙ ap (λ t. t.features) c.tables.ensures in
-    let shapes : c.as_slice.result.now ≡ scene_shapes s shown marks =
-    c.as_slice.ensures.value ∙ c.in_ok-shapes.ensures
-    ∙ ap (λ b. view_shapes s b c.bounds-bounds.result c.features-features.result.now c.position-position.result marks) c.blocks-2.ensures.blocks
-    ∙ ap (λ b. view_shapes s part.blocks b c.features-features.result.now c.position-position.result marks) c.bounds-bounds.ensures.bounds
-    ∙ ap (λ f. view_shapes s part.blocks part.bounds f c.position-position.result marks) features
-    ∙ ap (λ p. view_shapes s part.blocks part.bounds world.tables.features p marks) c.position-position.ensures in
+    let shapes : c.as_slice.result.now ≡ scene_shapes s shown marks = c.as_slice.ensures.value ∙ c.in_ok-shapes.ensures in
     three _ _ _ _ _ (view_front s c.args.at) (shapes_text world.tables.features stopped (scene_shapes s shown marks)) (codes "</g>\n")
     c.in_ok-begin_view.ensures
     (text_same _ _ (λ l. shapes_text world.tables.features stopped l) _ _ shapes

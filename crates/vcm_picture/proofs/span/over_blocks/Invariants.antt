@@ -2,7 +2,7 @@ use Rattle.std.proofs.Common.{◌≡◌, IsTrue, drop}
 use Rattle.std.specs.List.{list_all}
 use Rattle.vcm_spec.specs.Workpiece.{is_block}
 use Rattle.vcm_picture.specs.Span.{over_blocks}
-use Rattle.vcm_picture.specs.inner.Ranges.{IsSpan}
+use Rattle.vcm_picture.specs.Ranges.{IsSpan}
 use Rattle.vcm_picture.proofs.span.over_blocks.Given as goal
 
 abbrev pub invariant-loop-block : goal.invariant-loop-block

@@ -1,6 +1,6 @@
 use Rattle.std.proofs.Common.{◌≡◌, drop}
 use Rattle.vcm_picture.specs.Span.{over_marks}
-use Rattle.vcm_picture.specs.inner.Ranges.{IsSpan}
+use Rattle.vcm_picture.specs.Ranges.{IsSpan}
 use Rattle.vcm_picture.proofs.span.over_marks.Given as goal
 
 abbrev pub invariant-loop-placed : goal.invariant-loop-placed

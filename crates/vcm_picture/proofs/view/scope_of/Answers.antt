@@ -1,7 +1,7 @@
 use Rattle.std.proofs.Common.{rules, w64, FitsSigned, to_z-of_z, slice_index_or, pos, ◌+ℤ◌, arith}
 use Rattle.std.proofs.lemmas.Int.{ints}
 use Rattle.vcm_num.specs.Point.{coordinate}
-use Rattle.vcm_picture.specs.inner.Ranges.{IsEdge}
+use Rattle.vcm_picture.specs.Ranges.{IsEdge}
 use Rattle.vcm_svg.specs.Ranges.{IsSize}
 use Rattle.vcm_picture.proofs.Signed.{edge_border, sum_border, quotient_size}
 use Rattle.vcm_picture.proofs.Scopes.{scope_same}

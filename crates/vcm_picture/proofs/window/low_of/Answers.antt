@@ -1,6 +1,6 @@
 use Rattle.std.proofs.Common.{◌-ℤ◌, ◌≤ℤ◌, pos, rules, arith, w64, FitsSigned, to_z-of_z}
 use Rattle.std.proofs.lemmas.Int.{ints}
-use Rattle.vcm_picture.specs.inner.Ranges.{IsPart}
+use Rattle.vcm_picture.specs.Ranges.{IsPart}
 use Rattle.vcm_picture.proofs.Extents.{sixteenth, low_same}
 use Rattle.vcm_picture.proofs.window.low_of.Goals as goal
 

@@ -1,0 +1,4 @@
+pub mod Apart
+pub mod Counted
+pub mod Listed
+pub mod Ticking

@@ -1,0 +1,38 @@
+//! Arithmetic on places of a sheet that never leaves 64 bits.
+
+ghost use Rattle.vcm_svg.specs.Ranges.{IsSmall, IsSpot};
+
+use vcm_svg::Spot;
+
+/// So many units.
+pub(crate) fn units(count: i64, unit: i64) -> i64 {
+    count.saturating_mul(unit)
+}
+
+/// The place so far to the right of another one and below it.
+pub(crate) fn moved(at: Spot, right: i64, down: i64) -> Spot {
+    Spot {
+        x: at.x.saturating_add(right),
+        y: at.y.saturating_add(down),
+    }
+}
+
+/// The most units of a picture.
+const MOST: i64 = 1_099_511_627_776;
+
+// A number that no place of a picture is beyond.
+fn within(number: i64) -> i64
+    ensures { IsSmall result }
+{
+    number.max(-MOST).min(MOST)
+}
+
+/// A place in a picture.
+pub(crate) fn corner(x: i64, y: i64) -> Spot
+    ensures { IsSpot result }
+{
+    Spot {
+        x: within(x),
+        y: within(y),
+    }
+}

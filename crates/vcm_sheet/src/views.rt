@@ -1,0 +1,154 @@
+//! The views of a sheet: the shapes of a picture without the names of features, and the numbers of points.
+
+ghost use Rattle.std.specs.Prelude.{◌≡◌, [], IfOk};
+ghost use Rattle.vcm_picture.specs.Drawing.{scene, scene_shapes};
+ghost use Rattle.vcm_picture.specs.Ranges.{IsScope};
+ghost use Rattle.vcm_sheet.specs.Views.{is_feature, is_name, without_names};
+
+use crate::numbers::{Numbered, numbers_of};
+use crate::points::Pointed;
+use std::alloc::Global;
+use vcm_marks::Placed;
+use vcm_num::{NoMemory, int_text};
+use vcm_part::PartData;
+use vcm_picture::{Scope, Shape, Tip, Words, scene_shapes};
+use vcm_state::World;
+use vcm_svg::{Label, Outline, Rect};
+
+/// What a view of a sheet shows.
+#[derive(Drop)]
+pub struct Drawing {
+    pub scope: Scope,
+    pub shapes: Vec<Shape>,
+    pub numbers: Vec<Numbered>,
+}
+
+// Whether a shape is the name of a feature.
+fn is_name(shape: &Shape) -> bool
+    ensures { result ≡ is_name shape.now }
+{
+    match shape {
+        Shape::Text(_, words) => is_feature(words),
+        Shape::Path(_, _) => false,
+        Shape::Told(_, _, _) => false,
+    }
+}
+
+// Whether words are the name of a feature.
+fn is_feature(words: &Words) -> bool
+    ensures { result ≡ is_feature words.now }
+{
+    match words {
+        Words::Feature(_) => true,
+        Words::Number(_) => false,
+        Words::Block(_) => false,
+        Words::End => false,
+        Words::Home => false,
+    }
+}
+
+// Of shapes those that are no names of features.
+fn without_names(mut shapes: Vec<Shape>) -> Vec<Shape>
+    ensures { result.items ≡ without_names shapes.items }
+{
+    shapes.retain(|shape| !is_name(shape));
+    shapes
+}
+
+// How many letters a number has.
+fn letters_in(number: u32) -> i64 {
+    int_text(i64::from(number)).as_slice().len() as i64
+}
+
+// How many letters words have.
+fn letters_of(words: Words) -> i64 {
+    match words {
+        Words::Number(number) => letters_in(number),
+        Words::Block(number) => letters_in(number).saturating_add(6),
+        Words::End => 3,
+        Words::Home => 4,
+        Words::Feature(_) => 0,
+    }
+}
+
+// The box of a text.
+fn text_box(label: Label, words: Words) -> Rect {
+    let wide = label
+        .size
+        .saturating_mul(letters_of(words).saturating_mul(6));
+    Rect {
+        left: label.at.x,
+        top: label.at.y.saturating_sub(label.size.saturating_mul(8)),
+        right: label.at.x.saturating_add(wide),
+        bottom: label.at.y.saturating_add(label.size),
+    }
+}
+
+// The box of a touched point.
+fn point_box(tip: Tip, outline: Outline) -> Option<Rect> {
+    match tip {
+        Tip::Touched(_, _) => circle_box(outline),
+        _ => None,
+    }
+}
+
+// The box of a circle.
+fn circle_box(outline: Outline) -> Option<Rect> {
+    match outline {
+        Outline::Circle(at, radius, wide) => Some(Rect {
+            left: at.x,
+            top: at.y.saturating_sub(radius),
+            right: at.x.saturating_add(wide),
+            bottom: at.y.saturating_add(radius),
+        }),
+        _ => None,
+    }
+}
+
+// The box of a shape beside which numbers stand, if it is a text or a touched point.
+fn box_of(shape: &Shape) -> Option<Rect> {
+    match shape {
+        Shape::Text(label, words) => Some(text_box(*label, *words)),
+        Shape::Told(_, outline, tip) => point_box(*tip, *outline),
+        Shape::Path(_, _) => None,
+    }
+}
+
+// The boxes beside which numbers stand.
+fn boxes_of(alloc: Global, shapes: &[Shape]) -> Result<Vec<Rect>, NoMemory> {
+    let mut boxes = Vec::new(alloc);
+    for shape in shapes {
+        if let Some(area) = box_of(shape) {
+            boxes.push(area)?;
+        }
+    }
+    Ok(boxes)
+}
+
+/// What a view of a sheet shows of a workpiece, the state at the end, marks, and points with numbers.
+///
+/// # Errors
+///
+/// Out of memory.
+pub(crate) fn drawing_of(
+    alloc: Global,
+    scope: Scope,
+    part: &PartData,
+    world: &World,
+    marks: &[Placed],
+    points: &[Pointed],
+) -> Result<Drawing, NoMemory>
+    requires { IsScope scope }
+    ensures scope { IfOk result (λ d. d.scope ≡ scope) }
+    ensures shapes { IfOk result (λ d. d.shapes.items ≡ without_names (scene_shapes scope (scene part.now world.now []) marks.now)) }
+{
+    let all = scene_shapes(alloc, scope, part, world, marks)?;
+    let shapes = without_names(all);
+    let mut taken = boxes_of(alloc, shapes.as_slice())?;
+    let numbers = numbers_of(alloc, scope, points, &mut taken)?;
+    Ok(Drawing {
+        scope,
+        shapes,
+        numbers,
+    })
+}
