@@ -88,17 +88,31 @@ fn framed(alloc: Global, messages: &[&str]) -> Option<Vec<u8>> {
 }
 
 // How many budgets are too small for a request on the loop of three lines, which is to be answered so.
-fn request_refusals(alloc: Global, text: &str, messages: &[&str]) -> Option<u32> {
-    let wanted = framed(alloc, messages)?;
-    let mut scratch = Scratch::new(alloc);
-    let message = Value::from_slice(alloc, text.as_bytes(), &mut scratch).ok()?;
-    let request = request_of(&message).ok()?;
+fn served_refusals(alloc: Global, request: &Request<'_, '_>, wanted: &[u8]) -> Option<u32> {
     beside_block(alloc, THREE, |loaded, part| {
         refusals(
             alloc,
-            |alloc| answered(alloc, loaded, part, &request, &wanted),
+            |alloc| answered(alloc, loaded, part, request, wanted),
         )
     })
+}
+
+// The same of a message.
+fn message_refusals(alloc: Global, message: &Value<'_>, wanted: &[u8]) -> Option<u32> {
+    match request_of(message) {
+        Ok(request) => served_refusals(alloc, &request, wanted),
+        Err(_) => None,
+    }
+}
+
+// The same of a text, which is to be answered by these messages.
+fn request_refusals(alloc: Global, text: &str, messages: &[&str]) -> Option<u32> {
+    let wanted = framed(alloc, messages)?;
+    let mut scratch = Scratch::new(alloc);
+    match Value::from_slice(alloc, text.as_bytes(), &mut scratch) {
+        Ok(message) => message_refusals(alloc, &message, &wanted),
+        Err(_) => None,
+    }
 }
 
 // A run to the end, and what is told of it.
