@@ -5,3 +5,4 @@ mod Clearing
 mod Watches
 mod Told
 mod Motions
+mod Items

@@ -2,6 +2,8 @@ pub mod Asking
 pub mod Adapting
 pub mod Moving
 pub mod Lines
+pub mod Asked
+pub mod Laws
 pub mod Talking
 pub mod Served
 pub mod Samples

@@ -1,9 +1,8 @@
 -- What a request does to the adapter.
 use Rattle.std.specs.Prelude.{◌≡◌, ℕ, max, Bool, true, false, List, length, codes, Option, Some, None, option_and_then}
 use Rattle.std.specs.Str.{bytes_eq}
-use Rattle.json.specs.Json.{Json}
+use Rattle.json.specs.Json.{Json, Items}
 use Rattle.json.specs.Find.{get, as_str}
-use Rattle.vcm_console.specs.declared.command.VariableRef.{VariableRef}
 use Rattle.vcm_debug.specs.Debugging.{Debugging, now}
 use Rattle.vcm_wire.specs.Requests.{argument}
 use Rattle.vcm_dap.specs.declared.asking.Ask.{Ask}
@@ -12,6 +11,7 @@ use Rattle.vcm_dap.specs.declared.adapter.Served.{Served}
 use Rattle.vcm_dap.specs.declared.adapter.Served.TheVariants.{Done, Refused, Over}
 use Rattle.vcm_dap.specs.Adapting.{Adapting}
 use Rattle.vcm_dap.specs.Moving.{IsMoved}
+use Rattle.vcm_dap.specs.Asked.{AskLines, items_in, listed_breakpoints, asked_variables}
 use Rattle.vcm_dap.specs.Lines.{with_breakpoints, with_watches}
 
 -- the path of the file that a request speaks of
@@ -24,21 +24,22 @@ same_path (Some a) (Some b) = bytes_eq a b
 same_path (Some a) None = false
 same_path None b = false
 
--- breakpoints were set on lines that were asked for, if the request speaks of the text that is shown; else nothing has changed
-abbrev pub IsBroken : Bool → Debugging → Debugging → Type 0
-IsBroken true old new = (asked : List (Option ℕ)) × (new ≡ with_breakpoints old asked)
-IsBroken false old new = new ≡ old
+-- breakpoints were set on the lines that these items ask for, if the request speaks of the text that is shown; else nothing has changed
+abbrev pub IsBroken : Bool → Bool → Items → Debugging → Debugging → Type 0
+IsBroken true is_from_0 js old new = (asked : List (Option ℕ)) × AskLines is_from_0 js asked × (new ≡ with_breakpoints old asked)
+IsBroken false is_from_0 js old new = new ≡ old
 
--- variables that were asked for are watched, and no others
-abbrev pub IsWatching : Debugging → Debugging → Type 0
-IsWatching old new = (wanted : List (Option VariableRef)) × (new ≡ with_watches old wanted)
+-- the variables that these items ask for are watched, and no others
+abbrev pub IsWatching : Items → Debugging → Debugging → Type 0
+IsWatching js old new = new ≡ with_watches old (asked_variables old js)
 
--- the session behind a request that was done
-abbrev pub IsDone : Adapting → Json → Ask → Debugging → Type 0
-IsDone old message (a.Move m) new = IsMoved old.wanted old.session m new
-IsDone old message a.Breakpoints new = IsBroken (same_path (path_of message) old.wanted.source) old.session new
-IsDone old message a.DataBreakpoints new = IsWatching old.session new
-IsDone old message (a.Show look) new = new ≡ old.session
+-- the session behind a request that was done. The client's lines count from 0 or from 1
+abbrev pub IsDone : Bool → Adapting → Json → Ask → Debugging → Type 0
+IsDone is_from_0 old message (a.Move m) new = IsMoved old.wanted old.session m new
+IsDone is_from_0 old message a.Breakpoints new =
+    IsBroken (same_path (path_of message) old.wanted.source) is_from_0 (items_in (listed_breakpoints message)) old.session new
+IsDone is_from_0 old message a.DataBreakpoints new = IsWatching (items_in (argument message (codes "breakpoints"))) old.session new
+IsDone is_from_0 old message (a.Show look) new = new ≡ old.session
 
 -- how many output lines were told behind a request that was done: behind a motion all, and no line twice
 abbrev pub told_behind : Adapting → Ask → Debugging → ℕ
@@ -46,8 +47,8 @@ told_behind old (a.Move m) new = max old.told (length (now new).world.lines)
 told_behind old _ new = old.told
 
 -- the adapter behind a request that was served so. One that was refused, and the last one, change nothing
-abbrev pub IsServed : Adapting → Json → Ask → Served → Adapting → Type 0
-IsServed old message ask Done new =
-    IsDone old message ask new.session × (new.told ≡ told_behind old ask new.session) × (new.wanted ≡ old.wanted)
-IsServed old message ask Refused new = new ≡ old
-IsServed old message ask Over new = new ≡ old
+abbrev pub IsServed : Bool → Adapting → Json → Ask → Served → Adapting → Type 0
+IsServed is_from_0 old message ask Done new =
+    IsDone is_from_0 old message ask new.session × (new.told ≡ told_behind old ask new.session) × (new.wanted ≡ old.wanted)
+IsServed is_from_0 old message ask Refused new = new ≡ old
+IsServed is_from_0 old message ask Over new = new ≡ old

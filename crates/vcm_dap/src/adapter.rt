@@ -105,7 +105,7 @@ impl<'a, 's, P: Part> Adapter<'a, 's, P> {
         request: &Request<'_, '_>,
     ) -> Result<Served, DapFault>
         requires { self.old.session.count + 1000000 < 2 ^ 64 }
-        ensures served { IfOk result (λ s. IsServed self.old (value_view request.now.message.now) (ask_of request.now.command.now) s self.new) }
+        ensures served { IfOk result (λ s. IsServed talk.old.is_from_0 self.old (value_view request.now.message.now) (ask_of request.now.command.now) s self.new) }
         ensures few { self.new.session.count ≤ self.old.session.count + 1000000 }
     {
         match ask_of(request.command) {

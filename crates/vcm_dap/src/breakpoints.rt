@@ -1,7 +1,8 @@
 //! The request for breakpoints on lines.
 
 ghost use Rattle.std.specs.Prelude.{◌≡◌, ◌<◌, ◌+◌, ◌^◌, true, map, option_map, option_and_then, IfOk};
-ghost use Rattle.json.specs.Value.{value_view};
+ghost use Rattle.json.specs.Value.{value_view, items_view};
+ghost use Rattle.vcm_dap.specs.Asked.{has_text, has_condition, IsNumber, line_value, AsksLine, AskLines, items_in, listed_breakpoints};
 ghost use Rattle.vcm_dap.specs.Lines.{settled};
 ghost use Rattle.vcm_dap.specs.Served.{path_of, same_path, IsBroken};
 
@@ -19,7 +20,9 @@ use vcm_motion::Part;
 use vcm_wire::{Message, Request};
 
 // Whether an item has a text of this name that isn't empty.
-fn has_text(item: &Value<'_>, name: &str) -> bool {
+fn has_text(item: &Value<'_>, name: &str) -> bool
+    ensures { result ≡ has_text (value_view item.now) name.now }
+{
     match item.get(name).and_then(Value::as_str) {
         Some(text) => !text.is_empty(),
         None => false,
@@ -27,12 +30,16 @@ fn has_text(item: &Value<'_>, name: &str) -> bool {
 }
 
 /// Whether a breakpoint says more than where it is.
-pub(crate) fn has_condition(item: &Value<'_>) -> bool {
+pub(crate) fn has_condition(item: &Value<'_>) -> bool
+    ensures { result ≡ has_condition (value_view item.now) }
+{
     has_text(item, "condition") || has_text(item, "hitCondition") || has_text(item, "logMessage")
 }
 
-// The line of an item of `breakpoints` or of `lines`.
-fn line_of(item: &Value<'_>) -> Option<u64> {
+// The line of an item of `breakpoints` or of `lines`, as the client counts it.
+fn line_of(item: &Value<'_>) -> Option<u64>
+    ensures { IsNumber (line_value (value_view item.now)) result }
+{
     match item.get("line") {
         Some(line) => line.as_u64(),
         None => item.as_u64(),
@@ -40,15 +47,22 @@ fn line_of(item: &Value<'_>) -> Option<u64> {
 }
 
 // The line that an item asks for.
-fn asked_line(item: &Value<'_>) -> Option<u64> {
+fn asked_line<W: Write>(talk: &Talk<W>, item: &Value<'_>) -> Option<u64>
+    ensures { AsksLine talk.now.is_from_0 (value_view item.now) result }
+{
     if has_condition(item) {
         return None;
     }
-    line_of(item)
+    match line_of(item) {
+        Some(line) => Some(talk.line_in(line)),
+        None => None,
+    }
 }
 
 // The list of what is asked for.
-fn asked_list<'v, 'a>(request: &Request<'v, 'a>) -> Option<&'v Value<'a>> {
+fn asked_list<'v, 'a>(request: &Request<'v, 'a>) -> Option<&'v Value<'a>>
+    ensures { option_map (λ v. value_view v.now) result ≡ listed_breakpoints (value_view request.now.message.now) }
+{
     match request.argument("breakpoints") {
         Some(list) => Some(list),
         None => request.argument("lines"),
@@ -83,17 +97,12 @@ fn is_of_source(settings: &Settings<'_>, request: &Request<'_, '_>) -> bool
 }
 
 // The lines that are asked for.
-fn asked_lines<W: Write>(
-    talk: &Talk<W>,
-    items: &[Value<'_>],
-) -> Result<Vec<Option<u64>>, DapFault> {
+fn asked_lines<W: Write>(talk: &Talk<W>, items: &[Value<'_>]) -> Result<Vec<Option<u64>>, DapFault>
+    ensures { IfOk result (λ ls. AskLines talk.now.is_from_0 (items_view items.now) ls.items) }
+{
     let mut lines = Vec::with_capacity(talk.alloc(), items.len())?;
     for item in items {
-        let line = match asked_line(item) {
-            Some(line) => Some(talk.line_in(line)),
-            None => None,
-        };
-        lines.push(line)?;
+        lines.push(asked_line(talk, item))?;
     }
     Ok(lines)
 }
@@ -194,7 +203,7 @@ fn replace<P: Part, W: Write>(
     items: &[Value<'_>],
 ) -> Result<(), DapFault>
     requires { session.old.count + 1000000 < 2 ^ 64 }
-    ensures broken { IfOk result (λ u. IsBroken true session.old session.new) }
+    ensures broken { IfOk result (λ u. IsBroken true talk.old.is_from_0 (items_view items.now) session.old session.new) }
     ensures same { session.new.count ≡ session.old.count }
 {
     let asked = asked_lines(talk, items)?;
@@ -212,7 +221,7 @@ fn set_items<P: Part, W: Write>(
     items: &[Value<'_>],
 ) -> Result<(), DapFault>
     requires { session.old.count + 1000000 < 2 ^ 64 }
-    ensures broken { IfOk result (λ u. IsBroken (same_path (path_of (value_view request.now.message.now)) settings.now.source) session.old session.new) }
+    ensures broken { IfOk result (λ u. IsBroken (same_path (path_of (value_view request.now.message.now)) settings.now.source) talk.old.is_from_0 (items_view items.now) session.old session.new) }
     ensures same { session.new.count ≡ session.old.count }
 {
     if is_of_source(settings, request) {
@@ -230,7 +239,7 @@ pub(crate) fn set_breakpoints<P: Part, W: Write>(
     request: &Request<'_, '_>,
 ) -> Result<(), DapFault>
     requires { session.old.count + 1000000 < 2 ^ 64 }
-    ensures broken { IfOk result (λ u. IsBroken (same_path (path_of (value_view request.now.message.now)) settings.now.source) session.old session.new) }
+    ensures broken { IfOk result (λ u. IsBroken (same_path (path_of (value_view request.now.message.now)) settings.now.source) talk.old.is_from_0 (items_in (listed_breakpoints (value_view request.now.message.now))) session.old session.new) }
     ensures same { session.new.count ≡ session.old.count }
 {
     match asked_list(request) {

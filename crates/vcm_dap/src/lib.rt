@@ -9,6 +9,7 @@ mod breakpoints;
 mod evaluating;
 mod fault;
 mod fronts;
+pub mod laws;
 mod looking;
 mod moving;
 mod output;

@@ -3,6 +3,8 @@
 ghost use Rattle.std.specs.Prelude.{◌≡◌, ◌<◌, ◌+◌, ◌^◌, true, IfOk, IfSome};
 ghost use Rattle.vcm_console.specs.Replies.{ReplyFits};
 ghost use Rattle.vcm_debug.specs.Debugging.{now};
+ghost use Rattle.vcm_debug.specs.Session.{Carries};
+ghost use Rattle.vcm_dap.specs.Asked.{typed};
 ghost use Rattle.vcm_dap.specs.inner.Looking.{is_look};
 
 use crate::fault::DapFault;
@@ -26,14 +28,15 @@ fn is_look(command: &Command) -> bool
     }
 }
 
-// What the session answers to a command that only looks.
-fn answer_to<P: Part>(
+/// What the session answers to a command that only looks.
+pub(crate) fn answer_to<P: Part>(
     alloc: Global,
     session: &mut Session<'_, P>,
     command: &Command,
 ) -> Result<Reply, Halted>
     requires count { session.old.count + 1000000 < 2 ^ 64 }
     requires looks { is_look command.now ≡ true }
+    ensures carried { Carries session.old command.now session.new result }
     ensures same { session.new ≡ session.old }
     ensures fits { IfOk result (ReplyFits session.new.code (now session.new).world.lines) }
 {
@@ -78,11 +81,9 @@ pub(crate) fn look_text<P: Part>(
 }
 
 /// The command of a word, with this behind it, if it is one.
-pub(crate) fn typed(
-    alloc: Global,
-    word: &[u8],
-    behind: &[u8],
-) -> Result<Option<Command>, DapFault> {
+pub(crate) fn typed(alloc: Global, word: &[u8], behind: &[u8]) -> Result<Option<Command>, DapFault>
+    ensures { IfOk result (λ o. o ≡ typed word.now behind.now) }
+{
     let mut line = Vec::from_slice(alloc, word)?;
     line.extend_from_slice(b" ")?;
     line.extend_from_slice(behind)?;

@@ -40,6 +40,7 @@ impl<W: Write> Talk<W> {
     ghost use Rattle.json.specs.Token.{Token};
     ghost use Rattle.json.specs.Print.{print};
     ghost use Rattle.vcm_wire.specs.Messages.{front};
+    ghost use Rattle.vcm_dap.specs.Asked.{line_in};
     ghost use Rattle.vcm_dap.specs.Talking.{next_seq, counted, answer_front, with_error, done_front, event_front, output_front, ended, done, refusal, IsSent, IsWritten, Told};
 
     /// A talk that begins, with lines and columns from 1 on.
@@ -69,7 +70,9 @@ impl<W: Write> Talk<W> {
     }
 
     /// The line that the client means.
-    pub(crate) fn line_in(&self, line: u64) -> u64 {
+    pub(crate) fn line_in(&self, line: u64) -> u64
+        ensures { result ≡ line_in self.now.is_from_0 line }
+    {
         if self.is_from_0 {
             line.saturating_add(1)
         } else {

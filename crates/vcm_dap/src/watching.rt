@@ -1,23 +1,61 @@
 //! Watches: the requests for breakpoints on the change of variables.
 
-ghost use Rattle.std.specs.Prelude.{◌≡◌, ◌<◌, ◌+◌, ◌^◌, length, Some, option_map, slice_get, IfOk};
+ghost use Rattle.std.specs.Prelude.{◌≡◌, ◌<◌, ◌+◌, ◌^◌, length, codes, Some, option_map, slice_get, IfOk};
+ghost use Rattle.json.specs.Value.{value_view, items_view};
+ghost use Rattle.vcm_wire.specs.Requests.{argument};
 ghost use Rattle.vcm_console.specs.declared.command.Command.TheVariants.{Watch, Unwatch};
-ghost use Rattle.vcm_debug.specs.Session.{answer};
+ghost use Rattle.vcm_debug.specs.Session.{answer, variable_of};
+ghost use Rattle.vcm_dap.specs.Asked.{items_in, is_write, is_plain, shown_by, variable_named, asked_variable, asked_variables};
+ghost use Rattle.vcm_dap.specs.inner.Looking.{told_index};
 ghost use Rattle.vcm_dap.specs.Lines.{named, without_watches, watching, with_watches};
 ghost use Rattle.vcm_dap.specs.Served.{IsWatching};
 
 use crate::breakpoints::{has_condition, put_unverified};
 use crate::fault::DapFault;
-use crate::looking::{look, typed};
+use crate::looking::{answer_to, typed};
 use crate::talk::Talk;
 use json::Value;
 use std::alloc::Global;
 use std::io::Write;
-use vcm_console::{Command, Reply, VariableRef, write_variable};
+use vcm_console::{Command, Halted, Reply, VariableRef, write_variable};
 use vcm_debug::Session;
 use vcm_motion::Part;
 use vcm_tables::Variable;
 use vcm_wire::{Message, Request};
+
+// The variable that a command shows, if it shows one.
+fn shown_by(command: Option<Command>) -> Option<VariableRef>
+    ensures { result ≡ shown_by command }
+{
+    match command {
+        Some(Command::Show(wanted)) => Some(wanted),
+        _ => None,
+    }
+}
+
+// The index of the variable whose value is told.
+fn told_index(told: Result<Reply, Halted>) -> Option<u16>
+    ensures { result ≡ told_index told }
+{
+    match told {
+        Ok(Reply::Value(v, _)) => Some(v),
+        _ => None,
+    }
+}
+
+// The index of a variable, if the session has it.
+fn index_of<P: Part>(
+    alloc: Global,
+    session: &mut Session<'_, P>,
+    wanted: &VariableRef,
+) -> Option<u16>
+    requires { session.old.count + 1000000 < 2 ^ 64 }
+    ensures same { session.new ≡ session.old }
+    ensures index { result ≡ variable_of session.old wanted.now }
+{
+    let told = answer_to(alloc, session, &Command::Show(same(wanted)));
+    told_index(told)
+}
 
 // The variable that a name names, and its index.
 fn variable_of<P: Part>(
@@ -26,17 +64,16 @@ fn variable_of<P: Part>(
     name: &str,
 ) -> Result<Option<(u16, VariableRef)>, DapFault>
     requires { session.old.count + 1000000 < 2 ^ 64 }
-    ensures { session.new ≡ session.old }
+    ensures same { session.new ≡ session.old }
+    ensures named { IfOk result (λ o. option_map (λ p. p.1) o ≡ variable_named session.old name.now) }
 {
-    let Some(command) = typed(alloc, b"show", name.as_bytes())? else {
+    let command = typed(alloc, b"show", name.as_bytes())?;
+    let Some(wanted) = shown_by(command) else {
         return Ok(None);
     };
-    let Some(Reply::Value(v, _)) = look(alloc, session, &command) else {
-        return Ok(None);
-    };
-    match command {
-        Command::Show(wanted) => Ok(Some((v, wanted))),
-        _ => Ok(None),
+    match index_of(alloc, session, &wanted) {
+        Some(v) => Ok(Some((v, wanted))),
+        None => Ok(None),
     }
 }
 
@@ -94,10 +131,21 @@ pub(crate) fn tell_watchable<P: Part, W: Write>(
     talk.send(message)
 }
 
-// Whether an item asks for changes, whatever they are.
-fn is_plain(item: &Value<'_>) -> bool {
-    let access = item.get("accessType").and_then(Value::as_str);
-    !has_condition(item) && access.unwrap_or("write") == "write"
+// Whether an access is that of each change. It is where none is told.
+fn is_write(access: Option<&str>) -> bool
+    ensures { result ≡ is_write (option_map (λ t. t.now) access.entry) }
+{
+    match access {
+        Some(access) => access == "write",
+        None => true,
+    }
+}
+
+// Whether an item asks for each change of what it names, and says no more than that.
+fn is_plain(item: &Value<'_>) -> bool
+    ensures { result ≡ is_plain (value_view item.now) }
+{
+    !has_condition(item) && is_write(item.get("accessType").and_then(Value::as_str))
 }
 
 // The variable that an item asks for.
@@ -107,7 +155,8 @@ fn asked_variable<P: Part>(
     item: &Value<'_>,
 ) -> Result<Option<VariableRef>, DapFault>
     requires { session.old.count + 1000000 < 2 ^ 64 }
-    ensures { session.new ≡ session.old }
+    ensures same { session.new ≡ session.old }
+    ensures asked { IfOk result (λ o. o ≡ asked_variable session.old (value_view item.now)) }
 {
     if !is_plain(item) {
         return Ok(None);
@@ -128,7 +177,8 @@ fn asked_variables<P: Part>(
     items: &[Value<'_>],
 ) -> Result<Vec<Option<VariableRef>>, DapFault>
     requires { session.old.count + 1000000 < 2 ^ 64 }
-    ensures { session.new ≡ session.old }
+    ensures same { session.new ≡ session.old }
+    ensures asked { IfOk result (λ vs. vs.items ≡ asked_variables session.old (items_view items.now)) }
 {
     let mut wanted = Vec::with_capacity(alloc, items.len())?;
     for item in items {
@@ -253,7 +303,7 @@ fn set_items<P: Part, W: Write>(
     items: &[Value<'_>],
 ) -> Result<(), DapFault>
     requires { session.old.count + 1000000 < 2 ^ 64 }
-    ensures watches { IfOk result (λ u. IsWatching session.old session.new) }
+    ensures watches { IfOk result (λ u. IsWatching (items_view items.now) session.old session.new) }
     ensures same { session.new.count ≡ session.old.count }
 {
     let wanted = asked_variables(talk.alloc(), session, items)?;
@@ -268,7 +318,7 @@ pub(crate) fn set_watches<P: Part, W: Write>(
     request: &Request<'_, '_>,
 ) -> Result<(), DapFault>
     requires { session.old.count + 1000000 < 2 ^ 64 }
-    ensures watches { IfOk result (λ u. IsWatching session.old session.new) }
+    ensures watches { IfOk result (λ u. IsWatching (items_in (argument (value_view request.now.message.now) (codes "breakpoints"))) session.old session.new) }
     ensures same { session.new.count ≡ session.old.count }
 {
     match request.argument("breakpoints") {
