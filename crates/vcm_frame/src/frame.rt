@@ -8,7 +8,7 @@ ghost use Rattle.vcm_spec.specs.Outcome.{Answers, point_at};
 use crate::checked::{point_from, row_between, row_of};
 use crate::turn::Turn;
 use std::marker::Model;
-use vcm_num::{Axis, Point};
+use vcm_num::{Axis, Point, add};
 use vcm_spec::Stop;
 
 /// Part coordinates: a turn, and the machine point of their origin, in micrometres.
@@ -48,6 +48,10 @@ impl Frame {
     {
         let (a, b, c) = self.turn.rows();
         let Point([x, y, z]) = self.origin;
+        if let (Axis::PlusX, Axis::PlusY, Axis::PlusZ) = (a, b, c) {
+            let Point([u, v, w]) = at;
+            return point_from(add(u, x), add(v, y), add(w, z));
+        }
         point_from(row_of(a, at, x), row_of(b, at, y), row_of(c, at, z))
     }
 

@@ -151,6 +151,7 @@ pub(crate) fn go_to<P: Part>(
 /// GOHOME.
 ///
 /// Errors: those of the move. The state is then as it was.
+#[inline(never)]
 pub(crate) fn go_home<P: Part>(part: &P, world: &mut World) -> Result<(), Stop>
     ensures carried { Carried (effect items_value (setup_of (P.part part.now) world.old.tables) world.old.state GoHome) world.old.state world.new.state result }
     ensures tables { world.new.tables ≡ world.old.tables }
@@ -181,6 +182,7 @@ pub(crate) fn assign(
 /// TEXT: one more output line.
 ///
 /// Errors: the stop `OutputFull`, or want of memory. The state is then as it was.
+#[inline(never)]
 pub(crate) fn print(world: &mut World, bytes: &[u8]) -> Result<(), Halt>
     requires { Begins text_at (λ t. Unit {0}) bytes.now }
     ensures carried { (part : Workpiece) → OfFirst text_at bytes.now (λ t rest.

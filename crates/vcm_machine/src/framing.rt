@@ -20,6 +20,7 @@ use vcm_state::World;
 /// TRANS: the current frame is shifted by three lengths, which are evaluated in the order x, y, z, and saved at an index.
 ///
 /// Errors: the first fault of an expression, and `Overflow` of the new origin. The state is then as it was.
+#[inline(never)]
 pub(crate) fn shift(
     stack: &mut BoundedStack<i64>,
     world: &mut World,
@@ -37,6 +38,7 @@ pub(crate) fn shift(
 }
 
 /// ROTATE: the current frame is turned about one of its axes, and saved at an index. It always answers `Ok`.
+#[inline(never)]
 pub(crate) fn rotate(world: &mut World, bytes: &[u8]) -> Result<(), Stop>
     requires { Begins (both variable_at (both (byte_below_at 3) (byte_below_at 4))) (λ o. (o.0 < length world.old.tables.frames) × (o.1.0 < 3)) bytes.now }
     ensures carried { (part : Workpiece) → OfFirst (both variable_at (both (byte_below_at 3) (byte_below_at 4))) bytes.now (λ o rest.
@@ -53,6 +55,7 @@ pub(crate) fn rotate(world: &mut World, bytes: &[u8]) -> Result<(), Stop>
 /// RECALL: the frame that is saved at an index becomes the current one.
 ///
 /// Errors: `Undefined` where none is saved. The state is then as it was.
+#[inline(never)]
 pub(crate) fn recall(world: &mut World, bytes: &[u8]) -> Result<(), Stop>
     requires { Begins variable_at (λ frame. frame < length world.old.tables.frames) bytes.now }
     ensures carried { (part : Workpiece) → OfFirst variable_at bytes.now (λ frame rest.

@@ -104,6 +104,7 @@ fn pair_at(pairs: &[Pair; 32], pair: u8) -> Pair
 /// the initial value is past the limit.
 ///
 /// Errors: a fault of the initial value, the limit or the increment, in this order; `ZeroStep` where the increment is 0. All is then as it was.
+#[inline(never)]
 pub(crate) fn begin(
     stack: &mut BoundedStack<i64>,
     world: &mut World,

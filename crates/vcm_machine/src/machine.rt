@@ -129,6 +129,7 @@ impl<'a, P: Part> Machine<'a, P> {
     }
 
     // One step where there is no stop.
+    #[inline(always)]
     fn go_on(&mut self, alloc: Global) -> Result<(), NoMemory>
         requires { self.old.state.world.stop ≡ None }
         ensures ok { OnOk result (self.new ≡ later 1 self.old) }

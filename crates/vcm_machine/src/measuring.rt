@@ -22,6 +22,7 @@ use vcm_state::World;
 /// FEAT: the feature at an index is declared at a point, whose coordinates are evaluated in the order x, y, z.
 ///
 /// Errors: the first fault of an expression. The state is then as it was.
+#[inline(never)]
 pub(crate) fn declare(
     stack: &mut BoundedStack<i64>,
     world: &mut World,
@@ -42,6 +43,7 @@ pub(crate) fn declare(
 /// PTMEAS: the feature at an index is measured at a nominal point, whose coordinates are evaluated in the order x, y, z.
 ///
 /// Errors: the first fault of an expression, and those of the measurement. The state is then as it was.
+#[inline(never)]
 pub(crate) fn measure<P: Part>(
     stack: &mut BoundedStack<i64>,
     part: &P,
@@ -63,6 +65,7 @@ pub(crate) fn measure<P: Part>(
 /// SNSET: a setting of the probe gets the value of an expression.
 ///
 /// Errors: a fault of the expression, and `BadSetting`. The state is then as it was.
+#[inline(never)]
 pub(crate) fn set_length(
     stack: &mut BoundedStack<i64>,
     world: &mut World,

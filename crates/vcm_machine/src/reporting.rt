@@ -19,6 +19,7 @@ use vcm_state::{Halt, World};
 /// OBTAIN: the variable at an index gets a word of a feature.
 ///
 /// Errors: `Undefined` where the feature isn't declared, or isn't measured. The state is then as it was.
+#[inline(never)]
 pub(crate) fn obtain(world: &mut World, bytes: &[u8]) -> Result<(), Stop>
     requires { Begins (both variable_at (both source_at (both variable_at part_at)))
         (λ o. (slice_get (kinds world.old.tables) o.0 ≡ Some Real) × (o.1.1.0 < length world.old.tables.features) × ((3 ≤ o.1.1.1) × (o.1.1.1 ≤ 8))) bytes.now }
@@ -37,6 +38,7 @@ pub(crate) fn obtain(world: &mut World, bytes: &[u8]) -> Result<(), Stop>
 /// OUTPUT: one more output line, which tells a feature.
 ///
 /// Errors: the stops `Undefined` and `OutputFull`, or want of memory. The state is then as it was.
+#[inline(never)]
 pub(crate) fn output(alloc: Global, world: &mut World, bytes: &[u8]) -> Result<(), Halt>
     requires { Begins (both source_at variable_at) (λ o. o.1 < length world.old.tables.features) bytes.now }
     ensures carried { (setting : Workpiece) → OfFirst (both source_at variable_at) bytes.now (λ o rest.

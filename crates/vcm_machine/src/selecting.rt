@@ -33,6 +33,7 @@ fn target_for(value: i64, branches: &BranchSlice<'_>, last: u32) -> u32
 /// SELECT: the number of the next statement.
 ///
 /// Errors: a fault of its value. All is then as it was.
+#[inline(never)]
 pub(crate) fn select(
     stack: &mut BoundedStack<i64>,
     world: &World,

@@ -9,24 +9,33 @@ use crate::number::Fault;
 pub fn add(x: i64, y: i64) -> Result<i64, Fault>
     ensures { result ≡ checked (x +ℤ y) }
 {
-    x.checked_add(y).ok_or(Fault::Overflow)
+    let (sum, overflows) = x.overflowing_add(y);
+    if overflows {
+        return Err(Fault::Overflow);
+    }
+    Ok(sum)
 }
 
 /// The difference.
 pub fn sub(x: i64, y: i64) -> Result<i64, Fault>
     ensures { result ≡ checked (x -ℤ y) }
 {
-    match x.checked_sub(y) {
-        Some(z) => Ok(z),
-        None => Err(Fault::Overflow),
+    let (rest, overflows) = x.overflowing_sub(y);
+    if overflows {
+        return Err(Fault::Overflow);
     }
+    Ok(rest)
 }
 
 /// The product.
 pub fn mul(x: i64, y: i64) -> Result<i64, Fault>
     ensures { result ≡ checked (x *ℤ y) }
 {
-    x.checked_mul(y).ok_or(Fault::Overflow)
+    let (product, overflows) = x.overflowing_mul(y);
+    if overflows {
+        return Err(Fault::Overflow);
+    }
+    Ok(product)
 }
 
 /// The quotient, cut off towards zero.

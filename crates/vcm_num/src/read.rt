@@ -8,6 +8,9 @@ ghost use Rattle.std.specs.Char.{is_ascii_digit};
 
 use crate::number::Literal;
 
+/// The largest number of a literal, without its sign.
+const MOST: u64 = i64::MAX as u64;
+
 /// Why a text is no literal.
 #[derive(Clone, Copy, PartialEq, Eq)]
 pub enum NumFault {
@@ -85,11 +88,13 @@ fn number_with(start: u64, digits: &[u8]) -> Option<u64>
 {
     let mut number = start;
     for byte in digits {
-        let digit = (*byte - b'0') as u64;
-        if number > (i64::MAX as u64 - digit) / 10 {
+        if number > MOST / 10 {
             return None;
         }
-        number = number * 10 + digit;
+        number = number * 10 + (*byte - b'0') as u64;
+        if number > MOST {
+            return None;
+        }
     }
     Some(number)
 }

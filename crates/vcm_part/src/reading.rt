@@ -13,6 +13,7 @@ use crate::data::PartData;
 use crate::fault::{NotRead, PartCode, PartFault};
 use crate::inside::{is_below, is_some_met, is_within};
 use std::alloc::Global;
+use std::mem::forget;
 use toml::{Table, Value};
 use vcm_num::Point;
 use vcm_spec::{Block3, Bounds};
@@ -193,7 +194,12 @@ fn part_of(alloc: Global, bytes: &[u8]) -> Result<PartData, NotRead>
         return Err(refused(PartCode::NotToml, 0));
     };
     match toml::table_from_str(alloc, text) {
-        Ok(table) => part_of_table(alloc, &table),
+        Ok(table) => {
+            let part = part_of_table(alloc, &table);
+            // Its thousands of blocks of memory are kept until the process ends.
+            forget(table);
+            part
+        }
         Err(error) => if error.is_memory() {
             Err(NotRead::Memory)
         } else {

@@ -4,6 +4,7 @@ use crate::tables::tables_of;
 use crate::titles::Titles;
 use std::alloc::Global;
 use std::marker::Model;
+use std::mem::forget;
 use vcm_expr::Names;
 use vcm_forms::Notice;
 use vcm_nodes::{Block, count};
@@ -132,10 +133,17 @@ impl Accepted {
         count(&self.tree)
     }
 
-    /// The notices alone.
+    /// The notices alone. The memory of the program isn't given back one block after the other: it is kept until the process ends.
     pub fn into_notices(self) -> Vec<Noticed>
         ensures { result.items ≡ self.notices }
     {
-        self.notices
+        let Accepted {
+            tree,
+            names,
+            notices,
+        } = self;
+        forget(tree);
+        forget(names);
+        notices
     }
 }

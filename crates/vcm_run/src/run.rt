@@ -5,6 +5,7 @@ ghost use Rattle.vcm_run.specs.Images.{IsCodeRun};
 
 use std::alloc::Global;
 use std::marker::Model;
+use std::mem::forget;
 use vcm_lines::SourceFault;
 use vcm_loader::Loaded;
 use vcm_machine::{Machine, Ran};
@@ -73,11 +74,14 @@ impl Summary {
         &self.notices
     }
 
-    /// The lines of the program that have no effect, alone.
+    /// The lines of the program that have no effect, alone. The memory of the state isn't given back one block after the other: it is kept until the
+    /// process ends.
     pub fn into_notices(self) -> Vec<Noticed>
         ensures { result.items ≡ self.notices }
     {
-        self.notices
+        let Summary { world, notices, .. } = self;
+        forget(world);
+        notices
     }
 }
 
