@@ -1,4 +1,3 @@
 pub mod Appended
-pub mod Moves
 pub mod Putting
 pub mod Signed

@@ -7,7 +7,6 @@ use Rattle.vcm_svg.specs.declared.legend.TheConstants.{BARS, ROWS}
 use Rattle.vcm_svg.specs.declared.legend.Sign.TheVariants as sign
 use Rattle.vcm_svg.specs.declared.outlines.Outline.{Outline}
 use Rattle.vcm_svg.specs.declared.outlines.Outline.TheVariants.{Dash}
-use Rattle.vcm_svg.specs.declared.outlines.Reach.{Reach}
 use Rattle.vcm_svg.specs.declared.rect.Spot.{Spot}
 use Rattle.vcm_svg.specs.declared.shapes.Class.{Class}
 use Rattle.vcm_svg.specs.declared.shapes.Class.TheVariants as class
@@ -34,10 +33,6 @@ size_of sign.Circle = pos 5
 size_of sign.Square = pos 5
 size_of sign.Cross = pos 5
 
--- where a sign stands, and how large it is, in a row so many units below a place
-abbrev pub sign_reach : Spot → ℤ → ℕ → Sign → Reach
-sign_reach at u down s = record { at = spot (at.x +ℤ right_of s *ℤ u) (at.y +ℤ pos down *ℤ u); count = size_of s; unit = u }
-
 -- the outline of a sign at a place, of this size
 abbrev pub sign_outline : Sign → Spot → ℤ → Outline
 sign_outline sign.Line at size = Dash at size
@@ -46,9 +41,9 @@ sign_outline sign.Circle at size = circle at size
 sign_outline sign.Square at size = square_round at size
 sign_outline sign.Cross at size = cross at size
 
--- a sign
-abbrev pub sign_text : Class → Sign → Reach → List ℕ
-sign_text c s r = path c (sign_outline s r.at (r.count *ℤ r.unit))
+-- the outline of a sign in a row so many units below a place
+abbrev pub sign_in_row : Spot → ℤ → ℕ → Sign → Outline
+sign_in_row at u down s = sign_outline s (spot (at.x +ℤ right_of s *ℤ u) (at.y +ℤ pos down *ℤ u)) (size_of s *ℤ u)
 
 -- where the words of a row stand, so many units below a place
 abbrev pub words_label : Spot → ℤ → ℕ → Label
@@ -57,7 +52,7 @@ words_label at u down = label Plain u (spot (at.x +ℤ pos 48 *ℤ u) (at.y +ℤ
 -- a row: how many units it stands below a place, the class and the form of its sign, and its words
 abbrev pub row_text : Spot → ℤ → ℕ × Class × Sign × List ℕ → List ℕ
 row_text at u row =
-    sign_text row.1 row.2 (sign_reach at u row.0 row.2) ++ text (words_label at u row.0) (joined (row.3 ∷ []))
+    path row.1 (sign_in_row at u row.0 row.2) ++ text (words_label at u row.0) (joined (row.3 ∷ []))
 
 -- rows
 abbrev pub rows_text : Spot → ℤ → List (ℕ × Class × Sign × List ℕ) → List ℕ

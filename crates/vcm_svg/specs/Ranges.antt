@@ -1,6 +1,5 @@
 -- Ranges of numbers, far within 64 bits.
 use Rattle.std.specs.Prelude.{ℤ, pos, negsuc, ◌≤ℤ◌}
-use Rattle.vcm_svg.specs.declared.outlines.Reach.{Reach}
 use Rattle.vcm_svg.specs.declared.rect.Rect.{Rect}
 use Rattle.vcm_svg.specs.declared.rect.Spot.{Spot}
 
@@ -8,11 +7,6 @@ use Rattle.vcm_svg.specs.declared.rect.Spot.{Spot}
 pub record IsSmall (z : ℤ) : Type 0 where
   pub from_below : negsuc 1099511627775 ≤ℤ z
   pub from_above : z ≤ℤ pos 1099511627776
-
--- a place in the legend
-pub record IsMedium (z : ℤ) : Type 0 where
-  pub from_below : negsuc 17592186044415 ≤ℤ z
-  pub from_above : z ≤ℤ pos 17592186044416
 
 -- a place beside one in a view
 pub record IsLarge (z : ℤ) : Type 0 where
@@ -27,27 +21,17 @@ pub record IsSize (z : ℤ) : Type 0 where
 -- the extent of what is drawn
 pub record IsExtent (z : ℤ) : Type 0 where
   pub from_below : pos 0 ≤ℤ z
-  pub from_above : z ≤ℤ pos 4398046511104
+  pub from_above : z ≤ℤ pos 562949953421312
 
 -- a unit, or a grain
 pub record IsUnit (z : ℤ) : Type 0 where
   pub from_below : pos 1 ≤ℤ z
   pub from_above : z ≤ℤ pos 8589934592
 
--- a number of units beside a place
-pub record IsFew (z : ℤ) : Type 0 where
-  pub from_below : pos 0 ≤ℤ z
-  pub from_above : z ≤ℤ pos 300
-
 -- a place whose numbers are small
 pub record IsSpot (s : Spot) : Type 0 where
   pub x : IsSmall s.x
   pub y : IsSmall s.y
-
--- a place of a row of the legend
-pub record IsRow (s : Spot) : Type 0 where
-  pub x : IsMedium s.x
-  pub y : IsMedium s.y
 
 -- a place beside one whose numbers are small
 pub record IsPlace (s : Spot) : Type 0 where
@@ -61,8 +45,7 @@ pub record IsRect (r : Rect) : Type 0 where
   pub right : IsSmall r.right
   pub bottom : IsSmall r.bottom
 
--- a distance from a place
-pub record IsReach (r : Reach) : Type 0 where
-  pub at : IsPlace r.at
-  pub count : IsFew r.count
-  pub unit : IsSize r.unit
+-- the box of a text, whose corner stands beside a place
+pub record IsTextBox (r : Rect) : Type 0 where
+  pub left : IsLarge r.left
+  pub top : IsLarge r.top

@@ -1,34 +1,30 @@
 //! The heading of a picture.
 
-ghost use Rattle.std.specs.Prelude.{◌≡◌, ◌++◌, OnOk};
+ghost use Rattle.std.specs.Prelude.{◌≡◌, ◌++◌, pos, OnOk};
 ghost use Rattle.vcm_svg.specs.Heading.{heading_label, left_out_line, left_out_text, heading_text};
-ghost use Rattle.vcm_svg.specs.Ranges.{IsUnit, IsFew};
 
 use crate::pieces::Piece;
+use crate::ranges::Unit;
 use crate::rect::Spot;
 use crate::shapes::{Label, Lettering, put_text};
-use crate::whole::times;
 use vcm_num::{NoMemory, Point};
 
 // A line of the heading, so many units from the top.
-fn heading_label(unit: i64, line: i64) -> Label
-    requires unit { IsUnit unit }
-    requires line { IsFew line }
-    ensures { result ≡ heading_label unit line }
+fn heading_label(unit: Unit, line: u16) -> Label
+    ensures { result ≡ heading_label unit (pos line) }
 {
     Label {
         at: Spot {
-            x: times(20, unit),
-            y: times(line, unit),
+            x: unit.times(20).get(),
+            y: unit.times(line).get(),
         },
-        size: unit,
+        size: unit.get(),
         class: Lettering::Heading,
     }
 }
 
 // Appends the line of the pieces that are left out.
-fn put_left_out_line(out: &mut Vec<u8>, unit: i64, left_out: u64) -> Result<(), NoMemory>
-    requires { IsUnit unit }
+fn put_left_out_line(out: &mut Vec<u8>, unit: Unit, left_out: u64) -> Result<(), NoMemory>
     ensures { OnOk result (out.new.items ≡ out.old.items ++ left_out_line unit left_out) }
 {
     put_text(
@@ -43,8 +39,7 @@ fn put_left_out_line(out: &mut Vec<u8>, unit: i64, left_out: u64) -> Result<(), 
 }
 
 // Appends the line of the pieces that are left out, if there are any.
-fn put_left_out(out: &mut Vec<u8>, unit: i64, left_out: u64) -> Result<(), NoMemory>
-    requires { IsUnit unit }
+fn put_left_out(out: &mut Vec<u8>, unit: Unit, left_out: u64) -> Result<(), NoMemory>
     ensures { OnOk result (out.new.items ≡ out.old.items ++ left_out_text unit left_out) }
 {
     if left_out == 0 {
@@ -56,13 +51,12 @@ fn put_left_out(out: &mut Vec<u8>, unit: i64, left_out: u64) -> Result<(), NoMem
 /// Appends the heading: the first line, the position and the steps, and how many pieces are left out.
 pub fn put_heading(
     out: &mut Vec<u8>,
-    unit: i64,
+    unit: Unit,
     first: &[u8],
     position: Point,
     done: u64,
     left_out: u64,
 ) -> Result<(), NoMemory>
-    requires { IsUnit unit }
     ensures { OnOk result (out.new.items ≡ out.old.items ++ heading_text unit first.now position done left_out) }
 {
     put_text(out, heading_label(unit, 20), &[Piece::Text(first)])?;

@@ -1,14 +1,14 @@
 //! The legend, and the bar that shows a length.
 
-ghost use Rattle.std.specs.Prelude.{◌≡◌, ◌++◌, ◌*ℤ◌, ◌≤ℤ◌, pos, map, OnOk};
-ghost use Rattle.vcm_svg.specs.Legend.{right_of, size_of, sign_reach, sign_outline, sign_text, row_text, words_label, rows_text, legend_text, last_within, bar_of, bar_label, bar_with, bar_text};
-ghost use Rattle.vcm_svg.specs.Ranges.{IsFew, IsReach, IsSize, IsSpot, IsUnit};
+ghost use Rattle.std.specs.Prelude.{◌≡◌, ◌++◌, ◌≤ℤ◌, pos, map, OnOk};
+ghost use Rattle.vcm_svg.specs.Legend.{right_of, size_of, sign_outline, sign_in_row, row_text, words_label, rows_text, legend_text, last_within, bar_of, bar_label, bar_with, bar_text};
 
-use crate::outlines::{Outline, Reach, bar_line, circle, cross, dash, square_round};
+use crate::outlines::{Outline, bar_line, circle, cross, dash, square_round};
 use crate::pieces::Piece;
+use crate::ranges::{Length, Place, Site, Unit};
 use crate::rect::Spot;
 use crate::shapes::{Class, Label, Lettering, put_path, put_text};
-use crate::whole::{moved, quotient, scaled};
+use crate::whole::{quotient, scaled};
 use vcm_num::NoMemory;
 
 /// The sign of a row of the legend.
@@ -22,9 +22,8 @@ pub enum Sign {
 }
 
 // How many units to the right of its row's place a sign stands.
-fn right_of(sign: Sign) -> i64
-    ensures right { result ≡ right_of sign }
-    ensures few { IsFew result }
+fn right_of(sign: Sign) -> u16
+    ensures { pos result ≡ right_of sign }
 {
     match sign {
         Sign::Line => 0,
@@ -36,9 +35,8 @@ fn right_of(sign: Sign) -> i64
 }
 
 // How many units long a sign is, or how many its edge is from its middle.
-fn size_of(sign: Sign) -> i64
-    ensures size { result ≡ size_of sign }
-    ensures few { IsFew result }
+fn size_of(sign: Sign) -> u16
+    ensures { pos result ≡ size_of sign }
 {
     match sign {
         Sign::Line => 40,
@@ -49,51 +47,35 @@ fn size_of(sign: Sign) -> i64
     }
 }
 
-// Where a sign stands, and how large it is, in a row so many units below a place.
-fn sign_reach(at: Spot, unit: i64, down: u8, sign: Sign) -> Reach
-    requires at { IsSpot at }
-    requires unit { IsUnit unit }
-    ensures reach { result ≡ sign_reach at unit down sign }
-    ensures range { IsReach result }
-{
-    Reach {
-        at: moved(at, unit, right_of(sign), i64::from(down)),
-        count: size_of(sign),
-        unit,
-    }
-}
-
-// The outline of a sign.
-fn sign_outline(sign: Sign, reach: Reach) -> Outline
-    requires { IsReach reach }
-    ensures { result ≡ sign_outline sign reach.at (reach.count *ℤ reach.unit) }
+// The outline of a sign at a place, of this size.
+fn sign_outline(sign: Sign, at: Site, size: Length) -> Outline
+    ensures { result ≡ sign_outline sign at size }
 {
     match sign {
-        Sign::Line => dash(reach),
-        Sign::Point => circle(reach),
-        Sign::Circle => circle(reach),
-        Sign::Square => square_round(reach),
-        Sign::Cross => cross(reach),
+        Sign::Line => dash(at, size),
+        Sign::Point => circle(at, size),
+        Sign::Circle => circle(at, size),
+        Sign::Square => square_round(at, size),
+        Sign::Cross => cross(at, size),
     }
 }
 
-// Appends a sign.
-fn put_sign(out: &mut Vec<u8>, class: Class, sign: Sign, reach: Reach) -> Result<(), NoMemory>
-    requires { IsReach reach }
-    ensures { OnOk result (out.new.items ≡ out.old.items ++ sign_text class sign reach) }
+// The outline of a sign in a row so many units below a place.
+fn sign_in_row(at: Place, unit: Unit, down: u8, sign: Sign) -> Outline
+    ensures { result ≡ sign_in_row at unit down sign }
 {
-    put_path(out, class, sign_outline(sign, reach))
+    let site = at.moved(unit.times(right_of(sign)), unit.times(u16::from(down)));
+    sign_outline(sign, site, unit.times(size_of(sign)))
 }
 
 // Where the words of a row stand, so many units below a place.
-fn words_label(at: Spot, unit: i64, down: u8) -> Label
-    requires at { IsSpot at }
-    requires unit { IsUnit unit }
+fn words_label(at: Place, unit: Unit, down: u8) -> Label
     ensures { result ≡ words_label at unit down }
 {
+    let site = at.moved(unit.times(48), unit.times(u16::from(down) + 3));
     Label {
-        at: moved(at, unit, 48, i64::from(down) + 3),
-        size: unit,
+        at: site.spot(),
+        size: unit.get(),
         class: Lettering::Plain,
     }
 }
@@ -101,30 +83,26 @@ fn words_label(at: Spot, unit: i64, down: u8) -> Label
 /// Appends a row of a legend: a sign and its words, so many units below a place.
 pub fn put_row(
     out: &mut Vec<u8>,
-    at: Spot,
-    unit: i64,
+    at: Place,
+    unit: Unit,
     down: u8,
     class: Class,
     sign: Sign,
     words: &[u8],
 ) -> Result<(), NoMemory>
-    requires at { IsSpot at }
-    requires unit { IsUnit unit }
     ensures { OnOk result (out.new.items ≡ out.old.items ++ row_text at unit (down, class, sign, words.now)) }
 {
-    put_sign(out, class, sign, sign_reach(at, unit, down, sign))?;
+    put_path(out, class, sign_in_row(at, unit, down, sign))?;
     put_text(out, words_label(at, unit, down), &[Piece::Text(words)])
 }
 
 // Appends rows.
 fn put_rows(
     out: &mut Vec<u8>,
-    at: Spot,
-    unit: i64,
+    at: Place,
+    unit: Unit,
     rows: &[(u8, Class, Sign, &[u8])],
 ) -> Result<(), NoMemory>
-    requires at { IsSpot at }
-    requires unit { IsUnit unit }
     ensures { OnOk result (out.new.items ≡ out.old.items ++ rows_text at unit (map (λ row. (row.0, row.1, row.2, row.3.now)) rows.now)) }
 {
     for row in rows {
@@ -149,9 +127,7 @@ const ROWS: &[(u8, Class, Sign, &[u8])] = &[
 ];
 
 /// Appends the legend at a place.
-pub fn put_legend(out: &mut Vec<u8>, at: Spot, unit: i64) -> Result<(), NoMemory>
-    requires at { IsSpot at }
-    requires unit { IsUnit unit }
+pub fn put_legend(out: &mut Vec<u8>, at: Place, unit: Unit) -> Result<(), NoMemory>
     ensures { OnOk result (out.new.items ≡ out.old.items ++ legend_text at unit) }
 {
     put_rows(out, at, unit, ROWS)
@@ -178,26 +154,19 @@ fn last_within(most: i64, first: i64, bars: &[i64]) -> i64
 }
 
 // The length of the bar.
-fn bar_of(most: i64) -> i64
-    ensures bar { result ≡ bar_of most }
-    ensures size { IsSize result }
+fn bar_of(most: i64) -> Length
+    ensures { result ≡ bar_of most }
 {
-    last_within(most, 1, &BARS)
+    Length::new(last_within(most, 1, &BARS))
 }
 
 // Where the words of a bar stand.
-fn bar_label(at: Spot, unit: i64, long: i64) -> Label
-    requires at { IsSpot at }
-    requires unit { IsUnit unit }
-    requires long { IsSize long }
+fn bar_label(at: Place, unit: Unit, long: Length) -> Label
     ensures { result ≡ bar_label at unit long }
 {
     Label {
-        at: Spot {
-            x: at.x + long + 8 * unit,
-            y: at.y,
-        },
-        size: unit,
+        at: at.behind(long, unit.times(8)),
+        size: unit.get(),
         class: Lettering::Plain,
     }
 }
@@ -205,22 +174,18 @@ fn bar_label(at: Spot, unit: i64, long: i64) -> Label
 // Appends a bar of that length.
 fn put_bar_with(
     out: &mut Vec<u8>,
-    at: Spot,
-    unit: i64,
-    grain: i64,
-    long: i64,
+    at: Place,
+    unit: Unit,
+    grain: Unit,
+    long: Length,
 ) -> Result<(), NoMemory>
-    requires at { IsSpot at }
-    requires unit { IsUnit unit }
-    requires grain { IsUnit grain }
     requires fine { grain ≤ℤ pos 1000 }
-    requires long { IsSize long }
     ensures { OnOk result (out.new.items ≡ out.old.items ++ bar_with at unit grain long) }
 {
     put_path(
         out,
         Class::Cross,
-        bar_line(Reach { at, count: 5, unit }, long),
+        bar_line(at.site(), unit.times(5), long),
     )?;
     put_text(
         out,
@@ -235,14 +200,11 @@ fn put_bar_with(
 /// Appends the bar that shows a length, of a view of that width.
 pub fn put_bar(
     out: &mut Vec<u8>,
-    at: Spot,
-    unit: i64,
-    grain: i64,
+    at: Place,
+    unit: Unit,
+    grain: Unit,
     wide: i64,
 ) -> Result<(), NoMemory>
-    requires at { IsSpot at }
-    requires unit { IsUnit unit }
-    requires grain { IsUnit grain }
     requires fine { grain ≤ℤ pos 1000 }
     ensures { OnOk result (out.new.items ≡ out.old.items ++ bar_text at unit grain wide) }
 {

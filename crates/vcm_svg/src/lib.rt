@@ -6,6 +6,7 @@ mod heading;
 mod legend;
 mod outlines;
 mod pieces;
+mod ranges;
 mod rect;
 mod shapes;
 mod style;
@@ -13,11 +14,10 @@ mod whole;
 
 pub use heading::put_heading;
 pub use legend::{Sign, put_bar, put_legend, put_row};
-pub use outlines::{
-    Outline, Reach, circle, cross, put_outline, rect_outline, square_about, square_round,
-};
+pub use outlines::{Outline, circle, cross, put_outline, rect_outline, square_round};
 pub use pieces::{Piece, put};
-pub use rect::{Rect, Spot, boxed, contains, is_same, meets};
+pub use ranges::{Area, Length, Place, Site, TextBox, Unit};
+pub use rect::{Rect, Spot, contains, is_same, meets};
 pub use shapes::{Class, Label, Lettering, put_path, put_text, put_told};
 pub use style::put_style;
 pub use whole::quotient;

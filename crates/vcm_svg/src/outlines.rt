@@ -1,13 +1,12 @@
 //! Outlines of paths.
 
-ghost use Rattle.std.specs.Prelude.{◌≡◌, ◌++◌, ◌*ℤ◌, OnOk};
+ghost use Rattle.std.specs.Prelude.{◌≡◌, ◌++◌, OnOk};
 ghost use Rattle.vcm_svg.specs.declared.outlines.Outline.TheVariants.{Dash};
 ghost use Rattle.vcm_svg.specs.Outlines.{outline_text, rect_outline, square_round, circle, cross, bar_line};
-ghost use Rattle.vcm_svg.specs.Ranges.{IsExtent, IsPlace, IsReach, IsRect};
 
 use crate::pieces::{Piece, put};
-use crate::rect::{Rect, Spot};
-use crate::whole::times;
+use crate::ranges::{Area, Length, Site};
+use crate::rect::Spot;
 use vcm_num::NoMemory;
 
 /// The outline of a path, in units of the picture.
@@ -27,130 +26,46 @@ pub enum Outline {
     Bar(Spot, i64, i64),
 }
 
-/// A place, and a distance from it in so many units.
-#[derive(Clone, Copy)]
-pub struct Reach {
-    pub at: Spot,
-    pub count: i64,
-    pub unit: i64,
-}
-
-// How long a distance is.
-fn length(reach: Reach) -> i64
-    requires { IsReach reach }
-    ensures value { result ≡ reach.count *ℤ reach.unit }
-    ensures range { IsExtent result }
-{
-    times(reach.count, reach.unit)
-}
-
 /// The outline of a rectangle.
-#[tactic(auto, using(crate::proofs::Signed::signed))]
-pub fn rect_outline(area: Rect) -> Outline
-    requires { IsRect area }
+pub fn rect_outline(area: Area) -> Outline
     ensures { result ≡ rect_outline area }
 {
-    let corner = Spot {
-        x: area.left,
-        y: area.top,
-    };
-    Outline::Rectangle(corner, area.right - area.left, area.bottom - area.top)
+    Outline::Rectangle(area.corner(), area.wide(), area.high())
 }
 
 /// The outline of a square round a place, so far from it on each side.
-#[tactic(auto, using(crate::proofs::Signed::signed))]
-pub fn square_about(at: Spot, half: i64) -> Outline
-    requires at { IsPlace at }
-    requires half { IsExtent half }
+pub fn square_round(at: Site, half: Length) -> Outline
     ensures { result ≡ square_round at half }
 {
-    let corner = Spot {
-        x: at.x - half,
-        y: at.y - half,
-    };
-    Outline::Rectangle(corner, 2 * half, 2 * half)
+    Outline::Rectangle(at.back_by(half), half.twice(), half.twice())
 }
 
-/// The outline of a square round a place, so far from it on each side.
-pub fn square_round(reach: Reach) -> Outline
-    requires { IsReach reach }
-    ensures { result ≡ square_round reach.at (reach.count *ℤ reach.unit) }
-{
-    square_about(reach.at, length(reach))
-}
-
-// A circle of this radius round a place.
-#[tactic(auto, using(crate::proofs::Signed::signed))]
-fn circle_at(at: Spot, radius: i64) -> Outline
-    requires at { IsPlace at }
-    requires radius { IsExtent radius }
+/// A circle of this radius round a place.
+pub fn circle(at: Site, radius: Length) -> Outline
     ensures { result ≡ circle at radius }
 {
-    let left = Spot {
-        x: at.x - radius,
-        y: at.y,
-    };
-    Outline::Circle(left, radius, 2 * radius)
+    Outline::Circle(at.left_by(radius), radius.get(), radius.twice())
 }
 
-/// A circle round a place.
-pub fn circle(reach: Reach) -> Outline
-    requires { IsReach reach }
-    ensures { result ≡ circle reach.at (reach.count *ℤ reach.unit) }
-{
-    circle_at(reach.at, length(reach))
-}
-
-// A cross of this size at a place.
-#[tactic(auto, using(crate::proofs::Signed::signed))]
-fn cross_at(at: Spot, radius: i64) -> Outline
-    requires at { IsPlace at }
-    requires radius { IsExtent radius }
+/// A cross at a place, whose lines end so far from it to each side.
+pub fn cross(at: Site, radius: Length) -> Outline
     ensures { result ≡ cross at radius }
 {
-    let corner = Spot {
-        x: at.x - radius,
-        y: at.y - radius,
-    };
-    Outline::Cross(corner, 2 * radius)
+    Outline::Cross(at.back_by(radius), radius.twice())
 }
 
-/// A cross at a place.
-pub fn cross(reach: Reach) -> Outline
-    requires { IsReach reach }
-    ensures { result ≡ cross reach.at (reach.count *ℤ reach.unit) }
+/// A line of a length to the right.
+pub(crate) fn dash(at: Site, long: Length) -> Outline
+    ensures { result ≡ Dash at long }
 {
-    cross_at(reach.at, length(reach))
+    Outline::Dash(at.spot(), long.get())
 }
 
-/// A line to the right.
-pub(crate) fn dash(reach: Reach) -> Outline
-    requires { IsReach reach }
-    ensures { result ≡ Dash reach.at (reach.count *ℤ reach.unit) }
-{
-    Outline::Dash(reach.at, length(reach))
-}
-
-// A bar of this height and length.
-#[tactic(auto, using(crate::proofs::Signed::signed))]
-fn bar_at(at: Spot, rise: i64, long: i64) -> Outline
-    requires at { IsPlace at }
-    requires rise { IsExtent rise }
+/// A bar of a length with a line so high up at each end.
+pub(crate) fn bar_line(at: Site, rise: Length, long: Length) -> Outline
     ensures { result ≡ bar_line at rise long }
 {
-    let top = Spot {
-        x: at.x,
-        y: at.y - rise,
-    };
-    Outline::Bar(top, rise, long)
-}
-
-/// A bar of a length with a line up at each end.
-pub(crate) fn bar_line(reach: Reach, long: i64) -> Outline
-    requires { IsReach reach }
-    ensures { result ≡ bar_line reach.at (reach.count *ℤ reach.unit) long }
-{
-    bar_at(reach.at, length(reach), long)
+    Outline::Bar(at.up_by(rise), rise.get(), long.get())
 }
 
 /// Appends an outline.

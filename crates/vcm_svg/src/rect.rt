@@ -1,8 +1,7 @@
 //! Places and rectangles in a view, in units of the picture; y grows downwards.
 
 ghost use Rattle.std.specs.Prelude.{◌≡◌};
-ghost use Rattle.vcm_svg.specs.Rect.{overlaps, covers, meets, contains, is_same, boxed};
-ghost use Rattle.vcm_svg.specs.Ranges.{IsLarge, IsExtent};
+ghost use Rattle.vcm_svg.specs.Rect.{overlaps, covers, meets, contains, is_same};
 
 /// A place in a view.
 #[derive(Clone, Copy)]
@@ -67,21 +66,4 @@ pub fn is_same(a: Rect, b: Rect) -> bool
     ensures { result ≡ is_same a b }
 {
     contains(a, b) && contains(b, a)
-}
-
-/// The rectangle of this corner, width and height.
-#[tactic(auto, using(crate::proofs::Signed::signed))]
-pub fn boxed(left: i64, top: i64, wide: i64, high: i64) -> Rect
-    requires left { IsLarge left }
-    requires top { IsLarge top }
-    requires wide { IsExtent wide }
-    requires high { IsExtent high }
-    ensures { result ≡ boxed left top wide high }
-{
-    Rect {
-        left,
-        top,
-        right: left + wide,
-        bottom: top + high,
-    }
 }

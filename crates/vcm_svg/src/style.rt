@@ -2,10 +2,10 @@
 
 ghost use Rattle.std.specs.Prelude.{◌≡◌, ◌++◌, map, OnOk};
 ghost use Rattle.vcm_svg.specs.Style.{width_text, widths, edge_of, broad_if, end_text, style_text};
-ghost use Rattle.vcm_svg.specs.Ranges.{IsUnit};
 
 use crate::pieces::{Piece, put, put_bytes};
-use crate::whole::{quotient, times};
+use crate::ranges::Unit;
+use crate::whole::quotient;
 use vcm_num::NoMemory;
 
 /// The most blocks of a picture with broad edges.
@@ -66,35 +66,31 @@ const ARROW: &[u8] =
     b"}\n</style>\n<defs><marker id=\"a\" viewBox=\"0 0 8 6\" refX=\"8\" refY=\"3\" markerWidth=\"5\" markerHeight=\"4\" orient=\"auto\"><path d=\"M0 0L8 3L0 6z\" fill=\"#0072b2\"/></marker></defs>\n<style>.a{marker-end:url(#a)}</style>\n";
 
 // The width of the edges of blocks.
-fn edge_of(unit: i64, blocks: usize) -> i64
-    requires { IsUnit unit }
-    ensures edge { result ≡ edge_of unit blocks }
-    ensures unit { IsUnit result }
+fn edge_of(unit: Unit, blocks: usize) -> Unit
+    ensures { result ≡ edge_of unit blocks }
 {
     if blocks <= FEW_BLOCKS {
         unit
     } else {
-        quotient(unit, 4).max(1)
+        Unit::new(quotient(unit.get(), 4).max(1))
     }
 }
 
 // Appends a text, and behind it so many times a unit.
-fn put_width(out: &mut Vec<u8>, unit: i64, text: &[u8], count: u8) -> Result<(), NoMemory>
-    requires { IsUnit unit }
+fn put_width(out: &mut Vec<u8>, unit: Unit, text: &[u8], count: u8) -> Result<(), NoMemory>
     ensures { OnOk result (out.new.items ≡ out.old.items ++ width_text unit (text.now, count)) }
 {
     put(
         out,
         &[
             Piece::Text(text),
-            Piece::Number(times(i64::from(count), unit)),
+            Piece::Number(unit.times(u16::from(count)).get()),
         ],
     )
 }
 
 // Appends texts, and behind each so many times a unit.
-fn put_widths(out: &mut Vec<u8>, unit: i64, table: &[(&[u8], u8)]) -> Result<(), NoMemory>
-    requires { IsUnit unit }
+fn put_widths(out: &mut Vec<u8>, unit: Unit, table: &[(&[u8], u8)]) -> Result<(), NoMemory>
     ensures { OnOk result (out.new.items ≡ out.old.items ++ widths unit (map (λ row. (row.0.now, row.1)) table.now)) }
 {
     for row in table {
@@ -122,8 +118,7 @@ fn put_end(out: &mut Vec<u8>, is_few: bool) -> Result<(), NoMemory>
 }
 
 /// Appends the style of a picture with this unit, so many blocks, and few pieces or many.
-pub fn put_style(out: &mut Vec<u8>, unit: i64, blocks: usize, is_few: bool) -> Result<(), NoMemory>
-    requires { IsUnit unit }
+pub fn put_style(out: &mut Vec<u8>, unit: Unit, blocks: usize, is_few: bool) -> Result<(), NoMemory>
     ensures { OnOk result (out.new.items ≡ out.old.items ++ style_text unit blocks is_few) }
 {
     put_widths(out, unit, GENERAL)?;

@@ -1,4 +1,4 @@
-use Rattle.std.proofs.Common.{◌∷◌, [], pos, rules, w64, FitsSigned, to_z-of_z}
+use Rattle.std.proofs.Common.{◌∷◌, [], pos}
 use Rattle.vcm_svg.specs.Heading.{heading_label, left_out_text, position_text}
 use Rattle.vcm_svg.specs.Pieces.{joined}
 use Rattle.vcm_svg.specs.Shapes.{text}
@@ -7,9 +7,7 @@ use Rattle.vcm_svg.proofs.heading.put_heading.Goals as goal
 
 pub returns : goal.returns
 returns c =
-    let fu : FitsSigned w64 c.args.unit = search rules in
     let u = c.args.unit in
     three _ _ _ _ _ (text (heading_label u (pos 20)) (joined (c.args.first.now ∷ []))) (position_text u c.args.position c.args.done)
     (left_out_text u c.args.left_out)
-    (simp (to_z-of_z, c.heading_label.ensures) at c.in_ok-put_text.ensures) (simp (to_z-of_z, c.heading_label-2.ensures) at c.in_ok-put_text-2.ensures)
-    (simp to_z-of_z at c.put_left_out.ensures)
+    (rw c.heading_label.ensures at c.in_ok-put_text.ensures) (rw c.heading_label-2.ensures at c.in_ok-put_text-2.ensures) c.put_left_out.ensures

@@ -1,4 +1,3 @@
-use Rattle.std.proofs.Common.{rules, w64, FitsSigned, to_z-of_z}
 use Rattle.vcm_svg.specs.Style.{widths, width_text, edge_of, broad_if, general, blocks, ways, end_text}
 use Rattle.vcm_svg.specs.declared.style.TheConstants.{MOVES}
 use Rattle.vcm_svg.proofs.Appended.{five, text_same}
@@ -6,12 +5,9 @@ use Rattle.vcm_svg.proofs.style.put_style.Goals as goal
 
 pub returns : goal.returns
 returns c =
-    let fu : FitsSigned w64 c.args.unit = search rules in
-    let fe : FitsSigned w64 c.edge_of.result = search rules in
     let u = c.args.unit in
-    let e = simp to_z-of_z at c.edge_of.ensures.edge in
     five _ _ _ _ _ _ _ (widths u general) (widths (edge_of u c.args.blocks) blocks) (width_text u (MOVES.now, broad_if c.args.is_few)) (widths u ways)
-    (end_text c.args.is_few) (simp to_z-of_z at c.in_ok-put_widths.ensures)
-    (text_same _ _ (λ z. widths z blocks) _ _ e (simp to_z-of_z at c.in_ok-put_widths-2.ensures))
-    (text_same _ _ (λ n. width_text u (MOVES.now, n)) _ _ c.broad_if.ensures (simp to_z-of_z at c.in_ok-put_width.ensures))
-    (simp to_z-of_z at c.in_ok-put_widths-3.ensures) c.put_end.ensures
+    (end_text c.args.is_few) c.in_ok-put_widths.ensures
+    (text_same _ _ (λ z. widths z blocks) _ _ c.edge_of.ensures c.in_ok-put_widths-2.ensures)
+    (text_same _ _ (λ n. width_text u (MOVES.now, n)) _ _ c.broad_if.ensures c.in_ok-put_width.ensures)
+    c.in_ok-put_widths-3.ensures c.put_end.ensures

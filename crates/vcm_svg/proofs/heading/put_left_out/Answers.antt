@@ -1,8 +1,0 @@
-use Rattle.std.proofs.Common.{rules, w64, FitsSigned, to_z-of_z}
-use Rattle.vcm_svg.proofs.heading.put_left_out.Goals as goal
-
-pub returns : goal.returns
-returns c =
-    let fu : FitsSigned w64 c.args.unit = search rules in
-    let h = simp to_z-of_z at c.put_left_out_line.ensures in
-    search (rules, h)
