@@ -4,7 +4,7 @@ use crate::answers::told;
 use std::alloc::Global;
 use std::fmt::Write as _;
 use std::rt::Files;
-use vcm_command::serve_dap;
+use vcm_launch::serve_dap;
 use vcm_wire::{read_frame, write_frame};
 
 // What a line begins with that is sent as a message, one whose bytes are sent, and one with a message that comes back.

@@ -2,12 +2,13 @@
 
 use crate::command_line::Checks;
 use crate::producing::{bytes_of, print_bytes, tell_bytes};
-use crate::program::{fails, notice_line};
+use crate::program::fails;
 use crate::talking::Voice;
 use std::alloc::Global;
 use std::fmt::Write as _;
 use std::rt::Files;
 use vcm_job::{CheckFault, read_all};
+use vcm_launch::notice_line;
 use vcm_lines::SourceFault;
 use vcm_messages::{Message, check_message, status_of};
 use vcm_num::NoMemory;

@@ -21,7 +21,6 @@ mod why;
 
 pub use command_line::{Asked, Checks, Produced, Request, Wanted, request_of, steps_of};
 pub use contacts::tell_contacts;
-pub use dap::serve_dap;
 pub use manner::Manner;
 pub use program::status;
 pub use sheets::{Titles, lines_of, write_sheet_of};

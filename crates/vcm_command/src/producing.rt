@@ -2,11 +2,12 @@
 
 use crate::closing::fails_unless_closed;
 use crate::command_line::{Produced, Wanted};
-use crate::program::{fails, output, part_of, written};
+use crate::program::{fails, output, written};
 use std::alloc::Global;
 use std::io::Write;
 use std::rt::Files;
 use vcm_job::{CheckFault, read_all};
+use vcm_launch::part_of;
 use vcm_lines::SourceFault;
 use vcm_messages::{Message, check_message};
 use vcm_num::{NoMemory, line_feed, write_all};

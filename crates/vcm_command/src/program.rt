@@ -17,10 +17,10 @@ use clap::error::ErrorKind;
 use std::alloc::Global;
 use std::io::{self, BufWriter, Printer, Read, Write};
 use std::rt::{Env, Files};
-use vcm_job::{Done, asm, build, check, debug, job, list, part_from};
+use vcm_job::{Done, asm, build, check, debug, job, list};
 use vcm_messages::{
-    Message, NoticeLine, asm_message, build_message, check_message, debug_message, job_message,
-    list_message, part_file_message, status_of,
+    Message, asm_message, build_message, check_message, debug_message, job_message, list_message,
+    status_of,
 };
 use vcm_num::write_all;
 use vcm_part::PartData;
@@ -54,14 +54,6 @@ pub(crate) fn written<'a, T: Drop, W: Write>(
         Err(_) => Err(Message::Write {
             name: "standard output",
         }),
-    }
-}
-
-// A line that has no effect, as it is printed.
-pub(crate) fn notice_line(notice: &Noticed) -> NoticeLine<'static> {
-    NoticeLine {
-        line: notice.line,
-        word: std::str::from_utf8(notice.word.word()).unwrap_or(""),
     }
 }
 
@@ -175,20 +167,6 @@ fn asm_file<R: Files + Eprint + AllocGlobal>(rt: &R, voice: Voice, name: &str, i
     match asm(rt.alloc(), &mut file) {
         Ok(bytes) => write_image(rt, voice, image, &bytes, &[]),
         Err(fault) => fails(rt, asm_message(fault, name)),
-    }
-}
-
-// The workpiece of a file.
-pub(crate) fn part_of<'a, R: Files + AllocGlobal>(
-    rt: &R,
-    name: &'a str,
-) -> Result<PartData, Message<'a>> {
-    let Ok(mut file) = std::fs::open(rt, name) else {
-        return Err(Message::Read { name });
-    };
-    match part_from(rt.alloc(), &mut file) {
-        Ok(part) => Ok(part),
-        Err(fault) => Err(part_file_message(fault, name)),
     }
 }
 

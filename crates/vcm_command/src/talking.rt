@@ -3,9 +3,10 @@
 use crate::closing::fails_unless_closed;
 use crate::command_line::Request;
 use crate::manner::Manner;
-use crate::program::{fails, notice_line};
+use crate::program::fails;
 use std::alloc::Global;
 use std::fmt::{self, Write as _};
+use vcm_launch::notice_line;
 use vcm_messages::Message;
 use vcm_program::Noticed;
 use vcm_telling::summary_line;

@@ -11,7 +11,7 @@ use Rattle.vcm_marks.specs.declared.mark.Touched.{Touched}
 use Rattle.vcm_svg.specs.declared.rect.Rect.{Rect}
 use Rattle.vcm_svg.specs.declared.rect.Spot.{Spot}
 use Rattle.vcm_picture.specs.declared.names.Named.{Named}
-use Rattle.vcm_picture.specs.declared.view.Scope.{Scope}
+use Rattle.vcm_picture.specs.Sights.{Scope}
 use Rattle.vcm_picture.specs.Drawing.{names_beside}
 use Rattle.vcm_picture.specs.Laws.{StandApart, NamesAreApart}
 use Rattle.vcm_picture.specs.Names.{is_free, sides, beside, some_contact_box, is_at, end_box, first_names, with_first, all_figure_boxes, is_named, feature_box, Naming, with_box, with_touched, with_mark, with_all_touched}

@@ -9,13 +9,12 @@ use Rattle.vcm_marks.specs.declared.mark.Contact.{Contact}
 use Rattle.vcm_svg.specs.declared.rect.Rect.{Rect}
 use Rattle.vcm_picture.specs.declared.shown.Figure.{Figure}
 use Rattle.vcm_svg.specs.declared.rect.Spot.{Spot}
-use Rattle.vcm_picture.specs.declared.view.Scope.{Scope}
+use Rattle.vcm_picture.specs.Sights.{Scope}
 use Rattle.vcm_picture.specs.declared.names.Named.{Named}
 use Rattle.vcm_picture.specs.Names.{is_free, sides, beside, contact_box, Naming}
 use Rattle.vcm_picture.specs.View.{spot_of}
 use Rattle.vcm_picture.specs.Shown.{size_of, is_covered, corners, room}
 use Rattle.vcm_svg.specs.Ranges.{IsExtent, IsLarge, IsRect, IsSmall, IsSpot, IsUnit}
-use Rattle.vcm_picture.specs.inner.Drawable.{AreBoxes, MayName}
 
 pub size_same : (r : Rect) (digits unit a b m n : ℤ) → n ≡ int_min unit m → m ≡ int_min a b
     → a ≡ int_div_euclid (r.right -ℤ r.left) (pos 6 *ℤ digits +ℤ pos 4) → b ≡ int_div_euclid (r.bottom -ℤ r.top) (pos 11)
@@ -33,15 +32,6 @@ upper_box a s h k = record { from_below = omega (arith, ints); from_above = omeg
 
 pub lower_box : (a s : ℤ) → IsSmall a → IsUnit s → IsLarge (a +ℤ pos 4 *ℤ s)
 lower_box a s h k = record { from_below = omega (arith, ints); from_above = omega (arith, ints) }
-
-large_or : (t : Bool) (b : Rect) (o : Option Rect) → IsLarge b.top → MayName o → MayName (cond t (Some b) o)
-large_or true b o h k = h
-large_or false b o h k = k
-
--- the box that is found is one of those
-pub found_large : (test : Rect → Bool) (boxes : List Rect) → AreBoxes boxes → MayName (find test boxes)
-found_large test [] h = tt
-found_large test (b ∷ bs) h = large_or (test b) b (find test bs) h.0 (found_large test bs h.1)
 
 -- where a size isn't below 1, the other branch
 pub unless_small : {A : Type 0} (z : ℤ) (x y r : A) → int_lt z (pos 1) ≡ false → r ≡ y → r ≡ cond (int_lt z (pos 1)) x y

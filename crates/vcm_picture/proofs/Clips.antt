@@ -3,7 +3,7 @@ use Rattle.std.proofs.Common.{◌≡◌, ℤ, ◌+ℤ◌, ◌*ℤ◌, ◌≤ℤ�
 use Rattle.std.proofs.lemmas.Int.{ints, clamps}
 use Rattle.std.specs.Int.{int_max, int_min}
 use Rattle.vcm_svg.specs.declared.rect.Rect.{Rect}
-use Rattle.vcm_picture.specs.declared.view.Scope.{Scope}
+use Rattle.vcm_picture.specs.Sights.{Scope}
 use Rattle.vcm_picture.specs.Ranges.{IsScope}
 use Rattle.vcm_svg.specs.Ranges.{IsRect, IsSmall}
 use Rattle.vcm_picture.specs.Way.{in_view}

@@ -9,7 +9,7 @@ use Rattle.vcm_picture.specs.declared.names.FirstNames.{FirstNames}
 use Rattle.vcm_picture.specs.declared.names.Named.{Named}
 use Rattle.vcm_picture.specs.declared.shapes.Shape.{Shape}
 use Rattle.vcm_picture.specs.declared.shown.Seen.{Seen}
-use Rattle.vcm_picture.specs.declared.view.Scope.{Scope}
+use Rattle.vcm_picture.specs.Sights.{Scope}
 use Rattle.vcm_picture.specs.Drawing.{first_shapes, feature_shapes, names_beside, names_shapes}
 use Rattle.vcm_picture.specs.Marks.{contact_of}
 use Rattle.vcm_picture.specs.Names.{all_figure_boxes, first_names, with_first}

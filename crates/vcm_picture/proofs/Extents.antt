@@ -2,7 +2,7 @@
 use Rattle.std.proofs.Common.{◌≡◌, ℤ, pos, negsuc, ◌+ℤ◌, ◌-ℤ◌, ◌*ℤ◌, ◌≤ℤ◌, ◌/◌, ◌≤◌, arith, ap, ◌∙◌, refl}
 use Rattle.std.proofs.lemmas.Int.{ints}
 use Rattle.std.specs.Int.{int_div_euclid, int_max}
-use Rattle.vcm_picture.specs.declared.span.Span.{Span}
+use Rattle.vcm_picture.specs.Sights.{Span}
 use Rattle.vcm_picture.specs.Window.{size, grown, low_of, most_of}
 use Rattle.vcm_picture.specs.Ranges.{IsMost, IsPart}
 

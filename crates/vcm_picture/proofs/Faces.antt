@@ -2,27 +2,14 @@
 use Rattle.std.proofs.Common.{◌≡◌, ℕ, ℤ, ◌+◌, ◌<◌, Bool, true, List, [], ◌∷◌, ◌++◌, get_or, length, map, flat_map, take, drop, refl, arith, append_assoc, ap, sym, ◌∙◌}
 use Rattle.std.proofs.lemmas.Bool.{and_parts}
 use Rattle.std.proofs.lemmas.List.{at_drop_more, drop_more, take_more}
-use Rattle.std.specs.List.{AllByRecursion, list_all}
+use Rattle.std.specs.List.{list_all}
 use Rattle.vcm_spec.specs.declared.workpiece.Block3.{Block3}
 use Rattle.vcm_marks.specs.declared.mark.Placed.{Placed}
 use Rattle.vcm_picture.specs.declared.shown.Face.{Face}
 use Rattle.vcm_picture.specs.declared.shown.Seen.{Seen}
-use Rattle.vcm_picture.specs.declared.view.Scope.{Scope}
+use Rattle.vcm_picture.specs.Sights.{Scope}
 use Rattle.vcm_picture.specs.Names.{Naming, with_mark, with_all_touched}
 use Rattle.vcm_picture.specs.Shown.{face_of, faces_from, rects_before, seen_of, shown_of}
-
--- what holds of each holds of each with one more
-pub all_pushed : {X : Type 0} (P : X → Type 0) (xs : List X) (x : X) → AllByRecursion P xs → P x → AllByRecursion P (xs ++ x ∷ [])
-all_pushed P [] x h k = (k, tt)
-all_pushed P (y ∷ ys) x h k = (h.0, all_pushed P ys x h.1 k)
-
--- and of what is left behind the next
-next_all : {X : Type 0} (P : X → Type 0) (d : X) (xs : List X) (i : ℕ) → i < length xs → AllByRecursion P (drop i xs) → AllByRecursion P (drop (i + 1) xs)
-next_all P d xs i h k = let m = rw (drop_more xs i d h) at k in m.1
-
-pub all_on : {X : Type 0} (P : X → Type 0) (xs : List X) (i : ℕ) → i < length xs → AllByRecursion P (drop i xs) → AllByRecursion P (drop (i + 1) xs)
-all_on P [] i h k = absurd (omega arith)
-all_on P (x ∷ xs) i h k = next_all P x (x ∷ xs) i h k
 
 map_push : {X Y : Type 0} (g : X → Y) (xs : List X) (x : X) → map g (xs ++ x ∷ []) ≡ map g xs ++ g x ∷ []
 map_push g [] x = refl

@@ -7,10 +7,10 @@ use Rattle.std.proofs.Math.Nat.{mul-le-mul_right}
 use Rattle.vcm_spec.specs.Workpiece.{Workpiece}
 use Rattle.vcm_state.specs.Held.{Held}
 use Rattle.vcm_marks.specs.declared.mark.Placed.{Placed}
-use Rattle.vcm_picture.specs.declared.picture.Layout.{Layout}
+use Rattle.vcm_picture.specs.Sights.{Layout}
 use Rattle.vcm_picture.specs.declared.picture.PictureFault.{PictureFault}
 use Rattle.vcm_picture.specs.Outcome.{IsPicture}
-use Rattle.vcm_picture.specs.declared.window.Window.{Window}
+use Rattle.vcm_picture.specs.Sights.{Window}
 use Rattle.vcm_picture.specs.Heading.{first_line}
 use Rattle.vcm_picture.specs.Picture.{above, layout_of, layout_with, picture_of, picture_text, sheet, window_round}
 use Rattle.vcm_picture.specs.inner.Layouts.{IsLayout, IsSlim}

@@ -22,7 +22,7 @@ use Rattle.vcm_picture.specs.declared.shown.Face.{Face}
 use Rattle.vcm_picture.specs.declared.shown.Seen.{Seen}
 use Rattle.vcm_picture.specs.declared.shown.Shown.{Shown}
 use Rattle.vcm_picture.specs.declared.shown.Shown.TheVariants.{Repeated, Hidden, Open}
-use Rattle.vcm_picture.specs.declared.view.Scope.{Scope}
+use Rattle.vcm_picture.specs.Sights.{Scope}
 use Rattle.vcm_picture.specs.Blocks.{open_shape, hidden_shape, hit_shape, number_shape, open_shapes, hidden_shapes, number_shapes, blocks_shapes}
 use Rattle.vcm_picture.specs.Drawing.{name_shape, contact_name, first_shapes, feature_shapes, names_beside, names_shapes, shapes_of}
 use Rattle.vcm_picture.specs.Laws.{DrawnMark, mark_drawn, marks_drawn, outline_of, drawn_of, contact_drawn, touches, MarksAreDrawn}

@@ -2,9 +2,9 @@
 use Rattle.std.proofs.Common.{◌≡◌, ℕ, ℤ, ◌+ℤ◌, refl}
 use Rattle.std.specs.Int.{int_div_euclid}
 use Rattle.vcm_num.specs.Point.{coordinate}
-use Rattle.vcm_picture.specs.declared.view.Scope.{Scope}
+use Rattle.vcm_picture.specs.Sights.{Scope}
 use Rattle.vcm_picture.specs.declared.view.View.{View}
-use Rattle.vcm_picture.specs.declared.window.Window.{Window}
+use Rattle.vcm_picture.specs.Sights.{Window}
 use Rattle.vcm_picture.specs.View.{right_axis, up_axis, scope_of}
 
 -- read at these axes, with these widths

@@ -2,8 +2,8 @@
 use Rattle.std.proofs.Common.{◌≡◌, ℕ, zero, suc, ℤ, ◌<◌, arith, refl}
 use Rattle.vcm_num.specs.declared.point.Point.{Point}
 use Rattle.vcm_num.specs.Point.{point, coordinate}
-use Rattle.vcm_picture.specs.declared.span.Span.{Span}
-use Rattle.vcm_picture.specs.declared.window.Window.{Window}
+use Rattle.vcm_picture.specs.Sights.{Span}
+use Rattle.vcm_picture.specs.Sights.{Window}
 use Rattle.vcm_picture.specs.Window.{most_of, low_of, full_of, longest, grain_of, unit_of, window_of}
 use Rattle.vcm_picture.specs.Ranges.{IsEdge}
 use Rattle.vcm_svg.specs.Ranges.{IsSize}

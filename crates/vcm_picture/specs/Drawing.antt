@@ -8,6 +8,7 @@ use Rattle.vcm_spec.specs.Workpiece.{Workpiece}
 use Rattle.vcm_state.specs.Held.{Held}
 use Rattle.vcm_marks.specs.declared.mark.Contact.{Contact}
 use Rattle.vcm_marks.specs.declared.mark.Placed.{Placed}
+use Rattle.vcm_svg.specs.declared.outlines.Outline.{Outline}
 use Rattle.vcm_svg.specs.declared.outlines.Outline.TheVariants as outline
 use Rattle.vcm_svg.specs.declared.rect.Rect.{Rect}
 use Rattle.vcm_svg.specs.declared.rect.Spot.{Spot}
@@ -25,7 +26,7 @@ use Rattle.vcm_picture.specs.declared.shapes.Words.{Words}
 use Rattle.vcm_picture.specs.declared.shapes.Words.TheVariants as words
 use Rattle.vcm_picture.specs.declared.shown.Face.{Face}
 use Rattle.vcm_picture.specs.declared.shown.Seen.{Seen}
-use Rattle.vcm_picture.specs.declared.view.Scope.{Scope}
+use Rattle.vcm_picture.specs.Sights.{Scope}
 use Rattle.vcm_picture.specs.declared.view.View.{View}
 use Rattle.vcm_picture.specs.Blocks.{blocks_shapes}
 use Rattle.vcm_picture.specs.Marks.{contact_of}
@@ -110,11 +111,15 @@ group_text v at =
     joined (codes "<g transform=\"matrix(1 0 0 1 " ∷ signed_decimal at.x ∷ codes " " ∷ signed_decimal at.y ∷ codes ")\" clip-path=\"url(#v"
     ∷ clip v ∷ codes ")\">\n" ∷ [])
 
+-- the frame of a view
+abbrev pub frame_of : Scope → Outline
+frame_of s = outline.Rectangle (spot (pos 0) (pos 0)) s.wide s.high
+
 -- the title of a view, and the beginning of its group at a place of the picture, with its frame
 abbrev pub view_front : Scope → Spot → List ℕ
 view_front s at =
     text (title_label at s.unit) (joined (title s.view ∷ []))
-    ++ (group_text s.view at ++ path class.Frame (outline.Rectangle (spot (pos 0) (pos 0)) s.wide s.high))
+    ++ (group_text s.view at ++ path class.Frame (frame_of s))
 
 -- a view at a place of the picture
 abbrev pub view_text : Scope → Spot → Scene → List Placed → List ℕ

@@ -17,7 +17,7 @@ use Rattle.vcm_picture.specs.declared.shapes.Step.{Step}
 use Rattle.vcm_picture.specs.declared.shapes.Tip.{Tip}
 use Rattle.vcm_picture.specs.declared.shapes.Tip.TheVariants as tip
 use Rattle.vcm_picture.specs.declared.shown.Seen.{Seen}
-use Rattle.vcm_picture.specs.declared.view.Scope.{Scope}
+use Rattle.vcm_picture.specs.Sights.{Scope}
 use Rattle.vcm_picture.specs.Drawing.{Scene, scene_shapes, names_beside}
 use Rattle.vcm_picture.specs.Marks.{contact_of}
 use Rattle.vcm_picture.specs.Names.{is_free, first_names, with_first, all_figure_boxes}

@@ -1,3 +1,4 @@
+pub mod Sights
 pub mod Marks
 pub mod Drawn
 pub mod Ranges

@@ -16,13 +16,13 @@ use Rattle.vcm_svg.specs.Pieces.{joined}
 use Rattle.vcm_svg.specs.Rect.{spot}
 use Rattle.vcm_svg.specs.Shapes.{path}
 use Rattle.vcm_svg.specs.Style.{style_text}
-use Rattle.vcm_picture.specs.declared.picture.Layout.{Layout}
+use Rattle.vcm_picture.specs.Sights.{Layout}
 use Rattle.vcm_svg.specs.declared.rect.Spot.{Spot}
 use Rattle.vcm_svg.specs.declared.shapes.Class.TheVariants as class
 use Rattle.vcm_picture.specs.declared.view.View.{View}
 use Rattle.vcm_picture.specs.declared.view.View.TheVariants.{Top, Front, Side}
-use Rattle.vcm_picture.specs.declared.window.Window.{Window}
-use Rattle.vcm_picture.specs.Drawing.{Scene, scene, view_text}
+use Rattle.vcm_picture.specs.Sights.{Window}
+use Rattle.vcm_picture.specs.Drawing.{Scene, frame_of, scene, view_text}
 use Rattle.vcm_picture.specs.Heading.{first_line}
 use Rattle.vcm_picture.specs.Marks.{are_few}
 use Rattle.vcm_picture.specs.Span.{span_of}
@@ -104,7 +104,7 @@ views = Top ∷ Front ∷ Side ∷ []
 abbrev pub clip_text : Window → View → List ℕ
 clip_text w v =
     joined (codes "<clipPath id=\"v" ∷ clip v ∷ codes "\"><path d=\"" ∷ [])
-    ++ (outline_text (Rectangle (spot (pos 0) (pos 0)) (scope_of w v).wide (scope_of w v).high) ++ codes "\"/></clipPath>\n")
+    ++ (outline_text (frame_of (scope_of w v)) ++ codes "\"/></clipPath>\n")
 
 -- the clip paths of some views
 abbrev pub clips_text : Window → List View → List ℕ

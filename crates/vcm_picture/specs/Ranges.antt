@@ -1,10 +1,10 @@
 -- Ranges of numbers, far within 64 bits.
 use Rattle.std.specs.Prelude.{ℕ, ℤ, pos, negsuc, ◌<◌, ◌≤ℤ◌}
 use Rattle.vcm_num.specs.Point.{IsNear, coordinate}
-use Rattle.vcm_svg.specs.Ranges.{IsSize, IsUnit}
-use Rattle.vcm_picture.specs.declared.span.Span.{Span}
-use Rattle.vcm_picture.specs.declared.view.Scope.{Scope}
-use Rattle.vcm_picture.specs.declared.window.Window.{Window}
+use Rattle.vcm_svg.specs.Ranges.{IsSize}
+use Rattle.vcm_picture.specs.Sights.{Layout}
+use Rattle.vcm_picture.specs.Sights.{Span}
+use Rattle.vcm_picture.specs.Sights.{Window}
 
 -- the low corner of a window
 pub record IsEdge (z : ℤ) : Type 0 where
@@ -20,11 +20,6 @@ pub record IsBorder (z : ℤ) : Type 0 where
 pub record IsLetters (z : ℤ) : Type 0 where
   pub from_below : pos 0 ≤ℤ z
   pub from_above : z ≤ℤ pos 32
-
--- a number of units in the heading or the legend
-pub record IsLine (z : ℤ) : Type 0 where
-  pub from_below : pos 0 ≤ℤ z
-  pub from_above : z ≤ℤ pos 1000
 
 -- the greatest extent of what is shown
 pub record IsMost (z : ℤ) : Type 0 where
@@ -46,15 +41,14 @@ pub record IsSpan (s : Span) : Type 0 where
 pub record IsWindow (w : Window) : Type 0 where
   pub low : (k : ℕ) → k < 3 → IsEdge (coordinate w.low k)
   pub full : (k : ℕ) → k < 3 → IsSize (coordinate w.full k)
-  pub grain : IsUnit w.grain
   pub fine : w.grain ≤ℤ pos 1000
-  pub unit : IsUnit w.unit
+  pub slim : w.unit ≤ℤ pos 17179870
 
--- what a view shows
-pub record IsScope (s : Scope) : Type 0 where
-  pub left : IsBorder s.left
-  pub top : IsBorder s.top
-  pub grain : IsUnit s.grain
-  pub unit : IsUnit s.unit
-  pub wide : IsSize s.wide
-  pub high : IsSize s.high
+-- a layout whose numbers are small
+pub record IsLayout (l : Layout) : Type 0 where
+  pub left : IsBorder l.left
+  pub top : IsBorder l.top
+  pub front : IsBorder l.front
+  pub side : IsBorder l.side
+  pub wide : IsBorder l.wide
+  pub high : IsBorder l.high

@@ -12,7 +12,7 @@ use Rattle.vcm_picture.specs.declared.shapes.Shape.TheVariants.{Told}
 use Rattle.vcm_picture.specs.declared.shapes.Tip.TheVariants as tip
 use Rattle.vcm_picture.specs.declared.shown.Face.{Face}
 use Rattle.vcm_picture.specs.declared.shown.Shown.TheVariants.{Repeated, Hidden}
-use Rattle.vcm_picture.specs.declared.view.Scope.{Scope}
+use Rattle.vcm_picture.specs.Sights.{Scope}
 use Rattle.vcm_picture.specs.declared.view.View.TheVariants.{Top}
 use Rattle.vcm_picture.specs.Names.{beside}
 use Rattle.vcm_picture.specs.Shown.{rects_before, shown_of}

@@ -11,7 +11,7 @@ use Rattle.vcm_picture.specs.declared.shown.Figure.{Figure}
 use Rattle.vcm_picture.specs.declared.shown.Seen.{Seen}
 use Rattle.vcm_picture.specs.declared.shown.Shown.{Shown}
 use Rattle.vcm_picture.specs.declared.shown.Shown.TheVariants.{Repeated, Hidden, Open}
-use Rattle.vcm_picture.specs.declared.view.Scope.{Scope}
+use Rattle.vcm_picture.specs.Sights.{Scope}
 use Rattle.vcm_svg.specs.Rect.{meets, contains, is_same, boxed}
 use Rattle.vcm_picture.specs.View.{rect_of, nearness}
 

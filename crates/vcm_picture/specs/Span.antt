@@ -7,7 +7,7 @@ use Rattle.vcm_spec.specs.declared.workpiece.Block3.{Block3}
 use Rattle.vcm_marks.specs.declared.mark.Mark.{Mark}
 use Rattle.vcm_marks.specs.declared.mark.Mark.TheVariants.{Goes, Touches, Meets}
 use Rattle.vcm_marks.specs.declared.mark.Placed.{Placed}
-use Rattle.vcm_picture.specs.declared.span.Span.{Span}
+use Rattle.vcm_picture.specs.Sights.{Span}
 use Rattle.vcm_picture.specs.Drawn.{drawn_at}
 
 -- with one more coordinate

@@ -7,10 +7,10 @@ use Rattle.vcm_spec.specs.declared.workpiece.Block3.{Block3}
 use Rattle.vcm_svg.specs.declared.rect.Rect.{Rect}
 use Rattle.vcm_svg.specs.declared.rect.Spot.{Spot}
 use Rattle.vcm_svg.specs.Rect.{spot}
-use Rattle.vcm_picture.specs.declared.view.Scope.{Scope}
+use Rattle.vcm_picture.specs.Sights.{Scope}
 use Rattle.vcm_picture.specs.declared.view.View.{View}
 use Rattle.vcm_picture.specs.declared.view.View.TheVariants.{Top, Front, Side}
-use Rattle.vcm_picture.specs.declared.window.Window.{Window}
+use Rattle.vcm_picture.specs.Sights.{Window}
 use Rattle.vcm_picture.specs.Drawn.{drawn_at}
 
 -- the axis to the right: 0 is X, 1 is Y, 2 is Z

@@ -14,7 +14,6 @@ use Rattle.vcm_marks.specs.declared.mark.Piece.{Piece}
 use Rattle.vcm_marks.specs.declared.mark.Placed.{Placed}
 use Rattle.vcm_marks.specs.declared.mark.Touched.{Touched}
 use Rattle.vcm_svg.specs.declared.outlines.Outline.TheVariants as outline
-use Rattle.vcm_svg.specs.declared.outlines.Reach.{Reach}
 use Rattle.vcm_svg.specs.declared.rect.Rect.{Rect}
 use Rattle.vcm_svg.specs.declared.rect.Spot.{Spot}
 use Rattle.vcm_svg.specs.declared.shapes.Class.{Class}
@@ -24,14 +23,10 @@ use Rattle.vcm_picture.specs.declared.shapes.Shape.{Shape}
 use Rattle.vcm_picture.specs.declared.shapes.Shape.TheVariants.{Told}
 use Rattle.vcm_picture.specs.declared.shapes.Tip.{Tip}
 use Rattle.vcm_picture.specs.declared.shapes.Tip.TheVariants as tip
-use Rattle.vcm_picture.specs.declared.view.Scope.{Scope}
+use Rattle.vcm_picture.specs.Sights.{Scope}
 use Rattle.vcm_picture.specs.Marks.{are_few, contact_of}
 use Rattle.vcm_picture.specs.Shapes.{step_of}
 use Rattle.vcm_picture.specs.View.{rect_of, spot_of}
-
--- a distance of so many units from where a point stands
-abbrev pub reach : Scope → Point → ℤ → Reach
-reach s p count = record { at = spot_of s p; count = count; unit = s.unit }
 
 -- the class of a piece between two places: a move has an arrow where pieces are few and the places differ
 abbrev pub class_of : Going → Spot → Spot → Bool → Class

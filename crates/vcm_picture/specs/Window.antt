@@ -2,8 +2,8 @@
 use Rattle.std.specs.Prelude.{ℤ, pos, ◌+ℤ◌, ◌-ℤ◌, ◌*ℤ◌, int_le, if◌then◌else◌}
 use Rattle.std.specs.Int.{int_max, int_div_euclid}
 use Rattle.vcm_num.specs.Point.{point}
-use Rattle.vcm_picture.specs.declared.span.Span.{Span}
-use Rattle.vcm_picture.specs.declared.window.Window.{Window}
+use Rattle.vcm_picture.specs.Sights.{Span}
+use Rattle.vcm_picture.specs.Sights.{Window}
 
 -- how far a span extends
 abbrev pub size : Span → ℤ

@@ -1,3 +1,2 @@
-pub mod Drawable
 pub mod Layouts
 pub mod Strips

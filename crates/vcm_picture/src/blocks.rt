@@ -2,18 +2,15 @@
 
 ghost use Rattle.std.specs.Prelude.{◌≡◌, ◌++◌, OnOk};
 ghost use Rattle.vcm_picture.specs.Blocks.{block_shape, open_shape, hidden_shape, hit_shape, figure_label, number_shape, open_shapes, hidden_shapes, number_shapes, blocks_shapes};
-ghost use Rattle.vcm_svg.specs.Ranges.{IsRect};
-ghost use Rattle.vcm_picture.specs.inner.Drawable.{AreFaces, AreSeen, IsSeen, IsFigure};
 
 use crate::shapes::{Shape, Tip, Words, push_shape};
 use crate::shown::{Face, Figure, Seen, Shown};
 use vcm_marks::Contact;
 use vcm_num::NoMemory;
-use vcm_svg::{Class, Label, Lettering, Spot, rect_outline};
+use vcm_svg::{Class, Label, Lettering, rect_outline};
 
 // A block with its tooltip.
 fn block_shape(class: Class, face: &Face) -> Shape
-    requires { IsRect face.now.rect }
     ensures { result ≡ block_shape class face.now }
 {
     Shape::Told(
@@ -25,7 +22,6 @@ fn block_shape(class: Class, face: &Face) -> Shape
 
 // A block, where it is open.
 fn open_shape(seen: &Seen) -> Option<Shape>
-    requires { IsSeen seen.now }
     ensures { result ≡ open_shape seen.now.face seen.now.shown }
 {
     match seen.shown {
@@ -37,7 +33,6 @@ fn open_shape(seen: &Seen) -> Option<Shape>
 
 // A block, where it is hidden.
 fn hidden_shape(seen: &Seen) -> Option<Shape>
-    requires { IsSeen seen.now }
     ensures { result ≡ hidden_shape seen.now.face seen.now.shown }
 {
     match seen.shown {
@@ -49,7 +44,6 @@ fn hidden_shape(seen: &Seen) -> Option<Shape>
 
 // The outline of the block of the contact.
 fn hit_shape(faces: &[Face], contact: Option<Contact>) -> Option<Shape>
-    requires { AreFaces faces.now }
     ensures { result ≡ hit_shape faces.now contact }
 {
     let contact = contact?;
@@ -59,22 +53,17 @@ fn hit_shape(faces: &[Face], contact: Option<Contact>) -> Option<Shape>
 
 // Where the number of a block stands.
 fn figure_label(figure: &Figure) -> Label
-    requires { IsFigure figure.now }
     ensures { result ≡ figure_label figure.now }
 {
     Label {
-        at: Spot {
-            x: figure.area.left,
-            y: figure.area.top + 8 * figure.size,
-        },
-        size: figure.size,
+        at: figure.area.first_letter(figure.size.times(8)),
+        size: figure.size.get(),
         class: Lettering::Number,
     }
 }
 
 // The number of a block, if it has a box.
 fn number_shape(seen: &Seen) -> Option<Shape>
-    requires { IsSeen seen.now }
     ensures { result ≡ number_shape seen.now.face seen.now.shown }
 {
     match seen.shown {
@@ -90,7 +79,6 @@ fn number_shape(seen: &Seen) -> Option<Shape>
 
 // Appends the open blocks.
 fn push_open(shapes: &mut Vec<Shape>, all: &[Seen]) -> Result<(), NoMemory>
-    requires { AreSeen all.now }
     ensures { OnOk result (shapes.new.items ≡ shapes.old.items ++ open_shapes all.now) }
 {
     for seen in all {
@@ -101,7 +89,6 @@ fn push_open(shapes: &mut Vec<Shape>, all: &[Seen]) -> Result<(), NoMemory>
 
 // Appends the hidden blocks.
 fn push_hidden(shapes: &mut Vec<Shape>, all: &[Seen]) -> Result<(), NoMemory>
-    requires { AreSeen all.now }
     ensures { OnOk result (shapes.new.items ≡ shapes.old.items ++ hidden_shapes all.now) }
 {
     for seen in all {
@@ -112,7 +99,6 @@ fn push_hidden(shapes: &mut Vec<Shape>, all: &[Seen]) -> Result<(), NoMemory>
 
 // Appends the numbers.
 fn push_numbers(shapes: &mut Vec<Shape>, all: &[Seen]) -> Result<(), NoMemory>
-    requires { AreSeen all.now }
     ensures { OnOk result (shapes.new.items ≡ shapes.old.items ++ number_shapes all.now) }
 {
     for seen in all {
@@ -128,8 +114,6 @@ pub(crate) fn push_blocks(
     all: &[Seen],
     contact: Option<Contact>,
 ) -> Result<(), NoMemory>
-    requires faces { AreFaces faces.now }
-    requires seen { AreSeen all.now }
     ensures { OnOk result (shapes.new.items ≡ shapes.old.items ++ blocks_shapes faces.now all.now contact) }
 {
     push_open(shapes, all)?;

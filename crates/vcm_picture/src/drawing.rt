@@ -3,10 +3,7 @@
 ghost use Rattle.std.specs.Prelude.{◌≡◌, ◌≤◌, ◌++◌, [], length, Some, OnOk, IfOk, IsTrue};
 ghost use Rattle.std.specs.List.{list_all};
 ghost use Rattle.vcm_spec.specs.Workpiece.{is_block};
-ghost use Rattle.vcm_picture.specs.Drawing.{name_label, name_shape, contact_name, first_shapes, feature_name, feature_shapes, title_label, group_text, view_front, names_beside, names_shapes, view_shapes, view_text, scene, scene_shapes};
-ghost use Rattle.vcm_picture.specs.Ranges.{IsScope};
-ghost use Rattle.vcm_svg.specs.Ranges.{IsUnit, IsLarge, IsSpot};
-ghost use Rattle.vcm_picture.specs.inner.Drawable.{AreFirst, AreNamed, MayName};
+ghost use Rattle.vcm_picture.specs.Drawing.{name_label, name_shape, contact_name, first_shapes, feature_name, feature_shapes, title_label, frame_of, group_text, view_front, names_beside, names_shapes, view_shapes, view_text, scene, scene_shapes};
 
 use crate::blocks::push_blocks;
 use crate::marks::contact_of;
@@ -23,28 +20,24 @@ use vcm_num::{NoMemory, Point};
 use vcm_part::PartData;
 use vcm_spec::{Block3, Bounds};
 use vcm_state::World;
-use vcm_svg::{Class, Label, Lettering, Outline, Piece, Rect, Spot, put, put_path, put_text};
+use vcm_svg::{
+    Class, Label, Lettering, Outline, Piece, Place, Rect, Spot, TextBox, Unit, put, put_path,
+    put_text,
+};
 
 // Where a name stands in its box.
-fn name_label(area: Rect, unit: i64) -> Label
-    requires top { IsLarge area.top }
-    requires unit { IsUnit unit }
+fn name_label(area: TextBox, unit: Unit) -> Label
     ensures { result ≡ name_label area unit }
 {
     Label {
-        at: Spot {
-            x: area.left,
-            y: area.top + 8 * unit,
-        },
-        size: unit,
+        at: area.first_letter(unit.times(8)),
+        size: unit.get(),
         class: Lettering::Name,
     }
 }
 
 // A name in its box, if it has one.
-fn name_shape(area: Option<Rect>, unit: i64, words: Words) -> Option<Shape>
-    requires area { MayName area }
-    requires unit { IsUnit unit }
+fn name_shape(area: Option<TextBox>, unit: Unit, words: Words) -> Option<Shape>
     ensures { result ≡ name_shape area unit words }
 {
     match area {
@@ -54,9 +47,7 @@ fn name_shape(area: Option<Rect>, unit: i64, words: Words) -> Option<Shape>
 }
 
 // The name of the contact, if it has a box.
-fn contact_name(area: Option<Rect>, unit: i64, contact: Option<Contact>) -> Option<Shape>
-    requires area { MayName area }
-    requires unit { IsUnit unit }
+fn contact_name(area: Option<TextBox>, unit: Unit, contact: Option<Contact>) -> Option<Shape>
     ensures { result ≡ contact_name area unit contact }
 {
     match contact {
@@ -66,9 +57,7 @@ fn contact_name(area: Option<Rect>, unit: i64, contact: Option<Contact>) -> Opti
 }
 
 // The names of the contact, of the end and of home.
-fn first_shapes(unit: i64, contact: Option<Contact>, names: FirstNames) -> [Option<Shape>; 3]
-    requires names { AreFirst names }
-    requires unit { IsUnit unit }
+fn first_shapes(unit: Unit, contact: Option<Contact>, names: FirstNames) -> [Option<Shape>; 3]
     ensures { result ≡ first_shapes unit contact names }
 {
     [
@@ -79,18 +68,14 @@ fn first_shapes(unit: i64, contact: Option<Contact>, names: FirstNames) -> [Opti
 }
 
 // The name of a touched point.
-fn feature_name(unit: i64, named: &Named) -> Option<Shape>
-    requires top { IsLarge named.now.area.top }
-    requires unit { IsUnit unit }
+fn feature_name(unit: Unit, named: &Named) -> Option<Shape>
     ensures { result ≡ Some (feature_name unit named.now) }
 {
     name_shape(Some(named.area), unit, Words::Feature(named.feature))
 }
 
 // Appends the names of the touched points.
-fn push_features(shapes: &mut Vec<Shape>, unit: i64, named: &[Named]) -> Result<(), NoMemory>
-    requires named { AreNamed named.now }
-    requires unit { IsUnit unit }
+fn push_features(shapes: &mut Vec<Shape>, unit: Unit, named: &[Named]) -> Result<(), NoMemory>
     ensures { OnOk result (shapes.new.items ≡ shapes.old.items ++ feature_shapes unit named.now) }
 {
     for one in named {
@@ -107,9 +92,7 @@ fn names_beside(
     marks: &[Placed],
     taken: &mut Vec<Rect>,
 ) -> Result<Vec<Named>, NoMemory>
-    requires scope { IsScope scope }
-    ensures names { IfOk result (λ named. named.items ≡ names_beside scope features.now marks.now taken.old.items) }
-    ensures ranges { IfOk result (λ named. AreNamed named.items) }
+    ensures { IfOk result (λ named. named.items ≡ names_beside scope features.now marks.now taken.old.items) }
 {
     let mut named = Vec::new(alloc);
     feature_names(scope, features, marks, taken, &mut named)?;
@@ -127,7 +110,6 @@ fn push_names(
     marks: &[Placed],
     all: &[Seen],
 ) -> Result<(), NoMemory>
-    requires scope { IsScope scope }
     ensures { OnOk result (shapes.new.items ≡ shapes.old.items ++ names_shapes scope home features.now position marks.now all.now) }
 {
     let contact = contact_of(marks);
@@ -135,8 +117,8 @@ fn push_names(
     let first = first_names(scope, contact, position, home, &mut taken)?;
     take_figures(&mut taken, all)?;
     let named = names_beside(alloc, scope, features, marks, &mut taken)?;
-    push_shapes(shapes, &first_shapes(scope.unit, contact, first))?;
-    push_features(shapes, scope.unit, named.as_slice())
+    push_shapes(shapes, &first_shapes(scope.unit(), contact, first))?;
+    push_features(shapes, scope.unit(), named.as_slice())
 }
 
 // The shapes of a view of these blocks, limits, names and marks, with this position at the end.
@@ -149,13 +131,12 @@ fn view_shapes(
     position: Point,
     marks: &[Placed],
 ) -> Result<Vec<Shape>, NoMemory>
-    requires scope { IsScope scope }
     requires few { length blocks.now ≤ 4096 }
     requires blocks { IsTrue (list_all is_block blocks.now) }
     ensures { IfOk result (λ shapes. shapes.items ≡ view_shapes scope blocks.now bounds features.now position marks.now) }
 {
     let faces = faces_of(alloc, scope, blocks)?;
-    let all = all_seen(alloc, scope.wide, faces.as_slice(), scope.unit)?;
+    let all = all_seen(alloc, scope.wide(), faces.as_slice(), scope.unit())?;
     let seen = all.as_slice();
     let mut shapes = Vec::new(alloc);
     push_blocks(&mut shapes, faces.as_slice(), seen, contact_of(marks))?;
@@ -174,32 +155,28 @@ fn view_shapes(
 }
 
 // Where the title of a view stands, at a place of the picture.
-fn title_label(at: Spot, unit: i64) -> Label
-    requires at { IsSpot at }
-    requires unit { IsUnit unit }
+fn title_label(at: Place, unit: Unit) -> Label
     ensures { result ≡ title_label at unit }
 {
     Label {
-        at: Spot {
-            x: at.x,
-            y: at.y - 6 * unit,
-        },
-        size: unit,
+        at: at.site().up_by(unit.times(6)),
+        size: unit.get(),
         class: Lettering::Plain,
     }
 }
 
 // Appends the beginning of the group of a view at a place of the picture.
-fn begin_group(out: &mut Vec<u8>, view: View, at: Spot) -> Result<(), NoMemory>
+fn begin_group(out: &mut Vec<u8>, view: View, at: Place) -> Result<(), NoMemory>
     ensures { OnOk result (out.new.items ≡ out.old.items ++ group_text view at) }
 {
+    let Spot { x, y } = at.spot();
     put(
         out,
         &[
             Piece::Text(b"<g transform=\"matrix(1 0 0 1 "),
-            Piece::Number(at.x),
+            Piece::Number(x),
             Piece::Text(b" "),
-            Piece::Number(at.y),
+            Piece::Number(y),
             Piece::Text(b")\" clip-path=\"url(#v"),
             Piece::Text(clip(view)),
             Piece::Text(b")\">\n"),
@@ -207,20 +184,25 @@ fn begin_group(out: &mut Vec<u8>, view: View, at: Spot) -> Result<(), NoMemory>
     )
 }
 
+/// The frame of a view.
+pub(crate) fn frame_of(scope: Scope) -> Outline
+    ensures { result ≡ frame_of scope }
+{
+    let corner = Spot { x: 0, y: 0 };
+    Outline::Rectangle(corner, scope.wide().get(), scope.high().get())
+}
+
 /// Appends the title of a view, begins its group and draws its frame, at a place of the picture.
-pub fn begin_view(out: &mut Vec<u8>, scope: Scope, at: Spot) -> Result<(), NoMemory>
-    requires scope { IsScope scope }
-    requires at { IsSpot at }
+pub fn begin_view(out: &mut Vec<u8>, scope: Scope, at: Place) -> Result<(), NoMemory>
     ensures { OnOk result (out.new.items ≡ out.old.items ++ view_front scope at) }
 {
     put_text(
         out,
-        title_label(at, scope.unit),
-        &[Piece::Text(title(scope.view))],
+        title_label(at, scope.unit()),
+        &[Piece::Text(title(scope.view()))],
     )?;
-    begin_group(out, scope.view, at)?;
-    let frame = Outline::Rectangle(Spot { x: 0, y: 0 }, scope.wide, scope.high);
-    put_path(out, Class::Frame, frame)
+    begin_group(out, scope.view(), at)?;
+    put_path(out, Class::Frame, frame_of(scope))
 }
 
 /// The shapes of a view of a workpiece and of the marks of a way, with the state at the end: blocks, way and names.
@@ -231,7 +213,6 @@ pub fn scene_shapes(
     world: &World,
     marks: &[Placed],
 ) -> Result<Vec<Shape>, NoMemory>
-    requires scope { IsScope scope }
     ensures { IfOk result (λ shapes. shapes.items ≡ scene_shapes scope (scene part.now world.now []) marks.now) }
 {
     let features = world.tables().features();
@@ -254,14 +235,12 @@ pub(crate) fn put_view(
     alloc: Global,
     out: &mut Vec<u8>,
     scope: Scope,
-    at: Spot,
+    at: Place,
     part: &PartData,
     world: &World,
     stopped: &[u8],
     marks: &[Placed],
 ) -> Result<(), NoMemory>
-    requires scope { IsScope scope }
-    requires at { IsSpot at }
     ensures { OnOk result (out.new.items ≡ out.old.items ++ view_text scope at (scene part.now world.now stopped.now) marks.now) }
 {
     let features = world.tables().features();

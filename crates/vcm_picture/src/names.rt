@@ -2,35 +2,34 @@
 
 ghost use Rattle.std.specs.Prelude.{◌≡◌, ◌≤◌, ◌+ℤ◌, ◌++◌, ◌&&◌, pos, int_le, length, decimal, option_to_list, OnOk, IfOk};
 ghost use Rattle.std.specs.List.{list_any, find};
+ghost use Rattle.std.specs.Ordering.{int_eq};
 ghost use Rattle.vcm_report.specs.Printed.{name_at};
 ghost use Rattle.vcm_svg.specs.Rect.{meets};
 ghost use Rattle.vcm_picture.specs.Names.{is_free, sides, beside, contact_box, some_contact_box, is_at, end_box, first_names, with_first, figure_boxes, all_figure_boxes, is_same_name, is_named, feature_box, with_touched, with_mark, with_all_touched};
-ghost use Rattle.vcm_picture.specs.Ranges.{IsScope, IsLetters};
-ghost use Rattle.vcm_svg.specs.Ranges.{IsSpot, IsUnit, IsExtent};
-ghost use Rattle.vcm_picture.specs.inner.Drawable.{AreBoxes, AreNamed, MayName, AreFirst};
+ghost use Rattle.vcm_picture.specs.Ranges.{IsLetters};
 
 use crate::shown::{Seen, Shown};
 use crate::view::{Scope, spot_of};
-use crate::whole::letters_wide;
+use crate::whole::{letters_wide, text_box};
 use vcm_items::Name;
 use vcm_marks::{Contact, Mark, Placed, Touched};
 use vcm_num::{NoMemory, Point, int_text};
-use vcm_svg::{Rect, Spot, boxed, meets};
+use vcm_svg::{Length, Place, Rect, Spot, TextBox, Unit, meets};
 
 /// The name of a feature that found room: its place, its box and its feature's index.
 #[derive(Clone, Copy)]
 pub struct Named {
-    pub at: Spot,
-    pub area: Rect,
+    pub at: Place,
+    pub area: TextBox,
     pub feature: u16,
 }
 
 /// The boxes of the names that are placed first, where they find room.
 #[derive(Clone, Copy)]
 pub struct FirstNames {
-    pub contact: Option<Rect>,
-    pub end: Option<Rect>,
-    pub home: Option<Rect>,
+    pub contact: Option<TextBox>,
+    pub end: Option<TextBox>,
+    pub home: Option<TextBox>,
 }
 
 /// The name of the feature with an index, or nothing where there is none.
@@ -55,7 +54,7 @@ fn is_taken(area: Rect, taken: &[Rect]) -> bool
 fn is_between(area: Rect, scope: Scope) -> bool
     ensures { result ≡ (int_le (pos 0) area.left && int_le area.right scope.wide) }
 {
-    0 <= area.left && area.right <= scope.wide
+    0 <= area.left && area.right <= scope.wide().get()
 }
 
 // Whether a box lies in a view and meets no box that is taken.
@@ -66,65 +65,58 @@ fn is_free(area: Rect, scope: Scope, taken: &[Rect]) -> bool
 }
 
 // The boxes beside a place for a text of that width, in the order in which they are tried.
-fn sides(at: Spot, unit: i64, wide: i64) -> [Rect; 4]
-    requires at { IsSpot at }
-    requires unit { IsUnit unit }
-    requires wide { IsExtent wide }
-    ensures boxes { result ≡ sides at unit wide }
-    ensures ranges { AreBoxes result }
+fn sides(at: Place, unit: Unit, wide: Length) -> [TextBox; 4]
+    ensures { result ≡ sides at unit wide }
 {
-    let high = 9 * unit;
-    let right = at.x + 8 * unit;
-    let left = at.x - 8 * unit - wide;
-    let upper = at.y - 13 * unit;
-    let lower = at.y + 4 * unit;
+    let Spot { x, y } = at.spot();
+    let size = unit.get();
+    let high = unit.times(9);
+    let right = x + 8 * size;
+    let left = x - 8 * size - wide.get();
+    let upper = y - 13 * size;
+    let lower = y + 4 * size;
     [
-        boxed(right, upper, wide, high),
-        boxed(right, lower, wide, high),
-        boxed(left, upper, wide, high),
-        boxed(left, lower, wide, high),
+        text_box(right, upper, wide, high),
+        text_box(right, lower, wide, high),
+        text_box(left, upper, wide, high),
+        text_box(left, lower, wide, high),
     ]
 }
 
 // The first of some boxes that is free.
-fn first_free(scope: Scope, boxes: &[Rect], taken: &[Rect]) -> Option<Rect>
+fn first_free(scope: Scope, boxes: &[TextBox], taken: &[Rect]) -> Option<TextBox>
     ensures { result ≡ find (λ a. is_free a scope.wide taken.now) boxes.now }
 {
     boxes
         .iter()
         .copied()
-        .find(|area| is_free(*area, scope, taken))
+        .find(|area| is_free(area.rect(), scope, taken))
 }
 
 // The first box beside a place where a text of so many letters finds room.
-fn beside(scope: Scope, at: Spot, letters: i64, taken: &[Rect]) -> Option<Rect>
-    requires scope { IsScope scope }
-    requires at { IsSpot at }
-    requires letters { IsLetters letters }
-    ensures area { result ≡ beside scope at letters taken.now }
-    ensures ranges { MayName result }
+fn beside(scope: Scope, at: Place, letters: i64, taken: &[Rect]) -> Option<TextBox>
+    requires { IsLetters letters }
+    ensures { result ≡ beside scope at letters taken.now }
 {
-    let boxes = sides(at, scope.unit, letters_wide(letters, scope.unit));
+    let boxes = sides(at, scope.unit(), letters_wide(letters, scope.unit()));
     first_free(scope, &boxes, taken)
 }
 
 /// The first of four boxes beside a place where a text of so many letters lies in the width of a view and meets nothing that is taken: right above,
 /// right below, left above, left below.
-pub fn label_beside(scope: Scope, at: Spot, letters: i64, taken: &[Rect]) -> Option<Rect>
-    requires scope { IsScope scope }
-    requires at { IsSpot at }
-    requires letters { IsLetters letters }
+pub fn label_beside(scope: Scope, at: Place, letters: i64, taken: &[Rect]) -> Option<TextBox>
+    requires { IsLetters letters }
     ensures { result ≡ beside scope at letters taken.now }
 {
     beside(scope, at, letters, taken)
 }
 
 // Takes a box, if there is one.
-fn take_box(taken: &mut Vec<Rect>, area: Option<Rect>) -> Result<(), NoMemory>
+fn take_box(taken: &mut Vec<Rect>, area: Option<TextBox>) -> Result<(), NoMemory>
     ensures { OnOk result (taken.new.items ≡ taken.old.items ++ option_to_list area) }
 {
     if let Some(area) = area {
-        taken.push(area)?;
+        taken.push(area.rect())?;
     }
     Ok(())
 }
@@ -138,20 +130,16 @@ fn contact_letters(contact: Contact) -> i64
 }
 
 // The box of the contact's name.
-fn contact_box(scope: Scope, contact: Contact) -> Option<Rect>
-    requires scope { IsScope scope }
-    ensures area { result ≡ contact_box scope contact }
-    ensures ranges { MayName result }
+fn contact_box(scope: Scope, contact: Contact) -> Option<TextBox>
+    ensures { result ≡ contact_box scope contact }
 {
     let at = spot_of(scope, contact.at);
     beside(scope, at, contact_letters(contact), &[])
 }
 
 // The box of the name of the contact, if there is one.
-fn some_contact_box(scope: Scope, contact: Option<Contact>) -> Option<Rect>
-    requires scope { IsScope scope }
-    ensures area { result ≡ some_contact_box scope contact }
-    ensures ranges { MayName result }
+fn some_contact_box(scope: Scope, contact: Option<Contact>) -> Option<TextBox>
+    ensures { result ≡ some_contact_box scope contact }
 {
     match contact {
         Some(contact) => contact_box(scope, contact),
@@ -169,10 +157,8 @@ fn is_at(a: Point, b: Point) -> bool
 }
 
 // The box of the end's name, which there is where the end isn't at home.
-fn end_box(scope: Scope, position: Point, home: Point, taken: &[Rect]) -> Option<Rect>
-    requires scope { IsScope scope }
-    ensures area { result ≡ end_box scope position home taken.now }
-    ensures ranges { MayName result }
+fn end_box(scope: Scope, position: Point, home: Point, taken: &[Rect]) -> Option<TextBox>
+    ensures { result ≡ end_box scope position home taken.now }
 {
     if is_at(position, home) {
         return None;
@@ -188,10 +174,8 @@ pub(crate) fn first_names(
     home: Point,
     taken: &mut Vec<Rect>,
 ) -> Result<FirstNames, NoMemory>
-    requires scope { IsScope scope }
     ensures names { IfOk result (λ names. names ≡ first_names scope contact position home taken.old.items) }
     ensures taken { IfOk result (λ names. taken.new.items ≡ with_first taken.old.items names) }
-    ensures ranges { IfOk result AreFirst }
 {
     let contact = some_contact_box(scope, contact);
     take_box(taken, contact)?;
@@ -224,15 +208,22 @@ pub(crate) fn take_figures(taken: &mut Vec<Rect>, all: &[Seen]) -> Result<(), No
     Ok(())
 }
 
+// Whether two places are one.
+fn is_one(a: Spot, b: Spot) -> bool
+    ensures { result ≡ (int_eq a.x b.x && int_eq a.y b.y) }
+{
+    a.x == b.x && a.y == b.y
+}
+
 // Whether a name is that of a feature which stands at a place.
-fn is_same_name(features: &[Name], other: &Named, at: Spot, name: &[u8]) -> bool
+fn is_same_name(features: &[Name], other: &Named, at: Place, name: &[u8]) -> bool
     ensures { result ≡ is_same_name features.now other.now at name.now }
 {
-    other.at.x == at.x && other.at.y == at.y && name_at(features, other.feature) == name
+    is_one(other.at.spot(), at.spot()) && name_at(features, other.feature) == name
 }
 
 // Whether the same name stands at the place.
-fn is_named(features: &[Name], named: &[Named], at: Spot, name: &[u8]) -> bool
+fn is_named(features: &[Name], named: &[Named], at: Place, name: &[u8]) -> bool
     ensures { result ≡ is_named features.now named.now at name.now }
 {
     named
@@ -244,15 +235,12 @@ fn is_named(features: &[Name], named: &[Named], at: Spot, name: &[u8]) -> bool
 fn feature_box(
     scope: Scope,
     features: &[Name],
-    at: Spot,
+    at: Place,
     feature: u16,
     taken: &[Rect],
     named: &[Named],
-) -> Option<Rect>
-    requires scope { IsScope scope }
-    requires at { IsSpot at }
-    ensures area { result ≡ feature_box scope features.now at feature taken.now named.now }
-    ensures ranges { MayName result }
+) -> Option<TextBox>
+    ensures { result ≡ feature_box scope features.now at feature taken.now named.now }
 {
     let name = name_at(features, feature);
     if is_named(features, named, at, name) {
@@ -269,10 +257,7 @@ fn name_touched(
     taken: &mut Vec<Rect>,
     named: &mut Vec<Named>,
 ) -> Result<(), NoMemory>
-    requires scope { IsScope scope }
-    requires named { AreNamed named.old.items }
-    ensures names { OnOk result (record { taken = taken.new.items; named = named.new.items } ≡ with_touched scope features.now touched.now (record { taken = taken.old.items; named = named.old.items })) }
-    ensures ranges { OnOk result (AreNamed named.new.items) }
+    ensures { OnOk result (record { taken = taken.new.items; named = named.new.items } ≡ with_touched scope features.now touched.now (record { taken = taken.old.items; named = named.old.items })) }
 {
     let at = spot_of(scope, touched.at);
     let feature = touched.feature;
@@ -285,7 +270,7 @@ fn name_touched(
         named.as_slice(),
     ) {
         Some(area) => {
-            taken.push(area)?;
+            taken.push(area.rect())?;
             named.push(Named { at, area, feature })?;
             Ok(())
         }
@@ -301,10 +286,7 @@ fn name_mark(
     taken: &mut Vec<Rect>,
     named: &mut Vec<Named>,
 ) -> Result<(), NoMemory>
-    requires scope { IsScope scope }
-    requires named { AreNamed named.old.items }
-    ensures names { OnOk result (record { taken = taken.new.items; named = named.new.items } ≡ with_mark scope features.now mark.now (record { taken = taken.old.items; named = named.old.items })) }
-    ensures ranges { OnOk result (AreNamed named.new.items) }
+    ensures { OnOk result (record { taken = taken.new.items; named = named.new.items } ≡ with_mark scope features.now mark.now (record { taken = taken.old.items; named = named.old.items })) }
 {
     match mark {
         Mark::Touches(touched) => name_touched(scope, features, touched, taken, named),
@@ -321,10 +303,7 @@ pub(crate) fn feature_names(
     taken: &mut Vec<Rect>,
     named: &mut Vec<Named>,
 ) -> Result<(), NoMemory>
-    requires scope { IsScope scope }
-    requires named { AreNamed named.old.items }
-    ensures names { OnOk result (record { taken = taken.new.items; named = named.new.items } ≡ with_all_touched scope features.now marks.now (record { taken = taken.old.items; named = named.old.items })) }
-    ensures ranges { OnOk result (AreNamed named.new.items) }
+    ensures { OnOk result (record { taken = taken.new.items; named = named.new.items } ≡ with_all_touched scope features.now marks.now (record { taken = taken.old.items; named = named.old.items })) }
 {
     for placed in marks {
         name_mark(scope, features, &placed.mark, taken, named)?;

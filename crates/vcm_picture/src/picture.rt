@@ -5,14 +5,14 @@ ghost use Rattle.std.specs.List.{list_all};
 ghost use Rattle.vcm_spec.specs.Workpiece.{is_block};
 ghost use Rattle.vcm_picture.specs.Picture.{above, units, laid_out, layout_with, layout_of, head_text, clip_text, clips_text, background_text, window_for, window_round, view_spot, views_text, legend_spot, bar_place, foot_text, picture_of, picture_text, sheet};
 ghost use Rattle.vcm_picture.specs.Drawing.{scene, view_text};
-ghost use Rattle.vcm_picture.specs.Ranges.{IsBorder, IsLine, IsWindow};
-ghost use Rattle.vcm_svg.specs.Ranges.{IsSize, IsSmall, IsSpot, IsUnit};
-ghost use Rattle.vcm_picture.specs.inner.Layouts.{IsLayout, IsSlim};
+ghost use Rattle.vcm_picture.specs.Ranges.{IsLayout};
+ghost use Rattle.vcm_svg.specs.Ranges.{IsSize, IsSmall};
+ghost use Rattle.vcm_picture.specs.inner.Layouts.{IsLine, IsSlim};
 ghost use Rattle.vcm_picture.specs.Outcome.{IsPicture};
 ghost use Rattle.vcm_picture.specs.View.{scope_of};
 ghost use Rattle.vcm_svg.specs.Rect.{spot};
 
-use crate::drawing::put_view;
+use crate::drawing::{frame_of, put_view};
 use crate::heading::first_line;
 use crate::marks::are_few;
 use crate::span::span_of;
@@ -20,14 +20,15 @@ use crate::view::{View, clip, scope_of};
 use crate::window::{Window, window_of};
 use std::alloc::Global;
 use std::io::Write;
+use std::marker::Model;
 use vcm_marks::Placed;
 use vcm_num::{NoMemory, Point, write_all};
 use vcm_part::PartData;
 use vcm_spec::Block3;
 use vcm_state::World;
 use vcm_svg::{
-    Class, Outline, Piece, Spot, put, put_bar, put_heading, put_legend, put_outline, put_path,
-    put_style, quotient,
+    Class, Outline, Piece, Place, Spot, Unit, put, put_bar, put_heading, put_legend, put_outline,
+    put_path, put_style, quotient,
 };
 
 /// Why a picture isn't written.
@@ -45,16 +46,31 @@ const VIEWS: [View; 3] = [View::Top, View::Front, View::Side];
 /// Where the parts of a picture stand, and its size, in its units.
 #[derive(Clone, Copy)]
 pub struct Layout {
-    pub left: i64,
-    pub top: i64,
-    pub front: i64,
-    pub side: i64,
-    pub wide: i64,
-    pub high: i64,
+    left: i64,
+    top: i64,
+    front: i64,
+    side: i64,
+    wide: i64,
+    high: i64,
+}
+
+impl Model for Layout {
+    ghost use Rattle.vcm_picture.specs.Picture.{laid_out};
+    ghost use Rattle.vcm_picture.specs.Ranges.{IsLayout};
+    ghost use Rattle.vcm_picture.specs.Sights.{Layout as Meaning};
+
+    ghost Value = { Meaning };
+
+    ghost view = { λ l. laid_out l.left l.top l.front l.side l.wide l.high };
+
+    ghost invariant = { λ l. IsLayout (laid_out l.left l.top l.front l.side l.wide l.high) };
+
+    ghost inverse = { λ l. record { left = l.left; top = l.top; front = l.front; side = l.side; wide = l.wide; high = l.high } };
 }
 
 // A layout of these numbers.
 fn laid_out(left: i64, top: i64, front: i64, side: i64, wide: i64, high: i64) -> Layout
+    requires { IsLayout (laid_out left top front side wide high) }
     ensures { result ≡ laid_out left top front side wide high }
 {
     Layout {
@@ -74,8 +90,7 @@ fn layout_with(unit: i64, above: i64, wide: i64, deep: i64, high: i64) -> Layout
     requires wide { IsSize wide }
     requires deep { IsSize deep }
     requires high { IsSize high }
-    ensures layout { result ≡ layout_with unit above wide deep high }
-    ensures small { IsLayout result }
+    ensures { result ≡ layout_with unit above wide deep high }
 {
     let left = 20 * unit;
     let top = above * unit;
@@ -93,24 +108,20 @@ fn layout_with(unit: i64, above: i64, wide: i64, deep: i64, high: i64) -> Layout
 
 // How wide an axis is in units of the picture.
 fn units(window: Window, axis: usize) -> i64
-    requires window { IsWindow window }
-    requires axis { axis < 3 }
+    requires { axis < 3 }
     ensures units { result ≡ units window axis }
     ensures size { IsSize result }
 {
-    quotient(window.full.0[axis], window.grain)
+    quotient(window.full(axis), window.grain().get())
 }
 
 // The layout, with the top view so many units below the upper edge.
 fn layout_of(window: Window, above: i64) -> Layout
-    requires window { IsWindow window }
-    requires slim { IsSlim window.unit }
     requires above { IsLine above }
-    ensures layout { result ≡ layout_of window above }
-    ensures small { IsLayout result }
+    ensures { result ≡ layout_of window above }
 {
     layout_with(
-        window.unit,
+        window.unit().get(),
         above,
         units(window, 0),
         units(window, 1),
@@ -119,11 +130,10 @@ fn layout_of(window: Window, above: i64) -> Layout
 }
 
 // Appends the head: the size of the picture, and its title.
-fn put_head(out: &mut Vec<u8>, layout: Layout, unit: i64, first: &[u8]) -> Result<(), NoMemory>
-    requires layout { IsLayout layout }
-    requires unit { IsUnit unit }
+fn put_head(out: &mut Vec<u8>, layout: Layout, unit: Unit, first: &[u8]) -> Result<(), NoMemory>
     ensures { OnOk result (out.new.items ≡ out.old.items ++ head_text layout unit first.now) }
 {
+    let unit = unit.get();
     put(
         out,
         &[
@@ -144,7 +154,6 @@ fn put_head(out: &mut Vec<u8>, layout: Layout, unit: i64, first: &[u8]) -> Resul
 
 // Appends the clip path of a view.
 fn put_clip(out: &mut Vec<u8>, view: View, window: Window) -> Result<(), NoMemory>
-    requires { IsWindow window }
     ensures { OnOk result (out.new.items ≡ out.old.items ++ clip_text window view) }
 {
     let scope = scope_of(window, view);
@@ -156,14 +165,12 @@ fn put_clip(out: &mut Vec<u8>, view: View, window: Window) -> Result<(), NoMemor
             Piece::Text(b"\"><path d=\""),
         ],
     )?;
-    let frame = Outline::Rectangle(Spot { x: 0, y: 0 }, scope.wide, scope.high);
-    put_outline(out, frame)?;
+    put_outline(out, frame_of(scope))?;
     put(out, &[Piece::Text(b"\"/></clipPath>\n")])
 }
 
 /// Appends the clip paths of some views.
 pub fn put_clips(out: &mut Vec<u8>, views: &[View], window: Window) -> Result<(), NoMemory>
-    requires window { IsWindow window }
     ensures { OnOk result (out.new.items ≡ out.old.items ++ clips_text window views.now) }
 {
     for view in views {
@@ -174,7 +181,6 @@ pub fn put_clips(out: &mut Vec<u8>, views: &[View], window: Window) -> Result<()
 
 // Appends the clip paths, and the background.
 fn put_background(out: &mut Vec<u8>, window: Window, layout: Layout) -> Result<(), NoMemory>
-    requires window { IsWindow window }
     ensures { OnOk result (out.new.items ≡ out.old.items ++ background_text window layout) }
 {
     put_clips(out, &VIEWS, window)?;
@@ -191,9 +197,7 @@ fn window_for(
     marks: &[Placed],
 ) -> Window
     requires blocks { IsTrue (list_all is_block blocks.now) }
-    ensures window { result ≡ window_for is_close home position blocks.now marks.now }
-    ensures ranges { IsWindow result }
-    ensures slim { IsSlim result.unit }
+    ensures { result ≡ window_for is_close home position blocks.now marks.now }
 {
     window_of(
         span_of(0, is_close, home, position, blocks, marks),
@@ -204,9 +208,7 @@ fn window_for(
 
 // The window of a picture.
 fn window_round(part: &PartData, world: &World, marks: &[Placed], is_close: bool) -> Window
-    ensures window { result ≡ window_round part.now world.now marks.now is_close }
-    ensures ranges { IsWindow result }
-    ensures slim { IsSlim result.unit }
+    ensures { result ≡ window_round part.now world.now marks.now is_close }
 {
     window_for(
         is_close,
@@ -219,27 +221,23 @@ fn window_round(part: &PartData, world: &World, marks: &[Placed], is_close: bool
 
 /// The window of a picture: of home, the position at the end, the blocks and the pieces, or, of a close one, of the blocks alone.
 pub fn window_shown(part: &PartData, world: &World, marks: &[Placed], is_close: bool) -> Window
-    ensures window { result ≡ window_round part.now world.now marks.now is_close }
-    ensures ranges { IsWindow result }
+    ensures { result ≡ window_round part.now world.now marks.now is_close }
 {
     window_round(part, world, marks, is_close)
 }
 
 // A place of small numbers.
-fn corner(x: i64, y: i64) -> Spot
+fn corner(x: i64, y: i64) -> Place
     requires x { IsSmall x }
     requires y { IsSmall y }
-    ensures spot { result ≡ spot x y }
-    ensures small { IsSpot result }
+    ensures { result ≡ spot x y }
 {
-    Spot { x, y }
+    Place::new(Spot { x, y })
 }
 
 // Where a view stands.
-fn view_spot(layout: Layout, view: View) -> Spot
-    requires { IsLayout layout }
-    ensures spot { result ≡ view_spot layout view }
-    ensures small { IsSpot result }
+fn view_spot(layout: Layout, view: View) -> Place
+    ensures { result ≡ view_spot layout view }
 {
     match view {
         View::Top => corner(layout.left, layout.top),
@@ -260,8 +258,6 @@ fn put_view_at(
     stopped: &[u8],
     marks: &[Placed],
 ) -> Result<(), NoMemory>
-    requires window { IsWindow window }
-    requires layout { IsLayout layout }
     ensures { OnOk result (out.new.items ≡ out.old.items ++ view_text (scope_of window view) (view_spot layout view) (scene part.now world.now stopped.now) marks.now) }
 {
     let scope = scope_of(window, view);
@@ -281,8 +277,6 @@ fn put_views(
     stopped: &[u8],
     marks: &[Placed],
 ) -> Result<(), NoMemory>
-    requires window { IsWindow window }
-    requires layout { IsLayout layout }
     ensures { OnOk result (out.new.items ≡ out.old.items ++ views_text window layout (scene part.now world.now stopped.now) marks.now views.now) }
 {
     for view in views {
@@ -294,38 +288,30 @@ fn put_views(
 }
 
 // Where the legend stands.
-fn legend_spot(layout: Layout, unit: i64) -> Spot
-    requires layout { IsLayout layout }
-    requires unit { IsUnit unit }
-    ensures spot { result ≡ legend_spot layout unit }
-    ensures small { IsSpot result }
+fn legend_spot(layout: Layout, unit: Unit) -> Place
+    ensures { result ≡ legend_spot layout unit }
 {
-    corner(layout.side, layout.top + 8 * unit)
+    corner(layout.side, layout.top + 8 * unit.get())
 }
 
 // Where the bar stands.
-fn bar_place(layout: Layout, unit: i64) -> Spot
-    requires layout { IsLayout layout }
-    requires unit { IsUnit unit }
-    ensures spot { result ≡ bar_place layout unit }
-    ensures small { IsSpot result }
+fn bar_place(layout: Layout, unit: Unit) -> Place
+    ensures { result ≡ bar_place layout unit }
 {
-    corner(layout.left, layout.high - 28 * unit)
+    corner(layout.left, layout.high - 28 * unit.get())
 }
 
 // Appends the legend and the bar, and ends the picture.
 fn put_foot(out: &mut Vec<u8>, window: Window, layout: Layout) -> Result<(), NoMemory>
-    requires window { IsWindow window }
-    requires layout { IsLayout layout }
     ensures { OnOk result (out.new.items ≡ out.old.items ++ foot_text window layout) }
 {
-    let unit = window.unit;
+    let unit = window.unit();
     put_legend(out, legend_spot(layout, unit), unit)?;
     put_bar(
         out,
         bar_place(layout, unit),
         unit,
-        window.grain,
+        window.grain(),
         units(window, 0),
     )?;
     put(out, &[Piece::Text(b"</svg>\n")])
@@ -352,11 +338,9 @@ fn put_picture(
     layout: Layout,
     first: &[u8],
 ) -> Result<(), NoMemory>
-    requires window { IsWindow window }
-    requires layout { IsLayout layout }
     ensures { OnOk result (out.new.items ≡ out.old.items ++ picture_of part.now world.now done marks.now left_out window layout first.now) }
 {
-    let unit = window.unit;
+    let unit = window.unit();
     put_head(out, layout, unit, first)?;
     put_style(out, unit, part.blocks().len(), are_few(marks))?;
     put_background(out, window, layout)?;

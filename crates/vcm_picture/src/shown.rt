@@ -4,31 +4,29 @@ ghost use Rattle.std.specs.Prelude.{◌≡◌, ◌≤◌, ◌≤ℤ◌, ◌*ℤ�
 ghost use Rattle.std.specs.List.{list_all, find};
 ghost use Rattle.vcm_spec.specs.Workpiece.{is_block};
 ghost use Rattle.vcm_picture.specs.Shown.{face_of, faces_from, is_repeated, is_hidden, is_covered, size_of, corners, room, figure_with, digits_of, figure_of, shown_of};
-ghost use Rattle.vcm_picture.specs.Ranges.{IsScope, IsLetters};
-ghost use Rattle.vcm_svg.specs.Ranges.{IsRect, IsUnit, IsExtent};
-ghost use Rattle.vcm_picture.specs.inner.Drawable.{AreBoxes, AreFaces, IsShown, MayName, MayStand};
+ghost use Rattle.vcm_picture.specs.Ranges.{IsLetters};
 
 use crate::view::{Scope, nearness, rect_of};
-use crate::whole::letters_wide;
+use crate::whole::{letters_wide, text_box};
 use std::alloc::Global;
 use vcm_num::{NoMemory, int_text};
 use vcm_spec::Block3;
-use vcm_svg::{Rect, boxed, contains, is_same, meets, quotient};
+use vcm_svg::{Area, Length, Rect, TextBox, Unit, contains, is_same, meets, quotient};
 
 /// A block in a view: its number, its corners, its rectangle, and how near it is.
 #[derive(Clone, Copy)]
 pub struct Face {
     pub number: u32,
     pub block: Block3,
-    pub rect: Rect,
+    pub rect: Area,
     pub near: i64,
 }
 
 /// Where the number of a block stands, and the size of its letters.
 #[derive(Clone, Copy)]
 pub struct Figure {
-    pub area: Rect,
-    pub size: i64,
+    pub area: TextBox,
+    pub size: Unit,
 }
 
 /// How a view shows a block.
@@ -51,16 +49,14 @@ pub struct Seen {
 
 // A block in a view.
 fn face_of(scope: Scope, number: u32, block: &Block3) -> Face
-    requires scope { IsScope scope }
     requires block { IsTrue (is_block block.now) }
-    ensures face { result ≡ face_of scope number block.now }
-    ensures ranges { IsRect result.rect }
+    ensures { result ≡ face_of scope number block.now }
 {
     Face {
         number,
         block: *block,
         rect: rect_of(scope, block.low, block.high),
-        near: nearness(scope.view, block),
+        near: nearness(scope.view(), block),
     }
 }
 
@@ -70,11 +66,9 @@ pub(crate) fn faces_of(
     scope: Scope,
     blocks: &[Block3],
 ) -> Result<Vec<Face>, NoMemory>
-    requires scope { IsScope scope }
     requires few { length blocks.now ≤ 4096 }
     requires blocks { IsTrue (list_all is_block blocks.now) }
-    ensures faces { IfOk result (λ faces. faces.items ≡ faces_from scope 1 blocks.now) }
-    ensures ranges { IfOk result (λ faces. AreFaces faces.items) }
+    ensures { IfOk result (λ faces. faces.items ≡ faces_from scope 1 blocks.now) }
 {
     let mut faces = Vec::new(alloc);
     let mut number = 0;
@@ -107,67 +101,62 @@ fn is_covered(before: &[Rect], area: Rect) -> bool
 }
 
 // The size of the letters of a number with so many digits.
-fn size_of(rect: Rect, digits: i64, unit: i64) -> i64
-    requires rect { IsRect rect }
+fn size_of(rect: Area, digits: i64, unit: Unit) -> i64
     requires digits { IsLetters digits }
     ensures size { result ≡ size_of rect digits unit }
     ensures below { result ≤ℤ unit }
 {
-    let across = quotient(rect.right - rect.left, 6 * digits + 4);
-    let down = quotient(rect.bottom - rect.top, 11);
-    unit.min(across.min(down))
+    let across = quotient(rect.wide(), 6 * digits + 4);
+    let down = quotient(rect.high(), 11);
+    unit.get().min(across.min(down))
 }
 
 // The boxes in the four corners of a rectangle, in the order in which they are tried.
-fn corners(rect: Rect, wide: i64, size: i64) -> [Rect; 4]
-    requires rect { IsRect rect }
-    requires wide { IsExtent wide }
-    requires size { IsUnit size }
-    ensures boxes { result ≡ corners rect wide size }
-    ensures ranges { AreBoxes result }
+fn corners(rect: Area, wide: Length, size: Unit) -> [TextBox; 4]
+    ensures { result ≡ corners rect wide size }
 {
-    let high = 9 * size;
-    let left = rect.left + 2 * size;
-    let right = rect.right - 2 * size - wide;
-    let top = rect.top + size;
-    let bottom = rect.bottom - 10 * size;
+    let Rect {
+        left,
+        top,
+        right,
+        bottom,
+    } = rect.rect();
+    let unit = size.get();
+    let high = size.times(9);
+    let left = left + 2 * unit;
+    let right = right - 2 * unit - wide.get();
+    let top = top + unit;
+    let bottom = bottom - 10 * unit;
     [
-        boxed(left, top, wide, high),
-        boxed(right, top, wide, high),
-        boxed(left, bottom, wide, high),
-        boxed(right, bottom, wide, high),
+        text_box(left, top, wide, high),
+        text_box(right, top, wide, high),
+        text_box(left, bottom, wide, high),
+        text_box(right, bottom, wide, high),
     ]
 }
 
 // The first of some boxes that meets none of the rectangles before it.
-fn first_open(before: &[Rect], boxes: &[Rect]) -> Option<Rect>
+fn first_open(before: &[Rect], boxes: &[TextBox]) -> Option<TextBox>
     ensures { result ≡ find (λ a. not (is_covered before.now a)) boxes.now }
 {
     boxes
         .iter()
         .copied()
-        .find(|area| !is_covered(before, *area))
+        .find(|area| !is_covered(before, area.rect()))
 }
 
 // The first corner of a rectangle where a number finds room.
-fn room(before: &[Rect], rect: Rect, wide: i64, size: i64) -> Option<Rect>
-    requires rect { IsRect rect }
-    requires wide { IsExtent wide }
-    requires size { IsUnit size }
-    ensures area { result ≡ room before.now rect wide size }
-    ensures ranges { MayName result }
+fn room(before: &[Rect], rect: Area, wide: Length, size: Unit) -> Option<TextBox>
+    ensures { result ≡ room before.now rect wide size }
 {
     let boxes = corners(rect, wide, size);
     first_open(before, &boxes)
 }
 
-// Where a number stands in a rectangle with letters of that size, which is 1 at least, if there is room.
-fn figure_in(before: &[Rect], rect: Rect, digits: i64, size: i64) -> Option<Figure>
-    requires rect { IsRect rect }
+// Where a number stands in a rectangle with letters of that size, if there is room.
+fn figure_in(before: &[Rect], rect: Area, digits: i64, size: Unit) -> Option<Figure>
     requires digits { IsLetters digits }
-    requires size { IsUnit size }
-    ensures figure { result ≡ option_map (λ a. record { area = a; size = size }) (room before.now rect (pos 6 *ℤ digits *ℤ size) size) }
-    ensures ranges { MayStand result }
+    ensures { result ≡ option_map (λ a. record { area = a; size = size }) (room before.now rect (pos 6 *ℤ digits *ℤ size) size) }
 {
     match room(before, rect, letters_wide(digits, size), size) {
         Some(area) => Some(Figure { area, size }),
@@ -176,17 +165,15 @@ fn figure_in(before: &[Rect], rect: Rect, digits: i64, size: i64) -> Option<Figu
 }
 
 // Where a number stands in a rectangle with letters of that size, if there is room.
-fn figure_with(before: &[Rect], rect: Rect, digits: i64, size: i64) -> Option<Figure>
-    requires rect { IsRect rect }
+fn figure_with(before: &[Rect], rect: Area, digits: i64, size: i64) -> Option<Figure>
     requires digits { IsLetters digits }
     requires size { size ≤ℤ pos 8589934592 }
-    ensures figure { result ≡ figure_with before.now rect digits size }
-    ensures ranges { MayStand result }
+    ensures { result ≡ figure_with before.now rect digits size }
 {
     if size < 1 {
         return None;
     }
-    figure_in(before, rect, digits, size)
+    figure_in(before, rect, digits, Unit::new(size))
 }
 
 // How many digits a number has.
@@ -198,11 +185,8 @@ fn digits_of(number: u32) -> i64
 }
 
 // Where the number of a block stands, if there is room.
-fn figure_of(before: &[Rect], face: &Face, unit: i64) -> Option<Figure>
-    requires rect { IsRect face.now.rect }
-    requires unit { IsUnit unit }
-    ensures figure { result ≡ figure_of before.now face.now unit }
-    ensures ranges { MayStand result }
+fn figure_of(before: &[Rect], face: &Face, unit: Unit) -> Option<Figure>
+    ensures { result ≡ figure_of before.now face.now unit }
 {
     let digits = digits_of(face.number);
     let size = size_of(face.rect, digits, unit);
@@ -210,16 +194,14 @@ fn figure_of(before: &[Rect], face: &Face, unit: i64) -> Option<Figure>
 }
 
 /// How a block is shown behind these rectangles. What isn't hidden isn't repeated, and so is asked once.
-pub(crate) fn shown_of(before: &[Rect], face: &Face, unit: i64) -> Shown
-    requires rect { IsRect face.now.rect }
-    requires unit { IsUnit unit }
-    ensures shown { result ≡ shown_of before.now face.now unit }
-    ensures ranges { IsShown result }
+pub(crate) fn shown_of(before: &[Rect], face: &Face, unit: Unit) -> Shown
+    ensures { result ≡ shown_of before.now face.now unit }
 {
-    if !is_hidden(before, face.rect) {
+    let rect = face.rect.rect();
+    if !is_hidden(before, rect) {
         return Shown::Open(figure_of(before, face, unit));
     }
-    if is_repeated(before, face.rect) {
+    if is_repeated(before, rect) {
         return Shown::Repeated;
     }
     Shown::Hidden

@@ -3,15 +3,13 @@
 
 ghost use Rattle.std.specs.Prelude.{◌≡◌, ◌++◌, pos, ◌≤ℤ◌, filter, OnOk, IfOk};
 ghost use Rattle.std.specs.List.{AllByRecursion};
-ghost use Rattle.vcm_svg.specs.Ranges.{IsRect, IsUnit};
 ghost use Rattle.vcm_picture.specs.Shown.{is_nearer, stands_before, rect_before, rects_before, seen_of, all_seen};
-ghost use Rattle.vcm_picture.specs.inner.Drawable.{AreFaces, AreSeen, IsSeen};
 ghost use Rattle.vcm_picture.specs.inner.Strips.{reaches, IsStrip};
 
 use crate::shown::{Face, Seen, shown_of};
 use std::alloc::Global;
 use vcm_num::NoMemory;
-use vcm_svg::{Rect, meets, quotient};
+use vcm_svg::{Length, Rect, Unit, meets, quotient};
 
 /// How many strips a view has.
 const STRIPS: usize = 32;
@@ -38,7 +36,7 @@ fn is_nearer(other: &Face, face: &Face) -> bool
 fn stands_before(other: &Face, face: &Face) -> bool
     ensures { result ≡ stands_before other.now face.now }
 {
-    is_nearer(other, face) && meets(other.rect, face.rect)
+    is_nearer(other, face) && meets(other.rect.rect(), face.rect.rect())
 }
 
 // Appends the rectangle of a block, if it stands before another one.
@@ -46,7 +44,7 @@ fn push_before(before: &mut Vec<Rect>, face: &Face, other: &Face) -> Result<(), 
     ensures { OnOk result (before.new.items ≡ before.old.items ++ rect_before face.now other.now) }
 {
     if stands_before(other, face) {
-        before.push(other.rect)?;
+        before.push(other.rect.rect())?;
     }
     Ok(())
 }
@@ -66,7 +64,8 @@ fn rects_before(alloc: Global, face: &Face, all: &[Face]) -> Result<Vec<Rect>, N
 fn reaches(left: i64, right: i64, face: &Face) -> bool
     ensures { result ≡ reaches left right face.now }
 {
-    face.rect.left <= right && left <= face.rect.right
+    let rect = face.rect.rect();
+    rect.left <= right && left <= rect.right
 }
 
 // The blocks that reach into a strip.
@@ -86,7 +85,7 @@ fn reaching(alloc: Global, left: i64, right: i64, all: &[Face]) -> Result<Vec<Fa
 fn index_of(face: &Face, wide: i64) -> usize
     requires { pos 1 ≤ℤ wide }
 {
-    let index = quotient(face.rect.left, wide);
+    let index = quotient(face.rect.rect().left, wide);
     if index < 0 {
         0
     } else {
@@ -102,8 +101,9 @@ fn extent(index: usize, wide: i64, all: &[Face]) -> (i64, i64)
     let mut right = i64::MIN;
     for face in all {
         if index_of(face, wide) == index {
-            left = left.min(face.rect.left);
-            right = right.max(face.rect.right);
+            let rect = face.rect.rect();
+            left = left.min(rect.left);
+            right = right.max(rect.right);
         }
     }
     (left, right)
@@ -144,7 +144,8 @@ fn rivals<'a>(strip: &'a Strip, face: &Face, all: &'a [Face]) -> &'a [Face]
     let Some(faces) = &strip.faces else {
         return all;
     };
-    if strip.left <= face.rect.left && face.rect.right <= strip.right {
+    let rect = face.rect.rect();
+    if strip.left <= rect.left && rect.right <= strip.right {
         faces.as_slice()
     } else {
         all
@@ -164,11 +165,8 @@ fn rivals_in<'a>(strips: &'a [Strip], wide: i64, face: &Face, all: &'a [Face]) -
 }
 
 // A block and how it is shown behind those of its rivals that stand before it.
-fn seen_among(alloc: Global, face: &Face, rivals: &[Face], unit: i64) -> Result<Seen, NoMemory>
-    requires rect { IsRect face.now.rect }
-    requires unit { IsUnit unit }
-    ensures seen { IfOk result (λ seen. seen ≡ seen_of unit rivals.now face.now) }
-    ensures ranges { IfOk result IsSeen }
+fn seen_among(alloc: Global, face: &Face, rivals: &[Face], unit: Unit) -> Result<Seen, NoMemory>
+    ensures { IfOk result (λ seen. seen ≡ seen_of unit rivals.now face.now) }
 {
     let before = rects_before(alloc, face, rivals)?;
     let shown = shown_of(before.as_slice(), face, unit);
@@ -181,14 +179,11 @@ fn seen_in(
     strips: &[Strip],
     wide: i64,
     all: &[Face],
-    unit: i64,
+    unit: Unit,
 ) -> Result<Vec<Seen>, NoMemory>
     requires wide { pos 1 ≤ℤ wide }
     requires strips { AllByRecursion (IsStrip all.now) strips.now }
-    requires faces { AreFaces all.now }
-    requires unit { IsUnit unit }
-    ensures seen { IfOk result (λ seen. seen.items ≡ all_seen unit all.now) }
-    ensures ranges { IfOk result (λ seen. AreSeen seen.items) }
+    ensures { IfOk result (λ seen. seen.items ≡ all_seen unit all.now) }
 {
     let mut seen = Vec::new(alloc);
     for face in all {
@@ -201,16 +196,13 @@ fn seen_in(
 /// How each block of a view of that width is shown.
 pub(crate) fn all_seen(
     alloc: Global,
-    wide: i64,
+    wide: Length,
     all: &[Face],
-    unit: i64,
+    unit: Unit,
 ) -> Result<Vec<Seen>, NoMemory>
-    requires faces { AreFaces all.now }
-    requires unit { IsUnit unit }
-    ensures seen { IfOk result (λ seen. seen.items ≡ all_seen unit all.now) }
-    ensures ranges { IfOk result (λ seen. AreSeen seen.items) }
+    ensures { IfOk result (λ seen. seen.items ≡ all_seen unit all.now) }
 {
-    let wide = quotient(wide, STRIPS as i64).max(1);
+    let wide = quotient(wide.get(), STRIPS as i64).max(1);
     let strips = strips_of(alloc, wide, all)?;
     seen_in(alloc, strips.as_slice(), wide, all, unit)
 }

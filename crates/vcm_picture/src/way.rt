@@ -1,10 +1,8 @@
 //! The way of the probe in a view: limits, pieces, touched points, home, end and contact.
 
-ghost use Rattle.std.specs.Prelude.{◌≡◌, ◌++◌, OnOk};
+ghost use Rattle.std.specs.Prelude.{◌≡◌, ◌++◌, ◌||◌, int_lt, OnOk};
 ghost use Rattle.vcm_marks.specs.declared.mark.Going.TheVariants as going;
-ghost use Rattle.vcm_picture.specs.Way.{reach, class_of, piece_shape, mark_piece, pieces, touched_shape, mark_touched, touched_points, in_view, limits_in, limits_shape, home_shape, end_shape, tip_shape, half_of, tip_at, tip_at_contact, contact_shape, ends, way_shapes};
-ghost use Rattle.vcm_picture.specs.Ranges.{IsScope};
-ghost use Rattle.vcm_svg.specs.Ranges.{IsExtent, IsFew, IsReach, IsRect};
+ghost use Rattle.vcm_picture.specs.Way.{class_of, piece_shape, mark_piece, pieces, touched_shape, mark_touched, touched_points, in_view, limits_in, limits_shape, home_shape, end_shape, tip_shape, half_of, tip_at, tip_at_contact, contact_shape, ends, way_shapes};
 
 use crate::marks::{are_few, contact_of};
 use crate::shapes::{Shape, Tip, push_shape, push_shapes, step_of};
@@ -13,23 +11,8 @@ use vcm_marks::{Contact, Going, Mark, Piece, Placed, Touched};
 use vcm_num::{NoMemory, Point};
 use vcm_spec::Bounds;
 use vcm_svg::{
-    Class, Outline, Reach, Rect, Spot, circle, cross, quotient, rect_outline, square_about,
-    square_round,
+    Area, Class, Length, Outline, Rect, Spot, circle, cross, quotient, rect_outline, square_round,
 };
-
-// A distance of so many units from where a point stands.
-fn reach(scope: Scope, at: Point, count: i64) -> Reach
-    requires scope { IsScope scope }
-    requires count { IsFew count }
-    ensures value { result ≡ reach scope at count }
-    ensures range { IsReach result }
-{
-    Reach {
-        at: spot_of(scope, at),
-        count,
-        unit: scope.unit,
-    }
-}
 
 // The class of a move between two places.
 fn move_class(from: Spot, to: Spot, is_few: bool) -> Class
@@ -57,11 +40,10 @@ fn class_of(going: Going, from: Spot, to: Spot, is_few: bool) -> Class
 
 // A piece.
 fn piece_shape(scope: Scope, is_few: bool, placed: &Placed, piece: &Piece) -> Shape
-    requires scope { IsScope scope }
     ensures { result ≡ piece_shape scope is_few placed.now piece.now }
 {
-    let from = spot_of(scope, piece.from);
-    let to = spot_of(scope, piece.to);
+    let from = spot_of(scope, piece.from).spot();
+    let to = spot_of(scope, piece.to).spot();
     Shape::Told(
         class_of(piece.going, from, to, is_few),
         Outline::Line(from, to),
@@ -71,7 +53,6 @@ fn piece_shape(scope: Scope, is_few: bool, placed: &Placed, piece: &Piece) -> Sh
 
 // A mark, if it is a piece.
 fn mark_piece(scope: Scope, is_few: bool, placed: &Placed) -> Option<Shape>
-    requires scope { IsScope scope }
     ensures { result ≡ mark_piece scope is_few placed.now placed.now.mark }
 {
     match &placed.mark {
@@ -88,7 +69,6 @@ fn push_pieces(
     is_few: bool,
     marks: &[Placed],
 ) -> Result<(), NoMemory>
-    requires scope { IsScope scope }
     ensures { OnOk result (shapes.new.items ≡ shapes.old.items ++ pieces scope is_few marks.now) }
 {
     for placed in marks {
@@ -99,19 +79,17 @@ fn push_pieces(
 
 // A touched point.
 fn touched_shape(scope: Scope, placed: &Placed, touched: &Touched) -> Shape
-    requires scope { IsScope scope }
     ensures { result ≡ touched_shape scope placed.now touched.now }
 {
     Shape::Told(
         Class::Touched,
-        circle(reach(scope, touched.at, 3)),
+        circle(spot_of(scope, touched.at).site(), scope.unit().times(3)),
         Tip::Touched(step_of(placed), *touched),
     )
 }
 
 // A mark, if it is a touched point.
 fn mark_touched(scope: Scope, placed: &Placed) -> Option<Shape>
-    requires scope { IsScope scope }
     ensures { result ≡ mark_touched scope placed.now placed.now.mark }
 {
     match &placed.mark {
@@ -123,7 +101,6 @@ fn mark_touched(scope: Scope, placed: &Placed) -> Option<Shape>
 
 // Appends the touched points.
 fn push_touched(shapes: &mut Vec<Shape>, scope: Scope, marks: &[Placed]) -> Result<(), NoMemory>
-    requires scope { IsScope scope }
     ensures { OnOk result (shapes.new.items ≡ shapes.old.items ++ touched_points scope marks.now) }
 {
     for placed in marks {
@@ -133,35 +110,39 @@ fn push_touched(shapes: &mut Vec<Shape>, scope: Scope, marks: &[Placed]) -> Resu
 }
 
 // What is seen of a rectangle in a view, with a little more on each side.
-fn in_view(scope: Scope, all: Rect) -> Rect
-    requires scope { IsScope scope }
-    requires all { IsRect all }
-    ensures rect { result ≡ in_view scope all }
-    ensures ranges { IsRect result }
+fn in_view(scope: Scope, all: Area) -> Area
+    ensures { result ≡ in_view scope all }
 {
-    let rim = 4 * scope.unit;
-    Rect {
-        left: all.left.max(-4 * scope.unit),
-        top: all.top.max(-4 * scope.unit),
-        right: all.right.min(scope.wide + rim),
-        bottom: all.bottom.min(scope.high + rim),
-    }
+    let unit = scope.unit().get();
+    let rim = 4 * unit;
+    let rect = all.rect();
+    Area::new(Rect {
+        left: rect.left.max(-4 * unit),
+        top: rect.top.max(-4 * unit),
+        right: rect.right.min(scope.wide().get() + rim),
+        bottom: rect.bottom.min(scope.high().get() + rim),
+    })
+}
+
+// Whether a rectangle is turned inside out: so is what is seen of one that lies out of view.
+fn is_none(rect: Rect) -> bool
+    ensures { result ≡ (int_lt rect.right rect.left || int_lt rect.bottom rect.top) }
+{
+    rect.right < rect.left || rect.bottom < rect.top
 }
 
 // The limits, of which this is seen.
-fn limits_in(rect: Rect, low: Point, high: Point) -> Option<Shape>
-    requires { IsRect rect }
-    ensures { result ≡ limits_in rect low high }
+fn limits_in(area: Area, low: Point, high: Point) -> Option<Shape>
+    ensures { result ≡ limits_in area low high }
 {
-    if rect.right < rect.left || rect.bottom < rect.top {
+    if is_none(area.rect()) {
         return None;
     }
-    Some(Shape::Told(Class::Limits, rect_outline(rect), Tip::Limits(low, high)))
+    Some(Shape::Told(Class::Limits, rect_outline(area), Tip::Limits(low, high)))
 }
 
 // The limits, where they lie in the view.
 fn limits_shape(scope: Scope, low: Point, high: Point) -> Option<Shape>
-    requires scope { IsScope scope }
     ensures { result ≡ limits_shape scope low high }
 {
     limits_in(in_view(scope, rect_of(scope, low, high)), low, high)
@@ -169,49 +150,43 @@ fn limits_shape(scope: Scope, low: Point, high: Point) -> Option<Shape>
 
 // Home.
 fn home_shape(scope: Scope, home: Point) -> Shape
-    requires scope { IsScope scope }
     ensures { result ≡ home_shape scope home }
 {
     Shape::Told(
         Class::Place,
-        square_round(reach(scope, home, 5)),
+        square_round(spot_of(scope, home).site(), scope.unit().times(5)),
         Tip::Home(home),
     )
 }
 
 // The end.
 fn end_shape(scope: Scope, position: Point) -> Shape
-    requires scope { IsScope scope }
     ensures { result ≡ end_shape scope position }
 {
     Shape::Told(
         Class::Place,
-        circle(reach(scope, position, 8)),
+        circle(spot_of(scope, position).site(), scope.unit().times(8)),
         Tip::End(position),
     )
 }
 
 // The half width of the tip in units of the picture.
-fn half_of(scope: Scope, tip: u32) -> i64
-    requires scope { IsScope scope }
-    ensures half { result ≡ half_of scope tip }
-    ensures extent { IsExtent result }
+fn half_of(scope: Scope, tip: u32) -> Length
+    ensures { result ≡ half_of scope tip }
 {
-    quotient(i64::from(tip), scope.grain)
+    Length::new(quotient(i64::from(tip), scope.grain().get()))
 }
 
 // The tip of that half width in micrometres at a point, which this tells.
 fn tip_shape(scope: Scope, tip: u32, at: Point, tells: Tip) -> Shape
-    requires scope { IsScope scope }
     ensures { result ≡ tip_shape scope tip at tells }
 {
-    let outline = square_about(spot_of(scope, at), half_of(scope, tip));
+    let outline = square_round(spot_of(scope, at).site(), half_of(scope, tip));
     Shape::Told(Class::Tip, outline, tells)
 }
 
 // The same, where the tip isn't a point.
 fn tip_at(scope: Scope, tip: u32, at: Point, tells: Tip) -> Option<Shape>
-    requires scope { IsScope scope }
     ensures { result ≡ tip_at scope tip at tells }
 {
     if tip == 0 {
@@ -222,7 +197,6 @@ fn tip_at(scope: Scope, tip: u32, at: Point, tells: Tip) -> Option<Shape>
 
 // The same at the contact, if there is one.
 fn tip_at_contact(scope: Scope, tip: u32, contact: Option<Contact>) -> Option<Shape>
-    requires scope { IsScope scope }
     ensures { result ≡ tip_at_contact scope tip contact }
 {
     match contact {
@@ -233,13 +207,12 @@ fn tip_at_contact(scope: Scope, tip: u32, contact: Option<Contact>) -> Option<Sh
 
 // The contact.
 fn contact_shape(scope: Scope, contact: Option<Contact>) -> Option<Shape>
-    requires scope { IsScope scope }
     ensures { result ≡ contact_shape scope contact }
 {
     match contact {
         Some(contact) => Some(Shape::Told(
             Class::Cross,
-            cross(reach(scope, contact.at, 6)),
+            cross(spot_of(scope, contact.at).site(), scope.unit().times(6)),
             Tip::Contact(contact),
         )),
         None => None,
@@ -253,7 +226,6 @@ fn ends(
     position: Point,
     contact: Option<Contact>,
 ) -> [Option<Shape>; 5]
-    requires scope { IsScope scope }
     ensures { result ≡ ends scope bounds position contact }
 {
     [
@@ -273,7 +245,6 @@ pub(crate) fn push_way(
     position: Point,
     marks: &[Placed],
 ) -> Result<(), NoMemory>
-    requires scope { IsScope scope }
     ensures { OnOk result (shapes.new.items ≡ shapes.old.items ++ way_shapes scope bounds position marks.now) }
 {
     push_shape(shapes, limits_shape(scope, bounds.low, bounds.high))?;

@@ -2,7 +2,7 @@
 use Rattle.std.proofs.Common.{◌≡◌, ◌∙◌, sym, ℕ, ◌+◌, ◌<◌, List, get_or, length, drop}
 use Rattle.std.proofs.lemmas.List.{at_drop_more}
 use Rattle.vcm_marks.specs.declared.mark.Placed.{Placed}
-use Rattle.vcm_picture.specs.declared.view.Scope.{Scope}
+use Rattle.vcm_picture.specs.Sights.{Scope}
 use Rattle.vcm_svg.specs.declared.rect.Rect.{Rect}
 use Rattle.vcm_sheet.specs.declared.numbers.Numbered.{Numbered}
 use Rattle.vcm_sheet.specs.declared.points.Pointed.{Pointed}

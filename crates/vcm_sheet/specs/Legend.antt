@@ -6,7 +6,7 @@ use Rattle.vcm_picture.specs.declared.shapes.Shape.{Shape}
 use Rattle.vcm_picture.specs.declared.shapes.Shape.TheVariants.{Path, Told, Text}
 use Rattle.vcm_picture.specs.declared.shapes.Tip.{Tip}
 use Rattle.vcm_picture.specs.declared.shapes.Tip.TheVariants as tip
-use Rattle.vcm_picture.specs.declared.view.Scope.{Scope}
+use Rattle.vcm_picture.specs.Sights.{Scope}
 use Rattle.vcm_sheet.specs.declared.legend.Used.{Used}
 use Rattle.vcm_sheet.specs.Sight.{in_sight}
 

@@ -3,7 +3,7 @@ use Rattle.std.specs.Prelude.{ℤ, pos, List, [], ◌∷◌, ◌++◌, length, O
 use Rattle.std.specs.Fmt.{signed_decimal}
 use Rattle.vcm_svg.specs.declared.rect.Rect.{Rect}
 use Rattle.vcm_svg.specs.declared.rect.Spot.{Spot}
-use Rattle.vcm_picture.specs.declared.view.Scope.{Scope}
+use Rattle.vcm_picture.specs.Sights.{Scope}
 use Rattle.vcm_picture.specs.Names.{beside}
 use Rattle.vcm_picture.specs.View.{spot_of}
 use Rattle.vcm_sheet.specs.declared.numbers.Numbered.{Numbered}

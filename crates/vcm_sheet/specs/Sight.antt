@@ -4,7 +4,7 @@ use Rattle.vcm_num.specs.declared.point.Point.{Point}
 use Rattle.vcm_svg.specs.declared.rect.Spot.{Spot}
 use Rattle.vcm_picture.specs.declared.shapes.Tip.{Tip}
 use Rattle.vcm_picture.specs.declared.shapes.Tip.TheVariants as tip
-use Rattle.vcm_picture.specs.declared.view.Scope.{Scope}
+use Rattle.vcm_picture.specs.Sights.{Scope}
 use Rattle.vcm_picture.specs.View.{spot_of}
 
 -- whether a place lies between the left and the right side of a frame

@@ -2,7 +2,6 @@
 
 ghost use Rattle.std.specs.Prelude.{◌≡◌, ◌<◌, IfOk};
 ghost use Rattle.vcm_num.specs.Point.{point, coordinate};
-ghost use Rattle.vcm_picture.specs.Ranges.{IsScope, IsWindow};
 ghost use Rattle.vcm_picture.specs.View.{spot_of};
 
 use crate::places::{moved, units};
@@ -10,7 +9,7 @@ use crate::ticks::{Ruler, tick_step, ticks_of};
 use std::alloc::Global;
 use vcm_num::{NoMemory, Point};
 use vcm_picture::{Scope, View, Window, right_axis, spot_of, up_axis};
-use vcm_svg::{Piece, Spot, put};
+use vcm_svg::{Piece, Spot, Unit, put};
 
 /// The ticks of the three axes, in micrometres.
 #[derive(Drop)]
@@ -33,18 +32,16 @@ impl AxisTicks {
 
 // The ticks of an axis of a window.
 fn axis_ticks(alloc: Global, window: Window, axis: usize) -> Result<Vec<i64>, NoMemory>
-    requires window { IsWindow window }
-    requires axis { axis < 3 }
+    requires { axis < 3 }
 {
-    let low = window.low.0[axis];
-    let high = low.saturating_add(window.full.0[axis]);
-    let step = tick_step(units(units(60, window.unit), window.grain));
+    let low = window.low(axis);
+    let high = low.saturating_add(window.full(axis));
+    let step = tick_step(units(units(60, window.unit()), window.grain()));
     ticks_of(alloc, Ruler { low, high, step })
 }
 
 /// The ticks of a window, 60 units apart at least.
 pub(crate) fn ticks_in(alloc: Global, window: Window) -> Result<AxisTicks, NoMemory>
-    requires { IsWindow window }
 {
     let x = axis_ticks(alloc, window, 0)?;
     let y = axis_ticks(alloc, window, 1)?;
@@ -54,18 +51,16 @@ pub(crate) fn ticks_in(alloc: Global, window: Window) -> Result<AxisTicks, NoMem
 
 // How far to the right in a view a tick of the axis to the right stands: where a point with this coordinate does.
 fn across(scope: Scope, at: i64) -> i64
-    requires { IsScope scope }
     ensures { result ≡ (spot_of scope (point at at at)).x }
 {
-    spot_of(scope, Point::new(at, at, at)).x
+    spot_of(scope, Point::new(at, at, at)).spot().x
 }
 
 // How far down in a view a tick of the axis up stands.
 fn down(scope: Scope, at: i64) -> i64
-    requires { IsScope scope }
     ensures { result ≡ (spot_of scope (point at at at)).y }
 {
-    spot_of(scope, Point::new(at, at, at)).y
+    spot_of(scope, Point::new(at, at, at)).spot().y
 }
 
 // Appends a straight line of a class.
@@ -101,7 +96,7 @@ fn length_words<'a>(at: i64) -> Piece<'a> {
 pub(crate) fn put_words<'a>(
     out: &mut Vec<u8>,
     class: &'a [u8],
-    unit: i64,
+    unit: Unit,
     spot: Spot,
     words: Piece<'a>,
 ) -> Result<(), NoMemory> {
@@ -109,9 +104,9 @@ pub(crate) fn put_words<'a>(
         out,
         &[
             Piece::Text(b"<text transform=\"matrix("),
-            Piece::Number(unit),
+            Piece::Number(unit.get()),
             Piece::Text(b" 0 0 "),
-            Piece::Number(unit),
+            Piece::Number(unit.get()),
             Piece::Text(b" "),
             Piece::Number(spot.x),
             Piece::Text(b" "),
@@ -127,11 +122,10 @@ pub(crate) fn put_words<'a>(
 
 // Appends the ticks below a view.
 fn put_across(out: &mut Vec<u8>, scope: Scope, corner: Spot, ticks: &[i64]) -> Result<(), NoMemory>
-    requires { IsScope scope }
 {
-    let unit = scope.unit;
+    let unit = scope.unit();
     for tick in ticks {
-        let foot = moved(corner, across(scope, *tick), scope.high);
+        let foot = moved(corner, across(scope, *tick), scope.high().get());
         put_line(out, b"k", foot, moved(foot, 0, units(5, unit)))?;
         let at = moved(foot, 0, units(14, unit));
         put_words(out, b"t", unit, at, length_words(*tick))?;
@@ -141,9 +135,8 @@ fn put_across(out: &mut Vec<u8>, scope: Scope, corner: Spot, ticks: &[i64]) -> R
 
 // Appends the ticks to the left of a view.
 fn put_up(out: &mut Vec<u8>, scope: Scope, corner: Spot, ticks: &[i64]) -> Result<(), NoMemory>
-    requires { IsScope scope }
 {
-    let unit = scope.unit;
+    let unit = scope.unit();
     for tick in ticks {
         let foot = moved(corner, 0, down(scope, *tick));
         put_line(out, b"k", moved(foot, units(-5, unit), 0), foot)?;
@@ -160,10 +153,9 @@ pub(crate) fn put_ticks(
     corner: Spot,
     ticks: &AxisTicks,
 ) -> Result<(), NoMemory>
-    requires { IsScope scope }
 {
-    put_across(out, scope, corner, ticks.of(right_axis(scope.view)))?;
-    put_up(out, scope, corner, ticks.of(up_axis(scope.view)))
+    put_across(out, scope, corner, ticks.of(right_axis(scope.view())))?;
+    put_up(out, scope, corner, ticks.of(up_axis(scope.view())))
 }
 
 // Whether the origin is among ticks.
@@ -178,15 +170,14 @@ pub(crate) fn has_origin(ticks: &AxisTicks) -> bool {
 
 /// Appends the lines through the origin that lie in a view.
 pub(crate) fn put_axes(out: &mut Vec<u8>, scope: Scope, ticks: &AxisTicks) -> Result<(), NoMemory>
-    requires { IsScope scope }
 {
-    if has_zero(ticks.of(right_axis(scope.view))) {
+    if has_zero(ticks.of(right_axis(scope.view()))) {
         let x = across(scope, 0);
-        put_line(out, b"z", Spot { x, y: 0 }, Spot { x, y: scope.high })?;
+        put_line(out, b"z", Spot { x, y: 0 }, Spot { x, y: scope.high().get() })?;
     }
-    if has_zero(ticks.of(up_axis(scope.view))) {
+    if has_zero(ticks.of(up_axis(scope.view()))) {
         let y = down(scope, 0);
-        put_line(out, b"z", Spot { x: 0, y }, Spot { x: scope.wide, y })?;
+        put_line(out, b"z", Spot { x: 0, y }, Spot { x: scope.wide().get(), y })?;
     }
     Ok(())
 }

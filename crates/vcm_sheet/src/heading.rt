@@ -6,7 +6,7 @@ use crate::rows::put_name;
 use std::alloc::Global;
 use vcm_marks::Contact;
 use vcm_num::{NoMemory, Point};
-use vcm_svg::{Label, Lettering, Piece, Spot, put_text};
+use vcm_svg::{Label, Lettering, Piece, Spot, Unit, put_text};
 
 /// What a heading tells besides the stop.
 #[derive(Clone, Copy)]
@@ -26,13 +26,13 @@ pub(crate) struct Told<'a> {
 const PITCH: i64 = 18;
 
 // Appends a line of the heading, so many units from the top, and gives where the next one stands.
-fn put_line(out: &mut Vec<u8>, unit: i64, down: i64, words: &[Piece]) -> Result<i64, NoMemory> {
+fn put_line(out: &mut Vec<u8>, unit: Unit, down: i64, words: &[Piece]) -> Result<i64, NoMemory> {
     let label = Label {
         at: Spot {
             x: units(20, unit),
             y: units(down, unit),
         },
-        size: unit,
+        size: unit.get(),
         class: Lettering::Heading,
     };
     put_text(out, label, words)?;
@@ -50,7 +50,7 @@ fn written(alloc: Global, name: &[u8]) -> Result<Vec<u8>, NoMemory> {
 fn put_files(
     alloc: Global,
     out: &mut Vec<u8>,
-    unit: i64,
+    unit: Unit,
     down: i64,
     told: Told<'_>,
 ) -> Result<i64, NoMemory> {
@@ -72,7 +72,7 @@ fn put_files(
 }
 
 // Appends the line of the position and the steps.
-fn put_position(out: &mut Vec<u8>, unit: i64, down: i64, told: Told<'_>) -> Result<i64, NoMemory> {
+fn put_position(out: &mut Vec<u8>, unit: Unit, down: i64, told: Told<'_>) -> Result<i64, NoMemory> {
     put_line(
         out,
         unit,
@@ -87,7 +87,7 @@ fn put_position(out: &mut Vec<u8>, unit: i64, down: i64, told: Told<'_>) -> Resu
 }
 
 // Appends the line of the source lines, if not all are shown.
-fn put_lines(out: &mut Vec<u8>, unit: i64, down: i64, lines: Lines) -> Result<i64, NoMemory> {
+fn put_lines(out: &mut Vec<u8>, unit: Unit, down: i64, lines: Lines) -> Result<i64, NoMemory> {
     if lines.first == 0 {
         return Ok(down);
     }
@@ -116,7 +116,7 @@ fn name_of(names: &[Vec<u8>], block: u32) -> &[u8] {
 fn put_contact(
     alloc: Global,
     out: &mut Vec<u8>,
-    unit: i64,
+    unit: Unit,
     down: i64,
     told: Told<'_>,
 ) -> Result<i64, NoMemory> {
@@ -141,7 +141,7 @@ fn put_contact(
 }
 
 // Appends the line of the pieces that are left out, if there are any.
-fn put_left_out(out: &mut Vec<u8>, unit: i64, down: i64, left_out: u64) -> Result<i64, NoMemory> {
+fn put_left_out(out: &mut Vec<u8>, unit: Unit, down: i64, left_out: u64) -> Result<i64, NoMemory> {
     if left_out == 0 {
         return Ok(down);
     }
@@ -161,7 +161,7 @@ fn put_left_out(out: &mut Vec<u8>, unit: i64, down: i64, left_out: u64) -> Resul
 pub(crate) fn put_heading(
     alloc: Global,
     out: &mut Vec<u8>,
-    unit: i64,
+    unit: Unit,
     first: &[u8],
     told: Told<'_>,
 ) -> Result<i64, NoMemory> {

@@ -1,7 +1,6 @@
 //! What of the legend a sheet shows.
 
 ghost use Rattle.std.specs.Prelude.{◌≡◌, if◌then◌else◌};
-ghost use Rattle.vcm_picture.specs.Ranges.{IsScope};
 ghost use Rattle.vcm_sheet.specs.Sight.{in_sight};
 ghost use Rattle.vcm_sheet.specs.Legend.{with_class, with_told, with_shape, used_in};
 
@@ -95,7 +94,6 @@ fn with_told(used: Used, class: Class, tip: Tip) -> Used
 
 // The same, if it is in sight.
 fn with_seen(scope: Scope, used: Used, class: Class, tip: Tip) -> Used
-    requires { IsScope scope }
     ensures { result ≡ (if in_sight scope tip then with_told used class tip else used) }
 {
     if in_sight(scope, tip) {
@@ -107,7 +105,6 @@ fn with_seen(scope: Scope, used: Used, class: Class, tip: Tip) -> Used
 
 // With what a shape shows, if it is in sight.
 fn with_shape(scope: Scope, used: Used, shape: &Shape) -> Used
-    requires { IsScope scope }
     ensures { result ≡ with_shape scope used shape.now }
 {
     match shape {
@@ -119,7 +116,6 @@ fn with_shape(scope: Scope, used: Used, shape: &Shape) -> Used
 
 /// Which marks stand in some shapes of a view, or did before them.
 pub fn used_in(scope: Scope, before: Used, shapes: &[Shape]) -> Used
-    requires { IsScope scope }
     ensures { result ≡ used_in scope before shapes.now }
 {
     let mut used = before;

@@ -1,23 +1,22 @@
 //! Where the numbers of points stand in a view.
 
-ghost use Rattle.std.specs.Prelude.{◌≡◌, IfOk, OnOk};
+ghost use Rattle.std.specs.Prelude.{◌≡◌, [], IfOk, OnOk};
 ghost use Rattle.vcm_picture.specs.Names.{beside};
-ghost use Rattle.vcm_picture.specs.Ranges.{IsScope, IsLetters};
-ghost use Rattle.vcm_svg.specs.Ranges.{IsSpot};
+ghost use Rattle.vcm_picture.specs.Ranges.{IsLetters};
 ghost use Rattle.vcm_sheet.specs.Numbers.{letters_of, with_number, with_numbers, numbers_beside};
 
 use crate::points::Pointed;
 use std::alloc::Global;
 use vcm_num::{NoMemory, int_text};
 use vcm_picture::{Scope, label_beside, spot_of};
-use vcm_svg::{Rect, Spot};
+use vcm_svg::{Place, Rect, TextBox};
 
 /// The number of a point that found room: the point, its place in the view, and the box of its number.
 #[derive(Clone, Copy)]
 pub struct Numbered {
     pub point: Pointed,
-    pub at: Spot,
-    pub area: Rect,
+    pub at: Place,
+    pub area: TextBox,
 }
 
 // How many letters the number of a point has.
@@ -29,9 +28,7 @@ fn letters_of(point: &Pointed) -> i64
 }
 
 // The box of a point's number, whose place in the view this is, if it finds room.
-fn number_box(scope: Scope, at: Spot, point: &Pointed, taken: &[Rect]) -> Option<Rect>
-    requires scope { IsScope scope }
-    requires at { IsSpot at }
+fn number_box(scope: Scope, at: Place, point: &Pointed, taken: &[Rect]) -> Option<TextBox>
     ensures { result ≡ beside scope at (letters_of point.now.number) taken.now }
 {
     label_beside(scope, at, letters_of(point), taken)
@@ -44,13 +41,12 @@ fn number_point(
     taken: &mut Vec<Rect>,
     numbers: &mut Vec<Numbered>,
 ) -> Result<(), NoMemory>
-    requires scope { IsScope scope }
     ensures { OnOk result (record { taken = taken.new.items; numbers = numbers.new.items } ≡ with_number scope point.now (record { taken = taken.old.items; numbers = numbers.old.items })) }
 {
     let at = spot_of(scope, point.touched.at);
     match number_box(scope, at, point, taken.as_slice()) {
         Some(area) => {
-            taken.push(area)?;
+            taken.push(area.rect())?;
             numbers.push(Numbered {
                 point: *point,
                 at,
@@ -69,7 +65,6 @@ fn number_points(
     taken: &mut Vec<Rect>,
     numbers: &mut Vec<Numbered>,
 ) -> Result<(), NoMemory>
-    requires { IsScope scope }
     ensures { OnOk result (record { taken = taken.new.items; numbers = numbers.new.items } ≡ with_numbers scope points.now (record { taken = taken.old.items; numbers = numbers.old.items })) }
 {
     for point in points {
@@ -89,8 +84,8 @@ pub fn numbers_of(
     points: &[Pointed],
     taken: &mut Vec<Rect>,
 ) -> Result<Vec<Numbered>, NoMemory>
-    requires { IsScope scope }
-    ensures { IfOk result (λ v. v.items ≡ numbers_beside scope points.now taken.old.items) }
+    ensures numbers { IfOk result (λ v. v.items ≡ numbers_beside scope points.now taken.old.items) }
+    ensures taken { IfOk result (λ v. taken.new.items ≡ (with_numbers scope points.now (record { taken = taken.old.items; numbers = [] })).taken) }
 {
     let mut numbers = Vec::new(alloc);
     number_points(scope, points, taken, &mut numbers)?;

@@ -1,12 +1,12 @@
 //! Arithmetic on places of a sheet that never leaves 64 bits.
 
-ghost use Rattle.vcm_svg.specs.Ranges.{IsSmall, IsSpot};
+ghost use Rattle.vcm_svg.specs.Ranges.{IsSmall};
 
-use vcm_svg::Spot;
+use vcm_svg::{Place, Spot, Unit};
 
 /// So many units.
-pub(crate) fn units(count: i64, unit: i64) -> i64 {
-    count.saturating_mul(unit)
+pub(crate) fn units(count: i64, unit: Unit) -> i64 {
+    count.saturating_mul(unit.get())
 }
 
 /// The place so far to the right of another one and below it.
@@ -28,11 +28,9 @@ fn within(number: i64) -> i64
 }
 
 /// A place in a picture.
-pub(crate) fn corner(x: i64, y: i64) -> Spot
-    ensures { IsSpot result }
-{
-    Spot {
+pub(crate) fn corner(x: i64, y: i64) -> Place {
+    Place::new(Spot {
         x: within(x),
         y: within(y),
-    }
+    })
 }

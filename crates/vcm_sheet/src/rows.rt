@@ -1,6 +1,5 @@
 //! The tables of a sheet: the legend, the touched points and the blocks with names.
 
-ghost use Rattle.vcm_svg.specs.Ranges.{IsUnit};
 
 use crate::legend::Used;
 use crate::places::{corner, moved, units};
@@ -9,7 +8,7 @@ use std::alloc::Global;
 use vcm_items::Name;
 use vcm_num::NoMemory;
 use vcm_picture::name_at;
-use vcm_svg::{Class, Label, Lettering, Piece, Sign, Spot, put, put_row, put_text};
+use vcm_svg::{Class, Label, Lettering, Piece, Sign, Spot, Unit, put, put_row, put_text};
 
 /// How many units a row is high.
 pub(crate) const PITCH: i64 = 14;
@@ -18,7 +17,7 @@ pub(crate) const PITCH: i64 = 14;
 const MOST_ROWS: usize = 40;
 
 // The place of the next row.
-fn below(at: Spot, unit: i64) -> Spot {
+fn below(at: Spot, unit: Unit) -> Spot {
     moved(at, 0, units(PITCH, unit))
 }
 
@@ -36,10 +35,10 @@ pub(crate) fn put_name(out: &mut Vec<u8>, name: &[u8]) -> Result<(), NoMemory> {
 }
 
 // Where words of a row stand, so many units to the right.
-fn cell(at: Spot, unit: i64, right: i64) -> Label {
+fn cell(at: Spot, unit: Unit, right: i64) -> Label {
     Label {
         at: moved(at, units(right, unit), units(3, unit)),
-        size: unit,
+        size: unit.get(),
         class: Lettering::Plain,
     }
 }
@@ -48,7 +47,7 @@ fn cell(at: Spot, unit: i64, right: i64) -> Label {
 fn put_cell(
     out: &mut Vec<u8>,
     at: Spot,
-    unit: i64,
+    unit: Unit,
     right: i64,
     words: Piece<'_>,
 ) -> Result<(), NoMemory> {
@@ -59,13 +58,12 @@ fn put_cell(
 fn put_sign(
     out: &mut Vec<u8>,
     at: Spot,
-    unit: i64,
+    unit: Unit,
     is_drawn: bool,
     class: Class,
     sign: Sign,
     words: &[u8],
 ) -> Result<Spot, NoMemory>
-    requires { IsUnit unit }
 {
     if !is_drawn {
         return Ok(at);
@@ -75,8 +73,7 @@ fn put_sign(
 }
 
 // Appends the rows of pieces of the way that are drawn.
-fn put_ways(out: &mut Vec<u8>, at: Spot, unit: i64, used: Used) -> Result<Spot, NoMemory>
-    requires { IsUnit unit }
+fn put_ways(out: &mut Vec<u8>, at: Spot, unit: Unit, used: Used) -> Result<Spot, NoMemory>
 {
     let line = Sign::Line;
     let at = put_sign(out, at, unit, used.moves, Class::Move, line, b"move")?;
@@ -103,8 +100,7 @@ fn put_ways(out: &mut Vec<u8>, at: Spot, unit: i64, used: Used) -> Result<Spot, 
 }
 
 // Appends the rows of the other marks that are drawn.
-fn put_marks(out: &mut Vec<u8>, at: Spot, unit: i64, used: Used) -> Result<Spot, NoMemory>
-    requires { IsUnit unit }
+fn put_marks(out: &mut Vec<u8>, at: Spot, unit: Unit, used: Used) -> Result<Spot, NoMemory>
 {
     let at = put_sign(
         out,
@@ -155,7 +151,7 @@ fn put_marks(out: &mut Vec<u8>, at: Spot, unit: i64, used: Used) -> Result<Spot,
 }
 
 // Appends the row of the lines through the origin, if there are any.
-fn put_origin(out: &mut Vec<u8>, at: Spot, unit: i64, has_origin: bool) -> Result<Spot, NoMemory> {
+fn put_origin(out: &mut Vec<u8>, at: Spot, unit: Unit, has_origin: bool) -> Result<Spot, NoMemory> {
     if !has_origin {
         return Ok(at);
     }
@@ -179,11 +175,10 @@ fn put_origin(out: &mut Vec<u8>, at: Spot, unit: i64, has_origin: bool) -> Resul
 pub(crate) fn put_signs(
     out: &mut Vec<u8>,
     at: Spot,
-    unit: i64,
+    unit: Unit,
     used: Used,
     has_origin: bool,
 ) -> Result<Spot, NoMemory>
-    requires { IsUnit unit }
 {
     let at = put_ways(out, at, unit, used)?;
     let at = put_marks(out, at, unit, used)?;
@@ -194,7 +189,7 @@ pub(crate) fn put_signs(
 fn put_point(
     out: &mut Vec<u8>,
     at: Spot,
-    unit: i64,
+    unit: Unit,
     features: &[Name],
     point: &Pointed,
 ) -> Result<Spot, NoMemory> {
@@ -211,7 +206,7 @@ fn put_point(
 fn put_more(
     out: &mut Vec<u8>,
     at: Spot,
-    unit: i64,
+    unit: Unit,
     all: usize,
     words: &[u8],
 ) -> Result<Spot, NoMemory> {
@@ -235,7 +230,7 @@ fn put_more(
 pub(crate) fn put_points(
     out: &mut Vec<u8>,
     at: Spot,
-    unit: i64,
+    unit: Unit,
     features: &[Name],
     points: &[Pointed],
 ) -> Result<Spot, NoMemory> {
@@ -262,7 +257,7 @@ pub(crate) fn put_points(
 fn put_named(
     out: &mut Vec<u8>,
     at: Spot,
-    unit: i64,
+    unit: Unit,
     number: u64,
     name: &[u8],
 ) -> Result<Spot, NoMemory> {
@@ -276,7 +271,7 @@ fn put_block(
     alloc: Global,
     out: &mut Vec<u8>,
     at: Spot,
-    unit: i64,
+    unit: Unit,
     number: u64,
     name: &[u8],
 ) -> Result<Spot, NoMemory> {
@@ -295,7 +290,7 @@ pub(crate) fn put_blocks(
     alloc: Global,
     out: &mut Vec<u8>,
     at: Spot,
-    unit: i64,
+    unit: Unit,
     names: &[Vec<u8>],
 ) -> Result<Spot, NoMemory> {
     let all = names.iter().filter(|name| is_one(name)).count();

@@ -1,7 +1,5 @@
 //! The whole sheet.
 
-ghost use Rattle.vcm_picture.specs.Ranges.{IsWindow, IsScope};
-ghost use Rattle.vcm_svg.specs.Ranges.{IsUnit};
 
 use crate::frames::{AxisTicks, has_origin, put_axes, put_ticks, put_words, ticks_in};
 use crate::heading::{Told, put_heading};
@@ -24,7 +22,7 @@ use vcm_picture::{
 };
 use vcm_state::World;
 use vcm_svg::{
-    Class, Label, Lettering, Outline, Piece, Spot, put, put_bar, put_path, put_style, put_text,
+    Class, Label, Lettering, Outline, Piece, Place, Spot, Unit, put, put_bar, put_path, put_style, put_text,
     quotient,
 };
 
@@ -58,10 +56,10 @@ struct Drawings {
 /// Where the parts of a sheet stand, and its size, in its units.
 #[derive(Clone, Copy)]
 struct Places {
-    top: Spot,
-    front: Spot,
-    side: Spot,
-    bar: Spot,
+    top: Place,
+    front: Place,
+    side: Place,
+    bar: Place,
     wide: i64,
     high: i64,
 }
@@ -75,7 +73,6 @@ fn drawn(
     marks: &[Placed],
     points: &[Pointed],
 ) -> Result<Drawing, NoMemory>
-    requires { IsWindow window }
 {
     let scope = scope_of(window, view);
     drawing_of(alloc, scope, sheet.part, sheet.world, marks, points)
@@ -89,7 +86,6 @@ fn drawings_of(
     marks: &[Placed],
     points: &[Pointed],
 ) -> Result<Drawings, NoMemory>
-    requires { IsWindow window }
 {
     let top = drawn(alloc, window, View::Top, sheet, marks, points)?;
     let front = drawn(alloc, window, View::Front, sheet, marks, points)?;
@@ -99,7 +95,6 @@ fn drawings_of(
 
 // Which marks stand in the three views.
 fn used_of(window: Window, drawings: &Drawings) -> Used
-    requires { IsWindow window }
 {
     let top = scope_of(window, View::Top);
     let front = scope_of(window, View::Front);
@@ -110,31 +105,29 @@ fn used_of(window: Window, drawings: &Drawings) -> Used
 }
 
 // The place of the tables, in a sheet whose heading ends so many units below its upper edge.
-fn tables_place(window: Window, down: i64) -> Spot
-    requires { IsWindow window }
-{
+fn tables_place(window: Window, down: i64) -> Spot {
     let scope = scope_of(window, View::Top);
-    corner(
-        units(130, window.unit).saturating_add(scope.wide),
-        units(down.saturating_add(36), window.unit),
-    )
+    let place = corner(
+        units(130, window.unit()).saturating_add(scope.wide().get()),
+        units(down.saturating_add(36), window.unit()),
+    );
+    place.spot()
 }
 
 // Where the parts of a sheet stand, in one whose tables begin and end there.
 fn places_of(window: Window, tables: Spot, below: Spot) -> Places
-    requires { IsWindow window }
 {
-    let unit = window.unit;
+    let unit = window.unit();
     let top = scope_of(window, View::Top);
     let side = scope_of(window, View::Side);
     let left = units(60, unit);
     let upper = tables.y.saturating_sub(units(8, unit));
     let lower = upper
-        .saturating_add(top.high)
+        .saturating_add(top.high().get())
         .max(below.y)
         .saturating_add(units(48, unit));
-    let foot = lower.saturating_add(side.high);
-    let right = tables.x.saturating_add(side.wide.max(units(350, unit)));
+    let foot = lower.saturating_add(side.high().get());
+    let right = tables.x.saturating_add(side.wide().get().max(units(350, unit)));
     Places {
         top: corner(left, upper),
         front: corner(left, lower),
@@ -146,12 +139,9 @@ fn places_of(window: Window, tables: Spot, below: Spot) -> Places
 }
 
 // Appends the numbers of points, each in its box.
-fn put_numbers(out: &mut Vec<u8>, unit: i64, numbers: &[Numbered]) -> Result<(), NoMemory> {
+fn put_numbers(out: &mut Vec<u8>, unit: Unit, numbers: &[Numbered]) -> Result<(), NoMemory> {
     for number in numbers {
-        let at = Spot {
-            x: number.area.left,
-            y: number.area.top.saturating_add(units(8, unit)),
-        };
+        let at = number.area.first_letter(unit.times(8));
         let words = Piece::Number(number.point.number);
         put_words(out, b"p c", unit, at, words)?;
     }
@@ -171,8 +161,8 @@ fn put_missing(
         return Ok(());
     }
     let label = Label {
-        at: moved(at, units(200, scope.unit), units(-6, scope.unit)),
-        size: scope.unit,
+        at: moved(at, units(200, scope.unit()), units(-6, scope.unit())),
+        size: scope.unit().get(),
         class: Lettering::Plain,
     };
     put_text(
@@ -189,22 +179,21 @@ fn put_missing(
 fn put_drawing(
     out: &mut Vec<u8>,
     scope: Scope,
-    at: Spot,
+    at: Place,
     drawing: &Drawing,
     ticks: &AxisTicks,
     features: &[Name],
     stopped: &[u8],
     points: usize,
 ) -> Result<(), NoMemory>
-    requires { IsScope scope }
 {
-    put_missing(out, scope, at, points, drawing.numbers.len())?;
-    begin_view(out, scope, corner(at.x, at.y))?;
+    put_missing(out, scope, at.spot(), points, drawing.numbers.len())?;
+    begin_view(out, scope, at)?;
     put_axes(out, scope, ticks)?;
     put_shapes(out, features, stopped, drawing.shapes.as_slice())?;
-    put_numbers(out, scope.unit, drawing.numbers.as_slice())?;
+    put_numbers(out, scope.unit(), drawing.numbers.as_slice())?;
     put(out, &[Piece::Text(b"</g>\n")])?;
-    put_ticks(out, scope, at, ticks)
+    put_ticks(out, scope, at.spot(), ticks)
 }
 
 // Appends the three views.
@@ -218,7 +207,6 @@ fn put_drawings(
     stopped: &[u8],
     points: usize,
 ) -> Result<(), NoMemory>
-    requires { IsWindow window }
 {
     let top = scope_of(window, View::Top);
     let front = scope_of(window, View::Front);
@@ -260,13 +248,12 @@ fn put_tables(
     alloc: Global,
     out: &mut Vec<u8>,
     at: Spot,
-    unit: i64,
+    unit: Unit,
     used: Used,
     ticks: &AxisTicks,
     sheet: &Sheet<'_>,
     points: &[Pointed],
 ) -> Result<Spot, NoMemory>
-    requires { IsUnit unit }
 {
     let features = sheet.world.tables().features();
     let at = put_signs(out, at, unit, used, has_origin(ticks))?;
@@ -277,12 +264,11 @@ fn put_tables(
 // Appends the head: the size of the sheet, and its title.
 fn put_head(
     out: &mut Vec<u8>,
-    unit: i64,
+    unit: Unit,
     places: Places,
     sheet: &Sheet<'_>,
     first: &[u8],
 ) -> Result<(), NoMemory>
-    requires { IsUnit unit }
 {
     put(
         out,
@@ -292,9 +278,9 @@ fn put_head(
             Piece::Text(b" "),
             Piece::Number(places.high),
             Piece::Text(b"\" width=\""),
-            Piece::Number(quotient(places.wide, unit)),
+            Piece::Number(quotient(places.wide, unit.get())),
             Piece::Text(b"\" height=\""),
-            Piece::Number(quotient(places.high, unit)),
+            Piece::Number(quotient(places.high, unit.get())),
             Piece::Text(b"\">\n<title>"),
         ],
     )?;
@@ -310,16 +296,16 @@ fn put_head(
 }
 
 // Appends what the style of a sheet has beside that of a picture.
-fn put_sheet_style(out: &mut Vec<u8>, unit: i64) -> Result<(), NoMemory> {
+fn put_sheet_style(out: &mut Vec<u8>, unit: Unit) -> Result<(), NoMemory> {
     put(
         out,
         &[
             Piece::Text(
                 b"<style>\n.t{text-anchor:middle}\n.r{text-anchor:end}\n.c{fill:#b34700;font-weight:bold}\n.k{stroke:#555;stroke-width:",
             ),
-            Piece::Number(unit),
+            Piece::Number(unit.get()),
             Piece::Text(b"}\n.z{fill:none;stroke:#999;stroke-width:"),
-            Piece::Number(unit),
+            Piece::Number(unit.get()),
             Piece::Text(b";stroke-dasharray:"),
             Piece::Number(units(12, unit)),
             Piece::Text(b" "),
@@ -337,10 +323,9 @@ fn put_ground(
     blocks: usize,
     marks: &[Placed],
 ) -> Result<(), NoMemory>
-    requires { IsWindow window }
 {
-    put_style(out, window.unit, blocks, are_few(marks))?;
-    put_sheet_style(out, window.unit)?;
+    put_style(out, window.unit(), blocks, are_few(marks))?;
+    put_sheet_style(out, window.unit())?;
     put_clips(out, &VIEWS, window)?;
     let ground = Outline::Rectangle(Spot { x: 0, y: 0 }, places.wide, places.high);
     put_path(out, Class::Sheet, ground)
@@ -348,11 +333,10 @@ fn put_ground(
 
 // Appends the bar that shows a length, and ends the sheet.
 fn put_foot(out: &mut Vec<u8>, window: Window, places: Places) -> Result<(), NoMemory>
-    requires { IsWindow window }
 {
     let scope = scope_of(window, View::Top);
-    let bar = corner(places.bar.x, places.bar.y);
-    put_bar(out, bar, window.unit, window.grain, scope.wide)?;
+    let wide = scope.wide().get();
+    put_bar(out, places.bar, window.unit(), window.grain(), wide)?;
     put(out, &[Piece::Text(b"</svg>\n")])
 }
 
@@ -381,9 +365,8 @@ fn put_whole(
     points: &[Pointed],
     first: &[u8],
 ) -> Result<Vec<u8>, NoMemory>
-    requires { IsWindow window }
 {
-    let unit = window.unit;
+    let unit = window.unit();
     let ticks = ticks_in(alloc, window)?;
     let mut heading = Vec::new(alloc);
     let down = put_heading(alloc, &mut heading, unit, first, told_of(sheet, marks))?;

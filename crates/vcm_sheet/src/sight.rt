@@ -1,7 +1,7 @@
 //! What of a view is in sight.
 
 ghost use Rattle.std.specs.Prelude.{◌≡◌};
-ghost use Rattle.vcm_picture.specs.Ranges.{IsScope};
+ghost use Rattle.vcm_picture.specs.View.{spot_of};
 ghost use Rattle.vcm_sheet.specs.Sight.{lies_across, lies_down, in_frame, crosses_across, crosses_down, crosses, is_seen, in_sight};
 
 use vcm_num::Point;
@@ -12,14 +12,14 @@ use vcm_svg::Spot;
 fn lies_across(scope: Scope, at: Spot) -> bool
     ensures { result ≡ lies_across scope at }
 {
-    0 <= at.x && at.x <= scope.wide
+    0 <= at.x && at.x <= scope.wide().get()
 }
 
 // Whether a place lies between the upper and the lower side of a frame.
 fn lies_down(scope: Scope, at: Spot) -> bool
     ensures { result ≡ lies_down scope at }
 {
-    0 <= at.y && at.y <= scope.high
+    0 <= at.y && at.y <= scope.high().get()
 }
 
 // Whether a place lies in a frame.
@@ -52,22 +52,27 @@ fn crosses(scope: Scope, a: Spot, b: Spot) -> bool
 
 // Whether a point is in sight.
 fn is_seen(scope: Scope, at: Point) -> bool
-    requires { IsScope scope }
     ensures { result ≡ is_seen scope at }
 {
-    in_frame(scope, spot_of(scope, at))
+    in_frame(scope, spot_of(scope, at).spot())
+}
+
+// Whether one of the limits with these corners lies between two sides of a frame.
+fn is_crossed(scope: Scope, low: Point, high: Point) -> bool
+    ensures { result ≡ crosses scope (spot_of scope low) (spot_of scope high) }
+{
+    crosses(scope, spot_of(scope, low).spot(), spot_of(scope, high).spot())
 }
 
 /// Whether what a tooltip tells is in sight: a point if it lies in the frame, the limits if one of them lies between two sides; pieces and blocks always.
 pub(crate) fn in_sight(scope: Scope, tip: Tip) -> bool
-    requires { IsScope scope }
     ensures { result ≡ in_sight scope tip }
 {
     match tip {
         Tip::Block(_, _) => true,
         Tip::Piece(_, _) => true,
         Tip::Touched(_, touched) => is_seen(scope, touched.at),
-        Tip::Limits(low, high) => crosses(scope, spot_of(scope, low), spot_of(scope, high)),
+        Tip::Limits(low, high) => is_crossed(scope, low, high),
         Tip::Home(at) => is_seen(scope, at),
         Tip::End(at) => is_seen(scope, at),
         Tip::TipAtEnd => false,

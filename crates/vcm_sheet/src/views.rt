@@ -2,7 +2,6 @@
 
 ghost use Rattle.std.specs.Prelude.{◌≡◌, [], IfOk};
 ghost use Rattle.vcm_picture.specs.Drawing.{scene, scene_shapes};
-ghost use Rattle.vcm_picture.specs.Ranges.{IsScope};
 ghost use Rattle.vcm_sheet.specs.Views.{is_feature, is_name, without_names};
 
 use crate::numbers::{Numbered, numbers_of};
@@ -138,7 +137,6 @@ pub(crate) fn drawing_of(
     marks: &[Placed],
     points: &[Pointed],
 ) -> Result<Drawing, NoMemory>
-    requires { IsScope scope }
     ensures scope { IfOk result (λ d. d.scope ≡ scope) }
     ensures shapes { IfOk result (λ d. d.shapes.items ≡ without_names (scene_shapes scope (scene part.now world.now []) marks.now)) }
 {

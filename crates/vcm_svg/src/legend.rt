@@ -182,11 +182,7 @@ fn put_bar_with(
     requires fine { grain ≤ℤ pos 1000 }
     ensures { OnOk result (out.new.items ≡ out.old.items ++ bar_with at unit grain long) }
 {
-    put_path(
-        out,
-        Class::Cross,
-        bar_line(at.site(), unit.times(5), long),
-    )?;
+    put_path(out, Class::Cross, bar_line(at.site(), unit.times(5), long))?;
     put_text(
         out,
         bar_label(at, unit, long),

@@ -217,7 +217,7 @@ impl Site {
 
     /// The place so far above it.
     #[tactic(auto, using(crate::proofs::Signed::signed))]
-    pub(crate) fn up_by(self, far: Length) -> Spot
+    pub fn up_by(self, far: Length) -> Spot
         ensures { result ≡ spot self.x (self.y -ℤ far) }
     {
         let Spot { x, y } = self.spot;

@@ -1,6 +1,6 @@
 use Rattle.vcm_picture.specs.Drawing.{scene, view_text}
 use Rattle.vcm_picture.specs.Picture.{view_spot}
-use Rattle.vcm_picture.specs.declared.view.Scope.{Scope}
+use Rattle.vcm_picture.specs.Sights.{Scope}
 use Rattle.vcm_svg.specs.declared.rect.Spot.{Spot}
 use Rattle.vcm_svg.proofs.Appended.{last_same}
 use Rattle.vcm_picture.proofs.picture.put_view_at.Goals as goal

@@ -1,0 +1,122 @@
+//! What a launch asks for, and the program that it names.
+
+use json::Value;
+use std::alloc::Global;
+use std::rt::Files;
+use vcm_dap::Settings;
+use vcm_debug::Count;
+use vcm_job::{DebugFault, is_image, read_all};
+use vcm_messages::{Message, debug_message};
+use vcm_program::Noticed;
+use vcm_run::{Built, build_image};
+use vcm_wire::Request;
+
+// The most steps of a motion, where `steps` isn't given.
+const STEPS: u64 = 1_000_000;
+
+/// What a launch asks for.
+#[derive(Drop)]
+pub(crate) struct Asked<'v> {
+    pub program: &'v str,
+    pub part: &'v str,
+    source: Option<&'v str>,
+    steps: Count,
+    stop_on_entry: bool,
+    no_debug: bool,
+}
+
+// A flag of a request, which is off where it isn't there.
+fn flag(request: &Request<'_, '_>, name: &str) -> bool {
+    request.argument(name).and_then(Value::as_bool) == Some(true)
+}
+
+// A text of a request.
+fn text<'v>(request: &Request<'v, '_>, name: &str) -> Option<&'v str> {
+    request.argument(name).and_then(Value::as_str)
+}
+
+// The most steps of a motion that a launch asks for.
+fn steps_of(request: &Request<'_, '_>) -> Option<Count> {
+    let steps = match request.argument("steps") {
+        None => STEPS,
+        Some(steps) => steps.as_u64()?,
+    };
+    Count::new(steps).ok()
+}
+
+/// What a launch asks for, or why it is refused.
+pub(crate) fn launch_of<'v>(request: &Request<'v, '_>) -> Result<Asked<'v>, &'static str> {
+    let Some(program) = text(request, "program") else {
+        return Err("launch wants program, the path of the program or image");
+    };
+    let Some(part) = text(request, "part") else {
+        return Err("launch wants part, the path of the part file");
+    };
+    let Some(steps) = steps_of(request) else {
+        return Err("steps is 1 to 1000000");
+    };
+    Ok(Asked {
+        program,
+        part,
+        source: text(request, "source"),
+        steps,
+        stop_on_entry: flag(request, "stopOnEntry"),
+        no_debug: flag(request, "noDebug"),
+    })
+}
+
+/// What a launch asks for of the adapter. The text that is shown is the program, or none, where no other one is given.
+pub(crate) fn settings_of<'v>(asked: Asked<'v>, tip: u32, is_image: bool) -> Settings<'v> {
+    let source = match asked.source {
+        None if !is_image => Some(asked.program),
+        source => source,
+    };
+    Settings {
+        source,
+        steps: asked.steps,
+        tip,
+        stop_on_entry: asked.stop_on_entry,
+        no_debug: asked.no_debug,
+    }
+}
+
+/// A program that was read: its image, its lines that have no effect, and whether the file was an image.
+#[derive(Drop)]
+pub(crate) struct Program {
+    pub image: Vec<u8>,
+    pub notices: Vec<Noticed>,
+    pub is_image: bool,
+}
+
+// The program of these bytes.
+fn program_in<'a>(alloc: Global, bytes: Vec<u8>, name: &'a str) -> Result<Program, Message<'a>> {
+    if is_image(&bytes) {
+        return Ok(Program {
+            image: bytes,
+            notices: Vec::new(alloc),
+            is_image: true,
+        });
+    }
+    match build_image(alloc, &bytes) {
+        Ok(Built { image, notices }) => Ok(Program {
+            image,
+            notices,
+            is_image: false,
+        }),
+        Err(refusal) => Err(debug_message(DebugFault::Refused(refusal), name)),
+    }
+}
+
+/// The program or image of a file.
+pub(crate) fn program_of<'a, R: Files + AllocGlobal>(
+    rt: &R,
+    name: &'a str,
+) -> Result<Program, Message<'a>> {
+    let Ok(mut file) = std::fs::open(rt, name) else {
+        return Err(Message::Read { name });
+    };
+    match read_all(rt.alloc(), &mut file) {
+        Ok(bytes) => program_in(rt.alloc(), bytes, name),
+        Err(fault) => Err(debug_message(DebugFault::from(fault), name)),
+    }
+}

@@ -1,0 +1,9 @@
+//! What an editor's launch opens, and the debug adapter from its first request to its last one.
+#![tactic(auto)]
+
+mod files;
+mod launching;
+mod serving;
+
+pub use files::{notice_line, part_of};
+pub use serving::serve_dap;
