@@ -4,8 +4,10 @@ pub mod Raising
 pub mod WordLemmas
 pub mod Cutting
 pub mod Joining
+pub mod Marking
 pub mod Reading
 pub mod SegmentLaw
+pub mod FaultLaw
 pub mod OneReading
 pub mod CutLemmas
 pub mod CutLaws

@@ -8,7 +8,8 @@ use Rattle.std.proofs.lemmas.List.Sums.{fails_before_first}
 use Rattle.vcm_lines.specs.Bytes.{is_inner}
 use Rattle.vcm_lines.specs.declared.fault.FaultCode.TheVariants.{BadByte, BadSyntax}
 use Rattle.vcm_lines.specs.Segments.{Plain, Quoted, Open, Comment, segments_from, segments_of}
-use Rattle.vcm_lines.specs.inner.Taking.{BreaksFirst, TakesSegment}
+use Rattle.vcm_lines.specs.Leftmost.{leftmost_fault}
+use Rattle.vcm_lines.specs.inner.Taking.{TakesSegment}
 
 pub neq-eqb : (b c : ℕ) → (b ≡ c → ⊥) → eqb b c ≡ false
 neq-eqb b c ne = grind arith
@@ -69,8 +70,8 @@ unclosed_at bs e =
 pub taken_text : (bs old new : List ℕ) (n : ℕ) → position (λ b. eqb b 39) bs ≡ Some n → list_all is_inner (take n bs) ≡ true → new ≡ old ++ (39 ∷ take n bs ++ 39 ∷ []) → TakesSegment (segments_from true bs) old new (drop (n + 1) bs)
 taken_text bs old new n e inner added = record { segment = Quoted (take n bs); first = closed_at bs n e; bytes = ap not inner; closed = refl; undollared = refl; added = added }
 
-pub bad_text : (bs : List ℕ) (n : ℕ) → position (λ b. eqb b 39) bs ≡ Some n → list_all is_inner (take n bs) ≡ false → BreaksFirst (segments_from true bs) BadByte
-bad_text bs n e outer = record { segment = Quoted (take n bs); behind = _; first = closed_at bs n e; broken = ap not outer }
+pub bad_text : (bs : List ℕ) (n : ℕ) → position (λ b. eqb b 39) bs ≡ Some n → list_all is_inner (take n bs) ≡ false → leftmost_fault (segments_from true bs) ≡ Some BadByte
+bad_text bs n e outer = rw (closed_at bs n e, outer) refl
 
-pub open_text : (bs : List ℕ) → position (λ b. eqb b 39) bs ≡ None → BreaksFirst (segments_from true bs) BadSyntax
-open_text bs e = record { segment = Open bs; behind = []; first = unclosed_at bs e; broken = refl }
+pub open_text : (bs : List ℕ) → position (λ b. eqb b 39) bs ≡ None → leftmost_fault (segments_from true bs) ≡ Some BadSyntax
+open_text bs e = rw (unclosed_at bs e) refl

@@ -3,8 +3,10 @@ pub mod Bytes
 pub mod Segments
 pub mod Words
 pub mod Statements
+pub mod Leftmost
 pub mod Laws
 pub mod Dotted
 pub mod Lexemes
 pub mod Cuts
+pub mod Samples
 pub mod inner

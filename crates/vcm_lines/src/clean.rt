@@ -1,17 +1,17 @@
 //! What a line gives its statement.
 
-ghost use Rattle.std.specs.Prelude.{◌≡◌, IfOk, IfErr, OnOk, ◌≤◌, ◌<◌, ◌++◌, true, ◌==◌, length, map};
+ghost use Rattle.std.specs.Prelude.{◌≡◌, IfOk, IfErr, OnOk, ◌≤◌, ◌<◌, ◌++◌, true, ◌==◌, length, map, Some, None};
 ghost use Rattle.std.specs.List.{list_all, position, take_while};
 ghost use Rattle.vcm_lines.specs.Fault.{NoMemoryOr};
 ghost use Rattle.vcm_lines.specs.Bytes.{is_plain, is_inner, is_blank, upper};
-ghost use Rattle.vcm_lines.specs.Segments.{text_of, continues, segments_from};
+ghost use Rattle.vcm_lines.specs.Segments.{text_of, continues, segments_from, segments_of};
 ghost use Rattle.vcm_lines.specs.Words.{begins_with};
-ghost use Rattle.vcm_lines.specs.inner.Taking.{TakesSegment, BreaksFirst, is_bare, TakesBare};
-ghost use Rattle.vcm_lines.specs.Statements.{BreaksLine};
-ghost use Rattle.vcm_lines.specs.declared.fault.FaultCode.{FaultCode};
+ghost use Rattle.vcm_lines.specs.Leftmost.{leftmost_fault};
+ghost use Rattle.vcm_lines.specs.inner.Taking.{TakesSegment, is_bare, TakesBare};
 
 use crate::fault::{FaultCode, SourceFault};
 use std::alloc::AllocError;
+use vcm_num::apostrophe;
 
 /// Whether a byte may stand outside texts and comments.
 fn is_plain(b: u8) -> bool
@@ -41,11 +41,22 @@ pub fn upper(b: u8) -> u8
     b.to_ascii_uppercase()
 }
 
+// Each byte that is kept outside texts stands at its own place, and a dollar at every other place.
+static BARE: [u8; 256] = *b"\
+    $$$$$$$$$$$$$$$$$$$$$$$$$$$$$$$$\
+    $!\"#$%&$()*+,-./0123456789:;<=>?\
+    @ABCDEFGHIJKLMNOPQRSTUVWXYZ[\\]^_\
+    `abcdefghijklmnopqrstuvwxyz{|}~$\
+    $$$$$$$$$$$$$$$$$$$$$$$$$$$$$$$$\
+    $$$$$$$$$$$$$$$$$$$$$$$$$$$$$$$$\
+    $$$$$$$$$$$$$$$$$$$$$$$$$$$$$$$$\
+    $$$$$$$$$$$$$$$$$$$$$$$$$$$$$$$$";
+
 /// Whether a byte outside texts is kept, in upper case: it is neither a blank nor a dollar nor an apostrophe.
 fn is_bare(b: u8) -> bool
     ensures { result ≡ is_bare b }
 {
-    matches!(b, b'!'..=b'~') && b != b'$' && b != b'\''
+    BARE[b as usize] != b'$'
 }
 
 /// How many bytes at the front are kept, as long as nothing else comes.
@@ -69,21 +80,26 @@ fn raise(bytes: &mut [u8])
 fn all_inner(bytes: &[u8]) -> bool
     ensures { result ≡ list_all is_inner bytes.now }
 {
-    bytes.iter().all(|b| is_inner(*b))
+    // Without a way out of the loop the compiler takes many bytes at a time.
+    let mut all = true;
+    for b in bytes {
+        all &= is_inner(*b);
+    }
+    all
 }
 
 /// Where the text ends that `after` is in: its apostrophe.
 fn text_end(after: &[u8]) -> Option<usize>
     ensures { result ≡ position (λ b. b == 39) after.now }
 {
-    after.iter().position(|b| *b == b'\'')
+    apostrophe(after)
 }
 
 /// Adds the text that stands before `after`'s first apostrophe to the statement, with its apostrophes, and gives what stands behind it.
 fn take_text<'a>(kept: &mut Vec<u8>, after: &'a [u8], number: u32) -> Result<&'a [u8], SourceFault>
     ensures shorter { IfOk result (λ left. length left.now ≤ length after.now) }
     ensures taken { IfOk result (λ left. TakesSegment (segments_from true after.now) kept.old.items kept.new.items left.now) }
-    ensures fault { IfErr result (NoMemoryOr (λ f. (f.line ≡ number) × BreaksFirst (segments_from true after.now) f.code)) }
+    ensures fault { IfErr result (NoMemoryOr (λ f. (f.line ≡ number) × (leftmost_fault (segments_from true after.now) ≡ Some f.code))) }
 {
     let Some(end) = text_end(after) else {
         return Err(SourceFault {
@@ -118,10 +134,10 @@ fn take_bare<'a>(kept: &mut Vec<u8>, line: &'a [u8]) -> Result<&'a [u8], AllocEr
 
 /// Adds the bytes of a line to its statement, and says whether the line goes on. `number` is the line's. The leftmost fault of the line is told.
 pub(crate) fn read_line(kept: &mut Vec<u8>, line: &[u8], number: u32) -> Result<bool, SourceFault>
-    ensures unbroken { OnOk result ((code : FaultCode) → BreaksLine line.now code → ⊥) }
+    ensures unbroken { OnOk result (leftmost_fault (segments_of line.now) ≡ None) }
     ensures text { OnOk result (kept.new.items ≡ kept.old.items ++ text_of line.now) }
     ensures goes_on { IfOk result (λ c. c ≡ continues line.now) }
-    ensures fault { IfErr result (NoMemoryOr (λ f. (f.line ≡ number) × BreaksLine line.now f.code)) }
+    ensures fault { IfErr result (NoMemoryOr (λ f. (f.line ≡ number) × (leftmost_fault (segments_of line.now) ≡ Some f.code))) }
 {
     let bad_byte = SourceFault {
         code: FaultCode::BadByte,

@@ -1,7 +1,8 @@
 //! A statement before it is parsed: its bytes and its words.
 
-ghost use Rattle.std.specs.Prelude.{◌≡◌};
+ghost use Rattle.std.specs.Prelude.{◌≡◌, IfOk};
 
+use std::alloc::{AllocError, Global};
 use std::marker::Model;
 
 /// What a word is made of.
@@ -23,11 +24,11 @@ pub enum WordKind {
 #[derive(Clone, Copy, PartialEq, Eq)]
 pub struct Word {
     /// Where its first byte stands in the statement's text, from 0 on.
-    pub start: u32,
+    pub start: u16,
     /// Where its last byte has been passed.
-    pub end: u32,
+    pub end: u16,
     /// The line of its first byte, from 1 on.
-    pub line: u32,
+    pub line: u16,
     /// What it is made of.
     pub kind: WordKind,
 }
@@ -71,6 +72,15 @@ impl Model for Words {
 }
 
 impl Words {
+    /// A list of these words, in memory of just their size.
+    pub(crate) fn copied(alloc: Global, words: &[Word]) -> Result<Words, AllocError>
+        ensures { IfOk result (λ w. w ≡ words.now) }
+    {
+        let mut items = Vec::with_capacity(alloc, words.len())?;
+        items.extend_from_slice(words)?;
+        Ok(Words { items })
+    }
+
     /// The words as a slice.
     pub fn as_slice(&self) -> &[Word]
         ensures { result.now ≡ self.now }

@@ -53,7 +53,7 @@ impl OwnedBytes {
     pub fn copied(alloc: Global, bytes: &[u8]) -> Result<OwnedBytes, AllocError>
         ensures { IfOk result (λ t. t ≡ bytes.now) }
     {
-        let mut kept = Vec::new(alloc);
+        let mut kept = Vec::with_capacity(alloc, bytes.len())?;
         kept.extend_from_slice(bytes)?;
         Ok(OwnedBytes { bytes: kept })
     }

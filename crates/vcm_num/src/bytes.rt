@@ -16,11 +16,19 @@ pub fn is(bytes: &[u8], word: &[u8]) -> bool
 }
 
 /// Where the first line feed stands.
-#[tactic(auto, using(crate::proofs::LineFeeds::first_line_feed))]
+#[tactic(auto, using(crate::proofs::LineFeeds::first_byte))]
 pub fn line_feed(text: &[u8]) -> Option<usize>
     ensures { result ≡ position (λ b. b == 10) text.now }
 {
     memchr(b'\n', text)
+}
+
+/// Where the first apostrophe stands.
+#[tactic(auto, using(crate::proofs::LineFeeds::first_byte))]
+pub fn apostrophe(text: &[u8]) -> Option<usize>
+    ensures { result ≡ position (λ b. b == 39) text.now }
+{
+    memchr(b'\'', text)
 }
 
 /// What a word stands for in a table of words: what is beside it where it comes first.

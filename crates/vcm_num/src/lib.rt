@@ -13,7 +13,7 @@ mod writing;
 
 pub use arith::{add, div, mul, neg, scale, sub};
 pub use axis::Axis;
-pub use bytes::{is, line_feed, look_up};
+pub use bytes::{apostrophe, is, line_feed, look_up};
 pub use memory::{NoMemory, WriteFault};
 pub use number::{Fault, Kind, Literal};
 pub use point::Point;

@@ -3,7 +3,7 @@
 use std::alloc::Global;
 use vcm_lines::{FaultCode, Logical, Phrase, SourceFault, Word, WordKind, logical_lines};
 
-fn word(start: u32, end: u32, line: u32, kind: WordKind) -> Word {
+fn word(start: u16, end: u16, line: u16, kind: WordKind) -> Word {
     Word {
         start,
         end,

@@ -18,7 +18,12 @@ fn is_text_byte(byte: u8) -> bool
 pub fn are_text_bytes(bytes: &[u8]) -> bool
     ensures { result ≡ list_all is_text_byte bytes.now }
 {
-    bytes.iter().all(|byte| is_text_byte(*byte))
+    // Without a way out of the loop the compiler takes many bytes at a time.
+    let mut all = true;
+    for byte in bytes {
+        all &= is_text_byte(*byte);
+    }
+    all
 }
 
 /// Whether bytes are a text: at most 1,024, each the tab or one from 32 to 255 but the apostrophe and 127.

@@ -1,23 +1,8 @@
 -- What the code says of the first segment of what is left of a line.
-use Rattle.std.specs.Prelude.{◌≡◌, ℕ, IsTrue, Bool, false, not, ◌&&◌, ◌==◌, List, ◌∷◌, ◌++◌, map, drop, length}
+use Rattle.std.specs.Prelude.{◌≡◌, ℕ, Bool, false, not, ◌&&◌, ◌==◌, List, ◌∷◌, ◌++◌, map, drop, length}
 use Rattle.std.specs.List.{take_while}
 use Rattle.vcm_lines.specs.Bytes.{is_between, upper}
 use Rattle.vcm_lines.specs.Segments.{Segment, segments_of, kept, has_bad_byte, is_open, is_dollar}
-use Rattle.vcm_lines.specs.declared.fault.FaultCode.{FaultCode}
-use Rattle.vcm_lines.specs.declared.fault.FaultCode.TheVariants.{BadByte, BadSyntax}
-
--- a rule with this code is broken by the segment alone
-abbrev pub BreaksSegment : Segment → FaultCode → Type 0
-BreaksSegment p BadByte = IsTrue (has_bad_byte p)
-BreaksSegment p BadSyntax = IsTrue (is_open p)
-BreaksSegment p _ = ⊥
-
--- the first of the segments breaks a rule with this code
-pub record BreaksFirst (segments : List Segment) (code : FaultCode) : Type 0 where
-  pub segment : Segment
-  pub behind : List Segment
-  pub first : segments ≡ segment ∷ behind
-  pub broken : BreaksSegment segment code
 
 -- the first of the segments breaks no rule, the rest has the other segments, and what the segment leaves is added
 pub record TakesSegment (segments : List Segment) (old new rest : List ℕ) : Type 0 where

@@ -1,5 +1,6 @@
-use Rattle.std.proofs.Common.{rules}
+use Rattle.std.proofs.Common.{◌∙◌}
+use Rattle.vcm_lines.proofs.Marking.{logical_made}
 use Rattle.vcm_lines.proofs.lines.Unfinished.finish.Goals as goal
 
-pub words_of-requires-clause-short : goal.words_of-requires-clause-short
-words_of-requires-clause-short c = search rules
+pub returns-clause-made : goal.returns-clause-made
+returns-clause-made c = λ rows h. logical_made c.args.self.now rows _ _ _ c.in-Some.is c.from-line.ensures (c.in_ok-text.ensures ∙ c.deref-3.ensures.value) (rw (c.deref.ensures.value, c.deref-2.ensures.value) at c.in_ok-words.ensures) h
