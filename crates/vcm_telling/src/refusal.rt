@@ -463,6 +463,7 @@ fn put_table(
 pub fn second_line(alloc: Global, name: &str, bytes: &[u8], fault: PartFault) -> Option<String> {
     let mut text = String::new(alloc);
     let done = match fault.code {
+        PartCode::NoMemory => return None,
         PartCode::NotToml => put_not_toml(&mut text, alloc, name, bytes),
         _ => put_table(&mut text, alloc, name, bytes, fault),
     };
