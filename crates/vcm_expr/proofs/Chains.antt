@@ -1,10 +1,12 @@
 -- Steps of a chain of operands, of a relation, and of what stands in parentheses.
-use Rattle.std.proofs.Common.{◌≡◌, ℕ, zero, suc, ◌-◌, ◌<◌, ◌≤◌, Bool, true, false, List, [], ◌∷◌, length, Option, Result, Err, refl, sym, ap, ◌∙◌, inl, inr, arith}
+use Rattle.std.proofs.Common.{◌≡◌, ℕ, zero, suc, ◌-◌, ◌<◌, ◌≤◌, Bool, true, false, List, [], ◌∷◌, length, Option, Result, Ok, Err, refl, sym, ap, ◌∙◌, inl, inr, arith}
+use Rattle.std.specs.Prelude.{IfOk, IfErr}
 use Rattle.vcm_lines.specs.Fault.{NoMemoryOr}
 use Rattle.vcm_lines.specs.declared.fault.FaultCode.{FaultCode}
 use Rattle.vcm_lines.specs.declared.fault.FaultCode.TheVariants.{BadSyntax, TooDeep}
 use Rattle.vcm_lines.specs.declared.fault.SourceFault.{SourceFault}
 use Rattle.vcm_spec.specs.declared.expression.BinaryOp.{BinaryOp}
+use Rattle.vcm_expr.specs.declared.expression.Prefix.{Prefix}
 use Rattle.vcm_expr.specs.declared.symbol.Symbol.{Symbol}
 use Rattle.vcm_expr.specs.declared.symbol.Symbol.TheVariants.{Closing}
 use Rattle.vcm_expr.specs.declared.levels.Chain.{Chain}
@@ -12,10 +14,10 @@ use Rattle.vcm_expr.specs.declared.levels.Chain.TheVariants.{Disjunction, Conjun
 use Rattle.vcm_expr.specs.declared.levels.Front.{Front}
 use Rattle.vcm_expr.specs.declared.levels.Front.TheVariants.{Negation, Sign}
 use Rattle.vcm_expr.specs.declared.expression.Size.{Size}
-use Rattle.vcm_expr.specs.Source.{Source, Pair, is_small, IsSize}
+use Rattle.vcm_expr.specs.Source.{Source, Prefixed, Pair, is_small, IsSize}
 use Rattle.vcm_expr.specs.Parser.{Taken, Parser, and_parse, phrase, made, made_if, closed, found_if, fronted_by, with_fronts, more, chain_by, once, once_by, disjunction_by, expression}
-use Rattle.vcm_expr.specs.inner.Levels.{group_in, chain_in, chain_op, link_in, front_in, front_of, fronted_in, NextOf, NoNext, NotClosing, Told}
-use Rattle.vcm_expr.proofs.Fronts.{with_fronts-Err}
+use Rattle.vcm_expr.specs.inner.Levels.{group_in, chain_in, chain_op, link_in, front_in, front_of, fronted_in, signed_in, NextOf, NoNext, NotClosing, Told, Reads}
+use Rattle.vcm_expr.proofs.Fronts.{with_fronts-Err, fronted-none, fronted-next}
 
 module _ (small : Source → Bool) where
   -- ---- a chain
@@ -165,6 +167,41 @@ pub front_big : (f : Front) (room : ℕ) (ts rest r : List Symbol) (ops : _) (si
     → NoMemoryOr (λ g. (g.line ≡ line) × ((e : Source) (es : List Source) (r : List Symbol) → now ≡ e ∷ es → IsSize size e → with_fronts is_small ops (phrase e r) ≡ Err g.code)) g → NoMemoryOr (Told line (front_in f room ts)) g
 front_big f room ts rest r ops size now es t line g e h there z (inl m) = inl m
 front_big f room ts rest r ops size now es t line g e h there z (inr p) = inr (p.0, e ∙ ap (with_fronts is_small ops) h ∙ p.1 t es r there z)
+
+-- what has none before it
+pub front_alone : (f : Front) (room : ℕ) (ts : List Symbol) → NoNext (front_of f) ts → fronted_in f room ts ≡ front_in f room ts
+front_alone f room ts h = sym (front_is f room ts ∙ fronted-none is_small (fronted_in f room) (front_of f) ts h)
+
+-- what has one before it
+pub front_first : (f : Front) (room : ℕ) (ts : List Symbol) (sign : Prefix) (after : List Symbol) → NextOf (front_of f) ts sign after → signed_in sign f room after ≡ front_in f room ts
+front_first f room ts sign after h =
+    sym (front_is f room ts ∙ fronted-next is_small (fronted_in f room) (front_of f) ts sign after h ∙ ap (λ (o : Result Taken FaultCode). and_parse o (λ t r. made is_small (Prefixed sign t) r)) (sym (front_is f room after)))
+
+pub sign_reads : (sign : Prefix) (f : Front) (room : ℕ) (ts : List Symbol) (t : Source) (r : List Symbol) → front_in f room ts ≡ phrase t r → is_small (Prefixed sign t) ≡ true → signed_in sign f room ts ≡ phrase (Prefixed sign t) r
+sign_reads sign f room ts t r e w =
+    ap (λ (o : Result Taken FaultCode). and_parse o (λ t r. made is_small (Prefixed sign t) r)) e ∙ ap (λ (b : Bool). made_if b (Prefixed sign t) r) w
+
+pub sign_fails : (sign : Prefix) (f : Front) (room : ℕ) (ts : List Symbol) (c : FaultCode) → front_in f room ts ≡ Err c → signed_in sign f room ts ≡ Err c
+sign_fails sign f room ts c e = ap (λ (o : Result Taken FaultCode). and_parse o (λ t r. made is_small (Prefixed sign t) r)) e
+
+-- the exit where a sign makes what stands behind it too deep
+pub sign_big : (sign : Prefix) (f : Front) (room : ℕ) (ts : List Symbol) (t : Source) (r : List Symbol) (size : Size) (line : ℕ) (g : SourceFault) → front_in f room ts ≡ phrase t r → IsSize size t
+    → NoMemoryOr (λ g. (g ≡ record { code = TooDeep; line = line }) × ((e : Source) → IsSize size e → is_small (Prefixed sign e) ≡ false)) g → NoMemoryOr (Told line (signed_in sign f room ts)) g
+sign_big sign f room ts t r size line g e z (inl m) = inl m
+sign_big sign f room ts t r size line g e z (inr q) =
+    inr (
+      ap (λ (h : SourceFault). h.line) q.0,
+      ap (λ (o : Result Taken FaultCode). and_parse o (λ t r. made is_small (Prefixed sign t) r)) e ∙ ap (λ (b : Bool). made_if b (Prefixed sign t) r) (q.1 t z) ∙ ap (λ (h : SourceFault). Err h.code) (sym q.0),
+    )
+
+-- what one reading says, one that is equal to it says
+pub read_same : (o p : Result Taken FaultCode) → o ≡ p → (r : Result Size SourceFault) (old new : List Source) (rest : List Symbol) → IfOk r (λ s. Reads o old new s rest) → IfOk r (λ s. Reads p old new s rest)
+read_same o p e (Ok s) old new rest r = record { tree = r.tree; read = sym e ∙ r.read; there = r.there; sized = r.sized }
+read_same o p e (Err g) old new rest r = tt
+
+pub refused_same : (o p : Result Taken FaultCode) → o ≡ p → (line : ℕ) (r : Result Size SourceFault) → IfErr r (NoMemoryOr (Told line o)) → IfErr r (NoMemoryOr (Told line p))
+refused_same o p e line (Ok s) r = tt
+refused_same o p e line (Err g) r = told_same line o p g (λ c h. sym e ∙ h) r
 
 -- ---- parentheses
 

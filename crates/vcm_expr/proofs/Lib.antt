@@ -1,5 +1,6 @@
 pub mod TypedKinds
 pub mod PieceLemmas
+pub mod Heights
 pub mod TypingSteps
 pub mod TypedItems
 pub mod NumberReading

@@ -1,5 +1,5 @@
 -- Operands that are typed, one part after the other, and faults that pass on.
-use Rattle.std.proofs.Common.{◌≡◌, inl, inr, ℕ, ◌+◌, ◌<◌, ◌≤◌, List, [], ◌∷◌, length, drop, get_or, Err, sym, ap, ◌∙◌, subst, arith, length-append}
+use Rattle.std.proofs.Common.{◌≡◌, inl, inr, ℕ, suc, ◌+◌, ◌<◌, ◌≤◌, List, [], ◌∷◌, length, drop, get_or, Err, refl, sym, ap, ◌∙◌, subst, arith, length-append}
 use Rattle.std.proofs.lemmas.List.{at_drop_more, at_drop_all}
 use Rattle.vcm_lines.specs.Fault.{NoMemoryOr}
 use Rattle.vcm_lines.specs.declared.fault.FaultCode.{FaultCode}
@@ -65,6 +65,17 @@ starts_within vs (e ∷ es) b os before now h =
 
 pub start_within : (vs : List Variable) (es : List Source) (b : OpenOperand) (os left : List OpenOperand) (before now : List Item) → os ≡ b ∷ left → AreTyped vs es os before now → b.start ≤ length now
 start_within vs es b os left before now e h = starts_within vs es b left before now (subst (λ x. AreTyped vs es x before now) e h)
+
+-- as many operands wait as expressions
+operands_waiting : (vs : List Variable) (es : List Source) (os : List OpenOperand) (before now : List Item) → AreTyped vs es os before now → length es ≡ length os
+operands_waiting vs [] [] before now h = refl
+operands_waiting vs [] (o ∷ os) before now h = absurd h
+operands_waiting vs (e ∷ es) [] before now h = absurd h
+operands_waiting vs (e ∷ es) (o ∷ os) before now h = ap suc (operands_waiting vs es os before h.0 h.3)
+
+-- there is room for a leaf
+pub leaf_room : (vs : List Variable) (t : Term) (es : List Source) (os : List OpenOperand) (before now : List Item) → AreTyped vs es os before now → length (Plain t ∷ es) ≤ 32 → length os < 32
+leaf_room vs t es os before now h le = omega (arith, operands_waiting vs es os before now h, le)
 
 -- a fault passes on
 fails_piece : (vs : List Variable) (code : FaultCode) (p : Piece) (es : List Source) → Fails vs code es → Fails vs code (with_piece p es)

@@ -25,10 +25,7 @@ fn within(line: u32, depth: u32, nodes: u32) -> Result<Size, SourceFault>
     if depth > DEEPEST || nodes > MOST_NODES {
         return Err(too_deep(line));
     }
-    Ok(Size {
-        depth: depth as u8,
-        nodes: nodes as u16,
-    })
+    Ok(Size { depth, nodes })
 }
 
 /// Expressions that are there and wait for what stands between them. Contracts see it as their list, the last one first.
@@ -94,7 +91,7 @@ impl Draft {
             × ((e : Source) → IsSize a e → is_small (Prefixed prefix e) ≡ false))) }
         ensures unchanged { OnErr result (self.new ≡ self.old) }
     {
-        let size = within(line, u32::from(a.depth) + 1, u32::from(a.nodes) + 1)?;
+        let size = within(line, a.depth + 1, a.nodes + 1)?;
         self.pieces.push(Piece::Front(prefix))?;
         Ok(size)
     }
@@ -112,8 +109,8 @@ impl Draft {
             × ((e f : Source) → IsSize a e → IsSize b f → is_small (Pair op e f) ≡ false))) }
         ensures unchanged { OnErr result (self.new ≡ self.old) }
     {
-        let depth = u32::from(a.depth.max(b.depth)) + 1;
-        let nodes = u32::from(a.nodes) + u32::from(b.nodes) + 1;
+        let depth = a.depth.max(b.depth) + 1;
+        let nodes = a.nodes + b.nodes + 1;
         let size = within(line, depth, nodes)?;
         self.pieces.push(Piece::Between(op))?;
         Ok(size)

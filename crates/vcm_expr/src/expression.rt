@@ -90,8 +90,14 @@ impl Piece {
 /// How deep an expression is, and how many nodes it has.
 #[derive(Clone, Copy)]
 pub struct Size {
-    pub depth: u8,
-    pub nodes: u16,
+    pub depth: u32,
+    pub nodes: u32,
+}
+
+impl Default for Size {
+    fn default() -> Size {
+        Size { depth: 0, nodes: 0 }
+    }
 }
 
 /// The parts of an expression, as they are kept: a leaf without parentheses takes no memory.

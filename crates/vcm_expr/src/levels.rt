@@ -1,6 +1,6 @@
 //! The levels of expressions: which words stand between operands and before them.
 
-ghost use Rattle.std.specs.Prelude.{◌≡◌, ◌∷◌, IfSome, IfNone};
+ghost use Rattle.std.specs.Prelude.{◌≡◌, ◌∷◌, List, true, false, IfSome, IfNone};
 ghost use Rattle.vcm_expr.specs.Parser.{relation_op};
 ghost use Rattle.vcm_expr.specs.inner.Levels.{chain_op, front_of as finds_front, NextOf, NoNext, NotClosing};
 ghost use Rattle.vcm_expr.specs.declared.symbol.Symbol.{Symbol};
@@ -31,30 +31,41 @@ pub(crate) enum Front {
     Sign,
 }
 
-/// The words after a closing parenthesis.
+/// Whether a closing parenthesis stands first. It is passed then.
 #[inline(always)]
-pub(crate) fn after_closing<'a>(words: &Symbols<'a>) -> Option<Symbols<'a>>
-    ensures some { IfSome result (λ r. words.now ≡ Symbol.Closing ∷ r) }
-    ensures none { IfNone result (NotClosing words.now) }
+pub(crate) fn take_closing(words: &mut Symbols<'_>) -> bool
+    ensures some { result ≡ true → words.old ≡ Symbol.Closing ∷ words.new }
+    ensures none { result ≡ false → NotClosing words.old }
 {
-    match words.mark()? {
-        Symbol::Closing => Some(words.behind()),
-        _ => None,
+    let closes = is_closing(words);
+    if closes {
+        words.pass();
+    }
+    closes
+}
+
+/// Whether a closing parenthesis stands first.
+#[inline(always)]
+fn is_closing(words: &Symbols<'_>) -> bool
+    ensures some { result ≡ true → (r : List Symbol) × (words.now ≡ Symbol.Closing ∷ r) }
+    ensures none { result ≡ false → NotClosing words.now }
+{
+    match words.mark() {
+        Some(Symbol::Closing) => true,
+        _ => false,
     }
 }
 
-/// The operator of a level, and the words after it.
+/// The operator of a level that stands first, if one does. It is passed then.
 #[inline(always)]
-pub(crate) fn next_operator<'a>(
-    words: &Symbols<'a>,
-    level: Chain,
-) -> Option<(BinaryOp, Symbols<'a>)>
-    ensures some { IfSome result (λ p. NextOf (chain_op level) words.now p.0 p.1) }
-    ensures none { IfNone result (NoNext (chain_op level) words.now) }
+pub(crate) fn take_operator(words: &mut Symbols<'_>, level: Chain) -> Option<BinaryOp>
+    ensures some { IfSome result (λ op. NextOf (chain_op level) words.old op words.new) }
+    ensures none { IfNone result (NoNext (chain_op level) words.old × (words.new ≡ words.old)) }
 {
     let first = words.mark()?;
     let op = operator(&first, level)?;
-    Some((op, words.behind()))
+    words.pass();
+    Some(op)
 }
 
 /// The operator that a word is at a level.
@@ -73,29 +84,42 @@ fn operator(symbol: &Symbol, level: Chain) -> Option<BinaryOp>
     }
 }
 
-/// The relation that stands first, and the words after it.
+/// The relation that stands first, if one does. It is passed then.
 #[inline(always)]
-pub(crate) fn next_relation<'a>(words: &Symbols<'a>) -> Option<(BinaryOp, Symbols<'a>)>
-    ensures some { IfSome result (λ p. NextOf relation_op words.now p.0 p.1) }
-    ensures none { IfNone result (NoNext relation_op words.now) }
+pub(crate) fn take_relation(words: &mut Symbols<'_>) -> Option<BinaryOp>
+    ensures some { IfSome result (λ op. NextOf relation_op words.old op words.new) }
+    ensures none { IfNone result (NoNext relation_op words.old × (words.new ≡ words.old)) }
 {
     match words.mark()? {
-        Symbol::RelationWord(relation) => Some((BinaryOp::Compare(relation), words.behind())),
+        Symbol::RelationWord(relation) => {
+            words.pass();
+            Some(BinaryOp::Compare(relation))
+        }
         _ => None,
     }
 }
 
-/// The sign or negation that stands first, and the words after it.
+/// The sign or negation that stands first, if one does. It is passed then.
 #[inline(always)]
-pub(crate) fn next_front<'a>(words: &Symbols<'a>, front: Front) -> Option<(Prefix, Symbols<'a>)>
-    ensures some { IfSome result (λ p. NextOf (finds_front front) words.now p.0 p.1) }
-    ensures none { IfNone result (NoNext (finds_front front) words.now) }
+pub(crate) fn take_front(words: &mut Symbols<'_>, front: Front) -> Option<Prefix>
+    ensures some { IfSome result (λ sign. NextOf (finds_front front) words.old sign words.new) }
+    ensures none { IfNone result (NoNext (finds_front front) words.old × (words.new ≡ words.old)) }
 {
-    let prefix = match (front, words.mark()?) {
-        (Front::Negation, Symbol::NotWord) => Prefix::Not,
-        (Front::Sign, Symbol::Dash) => Prefix::Minus,
-        (Front::Sign, Symbol::Cross) => Prefix::Plus,
-        _ => return None,
-    };
-    Some((prefix, words.behind()))
+    let first = words.mark()?;
+    let sign = sign_in(&first, front)?;
+    words.pass();
+    Some(sign)
+}
+
+/// The sign or negation that a word is.
+#[inline(always)]
+fn sign_in(symbol: &Symbol, front: Front) -> Option<Prefix>
+    ensures { result ≡ finds_front front symbol.now }
+{
+    match (front, symbol) {
+        (Front::Negation, Symbol::NotWord) => Some(Prefix::Not),
+        (Front::Sign, Symbol::Dash) => Some(Prefix::Minus),
+        (Front::Sign, Symbol::Cross) => Some(Prefix::Plus),
+        _ => None,
+    }
 }

@@ -1,6 +1,6 @@
 //! Signs and negations before an operand.
 
-ghost use Rattle.std.specs.Prelude.{◌≡◌, ◌≤◌, List, ◌∷◌, Err, length, IfOk, IfErr};
+ghost use Rattle.std.specs.Prelude.{◌≡◌, ◌≤◌, List, ◌∷◌, Err, length, IfOk, OnOk, IfErr};
 ghost use Rattle.vcm_lines.specs.Fault.{NoMemoryOr, no_memory};
 ghost use Rattle.vcm_expr.specs.Source.{Source, is_small, IsSize};
 ghost use Rattle.vcm_expr.specs.Parser.{Parser, phrase, fronted_by, with_fronts};
@@ -9,33 +9,29 @@ ghost use Rattle.vcm_expr.specs.declared.symbol.Symbol.{Symbol};
 
 use crate::draft::Draft;
 use crate::expression::{Prefix, Size};
-use crate::levels::{Front, next_front};
+use crate::levels::{Front, take_front};
 use crate::symbol::Symbols;
 use std::alloc::Global;
 use vcm_lines::SourceFault;
 
-/// The signs or negations that stand first, and the words after them.
-#[inline(always)]
-pub(crate) fn take_signs<'a>(
+/// The signs or negations that stand first, which are passed.
+pub(crate) fn take_signs(
     alloc: Global,
-    words: Symbols<'a>,
+    words: &mut Symbols<'_>,
     front: Front,
-) -> Result<(Vec<Prefix>, Symbols<'a>), SourceFault>
-    ensures ok { IfOk result (λ p. (operand : Parser) → fronted_by is_small operand (finds_front front) words.entry ≡ with_fronts is_small p.0.items (operand p.1)) }
+) -> Result<Vec<Prefix>, SourceFault>
+    ensures ok { IfOk result (λ signs. (operand : Parser) → fronted_by is_small operand (finds_front front) words.old ≡ with_fronts is_small signs.items (operand words.new)) }
     ensures fault { IfErr result (λ f. f ≡ no_memory) }
-    ensures shorter { IfOk result (λ p. length p.1 ≤ length words.entry) }
+    ensures shorter { OnOk result (length words.new ≤ length words.old) }
 {
     let mut signs = Vec::new(alloc);
-    let mut rest = words;
-    'signs: while let Some((sign, after)) = next_front(&rest, front) {
+    'signs: while let Some(sign) = take_front(words, front) {
         signs.push(sign)?;
-        rest = after;
     }
-    Ok((signs, rest))
+    Ok(signs)
 }
 
 /// Puts signs or negations before the last expression, which is of this size.
-#[inline(always)]
 pub(crate) fn with_signs(
     draft: &mut Draft,
     line: u32,

@@ -159,12 +159,12 @@ impl<'a> Symbols<'a> {
         }
     }
 
-    /// The words after the first one, where there is one.
+    /// Passes the first word, where there is one.
     #[inline(always)]
-    pub(crate) fn behind(&self) -> Symbols<'a>
-        ensures { (k : Symbol) (r : List Symbol) → self.now ≡ k ∷ r → result ≡ r }
+    pub(crate) fn pass(&mut self)
+        ensures { (k : Symbol) (r : List Symbol) → self.old ≡ k ∷ r → self.new ≡ r }
     {
-        Symbols::new(self.behind.copy())
+        *self = Symbols::new(self.behind.copy());
     }
 
     /// How many parts an expression of these words has, if they spell one.
@@ -199,14 +199,17 @@ impl<'a> Symbols<'a> {
         }
     }
 
-    /// The first word, and those after it.
+    /// The first word, which is passed.
     #[inline(always)]
-    pub(crate) fn split_first(&self) -> Option<(Symbol, Symbols<'a>)>
-        ensures { MatchOption result (self.now ≡ []) (λ r. self.now ≡ r.0 ∷ r.1) }
+    pub(crate) fn take_first(&mut self) -> Option<Symbol>
+        ensures { MatchOption result (self.old ≡ []) (λ first. self.old ≡ first ∷ self.new) }
     {
         match self.first {
             None => None,
-            Some(token) => Some((symbol_of(token), Symbols::new(self.behind.copy()))),
+            Some(token) => {
+                self.pass();
+                Some(symbol_of(token))
+            }
         }
     }
 }

@@ -1,6 +1,6 @@
 //! From expressions as they are written to typed ones.
 
-ghost use Rattle.std.specs.Prelude.{◌≡◌, ◌≤◌, true, List, ◌∷◌, ◌++◌, length, Some, Ok, Err, IfOk, OnOk, IfErr};
+ghost use Rattle.std.specs.Prelude.{◌≡◌, ◌<◌, ◌≤◌, true, List, ◌∷◌, ◌++◌, length, Some, Ok, Err, IfOk, OnOk, IfErr};
 ghost use Rattle.vcm_lines.specs.Fault.{NoMemoryOr, no_memory};
 ghost use Rattle.vcm_lines.specs.declared.fault.FaultCode.{FaultCode};
 ghost use Rattle.vcm_spec.specs.declared.expression.Item.{Item};
@@ -17,9 +17,9 @@ use crate::expression::{Expr, Piece, Prefix, Term};
 use crate::leaves::{leaf, number, variable};
 use crate::names::Names;
 use crate::scaling::{is_scaled, scale_at, scale_last, scaled_kind};
-use crate::stack::Stack;
 use crate::typed::{Typed, usual_items};
 use std::alloc::Global;
+use vcm_items::BoundedStack;
 use vcm_items::operators::kind_of_binary;
 use vcm_lines::{FaultCode, SourceFault};
 use vcm_num::Kind;
@@ -41,6 +41,15 @@ pub enum Want {
 struct OpenOperand {
     kind: Kind,
     start: usize,
+}
+
+impl Default for OpenOperand {
+    fn default() -> OpenOperand {
+        OpenOperand {
+            kind: Kind::Int,
+            start: 0,
+        }
+    }
 }
 
 /// The typed expression for a place. Scalings are written out where a whole number meets a number of thousandths or stands in a length's
@@ -106,7 +115,7 @@ fn type_pieces(
     ensures fault { IfErr result (NoMemoryOr (λ f. (f.line ≡ line) × ((e : Source) → pieces.now ≡ parts e → typed_for names.now want e ≡ Err f.code))) }
 {
     let mut items = Vec::with_capacity(alloc, usual_items(pieces, want))?;
-    let kind = typed(alloc, &mut items, pieces, line, names)?;
+    let kind = typed(&mut items, pieces, line, names)?;
     demand(&mut items, kind, line, want)?;
     items.shrink_to_fit();
     Ok(Typed::new(items))
@@ -129,17 +138,16 @@ fn demand(items: &mut Vec<Item>, k: Kind, line: u32, want: Want) -> Result<(), S
 
 /// Appends the items of the expression that the parts are, and returns its kind.
 fn typed(
-    alloc: Global,
     items: &mut Vec<Item>,
     pieces: &[Piece],
     line: u32,
     names: &Names,
 ) -> Result<Kind, SourceFault>
-    requires { (e : Source) × (pieces.now ≡ parts e) }
+    requires { (e : Source) × (pieces.now ≡ parts e) × (is_small e ≡ true) }
     ensures ok { IfOk result (λ k. (e : Source) → pieces.now ≡ parts e → Spelled (typed_of names.now e) items.old.items items.new.items k) }
     ensures fault { IfErr result (NoMemoryOr (λ f. (f.line ≡ line) × ((e : Source) → pieces.now ≡ parts e → typed_of names.now e ≡ Err f.code))) }
 {
-    let mut open = Stack::new(alloc);
+    let mut open = BoundedStack::new();
     for piece in pieces {
         step(items, &mut open, piece, line, names)?;
     }
@@ -152,12 +160,12 @@ fn typed(
 /// Goes on by one part: a leaf is one more operand, a sign and an operator take theirs.
 fn step(
     items: &mut Vec<Item>,
-    open: &mut Stack<OpenOperand>,
+    open: &mut BoundedStack<OpenOperand>,
     piece: &Piece,
     line: u32,
     names: &Names,
 ) -> Result<(), SourceFault>
-    requires { (es : List Source) × (before : List Item) × AreTyped names.now es open.old before items.old.items }
+    requires { (es : List Source) × (before : List Item) × AreTyped names.now es open.old before items.old.items × (length (with_piece piece.now es) ≤ 32) }
     ensures ok { OnOk result ((es : List Source) (before : List Item) → AreTyped names.now es open.old before items.old.items
         → AreTyped names.now (with_piece piece.now es) open.new before items.new.items) }
     ensures fault { IfErr result (NoMemoryOr (λ f. (f.line ≡ line) × ((es : List Source) (before : List Item)
@@ -181,21 +189,21 @@ fn step(
             open.push(OpenOperand {
                 kind,
                 start: a.start,
-            })?;
+            });
         }
         Piece::Between(op) => {
             let Some(b) = open.pop() else {
                 return Ok(());
             };
             let Some(a) = open.pop() else {
-                open.push(b)?;
+                open.push(b);
                 return Ok(());
             };
             let kind = pair(items, b.start, *op, a.kind, b.kind, line)?;
             open.push(OpenOperand {
                 kind,
                 start: a.start,
-            })?;
+            });
         }
     }
     Ok(())
@@ -204,17 +212,18 @@ fn step(
 /// One more operand, which is of this kind.
 fn push_operand(
     items: &mut Vec<Item>,
-    open: &mut Stack<OpenOperand>,
+    open: &mut BoundedStack<OpenOperand>,
     x: Operand,
     kind: Kind,
 ) -> Result<(), SourceFault>
+    requires { length open.old < 32 }
     ensures ok { OnOk result ((vs : List Variable) (t : Term) (es : List Source) (before : List Item) → leaf_of vs t ≡ kinded (Value x) kind
         → AreTyped vs es open.old before items.old.items → AreTyped vs (Plain t ∷ es) open.new before items.new.items) }
     ensures fault { IfErr result (λ f. f ≡ no_memory) }
 {
     let start = items.len();
     items.push(Item::Push(x))?;
-    open.push(OpenOperand { kind, start })?;
+    open.push(OpenOperand { kind, start });
     Ok(())
 }
 

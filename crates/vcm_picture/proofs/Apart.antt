@@ -30,7 +30,7 @@ found_free : (wide : ℤ) (taken boxes : List Rect) → MayBeFree wide taken (fi
 found_free wide taken [] = tt
 found_free wide taken (a ∷ rest) = free_or wide taken (is_free a wide taken) a (find (λ a. is_free a wide taken) rest) refl (found_free wide taken rest)
 
-beside_free : (s : Scope) (at : Spot) (letters : ℤ) (taken : List Rect) → MayBeFree s.wide taken (beside s at letters taken)
+pub beside_free : (s : Scope) (at : Spot) (letters : ℤ) (taken : List Rect) → MayBeFree s.wide taken (beside s at letters taken)
 beside_free s at letters taken = found_free s.wide taken (sides at s.unit (pos 6 *ℤ letters *ℤ s.unit))
 
 unless_free : (wide : ℤ) (taken : List Rect) (t : Bool) (o : Option Rect) → MayBeFree wide taken o → MayBeFree wide taken (if t then None else o)
@@ -42,11 +42,11 @@ one_apart : (wide : ℤ) (taken : List Rect) (o : Option Rect) → MayBeFree wid
 one_apart wide taken None h = tt
 one_apart wide taken (Some a) h = (h, tt)
 
-taken_apart : (wide : ℤ) (some other boxes : List Rect) → some ≡ other → StandApart wide some boxes → StandApart wide other boxes
+pub taken_apart : (wide : ℤ) (some other boxes : List Rect) → some ≡ other → StandApart wide some boxes → StandApart wide other boxes
 taken_apart wide some other boxes e h = subst (λ t. StandApart wide t boxes) e h
 
 -- boxes, and then boxes beside these
-more_apart : (wide : ℤ) (taken some more : List Rect) → StandApart wide taken some → StandApart wide (taken ++ some) more → StandApart wide taken (some ++ more)
+pub more_apart : (wide : ℤ) (taken some more : List Rect) → StandApart wide taken some → StandApart wide (taken ++ some) more → StandApart wide taken (some ++ more)
 more_apart wide taken [] more h k = taken_apart wide (taken ++ []) taken more (append-nil taken) k
 more_apart wide taken (a ∷ rest) more h k =
     (h.0, more_apart wide (taken ++ a ∷ []) rest more h.1 (taken_apart wide (taken ++ a ∷ rest) ((taken ++ a ∷ []) ++ rest) more (sym (append_assoc taken (a ∷ []) rest)) k))

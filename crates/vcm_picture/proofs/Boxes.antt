@@ -1,66 +1,35 @@
 -- Boxes of texts.
-use Rattle.std.proofs.Common.{◌≡◌, ℤ, pos, ◌+ℤ◌, ◌-ℤ◌, ◌*ℤ◌, Bool, true, false, cond, List, [], ◌∷◌, length, w64, FitsSigned, arith, ap, sym, ◌∙◌, refl}
+use Rattle.std.proofs.Common.{◌≡◌, ℤ, pos, ◌+ℤ◌, ◌-ℤ◌, ◌*ℤ◌, false, cond, List, w64, FitsSigned, arith, ap, sym, ◌∙◌, refl}
 use Rattle.std.proofs.lemmas.Int.{ints}
 use Rattle.std.proofs.lemmas.Bool.{cond-false}
 use Rattle.std.specs.Int.{int_div_euclid, int_min}
 use Rattle.std.specs.List.{find}
-use Rattle.std.specs.Prelude.{Option, Some, int_lt, not, option_map, decimal}
-use Rattle.vcm_marks.specs.declared.mark.Contact.{Contact}
+use Rattle.std.specs.Prelude.{Option, int_lt}
 use Rattle.vcm_svg.specs.declared.rect.Rect.{Rect}
-use Rattle.vcm_picture.specs.declared.shown.Figure.{Figure}
 use Rattle.vcm_svg.specs.declared.rect.Spot.{Spot}
 use Rattle.vcm_picture.specs.Sights.{Scope}
 use Rattle.vcm_picture.specs.declared.names.Named.{Named}
-use Rattle.vcm_picture.specs.Names.{is_free, sides, beside, contact_box, Naming}
-use Rattle.vcm_picture.specs.View.{spot_of}
-use Rattle.vcm_picture.specs.Shown.{size_of, is_covered, corners, room}
-use Rattle.vcm_svg.specs.Ranges.{IsExtent, IsLarge, IsRect, IsSmall, IsSpot, IsUnit}
+use Rattle.vcm_picture.specs.Names.{is_free, sides, beside, Naming}
+use Rattle.vcm_picture.specs.Shown.{size_of, corners}
+use Rattle.vcm_svg.specs.Ranges.{IsExtent, IsRect, IsSpot, IsUnit}
 
 pub size_same : (r : Rect) (digits unit a b m n : ℤ) → n ≡ int_min unit m → m ≡ int_min a b
     → a ≡ int_div_euclid (r.right -ℤ r.left) (pos 6 *ℤ digits +ℤ pos 4) → b ≡ int_div_euclid (r.bottom -ℤ r.top) (pos 11)
     → n ≡ size_of r digits unit
 size_same r digits unit a b m n e f g h = rw (e, f, g, h) refl
 
-pub high_box : (a s : ℤ) → IsSmall a → IsUnit s → IsLarge (a +ℤ s)
-high_box a s h k = record { from_below = omega (arith, ints); from_above = omega (arith, ints) }
-
-pub low_box : (a s : ℤ) → IsSmall a → IsUnit s → IsLarge (a -ℤ pos 10 *ℤ s)
-low_box a s h k = record { from_below = omega (arith, ints); from_above = omega (arith, ints) }
-
-pub upper_box : (a s : ℤ) → IsSmall a → IsUnit s → IsLarge (a -ℤ pos 13 *ℤ s)
-upper_box a s h k = record { from_below = omega (arith, ints); from_above = omega (arith, ints) }
-
-pub lower_box : (a s : ℤ) → IsSmall a → IsUnit s → IsLarge (a +ℤ pos 4 *ℤ s)
-lower_box a s h k = record { from_below = omega (arith, ints); from_above = omega (arith, ints) }
-
 -- where a size isn't below 1, the other branch
 pub unless_small : {A : Type 0} (z : ℤ) (x y r : A) → int_lt z (pos 1) ≡ false → r ≡ y → r ≡ cond (int_lt z (pos 1)) x y
 unless_small z x y r h e = e ∙ sym (cond-false (int_lt z (pos 1)) x y h)
-
--- the box of a number, with its size
-abbrev pub figure_at : ℤ → Rect → Figure
-figure_at size area = record { area = area; size = size }
-
-pub figured : (before : List Rect) (f : Rect) (wide size w : ℤ) (o r : Option Rect) → o ≡ r → r ≡ room before f w size → w ≡ wide
-    → option_map (figure_at size) o ≡ option_map (figure_at size) (room before f wide size)
-figured before f wide size w o r e h k = ap (option_map (figure_at size)) (e ∙ h ∙ ap (λ w. room before f w size) k)
 
 pub found_beside : (s : Scope) (p : Spot) (letters wide : ℤ) (taken boxes : List Rect) (r : Option Rect) → r ≡ find (λ a. is_free a s.wide taken) boxes
     → boxes ≡ sides p s.unit wide → wide ≡ pos 6 *ℤ letters *ℤ s.unit → r ≡ beside s p letters taken
 found_beside s p letters wide taken boxes r e h k =
     e ∙ ap (find (λ a. is_free a s.wide taken)) (h ∙ ap (sides p s.unit) k)
 
-pub found_corner : (before : List Rect) (f : Rect) (wide size : ℤ) (boxes : List Rect) (r : Option Rect)
-    → r ≡ find (λ a. not (is_covered before a)) boxes → boxes ≡ corners f wide size → r ≡ room before f wide size
-found_corner before f wide size boxes r e h = e ∙ ap (find (λ a. not (is_covered before a))) h
-
 -- the boxes that are taken, and the names that stand
 abbrev pub naming : List Rect → List Named → Naming
 naming taken named = record { taken = taken; named = named }
-
-pub contact_same : (s : Scope) (c : Contact) (p : Spot) (letters : ℤ) (r : Option Rect) → r ≡ beside s p letters [] → p ≡ spot_of s c.at
-    → letters ≡ pos 6 +ℤ pos (length (decimal c.block)) → r ≡ contact_box s c
-contact_same s c p letters r e h k = e ∙ ap (λ p. beside s p letters []) h ∙ ap (λ n. beside s (spot_of s c.at) n []) k
 
 -- the numbers from which the boxes in the corners of a rectangle are made
 pub record CornersFit (r : Rect) (w s : ℤ) : Type 0 where

@@ -4,8 +4,7 @@ use Rattle.std.proofs.lemmas.Int.{ints, clamps}
 use Rattle.std.specs.Int.{int_max, int_min}
 use Rattle.vcm_svg.specs.declared.rect.Rect.{Rect}
 use Rattle.vcm_picture.specs.Sights.{Scope}
-use Rattle.vcm_picture.specs.Ranges.{IsScope}
-use Rattle.vcm_svg.specs.Ranges.{IsRect, IsSmall}
+use Rattle.vcm_svg.specs.Ranges.{IsExtent, IsRect, IsSmall, IsUnit}
 use Rattle.vcm_picture.specs.Way.{in_view}
 
 -- a rectangle of these
@@ -22,12 +21,10 @@ max_small a b h k = record { from_below = omega (arith, ints, clamps); from_abov
 min_small : (a b : ℤ) → IsSmall a → negsuc 1099511627775 ≤ℤ b → IsSmall (int_min a b)
 min_small a b h k = record { from_below = omega (arith, ints, clamps); from_above = omega (arith, ints, clamps) }
 
-pub clip_ranges : (s : Scope) (r : Rect) → IsScope s → IsRect r → IsRect (in_view s r)
-clip_ranges s r h i =
-    let u = h.unit.from_below in
-    record {
-      left = max_small r.left (negsuc 3 *ℤ s.unit) i.left (omega (arith, ints, u));
-      top = max_small r.top (negsuc 3 *ℤ s.unit) i.top (omega (arith, ints, u));
-      right = min_small r.right (s.wide +ℤ pos 4 *ℤ s.unit) i.right (omega (arith, ints, u, h.wide.from_below));
-      bottom = min_small r.bottom (s.high +ℤ pos 4 *ℤ s.unit) i.bottom (omega (arith, ints, u, h.high.from_below));
-    }
+pub clip_ranges : (s : Scope) (r : Rect) → IsUnit s.unit → IsExtent s.wide → IsExtent s.high → IsRect r → IsRect (in_view s r)
+clip_ranges s r u w h i = record {
+  left = max_small r.left (negsuc 3 *ℤ s.unit) i.left (omega (arith, ints, u.from_below));
+  top = max_small r.top (negsuc 3 *ℤ s.unit) i.top (omega (arith, ints, u.from_below));
+  right = min_small r.right (s.wide +ℤ pos 4 *ℤ s.unit) i.right (omega (arith, ints, u.from_below, w.from_below));
+  bottom = min_small r.bottom (s.high +ℤ pos 4 *ℤ s.unit) i.bottom (omega (arith, ints, u.from_below, h.from_below));
+}

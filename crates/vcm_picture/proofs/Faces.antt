@@ -1,7 +1,7 @@
 -- Lists of blocks in a view, and of marks.
-use Rattle.std.proofs.Common.{◌≡◌, ℕ, ℤ, ◌+◌, ◌<◌, Bool, true, List, [], ◌∷◌, ◌++◌, get_or, length, map, flat_map, take, drop, refl, arith, append_assoc, ap, sym, ◌∙◌}
+use Rattle.std.proofs.Common.{◌≡◌, ℕ, ℤ, ◌+◌, ◌<◌, Bool, true, List, [], ◌∷◌, ◌++◌, get_or, length, map, flat_map, drop, arith, append_assoc, ap, sym, ◌∙◌}
 use Rattle.std.proofs.lemmas.Bool.{and_parts}
-use Rattle.std.proofs.lemmas.List.{at_drop_more, drop_more, take_more}
+use Rattle.std.proofs.lemmas.List.{at_drop_more, drop_more}
 use Rattle.std.specs.List.{list_all}
 use Rattle.vcm_spec.specs.declared.workpiece.Block3.{Block3}
 use Rattle.vcm_marks.specs.declared.mark.Placed.{Placed}
@@ -11,19 +11,16 @@ use Rattle.vcm_picture.specs.Sights.{Scope}
 use Rattle.vcm_picture.specs.Names.{Naming, with_mark, with_all_touched}
 use Rattle.vcm_picture.specs.Shown.{face_of, faces_from, rects_before, seen_of, shown_of}
 
-map_push : {X Y : Type 0} (g : X → Y) (xs : List X) (x : X) → map g (xs ++ x ∷ []) ≡ map g xs ++ g x ∷ []
-map_push g [] x = refl
-map_push g (y ∷ ys) x = ap (λ l. g y ∷ l) (map_push g ys x)
-
 -- one more is shown
-pub seen_on : (unit : ℤ) (all rivals : List Face) (i : ℕ) (d : Face) (seen new : List Seen) (x : Seen) → i < length all
-    → x ≡ seen_of unit rivals (get_or all i d) → rects_before (get_or all i d) rivals ≡ rects_before (get_or all i d) all
-    → new ≡ seen ++ x ∷ [] → seen ≡ map (seen_of unit all) (take i all) → new ≡ map (seen_of unit all) (take (i + 1) all)
-seen_on unit all rivals i d seen new x h e r p w =
+pub seen_on : (unit : ℤ) (all rivals : List Face) (i : ℕ) (d : Face) (o n whole : List Seen) → i < length all
+    → rects_before (get_or all i d) rivals ≡ rects_before (get_or all i d) all → n ≡ o ++ seen_of unit rivals (get_or all i d) ∷ []
+    → o ++ map (seen_of unit all) (drop i all) ≡ whole → n ++ map (seen_of unit all) (drop (i + 1) all) ≡ whole
+seen_on unit all rivals i d o n whole h r p w =
     let f = get_or all i d in
-    let same : x ≡ seen_of unit all f = e ∙ ap (λ b. record { face = f; shown = shown_of b f unit }) r in
-    p ∙ ap (λ s. s ++ x ∷ []) w ∙ ap (λ y. map (seen_of unit all) (take i all) ++ y ∷ []) same ∙ sym (map_push (seen_of unit all) (take i all) f)
-    ∙ ap (map (seen_of unit all)) (sym (take_more all i d h))
+    let rest = map (seen_of unit all) (drop (i + 1) all) in
+    let same : seen_of unit rivals f ≡ seen_of unit all f = ap (λ b. record { face = f; shown = shown_of b f unit }) r in
+    rw p (append_assoc o (seen_of unit rivals f ∷ []) rest ∙ ap (λ y. o ++ (y ∷ rest)) same
+    ∙ ap (λ l. o ++ l) (sym (at_drop_more (map (seen_of unit all)) all i d h)) ∙ w)
 
 -- of the blocks in a view one more is listed
 pub faces_on : (s : Scope) (bs : List Block3) (i n : ℕ) (d : Block3) (fs new whole : List Face) (f : Face) → i < length bs → n ≡ i

@@ -13,8 +13,8 @@ use Rattle.vcm_picture.specs.Outcome.{IsPicture}
 use Rattle.vcm_picture.specs.Sights.{Window}
 use Rattle.vcm_picture.specs.Heading.{first_line}
 use Rattle.vcm_picture.specs.Picture.{above, layout_of, layout_with, picture_of, picture_text, sheet, window_round}
-use Rattle.vcm_picture.specs.inner.Layouts.{IsLayout, IsSlim}
-use Rattle.vcm_picture.specs.Ranges.{IsLine}
+use Rattle.vcm_picture.specs.inner.Layouts.{IsLine, IsSlim}
+use Rattle.vcm_picture.specs.Ranges.{IsLayout}
 use Rattle.vcm_svg.specs.Ranges.{IsSize}
 
 -- how high the heading is

@@ -1,8 +1,8 @@
 -- Signed numbers as the code reads them.
-use Rattle.std.proofs.Common.{◌≡◌, ℤ, pos, negsuc, ◌+ℤ◌, ◌-ℤ◌, ◌≤ℤ◌, w64, to_z, of_z, arith, ap, ◌∙◌}
+use Rattle.std.proofs.Common.{◌≡◌, ℤ, pos, negsuc, ◌-ℤ◌, ◌≤ℤ◌, w64, to_z, of_z, arith, ap, ◌∙◌}
 use Rattle.std.proofs.lemmas.Int.{ints, to_z-of_z}
 use Rattle.vcm_num.specs.Point.{IsNear}
-use Rattle.vcm_picture.specs.Ranges.{IsBorder, IsEdge}
+use Rattle.vcm_picture.specs.Ranges.{IsBorder}
 use Rattle.vcm_svg.specs.Ranges.{IsSize, IsSmall}
 use Rattle.vcm_svg.specs.Rect.{spot}
 
@@ -32,12 +32,6 @@ difference_small a b h k = record { from_below = omega (arith, ints); from_above
 -- places of equal numbers
 pub spot_same : (a b p q : ℤ) → a ≡ p → b ≡ q → spot a b ≡ spot p q
 spot_same a b p q e f = ap (λ a. spot a b) e ∙ ap (λ b. spot p b) f
-
-pub edge_border : (z : ℤ) → IsEdge z → IsBorder z
-edge_border z h = record { from_below = omega (arith, ints); from_above = omega (arith, ints) }
-
-pub sum_border : (a b : ℤ) → IsEdge a → IsSize b → IsBorder (a +ℤ b)
-sum_border a b h k = record { from_below = omega (arith, ints); from_above = omega (arith, ints) }
 
 -- a quotient is an extent where what is divided is
 pub quotient_size : (v r : ℤ) → IsSize v → (pos 0 ≤ℤ v → pos 0 ≤ℤ r) → (pos 0 ≤ℤ v → r ≤ℤ v) → IsSize r

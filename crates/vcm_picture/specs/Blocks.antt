@@ -1,19 +1,16 @@
 -- The blocks of a view, and their numbers.
-use Rattle.std.specs.Prelude.{pos, ◌-◌, ◌+ℤ◌, ◌*ℤ◌, List, ◌++◌, Option, Some, None, slice_get, option_map, option_to_list, flat_map}
+use Rattle.std.specs.Prelude.{◌-◌, List, ◌++◌, Option, Some, None, slice_get, option_map, option_to_list, flat_map}
 use Rattle.vcm_marks.specs.declared.mark.Contact.{Contact}
 use Rattle.vcm_svg.specs.declared.shapes.Class.{Class}
 use Rattle.vcm_svg.specs.declared.shapes.Class.TheVariants as class
-use Rattle.vcm_svg.specs.declared.shapes.Label.{Label}
 use Rattle.vcm_svg.specs.declared.shapes.Lettering.TheVariants as lettering
 use Rattle.vcm_svg.specs.Outlines.{rect_outline}
-use Rattle.vcm_svg.specs.Rect.{spot}
 use Rattle.vcm_svg.specs.Shapes.{label}
 use Rattle.vcm_picture.specs.declared.shapes.Shape.{Shape}
 use Rattle.vcm_picture.specs.declared.shapes.Shape.TheVariants.{Path, Told, Text}
 use Rattle.vcm_picture.specs.declared.shapes.Tip.TheVariants as tip
 use Rattle.vcm_picture.specs.declared.shapes.Words.TheVariants as words
 use Rattle.vcm_picture.specs.declared.shown.Face.{Face}
-use Rattle.vcm_picture.specs.declared.shown.Figure.{Figure}
 use Rattle.vcm_picture.specs.declared.shown.Seen.{Seen}
 use Rattle.vcm_picture.specs.declared.shown.Shown.{Shown}
 use Rattle.vcm_picture.specs.declared.shown.Shown.TheVariants.{Repeated, Hidden, Open}
@@ -39,16 +36,12 @@ abbrev pub hit_shape : List Face → Option Contact → Option Shape
 hit_shape fs None = None
 hit_shape fs (Some c) = option_map (λ f. Path class.Hit (rect_outline f.rect)) (slice_get fs (c.block - 1))
 
--- where a number stands
-abbrev pub figure_label : Figure → Label
-figure_label g = label lettering.Number g.size (spot g.area.left (g.area.top +ℤ pos 8 *ℤ g.size))
-
 -- the number of a block, if it has a box
 abbrev pub number_shape : Face → Shown → Option Shape
 number_shape f Repeated = None
 number_shape f Hidden = None
 number_shape f (Open None) = None
-number_shape f (Open (Some g)) = Some (Text (figure_label g) (words.Number f.number))
+number_shape f (Open (Some g)) = Some (Text g.label (words.Number f.number))
 
 -- the open blocks
 abbrev pub open_shapes : List Seen → List Shape

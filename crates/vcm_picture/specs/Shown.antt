@@ -12,7 +12,9 @@ use Rattle.vcm_picture.specs.declared.shown.Seen.{Seen}
 use Rattle.vcm_picture.specs.declared.shown.Shown.{Shown}
 use Rattle.vcm_picture.specs.declared.shown.Shown.TheVariants.{Repeated, Hidden, Open}
 use Rattle.vcm_picture.specs.Sights.{Scope}
-use Rattle.vcm_svg.specs.Rect.{meets, contains, is_same, boxed}
+use Rattle.vcm_svg.specs.Rect.{meets, contains, is_same, boxed, spot}
+use Rattle.vcm_svg.specs.Shapes.{label}
+use Rattle.vcm_svg.specs.declared.shapes.Lettering.TheVariants as lettering
 use Rattle.vcm_picture.specs.View.{rect_of, nearness}
 
 -- a block in a view
@@ -68,11 +70,15 @@ corners r wide f =
 abbrev pub room : List Rect → Rect → ℤ → ℤ → Option Rect
 room before r wide size = find (λ a. not (is_covered before a)) (corners r wide size)
 
+-- where a number stands whose letters have that size, in a box
+abbrev pub figure_at : ℤ → Rect → Figure
+figure_at size a = record { area = a; label = label lettering.Number size (spot a.left (a.top +ℤ pos 8 *ℤ size)) }
+
 -- where the number of a block stands with letters of that size, if there is room
 abbrev pub figure_with : List Rect → Rect → ℤ → ℤ → Option Figure
 figure_with before r digits size =
     if int_lt size (pos 1) then None
-    else option_map (λ a. record { area = a; size = size }) (room before r (pos 6 *ℤ digits *ℤ size) size)
+    else option_map (figure_at size) (room before r (pos 6 *ℤ digits *ℤ size) size)
 
 -- how many digits a number has
 abbrev pub digits_of : ℕ → ℤ

@@ -1,13 +1,13 @@
 //! The blocks of a view, and their numbers.
 
 ghost use Rattle.std.specs.Prelude.{◌≡◌, ◌++◌, OnOk};
-ghost use Rattle.vcm_picture.specs.Blocks.{block_shape, open_shape, hidden_shape, hit_shape, figure_label, number_shape, open_shapes, hidden_shapes, number_shapes, blocks_shapes};
+ghost use Rattle.vcm_picture.specs.Blocks.{block_shape, open_shape, hidden_shape, hit_shape, number_shape, open_shapes, hidden_shapes, number_shapes, blocks_shapes};
 
 use crate::shapes::{Shape, Tip, Words, push_shape};
-use crate::shown::{Face, Figure, Seen, Shown};
+use crate::shown::{Face, Seen, Shown};
 use vcm_marks::Contact;
 use vcm_num::NoMemory;
-use vcm_svg::{Class, Label, Lettering, rect_outline};
+use vcm_svg::{Class, rect_outline};
 
 // A block with its tooltip.
 fn block_shape(class: Class, face: &Face) -> Shape
@@ -51,24 +51,13 @@ fn hit_shape(faces: &[Face], contact: Option<Contact>) -> Option<Shape>
     Some(Shape::Path(Class::Hit, rect_outline(face.rect)))
 }
 
-// Where the number of a block stands.
-fn figure_label(figure: &Figure) -> Label
-    ensures { result ≡ figure_label figure.now }
-{
-    Label {
-        at: figure.area.first_letter(figure.size.times(8)),
-        size: figure.size.get(),
-        class: Lettering::Number,
-    }
-}
-
 // The number of a block, if it has a box.
 fn number_shape(seen: &Seen) -> Option<Shape>
     ensures { result ≡ number_shape seen.now.face seen.now.shown }
 {
     match seen.shown {
         Shown::Open(Some(figure)) => Some(Shape::Text(
-            figure_label(&figure),
+            figure.label,
             Words::Number(seen.face.number),
         )),
         Shown::Open(None) => None,

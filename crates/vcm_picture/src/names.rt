@@ -112,8 +112,8 @@ pub fn label_beside(scope: Scope, at: Place, letters: i64, taken: &[Rect]) -> Op
 }
 
 // Takes a box, if there is one.
-fn take_box(taken: &mut Vec<Rect>, area: Option<TextBox>) -> Result<(), NoMemory>
-    ensures { OnOk result (taken.new.items ≡ taken.old.items ++ option_to_list area) }
+fn take_box(taken: &mut Vec<Rect>, area: &Option<TextBox>) -> Result<(), NoMemory>
+    ensures { OnOk result (taken.new.items ≡ taken.old.items ++ option_to_list area.now) }
 {
     if let Some(area) = area {
         taken.push(area.rect())?;
@@ -178,11 +178,11 @@ pub(crate) fn first_names(
     ensures taken { IfOk result (λ names. taken.new.items ≡ with_first taken.old.items names) }
 {
     let contact = some_contact_box(scope, contact);
-    take_box(taken, contact)?;
+    take_box(taken, &contact)?;
     let end = end_box(scope, position, home, taken.as_slice());
-    take_box(taken, end)?;
+    take_box(taken, &end)?;
     let home = beside(scope, spot_of(scope, home), 4, taken.as_slice());
-    take_box(taken, home)?;
+    take_box(taken, &home)?;
     Ok(FirstNames { contact, end, home })
 }
 
@@ -191,7 +191,10 @@ fn take_figure(taken: &mut Vec<Rect>, shown: Shown) -> Result<(), NoMemory>
     ensures { OnOk result (taken.new.items ≡ taken.old.items ++ figure_boxes shown) }
 {
     match shown {
-        Shown::Open(Some(figure)) => take_box(taken, Some(figure.area)),
+        Shown::Open(Some(figure)) => {
+            taken.push(figure.area)?;
+            Ok(())
+        }
         Shown::Open(None) => Ok(()),
         Shown::Hidden => Ok(()),
         Shown::Repeated => Ok(()),

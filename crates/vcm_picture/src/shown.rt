@@ -3,7 +3,7 @@
 ghost use Rattle.std.specs.Prelude.{◌≡◌, ◌≤◌, ◌≤ℤ◌, ◌*ℤ◌, length, pos, not, option_map, IfOk, IsTrue};
 ghost use Rattle.std.specs.List.{list_all, find};
 ghost use Rattle.vcm_spec.specs.Workpiece.{is_block};
-ghost use Rattle.vcm_picture.specs.Shown.{face_of, faces_from, is_repeated, is_hidden, is_covered, size_of, corners, room, figure_with, digits_of, figure_of, shown_of};
+ghost use Rattle.vcm_picture.specs.Shown.{face_of, faces_from, is_repeated, is_hidden, is_covered, size_of, corners, room, figure_at, figure_with, digits_of, figure_of, shown_of};
 ghost use Rattle.vcm_picture.specs.Ranges.{IsLetters};
 
 use crate::view::{Scope, nearness, rect_of};
@@ -11,7 +11,9 @@ use crate::whole::{letters_wide, text_box};
 use std::alloc::Global;
 use vcm_num::{NoMemory, int_text};
 use vcm_spec::Block3;
-use vcm_svg::{Area, Length, Rect, TextBox, Unit, contains, is_same, meets, quotient};
+use vcm_svg::{
+    Area, Label, Length, Lettering, Rect, TextBox, Unit, contains, is_same, meets, quotient,
+};
 
 /// A block in a view: its number, its corners, its rectangle, and how near it is.
 #[derive(Clone, Copy)]
@@ -22,11 +24,11 @@ pub struct Face {
     pub near: i64,
 }
 
-/// Where the number of a block stands, and the size of its letters.
+/// Where the number of a block stands: its box, and where in it its letters begin.
 #[derive(Clone, Copy)]
 pub struct Figure {
-    pub area: TextBox,
-    pub size: Unit,
+    pub area: Rect,
+    pub label: Label,
 }
 
 /// How a view shows a block.
@@ -153,13 +155,27 @@ fn room(before: &[Rect], rect: Area, wide: Length, size: Unit) -> Option<TextBox
     first_open(before, &boxes)
 }
 
+// Where a number stands whose letters have that size, in a box.
+fn figure_at(area: TextBox, size: Unit) -> Figure
+    ensures { result ≡ figure_at size area }
+{
+    Figure {
+        area: area.rect(),
+        label: Label {
+            at: area.first_letter(size.times(8)),
+            size: size.get(),
+            class: Lettering::Number,
+        },
+    }
+}
+
 // Where a number stands in a rectangle with letters of that size, if there is room.
 fn figure_in(before: &[Rect], rect: Area, digits: i64, size: Unit) -> Option<Figure>
     requires digits { IsLetters digits }
-    ensures { result ≡ option_map (λ a. record { area = a; size = size }) (room before.now rect (pos 6 *ℤ digits *ℤ size) size) }
+    ensures { result ≡ option_map (figure_at size) (room before.now rect (pos 6 *ℤ digits *ℤ size) size) }
 {
     match room(before, rect, letters_wide(digits, size), size) {
-        Some(area) => Some(Figure { area, size }),
+        Some(area) => Some(figure_at(area, size)),
         None => None,
     }
 }

@@ -1,9 +1,9 @@
 //! Which blocks of a view stand before which. A view is cut into strips, so that a block is compared only with those that reach into its strip, and
 //! not with each other one.
 
-ghost use Rattle.std.specs.Prelude.{◌≡◌, ◌++◌, pos, ◌≤ℤ◌, filter, OnOk, IfOk};
+ghost use Rattle.std.specs.Prelude.{◌≡◌, ◌++◌, ◌∷◌, [], pos, ◌≤ℤ◌, filter, OnOk, IfOk};
 ghost use Rattle.std.specs.List.{AllByRecursion};
-ghost use Rattle.vcm_picture.specs.Shown.{is_nearer, stands_before, rect_before, rects_before, seen_of, all_seen};
+ghost use Rattle.vcm_picture.specs.Shown.{is_nearer, stands_before, rect_before, rects_before, shown_of, seen_of, all_seen};
 ghost use Rattle.vcm_picture.specs.inner.Strips.{reaches, IsStrip};
 
 use crate::shown::{Face, Seen, shown_of};
@@ -164,33 +164,49 @@ fn rivals_in<'a>(strips: &'a [Strip], wide: i64, face: &Face, all: &'a [Face]) -
     }
 }
 
-// A block and how it is shown behind those of its rivals that stand before it.
-fn seen_among(alloc: Global, face: &Face, rivals: &[Face], unit: Unit) -> Result<Seen, NoMemory>
-    ensures { IfOk result (λ seen. seen ≡ seen_of unit rivals.now face.now) }
+// A block and how it is shown behind these rectangles.
+fn seen_behind(before: &[Rect], face: &Face, unit: Unit) -> Seen
+    ensures { result ≡ record { face = face.now; shown = shown_of before.now face.now unit } }
 {
-    let before = rects_before(alloc, face, rivals)?;
-    let shown = shown_of(before.as_slice(), face, unit);
-    Ok(Seen { face: *face, shown })
+    Seen {
+        face: *face,
+        shown: shown_of(before, face, unit),
+    }
 }
 
-// How each block is shown, with these strips.
-fn seen_in(
+// Appends how a block is shown behind those of its rivals that stand before it.
+fn push_among(
     alloc: Global,
+    seen: &mut Vec<Seen>,
+    face: &Face,
+    rivals: &[Face],
+    unit: Unit,
+) -> Result<(), NoMemory>
+    ensures { OnOk result (seen.new.items ≡ seen.old.items ++ seen_of unit rivals.now face.now ∷ []) }
+{
+    let before = rects_before(alloc, face, rivals)?;
+    seen.push(seen_behind(before.as_slice(), face, unit))?;
+    Ok(())
+}
+
+// Appends how each block is shown, with these strips.
+fn push_seen(
+    alloc: Global,
+    seen: &mut Vec<Seen>,
     strips: &[Strip],
     wide: i64,
     all: &[Face],
     unit: Unit,
-) -> Result<Vec<Seen>, NoMemory>
+) -> Result<(), NoMemory>
     requires wide { pos 1 ≤ℤ wide }
     requires strips { AllByRecursion (IsStrip all.now) strips.now }
-    ensures { IfOk result (λ seen. seen.items ≡ all_seen unit all.now) }
+    ensures { OnOk result (seen.new.items ≡ seen.old.items ++ all_seen unit all.now) }
 {
-    let mut seen = Vec::new(alloc);
     for face in all {
         let rivals = rivals_in(strips, wide, face, all);
-        seen.push(seen_among(alloc, face, rivals, unit)?)?;
+        push_among(alloc, seen, face, rivals, unit)?;
     }
-    Ok(seen)
+    Ok(())
 }
 
 /// How each block of a view of that width is shown.
@@ -204,5 +220,7 @@ pub(crate) fn all_seen(
 {
     let wide = quotient(wide.get(), STRIPS as i64).max(1);
     let strips = strips_of(alloc, wide, all)?;
-    seen_in(alloc, strips.as_slice(), wide, all, unit)
+    let mut seen = Vec::new(alloc);
+    push_seen(alloc, &mut seen, strips.as_slice(), wide, all, unit)?;
+    Ok(seen)
 }

@@ -1,42 +1,17 @@
 -- Numbers of a view stand apart, at their places.
-use Rattle.std.proofs.Common.{◌≡◌, ◌∙◌, sym, ap, subst, refl, ℤ, pos, ◌*ℤ◌, Bool, true, false, cond, List, [], ◌∷◌, ◌++◌, map, find, append_assoc, append-nil, IfSome, Some, None}
+use Rattle.std.proofs.Common.{◌≡◌, ◌∙◌, sym, ap, subst, refl, List, [], ◌∷◌, ◌++◌, map, append_assoc, append-nil, Some, None}
 use Rattle.std.specs.Prelude.{Option}
 use Rattle.std.specs.List.{AllByRecursion}
 use Rattle.vcm_svg.specs.declared.rect.Rect.{Rect}
-use Rattle.vcm_svg.specs.declared.rect.Spot.{Spot}
 use Rattle.vcm_picture.specs.Sights.{Scope}
 use Rattle.vcm_picture.specs.Laws.{StandApart}
-use Rattle.vcm_picture.specs.Names.{is_free, sides, beside}
+use Rattle.vcm_picture.proofs.Apart.{MayBeFree, beside_free, taken_apart, more_apart}
+use Rattle.vcm_picture.specs.Names.{beside}
 use Rattle.vcm_picture.specs.View.{spot_of}
 use Rattle.vcm_sheet.specs.declared.numbers.Numbered.{Numbered}
 use Rattle.vcm_sheet.specs.declared.points.Pointed.{Pointed}
 use Rattle.vcm_sheet.specs.Laws.{NumbersAreApart, NumbersStandThere}
 use Rattle.vcm_sheet.specs.Numbers.{letters_of, Numbering, with_box, with_number, with_numbers}
-
--- what is known of a box that there may be
-abbrev pub MayBeFree : ℤ → List Rect → Option Rect → Type 0
-MayBeFree wide taken o = IfSome o (λ a. is_free a wide taken ≡ true)
-
-free_or : (wide : ℤ) (taken : List Rect) (t : Bool) (a : Rect) (o : Option Rect) → is_free a wide taken ≡ t → MayBeFree wide taken o
-    → MayBeFree wide taken (cond t (Some a) o)
-free_or wide taken true a o e h = e
-free_or wide taken false a o e h = h
-
-found_free : (wide : ℤ) (taken boxes : List Rect) → MayBeFree wide taken (find (λ a. is_free a wide taken) boxes)
-found_free wide taken [] = tt
-found_free wide taken (a ∷ rest) = free_or wide taken (is_free a wide taken) a (find (λ a. is_free a wide taken) rest) refl (found_free wide taken rest)
-
-beside_free : (s : Scope) (at : Spot) (letters : ℤ) (taken : List Rect) → MayBeFree s.wide taken (beside s at letters taken)
-beside_free s at letters taken = found_free s.wide taken (sides at s.unit (pos 6 *ℤ letters *ℤ s.unit))
-
-taken_apart : (wide : ℤ) (some other boxes : List Rect) → some ≡ other → StandApart wide some boxes → StandApart wide other boxes
-taken_apart wide some other boxes e h = subst (λ t. StandApart wide t boxes) e h
-
--- boxes, and then boxes beside these
-more_apart : (wide : ℤ) (taken some more : List Rect) → StandApart wide taken some → StandApart wide (taken ++ some) more → StandApart wide taken (some ++ more)
-more_apart wide taken [] more h k = taken_apart wide (taken ++ []) taken more (append-nil taken) k
-more_apart wide taken (a ∷ rest) more h k =
-    (h.0, more_apart wide (taken ++ a ∷ []) rest more h.1 (taken_apart wide (taken ++ a ∷ rest) ((taken ++ a ∷ []) ++ rest) more (sym (append_assoc taken (a ∷ []) rest)) k))
 
 -- the boxes of numbers
 abbrev pub areas : List Numbered → List Rect

@@ -1,6 +1,6 @@
 //! The ticks at the frames of views, and the lines through the origin.
 
-ghost use Rattle.std.specs.Prelude.{◌≡◌, ◌<◌, IfOk};
+ghost use Rattle.std.specs.Prelude.{◌≡◌, ◌<◌};
 ghost use Rattle.vcm_num.specs.Point.{point, coordinate};
 ghost use Rattle.vcm_picture.specs.View.{spot_of};
 
@@ -8,7 +8,7 @@ use crate::places::{moved, units};
 use crate::ticks::{Ruler, tick_step, ticks_of};
 use std::alloc::Global;
 use vcm_num::{NoMemory, Point};
-use vcm_picture::{Scope, View, Window, right_axis, spot_of, up_axis};
+use vcm_picture::{Scope, Window, right_axis, spot_of, up_axis};
 use vcm_svg::{Piece, Spot, Unit, put};
 
 /// The ticks of the three axes, in micrometres.
@@ -41,8 +41,7 @@ fn axis_ticks(alloc: Global, window: Window, axis: usize) -> Result<Vec<i64>, No
 }
 
 /// The ticks of a window, 60 units apart at least.
-pub(crate) fn ticks_in(alloc: Global, window: Window) -> Result<AxisTicks, NoMemory>
-{
+pub(crate) fn ticks_in(alloc: Global, window: Window) -> Result<AxisTicks, NoMemory> {
     let x = axis_ticks(alloc, window, 0)?;
     let y = axis_ticks(alloc, window, 1)?;
     let z = axis_ticks(alloc, window, 2)?;
@@ -121,8 +120,12 @@ pub(crate) fn put_words<'a>(
 }
 
 // Appends the ticks below a view.
-fn put_across(out: &mut Vec<u8>, scope: Scope, corner: Spot, ticks: &[i64]) -> Result<(), NoMemory>
-{
+fn put_across(
+    out: &mut Vec<u8>,
+    scope: Scope,
+    corner: Spot,
+    ticks: &[i64],
+) -> Result<(), NoMemory> {
     let unit = scope.unit();
     for tick in ticks {
         let foot = moved(corner, across(scope, *tick), scope.high().get());
@@ -134,8 +137,7 @@ fn put_across(out: &mut Vec<u8>, scope: Scope, corner: Spot, ticks: &[i64]) -> R
 }
 
 // Appends the ticks to the left of a view.
-fn put_up(out: &mut Vec<u8>, scope: Scope, corner: Spot, ticks: &[i64]) -> Result<(), NoMemory>
-{
+fn put_up(out: &mut Vec<u8>, scope: Scope, corner: Spot, ticks: &[i64]) -> Result<(), NoMemory> {
     let unit = scope.unit();
     for tick in ticks {
         let foot = moved(corner, 0, down(scope, *tick));
@@ -152,8 +154,7 @@ pub(crate) fn put_ticks(
     scope: Scope,
     corner: Spot,
     ticks: &AxisTicks,
-) -> Result<(), NoMemory>
-{
+) -> Result<(), NoMemory> {
     put_across(out, scope, corner, ticks.of(right_axis(scope.view())))?;
     put_up(out, scope, corner, ticks.of(up_axis(scope.view())))
 }
@@ -169,15 +170,30 @@ pub(crate) fn has_origin(ticks: &AxisTicks) -> bool {
 }
 
 /// Appends the lines through the origin that lie in a view.
-pub(crate) fn put_axes(out: &mut Vec<u8>, scope: Scope, ticks: &AxisTicks) -> Result<(), NoMemory>
-{
+pub(crate) fn put_axes(out: &mut Vec<u8>, scope: Scope, ticks: &AxisTicks) -> Result<(), NoMemory> {
     if has_zero(ticks.of(right_axis(scope.view()))) {
         let x = across(scope, 0);
-        put_line(out, b"z", Spot { x, y: 0 }, Spot { x, y: scope.high().get() })?;
+        put_line(
+            out,
+            b"z",
+            Spot { x, y: 0 },
+            Spot {
+                x,
+                y: scope.high().get(),
+            },
+        )?;
     }
     if has_zero(ticks.of(up_axis(scope.view()))) {
         let y = down(scope, 0);
-        put_line(out, b"z", Spot { x: 0, y }, Spot { x: scope.wide().get(), y })?;
+        put_line(
+            out,
+            b"z",
+            Spot { x: 0, y },
+            Spot {
+                x: scope.wide().get(),
+                y,
+            },
+        )?;
     }
     Ok(())
 }

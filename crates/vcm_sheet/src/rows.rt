@@ -1,6 +1,5 @@
 //! The tables of a sheet: the legend, the touched points and the blocks with names.
 
-
 use crate::legend::Used;
 use crate::places::{corner, moved, units};
 use crate::points::Pointed;
@@ -63,8 +62,7 @@ fn put_sign(
     class: Class,
     sign: Sign,
     words: &[u8],
-) -> Result<Spot, NoMemory>
-{
+) -> Result<Spot, NoMemory> {
     if !is_drawn {
         return Ok(at);
     }
@@ -73,8 +71,7 @@ fn put_sign(
 }
 
 // Appends the rows of pieces of the way that are drawn.
-fn put_ways(out: &mut Vec<u8>, at: Spot, unit: Unit, used: Used) -> Result<Spot, NoMemory>
-{
+fn put_ways(out: &mut Vec<u8>, at: Spot, unit: Unit, used: Used) -> Result<Spot, NoMemory> {
     let line = Sign::Line;
     let at = put_sign(out, at, unit, used.moves, Class::Move, line, b"move")?;
     let at = put_sign(
@@ -100,8 +97,7 @@ fn put_ways(out: &mut Vec<u8>, at: Spot, unit: Unit, used: Used) -> Result<Spot,
 }
 
 // Appends the rows of the other marks that are drawn.
-fn put_marks(out: &mut Vec<u8>, at: Spot, unit: Unit, used: Used) -> Result<Spot, NoMemory>
-{
+fn put_marks(out: &mut Vec<u8>, at: Spot, unit: Unit, used: Used) -> Result<Spot, NoMemory> {
     let at = put_sign(
         out,
         at,
@@ -178,8 +174,7 @@ pub(crate) fn put_signs(
     unit: Unit,
     used: Used,
     has_origin: bool,
-) -> Result<Spot, NoMemory>
-{
+) -> Result<Spot, NoMemory> {
     let at = put_ways(out, at, unit, used)?;
     let at = put_marks(out, at, unit, used)?;
     put_origin(out, at, unit, has_origin)

@@ -1,6 +1,5 @@
 //! The whole sheet.
 
-
 use crate::frames::{AxisTicks, has_origin, put_axes, put_ticks, put_words, ticks_in};
 use crate::heading::{Told, put_heading};
 use crate::legend::{NONE, Used, used_in};
@@ -22,8 +21,8 @@ use vcm_picture::{
 };
 use vcm_state::World;
 use vcm_svg::{
-    Class, Label, Lettering, Outline, Piece, Place, Spot, Unit, put, put_bar, put_path, put_style, put_text,
-    quotient,
+    Class, Label, Lettering, Outline, Piece, Place, Spot, Unit, put, put_bar, put_path, put_style,
+    put_text, quotient,
 };
 
 /// What a sheet shows: a workpiece, with the names of its blocks; the state at the end of a run of so many steps; the marks of its way, before which so
@@ -72,8 +71,7 @@ fn drawn(
     sheet: &Sheet<'_>,
     marks: &[Placed],
     points: &[Pointed],
-) -> Result<Drawing, NoMemory>
-{
+) -> Result<Drawing, NoMemory> {
     let scope = scope_of(window, view);
     drawing_of(alloc, scope, sheet.part, sheet.world, marks, points)
 }
@@ -85,8 +83,7 @@ fn drawings_of(
     sheet: &Sheet<'_>,
     marks: &[Placed],
     points: &[Pointed],
-) -> Result<Drawings, NoMemory>
-{
+) -> Result<Drawings, NoMemory> {
     let top = drawn(alloc, window, View::Top, sheet, marks, points)?;
     let front = drawn(alloc, window, View::Front, sheet, marks, points)?;
     let side = drawn(alloc, window, View::Side, sheet, marks, points)?;
@@ -94,8 +91,7 @@ fn drawings_of(
 }
 
 // Which marks stand in the three views.
-fn used_of(window: Window, drawings: &Drawings) -> Used
-{
+fn used_of(window: Window, drawings: &Drawings) -> Used {
     let top = scope_of(window, View::Top);
     let front = scope_of(window, View::Front);
     let side = scope_of(window, View::Side);
@@ -115,8 +111,7 @@ fn tables_place(window: Window, down: i64) -> Spot {
 }
 
 // Where the parts of a sheet stand, in one whose tables begin and end there.
-fn places_of(window: Window, tables: Spot, below: Spot) -> Places
-{
+fn places_of(window: Window, tables: Spot, below: Spot) -> Places {
     let unit = window.unit();
     let top = scope_of(window, View::Top);
     let side = scope_of(window, View::Side);
@@ -127,7 +122,9 @@ fn places_of(window: Window, tables: Spot, below: Spot) -> Places
         .max(below.y)
         .saturating_add(units(48, unit));
     let foot = lower.saturating_add(side.high().get());
-    let right = tables.x.saturating_add(side.wide().get().max(units(350, unit)));
+    let right = tables
+        .x
+        .saturating_add(side.wide().get().max(units(350, unit)));
     Places {
         top: corner(left, upper),
         front: corner(left, lower),
@@ -185,8 +182,7 @@ fn put_drawing(
     features: &[Name],
     stopped: &[u8],
     points: usize,
-) -> Result<(), NoMemory>
-{
+) -> Result<(), NoMemory> {
     put_missing(out, scope, at.spot(), points, drawing.numbers.len())?;
     begin_view(out, scope, at)?;
     put_axes(out, scope, ticks)?;
@@ -206,8 +202,7 @@ fn put_drawings(
     features: &[Name],
     stopped: &[u8],
     points: usize,
-) -> Result<(), NoMemory>
-{
+) -> Result<(), NoMemory> {
     let top = scope_of(window, View::Top);
     let front = scope_of(window, View::Front);
     let side = scope_of(window, View::Side);
@@ -253,8 +248,7 @@ fn put_tables(
     ticks: &AxisTicks,
     sheet: &Sheet<'_>,
     points: &[Pointed],
-) -> Result<Spot, NoMemory>
-{
+) -> Result<Spot, NoMemory> {
     let features = sheet.world.tables().features();
     let at = put_signs(out, at, unit, used, has_origin(ticks))?;
     let at = put_points(out, at, unit, features, points)?;
@@ -268,8 +262,7 @@ fn put_head(
     places: Places,
     sheet: &Sheet<'_>,
     first: &[u8],
-) -> Result<(), NoMemory>
-{
+) -> Result<(), NoMemory> {
     put(
         out,
         &[
@@ -322,8 +315,7 @@ fn put_ground(
     places: Places,
     blocks: usize,
     marks: &[Placed],
-) -> Result<(), NoMemory>
-{
+) -> Result<(), NoMemory> {
     put_style(out, window.unit(), blocks, are_few(marks))?;
     put_sheet_style(out, window.unit())?;
     put_clips(out, &VIEWS, window)?;
@@ -332,8 +324,7 @@ fn put_ground(
 }
 
 // Appends the bar that shows a length, and ends the sheet.
-fn put_foot(out: &mut Vec<u8>, window: Window, places: Places) -> Result<(), NoMemory>
-{
+fn put_foot(out: &mut Vec<u8>, window: Window, places: Places) -> Result<(), NoMemory> {
     let scope = scope_of(window, View::Top);
     let wide = scope.wide().get();
     put_bar(out, places.bar, window.unit(), window.grain(), wide)?;
@@ -364,8 +355,7 @@ fn put_whole(
     marks: &[Placed],
     points: &[Pointed],
     first: &[u8],
-) -> Result<Vec<u8>, NoMemory>
-{
+) -> Result<Vec<u8>, NoMemory> {
     let unit = window.unit();
     let ticks = ticks_in(alloc, window)?;
     let mut heading = Vec::new(alloc);

@@ -61,7 +61,11 @@ fn is_seen(scope: Scope, at: Point) -> bool
 fn is_crossed(scope: Scope, low: Point, high: Point) -> bool
     ensures { result ≡ crosses scope (spot_of scope low) (spot_of scope high) }
 {
-    crosses(scope, spot_of(scope, low).spot(), spot_of(scope, high).spot())
+    crosses(
+        scope,
+        spot_of(scope, low).spot(),
+        spot_of(scope, high).spot(),
+    )
 }
 
 /// Whether what a tooltip tells is in sight: a point if it lies in the frame, the limits if one of them lies between two sides; pieces and blocks always.

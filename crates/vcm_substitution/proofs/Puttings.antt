@@ -1,5 +1,5 @@
 -- Steps of an expression that is put together again.
-use Rattle.std.proofs.Common.{◌≡◌, inl, inr, ℕ, ◌+◌, ◌<◌, ◌≤◌, max, false, List, [], ◌∷◌, length, drop, get_or, Some, refl, sym, ap, ◌∙◌, subst, arith}
+use Rattle.std.proofs.Common.{◌≡◌, inl, inr, ℕ, suc, ◌+◌, ◌<◌, ◌≤◌, max, false, List, [], ◌∷◌, length, drop, get_or, Some, refl, sym, ap, ◌∙◌, subst, arith}
 use Rattle.std.specs.Prelude.{nat_le, ◌&&◌}
 use Rattle.std.proofs.lemmas.List.{at_drop_more, at_drop_all}
 use Rattle.vcm_lines.specs.Fault.{NoMemoryOr}
@@ -11,7 +11,7 @@ use Rattle.vcm_expr.specs.declared.expression.Prefix.{Prefix}
 use Rattle.vcm_expr.specs.declared.expression.Piece.{Piece}
 use Rattle.vcm_expr.specs.declared.expression.Piece.TheVariants.{Number, Truth, Variable, Front, Between}
 use Rattle.vcm_expr.specs.declared.expression.Size.{Size}
-use Rattle.vcm_expr.specs.Source.{Source, Prefixed, Pair, parts, depth_of, nodes_of, leaf_in, is_small, IsSize}
+use Rattle.vcm_expr.specs.Source.{Source, Plain, Prefixed, Pair, parts, depth_of, nodes_of, leaf_in, is_small, IsSize}
 use Rattle.vcm_expr.specs.inner.Pieces.{with_piece, with_pieces}
 use Rattle.vcm_expr.proofs.PieceLemmas.{one_is, plain_is}
 use Rattle.vcm_substitution.specs.Substitution.{Scope, put, put_term}
@@ -44,6 +44,19 @@ two_there sc es now a b sizes mid left is more h = there es now (subst (λ ss. P
     there (f ∷ []) (n ∷ m ∷ ns) h = absurd h.2
     there (f ∷ e ∷ es) (n ∷ []) h = absurd h.2
     there (f ∷ e ∷ es) (n ∷ m ∷ ns) h = (m, n, ns, refl, subst (λ x. IsSize a x) (sym h.2.0) h.2.1, subst (λ x. IsSize b x) (sym h.0) h.1)
+
+-- as many sizes wait as expressions
+sizes_waiting : (sc : Scope) (es now : List Source) (sizes : List Size) → Puts sc es now sizes → length es ≡ length sizes
+sizes_waiting sc [] [] [] h = refl
+sizes_waiting sc [] [] (s ∷ ss) h = absurd h
+sizes_waiting sc [] (n ∷ ns) ss h = absurd h
+sizes_waiting sc (e ∷ es) [] ss h = absurd h
+sizes_waiting sc (e ∷ es) (n ∷ ns) [] h = absurd h
+sizes_waiting sc (e ∷ es) (n ∷ ns) (s ∷ ss) h = ap suc (sizes_waiting sc es ns ss h.2)
+
+-- there is room for a leaf's
+pub leaf_room : (sc : Scope) (t : Term) (es now : List Source) (sizes : List Size) → Puts sc es now sizes → length (Plain t ∷ es) ≤ 32 → length sizes < 32
+leaf_room sc t es now sizes h le = omega (arith, sizes_waiting sc es now sizes h, le)
 
 -- an operator between the topmost two
 pub between_puts : (sc : Scope) (op : BinaryOp) (es now new : List Source) (a b s : Size) (sizes mid left more : List Size) → sizes ≡ b ∷ mid → mid ≡ a ∷ left

@@ -1,6 +1,6 @@
 //! What a body is expanded with, and substitution in expressions and names.
 
-ghost use Rattle.std.specs.Prelude.{◌≡◌, ◌↔◌, [], ◌∷◌, List, IsTrue, true, false, IfOk, OnOk, IfErr};
+ghost use Rattle.std.specs.Prelude.{◌≡◌, ◌≤◌, ◌↔◌, [], ◌∷◌, List, length, IsTrue, true, false, IfOk, OnOk, IfErr};
 ghost use Rattle.std.specs.Option.{option_copied};
 ghost use Rattle.vcm_lines.specs.Fault.{NoMemoryOr, no_memory};
 ghost use Rattle.vcm_lines.specs.declared.fault.FaultCode.{FaultCode};
@@ -12,9 +12,9 @@ ghost use Rattle.vcm_substitution.specs.Substitution.{put, put_term, put_variabl
 
 use std::alloc::Global;
 use std::marker::Model;
-use vcm_expr::{Draft, Expr, Piece, Size, Stack, Term};
+use vcm_expr::{Draft, Expr, Piece, Size, Term};
 use vcm_forms::{Argument, Parameter, Target};
-use vcm_items::Name;
+use vcm_items::{BoundedStack, Name};
 use vcm_lines::SourceFault;
 
 /// What a body is expanded with. Contracts see it as a `Scope`.
@@ -147,11 +147,11 @@ impl<'a> Bindings<'a> {
     fn put_piece(
         &self,
         draft: &mut Draft,
-        sizes: &mut Stack<Size>,
+        sizes: &mut BoundedStack<Size>,
         line: u32,
         piece: &Piece,
     ) -> Result<(), SourceFault>
-        requires { (es : List Source) × Puts self.now es draft.old sizes.old }
+        requires { (es : List Source) × Puts self.now es draft.old sizes.old × (length (with_piece piece.now es) ≤ 32) }
         ensures ok { OnOk result ((es : List Source) → Puts self.now es draft.old sizes.old → Puts self.now (with_piece piece.now es) draft.new sizes.new) }
         ensures fault { IfErr result (NoMemoryOr (λ f. (f ≡ record { code = FaultCode.TooDeep; line = line })
             × ((es : List Source) → Puts self.now es draft.old sizes.old → Big self.now (with_piece piece.now es)))) }
@@ -159,33 +159,33 @@ impl<'a> Bindings<'a> {
         match piece {
             Piece::Number(literal) => {
                 let size = draft.leaf(Term::Number(*literal))?;
-                sizes.push(size)?;
+                sizes.push(size);
             }
             Piece::Truth(truth) => {
                 let size = draft.leaf(Term::Truth(*truth))?;
-                sizes.push(size)?;
+                sizes.push(size);
             }
             Piece::Variable(name, _) => {
                 let size = self.put_variable(draft, name)?;
-                sizes.push(size)?;
+                sizes.push(size);
             }
             Piece::Front(prefix) => {
                 let Some(a) = sizes.pop() else {
                     return Ok(());
                 };
                 let size = draft.prefixed(line, *prefix, a)?;
-                sizes.push(size)?;
+                sizes.push(size);
             }
             Piece::Between(op) => {
                 let Some(b) = sizes.pop() else {
                     return Ok(());
                 };
                 let Some(a) = sizes.pop() else {
-                    sizes.push(b)?;
+                    sizes.push(b);
                     return Ok(());
                 };
                 let size = draft.joined(line, *op, a, b)?;
-                sizes.push(size)?;
+                sizes.push(size);
             }
         }
         Ok(())
@@ -220,7 +220,7 @@ impl<'a> Bindings<'a> {
             return Ok(leaf);
         }
         let mut draft = Draft::new(alloc, e.pieces().len())?;
-        let mut sizes = Stack::new(alloc);
+        let mut sizes = BoundedStack::new();
         for piece in e.pieces() {
             self.put_piece(&mut draft, &mut sizes, line, piece)?;
         }

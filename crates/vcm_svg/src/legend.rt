@@ -6,7 +6,6 @@ ghost use Rattle.vcm_svg.specs.Legend.{right_of, size_of, sign_outline, sign_in_
 use crate::outlines::{Outline, bar_line, circle, cross, dash, square_round};
 use crate::pieces::Piece;
 use crate::ranges::{Length, Place, Site, Unit};
-use crate::rect::Spot;
 use crate::shapes::{Class, Label, Lettering, put_path, put_text};
 use crate::whole::{quotient, scaled};
 use vcm_num::NoMemory;

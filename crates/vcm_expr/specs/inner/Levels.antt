@@ -12,8 +12,8 @@ use Rattle.vcm_expr.specs.declared.levels.Front.{Front}
 use Rattle.vcm_expr.specs.declared.levels.Front.TheVariants.{Negation, Sign}
 use Rattle.vcm_expr.specs.declared.expression.Size.{Size}
 use Rattle.vcm_expr.specs.declared.expression.Term.{Term}
-use Rattle.vcm_expr.specs.Source.{Source, Plain, is_small, IsSize}
-use Rattle.vcm_expr.specs.Parser.{Taken, Parser, and_parse, phrase, closed, primary_by, sign_of, negation_of}
+use Rattle.vcm_expr.specs.Source.{Source, Plain, Prefixed, is_small, IsSize}
+use Rattle.vcm_expr.specs.Parser.{Taken, Parser, and_parse, phrase, made, closed, primary_by, sign_of, negation_of}
 use Rattle.vcm_expr.specs.Parser.{product_op, sum_op, and_op, or_op, signed_by, product_by, sum_by}
 use Rattle.vcm_expr.specs.Parser.{relation_by, negation_by, conjunction_by, disjunction_by, expression}
 
@@ -43,6 +43,10 @@ front_of Negation = negation_of
 abbrev pub fronted_in : Front → ℕ → Parser
 fronted_in Sign room = primary_in room
 fronted_in Negation room = relation_in room
+
+-- what has one sign or negation more before it
+abbrev pub signed_in : Prefix → Front → ℕ → Parser
+signed_in sign front room ts = and_parse (front_in front room ts) (λ t r. made is_small (Prefixed sign t) r)
 
 -- a chain
 abbrev pub chain_in : Chain → ℕ → Parser

@@ -17,10 +17,10 @@ finish-requires c = let r = c.in_ok-size.ensures.ok in (r.tree, r.there ∙ ap (
 pub returns-then-is_empty : goal.returns-then-is_empty
 returns-then-is_empty c =
     let r = c.in_ok-size.ensures.ok in
-    whole_finished c.args.words r.tree c.finish.result c.in_ok-size.rest _ r.read (c.is_empty.ensures.none c.if-is_empty.true) (r.there ∙ ap (λ es. r.tree ∷ es) c.in_ok-draft.ensures.ok) c.finish.ensures
+    whole_finished c.args.words r.tree c.finish.result _ _ r.read (c.is_empty.ensures.none c.if-is_empty.true) (r.there ∙ ap (λ es. r.tree ∷ es) c.in_ok-draft.ensures.ok) c.finish.ensures
 
 pub returns-else-is_empty : goal.returns-else-is_empty
 returns-else-is_empty c =
     let r = c.in_ok-size.ensures.ok in
     let more = c.is_empty.ensures.some c.if-is_empty.false in
-    rw c.bad_syntax.ensures (inr (refl, whole_extra c.args.words r.tree c.in_ok-size.rest more.0 more.1 r.read more.2))
+    rw c.bad_syntax.ensures (inr (refl, whole_extra c.args.words r.tree _ more.0 more.1 r.read more.2))

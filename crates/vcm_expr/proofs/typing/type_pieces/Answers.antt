@@ -3,7 +3,7 @@ use Rattle.vcm_expr.proofs.TypedItems.{parts_told, parts_place_told, typed_wante
 use Rattle.vcm_expr.proofs.typing.type_pieces.Goals as goal
 
 pub typed-requires : goal.typed-requires
-typed-requires c = (c.requires.0, c.requires.1)
+typed-requires c = c.requires
 
 pub returns-in_err-kind-clause-fault : goal.returns-in_err-kind-clause-fault
 returns-in_err-kind-clause-fault c =

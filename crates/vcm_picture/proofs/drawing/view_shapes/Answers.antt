@@ -1,4 +1,4 @@
-use Rattle.std.proofs.Common.{◌≡◌, ◌∙◌, ap, rules, w64, FitsSigned, to_z-of_z}
+use Rattle.std.proofs.Common.{◌≡◌, ◌∙◌, ap}
 use Rattle.std.proofs.lemmas.Result.{err_from_is_err_and}
 use Rattle.vcm_picture.specs.Blocks.{blocks_shapes}
 use Rattle.vcm_picture.specs.Drawing.{names_shapes}
@@ -16,15 +16,14 @@ returns-in_err-push_names c =
 
 pub returns : goal.returns
 returns c =
-    let fu : FitsSigned w64 c.args.scope.unit = search rules in
     let s = c.args.scope in
     let marks = c.args.marks.now in
     let made = faces_from s 1 c.args.blocks.now in
     let shown = all_seen s.unit made in
-    let faces : c.as_slice-2.result.now ≡ made = c.as_slice-2.ensures.value ∙ c.in_ok-faces.ensures.faces in
-    let given : c.as_slice.result.now ≡ made = c.as_slice.ensures.value ∙ c.in_ok-faces.ensures.faces in
+    let faces : c.as_slice-2.result.now ≡ made = c.as_slice-2.ensures.value ∙ c.in_ok-faces.ensures in
+    let given : c.as_slice.result.now ≡ made = c.as_slice.ensures.value ∙ c.in_ok-faces.ensures in
     let seen : c.as_slice-seen.result.now ≡ shown =
-    c.as_slice-seen.ensures.value ∙ (simp to_z-of_z at c.in_ok-all.ensures.seen) ∙ ap (λ f. all_seen s.unit f) given in
+    c.as_slice-seen.ensures.value ∙ (rw c.unit.ensures at c.in_ok-all.ensures) ∙ ap (λ f. all_seen s.unit f) given in
     three_made _ _ _ _ (blocks_shapes made shown (contact_of marks)) (way_shapes s c.args.bounds c.args.position marks)
     (names_shapes s c.args.bounds.home c.args.features.now c.args.position marks shown) c.new-shapes.ensures.items
     (text_same _ _ (λ f. blocks_shapes f shown (contact_of marks)) _ _ faces

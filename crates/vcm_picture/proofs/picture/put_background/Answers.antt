@@ -9,8 +9,8 @@ use Rattle.vcm_picture.proofs.picture.put_background.Goals as goal
 
 pub returns : goal.returns
 returns c =
-    let fw : FitsSigned w64 c.args.layout.wide = search rules in
-    let fh : FitsSigned w64 c.args.layout.high = search rules in
-    let l = c.args.layout in
-    two _ _ _ _ (clips_text c.args.window views) (path class.Sheet (Rectangle (spot (pos 0) (pos 0)) l.wide l.high)) c.in_ok-put_clips.ensures
-    (simp to_z-of_z at c.put_path.ensures)
+    let l = c.layout.inside in
+    let fw : FitsSigned w64 l.wide = search rules in
+    let fh : FitsSigned w64 l.high = search rules in
+    rw (← c.layout.view_is) (two _ _ _ _ (clips_text c.args.window views) (path class.Sheet (Rectangle (spot (pos 0) (pos 0)) l.wide l.high)) c.in_ok-put_clips.ensures
+    (simp to_z-of_z at c.put_path.ensures))

@@ -1,4 +1,4 @@
-use Rattle.std.proofs.Common.{ap, length, List, rules, w64, FitsSigned, to_z-of_z}
+use Rattle.std.proofs.Common.{ap, length, List}
 use Rattle.vcm_spec.specs.declared.workpiece.Block3.{Block3}
 use Rattle.vcm_picture.specs.Drawing.{scene}
 use Rattle.vcm_svg.specs.Heading.{heading_text}
@@ -10,7 +10,7 @@ use Rattle.vcm_picture.proofs.picture.put_picture.Goals as goal
 
 pub returns : goal.returns
 returns c =
-    let fu : FitsSigned w64 c.args.window.unit = search rules in
+    let e = c.unit-unit.ensures.value in
     let part = c.args.part.now in
     let world = c.args.world.now in
     let marks = c.args.marks.now in
@@ -20,9 +20,9 @@ returns c =
     let first = c.args.first.now in
     six _ _ _ _ _ _ _ _ (head_text l u first) (style_text u (length part.blocks) (are_few marks)) (background_text w l)
     (heading_text u first world.state.position c.args.done c.args.left_out) (views_text w l (scene part world first) marks views) (foot_text w l)
-    (simp to_z-of_z at c.in_ok-put_head.ensures)
+    (rw e at c.in_ok-put_head.ensures)
     (text_same _ _ (λ n. style_text u n (are_few marks)) _ _ (ap (λ (b : List Block3). length b) c.blocks-2.ensures.blocks)
-    (text_same _ _ (λ f. style_text u (length c.blocks-2.result.now) f) _ _ c.are_few.ensures (simp to_z-of_z at c.in_ok-put_style.ensures)))
+    (text_same _ _ (λ f. style_text u (length c.blocks-2.result.now) f) _ _ c.are_few.ensures (rw e at c.in_ok-put_style.ensures)))
     c.in_ok-put_background.ensures
-    (text_same _ _ (λ p. heading_text u first p c.args.done c.args.left_out) _ _ c.position.ensures (simp to_z-of_z at c.in_ok-put_heading.ensures))
+    (text_same _ _ (λ p. heading_text u first p c.args.done c.args.left_out) _ _ c.position.ensures (rw e at c.in_ok-put_heading.ensures))
     c.in_ok-put_views.ensures c.put_foot.ensures

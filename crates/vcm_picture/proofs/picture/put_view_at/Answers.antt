@@ -9,5 +9,5 @@ pub returns : goal.returns
 returns c =
     let shown = scene c.args.part.now c.args.world.now c.args.stopped.now in
     let marks = c.args.marks.now in
-    last_same _ _ _ (λ (s : Scope). view_text s (view_spot c.args.layout c.args.view) shown marks) _ _ c.scope_of-scope.ensures.scope
-    (last_same _ _ _ (λ (a : Spot). view_text c.scope_of-scope.result a shown marks) _ _ c.view_spot-at.ensures.spot c.put_view.ensures)
+    last_same _ _ _ (λ (s : Scope). view_text s (view_spot c.args.layout c.args.view) shown marks) _ _ c.scope_of-scope.ensures
+    (last_same _ _ _ (λ (a : Spot). view_text c.scope_of-scope.result a shown marks) _ _ c.view_spot-at.ensures c.put_view.ensures)

@@ -3,10 +3,10 @@ use Rattle.vcm_num.proofs.PointLemmas.{near_again}
 use Rattle.vcm_motion.proofs.Inside.{reachable}
 use Rattle.vcm_picture.proofs.span.over_point.Goals as goal
 
-pub widened-requires-clause-coordinate : goal.widened-requires-clause-coordinate
-widened-requires-clause-coordinate c = near_again _ (reachable c.args.at c.requires.at c.args.axis c.requires.axis)
+pub widened-requires : goal.widened-requires
+widened-requires c = record { coordinate = near_again _ (reachable c.args.at c.requires.at c.args.axis c.requires.axis) }
 
-pub returns-clause-span : goal.returns-clause-span
-returns-clause-span c =
+pub returns : goal.returns
+returns c =
     let f : FitsSigned w64 (slice_index_or c.args.at.0 c.args.axis (pos 0)) = search rules in
-    simp to_z-of_z at c.widened.ensures.span
+    simp to_z-of_z at c.widened.ensures

@@ -8,9 +8,10 @@ returns-clause-value c =
     let fr : FitsSigned w64 c.quotient.result = search rules in
     let fa : FitsSigned w64 c.args.number = search rules in
     let fb : FitsSigned w64 c.args.from = search rules in
-    let fg : FitsSigned w64 c.args.grain = search rules in
+    let fg : FitsSigned w64 c.get.result = search rules in
     let fd : FitsSigned w64 (c.args.number -ℤ c.args.from) = omega (arith, ints) in
-    rw (to_z-of_z fr) (simp to_z-of_z at c.quotient.ensures.value)
+    let e = simp to_z-of_z at c.quotient.ensures.value in
+    rw (to_z-of_z fr) (rw c.get.ensures.number at e)
 
 pub returns-clause-small : goal.returns-clause-small
 returns-clause-small c =

@@ -9,7 +9,7 @@ overflow_sub-result c =
     let fz : FitsSigned w64 c.size.result = search rules in
     let fg : FitsSigned w64 c.grown.result = search rules in
     let fq : FitsSigned w64 c.quotient.result = search rules in
-    let fl : FitsSigned w64 c.args.span.low = search rules in
+    let fl : FitsSigned w64 c.low.result = search rules in
     let le : c.size.result ≤ℤ c.grown.result = rw c.size.ensures.value c.grown.ensures.from_size in
     let fd : FitsSigned w64 (c.grown.result -ℤ c.size.result) = omega (arith, ints) in
     let v : pos 0 ≤ℤ (c.grown.result -ℤ c.size.result) = omega (arith, ints) in
@@ -24,7 +24,7 @@ overflow_sub-result-2 c =
     let fz : FitsSigned w64 c.size.result = search rules in
     let fg : FitsSigned w64 c.grown.result = search rules in
     let fq : FitsSigned w64 c.quotient.result = search rules in
-    let fl : FitsSigned w64 c.args.span.low = search rules in
+    let fl : FitsSigned w64 c.low.result = search rules in
     let le : c.size.result ≤ℤ c.grown.result = rw c.size.ensures.value c.grown.ensures.from_size in
     let fd : FitsSigned w64 (c.grown.result -ℤ c.size.result) = omega (arith, ints) in
     let v : pos 0 ≤ℤ (c.grown.result -ℤ c.size.result) = omega (arith, ints) in
@@ -36,7 +36,7 @@ overflow_sub-result-2 c =
     let fm : FitsSigned w64 c.args.most = search rules in
     let d = simp to_z-of_z at c.quotient-2.ensures.value in
     let s : IsPart c.quotient-2.result = sixteenth _ _ c.requires.most d in
-    let f1 : FitsSigned w64 (c.args.span.low -ℤ c.quotient.result) = omega (arith, ints) in
+    let f1 : FitsSigned w64 (c.low.result -ℤ c.quotient.result) = omega (arith, ints) in
     omega (arith, ints)
 
 pub returns-clause-value : goal.returns-clause-value
@@ -44,7 +44,7 @@ returns-clause-value c =
     let fz : FitsSigned w64 c.size.result = search rules in
     let fg : FitsSigned w64 c.grown.result = search rules in
     let fq : FitsSigned w64 c.quotient.result = search rules in
-    let fl : FitsSigned w64 c.args.span.low = search rules in
+    let fl : FitsSigned w64 c.low.result = search rules in
     let le : c.size.result ≤ℤ c.grown.result = rw c.size.ensures.value c.grown.ensures.from_size in
     let fd : FitsSigned w64 (c.grown.result -ℤ c.size.result) = omega (arith, ints) in
     let v : pos 0 ≤ℤ (c.grown.result -ℤ c.size.result) = omega (arith, ints) in
@@ -56,19 +56,20 @@ returns-clause-value c =
     let fm : FitsSigned w64 c.args.most = search rules in
     let d = simp to_z-of_z at c.quotient-2.ensures.value in
     let s : IsPart c.quotient-2.result = sixteenth _ _ c.requires.most d in
-    let f1 : FitsSigned w64 (c.args.span.low -ℤ c.quotient.result) = omega (arith, ints) in
-    let f2 : FitsSigned w64 (c.args.span.low -ℤ c.quotient.result -ℤ c.quotient-2.result) = omega (arith, ints) in
+    let f1 : FitsSigned w64 (c.low.result -ℤ c.quotient.result) = omega (arith, ints) in
+    let f2 : FitsSigned w64 (c.low.result -ℤ c.quotient.result -ℤ c.quotient-2.result) = omega (arith, ints) in
     let e = simp to_z-of_z at c.grown.ensures.value in
     let z = c.size.ensures.value in
     let p = simp to_z-of_z at c.quotient.ensures.value in
-    simp to_z-of_z (low_same c.args.span c.args.most _ _ _ _ e z p d)
+    let l = c.low.ensures.value in
+    simp to_z-of_z (rw l (low_same c.args.span c.args.most _ _ _ _ e z p d))
 
 pub returns-clause-edge : goal.returns-clause-edge
 returns-clause-edge c =
     let fz : FitsSigned w64 c.size.result = search rules in
     let fg : FitsSigned w64 c.grown.result = search rules in
     let fq : FitsSigned w64 c.quotient.result = search rules in
-    let fl : FitsSigned w64 c.args.span.low = search rules in
+    let fl : FitsSigned w64 c.low.result = search rules in
     let le : c.size.result ≤ℤ c.grown.result = rw c.size.ensures.value c.grown.ensures.from_size in
     let fd : FitsSigned w64 (c.grown.result -ℤ c.size.result) = omega (arith, ints) in
     let v : pos 0 ≤ℤ (c.grown.result -ℤ c.size.result) = omega (arith, ints) in
@@ -80,6 +81,6 @@ returns-clause-edge c =
     let fm : FitsSigned w64 c.args.most = search rules in
     let d = simp to_z-of_z at c.quotient-2.ensures.value in
     let s : IsPart c.quotient-2.result = sixteenth _ _ c.requires.most d in
-    let f1 : FitsSigned w64 (c.args.span.low -ℤ c.quotient.result) = omega (arith, ints) in
-    let f2 : FitsSigned w64 (c.args.span.low -ℤ c.quotient.result -ℤ c.quotient-2.result) = omega (arith, ints) in
+    let f1 : FitsSigned w64 (c.low.result -ℤ c.quotient.result) = omega (arith, ints) in
+    let f2 : FitsSigned w64 (c.low.result -ℤ c.quotient.result -ℤ c.quotient-2.result) = omega (arith, ints) in
     simp to_z-of_z (record { from_below = omega (arith, ints); from_above = omega (arith, ints) })

@@ -9,7 +9,7 @@ pub returns-clause-ok : goal.returns-clause-ok
 returns-clause-ok c e f es h y z =
     let s = c.in_ok-size.ensures.ok in (
       between_view c.args.op e f es _ _ (c.self.view_is ∙ h) c.self.invariant c.in_ok-push.ensures.items,
-      between_sized c.in_ok-size.size c.args.a c.args.b c.args.op e f (omega (arith, s.0, c.max.ensures, c.from-depth.ensures)) (omega (arith, s.1, c.from.ensures, c.from-2.ensures)) (omega (arith, s.0, s.2)) (omega (arith, s.1, s.3)) y z,
+      between_sized c.in_ok-size.size c.args.a c.args.b c.args.op e f (omega (arith, s.0, c.max-depth.ensures)) (omega (arith, s.1)) (omega (arith, s.0, s.2)) (omega (arith, s.1, s.3)) y z,
     )
 
 pub returns-in_err-size-clause-unchanged : goal.returns-in_err-size-clause-unchanged

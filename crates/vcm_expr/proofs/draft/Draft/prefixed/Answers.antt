@@ -9,5 +9,5 @@ pub returns-clause-ok : goal.returns-clause-ok
 returns-clause-ok c e es h z =
     let s = c.in_ok-size.ensures.ok in (
       front_view c.args.prefix e es _ _ (c.self.view_is ∙ h) c.self.invariant c.in_ok-push.ensures.items,
-      front_sized c.in_ok-size.size c.args.a c.args.prefix e (omega (arith, s.0, c.from.ensures)) (omega (arith, s.1, c.from-2.ensures)) (omega (arith, s.0, s.2)) (omega (arith, s.1, s.3)) z,
+      front_sized c.in_ok-size.size c.args.a c.args.prefix e (omega (arith, s.0)) (omega (arith, s.1)) (omega (arith, s.0, s.2)) (omega (arith, s.1, s.3)) z,
     )
