@@ -196,7 +196,7 @@ fn put_drawing(
 fn put_drawings(
     out: &mut Vec<u8>,
     window: Window,
-    places: Places,
+    places: &Places,
     drawings: &Drawings,
     ticks: &AxisTicks,
     features: &[Name],
@@ -259,7 +259,7 @@ fn put_tables(
 fn put_head(
     out: &mut Vec<u8>,
     unit: Unit,
-    places: Places,
+    places: &Places,
     sheet: &Sheet<'_>,
     first: &[u8],
 ) -> Result<(), NoMemory> {
@@ -312,7 +312,7 @@ fn put_sheet_style(out: &mut Vec<u8>, unit: Unit) -> Result<(), NoMemory> {
 fn put_ground(
     out: &mut Vec<u8>,
     window: Window,
-    places: Places,
+    places: &Places,
     blocks: usize,
     marks: &[Placed],
 ) -> Result<(), NoMemory> {
@@ -324,7 +324,7 @@ fn put_ground(
 }
 
 // Appends the bar that shows a length, and ends the sheet.
-fn put_foot(out: &mut Vec<u8>, window: Window, places: Places) -> Result<(), NoMemory> {
+fn put_foot(out: &mut Vec<u8>, window: Window, places: &Places) -> Result<(), NoMemory> {
     let scope = scope_of(window, View::Top);
     let wide = scope.wide().get();
     put_bar(out, places.bar, window.unit(), window.grain(), wide)?;
@@ -366,14 +366,14 @@ fn put_whole(
     let below = put_tables(alloc, &mut tables, place, unit, used, &ticks, sheet, points)?;
     let places = places_of(window, place, below);
     let mut out = Vec::new(alloc);
-    put_head(&mut out, unit, places, sheet, first)?;
-    put_ground(&mut out, window, places, sheet.part.blocks().len(), marks)?;
+    put_head(&mut out, unit, &places, sheet, first)?;
+    put_ground(&mut out, window, &places, sheet.part.blocks().len(), marks)?;
     out.append(&mut heading)?;
     let features = sheet.world.tables().features();
     put_drawings(
         &mut out,
         window,
-        places,
+        &places,
         drawings,
         &ticks,
         features,
@@ -381,7 +381,7 @@ fn put_whole(
         points.len(),
     )?;
     out.append(&mut tables)?;
-    put_foot(&mut out, window, places)?;
+    put_foot(&mut out, window, &places)?;
     Ok(out)
 }
 
