@@ -2,7 +2,7 @@
 
 use crate::answers::{printed, told};
 use std::alloc::Global;
-use vcm_command::{tell_contacts, write_why};
+use vcm_given::{tell_contacts, write_why};
 use vcm_job::{build, part_from};
 use vcm_messages::{part_file_message, run_message};
 use vcm_part::PartData;

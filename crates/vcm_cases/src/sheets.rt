@@ -3,7 +3,8 @@
 use crate::answers::told;
 use std::alloc::Global;
 use std::fmt::Write as _;
-use vcm_command::{Titles, lines_of, write_sheet_of};
+use vcm_command::lines_of;
+use vcm_given::{Titles, write_sheet_of};
 use vcm_job::part_from;
 use vcm_keys::block_names;
 use vcm_messages::{part_file_message, run_message};

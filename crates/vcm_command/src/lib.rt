@@ -4,7 +4,6 @@
 mod checks;
 mod closing;
 mod command_line;
-mod contacts;
 mod dap;
 mod explaining;
 mod hand;
@@ -17,12 +16,9 @@ mod sheets;
 mod showing;
 mod talking;
 mod values;
-mod why;
 
 pub use command_line::{Asked, Checks, Produced, Request, Wanted, request_of, steps_of};
-pub use contacts::tell_contacts;
 pub use manner::Manner;
 pub use program::status;
-pub use sheets::{Titles, lines_of, write_sheet_of};
+pub use sheets::lines_of;
 pub use talking::Terminals;
-pub use why::write_why;

@@ -1,17 +1,15 @@
 //! What is shown of a run: its result, its views and its page, on the standard devices.
 
 use crate::command_line::{Asked, steps_of};
-use crate::contacts::tell_contacts;
 use crate::parts::part_of;
 use crate::program::{fails, output, status_after, written};
-use crate::sheets::{Titles, write_sheet_of};
 use crate::talking::{Told, Voice, alone, fails_in, fails_in_view, fails_twice};
-use crate::why::write_why;
 use std::alloc::Global;
 use std::fmt::{self, Write as _};
 use std::io::{Read, Write};
 use std::rt::Files;
 use vcm_boxes::{Boxes, BoxesFault, read_boxes};
+use vcm_given::{Titles, tell_contacts, write_sheet_of, write_why};
 use vcm_job::{Done, ReadFault, RunFault, read_all, run};
 use vcm_messages::{Message, probe_message, run_message};
 use vcm_num::{Point, write_all};

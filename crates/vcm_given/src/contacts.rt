@@ -1,13 +1,13 @@
 //! All contacts of a run in one go.
 
+use crate::given::Given;
 use std::alloc::Global;
 use std::io::{Read, Write};
 use vcm_contacts::{Contacts, ContactsFault, collect_contacts, write_contacts};
-use vcm_job::{Done, RunFault, is_image, read_all, status_of};
+use vcm_job::{Done, RunFault, status_of};
 use vcm_loader::{Loaded, load};
 use vcm_motion::AnyPart;
 use vcm_part::PartData;
-use vcm_run::{Built, build_image};
 
 // The exit status: that of a collision where there is a contact, else that of the run.
 fn status_with(found: &Contacts) -> u8 {
@@ -67,18 +67,7 @@ pub fn tell_contacts<R: Read, W: Write>(
     steps: u64,
     writer: &mut W,
 ) -> Result<Done, RunFault> {
-    let input = read_all(alloc, reader)?;
-    if is_image(&input) {
-        let notices = Vec::new(alloc);
-        let status = tell_image(alloc, part, &input, steps, writer)?;
-        return Ok(Done { status, notices });
-    }
-    let Built { image, notices } = match build_image(alloc, &input) {
-        Ok(built) => built,
-        Err(refusal) => return Err(RunFault::Refused(refusal)),
-    };
-    match tell_image(alloc, part, &image, steps, writer) {
-        Ok(status) => Ok(Done { status, notices }),
-        Err(fault) => Err(fault),
-    }
+    let given = Given::read(alloc, reader)?;
+    let told = tell_image(alloc, part, &given.image, steps, writer);
+    given.done(told)
 }
