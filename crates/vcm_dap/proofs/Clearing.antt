@@ -1,7 +1,7 @@
 -- Breakpoints that are taken away, one statement after another.
 use Rattle.std.proofs.Common.{◌≡◌, ℕ, zero, suc, ◌+◌, ◌<◌, Bool, true, false, List, [], ◌∷◌, length, take, refl, sym, ap, ◌∙◌, arith, add-one}
 use Rattle.std.proofs.lemmas.Bool.{lt-ltb}
-use Rattle.std.specs.Prelude.{◌≤◌, nat_lt, slice_get, slice_set, drop, Option, Some, None, Result, Ok, Err, if◌then◌else◌}
+use Rattle.std.specs.Prelude.{◌≤◌, nat_lt, slice_set, Option, Some, None, Result, Ok, Err, if◌then◌else◌}
 use Rattle.vcm_code.specs.Code.{Statement}
 use Rattle.vcm_console.specs.declared.command.Command.TheVariants as c
 use Rattle.vcm_console.specs.declared.reply.CommandRefusal.TheVariants.{NoSuchStatement}
@@ -10,7 +10,7 @@ use Rattle.vcm_console.specs.declared.reply.Reply.TheVariants.{Cleared, Refused}
 use Rattle.vcm_console.specs.declared.reply.Halted.{Halted}
 use Rattle.vcm_debug.specs.Debugging.{Debugging}
 use Rattle.vcm_debug.specs.Session.{Answer, answers, Carries}
-use Rattle.vcm_dap.specs.Lines.{unflagged, cleared, with_place, with_places}
+use Rattle.vcm_dap.specs.Lines.{unflagged, cleared, with_place}
 
 -- one statement more
 unflagged_suc : (n : ℕ) (ss : List Statement) (bs : List Bool) → n < length ss → unflagged (take (suc n) ss) bs ≡ slice_set (unflagged (take n ss) bs) n false
@@ -59,27 +59,7 @@ clears_more d s new n l e i =
 pub clears_all : (d s : Debugging) (n : ℕ) → length d.code.statements ≤ n → s ≡ cleared_to d n → s ≡ cleared d
 clears_all d s n l e = e ∙ ap (λ (ss : List Statement). record d { breakpoints = unflagged ss d.breakpoints }) (unflagged_all n d.code.statements l)
 
--- one place more
-place_step : (s : Debugging) (ps : List (Option ℕ)) (i : ℕ) (p : Option ℕ) → slice_get ps i ≡ Some p
-    → with_places s (drop i ps) ≡ with_places (with_place s p) (drop (suc i) ps)
-place_step s [] i p e = cc
-place_step s (x ∷ ps) zero p e = ap (λ (o : Option ℕ). with_places (with_place s o) ps) (cc)
-place_step s (x ∷ ps) (suc i) p e = place_step s ps i p e
-
--- the same, behind those that were set
-pub place_more : (s new all : Debugging) (ps : List (Option ℕ)) (i : ℕ) (p : Option ℕ) → slice_get ps i ≡ Some p
-    → new ≡ with_place s p → with_places s (drop i ps) ≡ all → with_places new (drop (i + 1) ps) ≡ all
-place_more s new all ps i p e n w = rw (add-one, n, ← place_step s ps i p e) w
-
--- all were set
-pub place_all : (s : Debugging) (ps : List (Option ℕ)) (i : ℕ) → length ps ≤ i → s ≡ with_places s (drop i ps)
-place_all s [] zero l = refl
-place_all s [] (suc i) l = refl
-place_all s (p ∷ ps) zero l = absurd (omega (arith, l))
-place_all s (p ∷ ps) (suc i) l = place_all s ps i (omega (arith, l))
-
--- the count stays
-pub places_count : (d : Debugging) (ps : List (Option ℕ)) → (with_places d ps).count ≡ d.count
-places_count d [] = refl
-places_count d (None ∷ ps) = places_count d ps
-places_count d (Some line ∷ ps) = places_count (with_place d (Some line)) ps
+-- a breakpoint on a line, if there is one, leaves the count
+pub place_count : (d : Debugging) (place : Option ℕ) → (with_place d place).count ≡ d.count
+place_count d None = refl
+place_count d (Some line) = refl

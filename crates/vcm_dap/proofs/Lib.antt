@@ -2,7 +2,9 @@ mod Counts
 mod Looks
 mod Settling
 mod Clearing
+mod Folds
 mod Watches
 mod Told
+mod Telling
 mod Motions
 mod Items

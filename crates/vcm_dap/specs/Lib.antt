@@ -5,6 +5,7 @@ pub mod Lines
 pub mod Asked
 pub mod Laws
 pub mod Talking
+pub mod Telling
 pub mod Served
 pub mod Samples
 pub mod inner

@@ -1,11 +1,21 @@
 -- Breakpoints on source lines, and watches.
-use Rattle.std.specs.Prelude.{ℕ, min, nat_lt, Bool, true, false, List, [], ◌∷◌, map, Option, Some, None, option_and_then, if◌then◌else◌}
+use Rattle.std.specs.Prelude.{◌≡◌, ◌⊎◌, ℕ, ◌<◌, ◌≤◌, min, nat_lt, Bool, true, false, List, [], ◌∷◌, map, fold, Option, Some, None, option_and_then, if◌then◌else◌}
 use Rattle.vcm_spec.specs.Setup.{Variable}
 use Rattle.vcm_code.specs.Code.{Statement}
 use Rattle.vcm_console.specs.declared.command.VariableRef.{VariableRef}
 use Rattle.vcm_console.specs.declared.command.Command.TheVariants.{Watch, Unwatch}
 use Rattle.vcm_debug.specs.Debugging.{Debugging}
 use Rattle.vcm_debug.specs.Session.{answer, with_line}
+
+-- a statement begins on this line
+abbrev pub BeginsOn : List Statement → ℕ → Type 0
+BeginsOn [] at = ⊥
+BeginsOn (s ∷ ss) at = (s.line ≡ at) ⊎ BeginsOn ss at
+
+-- a breakpoint on a line comes to stand on the least line, not above it, that a statement begins on; nowhere, where all begin above it
+abbrev pub Settles : List Statement → ℕ → Option ℕ → Type 0
+Settles ss line None = (at : ℕ) → BeginsOn ss at → at < line
+Settles ss line (Some at) = BeginsOn ss at × (line ≤ at) × ((other : ℕ) → BeginsOn ss other → line ≤ other → at ≤ other)
 
 -- the lesser of two lines, the first of which may be none
 abbrev pub lesser : Option ℕ → ℕ → ℕ
@@ -21,7 +31,7 @@ abbrev pub nearest : ℕ → Option ℕ → List Statement → Option ℕ
 nearest line least [] = least
 nearest line least (s ∷ ss) = nearest line (nearer line least s.line) ss
 
--- where a breakpoint on a line comes to stand: on the least line, not above it, that a statement begins on
+-- where a breakpoint on a line comes to stand, computed. It is where it settles, and nowhere else (`LinesSettle` in Laws.antt)
 abbrev pub settled : List Statement → ℕ → Option ℕ
 settled ss line = nearest line None ss
 
@@ -42,8 +52,7 @@ with_place d (Some line) = with_line d line true
 
 -- the same of these lines, one after another
 abbrev pub with_places : Debugging → List (Option ℕ) → Debugging
-with_places d [] = d
-with_places d (p ∷ ps) = with_places (with_place d p) ps
+with_places d places = fold with_place d places
 
 -- the session with the breakpoints that are asked for, and with no others: each line that is asked for goes to where it settles
 abbrev pub with_breakpoints : Debugging → List (Option ℕ) → Debugging
@@ -53,10 +62,13 @@ with_breakpoints d asked = with_places (cleared d) (map (option_and_then (settle
 abbrev pub named : Variable → VariableRef
 named v = record { name = v.name; expansion = v.expansion }
 
--- the session in which none of these variables is watched any more, each named
+-- the session in which this variable isn't watched any more
+abbrev pub letting_go : Debugging → VariableRef → Debugging
+letting_go d v = (answer d (Unwatch v)).session
+
+-- the same of these variables, each named, one after another
 abbrev pub without_watches : Debugging → List Variable → Debugging
-without_watches d [] = d
-without_watches d (v ∷ vs) = without_watches (answer d (Unwatch (named v))).session vs
+without_watches d variables = fold letting_go d (map named variables)
 
 -- the session that watches this variable too, if there is one
 abbrev pub watching : Debugging → Option VariableRef → Debugging
@@ -65,8 +77,7 @@ watching d (Some v) = (answer d (Watch v)).session
 
 -- the same of these variables, one after another
 abbrev pub watching_all : Debugging → List (Option VariableRef) → Debugging
-watching_all d [] = d
-watching_all d (v ∷ vs) = watching_all (watching d v) vs
+watching_all d wanted = fold watching d wanted
 
 -- the session that watches these variables and no others
 abbrev pub with_watches : Debugging → List (Option VariableRef) → Debugging

@@ -41,7 +41,7 @@ IsDone is_from_0 old message a.Breakpoints new =
 IsDone is_from_0 old message a.DataBreakpoints new = IsWatching (items_in (argument message (codes "breakpoints"))) old.session new
 IsDone is_from_0 old message (a.Show look) new = new ≡ old.session
 
--- how many output lines were told behind a request that was done: behind a motion all, and no line twice
+-- how many output lines count as told behind a request that was done: behind a motion all that there are, each once
 abbrev pub told_behind : Adapting → Ask → Debugging → ℕ
 told_behind old (a.Move m) new = max old.told (length (now new).world.lines)
 told_behind old _ new = old.told

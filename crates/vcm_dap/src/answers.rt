@@ -1,6 +1,7 @@
 //! The answers that only show where the session stands. Each tells whether the request wasn't refused.
 
-ghost use Rattle.std.specs.Prelude.{◌≡◌, ◌<◌, ◌+◌, ◌^◌, length};
+ghost use Rattle.std.specs.Prelude.{◌≡◌, ◌<◌, ◌+◌, ◌^◌, length, IfOk};
+ghost use Rattle.vcm_dap.specs.Telling.{SaysSome};
 
 use crate::evaluating::value_of;
 use crate::fault::DapFault;
@@ -80,22 +81,36 @@ fn put_frame<P: Part, W: Write>(
     Ok(())
 }
 
+// Puts the frames from one on; there is only the first.
+fn put_frames<P: Part, W: Write>(
+    talk: &Talk<W>,
+    session: &Session<'_, P>,
+    settings: &Settings<'_>,
+    first: u64,
+    message: &mut Message,
+) -> Result<(), DapFault> {
+    message.begin_list("stackFrames")?;
+    if first == 0 {
+        put_frame(talk, session, settings, message)?;
+    }
+    message.end_list()?;
+    message.number("totalFrames", 1)?;
+    Ok(())
+}
+
 /// Shows where it stands.
 pub(crate) fn stack_trace<P: Part, W: Write>(
     talk: &mut Talk<W>,
     session: &Session<'_, P>,
     settings: &Settings<'_>,
     request: &Request<'_, '_>,
-) -> Result<(), DapFault> {
+) -> Result<(), DapFault>
+    ensures { IfOk result (λ u. SaysSome talk.old talk.new) }
+{
     let first = request.argument("startFrame").and_then(Value::as_u64);
     let mut message = talk.answer(request)?;
-    message.begin_list("stackFrames")?;
-    if first.unwrap_or(0) == 0 {
-        put_frame(talk, session, settings, &mut message)?;
-    }
-    message.end_list()?;
-    message.number("totalFrames", 1)?;
-    talk.send(message)
+    let put = put_frames(talk, session, settings, first.unwrap_or(0), &mut message);
+    talk.send_put(message, put)
 }
 
 // Puts a scope: a list of rows that can be asked for by this number.
@@ -108,18 +123,26 @@ fn put_scope(message: &mut Message, name: &str, reference: u64) -> Result<(), Da
     Ok(())
 }
 
+// Puts the lists of rows.
+fn put_scopes(message: &mut Message) -> Result<(), DapFault> {
+    message.begin_list("scopes")?;
+    put_scope(message, "Variables", 1)?;
+    put_scope(message, "Machine", 2)?;
+    put_scope(message, "Features", 3)?;
+    message.end_list()?;
+    Ok(())
+}
+
 /// Names the lists of rows.
 pub(crate) fn scopes<W: Write>(
     talk: &mut Talk<W>,
     request: &Request<'_, '_>,
-) -> Result<(), DapFault> {
+) -> Result<(), DapFault>
+    ensures { IfOk result (λ u. SaysSome talk.old talk.new) }
+{
     let mut message = talk.answer(request)?;
-    message.begin_list("scopes")?;
-    put_scope(&mut message, "Variables", 1)?;
-    put_scope(&mut message, "Machine", 2)?;
-    put_scope(&mut message, "Features", 3)?;
-    message.end_list()?;
-    talk.send(message)
+    let put = put_scopes(&mut message);
+    talk.send_put(message, put)
 }
 
 // Puts the rows of this number.
@@ -130,11 +153,14 @@ fn put_rows<P: Part>(
     reference: u64,
     message: &mut Message,
 ) -> Result<(), DapFault> {
+    message.begin_list("variables")?;
     match reference {
-        1 => put_variables(alloc, session.world(), message),
-        2 => put_machine(alloc, session, settings, message),
-        _ => put_features(alloc, session.world(), message),
+        1 => put_variables(alloc, session.world(), message)?,
+        2 => put_machine(alloc, session, settings, message)?,
+        _ => put_features(alloc, session.world(), message)?,
     }
+    message.end_list()?;
+    Ok(())
 }
 
 /// Shows rows.
@@ -143,7 +169,9 @@ pub(crate) fn variables<P: Part, W: Write>(
     session: &Session<'_, P>,
     settings: &Settings<'_>,
     request: &Request<'_, '_>,
-) -> Result<bool, DapFault> {
+) -> Result<bool, DapFault>
+    ensures { IfOk result (λ is. SaysSome talk.old talk.new) }
+{
     let reference = request
         .argument("variablesReference")
         .and_then(Value::as_u64)
@@ -153,11 +181,29 @@ pub(crate) fn variables<P: Part, W: Write>(
         return Ok(false);
     }
     let mut message = talk.answer(request)?;
-    message.begin_list("variables")?;
-    put_rows(talk.alloc(), session, settings, reference, &mut message)?;
-    message.end_list()?;
-    talk.send(message)?;
+    let put = put_rows(talk.alloc(), session, settings, reference, &mut message);
+    talk.send_put(message, put)?;
     Ok(true)
+}
+
+// Puts what an expression is.
+fn put_result(text: &[u8], message: &mut Message) -> Result<(), DapFault> {
+    message.bytes("result", without_feed(text))?;
+    message.number("variablesReference", 0)?;
+    Ok(())
+}
+
+// Answers what an expression is.
+fn answer_value<W: Write>(
+    talk: &mut Talk<W>,
+    request: &Request<'_, '_>,
+    text: &[u8],
+) -> Result<(), DapFault>
+    ensures { IfOk result (λ u. SaysSome talk.old talk.new) }
+{
+    let mut message = talk.answer(request)?;
+    let put = put_result(text, &mut message);
+    talk.send_put(message, put)
 }
 
 /// Tells what an expression is.
@@ -167,7 +213,8 @@ pub(crate) fn evaluate<P: Part, W: Write>(
     request: &Request<'_, '_>,
 ) -> Result<bool, DapFault>
     requires { session.old.count + 1000000 < 2 ^ 64 }
-    ensures { session.new ≡ session.old }
+    ensures same { session.new ≡ session.old }
+    ensures says { IfOk result (λ is. SaysSome talk.old talk.new) }
 {
     let Some(expression) = request.argument("expression").and_then(Value::as_str) else {
         talk.refuse(request, "evaluate wants expression")?;
@@ -177,10 +224,7 @@ pub(crate) fn evaluate<P: Part, W: Write>(
         talk.refuse(request, "no variable, feature or command of this form")?;
         return Ok(false);
     };
-    let mut message = talk.answer(request)?;
-    message.bytes("result", without_feed(&text))?;
-    message.number("variablesReference", 0)?;
-    talk.send(message)?;
+    answer_value(talk, request, &text)?;
     Ok(true)
 }
 
@@ -192,21 +236,40 @@ fn stop_word(line: &[u8]) -> &[u8] {
     }
 }
 
+// Puts what stopped the machine.
+fn put_exception(line: &[u8], message: &mut Message) -> Result<(), DapFault> {
+    let text = without_feed(line);
+    message.bytes("exceptionId", stop_word(text))?;
+    message.bytes("description", text)?;
+    message.text("breakMode", "always")?;
+    Ok(())
+}
+
+// Answers what stopped the machine.
+fn answer_exception<W: Write>(
+    talk: &mut Talk<W>,
+    request: &Request<'_, '_>,
+    line: &[u8],
+) -> Result<(), DapFault>
+    ensures { IfOk result (λ u. SaysSome talk.old talk.new) }
+{
+    let mut message = talk.answer(request)?;
+    let put = put_exception(line, &mut message);
+    talk.send_put(message, put)
+}
+
 /// Tells what stopped the machine.
 pub(crate) fn exception_info<P: Part, W: Write>(
     talk: &mut Talk<W>,
     session: &Session<'_, P>,
     request: &Request<'_, '_>,
-) -> Result<bool, DapFault> {
+) -> Result<bool, DapFault>
+    ensures { IfOk result (λ is. SaysSome talk.old talk.new) }
+{
     let Some(line) = stop_line(talk.alloc(), session)? else {
         talk.refuse(request, "the machine has not stopped")?;
         return Ok(false);
     };
-    let text = without_feed(&line);
-    let mut message = talk.answer(request)?;
-    message.bytes("exceptionId", stop_word(text))?;
-    message.bytes("description", text)?;
-    message.text("breakMode", "always")?;
-    talk.send(message)?;
+    answer_exception(talk, request, &line)?;
     Ok(true)
 }

@@ -5,6 +5,7 @@ ghost use Rattle.json.specs.Value.{value_view, items_view};
 ghost use Rattle.vcm_dap.specs.Asked.{has_text, has_condition, IsNumber, line_value, AsksLine, AskLines, items_in, listed_breakpoints};
 ghost use Rattle.vcm_dap.specs.Lines.{settled};
 ghost use Rattle.vcm_dap.specs.Served.{path_of, same_path, IsBroken};
+ghost use Rattle.vcm_dap.specs.Telling.{SaysSome};
 
 use crate::breaking::{break_on, settled};
 use crate::fault::DapFault;
@@ -162,19 +163,43 @@ fn put_breakpoint<W: Write>(
     Ok(())
 }
 
+// Puts that no breakpoint is set in another file.
+fn put_refused(items: &[Value<'_>], message: &mut Message) -> Result<(), DapFault> {
+    message.begin_list("breakpoints")?;
+    for _ in items {
+        put_unverified(message, "vcm debugs another file")?;
+    }
+    message.end_list()?;
+    Ok(())
+}
+
 // Answers that no breakpoint is set in another file.
 fn refuse_each<W: Write>(
     talk: &mut Talk<W>,
     request: &Request<'_, '_>,
     items: &[Value<'_>],
-) -> Result<(), DapFault> {
+) -> Result<(), DapFault>
+    ensures { IfOk result (λ u. SaysSome talk.old talk.new) }
+{
     let mut message = talk.answer(request)?;
+    let put = put_refused(items, &mut message);
+    talk.send_put(message, put)
+}
+
+// Puts the breakpoints of the program.
+fn put_places<W: Write>(
+    talk: &Talk<W>,
+    settings: &Settings<'_>,
+    items: &[Value<'_>],
+    places: &[Option<u32>],
+    message: &mut Message,
+) -> Result<(), DapFault> {
     message.begin_list("breakpoints")?;
-    for _ in items {
-        put_unverified(&mut message, "vcm debugs another file")?;
+    for (item, place) in items.iter().zip(places.iter()) {
+        put_breakpoint(talk, settings, item, *place, message)?;
     }
     message.end_list()?;
-    talk.send(message)
+    Ok(())
 }
 
 // The answer for the breakpoints of the program.
@@ -184,14 +209,12 @@ fn answer_places<W: Write>(
     request: &Request<'_, '_>,
     items: &[Value<'_>],
     places: &[Option<u32>],
-) -> Result<(), DapFault> {
+) -> Result<(), DapFault>
+    ensures { IfOk result (λ u. SaysSome talk.old talk.new) }
+{
     let mut message = talk.answer(request)?;
-    message.begin_list("breakpoints")?;
-    for (item, place) in items.iter().zip(places.iter()) {
-        put_breakpoint(talk, settings, item, *place, &mut message)?;
-    }
-    message.end_list()?;
-    talk.send(message)
+    let put = put_places(talk, settings, items, places, &mut message);
+    talk.send_put(message, put)
 }
 
 // Sets the breakpoints that are asked for, in place of all before, and tells where each came to stand.
@@ -205,6 +228,7 @@ fn replace<P: Part, W: Write>(
     requires { session.old.count + 1000000 < 2 ^ 64 }
     ensures broken { IfOk result (λ u. IsBroken true talk.old.is_from_0 (items_view items.now) session.old session.new) }
     ensures same { session.new.count ≡ session.old.count }
+    ensures says { IfOk result (λ u. SaysSome talk.old talk.new) }
 {
     let asked = asked_lines(talk, items)?;
     let places = places_of(talk.alloc(), session.loaded(), &asked)?;
@@ -223,6 +247,7 @@ fn set_items<P: Part, W: Write>(
     requires { session.old.count + 1000000 < 2 ^ 64 }
     ensures broken { IfOk result (λ u. IsBroken (same_path (path_of (value_view request.now.message.now)) settings.now.source) talk.old.is_from_0 (items_view items.now) session.old session.new) }
     ensures same { session.new.count ≡ session.old.count }
+    ensures says { IfOk result (λ u. SaysSome talk.old talk.new) }
 {
     if is_of_source(settings, request) {
         replace(talk, session, settings, request, items)
@@ -241,6 +266,7 @@ pub(crate) fn set_breakpoints<P: Part, W: Write>(
     requires { session.old.count + 1000000 < 2 ^ 64 }
     ensures broken { IfOk result (λ u. IsBroken (same_path (path_of (value_view request.now.message.now)) settings.now.source) talk.old.is_from_0 (items_in (listed_breakpoints (value_view request.now.message.now))) session.old session.new) }
     ensures same { session.new.count ≡ session.old.count }
+    ensures says { IfOk result (λ u. SaysSome talk.old talk.new) }
 {
     match asked_list(request) {
         Some(Value::Array(items)) => set_items(talk, session, settings, request, items),

@@ -3,7 +3,7 @@
 ghost use Rattle.std.specs.Prelude.{◌≡◌, false, IfOk};
 ghost use Rattle.json.specs.Token.{Token};
 ghost use Rattle.json.specs.Print.{print};
-ghost use Rattle.vcm_dap.specs.Talking.{answer_front, done_front, event_front, output_front, with_error, ended};
+ghost use Rattle.vcm_dap.specs.Talking.{answer_front, done_front, event_front, output_front, with_error, ended, with_capabilities, with_thread};
 
 use std::alloc::Global;
 use vcm_num::NoMemory;
@@ -90,6 +90,29 @@ pub(crate) fn refusal(
     let mut message = answer_front(alloc, seq, request, false, command)?;
     put_error(&mut message, why)?;
     Ok(message)
+}
+
+/// Puts what the adapter can do.
+pub(crate) fn put_capabilities(message: &mut Message) -> Result<(), NoMemory>
+    ensures { IfOk result (λ u. message.new ≡ with_capabilities message.old) }
+{
+    message.flag("supportsConfigurationDoneRequest", true)?;
+    message.flag("supportsEvaluateForHovers", true)?;
+    message.flag("supportsStepBack", true)?;
+    message.flag("supportsExceptionInfoRequest", true)?;
+    message.flag("supportsDataBreakpoints", true)
+}
+
+/// Puts the one thread.
+pub(crate) fn put_thread(message: &mut Message) -> Result<(), NoMemory>
+    ensures { IfOk result (λ u. message.new ≡ with_thread message.old) }
+{
+    message.begin_list("threads")?;
+    message.begin_item()?;
+    message.number("id", 1)?;
+    message.text("name", "probe")?;
+    message.end()?;
+    message.end_list()
 }
 
 /// The bytes of a message whose body and which itself end.

@@ -1,9 +1,14 @@
 //! What is told where a motion has come to its end.
 
+ghost use Rattle.std.specs.Prelude.{◌≡◌, ◌++◌, codes, IfOk};
+ghost use Rattle.vcm_dap.specs.inner.Growing.{Grown};
+ghost use Rattle.vcm_debug.specs.Debugging.{Debugging};
+ghost use Rattle.vcm_dap.specs.Telling.{IsResult, TellsText, SaysBehind};
+
 use crate::asking::Motion;
 use crate::fault::DapFault;
 use crate::looking::without_feed;
-use crate::output::{tell_placed, tell_text};
+use crate::output::tell_placed;
 use crate::settings::Settings;
 use crate::showing::{behind_stop, point_text, stop_line};
 use crate::talk::Talk;
@@ -102,33 +107,52 @@ fn stop_words(text: &[u8]) -> &[u8] {
     }
 }
 
-// Ends an event that tells that it stands still.
-fn send_stopped<W: Write>(talk: &mut Talk<W>, message: Message) -> Result<(), DapFault> {
-    let mut message = message;
+// Puts that all of it stands still.
+fn put_still(message: &mut Message) -> Result<(), DapFault>
+    ensures { IfOk result (λ u. Grown message.old message.new) }
+{
     message.number("threadId", 1)?;
     message.flag("allThreadsStopped", true)?;
-    talk.send(message)
+    Ok(())
 }
 
-// Tells of a stop, whose line this is.
+// Puts a stop, whose line this is.
+fn put_stop(is_end: bool, line: &[u8], message: &mut Message) -> Result<(), DapFault>
+    ensures { IfOk result (λ u. Grown message.old message.new) }
+{
+    let text = without_feed(line);
+    message.text("reason", if is_end { "end" } else { "exception" })?;
+    message.bytes("description", stop_words(text))?;
+    message.bytes("text", text)?;
+    put_still(message)
+}
+
+// Tells that it stands still at a stop, whose line this is.
+fn tell_stopped<W: Write>(talk: &mut Talk<W>, is_end: bool, line: &[u8]) -> Result<(), DapFault>
+    ensures { (d : Debugging) → IfOk result (λ u. SaysBehind d talk.old talk.new) }
+{
+    let mut message = talk.event("stopped")?;
+    let put = put_stop(is_end, line, &mut message);
+    talk.send_put(message, put)
+}
+
+// Tells of a stop, whose line this is. The line is told as it was printed, but where nothing was done.
 fn stand_stopped<W: Write>(
     talk: &mut Talk<W>,
     settings: &Settings<'_>,
     why: Why,
     place: StopPlace,
     line: &[u8],
-) -> Result<(), DapFault> {
+) -> Result<(), DapFault>
+    ensures { (d : Debugging) → IsResult d line.now → IfOk result (λ u. SaysBehind d talk.old talk.new) }
+{
     let is_end = place.stop == Stop::Ended;
-    if !is_still(why) {
-        let category = if is_end { "stdout" } else { "stderr" };
-        tell_placed(talk, settings, category, line, place.line)?;
+    if is_still(why) {
+        return tell_stopped(talk, is_end, line);
     }
-    let text = without_feed(line);
-    let mut message = talk.event("stopped")?;
-    message.text("reason", if is_end { "end" } else { "exception" })?;
-    message.bytes("description", stop_words(text))?;
-    message.bytes("text", text)?;
-    send_stopped(talk, message)
+    let category = if is_end { "stdout" } else { "stderr" };
+    tell_placed(talk, settings, category, line, place.line)?;
+    tell_stopped(talk, is_end, line)
 }
 
 // Puts which variable has changed.
@@ -137,7 +161,9 @@ fn put_change<P: Part>(
     session: &Session<'_, P>,
     v: u16,
     message: &mut Message,
-) -> Result<(), DapFault> {
+) -> Result<(), DapFault>
+    ensures { IfOk result (λ u. Grown message.old message.new) }
+{
     let world = session.world();
     let mut text = Vec::new(alloc);
     write_variable(world.tables(), v, &mut text)?;
@@ -152,9 +178,19 @@ fn put_change<P: Part>(
 }
 
 // Puts that it stands still without any reason of its own.
-fn put_pause(message: &mut Message, description: &str) -> Result<(), DapFault> {
+fn put_pause(message: &mut Message, description: &str) -> Result<(), DapFault>
+    ensures { IfOk result (λ u. Grown message.old message.new) }
+{
     message.text("reason", "pause")?;
     message.text("description", description)?;
+    Ok(())
+}
+
+// Puts a reason that is one word.
+fn put_reason(message: &mut Message, reason: &str) -> Result<(), DapFault>
+    ensures { IfOk result (λ u. Grown message.old message.new) }
+{
+    message.text("reason", reason)?;
     Ok(())
 }
 
@@ -164,17 +200,44 @@ fn put_why<P: Part>(
     session: &Session<'_, P>,
     why: Why,
     message: &mut Message,
-) -> Result<(), DapFault> {
+) -> Result<(), DapFault>
+    ensures { IfOk result (λ u. Grown message.old message.new) }
+{
     match why {
-        Why::Entry => message.text("reason", "entry")?,
-        Why::Step => message.text("reason", "step")?,
-        Why::Still => message.text("reason", "pause")?,
-        Why::NoMemory => put_pause(message, "no memory")?,
-        Why::Ran(Reason::Break) => message.text("reason", "breakpoint")?,
-        Why::Ran(Reason::Watch(v)) => put_change(alloc, session, v, message)?,
-        Why::Ran(_) => put_pause(message, "as many steps were taken as may be")?,
+        Why::Entry => put_reason(message, "entry"),
+        Why::Step => put_reason(message, "step"),
+        Why::Still => put_reason(message, "pause"),
+        Why::NoMemory => put_pause(message, "no memory"),
+        Why::Ran(Reason::Break) => put_reason(message, "breakpoint"),
+        Why::Ran(Reason::Watch(v)) => put_change(alloc, session, v, message),
+        Why::Ran(_) => put_pause(message, "as many steps were taken as may be"),
     }
-    Ok(())
+}
+
+// Puts that it stands still, and why.
+fn put_standing<P: Part>(
+    alloc: Global,
+    session: &Session<'_, P>,
+    why: Why,
+    message: &mut Message,
+) -> Result<(), DapFault>
+    ensures { IfOk result (λ u. Grown message.old message.new) }
+{
+    put_why(alloc, session, why, message)?;
+    put_still(message)
+}
+
+// Tells that it stands still where there is no stop, and why.
+fn stand_still<P: Part, W: Write>(
+    talk: &mut Talk<W>,
+    session: &Session<'_, P>,
+    why: Why,
+) -> Result<(), DapFault>
+    ensures { (d : Debugging) → IfOk result (λ u. SaysBehind d talk.old talk.new) }
+{
+    let mut message = talk.event("stopped")?;
+    let put = put_standing(talk.alloc(), session, why, &mut message);
+    talk.send_put(message, put)
 }
 
 /// Tells that it stands still, and why.
@@ -183,16 +246,15 @@ pub(crate) fn stand<P: Part, W: Write>(
     session: &Session<'_, P>,
     settings: &Settings<'_>,
     why: Why,
-) -> Result<(), DapFault> {
-    let alloc = talk.alloc();
+) -> Result<(), DapFault>
+    ensures { IfOk result (λ u. SaysBehind session.now talk.old talk.new) }
+{
     if let Some(place) = session.world().stop() {
-        if let Some(line) = stop_line(alloc, session)? {
+        if let Some(line) = stop_line(talk.alloc(), session)? {
             return stand_stopped(talk, settings, why, place, &line);
         }
     }
-    let mut message = talk.event("stopped")?;
-    put_why(alloc, session, why, &mut message)?;
-    send_stopped(talk, message)
+    stand_still(talk, session, why)
 }
 
 // The exit status of a run: 0 at its end, 3 at another stop, 4 at none.
@@ -204,16 +266,67 @@ fn status_of(stop: Option<StopPlace>) -> u8 {
     }
 }
 
+// Puts the status of the run.
+fn put_status(status: u8, message: &mut Message) -> Result<(), DapFault>
+    ensures { IfOk result (λ u. Grown message.old message.new) }
+{
+    message.number("exitCode", u64::from(status))?;
+    Ok(())
+}
+
+// Tells the status of the run.
+fn tell_exit<W: Write>(talk: &mut Talk<W>, status: u8) -> Result<(), DapFault>
+    ensures { (d : Debugging) → IfOk result (λ u. SaysBehind d talk.old talk.new) }
+{
+    let mut message = talk.event("exited")?;
+    let put = put_status(status, &mut message);
+    talk.send_put(message, put)
+}
+
 /// Tells that the session ends, with the status of the run.
 pub(crate) fn finish<P: Part, W: Write>(
     talk: &mut Talk<W>,
     session: &Session<'_, P>,
-) -> Result<(), DapFault> {
-    let status = status_of(session.world().stop());
-    let mut message = talk.event("exited")?;
-    message.number("exitCode", u64::from(status))?;
-    talk.send(message)?;
+) -> Result<(), DapFault>
+    ensures { IfOk result (λ u. SaysBehind session.now talk.old talk.new) }
+{
+    tell_exit(talk, status_of(session.world().stop()))?;
     talk.tell("terminated")
+}
+
+// A text with words before it, and a line feed or words behind it.
+fn between(alloc: Global, before: &[u8], text: &[u8], behind: &[u8]) -> Result<Vec<u8>, DapFault>
+    ensures { IfOk result (λ all. all.items ≡ before.now ++ (text.now ++ behind.now)) }
+{
+    let mut all = Vec::from_slice(alloc, before)?;
+    all.extend_from_slice(text)?;
+    all.extend_from_slice(behind)?;
+    Ok(all)
+}
+
+// Tells a text with words before it, and a line feed or words behind it.
+fn tell_between<W: Write>(
+    talk: &mut Talk<W>,
+    before: &[u8],
+    text: &[u8],
+    behind: &[u8],
+) -> Result<(), DapFault>
+    ensures { IfOk result (λ u. TellsText talk.old talk.new (codes "stdout") (before.now ++ (text.now ++ behind.now))) }
+{
+    let text = between(talk.alloc(), before, text, behind)?;
+    talk.tell_text("stdout", &text)
+}
+
+// Tells that there is no stop.
+fn tell_no_stop<P: Part, W: Write>(
+    talk: &mut Talk<W>,
+    session: &Session<'_, P>,
+) -> Result<(), DapFault>
+    ensures { IfOk result (λ u. SaysBehind session.now talk.old talk.new) }
+{
+    let mut digits = itoa::Buffer::new();
+    let steps = digits.format(session.standing().steps).as_bytes();
+    tell_between(talk, b"no stop after ", steps, b" steps\n")
 }
 
 // Tells the stop of a run that came to its end, or that there is none.
@@ -221,18 +334,38 @@ fn tell_end<P: Part, W: Write>(
     talk: &mut Talk<W>,
     session: &Session<'_, P>,
     settings: &Settings<'_>,
-    steps: &[u8],
-) -> Result<(), DapFault> {
-    let alloc = talk.alloc();
+) -> Result<(), DapFault>
+    ensures { IfOk result (λ u. SaysBehind session.now talk.old talk.new) }
+{
     if let Some(place) = session.world().stop() {
-        if let Some(line) = stop_line(alloc, session)? {
+        if let Some(line) = stop_line(talk.alloc(), session)? {
             return tell_placed(talk, settings, "stdout", &line, place.line);
         }
     }
-    let mut text = Vec::from_slice(alloc, b"no stop after ")?;
-    text.extend_from_slice(steps)?;
-    text.extend_from_slice(b" steps\n")?;
-    tell_text(talk, "stdout", &text)
+    tell_no_stop(talk, session)
+}
+
+// Tells where the probe is.
+fn tell_position<P: Part, W: Write>(
+    talk: &mut Talk<W>,
+    session: &Session<'_, P>,
+) -> Result<(), DapFault>
+    ensures { IfOk result (λ u. SaysBehind session.now talk.old talk.new) }
+{
+    let point = point_text(talk.alloc(), session.world().position())?;
+    tell_between(talk, b"position ", &point, b"\n")
+}
+
+// Tells how many steps were taken.
+fn tell_steps<P: Part, W: Write>(
+    talk: &mut Talk<W>,
+    session: &Session<'_, P>,
+) -> Result<(), DapFault>
+    ensures { IfOk result (λ u. SaysBehind session.now talk.old talk.new) }
+{
+    let mut digits = itoa::Buffer::new();
+    let steps = digits.format(session.standing().steps).as_bytes();
+    tell_between(talk, b"steps ", steps, b"\n")
 }
 
 /// Tells the result of a run to the end, as `vcm run` prints it, and that the session ends.
@@ -240,18 +373,11 @@ pub(crate) fn tell_result<P: Part, W: Write>(
     talk: &mut Talk<W>,
     session: &Session<'_, P>,
     settings: &Settings<'_>,
-) -> Result<(), DapFault> {
-    let alloc = talk.alloc();
-    let mut digits = itoa::Buffer::new();
-    let steps = digits.format(session.standing().steps).as_bytes();
-    tell_end(talk, session, settings, steps)?;
-    let mut text = Vec::from_slice(alloc, b"position ")?;
-    text.extend_from_slice(&point_text(alloc, session.world().position())?)?;
-    text.extend_from_slice(b"\n")?;
-    tell_text(talk, "stdout", &text)?;
-    let mut text = Vec::from_slice(alloc, b"steps ")?;
-    text.extend_from_slice(steps)?;
-    text.extend_from_slice(b"\n")?;
-    tell_text(talk, "stdout", &text)?;
+) -> Result<(), DapFault>
+    ensures { IfOk result (λ u. SaysBehind session.now talk.old talk.new) }
+{
+    tell_end(talk, session, settings)?;
+    tell_position(talk, session)?;
+    tell_steps(talk, session)?;
     finish(talk, session)
 }

@@ -9,6 +9,7 @@ ghost use Rattle.vcm_dap.specs.Asked.{items_in, is_write, is_plain, shown_by, va
 ghost use Rattle.vcm_dap.specs.inner.Looking.{told_index};
 ghost use Rattle.vcm_dap.specs.Lines.{named, without_watches, watching, with_watches};
 ghost use Rattle.vcm_dap.specs.Served.{IsWatching};
+ghost use Rattle.vcm_dap.specs.Telling.{SaysSome};
 
 use crate::breakpoints::{has_condition, put_unverified};
 use crate::fault::DapFault;
@@ -106,6 +107,41 @@ fn put_watchable<P: Part>(
     Ok(())
 }
 
+// Puts whether a row can be watched.
+fn put_found<P: Part>(
+    alloc: Global,
+    session: &Session<'_, P>,
+    found: Option<u16>,
+    message: &mut Message,
+) -> Result<(), DapFault> {
+    match found {
+        Some(v) => put_watchable(alloc, session, v, message),
+        None => {
+            message.null("dataId")?;
+            message.text("description", "only variables can be watched")?;
+            Ok(())
+        }
+    }
+}
+
+// The index of the variable that the client asks about, if it is one.
+fn asked_index<P: Part>(
+    alloc: Global,
+    session: &mut Session<'_, P>,
+    request: &Request<'_, '_>,
+) -> Result<Option<u16>, DapFault>
+    requires { session.old.count + 1000000 < 2 ^ 64 }
+    ensures { session.new ≡ session.old }
+{
+    let Some(name) = asked_name(request) else {
+        return Ok(None);
+    };
+    match variable_of(alloc, session, name)? {
+        Some((v, _)) => Ok(Some(v)),
+        None => Ok(None),
+    }
+}
+
 /// Tells whether a row can be watched.
 pub(crate) fn tell_watchable<P: Part, W: Write>(
     talk: &mut Talk<W>,
@@ -113,22 +149,13 @@ pub(crate) fn tell_watchable<P: Part, W: Write>(
     request: &Request<'_, '_>,
 ) -> Result<(), DapFault>
     requires { session.old.count + 1000000 < 2 ^ 64 }
-    ensures { session.new ≡ session.old }
+    ensures same { session.new ≡ session.old }
+    ensures says { IfOk result (λ u. SaysSome talk.old talk.new) }
 {
-    let alloc = talk.alloc();
-    let found = match asked_name(request) {
-        Some(name) => variable_of(alloc, session, name)?,
-        None => None,
-    };
+    let found = asked_index(talk.alloc(), session, request)?;
     let mut message = talk.answer(request)?;
-    match found {
-        Some((v, _)) => put_watchable(alloc, session, v, &mut message)?,
-        None => {
-            message.null("dataId")?;
-            message.text("description", "only variables can be watched")?;
-        }
-    }
-    talk.send(message)
+    let put = put_found(talk.alloc(), session, found, &mut message);
+    talk.send_put(message, put)
 }
 
 // Whether an access is that of each change. It is where none is told.
@@ -279,20 +306,32 @@ fn put_watch(item: &Value<'_>, is_found: bool, message: &mut Message) -> Result<
     Ok(())
 }
 
+// Says which variables are watched.
+fn put_watches(
+    items: &[Value<'_>],
+    wanted: &[Option<VariableRef>],
+    message: &mut Message,
+) -> Result<(), DapFault> {
+    message.begin_list("breakpoints")?;
+    for (item, variable) in items.iter().zip(wanted.iter()) {
+        put_watch(item, variable.is_some(), message)?;
+    }
+    message.end_list()?;
+    Ok(())
+}
+
 // The answer for the watches.
 fn answer_watches<W: Write>(
     talk: &mut Talk<W>,
     request: &Request<'_, '_>,
     items: &[Value<'_>],
     wanted: &[Option<VariableRef>],
-) -> Result<(), DapFault> {
+) -> Result<(), DapFault>
+    ensures { IfOk result (λ u. SaysSome talk.old talk.new) }
+{
     let mut message = talk.answer(request)?;
-    message.begin_list("breakpoints")?;
-    for (item, variable) in items.iter().zip(wanted.iter()) {
-        put_watch(item, variable.is_some(), &mut message)?;
-    }
-    message.end_list()?;
-    talk.send(message)
+    let put = put_watches(items, wanted, &mut message);
+    talk.send_put(message, put)
 }
 
 // Watches the variables of these items, in place of all before.
@@ -305,6 +344,7 @@ fn set_items<P: Part, W: Write>(
     requires { session.old.count + 1000000 < 2 ^ 64 }
     ensures watches { IfOk result (λ u. IsWatching (items_view items.now) session.old session.new) }
     ensures same { session.new.count ≡ session.old.count }
+    ensures says { IfOk result (λ u. SaysSome talk.old talk.new) }
 {
     let wanted = asked_variables(talk.alloc(), session, items)?;
     watch_all(talk.alloc(), session, &wanted);
@@ -320,6 +360,7 @@ pub(crate) fn set_watches<P: Part, W: Write>(
     requires { session.old.count + 1000000 < 2 ^ 64 }
     ensures watches { IfOk result (λ u. IsWatching (items_in (argument (value_view request.now.message.now) (codes "breakpoints"))) session.old session.new) }
     ensures same { session.new.count ≡ session.old.count }
+    ensures says { IfOk result (λ u. SaysSome talk.old talk.new) }
 {
     match request.argument("breakpoints") {
         Some(Value::Array(items)) => set_items(talk, session, request, items),

@@ -2,8 +2,9 @@ use Rattle.std.proofs.Common.{◌≡◌, subst, ap, ◌∙◌}
 use Rattle.std.specs.Prelude.{option_map, slice_get, Some}
 use Rattle.vcm_code.specs.declared.code.Code.{Code}
 use Rattle.vcm_debug.specs.Debugging.{Debugging}
-use Rattle.vcm_dap.specs.Lines.{named}
-use Rattle.vcm_dap.proofs.Watches.{let_go_same, let_go_more}
+use Rattle.vcm_dap.specs.Lines.{named, letting_go}
+use Rattle.vcm_dap.proofs.Folds.{fold_next}
+use Rattle.vcm_dap.proofs.Watches.{let_go_same}
 use Rattle.vcm_dap.proofs.watching.unwatch_all.Goals as goal
 
 pub loop-i-preserved : goal.loop-i-preserved
@@ -14,6 +15,6 @@ loop-i-preserved g c =
     record {
       code = ap (λ (x : Debugging). x.code) c.unwatch.ensures ∙ same.0 ∙ c.loop-i.invariant.code;
       count = ap (λ (x : Debugging). x.count) c.unwatch.ensures ∙ same.1 ∙ c.loop-i.invariant.count;
-      left = let_go_more c.loop-i.session c.unwatch.new.session _ c.args.session.now.code.tables.variables c.loop-i.i c.named_at-variable.result e
+      left = fold_next letting_go named c.loop-i.session c.unwatch.new.session _ c.args.session.now.code.tables.variables c.loop-i.i c.named_at-variable.result e
           c.unwatch.ensures c.loop-i.invariant.left;
     }

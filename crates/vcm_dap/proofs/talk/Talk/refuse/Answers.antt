@@ -1,6 +1,7 @@
-use Rattle.vcm_dap.proofs.Told.{told_as}
+use Rattle.vcm_dap.proofs.Told.{made_as, told_one}
 use Rattle.vcm_dap.proofs.talk.Talk.refuse.Goals as goal
 
-pub returns-in-Ok : goal.returns-in-Ok
-returns-in-Ok g c =
-    told_as c.args.self.now c.refusal.new.self c.send.new.self c.in-Ok.message _ c.send.result c.in-Ok.ensures.counted c.in-Ok.ensures.begun c.send.ensures
+pub returns : goal.returns
+returns g c =
+    let told = made_as (λ m. m) c.args.self.now c.send_made.new.self _ c.refusal-made.result c.send_made.result c.refusal-made.ensures c.send_made.ensures.told c.send_made.ensures.untold in
+    record { told = told; says = told_one c.args.self.now c.send_made.new.self _ c.send_made.result told }
