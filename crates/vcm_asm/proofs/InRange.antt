@@ -40,9 +40,9 @@ module _ (tables : Tables) where
   simple_range (PtMeas i x y z d) h m = (tt, (three_short x y z h.1 m, tt))
   simple_range (SnSet which e) h m = (tt, short e _ h m)
   simple_range (Trans i x y z) h m = (tt, three_short x y z h.1 m)
-  simple_range (Rotate i axis n) h m = (tt, m)
+  simple_range (Rotate i axis n) h m = (tt, (tt, tt))
   simple_range (Recall i) h m = tt
-  simple_range (Obtain v source i word) h m = (tt, (tt, (tt, m)))
+  simple_range (Obtain v source i word) h m = (tt, (tt, (tt, tt)))
   simple_range (Output source i) h m = (tt, tt)
   simple_range (Text bytes) h m = m
 

@@ -4,7 +4,7 @@ ghost use Rattle.std.specs.Prelude.{◌≡◌, ◌+◌, ◌++◌, ◌≤◌, len
 ghost use Rattle.vcm_spec.specs.Expression.{spelling};
 ghost use Rattle.vcm_spec.specs.Simple.{with_form};
 ghost use Rattle.vcm_spec.specs.Program.{size, sizes, case_sizes};
-ghost use Rattle.vcm_nodes.specs.Nodes.{action_of, node_of};
+ghost use Rattle.vcm_nodes.specs.Nodes.{node_of};
 ghost use Rattle.vcm_code.specs.declared.op.Op.TheVariants.{Do, Select};
 ghost use Rattle.vcm_asm.specs.inner.Spelled.{Keeps, KeepThree, SimpleKeeps, NodeKeeps, BlockKeeps, CasesKeep};
 ghost use Rattle.vcm_asm.specs.inner.Depth.{NodeDeep, Deep, CasesDeep};
@@ -45,44 +45,42 @@ fn three(
 
 // What a simple statement does, with its expressions as postfix items.
 fn plain(alloc: Global, action: &Action) -> Result<OwnedSimple, NoMemory>
-    ensures what { IfOk result (λ what. what ≡ with_form spelling (action_of action.now)) }
-    ensures keeps { OnOk result (SimpleKeeps (action_of action.now)) }
+    ensures what { IfOk result (λ what. what ≡ with_form spelling action.now) }
+    ensures keeps { OnOk result (SimpleKeeps action.now) }
 {
     match action {
-        Action::Goto(x, y, z) => {
+        Simple::Goto(x, y, z) => {
             let (x, y, z) = three(alloc, x, y, z)?;
             Ok(Simple::Goto(x, y, z))
         }
-        Action::GoHome => Ok(Simple::GoHome),
-        Action::Assign(variable, e) => {
+        Simple::GoHome => Ok(Simple::GoHome),
+        Simple::Assign(variable, e) => {
             let e = postfix(alloc, e)?;
             Ok(Simple::Assign(*variable, e))
         }
-        Action::Feat(feature, x, y, z, toward) => {
+        Simple::Feat(feature, x, y, z, toward) => {
             let (x, y, z) = three(alloc, x, y, z)?;
             Ok(Simple::Feat(*feature, x, y, z, *toward))
         }
-        Action::PtMeas(feature, x, y, z, toward) => {
+        Simple::PtMeas(feature, x, y, z, toward) => {
             let (x, y, z) = three(alloc, x, y, z)?;
             Ok(Simple::PtMeas(*feature, x, y, z, *toward))
         }
-        Action::SnSet(setting, e) => {
+        Simple::SnSet(setting, e) => {
             let e = postfix(alloc, e)?;
             Ok(Simple::SnSet(*setting, e))
         }
-        Action::Trans(frame, x, y, z) => {
+        Simple::Trans(frame, x, y, z) => {
             let (x, y, z) = three(alloc, x, y, z)?;
             Ok(Simple::Trans(*frame, x, y, z))
         }
-        Action::Rotate(frame, axis, quarters) => {
-            Ok(Simple::Rotate(*frame, axis.number(), quarters.number()))
+        Simple::Rotate(frame, axis, quarters) => Ok(Simple::Rotate(*frame, *axis, *quarters)),
+        Simple::Recall(frame) => Ok(Simple::Recall(*frame)),
+        Simple::Obtain(variable, source, feature, word) => {
+            Ok(Simple::Obtain(*variable, *source, *feature, *word))
         }
-        Action::Recall(frame) => Ok(Simple::Recall(*frame)),
-        Action::Obtain(variable, source, feature, word) => {
-            Ok(Simple::Obtain(*variable, *source, *feature, word.number()))
-        }
-        Action::Output(source, feature) => Ok(Simple::Output(*source, *feature)),
-        Action::Text(text) => {
+        Simple::Output(source, feature) => Ok(Simple::Output(*source, *feature)),
+        Simple::Text(text) => {
             let bytes = Items::from_slice(alloc, text.as_bytes())?;
             Ok(Simple::Text(bytes))
         }

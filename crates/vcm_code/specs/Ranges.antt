@@ -19,16 +19,13 @@ use Rattle.vcm_items.specs.Names.{AreNamed}
 abbrev pub IsShort : List Item → Type 0
 IsShort items = (1 ≤ length items) × (length items ≤ 1024)
 
--- what stands in a place is in range, where its type alone doesn't keep it there: expressions are short, a pair is one of the 32, the axis of a turn one
--- of three, quarters are fewer than four, the word of a feature is the third to the eighth, a text is one, and branches are at most 20,000
+-- what stands in a place is in range, where its type alone doesn't keep it there: expressions are short, a pair is one of the 32, a text is one, and
+-- branches are at most 20,000
 abbrev pub IsRanged : (p : Place) → Said p → Type 0
 IsRanged at.pair n = n < 32
 IsRanged (at.items k) e = IsShort e
 IsRanged (at.three k) t = IsShort t.0 × IsShort t.1.0 × IsShort t.1.1
 IsRanged at.assigned o = IsShort o.1
-IsRanged at.turn n = n < 3
-IsRanged at.quarters n = n < 4
-IsRanged at.part n = (3 ≤ n) × (n ≤ 8)
 IsRanged at.text bs = IsText bs
 IsRanged at.branches bs = length bs ≤ 20000
 IsRanged _ x = Unit {0}

@@ -9,6 +9,12 @@ use Rattle.vcm_spec.specs.declared.words.Setting.{Setting}
 use Rattle.vcm_spec.specs.declared.words.Setting.TheVariants.{Approach, Retract, Search, Depth}
 use Rattle.vcm_spec.specs.declared.words.Source.{Source}
 use Rattle.vcm_spec.specs.declared.words.Source.TheVariants.{Nominal, Actual}
+use Rattle.vcm_spec.specs.declared.words.FrameAxis.{FrameAxis}
+use Rattle.vcm_spec.specs.declared.words.FrameAxis.TheVariants as frame_axis
+use Rattle.vcm_spec.specs.declared.words.Quarters.{Quarters}
+use Rattle.vcm_spec.specs.declared.words.Quarters.TheVariants as quarter
+use Rattle.vcm_spec.specs.declared.words.FeatureWord.{FeatureWord}
+use Rattle.vcm_spec.specs.declared.words.FeatureWord.TheVariants as feature_word
 use Rattle.vcm_spec.specs.declared.expression.Item.{Item}
 use Rattle.vcm_code.specs.declared.branch.Branch.{Branch}
 use Rattle.vcm_spec.specs.declared.simple.Simple.TheVariants.{Goto, GoHome, Assign, Feat, PtMeas, SnSet, Trans, Rotate, Recall, Obtain, Output, Text}
@@ -53,9 +59,9 @@ Said axis = Axis
 Said direction = Option Axis
 Said setting = Setting
 Said source = Source
-Said turn = ℕ
-Said quarters = ℕ
-Said part = ℕ
+Said turn = FrameAxis
+Said quarters = Quarters
+Said part = FeatureWord
 Said text = List ℕ
 Said branches = List Branch
 
@@ -82,6 +88,18 @@ settings = Approach ∷ Retract ∷ Search ∷ Depth ∷ []
 -- whether the nominal or the actual feature is meant
 abbrev pub sources : List Source
 sources = Nominal ∷ Actual ∷ []
+
+-- the axes of a frame
+abbrev pub frame_axes : List FrameAxis
+frame_axes = frame_axis.X ∷ frame_axis.Y ∷ frame_axis.Z ∷ []
+
+-- how far a frame is turned
+abbrev pub quarter_turns : List Quarters
+quarter_turns = quarter.Zero ∷ quarter.One ∷ quarter.Two ∷ quarter.Three ∷ []
+
+-- the words of a feature
+abbrev pub feature_words : List FeatureWord
+feature_words = feature_word.X ∷ feature_word.Y ∷ feature_word.Z ∷ feature_word.I ∷ feature_word.J ∷ feature_word.K ∷ []
 
 -- the kinds of a variable
 abbrev pub kinds : List Kind

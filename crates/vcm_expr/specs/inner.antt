@@ -6,3 +6,4 @@ pub mod Marks
 pub mod Pieces
 pub mod Trees
 pub mod Typings
+pub mod Packed

@@ -7,6 +7,7 @@ pub mod laws;
 mod leaves;
 mod levels;
 mod names;
+mod packed;
 mod parse;
 mod parser;
 mod postfix;

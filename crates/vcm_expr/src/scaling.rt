@@ -6,29 +6,30 @@ ghost use Rattle.vcm_spec.specs.declared.expression.Item.{Item};
 ghost use Rattle.vcm_expr.specs.inner.Trees.{scaling};
 ghost use Rattle.vcm_expr.specs.Typing.{is_scaled, scaled_kind};
 
+use crate::packed::PackedItem;
 use vcm_lines::SourceFault;
 use vcm_num::Kind;
 use vcm_spec::{BinaryOp, Item, UnaryOp};
 
 /// Puts a scaling behind the last expression, where there has to be one.
-pub(crate) fn scale_last(items: &mut Vec<Item>, is_scaled: bool) -> Result<(), SourceFault>
+pub(crate) fn scale_last(items: &mut Vec<PackedItem>, is_scaled: bool) -> Result<(), SourceFault>
     ensures ok { OnOk result (items.new.items ≡ items.old.items ++ scaling is_scaled) }
     ensures fault { IfErr result (λ f. f ≡ no_memory) }
 {
     if is_scaled {
-        items.push(Item::Apply(UnaryOp::Scale))?;
+        items.push(PackedItem::new(Item::Apply(UnaryOp::Scale)))?;
     }
     Ok(())
 }
 
 /// Puts a scaling at a place, where there has to be one.
-pub(crate) fn scale_at(items: &mut Vec<Item>, at: usize, is_scaled: bool) -> Result<(), SourceFault>
+pub(crate) fn scale_at(items: &mut Vec<PackedItem>, at: usize, is_scaled: bool) -> Result<(), SourceFault>
     requires { at ≤ length items.old.items }
     ensures ok { OnOk result ((before after : List Item) → items.old.items ≡ before ++ after → length before ≡ at → items.new.items ≡ before ++ (scaling is_scaled ++ after)) }
     ensures fault { IfErr result (λ f. f ≡ no_memory) }
 {
     if is_scaled {
-        items.insert(at, Item::Apply(UnaryOp::Scale))?;
+        items.insert(at, PackedItem::new(Item::Apply(UnaryOp::Scale)))?;
     }
     Ok(())
 }

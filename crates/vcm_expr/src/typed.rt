@@ -6,10 +6,11 @@ ghost use Rattle.vcm_spec.specs.declared.expression.UnaryOp.{UnaryOp};
 ghost use Rattle.vcm_expr.specs.inner.Trees.{tree_of, items_of};
 
 use crate::expression::Piece;
+use crate::packed::PackedItem;
 use crate::typing::Want;
 use std::marker::Model;
 use vcm_num::Literal;
-use vcm_spec::{Item, Operand};
+use vcm_spec::Operand;
 
 /// How a typed expression is kept. One without an operator, or with a scaling alone, takes no memory.
 #[derive(Drop)]
@@ -19,7 +20,7 @@ pub enum Kept {
     /// One that is scaled.
     Scaled(Operand),
     /// Operands and operators in postfix order.
-    Postfix(Vec<Item>),
+    Postfix(Vec<PackedItem>),
 }
 
 /// An expression whose kinds are known and whose scalings are written out, at most 32 deep and of at most 512 nodes, scalings left out.
@@ -65,7 +66,7 @@ impl Typed {
     }
 
     /// The expression that postfix items spell.
-    pub(crate) fn new(items: Vec<Item>) -> Typed
+    pub(crate) fn new(items: Vec<PackedItem>) -> Typed
         requires { (t : Tree) × (items.items ≡ spelling t) × (depth t ≤ 32) × (nodes t ≤ 512) }
         ensures { items.items ≡ spelling result }
     {

@@ -16,6 +16,7 @@ ghost use Rattle.vcm_expr.specs.Typing.{kinded, leaf_of, prefixed_by, pair_by, t
 use crate::expression::{Expr, Piece, Prefix, Term};
 use crate::leaves::{leaf, number, variable};
 use crate::names::Names;
+use crate::packed::PackedItem;
 use crate::scaling::{is_scaled, scale_at, scale_last, scaled_kind};
 use crate::typed::{Typed, usual_items};
 use std::alloc::Global;
@@ -122,14 +123,14 @@ fn type_pieces(
 }
 
 /// Fits the only expression among the items, which is of this kind, to a place.
-fn demand(items: &mut Vec<Item>, k: Kind, line: u32, want: Want) -> Result<(), SourceFault>
+fn demand(items: &mut Vec<PackedItem>, k: Kind, line: u32, want: Want) -> Result<(), SourceFault>
     ensures ok { OnOk result ((t : Tree) → items.old.items ≡ spelling t → SpelledFor (wanted_by want t k) items.new.items) }
     ensures fault { IfErr result (NoMemoryOr (λ f. (f.line ≡ line) × ((t : Tree) → wanted_by want t k ≡ Err f.code))) }
 {
     match (want, k) {
         (Want::Int, Kind::Int) | (Want::Length, Kind::Real) | (Want::Bool, Kind::Bool) => Ok(()),
         (Want::Length, Kind::Int) => {
-            items.push(Item::Apply(UnaryOp::Scale))?;
+            items.push(PackedItem::new(Item::Apply(UnaryOp::Scale)))?;
             Ok(())
         }
         _ => Err(bad_type(line)),
@@ -138,7 +139,7 @@ fn demand(items: &mut Vec<Item>, k: Kind, line: u32, want: Want) -> Result<(), S
 
 /// Appends the items of the expression that the parts are, and returns its kind.
 fn typed(
-    items: &mut Vec<Item>,
+    items: &mut Vec<PackedItem>,
     pieces: &[Piece],
     line: u32,
     names: &Names,
@@ -159,7 +160,7 @@ fn typed(
 
 /// Goes on by one part: a leaf is one more operand, a sign and an operator take theirs.
 fn step(
-    items: &mut Vec<Item>,
+    items: &mut Vec<PackedItem>,
     open: &mut BoundedStack<OpenOperand>,
     piece: &Piece,
     line: u32,
@@ -211,7 +212,7 @@ fn step(
 
 /// One more operand, which is of this kind.
 fn push_operand(
-    items: &mut Vec<Item>,
+    items: &mut Vec<PackedItem>,
     open: &mut BoundedStack<OpenOperand>,
     x: Operand,
     kind: Kind,
@@ -222,24 +223,24 @@ fn push_operand(
     ensures fault { IfErr result (λ f. f ≡ no_memory) }
 {
     let start = items.len();
-    items.push(Item::Push(x))?;
+    items.push(PackedItem::new(Item::Push(x)))?;
     open.push(OpenOperand { kind, start });
     Ok(())
 }
 
 /// Puts a sign or a negation behind its operand, which is of this kind, and returns the kind of both.
-fn prefixed(items: &mut Vec<Item>, prefix: Prefix, k: Kind, line: u32) -> Result<Kind, SourceFault>
+fn prefixed(items: &mut Vec<PackedItem>, prefix: Prefix, k: Kind, line: u32) -> Result<Kind, SourceFault>
     ensures ok { IfOk result (λ j. (before : List Item) (t : Tree) → items.old.items ≡ before ++ spelling t → Spelled (prefixed_by prefix t k) before items.new.items j) }
     ensures fault { IfErr result (NoMemoryOr (λ f. (f.line ≡ line) × ((t : Tree) → prefixed_by prefix t k ≡ Err f.code))) }
 {
     match (prefix, k) {
         (Prefix::Minus, Kind::Int) | (Prefix::Minus, Kind::Real) => {
-            items.push(Item::Apply(UnaryOp::Neg))?;
+            items.push(PackedItem::new(Item::Apply(UnaryOp::Neg)))?;
             Ok(k)
         }
         (Prefix::Plus, Kind::Int) | (Prefix::Plus, Kind::Real) => Ok(k),
         (Prefix::Not, Kind::Bool) => {
-            items.push(Item::Apply(UnaryOp::Not))?;
+            items.push(PackedItem::new(Item::Apply(UnaryOp::Not)))?;
             Ok(k)
         }
         _ => Err(bad_type(line)),
@@ -248,7 +249,7 @@ fn prefixed(items: &mut Vec<Item>, prefix: Prefix, k: Kind, line: u32) -> Result
 
 /// Puts an operator behind its operands, which are of these kinds; the right one begins at the place `between`. Returns the kind of all.
 fn pair(
-    items: &mut Vec<Item>,
+    items: &mut Vec<PackedItem>,
     between: usize,
     op: BinaryOp,
     k: Kind,
@@ -267,7 +268,7 @@ fn pair(
     };
     scale_last(items, right)?;
     scale_at(items, between, left)?;
-    items.push(Item::Combine(op))?;
+    items.push(PackedItem::new(Item::Combine(op)))?;
     Ok(kind)
 }
 

@@ -2,15 +2,30 @@
 
 ghost use Rattle.std.specs.Prelude.{◌≡◌, length, Some, List, IfOk};
 ghost use Rattle.vcm_num.specs.declared.number.Kind.{Kind};
-ghost use Rattle.vcm_spec.specs.Expression.{kind_of};
+ghost use Rattle.vcm_spec.specs.Expression.{Tree, kind_of, spelling};
 ghost use Rattle.vcm_spec.specs.Value.{value_of};
 ghost use Rattle.vcm_items.specs.Typed.{VariablesBelow};
 ghost use Rattle.vcm_items.specs.Slots.{IsTruth, SlotsFit};
+ghost use Rattle.vcm_items.specs.Run.{ItemsFit};
 
+use crate::packed::PackedItem;
 use crate::typed::{Kept, Typed};
-use vcm_items::{carried_out, operators};
+use vcm_items::{BoundedStack, operators, step_value};
 use vcm_num::Fault;
 use vcm_spec::UnaryOp;
+
+// The value of the expression that the items spell.
+fn carried_out(items: &[PackedItem], slots: &[i64]) -> Result<i64, Fault>
+    requires { ItemsFit (length slots.now) items.now 0 }
+    ensures { (t : Tree) → items.now ≡ spelling t → result ≡ value_of slots.now t }
+{
+    let mut stack = BoundedStack::new();
+    for kept in items {
+        let item = kept.item();
+        step_value(&mut stack, item, slots)?;
+    }
+    Ok(stack.take())
+}
 
 /// The value of a typed expression, where the variables have the values of `slots`: a number of thousandths for a `Real`, 0 or 1 for a
 /// `Bool`. Takes no memory.

@@ -5,21 +5,24 @@ use Rattle.vcm_num.specs.declared.axis.Axis.TheVariants.{PlusX}
 use Rattle.vcm_num.specs.declared.number.Kind.TheVariants.{Int}
 use Rattle.vcm_spec.specs.declared.words.Setting.TheVariants.{Approach}
 use Rattle.vcm_spec.specs.declared.words.Source.TheVariants.{Nominal}
+use Rattle.vcm_spec.specs.declared.words.FrameAxis.TheVariants as frame_axis
+use Rattle.vcm_spec.specs.declared.words.Quarters.TheVariants as quarter
+use Rattle.vcm_spec.specs.declared.words.FeatureWord.TheVariants as feature_word
+use Rattle.vcm_spec.specs.Words.{axis_number, quarters_number, word_number}
 use Rattle.vcm_code.specs.declared.version.Version.{Version}
 use Rattle.vcm_fields.specs.declared.fault.ImageFault.TheVariants.{BadField}
 use Rattle.vcm_code.specs.declared.word.Word.{Word}
 use Rattle.vcm_code.specs.declared.word.Word.TheVariants as words
 use Rattle.vcm_code.specs.Code.{Op, Statement}
 use Rattle.vcm_code.specs.Words.{word_of, has_word}
-use Rattle.vcm_code.specs.Shape.{Place, Filled, axes, directions, settings, sources, kinds, all_words, Form, form, form_of, places_in, made_in, places, op_in, Parted, parted, word_in, put_together, taken_apart, over_places, over_parted, InPlaces, InParted}
+use Rattle.vcm_code.specs.Shape.{Place, Filled, axes, directions, settings, sources, frame_axes, quarter_turns, feature_words, kinds, all_words, Form, form, form_of, places_in, made_in, places, op_in, Parted, parted, word_in, put_together, taken_apart, over_places, over_parted, InPlaces, InParted}
 use Rattle.vcm_code.specs.Shape as at
 use Rattle.vcm_fields.specs.inner.Fitting.{FitThree, FitsPlace, FitsOperation, FitsLine}
-use Rattle.vcm_fields.specs.Readers.{within}
 use Rattle.vcm_fields.specs.Spelling.{byte, long, three, axis_byte, direction_byte, setting_byte, source_byte, word_byte, kind_byte, place, operands, line}
-use Rattle.vcm_fields.specs.Readers.{Reader, both, via, number_at, byte_below_at, kind_at, part_at, any_word_at, word_at, three_at, place_at, filled_at, form_by, operands_by, operands_at, line_at}
+use Rattle.vcm_fields.specs.Readers.{Reader, both, via, number_at, byte_below_at, kind_at, any_word_at, word_at, three_at, place_at, filled_at, form_by, operands_by, operands_at, line_at}
 use Rattle.vcm_fields.proofs.Inverse.{Takes, Reads, ok_is, reads_as, reads_both, via_takes, via_again, reads_via, reads_tested, reads_after}
 use Rattle.vcm_fields.proofs.NumberInverse.{Found, reads_one_of, reads_byte, reads_short, reads_long}
-use Rattle.vcm_fields.proofs.ItemParts.{in_range, range_in, reads_expression}
+use Rattle.vcm_fields.proofs.ItemParts.{reads_expression}
 use Rattle.vcm_fields.proofs.BranchParts.{reads_branches}
 use Rattle.vcm_fields.proofs.TextParts.{reads_text}
 use Rattle.vcm_code.proofs.Shapes.{apart_made, together_apart}
@@ -43,6 +46,18 @@ found_source : Found source_byte sources
 found_source Nominal rest = refl
 found_source _ rest = refl
 
+found_turn : Found axis_number frame_axes
+found_turn frame_axis.X rest = refl
+found_turn _ rest = refl
+
+found_quarters : Found quarters_number quarter_turns
+found_quarters quarter.Zero rest = refl
+found_quarters _ rest = refl
+
+found_part : Found word_number feature_words
+found_part feature_word.X rest = refl
+found_part _ rest = refl
+
 found_word : Found word_byte all_words
 found_word words.EndFil rest = refl
 found_word _ rest = refl
@@ -64,9 +79,6 @@ reads_word v = reads_tested (reads_one_of word_byte all_words found_word) BadFie
 
 reads_below : (limit : ℕ) → limit ≤ 256 → Reads (byte_below_at limit) byte (λ n. n < limit)
 reads_below limit l = reads_tested reads_byte BadField (λ n. nat_lt n limit) (λ n. n < limit) (λ n lt e. grind arith) (λ n h. (omega (arith, h, l), grind arith))
-
-reads_part : Reads part_at byte (λ n. (3 ≤ n) × (n ≤ 8))
-reads_part = reads_tested reads_byte BadField (within 3 8) (λ n. (3 ≤ n) × (n ≤ 8)) (λ n lt e. in_range 3 8 n e) (λ n h. (omega (arith, h.1), range_in 3 8 n h))
 
 pub reads_three : Reads three_at (λ t. three t.0 t.1.0 t.1.1) (λ t. FitThree t.0 t.1.0 t.1.1)
 unfolding three_at
@@ -95,9 +107,9 @@ reads_place at.axis = wide (reads_one_of axis_byte axes found_axis)
 reads_place at.direction = wide (reads_one_of direction_byte directions found_direction)
 reads_place at.setting = wide (reads_one_of setting_byte settings found_setting)
 reads_place at.source = wide (reads_one_of source_byte sources found_source)
-reads_place at.turn = ranged (reads_below 3 (omega arith))
-reads_place at.quarters = ranged (reads_below 4 (omega arith))
-reads_place at.part = ranged reads_part
+reads_place at.turn = wide (reads_one_of axis_number frame_axes found_turn)
+reads_place at.quarters = wide (reads_one_of quarters_number quarter_turns found_quarters)
+reads_place at.part = wide (reads_one_of word_number feature_words found_part)
 reads_place at.text = ranged reads_text
 reads_place at.branches = reads_branches
 

@@ -21,12 +21,16 @@ use Rattle.vcm_fields.specs.declared.items.Tag.TheVariants as tags
 use Rattle.vcm_code.specs.declared.word.Word.{Word}
 use Rattle.vcm_fields.specs.declared.fault.ImageFault.{ImageFault}
 use Rattle.vcm_fields.specs.declared.fault.ImageFault.TheVariants.{NoMemory, Short, BadField}
-use Rattle.vcm_code.specs.Shape.{Place, Said, Filled, axes, directions, settings, sources, kinds, all_words, made, Form, form, form_of}
+use Rattle.vcm_code.specs.Shape.{Place, Said, Filled, axes, directions, settings, sources, frame_axes, quarter_turns, feature_words, kinds, all_words, made, Form, form, form_of}
 use Rattle.vcm_code.specs.Shape as at
 use Rattle.vcm_fields.specs.Spelling.{tag_byte, axis_byte, direction_byte, setting_byte, source_byte, word_byte, kind_byte}
 use Rattle.vcm_num.specs.declared.axis.Axis.{Axis}
 use Rattle.vcm_spec.specs.declared.words.Setting.{Setting}
 use Rattle.vcm_spec.specs.declared.words.Source.{Source}
+use Rattle.vcm_spec.specs.declared.words.FrameAxis.{FrameAxis}
+use Rattle.vcm_spec.specs.declared.words.Quarters.{Quarters}
+use Rattle.vcm_spec.specs.declared.words.FeatureWord.{FeatureWord}
+use Rattle.vcm_spec.specs.Words.{axis_number, quarters_number, word_number}
 
 -- what a call returned, seen by view, is what reading gives
 abbrev pub Gives : {X Y : Type 0} → (X → Y) → Result X ImageFault → Result Y ImageFault → Type 0
@@ -227,9 +231,17 @@ setting_at = one_of setting_byte settings
 abbrev pub source_at : Reader Source
 source_at = one_of source_byte sources
 
--- the word of a feature's part: 3 to 8
-abbrev pub part_at : Reader ℕ
-part_at = tested BadField (within 3 8) byte_at
+-- the axis of a turn
+abbrev pub turn_at : Reader FrameAxis
+turn_at = one_of axis_number frame_axes
+
+-- how many quarter turns
+abbrev pub quarters_at : Reader Quarters
+quarters_at = one_of quarters_number quarter_turns
+
+-- a word of a feature
+abbrev pub part_at : Reader FeatureWord
+part_at = one_of word_number feature_words
 
 -- the word of a statement, of any version
 unfoldable pub any_word_at : Reader Word
@@ -265,8 +277,8 @@ place_at at.axis = axis_at
 place_at at.direction = direction_at
 place_at at.setting = setting_at
 place_at at.source = source_at
-place_at at.turn = byte_below_at 3
-place_at at.quarters = byte_below_at 4
+place_at at.turn = turn_at
+place_at at.quarters = quarters_at
 place_at at.part = part_at
 place_at at.text = text_at
 place_at at.branches = branches_at

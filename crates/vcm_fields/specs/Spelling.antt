@@ -25,6 +25,7 @@ use Rattle.vcm_code.specs.Shape.{Place, Said, over_operands}
 use Rattle.vcm_code.specs.Shape as at
 use Rattle.vcm_num.specs.declared.axis.Axis.{Axis}
 use Rattle.vcm_num.specs.declared.axis.Axis.TheVariants.{PlusX, MinusX, PlusY, MinusY, PlusZ, MinusZ}
+use Rattle.vcm_spec.specs.Words.{axis_number, quarters_number, word_number}
 use Rattle.vcm_spec.specs.declared.words.Setting.{Setting}
 use Rattle.vcm_spec.specs.declared.words.Setting.TheVariants.{Approach, Retract, Search, Depth}
 use Rattle.vcm_spec.specs.declared.words.Source.{Source}
@@ -196,9 +197,9 @@ place at.axis d = byte (axis_byte d)
 place at.direction d = byte (direction_byte d)
 place at.setting which = byte (setting_byte which)
 place at.source which = byte (source_byte which)
-place at.turn n = byte n
-place at.quarters n = byte n
-place at.part n = byte n
+place at.turn n = byte (axis_number n)
+place at.quarters n = byte (quarters_number n)
+place at.part n = byte (word_number n)
 place at.text bs = text bs
 place at.branches bs = branches bs
 

@@ -11,7 +11,7 @@ use crate::slices::{ItemSlice, TextSlice};
 use vcm_code::{Branch, Op};
 use vcm_num::Kind::{Bool, Int, Real};
 use vcm_num::{Axis, Kind};
-use vcm_spec::{Item, Simple};
+use vcm_spec::{FeatureWord, FrameAxis, Item, Simple};
 
 /// What stands in one place of a statement, or that nothing does. `E` holds postfix items, `T` bytes and `B` branches, as in `Op`.
 #[derive(Drop)]
@@ -42,12 +42,12 @@ pub enum Field<'a, E, T, B> {
     Setting(vcm_spec::Setting),
     /// Whether the nominal or the actual feature is meant.
     Source(vcm_spec::Source),
-    /// The axis of a turn: 0 to 2.
-    Turn(u8),
+    /// The axis of a turn.
+    Turn(FrameAxis),
     /// Quarter turns: 0 to 3.
-    Quarters(u8),
+    Quarters(vcm_spec::Quarters),
     /// The number of a feature's word: 3 to 8.
-    Part(u8),
+    Part(FeatureWord),
     /// An output line.
     Text(&'a T),
     /// The branches of a SELECT.

@@ -24,6 +24,6 @@ pub use reading::{ReadOp, Reading, operands};
 pub use slices::{ItemSlice, TextSlice};
 pub use standing::{known, known_text};
 pub use statements::{BorrowedOp, BorrowedStatement, branches as read_branches, pair, statement};
-pub use tags::{axis, direction, known_word, part, setting, source};
+pub use tags::{axis, direction, known_word, part, quarters, setting, source, turn};
 pub use texts::name;
 pub use variables::{BorrowedVariable, variable};

@@ -10,7 +10,7 @@ ghost use Rattle.vcm_fields.specs.inner.Words.{is_simple};
 use vcm_code::{Op, Word};
 use vcm_num::Kind::{Bool, Int, Real};
 use vcm_num::{Axis, Kind};
-use vcm_spec::{Setting, Simple, Source};
+use vcm_spec::{FeatureWord, FrameAxis, Quarters, Setting, Simple, Source};
 
 /// Where operands are read from. Each call takes what stands in one place, and leaves what stands behind it.
 pub trait Reading {
@@ -99,15 +99,15 @@ pub trait Reading {
         ensures { Takes (λ s. s) result (left self.new) (at place.source (left self.old)) };
 
     /// The axis of a turn.
-    fn turn(&mut self) -> Result<u8, Self::Fault>
+    fn turn(&mut self) -> Result<FrameAxis, Self::Fault>
         ensures { Takes (λ n. n) result (left self.new) (at place.turn (left self.old)) };
 
     /// Quarter turns.
-    fn quarters(&mut self) -> Result<u8, Self::Fault>
+    fn quarters(&mut self) -> Result<Quarters, Self::Fault>
         ensures { Takes (λ n. n) result (left self.new) (at place.quarters (left self.old)) };
 
-    /// The number of a feature's word.
-    fn part(&mut self) -> Result<u8, Self::Fault>
+    /// The word of a feature.
+    fn part(&mut self) -> Result<FeatureWord, Self::Fault>
         ensures { Takes (λ n. n) result (left self.new) (at place.part (left self.old)) };
 
     /// An output line.

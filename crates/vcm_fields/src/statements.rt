@@ -10,12 +10,12 @@ use crate::fault::ImageFault;
 use crate::fields::{byte_below, long, short};
 use crate::reading::{Reading, operands};
 use crate::slices::{ItemSlice, TextSlice};
-use crate::tags::{axis, direction, part, setting, source, word};
+use crate::tags::{axis, direction, part, quarters, setting, source, turn, word};
 use crate::texts::text;
 use std::marker::Model;
 use vcm_code::{Op, Statement, Version};
 use vcm_num::{Axis, Kind};
-use vcm_spec::{Setting, Source};
+use vcm_spec::{FeatureWord, FrameAxis, Quarters, Setting, Source};
 
 /// What a statement of an image does.
 pub type BorrowedOp<'a> = Op<ItemSlice<'a>, TextSlice<'a>, BranchSlice<'a>>;
@@ -208,17 +208,17 @@ impl<'a> Reading for ByteReader<'a> {
     }
 
     #[inline(always)]
-    fn turn(&mut self) -> Result<u8, ImageFault> {
-        self.took(byte_below(3, self.left))
+    fn turn(&mut self) -> Result<FrameAxis, ImageFault> {
+        self.took(turn(self.left))
     }
 
     #[inline(always)]
-    fn quarters(&mut self) -> Result<u8, ImageFault> {
-        self.took(byte_below(4, self.left))
+    fn quarters(&mut self) -> Result<Quarters, ImageFault> {
+        self.took(quarters(self.left))
     }
 
     #[inline(always)]
-    fn part(&mut self) -> Result<u8, ImageFault> {
+    fn part(&mut self) -> Result<FeatureWord, ImageFault> {
         self.took(part(self.left))
     }
 

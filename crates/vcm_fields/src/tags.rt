@@ -3,14 +3,14 @@
 ghost use Rattle.std.specs.Prelude.{◌≡◌, Ok, List, ℕ};
 ghost use Rattle.vcm_code.specs.Shape.{all_words};
 ghost use Rattle.vcm_fields.specs.Spelling.{word_byte};
-ghost use Rattle.vcm_fields.specs.Readers.{Gives, Begins, among, any_word_at, word_at, kind_at, axis_at, direction_at, setting_at, source_at, part_at};
+ghost use Rattle.vcm_fields.specs.Readers.{Gives, Begins, among, any_word_at, word_at, kind_at, axis_at, direction_at, setting_at, source_at, turn_at, quarters_at, part_at};
 
 use crate::fault::ImageFault;
 use crate::fields::{byte, known_byte};
 use crate::standing::known;
 use vcm_code::{Version, Word, has_word};
 use vcm_num::{Axis, Kind};
-use vcm_spec::{Setting, Source};
+use vcm_spec::{FeatureWord, FrameAxis, Quarters, Setting, Source};
 
 // The word with a byte.
 #[inline(always)]
@@ -174,17 +174,57 @@ pub fn source(bytes: &[u8]) -> Result<(Source, &[u8]), ImageFault>
     }
 }
 
-/// The number of a word of a feature: 3 to 8.
+/// The axis of a turn.
 ///
 /// # Errors
 ///
-/// Short; BadField where it is another number.
-pub fn part(bytes: &[u8]) -> Result<(u8, &[u8]), ImageFault>
+/// Short; BadField where it is not 0 to 2.
+pub fn turn(bytes: &[u8]) -> Result<(FrameAxis, &[u8]), ImageFault>
+    ensures { Gives (λ x. (x.0, x.1.now)) result (turn_at bytes.now) }
+{
+    let (number, rest) = byte(bytes)?;
+    match number {
+        0 => Ok((FrameAxis::X, rest)),
+        1 => Ok((FrameAxis::Y, rest)),
+        2 => Ok((FrameAxis::Z, rest)),
+        _ => Err(ImageFault::BadField),
+    }
+}
+
+/// How many quarter turns.
+///
+/// # Errors
+///
+/// Short; BadField where they are not 0 to 3.
+pub fn quarters(bytes: &[u8]) -> Result<(Quarters, &[u8]), ImageFault>
+    ensures { Gives (λ x. (x.0, x.1.now)) result (quarters_at bytes.now) }
+{
+    let (number, rest) = byte(bytes)?;
+    match number {
+        0 => Ok((Quarters::Zero, rest)),
+        1 => Ok((Quarters::One, rest)),
+        2 => Ok((Quarters::Two, rest)),
+        3 => Ok((Quarters::Three, rest)),
+        _ => Err(ImageFault::BadField),
+    }
+}
+
+/// A word of a feature.
+///
+/// # Errors
+///
+/// Short; BadField where it is not 3 to 8.
+pub fn part(bytes: &[u8]) -> Result<(FeatureWord, &[u8]), ImageFault>
     ensures { Gives (λ x. (x.0, x.1.now)) result (part_at bytes.now) }
 {
     let (number, rest) = byte(bytes)?;
-    if number < 3 || number > 8 {
-        return Err(ImageFault::BadField);
+    match number {
+        3 => Ok((FeatureWord::X, rest)),
+        4 => Ok((FeatureWord::Y, rest)),
+        5 => Ok((FeatureWord::Z, rest)),
+        6 => Ok((FeatureWord::I, rest)),
+        7 => Ok((FeatureWord::J, rest)),
+        8 => Ok((FeatureWord::K, rest)),
+        _ => Err(ImageFault::BadField),
     }
-    Ok((number, rest))
 }

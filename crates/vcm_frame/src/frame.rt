@@ -1,6 +1,6 @@
 //! Frames.
 
-ghost use Rattle.std.specs.Prelude.{◌≡◌, ◌<◌, IsTrue};
+ghost use Rattle.std.specs.Prelude.{◌≡◌, IsTrue};
 ghost use Rattle.vcm_num.specs.Point.{coordinate};
 ghost use Rattle.vcm_spec.specs.Frame.{opening_frame, is_turn, to_machine, to_part, shifted_frame, turned_frame, direction};
 ghost use Rattle.vcm_spec.specs.Outcome.{Answers, point_at};
@@ -9,7 +9,7 @@ use crate::checked::{point_from, row_between, row_of};
 use crate::turn::Turn;
 use std::marker::Model;
 use vcm_num::{Axis, Point, add};
-use vcm_spec::Stop;
+use vcm_spec::{FrameAxis, Quarters, Stop};
 
 /// Part coordinates: a turn, and the machine point of their origin, in micrometres.
 #[derive(Clone, Copy)]
@@ -83,13 +83,12 @@ impl Frame {
         })
     }
 
-    /// The frame turned by so many quarter turns about one of its own axes by the right-hand rule: 0 is x, 1 is y, 2 is z. The origin stays.
-    pub fn turned(self, axis: u8, quarters: u8) -> Frame
-        requires { axis < 3 }
+    /// The frame turned by quarter turns about one of its own axes by the right-hand rule. The origin stays.
+    pub fn turned(self, axis: FrameAxis, quarters: Quarters) -> Frame
         ensures { result ≡ turned_frame self axis quarters }
     {
         Frame {
-            turn: self.turn.turned(axis, quarters),
+            turn: self.turn.turned(axis.number(), quarters.number()),
             origin: self.origin,
         }
     }

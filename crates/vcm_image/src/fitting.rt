@@ -125,13 +125,11 @@ fn is_ranged(field: &OwnedField<'_>) -> bool
         Field::Items(_, items) => is_short(items),
         Field::Three(_, x, y, z) => are_short(x, y, z),
         Field::Assigned(variable, value) => is_assigned(*variable, value),
-        Field::Turn(n) => *n < 3,
-        Field::Quarters(n) => *n < 4,
-        Field::Part(n) => 3 <= *n && *n <= 8,
         Field::Text(bytes) => is_text(bytes.as_slice()),
         Field::Branches(among) => are_few(among),
         Field::Nothing | Field::Toward(_) | Field::Direction(_) => true,
-        Field::Setting(_) | Field::Source(_) => true,
+        Field::Setting(_) | Field::Source(_) | Field::Turn(_) => true,
+        Field::Quarters(_) | Field::Part(_) => true,
     }
 }
 

@@ -164,7 +164,7 @@ fn field(out: &mut Vec<u8>, field: &OwnedField<'_>) -> Result<(), NoMemory>
     match field {
         Field::Nothing => Ok(()),
         Field::Variable(_, n) | Field::Feature(n) | Field::Frame(n) => short(out, *n),
-        Field::Pair(n) | Field::Turn(n) | Field::Quarters(n) | Field::Part(n) => byte(out, *n),
+        Field::Pair(n) => byte(out, *n),
         Field::Target(to) => long(out, *to),
         Field::Items(_, items) => expression(out, items),
         Field::Three(_, x, y, z) => three(out, x, y, z),
@@ -173,6 +173,9 @@ fn field(out: &mut Vec<u8>, field: &OwnedField<'_>) -> Result<(), NoMemory>
         Field::Direction(direction) => byte(out, direction_byte(*direction)),
         Field::Setting(which) => byte(out, setting_byte(*which)),
         Field::Source(source) => byte(out, source_byte(*source)),
+        Field::Turn(axis) => byte(out, axis.number()),
+        Field::Quarters(turns) => byte(out, turns.number()),
+        Field::Part(word) => byte(out, word.number()),
         Field::Text(bytes) => text(out, bytes),
         Field::Branches(among) => branches(out, among),
     }

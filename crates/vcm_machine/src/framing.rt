@@ -9,10 +9,10 @@ ghost use Rattle.vcm_spec.specs.Effect.{effect};
 ghost use Rattle.vcm_spec.specs.Fitting.{AreLengths};
 ghost use Rattle.vcm_state.specs.Carried.{Carried};
 ghost use Rattle.vcm_code.specs.Checks.{HasItems};
-ghost use Rattle.vcm_fields.specs.Readers.{Begins, OfFirst, both, variable_at, three_at, byte_below_at};
+ghost use Rattle.vcm_fields.specs.Readers.{Begins, OfFirst, both, variable_at, three_at, turn_at, quarters_at};
 
 use crate::acting::three_lengths;
-use vcm_fields::{byte_below, known, known_short};
+use vcm_fields::{known, known_short, quarters, turn};
 use vcm_items::BoundedStack;
 use vcm_spec::Stop;
 use vcm_state::World;
@@ -40,15 +40,15 @@ pub(crate) fn shift(
 /// ROTATE: the current frame is turned about one of its axes, and saved at an index. It always answers `Ok`.
 #[inline(never)]
 pub(crate) fn rotate(world: &mut World, bytes: &[u8]) -> Result<(), Stop>
-    requires { Begins (both variable_at (both (byte_below_at 3) (byte_below_at 4))) (λ o. (o.0 < length world.old.tables.frames) × (o.1.0 < 3)) bytes.now }
-    ensures carried { (part : Workpiece) → OfFirst (both variable_at (both (byte_below_at 3) (byte_below_at 4))) bytes.now (λ o rest.
+    requires { Begins (both variable_at (both turn_at quarters_at)) (λ o. o.0 < length world.old.tables.frames) bytes.now }
+    ensures carried { (part : Workpiece) → OfFirst (both variable_at (both turn_at quarters_at)) bytes.now (λ o rest.
         Carried (effect items_value (setup_of part world.old.tables) world.old.state (Rotate o.0 o.1.0 o.1.1)) world.old.state world.new.state result) }
     ensures tables { world.new.tables ≡ world.old.tables }
     ensures stop { world.new.state.stop ≡ world.old.state.stop }
 {
     let (frame, rest) = known_short(bytes);
-    let (axis, rest) = known(byte_below(3, rest));
-    let (quarters, _) = known(byte_below(4, rest));
+    let (axis, rest) = known(turn(rest));
+    let (quarters, _) = known(quarters(rest));
     world.rotate(frame, axis, quarters)
 }
 

@@ -1,6 +1,6 @@
 //! Carrying out the statements that tell features: OBTAIN and OUTPUT.
 
-ghost use Rattle.std.specs.Prelude.{◌≡◌, ◌<◌, ◌≤◌, length, slice_get, Some};
+ghost use Rattle.std.specs.Prelude.{◌≡◌, ◌<◌, length, slice_get, Some};
 ghost use Rattle.vcm_num.specs.declared.number.Kind.TheVariants.{Real};
 ghost use Rattle.vcm_spec.specs.Workpiece.{Workpiece};
 ghost use Rattle.vcm_spec.specs.Setup.{setup_of};
@@ -22,7 +22,7 @@ use vcm_state::{Halt, World};
 #[inline(never)]
 pub(crate) fn obtain(world: &mut World, bytes: &[u8]) -> Result<(), Stop>
     requires { Begins (both variable_at (both source_at (both variable_at part_at)))
-        (λ o. (slice_get (kinds world.old.tables) o.0 ≡ Some Real) × (o.1.1.0 < length world.old.tables.features) × ((3 ≤ o.1.1.1) × (o.1.1.1 ≤ 8))) bytes.now }
+        (λ o. (slice_get (kinds world.old.tables) o.0 ≡ Some Real) × (o.1.1.0 < length world.old.tables.features)) bytes.now }
     ensures carried { (setting : Workpiece) → OfFirst (both variable_at (both source_at (both variable_at part_at))) bytes.now (λ o rest.
         Carried (effect items_value (setup_of setting world.old.tables) world.old.state (Obtain o.0 o.1.0 o.1.1.0 o.1.1.1)) world.old.state world.new.state result) }
     ensures tables { world.new.tables ≡ world.old.tables }

@@ -17,6 +17,7 @@ use Rattle.vcm_spec.specs.declared.words.Source.TheVariants.{Nominal, Actual}
 use Rattle.vcm_spec.specs.declared.workpiece.Hit.{Hit}
 use Rattle.vcm_spec.specs.declared.feature.Touch.{Touch}
 use Rattle.vcm_spec.specs.Frame.{Frame, is_turn, direction, to_machine, to_part, turned_frame}
+use Rattle.vcm_spec.specs.Words.{axis_number, quarters_number}
 use Rattle.vcm_spec.specs.Workpiece.{Workpiece, is_within}
 use Rattle.vcm_spec.specs.FirstContact.{contact, later_contact}
 use Rattle.vcm_spec.specs.Touch.{centre_of, approach_of, end_of, down_of, back_of, touched_of}
@@ -181,7 +182,7 @@ carried_out_fine n setup w (SnSet which z) t =
 carried_out_fine n setup w (Trans i x y z) t =
     fine_after n (machine_point w x y z) _ (point_never (to_machine w.frame (coordinate (point x y z)))) (λ origin. gives (with_frame_keeps n w i (record (w.frame) { origin = origin }) t.turns.current t))
 carried_out_fine n setup w (Rotate i axis q) t =
-    gives (with_frame_keeps n w i (turned_frame w.frame axis q) (quarters_turn w.frame.turn axis q t.turns.current) t)
+    gives (with_frame_keeps n w i (turned_frame w.frame axis q) (quarters_turn w.frame.turn (axis_number axis) (quarters_number q) t.turns.current) t)
 carried_out_fine n setup w (Recall i) t = recall_fine n w (Undefined (missing.Frame i)) i (λ e. cc) t
 carried_out_fine n setup w (Obtain v source i word) t = fine_after n (feature_in w source i) _ (feature_never w source i) (λ f. gives (variable_sound n w v _ t))
 carried_out_fine n setup w (Output source i) t = fine_after n (feature_in w source i) _ (feature_never w source i) (λ f. line_fine n w _ t)

@@ -1,30 +1,10 @@
 -- The nodes of an accepted program as those of the structured program.
 use Rattle.std.specs.Prelude.{ℕ, ℤ, List, [], ◌∷◌, Option, Some, None}
 use Rattle.vcm_spec.specs.Expression.{Tree}
-use Rattle.vcm_spec.specs.Words.{axis_number, quarters_number, word_number}
-use Rattle.vcm_spec.specs.Simple.{Simple}
-use Rattle.vcm_spec.specs.declared.simple.Simple.TheVariants.{Goto, GoHome, Assign, Feat, PtMeas, SnSet, Trans, Rotate, Recall, Obtain, Output, Text}
 use Rattle.vcm_spec.specs.Program.{Node, Block, Cases, simple, label, jump, choice, choice_else, do_loop, meas, select, ending, done, then}
 use Rattle.vcm_spec.specs.Program.{no_more, one_case, default}
-use Rattle.vcm_nodes.specs.declared.node.Action.{Action}
-use Rattle.vcm_nodes.specs.declared.node.Action.TheVariants as actions
 use Rattle.vcm_nodes.specs.declared.node.Node.{Node as Kept}
 use Rattle.vcm_nodes.specs.declared.node.Node.TheVariants as kept
-
--- a simple statement
-abbrev pub action_of : Action → Simple Tree
-action_of (actions.Goto x y z) = Goto x y z
-action_of actions.GoHome = GoHome
-action_of (actions.Assign v e) = Assign v e
-action_of (actions.Feat i x y z d) = Feat i x y z d
-action_of (actions.PtMeas i x y z given) = PtMeas i x y z given
-action_of (actions.SnSet which e) = SnSet which e
-action_of (actions.Trans i x y z) = Trans i x y z
-action_of (actions.Rotate i axis n) = Rotate i (axis_number axis) (quarters_number n)
-action_of (actions.Recall i) = Recall i
-action_of (actions.Obtain v source i word) = Obtain v source i (word_number word)
-action_of (actions.Output source i) = Output source i
-action_of (actions.Text bytes) = Text bytes
 
 -- a choice with a second block or without
 abbrev pub choice_by : ℕ → Tree → Block → Option (ℕ × Block) → ℕ → Node
@@ -49,7 +29,7 @@ other_of (default line block close) = Some (line, block, close)
 
 -- a node
 abbrev pub node_of : Kept → Node
-node_of (kept.Simple line what) = simple line (action_of what)
+node_of (kept.Simple line what) = simple line what
 node_of (kept.Label line l) = label line l
 node_of (kept.Jump line l) = jump line l
 node_of (kept.Choice line test first other close) = choice_by line test first other close

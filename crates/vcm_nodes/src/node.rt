@@ -10,37 +10,11 @@ use std::marker::Model;
 use vcm_expr::Typed;
 use vcm_forms::OperatorText;
 use vcm_items::Name;
-use vcm_num::Axis;
-use vcm_spec::{FeatureWord, FrameAxis, Quarters, Setting, Source};
+use vcm_spec::Simple;
 
-/// A simple statement: its expressions are typed, and variables, features and frames go by their indexes. Lengths are in micrometres.
-#[derive(Drop)]
-pub enum Action {
-    /// `GOTO`: x, y and z, lengths in micrometres of part coordinates.
-    Goto(Typed, Typed, Typed),
-    /// `GOHOME`.
-    GoHome,
-    /// `ASSIGN`: a variable, and its new value, which has the variable's kind.
-    Assign(u16, Typed),
-    /// `FEAT`: the feature, its place in part coordinates, and its direction out of the material.
-    Feat(u16, Typed, Typed, Typed, Axis),
-    /// `PTMEAS`: the feature, the place to touch in part coordinates, and the direction out of the material if it is given.
-    PtMeas(u16, Typed, Typed, Typed, Option<Axis>),
-    /// `SNSET`: a setting of the probe, and its length.
-    SnSet(Setting, Typed),
-    /// `TRANS`: the frame, and the shifts along its axes.
-    Trans(u16, Typed, Typed, Typed),
-    /// `ROTATE`: the frame, the axis, and the quarter turns.
-    Rotate(u16, FrameAxis, Quarters),
-    /// `RECALL`: the frame.
-    Recall(u16),
-    /// `OBTAIN`: the variable, and the word of a feature that it gets.
-    Obtain(u16, Source, u16, FeatureWord),
-    /// `OUTPUT`: the feature that is told.
-    Output(Source, u16),
-    /// `TEXT`: an output line.
-    Text(OperatorText),
-}
+/// A simple statement: its expressions are typed, and variables, features and frames go by their indexes. Lengths are in micrometres. Contracts see it as
+/// that of the structured program.
+pub type Action = Simple<Typed, OperatorText>;
 
 /// A jump label: its name, and the number of the macro expansion that it belongs to, 0 outside macros. Contracts see it as that of the
 /// structured program.

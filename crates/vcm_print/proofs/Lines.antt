@@ -11,6 +11,7 @@ use Rattle.vcm_code.specs.declared.version.Version.TheVariants.{One, Two}
 use Rattle.vcm_code.specs.Code.{Statement}
 use Rattle.vcm_code.specs.Shape.{Place, Said, Filled, Parted, parted, places, taken_apart, over_places, over_parted, over_operands}
 use Rattle.vcm_code.specs.Shape as at
+use Rattle.vcm_spec.specs.Words.{quarters_number, word_number}
 use Rattle.vcm_code.specs.Words.{word_of}
 use Rattle.vcm_fields.specs.Fields.{PlainField, in_plain}
 use Rattle.vcm_words.specs.declared.row.Row.TheVariants as rows
@@ -75,8 +76,8 @@ place_is at.direction d = one_is (direction_text d)
 place_is at.setting which = one_is (setting_text which)
 place_is at.source which = one_is (source_text which)
 place_is at.turn axis = one_is (turn_text axis)
-place_is at.quarters n = one_is (decimal n)
-place_is at.part n = one_is (decimal n)
+place_is at.quarters n = one_is (decimal (quarters_number n))
+place_is at.part n = one_is (decimal (word_number n))
 place_is at.text bs = text_is (39 ∷ bs ++ 39 ∷ [])
 place_is at.branches bs = branches_are bs
 

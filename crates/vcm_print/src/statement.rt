@@ -81,7 +81,8 @@ fn write_field<W: Write>(field: &BorrowedField<'_, '_>, writer: &mut W) -> Resul
         Field::Setting(which) => write_two(b" ", setting(*which), writer),
         Field::Source(which) => write_two(b" ", source(*which), writer),
         Field::Turn(axis) => write_two(b" ", turn(*axis), writer),
-        Field::Quarters(number) | Field::Part(number) => write_number(u32::from(*number), writer),
+        Field::Quarters(turns) => write_number(u32::from(turns.number()), writer),
+        Field::Part(word) => write_number(u32::from(word.number()), writer),
         Field::Text(text) => write_pieces(writer, &[b" '", text.as_bytes(), b"'"]),
         Field::Branches(branches) => write_branches(branches, writer),
     }

@@ -4,7 +4,7 @@ ghost use Rattle.std.specs.Prelude.{◌≡◌};
 ghost use Rattle.vcm_words.specs.Operands.{axis_text, direction_text, setting_text, source_text, turn_text};
 
 use vcm_num::Axis;
-use vcm_spec::{Setting, Source};
+use vcm_spec::{FrameAxis, Setting, Source};
 
 /// A direction.
 pub(crate) fn axis(toward: Axis) -> &'static [u8]
@@ -52,15 +52,13 @@ pub(crate) fn source(source: Source) -> &'static [u8]
     }
 }
 
-/// The axis of a turn: 0, 1 or 2.
-pub(crate) fn turn(axis: u8) -> &'static [u8]
+/// The axis of a turn.
+pub(crate) fn turn(axis: FrameAxis) -> &'static [u8]
     ensures { result.now ≡ turn_text axis }
 {
-    if axis == 0 {
-        b"X"
-    } else if axis == 1 {
-        b"Y"
-    } else {
-        b"Z"
+    match axis {
+        FrameAxis::X => b"X",
+        FrameAxis::Y => b"Y",
+        FrameAxis::Z => b"Z",
     }
 }

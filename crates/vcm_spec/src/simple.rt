@@ -1,6 +1,6 @@
 //! Simple statements, by which control does not go.
 
-use crate::words::{Setting, Source};
+use crate::words::{FeatureWord, FrameAxis, Quarters, Setting, Source};
 use vcm_num::Axis;
 
 /// What a simple statement does, with expressions of the form `E` and texts of the form `T`. Variables, features and frames go by their indexes, and
@@ -22,12 +22,12 @@ pub enum Simple<E, T> {
     SnSet(Setting, E),
     /// `TRANS`: a frame, and the shift of its origin along x, y and z.
     Trans(u16, E, E, E),
-    /// `ROTATE`: a frame, an axis (0 to 2), and a number of quarter turns (0 to 3).
-    Rotate(u16, u8, u8),
+    /// `ROTATE`: a frame, an axis of it, and quarter turns.
+    Rotate(u16, FrameAxis, Quarters),
     /// `RECALL`: a frame.
     Recall(u16),
-    /// `OBTAIN`: a variable, whether the nominal or the actual feature is meant, the feature, and the number of its word (3 to 8).
-    Obtain(u16, Source, u16, u8),
+    /// `OBTAIN`: a variable, whether the nominal or the actual feature is meant, the feature, and its word.
+    Obtain(u16, Source, u16, FeatureWord),
     /// `OUTPUT`: whether the nominal or the actual feature is meant, and the feature.
     Output(Source, u16),
     /// `TEXT`: an output line.

@@ -9,6 +9,9 @@ use Rattle.vcm_spec.specs.declared.stop.Stop.TheVariants.{Undefined, BadSetting}
 use Rattle.vcm_spec.specs.declared.stop.Missing.TheVariants as missing
 use Rattle.vcm_spec.specs.declared.words.Setting.{Setting}
 use Rattle.vcm_spec.specs.declared.words.Source.{Source}
+use Rattle.vcm_spec.specs.declared.words.FrameAxis.{FrameAxis}
+use Rattle.vcm_spec.specs.declared.words.Quarters.{Quarters}
+use Rattle.vcm_spec.specs.declared.words.FeatureWord.{FeatureWord}
 use Rattle.vcm_spec.specs.Frame.{Frame, turned_frame}
 use Rattle.vcm_spec.specs.Setup.{Setup}
 use Rattle.vcm_spec.specs.Texts.{feature_line}
@@ -19,7 +22,7 @@ use Rattle.vcm_spec.specs.Effect.{carried_out, with_line, feature_in, at_index, 
 use Rattle.vcm_state.proofs.Moves.{gives_on, stops_on}
 
 module _ (setup : Setup) (w : World) where
-  pub rotated : (i axis n : ℕ) (f : Frame) → f ≡ turned_frame w.frame axis n
+  pub rotated : (i : ℕ) (axis : FrameAxis) (n : Quarters) (f : Frame) → f ≡ turned_frame w.frame axis n
       → carried_out setup w (Rotate i axis n) ≡ Gives (record w { frame = f; saved = slice_set w.saved i (Some f) })
   unfolding carried_out
   rotated i axis n f e = rw e refl
@@ -37,7 +40,7 @@ module _ (setup : Setup) (w : World) where
   unfolding carried_out
   declared i x y z d = refl
 
-  module _ (v : ℕ) (source : Source) (i word : ℕ) where
+  module _ (v : ℕ) (source : Source) (i : ℕ) (word : FeatureWord) where
     pub unobtained : (why : Stop) → feature_in w source i ≡ Stops why → carried_out setup w (Obtain v source i word) ≡ Stops why
     unfolding carried_out
     unobtained why e = stops_on _ why (λ f. Gives (with_variable w v (word_of f word))) e

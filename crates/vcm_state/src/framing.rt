@@ -8,7 +8,7 @@ ghost use Rattle.vcm_state.specs.Carried.{Carries};
 use crate::indexed::kept;
 use crate::world::World;
 use vcm_num::Point;
-use vcm_spec::{Missing, Stop};
+use vcm_spec::{FrameAxis, Missing, Quarters, Stop};
 
 impl World {
     /// The current frame with its origin at a point, in micrometres of its own coordinates, becomes the current one, and is saved at an index.
@@ -24,11 +24,15 @@ impl World {
         Ok(())
     }
 
-    /// The current frame, turned by so many quarter turns about one of its own axes (0 is x, 1 is y, 2 is z), becomes the current one, and is
-    /// saved at an index. It always answers `Ok`.
-    pub fn rotate(&mut self, frame: u16, axis: u8, quarters: u8) -> Result<(), Stop>
-        requires frame { frame < length self.old.tables.frames }
-        requires axis { axis < 3 }
+    /// The current frame, turned by quarter turns about one of its own axes, becomes the current one, and is saved at an index. It always answers
+    /// `Ok`.
+    pub fn rotate(
+        &mut self,
+        frame: u16,
+        axis: FrameAxis,
+        quarters: Quarters,
+    ) -> Result<(), Stop>
+        requires { frame < length self.old.tables.frames }
         ensures { (part : Workpiece) → Carries part (Rotate frame axis quarters) self.old self.new result }
     {
         let turned = self.frame.turned(axis, quarters);

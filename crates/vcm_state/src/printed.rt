@@ -1,22 +1,24 @@
 //! What programs read of features.
 
-ghost use Rattle.std.specs.Prelude.{◌≡◌, ◌<◌, ◌≤◌, IfOk};
+ghost use Rattle.std.specs.Prelude.{◌≡◌, IfOk};
 ghost use Rattle.vcm_spec.specs.Effect.{word_of};
 ghost use Rattle.vcm_spec.specs.Texts.{feature_line};
 
 use std::alloc::Global;
 use vcm_num::{Items, NoMemory, write_int, write_thousandths};
-use vcm_spec::{Feature, Source};
+use vcm_spec::{Feature, FeatureWord, Source};
 
-/// A word of a feature: words 3 to 5 are its coordinates, in micrometres, words 6 to 8 those of its direction, in thousandths.
-pub(crate) fn word_of(feature: Feature, word: u8) -> i64
-    requires { (3 ≤ word) × (word ≤ 8) }
+/// A word of a feature: a coordinate, in micrometres, or a component of its direction, in thousandths.
+pub(crate) fn word_of(feature: Feature, word: FeatureWord) -> i64
     ensures { result ≡ word_of feature word }
 {
-    if word < 6 {
-        feature.at.0[usize::from(word - 3)]
-    } else {
-        feature.toward.component(usize::from(word - 6)) * 1000
+    match word {
+        FeatureWord::X => feature.at.0[0],
+        FeatureWord::Y => feature.at.0[1],
+        FeatureWord::Z => feature.at.0[2],
+        FeatureWord::I => feature.toward.component(0) * 1000,
+        FeatureWord::J => feature.toward.component(1) * 1000,
+        FeatureWord::K => feature.toward.component(2) * 1000,
     }
 }
 

@@ -1,6 +1,6 @@
 //! What programs tell of features: OBTAIN and OUTPUT.
 
-ghost use Rattle.std.specs.Prelude.{◌≡◌, ◌<◌, ◌≤◌, length, slice_get, unwrap_or, [], Some};
+ghost use Rattle.std.specs.Prelude.{◌≡◌, ◌<◌, length, slice_get, unwrap_or, [], Some};
 ghost use Rattle.vcm_num.specs.declared.number.Kind.TheVariants.{Real};
 ghost use Rattle.vcm_spec.specs.Workpiece.{Workpiece};
 ghost use Rattle.vcm_spec.specs.Outcome.{Answers};
@@ -15,11 +15,11 @@ use crate::stop::Halt;
 use crate::world::{MAX_LINES, World};
 use std::alloc::Global;
 use vcm_items::Name;
-use vcm_spec::{Feature, Missing, Source, Stop};
+use vcm_spec::{Feature, FeatureWord, Missing, Source, Stop};
 
 impl World {
-    /// A `Real` variable, given by its index, gets a word of a feature: words 3 to 5 are its coordinates, in micrometres of part coordinates, words
-    /// 6 to 8 those of its direction, in thousandths.
+    /// A `Real` variable, given by its index, gets a word of a feature: a coordinate, in micrometres of part coordinates, or a component of its
+    /// direction, in thousandths.
     ///
     /// Errors: `Undefined` where the feature isn't declared, or isn't measured. The state is then as it was.
     pub fn obtain(
@@ -27,11 +27,10 @@ impl World {
         variable: u16,
         source: Source,
         feature: u16,
-        word: u8,
+        word: FeatureWord,
     ) -> Result<(), Stop>
         requires variable { slice_get (kinds self.old.tables) variable ≡ Some Real }
         requires feature { feature < length self.old.tables.features }
-        requires word { (3 ≤ word) × (word ≤ 8) }
         ensures { (part : Workpiece) → Carries part (Obtain variable source feature word) self.old self.new result }
     {
         let found = self.feature_in(source, feature)?;

@@ -1,22 +1,27 @@
 -- Places: what is read there is spelled so, and what is spelled so is read again; and so for all places of a statement.
-use Rattle.std.proofs.Common.{◌≡◌, ℕ, ◌<◌, ◌≤◌, ◌^◌, ◌==◌, ◌&&◌, nat_le, not, Bool, true, false, List, [], ◌∷◌, refl, ap, subst, arith, IsTrue}
+use Rattle.std.proofs.Common.{◌≡◌, ℕ, zero, suc, Option, Some, sym, ◌∙◌, ◌<◌, ◌≤◌, ◌^◌, ◌==◌, ◌&&◌, nat_le, not, Bool, true, false, List, [], ◌∷◌, refl, ap, subst, arith, IsTrue}
 use Rattle.std.specs.Prelude.{decimal}
 use Rattle.std.proofs.lemmas.Bool.{and_parts}
 use Rattle.vcm_spec.specs.declared.expression.Item.{Item}
+use Rattle.vcm_spec.specs.declared.words.Quarters.{Quarters}
+use Rattle.vcm_spec.specs.declared.words.Quarters.TheVariants as quarter
+use Rattle.vcm_spec.specs.declared.words.FeatureWord.{FeatureWord}
+use Rattle.vcm_spec.specs.declared.words.FeatureWord.TheVariants as feature_word
+use Rattle.vcm_spec.specs.Words.{quarters_number, word_number}
 use Rattle.vcm_code.specs.declared.version.Version.{Version}
 use Rattle.vcm_code.specs.declared.word.Word.{Word}
 use Rattle.vcm_code.specs.Words.{has_word}
 use Rattle.vcm_fields.specs.inner.Fitting.{FitThree, FitsPlace}
 use Rattle.vcm_fields.proofs.ItemParts.{in_range}
-use Rattle.vcm_code.specs.Shape.{Place, Said, Filled, axes, directions, settings, sources, all_words, over_places, InPlaces}
+use Rattle.vcm_code.specs.Shape.{Place, Said, Filled, axes, directions, settings, sources, frame_axes, all_words, over_places, InPlaces}
 use Rattle.vcm_code.specs.Shape as at
 use Rattle.vcm_words.specs.Numbers.{number, counted, only_if}
 use Rattle.vcm_words.specs.WordReaders.{◌>>=◌, Reader, Spelling}
-use Rattle.vcm_words.specs.Operands.{single, number_text, number_at, axis_text, direction_text, setting_text, source_text, word_text, three, three_at, behind, spelling, place_words, filled_at, any_word_at, word_at}
+use Rattle.vcm_words.specs.Operands.{single, number_text, number_at, axis_text, direction_text, setting_text, source_text, turn_text, quarters_of, part_of, part_number, word_text, three, three_at, behind, spelling, place_words, filled_at, any_word_at, word_at}
 use Rattle.vcm_words.proofs.Inverse.{Means, Reads, Ends, ends, bind_some, some_is, only_met, reads_as, reads_one, reads_both, reads_tested, ends_both}
 use Rattle.vcm_words.proofs.NumberLaws.{means_number}
 use Rattle.vcm_words.proofs.WordLaws.{means_marked}
-use Rattle.vcm_words.proofs.TableLaws.{turned, Any, means_any, means_turn, axis_row, direction_row, setting_row, source_row, word_row}
+use Rattle.vcm_words.proofs.TableLaws.{turned, Any, means_any, axis_row, direction_row, setting_row, source_row, turn_row, word_row}
 use Rattle.vcm_words.proofs.ItemLaws.{reads_expression}
 use Rattle.vcm_words.proofs.BranchLaws.{reads_branches}
 use Rattle.vcm_words.proofs.TextLaws.{ends_text}
@@ -36,9 +41,9 @@ reads_behind letter limit h g l = reads_one (means_marked letter h g (means_numb
 IsPart : ℕ → Type 0
 IsPart n = (3 ≤ n) × (n ≤ 8)
 
-means_part : Means (λ w. number true 9 w >>= λ n. only_if (counted true (nat_le 3 n)) n) decimal IsPart
+means_part_number : Means (part_number true) decimal IsPart
 unfolding IsPart
-means_part = record {
+means_part_number = record {
   takes = λ w n e.
       let m = means_number 9 (omega arith) in
       let p = bind_some (number true 9 w) (λ k. only_if (counted true (nat_le 3 k)) k) n e in
@@ -55,6 +60,57 @@ means_part = record {
       rw (m.again n small, large) refl;
   words = λ n h. let m = means_number 9 (omega arith) in let small : n < 9 = grind arith in m.words n small;
 }
+
+-- numbers that stand for values
+module _ {A : Type 0} {f : List ℕ → Option ℕ} {P : ℕ → Type 0} (m : Means f decimal P) (of : ℕ → A) (to : A → ℕ) (inside : (x : A) → P (to x))
+    (again : (x : A) → of (to x) ≡ x) (there : (n : ℕ) → P n → to (of n) ≡ n) where
+  means_by : Means (λ w. f w >>= λ n. Some (of n)) (λ x. decimal (to x)) Any
+  unfolding Any
+  means_by = record {
+    takes = λ w x e.
+        let p = bind_some (f w) (λ n. Some (of n)) x e in
+        let t = m.takes w p.0 p.1 in
+        (subst (λ y. w ≡ decimal (to y)) (some_is (of p.0) x p.2) (t.0 ∙ ap decimal (sym (there p.0 t.1))), tt);
+    again = λ x h. rw (m.again (to x) (inside x)) (ap (λ y. Some y) (again x));
+    words = λ x h. m.words (to x) (inside x);
+  }
+
+quarters_below : (q : Quarters) → quarters_number q < 4
+quarters_below quarter.Zero = omega arith
+quarters_below _ = omega arith
+
+quarters_again : (q : Quarters) → quarters_of (quarters_number q) ≡ q
+quarters_again quarter.Zero = refl
+quarters_again _ = refl
+
+quarters_there : (n : ℕ) → n < 4 → quarters_number (quarters_of n) ≡ n
+quarters_there zero l = refl
+quarters_there (suc zero) l = refl
+quarters_there (suc (suc zero)) l = refl
+quarters_there (suc (suc (suc zero))) l = refl
+quarters_there (suc (suc (suc (suc n)))) l = absurd (omega (arith, l))
+
+part_inside : (p : FeatureWord) → IsPart (word_number p)
+unfolding IsPart
+part_inside feature_word.X = (omega arith, omega arith)
+part_inside _ = (omega arith, omega arith)
+
+part_again : (p : FeatureWord) → part_of (word_number p) ≡ p
+part_again feature_word.X = refl
+part_again _ = refl
+
+part_there : (n : ℕ) → IsPart n → word_number (part_of n) ≡ n
+unfolding IsPart
+part_there zero l = absurd (omega (arith, l.0))
+part_there (suc zero) l = absurd (omega (arith, l.0))
+part_there (suc (suc zero)) l = absurd (omega (arith, l.0))
+part_there (suc (suc (suc zero))) l = refl
+part_there (suc (suc (suc (suc zero)))) l = refl
+part_there (suc (suc (suc (suc (suc zero))))) l = refl
+part_there (suc (suc (suc (suc (suc (suc zero)))))) l = refl
+part_there (suc (suc (suc (suc (suc (suc (suc zero))))))) l = refl
+part_there (suc (suc (suc (suc (suc (suc (suc (suc zero)))))))) l = refl
+part_there (suc (suc (suc (suc (suc (suc (suc (suc (suc n))))))))) l = absurd (omega (arith, l.1))
 
 -- three expressions
 FitsTriple : List Item × (List Item × List Item) → Type 0
@@ -95,9 +151,9 @@ reads_place at.axis h = wide (reads_one (means_any axis_text axes axis_row))
 reads_place at.direction h = wide (reads_one (means_any direction_text directions direction_row))
 reads_place at.setting h = wide (reads_one (means_any setting_text settings setting_row))
 reads_place at.source h = wide (reads_one (means_any source_text sources source_row))
-reads_place at.turn h = ranged (reads_one means_turn)
-reads_place at.quarters h = ranged (reads_number 4 (omega arith))
-reads_place at.part h = ranged (reads_one means_part)
+reads_place at.turn h = wide (reads_one (means_any turn_text frame_axes turn_row))
+reads_place at.quarters h = wide (reads_one (means_by (means_number 4 (omega arith)) quarters_of quarters_number quarters_below quarters_again quarters_there))
+reads_place at.part h = wide (reads_one (means_by means_part_number part_of word_number part_inside part_again part_there))
 reads_place at.text h = absurd cc
 reads_place at.branches h = reads_branches
 

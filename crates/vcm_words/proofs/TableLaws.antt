@@ -1,5 +1,5 @@
 -- Small tables: what is found by a word has this word, and each value of a table is found by its own.
-use Rattle.std.proofs.Common.{◌≡◌, ℕ, ◌<◌, ◌==◌, ◌&&◌, not, Bool, true, false, cond, List, [], ◌∷◌, Option, Some, refl, subst, arith, zero, suc}
+use Rattle.std.proofs.Common.{◌≡◌, ℕ, ◌<◌, ◌==◌, ◌&&◌, not, Bool, true, false, cond, List, [], ◌∷◌, Option, Some, refl, subst}
 use Rattle.std.specs.Str.{bytes_eq}
 use Rattle.std.specs.List.{AllByRecursion, list_all}
 use Rattle.std.proofs.lemmas.Bool.{and_parts}
@@ -13,6 +13,8 @@ use Rattle.vcm_spec.specs.declared.words.Setting.{Setting}
 use Rattle.vcm_spec.specs.declared.words.Setting.TheVariants.{Approach}
 use Rattle.vcm_spec.specs.declared.words.Source.{Source}
 use Rattle.vcm_spec.specs.declared.words.Source.TheVariants.{Nominal}
+use Rattle.vcm_spec.specs.declared.words.FrameAxis.{FrameAxis}
+use Rattle.vcm_spec.specs.declared.words.FrameAxis.TheVariants as frame_axis
 use Rattle.vcm_code.specs.declared.version.Version.{Version}
 use Rattle.vcm_code.specs.declared.version.Version.TheVariants.{One}
 use Rattle.vcm_code.specs.declared.word.Word.{Word}
@@ -21,8 +23,8 @@ use Rattle.vcm_words.specs.declared.row.Heading.{Heading}
 use Rattle.vcm_words.specs.declared.row.Heading.TheVariants as headings
 use Rattle.vcm_words.specs.inner.Marks.{Without, IsWord}
 use Rattle.vcm_words.specs.WordReaders.{rows_of}
-use Rattle.vcm_code.specs.Shape.{axes, directions, settings, sources, kinds, all_words}
-use Rattle.vcm_words.specs.Operands.{axis_text, direction_text, setting_text, source_text, turn_text, turns, word_text}
+use Rattle.vcm_code.specs.Shape.{axes, directions, settings, sources, frame_axes, kinds, all_words}
+use Rattle.vcm_words.specs.Operands.{axis_text, direction_text, setting_text, source_text, turn_text, word_text}
 use Rattle.vcm_words.specs.Rows.{kind_text, version_text, versions, heading_text, all_headings}
 use Rattle.vcm_words.proofs.Inverse.{Means, some_is}
 
@@ -113,16 +115,6 @@ pub word_row : (x : Word) → IsRow word_text all_words x
 word_row words.EndFil = (refl, refl)
 word_row _ = (refl, refl)
 
-IsTurn : ℕ → Type 0
-IsTurn n = n < 3
-
-turn_row : (x : ℕ) → IsTurn x → IsRow turn_text turns x
-unfolding IsTurn
-turn_row zero h = (refl, refl)
-turn_row (suc zero) h = (refl, refl)
-turn_row (suc (suc zero)) h = (refl, refl)
-turn_row (suc (suc (suc n))) h = absurd (omega (arith, h))
-
-pub means_turn : Means (look_up (rows_of turn_text turns)) turn_text (λ n. n < 3)
-unfolding IsTurn
-means_turn = means_table turn_text IsTurn turns (omega arith, (omega arith, (omega arith, tt))) turn_row
+pub turn_row : (x : FrameAxis) → IsRow turn_text frame_axes x
+turn_row frame_axis.X = (refl, refl)
+turn_row _ = (refl, refl)

@@ -8,12 +8,19 @@ use Rattle.vcm_spec.specs.declared.words.Setting.{Setting}
 use Rattle.vcm_spec.specs.declared.words.Setting.TheVariants.{Approach, Retract, Search, Depth}
 use Rattle.vcm_spec.specs.declared.words.Source.{Source}
 use Rattle.vcm_spec.specs.declared.words.Source.TheVariants.{Nominal, Actual}
+use Rattle.vcm_spec.specs.declared.words.FrameAxis.{FrameAxis}
+use Rattle.vcm_spec.specs.declared.words.FrameAxis.TheVariants as frame_axis
+use Rattle.vcm_spec.specs.declared.words.Quarters.{Quarters}
+use Rattle.vcm_spec.specs.declared.words.Quarters.TheVariants as quarter
+use Rattle.vcm_spec.specs.declared.words.FeatureWord.{FeatureWord}
+use Rattle.vcm_spec.specs.declared.words.FeatureWord.TheVariants as feature_word
+use Rattle.vcm_spec.specs.Words.{quarters_number, word_number}
 use Rattle.vcm_code.specs.declared.word.Word.{Word}
 use Rattle.vcm_code.specs.declared.word.Word.TheVariants as words
 use Rattle.vcm_code.specs.declared.version.Version.{Version}
 use Rattle.vcm_code.specs.Code.{Op, Statement}
 use Rattle.vcm_code.specs.Words.{word_of, has_word}
-use Rattle.vcm_code.specs.Shape.{Place, Said, Filled, axes, directions, settings, sources, all_words, made, Form, form, form_of, over_operands}
+use Rattle.vcm_code.specs.Shape.{Place, Said, Filled, axes, directions, settings, sources, frame_axes, all_words, made, Form, form, form_of, over_operands}
 use Rattle.vcm_code.specs.Shape as at
 use Rattle.vcm_spec.specs.TextBytes.{is_text_byte}
 use Rattle.vcm_spec.specs.declared.expression.Item.{Item}
@@ -74,17 +81,33 @@ abbrev pub source_text : Source → List ℕ
 source_text Nominal = codes "NOMINAL"
 source_text Actual = codes "ACTUAL"
 
--- the word of the axis of a turn: X, Y or Z
-abbrev pub turn_text : ℕ → List ℕ
-turn_text n = if n == 0 then codes "X" else (if n == 1 then codes "Y" else codes "Z")
+-- the word of the axis of a turn
+abbrev pub turn_text : FrameAxis → List ℕ
+turn_text frame_axis.X = codes "X"
+turn_text frame_axis.Y = codes "Y"
+turn_text frame_axis.Z = codes "Z"
 
--- the axes of turns
-abbrev pub turns : List ℕ
-turns = 0 ∷ 1 ∷ 2 ∷ []
+-- the quarter turns of a number; where it is read for its shape alone, each number above 2 is three
+abbrev pub quarters_of : ℕ → Quarters
+quarters_of n = if n == 0 then quarter.Zero else if n == 1 then quarter.One else if n == 2 then quarter.Two else quarter.Three
 
--- reading the number of a feature's word: 3 to 8
-abbrev pub part_at : Bool → Reader ℕ
-part_at exact = one (λ w. number exact 9 w >>= λ n. only_if (counted exact (nat_le 3 n)) n)
+-- reading quarter turns: 0 to 3
+abbrev pub quarters_at : Bool → Reader Quarters
+quarters_at exact = one (λ w. number exact 4 w >>= λ n. Some (quarters_of n))
+
+-- the word of a feature of a number; where it is read for its shape alone, each number but 3 to 7 is the last one's
+abbrev pub part_of : ℕ → FeatureWord
+part_of n =
+    if n == 3 then feature_word.X else if n == 4 then feature_word.Y else if n == 5 then feature_word.Z else if n == 6 then feature_word.I
+    else if n == 7 then feature_word.J else feature_word.K
+
+-- the number of a feature's word: 3 to 8
+abbrev pub part_number : Bool → List ℕ → Option ℕ
+part_number exact w = number exact 9 w >>= λ n. only_if (counted exact (nat_le 3 n)) n
+
+-- reading a word of a feature by its number
+abbrev pub part_at : Bool → Reader FeatureWord
+part_at exact = one (λ w. part_number exact w >>= λ n. Some (part_of n))
 
 -- ---- texts
 
@@ -144,10 +167,6 @@ three t = expression t.0 ++ (expression t.1.0 ++ expression t.1.1)
 unfoldable pub three_at : Bool → Reader (List Item × (List Item × List Item))
 three_at exact = both (expression_at exact) (both (expression_at exact) (expression_at exact))
 
--- a number below a limit
-abbrev pub below : ℕ → Spelling ℕ
-below limit = record { words = number_text; at = λ exact. number_at exact limit }
-
 -- a number below a limit, behind a letter
 abbrev pub behind : ℕ → ℕ → Spelling ℕ
 behind letter limit = record { words = lettered letter; at = λ exact. lettered_at exact letter limit }
@@ -166,9 +185,9 @@ spelling at.axis = named axis_text axes
 spelling at.direction = named direction_text directions
 spelling at.setting = named setting_text settings
 spelling at.source = named source_text sources
-spelling at.turn = named turn_text turns
-spelling at.quarters = below 4
-spelling at.part = record { words = number_text; at = part_at }
+spelling at.turn = named turn_text frame_axes
+spelling at.quarters = record { words = λ q. number_text (quarters_number q); at = quarters_at }
+spelling at.part = record { words = λ p. number_text (word_number p); at = part_at }
 spelling at.text = record { words = text; at = text_at }
 spelling at.branches = record { words = branches; at = branches_at }
 

@@ -6,15 +6,15 @@ ghost use Rattle.vcm_words.specs.Numbers.{number};
 ghost use Rattle.vcm_num.specs.Words.{look_up};
 ghost use Rattle.vcm_words.specs.WordReaders.{one, rows_of};
 ghost use Rattle.vcm_words.specs.Enclosed.{opening};
-ghost use Rattle.vcm_code.specs.Shape.{axes, directions, settings, sources};
-ghost use Rattle.vcm_words.specs.Operands.{lettered_at, number_at, axis_text, direction_text, setting_text, source_text, turn_text, turns, part_at, quoted_in, text_at};
+ghost use Rattle.vcm_code.specs.Shape.{axes, directions, settings, sources, frame_axes};
+ghost use Rattle.vcm_words.specs.Operands.{lettered_at, number_at, axis_text, direction_text, setting_text, source_text, turn_text, quarters_of, quarters_at, part_of, part_at, quoted_in, text_at};
 
 use crate::items::before_end;
 use crate::numbers::{long, short, small};
 use crate::slices::TextWords;
 use crate::words::{Words, table_word};
 use vcm_num::Axis;
-use vcm_spec::{Setting, Source, are_text_bytes};
+use vcm_spec::{FeatureWord, FrameAxis, Quarters, Setting, Source, are_text_bytes};
 
 /// The most bytes of a text.
 const LONGEST_TEXT: usize = 1024;
@@ -71,16 +71,43 @@ pub fn count<'a>(exact: bool, words: &Words<'a>) -> Option<(u32, Words<'a>)>
     Some((long(exact, word)?, rest))
 }
 
-/// A number of quarter turns, 0 to 3, and the words behind it.
-pub fn quarters<'a>(exact: bool, words: &Words<'a>) -> Option<(u8, Words<'a>)>
-    ensures { result ≡ number_at exact 4 words.now }
+// The quarter turns of a number; above 2 they are three.
+fn quarters_of(number: u8) -> Quarters
+    ensures { result ≡ quarters_of number }
 {
-    let (word, rest) = words.split_first()?;
-    Some((small(exact, 4, word)?, rest))
+    match number {
+        0 => Quarters::Zero,
+        1 => Quarters::One,
+        2 => Quarters::Two,
+        _ => Quarters::Three,
+    }
 }
 
-/// The number of a feature's word, 3 to 8, and the words behind it.
-pub fn part<'a>(exact: bool, words: &Words<'a>) -> Option<(u8, Words<'a>)>
+/// A number of quarter turns, 0 to 3, and the words behind it.
+pub fn quarters<'a>(exact: bool, words: &Words<'a>) -> Option<(Quarters, Words<'a>)>
+    ensures { result ≡ quarters_at exact words.now }
+{
+    let (word, rest) = words.split_first()?;
+    let number = small(exact, 4, word)?;
+    Some((quarters_of(number), rest))
+}
+
+// The word of a feature of a number, the last one of all others.
+fn part_of(number: u8) -> FeatureWord
+    ensures { result ≡ part_of number }
+{
+    match number {
+        3 => FeatureWord::X,
+        4 => FeatureWord::Y,
+        5 => FeatureWord::Z,
+        6 => FeatureWord::I,
+        7 => FeatureWord::J,
+        _ => FeatureWord::K,
+    }
+}
+
+/// A word of a feature by its number, 3 to 8, and the words behind it.
+pub fn part<'a>(exact: bool, words: &Words<'a>) -> Option<(FeatureWord, Words<'a>)>
     ensures { result ≡ part_at exact words.now }
 {
     let (word, rest) = words.split_first()?;
@@ -88,7 +115,7 @@ pub fn part<'a>(exact: bool, words: &Words<'a>) -> Option<(u8, Words<'a>)>
     if exact && number < 3 {
         return None;
     }
-    Some((number, rest))
+    Some((part_of(number), rest))
 }
 
 /// A direction, and the words behind it.
@@ -151,11 +178,18 @@ pub fn source<'a>(words: &Words<'a>) -> Option<(Source, Words<'a>)>
     )
 }
 
-/// The axis of a turn, 0 to 2 for x, y and z, and the words behind it.
-pub fn turn<'a>(words: &Words<'a>) -> Option<(u8, Words<'a>)>
-    ensures { result ≡ one (look_up (rows_of turn_text turns)) words.now }
+/// The axis of a turn, and the words behind it.
+pub fn turn<'a>(words: &Words<'a>) -> Option<(FrameAxis, Words<'a>)>
+    ensures { result ≡ one (look_up (rows_of turn_text frame_axes)) words.now }
 {
-    table_word(&[(b"X", 0), (b"Y", 1), (b"Z", 2)], words)
+    table_word(
+        &[
+            (b"X", FrameAxis::X),
+            (b"Y", FrameAxis::Y),
+            (b"Z", FrameAxis::Z),
+        ],
+        words,
+    )
 }
 
 // What stands between apostrophes.

@@ -18,7 +18,7 @@ use crate::words::Words;
 use vcm_code::{Op, Statement, Version, Word};
 use vcm_fields::{Reading, operands};
 use vcm_num::{Axis, Kind};
-use vcm_spec::{Setting, Source};
+use vcm_spec::{FeatureWord, FrameAxis, Quarters, Setting, Source};
 
 /// What a statement of a listing does.
 pub type BorrowedOp<'a> = Op<ItemWords<'a>, TextWords<'a>, BranchWords<'a>>;
@@ -150,17 +150,17 @@ impl<'a> Reading for WordReader<'a> {
         self.took(read)
     }
 
-    fn turn(&mut self) -> Result<u8, ()> {
+    fn turn(&mut self) -> Result<FrameAxis, ()> {
         let read = turn(&self.words);
         self.took(read)
     }
 
-    fn quarters(&mut self) -> Result<u8, ()> {
+    fn quarters(&mut self) -> Result<Quarters, ()> {
         let read = quarters(self.exact, &self.words);
         self.took(read)
     }
 
-    fn part(&mut self) -> Result<u8, ()> {
+    fn part(&mut self) -> Result<FeatureWord, ()> {
         let read = part(self.exact, &self.words);
         self.took(read)
     }

@@ -15,8 +15,7 @@ Keeps t = (kinds : List Kind) (k : Kind) → kind_of kinds t ≡ Some k → HasK
 abbrev pub KeepThree : Tree → Tree → Tree → Type 0
 KeepThree x y z = Keeps x × Keeps y × Keeps z
 
--- so of the expressions of a simple statement that acceptance gives, whose text is one, whose axis is one of three, whose quarter turns are
--- fewer than four, and whose word of a feature is the third to the eighth
+-- so of the expressions of a simple statement that acceptance gives, whose text is one
 abbrev pub SimpleKeeps : Simple Tree → Type 0
 SimpleKeeps (Goto x y z) = KeepThree x y z
 SimpleKeeps GoHome = Unit {0}
@@ -25,9 +24,9 @@ SimpleKeeps (Feat i x y z d) = KeepThree x y z
 SimpleKeeps (PtMeas i x y z d) = KeepThree x y z
 SimpleKeeps (SnSet which e) = Keeps e
 SimpleKeeps (Trans i x y z) = KeepThree x y z
-SimpleKeeps (Rotate i axis n) = (axis < 3) × (n < 4)
+SimpleKeeps (Rotate i axis n) = Unit {0}
 SimpleKeeps (Recall i) = Unit {0}
-SimpleKeeps (Obtain v source i word) = (3 ≤ word) × (word ≤ 8)
+SimpleKeeps (Obtain v source i word) = Unit {0}
 SimpleKeeps (Output source i) = Unit {0}
 SimpleKeeps (Text bytes) = IsText bytes
 

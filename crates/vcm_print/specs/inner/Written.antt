@@ -8,6 +8,7 @@ use Rattle.vcm_code.specs.declared.version.Version.TheVariants.{One, Two}
 use Rattle.vcm_code.specs.Code.{Statement}
 use Rattle.vcm_code.specs.Shape.{Place, Said, over_operands}
 use Rattle.vcm_code.specs.Shape as at
+use Rattle.vcm_spec.specs.Words.{quarters_number, word_number}
 use Rattle.vcm_code.specs.Words.{word_of}
 use Rattle.vcm_words.specs.Branches.{branch_text}
 use Rattle.vcm_words.specs.Items.{item_text}
@@ -55,8 +56,8 @@ place_bytes at.direction d = 32 ∷ direction_text d
 place_bytes at.setting which = 32 ∷ setting_text which
 place_bytes at.source which = 32 ∷ source_text which
 place_bytes at.turn axis = 32 ∷ turn_text axis
-place_bytes at.quarters n = 32 ∷ decimal n
-place_bytes at.part n = 32 ∷ decimal n
+place_bytes at.quarters n = 32 ∷ decimal (quarters_number n)
+place_bytes at.part n = 32 ∷ decimal (word_number n)
 place_bytes at.text bs = codes " '" ++ (bs ++ codes "'")
 place_bytes at.branches bs = branches_bytes bs
 

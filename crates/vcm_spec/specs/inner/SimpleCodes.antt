@@ -4,6 +4,9 @@ use Rattle.std.specs.Coded.{Coded}
 use base.Stored.{Gv, gnil, gnum, gcons}
 use Rattle.vcm_num.specs.contracts.axis.Axis as axis
 use Rattle.vcm_num.specs.declared.axis.Axis.{Axis}
+use Rattle.vcm_spec.specs.contracts.words.FeatureWord as feature_word
+use Rattle.vcm_spec.specs.contracts.words.FrameAxis as frame_axis
+use Rattle.vcm_spec.specs.contracts.words.Quarters as quarters
 use Rattle.vcm_spec.specs.contracts.words.Setting as setting
 use Rattle.vcm_spec.specs.contracts.words.Source as source
 use Rattle.vcm_spec.specs.Simple.{Simple}
@@ -47,9 +50,9 @@ module _ {E : Type 0} (c : Coded E) where
   simple_code (PtMeas i x y z d) = gcons (tag 4) (gcons (gnum i) (gcons (three x y z) (given_code d)))
   simple_code (SnSet which e) = gcons (tag 5) (gcons (setting.the_row.coded.code which) (c.code e))
   simple_code (Trans i x y z) = gcons (tag 6) (gcons (gnum i) (three x y z))
-  simple_code (Rotate i a n) = gcons (tag 7) (gcons (gnum i) (gcons (gnum a) (gnum n)))
+  simple_code (Rotate i a n) = gcons (tag 7) (gcons (gnum i) (gcons (frame_axis.the_row.coded.code a) (quarters.the_row.coded.code n)))
   simple_code (Recall i) = gcons (tag 8) (gnum i)
-  simple_code (Obtain v s i w) = gcons (tag 9) (gcons (gnum v) (gcons (source.the_row.coded.code s) (gcons (gnum i) (gnum w))))
+  simple_code (Obtain v s i w) = gcons (tag 9) (gcons (gnum v) (gcons (source.the_row.coded.code s) (gcons (gnum i) (feature_word.the_row.coded.code w))))
   simple_code (Output s i) = gcons (tag 10) (gcons (source.the_row.coded.code s) (gnum i))
   simple_code (Text bytes) = gcons (tag 11) (bytes_code bytes)
 
@@ -73,10 +76,13 @@ module _ {E : Type 0} (c : Coded E) where
   simple_inj (Trans i x y z) (Trans j k l m) e =
       let h1 : c.code x ≡ c.code k = cc in let h2 : c.code y ≡ c.code l = cc in let h3 : c.code z ≡ c.code m = cc in
       let k1 = c.inj x k h1 in let k2 = c.inj y l h2 in let k3 = c.inj z m h3 in cc
-  simple_inj (Rotate i a n) (Rotate j b m) e = cc
+  simple_inj (Rotate i a n) (Rotate j b m) e =
+      let h1 : frame_axis.the_row.coded.code a ≡ frame_axis.the_row.coded.code b = cc in let k1 = frame_axis.the_row.coded.inj a b h1 in
+      let h2 : quarters.the_row.coded.code n ≡ quarters.the_row.coded.code m = cc in let k2 = quarters.the_row.coded.inj n m h2 in cc
   simple_inj (Recall i) (Recall j) e = cc
   simple_inj (Obtain v s i w) (Obtain v' s' i' w') e =
-      let h4 : source.the_row.coded.code s ≡ source.the_row.coded.code s' = cc in let k4 = source.the_row.coded.inj s s' h4 in cc
+      let h4 : source.the_row.coded.code s ≡ source.the_row.coded.code s' = cc in let k4 = source.the_row.coded.inj s s' h4 in
+      let h5 : feature_word.the_row.coded.code w ≡ feature_word.the_row.coded.code w' = cc in let k5 = feature_word.the_row.coded.inj w w' h5 in cc
   simple_inj (Output s i) (Output s' i') e =
       let h4 : source.the_row.coded.code s ≡ source.the_row.coded.code s' = cc in let k4 = source.the_row.coded.inj s s' h4 in cc
   simple_inj (Text x) (Text y) e = let h : bytes_code x ≡ bytes_code y = cc in let k = bytes_inj x y h in cc

@@ -7,13 +7,13 @@ pub returns-in_ok-from_slice-in-Leaf-clause-kind : goal.returns-in_ok-from_slice
 returns-in_ok-from_slice-in-Leaf-clause-kind c =
     rw c.in_ok-from_slice-in-Leaf.ensures (spelled_kind _ c.args.e.now (sym (ap (λ k. items_of k) c.in-Leaf.is) ∙ c.kept.ensures.items) c.kept.ensures.shallow)
 
-pub returns-in_ok-from_slice-in-Postfix-clause-kind : goal.returns-in_ok-from_slice-in-Postfix-clause-kind
-returns-in_ok-from_slice-in-Postfix-clause-kind c =
-    rw (c.in_ok-from_slice-in-Postfix.ensures, c.deref.ensures.value) (spelled_kind _ c.args.e.now (sym (ap (λ k. items_of k) c.in-Postfix.is) ∙ c.kept.ensures.items) c.kept.ensures.shallow)
+pub returns-in_ok-unpacked-in-Postfix-clause-kind : goal.returns-in_ok-unpacked-in-Postfix-clause-kind
+returns-in_ok-unpacked-in-Postfix-clause-kind c =
+    rw (c.in_ok-unpacked-in-Postfix.ensures, c.deref.ensures.value) (spelled_kind _ c.args.e.now (sym (ap (λ k. items_of k) c.in-Postfix.is) ∙ c.kept.ensures.items) c.kept.ensures.shallow)
 
-pub returns-in_ok-from_slice-in-Postfix-clause-count : goal.returns-in_ok-from_slice-in-Postfix-clause-count
-returns-in_ok-from_slice-in-Postfix-clause-count c =
-    rw (c.in_ok-from_slice-in-Postfix.ensures, c.deref.ensures.value) (spelled_short _ c.args.e.now (sym (ap (λ k. items_of k) c.in-Postfix.is) ∙ c.kept.ensures.items) c.kept.ensures.few)
+pub returns-in_ok-unpacked-in-Postfix-clause-count : goal.returns-in_ok-unpacked-in-Postfix-clause-count
+returns-in_ok-unpacked-in-Postfix-clause-count c =
+    rw (c.in_ok-unpacked-in-Postfix.ensures, c.deref.ensures.value) (spelled_short _ c.args.e.now (sym (ap (λ k. items_of k) c.in-Postfix.is) ∙ c.kept.ensures.items) c.kept.ensures.few)
 
 pub returns-in_ok-from_slice-in-Scaled-clause-kind : goal.returns-in_ok-from_slice-in-Scaled-clause-kind
 returns-in_ok-from_slice-in-Scaled-clause-kind c =
