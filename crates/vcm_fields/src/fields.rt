@@ -120,7 +120,7 @@ fn known_eight(bytes: &[u8]) -> (u64, &[u8])
 
 /// A number of eight bytes with its sign, as a two's complement, where there are so many.
 #[inline(always)]
-pub(crate) fn known_signed(bytes: &[u8]) -> (i64, &[u8])
+pub fn known_signed(bytes: &[u8]) -> (i64, &[u8])
     requires { 8 ≤ length bytes.now }
     ensures { signed_at bytes.now ≡ Ok (result.0, result.1.now) }
 {

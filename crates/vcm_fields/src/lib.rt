@@ -18,7 +18,7 @@ mod variables;
 pub use branches::BranchSlice;
 pub use fault::ImageFault;
 pub use field::{BorrowedField, Field, OwnedField, fields_of};
-pub use fields::{byte_below, known_long, known_short, long, short};
+pub use fields::{byte_below, known_long, known_short, known_signed, long, short};
 pub use items::{Tag, known_item};
 pub use reading::{ReadOp, Reading, operands};
 pub use slices::{ItemSlice, TextSlice};

@@ -1,16 +1,14 @@
 -- Tables of the places where values begin, and lists of values that were read.
-use Rattle.std.proofs.Common.{◌≡◌, ℕ, zero, suc, ◌+◌, ◌-◌, ◌<◌, ◌≤◌, List, [], ◌∷◌, ◌++◌, length, drop, slice_get, slice_index_or, false, if◌then◌else◌, ◌==◌, Some, Result, Ok, Err, refl, sym, ap, subst, ◌∙◌, append_assoc, arith}
+use Rattle.std.proofs.Common.{◌≡◌, ℕ, zero, suc, ◌+◌, ◌-◌, ◌<◌, ◌≤◌, List, [], ◌∷◌, ◌++◌, length, drop, slice_get, slice_index_or, false, ◌==◌, Some, Result, Ok, Err, refl, sym, ap, subst, ◌∙◌, append_assoc, arith}
 use Rattle.std.proofs.lemmas.List.{drop_at, length-append}
 use Rattle.std.specs.List.{AllByRecursion}
 use Rattle.vcm_fields.specs.declared.fault.ImageFault.{ImageFault}
 use Rattle.vcm_fields.specs.declared.fault.ImageFault.TheVariants.{NoMemory}
-use Rattle.vcm_code.specs.declared.code.Code.{Code}
 use Rattle.vcm_image.specs.declared.counts.Counts.{Counts}
-use Rattle.vcm_fields.specs.declared.fault.ImageFault.TheVariants.{Trailing}
-use Rattle.vcm_fields.specs.Readers.{Reader, Fails, times, entry_at, name_at, line_at}
-use Rattle.vcm_image.specs.Whole.{header, header_at, body_at, ended, code_at}
-use Rattle.vcm_image.specs.inner.Places.{IsEnd, Begin, Table, code_or_none, code_in, Indexed}
-use Rattle.vcm_image.proofs.Wholes.{reads_header, code_takes}
+use Rattle.vcm_fields.specs.Readers.{Reader, Fails, times}
+use Rattle.vcm_image.specs.Whole.{header, header_at}
+use Rattle.vcm_image.specs.inner.Places.{IsEnd, Begin, Table}
+use Rattle.vcm_image.proofs.Wholes.{reads_header}
 use Rattle.vcm_fields.proofs.Inverse.{IsBytes, Reads, ok_is}
 use Rattle.vcm_fields.proofs.LoopInverse.{Progress, begun, goes_on, stops, is_done}
 
@@ -99,65 +97,6 @@ fails_from _ r q h k = k h
 
 pub header_end : (bytes : List ℕ) (x : Counts × List ℕ) → IsBytes bytes → header_at bytes ≡ Ok x → IsEnd bytes x.1
 header_end bytes x fits e = let t = reads_header.takes bytes x fits e in (header x.0, t.0.parts)
-
-pub header_fails : (bytes : List ℕ) (f : ImageFault) → header_at bytes ≡ Err f → Fails f (code_at bytes)
-unfolding code_at
-header_fails bytes f e = fails_so f (code_at bytes) (rw e refl)
-
--- the tables that are read after one another
-module _ (bytes : List ℕ) (n : Counts) (r : List ℕ) (h : header_at bytes ≡ Ok (n, r)) where
-  pub variables_fail : (f : ImageFault) → Fails f (times entry_at n.variables r) → Fails f (code_at bytes)
-  unfolding code_at body_at
-  variables_fail f g = fails_from f (times entry_at n.variables r) (code_at bytes) g (λ e. rw (h, e) refl)
-
-  module _ (vs : List ℕ) (r1 : List ℕ) (tv : Table entry_at n.variables bytes r vs r1) where
-    pub features_fail : (f : ImageFault) → Fails f (times name_at n.features r1) → Fails f (code_at bytes)
-    unfolding code_at body_at
-    features_fail f g = fails_from f (times name_at n.features r1) (code_at bytes) g (λ e. rw (h, tv.is, e) refl)
-
-    module _ (fs : List ℕ) (r2 : List ℕ) (tf : Table name_at n.features bytes r1 fs r2) where
-      pub frames_fail : (f : ImageFault) → Fails f (times name_at n.frames r2) → Fails f (code_at bytes)
-      unfolding code_at body_at
-      frames_fail f g = fails_from f (times name_at n.frames r2) (code_at bytes) g (λ e. rw (h, tv.is, tf.is, e) refl)
-
-      module _ (ds : List ℕ) (r3 : List ℕ) (td : Table name_at n.frames bytes r2 ds r3) where
-        pub statements_fail : (f : ImageFault) → Fails f (times (line_at n.version) n.statements r3) → Fails f (code_at bytes)
-        unfolding code_at body_at
-        statements_fail f g = fails_from f (times (line_at n.version) n.statements r3) (code_at bytes) g (λ e. rw (h, tv.is, tf.is, td.is, e) refl)
-
-        module _ (ss : List ℕ) (r4 : List ℕ) (ts : Table (line_at n.version) n.statements bytes r3 ss r4) where
-          abbrev whole_code : Code
-          whole_code = record { version = n.version; tables = record { variables = tv.values; features = tf.values; frames = td.values }; statements = ts.values }
-
-          code_is : code_at bytes ≡ ended (whole_code, r4)
-          unfolding code_at body_at
-          code_is = rw (h, tv.is, tf.is, td.is, ts.is) refl
-
-          pub left_over : (length r4 ≡ 0 → ⊥) → code_at bytes ≡ Err Trailing
-          left_over ne = code_is ∙ over (length r4) ne
-            where
-              over : (k : ℕ) → (k ≡ 0 → ⊥) → (if k == 0 then Ok whole_code else Err Trailing) ≡ Err Trailing
-              over k ne' = grind arith
-
-          none_left : length r4 ≡ 0 → code_at bytes ≡ Ok whole_code
-          none_left e = code_is ∙ over (length r4) e
-            where
-              over : (k : ℕ) → k ≡ 0 → (if k == 0 then Ok whole_code else Err Trailing) ≡ Ok whole_code
-              over k e' = rw e' refl
-
-          pub indexed : IsBytes bytes → length r4 ≡ 0 → Indexed bytes n.version vs fs ds ss
-          indexed b e =
-              let c = none_left e in
-              let same : whole_code ≡ code_in bytes = sym (ap code_or_none c) in
-              record {
-                is = c ∙ ap Ok same;
-                fits = (code_takes bytes (code_in bytes) b (c ∙ ap Ok same)).0;
-                version_is = ap (λ (d : Code). d.version) same;
-                variables_begin = subst (λ (d : Code). Begin entry_at bytes vs d.tables.variables) same tv.begin;
-                features_begin = subst (λ (d : Code). Begin name_at bytes fs d.tables.features) same tf.begin;
-                frames_begin = subst (λ (d : Code). Begin name_at bytes ds d.tables.frames) same td.begin;
-                statements_begin = subst (λ (d : Code). Begin (line_at n.version) bytes ss d.statements) same ts.begin;
-              }
 
 pub not_zero : (k : ℕ) → (k == 0) ≡ false → k ≡ 0 → ⊥
 not_zero k e z = grind arith

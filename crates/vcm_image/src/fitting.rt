@@ -10,7 +10,7 @@ ghost use Rattle.vcm_fields.specs.Widths.{FitsItem, FitsBranch, HasWidth, LineHa
 ghost use Rattle.vcm_image.specs.Whole.{FitsImage};
 ghost use Rattle.vcm_image.specs.inner.Meeting.{FieldMeets};
 
-use crate::scanned::{MOST_NAMES, MOST_STATEMENTS};
+use crate::opening::{MOST_NAMES, MOST_STATEMENTS};
 use vcm_code::{Branch, Code, OwnedOp, OwnedStatement, Version, has_selection};
 use vcm_fields::{Field, OwnedField, fields_of};
 use vcm_items::{Name, is_name, is_variable_name};

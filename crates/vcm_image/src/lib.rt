@@ -6,6 +6,7 @@ mod copying;
 mod counts;
 mod fitting;
 pub mod laws;
+mod opening;
 mod operands;
 mod reading;
 mod scanned;
@@ -13,8 +14,9 @@ mod writing;
 
 pub use counts::Counts;
 pub use fitting::fits;
+pub use opening::{Opening, open};
 pub use reading::read;
-pub use scanned::{Scanned, open};
+pub use scanned::Scanned;
 pub use vcm_fields::{
     BorrowedOp, BorrowedStatement, BorrowedVariable, ImageFault, ItemSlice, TextSlice,
 };

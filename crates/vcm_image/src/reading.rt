@@ -6,7 +6,7 @@ ghost use Rattle.vcm_fields.specs.Readers.{GivesOrNoMemory};
 ghost use Rattle.vcm_image.specs.Whole.{FitsImage, spelling, code_at};
 
 use crate::copying::statements;
-use crate::scanned::open;
+use crate::opening::open;
 use std::alloc::Global;
 use vcm_code::Code;
 use vcm_fields::ImageFault;

@@ -9,8 +9,8 @@ ghost use Rattle.vcm_image.specs.Whole.{FitsImage, header as header_bytes, spell
 
 use crate::bytes::{kind_byte, version_number};
 use crate::counts::Counts;
+use crate::opening::MAGIC;
 use crate::operands::{byte, long, short, statement};
-use crate::scanned::MAGIC;
 use std::alloc::Global;
 use vcm_code::{Code, OwnedStatement};
 use vcm_items::Name;

@@ -2,7 +2,7 @@
 use Rattle.std.proofs.Common.{◌≡◌, ℕ, zero, suc, ◌+◌, List, [], ◌∷◌, ◌++◌, length, take, Some, slice_get, refl, sym, ap, ◌∙◌, subst, arith}
 use Rattle.std.specs.Prelude.{map, flat_map}
 use Rattle.vcm_num.specs.declared.number.Kind.{Kind}
-use Rattle.vcm_spec.specs.Setup.{Variable}
+use Rattle.vcm_spec.specs.Setup.{Variable, Tables}
 use Rattle.vcm_spec.specs.Fitting.{kinds}
 use Rattle.vcm_code.specs.declared.code.Code.{Code}
 use Rattle.vcm_fields.specs.declared.fault.ImageFault.{ImageFault}
@@ -57,5 +57,5 @@ kinds_more vs n ks more v k h e same m = m ∙ ap (λ (j : Kind). ks ++ j ∷ []
 abbrev pub judged : Code → Counts
 judged c = counts_of c.tables (length c.statements)
 
-pub counts_are : (c : Code) (ks : List Kind) (f d s : ℕ) → ks ≡ kinds c.tables → f ≡ length c.tables.features → d ≡ length c.tables.frames → s ≡ length c.statements → record { kinds = ks; features = f; frames = d; statements = s } ≡ judged c
-counts_are c ks f d s e g h i = rw (e, g, h, i) refl
+pub counts_same : (tables : Tables) (ks : List Kind) (f d s : ℕ) → ks ≡ kinds tables → f ≡ length tables.features → d ≡ length tables.frames → record { kinds = ks; features = f; frames = d; statements = s } ≡ counts_of tables s
+counts_same tables ks f d s e g h = rw (e, g, h) refl

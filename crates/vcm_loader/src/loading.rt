@@ -1,73 +1,100 @@
 //! The loading of images.
 
-ghost use Rattle.std.specs.Prelude.{◌≡◌, Ok, OnOk, IfOk, IfErr};
+ghost use Rattle.std.specs.Prelude.{◌≡◌, [], ◌++◌, List, Ok, OnOk, IfOk, IfErr};
 ghost use Rattle.vcm_spec.specs.Fitting.{kinds as kinds_of};
 ghost use Rattle.vcm_code.specs.declared.code.Code.{Code};
 ghost use Rattle.vcm_code.specs.Deciding.{Tells};
 ghost use Rattle.vcm_code.specs.Valid.{Ends, IsValid};
 ghost use Rattle.vcm_fields.specs.declared.fault.ImageFault.TheVariants.{NoMemory};
+ghost use Rattle.vcm_fields.specs.Readers.{Fails};
 ghost use Rattle.vcm_image.specs.Whole.{FitsImage, spelling, code_at};
-ghost use Rattle.vcm_code.specs.Checks.{AllHold, checks};
-ghost use Rattle.vcm_loader.specs.Loading.{FirstFailedCheck, LoadFault};
+ghost use Rattle.vcm_image.specs.Opened.{rest_at};
+ghost use Rattle.vcm_code.specs.Checks.{Check, op_checks, checks};
+ghost use Rattle.vcm_loader.specs.Loading.{LoadFault};
+ghost use Rattle.vcm_loader.specs.inner.Judging.{IsVerdict, IsJudged};
 
 use crate::judging::{is_end, judge_operation};
 use crate::loaded::Loaded;
 use std::alloc::Global;
-use vcm_fields::ImageFault;
-use vcm_image::{Scanned, open};
+use vcm_fields::{BorrowedOp, ImageFault};
+use vcm_image::Opening;
 use vcm_num::Kind;
 
+// What is found of statements that are judged: nothing, or the first refusal.
+type Verdict = Result<(), ImageFault>;
+
 // The kinds of the variables.
-fn variable_kinds(alloc: Global, image: &Scanned<'_>) -> Result<Vec<Kind>, ImageFault>
-    ensures ok { IfOk result (λ ks. ks.items ≡ kinds_of image.now.tables) }
+fn variable_kinds(alloc: Global, image: &Opening<'_>) -> Result<Vec<Kind>, ImageFault>
+    ensures ok { IfOk result (λ ks. ks.items ≡ kinds_of image.now.code.tables) }
     ensures err { IfErr result (λ e. e ≡ NoMemory) }
 {
-    let mut kinds = Vec::new(alloc);
-    for n in 0..image.variable_count() {
+    let count = image.variable_count();
+    let mut kinds = Vec::with_capacity(alloc, count)?;
+    for n in 0..count {
         kinds.push(image.variable(n).kind())?;
     }
     Ok(kinds)
 }
 
-// The operands of all statements, one statement after the other.
-fn judge_statements(image: &Scanned<'_>, kinds: &[Kind]) -> Result<(), ImageFault>
-    requires { kinds.now ≡ kinds_of image.now.tables }
-    ensures ok { OnOk result (AllHold (checks image.now)) }
-    ensures err { IfErr result (λ e. FirstFailedCheck (checks image.now) e) }
+// The verdict over one statement more. It is judged only where nothing is found yet.
+#[inline(always)]
+fn judge_next(
+    so_far: Verdict,
+    op: &BorrowedOp<'_>,
+    kinds: &[Kind],
+    features: usize,
+    frames: usize,
+    statements: usize,
+) -> Verdict
+    ensures { (cs : List Check) → IsVerdict cs so_far → IsVerdict (cs ++ op_checks (record { kinds = kinds.now; features = features; frames = frames; statements = statements }) op.now) result }
+{
+    match so_far {
+        Ok(()) => judge_operation(op, kinds, features, frames, statements),
+        Err(fault) => Err(fault),
+    }
+}
+
+// The verdict over a code whose statements are judged: it has to end with ENDFIL.
+fn concluded(verdict: Verdict, ends: bool) -> Verdict
+    ensures { (c : Code) → IsVerdict (checks c) verdict → Tells ends (Ends c.statements) → IsJudged c result }
+{
+    verdict?;
+    if !ends {
+        return Err(ImageFault::RunsOff);
+    }
+    Ok(())
+}
+
+// Reads all statements, and judges each when it is read. A refusal of reading goes before what is found.
+fn judge_statements(image: &mut Opening<'_>, kinds: &[Kind]) -> Result<Verdict, ImageFault>
+    requires none { image.old.code.statements ≡ [] }
+    requires kinds { kinds.now ≡ kinds_of image.old.code.tables }
+    ensures read { OnOk result ((image.new.left ≡ 0) × (rest_at image.old ≡ rest_at image.new)) }
+    ensures judged { IfOk result (λ v. IsJudged image.new.code v) }
+    ensures err { IfErr result (λ e. Fails e (rest_at image.old)) }
 {
     let features = image.feature_count();
     let frames = image.frame_count();
     let statements = image.statement_count();
-    for n in 0..statements {
-        let statement = image.statement(n);
-        judge_operation(&statement.op, kinds, features, frames, statements)?;
+    let mut verdict = Ok(());
+    let mut ends = false;
+    for _ in 0..statements {
+        let statement = image.next()?;
+        verdict = judge_next(verdict, &statement.op, kinds, features, frames, statements);
+        ends = is_end(&statement.op);
     }
-    Ok(())
+    Ok(concluded(verdict, ends))
 }
 
-// Whether there is a last statement, and it is ENDFIL.
-fn ends(image: &Scanned<'_>) -> bool
-    ensures { Tells result (Ends image.now.statements) }
-{
-    let count = image.statement_count();
-    if count == 0 {
-        return false;
-    }
-    let last = image.statement(count - 1);
-    is_end(&last.op)
-}
-
-// What makes a code valid, in the order of its refusals. The kinds of its variables are let go afterwards.
-fn judge(alloc: Global, image: &Scanned<'_>) -> Result<(), ImageFault>
-    ensures ok { OnOk result (IsValid image.now) }
-    ensures err { IfErr result (λ e. LoadFault (Ok image.now) e) }
+// Reads and judges all statements. The kinds of the variables are let go afterwards.
+fn judge(alloc: Global, image: &mut Opening<'_>) -> Result<Verdict, ImageFault>
+    requires { image.old.code.statements ≡ [] }
+    ensures read { OnOk result ((image.new.left ≡ 0) × (rest_at image.old ≡ rest_at image.new)) }
+    ensures judged { IfOk result (λ v. IsJudged image.new.code v) }
+    ensures err { IfErr result (λ e. Fails e (rest_at image.old)) }
 {
     let kinds = variable_kinds(alloc, image)?;
-    judge_statements(image, &kinds)?;
-    if !ends(image) {
-        return Err(ImageFault::RunsOff);
-    }
-    Ok(())
+    judge_statements(image, &kinds)
 }
 
 // The valid image that the bytes are, or the refusal.
@@ -75,8 +102,10 @@ fn judged(alloc: Global, bytes: &[u8]) -> Result<Loaded<'_>, ImageFault>
     ensures found { IfOk result (λ l. FitsImage l × (IsValid l × (bytes.now ≡ spelling l))) }
     ensures fault { IfErr result (λ e. LoadFault (code_at bytes.now) e) }
 {
-    let scanned = open(alloc, bytes)?;
-    judge(alloc, &scanned)?;
+    let mut image = Opening::begin(alloc, bytes)?;
+    let verdict = judge(alloc, &mut image)?;
+    let scanned = image.finish()?;
+    verdict?;
     Ok(Loaded::new(scanned))
 }
 

@@ -7,26 +7,31 @@ ghost use Rattle.vcm_code.specs.declared.pair.Pair.{Pair};
 ghost use Rattle.vcm_code.specs.declared.op.Op.TheVariants.{Select};
 ghost use Rattle.vcm_code.specs.CodeTable.{target_for as target_of, do_op};
 ghost use Rattle.vcm_code.specs.Checks.{HasItems};
-ghost use Rattle.vcm_fields.specs.Readers.{Begins, OfFirst, both, expression_at, branches_at, target_at};
+ghost use Rattle.vcm_fields.specs.Readers.{Begins, OfFirst, both, times, expression_at, branch_at, branches_at, target_at};
 ghost use Rattle.vcm_machine.specs.Going.{HasTurned};
 
 use crate::acting::value;
-use vcm_fields::{BranchSlice, known, known_long, read_branches};
+use vcm_fields::{known_long, known_short, known_signed};
 use vcm_items::BoundedStack;
 use vcm_spec::Stop;
 use vcm_state::World;
 
-// Where a SELECT goes with a value: to the target of the first branch that has it, otherwise to its last target.
-fn target_for(value: i64, branches: &BranchSlice<'_>, last: u32) -> u32
-    ensures { result ≡ target_of value branches.now last }
+// Where a SELECT goes with a value: to the target of the first branch that has it, otherwise to its last target. So many branches stand in front of
+// the last target; the value of each is compared where it lies.
+fn target_for(value: i64, count: u16, bytes: &[u8]) -> u32
+    requires { Begins (both (times branch_at count) target_at) (λ o. Unit {0}) bytes.now }
+    ensures { OfFirst (both (times branch_at count) target_at) bytes.now (λ o rest. result ≡ target_of value o.0 o.1) }
 {
-    let mut rest = branches.again();
-    while let Some((branch, after)) = rest.split_first() {
-        if value == branch.value {
-            return branch.target;
+    let mut rest = bytes;
+    for _ in 0..count {
+        let (found, after) = known_signed(rest);
+        let (target, behind) = known_long(after);
+        if value == found {
+            return target;
         }
-        rest = after;
+        rest = behind;
     }
+    let (last, _) = known_long(rest);
     last
 }
 
@@ -45,7 +50,6 @@ pub(crate) fn select(
         HasTurned (do_op setup (Select o.0 o.1.0 o.1.1) line world.now.state next ps) next line world.now.state world.now.state ps ps result) }
 {
     let (wanted, rest) = value(stack, world, bytes)?;
-    let (branches, rest) = known(read_branches(rest));
-    let (last, _) = known_long(rest);
-    Ok(target_for(wanted, &branches, last))
+    let (count, rest) = known_short(rest);
+    Ok(target_for(wanted, count, rest))
 }

@@ -1,13 +1,15 @@
 -- The list of all strips, one strip after the other.
-use Rattle.std.proofs.Common.{◌≡◌, ℕ, zero, suc, ℤ, ◌+◌, ◌-◌, ◌*◌, ◌<◌, ◌≤◌, Bool, true, false, List, [], ◌∷◌, ◌++◌, length, drop, get_or, Some, None, slice_get, All, refl, sym, ap, subst, ◌∙◌, arith, inl, inr, append_assoc, drop-cons, length-append, add-one}
+use Rattle.std.proofs.Common.{◌≡◌, ℕ, zero, suc, ℤ, ◌+◌, ◌-◌, ◌*◌, ◌<◌, ◌≤◌, Bool, true, false, List, [], ◌∷◌, ◌++◌, length, drop, get_or, Some, None, slice_get, All, refl, sym, ap, subst, ◌∙◌, arith, inl, inr, append_assoc, map, drop-cons, length-append, add-one}
 use Rattle.std.proofs.Math.ListN.{get_or-append, drop_of_length-le}
 use Rattle.std.proofs.Math.Seq.{get_or-append_seam}
-use Rattle.std.proofs.lemmas.List.{get_or-append-add, append-nil}
+use Rattle.std.proofs.lemmas.List.{get_or-append-add, append-nil, length-map}
 use Rattle.std.proofs.lemmas.List.Elements.{All-nil, All-cons, All-append}
 use Rattle.std.proofs.lemmas.Bool.{cases_lt, le-leb, and_from}
 use Rattle.vcm_spec.specs.declared.workpiece.Block3.{Block3}
 use Rattle.vcm_motion.specs.Strips.{stands_in, numbered, standing, listed_below, starts_to, start_of, listed_in}
+use Rattle.vcm_motion.specs.declared.layout.Span.{Span}
 use Rattle.vcm_motion.specs.inner.Listed.{IsListed, AreStrips}
+use Rattle.vcm_motion.specs.inner.Spans.{span_at, has_strip, having}
 use Rattle.vcm_motion.proofs.InOrder.{no_block, read_at}
 
 -- no more stand in a strip than there are
@@ -154,30 +156,67 @@ are_strips low width wide blocks = record {
       record { place = listed.place; after = omega arith; before = omega arith; is = listed.is };
 }
 
--- the next block, and those behind it
-next_of : (blocks : List Block3) (n : ℕ) → n < length blocks → drop n blocks ≡ read_at blocks n ∷ drop (n + 1) blocks
-next_of blocks n l = drop-cons blocks n no_block l ∙ ap (λ k. read_at blocks n ∷ drop k blocks) (sym (add-one n))
+-- the strips of one more block
+pub spans_more : (low : ℤ) (width : ℕ) (blocks : List Block3) (n : ℕ) (spans longer whole : List Span) → n < length blocks → longer ≡ spans ++ (span_at low width (read_at blocks n) ∷ []) →
+    spans ++ map (span_at low width) (drop n blocks) ≡ whole → longer ++ map (span_at low width) (drop (n + 1) blocks) ≡ whole
+spans_more low width blocks n spans longer whole l more h =
+    let next : drop n blocks ≡ read_at blocks n ∷ drop (n + 1) blocks = drop-cons blocks n no_block l ∙ ap (λ k. read_at blocks n ∷ drop k blocks) (sym (add-one n)) in
+    ap (λ xs. xs ++ map (span_at low width) (drop (n + 1) blocks)) more
+    ∙ append_assoc spans (span_at low width (read_at blocks n) ∷ []) (map (span_at low width) (drop (n + 1) blocks))
+    ∙ ap (λ bs. spans ++ map (span_at low width) bs) (sym next) ∙ h
+
+-- the strips of all blocks
+pub spans_all : (low : ℤ) (width : ℕ) (blocks : List Block3) (n : ℕ) (spans whole : List Span) → length blocks ≤ n →
+    spans ++ map (span_at low width) (drop n blocks) ≡ whole → spans ≡ whole
+spans_all low width blocks n spans whole le h =
+    sym (append-nil spans) ∙ ap (λ bs. spans ++ map (span_at low width) bs) (sym (drop_of_length-le blocks le)) ∙ h
+
+-- there are as many as blocks
+pub spans_few : (low : ℤ) (width : ℕ) (blocks : List Block3) (spans : List Span) → length blocks ≤ 4096 → spans ≡ map (span_at low width) blocks → length spans ≤ 4096
+spans_few low width blocks spans few e = (let l = ap length e in let m = length-map blocks (span_at low width) in omega (arith, l, m, few))
+
+-- what is read past the end
+abbrev no_span : Span
+no_span = record { first = 0; last = 0 }
+
+-- the strips that are read at n
+abbrev pub span_read : List Span → ℕ → Span
+span_read spans n = get_or spans n no_span
+
+-- the strips of the next block, and of those behind it
+next_of : (spans : List Span) (n : ℕ) → n < length spans → drop n spans ≡ span_read spans n ∷ drop (n + 1) spans
+next_of spans n l = drop-cons spans n no_span l ∙ ap (λ k. span_read spans n ∷ drop k spans) (sym (add-one n))
 
 -- one more block of a strip
-pub fill_more : (low : ℤ) (width s : ℕ) (blocks : List Block3) (n : ℕ) (order whole : List ℕ) → n < length blocks → stands_in low width s (read_at blocks n) ≡ true →
-    order ++ standing low width s n (drop n blocks) ≡ whole → (order ++ (n ∷ [])) ++ standing low width s (n + 1) (drop (n + 1) blocks) ≡ whole
-fill_more low width s blocks n order whole l stands h =
-    append_assoc order (n ∷ []) (standing low width s (n + 1) (drop (n + 1) blocks))
-    ∙ ap (λ t. order ++ numbered t n (standing low width s (n + 1) (drop (n + 1) blocks))) (sym stands)
-    ∙ ap (λ bs. order ++ standing low width s n bs) (sym (next_of blocks n l)) ∙ h
+pub fill_more : (s : ℕ) (spans : List Span) (n : ℕ) (order whole : List ℕ) → n < length spans → has_strip s (span_read spans n) ≡ true →
+    order ++ having s n (drop n spans) ≡ whole → (order ++ (n ∷ [])) ++ having s (n + 1) (drop (n + 1) spans) ≡ whole
+fill_more s spans n order whole l has h =
+    append_assoc order (n ∷ []) (having s (n + 1) (drop (n + 1) spans))
+    ∙ ap (λ t. order ++ numbered t n (having s (n + 1) (drop (n + 1) spans))) (sym has)
+    ∙ ap (λ bs. order ++ having s n bs) (sym (next_of spans n l)) ∙ h
 
 -- a block of other strips
-pub fill_same : (low : ℤ) (width s : ℕ) (blocks : List Block3) (n : ℕ) (order whole : List ℕ) → n < length blocks → stands_in low width s (read_at blocks n) ≡ false →
-    order ++ standing low width s n (drop n blocks) ≡ whole → order ++ standing low width s (n + 1) (drop (n + 1) blocks) ≡ whole
-fill_same low width s blocks n order whole l stands h =
-    ap (λ t. order ++ numbered t n (standing low width s (n + 1) (drop (n + 1) blocks))) (sym stands)
-    ∙ ap (λ bs. order ++ standing low width s n bs) (sym (next_of blocks n l)) ∙ h
+pub fill_same : (s : ℕ) (spans : List Span) (n : ℕ) (order whole : List ℕ) → n < length spans → has_strip s (span_read spans n) ≡ false →
+    order ++ having s n (drop n spans) ≡ whole → order ++ having s (n + 1) (drop (n + 1) spans) ≡ whole
+fill_same s spans n order whole l has h =
+    ap (λ t. order ++ numbered t n (having s (n + 1) (drop (n + 1) spans))) (sym has)
+    ∙ ap (λ bs. order ++ having s n bs) (sym (next_of spans n l)) ∙ h
 
 -- all blocks of a strip
-pub fill_all : (low : ℤ) (width s : ℕ) (blocks : List Block3) (n : ℕ) (order whole : List ℕ) → length blocks ≤ n →
-    order ++ standing low width s n (drop n blocks) ≡ whole → order ≡ whole
-fill_all low width s blocks n order whole le h =
-    sym (append-nil order) ∙ ap (λ bs. order ++ standing low width s n bs) (sym (drop_of_length-le blocks le)) ∙ h
+pub fill_all : (s : ℕ) (spans : List Span) (n : ℕ) (order whole : List ℕ) → length spans ≤ n →
+    order ++ having s n (drop n spans) ≡ whole → order ≡ whole
+fill_all s spans n order whole le h =
+    sym (append-nil order) ∙ ap (λ bs. order ++ having s n bs) (sym (drop_of_length-le spans le)) ∙ h
+
+-- those that have the strip are those that stand in it
+having_standing : (low : ℤ) (width s n : ℕ) (blocks : List Block3) → having s n (map (span_at low width) blocks) ≡ standing low width s n blocks
+having_standing low width s n [] = refl
+having_standing low width s n (b ∷ bs) = ap (numbered (stands_in low width s b) n) (having_standing low width s (n + 1) bs)
+
+-- so what is added of the strips of all blocks is what stands there
+pub filled : (low : ℤ) (width s : ℕ) (blocks : List Block3) (spans : List Span) (order longer : List ℕ) → spans ≡ map (span_at low width) blocks →
+    longer ≡ order ++ having s 0 spans → longer ≡ order ++ standing low width s 0 blocks
+filled low width s blocks spans order longer e h = h ∙ ap (λ xs. order ++ having s 0 xs) e ∙ ap (λ xs. order ++ xs) (having_standing low width s 0 blocks)
 
 -- the strips below s are listed
 pub record AreListed (low : ℤ) (width : ℕ) (blocks : List Block3) (s : ℕ) (order starts : List ℕ) : Type 0 where
@@ -192,6 +231,13 @@ listed_more low width blocks s order starts longer more h filled begun =
     let noted : more ≡ starts_to low width blocks (suc s) =
     begun ∙ ap (λ xs. xs ++ (length longer ∷ [])) h.started ∙ ap (λ xs. starts_to low width blocks s ++ (length xs ∷ [])) listed in
     subst (λ k. AreListed low width blocks k longer more) (sym (add-one s)) (record { ordered = listed; started = noted })
+
+-- all strips
+pub all_listed : (low low' : ℤ) (width width' : ℕ) (blocks : List Block3) (s : ℕ) (order starts : List ℕ) → AreListed low width blocks s order starts → 64 ≤ s → s ≤ 64 → low ≡ low' → width ≡ width' →
+    AreListed low' width' blocks 64 order starts
+all_listed low low' width width' blocks s order starts h least most same wide =
+    let all : s ≡ 64 = omega arith in
+    subst (λ l. AreListed l width' blocks 64 order starts) same (subst (λ w. AreListed low w blocks 64 order starts) wide (subst (λ k. AreListed low width blocks k order starts) all h))
 
 -- their number fits
 pub listed_short : (low : ℤ) (width : ℕ) (blocks : List Block3) (s : ℕ) (order starts longer : List ℕ) → length blocks ≤ 4096 → s < 64 → AreListed low width blocks s order starts →

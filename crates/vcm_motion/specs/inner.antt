@@ -3,4 +3,5 @@ pub mod Stretches
 pub mod Sooner
 pub mod Boxes
 pub mod Listed
+pub mod Spans
 pub mod Reaching

@@ -7,7 +7,7 @@ ghost use Rattle.vcm_spec.specs.Workpiece.{IsValid};
 ghost use Rattle.vcm_motion.specs.Strips.{compared, listed_below, starts_to, width_of};
 
 use crate::face::{Face, first_face};
-use crate::layout::{STRIPS, fill, rise};
+use crate::layout::{STRIPS, fill, rise, spans_of};
 use crate::listed::first_in_strips;
 use crate::part::Part;
 use std::alloc::Global;
@@ -49,11 +49,12 @@ impl<'a> Strips<'a> {
         let blocks = part.blocks();
         let low = bounds.low.0[0];
         let width = width(&bounds);
+        let spans = spans_of(alloc, blocks, low, width)?;
         let mut order = Vec::new(alloc);
         let mut starts = Vec::with_capacity(alloc, STRIPS + 1)?;
         starts.push(0)?;
         for strip in 0..STRIPS {
-            fill(&mut order, blocks, low, width, strip)?;
+            fill(&mut order, &spans, strip)?;
             starts.push(order.len() as u32)?;
         }
         Ok(Strips {

@@ -1,22 +1,17 @@
-use Rattle.std.proofs.Common.{subst, arith}
-use Rattle.std.proofs.lemmas.Grind.{common_steps}
 use Rattle.std.proofs.lemmas.Result.{err_from_is_err_and}
-use Rattle.vcm_code.specs.Checks.{Counts, AllHold, op_checks}
-use Rattle.vcm_loader.specs.Loading.{FirstFailedCheck}
-use Rattle.vcm_loader.proofs.Holding.{textless}
-use Rattle.vcm_loader.proofs.Lines.{of_line, held_more, first_of, judged, counts_are}
+use Rattle.vcm_loader.proofs.Lines.{counts_same}
+use Rattle.vcm_loader.proofs.Verdicts.{judging_fails, judging_more, judging_found}
 use Rattle.vcm_loader.proofs.loading.judge_statements.Goals as goal
 
-pub returns-in_err-judge_operation-clause-err : goal.returns-in_err-judge_operation-clause-err
-returns-in_err-judge_operation-clause-err c =
+pub returns-in_err-statement-clause-err : goal.returns-in_err-statement-clause-err
+returns-in_err-statement-clause-err c =
     let p = err_from_is_err_and c.from_residual.result c.from_residual.ensures.1 in
-    let same = counts_are c.args.image.now c.args.kinds.now _ _ _ c.requires c.feature_count-features.ensures c.frame_count-frames.ensures c.statement_count-statements.ensures in
-    rw (p.1, p.2) (first_of (of_line (judged c.args.image.now)) c.args.image.now.statements c.loop-n.n c.statement-statement.result c.in_err-judge_operation.field-0.0 c.loop-n.invariant c.statement-statement.ensures (subst (λ (t : Counts). FirstFailedCheck (op_checks t c.statement-statement.result.op) c.in_err-judge_operation.field-0.0) same (subst (λ cs. FirstFailedCheck cs c.in_err-judge_operation.field-0.0) (textless (record { kinds = c.args.kinds.now; features = c.feature_count-features.result; frames = c.frame_count-frames.result; statements = c.statement_count-statements.result }) c.statement-statement.result.op) c.in_err-judge_operation.ensures.err)))
+    rw (p.1, p.2) (judging_fails _ _ _ _ _ _ c.loop.invariant _ c.loop-test.true c.in_err-statement.ensures.exact)
 
-pub loop-n-preserved : goal.loop-n-preserved
-loop-n-preserved c =
-    let same = counts_are c.args.image.now c.args.kinds.now _ _ _ c.requires c.feature_count-features.ensures c.frame_count-frames.ensures c.statement_count-statements.ensures in
-    held_more (of_line (judged c.args.image.now)) c.args.image.now.statements c.loop-n.n c.statement-statement.result c.loop-n.invariant c.statement-statement.ensures (subst (λ (t : Counts). AllHold (op_checks t c.statement-statement.result.op)) same (subst AllHold (textless (record { kinds = c.args.kinds.now; features = c.feature_count-features.result; frames = c.frame_count-frames.result; statements = c.statement_count-statements.result }) c.statement-statement.result.op) c.in_ok-judge_operation.ensures.ok))
+pub loop-preserved : goal.loop-preserved
+loop-preserved c = judging_more _ _ _ _ _ _ c.loop.invariant _ _ _ _ c.loop-test.true c.in_ok-statement.ensures.exact c.judge_next-verdict.ensures c.is_end-ends.ensures
 
-pub returns-clause-ok : goal.returns-clause-ok
-returns-clause-ok c = grind (arith, common_steps)
+pub returns-clause-judged : goal.returns-clause-judged
+returns-clause-judged c =
+    let same = counts_same c.args.image.now.code.tables c.args.kinds.now _ _ c.statement_count-statements.result c.requires.kinds c.feature_count-features.ensures c.frame_count-frames.ensures in
+    c.concluded.ensures _ (judging_found _ _ _ _ _ _ c.loop.invariant c.loop-test.false same) c.loop.invariant.ended_so

@@ -1,5 +1,5 @@
-use Rattle.vcm_loader.proofs.Lines.{of_line, HeldUpTo, judged}
+use Rattle.vcm_loader.proofs.Verdicts.{Judging}
 use Rattle.vcm_loader.proofs.loading.judge_statements.Given as goal
 
-abbrev pub invariant-loop-n : goal.invariant-loop-n
-invariant-loop-n l = HeldUpTo (of_line (judged l.image)) l.image.statements l.n
+abbrev pub invariant-loop : goal.invariant-loop
+invariant-loop l = Judging (record { kinds = l.kinds; features = l.features; frames = l.frames; statements = l.statements }) l.fn.image l.image l.counter l.verdict l.ends

@@ -3,7 +3,7 @@ use Rattle.std.proofs.lemmas.Result.{err_from_is_err_and}
 use Rattle.vcm_fields.specs.Readers.{name_at}
 use Rattle.vcm_fields.proofs.TextParts.{reads_name}
 use Rattle.vcm_image.proofs.Tables.{filling, filled_more, filled_fails, filled}
-use Rattle.vcm_image.proofs.scanned.names.Goals as goal
+use Rattle.vcm_image.proofs.opening.names.Goals as goal
 
 pub loop-init : goal.loop-init
 loop-init c = rw c.new-starts.ensures.items (filling name_at _ _ _ c.requires (λ i. omega (arith, c.type_inv.bytes i)))

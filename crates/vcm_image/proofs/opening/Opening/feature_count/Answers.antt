@@ -1,0 +1,11 @@
+use Rattle.std.proofs.Common.{length, ap, arith}
+use Rattle.vcm_fields.specs.Readers.{name_at}
+use Rattle.vcm_image.specs.Opened.{Opened}
+use Rattle.vcm_image.proofs.Tables.{Begin-length}
+use Rattle.vcm_image.proofs.opening.Opening.feature_count.Goals as goal
+
+pub returns : goal.returns
+returns c =
+    let l = Begin-length name_at _ _ _ c.self.invariant.features_begin in
+    let v = ap (λ (o : Opened). length o.code.tables.features) c.self.view_is in
+    omega (arith, c.len.ensures, l, v)
