@@ -23,7 +23,11 @@ pub(crate) fn scale_last(items: &mut Vec<PackedItem>, is_scaled: bool) -> Result
 }
 
 /// Puts a scaling at a place, where there has to be one.
-pub(crate) fn scale_at(items: &mut Vec<PackedItem>, at: usize, is_scaled: bool) -> Result<(), SourceFault>
+pub(crate) fn scale_at(
+    items: &mut Vec<PackedItem>,
+    at: usize,
+    is_scaled: bool,
+) -> Result<(), SourceFault>
     requires { at ≤ length items.old.items }
     ensures ok { OnOk result ((before after : List Item) → items.old.items ≡ before ++ after → length before ≡ at → items.new.items ≡ before ++ (scaling is_scaled ++ after)) }
     ensures fault { IfErr result (λ f. f ≡ no_memory) }

@@ -229,7 +229,12 @@ fn push_operand(
 }
 
 /// Puts a sign or a negation behind its operand, which is of this kind, and returns the kind of both.
-fn prefixed(items: &mut Vec<PackedItem>, prefix: Prefix, k: Kind, line: u32) -> Result<Kind, SourceFault>
+fn prefixed(
+    items: &mut Vec<PackedItem>,
+    prefix: Prefix,
+    k: Kind,
+    line: u32,
+) -> Result<Kind, SourceFault>
     ensures ok { IfOk result (λ j. (before : List Item) (t : Tree) → items.old.items ≡ before ++ spelling t → Spelled (prefixed_by prefix t k) before items.new.items j) }
     ensures fault { IfErr result (NoMemoryOr (λ f. (f.line ≡ line) × ((t : Tree) → prefixed_by prefix t k ≡ Err f.code))) }
 {

@@ -23,7 +23,7 @@ pub use items::{Tag, known_item};
 pub use reading::{ReadOp, Reading, operands};
 pub use slices::{ItemSlice, TextSlice};
 pub use standing::{known, known_text};
-pub use statements::{BorrowedOp, BorrowedStatement, branches as read_branches, pair, statement};
+pub use statements::{BorrowedOp, BorrowedStatement, pair, statement};
 pub use tags::{axis, direction, known_word, part, quarters, setting, source, turn};
 pub use texts::name;
 pub use variables::{BorrowedVariable, variable};

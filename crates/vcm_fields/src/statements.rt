@@ -83,7 +83,7 @@ pub fn pair(bytes: &[u8]) -> Result<(u8, &[u8]), ImageFault>
 /// Short; BadField where they are more than 20,000.
 #[tactic(auto, unfolding(crate::specs::Readers::branches_at))]
 #[inline(always)]
-pub fn branches(bytes: &[u8]) -> Result<(BranchSlice<'_>, &[u8]), ImageFault>
+pub(crate) fn branches(bytes: &[u8]) -> Result<(BranchSlice<'_>, &[u8]), ImageFault>
     ensures { Gives (λ x. (x.0, x.1.now)) result (branches_at bytes.now) }
 {
     let (count, rest) = short(bytes)?;

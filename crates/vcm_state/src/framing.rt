@@ -26,12 +26,7 @@ impl World {
 
     /// The current frame, turned by quarter turns about one of its own axes, becomes the current one, and is saved at an index. It always answers
     /// `Ok`.
-    pub fn rotate(
-        &mut self,
-        frame: u16,
-        axis: FrameAxis,
-        quarters: Quarters,
-    ) -> Result<(), Stop>
+    pub fn rotate(&mut self, frame: u16, axis: FrameAxis, quarters: Quarters) -> Result<(), Stop>
         requires { frame < length self.old.tables.frames }
         ensures { (part : Workpiece) → Carries part (Rotate frame axis quarters) self.old self.new result }
     {
