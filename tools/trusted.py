@@ -14,9 +14,8 @@ HEAD = """# The definitions that are trusted
 
 Whoever believes what vcm proves believes that these files say what they mean to say: public contracts and laws name no other definition of `crates/`. What only
 private contracts and proofs name stands in folders `specs/inner/`. One thing there counts all the same: what a value of a type with a model means to a contract (its
-`ghost view`, a line of the type's own file in `src/`) may be such a definition, as `source_of` of an `Expr`, `tree_of` of a `Typed`, `said_of` of a `Placed` and
-`turn_of` of a `Turn`; of an expression, a typed one and a placed statement a public reader shows what they hold (`Expr::pieces`, `to_postfix`,
-`Placed::statement`). Worked examples are theorems, computed by the checker.
+`ghost view`, a line of the type's own file in `src/`) may be such a definition, as `source_of` of an `Expr`, `tree_of` of a `Typed` and `turn_of`
+of a `Turn`; of an expression and a typed one a public reader shows what they hold (`Expr::pieces`, `to_postfix`). Worked examples are theorems, computed by the checker.
 
 What is trusted besides definitions, the README says; what the page `docs/vcm.html` rests on in place of the native program's C library and processor, `docs/BROWSER.md`.
 

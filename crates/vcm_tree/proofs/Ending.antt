@@ -13,7 +13,7 @@ use Rattle.vcm_tree.specs.inner.Taking.{behind_with}
 use Rattle.vcm_tree.specs.inner.Walking.{IsWalked}
 use Rattle.vcm_tree.proofs.Walking.{drop_nil, walk_ends}
 use Rattle.vcm_tree.proofs.Written.{sentence_labels, sentences_marks}
-use Rattle.vcm_tree.proofs.MeantCounts.{labels_all}
+use Rattle.vcm_tree.proofs.Meant.{labels_all}
 
 pub walk_labels : (all : List Placed) (p : Progress) (waits : Option Selection) → IsTrue (is_ended all) → IsWalked all p waits [] → p.labels ≡ labels_of p.builder.block
 walk_labels all p waits last w =

@@ -7,7 +7,6 @@ use Rattle.vcm_lines.specs.declared.fault.FaultCode.{FaultCode}
 use Rattle.vcm_spec.specs.Expression.{Tree, kind_of}
 use Rattle.vcm_spec.specs.Simple.{Simple}
 use Rattle.vcm_spec.specs.declared.simple.Simple.TheVariants.{Goto, Assign, Feat, PtMeas, SnSet, Trans, Rotate, Recall, Obtain, Output}
-use Rattle.vcm_spec.specs.Words.{axis_number, quarters_number, word_number}
 use Rattle.vcm_spec.specs.declared.words.FrameAxis.{FrameAxis}
 use Rattle.vcm_spec.specs.declared.words.FrameAxis.TheVariants as axes
 use Rattle.vcm_spec.specs.declared.words.FeatureWord.{FeatureWord}
@@ -29,7 +28,8 @@ use Rattle.vcm_tree.specs.Blocks.{Opened}
 use Rattle.vcm_tree.specs.Features.{lengths, declared_at, touched_in, Shifts, no_shifts, with_shift, shifts_of, real_to, real_by, real_named, declared, touched, configured, shifted, rotated, recalled, obtained, reported}
 use Rattle.vcm_program.specs.Titles.{known, entered, with_name}
 use Rattle.vcm_program.proofs.Titled.{known_below, entered_below}
-use Rattle.vcm_tree.proofs.GrownTables.{bind-Ok, Grown, Within, touched_below, get_grown, kind_grown, kinds_grown}
+use Rattle.vcm_tree.proofs.Stated.{bind-Ok}
+use Rattle.vcm_tree.proofs.GrownTables.{Grown, Within, touched_below, get_grown, kind_grown, kinds_grown}
 use Rattle.vcm_spec.specs.Results.{◌>>=◌}
 
 module _ (vs : List Variable) (ws : Tables) (g : Grown vs ws.variables) where
@@ -148,9 +148,9 @@ module _ (vs : List Variable) (ws : Tables) (g : Grown vs ws.variables) where
   pub rotated_fits : (ds : List (List ℕ)) (l : List ℕ) (axis : FrameAxis) (n : Quarters) (what : Simple Tree) → length (with_name ds l) ≤ length ws.frames
       → rotated ds l axis n ≡ Ok what → FitsHere what
   rotated_fits ds l axis n what few e =
-      let h = bind-Ok (entered ds l) (λ i. done (Rotate i (axis_number axis) (quarters_number n))) what e in
+      let h = bind-Ok (entered ds l) (λ i. done (Rotate i axis n)) what e in
       let low = entered_below ds l h.0 h.1 in
-      let same : Rotate h.0 (axis_number axis) (quarters_number n) ≡ what = cc in
+      let same : Rotate h.0 axis n ≡ what = cc in
       subst FitsHere same (omega (arith, few, low))
 
   pub recalled_fits : (ds : List (List ℕ)) (l : List ℕ) (what : Simple Tree) → length ds ≤ length ws.frames → recalled ds l ≡ Ok what → FitsHere what
@@ -176,10 +176,10 @@ module _ (vs : List Variable) (ws : Tables) (g : Grown vs ws.variables) where
   pub obtained_fits : (fs : List (List ℕ)) (t : Target) (side : Side) (l : List ℕ) (word : FeatureWord) (what : Simple Tree) → length fs ≤ length ws.features
       → obtained fs vs t side l word ≡ Ok what → FitsHere what
   obtained_fits fs t side l word what few e =
-      let h = bind-Ok (real_named vs t) (λ v. known fs l >>= λ i. done (Obtain v side i (word_number word))) what e in
-      let i = bind-Ok (known fs l) (λ i. done (Obtain h.0 side i (word_number word))) what h.2 in
+      let h = bind-Ok (real_named vs t) (λ v. known fs l >>= λ i. done (Obtain v side i word)) what e in
+      let i = bind-Ok (known fs l) (λ i. done (Obtain h.0 side i word)) what h.2 in
       let low = known_below fs l i.0 i.1 in
-      let same : Obtain h.0 side i.0 (word_number word) ≡ what = cc in
+      let same : Obtain h.0 side i.0 word ≡ what = cc in
       subst FitsHere same (real_fits t h.0 h.1, omega (arith, few, low))
 
   pub reported_fits : (fs : List (List ℕ)) (side : Side) (l : List ℕ) (what : Simple Tree) → length fs ≤ length ws.features → reported fs side l ≡ Ok what → FitsHere what

@@ -1,5 +1,5 @@
 -- The tables of names grow from statement to statement.
-use Rattle.std.proofs.Common.{◌≡◌, ℕ, zero, suc, ◌<◌, ◌≤◌, Bool, true, false, List, [], ◌∷◌, ◌++◌, length, Some, Result, Ok, Err, refl, sym, ap, ◌∙◌, subst, append_assoc, nat_lt, ◌&&◌, arith}
+use Rattle.std.proofs.Common.{◌≡◌, ℕ, zero, suc, ◌<◌, ◌≤◌, Bool, true, false, List, [], ◌∷◌, ◌++◌, length, Some, Result, Ok, Err, refl, sym, ap, ◌∙◌, subst, append_assoc, nat_lt, arith}
 use Rattle.std.specs.Prelude.{slice_get, if◌then◌else◌}
 use Rattle.std.proofs.lemmas.List.{append-nil}
 use Rattle.vcm_num.specs.declared.number.Kind.{Kind}
@@ -11,21 +11,17 @@ use Rattle.vcm_spec.specs.Fitting.{kinds}
 use Rattle.vcm_spec.specs.Setup.{Variable, Tables, kinds_of}
 use Rattle.vcm_items.proofs.Runs.{kind_after_one-Some, kind_after_two-Some}
 use Rattle.vcm_forms.specs.declared.statement.Form.{Form}
-use Rattle.vcm_forms.specs.declared.statement.Form.TheVariants.{Opening, Measures as Units, Ignored, Declaration, Assignment, Move, Home, Say, Test, Otherwise, TestEnd, Repeat, RepeatEnd, Mark, Leap, Feature, Measure, Touch, MeasureEnd, Choose, Case, CaseEnd, Default, ChooseEnd, Configure, Shift, Rotation, Restore, Query, Report, Macro, MacroEnd, Call, Ending}
+use Rattle.vcm_forms.specs.declared.statement.Form.TheVariants.{Declaration, Feature, Shift, Rotation, Measure, Touch}
 use Rattle.vcm_macro.specs.declared.placed.Placed.{Placed}
-use Rattle.vcm_tree.specs.Sentences.{Step, BeginsCase, BeginsDefault}
-use Rattle.vcm_tree.specs.Variables.{is_declared, with_one, with_all, assigned, moved}
-use Rattle.vcm_tree.specs.Blocks.{Behind, Opened, InFirst, InSecond, InBody, InMeasure, InSelect, InCase, Measured, nested, tested, selected, repeated, divided, test_ended, repeat_ended, case_begun, case_ended, select_ended, is_choosing, ended, marked, label_of}
-use Rattle.vcm_tree.specs.Features.{touched_in, declared, opened_measure, touched, measure_ended, configured, shifted, rotated, recalled, obtained, reported}
-use Rattle.vcm_tree.specs.Resolving.{Meaning, Silent, Counts, Declares, measured_after, outer, unless_barred, unless_choosing, is_measuring, is_barred, is_in_block, stated, does, counts, resolved, resolved_here, behind_by, behind_one, behind_all}
+use Rattle.vcm_tree.specs.Variables.{is_declared, with_one, with_all}
+use Rattle.vcm_tree.specs.Blocks.{Behind, Opened, InFirst, InSecond, InBody, InMeasure, InSelect, InCase, Measured}
+use Rattle.vcm_tree.specs.Features.{touched_in}
+use Rattle.vcm_tree.specs.Resolving.{Meaning, measured_after, outer, resolved_here, behind_by, behind_one, behind_all}
+use Rattle.vcm_tree.specs.inner.Taking.{declared_by}
+use Rattle.vcm_tree.proofs.Stated.{bind-Ok, measured_is, meant}
 use Rattle.vcm_program.proofs.Titled.{with_name_longer}
-use Rattle.vcm_spec.specs.Results.{◌>>=◌}
 
 -- ---- the table grows
-
-pub bind-Ok : {A B : Type 0} (o : Result A FaultCode) (go : A → Result B FaultCode) (b : B) → (o >>= go) ≡ Ok b → (a : A) × (o ≡ Ok a) × (go a ≡ Ok b)
-bind-Ok (Ok a) go b e = (a, refl, e)
-bind-Ok (Err d) go b e = absurd cc
 
 -- the second table is the first one and more
 abbrev pub Grown : List Variable → List Variable → Type 0
@@ -54,63 +50,21 @@ all_grown vs ex k (name ∷ names) ws e =
     let q = bind-Ok (with_one vs ex k name) (λ xs. with_all xs ex k names) ws e in
     twice_grown vs q.0 ws (one_grown vs ex k name q.0 q.1) (all_grown q.0 ex k names ws q.2)
 
--- a statement that declares grows the table
-declares_grown : (vs : List Variable) (ex : ℕ) (k : Kind) (names : List (List ℕ)) (r : Result (List Variable) FaultCode) → with_all vs ex k names ≡ r → (b : Behind) (form : Form) → b.variables ≡ vs
-    → Grown vs (behind_by b form (r >>= λ ws. Ok (Declares ws))).variables
-declares_grown vs ex k names (Ok ws) e b form f = all_grown vs ex k names ws e
-declares_grown vs ex k names (Err c) e b form f = rw f (same_grown vs)
+-- the table behind a statement is the one above it and more
+declared_grown : (vs : List Variable) (ex : ℕ) (form : Form) (ws : List Variable) → declared_by vs ex form ≡ Ok ws → Grown vs ws
+declared_grown vs ex (Declaration k names) ws e = all_grown vs ex k names ws e
+declared_grown vs ex _ ws e = (let same : vs ≡ ws = cc in subst (Grown vs) same (same_grown vs))
 
-counts_grown : (b : Behind) (form : Form) (r : Result Step FaultCode) → Grown b.variables (behind_by b form (counts r)).variables
-counts_grown b form (Ok s) = same_grown b.variables
-counts_grown b form (Err e) = same_grown b.variables
-
-stated_grown : (b : Behind) (ex : ℕ) (form : Form) → Grown b.variables (behind_by b form (stated b ex form)).variables
-stated_grown b ex Opening = same_grown b.variables
-stated_grown b ex Units = same_grown b.variables
-stated_grown b ex (Ignored w) = same_grown b.variables
-stated_grown b ex (Declaration k names) = declares_grown b.variables ex k names (with_all b.variables ex k names) refl b (Declaration k names) refl
-stated_grown b ex (Assignment n x) = counts_grown b (Assignment n x) (does (assigned b.variables n x))
-stated_grown b ex (Move p) = counts_grown b (Move p) (does (moved b.variables p.x p.y p.z))
-stated_grown b ex Home = same_grown b.variables
-stated_grown b ex (Say t) = same_grown b.variables
-stated_grown b ex (Test x) = counts_grown b (Test x) (nested b.blocks (tested b.variables x))
-stated_grown b ex Otherwise = counts_grown b Otherwise (divided b.blocks)
-stated_grown b ex TestEnd = counts_grown b TestEnd (test_ended b.blocks)
-stated_grown b ex (Repeat r) = counts_grown b (Repeat r) (nested b.blocks (repeated b.variables r))
-stated_grown b ex RepeatEnd = counts_grown b RepeatEnd (repeat_ended b.blocks)
-stated_grown b ex (Mark l) = counts_grown b (Mark l) (marked b.labels (label_of ex l))
-stated_grown b ex (Leap l) = same_grown b.variables
-stated_grown b ex (Feature l p d) = counts_grown b (Feature l p d) (does (declared b.measured.features b.variables l p d))
-stated_grown b ex (Touch p given) = counts_grown b (Touch p given) (does (touched b.blocks b.measured.touched b.variables p given))
-stated_grown b ex (Configure which x) = counts_grown b (Configure which x) (does (configured b.variables which x))
-stated_grown b ex (Shift l os) = counts_grown b (Shift l os) (does (shifted b.measured.frames b.variables l os))
-stated_grown b ex (Rotation l axis n) = counts_grown b (Rotation l axis n) (does (rotated b.measured.frames l axis n))
-stated_grown b ex (Restore l) = counts_grown b (Restore l) (does (recalled b.measured.frames l))
-stated_grown b ex (Query v side l word) = counts_grown b (Query v side l word) (does (obtained b.measured.features b.variables v side l word))
-stated_grown b ex (Report side l) = counts_grown b (Report side l) (does (reported b.measured.features side l))
-stated_grown b ex (Measure l) = counts_grown b (Measure l) (nested b.blocks (opened_measure b.measured.features l))
-stated_grown b ex MeasureEnd = counts_grown b MeasureEnd (measure_ended b.blocks b.measured.touched)
-stated_grown b ex (Choose x) = counts_grown b (Choose x) (selected b.variables x)
-stated_grown b ex (Case z) = counts_grown b (Case z) (case_begun b.blocks (BeginsCase z))
-stated_grown b ex CaseEnd = counts_grown b CaseEnd (case_ended b.blocks)
-stated_grown b ex Default = counts_grown b Default (case_begun b.blocks BeginsDefault)
-stated_grown b ex ChooseEnd = counts_grown b ChooseEnd (select_ended b.blocks)
-stated_grown b ex (Macro l ps) = same_grown b.variables
-stated_grown b ex MacroEnd = same_grown b.variables
-stated_grown b ex (Call l args) = same_grown b.variables
-stated_grown b ex Ending = counts_grown b Ending (ended b.blocks)
-
-form_grown : (b : Behind) (ex : ℕ) (form : Form) → Grown b.variables (behind_by b form (resolved b ex form)).variables
-form_grown b ex form = by (is_measuring b.blocks && is_barred form) (is_choosing b.blocks && is_in_block form)
+form_grown : (b : Behind) (s : Placed) → Grown b.variables (behind_one b s).variables
+form_grown b s = by (resolved_here b s) refl
   where
-    by : (t u : Bool) → Grown b.variables (behind_by b form (unless_barred t (unless_choosing u (stated b ex form)))).variables
-    by true u = same_grown b.variables
-    by false true = same_grown b.variables
-    by false false = stated_grown b ex form
+    by : (r : Result Meaning FaultCode) → resolved_here b s ≡ r → Grown b.variables (behind_by b s.statement.form r).variables
+    by (Ok m) e = declared_grown b.variables s.expansion s.statement.form (behind_by b s.statement.form (Ok m)).variables (meant b s m e).names
+    by (Err c) e = same_grown b.variables
 
 pub all_statements_grown : (b : Behind) (ss : List Placed) → Grown b.variables (behind_all b ss).variables
 all_statements_grown b [] = same_grown b.variables
-all_statements_grown b (s ∷ ss) = twice_grown b.variables (behind_one b s).variables (behind_all (behind_one b s) ss).variables (form_grown b s.expansion s.statement.form) (all_statements_grown (behind_one b s) ss)
+all_statements_grown b (s ∷ ss) = twice_grown b.variables (behind_one b s).variables (behind_all (behind_one b s) ss).variables (form_grown b s) (all_statements_grown (behind_one b s) ss)
 
 -- ---- the names of features and frames grow
 
@@ -133,15 +87,8 @@ after_least ms (Measure l) = record { features = omega arith; frames = omega ari
 after_least ms (Touch p given) = record { features = omega arith; frames = omega arith }
 after_least ms _ = same_least ms
 
--- what is said of features and frames goes by the statement alone
-measured_is : (b : Behind) (form : Form) (r : Result Meaning FaultCode) → (behind_by b form r).measured ≡ measured_after b.measured form
-measured_is b form (Ok Silent) = refl
-measured_is b form (Ok (Declares ws)) = refl
-measured_is b form (Ok (Counts s)) = refl
-measured_is b form (Err e) = refl
-
 pub one_least : (b : Behind) (s : Placed) → AtLeast (measured_after b.measured s.statement.form) (behind_one b s).measured
-one_least b s = subst (λ ms. AtLeast (measured_after b.measured s.statement.form) ms) (sym (measured_is b s.statement.form (resolved_here b s))) (same_least (measured_after b.measured s.statement.form))
+one_least b s = subst (λ ms. AtLeast (measured_after b.measured s.statement.form) ms) (measured_is b s.statement.form (resolved_here b s)) (same_least (measured_after b.measured s.statement.form))
 
 pub all_least : (b : Behind) (ss : List Placed) → AtLeast b.measured (behind_all b ss).measured
 all_least b [] = same_least b.measured
@@ -162,21 +109,12 @@ Within n (InCase ∷ bs) = Within n bs
 pub outer_within : (n : ℕ) (bs : List Opened) → Within n bs → Within n (outer bs)
 outer_within n [] h = tt
 outer_within n (InMeasure f ∷ bs) h = h.1
-outer_within n (InFirst ∷ bs) h = h
-outer_within n (InSecond ∷ bs) h = h
-outer_within n (InBody ∷ bs) h = h
-outer_within n (InSelect t ∷ bs) h = h
-outer_within n (InCase ∷ bs) h = h
+outer_within n (_ ∷ bs) h = h
 
 pub touched_below : (n : ℕ) (bs : List Opened) (t : Bool) (i : ℕ) → touched_in bs t ≡ Ok i → Within n bs → i < n
-touched_below n [] t i e h = absurd cc
 touched_below n (InMeasure f ∷ bs) true i e h = absurd cc
 touched_below n (InMeasure f ∷ bs) false i e h = (let same : f ≡ i = cc in subst (λ (k : ℕ). k < n) same h.0)
-touched_below n (InFirst ∷ bs) t i e h = absurd cc
-touched_below n (InSecond ∷ bs) t i e h = absurd cc
-touched_below n (InBody ∷ bs) t i e h = absurd cc
-touched_below n (InSelect d ∷ bs) t i e h = absurd cc
-touched_below n (InCase ∷ bs) t i e h = absurd cc
+touched_below n _ t i e h = absurd cc
 
 -- ---- kinds in a table that grows
 

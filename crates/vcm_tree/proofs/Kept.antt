@@ -210,7 +210,7 @@ last_behind (p ∷ r ∷ ps) qs e = last_behind (r ∷ ps) qs e
 left_behind : (ps qs : List Place) → is_ended (kept qs) ≡ true → is_ended (kept (ps ++ qs)) ≡ true
 left_behind ps qs e = ap is_ended (kept_append ps qs) ∙ last_behind (kept ps) (kept qs) e
 
-ending_is : (form : Form) → is_ending form ≡ true → form ≡ Ending
+pub ending_is : (form : Form) → is_ending form ≡ true → form ≡ Ending
 ending_is Ending e = refl
 ending_is _ e = absurd cc
 

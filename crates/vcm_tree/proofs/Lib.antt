@@ -4,16 +4,12 @@ pub mod Kept
 pub mod FewKept
 pub mod DeclaredNames
 pub mod Builders
-pub mod CaseBuilders
-pub mod CaseSentences
+pub mod GrownBlocks
+pub mod Stated
 pub mod Choosing
-pub mod Repeats
-pub mod Takings
 pub mod Walking
 pub mod Written
-pub mod MeantCounts
-pub mod MeantNesting
-pub mod MeantLabels
+pub mod Meant
 pub mod Ending
 pub mod GrownTables
 pub mod FittedSimple
@@ -23,7 +19,4 @@ pub mod OneProgram
 pub mod Wholeness
 pub mod Accepting
 pub mod AcceptanceLaws
-pub mod OpenBlocks
-pub mod Around
 pub mod Existing
-pub mod Standing

@@ -18,9 +18,7 @@ use Rattle.vcm_program.specs.Program.{Parsed, IsWhole, AreDistinct}
 use Rattle.vcm_tree.specs.Program.{IsParsed, tables_of}
 use Rattle.vcm_tree.proofs.Walking.{all_mean}
 use Rattle.vcm_tree.proofs.Written.{sentence_labels, SentencesNest, SentencesFit, ends_last, sentences_length, sentences_marks, sentences_nests, closed_last, sentences_fit}
-use Rattle.vcm_tree.proofs.MeantCounts.{labels_all, counted_all, few_sentences, last_ends}
-use Rattle.vcm_tree.proofs.MeantNesting.{nest_all}
-use Rattle.vcm_tree.proofs.MeantLabels.{distinct_all}
+use Rattle.vcm_tree.proofs.Meant.{labels_all, counted_all, few_sentences, last_ends, distinct_all, nest_all}
 use Rattle.vcm_tree.proofs.Fitted.{fit_all}
 
 pub parsed_whole : (ss : List Statement) (all : List Placed) (p : Parsed) → IsTrue (is_ended all) → length all ≤ 20000 → IsClean BreaksNames all → IsParsed ss all p → AreNamed (behind_all start all).variables

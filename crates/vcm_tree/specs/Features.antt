@@ -14,7 +14,6 @@ use Rattle.vcm_spec.specs.declared.words.FeatureWord.{FeatureWord}
 use Rattle.vcm_spec.specs.declared.words.Quarters.{Quarters}
 use Rattle.vcm_spec.specs.declared.words.Setting.{Setting}
 use Rattle.vcm_spec.specs.declared.words.Source.{Source as Side}
-use Rattle.vcm_spec.specs.Words.{axis_number, quarters_number, word_number}
 use Rattle.vcm_spec.specs.Simple.{Simple}
 use Rattle.vcm_spec.specs.declared.simple.Simple.TheVariants.{Feat, PtMeas, SnSet, Trans, Rotate, Recall, Obtain, Output}
 use Rattle.vcm_spec.specs.Program.{is_same_name}
@@ -106,7 +105,7 @@ shifted ds vs l os = entered ds l >>= λ i. shifts_of vs no_shifts os >>= λ s. 
 
 -- ROTATE
 abbrev pub rotated : List (List ℕ) → List ℕ → FrameAxis → Quarters → Result (Simple Tree) FaultCode
-rotated ds l axis n = entered ds l >>= λ i. Ok (Rotate i (axis_number axis) (quarters_number n))
+rotated ds l axis n = entered ds l >>= λ i. Ok (Rotate i axis n)
 
 -- RECALL
 abbrev pub recalled : List (List ℕ) → List ℕ → Result (Simple Tree) FaultCode
@@ -130,7 +129,7 @@ real_named vs t = real_by vs (target_of vs t)
 -- OBTAIN
 abbrev pub obtained : List (List ℕ) → List Variable → Target → Side → List ℕ → FeatureWord → Result (Simple Tree) FaultCode
 obtained fs vs t side l word =
-    real_named vs t >>= λ v. known fs l >>= λ i. Ok (Obtain v side i (word_number word))
+    real_named vs t >>= λ v. known fs l >>= λ i. Ok (Obtain v side i word)
 
 -- OUTPUT
 abbrev pub reported : List (List ℕ) → Side → List ℕ → Result (Simple Tree) FaultCode

@@ -1,5 +1,6 @@
 -- What only private contracts and proofs of this crate speak of.
-pub mod Building
+pub mod Closing
+pub mod Growing
 pub mod Taking
 pub mod Shifting
 pub mod Walking

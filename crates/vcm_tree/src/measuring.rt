@@ -2,12 +2,11 @@
 
 ghost use Rattle.std.specs.Prelude.{◌≡◌, Ok, OnOk, IfOk, IfErr, MatchResult};
 ghost use Rattle.vcm_lines.specs.Fault.{NoMemoryOr};
-ghost use Rattle.vcm_nodes.specs.Nodes.{action_of};
 ghost use Rattle.vcm_tree.specs.Blocks.{nested};
 ghost use Rattle.vcm_tree.specs.Features.{lengths, declared, opened_measure, touched, configured, shifts_of, no_shifts, with_shift, shifted, rotated, recalled, real_named, obtained, reported};
 ghost use Rattle.vcm_program.specs.Titles.{with_name};
 ghost use Rattle.vcm_program.specs.Telling.{ToldAt};
-ghost use Rattle.vcm_tree.specs.inner.Building.{blocks_of, Reads};
+ghost use Rattle.vcm_tree.specs.inner.Growing.{blocks_of, Reads};
 ghost use Rattle.vcm_tree.specs.inner.Shifting.{shifts};
 
 use crate::builder::{Builder, Head, bad_body};
@@ -19,7 +18,7 @@ use vcm_lines::{FaultCode, SourceFault};
 use vcm_nodes::Action;
 use vcm_num::{Axis, Kind};
 use vcm_program::Titles;
-use vcm_spec::{FeatureWord, FrameAxis, Operand, Quarters, Setting, Source};
+use vcm_spec::{FeatureWord, FrameAxis, Operand, Quarters, Setting, Simple, Source};
 
 /// Three lengths, from the left.
 pub(crate) fn lengths(
@@ -47,13 +46,13 @@ pub(crate) fn declare_feature(
     place: &Spot,
     toward: Axis,
 ) -> Result<Action, SourceFault>
-    ensures ok { IfOk result (λ a. declared features.old names.now name place.now toward ≡ Ok (action_of a)) }
+    ensures ok { IfOk result (λ a. declared features.old names.now name place.now toward ≡ Ok a) }
     ensures features { OnOk result (features.new ≡ with_name features.old name) }
     ensures fault { IfErr result (NoMemoryOr (ToldAt line (declared features.old names.now name place.now toward))) }
 {
     let feature = features.enter(line, name)?;
     let (x, y, z) = lengths(alloc, line, names, place)?;
-    Ok(Action::Feat(feature, x, y, z, toward))
+    Ok(Simple::Feat(feature, x, y, z, toward))
 }
 
 /// `MEAS`.
@@ -64,8 +63,8 @@ pub(crate) fn measure(
     builder: &mut Builder,
     name: &Name,
 ) -> Result<(), SourceFault>
-    ensures ok { OnOk result (Reads (nested (blocks_of builder.old.opens.items) (opened_measure features.now name.now)) line builder.old builder.new) }
-    ensures fault { IfErr result (NoMemoryOr (ToldAt line (nested (blocks_of builder.old.opens.items) (opened_measure features.now name.now)))) }
+    ensures ok { OnOk result (Reads (nested (blocks_of builder.old) (opened_measure features.now name.now)) line builder.old builder.new) }
+    ensures fault { IfErr result (NoMemoryOr (ToldAt line (nested (blocks_of builder.old) (opened_measure features.now name.now)))) }
 {
     builder.room(line)?;
     let feature = features.known(line, name)?;
@@ -83,8 +82,8 @@ pub(crate) fn touch(
     place: &Spot,
     toward: Option<Axis>,
 ) -> Result<Action, SourceFault>
-    ensures ok { IfOk result (λ a. touched (blocks_of builder.now.opens.items) has_touched names.now place.now toward ≡ Ok (action_of a)) }
-    ensures fault { IfErr result (NoMemoryOr (ToldAt line (touched (blocks_of builder.now.opens.items) has_touched names.now place.now toward))) }
+    ensures ok { IfOk result (λ a. touched (blocks_of builder.now) has_touched names.now place.now toward ≡ Ok a) }
+    ensures fault { IfErr result (NoMemoryOr (ToldAt line (touched (blocks_of builder.now) has_touched names.now place.now toward))) }
 {
     let Some(feature) = builder.measuring() else {
         return Err(bad_body(line));
@@ -93,7 +92,7 @@ pub(crate) fn touch(
         return Err(bad_body(line));
     }
     let (x, y, z) = lengths(alloc, line, names, place)?;
-    Ok(Action::PtMeas(feature, x, y, z, toward))
+    Ok(Simple::PtMeas(feature, x, y, z, toward))
 }
 
 /// `SNSET`.
@@ -104,11 +103,11 @@ pub(crate) fn configure(
     setting: Setting,
     length: &Expr,
 ) -> Result<Action, SourceFault>
-    ensures ok { IfOk result (λ a. configured names.now setting length.now ≡ Ok (action_of a)) }
+    ensures ok { IfOk result (λ a. configured names.now setting length.now ≡ Ok a) }
     ensures fault { IfErr result (NoMemoryOr (ToldAt line (configured names.now setting length.now))) }
 {
     let length = type_expr(alloc, length, line, names, Want::Length)?;
-    Ok(Action::SnSet(setting, length))
+    Ok(Simple::SnSet(setting, length))
 }
 
 /// The shifts of a frame along its axes.
@@ -170,13 +169,13 @@ pub(crate) fn shift(
     name: Name,
     offsets: &[Offset],
 ) -> Result<Action, SourceFault>
-    ensures ok { IfOk result (λ a. shifted frames.old names.now name offsets.now ≡ Ok (action_of a)) }
+    ensures ok { IfOk result (λ a. shifted frames.old names.now name offsets.now ≡ Ok a) }
     ensures frames { OnOk result (frames.new ≡ with_name frames.old name) }
     ensures fault { IfErr result (NoMemoryOr (ToldAt line (shifted frames.old names.now name offsets.now))) }
 {
     let frame = frames.enter(line, name)?;
     let along = shifts_along(alloc, line, names, offsets)?;
-    Ok(Action::Trans(frame, along.x, along.y, along.z))
+    Ok(Simple::Trans(frame, along.x, along.y, along.z))
 }
 
 /// `ROTATE`.
@@ -187,20 +186,20 @@ pub(crate) fn rotate(
     axis: FrameAxis,
     quarters: Quarters,
 ) -> Result<Action, SourceFault>
-    ensures ok { IfOk result (λ a. rotated frames.old name axis quarters ≡ Ok (action_of a)) }
+    ensures ok { IfOk result (λ a. rotated frames.old name axis quarters ≡ Ok a) }
     ensures frames { OnOk result (frames.new ≡ with_name frames.old name) }
     ensures fault { IfErr result (NoMemoryOr (ToldAt line (rotated frames.old name axis quarters))) }
 {
     let frame = frames.enter(line, name)?;
-    Ok(Action::Rotate(frame, axis, quarters))
+    Ok(Simple::Rotate(frame, axis, quarters))
 }
 
 /// `RECALL`.
 pub(crate) fn recall(line: u32, frames: &Titles, name: &Name) -> Result<Action, SourceFault>
-    ensures { MatchResult result (λ a. recalled frames.now name.now ≡ Ok (action_of a)) (ToldAt line (recalled frames.now name.now)) }
+    ensures { MatchResult result (λ a. recalled frames.now name.now ≡ Ok a) (ToldAt line (recalled frames.now name.now)) }
 {
     let frame = frames.known(line, name)?;
-    Ok(Action::Recall(frame))
+    Ok(Simple::Recall(frame))
 }
 
 /// The variable of an `OBTAIN`.
@@ -230,12 +229,12 @@ pub(crate) fn obtain(
     name: &Name,
     word: FeatureWord,
 ) -> Result<Action, SourceFault>
-    ensures { MatchResult result (λ a. obtained features.now names.now target.now source name.now word ≡ Ok (action_of a))
+    ensures { MatchResult result (λ a. obtained features.now names.now target.now source name.now word ≡ Ok a)
         (ToldAt line (obtained features.now names.now target.now source name.now word)) }
 {
     let variable = real(line, names, target)?;
     let feature = features.known(line, name)?;
-    Ok(Action::Obtain(variable, source, feature, word))
+    Ok(Simple::Obtain(variable, source, feature, word))
 }
 
 /// `OUTPUT`.
@@ -245,8 +244,8 @@ pub(crate) fn report(
     source: Source,
     name: &Name,
 ) -> Result<Action, SourceFault>
-    ensures { MatchResult result (λ a. reported features.now source name.now ≡ Ok (action_of a)) (ToldAt line (reported features.now source name.now)) }
+    ensures { MatchResult result (λ a. reported features.now source name.now ≡ Ok a) (ToldAt line (reported features.now source name.now)) }
 {
     let feature = features.known(line, name)?;
-    Ok(Action::Output(source, feature))
+    Ok(Simple::Output(source, feature))
 }

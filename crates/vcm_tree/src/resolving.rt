@@ -2,12 +2,10 @@
 
 ghost use Rattle.std.specs.Prelude.{◌≡◌, ◌∷◌, ◌++◌, [], Ok, Err, OnOk, IfOk, IfErr, MatchResult};
 ghost use Rattle.vcm_lines.specs.Fault.{NoMemoryOr};
-ghost use Rattle.vcm_nodes.specs.Nodes.{action_of};
-ghost use Rattle.vcm_tree.specs.Sentences.{sentence, Marks};
 ghost use Rattle.vcm_tree.specs.Variables.{is_declared, with_one, with_all, want_of, assigned, moved};
 ghost use Rattle.vcm_tree.specs.Blocks.{indexed, increment_of, repeated, nested, tested, selected, marked};
 ghost use Rattle.vcm_program.specs.Telling.{ToldAt};
-ghost use Rattle.vcm_tree.specs.inner.Building.{blocks_of, written, Reads};
+ghost use Rattle.vcm_tree.specs.inner.Growing.{blocks_of, Reads};
 ghost use Rattle.vcm_tree.specs.inner.Taking.{IsBody, IsSelected};
 
 use crate::builder::{Builder, Head};
@@ -21,7 +19,7 @@ use vcm_items::{Name, VariableName};
 use vcm_lines::{FaultCode, SourceFault};
 use vcm_nodes::{Action, Label, Labels};
 use vcm_num::Kind;
-use vcm_spec::Operand;
+use vcm_spec::{Operand, Simple};
 
 /// The most variables of a program.
 const MAX_VARIABLES: usize = 4096;
@@ -103,7 +101,7 @@ pub(crate) fn assign(
     target: &Target,
     value: &Expr,
 ) -> Result<Action, SourceFault>
-    ensures ok { IfOk result (λ a. assigned names.now target.now value.now ≡ Ok (action_of a)) }
+    ensures ok { IfOk result (λ a. assigned names.now target.now value.now ≡ Ok a) }
     ensures fault { IfErr result (NoMemoryOr (ToldAt line (assigned names.now target.now value.now))) }
 {
     let Some((variable, kind)) = names.find(target.expansion, &target.name) else {
@@ -111,7 +109,7 @@ pub(crate) fn assign(
         return Err(SourceFault { code, line });
     };
     let value = type_expr(alloc, value, line, names, want_of(kind))?;
-    Ok(Action::Assign(variable, value))
+    Ok(Simple::Assign(variable, value))
 }
 
 /// A move to a place.
@@ -121,11 +119,11 @@ pub(crate) fn go_to(
     names: &Names,
     place: &Spot,
 ) -> Result<Action, SourceFault>
-    ensures ok { IfOk result (λ a. moved names.now place.now.x place.now.y place.now.z ≡ Ok (action_of a)) }
+    ensures ok { IfOk result (λ a. moved names.now place.now.x place.now.y place.now.z ≡ Ok a) }
     ensures fault { IfErr result (NoMemoryOr (ToldAt line (moved names.now place.now.x place.now.y place.now.z))) }
 {
     let (x, y, z) = lengths(alloc, line, names, place)?;
-    Ok(Action::Goto(x, y, z))
+    Ok(Simple::Goto(x, y, z))
 }
 
 /// The variable of a loop.
@@ -181,8 +179,8 @@ pub(crate) fn test(
     builder: &mut Builder,
     condition: &Expr,
 ) -> Result<(), SourceFault>
-    ensures ok { OnOk result (Reads (nested (blocks_of builder.old.opens.items) (tested names.now condition.now)) line builder.old builder.new) }
-    ensures fault { IfErr result (NoMemoryOr (ToldAt line (nested (blocks_of builder.old.opens.items) (tested names.now condition.now)))) }
+    ensures ok { OnOk result (Reads (nested (blocks_of builder.old) (tested names.now condition.now)) line builder.old builder.new) }
+    ensures fault { IfErr result (NoMemoryOr (ToldAt line (nested (blocks_of builder.old) (tested names.now condition.now)))) }
 {
     builder.room(line)?;
     let test = type_expr(alloc, condition, line, names, Want::Bool)?;
@@ -198,8 +196,8 @@ pub(crate) fn repeat(
     builder: &mut Builder,
     rounds: &Rounds,
 ) -> Result<(), SourceFault>
-    ensures ok { OnOk result (Reads (nested (blocks_of builder.old.opens.items) (repeated names.now rounds.now)) line builder.old builder.new) }
-    ensures fault { IfErr result (NoMemoryOr (ToldAt line (nested (blocks_of builder.old.opens.items) (repeated names.now rounds.now)))) }
+    ensures ok { OnOk result (Reads (nested (blocks_of builder.old) (repeated names.now rounds.now)) line builder.old builder.new) }
+    ensures fault { IfErr result (NoMemoryOr (ToldAt line (nested (blocks_of builder.old) (repeated names.now rounds.now)))) }
 {
     builder.room(line)?;
     let head = body(alloc, line, names, rounds)?;
@@ -228,10 +226,8 @@ pub(crate) fn mark(
     builder: &mut Builder,
     label: Label,
 ) -> Result<(), SourceFault>
-    ensures new { OnOk result (marked labels.old label ≡ Ok (Marks label)) }
+    ensures ok { OnOk result (Reads (marked labels.old label) line builder.old builder.new) }
     ensures labels { OnOk result (labels.new ≡ labels.old ++ label ∷ []) }
-    ensures sentences { OnOk result (written builder.new ≡ written builder.old ++ sentence line (Marks label) ∷ []) }
-    ensures around { OnOk result (blocks_of builder.new.opens.items ≡ blocks_of builder.old.opens.items) }
     ensures fault { IfErr result (NoMemoryOr (ToldAt line (marked labels.old label))) }
 {
     let is_new = labels.add(label.copy())?;

@@ -4,12 +4,11 @@ ghost use Rattle.std.specs.Prelude.{Some, None, OnOk, IfOk, IfErr};
 ghost use Rattle.vcm_lines.specs.Fault.{NoMemoryOr};
 ghost use Rattle.vcm_tree.specs.Blocks.{case_begun, case_ended, select_ended};
 ghost use Rattle.vcm_program.specs.Telling.{ToldAt};
-ghost use Rattle.vcm_tree.specs.inner.Building.{begins, blocks_of, waiting, ReadsWith};
+ghost use Rattle.vcm_tree.specs.inner.Growing.{begins, blocks_of, growing, kinds, ReadsWith};
 
-use crate::builder::{Builder, Head, Open, unbalanced};
+use crate::builder::{Builder, Head, unbalanced};
 use crate::cases::CaseBlocks;
 use std::alloc::Global;
-use std::mem;
 use vcm_expr::Typed;
 use vcm_lines::SourceFault;
 use vcm_nodes::{Cases, Node};
@@ -32,8 +31,8 @@ impl Builder {
         selection: Selection,
         value: Option<i64>,
     ) -> Result<(), SourceFault>
-        ensures ok { OnOk result (ReadsWith (case_begun (waiting (Some selection) (blocks_of self.old.opens.items)) (begins value)) line self.old (Some selection) self.new None) }
-        ensures fault { IfErr result (NoMemoryOr (ToldAt line (case_begun (waiting (Some selection) (blocks_of self.old.opens.items)) (begins value)))) }
+        ensures ok { OnOk result (ReadsWith (case_begun (kinds (growing self.old (Some selection))) (begins value)) line self.old (Some selection) self.new None) }
+        ensures fault { IfErr result (NoMemoryOr (ToldAt line (case_begun (kinds (growing self.old (Some selection))) (begins value)))) }
     {
         match selection {
             Selection::Plain(start, chosen, cases) => {
@@ -47,37 +46,31 @@ impl Builder {
 
     /// `ENDCAS`.
     pub(crate) fn end_case(&mut self, line: u32) -> Result<Selection, SourceFault>
-        ensures ok { IfOk result (λ s. ReadsWith (case_ended (blocks_of self.old.opens.items)) line self.old None self.new (Some s)) }
-        ensures fault { IfErr result (NoMemoryOr (ToldAt line (case_ended (blocks_of self.old.opens.items)))) }
+        ensures ok { IfOk result (λ s. ReadsWith (case_ended (blocks_of self.old)) line self.old None self.new (Some s)) }
+        ensures fault { IfErr result (NoMemoryOr (ToldAt line (case_ended (blocks_of self.old)))) }
     {
-        let Some(Open { outer, head }) = self.opens.pop() else {
+        let Some((head, block)) = self.leave() else {
             return Err(unbalanced(line));
         };
         match head {
-            Head::Case(start, chosen, cases, at, value) => {
-                let block = mem::replace(&mut self.block, outer);
-                match value {
-                    Some(value) => {
-                        let cases = cases.push(at, value, block, line)?;
-                        Ok(Selection::Plain(start, chosen, cases))
-                    }
-                    None => {
-                        let cases = cases.with_default(at, block, line);
-                        Ok(Selection::Defaulted(start, chosen, cases))
-                    }
+            Head::Case(start, chosen, cases, at, value) => match value {
+                Some(value) => {
+                    let cases = cases.push(at, value, block, line)?;
+                    Ok(Selection::Plain(start, chosen, cases))
                 }
-            }
-            Head::First(_, _) => Err(unbalanced(line)),
-            Head::Second(_, _, _, _) => Err(unbalanced(line)),
-            Head::Body(_, _, _, _, _) => Err(unbalanced(line)),
-            Head::Measuring(_, _) => Err(unbalanced(line)),
+                None => {
+                    let cases = cases.with_default(at, block, line);
+                    Ok(Selection::Defaulted(start, chosen, cases))
+                }
+            },
+            _ => Err(unbalanced(line)),
         }
     }
 
     /// `ENDSEL`.
     pub(crate) fn end_select(&mut self, line: u32, selection: Selection) -> Result<(), SourceFault>
-        ensures ok { OnOk result (ReadsWith (select_ended (waiting (Some selection) (blocks_of self.old.opens.items))) line self.old (Some selection) self.new None) }
-        ensures fault { IfErr result (NoMemoryOr (ToldAt line (select_ended (waiting (Some selection) (blocks_of self.old.opens.items))))) }
+        ensures ok { OnOk result (ReadsWith (select_ended (kinds (growing self.old (Some selection)))) line self.old (Some selection) self.new None) }
+        ensures fault { IfErr result (NoMemoryOr (ToldAt line (select_ended (kinds (growing self.old (Some selection)))))) }
     {
         match selection {
             Selection::Plain(start, chosen, cases) => {

@@ -1,11 +1,11 @@
 //! Reads statements, one behind the other: what each of them does to a program.
 
-ghost use Rattle.std.specs.Prelude.{◌≡◌, Some, None, IfOk, IfErr};
+ghost use Rattle.std.specs.Prelude.{◌≡◌, ◌&&◌, Some, None, IfOk, IfErr};
 ghost use Rattle.vcm_lines.specs.Fault.{NoMemoryOr};
 ghost use Rattle.vcm_spec.specs.declared.simple.Simple.TheVariants.{Text};
-ghost use Rattle.vcm_nodes.specs.Nodes.{action_of};
-ghost use Rattle.vcm_tree.specs.Resolving.{is_barred, is_in_block, acted, stated, resolved_here};
+ghost use Rattle.vcm_tree.specs.Resolving.{is_measuring, is_barred, is_in_block, acted, stated, resolved_here};
 ghost use Rattle.vcm_program.specs.Telling.{ToldAt};
+ghost use Rattle.vcm_tree.specs.inner.Growing.{blocks_of};
 ghost use Rattle.vcm_tree.specs.inner.Taking.{behind_with, behind_of, Acts, ActedAt, unselected, Takes, TakesStated};
 
 use crate::builder::{Builder, bad_body, unbalanced};
@@ -20,6 +20,7 @@ use vcm_forms::{Form, OperatorText, Statement};
 use vcm_lines::SourceFault;
 use vcm_nodes::{Action, Label, Labels};
 use vcm_program::Titles;
+use vcm_spec::Simple;
 
 /// What is read of a program: its variables, its features and frames, its jump labels, its blocks, and whether the `MEAS` block that is open
 /// has its `PTMEAS`.
@@ -109,7 +110,15 @@ fn take_choosing(
     }
 }
 
+// Whether the innermost block is that of a MEAS where a statement doesn't stand.
+fn is_barred_in(builder: &Builder, form: &Form) -> bool
+    ensures { result ≡ (is_measuring (blocks_of builder.now) && is_barred form.now) }
+{
+    builder.measuring().is_some() && is_barred(form)
+}
+
 // Reads one statement more in a block.
+#[tactic(auto, using(crate::proofs::Choosing::placed_is))]
 fn take_placed(
     alloc: Global,
     read: &mut Progress,
@@ -119,7 +128,7 @@ fn take_placed(
     ensures ok { IfOk result (Takes (record { statement = statement.now; expansion = expansion }) read.old None read.new) }
     ensures fault { IfErr result (NoMemoryOr (ToldAt statement.now.line (resolved_here (behind_of read.old) (record { statement = statement.now; expansion = expansion })))) }
 {
-    if read.builder.measuring().is_some() && is_barred(&statement.form) {
+    if is_barred_in(&read.builder, &statement.form) {
         return Err(bad_body(statement.line));
     }
     take_stated(alloc, read, statement, expansion)
@@ -146,10 +155,10 @@ fn take_stated(
 
 // A text that is shown.
 fn say(alloc: Global, text: &OperatorText) -> Result<Action, AllocError>
-    ensures { IfOk result (λ a. action_of a ≡ Text text.now) }
+    ensures { IfOk result (λ a. a ≡ Text text.now) }
 {
     let text = OperatorText::copied(alloc, text.as_bytes())?;
-    Ok(Action::Text(text))
+    Ok(Simple::Text(text))
 }
 
 // The simple statement that a statement is, if it is one.
@@ -166,7 +175,7 @@ fn simple(
     match &statement.form {
         Form::Assignment(target, value) => Ok(Some(assign(alloc, line, names, target, value)?)),
         Form::Move(place) => Ok(Some(go_to(alloc, line, names, place)?)),
-        Form::Home => Ok(Some(Action::GoHome)),
+        Form::Home => Ok(Some(Simple::GoHome)),
         Form::Say(text) => Ok(Some(say(alloc, text)?)),
         Form::Feature(name, place, toward) => {
             let (features, name) = (&mut read.features, name.copy());
@@ -212,6 +221,7 @@ fn unselected(read: Result<(), SourceFault>) -> Result<Option<Selection>, Source
 }
 
 // Reads a statement that isn't simple.
+#[tactic(auto, using(crate::proofs::Choosing::case_fails, crate::proofs::Choosing::select_end_fails))]
 fn take_structured(
     alloc: Global,
     read: &mut Progress,

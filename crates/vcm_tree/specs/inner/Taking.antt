@@ -1,5 +1,5 @@
 -- What is read of a program, and one statement more.
-use Rattle.std.specs.Prelude.{◌≡◌, ℕ, List, ◌++◌, Option, Some, None, Result, Ok, Err}
+use Rattle.std.specs.Prelude.{◌≡◌, ℕ, List, [], ◌∷◌, ◌++◌, Option, Some, None, Result, Ok, Err}
 use Rattle.vcm_spec.specs.Setup.{Variable}
 use Rattle.vcm_forms.specs.declared.statement.Rounds.{Rounds}
 use Rattle.vcm_forms.specs.declared.statement.Statement.{Statement}
@@ -7,19 +7,21 @@ use Rattle.vcm_macro.specs.declared.placed.Placed.{Placed}
 use Rattle.vcm_lines.specs.declared.fault.SourceFault.{SourceFault}
 use Rattle.vcm_spec.specs.Expression.{Tree}
 use Rattle.vcm_spec.specs.Simple.{Simple}
-use Rattle.vcm_spec.specs.Program.{no_more}
+use Rattle.vcm_spec.specs.Program.{Label}
+use Rattle.vcm_lines.specs.declared.fault.FaultCode.{FaultCode}
+use Rattle.vcm_forms.specs.declared.statement.Form.{Form}
+use Rattle.vcm_forms.specs.declared.statement.Form.TheVariants.{Declaration, Mark}
 use Rattle.vcm_tree.specs.declared.builder.Head.{Head}
 use Rattle.vcm_tree.specs.declared.builder.Head.TheVariants.{Body}
 use Rattle.vcm_tree.specs.declared.selection.Selection.{Selection}
 use Rattle.vcm_tree.specs.declared.selection.Selection.TheVariants.{Plain}
 use Rattle.vcm_tree.specs.declared.taking.Progress.{Progress}
-use Rattle.vcm_nodes.specs.declared.node.Action.{Action}
-use Rattle.vcm_nodes.specs.Nodes.{action_of}
 use Rattle.vcm_expr.specs.Source.{Source}
 use Rattle.vcm_tree.specs.Sentences.{Repeats, Selects}
-use Rattle.vcm_tree.specs.Blocks.{Measured, measured, Behind, behind, repeated, selected}
-use Rattle.vcm_tree.specs.Resolving.{measured_after, Meaning, acted, stated, resolved_here, behind_by, sentences_by}
-use Rattle.vcm_tree.specs.inner.Building.{blocks_of, waiting, written_with}
+use Rattle.vcm_tree.specs.Variables.{with_all}
+use Rattle.vcm_tree.specs.Blocks.{Measured, measured, Behind, behind, repeated, selected, label_of}
+use Rattle.vcm_tree.specs.Resolving.{measured_after, Meaning, acted, stated, resolved_here}
+use Rattle.vcm_tree.specs.inner.Growing.{growing, grown_by, kinds}
 
 -- the rounds are these, and open a body by this
 pub record IsBody (vs : List Variable) (r : Rounds) (line : ℕ) (h : Head) : Type 0 where
@@ -33,7 +35,7 @@ pub record IsBody (vs : List Variable) (r : Rounds) (line : ℕ) (h : Head) : Ty
 -- the SELECT has this value, and no block
 pub record IsSelected (vs : List Variable) (e : Source) (line : ℕ) (s : Selection) : Type 0 where
   pub value : Tree
-  pub is : s ≡ Plain line value no_more
+  pub is : s ≡ Plain line value []
   pub typed : selected vs e ≡ Ok (Selects value)
 
 -- what the statements that are read say of features and frames
@@ -42,23 +44,33 @@ measured_of r = measured r.features r.frames r.touched
 
 -- what the statements that are read leave behind them, with a SELECT whose next block is waited for, if there is one
 abbrev pub behind_with : Progress → Option Selection → Behind
-behind_with r waits = behind r.names (waiting waits (blocks_of r.builder.opens.items)) r.labels (measured_of r)
+behind_with r waits = behind r.names (kinds (growing r.builder waits)) r.labels (measured_of r)
 
 -- what they leave where there is none
 abbrev pub behind_of : Progress → Behind
 behind_of r = behind_with r None
 
+-- the variables behind a statement of an expansion, if it may declare those that it declares
+abbrev pub declared_by : List Variable → ℕ → Form → Result (List Variable) FaultCode
+declared_by vs e (Declaration kind names) = with_all vs e kind names
+declared_by vs e form = Ok vs
+
+-- the labels behind it
+abbrev pub marked_by : List Label → ℕ → Form → List Label
+marked_by ls e (Mark name) = ls ++ label_of e name ∷ []
+marked_by ls e form = ls
+
 -- the statement is this simple one behind the others, and leaves what it says of features and frames
 pub record ActsSo (s : Statement) (old new : Progress) (what : Simple Tree) : Type 0 where
   pub is : acted (behind_of old) s.form ≡ Some (Ok what)
   pub measures : measured_of new ≡ measured_after (measured_of old) s.form
-  pub names : new.names ≡ old.names
-  pub labels : new.labels ≡ old.labels
+  pub names : (e : ℕ) → declared_by old.names e s.form ≡ Ok new.names
+  pub labels : (e : ℕ) → new.labels ≡ marked_by old.labels e s.form
   pub builder : new.builder ≡ old.builder
 
 -- the statement is this simple one, or none
-abbrev pub Acts : Statement → Progress → Progress → Option Action → Type 0
-Acts s old new (Some action) = ActsSo s old new (action_of action)
+abbrev pub Acts : Statement → Progress → Progress → Option (Simple Tree) → Type 0
+Acts s old new (Some action) = ActsSo s old new action
 Acts s old new None = (acted (behind_of old) s.form ≡ None) × (new ≡ old)
 
 -- the refusal tells the line of a simple statement, and the rule that it breaks
@@ -70,16 +82,18 @@ abbrev pub unselected : Result (Unit {0}) SourceFault → Result (Option Selecti
 unselected (Ok x) = Ok None
 unselected (Err f) = Err f
 
+-- the statement of an expansion, of this meaning, is read behind the others
+pub record TakesAs (r : Result Meaning FaultCode) (line e : ℕ) (form : Form) (old : Progress) (before : Option Selection) (new : Progress)
+    (waits : Option Selection) : Type 0 where
+  pub grows : grown_by (growing old.builder before) line r ≡ Some (growing new.builder waits)
+  pub names : declared_by old.names e form ≡ Ok new.names
+  pub labels : new.labels ≡ marked_by old.labels e form
+  pub measures : measured_of new ≡ measured_after (measured_of old) form
+
 -- the statement has a meaning behind the others, and is read
-pub record Takes (p : Placed) (old : Progress) (before : Option Selection) (new : Progress) (waits : Option Selection) : Type 0 where
-  pub meaning : Meaning
-  pub is : resolved_here (behind_with old before) p ≡ Ok meaning
-  pub after : behind_with new waits ≡ behind_by (behind_with old before) p.statement.form (Ok meaning)
-  pub sentences : written_with new.builder waits ≡ written_with old.builder before ++ sentences_by p.statement.line (Ok meaning)
+abbrev pub Takes : Placed → Progress → Option Selection → Progress → Option Selection → Type 0
+Takes p old before = TakesAs (resolved_here (behind_with old before) p) p.statement.line p.expansion p.statement.form old before
 
 -- the same of a statement that may stand there
-pub record TakesStated (p : Placed) (old : Progress) (before : Option Selection) (new : Progress) (waits : Option Selection) : Type 0 where
-  pub meaning : Meaning
-  pub is : stated (behind_with old before) p.expansion p.statement.form ≡ Ok meaning
-  pub after : behind_with new waits ≡ behind_by (behind_with old before) p.statement.form (Ok meaning)
-  pub sentences : written_with new.builder waits ≡ written_with old.builder before ++ sentences_by p.statement.line (Ok meaning)
+abbrev pub TakesStated : Placed → Progress → Option Selection → Progress → Option Selection → Type 0
+TakesStated p old before = TakesAs (stated (behind_with old before) p.expansion p.statement.form) p.statement.line p.expansion p.statement.form old before

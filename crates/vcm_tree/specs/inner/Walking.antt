@@ -5,7 +5,7 @@ use Rattle.vcm_macro.specs.declared.placed.Placed.{Placed}
 use Rattle.vcm_tree.specs.declared.selection.Selection.{Selection}
 use Rattle.vcm_tree.specs.declared.taking.Progress.{Progress}
 use Rattle.vcm_tree.specs.Resolving.{behind_all, start, sentences_from, BreaksNames}
-use Rattle.vcm_tree.specs.inner.Building.{written_with}
+use Rattle.vcm_tree.specs.inner.Growing.{growing, written}
 use Rattle.vcm_tree.specs.inner.Taking.{behind_with}
 
 -- so many statements are read, a SELECT waits for its next block or not, and these are left
@@ -14,4 +14,4 @@ pub record IsWalked (all : List Placed) (p : Progress) (waits : Option Selection
   pub left : drop place all ≡ rest
   pub clean : IsCleanBelow BreaksNames all place
   pub behind : behind_with p waits ≡ behind_all start (take place all)
-  pub writes : sentences_from start all ≡ written_with p.builder waits ++ sentences_from (behind_with p waits) rest
+  pub writes : sentences_from start all ≡ written (growing p.builder waits) ++ sentences_from (behind_with p waits) rest
