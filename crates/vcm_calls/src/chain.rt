@@ -11,12 +11,12 @@ use vcm_lines::SourceFault;
 use vcm_macro::{Placed, expand};
 
 // The expansion that the statement with this number stands in, 0 outside macros.
-fn expansion_of(all: &[Placed<'_>], number: u32) -> u32
+fn expansion_of(all: &[Placed], number: u32) -> u32
     ensures { result ≡ expansion_of all.now number }
 {
     let mut left = number;
     for placed in all {
-        if placed.statement().form.is_counted() {
+        if placed.statement.form.is_counted() {
             if left == 0 {
                 return placed.expansion;
             }
@@ -73,14 +73,14 @@ fn lines_of(alloc: Global, calls: &[Called], expansion: u32) -> Result<Vec<u32>,
 /// Errors: want of memory; a fault of the order of statements or of macros.
 pub fn chain_of(
     alloc: Global,
-    statements: &[Statement],
+    statements: Vec<Statement>,
     number: u32,
 ) -> Result<Vec<u32>, SourceFault>
-    ensures { IfOk result (λ lines. lines.items ≡ chain_of statements.now number) }
+    ensures { IfOk result (λ lines. lines.items ≡ chain_of statements.items number) }
 {
+    let calls = carried_out(alloc, &statements)?;
     let all = expand(alloc, statements)?;
     let expansion = expansion_of(all.as_slice(), number);
-    let calls = carried_out(alloc, statements)?;
     let lines = lines_of(alloc, &calls, expansion)?;
     Ok(lines)
 }

@@ -12,10 +12,9 @@ use Rattle.vcm_forms.specs.declared.statement.Statement.{Statement}
 use Rattle.vcm_substitution.specs.Substitution.{Scope}
 use Rattle.vcm_macro.specs.Walk.{Defined, Calls, call_in, body_in}
 use Rattle.vcm_macro.specs.Rules.{is_full, called_codes}
-use Rattle.vcm_macro.specs.inner.Expanding.{Done, IsFine, TellsLeftmost, TellsFirst, Walked, found, call_by, IsFoundAt, active_of}
+use Rattle.vcm_macro.specs.inner.Expanding.{Done, IsFine, TellsLeftmost, TellsFirst, Walked, found, call_by, IsFoundAt}
 use Rattle.vcm_macro.proofs.Walks.{walked_more, told_more}
 use Rattle.vcm_macro.proofs.Finding.{call_found}
-use Rattle.vcm_macro.proofs.Skipping.{active_leave, walked_over}
 
 -- too deep, or too much before it
 pub call_too_long : (ms : List Defined) (line depth done n : ℕ) (name : List ℕ) (bs : List Argument) → (nat_lt 16 depth || is_full n) ≡ true
@@ -65,15 +64,14 @@ pub call_carried : (ms : List Defined) (name : List ℕ) (i : ℕ) (m : Defined)
     → IsFoundAt ms name i → m ≡ get_or ms i m → IsFine start.count (Calls line depth (Some m) bs)
     → entered ≡ record { placed = start.placed; count = suc start.count; calls = suc start.calls }
     → sc ≡ record { parameters = m.parameters; arguments = bs; expansion = entered.calls }
-    → ss ≡ active_of m.body
+    → ss ≡ m.body
     → Walked entered next (body_in (call_in (reverse (take i ms))) sc (depth + 1) entered.calls ss)
     → Walked start next (call_in (reverse ms) line depth start.calls name bs)
 call_carried ms name i m line depth bs start entered next sc ss a e fine counted scope same w =
     let d : depth + 1 ≡ suc depth = omega arith in
-    let h = active_leave (call_in (reverse (take i ms))) (record { parameters = m.parameters; arguments = bs; expansion = suc start.calls }) (suc depth) (suc start.calls) m.body in
     rw (call_is ms name i m line depth start.calls bs a e)
     (walked_more start (record { placed = start.placed; count = suc start.count; calls = suc start.calls }) next (Calls line depth (Some m) bs ∷ []) _ (entered_is start line depth m bs fine)
-    (walked_over _ _ _ _ h (rw (same, scope, counted, d) at w)))
+    (rw (same, scope, counted, d) at w))
 
 -- what follows where it isn't want of memory
 pub or_memory : (P Q : SourceFault → Type 0) (f : SourceFault) → (P f → Q f) → NoMemoryOr P f → NoMemoryOr Q f
@@ -85,21 +83,20 @@ call_told_so : (ms : List Defined) (name : List ℕ) (i : ℕ) (m : Defined) (li
     → IsFoundAt ms name i → m ≡ get_or ms i m → IsFine start.count (Calls line depth (Some m) bs)
     → entered ≡ record { placed = start.placed; count = suc start.count; calls = suc start.calls }
     → sc ≡ record { parameters = m.parameters; arguments = bs; expansion = entered.calls }
-    → ss ≡ active_of m.body
+    → ss ≡ m.body
     → TellsFirst entered.count (body_in (call_in (reverse (take i ms))) sc (depth + 1) entered.calls ss) f
     → TellsFirst start.count (call_in (reverse ms) line depth start.calls name bs) f
 call_told_so ms name i m line depth bs start entered sc ss f a e fine counted scope same t =
     let d : depth + 1 ≡ suc depth = omega arith in
-    let h = active_leave (call_in (reverse (take i ms))) (record { parameters = m.parameters; arguments = bs; expansion = suc start.calls }) (suc depth) (suc start.calls) m.body in
     rw (call_is ms name i m line depth start.calls bs a e)
     (told_more start (record { placed = start.placed; count = suc start.count; calls = suc start.calls }) (Calls line depth (Some m) bs ∷ []) _ f (entered_is start line depth m bs fine)
-    (h.told (suc start.count) f (rw (same, scope, counted, d) at t)))
+    (rw (same, scope, counted, d) at t))
 
 pub call_told : {A : Type 0} (r : Result A SourceFault) (ms : List Defined) (name : List ℕ) (i : ℕ) (m : Defined) (line depth : ℕ) (bs : List Argument) (start entered : Done) (sc : Scope) (ss : List Statement)
     → IsFoundAt ms name i → m ≡ get_or ms i m → IsFine start.count (Calls line depth (Some m) bs)
     → entered ≡ record { placed = start.placed; count = suc start.count; calls = suc start.calls }
     → sc ≡ record { parameters = m.parameters; arguments = bs; expansion = entered.calls }
-    → ss ≡ active_of m.body
+    → ss ≡ m.body
     → IfErr r (NoMemoryOr (TellsFirst entered.count (body_in (call_in (reverse (take i ms))) sc (depth + 1) entered.calls ss)))
     → IfErr r (NoMemoryOr (TellsFirst start.count (call_in (reverse ms) line depth start.calls name bs)))
 call_told (Ok x) ms name i m line depth bs start entered sc ss a e fine counted scope same t = tt

@@ -1,11 +1,9 @@
 pub mod Finding
 pub mod Walks
-pub mod Skipping
 pub mod Places
 pub mod Bodies
 pub mod Calling
 pub mod Lists
-pub mod Insides
 pub mod Texts
 pub mod Phases
 pub mod Orders
@@ -15,3 +13,5 @@ pub mod CodesAt
 pub mod Sizes
 pub mod Arguments
 pub mod Stays
+pub mod Insides
+pub mod Whole

@@ -1,5 +1,5 @@
 -- From the walk taken in parts to the first fault of a phase.
-use Rattle.std.proofs.Common.{◌≡◌, ℕ, zero, suc, ◌+◌, ◌<◌, ◌≤◌, List, [], ◌∷◌, ◌++◌, length, take, Option, Some, None, refl, ◌∙◌, inl, inr, arith, subst}
+use Rattle.std.proofs.Common.{◌≡◌, ℕ, zero, suc, ◌+◌, ◌<◌, ◌≤◌, List, [], ◌∷◌, ◌++◌, length, take, Option, Some, None, refl, ap, ◌∙◌, inl, inr, arith, subst}
 use Rattle.std.specs.List.{slice_get}
 use Rattle.std.specs.Prelude.{Bool, true, false, if◌then◌else◌}
 use Rattle.std.proofs.lemmas.List.{append-nil}
@@ -8,11 +8,13 @@ use Rattle.vcm_forms.specs.declared.statement.Statement.{Statement}
 use Rattle.vcm_lines.specs.declared.fault.FaultCode.{FaultCode}
 use Rattle.vcm_lines.specs.declared.fault.SourceFault.{SourceFault}
 use Rattle.vcm_spec.specs.Phase.{IsClean, FirstFault}
-use Rattle.vcm_macro.specs.Walk.{Defined, Place, Opens, Inside, Stands, Misplaced, Calls, walk}
+use Rattle.vcm_macro.specs.Walk.{Place, Opens, Inside, Stands, Misplaced, Calls, walk}
 use Rattle.vcm_macro.specs.Rules.{BreaksMacros, macros_line, line_at, codes_at, weight, weigh, kept, one_if}
 use Rattle.vcm_substitution.specs.Kept.{is_kept}
 use Rattle.vcm_macro.proofs.CodesAt.{breaks_so, fine_so}
-use Rattle.vcm_macro.specs.inner.Expanding.{Done, Walked, IsRead, AreFine, IsFine, TellsLeftmost, TellsFirst}
+use Rattle.vcm_macro.specs.declared.text.Reading.{Reading}
+use Rattle.vcm_macro.specs.inner.Reading.{nothing, walk_of, IsReadTo}
+use Rattle.vcm_macro.specs.inner.Expanding.{Walked, AreFine, IsFine, TellsLeftmost, TellsFirst}
 
 -- the k-th place breaks no rule
 fine_at : (n : ℕ) (ps : List Place) (k : ℕ) (p : Place) → AreFine n ps → slice_get ps k ≡ Some p → IsFine (n + weigh (take k ps)) p
@@ -114,12 +116,7 @@ kept_few (Misplaced line ∷ ps) = omega (arith, kept_few ps)
 kept_few (Calls line depth m bs ∷ ps) = omega (arith, kept_few ps)
 
 -- the whole text is read
-pub read_all : (ss : List Statement) (ms : List Defined) (waits : Bool) (done : Done) → IsRead [] false (record { placed = []; count = 0; calls = 0 }) ss ms waits done [] → Walked (record { placed = []; count = 0; calls = 0 }) done (walk ss)
-read_all ss ms waits done h =
-    let e : walk ss ≡ h.places = h.is ∙ append-nil h.places in
+pub read_all : (ss rest : List Statement) (r : Reading) → rest ≡ [] → IsReadTo ss r rest → Walked nothing r.done (walk ss)
+read_all ss rest r none h =
+    let e : walk ss ≡ h.places = h.is ∙ ap (λ (l : List Statement). h.places ++ walk_of r l) none ∙ append-nil h.places in
     rw e h.walked
-
-pub read_is : (ss : List Statement) (ms : List Defined) (waits : Bool) (done : Done) (rest : List Statement) → rest ≡ [] → IsRead [] false (record { placed = []; count = 0; calls = 0 }) ss ms waits done rest
-    → Walked (record { placed = []; count = 0; calls = 0 }) done (walk ss)
-read_is ss ms waits done rest e h =
-    read_all ss ms waits done (subst (λ (l : List Statement). IsRead [] false (record { placed = []; count = 0; calls = 0 }) ss ms waits done l) e h)

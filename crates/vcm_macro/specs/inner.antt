@@ -1,5 +1,5 @@
 -- What only private contracts and proofs of this crate speak of.
 pub mod Expanding
-pub mod Saying
+pub mod Reading
 pub mod Staying
 pub mod Suiting

@@ -4,32 +4,29 @@ ghost use Rattle.std.specs.Prelude.{◌≡◌, None, map, reverse, IfOk, MatchOp
 ghost use Rattle.std.specs.List.{list_any};
 ghost use Rattle.vcm_substitution.specs.Substitution.{is_same};
 ghost use Rattle.vcm_macro.specs.Rules.{wanted_by, takes};
-ghost use Rattle.vcm_macro.specs.inner.Expanding.{found, IsFoundAt, active_of, referred};
+ghost use Rattle.vcm_macro.specs.inner.Expanding.{found, IsFoundAt};
 
 use crate::fitting::{Wanted, all_wanted};
-use crate::kept::active_of;
 use std::alloc::{AllocError, Global};
 use std::marker::Model;
 use vcm_forms::{Parameter, Statement};
 use vcm_items::Name;
+use vcm_num::Items;
 
-/// A macro, with what has to be given for each of its parameters, and the statements of its body that leave something in an expansion.
-/// Contracts see it as a `Defined`.
+/// A macro, with what has to be given for each of its parameters. Contracts see it as a `Defined`.
 #[derive(Drop)]
-pub(crate) struct Definition<'a> {
-    name: &'a Name,
-    parameters: &'a [Parameter],
-    body: &'a [Statement],
+pub(crate) struct Definition {
+    name: Name,
+    parameters: Items<Parameter>,
+    body: Vec<Statement>,
     wanted: Vec<Wanted>,
-    active: Vec<&'a Statement>,
 }
 
-impl<'a> Model for Definition<'a> {
+impl Model for Definition {
     ghost use Rattle.std.specs.Prelude.{◌≡◌, map};
     ghost use Rattle.std.specs.Coded.{codes};
     ghost use Rattle.vcm_macro.specs.Walk.{Defined};
     ghost use Rattle.vcm_macro.specs.Rules.{wanted_by};
-    ghost use Rattle.vcm_macro.specs.inner.Expanding.{active_of, referred};
     ghost use Rattle.vcm_forms.specs.contracts.statement.Parameter as parameter;
     ghost use Rattle.vcm_forms.specs.contracts.statement.Statement as statement;
 
@@ -37,12 +34,12 @@ impl<'a> Model for Definition<'a> {
 
     ghost coded = { Prim.hlevel (codes, parameter.the_row.coded, statement.the_row.coded) };
 
-    ghost view = { λ d. record { name = d.name.now; parameters = d.parameters.now; body = d.body.now } };
+    ghost view = { λ d. record { name = d.name; parameters = d.parameters; body = d.body.items } };
 
-    ghost invariant = { λ d. (d.wanted.items ≡ map (wanted_by d.body.now) d.parameters.now) × (referred d.active.items ≡ active_of d.body.now) };
+    ghost invariant = { λ d. d.wanted.items ≡ map (wanted_by d.body.items) d.parameters };
 }
 
-impl<'a> Definition<'a> {
+impl Definition {
     /// The macro of this name.
     ///
     /// # Errors
@@ -50,40 +47,38 @@ impl<'a> Definition<'a> {
     /// Want of memory.
     pub(crate) fn new(
         alloc: Global,
-        name: &'a Name,
-        parameters: &'a [Parameter],
-        body: &'a [Statement],
-    ) -> Result<Definition<'a>, AllocError>
-        ensures { IfOk result (λ d. d ≡ record { name = name.now; parameters = parameters.now; body = body.now }) }
+        name: Name,
+        parameters: Items<Parameter>,
+        body: Vec<Statement>,
+    ) -> Result<Definition, AllocError>
+        ensures { IfOk result (λ d. d ≡ record { name = name; parameters = parameters; body = body.items }) }
     {
-        let wanted = all_wanted(alloc, body, parameters)?;
-        let active = active_of(alloc, body)?;
+        let wanted = all_wanted(alloc, &body, parameters.as_slice())?;
         Ok(Definition {
             name,
             parameters,
             body,
             wanted,
-            active,
         })
     }
 
-    pub(crate) fn name(&self) -> &'a Name
+    pub(crate) fn name(&self) -> &Name
         ensures { result.now ≡ self.now.name }
     {
-        self.name
+        &self.name
     }
 
-    pub(crate) fn parameters(&self) -> &'a [Parameter]
+    pub(crate) fn parameters(&self) -> &[Parameter]
         ensures { result.now ≡ self.now.parameters }
     {
-        self.parameters
+        self.parameters.as_slice()
     }
 
-    /// The statements of the body that leave something in an expansion.
-    pub(crate) fn active(&self) -> &[&'a Statement]
-        ensures { referred result.now ≡ active_of self.now.body }
+    /// The statements of the body.
+    pub(crate) fn statements(&self) -> &[Statement]
+        ensures { result.now ≡ self.now.body }
     {
-        &self.active
+        &self.body
     }
 
     /// What has to be given for each parameter.
@@ -102,7 +97,7 @@ impl<'a> Definition<'a> {
 }
 
 /// The place of the macro of this name, the last one if there are several.
-pub(crate) fn find(macros: &[Definition<'_>], name: &Name) -> Option<usize>
+pub(crate) fn find(macros: &[Definition], name: &Name) -> Option<usize>
     ensures { MatchOption result (found (reverse macros.now) name.now ≡ None) (λ i. IsFoundAt macros.now name.now i) }
 {
     let mut place = macros.len();
@@ -116,7 +111,7 @@ pub(crate) fn find(macros: &[Definition<'_>], name: &Name) -> Option<usize>
 }
 
 /// Whether one of the macros has this name.
-pub(crate) fn is_defined(macros: &[Definition<'_>], name: &Name) -> bool
+pub(crate) fn is_defined(macros: &[Definition], name: &Name) -> bool
     ensures { result ≡ list_any (λ m. is_same m.name name.now) (reverse macros.now) }
 {
     find(macros, name).is_some()

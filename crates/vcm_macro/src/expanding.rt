@@ -6,7 +6,7 @@ ghost use Rattle.vcm_substitution.specs.Substitution.{put_argument};
 ghost use Rattle.vcm_macro.specs.Walk.{call_in, body_in};
 ghost use Rattle.vcm_macro.specs.Rules.{argument_codes, each_argument_codes, called_codes};
 ghost use Rattle.vcm_macro.specs.inner.Staying.{given};
-ghost use Rattle.vcm_macro.specs.inner.Expanding.{Walked, TellsLeftmost, TellsFirst, referred};
+ghost use Rattle.vcm_macro.specs.inner.Expanding.{Walked, TellsLeftmost, TellsFirst};
 
 use crate::definition::{Definition, find};
 use crate::expansion::Expansion;
@@ -88,7 +88,7 @@ fn put_arguments<'a>(
     alloc: Global,
     line: u32,
     bindings: &Bindings<'_>,
-    definition: &Definition<'_>,
+    definition: &Definition,
     written: &'a [Argument],
 ) -> Result<Given<'a>, SourceFault>
     ensures ok { IfOk result (λ a. given a ≡ map (put_argument bindings.now) written.now) }
@@ -105,13 +105,13 @@ fn put_arguments<'a>(
 #[cycle(expanding)]
 pub(crate) fn call(
     alloc: Global,
-    macros: &[Definition<'_>],
+    macros: &[Definition],
     bindings: &Bindings<'_>,
     line: u32,
     depth: u32,
     name: &Name,
     written: &[Argument],
-    done: &mut Expansion<'_>,
+    done: &mut Expansion,
 ) -> Result<(), SourceFault>
     ensures ok { OnOk result (Walked done.old done.new (call_in (reverse macros.now) line depth done.old.calls name.now (map (put_argument bindings.now) written.now))) }
     ensures fault { IfErr result (NoMemoryOr (TellsFirst done.old.count (call_in (reverse macros.now) line depth done.old.calls name.now (map (put_argument bindings.now) written.now)))) }
@@ -128,7 +128,7 @@ pub(crate) fn call(
         &macros[..place],
         &inner,
         depth + 1,
-        definition.active(),
+        definition.statements(),
         done,
     )
 }
@@ -137,14 +137,14 @@ pub(crate) fn call(
 #[cycle(expanding)]
 fn body(
     alloc: Global,
-    macros: &[Definition<'_>],
+    macros: &[Definition],
     bindings: &Bindings<'_>,
     depth: u32,
-    statements: &[&Statement],
-    done: &mut Expansion<'_>,
+    statements: &[Statement],
+    done: &mut Expansion,
 ) -> Result<(), SourceFault>
-    ensures ok { OnOk result (Walked done.old done.new (body_in (call_in (reverse macros.now)) bindings.now depth done.old.calls (referred statements.now))) }
-    ensures fault { IfErr result (NoMemoryOr (TellsFirst done.old.count (body_in (call_in (reverse macros.now)) bindings.now depth done.old.calls (referred statements.now)))) }
+    ensures ok { OnOk result (Walked done.old done.new (body_in (call_in (reverse macros.now)) bindings.now depth done.old.calls statements.now)) }
+    ensures fault { IfErr result (NoMemoryOr (TellsFirst done.old.count (body_in (call_in (reverse macros.now)) bindings.now depth done.old.calls statements.now))) }
 {
     for statement in statements {
         match &statement.form {

@@ -8,7 +8,7 @@ ghost use Rattle.vcm_macro.specs.Rules.{is_full};
 ghost use Rattle.vcm_macro.specs.inner.Expanding.{Walked, TellsFirst, stands};
 
 use crate::kept::is_kept;
-use crate::placed::{Origin, Placed, Said};
+use crate::placed::Placed;
 use std::alloc::{AllocError, Global};
 use std::marker::Model;
 use vcm_forms::Statement;
@@ -23,22 +23,21 @@ const DEEPEST: u32 = 16;
 
 /// What has been expanded. Contracts see it as a `Done`.
 #[derive(Drop)]
-pub(crate) struct Expansion<'a> {
-    placed: Vec<Placed<'a>>,
+pub(crate) struct Expansion {
+    placed: Vec<Placed>,
     count: u32,
     calls: u32,
 }
 
-impl<'a> Model for Expansion<'a> {
+impl Model for Expansion {
     ghost use Rattle.std.specs.Prelude.{◌≤◌, []};
     ghost use Rattle.std.specs.Coded.{codes};
     ghost use Rattle.vcm_macro.specs.inner.Expanding.{Done};
-    ghost use mir.Syntax.{named};
-    ghost use Rattle.vcm_macro.specs.contracts.placed.Placed as statement;
+    ghost use Rattle.vcm_macro.specs.contracts.placed.Placed as stands;
 
     ghost Value = { Done };
 
-    ghost coded = { Prim.hlevel (codes, (statement.the_row (record { mir = named 1; lft = [] })).coded) };
+    ghost coded = { Prim.hlevel (codes, stands.the_row.coded) };
 
     ghost view = { λ e. record { placed = e.placed.items; count = e.count; calls = e.calls } };
 
@@ -55,9 +54,9 @@ fn too_long(line: u32) -> SourceFault
     }
 }
 
-impl<'a> Expansion<'a> {
+impl Expansion {
     /// Nothing yet, and memory for so many statements.
-    pub(crate) fn new(alloc: Global, statements: usize) -> Result<Expansion<'a>, AllocError>
+    pub(crate) fn new(alloc: Global, statements: usize) -> Result<Expansion, AllocError>
         ensures { IfOk result (λ e. e ≡ record { placed = []; count = 0; calls = 0 }) }
     {
         let placed = Vec::with_capacity(alloc, statements)?;
@@ -69,9 +68,9 @@ impl<'a> Expansion<'a> {
     }
 
     /// The expanded statements.
-    pub(crate) fn into_placed(self) -> Vec<Placed<'a>>
-        ensures all { result.items ≡ self.entry.placed }
-        ensures few { self.entry.count ≤ 20000 }
+    pub(crate) fn into_placed(self) -> Vec<Placed>
+        ensures all { result.items ≡ self.placed }
+        ensures few { self.count ≤ 20000 }
     {
         self.placed
     }
@@ -112,9 +111,9 @@ impl<'a> Expansion<'a> {
     }
 
     /// A statement outside macros that is no call.
-    pub(crate) fn stand_written(&mut self, statement: &'a Statement) -> Result<(), SourceFault>
-        ensures ok { OnOk result (Walked self.old self.new (Stands 0 statement.now ∷ [])) }
-        ensures fault { IfErr result (NoMemoryOr (TellsFirst self.old.count (Stands 0 statement.now ∷ []))) }
+    pub(crate) fn stand_written(&mut self, statement: Statement) -> Result<(), SourceFault>
+        ensures ok { OnOk result (Walked self.old self.new (Stands 0 statement ∷ [])) }
+        ensures fault { IfErr result (NoMemoryOr (TellsFirst self.old.count (Stands 0 statement ∷ []))) }
     {
         are_small(&statement.form);
         if !is_kept(&statement.form) {
@@ -122,9 +121,7 @@ impl<'a> Expansion<'a> {
         }
         self.count_statement(statement.line)?;
         self.placed.push(Placed {
-            statement: Said {
-                origin: Origin::Written(statement),
-            },
+            statement,
             expansion: 0,
         })?;
         Ok(())
@@ -147,8 +144,7 @@ impl<'a> Expansion<'a> {
         self.count_statement(line)?;
         let form = put_form(alloc, line, bindings, &statement.form)?;
         let expansion = bindings.expansion();
-        let origin = Origin::Put(Box::new(alloc, Statement { line, form })?);
-        let statement = Said { origin };
+        let statement = Statement { line, form };
         self.placed.push(Placed {
             statement,
             expansion,

@@ -1,56 +1,38 @@
 //! Expands a program.
 
-ghost use Rattle.std.specs.Prelude.{◌≡◌, ◌≤◌, ◌∷◌, ℕ, [], None, Some, length, drop, suc, reverse, IfOk, IfErr};
+ghost use Rattle.std.specs.Prelude.{◌≡◌, ◌≤◌, ◌∷◌, ◌++◌, [], None, Some, length, OnOk, IfOk, IfErr};
 ghost use Rattle.vcm_lines.specs.Fault.{NoMemoryOr};
 ghost use Rattle.vcm_spec.specs.Phase.{IsClean};
-ghost use Rattle.vcm_macro.specs.Walk.{waits_behind, walk, walk_from};
-ghost use Rattle.vcm_macro.specs.Rules.{BreaksMacros, kept};
+ghost use Rattle.vcm_forms.specs.declared.statement.Form.TheVariants.{Macro, Call};
+ghost use Rattle.vcm_macro.specs.Walk.{Inside, with_statement, waits_behind, walk};
+ghost use Rattle.vcm_macro.specs.Rules.{BreaksMacros, codes_at, kept};
 ghost use Rattle.vcm_macro.specs.Computed.{macro_fault};
 ghost use Rattle.vcm_macro.specs.Expansion.{IsExpanded, IsRefused};
-ghost use Rattle.vcm_macro.specs.inner.Expanding.{TellsFirst, IsNew, IsRead, defines};
+ghost use Rattle.vcm_macro.specs.inner.Reading.{with_current, IsRead, TellsRead};
 
 use crate::blocks::is_in_block;
-use crate::defining::body_size;
+use crate::defining::{Opened, is_macro_end};
 use crate::definition::{Definition, is_defined};
 use crate::expanding::call;
 use crate::expansion::{Expansion, MOST};
 use crate::order::check_order;
 use crate::parameters::has_twins;
 use crate::placed::Placed;
-use std::alloc::Global;
-use vcm_forms::{Form, Parameter, Statement};
+use std::alloc::{AllocError, Global};
+use std::mem;
+use vcm_forms::{Argument, Form, Parameter, Statement};
 use vcm_items::Name;
 use vcm_lines::{FaultCode, SourceFault};
+use vcm_num::Items;
 use vcm_substitution::Bindings;
 
-// The macro that is defined here, behind the statement MACRO.
-fn define<'a>(
-    alloc: Global,
-    macros: &[Definition<'a>],
-    line: u32,
-    name: &'a Name,
-    parameters: &'a [Parameter],
-    statements: &'a [Statement],
-) -> Result<usize, SourceFault>
-    ensures ok { IfOk result (IsNew macros.now line name.now parameters.now statements.now) }
-    ensures fault { IfErr result (NoMemoryOr (λ f. (k : ℕ) → TellsFirst k (defines macros.now line name.now parameters.now statements.now) f)) }
-{
-    if is_defined(macros, name) || has_twins(parameters) {
-        let code = FaultCode::DuplicateName;
-        return Err(SourceFault { code, line });
-    }
-    body_size(alloc, name, parameters, statements)
-}
-
-// What stands behind so many statements and one more.
-fn behind(statements: &[Statement], size: usize) -> &[Statement]
-    ensures { result.now ≡ drop (suc size) statements.now }
-{
-    if size < statements.len() {
-        &statements[size + 1..]
-    } else {
-        &[]
-    }
+/// What is read of a text: its macros, the one that is open, whether a block of a SELECT has to begin, and what has been expanded.
+#[derive(Drop)]
+pub(crate) struct Reading {
+    pub(crate) macros: Vec<Definition>,
+    pub(crate) current: Option<Opened>,
+    pub(crate) waits: bool,
+    pub(crate) done: Expansion,
 }
 
 // Whether a block of a SELECT has to begin, or the SELECT to end, behind one more statement outside macros.
@@ -63,77 +45,172 @@ fn waits_behind(waits: bool, form: &Form) -> bool
     }
 }
 
-// One statement outside macros, or a whole macro, where a block of a SELECT has to begin or not: what is left behind it.
-fn read<'a>(
-    alloc: Global,
-    macros: &mut Vec<Definition<'a>>,
-    waits: bool,
-    done: &mut Expansion<'a>,
-    statement: &'a Statement,
-    others: &'a [Statement],
-) -> Result<&'a [Statement], SourceFault>
-    ensures ok { IfOk result (λ rest. IsRead macros.old.items waits done.old (statement.now ∷ others.now) macros.new.items (waits_behind waits statement.now.form) done.new rest.now) }
-    ensures shorter { IfOk result (λ rest. length rest.now ≤ length others.now) }
-    ensures fault { IfErr result (NoMemoryOr (TellsFirst done.old.count (walk_from (reverse macros.old.items) None waits done.old.calls (statement.now ∷ others.now)))) }
-{
-    let outside = Bindings::new(&[], &[], 0);
-    let line = statement.line;
-    match &statement.form {
-        Form::Macro(name, parameters) => {
-            let parameters = parameters.as_slice();
-            let size = define(alloc, macros, line, name, parameters, others)?;
-            let definition = Definition::new(alloc, name, parameters, &others[..size])?;
-            macros.push(definition)?;
-            Ok(behind(others, size))
+impl Reading {
+    // MACRO outside macros.
+    fn begin(
+        &mut self,
+        alloc: Global,
+        line: u32,
+        name: Name,
+        parameters: Items<Parameter>,
+    ) -> Result<(), SourceFault>
+        requires { self.old.current ≡ None }
+        ensures ok { OnOk result (IsRead self.old (record { line = line; form = Macro name parameters }) self.new) }
+        ensures fault { IfErr result (NoMemoryOr (TellsRead self.old (record { line = line; form = Macro name parameters }))) }
+    {
+        if is_defined(&self.macros, &name) || has_twins(parameters.as_slice()) {
+            let code = FaultCode::DuplicateName;
+            return Err(SourceFault { code, line });
         }
-        Form::Call(name, written) => {
-            if waits {
-                let code = FaultCode::Unbalanced;
-                return Err(SourceFault { code, line });
+        self.current = Some(Opened::new(alloc, name, parameters));
+        Ok(())
+    }
+
+    // CALL outside macros.
+    fn call(
+        &mut self,
+        alloc: Global,
+        line: u32,
+        name: &Name,
+        written: &[Argument],
+    ) -> Result<(), SourceFault>
+        requires { self.old.current ≡ None }
+        ensures ok { OnOk result (IsRead self.old (record { line = line; form = Call name.now written.now }) self.new) }
+        ensures fault { IfErr result (NoMemoryOr (TellsRead self.old (record { line = line; form = Call name.now written.now }))) }
+    {
+        if self.waits {
+            let code = FaultCode::Unbalanced;
+            return Err(SourceFault { code, line });
+        }
+        let (macros, done) = (&self.macros, &mut self.done);
+        let outside = Bindings::new(&[], &[], 0);
+        call(alloc, macros, &outside, line, 1, name, written, done)
+    }
+
+    // One statement outside macros.
+    fn outside(&mut self, alloc: Global, statement: Statement) -> Result<(), SourceFault>
+        requires { self.old.current ≡ None }
+        ensures ok { OnOk result (IsRead self.old statement self.new) }
+        ensures fault { IfErr result (NoMemoryOr (TellsRead self.old statement)) }
+    {
+        let line = statement.line;
+        match statement.form {
+            Form::Macro(name, parameters) => self.begin(alloc, line, name, parameters),
+            Form::Call(name, written) => self.call(alloc, line, &name, written.as_slice()),
+            form => {
+                self.waits = waits_behind(self.waits, &form);
+                self.done.stand_written(Statement { line, form })
             }
-            let written = written.as_slice();
-            call(alloc, macros, &outside, line, 1, name, written, done)?;
-            Ok(others)
         }
-        _ => {
-            done.stand_written(statement)?;
-            Ok(others)
+    }
+
+    // The macro that was open, behind its ENDMAC.
+    fn close(&mut self, alloc: Global, current: Opened) -> Result<(), AllocError>
+        ensures macros { OnOk result (self.new.macros.items ≡ self.old.macros.items ++ current ∷ []) }
+        ensures others { OnOk result ((self.new.current ≡ self.old.current) × (self.new.waits ≡ self.old.waits) × (self.new.done ≡ self.old.done)) }
+    {
+        let definition = current.closed(alloc)?;
+        self.macros.push(definition)?;
+        Ok(())
+    }
+
+    // The macro that is open, with one more statement.
+    fn grow(&mut self, current: Opened, statement: Statement) -> Result<(), AllocError>
+        ensures current { OnOk result (self.new.current ≡ Some (with_statement current statement)) }
+        ensures others { OnOk result ((self.new.macros.items ≡ self.old.macros.items) × (self.new.waits ≡ self.old.waits) × (self.new.done ≡ self.old.done)) }
+    {
+        let grown = current.taken(statement)?;
+        drop(mem::replace(&mut self.current, Some(grown)));
+        Ok(())
+    }
+
+    // One statement of a macro that may stand there, or its ENDMAC.
+    fn judged(
+        &mut self,
+        alloc: Global,
+        current: Opened,
+        statement: Statement,
+    ) -> Result<(), AllocError>
+        requires shut { self.old.current ≡ None }
+        requires fine { codes_at 0 (Inside current statement) ≡ [] }
+        ensures { OnOk result (IsRead (with_current current self.old) statement self.new) }
+    {
+        if is_macro_end(&statement.form) {
+            drop(statement);
+            self.close(alloc, current)
+        } else {
+            self.grow(current, statement)
+        }
+    }
+
+    // One statement of a macro, or its ENDMAC.
+    fn inside(
+        &mut self,
+        alloc: Global,
+        current: Opened,
+        statement: Statement,
+    ) -> Result<(), SourceFault>
+        requires { self.old.current ≡ None }
+        ensures ok { OnOk result (IsRead (with_current current self.old) statement self.new) }
+        ensures fault { IfErr result (NoMemoryOr (TellsRead (with_current current self.old) statement)) }
+    {
+        match current.judge(&statement) {
+            Ok(()) => {
+                self.judged(alloc, current, statement)?;
+                Ok(())
+            }
+            Err(fault) => {
+                drop(current);
+                drop(statement);
+                Err(fault)
+            }
+        }
+    }
+
+    // One statement of the text.
+    fn read(&mut self, alloc: Global, statement: Statement) -> Result<(), SourceFault>
+        ensures ok { OnOk result (IsRead self.old statement self.new) }
+        ensures fault { IfErr result (NoMemoryOr (TellsRead self.old statement)) }
+    {
+        match self.current.take() {
+            None => self.outside(alloc, statement),
+            Some(current) => self.inside(alloc, current, statement),
         }
     }
 }
 
 /// The expanded program, whose statements stand in order, or the first fault of its macros.
-fn expanded<'a>(alloc: Global, statements: &'a [Statement]) -> Result<Vec<Placed<'a>>, SourceFault>
-    ensures clean { IfOk result (λ _. IsClean BreaksMacros (walk statements.now)) }
-    ensures ok { IfOk result (λ all. all.items ≡ kept (walk statements.now)) }
+fn expanded(alloc: Global, statements: Vec<Statement>) -> Result<Vec<Placed>, SourceFault>
+    ensures clean { IfOk result (λ _. IsClean BreaksMacros (walk statements.items)) }
+    ensures ok { IfOk result (λ all. all.items ≡ kept (walk statements.items)) }
     ensures few { IfOk result (λ all. length all.items ≤ 20000) }
-    ensures fault { IfErr result (NoMemoryOr (λ f. macro_fault statements.now ≡ Some f)) }
+    ensures fault { IfErr result (NoMemoryOr (λ f. macro_fault statements.items ≡ Some f)) }
 {
-    let mut macros = Vec::new(alloc);
-    let mut done = Expansion::new(alloc, statements.len().min(MOST as usize))?;
-    let mut waits = false;
-    let mut rest = statements;
-    'text: while let Some((statement, others)) = rest.split_first() {
-        rest = read(alloc, &mut macros, waits, &mut done, statement, others)?;
-        waits = waits_behind(waits, &statement.form);
+    let done = Expansion::new(alloc, statements.len().min(MOST as usize))?;
+    let mut reading = Reading {
+        macros: Vec::new(alloc),
+        current: None,
+        waits: false,
+        done,
+    };
+    for statement in statements {
+        reading.read(alloc, statement)?;
     }
-    Ok(done.into_placed())
+    Ok(reading.done.into_placed())
 }
 
-/// The expanded program: its statements that are counted and its declarations, each with the number of its expansion.
+/// The expanded program: its statements that are counted and its declarations, each with the number of its expansion. The others are let go as
+/// they are passed.
 ///
 /// # Errors
 ///
 /// The first fault of the first phase that has one, that of the order of statements or that of macros; of several faults at one place the leftmost. Want
 /// of memory.
-pub fn expand<'a>(
-    alloc: Global,
-    statements: &'a [Statement],
-) -> Result<Vec<Placed<'a>>, SourceFault>
-    ensures ok { IfOk result (λ all. IsExpanded statements.now all.items) }
+pub fn expand(alloc: Global, statements: Vec<Statement>) -> Result<Vec<Placed>, SourceFault>
+    ensures ok { IfOk result (λ all. IsExpanded statements.items all.items) }
     ensures few { IfOk result (λ all. length all.items ≤ 20000) }
-    ensures fault { IfErr result (NoMemoryOr (IsRefused statements.now)) }
+    ensures fault { IfErr result (NoMemoryOr (IsRefused statements.items)) }
 {
-    check_order(statements)?;
+    check_order(&statements)?;
     expanded(alloc, statements)
 }

@@ -8,6 +8,7 @@ pub mod GrownBlocks
 pub mod Stated
 pub mod Choosing
 pub mod Walking
+pub mod Passing
 pub mod Written
 pub mod Meant
 pub mod Ending

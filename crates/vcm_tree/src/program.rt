@@ -6,12 +6,16 @@ ghost use Rattle.vcm_spec.specs.Phase.{IsClean, FirstFault};
 ghost use Rattle.vcm_nodes.specs.Jumps.{labels_of};
 ghost use Rattle.vcm_tree.specs.Ended.{is_ended};
 ghost use Rattle.vcm_tree.specs.Program.{notice_of, notices_of, IsParsed};
+ghost use Rattle.vcm_forms.specs.declared.statement.Statement.{Statement as Said};
 ghost use Rattle.vcm_macro.specs.declared.placed.Placed.{Placed as Stands};
-ghost use Rattle.vcm_tree.specs.Resolving.{BreaksNames, names_line};
+ghost use Rattle.vcm_program.specs.Telling.{ToldAt};
+ghost use Rattle.vcm_tree.specs.Resolving.{resolved_here, BreaksNames, names_line};
+ghost use Rattle.vcm_tree.specs.inner.Taking.{behind_with, Takes};
 ghost use Rattle.vcm_tree.specs.declared.selection.Selection.{Selection as Waits};
 ghost use Rattle.vcm_tree.specs.inner.Walking.{IsWalked};
 
 use crate::builder::Builder;
+use crate::selection::Selection;
 use crate::taking::{Progress, take};
 use std::alloc::{AllocError, Global};
 use vcm_expr::Names;
@@ -41,8 +45,8 @@ fn note(notices: &mut Vec<Noticed>, statement: &Statement) -> Result<(), AllocEr
     Ok(())
 }
 
-// The notices of the statements that are written.
-fn noted(alloc: Global, written: &[Statement]) -> Result<Vec<Noticed>, AllocError>
+/// The notices of the statements that are written.
+pub(crate) fn noted(alloc: Global, written: &[Statement]) -> Result<Vec<Noticed>, AllocError>
     ensures { IfOk result (λ notices. notices.items ≡ notices_of written.now) }
 {
     let mut notices = Vec::new(alloc);
@@ -67,15 +71,31 @@ fn begun(alloc: Global, nodes: usize) -> Result<Progress, AllocError>
     })
 }
 
+// Reads one statement more, and gives it up.
+fn take_one(
+    alloc: Global,
+    read: &mut Progress,
+    selection: Option<Selection>,
+    placed: Placed,
+) -> Result<Option<Selection>, SourceFault>
+    ensures ok { IfOk result (Takes placed read.old selection read.new) }
+    ensures fault { IfErr result (NoMemoryOr (ToldAt placed.statement.line (resolved_here (behind_with read.old selection) placed))) }
+{
+    let statement = &placed.statement;
+    let taken = take(alloc, read, selection, statement, placed.expansion);
+    drop(placed);
+    taken
+}
+
 // Reads all statements, one behind the other.
-fn take_all(alloc: Global, read: &mut Progress, all: &[Placed<'_>]) -> Result<(), SourceFault>
-    requires { IsWalked all.now read.old None all.now }
-    ensures ok { IfOk result (λ _. (waits : Option Waits) × IsWalked all.now read.new waits []) }
-    ensures fault { IfErr result (NoMemoryOr (λ f. FirstFault BreaksNames names_line all.now f.code f.line)) }
+fn take_all(alloc: Global, read: &mut Progress, all: Vec<Placed>) -> Result<(), SourceFault>
+    requires { IsWalked all.items read.old None all.items }
+    ensures ok { IfOk result (λ _. (waits : Option Waits) × IsWalked all.items read.new waits []) }
+    ensures fault { IfErr result (NoMemoryOr (λ f. FirstFault BreaksNames names_line all.items f.code f.line)) }
 {
     let mut selection = None;
     for placed in all {
-        selection = take(alloc, read, selection, placed.statement(), placed.expansion)?;
+        selection = take_one(alloc, read, selection, placed)?;
     }
     Ok(())
 }
@@ -103,19 +123,18 @@ fn draft_of(read: Progress, notices: Vec<Noticed>) -> DraftProgram
     }
 }
 
-/// The program of the expanded statements, with the notices of those that are written, or the first fault among their names and blocks.
+/// The program of the expanded statements, with these notices, or the first fault among their names and blocks.
 pub(crate) fn drafted(
     alloc: Global,
-    written: &[Statement],
-    all: &[Placed<'_>],
+    notices: Vec<Noticed>,
+    all: Vec<Placed>,
 ) -> Result<DraftProgram, SourceFault>
-    requires ended { IsTrue (is_ended all.now) }
-    ensures clean { IfOk result (λ _. IsClean BreaksNames all.now) }
-    ensures program { IfOk result (λ d. IsParsed written.now all.now (record { program = d.tree; tables = d.names; notices = d.notices.items })) }
+    requires ended { IsTrue (is_ended all.items) }
+    ensures clean { IfOk result (λ _. IsClean BreaksNames all.items) }
+    ensures program { IfOk result (λ d. (written : List Said) → notices.items ≡ notices_of written → IsParsed written all.items (record { program = d.tree; tables = d.names; notices = d.notices.items })) }
     ensures labels { IfOk result (λ d. d.labels ≡ labels_of d.tree) }
-    ensures fault { IfErr result (NoMemoryOr (λ f. FirstFault BreaksNames names_line all.now f.code f.line)) }
+    ensures fault { IfErr result (NoMemoryOr (λ f. FirstFault BreaksNames names_line all.items f.code f.line)) }
 {
-    let notices = noted(alloc, written)?;
     let mut read = begun(alloc, all.len())?;
     match take_all(alloc, &mut read, all) {
         Ok(()) => Ok(draft_of(read, notices)),

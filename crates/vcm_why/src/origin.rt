@@ -49,8 +49,8 @@ pub(crate) fn origin_of(alloc: Global, text: &[u8], number: u32) -> Result<Origi
     ensures { IfOk result (λ o. IsOrigin text.now number o) }
 {
     let lines = logical_lines(alloc, text)?;
+    let chain = chain_of(alloc, read_all(alloc, lines.as_slice())?, number)?;
     let statements = read_all(alloc, lines.as_slice())?;
-    let chain = chain_of(alloc, &statements, number)?;
     Ok(Origin {
         text,
         statements,
