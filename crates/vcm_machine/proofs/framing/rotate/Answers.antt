@@ -1,5 +1,6 @@
 use Rattle.std.proofs.Common.{ℕ, List, ap, sym, subst}
 use Rattle.std.specs.Int.{w16}
+use Rattle.vcm_spec.specs.declared.words.Quarters.{Quarters}
 use Rattle.vcm_spec.specs.Setup.{setup_of}
 use Rattle.vcm_state.specs.Carried.{Carried}
 use Rattle.vcm_fields.specs.Readers.{variable_at, both, turn_at, quarters_at}
@@ -16,7 +17,7 @@ pub returns-clause-carried : goal.returns-clause-carried
 returns-clause-carried c part o rest h =
     let f = known_first variable_at (both turn_at quarters_at) _ o rest _ c.known_short-frame.ensures h in
     let a = read_first _ _ turn_at quarters_at c.known_short-frame.result.1.now o.1 rest _ c.turn.ensures c.known-axis.ensures f.1 in
-    let q = ap (λ (t : ℕ × List ℕ). t.0) (gives_it _ _ _ _ _ c.quarters.ensures a.1 c.known-quarters.ensures) in
+    let q = ap (λ (t : Quarters × List ℕ). t.0) (gives_it _ _ _ _ _ c.quarters.ensures a.1 c.known-quarters.ensures) in
     let is = rotate_effect (setup_of part c.args.world.now.tables) c.args.world.now.state o.0 o.1.0 o.1.1 in
     subst (λ o. Carried o c.args.world.now.state c.rotate.new.self.state c.rotate.result) (sym is) (rw (f.0, a.0, q) at (c.rotate.ensures part).0)
 

@@ -1,5 +1,6 @@
 use Rattle.std.proofs.Common.{ℕ, List, ap, sym, subst}
 use Rattle.std.specs.Int.{w16}
+use Rattle.vcm_spec.specs.declared.words.FeatureWord.{FeatureWord}
 use Rattle.vcm_spec.specs.Setup.{setup_of}
 use Rattle.vcm_state.specs.Carried.{Carried}
 use Rattle.vcm_fields.specs.Readers.{variable_at, both, source_at, part_at}
@@ -23,7 +24,7 @@ returns-clause-carried c setting o rest h =
     let v = known_first variable_at (both source_at (both variable_at part_at)) _ o rest _ c.known_short-variable.ensures h in
     let s = read_first _ _ source_at (both variable_at part_at) c.known_short-variable.result.1.now o.1 rest _ c.source.ensures c.known-source.ensures v.1 in
     let f = known_first variable_at part_at c.known-source.result.1.now o.1.1 rest _ c.known_short-feature.ensures s.1 in
-    let w = ap (λ (t : ℕ × List ℕ). t.0) (gives_it _ _ _ _ _ c.part.ensures f.1 c.known-word.ensures) in
+    let w = ap (λ (t : FeatureWord × List ℕ). t.0) (gives_it _ _ _ _ _ c.part.ensures f.1 c.known-word.ensures) in
     let is = obtain_effect (setup_of setting c.args.world.now.tables) c.args.world.now.state o.0 o.1.0 o.1.1.0 o.1.1.1 in
     subst (λ o. Carried o c.args.world.now.state c.obtain.new.self.state c.obtain.result) (sym is) (rw (v.0, s.0, f.0, w) at (c.obtain.ensures setting).0)
 
