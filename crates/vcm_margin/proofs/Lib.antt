@@ -1,4 +1,6 @@
 mod Bisected
+mod Reached
+mod Keeping
 mod Together
 mod Looked
 mod Cubes

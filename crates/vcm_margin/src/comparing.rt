@@ -1,106 +1,90 @@
-//! Two machines over one code beside two workpieces, step by step.
+//! The run with the own tip and a machine with another one over one code, step by step.
 
-ghost use Rattle.std.specs.Prelude.{◌≡◌, IfOk, IfSome, IfNone};
+ghost use Rattle.std.specs.Prelude.{◌≡◌, ◌<◌, ◌+◌, suc, ℕ, IfOk, IfSome, IfNone};
+ghost use Rattle.vcm_spec.specs.Workpiece.{Workpiece};
+ghost use Rattle.vcm_code.specs.declared.code.Code.{Code};
 ghost use Rattle.vcm_code.specs.CodeTable.{CodeState};
-ghost use Rattle.vcm_machine.specs.Running.{started};
-ghost use Rattle.vcm_margin.specs.Alike.{measured_by, measures, next_place, actual_in, IsAlike, GoAlike, Differ, DifferFirst};
-ghost use Rattle.vcm_margin.specs.inner.Stepped.{BothLater};
+ghost use Rattle.vcm_machine.specs.Running.{started, later};
+ghost use Rattle.vcm_margin.specs.Alike.{reached, measures, next_place, IsAlike, GoAlike, Differ, DifferFirst};
+ghost use Rattle.vcm_margin.specs.inner.Kept.{Shows};
+ghost use Rattle.vcm_margin.specs.inner.Stepped.{HaveGone};
 
 use crate::difference::{Difference, Place, Seen};
+use crate::own::{Behind, OwnRun, actual_of, measured};
 use crate::same::{is_same_feature, is_same_stop};
 use std::alloc::Global;
-use vcm_code::Op;
-use vcm_fields::BorrowedOp;
 use vcm_loader::Loaded;
 use vcm_machine::Machine;
 use vcm_motion::Part;
 use vcm_num::NoMemory;
-use vcm_spec::{Feature, Simple};
 
-// The feature that a statement measures.
-fn measured(op: &BorrowedOp<'_>) -> Option<u16>
-    ensures { result ≡ measured_by op.now }
-{
-    match op {
-        Op::Plain(Simple::PtMeas(feature, _, _, _, _)) => Some(*feature),
-        _ => None,
-    }
-}
-
-// The feature of an index as a machine has measured it.
-fn actual_of<P: Part>(machine: &Machine<'_, P>, index: u16) -> Option<Feature>
-    ensures { result ≡ actual_in machine.now.state index }
-{
-    match machine.world().actual().get(index as usize) {
-        Some(feature) => *feature,
-        None => None,
-    }
-}
-
-// What differs between two machines behind the step from a state, which measured a feature or none, at a place.
-fn differing<P: Part, Q: Part>(
+// What differs, of what stands behind a step that measured a feature or none, at a place, and a machine that has taken it too.
+fn differing<Q: Part>(
     which: Option<u16>,
     place: Place,
-    one: &Machine<'_, P>,
+    own: Behind,
     other: &Machine<'_, Q>,
 ) -> Option<Difference>
-    ensures differ { IfSome result (λ d. (before : CodeState) → which ≡ measures one.now.code before → place ≡ next_place one.now.code before
-        → Differ one.now.code before one.now.state other.now.state d) }
-    ensures alike { IfNone result (IsAlike which one.now.state other.now.state) }
+    ensures differ { IfSome result (λ d. (c : Code) (before after : CodeState) → Shows which own after → which ≡ measures c before
+        → place ≡ next_place c before → Differ c before after other.now.state d) }
+    ensures alike { IfNone result ((after : CodeState) → Shows which own after → IsAlike which after other.now.state) }
 {
     let stop = other.world().stop();
-    if !is_same_stop(one.world().stop(), stop) {
+    if !is_same_stop(own.stop, stop) {
         return Some(Difference::Stop(stop));
     }
     let next = other.next();
-    if one.next() != next {
+    if own.next != next {
         return Some(Difference::Next(next));
     }
     let index = which?;
     let feature = actual_of(other, index);
-    if is_same_feature(actual_of(one, index), feature) {
+    if is_same_feature(own.point, feature) {
         None
     } else {
         Some(Difference::Feature(index, feature, place))
     }
 }
 
-// One step of two machines over one code, and what differs behind it.
-fn step_both<P: Part, Q: Part>(
+// One step more of both, and what differs behind it.
+fn step_both<O: OwnRun, Q: Part>(
     alloc: Global,
     loaded: &Loaded<'_>,
-    one: &mut Machine<'_, P>,
+    own: &mut O,
     other: &mut Machine<'_, Q>,
 ) -> Result<Option<Difference>, NoMemory>
-    requires { one.old.code ≡ loaded.now }
-    ensures stepped { IfOk result (λ d. BothLater one.old other.old one.new other.new) }
-    ensures differ { IfOk result (λ d. IfSome d (Differ one.old.code one.old.state one.new.state other.new.state)) }
-    ensures alike { IfOk result (λ d. IfNone d (IsAlike (measures one.old.code one.old.state) one.new.state other.new.state)) }
+    requires { other.old.code ≡ loaded.now }
+    ensures gone { (part beside : Workpiece) (n k : ℕ) → k < n → HaveGone part beside loaded.now k (λ j. O.at own.old part loaded.now n j) other.old
+        → IfOk result (λ d. IfNone d (HaveGone part beside loaded.now (k + 1) (λ j. O.at own.new part loaded.now n j) other.new)) }
+    ensures differ { (part beside : Workpiece) (n k : ℕ) → k < n → HaveGone part beside loaded.now k (λ j. O.at own.old part loaded.now n j) other.old
+        → IfOk result (λ d. IfSome d (Differ loaded.now (reached part loaded.now k) (reached part loaded.now (suc k)) other.new.state)) }
+    ensures moved { IfOk result (λ d. other.new ≡ later 1 other.old) }
 {
-    let number = one.next();
+    let number = other.next();
     let statement = loaded.statement(number as usize);
     let which = measured(&statement.op);
     let line = statement.line;
-    one.step(alloc)?;
+    let behind = own.go_on(alloc, which)?;
     other.step(alloc)?;
-    Ok(differing(which, Place { number, line }, one, other))
+    Ok(differing(which, Place { number, line }, behind, other))
 }
 
-// Where two machines differ first in so many steps from the start of one code.
-fn compare_on<P: Part, Q: Part>(
+/// Where the own run and a machine at the start of one code differ first in so many steps; the position is the machine's.
+///
+/// Errors: want of memory.
+pub(crate) fn compare<O: OwnRun, Q: Part>(
     alloc: Global,
     loaded: &Loaded<'_>,
-    one: &mut Machine<'_, P>,
+    own: &mut O,
     other: &mut Machine<'_, Q>,
     steps: u64,
 ) -> Result<Option<Seen>, NoMemory>
-    requires one { one.old ≡ started one.old.part loaded.now }
-    requires other { other.old ≡ started other.old.part loaded.now }
-    ensures differ { IfOk result (λ d. IfSome d (DifferFirst one.old.part other.old.part loaded.now steps)) }
-    ensures alike { IfOk result (λ d. IfNone d (GoAlike one.old.part other.old.part loaded.now steps)) }
+    requires { other.old ≡ started other.old.part loaded.now }
+    ensures differ { (part : Workpiece) → O.at own.old part loaded.now steps 0 → IfOk result (λ d. IfSome d (DifferFirst part other.old.part loaded.now steps)) }
+    ensures alike { (part : Workpiece) → O.at own.old part loaded.now steps 0 → IfOk result (λ d. IfNone d (GoAlike part other.old.part loaded.now steps)) }
 {
     for step in 0..steps {
-        match step_both(alloc, loaded, one, other)? {
+        match step_both(alloc, loaded, own, other)? {
             Some(what) => {
                 let position = other.world().position();
                 let steps = step + 1;
@@ -114,37 +98,4 @@ fn compare_on<P: Part, Q: Part>(
         }
     }
     Ok(None)
-}
-
-// Where a machine at the start of a loaded code and one beside another workpiece differ first in so many steps.
-fn compare_beside<P: Part, Q: Part>(
-    alloc: Global,
-    loaded: &Loaded<'_>,
-    one: &mut Machine<'_, P>,
-    other: &Q,
-    steps: u64,
-) -> Result<Option<Seen>, NoMemory>
-    requires { one.old ≡ started one.old.part loaded.now }
-    ensures differ { IfOk result (λ d. IfSome d (DifferFirst one.old.part (Q.part other.now) loaded.now steps)) }
-    ensures alike { IfOk result (λ d. IfNone d (GoAlike one.old.part (Q.part other.now) loaded.now steps)) }
-{
-    let mut second = Machine::new(alloc, loaded, other)?;
-    compare_on(alloc, loaded, one, &mut second, steps)
-}
-
-/// Where the runs of a loaded code beside two workpieces differ first in so many steps; the position is that beside the second.
-///
-/// Errors: want of memory.
-pub(crate) fn compare<P: Part, Q: Part>(
-    alloc: Global,
-    loaded: &Loaded<'_>,
-    one: &P,
-    other: &Q,
-    steps: u64,
-) -> Result<Option<Seen>, NoMemory>
-    ensures differ { IfOk result (λ d. IfSome d (DifferFirst (P.part one.now) (Q.part other.now) loaded.now steps)) }
-    ensures alike { IfOk result (λ d. IfNone d (GoAlike (P.part one.now) (Q.part other.now) loaded.now steps)) }
-{
-    let mut first = Machine::new(alloc, loaded, one)?;
-    compare_beside(alloc, loaded, &mut first, other, steps)
 }

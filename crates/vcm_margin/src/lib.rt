@@ -4,6 +4,7 @@
 mod comparing;
 mod difference;
 pub mod laws;
+mod own;
 mod printing;
 mod same;
 mod widening;

@@ -1,17 +1,13 @@
--- Two machines that are stepped together.
+-- A run with the own tip and a machine with another one that are stepped together.
 use Rattle.std.specs.Prelude.{◌≡◌, ℕ}
 use Rattle.vcm_spec.specs.Workpiece.{Workpiece}
 use Rattle.vcm_code.specs.declared.code.Code.{Code}
 use Rattle.vcm_machine.specs.Running.{Running, started, later}
-use Rattle.vcm_margin.specs.Alike.{GoAlike}
+use Rattle.vcm_margin.specs.Alike.{reached, GoAlike}
 
--- both are one step further
-pub record BothLater (one other new_one new_other : Running) : Type 0 where
-  pub first : new_one ≡ later 1 one
-  pub second : new_other ≡ later 1 other
-
--- both are so many steps behind the start, and have gone alike
-pub record HaveGone (part other : Workpiece) (c : Code) (n : ℕ) (one two : Running) : Type 0 where
-  pub first : one ≡ later n (started part c)
+-- both are so many steps behind the start, the first as At says, and have gone alike
+pub record HaveGone (part other : Workpiece) (c : Code) (n : ℕ) (At : ℕ → Type 0) (two : Running) : Type 0 where
+  pub first : At n
   pub second : two ≡ later n (started other c)
+  pub next : two.state.next ≡ (reached part c n).next
   pub alike : GoAlike part other c n

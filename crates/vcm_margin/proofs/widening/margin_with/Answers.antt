@@ -1,6 +1,6 @@
 use Rattle.std.proofs.Common.{rules}
 use Rattle.vcm_margin.proofs.Bisected.{begins_at}
-use Rattle.vcm_margin.proofs.widening.margin_beside.Goals as goal
+use Rattle.vcm_margin.proofs.widening.margin_with.Goals as goal
 
 pub loop-beyond-init : goal.loop-beyond-init
 loop-beyond-init g c =
