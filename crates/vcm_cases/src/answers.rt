@@ -5,12 +5,8 @@ use crate::ways::comes_to_the_same;
 use std::alloc::Global;
 use std::fmt::Write as _;
 use vcm_boxes::{Boxes, read_boxes};
-use vcm_job::{CheckFault, asm, build, check, debug, list, part_from, run};
-use vcm_lines::SourceFault;
-use vcm_messages::{
-    Message, NoticeLine, asm_message, check_message, debug_message, list_message,
-    part_file_message, probe_message, run_message, status_of,
-};
+use vcm_job::{asm, build, check, debug, list, part_from, run};
+use vcm_messages::{Message, NoticeLine, Told, message_of, probe_message, status_of};
 use vcm_motion::Strips;
 use vcm_page::{Texts, page_of};
 use vcm_part::PartData;
@@ -79,7 +75,7 @@ fn run_beside(alloc: Global, part: &PartData, program: &str, steps: u64) -> Opti
         } else {
             None
         },
-        Err(fault) => told(alloc, run_message(fault, "the program")),
+        Err(fault) => told(alloc, message_of(fault, "the program")),
     }
 }
 
@@ -88,7 +84,7 @@ pub(crate) fn run_answer(alloc: Global, part: &str, program: &str, steps: u64) -
     let mut file = part.as_bytes();
     match part_from(alloc, &mut file) {
         Ok(part) => run_beside(alloc, &part, program, steps),
-        Err(fault) => told(alloc, part_file_message(fault, "the part")),
+        Err(fault) => told(alloc, message_of(fault, "the part")),
     }
 }
 
@@ -104,7 +100,7 @@ fn view_beside(
     let mut out = Vec::new(alloc);
     match view_of(alloc, view, part, &mut input, steps, &mut out) {
         Ok(done) => printed(alloc, &out, done.notices.as_slice(), done.status),
-        Err(fault) => told(alloc, run_message(fault, "the program")),
+        Err(fault) => told(alloc, message_of(fault, "the program")),
     }
 }
 
@@ -119,7 +115,7 @@ pub(crate) fn view_answer(
     let mut file = part.as_bytes();
     match part_from(alloc, &mut file) {
         Ok(part) => view_beside(alloc, view, &part, program, steps),
-        Err(fault) => told(alloc, part_file_message(fault, "the part")),
+        Err(fault) => told(alloc, message_of(fault, "the part")),
     }
 }
 
@@ -133,7 +129,7 @@ fn story_beside(alloc: Global, part: &PartData, program: &str, steps: u64) -> Op
     };
     match page_of(alloc, part, texts, &mut input, steps, &mut out) {
         Ok(done) => printed(alloc, &out, done.notices.as_slice(), done.status),
-        Err(fault) => told(alloc, run_message(fault, "the program")),
+        Err(fault) => told(alloc, message_of(fault, "the program")),
     }
 }
 
@@ -142,7 +138,7 @@ pub(crate) fn story_answer(alloc: Global, part: &str, program: &str, steps: u64)
     let mut file = part.as_bytes();
     match part_from(alloc, &mut file) {
         Ok(part) => story_beside(alloc, &part, program, steps),
-        Err(fault) => told(alloc, part_file_message(fault, "the part")),
+        Err(fault) => told(alloc, message_of(fault, "the part")),
     }
 }
 
@@ -165,7 +161,7 @@ fn clearance_beside(
         &mut out,
     ) {
         Ok(done) => printed(alloc, &out, done.notices.as_slice(), done.status),
-        Err(fault) => told(alloc, run_message(fault, "the program")),
+        Err(fault) => told(alloc, message_of(fault, "the program")),
     }
 }
 
@@ -180,7 +176,7 @@ pub(crate) fn clearance_answer(
     let mut file = part.as_bytes();
     let part = match part_from(alloc, &mut file) {
         Ok(part) => part,
-        Err(fault) => return told(alloc, part_file_message(fault, "the part")),
+        Err(fault) => return told(alloc, message_of(fault, "the part")),
     };
     match read_boxes(alloc, probe.as_bytes()) {
         Ok(boxes) => clearance_beside(alloc, &part, &boxes, program, steps),
@@ -194,16 +190,8 @@ pub(crate) fn check_answer(alloc: Global, program: &str) -> Option<String> {
     let mut out = Vec::new(alloc);
     match check(alloc, &mut input, &mut out) {
         Ok(notices) => printed(alloc, &out, notices.as_slice(), 0),
-        Err(fault) => told(alloc, check_message(fault, "the program")),
+        Err(fault) => told(alloc, message_of(fault, "the program")),
     }
-}
-
-// A refusal of the program, and its exit status.
-fn refused(alloc: Global, fault: SourceFault) -> Option<String> {
-    told(
-        alloc,
-        check_message(CheckFault::Refused(fault), "the program"),
-    )
 }
 
 // What is said of the machine and the part: the width of the tip to each side, then `exact`, `touch` and frames as `--frame` has them.
@@ -240,7 +228,7 @@ pub(crate) fn survey_answer(alloc: Global, program: &str, words: &str) -> Option
     );
     let findings = match answer.ok()? {
         Ok(findings) => findings,
-        Err(fault) => return refused(alloc, fault),
+        Err(fault) => return told(alloc, fault.told()),
     };
     let status = if findings.is_clean { 0 } else { 1 };
     let mut text = String::from_str(alloc, std::str::from_utf8(&findings.text).ok()?).ok()?;
@@ -253,7 +241,7 @@ pub(crate) fn adapt_answer(alloc: Global, program: &str, words: &str) -> Option<
     let options = options_of(alloc, words)?;
     let adaptation = match adapt(alloc, program.as_bytes(), &options).ok()? {
         Ok(adaptation) => adaptation,
-        Err(fault) => return refused(alloc, fault),
+        Err(fault) => return told(alloc, fault.told()),
     };
     let adapted = std::str::from_utf8(&adaptation.text).ok()?;
     let mut text = String::from_str(alloc, adapted).ok()?;
@@ -274,7 +262,7 @@ pub(crate) fn replies(alloc: Global, part: &str, program: &str, commands: &str) 
         Ok(notices) => printed(alloc, &out, notices.as_slice(), 0),
         Err(fault) => {
             let mut text = String::from_str(alloc, std::str::from_utf8(&out).ok()?).ok()?;
-            text.push_str(&told(alloc, debug_message(fault, "the program"))?)
+            text.push_str(&told(alloc, message_of(fault, "the program"))?)
                 .ok()?;
             Some(text)
         }
@@ -320,7 +308,7 @@ pub(crate) fn asm_answer(alloc: Global, listing: &str) -> Option<String> {
     let mut listing = listing.as_bytes();
     match asm(alloc, &mut listing) {
         Ok(_) => printed(alloc, &[], &[], 0),
-        Err(fault) => told(alloc, asm_message(fault, "the listing")),
+        Err(fault) => told(alloc, message_of(fault, "the listing")),
     }
 }
 
@@ -344,7 +332,7 @@ pub(crate) fn image_answer(alloc: Global, digits: &str) -> Option<String> {
     let mut out = Vec::new(alloc);
     match list(alloc, &mut input, &mut out) {
         Ok(notices) => printed(alloc, &out, notices.as_slice(), 0),
-        Err(fault) => told(alloc, list_message(fault, "the image")),
+        Err(fault) => told(alloc, message_of(fault, "the image")),
     }
 }
 

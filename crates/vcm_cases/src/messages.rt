@@ -1,29 +1,41 @@
 //! What is told on standard error of each fault of a kind: its exit status, its words, and the first line of its explanation.
 
 use crate::faults::{
-    first_refusal, next_asm_fault, next_build_fault, next_check_fault, next_debug_fault,
-    next_job_fault, next_part_file_fault, next_print_fault, next_run_fault, refused_listing,
-    refused_text,
+    first_refusal, next_input, next_listing, next_refusal, next_refused_part, next_run,
+    next_session, next_text, refused_listing, refused_text,
 };
 use std::alloc::Global;
 use std::fmt::Write as _;
 use vcm_explain::explanation;
-use vcm_job::{
-    AsmFault, BuildFault, CheckFault, DebugFault, JobFault, PartFileFault, PrintFault, RunFault,
-};
+use vcm_job::{Fault, InputRefusal, JobFault, SessionFault};
 use vcm_lines::FaultCode;
 use vcm_listing::ListCode;
-use vcm_messages::{
-    Message, asm_message, build_message, check_message, debug_message, job_message, list_message,
-    part_file_message, run_message, status_of,
-};
+use vcm_messages::{Message, Told, message_of, status_of};
 use vcm_part::{PartCode, PartFault};
 
 // The name of each file.
 const FILE: &str = "a.dmi";
 
-// How many faults there are of a kind, at most.
+// How many refusals there are of a kind, at most.
 const MOST: u32 = 100;
+
+// The other faults of a command that gives something, of one that writes, and of one that runs a program.
+const GIVING: &[JobFault] = &[Fault::NoMemory, Fault::Read, Fault::TooLong];
+
+const WRITING: &[JobFault] = &[
+    Fault::NoMemory,
+    Fault::Read,
+    Fault::Write { done: 0 },
+    Fault::TooLong,
+];
+
+const RUNNING: &[JobFault] = &[
+    Fault::Memory { done: 3 },
+    Fault::NoMemory,
+    Fault::Read,
+    Fault::Write { done: 3 },
+    Fault::TooLong,
+];
 
 /// A message behind its exit status.
 pub(crate) fn line_of(alloc: Global, message: Message<'_>) -> Option<String> {
@@ -39,27 +51,38 @@ fn put_line(text: &mut String, line: &str) -> Option<()> {
     }
 }
 
-// The lines of all faults of a kind, from the first one on; none where there are too many, or memory runs out.
-fn told<T: Copy, N: Fn(T) -> Option<T>, L: Fn(T) -> Option<String>>(
+// The lines of all refusals of a kind, from the first one on, and of the other faults of a command; none where there are too many, or memory runs out.
+fn told<R: Told + Copy, N: Fn(R) -> Option<R>>(
     alloc: Global,
-    first: T,
+    name: &str,
+    first: R,
     next: N,
-    line: L,
+    others: &[JobFault],
 ) -> Option<String>
     requires goes_on { N.IsAlwaysCallable next }
-    requires is_told { L.IsAlwaysCallable line }
 {
     let mut text = String::new(alloc);
-    let mut fault = first;
+    let mut refusal = first;
     for _ in 0..MOST {
-        let told = line(fault)?;
-        put_line(&mut text, &told)?;
-        match next(fault) {
-            Some(behind) => fault = behind,
-            None => return Some(text),
+        put_line(
+            &mut text,
+            &line_of(alloc, message_of(Fault::Refused(refusal), name))?,
+        )?;
+        match next(refusal) {
+            Some(behind) => refusal = behind,
+            None => return with_others(alloc, text, name, others),
         }
     }
     None
+}
+
+// The same behind the lines of the refusals.
+fn with_others(alloc: Global, refusals: String, name: &str, others: &[JobFault]) -> Option<String> {
+    let mut text = refusals;
+    for fault in others {
+        put_line(&mut text, &line_of(alloc, message_of(*fault, name))?)?;
+    }
+    Some(text)
 }
 
 // What is told of a command line before a command is carried out.
@@ -74,93 +97,39 @@ fn usage(alloc: Global) -> Option<String> {
     Some(text)
 }
 
-// What is told of a part file.
-fn of_parts(alloc: Global) -> Option<String> {
-    let first = PartFault {
-        code: PartCode::NoMemory,
-        block: 0,
-    };
-    let first = PartFileFault::Refused(first);
-    told(alloc, first, next_part_file_fault, |fault| {
-        line_of(alloc, part_file_message(fault, FILE))
-    })
-}
-
-// The same of the commands that build or run a program.
-fn of_runs(alloc: Global, command: &str) -> Option<String> {
+// The same of the commands that read a program.
+fn of_programs(alloc: Global, command: &str) -> Option<String> {
+    let refusal = first_refusal();
+    let input = InputRefusal::Text(refusal);
     match command {
-        "build" => {
-            let first = BuildFault::Refused(first_refusal());
-            told(
-                alloc,
-                first,
-                next_build_fault,
-                |fault| line_of(alloc, build_message(fault, FILE)),
-            )
-        }
-        "run" => {
-            let first = RunFault::Refused(first_refusal());
-            told(
-                alloc,
-                first,
-                next_run_fault,
-                |fault| line_of(alloc, run_message(fault, FILE)),
-            )
-        }
-        "job" => {
-            let first = JobFault::Refused(first_refusal());
-            told(
-                alloc,
-                first,
-                next_job_fault,
-                |fault| line_of(alloc, job_message(fault)),
-            )
-        }
-        "debug" => {
-            let first = DebugFault::Refused(first_refusal());
-            told(
-                alloc,
-                first,
-                next_debug_fault,
-                |fault| line_of(alloc, debug_message(fault, FILE)),
-            )
-        }
+        "build" => told(alloc, FILE, refusal, next_refusal, GIVING),
+        "job" => told(alloc, "standard input", refusal, next_refusal, RUNNING),
+        "run" => told(alloc, FILE, input, next_run, RUNNING),
+        "list" => told(alloc, FILE, input, next_input, WRITING),
+        "debug" => told(
+            alloc,
+            FILE,
+            SessionFault::Text(refusal),
+            next_session,
+            GIVING,
+        ),
         _ => None,
     }
 }
 
 /// What a command tells of each of its faults; none where there is no such command.
 pub(crate) fn messages(alloc: Global, command: &str) -> Option<String> {
+    let text = refused_text(FaultCode::NoMemory);
+    let listing = refused_listing(ListCode::NoMemory);
+    let part = PartFault {
+        code: PartCode::NoMemory,
+        block: 0,
+    };
     match command {
         "usage" => usage(alloc),
-        "part" => of_parts(alloc),
-        "check" => {
-            let first = CheckFault::Refused(refused_text(FaultCode::NoMemory));
-            told(
-                alloc,
-                first,
-                next_check_fault,
-                |fault| line_of(alloc, check_message(fault, FILE)),
-            )
-        }
-        "list" => {
-            let first = PrintFault::Refused(first_refusal());
-            told(
-                alloc,
-                first,
-                next_print_fault,
-                |fault| line_of(alloc, list_message(fault, FILE)),
-            )
-        }
-        "asm" => {
-            let first = AsmFault::Refused(refused_listing(ListCode::NoMemory));
-            told(
-                alloc,
-                first,
-                next_asm_fault,
-                |fault| line_of(alloc, asm_message(fault, FILE)),
-            )
-        }
-        _ => of_runs(alloc, command),
+        "part" => told(alloc, FILE, part, next_refused_part, GIVING),
+        "check" => told(alloc, FILE, text, next_text, WRITING),
+        "asm" => told(alloc, FILE, listing, next_listing, GIVING),
+        _ => of_programs(alloc, command),
     }
 }

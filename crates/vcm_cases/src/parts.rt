@@ -2,8 +2,8 @@
 
 use std::alloc::Global;
 use std::fmt::Write as _;
-use vcm_job::{PartFileFault, check};
-use vcm_messages::part_file_message;
+use vcm_job::check;
+use vcm_messages::Told;
 use vcm_part::{PartData, PartFault, read_part};
 use vcm_telling::{part_text, second_line, summary_line, unused_text};
 
@@ -22,7 +22,7 @@ fn told(alloc: Global, part: &PartData, bytes: &[u8]) -> Option<String> {
 // What is told of a refused part file.
 fn refused(alloc: Global, fault: PartFault, bytes: &[u8]) -> Option<String> {
     let second = second_line(alloc, FILE, bytes, fault)?;
-    let message = part_file_message(PartFileFault::Refused(fault), FILE);
+    let message = fault.told();
     let mut text = String::new(alloc);
     writeln!(text, "{message}").ok()?;
     writeln!(text, "{second}").ok()?;

@@ -4,7 +4,7 @@ use crate::answers::{printed, told};
 use std::alloc::Global;
 use vcm_given::{tell_contacts, write_why};
 use vcm_job::{build, part_from};
-use vcm_messages::{part_file_message, run_message};
+use vcm_messages::message_of;
 use vcm_part::PartData;
 
 // Why the run of an input stops beside a workpiece.
@@ -13,7 +13,7 @@ fn why_beside(alloc: Global, part: &PartData, input: &[u8], steps: u64) -> Optio
     let mut out = Vec::new(alloc);
     match write_why(alloc, part, &mut reader, steps, &mut out) {
         Ok(done) => printed(alloc, &out, done.notices.as_slice(), done.status),
-        Err(fault) => told(alloc, run_message(fault, "the program")),
+        Err(fault) => told(alloc, message_of(fault, "the program")),
     }
 }
 
@@ -41,7 +41,7 @@ pub(crate) fn why_answer(
         } else {
             why_beside(alloc, &part, program.as_bytes(), steps)
         },
-        Err(fault) => told(alloc, part_file_message(fault, "the part")),
+        Err(fault) => told(alloc, message_of(fault, "the part")),
     }
 }
 
@@ -51,7 +51,7 @@ fn contacts_beside(alloc: Global, part: &PartData, input: &[u8], steps: u64) -> 
     let mut out = Vec::new(alloc);
     match tell_contacts(alloc, part, &mut reader, steps, &mut out) {
         Ok(done) => printed(alloc, &out, done.notices.as_slice(), done.status),
-        Err(fault) => told(alloc, run_message(fault, "the program")),
+        Err(fault) => told(alloc, message_of(fault, "the program")),
     }
 }
 
@@ -65,6 +65,6 @@ pub(crate) fn contacts_answer(
     let mut file = part.as_bytes();
     match part_from(alloc, &mut file) {
         Ok(part) => contacts_beside(alloc, &part, program.as_bytes(), steps),
-        Err(fault) => told(alloc, part_file_message(fault, "the part")),
+        Err(fault) => told(alloc, message_of(fault, "the part")),
     }
 }

@@ -7,7 +7,7 @@ use vcm_command::lines_of;
 use vcm_given::{Titles, write_sheet_of};
 use vcm_job::part_from;
 use vcm_keys::block_names;
-use vcm_messages::{part_file_message, run_message};
+use vcm_messages::message_of;
 use vcm_part::PartData;
 use vcm_sheet::{ALL_LINES, Lines};
 
@@ -50,7 +50,7 @@ fn sheet_beside(
     let mut out = Vec::new(alloc);
     match write_sheet_of(alloc, titles, part, &mut reader, steps, &mut out) {
         Ok(done) => texts_of(alloc, std::str::from_utf8(&out).ok()?, done.status),
-        Err(fault) => told(alloc, run_message(fault, "the program")),
+        Err(fault) => told(alloc, message_of(fault, "the program")),
     }
 }
 
@@ -74,6 +74,6 @@ pub(crate) fn sheet_answer(
     let mut file = part.as_bytes();
     match part_from(alloc, &mut file) {
         Ok(part) => sheet_beside(alloc, &part, &names, program, steps, lines),
-        Err(fault) => told(alloc, part_file_message(fault, "the part")),
+        Err(fault) => told(alloc, message_of(fault, "the part")),
     }
 }

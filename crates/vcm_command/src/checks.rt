@@ -10,7 +10,7 @@ use std::rt::Files;
 use vcm_job::{CheckFault, read_all};
 use vcm_launch::notice_line;
 use vcm_lines::SourceFault;
-use vcm_messages::{Message, check_message, status_of};
+use vcm_messages::{Message, Told, message_of, status_of};
 use vcm_num::NoMemory;
 use vcm_program::Noticed;
 use vcm_survey::faults_of;
@@ -36,7 +36,7 @@ fn text_of<'a, R: Files + Input + AllocGlobal>(
     }
     match read_all(rt.alloc(), &mut rt.reader()) {
         Ok(bytes) => Ok(bytes),
-        Err(fault) => Err(check_message(CheckFault::from(fault), "standard input")),
+        Err(fault) => Err(message_of(CheckFault::from(fault), "standard input")),
     }
 }
 
@@ -144,10 +144,7 @@ fn judge<R: Print + Eprint + AllocGlobal>(rt: &R, checked: Checked<'_>, text: &[
     }
     match counted(rt.alloc(), text) {
         Ok((count, notices)) => tell_accepted(rt, checked, count, notices.as_slice()),
-        Err(fault) => {
-            let message = check_message(CheckFault::Refused(fault), checked.name);
-            tell_fault(rt, checked, message)
-        }
+        Err(fault) => tell_fault(rt, checked, fault.told()),
     }
 }
 

@@ -5,7 +5,7 @@ use crate::program::{fails, output, status_after, written};
 use crate::talking::{Terminals, Told, Voice, fails_twice};
 use std::alloc::Global;
 use vcm_job::{Done, JobFault, job, read_all};
-use vcm_messages::job_message;
+use vcm_messages::message_of;
 use vcm_num::is;
 use vcm_part::PartCode;
 use vcm_run::Refusal;
@@ -97,10 +97,13 @@ fn run_input<R: Print + Eprint + AllocGlobal>(rt: &R, input: &[u8]) -> u8 {
             status_after(rt, AT_TERMINAL, written(&mut out, Ok(done)))
         }
         Err(fault) => {
-            let flushed: Result<Done, _> = written(&mut out, Err(job_message(fault)));
+            let flushed: Result<Done, _> = written(
+                &mut out,
+                Err(message_of(fault, "standard input")),
+            );
             drop(flushed);
             let told = Told {
-                message: job_message(fault),
+                message: message_of(fault, "standard input"),
                 second: second_of(rt.alloc(), input, fault),
             };
             fails_twice(rt, &told)
@@ -119,6 +122,6 @@ pub(crate) fn talk_job<R: Input + Print + Eprint + AllocGlobal>(
     }
     match read_all(rt.alloc(), &mut rt.reader()) {
         Ok(input) => run_input(rt, &input),
-        Err(fault) => fails(rt, job_message(JobFault::from(fault))),
+        Err(fault) => fails(rt, message_of(JobFault::from(fault), "standard input")),
     }
 }

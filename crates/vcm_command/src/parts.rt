@@ -7,7 +7,7 @@ use std::alloc::Global;
 use std::rt::Files;
 use vcm_job::PartFileFault;
 use vcm_keys::block_names;
-use vcm_messages::{Message, part_file_message};
+use vcm_messages::{Message, message_of};
 use vcm_num::NoMemory;
 use vcm_part::{PartData, PartFault, read_part};
 use vcm_telling::{part_text, second_line, unused_text};
@@ -26,7 +26,7 @@ fn refused<'a>(
         None
     };
     Told {
-        message: part_file_message(PartFileFault::Refused(fault), name),
+        message: message_of(PartFileFault::Refused(fault), name),
         second,
     }
 }

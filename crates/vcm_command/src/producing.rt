@@ -9,7 +9,7 @@ use std::rt::Files;
 use vcm_job::{CheckFault, read_all};
 use vcm_launch::part_of;
 use vcm_lines::SourceFault;
-use vcm_messages::{Message, check_message};
+use vcm_messages::{Message, Told, message_of};
 use vcm_num::{NoMemory, line_feed, write_all};
 use vcm_survey::{Adaptation, Findings, GivenFrame, Options, Shape, adapt, survey};
 use vcm_tree::accept;
@@ -117,7 +117,7 @@ pub(crate) fn bytes_of<'a, R: Files + AllocGlobal>(
     };
     match read_all(rt.alloc(), &mut file) {
         Ok(bytes) => Ok(bytes),
-        Err(fault) => Err(check_message(CheckFault::from(fault), name)),
+        Err(fault) => Err(message_of(CheckFault::from(fault), name)),
     }
 }
 
@@ -201,42 +201,33 @@ fn refusal_of(alloc: Global, text: &[u8]) -> Option<SourceFault> {
 }
 
 // The exit status of a text that nothing else is to be told of: 1 where it is refused, which is told.
-fn status_of_text<R: Eprint + AllocGlobal>(rt: &R, text: &[u8], name: &str) -> u8 {
+fn status_of_text<R: Eprint + AllocGlobal>(rt: &R, text: &[u8]) -> u8 {
     match refusal_of(rt.alloc(), text) {
         None => 0,
-        Some(fault) => fails(rt, check_message(CheckFault::Refused(fault), name)),
+        Some(fault) => fails(rt, fault.told()),
     }
 }
 
 // Tells a survey, and gives the exit status.
-fn tell_findings<R: Print + Eprint + AllocGlobal>(
-    rt: &R,
-    findings: &Findings,
-    text: &[u8],
-    name: &str,
-) -> u8 {
+fn tell_findings<R: Print + Eprint + AllocGlobal>(rt: &R, findings: &Findings, text: &[u8]) -> u8 {
     if let Err(message) = print_bytes(rt, findings.text.as_slice()) {
         return fails_unless_closed(rt, message);
     }
     tell_bytes(rt, findings.warnings.as_slice());
     if findings.is_clean {
-        status_of_text(rt, text, name)
+        status_of_text(rt, text)
     } else {
         1
     }
 }
 
 // Tells an adapted text, and gives the exit status.
-fn tell_adaptation<R: Print + Eprint + AllocGlobal>(
-    rt: &R,
-    adaptation: &Adaptation,
-    name: &str,
-) -> u8 {
+fn tell_adaptation<R: Print + Eprint + AllocGlobal>(rt: &R, adaptation: &Adaptation) -> u8 {
     if let Err(message) = print_bytes(rt, adaptation.text.as_slice()) {
         return fails_unless_closed(rt, message);
     }
     tell_bytes(rt, adaptation.warnings.as_slice());
-    let status = status_of_text(rt, adaptation.text.as_slice(), name);
+    let status = status_of_text(rt, adaptation.text.as_slice());
     if status == 0 && !adaptation.is_whole {
         1
     } else {
@@ -244,36 +235,30 @@ fn tell_adaptation<R: Print + Eprint + AllocGlobal>(
     }
 }
 
-// A refusal of what was asked of a text.
-fn refused<'a>(fault: SourceFault, name: &'a str) -> Message<'a> {
-    check_message(CheckFault::Refused(fault), name)
-}
-
 // Surveys a text, and gives the exit status.
-fn survey_text<'a, R: Print + Eprint + AllocGlobal>(
+fn survey_text<R: Print + Eprint + AllocGlobal>(
     rt: &R,
-    name: &'a str,
+    name: &str,
     text: &[u8],
     options: &Options,
     shape: Shape,
-) -> Result<u8, Message<'a>> {
+) -> Result<u8, Message<'static>> {
     match survey(rt.alloc(), last_part(name), text, options, shape) {
-        Ok(Ok(findings)) => Ok(tell_findings(rt, &findings, text, name)),
-        Ok(Err(fault)) => Err(refused(fault, name)),
+        Ok(Ok(findings)) => Ok(tell_findings(rt, &findings, text)),
+        Ok(Err(fault)) => Err(fault.told()),
         Err(_) => Err(Message::NoMemory),
     }
 }
 
 // Adapts a text, and gives the exit status.
-fn adapt_text<'a, R: Print + Eprint + AllocGlobal>(
+fn adapt_text<R: Print + Eprint + AllocGlobal>(
     rt: &R,
-    name: &'a str,
     text: &[u8],
     options: &Options,
-) -> Result<u8, Message<'a>> {
+) -> Result<u8, Message<'static>> {
     match adapt(rt.alloc(), text, options) {
-        Ok(Ok(adaptation)) => Ok(tell_adaptation(rt, &adaptation, name)),
-        Ok(Err(fault)) => Err(refused(fault, name)),
+        Ok(Ok(adaptation)) => Ok(tell_adaptation(rt, &adaptation)),
+        Ok(Err(fault)) => Err(fault.told()),
         Err(_) => Err(Message::NoMemory),
     }
 }
@@ -288,7 +273,7 @@ fn answer<'a, R: Files + Print + Eprint + AllocGlobal>(
     match asked.wanted {
         Wanted::Groups => survey_text(rt, asked.program, &text, &options, Shape::Groups),
         Wanted::Lines => survey_text(rt, asked.program, &text, &options, Shape::Lines),
-        Wanted::Adapted | Wanted::Touched => adapt_text(rt, asked.program, &text, &options),
+        Wanted::Adapted | Wanted::Touched => adapt_text(rt, &text, &options),
     }
 }
 

@@ -18,10 +18,7 @@ use std::alloc::Global;
 use std::io::{self, BufWriter, Printer, Read, Write};
 use std::rt::{Env, Files};
 use vcm_job::{Done, asm, build, check, debug, job, list};
-use vcm_messages::{
-    Message, asm_message, build_message, check_message, debug_message, job_message, list_message,
-    status_of,
-};
+use vcm_messages::{Message, message_of, status_of};
 use vcm_num::write_all;
 use vcm_part::PartData;
 use vcm_program::Noticed;
@@ -90,7 +87,10 @@ fn status_of_notices<R: Eprint + AllocGlobal>(
 // Runs the job of standard input.
 fn run_job<R: Input + Print + AllocGlobal>(rt: &R) -> Result<Done, Message<'static>> {
     let mut out = output(rt)?;
-    let done = job(rt.alloc(), &mut rt.reader(), &mut out).map_err(job_message);
+    let done = job(rt.alloc(), &mut rt.reader(), &mut out).map_err(|fault| message_of(
+        fault,
+        "standard input",
+    ));
     written(&mut out, done)
 }
 
@@ -103,7 +103,7 @@ fn check_file<'a, R: Files + Print + AllocGlobal>(
         return Err(Message::Read { name });
     };
     let mut out = output(rt)?;
-    let done = check(rt.alloc(), &mut file, &mut out).map_err(|fault| check_message(fault, name));
+    let done = check(rt.alloc(), &mut file, &mut out).map_err(|fault| message_of(fault, name));
     written(&mut out, done)
 }
 
@@ -142,7 +142,7 @@ fn build_file<R: Files + Eprint + AllocGlobal>(
     };
     match build(rt.alloc(), &mut file) {
         Ok(built) => write_image(rt, voice, image, &built.image, built.notices.as_slice()),
-        Err(fault) => fails(rt, build_message(fault, name)),
+        Err(fault) => fails(rt, message_of(fault, name)),
     }
 }
 
@@ -155,7 +155,7 @@ fn list_file<'a, R: Files + Print + AllocGlobal>(
         return Err(Message::Read { name });
     };
     let mut out = output(rt)?;
-    let done = list(rt.alloc(), &mut file, &mut out).map_err(|fault| list_message(fault, name));
+    let done = list(rt.alloc(), &mut file, &mut out).map_err(|fault| message_of(fault, name));
     written(&mut out, done)
 }
 
@@ -166,7 +166,7 @@ fn asm_file<R: Files + Eprint + AllocGlobal>(rt: &R, voice: Voice, name: &str, i
     };
     match asm(rt.alloc(), &mut file) {
         Ok(bytes) => write_image(rt, voice, image, &bytes, &[]),
-        Err(fault) => fails(rt, asm_message(fault, name)),
+        Err(fault) => fails(rt, message_of(fault, name)),
     }
 }
 
@@ -192,7 +192,7 @@ fn debug_beside<'a, R: Files + Input + Print + Eprint + AllocGlobal>(
     } else {
         debug(rt.alloc(), part, &mut file, &mut rt.reader(), &mut out)
     };
-    written(&mut out, done.map_err(|fault| debug_message(fault, name)))
+    written(&mut out, done.map_err(|fault| message_of(fault, name)))
 }
 
 // Answers the commands of standard input on the program or image of a file beside the workpiece of another one, which is judged first, and gives the

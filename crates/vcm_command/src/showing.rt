@@ -11,7 +11,7 @@ use std::rt::Files;
 use vcm_boxes::{Boxes, BoxesFault, read_boxes};
 use vcm_given::{Titles, tell_contacts, write_sheet_of, write_why};
 use vcm_job::{Done, ReadFault, RunFault, read_all, run};
-use vcm_messages::{Message, probe_message, run_message};
+use vcm_messages::{Message, message_of, probe_message};
 use vcm_num::{Point, write_all};
 use vcm_page::{Texts, page_of};
 use vcm_part::PartData;
@@ -210,7 +210,7 @@ fn show_file<'a, R: Files + Print + AllocGlobal>(
     };
     let mut out = output(rt)?;
     let done = show(rt.alloc(), shown, part, &mut file, steps, &mut out);
-    written(&mut out, done.map_err(|fault| run_message(fault, input)))
+    written(&mut out, done.map_err(|fault| message_of(fault, input)))
 }
 
 /// The number of steps and the workpiece of a run, judged in this order.

@@ -8,9 +8,9 @@ use crate::talking::{Voice, fails_in, fails_twice};
 use std::alloc::Global;
 use std::io::Write;
 use std::rt::Files;
-use vcm_job::{Done, RunFault, is_halted, is_image, status_of};
+use vcm_job::{Done, InputRefusal, RunFault, is_halted, is_image, status_of};
 use vcm_loader::load;
-use vcm_messages::{Message, run_message};
+use vcm_messages::{Message, message_of};
 use vcm_motion::AnyPart;
 use vcm_num::NoMemory;
 use vcm_part::PartData;
@@ -44,7 +44,7 @@ fn image_of(alloc: Global, input: Vec<u8>) -> Result<Built, RunFault> {
     }
     match build_image(alloc, &input) {
         Ok(built) => Ok(built),
-        Err(refusal) => Err(RunFault::Refused(refusal)),
+        Err(refusal) => Err(RunFault::Refused(InputRefusal::Text(refusal))),
     }
 }
 
@@ -52,7 +52,7 @@ fn image_of(alloc: Global, input: Vec<u8>) -> Result<Built, RunFault> {
 fn tables_of(alloc: Global, image: &[u8]) -> Result<Tables, RunFault> {
     let loaded = match load(alloc, image) {
         Ok(loaded) => loaded,
-        Err(fault) => return Err(RunFault::Image(fault)),
+        Err(fault) => return Err(RunFault::Refused(InputRefusal::Image(fault))),
     };
     match loaded.tables(alloc) {
         Ok(tables) => Ok(tables),
@@ -104,7 +104,7 @@ fn write_run<W: Write>(
     };
     match run_image(alloc, &workpiece, image, steps) {
         Ok(summary) => write_summary(&summary, places, writer),
-        Err(fault) => Err(RunFault::Image(fault)),
+        Err(fault) => Err(RunFault::Refused(InputRefusal::Image(fault))),
     }
 }
 
@@ -119,7 +119,7 @@ fn print_run<'a, R: Print + AllocGlobal>(
 ) -> Result<u8, Message<'a>> {
     let mut out = output(rt)?;
     let done = write_run(rt.alloc(), part, image, places, steps, &mut out);
-    written(&mut out, done.map_err(|fault| run_message(fault, input)))
+    written(&mut out, done.map_err(|fault| message_of(fault, input)))
 }
 
 // Shows variables of an input beside a workpiece, and gives the exit status.
@@ -137,12 +137,12 @@ fn show_beside<R: Files + Print + Eprint + AllocGlobal>(
     };
     let built = match image_of(rt.alloc(), bytes) {
         Ok(built) => built,
-        Err(fault) => return fails_in(rt, voice, run_message(fault, input), input),
+        Err(fault) => return fails_in(rt, voice, message_of(fault, input), input),
     };
     let places = match places_in(rt.alloc(), &built.image, names) {
         Ok(Some(places)) => places,
         Ok(None) => return fails(rt, NAMES),
-        Err(fault) => return fails_in(rt, voice, run_message(fault, input), input),
+        Err(fault) => return fails_in(rt, voice, message_of(fault, input), input),
     };
     match print_run(rt, part, &built.image, &places, steps, input) {
         Ok(status) => {

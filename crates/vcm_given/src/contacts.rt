@@ -4,7 +4,7 @@ use crate::given::Given;
 use std::alloc::Global;
 use std::io::{Read, Write};
 use vcm_contacts::{Contacts, ContactsFault, collect_contacts, write_contacts};
-use vcm_job::{Done, RunFault, status_of};
+use vcm_job::{Done, InputRefusal, RunFault, status_of};
 use vcm_loader::{Loaded, load};
 use vcm_motion::AnyPart;
 use vcm_part::PartData;
@@ -53,7 +53,7 @@ fn tell_image<W: Write>(
 ) -> Result<u8, RunFault> {
     match load(alloc, image) {
         Ok(loaded) => tell_loaded(alloc, part, &loaded, steps, writer),
-        Err(fault) => Err(RunFault::Image(fault)),
+        Err(fault) => Err(RunFault::Refused(InputRefusal::Image(fault))),
     }
 }
 

@@ -2,7 +2,7 @@
 
 use std::alloc::Global;
 use std::io::Read;
-use vcm_job::{Done, RunFault, is_image, read_all};
+use vcm_job::{Done, InputRefusal, RunFault, is_image, read_all};
 use vcm_program::Noticed;
 use vcm_run::{Built, build_image};
 
@@ -34,7 +34,7 @@ impl Given {
                 text: Some(input),
                 notices,
             }),
-            Err(refusal) => Err(RunFault::Refused(refusal)),
+            Err(refusal) => Err(RunFault::Refused(InputRefusal::Text(refusal))),
         }
     }
 
@@ -43,9 +43,9 @@ impl Given {
         let Given { text, notices, .. } = self;
         match told {
             Ok(status) => Ok(Done { status, notices }),
-            Err(RunFault::Image(fault)) => Err(match text {
+            Err(RunFault::Refused(InputRefusal::Image(fault))) => Err(match text {
                 Some(_) => RunFault::NoMemory,
-                None => RunFault::Image(fault),
+                None => RunFault::Refused(InputRefusal::Image(fault)),
             }),
             Err(fault) => Err(fault),
         }

@@ -3,7 +3,7 @@
 use crate::given::Given;
 use std::alloc::Global;
 use std::io::{Read, Write};
-use vcm_job::{Done, RunFault, is_halted, status_of};
+use vcm_job::{Done, InputRefusal, RunFault, is_halted, status_of};
 use vcm_loader::{Loaded, load};
 use vcm_motion::AnyPart;
 use vcm_part::PartData;
@@ -82,7 +82,7 @@ fn write_image<W: Write>(
 ) -> Result<u8, RunFault> {
     match load(alloc, image) {
         Ok(loaded) => write_loaded(alloc, titles, &loaded, part, steps, writer),
-        Err(fault) => Err(RunFault::Image(fault)),
+        Err(fault) => Err(RunFault::Refused(InputRefusal::Image(fault))),
     }
 }
 

@@ -13,7 +13,7 @@ use Rattle.std.proofs.KnownBytes.{Keeps-refl}
 use Rattle.vcm_job.specs.declared.reading.ReadFault.{ReadFault}
 use Rattle.vcm_job.specs.declared.reading.ReadFault.TheVariants as read_faults
 use Rattle.vcm_job.specs.Reading.{IsReadFault}
-use Rattle.vcm_job.specs.Unread.{debug_not_read}
+use Rattle.vcm_job.specs.Unread.{not_read}
 use Rattle.vcm_job.specs.Debugged.{IsSession, IsServedOn, ImageAs, IsImageOf, IsDebugged, IsCutShort, IsNotDebugged}
 
 -- what a session at the start served
@@ -44,7 +44,7 @@ cut_short_of part input image notices (Some lines) after old new e i s = record 
 
 -- the input wasn't read whole
 pub debug_unread : (part : Workpiece) (a b known after : Option (List ℕ)) (f : ReadFault) (old : Option (List ℕ)) → IsReadFault a b f
-    → IsNotDebugged part a b known after (debug_not_read f) old old
-debug_unread part a b known after read_faults.NoMemory old h = Keeps-refl old
+    → IsNotDebugged part a b known after (not_read f) old old
+debug_unread part a b known after read_faults.NoMemory old h = (tt, Keeps-refl old)
 debug_unread part a b known after read_faults.Device old h = (h, Keeps-refl old)
 debug_unread part a b known after read_faults.TooLong old h = (h, Keeps-refl old)

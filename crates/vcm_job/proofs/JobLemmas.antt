@@ -3,7 +3,6 @@ use Rattle.std.proofs.Common.{◌≡◌, ℕ, zero, suc, ◌+◌, ◌<◌, ◌�
 use Rattle.std.specs.Prelude.{IfSome, IfOk, IfErr}
 use Rattle.std.specs.Io.KnownBytes.{Appends, Consumes, Keeps}
 use Rattle.vcm_num.specs.Written.{AppendsFront}
-use Rattle.std.proofs.KnownBytes.{Keeps-refl}
 use Rattle.vcm_part.specs.PartFile.{part_of}
 use Rattle.vcm_spec.specs.Workpiece.{Workpiece}
 use Rattle.vcm_spec.specs.Setup.{Tables, Setup}
@@ -14,22 +13,21 @@ use Rattle.vcm_state.specs.Held.{Held}
 use Rattle.vcm_program.specs.declared.accepted.Noticed.{Noticed}
 use Rattle.vcm_machine.specs.declared.ran.End.{End}
 use Rattle.vcm_machine.specs.declared.ran.End.TheVariants as ends
+use Rattle.vcm_run.specs.declared.run.Refusal.{Refusal}
 use Rattle.vcm_run.specs.declared.run.Refusal.TheVariants.{Source, Part}
 use Rattle.vcm_run.specs.declared.run.Refusal.TheVariants as refusals
 use Rattle.vcm_run.specs.Run.{Ended}
 use Rattle.vcm_run.specs.Programs.{IsSummary, IsRefusal}
 use Rattle.vcm_run.specs.Summaries.{Shown}
 use Rattle.vcm_run.specs.Printed.{result_text}
-use Rattle.vcm_job.specs.declared.running.Done.{Done}
-use Rattle.vcm_job.specs.declared.running.JobFault.{JobFault}
-use Rattle.vcm_job.specs.declared.running.JobFault.TheVariants.{Refused, Memory, NoMemory, Read, Write, TooLong}
-use Rattle.vcm_job.specs.declared.reading.ReadFault.{ReadFault}
-use Rattle.vcm_job.specs.declared.reading.ReadFault.TheVariants as read_faults
-use Rattle.vcm_job.specs.Reading.{most_bytes, ReadsAtMost, ReadsLittle, IsReadFault, AnswersUnread}
+use Rattle.vcm_job.specs.declared.fault.Fault.{Fault}
+use Rattle.vcm_job.specs.declared.fault.Fault.TheVariants.{Refused, Memory, NoMemory, Read, Write, TooLong}
+use Rattle.vcm_job.specs.Reading.{most_bytes, ReadsAtMost, ReadsLittle}
+use Rattle.vcm_job.specs.inner.Judged.{IsRefusedAs}
 use Rattle.vcm_job.specs.Jobs.{most_steps, job_setup, start_of, held, part_text, program_text, status_of}
 use Rattle.vcm_job.specs.Results.{IsHalted, IsJobRefusal, IsDone, IsCutOff, IsNotDone}
-use Rattle.vcm_job.specs.inner.Running.{IsShown, IsShort, IsShownInPart, IsTextsRun, IsProgramRefusal, IsJobRun, IsNoJob}
-use Rattle.vcm_job.specs.Unread.{job_not_read}
+use Rattle.vcm_job.specs.inner.Running.{IsShown, IsShort, IsShownInPart, IsTextsRun, IsJobRun, IsNoJob}
+use Rattle.vcm_job.proofs.UnreadLemmas.{known, none_written_of}
 
 -- ---- what is known of an input
 
@@ -68,10 +66,6 @@ little_more (Some x) None c bytes buf n h k l = absurd h
 little_more (Some x) (Some y) None bytes buf n h k l = absurd k
 little_more (Some x) (Some y) (Some z) bytes buf n h k l =
     (let e = ap length h in let f = ap length k in let t = take_le n buf in omega (arith, length-append bytes y, length-append (take n buf) z))
-
-pub known : (a : Option (List ℕ)) (P Q : List ℕ → Type 0) → IfSome a P → ((x : List ℕ) → P x → Q x) → IfSome a Q
-known None P Q h f = tt
-known (Some x) P Q h f = f x h
 
 -- ---- runs of as many steps as a job has
 
@@ -125,8 +119,8 @@ module _ (n : ℕ) (is : n ≡ most_steps) (input : List ℕ) (part : Workpiece)
   }
 
 -- what the refusal of a program is for the job
-pub program_refused : (input program : List ℕ) (part : Workpiece) (f : JobFault) → part_of (part_text input) ≡ Ok part → program ≡ program_text input → IsProgramRefusal program f
-    → IsJobRefusal input f
+program_refused : (input program : List ℕ) (part : Workpiece) (f : Fault Refusal) → part_of (part_text input) ≡ Ok part → program ≡ program_text input → IsRefusedAs (IsRefusal program) f
+    → IsRefusedAs (IsJobRefusal input) f
 program_refused input program part (Refused (Source f)) e is h = ((part, e), subst (λ p. IsRefusal p (Source f)) is h)
 program_refused input program part (Refused (Part f)) e is h = absurd h
 program_refused input program part (Refused refusals.NoMemory) e is h = ((part, e), subst (λ p. IsRefusal p refusals.NoMemory) is h)
@@ -136,13 +130,13 @@ program_refused input program part Read e is h = absurd h
 program_refused input program part (Write n) e is h = absurd h
 program_refused input program part TooLong e is h = absurd h
 
-pub program_refuses : (input program : List ℕ) (part : Workpiece) (r : Result Shown JobFault) → part_of (part_text input) ≡ Ok part → program ≡ program_text input
-    → IfErr r (IsProgramRefusal program) → IfErr r (IsJobRefusal input)
+pub program_refuses : (input program : List ℕ) (part : Workpiece) (r : Result Shown (Fault Refusal)) → part_of (part_text input) ≡ Ok part → program ≡ program_text input
+    → IfErr r (IsRefusedAs (IsRefusal program)) → IfErr r (IsRefusedAs (IsJobRefusal input))
 program_refuses input program part (Ok s) e is h = tt
 program_refuses input program part (Err f) e is h = program_refused input program part f e is h
 
 -- a run of its program is one of the input's texts
-pub texts_run : (input program : List ℕ) (n : ℕ) (part : Workpiece) (r : Result Shown JobFault) → part_of (part_text input) ≡ Ok part → program ≡ program_text input
+pub texts_run : (input program : List ℕ) (n : ℕ) (part : Workpiece) (r : Result Shown (Fault Refusal)) → part_of (part_text input) ≡ Ok part → program ≡ program_text input
     → IfOk r (IsSummary part program n) → IfOk r (IsTextsRun input n)
 texts_run input program n part (Err f) e is h = tt
 texts_run input program n part (Ok s) e is h = record { part = part; part_is = e; run = subst (λ p. IsSummary part p n s) is h }
@@ -179,43 +173,16 @@ module _ (n : ℕ) (is : n ≡ most_steps) (input : List ℕ) (s : Shown) (texts
   pub job_short : (done : ℕ) (old new : Option (List ℕ)) → IsShort s done × Keeps old new → IsHalted input done × Keeps old new
   job_short done old new (h, k) = (subst (λ d. IsHalted input d) (sym h.count) (job_halted n is input texts.part texts.part_is s texts.run h.halted), k)
 
--- ---- faults before anything is written
+-- ---- what holds of what was read holds of the input
 
-pub none_read : (a b : Option (List ℕ)) (f : ReadFault) (old : Option (List ℕ)) → IsReadFault a b f → IsNotDone a b (job_not_read f) old old
-none_read a b read_faults.NoMemory old h = Keeps-refl old
-none_read a b read_faults.Device old h = (h, Keeps-refl old)
-none_read a b read_faults.TooLong old h = (h, Keeps-refl old)
-
-pub not_done : (a b : Option (List ℕ)) (bytes : List ℕ) (f : JobFault) (old new : Option (List ℕ)) → IfSome a (λ input. bytes ≡ input) → IsNoJob bytes f old new → IsNotDone a b f old new
-not_done a b bytes (Refused r) old new all (h, k) = (known a _ _ all (λ input is. subst (λ i. IsJobRefusal i (Refused r)) is h), k)
-not_done a b bytes (Memory n) old new all (h, k) = (known a _ _ all (λ input is. subst (λ i. IsJobRefusal i (Memory n)) is h), k)
-not_done a b bytes (Write n) old new all h = known a _ _ all (λ input is. subst (λ i. IsCutOff i n old new) is h)
-not_done a b bytes NoMemory old new all (h, k) = k
-not_done a b bytes Read old new all (h, k) = absurd h
-not_done a b bytes TooLong old new all (h, k) = absurd h
-
-pub not_done_of : {A : Type 0} (a b : Option (List ℕ)) (bytes : List ℕ) (r : Result A JobFault) (old new : Option (List ℕ)) → IfSome a (λ input. bytes ≡ input)
+pub not_done_of : {A : Type 0} (a b : Option (List ℕ)) (bytes : List ℕ) (r : Result A (Fault Refusal)) (old new : Option (List ℕ)) → IfSome a (λ input. bytes ≡ input)
     → IfErr r (λ f. IsNoJob bytes f old new) → IfErr r (λ f. IsNotDone a b f old new)
-not_done_of a b bytes (Ok x) old new all h = tt
-not_done_of a b bytes (Err f) old new all h = not_done a b bytes f old new all h
-
-pub done_of : (a : Option (List ℕ)) (bytes : List ℕ) (r : Result Done JobFault) (old new : Option (List ℕ)) → IfSome a (λ input. bytes ≡ input)
-    → IfOk r (λ d. IsDone bytes d.status d.notices.items old new) → IfOk r (λ d. IfSome a (λ input. IsDone input d.status d.notices.items old new))
-done_of a bytes (Ok d) old new all h = known a _ _ all (λ input is. subst (λ i. IsDone i d.status d.notices.items old new) is h)
-done_of a bytes (Err f) old new all h = tt
+not_done_of a b bytes r old new all h =
+    none_written_of IsJobRefusal a b bytes all _ _ _ (IsCutOff bytes) old new (λ done p. (known a _ _ all (λ input is. subst (λ i. IsHalted i done) is p.0), p.1))
+    (λ done p. known a _ _ all (λ input is. subst (λ i. IsCutOff i done old new) is p)) r h
 
 -- ---- inputs over their limit
 
 pub not_long : (bytes : List ℕ) → length bytes ≤ 33554432 → length bytes ≤ most_bytes
 unfolding most_bytes
 not_long bytes h = h
-
-pub read_whole : {A F : Type 0} (not_read : ReadFault → F) (a : Option (List ℕ)) (bytes : List ℕ) (answer : Result A F) → IfSome a (λ input. bytes ≡ input) → length bytes ≤ most_bytes
-    → AnswersUnread not_read a answer
-read_whole not_read None bytes answer all h = tt
-read_whole not_read (Some x) bytes answer all h = λ l. absurd (let e = ap length all in omega arith)
-
--- an input that wasn't read whole has one of these faults
-pub unread : {A F : Type 0} (not_read : ReadFault → F) (a : Option (List ℕ)) (answer : Result A F) (f : ReadFault) → answer ≡ Err (not_read f) → AnswersUnread not_read a answer
-unread not_read None answer f e = tt
-unread not_read (Some x) answer f e = λ l. (f, e)

@@ -1,10 +1,10 @@
 pub mod JobLines
 pub mod CutJobs
+pub mod UnreadLemmas
 pub mod JobLemmas
 pub mod InputLemmas
 pub mod ListLemmas
 pub mod DebugLemmas
-pub mod UnreadLemmas
 pub mod Answering
 pub mod Told
 pub mod RunAnswers

@@ -1,9 +1,9 @@
 -- What the refusals of texts, images, listings and part files tell, and that no input has two.
-use Rattle.std.proofs.Common.{◌≡◌, ◌≢◌, ◌⊎◌, inl, inr, ℕ, Bool, true, false, List, [], Option, Some, None, Result, Ok, Err, refl, sym, ap, ◌∙◌, subst}
+use Rattle.std.proofs.Common.{◌≡◌, ◌≢◌, ◌⊎◌, inl, inr, ℕ, Bool, true, false, List, Some, Ok, Err, refl, sym, ap, ◌∙◌, subst}
 use Rattle.vcm_lines.specs.declared.fault.SourceFault.{SourceFault}
 use Rattle.vcm_lines.specs.declared.fault.FaultCode.{FaultCode}
 use Rattle.vcm_lines.specs.declared.fault.FaultCode.TheVariants as text_codes
-use Rattle.vcm_lines.specs.Fault.{no_memory, NoMemoryOr}
+use Rattle.vcm_lines.specs.Fault.{NoMemoryOr}
 use Rattle.vcm_part.specs.declared.fault.PartFault.{PartFault}
 use Rattle.vcm_part.specs.declared.fault.PartCode.{PartCode}
 use Rattle.vcm_part.specs.declared.fault.PartCode.TheVariants as part_codes

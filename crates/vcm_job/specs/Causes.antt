@@ -12,20 +12,10 @@ use Rattle.vcm_run.specs.declared.run.Refusal.{Refusal}
 use Rattle.vcm_run.specs.declared.run.Refusal.TheVariants.{Source, Part, NoMemory}
 use Rattle.vcm_job.specs.declared.reading.ReadFault.{ReadFault}
 use Rattle.vcm_job.specs.declared.reading.ReadFault.TheVariants as reads
-use Rattle.vcm_job.specs.declared.running.JobFault.{JobFault}
-use Rattle.vcm_job.specs.declared.running.JobFault.TheVariants as jobs
-use Rattle.vcm_job.specs.declared.inputs.RunFault.{RunFault}
-use Rattle.vcm_job.specs.declared.inputs.RunFault.TheVariants as inputs
-use Rattle.vcm_job.specs.declared.building.BuildFault.{BuildFault}
-use Rattle.vcm_job.specs.declared.building.BuildFault.TheVariants as builds
-use Rattle.vcm_job.specs.declared.checking.CheckFault.{CheckFault}
-use Rattle.vcm_job.specs.declared.checking.CheckFault.TheVariants as checks
-use Rattle.vcm_job.specs.declared.listing.PrintFault.{PrintFault}
-use Rattle.vcm_job.specs.declared.listing.PrintFault.TheVariants as lists
-use Rattle.vcm_job.specs.declared.listing.AsmFault.{AsmFault}
-use Rattle.vcm_job.specs.declared.listing.AsmFault.TheVariants as asms
-use Rattle.vcm_job.specs.declared.parts.PartFileFault.{PartFileFault}
-use Rattle.vcm_job.specs.declared.parts.PartFileFault.TheVariants as parts
+use Rattle.vcm_job.specs.declared.fault.InputRefusal.{InputRefusal}
+use Rattle.vcm_job.specs.declared.fault.InputRefusal.TheVariants.{Text, Image}
+use Rattle.vcm_job.specs.declared.fault.Fault.{Fault}
+use Rattle.vcm_job.specs.declared.fault.Fault.TheVariants as faults
 
 -- why an input gives nothing: its text is refused, at this line; or it is an image, a listing or a part file, and refused so; or it is too long
 pub data Cause : Type 0 where
@@ -63,46 +53,13 @@ abbrev pub read_cause : ReadFault → Option Cause
 read_cause reads.TooLong = Some too_long
 read_cause _ = None
 
--- that of a job
-abbrev pub job_cause : JobFault → Option Cause
-job_cause (jobs.Refused r) = refusal_cause r
-job_cause jobs.TooLong = Some too_long
-job_cause _ = None
+-- that of an image or a text
+abbrev pub input_cause : InputRefusal → Option Cause
+input_cause (Text r) = refusal_cause r
+input_cause (Image e) = image_cause e
 
--- that of a run of an input
-abbrev pub run_cause : RunFault → Option Cause
-run_cause (inputs.Refused r) = refusal_cause r
-run_cause (inputs.Image e) = image_cause e
-run_cause inputs.TooLong = Some too_long
-run_cause _ = None
-
--- that of a program whose image is made
-abbrev pub build_cause : BuildFault → Option Cause
-build_cause (builds.Refused r) = refusal_cause r
-build_cause builds.TooLong = Some too_long
-build_cause _ = None
-
--- that of a check
-abbrev pub check_cause : CheckFault → Option Cause
-check_cause (checks.Refused f) = text_cause f
-check_cause checks.TooLong = Some too_long
-check_cause _ = None
-
--- that of an input whose listing is made
-abbrev pub list_cause : PrintFault → Option Cause
-list_cause (lists.Refused r) = refusal_cause r
-list_cause (lists.Image e) = image_cause e
-list_cause lists.TooLong = Some too_long
-list_cause _ = None
-
--- that of a listing whose image is made
-abbrev pub asm_cause : AsmFault → Option Cause
-asm_cause (asms.Refused f) = listing_cause f
-asm_cause asms.TooLong = Some too_long
-asm_cause _ = None
-
--- that of a part file
-abbrev pub file_cause : PartFileFault → Option Cause
-file_cause (parts.Refused e) = part_cause e
-file_cause parts.TooLong = Some too_long
-file_cause _ = None
+-- the fault of a command, where its refusals tell this
+abbrev pub fault_cause : {R : Type 0} → (R → Option Cause) → Fault R → Option Cause
+fault_cause cause (faults.Refused r) = cause r
+fault_cause cause faults.TooLong = Some too_long
+fault_cause cause _ = None

@@ -1,20 +1,22 @@
 -- Sessions of the debugger on inputs.
-use Rattle.std.specs.Prelude.{◌≡◌, ℕ, ◌<◌, Bool, true, false, List, [], length, Option, IfSome, Result, Ok, Err}
+use Rattle.std.specs.Prelude.{◌≡◌, ℕ, Bool, true, false, List, [], Option, IfSome, Result, Ok, Err}
 use Rattle.std.specs.Io.KnownBytes.{Keeps}
 use Rattle.vcm_spec.specs.Workpiece.{Workpiece}
 use Rattle.vcm_program.specs.declared.accepted.Noticed.{Noticed}
 use Rattle.vcm_code.specs.declared.code.Code.{Code}
 use Rattle.vcm_code.specs.Valid.{IsValid}
-use Rattle.vcm_image.specs.Whole.{FitsImage, spelling, code_at}
-use Rattle.vcm_loader.specs.Loading.{LoadFault}
+use Rattle.vcm_image.specs.Whole.{FitsImage, spelling}
 use Rattle.vcm_console.specs.declared.reply.ServeFault.{ServeFault}
 use Rattle.vcm_debug.specs.Debugging.{Debugging, opened}
 use Rattle.vcm_debug.specs.Serving.{Served}
-use Rattle.vcm_run.specs.Programs.{IsBuilt, IsRefusal}
-use Rattle.vcm_job.specs.declared.debugging.DebugFault.{DebugFault}
-use Rattle.vcm_job.specs.declared.debugging.DebugFault.TheVariants.{Refused, Image, NoMemory, Read, TooLong, Serve}
-use Rattle.vcm_job.specs.Reading.{most_bytes, ReadsAtMost}
-use Rattle.vcm_job.specs.Inputs.{is_image}
+use Rattle.vcm_run.specs.Programs.{IsBuilt}
+use Rattle.vcm_job.specs.declared.fault.Fault.{Fault}
+use Rattle.vcm_job.specs.declared.fault.Fault.TheVariants.{Refused, NoMemory}
+use Rattle.vcm_job.specs.declared.fault.SessionFault.{SessionFault}
+use Rattle.vcm_job.specs.declared.fault.SessionFault.TheVariants.{Text, Image, Serve}
+use Rattle.vcm_job.specs.declared.fault.InputRefusal.TheVariants as refusals
+use Rattle.vcm_job.specs.Unanswered.{IsUnanswered}
+use Rattle.vcm_job.specs.Inputs.{is_image, IsInputRefusal}
 
 -- the image of an input: of an image it is the input, without notices; of any other input that of the program that its text is
 abbrev pub ImageAs : Bool → List ℕ → List ℕ → List Noticed → Type 0
@@ -56,17 +58,15 @@ pub record IsCutShort (part : Workpiece) (input lines : List ℕ) (after : Optio
 
 -- why a session on the input didn't come to its end, and what was written: the input is refused, or memory was, and nothing was written; or
 -- it ended with a fault
-abbrev pub IsInputFault : Workpiece → List ℕ → Option (List ℕ) → Option (List ℕ) → DebugFault → Option (List ℕ) → Option (List ℕ) → Type 0
-IsInputFault part input known after (Image e) old new = (is_image input ≡ true) × LoadFault (code_at input) e × Keeps old new
-IsInputFault part input known after (Refused r) old new = (is_image input ≡ false) × IsRefusal input r × Keeps old new
+abbrev pub IsInputFault : Workpiece → List ℕ → Option (List ℕ) → Option (List ℕ) → Fault SessionFault → Option (List ℕ) → Option (List ℕ) → Type 0
+IsInputFault part input known after (Refused (Image e)) old new = IsInputRefusal input (refusals.Image e) × Keeps old new
+IsInputFault part input known after (Refused (Text r)) old new = IsInputRefusal input (refusals.Text r) × Keeps old new
+IsInputFault part input known after (Refused (Serve e)) old new = IfSome known (λ lines. IsCutShort part input lines after e old new)
 IsInputFault part input known after NoMemory old new = Keeps old new
-IsInputFault part input known after (Serve e) old new = IfSome known (λ lines. IsCutShort part input lines after e old new)
 IsInputFault part input known after _ old new = ⊥
 
 -- the same, or the input wasn't read whole, and nothing was written
-abbrev pub IsNotDebugged : Workpiece → Option (List ℕ) → Option (List ℕ) → Option (List ℕ) → Option (List ℕ) → DebugFault
+abbrev pub IsNotDebugged : Workpiece → Option (List ℕ) → Option (List ℕ) → Option (List ℕ) → Option (List ℕ) → Fault SessionFault
     → Option (List ℕ) → Option (List ℕ) → Type 0
-IsNotDebugged part before behind known after Read old new = ReadsAtMost most_bytes before behind × Keeps old new
-IsNotDebugged part before behind known after NoMemory old new = Keeps old new
-IsNotDebugged part before behind known after TooLong old new = IfSome before (λ input. most_bytes < length input) × Keeps old new
-IsNotDebugged part before behind known after f old new = IfSome before (λ input. IsInputFault part input known after f old new)
+IsNotDebugged part before behind known after (Refused e) old new = IfSome before (λ input. IsInputFault part input known after (Refused e) old new)
+IsNotDebugged part before behind known after f old new = IsUnanswered (λ input (e : SessionFault). ⊥) before behind f × Keeps old new

@@ -1,18 +1,21 @@
 -- What the run of an input gives, beside a workpiece.
-use Rattle.std.specs.Prelude.{◌≡◌, ℕ, ◌<◌, Bool, true, false, List, length, take, Option, IfSome, codes}
+use Rattle.std.specs.Prelude.{◌≡◌, ℕ, Bool, true, false, List, take, Option, IfSome, codes}
 use Rattle.std.specs.Str.{bytes_eq}
 use Rattle.std.specs.Io.KnownBytes.{Appends, Keeps}
 use Rattle.vcm_num.specs.Written.{AppendsFront}
 use Rattle.vcm_spec.specs.Workpiece.{Workpiece}
 use Rattle.vcm_program.specs.declared.accepted.Noticed.{Noticed}
 use Rattle.vcm_machine.specs.declared.ran.End.TheVariants as ends
+use Rattle.vcm_image.specs.Whole.{code_at}
+use Rattle.vcm_loader.specs.Loading.{LoadFault}
 use Rattle.vcm_run.specs.Programs.{IsSummary, IsRefusal}
-use Rattle.vcm_run.specs.Images.{IsImageRun, IsImageRefusal}
+use Rattle.vcm_run.specs.Images.{IsImageRun}
 use Rattle.vcm_run.specs.Summaries.{Shown}
 use Rattle.vcm_run.specs.Printed.{result_text}
-use Rattle.vcm_job.specs.declared.inputs.RunFault.{RunFault}
-use Rattle.vcm_job.specs.declared.inputs.RunFault.TheVariants.{Refused, Image, Memory, NoMemory, Read, Write, TooLong}
-use Rattle.vcm_job.specs.Reading.{most_bytes, ReadsAtMost}
+use Rattle.vcm_job.specs.declared.fault.Fault.{Fault}
+use Rattle.vcm_job.specs.declared.fault.InputRefusal.{InputRefusal}
+use Rattle.vcm_job.specs.declared.fault.InputRefusal.TheVariants.{Text, Image}
+use Rattle.vcm_job.specs.Unanswered.{IsUnwritten}
 use Rattle.vcm_job.specs.Jobs.{status_of}
 
 -- whether an input is an image: its first four bytes are `VCMI`
@@ -28,12 +31,10 @@ RunAs false part input n s = IsSummary part input n s
 abbrev pub IsInputRun : Workpiece → List ℕ → ℕ → Shown → Type 0
 IsInputRun part input n s = RunAs (is_image input) part input n s
 
--- why an input isn't run: it is an image and refused, or a text and refused; or memory was refused
-abbrev pub IsRefusedInput : List ℕ → RunFault → Type 0
-IsRefusedInput input (Image e) = (is_image input ≡ true) × IsImageRefusal input e
-IsRefusedInput input (Refused r) = (is_image input ≡ false) × IsRefusal input r
-IsRefusedInput input NoMemory = Unit {0}
-IsRefusedInput input _ = ⊥
+-- what refuses an input: it is an image and refused, or a text and refused; or memory was refused
+abbrev pub IsInputRefusal : List ℕ → InputRefusal → Type 0
+IsInputRefusal input (Text r) = (is_image input ≡ false) × IsRefusal input r
+IsInputRefusal input (Image e) = (is_image input ≡ true) × LoadFault (code_at input) e
 
 -- the result of a run of the input was written and nothing else, and this is its status; the run wasn't refused memory
 pub record IsWritten (part : Workpiece) (input : List ℕ) (n : ℕ) (status : ℕ) (notices : List Noticed) (old new : Option (List ℕ))
@@ -61,10 +62,7 @@ pub record IsRunCutOff (part : Workpiece) (input : List ℕ) (n done : ℕ) (old
   pub front : AppendsFront old new (result_text shown.held shown.ran.done)
 
 -- why no whole result was written: a failed write cut it off; or memory, the reader, its length or a refusal, and nothing was written
-abbrev pub IsNotWritten : Workpiece → ℕ → Option (List ℕ) → Option (List ℕ) → RunFault → Option (List ℕ) → Option (List ℕ) → Type 0
-IsNotWritten part n before after (Write done) old new = IfSome before (λ input. IsRunCutOff part input n done old new)
-IsNotWritten part n before after (Memory done) old new = IfSome before (λ input. IsHaltedRun part input n done) × Keeps old new
-IsNotWritten part n before after Read old new = ReadsAtMost most_bytes before after × Keeps old new
-IsNotWritten part n before after NoMemory old new = Keeps old new
-IsNotWritten part n before after TooLong old new = IfSome before (λ input. most_bytes < length input) × Keeps old new
-IsNotWritten part n before after f old new = IfSome before (λ input. IsRefusedInput input f) × Keeps old new
+abbrev pub IsNotWritten : Workpiece → ℕ → Option (List ℕ) → Option (List ℕ) → Fault InputRefusal → Option (List ℕ) → Option (List ℕ) → Type 0
+IsNotWritten part n before after f old new =
+    IsUnwritten IsInputRefusal (λ done old new. IfSome before (λ input. IsHaltedRun part input n done) × Keeps old new)
+    (λ done old new. IfSome before (λ input. IsRunCutOff part input n done old new)) before after f old new

@@ -1,5 +1,6 @@
 pub mod Reading
 pub mod Unread
+pub mod Unanswered
 pub mod Jobs
 pub mod Results
 pub mod Files

@@ -1,21 +1,19 @@
 -- Listings of inputs, and images of listings.
-use Rattle.std.specs.Prelude.{◌≡◌, ℕ, ◌<◌, Bool, true, false, List, [], length, Option, IfSome}
-use Rattle.std.specs.Io.KnownBytes.{Appends, Keeps}
+use Rattle.std.specs.Prelude.{◌≡◌, ℕ, Bool, true, false, List, [], Option, IfSome}
+use Rattle.std.specs.Io.KnownBytes.{Appends}
 use Rattle.vcm_num.specs.Written.{AppendsFront}
 use Rattle.vcm_program.specs.declared.accepted.Noticed.{Noticed}
 use Rattle.vcm_code.specs.declared.code.Code.{Code}
 use Rattle.vcm_code.specs.Valid.{IsValid}
-use Rattle.vcm_image.specs.Whole.{FitsImage, spelling, code_at}
-use Rattle.vcm_loader.specs.Loading.{LoadFault}
+use Rattle.vcm_image.specs.Whole.{FitsImage, spelling}
+use Rattle.vcm_words.specs.declared.fault.ListFault.{ListFault}
 use Rattle.vcm_words.specs.Rows.{listing}
 use Rattle.vcm_words.specs.Outcomes.{FaultOrWant}
-use Rattle.vcm_run.specs.Programs.{IsBuilt, IsRefusal}
-use Rattle.vcm_job.specs.declared.listing.PrintFault.{PrintFault}
-use Rattle.vcm_job.specs.declared.listing.PrintFault.TheVariants.{Refused, Image, NoMemory, Read, Write, TooLong}
-use Rattle.vcm_job.specs.declared.listing.AsmFault.{AsmFault}
-use Rattle.vcm_job.specs.declared.listing.AsmFault.TheVariants as asms
-use Rattle.vcm_job.specs.Reading.{most_bytes, ReadsAtMost}
-use Rattle.vcm_job.specs.Inputs.{is_image}
+use Rattle.vcm_run.specs.Programs.{IsBuilt}
+use Rattle.vcm_job.specs.declared.fault.Fault.{Fault}
+use Rattle.vcm_job.specs.declared.fault.InputRefusal.{InputRefusal}
+use Rattle.vcm_job.specs.Unanswered.{IsUnanswered, IsUnwritten, NeverHalts}
+use Rattle.vcm_job.specs.Inputs.{is_image, IsInputRefusal}
 
 -- the bytes are the image of a valid code, and the text is that code's listing
 pub record IsPrinted (image text : List ℕ) : Type 0 where
@@ -34,13 +32,6 @@ ListedAs false input text notices = (image : List ℕ) × (IsBuilt input image n
 abbrev pub IsListed : List ℕ → List ℕ → List Noticed → Type 0
 IsListed input text notices = ListedAs (is_image input) input text notices
 
--- why an input has no listing: it is an image and refused, or a text and refused, or memory was refused
-abbrev pub IsListRefusal : List ℕ → PrintFault → Type 0
-IsListRefusal input (Image e) = (is_image input ≡ true) × LoadFault (code_at input) e
-IsListRefusal input (Refused r) = (is_image input ≡ false) × IsRefusal input r
-IsListRefusal input NoMemory = Unit {0}
-IsListRefusal input _ = ⊥
-
 -- the listing of an input was written, and nothing else
 pub record IsWrittenOut (input : List ℕ) (notices : List Noticed) (old new : Option (List ℕ)) : Type 0 where
   pub text : List ℕ
@@ -55,16 +46,10 @@ pub record IsListCutOff (input : List ℕ) (old new : Option (List ℕ)) : Type 
   pub front : AppendsFront old new text
 
 -- why no whole listing was written: a failed write cut it off; or memory, the reader, its length or a refusal, and nothing was written
-abbrev pub IsNotListed : Option (List ℕ) → Option (List ℕ) → PrintFault → Option (List ℕ) → Option (List ℕ) → Type 0
-IsNotListed before after Write old new = IfSome before (λ input. IsListCutOff input old new)
-IsNotListed before after Read old new = ReadsAtMost most_bytes before after × Keeps old new
-IsNotListed before after NoMemory old new = Keeps old new
-IsNotListed before after TooLong old new = IfSome before (λ input. most_bytes < length input) × Keeps old new
-IsNotListed before after f old new = IfSome before (λ input. IsListRefusal input f) × Keeps old new
+abbrev pub IsNotListed : Option (List ℕ) → Option (List ℕ) → Fault InputRefusal → Option (List ℕ) → Option (List ℕ) → Type 0
+IsNotListed before after f old new =
+    IsUnwritten IsInputRefusal NeverHalts (λ done old new. (done ≡ 0) × IfSome before (λ input. IsListCutOff input old new)) before after f old new
 
 -- why a listing gave no image: it is refused, or memory was refused; or it wasn't read whole
-abbrev pub IsNotAssembled : Option (List ℕ) → Option (List ℕ) → AsmFault → Type 0
-IsNotAssembled before after (asms.Refused f) = IfSome before (λ text. FaultOrWant text f)
-IsNotAssembled before after asms.NoMemory = Unit {0}
-IsNotAssembled before after asms.Read = ReadsAtMost most_bytes before after
-IsNotAssembled before after asms.TooLong = IfSome before (λ text. most_bytes < length text)
+abbrev pub IsNotAssembled : Option (List ℕ) → Option (List ℕ) → Fault ListFault → Type 0
+IsNotAssembled before after f = IsUnanswered FaultOrWant before after f

@@ -1,5 +1,5 @@
 -- Reading an input whole, up to a limit.
-use Rattle.std.specs.Prelude.{◌≡◌, ℕ, ◌+◌, ◌<◌, ◌≤◌, List, length, Option, Result, Err, IfSome}
+use Rattle.std.specs.Prelude.{ℕ, ◌+◌, ◌<◌, ◌≤◌, List, length, Option, IfSome}
 use Rattle.vcm_job.specs.declared.reading.ReadFault.{ReadFault}
 use Rattle.vcm_job.specs.declared.reading.ReadFault.TheVariants.{NoMemory, Device, TooLong}
 
@@ -21,9 +21,3 @@ abbrev pub IsReadFault : Option (List ℕ) → Option (List ℕ) → ReadFault �
 IsReadFault before after NoMemory = Unit {0}
 IsReadFault before after Device = ReadsAtMost most_bytes before after
 IsReadFault before after TooLong = IfSome before (λ input. most_bytes < length input)
-
--- An input over its limit is judged by nothing else: the answer is one of the faults of an input that wasn't read whole, which `not_read`
--- names for the command
-abbrev pub AnswersUnread : {A F : Type 0} → (ReadFault → F) → Option (List ℕ) → Result A F → Type 0
-AnswersUnread not_read known answer =
-    IfSome known (λ input. most_bytes < length input → (read : ReadFault) × (answer ≡ Err (not_read read)))

@@ -4,12 +4,13 @@ ghost use Rattle.std.specs.Prelude.{◌≡◌, IfOk, IfErr, IfSome};
 ghost use Rattle.vcm_num.specs.Written.{Wrote};
 ghost use Rattle.vcm_lines.specs.Fault.{NoMemoryOr};
 ghost use Rattle.vcm_tree.specs.Acceptance.{IsRefused};
-ghost use Rattle.vcm_job.specs.Reading.{ReadsLittle, AnswersUnread};
-ghost use Rattle.vcm_job.specs.Unread.{check_not_read};
+ghost use Rattle.vcm_job.specs.Reading.{ReadsLittle};
+ghost use Rattle.vcm_job.specs.Unread.{AnswersUnread};
 ghost use Rattle.vcm_job.specs.Checks.{count_line, IsChecked, IsNotChecked};
 ghost use Rattle.vcm_job.specs.inner.Counting.{IsCounted};
 
-use crate::reading::{ReadFault, read_all};
+use crate::fault::CheckFault;
+use crate::reading::read_all;
 use itoa::Buffer;
 use std::alloc::Global;
 use std::io::{Read, Write};
@@ -17,36 +18,6 @@ use vcm_lines::SourceFault;
 use vcm_num::{WriteFault, write_pieces};
 use vcm_program::Noticed;
 use vcm_tree::accept;
-
-/// Why a check told no number of statements.
-#[derive(Clone, Copy, PartialEq, Eq)]
-pub enum CheckFault {
-    /// The text is refused, or a growth of memory was refused while it was judged.
-    Refused(SourceFault),
-    /// A growth of memory was refused while the text was read.
-    NoMemory,
-    /// The reader failed, before more was read than a text may have.
-    Read,
-    /// The writer failed, or took no byte, before all was written.
-    Write,
-    /// The text is longer than 33,554,432 bytes.
-    TooLong,
-}
-
-impl From<ReadFault> for CheckFault {
-    ghost use Rattle.std.specs.Prelude.{◌≡◌};
-    ghost use Rattle.vcm_job.specs.Unread.{check_not_read};
-
-    ghost from_gives = { λ read fault. fault ≡ check_not_read read };
-
-    fn from(fault: ReadFault) -> CheckFault {
-        match fault {
-            ReadFault::NoMemory => CheckFault::NoMemory,
-            ReadFault::Device => CheckFault::Read,
-            ReadFault::TooLong => CheckFault::TooLong,
-        }
-    }
-}
 
 // How many statements a text has that is accepted, and its lines that have no effect.
 fn counted(alloc: Global, text: &[u8]) -> Result<(usize, Vec<Noticed>), SourceFault>
@@ -78,7 +49,7 @@ pub fn check<R: Read, W: Write>(
 ) -> Result<Vec<Noticed>, CheckFault>
     ensures done { IfOk result (λ v. IfSome (R.remaining reader.old) (λ text. IsChecked text v.items (W.contents writer.old) (W.contents writer.new))) }
     ensures fault { IfErr result (λ f. IsNotChecked (R.remaining reader.old) (R.remaining reader.new) f (W.contents writer.old) (W.contents writer.new)) }
-    ensures long { AnswersUnread check_not_read (R.remaining reader.old) result }
+    ensures long { AnswersUnread (R.remaining reader.old) result }
     ensures little { ReadsLittle (R.remaining reader.old) (R.remaining reader.new) }
 {
     let text = read_all(alloc, reader)?;
@@ -88,6 +59,6 @@ pub fn check<R: Read, W: Write>(
     };
     match write_count(count, writer) {
         Ok(()) => Ok(notices),
-        Err(_) => Err(CheckFault::Write),
+        Err(_) => Err(CheckFault::Write { done: 0 }),
     }
 }

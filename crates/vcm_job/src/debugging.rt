@@ -1,54 +1,22 @@
 //! Sessions of the debugger on programs and images.
 
 ghost use Rattle.std.specs.Prelude.{◌≡◌, IfOk, IfErr, IfSome};
-ghost use Rattle.vcm_job.specs.Reading.{ReadsLittle, AnswersUnread};
-ghost use Rattle.vcm_job.specs.Unread.{debug_not_read};
+ghost use Rattle.vcm_job.specs.Reading.{ReadsLittle};
+ghost use Rattle.vcm_job.specs.Unread.{AnswersUnread};
 ghost use Rattle.vcm_job.specs.Debugged.{IsSession, IsServedOn, IsDebugged, IsInputFault, IsNotDebugged};
 ghost use Rattle.vcm_job.specs.inner.Sessions.{IsNoSession, IsNotServed};
 
+use crate::fault::{DebugFault, SessionFault};
 use crate::inputs::is_image;
-use crate::reading::{ReadFault, read_all};
+use crate::reading::read_all;
 use std::alloc::Global;
 use std::io::{Read, Write};
-use vcm_debug::{ServeFault, Session, serve};
-use vcm_fields::ImageFault;
+use vcm_debug::{Session, serve};
 use vcm_loader::{Loaded, load};
 use vcm_motion::{AnyPart, Part};
 use vcm_part::PartData;
 use vcm_program::Noticed;
-use vcm_run::{Built, Refusal, build_image};
-
-/// Why a session didn't come to its end.
-#[derive(Clone, Copy, PartialEq, Eq)]
-pub enum DebugFault {
-    /// The program is refused, or a growth of memory was refused behind acceptance.
-    Refused(Refusal),
-    /// The image is refused, or a growth of memory was refused while it was judged.
-    Image(ImageFault),
-    /// A growth of memory was refused while the input was read, or before the first command.
-    NoMemory,
-    /// The reader of the input failed, before more was read than an input may have.
-    Read,
-    /// The input is longer than 33,554,432 bytes.
-    TooLong,
-    /// The commands could not be read, or the replies not written, or there are too many commands.
-    Serve(ServeFault),
-}
-
-impl From<ReadFault> for DebugFault {
-    ghost use Rattle.std.specs.Prelude.{◌≡◌};
-    ghost use Rattle.vcm_job.specs.Unread.{debug_not_read};
-
-    ghost from_gives = { λ read fault. fault ≡ debug_not_read read };
-
-    fn from(fault: ReadFault) -> DebugFault {
-        match fault {
-            ReadFault::NoMemory => DebugFault::NoMemory,
-            ReadFault::Device => DebugFault::Read,
-            ReadFault::TooLong => DebugFault::TooLong,
-        }
-    }
-}
+use vcm_run::{Built, build_image};
 
 // Serves a session on what was loaded.
 fn serve_loaded<'a, P: Part, R: Read, W: Write>(
@@ -70,7 +38,7 @@ fn serve_loaded<'a, P: Part, R: Read, W: Write>(
     drop(session);
     match served {
         Ok(()) => Ok(()),
-        Err(fault) => Err(DebugFault::Serve(fault)),
+        Err(fault) => Err(DebugFault::Refused(SessionFault::Serve(fault))),
     }
 }
 
@@ -104,7 +72,7 @@ fn serve_image<R: Read, W: Write>(
 {
     match load(alloc, image) {
         Ok(loaded) => serve_beside(alloc, &loaded, part, commands, writer),
-        Err(fault) => Err(DebugFault::Image(fault)),
+        Err(fault) => Err(DebugFault::Refused(SessionFault::Image(fault))),
     }
 }
 
@@ -125,11 +93,13 @@ fn serve_input<R: Read, W: Write>(
     }
     let Built { image, notices } = match build_image(alloc, input) {
         Ok(built) => built,
-        Err(refusal) => return Err(DebugFault::Refused(refusal)),
+        Err(refusal) => return Err(DebugFault::Refused(SessionFault::Text(refusal))),
     };
     match serve_image(alloc, part, &image, commands, writer) {
         Ok(()) => Ok(notices),
-        Err(DebugFault::Serve(fault)) => Err(DebugFault::Serve(fault)),
+        Err(DebugFault::Refused(SessionFault::Serve(fault))) => Err(DebugFault::Refused(
+            SessionFault::Serve(fault),
+        )),
         Err(_) => Err(DebugFault::NoMemory),
     }
 }
@@ -148,7 +118,7 @@ pub fn debug<I: Read, R: Read, W: Write>(
 ) -> Result<Vec<Noticed>, DebugFault>
     ensures done { IfOk result (λ v. IfSome (I.remaining reader.old) (λ input. IfSome (R.remaining commands.old) (λ lines. IsDebugged part.now input lines (R.remaining commands.new) v.items (W.contents writer.old) (W.contents writer.new)))) }
     ensures fault { IfErr result (λ f. IsNotDebugged part.now (I.remaining reader.old) (I.remaining reader.new) (R.remaining commands.old) (R.remaining commands.new) f (W.contents writer.old) (W.contents writer.new)) }
-    ensures long { AnswersUnread debug_not_read (I.remaining reader.old) result }
+    ensures long { AnswersUnread (I.remaining reader.old) result }
     ensures little { ReadsLittle (I.remaining reader.old) (I.remaining reader.new) }
 {
     let input = read_all(alloc, reader)?;

@@ -2,53 +2,20 @@
 
 ghost use Rattle.std.specs.Prelude.{◌≡◌, ◌≢◌, take, IfOk, IfErr, IfSome, codes};
 ghost use Rattle.std.specs.Str.{bytes_eq};
-ghost use Rattle.vcm_job.specs.Reading.{ReadsLittle, AnswersUnread};
-ghost use Rattle.vcm_job.specs.Unread.{input_not_read};
-ghost use Rattle.vcm_job.specs.Inputs.{is_image, IsInputRun, IsRefusedInput, IsWritten, IsNotWritten};
+ghost use Rattle.vcm_job.specs.Reading.{ReadsLittle};
+ghost use Rattle.vcm_job.specs.Unread.{AnswersUnread};
+ghost use Rattle.vcm_job.specs.Inputs.{is_image, IsInputRun, IsInputRefusal, IsWritten, IsNotWritten};
+ghost use Rattle.vcm_job.specs.inner.Judged.{IsRefusedAs};
 ghost use Rattle.vcm_job.specs.inner.Running.{IsNotRun};
 
-use crate::reading::{ReadFault, read_all};
+use crate::fault::{InputRefusal, RunFault};
+use crate::reading::read_all;
 use crate::running::{Done, Unwritten, finish};
 use std::alloc::Global;
 use std::io::{Read, Write};
-use vcm_fields::ImageFault;
 use vcm_motion::{AnyPart, Part};
 use vcm_part::PartData;
-use vcm_run::{Refusal, Summary, run_image, run_text};
-
-/// Why a run wrote no whole result.
-#[derive(Clone, Copy, PartialEq, Eq)]
-pub enum RunFault {
-    /// The program is refused, or a growth of memory was refused between acceptance and the run.
-    Refused(Refusal),
-    /// The image is refused, or a growth of memory was refused before the run.
-    Image(ImageFault),
-    /// A growth of memory was refused after so many steps of the run.
-    Memory { done: u64 },
-    /// A growth of memory was refused while the input was read, or the workpiece cut into strips.
-    NoMemory,
-    /// The reader failed, before more was read than an input may have.
-    Read,
-    /// The writer failed, or took no byte, before all was written; the run had done so many steps.
-    Write { done: u64 },
-    /// The input is longer than 33,554,432 bytes.
-    TooLong,
-}
-
-impl From<ReadFault> for RunFault {
-    ghost use Rattle.std.specs.Prelude.{◌≡◌};
-    ghost use Rattle.vcm_job.specs.Unread.{input_not_read};
-
-    ghost from_gives = { λ read fault. fault ≡ input_not_read read };
-
-    fn from(fault: ReadFault) -> RunFault {
-        match fault {
-            ReadFault::NoMemory => RunFault::NoMemory,
-            ReadFault::Device => RunFault::Read,
-            ReadFault::TooLong => RunFault::TooLong,
-        }
-    }
-}
+use vcm_run::{Summary, run_image, run_text};
 
 /// Whether an input is an image: its first four bytes are `VCMI`.
 pub fn is_image(input: &[u8]) -> bool
@@ -65,17 +32,17 @@ fn run_either<P: Part>(
     steps: u64,
 ) -> Result<Summary, RunFault>
     ensures run { IfOk result (IsInputRun (P.part part.now) input.now steps) }
-    ensures refused { IfErr result (IsRefusedInput input.now) }
+    ensures refused { IfErr result (IsRefusedAs (IsInputRefusal input.now)) }
 {
     if is_image(input) {
         match run_image(alloc, part, input, steps) {
             Ok(summary) => Ok(summary),
-            Err(fault) => Err(RunFault::Image(fault)),
+            Err(fault) => Err(RunFault::Refused(InputRefusal::Image(fault))),
         }
     } else {
         match run_text(alloc, part, input, steps) {
             Ok(summary) => Ok(summary),
-            Err(refusal) => Err(RunFault::Refused(refusal)),
+            Err(refusal) => Err(RunFault::Refused(InputRefusal::Text(refusal))),
         }
     }
 }
@@ -88,7 +55,7 @@ fn summary_of_input(
     steps: u64,
 ) -> Result<Summary, RunFault>
     ensures run { IfOk result (IsInputRun part.now input.now steps) }
-    ensures refused { IfErr result (IsRefusedInput input.now) }
+    ensures refused { IfErr result (IsRefusedAs (IsInputRefusal input.now)) }
 {
     match AnyPart::of(alloc, part) {
         Ok(workpiece) => run_either(alloc, &workpiece, input, steps),
@@ -132,7 +99,7 @@ pub fn run<R: Read, W: Write>(
 ) -> Result<Done, RunFault>
     ensures done { IfOk result (λ d. IfSome (R.remaining reader.old) (λ input. IsWritten part.now input steps d.status d.notices.items (W.contents writer.old) (W.contents writer.new))) }
     ensures fault { IfErr result (λ f. IsNotWritten part.now steps (R.remaining reader.old) (R.remaining reader.new) f (W.contents writer.old) (W.contents writer.new)) }
-    ensures long { AnswersUnread input_not_read (R.remaining reader.old) result }
+    ensures long { AnswersUnread (R.remaining reader.old) result }
     ensures little { ReadsLittle (R.remaining reader.old) (R.remaining reader.new) }
 {
     let input = read_all(alloc, reader)?;

@@ -6,6 +6,7 @@ mod building;
 mod checking;
 mod cutting;
 mod debugging;
+mod fault;
 mod inputs;
 pub mod laws;
 mod listing;
@@ -13,11 +14,15 @@ mod parts;
 mod reading;
 mod running;
 
-pub use building::{BuildFault, build};
-pub use checking::{CheckFault, check};
-pub use debugging::{DebugFault, debug};
-pub use inputs::{RunFault, is_image, run};
-pub use listing::{AsmFault, PrintFault, asm, list};
-pub use parts::{PartFileFault, part_from};
+pub use building::build;
+pub use checking::check;
+pub use debugging::debug;
+pub use fault::{
+    AsmFault, BuildFault, CheckFault, DebugFault, Fault, InputRefusal, JobFault, PartFileFault,
+    PrintFault, RunFault, SessionFault,
+};
+pub use inputs::{is_image, run};
+pub use listing::{asm, list};
+pub use parts::part_from;
 pub use reading::{ReadFault, read_all};
-pub use running::{Done, JobFault, is_halted, job, status_of};
+pub use running::{Done, is_halted, job, status_of};

@@ -1,90 +1,33 @@
 //! Listings of programs and images, and images of listings.
 
 ghost use Rattle.std.specs.Prelude.{◌≡◌, IfOk, IfErr, IfSome};
-ghost use Rattle.vcm_job.specs.Reading.{ReadsLittle, AnswersUnread};
-ghost use Rattle.vcm_job.specs.Unread.{list_not_read, asm_not_read};
-ghost use Rattle.vcm_job.specs.Listings.{IsPrinted, IsListed, IsListRefusal, IsWrittenOut, IsNotListed, IsNotAssembled};
-ghost use Rattle.vcm_job.specs.inner.Printing.{IsNotPrinted, IsListingRefusal};
+ghost use Rattle.vcm_job.specs.Reading.{ReadsLittle};
+ghost use Rattle.vcm_job.specs.Unread.{AnswersUnread};
+ghost use Rattle.vcm_job.specs.Listings.{IsPrinted, IsListed, IsWrittenOut, IsNotListed, IsNotAssembled};
+ghost use Rattle.vcm_job.specs.inner.Judged.{IsRefusedAs};
+ghost use Rattle.vcm_job.specs.Inputs.{IsInputRefusal};
+ghost use Rattle.vcm_job.specs.inner.Printing.{IsNotPrinted};
+ghost use Rattle.vcm_words.specs.Outcomes.{FaultOrWant};
 ghost use Rattle.vcm_image.specs.Whole.{FitsImage, spelling};
 
+use crate::fault::{AsmFault, Fault, InputRefusal, PrintFault};
 use crate::inputs::is_image;
-use crate::reading::{ReadFault, read_all};
+use crate::reading::read_all;
 use std::alloc::Global;
 use std::io::{Read, Write};
 use vcm_code::Code;
-use vcm_fields::ImageFault;
 use vcm_image::write;
-use vcm_listing::{ListFault, print, read_listing};
+use vcm_listing::{print, read_listing};
 use vcm_loader::load;
 use vcm_num::write_all;
 use vcm_program::Noticed;
-use vcm_run::{Built, Refusal, build_image};
-
-/// Why no listing was written.
-#[derive(Clone, Copy, PartialEq, Eq)]
-pub enum PrintFault {
-    /// The program is refused, or a growth of memory was refused behind acceptance.
-    Refused(Refusal),
-    /// The image is refused, or a growth of memory was refused while it was judged.
-    Image(ImageFault),
-    /// A growth of memory was refused while the input was read, or the listing made.
-    NoMemory,
-    /// The reader failed, before more was read than an input may have.
-    Read,
-    /// The writer failed, or took no byte, before all was written.
-    Write,
-    /// The input is longer than 33,554,432 bytes.
-    TooLong,
-}
-
-/// Why a listing gave no image.
-#[derive(Clone, Copy, PartialEq, Eq)]
-pub enum AsmFault {
-    /// The listing is refused, or a growth of memory was refused while it was read.
-    Refused(ListFault),
-    /// A growth of memory was refused while the text was read whole, or the image made.
-    NoMemory,
-    /// The reader failed, before more was read than a text may have.
-    Read,
-    /// The text is longer than 33,554,432 bytes.
-    TooLong,
-}
+use vcm_run::{Built, build_image};
 
 /// A listing, and the lines without effect of the program that it is of.
 #[derive(Drop)]
 struct Listed {
     text: Vec<u8>,
     notices: Vec<Noticed>,
-}
-
-impl From<ReadFault> for PrintFault {
-    ghost use Rattle.std.specs.Prelude.{◌≡◌};
-    ghost use Rattle.vcm_job.specs.Unread.{list_not_read};
-
-    ghost from_gives = { λ read fault. fault ≡ list_not_read read };
-
-    fn from(fault: ReadFault) -> PrintFault {
-        match fault {
-            ReadFault::NoMemory => PrintFault::NoMemory,
-            ReadFault::Device => PrintFault::Read,
-            ReadFault::TooLong => PrintFault::TooLong,
-        }
-    }
-}
-
-impl From<ReadFault> for AsmFault {
-    ghost use Rattle.std.specs.Prelude.{◌≡◌};
-    ghost use Rattle.vcm_job.specs.Unread.{asm_not_read};
-
-    ghost from_gives = { λ read fault. fault ≡ asm_not_read read };
-
-    fn from(fault: ReadFault) -> AsmFault {
-        match fault {
-            ReadFault::NoMemory => AsmFault::NoMemory,
-            ReadFault::Device => AsmFault::Read,
-            ReadFault::TooLong => AsmFault::TooLong,
-        }
-    }
 }
 
 // The listing of an image.
@@ -94,7 +37,7 @@ fn printed(alloc: Global, image: &[u8]) -> Result<Vec<u8>, PrintFault>
 {
     let printed = match load(alloc, image) {
         Ok(loaded) => print(alloc, &loaded),
-        Err(fault) => return Err(PrintFault::Image(fault)),
+        Err(fault) => return Err(PrintFault::Refused(InputRefusal::Image(fault))),
     };
     match printed {
         Ok(text) => Ok(text),
@@ -105,7 +48,7 @@ fn printed(alloc: Global, image: &[u8]) -> Result<Vec<u8>, PrintFault>
 // The listing of an input.
 fn listing_of(alloc: Global, input: &[u8]) -> Result<Listed, PrintFault>
     ensures listed { IfOk result (λ l. IsListed input.now l.text.items l.notices.items) }
-    ensures refused { IfErr result (IsListRefusal input.now) }
+    ensures refused { IfErr result (IsRefusedAs (IsInputRefusal input.now)) }
 {
     if is_image(input) {
         let text = printed(alloc, input)?;
@@ -114,7 +57,7 @@ fn listing_of(alloc: Global, input: &[u8]) -> Result<Listed, PrintFault>
     }
     let Built { image, notices } = match build_image(alloc, input) {
         Ok(built) => built,
-        Err(refusal) => return Err(PrintFault::Refused(refusal)),
+        Err(refusal) => return Err(PrintFault::Refused(InputRefusal::Text(refusal))),
     };
     match printed(alloc, &image) {
         Ok(text) => Ok(Listed { text, notices }),
@@ -133,14 +76,14 @@ pub fn list<R: Read, W: Write>(
 ) -> Result<Vec<Noticed>, PrintFault>
     ensures done { IfOk result (λ v. IfSome (R.remaining reader.old) (λ input. IsWrittenOut input v.items (W.contents writer.old) (W.contents writer.new))) }
     ensures fault { IfErr result (λ f. IsNotListed (R.remaining reader.old) (R.remaining reader.new) f (W.contents writer.old) (W.contents writer.new)) }
-    ensures long { AnswersUnread list_not_read (R.remaining reader.old) result }
+    ensures long { AnswersUnread (R.remaining reader.old) result }
     ensures little { ReadsLittle (R.remaining reader.old) (R.remaining reader.new) }
 {
     let input = read_all(alloc, reader)?;
     let Listed { text, notices } = listing_of(alloc, &input)?;
     match write_all(writer, &text) {
         Ok(()) => Ok(notices),
-        Err(_) => Err(PrintFault::Write),
+        Err(_) => Err(PrintFault::Write { done: 0 }),
     }
 }
 
@@ -148,18 +91,18 @@ pub fn list<R: Read, W: Write>(
 fn image_of(alloc: Global, code: &Code) -> Result<Vec<u8>, AsmFault>
     requires { FitsImage code.now }
     ensures image { IfOk result (λ v. v.items ≡ spelling code.now) }
-    ensures fault { IfErr result (λ f. f ≡ AsmFault.NoMemory) }
+    ensures fault { IfErr result (λ f. f ≡ Fault.NoMemory) }
 {
     match write(alloc, code) {
         Ok(image) => Ok(image),
-        Err(_) => Err(AsmFault::NoMemory),
+        Err(_) => Err(Fault::NoMemory),
     }
 }
 
 // The image of the code of a listing.
 fn assembled(alloc: Global, text: &[u8]) -> Result<Vec<u8>, AsmFault>
     ensures image { IfOk result (λ v. IsPrinted v.items text.now) }
-    ensures fault { IfErr result (IsListingRefusal text.now) }
+    ensures fault { IfErr result (IsRefusedAs (FaultOrWant text.now)) }
 {
     match read_listing(alloc, text) {
         Ok(code) => image_of(alloc, &code),
@@ -173,7 +116,7 @@ fn assembled(alloc: Global, text: &[u8]) -> Result<Vec<u8>, AsmFault>
 pub fn asm<R: Read>(alloc: Global, reader: &mut R) -> Result<Vec<u8>, AsmFault>
     ensures image { IfOk result (λ v. IfSome (R.remaining reader.old) (λ text. IsPrinted v.items text)) }
     ensures fault { IfErr result (λ f. IsNotAssembled (R.remaining reader.old) (R.remaining reader.new) f) }
-    ensures long { AnswersUnread asm_not_read (R.remaining reader.old) result }
+    ensures long { AnswersUnread (R.remaining reader.old) result }
     ensures little { ReadsLittle (R.remaining reader.old) (R.remaining reader.new) }
 {
     let text = read_all(alloc, reader)?;

@@ -2,14 +2,16 @@
 
 ghost use Rattle.std.specs.Prelude.{◌≡◌, ◌≢◌, true, false, IfOk, IfErr, IfSome};
 ghost use Rattle.vcm_job.specs.Jobs.{status_of, most_steps};
-ghost use Rattle.vcm_job.specs.Reading.{ReadsLittle, AnswersUnread};
-ghost use Rattle.vcm_job.specs.Unread.{job_not_read};
+ghost use Rattle.vcm_job.specs.Reading.{ReadsLittle};
+ghost use Rattle.vcm_job.specs.Unread.{AnswersUnread};
 ghost use Rattle.vcm_job.specs.Results.{IsJobRefusal, IsDone, IsNotDone};
-ghost use Rattle.vcm_run.specs.Programs.{IsSummary};
-ghost use Rattle.vcm_job.specs.inner.Running.{IsShown, IsNotShown, IsTextsRun, IsProgramRefusal, IsNoJob};
+ghost use Rattle.vcm_job.specs.inner.Judged.{IsRefusedAs};
+ghost use Rattle.vcm_run.specs.Programs.{IsSummary, IsRefusal};
+ghost use Rattle.vcm_job.specs.inner.Running.{IsShown, IsNotShown, IsTextsRun, IsNoJob};
 
 use crate::cutting::texts_of;
-use crate::reading::{ReadFault, read_all};
+use crate::fault::JobFault;
+use crate::reading::read_all;
 use std::alloc::Global;
 use std::io::{Read, Write};
 use vcm_motion::{AnyPart, Part};
@@ -34,38 +36,6 @@ pub struct Done {
 pub(crate) enum Unwritten {
     Memory { done: u64 },
     Write { done: u64 },
-}
-
-/// Why a job wrote no whole result.
-#[derive(Clone, Copy, PartialEq, Eq)]
-pub enum JobFault {
-    /// The part or the program is refused, or a growth of memory was refused between acceptance and the run.
-    Refused(Refusal),
-    /// A growth of memory was refused after so many steps of the run.
-    Memory { done: u64 },
-    /// A growth of memory was refused while the input was read, or the workpiece cut into strips.
-    NoMemory,
-    /// The reader failed, before more was read than an input may have.
-    Read,
-    /// The writer failed, or took no byte, before all was written; the run had done so many steps.
-    Write { done: u64 },
-    /// The input is longer than 33,554,432 bytes.
-    TooLong,
-}
-
-impl From<ReadFault> for JobFault {
-    ghost use Rattle.std.specs.Prelude.{◌≡◌};
-    ghost use Rattle.vcm_job.specs.Unread.{job_not_read};
-
-    ghost from_gives = { λ read fault. fault ≡ job_not_read read };
-
-    fn from(fault: ReadFault) -> JobFault {
-        match fault {
-            ReadFault::NoMemory => JobFault::NoMemory,
-            ReadFault::Device => JobFault::Read,
-            ReadFault::TooLong => JobFault::TooLong,
-        }
-    }
 }
 
 /// The exit status that a stop gives: 0 at the program's end, 3 at another stop, 4 where there is none.
@@ -131,7 +101,7 @@ fn run_beside(
     steps: u64,
 ) -> Result<Summary, JobFault>
     ensures run { IfOk result (IsSummary part.now program.now steps) }
-    ensures refused { IfErr result (IsProgramRefusal program.now) }
+    ensures refused { IfErr result (IsRefusedAs (IsRefusal program.now)) }
 {
     match AnyPart::of(alloc, part) {
         Ok(workpiece) => run_program(alloc, &workpiece, program, steps),
@@ -147,7 +117,7 @@ fn run_program<P: Part>(
     steps: u64,
 ) -> Result<Summary, JobFault>
     ensures run { IfOk result (IsSummary (P.part part.now) program.now steps) }
-    ensures refused { IfErr result (IsProgramRefusal program.now) }
+    ensures refused { IfErr result (IsRefusedAs (IsRefusal program.now)) }
 {
     match run_text(alloc, part, program, steps) {
         Ok(summary) => Ok(summary),
@@ -158,7 +128,7 @@ fn run_program<P: Part>(
 // The run of the two texts of an input, for so many steps.
 fn summary_of_texts(alloc: Global, input: &[u8], steps: u64) -> Result<Summary, JobFault>
     ensures run { IfOk result (IsTextsRun input.now steps) }
-    ensures fault { IfErr result (IsJobRefusal input.now) }
+    ensures fault { IfErr result (IsRefusedAs (IsJobRefusal input.now)) }
 {
     let (part, program) = texts_of(input);
     match read_part(alloc, part) {
@@ -201,7 +171,7 @@ pub fn job<R: Read, W: Write>(
 ) -> Result<Done, JobFault>
     ensures done { IfOk result (λ d. IfSome (R.remaining reader.old) (λ input. IsDone input d.status d.notices.items (W.contents writer.old) (W.contents writer.new))) }
     ensures fault { IfErr result (λ f. IsNotDone (R.remaining reader.old) (R.remaining reader.new) f (W.contents writer.old) (W.contents writer.new)) }
-    ensures long { AnswersUnread job_not_read (R.remaining reader.old) result }
+    ensures long { AnswersUnread (R.remaining reader.old) result }
     ensures little { ReadsLittle (R.remaining reader.old) (R.remaining reader.new) }
 {
     let input = read_all(alloc, reader)?;

@@ -2,7 +2,7 @@
 
 use std::alloc::Global;
 use vcm_debug::ServeFault;
-use vcm_job::{DebugFault, debug};
+use vcm_job::{DebugFault, SessionFault, debug};
 use vcm_part::read_part;
 use vcm_test_tools::{BOUNDS, ONE_BLOCK, THREE, joined, program_of};
 
@@ -90,7 +90,7 @@ fn long_commands(
 fn too_many_bytes(rt: HostRuntime) {
     let refused = "G01 UnknownCommand\n";
     let both = "G01 UnknownCommand\nbye\n";
-    let more = Some(DebugFault::Serve(ServeFault::TooMuch));
+    let more = Some(DebugFault::Refused(SessionFault::Serve(ServeFault::TooMuch)));
     for (blanks, commands, expected, told) in [
         (1_048_576, "", both, None),
         (1_048_577, "", "", more),

@@ -166,7 +166,8 @@ fn checks_fail(alloc: Global) -> bool {
     let is_read = check(alloc, &mut reader, &mut out).err() == Some(CheckFault::Read);
     let mut input = text.as_bytes();
     let mut writer = Full::new(alloc, 2, true);
-    let is_written = check(alloc, &mut input, &mut writer).err() == Some(CheckFault::Write);
+    let is_written = check(alloc, &mut input, &mut writer).err()
+        == Some(CheckFault::Write { done: 0 });
     is_read && out.is_empty() && is_written && writer.taken.as_slice() == b"ok ".as_slice()
 }
 

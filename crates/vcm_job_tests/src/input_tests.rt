@@ -2,7 +2,10 @@
 
 use std::alloc::Global;
 use vcm_fields::ImageFault;
-use vcm_job::{Done, PartFileFault, PrintFault, RunFault, asm, build, debug, list, part_from, run};
+use vcm_job::{
+    Done, InputRefusal, PartFileFault, PrintFault, RunFault, asm, build, debug, list, part_from,
+    run,
+};
 use vcm_part::{PartCode, PartData, PartFault};
 use vcm_test_tools::{BOUNDS, MOVE, ONE_BLOCK, changed, joined, program_of};
 
@@ -101,7 +104,10 @@ fn damaged_images(rt: HostRuntime) {
         (12, 1, ImageFault::Trailing),
         (23, 2, ImageFault::BadOperand),
     ] {
-        assert!(rt; refusal_of(rt.alloc(), place, byte) == Some(RunFault::Image(fault)));
+        assert!(rt;
+            refusal_of(rt.alloc(), place, byte)
+                == Some(RunFault::Refused(InputRefusal::Image(fault)))
+        );
     }
 }
 
@@ -180,5 +186,5 @@ fn the_listing_of_a_move(rt: HostRuntime) {
 #[test]
 fn an_image_without_a_listing(rt: HostRuntime) {
     let fault = listing_of(rt.alloc(), b"VCMI\x03\x00").err();
-    assert!(rt; fault == Some(PrintFault::Image(ImageFault::BadVersion)));
+    assert!(rt; fault == Some(PrintFault::Refused(InputRefusal::Image(ImageFault::BadVersion))));
 }

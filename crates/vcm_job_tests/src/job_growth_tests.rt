@@ -5,8 +5,8 @@ use std::io;
 use std::io::Write;
 use vcm_fields::ImageFault;
 use vcm_job::{
-    AsmFault, BuildFault, CheckFault, DebugFault, JobFault, PrintFault, RunFault, asm, build,
-    check, debug, job, list, run,
+    AsmFault, BuildFault, CheckFault, DebugFault, InputRefusal, JobFault, PrintFault, RunFault,
+    SessionFault, asm, build, check, debug, job, list, run,
 };
 use vcm_listing::{ListCode, print};
 use vcm_loader::load;
@@ -60,6 +60,9 @@ fn loop_inputs(alloc: Global) -> Option<Inputs> {
     })
 }
 
+// An image for which memory was refused.
+const WANT: InputRefusal = InputRefusal::Image(ImageFault::NoMemory);
+
 // Forty lines of thirteen bytes, the stop, the position and the steps.
 const RESULT: usize = 40 * 13 + 11 + 29 + 9;
 
@@ -79,8 +82,10 @@ fn run_told(alloc: Global, part: &PartData, bytes: &[u8]) -> Told {
     let (mut input, mut out) = (bytes, Counted { bytes: 0 });
     match run(alloc, part, &mut input, 100, &mut out) {
         Ok(done) => answer(done.status == 0 && out.bytes == RESULT),
-        Err(RunFault::Refused(refused)) => refusal(is_want(&refused) && out.bytes == 0),
-        Err(RunFault::Image(fault)) => refusal(fault == ImageFault::NoMemory && out.bytes == 0),
+        Err(RunFault::Refused(InputRefusal::Text(refused))) => refusal(
+            is_want(&refused) && out.bytes == 0,
+        ),
+        Err(RunFault::Refused(refused)) => refusal(refused == WANT && out.bytes == 0),
         Err(RunFault::Memory { done }) => refusal(done < 81 && out.bytes == 0),
         Err(fault) => refusal(fault == RunFault::NoMemory && out.bytes == 0),
     }
@@ -111,7 +116,7 @@ fn list_told(alloc: Global, bytes: &[u8], length: usize) -> Told {
     let (mut input, mut out) = (bytes, Counted { bytes: 0 });
     match list(alloc, &mut input, &mut out) {
         Ok(_) => answer(out.bytes == length),
-        Err(PrintFault::Image(fault)) => refusal(fault == ImageFault::NoMemory && out.bytes == 0),
+        Err(PrintFault::Refused(refused)) => refusal(refused == WANT && out.bytes == 0),
         Err(fault) => refusal(fault == PrintFault::NoMemory && out.bytes == 0),
     }
 }
@@ -131,7 +136,9 @@ fn debug_told(alloc: Global, part: &PartData, bytes: &[u8]) -> Told {
     let (mut input, mut commands, mut out) = (bytes, b"".as_slice(), Counted { bytes: 0 });
     match debug(alloc, part, &mut input, &mut commands, &mut out) {
         Ok(_) => answer(out.bytes == b"bye\n".len()),
-        Err(DebugFault::Image(fault)) => refusal(fault == ImageFault::NoMemory && out.bytes == 0),
+        Err(DebugFault::Refused(refused)) => {
+            refusal(refused == SessionFault::Image(ImageFault::NoMemory) && out.bytes == 0)
+        }
         Err(fault) => refusal(fault == DebugFault::NoMemory && out.bytes == 0),
     }
 }

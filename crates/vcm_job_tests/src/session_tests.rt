@@ -4,7 +4,7 @@ use crate::devices::{Failing, Full, Unflushed};
 use std::alloc::Global;
 use std::io::{Read, Write};
 use vcm_debug::ServeFault;
-use vcm_job::{DebugFault, debug};
+use vcm_job::{DebugFault, SessionFault, debug};
 use vcm_part::read_part;
 use vcm_test_tools::{BOUNDS, ONE_BLOCK, joined, program_of};
 
@@ -49,7 +49,7 @@ fn commands_fail(alloc: Global, failing: usize) -> bool {
     let wanted = if commands.calls < failing {
         None
     } else {
-        Some(DebugFault::Serve(ServeFault::Read))
+        Some(DebugFault::Refused(SessionFault::Serve(ServeFault::Read)))
     };
     told == Some(wanted)
         && REPLIES.as_bytes().starts_with(out.as_slice())
@@ -73,7 +73,7 @@ fn replies_fail(alloc: Global, failing: usize, fails: bool) -> bool {
     if writer.calls < failing {
         told == Some(None) && taken == whole
     } else {
-        told == Some(Some(DebugFault::Serve(ServeFault::Write)))
+        told == Some(Some(DebugFault::Refused(SessionFault::Serve(ServeFault::Write))))
             && taken.len() < whole.len()
             && whole.starts_with(taken)
             && writer.calls == failing
@@ -97,7 +97,7 @@ fn flush_fails(alloc: Global, failing: usize, written: usize) -> bool {
         failing,
     };
     let told = session(alloc, &mut commands, &mut writer);
-    told == Some(Some(DebugFault::Serve(ServeFault::Write)))
+    told == Some(Some(DebugFault::Refused(SessionFault::Serve(ServeFault::Write))))
         && REPLIES.as_bytes().starts_with(writer.taken.as_slice())
         && writer.taken.len() == written
 }

@@ -2,7 +2,7 @@
 
 use std::rt::Files;
 use vcm_job::part_from;
-use vcm_messages::{Message, NoticeLine, part_file_message};
+use vcm_messages::{Message, NoticeLine, message_of};
 use vcm_part::PartData;
 use vcm_program::Noticed;
 
@@ -23,6 +23,6 @@ pub fn part_of<'a, R: Files + AllocGlobal>(rt: &R, name: &'a str) -> Result<Part
     };
     match part_from(rt.alloc(), &mut file) {
         Ok(part) => Ok(part),
-        Err(fault) => Err(part_file_message(fault, name)),
+        Err(fault) => Err(message_of(fault, name)),
     }
 }

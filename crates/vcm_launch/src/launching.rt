@@ -6,7 +6,7 @@ use std::rt::Files;
 use vcm_dap::Settings;
 use vcm_debug::Count;
 use vcm_job::{DebugFault, is_image, read_all};
-use vcm_messages::{Message, debug_message};
+use vcm_messages::{Message, Told, message_of};
 use vcm_program::Noticed;
 use vcm_run::{Built, build_image};
 use vcm_wire::Request;
@@ -89,7 +89,7 @@ pub(crate) struct Program {
 }
 
 // The program of these bytes.
-fn program_in<'a>(alloc: Global, bytes: Vec<u8>, name: &'a str) -> Result<Program, Message<'a>> {
+fn program_in(alloc: Global, bytes: Vec<u8>) -> Result<Program, Message<'static>> {
     if is_image(&bytes) {
         return Ok(Program {
             image: bytes,
@@ -103,7 +103,7 @@ fn program_in<'a>(alloc: Global, bytes: Vec<u8>, name: &'a str) -> Result<Progra
             notices,
             is_image: false,
         }),
-        Err(refusal) => Err(debug_message(DebugFault::Refused(refusal), name)),
+        Err(refusal) => Err(refusal.told()),
     }
 }
 
@@ -116,7 +116,7 @@ pub(crate) fn program_of<'a, R: Files + AllocGlobal>(
         return Err(Message::Read { name });
     };
     match read_all(rt.alloc(), &mut file) {
-        Ok(bytes) => program_in(rt.alloc(), bytes, name),
-        Err(fault) => Err(debug_message(DebugFault::from(fault), name)),
+        Ok(bytes) => program_in(rt.alloc(), bytes),
+        Err(fault) => Err(message_of(DebugFault::from(fault), name)),
     }
 }

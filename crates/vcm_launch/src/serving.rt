@@ -11,9 +11,8 @@ use std::io::{Read, Write};
 use std::rt::Files;
 use vcm_dap::{Adapter, DapFault, Served, Settings, Talk};
 use vcm_debug::Session;
-use vcm_job::DebugFault;
 use vcm_loader::{Loaded, load};
-use vcm_messages::{Message, debug_message};
+use vcm_messages::{Message, Told};
 use vcm_motion::AnyPart;
 use vcm_part::PartData;
 use vcm_program::Noticed;
@@ -182,10 +181,7 @@ fn open_program<R: Read, W: Write>(
     let alloc = talk.alloc();
     let loaded = match load(alloc, &program.image) {
         Ok(loaded) => loaded,
-        Err(fault) => {
-            let message = debug_message(DebugFault::Image(fault), asked.program);
-            return refuse(alloc, talk, request, message);
-        }
+        Err(fault) => return refuse(alloc, talk, request, fault.told()),
     };
     let settings = settings_of(asked, part.bounds().tip, program.is_image);
     open_session(

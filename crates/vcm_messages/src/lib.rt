@@ -3,7 +3,4 @@
 
 mod message;
 
-pub use message::{
-    Message, NoticeLine, asm_message, build_message, check_message, debug_message, job_message,
-    list_message, part_file_message, probe_message, run_message, status_of,
-};
+pub use message::{Message, NoticeLine, Told, message_of, probe_message, status_of};

@@ -4,9 +4,7 @@ use thiserror::Error;
 use vcm_boxes::{BoxKey, BoxesFault, Label, Refusal as BoxRefusal};
 use vcm_debug::ServeFault;
 use vcm_fields::ImageFault;
-use vcm_job::{
-    AsmFault, BuildFault, CheckFault, DebugFault, JobFault, PartFileFault, PrintFault, RunFault,
-};
+use vcm_job::{Fault, InputRefusal, SessionFault};
 use vcm_lines::{FaultCode, SourceFault};
 use vcm_listing::{ListCode, ListFault};
 use vcm_part::{PartCode, PartFault};
@@ -85,6 +83,11 @@ pub enum Message<'a> {
 pub struct NoticeLine<'a> {
     pub line: u32,
     pub word: &'a str,
+}
+
+/// What is told of a refusal.
+pub trait Told {
+    fn told(self) -> Message<'static>;
 }
 
 // The code and name of a refusal of a text.
@@ -205,13 +208,14 @@ fn image_words(fault: ImageFault) -> &'static str {
     }
 }
 
-// How a refused image is told.
-fn image_message(fault: ImageFault) -> Message<'static> {
-    match fault {
-        ImageFault::NoMemory => Message::NoMemory,
-        fault => Message::Image {
-            words: image_words(fault),
-        },
+impl Told for ImageFault {
+    fn told(self) -> Message<'static> {
+        match self {
+            ImageFault::NoMemory => Message::NoMemory,
+            fault => Message::Image {
+                words: image_words(fault),
+            },
+        }
     }
 }
 
@@ -226,161 +230,91 @@ fn listing_words(code: ListCode) -> &'static str {
     }
 }
 
-// How a refused listing is told.
-fn listing_message(fault: ListFault) -> Message<'static> {
-    match fault.code {
-        ListCode::NoMemory => Message::NoMemory,
-        code => Message::Source {
-            words: listing_words(code),
-            line: fault.line,
-        },
+impl Told for ListFault {
+    fn told(self) -> Message<'static> {
+        match self.code {
+            ListCode::NoMemory => Message::NoMemory,
+            code => Message::Source {
+                words: listing_words(code),
+                line: self.line,
+            },
+        }
     }
 }
 
-// How a refused text is told.
-fn source_message(fault: SourceFault) -> Message<'static> {
-    match fault.code {
-        FaultCode::NoMemory => Message::NoMemory,
-        code => Message::Source {
-            words: source_words(code),
-            line: fault.line,
-        },
+impl Told for SourceFault {
+    fn told(self) -> Message<'static> {
+        match self.code {
+            FaultCode::NoMemory => Message::NoMemory,
+            code => Message::Source {
+                words: source_words(code),
+                line: self.line,
+            },
+        }
     }
 }
 
-// How a refused part file is told.
-fn part_message(fault: PartFault) -> Message<'static> {
-    match (fault.code, fault.block) {
-        (PartCode::NoMemory, _) => Message::NoMemory,
-        (code, 0) => Message::Part {
-            words: part_words(code),
-        },
-        (code, block) => Message::Block {
-            words: part_words(code),
-            block,
-        },
+impl Told for PartFault {
+    fn told(self) -> Message<'static> {
+        match (self.code, self.block) {
+            (PartCode::NoMemory, _) => Message::NoMemory,
+            (code, 0) => Message::Part {
+                words: part_words(code),
+            },
+            (code, block) => Message::Block {
+                words: part_words(code),
+                block,
+            },
+        }
     }
 }
 
-// How a refusal is told.
-fn refusal_message(refusal: Refusal) -> Message<'static> {
-    match refusal {
-        Refusal::Source(fault) => source_message(fault),
-        Refusal::Part(fault) => part_message(fault),
-        Refusal::NoMemory => Message::NoMemory,
+impl Told for Refusal {
+    fn told(self) -> Message<'static> {
+        match self {
+            Refusal::Source(fault) => fault.told(),
+            Refusal::Part(fault) => fault.told(),
+            Refusal::NoMemory => Message::NoMemory,
+        }
     }
 }
 
-/// How the fault of a part file is told, of the file with this name.
-pub fn part_file_message<'a>(fault: PartFileFault, name: &'a str) -> Message<'a> {
+impl Told for InputRefusal {
+    fn told(self) -> Message<'static> {
+        match self {
+            InputRefusal::Text(refusal) => refusal.told(),
+            InputRefusal::Image(fault) => fault.told(),
+        }
+    }
+}
+
+impl Told for SessionFault {
+    fn told(self) -> Message<'static> {
+        match self {
+            SessionFault::Text(refusal) => refusal.told(),
+            SessionFault::Image(fault) => fault.told(),
+            SessionFault::Serve(ServeFault::Read) => Message::Read {
+                name: "standard input",
+            },
+            SessionFault::Serve(ServeFault::Write) => Message::Write {
+                name: "standard output",
+            },
+            SessionFault::Serve(ServeFault::TooMuch) => Message::TooLong,
+        }
+    }
+}
+
+/// How the fault of a command is told, of the input with this name.
+pub fn message_of<'a, R: Told>(fault: Fault<R>, name: &'a str) -> Message<'a> {
     match fault {
-        PartFileFault::Refused(fault) => part_message(fault),
-        PartFileFault::NoMemory => Message::NoMemory,
-        PartFileFault::Read => Message::Read { name },
-        PartFileFault::TooLong => Message::TooLong,
-    }
-}
-
-/// How the fault of a build is told, of the program's file with this name.
-pub fn build_message<'a>(fault: BuildFault, name: &'a str) -> Message<'a> {
-    match fault {
-        BuildFault::Refused(refusal) => refusal_message(refusal),
-        BuildFault::NoMemory => Message::NoMemory,
-        BuildFault::Read => Message::Read { name },
-        BuildFault::TooLong => Message::TooLong,
-    }
-}
-
-/// How the fault of a run is told, of the input's file with this name.
-pub fn run_message<'a>(fault: RunFault, name: &'a str) -> Message<'a> {
-    match fault {
-        RunFault::Refused(refusal) => refusal_message(refusal),
-        RunFault::Image(fault) => image_message(fault),
-        RunFault::Memory { done } => Message::Halted { done },
-        RunFault::NoMemory => Message::NoMemory,
-        RunFault::Read => Message::Read { name },
-        RunFault::Write { .. } => Message::Write {
+        Fault::Refused(refusal) => refusal.told(),
+        Fault::NoMemory => Message::NoMemory,
+        Fault::Memory { done } => Message::Halted { done },
+        Fault::Read => Message::Read { name },
+        Fault::Write { .. } => Message::Write {
             name: "standard output",
         },
-        RunFault::TooLong => Message::TooLong,
-    }
-}
-
-/// How the fault of a listing's print is told, of the input's file with this name.
-pub fn list_message<'a>(fault: PrintFault, name: &'a str) -> Message<'a> {
-    match fault {
-        PrintFault::Refused(refusal) => refusal_message(refusal),
-        PrintFault::Image(fault) => image_message(fault),
-        PrintFault::NoMemory => Message::NoMemory,
-        PrintFault::Read => Message::Read { name },
-        PrintFault::Write => Message::Write {
-            name: "standard output",
-        },
-        PrintFault::TooLong => Message::TooLong,
-    }
-}
-
-/// How the fault of a listing that gave no image is told, of the listing's file with this name.
-pub fn asm_message<'a>(fault: AsmFault, name: &'a str) -> Message<'a> {
-    match fault {
-        AsmFault::Refused(fault) => listing_message(fault),
-        AsmFault::NoMemory => Message::NoMemory,
-        AsmFault::Read => Message::Read { name },
-        AsmFault::TooLong => Message::TooLong,
-    }
-}
-
-// How the fault of a session's commands and replies is told.
-fn serve_message(fault: ServeFault) -> Message<'static> {
-    match fault {
-        ServeFault::Read => Message::Read {
-            name: "standard input",
-        },
-        ServeFault::Write => Message::Write {
-            name: "standard output",
-        },
-        ServeFault::TooMuch => Message::TooLong,
-    }
-}
-
-/// How the fault of a session is told, of the input's file with this name.
-pub fn debug_message<'a>(fault: DebugFault, name: &'a str) -> Message<'a> {
-    match fault {
-        DebugFault::Refused(refusal) => refusal_message(refusal),
-        DebugFault::Image(fault) => image_message(fault),
-        DebugFault::NoMemory => Message::NoMemory,
-        DebugFault::Read => Message::Read { name },
-        DebugFault::TooLong => Message::TooLong,
-        DebugFault::Serve(fault) => serve_message(fault),
-    }
-}
-
-/// How the fault of a job is told.
-pub fn job_message(fault: JobFault) -> Message<'static> {
-    match fault {
-        JobFault::Refused(refusal) => refusal_message(refusal),
-        JobFault::Memory { done } => Message::Halted { done },
-        JobFault::NoMemory => Message::NoMemory,
-        JobFault::Read => Message::Read {
-            name: "standard input",
-        },
-        JobFault::Write { .. } => Message::Write {
-            name: "standard output",
-        },
-        JobFault::TooLong => Message::TooLong,
-    }
-}
-
-/// How the fault of a check is told, of the file with this name.
-pub fn check_message<'a>(fault: CheckFault, name: &'a str) -> Message<'a> {
-    match fault {
-        CheckFault::Refused(fault) => source_message(fault),
-        CheckFault::NoMemory => Message::NoMemory,
-        CheckFault::Read => Message::Read { name },
-        CheckFault::Write => Message::Write {
-            name: "standard output",
-        },
-        CheckFault::TooLong => Message::TooLong,
+        Fault::TooLong => Message::TooLong,
     }
 }
 

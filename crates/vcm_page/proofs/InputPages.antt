@@ -1,52 +1,30 @@
 -- From what was read to the page of an input.
-use Rattle.std.specs.Prelude.{ℕ, Bool, true, false, List, [], Option, IfSome, IfOk, IfErr, Result, Ok, Err}
+use Rattle.std.specs.Prelude.{ℕ, Bool, true, false, List, [], Option, IfSome, IfErr, Result}
 use Rattle.std.proofs.Common.{◌≡◌, refl, sym, subst}
 use Rattle.std.specs.Io.KnownBytes.{Appends, Keeps}
-use Rattle.std.proofs.KnownBytes.{Keeps-refl}
 use Rattle.vcm_num.specs.Written.{AppendsFront}
 use Rattle.vcm_spec.specs.Workpiece.{Workpiece}
 use Rattle.vcm_program.specs.declared.accepted.Noticed.{Noticed}
 use Rattle.vcm_code.specs.declared.code.Code.{Code}
 use Rattle.vcm_words.specs.Rows.{listing}
 use Rattle.vcm_run.specs.Programs.{IsBuilt}
-use Rattle.vcm_job.specs.declared.running.Done.{Done}
-use Rattle.vcm_job.specs.declared.inputs.RunFault.{RunFault}
-use Rattle.vcm_job.specs.declared.inputs.RunFault.TheVariants as faults
-use Rattle.vcm_job.specs.declared.reading.ReadFault.{ReadFault}
-use Rattle.vcm_job.specs.declared.reading.ReadFault.TheVariants as read_faults
-use Rattle.vcm_job.specs.Reading.{IsReadFault}
-use Rattle.vcm_job.specs.Unread.{input_not_read}
-use Rattle.vcm_job.specs.Inputs.{is_image, IsRefusedInput}
-use Rattle.vcm_job.proofs.JobLemmas.{known}
+use Rattle.vcm_job.specs.declared.fault.Fault.{Fault}
+use Rattle.vcm_job.specs.declared.fault.Fault.TheVariants as faults
+use Rattle.vcm_job.specs.declared.fault.InputRefusal.{InputRefusal}
+use Rattle.vcm_job.specs.declared.fault.InputRefusal.TheVariants.{Text, Image}
+use Rattle.vcm_job.specs.Inputs.{is_image, IsInputRefusal}
+use Rattle.vcm_job.proofs.UnreadLemmas.{known, none_written_of}
 use Rattle.vcm_page.specs.Inputs.{IsImageOf, CodeAs}
 use Rattle.vcm_page.specs.Pages.{page_text, story_of}
 use Rattle.vcm_page.specs.Inputs.{Texts, shown_text, IsPage, IsPageFront, IsHaltedInput, IsNoPage}
 use Rattle.vcm_page.specs.inner.Written.{IsImagePaged, IsImageCut, IsImageNotPaged, IsInputNotPaged}
 
-pub page_unread : (texts : Texts) (part : Workpiece) (n : ℕ) (a b : Option (List ℕ)) (f : ReadFault) (old : Option (List ℕ)) → IsReadFault a b f
-    → IsNoPage texts part n a b (input_not_read f) old old
-page_unread texts part n a b read_faults.NoMemory old h = Keeps-refl old
-page_unread texts part n a b read_faults.Device old h = (h, Keeps-refl old)
-page_unread texts part n a b read_faults.TooLong old h = (h, Keeps-refl old)
-
-module _ (texts : Texts) (part : Workpiece) (n : ℕ) (a b : Option (List ℕ)) (bytes : List ℕ) (all : IfSome a (λ input. bytes ≡ input)) (old new : Option (List ℕ)) where
-  no_page : (f : RunFault) → IsInputNotPaged texts part bytes n f old new → IsNoPage texts part n a b f old new
-  no_page (faults.Refused r) (h, k) = (known a _ _ all (λ input is. subst (λ i. IsRefusedInput i (faults.Refused r)) is h), k)
-  no_page (faults.Image e) (h, k) = (known a _ _ all (λ input is. subst (λ i. IsRefusedInput i (faults.Image e)) is h), k)
-  no_page (faults.Memory d) (h, k) = (known a _ _ all (λ input is. subst (λ i. IsHaltedInput part i n d) is h), k)
-  no_page (faults.Write d) h = known a _ _ all (λ input is. subst (λ i. IsPageFront texts part i n old new) is h)
-  no_page faults.NoMemory (h, k) = k
-  no_page faults.Read (h, k) = absurd h
-  no_page faults.TooLong (h, k) = absurd h
-
-  pub no_page_of : {A : Type 0} (r : Result A RunFault) → IfErr r (λ f. IsInputNotPaged texts part bytes n f old new) → IfErr r (λ f. IsNoPage texts part n a b f old new)
-  no_page_of (Ok x) h = tt
-  no_page_of (Err f) h = no_page f h
-
-  pub page_read : (r : Result Done RunFault) → IfOk r (λ d. IsPage texts part bytes n d.status d.notices.items old new)
-      → IfOk r (λ d. IfSome a (λ input. IsPage texts part input n d.status d.notices.items old new))
-  page_read (Ok d) h = known a _ _ all (λ input is. subst (λ i. IsPage texts part i n d.status d.notices.items old new) is h)
-  page_read (Err f) h = tt
+pub no_page_of : {A : Type 0} (texts : Texts) (part : Workpiece) (n : ℕ) (a b : Option (List ℕ)) (bytes : List ℕ) (r : Result A (Fault InputRefusal)) (old new : Option (List ℕ))
+    → IfSome a (λ input. bytes ≡ input) → IfErr r (λ f. IsInputNotPaged texts part bytes n f old new) → IfErr r (λ f. IsNoPage texts part n a b f old new)
+no_page_of texts part n a b bytes r old new all h =
+    none_written_of IsInputRefusal a b bytes all _ _ _ (λ done. IsPageFront texts part bytes n) old new
+    (λ done p. (known a _ _ all (λ input is. subst (λ i. IsHaltedInput part i n done) is p.0), p.1))
+    (λ done p. known a _ _ all (λ input is. subst (λ i. IsPageFront texts part i n old new) is p)) r h
 
 -- ---- of an image, and of a program
 
@@ -78,12 +56,12 @@ module _ (texts : Texts) (part : Workpiece) (input : List ℕ) (n : ℕ) (old ne
     pub image_halted : (done : ℕ) → IsImageCut texts part input listing true [] n (faults.Memory done) old new → IsHaltedInput part input n done × Keeps old new
     image_halted done h = (record { code = h.code; notices = []; is_code = of_image h.code h.is_code; halted = h.cut.0 }, h.cut.1)
 
-    pub image_not_paged : (f : RunFault) → IsImageNotPaged texts part input listing true [] n f old new → IsInputNotPaged texts part input n f old new
-    image_not_paged (faults.Image e) h = ((image_is, h.0), h.1)
+    pub image_not_paged : (f : Fault InputRefusal) → IsImageNotPaged texts part input listing true [] n f old new → IsInputNotPaged texts part input n f old new
     image_not_paged (faults.Write done) h = image_cut done h
     image_not_paged (faults.Memory done) h = image_halted done h
     image_not_paged faults.NoMemory h = (tt, h.cut)
-    image_not_paged (faults.Refused r) h = absurd h.cut
+    image_not_paged (faults.Refused (Image e)) h = ((image_is, h.0), h.1)
+    image_not_paged (faults.Refused (Text r)) h = absurd h.cut
     image_not_paged faults.Read h = absurd h.cut
     image_not_paged faults.TooLong h = absurd h.cut
 

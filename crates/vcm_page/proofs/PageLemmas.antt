@@ -15,8 +15,9 @@ use Rattle.vcm_machine.specs.declared.ran.Ran.{Ran}
 use Rattle.vcm_machine.specs.Running.{Running, started, later, RunEnded, HasRun}
 use Rattle.vcm_steps.specs.Passages.{steps_taken}
 use Rattle.vcm_job.specs.Jobs.{status_of}
-use Rattle.vcm_job.specs.declared.inputs.RunFault.{RunFault}
-use Rattle.vcm_job.specs.declared.inputs.RunFault.TheVariants as faults
+use Rattle.vcm_job.specs.declared.fault.Fault.{Fault}
+use Rattle.vcm_job.specs.declared.fault.InputRefusal.{InputRefusal}
+use Rattle.vcm_job.specs.declared.fault.Fault.TheVariants as faults
 use Rattle.vcm_page.specs.Inputs.{IsHaltedAfter}
 use Rattle.vcm_story.specs.Stories.{TookFront, IsStory, story_text}
 use Rattle.vcm_page.specs.Pages.{not_shown, page_text, story_of}
@@ -79,12 +80,11 @@ module _ (w : Workpiece) (c : Code) (n : ℕ) (old new : Running) (ran : Ran) (i
       subst (λ m. RunEnded n (started w c) m ran.done ends.NoMemory) there (subst (λ x. RunEnded n (started w c) new ran.done x) e ended)
 
 -- why they were not counted is why the page was not written
-pub not_counted : (w part : Workpiece) → w ≡ part → (c : Code) (text : List ℕ) (n : ℕ) (f : RunFault) (old : Option (List ℕ)) → IsNotCounted w c n f → IsNotWritten part c text n f old old
+pub not_counted : (w part : Workpiece) → w ≡ part → (c : Code) (text : List ℕ) (n : ℕ) (f : Fault InputRefusal) (old : Option (List ℕ)) → IsNotCounted w c n f → IsNotWritten part c text n f old old
 not_counted w part same c text n (faults.Memory done) old h = (subst (λ p. IsHaltedAfter p c n done) same h, Keeps-refl old)
 not_counted w part same c text n faults.NoMemory old h = Keeps-refl old
 not_counted w part same c text n (faults.Write done) old h = absurd h
 not_counted w part same c text n (faults.Refused r) old h = absurd h
-not_counted w part same c text n (faults.Image e) old h = absurd h
 not_counted w part same c text n faults.Read old h = absurd h
 not_counted w part same c text n faults.TooLong old h = absurd h
 

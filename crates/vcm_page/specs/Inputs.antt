@@ -1,5 +1,5 @@
 -- The page of an input.
-use Rattle.std.specs.Prelude.{◌≡◌, ℕ, ◌<◌, Bool, true, false, List, [], length, flat_map, Option, IfSome}
+use Rattle.std.specs.Prelude.{◌≡◌, ℕ, Bool, true, false, List, [], flat_map, Option, IfSome}
 use Rattle.std.specs.Borrow.{Bor}
 use Rattle.std.specs.Io.KnownBytes.{Appends, Keeps}
 use Rattle.vcm_num.specs.Written.{AppendsFront}
@@ -13,11 +13,11 @@ use Rattle.vcm_machine.specs.Running.{started, later, RunEnded}
 use Rattle.vcm_run.specs.Programs.{IsBuilt}
 use Rattle.vcm_words.specs.Rows.{listing}
 use Rattle.vcm_steps.specs.Passages.{state_after}
-use Rattle.vcm_job.specs.Reading.{most_bytes, ReadsAtMost}
-use Rattle.vcm_job.specs.Inputs.{is_image, IsRefusedInput}
+use Rattle.vcm_job.specs.Unanswered.{IsUnwritten}
+use Rattle.vcm_job.specs.Inputs.{is_image, IsInputRefusal}
 use Rattle.vcm_job.specs.Jobs.{status_of}
-use Rattle.vcm_job.specs.declared.inputs.RunFault.{RunFault}
-use Rattle.vcm_job.specs.declared.inputs.RunFault.TheVariants.{Memory, NoMemory, Read, Write, TooLong}
+use Rattle.vcm_job.specs.declared.fault.Fault.{Fault}
+use Rattle.vcm_job.specs.declared.fault.InputRefusal.{InputRefusal}
 use Rattle.vcm_page.specs.Pages.{page_text, story_of}
 
 -- the bytes are the image of a valid code
@@ -81,10 +81,7 @@ pub record IsHaltedInput (part : Workpiece) (input : List ℕ) (n done : ℕ) : 
 
 -- why no whole page was written, before and after reading the input: a write failed, and a front of it was written; or memory, the reader, the length of
 -- the input or a refusal, and nothing was written
-abbrev pub IsNoPage : Texts → Workpiece → ℕ → Option (List ℕ) → Option (List ℕ) → RunFault → Option (List ℕ) → Option (List ℕ) → Type 0
-IsNoPage texts part n before after (Write done) old new = IfSome before (λ input. IsPageFront texts part input n old new)
-IsNoPage texts part n before after (Memory done) old new = IfSome before (λ input. IsHaltedInput part input n done) × Keeps old new
-IsNoPage texts part n before after Read old new = ReadsAtMost most_bytes before after × Keeps old new
-IsNoPage texts part n before after NoMemory old new = Keeps old new
-IsNoPage texts part n before after TooLong old new = IfSome before (λ input. most_bytes < length input) × Keeps old new
-IsNoPage texts part n before after f old new = IfSome before (λ input. IsRefusedInput input f) × Keeps old new
+abbrev pub IsNoPage : Texts → Workpiece → ℕ → Option (List ℕ) → Option (List ℕ) → Fault InputRefusal → Option (List ℕ) → Option (List ℕ) → Type 0
+IsNoPage texts part n before after f old new =
+    IsUnwritten IsInputRefusal (λ done old new. IfSome before (λ input. IsHaltedInput part input n done) × Keeps old new)
+    (λ done old new. IfSome before (λ input. IsPageFront texts part input n old new)) before after f old new

@@ -1,8 +1,8 @@
 //! The page of an input, from its bytes.
 
 ghost use Rattle.std.specs.Prelude.{true, [], IfOk, IfErr, IfSome};
-ghost use Rattle.vcm_job.specs.Reading.{ReadsLittle, AnswersUnread};
-ghost use Rattle.vcm_job.specs.Unread.{input_not_read};
+ghost use Rattle.vcm_job.specs.Reading.{ReadsLittle};
+ghost use Rattle.vcm_job.specs.Unread.{AnswersUnread};
 ghost use Rattle.vcm_words.specs.Rows.{listing};
 ghost use Rattle.vcm_page.specs.Inputs.{texts_of, IsPage, IsNoPage};
 ghost use Rattle.vcm_page.specs.inner.Written.{page_with, IsWritten, IsNotWritten, IsImagePaged, IsImageNotPaged, IsInputNotPaged};
@@ -10,7 +10,7 @@ ghost use Rattle.vcm_page.specs.inner.Written.{page_with, IsWritten, IsNotWritte
 use crate::pages::{Texts, write_page};
 use std::alloc::Global;
 use std::io::{Read, Write};
-use vcm_job::{Done, RunFault, is_image, read_all};
+use vcm_job::{Done, InputRefusal, RunFault, is_image, read_all};
 use vcm_loader::{Loaded, load};
 use vcm_num::NoMemory;
 use vcm_part::PartData;
@@ -34,7 +34,7 @@ fn page_of_built<W: Write>(
 {
     match load(alloc, image) {
         Ok(loaded) => write_page(alloc, &loaded, part, texts, shown, steps, writer),
-        Err(fault) => Err(RunFault::Image(fault)),
+        Err(fault) => Err(RunFault::Refused(InputRefusal::Image(fault))),
     }
 }
 
@@ -76,7 +76,7 @@ fn page_of_image<W: Write>(
 {
     match load(alloc, image) {
         Ok(loaded) => page_of_loaded(alloc, part, texts, &loaded, steps, writer),
-        Err(fault) => Err(RunFault::Image(fault)),
+        Err(fault) => Err(RunFault::Refused(InputRefusal::Image(fault))),
     }
 }
 
@@ -103,7 +103,7 @@ fn page_of_input<W: Write>(
     }
     let Built { image, notices } = match build_image(alloc, input) {
         Ok(built) => built,
-        Err(refusal) => return Err(RunFault::Refused(refusal)),
+        Err(refusal) => return Err(RunFault::Refused(InputRefusal::Text(refusal))),
     };
     let shown = ShownText {
         text: input,
@@ -134,7 +134,7 @@ pub fn page_of<R: Read, W: Write>(
 ) -> Result<Done, RunFault>
     ensures page { IfOk result (λ d. IfSome (R.remaining reader.old) (λ input. IsPage (texts_of texts.entry.front.now texts.entry.back.now) part.now input steps d.status d.notices.items (W.contents writer.old) (W.contents writer.new))) }
     ensures fault { IfErr result (λ f. IsNoPage (texts_of texts.entry.front.now texts.entry.back.now) part.now steps (R.remaining reader.old) (R.remaining reader.new) f (W.contents writer.old) (W.contents writer.new)) }
-    ensures long { AnswersUnread input_not_read (R.remaining reader.old) result }
+    ensures long { AnswersUnread (R.remaining reader.old) result }
     ensures little { ReadsLittle (R.remaining reader.old) (R.remaining reader.new) }
 {
     let input = read_all(alloc, reader)?;

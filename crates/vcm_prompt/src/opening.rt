@@ -5,7 +5,7 @@ use crate::talking::{Prompts, talk};
 use std::alloc::Global;
 use std::io::{Read, Write};
 use vcm_debug::Session;
-use vcm_job::{DebugFault, is_image};
+use vcm_job::{DebugFault, SessionFault, is_image};
 use vcm_loader::load;
 use vcm_motion::AnyPart;
 use vcm_part::PartData;
@@ -24,7 +24,7 @@ fn talk_of<R: Read, W: Write, E: Prompts>(
 ) -> Result<(), DebugFault> {
     let loaded = match load(alloc, image) {
         Ok(loaded) => loaded,
-        Err(fault) => return Err(DebugFault::Image(fault)),
+        Err(fault) => return Err(DebugFault::Refused(SessionFault::Image(fault))),
     };
     let Ok(workpiece) = AnyPart::of(alloc, part) else {
         return Err(DebugFault::NoMemory);
@@ -36,7 +36,7 @@ fn talk_of<R: Read, W: Write, E: Prompts>(
     drop(session);
     match talked {
         Ok(()) => Ok(()),
-        Err(fault) => Err(DebugFault::Serve(fault)),
+        Err(fault) => Err(DebugFault::Refused(SessionFault::Serve(fault))),
     }
 }
 
@@ -59,11 +59,13 @@ pub fn debug_by_hand<R: Read, W: Write, E: Prompts>(
     }
     let Built { image, notices } = match build_image(alloc, input) {
         Ok(built) => built,
-        Err(refusal) => return Err(DebugFault::Refused(refusal)),
+        Err(refusal) => return Err(DebugFault::Refused(SessionFault::Text(refusal))),
     };
     match talk_of(alloc, part, &image, Some(input), reader, replies, prompts) {
         Ok(()) => Ok(notices),
-        Err(DebugFault::Serve(fault)) => Err(DebugFault::Serve(fault)),
+        Err(DebugFault::Refused(SessionFault::Serve(fault))) => Err(DebugFault::Refused(
+            SessionFault::Serve(fault),
+        )),
         Err(_) => Err(DebugFault::NoMemory),
     }
 }

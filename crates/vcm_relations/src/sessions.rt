@@ -2,8 +2,8 @@
 
 ghost use Rattle.std.specs.Prelude.{◌<◌, ◌^◌, IfOk, IfErr, IfSome};
 ghost use Rattle.vcm_debug.specs.Serving.{Served};
-ghost use Rattle.vcm_job.specs.Reading.{ReadsLittle, AnswersUnread};
-ghost use Rattle.vcm_job.specs.Unread.{debug_not_read};
+ghost use Rattle.vcm_job.specs.Reading.{ReadsLittle};
+ghost use Rattle.vcm_job.specs.Unread.{AnswersUnread};
 ghost use Rattle.vcm_job.specs.Debugged.{IsDebugged, IsNotDebugged};
 
 use std::alloc::Global;
@@ -39,7 +39,7 @@ pub fn called_debug<I: Read, R: Read, W: Write>(
 ) -> Result<Vec<Noticed>, DebugFault>
     ensures done { IfOk result (λ v. IfSome (I.remaining reader.old) (λ input. IfSome (R.remaining commands.old) (λ lines. IsDebugged part.now input lines (R.remaining commands.new) v.items (W.contents writer.old) (W.contents writer.new)))) }
     ensures fault { IfErr result (λ f. IsNotDebugged part.now (I.remaining reader.old) (I.remaining reader.new) (R.remaining commands.old) (R.remaining commands.new) f (W.contents writer.old) (W.contents writer.new)) }
-    ensures long { AnswersUnread debug_not_read (I.remaining reader.old) result }
+    ensures long { AnswersUnread (I.remaining reader.old) result }
     ensures little { ReadsLittle (I.remaining reader.old) (I.remaining reader.new) }
 {
     debug(alloc, part, reader, commands, writer)

@@ -6,7 +6,7 @@ use Rattle.std.proofs.Common.{◌≡◌, suc, [], ◌∷◌, slice_get, Some, re
 use Rattle.vcm_spec.specs.declared.workpiece.Block3.{Block3}
 use Rattle.vcm_spec.specs.Workpiece.{Workpiece, IsValid, is_block}
 use Rattle.vcm_code.specs.declared.code.Code.{Code}
-use Rattle.vcm_job.specs.declared.inputs.RunFault.TheVariants as faults
+use Rattle.vcm_job.specs.declared.fault.Fault.TheVariants as faults
 use Rattle.vcm_steps.specs.Passages.{state_after}
 use Rattle.vcm_boxes.specs.declared.boxes.ProbeBox.{ProbeBox}
 use Rattle.vcm_boxes.specs.Boxes.{AreBoxes}

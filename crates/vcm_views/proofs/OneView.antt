@@ -1,6 +1,6 @@
 -- Two views of one input are one.
-use Rattle.std.proofs.Common.{◌≡◌, ◌≢◌, ℕ, ◌<◌, Bool, true, false, List, length, Option, Some, None, Result, Ok, Err, refl, sym, ap, ◌∙◌, subst, arith}
-use Rattle.std.specs.Io.KnownBytes.{Keeps}
+use Rattle.std.proofs.Common.{◌≡◌, ◌≢◌, ℕ, Bool, true, false, List, Option, Some, None, refl, sym, ap, ◌∙◌, subst, arith}
+use Rattle.std.specs.Io.KnownBytes.{Appends}
 use Rattle.std.specs.Prelude.{nat_eq}
 use Rattle.std.proofs.lemmas.Bool.{eqb-true}
 use Rattle.vcm_spec.specs.declared.stop.Stop.{Stop}
@@ -25,23 +25,18 @@ use Rattle.vcm_margin.proofs.OneMargin.{one_margin}
 use Rattle.vcm_way.specs.Following.{way_after}
 use Rattle.vcm_run.proofs.OneRun.{one_build}
 use Rattle.vcm_job.specs.declared.running.Done.{Done}
-use Rattle.vcm_job.specs.declared.inputs.RunFault.{RunFault}
-use Rattle.vcm_job.specs.declared.inputs.RunFault.TheVariants as runs
-use Rattle.vcm_job.specs.Reading.{most_bytes, AnswersUnread}
-use Rattle.vcm_job.specs.Unread.{input_not_read}
 use Rattle.vcm_job.specs.Jobs.{status_of}
-use Rattle.vcm_job.specs.Inputs.{is_image}
-use Rattle.vcm_job.specs.Causes.{Cause, too_long, run_cause}
-use Rattle.vcm_job.specs.Answers.{status_and_notices, run_told}
-use Rattle.vcm_job.proofs.Answering.{Refuses, Tells as AnswerTells, one_answer, telling, not_long, long_told, told_long, told_other}
-use Rattle.vcm_job.specs.Laws.{WroteTheSame}
+use Rattle.vcm_job.specs.Inputs.{is_image, IsInputRefusal}
+use Rattle.vcm_job.specs.Causes.{Cause, input_cause}
+use Rattle.vcm_job.specs.Answers.{status_and_notices}
+use Rattle.vcm_job.proofs.Answering.{written_once}
 use Rattle.vcm_job.proofs.Told.{never_text, never_bad_image, RefusedAs, InputRefused, one_input}
-use Rattle.vcm_job.proofs.RunAnswers.{run_unread, input_told}
+use Rattle.vcm_job.proofs.RunAnswers.{input_told}
 use Rattle.vcm_views.specs.declared.view.View.{View}
 use Rattle.vcm_views.specs.declared.view.View.TheVariants as views
 use Rattle.vcm_views.specs.Views.{Tells, TellsMargin, HasRunTo, picture_of}
-use Rattle.vcm_views.specs.Inputs.{IsImageOf, CodeAs, IsCodeOf, IsShown, IsNoView}
-use Rattle.vcm_views.specs.Laws.{IsFair, IsViewAnswer, ViewsAreOne}
+use Rattle.vcm_views.specs.Inputs.{IsImageOf, CodeAs, IsCodeOf, IsShown}
+use Rattle.vcm_views.specs.Laws.{IsFair, ViewsAreOne}
 use Rattle.vcm_views.proofs.ClearanceViews.{same_clearance}
 
 abbrev held : Tables → World → Held
@@ -135,25 +130,7 @@ pub record ViewGives (view : View) (part : Workpiece) (n : ℕ) (input : List �
   pub is_code : IsCodeOf input code b.1
   pub tells : Tells view part code n bytes b.0
 
--- why no whole view was written is told of the input, and nothing was written
-view_refused : (view : View) (part : Workpiece) (n : ℕ) (input : List ℕ) (f : RunFault) (rest old new : Option (List ℕ)) → IsNoView view part n (Some input) rest f old new
-    → AnswersUnread {A = Done} input_not_read (Some input) (Err f) → (c : Cause) → run_cause f ≡ Some c → Refuses (InputRefused input) (most_bytes < length input) c × Keeps old new
-view_refused view part n input f rest old new h l c e = by f h e (long_told input_not_read run_cause run_unread input f c l e)
-  where
-    by : (f : RunFault) → IsNoView view part n (Some input) rest f old new → run_cause f ≡ Some c → (most_bytes < length input → c ≡ too_long)
-        → Refuses (InputRefused input) (most_bytes < length input) c × Keeps old new
-    by (runs.Refused r) h e only = (told_other (InputRefused input) (most_bytes < length input) c (input_told input (runs.Refused r) c h.0 e) only, h.1)
-    by (runs.Image f) h e only = (told_other (InputRefused input) (most_bytes < length input) c (input_told input (runs.Image f) c h.0 e) only, h.1)
-    by (runs.Memory done) h e only = absurd cc
-    by runs.NoMemory h e only = absurd cc
-    by runs.Read h e only = absurd cc
-    by (runs.Write done) h e only = absurd cc
-    by runs.TooLong h e only = (told_long (InputRefused input) (most_bytes < length input) c h.0 only, h.1)
-
 module _ (view : View) (part : Workpiece) (fair : IsFair view part) (n : ℕ) (input : List ℕ) where
-  abbrev ViewTells : Result (ℕ × List Noticed) Cause → Option (List ℕ) → Option (List ℕ) → Type 0
-  ViewTells x old new = AnswerTells (ViewGives view part n input) (InputRefused input) (most_bytes < length input) x old new
-
   one_given : (a b : ℕ × List Noticed) (xs ys : List ℕ) → ViewGives view part n input a xs → ViewGives view part n input b ys → (a ≡ b) × (xs ≡ ys)
   one_given a b xs ys h k =
       let same = one_code_as (is_image input) input h.code k.code a.1 b.1 h.is_code k.is_code in
@@ -164,22 +141,11 @@ module _ (view : View) (part : Workpiece) (fair : IsFair view part) (n : ℕ) (i
   never_given : (b : ℕ × List Noticed) (xs : List ℕ) (c : Cause) → ViewGives view part n input b xs → InputRefused input c → ⊥
   never_given b xs c h k = never_code_as (is_image input) input h.code b.1 c h.is_code k
 
-  view_gives : (d : Done) (old new : Option (List ℕ)) → IsShown view part input n d.status d.notices.items old new → AnswersUnread {F = RunFault} input_not_read (Some input) (Ok d)
-      → ViewTells (Ok (status_and_notices d)) old new
-  view_gives d old new h l =
-      (not_long input_not_read input d l, (h.viewed.text, (record { code = h.code; is_code = h.is_code; tells = h.viewed.tells }, h.viewed.written)))
-
-  view_tells : (r : Result Done RunFault) (rest old new : Option (List ℕ)) (x : Result (ℕ × List Noticed) Cause) → IsViewAnswer view part n input r rest old new → run_told r ≡ Some x
-      → ViewTells x old new
-  view_tells (Ok d) rest old new x h e = telling status_and_notices run_cause (λ z. ViewTells z old new) (Ok d) x (view_gives d old new h.done h.long) tt e
-  view_tells (Err f) rest old new x h e = telling status_and_notices run_cause (λ z. ViewTells z old new) (Err f) x tt (view_refused view part n input f rest old new h.fault h.long) e
-
-  one_answer_told : (r s : Result Done RunFault) (rest left old new other now : Option (List ℕ)) (x y : Result (ℕ × List Noticed) Cause) → IsViewAnswer view part n input r rest old new
-      → IsViewAnswer view part n input s left other now → run_told r ≡ Some x → run_told s ≡ Some y → (x ≡ y) × WroteTheSame old new other now
-  one_answer_told r s rest left old new other now x y h k p q =
-      one_answer (ViewGives view part n input) (InputRefused input) (most_bytes < length input) one_given (one_input input) never_given x y
-      old new other now (view_tells r rest old new x h p) (view_tells s left other now y k q)
+  view_gives : (d : Done) (old new : Option (List ℕ)) → IsShown view part input n d.status d.notices.items old new
+      → (bytes : List ℕ) × (ViewGives view part n input (status_and_notices d) bytes × Appends old new bytes)
+  view_gives d old new h = (h.viewed.text, (record { code = h.code; is_code = h.is_code; tells = h.viewed.tells }, h.viewed.written))
 
 pub one_view : ViewsAreOne
-one_view view part n input r s rest left old new other now x y fair h k p q =
-    one_answer_told view part fair n input r s rest left old new other now x y h k p q
+one_view view part n input fair =
+    written_once status_and_notices input_cause IsInputRefusal input (ViewGives view part n input) (InputRefused input) (input_told input) (one_given view part fair n input)
+    (one_input input) (never_given view part fair n input) (λ d old new. IsShown view part input n d.status d.notices.items old new) _ _ (view_gives view part fair n input)

@@ -12,8 +12,9 @@ use Rattle.vcm_machine.specs.declared.ran.Ran.{Ran}
 use Rattle.vcm_machine.specs.Running.{started, RunEnded}
 use Rattle.vcm_state.specs.Held.{Held}
 use Rattle.vcm_job.specs.Jobs.{status_of}
-use Rattle.vcm_job.specs.declared.inputs.RunFault.{RunFault}
-use Rattle.vcm_job.specs.declared.inputs.RunFault.TheVariants as faults
+use Rattle.vcm_job.specs.declared.fault.Fault.{Fault}
+use Rattle.vcm_job.specs.declared.fault.InputRefusal.{InputRefusal}
+use Rattle.vcm_job.specs.declared.fault.Fault.TheVariants as faults
 use Rattle.vcm_marks.specs.declared.mark.Placed.{Placed}
 use Rattle.vcm_way.specs.Ways.{Kept}
 use Rattle.vcm_way.specs.Following.{HasFollowed}
@@ -51,7 +52,7 @@ module _ (w part : Workpiece) (same : w ≡ part) (c : Code) (n : ℕ) (held : H
       written = d.written;
     }
 
-    drawn_cut_short : (f : RunFault) (old after : Option (List ℕ)) → IsNotDrawn part held ran.done way is_close f old after
+    drawn_cut_short : (f : Fault InputRefusal) (old after : Option (List ℕ)) → IsNotDrawn part held ran.done way is_close f old after
         → IsCutShort (views.Picture is_close) part c n f old after
     drawn_cut_short faults.NoMemory old after k = k
     drawn_cut_short (faults.Write d) old after front = record {
@@ -69,16 +70,15 @@ module _ (w part : Workpiece) (same : w ≡ part) (c : Code) (n : ℕ) (held : H
     }
     drawn_cut_short (faults.Memory d) old after t = absurd t
     drawn_cut_short (faults.Refused r) old after t = absurd t
-    drawn_cut_short (faults.Image e) old after t = absurd t
     drawn_cut_short faults.Read old after t = absurd t
     drawn_cut_short faults.TooLong old after t = absurd t
 
-    pub picture_viewed : (r : Result ℕ RunFault) (old after : Option (List ℕ)) → IfOk r (λ status. IsDrawn part held ran.done way is_close status old after)
+    pub picture_viewed : (r : Result ℕ (Fault InputRefusal)) (old after : Option (List ℕ)) → IfOk r (λ status. IsDrawn part held ran.done way is_close status old after)
         → IfOk r (λ status. IsViewed (views.Picture is_close) part c n status old after)
     picture_viewed (Ok status) old after t = drawn_viewed status old after t
     picture_viewed (Err f) old after t = tt
 
-    pub picture_cut_short : (r : Result ℕ RunFault) (old after : Option (List ℕ)) → IfErr r (λ f. IsNotDrawn part held ran.done way is_close f old after)
+    pub picture_cut_short : (r : Result ℕ (Fault InputRefusal)) (old after : Option (List ℕ)) → IfErr r (λ f. IsNotDrawn part held ran.done way is_close f old after)
         → IfErr r (λ f. IsCutShort (views.Picture is_close) part c n f old after)
     picture_cut_short (Ok status) old after t = tt
     picture_cut_short (Err f) old after t = drawn_cut_short f old after t

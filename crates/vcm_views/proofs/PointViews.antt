@@ -5,7 +5,7 @@ use Rattle.vcm_spec.specs.declared.stop.StopPlace.{StopPlace}
 use Rattle.vcm_spec.specs.Workpiece.{Workpiece}
 use Rattle.vcm_code.specs.declared.code.Code.{Code}
 use Rattle.vcm_job.specs.Jobs.{status_of}
-use Rattle.vcm_job.specs.declared.inputs.RunFault.TheVariants as faults
+use Rattle.vcm_job.specs.declared.fault.Fault.TheVariants as faults
 use Rattle.vcm_steps.specs.Passages.{state_after}
 use Rattle.vcm_points.specs.Points.{points_text, ArePoints, AreHalted, AreCutOff}
 use Rattle.vcm_views.specs.declared.view.View.TheVariants as views

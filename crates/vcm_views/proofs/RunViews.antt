@@ -9,8 +9,9 @@ use Rattle.vcm_machine.specs.declared.ran.Ran.{Ran}
 use Rattle.vcm_machine.specs.Running.{Running, started, RunEnded, HasRun}
 use Rattle.vcm_state.specs.Held.{Held}
 use Rattle.vcm_job.specs.Jobs.{status_of}
-use Rattle.vcm_job.specs.declared.inputs.RunFault.{RunFault}
-use Rattle.vcm_job.specs.declared.inputs.RunFault.TheVariants as faults
+use Rattle.vcm_job.specs.declared.fault.Fault.{Fault}
+use Rattle.vcm_job.specs.declared.fault.InputRefusal.{InputRefusal}
+use Rattle.vcm_job.specs.declared.fault.Fault.TheVariants as faults
 use Rattle.vcm_views.specs.declared.view.View.TheVariants as views
 use Rattle.vcm_views.specs.Views.{HasRunTo, IsViewed, IsCutShort}
 use Rattle.vcm_views.specs.inner.Told.{IsTold, IsNotTold}
@@ -31,7 +32,7 @@ module _ (w part : Workpiece) (same : w ≡ part) (c : Code) (n : ℕ) (first ne
       written = t.written;
     }
 
-    told_cut_short : (f : RunFault) (old after : Option (List ℕ)) → IsNotTold part c held ran.done f old after → IsCutShort views.Margin part c n f old after
+    told_cut_short : (f : Fault InputRefusal) (old after : Option (List ℕ)) → IsNotTold part c held ran.done f old after → IsCutShort views.Margin part c n f old after
     told_cut_short faults.NoMemory old after k = k
     told_cut_short (faults.Write d) old after t = record {
       text = t.text;
@@ -41,16 +42,15 @@ module _ (w part : Workpiece) (same : w ≡ part) (c : Code) (n : ℕ) (first ne
     }
     told_cut_short (faults.Memory d) old after t = absurd t
     told_cut_short (faults.Refused r) old after t = absurd t
-    told_cut_short (faults.Image e) old after t = absurd t
     told_cut_short faults.Read old after t = absurd t
     told_cut_short faults.TooLong old after t = absurd t
 
-    pub viewed_of : (r : Result ℕ RunFault) (old after : Option (List ℕ)) → IfOk r (λ status. IsTold part c held ran.done status old after)
+    pub viewed_of : (r : Result ℕ (Fault InputRefusal)) (old after : Option (List ℕ)) → IfOk r (λ status. IsTold part c held ran.done status old after)
         → IfOk r (λ status. IsViewed views.Margin part c n status old after)
     viewed_of (Ok status) old after t = told_viewed status old after t
     viewed_of (Err f) old after t = tt
 
-    pub cut_short_of : (r : Result ℕ RunFault) (old after : Option (List ℕ)) → IfErr r (λ f. IsNotTold part c held ran.done f old after)
+    pub cut_short_of : (r : Result ℕ (Fault InputRefusal)) (old after : Option (List ℕ)) → IfErr r (λ f. IsNotTold part c held ran.done f old after)
         → IfErr r (λ f. IsCutShort views.Margin part c n f old after)
     cut_short_of (Ok status) old after t = tt
     cut_short_of (Err f) old after t = told_cut_short f old after t

@@ -1,16 +1,16 @@
 -- What the view of an input is: of an image that of its code, of any other input that of the program's.
-use Rattle.std.specs.Prelude.{◌≡◌, ℕ, ◌<◌, Bool, true, false, List, [], length, Option, IfSome}
-use Rattle.std.specs.Io.KnownBytes.{Keeps}
+use Rattle.std.specs.Prelude.{◌≡◌, ℕ, Bool, true, false, List, [], Option, IfSome}
 use Rattle.vcm_spec.specs.Workpiece.{Workpiece}
 use Rattle.vcm_program.specs.declared.accepted.Noticed.{Noticed}
 use Rattle.vcm_code.specs.declared.code.Code.{Code}
 use Rattle.vcm_code.specs.Valid.{IsValid}
 use Rattle.vcm_image.specs.Whole.{FitsImage, spelling}
 use Rattle.vcm_run.specs.Programs.{IsBuilt}
-use Rattle.vcm_job.specs.Reading.{most_bytes, ReadsAtMost}
-use Rattle.vcm_job.specs.Inputs.{is_image, IsRefusedInput}
-use Rattle.vcm_job.specs.declared.inputs.RunFault.{RunFault}
-use Rattle.vcm_job.specs.declared.inputs.RunFault.TheVariants.{Memory, NoMemory, Read, Write, TooLong}
+use Rattle.vcm_job.specs.Unanswered.{IsUnwritten}
+use Rattle.vcm_job.specs.Inputs.{is_image, IsInputRefusal}
+use Rattle.vcm_job.specs.declared.fault.Fault.{Fault}
+use Rattle.vcm_job.specs.declared.fault.InputRefusal.{InputRefusal}
+use Rattle.vcm_job.specs.declared.fault.Fault.TheVariants.{Memory, Write}
 use Rattle.vcm_views.specs.declared.view.View.{View}
 use Rattle.vcm_views.specs.Views.{IsViewed, IsCutShort}
 
@@ -36,7 +36,7 @@ pub record IsShown (view : View) (part : Workpiece) (input : List ℕ) (n status
   pub viewed : IsViewed view part code n status old new
 
 -- no whole view was written, for a fault in the run of the input
-pub record IsNotShown (view : View) (part : Workpiece) (input : List ℕ) (n : ℕ) (f : RunFault) (old new : Option (List ℕ)) : Type 0 where
+pub record IsNotShown (view : View) (part : Workpiece) (input : List ℕ) (n : ℕ) (f : Fault InputRefusal) (old new : Option (List ℕ)) : Type 0 where
   pub code : Code
   pub notices : List Noticed
   pub is_code : IsCodeOf input code notices
@@ -44,10 +44,7 @@ pub record IsNotShown (view : View) (part : Workpiece) (input : List ℕ) (n : �
 
 -- why no whole view of an input was written, before and after reading it: a fault in its run; or memory, the reader, its length or a refusal, and
 -- nothing was written
-abbrev pub IsNoView : View → Workpiece → ℕ → Option (List ℕ) → Option (List ℕ) → RunFault → Option (List ℕ) → Option (List ℕ) → Type 0
-IsNoView view part n before after (Write done) old new = IfSome before (λ input. IsNotShown view part input n (Write done) old new)
-IsNoView view part n before after (Memory done) old new = IfSome before (λ input. IsNotShown view part input n (Memory done) old new)
-IsNoView view part n before after Read old new = ReadsAtMost most_bytes before after × Keeps old new
-IsNoView view part n before after NoMemory old new = Keeps old new
-IsNoView view part n before after TooLong old new = IfSome before (λ input. most_bytes < length input) × Keeps old new
-IsNoView view part n before after f old new = IfSome before (λ input. IsRefusedInput input f) × Keeps old new
+abbrev pub IsNoView : View → Workpiece → ℕ → Option (List ℕ) → Option (List ℕ) → Fault InputRefusal → Option (List ℕ) → Option (List ℕ) → Type 0
+IsNoView view part n before after f old new =
+    IsUnwritten IsInputRefusal (λ done old new. IfSome before (λ input. IsNotShown view part input n (Memory done) old new))
+    (λ done old new. IfSome before (λ input. IsNotShown view part input n (Write done) old new)) before after f old new

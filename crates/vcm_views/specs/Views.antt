@@ -12,8 +12,9 @@ use Rattle.vcm_machine.specs.Running.{Running, started, later, RunEnded, HasRun}
 use Rattle.vcm_state.specs.Held.{Held}
 use Rattle.vcm_run.specs.Printed.{result_text}
 use Rattle.vcm_job.specs.Jobs.{status_of}
-use Rattle.vcm_job.specs.declared.inputs.RunFault.{RunFault}
-use Rattle.vcm_job.specs.declared.inputs.RunFault.TheVariants as faults
+use Rattle.vcm_job.specs.declared.fault.Fault.{Fault}
+use Rattle.vcm_job.specs.declared.fault.InputRefusal.{InputRefusal}
+use Rattle.vcm_job.specs.declared.fault.Fault.TheVariants as faults
 use Rattle.vcm_steps.specs.Passages.{state_after}
 use Rattle.vcm_trace.specs.Traces.{trace_front, trace_text}
 use Rattle.vcm_margin.specs.declared.difference.Margin.{Margin}
@@ -122,7 +123,7 @@ pub record IsCutOff (view : View) (part : Workpiece) (c : Code) (n : ℕ) (old n
 
 -- why no whole view was written: memory was refused in the run, after so many steps; or before it or for the view itself, and nothing was written; or a
 -- write failed
-abbrev pub IsCutShort : View → Workpiece → Code → ℕ → RunFault → Option (List ℕ) → Option (List ℕ) → Type 0
+abbrev pub IsCutShort : View → Workpiece → Code → ℕ → Fault InputRefusal → Option (List ℕ) → Option (List ℕ) → Type 0
 IsCutShort view part c n (faults.Memory done) old new = IsHaltedAfter part c n done × WrittenSoFar view part c done old new
 IsCutShort view part c n faults.NoMemory old new = Keeps old new
 IsCutShort view part c n (faults.Write done) old new = IsCutOff view part c n old new

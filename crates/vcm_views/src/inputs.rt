@@ -1,8 +1,8 @@
 //! The views of an input, from its bytes.
 
 ghost use Rattle.std.specs.Prelude.{IfOk, IfErr, IfSome};
-ghost use Rattle.vcm_job.specs.Reading.{ReadsLittle, AnswersUnread};
-ghost use Rattle.vcm_job.specs.Unread.{input_not_read};
+ghost use Rattle.vcm_job.specs.Reading.{ReadsLittle};
+ghost use Rattle.vcm_job.specs.Unread.{AnswersUnread};
 ghost use Rattle.vcm_views.specs.Inputs.{IsShown, IsNoView};
 ghost use Rattle.vcm_views.specs.inner.Images.{IsImageViewed, IsImageNotViewed, IsInputNotViewed};
 
@@ -10,7 +10,7 @@ use crate::showing::show;
 use crate::view::View;
 use std::alloc::Global;
 use std::io::{Read, Write};
-use vcm_job::{Done, RunFault, is_image, read_all};
+use vcm_job::{Done, InputRefusal, RunFault, is_image, read_all};
 use vcm_loader::load;
 use vcm_part::PartData;
 use vcm_run::{Built, build_image};
@@ -29,7 +29,7 @@ fn view_image<W: Write>(
 {
     match load(alloc, image) {
         Ok(loaded) => show(alloc, view, &loaded, part, steps, writer),
-        Err(fault) => Err(RunFault::Image(fault)),
+        Err(fault) => Err(RunFault::Refused(InputRefusal::Image(fault))),
     }
 }
 
@@ -52,7 +52,7 @@ fn view_input<W: Write>(
     }
     let Built { image, notices } = match build_image(alloc, input) {
         Ok(built) => built,
-        Err(refusal) => return Err(RunFault::Refused(refusal)),
+        Err(refusal) => return Err(RunFault::Refused(InputRefusal::Text(refusal))),
     };
     match view_image(alloc, view, part, &image, steps, writer) {
         Ok(status) => Ok(Done { status, notices }),
@@ -78,7 +78,7 @@ pub fn view_of<R: Read, W: Write>(
 ) -> Result<Done, RunFault>
     ensures done { IfOk result (λ d. IfSome (R.remaining reader.old) (λ input. IsShown view.entry part.now input steps d.status d.notices.items (W.contents writer.old) (W.contents writer.new))) }
     ensures fault { IfErr result (λ f. IsNoView view.entry part.now steps (R.remaining reader.old) (R.remaining reader.new) f (W.contents writer.old) (W.contents writer.new)) }
-    ensures long { AnswersUnread input_not_read (R.remaining reader.old) result }
+    ensures long { AnswersUnread (R.remaining reader.old) result }
     ensures little { ReadsLittle (R.remaining reader.old) (R.remaining reader.new) }
 {
     let input = read_all(alloc, reader)?;

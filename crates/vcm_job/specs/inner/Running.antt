@@ -7,18 +7,18 @@ use Rattle.vcm_spec.specs.Workpiece.{Workpiece}
 use Rattle.vcm_program.specs.declared.accepted.Noticed.{Noticed}
 use Rattle.vcm_program.specs.Program.{Parsed}
 use Rattle.vcm_machine.specs.declared.ran.End.TheVariants as ends
-use Rattle.vcm_run.specs.Programs.{IsSummary, IsRefusal}
+use Rattle.vcm_run.specs.declared.run.Refusal.{Refusal}
+use Rattle.vcm_run.specs.Programs.{IsSummary}
 use Rattle.vcm_run.specs.Summaries.{Shown}
 use Rattle.vcm_run.specs.Printed.{result_text}
-use Rattle.vcm_job.specs.declared.inputs.RunFault.{RunFault}
-use Rattle.vcm_job.specs.declared.inputs.RunFault.TheVariants as runs
-use Rattle.vcm_job.specs.declared.running.JobFault.{JobFault}
-use Rattle.vcm_job.specs.declared.running.JobFault.TheVariants as jobs
+use Rattle.vcm_job.specs.declared.fault.Fault.{Fault}
+use Rattle.vcm_job.specs.declared.fault.InputRefusal.{InputRefusal}
 use Rattle.vcm_job.specs.declared.running.Unwritten.{Unwritten}
 use Rattle.vcm_job.specs.declared.running.Unwritten.TheVariants as unwritten
-use Rattle.vcm_job.specs.Inputs.{IsRefusedInput, IsHaltedRun, IsRunCutOff}
+use Rattle.vcm_job.specs.Inputs.{IsInputRefusal, IsHaltedRun, IsRunCutOff}
 use Rattle.vcm_job.specs.Jobs.{part_text, program_text, job_count, job_text, last_state, status_of, IsJob}
-use Rattle.vcm_job.specs.Results.{IsJobRefusal, IsCutOff}
+use Rattle.vcm_job.specs.Results.{IsHalted, IsJobRefusal, IsCutOff}
+use Rattle.vcm_job.specs.inner.Judged.{IsCutAs}
 
 -- the result of a run was written and nothing else, and this is its status; the run wasn't refused memory
 pub record IsShown (s : Shown) (status : ℕ) (notices : List Noticed) (old new : Option (List ℕ)) : Type 0 where
@@ -44,22 +44,15 @@ IsNotShown s (unwritten.Memory done) old new = IsShort s done × Keeps old new
 IsNotShown s (unwritten.Write done) old new = IsShownInPart s done old new
 
 -- why the run of an input wrote no whole result: a failed write cut it off; or memory or a refusal, and nothing was written
-abbrev pub IsNotRun : Workpiece → List ℕ → ℕ → RunFault → Option (List ℕ) → Option (List ℕ) → Type 0
-IsNotRun part input n (runs.Write done) old new = IsRunCutOff part input n done old new
-IsNotRun part input n (runs.Memory done) old new = IsHaltedRun part input n done × Keeps old new
-IsNotRun part input n f old new = IsRefusedInput input f × Keeps old new
+abbrev pub IsNotRun : Workpiece → List ℕ → ℕ → Fault InputRefusal → Option (List ℕ) → Option (List ℕ) → Type 0
+IsNotRun part input n f old new =
+    IsCutAs (IsInputRefusal input) (λ done old new. IsHaltedRun part input n done × Keeps old new) (IsRunCutOff part input n) f old new
 
 -- the part text of an input gives a workpiece, and this is a run of its program text for n steps
 pub record IsTextsRun (input : List ℕ) (n : ℕ) (s : Shown) : Type 0 where
   pub part : Workpiece
   pub part_is : part_of (part_text input) ≡ Ok part
   pub run : IsSummary part (program_text input) n s
-
--- why a program isn't run: it is refused, or memory was refused
-abbrev pub IsProgramRefusal : List ℕ → JobFault → Type 0
-IsProgramRefusal program (jobs.Refused r) = IsRefusal program r
-IsProgramRefusal program jobs.NoMemory = Unit {0}
-IsProgramRefusal program _ = ⊥
 
 -- the summary shows the last state of the job's program, after its effective steps
 pub record IsJobRun (input : List ℕ) (s : Shown) : Type 0 where
@@ -72,6 +65,5 @@ pub record IsJobRun (input : List ℕ) (s : Shown) : Type 0 where
   pub stop : s.held.state.stop ≡ (last_state part parsed).world.stop
 
 -- why a job wrote no whole result: a failed write cut it off; or memory or a refusal, and nothing was written
-abbrev pub IsNoJob : List ℕ → JobFault → Option (List ℕ) → Option (List ℕ) → Type 0
-IsNoJob input (jobs.Write done) old new = IsCutOff input done old new
-IsNoJob input f old new = IsJobRefusal input f × Keeps old new
+abbrev pub IsNoJob : List ℕ → Fault Refusal → Option (List ℕ) → Option (List ℕ) → Type 0
+IsNoJob input f old new = IsCutAs (IsJobRefusal input) (λ done old new. IsHalted input done × Keeps old new) (IsCutOff input) f old new

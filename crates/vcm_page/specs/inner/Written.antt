@@ -6,10 +6,13 @@ use Rattle.vcm_spec.specs.Workpiece.{Workpiece}
 use Rattle.vcm_program.specs.declared.accepted.Noticed.{Noticed}
 use Rattle.vcm_code.specs.declared.code.Code.{Code}
 use Rattle.vcm_steps.specs.Passages.{state_after}
-use Rattle.vcm_job.specs.Inputs.{IsRefusedInput}
+use Rattle.vcm_job.specs.declared.fault.InputRefusal.TheVariants.{Image}
+use Rattle.vcm_job.specs.inner.Judged.{IsCutAs}
+use Rattle.vcm_job.specs.Inputs.{IsInputRefusal}
 use Rattle.vcm_job.specs.Jobs.{status_of}
-use Rattle.vcm_job.specs.declared.inputs.RunFault.{RunFault}
-use Rattle.vcm_job.specs.declared.inputs.RunFault.TheVariants as faults
+use Rattle.vcm_job.specs.declared.fault.Fault.{Fault}
+use Rattle.vcm_job.specs.declared.fault.InputRefusal.{InputRefusal}
+use Rattle.vcm_job.specs.declared.fault.Fault.TheVariants as faults
 use Rattle.vcm_page.specs.Inputs.{IsHaltedAfter}
 use Rattle.vcm_image.specs.Whole.{code_at}
 use Rattle.vcm_loader.specs.Loading.{LoadFault}
@@ -23,20 +26,19 @@ pub record IsWritten (part : Workpiece) (c : Code) (text : List ℕ) (n status :
   pub status_is : status ≡ status_of (state_after part c n).world.stop
 
 -- why it wasn't: a write failed; or memory was refused, and nothing was written
-abbrev pub IsNotWritten : Workpiece → Code → List ℕ → ℕ → RunFault → Option (List ℕ) → Option (List ℕ) → Type 0
+abbrev pub IsNotWritten : Workpiece → Code → List ℕ → ℕ → Fault InputRefusal → Option (List ℕ) → Option (List ℕ) → Type 0
 IsNotWritten part c text n (faults.Write done) old new = AppendsFront old new text
 IsNotWritten part c text n (faults.Memory done) old new = IsHaltedAfter part c n done × Keeps old new
 IsNotWritten part c text n faults.NoMemory old new = Keeps old new
 IsNotWritten part c text n _ old new = ⊥
 
 -- why the page of an input that was read was not written
-abbrev pub IsInputNotPaged : Texts → Workpiece → List ℕ → ℕ → RunFault → Option (List ℕ) → Option (List ℕ) → Type 0
-IsInputNotPaged texts part input n (faults.Write done) old new = IsPageFront texts part input n old new
-IsInputNotPaged texts part input n (faults.Memory done) old new = IsHaltedInput part input n done × Keeps old new
-IsInputNotPaged texts part input n f old new = IsRefusedInput input f × Keeps old new
+abbrev pub IsInputNotPaged : Texts → Workpiece → List ℕ → ℕ → Fault InputRefusal → Option (List ℕ) → Option (List ℕ) → Type 0
+IsInputNotPaged texts part input n f old new =
+    IsCutAs (IsInputRefusal input) (λ done old new. IsHaltedInput part input n done × Keeps old new) (λ done. IsPageFront texts part input n) f old new
 
 -- why the steps of a run were not counted: memory was refused, in it or before
-abbrev pub IsNotCounted : Workpiece → Code → ℕ → RunFault → Type 0
+abbrev pub IsNotCounted : Workpiece → Code → ℕ → Fault InputRefusal → Type 0
 IsNotCounted part c n (faults.Memory done) = IsHaltedAfter part c n done
 IsNotCounted part c n faults.NoMemory = Unit {0}
 IsNotCounted part c n _ = ⊥
@@ -54,12 +56,12 @@ pub record IsImagePaged (texts : Texts) (part : Workpiece) (image : List ℕ) (s
 
 -- it wasn't, for a fault in its run or of the writer
 pub record IsImageCut (texts : Texts) (part : Workpiece) (image : List ℕ) (shown : Code → List ℕ) (is_listing : Bool) (notices : List Noticed)
-    (n : ℕ) (f : RunFault) (old new : Option (List ℕ)) : Type 0 where
+    (n : ℕ) (f : Fault InputRefusal) (old new : Option (List ℕ)) : Type 0 where
   pub code : Code
   pub is_code : IsImageOf image code
   pub cut : IsNotWritten part code (page_with texts part code shown is_listing notices n) n f old new
 
 -- why the page of an image was not written: the image is refused, and nothing was written; or such a fault
-abbrev pub IsImageNotPaged : Texts → Workpiece → List ℕ → (Code → List ℕ) → Bool → List Noticed → ℕ → RunFault → Option (List ℕ) → Option (List ℕ) → Type 0
-IsImageNotPaged texts part image shown is_listing notices n (faults.Image e) old new = LoadFault (code_at image) e × Keeps old new
+abbrev pub IsImageNotPaged : Texts → Workpiece → List ℕ → (Code → List ℕ) → Bool → List Noticed → ℕ → Fault InputRefusal → Option (List ℕ) → Option (List ℕ) → Type 0
+IsImageNotPaged texts part image shown is_listing notices n (faults.Refused (Image e)) old new = LoadFault (code_at image) e × Keeps old new
 IsImageNotPaged texts part image shown is_listing notices n f old new = IsImageCut texts part image shown is_listing notices n f old new

@@ -5,8 +5,9 @@ use Rattle.vcm_num.specs.Written.{AppendsFront}
 use Rattle.vcm_spec.specs.Workpiece.{Workpiece}
 use Rattle.vcm_state.specs.Held.{Held}
 use Rattle.vcm_job.specs.Jobs.{status_of}
-use Rattle.vcm_job.specs.declared.inputs.RunFault.{RunFault}
-use Rattle.vcm_job.specs.declared.inputs.RunFault.TheVariants as faults
+use Rattle.vcm_job.specs.declared.fault.Fault.{Fault}
+use Rattle.vcm_job.specs.declared.fault.InputRefusal.{InputRefusal}
+use Rattle.vcm_job.specs.declared.fault.Fault.TheVariants as faults
 use Rattle.vcm_way.specs.Ways.{Kept}
 use Rattle.vcm_views.specs.Views.{picture_of}
 
@@ -16,7 +17,7 @@ pub record IsDrawn (part : Workpiece) (held : Held) (done : ℕ) (way : Kept) (i
   pub written : Appends old new (picture_of part held done way is_close)
 
 -- why it wasn't: memory was refused, and nothing was written; or a write failed, and a front of it was, and not all of it
-abbrev pub IsNotDrawn : Workpiece → Held → ℕ → Kept → Bool → RunFault → Option (List ℕ) → Option (List ℕ) → Type 0
+abbrev pub IsNotDrawn : Workpiece → Held → ℕ → Kept → Bool → Fault InputRefusal → Option (List ℕ) → Option (List ℕ) → Type 0
 IsNotDrawn part held done way is_close faults.NoMemory old new = Keeps old new
 IsNotDrawn part held done way is_close (faults.Write d) old new = AppendsFront old new (picture_of part held done way is_close)
 IsNotDrawn part held done way is_close _ old new = ⊥

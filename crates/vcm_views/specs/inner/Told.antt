@@ -6,8 +6,9 @@ use Rattle.vcm_spec.specs.Workpiece.{Workpiece}
 use Rattle.vcm_code.specs.declared.code.Code.{Code}
 use Rattle.vcm_state.specs.Held.{Held}
 use Rattle.vcm_job.specs.Jobs.{status_of}
-use Rattle.vcm_job.specs.declared.inputs.RunFault.{RunFault}
-use Rattle.vcm_job.specs.declared.inputs.RunFault.TheVariants as faults
+use Rattle.vcm_job.specs.declared.fault.Fault.{Fault}
+use Rattle.vcm_job.specs.declared.fault.InputRefusal.{InputRefusal}
+use Rattle.vcm_job.specs.declared.fault.Fault.TheVariants as faults
 use Rattle.vcm_margin.specs.declared.difference.Margin.{Margin}
 use Rattle.vcm_margin.specs.Margin.{IsMargin}
 use Rattle.vcm_margin.specs.Printed.{margin_text}
@@ -26,7 +27,7 @@ pub record IsMarginCutOff (part : Workpiece) (c : Code) (held : Held) (done : �
   pub front : AppendsFront old new (margin_text held.tables margin)
 
 -- why no margin was told: memory was refused, and nothing was written; or a write failed
-abbrev pub IsMarginNotTold : Workpiece → Code → Held → ℕ → RunFault → Option (List ℕ) → Option (List ℕ) → Type 0
+abbrev pub IsMarginNotTold : Workpiece → Code → Held → ℕ → Fault InputRefusal → Option (List ℕ) → Option (List ℕ) → Type 0
 IsMarginNotTold part c held done faults.NoMemory old new = Keeps old new
 IsMarginNotTold part c held done (faults.Write d) old new = IsMarginCutOff part c held done old new
 IsMarginNotTold part c held done _ old new = ⊥
@@ -45,7 +46,7 @@ pub record IsToldInPart (part : Workpiece) (c : Code) (held : Held) (done : ℕ)
   pub front : AppendsFront old new text
 
 -- why neither was told: memory was refused, and nothing was written; or a write failed
-abbrev pub IsNotTold : Workpiece → Code → Held → ℕ → RunFault → Option (List ℕ) → Option (List ℕ) → Type 0
+abbrev pub IsNotTold : Workpiece → Code → Held → ℕ → Fault InputRefusal → Option (List ℕ) → Option (List ℕ) → Type 0
 IsNotTold part c held done faults.NoMemory old new = Keeps old new
 IsNotTold part c held done (faults.Write d) old new = IsToldInPart part c held done old new
 IsNotTold part c held done _ old new = ⊥

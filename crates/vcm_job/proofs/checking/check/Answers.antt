@@ -1,14 +1,10 @@
 use Rattle.std.proofs.Common.{◌∙◌, ap, Err}
 use Rattle.std.proofs.lemmas.Result.{err_from_is_err_and}
-use Rattle.vcm_job.specs.Unread.{check_not_read}
-use Rattle.vcm_job.proofs.UnreadLemmas.{check_unread}
-use Rattle.vcm_job.proofs.JobLemmas.{unread}
+use Rattle.vcm_job.proofs.UnreadLemmas.{none_written, unread}
 use Rattle.vcm_job.proofs.checking.check.Goals as goal
 
 pub returns-in_err-text-clause-fault : goal.returns-in_err-text-clause-fault
-returns-in_err-text-clause-fault g c =
-    let p = err_from_is_err_and c.from_residual.result c.from_residual.ensures.1 in rw (p.1, p.2) (check_unread _ _ _ _ c.in_err-text.ensures.fault)
+returns-in_err-text-clause-fault g c = let p = err_from_is_err_and c.from_residual.result c.from_residual.ensures.1 in rw (p.1, p.2) (none_written _ _ _ _ _ _ _ c.in_err-text.ensures.fault)
 
 pub returns-in_err-text-clause-long : goal.returns-in_err-text-clause-long
-returns-in_err-text-clause-long g c =
-    let p = err_from_is_err_and c.from_residual.result c.from_residual.ensures.1 in unread check_not_read _ c.from_residual.result _ (p.1 ∙ ap Err p.2)
+returns-in_err-text-clause-long g c = let p = err_from_is_err_and c.from_residual.result c.from_residual.ensures.1 in unread _ c.from_residual.result _ (p.1 ∙ ap Err p.2)

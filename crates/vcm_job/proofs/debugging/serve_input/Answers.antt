@@ -11,7 +11,7 @@ returns-in-Ok-serve_image-clause-done g c =
     let image = as_program c.args.input.now c.in-Ok.built.image.items c.in-Ok.built.notices.items (sym c.is_image.ensures ∙ c.if-is_image.false) c.in-Ok.ensures.built in
     debugged_of _ _ _ _ _ _ _ _ tt image (rw c.deref.ensures.value at c.in-Ok-serve_image.ensures.done)
 
-pub returns-in-Err-Serve-clause-fault : goal.returns-in-Err-Serve-clause-fault
-returns-in-Err-Serve-clause-fault g c =
+pub returns-in-Err-Refused-Serve-clause-fault : goal.returns-in-Err-Refused-Serve-clause-fault
+returns-in-Err-Refused-Serve-clause-fault g c =
     let image = as_program c.args.input.now c.in-Ok.built.image.items c.in-Ok.built.notices.items (sym c.is_image.ensures ∙ c.if-is_image.false) c.in-Ok.ensures.built in
-    cut_short_of _ _ _ _ _ _ _ _ _ image (rw (c.in-Err-Serve.field-0-is, c.deref.ensures.value) at c.in-Err-Serve.ensures.fault)
+    cut_short_of _ _ _ _ _ _ _ _ _ image (rw (c.in-Err-Refused-Serve.field-0-is, c.in-Err-Refused-Serve.field-0-0-is, c.deref.ensures.value) at c.in-Err-Refused-Serve.ensures.fault)

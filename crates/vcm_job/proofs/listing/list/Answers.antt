@@ -1,8 +1,6 @@
 use Rattle.std.proofs.Common.{◌∙◌, ap, Err}
 use Rattle.std.proofs.lemmas.Result.{err_from_is_err_and}
-use Rattle.vcm_job.specs.Unread.{list_not_read}
-use Rattle.vcm_job.proofs.UnreadLemmas.{list_unread}
-use Rattle.vcm_job.proofs.JobLemmas.{unread}
+use Rattle.vcm_job.proofs.UnreadLemmas.{none_written, unread}
 use Rattle.vcm_job.proofs.ListLemmas.{list_cut_off, not_listed}
 use Rattle.vcm_job.proofs.listing.list.Goals as goal
 
@@ -13,12 +11,10 @@ returns-clause-fault g c =
     list_cut_off _ _ c.in_ok-input.ensures.all _ _ listed _ _ front
 
 pub returns-in_err-input-clause-fault : goal.returns-in_err-input-clause-fault
-returns-in_err-input-clause-fault g c =
-    let p = err_from_is_err_and c.from_residual.result c.from_residual.ensures.1 in rw (p.1, p.2) (list_unread _ _ _ _ c.in_err-input.ensures.fault)
+returns-in_err-input-clause-fault g c = let p = err_from_is_err_and c.from_residual.result c.from_residual.ensures.1 in rw (p.1, p.2) (none_written _ _ _ _ _ _ _ c.in_err-input.ensures.fault)
 
 pub returns-in_err-input-clause-long : goal.returns-in_err-input-clause-long
-returns-in_err-input-clause-long g c =
-    let p = err_from_is_err_and c.from_residual.result c.from_residual.ensures.1 in unread list_not_read _ c.from_residual.result _ (p.1 ∙ ap Err p.2)
+returns-in_err-input-clause-long g c = let p = err_from_is_err_and c.from_residual.result c.from_residual.ensures.1 in unread _ c.from_residual.result _ (p.1 ∙ ap Err p.2)
 
 pub returns-in_err-text-clause-fault : goal.returns-in_err-text-clause-fault
 returns-in_err-text-clause-fault g c =

@@ -1,25 +1,25 @@
 use Rattle.std.proofs.Common.{◌∙◌, ap, Err}
 use Rattle.std.proofs.lemmas.Result.{err_from_is_err_and}
-use Rattle.vcm_job.specs.Unread.{job_not_read}
-use Rattle.vcm_job.proofs.JobLemmas.{steps_of_jobs, none_read, not_done_of, done_of, read_whole, unread}
+use Rattle.vcm_job.specs.Results.{IsDone}
+use Rattle.vcm_job.proofs.JobLemmas.{steps_of_jobs, not_done_of}
+use Rattle.vcm_job.proofs.UnreadLemmas.{none_written, given_of, read_whole, unread}
 use Rattle.vcm_job.proofs.running.job.Goals as goal
 
 pub run_job-requires : goal.run_job-requires
 run_job-requires g c = steps_of_jobs
 
 pub returns-clause-done : goal.returns-clause-done
-returns-clause-done g c = done_of _ _ c.run_job.result _ _ c.in_ok-input.ensures.all (rw c.deref.ensures.value at c.run_job.ensures.done)
+returns-clause-done g c =
+    given_of (λ input d. IsDone input d.status d.notices.items _ _) _ _ c.run_job.result c.in_ok-input.ensures.all (rw c.deref.ensures.value at c.run_job.ensures.done)
 
 pub returns-clause-fault : goal.returns-clause-fault
 returns-clause-fault g c = not_done_of _ _ _ c.run_job.result _ _ c.in_ok-input.ensures.all (rw c.deref.ensures.value at c.run_job.ensures.fault)
 
 pub returns-clause-long : goal.returns-clause-long
-returns-clause-long g c = read_whole job_not_read _ _ c.run_job.result c.in_ok-input.ensures.all c.in_ok-input.ensures.short
+returns-clause-long g c = read_whole _ _ c.run_job.result c.in_ok-input.ensures.all c.in_ok-input.ensures.short
 
 pub returns-in_err-input-clause-fault : goal.returns-in_err-input-clause-fault
-returns-in_err-input-clause-fault g c =
-    let p = err_from_is_err_and c.from_residual.result c.from_residual.ensures.1 in rw (p.1, p.2) (none_read _ _ _ _ c.in_err-input.ensures.fault)
+returns-in_err-input-clause-fault g c = let p = err_from_is_err_and c.from_residual.result c.from_residual.ensures.1 in rw (p.1, p.2) (none_written _ _ _ _ _ _ _ c.in_err-input.ensures.fault)
 
 pub returns-in_err-input-clause-long : goal.returns-in_err-input-clause-long
-returns-in_err-input-clause-long g c =
-    let p = err_from_is_err_and c.from_residual.result c.from_residual.ensures.1 in unread job_not_read _ c.from_residual.result _ (p.1 ∙ ap Err p.2)
+returns-in_err-input-clause-long g c = let p = err_from_is_err_and c.from_residual.result c.from_residual.ensures.1 in unread _ c.from_residual.result _ (p.1 ∙ ap Err p.2)

@@ -1,23 +1,23 @@
-use Rattle.std.proofs.Common.{◌∙◌, ap, Err, None}
+use Rattle.std.proofs.Common.{◌∙◌, ap, Err}
 use Rattle.std.proofs.lemmas.Result.{err_from_is_err_and}
-use Rattle.vcm_job.specs.Unread.{input_not_read}
-use Rattle.vcm_job.proofs.JobLemmas.{read_whole, unread}
-use Rattle.vcm_page.proofs.InputPages.{page_unread, no_page_of, page_read}
+use Rattle.vcm_job.proofs.UnreadLemmas.{none_written, given_of, read_whole, unread}
+use Rattle.vcm_page.specs.Inputs.{IsPage}
+use Rattle.vcm_page.proofs.InputPages.{no_page_of}
 use Rattle.vcm_page.proofs.inputs.page_of.Goals as goal
 
 pub returns-clause-page : goal.returns-clause-page
-returns-clause-page g c = page_read _ _ _ _ None _ c.in_ok-input.ensures.all _ _ c.page_of_input.result (rw c.deref.ensures.value at c.page_of_input.ensures.page)
+returns-clause-page g c =
+    given_of (λ input d. IsPage _ _ input _ d.status d.notices.items _ _) _ _ c.page_of_input.result c.in_ok-input.ensures.all (rw c.deref.ensures.value at c.page_of_input.ensures.page)
 
 pub returns-clause-fault : goal.returns-clause-fault
-returns-clause-fault g c = no_page_of _ _ _ _ _ _ c.in_ok-input.ensures.all _ _ c.page_of_input.result (rw c.deref.ensures.value at c.page_of_input.ensures.fault)
+returns-clause-fault g c = no_page_of _ _ _ _ _ _ c.page_of_input.result _ _ c.in_ok-input.ensures.all (rw c.deref.ensures.value at c.page_of_input.ensures.fault)
 
 pub returns-clause-long : goal.returns-clause-long
-returns-clause-long g c = read_whole input_not_read _ _ c.page_of_input.result c.in_ok-input.ensures.all c.in_ok-input.ensures.short
+returns-clause-long g c = read_whole _ _ c.page_of_input.result c.in_ok-input.ensures.all c.in_ok-input.ensures.short
 
 pub returns-in_err-input-clause-fault : goal.returns-in_err-input-clause-fault
 returns-in_err-input-clause-fault g c =
-    let p = err_from_is_err_and c.from_residual.result c.from_residual.ensures.1 in rw (p.1, p.2) (page_unread _ _ _ _ _ _ _ c.in_err-input.ensures.fault)
+    let p = err_from_is_err_and c.from_residual.result c.from_residual.ensures.1 in rw (p.1, p.2) (none_written _ _ _ _ _ _ _ c.in_err-input.ensures.fault)
 
 pub returns-in_err-input-clause-long : goal.returns-in_err-input-clause-long
-returns-in_err-input-clause-long g c =
-    let p = err_from_is_err_and c.from_residual.result c.from_residual.ensures.1 in unread input_not_read _ c.from_residual.result _ (p.1 ∙ ap Err p.2)
+returns-in_err-input-clause-long g c = let p = err_from_is_err_and c.from_residual.result c.from_residual.ensures.1 in unread _ c.from_residual.result _ (p.1 ∙ ap Err p.2)

@@ -1,5 +1,7 @@
-use Rattle.vcm_relations.proofs.Tied.{build_answer}
+use Rattle.vcm_run.specs.Programs.{IsBuilt}
+use Rattle.vcm_job.specs.Files.{IsNotBuilt}
+use Rattle.vcm_relations.proofs.Tied.{given}
 use Rattle.vcm_relations.proofs.answers.called_build.Goals as goal
 
 pub returns : goal.returns
-returns g c = build_answer _ _ _ c.build.ensures.built c.build.ensures.fault c.build.ensures.long
+returns g c = given (λ text b. IsBuilt text b.image.items b.notices.items) IsNotBuilt _ _ _ c.build.ensures.built c.build.ensures.fault c.build.ensures.long
