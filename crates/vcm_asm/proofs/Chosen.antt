@@ -7,14 +7,14 @@ use Rattle.vcm_spec.specs.Program.{Label as Name, Block, Cases, no_more, one_cas
 use Rattle.vcm_spec.specs.Table.{if_true}
 use Rattle.vcm_spec.specs.Whole.{CasesJump}
 use Rattle.vcm_code.specs.declared.op.Op.TheVariants.{EndCas}
-use Rattle.vcm_code.specs.Code.{Statement, statement}
+use Rattle.vcm_code.specs.Code.{CodeStatement, statement}
 use Rattle.vcm_code.specs.CodeTable.{target_for}
 use Rattle.vcm_asm.specs.inner.Depth.{CasesDeep}
 use Rattle.vcm_asm.specs.Assembled.{marks, case_marks, block_code, case_code, branches_of, last_target}
 use Rattle.vcm_asm.proofs.Place.{HasAt, has_front, has_back, block_length, Marked, marked_front, marked_back}
 use Rattle.vcm_asm.proofs.Remainder.{Placed as PlacedIn}
 
-module _ (setup : Setup) (code : List Statement) (to : Name → ℕ) (d : ℕ) where
+module _ (setup : Setup) (code : List CodeStatement) (to : Name → ℕ) (d : ℕ) where
   abbrev Placed : ℕ → Block → List Block → Type 0
   Placed base b around = PlacedIn setup code to d base b around
 
@@ -37,7 +37,7 @@ module _ (setup : Setup) (code : List Statement) (to : Name → ℕ) (d : ℕ) w
   IsSelected base behind around length None target = target ≡ base + length
   IsSelected base behind around length (Some p) target = IsBlock behind around p.0 p.1 target
 
-  tail_at : (b : Block) (pc : ℕ) (rest : List Statement) → HasAt code pc (block_code to b d pc ++ rest) → HasAt code (pc + sizes b) rest
+  tail_at : (b : Block) (pc : ℕ) (rest : List CodeStatement) → HasAt code pc (block_code to b d pc ++ rest) → HasAt code (pc + sizes b) rest
   tail_at b pc rest h = subst (λ k. HasAt code (pc + k) rest) (block_length to b d pc) (has_back code pc (block_code to b d pc) rest h)
 
   module _ (behind : ℕ) (around : List Block) (z : ℤ) where

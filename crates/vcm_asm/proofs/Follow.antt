@@ -15,7 +15,7 @@ use Rattle.vcm_spec.specs.Printing.{prints, takes_memory, next_node}
 use Rattle.vcm_spec.specs.Whole.{is_closed}
 use Rattle.vcm_code.specs.declared.pair.Pair.{Pair}
 use Rattle.vcm_code.specs.declared.op.Op.TheVariants.{EndDo}
-use Rattle.vcm_code.specs.Code.{Statement}
+use Rattle.vcm_code.specs.Code.{CodeStatement}
 use Rattle.vcm_code.specs.CodeTable.{CodeState, code_state, or_halt, turn, fetched, code_step, code_steps, start, next_prints}
 use Rattle.vcm_asm.specs.Simulation.{SameAfter}
 use Rattle.vcm_asm.specs.Assembled.{marks, node_code, place_in, flat_code}
@@ -24,7 +24,7 @@ use Rattle.vcm_asm.proofs.Place.{HasAt, has_all, number_zero, has_node, once_mar
 use Rattle.vcm_asm.proofs.Remainder.{Bottom, bottom_push, bottom_pop, Live, Placed as PlacedIn, Sits as SitsIn, in_front, number_is, Matched as MatchedIn}
 use Rattle.vcm_asm.proofs.NodeSteps.{At, fork, choose, with_op, node_follows}
 
-module _ (setup : Setup) (code : List Statement) (to : Name → ℕ) where
+module _ (setup : Setup) (code : List CodeStatement) (to : Name → ℕ) where
   -- those of this code
   abbrev Sits : List Pair → List Entry → ℕ → ℕ → Type 0
   Sits = SitsIn setup code to

@@ -9,7 +9,7 @@ use Rattle.vcm_spec.specs.Setup.{Tables}
 use Rattle.vcm_spec.specs.Fitting.{kinds, Fits, AreLengths, HasKindIn, NodeFits, BlockFits, CasesFit}
 use Rattle.vcm_spec.specs.Program.{Label as Name, Node, Block, Cases, simple, label, jump, choice, choice_else, do_loop, meas, select, ending, done, then, no_more, one_case, default, size, sizes, case_sizes}
 use Rattle.vcm_code.specs.declared.op.Op.TheVariants.{Plain}
-use Rattle.vcm_code.specs.Code.{Statement}
+use Rattle.vcm_code.specs.Code.{CodeStatement}
 use Rattle.vcm_code.specs.Ranges.{IsShort, OpInRange, AllInRange}
 use Rattle.vcm_asm.specs.inner.Spelled.{Keeps, KeepThree, SimpleKeeps, NodeKeeps, BlockKeeps, CasesKeep}
 use Rattle.vcm_asm.specs.inner.Depth.{NodeDeep, Deep, CasesDeep}
@@ -21,7 +21,7 @@ spelled (Value x) = omega arith
 spelled (One op a) = omega (arith, length-append (spelling a) (Apply op ∷ []))
 spelled (Two op a b) = omega (arith, length-append (spelling a) (spelling b ++ Combine op ∷ []), length-append (spelling b) (Combine op ∷ []))
 
-range_join : (a b : List Statement) → AllInRange a → AllInRange b → AllInRange (a ++ b)
+range_join : (a b : List CodeStatement) → AllInRange a → AllInRange b → AllInRange (a ++ b)
 range_join [] b h k = k
 range_join (x ∷ a) b h k = (h.0, range_join a b h.1 k)
 

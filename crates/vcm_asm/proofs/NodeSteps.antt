@@ -18,7 +18,7 @@ use Rattle.vcm_spec.proofs.Postfix.{value_in-spelling, test_in-spelling, effect-
 use Rattle.vcm_spec.specs.Whole.{is_end, NodeJumps}
 use Rattle.vcm_code.specs.declared.pair.Pair.{Pair}
 use Rattle.vcm_code.specs.declared.op.Op.TheVariants.{Plain, If, Else, EndIf, Do, Label, JumpTo, Meas, EndMes, Select, EndCas, EndSel, EndFil}
-use Rattle.vcm_code.specs.Code.{Op, Statement, statement}
+use Rattle.vcm_code.specs.Code.{Op, CodeStatement, statement}
 use Rattle.vcm_code.specs.CodeTable.{pair, CodeState, code_state, or_halt, target_for, do_op, fetched}
 use Rattle.vcm_asm.specs.inner.Depth.{NodeDeep}
 use Rattle.vcm_asm.specs.Assembled.{node_marks, marks, node_code, block_code, case_code, branches_of, last_target}
@@ -27,7 +27,7 @@ use Rattle.vcm_spec.proofs.NeverStuck.{closed_next}
 use Rattle.vcm_asm.proofs.Chosen.{CasesPlaced, IsSelected, selected_is}
 use Rattle.vcm_asm.proofs.Remainder.{scopes, get_set_same, Bottom, bottom_push, bottom_move, Placed as PlacedIn, Goes, Turns, Sits as SitsIn, sits_set, goes_by, landed, Matched as MatchedIn}
 
-module _ (setup : Setup) (code : List Statement) (to : Name → ℕ) where
+module _ (setup : Setup) (code : List CodeStatement) (to : Name → ℕ) where
   -- those of this code
   abbrev pub Placed : ℕ → ℕ → Block → List Block → Type 0
   Placed = PlacedIn setup code to
@@ -105,7 +105,7 @@ module _ (setup : Setup) (code : List Statement) (to : Name → ℕ) where
         let there = landed setup code to l ps (Rest b base i ∷ es) d num (refl, a.placed, a.rest) r a.bottom in
         with_op _ (JumpTo (to l)) line w num ps (has (jump line l) a).0 (record { world = refl; depth = there.0; sits = there.1; bottom = there.2; room = a.room })
 
-    tail_at : (body : Block) (e pc : ℕ) (rest : List Statement) → HasAt code pc (block_code to body e pc ++ rest) → HasAt code (pc + sizes body) rest
+    tail_at : (body : Block) (e pc : ℕ) (rest : List CodeStatement) → HasAt code pc (block_code to body e pc ++ rest) → HasAt code (pc + sizes body) rest
     tail_at body e pc rest h =
         subst (λ k. HasAt code (pc + k) rest) (block_length to body e pc) (has_back code pc (block_code to body e pc) rest h)
 

@@ -10,26 +10,26 @@ use Rattle.vcm_asm.specs.inner.Depth.{NodeDeep, Deep}
 use Rattle.vcm_spec.specs.Whole.{NodeJumps, Jumps}
 use Rattle.vcm_spec.proofs.Labels.{same_label, label_itself, found_stands}
 use Rattle.vcm_code.specs.declared.op.Op.TheVariants.{Else, EndIf, EndDo, EndMes, EndCas, EndSel}
-use Rattle.vcm_code.specs.Code.{Statement, statement}
+use Rattle.vcm_code.specs.Code.{CodeStatement, statement}
 use Rattle.vcm_asm.specs.Assembled.{Mark, node_marks, marks, node_code, block_code, case_code, place_in}
 use Rattle.vcm_spec.proofs.NeverStuck.{same_node}
 
 -- the statements stand in the code at this place
-abbrev pub HasAt : List Statement → ℕ → List Statement → Type 0
+abbrev pub HasAt : List CodeStatement → ℕ → List CodeStatement → Type 0
 HasAt code pc [] = Unit {0}
 HasAt code pc (s ∷ ss) = (slice_get code pc ≡ Some s) × HasAt code (pc + 1) ss
 
-pub has_front : (code : List Statement) (pc : ℕ) (a b : List Statement) → HasAt code pc (a ++ b) → HasAt code pc a
+pub has_front : (code : List CodeStatement) (pc : ℕ) (a b : List CodeStatement) → HasAt code pc (a ++ b) → HasAt code pc a
 has_front code pc [] b h = tt
 has_front code pc (i ∷ a) b h = (h.0, has_front code (pc + 1) a b h.1)
 
-pub has_back : (code : List Statement) (pc : ℕ) (a b : List Statement) → HasAt code pc (a ++ b) → HasAt code (pc + length a) b
+pub has_back : (code : List CodeStatement) (pc : ℕ) (a b : List CodeStatement) → HasAt code pc (a ++ b) → HasAt code (pc + length a) b
 has_back code pc [] b h = let e : pc ≡ pc + 0 = omega arith in subst (λ n. HasAt code n b) e h
 has_back code pc (i ∷ a) b h =
     let e : pc + 1 + length a ≡ pc + length (i ∷ a) = omega arith in
     subst (λ n. HasAt code n b) e (has_back code (pc + 1) a b h.1)
 
-pub has_all : (is pre : List Statement) → HasAt (pre ++ is) (length pre) is
+pub has_all : (is pre : List CodeStatement) → HasAt (pre ++ is) (length pre) is
 has_all [] pre = tt
 has_all (i ∷ is) pre =
     let within : length pre < length (pre ++ i ∷ is) = omega (arith, length-append pre (i ∷ is)) in
@@ -85,7 +85,7 @@ number_next done base i n e = cc
 number_next (then m b) base zero n e = number_zero b (base + size m) ∙ ap (λ x. base + size x) (same_node m n e)
 number_next (then m b) base (suc i) n e = number_next b (base + size m) i n e
 
-pub has_node : (code : List Statement) (place : Name → ℕ) (b : Block) (d base i : ℕ) (n : Node) → node_at b i ≡ Some n → HasAt code base (block_code place b d base) → HasAt code (number_at b base i) (node_code place n d (number_at b base i))
+pub has_node : (code : List CodeStatement) (place : Name → ℕ) (b : Block) (d base i : ℕ) (n : Node) → node_at b i ≡ Some n → HasAt code base (block_code place b d base) → HasAt code (number_at b base i) (node_code place n d (number_at b base i))
 has_node code place done d base i n e h = cc
 has_node code place (then m b) d base zero n e h =
     subst (λ x. HasAt code base (node_code place x d base)) (same_node m n e) (has_front code base (node_code place m d base) _ h)

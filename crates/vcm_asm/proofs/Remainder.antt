@@ -13,7 +13,7 @@ use Rattle.vcm_spec.specs.Whole.{is_closed, IsAround, Jumps}
 use Rattle.vcm_spec.proofs.Labels.{missed}
 use Rattle.vcm_code.specs.declared.pair.Pair.{Pair}
 use Rattle.vcm_code.specs.declared.op.Op.TheVariants.{EndDo}
-use Rattle.vcm_code.specs.Code.{Op, Statement, statement}
+use Rattle.vcm_code.specs.Code.{Op, CodeStatement, statement}
 use Rattle.vcm_code.specs.CodeTable.{pair, CodeState, code_state, do_op, fetched, op_prints, next_prints}
 use Rattle.vcm_asm.specs.inner.Depth.{Deep}
 use Rattle.vcm_asm.specs.Assembled.{marks, block_code}
@@ -79,7 +79,7 @@ bottom_dropped b base i [] e h = absurd (node_none (node_at b i) (h.0).0 e (h.0)
     node_none o n e f = cc
 bottom_dropped b base i (f ∷ es) e h = h
 
-module _ (setup : Setup) (code : List Statement) (to : Name → ℕ) where
+module _ (setup : Setup) (code : List CodeStatement) (to : Name → ℕ) where
   -- a block that is assembled and accepted, within `d` loops
   pub record Placed (d base : ℕ) (b : Block) (around : List Block) : Type 0 where
     pub has : HasAt code base (block_code to b d base)

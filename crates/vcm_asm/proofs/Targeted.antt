@@ -1,13 +1,13 @@
 -- A statement in memory that is written again.
 use Rattle.std.proofs.Common.{◌≡◌, ℕ, zero, suc, List, [], ◌∷◌, ◌++◌, length, ap, ◌∙◌, arith, get_or}
 use Rattle.std.specs.Prelude.{slice_set}
-use Rattle.vcm_code.specs.Code.{Statement}
+use Rattle.vcm_code.specs.Code.{CodeStatement}
 use Rattle.vcm_asm.specs.inner.Targets.{with_target}
 
-first_is : (x y : Statement) (xs ys : List Statement) → x ∷ xs ≡ y ∷ ys → (x ≡ y) × (xs ≡ ys)
+first_is : (x y : CodeStatement) (xs ys : List CodeStatement) → x ∷ xs ≡ y ∷ ys → (x ≡ y) × (xs ≡ ys)
 first_is x y xs ys e = (cc, cc)
 
-pub retargeted : (xs : List Statement) (k target : ℕ) (x x' : Statement) (before after : List Statement) (s : Statement)
+pub retargeted : (xs : List CodeStatement) (k target : ℕ) (x x' : CodeStatement) (before after : List CodeStatement) (s : CodeStatement)
     → xs ≡ before ++ s ∷ after → k ≡ length before → x ≡ get_or xs k x → x' ≡ with_target x target
     → slice_set xs k x' ≡ before ++ with_target s target ∷ after
 retargeted [] k target x x' [] after s e l g h = absurd cc

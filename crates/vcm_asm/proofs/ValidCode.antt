@@ -15,7 +15,7 @@ use Rattle.vcm_spec.specs.Table.{if_true}
 use Rattle.vcm_spec.specs.Whole.{is_end, is_closed}
 use Rattle.vcm_program.specs.Program.{IsWhole}
 use Rattle.vcm_code.specs.declared.op.Op.TheVariants.{If, EndDo}
-use Rattle.vcm_code.specs.Code.{Statement}
+use Rattle.vcm_code.specs.Code.{CodeStatement}
 use Rattle.vcm_code.specs.Checks.{HasItems, AllHold, targets, OpFits}
 use Rattle.vcm_code.specs.Valid.{Ends, IsValid}
 use Rattle.vcm_code.proofs.Checked.{AllFit, all_hold, wants_hold, simple_holds, do_holds, select_holds}
@@ -106,7 +106,7 @@ module _ (tables : Tables) where
   end_holds : (s v p to : ℕ) → slice_get (kinds tables) v ≡ Some Int → to < s → OpFits tables s (EndDo v p to)
   end_holds s v p to e below = (slice_get_within (kinds tables) v Int e, (e, (below, tt)))
 
-  fits_join : (s : ℕ) (a b : List Statement) → AllFit tables s a → AllFit tables s b → AllFit tables s (a ++ b)
+  fits_join : (s : ℕ) (a b : List CodeStatement) → AllFit tables s a → AllFit tables s b → AllFit tables s (a ++ b)
   fits_join s [] b h k = k
   fits_join s (x ∷ a) b h k = (h.0, fits_join s a b h.1 k)
 
@@ -162,12 +162,12 @@ module _ (tables : Tables) where
         let pos = size_positive n' in
         fits_join s (node_code to n 0 base) _ (node_fits n 0 base (omega arith) h.0 m.0) (whole_fits (then n' b) (base + size n) c (omega arith) h.1 m.1)
 
-last_join : (a : List Statement) (y : Statement) (b : List Statement) → Ends (y ∷ b) → Ends (a ++ y ∷ b)
+last_join : (a : List CodeStatement) (y : CodeStatement) (b : List CodeStatement) → Ends (y ∷ b) → Ends (a ++ y ∷ b)
 last_join [] y b h = h
 last_join (x ∷ []) y b h = h
 last_join (x ∷ (x' ∷ a)) y b h = last_join (x' ∷ a) y b h
 
-last_after : (a b : List Statement) → Ends b → Ends (a ++ b)
+last_after : (a b : List CodeStatement) → Ends b → Ends (a ++ b)
 last_after a [] h = absurd h
 last_after a (y ∷ b) h = last_join a y b h
 

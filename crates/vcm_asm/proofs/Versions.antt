@@ -9,7 +9,7 @@ use Rattle.vcm_spec.specs.Program.{Label as Name, Node, Block, simple, label, ju
 use Rattle.vcm_spec.specs.Table.{if_true}
 use Rattle.vcm_code.specs.declared.version.Version.TheVariants.{One, Two}
 use Rattle.vcm_code.specs.declared.op.Op.TheVariants.{Plain, Else, EndIf, EndDo, EndMes}
-use Rattle.vcm_code.specs.Code.{Statement, statement}
+use Rattle.vcm_code.specs.Code.{CodeStatement, statement}
 use Rattle.vcm_code.specs.Words.{is_of_select, word_of}
 use Rattle.vcm_code.specs.Ranges.{has_selection, version_for, IsOfVersion}
 use Rattle.vcm_asm.specs.Assembled.{marks, node_code, block_code, place_in, flat_code, node_selects, selects, version_of}
@@ -25,12 +25,12 @@ or_none : (a : Bool) → (a || false) ≡ a
 or_none true = refl
 or_none false = refl
 
-among_append : (a b : List Statement) → has_selection (a ++ b) ≡ (has_selection a || has_selection b)
+among_append : (a b : List CodeStatement) → has_selection (a ++ b) ≡ (has_selection a || has_selection b)
 among_append [] b = refl
 among_append (s ∷ a) b = ap (λ x. is_of_select (word_of s.op) || x) (among_append a b) ∙ regroup (is_of_select (word_of s.op)) (has_selection a) (has_selection b)
 
 -- a closing statement behind others
-closed : (a : List Statement) (s : Statement) (t : Bool) → is_of_select (word_of s.op) ≡ false → has_selection a ≡ t → has_selection (a ++ s ∷ []) ≡ t
+closed : (a : List CodeStatement) (s : CodeStatement) (t : Bool) → is_of_select (word_of s.op) ≡ false → has_selection a ≡ t → has_selection (a ++ s ∷ []) ≡ t
 closed a s t e h = among_append a (s ∷ []) ∙ ap (λ x. has_selection a || (x || false)) e ∙ or_none (has_selection a) ∙ h
 
 -- a simple statement

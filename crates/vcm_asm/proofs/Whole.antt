@@ -4,7 +4,7 @@ use Rattle.vcm_spec.specs.Setup.{Tables, setup_of}
 use Rattle.vcm_spec.specs.Program.{Block}
 use Rattle.vcm_program.specs.Program.{IsWhole, AreNames as AreFewNames}
 use Rattle.vcm_code.specs.declared.code.Code.{Code}
-use Rattle.vcm_code.specs.Code.{Statement}
+use Rattle.vcm_code.specs.Code.{CodeStatement}
 use Rattle.vcm_code.specs.Valid.{IsValid}
 use Rattle.vcm_code.specs.declared.version.Version.{Version}
 use Rattle.vcm_code.specs.Ranges.{AllInRange, version_for, IsInRange}
@@ -20,7 +20,7 @@ use Rattle.vcm_asm.proofs.Versions.{version_same, of_version}
 
 module _ (program : Block) (tables : Tables) (whole : IsWhole program tables) where
   -- the code of the program's version with these tables and statements
-  abbrev with_statements : List Statement → Code
+  abbrev with_statements : List CodeStatement → Code
   with_statements ss = record { version = version_of program; tables = tables; statements = ss }
 
   pub assembled : IsAssembled program tables (with_statements (flat_code program))
@@ -51,7 +51,7 @@ module _ (program : Block) (tables : Tables) (whole : IsWhole program tables) wh
   }
 
   -- what holds of that code holds of one with these tables and statements, where they are the same and its version is theirs
-  pub with_code : (P : Code → Type 0) (v : Version) (ts : Tables) (ss : List Statement) → v ≡ version_for ss → ts ≡ tables → ss ≡ flat_code program
+  pub with_code : (P : Code → Type 0) (v : Version) (ts : Tables) (ss : List CodeStatement) → v ≡ version_for ss → ts ≡ tables → ss ≡ flat_code program
       → P (with_statements (flat_code program)) → P (record { version = v; tables = ts; statements = ss })
   with_code P v ts ss d e f h =
       let same : v ≡ version_of program = d ∙ ap version_for f ∙ version_same program in

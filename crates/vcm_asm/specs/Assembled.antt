@@ -9,7 +9,7 @@ use Rattle.vcm_code.specs.declared.branch.Branch.{Branch}
 use Rattle.vcm_code.specs.declared.version.Version.{Version}
 use Rattle.vcm_code.specs.declared.version.Version.TheVariants.{One, Two}
 use Rattle.vcm_code.specs.declared.op.Op.TheVariants.{Plain, If, Else, EndIf, Do, EndDo, Label, JumpTo, Meas, EndMes, Select, Case, EndCas, DftCas, EndSel, EndFil}
-use Rattle.vcm_code.specs.Code.{Statement, statement}
+use Rattle.vcm_code.specs.Code.{CodeStatement, statement}
 
 -- a label, and the number of its statement
 abbrev pub Mark : Type 0
@@ -59,7 +59,7 @@ last_target (default line block close) base = base + 1
 -- the code of a node, of a block, and of the blocks of a SELECT behind whose ENDSEL stands `behind`; `depth` DO stand around it, its first
 -- statement has the number `base`, and `to` gives the numbers of labels
 abbrev mutual
-  pub node_code : (Name → ℕ) → Node → ℕ → ℕ → List Statement
+  pub node_code : (Name → ℕ) → Node → ℕ → ℕ → List CodeStatement
   node_code to (simple line what) depth base = statement line (Plain (with_form spelling what)) ∷ []
   node_code to (label line l) depth base = statement line Label ∷ []
   node_code to (jump line l) depth base = statement line (JumpTo (to l)) ∷ []
@@ -80,11 +80,11 @@ abbrev mutual
       ∷ (case_code to cases depth (base + 1) (base + 1 + case_sizes cases + 1) ++ statement close EndSel ∷ [])
   node_code to (ending line) depth base = statement line EndFil ∷ []
 
-  pub block_code : (Name → ℕ) → Block → ℕ → ℕ → List Statement
+  pub block_code : (Name → ℕ) → Block → ℕ → ℕ → List CodeStatement
   block_code to done depth base = []
   block_code to (then n b) depth base = node_code to n depth base ++ block_code to b depth (base + size n)
 
-  pub case_code : (Name → ℕ) → Cases → ℕ → ℕ → ℕ → List Statement
+  pub case_code : (Name → ℕ) → Cases → ℕ → ℕ → ℕ → List CodeStatement
   case_code to no_more depth base behind = []
   case_code to (one_case line value block close rest) depth base behind =
       statement line Case
@@ -93,7 +93,7 @@ abbrev mutual
       statement line DftCas ∷ (block_code to block depth (base + 1) ++ statement close (EndCas behind) ∷ [])
 
 -- the statements of a program
-abbrev pub flat_code : Block → List Statement
+abbrev pub flat_code : Block → List CodeStatement
 flat_code program = block_code (place_in (marks program 0)) program 0 0
 
 -- whether a SELECT stands in a node, and in a block

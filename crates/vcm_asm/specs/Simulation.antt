@@ -6,12 +6,12 @@ use Rattle.vcm_spec.specs.Program.{Block}
 use Rattle.vcm_spec.specs.Table.{steps, opening, front, next_number}
 use Rattle.vcm_spec.specs.Printing.{takes_memory, next_node}
 use Rattle.vcm_code.specs.declared.code.Code.{Code}
-use Rattle.vcm_code.specs.Code.{Statement}
+use Rattle.vcm_code.specs.Code.{CodeStatement}
 use Rattle.vcm_code.specs.CodeTable.{code_steps, start, next_prints}
 use Rattle.vcm_asm.specs.Assembled.{flat_code, version_of}
 
 -- after n steps the code has the state and the next number of the program, and an output line comes next in both or in neither
-pub record SameAfter (setup : Setup) (program : Block) (code : List Statement) (n : ℕ) : Type 0 where
+pub record SameAfter (setup : Setup) (program : Block) (code : List CodeStatement) (n : ℕ) : Type 0 where
   pub world : (code_steps setup code n (start setup)).world ≡ (steps setup n (opening setup program)).world
   pub next : (code_steps setup code n (start setup)).next ≡ next_number (steps setup n (opening setup program)).entries
   pub prints : next_prints (slice_get code (code_steps setup code n (start setup)).next)

@@ -6,7 +6,7 @@ ghost use Rattle.vcm_asm.specs.inner.Targets.{with_target, Retargets};
 
 use std::alloc::Global;
 use std::marker::Model;
-use vcm_code::{Op, OwnedOp, OwnedStatement, Statement};
+use vcm_code::{CodeStatement, Op, OwnedOp, OwnedStatement};
 use vcm_num::{Items, NoMemory};
 
 /// The statements that are written so far. Contracts see them as a list.
@@ -17,7 +17,7 @@ pub(crate) struct Emitted {
 
 impl Model for Emitted {
     ghost use Rattle.std.specs.Prelude.{List};
-    ghost use Rattle.vcm_code.specs.Code.{Statement as Meaning};
+    ghost use Rattle.vcm_code.specs.Code.{CodeStatement as Meaning};
 
     ghost Value = { List Meaning };
 
@@ -45,7 +45,7 @@ impl Emitted {
     pub(crate) fn put(&mut self, line: u32, op: OwnedOp) -> Result<(), NoMemory>
         ensures { OnOk result (self.new ≡ self.old ++ statement line op ∷ []) }
     {
-        self.statements.push(Statement { line, op })?;
+        self.statements.push(CodeStatement { line, op })?;
         Ok(())
     }
 

@@ -3,14 +3,14 @@
 ghost use Rattle.std.specs.Prelude.{◌≡◌};
 ghost use Rattle.vcm_boxes.specs.Boxes.{AreBoxes};
 
-use crate::label::Label;
+use crate::label::ShortName;
 use std::marker::Model;
 use vcm_spec::Block3;
 
 /// A closed box that is fixed to the tip: its name, and its corners in micrometres from the centre of the tip along the axes of the machine.
 #[derive(Drop)]
 pub struct ProbeBox {
-    pub name: Label,
+    pub name: ShortName,
     pub block: Block3,
 }
 

@@ -4,7 +4,7 @@ ghost use Rattle.std.specs.Prelude.{◌≡◌, codes};
 ghost use Rattle.vcm_boxes.specs.declared.fault.BoxesFault.TheVariants.{NoMemory};
 ghost use Rattle.vcm_boxes.specs.Keys.{key_word};
 
-use crate::label::Label;
+use crate::label::ShortName;
 use std::alloc::{AllocError, AllocFailed};
 
 /// A key of a box in a probe file.
@@ -34,13 +34,13 @@ pub enum Refusal {
     /// The bytes are no UTF-8, or no TOML.
     NotToml,
     /// Another key than `box` stands there.
-    UnknownKey(Option<Label>),
+    UnknownKey(Option<ShortName>),
     /// `box` is absent, is no array of tables, or is empty.
     NoBoxes,
     /// There are more than 16 boxes.
     TooManyBoxes,
     /// A box has another key than `name`, `low` and `high`.
-    UnknownBoxKey(u32, Option<Label>),
+    UnknownBoxKey(u32, Option<ShortName>),
     /// A key of a box is absent, or its value isn't what it has to be: a label of at most 16 bytes, or three whole numbers.
     BadKey(u32, BoxKey),
     /// A coordinate of a corner is more than 10,000,000 micrometres from 0.

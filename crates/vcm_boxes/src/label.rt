@@ -32,12 +32,12 @@ fn is_label(most: usize, bytes: &[u8]) -> bool
 
 /// A word of 1 to 32 letters, digits, `-` and `_`, which takes no memory. Contracts see it as the list of its bytes.
 #[derive(Drop)]
-pub struct Label {
+pub struct ShortName {
     bytes: [u8; LONGEST],
     len: u8,
 }
 
-impl Model for Label {
+impl Model for ShortName {
     ghost use Rattle.std.specs.Prelude.{ℕ, List, take, ◌≤◌, IsTrue};
     ghost use Rattle.vcm_boxes.specs.Labels.{is_label};
 
@@ -48,27 +48,27 @@ impl Model for Label {
     ghost invariant = { λ n. (n.len ≤ 32) × IsTrue (is_label 32 (take n.len n.bytes)) };
 }
 
-impl Label {
+impl ShortName {
     // The label with these bytes.
-    fn new(bytes: &[u8]) -> Label
+    fn new(bytes: &[u8]) -> ShortName
         requires { IsTrue (is_label 32 bytes.now) }
         ensures { result ≡ bytes.now }
     {
         let mut own = [0; LONGEST];
         own[..bytes.len()].copy_from_slice(bytes);
-        Label {
+        ShortName {
             bytes: own,
             len: bytes.len() as u8,
         }
     }
 
     /// The label with these bytes, if they are one of at most `most` bytes, which is at most 32.
-    pub fn of(most: usize, bytes: &[u8]) -> Option<Label>
+    pub fn of(most: usize, bytes: &[u8]) -> Option<ShortName>
         requires { most ≤ 32 }
         ensures { result ≡ label_of most bytes.now }
     {
         if is_label(most, bytes) {
-            Some(Label::new(bytes))
+            Some(ShortName::new(bytes))
         } else {
             None
         }

@@ -9,5 +9,5 @@ mod reading;
 
 pub use boxes::{Boxes, ProbeBox};
 pub use fault::{BoxKey, BoxesFault, Refusal};
-pub use label::Label;
+pub use label::ShortName;
 pub use reading::read_boxes;

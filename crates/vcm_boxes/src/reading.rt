@@ -12,7 +12,7 @@ ghost use Rattle.vcm_boxes.specs.inner.Reads.{Gives};
 
 use crate::boxes::{Boxes, ProbeBox};
 use crate::fault::{BoxKey, BoxesFault, Refusal};
-use crate::label::Label;
+use crate::label::ShortName;
 use std::alloc::Global;
 use toml::{Table, Value};
 use vcm_num::{Point, is};
@@ -87,7 +87,7 @@ fn is_corner(corner: Point) -> bool
 
 // The name of box `number`.
 #[tactic(auto, unfolding(crate::specs::BoxFile::name_at))]
-fn name_at(table: &Table, number: u32) -> Result<Label, BoxesFault>
+fn name_at(table: &Table, number: u32) -> Result<ShortName, BoxesFault>
     ensures { Gives (λ n. n) result (name_at number (table_view table.now)) }
 {
     let Some(value) = value_at(table, BoxKey::Name.word()) else {
@@ -96,7 +96,7 @@ fn name_at(table: &Table, number: u32) -> Result<Label, BoxesFault>
     let Some(text) = value.as_str() else {
         return Err(BoxesFault::Refused(Refusal::BadKey(number, BoxKey::Name)));
     };
-    match Label::of(LONGEST_NAME, text.as_bytes()) {
+    match ShortName::of(LONGEST_NAME, text.as_bytes()) {
         Some(name) => Ok(name),
         None => Err(BoxesFault::Refused(Refusal::BadKey(number, BoxKey::Name))),
     }
@@ -135,7 +135,7 @@ fn box_in(above: &[ProbeBox], number: u32, table: &Table) -> Result<ProbeBox, Bo
     if let Some(key) = unknown_key(&[b"name", b"low", b"high"], table) {
         return Err(BoxesFault::Refused(Refusal::UnknownBoxKey(
             number,
-            Label::of(LONGEST_KEY, key.as_bytes()),
+            ShortName::of(LONGEST_KEY, key.as_bytes()),
         )));
     }
     let name = name_at(table, number)?;
@@ -216,7 +216,7 @@ fn boxes_of_table(alloc: Global, table: &Table) -> Result<Boxes, BoxesFault>
     ensures { Gives (λ b. b) result (boxes_of_table (table_view table.now)) }
 {
     if let Some(key) = unknown_key(&[b"box"], table) {
-        return Err(BoxesFault::Refused(Refusal::UnknownKey(Label::of(
+        return Err(BoxesFault::Refused(Refusal::UnknownKey(ShortName::of(
             LONGEST_KEY,
             key.as_bytes(),
         ))));

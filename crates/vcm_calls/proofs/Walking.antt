@@ -6,7 +6,7 @@ use Rattle.vcm_forms.specs.declared.statement.Form.{Form}
 use Rattle.vcm_forms.specs.declared.statement.Form.TheVariants.{Macro, MacroEnd, Call}
 use Rattle.vcm_forms.specs.declared.statement.Statement.{Statement}
 use Rattle.vcm_substitution.specs.Substitution.{Scope, outside, is_same, put_argument}
-use Rattle.vcm_macro.specs.Walk.{Defined, Place, Opens, Inside, Stands, Misplaced, Calls, calls_in, Caller, statement_in, body_in, call_in, misplaced_if, outside_in, waits_behind, text_from, walk_from, with_statement}
+use Rattle.vcm_macro.specs.Walk.{Defined, Visit, Opens, Inside, Stands, Misplaced, Calls, calls_in, Caller, statement_in, body_in, call_in, misplaced_if, outside_in, waits_behind, text_from, walk_from, with_statement}
 use Rattle.vcm_calls.specs.Carried.{called, Written, Carrier, carried_at, carried_in, carried, carried_text, carried_from, longer, calls_among, CarriesOutTheWalk}
 
 -- a macro as it is written
@@ -18,7 +18,7 @@ open_one None = None
 open_one (Some m) = Some (written m)
 
 -- the CALLs among places one behind the other
-among_both : (ps qs : List Place) → calls_among (ps ++ qs) ≡ calls_among ps ++ calls_among qs
+among_both : (ps qs : List Visit) → calls_among (ps ++ qs) ≡ calls_among ps ++ calls_among qs
 among_both [] qs = refl
 among_both (Opens ms s ∷ ps) qs = among_both ps qs
 among_both (Inside m s ∷ ps) qs = among_both ps qs
@@ -70,12 +70,12 @@ all_of_call (m ∷ ms) line depth done name args =
     cases true h k = ap (λ l. called line depth ∷ l) h
     cases false h k = k
 
-misplaced : (waits : Bool) (line : ℕ) (ps : List Place) → calls_among (misplaced_if waits line ++ ps) ≡ calls_among ps
+misplaced : (waits : Bool) (line : ℕ) (ps : List Visit) → calls_among (misplaced_if waits line ++ ps) ≡ calls_among ps
 misplaced true line ps = refl
 misplaced false line ps = refl
 
 -- one statement outside macros
-one_outside : (ms : List Defined) (waits : Bool) (done : ℕ) (s : Statement) (name : List ℕ) (args : List Argument) (on : List Place)
+one_outside : (ms : List Defined) (waits : Bool) (done : ℕ) (s : Statement) (name : List ℕ) (args : List Argument) (on : List Visit)
     → calls_among (outside_in (call_in ms) waits done s (Call name args) ++ on) ≡ carried (map written ms) s.line 1 name ++ calls_among on
 one_outside ms waits done s name args on =
     let ps = call_in ms s.line 1 done name (map (put_argument outside) args) in

@@ -4,7 +4,7 @@ use Rattle.vcm_forms.specs.declared.statement.Form.{Form}
 use Rattle.vcm_forms.specs.declared.statement.Form.TheVariants.{Macro, MacroEnd, Call}
 use Rattle.vcm_forms.specs.declared.statement.Statement.{Statement}
 use Rattle.vcm_substitution.specs.Substitution.{is_same}
-use Rattle.vcm_macro.specs.Walk.{Place, Calls, walk}
+use Rattle.vcm_macro.specs.Walk.{Visit, Calls, walk}
 use Rattle.vcm_calls.specs.declared.called.Called.{Called}
 
 -- a CALL on a line, nested so deep
@@ -64,7 +64,7 @@ abbrev pub carried_out : List Statement → List Called
 carried_out ss = carried_text [] None ss
 
 -- the CALLs among the places of the phase of macros
-abbrev pub calls_among : List Place → List Called
+abbrev pub calls_among : List Visit → List Called
 calls_among [] = []
 calls_among (Calls line depth m args ∷ ps) = called line depth ∷ calls_among ps
 calls_among (p ∷ ps) = calls_among ps

@@ -14,7 +14,7 @@ use vcm_program::Noticed;
 use vcm_prompt::{Prompts, debug_by_hand};
 use vcm_run::{run_text, write_result};
 use vcm_survey::{GivenFrame, Options, Shape, adapt, survey};
-use vcm_views::{View, view_of};
+use vcm_views::{RunView, view_of};
 
 /// A fault, and its exit status.
 pub(crate) fn told(alloc: Global, message: Message<'_>) -> Option<String> {
@@ -91,7 +91,7 @@ pub(crate) fn run_answer(alloc: Global, part: &str, program: &str, steps: u64) -
 // What a view of the run of a program beside a workpiece answers.
 fn view_beside(
     alloc: Global,
-    view: View,
+    view: RunView,
     part: &PartData,
     program: &str,
     steps: u64,
@@ -107,7 +107,7 @@ fn view_beside(
 /// What a view of the run of a program beside the workpiece of a part file answers, after so many steps at most.
 pub(crate) fn view_answer(
     alloc: Global,
-    view: View,
+    view: RunView,
     part: &str,
     program: &str,
     steps: u64,
@@ -154,7 +154,7 @@ fn clearance_beside(
     let mut out = Vec::new(alloc);
     match view_of(
         alloc,
-        View::Clearance(boxes),
+        RunView::Clearance(boxes),
         part,
         &mut input,
         steps,

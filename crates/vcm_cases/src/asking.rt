@@ -5,7 +5,7 @@ use std::alloc::Global;
 use vcm_command::{Asked, Produced, Request, Wanted, lines_of, request_of, steps_of};
 use vcm_explain::explanation;
 use vcm_messages::Message;
-use vcm_views::View;
+use vcm_views::RunView;
 
 // The words of a command line. One between apostrophes may have blanks, or nothing.
 fn words_of(alloc: Global, line: &str) -> Option<Vec<String>> {
@@ -38,14 +38,14 @@ fn probe_asked(alloc: Global, name: &str, asked: Asked<'_>, probe: &str) -> Opti
 }
 
 // The name of a view.
-fn name_of(view: View<'_>) -> &'static str {
+fn name_of(view: RunView<'_>) -> &'static str {
     match view {
-        View::Trace => "trace",
-        View::Margin => "margin",
-        View::Points => "points",
-        View::Picture { is_close: false } => "picture",
-        View::Picture { is_close: true } => "close",
-        View::Clearance(_) => "clearance",
+        RunView::Trace => "trace",
+        RunView::Margin => "margin",
+        RunView::Points => "points",
+        RunView::Picture { is_close: false } => "picture",
+        RunView::Picture { is_close: true } => "close",
+        RunView::Clearance(_) => "clearance",
     }
 }
 

@@ -17,7 +17,7 @@ use std::alloc::Global;
 use std::fmt::Write as _;
 use std::rt::Files;
 use vcm_test_tools::program_of;
-use vcm_views::View;
+use vcm_views::RunView;
 
 /// What stands below a heading.
 #[derive(Clone, Copy)]
@@ -37,7 +37,7 @@ enum Heading {
     /// A probe file, for all that follows.
     Probe,
     /// What a view of a run answers after so many steps at most.
-    View(View<'static>, u64),
+    View(RunView<'static>, u64),
     /// What the clearance of the probe's boxes answers after so many steps at most.
     Clearance(u64),
     /// Why a run stops where it does, after so many steps at most; that of the program's image, or of its text.
@@ -116,11 +116,11 @@ fn heading_of(title: &str) -> Heading {
 fn heading_with(word: &str, rest: &str) -> Heading {
     match word {
         "run" => run_heading(rest),
-        "trace" => view_heading(View::Trace, rest),
-        "margin" => view_heading(View::Margin, rest),
-        "points" => view_heading(View::Points, rest),
-        "picture" => view_heading(View::Picture { is_close: false }, rest),
-        "close" => view_heading(View::Picture { is_close: true }, rest),
+        "trace" => view_heading(RunView::Trace, rest),
+        "margin" => view_heading(RunView::Margin, rest),
+        "points" => view_heading(RunView::Points, rest),
+        "picture" => view_heading(RunView::Picture { is_close: false }, rest),
+        "close" => view_heading(RunView::Picture { is_close: true }, rest),
         "clearance" => clearance_heading(rest),
         "why" => why_heading(rest, false),
         "why-image" => why_heading(rest, true),
@@ -175,7 +175,7 @@ fn contacts_heading(steps: &str) -> Heading {
 }
 
 // The heading of a view.
-fn view_heading(view: View<'static>, steps: &str) -> Heading {
+fn view_heading(view: RunView<'static>, steps: &str) -> Heading {
     match steps.parse::<u64>() {
         Ok(steps) => Heading::View(view, steps),
         Err(_) => Heading::Unknown,

@@ -3,7 +3,7 @@
 use std::alloc::Global;
 use vcm_boxes::{Boxes, read_boxes};
 use vcm_part::PartData;
-use vcm_views::{View, view_of};
+use vcm_views::{RunView, view_of};
 
 // A word of a line, or nothing where it has no so many.
 fn word(line: &str, separator: char, place: usize) -> &str {
@@ -104,7 +104,7 @@ fn tip_box(alloc: Global, part: &PartData) -> Option<Boxes> {
 }
 
 // What a view of a run writes; nothing where there is none.
-fn viewed(alloc: Global, view: View, part: &PartData, program: &str, steps: u64) -> Vec<u8> {
+fn viewed(alloc: Global, view: RunView, part: &PartData, program: &str, steps: u64) -> Vec<u8> {
     let mut input = program.as_bytes();
     let mut out = Vec::new(alloc);
     match view_of(alloc, view, part, &mut input, steps, &mut out) {
@@ -124,8 +124,8 @@ pub(crate) fn is_told_by_its_box(
     let Some(boxes) = tip_box(alloc, part) else {
         return false;
     };
-    let points = viewed(alloc, View::Points, part, program, steps);
-    let contacts = viewed(alloc, View::Clearance(&boxes), part, program, steps);
+    let points = viewed(alloc, RunView::Points, part, program, steps);
+    let contacts = viewed(alloc, RunView::Clearance(&boxes), part, program, steps);
     let stop = stop_of(std::str::from_utf8(output).unwrap_or(""));
     let contacts = std::str::from_utf8(&contacts).unwrap_or("");
     match behind_points(contacts, std::str::from_utf8(&points).unwrap_or("")) {

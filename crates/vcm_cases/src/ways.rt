@@ -3,7 +3,7 @@
 use std::alloc::Global;
 use vcm_job::{build, debug, run};
 use vcm_part::PartData;
-use vcm_views::{View, view_of};
+use vcm_views::{RunView, view_of};
 
 // The most steps that one command of the debugger takes.
 const MOST: u64 = 1_000_000;
@@ -86,7 +86,7 @@ fn is_that_of_its_trace(
 ) -> bool {
     let mut input = program.as_bytes();
     let mut out = Vec::new(alloc);
-    if view_of(alloc, View::Trace, part, &mut input, steps, &mut out).is_err() {
+    if view_of(alloc, RunView::Trace, part, &mut input, steps, &mut out).is_err() {
         return false;
     }
     match std::str::from_utf8(&out) {

@@ -14,7 +14,7 @@ use Rattle.vcm_spec.specs.Touch.{centre_of}
 use Rattle.vcm_spec.specs.Stepping.{unless_stopped}
 use Rattle.vcm_spec.specs.Workpiece.{Workpiece, IsValid}
 use Rattle.vcm_spec.specs.World.{World, Settings}
-use Rattle.vcm_code.specs.Code.{Statement}
+use Rattle.vcm_code.specs.Code.{CodeStatement}
 use Rattle.vcm_code.specs.declared.code.Code.{Code}
 use Rattle.vcm_code.specs.CodeTable.{CodeState, code_step, fetched}
 use Rattle.vcm_machine.proofs.RestsAlong.{rests_always}
@@ -29,7 +29,7 @@ use Rattle.vcm_way.specs.Ways.{reason, step_marks}
 use Rattle.vcm_way.proofs.Depth.{retracts_to}
 use Rattle.vcm_way.proofs.Hanging.{next_state, step_went}
 use Rattle.vcm_way.proofs.Went.{Went, stays, moves, halts, touches, misses, points_of}
-use Rattle.vcm_gone.specs.Gone.{Gone, Placed, gone_in_move, gone_in_touch, gone_in, gone_of, placed_ways, ways_of}
+use Rattle.vcm_gone.specs.Gone.{Gone, PlacedWay, gone_in_move, gone_in_touch, gone_in, gone_of, placed_ways, ways_of}
 
 -- these ways, all gone whole, lead from the point a to the point b
 abbrev pub Chain : Point → List Gone → Point → Type 0
@@ -105,10 +105,10 @@ module _ (part : Workpiece) (valid : IsValid part) (w : World) (rests : Rests pa
 
 -- ---- all steps
 
-abbrev pub gones : List Placed → List Gone
+abbrev pub gones : List PlacedWay → List Gone
 gones ps = map (λ p. p.way) ps
 
-gones_more : (xs ys : List Placed) → gones (xs ++ ys) ≡ gones xs ++ gones ys
+gones_more : (xs ys : List PlacedWay) → gones (xs ++ ys) ≡ gones xs ++ gones ys
 gones_more [] ys = refl
 gones_more (x ∷ xs) ys = ap (λ l. x.way ∷ l) (gones_more xs ys)
 
@@ -149,7 +149,7 @@ module _ (part : Workpiece) (valid : IsValid part) (c : Code) where
       step : CodeState
       step = code_step (setup_with part c) c.statements m
 
-      by : (o : Option Statement) → slice_get c.statements m.next ≡ o → IsAlong (suc k)
+      by : (o : Option CodeStatement) → slice_get c.statements m.next ≡ o → IsAlong (suc k)
       by None got =
           stayed k h
           (ap (λ x. passages part c k ++ unless_stopped x [] (passage_at (suc k) m step (slice_get c.statements m.next))) e

@@ -8,7 +8,7 @@ use Rattle.vcm_spec.specs.Workpiece.{grown, is_block}
 use Rattle.vcm_carried.specs.declared.contact.Contact.{Contact}
 use Rattle.vcm_carried.specs.Carried.{IsBox}
 use Rattle.vcm_boxes.specs.declared.boxes.ProbeBox.{ProbeBox}
-use Rattle.vcm_gone.specs.Gone.{Placed}
+use Rattle.vcm_gone.specs.Gone.{PlacedWay}
 use Rattle.vcm_clearance.specs.declared.room.Room.{Room}
 use Rattle.vcm_clearance.specs.declared.room.Room.TheVariants.{Met, Clear}
 use Rattle.vcm_clearance.specs.Contacts.{contact_on, told_at}
@@ -33,7 +33,7 @@ last_free f (suc g) c none some = by (f g) refl (last_free f g)
     by (Some d) e k = (let i = k d none e in record { last = i.last; contact = i.contact; less = (let l = i.less in omega arith); free = i.free; met = i.met })
 
 module _ (blocks : List Block3) (box : Block3) (sides : IsBox 10000000 box) (all : list_all is_block blocks ≡ true) where
-  next_room : (ws : List Placed) (p : Placed) (r : Room) → IsRoom blocks box ws r → (s : Room) × IsRoom blocks box (ws ++ p ∷ []) s
+  next_room : (ws : List PlacedWay) (p : PlacedWay) (r : Room) → IsRoom blocks box ws r → (s : Room) × IsRoom blocks box (ws ++ p ∷ []) s
   next_room ws p (Met c) h = by (is_some (contact_on blocks true box p.way)) refl
     where
       by : (t : Bool) → is_some (contact_on blocks true box p.way) ≡ t → (s : Room) × IsRoom blocks box (ws ++ p ∷ []) s
@@ -56,7 +56,7 @@ module _ (blocks : List Block3) (box : Block3) (sides : IsBox 10000000 box) (all
       by None e = (Clear g m, clear_same blocks box sides all ws p g m e h)
       by (Some c) e = free (contact_on blocks true box p.way) refl c e
 
-  room_behind : (ps ws : List Placed) (r : Room) → IsRoom blocks box ws r → (s : Room) × IsRoom blocks box (ws ++ ps) s
+  room_behind : (ps ws : List PlacedWay) (r : Room) → IsRoom blocks box ws r → (s : Room) × IsRoom blocks box (ws ++ ps) s
   room_behind [] ws r h = (r, subst (λ l. IsRoom blocks box l r) (sym (append-nil ws)) h)
   room_behind (p ∷ ps) ws r h =
       let n = next_room ws p r h in
@@ -67,10 +67,10 @@ module _ (blocks : List Block3) (box : Block3) (sides : IsBox 10000000 box) (all
   pub free_room : IsRoom blocks box [] (Clear 50000 None)
   free_room = (refl, tt)
 
-  one_exists : (ws : List Placed) → (r : Room) × IsRoom blocks box ws r
+  one_exists : (ws : List PlacedWay) → (r : Room) × IsRoom blocks box ws r
   one_exists ws = room_behind ws [] (Clear 50000 None) free_room
 
-rooms_for : (blocks : List Block3) → list_all is_block blocks ≡ true → (ws : List Placed) (boxes : List ProbeBox)
+rooms_for : (blocks : List Block3) → list_all is_block blocks ≡ true → (ws : List PlacedWay) (boxes : List ProbeBox)
     → ((i : ℕ) (b : ProbeBox) → slice_get boxes i ≡ Some b → IsBox 10000000 b.block) → (rooms : List Room) × AreRooms blocks boxes ws rooms
 rooms_for blocks all ws [] sides = ([], record { count = refl; each = λ i b r at stands. absurd (let no : None ≡ Some b = at in cc) })
 rooms_for blocks all ws (b ∷ bs) sides =
@@ -87,6 +87,6 @@ rooms_for blocks all ws (b ∷ bs) sides =
     each r h rs k (suc i) c s at stands = k.each i c s at stands
 
 -- there are rooms
-pub rooms_exist : (blocks : List Block3) → list_all is_block blocks ≡ true → (ws : List Placed) (boxes : List ProbeBox)
+pub rooms_exist : (blocks : List Block3) → list_all is_block blocks ≡ true → (ws : List PlacedWay) (boxes : List ProbeBox)
     → ((i : ℕ) (b : ProbeBox) → slice_get boxes i ≡ Some b → IsBox 10000000 b.block) → (rooms : List Room) × AreRooms blocks boxes ws rooms
 rooms_exist = rooms_for

@@ -11,7 +11,7 @@ use Rattle.vcm_spec.specs.Workpiece.{grown, is_block}
 use Rattle.vcm_carried.specs.declared.contact.Contact.{Contact}
 use Rattle.vcm_carried.specs.Carried.{IsBox, AreSides}
 use Rattle.vcm_spec.proofs.Entries.{below_three}
-use Rattle.vcm_gone.specs.Gone.{Gone, Placed}
+use Rattle.vcm_gone.specs.Gone.{Gone, PlacedWay}
 use Rattle.vcm_clearance.specs.declared.told.Told.{Told}
 use Rattle.vcm_clearance.specs.declared.room.Room.TheVariants.{Met, Clear}
 use Rattle.vcm_clearance.specs.Contacts.{IsClearOn, contact_on, is_met_on, told_at, told_if, told_on}
@@ -58,19 +58,19 @@ count_more n c k e f = f ∙ ap (λ i. min (i + 1) most) e ∙ more_counted n
 module _ (blocks : List Block3) (box : Block3) where
   -- ---- lists of ways
 
-  pub clear_more : (g : ℕ) (ws : List Placed) (p : Placed) → IsClearBy blocks box ws g → IsClearOn blocks (grown g box) p.way → IsClearBy blocks box (ws ++ p ∷ []) g
+  pub clear_more : (g : ℕ) (ws : List PlacedWay) (p : PlacedWay) → IsClearBy blocks box ws g → IsClearOn blocks (grown g box) p.way → IsClearBy blocks box (ws ++ p ∷ []) g
   clear_more g [] p h c = (c, tt)
   clear_more g (w ∷ ws) p h c = (h.0, clear_more g ws p h.1 c)
 
-  pub clear_last : (g : ℕ) (ws : List Placed) (p : Placed) → IsClearBy blocks box (ws ++ p ∷ []) g → IsClearOn blocks (grown g box) p.way
+  pub clear_last : (g : ℕ) (ws : List PlacedWay) (p : PlacedWay) → IsClearBy blocks box (ws ++ p ∷ []) g → IsClearOn blocks (grown g box) p.way
   clear_last g [] p h = h.0
   clear_last g (w ∷ ws) p h = clear_last g ws p h.1
 
-  pub clear_less : (g more : ℕ) (ws : List Placed) → g ≤ more → IsClearBy blocks box ws more → IsClearBy blocks box ws g
+  pub clear_less : (g more : ℕ) (ws : List PlacedWay) → g ≤ more → IsClearBy blocks box ws more → IsClearBy blocks box ws g
   clear_less g more [] l h = tt
   clear_less g more (w ∷ ws) l h = (less_clear blocks box w.way g more l h.0, clear_less g more ws l h.1)
 
-  pub met_yes : (ws : List Placed) (p : Placed) → is_met_on blocks box p.way ≡ true → met_ways blocks box (ws ++ p ∷ []) ≡ met_ways blocks box ws + 1
+  pub met_yes : (ws : List PlacedWay) (p : PlacedWay) → is_met_on blocks box p.way ≡ true → met_ways blocks box (ws ++ p ∷ []) ≡ met_ways blocks box ws + 1
   met_yes [] p e = rw e refl
   met_yes (w ∷ ws) p e = by (is_met_on blocks box w.way) (met_yes ws p e)
     where
@@ -80,7 +80,7 @@ module _ (blocks : List Block3) (box : Block3) where
       by true h = omega (arith, h)
       by false h = h
 
-  pub met_no : (ws : List Placed) (p : Placed) → is_met_on blocks box p.way ≡ false → met_ways blocks box (ws ++ p ∷ []) ≡ met_ways blocks box ws
+  pub met_no : (ws : List PlacedWay) (p : PlacedWay) → is_met_on blocks box p.way ≡ false → met_ways blocks box (ws ++ p ∷ []) ≡ met_ways blocks box ws
   met_no [] p e = rw e refl
   met_no (w ∷ ws) p e = by (is_met_on blocks box w.way) (met_no ws p e)
     where
@@ -95,24 +95,24 @@ module _ (blocks : List Block3) (box : Block3) where
     not_met : (g : ℕ) (w : Gone) → IsClearOn blocks (grown g box) w → is_met_on blocks box w ≡ false
     not_met g w h = ap is_some (clear_none most box blocks sides all w (unmoved_clear blocks box w (less_clear blocks box w 0 g (omega arith) h)) true)
 
-    pub met_none : (g : ℕ) (ws : List Placed) → IsClearBy blocks box ws g → met_ways blocks box ws ≡ 0
+    pub met_none : (g : ℕ) (ws : List PlacedWay) → IsClearBy blocks box ws g → met_ways blocks box ws ≡ 0
     met_none g [] h = refl
     met_none g (w ∷ ws) h = rw (not_met g w.way h.0) (met_none g ws h.1)
 
     -- so nothing is told of it
-    pub clear_told : (g : ℕ) (ws : List Placed) (p : Placed) → IsClearBy blocks box (ws ++ p ∷ []) g → (is_first : Bool) → None ≡ told_on blocks is_first box p
+    pub clear_told : (g : ℕ) (ws : List PlacedWay) (p : PlacedWay) → IsClearBy blocks box (ws ++ p ∷ []) g → (is_first : Bool) → None ≡ told_on blocks is_first box p
     clear_told g ws p h is_first =
         sym (ap (told_if p) (clear_none most box blocks sides all p.way (unmoved_clear blocks box p.way (less_clear blocks box p.way 0 g (omega arith) (clear_last g ws p h))) is_first))
 
 -- a box that is clear on ways has its first contact behind them
-pub told_none : (size : ℕ) (blocks : List Block3) (box : Block3) → IsBox size box → list_all is_block blocks ≡ true → (ws ps : List Placed)
+pub told_none : (size : ℕ) (blocks : List Block3) (box : Block3) → IsBox size box → list_all is_block blocks ≡ true → (ws ps : List PlacedWay)
     → AllByRecursion (λ p. IsClearOn blocks box p.way) ws → first_told blocks box (ws ++ ps) ≡ first_told blocks box ps
 told_none size blocks box sides all [] ps h = refl
 told_none size blocks box sides all (w ∷ ws) ps h =
     ap (λ o. or_else (told_if w o) (first_told blocks box (ws ++ ps))) (clear_none size box blocks sides all w.way h.0 true) ∙ told_none size blocks box sides all ws ps h.1
 
 -- one that has its first contact has it
-told_stays : (blocks : List Block3) (box : Block3) (t : Told) (ws ps : List Placed) → first_told blocks box ws ≡ Some t → first_told blocks box (ws ++ ps) ≡ Some t
+told_stays : (blocks : List Block3) (box : Block3) (t : Told) (ws ps : List PlacedWay) → first_told blocks box ws ≡ Some t → first_told blocks box (ws ++ ps) ≡ Some t
 told_stays blocks box t [] ps e = absurd (let no : None ≡ Some t = e in cc)
 told_stays blocks box t (w ∷ ws) ps e = by (told_on blocks true box w) e (told_stays blocks box t ws ps)
   where
@@ -123,7 +123,7 @@ told_stays blocks box t (w ∷ ws) ps e = by (told_on blocks true box w) e (told
 
 -- ---- rooms
 
-module _ (blocks : List Block3) (box : Block3) (sides : IsBox 10000000 box) (all : list_all is_block blocks ≡ true) (ws : List Placed) where
+module _ (blocks : List Block3) (box : Block3) (sides : IsBox 10000000 box) (all : list_all is_block blocks ≡ true) (ws : List PlacedWay) where
   -- a room is at most 50 mm
   pub room_few : (g : ℕ) (m : Option Told) → IsRoom blocks box ws (Clear g m) → g ≤ 50000
   room_few g None h = omega (arith, h.0)
@@ -133,7 +133,7 @@ module _ (blocks : List Block3) (box : Block3) (sides : IsBox 10000000 box) (all
   room_clear g None h = h.1
   room_clear g (Some t) h = h.1
 
-module _ (blocks : List Block3) (box : Block3) (sides : IsBox 10000000 box) (all : list_all is_block blocks ≡ true) (ws : List Placed) (p : Placed) where
+module _ (blocks : List Block3) (box : Block3) (sides : IsBox 10000000 box) (all : list_all is_block blocks ≡ true) (ws : List PlacedWay) (p : PlacedWay) where
   abbrev few_of : (g : ℕ) (m : Option Told) → IsRoom blocks box ws (Clear g m) → g ≤ 50000
   few_of g m h = room_few blocks box sides all ws g m h
 

@@ -13,7 +13,7 @@ use Rattle.vcm_spec.specs.Workpiece.{Workpiece, IsValid}
 use Rattle.vcm_spec.specs.declared.stop.StopPlace.{StopPlace}
 use Rattle.vcm_spec.specs.Setup.{setup_of}
 use Rattle.vcm_spec.specs.World.{World, Settings}
-use Rattle.vcm_code.specs.Code.{Statement}
+use Rattle.vcm_code.specs.Code.{CodeStatement}
 use Rattle.vcm_code.specs.declared.code.Code.{Code}
 use Rattle.vcm_code.specs.CodeTable.{code_steps}
 use Rattle.vcm_machine.specs.declared.ran.End.{End}
@@ -29,12 +29,12 @@ use Rattle.vcm_way.specs.Ways.{reason}
 use Rattle.vcm_boxes.specs.declared.boxes.ProbeBox.{ProbeBox}
 use Rattle.vcm_boxes.specs.Boxes.{AreBoxes}
 use Rattle.vcm_gone.specs.declared.ways.Gone.{Gone as Went}
-use Rattle.vcm_gone.specs.Gone.{Gone, Placed, gone_in, placed_ways, ways_of}
+use Rattle.vcm_gone.specs.Gone.{Gone, PlacedWay, gone_in, placed_ways, ways_of}
 use Rattle.vcm_gone.specs.Seen.{AreSame}
 use Rattle.vcm_clearance.specs.declared.clearing.Cleared.{Cleared}
 use Rattle.vcm_clearance.specs.declared.clearing.ClearanceFault.{ClearanceFault}
 use Rattle.vcm_clearance.specs.declared.clearing.ClearanceFault.TheVariants as faults
-use Rattle.vcm_clearance.specs.declared.rooms.Place.{Place}
+use Rattle.vcm_clearance.specs.declared.rooms.Moment.{Moment}
 use Rattle.vcm_clearance.specs.declared.room.Room.{Room}
 use Rattle.vcm_clearance.specs.Rooms.{AreRooms, counted, is_met_room}
 use Rattle.vcm_clearance.specs.Printed.{way_lines, run_lines, ways_text, boxes_lines, end_line}
@@ -46,13 +46,13 @@ use Rattle.vcm_clearance.proofs.Sizes.{box_at}
 -- ---- lines of more ways
 
 module _ (blocks : List Block3) (boxes : List ProbeBox) where
-  later_lines : (ws ps : List Placed) → run_lines blocks boxes false ws ++ run_lines blocks boxes false ps ≡ run_lines blocks boxes false (ws ++ ps)
+  later_lines : (ws ps : List PlacedWay) → run_lines blocks boxes false ws ++ run_lines blocks boxes false ps ≡ run_lines blocks boxes false (ws ++ ps)
   later_lines [] ps = refl
   later_lines (w ∷ ws) ps =
       append_assoc (way_lines blocks boxes false w) (run_lines blocks boxes false ws) (run_lines blocks boxes false ps)
       ∙ ap (λ l. way_lines blocks boxes false w ++ l) (later_lines ws ps)
 
-  pub more_lines : (ws ps : List Placed) → run_lines blocks boxes true ws ++ run_lines blocks boxes (is_empty ws) ps ≡ run_lines blocks boxes true (ws ++ ps)
+  pub more_lines : (ws ps : List PlacedWay) → run_lines blocks boxes true ws ++ run_lines blocks boxes (is_empty ws) ps ≡ run_lines blocks boxes true (ws ++ ps)
   more_lines [] ps = refl
   more_lines (w ∷ ws) ps =
       append_assoc (way_lines blocks boxes true w) (run_lines blocks boxes false ws) (run_lines blocks boxes false ps)
@@ -68,7 +68,7 @@ placed_same step number line (v ∷ vs) [] h = absurd h
 placed_same step number line (v ∷ vs) (g ∷ gs) h = (record { way = h.0; step = refl; number = refl; line = refl }, placed_same step number line vs gs h.1)
 
 -- the ways of a step, by what was known before it
-pub step_placed : (part : Workpiece) (b : Before) (s : Statement) (w after : World) → IsBefore part.bounds.home w s b → (count number next : ℕ) (vs : List Went)
+pub step_placed : (part : Workpiece) (b : Before) (s : CodeStatement) (w after : World) → IsBefore part.bounds.home w s b → (count number next : ℕ) (vs : List Went)
     → AreSame vs (gone_in part b.position b.settings b.task (reason after.stop))
     → ArePlaced (record { step = count; number = number; line = s.line }) vs (placed_ways part (passage count number s w after next))
 step_placed part b s w after is count number next vs h =
@@ -79,7 +79,7 @@ step_placed part b s w after is count number next vs h =
     placed_same count number s.line vs _ (subst (AreSame vs) e h)
 
 module _ (part : Workpiece) (boxes : List ProbeBox) (rooms : List Room) (count : ℕ) (old mid : Option (List ℕ)) (between : List Room) (sum : ℕ) (ps : List Passage)
-    (tried : HasTried part boxes rooms count old between sum mid ps) (p : Passage) (place : Place) (vs : List Went) (placed : ArePlaced place vs (placed_ways part p)) where
+    (tried : HasTried part boxes rooms count old between sum mid ps) (p : Passage) (place : Moment) (vs : List Went) (placed : ArePlaced place vs (placed_ways part p)) where
   more_in : ways_in part ps ++ placed_ways part p ≡ ways_in part (ps ++ p ∷ [])
   more_in = flat_map_more (placed_ways part) [] ps p
 
@@ -88,7 +88,7 @@ module _ (part : Workpiece) (boxes : List ProbeBox) (rooms : List Room) (count :
   lines_in = more_lines part.blocks boxes (ways_in part ps) (placed_ways part p) ∙ ap (run_lines part.blocks boxes true) more_in
 
   pub step_tried : (after : List Room) (total : ℕ) (new : Option (List ℕ))
-      → ((ws qs : List Placed) → ArePlaced place vs qs → IsDone part.blocks boxes ws between sum → IsDone part.blocks boxes (ws ++ qs) after total × Appends mid new (run_lines part.blocks boxes (is_empty ws) qs))
+      → ((ws qs : List PlacedWay) → ArePlaced place vs qs → IsDone part.blocks boxes ws between sum → IsDone part.blocks boxes (ws ++ qs) after total × Appends mid new (run_lines part.blocks boxes (is_empty ws) qs))
       → HasTried part boxes rooms count old after total new (ps ++ p ∷ [])
   step_tried after total new h start =
       let so_far = tried start in
@@ -98,7 +98,7 @@ module _ (part : Workpiece) (boxes : List ProbeBox) (rooms : List Room) (count :
       )
 
   pub step_broken : (new : Option (List ℕ))
-      → ((ws qs : List Placed) → ArePlaced place vs qs → IsDone part.blocks boxes ws between sum → AppendsFront mid new (run_lines part.blocks boxes (is_empty ws) qs))
+      → ((ws qs : List PlacedWay) → ArePlaced place vs qs → IsDone part.blocks boxes ws between sum → AppendsFront mid new (run_lines part.blocks boxes (is_empty ws) qs))
       → (n : ℕ) → n ≡ p.count → HasBroken part boxes rooms count old new ps p (faults.Write n)
   step_broken new h n e = (
     e,
@@ -110,7 +110,7 @@ module _ (part : Workpiece) (boxes : List ProbeBox) (rooms : List Room) (count :
 
 module _ (part : Workpiece) (valid : IsValid part) (boxes : List ProbeBox) (are : AreBoxes boxes) (c : Code) (n : ℕ) where
   -- the ways of a run begin with those of its first steps
-  ways_front : (k : ℕ) → k ≤ n → (rest : List Placed) × (ways_in part (passages part c k) ++ rest ≡ ways_of part c n)
+  ways_front : (k : ℕ) → k ≤ n → (rest : List PlacedWay) × (ways_in part (passages part c k) ++ rest ≡ ways_of part c n)
   ways_front k l =
       let r = rest_of part c k (n - k) in
       let all : k + (n - k) ≡ n = omega (arith, l) in

@@ -5,7 +5,7 @@ use Rattle.std.proofs.lemmas.Bool.{cases_lt}
 use Rattle.vcm_spec.specs.declared.workpiece.Block3.{Block3}
 use Rattle.vcm_spec.specs.Workpiece.{grown, is_block}
 use Rattle.vcm_carried.specs.Carried.{IsBox}
-use Rattle.vcm_gone.specs.Gone.{Placed}
+use Rattle.vcm_gone.specs.Gone.{PlacedWay}
 use Rattle.vcm_clearance.specs.declared.told.Told.{Told}
 use Rattle.vcm_clearance.specs.declared.room.Room.{Room}
 use Rattle.vcm_clearance.specs.declared.room.Room.TheVariants.{Met, Clear}
@@ -16,13 +16,13 @@ use Rattle.vcm_clearance.proofs.Answers.{clear_none}
 use Rattle.vcm_clearance.proofs.Roominess.{grown_box, met_none, clear_less, room_few, room_clear}
 
 -- of a box that is clear on all ways nothing is told first
-none_told : (most : ℕ) (blocks : List Block3) (box : Block3) → IsBox most box → list_all is_block blocks ≡ true → (ws : List Placed)
+none_told : (most : ℕ) (blocks : List Block3) (box : Block3) → IsBox most box → list_all is_block blocks ≡ true → (ws : List PlacedWay)
     → AllByRecursion (λ p. IsClearOn blocks box p.way) ws → first_told blocks box ws ≡ None
 none_told most blocks box sides all [] h = refl
 none_told most blocks box sides all (w ∷ ws) h =
     ap (λ o. or_else (told_if w o) (first_told blocks box ws)) (clear_none most box blocks sides all w.way h.0 true) ∙ none_told most blocks box sides all ws h.1
 
-module _ (box : Block3) (blocks : List Block3) (sides : IsBox 10000000 box) (all : list_all is_block blocks ≡ true) (ws : List Placed) where
+module _ (box : Block3) (blocks : List Block3) (sides : IsBox 10000000 box) (all : list_all is_block blocks ≡ true) (ws : List PlacedWay) where
   -- no room is the greater one
   no_more : (g more : ℕ) (m n : Option Told) → IsRoom blocks box ws (Clear g m) → IsRoom blocks box ws (Clear more n) → g < more → ⊥
   no_more g more None n h k l = let few = room_few blocks box sides all ws more n k in absurd (omega (arith, h.0, few, l))

@@ -11,7 +11,7 @@ use Rattle.vcm_spec.specs.FirstContact.{fraction}
 use Rattle.vcm_carried.specs.declared.contact.Contact.{Contact}
 use Rattle.vcm_carried.specs.Carried.{IsBox, IsCarried, BoxMeets, Counts, IsFirstContact}
 use Rattle.vcm_carried.proofs.Contacts.{contact_is}
-use Rattle.vcm_gone.specs.Gone.{Gone, Placed, ways_of}
+use Rattle.vcm_gone.specs.Gone.{Gone, PlacedWay, ways_of}
 use Rattle.vcm_clearance.specs.Contacts.{contact_on, is_met_on, told_at, told_if}
 use Rattle.vcm_clearance.specs.Rooms.{met_ways}
 use Rattle.vcm_clearance.specs.Laws.{IsSomeTold, WhatIsMetIsTold}
@@ -54,20 +54,20 @@ module _ (box : Block3) (blocks : List Block3) (sides : IsBox 10000000 box) (all
       absurd (clear there.is_hit.index f.block f.stands there.is_hit.a there.is_hit.b (record { meets = f.meets; outside = λ s. free there.is_hit.index f.block f.stands w.to s }))
 
   -- on the first way each contact is told, later on one that begins where none is met
-  told_here : (is_first : Bool) (p : Placed) (c : Contact) → (is_first ≡ true) ⊎ IsFree p.way.from → contact_on blocks true box p.way ≡ Some c → (o : Option Contact) → contact_on blocks is_first box p.way ≡ o
+  told_here : (is_first : Bool) (p : PlacedWay) (c : Contact) → (is_first ≡ true) ⊎ IsFree p.way.from → contact_on blocks true box p.way ≡ Some c → (o : Option Contact) → contact_on blocks is_first box p.way ≡ o
       → (d : Contact) × (o ≡ Some d)
   told_here true p c start met o e = (c, sym e ∙ met)
   told_here false p c (inl never) met o e = absurd (let same : false ≡ true = never in cc)
   told_here false p c (inr free) met o e = enters p.way c free met o e
 
-  told_along : (ws : List Placed) (is_first : Bool) (a : Point) → LastChain a (gones ws) → (is_first ≡ true) ⊎ IsFree a → 0 < met_ways blocks box ws → IsSomeTold blocks box is_first ws
+  told_along : (ws : List PlacedWay) (is_first : Bool) (a : Point) → LastChain a (gones ws) → (is_first ≡ true) ⊎ IsFree a → 0 < met_ways blocks box ws → IsSomeTold blocks box is_first ws
   told_along [] is_first a chain start some = absurd (omega (arith, some))
   told_along (p ∷ ps) is_first a chain start some = by (contact_on blocks true box p.way) refl (λ f b h k more. told_along ps f b h k more)
     where
       begins : p.way.from ≡ a
       begins = first_of ps chain
         where
-          first_of : (qs : List Placed) → LastChain a (p.way ∷ gones qs) → p.way.from ≡ a
+          first_of : (qs : List PlacedWay) → LastChain a (p.way ∷ gones qs) → p.way.from ≡ a
           first_of [] h = h
           first_of (q ∷ qs) h = h.0
 
@@ -80,7 +80,7 @@ module _ (box : Block3) (blocks : List Block3) (sides : IsBox 10000000 box) (all
       by (Some c) e k = (let d = told_here is_first p c from_here e (contact_on blocks is_first box p.way) refl in inl (told_at p d.0, ap (told_if p) d.1))
       by None e k = inr (later ps chain (subst (λ t. 0 < length (cond t (p ∷ filter (λ q. is_met_on blocks box q.way) ps) (filter (λ q. is_met_on blocks box q.way) ps))) (ap is_some e) some) k)
         where
-          later : (qs : List Placed) → LastChain a (p.way ∷ gones qs) → 0 < met_ways blocks box qs
+          later : (qs : List PlacedWay) → LastChain a (p.way ∷ gones qs) → 0 < met_ways blocks box qs
               → ((is_first : Bool) (b : Point) → LastChain b (gones qs) → (is_first ≡ true) ⊎ IsFree b → 0 < met_ways blocks box qs → IsSomeTold blocks box is_first qs) → IsSomeTold blocks box false qs
           later [] h more k = absurd (omega (arith, more))
           later (q ∷ qs) h more k = k false p.way.to h.2 (inr (free_behind p.way h.1 e)) more

@@ -7,11 +7,11 @@ use Rattle.vcm_spec.specs.Workpiece.{grown, is_block}
 use Rattle.vcm_carried.specs.declared.contact.Contact.{Contact}
 use Rattle.vcm_carried.specs.Carried.{IsBox}
 use Rattle.vcm_gone.specs.declared.ways.Gone.{Gone as Went}
-use Rattle.vcm_gone.specs.Gone.{Gone, Placed}
+use Rattle.vcm_gone.specs.Gone.{Gone, PlacedWay}
 use Rattle.vcm_gone.specs.Seen.{IsSameWay, seen}
 use Rattle.vcm_clearance.specs.declared.told.Told.{Told}
 use Rattle.vcm_clearance.specs.declared.room.Room.TheVariants.{Met, Clear}
-use Rattle.vcm_clearance.specs.declared.rooms.Place.{Place}
+use Rattle.vcm_clearance.specs.declared.rooms.Moment.{Moment}
 use Rattle.vcm_clearance.specs.Contacts.{contact_on, told_at}
 use Rattle.vcm_clearance.specs.Rooms.{most, IsRoom}
 use Rattle.vcm_clearance.specs.inner.Following.{IsPlaced, IsClearWith, IsMetWith}
@@ -44,7 +44,7 @@ module _ (blocks : List Block3) (box : Block3) (sides : IsBox 10000000 box) (all
   some_width zero c h k = absurd (let no : None ≡ Some c = sym (h (seen v) (itself v)) ∙ k (seen v) (itself v) in cc)
   some_width (suc g) c h k = omega arith
 
-  module _ (place : Place) (ws : List Placed) (p : Placed) (placed : IsPlaced place v p) where
+  module _ (place : Moment) (ws : List PlacedWay) (p : PlacedWay) (placed : IsPlaced place v p) where
     pub trial_more : (o : Option Contact) (c : Contact) → o ≡ Some c → Finds (contact_on blocks true box) o → (k n : ℕ) → n ≡ min (k + 1) most
         → IsRoom blocks box ws (Met k) → IsRoom blocks box (ws ++ p ∷ []) (Met n)
     trial_more o c e h k n f room = meets_more blocks box sides all ws p k n f (ap is_some (sym (h p.way placed.way) ∙ e)) room

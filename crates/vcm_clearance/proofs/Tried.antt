@@ -13,8 +13,8 @@ use Rattle.vcm_num.proofs.KnownWrites.{appends_nothing, appends_more, front_firs
 use Rattle.vcm_spec.specs.declared.workpiece.Block3.{Block3}
 use Rattle.vcm_boxes.specs.declared.boxes.ProbeBox.{ProbeBox}
 use Rattle.vcm_gone.specs.declared.ways.Gone.{Gone as Went}
-use Rattle.vcm_gone.specs.Gone.{Placed}
-use Rattle.vcm_clearance.specs.declared.rooms.Place.{Place}
+use Rattle.vcm_gone.specs.Gone.{PlacedWay}
+use Rattle.vcm_clearance.specs.declared.rooms.Moment.{Moment}
 use Rattle.vcm_clearance.specs.declared.room.Room.{Room}
 use Rattle.vcm_clearance.specs.declared.room.Room.TheVariants.{Clear}
 use Rattle.vcm_clearance.specs.Contacts.{told_on}
@@ -39,7 +39,7 @@ set_elsewhere (x ∷ xs) (suc n) (suc i) v h = set_elsewhere xs n i v (λ e. h (
 
 -- ---- one way
 
-module _ (blocks : List Block3) (boxes : List ProbeBox) (is_first : Bool) (ws : List Placed) (p : Placed) where
+module _ (blocks : List Block3) (boxes : List ProbeBox) (is_first : Bool) (ws : List PlacedWay) (p : PlacedWay) where
   abbrev line : ProbeBox → List ℕ
   line b = contact_line b.name (told_on blocks is_first b.block p)
 
@@ -104,22 +104,22 @@ first_is n count e =
     grind (arith, some)
 
 -- the first way of a run is that behind none
-pub is_first_way : (ws : List Placed) (count : ℕ) → count ≡ counted (length ws) → (count == 0) ≡ is_empty ws
+pub is_first_way : (ws : List PlacedWay) (count : ℕ) → count ≡ counted (length ws) → (count == 0) ≡ is_empty ws
 is_first_way [] count e = (let none : count ≡ 0 = e ∙ min-eq_left {n = 0} {m = most} (omega arith) in rw none refl)
 is_first_way (w ∷ ws) count e = first_is (length ws) count e
 
-not_empty : (ws : List Placed) (p : Placed) → is_empty (ws ++ p ∷ []) ≡ false
+not_empty : (ws : List PlacedWay) (p : PlacedWay) → is_empty (ws ++ p ∷ []) ≡ false
 not_empty [] p = refl
 not_empty (w ∷ ws) p = refl
 
-module _ (blocks : List Block3) (boxes : List ProbeBox) (place : Place) where
-  pub no_way : (ws ps : List Placed) (rooms : List Room) (count : ℕ) (old : Option (List ℕ)) → ArePlaced place [] ps → IsDone blocks boxes ws rooms count
+module _ (blocks : List Block3) (boxes : List ProbeBox) (place : Moment) where
+  pub no_way : (ws ps : List PlacedWay) (rooms : List Room) (count : ℕ) (old : Option (List ℕ)) → ArePlaced place [] ps → IsDone blocks boxes ws rooms count
       → IsDone blocks boxes (ws ++ ps) rooms count × Appends old old (run_lines blocks boxes (is_empty ws) ps)
   no_way ws [] rooms count old h d = (subst (λ l. IsDone blocks boxes l rooms count) (sym (append-nil ws)) d, appends_nothing old)
   no_way ws (p ∷ ps) rooms count old h d = absurd h
 
   -- one more way was tried, and is counted
-  pub one_done : (ws : List Placed) (p : Placed) (rooms : List Room) (count sum : ℕ) → count ≡ counted (length ws) → sum ≡ min (count + 1) most
+  pub one_done : (ws : List PlacedWay) (p : PlacedWay) (rooms : List Room) (count sum : ℕ) → count ≡ counted (length ws) → sum ≡ min (count + 1) most
       → AreRooms blocks boxes (ws ++ p ∷ []) rooms → IsDone blocks boxes (ws ++ p ∷ []) rooms sum
   one_done ws p rooms count sum e f h = record {
     are_rooms = h;
@@ -129,9 +129,9 @@ module _ (blocks : List Block3) (boxes : List ProbeBox) (place : Place) where
   module _ (v : Went) (vs : List Went) (count : ℕ) where
     -- the first way, and those behind it
     pub more_ways : (is_first : Bool) → is_first ≡ (count == 0) → (start first last : List Room) (sum total : ℕ) (old mid new : Option (List ℕ)) → sum ≡ min (count + 1) most
-        → ((ws : List Placed) (p : Placed) → IsPlaced place v p → AreRooms blocks boxes ws start → AreRooms blocks boxes (ws ++ p ∷ []) first × Appends old mid (way_lines blocks boxes is_first p))
-        → ((ws ps : List Placed) → ArePlaced place vs ps → IsDone blocks boxes ws first sum → IsDone blocks boxes (ws ++ ps) last total × Appends mid new (run_lines blocks boxes (is_empty ws) ps))
-        → (ws ps : List Placed) → ArePlaced place (v ∷ vs) ps → IsDone blocks boxes ws start count → IsDone blocks boxes (ws ++ ps) last total × Appends old new (run_lines blocks boxes (is_empty ws) ps)
+        → ((ws : List PlacedWay) (p : PlacedWay) → IsPlaced place v p → AreRooms blocks boxes ws start → AreRooms blocks boxes (ws ++ p ∷ []) first × Appends old mid (way_lines blocks boxes is_first p))
+        → ((ws ps : List PlacedWay) → ArePlaced place vs ps → IsDone blocks boxes ws first sum → IsDone blocks boxes (ws ++ ps) last total × Appends mid new (run_lines blocks boxes (is_empty ws) ps))
+        → (ws ps : List PlacedWay) → ArePlaced place (v ∷ vs) ps → IsDone blocks boxes ws start count → IsDone blocks boxes (ws ++ ps) last total × Appends old new (run_lines blocks boxes (is_empty ws) ps)
     more_ways is_first f start first last sum total old mid new s one rest ws [] h d = absurd h
     more_ways is_first f start first last sum total old mid new s one rest ws (p ∷ ps) h d =
         let flag : is_first ≡ is_empty ws = f ∙ is_first_way ws count d.counted_is in
@@ -145,8 +145,8 @@ module _ (blocks : List Block3) (boxes : List ProbeBox) (place : Place) where
 
     -- a line of the first could not be written
     pub cut_first : (is_first : Bool) → is_first ≡ (count == 0) → (start : List Room) (old new : Option (List ℕ))
-        → ((ws : List Placed) (p : Placed) → IsPlaced place v p → AreRooms blocks boxes ws start → AppendsFront old new (way_lines blocks boxes is_first p))
-        → (ws ps : List Placed) → ArePlaced place (v ∷ vs) ps → IsDone blocks boxes ws start count → AppendsFront old new (run_lines blocks boxes (is_empty ws) ps)
+        → ((ws : List PlacedWay) (p : PlacedWay) → IsPlaced place v p → AreRooms blocks boxes ws start → AppendsFront old new (way_lines blocks boxes is_first p))
+        → (ws ps : List PlacedWay) → ArePlaced place (v ∷ vs) ps → IsDone blocks boxes ws start count → AppendsFront old new (run_lines blocks boxes (is_empty ws) ps)
     cut_first is_first f start old new one ws [] h d = absurd h
     cut_first is_first f start old new one ws (p ∷ ps) h d =
         let flag : is_first ≡ is_empty ws = f ∙ is_first_way ws count d.counted_is in
@@ -155,9 +155,9 @@ module _ (blocks : List Block3) (boxes : List ProbeBox) (place : Place) where
 
     -- a line of those behind it could not
     pub cut_later : (is_first : Bool) → is_first ≡ (count == 0) → (start first : List Room) (sum : ℕ) (old mid new : Option (List ℕ)) → sum ≡ min (count + 1) most
-        → ((ws : List Placed) (p : Placed) → IsPlaced place v p → AreRooms blocks boxes ws start → AreRooms blocks boxes (ws ++ p ∷ []) first × Appends old mid (way_lines blocks boxes is_first p))
-        → ((ws ps : List Placed) → ArePlaced place vs ps → IsDone blocks boxes ws first sum → AppendsFront mid new (run_lines blocks boxes (is_empty ws) ps))
-        → (ws ps : List Placed) → ArePlaced place (v ∷ vs) ps → IsDone blocks boxes ws start count → AppendsFront old new (run_lines blocks boxes (is_empty ws) ps)
+        → ((ws : List PlacedWay) (p : PlacedWay) → IsPlaced place v p → AreRooms blocks boxes ws start → AreRooms blocks boxes (ws ++ p ∷ []) first × Appends old mid (way_lines blocks boxes is_first p))
+        → ((ws ps : List PlacedWay) → ArePlaced place vs ps → IsDone blocks boxes ws first sum → AppendsFront mid new (run_lines blocks boxes (is_empty ws) ps))
+        → (ws ps : List PlacedWay) → ArePlaced place (v ∷ vs) ps → IsDone blocks boxes ws start count → AppendsFront old new (run_lines blocks boxes (is_empty ws) ps)
     cut_later is_first f start first sum old mid new s one rest ws [] h d = absurd h
     cut_later is_first f start first sum old mid new s one rest ws (p ∷ ps) h d =
         let flag : is_first ≡ is_empty ws = f ∙ is_first_way ws count d.counted_is in

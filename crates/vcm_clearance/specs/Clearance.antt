@@ -10,7 +10,7 @@ use Rattle.vcm_machine.specs.declared.ran.End.TheVariants.{NoMemory}
 use Rattle.vcm_machine.specs.Running.{started, later, RunEnded}
 use Rattle.vcm_steps.specs.Passages.{state_after, steps_taken}
 use Rattle.vcm_boxes.specs.declared.boxes.ProbeBox.{ProbeBox}
-use Rattle.vcm_gone.specs.Gone.{Placed, ways_of}
+use Rattle.vcm_gone.specs.Gone.{PlacedWay, ways_of}
 use Rattle.vcm_clearance.specs.declared.clearing.Cleared.{Cleared}
 use Rattle.vcm_clearance.specs.declared.clearing.ClearanceFault.{ClearanceFault}
 use Rattle.vcm_clearance.specs.declared.clearing.ClearanceFault.TheVariants as faults
@@ -23,7 +23,7 @@ abbrev pub contact_lines : Workpiece → List ProbeBox → Code → ℕ → List
 contact_lines part boxes c k = run_lines part.blocks boxes true (ways_of part c k)
 
 -- what comes behind the contacts of a run that did so many steps: how many ways there were, the rooms, and how it ended
-abbrev pub summary : List ProbeBox → Code → List Placed → List Room → Option StopPlace → ℕ → List ℕ
+abbrev pub summary : List ProbeBox → Code → List PlacedWay → List Room → Option StopPlace → ℕ → List ℕ
 summary boxes c ways rooms stop done = ways_text (counted (length ways)) ++ (boxes_lines boxes rooms ++ end_line c.tables stop done)
 
 -- the clearance of these boxes in a run for at most n steps, their rooms being these

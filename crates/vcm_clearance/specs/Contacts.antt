@@ -6,7 +6,7 @@ use Rattle.vcm_spec.specs.Contact.{IsClear}
 use Rattle.vcm_carried.specs.declared.contact.Contact.{Contact}
 use Rattle.vcm_carried.specs.Carried.{BoxMeetsBy}
 use Rattle.vcm_carried.specs.FirstCarried.{box_contact}
-use Rattle.vcm_gone.specs.Gone.{Gone, Placed}
+use Rattle.vcm_gone.specs.Gone.{Gone, PlacedWay}
 use Rattle.vcm_clearance.specs.declared.told.Told.{Told}
 
 -- at which fractions the box meets a block on a way: those that were gone
@@ -26,14 +26,14 @@ abbrev pub is_met_on : List Block3 → Block3 → Gone → Bool
 is_met_on blocks box way = is_some (contact_on blocks true box way)
 
 -- a contact with its way
-abbrev pub told_at : Placed → Contact → Told
+abbrev pub told_at : PlacedWay → Contact → Told
 told_at p contact = record { going = p.way.going; step = p.step; number = p.number; line = p.line; contact = contact }
 
 -- a contact with its way, if there is one
-abbrev pub told_if : Placed → Option Contact → Option Told
+abbrev pub told_if : PlacedWay → Option Contact → Option Told
 told_if p None = None
 told_if p (Some contact) = Some (told_at p contact)
 
 -- what is told of a box on a way of a run: on the first one the first contact of all blocks, later of those that it enters
-abbrev pub told_on : List Block3 → Bool → Block3 → Placed → Option Told
+abbrev pub told_on : List Block3 → Bool → Block3 → PlacedWay → Option Told
 told_on blocks is_first box p = told_if p (contact_on blocks is_first box p.way)

@@ -5,7 +5,7 @@ use Rattle.vcm_spec.specs.declared.workpiece.Block3.{Block3}
 use Rattle.vcm_spec.specs.Workpiece.{Workpiece, IsValid, is_block}
 use Rattle.vcm_code.specs.declared.code.Code.{Code}
 use Rattle.vcm_carried.specs.Carried.{IsBox}
-use Rattle.vcm_gone.specs.Gone.{Placed, ways_of}
+use Rattle.vcm_gone.specs.Gone.{PlacedWay, ways_of}
 use Rattle.vcm_clearance.specs.declared.room.Room.{Room}
 use Rattle.vcm_clearance.specs.declared.told.Told.{Told}
 use Rattle.vcm_clearance.specs.Contacts.{told_on}
@@ -14,11 +14,11 @@ use Rattle.vcm_clearance.specs.Rooms.{met_ways, IsRoom}
 -- a box has one room
 abbrev pub RoomsAreOne : Type 0
 RoomsAreOne =
-    (box : Block3) (blocks : List Block3) → IsBox 10000000 box → IsTrue (list_all is_block blocks) → (ways : List Placed) (r s : Room)
+    (box : Block3) (blocks : List Block3) → IsBox 10000000 box → IsTrue (list_all is_block blocks) → (ways : List PlacedWay) (r s : Room)
     → IsRoom blocks box ways r → IsRoom blocks box ways s → r ≡ s
 
 -- something is told of the box on one of these ways, of which the first is that of the run, or not
-abbrev pub IsSomeTold : List Block3 → Block3 → Bool → List Placed → Type 0
+abbrev pub IsSomeTold : List Block3 → Block3 → Bool → List PlacedWay → Type 0
 IsSomeTold blocks box is_first [] = ⊥
 IsSomeTold blocks box is_first (p ∷ ps) = ((t : Told) × (told_on blocks is_first box p ≡ Some t)) ⊎ IsSomeTold blocks box false ps
 

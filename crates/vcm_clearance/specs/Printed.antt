@@ -11,7 +11,7 @@ use Rattle.vcm_report.specs.Printed.{in_a_row, stopped_line}
 use Rattle.vcm_marks.specs.declared.mark.Going.{Going}
 use Rattle.vcm_marks.specs.declared.mark.Going.TheVariants as going
 use Rattle.vcm_boxes.specs.declared.boxes.ProbeBox.{ProbeBox}
-use Rattle.vcm_gone.specs.Gone.{Placed}
+use Rattle.vcm_gone.specs.Gone.{PlacedWay}
 use Rattle.vcm_clearance.specs.declared.told.Told.{Told}
 use Rattle.vcm_clearance.specs.declared.room.Room.{Room}
 use Rattle.vcm_clearance.specs.declared.room.Room.TheVariants.{Met, Clear}
@@ -56,11 +56,11 @@ contact_line name None = []
 contact_line name (Some t) = codes "contact " ++ told_text name t
 
 -- the lines of a way, box by box
-abbrev pub way_lines : List Block3 → List ProbeBox → Bool → Placed → List ℕ
+abbrev pub way_lines : List Block3 → List ProbeBox → Bool → PlacedWay → List ℕ
 way_lines blocks boxes is_first p = flat_map (λ b. contact_line b.name (told_on blocks is_first b.block p)) boxes
 
 -- the lines of ways, of which the first is that of the run, or not
-abbrev pub run_lines : List Block3 → List ProbeBox → Bool → List Placed → List ℕ
+abbrev pub run_lines : List Block3 → List ProbeBox → Bool → List PlacedWay → List ℕ
 run_lines blocks boxes is_first [] = []
 run_lines blocks boxes is_first (p ∷ ps) = way_lines blocks boxes is_first p ++ run_lines blocks boxes false ps
 

@@ -4,18 +4,18 @@ use Rattle.std.specs.List.{AllByRecursion}
 use Rattle.vcm_spec.specs.declared.workpiece.Block3.{Block3}
 use Rattle.vcm_spec.specs.Workpiece.{grown}
 use Rattle.vcm_boxes.specs.declared.boxes.ProbeBox.{ProbeBox}
-use Rattle.vcm_gone.specs.Gone.{Placed}
+use Rattle.vcm_gone.specs.Gone.{PlacedWay}
 use Rattle.vcm_clearance.specs.declared.told.Told.{Told}
 use Rattle.vcm_clearance.specs.declared.room.Room.{Room}
 use Rattle.vcm_clearance.specs.declared.room.Room.TheVariants.{Met, Clear}
 use Rattle.vcm_clearance.specs.Contacts.{IsClearOn, is_met_on, told_on}
 
 -- with its sides moved out by g, the box meets no block on any of these ways
-abbrev pub IsClearBy : List Block3 → Block3 → List Placed → ℕ → Type 0
+abbrev pub IsClearBy : List Block3 → Block3 → List PlacedWay → ℕ → Type 0
 IsClearBy blocks box ways g = AllByRecursion (λ p. IsClearOn blocks (grown g box) p.way) ways
 
 -- on how many of these ways the box meets a block
-abbrev pub met_ways : List Block3 → Block3 → List Placed → ℕ
+abbrev pub met_ways : List Block3 → Block3 → List PlacedWay → ℕ
 met_ways blocks box ways = length (filter (λ p. is_met_on blocks box p.way) ways)
 
 -- the first, if there is one, else the second
@@ -24,7 +24,7 @@ or_else (Some told) later = Some told
 or_else None later = later
 
 -- the first contact of the box on the first of these ways on which it meets a block
-abbrev pub first_told : List Block3 → Block3 → List Placed → Option Told
+abbrev pub first_told : List Block3 → Block3 → List PlacedWay → Option Told
 first_told blocks box [] = None
 first_told blocks box (p ∷ ps) = or_else (told_on blocks true box p) (first_told blocks box ps)
 
@@ -38,13 +38,13 @@ counted n = min n most
 
 -- the room round a box: on how many ways it meets a block; or by how many micrometres all its sides may be moved out, up to 50,000, so that it meets none, with the
 -- first contact of the box with its sides moved out by one more
-abbrev pub IsRoom : List Block3 → Block3 → List Placed → Room → Type 0
+abbrev pub IsRoom : List Block3 → Block3 → List PlacedWay → Room → Type 0
 IsRoom blocks box ways (Met k) = (k ≡ counted (met_ways blocks box ways)) × (0 < met_ways blocks box ways)
 IsRoom blocks box ways (Clear g None) = (g ≡ 50000) × IsClearBy blocks box ways g
 IsRoom blocks box ways (Clear g (Some told)) = (g < 50000) × IsClearBy blocks box ways g × (first_told blocks (grown (g + 1) box) ways ≡ Some told)
 
 -- each box has its room
-pub record AreRooms (blocks : List Block3) (boxes : List ProbeBox) (ways : List Placed) (rooms : List Room) : Type 0 where
+pub record AreRooms (blocks : List Block3) (boxes : List ProbeBox) (ways : List PlacedWay) (rooms : List Room) : Type 0 where
   pub count : length rooms ≡ length boxes
   pub each : (i : ℕ) (b : ProbeBox) (r : Room) → slice_get boxes i ≡ Some b → slice_get rooms i ≡ Some r → IsRoom blocks b.block ways r
 

@@ -10,7 +10,7 @@ ghost use Rattle.vcm_clearance.specs.inner.Following.{HasTried, HasBroken};
 
 use crate::clearing::ClearanceFault;
 use crate::room::Room;
-use crate::rooms::Place;
+use crate::rooms::Moment;
 use crate::trying::try_ways;
 use std::io::Write;
 use vcm_boxes::Boxes;
@@ -70,7 +70,7 @@ impl<'a, P: Part, W: Write> Follows<Progress<'a, W>> for Trier<'_, P> {
         to: &mut Progress<'a, W>,
     ) -> Result<(), ClearanceFault> {
         let ways = ways_of_step(self.part, self.blocks, &before, reason(world.stop()));
-        let place = Place {
+        let place = Moment {
             step: count,
             number,
             line: statement.line,

@@ -4,7 +4,7 @@ ghost use Rattle.std.specs.Prelude.{◌≡◌, ◌+◌, ◌≤◌, ◌<◌, pos,
 ghost use Rattle.vcm_num.specs.Point.{point, coordinate, IsReachable};
 ghost use Rattle.vcm_spec.specs.Workpiece.{grown};
 ghost use Rattle.vcm_carried.specs.Carried.{IsBox};
-ghost use Rattle.vcm_gone.specs.Gone.{Gone as Went, Placed};
+ghost use Rattle.vcm_gone.specs.Gone.{Gone as Went, PlacedWay};
 ghost use Rattle.vcm_gone.specs.Seen.{IsSameWay, seen};
 ghost use Rattle.vcm_clearance.specs.declared.told.Told.{Told as TheTold};
 ghost use Rattle.vcm_clearance.specs.declared.room.Room.TheVariants.{Clear};
@@ -26,7 +26,7 @@ const WIDEST: u32 = 50_000;
 
 /// The step, and the number and the source line of its statement.
 #[derive(Clone, Copy)]
-pub(crate) struct Place {
+pub(crate) struct Moment {
     pub(crate) step: u64,
     pub(crate) number: u32,
     pub(crate) line: u32,
@@ -119,8 +119,8 @@ fn narrowed(
 }
 
 // A contact with its way.
-fn told(place: Place, gone: &Gone, contact: Contact) -> Told
-    ensures { (p : Placed) → IsPlaced place gone.now p → result ≡ told_at p contact }
+fn told(place: Moment, gone: &Gone, contact: Contact) -> Told
+    ensures { (p : PlacedWay) → IsPlaced place gone.now p → result ≡ told_at p contact }
 {
     Told {
         going: gone.going,
@@ -137,13 +137,13 @@ fn met_clear(
     block: &Block3,
     by: u32,
     met: Contact,
-    place: Place,
+    place: Moment,
     gone: &Gone,
 ) -> Room
     requires block { IsBox 10000000 block.now }
     requires by { by ≤ 50000 }
     requires met { IsMetWith blocks.now.blocks block.now gone.now by met }
-    ensures { (narrow : Option TheTold) (ws : List Placed) (p : Placed) → IsPlaced place gone.now p → IsRoom blocks.now.blocks block.now ws (Clear by narrow)
+    ensures { (narrow : Option TheTold) (ws : List PlacedWay) (p : PlacedWay) → IsPlaced place gone.now p → IsRoom blocks.now.blocks block.now ws (Clear by narrow)
         → IsRoom blocks.now.blocks block.now (ws ++ p ∷ []) result }
 {
     // It is called for what it tells of the blocks: that they are valid.
@@ -163,12 +163,12 @@ fn next_clear(
     block: &Block3,
     by: u32,
     narrow: Option<Told>,
-    place: Place,
+    place: Moment,
     gone: &Gone,
 ) -> Room
     requires block { IsBox 10000000 block.now }
     requires by { by ≤ 50000 }
-    ensures { (ws : List Placed) (p : Placed) → IsPlaced place gone.now p → IsRoom blocks.now.blocks block.now ws (Clear by narrow)
+    ensures { (ws : List PlacedWay) (p : PlacedWay) → IsPlaced place gone.now p → IsRoom blocks.now.blocks block.now ws (Clear by narrow)
         → IsRoom blocks.now.blocks block.now (ws ++ p ∷ []) result }
 {
     // It is called for what it tells of the blocks: that they are valid.
@@ -184,11 +184,11 @@ pub(crate) fn next_room(
     blocks: &PartData,
     block: &Block3,
     room: Room,
-    place: Place,
+    place: Moment,
     gone: &Gone,
 ) -> Room
     requires { IsBox 10000000 block.now }
-    ensures { (ws : List Placed) (p : Placed) → IsPlaced place gone.now p → IsRoom blocks.now.blocks block.now ws room
+    ensures { (ws : List PlacedWay) (p : PlacedWay) → IsPlaced place gone.now p → IsRoom blocks.now.blocks block.now ws room
         → IsRoom blocks.now.blocks block.now (ws ++ p ∷ []) result }
 {
     match room {
@@ -215,12 +215,12 @@ pub(crate) fn told_on(
     blocks: &PartData,
     block: &Block3,
     room: Room,
-    place: Place,
+    place: Moment,
     gone: &Gone,
     is_first: bool,
 ) -> Option<Told>
     requires { IsBox 10000000 block.now }
-    ensures { (ws : List Placed) (p : Placed) → IsPlaced place gone.now p → IsRoom blocks.now.blocks block.now (ws ++ p ∷ []) room
+    ensures { (ws : List PlacedWay) (p : PlacedWay) → IsPlaced place gone.now p → IsRoom blocks.now.blocks block.now (ws ++ p ∷ []) room
         → result ≡ told_on blocks.now.blocks is_first block.now p }
 {
     // It is called for what it tells of the blocks: that they are valid.

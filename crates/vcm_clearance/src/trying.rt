@@ -4,14 +4,14 @@ ghost use Rattle.std.specs.Prelude.{◌≡◌, ◌+◌, min, List, [], ◌∷◌
 ghost use Rattle.std.specs.Io.KnownBytes.{Appends};
 ghost use Rattle.vcm_num.specs.Written.{AppendsFront};
 ghost use Rattle.vcm_boxes.specs.Boxes.{AreBoxes};
-ghost use Rattle.vcm_gone.specs.Gone.{Placed};
+ghost use Rattle.vcm_gone.specs.Gone.{PlacedWay};
 ghost use Rattle.vcm_clearance.specs.Rooms.{most, AreRooms};
 ghost use Rattle.vcm_clearance.specs.Printed.{way_lines, run_lines};
 ghost use Rattle.vcm_clearance.specs.inner.Following.{IsPlaced, ArePlaced, IsDone, is_empty};
 
 use crate::printing::write_contact;
 use crate::room::Room;
-use crate::rooms::{Place, next_room, told_on};
+use crate::rooms::{Moment, next_room, told_on};
 use std::io::Write;
 use vcm_boxes::ProbeBox;
 use vcm_gone::Gone;
@@ -29,17 +29,17 @@ pub(crate) fn one_more(count: u64) -> u64
 fn try_way<W: Write>(
     blocks: &PartData,
     boxes: &[ProbeBox],
-    place: Place,
+    place: Moment,
     gone: &Gone,
     is_first: bool,
     rooms: &mut Vec<Room>,
     writer: &mut W,
 ) -> Result<(), WriteFault>
     requires { AreBoxes boxes.now }
-    ensures ok { IfOk result (λ u. (ws : List Placed) (p : Placed) → IsPlaced place gone.now p → AreRooms blocks.now.blocks boxes.now ws rooms.old.items
+    ensures ok { IfOk result (λ u. (ws : List PlacedWay) (p : PlacedWay) → IsPlaced place gone.now p → AreRooms blocks.now.blocks boxes.now ws rooms.old.items
         → AreRooms blocks.now.blocks boxes.now (ws ++ p ∷ []) rooms.new.items
         × Appends (W.contents writer.old) (W.contents writer.new) (way_lines blocks.now.blocks boxes.now is_first p)) }
-    ensures err { IfErr result (λ f. (ws : List Placed) (p : Placed) → IsPlaced place gone.now p → AreRooms blocks.now.blocks boxes.now ws rooms.old.items
+    ensures err { IfErr result (λ f. (ws : List PlacedWay) (p : PlacedWay) → IsPlaced place gone.now p → AreRooms blocks.now.blocks boxes.now ws rooms.old.items
         → AppendsFront (W.contents writer.old) (W.contents writer.new) (way_lines blocks.now.blocks boxes.now is_first p)) }
 {
     for (index, tried) in boxes.iter().enumerate() {
@@ -61,17 +61,17 @@ fn try_way<W: Write>(
 pub(crate) fn try_ways<W: Write>(
     blocks: &PartData,
     boxes: &[ProbeBox],
-    place: Place,
+    place: Moment,
     ways: &[Gone],
     count: u64,
     rooms: &mut Vec<Room>,
     writer: &mut W,
 ) -> Result<u64, WriteFault>
     requires { AreBoxes boxes.now }
-    ensures ok { IfOk result (λ n. (ws ps : List Placed) → ArePlaced place ways.now ps → IsDone blocks.now.blocks boxes.now ws rooms.old.items count
+    ensures ok { IfOk result (λ n. (ws ps : List PlacedWay) → ArePlaced place ways.now ps → IsDone blocks.now.blocks boxes.now ws rooms.old.items count
         → IsDone blocks.now.blocks boxes.now (ws ++ ps) rooms.new.items n
         × Appends (W.contents writer.old) (W.contents writer.new) (run_lines blocks.now.blocks boxes.now (is_empty ws) ps)) }
-    ensures err { IfErr result (λ f. (ws ps : List Placed) → ArePlaced place ways.now ps → IsDone blocks.now.blocks boxes.now ws rooms.old.items count
+    ensures err { IfErr result (λ f. (ws ps : List PlacedWay) → ArePlaced place ways.now ps → IsDone blocks.now.blocks boxes.now ws rooms.old.items count
         → AppendsFront (W.contents writer.old) (W.contents writer.new) (run_lines blocks.now.blocks boxes.now (is_empty ws) ps)) }
 {
     match ways.split_first() {

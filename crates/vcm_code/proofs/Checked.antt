@@ -13,7 +13,7 @@ use Rattle.vcm_spec.specs.Setup.{Tables}
 use Rattle.vcm_spec.specs.Fitting.{kinds, Fits}
 use Rattle.vcm_items.specs.Run.{ItemsFit}
 use Rattle.vcm_items.proofs.Runs.{ItemsFit-typed}
-use Rattle.vcm_code.specs.Code.{Statement}
+use Rattle.vcm_code.specs.Code.{CodeStatement}
 use Rattle.vcm_code.specs.declared.op.Op.TheVariants.{Plain, Do, Select}
 use Rattle.vcm_code.specs.declared.branch.Branch.{Branch}
 use Rattle.vcm_code.specs.Checks.{Check, target, targets, counts_of, ItemsBelow, AllHold, wants, three, variable, op_checks, OpFits, line_checks, HasItems}
@@ -35,29 +35,29 @@ hold_back (c ∷ cs) ds h = hold_back cs ds h.1
 -- ---- statements, one after the other
 
 -- each of them fits
-abbrev pub AllFit : Tables → ℕ → List Statement → Type 0
-AllFit t n ss = AllByRecursion (λ (s : Statement). OpFits t n s.op) ss
+abbrev pub AllFit : Tables → ℕ → List CodeStatement → Type 0
+AllFit t n ss = AllByRecursion (λ (s : CodeStatement). OpFits t n s.op) ss
 
-pub each_fits : (t : Tables) (n : ℕ) (ss : List Statement) → AllHold (line_checks (counts_of t n) ss) → AllFit t n ss
+pub each_fits : (t : Tables) (n : ℕ) (ss : List CodeStatement) → AllHold (line_checks (counts_of t n) ss) → AllFit t n ss
 each_fits t n [] h = tt
 each_fits t n (s ∷ ss) h = (
   hold_front (op_checks (counts_of t n) s.op) (line_checks (counts_of t n) ss) h,
   each_fits t n ss (hold_back (op_checks (counts_of t n) s.op) (line_checks (counts_of t n) ss) h),
 )
 
-pub all_hold : (t : Tables) (n : ℕ) (ss : List Statement) → AllFit t n ss → AllHold (line_checks (counts_of t n) ss)
+pub all_hold : (t : Tables) (n : ℕ) (ss : List CodeStatement) → AllFit t n ss → AllHold (line_checks (counts_of t n) ss)
 all_hold t n [] f = tt
 all_hold t n (s ∷ ss) f = hold_append (op_checks (counts_of t n) s.op) (line_checks (counts_of t n) ss) f.0 (all_hold t n ss f.1)
 
 -- what holds of each statement does of the one with this number
-pub holds_at : (P : Statement → Type 0) (ss : List Statement) (n : ℕ) (s : Statement) → AllByRecursion P ss → slice_get ss n ≡ Some s → P s
+pub holds_at : (P : CodeStatement → Type 0) (ss : List CodeStatement) (n : ℕ) (s : CodeStatement) → AllByRecursion P ss → slice_get ss n ≡ Some s → P s
 holds_at P [] n s h e = absurd cc
 holds_at P (r ∷ ss) zero s h e = let same : r ≡ s = cc in subst P same h.0
 holds_at P (r ∷ ss) (suc n) s h e = holds_at P ss n s h.1 e
 
 -- so each statement fits
-pub fits_at : (t : Tables) (count : ℕ) (ss : List Statement) (n : ℕ) (s : Statement) → AllHold (line_checks (counts_of t count) ss) → slice_get ss n ≡ Some s → OpFits t count s.op
-fits_at t count ss n s h e = holds_at (λ (r : Statement). OpFits t count r.op) ss n s (each_fits t count ss h) e
+pub fits_at : (t : Tables) (count : ℕ) (ss : List CodeStatement) (n : ℕ) (s : CodeStatement) → AllHold (line_checks (counts_of t count) ss) → slice_get ss n ≡ Some s → OpFits t count s.op
+fits_at t count ss n s h e = holds_at (λ (r : CodeStatement). OpFits t count r.op) ss n s (each_fits t count ss h) e
 
 -- ---- operands that have what they want
 

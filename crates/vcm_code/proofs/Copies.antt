@@ -3,7 +3,7 @@ use Rattle.std.proofs.Common.{◌≡◌, List, refl, ap}
 use Rattle.vcm_spec.specs.declared.expression.Item.{Item}
 use Rattle.vcm_spec.specs.declared.simple.Simple.TheVariants.{GoHome}
 use Rattle.vcm_spec.specs.Simple.{Simple, with_forms}
-use Rattle.vcm_code.specs.Code.{Op, Statement}
+use Rattle.vcm_code.specs.Code.{Op, CodeStatement}
 use Rattle.vcm_code.specs.declared.op.Op.TheVariants.{Plain, If}
 use Rattle.vcm_code.specs.Copies.{listed, listed_statement}
 
@@ -18,5 +18,5 @@ same_op (If test target) = refl
 same_op _ = refl
 
 -- a statement of lists is what its lists say
-pub same_statement : (s : Statement) → listed_statement (λ e. e) (λ t. t) (λ b. b) s ≡ s
+pub same_statement : (s : CodeStatement) → listed_statement (λ e. e) (λ t. t) (λ b. b) s ≡ s
 same_statement s = ap (λ op. record { line = s.line; op = op }) (same_op s.op)

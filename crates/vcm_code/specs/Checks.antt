@@ -8,7 +8,7 @@ use Rattle.vcm_spec.specs.Setup.{Tables}
 use Rattle.vcm_spec.specs.Fitting.{kinds as kinds_of}
 use Rattle.vcm_items.specs.Typed.{VariableBelow}
 use Rattle.vcm_code.specs.declared.branch.Branch.{Branch}
-use Rattle.vcm_code.specs.Code.{Op, Statement}
+use Rattle.vcm_code.specs.Code.{Op, CodeStatement}
 use Rattle.vcm_code.specs.declared.code.Code.{Code}
 use Rattle.vcm_code.specs.Shape.{Place, Said, over_operands}
 use Rattle.vcm_code.specs.Shape as at
@@ -97,8 +97,8 @@ abbrev pub OpFits : Tables → ℕ → Op → Type 0
 OpFits tables count o = AllHold (op_checks (counts_of tables count) o)
 
 -- all statements, one behind the other
-abbrev pub line_checks : Counts → List Statement → List Check
-line_checks t ss = flat_map (λ (s : Statement). op_checks t s.op) ss
+abbrev pub line_checks : Counts → List CodeStatement → List Check
+line_checks t ss = flat_map (λ (s : CodeStatement). op_checks t s.op) ss
 
 -- all checks of a code
 abbrev pub checks : Code → List Check

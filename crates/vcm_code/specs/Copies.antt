@@ -3,9 +3,9 @@ use Rattle.std.specs.Prelude.{ℕ, List}
 use Rattle.vcm_spec.specs.declared.expression.Item.{Item}
 use Rattle.vcm_spec.specs.Simple.{with_forms}
 use Rattle.vcm_code.specs.declared.op.Op.{Op as Kept}
-use Rattle.vcm_code.specs.declared.op.Statement.{Statement as KeptStatement}
+use Rattle.vcm_code.specs.declared.op.CodeStatement.{CodeStatement as KeptStatement}
 use Rattle.vcm_code.specs.declared.branch.Branch.{Branch}
-use Rattle.vcm_code.specs.Code.{Op, Statement}
+use Rattle.vcm_code.specs.Code.{Op, CodeStatement}
 use Rattle.vcm_code.specs.declared.op.Op.TheVariants.{Plain, If, Else, EndIf, Do, EndDo, Label, JumpTo, Meas, EndMes, Select, Case, EndCas, DftCas, EndSel, EndFil}
 
 -- what a statement does, where these are the items of an expression, the bytes of a text and the branches of a SELECT
@@ -28,5 +28,5 @@ listed items bytes branches EndSel = EndSel
 listed items bytes branches EndFil = EndFil
 
 -- a statement, so too
-abbrev pub listed_statement : {E T B : Type 0} → (E → List Item) → (T → List ℕ) → (B → List Branch) → KeptStatement E T B → Statement
+abbrev pub listed_statement : {E T B : Type 0} → (E → List Item) → (T → List ℕ) → (B → List Branch) → KeptStatement E T B → CodeStatement
 listed_statement items bytes branches s = record { line = s.line; op = listed items bytes branches s.op }

@@ -8,7 +8,7 @@ use Rattle.vcm_spec.specs.Table.{if_true}
 use Rattle.vcm_items.specs.NameBytes.{IsName}
 use Rattle.vcm_code.specs.declared.version.Version.{Version}
 use Rattle.vcm_code.specs.declared.version.Version.TheVariants.{One, Two}
-use Rattle.vcm_code.specs.Code.{Op, Statement}
+use Rattle.vcm_code.specs.Code.{Op, CodeStatement}
 use Rattle.vcm_code.specs.declared.code.Code.{Code}
 use Rattle.vcm_code.specs.Words.{word_of, is_of_select}
 use Rattle.vcm_code.specs.Shape.{Place, Said, InOperands}
@@ -35,19 +35,19 @@ abbrev pub OpInRange : Op → Type 0
 OpInRange o = InOperands IsRanged o
 
 -- all statements are in range
-abbrev pub AllInRange : List Statement → Type 0
-AllInRange ss = AllByRecursion (λ (s : Statement). OpInRange s.op) ss
+abbrev pub AllInRange : List CodeStatement → Type 0
+AllInRange ss = AllByRecursion (λ (s : CodeStatement). OpInRange s.op) ss
 
 -- whether one of these statements is SELECT, CASE, ENDCAS, DFTCAS or ENDSEL
-abbrev pub has_selection : List Statement → Bool
-has_selection ss = list_any (λ (s : Statement). is_of_select (word_of s.op)) ss
+abbrev pub has_selection : List CodeStatement → Bool
+has_selection ss = list_any (λ (s : CodeStatement). is_of_select (word_of s.op)) ss
 
 -- the first version that has all these statements
-abbrev pub version_for : List Statement → Version
+abbrev pub version_for : List CodeStatement → Version
 version_for ss = if_true (has_selection ss) Two One
 
 -- which version has these statements: the first has none of SELECT, CASE, ENDCAS, DFTCAS and ENDSEL, the second has all
-abbrev pub IsOfVersion : Version → List Statement → Type 0
+abbrev pub IsOfVersion : Version → List CodeStatement → Type 0
 IsOfVersion One ss = has_selection ss ≡ false
 IsOfVersion Two ss = Unit {0}
 

@@ -1,6 +1,6 @@
 -- What makes a code valid, so that a machine can carry it out without a test.
 use Rattle.std.specs.Prelude.{List, [], ◌∷◌}
-use Rattle.vcm_code.specs.Code.{Statement}
+use Rattle.vcm_code.specs.Code.{CodeStatement}
 use Rattle.vcm_code.specs.declared.code.Code.{Code}
 use Rattle.vcm_code.specs.declared.op.Op.{Op as Kept}
 use Rattle.vcm_code.specs.declared.op.Op.TheVariants.{EndFil}
@@ -12,7 +12,7 @@ IsLast EndFil = Unit {0}
 IsLast _ = ⊥
 
 -- there is a last statement, and it is ENDFIL
-abbrev pub Ends : List Statement → Type 0
+abbrev pub Ends : List CodeStatement → Type 0
 Ends [] = ⊥
 Ends (s ∷ []) = IsLast s.op
 Ends (s ∷ t ∷ ss) = Ends (t ∷ ss)

@@ -4,7 +4,7 @@ ghost use Rattle.std.specs.Prelude.{◌≡◌, IfOk};
 ghost use Rattle.vcm_spec.specs.Simple.{with_forms};
 
 use crate::branch::Branch;
-use crate::op::{Op, OwnedOp, OwnedSimple, OwnedStatement, Statement};
+use crate::op::{CodeStatement, Op, OwnedOp, OwnedSimple, OwnedStatement};
 use std::alloc::Global;
 use vcm_num::{Items, NoMemory};
 use vcm_spec::{Item, Simple};
@@ -25,7 +25,7 @@ pub trait Expression {
 }
 
 /// An output line, however its bytes are kept.
-pub trait Line {
+pub trait OutputLine {
     ghost use Rattle.std.specs.Prelude.{List, ℕ};
 
     /// Its bytes.
@@ -73,7 +73,7 @@ fn three<E: Expression>(alloc: Global, x: &E, y: &E, z: &E) -> Result<Triple, No
 }
 
 // A simple statement, with items and a text of its own.
-fn simple<E: Expression, T: Line>(
+fn simple<E: Expression, T: OutputLine>(
     alloc: Global,
     what: &Simple<E, T>,
 ) -> Result<OwnedSimple, NoMemory>
@@ -109,7 +109,7 @@ fn simple<E: Expression, T: Line>(
     }
 }
 
-impl<E: Expression, T: Line, B: Branches> Op<E, T, B> {
+impl<E: Expression, T: OutputLine, B: Branches> Op<E, T, B> {
     ghost use Rattle.vcm_code.specs.Copies.{listed};
 
     /// The same, with items, a text and branches of its own.
@@ -146,7 +146,7 @@ impl<E: Expression, T: Line, B: Branches> Op<E, T, B> {
     }
 }
 
-impl<E: Expression, T: Line, B: Branches> Statement<E, T, B> {
+impl<E: Expression, T: OutputLine, B: Branches> CodeStatement<E, T, B> {
     ghost use Rattle.vcm_code.specs.Copies.{listed_statement};
 
     /// The same, with items, a text and branches of its own.
@@ -156,7 +156,7 @@ impl<E: Expression, T: Line, B: Branches> Statement<E, T, B> {
         ensures { IfOk result (λ s. s ≡ listed_statement E.items T.bytes B.branches self.now) }
     {
         let op = self.op.to_owned(alloc)?;
-        Ok(Statement {
+        Ok(CodeStatement {
             line: self.line,
             op,
         })

@@ -11,8 +11,8 @@ mod word;
 
 pub use branch::Branch;
 pub use code::Code;
-pub use copying::{Branches, Expression, Line};
-pub use op::{Op, OwnedOp, OwnedSimple, OwnedStatement, Statement};
+pub use copying::{Branches, Expression, OutputLine};
+pub use op::{CodeStatement, Op, OwnedOp, OwnedSimple, OwnedStatement};
 pub use pair::Pair;
 pub use version::{Version, has_selection, version_for};
 pub use word::{Word, has_word};

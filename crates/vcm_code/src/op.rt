@@ -44,7 +44,7 @@ pub enum Op<E, T, B> {
 
 /// A statement with the source line that it begins on, the first being 1.
 #[derive(Drop)]
-pub struct Statement<E, T, B> {
+pub struct CodeStatement<E, T, B> {
     pub line: u32,
     pub op: Op<E, T, B>,
 }
@@ -56,4 +56,4 @@ pub type OwnedSimple = Simple<Items<Item>, Items<u8>>;
 pub type OwnedOp = Op<Items<Item>, Items<u8>, Items<Branch>>;
 
 /// A statement with postfix items, texts and branches of its own.
-pub type OwnedStatement = Statement<Items<Item>, Items<u8>, Items<Branch>>;
+pub type OwnedStatement = CodeStatement<Items<Item>, Items<u8>, Items<Branch>>;

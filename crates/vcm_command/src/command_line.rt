@@ -4,7 +4,7 @@ use crate::manner::{Manner, PLAIN, manner_of, with_manner};
 use clap::{Arg, ArgAction, ArgMatches, Command, Error};
 use std::alloc::Global;
 use vcm_usage::{More, Usage, Word, usages};
-use vcm_views::View;
+use vcm_views::RunView;
 
 /// What a command line asks for.
 #[derive(Clone, Copy)]
@@ -36,7 +36,7 @@ pub enum Request<'a> {
         names: &'a str,
     },
     /// `trace`, `margin` or `points`, then `INPUT PART [--steps N]`, or `picture INPUT PART [--steps N] [--close]`: a view of a run.
-    View(View<'static>, Asked<'a>),
+    View(RunView<'static>, Asked<'a>),
     /// `picture INPUT PART [--steps N] [--close] --sheet [--lines A-B]`: the picture of a run as a sheet, of the statements on some lines.
     Sheet {
         asked: Asked<'a>,
@@ -419,7 +419,7 @@ fn picture_request<'a>(behind: &ArgMatches<'a>, asked: Asked<'a>) -> Request<'a>
             lines,
         }
     } else {
-        Request::View(View::Picture { is_close }, asked)
+        Request::View(RunView::Picture { is_close }, asked)
     }
 }
 
@@ -433,9 +433,9 @@ fn run_request<'a>(name: &str, behind: &ArgMatches<'a>) -> Option<Request<'a>> {
         },
         "why" => Some(Request::Why(asked)),
         "contacts" => Some(Request::Contacts(asked)),
-        "trace" => Some(Request::View(View::Trace, asked)),
-        "margin" => Some(Request::View(View::Margin, asked)),
-        "points" => Some(Request::View(View::Points, asked)),
+        "trace" => Some(Request::View(RunView::Trace, asked)),
+        "margin" => Some(Request::View(RunView::Margin, asked)),
+        "points" => Some(Request::View(RunView::Points, asked)),
         "picture" => Some(picture_request(behind, asked)),
         "view" => Some(Request::Page {
             asked,

@@ -16,7 +16,7 @@ use vcm_num::{Point, write_all};
 use vcm_page::{Texts, page_of};
 use vcm_part::PartData;
 use vcm_viewer::{back, front};
-use vcm_views::{View, view_of};
+use vcm_views::{RunView, view_of};
 
 // Why the boxes of a file aren't read.
 #[derive(Drop)]
@@ -32,7 +32,7 @@ pub(crate) enum Shown<'a> {
     Result,
     Why,
     Contacts,
-    View(View<'a>),
+    View(RunView<'a>),
     /// The picture as a sheet.
     Sheet(Titles<'a>),
     Page,
@@ -130,7 +130,7 @@ fn boxes_element(
     let mut reader = input;
     match view_of(
         alloc,
-        View::Clearance(boxes),
+        RunView::Clearance(boxes),
         part,
         &mut reader,
         steps,
@@ -274,7 +274,7 @@ pub(crate) fn show_boxes<R: Files + Print + Eprint + AllocGlobal>(
         Err(unread) => return tell_unread(rt, voice, &unread, probe),
     };
     let shown = match shown_in {
-        BoxesIn::Clearance => Shown::View(View::Clearance(&boxes)),
+        BoxesIn::Clearance => Shown::View(RunView::Clearance(&boxes)),
         BoxesIn::Page => Shown::PageWith(&boxes),
     };
     show_beside(rt, voice, shown, &part, asked.input, steps)

@@ -19,7 +19,7 @@ use Rattle.vcm_console.specs.declared.reply.Reply.{Reply}
 use Rattle.vcm_console.specs.declared.reply.Reply.TheVariants.{Set, Cleared, Found, Stands, Ran, Watched, Unwatched, Value, Features}
 use Rattle.vcm_console.specs.declared.reply.Reply.TheVariants.{Listed, Lines, Bye, Refused}
 use Rattle.vcm_code.specs.declared.code.Code.{Code}
-use Rattle.vcm_code.specs.Code.{Statement}
+use Rattle.vcm_code.specs.Code.{CodeStatement}
 use Rattle.vcm_words.specs.declared.row.Row.TheVariants.{Numbered}
 use Rattle.vcm_print.specs.Listed.{listed}
 use Rattle.vcm_output.specs.Output.{output_lines}
@@ -78,7 +78,7 @@ abbrev pub lines_head : ℕ → List ℕ
 lines_head n = in_a_row (codes "lines " ∷ decimal n ∷ codes "\n" ∷ [])
 
 -- the listing line of the statement with this number
-abbrev pub statement_line : Option Statement → ℕ → List ℕ
+abbrev pub statement_line : Option CodeStatement → ℕ → List ℕ
 statement_line None n = []
 statement_line (Some s) n = listed (Numbered n s)
 

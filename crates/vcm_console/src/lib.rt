@@ -10,7 +10,7 @@ mod replies;
 mod reply;
 
 pub use command::{Command, Count, VariableRef};
-pub use line::{Line, RawLine};
+pub use line::{InputLine, RawLine};
 pub use parsing::parse_command;
 pub use reading::{next_byte, read_line};
 pub use replies::{write_halt, write_reply, write_variable, write_variable_value};

@@ -9,12 +9,12 @@ const ROOM: usize = 258;
 
 /// The first bytes of a line, which take no memory.
 #[derive(Drop)]
-pub struct Line {
+pub struct InputLine {
     bytes: [u8; ROOM],
     len: usize,
 }
 
-impl Model for Line {
+impl Model for InputLine {
     ghost use Rattle.std.specs.Prelude.{ℕ, List, take, ◌≤◌};
 
     ghost Value = { List ℕ };
@@ -24,12 +24,12 @@ impl Model for Line {
     ghost invariant = { λ l. l.len ≤ 258 };
 }
 
-impl Line {
+impl InputLine {
     // No bytes.
-    pub fn new() -> Line
+    pub fn new() -> InputLine
         ensures { result ≡ [] }
     {
-        Line {
+        InputLine {
             bytes: [0; ROOM],
             len: 0,
         }
@@ -56,7 +56,7 @@ impl Line {
 /// A line as it was read: its first bytes, whether a line feed ended it, and how many bytes it took.
 #[derive(Drop)]
 pub struct RawLine {
-    pub kept: Line,
+    pub kept: InputLine,
     pub ended: bool,
     pub used: usize,
 }

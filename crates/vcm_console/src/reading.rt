@@ -3,7 +3,7 @@
 ghost use Rattle.std.specs.Prelude.{◌≡◌, ◌==◌, ◌<◌, ◌^◌, IfSome, IfErr, if◌then◌else◌, false};
 ghost use Rattle.vcm_console.specs.Reading.{IsNext, ReadsLine, IsWithin, IsReadOrMuch};
 
-use crate::line::{Line, RawLine};
+use crate::line::{InputLine, RawLine};
 use crate::reply::ServeFault;
 use std::io::Read;
 
@@ -26,7 +26,7 @@ pub fn read_line<R: Read>(reader: &mut R, left: usize) -> Result<Option<RawLine>
     ensures within { IsWithin left result }
     ensures faults { IfErr result (λ f. IsReadOrMuch f) }
 {
-    let mut kept = Line::new();
+    let mut kept = InputLine::new();
     let mut used = 0;
     while used < left {
         match next_byte(reader) {
@@ -50,7 +50,7 @@ pub fn read_line<R: Read>(reader: &mut R, left: usize) -> Result<Option<RawLine>
 }
 
 // The line at the end of the input, if there is one.
-fn at_end(kept: Line, used: usize) -> Option<RawLine>
+fn at_end(kept: InputLine, used: usize) -> Option<RawLine>
     ensures { result ≡ (if used == 0 then None else Some (record { kept = kept; ended = false; used = used })) }
 {
     if used == 0 {

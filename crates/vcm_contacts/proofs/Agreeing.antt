@@ -8,7 +8,7 @@ use Rattle.vcm_spec.specs.Stepping.{unless_stopped}
 use Rattle.vcm_spec.specs.Workpiece.{Workpiece}
 use Rattle.vcm_spec.proofs.Steps.{add_steps}
 use Rattle.vcm_code.specs.declared.code.Code.{Code}
-use Rattle.vcm_code.specs.Code.{Statement}
+use Rattle.vcm_code.specs.Code.{CodeStatement}
 use Rattle.vcm_code.specs.CodeTable.{CodeState, code_step, fetched, start}
 use Rattle.vcm_steps.specs.Passages.{state_after}
 use Rattle.vcm_way.specs.Ways.{reason}
@@ -24,11 +24,11 @@ module _ (part : Workpiece) (c : Code) where
   rests : (m : CodeState) (p : StopPlace) → m.world.stop ≡ Some p → go m ≡ m
   rests m p e = ap (λ (o : Option StopPlace). unless_stopped o m (fetched (setup_of part c.tables) (slice_get c.statements m.next) m.world m.next m.pairs)) e
 
-  by_stop : (m : CodeState) (s : Statement) (o : Option Stop) → reason (go m).world.stop ≡ o → AgreesWith (go m) (passed_by part m s (go m) o).state (passed_by part m s (go m) o).contacts
+  by_stop : (m : CodeState) (s : CodeStatement) (o : Option Stop) → reason (go m).world.stop ≡ o → AgreesWith (go m) (passed_by part m s (go m) o).state (passed_by part m s (go m) o).contacts
   by_stop m s (Some (Collision phase hit)) e = e
   by_stop m s _ e = refl
 
-  by_statement : (m : CodeState) (o : Option Statement) → AgreesWith (go m) (passed_at part m (go m) o).state (passed_at part m (go m) o).contacts
+  by_statement : (m : CodeState) (o : Option CodeStatement) → AgreesWith (go m) (passed_at part m (go m) o).state (passed_at part m (go m) o).contacts
   by_statement m None = refl
   by_statement m (Some s) = by_stop m s (reason (go m).world.stop) refl
 

@@ -11,7 +11,7 @@ use Rattle.vcm_state.specs.declared.stop.Halt.TheVariants as halts
 use Rattle.vcm_state.specs.Held.{Held}
 use Rattle.vcm_code.specs.declared.pair.Pair.{Pair}
 use Rattle.vcm_code.specs.declared.code.Code.{Code}
-use Rattle.vcm_code.specs.Code.{Statement}
+use Rattle.vcm_code.specs.Code.{CodeStatement}
 use Rattle.vcm_code.specs.CodeTable.{CodeState, code_state, code_step, do_op}
 use Rattle.vcm_machine.specs.Going.{HasGone}
 use Rattle.vcm_machine.specs.Running.{Running, started}
@@ -33,7 +33,7 @@ running part code m = record { part = part; code = code; state = m }
 abbrev told : CodeState → List Contact → Passed
 told m cs = record { state = m; contacts = cs }
 
-module _ (part : Workpiece) (code : Code) (m : CodeState) (s : Statement) (none : m.world.stop ≡ None) (at : slice_get code.statements m.next ≡ Some s) where
+module _ (part : Workpiece) (code : Code) (m : CodeState) (s : CodeStatement) (none : m.world.stop ≡ None) (at : slice_get code.statements m.next ≡ Some s) where
   abbrev q : CodeState
   q = code_step (setup_of part code.tables) code.statements m
 
@@ -67,7 +67,7 @@ module _ (part : Workpiece) (code : Code) (m : CodeState) (s : Statement) (none 
 
 -- what carrying out a statement did
 module _ (part : Workpiece) (code : Code) (w : Held) (n : ℕ) (ps : List Pair) (t : w.tables ≡ code.tables) (runnable : IsRunnable code)
-    (s : Statement) (at : slice_get code.statements n ≡ Some s) (none : w.state.stop ≡ None) where
+    (s : CodeStatement) (at : slice_get code.statements n ≡ Some s) (none : w.state.stop ≡ None) where
   abbrev after : CodeState
   after = do_op (setup_of part w.tables) s.op s.line w.state n ps
 

@@ -6,7 +6,7 @@ use Rattle.vcm_spec.specs.Setup.{setup_of}
 use Rattle.vcm_spec.specs.Stepping.{unless_stopped}
 use Rattle.vcm_spec.specs.Workpiece.{Workpiece}
 use Rattle.vcm_spec.specs.World.{stopped}
-use Rattle.vcm_code.specs.Code.{Statement}
+use Rattle.vcm_code.specs.Code.{CodeStatement}
 use Rattle.vcm_code.specs.declared.code.Code.{Code}
 use Rattle.vcm_code.specs.CodeTable.{CodeState, code_state, code_step, start}
 use Rattle.vcm_way.specs.Ways.{reason}
@@ -28,7 +28,7 @@ led m line (Back p i f) = code_state (record (m.world) { position = p; actual = 
 led m line (Stops why) = code_state (stopped m.world why m.next line) m.next m.pairs
 
 -- behind a statement that would come to a state by a step: where that has met a block, the run goes on behind the contact
-abbrev pub passed_by : Workpiece → CodeState → Statement → CodeState → Option Stop → Passed
+abbrev pub passed_by : Workpiece → CodeState → CodeStatement → CodeState → Option Stop → Passed
 passed_by part m s after (Some (Collision phase hit)) = record {
   state = led m s.line (lead part m.world s.op phase hit);
   contacts = record { phase = phase; hit = hit; number = m.next; line = s.line } ∷ [];
@@ -36,7 +36,7 @@ passed_by part m s after (Some (Collision phase hit)) = record {
 passed_by part m s after stop = record { state = after; contacts = [] }
 
 -- behind the statement that is next, if there is one
-abbrev pub passed_at : Workpiece → CodeState → CodeState → Option Statement → Passed
+abbrev pub passed_at : Workpiece → CodeState → CodeState → Option CodeStatement → Passed
 passed_at part m after (Some s) = passed_by part m s after (reason after.world.stop)
 passed_at part m after None = record { state = after; contacts = [] }
 

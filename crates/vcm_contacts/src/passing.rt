@@ -43,7 +43,7 @@ impl<'a, P: Part> Model for Passing<'a, P> {
 impl<'a, P: Part> Passing<'a, P> {
     ghost use Rattle.std.specs.Prelude.{◌≡◌, None, Some, IfOk, OnErr, slice_get};
     ghost use Rattle.vcm_spec.specs.declared.stop.Stop.TheVariants.{Collision};
-    ghost use Rattle.vcm_code.specs.Code.{Statement};
+    ghost use Rattle.vcm_code.specs.Code.{CodeStatement};
     ghost use Rattle.vcm_machine.specs.Running.{started, WantsMemory};
     ghost use Rattle.vcm_contacts.specs.Leading.{lead};
     ghost use Rattle.vcm_contacts.specs.inner.Standing.{HasMet, IsStopping, IsLed, contact_at, led_on, halted};
@@ -89,7 +89,7 @@ impl<'a, P: Part> Passing<'a, P> {
 
     // The run stops at the next statement.
     fn halt(&mut self, stop: Stop)
-        ensures { (s : Statement) × (slice_get self.old.code.statements self.old.state.next ≡ Some s) × (self.new ≡ halted self.old s stop) }
+        ensures { (s : CodeStatement) × (slice_get self.old.code.statements self.old.state.next ≡ Some s) × (self.new ≡ halted self.old s stop) }
     {
         let line = self.loaded.line(self.next as usize);
         self.world.set_stop(stop, self.next, line);
@@ -97,8 +97,8 @@ impl<'a, P: Part> Passing<'a, P> {
 
     // The next statement met a block: how the run goes on.
     fn pass(&mut self, phase: MovePhase, hit: Hit) -> Contact
-        requires { (s : Statement) × IsStopping self.old (Collision phase hit) s }
-        ensures { (s : Statement) × (slice_get self.old.code.statements self.old.state.next ≡ Some s) × (result ≡ contact_at self.old phase hit s)
+        requires { (s : CodeStatement) × IsStopping self.old (Collision phase hit) s }
+        ensures { (s : CodeStatement) × (slice_get self.old.code.statements self.old.state.next ≡ Some s) × (result ≡ contact_at self.old phase hit s)
             × (self.new ≡ led_on self.old s (lead self.old.part self.old.state.world s.op phase hit)) }
     {
         // It is called for what it tells of the place: that it is near.
@@ -128,8 +128,8 @@ impl<'a, P: Part> Passing<'a, P> {
 
     // The next statement has a stop: a contact is told, and passed.
     fn meet(&mut self, stop: Stop) -> Option<Contact>
-        requires { (s : Statement) × IsStopping self.old stop s }
-        ensures { (s : Statement) × (slice_get self.old.code.statements self.old.state.next ≡ Some s) × IsLed self.old s stop result self.new }
+        requires { (s : CodeStatement) × IsStopping self.old stop s }
+        ensures { (s : CodeStatement) × (slice_get self.old.code.statements self.old.state.next ≡ Some s) × IsLed self.old s stop result self.new }
     {
         match stop {
             Stop::Collision(phase, hit) => Some(self.pass(phase, hit)),

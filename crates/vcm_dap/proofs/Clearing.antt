@@ -2,7 +2,7 @@
 use Rattle.std.proofs.Common.{◌≡◌, ℕ, zero, suc, ◌+◌, ◌<◌, Bool, true, false, List, [], ◌∷◌, length, take, refl, sym, ap, ◌∙◌, arith, add-one}
 use Rattle.std.proofs.lemmas.Bool.{lt-ltb}
 use Rattle.std.specs.Prelude.{◌≤◌, nat_lt, slice_set, Option, Some, None, Result, Ok, Err, if◌then◌else◌}
-use Rattle.vcm_code.specs.Code.{Statement}
+use Rattle.vcm_code.specs.Code.{CodeStatement}
 use Rattle.vcm_console.specs.declared.command.Command.TheVariants as c
 use Rattle.vcm_console.specs.declared.reply.CommandRefusal.TheVariants.{NoSuchStatement}
 use Rattle.vcm_console.specs.declared.reply.Reply.{Reply}
@@ -13,7 +13,7 @@ use Rattle.vcm_debug.specs.Session.{Answer, answers, Carries}
 use Rattle.vcm_dap.specs.Lines.{unflagged, cleared, with_place}
 
 -- one statement more
-unflagged_suc : (n : ℕ) (ss : List Statement) (bs : List Bool) → n < length ss → unflagged (take (suc n) ss) bs ≡ slice_set (unflagged (take n ss) bs) n false
+unflagged_suc : (n : ℕ) (ss : List CodeStatement) (bs : List Bool) → n < length ss → unflagged (take (suc n) ss) bs ≡ slice_set (unflagged (take n ss) bs) n false
 unflagged_suc n [] bs l = absurd (omega (arith, l))
 unflagged_suc zero (s ∷ ss) [] l = refl
 unflagged_suc zero (s ∷ ss) (b ∷ bs) l = refl
@@ -21,11 +21,11 @@ unflagged_suc (suc n) (s ∷ ss) [] l = refl
 unflagged_suc (suc n) (s ∷ ss) (b ∷ bs) l = ap (λ xs. false ∷ xs) (unflagged_suc n ss bs (omega (arith, l)))
 
 -- the same
-pub unflagged_more : (n : ℕ) (ss : List Statement) (bs : List Bool) → n < length ss → unflagged (take (n + 1) ss) bs ≡ slice_set (unflagged (take n ss) bs) n false
+pub unflagged_more : (n : ℕ) (ss : List CodeStatement) (bs : List Bool) → n < length ss → unflagged (take (n + 1) ss) bs ≡ slice_set (unflagged (take n ss) bs) n false
 unflagged_more n ss bs l = rw add-one (unflagged_suc n ss bs l)
 
 -- all of them
-pub unflagged_all : (n : ℕ) (ss : List Statement) → length ss ≤ n → take n ss ≡ ss
+pub unflagged_all : (n : ℕ) (ss : List CodeStatement) → length ss ≤ n → take n ss ≡ ss
 unflagged_all zero [] l = refl
 unflagged_all (suc n) [] l = refl
 unflagged_all zero (s ∷ ss) l = absurd (omega (arith, l))
@@ -57,7 +57,7 @@ clears_more d s new n l e i =
 
 -- all statements
 pub clears_all : (d s : Debugging) (n : ℕ) → length d.code.statements ≤ n → s ≡ cleared_to d n → s ≡ cleared d
-clears_all d s n l e = e ∙ ap (λ (ss : List Statement). record d { breakpoints = unflagged ss d.breakpoints }) (unflagged_all n d.code.statements l)
+clears_all d s n l e = e ∙ ap (λ (ss : List CodeStatement). record d { breakpoints = unflagged ss d.breakpoints }) (unflagged_all n d.code.statements l)
 
 -- a breakpoint on a line, if there is one, leaves the count
 pub place_count : (d : Debugging) (place : Option ℕ) → (with_place d place).count ≡ d.count

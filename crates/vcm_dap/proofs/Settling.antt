@@ -2,25 +2,25 @@
 use Rattle.std.proofs.Common.{◌≡◌, ℕ, zero, suc, ◌+◌, ◌<◌, ◌≤◌, List, [], ◌∷◌, length, drop, refl, subst, ap, ◌∙◌, inl, inr, arith, add-one}
 use Rattle.std.specs.Prelude.{◌⊎◌, min, Option, Some, None, slice_get}
 use Rattle.std.proofs.lemmas.Bool.{cases_lt, lt-ltb, le-ltb}
-use Rattle.vcm_code.specs.Code.{Statement}
+use Rattle.vcm_code.specs.Code.{CodeStatement}
 use Rattle.vcm_debug.specs.Session.{line_in}
 use Rattle.vcm_dap.specs.Laws.{LinesSettle}
 use Rattle.vcm_dap.specs.Lines.{BeginsOn, Settles, lesser, nearer, nearest, settled}
 
 -- one statement more
-nearest_step : (line : ℕ) (least : Option ℕ) (ss : List Statement) (n : ℕ) (s : Statement) → slice_get ss n ≡ Some s
+nearest_step : (line : ℕ) (least : Option ℕ) (ss : List CodeStatement) (n : ℕ) (s : CodeStatement) → slice_get ss n ≡ Some s
     → nearest line least (drop n ss) ≡ nearest line (nearer line least s.line) (drop (suc n) ss)
 nearest_step line least [] n s e = cc
 nearest_step line least (t ∷ ss) zero s e = ap (λ x. nearest line (nearer line least (line_in x)) ss) e
 nearest_step line least (t ∷ ss) (suc n) s e = nearest_step line least ss n s e
 
 -- the same, behind those that were passed
-pub nearest_more : (line : ℕ) (least : Option ℕ) (ss : List Statement) (n : ℕ) (s : Statement) (at : ℕ) → slice_get ss n ≡ Some s → at ≡ s.line
+pub nearest_more : (line : ℕ) (least : Option ℕ) (ss : List CodeStatement) (n : ℕ) (s : CodeStatement) (at : ℕ) → slice_get ss n ≡ Some s → at ≡ s.line
     → nearest line least (drop n ss) ≡ settled ss line → nearest line (nearer line least at) (drop (n + 1) ss) ≡ settled ss line
 nearest_more line least ss n s at e a i = rw (add-one, a, ← nearest_step line least ss n s e) i
 
 -- all were passed
-pub nearest_all : (line : ℕ) (least : Option ℕ) (ss : List Statement) (n : ℕ) → length ss ≤ n → nearest line least (drop n ss) ≡ settled ss line → least ≡ settled ss line
+pub nearest_all : (line : ℕ) (least : Option ℕ) (ss : List CodeStatement) (n : ℕ) → length ss ≤ n → nearest line least (drop n ss) ≡ settled ss line → least ≡ settled ss line
 nearest_all line least [] n l i = rest n i
   where
     rest : (k : ℕ) → nearest line least (drop k []) ≡ None → least ≡ None
@@ -29,7 +29,7 @@ nearest_all line least [] n l i = rest n i
 nearest_all line least (s ∷ ss) zero l i = absurd (omega (arith, l))
 nearest_all line least (s ∷ ss) (suc n) l i = passed ss n (omega (arith, l)) ∙ i
   where
-    passed : (ts : List Statement) (k : ℕ) → length ts ≤ k → least ≡ nearest line least (drop k ts)
+    passed : (ts : List CodeStatement) (k : ℕ) → length ts ≤ k → least ≡ nearest line least (drop k ts)
     passed [] zero m = refl
     passed [] (suc k) m = refl
     passed (t ∷ ts) zero m = absurd (omega (arith, m))
@@ -70,7 +70,7 @@ near_one P line s o h = by (cases_lt s line)
     by (inr l) = rw (le-ltb s line l) (near_other P line s o l h)
 
 -- the lines of statements more
-near_all : (P : ℕ → Type 0) (line : ℕ) (o : Option ℕ) (ss : List Statement) → Near P line o → Near (λ at. P at ⊎ BeginsOn ss at) line (nearest line o ss)
+near_all : (P : ℕ → Type 0) (line : ℕ) (o : Option ℕ) (ss : List CodeStatement) → Near P line o → Near (λ at. P at ⊎ BeginsOn ss at) line (nearest line o ss)
 near_all P line o [] h = near_as P _ line o (λ at p. inl p) (λ at x. elim x [ inl p ↦ p | inr e ↦ absurd e ]) h
 near_all P line o (s ∷ ss) h =
     near_as (λ at. (P at ⊎ (s.line ≡ at)) ⊎ BeginsOn ss at) (λ at. P at ⊎ ((s.line ≡ at) ⊎ BeginsOn ss at)) line _
@@ -79,7 +79,7 @@ near_all P line o (s ∷ ss) h =
     (near_all (λ at. P at ⊎ (s.line ≡ at)) line (nearer line o s.line) ss (near_one P line s.line o h))
 
 -- where it comes to stand is where it settles
-settled_settles : (ss : List Statement) (line : ℕ) → Settles ss line (settled ss line)
+settled_settles : (ss : List CodeStatement) (line : ℕ) → Settles ss line (settled ss line)
 unfolding Near
 settled_settles ss line = by (settled ss line) (near_all (λ at. ⊥) line None ss (λ at e. absurd e))
   where
@@ -88,7 +88,7 @@ settled_settles ss line = by (settled ss line) (near_all (λ at. ⊥) line None 
     by (Some a) h = (elim h.0 [ inl e ↦ absurd e | inr b ↦ b ], h.1, λ other b. h.2 other (inr b))
 
 -- it settles nowhere else
-settles_once : (ss : List Statement) (line : ℕ) (o p : Option ℕ) → Settles ss line o → Settles ss line p → o ≡ p
+settles_once : (ss : List CodeStatement) (line : ℕ) (o p : Option ℕ) → Settles ss line o → Settles ss line p → o ≡ p
 settles_once ss line None None h k = refl
 settles_once ss line None (Some b) h k = absurd (omega (arith, h b k.0, k.1))
 settles_once ss line (Some a) None h k = absurd (omega (arith, k a h.0, h.1))

@@ -4,7 +4,7 @@ use Rattle.std.specs.List.{AllByRecursion}
 use Rattle.std.specs.Str.{IsUtf8}
 use Rattle.std.specs.Str.Lossy.{utf8_lossy}
 use Rattle.json.specs.Json.{Items}
-use Rattle.vcm_code.specs.Code.{Statement}
+use Rattle.vcm_code.specs.Code.{CodeStatement}
 use Rattle.vcm_output.specs.Output.{output_lines}
 use Rattle.vcm_dap.specs.Asked.{AskLines}
 use Rattle.vcm_dap.specs.Lines.{Settles, settled}
@@ -17,7 +17,7 @@ LinesAreOne = (is_from_0 : Bool) (js : Items) (asked other : List (Option ℕ)) 
 -- where a breakpoint comes to stand is where its line settles, and a line settles nowhere else
 abbrev pub LinesSettle : Type 0
 LinesSettle =
-    (ss : List Statement) (line : ℕ) → Settles ss line (settled ss line) × ((place : Option ℕ) → Settles ss line place → place ≡ settled ss line)
+    (ss : List CodeStatement) (line : ℕ) → Settles ss line (settled ss line) × ((place : Option ℕ) → Settles ss line place → place ≡ settled ss line)
 
 -- what the events of lines in pieces tell, put together, is what `vcm run` prints of these lines. An event's text is told with U+FFFD in the place of what
 -- is no UTF-8; where each line is UTF-8, so is each text, and is told as it is

@@ -1,19 +1,19 @@
 -- Breakpoints on source lines, and watches.
 use Rattle.std.specs.Prelude.{◌≡◌, ◌⊎◌, ℕ, ◌<◌, ◌≤◌, min, nat_lt, Bool, true, false, List, [], ◌∷◌, map, fold, Option, Some, None, option_and_then, if◌then◌else◌}
 use Rattle.vcm_spec.specs.Setup.{Variable}
-use Rattle.vcm_code.specs.Code.{Statement}
+use Rattle.vcm_code.specs.Code.{CodeStatement}
 use Rattle.vcm_console.specs.declared.command.VariableRef.{VariableRef}
 use Rattle.vcm_console.specs.declared.command.Command.TheVariants.{Watch, Unwatch}
 use Rattle.vcm_debug.specs.Debugging.{Debugging}
 use Rattle.vcm_debug.specs.Session.{answer, with_line}
 
 -- a statement begins on this line
-abbrev pub BeginsOn : List Statement → ℕ → Type 0
+abbrev pub BeginsOn : List CodeStatement → ℕ → Type 0
 BeginsOn [] at = ⊥
 BeginsOn (s ∷ ss) at = (s.line ≡ at) ⊎ BeginsOn ss at
 
 -- a breakpoint on a line comes to stand on the least line, not above it, that a statement begins on; nowhere, where all begin above it
-abbrev pub Settles : List Statement → ℕ → Option ℕ → Type 0
+abbrev pub Settles : List CodeStatement → ℕ → Option ℕ → Type 0
 Settles ss line None = (at : ℕ) → BeginsOn ss at → at < line
 Settles ss line (Some at) = BeginsOn ss at × (line ≤ at) × ((other : ℕ) → BeginsOn ss other → line ≤ other → at ≤ other)
 
@@ -27,16 +27,16 @@ abbrev pub nearer : ℕ → Option ℕ → ℕ → Option ℕ
 nearer line least at = if nat_lt at line then least else Some (lesser least at)
 
 -- the same over statements, one after another
-abbrev pub nearest : ℕ → Option ℕ → List Statement → Option ℕ
+abbrev pub nearest : ℕ → Option ℕ → List CodeStatement → Option ℕ
 nearest line least [] = least
 nearest line least (s ∷ ss) = nearest line (nearer line least s.line) ss
 
 -- where a breakpoint on a line comes to stand, computed. It is where it settles, and nowhere else (`LinesSettle` in Laws.antt)
-abbrev pub settled : List Statement → ℕ → Option ℕ
+abbrev pub settled : List CodeStatement → ℕ → Option ℕ
 settled ss line = nearest line None ss
 
 -- the flag of each statement is taken away
-abbrev pub unflagged : List Statement → List Bool → List Bool
+abbrev pub unflagged : List CodeStatement → List Bool → List Bool
 unflagged [] bs = bs
 unflagged (s ∷ ss) [] = []
 unflagged (s ∷ ss) (b ∷ bs) = false ∷ unflagged ss bs

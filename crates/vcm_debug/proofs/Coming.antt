@@ -6,7 +6,7 @@ use Rattle.vcm_spec.specs.declared.stop.StopPlace.{StopPlace}
 use Rattle.vcm_spec.specs.Setup.{Setup}
 use Rattle.vcm_spec.specs.Stepping.{unless_stopped}
 use Rattle.vcm_spec.proofs.Steps.{none_effective, effective_reaches}
-use Rattle.vcm_code.specs.Code.{Statement}
+use Rattle.vcm_code.specs.Code.{CodeStatement}
 use Rattle.vcm_code.specs.CodeTable.{CodeState, code_stop, code_step, fetched}
 use Rattle.vcm_machine.specs.Running.{Running, setup, moved, started, later}
 use Rattle.vcm_machine.proofs.LawLemmas.{add_up}
@@ -25,7 +25,7 @@ pub running_effective : (n : ℕ) (m : Running) → m.state.world.stop ≡ None 
 running_effective n m e = ap (λ o. unless_stopped o 0 (suc (effective n (later 1 m)))) e
 
 -- a step at a stop
-state_stays : (s : Setup) (code : List Statement) (m : CodeState) (p : StopPlace) → code_stop m ≡ Some p → code_step s code m ≡ m
+state_stays : (s : Setup) (code : List CodeStatement) (m : CodeState) (p : StopPlace) → code_stop m ≡ Some p → code_step s code m ≡ m
 state_stays s code m p e = ap (λ o. unless_stopped o m (fetched s (slice_get code m.next) m.world m.next m.pairs)) e
 
 -- only the steps before a stop count

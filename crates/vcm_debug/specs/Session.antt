@@ -20,13 +20,13 @@ use Rattle.vcm_console.specs.declared.reply.Reply.TheVariants.{Listed, Lines, By
 use Rattle.vcm_console.specs.declared.reply.Halted.{Halted}
 use Rattle.vcm_code.specs.declared.code.Code.{Code}
 use Rattle.vcm_code.specs.CodeTable.{CodeState}
-use Rattle.vcm_code.specs.Code.{Statement}
+use Rattle.vcm_code.specs.Code.{CodeStatement}
 use Rattle.vcm_machine.specs.Running.{WantsMemory, started}
 use Rattle.vcm_debug.specs.Debugging.{Debugging, shown, now}
 use Rattle.vcm_debug.specs.Halting.{RunEnd, ends_after, run_end, last_end, reason_after, effective}
 
 -- the source line that a statement was read from
-abbrev pub line_in : Option Statement → ℕ
+abbrev pub line_in : Option CodeStatement → ℕ
 line_in None = 0
 line_in (Some s) = s.line
 
@@ -112,7 +112,7 @@ abbrev pub feature_of : Debugging → List ℕ → Option ℕ
 feature_of d name = position (λ x. bytes_eq x name) d.code.tables.features
 
 -- each statement of a source line gets this flag, and every other one keeps its own
-abbrev pub flagged : ℕ → Bool → List Statement → List Bool → List Bool
+abbrev pub flagged : ℕ → Bool → List CodeStatement → List Bool → List Bool
 flagged line flag [] bs = bs
 flagged line flag (s ∷ ss) [] = []
 flagged line flag (s ∷ ss) (b ∷ bs) = (if s.line == line then flag else b) ∷ flagged line flag ss bs

@@ -13,7 +13,7 @@ use Rattle.vcm_code.specs.declared.version.Version.{Version}
 use Rattle.vcm_fields.specs.declared.fault.ImageFault.TheVariants.{BadField}
 use Rattle.vcm_code.specs.declared.word.Word.{Word}
 use Rattle.vcm_code.specs.declared.word.Word.TheVariants as words
-use Rattle.vcm_code.specs.Code.{Op, Statement}
+use Rattle.vcm_code.specs.Code.{Op, CodeStatement}
 use Rattle.vcm_code.specs.Words.{word_of, has_word}
 use Rattle.vcm_code.specs.Shape.{Place, Filled, axes, directions, settings, sources, frame_axes, quarter_turns, feature_words, kinds, all_words, Form, form, form_of, places_in, made_in, places, op_in, Parted, parted, word_in, put_together, taken_apart, over_places, over_parted, InPlaces, InParted}
 use Rattle.vcm_code.specs.Shape as at
@@ -154,7 +154,7 @@ reads_operands w = record {
       ap (λ (v : Word). operands_at v (operands o ++ rest)) (sym h.0) ∙ parted_again (taken_apart o) rest h.1 ∙ ap (λ (z : Op). Ok (z, rest)) (together_apart o);
 }
 
-reads_rest : (w : Word) → Reads {A = Statement} (via (λ o. record { line = o.0; op = o.1 }) (both (number_at w32) (operands_at w))) (λ s. long s.line ++ operands s.op) (λ s. (word_of s.op ≡ w) × ((s.line < 2 ^ 32) × FitsOperation s.op))
+reads_rest : (w : Word) → Reads {A = CodeStatement} (via (λ o. record { line = o.0; op = o.1 }) (both (number_at w32) (operands_at w))) (λ s. long s.line ++ operands s.op) (λ s. (word_of s.op ≡ w) × ((s.line < 2 ^ 32) × FitsOperation s.op))
 unfolding Of
 reads_rest w = reads_via (reads_both reads_long (reads_operands w)) (λ o. record { line = o.0; op = o.1 }) (λ s. (s.line, s.op)) (λ s. long s.line ++ operands s.op) (λ s. (word_of s.op ≡ w) × ((s.line < 2 ^ 32) × FitsOperation s.op))
     (λ o h. refl) (λ o h. (h.1.0, (h.0, h.1.1))) (λ s h. (refl, refl, (h.1.0, (h.0, h.1.1))))

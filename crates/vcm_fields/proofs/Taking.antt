@@ -6,7 +6,7 @@ use Rattle.vcm_spec.specs.declared.expression.Item.{Item}
 use Rattle.vcm_spec.specs.TextBytes.{is_text}
 use Rattle.vcm_code.specs.declared.version.Version.{Version}
 use Rattle.vcm_code.specs.declared.word.Word.{Word}
-use Rattle.vcm_code.specs.Code.{Statement}
+use Rattle.vcm_code.specs.Code.{CodeStatement}
 use Rattle.vcm_fields.specs.declared.fault.ImageFault.{ImageFault}
 use Rattle.vcm_fields.specs.declared.fault.ImageFault.TheVariants.{Short, BadField}
 use Rattle.vcm_fields.specs.declared.items.Tag.{Tag}
@@ -112,7 +112,7 @@ text_is bytes t rest h =
     (p.0, p.1, (tested_is BadField (λ n. nat_le n 1024) (number_at w16) bytes p.0 p.1 p.2).0, (tested_is BadField is_text (bytes_at p.0) p.1 t rest p.3).0)
 
 -- a statement: its word, its line, and its operands
-pub record LineParts (v : Version) (bytes : List ℕ) (s : Statement) (rest : List ℕ) : Type 0 where
+pub record LineParts (v : Version) (bytes : List ℕ) (s : CodeStatement) (rest : List ℕ) : Type 0 where
   pub word : Word
   pub behind_word : List ℕ
   pub behind_line : List ℕ
@@ -120,7 +120,7 @@ pub record LineParts (v : Version) (bytes : List ℕ) (s : Statement) (rest : Li
   pub line_is : number_at w32 behind_word ≡ Ok (s.line, behind_line)
   pub operands_are : operands_at word behind_line ≡ Ok (s.op, rest)
 
-pub line_is : (v : Version) (bytes : List ℕ) (s : Statement) (rest : List ℕ) → line_at v bytes ≡ Ok (s, rest) → LineParts v bytes s rest
+pub line_is : (v : Version) (bytes : List ℕ) (s : CodeStatement) (rest : List ℕ) → line_at v bytes ≡ Ok (s, rest) → LineParts v bytes s rest
 unfolding line_at
 line_is v bytes s rest h =
     let p = after_is (word_at v) (λ k. via (λ o. record { line = o.0; op = o.1 }) (both (number_at w32) (operands_at k))) bytes s rest h in
@@ -131,8 +131,8 @@ line_is v bytes s rest h =
       behind_word = p.1;
       behind_line = r.0;
       word_is = p.2;
-      line_is = r.1 ∙ ap (λ (t : Statement). Ok (t.line, r.0)) q.2;
-      operands_are = r.2 ∙ ap (λ (t : Statement). Ok (t.op, rest)) q.2;
+      line_is = r.1 ∙ ap (λ (t : CodeStatement). Ok (t.line, r.0)) q.2;
+      operands_are = r.2 ∙ ap (λ (t : CodeStatement). Ok (t.op, rest)) q.2;
     }
 
 -- three expressions, one after the other

@@ -15,7 +15,7 @@ use Rattle.vcm_spec.specs.Setup.{Variable as Entry}
 use Rattle.vcm_spec.specs.TextBytes.{is_text}
 use Rattle.vcm_spec.specs.Results.{◌>>=◌}
 use Rattle.vcm_items.specs.NameBytes.{is_name, is_variable_name}
-use Rattle.vcm_code.specs.Code.{Op, Statement}
+use Rattle.vcm_code.specs.Code.{Op, CodeStatement}
 use Rattle.vcm_fields.specs.declared.items.Tag.{Tag}
 use Rattle.vcm_fields.specs.declared.items.Tag.TheVariants as tags
 use Rattle.vcm_code.specs.declared.word.Word.{Word}
@@ -292,7 +292,7 @@ abbrev pub operands_at : Word → Reader Op
 operands_at w = operands_by place_at w
 
 -- a statement of a version: its word, its source line, and its operands
-unfoldable pub line_at : Version → Reader Statement
+unfoldable pub line_at : Version → Reader CodeStatement
 line_at v = after (word_at v) (λ k. via (λ o. record { line = o.0; op = o.1 }) (both (number_at w32) (operands_at k)))
 
 -- ---- tables

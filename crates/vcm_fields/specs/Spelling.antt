@@ -19,7 +19,7 @@ use Rattle.vcm_fields.specs.declared.items.Tag.{Tag}
 use Rattle.vcm_fields.specs.declared.items.Tag.TheVariants as tags
 use Rattle.vcm_code.specs.declared.word.Word.{Word}
 use Rattle.vcm_code.specs.declared.word.Word.TheVariants as words
-use Rattle.vcm_code.specs.Code.{Op, Statement}
+use Rattle.vcm_code.specs.Code.{Op, CodeStatement}
 use Rattle.vcm_code.specs.Words.{word_of}
 use Rattle.vcm_code.specs.Shape.{Place, Said, over_operands}
 use Rattle.vcm_code.specs.Shape as at
@@ -208,7 +208,7 @@ abbrev pub operands : Op → List ℕ
 operands o = over_operands place o
 
 -- the kind, the line, the operands
-abbrev pub line : Statement → List ℕ
+abbrev pub line : CodeStatement → List ℕ
 line s = byte (word_byte (word_of s.op)) ++ (long s.line ++ operands s.op)
 
 -- ---- tables

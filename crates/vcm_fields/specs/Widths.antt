@@ -7,7 +7,7 @@ use Rattle.vcm_spec.specs.declared.expression.Operand.TheVariants.{Integer, Thou
 use Rattle.vcm_spec.specs.declared.expression.Item.{Item}
 use Rattle.vcm_spec.specs.declared.expression.Item.TheVariants.{Push, Apply, Combine}
 use Rattle.vcm_code.specs.declared.branch.Branch.{Branch}
-use Rattle.vcm_code.specs.Code.{Statement}
+use Rattle.vcm_code.specs.Code.{CodeStatement}
 use Rattle.vcm_code.specs.declared.code.Code.{Code}
 use Rattle.vcm_code.specs.Shape.{Place, Said, InOperands}
 use Rattle.vcm_code.specs.Shape as at
@@ -42,7 +42,7 @@ HasWidth at.branches bs = AllByRecursion FitsBranch bs
 HasWidth _ x = Unit {0}
 
 -- a statement: its source line has 32 bits, and its operands have their widths
-abbrev pub LineHasWidths : Statement → Type 0
+abbrev pub LineHasWidths : CodeStatement → Type 0
 LineHasWidths s = (s.line < 2 ^ 32) × InOperands HasWidth s.op
 
 -- a code: the expansions of its variables have 32 bits, and its statements have their widths

@@ -7,7 +7,7 @@ use crate::fault::ImageFault;
 use crate::items::{item, known_item};
 use std::alloc::Global;
 use std::marker::Model;
-use vcm_code::{Expression, Line};
+use vcm_code::{Expression, OutputLine};
 use vcm_num::{Items, NoMemory};
 use vcm_spec::Item;
 
@@ -131,7 +131,7 @@ impl<'a> TextSlice<'a> {
     }
 }
 
-impl<'a> Line for TextSlice<'a> {
+impl<'a> OutputLine for TextSlice<'a> {
     ghost bytes = { λ s. s };
 
     fn to_bytes(&self, alloc: Global) -> Result<Items<u8>, NoMemory> {

@@ -13,7 +13,7 @@ use crate::slices::{ItemSlice, TextSlice};
 use crate::tags::{axis, direction, part, quarters, setting, source, turn, word};
 use crate::texts::text;
 use std::marker::Model;
-use vcm_code::{Op, Statement, Version};
+use vcm_code::{CodeStatement, Op, Version};
 use vcm_num::{Axis, Kind};
 use vcm_spec::{FeatureWord, FrameAxis, Quarters, Setting, Source};
 
@@ -21,7 +21,7 @@ use vcm_spec::{FeatureWord, FrameAxis, Quarters, Setting, Source};
 pub type BorrowedOp<'a> = Op<ItemSlice<'a>, TextSlice<'a>, BranchSlice<'a>>;
 
 /// A statement of an image.
-pub type BorrowedStatement<'a> = Statement<ItemSlice<'a>, TextSlice<'a>, BranchSlice<'a>>;
+pub type BorrowedStatement<'a> = CodeStatement<ItemSlice<'a>, TextSlice<'a>, BranchSlice<'a>>;
 
 /// The most items of an expression.
 const LONGEST: u16 = 1024;
@@ -250,5 +250,5 @@ pub fn statement(
     let (line, rest) = long(rest)?;
     let mut from = ByteReader { left: rest };
     let op = operands(word, &mut from)?;
-    Ok((Statement { line, op }, from.left))
+    Ok((CodeStatement { line, op }, from.left))
 }

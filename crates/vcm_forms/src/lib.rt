@@ -5,4 +5,6 @@ mod operator_text;
 mod statement;
 
 pub use operator_text::OperatorText;
-pub use statement::{Argument, Form, Notice, Offset, Parameter, Rounds, Spot, Statement, Target};
+pub use statement::{
+    Argument, Coordinates, Form, Notice, Offset, Parameter, Rounds, Statement, Target,
+};

@@ -50,7 +50,7 @@ impl Notice {
 
 /// A place by its three coordinates, each an expression.
 #[derive(Drop)]
-pub struct Spot {
+pub struct Coordinates {
     pub x: Expr,
     pub y: Expr,
     pub z: Expr,
@@ -108,7 +108,7 @@ pub enum Form {
     /// `ASSIGN`: a variable, and the value that it gets.
     Assignment(Target, Expr),
     /// `GOTO`: the place to go to.
-    Move(Spot),
+    Move(Coordinates),
     /// `GOHOME`.
     Home,
     /// `TEXT`: what it shows.
@@ -128,11 +128,11 @@ pub enum Form {
     /// `JUMPTO`: the name of a jump label.
     Leap(Name),
     /// `FEAT`: a feature's name, its place, and the direction out of the material there.
-    Feature(Name, Spot, Axis),
+    Feature(Name, Coordinates, Axis),
     /// `MEAS`: the name of the feature that is measured.
     Measure(Name),
     /// `PTMEAS`: the place to touch, and the direction out of the material if it is given.
-    Touch(Spot, Option<Axis>),
+    Touch(Coordinates, Option<Axis>),
     /// `ENDMES`.
     MeasureEnd,
     /// `SNSET`: a setting of the probe, and its length.

@@ -70,16 +70,16 @@ gone_of part p =
     gone_in part p.before.position p.before.settings (task_of part.bounds.home p.before p.statement.op) (reason p.after.stop)
 
 -- a way with its step, counted from 1, and with the number and the line of the step's statement
-pub record Placed : Type 0 where
+pub record PlacedWay : Type 0 where
   pub way : Gone
   pub step : ℕ
   pub number : ℕ
   pub line : ℕ
 
 -- the ways of a step, with it
-abbrev pub placed_ways : Workpiece → Passage → List Placed
+abbrev pub placed_ways : Workpiece → Passage → List PlacedWay
 placed_ways part p = map (λ way. record { way = way; step = p.count; number = p.number; line = p.statement.line }) (gone_of part p)
 
 -- the ways of a run for at most n steps
-abbrev pub ways_of : Workpiece → Code → ℕ → List Placed
+abbrev pub ways_of : Workpiece → Code → ℕ → List PlacedWay
 ways_of part c n = flat_map (placed_ways part) (passages part c n)

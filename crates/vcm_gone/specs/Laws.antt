@@ -9,20 +9,20 @@ use Rattle.vcm_marks.specs.declared.mark.Going.{Going}
 use Rattle.vcm_marks.specs.declared.mark.Going.TheVariants.{Rest}
 use Rattle.vcm_marks.specs.declared.mark.Mark.{Mark}
 use Rattle.vcm_marks.specs.declared.mark.Mark.TheVariants.{Goes, Touches, Meets}
-use Rattle.vcm_marks.specs.declared.mark.Piece.{Piece}
+use Rattle.vcm_marks.specs.declared.mark.Leg.{Leg}
 use Rattle.vcm_steps.specs.Passages.{passages}
 use Rattle.vcm_way.specs.Ways.{step_marks}
 use Rattle.vcm_gone.specs.Gone.{Gone, gone_of}
 
 -- the piece is the way, as far as it was gone: it begins where the way does, and ends at the fraction of it that was gone, cut off to whole micrometres towards the
 -- start
-pub record IsPiece (way : Gone) (piece : Piece) : Type 0 where
+pub record IsPiece (way : Gone) (piece : Leg) : Type 0 where
   pub going : piece.going ≡ way.going
   pub from : piece.from ≡ way.from
   pub to : (k : ℕ) → k < 3 → coordinate piece.to k ≡ part_of_way way.gone (coordinate way.from k) (coordinate way.to k)
 
 -- the next way, if the piece is gone at all, and what comes behind it
-abbrev pub NextPiece : Going → Piece → (List Gone → Type 0) → List Gone → Type 0
+abbrev pub NextPiece : Going → Leg → (List Gone → Type 0) → List Gone → Type 0
 NextPiece Rest piece behind ways = behind ways
 NextPiece how piece behind [] = ⊥
 NextPiece how piece behind (way ∷ ways) = IsPiece way piece × behind ways

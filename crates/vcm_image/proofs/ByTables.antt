@@ -7,7 +7,7 @@ use Rattle.vcm_items.specs.Names.{AreNamed}
 use Rattle.vcm_code.specs.declared.code.Code.{Code}
 use Rattle.vcm_code.specs.declared.version.Version.{Version}
 use Rattle.vcm_code.specs.declared.version.Version.TheVariants.{One, Two}
-use Rattle.vcm_code.specs.Code.{Statement}
+use Rattle.vcm_code.specs.Code.{CodeStatement}
 use Rattle.vcm_code.specs.Words.{word_of, is_of_select, has_word}
 use Rattle.vcm_code.specs.Ranges.{IsRanged, AllInRange, has_selection, IsOfVersion}
 use Rattle.vcm_code.proofs.Shapes.{both_in, first_in, second_in}
@@ -22,7 +22,7 @@ neither : (a b : Bool) → not a ≡ true → b ≡ false → (a || b) ≡ false
 neither true b e f = absurd cc
 neither false b e f = f
 
-lines_version : (v : Version) (ss : List Statement) → AllByRecursion (FitsLine v) ss → IsOfVersion v ss
+lines_version : (v : Version) (ss : List CodeStatement) → AllByRecursion (FitsLine v) ss → IsOfVersion v ss
 lines_version Two ss h = tt
 lines_version One [] h = refl
 lines_version One (s ∷ ss) h = neither (is_of_select (word_of s.op)) (has_selection ss) h.0.0 (lines_version One ss h.1)
@@ -32,21 +32,21 @@ apart true b e = absurd cc
 apart false b e = (refl, e)
 
 -- a version that has these statements has the first word of them, and the others
-of_version_next : (v : Version) (s : Statement) (ss : List Statement) → IsOfVersion v (s ∷ ss) → IsTrue (has_word v (word_of s.op)) × IsOfVersion v ss
+of_version_next : (v : Version) (s : CodeStatement) (ss : List CodeStatement) → IsOfVersion v (s ∷ ss) → IsTrue (has_word v (word_of s.op)) × IsOfVersion v ss
 of_version_next Two s ss h = (refl, tt)
 of_version_next One s ss h = apart (is_of_select (word_of s.op)) (has_selection ss) h
 
 -- ---- statements
 
-lines_range : (v : Version) (ss : List Statement) → AllByRecursion (FitsLine v) ss → AllInRange ss
+lines_range : (v : Version) (ss : List CodeStatement) → AllByRecursion (FitsLine v) ss → AllInRange ss
 lines_range v [] h = tt
 lines_range v (s ∷ ss) h = (first_in IsRanged HasWidth s.op h.0.1.1, lines_range v ss h.1)
 
-lines_wide : (v : Version) (ss : List Statement) → AllByRecursion (FitsLine v) ss → AllByRecursion LineHasWidths ss
+lines_wide : (v : Version) (ss : List CodeStatement) → AllByRecursion (FitsLine v) ss → AllByRecursion LineHasWidths ss
 lines_wide v [] h = tt
 lines_wide v (s ∷ ss) h = ((h.0.1.0, second_in IsRanged HasWidth s.op h.0.1.1), lines_wide v ss h.1)
 
-lines_fit : (v : Version) (ss : List Statement) → IsOfVersion v ss → AllInRange ss → AllByRecursion LineHasWidths ss → AllByRecursion (FitsLine v) ss
+lines_fit : (v : Version) (ss : List CodeStatement) → IsOfVersion v ss → AllInRange ss → AllByRecursion LineHasWidths ss → AllByRecursion (FitsLine v) ss
 lines_fit v [] h r w = tt
 lines_fit v (s ∷ ss) h r w =
     (let p = of_version_next v s ss h in ((p.0, (w.0.0, both_in IsRanged HasWidth s.op r.0 w.0.1)), lines_fit v ss p.1 r.1 w.1))

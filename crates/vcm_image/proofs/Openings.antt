@@ -3,7 +3,7 @@ use Rattle.std.proofs.Common.{◌≡◌, ℕ, zero, suc, ◌+◌, ◌-◌, ◌<�
 use Rattle.std.proofs.lemmas.List.{length-append, append-nil}
 use Rattle.vcm_spec.specs.Results.{◌>>=◌}
 use Rattle.vcm_spec.specs.Setup.{Variable as Entry, Tables}
-use Rattle.vcm_code.specs.Code.{Statement}
+use Rattle.vcm_code.specs.Code.{CodeStatement}
 use Rattle.vcm_code.specs.declared.code.Code.{Code}
 use Rattle.vcm_code.specs.declared.version.Version.{Version}
 use Rattle.vcm_fields.specs.declared.fault.ImageFault.{ImageFault}
@@ -25,7 +25,7 @@ module _ (bytes : List ℕ) (n : Counts) (r : List ℕ) (h : header_at bytes ≡
   module _ (vs : List Entry) (r1 : List ℕ) (v : times entry_at n.variables r ≡ Ok (vs, r1)) where
     module _ (fs : List (List ℕ)) (r2 : List ℕ) (f : times name_at n.features r1 ≡ Ok (fs, r2)) where
       module _ (ds : List (List ℕ)) (r3 : List ℕ) (d : times name_at n.frames r2 ≡ Ok (ds, r3)) where
-        same_statements : (q : Result (List Statement × List ℕ) ImageFault) → times (line_at n.version) n.statements r3 ≡ q → (begun_at bytes >>= rest_at) ≡ code_at bytes
+        same_statements : (q : Result (List CodeStatement × List ℕ) ImageFault) → times (line_at n.version) n.statements r3 ≡ q → (begun_at bytes >>= rest_at) ≡ code_at bytes
         unfolding begun_at rest_at code_at body_at
         same_statements (Ok (ss, r4)) s = rw (h, v, f, d, s) refl
         same_statements (Err e) s = rw (h, v, f, d, s) refl
@@ -59,18 +59,18 @@ pub next_same : (o : Opened) → 0 < o.left → (next_at o >>= λ x. rest_at x.1
 unfolding next_at rest_at times
 next_same o lt = counted o.left refl lt
   where
-    close : Code → List Statement × List ℕ → Result Code ImageFault
+    close : Code → List CodeStatement × List ℕ → Result Code ImageFault
     close c ss = ended (with_statements c ss.0, ss.1)
 
-    begin_with : Statement → List Statement × List ℕ → Result (List Statement × List ℕ) ImageFault
+    begin_with : CodeStatement → List CodeStatement × List ℕ → Result (List CodeStatement × List ℕ) ImageFault
     begin_with s xs = Ok (s ∷ xs.0, xs.1)
 
-    all : (k : ℕ) (s : Statement) (r : List ℕ) (q : Result (List Statement × List ℕ) ImageFault) → times (line_at o.code.version) k r ≡ q
+    all : (k : ℕ) (s : CodeStatement) (r : List ℕ) (q : Result (List CodeStatement × List ℕ) ImageFault) → times (line_at o.code.version) k r ≡ q
         → (times (line_at o.code.version) k r >>= close (with_statements o.code (s ∷ []))) ≡ ((times (line_at o.code.version) k r >>= begin_with s) >>= close o.code)
-    all k s r (Ok (ss, r')) e = rw e (ap (λ (l : List Statement). ended (record { version = o.code.version; tables = o.code.tables; statements = l }, r')) (append_assoc o.code.statements (s ∷ []) ss))
+    all k s r (Ok (ss, r')) e = rw e (ap (λ (l : List CodeStatement). ended (record { version = o.code.version; tables = o.code.tables; statements = l }, r')) (append_assoc o.code.statements (s ∷ []) ss))
     all k s r (Err f) e = rw e refl
 
-    first : (k : ℕ) → o.left ≡ suc k → (q : Result (Statement × List ℕ) ImageFault) → line_at o.code.version o.rest ≡ q → (next_at o >>= λ x. rest_at x.1) ≡ rest_at o
+    first : (k : ℕ) → o.left ≡ suc k → (q : Result (CodeStatement × List ℕ) ImageFault) → line_at o.code.version o.rest ≡ q → (next_at o >>= λ x. rest_at x.1) ≡ rest_at o
     first k e (Ok (s, r)) f = (let less : suc k - 1 ≡ k = omega arith in rw (e, f, less) (all k s r (times (line_at o.code.version) k r) refl))
     first k e (Err d) f = rw (e, f) refl
 
@@ -81,7 +81,7 @@ next_same o lt = counted o.left refl lt
 -- nothing is left
 pub end_same : (o : Opened) → o.left ≡ 0 → rest_at o ≡ ended (o.code, o.rest)
 unfolding rest_at times
-end_same o e = rw e (ap (λ (l : List Statement). ended (record { version = o.code.version; tables = o.code.tables; statements = l }, o.rest)) (append-nil o.code.statements))
+end_same o e = rw e (ap (λ (l : List CodeStatement). ended (record { version = o.code.version; tables = o.code.tables; statements = l }, o.rest)) (append-nil o.code.statements))
 
 -- ---- the same by what a call returned
 
@@ -96,36 +96,36 @@ begun_whole bytes o e = sym (begun_same bytes) ∙ rw e refl
 pub next_fails : (o : Opened) (f : ImageFault) → 0 < o.left → Fails f (next_at o) → Fails f (rest_at o)
 next_fails o f lt h = fails_from f (next_at o) (rest_at o) h (λ e. sym (next_same o lt) ∙ rw e refl)
 
-pub next_whole : (o : Opened) (s : Statement) (o' : Opened) → 0 < o.left → next_at o ≡ Ok (s, o') → rest_at o ≡ rest_at o'
+pub next_whole : (o : Opened) (s : CodeStatement) (o' : Opened) → 0 < o.left → next_at o ≡ Ok (s, o') → rest_at o ≡ rest_at o'
 next_whole o s o' lt e = sym (next_same o lt) ∙ rw e refl
 
 -- what is known of an image of which a statement more is read
-pub record Further (o : Opened) (s : Statement) (o' : Opened) : Type 0 where
+pub record Further (o : Opened) (s : CodeStatement) (o' : Opened) : Type 0 where
   pub left : o.left ≡ suc o'.left
   pub version : o'.code.version ≡ o.code.version
   pub tables : o'.code.tables ≡ o.code.tables
   pub statements : o'.code.statements ≡ o.code.statements ++ s ∷ []
   pub whole : rest_at o ≡ rest_at o'
 
-pub further : (o : Opened) (s : Statement) (o' : Opened) → 0 < o.left → next_at o ≡ Ok (s, o') → Further o s o'
+pub further : (o : Opened) (s : CodeStatement) (o' : Opened) → 0 < o.left → next_at o ≡ Ok (s, o') → Further o s o'
 unfolding next_at
 further o s o' lt e = split (line_at o.code.version o.rest) refl
   where
     one_less : (k l : ℕ) → k - 1 ≡ l → 0 < k → k ≡ suc l
     one_less k l e lt = omega arith
 
-    split : (q : Result (Statement × List ℕ) ImageFault) → line_at o.code.version o.rest ≡ q → Further o s o'
+    split : (q : Result (CodeStatement × List ℕ) ImageFault) → line_at o.code.version o.rest ≡ q → Further o s o'
     split (Ok (t, r)) f =
         (let made : Opened = record { code = with_statements o.code (t ∷ []); left = o.left - 1; rest = r } in
         let same : (t, made) ≡ (s, o') = ok_is (t, made) (s, o') (rw f at e) in
-        let one : t ≡ s = ap (λ (p : Statement × Opened). p.0) same in
-        let two : made ≡ o' = ap (λ (p : Statement × Opened). p.1) same in
+        let one : t ≡ s = ap (λ (p : CodeStatement × Opened). p.0) same in
+        let two : made ≡ o' = ap (λ (p : CodeStatement × Opened). p.1) same in
         let whole = next_whole o s o' lt e in
         record {
           left = one_less (o.left) (o'.left) (ap (λ (p : Opened). p.left) two) lt;
           version = sym (ap (λ (p : Opened). p.code.version) two);
           tables = sym (ap (λ (p : Opened). p.code.tables) two);
-          statements = sym (ap (λ (p : Opened). p.code.statements) two) ∙ ap (λ (u : Statement). o.code.statements ++ u ∷ []) one;
+          statements = sym (ap (λ (p : Opened). p.code.statements) two) ∙ ap (λ (u : CodeStatement). o.code.statements ++ u ∷ []) one;
           whole = whole;
         })
     split (Err d) f = absurd (let both = rw f at e in cc)
@@ -185,7 +185,7 @@ module _ (bytes : List ℕ) (n : Counts) (r : List ℕ) (h : header_at bytes ≡
         opens_read ss e = rw e (begun_is ∙ ap Ok (sym (ap opened_or_none begun_is)))
 
 -- what an opening keeps, where one statement more is read
-pub record Advanced (o : Opened) (s : Statement) (bytes : List ℕ) (version : Version) (vs fs ds ss : List ℕ) (count : ℕ) (rest : List ℕ) : Type 0 where
+pub record Advanced (o : Opened) (s : CodeStatement) (bytes : List ℕ) (version : Version) (vs fs ds ss : List ℕ) (count : ℕ) (rest : List ℕ) : Type 0 where
   pub opens : Opens bytes version vs fs ds ss count rest
   pub read : next_at o ≡ Ok (s, opened_in (length ss) bytes)
 
@@ -197,7 +197,7 @@ module _ (o : Opened) (bytes : List ℕ) (version : Version) (vs fs ds ss : List
   unfolding next_at
   opens_fails f e = fails_so f (next_at o) (let h = next_line ∙ e in rw h refl)
 
-  module _ (s : Statement) (rest' : List ℕ) (e : line_at version rest ≡ Ok (s, rest')) (lt : 0 < o.left) where
+  module _ (s : CodeStatement) (rest' : List ℕ) (e : line_at version rest ≡ Ok (s, rest')) (lt : 0 < o.left) where
     abbrev more : Opened
     more = record { code = with_statements o.code (s ∷ []); left = o.left - 1; rest = rest' }
 
@@ -292,7 +292,7 @@ module _ (bytes : List ℕ) (o : Opened) (counter end : ℕ) (r : Reading bytes 
   pub reading_left : counter < end → 0 < o.left
   reading_left lt = omega (arith, r.left_is)
 
-  pub reading_more : (s : Statement) (o' : Opened) → counter < end → next_at o ≡ Ok (s, o') → Reading bytes o' (counter + 1) end
+  pub reading_more : (s : CodeStatement) (o' : Opened) → counter < end → next_at o ≡ Ok (s, o') → Reading bytes o' (counter + 1) end
   reading_more s o' lt e =
       let f = further o s o' (reading_left lt) e in
       record { whole = r.whole ∙ f.whole; left_is = omega (arith, r.left_is, f.left) }

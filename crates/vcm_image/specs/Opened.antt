@@ -2,7 +2,7 @@
 use Rattle.std.specs.Prelude.{ℕ, ◌-◌, List, [], ◌∷◌, ◌++◌, Result, Ok}
 use Rattle.vcm_spec.specs.Results.{◌>>=◌}
 use Rattle.vcm_spec.specs.Setup.{Tables}
-use Rattle.vcm_code.specs.Code.{Statement}
+use Rattle.vcm_code.specs.Code.{CodeStatement}
 use Rattle.vcm_code.specs.declared.code.Code.{Code}
 use Rattle.vcm_fields.specs.declared.fault.ImageFault.{ImageFault}
 use Rattle.vcm_fields.specs.Readers.{Reader, From, both, via, times, entry_at, name_at, line_at}
@@ -32,11 +32,11 @@ begun_at bytes =
     Ok (record { code = record { version = h.0.version; tables = t.0; statements = [] }; left = h.0.statements; rest = t.1 })
 
 -- a code with these statements behind its own
-abbrev pub with_statements : Code → List Statement → Code
+abbrev pub with_statements : Code → List CodeStatement → Code
 with_statements c ss = record { version = c.version; tables = c.tables; statements = c.statements ++ ss }
 
 -- reading one statement more
-unfoldable pub next_at : From Opened ImageFault Statement
+unfoldable pub next_at : From Opened ImageFault CodeStatement
 next_at o =
     line_at o.code.version o.rest >>= λ x.
     Ok (x.0, record { code = with_statements o.code (x.0 ∷ []); left = o.left - 1; rest = x.1 })

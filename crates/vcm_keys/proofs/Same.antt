@@ -4,7 +4,7 @@ use Rattle.std.specs.List.{list_all}
 use Rattle.std.proofs.lemmas.Bool.Decides.{Decides-eqb}
 use Rattle.std.proofs.lemmas.Slice.Eq.{bytes_eq-Decides}
 use Rattle.toml.specs.Data.{Members}
-use Rattle.vcm_keys.specs.declared.place.Place.{Place}
+use Rattle.vcm_keys.specs.declared.place.KeyPlace.{KeyPlace}
 use Rattle.vcm_keys.specs.Statements.{members_of}
 use Rattle.vcm_keys.specs.Places.{places_of}
 use Rattle.vcm_keys.specs.Unused.{unused_of_table, is_same_key, is_same, is_among, unused_keys}
@@ -14,7 +14,7 @@ same_key : (k : Option (List ℕ)) → is_same_key k k ≡ true
 same_key None = refl
 same_key (Some k) = (bytes_eq-Decides k k).1 refl
 
-same_place : (p : Place) → is_same p p ≡ true
+same_place : (p : KeyPlace) → is_same p p ≡ true
 same_place p = rw ((Decides-eqb p.block p.block).1 refl) (same_key p.key)
 
 pub told_sound : (text : List ℕ) (t : Members) → members_of text ≡ Some t → list_all (is_among (unused_of_table t)) (unused_keys text) ≡ true

@@ -5,7 +5,7 @@ use Rattle.std.specs.Option.{option_and_then}
 use Rattle.std.specs.Str.{bytes_eq}
 use Rattle.toml.specs.Data.{Data, Items, no_items, item, Members, no_members, member, get_member, as_str, as_array, as_table}
 use Rattle.vcm_boxes.specs.Labels.{label_of}
-use Rattle.vcm_keys.specs.declared.place.Place.{Place}
+use Rattle.vcm_keys.specs.declared.place.KeyPlace.{KeyPlace}
 use Rattle.vcm_keys.specs.Statements.{members_of}
 use Rattle.vcm_keys.specs.Places.{places_of}
 
@@ -39,17 +39,17 @@ abbrev pub is_used : ℕ → List ℕ → Data → Bool
 is_used block key d = if block == 0 then is_machine_key key else is_block_key key d
 
 -- the keys of a table that nothing uses, as those of a block, on no line yet
-abbrev pub unused_in : ℕ → Members → List Place
+abbrev pub unused_in : ℕ → Members → List KeyPlace
 unused_in block no_members = []
 unused_in block (member key d ms) = if is_used block key d then unused_in block ms else record { line = 0; block = block; key = label_of 32 key } ∷ unused_in block ms
 
 -- those of a table that may be none
-abbrev pub unused_in_row : ℕ → Option Members → List Place
+abbrev pub unused_in_row : ℕ → Option Members → List KeyPlace
 unused_in_row block None = []
 unused_in_row block (Some ms) = unused_in block ms
 
 -- those of rows, which are blocks, this number being the first one's
-abbrev pub unused_in_rows : ℕ → Items → List Place
+abbrev pub unused_in_rows : ℕ → Items → List KeyPlace
 unused_in_rows block no_items = []
 unused_in_rows block (item d ds) = unused_in_row block (as_table d) ++ unused_in_rows (block + 1) ds
 
@@ -62,7 +62,7 @@ abbrev pub rows_of : Members → Items
 rows_of t = rows_or_none (option_and_then as_array (get_member (codes "block") t))
 
 -- those of a table: first the machine's, then the blocks'
-abbrev pub unused_of_table : Members → List Place
+abbrev pub unused_of_table : Members → List KeyPlace
 unused_of_table t = unused_in 0 t ++ unused_in_rows 1 (rows_of t)
 
 -- two keys are the same, or neither is one that can be told
@@ -72,28 +72,28 @@ is_same_key (Some k) (Some l) = bytes_eq k l
 is_same_key _ _ = false
 
 -- two places have the same key of the same block
-abbrev pub is_same : Place → Place → Bool
+abbrev pub is_same : KeyPlace → KeyPlace → Bool
 is_same p q = (p.block == q.block) && is_same_key p.key q.key
 
 -- one of the places has the key of this one
-abbrev pub is_among : List Place → Place → Bool
+abbrev pub is_among : List KeyPlace → KeyPlace → Bool
 is_among ps q = list_any (λ p. is_same p q) ps
 
 -- these places, and then the unused keys that stand at none of them
-abbrev pub and_absent : List Place → List Place → List Place
+abbrev pub and_absent : List KeyPlace → List KeyPlace → List KeyPlace
 and_absent standing unused = standing ++ filter (λ u. not (is_among standing u)) unused
 
 -- of the places those whose keys are among the unused ones, and then the unused ones that stand at none of these
-abbrev pub told : List Place → List Place → List Place
+abbrev pub told : List KeyPlace → List KeyPlace → List KeyPlace
 told places unused = and_absent (filter (is_among unused) places) unused
 
 -- what is told of a text with these members
-abbrev pub told_of_table : List Place → Option Members → List Place
+abbrev pub told_of_table : List KeyPlace → Option Members → List KeyPlace
 told_of_table places None = []
 told_of_table places (Some t) = told places (unused_of_table t)
 
 -- the unused keys of a part file, on each line where one stands, and then those whose line isn't known
-unfoldable pub unused_keys : List ℕ → List Place
+unfoldable pub unused_keys : List ℕ → List KeyPlace
 unused_keys text = told_of_table (places_of text) (members_of text)
 
 -- the name of a block, which is empty where it has none that can be shown

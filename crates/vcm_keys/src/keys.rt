@@ -7,12 +7,12 @@ ghost use Rattle.toml.specs.View.{view, items_view, table_view};
 ghost use Rattle.vcm_keys.specs.Statements.{members_of};
 ghost use Rattle.vcm_keys.specs.Unused.{is_same_key, is_same, is_among, told, unused_keys, row_name, row_names, block_names};
 
-use crate::place::Place;
+use crate::place::KeyPlace;
 use crate::placing::places_of;
 use crate::unused::{name_of, rows_of, unused_of_table, value_at};
 use std::alloc::Global;
 use toml::{Table, Value};
-use vcm_boxes::Label;
+use vcm_boxes::ShortName;
 use vcm_num::{NoMemory, is};
 
 // The table of bytes, if they are TOML.
@@ -34,7 +34,7 @@ fn table_of(alloc: Global, bytes: &[u8]) -> Result<Option<Table>, NoMemory>
 }
 
 // Whether two keys are the same, or neither is one that can be told.
-fn is_same_key(first: &Option<Label>, second: &Option<Label>) -> bool
+fn is_same_key(first: &Option<ShortName>, second: &Option<ShortName>) -> bool
     ensures { result ≡ is_same_key first.now second.now }
 {
     match first {
@@ -47,21 +47,21 @@ fn is_same_key(first: &Option<Label>, second: &Option<Label>) -> bool
 }
 
 // Whether two places have the same key of the same block.
-fn is_same(first: &Place, second: &Place) -> bool
+fn is_same(first: &KeyPlace, second: &KeyPlace) -> bool
     ensures { result ≡ is_same first.now second.now }
 {
     first.block == second.block && is_same_key(&first.key, &second.key)
 }
 
 // Whether one of the places has the key of this one.
-fn is_among(places: &[Place], wanted: &Place) -> bool
+fn is_among(places: &[KeyPlace], wanted: &KeyPlace) -> bool
     ensures { result ≡ is_among places.now wanted.now }
 {
     places.iter().any(|place| is_same(place, wanted))
 }
 
 // Of the places those whose keys are among the unused ones.
-fn standing(mut places: Vec<Place>, unused: &[Place]) -> Vec<Place>
+fn standing(mut places: Vec<KeyPlace>, unused: &[KeyPlace]) -> Vec<KeyPlace>
     ensures { result.items ≡ filter (is_among unused.now) places.items }
 {
     places.retain(|place| is_among(unused, place));
@@ -69,7 +69,7 @@ fn standing(mut places: Vec<Place>, unused: &[Place]) -> Vec<Place>
 }
 
 // Of the unused keys those that stand at none of the places.
-fn absent(mut unused: Vec<Place>, places: &[Place]) -> Vec<Place>
+fn absent(mut unused: Vec<KeyPlace>, places: &[KeyPlace]) -> Vec<KeyPlace>
     ensures { result.items ≡ filter (λ u. not (is_among places.now u)) unused.items }
 {
     unused.retain(|key| !is_among(places, key));
@@ -77,7 +77,7 @@ fn absent(mut unused: Vec<Place>, places: &[Place]) -> Vec<Place>
 }
 
 // What is told of places and of unused keys.
-fn told(places: Vec<Place>, unused: Vec<Place>) -> Result<Vec<Place>, NoMemory>
+fn told(places: Vec<KeyPlace>, unused: Vec<KeyPlace>) -> Result<Vec<KeyPlace>, NoMemory>
     ensures { IfOk result (λ v. v.items ≡ told places.items unused.items) }
 {
     let mut standing = standing(places, &unused);
@@ -94,7 +94,7 @@ fn told(places: Vec<Place>, unused: Vec<Place>) -> Result<Vec<Place>, NoMemory>
 ///
 /// Out of memory.
 #[tactic(auto, unfolding(crate::specs::Unused::unused_keys))]
-pub fn unused_keys(alloc: Global, bytes: &[u8]) -> Result<Vec<Place>, NoMemory>
+pub fn unused_keys(alloc: Global, bytes: &[u8]) -> Result<Vec<KeyPlace>, NoMemory>
     ensures { IfOk result (λ v. v.items ≡ unused_keys bytes.now) }
 {
     let Some(table) = table_of(alloc, bytes)? else {

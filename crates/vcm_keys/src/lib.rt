@@ -9,5 +9,5 @@ mod statement;
 mod unused;
 
 pub use keys::{block_names, unused_keys};
-pub use place::Place;
+pub use place::KeyPlace;
 pub use placing::{block_lines, line_of, open_line, places_of};

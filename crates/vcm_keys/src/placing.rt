@@ -5,11 +5,11 @@ ghost use Rattle.std.specs.List.{fold};
 ghost use Rattle.vcm_adapt.specs.Marks.{whole_lines};
 ghost use Rattle.vcm_keys.specs.Places.{start, is_lost, put, places_with, begun, ended, with_line, places_of, open_line, is_key, block_lines, line_of};
 
-use crate::place::Place;
-use crate::statement::{Statement, statement_alone};
+use crate::place::KeyPlace;
+use crate::statement::{PartStatement, statement_alone};
 use std::alloc::Global;
 use std::marker::Model;
-use vcm_boxes::Label;
+use vcm_boxes::ShortName;
 use vcm_num::{NoMemory, is, line_feed};
 
 /// The most bytes of a key that is told.
@@ -27,7 +27,7 @@ const MOST_BLOCKS: usize = 4096;
 #[derive(Drop)]
 pub(crate) struct Reader {
     // The keys that stand in what was read, the first one first.
-    places: Vec<Place>,
+    places: Vec<KeyPlace>,
     // The bytes of the open statement.
     taken: Vec<u8>,
     // The line that it begins on.
@@ -73,17 +73,17 @@ impl Reader {
     }
 
     // A key of this block, at the line on which the open statement begins.
-    fn put(&mut self, block: usize, key: Option<Label>) -> Result<(), NoMemory>
+    fn put(&mut self, block: usize, key: Option<ShortName>) -> Result<(), NoMemory>
         ensures { OnOk result (self.new ≡ record (self.old) { places = put block key self.old }) }
     {
         let line = self.first;
-        self.places.push(Place { line, block, key })?;
+        self.places.push(KeyPlace { line, block, key })?;
         Ok(())
     }
 
     // A key of the block that the next keys belong to.
-    fn put_own(&mut self, key: Option<Label>) -> Result<(), NoMemory>
-        ensures { OnOk result (self.new ≡ record (self.old) { places = places_with (Statement.Entry key) self.old }) }
+    fn put_own(&mut self, key: Option<ShortName>) -> Result<(), NoMemory>
+        ensures { OnOk result (self.new ≡ record (self.old) { places = places_with (PartStatement.Entry key) self.old }) }
     {
         match self.owner {
             Some(block) => self.put(block, key),
@@ -104,35 +104,35 @@ impl Reader {
     }
 
     // The end of the open statement, which is this one.
-    fn end(&mut self, statement: Statement) -> Result<(), NoMemory>
+    fn end(&mut self, statement: PartStatement) -> Result<(), NoMemory>
         requires line { self.old.line < 1000000 }
         requires blocks { self.old.blocks ≤ 4096 }
         ensures { OnOk result (self.new ≡ ended self.old (Some statement)) }
     {
         let blocks = self.blocks;
         match statement {
-            Statement::Blank => {
+            PartStatement::Blank => {
                 let owner = self.owner;
                 self.begin(blocks, owner);
                 Ok(())
             }
-            Statement::Entry(key) => {
+            PartStatement::Entry(key) => {
                 let owner = self.owner;
                 self.put_own(key)?;
                 self.begin(blocks, owner);
                 Ok(())
             }
-            Statement::Block => {
-                self.put(0, Label::of(LONGEST, b"block"))?;
+            PartStatement::Block => {
+                self.put(0, ShortName::of(LONGEST, b"block"))?;
                 self.begin(blocks + 1, Some(blocks + 1));
                 Ok(())
             }
-            Statement::Inside(key) => {
+            PartStatement::Inside(key) => {
                 self.put(blocks, key)?;
                 self.begin(blocks, None);
                 Ok(())
             }
-            Statement::Heading(key) => {
+            PartStatement::Heading(key) => {
                 self.put(0, key)?;
                 self.begin(blocks, None);
                 Ok(())
@@ -192,7 +192,7 @@ fn read_text(alloc: Global, text: &[u8]) -> Result<Reader, NoMemory>
 ///
 /// Out of memory.
 #[tactic(auto, unfolding(crate::specs::Places::places_of))]
-pub fn places_of(alloc: Global, text: &[u8]) -> Result<Vec<Place>, NoMemory>
+pub fn places_of(alloc: Global, text: &[u8]) -> Result<Vec<KeyPlace>, NoMemory>
     ensures { IfOk result (λ v. v.items ≡ places_of text.now) }
 {
     let reader = read_text(alloc, text)?;
@@ -217,7 +217,7 @@ pub fn open_line(alloc: Global, text: &[u8]) -> Result<Option<usize>, NoMemory>
 }
 
 // Whether a key is this one.
-fn is_key(word: &[u8], key: &Option<Label>) -> bool
+fn is_key(word: &[u8], key: &Option<ShortName>) -> bool
     ensures { result ≡ is_key word.now key.now }
 {
     match key {
@@ -231,7 +231,7 @@ fn is_key(word: &[u8], key: &Option<Label>) -> bool
 /// # Errors
 ///
 /// Out of memory.
-pub fn block_lines(alloc: Global, places: &[Place]) -> Result<Vec<usize>, NoMemory>
+pub fn block_lines(alloc: Global, places: &[KeyPlace]) -> Result<Vec<usize>, NoMemory>
     ensures { IfOk result (λ v. v.items ≡ block_lines places.now) }
 {
     let mut lines = Vec::new(alloc);
@@ -244,7 +244,7 @@ pub fn block_lines(alloc: Global, places: &[Place]) -> Result<Vec<usize>, NoMemo
 }
 
 /// The first line of a key of the machine, which is block 0, or of a block; 0 where it isn't known.
-pub fn line_of(block: usize, key: &[u8], places: &[Place]) -> usize
+pub fn line_of(block: usize, key: &[u8], places: &[KeyPlace]) -> usize
     ensures { result ≡ line_of block key.now places.now }
 {
     for place in places {

@@ -6,7 +6,7 @@ ghost use Rattle.vcm_keys.specs.Statements.{is_heading, first_member, of_block, 
 
 use std::alloc::Global;
 use toml::{Table, Value};
-use vcm_boxes::Label;
+use vcm_boxes::ShortName;
 use vcm_num::{NoMemory, is};
 
 /// The most bytes of a key that is told.
@@ -14,17 +14,17 @@ const LONGEST: usize = 32;
 
 /// What a statement of a part file is.
 #[derive(Drop)]
-pub(crate) enum Statement {
+pub(crate) enum PartStatement {
     /// White space and comments.
     Blank,
     /// A value at a key.
-    Entry(Option<Label>),
+    Entry(Option<ShortName>),
     /// The heading of a block.
     Block,
     /// The heading of a table in a block.
-    Inside(Option<Label>),
+    Inside(Option<ShortName>),
     /// Another heading.
-    Heading(Option<Label>),
+    Heading(Option<ShortName>),
 }
 
 // Whether a statement is a heading: its first byte that is no blank is a bracket.
@@ -53,37 +53,40 @@ fn first_member(table: &Table) -> Option<(&[u8], &Value)>
 }
 
 // The heading of a block, or of a table in it.
-fn of_block(value: &Value) -> Statement
+fn of_block(value: &Value) -> PartStatement
     ensures { result ≡ of_block (view value.now) }
 {
     let Some(table) = value.as_table() else {
-        return Statement::Block;
+        return PartStatement::Block;
     };
     match first_member(table) {
-        None => Statement::Block,
-        Some((key, _)) => Statement::Inside(Label::of(LONGEST, key)),
+        None => PartStatement::Block,
+        Some((key, _)) => PartStatement::Inside(ShortName::of(LONGEST, key)),
     }
 }
 
 // What a statement with this table is.
-fn statement_of(is_heading: bool, table: &Table) -> Statement
+fn statement_of(is_heading: bool, table: &Table) -> PartStatement
     ensures { result ≡ statement_of is_heading (table_view table.now) }
 {
     let Some((key, value)) = first_member(table) else {
-        return Statement::Blank;
+        return PartStatement::Blank;
     };
     if !is_heading {
-        return Statement::Entry(Label::of(LONGEST, key));
+        return PartStatement::Entry(ShortName::of(LONGEST, key));
     }
     if is(key, b"block") {
         return of_block(value);
     }
-    Statement::Heading(Label::of(LONGEST, key))
+    PartStatement::Heading(ShortName::of(LONGEST, key))
 }
 
 /// What these bytes are, if they are TOML by themselves.
 #[tactic(auto, using(vcm_part::proofs::Bytes::text_is, vcm_part::proofs::Bytes::text_is_not), unfolding(crate::specs::Statements::statement_alone))]
-pub(crate) fn statement_alone(alloc: Global, bytes: &[u8]) -> Result<Option<Statement>, NoMemory>
+pub(crate) fn statement_alone(
+    alloc: Global,
+    bytes: &[u8],
+) -> Result<Option<PartStatement>, NoMemory>
     ensures { IfOk result (λ s. s ≡ statement_alone bytes.now) }
 {
     let Ok(text) = std::str::from_utf8(bytes) else {

@@ -7,10 +7,10 @@ ghost use Rattle.toml.specs.Data.{as_table, get_member};
 ghost use Rattle.toml.specs.View.{view, items_view, table_view};
 ghost use Rattle.vcm_keys.specs.Unused.{is_name, name_of, is_machine_key, is_block_key, is_used, unused_in, unused_in_row, unused_in_rows, unused_of_table, rows_of};
 
-use crate::place::Place;
+use crate::place::KeyPlace;
 use std::alloc::Global;
 use toml::{Table, Value};
-use vcm_boxes::Label;
+use vcm_boxes::ShortName;
 use vcm_num::{NoMemory, is};
 
 /// The most bytes of a name, and of a key that is told.
@@ -76,13 +76,13 @@ fn is_used(block: usize, key: &[u8], value: &Value) -> bool
 }
 
 // Appends the keys of a table that nothing uses, as those of a block.
-fn put_unused(unused: &mut Vec<Place>, block: usize, table: &Table) -> Result<(), NoMemory>
+fn put_unused(unused: &mut Vec<KeyPlace>, block: usize, table: &Table) -> Result<(), NoMemory>
     ensures { OnOk result (unused.new.items ≡ unused.old.items ++ unused_in block (table_view table.now)) }
 {
     for (key, value) in table.iter() {
         if !is_used(block, key.as_bytes(), value) {
-            let key = Label::of(LONGEST, key.as_bytes());
-            unused.push(Place {
+            let key = ShortName::of(LONGEST, key.as_bytes());
+            unused.push(KeyPlace {
                 line: 0,
                 block,
                 key,
@@ -93,7 +93,7 @@ fn put_unused(unused: &mut Vec<Place>, block: usize, table: &Table) -> Result<()
 }
 
 // Appends the keys of rows that nothing uses, which are blocks.
-fn put_rows(unused: &mut Vec<Place>, rows: &[Value]) -> Result<(), NoMemory>
+fn put_rows(unused: &mut Vec<KeyPlace>, rows: &[Value]) -> Result<(), NoMemory>
     ensures { OnOk result (unused.new.items ≡ unused.old.items ++ unused_in_rows 1 (items_view rows.now)) }
 {
     let mut block = 1;
@@ -105,7 +105,7 @@ fn put_rows(unused: &mut Vec<Place>, rows: &[Value]) -> Result<(), NoMemory>
 }
 
 // Appends those of a row.
-fn put_row(unused: &mut Vec<Place>, block: usize, row: &Value) -> Result<(), NoMemory>
+fn put_row(unused: &mut Vec<KeyPlace>, block: usize, row: &Value) -> Result<(), NoMemory>
     ensures { OnOk result (unused.new.items ≡ unused.old.items ++ unused_in_row block (as_table (view row.now))) }
 {
     match row.as_table() {
@@ -135,7 +135,7 @@ pub(crate) fn rows_of(table: &Table) -> &[Value]
 }
 
 /// The keys of a table that nothing uses: first the machine's, then the blocks'.
-pub(crate) fn unused_of_table(alloc: Global, table: &Table) -> Result<Vec<Place>, NoMemory>
+pub(crate) fn unused_of_table(alloc: Global, table: &Table) -> Result<Vec<KeyPlace>, NoMemory>
     ensures { IfOk result (λ v. v.items ≡ unused_of_table (table_view table.now)) }
 {
     let mut unused = Vec::new(alloc);

@@ -5,7 +5,7 @@ use Rattle.std.proofs.lemmas.List.{append-nil, length-append}
 use Rattle.vcm_code.specs.declared.code.Code.{Code}
 use Rattle.vcm_code.specs.declared.version.Version.{Version}
 use Rattle.vcm_code.specs.declared.version.Version.TheVariants.{One}
-use Rattle.vcm_code.specs.Code.{Statement}
+use Rattle.vcm_code.specs.Code.{CodeStatement}
 use Rattle.vcm_spec.specs.Setup.{Variable as Entry}
 use Rattle.vcm_items.specs.NameBytes.{IsName}
 use Rattle.vcm_fields.specs.inner.Fitting.{FitsEntry, FitsLine}
@@ -78,7 +78,7 @@ frames_again version vs fs n front (x ∷ xs) rest h =
     = ap (λ r. on n r (λ d. reads_on (suc n) d (numbered Frame (suc (length front)) xs ++ rest))) (room_for (code version vs fs (front ++ x ∷ []) []) (length front) 4096 (omega (arith, h))) in
     (more.0, here ∙ ap (λ k. reads_on (suc n) (code version vs fs (front ++ x ∷ []) []) (numbered Frame k xs ++ rest)) (sym len) ∙ more.1 ∙ ap (λ l. reads_on more.0 (code version vs fs l []) rest) (append_assoc front (x ∷ []) xs))
 
-statements_again : (version : Version) (vs : List Entry) (fs : List (List ℕ)) (ds : List (List ℕ)) (n : ℕ) (front xs : List Statement) (rest : List ListRow) → length front + length xs ≤ 20000 → (m : ℕ) × (reads_on n (code version vs fs ds front) (numbered Numbered (length front) xs ++ rest) ≡ reads_on m (code version vs fs ds (front ++ xs)) rest)
+statements_again : (version : Version) (vs : List Entry) (fs : List (List ℕ)) (ds : List (List ℕ)) (n : ℕ) (front xs : List CodeStatement) (rest : List ListRow) → length front + length xs ≤ 20000 → (m : ℕ) × (reads_on n (code version vs fs ds front) (numbered Numbered (length front) xs ++ rest) ≡ reads_on m (code version vs fs ds (front ++ xs)) rest)
 unfolding reads_on added
 statements_again version vs fs ds n front [] rest h = (n, ap (λ l. reads_on n (code version vs fs ds l) rest) (sym (append-nil front)))
 statements_again version vs fs ds n front (x ∷ xs) rest h =

@@ -7,7 +7,7 @@ use Rattle.std.proofs.lemmas.List.{append-nil, length-append}
 use Rattle.vcm_code.specs.declared.code.Code.{Code}
 use Rattle.vcm_code.specs.declared.version.Version.{Version}
 use Rattle.vcm_code.specs.declared.version.Version.TheVariants.{One}
-use Rattle.vcm_code.specs.Code.{Statement}
+use Rattle.vcm_code.specs.Code.{CodeStatement}
 use Rattle.vcm_spec.specs.Setup.{Variable as Entry}
 use Rattle.vcm_items.specs.NameBytes.{IsName}
 use Rattle.vcm_fields.specs.inner.Fitting.{FitsEntry, FitsLine}
@@ -26,7 +26,7 @@ use Rattle.vcm_words.proofs.Cuts.{joined-split}
 use Rattle.vcm_words.proofs.Inverse.{all_append}
 use Rattle.vcm_words.proofs.RowLaws.{row_takes}
 
-abbrev pub code : Version → List Entry → List (List ℕ) → List (List ℕ) → List Statement → Code
+abbrev pub code : Version → List Entry → List (List ℕ) → List (List ℕ) → List CodeStatement → Code
 code version vs fs ds ss = record { version = version; tables = record { variables = vs; features = fs; frames = ds }; statements = ss }
 
 abbrev pub good : {A E : Type 0} → A → Result A E
@@ -69,25 +69,25 @@ grown a b r b' e = ap (λ l. a ++ l) e ∙ sym (append_assoc a b (r ∷ []))
 grown_last : (b : List ListRow) (r : ListRow) (b' : List ListRow) → b' ≡ b ++ r ∷ [] → b' ++ [] ≡ (b ++ []) ++ r ∷ []
 grown_last b r b' e = append-nil b' ∙ e ∙ ap (λ l. l ++ r ∷ []) (sym (append-nil b))
 
-add_variable : (version : Version) (vs : List Entry) (fs ds : List (List ℕ)) (ss : List Statement) (i : ℕ) (v : Entry) → fs ≡ [] → ds ≡ [] → ss ≡ [] → i ≡ length vs → rows (code version (vs ++ v ∷ []) fs ds ss) ≡ rows (code version vs fs ds ss) ++ Variable i v ∷ []
+add_variable : (version : Version) (vs : List Entry) (fs ds : List (List ℕ)) (ss : List CodeStatement) (i : ℕ) (v : Entry) → fs ≡ [] → ds ≡ [] → ss ≡ [] → i ≡ length vs → rows (code version (vs ++ v ∷ []) fs ds ss) ≡ rows (code version vs fs ds ss) ++ Variable i v ∷ []
 add_variable version vs [] [] [] i v ef ed es ei = ap (λ l. Head version ∷ l) (grown_last (numbered Variable 0 vs) (Variable i v) (numbered Variable 0 (vs ++ v ∷ [])) (numbered-push Variable 0 vs v ∙ ap (λ k. numbered Variable 0 vs ++ Variable k v ∷ []) (next_index ei)))
 add_variable version vs (f ∷ fs) ds ss i v ef ed es ei = absurd cc
 add_variable version vs [] (d ∷ ds) ss i v ef ed es ei = absurd cc
 add_variable version vs [] [] (s ∷ ss) i v ef ed es ei = absurd cc
 
-add_feature : (version : Version) (vs : List Entry) (fs ds : List (List ℕ)) (ss : List Statement) (i : ℕ) (v : List ℕ) → ds ≡ [] → ss ≡ [] → i ≡ length fs → rows (code version vs (fs ++ v ∷ []) ds ss) ≡ rows (code version vs fs ds ss) ++ Feature i v ∷ []
+add_feature : (version : Version) (vs : List Entry) (fs ds : List (List ℕ)) (ss : List CodeStatement) (i : ℕ) (v : List ℕ) → ds ≡ [] → ss ≡ [] → i ≡ length fs → rows (code version vs (fs ++ v ∷ []) ds ss) ≡ rows (code version vs fs ds ss) ++ Feature i v ∷ []
 add_feature version vs fs [] [] i v ed es ei = ap (λ l. Head version ∷ l) (grown (numbered Variable 0 vs) (numbered Feature 0 fs ++ []) (Feature i v) (numbered Feature 0 (fs ++ v ∷ []) ++ [])
     (grown_last (numbered Feature 0 fs) (Feature i v) (numbered Feature 0 (fs ++ v ∷ [])) (numbered-push Feature 0 fs v ∙ ap (λ k. numbered Feature 0 fs ++ Feature k v ∷ []) (next_index ei))))
 add_feature version vs fs (d ∷ ds) ss i v ed es ei = absurd cc
 add_feature version vs fs [] (s ∷ ss) i v ed es ei = absurd cc
 
-add_frame : (version : Version) (vs : List Entry) (fs ds : List (List ℕ)) (ss : List Statement) (i : ℕ) (v : List ℕ) → ss ≡ [] → i ≡ length ds → rows (code version vs fs (ds ++ v ∷ []) ss) ≡ rows (code version vs fs ds ss) ++ Frame i v ∷ []
+add_frame : (version : Version) (vs : List Entry) (fs ds : List (List ℕ)) (ss : List CodeStatement) (i : ℕ) (v : List ℕ) → ss ≡ [] → i ≡ length ds → rows (code version vs fs (ds ++ v ∷ []) ss) ≡ rows (code version vs fs ds ss) ++ Frame i v ∷ []
 add_frame version vs fs ds [] i v es ei = ap (λ l. Head version ∷ l) (grown (numbered Variable 0 vs) (numbered Feature 0 fs ++ (numbered Frame 0 ds ++ [])) (Frame i v) (numbered Feature 0 fs ++ (numbered Frame 0 (ds ++ v ∷ []) ++ []))
     (grown (numbered Feature 0 fs) (numbered Frame 0 ds ++ []) (Frame i v) (numbered Frame 0 (ds ++ v ∷ []) ++ [])
     (grown_last (numbered Frame 0 ds) (Frame i v) (numbered Frame 0 (ds ++ v ∷ [])) (numbered-push Frame 0 ds v ∙ ap (λ k. numbered Frame 0 ds ++ Frame k v ∷ []) (next_index ei)))))
 add_frame version vs fs ds (s ∷ ss) i v es ei = absurd cc
 
-add_line : (version : Version) (vs : List Entry) (fs ds : List (List ℕ)) (ss : List Statement) (i : ℕ) (s : Statement) → i ≡ length ss → rows (code version vs fs ds (ss ++ s ∷ [])) ≡ rows (code version vs fs ds ss) ++ Numbered i s ∷ []
+add_line : (version : Version) (vs : List Entry) (fs ds : List (List ℕ)) (ss : List CodeStatement) (i : ℕ) (s : CodeStatement) → i ≡ length ss → rows (code version vs fs ds (ss ++ s ∷ [])) ≡ rows (code version vs fs ds ss) ++ Numbered i s ∷ []
 add_line version vs fs ds ss i s ei = ap (λ l. Head version ∷ l) (grown (numbered Variable 0 vs) (numbered Feature 0 fs ++ (numbered Frame 0 ds ++ numbered Numbered 0 ss)) (Numbered i s) (numbered Feature 0 fs ++ (numbered Frame 0 ds ++ numbered Numbered 0 (ss ++ s ∷ [])))
     (grown (numbered Feature 0 fs) (numbered Frame 0 ds ++ numbered Numbered 0 ss) (Numbered i s) (numbered Frame 0 ds ++ numbered Numbered 0 (ss ++ s ∷ []))
     (grown (numbered Frame 0 ds) (numbered Numbered 0 ss) (Numbered i s) (numbered Numbered 0 (ss ++ s ∷ []))

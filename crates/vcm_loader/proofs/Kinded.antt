@@ -7,7 +7,7 @@ use Rattle.vcm_spec.specs.Expression.{HasKind, kind_of}
 use Rattle.vcm_spec.proofs.Postfix.{one_tree}
 use Rattle.vcm_code.specs.Valid.{IsLast, Ends}
 use Rattle.vcm_code.specs.Deciding.{Tells}
-use Rattle.vcm_code.specs.Code.{Statement}
+use Rattle.vcm_code.specs.Code.{CodeStatement}
 
 pub one_kind : (kinds : List Kind) (items : List Item) (k l : Kind) → HasKind kinds items k → HasKind kinds items l → k ≡ l
 one_kind kinds items k l a b =
@@ -24,13 +24,13 @@ pub no_kind : (kinds : List Kind) (items : List Item) (want : Kind) → ((k : Ki
 no_kind kinds items want not = record { so = λ e. absurd cc; only = λ a. absurd (not want a) }
 
 -- it is the last one that ends them
-ends_at : (ss : List Statement) (k : ℕ) (s : Statement) → slice_get ss k ≡ Some s → k + 1 ≡ length ss → Ends ss ≡ IsLast s.op
+ends_at : (ss : List CodeStatement) (k : ℕ) (s : CodeStatement) → slice_get ss k ≡ Some s → k + 1 ≡ length ss → Ends ss ≡ IsLast s.op
 ends_at [] k s e l = absurd cc
 ends_at (x ∷ []) zero s e l = (let same : x ≡ s = cc in ap (λ y. IsLast y.op) same)
 ends_at (x ∷ []) (suc k) s e l = absurd (omega arith)
 ends_at (x ∷ y ∷ ss) zero s e l = absurd (omega arith)
 ends_at (x ∷ y ∷ ss) (suc k) s e l = ends_at (y ∷ ss) k s e (omega arith)
 
-pub tells_end : (ss : List Statement) (s : Statement) (r : Bool) → Some s ≡ slice_get ss (length ss - 1) → Tells r (IsLast s.op) → Tells r (Ends ss)
+pub tells_end : (ss : List CodeStatement) (s : CodeStatement) (r : Bool) → Some s ≡ slice_get ss (length ss - 1) → Tells r (IsLast s.op) → Tells r (Ends ss)
 tells_end [] s r e t = absurd cc
 tells_end (x ∷ ss) s r e t = subst (Tells r) (sym (ends_at (x ∷ ss) (length (x ∷ ss) - 1) s (sym e) (omega arith))) t

@@ -6,7 +6,7 @@ use Rattle.vcm_spec.specs.Setup.{Variable, Tables}
 use Rattle.vcm_spec.specs.Fitting.{kinds}
 use Rattle.vcm_code.specs.declared.code.Code.{Code}
 use Rattle.vcm_fields.specs.declared.fault.ImageFault.{ImageFault}
-use Rattle.vcm_code.specs.Code.{Statement}
+use Rattle.vcm_code.specs.Code.{CodeStatement}
 use Rattle.vcm_code.specs.Checks.{Check, Counts, counts_of, AllHold, op_checks}
 use Rattle.vcm_loader.specs.Loading.{FirstFailedCheck}
 use Rattle.vcm_code.proofs.Checked.{hold_append, hold_front, hold_back}
@@ -38,7 +38,7 @@ first_of wanted (y ∷ xs) (suc n) x e h i f =
     first_later (wanted y) (flat_map wanted xs) e (hold_front (wanted y) (flat_map wanted (take n xs)) h) (first_of wanted xs n x e (hold_back (wanted y) (flat_map wanted (take n xs)) h) i f)
 
 -- what a statement's operands want
-abbrev pub of_line : Counts → Statement → List Check
+abbrev pub of_line : Counts → CodeStatement → List Check
 of_line t s = op_checks t s.op
 
 -- the kinds of the first so many variables

@@ -4,7 +4,7 @@ use Rattle.std.specs.Prelude.{flat_map, OnOk, IfErr}
 use Rattle.std.proofs.lemmas.List.{flat_map_more, length-append}
 use Rattle.vcm_spec.specs.Setup.{Tables}
 use Rattle.vcm_code.specs.declared.code.Code.{Code}
-use Rattle.vcm_code.specs.Code.{Op, Statement}
+use Rattle.vcm_code.specs.Code.{Op, CodeStatement}
 use Rattle.vcm_code.specs.Copies.{listed}
 use Rattle.vcm_code.specs.Deciding.{Tells}
 use Rattle.vcm_code.specs.Valid.{IsLast, Ends, IsValid}
@@ -34,7 +34,7 @@ found_next cs t o (Ok x) h ok err = hold_append cs (op_checks t o) h (subst AllH
 found_next cs t o (Err e) h ok err = first_later cs (op_checks t o) e h (subst (λ ds. FirstFailedCheck ds e) (textless t o) err)
 
 -- it is the last one that ends them
-ends_last : (ss : List Statement) (s : Statement) → Ends (ss ++ s ∷ []) ≡ IsLast s.op
+ends_last : (ss : List CodeStatement) (s : CodeStatement) → Ends (ss ++ s ∷ []) ≡ IsLast s.op
 ends_last [] s = refl
 ends_last (x ∷ []) s = refl
 ends_last (x ∷ y ∷ ss) s = ends_last (y ∷ ss) s
@@ -67,7 +67,7 @@ module _ {X : Type 0} (t : Counts) (whole o : Opened) (counter : ℕ) (verdict :
   pub judging_fails : (f : ImageFault) → counter < t.statements → Fails f (next_at o) → Fails f (rest_at whole)
   judging_fails f lt h = fails_from f (rest_at o) (rest_at whole) (next_fails o f (judging_left lt) h) (λ e. j.rest ∙ e)
 
-  pub judging_more : (s : Statement) (o' : Opened) (verdict' : Result X ImageFault) (ends' : Bool) → counter < t.statements → next_at o ≡ Ok (s, o')
+  pub judging_more : (s : CodeStatement) (o' : Opened) (verdict' : Result X ImageFault) (ends' : Bool) → counter < t.statements → next_at o ≡ Ok (s, o')
       → ((cs : List Check) → IsVerdict cs verdict → IsVerdict (cs ++ op_checks t s.op) verdict') → Tells ends' (IsLast s.op) → Judging t whole o' (counter + 1) verdict' ends'
   judging_more s o' verdict' ends' lt e found last =
       let f = further o s o' (judging_left lt) e in

@@ -8,7 +8,7 @@ ghost use Rattle.vcm_spec.specs.Value.{items_value};
 ghost use Rattle.vcm_spec.specs.Fitting.{kinds as kinds_of};
 ghost use Rattle.vcm_items.specs.Slots.{IsTruth, SlotsFit};
 ghost use Rattle.vcm_code.specs.Valid.{IsValid};
-ghost use Rattle.vcm_code.specs.Code.{Statement};
+ghost use Rattle.vcm_code.specs.Code.{CodeStatement};
 ghost use Rattle.vcm_fields.specs.Readers.{Begins, line_at, operands_at};
 ghost use Rattle.vcm_image.specs.Whole.{FitsImage};
 ghost use Rattle.vcm_loader.specs.Expressions.{expressions};
@@ -146,7 +146,7 @@ impl<'a> Loaded<'a> {
     #[inline(always)]
     fn head(&self, n: usize) -> (Word, u32, &'a [u8])
         requires { n < length self.now.statements }
-        ensures { (s : Statement) × (slice_get self.now.statements n ≡ Some s) × (result.1 ≡ s.line) × Begins (operands_at result.0) (λ op. op ≡ s.op) result.2.now }
+        ensures { (s : CodeStatement) × (slice_get self.now.statements n ≡ Some s) × (result.1 ≡ s.line) × Begins (operands_at result.0) (λ op. op ≡ s.op) result.2.now }
     {
         let (word, rest) = known_word(self.bytes_from(n));
         let (line, operands) = known_long(rest);
@@ -157,7 +157,7 @@ impl<'a> Loaded<'a> {
     #[inline(always)]
     pub fn operands(&self, n: usize) -> (Word, &'a [u8])
         requires { n < length self.now.statements }
-        ensures { (s : Statement) × (slice_get self.now.statements n ≡ Some s) × Begins (operands_at result.0) (λ op. op ≡ s.op) result.1.now }
+        ensures { (s : CodeStatement) × (slice_get self.now.statements n ≡ Some s) × Begins (operands_at result.0) (λ op. op ≡ s.op) result.1.now }
     {
         let (word, _, operands) = self.head(n);
         (word, operands)
@@ -166,7 +166,7 @@ impl<'a> Loaded<'a> {
     /// The source line of a statement, whose operands are not read.
     pub fn line(&self, n: usize) -> u32
         requires { n < length self.now.statements }
-        ensures { (s : Statement) × (slice_get self.now.statements n ≡ Some s) × (result ≡ s.line) }
+        ensures { (s : CodeStatement) × (slice_get self.now.statements n ≡ Some s) × (result ≡ s.line) }
     {
         let (_, line, _) = self.head(n);
         line
@@ -180,11 +180,11 @@ impl<'a> Loaded<'a> {
     /// The first fault: an exact result outside 64 bits, or a zero divisor.
     pub fn value(&self, n: usize, place: usize, slots: &[i64]) -> Result<i64, Fault>
         requires statement { n < length self.now.statements }
-        requires place { (s : Statement) → slice_get self.now.statements n ≡ Some s → place < length (expressions s.op) }
+        requires place { (s : CodeStatement) → slice_get self.now.statements n ≡ Some s → place < length (expressions s.op) }
         requires slots { length slots.now ≡ length self.now.tables.variables }
-        ensures value { (s : Statement) (e : List Item) → slice_get self.now.statements n ≡ Some s → slice_get (expressions s.op) place ≡ Some e
+        ensures value { (s : CodeStatement) (e : List Item) → slice_get self.now.statements n ≡ Some s → slice_get (expressions s.op) place ≡ Some e
             → result ≡ items_value slots.now e }
-        ensures truth { IfOk result (λ v. (s : Statement) (e : List Item) → slice_get self.now.statements n ≡ Some s → slice_get (expressions s.op) place ≡ Some e
+        ensures truth { IfOk result (λ v. (s : CodeStatement) (e : List Item) → slice_get self.now.statements n ≡ Some s → slice_get (expressions s.op) place ≡ Some e
             → SlotsFit (kinds_of self.now.tables) slots.now → HasKind (kinds_of self.now.tables) e KindOf.Bool → IsTruth v) }
     {
         let statement = self.scanned.statement(n);

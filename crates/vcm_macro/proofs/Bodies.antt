@@ -9,7 +9,7 @@ use Rattle.vcm_forms.specs.declared.statement.Argument.{Argument}
 use Rattle.vcm_forms.specs.declared.statement.Form.{Form}
 use Rattle.vcm_forms.specs.declared.statement.Form.TheVariants.{Call}
 use Rattle.vcm_substitution.specs.Substitution.{Scope, put_form, put_argument}
-use Rattle.vcm_macro.specs.Walk.{Place, Stands, Caller, behind, statement_in, body_in}
+use Rattle.vcm_macro.specs.Walk.{Visit, Stands, Caller, behind, statement_in, body_in}
 use Rattle.vcm_macro.specs.inner.Expanding.{Done, TellsFirst, Walked, stands}
 use Rattle.vcm_macro.proofs.Lists.{drop_here}
 use Rattle.vcm_macro.proofs.Walks.{walked_more, told_front, told_more}
@@ -17,7 +17,7 @@ use Rattle.vcm_macro.proofs.Calling.{or_memory}
 
 -- so many of the statements are done
 pub record IsDone (call : Caller) (sc : Scope) (depth : ℕ) (all : List Statement) (i : ℕ) (start now : Done) : Type 0 where
-  pub ps : List Place
+  pub ps : List Visit
   pub walked : Walked start now ps
   pub is : body_in call sc depth start.calls all ≡ ps ++ body_in call sc depth now.calls (drop i all)
 
@@ -33,7 +33,7 @@ done_more call sc depth all i start now next s d lt e w =
     record {
       ps = d.ps ++ qs;
       walked = walked_more start now next d.ps qs d.walked w;
-      is = d.is ∙ ap (λ (l : List Place). d.ps ++ l) (next_is call sc depth now.calls i all s lt e ∙ ap (λ (n : ℕ). qs ++ body_in call sc depth n (drop (i + 1) all)) (sym w.calls))
+      is = d.is ∙ ap (λ (l : List Visit). d.ps ++ l) (next_is call sc depth now.calls i all s lt e ∙ ap (λ (n : ℕ). qs ++ body_in call sc depth n (drop (i + 1) all)) (sym w.calls))
           ∙ sym (append_assoc d.ps qs (body_in call sc depth next.calls (drop (i + 1) all)));
     }
 

@@ -5,14 +5,14 @@ use Rattle.vcm_lines.specs.Fault.{NoMemoryOr}
 use Rattle.vcm_lines.specs.declared.fault.SourceFault.{SourceFault}
 use Rattle.vcm_spec.specs.Phase.{IsClean, FirstFault}
 use Rattle.vcm_forms.specs.declared.statement.Statement.{Statement}
-use Rattle.vcm_macro.specs.Walk.{Place, walk}
+use Rattle.vcm_macro.specs.Walk.{Visit, walk}
 use Rattle.vcm_macro.specs.Rules.{BreaksMacros, macros_line, codes_at, weight, line_at}
 use Rattle.vcm_macro.specs.Computed.{leftmost, fault_or, fault_among, macro_fault}
 use Rattle.vcm_macro.specs.inner.Expanding.{AreFine, TellsFirst}
 use Rattle.vcm_macro.proofs.CodesAt.{none_left}
 use Rattle.vcm_macro.proofs.Phases.{all_clean, first_told}
 
-fault_is : (n : ℕ) (ps : List Place) (f : SourceFault) → fault_among n ps ≡ Some f → TellsFirst n ps f
+fault_is : (n : ℕ) (ps : List Visit) (f : SourceFault) → fault_among n ps ≡ Some f → TellsFirst n ps f
 fault_is n [] f e = absurd cc
 fault_is n (p ∷ ps) f e = by_code (leftmost (codes_at n p)) refl e (fault_is (n + weight p) ps f)
   where
@@ -23,7 +23,7 @@ fault_is n (p ∷ ps) f e = by_code (leftmost (codes_at n p)) refl e (fault_is (
         let same : record { code = c; line = line_at p } ≡ f = cc in
         rw (← same) (inl (q, refl))
 
-fine_is : (n : ℕ) (ps : List Place) → fault_among n ps ≡ None → AreFine n ps
+fine_is : (n : ℕ) (ps : List Visit) → fault_among n ps ≡ None → AreFine n ps
 fine_is n [] e = tt
 fine_is n (p ∷ ps) e = by_code (leftmost (codes_at n p)) refl e (fine_is (n + weight p) ps)
   where
@@ -39,7 +39,7 @@ pub computed_clean : (ss : List Statement) → macro_fault ss ≡ None → IsCle
 computed_clean ss e = all_clean (walk ss) (fine_is 0 (walk ss) e)
 
 -- and the other way round
-fault_told : (n : ℕ) (ps : List Place) (f : SourceFault) → TellsFirst n ps f → fault_among n ps ≡ Some f
+fault_told : (n : ℕ) (ps : List Visit) (f : SourceFault) → TellsFirst n ps f → fault_among n ps ≡ Some f
 fault_told n [] f t = absurd t
 fault_told n (p ∷ ps) f (inl t) = let same : f ≡ record { code = f.code; line = line_at p } = ap (λ (l : ℕ). record { code = f.code; line = l }) t.1 in rw t.0 (ap Some (sym same))
 fault_told n (p ∷ ps) f (inr t) = rw t.0 (fault_told (n + weight p) ps f t.1)

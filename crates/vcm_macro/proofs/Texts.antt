@@ -13,7 +13,7 @@ use Rattle.vcm_forms.specs.declared.statement.Form.TheVariants.{Macro, MacroEnd,
 use Rattle.vcm_forms.specs.declared.statement.Statement.{Statement}
 use Rattle.vcm_substitution.specs.Substitution.{is_same, outside, put_argument}
 use Rattle.vcm_macro.specs.declared.text.Reading.{Reading}
-use Rattle.vcm_macro.specs.Walk.{Defined, Place, Opens, Inside, Stands, calls_in, call_in, waits_behind, text_from, walk_from, with_statement}
+use Rattle.vcm_macro.specs.Walk.{Defined, Visit, Opens, Inside, Stands, calls_in, call_in, waits_behind, text_from, walk_from, with_statement}
 use Rattle.vcm_macro.specs.Rules.{codes_at, has_twins, is_taken}
 use Rattle.vcm_macro.specs.inner.Expanding.{Done, TellsLeftmost, TellsFirst, Walked, found, IsFoundAt, is_macro_end}
 use Rattle.vcm_macro.specs.inner.Reading.{nothing, walk_of, IsRead, TellsRead, IsReadTo}
@@ -137,7 +137,7 @@ pub read_more : (all was rest : List Statement) (s : Statement) (old new : Readi
 read_more all was rest s old new next g h = record {
   places = g.places ++ h.places;
   walked = walked_more nothing old.done new.done g.places h.places g.walked h.walked;
-  is = g.is ∙ ap (λ (l : List Statement). g.places ++ walk_of old l) next ∙ ap (λ (l : List Place). g.places ++ l) (h.is rest) ∙ sym (append_assoc g.places h.places (walk_of new rest));
+  is = g.is ∙ ap (λ (l : List Statement). g.places ++ walk_of old l) next ∙ ap (λ (l : List Visit). g.places ++ l) (h.is rest) ∙ sym (append_assoc g.places h.places (walk_of new rest));
 }
 
 pub read_told : (all was rest : List Statement) (s : Statement) (old : Reading) (f : SourceFault) → was ≡ s ∷ rest → IsReadTo all old was → NoMemoryOr (TellsRead old s) f

@@ -3,7 +3,7 @@ use Rattle.std.specs.Prelude.{ℕ, ◌+◌, List, [], ◌∷◌, Option, Some, N
 use Rattle.vcm_lines.specs.declared.fault.FaultCode.{FaultCode}
 use Rattle.vcm_lines.specs.declared.fault.SourceFault.{SourceFault}
 use Rattle.vcm_forms.specs.declared.statement.Statement.{Statement}
-use Rattle.vcm_macro.specs.Walk.{Place, walk}
+use Rattle.vcm_macro.specs.Walk.{Visit, walk}
 use Rattle.vcm_macro.specs.Rules.{codes_at, weight, line_at}
 
 -- the leftmost of codes
@@ -17,7 +17,7 @@ fault_or None line behind = behind
 fault_or (Some code) line behind = Some (record { code = code; line = line })
 
 -- the first fault of these places, behind others that count so much
-abbrev pub fault_among : ℕ → List Place → Option SourceFault
+abbrev pub fault_among : ℕ → List Visit → Option SourceFault
 fault_among n [] = None
 fault_among n (p ∷ ps) = fault_or (leftmost (codes_at n p)) (line_at p) (fault_among (n + weight p) ps)
 

@@ -19,7 +19,7 @@ use Rattle.vcm_macro.specs.declared.blocks.Opener.TheVariants.{If, Else, Do, Mea
 use Rattle.vcm_substitution.specs.Substitution.{is_same, variable_of}
 use Rattle.vcm_substitution.specs.Sizes.{is_small_option, are_small}
 use Rattle.vcm_substitution.specs.Kept.{is_kept}
-use Rattle.vcm_macro.specs.Walk.{Defined, Place, Opens, Inside, Stands, Misplaced, Calls, is_in_block}
+use Rattle.vcm_macro.specs.Walk.{Defined, Visit, Opens, Inside, Stands, Misplaced, Calls, is_in_block}
 
 -- ---- a macro is defined once, and so is each of its parameters
 
@@ -158,23 +158,23 @@ one_if true = 1
 one_if false = 0
 
 -- whether a place counts: a statement that does, and each CALL that is carried out
-abbrev pub weight : Place → ℕ
+abbrev pub weight : Visit → ℕ
 weight (Stands e s) = one_if (is_kept s.form)
 weight (Calls line depth m args) = 1
 weight p = 0
 
 -- what is left of a place in the expanded program
-abbrev pub kept_of : Place → List Placed
+abbrev pub kept_of : Visit → List Placed
 kept_of (Stands e s) = if is_kept s.form then record { statement = s; expansion = e } ∷ [] else []
 kept_of p = []
 
 -- the expanded program: the statements that count, each with its expansion
-abbrev pub kept : List Place → List Placed
+abbrev pub kept : List Visit → List Placed
 kept [] = []
 kept (p ∷ ps) = kept_of p ++ kept ps
 
 -- how much places count
-abbrev pub weigh : List Place → ℕ
+abbrev pub weigh : List Visit → ℕ
 weigh [] = 0
 weigh (p ∷ ps) = weight p + weigh ps
 
@@ -204,7 +204,7 @@ called_codes None bs = UnknownName ∷ []
 called_codes (Some m) bs = code_if (not (takes m (length bs))) BadArguments ++ each_argument_codes (map (wanted_by m.body) m.parameters) bs
 
 -- the codes of the rules that a place breaks behind places that count so much, from the left
-abbrev pub codes_at : ℕ → Place → List FaultCode
+abbrev pub codes_at : ℕ → Visit → List FaultCode
 codes_at n (Opens ms s) = code_if (is_taken ms s.form) DuplicateName
 codes_at n (Inside m s) =
     code_if (redeclares m.parameters s.form) DuplicateName ++ code_if (unbalances (blocks_after [] m.body) s.form) Unbalanced
@@ -213,16 +213,16 @@ codes_at n (Misplaced line) = Unbalanced ∷ []
 codes_at n (Calls line depth m bs) = code_if (nat_lt 16 depth || is_full n) TooLong ++ called_codes m bs
 
 -- the rules, behind places that count so much
-abbrev pub BreaksBehind : ℕ → Place → FaultCode → Type 0
+abbrev pub BreaksBehind : ℕ → Visit → FaultCode → Type 0
 BreaksBehind n p code = Contains (codes_at n p) code
 
 -- the phase: each place by what stands before it, and nothing at the end
-abbrev pub BreaksMacros : List Place → Option Place → FaultCode → Type 0
+abbrev pub BreaksMacros : List Visit → Option Visit → FaultCode → Type 0
 BreaksMacros before None code = ⊥
 BreaksMacros before (Some p) code = BreaksBehind (weigh before) p code
 
 -- the line of a place
-abbrev pub line_at : Place → ℕ
+abbrev pub line_at : Visit → ℕ
 line_at (Opens ms s) = s.line
 line_at (Inside m s) = s.line
 line_at (Stands e s) = s.line
@@ -230,6 +230,6 @@ line_at (Misplaced line) = line
 line_at (Calls line depth m args) = line
 
 -- a fault is told at its place's line
-abbrev pub macros_line : List Place → Option Place → ℕ
+abbrev pub macros_line : List Visit → Option Visit → ℕ
 macros_line before None = 0
 macros_line before (Some p) = line_at p

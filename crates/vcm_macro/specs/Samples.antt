@@ -11,7 +11,7 @@ use Rattle.vcm_forms.specs.declared.statement.Form.{Form}
 use Rattle.vcm_forms.specs.declared.statement.Form.TheVariants as says
 use Rattle.vcm_forms.specs.declared.statement.Argument.{Argument}
 use Rattle.vcm_forms.specs.declared.statement.Parameter.{Parameter}
-use Rattle.vcm_forms.specs.declared.statement.Spot.{Spot}
+use Rattle.vcm_forms.specs.declared.statement.Coordinates.{Coordinates}
 use Rattle.vcm_forms.specs.Statements.{as_read}
 use Rattle.vcm_spec.specs.declared.words.Source.TheVariants.{Actual}
 use Rattle.vcm_spec.specs.declared.words.Setting.TheVariants.{Depth}
@@ -111,7 +111,7 @@ abbrev pub quoted : List ℕ → Parameter
 quoted name = record { name = name; quoted = true }
 
 -- a place at a height
-abbrev pub at_height : Source → Spot
+abbrev pub at_height : Source → Coordinates
 at_height s = record { x = whole 1; y = whole 2; z = s }
 
 -- measures the feature of a name, at a height

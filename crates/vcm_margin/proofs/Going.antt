@@ -16,7 +16,7 @@ use Rattle.vcm_spec.specs.Effect.{effect, carried_out, value_in}
 use Rattle.vcm_spec.specs.Stepping.{unless_stopped}
 use Rattle.vcm_spec.proofs.Stops.{Keeps, carried_out_keeps}
 use Rattle.vcm_code.specs.declared.pair.Pair.{Pair}
-use Rattle.vcm_code.specs.Code.{Op, Statement}
+use Rattle.vcm_code.specs.Code.{Op, CodeStatement}
 use Rattle.vcm_code.specs.declared.op.Op.TheVariants.{Plain, If, Else, EndIf, Do, EndDo, Label, JumpTo, Meas, EndMes, Select, Case, EndCas, DftCas, EndSel, EndFil}
 use Rattle.vcm_code.specs.CodeTable.{CodeState, code_state, or_halt, do_op, fetched, code_step}
 use Rattle.vcm_part.specs.Tip.{with_tip}
@@ -107,13 +107,13 @@ module _ (part other : Workpiece) (tables : Tables) (w : World) (p : Point) (n l
   op_beside EndSel e a = control_beside EndSel (λ x. x)
   op_beside EndFil e a = control_beside EndFil (λ x. x)
 
-module _ (part other : Workpiece) (tables : Tables) (code : List Statement) (m : CodeState) (p : Point) where
+module _ (part other : Workpiece) (tables : Tables) (code : List CodeStatement) (m : CodeState) (p : Point) where
   -- a step leaves two states the same but for the place, where it goes alike
   pub step_beside : IsAlike (measured (slice_get code m.next)) (code_step (setup_of part tables) code m) (code_step (setup_of other tables) code (moved_to p m))
       → StandsBeside (code_step (setup_of part tables) code m) (code_step (setup_of other tables) code (moved_to p m))
   step_beside a = by m.world.stop refl a
     where
-      next : (s : Option Statement) → m.world.stop ≡ None
+      next : (s : Option CodeStatement) → m.world.stop ≡ None
           → IsAlike (measured s) (fetched (setup_of part tables) s m.world m.next m.pairs) (fetched (setup_of other tables) s (standing p m.world) m.next m.pairs)
           → StandsBeside (fetched (setup_of part tables) s m.world m.next m.pairs) (fetched (setup_of other tables) s (standing p m.world) m.next m.pairs)
       next None e b = record { is = refl }
@@ -162,10 +162,10 @@ module _ (count : ℕ) (su : Setup) (w : World) (n line : ℕ) (ps : List Pair) 
   op_sound EndSel = control_sound EndSel (λ x. x)
   op_sound EndFil = control_sound EndFil (λ x. x)
 
-pub step_sound : (count : ℕ) (su : Setup) (code : List Statement) (m : CodeState) → IsSound count m.world → IsSound count (code_step su code m).world
+pub step_sound : (count : ℕ) (su : Setup) (code : List CodeStatement) (m : CodeState) → IsSound count m.world → IsSound count (code_step su code m).world
 step_sound count su code m t = by m.world.stop
   where
-    next : (s : Option Statement) → IsSound count (fetched su s m.world m.next m.pairs).world
+    next : (s : Option CodeStatement) → IsSound count (fetched su s m.world m.next m.pairs).world
     next None = t
     next (Some s) = (op_sound count su m.world m.next s.line m.pairs t s.op).sound
 
@@ -225,7 +225,7 @@ module _ (part other : Workpiece) (tables : Tables) (w : World) (p : Point) (n l
   op_near EndSel t e = control_near EndSel (λ x. x)
   op_near EndFil t e = control_near EndFil (λ x. x)
 
-module _ (part other : Workpiece) (tables : Tables) (code : List Statement) (m : CodeState) (p : Point) where
+module _ (part other : Workpiece) (tables : Tables) (code : List CodeStatement) (m : CodeState) (p : Point) where
   -- so it is behind a step of two states that were the same but for the place
   pub step_near : IsSound (length tables.features) m.world → IsNear (code_step (setup_of part tables) code m) (code_step (setup_of other tables) code (moved_to p m))
   step_near t = by m.world.stop refl
@@ -233,7 +233,7 @@ module _ (part other : Workpiece) (tables : Tables) (code : List Statement) (m :
       same : (a : CodeState) → IsNear a (moved_to p a)
       same a = record { next = λ s. refl; stop = λ z s. s }
 
-      next : (s : Option Statement) → m.world.stop ≡ None
+      next : (s : Option CodeStatement) → m.world.stop ≡ None
           → IsNear (fetched (setup_of part tables) s m.world m.next m.pairs) (fetched (setup_of other tables) s (standing p m.world) m.next m.pairs)
       next None e = same m
       next (Some s) e = op_near part other tables m.world p m.next s.line m.pairs s.op t e
@@ -315,12 +315,12 @@ module _ (part : Workpiece) (tables : Tables) (h i : ℕ) (le : part.bounds.tip 
     op_follows EndFil e t a z = control_follows EndFil (λ x. x)
 
   -- a step keeps three states so, where it goes alike for the first and the third
-  pub step_follows : (code : List Statement) (m : CodeState) → IsSound count m.world → 0 < m.world.settings.retract → (b c : Point) → LiesIn h (coordinate b) i (coordinate c)
+  pub step_follows : (code : List CodeStatement) (m : CodeState) → IsSound count m.world → 0 < m.world.settings.retract → (b c : Point) → LiesIn h (coordinate b) i (coordinate c)
       → IsThere (measured (slice_get code m.next)) → IsAlike (measured (slice_get code m.next)) (code_step narrow code m) (code_step wide code (moved_to c m))
       → NoneOrEnd (code_step narrow code m).world.stop → Follows h i (code_step narrow code m) (code_step middle code (moved_to b m)) (code_step wide code (moved_to c m))
   step_follows code m sound back b c l t a z = by m.world.stop refl a z
     where
-      next : (s : Option Statement) → m.world.stop ≡ None → IsThere (measured s)
+      next : (s : Option CodeStatement) → m.world.stop ≡ None → IsThere (measured s)
           → IsAlike (measured s) (fetched narrow s m.world m.next m.pairs) (fetched wide s (standing c m.world) m.next m.pairs)
           → NoneOrEnd (fetched narrow s m.world m.next m.pairs).world.stop
           → Follows h i (fetched narrow s m.world m.next m.pairs) (fetched middle s (standing b m.world) m.next m.pairs) (fetched wide s (standing c m.world) m.next m.pairs)

@@ -1,7 +1,7 @@
 -- What is known of the statement that a machine takes next.
 use Rattle.std.proofs.Common.{◌≡◌, ℕ, IfNone, sym, ap, ◌∙◌}
 use Rattle.std.specs.Prelude.{Option, Some, None, slice_get}
-use Rattle.vcm_code.specs.Code.{Statement}
+use Rattle.vcm_code.specs.Code.{CodeStatement}
 use Rattle.vcm_code.specs.declared.code.Code.{Code}
 use Rattle.vcm_code.specs.CodeTable.{CodeState}
 use Rattle.vcm_margin.specs.Alike.{measured_by, measures, measured}
@@ -12,7 +12,7 @@ if_none (Some x) P Q f h = tt
 if_none None P Q f h = f h
 
 -- the feature that it measures
-pub measured_is : (code : Code) (m : CodeState) (number : ℕ) (s : Statement) → number ≡ m.next → slice_get code.statements number ≡ Some s
+pub measured_is : (code : Code) (m : CodeState) (number : ℕ) (s : CodeStatement) → number ≡ m.next → slice_get code.statements number ≡ Some s
     → measured_by s.op ≡ measures code m
 measured_is code m number s is_next there =
     sym (ap (λ (n : ℕ). measured (slice_get code.statements n)) (sym is_next) ∙ ap measured there)

@@ -11,7 +11,7 @@ use Rattle.vcm_spec.specs.Setup.{Setup, Tables, setup_of}
 use Rattle.vcm_spec.specs.Workpiece.{Workpiece, IsValid, is_some_met}
 use Rattle.vcm_spec.specs.Stepping.{unless_stopped}
 use Rattle.vcm_spec.proofs.Steps.{add_steps, all_stay}
-use Rattle.vcm_code.specs.Code.{Op, Statement}
+use Rattle.vcm_code.specs.Code.{Op, CodeStatement}
 use Rattle.vcm_code.specs.declared.code.Code.{Code}
 use Rattle.vcm_code.specs.declared.op.Op.TheVariants.{Plain}
 use Rattle.vcm_code.specs.CodeTable.{CodeState, code_stop, fetched, code_step, start}
@@ -37,7 +37,7 @@ reached_next part c k =
     ∙ add_steps (code_step (setup_of part c.tables) c.statements) k 1 (start (setup_of part c.tables))
 
 -- a stopped state stays
-stays : (su : Setup) (code : List Statement) (m : CodeState) (p : StopPlace) → m.world.stop ≡ Some p → code_step su code m ≡ m
+stays : (su : Setup) (code : List CodeStatement) (m : CodeState) (p : StopPlace) → m.world.stop ≡ Some p → code_step su code m ≡ m
 stays su code m p e = ap (λ o. unless_stopped o m (fetched su (slice_get code m.next) m.world m.next m.pairs)) e
 
 -- a run that comes through in some steps does in fewer
@@ -129,7 +129,7 @@ op_there tables count op f j e = absurd (no_index j e)
 measured_there : (c : Code) → codes.IsValid c → (n j : ℕ) → measured (slice_get c.statements n) ≡ Some j → j < length c.tables.features
 measured_there c ok n j = by (slice_get c.statements n) refl
   where
-    by : (o : Option Statement) → slice_get c.statements n ≡ o → measured o ≡ Some j → j < length c.tables.features
+    by : (o : Option CodeStatement) → slice_get c.statements n ≡ o → measured o ≡ Some j → j < length c.tables.features
     by None e f = absurd (no_index j f)
     by (Some s) e f = op_there c.tables (length c.statements) s.op (fits_at c.tables (length c.statements) c.statements n s ok.fit e) j f
 

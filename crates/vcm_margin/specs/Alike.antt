@@ -4,12 +4,12 @@ use Rattle.vcm_spec.specs.declared.feature.Feature.{Feature}
 use Rattle.vcm_spec.specs.Setup.{setup_of}
 use Rattle.vcm_spec.specs.declared.simple.Simple.TheVariants.{PtMeas}
 use Rattle.vcm_spec.specs.Workpiece.{Workpiece}
-use Rattle.vcm_code.specs.Code.{Statement, Op}
+use Rattle.vcm_code.specs.Code.{CodeStatement, Op}
 use Rattle.vcm_code.specs.declared.code.Code.{Code}
 use Rattle.vcm_code.specs.declared.op.Op.TheVariants.{Plain}
 use Rattle.vcm_code.specs.CodeTable.{CodeState, code_steps, start}
 use Rattle.vcm_margin.specs.declared.difference.Difference.{Difference}
-use Rattle.vcm_margin.specs.declared.difference.Place.{Place}
+use Rattle.vcm_margin.specs.declared.difference.StatementPlace.{StatementPlace}
 use Rattle.vcm_margin.specs.declared.difference.Difference.TheVariants.{Stop, Next, Feature as Measured}
 use Rattle.vcm_margin.specs.declared.difference.Seen.{Seen}
 
@@ -23,7 +23,7 @@ measured_by (Plain (PtMeas i x y z toward)) = Some i
 measured_by _ = None
 
 -- the same of a statement that may not be there
-abbrev pub measured : Option Statement → Option ℕ
+abbrev pub measured : Option CodeStatement → Option ℕ
 measured (Some s) = measured_by s.op
 measured None = None
 
@@ -46,12 +46,12 @@ abbrev pub GoAlike : Workpiece → Workpiece → Code → ℕ → Type 0
 GoAlike part other c n = (k : ℕ) → k < n → IsAlike (measures c (reached part c k)) (reached part c (suc k)) (reached other c (suc k))
 
 -- the source line of a statement, 0 where there is none
-abbrev pub line_in : Option Statement → ℕ
+abbrev pub line_in : Option CodeStatement → ℕ
 line_in (Some s) = s.line
 line_in None = 0
 
 -- the number and the source line of the statement that is next in a state
-abbrev pub next_place : Code → CodeState → Place
+abbrev pub next_place : Code → CodeState → StatementPlace
 next_place c m = record { number = m.next; line = line_in (slice_get c.statements m.next) }
 
 -- behind the step from a state the two states that come of it differ, and this is told of the second one: its stop, where the stops differ; with equal

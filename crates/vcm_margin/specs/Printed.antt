@@ -13,14 +13,14 @@ use Rattle.vcm_margin.specs.declared.difference.Margin.{Margin}
 use Rattle.vcm_margin.specs.declared.difference.Met.{Met}
 use Rattle.vcm_margin.specs.declared.difference.Met.TheVariants.{Home, Behind}
 use Rattle.vcm_margin.specs.declared.difference.Seen.{Seen}
-use Rattle.vcm_margin.specs.declared.difference.Place.{Place}
+use Rattle.vcm_margin.specs.declared.difference.StatementPlace.{StatementPlace}
 
 -- which statement measures a point, and the end of the line
-abbrev pub place_text : Place → List ℕ
+abbrev pub place_text : StatementPlace → List ℕ
 place_text place = in_a_row (codes " at " ∷ decimal place.number ∷ codes " line " ∷ decimal place.line ∷ codes "\n" ∷ [])
 
 -- a measured point, and which statement measures it
-abbrev pub feature_text : Tables → ℕ → Option Feature → Place → List ℕ
+abbrev pub feature_text : Tables → ℕ → Option Feature → StatementPlace → List ℕ
 feature_text tables i f place = feature_words tables Actual i f ++ place_text place
 
 -- which statement is next

@@ -9,7 +9,7 @@ ghost use Rattle.vcm_margin.specs.Alike.{reached, measures, next_place, IsAlike,
 ghost use Rattle.vcm_margin.specs.inner.Kept.{Shows};
 ghost use Rattle.vcm_margin.specs.inner.Stepped.{HaveGone};
 
-use crate::difference::{Difference, Place, Seen};
+use crate::difference::{Difference, Seen, StatementPlace};
 use crate::own::{Behind, OwnRun, actual_of, measured};
 use crate::same::{is_same_feature, is_same_stop};
 use std::alloc::Global;
@@ -21,7 +21,7 @@ use vcm_num::NoMemory;
 // What differs, of what stands behind a step that measured a feature or none, at a place, and a machine that has taken it too.
 fn differing<Q: Part>(
     which: Option<u16>,
-    place: Place,
+    place: StatementPlace,
     own: Behind,
     other: &Machine<'_, Q>,
 ) -> Option<Difference>
@@ -66,7 +66,7 @@ fn step_both<O: OwnRun, Q: Part>(
     let line = statement.line;
     let behind = own.go_on(alloc, which)?;
     other.step(alloc)?;
-    Ok(differing(which, Place { number, line }, behind, other))
+    Ok(differing(which, StatementPlace { number, line }, behind, other))
 }
 
 /// Where the own run and a machine at the start of one code differ first in so many steps; the position is the machine's.

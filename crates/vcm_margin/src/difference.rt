@@ -5,7 +5,7 @@ use vcm_spec::{Feature, StopPlace};
 
 /// A statement's number, and its source line.
 #[derive(Clone, Copy)]
-pub struct Place {
+pub struct StatementPlace {
     pub number: u32,
     pub line: u32,
 }
@@ -18,7 +18,7 @@ pub enum Difference {
     /// Another statement is next.
     Next(u32),
     /// Another point is measured for the feature of this index, or none, by the PTMEAS at a place.
-    Feature(u16, Option<Feature>, Place),
+    Feature(u16, Option<Feature>, StatementPlace),
 }
 
 /// Where it differs first: in what, behind how many steps, and where the probe then is in the run with the other tip, in micrometres of machine coordinates.

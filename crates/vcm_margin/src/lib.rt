@@ -9,6 +9,6 @@ mod printing;
 mod same;
 mod widening;
 
-pub use difference::{Difference, Margin, Met, Place, Seen};
+pub use difference::{Difference, Margin, Met, Seen, StatementPlace};
 pub use printing::write_margin;
 pub use widening::margin;

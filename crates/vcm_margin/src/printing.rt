@@ -3,7 +3,7 @@
 ghost use Rattle.vcm_num.specs.Written.{Wrote};
 ghost use Rattle.vcm_margin.specs.Printed.{place_text, feature_text, difference_text, next_text, position_line, steps_line, state_lines, seen_text, difference_or_home, width_text, wider_text, met_text, margin_text};
 
-use crate::difference::{Difference, Margin, Met, Place, Seen};
+use crate::difference::{Difference, Margin, Met, Seen, StatementPlace};
 use itoa::Buffer;
 use std::io::Write;
 use vcm_num::{Point, WriteFault, thousandths_text, write_all, write_pieces};
@@ -12,7 +12,7 @@ use vcm_spec::{Feature, Source};
 use vcm_tables::Tables;
 
 // Writes which statement measures a point, and ends the line.
-fn write_place<W: Write>(place: Place, writer: &mut W) -> Result<(), WriteFault>
+fn write_place<W: Write>(place: StatementPlace, writer: &mut W) -> Result<(), WriteFault>
     ensures { Wrote (W.contents writer.old) (W.contents writer.new) (place_text place) result }
 {
     let mut number = Buffer::new();
@@ -27,7 +27,7 @@ fn write_measured<W: Write>(
     tables: &Tables,
     index: u16,
     feature: Option<Feature>,
-    place: Place,
+    place: StatementPlace,
     writer: &mut W,
 ) -> Result<(), WriteFault>
     ensures { Wrote (W.contents writer.old) (W.contents writer.new) (feature_text tables.now index feature place) result }

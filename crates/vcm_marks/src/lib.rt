@@ -3,4 +3,4 @@
 
 mod mark;
 
-pub use mark::{Contact, Going, Mark, Piece, Placed, Touched};
+pub use mark::{Contact, Going, Leg, Mark, PlacedMark, Touched};

@@ -20,7 +20,7 @@ pub enum Going {
 
 /// A straight piece of the way, and where it was to end.
 #[derive(Clone, Copy)]
-pub struct Piece {
+pub struct Leg {
     pub going: Going,
     pub from: Point,
     pub to: Point,
@@ -46,14 +46,14 @@ pub struct Contact {
 /// A mark of the way.
 #[derive(Clone, Copy)]
 pub enum Mark {
-    Goes(Piece),
+    Goes(Leg),
     Touches(Touched),
     Meets(Contact),
 }
 
 /// A mark with its step, counted from 1, and the number and the source line of its statement.
 #[derive(Clone, Copy)]
-pub struct Placed {
+pub struct PlacedMark {
     pub mark: Mark,
     pub step: u64,
     pub number: u32,

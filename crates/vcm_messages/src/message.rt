@@ -1,7 +1,7 @@
 //! What the program says on standard error, and its exit statuses.
 
 use thiserror::Error;
-use vcm_boxes::{BoxKey, BoxesFault, Label, Refusal as BoxRefusal};
+use vcm_boxes::{BoxKey, BoxesFault, Refusal as BoxRefusal, ShortName};
 use vcm_debug::ServeFault;
 use vcm_fields::ImageFault;
 use vcm_job::{Fault, InputRefusal, SessionFault};
@@ -133,7 +133,7 @@ fn part_words(code: PartCode) -> &'static str {
 }
 
 // The key of a probe file as it is told: a sign for it where it is no label.
-fn key_words(key: &Option<Label>) -> &str {
+fn key_words(key: &Option<ShortName>) -> &str {
     match key {
         Some(label) => std::str::from_utf8(label.as_bytes()).unwrap_or("?"),
         None => "?",

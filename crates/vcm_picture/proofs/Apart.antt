@@ -6,7 +6,7 @@ use Rattle.vcm_report.specs.Printed.{name_at}
 use Rattle.vcm_marks.specs.declared.mark.Contact.{Contact}
 use Rattle.vcm_marks.specs.declared.mark.Mark.{Mark}
 use Rattle.vcm_marks.specs.declared.mark.Mark.TheVariants.{Goes, Touches, Meets}
-use Rattle.vcm_marks.specs.declared.mark.Placed.{Placed}
+use Rattle.vcm_marks.specs.declared.mark.PlacedMark.{PlacedMark}
 use Rattle.vcm_marks.specs.declared.mark.Touched.{Touched}
 use Rattle.vcm_svg.specs.declared.rect.Rect.{Rect}
 use Rattle.vcm_svg.specs.declared.rect.Spot.{Spot}
@@ -112,13 +112,13 @@ both_added wide n m o h k = record {
       (more_apart wide n.taken (areas h.names) (areas k.names) h.apart (taken_apart wide m.taken (n.taken ++ areas h.names) (areas k.names) h.taken k.apart));
 }
 
-all_added : (s : Scope) (features : List (List ℕ)) (marks : List Placed) (n : Naming) → Added s.wide n (with_all_touched s features marks n)
+all_added : (s : Scope) (features : List (List ℕ)) (marks : List PlacedMark) (n : Naming) → Added s.wide n (with_all_touched s features marks n)
 all_added s features [] n = none_added s.wide n
 all_added s features (m ∷ ms) n =
     both_added s.wide n (with_mark s features m.mark n) (with_all_touched s features ms (with_mark s features m.mark n)) (mark_added s features m.mark n)
     (all_added s features ms (with_mark s features m.mark n))
 
-named_apart : (s : Scope) (features : List (List ℕ)) (marks : List Placed) (taken : List Rect)
+named_apart : (s : Scope) (features : List (List ℕ)) (marks : List PlacedMark) (taken : List Rect)
     → StandApart s.wide taken (areas (names_beside s features marks taken))
 named_apart s features marks taken =
     let h = all_added s features marks (record { taken = taken; named = [] }) in

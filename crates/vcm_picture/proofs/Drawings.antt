@@ -3,7 +3,7 @@ use Rattle.std.proofs.Common.{◌≡◌, ◌∙◌, ap, ℕ, List, ◌++◌, [],
 use Rattle.std.specs.Prelude.{Result, OnOk, Option}
 use Rattle.vcm_num.specs.declared.point.Point.{Point}
 use Rattle.vcm_marks.specs.declared.mark.Contact.{Contact}
-use Rattle.vcm_marks.specs.declared.mark.Placed.{Placed}
+use Rattle.vcm_marks.specs.declared.mark.PlacedMark.{PlacedMark}
 use Rattle.vcm_svg.specs.declared.rect.Rect.{Rect}
 use Rattle.vcm_picture.specs.declared.names.FirstNames.{FirstNames}
 use Rattle.vcm_picture.specs.declared.names.Named.{Named}
@@ -21,13 +21,13 @@ three_made o p q m a b d e f g h =
     h ∙ ap (λ (l : List Shape). l ++ d) (g ∙ ap (λ (l : List Shape). l ++ b) (f ∙ ap (λ (l : List Shape). l ++ a) e)) ∙ append_assoc a b d
 
 -- the names of a view with this contact and these names placed first
-abbrev pub names_after : Scope → List (List ℕ) → List Placed → List Seen → Option Contact → FirstNames → List Shape
+abbrev pub names_after : Scope → List (List ℕ) → List PlacedMark → List Seen → Option Contact → FirstNames → List Shape
 names_after s features marks seen contact first =
     flat_map option_to_list (first_shapes s.unit contact first)
     ++ feature_shapes s.unit (names_beside s features marks (with_first [] first ++ all_figure_boxes seen))
 
 -- the names of a view, as its steps give them
-pub names_put : {A E : Type 0} (r : Result A E) (o p m : List Shape) (s : Scope) (home position : Point) (features : List (List ℕ)) (marks : List Placed)
+pub names_put : {A E : Type 0} (r : Result A E) (o p m : List Shape) (s : Scope) (home position : Point) (features : List (List ℕ)) (marks : List PlacedMark)
     (seen : List Seen) (contact : Option Contact) (first : FirstNames) (taken more : List Rect) (named : List Named)
     → contact ≡ contact_of marks → first ≡ first_names s contact position home [] → taken ≡ with_first [] first
     → more ≡ taken ++ all_figure_boxes seen → named ≡ names_beside s features marks more

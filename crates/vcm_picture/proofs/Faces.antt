@@ -4,7 +4,7 @@ use Rattle.std.proofs.lemmas.Bool.{and_parts}
 use Rattle.std.proofs.lemmas.List.{at_drop_more, drop_more}
 use Rattle.std.specs.List.{list_all}
 use Rattle.vcm_spec.specs.declared.workpiece.Block3.{Block3}
-use Rattle.vcm_marks.specs.declared.mark.Placed.{Placed}
+use Rattle.vcm_marks.specs.declared.mark.PlacedMark.{PlacedMark}
 use Rattle.vcm_picture.specs.declared.shown.Face.{Face}
 use Rattle.vcm_picture.specs.declared.shown.Seen.{Seen}
 use Rattle.vcm_picture.specs.Sights.{Scope}
@@ -40,7 +40,7 @@ tests_on test [] i h k = absurd (omega arith)
 tests_on test (x ∷ xs) i h k = next_test test x (x ∷ xs) i h k
 
 -- of the marks of a way one more is named
-pub named_on : (s : Scope) (fs : List (List ℕ)) (marks : List Placed) (i : ℕ) (d : Placed) (n m whole : Naming) → i < length marks
+pub named_on : (s : Scope) (fs : List (List ℕ)) (marks : List PlacedMark) (i : ℕ) (d : PlacedMark) (n m whole : Naming) → i < length marks
     → m ≡ with_mark s fs (get_or marks i d).mark n → with_all_touched s fs (drop i marks) n ≡ whole → with_all_touched s fs (drop (i + 1) marks) m ≡ whole
 named_on s fs marks i d n m whole h e w = rw e (sym (at_drop_more (λ ms. with_all_touched s fs ms n) marks i d h) ∙ w)
 

@@ -6,7 +6,7 @@ use Rattle.std.proofs.Math.IntN.{pos-*ℤ-pos}
 use Rattle.std.proofs.Math.Nat.{mul-le-mul_right}
 use Rattle.vcm_spec.specs.Workpiece.{Workpiece}
 use Rattle.vcm_state.specs.Held.{Held}
-use Rattle.vcm_marks.specs.declared.mark.Placed.{Placed}
+use Rattle.vcm_marks.specs.declared.mark.PlacedMark.{PlacedMark}
 use Rattle.vcm_picture.specs.Sights.{Layout}
 use Rattle.vcm_picture.specs.declared.picture.PictureFault.{PictureFault}
 use Rattle.vcm_picture.specs.Outcome.{IsPicture}
@@ -48,7 +48,7 @@ layout_small r u up wide deep high e h i w d g =
     rw e p
 
 -- the bytes of a picture, as its steps give them
-pub picture_made : (o m first : List ℕ) (part : Workpiece) (held : Held) (done : ℕ) (marks : List Placed) (left_out : ℕ) (is_close : Bool) (w : Window)
+pub picture_made : (o m first : List ℕ) (part : Workpiece) (held : Held) (done : ℕ) (marks : List PlacedMark) (left_out : ℕ) (is_close : Bool) (w : Window)
     (l : Layout) (up : ℤ) → o ≡ [] → m ≡ o ++ picture_of part held done marks left_out w l first → w ≡ window_round part held marks is_close
     → l ≡ layout_of w up → up ≡ above left_out → first ≡ first_line held.tables held.state.stop done
     → m ≡ picture_text (sheet part held done marks left_out is_close)

@@ -6,7 +6,7 @@ use Rattle.vcm_spec.specs.declared.workpiece.Bounds.{Bounds}
 use Rattle.vcm_marks.specs.declared.mark.Contact.{Contact}
 use Rattle.vcm_marks.specs.declared.mark.Mark.{Mark}
 use Rattle.vcm_marks.specs.declared.mark.Mark.TheVariants.{Goes, Touches, Meets}
-use Rattle.vcm_marks.specs.declared.mark.Placed.{Placed}
+use Rattle.vcm_marks.specs.declared.mark.PlacedMark.{PlacedMark}
 use Rattle.vcm_marks.specs.Pieces.{is_piece}
 use Rattle.vcm_svg.specs.declared.rect.Rect.{Rect}
 use Rattle.vcm_svg.specs.declared.shapes.Class.TheVariants as class
@@ -106,7 +106,7 @@ first_none u c f =
     (then_drawn (option_to_list (name_shape f.end u words.End)) _ [] (name_none f.end u words.End)
     (then_drawn (option_to_list (name_shape f.home u words.Home)) [] [] (name_none f.home u words.Home) refl))
 
-names_none : (s : Scope) (home position : Point) (features : List (List ℕ)) (marks : List Placed) (seen : List Seen)
+names_none : (s : Scope) (home position : Point) (features : List (List ℕ)) (marks : List PlacedMark) (seen : List Seen)
     → marks_drawn (names_shapes s home features position marks seen) ≡ []
 names_none s home position features marks seen =
     let first = first_names s (contact_of marks) position home [] in
@@ -138,30 +138,30 @@ ends_drawn s b position c =
     (more_drawn (option_to_list (contact_shape s c)) [] ∙ append-nil _ ∙ contact_one s c))
 
 -- each piece tells its mark
-piece_one : (s : Scope) (few : Bool) (m : Placed) (k : Mark) (ms : List Placed) (l : List Placed) → m.mark ≡ k
+piece_one : (s : Scope) (few : Bool) (m : PlacedMark) (k : Mark) (ms : List PlacedMark) (l : List PlacedMark) → m.mark ≡ k
     → marks_drawn (pieces s few ms) ≡ map (drawn_of s) l
     → marks_drawn (option_to_list (mark_piece s few m k) ++ pieces s few ms) ≡ map (drawn_of s) (cond (is_piece k) (m ∷ l) l)
 piece_one s few m (Goes p) ms l e h = ap₂ (λ x y. x ∷ y) (ap (λ k. (Some (step_of m), k, outline_of s k)) (sym e)) h
 piece_one s few m (Touches t) ms l e h = h
 piece_one s few m (Meets c) ms l e h = h
 
-pieces_drawn : (s : Scope) (few : Bool) (marks : List Placed) → marks_drawn (pieces s few marks) ≡ map (drawn_of s) (filter (λ m. is_piece m.mark) marks)
+pieces_drawn : (s : Scope) (few : Bool) (marks : List PlacedMark) → marks_drawn (pieces s few marks) ≡ map (drawn_of s) (filter (λ m. is_piece m.mark) marks)
 pieces_drawn s few [] = refl
 pieces_drawn s few (m ∷ ms) = piece_one s few m m.mark ms (filter (λ m. is_piece m.mark) ms) refl (pieces_drawn s few ms)
 
 -- so does each touched point
-touched_one : (s : Scope) (m : Placed) (k : Mark) (ms : List Placed) (l : List Placed) → m.mark ≡ k
+touched_one : (s : Scope) (m : PlacedMark) (k : Mark) (ms : List PlacedMark) (l : List PlacedMark) → m.mark ≡ k
     → marks_drawn (touched_points s ms) ≡ map (drawn_of s) l
     → marks_drawn (option_to_list (mark_touched s m k) ++ touched_points s ms) ≡ map (drawn_of s) (cond (touches k) (m ∷ l) l)
 touched_one s m (Goes p) ms l e h = h
 touched_one s m (Touches t) ms l e h = ap₂ (λ x y. x ∷ y) (ap (λ k. (Some (step_of m), k, outline_of s k)) (sym e)) h
 touched_one s m (Meets c) ms l e h = h
 
-touched_drawn : (s : Scope) (marks : List Placed) → marks_drawn (touched_points s marks) ≡ map (drawn_of s) (filter (λ m. touches m.mark) marks)
+touched_drawn : (s : Scope) (marks : List PlacedMark) → marks_drawn (touched_points s marks) ≡ map (drawn_of s) (filter (λ m. touches m.mark) marks)
 touched_drawn s [] = refl
 touched_drawn s (m ∷ ms) = touched_one s m m.mark ms (filter (λ m. touches m.mark) ms) refl (touched_drawn s ms)
 
-way_drawn : (s : Scope) (b : Bounds) (position : Point) (marks : List Placed)
+way_drawn : (s : Scope) (b : Bounds) (position : Point) (marks : List PlacedMark)
     → marks_drawn (way_shapes s b position marks)
     ≡ map (drawn_of s) (filter (λ m. is_piece m.mark) marks)
     ++ (map (drawn_of s) (filter (λ m. touches m.mark) marks) ++ map (contact_drawn s) (option_to_list (contact_of marks)))
@@ -170,7 +170,7 @@ way_drawn s b position marks =
     (both_drawn (pieces s (are_few marks) marks) _ _ _ (pieces_drawn s (are_few marks) marks)
     (both_drawn (touched_points s marks) _ _ _ (touched_drawn s marks) (ends_drawn s b position (contact_of marks))))
 
-view_drawn : (s : Scope) (b : Bounds) (features : List (List ℕ)) (position : Point) (marks : List Placed) (faces : List Face) (seen : List Seen)
+view_drawn : (s : Scope) (b : Bounds) (features : List (List ℕ)) (position : Point) (marks : List PlacedMark) (faces : List Face) (seen : List Seen)
     → marks_drawn (shapes_of s b features position marks faces seen)
     ≡ map (drawn_of s) (filter (λ m. is_piece m.mark) marks)
     ++ (map (drawn_of s) (filter (λ m. touches m.mark) marks) ++ map (contact_drawn s) (option_to_list (contact_of marks)))

@@ -7,13 +7,13 @@ use Rattle.vcm_spec.specs.declared.workpiece.Bounds.{Bounds}
 use Rattle.vcm_spec.specs.Workpiece.{Workpiece}
 use Rattle.vcm_state.specs.Held.{Held}
 use Rattle.vcm_marks.specs.declared.mark.Contact.{Contact}
-use Rattle.vcm_marks.specs.declared.mark.Placed.{Placed}
+use Rattle.vcm_marks.specs.declared.mark.PlacedMark.{PlacedMark}
 use Rattle.vcm_svg.specs.declared.outlines.Outline.{Outline}
 use Rattle.vcm_svg.specs.declared.outlines.Outline.TheVariants as outline
 use Rattle.vcm_svg.specs.declared.rect.Rect.{Rect}
 use Rattle.vcm_svg.specs.declared.rect.Spot.{Spot}
 use Rattle.vcm_svg.specs.declared.shapes.Class.TheVariants as class
-use Rattle.vcm_svg.specs.declared.shapes.Label.{Label}
+use Rattle.vcm_svg.specs.declared.shapes.Placement.{Placement}
 use Rattle.vcm_svg.specs.declared.shapes.Lettering.TheVariants as lettering
 use Rattle.vcm_svg.specs.Pieces.{joined}
 use Rattle.vcm_svg.specs.Rect.{spot}
@@ -47,7 +47,7 @@ abbrev pub scene : Workpiece → Held → List ℕ → Scene
 scene part held stopped = record { part = part; held = held; stopped = stopped }
 
 -- where a name stands in its box
-abbrev pub name_label : Rect → ℤ → Label
+abbrev pub name_label : Rect → ℤ → Placement
 name_label a u = label lettering.Name u (spot a.left (a.top +ℤ pos 8 *ℤ u))
 
 -- a name in its box, if it has one
@@ -73,36 +73,36 @@ abbrev pub feature_shapes : ℤ → List Named → List Shape
 feature_shapes u named = flat_map (λ n. feature_name u n ∷ []) named
 
 -- the names of the touched points that find room beside what is taken
-abbrev pub names_beside : Scope → List (List ℕ) → List Placed → List Rect → List Named
+abbrev pub names_beside : Scope → List (List ℕ) → List PlacedMark → List Rect → List Named
 names_beside s features marks taken = (with_all_touched s features marks (record { taken = taken; named = [] })).named
 
 -- the names of a view, beside the numbers of its blocks
-abbrev pub names_with : Scope → List (List ℕ) → List Placed → List Seen → FirstNames → List Shape
+abbrev pub names_with : Scope → List (List ℕ) → List PlacedMark → List Seen → FirstNames → List Shape
 names_with s features marks seen first =
     flat_map option_to_list (first_shapes s.unit (contact_of marks) first)
     ++ feature_shapes s.unit (names_beside s features marks (with_first [] first ++ all_figure_boxes seen))
 
 -- the names of a view with this home, these names and this position
-abbrev pub names_shapes : Scope → Point → List (List ℕ) → Point → List Placed → List Seen → List Shape
+abbrev pub names_shapes : Scope → Point → List (List ℕ) → Point → List PlacedMark → List Seen → List Shape
 names_shapes s home features position marks seen = names_with s features marks seen (first_names s (contact_of marks) position home [])
 
 -- the shapes of a view of these blocks
-abbrev pub shapes_of : Scope → Bounds → List (List ℕ) → Point → List Placed → List Face → List Seen → List Shape
+abbrev pub shapes_of : Scope → Bounds → List (List ℕ) → Point → List PlacedMark → List Face → List Seen → List Shape
 shapes_of s bounds features position marks faces seen =
     blocks_shapes faces seen (contact_of marks)
     ++ (way_shapes s bounds position marks ++ names_shapes s bounds.home features position marks seen)
 
 -- the shapes of a view of these blocks, limits, names and marks, with this position at the end
-abbrev pub view_shapes : Scope → List Block3 → Bounds → List (List ℕ) → Point → List Placed → List Shape
+abbrev pub view_shapes : Scope → List Block3 → Bounds → List (List ℕ) → Point → List PlacedMark → List Shape
 view_shapes s blocks bounds features position marks =
     let faces = faces_from s 1 blocks in shapes_of s bounds features position marks faces (all_seen s.unit faces)
 
 -- the same of a scene
-abbrev pub scene_shapes : Scope → Scene → List Placed → List Shape
+abbrev pub scene_shapes : Scope → Scene → List PlacedMark → List Shape
 scene_shapes s scene marks = view_shapes s scene.part.blocks scene.part.bounds scene.held.tables.features scene.held.state.position marks
 
 -- where the title of a view stands, at a place of the picture
-abbrev pub title_label : Spot → ℤ → Label
+abbrev pub title_label : Spot → ℤ → Placement
 title_label at u = label lettering.Plain u (spot at.x (at.y -ℤ pos 6 *ℤ u))
 
 -- the beginning of the group of a view at a place of the picture
@@ -122,6 +122,6 @@ view_front s at =
     ++ (group_text s.view at ++ path class.Frame (frame_of s))
 
 -- a view at a place of the picture
-abbrev pub view_text : Scope → Spot → Scene → List Placed → List ℕ
+abbrev pub view_text : Scope → Spot → Scene → List PlacedMark → List ℕ
 view_text s at scene marks =
     view_front s at ++ (shapes_text scene.held.tables.features scene.stopped (scene_shapes s scene marks) ++ codes "</g>\n")

@@ -4,7 +4,7 @@ use Rattle.vcm_num.specs.declared.point.Point.{Point}
 use Rattle.vcm_marks.specs.declared.mark.Contact.{Contact}
 use Rattle.vcm_marks.specs.declared.mark.Mark.{Mark}
 use Rattle.vcm_marks.specs.declared.mark.Mark.TheVariants.{Goes, Touches, Meets}
-use Rattle.vcm_marks.specs.declared.mark.Placed.{Placed}
+use Rattle.vcm_marks.specs.declared.mark.PlacedMark.{PlacedMark}
 use Rattle.vcm_marks.specs.Pieces.{is_piece}
 use Rattle.vcm_svg.specs.declared.outlines.Outline.{Outline}
 use Rattle.vcm_svg.specs.declared.outlines.Outline.TheVariants.{Line}
@@ -30,7 +30,7 @@ StandApart wide taken [] = ⊤
 StandApart wide taken (a ∷ more) = IsTrue (is_free a wide taken) × StandApart wide (taken ++ a ∷ []) more
 
 -- so stand the names of the contact, of the end and of home, and beside them and the numbers of the blocks those of touched points
-abbrev pub AreNamesApart : Scope → List (List ℕ) → List Placed → List Seen → FirstNames → Type 0
+abbrev pub AreNamesApart : Scope → List (List ℕ) → List PlacedMark → List Seen → FirstNames → Type 0
 AreNamesApart s features marks seen first =
     StandApart s.wide [] (with_first [] first)
     × StandApart s.wide (with_first [] first ++ all_figure_boxes seen)
@@ -39,7 +39,7 @@ AreNamesApart s features marks seen first =
 -- no two names of a view overlap
 abbrev pub NamesAreApart : Type 0
 NamesAreApart =
-    (s : Scope) (contact : Option Contact) (position home : Point) (features : List (List ℕ)) (marks : List Placed) (seen : List Seen)
+    (s : Scope) (contact : Option Contact) (position home : Point) (features : List (List ℕ)) (marks : List PlacedMark) (seen : List Seen)
     → AreNamesApart s features marks seen (first_names s contact position home [])
 
 -- a mark that is drawn: its step, where the tooltip tells it, itself, and its outline
@@ -48,7 +48,7 @@ DrawnMark = Option Step × Mark × Outline
 
 -- the mark that a tooltip tells
 abbrev pub mark_told : Outline → Tip → Option DrawnMark
-mark_told o (tip.Piece s p) = Some (Some s, Goes p, o)
+mark_told o (tip.Leg s p) = Some (Some s, Goes p, o)
 mark_told o (tip.Touched s t) = Some (Some s, Touches t, o)
 mark_told o (tip.Contact c) = Some (None, Meets c, o)
 mark_told o _ = None
@@ -70,7 +70,7 @@ outline_of s (Touches t) = circle (spot_of s t.at) (pos 3 *ℤ s.unit)
 outline_of s (Meets c) = cross (spot_of s c.at) (pos 6 *ℤ s.unit)
 
 -- a mark of the way, drawn at its place
-abbrev pub drawn_of : Scope → Placed → DrawnMark
+abbrev pub drawn_of : Scope → PlacedMark → DrawnMark
 drawn_of s m = (Some (step_of m), m.mark, outline_of s m.mark)
 
 -- the contact, drawn at its place
@@ -86,7 +86,7 @@ touches (Meets c) = false
 -- each view draws each piece, each touched point and the contact once, at its place, and no other mark
 abbrev pub MarksAreDrawn : Type 0
 MarksAreDrawn =
-    (s : Scope) (scene : Scene) (marks : List Placed)
+    (s : Scope) (scene : Scene) (marks : List PlacedMark)
     → marks_drawn (scene_shapes s scene marks)
     ≡ map (drawn_of s) (filter (λ m. is_piece m.mark) marks)
     ++ (map (drawn_of s) (filter (λ m. touches m.mark) marks) ++ map (contact_drawn s) (option_to_list (contact_of marks)))

@@ -3,7 +3,7 @@ use Rattle.std.specs.Prelude.{nat_le, Bool, List, [], ◌∷◌, Option, Some, N
 use Rattle.vcm_marks.specs.declared.mark.Contact.{Contact}
 use Rattle.vcm_marks.specs.declared.mark.Mark.{Mark}
 use Rattle.vcm_marks.specs.declared.mark.Mark.TheVariants.{Goes, Touches, Meets}
-use Rattle.vcm_marks.specs.declared.mark.Placed.{Placed}
+use Rattle.vcm_marks.specs.declared.mark.PlacedMark.{PlacedMark}
 use Rattle.vcm_marks.specs.Pieces.{pieces}
 
 -- the contact of a mark, or else that of the marks behind it
@@ -13,10 +13,10 @@ contact_or (Touches t) behind = behind
 contact_or (Meets c) behind = Some c
 
 -- the contact of a way
-abbrev pub contact_of : List Placed → Option Contact
+abbrev pub contact_of : List PlacedMark → Option Contact
 contact_of [] = None
 contact_of (m ∷ ms) = contact_or m.mark (contact_of ms)
 
 -- whether there are few enough pieces for arrows
-abbrev pub are_few : List Placed → Bool
+abbrev pub are_few : List PlacedMark → Bool
 are_few marks = nat_le (pieces marks) 500

@@ -10,7 +10,7 @@ use Rattle.vcm_report.specs.Printed.{name_at}
 use Rattle.vcm_marks.specs.declared.mark.Contact.{Contact}
 use Rattle.vcm_marks.specs.declared.mark.Mark.{Mark}
 use Rattle.vcm_marks.specs.declared.mark.Mark.TheVariants.{Goes, Touches, Meets}
-use Rattle.vcm_marks.specs.declared.mark.Placed.{Placed}
+use Rattle.vcm_marks.specs.declared.mark.PlacedMark.{PlacedMark}
 use Rattle.vcm_marks.specs.declared.mark.Touched.{Touched}
 use Rattle.vcm_picture.specs.declared.names.FirstNames.{FirstNames}
 use Rattle.vcm_picture.specs.declared.names.Named.{Named}
@@ -119,6 +119,6 @@ with_mark s features (Touches t) n = with_touched s features t n
 with_mark s features (Meets c) n = n
 
 -- with the names of all touched points, one after another
-abbrev pub with_all_touched : Scope → List (List ℕ) → List Placed → Naming → Naming
+abbrev pub with_all_touched : Scope → List (List ℕ) → List PlacedMark → Naming → Naming
 with_all_touched s features [] n = n
 with_all_touched s features (m ∷ ms) n = with_all_touched s features ms (with_mark s features m.mark n)

@@ -7,7 +7,7 @@ use Rattle.vcm_num.specs.Point.{coordinate}
 use Rattle.vcm_spec.specs.declared.workpiece.Block3.{Block3}
 use Rattle.vcm_spec.specs.Workpiece.{Workpiece}
 use Rattle.vcm_state.specs.Held.{Held}
-use Rattle.vcm_marks.specs.declared.mark.Placed.{Placed}
+use Rattle.vcm_marks.specs.declared.mark.PlacedMark.{PlacedMark}
 use Rattle.vcm_svg.specs.Heading.{heading_text}
 use Rattle.vcm_svg.specs.Legend.{legend_text, bar_text}
 use Rattle.vcm_svg.specs.declared.outlines.Outline.TheVariants.{Rectangle}
@@ -35,12 +35,12 @@ pub record Sheet : Type 0 where
   pub part : Workpiece
   pub held : Held
   pub done : ℕ
-  pub marks : List Placed
+  pub marks : List PlacedMark
   pub left_out : ℕ
   pub is_close : Bool
 
 -- a sheet of these
-abbrev pub sheet : Workpiece → Held → ℕ → List Placed → ℕ → Bool → Sheet
+abbrev pub sheet : Workpiece → Held → ℕ → List PlacedMark → ℕ → Bool → Sheet
 sheet part held done marks left_out is_close = record {
   part = part;
   held = held;
@@ -51,13 +51,13 @@ sheet part held done marks left_out is_close = record {
 }
 
 -- the window round these points, blocks and marks
-abbrev pub window_for : Bool → Point → Point → List Block3 → List Placed → Window
+abbrev pub window_for : Bool → Point → Point → List Block3 → List PlacedMark → Window
 window_for is_close home position blocks marks =
     window_of (span_of 0 is_close home position blocks marks) (span_of 1 is_close home position blocks marks)
     (span_of 2 is_close home position blocks marks)
 
 -- the window of a picture
-abbrev pub window_round : Workpiece → Held → List Placed → Bool → Window
+abbrev pub window_round : Workpiece → Held → List PlacedMark → Bool → Window
 window_round part held marks is_close = window_for is_close part.bounds.home held.state.position part.blocks marks
 
 -- how many units the top view stands below the upper edge: the heading has two lines, and a third where pieces are left out
@@ -121,11 +121,11 @@ view_spot l Front = spot l.left l.front
 view_spot l Side = spot l.side l.front
 
 -- a view at its place
-abbrev pub view_at : Window → Layout → Scene → List Placed → View → List ℕ
+abbrev pub view_at : Window → Layout → Scene → List PlacedMark → View → List ℕ
 view_at w l s marks v = view_text (scope_of w v) (view_spot l v) s marks
 
 -- views, each at its place
-abbrev pub views_text : Window → Layout → Scene → List Placed → List View → List ℕ
+abbrev pub views_text : Window → Layout → Scene → List PlacedMark → List View → List ℕ
 views_text w l s marks vs = flat_map (view_at w l s marks) vs
 
 -- where the legend stands
@@ -142,7 +142,7 @@ foot_text w l =
     legend_text (legend_spot l w.unit) w.unit ++ (bar_text (bar_place l w.unit) w.unit w.grain (units w 0) ++ codes "</svg>\n")
 
 -- a picture of these, with this window, layout and first line of the heading
-abbrev pub picture_of : Workpiece → Held → ℕ → List Placed → ℕ → Window → Layout → List ℕ → List ℕ
+abbrev pub picture_of : Workpiece → Held → ℕ → List PlacedMark → ℕ → Window → Layout → List ℕ → List ℕ
 picture_of part held done marks left_out w l first =
     head_text l w.unit first
     ++ (style_text w.unit (length part.blocks) (are_few marks)

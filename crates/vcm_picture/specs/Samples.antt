@@ -2,7 +2,7 @@
 use Rattle.std.specs.Prelude.{◌≡◌, refl, ℕ, ℤ, pos, [], ◌∷◌, Some}
 use Rattle.vcm_num.specs.Point.{point}
 use Rattle.vcm_marks.specs.declared.mark.Mark.TheVariants.{Touches}
-use Rattle.vcm_marks.specs.declared.mark.Placed.{Placed}
+use Rattle.vcm_marks.specs.declared.mark.PlacedMark.{PlacedMark}
 use Rattle.vcm_marks.specs.declared.mark.Touched.{Touched}
 use Rattle.vcm_svg.specs.declared.outlines.Outline.TheVariants.{Circle}
 use Rattle.vcm_svg.specs.declared.rect.Rect.{Rect}
@@ -27,7 +27,7 @@ abbrev touched : Touched
 touched = record { at = point (pos 20000) (pos 10000) (pos 0); feature = 4 }
 
 -- its mark
-abbrev mark : Placed
+abbrev mark : PlacedMark
 mark = record { mark = Touches touched; step = 7; number = 3; line = 12 }
 
 -- it is a circle of three units, 2000 to the right and 2000 down, with its step

@@ -5,8 +5,8 @@ use Rattle.vcm_report.specs.Printed.{name_at}
 use Rattle.vcm_marks.specs.declared.mark.Contact.{Contact}
 use Rattle.vcm_marks.specs.declared.mark.Going.{Going}
 use Rattle.vcm_marks.specs.declared.mark.Going.TheVariants.{Move, Approach, Search, Retract, Rest}
-use Rattle.vcm_marks.specs.declared.mark.Piece.{Piece}
-use Rattle.vcm_marks.specs.declared.mark.Placed.{Placed}
+use Rattle.vcm_marks.specs.declared.mark.Leg.{Leg}
+use Rattle.vcm_marks.specs.declared.mark.PlacedMark.{PlacedMark}
 use Rattle.vcm_svg.specs.Pieces.{joined, point_text}
 use Rattle.vcm_svg.specs.Shapes.{path, told, text}
 use Rattle.vcm_picture.specs.declared.shapes.Shape.{Shape}
@@ -18,7 +18,7 @@ use Rattle.vcm_picture.specs.declared.shapes.Words.{Words}
 use Rattle.vcm_picture.specs.declared.shapes.Words.TheVariants as words
 
 -- the step of a mark
-abbrev pub step_of : Placed → Step
+abbrev pub step_of : PlacedMark → Step
 step_of m = record { step = m.step; number = m.number; line = m.line }
 
 -- the step, the statement and the source line of a mark, before other texts
@@ -35,7 +35,7 @@ going_text Retract = codes "retract "
 going_text Rest = codes "not reached "
 
 -- the tooltip of a piece that is called this
-abbrev pub piece_tip : Step → List ℕ → Piece → List ℕ
+abbrev pub piece_tip : Step → List ℕ → Leg → List ℕ
 piece_tip s going p = step_tip s (going ∷ point_text p.from ∷ codes " to " ∷ point_text p.aim ∷ [])
 
 -- the tooltip of a touched point of the feature with this name
@@ -50,7 +50,7 @@ contact_tip stopped c = joined (stopped ∷ codes ", of the way " ∷ point_text
 abbrev pub tip_text : List (List ℕ) → List ℕ → Tip → List ℕ
 tip_text features stopped (tip.Block n b) =
     joined (codes "block " ∷ decimal n ∷ codes ": " ∷ point_text b.low ∷ codes " to " ∷ point_text b.high ∷ [])
-tip_text features stopped (tip.Piece s p) = piece_tip s (going_text p.going) p
+tip_text features stopped (tip.Leg s p) = piece_tip s (going_text p.going) p
 tip_text features stopped (tip.Touched s t) = touched_tip s (name_at features t.feature) t.at
 tip_text features stopped (tip.Limits low high) = joined (codes "limits: " ∷ point_text low ∷ codes " to " ∷ point_text high ∷ [])
 tip_text features stopped (tip.Home p) = joined (codes "home: " ∷ point_text p ∷ [])

@@ -10,8 +10,8 @@ use Rattle.vcm_marks.specs.declared.mark.Going.{Going}
 use Rattle.vcm_marks.specs.declared.mark.Going.TheVariants.{Move, Approach, Search, Retract, Rest}
 use Rattle.vcm_marks.specs.declared.mark.Mark.{Mark}
 use Rattle.vcm_marks.specs.declared.mark.Mark.TheVariants.{Goes, Touches, Meets}
-use Rattle.vcm_marks.specs.declared.mark.Piece.{Piece}
-use Rattle.vcm_marks.specs.declared.mark.Placed.{Placed}
+use Rattle.vcm_marks.specs.declared.mark.Leg.{Leg}
+use Rattle.vcm_marks.specs.declared.mark.PlacedMark.{PlacedMark}
 use Rattle.vcm_marks.specs.declared.mark.Touched.{Touched}
 use Rattle.vcm_svg.specs.declared.outlines.Outline.TheVariants as outline
 use Rattle.vcm_svg.specs.declared.rect.Rect.{Rect}
@@ -37,32 +37,32 @@ class_of Retract a b is_few = class.Retract
 class_of Rest a b is_few = class.Rest
 
 -- a piece: a line between its ends
-abbrev pub piece_shape : Scope → Bool → Placed → Piece → Shape
+abbrev pub piece_shape : Scope → Bool → PlacedMark → Leg → Shape
 piece_shape s is_few m p =
-    Told (class_of p.going (spot_of s p.from) (spot_of s p.to) is_few) (outline.Line (spot_of s p.from) (spot_of s p.to)) (tip.Piece (step_of m) p)
+    Told (class_of p.going (spot_of s p.from) (spot_of s p.to) is_few) (outline.Line (spot_of s p.from) (spot_of s p.to)) (tip.Leg (step_of m) p)
 
 -- the piece of a mark
-abbrev pub mark_piece : Scope → Bool → Placed → Mark → Option Shape
+abbrev pub mark_piece : Scope → Bool → PlacedMark → Mark → Option Shape
 mark_piece s is_few m (Goes p) = Some (piece_shape s is_few m p)
 mark_piece s is_few m (Touches t) = None
 mark_piece s is_few m (Meets c) = None
 
 -- all pieces
-abbrev pub pieces : Scope → Bool → List Placed → List Shape
+abbrev pub pieces : Scope → Bool → List PlacedMark → List Shape
 pieces s is_few marks = flat_map (λ m. option_to_list (mark_piece s is_few m m.mark)) marks
 
 -- a touched point: a circle of three units round it
-abbrev pub touched_shape : Scope → Placed → Touched → Shape
+abbrev pub touched_shape : Scope → PlacedMark → Touched → Shape
 touched_shape s m t = Told class.Touched (circle (spot_of s t.at) (pos 3 *ℤ s.unit)) (tip.Touched (step_of m) t)
 
 -- the touched point of a mark
-abbrev pub mark_touched : Scope → Placed → Mark → Option Shape
+abbrev pub mark_touched : Scope → PlacedMark → Mark → Option Shape
 mark_touched s m (Goes p) = None
 mark_touched s m (Touches t) = Some (touched_shape s m t)
 mark_touched s m (Meets c) = None
 
 -- all touched points
-abbrev pub touched_points : Scope → List Placed → List Shape
+abbrev pub touched_points : Scope → List PlacedMark → List Shape
 touched_points s marks = flat_map (λ m. option_to_list (mark_touched s m m.mark)) marks
 
 -- what is seen of the limits in a view, with a little more on each side
@@ -120,7 +120,7 @@ ends s bounds position contact =
     ∷ contact_shape s contact ∷ []
 
 -- the way in a view, with these limits and this position at the end
-abbrev pub way_shapes : Scope → Bounds → Point → List Placed → List Shape
+abbrev pub way_shapes : Scope → Bounds → Point → List PlacedMark → List Shape
 way_shapes s bounds position marks =
     option_to_list (limits_shape s bounds.low bounds.high)
     ++ (pieces s (are_few marks) marks

@@ -15,21 +15,21 @@ use crate::view::{Scope, View, clip, title};
 use crate::way::push_way;
 use std::alloc::Global;
 use vcm_items::Name;
-use vcm_marks::{Contact, Placed};
+use vcm_marks::{Contact, PlacedMark};
 use vcm_num::{NoMemory, Point};
 use vcm_part::PartData;
 use vcm_spec::{Block3, Bounds};
 use vcm_state::World;
 use vcm_svg::{
-    Class, Label, Lettering, Outline, Piece, Place, Rect, Spot, TextBox, Unit, put, put_path,
-    put_text,
+    BoundedSpot, Class, Fragment, Lettering, Outline, Placement, Rect, Spot, TextBox, Unit, put,
+    put_path, put_text,
 };
 
 // Where a name stands in its box.
-fn name_label(area: TextBox, unit: Unit) -> Label
+fn name_label(area: TextBox, unit: Unit) -> Placement
     ensures { result ≡ name_label area unit }
 {
-    Label {
+    Placement {
         at: area.first_letter(unit.times(8)),
         size: unit.get(),
         class: Lettering::Name,
@@ -89,7 +89,7 @@ fn names_beside(
     alloc: Global,
     scope: Scope,
     features: &[Name],
-    marks: &[Placed],
+    marks: &[PlacedMark],
     taken: &mut Vec<Rect>,
 ) -> Result<Vec<Named>, NoMemory>
     ensures { IfOk result (λ named. named.items ≡ names_beside scope features.now marks.now taken.old.items) }
@@ -107,7 +107,7 @@ fn push_names(
     home: Point,
     features: &[Name],
     position: Point,
-    marks: &[Placed],
+    marks: &[PlacedMark],
     all: &[Seen],
 ) -> Result<(), NoMemory>
     ensures { OnOk result (shapes.new.items ≡ shapes.old.items ++ names_shapes scope home features.now position marks.now all.now) }
@@ -129,7 +129,7 @@ fn view_shapes(
     bounds: Bounds,
     features: &[Name],
     position: Point,
-    marks: &[Placed],
+    marks: &[PlacedMark],
 ) -> Result<Vec<Shape>, NoMemory>
     requires few { length blocks.now ≤ 4096 }
     requires blocks { IsTrue (list_all is_block blocks.now) }
@@ -155,10 +155,10 @@ fn view_shapes(
 }
 
 // Where the title of a view stands, at a place of the picture.
-fn title_label(at: Place, unit: Unit) -> Label
+fn title_label(at: BoundedSpot, unit: Unit) -> Placement
     ensures { result ≡ title_label at unit }
 {
-    Label {
+    Placement {
         at: at.site().up_by(unit.times(6)),
         size: unit.get(),
         class: Lettering::Plain,
@@ -166,20 +166,20 @@ fn title_label(at: Place, unit: Unit) -> Label
 }
 
 // Appends the beginning of the group of a view at a place of the picture.
-fn begin_group(out: &mut Vec<u8>, view: View, at: Place) -> Result<(), NoMemory>
+fn begin_group(out: &mut Vec<u8>, view: View, at: BoundedSpot) -> Result<(), NoMemory>
     ensures { OnOk result (out.new.items ≡ out.old.items ++ group_text view at) }
 {
     let Spot { x, y } = at.spot();
     put(
         out,
         &[
-            Piece::Text(b"<g transform=\"matrix(1 0 0 1 "),
-            Piece::Number(x),
-            Piece::Text(b" "),
-            Piece::Number(y),
-            Piece::Text(b")\" clip-path=\"url(#v"),
-            Piece::Text(clip(view)),
-            Piece::Text(b")\">\n"),
+            Fragment::Text(b"<g transform=\"matrix(1 0 0 1 "),
+            Fragment::Number(x),
+            Fragment::Text(b" "),
+            Fragment::Number(y),
+            Fragment::Text(b")\" clip-path=\"url(#v"),
+            Fragment::Text(clip(view)),
+            Fragment::Text(b")\">\n"),
         ],
     )
 }
@@ -193,13 +193,13 @@ pub(crate) fn frame_of(scope: Scope) -> Outline
 }
 
 /// Appends the title of a view, begins its group and draws its frame, at a place of the picture.
-pub fn begin_view(out: &mut Vec<u8>, scope: Scope, at: Place) -> Result<(), NoMemory>
+pub fn begin_view(out: &mut Vec<u8>, scope: Scope, at: BoundedSpot) -> Result<(), NoMemory>
     ensures { OnOk result (out.new.items ≡ out.old.items ++ view_front scope at) }
 {
     put_text(
         out,
         title_label(at, scope.unit()),
-        &[Piece::Text(title(scope.view()))],
+        &[Fragment::Text(title(scope.view()))],
     )?;
     begin_group(out, scope.view(), at)?;
     put_path(out, Class::Frame, frame_of(scope))
@@ -211,7 +211,7 @@ pub fn scene_shapes(
     scope: Scope,
     part: &PartData,
     world: &World,
-    marks: &[Placed],
+    marks: &[PlacedMark],
 ) -> Result<Vec<Shape>, NoMemory>
     ensures { IfOk result (λ shapes. shapes.items ≡ scene_shapes scope (scene part.now world.now []) marks.now) }
 {
@@ -235,11 +235,11 @@ pub(crate) fn put_view(
     alloc: Global,
     out: &mut Vec<u8>,
     scope: Scope,
-    at: Place,
+    at: BoundedSpot,
     part: &PartData,
     world: &World,
     stopped: &[u8],
-    marks: &[Placed],
+    marks: &[PlacedMark],
 ) -> Result<(), NoMemory>
     ensures { OnOk result (out.new.items ≡ out.old.items ++ view_text scope at (scene part.now world.now stopped.now) marks.now) }
 {
@@ -247,5 +247,5 @@ pub(crate) fn put_view(
     let shapes = scene_shapes(alloc, scope, part, world, marks)?;
     begin_view(out, scope, at)?;
     put_shapes(out, features, stopped, shapes.as_slice())?;
-    put(out, &[Piece::Text(b"</g>\n")])
+    put(out, &[Fragment::Text(b"</g>\n")])
 }

@@ -7,7 +7,7 @@ use std::alloc::Global;
 use vcm_num::NoMemory;
 use vcm_report::write_stop_line;
 use vcm_spec::StopPlace;
-use vcm_svg::{Piece, put};
+use vcm_svg::{Fragment, put};
 use vcm_tables::Tables;
 
 // The line of a stop, without its end.
@@ -30,9 +30,9 @@ fn step_words(alloc: Global, done: u64) -> Result<Vec<u8>, NoMemory>
     put(
         &mut line,
         &[
-            Piece::Text(b"no stop after "),
-            Piece::Count(done),
-            Piece::Text(b" steps"),
+            Fragment::Text(b"no stop after "),
+            Fragment::Count(done),
+            Fragment::Text(b" steps"),
         ],
     )?;
     Ok(line)

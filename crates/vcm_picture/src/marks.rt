@@ -4,7 +4,7 @@ ghost use Rattle.std.specs.Prelude.{◌≡◌, ◌≤◌};
 ghost use Rattle.vcm_marks.specs.Pieces.{counted, is_piece};
 ghost use Rattle.vcm_picture.specs.Marks.{are_few, contact_of};
 
-use vcm_marks::{Contact, Mark, Placed};
+use vcm_marks::{Contact, Mark, PlacedMark};
 
 /// The most pieces of a picture with arrows.
 const FEW_PIECES: u64 = 500;
@@ -23,7 +23,7 @@ fn pieces_in(mark: &Mark) -> u64
 
 /// Whether pieces are few enough for arrows.
 #[tactic(auto, using(crate::proofs::Counting::counted_more))]
-pub fn are_few(marks: &[Placed]) -> bool
+pub fn are_few(marks: &[PlacedMark]) -> bool
     ensures { result ≡ are_few marks.now }
 {
     let mut count = 0;
@@ -34,7 +34,7 @@ pub fn are_few(marks: &[Placed]) -> bool
 }
 
 /// The contact of a way, if there is one.
-pub fn contact_of(marks: &[Placed]) -> Option<Contact>
+pub fn contact_of(marks: &[PlacedMark]) -> Option<Contact>
     ensures { result ≡ contact_of marks.now }
 {
     for placed in marks {

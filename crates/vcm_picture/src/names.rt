@@ -12,14 +12,14 @@ use crate::shown::{Seen, Shown};
 use crate::view::{Scope, spot_of};
 use crate::whole::{letters_wide, text_box};
 use vcm_items::Name;
-use vcm_marks::{Contact, Mark, Placed, Touched};
+use vcm_marks::{Contact, Mark, PlacedMark, Touched};
 use vcm_num::{NoMemory, Point, int_text};
-use vcm_svg::{Length, Place, Rect, Spot, TextBox, Unit, meets};
+use vcm_svg::{BoundedSpot, Length, Rect, Spot, TextBox, Unit, meets};
 
 /// The name of a feature that found room: its place, its box and its feature's index.
 #[derive(Clone, Copy)]
 pub struct Named {
-    pub at: Place,
+    pub at: BoundedSpot,
     pub area: TextBox,
     pub feature: u16,
 }
@@ -65,7 +65,7 @@ fn is_free(area: Rect, scope: Scope, taken: &[Rect]) -> bool
 }
 
 // The boxes beside a place for a text of that width, in the order in which they are tried.
-fn sides(at: Place, unit: Unit, wide: Length) -> [TextBox; 4]
+fn sides(at: BoundedSpot, unit: Unit, wide: Length) -> [TextBox; 4]
     ensures { result ≡ sides at unit wide }
 {
     let Spot { x, y } = at.spot();
@@ -94,7 +94,7 @@ fn first_free(scope: Scope, boxes: &[TextBox], taken: &[Rect]) -> Option<TextBox
 }
 
 // The first box beside a place where a text of so many letters finds room.
-fn beside(scope: Scope, at: Place, letters: i64, taken: &[Rect]) -> Option<TextBox>
+fn beside(scope: Scope, at: BoundedSpot, letters: i64, taken: &[Rect]) -> Option<TextBox>
     requires { IsLetters letters }
     ensures { result ≡ beside scope at letters taken.now }
 {
@@ -104,7 +104,7 @@ fn beside(scope: Scope, at: Place, letters: i64, taken: &[Rect]) -> Option<TextB
 
 /// The first of four boxes beside a place where a text of so many letters lies in the width of a view and meets nothing that is taken: right above,
 /// right below, left above, left below.
-pub fn label_beside(scope: Scope, at: Place, letters: i64, taken: &[Rect]) -> Option<TextBox>
+pub fn label_beside(scope: Scope, at: BoundedSpot, letters: i64, taken: &[Rect]) -> Option<TextBox>
     requires { IsLetters letters }
     ensures { result ≡ beside scope at letters taken.now }
 {
@@ -219,14 +219,14 @@ fn is_one(a: Spot, b: Spot) -> bool
 }
 
 // Whether a name is that of a feature which stands at a place.
-fn is_same_name(features: &[Name], other: &Named, at: Place, name: &[u8]) -> bool
+fn is_same_name(features: &[Name], other: &Named, at: BoundedSpot, name: &[u8]) -> bool
     ensures { result ≡ is_same_name features.now other.now at name.now }
 {
     is_one(other.at.spot(), at.spot()) && name_at(features, other.feature) == name
 }
 
 // Whether the same name stands at the place.
-fn is_named(features: &[Name], named: &[Named], at: Place, name: &[u8]) -> bool
+fn is_named(features: &[Name], named: &[Named], at: BoundedSpot, name: &[u8]) -> bool
     ensures { result ≡ is_named features.now named.now at name.now }
 {
     named
@@ -238,7 +238,7 @@ fn is_named(features: &[Name], named: &[Named], at: Place, name: &[u8]) -> bool
 fn feature_box(
     scope: Scope,
     features: &[Name],
-    at: Place,
+    at: BoundedSpot,
     feature: u16,
     taken: &[Rect],
     named: &[Named],
@@ -302,7 +302,7 @@ fn name_mark(
 pub(crate) fn feature_names(
     scope: Scope,
     features: &[Name],
-    marks: &[Placed],
+    marks: &[PlacedMark],
     taken: &mut Vec<Rect>,
     named: &mut Vec<Named>,
 ) -> Result<(), NoMemory>

@@ -21,14 +21,14 @@ use crate::window::{Window, window_of};
 use std::alloc::Global;
 use std::io::Write;
 use std::marker::Model;
-use vcm_marks::Placed;
+use vcm_marks::PlacedMark;
 use vcm_num::{NoMemory, Point, write_all};
 use vcm_part::PartData;
 use vcm_spec::Block3;
 use vcm_state::World;
 use vcm_svg::{
-    Class, Outline, Piece, Place, Spot, Unit, put, put_bar, put_heading, put_legend, put_outline,
-    put_path, put_style, quotient,
+    BoundedSpot, Class, Fragment, Outline, Spot, Unit, put, put_bar, put_heading, put_legend,
+    put_outline, put_path, put_style, quotient,
 };
 
 /// Why a picture isn't written.
@@ -137,17 +137,17 @@ fn put_head(out: &mut Vec<u8>, layout: Layout, unit: Unit, first: &[u8]) -> Resu
     put(
         out,
         &[
-            Piece::Text(b"<svg xmlns=\"http://www.w3.org/2000/svg\" viewBox=\"0 0 "),
-            Piece::Number(layout.wide),
-            Piece::Text(b" "),
-            Piece::Number(layout.high),
-            Piece::Text(b"\" width=\""),
-            Piece::Number(quotient(layout.wide, unit)),
-            Piece::Text(b"\" height=\""),
-            Piece::Number(quotient(layout.high, unit)),
-            Piece::Text(b"\">\n<title>"),
-            Piece::Text(first),
-            Piece::Text(b"</title>\n"),
+            Fragment::Text(b"<svg xmlns=\"http://www.w3.org/2000/svg\" viewBox=\"0 0 "),
+            Fragment::Number(layout.wide),
+            Fragment::Text(b" "),
+            Fragment::Number(layout.high),
+            Fragment::Text(b"\" width=\""),
+            Fragment::Number(quotient(layout.wide, unit)),
+            Fragment::Text(b"\" height=\""),
+            Fragment::Number(quotient(layout.high, unit)),
+            Fragment::Text(b"\">\n<title>"),
+            Fragment::Text(first),
+            Fragment::Text(b"</title>\n"),
         ],
     )
 }
@@ -160,13 +160,13 @@ fn put_clip(out: &mut Vec<u8>, view: View, window: Window) -> Result<(), NoMemor
     put(
         out,
         &[
-            Piece::Text(b"<clipPath id=\"v"),
-            Piece::Text(clip(view)),
-            Piece::Text(b"\"><path d=\""),
+            Fragment::Text(b"<clipPath id=\"v"),
+            Fragment::Text(clip(view)),
+            Fragment::Text(b"\"><path d=\""),
         ],
     )?;
     put_outline(out, frame_of(scope))?;
-    put(out, &[Piece::Text(b"\"/></clipPath>\n")])
+    put(out, &[Fragment::Text(b"\"/></clipPath>\n")])
 }
 
 /// Appends the clip paths of some views.
@@ -194,7 +194,7 @@ fn window_for(
     home: Point,
     position: Point,
     blocks: &[Block3],
-    marks: &[Placed],
+    marks: &[PlacedMark],
 ) -> Window
     requires blocks { IsTrue (list_all is_block blocks.now) }
     ensures { result ≡ window_for is_close home position blocks.now marks.now }
@@ -207,7 +207,7 @@ fn window_for(
 }
 
 // The window of a picture.
-fn window_round(part: &PartData, world: &World, marks: &[Placed], is_close: bool) -> Window
+fn window_round(part: &PartData, world: &World, marks: &[PlacedMark], is_close: bool) -> Window
     ensures { result ≡ window_round part.now world.now marks.now is_close }
 {
     window_for(
@@ -220,23 +220,23 @@ fn window_round(part: &PartData, world: &World, marks: &[Placed], is_close: bool
 }
 
 /// The window of a picture: of home, the position at the end, the blocks and the pieces, or, of a close one, of the blocks alone.
-pub fn window_shown(part: &PartData, world: &World, marks: &[Placed], is_close: bool) -> Window
+pub fn window_shown(part: &PartData, world: &World, marks: &[PlacedMark], is_close: bool) -> Window
     ensures { result ≡ window_round part.now world.now marks.now is_close }
 {
     window_round(part, world, marks, is_close)
 }
 
 // A place of small numbers.
-fn corner(x: i64, y: i64) -> Place
+fn corner(x: i64, y: i64) -> BoundedSpot
     requires x { IsSmall x }
     requires y { IsSmall y }
     ensures { result ≡ spot x y }
 {
-    Place::new(Spot { x, y })
+    BoundedSpot::new(Spot { x, y })
 }
 
 // Where a view stands.
-fn view_spot(layout: Layout, view: View) -> Place
+fn view_spot(layout: Layout, view: View) -> BoundedSpot
     ensures { result ≡ view_spot layout view }
 {
     match view {
@@ -256,7 +256,7 @@ fn put_view_at(
     part: &PartData,
     world: &World,
     stopped: &[u8],
-    marks: &[Placed],
+    marks: &[PlacedMark],
 ) -> Result<(), NoMemory>
     ensures { OnOk result (out.new.items ≡ out.old.items ++ view_text (scope_of window view) (view_spot layout view) (scene part.now world.now stopped.now) marks.now) }
 {
@@ -275,7 +275,7 @@ fn put_views(
     part: &PartData,
     world: &World,
     stopped: &[u8],
-    marks: &[Placed],
+    marks: &[PlacedMark],
 ) -> Result<(), NoMemory>
     ensures { OnOk result (out.new.items ≡ out.old.items ++ views_text window layout (scene part.now world.now stopped.now) marks.now views.now) }
 {
@@ -288,14 +288,14 @@ fn put_views(
 }
 
 // Where the legend stands.
-fn legend_spot(layout: Layout, unit: Unit) -> Place
+fn legend_spot(layout: Layout, unit: Unit) -> BoundedSpot
     ensures { result ≡ legend_spot layout unit }
 {
     corner(layout.side, layout.top + 8 * unit.get())
 }
 
 // Where the bar stands.
-fn bar_place(layout: Layout, unit: Unit) -> Place
+fn bar_place(layout: Layout, unit: Unit) -> BoundedSpot
     ensures { result ≡ bar_place layout unit }
 {
     corner(layout.left, layout.high - 28 * unit.get())
@@ -314,7 +314,7 @@ fn put_foot(out: &mut Vec<u8>, window: Window, layout: Layout) -> Result<(), NoM
         window.grain(),
         units(window, 0),
     )?;
-    put(out, &[Piece::Text(b"</svg>\n")])
+    put(out, &[Fragment::Text(b"</svg>\n")])
 }
 
 // How many units the top view stands below the upper edge.
@@ -332,7 +332,7 @@ fn put_picture(
     part: &PartData,
     world: &World,
     done: u64,
-    marks: &[Placed],
+    marks: &[PlacedMark],
     left_out: u64,
     window: Window,
     layout: Layout,
@@ -357,7 +357,7 @@ fn picture(
     part: &PartData,
     world: &World,
     done: u64,
-    marks: &[Placed],
+    marks: &[PlacedMark],
     left_out: u64,
     is_close: bool,
 ) -> Result<Vec<u8>, NoMemory>
@@ -405,7 +405,7 @@ pub fn write_picture<W: Write>(
     part: &PartData,
     world: &World,
     done: u64,
-    marks: &[Placed],
+    marks: &[PlacedMark],
     left_out: u64,
     is_close: bool,
     writer: &mut W,

@@ -7,10 +7,10 @@ ghost use Rattle.vcm_picture.specs.Shapes.{step_of, going_text, piece_tip, touch
 
 use crate::names::name_at;
 use vcm_items::Name;
-use vcm_marks::{Contact, Going, Piece, Placed, Touched};
+use vcm_marks::{Contact, Going, Leg, PlacedMark, Touched};
 use vcm_num::{NoMemory, Point};
 use vcm_spec::Block3;
-use vcm_svg::{Class, Label, Outline, Piece as Part, put_path, put_text, put_told};
+use vcm_svg::{Class, Fragment, Outline, Placement, put_path, put_text, put_told};
 
 /// A step of the run, and the number and the source line of its statement.
 #[derive(Clone, Copy)]
@@ -26,7 +26,7 @@ pub enum Tip {
     /// A block: its number and its corners.
     Block(u32, Block3),
     /// A piece of the way, of a step.
-    Piece(Step, Piece),
+    Leg(Step, Leg),
     /// A point that was touched in a step.
     Touched(Step, Touched),
     /// The limits: their corners.
@@ -58,11 +58,11 @@ pub enum Shape {
     Path(Class, Outline),
     /// A path with a tooltip.
     Told(Class, Outline, Tip),
-    Text(Label, Words),
+    Text(Placement, Words),
 }
 
 /// The step of a mark.
-pub fn step_of(placed: &Placed) -> Step
+pub fn step_of(placed: &PlacedMark) -> Step
     ensures { result ≡ step_of placed.now }
 {
     Step {
@@ -112,7 +112,7 @@ fn put_piece(
     outline: Outline,
     step: Step,
     going: &[u8],
-    piece: Piece,
+    piece: Leg,
 ) -> Result<(), NoMemory>
     ensures { OnOk result (out.new.items ≡ out.old.items ++ told class outline (piece_tip step going.now piece)) }
 {
@@ -121,17 +121,17 @@ fn put_piece(
         class,
         outline,
         &[
-            Part::Text(b"step "),
-            Part::Count(step.step),
-            Part::Text(b" statement "),
-            Part::Count(u64::from(step.number)),
-            Part::Text(b" line "),
-            Part::Count(u64::from(step.line)),
-            Part::Text(b": "),
-            Part::Text(going),
-            Part::At(piece.from),
-            Part::Text(b" to "),
-            Part::At(piece.aim),
+            Fragment::Text(b"step "),
+            Fragment::Count(step.step),
+            Fragment::Text(b" statement "),
+            Fragment::Count(u64::from(step.number)),
+            Fragment::Text(b" line "),
+            Fragment::Count(u64::from(step.line)),
+            Fragment::Text(b": "),
+            Fragment::Text(going),
+            Fragment::At(piece.from),
+            Fragment::Text(b" to "),
+            Fragment::At(piece.aim),
         ],
     )
 }
@@ -152,16 +152,16 @@ fn put_touched(
         class,
         outline,
         &[
-            Part::Text(b"step "),
-            Part::Count(step.step),
-            Part::Text(b" statement "),
-            Part::Count(u64::from(step.number)),
-            Part::Text(b" line "),
-            Part::Count(u64::from(step.line)),
-            Part::Text(b": "),
-            Part::Text(name),
-            Part::Text(b" touched at "),
-            Part::At(at),
+            Fragment::Text(b"step "),
+            Fragment::Count(step.step),
+            Fragment::Text(b" statement "),
+            Fragment::Count(u64::from(step.number)),
+            Fragment::Text(b" line "),
+            Fragment::Count(u64::from(step.line)),
+            Fragment::Text(b": "),
+            Fragment::Text(name),
+            Fragment::Text(b" touched at "),
+            Fragment::At(at),
         ],
     )
 }
@@ -181,11 +181,11 @@ fn put_contact(
         class,
         outline,
         &[
-            Part::Text(stopped),
-            Part::Text(b", of the way "),
-            Part::At(contact.from),
-            Part::Text(b" to "),
-            Part::At(contact.aim),
+            Fragment::Text(stopped),
+            Fragment::Text(b", of the way "),
+            Fragment::At(contact.from),
+            Fragment::Text(b" to "),
+            Fragment::At(contact.aim),
         ],
     )
 }
@@ -207,15 +207,15 @@ fn put_tip(
             class,
             outline,
             &[
-                Part::Text(b"block "),
-                Part::Count(u64::from(number)),
-                Part::Text(b": "),
-                Part::At(block.low),
-                Part::Text(b" to "),
-                Part::At(block.high),
+                Fragment::Text(b"block "),
+                Fragment::Count(u64::from(number)),
+                Fragment::Text(b": "),
+                Fragment::At(block.low),
+                Fragment::Text(b" to "),
+                Fragment::At(block.high),
             ],
         ),
-        Tip::Piece(step, piece) => {
+        Tip::Leg(step, piece) => {
             put_piece(out, class, outline, step, going_text(piece.going), piece)
         }
         Tip::Touched(step, touched) => {
@@ -227,20 +227,35 @@ fn put_tip(
             class,
             outline,
             &[
-                Part::Text(b"limits: "),
-                Part::At(low),
-                Part::Text(b" to "),
-                Part::At(high),
+                Fragment::Text(b"limits: "),
+                Fragment::At(low),
+                Fragment::Text(b" to "),
+                Fragment::At(high),
             ],
         ),
-        Tip::Home(at) => put_told(out, class, outline, &[Part::Text(b"home: "), Part::At(at)]),
-        Tip::End(at) => put_told(out, class, outline, &[Part::Text(b"end: "), Part::At(at)]),
-        Tip::TipAtEnd => put_told(out, class, outline, &[Part::Text(b"the tip at the end")]),
+        Tip::Home(at) => put_told(
+            out,
+            class,
+            outline,
+            &[Fragment::Text(b"home: "), Fragment::At(at)],
+        ),
+        Tip::End(at) => put_told(
+            out,
+            class,
+            outline,
+            &[Fragment::Text(b"end: "), Fragment::At(at)],
+        ),
+        Tip::TipAtEnd => put_told(
+            out,
+            class,
+            outline,
+            &[Fragment::Text(b"the tip at the end")],
+        ),
         Tip::TipAtContact => put_told(
             out,
             class,
             outline,
-            &[Part::Text(b"the tip at the contact")],
+            &[Fragment::Text(b"the tip at the contact")],
         ),
         Tip::Contact(contact) => put_contact(out, class, outline, stopped, contact),
     }
@@ -250,22 +265,25 @@ fn put_tip(
 fn put_words(
     out: &mut Vec<u8>,
     features: &[Name],
-    label: Label,
+    label: Placement,
     words: Words,
 ) -> Result<(), NoMemory>
     ensures { OnOk result (out.new.items ≡ out.old.items ++ text label (words_text features.now words)) }
 {
     match words {
-        Words::Number(number) => put_text(out, label, &[Part::Count(u64::from(number))]),
+        Words::Number(number) => put_text(out, label, &[Fragment::Count(u64::from(number))]),
         Words::Block(number) => put_text(
             out,
             label,
-            &[Part::Text(b"block "), Part::Count(u64::from(number))],
+            &[
+                Fragment::Text(b"block "),
+                Fragment::Count(u64::from(number)),
+            ],
         ),
-        Words::End => put_text(out, label, &[Part::Text(b"end")]),
-        Words::Home => put_text(out, label, &[Part::Text(b"home")]),
+        Words::End => put_text(out, label, &[Fragment::Text(b"end")]),
+        Words::Home => put_text(out, label, &[Fragment::Text(b"home")]),
         Words::Feature(feature) => {
-            put_text(out, label, &[Part::Text(name_at(features, feature))])
+            put_text(out, label, &[Fragment::Text(name_at(features, feature))])
         }
     }
 }

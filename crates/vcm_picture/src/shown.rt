@@ -12,7 +12,7 @@ use std::alloc::Global;
 use vcm_num::{NoMemory, int_text};
 use vcm_spec::Block3;
 use vcm_svg::{
-    Area, Label, Length, Lettering, Rect, TextBox, Unit, contains, is_same, meets, quotient,
+    Area, Length, Lettering, Placement, Rect, TextBox, Unit, contains, is_same, meets, quotient,
 };
 
 /// A block in a view: its number, its corners, its rectangle, and how near it is.
@@ -28,7 +28,7 @@ pub struct Face {
 #[derive(Clone, Copy)]
 pub struct Figure {
     pub area: Rect,
-    pub label: Label,
+    pub label: Placement,
 }
 
 /// How a view shows a block.
@@ -161,7 +161,7 @@ fn figure_at(area: TextBox, size: Unit) -> Figure
 {
     Figure {
         area: area.rect(),
-        label: Label {
+        label: Placement {
             at: area.first_letter(size.times(8)),
             size: size.get(),
             class: Lettering::Number,

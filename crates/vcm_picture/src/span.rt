@@ -9,7 +9,7 @@ ghost use Rattle.vcm_picture.specs.Window.{size};
 
 use crate::drawn::drawn_at;
 use std::marker::Model;
-use vcm_marks::{Mark, Placed};
+use vcm_marks::{Mark, PlacedMark};
 use vcm_num::Point;
 use vcm_spec::Block3;
 
@@ -110,7 +110,7 @@ fn over_mark(span: Span, axis: usize, mark: &Mark) -> Span
 }
 
 // With both ends of all pieces.
-fn over_marks(span: Span, axis: usize, marks: &[Placed]) -> Span
+fn over_marks(span: Span, axis: usize, marks: &[PlacedMark]) -> Span
     requires axis { axis < 3 }
     ensures { result ≡ over_marks axis span marks.now }
 {
@@ -148,7 +148,7 @@ fn span_of_all(
     home: Point,
     position: Point,
     blocks: &[Block3],
-    marks: &[Placed],
+    marks: &[PlacedMark],
 ) -> Span
     requires axis { axis < 3 }
     requires blocks { IsTrue (list_all is_block blocks.now) }
@@ -166,7 +166,7 @@ pub(crate) fn span_of(
     home: Point,
     position: Point,
     blocks: &[Block3],
-    marks: &[Placed],
+    marks: &[PlacedMark],
 ) -> Span
     requires axis { axis < 3 }
     requires blocks { IsTrue (list_all is_block blocks.now) }

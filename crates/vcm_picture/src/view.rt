@@ -13,7 +13,7 @@ use crate::window::Window;
 use std::marker::Model;
 use vcm_num::Point;
 use vcm_spec::Block3;
-use vcm_svg::{Area, Length, Place, Rect, Spot, Unit, quotient};
+use vcm_svg::{Area, BoundedSpot, Length, Rect, Spot, Unit, quotient};
 
 /// A view: from above, from the front, from the right.
 #[derive(Clone, Copy)]
@@ -180,20 +180,20 @@ fn offset(number: i64, from: i64, grain: Unit) -> i64
 }
 
 // Where a near point stands in a view.
-fn near_spot(scope: Scope, at: Point) -> Place
+fn near_spot(scope: Scope, at: Point) -> BoundedSpot
     requires { IsTrue (is_near at) }
     ensures { result ≡ near_spot scope at }
 {
     let x = at.0[right_axis(scope.view)];
     let y = at.0[up_axis(scope.view)];
-    Place::new(Spot {
+    BoundedSpot::new(Spot {
         x: offset(x, scope.left, scope.grain),
         y: offset(scope.top, y, scope.grain),
     })
 }
 
 /// Where a point stands in a view, in units of the picture from its upper left corner.
-pub fn spot_of(scope: Scope, at: Point) -> Place
+pub fn spot_of(scope: Scope, at: Point) -> BoundedSpot
     ensures { result ≡ spot_of scope at }
 {
     near_spot(scope, drawn_at(at))

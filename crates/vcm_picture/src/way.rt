@@ -7,7 +7,7 @@ ghost use Rattle.vcm_picture.specs.Way.{class_of, piece_shape, mark_piece, piece
 use crate::marks::{are_few, contact_of};
 use crate::shapes::{Shape, Tip, push_shape, push_shapes, step_of};
 use crate::view::{Scope, rect_of, spot_of};
-use vcm_marks::{Contact, Going, Mark, Piece, Placed, Touched};
+use vcm_marks::{Contact, Going, Leg, Mark, PlacedMark, Touched};
 use vcm_num::{NoMemory, Point};
 use vcm_spec::Bounds;
 use vcm_svg::{
@@ -39,7 +39,7 @@ fn class_of(going: Going, from: Spot, to: Spot, is_few: bool) -> Class
 }
 
 // A piece.
-fn piece_shape(scope: Scope, is_few: bool, placed: &Placed, piece: &Piece) -> Shape
+fn piece_shape(scope: Scope, is_few: bool, placed: &PlacedMark, piece: &Leg) -> Shape
     ensures { result ≡ piece_shape scope is_few placed.now piece.now }
 {
     let from = spot_of(scope, piece.from).spot();
@@ -47,12 +47,12 @@ fn piece_shape(scope: Scope, is_few: bool, placed: &Placed, piece: &Piece) -> Sh
     Shape::Told(
         class_of(piece.going, from, to, is_few),
         Outline::Line(from, to),
-        Tip::Piece(step_of(placed), *piece),
+        Tip::Leg(step_of(placed), *piece),
     )
 }
 
 // A mark, if it is a piece.
-fn mark_piece(scope: Scope, is_few: bool, placed: &Placed) -> Option<Shape>
+fn mark_piece(scope: Scope, is_few: bool, placed: &PlacedMark) -> Option<Shape>
     ensures { result ≡ mark_piece scope is_few placed.now placed.now.mark }
 {
     match &placed.mark {
@@ -67,7 +67,7 @@ fn push_pieces(
     shapes: &mut Vec<Shape>,
     scope: Scope,
     is_few: bool,
-    marks: &[Placed],
+    marks: &[PlacedMark],
 ) -> Result<(), NoMemory>
     ensures { OnOk result (shapes.new.items ≡ shapes.old.items ++ pieces scope is_few marks.now) }
 {
@@ -78,7 +78,7 @@ fn push_pieces(
 }
 
 // A touched point.
-fn touched_shape(scope: Scope, placed: &Placed, touched: &Touched) -> Shape
+fn touched_shape(scope: Scope, placed: &PlacedMark, touched: &Touched) -> Shape
     ensures { result ≡ touched_shape scope placed.now touched.now }
 {
     Shape::Told(
@@ -89,7 +89,7 @@ fn touched_shape(scope: Scope, placed: &Placed, touched: &Touched) -> Shape
 }
 
 // A mark, if it is a touched point.
-fn mark_touched(scope: Scope, placed: &Placed) -> Option<Shape>
+fn mark_touched(scope: Scope, placed: &PlacedMark) -> Option<Shape>
     ensures { result ≡ mark_touched scope placed.now placed.now.mark }
 {
     match &placed.mark {
@@ -100,7 +100,7 @@ fn mark_touched(scope: Scope, placed: &Placed) -> Option<Shape>
 }
 
 // Appends the touched points.
-fn push_touched(shapes: &mut Vec<Shape>, scope: Scope, marks: &[Placed]) -> Result<(), NoMemory>
+fn push_touched(shapes: &mut Vec<Shape>, scope: Scope, marks: &[PlacedMark]) -> Result<(), NoMemory>
     ensures { OnOk result (shapes.new.items ≡ shapes.old.items ++ touched_points scope marks.now) }
 {
     for placed in marks {
@@ -243,7 +243,7 @@ pub(crate) fn push_way(
     scope: Scope,
     bounds: Bounds,
     position: Point,
-    marks: &[Placed],
+    marks: &[PlacedMark],
 ) -> Result<(), NoMemory>
     ensures { OnOk result (shapes.new.items ≡ shapes.old.items ++ way_shapes scope bounds position marks.now) }
 {

@@ -8,7 +8,7 @@ use Rattle.vcm_spec.specs.Setup.{Variable as Entry}
 use Rattle.vcm_code.specs.declared.branch.Branch.{Branch}
 use Rattle.vcm_code.specs.declared.version.Version.{Version}
 use Rattle.vcm_code.specs.declared.version.Version.TheVariants.{One, Two}
-use Rattle.vcm_code.specs.Code.{Statement}
+use Rattle.vcm_code.specs.Code.{CodeStatement}
 use Rattle.vcm_code.specs.Shape.{Place, Said, Filled, Parted, parted, places, taken_apart, over_places, over_parted, over_operands}
 use Rattle.vcm_code.specs.Shape as at
 use Rattle.vcm_spec.specs.Words.{quarters_number, word_number}
@@ -96,7 +96,7 @@ assoc a b c p e =
     ∙ sym (append_assoc a (b ++ c) (p ++ e))
 
 -- a statement's line is written as it is listed
-pub line_is : (n : ℕ) (s : Statement) → statement_bytes n s ≡ listed (rows.Numbered n s)
+pub line_is : (n : ℕ) (s : CodeStatement) → statement_bytes n s ≡ listed (rows.Numbered n s)
 unfolding listed row_text
 line_is n s =
     let words : List (List ℕ) = decimal s.line ∷ word_text (word_of s.op) ∷ operands s.op in
@@ -126,9 +126,9 @@ unfolding listed row_text
 head_is One = refl
 head_is Two = refl
 
-same_line : (o : Option Statement) (s t : Statement) → o ≡ Some s → o ≡ Some t → s ≡ t
+same_line : (o : Option CodeStatement) (s t : CodeStatement) → o ≡ Some s → o ≡ Some t → s ≡ t
 same_line o s t e f = cc
 
 -- the line that was written is that of the statement at this place
-pub wrote_listed : {A E : Type 0} (a b : Option (List ℕ)) (n : ℕ) (t s : Statement) (r : Result A E) (o : Option Statement) → o ≡ Some t → o ≡ Some s → Wrote a b (statement_bytes n t) r → Wrote a b (listed (rows.Numbered n s)) r
+pub wrote_listed : {A E : Type 0} (a b : Option (List ℕ)) (n : ℕ) (t s : CodeStatement) (r : Result A E) (o : Option CodeStatement) → o ≡ Some t → o ≡ Some s → Wrote a b (statement_bytes n t) r → Wrote a b (listed (rows.Numbered n s)) r
 wrote_listed a b n t s r o e f h = subst (λ l. Wrote a b l r) (ap (λ x. statement_bytes n x) (same_line o t s e f) ∙ line_is n s) h

@@ -2,7 +2,7 @@
 
 ghost use Rattle.std.specs.Prelude.{◌≡◌, ◌<◌, ◌++◌, ◌∷◌, Some, length, slice_get, flat_map, decimal};
 ghost use Rattle.vcm_num.specs.Written.{Wrote};
-ghost use Rattle.vcm_code.specs.Code.{Statement};
+ghost use Rattle.vcm_code.specs.Code.{CodeStatement};
 ghost use Rattle.vcm_fields.specs.Fields.{in_plain};
 ghost use Rattle.vcm_words.specs.declared.row.Row.TheVariants.{Numbered};
 ghost use Rattle.vcm_print.specs.inner.Written.{three_bytes, assigned_bytes, place_bytes, statement_bytes};
@@ -136,7 +136,7 @@ pub fn write_statement<W: Write>(
     writer: &mut W,
 ) -> Result<(), WriteFault>
     requires { n < length loaded.now.statements }
-    ensures { (s : Statement) → slice_get loaded.now.statements n ≡ Some s → Wrote (W.contents writer.old) (W.contents writer.new) (listed (Numbered n s)) result }
+    ensures { (s : CodeStatement) → slice_get loaded.now.statements n ≡ Some s → Wrote (W.contents writer.old) (W.contents writer.new) (listed (Numbered n s)) result }
 {
     let statement = loaded.statement(n);
     write_line(n, &statement, writer)

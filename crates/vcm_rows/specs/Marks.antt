@@ -8,7 +8,7 @@ use Rattle.vcm_marks.specs.declared.mark.Going.{Going}
 use Rattle.vcm_marks.specs.declared.mark.Going.TheVariants.{Move, Approach, Search, Retract, Rest}
 use Rattle.vcm_marks.specs.declared.mark.Mark.{Mark}
 use Rattle.vcm_marks.specs.declared.mark.Mark.TheVariants.{Goes, Touches, Meets}
-use Rattle.vcm_marks.specs.declared.mark.Piece.{Piece}
+use Rattle.vcm_marks.specs.declared.mark.Leg.{Leg}
 use Rattle.vcm_marks.specs.declared.mark.Touched.{Touched}
 use Rattle.vcm_marks.specs.declared.mark.Contact.{Contact}
 use Rattle.vcm_report.specs.Printed.{in_a_row, name_at}
@@ -27,7 +27,7 @@ abbrev pub is_at : Point → Point → Bool
 is_at p q = on_each (λ k. int_eq (coordinate p k) (coordinate q k))
 
 -- a piece: its letter and its end; and its aim, where it ends before that
-abbrev pub piece_row : Piece → List ℕ
+abbrev pub piece_row : Leg → List ℕ
 piece_row piece = if is_at piece.to piece.aim then point_row (going_letters piece.going) piece.to else points_row (going_letters piece.going) piece.to piece.aim
 
 -- a touched point: t, the point and the name of its feature

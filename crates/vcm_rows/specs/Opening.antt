@@ -8,7 +8,7 @@ use Rattle.std.specs.Str.Lines.{lines}
 use Rattle.vcm_forms.specs.Statements.{notice_word}
 use Rattle.vcm_program.specs.declared.accepted.Noticed.{Noticed}
 use Rattle.vcm_code.specs.declared.code.Code.{Code}
-use Rattle.vcm_code.specs.Code.{Statement}
+use Rattle.vcm_code.specs.Code.{CodeStatement}
 use Rattle.vcm_code.specs.Words.{word_of}
 use Rattle.vcm_words.specs.Operands.{word_text}
 use Rattle.vcm_report.specs.Printed.{in_a_row}
@@ -55,7 +55,7 @@ listing_row false tables = []
 -- ---- the code
 
 -- a statement: C, its source line and its word
-abbrev pub statement_row : Option Statement → List ℕ
+abbrev pub statement_row : Option CodeStatement → List ℕ
 statement_row None = []
 statement_row (Some s) = in_a_row (codes "C " ∷ decimal s.line ∷ codes " " ∷ word_text (word_of s.op) ∷ codes "\n" ∷ [])
 

@@ -2,7 +2,7 @@
 
 ghost use Rattle.std.specs.Prelude.{◌≡◌, ◌<◌, ◌∷◌, [], Some, length, slice_get, decimal, codes, flat_map};
 ghost use Rattle.vcm_num.specs.Written.{Wrote};
-ghost use Rattle.vcm_code.specs.Code.{Statement};
+ghost use Rattle.vcm_code.specs.Code.{CodeStatement};
 ghost use Rattle.vcm_rows.specs.Opening.{statement_row, code_rows, notice_row, listing_row};
 
 use crate::rows::{Numbered, Rows, write_numbered, write_rows};

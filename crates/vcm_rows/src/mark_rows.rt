@@ -7,7 +7,7 @@ ghost use Rattle.vcm_rows.specs.Marks.{going_letters, is_at, piece_row, touched_
 use crate::rows::{Rows, write_point_row, write_points_row, write_rows};
 use itoa::Buffer;
 use std::io::Write;
-use vcm_marks::{Contact, Going, Mark, Piece, Touched};
+use vcm_marks::{Contact, Going, Leg, Mark, Touched};
 use vcm_num::{Point, WriteFault, int_text, write_pieces};
 use vcm_report::name_at;
 use vcm_tables::Tables;
@@ -35,7 +35,7 @@ fn is_at(a: Point, b: Point) -> bool
 }
 
 // Writes the row of a piece.
-fn write_piece<W: Write>(piece: &Piece, writer: &mut W) -> Result<(), WriteFault>
+fn write_piece<W: Write>(piece: &Leg, writer: &mut W) -> Result<(), WriteFault>
     ensures { Wrote (W.contents writer.old) (W.contents writer.new) (piece_row piece.now) result }
 {
     let letters = going_letters(piece.going);

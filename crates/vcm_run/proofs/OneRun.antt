@@ -14,7 +14,7 @@ use Rattle.vcm_program.specs.declared.accepted.Noticed.{Noticed}
 use Rattle.vcm_tree.proofs.AcceptanceLaws.{one_program, not_refused, one_refusal}
 use Rattle.vcm_code.specs.declared.code.Code.{Code}
 use Rattle.vcm_code.specs.declared.version.Version.{Version}
-use Rattle.vcm_code.specs.Code.{Statement}
+use Rattle.vcm_code.specs.Code.{CodeStatement}
 use Rattle.vcm_code.specs.Valid.{IsValid}
 use Rattle.vcm_fields.specs.declared.fault.ImageFault.{ImageFault}
 use Rattle.vcm_fields.specs.declared.fault.ImageFault.TheVariants as image_faults
@@ -115,7 +115,7 @@ one_summary part text n s t h k p q =
 
 -- ---- images of texts
 
-abbrev code : Version → Tables → List Statement → Code
+abbrev code : Version → Tables → List CodeStatement → Code
 code version tables statements = record { version = version; tables = tables; statements = statements }
 
 -- a program is assembled to one code

@@ -7,7 +7,7 @@ use Rattle.vcm_spec.specs.Setup.{Setup, Tables, setup_of}
 use Rattle.vcm_spec.specs.Program.{Block, sizes}
 use Rattle.vcm_spec.specs.Table.{State, front, step, steps, effective, opening}
 use Rattle.vcm_spec.proofs.Steps.{steps-add}
-use Rattle.vcm_code.specs.Code.{Statement}
+use Rattle.vcm_code.specs.Code.{CodeStatement}
 use Rattle.vcm_code.specs.declared.code.Code.{Code}
 use Rattle.vcm_code.specs.CodeTable.{CodeState, code_step, code_steps, code_effective, start, next_prints}
 use Rattle.vcm_spec.specs.Stepping.{unless_stopped}
@@ -37,7 +37,7 @@ module _ (part : Workpiece) (program : Block) (c : Code) (same : (k : ℕ) → S
   abbrev su : Setup
   su = setup_of part c.tables
 
-  abbrev code : List Statement
+  abbrev code : List CodeStatement
   code = c.statements
 
   -- the steps that count are as many

@@ -7,7 +7,7 @@ use Rattle.vcm_picture.specs.Laws.{StandApart}
 use Rattle.vcm_picture.specs.View.{spot_of}
 use Rattle.vcm_marks.specs.declared.mark.Mark.{Mark}
 use Rattle.vcm_marks.specs.declared.mark.Mark.TheVariants.{Goes, Touches, Meets}
-use Rattle.vcm_marks.specs.declared.mark.Placed.{Placed}
+use Rattle.vcm_marks.specs.declared.mark.PlacedMark.{PlacedMark}
 use Rattle.vcm_marks.specs.declared.mark.Touched.{Touched}
 use Rattle.vcm_sheet.specs.declared.points.Pointed.{Pointed}
 use Rattle.vcm_sheet.specs.Numbers.{numbers_beside}
@@ -31,13 +31,13 @@ touched_of (Touches t) = t ∷ []
 touched_of (Meets c) = []
 
 -- the touched points of marks
-abbrev pub touched_in : List Placed → List Touched
+abbrev pub touched_in : List PlacedMark → List Touched
 touched_in [] = []
 touched_in (m ∷ ms) = touched_of m.mark ++ touched_in ms
 
 -- each touched point of a way has a number, once, in the order of the run
 abbrev pub PointsHaveNumbers : Type 0
-PointsHaveNumbers = (marks : List Placed) → map (λ p. p.touched) (all_points marks) ≡ touched_in marks
+PointsHaveNumbers = (marks : List PlacedMark) → map (λ p. p.touched) (all_points marks) ≡ touched_in marks
 
 -- points whose numbers go up by 1, from one on
 abbrev pub IsCounted : ℤ → List Pointed → Type 0
@@ -46,4 +46,4 @@ IsCounted n (p ∷ ps) = (p.number ≡ n) × IsCounted (n +ℤ pos 1) ps
 
 -- these are 1, 2, 3 and so on
 abbrev pub NumbersAreCounted : Type 0
-NumbersAreCounted = (marks : List Placed) → IsCounted (pos 1) (all_points marks)
+NumbersAreCounted = (marks : List PlacedMark) → IsCounted (pos 1) (all_points marks)

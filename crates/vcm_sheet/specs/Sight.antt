@@ -38,7 +38,7 @@ is_seen s p = in_frame s (spot_of s p)
 -- whether what a tooltip tells is in sight
 abbrev pub in_sight : Scope → Tip → Bool
 in_sight s (tip.Block n b) = true
-in_sight s (tip.Piece t p) = true
+in_sight s (tip.Leg t p) = true
 in_sight s (tip.Touched t p) = is_seen s p.at
 in_sight s (tip.Limits low high) = crosses s (spot_of s low) (spot_of s high)
 in_sight s (tip.Home p) = is_seen s p

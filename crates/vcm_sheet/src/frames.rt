@@ -9,7 +9,7 @@ use crate::ticks::{Ruler, tick_step, ticks_of};
 use std::alloc::Global;
 use vcm_num::{NoMemory, Point};
 use vcm_picture::{Scope, Window, right_axis, spot_of, up_axis};
-use vcm_svg::{Piece, Spot, Unit, put};
+use vcm_svg::{Fragment, Spot, Unit, put};
 
 /// The ticks of the three axes, in micrometres.
 #[derive(Drop)]
@@ -67,27 +67,27 @@ fn put_line(out: &mut Vec<u8>, class: &[u8], from: Spot, to: Spot) -> Result<(),
     put(
         out,
         &[
-            Piece::Text(b"<path class=\""),
-            Piece::Text(class),
-            Piece::Text(b"\" d=\"M"),
-            Piece::Number(from.x),
-            Piece::Text(b" "),
-            Piece::Number(from.y),
-            Piece::Text(b"L"),
-            Piece::Number(to.x),
-            Piece::Text(b" "),
-            Piece::Number(to.y),
-            Piece::Text(b"\"/>\n"),
+            Fragment::Text(b"<path class=\""),
+            Fragment::Text(class),
+            Fragment::Text(b"\" d=\"M"),
+            Fragment::Number(from.x),
+            Fragment::Text(b" "),
+            Fragment::Number(from.y),
+            Fragment::Text(b"L"),
+            Fragment::Number(to.x),
+            Fragment::Text(b" "),
+            Fragment::Number(to.y),
+            Fragment::Text(b"\"/>\n"),
         ],
     )
 }
 
 // A length as it stands at a tick: whole millimetres without zeros behind them.
-fn length_words<'a>(at: i64) -> Piece<'a> {
+fn length_words<'a>(at: i64) -> Fragment<'a> {
     if at % 1000 == 0 {
-        Piece::Number(at / 1000)
+        Fragment::Number(at / 1000)
     } else {
-        Piece::Length(at)
+        Fragment::Length(at)
     }
 }
 
@@ -97,24 +97,24 @@ pub(crate) fn put_words<'a>(
     class: &'a [u8],
     unit: Unit,
     spot: Spot,
-    words: Piece<'a>,
+    words: Fragment<'a>,
 ) -> Result<(), NoMemory> {
     put(
         out,
         &[
-            Piece::Text(b"<text transform=\"matrix("),
-            Piece::Number(unit.get()),
-            Piece::Text(b" 0 0 "),
-            Piece::Number(unit.get()),
-            Piece::Text(b" "),
-            Piece::Number(spot.x),
-            Piece::Text(b" "),
-            Piece::Number(spot.y),
-            Piece::Text(b")\" class=\""),
-            Piece::Text(class),
-            Piece::Text(b"\">"),
+            Fragment::Text(b"<text transform=\"matrix("),
+            Fragment::Number(unit.get()),
+            Fragment::Text(b" 0 0 "),
+            Fragment::Number(unit.get()),
+            Fragment::Text(b" "),
+            Fragment::Number(spot.x),
+            Fragment::Text(b" "),
+            Fragment::Number(spot.y),
+            Fragment::Text(b")\" class=\""),
+            Fragment::Text(class),
+            Fragment::Text(b"\">"),
             words,
-            Piece::Text(b"</text>\n"),
+            Fragment::Text(b"</text>\n"),
         ],
     )
 }

@@ -6,7 +6,7 @@ use crate::rows::put_name;
 use std::alloc::Global;
 use vcm_marks::Contact;
 use vcm_num::{NoMemory, Point};
-use vcm_svg::{Label, Lettering, Piece, Spot, Unit, put_text};
+use vcm_svg::{Fragment, Lettering, Placement, Spot, Unit, put_text};
 
 /// What a heading tells besides the stop.
 #[derive(Clone, Copy)]
@@ -26,8 +26,8 @@ pub(crate) struct Told<'a> {
 const PITCH: i64 = 18;
 
 // Appends a line of the heading, so many units from the top, and gives where the next one stands.
-fn put_line(out: &mut Vec<u8>, unit: Unit, down: i64, words: &[Piece]) -> Result<i64, NoMemory> {
-    let label = Label {
+fn put_line(out: &mut Vec<u8>, unit: Unit, down: i64, words: &[Fragment]) -> Result<i64, NoMemory> {
+    let label = Placement {
         at: Spot {
             x: units(20, unit),
             y: units(down, unit),
@@ -61,12 +61,12 @@ fn put_files(
         unit,
         down,
         &[
-            Piece::Text(b"program "),
-            Piece::Text(&program),
-            Piece::Text(b"  part "),
-            Piece::Text(&part),
-            Piece::Text(b"  tip "),
-            Piece::Length(i64::from(told.tip)),
+            Fragment::Text(b"program "),
+            Fragment::Text(&program),
+            Fragment::Text(b"  part "),
+            Fragment::Text(&part),
+            Fragment::Text(b"  tip "),
+            Fragment::Length(i64::from(told.tip)),
         ],
     )
 }
@@ -78,10 +78,10 @@ fn put_position(out: &mut Vec<u8>, unit: Unit, down: i64, told: Told<'_>) -> Res
         unit,
         down,
         &[
-            Piece::Text(b"position "),
-            Piece::At(told.position),
-            Piece::Text(b"  steps "),
-            Piece::Count(told.done),
+            Fragment::Text(b"position "),
+            Fragment::At(told.position),
+            Fragment::Text(b"  steps "),
+            Fragment::Count(told.done),
         ],
     )
 }
@@ -96,10 +96,10 @@ fn put_lines(out: &mut Vec<u8>, unit: Unit, down: i64, lines: Lines) -> Result<i
         unit,
         down,
         &[
-            Piece::Text(b"the way of lines "),
-            Piece::Count(u64::from(lines.first)),
-            Piece::Text(b" to "),
-            Piece::Count(u64::from(lines.last)),
+            Fragment::Text(b"the way of lines "),
+            Fragment::Count(u64::from(lines.first)),
+            Fragment::Text(b" to "),
+            Fragment::Count(u64::from(lines.last)),
         ],
     )
 }
@@ -130,12 +130,12 @@ fn put_contact(
         unit,
         down,
         &[
-            Piece::Text(b"contact of the tip's centre at "),
-            Piece::At(contact.at),
-            Piece::Text(b" with block "),
-            Piece::Count(u64::from(contact.block)),
-            Piece::Text(gap),
-            Piece::Text(&name),
+            Fragment::Text(b"contact of the tip's centre at "),
+            Fragment::At(contact.at),
+            Fragment::Text(b" with block "),
+            Fragment::Count(u64::from(contact.block)),
+            Fragment::Text(gap),
+            Fragment::Text(&name),
         ],
     )
 }
@@ -150,9 +150,9 @@ fn put_left_out(out: &mut Vec<u8>, unit: Unit, down: i64, left_out: u64) -> Resu
         unit,
         down,
         &[
-            Piece::Text(b"the first "),
-            Piece::Count(left_out),
-            Piece::Text(b" pieces of the way are left out"),
+            Fragment::Text(b"the first "),
+            Fragment::Count(left_out),
+            Fragment::Text(b" pieces of the way are left out"),
         ],
     )
 }
@@ -165,7 +165,7 @@ pub(crate) fn put_heading(
     first: &[u8],
     told: Told<'_>,
 ) -> Result<i64, NoMemory> {
-    let down = put_line(out, unit, 20, &[Piece::Text(first)])?;
+    let down = put_line(out, unit, 20, &[Fragment::Text(first)])?;
     let down = put_files(alloc, out, unit, down, told)?;
     let down = put_position(out, unit, down, told)?;
     let down = put_lines(out, unit, down, told.lines)?;

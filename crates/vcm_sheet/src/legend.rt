@@ -83,7 +83,7 @@ fn with_told(used: Used, class: Class, tip: Tip) -> Used
         Tip::Home(_) => Used { home: true, ..used },
         Tip::End(_) => Used { end: true, ..used },
         Tip::Block(_, _) => with_class(used, class),
-        Tip::Piece(_, _) => with_class(used, class),
+        Tip::Leg(_, _) => with_class(used, class),
         Tip::Touched(_, _) => with_class(used, class),
         Tip::Limits(_, _) => with_class(used, class),
         Tip::TipAtEnd => with_class(used, class),

@@ -5,7 +5,7 @@ ghost use Rattle.std.specs.List.{filter};
 ghost use Rattle.vcm_sheet.specs.Lines.{has_line};
 
 use std::alloc::Global;
-use vcm_marks::Placed;
+use vcm_marks::PlacedMark;
 use vcm_num::NoMemory;
 
 /// Source lines, from the first to the last, both among them.
@@ -29,7 +29,7 @@ pub fn has_line(lines: Lines, line: u32) -> bool
 }
 
 // Of marks those of some lines.
-fn only_on(mut marks: Vec<Placed>, lines: Lines) -> Vec<Placed>
+fn only_on(mut marks: Vec<PlacedMark>, lines: Lines) -> Vec<PlacedMark>
     ensures { result.items ≡ filter (λ m. has_line lines m.line) marks.items }
 {
     marks.retain(|placed| has_line(lines, placed.line));
@@ -41,7 +41,11 @@ fn only_on(mut marks: Vec<Placed>, lines: Lines) -> Vec<Placed>
 /// # Errors
 ///
 /// Out of memory.
-pub fn marks_on(alloc: Global, lines: Lines, marks: &[Placed]) -> Result<Vec<Placed>, NoMemory>
+pub fn marks_on(
+    alloc: Global,
+    lines: Lines,
+    marks: &[PlacedMark],
+) -> Result<Vec<PlacedMark>, NoMemory>
     ensures { IfOk result (λ v. v.items ≡ filter (λ m. has_line lines m.line) marks.now) }
 {
     let all = Vec::from_slice(alloc, marks)?;

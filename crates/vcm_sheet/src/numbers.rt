@@ -9,13 +9,13 @@ use crate::points::Pointed;
 use std::alloc::Global;
 use vcm_num::{NoMemory, int_text};
 use vcm_picture::{Scope, label_beside, spot_of};
-use vcm_svg::{Place, Rect, TextBox};
+use vcm_svg::{BoundedSpot, Rect, TextBox};
 
 /// The number of a point that found room: the point, its place in the view, and the box of its number.
 #[derive(Clone, Copy)]
 pub struct Numbered {
     pub point: Pointed,
-    pub at: Place,
+    pub at: BoundedSpot,
     pub area: TextBox,
 }
 
@@ -28,7 +28,7 @@ fn letters_of(point: &Pointed) -> i64
 }
 
 // The box of a point's number, whose place in the view this is, if it finds room.
-fn number_box(scope: Scope, at: Place, point: &Pointed, taken: &[Rect]) -> Option<TextBox>
+fn number_box(scope: Scope, at: BoundedSpot, point: &Pointed, taken: &[Rect]) -> Option<TextBox>
     ensures { result ≡ beside scope at (letters_of point.now.number) taken.now }
 {
     label_beside(scope, at, letters_of(point), taken)

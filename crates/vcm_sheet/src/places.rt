@@ -2,7 +2,7 @@
 
 ghost use Rattle.vcm_svg.specs.Ranges.{IsSmall};
 
-use vcm_svg::{Place, Spot, Unit};
+use vcm_svg::{BoundedSpot, Spot, Unit};
 
 /// So many units.
 pub(crate) fn units(count: i64, unit: Unit) -> i64 {
@@ -28,8 +28,8 @@ fn within(number: i64) -> i64
 }
 
 /// A place in a picture.
-pub(crate) fn corner(x: i64, y: i64) -> Place {
-    Place::new(Spot {
+pub(crate) fn corner(x: i64, y: i64) -> BoundedSpot {
+    BoundedSpot::new(Spot {
         x: within(x),
         y: within(y),
     })

@@ -7,7 +7,7 @@ ghost use Rattle.vcm_sheet.specs.Points.{with_point, all_points};
 
 use crate::lines::{Lines, has_line};
 use std::alloc::Global;
-use vcm_marks::{Mark, Placed, Touched};
+use vcm_marks::{Mark, PlacedMark, Touched};
 use vcm_num::NoMemory;
 use vcm_picture::{Step, step_of};
 
@@ -27,7 +27,7 @@ fn next_number(points: &[Pointed]) -> i64
 }
 
 // Appends the point of a mark, if it is one.
-fn push_point(points: &mut Vec<Pointed>, placed: &Placed) -> Result<(), NoMemory>
+fn push_point(points: &mut Vec<Pointed>, placed: &PlacedMark) -> Result<(), NoMemory>
     ensures { OnOk result (points.new.items ≡ with_point points.old.items placed.now placed.now.mark) }
 {
     match placed.mark {
@@ -51,7 +51,7 @@ fn push_point(points: &mut Vec<Pointed>, placed: &Placed) -> Result<(), NoMemory
 /// # Errors
 ///
 /// Out of memory.
-pub fn all_points(alloc: Global, marks: &[Placed]) -> Result<Vec<Pointed>, NoMemory>
+pub fn all_points(alloc: Global, marks: &[PlacedMark]) -> Result<Vec<Pointed>, NoMemory>
     ensures { IfOk result (λ v. v.items ≡ all_points marks.now) }
 {
     let mut points = Vec::new(alloc);

@@ -7,7 +7,7 @@ use std::alloc::Global;
 use vcm_items::Name;
 use vcm_num::NoMemory;
 use vcm_picture::name_at;
-use vcm_svg::{Class, Label, Lettering, Piece, Sign, Spot, Unit, put, put_row, put_text};
+use vcm_svg::{Class, Fragment, Lettering, Placement, Sign, Spot, Unit, put, put_row, put_text};
 
 /// How many units a row is high.
 pub(crate) const PITCH: i64 = 14;
@@ -34,8 +34,8 @@ pub(crate) fn put_name(out: &mut Vec<u8>, name: &[u8]) -> Result<(), NoMemory> {
 }
 
 // Where words of a row stand, so many units to the right.
-fn cell(at: Spot, unit: Unit, right: i64) -> Label {
-    Label {
+fn cell(at: Spot, unit: Unit, right: i64) -> Placement {
+    Placement {
         at: moved(at, units(right, unit), units(3, unit)),
         size: unit.get(),
         class: Lettering::Plain,
@@ -48,7 +48,7 @@ fn put_cell(
     at: Spot,
     unit: Unit,
     right: i64,
-    words: Piece<'_>,
+    words: Fragment<'_>,
 ) -> Result<(), NoMemory> {
     put_text(out, cell(at, unit, right), &[words])
 }
@@ -154,16 +154,16 @@ fn put_origin(out: &mut Vec<u8>, at: Spot, unit: Unit, has_origin: bool) -> Resu
     put(
         out,
         &[
-            Piece::Text(b"<path class=\"z\" d=\"M"),
-            Piece::Number(at.x),
-            Piece::Text(b" "),
-            Piece::Number(at.y),
-            Piece::Text(b"h"),
-            Piece::Number(units(40, unit)),
-            Piece::Text(b"\"/>\n"),
+            Fragment::Text(b"<path class=\"z\" d=\"M"),
+            Fragment::Number(at.x),
+            Fragment::Text(b" "),
+            Fragment::Number(at.y),
+            Fragment::Text(b"h"),
+            Fragment::Number(units(40, unit)),
+            Fragment::Text(b"\"/>\n"),
         ],
     )?;
-    put_cell(out, at, unit, 48, Piece::Text(b"X, Y or Z is 0"))?;
+    put_cell(out, at, unit, 48, Fragment::Text(b"X, Y or Z is 0"))?;
     Ok(below(at, unit))
 }
 
@@ -190,10 +190,10 @@ fn put_point(
 ) -> Result<Spot, NoMemory> {
     let line = u64::from(point.step.line);
     let name = name_at(features, point.touched.feature);
-    put_cell(out, at, unit, 0, Piece::Number(point.number))?;
-    put_cell(out, at, unit, 36, Piece::Count(line))?;
-    put_cell(out, at, unit, 78, Piece::Text(name))?;
-    put_cell(out, at, unit, 184, Piece::At(point.touched.at))?;
+    put_cell(out, at, unit, 0, Fragment::Number(point.number))?;
+    put_cell(out, at, unit, 36, Fragment::Count(line))?;
+    put_cell(out, at, unit, 78, Fragment::Text(name))?;
+    put_cell(out, at, unit, 184, Fragment::At(point.touched.at))?;
     Ok(below(at, unit))
 }
 
@@ -213,9 +213,9 @@ fn put_more(
         out,
         cell(at, unit, 0),
         &[
-            Piece::Text(b"and "),
-            Piece::Count(more as u64),
-            Piece::Text(words),
+            Fragment::Text(b"and "),
+            Fragment::Count(more as u64),
+            Fragment::Text(words),
         ],
     )?;
     Ok(below(at, unit))
@@ -233,10 +233,10 @@ pub(crate) fn put_points(
         return Ok(at);
     }
     let mut at = moved(at, 0, units(8, unit));
-    put_cell(out, at, unit, 0, Piece::Text(b"point"))?;
-    put_cell(out, at, unit, 36, Piece::Text(b"line"))?;
-    put_cell(out, at, unit, 78, Piece::Text(b"feature"))?;
-    put_cell(out, at, unit, 184, Piece::Text(b"touched at, mm"))?;
+    put_cell(out, at, unit, 0, Fragment::Text(b"point"))?;
+    put_cell(out, at, unit, 36, Fragment::Text(b"line"))?;
+    put_cell(out, at, unit, 78, Fragment::Text(b"feature"))?;
+    put_cell(out, at, unit, 184, Fragment::Text(b"touched at, mm"))?;
     at = below(at, unit);
     let mut shown = 0;
     for point in points {
@@ -256,8 +256,8 @@ fn put_named(
     number: u64,
     name: &[u8],
 ) -> Result<Spot, NoMemory> {
-    put_cell(out, at, unit, 0, Piece::Count(number))?;
-    put_cell(out, at, unit, 36, Piece::Text(name))?;
+    put_cell(out, at, unit, 0, Fragment::Count(number))?;
+    put_cell(out, at, unit, 36, Fragment::Text(name))?;
     Ok(below(at, unit))
 }
 
@@ -293,8 +293,8 @@ pub(crate) fn put_blocks(
         return Ok(at);
     }
     let mut at = moved(at, 0, units(8, unit));
-    put_cell(out, at, unit, 0, Piece::Text(b"block"))?;
-    put_cell(out, at, unit, 36, Piece::Text(b"name"))?;
+    put_cell(out, at, unit, 0, Fragment::Text(b"block"))?;
+    put_cell(out, at, unit, 36, Fragment::Text(b"name"))?;
     at = below(at, unit);
     let mut number = 0u64;
     let mut shown = 0usize;

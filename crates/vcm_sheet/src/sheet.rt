@@ -12,7 +12,7 @@ use crate::views::{Drawing, drawing_of};
 use std::alloc::Global;
 use std::io::Write;
 use vcm_items::Name;
-use vcm_marks::Placed;
+use vcm_marks::PlacedMark;
 use vcm_num::{NoMemory, write_all};
 use vcm_part::PartData;
 use vcm_picture::{
@@ -21,8 +21,8 @@ use vcm_picture::{
 };
 use vcm_state::World;
 use vcm_svg::{
-    Class, Label, Lettering, Outline, Piece, Place, Spot, Unit, put, put_bar, put_path, put_style,
-    put_text, quotient,
+    BoundedSpot, Class, Fragment, Lettering, Outline, Placement, Spot, Unit, put, put_bar,
+    put_path, put_style, put_text, quotient,
 };
 
 /// What a sheet shows: a workpiece, with the names of its blocks; the state at the end of a run of so many steps; the marks of its way, before which so
@@ -32,7 +32,7 @@ pub struct Sheet<'a> {
     pub part: &'a PartData,
     pub world: &'a World,
     pub done: u64,
-    pub marks: &'a [Placed],
+    pub marks: &'a [PlacedMark],
     pub left_out: u64,
     pub is_close: bool,
     pub lines: Lines,
@@ -55,10 +55,10 @@ struct Drawings {
 /// Where the parts of a sheet stand, and its size, in its units.
 #[derive(Clone, Copy)]
 struct Places {
-    top: Place,
-    front: Place,
-    side: Place,
-    bar: Place,
+    top: BoundedSpot,
+    front: BoundedSpot,
+    side: BoundedSpot,
+    bar: BoundedSpot,
     wide: i64,
     high: i64,
 }
@@ -69,7 +69,7 @@ fn drawn(
     window: Window,
     view: View,
     sheet: &Sheet<'_>,
-    marks: &[Placed],
+    marks: &[PlacedMark],
     points: &[Pointed],
 ) -> Result<Drawing, NoMemory> {
     let scope = scope_of(window, view);
@@ -81,7 +81,7 @@ fn drawings_of(
     alloc: Global,
     window: Window,
     sheet: &Sheet<'_>,
-    marks: &[Placed],
+    marks: &[PlacedMark],
     points: &[Pointed],
 ) -> Result<Drawings, NoMemory> {
     let top = drawn(alloc, window, View::Top, sheet, marks, points)?;
@@ -139,7 +139,7 @@ fn places_of(window: Window, tables: Spot, below: Spot) -> Places {
 fn put_numbers(out: &mut Vec<u8>, unit: Unit, numbers: &[Numbered]) -> Result<(), NoMemory> {
     for number in numbers {
         let at = number.area.first_letter(unit.times(8));
-        let words = Piece::Number(number.point.number);
+        let words = Fragment::Number(number.point.number);
         put_words(out, b"p c", unit, at, words)?;
     }
     Ok(())
@@ -157,7 +157,7 @@ fn put_missing(
     if missing == 0 {
         return Ok(());
     }
-    let label = Label {
+    let label = Placement {
         at: moved(at, units(200, scope.unit()), units(-6, scope.unit())),
         size: scope.unit().get(),
         class: Lettering::Plain,
@@ -166,8 +166,8 @@ fn put_missing(
         out,
         label,
         &[
-            Piece::Count(missing as u64),
-            Piece::Text(b" numbers have no room here"),
+            Fragment::Count(missing as u64),
+            Fragment::Text(b" numbers have no room here"),
         ],
     )
 }
@@ -176,7 +176,7 @@ fn put_missing(
 fn put_drawing(
     out: &mut Vec<u8>,
     scope: Scope,
-    at: Place,
+    at: BoundedSpot,
     drawing: &Drawing,
     ticks: &AxisTicks,
     features: &[Name],
@@ -188,7 +188,7 @@ fn put_drawing(
     put_axes(out, scope, ticks)?;
     put_shapes(out, features, stopped, drawing.shapes.as_slice())?;
     put_numbers(out, scope.unit(), drawing.numbers.as_slice())?;
-    put(out, &[Piece::Text(b"</g>\n")])?;
+    put(out, &[Fragment::Text(b"</g>\n")])?;
     put_ticks(out, scope, at.spot(), ticks)
 }
 
@@ -266,24 +266,24 @@ fn put_head(
     put(
         out,
         &[
-            Piece::Text(b"<svg xmlns=\"http://www.w3.org/2000/svg\" viewBox=\"0 0 "),
-            Piece::Number(places.wide),
-            Piece::Text(b" "),
-            Piece::Number(places.high),
-            Piece::Text(b"\" width=\""),
-            Piece::Number(quotient(places.wide, unit.get())),
-            Piece::Text(b"\" height=\""),
-            Piece::Number(quotient(places.high, unit.get())),
-            Piece::Text(b"\">\n<title>"),
+            Fragment::Text(b"<svg xmlns=\"http://www.w3.org/2000/svg\" viewBox=\"0 0 "),
+            Fragment::Number(places.wide),
+            Fragment::Text(b" "),
+            Fragment::Number(places.high),
+            Fragment::Text(b"\" width=\""),
+            Fragment::Number(quotient(places.wide, unit.get())),
+            Fragment::Text(b"\" height=\""),
+            Fragment::Number(quotient(places.high, unit.get())),
+            Fragment::Text(b"\">\n<title>"),
         ],
     )?;
     put_name(out, sheet.program_name)?;
     put(
         out,
         &[
-            Piece::Text(b": "),
-            Piece::Text(first),
-            Piece::Text(b"</title>\n"),
+            Fragment::Text(b": "),
+            Fragment::Text(first),
+            Fragment::Text(b"</title>\n"),
         ],
     )
 }
@@ -293,17 +293,17 @@ fn put_sheet_style(out: &mut Vec<u8>, unit: Unit) -> Result<(), NoMemory> {
     put(
         out,
         &[
-            Piece::Text(
+            Fragment::Text(
                 b"<style>\n.t{text-anchor:middle}\n.r{text-anchor:end}\n.c{fill:#b34700;font-weight:bold}\n.k{stroke:#555;stroke-width:",
             ),
-            Piece::Number(unit.get()),
-            Piece::Text(b"}\n.z{fill:none;stroke:#999;stroke-width:"),
-            Piece::Number(unit.get()),
-            Piece::Text(b";stroke-dasharray:"),
-            Piece::Number(units(12, unit)),
-            Piece::Text(b" "),
-            Piece::Number(units(4, unit)),
-            Piece::Text(b"}\n</style>\n"),
+            Fragment::Number(unit.get()),
+            Fragment::Text(b"}\n.z{fill:none;stroke:#999;stroke-width:"),
+            Fragment::Number(unit.get()),
+            Fragment::Text(b";stroke-dasharray:"),
+            Fragment::Number(units(12, unit)),
+            Fragment::Text(b" "),
+            Fragment::Number(units(4, unit)),
+            Fragment::Text(b"}\n</style>\n"),
         ],
     )
 }
@@ -314,7 +314,7 @@ fn put_ground(
     window: Window,
     places: &Places,
     blocks: usize,
-    marks: &[Placed],
+    marks: &[PlacedMark],
 ) -> Result<(), NoMemory> {
     put_style(out, window.unit(), blocks, are_few(marks))?;
     put_sheet_style(out, window.unit())?;
@@ -328,11 +328,11 @@ fn put_foot(out: &mut Vec<u8>, window: Window, places: &Places) -> Result<(), No
     let scope = scope_of(window, View::Top);
     let wide = scope.wide().get();
     put_bar(out, places.bar, window.unit(), window.grain(), wide)?;
-    put(out, &[Piece::Text(b"</svg>\n")])
+    put(out, &[Fragment::Text(b"</svg>\n")])
 }
 
 // What the heading tells.
-fn told_of<'a>(sheet: &Sheet<'a>, marks: &[Placed]) -> Told<'a> {
+fn told_of<'a>(sheet: &Sheet<'a>, marks: &[PlacedMark]) -> Told<'a> {
     Told {
         program_name: sheet.program_name,
         part_name: sheet.part_name,
@@ -352,7 +352,7 @@ fn put_whole(
     sheet: &Sheet<'_>,
     window: Window,
     drawings: &Drawings,
-    marks: &[Placed],
+    marks: &[PlacedMark],
     points: &[Pointed],
     first: &[u8],
 ) -> Result<Vec<u8>, NoMemory> {

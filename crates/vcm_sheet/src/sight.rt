@@ -74,7 +74,7 @@ pub(crate) fn in_sight(scope: Scope, tip: Tip) -> bool
 {
     match tip {
         Tip::Block(_, _) => true,
-        Tip::Piece(_, _) => true,
+        Tip::Leg(_, _) => true,
         Tip::Touched(_, touched) => is_seen(scope, touched.at),
         Tip::Limits(low, high) => is_crossed(scope, low, high),
         Tip::Home(at) => is_seen(scope, at),

@@ -7,12 +7,12 @@ ghost use Rattle.vcm_sheet.specs.Views.{is_feature, is_name, without_names};
 use crate::numbers::{Numbered, numbers_of};
 use crate::points::Pointed;
 use std::alloc::Global;
-use vcm_marks::Placed;
+use vcm_marks::PlacedMark;
 use vcm_num::{NoMemory, int_text};
 use vcm_part::PartData;
 use vcm_picture::{Scope, Shape, Tip, Words, scene_shapes};
 use vcm_state::World;
-use vcm_svg::{Label, Outline, Rect};
+use vcm_svg::{Outline, Placement, Rect};
 
 /// What a view of a sheet shows.
 #[derive(Drop)]
@@ -71,7 +71,7 @@ fn letters_of(words: Words) -> i64 {
 }
 
 // The box of a text.
-fn text_box(label: Label, words: Words) -> Rect {
+fn text_box(label: Placement, words: Words) -> Rect {
     let wide = label
         .size
         .saturating_mul(letters_of(words).saturating_mul(6));
@@ -134,7 +134,7 @@ pub(crate) fn drawing_of(
     scope: Scope,
     part: &PartData,
     world: &World,
-    marks: &[Placed],
+    marks: &[PlacedMark],
     points: &[Pointed],
 ) -> Result<Drawing, NoMemory>
     ensures scope { IfOk result (λ d. d.scope ≡ scope) }

@@ -10,7 +10,7 @@ use Rattle.vcm_spec.specs.World.{World}
 use Rattle.vcm_spec.specs.Stepping.{unless_stopped, effective_of}
 use Rattle.vcm_spec.proofs.Steps.{add_steps, next_effective, add_effective, all_stay, effective_reaches}
 use Rattle.vcm_code.specs.declared.code.Code.{Code}
-use Rattle.vcm_code.specs.Code.{Statement}
+use Rattle.vcm_code.specs.Code.{CodeStatement}
 use Rattle.vcm_code.specs.CodeTable.{CodeState, code_stop, code_step, code_effective, fetched, start}
 use Rattle.vcm_machine.specs.declared.ran.End.TheVariants as ends
 use Rattle.vcm_machine.specs.Running.{Running, setup, started, later, HasRun}
@@ -32,7 +32,7 @@ module _ (n : ℕ) (old new : Running) (done : ℕ) (at : IsReached n old new do
 
 -- ---- one step
 
-module _ (done : ℕ) (old new : Running) (c : Code) (number : ℕ) (s : Statement) (new_is : new ≡ later 1 old) (number_is : number ≡ old.state.next)
+module _ (done : ℕ) (old new : Running) (c : Code) (number : ℕ) (s : CodeStatement) (new_is : new ≡ later 1 old) (number_is : number ≡ old.state.next)
     (code_is : old.code ≡ c) (got : slice_get c.statements number ≡ Some s) where
   pub stands : slice_get old.code.statements old.state.next ≡ Some s
   stands = ap (λ k. slice_get k.statements old.state.next) code_is ∙ ap (slice_get c.statements) (sym number_is) ∙ got

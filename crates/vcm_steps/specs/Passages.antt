@@ -7,7 +7,7 @@ use Rattle.vcm_spec.specs.Rests.{Rests}
 use Rattle.vcm_machine.specs.Running.{Running, later}
 use Rattle.vcm_spec.specs.Stepping.{unless_stopped}
 use Rattle.vcm_code.specs.declared.code.Code.{Code}
-use Rattle.vcm_code.specs.Code.{Statement}
+use Rattle.vcm_code.specs.Code.{CodeStatement}
 use Rattle.vcm_code.specs.CodeTable.{CodeState, code_step, code_steps, code_effective, start}
 
 -- one step of a run: how many were taken with it, the number of its statement, the statement, the state before it and behind it, and the
@@ -15,12 +15,12 @@ use Rattle.vcm_code.specs.CodeTable.{CodeState, code_step, code_steps, code_effe
 pub record Passage : Type 0 where
   pub count : ℕ
   pub number : ℕ
-  pub statement : Statement
+  pub statement : CodeStatement
   pub before : World
   pub after : World
   pub next : ℕ
 
-abbrev pub passage : (count number : ℕ) → Statement → (before after : World) → (next : ℕ) → Passage
+abbrev pub passage : (count number : ℕ) → CodeStatement → (before after : World) → (next : ℕ) → Passage
 passage count number s before after next =
     record { count = count; number = number; statement = s; before = before; after = after; next = next }
 
@@ -37,7 +37,7 @@ abbrev pub steps_taken : Workpiece → Code → ℕ → ℕ
 steps_taken part c n = code_effective (setup_with part c) c.statements n (start (setup_with part c))
 
 -- the step from a state to another at this statement, with which so many were taken
-abbrev pub passage_at : ℕ → CodeState → CodeState → Option Statement → List Passage
+abbrev pub passage_at : ℕ → CodeState → CodeState → Option CodeStatement → List Passage
 passage_at count m after None = []
 passage_at count m after (Some s) = passage count m.next s m.world after.world after.next ∷ []
 
@@ -52,7 +52,7 @@ passages part c zero = []
 passages part c (suc k) = passages part c k ++ passage_from part c (suc k) (state_after part c k)
 
 -- the statement comes next in this state and by these tables, for a machine that has not stopped beside a workpiece and over a code that fit
-pub record IsNext (fits : Workpiece → Code → Type 0) (tables : Tables) (w : World) (s : Statement) : Type 0 where
+pub record IsNext (fits : Workpiece → Code → Type 0) (tables : Tables) (w : World) (s : CodeStatement) : Type 0 where
   pub machine : Running
   pub fit : fits machine.part machine.code
   pub stands : slice_get machine.code.statements machine.state.next ≡ Some s
@@ -62,7 +62,7 @@ pub record IsNext (fits : Workpiece → Code → Type 0) (tables : Tables) (w : 
   pub tables_are : machine.code.tables ≡ tables
 
 -- the statement came next in a state of which this is known, and this is the state behind it
-pub record WasNext (fits : Workpiece → Code → Type 0) (known : World → Type 0) (s : Statement) (after : World) : Type 0 where
+pub record WasNext (fits : Workpiece → Code → Type 0) (known : World → Type 0) (s : CodeStatement) (after : World) : Type 0 where
   pub before : World
   pub tables : Tables
   pub is_next : IsNext fits tables before s

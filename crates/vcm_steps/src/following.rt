@@ -5,7 +5,7 @@ ghost use Rattle.vcm_spec.specs.Workpiece.{Workpiece};
 ghost use Rattle.vcm_code.specs.declared.code.Code.{Code};
 ghost use Rattle.vcm_spec.specs.Setup.{Tables};
 ghost use Rattle.vcm_spec.specs.World.{World as Shown};
-ghost use Rattle.vcm_code.specs.Code.{Statement};
+ghost use Rattle.vcm_code.specs.Code.{CodeStatement};
 ghost use Rattle.vcm_machine.specs.Running.{started, later, WantsMemory, HasRun};
 ghost use Rattle.vcm_steps.specs.Passages.{Passage, passage, passages, IsNext, WasNext, IsBroken};
 ghost use Rattle.vcm_steps.specs.inner.Stepping.{next_passage};
@@ -29,7 +29,7 @@ pub trait Follows<To> {
     ghost Fits: { Self → Workpiece → Code → Type 0 };
 
     /// What it keeps of a state before a statement.
-    ghost Looked: { Self → Self.Before → Shown → Statement → Type 0 };
+    ghost Looked: { Self → Self.Before → Shown → CodeStatement → Type 0 };
 
     /// From the first to the second it has put what it makes of these steps, by these tables.
     ghost Has: { Self → Tables → To → To → List Passage → Type 0 };

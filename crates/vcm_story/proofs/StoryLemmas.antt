@@ -11,7 +11,7 @@ use Rattle.vcm_spec.specs.Workpiece.{Workpiece}
 use Rattle.vcm_spec.specs.Setup.{Tables, setup_of}
 use Rattle.vcm_spec.specs.World.{World}
 use Rattle.vcm_code.specs.declared.code.Code.{Code}
-use Rattle.vcm_code.specs.Code.{Statement}
+use Rattle.vcm_code.specs.Code.{CodeStatement}
 use Rattle.vcm_code.specs.CodeTable.{code_steps}
 use Rattle.vcm_machine.specs.declared.ran.End.TheVariants as ends
 use Rattle.vcm_machine.specs.declared.ran.Ran.{Ran}
@@ -48,7 +48,7 @@ front_more a b xs ys zs e k = (k.0, k.1 ++ ys, sym (append_assoc k.0 k.1 ys) ∙
 -- ---- the steps
 
 -- what is written with the marks of what was known before a step is what the step adds
-pub seen : (part : Workpiece) (b : Before) (s : Statement) (w after : World) → IsBefore part.bounds.home w s b → (count number next from : ℕ) (tables : Tables) (ms : List Mark)
+pub seen : (part : Workpiece) (b : Before) (s : CodeStatement) (w after : World) → IsBefore part.bounds.home w s b → (count number next from : ℕ) (tables : Tables) (ms : List Mark)
     → ms ≡ marks_of part b.position b.settings b.task (reason after.stop)
     → rows_from from tables (passage count number s w after next) (step_rows tables ms (passage count number s w after next)) ≡ passage_rows part tables from (passage count number s w after next)
 seen part b s w after is count number next from tables ms e =

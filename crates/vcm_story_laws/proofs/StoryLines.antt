@@ -38,7 +38,7 @@ use Rattle.vcm_program.specs.declared.accepted.Noticed.{Noticed}
 use Rattle.vcm_code.specs.declared.code.Code.{Code}
 use Rattle.vcm_code.specs.declared.word.Word.{Word}
 use Rattle.vcm_code.specs.declared.word.Word.TheVariants as words
-use Rattle.vcm_code.specs.Code.{Op, Statement}
+use Rattle.vcm_code.specs.Code.{Op, CodeStatement}
 use Rattle.vcm_code.specs.CodeTable.{CodeState, code_step}
 use Rattle.vcm_code.specs.Ranges.{AllAreNames, IsInRange}
 use Rattle.vcm_code.specs.Words.{word_of}
@@ -47,7 +47,7 @@ use Rattle.vcm_marks.specs.declared.mark.Going.{Going}
 use Rattle.vcm_marks.specs.declared.mark.Going.TheVariants as going
 use Rattle.vcm_marks.specs.declared.mark.Mark.{Mark}
 use Rattle.vcm_marks.specs.declared.mark.Mark.TheVariants as marks
-use Rattle.vcm_marks.specs.declared.mark.Piece.{Piece}
+use Rattle.vcm_marks.specs.declared.mark.Leg.{Leg}
 use Rattle.vcm_words.specs.Operands.{axis_text, setting_text, word_text}
 use Rattle.vcm_words.specs.Rows.{kind_text}
 use Rattle.vcm_report.specs.Printed.{in_a_row, name_at, phase_text, missing_text, stop_text, has_place, place_text, stopped_line}
@@ -122,7 +122,7 @@ listing : (is_listing : Bool) (tables : Tables) → Others (listing_row is_listi
 listing true tables = line (codes "I ") _ refl (onto _ _ (texts.number (lines_before tables)) end)
 listing false tables = none
 
-statement : (o : Option Statement) → Others (statement_row o)
+statement : (o : Option CodeStatement) → Others (statement_row o)
 statement None = none
 statement (Some s) = line (codes "C ") _ refl (onto _ _ (texts.number s.line) (onto (codes " ") _ (inner refl) (onto _ _ (word (word_of s.op)) end)))
 
@@ -243,7 +243,7 @@ module _ (tables : Tables) (variables : AreNamed tables.variables) (features : A
 
   -- ---- what stands below it
 
-  piece_there : (piece : Piece) → Others (piece_row piece)
+  piece_there : (piece : Leg) → Others (piece_row piece)
   piece_there piece =
       let g = going_front piece.going in
       other_either (is_at piece.to piece.aim) _ _ (one_point (going_letters piece.going) piece.to g) (two_points (going_letters piece.going) piece.to piece.aim g)
@@ -292,7 +292,7 @@ module _ (tables : Tables) (variables : AreNamed tables.variables) (features : A
   all_steps part from [] = none.goes
   all_steps part from (p ∷ ps) = two (from_on from p (step_rows tables (step_marks part p) p) (step (step_marks part p) p)) (all_steps part from ps)
 
-  open_there : (count : ℕ) (m : CodeState) (o : Option Statement) → Goes None (open_at count m o) (open_at count m o) None
+  open_there : (count : ℕ) (m : CodeState) (o : Option CodeStatement) → Goes None (open_at count m o) (open_at count m o) None
   open_there count m None = none.goes
   open_there count m (Some s) = told_line count m.next s.line [] m.world.position _ (inner refl) (onto (codes "no stop after ") _ (inner refl) (onto _ _ (texts.number count) (onto (codes " steps") (codes "\n") (inner refl) end)))
 
@@ -327,7 +327,7 @@ every_two : (tables : Tables) (ps qs : List Passage) → every_line tables ps �
 every_two tables [] qs p q = q
 every_two tables (x ∷ ps) qs p q = flat_map-append (shown_line tables 0) (x ∷ ps) qs ∙ rw (p, q) (sym (flat_map-append (trace_line tables) (x ∷ ps) qs))
 
-every_at : (tables : Tables) (k : ℕ) (m after : CodeState) (o : Option Statement) → every_line tables (passage_at (suc k) m after o)
+every_at : (tables : Tables) (k : ℕ) (m after : CodeState) (o : Option CodeStatement) → every_line tables (passage_at (suc k) m after o)
 every_at tables k m after None = refl
 every_at tables k m after (Some s) = (let counted : nat_lt 0 (suc k) ≡ true = grind arith in rw counted refl)
 

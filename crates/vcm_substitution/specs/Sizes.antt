@@ -7,7 +7,7 @@ use Rattle.vcm_expr.specs.Source.{Source, is_small}
 use Rattle.vcm_forms.specs.declared.statement.Argument.{Argument}
 use Rattle.vcm_forms.specs.declared.statement.Form.{Form}
 use Rattle.vcm_forms.specs.declared.statement.Form.TheVariants.{Assignment, Move, Test, Repeat, Feature, Touch, Configure, Shift, Choose}
-use Rattle.vcm_forms.specs.declared.statement.Spot.{Spot}
+use Rattle.vcm_forms.specs.declared.statement.Coordinates.{Coordinates}
 use Rattle.vcm_forms.specs.declared.statement.Rounds.{Rounds}
 use Rattle.vcm_forms.specs.declared.statement.Offset.{Offset}
 
@@ -21,7 +21,7 @@ abbrev pub are_small_arguments : List Argument → Bool
 are_small_arguments bs = list_all (λ b. is_small_option b.value) bs
 
 -- whether all coordinates of a place are small enough
-abbrev pub is_small_spot : Spot → Bool
+abbrev pub is_small_spot : Coordinates → Bool
 is_small_spot p = is_small p.x && (is_small p.y && is_small p.z)
 
 -- whether all expressions of DO are small enough

@@ -7,7 +7,7 @@ use Rattle.vcm_expr.specs.Source.{Source, Plain, Prefixed, Pair}
 use Rattle.vcm_forms.specs.declared.statement.Parameter.{Parameter}
 use Rattle.vcm_forms.specs.declared.statement.Argument.{Argument}
 use Rattle.vcm_forms.specs.declared.statement.Target.{Target}
-use Rattle.vcm_forms.specs.declared.statement.Spot.{Spot}
+use Rattle.vcm_forms.specs.declared.statement.Coordinates.{Coordinates}
 use Rattle.vcm_forms.specs.declared.statement.Rounds.{Rounds}
 use Rattle.vcm_forms.specs.declared.statement.Offset.{Offset}
 use Rattle.vcm_forms.specs.declared.statement.Form.{Form}
@@ -104,7 +104,7 @@ abbrev pub put_argument : Scope → Argument → Argument
 put_argument sc a = record { name = option_map (put_name sc) a.name; value = option_map (put sc) a.value }
 
 -- what the coordinates of a place say in the expansion
-abbrev pub put_spot : Scope → Spot → Spot
+abbrev pub put_spot : Scope → Coordinates → Coordinates
 put_spot sc p = record { x = put sc p.x; y = put sc p.y; z = put sc p.z }
 
 -- what the words of DO say in the expansion

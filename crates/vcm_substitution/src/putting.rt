@@ -12,7 +12,7 @@ ghost use Rattle.vcm_forms.specs.declared.statement.Form.{Form};
 use crate::bindings::Bindings;
 use std::alloc::Global;
 use vcm_expr::Expr;
-use vcm_forms::{Form, Offset, OperatorText, Rounds, Spot};
+use vcm_forms::{Coordinates, Form, Offset, OperatorText, Rounds};
 use vcm_items::{Name, VariableName};
 use vcm_lines::SourceFault;
 use vcm_num::{Axis, Items};
@@ -42,8 +42,8 @@ fn put_spot(
     alloc: Global,
     line: u32,
     bindings: &Bindings<'_>,
-    place: &Spot,
-) -> Result<Spot, SourceFault>
+    place: &Coordinates,
+) -> Result<Coordinates, SourceFault>
     ensures ok { IfOk result (λ p. p ≡ put_spot bindings.now place.now) }
     ensures small { OnOk result (is_small_spot (put_spot bindings.now place.now) ≡ true) }
     ensures fault { IfErr result (NoMemoryOr (IsTooDeep line (is_small_spot (put_spot bindings.now place.now)))) }
@@ -51,7 +51,7 @@ fn put_spot(
     let x = bindings.put(alloc, line, &place.x)?;
     let y = bindings.put(alloc, line, &place.y)?;
     let z = bindings.put(alloc, line, &place.z)?;
-    Ok(Spot { x, y, z })
+    Ok(Coordinates { x, y, z })
 }
 
 // What an expression says there, where there is one.
@@ -119,7 +119,7 @@ fn put_feature(
     line: u32,
     bindings: &Bindings<'_>,
     name: &Name,
-    place: &Spot,
+    place: &Coordinates,
     out: Axis,
 ) -> Result<Form, SourceFault>
     ensures ok { IfOk result (λ f. f ≡ Form.Feature (put_name bindings.now name.now) (put_spot bindings.now place.now) out) }

@@ -5,7 +5,7 @@ ghost use Rattle.vcm_expr.specs.Source.{is_small};
 ghost use Rattle.vcm_substitution.specs.Sizes.{is_small_option, is_small_spot, are_small_rounds, are_small_offsets, are_small};
 
 use vcm_expr::Expr;
-use vcm_forms::{Form, Offset, Rounds, Spot};
+use vcm_forms::{Coordinates, Form, Offset, Rounds};
 
 // An expression.
 fn expression(e: &Expr)
@@ -25,7 +25,7 @@ fn option(e: &Option<Expr>)
 }
 
 // The coordinates of a place.
-fn spot(place: &Spot)
+fn spot(place: &Coordinates)
     ensures { is_small_spot place.now ≡ true }
 {
     expression(&place.x);

@@ -1,14 +1,14 @@
 -- The heading of a picture.
 use Rattle.std.specs.Prelude.{ℕ, ℤ, pos, ◌*ℤ◌, nat_eq, if◌then◌else◌, List, [], ◌∷◌, ◌++◌, decimal, codes}
 use Rattle.vcm_num.specs.declared.point.Point.{Point}
-use Rattle.vcm_svg.specs.declared.shapes.Label.{Label}
+use Rattle.vcm_svg.specs.declared.shapes.Placement.{Placement}
 use Rattle.vcm_svg.specs.declared.shapes.Lettering.TheVariants.{Heading}
 use Rattle.vcm_svg.specs.Pieces.{joined, point_text}
 use Rattle.vcm_svg.specs.Rect.{spot}
 use Rattle.vcm_svg.specs.Shapes.{label, text}
 
 -- where a line of the heading stands, so many units from the top
-abbrev pub heading_label : ℤ → ℤ → Label
+abbrev pub heading_label : ℤ → ℤ → Placement
 heading_label u line = label Heading u (spot (pos 20 *ℤ u) (line *ℤ u))
 
 -- the line of the position and the steps

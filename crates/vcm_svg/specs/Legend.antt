@@ -10,7 +10,7 @@ use Rattle.vcm_svg.specs.declared.outlines.Outline.TheVariants.{Dash}
 use Rattle.vcm_svg.specs.declared.rect.Spot.{Spot}
 use Rattle.vcm_svg.specs.declared.shapes.Class.{Class}
 use Rattle.vcm_svg.specs.declared.shapes.Class.TheVariants as class
-use Rattle.vcm_svg.specs.declared.shapes.Label.{Label}
+use Rattle.vcm_svg.specs.declared.shapes.Placement.{Placement}
 use Rattle.vcm_svg.specs.declared.shapes.Lettering.TheVariants.{Plain}
 use Rattle.vcm_svg.specs.Outlines.{bar_line, circle, cross, square_round}
 use Rattle.vcm_svg.specs.Pieces.{joined}
@@ -46,7 +46,7 @@ abbrev pub sign_in_row : Spot → ℤ → ℕ → Sign → Outline
 sign_in_row at u down s = sign_outline s (spot (at.x +ℤ right_of s *ℤ u) (at.y +ℤ pos down *ℤ u)) (size_of s *ℤ u)
 
 -- where the words of a row stand, so many units below a place
-abbrev pub words_label : Spot → ℤ → ℕ → Label
+abbrev pub words_label : Spot → ℤ → ℕ → Placement
 words_label at u down = label Plain u (spot (at.x +ℤ pos 48 *ℤ u) (at.y +ℤ (pos down +ℤ pos 3) *ℤ u))
 
 -- a row: how many units it stands below a place, the class and the form of its sign, and its words
@@ -72,7 +72,7 @@ abbrev pub bar_of : ℤ → ℤ
 bar_of most = last_within most (pos 1) BARS
 
 -- where the words of a bar of a length stand
-abbrev pub bar_label : Spot → ℤ → ℤ → Label
+abbrev pub bar_label : Spot → ℤ → ℤ → Placement
 bar_label at u long = label Plain u (spot (at.x +ℤ long +ℤ pos 8 *ℤ u) at.y)
 
 -- a bar of that length with its words

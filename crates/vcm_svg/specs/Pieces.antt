@@ -4,8 +4,8 @@ use Rattle.std.specs.Fmt.{signed_decimal}
 use Rattle.vcm_num.specs.declared.point.Point.{Point}
 use Rattle.vcm_num.specs.Point.{coordinate}
 use Rattle.vcm_num.specs.Texts.{thousandths}
-use Rattle.vcm_svg.specs.declared.pieces.Piece.{Piece}
-use Rattle.vcm_svg.specs.declared.pieces.Piece.TheVariants.{Text, Number, Back, Count, Length, At}
+use Rattle.vcm_svg.specs.declared.pieces.Fragment.{Fragment}
+use Rattle.vcm_svg.specs.declared.pieces.Fragment.TheVariants.{Text, Number, Back, Count, Length, At}
 
 -- texts one after another
 abbrev pub joined : List (List ℕ) → List ℕ
@@ -17,7 +17,7 @@ point_text p =
     thousandths (coordinate p 0) ++ (codes " " ++ (thousandths (coordinate p 1) ++ (codes " " ++ thousandths (coordinate p 2))))
 
 -- the text of a piece
-abbrev pub piece_text : Piece → List ℕ
+abbrev pub piece_text : Fragment → List ℕ
 piece_text (Text bytes) = bytes.now
 piece_text (Number z) = signed_decimal z
 piece_text (Back z) = signed_decimal (neg_ℤ z)
@@ -26,5 +26,5 @@ piece_text (Length z) = thousandths z
 piece_text (At p) = point_text p
 
 -- the texts of pieces, one after another
-abbrev pub texts : List Piece → List ℕ
+abbrev pub texts : List Fragment → List ℕ
 texts pieces = flat_map piece_text pieces

@@ -4,7 +4,7 @@ use Rattle.std.specs.Fmt.{signed_decimal}
 use Rattle.vcm_svg.specs.declared.rect.Spot.{Spot}
 use Rattle.vcm_svg.specs.declared.shapes.Class.{Class}
 use Rattle.vcm_svg.specs.declared.shapes.Class.TheVariants as class
-use Rattle.vcm_svg.specs.declared.shapes.Label.{Label}
+use Rattle.vcm_svg.specs.declared.shapes.Placement.{Placement}
 use Rattle.vcm_svg.specs.declared.shapes.Lettering.{Lettering}
 use Rattle.vcm_svg.specs.declared.shapes.Lettering.TheVariants.{Plain, Heading, Number, Name}
 use Rattle.vcm_svg.specs.declared.outlines.Outline.{Outline}
@@ -38,17 +38,17 @@ class_name class.Tip = codes "q"
 class_name class.Cross = codes "x"
 
 -- a text of this class and size at a place
-abbrev pub label : Lettering → ℤ → Spot → Label
+abbrev pub label : Lettering → ℤ → Spot → Placement
 label c size at = record { at = at; size = size; class = c }
 
 -- the beginning of a text's element
-abbrev pub text_front : Label → List ℕ
+abbrev pub text_front : Placement → List ℕ
 text_front l =
     joined (codes "<text transform=\"matrix(" ∷ signed_decimal l.size ∷ codes " 0 0 " ∷ signed_decimal l.size ∷ codes " " ∷ signed_decimal l.at.x
     ∷ codes " " ∷ signed_decimal l.at.y ∷ codes ")\"" ∷ attribute l.class ∷ codes ">" ∷ [])
 
 -- a text of these words
-abbrev pub text : Label → List ℕ → List ℕ
+abbrev pub text : Placement → List ℕ → List ℕ
 text l words = text_front l ++ (words ++ codes "</text>\n")
 
 -- the beginning of a path

@@ -3,17 +3,17 @@
 ghost use Rattle.std.specs.Prelude.{◌≡◌, ◌++◌, pos, OnOk};
 ghost use Rattle.vcm_svg.specs.Heading.{heading_label, left_out_line, left_out_text, heading_text};
 
-use crate::pieces::Piece;
+use crate::pieces::Fragment;
 use crate::ranges::Unit;
 use crate::rect::Spot;
-use crate::shapes::{Label, Lettering, put_text};
+use crate::shapes::{Lettering, Placement, put_text};
 use vcm_num::{NoMemory, Point};
 
 // A line of the heading, so many units from the top.
-fn heading_label(unit: Unit, line: u16) -> Label
+fn heading_label(unit: Unit, line: u16) -> Placement
     ensures { result ≡ heading_label unit (pos line) }
 {
-    Label {
+    Placement {
         at: Spot {
             x: unit.times(20).get(),
             y: unit.times(line).get(),
@@ -31,9 +31,9 @@ fn put_left_out_line(out: &mut Vec<u8>, unit: Unit, left_out: u64) -> Result<(),
         out,
         heading_label(unit, 56),
         &[
-            Piece::Text(b"the first "),
-            Piece::Count(left_out),
-            Piece::Text(b" pieces of the way are left out"),
+            Fragment::Text(b"the first "),
+            Fragment::Count(left_out),
+            Fragment::Text(b" pieces of the way are left out"),
         ],
     )
 }
@@ -59,15 +59,15 @@ pub fn put_heading(
 ) -> Result<(), NoMemory>
     ensures { OnOk result (out.new.items ≡ out.old.items ++ heading_text unit first.now position done left_out) }
 {
-    put_text(out, heading_label(unit, 20), &[Piece::Text(first)])?;
+    put_text(out, heading_label(unit, 20), &[Fragment::Text(first)])?;
     put_text(
         out,
         heading_label(unit, 38),
         &[
-            Piece::Text(b"position "),
-            Piece::At(position),
-            Piece::Text(b"  steps "),
-            Piece::Count(done),
+            Fragment::Text(b"position "),
+            Fragment::At(position),
+            Fragment::Text(b"  steps "),
+            Fragment::Count(done),
         ],
     )?;
     put_left_out(out, unit, left_out)

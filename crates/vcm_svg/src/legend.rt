@@ -4,9 +4,9 @@ ghost use Rattle.std.specs.Prelude.{◌≡◌, ◌++◌, ◌≤ℤ◌, pos, map,
 ghost use Rattle.vcm_svg.specs.Legend.{right_of, size_of, sign_outline, sign_in_row, row_text, words_label, rows_text, legend_text, last_within, bar_of, bar_label, bar_with, bar_text};
 
 use crate::outlines::{Outline, bar_line, circle, cross, dash, square_round};
-use crate::pieces::Piece;
-use crate::ranges::{Length, Place, Site, Unit};
-use crate::shapes::{Class, Label, Lettering, put_path, put_text};
+use crate::pieces::Fragment;
+use crate::ranges::{BoundedSpot, Length, Site, Unit};
+use crate::shapes::{Class, Lettering, Placement, put_path, put_text};
 use crate::whole::{quotient, scaled};
 use vcm_num::NoMemory;
 
@@ -60,7 +60,7 @@ fn sign_outline(sign: Sign, at: Site, size: Length) -> Outline
 }
 
 // The outline of a sign in a row so many units below a place.
-fn sign_in_row(at: Place, unit: Unit, down: u8, sign: Sign) -> Outline
+fn sign_in_row(at: BoundedSpot, unit: Unit, down: u8, sign: Sign) -> Outline
     ensures { result ≡ sign_in_row at unit down sign }
 {
     let site = at.moved(unit.times(right_of(sign)), unit.times(u16::from(down)));
@@ -68,11 +68,11 @@ fn sign_in_row(at: Place, unit: Unit, down: u8, sign: Sign) -> Outline
 }
 
 // Where the words of a row stand, so many units below a place.
-fn words_label(at: Place, unit: Unit, down: u8) -> Label
+fn words_label(at: BoundedSpot, unit: Unit, down: u8) -> Placement
     ensures { result ≡ words_label at unit down }
 {
     let site = at.moved(unit.times(48), unit.times(u16::from(down) + 3));
-    Label {
+    Placement {
         at: site.spot(),
         size: unit.get(),
         class: Lettering::Plain,
@@ -82,7 +82,7 @@ fn words_label(at: Place, unit: Unit, down: u8) -> Label
 /// Appends a row of a legend: a sign and its words, so many units below a place.
 pub fn put_row(
     out: &mut Vec<u8>,
-    at: Place,
+    at: BoundedSpot,
     unit: Unit,
     down: u8,
     class: Class,
@@ -92,13 +92,13 @@ pub fn put_row(
     ensures { OnOk result (out.new.items ≡ out.old.items ++ row_text at unit (down, class, sign, words.now)) }
 {
     put_path(out, class, sign_in_row(at, unit, down, sign))?;
-    put_text(out, words_label(at, unit, down), &[Piece::Text(words)])
+    put_text(out, words_label(at, unit, down), &[Fragment::Text(words)])
 }
 
 // Appends rows.
 fn put_rows(
     out: &mut Vec<u8>,
-    at: Place,
+    at: BoundedSpot,
     unit: Unit,
     rows: &[(u8, Class, Sign, &[u8])],
 ) -> Result<(), NoMemory>
@@ -126,7 +126,7 @@ const ROWS: &[(u8, Class, Sign, &[u8])] = &[
 ];
 
 /// Appends the legend at a place.
-pub fn put_legend(out: &mut Vec<u8>, at: Place, unit: Unit) -> Result<(), NoMemory>
+pub fn put_legend(out: &mut Vec<u8>, at: BoundedSpot, unit: Unit) -> Result<(), NoMemory>
     ensures { OnOk result (out.new.items ≡ out.old.items ++ legend_text at unit) }
 {
     put_rows(out, at, unit, ROWS)
@@ -160,10 +160,10 @@ fn bar_of(most: i64) -> Length
 }
 
 // Where the words of a bar stand.
-fn bar_label(at: Place, unit: Unit, long: Length) -> Label
+fn bar_label(at: BoundedSpot, unit: Unit, long: Length) -> Placement
     ensures { result ≡ bar_label at unit long }
 {
-    Label {
+    Placement {
         at: at.behind(long, unit.times(8)),
         size: unit.get(),
         class: Lettering::Plain,
@@ -173,7 +173,7 @@ fn bar_label(at: Place, unit: Unit, long: Length) -> Label
 // Appends a bar of that length.
 fn put_bar_with(
     out: &mut Vec<u8>,
-    at: Place,
+    at: BoundedSpot,
     unit: Unit,
     grain: Unit,
     long: Length,
@@ -186,8 +186,8 @@ fn put_bar_with(
         out,
         bar_label(at, unit, long),
         &[
-            Piece::Length(scaled(long, grain)),
-            Piece::Text(b" mm; third-angle projection"),
+            Fragment::Length(scaled(long, grain)),
+            Fragment::Text(b" mm; third-angle projection"),
         ],
     )
 }
@@ -195,7 +195,7 @@ fn put_bar_with(
 /// Appends the bar that shows a length, of a view of that width.
 pub fn put_bar(
     out: &mut Vec<u8>,
-    at: Place,
+    at: BoundedSpot,
     unit: Unit,
     grain: Unit,
     wide: i64,

@@ -9,7 +9,7 @@ use vcm_num::{NoMemory, Point, write_int, write_thousandths};
 
 /// A piece of a text.
 #[derive(Clone, Copy)]
-pub enum Piece<'a> {
+pub enum Fragment<'a> {
     /// These bytes.
     Text(&'a [u8]),
     /// A whole number.
@@ -64,21 +64,21 @@ fn put_point(out: &mut Vec<u8>, at: Point) -> Result<(), NoMemory>
 }
 
 // Appends a piece.
-fn put_piece(out: &mut Vec<u8>, piece: Piece) -> Result<(), NoMemory>
+fn put_piece(out: &mut Vec<u8>, piece: Fragment) -> Result<(), NoMemory>
     ensures { OnOk result (out.new.items ≡ out.old.items ++ piece_text piece.entry) }
 {
     match piece {
-        Piece::Text(bytes) => put_bytes(out, bytes),
-        Piece::Number(number) => write_int(number, out),
-        Piece::Back(number) => put_back(out, number),
-        Piece::Count(count) => put_count(out, count),
-        Piece::Length(length) => write_thousandths(length, out),
-        Piece::At(point) => put_point(out, point),
+        Fragment::Text(bytes) => put_bytes(out, bytes),
+        Fragment::Number(number) => write_int(number, out),
+        Fragment::Back(number) => put_back(out, number),
+        Fragment::Count(count) => put_count(out, count),
+        Fragment::Length(length) => write_thousandths(length, out),
+        Fragment::At(point) => put_point(out, point),
     }
 }
 
 /// Appends pieces one after another.
-pub fn put(out: &mut Vec<u8>, pieces: &[Piece]) -> Result<(), NoMemory>
+pub fn put(out: &mut Vec<u8>, pieces: &[Fragment]) -> Result<(), NoMemory>
     ensures { OnOk result (out.new.items ≡ out.old.items ++ texts pieces.now) }
 {
     for piece in pieces {

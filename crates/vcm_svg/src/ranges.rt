@@ -100,11 +100,11 @@ impl Length {
 
 /// A place in a view, or one where a part of the picture begins: its numbers lie within 2^40 of 0.
 #[derive(Clone, Copy)]
-pub struct Place {
+pub struct BoundedSpot {
     spot: Spot,
 }
 
-impl Model for Place {
+impl Model for BoundedSpot {
     ghost use Rattle.vcm_svg.specs.declared.rect.Spot.{Spot as Meaning};
     ghost use Rattle.vcm_svg.specs.Ranges.{IsSpot};
 
@@ -117,13 +117,13 @@ impl Model for Place {
     ghost inverse = { λ s. record { spot = s } };
 }
 
-impl Place {
+impl BoundedSpot {
     /// The place that a spot is.
-    pub fn new(spot: Spot) -> Place
+    pub fn new(spot: Spot) -> BoundedSpot
         requires { IsSpot spot }
         ensures { result ≡ spot }
     {
-        Place { spot }
+        BoundedSpot { spot }
     }
 
     /// Its spot.

@@ -5,7 +5,7 @@ ghost use Rattle.vcm_svg.specs.Pieces.{texts};
 ghost use Rattle.vcm_svg.specs.Shapes.{attribute, class_name, text_front, text, path_front, path, told};
 
 use crate::outlines::{Outline, put_outline};
-use crate::pieces::{Piece, put};
+use crate::pieces::{Fragment, put};
 use crate::rect::Spot;
 use vcm_num::NoMemory;
 
@@ -41,7 +41,7 @@ pub enum Class {
 
 /// Where a text stands, how large it is, and its class.
 #[derive(Clone, Copy)]
-pub struct Label {
+pub struct Placement {
     pub at: Spot,
     pub size: i64,
     pub class: Lettering,
@@ -84,34 +84,34 @@ fn class_name<'a>(class: Class) -> &'a [u8]
 }
 
 // Appends the beginning of a text.
-fn begin_text(out: &mut Vec<u8>, label: Label) -> Result<(), NoMemory>
+fn begin_text(out: &mut Vec<u8>, label: Placement) -> Result<(), NoMemory>
     ensures { OnOk result (out.new.items ≡ out.old.items ++ text_front label) }
 {
     put(
         out,
         &[
-            Piece::Text(b"<text transform=\"matrix("),
-            Piece::Number(label.size),
-            Piece::Text(b" 0 0 "),
-            Piece::Number(label.size),
-            Piece::Text(b" "),
-            Piece::Number(label.at.x),
-            Piece::Text(b" "),
-            Piece::Number(label.at.y),
-            Piece::Text(b")\""),
-            Piece::Text(attribute(label.class)),
-            Piece::Text(b">"),
+            Fragment::Text(b"<text transform=\"matrix("),
+            Fragment::Number(label.size),
+            Fragment::Text(b" 0 0 "),
+            Fragment::Number(label.size),
+            Fragment::Text(b" "),
+            Fragment::Number(label.at.x),
+            Fragment::Text(b" "),
+            Fragment::Number(label.at.y),
+            Fragment::Text(b")\""),
+            Fragment::Text(attribute(label.class)),
+            Fragment::Text(b">"),
         ],
     )
 }
 
 /// Appends a text.
-pub fn put_text(out: &mut Vec<u8>, label: Label, words: &[Piece]) -> Result<(), NoMemory>
+pub fn put_text(out: &mut Vec<u8>, label: Placement, words: &[Fragment]) -> Result<(), NoMemory>
     ensures { OnOk result (out.new.items ≡ out.old.items ++ text label (texts words.now)) }
 {
     begin_text(out, label)?;
     put(out, words)?;
-    put(out, &[Piece::Text(b"</text>\n")])
+    put(out, &[Fragment::Text(b"</text>\n")])
 }
 
 // Appends the beginning of a path.
@@ -121,9 +121,9 @@ fn begin_path(out: &mut Vec<u8>, class: Class) -> Result<(), NoMemory>
     put(
         out,
         &[
-            Piece::Text(b"<path class=\""),
-            Piece::Text(class_name(class)),
-            Piece::Text(b"\" d=\""),
+            Fragment::Text(b"<path class=\""),
+            Fragment::Text(class_name(class)),
+            Fragment::Text(b"\" d=\""),
         ],
     )
 }
@@ -134,7 +134,7 @@ pub fn put_path(out: &mut Vec<u8>, class: Class, outline: Outline) -> Result<(),
 {
     begin_path(out, class)?;
     put_outline(out, outline)?;
-    put(out, &[Piece::Text(b"\"/>\n")])
+    put(out, &[Fragment::Text(b"\"/>\n")])
 }
 
 /// Appends a path of an outline, with a tooltip.
@@ -142,13 +142,13 @@ pub fn put_told(
     out: &mut Vec<u8>,
     class: Class,
     outline: Outline,
-    tip: &[Piece],
+    tip: &[Fragment],
 ) -> Result<(), NoMemory>
     ensures { OnOk result (out.new.items ≡ out.old.items ++ told class outline (texts tip.now)) }
 {
     begin_path(out, class)?;
     put_outline(out, outline)?;
-    put(out, &[Piece::Text(b"\"><title>")])?;
+    put(out, &[Fragment::Text(b"\"><title>")])?;
     put(out, tip)?;
-    put(out, &[Piece::Text(b"</title></path>\n")])
+    put(out, &[Fragment::Text(b"</title></path>\n")])
 }

@@ -3,7 +3,7 @@
 ghost use Rattle.std.specs.Prelude.{◌≡◌, ◌++◌, map, OnOk};
 ghost use Rattle.vcm_svg.specs.Style.{width_text, widths, edge_of, broad_if, end_text, style_text};
 
-use crate::pieces::{Piece, put, put_bytes};
+use crate::pieces::{Fragment, put, put_bytes};
 use crate::ranges::Unit;
 use crate::whole::quotient;
 use vcm_num::NoMemory;
@@ -83,8 +83,8 @@ fn put_width(out: &mut Vec<u8>, unit: Unit, text: &[u8], count: u8) -> Result<()
     put(
         out,
         &[
-            Piece::Text(text),
-            Piece::Number(unit.times(u16::from(count)).get()),
+            Fragment::Text(text),
+            Fragment::Number(unit.times(u16::from(count)).get()),
         ],
     )
 }

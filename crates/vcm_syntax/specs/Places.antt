@@ -25,7 +25,7 @@ use Rattle.vcm_syntax.specs.declared.heads.Letter.TheVariants as letters
 use Rattle.vcm_syntax.specs.declared.heads.Prefix.{Prefix}
 use Rattle.vcm_syntax.specs.declared.heads.Prefix.TheVariants.{Bare, Assigned, Titled}
 use Rattle.vcm_forms.specs.declared.statement.Target.{Target}
-use Rattle.vcm_forms.specs.declared.statement.Spot.{Spot}
+use Rattle.vcm_forms.specs.declared.statement.Coordinates.{Coordinates}
 use Rattle.vcm_forms.specs.Statements.{as_read}
 use Rattle.vcm_lines.specs.Fault.{or_fault}
 use Rattle.vcm_syntax.specs.Readers.{alone, field}
@@ -181,7 +181,7 @@ test_of (Open ∷ ws) = closed_of (last_of ws) ws
 test_of _ = Err BadSyntax
 
 -- a place, its coordinates in the first three fields
-abbrev pub spot_of : List (List Lexeme) → Result Spot FaultCode
+abbrev pub spot_of : List (List Lexeme) → Result Coordinates FaultCode
 spot_of fs = do
   x ← (field fs 0 >>= expr_of)
   y ← (field fs 1 >>= expr_of)

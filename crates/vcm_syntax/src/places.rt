@@ -11,7 +11,7 @@ ghost use Rattle.vcm_syntax.specs.inner.Steps.{complete, found_of, at_place};
 
 use std::alloc::Global;
 use vcm_expr::{Expr, read_expr};
-use vcm_forms::{OperatorText, Spot, Target};
+use vcm_forms::{Coordinates, OperatorText, Target};
 use vcm_items::Name;
 use vcm_lines::{FaultCode, Phrase, SourceFault, Token, bad_syntax};
 use vcm_num::is;
@@ -277,11 +277,15 @@ pub(crate) fn test(
 }
 
 /// A place, its coordinates in the first three fields.
-pub(crate) fn spot(alloc: Global, line: u32, fields: &[Phrase<'_>]) -> Result<Spot, SourceFault>
+pub(crate) fn spot(
+    alloc: Global,
+    line: u32,
+    fields: &[Phrase<'_>],
+) -> Result<Coordinates, SourceFault>
     ensures { ReadAs line (λ s. s) result (spot_of fields.now) }
 {
     let x = expression(alloc, line, fields, 0)?;
     let y = expression(alloc, line, fields, 1)?;
     let z = expression(alloc, line, fields, 2)?;
-    Ok(Spot { x, y, z })
+    Ok(Coordinates { x, y, z })
 }

@@ -2,12 +2,12 @@
 
 use std::alloc::Global;
 use std::fmt::Write as _;
-use vcm_boxes::Label;
-use vcm_keys::{Place, unused_keys};
+use vcm_boxes::ShortName;
+use vcm_keys::{KeyPlace, unused_keys};
 use vcm_num::NoMemory;
 
 // A key as it is told.
-fn key_words(key: &Option<Label>) -> &str {
+fn key_words(key: &Option<ShortName>) -> &str {
     match key {
         Some(label) => std::str::from_utf8(label.as_bytes()).unwrap_or("a key"),
         None => "a key",
@@ -15,7 +15,7 @@ fn key_words(key: &Option<Label>) -> &str {
 }
 
 // The notice of a key that nothing uses.
-fn put_notice(text: &mut String, place: &Place) -> Result<(), NoMemory> {
+fn put_notice(text: &mut String, place: &KeyPlace) -> Result<(), NoMemory> {
     text.push_str("notice")?;
     let line = place.line;
     if line != 0 {

@@ -14,7 +14,7 @@ const LONGEST: usize = 60;
 
 // Where something stands: the name of its file, its line, which is 0 where it isn't known, and the number of its block, or 0.
 #[derive(Clone, Copy)]
-struct Spot<'a> {
+struct FilePlace<'a> {
     name: &'a str,
     line: usize,
     block: u32,
@@ -53,8 +53,8 @@ fn put_front(text: &mut String, line: &[u8]) -> Result<(), NoMemory> {
 }
 
 // Appends where something stands.
-fn put_spot(text: &mut String, spot: Spot<'_>) -> Result<(), NoMemory> {
-    let Spot { name, line, block } = spot;
+fn put_spot(text: &mut String, spot: FilePlace<'_>) -> Result<(), NoMemory> {
+    let FilePlace { name, line, block } = spot;
     text.push_str(name)?;
     if line != 0 {
         write!(text, " line {line}")?;
@@ -169,7 +169,7 @@ fn put_no_point(text: &mut String, key: &str, value: &Value) -> Result<(), NoMem
 #[derive(Clone, Copy)]
 struct Corner<'a> {
     key: &'a str,
-    spot: Spot<'a>,
+    spot: FilePlace<'a>,
     block_line: usize,
 }
 
@@ -177,7 +177,7 @@ struct Corner<'a> {
 fn put_bad_corner(text: &mut String, table: &Table, corner: Corner<'_>) -> Result<bool, NoMemory> {
     let key = corner.key;
     let Some(value) = table.get(key) else {
-        let spot = Spot {
+        let spot = FilePlace {
             line: corner.block_line,
             ..corner.spot
         };
@@ -217,7 +217,7 @@ fn put_far_corner(text: &mut String, table: &Table, corner: Corner<'_>) -> Resul
 }
 
 // Appends why the tip isn't read.
-fn put_bad_tip(text: &mut String, table: &Table, spot: Spot<'_>) -> Result<bool, NoMemory> {
+fn put_bad_tip(text: &mut String, table: &Table, spot: FilePlace<'_>) -> Result<bool, NoMemory> {
     let Some(value) = table.get("tip") else {
         return Ok(false);
     };
@@ -244,7 +244,7 @@ struct Refused<'a> {
     name: &'a str,
     table: &'a Table,
     lines: &'a [usize],
-    places: &'a [vcm_keys::Place],
+    places: &'a [vcm_keys::KeyPlace],
     fault: PartFault,
 }
 
@@ -269,9 +269,9 @@ fn table_of<'a>(table: &'a Table, block: u32) -> Option<&'a Table> {
 }
 
 // Where a key of the block at fault stands.
-fn spot_of<'a>(refused: &Refused<'a>, key: &str) -> Spot<'a> {
+fn spot_of<'a>(refused: &Refused<'a>, key: &str) -> FilePlace<'a> {
     let block = refused.fault.block;
-    Spot {
+    FilePlace {
         name: refused.name,
         line: line_of(block as usize, key.as_bytes(), refused.places),
         block,

@@ -14,7 +14,7 @@ use Rattle.vcm_spec.specs.World.{Settings, World}
 use Rattle.vcm_spec.specs.Effect.{at_index}
 use Rattle.vcm_spec.specs.declared.simple.Simple.TheVariants.{Goto, GoHome, Assign, Feat, PtMeas, SnSet, Trans, Rotate, Recall, Obtain, Output, Text}
 use Rattle.vcm_code.specs.declared.op.Op.TheVariants.{Plain, If, Else, EndIf, Do, EndDo, Label, JumpTo, Meas, EndMes, Select, Case, EndCas, DftCas, EndSel, EndFil}
-use Rattle.vcm_code.specs.Code.{Op, Statement}
+use Rattle.vcm_code.specs.Code.{Op, CodeStatement}
 use Rattle.vcm_code.specs.Words.{word_of}
 use Rattle.vcm_words.specs.Operands.{word_text, setting_text}
 use Rattle.vcm_report.specs.Printed.{in_a_row, name_at, stopped_line}
@@ -139,7 +139,7 @@ step_end tables w next op None = done_end tables w next op
 
 -- the line of a step: how many steps were taken with it, the number of the statement that was carried out, this statement, and the state
 -- and the next statement's number behind it
-abbrev pub step_line : Tables → (count number : ℕ) → Statement → World → (next : ℕ) → List ℕ
+abbrev pub step_line : Tables → (count number : ℕ) → CodeStatement → World → (next : ℕ) → List ℕ
 step_line tables count number s w next =
     line_front count number s.line (word_text (word_of s.op)) w.position ++ step_end tables w next s.op w.stop
 

@@ -7,7 +7,7 @@ use Rattle.vcm_spec.specs.Workpiece.{Workpiece}
 use Rattle.vcm_spec.specs.Setup.{Tables}
 use Rattle.vcm_code.specs.declared.code.Code.{Code}
 use Rattle.vcm_code.specs.CodeTable.{CodeState}
-use Rattle.vcm_code.specs.Code.{Statement}
+use Rattle.vcm_code.specs.Code.{CodeStatement}
 use Rattle.vcm_machine.specs.declared.ran.End.TheVariants.{NoMemory}
 use Rattle.vcm_machine.specs.Running.{started, later, RunEnded}
 use Rattle.vcm_steps.specs.Passages.{Passage, state_after, steps_taken, passages}
@@ -20,7 +20,7 @@ abbrev pub trace_line : Tables → Passage → List ℕ
 trace_line tables p = step_line tables p.count p.number p.statement p.after p.next
 
 -- the line of a state in which it has not stopped, after so many steps, before this statement
-abbrev pub open_at : ℕ → CodeState → Option Statement → List ℕ
+abbrev pub open_at : ℕ → CodeState → Option CodeStatement → List ℕ
 open_at count m None = []
 open_at count m (Some s) = open_line count m.next s.line m.world
 

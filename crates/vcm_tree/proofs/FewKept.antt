@@ -10,18 +10,18 @@ use Rattle.vcm_macro.specs.Expansion.{IsExpanded}
 use Rattle.vcm_macro.specs.Rules.{one_if, is_full, weight, weigh, code_if, called_codes, BreaksBehind, BreaksMacros}
 use Rattle.vcm_substitution.specs.Kept.{is_kept}
 use Rattle.vcm_substitution.specs.Sizes.{are_small}
-use Rattle.vcm_macro.specs.Walk.{Place, Opens, Inside, Stands, Misplaced, Calls, walk}
+use Rattle.vcm_macro.specs.Walk.{Visit, Opens, Inside, Stands, Misplaced, Calls, walk}
 use Rattle.vcm_macro.proofs.CodesAt.{told_first}
 use Rattle.vcm_macro.proofs.Phases.{kept_few}
 use Rattle.vcm_macro.proofs.Walks.{weigh_append}
 use Rattle.vcm_tree.proofs.Cutting.{place}
 
 -- places that break no rule, one by one, behind others that count so much
-abbrev FineFrom : ℕ → List Place → Type 0
+abbrev FineFrom : ℕ → List Visit → Type 0
 FineFrom n [] = Unit {0}
 FineFrom n (p ∷ ps) = ((code : FaultCode) → BreaksBehind n p code → ⊥) × FineFrom (n + weight p) ps
 
-fine_from : (before ps : List Place) → IsClean BreaksMacros (before ++ ps) → FineFrom (weigh before) ps
+fine_from : (before ps : List Visit) → IsClean BreaksMacros (before ++ ps) → FineFrom (weigh before) ps
 fine_from before [] clean = tt
 fine_from before (p ∷ ps) clean =
     let q = place before p ps in
@@ -42,7 +42,7 @@ or_right : (b c : Bool) → c ≡ true → (b || c) ≡ true
 or_right true c e = refl
 or_right false c e = e
 
-few_one : (n : ℕ) (p : Place) → n ≤ 20000 → ((code : FaultCode) → BreaksBehind n p code → ⊥) → n + weight p ≤ 20000
+few_one : (n : ℕ) (p : Visit) → n ≤ 20000 → ((code : FaultCode) → BreaksBehind n p code → ⊥) → n + weight p ≤ 20000
 few_one n (Opens ms s) le f = omega (arith, le)
 few_one n (Inside m s) le f = omega (arith, le)
 few_one n (Stands e s) le f = by (is_kept s.form) refl
@@ -53,7 +53,7 @@ few_one n (Stands e s) le f = by (is_kept s.form) refl
 few_one n (Misplaced line) le f = omega (arith, le)
 few_one n (Calls line depth m args) le f = room n (λ full. f TooLong (told_first (nat_lt 16 depth || is_full n) TooLong (called_codes m args) (or_right (nat_lt 16 depth) (is_full n) full)))
 
-few_from : (n : ℕ) (ps : List Place) → n ≤ 20000 → FineFrom n ps → n + weigh ps ≤ 20000
+few_from : (n : ℕ) (ps : List Visit) → n ≤ 20000 → FineFrom n ps → n + weigh ps ≤ 20000
 few_from n [] le f = omega (arith, le)
 few_from n (p ∷ ps) le f =
     let rest = few_from (n + weight p) ps (few_one n p le f.0) f.1 in

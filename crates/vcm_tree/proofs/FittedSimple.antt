@@ -21,7 +21,7 @@ use Rattle.vcm_expr.specs.Source.{Source}
 use Rattle.vcm_expr.specs.Typing.{typed_for, wanted_kind}
 use Rattle.vcm_expr.proofs.TypedKinds.{typed_for_fine}
 use Rattle.vcm_forms.specs.declared.statement.Offset.{Offset}
-use Rattle.vcm_forms.specs.declared.statement.Spot.{Spot}
+use Rattle.vcm_forms.specs.declared.statement.Coordinates.{Coordinates}
 use Rattle.vcm_forms.specs.declared.statement.Target.{Target}
 use Rattle.vcm_tree.specs.Variables.{want_of, target_of, assigned, assigned_by, assigned_to, moved}
 use Rattle.vcm_tree.specs.Blocks.{Opened}
@@ -80,7 +80,7 @@ module _ (vs : List Variable) (ws : Tables) (g : Grown vs ws.variables) where
   abbrev three : Tree → Tree → Tree → Result (Tree × Tree × Tree) FaultCode
   three a b c = Ok (a, b, c)
 
-  lengths_fit : (p : Spot) (t : Tree × Tree × Tree) → lengths vs p ≡ Ok t → AreLong t
+  lengths_fit : (p : Coordinates) (t : Tree × Tree × Tree) → lengths vs p ≡ Ok t → AreLong t
   lengths_fit p t e =
       let h = bind-Ok (typed_for vs wants.Length p.x) (λ a. typed_for vs wants.Length p.y >>= λ b. typed_for vs wants.Length p.z >>= λ c. three a b c) t e in
       let i = bind-Ok (typed_for vs wants.Length p.y) (λ b. typed_for vs wants.Length p.z >>= λ c. three h.0 b c) t h.2 in
@@ -94,7 +94,7 @@ module _ (vs : List Variable) (ws : Tables) (g : Grown vs ws.variables) where
   abbrev done : Simple Tree → Result (Simple Tree) FaultCode
   done what = Ok what
 
-  pub declared_fits : (fs : List (List ℕ)) (l : List ℕ) (p : Spot) (d : Axis) (what : Simple Tree) → length (with_name fs l) ≤ length ws.features
+  pub declared_fits : (fs : List (List ℕ)) (l : List ℕ) (p : Coordinates) (d : Axis) (what : Simple Tree) → length (with_name fs l) ≤ length ws.features
       → declared fs vs l p d ≡ Ok what → FitsHere what
   declared_fits fs l p d what few e =
       let h = bind-Ok (entered fs l) (declared_at vs p d) what e in
@@ -104,7 +104,7 @@ module _ (vs : List Variable) (ws : Tables) (g : Grown vs ws.variables) where
       let same : Feat h.0 i.0.0 i.0.1 i.0.2 d ≡ what = cc in
       subst FitsHere same (omega (arith, few, low), (long.x, long.y, long.z))
 
-  pub touched_fits : (bs : List Opened) (t : Bool) (p : Spot) (given : Option Axis) (what : Simple Tree) → Within (length ws.features) bs
+  pub touched_fits : (bs : List Opened) (t : Bool) (p : Coordinates) (given : Option Axis) (what : Simple Tree) → Within (length ws.features) bs
       → touched bs t vs p given ≡ Ok what → FitsHere what
   touched_fits bs t p given what in_blocks e =
       let h = bind-Ok (touched_in bs t) (λ i. lengths vs p >>= λ u. done (PtMeas i u.0 u.1 u.2 given)) what e in

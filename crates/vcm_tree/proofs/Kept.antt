@@ -15,7 +15,7 @@ use Rattle.vcm_macro.specs.Order.{nothing_before, is_ending, is_open_behind, ord
 use Rattle.vcm_macro.specs.Rules.{is_there, kept}
 use Rattle.vcm_substitution.specs.Kept.{is_kept}
 use Rattle.vcm_substitution.specs.Substitution.{Scope, outside, is_same, put_argument}
-use Rattle.vcm_macro.specs.Walk.{Defined, Place, Opens, Inside, Calls, calls_in, Caller, statement_in, body_in, call_in, with_statement, waits_behind, misplaced_if, Following, text_from, walk_from, outside_in}
+use Rattle.vcm_macro.specs.Walk.{Defined, Visit, Opens, Inside, Calls, calls_in, Caller, statement_in, body_in, call_in, with_statement, waits_behind, misplaced_if, Following, text_from, walk_from, outside_in}
 use Rattle.std.proofs.lemmas.List.{append-nil}
 use Rattle.vcm_macro.proofs.Orders.{order_push}
 use Rattle.vcm_macro.proofs.Walks.{kept_append}
@@ -44,7 +44,7 @@ AllLettered [] = Unit {0}
 AllLettered (p ∷ ps) = DeclaresLettered p.statement.form × AllLettered ps
 
 -- and what is left of places
-abbrev LeavesLettered : List Place → Type 0
+abbrev LeavesLettered : List Visit → Type 0
 LeavesLettered ps = AllLettered (kept ps)
 
 -- the bodies of macros
@@ -65,7 +65,7 @@ all_append : (ps qs : List Placed) → AllLettered ps → AllLettered qs → All
 all_append [] qs g h = h
 all_append (p ∷ ps) qs g h = (g.0, all_append ps qs g.1 h)
 
-left_append : (ps qs : List Place) → LeavesLettered ps → LeavesLettered qs → LeavesLettered (ps ++ qs)
+left_append : (ps qs : List Visit) → LeavesLettered ps → LeavesLettered qs → LeavesLettered (ps ++ qs)
 left_append ps qs g h = subst AllLettered (sym (kept_append ps qs)) (all_append (kept ps) (kept qs) g h)
 
 one_more : (ss : List Statement) (s : Statement) → AreLettered ss → DeclaresLettered s.form → AreLettered (ss ++ s ∷ [])
@@ -174,8 +174,8 @@ ended_behind : (before : List Statement) (s : Statement) (b : Bool) → (order_a
 ended_behind before s b e t = rw (order_push nothing_before before s) (ap (λ c. c || is_ending s.form) e ∙ t)
 
 -- how a walk goes on behind a statement: behind some places, and a macro is open or not
-record GoesOn (all : List Place) (on : Following) (opened : Bool) : Type 0 where
-  places : List Place
+record GoesOn (all : List Visit) (on : Following) (opened : Bool) : Type 0 where
+  places : List Visit
   macros : List Defined
   current : Option Defined
   waits : Bool
@@ -207,7 +207,7 @@ last_behind (p ∷ []) [] e = absurd cc
 last_behind (p ∷ []) (q ∷ qs) e = e
 last_behind (p ∷ r ∷ ps) qs e = last_behind (r ∷ ps) qs e
 
-left_behind : (ps qs : List Place) → is_ended (kept qs) ≡ true → is_ended (kept (ps ++ qs)) ≡ true
+left_behind : (ps qs : List Visit) → is_ended (kept qs) ≡ true → is_ended (kept (ps ++ qs)) ≡ true
 left_behind ps qs e = ap is_ended (kept_append ps qs) ∙ last_behind (kept ps) (kept qs) e
 
 pub ending_is : (form : Form) → is_ending form ≡ true → form ≡ Ending
@@ -245,7 +245,7 @@ ended_by ms current waits done before s ss true t c e h g next =
     let out = not_open o.begun o.ended o.opened (wants_units Ending && not o.measured) (ap (is_misplaced o) (sym form) ∙ h.0) in
     ended_here ms current waits done s ss (c ∙ out) form (nothing_more (before ++ s ∷ []) ss (begun_behind before s) (ended_behind before s true e t) h.1)
 ended_by ms current waits done before s ss false t c e h g next =
-    subst (λ (ps : List Place). is_ended (kept ps) ≡ true) (sym g.is) (left_behind g.places (walk_from g.macros g.current g.waits g.calls ss) (next (ended_behind before s false e t)))
+    subst (λ (ps : List Visit). is_ended (kept ps) ≡ true) (sym g.is) (left_behind g.places (walk_from g.macros g.current g.waits g.calls ss) (next (ended_behind before s false e t)))
 
 ended_from : (ms : List Defined) (current : Option Defined) (waits : Bool) (done : ℕ) (before ss : List Statement) → is_there current ≡ (order_after nothing_before before).opened
     → (order_after nothing_before before).ended ≡ false → InOrder before ss → is_ended (kept (walk_from ms current waits done ss)) ≡ true

@@ -22,7 +22,7 @@ use Rattle.vcm_spec.specs.Setup.{Variable, kinds_of}
 use Rattle.vcm_expr.specs.Source.{Source}
 use Rattle.vcm_expr.specs.Typing.{typed_for}
 use Rattle.vcm_forms.specs.declared.statement.Offset.{Offset}
-use Rattle.vcm_forms.specs.declared.statement.Spot.{Spot}
+use Rattle.vcm_forms.specs.declared.statement.Coordinates.{Coordinates}
 use Rattle.vcm_forms.specs.declared.statement.Target.{Target}
 use Rattle.vcm_lines.specs.Fault.{or_fault}
 use Rattle.vcm_tree.specs.Sentences.{Step, Measures, EndsMeasure}
@@ -32,18 +32,18 @@ use Rattle.vcm_spec.specs.Results.{◌>>=◌}
 use Rattle.vcm_program.specs.Titles.{known, entered}
 
 -- three lengths, from the left
-abbrev pub lengths : List Variable → Spot → Result (Tree × Tree × Tree) FaultCode
+abbrev pub lengths : List Variable → Coordinates → Result (Tree × Tree × Tree) FaultCode
 lengths vs p =
     typed_for vs wants.Length p.x >>= λ a.
     typed_for vs wants.Length p.y >>= λ b.
     typed_for vs wants.Length p.z >>= λ c. Ok (a, b, c)
 
 -- FEAT of the feature at this index
-abbrev pub declared_at : List Variable → Spot → Axis → ℕ → Result (Simple Tree) FaultCode
+abbrev pub declared_at : List Variable → Coordinates → Axis → ℕ → Result (Simple Tree) FaultCode
 declared_at vs p d i = lengths vs p >>= λ t. Ok (Feat i t.0 t.1 t.2 d)
 
 -- FEAT
-abbrev pub declared : List (List ℕ) → List Variable → List ℕ → Spot → Axis → Result (Simple Tree) FaultCode
+abbrev pub declared : List (List ℕ) → List Variable → List ℕ → Coordinates → Axis → Result (Simple Tree) FaultCode
 declared fs vs l p d = entered fs l >>= declared_at vs p d
 
 -- MEAS of a feature that is declared above
@@ -65,7 +65,7 @@ abbrev pub touched_in : List Opened → Bool → Result ℕ FaultCode
 touched_in bs t = touched_by (measuring bs) t
 
 -- PTMEAS
-abbrev pub touched : List Opened → Bool → List Variable → Spot → Option Axis → Result (Simple Tree) FaultCode
+abbrev pub touched : List Opened → Bool → List Variable → Coordinates → Option Axis → Result (Simple Tree) FaultCode
 touched bs t vs p given = touched_in bs t >>= λ i. lengths vs p >>= λ t. Ok (PtMeas i t.0 t.1 t.2 given)
 
 -- ENDMES stands at the end of a MEAS block, which has a PTMEAS

@@ -12,7 +12,7 @@ ghost use Rattle.vcm_tree.specs.inner.Shifting.{shifts};
 use crate::builder::{Builder, Head, bad_body};
 use std::alloc::Global;
 use vcm_expr::{Expr, Names, Typed, Want, type_expr};
-use vcm_forms::{Offset, Spot, Target};
+use vcm_forms::{Coordinates, Offset, Target};
 use vcm_items::Name;
 use vcm_lines::{FaultCode, SourceFault};
 use vcm_nodes::Action;
@@ -25,7 +25,7 @@ pub(crate) fn lengths(
     alloc: Global,
     line: u32,
     names: &Names,
-    place: &Spot,
+    place: &Coordinates,
 ) -> Result<(Typed, Typed, Typed), SourceFault>
     ensures ok { IfOk result (λ t. lengths names.now place.now ≡ Ok (t.0, t.1, t.2)) }
     ensures fault { IfErr result (NoMemoryOr (ToldAt line (lengths names.now place.now))) }
@@ -43,7 +43,7 @@ pub(crate) fn declare_feature(
     features: &mut Titles,
     names: &Names,
     name: Name,
-    place: &Spot,
+    place: &Coordinates,
     toward: Axis,
 ) -> Result<Action, SourceFault>
     ensures ok { IfOk result (λ a. declared features.old names.now name place.now toward ≡ Ok a) }
@@ -79,7 +79,7 @@ pub(crate) fn touch(
     builder: &Builder,
     has_touched: bool,
     names: &Names,
-    place: &Spot,
+    place: &Coordinates,
     toward: Option<Axis>,
 ) -> Result<Action, SourceFault>
     ensures ok { IfOk result (λ a. touched (blocks_of builder.now) has_touched names.now place.now toward ≡ Ok a) }

@@ -14,7 +14,7 @@ use crate::measuring::lengths;
 use crate::selection::Selection;
 use std::alloc::Global;
 use vcm_expr::{Expr, Names, Typed, Want, type_expr};
-use vcm_forms::{Rounds, Spot, Target};
+use vcm_forms::{Coordinates, Rounds, Target};
 use vcm_items::{Name, VariableName};
 use vcm_lines::{FaultCode, SourceFault};
 use vcm_nodes::{Action, Label, Labels};
@@ -117,7 +117,7 @@ pub(crate) fn go_to(
     alloc: Global,
     line: u32,
     names: &Names,
-    place: &Spot,
+    place: &Coordinates,
 ) -> Result<Action, SourceFault>
     ensures ok { IfOk result (λ a. moved names.now place.now.x place.now.y place.now.z ≡ Ok a) }
     ensures fault { IfErr result (NoMemoryOr (ToldAt line (moved names.now place.now.x place.now.y place.now.z))) }

@@ -11,14 +11,14 @@ use Rattle.vcm_steps.specs.Passages.{state_after}
 use Rattle.vcm_boxes.specs.declared.boxes.ProbeBox.{ProbeBox}
 use Rattle.vcm_boxes.specs.Boxes.{AreBoxes}
 use Rattle.vcm_carried.specs.Carried.{IsBox}
-use Rattle.vcm_gone.specs.Gone.{Placed, ways_of}
+use Rattle.vcm_gone.specs.Gone.{PlacedWay, ways_of}
 use Rattle.vcm_clearance.specs.declared.clearing.Cleared.{Cleared}
 use Rattle.vcm_clearance.specs.declared.room.Room.{Room}
 use Rattle.vcm_clearance.specs.Rooms.{AreRooms, is_met_room}
 use Rattle.vcm_clearance.specs.Clearance.{clearance_text, IsClearance, IsHalted, IsCutOff}
 use Rattle.vcm_clearance.proofs.Single.{rooms_one}
 use Rattle.vcm_clearance.proofs.Sizes.{box_at}
-use Rattle.vcm_views.specs.declared.view.View.TheVariants as views
+use Rattle.vcm_views.specs.declared.view.RunView.TheVariants as views
 use Rattle.vcm_views.specs.Views.{clearance_status, IsViewed, IsCutShort, IsClearanceOf}
 
 module _ (w part : Workpiece) (same : w ≡ part) (boxes : Bor (List ProbeBox)) (c : Code) (n : ℕ) (old new : Option (List ℕ)) where
@@ -52,7 +52,7 @@ module _ (w part : Workpiece) (same : w ≡ part) (boxes : Bor (List ProbeBox)) 
 
 -- ---- boxes have one list of rooms
 
-module _ (blocks : List Block3) (all : list_all is_block blocks ≡ true) (ways : List Placed) where
+module _ (blocks : List Block3) (all : list_all is_block blocks ≡ true) (ways : List PlacedWay) where
   same_rooms : (boxes : List ProbeBox) (rs ss : List Room) → ((i : ℕ) (b : ProbeBox) → slice_get boxes i ≡ Some b → IsBox 10000000 b.block)
       → AreRooms blocks boxes ways rs → AreRooms blocks boxes ways ss → rs ≡ ss
   same_rooms [] [] [] sides h k = refl

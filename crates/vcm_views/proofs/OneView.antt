@@ -32,8 +32,8 @@ use Rattle.vcm_job.specs.Answers.{status_and_notices}
 use Rattle.vcm_job.proofs.Answering.{written_once}
 use Rattle.vcm_job.proofs.Told.{never_text, never_bad_image, RefusedAs, InputRefused, one_input}
 use Rattle.vcm_job.proofs.RunAnswers.{input_told}
-use Rattle.vcm_views.specs.declared.view.View.{View}
-use Rattle.vcm_views.specs.declared.view.View.TheVariants as views
+use Rattle.vcm_views.specs.declared.view.RunView.{RunView}
+use Rattle.vcm_views.specs.declared.view.RunView.TheVariants as views
 use Rattle.vcm_views.specs.Views.{Tells, TellsMargin, HasRunTo, picture_of}
 use Rattle.vcm_views.specs.Inputs.{IsImageOf, CodeAs, IsCodeOf, IsShown}
 use Rattle.vcm_views.specs.Laws.{IsFair, ViewsAreOne}
@@ -88,7 +88,7 @@ module _ (part : Workpiece) (valid : IsValid part) (c : Code) (ok : codes.IsVali
       λ e. came_through part c n h.held h.ran h.run (sym h.status_is ∙ eqb-true status 0 e) in
       (one_text part valid c ok h.ran.done h.held (nat_eq status 0) comes text other h.told told, given)
 
-one_told : (view : View) (part : Workpiece) (c : Code) (n : ℕ) (text other : List ℕ) (status more : ℕ) → IsFair view part → codes.IsValid c
+one_told : (view : RunView) (part : Workpiece) (c : Code) (n : ℕ) (text other : List ℕ) (status more : ℕ) → IsFair view part → codes.IsValid c
     → Tells view part c n text status → Tells view part c n other more → (text ≡ other) × (status ≡ more)
 one_told views.Trace part c n text other status more v ok h k = (h.text_is ∙ sym k.text_is, h.status_is ∙ sym k.status_is)
 one_told views.Points part c n text other status more v ok h k = (h.text_is ∙ sym k.text_is, h.status_is ∙ sym k.status_is)
@@ -125,12 +125,12 @@ abbrev pair : ℕ → List Noticed → ℕ × List Noticed
 pair status notices = (status, notices)
 
 -- what a view gives and writes
-pub record ViewGives (view : View) (part : Workpiece) (n : ℕ) (input : List ℕ) (b : ℕ × List Noticed) (bytes : List ℕ) : Type 0 where
+pub record ViewGives (view : RunView) (part : Workpiece) (n : ℕ) (input : List ℕ) (b : ℕ × List Noticed) (bytes : List ℕ) : Type 0 where
   pub code : Code
   pub is_code : IsCodeOf input code b.1
   pub tells : Tells view part code n bytes b.0
 
-module _ (view : View) (part : Workpiece) (fair : IsFair view part) (n : ℕ) (input : List ℕ) where
+module _ (view : RunView) (part : Workpiece) (fair : IsFair view part) (n : ℕ) (input : List ℕ) where
   one_given : (a b : ℕ × List Noticed) (xs ys : List ℕ) → ViewGives view part n input a xs → ViewGives view part n input b ys → (a ≡ b) × (xs ≡ ys)
   one_given a b xs ys h k =
       let same = one_code_as (is_image input) input h.code k.code a.1 b.1 h.is_code k.is_code in

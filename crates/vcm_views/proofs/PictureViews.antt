@@ -15,11 +15,11 @@ use Rattle.vcm_job.specs.Jobs.{status_of}
 use Rattle.vcm_job.specs.declared.fault.Fault.{Fault}
 use Rattle.vcm_job.specs.declared.fault.InputRefusal.{InputRefusal}
 use Rattle.vcm_job.specs.declared.fault.Fault.TheVariants as faults
-use Rattle.vcm_marks.specs.declared.mark.Placed.{Placed}
+use Rattle.vcm_marks.specs.declared.mark.PlacedMark.{PlacedMark}
 use Rattle.vcm_way.specs.Ways.{Kept}
 use Rattle.vcm_way.specs.Following.{HasFollowed}
 use Rattle.vcm_picture.specs.Picture.{sheet, picture_text}
-use Rattle.vcm_views.specs.declared.view.View.TheVariants as views
+use Rattle.vcm_views.specs.declared.view.RunView.TheVariants as views
 use Rattle.vcm_views.specs.Views.{HasRunTo, picture_of, IsViewed, IsCutShort}
 use Rattle.vcm_views.specs.inner.Drawn.{IsDrawn, IsNotDrawn}
 
@@ -89,7 +89,7 @@ module _ (w part : Workpiece) (same : w ≡ part) (c : Code) (n : ℕ) (held : H
       (subst (λ m. RunEnded n (started part c) m ran.done NoMemory) beside.has_run.new_is ended, Keeps-refl old)
 
 -- what was written of the marks that a way keeps
-module _ (part : Workpiece) (held : Held) (done : ℕ) (way : Kept) (is_close : Bool) (marks : List Placed) (left_out : ℕ)
+module _ (part : Workpiece) (held : Held) (done : ℕ) (way : Kept) (is_close : Bool) (marks : List PlacedMark) (left_out : ℕ)
     (same : marks ≡ way.marks) (as_many : left_out ≡ way.left_out) where
   same_text : picture_text (sheet part held done marks left_out is_close) ≡ picture_of part held done way is_close
   same_text = ap (λ m. picture_text (sheet part held done m left_out is_close)) same ∙ ap (λ k. picture_text (sheet part held done way.marks k is_close)) as_many

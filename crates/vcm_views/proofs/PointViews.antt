@@ -8,7 +8,7 @@ use Rattle.vcm_job.specs.Jobs.{status_of}
 use Rattle.vcm_job.specs.declared.fault.Fault.TheVariants as faults
 use Rattle.vcm_steps.specs.Passages.{state_after}
 use Rattle.vcm_points.specs.Points.{points_text, ArePoints, AreHalted, AreCutOff}
-use Rattle.vcm_views.specs.declared.view.View.TheVariants as views
+use Rattle.vcm_views.specs.declared.view.RunView.TheVariants as views
 use Rattle.vcm_views.specs.Views.{IsViewed, IsCutShort}
 
 module _ (w part : Workpiece) (same : w ≡ part) (c : Code) (n : ℕ) (old new : Option (List ℕ)) where

@@ -12,7 +12,7 @@ use Rattle.vcm_job.specs.Jobs.{status_of}
 use Rattle.vcm_job.specs.declared.fault.Fault.{Fault}
 use Rattle.vcm_job.specs.declared.fault.InputRefusal.{InputRefusal}
 use Rattle.vcm_job.specs.declared.fault.Fault.TheVariants as faults
-use Rattle.vcm_views.specs.declared.view.View.TheVariants as views
+use Rattle.vcm_views.specs.declared.view.RunView.TheVariants as views
 use Rattle.vcm_views.specs.Views.{HasRunTo, IsViewed, IsCutShort}
 use Rattle.vcm_views.specs.inner.Told.{IsTold, IsNotTold}
 

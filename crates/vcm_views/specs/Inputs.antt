@@ -11,7 +11,7 @@ use Rattle.vcm_job.specs.Inputs.{is_image, IsInputRefusal}
 use Rattle.vcm_job.specs.declared.fault.Fault.{Fault}
 use Rattle.vcm_job.specs.declared.fault.InputRefusal.{InputRefusal}
 use Rattle.vcm_job.specs.declared.fault.Fault.TheVariants.{Memory, Write}
-use Rattle.vcm_views.specs.declared.view.View.{View}
+use Rattle.vcm_views.specs.declared.view.RunView.{RunView}
 use Rattle.vcm_views.specs.Views.{IsViewed, IsCutShort}
 
 -- the bytes are the image of a valid code
@@ -30,13 +30,13 @@ abbrev pub IsCodeOf : List ℕ → Code → List Noticed → Type 0
 IsCodeOf input c notices = CodeAs (is_image input) input c notices
 
 -- a view of an input was written and nothing else, with this exit status and these notices
-pub record IsShown (view : View) (part : Workpiece) (input : List ℕ) (n status : ℕ) (notices : List Noticed) (old new : Option (List ℕ)) : Type 0 where
+pub record IsShown (view : RunView) (part : Workpiece) (input : List ℕ) (n status : ℕ) (notices : List Noticed) (old new : Option (List ℕ)) : Type 0 where
   pub code : Code
   pub is_code : IsCodeOf input code notices
   pub viewed : IsViewed view part code n status old new
 
 -- no whole view was written, for a fault in the run of the input
-pub record IsNotShown (view : View) (part : Workpiece) (input : List ℕ) (n : ℕ) (f : Fault InputRefusal) (old new : Option (List ℕ)) : Type 0 where
+pub record IsNotShown (view : RunView) (part : Workpiece) (input : List ℕ) (n : ℕ) (f : Fault InputRefusal) (old new : Option (List ℕ)) : Type 0 where
   pub code : Code
   pub notices : List Noticed
   pub is_code : IsCodeOf input code notices
@@ -44,7 +44,7 @@ pub record IsNotShown (view : View) (part : Workpiece) (input : List ℕ) (n : �
 
 -- why no whole view of an input was written, before and after reading it: a fault in its run; or memory, the reader, its length or a refusal, and
 -- nothing was written
-abbrev pub IsNoView : View → Workpiece → ℕ → Option (List ℕ) → Option (List ℕ) → Fault InputRefusal → Option (List ℕ) → Option (List ℕ) → Type 0
+abbrev pub IsNoView : RunView → Workpiece → ℕ → Option (List ℕ) → Option (List ℕ) → Fault InputRefusal → Option (List ℕ) → Option (List ℕ) → Type 0
 IsNoView view part n before after f old new =
     IsUnwritten IsInputRefusal (λ done old new. IfSome before (λ input. IsNotShown view part input n (Memory done) old new))
     (λ done old new. IfSome before (λ input. IsNotShown view part input n (Write done) old new)) before after f old new

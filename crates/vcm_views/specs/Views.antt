@@ -29,8 +29,8 @@ use Rattle.vcm_gone.specs.Gone.{ways_of}
 use Rattle.vcm_clearance.specs.declared.room.Room.{Room}
 use Rattle.vcm_clearance.specs.Rooms.{AreRooms, is_met_room}
 use Rattle.vcm_clearance.specs.Clearance.{contact_lines, clearance_text}
-use Rattle.vcm_views.specs.declared.view.View.{View}
-use Rattle.vcm_views.specs.declared.view.View.TheVariants as views
+use Rattle.vcm_views.specs.declared.view.RunView.{RunView}
+use Rattle.vcm_views.specs.declared.view.RunView.TheVariants as views
 
 -- the trace of a run for at most n steps
 pub record IsTrace (part : Workpiece) (c : Code) (n : ℕ) (text : List ℕ) (status : ℕ) : Type 0 where
@@ -89,7 +89,7 @@ pub record IsClearanceOf (part : Workpiece) (boxes : List ProbeBox) (c : Code) (
   pub status_is : status ≡ clearance_status (list_any is_met_room rooms) (state_after part c n).world.stop
 
 -- a view of a code beside a workpiece, in a run for at most n steps
-abbrev pub Tells : View → Workpiece → Code → ℕ → List ℕ → ℕ → Type 0
+abbrev pub Tells : RunView → Workpiece → Code → ℕ → List ℕ → ℕ → Type 0
 Tells views.Trace part c n text status = IsTrace part c n text status
 Tells views.Margin part c n text status = IsMarginOrResult part c n text status
 Tells views.Points part c n text status = ArePointsOf part c n text status
@@ -97,7 +97,7 @@ Tells (views.Clearance boxes) part c n text status = IsClearanceOf part boxes.no
 Tells (views.Picture is_close) part c n text status = IsPicture part c n is_close text status
 
 -- it was written and nothing else, and this is the exit status
-pub record IsViewed (view : View) (part : Workpiece) (c : Code) (n : ℕ) (status : ℕ) (old new : Option (List ℕ)) : Type 0 where
+pub record IsViewed (view : RunView) (part : Workpiece) (c : Code) (n : ℕ) (status : ℕ) (old new : Option (List ℕ)) : Type 0 where
   pub text : List ℕ
   pub tells : Tells view part c n text status
   pub written : Appends old new text
@@ -107,7 +107,7 @@ abbrev pub IsHaltedAfter : Workpiece → Code → ℕ → ℕ → Type 0
 IsHaltedAfter part c n done = RunEnded n (started part c) (later done (started part c)) done NoMemory
 
 -- what was written of a view in a run that was refused memory after so many steps: of a trace, of points and of a clearance the lines so far, of a margin or a picture nothing
-abbrev pub WrittenSoFar : View → Workpiece → Code → ℕ → Option (List ℕ) → Option (List ℕ) → Type 0
+abbrev pub WrittenSoFar : RunView → Workpiece → Code → ℕ → Option (List ℕ) → Option (List ℕ) → Type 0
 WrittenSoFar views.Trace part c done old new = Appends old new (trace_front part c done)
 WrittenSoFar views.Margin part c done old new = Keeps old new
 WrittenSoFar views.Points part c done old new = Appends old new (points_text part c done)
@@ -115,7 +115,7 @@ WrittenSoFar (views.Clearance boxes) part c done old new = Appends old new (cont
 WrittenSoFar (views.Picture is_close) part c done old new = Keeps old new
 
 -- a front of a view was written, and not all of it
-pub record IsCutOff (view : View) (part : Workpiece) (c : Code) (n : ℕ) (old new : Option (List ℕ)) : Type 0 where
+pub record IsCutOff (view : RunView) (part : Workpiece) (c : Code) (n : ℕ) (old new : Option (List ℕ)) : Type 0 where
   pub text : List ℕ
   pub status : ℕ
   pub tells : Tells view part c n text status
@@ -123,7 +123,7 @@ pub record IsCutOff (view : View) (part : Workpiece) (c : Code) (n : ℕ) (old n
 
 -- why no whole view was written: memory was refused in the run, after so many steps; or before it or for the view itself, and nothing was written; or a
 -- write failed
-abbrev pub IsCutShort : View → Workpiece → Code → ℕ → Fault InputRefusal → Option (List ℕ) → Option (List ℕ) → Type 0
+abbrev pub IsCutShort : RunView → Workpiece → Code → ℕ → Fault InputRefusal → Option (List ℕ) → Option (List ℕ) → Type 0
 IsCutShort view part c n (faults.Memory done) old new = IsHaltedAfter part c n done × WrittenSoFar view part c done old new
 IsCutShort view part c n faults.NoMemory old new = Keeps old new
 IsCutShort view part c n (faults.Write done) old new = IsCutOff view part c n old new

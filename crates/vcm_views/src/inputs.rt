@@ -7,7 +7,7 @@ ghost use Rattle.vcm_views.specs.Inputs.{IsShown, IsNoView};
 ghost use Rattle.vcm_views.specs.inner.Images.{IsImageViewed, IsImageNotViewed, IsInputNotViewed};
 
 use crate::showing::show;
-use crate::view::View;
+use crate::view::RunView;
 use std::alloc::Global;
 use std::io::{Read, Write};
 use vcm_job::{Done, InputRefusal, RunFault, is_image, read_all};
@@ -18,7 +18,7 @@ use vcm_run::{Built, build_image};
 // Writes a view of an image, and gives the exit status.
 fn view_image<W: Write>(
     alloc: Global,
-    view: View<'_>,
+    view: RunView<'_>,
     part: &PartData,
     image: &[u8],
     steps: u64,
@@ -36,7 +36,7 @@ fn view_image<W: Write>(
 // Writes a view of an input.
 fn view_input<W: Write>(
     alloc: Global,
-    view: View<'_>,
+    view: RunView<'_>,
     part: &PartData,
     input: &[u8],
     steps: u64,
@@ -70,7 +70,7 @@ fn view_input<W: Write>(
 /// that were done. After a failed write the writer has taken a front of the view, and not all of it.
 pub fn view_of<R: Read, W: Write>(
     alloc: Global,
-    view: View<'_>,
+    view: RunView<'_>,
     part: &PartData,
     reader: &mut R,
     steps: u64,

@@ -13,4 +13,4 @@ mod traces;
 mod view;
 
 pub use inputs::view_of;
-pub use view::View;
+pub use view::RunView;

@@ -1,7 +1,7 @@
 //! The margin of the tip in a run of a loaded code.
 
 ghost use Rattle.std.specs.Prelude.{IfOk, IfErr};
-ghost use Rattle.vcm_views.specs.declared.view.View.TheVariants.{Margin as MarginOf};
+ghost use Rattle.vcm_views.specs.declared.view.RunView.TheVariants.{Margin as MarginOf};
 ghost use Rattle.vcm_views.specs.Views.{IsViewed, IsCutShort};
 ghost use Rattle.vcm_views.specs.inner.Told.{IsMarginTold, IsMarginNotTold, IsTold, IsNotTold};
 

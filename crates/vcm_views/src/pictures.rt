@@ -1,7 +1,7 @@
 //! The picture of a run of a loaded code.
 
 ghost use Rattle.std.specs.Prelude.{IfOk, IfErr};
-ghost use Rattle.vcm_views.specs.declared.view.View.TheVariants.{Picture};
+ghost use Rattle.vcm_views.specs.declared.view.RunView.TheVariants.{Picture};
 ghost use Rattle.vcm_views.specs.Views.{IsViewed, IsCutShort};
 ghost use Rattle.vcm_views.specs.inner.Drawn.{IsDrawn, IsNotDrawn};
 

@@ -1,7 +1,7 @@
 //! The measured points of a loaded code.
 
 ghost use Rattle.std.specs.Prelude.{IfOk, IfErr};
-ghost use Rattle.vcm_views.specs.declared.view.View.TheVariants as views;
+ghost use Rattle.vcm_views.specs.declared.view.RunView.TheVariants as views;
 ghost use Rattle.vcm_views.specs.Views.{IsViewed, IsCutShort};
 
 use std::alloc::Global;

@@ -8,7 +8,7 @@ use crate::margins::show_margin;
 use crate::pictures::show_picture;
 use crate::points::show_points;
 use crate::traces::show_trace;
-use crate::view::View;
+use crate::view::RunView;
 use std::alloc::Global;
 use std::io::Write;
 use vcm_job::RunFault;
@@ -18,7 +18,7 @@ use vcm_part::PartData;
 /// Writes a view of a loaded code in a run for at most so many steps, and gives the exit status.
 pub(crate) fn show<W: Write>(
     alloc: Global,
-    view: View<'_>,
+    view: RunView<'_>,
     loaded: &Loaded<'_>,
     part: &PartData,
     steps: u64,
@@ -28,10 +28,10 @@ pub(crate) fn show<W: Write>(
     ensures fault { IfErr result (λ f. IsCutShort view.entry part.now loaded.now steps f (W.contents writer.old) (W.contents writer.new)) }
 {
     match view {
-        View::Trace => show_trace(alloc, loaded, part, steps, writer),
-        View::Margin => show_margin(alloc, loaded, part, steps, writer),
-        View::Points => show_points(alloc, loaded, part, steps, writer),
-        View::Clearance(boxes) => show_clearance(alloc, loaded, part, boxes, steps, writer),
-        View::Picture { is_close } => show_picture(alloc, loaded, part, steps, is_close, writer),
+        RunView::Trace => show_trace(alloc, loaded, part, steps, writer),
+        RunView::Margin => show_margin(alloc, loaded, part, steps, writer),
+        RunView::Points => show_points(alloc, loaded, part, steps, writer),
+        RunView::Clearance(boxes) => show_clearance(alloc, loaded, part, boxes, steps, writer),
+        RunView::Picture { is_close } => show_picture(alloc, loaded, part, steps, is_close, writer),
     }
 }

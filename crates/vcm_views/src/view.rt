@@ -4,7 +4,7 @@ use vcm_boxes::Boxes;
 
 /// What is shown of a run.
 #[derive(Clone, Copy)]
-pub enum View<'a> {
+pub enum RunView<'a> {
     /// What each step did, a line for each.
     Trace,
     /// How wide the tip may be, where the run comes to the program's end; else its result.

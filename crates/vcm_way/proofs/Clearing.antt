@@ -29,7 +29,7 @@ use Rattle.vcm_spec.proofs.FirstOf.{IsEntry}
 use Rattle.vcm_spec.proofs.Fractions.{not_after_trans, before_after}
 use Rattle.vcm_spec.proofs.Tips.{in_order, tip_meets, meets_tip}
 use Rattle.vcm_spec.proofs.Touches.{leaves, touch_is}
-use Rattle.vcm_code.specs.Code.{Statement}
+use Rattle.vcm_code.specs.Code.{CodeStatement}
 use Rattle.vcm_code.specs.declared.code.Code.{Code}
 use Rattle.vcm_code.specs.CodeTable.{CodeState, code_step}
 use Rattle.vcm_machine.proofs.RestsAlong.{rests_always}
@@ -390,7 +390,7 @@ module _ (part : Workpiece) (valid : IsValid part) (c : Code) where
   abbrev after : ℕ → World
   after n = (state_after part c n).world
 
-  step_true : (k : ℕ) (o : Option StopPlace) → (after k).stop ≡ o → (s : Option Statement) → slice_get c.statements (state_after part c k).next ≡ s
+  step_true : (k : ℕ) (o : Option StopPlace) → (after k).stop ≡ o → (s : Option CodeStatement) → slice_get c.statements (state_after part c k).next ≡ s
       → AllByRecursion IsTrueStep (unless_stopped o [] (passage_at (suc k) (state_after part c k) (code_step (setup_with part c) c.statements (state_after part c k)) s))
   step_true k (Some p) e s got = tt
   step_true k None e None got = tt

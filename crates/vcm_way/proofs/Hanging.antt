@@ -13,13 +13,13 @@ use Rattle.vcm_spec.specs.Stepping.{unless_stopped}
 use Rattle.vcm_spec.specs.Workpiece.{Workpiece, IsValid}
 use Rattle.vcm_spec.specs.World.{World}
 use Rattle.vcm_spec.proofs.Steps.{add_steps}
-use Rattle.vcm_code.specs.Code.{Statement}
+use Rattle.vcm_code.specs.Code.{CodeStatement}
 use Rattle.vcm_code.specs.declared.code.Code.{Code}
 use Rattle.vcm_code.specs.CodeTable.{CodeState, code_step, fetched, start}
 use Rattle.vcm_machine.proofs.RestsAlong.{rests_always}
 use Rattle.vcm_marks.specs.declared.mark.Mark.{Mark}
 use Rattle.vcm_marks.specs.declared.mark.Mark.TheVariants.{Goes, Touches, Meets}
-use Rattle.vcm_marks.specs.declared.mark.Placed.{Placed}
+use Rattle.vcm_marks.specs.declared.mark.PlacedMark.{PlacedMark}
 use Rattle.vcm_steps.specs.Passages.{passage, passage_at, passages, setup_with, state_after}
 use Rattle.vcm_way.specs.Marks.{marks_of_move, marks_of_touch, Touching}
 use Rattle.vcm_way.specs.Laws.{WaysHangTogether}
@@ -101,10 +101,10 @@ hang_more a b c (Goes piece ∷ ms) ns h k = (h.0, hang_more piece.to b c ms ns 
 hang_more a b c (Touches t ∷ ms) ns h k = hang_more a b c ms ns h k
 hang_more a b c (Meets t ∷ ms) ns h k = hang_more a b c ms ns h k
 
-abbrev marks_in : List Placed → List Mark
+abbrev marks_in : List PlacedMark → List Mark
 marks_in ps = map (λ p. p.mark) ps
 
-marks_more : (xs ys : List Placed) → marks_in (xs ++ ys) ≡ marks_in xs ++ marks_in ys
+marks_more : (xs ys : List PlacedMark) → marks_in (xs ++ ys) ≡ marks_in xs ++ marks_in ys
 marks_more [] ys = refl
 marks_more (x ∷ xs) ys = ap (λ ms. x.mark ∷ ms) (marks_more xs ys)
 
@@ -123,7 +123,7 @@ module _ (part : Workpiece) (valid : IsValid part) (c : Code) where
       ∙ add_steps (code_step (setup_with part c) c.statements) k 1 (start (setup_with part c))
 
   -- what a step that is taken does
-  pub step_went : (k : ℕ) (s : Statement) → (after k).stop ≡ None → slice_get c.statements (state_after part c k).next ≡ Some s → (n : ℕ)
+  pub step_went : (k : ℕ) (s : CodeStatement) → (after k).stop ≡ None → slice_get c.statements (state_after part c k).next ≡ Some s → (n : ℕ)
       → Went part (after k) (step_marks part (passage (suc k) (state_after part c k).next s (after k) (after (suc k)) n)) (after (suc k))
   step_went k s running got n =
       let m = state_after part c k in
@@ -161,7 +161,7 @@ module _ (part : Workpiece) (valid : IsValid part) (c : Code) where
       here : h.end ≡ m.world.position
       here = h.ends (subst (λ x. IsNoMotion (reason x)) (sym e) tt)
 
-      by : (o : Option Statement) → slice_get c.statements m.next ≡ o → Reached (suc k)
+      by : (o : Option CodeStatement) → slice_get c.statements m.next ≡ o → Reached (suc k)
       by None got =
           let none : passages part c (suc k) ≡ passages part c k =
           ap (λ x. passages part c k ++ unless_stopped x [] (passage_at (suc k) m step (slice_get c.statements m.next))) e

@@ -9,7 +9,7 @@ use Rattle.vcm_spec.specs.Setup.{Tables}
 use Rattle.vcm_spec.specs.Stepping.{unless_stopped}
 use Rattle.vcm_spec.specs.Workpiece.{Workpiece, IsValid}
 use Rattle.vcm_spec.specs.World.{Settings, World}
-use Rattle.vcm_code.specs.Code.{Statement}
+use Rattle.vcm_code.specs.Code.{CodeStatement}
 use Rattle.vcm_code.specs.declared.code.Code.{Code}
 use Rattle.vcm_code.specs.Checks.{OpFits}
 use Rattle.vcm_code.specs.Valid.{IsValid as IsValidCode}
@@ -18,7 +18,7 @@ use Rattle.vcm_code.specs.CodeTable.{do_op, fetched, code_step}
 use Rattle.vcm_machine.specs.Running.{Running, setup}
 use Rattle.vcm_probe.proofs.Nearness.{within_is_near}
 use Rattle.vcm_marks.specs.declared.mark.Mark.{Mark}
-use Rattle.vcm_marks.specs.declared.mark.Placed.{Placed}
+use Rattle.vcm_marks.specs.declared.mark.PlacedMark.{PlacedMark}
 use Rattle.vcm_steps.specs.Passages.{Passage, passage, IsNext, WasNext}
 use Rattle.vcm_way.specs.declared.step.Before.{Before}
 use Rattle.vcm_way.specs.declared.task.Task.{Task}
@@ -30,7 +30,7 @@ use Rattle.vcm_way.proofs.Sent.{task_ends}
 
 -- ---- before a step
 
-module _ (fits : Workpiece → Code → Type 0) (tables : Tables) (w : World) (s : Statement) (is : IsNext fits tables w s) where
+module _ (fits : Workpiece → Code → Type 0) (tables : Tables) (w : World) (s : CodeStatement) (is : IsNext fits tables w s) where
   -- the statement fits its tables
   pub next_fits : IsValidCode is.machine.code → (count : ℕ) × OpFits tables count s.op
   next_fits valid =
@@ -44,7 +44,7 @@ module _ (fits : Workpiece → Code → Type 0) (tables : Tables) (w : World) (s
 
 -- ---- a step
 
-module _ (part : Workpiece) (fits : Workpiece → Code → Type 0) (b : Before) (s : Statement) (after : World)
+module _ (part : Workpiece) (fits : Workpiece → Code → Type 0) (b : Before) (s : CodeStatement) (after : World)
     (was : WasNext fits (λ w. IsBefore part.bounds.home w s b) s after) (at_part : was.is_next.machine.part ≡ part) where
   abbrev m : Running
   m = was.is_next.machine
@@ -72,7 +72,7 @@ module _ (part : Workpiece) (fits : Workpiece → Code → Type 0) (b : Before) 
       (subst (λ (t : Task). TaskEnds part was.before.position was.before.settings t (reason after.stop)) (sym is.task) there))
 
 -- its marks, by what was known before it
-pub marks_are : (part : Workpiece) (b : Before) (s : Statement) (w after : World) → IsBefore part.bounds.home w s b → (count number next : ℕ)
+pub marks_are : (part : Workpiece) (b : Before) (s : CodeStatement) (w after : World) → IsBefore part.bounds.home w s b → (count number next : ℕ)
     → marks_of part b.position b.settings b.task (reason after.stop) ≡ step_marks part (passage count number s w after next)
 marks_are part b s w after is count number next =
     ap (λ (p : Point). marks_of part p b.settings b.task (reason after.stop)) is.position
@@ -80,9 +80,9 @@ marks_are part b s w after is count number next =
     ∙ ap (λ (t : Task). marks_of part w.position w.settings t (reason after.stop)) is.task
 
 -- the way with the marks of one more step
-pub one_step : (part : Workpiece) (b : Before) (s : Statement) (w after : World) → IsBefore part.bounds.home w s b → (count number next : ℕ) (ms : List Mark)
+pub one_step : (part : Workpiece) (b : Before) (s : CodeStatement) (w after : World) → IsBefore part.bounds.home w s b → (count number next : ℕ) (ms : List Mark)
     → ms ≡ marks_of part b.position b.settings b.task (reason after.stop) → (from old new : Kept) (ps : List Passage)
-    → ((whole : List Placed) → StandsFor old whole → StandsFor new (whole ++ placed count number s.line ms))
+    → ((whole : List PlacedMark) → StandsFor old whole → StandsFor new (whole ++ placed count number s.line ms))
     → Keeps from old (flat_map (placed_marks part) ps) → Keeps from new (flat_map (placed_marks part) (ps ++ passage count number s w after next ∷ []))
 one_step part b s w after is count number next ms e from old new ps step h start =
     let p = passage count number s w after next in

@@ -16,7 +16,7 @@ use Rattle.vcm_marks.specs.declared.mark.Going.{Going}
 use Rattle.vcm_marks.specs.declared.mark.Going.TheVariants.{Search, Retract, Rest}
 use Rattle.vcm_marks.specs.declared.mark.Mark.{Mark}
 use Rattle.vcm_marks.specs.declared.mark.Mark.TheVariants.{Goes, Touches, Meets}
-use Rattle.vcm_marks.specs.declared.mark.Piece.{Piece}
+use Rattle.vcm_marks.specs.declared.mark.Leg.{Leg}
 use Rattle.vcm_marks.specs.declared.mark.Contact.{Contact}
 use Rattle.vcm_marks.specs.declared.mark.Touched.{Touched}
 
@@ -45,33 +45,33 @@ met_on part Retract a b = TipMeetsLater part.bounds.tip (coordinate a) (coordina
 met_on part _ a b = TipMeets part.bounds.tip (coordinate a) (coordinate b)
 
 -- the search goes down along an axis, and the tip meets no block before its end
-pub record IsSearch (part : Workpiece) (piece : Piece) : Type 0 where
+pub record IsSearch (part : Workpiece) (piece : Leg) : Type 0 where
   pub axis : Axis
   pub distance : ℕ
   pub end : piece.to ≡ point_of (along (coordinate piece.from) axis distance)
   pub clear : (t : ℕ) → t < distance → ¬ IsTrue (is_blocked part (along (coordinate piece.from) axis t))
 
 -- the tip meets no block on a piece that is gone as far as its aim, or in a search none before its end
-abbrev pub IsClearBy : Workpiece → Piece → Going → Type 0
+abbrev pub IsClearBy : Workpiece → Leg → Going → Type 0
 IsClearBy part piece Search = IsSearch part piece
 IsClearBy part piece Rest = Unit {0}
 IsClearBy part piece going = IsClear part.blocks (met_on part going piece.from piece.aim)
 
 -- a piece is clear by the way it is gone
-abbrev pub IsClearPiece : Workpiece → Piece → Type 0
+abbrev pub IsClearPiece : Workpiece → Leg → Type 0
 IsClearPiece part piece = IsClearBy part piece piece.going
 
 -- ---- touches and contacts
 
 -- at the end of the search the tip meets a block, and the touched point is the middle of its face there
-pub record IsTouched (part : Workpiece) (search : Piece) (touched : Touched) : Type 0 where
+pub record IsTouched (part : Workpiece) (search : Leg) (touched : Touched) : Type 0 where
   pub searched : IsSearch part search
   pub met : IsTrue (is_blocked part (coordinate search.to))
   pub at : touched.at ≡ point_of (along (coordinate search.to) searched.axis part.bounds.tip)
 
 -- on its way to the aim the tip meets this block first, at the fraction at which its centre stands at the contact; the piece that is gone ends there,
 -- and what is not reached is the rest
-pub record IsContact (part : Workpiece) (gone rest : Piece) (contact : Contact) : Type 0 where
+pub record IsContact (part : Workpiece) (gone rest : Leg) (contact : Contact) : Type 0 where
   pub fraction : Fraction
   pub index : ℕ
   pub number : contact.block ≡ index + 1

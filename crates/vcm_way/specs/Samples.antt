@@ -11,7 +11,7 @@ use Rattle.vcm_spec.specs.Samples.Parts.{one_block, at, hit}
 use Rattle.vcm_marks.specs.declared.mark.Going.TheVariants as going
 use Rattle.vcm_marks.specs.declared.mark.Mark.{Mark}
 use Rattle.vcm_marks.specs.declared.mark.Mark.TheVariants.{Goes, Meets}
-use Rattle.vcm_marks.specs.declared.mark.Placed.{Placed}
+use Rattle.vcm_marks.specs.declared.mark.PlacedMark.{PlacedMark}
 use Rattle.vcm_way.specs.Marks.{Touching, goes, touches, touching, marks_of_move, marks_of_touch}
 use Rattle.vcm_way.specs.Ways.{last_pieces}
 
@@ -54,10 +54,10 @@ pub missed : marks_of_touch one_block home middle (Some Missed) ≡
 missed = refl
 
 -- marks of the steps 1, 2 and 2
-abbrev placed : ℕ → Mark → Placed
+abbrev placed : ℕ → Mark → PlacedMark
 placed step mark = record { mark = mark; step = step; number = 0; line = 1 }
 
-abbrev three : List Placed
+abbrev three : List PlacedMark
 three = placed 1 (goes going.Move home home) ∷ placed 2 (touches home 0) ∷ placed 2 (goes going.Retract home home) ∷ []
 
 -- the last piece, with the touched point of its step

@@ -8,7 +8,7 @@ use Rattle.vcm_spec.specs.FirstTouch.{free_move, touch}
 use Rattle.vcm_spec.specs.Outcome.{Outcome, Gives, Stops}
 use Rattle.vcm_spec.specs.Workpiece.{Workpiece}
 use Rattle.vcm_spec.specs.World.{Settings, World}
-use Rattle.vcm_code.specs.Code.{Statement}
+use Rattle.vcm_code.specs.Code.{CodeStatement}
 use Rattle.vcm_marks.specs.declared.mark.Mark.{Mark}
 use Rattle.vcm_way.specs.declared.step.Before.{Before}
 use Rattle.vcm_way.specs.declared.step.StepMarks.{StepMarks}
@@ -18,7 +18,7 @@ use Rattle.vcm_way.specs.declared.task.Task.TheVariants.{Nowhere, Straight, Meas
 use Rattle.vcm_way.specs.Tasks.{task_of}
 
 -- where the probe is before a statement, its settings, and where the statement sends it
-pub record IsBefore (home : Point) (w : World) (s : Statement) (b : Before) : Type 0 where
+pub record IsBefore (home : Point) (w : World) (s : CodeStatement) (b : Before) : Type 0 where
   pub position : b.position ≡ w.position
   pub settings : b.settings ≡ w.settings
   pub task : b.task ≡ task_of home w s.op

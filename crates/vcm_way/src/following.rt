@@ -2,13 +2,13 @@
 
 ghost use Rattle.std.specs.Prelude.{◌≡◌, [], IfOk, flat_map};
 ghost use Rattle.vcm_code.specs.Valid.{IsValid};
-ghost use Rattle.vcm_marks.specs.declared.mark.Placed.{Placed as Stands};
+ghost use Rattle.vcm_marks.specs.declared.mark.PlacedMark.{PlacedMark as Stands};
 ghost use Rattle.vcm_way.specs.Following.{HasFollowed};
 ghost use Rattle.vcm_way.specs.Steps.{IsBefore};
 ghost use Rattle.vcm_way.specs.Ways.{placed_marks, most_pieces, whole_way};
 ghost use Rattle.vcm_way.specs.inner.Added.{kept, Keeps, HasKept};
 
-use crate::place::Place;
+use crate::place::Moment;
 use crate::step::{Before, look, marks_of_step, reason};
 use crate::way::Way;
 use std::alloc::Global;
@@ -75,7 +75,7 @@ impl<P: Part> Follows<Way> for Keeper<'_, P> {
     ) -> Result<(), NoMemory> {
         let stop = reason(world.stop());
         let marks = marks_of_step(self.part, self.blocks, &before, stop);
-        let place = Place {
+        let place = Moment {
             step: count,
             number,
             line: statement.line,

@@ -5,7 +5,7 @@ ghost use Rattle.vcm_num.specs.Point.{is_near};
 ghost use Rattle.vcm_way.specs.Marks.{goes, falls_short, contact_point, meets_block};
 
 use crate::limits::nearest;
-use vcm_marks::{Contact, Going, Mark, Piece};
+use vcm_marks::{Contact, Going, Leg, Mark};
 use vcm_motion::entry_point;
 use vcm_num::Point;
 use vcm_part::PartData;
@@ -13,7 +13,7 @@ use vcm_spec::Bounds;
 
 /// The step that adds marks, and the number and the source line of its statement.
 #[derive(Clone, Copy)]
-pub(crate) struct Place {
+pub(crate) struct Moment {
     pub(crate) step: u64,
     pub(crate) number: u32,
     pub(crate) line: u32,
@@ -23,7 +23,7 @@ pub(crate) struct Place {
 pub(crate) fn goes(going: Going, from: Point, to: Point) -> Mark
     ensures { result ≡ goes going from to }
 {
-    Mark::Goes(Piece {
+    Mark::Goes(Leg {
         going,
         from,
         to,
@@ -35,7 +35,7 @@ pub(crate) fn goes(going: Going, from: Point, to: Point) -> Mark
 pub(crate) fn falls_short(bounds: &Bounds, from: Point, aim: Point) -> Mark
     ensures { result ≡ falls_short bounds.now from aim }
 {
-    Mark::Goes(Piece {
+    Mark::Goes(Leg {
         going: Going::Rest,
         from,
         to: nearest(bounds, aim),

@@ -1,15 +1,15 @@
 //! The way.
 
 ghost use Rattle.std.specs.Prelude.{◌≡◌, ◌≤◌, ◌<◌, true, List, [], ◌++◌, OnOk};
-ghost use Rattle.vcm_marks.specs.declared.mark.Placed.{Placed as Stands};
+ghost use Rattle.vcm_marks.specs.declared.mark.PlacedMark.{PlacedMark as Stands};
 ghost use Rattle.vcm_marks.specs.Pieces.{is_piece, counted, pieces};
 ghost use Rattle.vcm_way.specs.Ways.{placed, last_pieces, most_pieces};
 ghost use Rattle.vcm_way.specs.inner.Added.{kept, more, shortened, StandsFor};
 
-use crate::place::Place;
+use crate::place::Moment;
 use std::alloc::Global;
 use std::marker::Model;
-use vcm_marks::{Mark, Placed};
+use vcm_marks::{Mark, PlacedMark};
 use vcm_num::NoMemory;
 
 // Whether a mark is a piece.
@@ -24,7 +24,7 @@ fn is_piece(mark: &Mark) -> bool
 }
 
 // How many pieces there are among marks.
-fn pieces_of(marks: &[Placed]) -> usize
+fn pieces_of(marks: &[PlacedMark]) -> usize
     ensures { result ≡ pieces marks.now }
 {
     let mut count = 0;
@@ -47,7 +47,7 @@ fn left_behind(mark: &Mark, left: usize) -> usize
 }
 
 // The last marks, so that at most so many pieces are left, and how many these are; of marks with so many pieces.
-fn last_of(marks: &[Placed], count: usize, most: usize) -> (&[Placed], usize)
+fn last_of(marks: &[PlacedMark], count: usize, most: usize) -> (&[PlacedMark], usize)
     requires { count ≡ pieces marks.now }
     ensures last { result.0.now ≡ last_pieces most marks.now }
     ensures counted { result.1 ≡ pieces result.0.now }
@@ -69,13 +69,13 @@ fn last_of(marks: &[Placed], count: usize, most: usize) -> (&[Placed], usize)
 /// as a `Kept`.
 #[derive(Drop)]
 pub struct Way {
-    marks: Vec<Placed>,
+    marks: Vec<PlacedMark>,
     left_out: u64,
 }
 
 impl Model for Way {
     ghost use Rattle.std.specs.Coded.{codes};
-    ghost use Rattle.vcm_marks.specs.contracts.mark.Placed as placed;
+    ghost use Rattle.vcm_marks.specs.contracts.mark.PlacedMark as placed;
     ghost use Rattle.vcm_way.specs.Ways.{Kept};
 
     ghost Value = { Kept };
@@ -97,11 +97,11 @@ impl Way {
     }
 
     // The marks of one more step.
-    fn add(&mut self, place: Place, marks: &[Mark]) -> Result<(), NoMemory>
+    fn add(&mut self, place: Moment, marks: &[Mark]) -> Result<(), NoMemory>
         ensures { OnOk result (self.new ≡ more self.old (placed place.step place.number place.line marks.now)) }
     {
         for mark in marks {
-            self.marks.push(Placed {
+            self.marks.push(PlacedMark {
                 mark: *mark,
                 step: place.step,
                 number: place.number,
@@ -135,7 +135,7 @@ impl Way {
         &mut self,
         alloc: Global,
         most: usize,
-        place: Place,
+        place: Moment,
         marks: &[Mark],
     ) -> Result<(), NoMemory>
         requires { most ≡ most_pieces }
@@ -151,7 +151,7 @@ impl Way {
     }
 
     /// The marks that are kept, in the order of the way.
-    pub fn marks(&self) -> &[Placed]
+    pub fn marks(&self) -> &[PlacedMark]
         ensures { result.now ≡ self.now.marks }
     {
         self.marks.as_slice()

@@ -2,7 +2,7 @@
 use Rattle.std.specs.Prelude.{ℕ, zero, suc, ℤ, pos, nat_lt, if◌then◌else◌, List, [], ◌∷◌, ◌++◌, slice_get, unwrap_or, Option, Some, None, decimal, codes}
 use Rattle.vcm_spec.specs.Setup.{Tables}
 use Rattle.vcm_spec.specs.World.{World}
-use Rattle.vcm_code.specs.Code.{Op, Statement}
+use Rattle.vcm_code.specs.Code.{Op, CodeStatement}
 use Rattle.vcm_code.specs.declared.op.Op.TheVariants.{Do}
 use Rattle.vcm_report.specs.Printed.{in_a_row}
 use Rattle.vcm_console.specs.Replies.{variable_name, value_text}
@@ -35,15 +35,15 @@ op_round tables w rounds number line (Do v pair a b c exit) = open_line tables w
 op_round tables w rounds number line op = []
 
 -- the line of a statement above
-abbrev pub line_if_round : Tables → World → List ℕ → ℕ → Statement → List ℕ
+abbrev pub line_if_round : Tables → World → List ℕ → ℕ → CodeStatement → List ℕ
 line_if_round tables w rounds number s = op_round tables w rounds number s.line s.op
 
 -- the line of the statement, if there is one
-abbrev pub line_if_there : Tables → World → List ℕ → ℕ → Option Statement → List ℕ
+abbrev pub line_if_there : Tables → World → List ℕ → ℕ → Option CodeStatement → List ℕ
 line_if_there tables w rounds number None = []
 line_if_there tables w rounds number (Some s) = line_if_round tables w rounds number s
 
 -- a line for each loop round the statement with this number, of those that begin before the place k, the innermost first
-abbrev pub loop_lines : Tables → World → List ℕ → ℕ → List Statement → ℕ → List ℕ
+abbrev pub loop_lines : Tables → World → List ℕ → ℕ → List CodeStatement → ℕ → List ℕ
 loop_lines tables w rounds number ss zero = []
 loop_lines tables w rounds number ss (suc k) = line_if_there tables w rounds number (slice_get ss k) ++ loop_lines tables w rounds number ss k

@@ -4,7 +4,7 @@ use Rattle.vcm_spec.specs.declared.stop.Stop.{Stop}
 use Rattle.vcm_spec.specs.declared.stop.Stop.TheVariants.{Ended}
 use Rattle.vcm_spec.specs.declared.stop.StopPlace.{StopPlace}
 use Rattle.vcm_spec.specs.Workpiece.{Workpiece}
-use Rattle.vcm_code.specs.Code.{Statement}
+use Rattle.vcm_code.specs.Code.{CodeStatement}
 use Rattle.vcm_report.specs.Printed.{in_a_row, stopped_line}
 use Rattle.vcm_state.specs.Held.{Held}
 use Rattle.vcm_cause.specs.Behind.{Behind}
@@ -19,17 +19,17 @@ abbrev pub steps_line : ℕ → List ℕ
 steps_line done = in_a_row (codes "no stop after " ∷ decimal done ∷ codes " steps\n" ∷ [])
 
 -- where the statement with this number comes from in a text: its line, the CALLs, and the loops round it
-abbrev pub text_lines : Traced → List Statement → Held → (rounds : List ℕ) → (number line : ℕ) → List ℕ
+abbrev pub text_lines : Traced → List CodeStatement → Held → (rounds : List ℕ) → (number line : ℕ) → List ℕ
 text_lines t ss held rounds number line = origin_lines t line ++ loop_lines held.tables held.state rounds number ss number
 
 -- where it comes from, or that an image doesn't tell it
-abbrev pub where_lines : Option Traced → List Statement → Held → (rounds : List ℕ) → (number line : ℕ) → List ℕ
+abbrev pub where_lines : Option Traced → List CodeStatement → Held → (rounds : List ℕ) → (number line : ℕ) → List ℕ
 where_lines (Some t) ss held rounds number line = text_lines t ss held rounds number line
 where_lines None ss held rounds number line =
     codes "the source line, the calls and the loops stand in the program's text; an image has none\n"
 
 -- a stop that isn't the program's end: its line, where its statement comes from, and what is told of its motion
-abbrev pub stop_lines : Option Traced → Workpiece → List Statement → Held → (number : ℕ) → Behind → StopPlace → List ℕ
+abbrev pub stop_lines : Option Traced → Workpiece → List CodeStatement → Held → (number : ℕ) → Behind → StopPlace → List ℕ
 stop_lines t part ss held number b place =
     stopped_line held.tables place ++ (where_lines t ss held b.rounds number place.line ++ cause_lines (cause_of part b.marks))
 
@@ -39,15 +39,15 @@ is_ended Ended = true
 is_ended why = false
 
 -- the program's end alone, or what is told of any other stop
-abbrev pub placed_lines : Bool → Option Traced → Workpiece → List Statement → Held → (number : ℕ) → Behind → StopPlace → List ℕ
+abbrev pub placed_lines : Bool → Option Traced → Workpiece → List CodeStatement → Held → (number : ℕ) → Behind → StopPlace → List ℕ
 placed_lines true t part ss held number b place = stopped_line held.tables place
 placed_lines false t part ss held number b place = stop_lines t part ss held number b place
 
 -- what is told of a stop, or of so many steps without one
-abbrev pub lines_at : Option StopPlace → Option Traced → Workpiece → List Statement → Held → (number : ℕ) → Behind → (done : ℕ) → List ℕ
+abbrev pub lines_at : Option StopPlace → Option Traced → Workpiece → List CodeStatement → Held → (number : ℕ) → Behind → (done : ℕ) → List ℕ
 lines_at None t part ss held number b done = steps_line done
 lines_at (Some place) t part ss held number b done = placed_lines (is_ended place.stop) t part ss held number b place
 
 -- what is told of a run that came to this state
-abbrev pub why_lines : Option Traced → Workpiece → List Statement → Held → (number : ℕ) → Behind → (done : ℕ) → List ℕ
+abbrev pub why_lines : Option Traced → Workpiece → List CodeStatement → Held → (number : ℕ) → Behind → (done : ℕ) → List ℕ
 why_lines t part ss held number b done = lines_at held.state.stop t part ss held number b done

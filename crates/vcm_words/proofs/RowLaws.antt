@@ -11,7 +11,7 @@ use Rattle.vcm_spec.specs.Setup.{Variable as Entry}
 use Rattle.vcm_code.specs.declared.version.Version.{Version}
 use Rattle.vcm_items.specs.NameBytes.{is_name_byte, is_name, IsName, is_variable_name, IsVariableName}
 use Rattle.vcm_items.proofs.NameLemmas.{variable_name_is_name}
-use Rattle.vcm_code.specs.Code.{Statement}
+use Rattle.vcm_code.specs.Code.{CodeStatement}
 use Rattle.vcm_fields.specs.inner.Fitting.{FitsEntry, FitsLine}
 use Rattle.vcm_words.specs.declared.row.Row.TheVariants.{Head, Variable, Feature, Frame, Numbered}
 use Rattle.vcm_words.specs.declared.row.Heading.{Heading}
@@ -102,7 +102,7 @@ ends_indexed : Ends (indexed_at true) (λ o. number_text o.0 ++ single o.1) Fits
 unfolding indexed_at FitsIndexed
 ends_indexed = ends (reads_both (reads_number (2 ^ 32) (omega arith)) (reads_one means_name))
 
-FitsNumbered : Version → ℕ × Statement → Type 0
+FitsNumbered : Version → ℕ × CodeStatement → Type 0
 FitsNumbered version o = (o.0 < 2 ^ 32) × FitsLine version o.1
 
 ends_numbered : (version : Version) → Ends (numbered_at version true) (λ o. number_text o.0 ++ line o.1) (FitsNumbered version)

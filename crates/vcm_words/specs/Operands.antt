@@ -18,7 +18,7 @@ use Rattle.vcm_spec.specs.Words.{quarters_number, word_number}
 use Rattle.vcm_code.specs.declared.word.Word.{Word}
 use Rattle.vcm_code.specs.declared.word.Word.TheVariants as words
 use Rattle.vcm_code.specs.declared.version.Version.{Version}
-use Rattle.vcm_code.specs.Code.{Op, Statement}
+use Rattle.vcm_code.specs.Code.{Op, CodeStatement}
 use Rattle.vcm_code.specs.Words.{word_of, has_word}
 use Rattle.vcm_code.specs.Shape.{Place, Said, Filled, axes, directions, settings, sources, frame_axes, all_words, made, Form, form, form_of, over_operands}
 use Rattle.vcm_code.specs.Shape as at
@@ -224,7 +224,7 @@ abbrev pub word_at : Version → Reader Word
 word_at version = tested (has_word version) any_word_at
 
 -- the words of a statement: its source line, its word, its operands
-abbrev pub line : Statement → List (List ℕ)
+abbrev pub line : CodeStatement → List (List ℕ)
 line s = number_text s.line ++ (single (word_text (word_of s.op)) ++ operands s.op)
 
 -- reading the word of a statement and its operands
@@ -232,5 +232,5 @@ unfoldable pub op_at : Version → Bool → Reader Op
 op_at version exact = after (word_at version) (operands_at exact)
 
 -- reading a statement of a version
-unfoldable pub line_at : Version → Bool → Reader Statement
+unfoldable pub line_at : Version → Bool → Reader CodeStatement
 line_at version exact = via (λ o. record { line = o.0; op = o.1 }) (both (number_at exact (2 ^ 32)) (op_at version exact))

@@ -9,7 +9,7 @@ use Rattle.vcm_code.specs.declared.version.Version.{Version}
 use Rattle.vcm_code.specs.declared.version.Version.TheVariants.{One, Two}
 use Rattle.vcm_spec.specs.Setup.{Variable as Entry}
 use Rattle.vcm_items.specs.NameBytes.{is_name, is_variable_name}
-use Rattle.vcm_code.specs.Code.{Statement}
+use Rattle.vcm_code.specs.Code.{CodeStatement}
 use Rattle.vcm_code.specs.Shape.{kinds}
 use Rattle.vcm_words.specs.declared.row.Row.{Row}
 use Rattle.vcm_words.specs.declared.row.Row.TheVariants.{Head, Variable, Feature, Frame, Numbered}
@@ -114,7 +114,7 @@ unfoldable pub indexed_at : Bool → Reader (ℕ × List ℕ)
 indexed_at exact = both (number_at exact (2 ^ 32)) name_at
 
 -- reading a statement of a version and its number
-unfoldable pub numbered_at : Version → Bool → Reader (ℕ × Statement)
+unfoldable pub numbered_at : Version → Bool → Reader (ℕ × CodeStatement)
 numbered_at version exact = both (number_at exact (2 ^ 32)) (line_at version exact)
 
 -- the line whose first word has this heading, or none: then it is a statement's

@@ -1,6 +1,6 @@
 //! The lines of a listing.
 
-use vcm_code::{Statement, Version};
+use vcm_code::{CodeStatement, Version};
 use vcm_items::Name;
 use vcm_tables::Variable;
 
@@ -16,7 +16,7 @@ pub enum Row<E, T, B> {
     /// The name of a frame with its index.
     Frame(u32, Name),
     /// A statement with its number.
-    Numbered(u32, Statement<E, T, B>),
+    Numbered(u32, CodeStatement<E, T, B>),
 }
 
 /// The word that a line begins with, where it is no statement.

@@ -10,7 +10,7 @@ use crate::items::{before_end, item};
 use crate::words::Words;
 use std::alloc::Global;
 use std::marker::Model;
-use vcm_code::{Expression, Line};
+use vcm_code::{Expression, OutputLine};
 use vcm_num::{Items, NoMemory};
 use vcm_spec::Item;
 
@@ -183,7 +183,7 @@ impl<'a> TextWords<'a> {
     }
 }
 
-impl<'a> Line for TextWords<'a> {
+impl<'a> OutputLine for TextWords<'a> {
     ghost bytes = { λ s. s };
 
     fn to_bytes(&self, alloc: Global) -> Result<Items<u8>, NoMemory> {

@@ -15,7 +15,7 @@ use crate::places::{
 };
 use crate::slices::{ItemWords, TextWords, expression};
 use crate::words::Words;
-use vcm_code::{Op, Statement, Version, Word};
+use vcm_code::{CodeStatement, Op, Version, Word};
 use vcm_fields::{Reading, operands};
 use vcm_num::{Axis, Kind};
 use vcm_spec::{FeatureWord, FrameAxis, Quarters, Setting, Source};
@@ -24,7 +24,7 @@ use vcm_spec::{FeatureWord, FrameAxis, Quarters, Setting, Source};
 pub type BorrowedOp<'a> = Op<ItemWords<'a>, TextWords<'a>, BranchWords<'a>>;
 
 /// A statement of a listing.
-pub type BorrowedStatement<'a> = Statement<ItemWords<'a>, TextWords<'a>, BranchWords<'a>>;
+pub type BorrowedStatement<'a> = CodeStatement<ItemWords<'a>, TextWords<'a>, BranchWords<'a>>;
 
 // Three expressions.
 type Triple<'a> = (ItemWords<'a>, ItemWords<'a>, ItemWords<'a>);
@@ -214,5 +214,5 @@ pub(crate) fn line<'a>(
 {
     let (line, rest) = count(exact, words)?;
     let (op, rest) = op(version, exact, &rest)?;
-    Some((Statement { line, op }, rest))
+    Some((CodeStatement { line, op }, rest))
 }

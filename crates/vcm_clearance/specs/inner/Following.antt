@@ -8,11 +8,11 @@ use Rattle.vcm_carried.specs.declared.contact.Contact.{Contact}
 use Rattle.vcm_boxes.specs.declared.boxes.ProbeBox.{ProbeBox}
 use Rattle.vcm_steps.specs.Passages.{Passage}
 use Rattle.vcm_gone.specs.declared.ways.Gone.{Gone as Went}
-use Rattle.vcm_gone.specs.Gone.{Gone, Placed, placed_ways}
+use Rattle.vcm_gone.specs.Gone.{Gone, PlacedWay, placed_ways}
 use Rattle.vcm_gone.specs.Seen.{IsSameWay, seen}
 use Rattle.vcm_clearance.specs.declared.clearing.ClearanceFault.{ClearanceFault}
 use Rattle.vcm_clearance.specs.declared.clearing.ClearanceFault.TheVariants as faults
-use Rattle.vcm_clearance.specs.declared.rooms.Place.{Place}
+use Rattle.vcm_clearance.specs.declared.rooms.Moment.{Moment}
 use Rattle.vcm_clearance.specs.declared.room.Room.{Room}
 use Rattle.vcm_clearance.specs.declared.room.Room.TheVariants.{Clear}
 use Rattle.vcm_clearance.specs.Contacts.{contact_on, told_on}
@@ -20,14 +20,14 @@ use Rattle.vcm_clearance.specs.Rooms.{counted, IsRoom, AreRooms}
 use Rattle.vcm_clearance.specs.Printed.{contact_line, run_lines}
 
 -- the way of the code at a place is this way of the run
-pub record IsPlaced (place : Place) (v : Went) (p : Placed) : Type 0 where
+pub record IsPlaced (place : Moment) (v : Went) (p : PlacedWay) : Type 0 where
   pub way : IsSameWay (seen v) p.way
   pub step : p.step ≡ place.step
   pub number : p.number ≡ place.number
   pub line : p.line ≡ place.line
 
 -- the ways of the code at a place are these ways of the run
-abbrev pub ArePlaced : Place → List Went → List Placed → Type 0
+abbrev pub ArePlaced : Moment → List Went → List PlacedWay → Type 0
 ArePlaced place [] [] = Unit {0}
 ArePlaced place [] (p ∷ ps) = ⊥
 ArePlaced place (v ∷ vs) [] = ⊥
@@ -47,7 +47,7 @@ is_empty [] = true
 is_empty (x ∷ xs) = false
 
 -- the first n boxes were tried on one more way, and their lines were written
-pub record AreTried (blocks : List Block3) (boxes : List ProbeBox) (is_first : Bool) (ws : List Placed) (p : Placed) (n : ℕ) (rooms : List Room)
+pub record AreTried (blocks : List Block3) (boxes : List ProbeBox) (is_first : Bool) (ws : List PlacedWay) (p : PlacedWay) (n : ℕ) (rooms : List Room)
     (old new : Option (List ℕ)) : Type 0 where
   pub count : length rooms ≡ length boxes
   pub before : (i : ℕ) (b : ProbeBox) (r : Room) → n < i + 1 → slice_get boxes i ≡ Some b → slice_get rooms i ≡ Some r → IsRoom blocks b.block ws r
@@ -55,12 +55,12 @@ pub record AreTried (blocks : List Block3) (boxes : List ProbeBox) (is_first : B
   pub written : Appends old new (flat_map (λ b. contact_line b.name (told_on blocks is_first b.block p)) (take n boxes))
 
 -- these ways were tried, and so many were counted
-pub record IsDone (blocks : List Block3) (boxes : List ProbeBox) (ws : List Placed) (rooms : List Room) (count : ℕ) : Type 0 where
+pub record IsDone (blocks : List Block3) (boxes : List ProbeBox) (ws : List PlacedWay) (rooms : List Room) (count : ℕ) : Type 0 where
   pub are_rooms : AreRooms blocks boxes ws rooms
   pub counted_is : count ≡ counted (length ws)
 
 -- the ways of a run's steps
-abbrev pub ways_in : Workpiece → List Passage → List Placed
+abbrev pub ways_in : Workpiece → List Passage → List PlacedWay
 ways_in part ps = flat_map (placed_ways part) ps
 
 -- beside a run that begins with nothing known, the ways of these steps were tried

@@ -8,7 +8,7 @@ use Rattle.vcm_spec.specs.declared.workpiece.Hit.{Hit}
 use Rattle.vcm_spec.specs.Workpiece.{Workpiece}
 use Rattle.vcm_spec.specs.World.{stopped}
 use Rattle.vcm_spec.specs.Setup.{Tables}
-use Rattle.vcm_code.specs.Code.{Op, Statement}
+use Rattle.vcm_code.specs.Code.{Op, CodeStatement}
 use Rattle.vcm_code.specs.Valid.{IsLast}
 use Rattle.vcm_code.specs.declared.code.Code.{Code}
 use Rattle.vcm_code.specs.CodeTable.{code_state}
@@ -40,7 +40,7 @@ pub record HasMet (old : Running) (met : Option Contact) (new : Running) : Type 
   pub passed : pass old.part old.code old.state ≡ record { state = new.state; contacts = listed met }
 
 -- the contact of a statement that is next
-abbrev pub contact_at : Running → MovePhase → Hit → Statement → Contact
+abbrev pub contact_at : Running → MovePhase → Hit → CodeStatement → Contact
 contact_at m phase hit s = record { phase = phase; hit = hit; number = m.state.next; line = s.line }
 
 -- a lead can be carried out behind a statement: its point is near, its feature is there, and where it goes on behind the statement, that isn't the last
@@ -51,20 +51,20 @@ IsSound tables op (Back p i f) = IsTrue (is_near p) × ((i < length tables.featu
 IsSound tables op (Stops why) = Unit {0}
 
 -- the machine stands at the statement that is next, and this is its motion's stop
-pub record IsStopping (m : Running) (why : Stop) (s : Statement) : Type 0 where
+pub record IsStopping (m : Running) (why : Stop) (s : CodeStatement) : Type 0 where
   pub stands : slice_get m.code.statements m.state.next ≡ Some s
   pub ends : TaskEnds m.part m.state.world.position m.state.world.settings (task_of m.part.bounds.home m.state.world s.op) (Some why)
 
 -- with a lead carried out
-abbrev pub led_on : Running → Statement → Lead → Running
+abbrev pub led_on : Running → CodeStatement → Lead → Running
 led_on m s l = moved m (led m.state s.line l)
 
 -- with a stop at the statement that is next
-abbrev pub halted : Running → Statement → Stop → Running
+abbrev pub halted : Running → CodeStatement → Stop → Running
 halted m s why = moved m (code_state (stopped m.state.world why m.state.next s.line) m.state.next m.state.pairs)
 
 -- behind the statement that is next, which has this stop: where that is a contact, the run goes on behind it
-abbrev pub IsLed : Running → Statement → Stop → Option Contact → Running → Type 0
+abbrev pub IsLed : Running → CodeStatement → Stop → Option Contact → Running → Type 0
 IsLed old s (Collision phase hit) met new =
     (met ≡ Some (contact_at old phase hit s)) × (new ≡ led_on old s (lead old.part old.state.world s.op phase hit))
 IsLed old s why met new = (met ≡ None) × (new ≡ halted old s why)

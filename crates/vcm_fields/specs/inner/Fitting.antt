@@ -6,7 +6,7 @@ use Rattle.vcm_spec.specs.Setup.{Variable as Entry}
 use Rattle.vcm_items.specs.NameBytes.{IsVariableName}
 use Rattle.vcm_code.specs.declared.branch.Branch.{Branch}
 use Rattle.vcm_code.specs.declared.version.Version.{Version}
-use Rattle.vcm_code.specs.Code.{Op, Statement}
+use Rattle.vcm_code.specs.Code.{Op, CodeStatement}
 use Rattle.vcm_code.specs.Words.{word_of, has_word}
 use Rattle.vcm_code.specs.Shape.{Place, Said, InOperands}
 use Rattle.vcm_code.specs.Ranges.{IsShort, IsRanged}
@@ -34,7 +34,7 @@ abbrev pub FitsOperation : Op → Type 0
 FitsOperation o = InOperands FitsPlace o
 
 -- a statement: its version has its word, its source line has 32 bits, and its operands fit
-abbrev pub FitsLine : Version → Statement → Type 0
+abbrev pub FitsLine : Version → CodeStatement → Type 0
 FitsLine v s = IsTrue (has_word v (word_of s.op)) × ((s.line < 2 ^ 32) × FitsOperation s.op)
 
 -- a variable: its expansion has 32 bits, and its name is a variable's

@@ -9,7 +9,7 @@ use Rattle.vcm_forms.specs.declared.statement.Form.{Form}
 use Rattle.vcm_forms.specs.declared.statement.Form.TheVariants.{MacroEnd}
 use Rattle.vcm_forms.specs.declared.statement.Statement.{Statement}
 use Rattle.vcm_substitution.specs.Substitution.{Scope, is_same, put_form}
-use Rattle.vcm_macro.specs.Walk.{Defined, Place, Stands, Calls, calls_in, body_in, call_in}
+use Rattle.vcm_macro.specs.Walk.{Defined, Visit, Stands, Calls, calls_in, body_in, call_in}
 use Rattle.vcm_macro.specs.Rules.{codes_at, line_at, weight, weigh, kept}
 use Rattle.vcm_macro.specs.Computed.{leftmost}
 
@@ -20,11 +20,11 @@ pub record Done : Type 0 where
   pub calls : ℕ
 
 -- a place breaks no rule
-abbrev pub IsFine : ℕ → Place → Type 0
+abbrev pub IsFine : ℕ → Visit → Type 0
 IsFine n p = codes_at n p ≡ []
 
 -- places break no rule, one behind the other
-abbrev pub AreFine : ℕ → List Place → Type 0
+abbrev pub AreFine : ℕ → List Visit → Type 0
 AreFine n [] = Unit {0}
 AreFine n (p ∷ ps) = IsFine n p × AreFine (n + weight p) ps
 
@@ -33,12 +33,12 @@ abbrev pub TellsLeftmost : ℕ → List FaultCode → SourceFault → Type 0
 TellsLeftmost line codes f = (leftmost codes ≡ Some f.code) × (f.line ≡ line)
 
 -- the refusal tells of the first of these places that breaks a rule
-abbrev pub TellsFirst : ℕ → List Place → SourceFault → Type 0
+abbrev pub TellsFirst : ℕ → List Visit → SourceFault → Type 0
 TellsFirst n [] f = ⊥
 TellsFirst n (p ∷ ps) f = TellsLeftmost (line_at p) (codes_at n p) f ⊎ (IsFine n p × TellsFirst (n + weight p) ps f)
 
 -- these places were walked
-pub record Walked (old new : Done) (ps : List Place) : Type 0 where
+pub record Walked (old new : Done) (ps : List Visit) : Type 0 where
   pub fine : AreFine old.count ps
   pub placed : new.placed ≡ old.placed ++ kept ps
   pub count : new.count ≡ old.count + weigh ps
@@ -50,7 +50,7 @@ found [] name = None
 found (m ∷ ms) name = if is_same m.name name then Some (m, ms) else found ms name
 
 -- a CALL of what is found
-abbrev pub call_by : Option (Defined × List Defined) → (line depth done : ℕ) → List Argument → List Place
+abbrev pub call_by : Option (Defined × List Defined) → (line depth done : ℕ) → List Argument → List Visit
 call_by None line depth done args = Calls line depth None args ∷ []
 call_by (Some p) line depth done args =
     Calls line depth (Some p.0) args
@@ -64,7 +64,7 @@ pub record IsFoundAt (ms : List Defined) (name : List ℕ) (i : ℕ) : Type 0 wh
   pub found : found (reverse ms) name ≡ Some (macro, reverse (take i ms))
 
 -- the place of a statement that is no call
-abbrev pub stands : Scope → Statement → Place
+abbrev pub stands : Scope → Statement → Visit
 stands sc s = Stands sc.expansion (record { line = s.line; form = put_form sc s.form })
 
 -- whether a statement is ENDMAC

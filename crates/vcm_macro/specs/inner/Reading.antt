@@ -3,7 +3,7 @@ use Rattle.std.specs.Prelude.{◌≡◌, List, [], ◌∷◌, ◌++◌, reverse,
 use Rattle.vcm_lines.specs.declared.fault.SourceFault.{SourceFault}
 use Rattle.vcm_forms.specs.declared.statement.Statement.{Statement}
 use Rattle.vcm_macro.specs.declared.text.Reading.{Reading}
-use Rattle.vcm_macro.specs.Walk.{Defined, Place, walk_from, walk}
+use Rattle.vcm_macro.specs.Walk.{Defined, Visit, walk_from, walk}
 use Rattle.vcm_macro.specs.inner.Expanding.{Done, TellsFirst, Walked}
 
 -- nothing has been expanded
@@ -11,7 +11,7 @@ abbrev pub nothing : Done
 nothing = record { placed = []; count = 0; calls = 0 }
 
 -- the places of a text from here on, behind what is read
-abbrev pub walk_of : Reading → List Statement → List Place
+abbrev pub walk_of : Reading → List Statement → List Visit
 walk_of r ss = walk_from (reverse r.macros.items) r.current r.waits r.done.calls ss
 
 -- the same is read, and this macro is open
@@ -20,7 +20,7 @@ with_current m r = record { macros = r.macros; current = Some m; waits = r.waits
 
 -- one statement more is read
 pub record IsRead (old : Reading) (s : Statement) (new : Reading) : Type 0 where
-  pub places : List Place
+  pub places : List Visit
   pub walked : Walked old.done new.done places
   pub is : (ss : List Statement) → walk_of old (s ∷ ss) ≡ places ++ walk_of new ss
 
@@ -30,6 +30,6 @@ TellsRead old s f = (ss : List Statement) → TellsFirst old.done.count (walk_of
 
 -- all statements are read but these, which are left
 pub record IsReadTo (all : List Statement) (r : Reading) (rest : List Statement) : Type 0 where
-  pub places : List Place
+  pub places : List Visit
   pub walked : Walked nothing r.done places
   pub is : walk all ≡ places ++ walk_of r rest

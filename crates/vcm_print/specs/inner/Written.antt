@@ -5,7 +5,7 @@ use Rattle.vcm_spec.specs.declared.expression.Item.{Item}
 use Rattle.vcm_code.specs.declared.branch.Branch.{Branch}
 use Rattle.vcm_code.specs.declared.version.Version.{Version}
 use Rattle.vcm_code.specs.declared.version.Version.TheVariants.{One, Two}
-use Rattle.vcm_code.specs.Code.{Statement}
+use Rattle.vcm_code.specs.Code.{CodeStatement}
 use Rattle.vcm_code.specs.Shape.{Place, Said, over_operands}
 use Rattle.vcm_code.specs.Shape as at
 use Rattle.vcm_spec.specs.Words.{quarters_number, word_number}
@@ -62,11 +62,11 @@ place_bytes at.text bs = codes " '" ++ (bs ++ codes "'")
 place_bytes at.branches bs = branches_bytes bs
 
 -- the number of a statement, its source line, and its word
-abbrev pub head_bytes : ℕ → Statement → List ℕ
+abbrev pub head_bytes : ℕ → CodeStatement → List ℕ
 head_bytes n s = decimal n ++ (32 ∷ decimal s.line ++ (32 ∷ word_text (word_of s.op)))
 
 -- a statement's line and its end
-abbrev pub statement_bytes : ℕ → Statement → List ℕ
+abbrev pub statement_bytes : ℕ → CodeStatement → List ℕ
 statement_bytes n s = head_bytes n s ++ (over_operands place_bytes s.op ++ codes "\n")
 
 -- a variable's line and its end

@@ -5,16 +5,16 @@ use Rattle.vcm_code.specs.declared.code.Code.{Code}
 use Rattle.vcm_machine.specs.declared.ran.Ran.{Ran}
 use Rattle.vcm_machine.specs.Running.{Running, started, HasRun}
 use Rattle.vcm_state.specs.Held.{Held}
-use Rattle.vcm_marks.specs.declared.mark.Placed.{Placed}
+use Rattle.vcm_marks.specs.declared.mark.PlacedMark.{PlacedMark}
 use Rattle.vcm_marks.specs.Pieces.{pieces}
 use Rattle.vcm_way.specs.Ways.{Kept, last_pieces, most_pieces, whole_way}
 
 -- these marks, so many pieces being left out before them
-abbrev pub kept : List Placed → ℕ → Kept
+abbrev pub kept : List PlacedMark → ℕ → Kept
 kept marks left_out = record { marks = marks; left_out = left_out }
 
 -- with more marks behind them
-abbrev pub more : Kept → List Placed → Kept
+abbrev pub more : Kept → List PlacedMark → Kept
 more k marks = kept (k.marks ++ marks) k.left_out
 
 -- with the last pieces alone
@@ -22,12 +22,12 @@ abbrev pub shortened : Kept → Kept
 shortened k = kept (last_pieces most_pieces k.marks) (k.left_out + (pieces k.marks - pieces (last_pieces most_pieces k.marks)))
 
 -- it stands for a whole way: its last pieces are those of the way, whatever comes behind, and all others are left out
-pub record StandsFor (k : Kept) (whole : List Placed) : Type 0 where
+pub record StandsFor (k : Kept) (whole : List PlacedMark) : Type 0 where
   pub total : k.left_out + pieces k.marks ≡ pieces whole
-  pub last : (ms : List Placed) → last_pieces most_pieces (k.marks ++ ms) ≡ last_pieces most_pieces (whole ++ ms)
+  pub last : (ms : List PlacedMark) → last_pieces most_pieces (k.marks ++ ms) ≡ last_pieces most_pieces (whole ++ ms)
 
 -- what stood for no step stands for this way now
-abbrev pub Keeps : Kept → Kept → List Placed → Type 0
+abbrev pub Keeps : Kept → Kept → List PlacedMark → Type 0
 Keeps from to whole = StandsFor from [] → StandsFor to whole
 
 -- a run of at most n steps has come to this state and ran so, and its way is kept

@@ -1,9 +1,9 @@
 use Rattle.std.proofs.Common.{List}
-use Rattle.vcm_gone.specs.Gone.{Placed}
+use Rattle.vcm_gone.specs.Gone.{PlacedWay}
 use Rattle.vcm_clearance.specs.Rooms.{AreRooms}
 use Rattle.vcm_clearance.specs.inner.Following.{IsPlaced, AreTried}
 use Rattle.vcm_clearance.proofs.trying.try_way.Given as goal
 
 abbrev pub invariant-loop-index : goal.invariant-loop-index
-invariant-loop-index g l = (ws : List Placed) (p : Placed) → IsPlaced l.place l.gone p → AreRooms l.blocks.blocks l.boxes ws l.fn.rooms.items
+invariant-loop-index g l = (ws : List PlacedWay) (p : PlacedWay) → IsPlaced l.place l.gone p → AreRooms l.blocks.blocks l.boxes ws l.fn.rooms.items
     → AreTried l.blocks.blocks l.boxes l.is_first ws p l.index l.rooms.items (g.W.Write.contents l.fn.writer) (g.W.Write.contents l.writer)

@@ -1,5 +1,5 @@
 use Rattle.vcm_console.proofs.LineRoom.{pushed, full}
-use Rattle.vcm_console.proofs.line.Line.push.Goals as goal
+use Rattle.vcm_console.proofs.line.InputLine.push.Goals as goal
 
 pub returns-then-self-lt-ROOM : goal.returns-then-self-lt-ROOM
 returns-then-self-lt-ROOM c = pushed c.self.inside.bytes c.args.self.now c.self.inside.len c.args.byte c.self.told c.if-self-lt-ROOM.true c.self.view_is

@@ -1,7 +1,7 @@
 use Rattle.std.proofs.Common.{◌≡◌, ◌∙◌, None, sym, ap, subst}
 use Rattle.std.specs.Prelude.{Err}
 use Rattle.vcm_spec.specs.Rests.{Rests}
-use Rattle.vcm_code.specs.Code.{Statement}
+use Rattle.vcm_code.specs.Code.{CodeStatement}
 use Rattle.vcm_machine.proofs.Codes.{same_at}
 use Rattle.vcm_machine.proofs.RestsAlong.{later_rests}
 use Rattle.vcm_machine.proofs.StepLemmas.{fits, range_is, goes, goes_below, stops, wants}
@@ -37,7 +37,7 @@ invariant_of-self-in-Err-Stop g c =
     let none : m.world.state.stop ≡ None = rw (← c.self.view_is) at c.requires in
     let h = rw c.in-Err-Stop.field-0-is at (c.in-Err-Stop.ensures.gone s.line s.op b.2.1 (rw b.2.3 at b.2.2)) in
     let l = c.line-line.ensures in
-    let line = l.2 ∙ ap (λ (x : Statement). x.line) (same_at m.loaded.now.statements m.next l.0 s l.1 b.1) in
+    let line = l.2 ∙ ap (λ (x : CodeStatement). x.line) (same_at m.loaded.now.statements m.next l.0 s l.1 b.1) in
     let later = stops (g.P.Part.part m.part.now) m.loaded.now m.world m.next m.pairs i.0 i.1 s b.1 none c.carry_out.new.world.state c.set_stop.new.self.state c.in-Err-Stop.stop c.carry_out.new.pairs h (rw line at (ap (λ x. x.state) c.set_stop.ensures)) in
     (ap (λ x. x.tables) c.set_stop.ensures ∙ c.in-Err-Stop.ensures.tables ∙ i.0, i.1, i.2, later_rests 1 _ _ (g.met.P.Part.valid m.part.now) i.3 later)
 
@@ -69,7 +69,7 @@ returns-in-Err-Stop-clause-ok g c =
     let none : m.world.state.stop ≡ None = rw (← c.self.view_is) at c.requires in
     let h = rw c.in-Err-Stop.field-0-is at (c.in-Err-Stop.ensures.gone s.line s.op b.2.1 (rw b.2.3 at b.2.2)) in
     let l = c.line-line.ensures in
-    let line = l.2 ∙ ap (λ (x : Statement). x.line) (same_at m.loaded.now.statements m.next l.0 s l.1 b.1) in
+    let line = l.2 ∙ ap (λ (x : CodeStatement). x.line) (same_at m.loaded.now.statements m.next l.0 s l.1 b.1) in
     rw (← c.self.view_is) (stops (g.P.Part.part m.part.now) m.loaded.now m.world m.next m.pairs i.0 i.1 s b.1 none c.carry_out.new.world.state c.set_stop.new.self.state c.in-Err-Stop.stop c.carry_out.new.pairs h (rw line at (ap (λ x. x.state) c.set_stop.ensures)))
 
 pub returns-in-Err-NoMemory-clause-err : goal.returns-in-Err-NoMemory-clause-err
