@@ -9,6 +9,7 @@ use Rattle.vcm_clearance.specs.declared.told.Told.{Told}
 use Rattle.vcm_clearance.specs.declared.room.Room.{Room}
 use Rattle.vcm_clearance.specs.declared.room.Room.TheVariants.{Met, Clear}
 use Rattle.vcm_clearance.specs.Contacts.{IsClearOn, is_met_on, told_on}
+use Rattle.vcm_num.specs.declared.limits.TheConstants.{MOST_ROOM}
 
 -- with its sides moved out by g, the box meets no block on any of these ways
 abbrev pub IsClearBy : List Block3 → Block3 → List PlacedWay → ℕ → Type 0
@@ -40,8 +41,8 @@ counted n = min n most
 -- first contact of the box with its sides moved out by one more
 abbrev pub IsRoom : List Block3 → Block3 → List PlacedWay → Room → Type 0
 IsRoom blocks box ways (Met k) = (k ≡ counted (met_ways blocks box ways)) × (0 < met_ways blocks box ways)
-IsRoom blocks box ways (Clear g None) = (g ≡ 50000) × IsClearBy blocks box ways g
-IsRoom blocks box ways (Clear g (Some told)) = (g < 50000) × IsClearBy blocks box ways g × (first_told blocks (grown (g + 1) box) ways ≡ Some told)
+IsRoom blocks box ways (Clear g None) = (g ≡ MOST_ROOM) × IsClearBy blocks box ways g
+IsRoom blocks box ways (Clear g (Some told)) = (g < MOST_ROOM) × IsClearBy blocks box ways g × (first_told blocks (grown (g + 1) box) ways ≡ Some told)
 
 -- each box has its room
 pub record AreRooms (blocks : List Block3) (boxes : List ProbeBox) (ways : List PlacedWay) (rooms : List Room) : Type 0 where

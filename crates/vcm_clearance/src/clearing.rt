@@ -19,14 +19,11 @@ use vcm_boxes::{Boxes, ProbeBox};
 use vcm_loader::Loaded;
 use vcm_machine::{End, Machine, Ran};
 use vcm_motion::Part;
-use vcm_num::{NoMemory, WriteFault};
+use vcm_num::{MOST_ROOM, NoMemory, WriteFault};
 use vcm_part::PartData;
 use vcm_spec::StopPlace;
 use vcm_state::World;
 use vcm_steps::follow_run;
-
-/// The most micrometres by which the sides of a box are moved out.
-const WIDEST: u32 = 50_000;
 
 /// What a run with its boxes came to: whether a box meets a block, and the stop of the run, if it came to one.
 #[derive(Clone, Copy)]
@@ -52,7 +49,7 @@ fn opening_rooms(alloc: Global, boxes: &[ProbeBox]) -> Result<Vec<Room>, NoMemor
 {
     let mut rooms = Vec::new(alloc);
     for _tried in boxes {
-        rooms.push(Room::Clear(WIDEST, None))?;
+        rooms.push(Room::Clear(MOST_ROOM, None))?;
     }
     Ok(rooms)
 }

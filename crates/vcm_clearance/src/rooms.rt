@@ -17,12 +17,9 @@ use crate::told::Told;
 use crate::trying::one_more;
 use vcm_carried::{Contact, first_met};
 use vcm_gone::Gone;
-use vcm_num::Point;
+use vcm_num::{MOST_ROOM, Point};
 use vcm_part::PartData;
 use vcm_spec::Block3;
-
-/// The most micrometres by which the sides of a box are moved out.
-const WIDEST: u32 = 50_000;
 
 /// The step, and the number and the source line of its statement.
 #[derive(Clone, Copy)]
@@ -202,7 +199,7 @@ pub(crate) fn next_room(
         }
         Room::Clear(by, narrow) => {
             // No box is moved out by more.
-            if by > WIDEST {
+            if by > MOST_ROOM {
                 return Room::Clear(by, narrow);
             }
             next_clear(blocks, block, by, narrow, place, gone)

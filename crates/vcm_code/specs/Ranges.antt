@@ -14,20 +14,21 @@ use Rattle.vcm_code.specs.Words.{word_of, is_of_select}
 use Rattle.vcm_code.specs.Shape.{Place, Said, InOperands}
 use Rattle.vcm_code.specs.Shape as at
 use Rattle.vcm_items.specs.Names.{AreNamed}
+use Rattle.vcm_num.specs.declared.limits.TheConstants.{DEEPEST_BLOCKS, MOST_BRANCHES, MOST_ITEMS, MOST_NAMES, MOST_STATEMENTS}
 
 -- an expression has at least one item and at most 1,024
 abbrev pub IsShort : List Item → Type 0
-IsShort items = (1 ≤ length items) × (length items ≤ 1024)
+IsShort items = (1 ≤ length items) × (length items ≤ MOST_ITEMS)
 
 -- what stands in a place is in range, where its type alone doesn't keep it there: expressions are short, a pair is one of the 32, a text is one, and
 -- branches are at most 20,000
 abbrev pub IsRanged : (p : Place) → Said p → Type 0
-IsRanged at.pair n = n < 32
+IsRanged at.pair n = n < DEEPEST_BLOCKS
 IsRanged (at.items k) e = IsShort e
 IsRanged (at.three k) t = IsShort t.0 × IsShort t.1.0 × IsShort t.1.1
 IsRanged at.assigned o = IsShort o.1
 IsRanged at.text bs = IsText bs
-IsRanged at.branches bs = length bs ≤ 20000
+IsRanged at.branches bs = length bs ≤ MOST_BRANCHES
 IsRanged _ x = Unit {0}
 
 -- a statement: what stands in all its places is
@@ -57,8 +58,8 @@ AllAreNames ns = AllByRecursion IsName ns
 
 -- at most 4,096 variables, features and frames, all with their names, and at most 20,000 statements, all in range and of the code's version
 pub record IsInRange (c : Code) : Type 0 where
-  pub variables : (length c.tables.variables ≤ 4096) × AreNamed c.tables.variables
-  pub features : (length c.tables.features ≤ 4096) × AllAreNames c.tables.features
-  pub frames : (length c.tables.frames ≤ 4096) × AllAreNames c.tables.frames
-  pub statements : (length c.statements ≤ 20000) × AllInRange c.statements
+  pub variables : (length c.tables.variables ≤ MOST_NAMES) × AreNamed c.tables.variables
+  pub features : (length c.tables.features ≤ MOST_NAMES) × AllAreNames c.tables.features
+  pub frames : (length c.tables.frames ≤ MOST_NAMES) × AllAreNames c.tables.frames
+  pub statements : (length c.statements ≤ MOST_STATEMENTS) × AllInRange c.statements
   pub version : IsOfVersion c.version c.statements

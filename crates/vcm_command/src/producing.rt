@@ -15,7 +15,7 @@ use vcm_survey::{Adaptation, Findings, GivenFrame, Options, Shape, adapt, survey
 use vcm_tree::accept;
 
 // The widest tip that a part file may have, in micrometres to each side.
-const WIDEST: i64 = 50_000;
+const WIDEST: i64 = vcm_num::WIDEST_TIP as i64;
 
 const TIP: Message<'static> = Message::Option {
     words: "--tip wants micrometres, a number from 0 to 50000, and no --part beside it",

@@ -13,6 +13,7 @@ use Rattle.vcm_console.specs.declared.reply.CommandRefusal.{CommandRefusal}
 use Rattle.vcm_console.specs.declared.reply.CommandRefusal.TheVariants.{UnknownCommand, CountOutOfRange}
 use Rattle.vcm_console.specs.declared.reply.Reply.{Reply}
 use Rattle.vcm_console.specs.declared.reply.Reply.TheVariants.{Refused}
+use Rattle.vcm_num.specs.declared.limits.TheConstants.{LONGEST_NAME}
 
 -- the bytes from the first on that is no blank
 abbrev pub unblanked : List ℕ → List ℕ
@@ -51,7 +52,7 @@ may_stand_in_name b = is_ascii_alphanumeric b || (b == 95)
 -- a name of a feature: one to sixteen letters, digits and underscores, raised to upper case
 abbrev pub feature_name_of : List ℕ → Result (List ℕ) CommandRefusal
 feature_name_of w =
-    if nat_lt 0 (length w) && nat_le (length w) 16 && list_all may_stand_in_name w then Ok (map upper w) else Err UnknownCommand
+    if nat_lt 0 (length w) && nat_le (length w) LONGEST_NAME && list_all may_stand_in_name w then Ok (map upper w) else Err UnknownCommand
 
 -- whether a name begins with a letter
 abbrev pub begins_with_letter : List ℕ → Bool

@@ -12,6 +12,7 @@ use Rattle.vcm_expr.specs.declared.symbol.Symbol.{Symbol}
 use Rattle.vcm_expr.specs.declared.symbol.Symbol.TheVariants.{Operand, Dash, Cross, Star, Slash, NotWord}
 use Rattle.vcm_expr.specs.declared.symbol.Symbol.TheVariants.{AndWord, OrWord, RelationWord, Opening, Closing}
 use Rattle.vcm_expr.specs.Source.{Source, Plain, Prefixed, Pair, is_small}
+use Rattle.vcm_num.specs.declared.limits.TheConstants.{DEEPEST_EXPRESSION}
 
 -- an expression as it is written, with its parentheses; a leaf is a term, or a number that has no value, and why
 pub data Written : Type 0 where
@@ -107,12 +108,12 @@ pub record SpellsExpr (ps : List Symbol) (e : Source) : Type 0 where
   pub symbols : ps ≡ spelled written
   pub fits : Fits 1 written
   pub read : IsRead written
-  pub nests : nesting written ≤ 32
+  pub nests : nesting written ≤ DEEPEST_EXPRESSION
   pub is : meant written ≡ e
 
 -- parentheses nest deeper than 32, or the expression is deeper than 32 or has more than 512 nodes
 abbrev pub IsDeep : Written → Type 0
-IsDeep s = (32 < nesting s) ⊎ (is_small (meant s) ≡ false)
+IsDeep s = (DEEPEST_EXPRESSION < nesting s) ⊎ (is_small (meant s) ≡ false)
 
 -- how many parentheses are open after these symbols, where n were open before
 abbrev pub open_after : ℕ → List Symbol → ℕ
@@ -126,7 +127,7 @@ pub record NestsDeep (ps : List Symbol) : Type 0 where
   pub front : List Symbol
   pub back : List Symbol
   pub cut : ps ≡ front ++ back
-  pub deep : 32 < open_after 0 front
+  pub deep : DEEPEST_EXPRESSION < open_after 0 front
 
 -- some of the symbols, side by side, spell an expression that is too deep or too large
 pub record HasBigPart (ps : List Symbol) : Type 0 where

@@ -11,6 +11,7 @@ use Rattle.vcm_expr.specs.Symbols.{symbols_of}
 use Rattle.vcm_expr.specs.Source.{Source, is_small}
 use Rattle.vcm_expr.specs.Grammar.{SpellsExpr, BreaksSymbols}
 use Rattle.vcm_expr.specs.Parser.{disjunction_by, expression}
+use Rattle.vcm_num.specs.declared.limits.TheConstants.{DEEPEST_EXPRESSION}
 
 -- the words spell this expression, and it is within the limits
 abbrev pub IsExpr : List Lexeme → Source → Type 0
@@ -31,7 +32,7 @@ all_read t (k ∷ r) = Err BadSyntax
 
 -- the expression that symbols spell, or the code of the leftmost fault
 unfoldable pub read_symbols : List Symbol → Result Source FaultCode
-read_symbols ps = disjunction_by is_small (expression is_small 32) ps >>= λ p. all_read p.tree p.rest
+read_symbols ps = disjunction_by is_small (expression is_small DEEPEST_EXPRESSION) ps >>= λ p. all_read p.tree p.rest
 
 -- the expression that words spell, or the code of the leftmost fault
 abbrev pub expr_of : List Lexeme → Result Source FaultCode

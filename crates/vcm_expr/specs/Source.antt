@@ -7,6 +7,7 @@ use Rattle.vcm_expr.specs.declared.expression.Piece.{Piece}
 use Rattle.vcm_expr.specs.declared.expression.Term.TheVariants as term
 use Rattle.vcm_expr.specs.declared.expression.Piece.TheVariants.{Number, Truth, Variable, Front, Between}
 use Rattle.vcm_expr.specs.declared.expression.Size.{Size}
+use Rattle.vcm_num.specs.declared.limits.TheConstants.{DEEPEST_EXPRESSION, MOST_NODES}
 
 -- an expression: a leaf, or a sign or an operator on one or two expressions
 pub data Source : Type 0 where
@@ -45,7 +46,7 @@ nodes_of (Pair op a b) = nodes_of a + nodes_of b + 1
 
 -- it is within both limits
 abbrev pub is_small : Source → Bool
-is_small s = nat_le (depth_of s) 32 && nat_le (nodes_of s) 512
+is_small s = nat_le (depth_of s) DEEPEST_EXPRESSION && nat_le (nodes_of s) MOST_NODES
 
 -- a size is that of an expression within both limits
 pub record IsSize (s : Size) (e : Source) : Type 0 where

@@ -12,10 +12,10 @@ use vcm_lines::SourceFault;
 use vcm_spec::BinaryOp;
 
 /// The deepest that an expression may be.
-const DEEPEST: u32 = 32;
+const DEEPEST: u32 = vcm_num::DEEPEST_EXPRESSION as u32;
 
 /// The most nodes that an expression may have.
-const MOST_NODES: u32 = 512;
+const MOST_NODES: u32 = vcm_num::MOST_NODES as u32;
 
 /// A size within the limits.
 fn within(line: u32, depth: u32, nodes: u32) -> Result<Size, SourceFault>

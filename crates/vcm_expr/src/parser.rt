@@ -18,7 +18,7 @@ use std::alloc::Global;
 use vcm_lines::{FaultCode, SourceFault, bad_syntax};
 
 /// The most pairs of parentheses that may be open at once.
-const MOST_OPEN: u32 = 32;
+const MOST_OPEN: u32 = vcm_num::DEEPEST_EXPRESSION as u32;
 
 /// The expression that all the words spell.
 pub(crate) fn whole(alloc: Global, line: u32, words: Symbols<'_>) -> Result<Expr, SourceFault>

@@ -31,6 +31,7 @@ use Rattle.vcm_spec.specs.declared.words.FrameAxis.{FrameAxis}
 use Rattle.vcm_spec.specs.declared.words.Quarters.{Quarters}
 use Rattle.vcm_spec.specs.declared.words.FeatureWord.{FeatureWord}
 use Rattle.vcm_spec.specs.Words.{axis_number, quarters_number, word_number}
+use Rattle.vcm_num.specs.declared.limits.TheConstants.{DEEPEST_BLOCKS, LONGEST_NAME, LONGEST_TEXT, MOST_BRANCHES, MOST_ITEMS}
 
 -- what a call returned, seen by view, is what reading gives
 abbrev pub Gives : {X Y : Type 0} → (X → Y) → Result X ImageFault → Result Y ImageFault → Type 0
@@ -179,11 +180,11 @@ within low high n = nat_le low n && nat_le n high
 
 -- an expression: the number of its items, 1 to 1,024, and the items
 unfoldable pub expression_at : Reader (List Item)
-expression_at = after (tested BadField (within 1 1024) (number_at w16)) (times item_at)
+expression_at = after (tested BadField (within 1 MOST_ITEMS) (number_at w16)) (times item_at)
 
 -- the length of a name
 abbrev pub length_at : Reader ℕ
-length_at = tested BadField (within 1 16) byte_at
+length_at = tested BadField (within 1 LONGEST_NAME) byte_at
 
 -- a name: its length, and so many bytes that are one
 unfoldable pub name_at : Reader (List ℕ)
@@ -195,7 +196,7 @@ variable_name_at = after length_at (λ n. tested BadField is_variable_name (byte
 
 -- a text: its length, and so many bytes that are one
 unfoldable pub text_at : Reader (List ℕ)
-text_at = after (tested BadField (λ n. nat_le n 1024) (number_at w16)) (λ n. tested BadField is_text (bytes_at n))
+text_at = after (tested BadField (λ n. nat_le n LONGEST_TEXT) (number_at w16)) (λ n. tested BadField is_text (bytes_at n))
 
 -- ---- statements
 
@@ -209,7 +210,7 @@ byte_below_at limit = tested BadField (λ n. nat_lt n limit) byte_at
 
 -- the number of a loop's pair
 abbrev pub pair_at : Reader ℕ
-pair_at = byte_below_at 32
+pair_at = byte_below_at DEEPEST_BLOCKS
 
 -- the number of a statement
 abbrev pub target_at : Reader ℕ
@@ -257,7 +258,7 @@ branch_at = via (λ b. record { value = b.0; target = b.1 }) (both signed_at tar
 
 -- branches: how many they are, at most 20,000, and each of them
 unfoldable pub branches_at : Reader (List Branch)
-branches_at = after (tested BadField (λ n. nat_le n 20000) (number_at w16)) (times branch_at)
+branches_at = after (tested BadField (λ n. nat_le n MOST_BRANCHES) (number_at w16)) (times branch_at)
 
 -- three expressions
 unfoldable pub three_at : Reader (List Item × (List Item × List Item))

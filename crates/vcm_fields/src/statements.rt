@@ -24,10 +24,10 @@ pub type BorrowedOp<'a> = Op<ItemSlice<'a>, TextSlice<'a>, BranchSlice<'a>>;
 pub type BorrowedStatement<'a> = CodeStatement<ItemSlice<'a>, TextSlice<'a>, BranchSlice<'a>>;
 
 /// The most items of an expression.
-const LONGEST: u16 = 1024;
+const LONGEST: u16 = vcm_num::MOST_ITEMS as u16;
 
 /// The most branches of a SELECT.
-const MOST_BRANCHES: u16 = 20_000;
+const MOST_BRANCHES: u16 = vcm_num::MOST_BRANCHES as u16;
 
 // An expression: the number of its items, and the items.
 #[tactic(auto, unfolding(crate::specs::Readers::expression_at))]

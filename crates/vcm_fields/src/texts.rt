@@ -10,10 +10,10 @@ use vcm_items::{is_name, is_variable_name};
 use vcm_spec::is_text;
 
 /// The most bytes of a name.
-const LONGEST_NAME: u8 = 16;
+const LONGEST_NAME: u8 = vcm_num::LONGEST_NAME as u8;
 
 /// The most bytes of a text.
-const LONGEST_TEXT: u16 = 1024;
+const LONGEST_TEXT: u16 = vcm_num::LONGEST_TEXT as u16;
 
 // The length of a name: 1 to 16.
 fn length(bytes: &[u8]) -> Result<(u8, &[u8]), ImageFault>

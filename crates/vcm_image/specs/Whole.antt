@@ -13,6 +13,7 @@ use Rattle.vcm_fields.specs.Spelling.{short, long, entry, name, line}
 use Rattle.vcm_spec.specs.Results.{◌>>=◌}
 use Rattle.vcm_fields.specs.Readers.{Reader, both, via, tested, after, times, number_at, entry_at, name_at, line_at}
 use Rattle.vcm_image.specs.declared.counts.Counts.{Counts}
+use Rattle.vcm_num.specs.declared.limits.TheConstants.{MOST_NAMES, MOST_STATEMENTS}
 
 -- a code has an image: it is in range, and its fields have their widths
 pub record FitsImage (c : Code) : Type 0 where
@@ -79,7 +80,7 @@ header_at =
     via (λ h. record { version = h.1.0; variables = h.1.1.0; features = h.1.1.1.0; frames = h.1.1.1.1.0; statements = h.1.1.1.1.1 })
     (both (tested BadMagic (is_number magic) (number_at w32))
     (both version_at
-    (both (count_at 4096) (both (count_at 4096) (both (count_at 4096) (tested BadField (at_most 20000) (number_at w32)))))))
+    (both (count_at MOST_NAMES) (both (count_at MOST_NAMES) (both (count_at MOST_NAMES) (tested BadField (at_most MOST_STATEMENTS) (number_at w32)))))))
 
 -- reading so many variables, features, frames and statements
 unfoldable pub body_at : Counts → Reader Code

@@ -14,12 +14,9 @@ use crate::opening::{MOST_NAMES, MOST_STATEMENTS};
 use vcm_code::{Branch, Code, OwnedOp, OwnedStatement, Version, has_selection};
 use vcm_fields::{Field, OwnedField, fields_of};
 use vcm_items::{Name, is_name, is_variable_name};
-use vcm_num::Items;
+use vcm_num::{Items, MOST_ITEMS};
 use vcm_spec::{Item, is_text};
 use vcm_tables::Variable;
-
-/// The most items of an expression.
-const LONGEST: usize = 1024;
 
 // Indexes, targets and numbers have an image's widths in memory, by their types; so what answers for them always answers true.
 
@@ -86,7 +83,7 @@ fn is_short(items: &Items<Item>) -> bool
     ensures short { Tells result (IsShort items.now) }
     ensures widths { result ≡ true → AllByRecursion FitsItem items.now }
 {
-    are_items(items.as_slice()) && 1 <= items.len() && items.len() <= LONGEST
+    are_items(items.as_slice()) && 1 <= items.len() && items.len() <= MOST_ITEMS
 }
 
 // Whether three expressions do.

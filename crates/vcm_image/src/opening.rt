@@ -20,10 +20,10 @@ use vcm_fields::{
 pub(crate) const MAGIC: u32 = 1_229_800_278;
 
 /// The most variables, features or frames.
-pub(crate) const MOST_NAMES: u16 = 4096;
+pub(crate) const MOST_NAMES: u16 = vcm_num::MOST_NAMES as u16;
 
 /// The most statements.
-pub(crate) const MOST_STATEMENTS: u32 = 20_000;
+pub(crate) const MOST_STATEMENTS: u32 = vcm_num::MOST_STATEMENTS as u32;
 
 // The bytes of the shortest statements: a word and a source line. Room is made for no more statements than the bytes can hold.
 const SHORTEST: usize = 5;

@@ -11,9 +11,7 @@ ghost use Rattle.vcm_items.specs.NameBytes.{is_name_byte, is_name, IsName};
 
 use std::hash::{Hash, Hasher};
 use std::marker::Model;
-
-/// The most bytes of a name.
-const LONGEST: usize = 16;
+use vcm_num::LONGEST_NAME;
 
 /// Whether a byte may stand in a name.
 fn is_name_byte(byte: u8) -> bool
@@ -33,13 +31,13 @@ fn are_name_bytes(bytes: &[u8]) -> bool
 pub fn is_name(bytes: &[u8]) -> bool
     ensures { result ≡ is_name bytes.now }
 {
-    1 <= bytes.len() && bytes.len() <= LONGEST && are_name_bytes(bytes)
+    1 <= bytes.len() && bytes.len() <= LONGEST_NAME && are_name_bytes(bytes)
 }
 
 /// A name, which takes no memory. Contracts see it as the list of its bytes.
 #[derive(Drop)]
 pub struct Name {
-    bytes: [u8; LONGEST],
+    bytes: [u8; LONGEST_NAME],
     len: u8,
 }
 
@@ -60,7 +58,7 @@ impl Name {
         requires { IsName bytes.now }
         ensures { result ≡ bytes.now }
     {
-        let mut own = [0; LONGEST];
+        let mut own = [0; LONGEST_NAME];
         own[..bytes.len()].copy_from_slice(bytes);
         Name {
             bytes: own,

@@ -8,6 +8,7 @@ use Rattle.vcm_keys.specs.declared.place.KeyPlace.{KeyPlace}
 use Rattle.vcm_keys.specs.declared.statement.PartStatement.{PartStatement}
 use Rattle.vcm_keys.specs.declared.statement.PartStatement.TheVariants.{Blank, Entry, Block, Inside, Heading}
 use Rattle.vcm_keys.specs.Statements.{statement_alone}
+use Rattle.vcm_num.specs.declared.limits.TheConstants.{MOST_BLOCKS}
 
 -- what was read: the places, the bytes of the open statement with its first line, the next line, how many blocks there are, and whose the next keys are
 pub record Reading : Type 0 where
@@ -24,7 +25,7 @@ start = record { places = []; taken = []; first = 1; line = 1; blocks = 0; owner
 
 -- nothing more is looked for: behind a million lines, a hundred lines of one statement, or more blocks than a part may have
 abbrev pub is_lost : Reading → Bool
-is_lost r = nat_le 1000000 r.line || (nat_le 100 (r.line - r.first) || nat_lt 4096 r.blocks)
+is_lost r = nat_le 1000000 r.line || (nat_le 100 (r.line - r.first) || nat_lt MOST_BLOCKS r.blocks)
 
 -- a key of this block at the open statement's first line
 abbrev pub put : ℕ → Option (List ℕ) → Reading → List KeyPlace

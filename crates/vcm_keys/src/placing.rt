@@ -10,7 +10,7 @@ use crate::statement::{PartStatement, statement_alone};
 use std::alloc::Global;
 use std::marker::Model;
 use vcm_boxes::ShortName;
-use vcm_num::{NoMemory, is, line_feed};
+use vcm_num::{MOST_BLOCKS, NoMemory, is, line_feed};
 
 /// The most bytes of a key that is told.
 const LONGEST: usize = 32;
@@ -19,9 +19,6 @@ const LONGEST: usize = 32;
 const MOST_LINES: usize = 100;
 
 const LAST_LINE: usize = 1_000_000;
-
-/// The most blocks of a part.
-const MOST_BLOCKS: usize = 4096;
 
 /// What was read of a part file.
 #[derive(Drop)]

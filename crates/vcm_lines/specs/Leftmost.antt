@@ -7,6 +7,7 @@ use Rattle.vcm_lines.specs.Statements.{KeptLine, kept_lines, unfinished, bytes_o
 use Rattle.vcm_lines.specs.declared.fault.FaultCode.{FaultCode}
 use Rattle.vcm_lines.specs.declared.fault.FaultCode.TheVariants.{BadByte, LineTooLong, TooManyLines, DanglingContinuation, BadSyntax}
 use Rattle.vcm_lines.specs.declared.fault.SourceFault.{SourceFault}
+use Rattle.vcm_num.specs.declared.limits.TheConstants.{LONGEST_LINE, LONGEST_STATEMENT, MOST_STATEMENTS}
 
 -- the fault that begins at a segment, the segments behind it being given: a text that isn't closed, a dollar behind which something stands
 -- that doesn't fall away, or a byte that may not stand where it does
@@ -27,16 +28,16 @@ too_long most bytes = if nat_lt most (length bytes) then Some LineTooLong else N
 
 -- the fault of a line behind 20,000 lines or more
 abbrev pub too_many : List (List ℕ) → Option FaultCode
-too_many before = if nat_le 20000 (length before) then Some TooManyLines else None
+too_many before = if nat_le MOST_STATEMENTS (length before) then Some TooManyLines else None
 
 -- the fault of a line's bytes, those that its statement has so far being given: the leftmost of the line, and only then a statement that
 -- gets too long by it
 abbrev pub bytes_fault : List ℕ → List ℕ → Option FaultCode
-bytes_fault begun line = option_or (leftmost_fault (segments_of line)) (too_long 4096 (begun ++ text_of line))
+bytes_fault begun line = option_or (leftmost_fault (segments_of line)) (too_long LONGEST_STATEMENT (begun ++ text_of line))
 
 -- the fault of a line behind the lines `before`: a line too many, or else a line that is too long, or else that of its bytes
 abbrev pub line_fault : List (List ℕ) → List ℕ → Option FaultCode
-line_fault before line = option_or (too_many before) (option_or (too_long 1024 line) (bytes_fault (bytes_of (unfinished (kept_lines before))) line))
+line_fault before line = option_or (too_many before) (option_or (too_long LONGEST_LINE line) (bytes_fault (bytes_of (unfinished (kept_lines before))) line))
 
 -- the fault of the end of a text whose last kept lines begin a statement that isn't finished
 abbrev pub dangling : List KeptLine → Option FaultCode

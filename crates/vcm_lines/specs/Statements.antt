@@ -8,6 +8,7 @@ use Rattle.vcm_lines.specs.Words.{AreWords}
 use Rattle.vcm_lines.specs.declared.logical.Logical.{Logical}
 use Rattle.vcm_lines.specs.declared.fault.FaultCode.{FaultCode}
 use Rattle.vcm_lines.specs.declared.fault.FaultCode.TheVariants.{BadByte, LineTooLong, TooManyLines, DanglingContinuation, BadSyntax}
+use Rattle.vcm_num.specs.declared.limits.TheConstants.{LONGEST_LINE, LONGEST_STATEMENT, MOST_STATEMENTS}
 
 -- the lines of a text, behind its byte order mark if it has one
 abbrev pub lines_of : List ℕ → List (List ℕ)
@@ -86,8 +87,8 @@ BreaksLine line _ = ⊥
 -- a rule with this code is broken at a line behind the lines `before`, or at the end of the text
 abbrev pub Breaks : List (List ℕ) → Option (List ℕ) → FaultCode → Type 0
 Breaks before (Some line) LineTooLong =
-    (1024 < length line) ⊎ (4096 < length (bytes_of (unfinished (kept_lines before)) ++ text_of line))
-Breaks before (Some line) TooManyLines = 20000 ≤ length before
+    (LONGEST_LINE < length line) ⊎ (LONGEST_STATEMENT < length (bytes_of (unfinished (kept_lines before)) ++ text_of line))
+Breaks before (Some line) TooManyLines = MOST_STATEMENTS ≤ length before
 Breaks before (Some line) code = BreaksLine line code
 Breaks before None DanglingContinuation = 0 < length (unfinished (kept_lines before))
 Breaks before None _ = ⊥

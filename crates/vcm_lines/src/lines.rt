@@ -14,16 +14,10 @@ use crate::fault::{FaultCode, SourceFault};
 use crate::logical::{Logical, LogicalLines, OwnedBytes, Word};
 use crate::words::words_of;
 use std::alloc::{AllocError, Global};
-use vcm_num::line_feed;
-
-/// The most bytes of a line, without its ending.
-const MAX_LINE: usize = 1024;
-
-/// The most bytes of a statement.
-const MAX_STATEMENT: usize = 4096;
+use vcm_num::{LONGEST_LINE, LONGEST_STATEMENT, line_feed};
 
 /// The most lines of a text.
-const MAX_LINES: u16 = 20_000;
+const MAX_LINES: u16 = vcm_num::MOST_STATEMENTS as u16;
 
 /// A line without the carriage return of its ending.
 fn without_return(line: &[u8]) -> &[u8]
@@ -125,7 +119,7 @@ impl Unfinished {
     /// Adds a line, and says whether the statement ends with it. A line that is empty adds nothing.
     fn add(&mut self, line: &[u8], number: u16) -> Result<bool, SourceFault>
         ensures unbroken { OnOk result (bytes_fault self.old.bytes.items line.now ≡ None) }
-        ensures fits { OnOk result (length self.new.bytes.items ≤ MAX_STATEMENT) }
+        ensures fits { OnOk result (length self.new.bytes.items ≤ LONGEST_STATEMENT) }
         ensures ends { IfOk result (λ e. e ≡ (not (continues line.now) && not (is_empty line.now))) }
         ensures empty { OnOk result ((rows : List KeptLine) → is_empty line.now ≡ true → Holds self.old rows → Holds self.new rows) }
         ensures row { OnOk result ((rows : List KeptLine) → is_empty line.now ≡ false → Holds self.old rows → Holds self.new (rows ++ kept_line number line.now ∷ [])) }
@@ -135,7 +129,7 @@ impl Unfinished {
         self.bytes.reserve(line.len())?;
         let goes_on = read_line(&mut self.bytes, line, u32::from(number))?;
         let len = self.bytes.len();
-        if len > MAX_STATEMENT {
+        if len > LONGEST_STATEMENT {
             return Err(refusal(FaultCode::LineTooLong, number));
         }
         if !goes_on && len == had {
@@ -148,7 +142,7 @@ impl Unfinished {
 
     /// The statement, if there is a line; the next one begins then.
     fn finish(&mut self, alloc: Global) -> Result<Option<Logical>, AllocError>
-        requires short { length self.old.bytes.items ≤ MAX_STATEMENT }
+        requires short { length self.old.bytes.items ≤ LONGEST_STATEMENT }
         ensures made { IfOk result (λ found. (rows : List KeptLine) → Holds self.old rows → MatchOption found (rows ≡ []) (IsLogical rows)) }
         ensures emptied { OnOk result ((rows : List KeptLine) → Holds self.old rows → Holds self.new []) }
     {
@@ -190,7 +184,7 @@ pub fn logical_lines(alloc: Global, text: &[u8]) -> Result<LogicalLines, SourceF
             return Err(refusal(FaultCode::TooManyLines, number + 1));
         }
         number += 1;
-        if line.len() > MAX_LINE {
+        if line.len() > LONGEST_LINE {
             return Err(refusal(FaultCode::LineTooLong, number));
         }
         if statement.add(line, number)? {

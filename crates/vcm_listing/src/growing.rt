@@ -9,15 +9,9 @@ use std::alloc::Global;
 use std::marker::Model;
 use vcm_code::{Code, OwnedStatement, Version};
 use vcm_items::Name;
-use vcm_num::{Items, NoMemory};
+use vcm_num::{Items, MOST_NAMES, MOST_STATEMENTS, NoMemory};
 use vcm_tables::{Tables, Variable};
 use vcm_words::{BorrowedRow, BorrowedStatement, ListCode, Row};
-
-/// The most variables, features or frames.
-const MOST_NAMES: usize = 4096;
-
-/// The most statements.
-const MOST_STATEMENTS: usize = 20_000;
 
 /// The version, and the names and the statements of the lines so far. Contracts see them as a code.
 #[derive(Drop)]

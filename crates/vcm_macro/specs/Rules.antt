@@ -20,6 +20,7 @@ use Rattle.vcm_substitution.specs.Substitution.{is_same, variable_of}
 use Rattle.vcm_substitution.specs.Sizes.{is_small_option, are_small}
 use Rattle.vcm_substitution.specs.Kept.{is_kept}
 use Rattle.vcm_macro.specs.Walk.{Defined, Visit, Opens, Inside, Stands, Misplaced, Calls, is_in_block}
+use Rattle.vcm_num.specs.declared.limits.TheConstants.{DEEPEST_CALLS, MOST_PARAMETERS, MOST_STATEMENTS}
 
 -- ---- a macro is defined once, and so is each of its parameters
 
@@ -148,7 +149,7 @@ suits AValue a = is_there a.value
 
 -- whether a macro may be called with so many arguments: it has as many parameters, and 16 at most
 abbrev pub takes : Defined → ℕ → Bool
-takes m n = nat_le (length m.parameters) 16 && nat_eq (length m.parameters) n
+takes m n = nat_le (length m.parameters) MOST_PARAMETERS && nat_eq (length m.parameters) n
 
 -- ---- sizes
 
@@ -180,7 +181,7 @@ weigh (p ∷ ps) = weight p + weigh ps
 
 -- whether one more counted place may stand behind so many
 abbrev pub is_full : ℕ → Bool
-is_full n = nat_le 20000 n
+is_full n = nat_le MOST_STATEMENTS n
 
 -- ---- the phase
 
@@ -210,7 +211,7 @@ codes_at n (Inside m s) =
     code_if (redeclares m.parameters s.form) DuplicateName ++ code_if (unbalances (blocks_after [] m.body) s.form) Unbalanced
 codes_at n (Stands e s) = code_if (is_kept s.form && is_full n) TooLong ++ code_if (not (are_small s.form)) TooDeep
 codes_at n (Misplaced line) = Unbalanced ∷ []
-codes_at n (Calls line depth m bs) = code_if (nat_lt 16 depth || is_full n) TooLong ++ called_codes m bs
+codes_at n (Calls line depth m bs) = code_if (nat_lt DEEPEST_CALLS depth || is_full n) TooLong ++ called_codes m bs
 
 -- the rules, behind places that count so much
 abbrev pub BreaksBehind : ℕ → Visit → FaultCode → Type 0

@@ -11,7 +11,7 @@ use std::alloc::{AllocError, Global};
 use std::marker::Model;
 use vcm_forms::{Parameter, Statement};
 use vcm_items::Name;
-use vcm_num::Items;
+use vcm_num::{Items, MOST_PARAMETERS};
 
 /// A macro, with what has to be given for each of its parameters. Contracts see it as a `Defined`.
 #[derive(Drop)]
@@ -92,7 +92,7 @@ impl Definition {
     pub(crate) fn takes(&self, arguments: usize) -> bool
         ensures { result ≡ takes self.now arguments }
     {
-        self.parameters.len() <= 16 && self.parameters.len() == arguments
+        self.parameters.len() <= MOST_PARAMETERS && self.parameters.len() == arguments
     }
 }
 

@@ -16,10 +16,10 @@ use vcm_lines::{FaultCode, SourceFault};
 use vcm_substitution::{Bindings, are_small, put_form};
 
 /// The most that may count in an expanded program.
-pub(crate) const MOST: u32 = 20000;
+pub(crate) const MOST: u32 = vcm_num::MOST_STATEMENTS as u32;
 
 /// The deepest that calls may nest.
-const DEEPEST: u32 = 16;
+const DEEPEST: u32 = vcm_num::DEEPEST_CALLS as u32;
 
 /// What has been expanded. Contracts see it as a `Done`.
 #[derive(Drop)]

@@ -7,6 +7,7 @@ use Rattle.vcm_margin.specs.declared.difference.Met.{Met}
 use Rattle.vcm_margin.specs.declared.difference.Margin.{Margin}
 use Rattle.vcm_margin.specs.declared.difference.Met.TheVariants.{Home, Behind}
 use Rattle.vcm_margin.specs.Alike.{GoAlike, DifferFirst}
+use Rattle.vcm_num.specs.declared.limits.TheConstants.{WIDEST_TIP}
 
 -- with a tip of half width h, which the workpiece may have, a code goes in so many steps as it does with the own one
 pub record GoesWith (part : Workpiece) (c : Code) (n h : ℕ) : Type 0 where
@@ -20,8 +21,8 @@ IsMet part c n h (Behind seen) = IsTrue (is_tip part h) × DifferFirst part (wit
 
 -- what is met with a half width: something up to 50,000, which is the widest, and nothing with one more
 abbrev pub MetBy : Workpiece → Code → ℕ → ℕ → Option Met → Type 0
-MetBy part c n h None = h ≡ 50001
-MetBy part c n h (Some d) = (h ≤ 50000) × IsMet part c n h d
+MetBy part c n h None = h ≡ suc WIDEST_TIP
+MetBy part c n h (Some d) = (h ≤ WIDEST_TIP) × IsMet part c n h d
 
 -- how wide the tip may be: a half width, not below the own one, with which the run goes as it does, while with one micrometre more it doesn't, if there
 -- is so wide a tip. Where the run comes to the program's end, it is the greatest one (Laws.antt)

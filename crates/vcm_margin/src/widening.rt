@@ -13,11 +13,8 @@ use std::alloc::Global;
 use vcm_loader::Loaded;
 use vcm_machine::Machine;
 use vcm_motion::{AnyPart, Part};
-use vcm_num::NoMemory;
+use vcm_num::{NoMemory, WIDEST_TIP};
 use vcm_part::PartData;
-
-/// The greatest half width of a tip, in micrometres.
-const WIDEST: u32 = 50_000;
 
 // Where the run with the own tip, which is kept or else run once more, and a machine at the start of its code differ first in so many steps.
 fn compare_own<P: Part, Q: Part>(
@@ -116,7 +113,7 @@ fn margin_with<P: Part>(
     ensures { IfOk result (IsMargin part.now loaded.now steps) }
 {
     let mut tip = part.bounds().tip;
-    let mut beyond = WIDEST + 1;
+    let mut beyond = WIDEST_TIP + 1;
     let mut found = None;
     while beyond - tip > 1 {
         let between = tip + (beyond - tip) / 2;

@@ -4,6 +4,7 @@
 mod arith;
 mod axis;
 mod bytes;
+mod limits;
 mod memory;
 mod number;
 mod point;
@@ -14,6 +15,11 @@ mod writing;
 pub use arith::{add, div, mul, neg, scale, sub};
 pub use axis::Axis;
 pub use bytes::{apostrophe, is, line_feed, look_up};
+pub use limits::{
+    DEEPEST_BLOCKS, DEEPEST_CALLS, DEEPEST_EXPRESSION, LONGEST_LINE, LONGEST_NAME, LONGEST_SETTING,
+    LONGEST_STATEMENT, LONGEST_TEXT, MOST_BLOCKS, MOST_BRANCHES, MOST_ITEMS, MOST_LINES,
+    MOST_NAMES, MOST_NODES, MOST_PARAMETERS, MOST_ROOM, MOST_STATEMENTS, WIDEST_TIP,
+};
 pub use memory::{NoMemory, WriteFault};
 pub use number::{Fault, Kind, Literal};
 pub use point::Point;

@@ -15,6 +15,7 @@ use Rattle.vcm_part.specs.declared.fault.PartCode.TheVariants.{LowAboveHigh, Too
 use Rattle.vcm_part.specs.declared.fault.PartFault.{PartFault}
 use Rattle.vcm_spec.specs.Results.{◌>>=◌}
 use Rattle.vcm_part.specs.Faults.{fault}
+use Rattle.vcm_num.specs.declared.limits.TheConstants.{MOST_BLOCKS, WIDEST_TIP}
 
 -- the point of three whole numbers
 abbrev pub point_of_three : Option ℤ → Option ℤ → Option ℤ → Option Point
@@ -42,7 +43,7 @@ point_at key number t = near_point number (option_and_then point_of (get_member 
 -- half the width of the tip: from 0 to 50,000
 abbrev pub small_length : Option ℤ → Result ℕ PartFault
 small_length None = Err (fault BadKey 0)
-small_length (Some z) = if int_le (pos 0) z && int_le z (pos 50000) then Ok (unsigned_abs z) else Err (fault OutOfRange 0)
+small_length (Some z) = if int_le (pos 0) z && int_le z (pos WIDEST_TIP) then Ok (unsigned_abs z) else Err (fault OutOfRange 0)
 
 -- it is 0 where the key is absent
 abbrev pub tip_of : Option Data → Result ℕ PartFault
@@ -97,7 +98,7 @@ blocks_from number (item d ds) = do
 unfoldable pub blocks_at : Members → Result (List Block3) PartFault
 blocks_at t = do
   rows ← rows_of (get_member (codes "block") t)
-  if nat_lt 4096 (count rows) then Err (fault TooManyBlocks 0) else blocks_from 1 rows
+  if nat_lt MOST_BLOCKS (count rows) then Err (fault TooManyBlocks 0) else blocks_from 1 rows
 
 -- whether home lies within the limits, and the tip meets no block there
 abbrev pub is_clear : Bounds → List Block3 → Bool

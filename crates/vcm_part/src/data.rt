@@ -7,11 +7,8 @@ ghost use Rattle.vcm_part.specs.Tip.{with_tip, is_tip};
 use crate::inside::is_some_met;
 use std::alloc::Global;
 use std::marker::Model;
-use vcm_num::NoMemory;
+use vcm_num::{NoMemory, WIDEST_TIP};
 use vcm_spec::{Block3, Bounds};
-
-/// The greatest half width of a tip, in micrometres.
-const WIDEST: u32 = 50_000;
 
 /// A valid workpiece on its machine, in micrometres of machine coordinates: at most 4,096 blocks, counted from 1, each coordinate of them
 /// and of the limits at most 1,000,000,000 from 0, no low corner above its high one, a tip of at most 50,000 to each side, and home within
@@ -62,7 +59,7 @@ impl PartData {
         ensures may { IfOk result (λ other. is_some other ≡ is_tip self.now tip) }
         ensures part { IfOk result (λ other. IfSome other (λ p. p ≡ with_tip tip self.now)) }
     {
-        if tip > WIDEST || is_some_met(&self.blocks, tip, self.bounds.home) {
+        if tip > WIDEST_TIP || is_some_met(&self.blocks, tip, self.bounds.home) {
             return Ok(None);
         }
         let mut blocks = Vec::with_capacity(alloc, self.blocks.len())?;

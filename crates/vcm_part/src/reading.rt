@@ -15,13 +15,11 @@ use crate::inside::{is_below, is_some_met, is_within};
 use std::alloc::Global;
 use std::mem::forget;
 use toml::{Table, Value};
-use vcm_num::Point;
+use vcm_num::{MOST_BLOCKS, Point};
 use vcm_spec::{Block3, Bounds};
 
-const MOST_BLOCKS: usize = 4096;
-
 // Half the width of the greatest tip.
-const MOST_TIP: i64 = 50_000;
+const MOST_TIP: i64 = vcm_num::WIDEST_TIP as i64;
 
 // A refusal, and the number of the block at fault, or 0.
 fn refused(code: PartCode, block: u32) -> NotRead

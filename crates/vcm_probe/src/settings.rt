@@ -6,6 +6,7 @@ ghost use Rattle.vcm_spec.specs.Effect.{is_allowed, with_setting};
 ghost use Rattle.vcm_spec.specs.Touch.{past};
 
 use std::marker::Model;
+use vcm_num::LONGEST_SETTING;
 use vcm_spec::Setting;
 
 /// How the probe moves at a touch: four lengths in micrometres. The approach and the retract length are from 1 to 1,000,000, the search length
@@ -35,7 +36,7 @@ impl Model for Settings {
 fn in_range(length: i64, least: u32) -> Option<u32>
     ensures { result ≡ (if int_le (pos least) length && int_le length (pos 1000000) then Some (unsigned_abs length) else None) }
 {
-    if i64::from(least) <= length && length <= 1_000_000 {
+    if i64::from(least) <= length && length <= i64::from(LONGEST_SETTING) {
         Some(length as u32)
     } else {
         None

@@ -10,6 +10,7 @@ use Rattle.vcm_items.specs.NameBytes.{is_name}
 use Rattle.vcm_items.specs.Names.{AreNamed}
 use Rattle.vcm_nodes.specs.Jumps.{is_among, labels_of, jumps_of, BreaksJumps}
 use Rattle.vcm_program.specs.declared.accepted.Noticed.{Noticed}
+use Rattle.vcm_num.specs.declared.limits.TheConstants.{DEEPEST_BLOCKS, MOST_NAMES, MOST_STATEMENTS}
 
 -- what a text is: a program, the tables of its names, and notices
 pub record Parsed : Type 0 where
@@ -20,10 +21,10 @@ pub record Parsed : Type 0 where
 -- where so many blocks are around a node, or a block, those in it nest at most 32 deep; a SELECT is no block, but each of its blocks is one
 abbrev mutual
   pub NodeNests : ℕ → Node → Type 0
-  NodeNests d (choice line test first close) = (d < 32) × BlockNests (d + 1) first
-  NodeNests d (choice_else line test first mid second close) = (d < 32) × BlockNests (d + 1) first × BlockNests (d + 1) second
-  NodeNests d (do_loop line v initial limit increment body close) = (d < 32) × BlockNests (d + 1) body
-  NodeNests d (meas line feature body close) = (d < 32) × BlockNests (d + 1) body
+  NodeNests d (choice line test first close) = (d < DEEPEST_BLOCKS) × BlockNests (d + 1) first
+  NodeNests d (choice_else line test first mid second close) = (d < DEEPEST_BLOCKS) × BlockNests (d + 1) first × BlockNests (d + 1) second
+  NodeNests d (do_loop line v initial limit increment body close) = (d < DEEPEST_BLOCKS) × BlockNests (d + 1) body
+  NodeNests d (meas line feature body close) = (d < DEEPEST_BLOCKS) × BlockNests (d + 1) body
   NodeNests d (select line value cases close) = CasesNest d cases
   NodeNests d _ = Unit {0}
 
@@ -33,8 +34,8 @@ abbrev mutual
 
   pub CasesNest : ℕ → Cases → Type 0
   CasesNest d no_more = Unit {0}
-  CasesNest d (one_case line value block close rest) = (d < 32) × BlockNests (d + 1) block × CasesNest d rest
-  CasesNest d (default line block close) = (d < 32) × BlockNests (d + 1) block
+  CasesNest d (one_case line value block close rest) = (d < DEEPEST_BLOCKS) × BlockNests (d + 1) block × CasesNest d rest
+  CasesNest d (default line block close) = (d < DEEPEST_BLOCKS) × BlockNests (d + 1) block
 
 -- no label stands twice
 abbrev pub AreDistinct : List Label → Type 0
@@ -43,14 +44,14 @@ AreDistinct (l ∷ ls) = IsTrue (not (is_among ls l)) × AreDistinct ls
 
 -- at most 4,096, and each of them is a name
 pub record AreNames (names : List (List ℕ)) : Type 0 where
-  pub few : length names ≤ 4096
+  pub few : length names ≤ MOST_NAMES
   pub named : AllByRecursion (λ n. is_name n ≡ true) names
 
 -- A whole program: its last node is ENDFIL, it has at most 20,000 statements, they fit its tables, whose variables have the names of
 -- variables, its blocks nest at most 32 deep, no jump label stands twice, and each jump reaches its label.
 pub record IsWhole (program : Block) (ts : Tables) : Type 0 where
   pub closed : IsTrue (is_closed program)
-  pub few : sizes program ≤ 20000
+  pub few : sizes program ≤ MOST_STATEMENTS
   pub fits : BlockFits ts program
   pub named : AreNamed ts.variables
   pub nested : BlockNests 0 program

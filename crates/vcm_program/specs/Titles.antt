@@ -5,6 +5,7 @@ use Rattle.vcm_lines.specs.Fault.{or_fault}
 use Rattle.vcm_lines.specs.declared.fault.FaultCode.{FaultCode}
 use Rattle.vcm_lines.specs.declared.fault.FaultCode.TheVariants.{UnknownName, TooManyNames}
 use Rattle.vcm_spec.specs.Program.{is_same_name}
+use Rattle.vcm_num.specs.declared.limits.TheConstants.{MOST_NAMES}
 
 -- the index of a name, if it is there
 abbrev pub index_of : List (List ℕ) → List ℕ → Option ℕ
@@ -17,7 +18,7 @@ known names l = or_fault UnknownName (index_of names l)
 -- the index of a name that is entered: its own, or the next one; there are 4,096 at most
 abbrev pub entered_by : List (List ℕ) → Option ℕ → Result ℕ FaultCode
 entered_by names (Some i) = Ok i
-entered_by names None = if nat_lt (length names) 4096 then Ok (length names) else Err TooManyNames
+entered_by names None = if nat_lt (length names) MOST_NAMES then Ok (length names) else Err TooManyNames
 
 -- the index of a name that is entered
 abbrev pub entered : List (List ℕ) → List ℕ → Result ℕ FaultCode

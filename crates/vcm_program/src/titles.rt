@@ -11,9 +11,7 @@ use std::alloc::Global;
 use std::marker::Model;
 use vcm_items::Name;
 use vcm_lines::{FaultCode, SourceFault};
-
-/// The most features of a program, and the most frames.
-const MAX_NAMES: usize = 4096;
+use vcm_num::MOST_NAMES;
 
 /// Names of features or frames, none of them twice, at most 4,096, in the order in which they were entered. Contracts see them as a list.
 #[derive(Drop)]
@@ -92,7 +90,7 @@ impl Titles {
             Some(index) => Ok(index),
             None => {
                 let index = self.names.len();
-                if index >= MAX_NAMES {
+                if index >= MOST_NAMES {
                     let code = FaultCode::TooManyNames;
                     return Err(SourceFault { code, line });
                 }

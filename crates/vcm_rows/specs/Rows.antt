@@ -4,6 +4,7 @@ use Rattle.std.specs.Fmt.{signed_decimal}
 use Rattle.vcm_num.specs.declared.point.Point.{Point}
 use Rattle.vcm_num.specs.Point.{coordinate}
 use Rattle.vcm_report.specs.Printed.{in_a_row}
+use Rattle.vcm_num.specs.declared.limits.TheConstants.{MOST_NAMES}
 
 -- the rows of the numbers below this one, in order
 abbrev pub rows_below : (ℕ → List ℕ) → ℕ → List ℕ
@@ -12,7 +13,7 @@ rows_below row (suc n) = rows_below row n ++ row n
 
 -- how many entries of a table are told: no image has more than 4,096 of them
 abbrev pub told_entries : ℕ → ℕ
-told_entries n = min n 4096
+told_entries n = min n MOST_NAMES
 
 -- a point in whole micrometres, with a blank between two coordinates, before what stands behind it
 abbrev pub point_then : Point → List (List ℕ) → List (List ℕ)

@@ -5,7 +5,7 @@ ghost use Rattle.vcm_num.specs.Written.{Wrote};
 ghost use Rattle.vcm_rows.specs.Rows.{rows_below, point_row, points_row, told_entries};
 
 use std::io::Write;
-use vcm_num::{Point, WriteFault, int_text, write_pieces};
+use vcm_num::{MOST_NAMES, Point, WriteFault, int_text, write_pieces};
 
 /// Writes a row for each thing of a list.
 pub(crate) trait Rows<T, W: Write> {
@@ -65,7 +65,7 @@ pub fn told_entries(entries: usize) -> usize
     ensures told { result ≡ told_entries entries }
     ensures few { result ≤ 4096 }
 {
-    entries.min(4096)
+    entries.min(MOST_NAMES)
 }
 
 /// Writes a row of a point behind these letters.

@@ -4,8 +4,7 @@ ghost use Rattle.std.specs.Prelude.{◌≡◌};
 ghost use Rattle.std.specs.List.{list_all};
 ghost use Rattle.vcm_spec.specs.TextBytes.{is_text_byte, is_text};
 
-/// The most bytes of a text.
-const LONGEST: usize = 1024;
+use vcm_num::LONGEST_TEXT;
 
 // Whether a byte may stand in a text.
 fn is_text_byte(byte: u8) -> bool
@@ -30,5 +29,5 @@ pub fn are_text_bytes(bytes: &[u8]) -> bool
 pub fn is_text(bytes: &[u8]) -> bool
     ensures { result ≡ is_text bytes.now }
 {
-    bytes.len() <= LONGEST && are_text_bytes(bytes)
+    bytes.len() <= LONGEST_TEXT && are_text_bytes(bytes)
 }

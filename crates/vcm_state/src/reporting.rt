@@ -12,9 +12,10 @@ ghost use Rattle.vcm_state.specs.Carried.{Carries, CarriesOrHalts};
 use crate::indexed::kept;
 use crate::printed::{feature_line, word_of};
 use crate::stop::Halt;
-use crate::world::{MAX_LINES, World};
+use crate::world::World;
 use std::alloc::Global;
 use vcm_items::Name;
+use vcm_num::MOST_LINES;
 use vcm_spec::{Feature, FeatureWord, Missing, Source, Stop};
 
 impl World {
@@ -51,7 +52,7 @@ impl World {
             Ok(found) => found,
             Err(why) => return Err(Halt::Stop(why)),
         };
-        if self.lines.len() >= MAX_LINES {
+        if self.lines.len() >= MOST_LINES {
             return Err(Halt::Stop(Stop::OutputFull));
         }
         let name = name_at(self.tables.features(), feature);

@@ -12,15 +12,12 @@ use std::alloc::Global;
 use std::marker::Model;
 use vcm_frame::Frame;
 use vcm_motion::{Part, contact_of};
-use vcm_num::{Items, NoMemory, Point};
+use vcm_num::{Items, MOST_LINES, NoMemory, Point};
 use vcm_output::Lines;
 use vcm_part::is_within;
 use vcm_probe::Settings;
 use vcm_spec::{Feature, MovePhase, Stop, StopPlace};
 use vcm_tables::Tables;
-
-/// The most output lines of a run.
-pub(crate) const MAX_LINES: usize = 100_000;
 
 /// The state of the machine: where the probe is, in micrometres of machine coordinates, the current frame, the settings of the probe, the values
 /// of the variables, the saved frames, the features as they were declared and as they were measured, the output lines, and the stop if there is
@@ -226,7 +223,7 @@ impl World {
     pub fn text(&mut self, bytes: &[u8]) -> Result<(), Halt>
         ensures { (part : Workpiece) → CarriesOrHalts part (Text bytes.now) self.old self.new result }
     {
-        if self.lines.len() >= MAX_LINES {
+        if self.lines.len() >= MOST_LINES {
             return Err(Halt::Stop(Stop::OutputFull));
         }
         self.lines.push(bytes)?;

@@ -16,20 +16,17 @@ use vcm_expr::{Expr, read_expr};
 use vcm_forms::{Argument, Form, Parameter};
 use vcm_items::{Name, is_name, is_variable_name};
 use vcm_lines::{FaultCode, Phrase, SourceFault, Token, bad_syntax};
-use vcm_num::Items;
-
-/// The most bytes of a name.
-const LONGEST: usize = 16;
+use vcm_num::{Items, LONGEST_NAME};
 
 /// The name that a text is with its letters in upper case, none where it is no name then.
 fn raised(text: &[u8]) -> Option<Name>
     ensures { MatchOption result (is_name (raised text.now) ≡ false)
         (λ name. (is_name (raised text.now) ≡ true) × (name ≡ raised text.now)) }
 {
-    if text.len() > LONGEST {
+    if text.len() > LONGEST_NAME {
         return None;
     }
-    let mut own = [0; LONGEST];
+    let mut own = [0; LONGEST_NAME];
     own[..text.len()].copy_from_slice(text);
     own[..text.len()].make_ascii_uppercase();
     let bytes = &own[..text.len()];

@@ -5,7 +5,7 @@ use std::alloc::Global;
 use std::fmt::Write as _;
 use toml::{Table, Value};
 use vcm_keys::{block_lines, line_of, open_line, places_of};
-use vcm_num::{NoMemory, Point, line_feed};
+use vcm_num::{NoMemory, Point, WIDEST_TIP, line_feed};
 use vcm_part::{PartCode, PartFault, is_met};
 use vcm_spec::Block3;
 
@@ -222,7 +222,7 @@ fn put_bad_tip(text: &mut String, table: &Table, spot: FilePlace<'_>) -> Result<
         return Ok(false);
     };
     match value.as_integer() {
-        Some(tip) if 0 <= tip && tip <= 50_000 => return Ok(false),
+        Some(tip) if 0 <= tip && tip <= i64::from(WIDEST_TIP) => return Ok(false),
         Some(tip) => {
             put_spot(text, spot)?;
             write!(text, "tip: {tip} isn't within 0 to 50000")?;

@@ -17,6 +17,7 @@ use Rattle.vcm_forms.specs.declared.statement.Target.{Target}
 use Rattle.vcm_tree.specs.Sentences.{Step, Marks, Tests, Divides, EndsTest, Repeats, EndsRepeat, Selects, EndsCase, EndsSelect, Ends}
 use Rattle.vcm_tree.specs.Variables.{target_of}
 use Rattle.vcm_spec.specs.Results.{◌>>=◌}
+use Rattle.vcm_num.specs.declared.limits.TheConstants.{DEEPEST_BLOCKS}
 
 -- what is open: the first block of an IF, the second one, the body of a DO, that of a MEAS of a feature, a SELECT with its DFTCAS or
 -- without, a block of a SELECT
@@ -63,7 +64,7 @@ depth (b ∷ bs) = suc (depth bs)
 
 -- one more block may be opened where fewer than 32 are open
 abbrev pub room : List Opened → Result (Unit {0}) FaultCode
-room bs = room_by (nat_lt (depth bs) 32)
+room bs = room_by (nat_lt (depth bs) DEEPEST_BLOCKS)
 
 -- a statement that opens a block
 abbrev pub nested : List Opened → Result Step FaultCode → Result Step FaultCode

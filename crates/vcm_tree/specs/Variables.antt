@@ -17,6 +17,7 @@ use Rattle.vcm_expr.specs.Source.{Source}
 use Rattle.vcm_expr.specs.Typing.{typed_for}
 use Rattle.vcm_forms.specs.declared.statement.Target.{Target}
 use Rattle.vcm_spec.specs.Results.{◌>>=◌}
+use Rattle.vcm_num.specs.declared.limits.TheConstants.{MOST_NAMES}
 
 -- whether a variable of this very expansion has this name
 abbrev pub is_declared : List Variable → ℕ → List ℕ → Bool
@@ -26,7 +27,7 @@ is_declared vs e name = list_any (is_named e name) vs
 abbrev pub with_one : List Variable → ℕ → Kind → List ℕ → Result (List Variable) FaultCode
 with_one vs e kind name =
     if is_declared vs e name then Err DuplicateName
-    else if nat_lt (length vs) 4096 then Ok (vs ++ record { name = name; kind = kind; expansion = e } ∷ [])
+    else if nat_lt (length vs) MOST_NAMES then Ok (vs ++ record { name = name; kind = kind; expansion = e } ∷ [])
     else Err TooManyNames
 
 -- the table with all variables of a declaration

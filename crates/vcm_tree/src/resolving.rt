@@ -18,11 +18,8 @@ use vcm_forms::{Coordinates, Rounds, Target};
 use vcm_items::{Name, VariableName};
 use vcm_lines::{FaultCode, SourceFault};
 use vcm_nodes::{Action, Label, Labels};
-use vcm_num::Kind;
+use vcm_num::{Kind, MOST_NAMES};
 use vcm_spec::{Operand, Simple};
-
-/// The most variables of a program.
-const MAX_VARIABLES: usize = 4096;
 
 // Whether a variable of this very expansion has this name.
 fn is_declared(names: &Names, expansion: u32, name: &Name) -> bool
@@ -52,7 +49,7 @@ fn declare(
         let code = FaultCode::DuplicateName;
         return Err(SourceFault { code, line });
     }
-    if names.len() >= MAX_VARIABLES {
+    if names.len() >= MOST_NAMES {
         let code = FaultCode::TooManyNames;
         return Err(SourceFault { code, line });
     }

@@ -7,6 +7,7 @@ use Rattle.vcm_words.specs.Cutting.{split, joined}
 use Rattle.vcm_words.specs.Numbers.{number, signed, counted, only_if}
 use Rattle.vcm_words.specs.WordReaders.{◌>>=◌, Reader, one, or_else, tested}
 use Rattle.vcm_words.specs.Enclosed.{closed, opened, between}
+use Rattle.vcm_num.specs.declared.limits.TheConstants.{MOST_BRANCHES}
 
 -- a branch: its value and its target, 1@3
 abbrev pub branch_text : Branch → List ℕ
@@ -32,7 +33,7 @@ none_at = one (λ w. only_if (bytes_eq w (codes "{}")) [])
 
 -- 1 to 20,000 branches between braces
 unfoldable pub braced_at : Bool → Reader (List Branch)
-braced_at exact = tested (λ bs. counted exact (nat_le (length bs) 20000)) (between 123 125 (branch_in exact))
+braced_at exact = tested (λ bs. counted exact (nat_le (length bs) MOST_BRANCHES)) (between 123 125 (branch_in exact))
 
 -- branches: none, or some between braces
 unfoldable pub branches_at : Bool → Reader (List Branch)

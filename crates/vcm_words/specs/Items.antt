@@ -16,6 +16,7 @@ use Rattle.vcm_num.specs.Words.{look_up}
 use Rattle.vcm_words.specs.WordReaders.{Reader, marked, or_else, tested, rows_of}
 use Rattle.vcm_words.specs.Enclosed.{closed, opened, between}
 use Rattle.std.specs.Option.{option_map}
+use Rattle.vcm_num.specs.declared.limits.TheConstants.{MOST_ITEMS}
 
 -- ---- writing
 
@@ -89,4 +90,4 @@ item_in exact w = or_else (look_up (rows_of item_text operators) w) (option_map 
 
 -- an expression: 1 to 1,024 items between brackets
 unfoldable pub expression_at : Bool → Reader (List Item)
-expression_at exact = tested (λ is. counted exact (within 1 1024 (length is))) (between 91 93 (item_in exact))
+expression_at exact = tested (λ is. counted exact (within 1 MOST_ITEMS (length is))) (between 91 93 (item_in exact))

@@ -11,6 +11,7 @@ use Rattle.vcm_words.specs.declared.fault.ListCode.TheVariants.{BadLine, BadNumb
 use Rattle.vcm_words.specs.declared.fault.ListFault.{ListFault}
 use Rattle.vcm_words.specs.Cutting.{split}
 use Rattle.vcm_words.specs.Rows.{ListRow, row_of}
+use Rattle.vcm_num.specs.declared.limits.TheConstants.{MOST_NAMES, MOST_STATEMENTS}
 
 -- there is nothing
 abbrev pub is_empty : {A : Type 0} → List A → Bool
@@ -30,16 +31,16 @@ placed count limit i in_order c =
 unfoldable pub added : Code → ListRow → Result Code ListCode
 added c (Head version) = Err OutOfOrder
 added c (Variable i v) =
-    placed (length c.tables.variables) 4096 i (is_empty c.tables.features && (is_empty c.tables.frames && is_empty c.statements))
+    placed (length c.tables.variables) MOST_NAMES i (is_empty c.tables.features && (is_empty c.tables.frames && is_empty c.statements))
     (with_tables c (record c.tables { variables = c.tables.variables ++ v ∷ [] }))
 added c (Feature i name) =
-    placed (length c.tables.features) 4096 i (is_empty c.tables.frames && is_empty c.statements)
+    placed (length c.tables.features) MOST_NAMES i (is_empty c.tables.frames && is_empty c.statements)
     (with_tables c (record c.tables { features = c.tables.features ++ name ∷ [] }))
 added c (Frame i name) =
-    placed (length c.tables.frames) 4096 i (is_empty c.statements)
+    placed (length c.tables.frames) MOST_NAMES i (is_empty c.statements)
     (with_tables c (record c.tables { frames = c.tables.frames ++ name ∷ [] }))
 added c (Numbered n s) =
-    placed (length c.statements) 20000 n true (record { version = c.version; tables = c.tables; statements = c.statements ++ s ∷ [] })
+    placed (length c.statements) MOST_STATEMENTS n true (record { version = c.version; tables = c.tables; statements = c.statements ++ s ∷ [] })
 
 -- a line that can't be read has the shape of a line with other numbers, or no shape
 abbrev pub unread : Option ListRow → ListCode

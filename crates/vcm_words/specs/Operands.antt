@@ -30,6 +30,7 @@ use Rattle.vcm_num.specs.Words.{look_up}
 use Rattle.vcm_words.specs.WordReaders.{◌>>=◌, Reader, now, one, both, via, after, tested, marked, ending, rows_of, Spelling, named}
 use Rattle.vcm_words.specs.Items.{expression, expression_at}
 use Rattle.vcm_words.specs.Branches.{branches, branches_at}
+use Rattle.vcm_num.specs.declared.limits.TheConstants.{DEEPEST_BLOCKS, LONGEST_TEXT}
 
 -- ---- single words
 
@@ -118,7 +119,7 @@ text bs = split 32 (39 ∷ bs ++ 39 ∷ [])
 -- what stands between apostrophes: at most 1,024 bytes of a text
 unfoldable pub quoted_in : Bool → List ℕ → Option (List ℕ)
 quoted_in exact bytes =
-    marked 39 (ending 39) bytes >>= λ bs. only_if (counted exact (nat_le (length bs) 1024) && list_all is_text_byte bs) bs
+    marked 39 (ending 39) bytes >>= λ bs. only_if (counted exact (nat_le (length bs) LONGEST_TEXT) && list_all is_text_byte bs) bs
 
 -- reading a text: it takes all words that are left
 unfoldable pub text_at : Bool → Reader (List ℕ)
@@ -176,7 +177,7 @@ abbrev pub spelling : (p : Place) → Spelling (Said p)
 spelling (at.variable k) = behind 86 (2 ^ 16)
 spelling at.feature = behind 70 (2 ^ 16)
 spelling at.frame = behind 68 (2 ^ 16)
-spelling at.pair = behind 76 32
+spelling at.pair = behind 76 DEEPEST_BLOCKS
 spelling at.target = behind 64 (2 ^ 32)
 spelling (at.items k) = record { words = expression; at = expression_at }
 spelling (at.three k) = record { words = three; at = three_at }

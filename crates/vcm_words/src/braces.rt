@@ -122,7 +122,7 @@ impl<'a> Branches for BranchWords<'a> {
 }
 
 /// The most branches of a SELECT.
-const MOST_BRANCHES: u16 = 20_000;
+const MOST_BRANCHES: u16 = vcm_num::MOST_BRANCHES as u16;
 
 // How many branches there are up to the closing brace, at least one, and the words behind it.
 fn branches_end<'a>(exact: bool, words: &Words<'a>) -> Option<(u16, Words<'a>)>

@@ -13,11 +13,8 @@ use crate::items::before_end;
 use crate::numbers::{long, short, small};
 use crate::slices::TextWords;
 use crate::words::{Words, table_word};
-use vcm_num::Axis;
+use vcm_num::{Axis, LONGEST_TEXT};
 use vcm_spec::{FeatureWord, FrameAxis, Quarters, Setting, Source, are_text_bytes};
-
-/// The most bytes of a text.
-const LONGEST_TEXT: usize = 1024;
 
 // What stands behind a letter, and the words behind it.
 fn behind<'a>(letter: u8, words: &Words<'a>) -> Option<(&'a [u8], Words<'a>)>

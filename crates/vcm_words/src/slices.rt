@@ -99,7 +99,7 @@ impl<'a> Expression for ItemWords<'a> {
 }
 
 /// The most items of an expression.
-const LONGEST: u16 = 1024;
+const LONGEST: u16 = vcm_num::MOST_ITEMS as u16;
 
 /// One more, up to one more than the most, which stands for all that is more.
 pub(crate) fn one_more(most: u16, count: u16) -> u16

@@ -1,6 +1,7 @@
 -- How deep the loops of a program nest.
 use Rattle.std.specs.Prelude.{ℕ, suc, ◌<◌}
 use Rattle.vcm_spec.specs.Program.{Node, Block, Cases, simple, label, jump, choice, choice_else, do_loop, meas, select, ending, done, then, no_more, one_case, default}
+use Rattle.vcm_num.specs.declared.limits.TheConstants.{DEEPEST_BLOCKS}
 
 -- where d DO stand around a node, a block, or the blocks of a SELECT, at most 32 stand around each of its statements
 abbrev mutual
@@ -10,7 +11,7 @@ abbrev mutual
   NodeDeep (jump line l) d = Unit {0}
   NodeDeep (choice line test first close) d = Deep first d
   NodeDeep (choice_else line test first mid second close) d = Deep first d × Deep second d
-  NodeDeep (do_loop line v initial limit increment body close) d = (d < 32) × Deep body (suc d)
+  NodeDeep (do_loop line v initial limit increment body close) d = (d < DEEPEST_BLOCKS) × Deep body (suc d)
   NodeDeep (meas line feature body close) d = Deep body d
   NodeDeep (select line value cases close) d = CasesDeep cases d
   NodeDeep (ending line) d = Unit {0}

@@ -11,6 +11,7 @@ use Rattle.vcm_code.specs.Words.{word_of, has_word}
 use Rattle.vcm_code.specs.Shape.{Place, Said, InOperands}
 use Rattle.vcm_code.specs.Ranges.{IsShort, IsRanged}
 use Rattle.vcm_fields.specs.Widths.{FitsItem, FitsBranch, HasWidth}
+use Rattle.vcm_num.specs.declared.limits.TheConstants.{MOST_BRANCHES}
 
 -- an expression
 abbrev pub FitsExpression : List Item → Type 0
@@ -23,7 +24,7 @@ FitThree x y z =
 
 -- branches
 abbrev pub FitBranches : List Branch → Type 0
-FitBranches bs = (length bs ≤ 20000) × AllByRecursion FitsBranch bs
+FitBranches bs = (length bs ≤ MOST_BRANCHES) × AllByRecursion FitsBranch bs
 
 -- what stands in a place
 abbrev pub FitsPlace : (p : Place) → Said p → Type 0
