@@ -7,7 +7,7 @@ use Rattle.vcm_spec.specs.declared.expression.Item.{Item}
 use Rattle.vcm_spec.specs.declared.stop.StopPlace.{StopPlace}
 use Rattle.vcm_spec.specs.Value.{items_value}
 use Rattle.vcm_spec.specs.Simple.{Simple, evaluated}
-use Rattle.vcm_spec.specs.declared.simple.Simple.TheVariants.{Goto, GoHome, Assign, Feat, PtMeas, SnSet, Trans, Rotate, Recall, Obtain, Output, Text}
+use Rattle.vcm_spec.specs.declared.simple.Simple.TheVariants.{PtMeas}
 use Rattle.vcm_spec.specs.Setup.{Setup, Tables, setup_of}
 use Rattle.vcm_spec.specs.World.{World}
 use Rattle.vcm_spec.specs.Workpiece.{Workpiece, IsValid}
@@ -38,17 +38,7 @@ beside_at a b p e = record { is = e ∙ ap (λ (q : Point). moved_to q a) (sym (
 -- the index that a statement measures is the same however it is kept
 pub measured_plain : (what : Simple (List Item)) → measured_by (Plain what) ≡ measured_in what
 measured_plain (PtMeas i x y z d) = refl
-measured_plain (Goto x y z) = refl
-measured_plain GoHome = refl
-measured_plain (Assign v e) = refl
-measured_plain (Feat i x y z d) = refl
-measured_plain (SnSet which e) = refl
-measured_plain (Trans i x y z) = refl
-measured_plain (Rotate i axis n) = refl
-measured_plain (Recall i) = refl
-measured_plain (Obtain v source i word) = refl
-measured_plain (Output source i) = refl
-measured_plain (Text bytes) = refl
+measured_plain _ = refl
 
 -- an effect keeps the stop
 effect_keeps : (su : Setup) (w : World) (what : Simple (List Item)) → Keeps w (effect items_value su w what)

@@ -1,6 +1,6 @@
 //! The margin of the tip in a run of a loaded code.
 
-ghost use Rattle.std.specs.Prelude.{IfOk, IfErr};
+ghost use Rattle.std.specs.Prelude.{◌≡◌, IfOk, IfErr};
 ghost use Rattle.vcm_views.specs.declared.view.RunView.TheVariants.{Margin as MarginOf};
 ghost use Rattle.vcm_views.specs.Views.{IsViewed, IsCutShort};
 ghost use Rattle.vcm_views.specs.inner.Told.{IsMarginTold, IsMarginNotTold, IsTold, IsNotTold};
@@ -21,43 +21,48 @@ fn tell_margin<W: Write>(
     alloc: Global,
     loaded: &Loaded<'_>,
     part: &PartData,
-    world: &World,
     done: u64,
     writer: &mut W,
 ) -> Result<(), RunFault>
-    ensures told { IfOk result (λ v. IsMarginTold part.now loaded.now world.now done (W.contents writer.old) (W.contents writer.new)) }
-    ensures fault { IfErr result (λ f. IsMarginNotTold part.now loaded.now world.now done f (W.contents writer.old) (W.contents writer.new)) }
+    ensures told { IfOk result (λ v. IsMarginTold part.now loaded.now done (W.contents writer.old) (W.contents writer.new)) }
+    ensures fault { IfErr result (λ f. IsMarginNotTold part.now loaded.now done f (W.contents writer.old) (W.contents writer.new)) }
 {
     let Ok(margin) = margin(alloc, loaded, part, done) else {
         return Err(RunFault::NoMemory);
     };
-    match write_margin(world.tables(), margin, writer) {
+    let Ok(tables) = loaded.tables(alloc) else {
+        return Err(RunFault::NoMemory);
+    };
+    match write_margin(&tables, margin, writer) {
         Ok(()) => Ok(()),
         Err(_) => Err(RunFault::Write { done }),
     }
 }
 
-// Writes the margin of a run that came to the program's end, and of any other its result; and gives the exit status.
+// Writes the margin of a run that came to the program's end, and of any other its result; and gives the exit status. What the run wrote is given up before
+// the tip is widened.
 fn tell<W: Write>(
     alloc: Global,
     loaded: &Loaded<'_>,
     part: &PartData,
-    world: &World,
+    world: World,
     ran: Ran,
     writer: &mut W,
 ) -> Result<u8, RunFault>
+    requires { world.now.tables ≡ loaded.now.tables }
     ensures told { IfOk result (λ status. IsTold part.now loaded.now world.now ran.done status (W.contents writer.old) (W.contents writer.new)) }
     ensures fault { IfErr result (λ f. IsNotTold part.now loaded.now world.now ran.done f (W.contents writer.old) (W.contents writer.new)) }
 {
     let done = ran.done;
     let status = status_of(world.stop());
     if status == 0 {
-        return match tell_margin(alloc, loaded, part, world, done, writer) {
+        drop(world);
+        return match tell_margin(alloc, loaded, part, done, writer) {
             Ok(()) => Ok(status),
             Err(fault) => Err(fault),
         };
     }
-    match write_result(world, &ran, writer) {
+    match write_result(&world, &ran, writer) {
         Ok(()) => Ok(status),
         Err(_) => Err(RunFault::Write { done }),
     }
@@ -86,5 +91,5 @@ pub(crate) fn show_margin<W: Write>(
     if is_halted(ran) {
         return Err(RunFault::Memory { done: ran.done });
     }
-    tell(alloc, loaded, part, &world, ran, writer)
+    tell(alloc, loaded, part, world, ran, writer)
 }

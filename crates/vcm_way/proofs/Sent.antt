@@ -13,7 +13,7 @@ use Rattle.vcm_spec.specs.FirstTouch.{free_move, touch}
 use Rattle.vcm_spec.specs.Outcome.{Outcome, Gives, Stops, ◌>>=◌, calculated, point_at}
 use Rattle.vcm_spec.specs.Setup.{Setup}
 use Rattle.vcm_spec.specs.Simple.{Simple, evaluated}
-use Rattle.vcm_spec.specs.declared.simple.Simple.TheVariants.{Goto, GoHome, Assign, Feat, PtMeas, SnSet, Trans, Rotate, Recall, Obtain, Output, Text}
+use Rattle.vcm_spec.specs.declared.simple.Simple.TheVariants.{Goto, GoHome, PtMeas}
 use Rattle.vcm_spec.specs.Value.{items_value}
 use Rattle.vcm_spec.specs.Effect.{effect, carried_out, value_in, machine_point, measured_direction}
 use Rattle.vcm_spec.specs.World.{World}
@@ -151,15 +151,7 @@ module _ (setup : Setup) (w : World) (line n : ℕ) (ps : List Pair) where
       by (Gives d) (Stops why) = tt
       by (Gives d) (Gives nominal) =
           touches_by nominal (direction w.frame.turn d) i (touch setup.part w.settings (coordinate w.position) (coordinate nominal) (direction w.frame.turn d)) (recorded d) refl
-  simple_by (Gives (Assign v x)) = tt
-  simple_by (Gives (Feat i x y z d)) = tt
-  simple_by (Gives (SnSet which z)) = tt
-  simple_by (Gives (Trans i x y z)) = tt
-  simple_by (Gives (Rotate i axis quarters)) = tt
-  simple_by (Gives (Recall i)) = tt
-  simple_by (Gives (Obtain v source i word)) = tt
-  simple_by (Gives (Output source i)) = tt
-  simple_by (Gives (Text bytes)) = tt
+  simple_by (Gives _) = tt
 
   -- the stop after a statement is that of its task, if that has one
   pub task_ends : (op : Op) → Ends (task_of home w op) (reason (do_op setup op line w n ps).world.stop)

@@ -15,22 +15,22 @@ use Rattle.vcm_margin.specs.Printed.{margin_text}
 use Rattle.vcm_views.specs.Views.{TellsMargin}
 
 -- a margin was written, and nothing else
-pub record IsMarginTold (part : Workpiece) (c : Code) (held : Held) (done : ℕ) (old new : Option (List ℕ)) : Type 0 where
+pub record IsMarginTold (part : Workpiece) (c : Code) (done : ℕ) (old new : Option (List ℕ)) : Type 0 where
   pub margin : Margin
   pub is_margin : IsMargin part c done margin
-  pub written : Appends old new (margin_text held.tables margin)
+  pub written : Appends old new (margin_text c.tables margin)
 
 -- a front of it was, and not all of it
-pub record IsMarginCutOff (part : Workpiece) (c : Code) (held : Held) (done : ℕ) (old new : Option (List ℕ)) : Type 0 where
+pub record IsMarginCutOff (part : Workpiece) (c : Code) (done : ℕ) (old new : Option (List ℕ)) : Type 0 where
   pub margin : Margin
   pub is_margin : IsMargin part c done margin
-  pub front : AppendsFront old new (margin_text held.tables margin)
+  pub front : AppendsFront old new (margin_text c.tables margin)
 
 -- why no margin was told: memory was refused, and nothing was written; or a write failed
-abbrev pub IsMarginNotTold : Workpiece → Code → Held → ℕ → Fault InputRefusal → Option (List ℕ) → Option (List ℕ) → Type 0
-IsMarginNotTold part c held done faults.NoMemory old new = Keeps old new
-IsMarginNotTold part c held done (faults.Write d) old new = IsMarginCutOff part c held done old new
-IsMarginNotTold part c held done _ old new = ⊥
+abbrev pub IsMarginNotTold : Workpiece → Code → ℕ → Fault InputRefusal → Option (List ℕ) → Option (List ℕ) → Type 0
+IsMarginNotTold part c done faults.NoMemory old new = Keeps old new
+IsMarginNotTold part c done (faults.Write d) old new = IsMarginCutOff part c done old new
+IsMarginNotTold part c done _ old new = ⊥
 
 -- the margin or the result of a run was written and nothing else, with this exit status
 pub record IsTold (part : Workpiece) (c : Code) (held : Held) (done status : ℕ) (old new : Option (List ℕ)) : Type 0 where

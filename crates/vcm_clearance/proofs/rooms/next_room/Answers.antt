@@ -1,4 +1,4 @@
 use Rattle.vcm_clearance.proofs.rooms.next_room.Goals as goal
 
-pub returns-else-by-gt-WIDEST : goal.returns-else-by-gt-WIDEST
-returns-else-by-gt-WIDEST c ws p placed room = c.next_clear.ensures ws p placed (rw c.in-Clear.is at room)
+pub returns-else-by-gt-MOST_ROOM : goal.returns-else-by-gt-MOST_ROOM
+returns-else-by-gt-MOST_ROOM c ws p placed room = c.next_clear.ensures ws p placed (rw c.in-Clear.is at room)
