@@ -34,7 +34,7 @@ use Rattle.vcm_gone.specs.Seen.{AreSame}
 use Rattle.vcm_clearance.specs.declared.clearing.Cleared.{Cleared}
 use Rattle.vcm_clearance.specs.declared.clearing.ClearanceFault.{ClearanceFault}
 use Rattle.vcm_clearance.specs.declared.clearing.ClearanceFault.TheVariants as faults
-use Rattle.vcm_clearance.specs.declared.rooms.Moment.{Moment}
+use Rattle.vcm_marks.specs.declared.mark.Moment.{Moment}
 use Rattle.vcm_clearance.specs.declared.room.Room.{Room}
 use Rattle.vcm_clearance.specs.Rooms.{AreRooms, counted, is_met_room}
 use Rattle.vcm_clearance.specs.Printed.{way_lines, run_lines, ways_text, boxes_lines, end_line}

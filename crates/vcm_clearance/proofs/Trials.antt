@@ -11,7 +11,7 @@ use Rattle.vcm_gone.specs.Gone.{Gone, PlacedWay}
 use Rattle.vcm_gone.specs.Seen.{IsSameWay, seen}
 use Rattle.vcm_clearance.specs.declared.told.Told.{Told}
 use Rattle.vcm_clearance.specs.declared.room.Room.TheVariants.{Met, Clear}
-use Rattle.vcm_clearance.specs.declared.rooms.Moment.{Moment}
+use Rattle.vcm_marks.specs.declared.mark.Moment.{Moment}
 use Rattle.vcm_clearance.specs.Contacts.{contact_on, told_at}
 use Rattle.vcm_clearance.specs.Rooms.{most, IsRoom}
 use Rattle.vcm_clearance.specs.inner.Following.{IsPlaced, IsClearWith, IsMetWith}

@@ -14,7 +14,7 @@ use Rattle.vcm_spec.specs.declared.workpiece.Block3.{Block3}
 use Rattle.vcm_boxes.specs.declared.boxes.ProbeBox.{ProbeBox}
 use Rattle.vcm_gone.specs.declared.ways.Gone.{Gone as Went}
 use Rattle.vcm_gone.specs.Gone.{PlacedWay}
-use Rattle.vcm_clearance.specs.declared.rooms.Moment.{Moment}
+use Rattle.vcm_marks.specs.declared.mark.Moment.{Moment}
 use Rattle.vcm_clearance.specs.declared.room.Room.{Room}
 use Rattle.vcm_clearance.specs.declared.room.Room.TheVariants.{Clear}
 use Rattle.vcm_clearance.specs.Contacts.{told_on}

@@ -10,12 +10,12 @@ ghost use Rattle.vcm_clearance.specs.inner.Following.{HasTried, HasBroken};
 
 use crate::clearing::ClearanceFault;
 use crate::room::Room;
-use crate::rooms::Moment;
 use crate::trying::try_ways;
 use std::io::Write;
 use vcm_boxes::Boxes;
 use vcm_fields::BorrowedStatement;
 use vcm_gone::ways_of_step;
+use vcm_marks::Moment;
 use vcm_motion::Part;
 use vcm_part::PartData;
 use vcm_state::World;

@@ -17,17 +17,10 @@ use crate::told::Told;
 use crate::trying::one_more;
 use vcm_carried::{Contact, first_met};
 use vcm_gone::Gone;
+use vcm_marks::Moment;
 use vcm_num::{MOST_ROOM, Point};
 use vcm_part::PartData;
 use vcm_spec::Block3;
-
-/// The step, and the number and the source line of its statement.
-#[derive(Clone, Copy)]
-pub(crate) struct Moment {
-    pub(crate) step: u64,
-    pub(crate) number: u32,
-    pub(crate) line: u32,
-}
 
 // The point that lies lower by a length on each axis.
 fn lowered(at: Point, by: u32) -> Point

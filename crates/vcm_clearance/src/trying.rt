@@ -11,10 +11,11 @@ ghost use Rattle.vcm_clearance.specs.inner.Following.{IsPlaced, ArePlaced, IsDon
 
 use crate::printing::write_contact;
 use crate::room::Room;
-use crate::rooms::{Moment, next_room, told_on};
+use crate::rooms::{next_room, told_on};
 use std::io::Write;
 use vcm_boxes::ProbeBox;
 use vcm_gone::Gone;
+use vcm_marks::Moment;
 use vcm_num::WriteFault;
 use vcm_part::PartData;
 

@@ -3,4 +3,4 @@
 
 mod mark;
 
-pub use mark::{Contact, Going, Leg, Mark, PlacedMark, Touched};
+pub use mark::{Contact, Going, Leg, Mark, Moment, PlacedMark, Touched};

@@ -51,6 +51,14 @@ pub enum Mark {
     Meets(Contact),
 }
 
+/// A step of a run, counted from 1, and the number and the source line of its statement.
+#[derive(Clone, Copy)]
+pub struct Moment {
+    pub step: u64,
+    pub number: u32,
+    pub line: u32,
+}
+
 /// A mark with its step, counted from 1, and the number and the source line of its statement.
 #[derive(Clone, Copy)]
 pub struct PlacedMark {

@@ -13,7 +13,7 @@ use Rattle.vcm_svg.specs.Outlines.{circle, cross}
 use Rattle.vcm_picture.specs.declared.names.FirstNames.{FirstNames}
 use Rattle.vcm_picture.specs.declared.shapes.Shape.{Shape}
 use Rattle.vcm_picture.specs.declared.shapes.Shape.TheVariants.{Path, Told, Text}
-use Rattle.vcm_picture.specs.declared.shapes.Step.{Step}
+use Rattle.vcm_marks.specs.declared.mark.Moment.{Moment}
 use Rattle.vcm_picture.specs.declared.shapes.Tip.{Tip}
 use Rattle.vcm_picture.specs.declared.shapes.Tip.TheVariants as tip
 use Rattle.vcm_picture.specs.declared.shown.Seen.{Seen}
@@ -44,7 +44,7 @@ NamesAreApart =
 
 -- a mark that is drawn: its step, where the tooltip tells it, itself, and its outline
 abbrev pub DrawnMark : Type 0
-DrawnMark = Option Step × Mark × Outline
+DrawnMark = Option Moment × Mark × Outline
 
 -- the mark that a tooltip tells
 abbrev pub mark_told : Outline → Tip → Option DrawnMark

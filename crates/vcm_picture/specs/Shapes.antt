@@ -11,18 +11,18 @@ use Rattle.vcm_svg.specs.Pieces.{joined, point_text}
 use Rattle.vcm_svg.specs.Shapes.{path, told, text}
 use Rattle.vcm_picture.specs.declared.shapes.Shape.{Shape}
 use Rattle.vcm_picture.specs.declared.shapes.Shape.TheVariants.{Path, Told, Text}
-use Rattle.vcm_picture.specs.declared.shapes.Step.{Step}
+use Rattle.vcm_marks.specs.declared.mark.Moment.{Moment}
 use Rattle.vcm_picture.specs.declared.shapes.Tip.{Tip}
 use Rattle.vcm_picture.specs.declared.shapes.Tip.TheVariants as tip
 use Rattle.vcm_picture.specs.declared.shapes.Words.{Words}
 use Rattle.vcm_picture.specs.declared.shapes.Words.TheVariants as words
 
 -- the step of a mark
-abbrev pub step_of : PlacedMark → Step
+abbrev pub step_of : PlacedMark → Moment
 step_of m = record { step = m.step; number = m.number; line = m.line }
 
 -- the step, the statement and the source line of a mark, before other texts
-abbrev pub step_tip : Step → List (List ℕ) → List ℕ
+abbrev pub step_tip : Moment → List (List ℕ) → List ℕ
 step_tip s texts =
     joined (codes "step " ∷ decimal s.step ∷ codes " statement " ∷ decimal s.number ∷ codes " line " ∷ decimal s.line ∷ codes ": " ∷ texts)
 
@@ -35,11 +35,11 @@ going_text Retract = codes "retract "
 going_text Rest = codes "not reached "
 
 -- the tooltip of a piece that is called this
-abbrev pub piece_tip : Step → List ℕ → Leg → List ℕ
+abbrev pub piece_tip : Moment → List ℕ → Leg → List ℕ
 piece_tip s going p = step_tip s (going ∷ point_text p.from ∷ codes " to " ∷ point_text p.aim ∷ [])
 
 -- the tooltip of a touched point of the feature with this name
-abbrev pub touched_tip : Step → List ℕ → Point → List ℕ
+abbrev pub touched_tip : Moment → List ℕ → Point → List ℕ
 touched_tip s name at = step_tip s (name ∷ codes " touched at " ∷ point_text at ∷ [])
 
 -- the tooltip of the contact, with the first line of the heading

@@ -24,6 +24,6 @@ pub use laws::{each_mark_is_drawn, names_are_apart};
 pub use marks::{are_few, contact_of};
 pub use names::{label_beside, name_at};
 pub use picture::{PictureFault, put_clips, window_shown, write_picture};
-pub use shapes::{Shape, Step, Tip, Words, put_shapes, step_of};
+pub use shapes::{Shape, Tip, Words, put_shapes, step_of};
 pub use view::{Scope, View, right_axis, scope_of, spot_of, up_axis};
 pub use window::Window;

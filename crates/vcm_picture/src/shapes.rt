@@ -7,18 +7,10 @@ ghost use Rattle.vcm_picture.specs.Shapes.{step_of, going_text, piece_tip, touch
 
 use crate::names::name_at;
 use vcm_items::Name;
-use vcm_marks::{Contact, Going, Leg, PlacedMark, Touched};
+use vcm_marks::{Contact, Going, Leg, Moment, PlacedMark, Touched};
 use vcm_num::{NoMemory, Point};
 use vcm_spec::Block3;
 use vcm_svg::{Class, Fragment, Outline, Placement, put_path, put_text, put_told};
-
-/// A step of the run, and the number and the source line of its statement.
-#[derive(Clone, Copy)]
-pub struct Step {
-    pub step: u64,
-    pub number: u32,
-    pub line: u32,
-}
 
 /// What the tooltip of a path tells.
 #[derive(Clone, Copy)]
@@ -26,9 +18,9 @@ pub enum Tip {
     /// A block: its number and its corners.
     Block(u32, Block3),
     /// A piece of the way, of a step.
-    Leg(Step, Leg),
+    Leg(Moment, Leg),
     /// A point that was touched in a step.
-    Touched(Step, Touched),
+    Touched(Moment, Touched),
     /// The limits: their corners.
     Limits(Point, Point),
     Home(Point),
@@ -62,10 +54,10 @@ pub enum Shape {
 }
 
 /// The step of a mark.
-pub fn step_of(placed: &PlacedMark) -> Step
+pub fn step_of(placed: &PlacedMark) -> Moment
     ensures { result ≡ step_of placed.now }
 {
-    Step {
+    Moment {
         step: placed.step,
         number: placed.number,
         line: placed.line,
@@ -110,7 +102,7 @@ fn put_piece(
     out: &mut Vec<u8>,
     class: Class,
     outline: Outline,
-    step: Step,
+    step: Moment,
     going: &[u8],
     piece: Leg,
 ) -> Result<(), NoMemory>
@@ -141,7 +133,7 @@ fn put_touched(
     out: &mut Vec<u8>,
     class: Class,
     outline: Outline,
-    step: Step,
+    step: Moment,
     name: &[u8],
     at: Point,
 ) -> Result<(), NoMemory>

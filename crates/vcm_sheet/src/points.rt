@@ -7,15 +7,15 @@ ghost use Rattle.vcm_sheet.specs.Points.{with_point, all_points};
 
 use crate::lines::{Lines, has_line};
 use std::alloc::Global;
-use vcm_marks::{Mark, PlacedMark, Touched};
+use vcm_marks::{Mark, Moment, PlacedMark, Touched};
 use vcm_num::NoMemory;
-use vcm_picture::{Step, step_of};
+use vcm_picture::step_of;
 
 /// A touched point, with its number, the first one of the run being 1, and with the step that touched it.
 #[derive(Clone, Copy)]
 pub struct Pointed {
     pub number: i64,
-    pub step: Step,
+    pub step: Moment,
     pub touched: Touched,
 }
 

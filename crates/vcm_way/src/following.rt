@@ -8,13 +8,13 @@ ghost use Rattle.vcm_way.specs.Steps.{IsBefore};
 ghost use Rattle.vcm_way.specs.Ways.{placed_marks, most_pieces, whole_way};
 ghost use Rattle.vcm_way.specs.inner.Added.{kept, Keeps, HasKept};
 
-use crate::place::Moment;
 use crate::step::{Before, look, marks_of_step, reason};
 use crate::way::Way;
 use std::alloc::Global;
 use vcm_fields::BorrowedStatement;
 use vcm_loader::Loaded;
 use vcm_machine::{Machine, Ran};
+use vcm_marks::Moment;
 use vcm_motion::Part;
 use vcm_num::NoMemory;
 use vcm_part::PartData;

@@ -11,14 +11,6 @@ use vcm_num::Point;
 use vcm_part::PartData;
 use vcm_spec::Bounds;
 
-/// The step that adds marks, and the number and the source line of its statement.
-#[derive(Clone, Copy)]
-pub(crate) struct Moment {
-    pub(crate) step: u64,
-    pub(crate) number: u32,
-    pub(crate) line: u32,
-}
-
 /// A piece that is gone as far as its aim.
 pub(crate) fn goes(going: Going, from: Point, to: Point) -> Mark
     ensures { result ≡ goes going from to }

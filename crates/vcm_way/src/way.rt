@@ -6,10 +6,9 @@ ghost use Rattle.vcm_marks.specs.Pieces.{is_piece, counted, pieces};
 ghost use Rattle.vcm_way.specs.Ways.{placed, last_pieces, most_pieces};
 ghost use Rattle.vcm_way.specs.inner.Added.{kept, more, shortened, StandsFor};
 
-use crate::place::Moment;
 use std::alloc::Global;
 use std::marker::Model;
-use vcm_marks::{Mark, PlacedMark};
+use vcm_marks::{Mark, Moment, PlacedMark};
 use vcm_num::NoMemory;
 
 // Whether a mark is a piece.

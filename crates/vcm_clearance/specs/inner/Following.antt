@@ -12,7 +12,7 @@ use Rattle.vcm_gone.specs.Gone.{Gone, PlacedWay, placed_ways}
 use Rattle.vcm_gone.specs.Seen.{IsSameWay, seen}
 use Rattle.vcm_clearance.specs.declared.clearing.ClearanceFault.{ClearanceFault}
 use Rattle.vcm_clearance.specs.declared.clearing.ClearanceFault.TheVariants as faults
-use Rattle.vcm_clearance.specs.declared.rooms.Moment.{Moment}
+use Rattle.vcm_marks.specs.declared.mark.Moment.{Moment}
 use Rattle.vcm_clearance.specs.declared.room.Room.{Room}
 use Rattle.vcm_clearance.specs.declared.room.Room.TheVariants.{Clear}
 use Rattle.vcm_clearance.specs.Contacts.{contact_on, told_on}
