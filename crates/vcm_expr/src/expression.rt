@@ -216,7 +216,15 @@ pub(crate) fn append_copies(pieces: &mut Vec<Piece>, others: &[Piece]) -> Result
 {
     pieces.reserve(others.len())?;
     for piece in others {
-        pieces.push_reserved(piece.copy());
+        match piece {
+            Piece::Number(literal) => pieces.push_reserved(Piece::Number(*literal)),
+            Piece::Truth(truth) => pieces.push_reserved(Piece::Truth(*truth)),
+            Piece::Variable(name, expansion) => {
+                pieces.push_reserved(Piece::Variable(name.copy(), *expansion));
+            }
+            Piece::Front(prefix) => pieces.push_reserved(Piece::Front(*prefix)),
+            Piece::Between(op) => pieces.push_reserved(Piece::Between(*op)),
+        }
     }
     Ok(())
 }

@@ -76,7 +76,14 @@ pub(crate) fn unpacked(alloc: Global, items: &[PackedItem]) -> Result<Items<Item
 {
     let mut all = Vec::with_capacity(alloc, items.len())?;
     for item in items {
-        all.push(item.item())?;
+        match item.flat {
+            FlatItem::Integer(n) => all.push(Item::Push(Operand::Integer(n)))?,
+            FlatItem::Thousandths(n) => all.push(Item::Push(Operand::Thousandths(n)))?,
+            FlatItem::Truth(truth) => all.push(Item::Push(Operand::Truth(truth)))?,
+            FlatItem::Variable(v) => all.push(Item::Push(Operand::Variable(v)))?,
+            FlatItem::Apply(op) => all.push(Item::Apply(op))?,
+            FlatItem::Combine(op) => all.push(Item::Combine(op))?,
+        }
     }
     Ok(Items::from_vec(all))
 }

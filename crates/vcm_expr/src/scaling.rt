@@ -5,6 +5,7 @@ ghost use Rattle.vcm_lines.specs.Fault.{no_memory};
 ghost use Rattle.vcm_spec.specs.declared.expression.Item.{Item};
 ghost use Rattle.vcm_expr.specs.inner.Trees.{scaling};
 ghost use Rattle.vcm_expr.specs.Typing.{is_scaled, scaled_kind};
+ghost use Rattle.vcm_num.specs.declared.number.Kind.TheVariants.{Int, Real};
 
 use crate::packed::PackedItem;
 use vcm_lines::SourceFault;
@@ -38,13 +39,23 @@ pub(crate) fn scale_at(
     Ok(())
 }
 
+/// Whether both operands of an operator have to be of one kind.
+fn is_alike(op: BinaryOp) -> bool
+    ensures { result ≡ is_scaled op Int Real }
+{
+    match op {
+        BinaryOp::Mul | BinaryOp::Div => false,
+        _ => true,
+    }
+}
+
 /// Whether an operand of the first kind is scaled beside one of the second.
 pub(crate) fn is_scaled(op: BinaryOp, k: Kind, l: Kind) -> bool
     ensures { result ≡ is_scaled op k l }
 {
-    match op {
-        BinaryOp::Mul | BinaryOp::Div => false,
-        _ => matches!((k, l), (Kind::Int, Kind::Real)),
+    match (k, l) {
+        (Kind::Int, Kind::Real) => is_alike(op),
+        _ => false,
     }
 }
 

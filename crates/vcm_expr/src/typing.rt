@@ -183,25 +183,24 @@ fn step(
             push_operand(items, open, x, kind)?;
         }
         Piece::Front(prefix) => {
-            let Some(a) = open.pop() else {
+            if open.len() < 1 {
                 return Ok(());
-            };
+            }
+            let a = open.top();
             let kind = prefixed(items, *prefix, a.kind, line)?;
-            open.push(OpenOperand {
+            open.replace_top(OpenOperand {
                 kind,
                 start: a.start,
             });
         }
         Piece::Between(op) => {
-            let Some(b) = open.pop() else {
+            if open.len() < 2 {
                 return Ok(());
-            };
-            let Some(a) = open.pop() else {
-                open.push(b);
-                return Ok(());
-            };
+            }
+            let b = open.take();
+            let a = open.top();
             let kind = pair(items, b.start, *op, a.kind, b.kind, line)?;
-            open.push(OpenOperand {
+            open.replace_top(OpenOperand {
                 kind,
                 start: a.start,
             });
