@@ -105,8 +105,7 @@ pub fn watch<P: Part>(
     ensures watched { IfOk result (λ w. HasWatched blocks.now loaded.now steps w.world w.next w.ran w.progress) }
     ensures within { IfOk result (λ w. w.next < length loaded.now.statements) }
 {
-    // It is called for what it tells of the code: that it is valid.
-    let _count = loaded.statement_count();
+    loaded.known_valid();
     let watcher = Watcher { part, blocks };
     let mut progress = before_steps();
     let mut machine = Machine::new(alloc, loaded, part)?;

@@ -121,8 +121,7 @@ fn try_run<P: Part, W: Write>(
     ensures err { IfErr result (λ f. IsBroken steps machine.old.part loaded.now
         (λ ps p. HasBroken trier.now.blocks.now trier.now.boxes.now rooms.old.items 0 (W.contents writer.old) (W.contents writer.new) ps p f)) }
 {
-    // It is called for what it tells of the code: that it is valid.
-    let _count = loaded.statement_count();
+    loaded.known_valid();
     let mut progress = Progress {
         writer,
         rooms,

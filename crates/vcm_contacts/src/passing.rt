@@ -60,10 +60,9 @@ impl<'a, P: Part> Passing<'a, P> {
         requires { P.part part.now ≡ blocks.now }
         ensures { IfOk result (λ m. m ≡ started blocks.now loaded.now) }
     {
-        // It is called for what it tells of the code: that it is valid, and in range.
-        let _count = loaded.statement_count();
+        loaded.known_valid();
         let tables = loaded.tables(alloc)?;
-        let world = World::opening(alloc, &tables, part.bounds().home)?;
+        let world = World::opening(alloc, tables, part.bounds().home)?;
         let pair = Pair {
             limit: 0,
             increment: 0,

@@ -53,10 +53,9 @@ impl<'a, P: Part> Machine<'a, P> {
     ) -> Result<Machine<'a, P>, NoMemory>
         ensures { IfOk result (λ m. m ≡ started (P.part part.now) loaded.now) }
     {
-        // It is called for what it tells of the code: that it is valid, and in range.
-        let _count = loaded.statement_count();
+        loaded.known_valid();
         let tables = loaded.tables(alloc)?;
-        let world = World::opening(alloc, &tables, part.bounds().home)?;
+        let world = World::opening(alloc, tables, part.bounds().home)?;
         let pair = Pair {
             limit: 0,
             increment: 0,

@@ -103,8 +103,7 @@ pub fn write_listing_row<W: Write>(
     if !is_listing {
         return Ok(());
     }
-    // It is called for what it tells of the code: that its tables are short.
-    let _count = loaded.statement_count();
+    loaded.known_valid();
     let before = 1 + (loaded.variable_count() + (loaded.feature_count() + loaded.frame_count()));
     let mut digits = Buffer::new();
     write_pieces(writer, &[b"I ", digits.format(before).as_bytes(), b"\n"])

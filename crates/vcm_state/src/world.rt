@@ -79,18 +79,17 @@ impl World {
     /// measured or printed.
     ///
     /// Errors: want of memory.
-    pub fn opening(alloc: Global, tables: &Tables, home: Point) -> Result<World, NoMemory>
+    pub fn opening(alloc: Global, tables: Tables, home: Point) -> Result<World, NoMemory>
         requires { IsTrue (is_near home) }
-        ensures tables { IfOk result (λ w. w.tables ≡ tables.now) }
-        ensures state { IfOk result (λ w. (part : Workpiece) → part.bounds.home ≡ home → w.state ≡ opening_world (setup_of part tables.now)) }
+        ensures tables { IfOk result (λ w. w.tables ≡ tables) }
+        ensures state { IfOk result (λ w. (part : Workpiece) → part.bounds.home ≡ home → w.state ≡ opening_world (setup_of part tables)) }
     {
         let variables = zeros(alloc, tables.variables().len())?;
         let saved = nones(alloc, tables.frames().len())?;
         let nominal = nones(alloc, tables.features().len())?;
         let actual = nones(alloc, tables.features().len())?;
-        let own = tables.copy(alloc)?;
         Ok(World {
-            tables: own,
+            tables,
             position: home,
             frame: Frame::opening(),
             settings: Settings::opening(),

@@ -49,9 +49,9 @@ fn tell<W: Write>(
     ran: Ran,
     writer: &mut W,
 ) -> Result<u8, RunFault>
-    requires { world.now.tables ≡ loaded.now.tables }
-    ensures told { IfOk result (λ status. IsTold part.now loaded.now world.now ran.done status (W.contents writer.old) (W.contents writer.new)) }
-    ensures fault { IfErr result (λ f. IsNotTold part.now loaded.now world.now ran.done f (W.contents writer.old) (W.contents writer.new)) }
+    requires { world.tables ≡ loaded.now.tables }
+    ensures told { IfOk result (λ status. IsTold part.now loaded.now world ran.done status (W.contents writer.old) (W.contents writer.new)) }
+    ensures fault { IfErr result (λ f. IsNotTold part.now loaded.now world ran.done f (W.contents writer.old) (W.contents writer.new)) }
 {
     let done = ran.done;
     let status = status_of(world.stop());

@@ -12,7 +12,7 @@ opening-requires g c =
 
 pub invariant_of-result : goal.invariant_of-result
 invariant_of-result g c =
-    let known = c.statement_count-count.ensures in
+    let known = c.known_valid.ensures in
     (c.requires, c.in_ok-world.ensures.tables ∙ c.in_ok-tables.ensures, runnable c.args.loaded.now known.fits known.valid, some_first c.args.loaded.now.statements (known.valid).ends)
 
 pub returns : goal.returns

@@ -15,7 +15,7 @@ pub invariant_of-result : goal.invariant_of-result
 invariant_of-result g c =
     let part = g.P.Part.part c.args.part.now in
     let valid = g.met.P.Part.valid c.args.part.now in
-    let known = c.statement_count-count.ensures in (
+    let known = c.known_valid.ensures in (
       c.in_ok-world.ensures.tables ∙ c.in_ok-tables.ensures,
       runnable c.args.loaded.now known.fits known.valid,
       some_first c.args.loaded.now.statements (known.valid).ends,

@@ -4,11 +4,8 @@ use Rattle.vcm_state.proofs.world.World.opening.Goals as goal
 
 pub invariant_of-result : goal.invariant_of-result
 invariant_of-result c =
-    rw (c.in_ok-own.ensures, c.in_ok-variables.ensures, c.variables.ensures, c.in_ok-saved.ensures, c.in_ok-nominal.ensures, c.in_ok-actual.ensures, c.frames.ensures, c.features.ensures, c.features-2.ensures)
-    (c.requires, zeros_fit c.args.tables.now.variables, nones_long _ (length c.args.tables.now.frames), nones_long _ (length c.args.tables.now.features), nones_long _ (length c.args.tables.now.features))
-
-pub returns-clause-tables : goal.returns-clause-tables
-returns-clause-tables c = c.in_ok-own.ensures
+    rw (c.in_ok-variables.ensures, c.variables.ensures, c.in_ok-saved.ensures, c.in_ok-nominal.ensures, c.in_ok-actual.ensures, c.frames.ensures, c.features.ensures, c.features-2.ensures)
+    (c.requires, zeros_fit c.args.tables.variables, nones_long _ (length c.args.tables.frames), nones_long _ (length c.args.tables.features), nones_long _ (length c.args.tables.features))
 
 pub returns-clause-state : goal.returns-clause-state
 returns-clause-state c part home =
