@@ -1,6 +1,7 @@
 //! What the debug adapter answers to messages.
 
 use crate::answers::told;
+use crate::failing::sent_failures;
 use std::alloc::Global;
 use std::fmt::Write as _;
 use std::rt::Files;
@@ -91,6 +92,12 @@ fn messages_in(alloc: Global, bytes: &[u8]) -> Option<String> {
         writeln!(text, "{ANSWER}{}", std::str::from_utf8(&message).ok()?).ok()?;
     }
     None
+}
+
+/// What the adapter does wrong between devices that fail.
+pub(crate) fn adapter_failures<R: Files + AllocGlobal>(rt: &R, talk: &str) -> Option<String> {
+    let sent = sent_in(rt.alloc(), talk)?;
+    sent_failures(rt, &sent)
 }
 
 /// What the adapter answers to what the lines of a talk send: the messages that come back, then its fault, then its exit status. A launch opens the files that lie

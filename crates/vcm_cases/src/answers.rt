@@ -1,7 +1,7 @@
 //! What vcm answers: what it prints, then its notices or its fault, then its exit status.
 
 use crate::tips::is_told_by_its_box;
-use crate::ways::comes_to_the_same;
+use crate::ways::{comes_to_the_same, is_that_of_its_job};
 use std::alloc::Global;
 use std::fmt::Write as _;
 use vcm_boxes::{Boxes, read_boxes};
@@ -61,15 +61,22 @@ fn is_printed_by_strips(
     }
 }
 
-// What the run of a program beside a workpiece answers; none where it is another answer with the blocks in strips, from the
-// program's image, in its trace or in the debugger, or where the box that is the tip tells anything else.
-fn run_beside(alloc: Global, part: &PartData, program: &str, steps: u64) -> Option<String> {
+// What the run of a program beside the workpiece of a part file answers; none where it is another answer with the blocks in strips, from the program's image, in its
+// trace, in the debugger or as a job, or where the box that is the tip tells anything else.
+fn run_beside(
+    alloc: Global,
+    part: &PartData,
+    file: &str,
+    program: &str,
+    steps: u64,
+) -> Option<String> {
     let mut input = program.as_bytes();
     let mut out = Vec::new(alloc);
     match run(alloc, part, &mut input, steps, &mut out) {
         Ok(done) => if is_printed_by_strips(alloc, part, program, steps, &out)
             && is_told_by_its_box(alloc, part, program, steps, &out)
             && comes_to_the_same(alloc, part, program, steps, &out, done.status)
+            && is_that_of_its_job(alloc, file, program, steps, &out, done.notices.as_slice())
         {
             printed(alloc, &out, done.notices.as_slice(), done.status)
         } else {
@@ -83,7 +90,7 @@ fn run_beside(alloc: Global, part: &PartData, program: &str, steps: u64) -> Opti
 pub(crate) fn run_answer(alloc: Global, part: &str, program: &str, steps: u64) -> Option<String> {
     let mut file = part.as_bytes();
     match part_from(alloc, &mut file) {
-        Ok(part) => run_beside(alloc, &part, program, steps),
+        Ok(workpiece) => run_beside(alloc, &workpiece, part, program, steps),
         Err(fault) => told(alloc, message_of(fault, "the part")),
     }
 }
@@ -269,9 +276,9 @@ pub(crate) fn replies(alloc: Global, part: &str, program: &str, commands: &str) 
     }
 }
 
-// Prompts that nobody sees.
+/// Prompts that nobody sees.
 #[derive(Clone, Copy)]
-struct Unseen;
+pub(crate) struct Unseen;
 
 impl Prompts for Unseen {
     fn prompt(&self) {}
@@ -294,13 +301,16 @@ pub(crate) fn talked(alloc: Global, part: &str, program: &str, lines: &str) -> O
     printed(alloc, &out, done.ok()?.as_slice(), 0)
 }
 
-// Whether the image of a listing is that of a program.
+// Whether the image of a listing is that of a program, and has that listing.
 fn is_assembled(alloc: Global, listing: &[u8], program: &str) -> Option<bool> {
-    let mut listing = listing;
+    let mut lines = listing;
     let mut input = program.as_bytes();
-    let image = asm(alloc, &mut listing).ok()?;
+    let image = asm(alloc, &mut lines).ok()?;
     let built = build(alloc, &mut input).ok()?;
-    Some(image.as_slice() == built.image.as_slice())
+    let mut bytes = image.as_slice();
+    let mut again = Vec::new(alloc);
+    list(alloc, &mut bytes, &mut again).ok()?;
+    Some(image.as_slice() == built.image.as_slice() && again.as_slice() == listing)
 }
 
 /// What the assembly of a listing answers.

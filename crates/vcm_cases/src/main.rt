@@ -5,7 +5,9 @@
 mod adapter;
 mod answers;
 mod asking;
+mod devices;
 mod explained;
+mod failing;
 mod faults;
 mod messages;
 mod parts;

@@ -1,12 +1,17 @@
 //! The text of worked examples, line by line.
 
-use crate::adapter::{adapter_answer, wanted_in};
+use crate::adapter::{adapter_answer, adapter_failures, wanted_in};
 use crate::answers::{
     adapt_answer, asm_answer, check_answer, clearance_answer, image, image_answer, listing,
     replies, run_answer, story_answer, survey_answer, talked, view_answer,
 };
 use crate::asking::{explain_answer, words_answer};
 use crate::explained::judge_examples;
+use crate::failing::{
+    asm_failures, build_failures, check_failures, clearance_failures, contacts_failures,
+    debug_failures, list_failures, part_failures, run_failures, sheet_failures, story_failures,
+    talk_failures, view_failures, why_failures,
+};
 use crate::messages::messages;
 use crate::parts::{notices_answer, part_answer};
 use crate::reasons::{contacts_answer, why_answer};
@@ -18,6 +23,9 @@ use std::fmt::Write as _;
 use std::rt::Files;
 use vcm_test_tools::program_of;
 use vcm_views::RunView;
+
+// The most bytes of a text whose command is asked again between devices that fail.
+const LONG: usize = 4096;
 
 /// What stands below a heading.
 #[derive(Clone, Copy)]
@@ -253,6 +261,57 @@ fn answer(alloc: Global, script: &Script) -> Option<String> {
     }
 }
 
+// What the command that a heading asks does wrong between devices that fail; none where memory runs out.
+fn failures(alloc: Global, script: &Script) -> Option<String> {
+    let (part, program) = (script.part.as_str(), script.program.as_str());
+    match heading_of(&script.title) {
+        Heading::Run(steps) => run_failures(alloc, part, program, steps),
+        Heading::View(view, steps) => view_failures(alloc, view, part, program, steps),
+        Heading::Clearance(steps) => {
+            clearance_failures(alloc, part, &script.probe, program, steps)
+        }
+        Heading::Why(steps, _) => why_failures(alloc, part, program, steps),
+        Heading::Contacts(steps) => contacts_failures(alloc, part, program, steps),
+        Heading::Story(steps) => story_failures(alloc, part, program, steps),
+        Heading::Sheet => sheet_failures(alloc, part, program),
+        Heading::PartTold => part_failures(alloc, part),
+        Heading::Check => check_failures(alloc, program),
+        Heading::Replies => debug_failures(alloc, part, program, &script.commands),
+        Heading::Talked => talk_failures(alloc, part, program, &script.commands),
+        Heading::Listing => list_failures(alloc, program),
+        Heading::Image => build_failures(alloc, program),
+        _ => None,
+    }
+}
+
+// Whether a heading asks a command that reads or writes by devices.
+fn has_devices(heading: Heading) -> bool {
+    match heading {
+        Heading::Run(_) | Heading::View(_, _) | Heading::Clearance(_) | Heading::Why(_, _) => true,
+        Heading::Contacts(_) | Heading::Story(_) | Heading::Sheet | Heading::PartTold => true,
+        Heading::Check | Heading::Replies | Heading::Talked => true,
+        Heading::Listing | Heading::Image => true,
+        _ => false,
+    }
+}
+
+// The steps that a line of an answer tells; nothing where it tells none.
+fn steps_in(line: &str) -> &str {
+    let rest = match line.strip_prefix("steps ") {
+        Some(rest) => rest,
+        None => line.strip_prefix("step ").unwrap_or(""),
+    };
+    match rest.split_once(' ') {
+        Some((steps, _)) => steps,
+        None => rest,
+    }
+}
+
+// Whether a line of an answer tells more than 9,999 steps.
+fn has_many_steps(answer: &str) -> bool {
+    answer.lines().any(|line| steps_in(line).len() > 4)
+}
+
 // How often the lines below a heading are to stand there; none where it says nothing of that.
 fn times_of(title: &str) -> Option<u32> {
     title.strip_prefix("repeat ")?.parse::<u32>().ok()
@@ -396,9 +455,30 @@ impl Script {
             Heading::Assembled => self.judge_listing(alloc, &body, "status 0\n"),
             _ => {
                 let found = answer(alloc, self);
-                self.tally.judge(&self.title, &self.program, &body, found)
+                self.tally.judge(&self.title, &self.program, &body, found)?;
+                self.judge_command(alloc, &body)
             }
         }
+    }
+
+    // Judges what the command that the heading asks, of which this is wanted, does between devices that fail.
+    fn judge_command(&mut self, alloc: Global, wanted: &str) -> Option<()> {
+        if !has_devices(heading_of(&self.title)) || self.is_long() || has_many_steps(wanted) {
+            return Some(());
+        }
+        let found = failures(alloc, self);
+        self.judge_failures(alloc, found)
+    }
+
+    // Whether a text that is set is too long for a command to be asked again.
+    fn is_long(&self) -> bool {
+        self.part.len() > LONG || self.program.len() > LONG || self.commands.len() > LONG
+    }
+
+    // Judges what is told to be wrong between devices that fail, which is to be nothing.
+    fn judge_failures(&mut self, alloc: Global, found: Option<String>) -> Option<()> {
+        let title = format!(in alloc; "{} between devices that fail", self.title).ok()?;
+        self.tally.judge(&title, &self.program, "", found)
     }
 
     // Judges a statement that is to be refused as the heading says.
@@ -433,14 +513,20 @@ impl Script {
     // Judges what is made of a listing.
     fn judge_listing(&mut self, alloc: Global, listing: &str, wanted: &str) -> Option<()> {
         let found = asm_answer(alloc, listing);
-        self.tally.judge(&self.title, listing, wanted, found)
+        self.tally.judge(&self.title, listing, wanted, found)?;
+        if listing.len() > LONG {
+            return Some(());
+        }
+        let found = asm_failures(alloc, listing);
+        self.judge_failures(alloc, found)
     }
 
     // Judges what comes back of what is sent to the debug adapter.
     fn judge_adapter<R: Files + AllocGlobal>(&mut self, rt: &R, talk: &str) -> Option<()> {
         let wanted = wanted_in(rt.alloc(), talk)?;
         let found = adapter_answer(rt, talk);
-        self.tally.judge(&self.title, "", &wanted, found)
+        self.tally.judge(&self.title, "", &wanted, found)?;
+        self.judge_failures(rt.alloc(), adapter_failures(rt, talk))
     }
 
     /// Judges the examples of explanations; none where memory runs out.

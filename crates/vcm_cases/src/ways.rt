@@ -1,9 +1,15 @@
-//! That a run comes to the same by whatever way it is asked for: from the image of its program, in the last line of its trace, and in a session of the debugger.
+//! That a run comes to the same by whatever way it is asked for: from the image of its program, in the last line of its trace, in a session of the debugger on the
+//! program and on its image, and as a job.
 
 use std::alloc::Global;
-use vcm_job::{build, debug, run};
+use vcm_job::{build, debug, job, run};
 use vcm_part::PartData;
+use vcm_program::Noticed;
+use vcm_test_tools::joined;
 use vcm_views::{RunView, view_of};
+
+// The most steps of a job.
+const STEPS_OF_JOBS: u64 = 1_000_000;
 
 // The most steps that one command of the debugger takes.
 const MOST: u64 = 1_000_000;
@@ -46,27 +52,6 @@ fn ending_of(output: &str) -> Ending<'_> {
     }
 }
 
-// Whether the run of the program's image prints the same.
-fn is_that_of_its_image(
-    alloc: Global,
-    part: &PartData,
-    program: &str,
-    steps: u64,
-    output: &[u8],
-    status: u8,
-) -> bool {
-    let mut input = program.as_bytes();
-    let Ok(built) = build(alloc, &mut input) else {
-        return false;
-    };
-    let mut image = built.image.as_slice();
-    let mut out = Vec::new(alloc);
-    match run(alloc, part, &mut image, steps, &mut out) {
-        Ok(done) => done.status == status && out.as_slice() == output,
-        Err(_) => false,
-    }
-}
-
 // Whether the last line of a trace tells this end.
 fn tells(alloc: Global, trace: &str, ending: Ending<'_>) -> Option<bool> {
     let line = line_from_end(trace, 1);
@@ -95,9 +80,9 @@ fn is_that_of_its_trace(
     }
 }
 
-// What a session of the debugger answers to `run` with so many steps.
-fn replies(alloc: Global, part: &PartData, program: &str, steps: u64) -> Option<Vec<u8>> {
-    let mut input = program.as_bytes();
+// What a session of the debugger on an input answers to `run` with so many steps.
+fn replies(alloc: Global, part: &PartData, input: &[u8], steps: u64) -> Option<Vec<u8>> {
+    let mut input = input;
     let lines = format!(in alloc; "run {steps}\n").ok()?;
     let mut commands = lines.as_bytes();
     let mut out = Vec::new(alloc);
@@ -118,24 +103,78 @@ fn are_of(alloc: Global, replies: &str, ending: Ending<'_>) -> Option<bool> {
     Some(replies.starts_with(wanted.as_str()))
 }
 
-// Whether the debugger's `run` tells the run's end; no run of no step is asked of it, and none of more than it takes at once.
+// Whether the debugger's `run` tells the end of the run of an input; no run of no step is asked of it, and none of more than it takes at once.
 fn is_that_of_the_debugger(
     alloc: Global,
     part: &PartData,
-    program: &str,
+    input: &[u8],
     steps: u64,
     ending: Ending<'_>,
 ) -> bool {
     if steps == 0 || steps > MOST {
         return true;
     }
-    let Some(replies) = replies(alloc, part, program, steps) else {
+    let Some(replies) = replies(alloc, part, input, steps) else {
         return false;
     };
     match std::str::from_utf8(&replies) {
         Ok(replies) => are_of(alloc, replies, ending).unwrap_or(false),
         Err(_) => false,
     }
+}
+
+// Whether the run of the program's image prints the same, and the debugger on it tells its end.
+fn is_that_of_its_image(
+    alloc: Global,
+    part: &PartData,
+    program: &str,
+    steps: u64,
+    output: &[u8],
+    status: u8,
+) -> bool {
+    let mut input = program.as_bytes();
+    let Ok(built) = build(alloc, &mut input) else {
+        return false;
+    };
+    let mut image = built.image.as_slice();
+    let mut out = Vec::new(alloc);
+    let is_same = match run(alloc, part, &mut image, steps, &mut out) {
+        Ok(done) => done.status == status && done.notices.is_empty() && out.as_slice() == output,
+        Err(_) => false,
+    };
+    let ending = ending_of(std::str::from_utf8(output).unwrap_or(""));
+    is_same && is_that_of_the_debugger(alloc, part, &built.image, steps, ending)
+}
+
+/// Whether the job of a part file and of a program prints the same and tells the same lines without effect, where the run has fewer than 1,000 steps and may have as
+/// many as a job.
+pub(crate) fn is_that_of_its_job(
+    alloc: Global,
+    file: &str,
+    program: &str,
+    steps: u64,
+    output: &[u8],
+    notices: &[Noticed],
+) -> bool {
+    let ending = ending_of(std::str::from_utf8(output).unwrap_or(""));
+    if ending.steps.len() > FEW_DIGITS || steps != STEPS_OF_JOBS {
+        return true;
+    }
+    let Some(text) = joined(alloc, &[file, "%%\n", program]) else {
+        return false;
+    };
+    let mut input = text.as_bytes();
+    let mut out = Vec::new(alloc);
+    match job(alloc, &mut input, &mut out) {
+        Ok(done) => done.notices.as_slice() == notices && out.as_slice() == output,
+        Err(_) => false,
+    }
+}
+
+/// The steps that a run printed at its end.
+pub(crate) fn steps_printed(output: &[u8]) -> u64 {
+    let ending = ending_of(std::str::from_utf8(output).unwrap_or(""));
+    ending.steps.parse::<u64>().unwrap_or(0)
 }
 
 /// Whether the run of a program beside a workpiece, whose output and exit status these are, comes to the same from its image, in its trace and in the debugger, if it
@@ -152,5 +191,5 @@ pub(crate) fn comes_to_the_same(
     ending.steps.len() > FEW_DIGITS
         || is_that_of_its_image(alloc, part, program, steps, output, status)
             && is_that_of_its_trace(alloc, part, program, steps, ending)
-            && is_that_of_the_debugger(alloc, part, program, steps, ending)
+            && is_that_of_the_debugger(alloc, part, program.as_bytes(), steps, ending)
 }

@@ -1,14 +1,34 @@
 //! Growths of memory that are refused to the debug adapter: what it writes then are whole messages.
 
-use crate::devices::Marked;
 use json::{Scratch, Value};
 use std::alloc::Global;
+use std::io;
+use std::io::Write;
 use vcm_dap::{Adapter, DapFault, Settings, Talk};
 use vcm_debug::{Count, Session};
 use vcm_loader::Loaded;
 use vcm_motion::Part;
 use vcm_test_tools::{THREE, Told, beside_block, refusal, refusals};
 use vcm_wire::{Request, request_of, write_frame};
+
+// Takes bytes, and keeps at each flush how many there are.
+#[derive(Drop)]
+struct Marked {
+    taken: Vec<u8>,
+    flushed: usize,
+}
+
+impl Write for Marked {
+    fn write(&mut self, buf: &[u8]) -> io::Result<usize> {
+        self.taken.extend_from_slice(buf)?;
+        Ok(buf.len())
+    }
+
+    fn flush(&mut self) -> io::Result<()> {
+        self.flushed = self.taken.len();
+        Ok(())
+    }
+}
 
 // The bytes that the writer has room for from the start.
 const ROOM: usize = 4096;

@@ -143,32 +143,73 @@ fn debug_told(alloc: Global, part: &PartData, bytes: &[u8]) -> Told {
     }
 }
 
-// How often each command is refused: job, run, check, build, list, asm, debug.
-fn command_refusals(alloc: Global) -> Option<[u32; 7]> {
+// How often a command is refused on the inputs of the loop that prints.
+fn command_refusals<F: Fn(Global, &Inputs) -> Told>(alloc: Global, command: F) -> Option<u32>
+    requires { F.IsAlwaysCallable command }
+{
     let inputs = loop_inputs(alloc)?;
-    let (part, job, program) = (
-        &inputs.part,
-        inputs.job.as_bytes(),
-        inputs.program.as_bytes(),
-    );
-    let (image, listing) = (inputs.image.as_slice(), inputs.listing.as_slice());
-    Some([
-        refusals(alloc, |alloc| job_told(alloc, job))?,
-        refusals(alloc, |alloc| run_told(alloc, part, program))?,
-        refusals(alloc, |alloc| check_told(alloc, program))?,
-        refusals(alloc, |alloc| build_told(alloc, program, image))?,
-        refusals(alloc, |alloc| list_told(alloc, image, listing.len()))?,
-        refusals(alloc, |alloc| asm_told(alloc, listing, image))?,
-        refusals(alloc, |alloc| debug_told(alloc, part, image))?,
-    ])
+    refusals(alloc, |alloc| command(alloc, &inputs))
 }
 
 #[test]
-fn commands_of_the_program(rt: HostRuntime) {
-    let counts = command_refusals(rt.alloc());
-    let are_refused = match counts {
-        Some(counts) => counts.iter().all(|n| *n > 0),
-        None => false,
-    };
-    assert!(rt; are_refused, "{counts:?}");
+fn jobs(rt: HostRuntime) {
+    let count = command_refusals(
+        rt.alloc(),
+        |alloc, inputs| job_told(alloc, inputs.job.as_bytes()),
+    );
+    assert!(rt; count.is_some_and(|n| n > 0), "{count:?}");
+}
+
+#[test]
+fn runs(rt: HostRuntime) {
+    let count = command_refusals(
+        rt.alloc(),
+        |alloc, inputs| run_told(alloc, &inputs.part, inputs.program.as_bytes()),
+    );
+    assert!(rt; count.is_some_and(|n| n > 0), "{count:?}");
+}
+
+#[test]
+fn checks(rt: HostRuntime) {
+    let count = command_refusals(
+        rt.alloc(),
+        |alloc, inputs| check_told(alloc, inputs.program.as_bytes()),
+    );
+    assert!(rt; count.is_some_and(|n| n > 0), "{count:?}");
+}
+
+#[test]
+fn builds(rt: HostRuntime) {
+    let count = command_refusals(
+        rt.alloc(),
+        |alloc, inputs| build_told(alloc, inputs.program.as_bytes(), &inputs.image),
+    );
+    assert!(rt; count.is_some_and(|n| n > 0), "{count:?}");
+}
+
+#[test]
+fn lists(rt: HostRuntime) {
+    let count = command_refusals(
+        rt.alloc(),
+        |alloc, inputs| list_told(alloc, &inputs.image, inputs.listing.len()),
+    );
+    assert!(rt; count.is_some_and(|n| n > 0), "{count:?}");
+}
+
+#[test]
+fn assemblies(rt: HostRuntime) {
+    let count = command_refusals(
+        rt.alloc(),
+        |alloc, inputs| asm_told(alloc, &inputs.listing, &inputs.image),
+    );
+    assert!(rt; count.is_some_and(|n| n > 0), "{count:?}");
+}
+
+#[test]
+fn sessions(rt: HostRuntime) {
+    let count = command_refusals(
+        rt.alloc(),
+        |alloc, inputs| debug_told(alloc, &inputs.part, &inputs.image),
+    );
+    assert!(rt; count.is_some_and(|n| n > 0), "{count:?}");
 }

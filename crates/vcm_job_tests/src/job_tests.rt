@@ -1,32 +1,79 @@
-//! The job of a line that has no effect.
+//! Jobs: the mark between a part and a program, and inputs at the limit.
 
 use std::alloc::Global;
-use vcm_forms::Notice;
-use vcm_job::job;
-use vcm_program::Noticed;
-use vcm_test_tools::{BOUNDS, ONE_BLOCK, joined, program_of};
+use std::io;
+use std::io::Read;
+use vcm_job::{JobFault, job};
+use vcm_lines::{FaultCode, SourceFault};
+use vcm_part::{PartCode, PartFault};
+use vcm_run::Refusal;
+use vcm_test_tools::{BOUNDS, joined};
 
-/// The job of a part with one block and of the program with these statements.
-pub(crate) fn job_of(alloc: Global, statements: &str) -> Option<String> {
-    let program = program_of(alloc, statements)?;
-    joined(alloc, &[BOUNDS, ONE_BLOCK, "%%\n", program.as_str()])
-}
-
-// What the job of a line without effect writes.
-const ENDED: &str = "stop ENDED\nposition 0.000 0.000 100.000\nsteps 1\n";
-
-// Whether it writes this, with the exit status 0, and gives one notice, of its line and word.
-fn is_noticed(alloc: Global) -> Option<bool> {
-    let text = job_of(alloc, "MODE/MAN\n")?;
+// The refusal of the job of an empty program behind this mark, or of none behind the mark at the end.
+fn mark_refusal(alloc: Global, mark: &str) -> Option<Option<JobFault>> {
+    let program = if mark.len() > 2 {
+        "DMISMN/'T'\nUNITS/MM,ANGDEC\nENDFIL\n"
+    } else {
+        ""
+    };
+    let text = joined(alloc, &[BOUNDS, mark, program])?;
+    let mut input = text.as_bytes();
     let mut out = Vec::new(alloc);
-    let done = job(alloc, &mut text.as_bytes(), &mut out).ok()?;
-    let line = 3;
-    let word = Notice::Mode;
-    let is_told = done.notices.as_slice() == [Noticed { line, word }].as_slice();
-    Some(is_told && done.status == 0 && out.as_slice() == ENDED.as_bytes())
+    Some(job(alloc, &mut input, &mut out).err())
 }
 
 #[test]
-fn a_line_without_effect(rt: HostRuntime) {
-    assert!(rt; is_noticed(rt.alloc()) == Some(true));
+fn marks_of_jobs(rt: HostRuntime) {
+    let order = JobFault::Refused(Refusal::Source(SourceFault {
+        code: FaultCode::BadOrder,
+        line: 1,
+    }));
+    let toml = JobFault::Refused(Refusal::Part(PartFault {
+        code: PartCode::NotToml,
+        block: 0,
+    }));
+    for (mark, refusal) in [
+        ("%%\n", None),
+        ("%%\r\n", None),
+        ("%%", Some(order)),
+        (" %%\n", Some(toml)),
+    ] {
+        assert!(rt; mark_refusal(rt.alloc(), mark) == Some(refusal), "{mark}");
+    }
+}
+
+// Gives so many per cent signs, and counts its calls.
+#[derive(Drop)]
+struct Long {
+    left: usize,
+    calls: usize,
+}
+
+impl Read for Long {
+    fn read(&mut self, buf: &mut [u8]) -> io::Result<usize> {
+        self.calls = self.calls.saturating_add(1);
+        let n = buf.len().min(self.left);
+        buf[..n].fill(b'%');
+        self.left -= n;
+        Ok(n)
+    }
+}
+
+// What the job of an input of so many bytes answers, and whether the reader was called no more than once for 4,096 bytes and once at the end.
+fn long_job(alloc: Global, bytes: usize) -> (Option<JobFault>, bool) {
+    let mut reader = Long {
+        left: bytes,
+        calls: 0,
+    };
+    let mut out = Vec::new(alloc);
+    let fault = job(alloc, &mut reader, &mut out).err();
+    (fault, reader.calls <= 8_193 && out.is_empty())
+}
+
+#[test]
+fn inputs_at_the_limit(rt: HostRuntime) {
+    let code = PartCode::NotToml;
+    let refused = JobFault::Refused(Refusal::Part(PartFault { code, block: 0 }));
+    assert!(rt; long_job(rt.alloc(), 33_554_433) == (Some(JobFault::TooLong), true));
+    assert!(rt; long_job(rt.alloc(), 33_554_432) == (Some(refused), true));
 }

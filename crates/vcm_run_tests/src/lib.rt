@@ -1,35 +1,20 @@
-//! The tests of numbers, lines, parts and moves, of images, machines, listings and runs: what no row of `vcm_cases` shows; and calls whose growths
-//! of memory are refused in turn.
+//! The tests of parts, images, listings and runs: what no row of `vcm_cases` shows, as damaged images; and calls whose growths of memory are refused in turn.
 #![tactic(auto)]
 
 #[cfg(test)]
-mod code_growth_tests;
+mod alone_tests;
 #[cfg(test)]
-mod copy_tests;
+mod code_growth_tests;
 #[cfg(test)]
 mod damage_tests;
 #[cfg(test)]
-mod image_tests;
-#[cfg(test)]
 mod limit_tests;
 #[cfg(test)]
-mod lines_tests;
-#[cfg(test)]
 mod listing_growth_tests;
-#[cfg(test)]
-mod listing_tests;
 #[cfg(test)]
 mod loader_tests;
 #[cfg(test)]
 mod macro_tests;
-#[cfg(test)]
-mod motion_tests;
-#[cfg(test)]
-mod num_tests;
-#[cfg(test)]
-mod part_tests;
-#[cfg(test)]
-mod parts;
 #[cfg(test)]
 mod plain;
 #[cfg(test)]
@@ -40,9 +25,5 @@ mod plain_parts;
 mod program_growth_tests;
 #[cfg(test)]
 mod run_growth_tests;
-#[cfg(test)]
-mod run_tests;
-#[cfg(test)]
-mod runs;
 #[cfg(test)]
 mod strip_tests;
