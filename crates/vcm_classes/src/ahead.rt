@@ -1,8 +1,8 @@
 //! What stands behind a statement, in its block.
 
 use std::alloc::Global;
-use vcm_num::{NoMemory, is};
-use vcm_sentences::{Parts, Sentence, Table, fields_of, parts_of, read_decimal};
+use vcm_num::NoMemory;
+use vcm_sentences::{MajorWord, Parts, Sentence, Table, fields_of, parts_of, read_decimal};
 use vcm_spelling::{Direction, direction_of};
 
 /// What a block does.
@@ -101,20 +101,23 @@ pub fn is_quarter_turn(fields: &[&[u8]]) -> bool {
 
 /// The macro that a call is of.
 pub fn called<'a>(rest: &'a [u8]) -> Option<&'a [u8]> {
-    match rest {
-        [b'M', b'(', label @ ..] => {
-            let end = label.iter().position(|byte| *byte == b')')?;
-            Some(&label[..end])
-        }
-        _ => None,
-    }
+    let label = rest.strip_prefix(b"M(")?;
+    let end = label.iter().position(|byte| *byte == b')')?;
+    Some(&label[..end])
 }
 
 // Whether a statement between GOTARG and ENDGO changes what the place of GOTARG means, or whether both are carried out.
 fn breaks_target(parts: Parts<'_>) -> bool {
     !matches!(
         parts.word,
-        b"GOTO" | b"GOTARG" | b"ENDGO" | b"FEDRAT" | b"ACLRAT" | b"FINPOS" | b"RAPID" | b"FLY"
+        MajorWord::Goto
+            | MajorWord::GoTarget
+            | MajorWord::EndGo
+            | MajorWord::FeedRate
+            | MajorWord::Acceleration
+            | MajorWord::FinePosition
+            | MajorWord::Rapid
+            | MajorWord::Fly
     )
 }
 
@@ -145,24 +148,24 @@ fn rotation(alloc: Global, parts: Parts<'_>) -> Result<Marks, NoMemory> {
 // What a statement does by its word alone.
 fn plain_marks(parts: Parts<'_>) -> Marks {
     match parts.word {
-        b"MEAS" => Marks {
+        MajorWord::Measure => Marks {
             measures: true,
             ..NOTHING
         },
-        b"GOTO" | b"GOHOME" | b"PTMEAS" | b"ENDGO" => Marks {
+        MajorWord::Goto | MajorWord::GoHome | MajorWord::PointMeasure | MajorWord::EndGo => Marks {
             moves: true,
             ..NOTHING
         },
-        b"SNSET" => Marks {
+        MajorWord::SensorSetting => Marks {
             sets_approach: parts.rest.starts_with(b"APPRCH"),
             ..NOTHING
         },
-        b"TRANS" | b"RECALL" => Marks {
+        MajorWord::Translate | MajorWord::Recall => Marks {
             moves_frame: true,
             ..NOTHING
         },
-        b"DATSET" | b"LOCATE" | b"ITERAT" | b"POP" => Marks {
-            sets_approach: is(parts.word, b"POP"),
+        MajorWord::DatumSet | MajorWord::Locate | MajorWord::Iterate | MajorWord::Pop => Marks {
+            sets_approach: parts.word.is(MajorWord::Pop),
             loses_frame: true,
             moves_frame: true,
             ..NOTHING
@@ -257,25 +260,25 @@ impl<'a> Looking<'a> {
         }
         self.mark(plain_marks(parts));
         match parts.word {
-            b"DO" | b"MACRO" => {
+            MajorWord::Do | MajorWord::Macro => {
                 self.open.push(Open {
                     index,
                     title: parts.title,
                     marks: NOTHING,
                 })?;
             }
-            b"ENDDO" => self.close(true)?,
-            b"ENDMAC" => self.close(false)?,
-            b"MEAS" => self.measuring = Some(index),
-            b"ENDMES" => self.measuring = None,
-            b"PTMEAS" => self.point(alloc, parts)?,
-            b"GOTARG" => self.target = Some(index),
-            b"ENDGO" => self.end_target(index),
-            b"ROTATE" => {
+            MajorWord::EndDo => self.close(true)?,
+            MajorWord::EndMacro => self.close(false)?,
+            MajorWord::Measure => self.measuring = Some(index),
+            MajorWord::EndMeasure => self.measuring = None,
+            MajorWord::PointMeasure => self.point(alloc, parts)?,
+            MajorWord::GoTarget => self.target = Some(index),
+            MajorWord::EndGo => self.end_target(index),
+            MajorWord::Rotate => {
                 let marks = rotation(alloc, parts)?;
                 self.mark(marks);
             }
-            b"CALL" => self.call(index, parts),
+            MajorWord::Call => self.call(index, parts),
             _ => {}
         }
         Ok(())

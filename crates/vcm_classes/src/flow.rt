@@ -1,8 +1,8 @@
 //! What is known of the machine at a statement.
 
-/// A place, in micrometres.
+/// A point in machine coordinates, in micrometres.
 #[derive(Clone, Copy)]
-pub struct Place {
+pub struct Position {
     pub x: i64,
     pub y: i64,
     pub z: i64,
@@ -22,14 +22,14 @@ pub enum Frame {
 pub struct Flow {
     pub frame: Frame,
     // Where the frame's origin lies, where it isn't turned and that stands in the text.
-    pub origin: Option<Place>,
+    pub origin: Option<Position>,
     // The distance of SNSET/APPRCH, in micrometres, where it stands in the text.
     pub approach: Option<i64>,
     pub is_manual: bool,
 }
 
 /// The origin of the machine's frame.
-pub const ZERO: Place = Place { x: 0, y: 0, z: 0 };
+pub const ZERO: Position = Position { x: 0, y: 0, z: 0 };
 
 /// The frame of the machine.
 pub const MACHINE: u32 = 0;

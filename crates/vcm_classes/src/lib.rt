@@ -11,6 +11,6 @@ mod options;
 pub use ahead::{Marks, Outlook, called, is_quarter_turn, outlooks};
 pub use class::Class;
 pub use facts::{Arrival, Facts};
-pub use flow::{Flow, Frame, MACHINE, Place, ZERO, same};
+pub use flow::{Flow, Frame, MACHINE, Position, ZERO, same};
 pub use judging::{Row, Ruling, judged, put};
 pub use options::{GivenFrame, Options, Stand, Turn};

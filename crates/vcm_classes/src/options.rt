@@ -1,6 +1,6 @@
 //! What the user says of the machine and the part.
 
-use crate::flow::Place;
+use crate::flow::Position;
 use std::alloc::Global;
 use vcm_num::NoMemory;
 use vcm_sentences::{Sentence, fields_of, parts_of, read_decimal};
@@ -18,7 +18,7 @@ pub struct Turn {
 #[derive(Clone, Copy)]
 pub struct Stand {
     /// Its origin, in micrometres.
-    pub origin: Place,
+    pub origin: Position,
     /// How it is turned.
     pub turn: Option<Turn>,
 }
@@ -59,9 +59,9 @@ fn turn_of(field: &[u8]) -> Option<Turn> {
     }
 }
 
-// The place of three lengths.
-fn place_of(x: &[u8], y: &[u8], z: &[u8]) -> Option<Place> {
-    Some(Place {
+// The position of three lengths.
+fn position_of(x: &[u8], y: &[u8], z: &[u8]) -> Option<Position> {
+    Some(Position {
         x: length_of(x)?,
         y: length_of(y)?,
         z: length_of(z)?,
@@ -72,11 +72,11 @@ fn place_of(x: &[u8], y: &[u8], z: &[u8]) -> Option<Place> {
 fn stand_in(fields: &[&[u8]]) -> Option<Stand> {
     match fields {
         [x, y, z] => Some(Stand {
-            origin: place_of(x, y, z)?,
+            origin: position_of(x, y, z)?,
             turn: None,
         }),
         [x, y, z, turn] => Some(Stand {
-            origin: place_of(x, y, z)?,
+            origin: position_of(x, y, z)?,
             turn: Some(turn_of(turn)?),
         }),
         _ => None,

@@ -6,7 +6,7 @@ use crate::view::{Here, Said};
 use std::alloc::Global;
 use vcm_classes::{Arrival, Facts, Flow, Frame, Marks, Ruling, same};
 use vcm_num::NoMemory;
-use vcm_sentences::{has_fine_digits, has_function, piece};
+use vcm_sentences::{enclosed, has_fine_digits, has_function, piece};
 use vcm_spelling::{Rounding, joined};
 use vcm_standard::Reason;
 
@@ -150,9 +150,12 @@ struct Absolute<'a> {
     other: &'a [u8],
 }
 
+// The relations with an order.
+const ORDERS: &[&[u8]] = &[b"GT", b"GE", b"LT", b"LE"];
+
 // Whether two letters are a relation with an order.
 fn is_order(relation: &[u8]) -> bool {
-    matches!(relation, b"GT" | b"GE" | b"LT" | b"LE")
+    ORDERS.contains(&relation)
 }
 
 // What stands between two points at the front, and behind them.
@@ -163,12 +166,12 @@ fn dotted(bytes: &[u8]) -> Option<(&[u8], &[u8])> {
     }
 }
 
-// The parts of `(ABS(a).GT.b)`: a, GT, b.
+// The parts of `(ABS(a).GT.b)`: a, GT, b, where no digits have to be rounded.
 fn absolute_test(rest: &[u8]) -> Option<Absolute<'_>> {
-    let inner = match rest {
-        [b'(', b'A', b'B', b'S', b'(', inner @ .., b')'] => inner,
-        _ => return None,
-    };
+    if has_fine_digits(rest) {
+        return None;
+    }
+    let inner = enclosed(rest, b"(ABS(")?;
     let end = closing(inner)?;
     let value = piece(inner, 0, end);
     let (relation, other) = dotted(piece(inner, end.saturating_add(1), inner.len()))?;
@@ -224,6 +227,22 @@ fn put_absolute(said: Said<'_, '_>, test: Absolute<'_>) -> Result<Ruling, NoMemo
     Ok(Ruling::Put(Reason::Absolute, new))
 }
 
+// Why an IF isn't tried, if it isn't.
+fn untried_test<'a>(said: Said<'_, 'a>, facts: &Facts<'a>) -> Option<Reason> {
+    let rest = said.parts.rest;
+    if uses_unknown(facts, rest) {
+        Some(Reason::UnknownValues)
+    } else if absolute_test(rest).is_some() {
+        None
+    } else if has_function(rest) {
+        Some(Reason::TestFunctions)
+    } else if said.ground.options.is_exact && has_fine_digits(rest) {
+        Some(Reason::FineDigits)
+    } else {
+        None
+    }
+}
+
 /// IF.
 pub(crate) fn test<'a>(
     said: Said<'_, 'a>,
@@ -232,23 +251,14 @@ pub(crate) fn test<'a>(
     blocks: &mut Blocks,
     rounding: &mut Rounding,
 ) -> Result<Ruling, NoMemory> {
-    let rest = said.parts.rest;
-    if uses_unknown(facts, rest) {
-        return Ok(blocks.give_up(Reason::UnknownValues));
-    }
-    let is_fine = has_fine_digits(rest);
-    if let (Some(parts), false) = (absolute_test(rest), is_fine) {
-        blocks.begin(here, BlockKind::Choice)?;
-        return put_absolute(said, parts);
-    }
-    if has_function(rest) {
-        return Ok(blocks.give_up(Reason::TestFunctions));
-    }
-    if is_fine && said.ground.options.is_exact {
-        return Ok(blocks.give_up(Reason::FineDigits));
+    if let Some(reason) = untried_test(said, facts) {
+        return Ok(blocks.give_up(reason));
     }
     blocks.begin(here, BlockKind::Choice)?;
-    standing(said, rounding)
+    match absolute_test(said.parts.rest) {
+        Some(parts) => put_absolute(said, parts),
+        None => standing(said, rounding),
+    }
 }
 
 /// DO and SELECT.
@@ -303,8 +313,8 @@ pub(crate) fn jump<'a>(
     here: &Here<'a>,
     facts: &mut Facts<'a>,
 ) -> Result<(), NoMemory> {
-    match said.parts.rest {
-        [b'(', label @ .., b')'] => facts.add_jump(label, Arrival::on(here.flow)),
-        _ => Ok(()),
+    match enclosed(said.parts.rest, b"(") {
+        Some(label) => facts.add_jump(label, Arrival::on(here.flow)),
+        None => Ok(()),
     }
 }

@@ -4,9 +4,9 @@ use crate::expressions::untried_value;
 use crate::spelled::{Lengths, standing, with_lengths};
 use crate::view::{Here, Said};
 use std::alloc::Global;
-use vcm_classes::{Facts, Frame, MACHINE, Place, Ruling, is_quarter_turn};
-use vcm_num::NoMemory;
-use vcm_sentences::{Table, micrometres, read_decimal};
+use vcm_classes::{Facts, Frame, MACHINE, Position, Ruling, is_quarter_turn};
+use vcm_num::{NoMemory, look_up};
+use vcm_sentences::{Table, enclosed, micrometres, read_decimal};
 use vcm_spelling::{Named, Rounding, in_millimetres, joined};
 use vcm_standard::Reason;
 
@@ -14,7 +14,7 @@ use vcm_standard::Reason;
 #[derive(Clone, Copy)]
 pub(crate) struct Saved {
     pub(crate) frame: Frame,
-    pub(crate) origin: Option<Place>,
+    pub(crate) origin: Option<Position>,
     // Whether it was saved in a block where it isn't known.
     pub(crate) is_lost: bool,
     // Whether it is the machine's, saved under another name before.
@@ -102,53 +102,43 @@ impl<'a> Frames<'a> {
     }
 }
 
-// The label of `D(..)`.
-fn frame_in<'a>(bytes: &'a [u8]) -> Option<&'a [u8]> {
-    match bytes {
-        [b'D', b'(', label @ .., b')'] => Some(label),
-        _ => None,
-    }
-}
+// The words of origins, each with its axis.
+const ORIGINS: &[(&[u8], usize)] = &[(b"XORIG", 0), (b"YORIG", 1), (b"ZORIG", 2)];
 
 /// The axis of an origin: 0 to 2.
 pub(crate) fn origin_axis(bytes: &[u8]) -> Option<usize> {
-    match bytes {
-        b"XORIG" => Some(0),
-        b"YORIG" => Some(1),
-        b"ZORIG" => Some(2),
-        _ => None,
-    }
+    look_up(ORIGINS, bytes)
 }
 
-// A place with something added along an axis.
-fn shifted(place: Place, axis: usize, by: i64) -> Place {
+// A position with something added along an axis.
+fn shifted(position: Position, axis: usize, by: i64) -> Position {
     let [x, y, z] = [
         if axis == 0 { by } else { 0 },
         if axis == 1 { by } else { 0 },
         if axis == 2 { by } else { 0 },
     ];
-    Place {
-        x: place.x.saturating_add(x),
-        y: place.y.saturating_add(y),
-        z: place.z.saturating_add(z),
+    Position {
+        x: position.x.saturating_add(x),
+        y: position.y.saturating_add(y),
+        z: position.z.saturating_add(z),
     }
 }
 
 // Where the origin lies behind a TRANS with these fields, where they are literals.
-fn moved_origin(origin: Place, fields: &[&[u8]], is_inch: bool) -> Option<Place> {
-    let mut place = origin;
+fn moved_origin(origin: Position, fields: &[&[u8]], is_inch: bool) -> Option<Position> {
+    let mut position = origin;
     let mut axis = None;
     for field in fields {
         match axis {
             None => axis = Some(origin_axis(field)?),
             Some(known) => {
                 let by = micrometres(in_millimetres(read_decimal(field)?.value, is_inch));
-                place = shifted(place, known, by);
+                position = shifted(position, known, by);
                 axis = None;
             }
         }
     }
-    Some(place)
+    Some(position)
 }
 
 // Whether the fields of a TRANS are origins, each with its value.
@@ -178,14 +168,6 @@ fn untried_translation<'a>(
     }
 }
 
-// Whether a ruling is one that a statement isn't tried.
-fn untried_reason(ruling: &Ruling) -> Option<Reason> {
-    match ruling {
-        Ruling::NotTried(reason) => Some(*reason),
-        _ => None,
-    }
-}
-
 /// TRANS.
 pub(crate) fn translate<'a>(
     said: Said<'_, 'a>,
@@ -204,11 +186,10 @@ pub(crate) fn translate<'a>(
     };
     here.enter_new(origin);
     frames.save(here, label, false)?;
-    let ruling = with_lengths(said, Lengths::Odd, rounding)?;
-    if untried_reason(&ruling).is_some() {
-        frames.save_lost(here, label)?;
+    match with_lengths(said, Lengths::Odd, rounding)? {
+        Ruling::NotTried(reason) => frames.untried(here, label, reason),
+        ruling => Ok(ruling),
     }
-    Ok(ruling)
 }
 
 /// ROTATE.
@@ -237,7 +218,7 @@ pub(crate) fn recall<'a>(
     frames: &Frames<'a>,
     rounding: &mut Rounding,
 ) -> Result<Ruling, NoMemory> {
-    let saved = match frame_in(said.parts.rest) {
+    let saved = match enclosed(said.parts.rest, b"D(") {
         Some(label) => frames.saved.get(label),
         None => None,
     };

@@ -5,17 +5,15 @@ use crate::measuring::feature_in;
 use crate::pages::Page;
 use crate::view::{Features, Ground, Here, Said};
 use std::alloc::Global;
-use vcm_classes::{Frame, MACHINE, Place, Ruling, Stand, Turn};
+use vcm_classes::{Frame, MACHINE, Position, Ruling, Stand, Turn};
 use vcm_num::{NoMemory, is, write_int, write_thousandths};
+use vcm_sentences::enclosed;
 use vcm_spelling::{Named, joined};
 use vcm_standard::Reason;
 
 // The label of `DAT(..)`.
 fn datum_in<'a>(bytes: &'a [u8]) -> Option<&'a [u8]> {
-    match bytes {
-        [b'D', b'A', b'T', b'(', label @ .., b')'] => Some(label),
-        _ => None,
-    }
+    enclosed(bytes, b"DAT(")
 }
 
 // The letter of an axis.
@@ -27,25 +25,36 @@ fn letter(axis: usize) -> u8 {
     }
 }
 
+// Appends the fields of a TRANS to an origin.
+fn put_origins(origin: Position, out: &mut Vec<u8>) -> Result<(), NoMemory> {
+    out.extend_from_slice(b"XORIG,")?;
+    write_thousandths(origin.x, out)?;
+    out.extend_from_slice(b",YORIG,")?;
+    write_thousandths(origin.y, out)?;
+    out.extend_from_slice(b",ZORIG,")?;
+    write_thousandths(origin.z, out)
+}
+
 // The statement that moves the machine's frame to an origin, under a name.
-fn moved_frame(said: Said<'_, '_>, origin: Place) -> Result<Vec<u8>, NoMemory> {
+fn moved_frame(said: Said<'_, '_>, origin: Position) -> Result<Vec<u8>, NoMemory> {
     let name = said.ground.naming.label(Named::Frame, said.parts.title);
-    let mut new = joined(said.ground.alloc, &[b"D(", name, b")=TRANS/XORIG,"])?;
-    write_thousandths(origin.x, &mut new)?;
-    new.extend_from_slice(b",YORIG,")?;
-    write_thousandths(origin.y, &mut new)?;
-    new.extend_from_slice(b",ZORIG,")?;
-    write_thousandths(origin.z, &mut new)?;
+    let mut new = joined(said.ground.alloc, &[b"D(", name, b")=TRANS/"])?;
+    put_origins(origin, &mut new)?;
     Ok(new)
+}
+
+// Appends the fields of a ROTATE.
+fn put_turn(turn: Turn, out: &mut Vec<u8>) -> Result<(), NoMemory> {
+    out.push(letter(turn.axis))?;
+    out.extend_from_slice(b"AXIS,")?;
+    write_int(turn.degrees, out)
 }
 
 // The statement that turns a frame, under its name.
 fn turned_frame(said: Said<'_, '_>, turn: Turn) -> Result<Vec<u8>, NoMemory> {
     let name = said.ground.naming.label(Named::Frame, said.parts.title);
     let mut new = joined(said.ground.alloc, &[b"D(", name, b")=ROTATE/"])?;
-    new.push(letter(turn.axis))?;
-    new.extend_from_slice(b"AXIS,")?;
-    write_int(turn.degrees, &mut new)?;
+    put_turn(turn, &mut new)?;
     Ok(new)
 }
 
@@ -63,6 +72,16 @@ fn put_above(
     Ok(if is_put { Some(spare) } else { None })
 }
 
+// Puts a statement in the nearest line to spare above a row, and says whether it could be.
+fn is_put_above(
+    ground: &Ground<'_>,
+    page: &mut Page,
+    row: usize,
+    bytes: &[u8],
+) -> Result<bool, NoMemory> {
+    Ok(put_above(ground, page, row, bytes)?.is_some())
+}
+
 // The recall of the machine's frame above a row, where another frame is current; whether the machine's is current then.
 fn begin_machine<'a>(
     said: Said<'_, 'a>,
@@ -74,10 +93,10 @@ fn begin_machine<'a>(
     if here.flow.is_in(MACHINE) {
         return Ok(true);
     }
-    let Some(recall) = machine_recall(said, frames)? else {
-        return Ok(false);
-    };
-    Ok(put_above(said.ground, page, row, recall.as_slice())?.is_some())
+    match machine_recall(said, frames)? {
+        None => Ok(false),
+        Some(recall) => is_put_above(said.ground, page, row, recall.as_slice()),
+    }
 }
 
 // Whether there are lines to spare above a row, this many.
@@ -183,44 +202,54 @@ fn is_taken(origins: &[Origin<'_>], axis: usize, row: usize) -> bool {
         .any(|other| other.axis == axis || other.datum.row == row)
 }
 
-// The origins of a DATSET, where each is that of a point measured in this frame.
-fn point_origins<'a>(
+// The origin of a datum and the axis behind it, where the datum is a point measured in this frame.
+fn point_origin<'a>(
+    here: &Here<'a>,
+    frames: &Frames<'a>,
+    features: &Features<'a>,
+    page: &Page,
+    fields: &[&'a [u8]],
+) -> Option<Origin<'a>> {
+    match fields {
+        [datum, axis] => Some(Origin {
+            axis: origin_axis(axis)?,
+            datum: point_datum(here, frames, features, page, datum_in(datum)?)?,
+        }),
+        _ => None,
+    }
+}
+
+// Adds the origins of a DATSET, and says whether each is that of a point measured in this frame, and there is one.
+fn take_origins<'a>(
     said: Said<'_, 'a>,
     here: &Here<'a>,
     frames: &Frames<'a>,
     features: &Features<'a>,
     page: &Page,
-) -> Result<Option<Vec<Origin<'a>>>, NoMemory> {
-    let mut origins: Vec<Origin<'a>> = Vec::new(said.ground.alloc);
-    let mut last = None;
-    for field in said.fields {
-        match (datum_in(field), last, origin_axis(field)) {
-            (Some(label), None, _) => last = Some(label),
-            (None, Some(label), Some(axis)) => {
-                match point_datum(here, frames, features, page, label) {
-                    Some(datum) if !is_taken(origins.as_slice(), axis, datum.row) => {
-                        origins.push(Origin { axis, datum })?;
-                    }
-                    _ => return Ok(None),
-                }
-                last = None;
+    origins: &mut Vec<Origin<'a>>,
+) -> Result<bool, NoMemory> {
+    for pair in said.fields.chunks(2) {
+        match point_origin(here, frames, features, page, pair) {
+            Some(origin) if !is_taken(origins.as_slice(), origin.axis, origin.datum.row) => {
+                origins.push(origin)?;
             }
-            _ => return Ok(None),
+            _ => return Ok(false),
         }
     }
-    if last.is_some() || origins.is_empty() {
-        Ok(None)
-    } else {
-        Ok(Some(origins))
-    }
+    Ok(!origins.is_empty())
+}
+
+// Appends what stands behind the front of the variable of an origin.
+fn put_origin_name(line: u32, axis: usize, out: &mut Vec<u8>) -> Result<(), NoMemory> {
+    out.push(letter(axis))?;
+    out.push(b'_')?;
+    write_int(i64::from(line), out)
 }
 
 // The variable of an origin.
 fn origin_name(said: Said<'_, '_>, axis: usize) -> Result<Vec<u8>, NoMemory> {
     let mut name = joined(said.ground.alloc, &[said.ground.front, b"_"])?;
-    name.push(letter(axis))?;
-    name.push(b'_')?;
-    write_int(i64::from(said.line), &mut name)?;
+    put_origin_name(said.line, axis, &mut name)?;
     Ok(name)
 }
 
@@ -249,6 +278,13 @@ fn obtain_origin(
     )
 }
 
+// Appends a comma and a name.
+fn put_behind_comma(name: &[u8], out: &mut Vec<u8>) -> Result<(), NoMemory> {
+    out.push(b',')?;
+    out.extend_from_slice(name)?;
+    Ok(())
+}
+
 // Adds an origin to the frame's statement, and its variable to those that are declared.
 fn put_origin(
     axis: usize,
@@ -260,11 +296,29 @@ fn put_origin(
         out.push(b',')?;
     }
     out.push(letter(axis))?;
-    out.extend_from_slice(b"ORIG,")?;
-    out.extend_from_slice(variable)?;
-    page.declared.push(b',')?;
-    page.declared.extend_from_slice(variable)?;
-    Ok(())
+    out.extend_from_slice(b"ORIG")?;
+    put_behind_comma(variable, out)?;
+    put_behind_comma(variable, &mut page.declared)
+}
+
+// The origin of an axis.
+fn origin_along<'a>(origins: &[Origin<'a>], axis: usize) -> Option<Origin<'a>> {
+    origins.iter().find(|origin| origin.axis == axis).copied()
+}
+
+// Adds an origin by its variable, and says whether it could be.
+fn put_origin_by(
+    said: Said<'_, '_>,
+    page: &mut Page,
+    origin: Origin<'_>,
+    variable: &[u8],
+    out: &mut Vec<u8>,
+) -> Result<bool, NoMemory> {
+    if !obtain_origin(said, page, origin, variable)? {
+        return Ok(false);
+    }
+    put_origin(origin.axis, variable, page, out)?;
+    Ok(true)
 }
 
 // Adds the origin of an axis, if there is one, and says whether it could be.
@@ -275,15 +329,13 @@ fn put_axis(
     axis: usize,
     out: &mut Vec<u8>,
 ) -> Result<bool, NoMemory> {
-    let Some(origin) = origins.iter().find(|origin| origin.axis == axis) else {
-        return Ok(true);
-    };
-    let variable = origin_name(said, axis)?;
-    if !obtain_origin(said, page, *origin, variable.as_slice())? {
-        return Ok(false);
+    match origin_along(origins, axis) {
+        None => Ok(true),
+        Some(origin) => {
+            let variable = origin_name(said, axis)?;
+            put_origin_by(said, page, origin, variable.as_slice(), out)
+        }
     }
-    put_origin(axis, variable.as_slice(), page, out)?;
-    Ok(true)
 }
 
 // The statement of a frame by points, where each of its lines could be put.
@@ -336,11 +388,12 @@ fn datum_frame<'a>(
     features: &Features<'a>,
     page: &mut Page,
 ) -> Result<Ruling, NoMemory> {
-    match point_origins(said, here, frames, features, page)? {
-        Some(origins) if has_room_above(said, page, origins.as_slice()) => {
-            point_frame(said, here, frames, page, origins.as_slice())
-        }
-        _ => frames.untried(here, said.parts.title, Reason::DatumFrames),
+    let mut origins = Vec::new(said.ground.alloc);
+    let are_points = take_origins(said, here, frames, features, page, &mut origins)?;
+    if are_points && has_room_above(said, page, origins.as_slice()) {
+        point_frame(said, here, frames, page, origins.as_slice())
+    } else {
+        frames.untried(here, said.parts.title, Reason::DatumFrames)
     }
 }
 
@@ -391,6 +444,11 @@ pub(crate) fn datum<'a>(
     Ok(Ruling::LeftOut(Reason::Datums))
 }
 
+// The declaration of variables, each behind a comma.
+fn declaration_of(alloc: Global, variables: &[u8]) -> Result<Vec<u8>, NoMemory> {
+    joined(alloc, &[b"DECL/REAL", variables])
+}
+
 /// Declares the variables of frames in a line to spare.
 pub(crate) fn declare(ground: &Ground<'_>, page: &mut Page) -> Result<(), NoMemory> {
     let Some(index) = page.spare else {
@@ -399,9 +457,7 @@ pub(crate) fn declare(ground: &Ground<'_>, page: &mut Page) -> Result<(), NoMemo
     if page.declared.is_empty() {
         return Ok(());
     }
-    let mut new = Vec::new(ground.alloc);
-    new.extend_from_slice(b"DECL/REAL")?;
-    new.extend_from_slice(page.declared.as_slice())?;
+    let new = declaration_of(ground.alloc, page.declared.as_slice())?;
     page.put_in(ground, index, Reason::PointFrames, new.as_slice())?;
     Ok(())
 }

@@ -17,6 +17,6 @@ mod view;
 mod walking;
 
 pub use pages::{Caution, Surveyed};
-pub use vcm_classes::{Class, GivenFrame, Options, Place, Row, Stand, Turn};
+pub use vcm_classes::{Class, GivenFrame, Options, Position, Row, Stand, Turn};
 pub use vcm_spelling::Renaming;
 pub use walking::surveyed;

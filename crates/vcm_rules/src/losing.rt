@@ -6,7 +6,8 @@ use crate::frames::Frames;
 use crate::pages::{Caution, Page};
 use crate::view::{Here, Left, Measuring, Said};
 use vcm_classes::{Class, Facts, Ruling, called};
-use vcm_num::{NoMemory, is};
+use vcm_num::NoMemory;
+use vcm_sentences::MajorWord;
 use vcm_standard::Reason;
 
 /// What is lost with a statement that isn't tried: its variable, its setting, its frame.
@@ -18,27 +19,47 @@ pub(crate) fn lose_effect<'a>(
 ) -> Result<(), NoMemory> {
     let parts = said.parts;
     match parts.word {
-        b"SNSET" => {
+        MajorWord::SensorSetting => {
             if parts.rest.starts_with(b"APPRCH") {
                 here.flow.approach = None;
             }
             Ok(())
         }
-        b"DATSET" | b"TRANS" | b"ROTATE" | b"RECALL" | b"LOCATE" | b"ITERAT" | b"CALL" => {
-            frames.save_lost(here, parts.title)
-        }
-        b"POP" => {
+        MajorWord::DatumSet
+        | MajorWord::Translate
+        | MajorWord::Rotate
+        | MajorWord::Recall
+        | MajorWord::Locate
+        | MajorWord::Iterate
+        | MajorWord::Call => { frames.save_lost(here, parts.title) }
+        MajorWord::Pop => {
             here.flow.approach = None;
             here.lose_frame();
             Ok(())
         }
-        b"MODE" => {
+        MajorWord::Mode => {
             here.flow.is_manual = here.flow.is_manual || parts.rest.starts_with(b"MAN");
             Ok(())
         }
-        b"DO" => lose_words(facts, parts.rest, here.is_repeated),
+        MajorWord::Do => lose_words(facts, parts.rest, here.is_repeated),
         _ if parts.kind.is_empty() => facts.lose(parts.title, here.is_repeated),
         _ => Ok(()),
+    }
+}
+
+// What a stretch is behind a statement of this word in it, if it goes on.
+fn stretch_behind(stretch: Stretch, word: MajorWord) -> Option<Stretch> {
+    let depth = match word {
+        MajorWord::If | MajorWord::Do | MajorWord::Select => stretch.depth.saturating_add(1),
+        MajorWord::EndIf | MajorWord::EndDo | MajorWord::EndSelect => {
+            stretch.depth.saturating_sub(1)
+        }
+        _ => stretch.depth,
+    };
+    if depth == 0 {
+        None
+    } else {
+        Some(Stretch { depth, ..stretch })
     }
 }
 
@@ -52,16 +73,7 @@ pub(crate) fn pass_over<'a>(
     blocks: &mut Blocks,
 ) -> Result<Ruling, NoMemory> {
     lose_effect(said, here, facts, frames)?;
-    let depth = match said.parts.word {
-        b"IF" | b"DO" | b"SELECT" => stretch.depth.saturating_add(1),
-        b"ENDIF" | b"ENDDO" | b"ENDSEL" => stretch.depth.saturating_sub(1),
-        _ => stretch.depth,
-    };
-    blocks.stretch = if depth == 0 {
-        None
-    } else {
-        Some(Stretch { depth, ..stretch })
-    };
+    blocks.stretch = stretch_behind(stretch, said.parts.word);
     Ok(Ruling::NotTried(stretch.reason))
 }
 
@@ -73,42 +85,40 @@ pub(crate) fn untried_word<'a>(
     facts: &mut Facts<'a>,
     page: &mut Page,
 ) -> Result<(), NoMemory> {
-    let word = said.parts.word;
-    match reason {
-        Reason::RotaryTable if is(word, b"ROTAB") => here.is_turned = true,
-        Reason::Calibration | Reason::RelativePoints => {
+    match said.parts.word {
+        MajorWord::RotaryTable => {
+            here.is_turned = true;
+            Ok(())
+        }
+        MajorWord::Calibrate | MajorWord::RelativeMeasure => {
             here.measuring = Measuring::Untried(reason);
+            Ok(())
         }
-        Reason::OutsideValues if is(word, b"READ") || is(word, b"PROMPT") => {
-            return lose_fields(facts, said.fields, here.is_repeated);
-        }
-        Reason::Carriages if is(word, b"CRSLCT") => {
-            return page.warn(said.line, Caution::OtherCarriage);
-        }
-        Reason::Zones if is(word, b"CZSLCT") => return page.warn(said.line, Caution::OtherZone),
-        _ => {}
+        MajorWord::Read | MajorWord::Prompt => lose_fields(facts, said.fields, here.is_repeated),
+        MajorWord::SelectCarriage => page.warn(said.line, Caution::OtherCarriage),
+        MajorWord::SelectZone => page.warn(said.line, Caution::OtherZone),
+        _ => Ok(()),
     }
-    Ok(())
 }
 
 // Whether the probe may stand elsewhere behind a statement that isn't tried.
 fn may_move(said: Said<'_, '_>) -> bool {
     match said.parts.word {
-        b"GOTO"
-        | b"GOHOME"
-        | b"GOTARG"
-        | b"ENDGO"
-        | b"PTMEAS"
-        | b"PAMEAS"
-        | b"SCAN"
-        | b"RMEAS"
-        | b"CALIB"
-        | b"EXTFIL"
-        | b"INCLUD"
-        | b"XTERN"
-        | b"PSTHRU"
-        | b"ROTAB" => true,
-        b"CALL" => said.outlook().is_none_or(|outlook| outlook.marks.moves),
+        MajorWord::Goto
+        | MajorWord::GoHome
+        | MajorWord::GoTarget
+        | MajorWord::EndGo
+        | MajorWord::PointMeasure
+        | MajorWord::PathMeasure
+        | MajorWord::Scan
+        | MajorWord::RelativeMeasure
+        | MajorWord::Calibrate
+        | MajorWord::ExternalFile
+        | MajorWord::Include
+        | MajorWord::External
+        | MajorWord::PassThrough
+        | MajorWord::RotaryTable => true,
+        MajorWord::Call => said.outlook().is_none_or(|outlook| outlook.marks.moves),
         _ => false,
     }
 }
@@ -116,15 +126,15 @@ fn may_move(said: Said<'_, '_>) -> bool {
 // Whether a statement that is tried moves the probe.
 fn moves(said: Said<'_, '_>) -> bool {
     match said.parts.word {
-        b"GOTO" | b"GOHOME" | b"ENDGO" | b"PTMEAS" => true,
-        b"CALL" => said.outlook().is_some_and(|outlook| outlook.marks.moves),
+        MajorWord::Goto | MajorWord::GoHome | MajorWord::EndGo | MajorWord::PointMeasure => true,
+        MajorWord::Call => said.outlook().is_some_and(|outlook| outlook.marks.moves),
         _ => false,
     }
 }
 
 // Whether the macro that a statement calls leaves the probe elsewhere.
 fn strays<'a>(said: Said<'_, 'a>, facts: &Facts<'a>) -> bool {
-    is(said.parts.word, b"CALL")
+    said.parts.word.is(MajorWord::Call)
         && match called(said.parts.rest) {
             Some(label) => facts.strays(label),
             None => false,

@@ -5,29 +5,41 @@ use crate::moving::untried_move;
 use crate::pages::Page;
 use crate::points::{approached_point, point_name, touched_point};
 use crate::spelled::{Lengths, standing, with_lengths};
-use crate::view::{Features, Here, Measured, Measuring, Said};
+use crate::view::{Features, Ground, Here, Measured, Measuring, Said};
 use vcm_classes::{Facts, Frame, Row, Ruling};
 use vcm_num::{NoMemory, is};
-use vcm_sentences::read_decimal;
+use vcm_sentences::{enclosed, read_decimal};
 use vcm_spelling::{Direction, Named, Rounding, direction_in};
 use vcm_standard::Reason;
 
 /// The feature of `F(..)` or `FA(..)`, and whether it is the measured one.
 pub(crate) fn feature_in<'a>(field: &'a [u8]) -> Option<(&'a [u8], bool)> {
-    match field {
-        [b'F', b'(', label @ .., b')'] => Some((label, false)),
-        [b'F', b'A', b'(', label @ .., b')'] => Some((label, true)),
-        _ => None,
+    match enclosed(field, b"F(") {
+        Some(label) => Some((label, false)),
+        None => Some((enclosed(field, b"FA(")?, true)),
+    }
+}
+
+// Whether the fields behind a place are a direction along an axis.
+fn is_axis(fields: &[&[u8]]) -> bool {
+    match fields {
+        [x, y, z] => matches!(direction_in(x, y, z), Direction::Along(_, _)),
+        _ => false,
+    }
+}
+
+// Whether fields are a place with a direction along an axis.
+fn has_axis(fields: &[&[u8]]) -> bool {
+    match fields {
+        [_, _, _, direction @ ..] => is_axis(direction),
+        _ => false,
     }
 }
 
 // Whether fields are those of a point along an axis.
 fn is_axis_point(fields: &[&[u8]]) -> bool {
     match fields {
-        [point, cart, place @ ..] if is(point, b"POINT") && is(cart, b"CART") => match place {
-            [_, _, _, x, y, z] => matches!(direction_in(x, y, z), Direction::Along(_, _)),
-            _ => false,
-        },
+        [point, cart, place @ ..] => is(point, b"POINT") && is(cart, b"CART") && has_axis(place),
         _ => false,
     }
 }
@@ -243,6 +255,26 @@ fn output_front(field: &[u8]) -> &'static [u8] {
     }
 }
 
+// Appends the output of a feature of this name.
+fn put_output(field: &[u8], name: &[u8], out: &mut Vec<u8>) -> Result<(), NoMemory> {
+    out.extend_from_slice(output_front(field))?;
+    out.extend_from_slice(name)?;
+    out.push(b')')?;
+    Ok(())
+}
+
+// Appends the output of the point of a row, in a line of its own.
+fn put_output_line(
+    ground: &Ground<'_>,
+    field: &[u8],
+    row: usize,
+    out: &mut Vec<u8>,
+) -> Result<(), NoMemory> {
+    put_output(field, point_name(ground, row), out)?;
+    out.push(b'\n')?;
+    Ok(())
+}
+
 // The output of the points between two rows that are touched.
 fn touched_output(
     said: Said<'_, '_>,
@@ -253,9 +285,7 @@ fn touched_output(
     let mut statements = Vec::new(said.ground.alloc);
     for row in rows.0..rows.1 {
         if page.rows.get(row).is_some_and(is_touched) {
-            statements.extend_from_slice(output_front(field))?;
-            statements.extend_from_slice(point_name(said.ground, row))?;
-            statements.extend_from_slice(b")\n")?;
+            put_output_line(said.ground, field, row, &mut statements)?;
         }
     }
     Ok(Ruling::Several(Reason::Touched, statements))
@@ -263,11 +293,40 @@ fn touched_output(
 
 // The output of a feature without what stands behind it.
 fn plain_output(said: Said<'_, '_>, field: &[u8], label: &[u8]) -> Result<Ruling, NoMemory> {
+    let name = said.ground.naming.label(Named::Feature, label);
     let mut new = Vec::new(said.ground.alloc);
-    new.extend_from_slice(output_front(field))?;
-    new.extend_from_slice(said.ground.naming.label(Named::Feature, label))?;
-    new.push(b')')?;
+    put_output(field, name, &mut new)?;
     Ok(Ruling::Put(Reason::OutputTolerances, new))
+}
+
+// Whether features stand among fields.
+fn has_feature(fields: &[&[u8]]) -> bool {
+    fields.iter().any(|field| feature_in(field).is_some())
+}
+
+// The rows of the feature of a field, where its points are touched.
+fn touched_rows<'a>(features: &Features<'a>, field: &'a [u8]) -> Option<(usize, usize)> {
+    let (label, _) = feature_in(field)?;
+    features.touched.get(label)
+}
+
+// The output of one feature, with other fields behind it or alone.
+fn output_of<'a>(
+    said: Said<'_, 'a>,
+    here: &Here<'a>,
+    features: &Features<'a>,
+    page: &mut Page,
+    field: &'a [u8],
+    is_alone: bool,
+) -> Result<Ruling, NoMemory> {
+    if let Some(rows) = touched_rows(features, field) {
+        return touched_output(said, field, rows, page);
+    }
+    match given_feature(here, features, field) {
+        None => Ok(Ruling::LeftOut(Reason::OtherOutput)),
+        Some(_) if is_alone => standing(said, &mut page.rounding),
+        Some(label) => plain_output(said, field, label),
+    }
 }
 
 /// OUTPUT.
@@ -277,21 +336,11 @@ pub(crate) fn output<'a>(
     features: &Features<'a>,
     page: &mut Page,
 ) -> Result<Ruling, NoMemory> {
-    let [first, others @ ..] = said.fields else {
-        return Ok(Ruling::LeftOut(Reason::OtherOutput));
-    };
-    if others.iter().any(|field| feature_in(field).is_some()) {
-        return Ok(Ruling::LeftOut(Reason::OtherOutput));
-    }
-    if let Some((label, _)) = feature_in(first) {
-        if let Some(rows) = features.touched.get(label) {
-            return touched_output(said, first, rows, page);
+    match said.fields {
+        [first, others @ ..] if !has_feature(others) => {
+            output_of(said, here, features, page, first, others.is_empty())
         }
-    }
-    match given_feature(here, features, first) {
-        None => Ok(Ruling::LeftOut(Reason::OtherOutput)),
-        Some(_) if others.is_empty() => standing(said, &mut page.rounding),
-        Some(label) => plain_output(said, first, label),
+        _ => Ok(Ruling::LeftOut(Reason::OtherOutput)),
     }
 }
 

@@ -3,7 +3,7 @@
 use crate::expressions::untried_value;
 use crate::spelled::{Lengths, standing, with_lengths};
 use crate::view::{Ground, Here, Measuring, Said};
-use vcm_classes::{Facts, Place, Ruling};
+use vcm_classes::{Facts, Position, Ruling};
 use vcm_num::{NoMemory, is};
 use vcm_sentences::{fields_of, has_fine_digits, micrometres, read_decimal};
 use vcm_spelling::{Rounding, approach, in_millimetres, joined};
@@ -17,10 +17,13 @@ fn place_fields<'a, 'b>(fields: &'b [&'a [u8]]) -> &'b [&'a [u8]] {
     }
 }
 
+// The words of GOTO in front of what is no place along the axes.
+const OTHER_FORMS: &[&[u8]] = &[b"POL", b"INCR", b"ANGLES", b"HEADTOUCH", b"PCS"];
+
 // Whether the fields of a GOTO are a place along the axes, and not one by angles, steps or the like.
 fn is_place(fields: &[&[u8]]) -> bool {
     let is_other = match fields {
-        [first, ..] => matches!(*first, b"POL" | b"INCR" | b"ANGLES" | b"HEADTOUCH" | b"PCS"),
+        [first, ..] => OTHER_FORMS.contains(first),
         [] => false,
     };
     let is_lettered = match fields {
@@ -154,10 +157,10 @@ fn length(field: &[u8], is_inch: bool) -> Option<i64> {
     Some(micrometres(in_millimetres(number.value, is_inch)))
 }
 
-// The place of these fields behind an origin, where they are literals.
-fn place_behind(origin: Place, fields: &[&[u8]], is_inch: bool) -> Option<Place> {
+// The position of these fields behind an origin, where they are literals.
+fn position_behind(origin: Position, fields: &[&[u8]], is_inch: bool) -> Option<Position> {
     match fields {
-        [x, y, z] => Some(Place {
+        [x, y, z] => Some(Position {
             x: origin.x.saturating_add(length(x, is_inch)?),
             y: origin.y.saturating_add(length(y, is_inch)?),
             z: origin.z.saturating_add(length(z, is_inch)?),
@@ -166,13 +169,13 @@ fn place_behind(origin: Place, fields: &[&[u8]], is_inch: bool) -> Option<Place>
     }
 }
 
-/// The place of a FROM in machine coordinates, where it stands in the text.
-pub(crate) fn home_at(said: Said<'_, '_>, here: &Here<'_>) -> Option<Place> {
+/// The position of a FROM in machine coordinates, where it stands in the text.
+pub(crate) fn home_at(said: Said<'_, '_>, here: &Here<'_>) -> Option<Position> {
     if !here.flow.is_known() || !said.ground.traits.is_followed {
         return None;
     }
     let origin = here.flow.origin?;
-    place_behind(
+    position_behind(
         origin,
         place_fields(said.fields),
         said.ground.traits.is_inch,

@@ -2,7 +2,7 @@
 
 use crate::view::Ground;
 use std::alloc::Global;
-use vcm_classes::{Class, Place, Row, put};
+use vcm_classes::{Class, Position, Row, put};
 use vcm_num::NoMemory;
 use vcm_spelling::{Renaming, Rounding};
 use vcm_standard::Reason;
@@ -34,8 +34,8 @@ pub struct Surveyed {
     pub rows: Vec<Row>,
     /// The lines with what may matter there.
     pub cautions: Vec<(u32, Caution)>,
-    /// The line of the last FROM whose place in machine coordinates stands in the text, and that place.
-    pub home: Option<(u32, Place)>,
+    /// The line of the last FROM whose position in machine coordinates stands in the text, and that position.
+    pub home: Option<(u32, Position)>,
     /// The names that are replaced.
     pub renamings: Vec<Renaming>,
     /// The names of points that are touched one by one, one for each statement, nothing where there is none.
@@ -51,7 +51,7 @@ pub struct Surveyed {
 pub(crate) struct Page {
     pub(crate) rows: Vec<Row>,
     pub(crate) cautions: Vec<(u32, Caution)>,
-    pub(crate) home: Option<(u32, Place)>,
+    pub(crate) home: Option<(u32, Position)>,
     pub(crate) rounding: Rounding,
     // The first row that is left out below DMISMN, outside blocks.
     pub(crate) spare: Option<usize>,

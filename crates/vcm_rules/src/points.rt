@@ -95,23 +95,38 @@ fn statements(said: Said<'_, '_>, name: &[u8], rest: &[u8]) -> Result<Vec<u8>, N
     )
 }
 
-/// The statements that touch a point, where it has no lengths in inches.
-pub(crate) fn touched_point(
+// The statements that touch a point with these bytes.
+fn touched(said: Said<'_, '_>, name: &[u8], whole: &[u8]) -> Result<Ruling, NoMemory> {
+    let rest = whole.strip_prefix(b"PTMEAS/").unwrap_or(&[]);
+    Ok(Ruling::Several(Reason::Touched, statements(said, name, rest)?))
+}
+
+// The statements that touch a point, its numbers rounded.
+fn touched_roundly(
     said: Said<'_, '_>,
     name: &[u8],
+    bytes: &[u8],
     rounding: &mut Rounding,
 ) -> Result<Ruling, NoMemory> {
-    let alloc = said.ground.alloc;
-    let named = said.ground.naming.renamed(said.bytes)?;
-    let bytes = named.as_ref().map_or(said.bytes, |new| new.as_slice());
     let mut counted = *rounding;
-    let Some(whole) = rounded(alloc, bytes, &mut counted)? else {
+    let Some(whole) = rounded(said.ground.alloc, bytes, &mut counted)? else {
         return Ok(Ruling::NotTried(Reason::NoDirection));
     };
     if said.ground.options.is_exact && counted.count != rounding.count {
         return Ok(Ruling::NotTried(Reason::FineDigits));
     }
     *rounding = counted;
-    let rest = whole.as_slice().strip_prefix(b"PTMEAS/").unwrap_or(&[]);
-    Ok(Ruling::Several(Reason::Touched, statements(said, name, rest)?))
+    touched(said, name, whole.as_slice())
+}
+
+/// The statements that touch a point, where it has no lengths in inches.
+pub(crate) fn touched_point(
+    said: Said<'_, '_>,
+    name: &[u8],
+    rounding: &mut Rounding,
+) -> Result<Ruling, NoMemory> {
+    match said.ground.naming.renamed(said.bytes)? {
+        Some(named) => touched_roundly(said, name, named.as_slice(), rounding),
+        None => touched_roundly(said, name, said.bytes, rounding),
+    }
 }

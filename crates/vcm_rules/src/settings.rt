@@ -6,8 +6,8 @@ use crate::pages::{Caution, Page};
 use crate::spelled::{Lengths, standing, with_lengths};
 use crate::view::{Features, Here, Said};
 use vcm_classes::{Facts, Ruling};
-use vcm_num::{NoMemory, is};
-use vcm_sentences::{micrometres, read_decimal};
+use vcm_num::{NoMemory, is, look_up};
+use vcm_sentences::{MajorWord, micrometres, read_decimal};
 use vcm_spelling::{Rounding, in_millimetres, joined};
 use vcm_standard::Reason;
 
@@ -17,20 +17,31 @@ fn is_untried(ruling: &Ruling) -> bool {
 }
 
 // A variable is given a value, or would be: it is known behind it where that is tried on all ways.
+fn note_given<'a>(
+    title: &'a [u8],
+    here: &Here<'a>,
+    facts: &mut Facts<'a>,
+    is_untried: bool,
+) -> Result<(), NoMemory> {
+    if is_untried {
+        facts.lose(title, here.is_repeated)
+    } else if here.body.is_some_and(|body| body.is_lost) {
+        facts.lose(title, true)
+    } else if here.is_outside && !here.is_repeated {
+        facts.gain(title)
+    } else {
+        Ok(())
+    }
+}
+
+// What the rules say of a statement that gives a variable its value.
 fn give<'a>(
     said: Said<'_, 'a>,
     here: &Here<'a>,
     facts: &mut Facts<'a>,
     ruling: Ruling,
 ) -> Result<Ruling, NoMemory> {
-    let title = said.parts.title;
-    if is_untried(&ruling) {
-        facts.lose(title, here.is_repeated)?;
-    } else if here.body.is_some_and(|body| body.is_lost) {
-        facts.lose(title, true)?;
-    } else if here.is_outside && !here.is_repeated {
-        facts.gain(title)?;
-    }
+    note_given(said.parts.title, here, facts, is_untried(&ruling))?;
     Ok(ruling)
 }
 
@@ -64,10 +75,39 @@ pub(crate) fn obtain<'a>(
     give(said, here, facts, ruling)
 }
 
+// What is declared, as far as rules tell it apart.
+#[derive(Clone, Copy)]
+enum Declared {
+    Number,
+    Text,
+    Other,
+}
+
+// The kinds of variables.
+const KINDS: &[(&[u8], Declared)] = &[
+    (b"REAL", Declared::Number),
+    (b"INTGR", Declared::Number),
+    (b"DOUBLE", Declared::Number),
+    (b"LONG", Declared::Number),
+    (b"BOOL", Declared::Number),
+    (b"CHAR", Declared::Text),
+    (b"VECTOR", Declared::Text),
+];
+
+// What a kind declares.
+fn declared_by(kind: &[u8]) -> Declared {
+    look_up(KINDS, kind).unwrap_or(Declared::Other)
+}
+
+// Whether a field of a declaration is a scope.
+fn is_scope(field: &[u8]) -> bool {
+    is(field, b"COMMON") || is(field, b"GLOBAL") || is(field, b"LOCAL")
+}
+
 // The fields of a declaration from the kind on.
 fn declared_fields<'b, 'a>(fields: &'b [&'a [u8]]) -> &'b [&'a [u8]] {
     match fields {
-        [scope, rest @ ..] if matches!(*scope, b"COMMON" | b"GLOBAL" | b"LOCAL") => rest,
+        [scope, rest @ ..] if is_scope(scope) => rest,
         all => all,
     }
 }
@@ -79,7 +119,7 @@ fn lose_texts<'a>(
     fields: &[&'a [u8]],
 ) -> Result<(), NoMemory> {
     for name in fields {
-        if read_decimal(name).is_none() && !matches!(*name, b"CHAR" | b"VECTOR") {
+        if read_decimal(name).is_none() && !matches!(declared_by(name), Declared::Text) {
             facts.lose(name, here.is_repeated)?;
         }
     }
@@ -94,17 +134,17 @@ pub(crate) fn declaration<'a>(
     rounding: &mut Rounding,
 ) -> Result<Ruling, NoMemory> {
     let behind = declared_fields(said.fields);
-    let kind: &[u8] = match behind {
-        [kind, ..] => kind,
-        [] => &[],
+    let declared = match behind {
+        [kind, ..] => declared_by(kind),
+        [] => Declared::Other,
     };
-    match kind {
-        b"CHAR" | b"VECTOR" => {
+    match declared {
+        Declared::Number => standing(said, rounding),
+        Declared::Text => {
             lose_texts(here, facts, behind)?;
             Ok(Ruling::LeftOut(Reason::TextVariables))
         }
-        b"INTGR" | b"REAL" | b"DOUBLE" | b"LONG" | b"BOOL" => standing(said, rounding),
-        _ => {
+        Declared::Other => {
             lose_fields(facts, said.fields, here.is_repeated)?;
             Ok(Ruling::NotTried(Reason::OtherKinds))
         }
@@ -113,11 +153,8 @@ pub(crate) fn declaration<'a>(
 
 // Whether a text is one to the operator, in quotes.
 fn is_plain_text(rest: &[u8]) -> bool {
-    match rest {
-        [b'O', b'P', b'E', b'R', b',', text @ ..] => match text {
-            [b'\'', text @ .., b'\''] => !text.contains(&b'\''),
-            _ => false,
-        },
+    match rest.strip_prefix(b"OPER,") {
+        Some([b'\'', text @ .., b'\'']) => !text.contains(&b'\''),
         _ => false,
     }
 }
@@ -149,17 +186,41 @@ fn distance(fields: &[&[u8]], is_inch: bool) -> Option<i64> {
     }
 }
 
+// What SNSET sets, as far as rules tell it apart.
+#[derive(Clone, Copy)]
+enum SettingKind {
+    Approach,
+    // Another distance.
+    Distance,
+    // What has no effect here.
+    Passed,
+    Clearance,
+    Other,
+}
+
+// The names of settings.
+const SETTINGS: &[(&[u8], SettingKind)] = &[
+    (b"APPRCH", SettingKind::Approach),
+    (b"RETRCT", SettingKind::Distance),
+    (b"SEARCH", SettingKind::Distance),
+    (b"DEPTH", SettingKind::Distance),
+    (b"MINCON", SettingKind::Passed),
+    (b"FOCUSY", SettingKind::Passed),
+    (b"FOCUSN", SettingKind::Passed),
+    (b"CLRSRF", SettingKind::Clearance),
+];
+
+// The setting of this name.
+fn setting_of(name: &[u8]) -> SettingKind {
+    look_up(SETTINGS, name).unwrap_or(SettingKind::Other)
+}
+
 // A distance of SNSET.
 fn set_distance<'a>(
     said: Said<'_, 'a>,
-    here: &mut Here<'a>,
     facts: &Facts<'a>,
-    name: &[u8],
     rounding: &mut Rounding,
 ) -> Result<Ruling, NoMemory> {
-    if is(name, b"APPRCH") {
-        here.flow.approach = distance(said.fields, said.ground.traits.is_inch);
-    }
     match untried_value(facts, said.parts.rest, said.ground.options.is_exact) {
         Some(reason) => Ok(Ruling::NotTried(reason)),
         None => with_lengths(said, Lengths::From(1, 2), rounding),
@@ -173,19 +234,21 @@ pub(crate) fn setting<'a>(
     facts: &Facts<'a>,
     rounding: &mut Rounding,
 ) -> Result<Ruling, NoMemory> {
-    let (name, is_off): (&[u8], bool) = match said.fields {
-        [name, value, ..] => (name, is(value, b"OFF")),
-        [name] => (name, false),
-        [] => (&[], false),
+    let (setting, is_off) = match said.fields {
+        [name, value, ..] => (setting_of(name), is(value, b"OFF")),
+        [name] => (setting_of(name), false),
+        [] => (SettingKind::Other, false),
     };
-    match name {
-        b"APPRCH" | b"RETRCT" | b"SEARCH" | b"DEPTH" => {
-            set_distance(said, here, facts, name, rounding)
+    match setting {
+        SettingKind::Approach => {
+            here.flow.approach = distance(said.fields, said.ground.traits.is_inch);
+            set_distance(said, facts, rounding)
         }
-        b"MINCON" | b"FOCUSY" | b"FOCUSN" => Ok(Ruling::LeftOut(Reason::SettingsOff)),
+        SettingKind::Distance => set_distance(said, facts, rounding),
+        SettingKind::Passed => Ok(Ruling::LeftOut(Reason::SettingsOff)),
         _ if is_off => Ok(Ruling::LeftOut(Reason::SettingsOff)),
-        b"CLRSRF" => Ok(Ruling::NotTried(Reason::ClearanceMoves)),
-        _ => Ok(Ruling::NotTried(Reason::OtherSettings)),
+        SettingKind::Clearance => Ok(Ruling::NotTried(Reason::ClearanceMoves)),
+        SettingKind::Other => Ok(Ruling::NotTried(Reason::OtherSettings)),
     }
 }
 
@@ -231,7 +294,7 @@ pub(crate) fn notice<'a>(
 ) -> Result<(), NoMemory> {
     let parts = said.parts;
     match parts.word {
-        b"MODE" => {
+        MajorWord::Mode => {
             here.flow.is_manual = parts.rest.starts_with(b"MAN");
             if parts.rest.starts_with(b"AUTO") {
                 page.warn(said.line, Caution::OwnPoints)
@@ -239,8 +302,11 @@ pub(crate) fn notice<'a>(
                 Ok(())
             }
         }
-        b"SNSLCT" => choose_tool(said, here, page),
-        b"PRCOMP" if is(parts.rest, b"OFF") => page.warn(said.line, Caution::TipCentres),
+        MajorWord::SelectSensor => choose_tool(said, here, page),
+        MajorWord::ProbeCompensation if is(parts.rest, b"OFF") => page.warn(
+            said.line,
+            Caution::TipCentres,
+        ),
         _ => Ok(()),
     }
 }

@@ -34,6 +34,24 @@ fn head_of<'a>(said: Said<'_, 'a>) -> &'a [u8] {
     piece(said.bytes, 0, length)
 }
 
+// Appends a field, a length in millimetres, and says whether it could be.
+fn put_field(
+    at: usize,
+    field: &[u8],
+    is_length: bool,
+    rounding: &mut Rounding,
+    out: &mut Vec<u8>,
+) -> Result<bool, NoMemory> {
+    if at != 0 {
+        out.push(b',')?;
+    }
+    if is_length {
+        return put_coordinate(field, 0, true, rounding, out);
+    }
+    out.extend_from_slice(field)?;
+    Ok(true)
+}
+
 // Appends the statement with its lengths in millimetres, and says whether all of them are literals.
 fn put_scaled(
     said: Said<'_, '_>,
@@ -43,15 +61,12 @@ fn put_scaled(
 ) -> Result<bool, NoMemory> {
     out.extend_from_slice(head_of(said))?;
     let mut are_literal = true;
-    for (at, field) in said.fields.iter().enumerate() {
-        if at != 0 {
-            out.push(b',')?;
-        }
-        if lengths.has(at) && !is(field, b"CART") {
-            are_literal = put_coordinate(field, 0, true, rounding, out)? && are_literal;
-        } else {
-            out.extend_from_slice(field)?;
-        }
+    let mut at = 0usize;
+    for field in said.fields {
+        let is_length = lengths.has(at) && !is(field, b"CART");
+        let is_literal = put_field(at, field, is_length, rounding, out)?;
+        are_literal = are_literal && is_literal;
+        at = at.saturating_add(1);
     }
     Ok(are_literal)
 }

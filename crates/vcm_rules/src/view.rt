@@ -1,7 +1,7 @@
 //! What a rule knows of a statement.
 
 use std::alloc::Global;
-use vcm_classes::{Flow, Frame, MACHINE, Options, Outlook, Place, ZERO};
+use vcm_classes::{Flow, Frame, MACHINE, Options, Outlook, Position, ZERO};
 use vcm_sentences::{Parts, Sentence, Table};
 use vcm_spelling::Naming;
 use vcm_standard::Reason;
@@ -143,7 +143,7 @@ impl<'a> Here<'a> {
     }
 
     /// A frame that no other one is, at this origin, is current from here on.
-    pub(crate) fn enter_new(&mut self, origin: Option<Place>) {
+    pub(crate) fn enter_new(&mut self, origin: Option<Position>) {
         self.flow.frame = Frame::Known(self.new_frame());
         self.flow.origin = origin;
     }

@@ -12,9 +12,9 @@ use crate::settings::{assign, declaration, notice, obtain, setting, text, units}
 use crate::spelled::{standing, with_names};
 use crate::view::{Features, Ground, Here, Said, Traits};
 use std::alloc::Global;
-use vcm_classes::{Class, Facts, Options, Ruling, judged, outlooks};
+use vcm_classes::{Class, Facts, Options, Row, Ruling, judged, outlooks};
 use vcm_num::{NoMemory, is};
-use vcm_sentences::{Sentence, fields_of, parts_of};
+use vcm_sentences::{MajorWord, Parts, Sentence, fields_of, parts_of};
 use vcm_spelling::{Naming, spelled_out};
 use vcm_standard::{Reason, WordClass, class_of};
 
@@ -45,14 +45,16 @@ impl<'a> Walk<'a> {
     // ELSE, ENDIF and the like.
     fn block_word(&mut self, said: Said<'_, 'a>) -> Result<Ruling, NoMemory> {
         match said.parts.word {
-            b"ELSE" => self.blocks.next_branch(&mut self.here, true, true),
-            b"CASE" => self.blocks.next_branch(&mut self.here, false, false),
-            b"DFTCAS" => self.blocks.next_branch(&mut self.here, true, false),
-            b"ENDCAS" => self.blocks.end_branch(&mut self.here),
-            b"ENDIF" | b"ENDDO" | b"ENDSEL" => self.blocks.end_block(&mut self.here),
-            b"MACRO" => begin_macro(said, &mut self.here, &self.facts, &mut self.features)?,
-            b"ENDMAC" => end_macro(&mut self.here, &mut self.facts, &mut self.features)?,
-            b"JUMPTO" => jump(said, &self.here, &mut self.facts)?,
+            MajorWord::Else => self.blocks.next_branch(&mut self.here, true, true),
+            MajorWord::Case => self.blocks.next_branch(&mut self.here, false, false),
+            MajorWord::DefaultCase => self.blocks.next_branch(&mut self.here, true, false),
+            MajorWord::EndCase => self.blocks.end_branch(&mut self.here),
+            MajorWord::EndIf | MajorWord::EndDo | MajorWord::EndSelect => self
+                .blocks
+                .end_block(&mut self.here),
+            MajorWord::Macro => begin_macro(said, &mut self.here, &self.facts, &mut self.features)?,
+            MajorWord::EndMacro => end_macro(&mut self.here, &mut self.facts, &mut self.features)?,
+            MajorWord::JumpTo => jump(said, &self.here, &mut self.facts)?,
             _ => {}
         }
         standing(said, &mut self.page.rounding)
@@ -62,19 +64,19 @@ impl<'a> Walk<'a> {
     fn passed_word(&mut self, said: Said<'_, 'a>) -> Result<Ruling, NoMemory> {
         let is_off = is(said.parts.rest, b"OFF");
         match said.parts.word {
-            b"FROM" => {
-                if let Some(place) = home_at(said, &self.here) {
-                    self.page.home = Some((said.line, place));
+            MajorWord::From => {
+                if let Some(position) = home_at(said, &self.here) {
+                    self.page.home = Some((said.line, position));
                 }
                 Ok(Ruling::LeftOut(Reason::Home))
             }
-            b"FLY" => {
+            MajorWord::Fly => {
                 if !is_off {
                     self.page.warn(said.line, Caution::RoundedCorners)?;
                 }
                 Ok(Ruling::LeftOut(Reason::Corners))
             }
-            b"ERROR" => {
+            MajorWord::Error => {
                 if !is_off {
                     self.page.warn(said.line, Caution::FaultJump)?;
                 }
@@ -90,11 +92,11 @@ impl<'a> Walk<'a> {
         let frames = &mut self.frames;
         let page = &mut self.page;
         match said.parts.word {
-            b"TRANS" => translate(said, here, &self.facts, frames, &mut page.rounding),
-            b"ROTATE" => rotate(said, here, frames, &mut page.rounding),
-            b"RECALL" => recall(said, here, frames, &mut page.rounding),
-            b"DATSET" => set_frame(said, here, frames, &self.features, page),
-            b"DATDEF" => datum(said, here, frames),
+            MajorWord::Translate => translate(said, here, &self.facts, frames, &mut page.rounding),
+            MajorWord::Rotate => rotate(said, here, frames, &mut page.rounding),
+            MajorWord::Recall => recall(said, here, frames, &mut page.rounding),
+            MajorWord::DatumSet => set_frame(said, here, frames, &self.features, page),
+            MajorWord::DatumDefinition => datum(said, here, frames),
             _ => self.passed_word(said),
         }
     }
@@ -103,9 +105,9 @@ impl<'a> Walk<'a> {
     fn flow_word(&mut self, said: Said<'_, 'a>) -> Result<Ruling, NoMemory> {
         let rounding = &mut self.page.rounding;
         let kind = match said.parts.word {
-            b"IF" => return test(said, &self.here, &self.facts, &mut self.blocks, rounding),
-            b"DO" => BlockKind::Loop,
-            b"SELECT" => BlockKind::Selection,
+            MajorWord::If => return test(said, &self.here, &self.facts, &mut self.blocks, rounding),
+            MajorWord::Do => BlockKind::Loop,
+            MajorWord::Select => BlockKind::Selection,
             _ => return self.frame_word(said),
         };
         begin_block(
@@ -123,9 +125,9 @@ impl<'a> Walk<'a> {
         let here = &mut self.here;
         let rounding = &mut self.page.rounding;
         match said.parts.word {
-            b"CALL" => call(said, here, &mut self.facts, &mut self.features, rounding),
-            b"SNSET" => setting(said, here, &self.facts, rounding),
-            b"UNITS" => units(said, rounding),
+            MajorWord::Call => call(said, here, &mut self.facts, &mut self.features, rounding),
+            MajorWord::SensorSetting => setting(said, here, &self.facts, rounding),
+            MajorWord::Units => units(said, rounding),
             _ => self.flow_word(said),
         }
     }
@@ -136,10 +138,10 @@ impl<'a> Walk<'a> {
         let facts = &mut self.facts;
         let rounding = &mut self.page.rounding;
         match said.parts.word {
-            b"OBTAIN" => obtain(said, here, facts, &self.features, rounding),
-            b"ASSIGN" => assign(said, here, facts, rounding),
-            b"DECL" => declaration(said, here, facts, rounding),
-            b"TEXT" => text(said, here, facts, rounding),
+            MajorWord::Obtain => obtain(said, here, facts, &self.features, rounding),
+            MajorWord::Assign => assign(said, here, facts, rounding),
+            MajorWord::Declare => declaration(said, here, facts, rounding),
+            MajorWord::Text => text(said, here, facts, rounding),
             _ => self.setting_word(said),
         }
     }
@@ -150,11 +152,11 @@ impl<'a> Walk<'a> {
         let features = &mut self.features;
         let page = &mut self.page;
         match said.parts.word {
-            b"PTMEAS" => point(said, here, &self.facts, &mut page.rounding),
-            b"MEAS" => begin_measuring(said, here, features, &mut page.rounding),
-            b"ENDMES" => end_measuring(said, here, features, page),
-            b"FEAT" => feature(said, here, &self.facts, features, &mut page.rounding),
-            b"OUTPUT" => output(said, here, features, page),
+            MajorWord::PointMeasure => point(said, here, &self.facts, &mut page.rounding),
+            MajorWord::Measure => begin_measuring(said, here, features, &mut page.rounding),
+            MajorWord::EndMeasure => end_measuring(said, here, features, page),
+            MajorWord::Feature => feature(said, here, &self.facts, features, &mut page.rounding),
+            MajorWord::Output => output(said, here, features, page),
             _ => self.value_word(said),
         }
     }
@@ -164,10 +166,10 @@ impl<'a> Walk<'a> {
         let here = &mut self.here;
         let rounding = &mut self.page.rounding;
         match said.parts.word {
-            b"GOTO" => go_to(said, here, &self.facts, rounding),
-            b"GOHOME" => go_home(said, here, rounding),
-            b"GOTARG" => Ok(go_target(said, here)),
-            b"ENDGO" => end_target(said, here, &self.facts, rounding),
+            MajorWord::Goto => go_to(said, here, &self.facts, rounding),
+            MajorWord::GoHome => go_home(said, here, rounding),
+            MajorWord::GoTarget => Ok(go_target(said, here)),
+            MajorWord::EndGo => end_target(said, here, &self.facts, rounding),
             _ => self.measuring_word(said),
         }
     }
@@ -201,7 +203,7 @@ impl<'a> Walk<'a> {
 
     // What the rules say of a statement by its word.
     fn by_word(&mut self, said: Said<'_, 'a>) -> Result<Ruling, NoMemory> {
-        match class_of(said.parts.word) {
+        match class_of(said.parts.spelled) {
             Some(WordClass::Ruled) => self.ruled(said),
             Some(WordClass::Notice) => self.noticed(said),
             Some(WordClass::LeftOut(reason)) => Ok(Ruling::LeftOut(reason)),
@@ -225,7 +227,7 @@ impl<'a> Walk<'a> {
                 &mut self.blocks,
             );
         }
-        if said.parts.word.is_empty() && !said.parts.title.is_empty() {
+        if said.parts.spelled.is_empty() && !said.parts.title.is_empty() {
             arrive(&mut self.here, &self.facts, said.parts.title);
             return standing(said, &mut self.page.rounding);
         }
@@ -235,10 +237,16 @@ impl<'a> Walk<'a> {
     // Adds the row of a statement.
     fn add(&mut self, sentence: &Sentence, said: Said<'_, 'a>) -> Result<(), NoMemory> {
         let ruling = self.ruling(said)?;
-        let ruling = with_names(said, ruling)?;
-        let row = judged(said.ground.alloc, sentence, &ruling)?;
+        let row = row_of(sentence, said, ruling)?;
         self.page.rows.push(row)?;
         Ok(())
+    }
+
+    // A statement that is taken apart.
+    fn take(&mut self, sentence: &Sentence, said: Said<'_, 'a>) -> Result<(), NoMemory> {
+        self.look_around(said.ground.traits.has_jumps);
+        self.add(sentence, said)?;
+        self.behind(said)
     }
 
     // Whether the statements here are carried out once, and whether they may be carried out behind later ones.
@@ -263,9 +271,7 @@ impl<'a> Walk<'a> {
             fields: fields.as_slice(),
             is_taken: sentence.fault.is_none(),
         };
-        self.look_around(ground.traits.has_jumps);
-        self.add(sentence, said)?;
-        self.behind(said)
+        self.take(sentence, said)
     }
 
     // The statements of the text, one by one.
@@ -284,12 +290,12 @@ impl<'a> Walk<'a> {
     // What goes with a statement that isn't tried: a block with its beginning, a setting.
     fn behind_untried(&mut self, said: Said<'_, 'a>, reason: Reason) -> Result<(), NoMemory> {
         match said.parts.word {
-            b"IF" | b"DO" | b"SELECT" => {
+            MajorWord::If | MajorWord::Do | MajorWord::Select => {
                 self.blocks.open.pop();
                 self.blocks.stretch = Some(Stretch { depth: 1, reason });
                 Ok(())
             }
-            b"SNSET" => self.lose(said),
+            MajorWord::SensorSetting => self.lose(said),
             _ => Ok(()),
         }
     }
@@ -315,6 +321,12 @@ impl<'a> Walk<'a> {
     }
 }
 
+// The row of a statement of which the rules say this.
+fn row_of(sentence: &Sentence, said: Said<'_, '_>, ruling: Ruling) -> Result<Row, NoMemory> {
+    let ruling = with_names(said, ruling)?;
+    judged(said.ground.alloc, sentence, &ruling)
+}
+
 // The bytes of a statement, its numbers spelled out.
 fn bytes_of<'a>(ground: &Ground<'a>, row: usize, sentence: &'a Sentence) -> &'a [u8] {
     match ground.plains.get(row) {
@@ -323,7 +335,7 @@ fn bytes_of<'a>(ground: &Ground<'a>, row: usize, sentence: &'a Sentence) -> &'a 
     }
 }
 
-// The most readings of a text.
+// The most readings of a text in which something new is found out.
 const READINGS: u32 = 12;
 
 // One reading of the text: what is found out, and the rows.
@@ -337,20 +349,26 @@ fn read<'a>(ground: &Ground<'a>, facts: Facts<'a>) -> Result<(Facts<'a>, Page), 
     }
 }
 
+// The last reading, where nothing was found out for sure.
+fn read_unsure<'a>(ground: &Ground<'a>, mut facts: Facts<'a>) -> Result<Page, NoMemory> {
+    facts.give_up();
+    match read(ground, facts) {
+        Ok((_, page)) => Ok(page),
+        Err(fault) => Err(fault),
+    }
+}
+
 // What the readings of the text find out until nothing new comes, and the rows of the last one.
 fn read_all<'a>(ground: &Ground<'a>) -> Result<Page, NoMemory> {
-    let mut found = read(ground, Facts::new(ground.alloc))?;
-    for reading in 0..READINGS {
-        let (mut facts, page) = found;
-        if !facts.take_growth(ground.alloc) {
+    let mut facts = Facts::new(ground.alloc);
+    for _ in 0..READINGS {
+        let (mut found, page) = read(ground, facts)?;
+        if !found.take_growth(ground.alloc) {
             return Ok(page);
         }
-        if reading == READINGS - 1 {
-            facts.give_up();
-        }
-        found = read(ground, facts)?;
+        facts = found;
     }
-    Ok(found.1)
+    read_unsure(ground, facts)
 }
 
 // What the rows and what is told beside them say.
@@ -380,24 +398,35 @@ fn is_real(rest: &[u8]) -> bool {
         .any(|window| is(window, b"REAL") || is(window, b"DOUB"))
 }
 
-// What a text has with this statement besides.
-fn with_statement(traits: Traits, units: u32, word: &[u8], rest: &[u8]) -> Traits {
-    let is_inch = rest.starts_with(b"INCH");
-    match word {
-        b"UNITS" if units == 0 => Traits { is_inch, ..traits },
-        b"UNITS" => Traits {
+// What a text has with UNITS besides, behind so many others.
+fn with_units(traits: Traits, units: u32, is_inch: bool) -> Traits {
+    if units == 0 {
+        Traits { is_inch, ..traits }
+    } else {
+        Traits {
             is_followed: traits.is_followed && is_inch == traits.is_inch,
             ..traits
-        },
-        b"ROTATE" => Traits {
+        }
+    }
+}
+
+// What a text has with this statement besides.
+fn with_statement(traits: Traits, units: u32, parts: Parts<'_>) -> Traits {
+    match parts.word {
+        MajorWord::Units => with_units(traits, units, parts.rest.starts_with(b"INCH")),
+        MajorWord::Rotate => Traits {
             has_angles: true,
             ..traits
         },
-        b"GOTO" | b"PTMEAS" | b"FROM" | b"GOTARG" | b"FEAT" => Traits {
-            has_angles: traits.has_angles || rest.starts_with(b"POL"),
+        MajorWord::Goto
+        | MajorWord::PointMeasure
+        | MajorWord::From
+        | MajorWord::GoTarget
+        | MajorWord::Feature => Traits {
+            has_angles: traits.has_angles || parts.rest.starts_with(b"POL"),
             ..traits
         },
-        b"JUMPTO" => Traits {
+        MajorWord::JumpTo => Traits {
             has_jumps: true,
             ..traits
         },
@@ -417,11 +446,11 @@ fn traits_of(sentences: &[Sentence]) -> Traits {
     let mut has_lengths = false;
     for sentence in sentences {
         let parts = parts_of(&sentence.bytes);
-        traits = with_statement(traits, units, parts.word, parts.rest);
-        if is(parts.word, b"UNITS") {
+        traits = with_statement(traits, units, parts);
+        if parts.word.is(MajorWord::Units) {
             units = units.saturating_add(1);
         }
-        has_lengths = has_lengths || is(parts.word, b"DECL") && is_real(parts.rest);
+        has_lengths = has_lengths || parts.word.is(MajorWord::Declare) && is_real(parts.rest);
     }
     Traits {
         is_followed: traits.is_followed && !(traits.is_inch && has_lengths),
@@ -452,6 +481,27 @@ fn points_of(
     }
 }
 
+// What becomes of each statement, where it is known what stands behind it.
+fn surveyed_ahead<'x>(text: &[u8], ground: Ground<'x>) -> Result<Surveyed, NoMemory> {
+    let plains = plains_of(ground.alloc, ground.sentences)?;
+    surveyed_plainly(
+        text,
+        Ground {
+            plains: plains.as_slice(),
+            ..ground
+        },
+    )
+}
+
+// What becomes of each statement, where its numbers are spelled out.
+fn surveyed_plainly<'x>(text: &[u8], ground: Ground<'x>) -> Result<Surveyed, NoMemory> {
+    let front = front_of(ground.alloc, text)?;
+    outcome(&Ground {
+        front: front.as_slice(),
+        ..ground
+    })
+}
+
 // What becomes of each statement, with new names and the names of points.
 fn surveyed_with<'x>(
     alloc: Global,
@@ -462,19 +512,20 @@ fn surveyed_with<'x>(
     points: &'x [Vec<u8>],
 ) -> Result<Surveyed, NoMemory> {
     let outlooks = outlooks(alloc, sentences)?;
-    let plains = plains_of(alloc, sentences)?;
-    let front = front_of(alloc, text)?;
-    outcome(&Ground {
-        alloc,
-        options,
-        naming,
-        sentences,
-        outlooks: outlooks.as_slice(),
-        plains: plains.as_slice(),
-        points,
-        front: front.as_slice(),
-        traits: traits_of(sentences),
-    })
+    surveyed_ahead(
+        text,
+        Ground {
+            alloc,
+            options,
+            naming,
+            sentences,
+            outlooks: outlooks.as_slice(),
+            plains: &[],
+            points,
+            front: &[],
+            traits: traits_of(sentences),
+        },
+    )
 }
 
 /// What becomes of each statement of a text, of which these are all.

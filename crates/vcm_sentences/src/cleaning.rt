@@ -2,20 +2,20 @@
 
 use vcm_num::NoMemory;
 
-// Where in a line the next byte stands.
+// The part of a line that the next byte stands in.
 #[derive(Clone, Copy)]
-enum Place {
-    Outside,
-    InText,
-    // Behind a dollar.
+enum LinePart {
+    Plain,
+    Text,
+    // What stands behind a dollar.
     BehindDollar,
-    InComment,
+    Comment,
 }
 
 /// Gathers the bytes of a statement: without blanks and comments, in upper case outside texts.
 #[derive(Drop)]
 pub struct Cleaner {
-    place: Place,
+    part: LinePart,
     goes_on: bool,
 }
 
@@ -23,7 +23,7 @@ impl Cleaner {
     /// Nothing yet.
     pub fn new() -> Cleaner {
         Cleaner {
-            place: Place::Outside,
+            part: LinePart::Plain,
             goes_on: false,
         }
     }
@@ -32,9 +32,9 @@ impl Cleaner {
     fn plain(&mut self, byte: u8, out: &mut Vec<u8>) -> Result<(), NoMemory> {
         match byte {
             b' ' | b'\t' | b'\r' | b'\n' => {}
-            b'$' => self.place = Place::BehindDollar,
+            b'$' => self.part = LinePart::BehindDollar,
             b'\'' => {
-                self.place = Place::InText;
+                self.part = LinePart::Text;
                 out.push(byte)?;
             }
             _ => out.push(byte.to_ascii_uppercase())?,
@@ -45,7 +45,7 @@ impl Cleaner {
     // A byte in a text.
     fn quoted(&mut self, byte: u8, out: &mut Vec<u8>) -> Result<(), NoMemory> {
         if byte == b'\'' {
-            self.place = Place::Outside;
+            self.part = LinePart::Plain;
         }
         if byte != b'\n' {
             out.push(byte)?;
@@ -54,30 +54,30 @@ impl Cleaner {
     }
 
     fn byte(&mut self, byte: u8, out: &mut Vec<u8>) -> Result<(), NoMemory> {
-        match self.place {
-            Place::Outside => self.plain(byte, out),
-            Place::InText => self.quoted(byte, out),
-            Place::BehindDollar if byte == b'$' => {
-                self.place = Place::InComment;
+        match self.part {
+            LinePart::Plain => self.plain(byte, out),
+            LinePart::Text => self.quoted(byte, out),
+            LinePart::BehindDollar if byte == b'$' => {
+                self.part = LinePart::Comment;
                 Ok(())
             }
-            Place::BehindDollar => {
+            LinePart::BehindDollar => {
                 self.goes_on = true;
-                self.place = Place::Outside;
+                self.part = LinePart::Plain;
                 self.plain(byte, out)
             }
-            Place::InComment => Ok(()),
+            LinePart::Comment => Ok(()),
         }
     }
 
     /// Adds the bytes of a line, and says whether the statement goes on behind it.
     pub fn line(&mut self, line: &[u8], out: &mut Vec<u8>) -> Result<bool, NoMemory> {
-        self.place = Place::Outside;
+        self.part = LinePart::Plain;
         self.goes_on = false;
         for byte in line {
             self.byte(*byte, out)?;
         }
-        Ok(self.goes_on || matches!(self.place, Place::BehindDollar))
+        Ok(self.goes_on || matches!(self.part, LinePart::BehindDollar))
     }
 }
 

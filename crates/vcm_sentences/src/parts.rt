@@ -1,5 +1,6 @@
 //! The parts of a statement.
 
+use crate::words::{MajorWord, word_of};
 use std::alloc::Global;
 use vcm_num::NoMemory;
 
@@ -8,7 +9,9 @@ use vcm_num::NoMemory;
 pub struct Parts<'a> {
     pub kind: &'a [u8],
     pub title: &'a [u8],
-    pub word: &'a [u8],
+    /// The word as it is spelled.
+    pub spelled: &'a [u8],
+    pub word: MajorWord,
     pub rest: &'a [u8],
 }
 
@@ -19,6 +22,11 @@ pub fn piece(bytes: &[u8], from: usize, to: usize) -> &[u8] {
     } else {
         &[]
     }
+}
+
+/// What stands between this front and a parenthesis at the end, if both are there.
+pub fn enclosed<'a>(bytes: &'a [u8], front: &[u8]) -> Option<&'a [u8]> {
+    bytes.strip_prefix(front)?.strip_suffix(b")")
 }
 
 /// Whether a byte may stand in a name.
@@ -42,7 +50,7 @@ fn split_at_byte(bytes: &[u8], mark: u8) -> Option<(&[u8], &[u8])> {
 
 // A word and what stands behind its slash.
 fn worded<'a>(kind: &'a [u8], title: &'a [u8], body: &'a [u8]) -> Parts<'a> {
-    let (word, behind) = split_name(body);
+    let (spelled, behind) = split_name(body);
     let rest = match behind {
         [b'/', rest @ ..] => rest,
         _ => behind,
@@ -50,7 +58,8 @@ fn worded<'a>(kind: &'a [u8], title: &'a [u8], body: &'a [u8]) -> Parts<'a> {
     Parts {
         kind,
         title,
-        word,
+        spelled,
+        word: word_of(spelled),
         rest,
     }
 }

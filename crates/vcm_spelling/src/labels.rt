@@ -1,7 +1,7 @@
 //! Where labels stand in a statement.
 
 use std::alloc::Global;
-use vcm_num::{NoMemory, is};
+use vcm_num::{NoMemory, is, look_up};
 use vcm_sentences::{is_name_byte, piece};
 
 /// The longest name.
@@ -25,29 +25,35 @@ pub enum Named {
 
 /// A label: what it names, and where it stands.
 #[derive(Clone, Copy)]
-pub(crate) struct Label {
+pub(crate) struct LabelSpan {
     pub(crate) named: Named,
     pub(crate) from: usize,
     pub(crate) to: usize,
 }
 
+// The letters in front of a label's parenthesis.
+const LETTERS: &[(&[u8], Named)] = &[
+    (b"F", Named::Feature),
+    (b"FA", Named::Feature),
+    (b"D", Named::Frame),
+    (b"M", Named::Macro),
+    (b"S", Named::Sensor),
+    (b"SA", Named::Sensor),
+    (b"V", Named::Format),
+];
+
 // What stands in parentheses behind these bytes, where `is_jump` says whether a jump label may.
 fn named_behind(word: &[u8], is_jump: bool) -> Option<Named> {
-    match word {
-        b"F" | b"FA" => Some(Named::Feature),
-        b"D" => Some(Named::Frame),
-        b"M" => Some(Named::Macro),
-        b"S" | b"SA" => Some(Named::Sensor),
-        b"V" => Some(Named::Format),
-        b"" if is_jump => Some(Named::Mark),
-        _ => None,
+    if word.is_empty() && is_jump {
+        return Some(Named::Mark);
     }
+    look_up(LETTERS, word)
 }
 
 // A walk over the bytes of a statement.
 #[derive(Drop)]
 struct Scan {
-    labels: Vec<Label>,
+    labels: Vec<LabelSpan>,
     // Where the word begins that the next byte goes on with.
     word_from: usize,
     // The label that was begun.
@@ -84,7 +90,7 @@ impl Scan {
     // The end of the label that was begun.
     fn close(&mut self, at: usize) -> Result<(), NoMemory> {
         if let Some((named, from)) = self.begun {
-            self.labels.push(Label {
+            self.labels.push(LabelSpan {
                 named,
                 from,
                 to: at,
@@ -109,7 +115,7 @@ impl Scan {
     fn end_word(&mut self, at: usize) -> Result<(), NoMemory> {
         let is_free = self.takes.variables && self.begun.is_none() && !self.is_passed;
         if is_free && at.saturating_sub(self.word_from) > LONGEST {
-            self.labels.push(Label {
+            self.labels.push(LabelSpan {
                 named: Named::Variable,
                 from: self.word_from,
                 to: at,
@@ -148,7 +154,11 @@ impl Scan {
 }
 
 /// The labels of a statement, in order.
-pub(crate) fn labels_of(alloc: Global, bytes: &[u8], takes: Takes) -> Result<Vec<Label>, NoMemory> {
+pub(crate) fn labels_of(
+    alloc: Global,
+    bytes: &[u8],
+    takes: Takes,
+) -> Result<Vec<LabelSpan>, NoMemory> {
     let mut scan = Scan {
         labels: Vec::new(alloc),
         word_from: 0,

@@ -1,10 +1,10 @@
 //! Names that the subset can't have, and those that stand for them.
 
-use crate::labels::{LONGEST, Label, Named, Takes, labels_of};
+use crate::labels::{LONGEST, LabelSpan, Named, Takes, labels_of};
 use indexmap::{IndexMap, IndexSet};
 use std::alloc::Global;
-use vcm_num::{NoMemory, is, write_int};
-use vcm_sentences::{Parts, Sentence, fields_of, is_name_byte, parts_of, piece};
+use vcm_num::{NoMemory, write_int};
+use vcm_sentences::{MajorWord, Parts, Sentence, fields_of, is_name_byte, parts_of, piece};
 
 /// A name and the one that stands for it.
 #[derive(Drop)]
@@ -120,10 +120,10 @@ impl<'a> Naming<'a> {
 
     // Notes the variables that a statement declares, or gives a value.
     fn note_variables(&mut self, parts: Parts<'a>) -> Result<(), NoMemory> {
-        if parts.kind.is_empty() && !parts.title.is_empty() && !parts.word.is_empty() {
+        if parts.kind.is_empty() && !parts.title.is_empty() && !parts.spelled.is_empty() {
             self.note_variable(parts.title)?;
         }
-        if !is(parts.word, b"DECL") && !is(parts.word, b"MACRO") {
+        if !matches!(parts.word, MajorWord::Declare | MajorWord::Macro) {
             return Ok(());
         }
         let fields = fields_of(self.alloc, parts.rest)?;
@@ -248,7 +248,7 @@ impl<'a> Naming<'a> {
     }
 
     // Appends the bytes of a statement with the new names for these labels, and says whether there is one.
-    fn put(&self, bytes: &[u8], labels: &[Label], out: &mut Vec<u8>) -> Result<bool, NoMemory> {
+    fn put(&self, bytes: &[u8], labels: &[LabelSpan], out: &mut Vec<u8>) -> Result<bool, NoMemory> {
         let mut from = 0;
         let mut is_new = false;
         for label in labels {
@@ -302,6 +302,5 @@ fn takes_of(bytes: &[u8], quoted: bool, variables: bool) -> Takes {
 
 // Whether names in quotes are those of features and frames there.
 fn has_names(bytes: &[u8]) -> bool {
-    let word = parts_of(bytes).word;
-    is(word, b"CALL") || is(word, b"MACRO")
+    matches!(parts_of(bytes).word, MajorWord::Call | MajorWord::Macro)
 }

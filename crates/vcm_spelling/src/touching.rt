@@ -4,14 +4,14 @@ use crate::labels::Named;
 use crate::naming::Naming;
 use crate::places::{Direction, direction_of};
 use std::alloc::Global;
-use vcm_num::{NoMemory, is, write_int};
-use vcm_sentences::{Parts, Sentence, fields_of, parts_of};
+use vcm_num::{NoMemory, write_int};
+use vcm_sentences::{MajorWord, Parts, Sentence, enclosed, fields_of, parts_of};
 
 // The feature of a MEAS, if it names one.
 fn measured<'a>(alloc: Global, parts: Parts<'a>) -> Result<Option<&'a [u8]>, NoMemory> {
     let fields = fields_of(alloc, parts.rest)?;
     Ok(match fields.as_slice() {
-        [_, [b'F', b'(', label @ .., b')'], ..] => Some(label),
+        [_, feature, ..] => enclosed(feature, b"F("),
         _ => None,
     })
 }
@@ -66,14 +66,17 @@ impl<'a> Naming<'a> {
         for sentence in sentences {
             let parts = parts_of(&sentence.bytes);
             let mut name = Vec::new(alloc);
-            if is(parts.word, b"MEAS") {
-                label = measured(alloc, parts)?;
-                number = 0;
-            } else if is(parts.word, b"ENDMES") {
-                label = None;
-            } else if is(parts.word, b"PTMEAS") {
-                number = number.saturating_add(1);
-                name = self.point_name(alloc, label, number, parts)?;
+            match parts.word {
+                MajorWord::Measure => {
+                    label = measured(alloc, parts)?;
+                    number = 0;
+                }
+                MajorWord::EndMeasure => label = None,
+                MajorWord::PointMeasure => {
+                    number = number.saturating_add(1);
+                    name = self.point_name(alloc, label, number, parts)?;
+                }
+                _ => {}
             }
             names.push(name)?;
         }

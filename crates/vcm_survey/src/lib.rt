@@ -15,5 +15,5 @@ pub use adapting::{Adaptation, adapt, adapted_text};
 pub use faults::{Told, faults_in, faults_of};
 pub use reading::{Reading, read_text};
 pub use surveying::{Findings, Shape, survey};
-pub use vcm_rules::{GivenFrame, Options, Place, Stand, Turn};
+pub use vcm_rules::{GivenFrame, Options, Position, Stand, Turn};
 pub use words::fault_words;

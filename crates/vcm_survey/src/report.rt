@@ -8,7 +8,7 @@ use crate::groups::{put_count, put_groups};
 use crate::words::{caution_words, count_words};
 use std::alloc::Global;
 use vcm_num::{NoMemory, write_int};
-use vcm_rules::{Caution, Class, Place, Renaming, Row, Surveyed};
+use vcm_rules::{Caution, Class, Position, Renaming, Row, Surveyed};
 
 /// How many statements have a class.
 pub(crate) fn count_of(rows: &[Row], class: Class) -> usize
@@ -147,18 +147,18 @@ fn put_line_number(line: u32, out: &mut Vec<u8>) -> Result<(), NoMemory> {
 }
 
 // Appends where home is, where the text says it.
-fn put_home(home: Option<(u32, Place)>, out: &mut Vec<u8>) -> Result<(), NoMemory> {
-    let Some((line, place)) = home else {
+fn put_home(home: Option<(u32, Position)>, out: &mut Vec<u8>) -> Result<(), NoMemory> {
+    let Some((line, position)) = home else {
         return Ok(());
     };
     out.extend_from_slice(b"home\n")?;
     put_line_number(line, out)?;
     out.extend_from_slice(b"home = [")?;
-    write_int(place.x, out)?;
+    write_int(position.x, out)?;
     out.extend_from_slice(b", ")?;
-    write_int(place.y, out)?;
+    write_int(position.y, out)?;
     out.extend_from_slice(b", ")?;
-    write_int(place.z, out)?;
+    write_int(position.z, out)?;
     out.extend_from_slice(b"]\n")?;
     Ok(())
 }
