@@ -1,5 +1,5 @@
 -- How much wider the tip may be: the greatest half width with which a run goes as it does with the workpiece's own tip.
-use Rattle.std.specs.Prelude.{◌≡◌, ℕ, ◌+◌, ◌≤◌, false, IsTrue, Option, Some, None}
+use Rattle.std.specs.Prelude.{◌≡◌, ℕ, ◌+◌, ◌≤◌, false, IsTrue, Option, Some, None, suc}
 use Rattle.vcm_spec.specs.Workpiece.{Workpiece}
 use Rattle.vcm_code.specs.declared.code.Code.{Code}
 use Rattle.vcm_part.specs.Tip.{with_tip, is_tip}
