@@ -266,24 +266,6 @@ fn is_unwritten<C: Fn(&mut Failing<'_>, &mut Seen<'_>) -> Ending>(
         && !out.writer.is_asked_again
 }
 
-// What a command does wrong where each of three reads fails, a line each.
-fn tell_reads<C: Fn(&mut Failing<'_>, &mut Seen<'_>) -> Ending>(
-    alloc: Global,
-    input: &[u8],
-    whole: Whole<'_>,
-    command: &C,
-    wrong: &mut String,
-) -> Option<()>
-    requires { C.IsAlwaysCallable command.now }
-{
-    for number in numbers(whole.reads) {
-        if number > 0 && !is_unread(alloc, input, number, whole.text, command) {
-            writeln!(wrong, "read {number} fails").ok()?;
-        }
-    }
-    Some(())
-}
-
 // What goes wrong at the write of a number, which is tried at this place among three: it fails, or takes no byte, by turns.
 fn trouble_at(place: usize, number: usize, writes: usize) -> Trouble {
     if place % 2 == writes / 2 % 2 {
@@ -293,39 +275,68 @@ fn trouble_at(place: usize, number: usize, writes: usize) -> Trouble {
     }
 }
 
-// What a command does wrong where each of three writes fails, or takes no byte, a line each.
-fn tell_writes<C: Fn(&mut Failing<'_>, &mut Seen<'_>) -> Ending>(
-    alloc: Global,
-    input: &[u8],
-    whole: Whole<'_>,
-    command: &C,
-    wrong: &mut String,
-) -> Option<()>
-    requires { C.IsAlwaysCallable command.now }
-{
-    for (place, number) in numbers(whole.writes).iter().enumerate() {
-        let trouble = trouble_at(place, *number, whole.writes);
-        if *number > 0 && !is_unwritten(alloc, input, trouble, whole, command) {
-            writeln!(wrong, "write {number} fails, or takes no byte").ok()?;
-        }
-    }
-    Some(())
+/// The calls that fail.
+#[derive(Clone, Copy)]
+enum Calls {
+    Reads,
+    Writes,
+    Flushes,
 }
 
-// What a command does wrong where each of three flushes fails, a line each.
-fn tell_flushes<C: Fn(&mut Failing<'_>, &mut Seen<'_>) -> Ending>(
+impl Calls {
+    // How many there are where nothing fails.
+    fn count(self, whole: Whole<'_>) -> usize {
+        match self {
+            Calls::Reads => whole.reads,
+            Calls::Writes => whole.writes,
+            Calls::Flushes => whole.flushes,
+        }
+    }
+
+    // How one of them is told.
+    fn word(self) -> &'static str {
+        match self {
+            Calls::Reads => "read",
+            Calls::Writes => "write",
+            Calls::Flushes => "flush",
+        }
+    }
+}
+
+// Whether a command does what it should where the call of a number fails, which is tried at this place among three.
+fn is_right<C: Fn(&mut Failing<'_>, &mut Seen<'_>) -> Ending>(
     alloc: Global,
     input: &[u8],
+    calls: Calls,
+    place: usize,
+    number: usize,
+    whole: Whole<'_>,
+    command: &C,
+) -> bool
+    requires { C.IsAlwaysCallable command.now }
+{
+    let trouble = match calls {
+        Calls::Reads => return is_unread(alloc, input, number, whole.text, command),
+        Calls::Writes => trouble_at(place, number, whole.writes),
+        Calls::Flushes => Trouble::FailsToFlush(number),
+    };
+    is_unwritten(alloc, input, trouble, whole, command)
+}
+
+// What a command does wrong where three of these calls fail, a line each.
+fn tell_wrong<C: Fn(&mut Failing<'_>, &mut Seen<'_>) -> Ending>(
+    alloc: Global,
+    input: &[u8],
+    calls: Calls,
     whole: Whole<'_>,
     command: &C,
     wrong: &mut String,
 ) -> Option<()>
     requires { C.IsAlwaysCallable command.now }
 {
-    for number in numbers(whole.flushes) {
-        let trouble = Trouble::FailsToFlush(number);
-        if number > 0 && !is_unwritten(alloc, input, trouble, whole, command) {
-            writeln!(wrong, "flush {number} fails").ok()?;
+    for (place, number) in numbers(calls.count(whole)).iter().enumerate() {
+        if *number > 0 && !is_right(alloc, input, calls, place, *number, whole, command) {
+            writeln!(wrong, "{} {number} fails", calls.word()).ok()?;
         }
     }
     Some(())
@@ -360,8 +371,8 @@ pub(crate) fn failures<C: Fn(&mut Failing<'_>, &mut Seen<'_>) -> Ending>(
         writes: out.writer.writes,
         flushes: out.writer.flushes,
     };
-    tell_reads(alloc, input, whole, &command, &mut wrong)?;
-    tell_writes(alloc, input, whole, &command, &mut wrong)?;
-    tell_flushes(alloc, input, whole, &command, &mut wrong)?;
+    for calls in [Calls::Reads, Calls::Writes, Calls::Flushes] {
+        tell_wrong(alloc, input, calls, whole, &command, &mut wrong)?;
+    }
     Some(wrong)
 }

@@ -1,7 +1,7 @@
 //! The commands that rows ask, each between devices that fail.
 
 use crate::answers::Unseen;
-use crate::devices::{Ending, Steps, ending_of, ending_told, failures};
+use crate::devices::{Ending, Failing, Seen, Steps, ending_of, ending_told, failures};
 use std::alloc::Global;
 use std::rt::Files;
 use vcm_boxes::read_boxes;
@@ -136,18 +136,83 @@ pub(crate) fn run_failures(alloc: Global, part: &str, program: &str, steps: u64)
     })
 }
 
-/// What a view of a run does wrong.
-pub(crate) fn view_failures(
+/// What a command shows of a run.
+#[derive(Clone, Copy)]
+pub(crate) enum Showing<'a> {
+    View(RunView<'a>),
+    Why,
+    Contacts,
+    /// The steps of a page.
+    Story,
+    Sheet,
+}
+
+// The page of a run without its fixed texts.
+fn show_page(
     alloc: Global,
-    view: RunView<'_>,
+    part: &PartData,
+    input: &mut Failing<'_>,
+    steps: u64,
+    out: &mut Seen<'_>,
+) -> Ending {
+    let texts = Texts {
+        front: &[],
+        back: &[],
+    };
+    ending_of(page_of(alloc, part, texts, input, steps, out))
+}
+
+// The sheet of a run.
+fn show_sheet(
+    alloc: Global,
+    part: &PartData,
+    input: &mut Failing<'_>,
+    steps: u64,
+    out: &mut Seen<'_>,
+) -> Ending {
+    let titles = Titles {
+        program_name: b"t.dmi",
+        part_name: b"t.toml",
+        block_names: &[],
+        lines: ALL_LINES,
+        is_close: false,
+    };
+    ending_of(write_sheet_of(alloc, titles, part, input, steps, out))
+}
+
+// Shows it of the run of a program, for so many steps.
+fn show(
+    alloc: Global,
+    showing: Showing<'_>,
+    part: &PartData,
+    input: &mut Failing<'_>,
+    steps: u64,
+    out: &mut Seen<'_>,
+) -> Ending {
+    match showing {
+        Showing::View(view) => ending_of(view_of(alloc, view, part, input, steps, out)),
+        Showing::Why => ending_of(write_why(alloc, part, input, steps, out)),
+        Showing::Contacts => ending_of(tell_contacts(alloc, part, input, steps, out)),
+        Showing::Story => show_page(alloc, part, input, steps, out),
+        Showing::Sheet => show_sheet(alloc, part, input, steps, out),
+    }
+}
+
+/// What a command does wrong that shows this of a run.
+pub(crate) fn show_failures(
+    alloc: Global,
+    showing: Showing<'_>,
     part: &str,
     program: &str,
     steps: u64,
 ) -> Option<String> {
     beside(alloc, part, |part| {
-        failures(alloc, program.as_bytes(), Steps::Any, |input, out| {
-            ending_of(view_of(alloc, view, part, input, steps.min(FEW), out))
-        })
+        failures(
+            alloc,
+            program.as_bytes(),
+            Steps::Any,
+            |input, out| show(alloc, showing, part, input, steps.min(FEW), out),
+        )
     })
 }
 
@@ -160,66 +225,12 @@ pub(crate) fn clearance_failures(
     steps: u64,
 ) -> Option<String> {
     match read_boxes(alloc, probe.as_bytes()) {
-        Ok(boxes) => view_failures(alloc, RunView::Clearance(&boxes), part, program, steps),
+        Ok(boxes) => {
+            let view = RunView::Clearance(&boxes);
+            show_failures(alloc, Showing::View(view), part, program, steps)
+        }
         Err(_) => Some(String::new(alloc)),
     }
-}
-
-/// What `vcm why` does wrong.
-pub(crate) fn why_failures(alloc: Global, part: &str, program: &str, steps: u64) -> Option<String> {
-    beside(alloc, part, |part| {
-        failures(alloc, program.as_bytes(), Steps::Any, |input, out| {
-            ending_of(write_why(alloc, part, input, steps.min(FEW), out))
-        })
-    })
-}
-
-/// What `vcm contacts` does wrong.
-pub(crate) fn contacts_failures(
-    alloc: Global,
-    part: &str,
-    program: &str,
-    steps: u64,
-) -> Option<String> {
-    beside(alloc, part, |part| {
-        failures(alloc, program.as_bytes(), Steps::Any, |input, out| {
-            ending_of(tell_contacts(alloc, part, input, steps.min(FEW), out))
-        })
-    })
-}
-
-/// What `vcm view` does wrong.
-pub(crate) fn story_failures(
-    alloc: Global,
-    part: &str,
-    program: &str,
-    steps: u64,
-) -> Option<String> {
-    let texts = Texts {
-        front: &[],
-        back: &[],
-    };
-    beside(alloc, part, |part| {
-        failures(alloc, program.as_bytes(), Steps::Any, |input, out| {
-            ending_of(page_of(alloc, part, texts, input, steps.min(FEW), out))
-        })
-    })
-}
-
-/// What `vcm picture` does wrong with a sheet.
-pub(crate) fn sheet_failures(alloc: Global, part: &str, program: &str) -> Option<String> {
-    let titles = Titles {
-        program_name: b"t.dmi",
-        part_name: b"t.toml",
-        block_names: &[],
-        lines: ALL_LINES,
-        is_close: false,
-    };
-    beside(alloc, part, |part| {
-        failures(alloc, program.as_bytes(), Steps::Any, |input, out| {
-            ending_of(write_sheet_of(alloc, titles, part, input, FEW, out))
-        })
-    })
 }
 
 /// What `vcm debug` does wrong: where its commands or its replies fail, and where the program can't be read.

@@ -8,9 +8,8 @@ use crate::answers::{
 use crate::asking::{explain_answer, words_answer};
 use crate::explained::judge_examples;
 use crate::failing::{
-    asm_failures, build_failures, check_failures, clearance_failures, contacts_failures,
-    debug_failures, list_failures, part_failures, run_failures, sheet_failures, story_failures,
-    talk_failures, view_failures, why_failures,
+    Showing, asm_failures, build_failures, check_failures, clearance_failures, debug_failures,
+    list_failures, part_failures, run_failures, show_failures, talk_failures,
 };
 use crate::messages::messages;
 use crate::parts::{notices_answer, part_answer};
@@ -23,6 +22,9 @@ use std::fmt::Write as _;
 use std::rt::Files;
 use vcm_test_tools::program_of;
 use vcm_views::RunView;
+
+// The most steps of the run of a sheet.
+const STEPS_OF_SHEETS: u64 = 1_000_000;
 
 // The most bytes of a text whose command is asked again between devices that fail.
 const LONG: usize = 4096;
@@ -261,38 +263,28 @@ fn answer(alloc: Global, script: &Script) -> Option<String> {
     }
 }
 
-// What the command that a heading asks does wrong between devices that fail; none where memory runs out.
-fn failures(alloc: Global, script: &Script) -> Option<String> {
+// What the command that a heading asks does wrong between devices that fail, none inside where memory runs out; none where it has no devices.
+fn failures(alloc: Global, script: &Script) -> Option<Option<String>> {
     let (part, program) = (script.part.as_str(), script.program.as_str());
-    match heading_of(&script.title) {
-        Heading::Run(steps) => run_failures(alloc, part, program, steps),
-        Heading::View(view, steps) => view_failures(alloc, view, part, program, steps),
+    let (showing, steps) = match heading_of(&script.title) {
+        Heading::Run(steps) => return Some(run_failures(alloc, part, program, steps)),
         Heading::Clearance(steps) => {
-            clearance_failures(alloc, part, &script.probe, program, steps)
+            return Some(clearance_failures(alloc, part, &script.probe, program, steps));
         }
-        Heading::Why(steps, _) => why_failures(alloc, part, program, steps),
-        Heading::Contacts(steps) => contacts_failures(alloc, part, program, steps),
-        Heading::Story(steps) => story_failures(alloc, part, program, steps),
-        Heading::Sheet => sheet_failures(alloc, part, program),
-        Heading::PartTold => part_failures(alloc, part),
-        Heading::Check => check_failures(alloc, program),
-        Heading::Replies => debug_failures(alloc, part, program, &script.commands),
-        Heading::Talked => talk_failures(alloc, part, program, &script.commands),
-        Heading::Listing => list_failures(alloc, program),
-        Heading::Image => build_failures(alloc, program),
-        _ => None,
-    }
-}
-
-// Whether a heading asks a command that reads or writes by devices.
-fn has_devices(heading: Heading) -> bool {
-    match heading {
-        Heading::Run(_) | Heading::View(_, _) | Heading::Clearance(_) | Heading::Why(_, _) => true,
-        Heading::Contacts(_) | Heading::Story(_) | Heading::Sheet | Heading::PartTold => true,
-        Heading::Check | Heading::Replies | Heading::Talked => true,
-        Heading::Listing | Heading::Image => true,
-        _ => false,
-    }
+        Heading::PartTold => return Some(part_failures(alloc, part)),
+        Heading::Check => return Some(check_failures(alloc, program)),
+        Heading::Replies => return Some(debug_failures(alloc, part, program, &script.commands)),
+        Heading::Talked => return Some(talk_failures(alloc, part, program, &script.commands)),
+        Heading::Listing => return Some(list_failures(alloc, program)),
+        Heading::Image => return Some(build_failures(alloc, program)),
+        Heading::View(view, steps) => (Showing::View(view), steps),
+        Heading::Why(steps, _) => (Showing::Why, steps),
+        Heading::Contacts(steps) => (Showing::Contacts, steps),
+        Heading::Story(steps) => (Showing::Story, steps),
+        Heading::Sheet => (Showing::Sheet, STEPS_OF_SHEETS),
+        _ => return None,
+    };
+    Some(show_failures(alloc, showing, part, program, steps))
 }
 
 // The steps that a line of an answer tells; nothing where it tells none.
@@ -463,11 +455,13 @@ impl Script {
 
     // Judges what the command that the heading asks, of which this is wanted, does between devices that fail.
     fn judge_command(&mut self, alloc: Global, wanted: &str) -> Option<()> {
-        if !has_devices(heading_of(&self.title)) || self.is_long() || has_many_steps(wanted) {
+        if self.is_long() || has_many_steps(wanted) {
             return Some(());
         }
-        let found = failures(alloc, self);
-        self.judge_failures(alloc, found)
+        match failures(alloc, self) {
+            Some(found) => self.judge_failures(alloc, found),
+            None => Some(()),
+        }
     }
 
     // Whether a text that is set is too long for a command to be asked again.
