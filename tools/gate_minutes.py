@@ -72,6 +72,8 @@ def table(seen, edits, elapsed):
 
 
 def main():
+    if sys.argv[1:] and sys.argv[1].startswith("-"):
+        sys.exit(__doc__)
     log = open(sys.argv[1], "w", encoding="utf-8") if len(sys.argv) > 1 else None
     seen, edits, done, start = {}, collections.Counter(), threading.Event(), time.monotonic()
     watcher = threading.Thread(target=watch, args=(seen, done), daemon=True)

@@ -4,7 +4,8 @@
 usage: tools/trusted.py [--check]     at the top of the repository
 
 With --check nothing is written; the exit status is 1 where the file is not what would be written. Where one of these files speaks of an inner
-definition it stops, since that one would have to be trusted too.
+definition it stops, since that one would have to be trusted too. The last column is computed: it follows the `use` lines of definitions from the promises of
+each command (`PROMISES`) to all that they speak of.
 """
 import os
 import re
@@ -19,8 +20,38 @@ of a `Turn`; of an expression and a typed one a public reader shows what they ho
 
 What is trusted besides definitions, the README says; what the page `docs/vcm.html` rests on in place of the native program's C library and processor, `docs/BROWSER.md`.
 
-`tools/trusted.py` writes this list from the first sentence of each file.
+The last column says for whom a file is to be read. *The theorem*: a run of a program's text is what the statement table says (`IsSummary`), on which every
+command that takes a text rests. Else the commands whose promises speak of it, whose contracts name it themselves or by way of other definitions; who doesn't use these commands need not
+believe it. *Laws* are statements that are proved of these definitions, *examples* are computed ones: no command rests on either. *Calls*: only contracts of public calls between crates
+speak of it, by which the promises of commands are proved.
+
+`tools/trusted.py` writes this list from the first sentence of each file, and follows what definitions use.
 """
+
+# Where each command's promise is said: contracts (`src/`) and definitions (`specs/`), as files or whole folders.
+PROMISES = {
+    "the theorem": ["vcm_run/specs/Programs.antt"],
+    "check": ["vcm_job/src/checking.rt"],
+    "run": ["vcm_run/specs/Printed.antt", "vcm_job/src/running.rt", "vcm_job/src/inputs.rt", "vcm_job/src/cutting.rt", "vcm_job/src/parts.rt"],
+    "build": ["vcm_job/src/building.rt", "vcm_loader/src/loading.rt", "vcm_run/src/image.rt"],
+    "list": ["vcm_job/src/listing.rt"],
+    "debug": ["vcm_job/src/debugging.rt"],
+    "dap": ["vcm_dap/src", "vcm_wire/src"],
+    "trace": ["vcm_trace/src/tracing.rt"],
+    "points": ["vcm_points/src/pointing.rt"],
+    "margin": ["vcm_margin/src/widening.rt", "vcm_margin/specs/Printed.antt"],
+    "clearance": ["vcm_clearance/src/clearing.rt", "vcm_boxes/src"],
+    "picture": ["vcm_picture/src", "vcm_sheet/src", "vcm_svg/src"],
+    "view": ["vcm_page/src/pages.rt", "vcm_story/src", "vcm_rows/src"],
+    "why": ["vcm_why/src", "vcm_cause/src", "vcm_calls/src"],
+    "contacts": ["vcm_contacts/src"],
+    "part": ["vcm_keys/src"],
+    "survey": ["vcm_survey/src", "vcm_adapt/src", "vcm_classes/src", "vcm_sentences/src", "vcm_standard/src"],
+    "values": ["vcm_values/src"],
+}
+
+# What speaks of several views at once, and is for each of them.
+VIEWS = {f"crates/vcm_views/specs/{name}.antt": "`trace` `points` `margin` `clearance` `picture`" for name in ("Inputs", "Views")}
 
 
 def crates():
@@ -54,16 +85,60 @@ def stop_on_inner(file):
             sys.exit(f"{file} speaks of an inner definition")
 
 
+def used(file):
+    """The files of definitions that the `use` lines of a file name."""
+    with open(file, encoding="utf-8") as it:
+        for crate, path in re.findall(r"^\s*(?:ghost )?use Rattle\.(vcm_\w+)\.specs\.([\w.]+?)(?:\.\{| as |\s*$)", it.read(), re.M):
+            named = f"crates/{crate}/specs/{path.replace('.', '/')}.antt"
+            if os.path.isfile(named) and "/inner/" not in named:
+                yield named
+
+
+def files_at(place):
+    at = f"crates/{place}"
+    if not os.path.exists(at):
+        sys.exit(f"no {at}, where a promise is said")
+    return [at] if os.path.isfile(at) else [f"{at}/{name}" for name in sorted(os.listdir(at)) if name.endswith(".rt") and name != "laws.rt"]
+
+
+def reached(places):
+    """The files of definitions that these promises speak of."""
+    left = [file for place in places for file in files_at(place)]
+    found = set()
+    while left:
+        file = left.pop()
+        if file not in found:
+            found.add(file)
+            left += used(file)
+    return found
+
+
+def kind_of(file):
+    """What a file is that no promise speaks of."""
+    name = file.rpartition("/")[2]
+    return "laws" if name == "Laws.antt" else "examples" if "Sample" in file else None
+
+
+def for_whom(file, reaching, laws):
+    names = [name for name, files in reaching.items() if file in files]
+    if "the theorem" in names:
+        return "the theorem"
+    named = " ".join(f"`{name}`" for name in names) or VIEWS.get(file)
+    return named or kind_of(file) or ("laws" if file in laws else "calls")
+
+
 def written():
+    reaching = {name: reached(places) for name, places in PROMISES.items()}
+    laws = {named for crate in crates() for file in specs_of(crate) if kind_of(file) == "laws" for named in reached([file.removeprefix("crates/")])}
     parts = [HEAD]
     for crate in crates():
         files = [*specs_of(crate)]
         if not files:
             continue
-        parts.append(f"\n## {crate}\n\n| File | What it says |\n|---|---|\n")
+        parts.append(f"\n## {crate}\n\n| File | What it says | For |\n|---|---|---|\n")
         for file in files:
             stop_on_inner(file)
-            parts.append(f"| `{file.removeprefix('crates/')}` | {first_sentence(file)} |\n")
+            parts.append(f"| `{file.removeprefix('crates/')}` | {first_sentence(file)} | {for_whom(file, reaching, laws)} |\n")
     return "".join(parts)
 
 

@@ -3,8 +3,8 @@ use Rattle.std.specs.Prelude.{ℕ, ◌==◌, nat_le, nat_lt, Bool, false, not, �
 use Rattle.std.specs.Prelude.{Some, None, Result, Ok, Err, if◌then◌else◌}
 use Rattle.std.specs.List.{list_all, prefix_len}
 use Rattle.std.specs.Char.{is_ascii_digit, is_ascii_alphabetic, is_ascii_alphanumeric}
-use Rattle.std.specs.Str.{bytes_eq}
 use Rattle.vcm_num.specs.Literals.{number_after}
+use Rattle.vcm_num.specs.Words.{look_up}
 use Rattle.vcm_lines.specs.Bytes.{upper}
 use Rattle.vcm_console.specs.declared.command.VariableRef.{VariableRef}
 use Rattle.vcm_console.specs.declared.command.Command.{Command}
@@ -89,25 +89,29 @@ abbrev pub alone : Command → List ℕ → Result Command CommandRefusal
 alone what [] = Ok what
 alone what (b ∷ bs) = Err UnknownCommand
 
--- the command of a word and its argument, which is empty where there is none
+-- the words of commands, each with what its argument, which is empty where there is none, makes of it
+abbrev pub command_words : List (List ℕ × (List ℕ → Result Command CommandRefusal))
+command_words =
+    (codes "break", λ a. with c.Break (number_of a))
+    ∷ (codes "clear", λ a. with c.Clear (number_of a))
+    ∷ (codes "line", λ a. with c.Line (number_of a))
+    ∷ (codes "step", λ a. with c.Step (count_of 1 a))
+    ∷ (codes "run", λ a. with c.Run (count_of 1000000 a))
+    ∷ (codes "watch", λ a. with c.Watch (wanted_of a))
+    ∷ (codes "unwatch", λ a. with c.Unwatch (wanted_of a))
+    ∷ (codes "where", alone c.Where)
+    ∷ (codes "show", λ a. with c.Show (wanted_of a))
+    ∷ (codes "feat", λ a. with c.Feat (feature_name_of a))
+    ∷ (codes "list", λ a. with c.List (optional_number a))
+    ∷ (codes "out", λ a. with c.Out (count_of 10 a))
+    ∷ (codes "back", λ a. with c.Back (count_of 1 a))
+    ∷ (codes "reverse", alone c.Reverse)
+    ∷ (codes "quit", alone c.Quit)
+    ∷ []
+
+-- the command of a word and its argument
 abbrev pub command_of_words : List ℕ → List ℕ → Result Command CommandRefusal
-command_of_words w a =
-    if bytes_eq w (codes "break") then with c.Break (number_of a)
-    else (if bytes_eq w (codes "clear") then with c.Clear (number_of a)
-    else (if bytes_eq w (codes "line") then with c.Line (number_of a)
-    else (if bytes_eq w (codes "step") then with c.Step (count_of 1 a)
-    else (if bytes_eq w (codes "run") then with c.Run (count_of 1000000 a)
-    else (if bytes_eq w (codes "watch") then with c.Watch (wanted_of a)
-    else (if bytes_eq w (codes "unwatch") then with c.Unwatch (wanted_of a)
-    else (if bytes_eq w (codes "where") then alone c.Where a
-    else (if bytes_eq w (codes "show") then with c.Show (wanted_of a)
-    else (if bytes_eq w (codes "feat") then with c.Feat (feature_name_of a)
-    else (if bytes_eq w (codes "list") then with c.List (optional_number a)
-    else (if bytes_eq w (codes "out") then with c.Out (count_of 10 a)
-    else (if bytes_eq w (codes "back") then with c.Back (count_of 1 a)
-    else (if bytes_eq w (codes "reverse") then alone c.Reverse a
-    else (if bytes_eq w (codes "quit") then alone c.Quit a
-    else Err UnknownCommand))))))))))))))
+command_of_words w a = elim (look_up command_words w) [ Some made ↦ made a | None ↦ Err UnknownCommand ]
 
 -- a command, or the reply that refuses it
 abbrev pub replied : Result Command CommandRefusal → Result Command Reply

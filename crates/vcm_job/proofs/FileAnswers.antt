@@ -9,7 +9,7 @@ use Rattle.vcm_program.specs.declared.accepted.Noticed.{Noticed}
 use Rattle.vcm_tree.specs.Acceptance.{IsAccepted}
 use Rattle.vcm_program.specs.Program.{Parsed}
 use Rattle.vcm_tree.proofs.AcceptanceLaws.{one_program}
-use Rattle.vcm_run.specs.Programs.{IsBuilt}
+use Rattle.vcm_run.specs.Built.{IsBuilt}
 use Rattle.vcm_run.proofs.OneRun.{one_build}
 use Rattle.vcm_job.specs.declared.reading.ReadFault.{ReadFault}
 use Rattle.vcm_job.specs.declared.reading.ReadFault.TheVariants as reads

@@ -10,7 +10,7 @@ use Rattle.vcm_part.specs.declared.fault.PartFault.{PartFault}
 use Rattle.vcm_words.specs.declared.fault.ListFault.{ListFault}
 use Rattle.vcm_run.specs.declared.run.Refusal.{Refusal}
 use Rattle.vcm_run.specs.declared.program.Built.{Built}
-use Rattle.vcm_run.specs.Programs.{IsBuilt}
+use Rattle.vcm_run.specs.Built.{IsBuilt}
 use Rattle.vcm_job.specs.declared.reading.ReadFault.{ReadFault}
 use Rattle.vcm_job.specs.declared.running.Done.{Done}
 use Rattle.vcm_job.specs.declared.fault.Fault.{Fault}

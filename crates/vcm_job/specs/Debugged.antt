@@ -9,7 +9,7 @@ use Rattle.vcm_image.specs.Whole.{FitsImage, spelling}
 use Rattle.vcm_console.specs.declared.reply.ServeFault.{ServeFault}
 use Rattle.vcm_debug.specs.Debugging.{Debugging, opened}
 use Rattle.vcm_debug.specs.Serving.{Served}
-use Rattle.vcm_run.specs.Programs.{IsBuilt}
+use Rattle.vcm_run.specs.Built.{IsBuilt}
 use Rattle.vcm_job.specs.declared.fault.Fault.{Fault}
 use Rattle.vcm_job.specs.declared.fault.Fault.TheVariants.{Refused, NoMemory}
 use Rattle.vcm_job.specs.declared.fault.SessionFault.{SessionFault}

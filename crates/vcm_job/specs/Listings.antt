@@ -9,7 +9,7 @@ use Rattle.vcm_image.specs.Whole.{FitsImage, spelling}
 use Rattle.vcm_words.specs.declared.fault.ListFault.{ListFault}
 use Rattle.vcm_words.specs.Rows.{listing}
 use Rattle.vcm_words.specs.Outcomes.{FaultOrWant}
-use Rattle.vcm_run.specs.Programs.{IsBuilt}
+use Rattle.vcm_run.specs.Built.{IsBuilt}
 use Rattle.vcm_job.specs.declared.fault.Fault.{Fault}
 use Rattle.vcm_job.specs.declared.fault.InputRefusal.{InputRefusal}
 use Rattle.vcm_job.specs.Unanswered.{IsUnanswered, IsUnwritten, NeverHalts}

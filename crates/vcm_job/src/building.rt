@@ -1,7 +1,7 @@
 //! Images of programs, built from their text.
 
 ghost use Rattle.std.specs.Prelude.{◌≡◌, IfOk, IfErr, IfSome};
-ghost use Rattle.vcm_run.specs.Programs.{IsBuilt};
+ghost use Rattle.vcm_run.specs.Built.{IsBuilt};
 ghost use Rattle.vcm_job.specs.Reading.{ReadsLittle};
 ghost use Rattle.vcm_job.specs.Unread.{AnswersUnread};
 ghost use Rattle.vcm_job.specs.Files.{IsNotBuilt};

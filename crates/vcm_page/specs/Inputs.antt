@@ -10,7 +10,7 @@ use Rattle.vcm_code.specs.Valid.{IsValid}
 use Rattle.vcm_image.specs.Whole.{FitsImage, spelling}
 use Rattle.vcm_machine.specs.declared.ran.End.TheVariants as ends
 use Rattle.vcm_machine.specs.Running.{started, later, RunEnded}
-use Rattle.vcm_run.specs.Programs.{IsBuilt}
+use Rattle.vcm_run.specs.Built.{IsBuilt}
 use Rattle.vcm_words.specs.Rows.{listing}
 use Rattle.vcm_steps.specs.Passages.{state_after}
 use Rattle.vcm_job.specs.Unanswered.{IsUnwritten}

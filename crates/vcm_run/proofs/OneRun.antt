@@ -34,7 +34,8 @@ use Rattle.vcm_run.specs.declared.run.Refusal.TheVariants as refusals
 use Rattle.vcm_run.specs.Images.{IsCodeRun, IsImageRun, IsImageRefusal}
 use Rattle.vcm_run.specs.Run.{Ended, IsRun}
 use Rattle.vcm_run.specs.Summaries.{Shown}
-use Rattle.vcm_run.specs.Programs.{IsSummary, IsBuilt, IsRefusal}
+use Rattle.vcm_run.specs.Programs.{IsSummary, IsRefusal}
+use Rattle.vcm_run.specs.Built.{IsBuilt}
 use Rattle.vcm_run.specs.Laws.{SummariesAreOne, ImageRunsAreOne, BuildsAreOne, IsWant, RefusedIsNotBuilt, RefusedIsNotRun, RefusedImageIsNotRun, RefusedAtOneLine, ImageRefusalsAreOne}
 
 abbrev ran : ℕ → End → Ran

@@ -29,7 +29,8 @@ use Rattle.vcm_image.specs.Whole.{FitsImage, spelling}
 use Rattle.vcm_image.proofs.ImageLaws.{one_image}
 use Rattle.vcm_run.specs.Run.{Ended, IsRun}
 use Rattle.vcm_run.specs.Summaries.{Shown}
-use Rattle.vcm_run.specs.Programs.{IsSummary, NextIsThere, IsImageOf, IsBuilt}
+use Rattle.vcm_run.specs.Programs.{IsSummary, NextIsThere}
+use Rattle.vcm_run.specs.Built.{IsImageOf, IsBuilt}
 use Rattle.vcm_run.specs.Images.{IsCodeRun}
 use Rattle.vcm_run.specs.Laws.{CallsShowTheProgram, SummariesRest}
 

@@ -19,7 +19,8 @@ use Rattle.vcm_run.specs.Summaries.{Shown}
 use Rattle.vcm_run.specs.declared.run.Refusal.{Refusal}
 use Rattle.vcm_run.specs.declared.run.Refusal.TheVariants as refusals
 use Rattle.vcm_run.specs.Images.{IsImageRun, IsImageRefusal}
-use Rattle.vcm_run.specs.Programs.{IsSummary, IsBuilt, IsRefusal}
+use Rattle.vcm_run.specs.Programs.{IsSummary, IsRefusal}
+use Rattle.vcm_run.specs.Built.{IsBuilt}
 
 -- what a machine shows behind runs of a program that has these lines without effect
 abbrev pub shown_by : Running → Ran → List Noticed → Shown

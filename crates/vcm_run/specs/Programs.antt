@@ -6,11 +6,6 @@ use Rattle.vcm_spec.specs.Program.{sizes}
 use Rattle.vcm_state.specs.Carried.{setup_of}
 use Rattle.vcm_tree.specs.Acceptance.{IsAccepted, IsRefused}
 use Rattle.vcm_program.specs.Program.{Parsed}
-use Rattle.vcm_program.specs.declared.accepted.Noticed.{Noticed}
-use Rattle.vcm_code.specs.declared.code.Code.{Code}
-use Rattle.vcm_code.specs.Valid.{IsValid}
-use Rattle.vcm_image.specs.Whole.{FitsImage, spelling}
-use Rattle.vcm_asm.specs.Simulation.{IsAssembled}
 use Rattle.vcm_run.specs.declared.run.Refusal.{Refusal}
 use Rattle.vcm_run.specs.declared.run.Refusal.TheVariants.{Source, Part, NoMemory}
 use Rattle.vcm_run.specs.Run.{IsRun}
@@ -27,21 +22,6 @@ pub record IsSummary (part : Workpiece) (text : List ℕ) (n : ℕ) (s : Shown) 
 -- the next statement is one of those of the program that the text is
 abbrev pub NextIsThere : List ℕ → Shown → Type 0
 NextIsThere text s = (p : Parsed) → IsAccepted text p → s.next < sizes p.program
-
--- the bytes are the image of the code of this program: a code that does what the program does, and is valid
-pub record IsImageOf (parsed : Parsed) (bytes : List ℕ) : Type 0 where
-  pub code : Code
-  pub assembled : IsAssembled parsed.program parsed.tables code
-  pub valid : IsValid code
-  pub fits : FitsImage code
-  pub spelled : bytes ≡ spelling code
-
--- the text is accepted as a program, whose image the bytes are, and these are its notices
-pub record IsBuilt (text bytes : List ℕ) (notices : List Noticed) : Type 0 where
-  pub parsed : Parsed
-  pub accepted : IsAccepted text parsed
-  pub image : IsImageOf parsed bytes
-  pub notices_are : notices ≡ parsed.notices
 
 -- what is told of a text that isn't run: of one that is refused its refusal; at line 0 want of memory; want of memory elsewhere, of an
 -- accepted text alone

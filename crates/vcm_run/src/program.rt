@@ -1,7 +1,8 @@
 //! Programs, from their text to their image and to a run of it.
 
 ghost use Rattle.std.specs.Prelude.{ℕ, List, IfOk, IfErr};
-ghost use Rattle.vcm_run.specs.Programs.{IsSummary, NextIsThere, IsImageOf, IsBuilt, IsRefusal};
+ghost use Rattle.vcm_run.specs.Programs.{IsSummary, NextIsThere, IsRefusal};
+ghost use Rattle.vcm_run.specs.Built.{IsImageOf, IsBuilt};
 
 use crate::run::{Refusal, Summary, run_loaded};
 use std::alloc::Global;

@@ -7,7 +7,7 @@ use std::alloc::Global;
 use vcm_num::{Items, NoMemory};
 
 impl World {
-    /// A copy of the state, with a copy of its tables.
+    /// A copy of the state, which shares its tables.
     ///
     /// Errors: want of memory.
     pub fn copy(&self, alloc: Global) -> Result<World, NoMemory>
@@ -18,7 +18,7 @@ impl World {
         let nominal = Items::from_slice(alloc, self.nominal.as_slice())?;
         let actual = Items::from_slice(alloc, self.actual.as_slice())?;
         let lines = self.lines.copy(alloc)?;
-        let tables = self.tables.copy(alloc)?;
+        let tables = self.tables.clone()?;
         Ok(World {
             tables,
             position: self.position,

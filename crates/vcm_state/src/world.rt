@@ -10,6 +10,7 @@ use crate::indexed::{nones, zeros};
 use crate::stop::Halt;
 use std::alloc::Global;
 use std::marker::Model;
+use std::rc::Rc;
 use vcm_frame::Frame;
 use vcm_motion::{Part, contact_of};
 use vcm_num::{Items, MOST_LINES, NoMemory, Point};
@@ -24,7 +25,7 @@ use vcm_tables::Tables;
 /// one; and the tables of names that it goes by.
 #[derive(Drop)]
 pub struct World {
-    pub(crate) tables: Tables,
+    pub(crate) tables: Rc<Tables>,
     pub(crate) position: Point,
     pub(crate) frame: Frame,
     pub(crate) settings: Settings,
@@ -46,7 +47,7 @@ impl Model for World {
     ghost Value = { Held };
 
     ghost view = { λ w. record {
-      tables = w.tables;
+      tables = w.tables.value;
       state = record {
         position = w.position;
         frame = w.frame;
@@ -60,8 +61,8 @@ impl Model for World {
       };
     } };
 
-    ghost invariant = { λ w. IsTrue (is_near w.position) × SlotsFit (kinds w.tables) w.variables × (length w.saved ≡ length w.tables.frames)
-        × (length w.nominal ≡ length w.tables.features) × (length w.actual ≡ length w.tables.features) };
+    ghost invariant = { λ w. IsTrue (is_near w.position) × SlotsFit (kinds w.tables.value) w.variables × (length w.saved ≡ length w.tables.value.frames)
+        × (length w.nominal ≡ length w.tables.value.features) × (length w.actual ≡ length w.tables.value.features) };
 }
 
 impl World {
@@ -88,6 +89,7 @@ impl World {
         let saved = nones(alloc, tables.frames().len())?;
         let nominal = nones(alloc, tables.features().len())?;
         let actual = nones(alloc, tables.features().len())?;
+        let tables = Rc::new(alloc, tables)?;
         Ok(World {
             tables,
             position: home,
@@ -106,7 +108,7 @@ impl World {
     pub fn tables(&self) -> &Tables
         ensures { result.now ≡ self.now.tables }
     {
-        &self.tables
+        self.tables.as_ref()
     }
 
     /// Where the probe is, in micrometres of machine coordinates.

@@ -5,7 +5,7 @@ use Rattle.vcm_program.specs.declared.accepted.Noticed.{Noticed}
 use Rattle.vcm_code.specs.declared.code.Code.{Code}
 use Rattle.vcm_code.specs.Valid.{IsValid}
 use Rattle.vcm_image.specs.Whole.{FitsImage, spelling}
-use Rattle.vcm_run.specs.Programs.{IsBuilt}
+use Rattle.vcm_run.specs.Built.{IsBuilt}
 use Rattle.vcm_job.specs.Unanswered.{IsUnwritten}
 use Rattle.vcm_job.specs.Inputs.{is_image, IsInputRefusal}
 use Rattle.vcm_job.specs.declared.fault.Fault.{Fault}

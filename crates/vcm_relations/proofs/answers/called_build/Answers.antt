@@ -1,4 +1,4 @@
-use Rattle.vcm_run.specs.Programs.{IsBuilt}
+use Rattle.vcm_run.specs.Built.{IsBuilt}
 use Rattle.vcm_job.specs.Files.{IsNotBuilt}
 use Rattle.vcm_relations.proofs.Tied.{given}
 use Rattle.vcm_relations.proofs.answers.called_build.Goals as goal

@@ -1,0 +1,24 @@
+-- The image of a program's text.
+use Rattle.std.specs.Prelude.{◌≡◌, ℕ, List}
+use Rattle.vcm_tree.specs.Acceptance.{IsAccepted}
+use Rattle.vcm_program.specs.Program.{Parsed}
+use Rattle.vcm_program.specs.declared.accepted.Noticed.{Noticed}
+use Rattle.vcm_code.specs.declared.code.Code.{Code}
+use Rattle.vcm_code.specs.Valid.{IsValid}
+use Rattle.vcm_image.specs.Whole.{FitsImage, spelling}
+use Rattle.vcm_asm.specs.Simulation.{IsAssembled}
+
+-- the bytes are the image of the code of this program: a code that does what the program does, and is valid
+pub record IsImageOf (parsed : Parsed) (bytes : List ℕ) : Type 0 where
+  pub code : Code
+  pub assembled : IsAssembled parsed.program parsed.tables code
+  pub valid : IsValid code
+  pub fits : FitsImage code
+  pub spelled : bytes ≡ spelling code
+
+-- the text is accepted as a program, whose image the bytes are, and these are its notices
+pub record IsBuilt (text bytes : List ℕ) (notices : List Noticed) : Type 0 where
+  pub parsed : Parsed
+  pub accepted : IsAccepted text parsed
+  pub image : IsImageOf parsed bytes
+  pub notices_are : notices ≡ parsed.notices
