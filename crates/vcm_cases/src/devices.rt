@@ -181,6 +181,12 @@ pub(crate) fn ending_of<T: Drop, R: Told + Drop>(answer: Result<T, Fault<R>>) ->
     }
 }
 
+/// A command that reads an input and writes.
+pub(crate) trait Command {
+    /// How it ends between these devices.
+    fn ending(&self, alloc: Global, input: &mut Failing<'_>, out: &mut Seen<'_>) -> Ending;
+}
+
 /// Which steps of a run a command tells where its writer fails.
 #[derive(Clone, Copy)]
 pub(crate) enum Steps {
@@ -226,36 +232,32 @@ fn numbers(calls: usize) -> [usize; 3] {
 }
 
 // Whether a command tells that its reader failed at this call, asks no further, and wrote a front of the whole.
-fn is_unread<C: Fn(&mut Failing<'_>, &mut Seen<'_>) -> Ending>(
+fn is_unread<C: Command>(
     alloc: Global,
     input: &[u8],
     failing: usize,
     whole: &[u8],
     command: &C,
-) -> bool
-    requires { C.IsAlwaysCallable command.now }
-{
+) -> bool {
     let is_pending = Cell::new(false);
     let mut reader = Failing::new(input, failing, &is_pending);
     let mut out = Seen::new(alloc, Trouble::Nothing, &is_pending);
-    let ending = command(&mut reader, &mut out);
+    let ending = command.ending(alloc, &mut reader, &mut out);
     ending == Ending::Unread && reader.calls == failing && whole.starts_with(&out.writer.taken)
 }
 
 // Whether a command tells that its writer failed, asks no further, and wrote a front of the whole: not all of it, but where a flush failed.
-fn is_unwritten<C: Fn(&mut Failing<'_>, &mut Seen<'_>) -> Ending>(
+fn is_unwritten<C: Command>(
     alloc: Global,
     input: &[u8],
     trouble: Trouble,
     whole: Whole<'_>,
     command: &C,
-) -> bool
-    requires { C.IsAlwaysCallable command.now }
-{
+) -> bool {
     let is_pending = Cell::new(false);
     let mut reader = Failing::new(input, 0, &is_pending);
     let mut out = Seen::new(alloc, trouble, &is_pending);
-    let ending = command(&mut reader, &mut out);
+    let ending = command.ending(alloc, &mut reader, &mut out);
     let is_cut = match trouble {
         Trouble::FailsToFlush(_) => true,
         _ => out.writer.taken.len() < whole.text.len(),
@@ -304,7 +306,7 @@ impl Calls {
 }
 
 // Whether a command does what it should where the call of a number fails, which is tried at this place among three.
-fn is_right<C: Fn(&mut Failing<'_>, &mut Seen<'_>) -> Ending>(
+fn is_right<C: Command>(
     alloc: Global,
     input: &[u8],
     calls: Calls,
@@ -312,9 +314,7 @@ fn is_right<C: Fn(&mut Failing<'_>, &mut Seen<'_>) -> Ending>(
     number: usize,
     whole: Whole<'_>,
     command: &C,
-) -> bool
-    requires { C.IsAlwaysCallable command.now }
-{
+) -> bool {
     let trouble = match calls {
         Calls::Reads => return is_unread(alloc, input, number, whole.text, command),
         Calls::Writes => trouble_at(place, number, whole.writes),
@@ -324,16 +324,14 @@ fn is_right<C: Fn(&mut Failing<'_>, &mut Seen<'_>) -> Ending>(
 }
 
 // What a command does wrong where three of these calls fail, a line each.
-fn tell_wrong<C: Fn(&mut Failing<'_>, &mut Seen<'_>) -> Ending>(
+fn tell_wrong<C: Command>(
     alloc: Global,
     input: &[u8],
     calls: Calls,
     whole: Whole<'_>,
     command: &C,
     wrong: &mut String,
-) -> Option<()>
-    requires { C.IsAlwaysCallable command.now }
-{
+) -> Option<()> {
     for (place, number) in numbers(calls.count(whole)).iter().enumerate() {
         if *number > 0 && !is_right(alloc, input, calls, place, *number, whole, command) {
             writeln!(wrong, "{} {number} fails", calls.word()).ok()?;
@@ -344,19 +342,17 @@ fn tell_wrong<C: Fn(&mut Failing<'_>, &mut Seen<'_>) -> Ending>(
 
 /// What a command does otherwise than it should between devices that fail, a line each; none where memory runs out. It is asked first between devices that don't fail, where
 /// it may not read while what it wrote isn't flushed; then again with a read, a write or a flush that fails: the first, one in the middle, the last.
-pub(crate) fn failures<C: Fn(&mut Failing<'_>, &mut Seen<'_>) -> Ending>(
+pub(crate) fn failures<C: Command>(
     alloc: Global,
     input: &[u8],
     steps: Steps,
-    command: C,
-) -> Option<String>
-    requires { C.IsAlwaysCallable command }
-{
+    command: &C,
+) -> Option<String> {
     let is_pending = Cell::new(false);
     let mut reader = Failing::new(input, 0, &is_pending);
     let mut out = Seen::new(alloc, Trouble::Nothing, &is_pending);
     let mut wrong = String::new(alloc);
-    let ending = command(&mut reader, &mut out);
+    let ending = command.ending(alloc, &mut reader, &mut out);
     if reader.is_early {
         writeln!(wrong, "a read before all was flushed").ok()?;
     }
@@ -372,7 +368,7 @@ pub(crate) fn failures<C: Fn(&mut Failing<'_>, &mut Seen<'_>) -> Ending>(
         flushes: out.writer.flushes,
     };
     for calls in [Calls::Reads, Calls::Writes, Calls::Flushes] {
-        tell_wrong(alloc, input, calls, whole, &command, &mut wrong)?;
+        tell_wrong(alloc, input, calls, whole, command, &mut wrong)?;
     }
     Some(wrong)
 }

@@ -1,7 +1,7 @@
 //! The commands that rows ask, each between devices that fail.
 
 use crate::answers::Unseen;
-use crate::devices::{Ending, Failing, Seen, Steps, ending_of, ending_told, failures};
+use crate::devices::{Command, Ending, Failing, Seen, Steps, ending_of, ending_told, failures};
 use std::alloc::Global;
 use std::rt::Files;
 use vcm_boxes::read_boxes;
@@ -18,122 +18,45 @@ use vcm_views::{RunView, view_of};
 // The most steps of a run between devices that fail.
 const FEW: u64 = 1_000;
 
-// What a command does wrong beside the workpiece of a part file; where that is refused, what reading the file does wrong.
-fn beside<F: Fn(&PartData) -> Option<String>>(
-    alloc: Global,
-    part: &str,
-    command: F,
-) -> Option<String>
-    requires { F.IsAlwaysCallable command }
-{
-    match read_part(alloc, part.as_bytes()) {
-        Ok(part) => command(&part),
-        Err(_) => part_failures(alloc, part),
-    }
+/// A command that is given its input alone.
+#[derive(Clone, Copy)]
+pub(crate) enum Plain {
+    /// The reading of a part file.
+    Part,
+    Check,
+    Build,
+    List,
+    Asm,
+    Job,
 }
 
-/// What `vcm part` does wrong between devices that fail.
-pub(crate) fn part_failures(alloc: Global, part: &str) -> Option<String> {
-    failures(
-        alloc,
-        part.as_bytes(),
-        Steps::Any,
-        |file, _| ending_of(part_from(alloc, file)),
-    )
-}
-
-/// What `vcm check` does wrong.
-pub(crate) fn check_failures(alloc: Global, program: &str) -> Option<String> {
-    failures(
-        alloc,
-        program.as_bytes(),
-        Steps::None,
-        |input, out| ending_of(check(alloc, input, out)),
-    )
-}
-
-/// What `vcm build` does wrong.
-pub(crate) fn build_failures(alloc: Global, program: &str) -> Option<String> {
-    failures(
-        alloc,
-        program.as_bytes(),
-        Steps::Any,
-        |input, _| ending_of(build(alloc, input)),
-    )
-}
-
-/// What `vcm list` does wrong.
-pub(crate) fn list_failures(alloc: Global, program: &str) -> Option<String> {
-    failures(
-        alloc,
-        program.as_bytes(),
-        Steps::None,
-        |input, out| ending_of(list(alloc, input, out)),
-    )
-}
-
-/// What `vcm asm` does wrong.
-pub(crate) fn asm_failures(alloc: Global, listing: &str) -> Option<String> {
-    failures(
-        alloc,
-        listing.as_bytes(),
-        Steps::Any,
-        |input, _| ending_of(asm(alloc, input)),
-    )
-}
-
-// What the run of an input does wrong.
-fn input_failures(alloc: Global, part: &PartData, input: &[u8], steps: u64) -> Option<String> {
-    failures(alloc, input, Steps::Printed, |input, out| {
-        ending_of(run(alloc, part, input, steps, out))
-    })
-}
-
-// What the run of a program's image does wrong; nothing where it has none.
-fn image_failures(alloc: Global, part: &PartData, program: &str, steps: u64) -> Option<String> {
-    match build(alloc, &mut program.as_bytes()) {
-        Ok(built) => input_failures(alloc, part, &built.image, steps),
-        Err(_) => Some(String::new(alloc)),
-    }
-}
-
-// What the job of a part file and a program does wrong.
-fn job_failures(alloc: Global, part: &str, program: &str) -> Option<String> {
-    let text = joined(alloc, &[part, "%%\n", program])?;
-    failures(
-        alloc,
-        text.as_bytes(),
-        Steps::Printed,
-        |input, out| ending_of(job(alloc, input, out)),
-    )
-}
-
-// Whether the run of a program goes on behind so many steps.
-fn goes_on(alloc: Global, part: &PartData, program: &str, steps: u64) -> bool {
-    match run(
-        alloc,
-        part,
-        &mut program.as_bytes(),
-        steps,
-        &mut Vec::new(alloc),
-    ) {
-        Ok(done) => done.status == 4,
-        Err(_) => false,
-    }
-}
-
-/// What `vcm run` does wrong: of the program, of its image and, where it ends, as a job.
-pub(crate) fn run_failures(alloc: Global, part: &str, program: &str, steps: u64) -> Option<String> {
-    let few = steps.min(FEW);
-    beside(alloc, part, |workpiece| {
-        let mut text = input_failures(alloc, workpiece, program.as_bytes(), few)?;
-        text.push_str(&image_failures(alloc, workpiece, program, few)?)
-            .ok()?;
-        if !goes_on(alloc, workpiece, program, FEW) {
-            text.push_str(&job_failures(alloc, part, program)?).ok()?;
+impl Plain {
+    // Which steps it tells where its writer fails.
+    fn steps(self) -> Steps {
+        match self {
+            Plain::Check | Plain::List => Steps::None,
+            Plain::Job => Steps::Printed,
+            Plain::Part | Plain::Build | Plain::Asm => Steps::Any,
         }
-        Some(text)
-    })
+    }
+}
+
+impl Command for Plain {
+    fn ending(&self, alloc: Global, input: &mut Failing<'_>, out: &mut Seen<'_>) -> Ending {
+        match self {
+            Plain::Part => ending_of(part_from(alloc, input)),
+            Plain::Check => ending_of(check(alloc, input, out)),
+            Plain::Build => ending_of(build(alloc, input)),
+            Plain::List => ending_of(list(alloc, input, out)),
+            Plain::Asm => ending_of(asm(alloc, input)),
+            Plain::Job => ending_of(job(alloc, input, out)),
+        }
+    }
+}
+
+/// What such a command does wrong.
+pub(crate) fn plain_failures(alloc: Global, plain: Plain, input: &str) -> Option<String> {
+    failures(alloc, input.as_bytes(), plain.steps(), &plain)
 }
 
 /// What a command shows of a run.
@@ -198,84 +121,197 @@ fn show(
     }
 }
 
-/// What a command does wrong that shows this of a run.
-pub(crate) fn show_failures(
+// A command beside a workpiece: what its input is, and what else it is given.
+#[derive(Clone, Copy)]
+enum Work<'a> {
+    /// A run of the input, for so many steps.
+    Run(u64),
+    /// What is shown of one.
+    Show(Showing<'a>, u64),
+    /// The debugger on this program; the input are its lines.
+    Debug(&'a str),
+    /// The same at a terminal.
+    Talk(&'a str),
+    /// The debugger on the input, with these lines.
+    DebugInput(&'a str),
+}
+
+// The same, with the workpiece.
+#[derive(Clone, Copy)]
+struct Beside<'a> {
+    part: &'a PartData,
+    work: Work<'a>,
+}
+
+// The debugger on an input, with these lines.
+fn debug_input(alloc: Global, part: &PartData, input: &mut Failing<'_>, lines: &str) -> Ending {
+    let mut lines = lines.as_bytes();
+    ending_of(debug(alloc, part, input, &mut lines, &mut Vec::new(alloc)))
+}
+
+impl Command for Beside<'_> {
+    fn ending(&self, alloc: Global, input: &mut Failing<'_>, out: &mut Seen<'_>) -> Ending {
+        let part = self.part;
+        match self.work {
+            Work::Run(steps) => ending_of(run(alloc, part, input, steps, out)),
+            Work::Show(showing, steps) => show(alloc, showing, part, input, steps, out),
+            Work::Debug(program) => {
+                ending_of(debug(alloc, part, &mut program.as_bytes(), input, out))
+            }
+            Work::Talk(program) => {
+                ending_of(debug_by_hand(alloc, part, program.as_bytes(), input, out, &Unseen))
+            }
+            Work::DebugInput(lines) => debug_input(alloc, part, input, lines),
+        }
+    }
+}
+
+// What the run of an input does wrong.
+fn input_failures(alloc: Global, part: &PartData, input: &[u8], steps: u64) -> Option<String> {
+    let work = Work::Run(steps);
+    failures(alloc, input, Steps::Printed, &Beside { part, work })
+}
+
+// What the run of a program's image does wrong; nothing where it has none.
+fn image_failures(alloc: Global, part: &PartData, program: &str, steps: u64) -> Option<String> {
+    match build(alloc, &mut program.as_bytes()) {
+        Ok(built) => input_failures(alloc, part, &built.image, steps),
+        Err(_) => Some(String::new(alloc)),
+    }
+}
+
+// Whether the run of a program goes on behind so many steps.
+fn goes_on(alloc: Global, part: &PartData, program: &str, steps: u64) -> bool {
+    match run(
+        alloc,
+        part,
+        &mut program.as_bytes(),
+        steps,
+        &mut Vec::new(alloc),
+    ) {
+        Ok(done) => done.status == 4,
+        Err(_) => false,
+    }
+}
+
+// What the job of a part file and a program does wrong; nothing is asked where it doesn't end in few steps.
+fn job_failures(alloc: Global, workpiece: &PartData, part: &str, program: &str) -> Option<String> {
+    if goes_on(alloc, workpiece, program, FEW) {
+        return Some(String::new(alloc));
+    }
+    let text = joined(alloc, &[part, "%%\n", program])?;
+    plain_failures(alloc, Plain::Job, &text)
+}
+
+// What `vcm run` does wrong: of the program, of its image and, where it ends, as a job.
+fn run_failures(
     alloc: Global,
-    showing: Showing<'_>,
-    part: &str,
-    program: &str,
+    workpiece: &PartData,
+    texts: Texted<'_>,
     steps: u64,
 ) -> Option<String> {
-    beside(alloc, part, |part| {
-        failures(
-            alloc,
-            program.as_bytes(),
-            Steps::Any,
-            |input, out| show(alloc, showing, part, input, steps.min(FEW), out),
-        )
-    })
+    let program = texts.program;
+    let mut text = input_failures(alloc, workpiece, program.as_bytes(), steps)?;
+    text.push_str(&image_failures(alloc, workpiece, program, steps)?)
+        .ok()?;
+    text.push_str(&job_failures(alloc, workpiece, texts.part, program)?)
+        .ok()?;
+    Some(text)
+}
+
+// What `vcm debug` does wrong: where its commands or its replies fail, and where the program can't be read.
+fn debug_failures(alloc: Global, part: &PartData, texts: Texted<'_>) -> Option<String> {
+    let lines = Beside {
+        part,
+        work: Work::Debug(texts.program),
+    };
+    let input = Beside {
+        part,
+        work: Work::DebugInput(texts.lines),
+    };
+    let mut text = failures(alloc, texts.lines.as_bytes(), Steps::Any, &lines)?;
+    text.push_str(&failures(alloc, texts.program.as_bytes(), Steps::Any, &input)?)
+        .ok()?;
+    Some(text)
+}
+
+/// A command that a row asks beside a workpiece.
+#[derive(Clone, Copy)]
+pub(crate) enum Asked<'a> {
+    Run(u64),
+    Show(Showing<'a>, u64),
+    Debug,
+    Talk,
+}
+
+/// The texts that a row asks it on: a part file, a program and lines of the debugger.
+#[derive(Clone, Copy)]
+pub(crate) struct Texted<'a> {
+    pub(crate) part: &'a str,
+    pub(crate) program: &'a str,
+    pub(crate) lines: &'a str,
+}
+
+// What a command does wrong beside a workpiece.
+fn failures_at(
+    alloc: Global,
+    asked: Asked<'_>,
+    part: &PartData,
+    texts: Texted<'_>,
+) -> Option<String> {
+    let (input, work) = match asked {
+        Asked::Run(steps) => return run_failures(alloc, part, texts, steps.min(FEW)),
+        Asked::Debug => return debug_failures(alloc, part, texts),
+        Asked::Show(showing, steps) => (texts.program, Work::Show(showing, steps.min(FEW))),
+        Asked::Talk => (texts.lines, Work::Talk(texts.program)),
+    };
+    failures(alloc, input.as_bytes(), Steps::Any, &Beside { part, work })
+}
+
+/// What a command does wrong beside the workpiece of a part file; where that is refused, what reading the file does wrong.
+pub(crate) fn failures_beside(
+    alloc: Global,
+    asked: Asked<'_>,
+    texts: Texted<'_>,
+) -> Option<String> {
+    match read_part(alloc, texts.part.as_bytes()) {
+        Ok(part) => failures_at(alloc, asked, &part, texts),
+        Err(_) => plain_failures(alloc, Plain::Part, texts.part),
+    }
 }
 
 /// What `vcm clearance` does wrong; nothing where the probe file is refused.
 pub(crate) fn clearance_failures(
     alloc: Global,
-    part: &str,
     probe: &str,
-    program: &str,
+    texts: Texted<'_>,
     steps: u64,
 ) -> Option<String> {
     match read_boxes(alloc, probe.as_bytes()) {
         Ok(boxes) => {
-            let view = RunView::Clearance(&boxes);
-            show_failures(alloc, Showing::View(view), part, program, steps)
+            let showing = Showing::View(RunView::Clearance(&boxes));
+            failures_beside(alloc, Asked::Show(showing, steps), texts)
         }
         Err(_) => Some(String::new(alloc)),
     }
 }
 
-/// What `vcm debug` does wrong: where its commands or its replies fail, and where the program can't be read.
-pub(crate) fn debug_failures(
-    alloc: Global,
-    part: &str,
-    program: &str,
-    commands: &str,
-) -> Option<String> {
-    beside(alloc, part, |part| {
-        let mut text = failures(alloc, commands.as_bytes(), Steps::Any, |lines, out| {
-            ending_of(debug(alloc, part, &mut program.as_bytes(), lines, out))
-        })?;
-        let of_program = failures(alloc, program.as_bytes(), Steps::Any, |input, _| {
-            let mut lines = commands.as_bytes();
-            ending_of(debug(alloc, part, input, &mut lines, &mut Vec::new(alloc)))
-        })?;
-        text.push_str(&of_program).ok()?;
-        Some(text)
-    })
+// The debug adapter, which opens files.
+#[derive(Clone, Copy)]
+struct Adapter<'a, R> {
+    rt: &'a R,
 }
 
-/// What `vcm debug` does wrong at a terminal.
-pub(crate) fn talk_failures(
-    alloc: Global,
-    part: &str,
-    program: &str,
-    lines: &str,
-) -> Option<String> {
-    beside(alloc, part, |part| {
-        failures(alloc, lines.as_bytes(), Steps::Any, |lines, out| {
-            ending_of(debug_by_hand(alloc, part, program.as_bytes(), lines, out, &Unseen))
-        })
-    })
+impl<R: Files + AllocGlobal> Command for Adapter<'_, R> {
+    fn ending(&self, _alloc: Global, input: &mut Failing<'_>, out: &mut Seen<'_>) -> Ending {
+        match serve_dap(self.rt, input, &mut out.writer) {
+            Ok(()) => Ending::Whole,
+            Err(message) => ending_told(message, 0),
+        }
+    }
 }
 
 /// What `vcm dap` does wrong with these bytes.
 pub(crate) fn sent_failures<R: Files + AllocGlobal>(rt: &R, sent: &[u8]) -> Option<String> {
-    failures(
-        rt.alloc(),
-        sent,
-        Steps::Any,
-        |input, out| match serve_dap(rt, input, &mut out.writer) {
-            Ok(()) => Ending::Whole,
-            Err(message) => ending_told(message, 0),
-        },
-    )
+    failures(rt.alloc(), sent, Steps::Any, &Adapter { rt })
 }

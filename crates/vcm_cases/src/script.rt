@@ -8,8 +8,7 @@ use crate::answers::{
 use crate::asking::{explain_answer, words_answer};
 use crate::explained::judge_examples;
 use crate::failing::{
-    Showing, asm_failures, build_failures, check_failures, clearance_failures, debug_failures,
-    list_failures, part_failures, run_failures, show_failures, talk_failures,
+    Asked, Plain, Showing, Texted, clearance_failures, failures_beside, plain_failures,
 };
 use crate::messages::messages;
 use crate::parts::{notices_answer, part_answer};
@@ -265,26 +264,30 @@ fn answer(alloc: Global, script: &Script) -> Option<String> {
 
 // What the command that a heading asks does wrong between devices that fail, none inside where memory runs out; none where it has no devices.
 fn failures(alloc: Global, script: &Script) -> Option<Option<String>> {
-    let (part, program) = (script.part.as_str(), script.program.as_str());
-    let (showing, steps) = match heading_of(&script.title) {
-        Heading::Run(steps) => return Some(run_failures(alloc, part, program, steps)),
+    let texts = Texted {
+        part: &script.part,
+        program: &script.program,
+        lines: &script.commands,
+    };
+    let asked = match heading_of(&script.title) {
+        Heading::PartTold => return Some(plain_failures(alloc, Plain::Part, texts.part)),
+        Heading::Check => return Some(plain_failures(alloc, Plain::Check, texts.program)),
+        Heading::Listing => return Some(plain_failures(alloc, Plain::List, texts.program)),
+        Heading::Image => return Some(plain_failures(alloc, Plain::Build, texts.program)),
         Heading::Clearance(steps) => {
-            return Some(clearance_failures(alloc, part, &script.probe, program, steps));
+            return Some(clearance_failures(alloc, &script.probe, texts, steps));
         }
-        Heading::PartTold => return Some(part_failures(alloc, part)),
-        Heading::Check => return Some(check_failures(alloc, program)),
-        Heading::Replies => return Some(debug_failures(alloc, part, program, &script.commands)),
-        Heading::Talked => return Some(talk_failures(alloc, part, program, &script.commands)),
-        Heading::Listing => return Some(list_failures(alloc, program)),
-        Heading::Image => return Some(build_failures(alloc, program)),
-        Heading::View(view, steps) => (Showing::View(view), steps),
-        Heading::Why(steps, _) => (Showing::Why, steps),
-        Heading::Contacts(steps) => (Showing::Contacts, steps),
-        Heading::Story(steps) => (Showing::Story, steps),
-        Heading::Sheet => (Showing::Sheet, STEPS_OF_SHEETS),
+        Heading::Run(steps) => Asked::Run(steps),
+        Heading::View(view, steps) => Asked::Show(Showing::View(view), steps),
+        Heading::Why(steps, _) => Asked::Show(Showing::Why, steps),
+        Heading::Contacts(steps) => Asked::Show(Showing::Contacts, steps),
+        Heading::Story(steps) => Asked::Show(Showing::Story, steps),
+        Heading::Sheet => Asked::Show(Showing::Sheet, STEPS_OF_SHEETS),
+        Heading::Replies => Asked::Debug,
+        Heading::Talked => Asked::Talk,
         _ => return None,
     };
-    Some(show_failures(alloc, showing, part, program, steps))
+    Some(failures_beside(alloc, asked, texts))
 }
 
 // The steps that a line of an answer tells; nothing where it tells none.
@@ -511,7 +514,7 @@ impl Script {
         if listing.len() > LONG {
             return Some(());
         }
-        let found = asm_failures(alloc, listing);
+        let found = plain_failures(alloc, Plain::Asm, listing);
         self.judge_failures(alloc, found)
     }
 
