@@ -63,7 +63,8 @@ AreChosen n cs ls = left n cs ls ≡ chosen cs (grouped (kept_lines_from n ls))
 abbrev left_behind : ℕ → Edit → List ℕ → List Edit → List (List ℕ) → List (List KeptLine)
 left_behind n c l cs ls = grouped (kept_lines_from n (seen c l ∷ seen_lines (line_edits cs ls) ls))
 
-empty_line : (n : ℕ) (l : List ℕ) (ls : List (List ℕ)) (c : Edit) (cs : List Edit) → is_empty l ≡ true → AreChosen (n + 1) (c ∷ cs) ls → left_behind n Keep l (c ∷ cs) ls ≡ chosen (c ∷ cs) (grouped (kept_lines_from n (l ∷ ls)))
+empty_line : (n : ℕ) (l : List ℕ) (ls : List (List ℕ)) (c : Edit) (cs : List Edit) → is_empty l ≡ true → AreChosen (n + 1) (c ∷ cs) ls
+    → left_behind n Keep l (c ∷ cs) ls ≡ chosen (c ∷ cs) (grouped (kept_lines_from n (l ∷ ls)))
 empty_line n l ls c cs e h =
     ap grouped (rows_empty n l (seen_lines (line_edits (c ∷ cs) ls) ls) e) ∙ h ∙ ap (λ (x : List KeptLine). chosen (c ∷ cs) (grouped x)) (sym (rows_empty n l ls e))
 
@@ -71,25 +72,48 @@ empty_line n l ls c cs e h =
 last_line : (n : ℕ) (l : List ℕ) (ls : List (List ℕ)) (c : Edit) (cs : List Edit) → is_empty l ≡ false → continues l ≡ false → IsStatement c → AreChosen (n + 1) cs ls
     → left_behind n c l cs ls ≡ chosen (c ∷ cs) (grouped (kept_lines_from n (l ∷ ls)))
 last_line n l ls Keep cs e f s h =
-    rw (rows_kept n l ls e, rows_kept n l (seen_lines (line_edits cs ls) ls) e, group_ends (kept_line n l) (kept_lines_from (n + 1) ls) f, group_ends (kept_line n l) (kept_lines_from (n + 1) (seen_lines (line_edits cs ls) ls)) f)
+    rw (
+      rows_kept n l ls e,
+      rows_kept n l (seen_lines (line_edits cs ls) ls) e,
+      group_ends (kept_line n l) (kept_lines_from (n + 1) ls) f,
+      group_ends
+          (kept_line n l) (kept_lines_from (n + 1) (seen_lines (line_edits cs ls) ls)) f,
+    )
     (ap (λ (x : List (List KeptLine)). (kept_line n l ∷ []) ∷ x) h)
 last_line n l ls LeaveOut cs e f s h =
     rw (rows_kept n l ls e, rows_nothing n (seen_lines (line_edits cs ls) ls), group_ends (kept_line n l) (kept_lines_from (n + 1) ls) f) h
 last_line n l ls (Put new) cs e f s h =
-    rw (rows_kept n l ls e, rows_kept n new (seen_lines (line_edits cs ls) ls) s.0, group_ends (kept_line n l) (kept_lines_from (n + 1) ls) f, group_ends (kept_line n new) (kept_lines_from (n + 1) (seen_lines (line_edits cs ls) ls)) s.1)
+    rw (
+      rows_kept n l ls e,
+      rows_kept n new (seen_lines (line_edits cs ls) ls) s.0,
+      group_ends (kept_line n l) (kept_lines_from (n + 1) ls) f,
+      group_ends
+          (kept_line n new) (kept_lines_from (n + 1) (seen_lines (line_edits cs ls) ls)) s.1,
+    )
     (ap (λ (x : List (List KeptLine)). (kept_line n new ∷ []) ∷ x) h)
 
 -- a line behind which its statement goes on
 going_line : (n : ℕ) (l : List ℕ) (ls : List (List ℕ)) (c : Edit) (cs : List Edit) → is_empty l ≡ false → continues l ≡ true → IsStatement c → AreChosen (n + 1) (of_others c ∷ cs) ls
     → left_behind n c l (of_others c ∷ cs) ls ≡ chosen (c ∷ cs) (grouped (kept_lines_from n (l ∷ ls)))
 going_line n l ls Keep cs e f s h =
-    rw (rows_kept n l ls e, rows_kept n l (seen_lines (line_edits (Keep ∷ cs) ls) ls) e, group_goes (kept_line n l) (kept_lines_from (n + 1) ls) f, group_goes (kept_line n l) (kept_lines_from (n + 1) (seen_lines (line_edits (Keep ∷ cs) ls) ls)) f)
+    rw (
+      rows_kept n l ls e,
+      rows_kept n l (seen_lines (line_edits (Keep ∷ cs) ls) ls) e,
+      group_goes (kept_line n l) (kept_lines_from (n + 1) ls) f,
+      group_goes
+          (kept_line n l) (kept_lines_from (n + 1) (seen_lines (line_edits (Keep ∷ cs) ls) ls)) f,
+    )
     (ap (onto_first (kept_line n l)) h ∙ keep_onto (kept_line n l) cs (grouped (kept_lines_from (n + 1) ls)))
 going_line n l ls LeaveOut cs e f s h =
     rw (rows_kept n l ls e, rows_nothing n (seen_lines (line_edits (LeaveOut ∷ cs) ls) ls), group_goes (kept_line n l) (kept_lines_from (n + 1) ls) f)
     (h ∙ leave_onto (kept_line n l) cs (grouped (kept_lines_from (n + 1) ls)))
 going_line n l ls (Put new) cs e f s h =
-    rw (rows_kept n l ls e, rows_kept n new (seen_lines (line_edits (LeaveOut ∷ cs) ls) ls) s.0, group_goes (kept_line n l) (kept_lines_from (n + 1) ls) f, group_ends (kept_line n new) (kept_lines_from (n + 1) (seen_lines (line_edits (LeaveOut ∷ cs) ls) ls)) s.1)
+    rw (
+      rows_kept n l ls e,
+      rows_kept n new (seen_lines (line_edits (LeaveOut ∷ cs) ls) ls) s.0,
+      group_goes (kept_line n l) (kept_lines_from (n + 1) ls) f,
+      group_ends (kept_line n new) (kept_lines_from (n + 1) (seen_lines (line_edits (LeaveOut ∷ cs) ls) ls)) s.1,
+    )
     (ap (λ (x : List (List KeptLine)). (kept_line n new ∷ []) ∷ x) h ∙ put_onto (kept_line n l) new cs (grouped (kept_lines_from (n + 1) ls)))
 
 others_stand : (c : Edit) → IsStatement (of_others c)

@@ -168,7 +168,8 @@ bares_edited : (es : List Edit) (ls : List (List ℕ)) → AreWhole ls → map b
 bares_edited [] ls w = refl
 bares_edited (e ∷ es) [] w = refl
 bares_edited (e ∷ es) (l ∷ []) w = both_same (bare (edited e l)) (edited e (bare l)) (map bare (edited_lines es [])) (edited_lines es []) (bare_only e l w) (no_more es)
-bares_edited (e ∷ es) (l ∷ m ∷ ls) w = both_same (bare (edited e l)) (edited e (bare l)) (map bare (edited_lines es (m ∷ ls))) (edited_lines es (map bare (m ∷ ls))) (bare_line e l w.0) (bares_edited es (m ∷ ls) w.1)
+bares_edited (e ∷ es) (l ∷ m ∷ ls) w = both_same (bare (edited e l)) (edited e (bare l)) (map bare (edited_lines es (m ∷ ls)))
+    (edited_lines es (map bare (m ∷ ls))) (bare_line e l w.0) (bares_edited es (m ∷ ls) w.1)
 
 lines_whole : (text : List ℕ) → lines text ≡ map bare (whole_lines text)
 lines_whole text = ap lines (sym (lines_joined text)) ∙ whole_bare (whole_lines text) (are_whole text)

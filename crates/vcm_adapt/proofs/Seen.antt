@@ -87,7 +87,8 @@ in_text : (t : Bool) (rest : List ℕ) (b : ℕ) (bs : List ℕ) → eqb b 39 �
 in_text true rest b bs e p q h =
     quote_inside b (bs ++ tail rest) e ∙ rw (quote_inside b bs e) (ap (λ (x : List Segment). Quoted [] ∷ x) (p (rw (quote_inside b bs e) at h)))
 in_text false rest b bs e p q h =
-    other_inside b (bs ++ tail rest) e ∙ rw (other_inside b bs e) (ap (onto_text b) (q (onto_tight b (segments_from true bs) (rw (other_inside b bs e) at h))) ∙ onto_behind b rest (segments_from true bs))
+    other_inside b (bs ++ tail rest) e ∙ rw (other_inside b bs e)
+    (ap (onto_text b) (q (onto_tight b (segments_from true bs) (rw (other_inside b bs e) at h))) ∙ onto_behind b rest (segments_from true bs))
 
 at_end : (t : Bool) (rest : List ℕ) (b : ℕ) → eqb b 39 ≡ t → Stays rest false (b ∷ [])
 at_end true rest b e h = absurd (differs (rw (quote_last b e) at h))

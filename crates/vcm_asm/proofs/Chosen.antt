@@ -61,7 +61,8 @@ module _ (setup : Setup) (code : List CodeStatement) (to : Name → ℕ) (d : �
         here : Placed (base + 1) b around
         here = record { has = has_front code (base + 1) (block_code to b d (base + 1)) _ h.has.1; jumps = h.jumps.0; marked = marked_front to (marks b (base + 1)) _ h.marked; deep = h.deep.0 }
 
-        by : (t : Bool) → IsSelected (base + 1 + sizes b + 1) behind around (case_sizes rest) (chosen z rest (base + 1 + sizes b + 1)) (target_for z (branches_of rest (base + 1 + sizes b + 1)) (last_target rest (base + 1 + sizes b + 1)))
+        by : (t : Bool) → IsSelected (base + 1 + sizes b + 1) behind around (case_sizes rest) (chosen z rest (base + 1 + sizes b + 1))
+            (target_for z (branches_of rest (base + 1 + sizes b + 1)) (last_target rest (base + 1 + sizes b + 1)))
             → IsSelected base behind around (case_sizes (one_case line v b close rest)) (this_or t (b, base + 1) (chosen z rest (base + 1 + sizes b + 1)))
             (if_true t (base + 1) (target_for z (branches_of rest (base + 1 + sizes b + 1)) (last_target rest (base + 1 + sizes b + 1))))
         by true k = record { target = refl; placed = here; line = close; closing = closing.0 }

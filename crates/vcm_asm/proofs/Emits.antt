@@ -11,7 +11,8 @@ use Rattle.vcm_asm.specs.inner.Targets.{Retargets}
 use Rattle.vcm_asm.specs.Assembled.{node_code, block_code, case_code}
 use Rattle.vcm_asm.proofs.Place.{node_length, block_length}
 
-pub block_grows : (to : Name → ℕ) (n : Node) (b : Block) (d : ℕ) (items new : List CodeStatement) → new ≡ items ++ node_code to n d (length items) → new ++ block_code to b d (length new) ≡ items ++ block_code to (then n b) d (length items)
+pub block_grows : (to : Name → ℕ) (n : Node) (b : Block) (d : ℕ) (items new : List CodeStatement) → new ≡ items ++ node_code to n d (length items)
+    → new ++ block_code to b d (length new) ≡ items ++ block_code to (then n b) d (length items)
 block_grows to n b d items new e =
     let own = node_code to n d (length items) in
     let len : length new ≡ length items + size n = omega (arith, ap length e, length-append items own, node_length to n d (length items)) in
@@ -20,7 +21,8 @@ block_grows to n b d items new e =
     ∙ append_assoc items own (block_code to b d (length items + size n))
 
 -- a statement and a block behind it
-pub opened : (to : Name → ℕ) (b : Block) (d : ℕ) (old c1 c2 : List CodeStatement) (s : CodeStatement) → c1 ≡ old ++ s ∷ [] → c2 ≡ c1 ++ block_code to b d (length c1) → c2 ≡ old ++ s ∷ block_code to b d (length old + 1)
+pub opened : (to : Name → ℕ) (b : Block) (d : ℕ) (old c1 c2 : List CodeStatement) (s : CodeStatement) → c1 ≡ old ++ s ∷ []
+    → c2 ≡ c1 ++ block_code to b d (length c1) → c2 ≡ old ++ s ∷ block_code to b d (length old + 1)
 opened to b d old c1 c2 s e1 e2 =
     let l1 : length c1 ≡ length old + 1 = omega (arith, ap length e1, length-append old (s ∷ [])) in
     e2 ∙ ap (λ k. c1 ++ block_code to b d k) l1
@@ -41,7 +43,9 @@ wrote_meas to body d line feature close old c1 c2 c3 e1 e2 e3 =
     ∙ append_assoc old (s ∷ block_code to body d (length old + 1)) (last ∷ [])
 
 -- an opening statement's placeholder, in the form in which the program's meaning writes it
-pub wrote_if : (to : Name → ℕ) (first : Block) (d line : ℕ) (test : Tree) (close : ℕ) (items : List Item) (old c1 c2 c3 c4 : List CodeStatement) (start end : ℕ) → items ≡ spelling test → start ≡ length old → c1 ≡ old ++ statement line (If items 0) ∷ [] → c2 ≡ c1 ++ block_code to first d (length c1) → end ≡ length c2 → Retargets c2 start end c3 → c4 ≡ c3 ++ statement close EndIf ∷ [] → c4 ≡ old ++ node_code to (choice line test first close) d (length old)
+pub wrote_if : (to : Name → ℕ) (first : Block) (d line : ℕ) (test : Tree) (close : ℕ) (items : List Item) (old c1 c2 c3 c4 : List CodeStatement) (start end : ℕ)
+    → items ≡ spelling test → start ≡ length old → c1 ≡ old ++ statement line (If items 0) ∷ [] → c2 ≡ c1 ++ block_code to first d (length c1) → end ≡ length c2
+    → Retargets c2 start end c3 → c4 ≡ c3 ++ statement close EndIf ∷ [] → c4 ≡ old ++ node_code to (choice line test first close) d (length old)
 wrote_if to first d line test close items old c1 c2 c3 c4 start end it m1 e1 e2 m2 st e4 =
     let base = length old in
     let s0 = statement line (If items 0) in
@@ -55,7 +59,11 @@ wrote_if to first d line test close items old c1 c2 c3 c4 start end it m1 e1 e2 
     ∙ ap (λ k. old ++ (statement line (If items k) ∷ (body ++ last ∷ []))) at
     ∙ ap (λ e. old ++ (statement line (If e (base + 1 + sizes first)) ∷ (body ++ last ∷ []))) it
 
-pub wrote_if_else : (to : Name → ℕ) (first second : Block) (d line : ℕ) (test : Tree) (mid close : ℕ) (items : List Item) (old c1 c2 c3 c4 c5 c6 c7 : List CodeStatement) (start middle after end : ℕ) → items ≡ spelling test → start ≡ length old → c1 ≡ old ++ statement line (If items 0) ∷ [] → c2 ≡ c1 ++ block_code to first d (length c1) → middle ≡ length c2 → c3 ≡ c2 ++ statement mid (Else 0) ∷ [] → after ≡ length c3 → Retargets c3 start after c4 → c5 ≡ c4 ++ block_code to second d (length c4) → end ≡ length c5 → Retargets c5 middle (end + 1) c6 → c7 ≡ c6 ++ statement close EndIf ∷ [] → c7 ≡ old ++ node_code to (choice_else line test first mid second close) d (length old)
+pub wrote_if_else : (to : Name → ℕ) (first second : Block) (d line : ℕ) (test : Tree) (mid close : ℕ) (items : List Item)
+    (old c1 c2 c3 c4 c5 c6 c7 : List CodeStatement) (start middle after end : ℕ) → items ≡ spelling test → start ≡ length old
+    → c1 ≡ old ++ statement line (If items 0) ∷ [] → c2 ≡ c1 ++ block_code to first d (length c1) → middle ≡ length c2 → c3 ≡ c2 ++ statement mid (Else 0) ∷ []
+    → after ≡ length c3 → Retargets c3 start after c4 → c5 ≡ c4 ++ block_code to second d (length c4) → end ≡ length c5 → Retargets c5 middle (end + 1) c6
+    → c7 ≡ c6 ++ statement close EndIf ∷ [] → c7 ≡ old ++ node_code to (choice_else line test first mid second close) d (length old)
 wrote_if_else to first second d line test mid close items old c1 c2 c3 c4 c5 c6 c7 start middle after end it m1 e1 e2 m2 e3 m3 st1 e5 m5 st2 e7 =
     let base = length old in
     let s0 = statement line (If items 0) in
@@ -84,9 +92,13 @@ wrote_if_else to first second d line test mid close items old c1 c2 c3 c4 c5 c6 
     ∙ ap (λ k. old ++ (statement line (If items k) ∷ (one ++ (t1 ∷ (two ++ last ∷ []))))) at3
     ∙ ap (λ e. old ++ (statement line (If e (base + 1 + sizes first + 1)) ∷ (one ++ (t1 ∷ (two ++ last ∷ []))))) it
     ∙ ap (λ k. old ++ (statement line (If (spelling test) (base + 1 + sizes first + 1)) ∷ (one ++ (statement mid (Else k) ∷ (two ++ last ∷ []))))) at5
-    ∙ ap (λ k. old ++ (statement line (If (spelling test) (base + 1 + sizes first + 1)) ∷ (one ++ (statement mid (Else (base + 1 + sizes first + 1 + sizes second + 1)) ∷ (block_code to second d k ++ last ∷ []))))) from
+    ∙ ap (λ k. old ++ (statement line (If (spelling test) (base + 1 + sizes first + 1)) ∷
+    (one ++ (statement mid (Else (base + 1 + sizes first + 1 + sizes second + 1)) ∷ (block_code to second d k ++ last ∷ []))))) from
 
-pub wrote_do : (to : Name → ℕ) (body : Block) (d line v : ℕ) (init limit step : Tree) (close : ℕ) (old c1 c2 c3 c4 : List CodeStatement) (start end : ℕ) (op : Op) → op ≡ Do v d (spelling init) (spelling limit) (spelling step) 0 → start ≡ length old → c1 ≡ old ++ statement line op ∷ [] → c2 ≡ c1 ++ block_code to body (d + 1) (length c1) → end ≡ length c2 → Retargets c2 start (end + 1) c3 → c4 ≡ c3 ++ statement close (EndDo v d (start + 1)) ∷ [] → c4 ≡ old ++ node_code to (do_loop line v init limit step body close) d (length old)
+pub wrote_do : (to : Name → ℕ) (body : Block) (d line v : ℕ) (init limit step : Tree) (close : ℕ) (old c1 c2 c3 c4 : List CodeStatement) (start end : ℕ)
+    (op : Op) → op ≡ Do v d (spelling init) (spelling limit) (spelling step) 0 → start ≡ length old → c1 ≡ old ++ statement line op ∷ []
+    → c2 ≡ c1 ++ block_code to body (d + 1) (length c1) → end ≡ length c2 → Retargets c2 start (end + 1) c3
+    → c4 ≡ c3 ++ statement close (EndDo v d (start + 1)) ∷ [] → c4 ≡ old ++ node_code to (do_loop line v init limit step body close) d (length old)
 wrote_do to body d line v init limit step close old c1 c2 c3 c4 start end op is m1 e1 e2 m2 st e4 =
     let base = length old in
     let s0 = statement line (Do v d (spelling init) (spelling limit) (spelling step) 0) in

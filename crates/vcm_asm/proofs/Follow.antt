@@ -33,7 +33,10 @@ module _ (setup : Setup) (code : List CodeStatement) (to : Name → ℕ) where
   Matched = MatchedIn setup code to
 
   -- an ENDDO
-  loop_follows : (ps : List Pair) (at v : ℕ) (b : Block) (c : ℕ) (lim inc : ℤ) (es : List Entry) (d : ℕ) (old : List Entry) (w : World) → Sits ps (Loop at v b c lim inc ∷ es) (suc d) (at + 1 + sizes b) → Bottom (Loop at v b c lim inc ∷ es) → length ps ≡ 32 → Sits ps old (suc d) (at + 1 + sizes b) → Bottom old → Matched (act setup (Loop at v b c lim inc ∷ es) w old) (fetched setup (slice_get code (at + 1 + sizes b)) w (at + 1 + sizes b) ps)
+  loop_follows : (ps : List Pair) (at v : ℕ) (b : Block) (c : ℕ) (lim inc : ℤ) (es : List Entry) (d : ℕ) (old : List Entry) (w : World)
+      → Sits ps (Loop at v b c lim inc ∷ es) (suc d) (at + 1 + sizes b) → Bottom (Loop at v b c lim inc ∷ es) → length ps ≡ 32
+      → Sits ps old (suc d) (at + 1 + sizes b) → Bottom old
+      → Matched (act setup (Loop at v b c lim inc ∷ es) w old) (fetched setup (slice_get code (at + 1 + sizes b)) w (at + 1 + sizes b) ps)
   loop_follows ps at v b c lim inc es d old w h bot room old_sits old_bottom =
       with_op setup code to s (EndDo v d (at + 1)) c w num ps (h.0).op
       (subst (λ o. Matched s (turn o w num c v (at + 1) ps)) (sym (h.0).saved)
@@ -57,11 +60,22 @@ module _ (setup : Setup) (code : List CodeStatement) (to : Name → ℕ) where
       g = λ w'. if_true (is_past w' v lim inc) (code_state w' (num + 1) ps) (code_state w' (at + 1) ps)
 
   -- one step at the front
-  act_follows : (ps : List Pair) (fs : List Entry) (d pc : ℕ) (old : List Entry) (w : World) → Sits ps fs d pc → Bottom fs → Live fs → length ps ≡ 32 → Sits ps old d pc → Bottom old → Matched (act setup fs w old) (fetched setup (slice_get code pc) w pc ps)
+  act_follows : (ps : List Pair) (fs : List Entry) (d pc : ℕ) (old : List Entry) (w : World) → Sits ps fs d pc → Bottom fs → Live fs → length ps ≡ 32
+      → Sits ps old d pc → Bottom old → Matched (act setup fs w old) (fetched setup (slice_get code pc) w pc ps)
   act_follows ps [] d pc old w h bot live room old_sits old_bottom = absurd live
   act_follows ps (Rest b base i ∷ es) d pc old w h bot live room old_sits old_bottom =
       let num = number_at b base i in
-      let a : At setup code to ps b base i es d old live.0 = record { node = live.1; placed = h.1; rest = h.2; bottom = bot; room = room; old_sits = subst (λ k. Sits ps old d k) h.0 old_sits; old_bottom = old_bottom } in
+      let a : At setup code to ps b base i es d old live.0 =
+      record {
+        node = live.1;
+        placed = h.1;
+        rest = h.2;
+        bottom = bot;
+        room = room;
+        old_sits = subst (λ k. Sits ps old d k) h.0 old_sits;
+        old_bottom =
+            old_bottom;
+      } in
       subst (λ k. Matched (act setup (Rest b base i ∷ es) w old) (fetched setup (slice_get code k) w k ps)) (sym h.0)
       (subst (λ o. Matched (at_node setup o num w old (Rest b base i ∷ es) (Rest b base (suc i) ∷ es)) (fetched setup (slice_get code num) w num ps)) (sym live.1)
       (node_follows setup code to ps b base i es d old w live.0 a))

@@ -7,7 +7,8 @@ use Rattle.vcm_spec.specs.Simple.{Simple, with_form}
 use Rattle.vcm_spec.specs.declared.simple.Simple.TheVariants.{Goto, GoHome, Assign, Feat, PtMeas, SnSet, Trans, Rotate, Recall, Obtain, Output, Text}
 use Rattle.vcm_spec.specs.Setup.{Tables}
 use Rattle.vcm_spec.specs.Fitting.{kinds, Fits, AreLengths, HasKindIn, NodeFits, BlockFits, CasesFit}
-use Rattle.vcm_spec.specs.Program.{Label as Name, Node, Block, Cases, simple, label, jump, choice, choice_else, do_loop, meas, select, ending, done, then, no_more, one_case, default, size, sizes, case_sizes}
+use Rattle.vcm_spec.specs.Program.{Label as Name, Node, Block, Cases, simple, label, jump, choice, choice_else, do_loop, meas, select, ending, done, then}
+use Rattle.vcm_spec.specs.Program.{no_more, one_case, default, size, sizes, case_sizes}
 use Rattle.vcm_code.specs.declared.op.Op.TheVariants.{Plain}
 use Rattle.vcm_code.specs.Code.{CodeStatement}
 use Rattle.vcm_code.specs.Ranges.{IsShort, OpInRange, AllInRange}

@@ -39,7 +39,9 @@ module _ (setup : Setup) (code : List CodeStatement) (to : Name → ℕ) where
   Matched = MatchedIn setup code to
 
   -- what may stop
-  pub fork : {A : Type 0} (o o' : Outcome A) → o' ≡ o → (w : World) (number line : ℕ) (old : List Entry) (ps : List Pair) (f : A → State) (g : A → CodeState) → ((k : Stop) → Matched (state (stopped w k number line) old) (code_state (stopped w k number line) number ps)) → ((x : A) → Matched (f x) (g x)) → Matched (or_stop o w number line old f) (or_halt o' w number line ps g)
+  pub fork : {A : Type 0} (o o' : Outcome A) → o' ≡ o → (w : World) (number line : ℕ) (old : List Entry) (ps : List Pair) (f : A → State) (g : A → CodeState)
+      → ((k : Stop) → Matched (state (stopped w k number line) old) (code_state (stopped w k number line) number ps)) → ((x : A) → Matched (f x) (g x))
+      → Matched (or_stop o w number line old f) (or_halt o' w number line ps g)
   fork {A = A} o o' e w number line old ps f g s h =
       subst (λ x. Matched (or_stop o w number line old f) (or_halt x w number line ps g)) (sym e) (same o)
     where
@@ -51,7 +53,8 @@ module _ (setup : Setup) (code : List CodeStatement) (to : Name → ℕ) where
   choose true a b c d so not = so refl
   choose false a b c d so not = not refl
 
-  pub with_op : (s : State) (op : Op) (line : ℕ) (w : World) (pc : ℕ) (ps : List Pair) → slice_get code pc ≡ Some (statement line op) → Matched s (do_op setup op line w pc ps) → Matched s (fetched setup (slice_get code pc) w pc ps)
+  pub with_op : (s : State) (op : Op) (line : ℕ) (w : World) (pc : ℕ) (ps : List Pair) → slice_get code pc ≡ Some (statement line op)
+      → Matched s (do_op setup op line w pc ps) → Matched s (fetched setup (slice_get code pc) w pc ps)
   with_op s op line w pc ps e h = subst (λ o. Matched s (fetched setup o w pc ps)) (sym e) h
 
   -- the front, which is the i-th node of a block
@@ -87,11 +90,16 @@ module _ (setup : Setup) (code : List CodeStatement) (to : Name → ℕ) where
     goes_on : (n : Node) (w' : World) (pc : ℕ) → At ps b base i es d old n → is_end n ≡ false → num + size n ≡ pc → Matched (state w' on) (code_state w' pc ps)
     goes_on n w' pc a not e = record { world = refl; depth = d; sits = on_sits n ps pc a a.rest e; bottom = on_bottom n a not; room = a.room }
 
-    simple_follows : (line : ℕ) (what : Simple Tree) → At ps b base i es d old (simple line what) → Matched (at_node setup (Some (simple line what)) num w old (Rest b base i ∷ es) on) (fetched setup (slice_get code num) w num ps)
+    simple_follows : (line : ℕ) (what : Simple Tree) → At ps b base i es d old (simple line what)
+        → Matched (at_node setup (Some (simple line what)) num w old (Rest b base i ∷ es) on) (fetched setup (slice_get code num) w num ps)
     simple_follows line what a =
-        with_op _ (Plain (with_form spelling what)) line w num ps (has (simple line what) a).0 (fork (effect value_of setup w what) (effect items_value setup w (with_form spelling what)) (effect-spelling setup w what) w num line old ps (λ w'. state w' on) (λ w'. code_state w' (num + 1) ps) (stays (simple line what) line a) (λ w'. goes_on (simple line what) w' (num + 1) a refl refl))
+        with_op _ (Plain (with_form spelling what)) line w num ps (has (simple line what) a).0
+        (fork (effect value_of setup w what) (effect items_value setup w (with_form spelling what)) (effect-spelling setup w what) w num line old ps
+        (λ w'. state w' on) (λ w'. code_state w' (num + 1) ps) (stays (simple line what) line a)
+        (λ w'. goes_on (simple line what) w' (num + 1) a refl refl))
 
-    label_follows : (line : ℕ) (l : Name) → At ps b base i es d old (label line l) → Matched (at_node setup (Some (label line l)) num w old (Rest b base i ∷ es) on) (fetched setup (slice_get code num) w num ps)
+    label_follows : (line : ℕ) (l : Name) → At ps b base i es d old (label line l)
+        → Matched (at_node setup (Some (label line l)) num w old (Rest b base i ∷ es) on) (fetched setup (slice_get code num) w num ps)
     label_follows line l a =
         with_op _ Label line w num ps (has (label line l) a).0 (goes_on (label line l) w (num + 1) a refl refl)
 
@@ -99,7 +107,8 @@ module _ (setup : Setup) (code : List CodeStatement) (to : Name → ℕ) where
     ending_follows line a =
         with_op _ EndFil line w num ps (has (ending line) a).0 (stays (ending line) line a Ended)
 
-    jump_follows : (line : ℕ) (l : Name) → At ps b base i es d old (jump line l) → Matched (at_node setup (Some (jump line l)) num w old (Rest b base i ∷ es) on) (fetched setup (slice_get code num) w num ps)
+    jump_follows : (line : ℕ) (l : Name) → At ps b base i es d old (jump line l)
+        → Matched (at_node setup (Some (jump line l)) num w old (Rest b base i ∷ es) on) (fetched setup (slice_get code num) w num ps)
     jump_follows line l a =
         let r = jumps_at b (b ∷ scopes es) i (jump line l) a.node (a.placed).jumps in
         let there = landed setup code to l ps (Rest b base i ∷ es) d num (refl, a.placed, a.rest) r a.bottom in
@@ -119,14 +128,22 @@ module _ (setup : Setup) (code : List CodeStatement) (to : Name → ℕ) where
     deep_of : (n : Node) → At ps b base i es d old n → NodeDeep n d
     deep_of n a = deep_at b d i n a.node (a.placed).deep
 
-    choice_follows : (line : ℕ) (test : Tree) (first : Block) (close : ℕ) → At ps b base i es d old (choice line test first close) → Matched (at_node setup (Some (choice line test first close)) num w old (Rest b base i ∷ es) on) (fetched setup (slice_get code num) w num ps)
+    choice_follows : (line : ℕ) (test : Tree) (first : Block) (close : ℕ) → At ps b base i es d old (choice line test first close)
+        → Matched (at_node setup (Some (choice line test first close)) num w old (Rest b base i ∷ es) on) (fetched setup (slice_get code num) w num ps)
     choice_follows line test first close a =
         with_op _ (If (spelling test) end) line w num ps h.0 (fork (test_in value_of w test) (test_in items_value w (spelling test)) (test_in-spelling w test) w num line old ps
         (λ t. if_true t (state w (Rest first (num + 1) 0 ∷ Closes end ∷ on)) (state w (Closes end ∷ on)))
         (λ t. if_true t (code_state w (num + 1) ps) (code_state w end ps))
         (stays n line a)
         (λ t. choose t _ _ _ _
-        (λ e. record { world = refl; depth = d; sits = (sym (number_zero first (num + 1)), placed, closing); bottom = bottom_push (Rest first (num + 1) 0) (Closes end ∷ on) (bottom_push (Closes end) on (on_bottom n a refl)); room = a.room })
+        (λ e. record {
+          world = refl;
+          depth = d;
+          sits = (sym (number_zero first (num + 1)), placed, closing);
+          bottom =
+              bottom_push (Rest first (num + 1) 0) (Closes end ∷ on) (bottom_push (Closes end) on (on_bottom n a refl));
+          room = a.room;
+        })
         (λ e. record { world = refl; depth = d; sits = closing; bottom = bottom_push (Closes end) on (on_bottom n a refl); room = a.room })))
       where
         n : Node
@@ -147,15 +164,33 @@ module _ (setup : Setup) (code : List CodeStatement) (to : Name → ℕ) where
             let after : num + size n ≡ num + 1 + sizes first + 1 = omega arith in
             (refl, num + 1 + sizes first + 1, goes_by setup code to _ _ close EndIf last.0 refl (λ w ps. refl), on_sits n ps _ a a.rest after)
 
-    choice_else_follows : (line : ℕ) (test : Tree) (first : Block) (mid : ℕ) (second : Block) (close : ℕ) → At ps b base i es d old (choice_else line test first mid second close) → Matched (at_node setup (Some (choice_else line test first mid second close)) num w old (Rest b base i ∷ es) on) (fetched setup (slice_get code num) w num ps)
+    choice_else_follows : (line : ℕ) (test : Tree) (first : Block) (mid : ℕ) (second : Block) (close : ℕ)
+        → At ps b base i es d old (choice_else line test first mid second close)
+        → Matched (at_node setup (Some (choice_else line test first mid second close)) num w old (Rest b base i ∷ es) on)
+        (fetched setup (slice_get code num) w num ps)
     choice_else_follows line test first mid second close a =
         with_op _ (If (spelling test) (end + 1)) line w num ps h.0 (fork (test_in value_of w test) (test_in items_value w (spelling test)) (test_in-spelling w test) w num line old ps
         (λ t. if_true t (state w (Rest first (num + 1) 0 ∷ Closes end ∷ on)) (state w (Rest second (end + 1) 0 ∷ Closes (end + 1 + sizes second) ∷ on)))
         (λ t. if_true t (code_state w (num + 1) ps) (code_state w (end + 1) ps))
         (stays n line a)
         (λ t. choose t _ _ _ _
-        (λ e. record { world = refl; depth = d; sits = (sym (number_zero first (num + 1)), placed, middle); bottom = bottom_push (Rest first (num + 1) 0) (Closes end ∷ on) (bottom_push (Closes end) on (on_bottom n a refl)); room = a.room })
-        (λ e. record { world = refl; depth = d; sits = (sym (number_zero second (end + 1)), placed2, closing); bottom = bottom_push (Rest second (end + 1) 0) (Closes (end + 1 + sizes second) ∷ on) (bottom_push (Closes (end + 1 + sizes second)) on (on_bottom n a refl)); room = a.room })))
+        (λ e. record {
+          world = refl;
+          depth = d;
+          sits = (sym (number_zero first (num + 1)), placed, middle);
+          bottom =
+              bottom_push (Rest first (num + 1) 0) (Closes end ∷ on) (bottom_push (Closes end) on (on_bottom n a refl));
+          room = a.room;
+        })
+        (λ e. record {
+          world = refl;
+          depth = d;
+          sits = (sym (number_zero second (end + 1)), placed2, closing);
+          bottom =
+              bottom_push (Rest second (end + 1) 0) (Closes (end + 1 + sizes second) ∷ on)
+              (bottom_push (Closes (end + 1 + sizes second)) on (on_bottom n a refl));
+          room = a.room;
+        })))
       where
         n : Node
         n = choice_else line test first mid second close
@@ -166,19 +201,37 @@ module _ (setup : Setup) (code : List CodeStatement) (to : Name → ℕ) where
         h : HasAt code num (node_code to (choice_else line test first mid second close) d num)
         h = has (choice_else line test first mid second close) a
 
-        h2 : HasAt code (num + 1 + sizes first) (statement mid (Else (num + 1 + sizes first + 1 + sizes second + 1)) ∷ (block_code to second d (num + 1 + sizes first + 1) ++ statement close EndIf ∷ []))
+        h2 : HasAt code (num + 1 + sizes first) (statement mid (Else (num + 1 + sizes first + 1 + sizes second + 1)) ∷
+            (block_code to second d (num + 1 + sizes first + 1) ++ statement close EndIf ∷ []))
         h2 = tail_at first d (num + 1) _ h.1
 
         placed : Placed d (num + 1) first (b ∷ scopes es)
-        placed = record { has = has_front code (num + 1) (block_code to first d (num + 1)) _ h.1; jumps = (jumps_of n a).0; marked = marked_front to (marks first (num + 1)) _ (marked_of n a); deep = (deep_of n a).0 }
+        placed = record {
+          has = has_front code (num + 1) (block_code to first d (num + 1)) _ h.1;
+          jumps = (jumps_of n a).0;
+          marked =
+              marked_front to (marks first (num + 1)) _ (marked_of n a);
+          deep = (deep_of n a).0;
+        }
 
         placed2 : Placed d (num + 1 + sizes first + 1) second (b ∷ scopes es)
-        placed2 = record { has = has_front code _ (block_code to second d (num + 1 + sizes first + 1)) _ h2.1; jumps = (jumps_of n a).1; marked = marked_back to (marks first (num + 1)) _ (marked_of n a); deep = (deep_of n a).1 }
+        placed2 = record {
+          has = has_front code _ (block_code to second d (num + 1 + sizes first + 1)) _ h2.1;
+          jumps = (jumps_of n a).1;
+          marked =
+              marked_back to (marks first (num + 1)) _ (marked_of n a);
+          deep = (deep_of n a).1;
+        }
 
         middle : Sits ps (Closes (num + 1 + sizes first) ∷ on) d (num + 1 + sizes first)
         middle =
-            let after : num + size n ≡ num + 1 + sizes first + 1 + sizes second + 1 = omega arith in
-            (refl, num + 1 + sizes first + 1 + sizes second + 1, goes_by setup code to _ _ mid (Else (num + 1 + sizes first + 1 + sizes second + 1)) h2.0 refl (λ w ps. refl), on_sits n ps _ a a.rest after)
+            let after : num + size n ≡ num + 1 + sizes first + 1 + sizes second + 1 = omega arith in (
+              refl,
+              num + 1 + sizes first + 1 + sizes second + 1,
+              goes_by setup code to _ _ mid (Else (num + 1 + sizes first + 1 + sizes second + 1)) h2.0 refl
+                  (λ w ps. refl),
+              on_sits n ps _ a a.rest after,
+            )
 
         closing : Sits ps (Closes (num + 1 + sizes first + 1 + sizes second) ∷ on) d (num + 1 + sizes first + 1 + sizes second)
         closing =
@@ -186,10 +239,19 @@ module _ (setup : Setup) (code : List CodeStatement) (to : Name → ℕ) where
             let after : num + size n ≡ num + 1 + sizes first + 1 + sizes second + 1 = omega arith in
             (refl, num + 1 + sizes first + 1 + sizes second + 1, goes_by setup code to _ _ close EndIf last.0 refl (λ w ps. refl), on_sits n ps _ a a.rest after)
 
-    meas_follows : (line feature : ℕ) (body : Block) (close : ℕ) → At ps b base i es d old (meas line feature body close) → Matched (at_node setup (Some (meas line feature body close)) num w old (Rest b base i ∷ es) on) (fetched setup (slice_get code num) w num ps)
+    meas_follows : (line feature : ℕ) (body : Block) (close : ℕ) → At ps b base i es d old (meas line feature body close)
+        → Matched (at_node setup (Some (meas line feature body close)) num w old (Rest b base i ∷ es) on) (fetched setup (slice_get code num) w num ps)
     meas_follows line feature body close a =
         with_op _ (Meas feature) line w num ps h.0
-        (record { world = refl; depth = d; sits = (sym (number_zero body (num + 1)), placed, closing); bottom = bottom_push (Rest body (num + 1) 0) (Closes (num + 1 + sizes body) ∷ on) (bottom_push (Closes (num + 1 + sizes body)) on (on_bottom n a refl)); room = a.room })
+        (record {
+          world = refl;
+          depth = d;
+          sits = (sym (number_zero body (num + 1)), placed, closing);
+          bottom =
+              bottom_push (Rest body (num + 1) 0) (Closes (num + 1 + sizes body) ∷ on) (bottom_push (Closes (num + 1 + sizes body)) on (on_bottom n a refl));
+          room
+              = a.room;
+        })
       where
         n : Node
         n = meas line feature body close
@@ -226,7 +288,16 @@ module _ (setup : Setup) (code : List CodeStatement) (to : Name → ℕ) where
         record {
           world = refl;
           depth = d;
-          sits = (h.target ∙ sym (number_zero p.0 p.1), h.placed, (refl, num + 1 + case_sizes cases + 1, goes_by setup code to _ _ h.line (EndCas (num + 1 + case_sizes cases + 1)) h.closing refl (λ w ps. refl), after));
+          sits = (
+            h.target ∙ sym (number_zero p.0 p.1),
+            h.placed,
+            (
+              refl,
+              num + 1 + case_sizes cases + 1,
+              goes_by setup code to _ _ h.line (EndCas (num + 1 + case_sizes cases + 1)) h.closing refl (λ w ps. refl),
+              after,
+            ),
+          );
           bottom = bottom_push (Rest p.0 p.1 0) (Closes (p.1 + sizes p.0) ∷ on) (bottom_push (Closes (p.1 + sizes p.0)) on (on_bottom n a refl));
           room = a.room;
         }
@@ -237,7 +308,8 @@ module _ (setup : Setup) (code : List CodeStatement) (to : Name → ℕ) where
         after : Sits ps on d (num + 1 + case_sizes cases + 1)
         after = (let e : num + size n ≡ num + 1 + case_sizes cases + 1 = omega arith in on_sits n ps _ a a.rest e)
 
-    select_follows : (line : ℕ) (value : Tree) (cases : Cases) (close : ℕ) → At ps b base i es d old (select line value cases close) → Matched (at_node setup (Some (select line value cases close)) num w old (Rest b base i ∷ es) on) (fetched setup (slice_get code num) w num ps)
+    select_follows : (line : ℕ) (value : Tree) (cases : Cases) (close : ℕ) → At ps b base i es d old (select line value cases close)
+        → Matched (at_node setup (Some (select line value cases close)) num w old (Rest b base i ∷ es) on) (fetched setup (slice_get code num) w num ps)
     select_follows line value cases close a =
         with_op _ (Select (spelling value) (branches_of cases (num + 1)) (last_target cases (num + 1))) line w num ps h.0
         (fork (value_in value_of w value) (value_in items_value w (spelling value)) (value_in-spelling w value) w num line old ps
@@ -264,7 +336,9 @@ module _ (setup : Setup) (code : List CodeStatement) (to : Name → ℕ) where
             subst (λ k. HasAt code (num + 1 + k) (statement close EndSel ∷ [])) (cases_length to cases d (num + 1) (num + 1 + case_sizes cases + 1))
             (has_back code (num + 1) (case_code to cases d (num + 1) (num + 1 + case_sizes cases + 1)) _ h.1)
 
-    do_follows : (line v : ℕ) (init limit step : Tree) (body : Block) (close : ℕ) → At ps b base i es d old (do_loop line v init limit step body close) → Matched (at_node setup (Some (do_loop line v init limit step body close)) num w old (Rest b base i ∷ es) on) (fetched setup (slice_get code num) w num ps)
+    do_follows : (line v : ℕ) (init limit step : Tree) (body : Block) (close : ℕ) → At ps b base i es d old (do_loop line v init limit step body close)
+        → Matched (at_node setup (Some (do_loop line v init limit step body close)) num w old (Rest b base i ∷ es) on)
+        (fetched setup (slice_get code num) w num ps)
     do_follows line v init limit step body close a =
         with_op _ (Do v d (spelling init) (spelling limit) (spelling step) exit) line w num ps h.0
         (fork (value_in value_of w init) (value_in items_value w (spelling init)) (value_in-spelling w init) w num line old ps _ _ (stays n line a) (λ x.
@@ -290,20 +364,41 @@ module _ (setup : Setup) (code : List CodeStatement) (to : Name → ℕ) where
 
         passes : (w' : World) (lim inc : ℤ) → is_past w' v lim inc ≡ true → Matched (state w' on) (code_state w' (num + 1 + sizes body + 1) (slice_set ps d (pair lim inc)))
         passes w' lim inc e =
-            record { world = refl; depth = d; sits = on_sits n (slice_set ps d (pair lim inc)) _ a (sits_set setup code to ps d (pair lim inc) es d _ (omega arith) a.rest) after; bottom = on_bottom n a refl; room = saved_room lim inc }
+            record {
+              world = refl;
+              depth = d;
+              sits =
+                  on_sits n (slice_set ps d (pair lim inc)) _ a (sits_set setup code to ps d (pair lim inc) es d _ (omega arith) a.rest) after;
+              bottom =
+                  on_bottom n a refl;
+              room = saved_room lim inc;
+            }
 
         placed : Placed (suc d) (num + 1) body (b ∷ scopes es)
         placed = record { has = has_front code (num + 1) (block_code to body (suc d) (num + 1)) _ h.1; jumps = jumps_of n a; marked = marked_of n a; deep = (deep_of n a).1 }
 
-        enters : (w' : World) (lim inc : ℤ) → is_zero inc ≡ false → Matched (state w' (Rest body (num + 1) 0 ∷ Loop num v body close lim inc ∷ on)) (code_state w' (num + 1) (slice_set ps d (pair lim inc)))
+        enters : (w' : World) (lim inc : ℤ) → is_zero inc ≡ false
+            → Matched (state w' (Rest body (num + 1) 0 ∷ Loop num v body close lim inc ∷ on)) (code_state w' (num + 1) (slice_set ps d (pair lim inc)))
         enters w' lim inc moves =
             let qs = slice_set ps d (pair lim inc) in
             let last = tail_at body (suc d) (num + 1) _ h.1 in
             let room = a.room in
             let below = (deep_of n a).0 in
             let within : d < length ps = omega arith in
-            let turns : Turns setup code to qs d (num + 1 + sizes body) num v body close lim inc = record { number = refl; op = last.0; saved = get_set_same ps d (pair lim inc) within; moves = moves } in
-            record { world = refl; depth = suc d; sits = (sym (number_zero body (num + 1)), placed, (turns, placed, on_sits n qs _ a (sits_set setup code to ps d (pair lim inc) es d _ (omega arith) a.rest) after)); bottom = bottom_push (Rest body (num + 1) 0) (Loop num v body close lim inc ∷ on) (bottom_push (Loop num v body close lim inc) on (on_bottom n a refl)); room = saved_room lim inc }
+            let turns : Turns setup code to qs d (num + 1 + sizes body) num v body close lim inc =
+            record { number = refl; op = last.0; saved = get_set_same ps d (pair lim inc) within; moves = moves } in
+            record {
+              world = refl;
+              depth = suc d;
+              sits = (
+                sym (number_zero body (num + 1)),
+                placed,
+                (turns, placed, on_sits n qs _ a (sits_set setup code to ps d (pair lim inc) es d _ (omega arith) a.rest) after),
+              );
+              bottom =
+                  bottom_push (Rest body (num + 1) 0) (Loop num v body close lim inc ∷ on) (bottom_push (Loop num v body close lim inc) on (on_bottom n a refl));
+              room = saved_room lim inc;
+            }
 
     pub node_follows : (n : Node) → At ps b base i es d old n → Matched (at_node setup (Some n) num w old (Rest b base i ∷ es) on) (fetched setup (slice_get code num) w num ps)
     node_follows (simple line what) a = simple_follows line what a

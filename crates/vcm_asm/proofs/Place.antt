@@ -3,7 +3,8 @@ use Rattle.std.proofs.Common.{◌≡◌, ℕ, zero, suc, ◌+◌, ◌<◌, List,
 use Rattle.std.specs.Prelude.{slice_get}
 use Rattle.std.proofs.Math.Seq.{get_or-append_seam}
 use Rattle.std.proofs.lemmas.Option.{slice_get-get_or}
-use Rattle.vcm_spec.specs.Program.{Label as Name, Node, Block, Cases, simple, label, jump, choice, choice_else, do_loop, meas, select, ending, done, then, no_more, one_case, default, size, sizes, case_sizes, node_at, number_at, label_index, is_same_label}
+use Rattle.vcm_spec.specs.Program.{Label as Name, Node, Block, Cases, simple, label, jump, choice, choice_else, do_loop, meas, select, ending, done, then}
+use Rattle.vcm_spec.specs.Program.{no_more, one_case, default, size, sizes, case_sizes, node_at, number_at, label_index, is_same_label}
 use Rattle.vcm_spec.specs.Table.{if_true}
 use Rattle.vcm_asm.specs.inner.Once.{Absent, Once}
 use Rattle.vcm_asm.specs.inner.Depth.{NodeDeep, Deep}
@@ -49,13 +50,26 @@ mutual
       omega (arith, block_length place first d (base + 1), length-append (block_code place first d (base + 1)) (statement close EndIf ∷ []))
   node_length place (choice_else line test first mid second close) d base =
       let s = block_code place second d (base + 1 + sizes first + 1) in
-      omega (arith, block_length place first d (base + 1), block_length place second d (base + 1 + sizes first + 1), length-append s (statement close EndIf ∷ []), length-append (block_code place first d (base + 1)) (statement mid (Else (base + 1 + sizes first + 1 + sizes second + 1)) ∷ (s ++ statement close EndIf ∷ [])))
+      omega (
+        arith,
+        block_length place first d (base + 1),
+        block_length place second d (base + 1 + sizes first + 1),
+        length-append s
+            (statement close EndIf ∷ []),
+        length-append (block_code place first d (base + 1))
+            (statement mid (Else (base + 1 + sizes first + 1 + sizes second + 1)) ∷ (s ++ statement close EndIf ∷ [])),
+      )
   node_length place (do_loop line var init limit step body close) d base =
       omega (arith, block_length place body (suc d) (base + 1), length-append (block_code place body (suc d) (base + 1)) (statement close (EndDo var d (base + 1)) ∷ []))
   node_length place (meas line feature body close) d base =
       omega (arith, block_length place body d (base + 1), length-append (block_code place body d (base + 1)) (statement close EndMes ∷ []))
   node_length place (select line value cases close) d base =
-      omega (arith, cases_length place cases d (base + 1) (base + 1 + case_sizes cases + 1), length-append (case_code place cases d (base + 1) (base + 1 + case_sizes cases + 1)) (statement close EndSel ∷ []))
+      omega (
+        arith,
+        cases_length place cases d (base + 1) (base + 1 + case_sizes cases + 1),
+        length-append
+            (case_code place cases d (base + 1) (base + 1 + case_sizes cases + 1)) (statement close EndSel ∷ []),
+      )
   node_length place (ending line) d base = omega arith
 
   pub block_length : (place : Name → ℕ) (b : Block) (d base : ℕ) → length (block_code place b d base) ≡ sizes b
@@ -67,7 +81,13 @@ mutual
   cases_length place no_more d base behind = refl
   cases_length place (one_case line v b close rest) d base behind =
       let tail = case_code place rest d (base + 1 + sizes b + 1) behind in
-      omega (arith, block_length place b d (base + 1), cases_length place rest d (base + 1 + sizes b + 1) behind, length-append (block_code place b d (base + 1)) (statement close (EndCas behind) ∷ tail))
+      omega (
+        arith,
+        block_length place b d (base + 1),
+        cases_length place rest d (base + 1 + sizes b + 1) behind,
+        length-append
+            (block_code place b d (base + 1)) (statement close (EndCas behind) ∷ tail),
+      )
   cases_length place (default line b close) d base behind =
       omega (arith, block_length place b d (base + 1), length-append (block_code place b d (base + 1)) (statement close (EndCas behind) ∷ []))
 
@@ -85,12 +105,15 @@ number_next done base i n e = cc
 number_next (then m b) base zero n e = number_zero b (base + size m) ∙ ap (λ x. base + size x) (same_node m n e)
 number_next (then m b) base (suc i) n e = number_next b (base + size m) i n e
 
-pub has_node : (code : List CodeStatement) (place : Name → ℕ) (b : Block) (d base i : ℕ) (n : Node) → node_at b i ≡ Some n → HasAt code base (block_code place b d base) → HasAt code (number_at b base i) (node_code place n d (number_at b base i))
+pub has_node : (code : List CodeStatement) (place : Name → ℕ) (b : Block) (d base i : ℕ) (n : Node) → node_at b i ≡ Some n
+    → HasAt code base (block_code place b d base) → HasAt code (number_at b base i) (node_code place n d (number_at b base i))
 has_node code place done d base i n e h = cc
 has_node code place (then m b) d base zero n e h =
     subst (λ x. HasAt code base (node_code place x d base)) (same_node m n e) (has_front code base (node_code place m d base) _ h)
 has_node code place (then m b) d base (suc i) n e h =
-    has_node code place b d (base + size m) i n e (subst (λ k. HasAt code (base + k) (block_code place b d (base + size m))) (node_length place m d base) (has_back code base (node_code place m d base) _ h))
+    has_node code place b d (base + size m) i n e
+    (subst (λ k. HasAt code (base + k) (block_code place b d (base + size m))) (node_length place m d base)
+    (has_back code base (node_code place m d base) _ h))
 
 pub jumps_at : (b : Block) (around : List Block) (i : ℕ) (n : Node) → node_at b i ≡ Some n → Jumps b around → NodeJumps n around
 jumps_at done around i n e h = cc

@@ -118,7 +118,8 @@ module _ (setup : Setup) (code : List CodeStatement) (to : Name → ℕ) where
       let t = h.0 in
       (record { number = t.number; op = t.op; saved = get_set_other ps d j p (pair lim inc) below t.saved; moves = t.moves }, h.1, sits_set ps j p es d (pc + 1) (omega arith) h.2)
 
-  pub goes_by : (pc target line : ℕ) (op : Op) → slice_get code pc ≡ Some (statement line op) → op_prints op ≡ false → ((w : World) (ps : List Pair) → do_op setup op line w pc ps ≡ code_state w target ps) → Goes pc target
+  pub goes_by : (pc target line : ℕ) (op : Op) → slice_get code pc ≡ Some (statement line op) → op_prints op ≡ false
+      → ((w : World) (ps : List Pair) → do_op setup op line w pc ps ≡ code_state w target ps) → Goes pc target
   goes_by pc target line op e q h = record { silent = ap next_prints e ∙ q; goes = λ w ps. ap (λ o. fetched setup o w pc ps) e ∙ h w ps }
 
   -- a label's entry
@@ -129,7 +130,8 @@ module _ (setup : Setup) (code : List CodeStatement) (to : Name → ℕ) where
       at_label : (k : ℕ) → label_index b l ≡ Some k → to l ≡ number_at b base k
       at_label k e = let f = label_at b l k e in (marked_at to b base k (label f.0 l) f.1 (h.1).marked).0
 
-      here : (IsAround l (scopes es) → (d' : ℕ) × Sits ps (landing l es) d' (to l) × Bottom (landing l es)) → (o : Option ℕ) → label_index b l ≡ o → (d' : ℕ) × Sits ps (land_in o b base es (landing l es)) d' (to l) × Bottom (land_in o b base es (landing l es))
+      here : (IsAround l (scopes es) → (d' : ℕ) × Sits ps (landing l es) d' (to l) × Bottom (landing l es)) → (o : Option ℕ) → label_index b l ≡ o → (d' : ℕ)
+          × Sits ps (land_in o b base es (landing l es)) d' (to l) × Bottom (land_in o b base es (landing l es))
       here next None e =
           let r' : IsAround l (scopes es) = ⊎_elim (λ (x : (k : ℕ) × (line : ℕ) × (node_at b k ≡ Some (label line l))). absurd (missed b l e x.0 x.1 x.2)) (λ x. x) r in
           next r'
@@ -142,7 +144,9 @@ module _ (setup : Setup) (code : List CodeStatement) (to : Name → ℕ) where
   in_front ps [] d pc h bot = absurd bot
   in_front ps (Rest b base i ∷ es) d pc h bot = here (λ k. in_front ps es d (base + sizes b) h.2 k) (node_at b i) refl
     where
-      here : (Bottom es → Sits ps (front es) d (base + sizes b) × Bottom (front es) × Live (front es)) → (o : Option Node) → node_at b i ≡ o → Sits ps (drop_if_none o (front es) (Rest b base i ∷ es)) d pc × Bottom (drop_if_none o (front es) (Rest b base i ∷ es)) × Live (drop_if_none o (front es) (Rest b base i ∷ es))
+      here : (Bottom es → Sits ps (front es) d (base + sizes b) × Bottom (front es) × Live (front es)) → (o : Option Node) → node_at b i ≡ o
+          → Sits ps (drop_if_none o (front es) (Rest b base i ∷ es)) d pc × Bottom (drop_if_none o (front es) (Rest b base i ∷ es))
+          × Live (drop_if_none o (front es) (Rest b base i ∷ es))
       here next None e =
           let r = next (bottom_dropped b base i es e bot) in
           (subst (λ n. Sits ps (front es) d n) (sym (h.0 ∙ past_end b base i e)) r.0, r.1, r.2)

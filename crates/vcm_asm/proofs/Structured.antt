@@ -3,7 +3,8 @@ use Rattle.std.proofs.Common.{◌≡◌, ℕ, suc, ◌+◌, ◌≤◌, Bool, tru
 use Rattle.std.specs.Prelude.{IsTrue, not, ◌||◌, map}
 use Rattle.std.proofs.lemmas.List.{map-append}
 use Rattle.vcm_spec.specs.Setup.{Tables}
-use Rattle.vcm_spec.specs.Program.{Label, Node, Block, Cases, simple, label, jump, choice, choice_else, do_loop, meas, select, ending, done, then, no_more, one_case, default, size, sizes, is_same_label}
+use Rattle.vcm_spec.specs.Program.{Label, Node, Block, Cases, simple, label, jump, choice, choice_else, do_loop, meas, select, ending, done, then, no_more}
+use Rattle.vcm_spec.specs.Program.{one_case, default, size, sizes, is_same_label}
 use Rattle.vcm_spec.specs.Whole.{Jumps}
 use Rattle.vcm_spec.proofs.Labels.{label_itself}
 use Rattle.vcm_nodes.specs.Jumps.{is_among, node_labels, labels_of, labels_among}

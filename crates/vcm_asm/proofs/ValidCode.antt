@@ -10,7 +10,8 @@ use Rattle.vcm_spec.specs.Simple.{Simple, with_form}
 use Rattle.vcm_spec.specs.declared.simple.Simple.TheVariants.{Goto, GoHome, Assign, Feat, PtMeas, SnSet, Trans, Rotate, Recall, Obtain, Output, Text}
 use Rattle.vcm_spec.specs.Setup.{Tables}
 use Rattle.vcm_spec.specs.Fitting.{kinds, Fits, HasKindIn, NodeFits, BlockFits, CasesFit}
-use Rattle.vcm_spec.specs.Program.{Label as Name, Node, Block, Cases, simple, label, jump, choice, choice_else, do_loop, meas, select, ending, done, then, no_more, one_case, default, size, sizes, case_sizes, is_same_label}
+use Rattle.vcm_spec.specs.Program.{Label as Name, Node, Block, Cases, simple, label, jump, choice, choice_else, do_loop, meas, select, ending, done, then}
+use Rattle.vcm_spec.specs.Program.{no_more, one_case, default, size, sizes, case_sizes, is_same_label}
 use Rattle.vcm_spec.specs.Table.{if_true}
 use Rattle.vcm_spec.specs.Whole.{is_end, is_closed}
 use Rattle.vcm_program.specs.Program.{IsWhole}
@@ -130,7 +131,8 @@ module _ (tables : Tables) where
       node_fits (meas line feature body close) d base lt h m =
           ((h.0, tt), fits_join s (block_code to body d (base + 1)) _ (block_fits body d (base + 1) (omega arith) h.1 m) (tt, tt))
       node_fits (select line value cases close) d base lt h m = (
-        select_holds tables s (spelling value) (branches_of cases (base + 1)) _ (keeps value _ h.0 m.0) (branches_below cases (base + 1) s (omega arith)) (last_below cases (base + 1) s (omega arith), tt),
+        select_holds tables s (spelling value) (branches_of cases (base + 1)) _ (keeps value _ h.0 m.0) (branches_below cases (base + 1) s (omega arith))
+            (last_below cases (base + 1) s (omega arith), tt),
         fits_join s (case_code to cases d (base + 1) (base + 1 + case_sizes cases + 1)) _ (cases_fit cases d (base + 1) (base + 1 + case_sizes cases + 1) (omega arith) (omega arith) h.1 m.1) (tt, tt),
       )
       node_fits (ending line) d base lt h m = (tt, tt)

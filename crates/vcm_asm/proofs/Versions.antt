@@ -46,7 +46,9 @@ mutual
   node_version to (choice line test first close) d base =
       closed (block_code to first d (base + 1)) (statement close EndIf) (selects first) refl (block_version to first d (base + 1))
   node_version to (choice_else line test first mid second close) d base =
-      among_append (block_code to first d (base + 1)) (statement mid (Else (base + 1 + sizes first + 1 + sizes second + 1)) ∷ (block_code to second d (base + 1 + sizes first + 1) ++ statement close EndIf ∷ []))
+      among_append (block_code to first d (base + 1))
+      (statement mid (Else (base + 1 + sizes first + 1 + sizes second + 1)) ∷
+      (block_code to second d (base + 1 + sizes first + 1) ++ statement close EndIf ∷ []))
       ∙ both _ _ (selects first) (selects second) (block_version to first d (base + 1))
       (closed (block_code to second d (base + 1 + sizes first + 1)) (statement close EndIf) (selects second) refl (block_version to second d (base + 1 + sizes first + 1)))
   node_version to (do_loop line v a b c body close) d base =

@@ -14,7 +14,8 @@ use Rattle.vcm_boxes.specs.declared.boxes.ProbeBox.{ProbeBox}
 use Rattle.vcm_boxes.specs.declared.fault.BoxKey.{BoxKey}
 use Rattle.vcm_boxes.specs.declared.fault.BoxKey.TheVariants.{Name, Low, High}
 use Rattle.vcm_boxes.specs.declared.fault.Refusal.{Refusal}
-use Rattle.vcm_boxes.specs.declared.fault.Refusal.TheVariants.{NotToml, UnknownKey, NoBoxes, TooManyBoxes, UnknownBoxKey, BadKey, OutOfRange, LowAboveHigh, DuplicateName}
+use Rattle.vcm_boxes.specs.declared.fault.Refusal.TheVariants.{NotToml, UnknownKey, NoBoxes, TooManyBoxes, UnknownBoxKey, BadKey, OutOfRange, LowAboveHigh}
+use Rattle.vcm_boxes.specs.declared.fault.Refusal.TheVariants.{DuplicateName}
 use Rattle.vcm_boxes.specs.declared.fault.BoxesFault.{BoxesFault}
 use Rattle.vcm_boxes.specs.declared.fault.BoxesFault.TheVariants.{NoMemory, Refused}
 use Rattle.vcm_boxes.specs.Labels.{label_of}

@@ -7,4 +7,5 @@ use Rattle.vcm_boxes.specs.BoxFile.{AreBoxesRead}
 
 -- two answers to the same bytes are one, unless a growth of memory was refused
 abbrev pub OneAnswer : Type 0
-OneAnswer = (bytes : List ℕ) (r s : Result (List ProbeBox) BoxesFault) → AreBoxesRead bytes r → AreBoxesRead bytes s → r ≢ Err NoMemory → s ≢ Err NoMemory → r ≡ s
+OneAnswer = (bytes : List ℕ) (r s : Result (List ProbeBox) BoxesFault) → AreBoxesRead bytes r → AreBoxesRead bytes s → r ≢ Err NoMemory → s ≢ Err NoMemory
+    → r ≡ s

@@ -6,7 +6,8 @@ use Rattle.vcm_forms.specs.declared.statement.Form.{Form}
 use Rattle.vcm_forms.specs.declared.statement.Form.TheVariants.{Macro, MacroEnd, Call}
 use Rattle.vcm_forms.specs.declared.statement.Statement.{Statement}
 use Rattle.vcm_substitution.specs.Substitution.{Scope, outside, is_same, put_argument}
-use Rattle.vcm_macro.specs.Walk.{Defined, Visit, Opens, Inside, Stands, Misplaced, Calls, calls_in, Caller, statement_in, body_in, call_in, misplaced_if, outside_in, waits_behind, text_from, walk_from, with_statement}
+use Rattle.vcm_macro.specs.Walk.{Defined, Visit, Opens, Inside, Stands, Misplaced, Calls, calls_in, Caller, statement_in, body_in, call_in, misplaced_if}
+use Rattle.vcm_macro.specs.Walk.{outside_in, waits_behind, text_from, walk_from, with_statement}
 use Rattle.vcm_calls.specs.Carried.{called, Written, Carrier, carried_at, carried_in, carried, carried_text, carried_from, longer, calls_among, CarriesOutTheWalk}
 
 -- a macro as it is written

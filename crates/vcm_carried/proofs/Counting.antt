@@ -46,7 +46,8 @@ touched : (gone : Part) (box block area : Block3) (p q : Point) (a b : ℕ) → 
     (is_below (coordinate block.low) (coordinate area.high) && is_below (coordinate area.low) (coordinate block.high)) ≡ true
 touched gone box block area p q a b is m =
     let on : (k : ℕ) → k < 3
-    → ((coordinate block.low k -ℤ coordinate box.high k) ≤ℤ (coordinate area.high k -ℤ coordinate box.high k)) × ((coordinate area.low k -ℤ coordinate box.low k) ≤ℤ (coordinate block.high k -ℤ coordinate box.low k)) =
+    → ((coordinate block.low k -ℤ coordinate box.high k) ≤ℤ (coordinate area.high k -ℤ coordinate box.high k))
+    × ((coordinate area.low k -ℤ coordinate box.low k) ≤ℤ (coordinate block.high k -ℤ coordinate box.low k)) =
     λ k l. span_met _ _ _ _ _ _ a b (is k l) m.meets.fraction (carried_between _ _ _ _ _ _ a b (m.meets.shared k) (m.meets.on_axis k l)) in
     and_from _ _
     (each_below (coordinate block.low) (coordinate area.high) (λ k l. (let e = (on k l).0 in omega (arith, ints))))

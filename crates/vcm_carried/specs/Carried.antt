@@ -1,4 +1,5 @@
--- Boxes that are fixed to the tip and carried along a straight way of its centre. Corners of a box are counted from the centre of the tip. A fraction a/b of the
+-- Boxes that are fixed to the tip and carried along a straight way of its centre. Corners of a box are counted from the centre of the tip. A fraction
+-- a/b of the
 -- way is never divided: fractions are compared by their cross products.
 use Rattle.std.specs.Prelude.{◌≡◌, ℕ, ℤ, pos, ◌*◌, ◌<◌, ◌≤◌, ◌+ℤ◌, ◌-ℤ◌, ◌*ℤ◌, ◌≤ℤ◌, Bool, true, false, List, Option, Some, None}
 use Rattle.vcm_num.specs.Point.{point, coordinate}
@@ -55,8 +56,10 @@ pub record IsLeast (M : ℕ → ℕ → Type 0) (a b : ℕ) : Type 0 where
 -- the block grown by the box reflected: where the centre of the tip stands as the box meets the block
 abbrev pub spread : Block3 → Block3 → Block3
 spread box block = record {
-  low = point (coordinate block.low 0 -ℤ coordinate box.high 0) (coordinate block.low 1 -ℤ coordinate box.high 1) (coordinate block.low 2 -ℤ coordinate box.high 2);
-  high = point (coordinate block.high 0 -ℤ coordinate box.low 0) (coordinate block.high 1 -ℤ coordinate box.low 1) (coordinate block.high 2 -ℤ coordinate box.low 2);
+  low = point (coordinate block.low 0 -ℤ coordinate box.high 0) (coordinate block.low 1 -ℤ coordinate box.high 1)
+      (coordinate block.low 2 -ℤ coordinate box.high 2);
+  high = point (coordinate block.high 0 -ℤ coordinate box.low 0) (coordinate block.high 1 -ℤ coordinate box.low 1)
+      (coordinate block.high 2 -ℤ coordinate box.low 2);
 }
 
 -- the contact tells the first block with the thousandths of the whole way before it, and where the centre of the tip stands there, cut off to

@@ -25,7 +25,8 @@ BoxContactIsComputed =
 -- what the relation says of a box on a way is the computed contact
 abbrev pub BoxContactIsUnique : Type 0
 BoxContactIsUnique =
-    (most : ℕ) (box : Block3) (blocks : List Block3) → IsBox most box → IsTrue (list_all is_block blocks) → (gone : Fraction) (with_start : Bool) (x y : ℕ → ℤ) (answer : Option Contact)
+    (most : ℕ) (box : Block3) (blocks : List Block3) → IsBox most box → IsTrue (list_all is_block blocks)
+    → (gone : Fraction) (with_start : Bool) (x y : ℕ → ℤ) (answer : Option Contact)
     → IsFirstContact blocks (Counts with_start gone box x y) x y answer → answer ≡ box_contact with_start gone box x y blocks
 
 -- the cube round the centre of the tip, h being half its width

@@ -34,7 +34,8 @@ shaft_meets = refl
 pub shaft_is_clear : box_contact true (fraction 8 9) shaft (coordinate (at 0 0 100000)) (coordinate (at 20000 20000 10000)) one_block.blocks ≡ None
 shaft_is_clear = refl
 
-pub wider_meets : box_contact true (fraction 8 9) (grown 1000 shaft) (coordinate (at 0 0 100000)) (coordinate (at 20000 20000 10000)) one_block.blocks ≡ told 1 888 (at 17777 17777 20000)
+pub wider_meets : box_contact true (fraction 8 9) (grown 1000 shaft) (coordinate (at 0 0 100000)) (coordinate (at 20000 20000 10000)) one_block.blocks ≡ told 1
+    888 (at 17777 17777 20000)
 wider_meets = refl
 
 -- on a way along a face of the block the shaft touches it as it comes beside it; the same, a micrometre farther out, does not
@@ -45,7 +46,8 @@ pub along_is_clear : met shaft (at 8999 0 10000) (at 8999 20000 10000) one_block
 along_is_clear = refl
 
 -- between two floors the shaft is in the upper one at the start: that is not entered, and on the way down the lower one is
-pub upper_is_left : box_contact false (fraction 1 1) shaft (coordinate (at 20000 20000 25000)) (coordinate (at 20000 20000 15000)) two_floors.blocks ≡ told 1 600 (at 20000 20000 19000)
+pub upper_is_left : box_contact false (fraction 1 1) shaft (coordinate (at 20000 20000 25000)) (coordinate (at 20000 20000 15000)) two_floors.blocks ≡ told 1
+    600 (at 20000 20000 19000)
 upper_is_left = refl
 
 -- where the start counts, the upper one is told

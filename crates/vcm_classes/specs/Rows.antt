@@ -7,7 +7,8 @@ use Rattle.vcm_sentences.specs.Judged.{IsTaken}
 use Rattle.vcm_classes.specs.declared.class.Class.{Class}
 use Rattle.vcm_classes.specs.declared.class.Class.TheVariants as classes
 
--- a class goes with a fault or none, and with what becomes of the lines: what fits or has a notice has none and is kept, what has one is kept, and all else becomes a comment or is put otherwise
+-- a class goes with a fault or none, and with what becomes of the lines: what fits or has a notice has none and is kept, what has one is kept, and
+-- all else becomes a comment or is put otherwise
 abbrev pub agrees : Class → Bool → Edit → Bool
 agrees classes.Fits false Keep = true
 agrees classes.Notice false Keep = true

@@ -177,9 +177,11 @@ module _ (part : Workpiece) (valid : IsValid part) (c : Code) where
           subst (λ o. Hang m.world.position (marks_of part m.world.position m.world.settings task (reason o)) l.end) none l.hang in
           subst (Chain m.world.position (gone_of part p)) l.is
           (subst (λ o. Chain m.world.position (gone_in part m.world.position m.world.settings task (reason o)) l.end) (sym none) (chain_of part m.world.position m.world.settings task l.end marks))) in
-          let end : (o : Option StopPlace) → (after (suc k)).stop ≡ o → LastChain m.world.position (gone_of part p) = λ o. elim o as (λ x. (after (suc k)).stop ≡ x → LastChain m.world.position (gone_of part p)) [
+          let end : (o : Option StopPlace) → (after (suc k)).stop ≡ o → LastChain m.world.position (gone_of part p) =
+          λ o. elim o as (λ x. (after (suc k)).stop ≡ x → LastChain m.world.position (gone_of part p)) [
             | None ↦ (λ none. weakened m.world.position (after (suc k)).position (gone_of part p) (on none))
-            | Some q ↦ (λ stop. subst (λ x. LastChain m.world.position (gone_in part m.world.position m.world.settings task (reason x))) (sym stop) (last_of part m.world.position m.world.settings task q.stop))
+            | Some q ↦ (λ stop. subst (λ x. LastChain m.world.position (gone_in part m.world.position m.world.settings task (reason x))) (sym stop)
+                (last_of part m.world.position m.world.settings task q.stop))
           ] in
           record {
             last = subst (LastChain home) (sym ways) (ended home m.world.position (gones (ways_of part c k)) (gone_of part p) (h.whole e) (end (after (suc k)).stop refl));

@@ -88,7 +88,8 @@ module _ (part : Workpiece) (boxes : List ProbeBox) (rooms : List Room) (count :
   lines_in = more_lines part.blocks boxes (ways_in part ps) (placed_ways part p) ∙ ap (run_lines part.blocks boxes true) more_in
 
   pub step_tried : (after : List Room) (total : ℕ) (new : Option (List ℕ))
-      → ((ws qs : List PlacedWay) → ArePlaced place vs qs → IsDone part.blocks boxes ws between sum → IsDone part.blocks boxes (ws ++ qs) after total × Appends mid new (run_lines part.blocks boxes (is_empty ws) qs))
+      → ((ws qs : List PlacedWay) → ArePlaced place vs qs → IsDone part.blocks boxes ws between sum → IsDone part.blocks boxes (ws ++ qs) after total
+      × Appends mid new (run_lines part.blocks boxes (is_empty ws) qs))
       → HasTried part boxes rooms count old after total new (ps ++ p ∷ [])
   step_tried after total new h start =
       let so_far = tried start in

@@ -54,7 +54,8 @@ module _ (box : Block3) (blocks : List Block3) (sides : IsBox 10000000 box) (all
       absurd (clear there.is_hit.index f.block f.stands there.is_hit.a there.is_hit.b (record { meets = f.meets; outside = λ s. free there.is_hit.index f.block f.stands w.to s }))
 
   -- on the first way each contact is told, later on one that begins where none is met
-  told_here : (is_first : Bool) (p : PlacedWay) (c : Contact) → (is_first ≡ true) ⊎ IsFree p.way.from → contact_on blocks true box p.way ≡ Some c → (o : Option Contact) → contact_on blocks is_first box p.way ≡ o
+  told_here : (is_first : Bool) (p : PlacedWay) (c : Contact) → (is_first ≡ true) ⊎ IsFree p.way.from → contact_on blocks true box p.way ≡ Some c
+      → (o : Option Contact) → contact_on blocks is_first box p.way ≡ o
       → (d : Contact) × (o ≡ Some d)
   told_here true p c start met o e = (c, sym e ∙ met)
   told_here false p c (inl never) met o e = absurd (let same : false ≡ true = never in cc)
@@ -81,7 +82,8 @@ module _ (box : Block3) (blocks : List Block3) (sides : IsBox 10000000 box) (all
       by None e k = inr (later ps chain (subst (λ t. 0 < length (cond t (p ∷ filter (λ q. is_met_on blocks box q.way) ps) (filter (λ q. is_met_on blocks box q.way) ps))) (ap is_some e) some) k)
         where
           later : (qs : List PlacedWay) → LastChain a (p.way ∷ gones qs) → 0 < met_ways blocks box qs
-              → ((is_first : Bool) (b : Point) → LastChain b (gones qs) → (is_first ≡ true) ⊎ IsFree b → 0 < met_ways blocks box qs → IsSomeTold blocks box is_first qs) → IsSomeTold blocks box false qs
+              → ((is_first : Bool) (b : Point) → LastChain b (gones qs) → (is_first ≡ true) ⊎ IsFree b → 0 < met_ways blocks box qs
+              → IsSomeTold blocks box is_first qs) → IsSomeTold blocks box false qs
           later [] h more k = absurd (omega (arith, more))
           later (q ∷ qs) h more k = k false p.way.to h.2 (inr (free_behind p.way h.1 e)) more
 

@@ -1,5 +1,6 @@
 -- Boxes that are tried on one way, and on the ways of a step.
-use Rattle.std.proofs.Common.{◌≡◌, ℕ, zero, suc, ◌+◌, ◌≤◌, ◌∙◌, Bool, false, List, [], ◌∷◌, ◌++◌, length, take, drop, slice_get, slice_set, Option, Some, None, Result, Ok, Err, refl, sym, ap, subst, inl, inr, arith, append_assoc}
+use Rattle.std.proofs.Common.{◌≡◌, ℕ, zero, suc, ◌+◌, ◌≤◌, ◌∙◌, Bool, false, List, [], ◌∷◌, ◌++◌, length, take, drop, slice_get, slice_set, Option, Some, None}
+use Rattle.std.proofs.Common.{Result, Ok, Err, refl, sym, ap, subst, inl, inr, arith, append_assoc}
 use Rattle.std.specs.Prelude.{flat_map, min, ◌==◌, IfOk, IfErr}
 use Rattle.std.specs.Io.KnownBytes.{Appends}
 use Rattle.std.proofs.Math.Nat.{le-min, min-eq_left}
@@ -129,9 +130,11 @@ module _ (blocks : List Block3) (boxes : List ProbeBox) (place : Moment) where
   module _ (v : Went) (vs : List Went) (count : ℕ) where
     -- the first way, and those behind it
     pub more_ways : (is_first : Bool) → is_first ≡ (count == 0) → (start first last : List Room) (sum total : ℕ) (old mid new : Option (List ℕ)) → sum ≡ min (count + 1) most
-        → ((ws : List PlacedWay) (p : PlacedWay) → IsPlaced place v p → AreRooms blocks boxes ws start → AreRooms blocks boxes (ws ++ p ∷ []) first × Appends old mid (way_lines blocks boxes is_first p))
+        → ((ws : List PlacedWay) (p : PlacedWay) → IsPlaced place v p → AreRooms blocks boxes ws start → AreRooms blocks boxes (ws ++ p ∷ []) first
+        × Appends old mid (way_lines blocks boxes is_first p))
         → ((ws ps : List PlacedWay) → ArePlaced place vs ps → IsDone blocks boxes ws first sum → IsDone blocks boxes (ws ++ ps) last total × Appends mid new (run_lines blocks boxes (is_empty ws) ps))
-        → (ws ps : List PlacedWay) → ArePlaced place (v ∷ vs) ps → IsDone blocks boxes ws start count → IsDone blocks boxes (ws ++ ps) last total × Appends old new (run_lines blocks boxes (is_empty ws) ps)
+        → (ws ps : List PlacedWay) → ArePlaced place (v ∷ vs) ps → IsDone blocks boxes ws start count → IsDone blocks boxes (ws ++ ps) last total
+        × Appends old new (run_lines blocks boxes (is_empty ws) ps)
     more_ways is_first f start first last sum total old mid new s one rest ws [] h d = absurd h
     more_ways is_first f start first last sum total old mid new s one rest ws (p ∷ ps) h d =
         let flag : is_first ≡ is_empty ws = f ∙ is_first_way ws count d.counted_is in
@@ -155,7 +158,8 @@ module _ (blocks : List Block3) (boxes : List ProbeBox) (place : Moment) where
 
     -- a line of those behind it could not
     pub cut_later : (is_first : Bool) → is_first ≡ (count == 0) → (start first : List Room) (sum : ℕ) (old mid new : Option (List ℕ)) → sum ≡ min (count + 1) most
-        → ((ws : List PlacedWay) (p : PlacedWay) → IsPlaced place v p → AreRooms blocks boxes ws start → AreRooms blocks boxes (ws ++ p ∷ []) first × Appends old mid (way_lines blocks boxes is_first p))
+        → ((ws : List PlacedWay) (p : PlacedWay) → IsPlaced place v p → AreRooms blocks boxes ws start → AreRooms blocks boxes (ws ++ p ∷ []) first
+        × Appends old mid (way_lines blocks boxes is_first p))
         → ((ws ps : List PlacedWay) → ArePlaced place vs ps → IsDone blocks boxes ws first sum → AppendsFront mid new (run_lines blocks boxes (is_empty ws) ps))
         → (ws ps : List PlacedWay) → ArePlaced place (v ∷ vs) ps → IsDone blocks boxes ws start count → AppendsFront old new (run_lines blocks boxes (is_empty ws) ps)
     cut_later is_first f start first sum old mid new s one rest ws [] h d = absurd h

@@ -28,7 +28,8 @@ going_text going.Rest = codes "REST"
 -- the position of a contact, in millimetres, and the end of the line
 abbrev pub position_text : Point → List ℕ
 position_text p =
-    in_a_row (codes " position " ∷ thousandths (coordinate p 0) ∷ codes " " ∷ thousandths (coordinate p 1) ∷ codes " " ∷ thousandths (coordinate p 2) ∷ codes "\n" ∷ [])
+    in_a_row (codes " position " ∷ thousandths (coordinate p 0) ∷ codes " " ∷ thousandths (coordinate p 1) ∷ codes " " ∷ thousandths (coordinate p 2) ∷ codes
+    "\n" ∷ [])
 
 -- where in the run a contact is
 abbrev pub place_text : Told → List ℕ

@@ -37,7 +37,8 @@ most = 18446744073709551615
 abbrev pub counted : ℕ → ℕ
 counted n = min n most
 
--- the room round a box: on how many ways it meets a block; or by how many micrometres all its sides may be moved out, up to 50,000, so that it meets none, with the
+-- the room round a box: on how many ways it meets a block; or by how many micrometres all its sides may be moved out, up to 50,000, so that it meets
+-- none, with the
 -- first contact of the box with its sides moved out by one more
 abbrev pub IsRoom : List Block3 → Block3 → List PlacedWay → Room → Type 0
 IsRoom blocks box ways (Met k) = (k ≡ counted (met_ways blocks box ways)) × (0 < met_ways blocks box ways)

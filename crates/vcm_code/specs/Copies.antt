@@ -6,7 +6,8 @@ use Rattle.vcm_code.specs.declared.op.Op.{Op as Kept}
 use Rattle.vcm_code.specs.declared.op.CodeStatement.{CodeStatement as KeptStatement}
 use Rattle.vcm_code.specs.declared.branch.Branch.{Branch}
 use Rattle.vcm_code.specs.Code.{Op, CodeStatement}
-use Rattle.vcm_code.specs.declared.op.Op.TheVariants.{Plain, If, Else, EndIf, Do, EndDo, Label, JumpTo, Meas, EndMes, Select, Case, EndCas, DftCas, EndSel, EndFil}
+use Rattle.vcm_code.specs.declared.op.Op.TheVariants.{Plain, If, Else, EndIf, Do, EndDo, Label, JumpTo, Meas, EndMes, Select, Case, EndCas, DftCas, EndSel}
+use Rattle.vcm_code.specs.declared.op.Op.TheVariants.{EndFil}
 
 -- what a statement does, where these are the items of an expression, the bytes of a text and the branches of a SELECT
 abbrev pub listed : {E T B : Type 0} → (E → List Item) → (T → List ℕ) → (B → List Branch) → Kept E T B → Op

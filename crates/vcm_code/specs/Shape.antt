@@ -21,7 +21,8 @@ use Rattle.vcm_spec.specs.declared.simple.Simple.TheVariants.{Goto, GoHome, Assi
 use Rattle.vcm_code.specs.declared.word.Word.{Word}
 use Rattle.vcm_code.specs.declared.word.Word.TheVariants as words
 use Rattle.vcm_code.specs.Code.{Op}
-use Rattle.vcm_code.specs.declared.op.Op.TheVariants.{Plain, If, Else, EndIf, Do, EndDo, Label, JumpTo, Meas, EndMes, Select, Case, EndCas, DftCas, EndSel, EndFil}
+use Rattle.vcm_code.specs.declared.op.Op.TheVariants.{Plain, If, Else, EndIf, Do, EndDo, Label, JumpTo, Meas, EndMes, Select, Case, EndCas, DftCas, EndSel}
+use Rattle.vcm_code.specs.declared.op.Op.TheVariants.{EndFil}
 
 -- a place of a statement: a variable of a kind, a feature, a frame, the number of a loop's pair, a target, an expression of a kind, three of them, a
 -- variable and an expression of its kind, a direction, one of a measurement, a setting, a source, the axis of a turn, its quarters, the word of a

@@ -57,12 +57,15 @@ module _ (part : Workpiece) (code : Code) (m : CodeState) (s : CodeStatement) (n
     led_behind (Collision phase hit) e h = record {
       part_is = ap (λ (r : Running). r.part) h.1;
       code_is = ap (λ (r : Running). r.code) h.1;
-      passed = pass_is _ (ap (λ (x : CodeState). reason x.world.stop) e) ∙ ap (λ (r : Running). told r.state (contact_at (running part code m) phase hit s ∷ [])) (sym h.1) ∙ ap (λ (o : Option Contact). told new.state (listed o)) (sym h.0);
+      passed = pass_is _ (ap (λ (x : CodeState). reason x.world.stop) e)
+          ∙ ap (λ (r : Running). told r.state (contact_at (running part code m) phase hit s ∷ [])) (sym h.1)
+          ∙ ap (λ (o : Option Contact). told new.state (listed o)) (sym h.0);
     }
     led_behind _ e h = record {
       part_is = ap (λ (r : Running). r.part) h.1;
       code_is = ap (λ (r : Running). r.code) h.1;
-      passed = pass_is _ (ap (λ (x : CodeState). reason x.world.stop) e) ∙ ap (λ (x : CodeState). told x []) (e ∙ sym (ap (λ (r : Running). r.state) h.1)) ∙ ap (λ (o : Option Contact). told new.state (listed o)) (sym h.0);
+      passed = pass_is _ (ap (λ (x : CodeState). reason x.world.stop) e) ∙ ap (λ (x : CodeState). told x []) (e ∙ sym (ap (λ (r : Running). r.state) h.1))
+          ∙ ap (λ (o : Option Contact). told new.state (listed o)) (sym h.0);
     }
 
 -- what carrying out a statement did

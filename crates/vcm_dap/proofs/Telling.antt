@@ -1,5 +1,6 @@
 -- Output lines that are told in pieces.
-use Rattle.std.proofs.Common.{◌≡◌, ℕ, Bool, true, false, zero, suc, ◌+◌, ◌≤◌, List, [], ◌∷◌, ◌++◌, length, take, drop, Option, Some, None, Result, Ok, Err, refl, sym, ap, ◌∙◌, inl, inr, subst, append_assoc, arith, lit<, length-append}
+use Rattle.std.proofs.Common.{◌≡◌, ℕ, Bool, true, false, zero, suc, ◌+◌, ◌≤◌, List, [], ◌∷◌, ◌++◌, length, take, drop, Option, Some, None, Result, Ok, Err}
+use Rattle.std.proofs.Common.{refl, sym, ap, ◌∙◌, inl, inr, subst, append_assoc, arith, lit<, length-append}
 use Rattle.std.specs.Prelude.{flat_map, option_map, codes, IfOk, IfErr, OnOk}
 use Rattle.std.specs.List.{AllByRecursion}
 use Rattle.std.specs.Str.{IsUtf8, IsAscii}
@@ -21,7 +22,8 @@ use Rattle.vcm_dap.specs.Talking.{Talking, next_seq, ended, output_front, Told}
 use Rattle.vcm_dap.specs.Laws.{LinesArePrinted}
 use Rattle.vcm_dap.specs.declared.asking.Motion.{Motion}
 use Rattle.vcm_dap.specs.inner.Growing.{Grown}
-use Rattle.vcm_dap.specs.Telling.{TellsText, IsResult, frames, seq_behind, lines_event, lines_events, is_continue, is_step_out, motion_answer, first_messages, IsPiece, Says, SaysSome, ToldLines, IsBehind, SaysBehind, ToldMotion}
+use Rattle.vcm_dap.specs.Telling.{TellsText, IsResult, frames, seq_behind, lines_event, lines_events, is_continue, is_step_out, motion_answer, first_messages}
+use Rattle.vcm_dap.specs.Telling.{IsPiece, Says, SaysSome, ToldLines, IsBehind, SaysBehind, ToldMotion}
 
 -- a front of what comes first is a front of all
 front_sent : (a b : Option (List ℕ)) (xs ys : List ℕ) → (k : ℕ) × (k ≤ length xs) × Appends a b (take k xs) → (k : ℕ) × (k ≤ length (xs ++ ys)) × Appends a b (take k (xs ++ ys))

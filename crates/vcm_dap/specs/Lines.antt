@@ -1,5 +1,6 @@
 -- Breakpoints on source lines, and watches.
-use Rattle.std.specs.Prelude.{◌≡◌, ◌⊎◌, ℕ, ◌<◌, ◌≤◌, min, nat_lt, Bool, true, false, List, [], ◌∷◌, map, fold, Option, Some, None, option_and_then, if◌then◌else◌}
+use Rattle.std.specs.Prelude.{◌≡◌, ◌⊎◌, ℕ, ◌<◌, ◌≤◌, min, nat_lt, Bool, true, false, List, [], ◌∷◌, map, fold, Option, Some, None, option_and_then}
+use Rattle.std.specs.Prelude.{if◌then◌else◌}
 use Rattle.vcm_spec.specs.Setup.{Variable}
 use Rattle.vcm_code.specs.Code.{CodeStatement}
 use Rattle.vcm_console.specs.declared.command.VariableRef.{VariableRef}

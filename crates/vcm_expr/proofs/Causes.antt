@@ -1,5 +1,6 @@
 -- Where the parser refuses, there is a cause among the symbols.
-use Rattle.std.proofs.Common.{Bool, true, false, ◌≡◌, ℕ, zero, suc, ◌+◌, ◌-◌, ◌<◌, ◌≤◌, ◌⊎◌, inl, inr, ⊎_elim, List, [], ◌∷◌, ◌++◌, length, Option, Some, None, Result, Ok, Err, refl, sym, ap, ◌∙◌, subst, arith, append_assoc}
+use Rattle.std.proofs.Common.{Bool, true, false, ◌≡◌, ℕ, zero, suc, ◌+◌, ◌-◌, ◌<◌, ◌≤◌, ◌⊎◌, inl, inr, ⊎_elim, List, [], ◌∷◌, ◌++◌, length, Option, Some, None}
+use Rattle.std.proofs.Common.{Result, Ok, Err, refl, sym, ap, ◌∙◌, subst, arith, append_assoc}
 use Rattle.vcm_lines.specs.declared.fault.FaultCode.{FaultCode}
 use Rattle.vcm_lines.specs.declared.fault.FaultCode.TheVariants.{BadSyntax, TooDeep}
 use Rattle.vcm_spec.specs.declared.expression.BinaryOp.{BinaryOp}
@@ -10,7 +11,9 @@ use Rattle.vcm_expr.specs.declared.symbol.Symbol.{Symbol}
 use Rattle.vcm_expr.specs.declared.symbol.Symbol.TheVariants.{Operand, Opening, Closing}
 use Rattle.vcm_expr.specs.Source.{Source, Prefixed, Pair, is_small}
 use Rattle.vcm_expr.specs.Grammar.{Written, Leaf, Paren, Signed, Joined, word_of, sign_word, spelled, Fits, meant, open_after, HasBigPart, HasFlaw}
-use Rattle.vcm_expr.specs.Parser.{Taken, Parser, and_parse, phrase, made, made_if, closed, primary_by, sign_of, negation_of, found_if, fronted_by, product_op, sum_op, relation_op, and_op, or_op, more, chain_by, once, once_by, signed_by, product_by, sum_by, relation_by, negation_by, conjunction_by, disjunction_by, expression}
+use Rattle.vcm_expr.specs.Parser.{Taken, Parser, and_parse, phrase, made, made_if, closed, primary_by, sign_of, negation_of, found_if, fronted_by, product_op}
+use Rattle.vcm_expr.specs.Parser.{sum_op, relation_op, and_op, or_op, more, chain_by, once, once_by, signed_by, product_by, sum_by, relation_by, negation_by}
+use Rattle.vcm_expr.specs.Parser.{conjunction_by, disjunction_by, expression}
 use Rattle.vcm_expr.proofs.Chains.{expression-zero, expression-suc}
 use Rattle.vcm_expr.proofs.Complete.{Ops, Fronts}
 use Rattle.vcm_expr.proofs.Ladder.{product_ops, sum_ops, and_ops, or_ops, sign_fronts, negation_fronts, relation_says}
@@ -60,7 +63,18 @@ behind total n m c x ts same (inl e) = inl e
 behind total n m c x ts same (inr (inl (e, inl d))) =
     inr (inl (e, inl (record { front = x ++ d.front; back = d.back; cut = ap (λ l. x ++ l) d.cut ∙ sym (append_assoc x d.front d.back); deep = omega (arith, d.deep, same d.front) })))
 behind total n m c x ts same (inr (inl (e, inr g))) =
-    inr (inl (e, inr (record { front = x ++ g.front; back = g.back; written = g.written; cut = ap (λ l. x ++ l) g.cut ∙ sym (append_assoc x g.front (spelled g.written ++ g.back)); fits = g.fits; big = g.big })))
+    inr (inl (
+      e,
+      inr (record {
+        front = x ++ g.front;
+        back = g.back;
+        written = g.written;
+        cut = ap (λ l. x ++ l) g.cut
+            ∙ sym (append_assoc x g.front (spelled g.written ++ g.back));
+        fits = g.fits;
+        big = g.big;
+      }),
+    ))
 behind total n m c x ts same (inr (inr f)) =
     inr (inr (record { front = x ++ f.front; back = f.back; cut = ap (λ l. x ++ l) f.cut ∙ sym (append_assoc x f.front (Operand (Err c) ∷ f.back)) }))
 
@@ -68,7 +82,8 @@ behind total n m c x ts same (inr (inr f)) =
 big_first : (total n l : ℕ) (c : FaultCode) (s : Written) (r ts : List Symbol) → 1 ≤ l → Fits l s → (c ≡ TooDeep) × (is_small (meant s) ≡ false) → spelled s ++ r ≡ ts → Cause total n c ts
 big_first total n l c s r ts h f b e = inr (inl (b.0, inr (record { front = []; back = r; written = s; cut = sym e; fits = Fits-weaker 1 l s h f; big = b.1 })))
 
-and_parse-Err : (o : Result Taken FaultCode) (go : Source → List Symbol → Result Taken FaultCode) (d : FaultCode) → and_parse o go ≡ Err d → (o ≡ Err d) ⊎ ((q : Taken) × (o ≡ Ok q) × (go q.tree q.rest ≡ Err d))
+and_parse-Err : (o : Result Taken FaultCode) (go : Source → List Symbol → Result Taken FaultCode) (d : FaultCode) → and_parse o go ≡ Err d
+    → (o ≡ Err d) ⊎ ((q : Taken) × (o ≡ Ok q) × (go q.tree q.rest ≡ Err d))
 and_parse-Err (Ok q) go d e = inr (q, refl, e)
 and_parse-Err (Err f) go d e = inl e
 
@@ -106,7 +121,10 @@ module _ (l total room : ℕ) (P : Parser) (op_of : Symbol → Option BinaryOp) 
   more_caused n h zero s (k ∷ r) c f e = cc
   more_caused n h (suc m) s (k ∷ r) c f e = by_op (op_of k) refl e (more_caused n h m)
     where
-      by_op : (o : Option BinaryOp) → op_of k ≡ o → found_if o (λ op. and_parse (P r) (λ u q. and_parse (made is_small (Pair op (meant s) u) q) (more is_small P op_of m))) (phrase (meant s) (k ∷ r)) ≡ Err c → ((s' : Written) (ts : List Symbol) (c : FaultCode) → Fits l s' → more is_small P op_of m (meant s') ts ≡ Err c → Cause total n c (spelled s' ++ ts)) → Cause total n c (spelled s ++ k ∷ r)
+      by_op : (o : Option BinaryOp) → op_of k ≡ o
+          → found_if o (λ op. and_parse (P r) (λ u q. and_parse (made is_small (Pair op (meant s) u) q) (more is_small P op_of m))) (phrase (meant s) (k ∷ r)) ≡
+          Err c → ((s' : Written) (ts : List Symbol) (c : FaultCode) → Fits l s' → more is_small P op_of m (meant s') ts ≡ Err c
+          → Cause total n c (spelled s' ++ ts)) → Cause total n c (spelled s ++ k ∷ r)
       by_op None is e again = cc
       by_op (Some op) is e again =
           let word = ops.says k op is in
@@ -118,10 +136,12 @@ module _ (l total room : ℕ) (P : Parser) (op_of : Symbol → Option BinaryOp) 
           let flat = flat_pair s b.written op k r q.0.rest word.0 b.symbols in
           let tree = ap (λ u. Pair op (meant s) u) b.tree in
           ⊎_elim
-          (λ g. let big = made-Err (Pair op (meant s) q.0.tree) q.0.rest c g in big_first total n l c (Joined op s b.written) q.0.rest (spelled s ++ k ∷ r) some fits (big.0, ap is_small tree ∙ big.1) flat)
+          (λ g. let big = made-Err (Pair op (meant s) q.0.tree) q.0.rest c g
+          in big_first total n l c (Joined op s b.written) q.0.rest (spelled s ++ k ∷ r) some fits (big.0, ap is_small tree ∙ big.1) flat)
           (λ v.
           let node = made-Ok (Pair op (meant s) q.0.tree) q.0.rest v.0 v.1 in
-          let step : more is_small P op_of m (meant (Joined op s b.written)) q.0.rest ≡ Err c = ap (λ u. more is_small P op_of m u q.0.rest) tree ∙ ap (λ w. more is_small P op_of m w.tree w.rest) node ∙ v.2 in
+          let step : more is_small P op_of m (meant (Joined op s b.written)) q.0.rest ≡ Err c = ap (λ u. more is_small P op_of m u q.0.rest) tree
+          ∙ ap (λ w. more is_small P op_of m w.tree w.rest) node ∙ v.2 in
           subst (Cause total n c) flat (again (Joined op s b.written) q.0.rest c fits step))
           (and_parse-Err (made is_small (Pair op (meant s) q.0.tree) q.0.rest) (more is_small P op_of m) c q.2))
           (and_parse-Err (P r) (λ u q. and_parse (made is_small (Pair op (meant s) u) q) (more is_small P op_of m)) c e)
@@ -141,7 +161,9 @@ module _ (l total room : ℕ) (P : Parser) (find : Symbol → Option Prefix) (fs
   fronted_caused n h [] c e = operands n h [] c e
   fronted_caused n h (k ∷ r) c e = by_word (find k) refl e (fronted_caused n h r c)
     where
-      by_word : (o : Option Prefix) → find k ≡ o → found_if o (λ op. and_parse (fronted_by is_small P find r) (λ t s. made is_small (Prefixed op t) s)) (P (k ∷ r)) ≡ Err c → (fronted_by is_small P find r ≡ Err c → Cause total n c r) → Cause total n c (k ∷ r)
+      by_word : (o : Option Prefix) → find k ≡ o
+          → found_if o (λ op. and_parse (fronted_by is_small P find r) (λ t s. made is_small (Prefixed op t) s)) (P (k ∷ r)) ≡ Err c
+          → (fronted_by is_small P find r ≡ Err c → Cause total n c r) → Cause total n c (k ∷ r)
       by_word None is e again = operands n h (k ∷ r) c e
       by_word (Some op) is e again =
           let word = fs.says k op is in
@@ -150,7 +172,8 @@ module _ (l total room : ℕ) (P : Parser) (find : Symbol → Option Prefix) (fs
           (λ q.
           let a = sound r q.0 q.1 in
           let big = made-Err (Prefixed op q.0.tree) q.0.rest c q.2 in
-          big_first total n l c (Signed op a.written) q.0.rest (k ∷ r) some (omega (arith, word.1), subst (λ m. Fits m a.written) (sym word.1) a.fits) (big.0, ap (λ t. is_small (Prefixed op t)) a.tree ∙ big.1)
+          big_first total n l c (Signed op a.written) q.0.rest (k ∷ r) some (omega (arith, word.1), subst (λ m. Fits m a.written) (sym word.1) a.fits)
+          (big.0, ap (λ t. is_small (Prefixed op t)) a.tree ∙ big.1)
           (ap (λ w. w ∷ (spelled a.written ++ q.0.rest)) (sym word.0) ∙ ap (λ ts. k ∷ ts) (sym a.symbols)))
           (and_parse-Err (fronted_by is_small P find r) (λ t s. made is_small (Prefixed op t) s) c e)
 
@@ -159,7 +182,9 @@ module _ (total room : ℕ) (P : Parser) (operands : Caused total room P) (sound
   once_caused_after n h s [] c f e = cc
   once_caused_after n h s (k ∷ r) c f e = by_op (relation_op k) refl e
     where
-      by_op : (o : Option BinaryOp) → relation_op k ≡ o → found_if o (λ op. and_parse (P r) (λ u q. made is_small (Pair op (meant s) u) q)) (phrase (meant s) (k ∷ r)) ≡ Err c → Cause total n c (spelled s ++ k ∷ r)
+      by_op : (o : Option BinaryOp) → relation_op k ≡ o
+          → found_if o (λ op. and_parse (P r) (λ u q. made is_small (Pair op (meant s) u) q)) (phrase (meant s) (k ∷ r)) ≡ Err c
+          → Cause total n c (spelled s ++ k ∷ r)
       by_op None is e = cc
       by_op (Some op) is e =
           let word = relation_says k op is in
@@ -168,7 +193,9 @@ module _ (total room : ℕ) (P : Parser) (operands : Caused total room P) (sound
           (λ q.
           let b = sound r q.0 q.1 in
           let big = made-Err (Pair op (meant s) q.0.tree) q.0.rest c q.2 in
-          big_first total n 4 c (Joined op s b.written) q.0.rest (spelled s ++ k ∷ r) (omega arith) (omega (arith, word.1), subst (λ m. Fits m s) (sym word.2) f, subst (λ m. Fits (m + 1) b.written) (sym word.1) b.fits) (big.0, ap (λ u. is_small (Pair op (meant s) u)) b.tree ∙ big.1)
+          big_first total n 4 c (Joined op s b.written) q.0.rest (spelled s ++ k ∷ r) (omega arith)
+          (omega (arith, word.1), subst (λ m. Fits m s) (sym word.2) f, subst (λ m. Fits (m + 1) b.written) (sym word.1) b.fits)
+          (big.0, ap (λ u. is_small (Pair op (meant s) u)) b.tree ∙ big.1)
           (flat_pair s b.written op k r q.0.rest word.0 b.symbols))
           (and_parse-Err (P r) (λ u q. made is_small (Pair op (meant s) u) q) c e)
 

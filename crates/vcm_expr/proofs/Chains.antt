@@ -39,25 +39,32 @@ module _ (small : Source → Bool) where
   more_next P op_of n t [] op after h le = absurd h
   more_next P op_of zero t (k ∷ r) op after h le = absurd (omega arith)
   more_next P op_of (suc n) t (k ∷ r) op after h le =
-      let size = ap length h.1 in
-      (n, omega arith, ap (λ (o : Option BinaryOp). found_if o (λ op. and_parse (P r) (join P op_of n t op)) (phrase t (k ∷ r))) h.0 ∙ ap (λ (l : List Symbol). and_parse (P l) (join P op_of n t op)) h.1)
+      let size = ap length h.1 in (
+        n,
+        omega arith,
+        ap (λ (o : Option BinaryOp). found_if o (λ op. and_parse (P r) (join P op_of n t op)) (phrase t (k ∷ r))) h.0
+            ∙ ap (λ (l : List Symbol). and_parse (P l) (join P op_of n t op)) h.1,
+      )
 
   -- it is read, and the pair is within the limits
-  pub more_on : (P : Parser) (op_of : Symbol → Option BinaryOp) (n : ℕ) (t : Source) (ts : List Symbol) (op : BinaryOp) (after : List Symbol) (u : Source) (s : List Symbol) → NextOf op_of ts op after → length ts ≤ n → P after ≡ phrase u s → small (Pair op t u) ≡ true → length s ≤ length after
+  pub more_on : (P : Parser) (op_of : Symbol → Option BinaryOp) (n : ℕ) (t : Source) (ts : List Symbol) (op : BinaryOp) (after : List Symbol) (u : Source)
+      (s : List Symbol) → NextOf op_of ts op after → length ts ≤ n → P after ≡ phrase u s → small (Pair op t u) ≡ true → length s ≤ length after
       → (m : ℕ) × (length s ≤ m) × (more small P op_of n t ts ≡ more small P op_of m (Pair op t u) s)
   more_on P op_of n t ts op after u s h le e w short =
       let a = more_next P op_of n t ts op after h le in
       (a.0, omega (arith, a.1), a.2 ∙ ap (λ (o : Result Taken FaultCode). and_parse o (join P op_of a.0 t op)) e ∙ ap (λ (b : Bool). and_parse (made_if b (Pair op t u) s) (more small P op_of a.0)) w)
 
   -- the pair is too deep
-  pub more_big : (P : Parser) (op_of : Symbol → Option BinaryOp) (n : ℕ) (t : Source) (ts : List Symbol) (op : BinaryOp) (after : List Symbol) (u : Source) (s : List Symbol) → NextOf op_of ts op after → length ts ≤ n → P after ≡ phrase u s → small (Pair op t u) ≡ false
+  pub more_big : (P : Parser) (op_of : Symbol → Option BinaryOp) (n : ℕ) (t : Source) (ts : List Symbol) (op : BinaryOp) (after : List Symbol) (u : Source)
+      (s : List Symbol) → NextOf op_of ts op after → length ts ≤ n → P after ≡ phrase u s → small (Pair op t u) ≡ false
       → more small P op_of n t ts ≡ Err TooDeep
   more_big P op_of n t ts op after u s h le e w =
       let a = more_next P op_of n t ts op after h le in
       a.2 ∙ ap (λ (o : Result Taken FaultCode). and_parse o (join P op_of a.0 t op)) e ∙ ap (λ (b : Bool). and_parse (made_if b (Pair op t u) s) (more small P op_of a.0)) w
 
   -- it fails
-  pub more_fails : (P : Parser) (op_of : Symbol → Option BinaryOp) (n : ℕ) (t : Source) (ts : List Symbol) (op : BinaryOp) (after : List Symbol) (c : FaultCode) → NextOf op_of ts op after → length ts ≤ n → P after ≡ Err c → more small P op_of n t ts ≡ Err c
+  pub more_fails : (P : Parser) (op_of : Symbol → Option BinaryOp) (n : ℕ) (t : Source) (ts : List Symbol) (op : BinaryOp) (after : List Symbol) (c : FaultCode)
+      → NextOf op_of ts op after → length ts ≤ n → P after ≡ Err c → more small P op_of n t ts ≡ Err c
   more_fails P op_of n t ts op after c h le f =
       let a = more_next P op_of n t ts op after h le in
       a.2 ∙ ap (λ (o : Result Taken FaultCode). and_parse o (join P op_of a.0 t op)) f
@@ -71,25 +78,32 @@ module _ (small : Source → Bool) where
       stop [] h = refl
       stop (k ∷ s) h = ap (λ (o : Option BinaryOp). found_if o (λ op. and_parse (P s) (λ u s. made small (Pair op t u) s)) (phrase t (k ∷ s))) h
 
-  once_next : (P : Parser) (op_of : Symbol → Option BinaryOp) (t : Source) (r : List Symbol) (op : BinaryOp) (after : List Symbol) → NextOf op_of r op after → once small P op_of t r ≡ and_parse (P after) (λ u s. made small (Pair op t u) s)
+  once_next : (P : Parser) (op_of : Symbol → Option BinaryOp) (t : Source) (r : List Symbol) (op : BinaryOp) (after : List Symbol) → NextOf op_of r op after
+      → once small P op_of t r ≡ and_parse (P after) (λ u s. made small (Pair op t u) s)
   once_next P op_of t [] op after h = absurd h
   once_next P op_of t (k ∷ s) op after h =
-      ap (λ (o : Option BinaryOp). found_if o (λ op. and_parse (P s) (λ u s. made small (Pair op t u) s)) (phrase t (k ∷ s))) h.0 ∙ ap (λ (l : List Symbol). and_parse (P l) (λ u s. made small (Pair op t u) s)) h.1
+      ap (λ (o : Option BinaryOp). found_if o (λ op. and_parse (P s) (λ u s. made small (Pair op t u) s)) (phrase t (k ∷ s))) h.0
+      ∙ ap (λ (l : List Symbol). and_parse (P l) (λ u s. made small (Pair op t u) s)) h.1
 
-  pub once_goes : (P : Parser) (op_of : Symbol → Option BinaryOp) (ts : List Symbol) (t : Source) (r : List Symbol) (op : BinaryOp) (after : List Symbol) → P ts ≡ phrase t r → NextOf op_of r op after → once_by small P op_of ts ≡ and_parse (P after) (λ u s. made small (Pair op t u) s)
+  pub once_goes : (P : Parser) (op_of : Symbol → Option BinaryOp) (ts : List Symbol) (t : Source) (r : List Symbol) (op : BinaryOp) (after : List Symbol)
+      → P ts ≡ phrase t r → NextOf op_of r op after → once_by small P op_of ts ≡ and_parse (P after) (λ u s. made small (Pair op t u) s)
   once_goes P op_of ts t r op after e h = ap (λ (o : Result Taken FaultCode). and_parse o (once small P op_of)) e ∙ once_next P op_of t r op after h
 
-  pub once_made : (P : Parser) (op_of : Symbol → Option BinaryOp) (ts : List Symbol) (t : Source) (r : List Symbol) (op : BinaryOp) (after : List Symbol) (u v : Source) (s : List Symbol) → P ts ≡ phrase t r → NextOf op_of r op after → P after ≡ phrase u s → small (Pair op t u) ≡ true → v ≡ Pair op t u
+  pub once_made : (P : Parser) (op_of : Symbol → Option BinaryOp) (ts : List Symbol) (t : Source) (r : List Symbol) (op : BinaryOp) (after : List Symbol)
+      (u v : Source) (s : List Symbol) → P ts ≡ phrase t r → NextOf op_of r op after → P after ≡ phrase u s → small (Pair op t u) ≡ true → v ≡ Pair op t u
       → once_by small P op_of ts ≡ phrase v s
   once_made P op_of ts t r op after u v s e h f w is =
-      once_goes P op_of ts t r op after e h ∙ ap (λ (o : Result Taken FaultCode). and_parse o (λ u s. made small (Pair op t u) s)) f ∙ ap (λ (b : Bool). made_if b (Pair op t u) s) w ∙ ap (λ (x : Source). phrase x s) (sym is)
+      once_goes P op_of ts t r op after e h ∙ ap (λ (o : Result Taken FaultCode). and_parse o (λ u s. made small (Pair op t u) s)) f
+      ∙ ap (λ (b : Bool). made_if b (Pair op t u) s) w ∙ ap (λ (x : Source). phrase x s) (sym is)
 
-  pub once_big : (P : Parser) (op_of : Symbol → Option BinaryOp) (ts : List Symbol) (t : Source) (r : List Symbol) (op : BinaryOp) (after : List Symbol) (u : Source) (s : List Symbol) → P ts ≡ phrase t r → NextOf op_of r op after → P after ≡ phrase u s → small (Pair op t u) ≡ false
+  pub once_big : (P : Parser) (op_of : Symbol → Option BinaryOp) (ts : List Symbol) (t : Source) (r : List Symbol) (op : BinaryOp) (after : List Symbol)
+      (u : Source) (s : List Symbol) → P ts ≡ phrase t r → NextOf op_of r op after → P after ≡ phrase u s → small (Pair op t u) ≡ false
       → once_by small P op_of ts ≡ Err TooDeep
   once_big P op_of ts t r op after u s e h f big =
       once_goes P op_of ts t r op after e h ∙ ap (λ (o : Result Taken FaultCode). and_parse o (λ u s. made small (Pair op t u) s)) f ∙ ap (λ (b : Bool). made_if b (Pair op t u) s) big
 
-  pub once_fails : (P : Parser) (op_of : Symbol → Option BinaryOp) (ts : List Symbol) (t : Source) (r : List Symbol) (op : BinaryOp) (after : List Symbol) (c : FaultCode) → P ts ≡ phrase t r → NextOf op_of r op after → P after ≡ Err c → once_by small P op_of ts ≡ Err c
+  pub once_fails : (P : Parser) (op_of : Symbol → Option BinaryOp) (ts : List Symbol) (t : Source) (r : List Symbol) (op : BinaryOp) (after : List Symbol)
+      (c : FaultCode) → P ts ≡ phrase t r → NextOf op_of r op after → P after ≡ Err c → once_by small P op_of ts ≡ Err c
   once_fails P op_of ts t r op after c e h f = once_goes P op_of ts t r op after e h ∙ ap (λ (o : Result Taken FaultCode). and_parse o (λ u s. made small (Pair op t u) s)) f
 
 -- each chain is one of its operands
@@ -109,7 +123,8 @@ abbrev pub Runs : Chain → ℕ → List Symbol → Source → List Symbol → T
 Runs l room words t rest = (n : ℕ) × (length rest ≤ n) × (chain_in l room words ≡ more is_small (link_in l room) (chain_op l) n t rest)
 
 -- a chain begins with its first operand
-pub chain_begins : (l : Chain) (room : ℕ) (ts : List Symbol) (t : Source) (r : List Symbol) → link_in l room ts ≡ phrase t r → (n : ℕ) × (length r ≤ n) × (chain_in l room ts ≡ more is_small (link_in l room) (chain_op l) n t r)
+pub chain_begins : (l : Chain) (room : ℕ) (ts : List Symbol) (t : Source) (r : List Symbol) → link_in l room ts ≡ phrase t r → (n : ℕ) × (length r ≤ n)
+    × (chain_in l room ts ≡ more is_small (link_in l room) (chain_op l) n t r)
 chain_begins l room ts t r e = (length r, omega arith, chain_is l room ts ∙ ap (λ (o : Result Taken FaultCode). and_parse o (λ t r. more is_small (link_in l room) (chain_op l) (length r) t r)) e)
 
 -- one more operand is read, and the pair is within the limits
@@ -141,7 +156,8 @@ chain_fails l room ts c e = chain_is l room ts ∙ ap (λ (o : Result Taken Faul
 abbrev pub RefusesBig : ℕ → BinaryOp → Size → Size → SourceFault → Type 0
 RefusesBig line op a b f = (f ≡ record { code = TooDeep; line = line }) × ((e d : Source) → IsSize a e → IsSize b d → is_small (Pair op e d) ≡ false)
 
-pub told_big : (line : ℕ) (op : BinaryOp) (a b : Size) (e d : Source) (p : Result Taken FaultCode) (f : SourceFault) → IsSize a e → IsSize b d → (is_small (Pair op e d) ≡ false → p ≡ Err TooDeep) → NoMemoryOr (RefusesBig line op a b) f → NoMemoryOr (Told line p) f
+pub told_big : (line : ℕ) (op : BinaryOp) (a b : Size) (e d : Source) (p : Result Taken FaultCode) (f : SourceFault) → IsSize a e → IsSize b d
+    → (is_small (Pair op e d) ≡ false → p ≡ Err TooDeep) → NoMemoryOr (RefusesBig line op a b) f → NoMemoryOr (Told line p) f
 told_big line op a b e d p f y z pass (inl m) = inl m
 told_big line op a b e d p f y z pass (inr q) = inr (ap (λ (g : SourceFault). g.line) q.0, pass (q.1 e d y z) ∙ ap (λ (g : SourceFault). Err g.code) (sym q.0))
 
@@ -152,19 +168,26 @@ chain_big l room words t ts op after u s runs h e w = runs.2 ∙ more_big is_sma
 
 -- ---- signs and what they stand before
 
-pub front_reads : (f : Front) (room : ℕ) (ts rest : List Symbol) (ops : _) (t u : Source) (r : List Symbol) → front_in f room ts ≡ with_fronts is_small ops (fronted_in f room rest) → fronted_in f room rest ≡ phrase t r → with_fronts is_small ops (phrase t r) ≡ phrase u r → front_in f room ts ≡ phrase u r
+pub front_reads : (f : Front) (room : ℕ) (ts rest : List Symbol) (ops : _) (t u : Source) (r : List Symbol)
+    → front_in f room ts ≡ with_fronts is_small ops (fronted_in f room rest) → fronted_in f room rest ≡ phrase t r
+    → with_fronts is_small ops (phrase t r) ≡ phrase u r → front_in f room ts ≡ phrase u r
 front_reads f room ts rest ops t u r e g h = e ∙ ap (with_fronts is_small ops) g ∙ h
 
-pub front_fails : (f : Front) (room : ℕ) (ts rest : List Symbol) (ops : _) (c : FaultCode) → front_in f room ts ≡ with_fronts is_small ops (fronted_in f room rest) → fronted_in f room rest ≡ Err c → front_in f room ts ≡ Err c
+pub front_fails : (f : Front) (room : ℕ) (ts rest : List Symbol) (ops : _) (c : FaultCode)
+    → front_in f room ts ≡ with_fronts is_small ops (fronted_in f room rest) → fronted_in f room rest ≡ Err c → front_in f room ts ≡ Err c
 front_fails f room ts rest ops c e g = e ∙ ap (with_fronts is_small ops) g ∙ with_fronts-Err is_small ops c
 
 -- the exit where what stands under the signs is refused
-pub front_told : (f : Front) (room : ℕ) (ts rest : List Symbol) (ops : _) (line : ℕ) (g : SourceFault) → front_in f room ts ≡ with_fronts is_small ops (fronted_in f room rest) → NoMemoryOr (Told line (fronted_in f room rest)) g → NoMemoryOr (Told line (front_in f room ts)) g
+pub front_told : (f : Front) (room : ℕ) (ts rest : List Symbol) (ops : _) (line : ℕ) (g : SourceFault)
+    → front_in f room ts ≡ with_fronts is_small ops (fronted_in f room rest) → NoMemoryOr (Told line (fronted_in f room rest)) g
+    → NoMemoryOr (Told line (front_in f room ts)) g
 front_told f room ts rest ops line g e h = told_same line _ _ g (λ c. front_fails f room ts rest ops c e) h
 
 -- the exit where a sign makes the expression too deep
-pub front_big : (f : Front) (room : ℕ) (ts rest r : List Symbol) (ops : _) (size : Size) (now es : List Source) (t : Source) (line : ℕ) (g : SourceFault) → front_in f room ts ≡ with_fronts is_small ops (fronted_in f room rest) → fronted_in f room rest ≡ phrase t r → now ≡ t ∷ es → IsSize size t
-    → NoMemoryOr (λ g. (g.line ≡ line) × ((e : Source) (es : List Source) (r : List Symbol) → now ≡ e ∷ es → IsSize size e → with_fronts is_small ops (phrase e r) ≡ Err g.code)) g → NoMemoryOr (Told line (front_in f room ts)) g
+pub front_big : (f : Front) (room : ℕ) (ts rest r : List Symbol) (ops : _) (size : Size) (now es : List Source) (t : Source) (line : ℕ) (g : SourceFault)
+    → front_in f room ts ≡ with_fronts is_small ops (fronted_in f room rest) → fronted_in f room rest ≡ phrase t r → now ≡ t ∷ es → IsSize size t
+    → NoMemoryOr (λ g. (g.line ≡ line) × ((e : Source) (es : List Source) (r : List Symbol) → now ≡ e ∷ es → IsSize size e
+    → with_fronts is_small ops (phrase e r) ≡ Err g.code)) g → NoMemoryOr (Told line (front_in f room ts)) g
 front_big f room ts rest r ops size now es t line g e h there z (inl m) = inl m
 front_big f room ts rest r ops size now es t line g e h there z (inr p) = inr (p.0, e ∙ ap (with_fronts is_small ops) h ∙ p.1 t es r there z)
 
@@ -175,9 +198,11 @@ front_alone f room ts h = sym (front_is f room ts ∙ fronted-none is_small (fro
 -- what has one before it
 pub front_first : (f : Front) (room : ℕ) (ts : List Symbol) (sign : Prefix) (after : List Symbol) → NextOf (front_of f) ts sign after → signed_in sign f room after ≡ front_in f room ts
 front_first f room ts sign after h =
-    sym (front_is f room ts ∙ fronted-next is_small (fronted_in f room) (front_of f) ts sign after h ∙ ap (λ (o : Result Taken FaultCode). and_parse o (λ t r. made is_small (Prefixed sign t) r)) (sym (front_is f room after)))
+    sym (front_is f room ts ∙ fronted-next is_small (fronted_in f room) (front_of f) ts sign after h
+    ∙ ap (λ (o : Result Taken FaultCode). and_parse o (λ t r. made is_small (Prefixed sign t) r)) (sym (front_is f room after)))
 
-pub sign_reads : (sign : Prefix) (f : Front) (room : ℕ) (ts : List Symbol) (t : Source) (r : List Symbol) → front_in f room ts ≡ phrase t r → is_small (Prefixed sign t) ≡ true → signed_in sign f room ts ≡ phrase (Prefixed sign t) r
+pub sign_reads : (sign : Prefix) (f : Front) (room : ℕ) (ts : List Symbol) (t : Source) (r : List Symbol) → front_in f room ts ≡ phrase t r
+    → is_small (Prefixed sign t) ≡ true → signed_in sign f room ts ≡ phrase (Prefixed sign t) r
 sign_reads sign f room ts t r e w =
     ap (λ (o : Result Taken FaultCode). and_parse o (λ t r. made is_small (Prefixed sign t) r)) e ∙ ap (λ (b : Bool). made_if b (Prefixed sign t) r) w
 
@@ -191,11 +216,13 @@ sign_big sign f room ts t r size line g e z (inl m) = inl m
 sign_big sign f room ts t r size line g e z (inr q) =
     inr (
       ap (λ (h : SourceFault). h.line) q.0,
-      ap (λ (o : Result Taken FaultCode). and_parse o (λ t r. made is_small (Prefixed sign t) r)) e ∙ ap (λ (b : Bool). made_if b (Prefixed sign t) r) (q.1 t z) ∙ ap (λ (h : SourceFault). Err h.code) (sym q.0),
+      ap (λ (o : Result Taken FaultCode). and_parse o (λ t r. made is_small (Prefixed sign t) r)) e ∙ ap (λ (b : Bool). made_if b (Prefixed sign t) r) (q.1 t z)
+          ∙ ap (λ (h : SourceFault). Err h.code) (sym q.0),
     )
 
 -- what one reading says, one that is equal to it says
-pub read_same : (o p : Result Taken FaultCode) → o ≡ p → (r : Result Size SourceFault) (old new : List Source) (rest : List Symbol) → IfOk r (λ s. Reads o old new s rest) → IfOk r (λ s. Reads p old new s rest)
+pub read_same : (o p : Result Taken FaultCode) → o ≡ p → (r : Result Size SourceFault) (old new : List Source) (rest : List Symbol)
+    → IfOk r (λ s. Reads o old new s rest) → IfOk r (λ s. Reads p old new s rest)
 read_same o p e (Ok s) old new rest r = record { tree = r.tree; read = sym e ∙ r.read; there = r.there; sized = r.sized }
 read_same o p e (Err g) old new rest r = tt
 
@@ -232,7 +259,8 @@ group_fails room ts c h f = ap (λ (o : Result Taken FaultCode). and_parse o clo
 group_reads : (room : ℕ) (ts : List Symbol) (t : Source) (r : List Symbol) → 0 < room → chain_in Disjunction (room - 1) ts ≡ phrase t r → group_in room ts ≡ closed t r
 group_reads room ts t r h f = ap (λ (o : Result Taken FaultCode). and_parse o closed) (expression_within room ts h ∙ f)
 
-pub group_closed : (room : ℕ) (ts : List Symbol) (t : Source) (r after : List Symbol) → 0 < room → chain_in Disjunction (room - 1) ts ≡ phrase t r → r ≡ Closing ∷ after → group_in room ts ≡ phrase t after
+pub group_closed : (room : ℕ) (ts : List Symbol) (t : Source) (r after : List Symbol) → 0 < room → chain_in Disjunction (room - 1) ts ≡ phrase t r
+    → r ≡ Closing ∷ after → group_in room ts ≡ phrase t after
 group_closed room ts t r after h f e = group_reads room ts t r h f ∙ ap (closed t) e
 
 not_closed : (t : Source) (r : List Symbol) → NotClosing r → closed t r ≡ Err BadSyntax

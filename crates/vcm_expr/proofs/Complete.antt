@@ -1,5 +1,6 @@
 -- The parser reads each expression that the grammar has.
-use Rattle.std.proofs.Common.{Bool, true, false, ◌≡◌, ℕ, ◌+◌, ◌<◌, ◌≤◌, ◌⊎◌, inl, inr, ⊎_elim, List, [], ◌∷◌, ◌++◌, length, Option, Some, None, Result, Ok, Err, refl, sym, ap, ◌∙◌, subst, arith, append_assoc, length-append}
+use Rattle.std.proofs.Common.{Bool, true, false, ◌≡◌, ℕ, ◌+◌, ◌<◌, ◌≤◌, ◌⊎◌, inl, inr, ⊎_elim, List, [], ◌∷◌, ◌++◌, length, Option, Some, None, Result, Ok, Err}
+use Rattle.std.proofs.Common.{refl, sym, ap, ◌∙◌, subst, arith, append_assoc, length-append}
 use Rattle.std.proofs.lemmas.Bool.{cases_lt}
 use Rattle.vcm_lines.specs.declared.fault.FaultCode.{FaultCode}
 use Rattle.vcm_lines.specs.declared.fault.FaultCode.TheVariants.{TooDeep}
@@ -113,7 +114,8 @@ none_first l find fs m (Leaf o) r h f = fs.leaf o
 none_first l find fs m (Paren s) r h f = fs.opening
 none_first l find fs m (Signed op s) r h f = fs.tighter op (omega (arith, f.0))
 none_first l find fs m (Joined op a b) r h f =
-    subst (λ (ts : List Symbol). NoNext find ts) (sym (append_assoc (spelled a) (word_of op ∷ spelled b) r)) (none_first l find fs (left_level op) a (word_of op ∷ (spelled b ++ r)) (omega (arith, f.0, left-le op)) f.1)
+    subst (λ (ts : List Symbol). NoNext find ts) (sym (append_assoc (spelled a) (word_of op ∷ spelled b) r))
+    (none_first l find fs (left_level op) a (word_of op ∷ (spelled b ++ r)) (omega (arith, f.0, left-le op)) f.1)
 
 module _ (small : Source → Bool) where
   -- some part of the expression is too big
@@ -184,7 +186,8 @@ module _ (small : Source → Bool) where
         ⊎_elim
         (λ e.
         ⊎_elim
-        (λ w. let on = more_on small P op_of pa.0 (meant a) x op (spelled b ++ r) (meant b) r (ops.found op same, refl) pa.1 e w (omega (arith, length-append (spelled b) r)) in inl (on.0, on.1, ap at flat ∙ pa.2 ∙ on.2))
+        (λ w. let on = more_on small P op_of pa.0 (meant a) x op (spelled b ++ r) (meant b) r (ops.found op same, refl) pa.1 e w
+        (omega (arith, length-append (spelled b) r)) in inl (on.0, on.1, ap at flat ∙ pa.2 ∙ on.2))
         (λ w. inr (TooDeep, ap at flat ∙ pa.2 ∙ more_big small P op_of pa.0 (meant a) x op (spelled b ++ r) (meant b) r (ops.found op same, refl) pa.1 e w, inl (refl, inr (inl w))))
         (either (small (Pair op (meant a) (meant b)))))
         (λ e. inr (e.0, ap at flat ∙ pa.2 ∙ more_fails small P op_of pa.0 (meant a) x op (spelled b ++ r) e.0 (ops.found op same, refl) pa.1 e.1, blames_right room e.0 op a b e.2))

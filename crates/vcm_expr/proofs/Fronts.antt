@@ -26,10 +26,12 @@ module _ (small : Source → Bool) where
   with_fronts-Err (p ∷ ops) c = ap (λ (q : Result Taken FaultCode). and_parse q (put p)) (with_fronts-Err ops c)
 
   -- a sign stands first
-  pub fronted-next : (operand : Parser) (find : Symbol → Option Prefix) (ts : List Symbol) (op : Prefix) (after : List Symbol) → NextOf find ts op after → fronted_by small operand find ts ≡ and_parse (fronted_by small operand find after) (put op)
+  pub fronted-next : (operand : Parser) (find : Symbol → Option Prefix) (ts : List Symbol) (op : Prefix) (after : List Symbol) → NextOf find ts op after
+      → fronted_by small operand find ts ≡ and_parse (fronted_by small operand find after) (put op)
   fronted-next operand find [] op after h = absurd h
   fronted-next operand find (k ∷ r) op after h =
-      ap (λ (o : Option Prefix). found_if o (λ op. and_parse (fronted_by small operand find r) (put op)) (operand (k ∷ r))) h.0 ∙ ap (λ (l : List Symbol). and_parse (fronted_by small operand find l) (put op)) h.1
+      ap (λ (o : Option Prefix). found_if o (λ op. and_parse (fronted_by small operand find r) (put op)) (operand (k ∷ r))) h.0
+      ∙ ap (λ (l : List Symbol). and_parse (fronted_by small operand find l) (put op)) h.1
 
   -- none stands first
   pub fronted-none : (operand : Parser) (find : Symbol → Option Prefix) (ts : List Symbol) → NoNext find ts → fronted_by small operand find ts ≡ operand ts
@@ -38,7 +40,8 @@ module _ (small : Source → Bool) where
 
   -- one more sign is taken
   pub take_step : (operand : Parser) (find : Symbol → Option Prefix) (words rest : List Symbol) (ops : List Prefix) (op : Prefix) (after : List Symbol) → NextOf find rest op after
-      → fronted_by small operand find words ≡ with_fronts small ops (fronted_by small operand find rest) → fronted_by small operand find words ≡ with_fronts small (ops ++ op ∷ []) (fronted_by small operand find after)
+      → fronted_by small operand find words ≡ with_fronts small ops (fronted_by small operand find rest)
+      → fronted_by small operand find words ≡ with_fronts small (ops ++ op ∷ []) (fronted_by small operand find after)
   take_step operand find words rest ops op after h e =
       e ∙ ap (with_fronts small ops) (fronted-next operand find rest op after h) ∙ sym (with_fronts-push ops op (fronted_by small operand find after))
 

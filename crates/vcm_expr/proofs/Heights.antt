@@ -38,7 +38,8 @@ reach_pieces [] es = omega arith
 reach_pieces (p ∷ ps) es = omega (arith, reach_piece p es, reach_pieces ps (with_piece p es))
 
 -- so there is room on a stack of 32 for what one more part leaves there
-pub room_for : (e : Source) (ps : List Piece) (i : ℕ) (p : Piece) (es : List Source) → i < length ps → p ≡ get_or ps i p → with_pieces ps [] ≡ with_pieces (drop i ps) es → ps ≡ parts e → is_small e ≡ true → length (with_piece p es) ≤ 32
+pub room_for : (e : Source) (ps : List Piece) (i : ℕ) (p : Piece) (es : List Source) → i < length ps → p ≡ get_or ps i p
+    → with_pieces ps [] ≡ with_pieces (drop i ps) es → ps ≡ parts e → is_small e ≡ true → length (with_piece p es) ≤ 32
 room_for e ps i p es lt here run is small =
     let whole = run ∙ at_drop_more (λ qs. with_pieces qs es) ps i p lt ∙ ap (λ r. with_pieces (drop (i + 1) ps) (with_piece r es)) (sym here) in
     let last : reach (with_pieces (drop (i + 1) ps) (with_piece p es)) ≡ 0 + depth_of e = ap reach (sym whole ∙ one_is e ps is) ∙ omega arith in

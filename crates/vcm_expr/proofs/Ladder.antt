@@ -10,7 +10,8 @@ use Rattle.vcm_expr.specs.declared.symbol.Symbol.{Symbol}
 use Rattle.vcm_expr.specs.declared.symbol.Symbol.TheVariants.{Dash, Cross, Star, Slash, NotWord, AndWord, OrWord, RelationWord, Closing}
 use Rattle.vcm_expr.specs.Source.{Source, Pair}
 use Rattle.vcm_expr.specs.Grammar.{Written, Leaf, Paren, Signed, Joined, word_of, sign_word, level, sign_level, left_level, spelled, Fits, meant}
-use Rattle.vcm_expr.specs.Parser.{Parser, and_parse, phrase, made, made_if, closed, primary_by, sign_of, negation_of, product_op, sum_op, relation_op, and_op, or_op, once, once_by, signed_by, product_by, sum_by, relation_by, negation_by, conjunction_by, disjunction_by, expression}
+use Rattle.vcm_expr.specs.Parser.{Parser, and_parse, phrase, made, made_if, closed, primary_by, sign_of, negation_of, product_op, sum_op, relation_op, and_op}
+use Rattle.vcm_expr.specs.Parser.{or_op, once, once_by, signed_by, product_by, sum_by, relation_by, negation_by, conjunction_by, disjunction_by, expression}
 use Rattle.vcm_expr.specs.inner.Levels.{NoNext}
 use Rattle.vcm_expr.proofs.Chains.{once_stops, once_goes, expression-zero, expression-suc}
 use Rattle.vcm_expr.proofs.Complete.{part_level, Stops, Ops, Fronts, level-le, sign-le, Stops-weaker, either, Blames, Ends, Complete, blames_left, blames_right, chain_complete, fronted_complete}
@@ -253,7 +254,8 @@ module _ (small : Source → Bool) where
       let products : Complete small 6 room (product_by small (expression small room)) = chain_complete small 6 room (signed_by small (expression small room)) product_op product_ops signs in
       let sums : Complete small 5 room (sum_by small (expression small room)) = chain_complete small 5 room (product_by small (expression small room)) sum_op sum_ops products in
       let relations : Complete small 4 room (relation_by small (expression small room)) = once_complete room (sum_by small (expression small room)) sums in
-      let negations : Complete small 3 room (negation_by small (expression small room)) = fronted_complete small 3 room (relation_by small (expression small room)) negation_of negation_fronts relations in
+      let negations : Complete small 3 room (negation_by small (expression small room)) =
+      fronted_complete small 3 room (relation_by small (expression small room)) negation_of negation_fronts relations in
       let conjunctions : Complete small 2 room (conjunction_by small (expression small room)) = chain_complete small 2 room (negation_by small (expression small room)) and_op and_ops negations in
       chain_complete small 1 room (conjunction_by small (expression small room)) or_op or_ops conjunctions
 

@@ -80,7 +80,8 @@ past_none [] = tt
 past_none (b ∷ bs) = choose NoDigitFirst (is_ascii_digit b) _ _ (λ e. past_none bs) (λ e. e)
 
 -- symbols that are spelled, and fine, are read by their size
-sized_reads : (bytes w : List ℕ) (o : Option (List ℕ)) → SpellsNumber bytes (record { whole = w; decimals = o }) → is_fine (record { whole = w; decimals = o }) ≡ true → Reads bytes (sized (has_minus bytes) w o)
+sized_reads : (bytes w : List ℕ) (o : Option (List ℕ)) → SpellsNumber bytes (record { whole = w; decimals = o })
+    → is_fine (record { whole = w; decimals = o }) ≡ true → Reads bytes (sized (has_minus bytes) w o)
 sized_reads bytes w o s f =
     choose (Reads bytes) (nat_lt (magnitude_of w o) (2 ^ 63)) _ _
     (λ e. (record { whole = w; decimals = o }, s, f, ltb-true _ _ e, refl))

@@ -74,25 +74,31 @@ pub all_again : (es : List Source) (ps : List Piece) → ps ≡ all_parts es →
 all_again es ps h = h ∙ ap all_parts (sym (stack_is es ps h))
 
 -- the same of a stack as it is seen
-pub leaf_view : (t : Term) (now : List Source) (old new : List Piece) → with_pieces old [] ≡ now → old ≡ all_parts (with_pieces old []) → new ≡ old ++ leaf_piece t ∷ [] → with_pieces new [] ≡ Plain t ∷ now
+pub leaf_view : (t : Term) (now : List Source) (old new : List Piece) → with_pieces old [] ≡ now → old ≡ all_parts (with_pieces old [])
+    → new ≡ old ++ leaf_piece t ∷ [] → with_pieces new [] ≡ Plain t ∷ now
 leaf_view t now old new v h e = stack_is (Plain t ∷ now) new (leaf_more t now old new (h ∙ ap all_parts v) e)
 
 pub leaf_holds : (t : Term) (old new : List Piece) → old ≡ all_parts (with_pieces old []) → new ≡ old ++ leaf_piece t ∷ [] → new ≡ all_parts (with_pieces new [])
 leaf_holds t old new h e = all_again (Plain t ∷ with_pieces old []) new (leaf_more t (with_pieces old []) old new h e)
 
-pub front_view : (op : Prefix) (e : Source) (es : List Source) (old new : List Piece) → with_pieces old [] ≡ e ∷ es → old ≡ all_parts (with_pieces old []) → new ≡ old ++ Front op ∷ [] → with_pieces new [] ≡ Prefixed op e ∷ es
+pub front_view : (op : Prefix) (e : Source) (es : List Source) (old new : List Piece) → with_pieces old [] ≡ e ∷ es → old ≡ all_parts (with_pieces old [])
+    → new ≡ old ++ Front op ∷ [] → with_pieces new [] ≡ Prefixed op e ∷ es
 front_view op e es old new v h is = stack_is (Prefixed op e ∷ es) new (front_more op e es old new (h ∙ ap all_parts v) is)
 
-pub front_holds : (op : Prefix) (e : Source) (es : List Source) (old new : List Piece) → with_pieces old [] ≡ e ∷ es → old ≡ all_parts (with_pieces old []) → new ≡ old ++ Front op ∷ [] → new ≡ all_parts (with_pieces new [])
+pub front_holds : (op : Prefix) (e : Source) (es : List Source) (old new : List Piece) → with_pieces old [] ≡ e ∷ es → old ≡ all_parts (with_pieces old [])
+    → new ≡ old ++ Front op ∷ [] → new ≡ all_parts (with_pieces new [])
 front_holds op e es old new v h is = all_again (Prefixed op e ∷ es) new (front_more op e es old new (h ∙ ap all_parts v) is)
 
-pub between_view : (op : BinaryOp) (e f : Source) (es : List Source) (old new : List Piece) → with_pieces old [] ≡ f ∷ e ∷ es → old ≡ all_parts (with_pieces old []) → new ≡ old ++ Between op ∷ [] → with_pieces new [] ≡ Pair op e f ∷ es
+pub between_view : (op : BinaryOp) (e f : Source) (es : List Source) (old new : List Piece) → with_pieces old [] ≡ f ∷ e ∷ es
+    → old ≡ all_parts (with_pieces old []) → new ≡ old ++ Between op ∷ [] → with_pieces new [] ≡ Pair op e f ∷ es
 between_view op e f es old new v h is = stack_is (Pair op e f ∷ es) new (between_more op e f es old new (h ∙ ap all_parts v) is)
 
-pub between_holds : (op : BinaryOp) (e f : Source) (es : List Source) (old new : List Piece) → with_pieces old [] ≡ f ∷ e ∷ es → old ≡ all_parts (with_pieces old []) → new ≡ old ++ Between op ∷ [] → new ≡ all_parts (with_pieces new [])
+pub between_holds : (op : BinaryOp) (e f : Source) (es : List Source) (old new : List Piece) → with_pieces old [] ≡ f ∷ e ∷ es
+    → old ≡ all_parts (with_pieces old []) → new ≡ old ++ Between op ∷ [] → new ≡ all_parts (with_pieces new [])
 between_holds op e f es old new v h is = all_again (Pair op e f ∷ es) new (between_more op e f es old new (h ∙ ap all_parts v) is)
 
-pub other_view : (e : Source) (now : List Source) (old new ps : List Piece) → with_pieces old [] ≡ now → old ≡ all_parts (with_pieces old []) → ps ≡ parts e → new ≡ old ++ ps → with_pieces new [] ≡ e ∷ now
+pub other_view : (e : Source) (now : List Source) (old new ps : List Piece) → with_pieces old [] ≡ now → old ≡ all_parts (with_pieces old []) → ps ≡ parts e
+    → new ≡ old ++ ps → with_pieces new [] ≡ e ∷ now
 other_view e now old new ps v h g is = stack_is (e ∷ now) new (other_more e now old new ps (h ∙ ap all_parts v) g is)
 
 pub other_holds : (e : Source) (old new ps : List Piece) → old ≡ all_parts (with_pieces old []) → ps ≡ parts e → new ≡ old ++ ps → new ≡ all_parts (with_pieces new [])
@@ -113,6 +119,7 @@ sized s e d n h g =
 pub front_sized : (s a : Size) (op : Prefix) (e : Source) → s.depth ≡ a.depth + 1 → s.nodes ≡ a.nodes + 1 → s.depth ≤ 32 → s.nodes ≤ 512 → IsSize a e → IsSize s (Prefixed op e)
 front_sized s a op e d n h g z = sized s (Prefixed op e) (d ∙ ap (λ x. x + 1) z.depth) (n ∙ ap (λ x. x + 1) z.nodes) h g
 
-pub between_sized : (s a b : Size) (op : BinaryOp) (e f : Source) → s.depth ≡ max a.depth b.depth + 1 → s.nodes ≡ a.nodes + b.nodes + 1 → s.depth ≤ 32 → s.nodes ≤ 512 → IsSize a e → IsSize b f → IsSize s (Pair op e f)
+pub between_sized : (s a b : Size) (op : BinaryOp) (e f : Source) → s.depth ≡ max a.depth b.depth + 1 → s.nodes ≡ a.nodes + b.nodes + 1 → s.depth ≤ 32
+    → s.nodes ≤ 512 → IsSize a e → IsSize b f → IsSize s (Pair op e f)
 between_sized s a b op e f d n h g y z =
     sized s (Pair op e f) (d ∙ ap (λ x. max x b.depth + 1) y.depth ∙ ap (λ x. max (depth_of e) x + 1) z.depth) (n ∙ ap (λ x. x + b.nodes + 1) y.nodes ∙ ap (λ x. nodes_of e + x + 1) z.nodes) h g

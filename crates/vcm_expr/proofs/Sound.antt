@@ -7,7 +7,9 @@ use Rattle.vcm_expr.specs.declared.symbol.Symbol.{Symbol}
 use Rattle.vcm_expr.specs.declared.symbol.Symbol.TheVariants.{Operand, Opening, Closing}
 use Rattle.vcm_expr.specs.Source.{Source, Plain, Prefixed, Pair, is_small}
 use Rattle.vcm_expr.specs.Grammar.{Written, Leaf, Paren, Signed, Joined, word_of, sign_word, spelled, Fits, meant, IsRead, nesting}
-use Rattle.vcm_expr.specs.Parser.{Taken, Parser, and_parse, phrase, made, made_if, closed, primary_by, sign_of, negation_of, found_if, fronted_by, product_op, sum_op, relation_op, and_op, or_op, more, chain_by, once, once_by, signed_by, product_by, sum_by, relation_by, negation_by, conjunction_by, disjunction_by, expression}
+use Rattle.vcm_expr.specs.Parser.{Taken, Parser, and_parse, phrase, made, made_if, closed, primary_by, sign_of, negation_of, found_if, fronted_by, product_op}
+use Rattle.vcm_expr.specs.Parser.{sum_op, relation_op, and_op, or_op, more, chain_by, once, once_by, signed_by, product_by, sum_by, relation_by, negation_by}
+use Rattle.vcm_expr.specs.Parser.{conjunction_by, disjunction_by, expression}
 use Rattle.vcm_expr.proofs.Chains.{expression-zero, expression-suc}
 use Rattle.vcm_expr.proofs.Complete.{Ops, Fronts}
 use Rattle.vcm_expr.proofs.Ladder.{product_ops, sum_ops, and_ops, or_ops, sign_fronts, negation_fronts, relation_says}
@@ -54,12 +56,16 @@ read_all l room s ts p f i h w e =
 
 module _ (l room : ℕ) (P : Parser) (op_of : Symbol → Option BinaryOp) (ops : Ops l op_of) (operands : Sound (l + 1) room P) where
   -- a chain with s in front of it
-  more_sound : (n : ℕ) (s : Written) (ts : List Symbol) (p : Taken) → Fits l s → IsRead s → nesting s ≤ room → is_small (meant s) ≡ true → more is_small P op_of n (meant s) ts ≡ Ok p → Read l room (spelled s ++ ts) p
+  more_sound : (n : ℕ) (s : Written) (ts : List Symbol) (p : Taken) → Fits l s → IsRead s → nesting s ≤ room → is_small (meant s) ≡ true
+      → more is_small P op_of n (meant s) ts ≡ Ok p → Read l room (spelled s ++ ts) p
   more_sound n s [] p f i h w e = read_all l room s [] p f i h w e
   more_sound zero s (k ∷ r) p f i h w e = read_all l room s (k ∷ r) p f i h w e
   more_sound (suc n) s (k ∷ r) p f i h w e = by_op (op_of k) refl e (more_sound n)
     where
-      by_op : (o : Option BinaryOp) → op_of k ≡ o → found_if o (λ op. and_parse (P r) (λ u q. and_parse (made is_small (Pair op (meant s) u) q) (more is_small P op_of n))) (phrase (meant s) (k ∷ r)) ≡ Ok p → ((s' : Written) (ts : List Symbol) (q : Taken) → Fits l s' → IsRead s' → nesting s' ≤ room → is_small (meant s') ≡ true → more is_small P op_of n (meant s') ts ≡ Ok q → Read l room (spelled s' ++ ts) q) → Read l room (spelled s ++ k ∷ r) p
+      by_op : (o : Option BinaryOp) → op_of k ≡ o
+          → found_if o (λ op. and_parse (P r) (λ u q. and_parse (made is_small (Pair op (meant s) u) q) (more is_small P op_of n))) (phrase (meant s) (k ∷ r)) ≡
+          Ok p → ((s' : Written) (ts : List Symbol) (q : Taken) → Fits l s' → IsRead s' → nesting s' ≤ room → is_small (meant s') ≡ true
+          → more is_small P op_of n (meant s') ts ≡ Ok q → Read l room (spelled s' ++ ts) q) → Read l room (spelled s ++ k ∷ r) p
       by_op None is e again = read_all l room s (k ∷ r) p f i h w e
       by_op (Some op) is e again =
           let word = ops.says k op is in
@@ -69,10 +75,12 @@ module _ (l room : ℕ) (P : Parser) (op_of : Symbol → Option BinaryOp) (ops :
           let node = made-Ok (Pair op (meant s) q.0.tree) q.0.rest q2.0 q2.1 in
           let fits : Fits l (Joined op s b.written) = (omega (arith, word.1), subst (λ m. Fits m s) (sym (ops.left op word.1)) f, subst (λ m. Fits (m + 1) b.written) (sym word.1) b.fits) in
           let shallow : nesting (Joined op s b.written) ≤ room = omega (arith, b.shallow) in
-          let step : more is_small P op_of n (meant (Joined op s b.written)) q.0.rest ≡ Ok p = ap (λ u. more is_small P op_of n (Pair op (meant s) u) q.0.rest) b.tree ∙ ap (λ v. more is_small P op_of n v.tree v.rest) node.1 ∙ q2.2 in
+          let step : more is_small P op_of n (meant (Joined op s b.written)) q.0.rest ≡ Ok p =
+          ap (λ u. more is_small P op_of n (Pair op (meant s) u) q.0.rest) b.tree ∙ ap (λ v. more is_small P op_of n v.tree v.rest) node.1 ∙ q2.2 in
           let sized : is_small (meant (Joined op s b.written)) ≡ true = ap (λ u. is_small (Pair op (meant s) u)) b.tree ∙ node.0 in
           let read = again (Joined op s b.written) q.0.rest p fits (i, b.read) shallow sized step in
-          let flat : spelled (Joined op s b.written) ++ q.0.rest ≡ spelled s ++ k ∷ r = append_assoc (spelled s) (word_of op ∷ spelled b.written) q.0.rest ∙ ap (λ w. spelled s ++ w ∷ (spelled b.written ++ q.0.rest)) (sym word.0) ∙ ap (λ r. spelled s ++ k ∷ r) (sym b.symbols) in
+          let flat : spelled (Joined op s b.written) ++ q.0.rest ≡ spelled s ++ k ∷ r = append_assoc (spelled s) (word_of op ∷ spelled b.written) q.0.rest
+          ∙ ap (λ w. spelled s ++ w ∷ (spelled b.written ++ q.0.rest)) (sym word.0) ∙ ap (λ r. spelled s ++ k ∷ r) (sym b.symbols) in
           subst (λ ts. Read l room ts p) flat read
 
   pub chain_sound : Sound l room (chain_by is_small P op_of)
@@ -88,7 +96,9 @@ module _ (l room : ℕ) (P : Parser) (find : Symbol → Option Prefix) (fs : Fro
   fronted_sound [] p e = weaker l (l + 1) room [] p (omega arith) (operands [] p e)
   fronted_sound (k ∷ r) p e = by_word (find k) refl e (fronted_sound r)
     where
-      by_word : (o : Option Prefix) → find k ≡ o → found_if o (λ op. and_parse (fronted_by is_small P find r) (λ t s. made is_small (Prefixed op t) s)) (P (k ∷ r)) ≡ Ok p → ((q : Taken) → fronted_by is_small P find r ≡ Ok q → Read l room r q) → Read l room (k ∷ r) p
+      by_word : (o : Option Prefix) → find k ≡ o
+          → found_if o (λ op. and_parse (fronted_by is_small P find r) (λ t s. made is_small (Prefixed op t) s)) (P (k ∷ r)) ≡ Ok p
+          → ((q : Taken) → fronted_by is_small P find r ≡ Ok q → Read l room r q) → Read l room (k ∷ r) p
       by_word None is e again = weaker l (l + 1) room (k ∷ r) p (omega arith) (operands (k ∷ r) p e)
       by_word (Some op) is e again =
           let word = fs.says k op is in
@@ -108,11 +118,14 @@ module _ (l room : ℕ) (P : Parser) (find : Symbol → Option Prefix) (fs : Fro
           }
 
 module _ (room : ℕ) (P : Parser) (operands : Sound 5 room P) where
-  once_after : (s : Written) (ts : List Symbol) (p : Taken) → Fits 5 s → IsRead s → nesting s ≤ room → is_small (meant s) ≡ true → once is_small P relation_op (meant s) ts ≡ Ok p → Read 4 room (spelled s ++ ts) p
+  once_after : (s : Written) (ts : List Symbol) (p : Taken) → Fits 5 s → IsRead s → nesting s ≤ room → is_small (meant s) ≡ true
+      → once is_small P relation_op (meant s) ts ≡ Ok p → Read 4 room (spelled s ++ ts) p
   once_after s [] p f i h w e = read_all 4 room s [] p (Fits-weaker 4 5 s (omega arith) f) i h w e
   once_after s (k ∷ r) p f i h w e = by_op (relation_op k) refl e
     where
-      by_op : (o : Option BinaryOp) → relation_op k ≡ o → found_if o (λ op. and_parse (P r) (λ u q. made is_small (Pair op (meant s) u) q)) (phrase (meant s) (k ∷ r)) ≡ Ok p → Read 4 room (spelled s ++ k ∷ r) p
+      by_op : (o : Option BinaryOp) → relation_op k ≡ o
+          → found_if o (λ op. and_parse (P r) (λ u q. made is_small (Pair op (meant s) u) q)) (phrase (meant s) (k ∷ r)) ≡ Ok p
+          → Read 4 room (spelled s ++ k ∷ r) p
       by_op None is e = read_all 4 room s (k ∷ r) p (Fits-weaker 4 5 s (omega arith) f) i h w e
       by_op (Some op) is e =
           let word = relation_says k op is in
@@ -121,7 +134,9 @@ module _ (room : ℕ) (P : Parser) (operands : Sound 5 room P) where
           let node = made-Ok (Pair op (meant s) q.0.tree) q.0.rest p q.2 in
           let rest : q.0.rest ≡ p.rest = ap (λ v. v.rest) node.1 in
           let tree : Pair op (meant s) q.0.tree ≡ p.tree = ap (λ v. v.tree) node.1 in
-          let flat : spelled s ++ k ∷ r ≡ spelled (Joined op s b.written) ++ p.rest = ap (λ w. spelled s ++ w ∷ r) word.0 ∙ ap (λ ts. spelled s ++ word_of op ∷ ts) (b.symbols ∙ ap (λ ts. spelled b.written ++ ts) rest) ∙ sym (append_assoc (spelled s) (word_of op ∷ spelled b.written) p.rest) in
+          let flat : spelled s ++ k ∷ r ≡ spelled (Joined op s b.written) ++ p.rest = ap (λ w. spelled s ++ w ∷ r) word.0
+          ∙ ap (λ ts. spelled s ++ word_of op ∷ ts) (b.symbols ∙ ap (λ ts. spelled b.written ++ ts) rest)
+          ∙ sym (append_assoc (spelled s) (word_of op ∷ spelled b.written) p.rest) in
           record {
             written = Joined op s b.written;
             fits = (omega (arith, word.1), subst (λ m. Fits m s) (sym word.2) f, subst (λ m. Fits (m + 1) b.written) (sym word.1) b.fits);
@@ -163,8 +178,18 @@ primary_sound room inner (Opening ∷ r) p e =
     let q = and_parse-Ok (expression is_small room r) closed p e in
     let a = inner r q.0 q.1 in
     let c = closed-Ok q.0.tree q.0.rest p q.2 in
-    let flat : spelled a.0.written ++ q.0.rest ≡ (spelled a.0.written ++ Closing ∷ []) ++ p.rest = ap (λ l. spelled a.0.written ++ l) c.0 ∙ sym (append_assoc (spelled a.0.written) (Closing ∷ []) p.rest) in
-    record { written = Paren a.0.written; fits = a.0.fits; symbols = ap (λ l. Opening ∷ l) (a.0.symbols ∙ flat); read = a.0.read; tree = a.0.tree ∙ c.1; shallow = a.1; sized = ap is_small (sym c.1) ∙ a.0.sized }
+    let flat : spelled a.0.written ++ q.0.rest ≡ (spelled a.0.written ++ Closing ∷ []) ++ p.rest = ap (λ l. spelled a.0.written ++ l) c.0
+    ∙ sym (append_assoc (spelled a.0.written) (Closing ∷ []) p.rest) in
+    record {
+      written = Paren a.0.written;
+      fits = a.0.fits;
+      symbols = ap (λ l. Opening ∷ l) (a.0.symbols ∙ flat);
+      read = a.0.read;
+      tree = a.0.tree
+          ∙ c.1;
+      shallow = a.1;
+      sized = ap is_small (sym c.1) ∙ a.0.sized;
+    }
 primary_sound room inner (_ ∷ r) p e = cc
 
 -- the levels, where what stands in parentheses is an expression

@@ -101,7 +101,8 @@ pair_spelled op k l j a b old one two new between ea eb kk ll o left right kind 
     ap (λ o. typed_as o (Two op (scaled a t) (scaled b u))) typed in
     record {
       tree = Two op (scaled a t) (scaled b u);
-      is = subst (λ c. typed_as (binary_kind op (scaled_kind (is_scaled op k l) k) (scaled_kind c l)) (Two op (scaled (is_scaled op k l) t) (scaled c u)) ≡ kinded (Two op (scaled a t) (scaled b u)) j) eb
+      is = subst (λ c. typed_as (binary_kind op (scaled_kind (is_scaled op k l) k) (scaled_kind c l)) (Two op (scaled (is_scaled op k l) t) (scaled c u)) ≡
+          kinded (Two op (scaled a t) (scaled b u)) j) eb
           (subst (λ c. typed_as (binary_kind op (scaled_kind c k) (scaled_kind b l)) (Two op (scaled c t) (scaled b u)) ≡ kinded (Two op (scaled a t) (scaled b u)) j) ea made);
       items = all;
     }
@@ -128,7 +129,8 @@ typed_small vs want s after w shallow few =
     (w.0, w.2, omega (arith, f.shallow, shallow), omega (arith, f.few, few))
 
 -- a leaf alone in its place
-pub leaf_placed : (vs : List Variable) (want : Want) (t : Term) (k : Kind) (x : Operand) (r : Result Tree FaultCode) → leaf_of vs t ≡ kinded (Value x) k → wanted_by want (Value x) k ≡ r → typed_for vs want (Plain t) ≡ r
+pub leaf_placed : (vs : List Variable) (want : Want) (t : Term) (k : Kind) (x : Operand) (r : Result Tree FaultCode) → leaf_of vs t ≡ kinded (Value x) k
+    → wanted_by want (Value x) k ≡ r → typed_for vs want (Plain t) ≡ r
 leaf_placed vs want t k x r e w = ap (λ o. and_then o (wanted_by want)) e ∙ w
 
 -- the exits of a place that doesn't take its expression
@@ -136,11 +138,13 @@ pub leaf_told : (vs : List Variable) (want : Want) (t : Term) (code : FaultCode)
 leaf_told vs want t code e = ap (λ o. and_then o (wanted_by want)) e
 
 pub parts_told : (vs : List Variable) (want : Want) (ps : List Piece) (line : ℕ) (g : SourceFault)
-    → NoMemoryOr (λ f. (f.line ≡ line) × ((e : Source) → ps ≡ parts e → typed_of vs e ≡ Err f.code)) g → NoMemoryOr (λ f. (f.line ≡ line) × ((e : Source) → ps ≡ parts e → typed_for vs want e ≡ Err f.code)) g
+    → NoMemoryOr (λ f. (f.line ≡ line) × ((e : Source) → ps ≡ parts e → typed_of vs e ≡ Err f.code)) g
+    → NoMemoryOr (λ f. (f.line ≡ line) × ((e : Source) → ps ≡ parts e → typed_for vs want e ≡ Err f.code)) g
 parts_told vs want ps line g (inl m) = inl m
 parts_told vs want ps line g (inr h) = inr (h.0, λ e is. ap (λ o. and_then o (wanted_by want)) (h.1 e is))
 
-pub parts_place_told : (vs : List Variable) (want : Want) (ps : List Piece) (k : Kind) (items : List Item) (line : ℕ) (g : SourceFault) → ((e : Source) → ps ≡ parts e → Spelled (typed_of vs e) [] items k)
+pub parts_place_told : (vs : List Variable) (want : Want) (ps : List Piece) (k : Kind) (items : List Item) (line : ℕ) (g : SourceFault)
+    → ((e : Source) → ps ≡ parts e → Spelled (typed_of vs e) [] items k)
     → NoMemoryOr (λ f. (f.line ≡ line) × ((t : Tree) → wanted_by want t k ≡ Err f.code)) g → NoMemoryOr (λ f. (f.line ≡ line) × ((e : Source) → ps ≡ parts e → typed_for vs want e ≡ Err f.code)) g
 parts_place_told vs want ps k items line g p (inl m) = inl m
 parts_place_told vs want ps k items line g p (inr h) = inr (h.0, λ e is. let q = p e is in ap (λ o. and_then o (wanted_by want)) q.is ∙ h.1 q.tree)

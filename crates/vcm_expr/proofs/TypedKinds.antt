@@ -90,15 +90,18 @@ prefixed_fine kinds d n Not t k p f e =
     let q = typed_as-Ok (unary_kind Negation k) (One Negation t) p e in
     fine_same kinds (d + 1) (n + 1) (One Negation t) q.0 p q.2 (ap (kind_after_one (unary_kind Negation)) f.typed ∙ q.1) (omega (arith, f.shallow)) (omega (arith, f.few))
 
-pair_fine : (kinds : List Kind) (c d m n : ℕ) (op : BinaryOp) (t u : Tree) (k l : Kind) (p : Kinded) → Fine kinds c m t k → Fine kinds d n u l → pair_by op t k u l ≡ Ok p → Fine kinds (max c d + 1) (m + n + 1) p.tree p.kind
+pair_fine : (kinds : List Kind) (c d m n : ℕ) (op : BinaryOp) (t u : Tree) (k l : Kind) (p : Kinded) → Fine kinds c m t k → Fine kinds d n u l
+    → pair_by op t k u l ≡ Ok p → Fine kinds (max c d + 1) (m + n + 1) p.tree p.kind
 pair_fine kinds c d m n op t u k l p f g e =
     let a = is_scaled op k l in
     let b = is_scaled op l k in
     let q = typed_as-Ok (binary_kind op (scaled_kind a k) (scaled_kind b l)) (Two op (scaled a t) (scaled b u)) p e in
     let left = scaled-kind kinds a t k (scaled_whole op k l) f.typed in
     let right = scaled-kind kinds b u l (scaled_whole op l k) g.typed in
-    let typed : kind_of kinds (Two op (scaled a t) (scaled b u)) ≡ Some q.0 = ap (λ o. kind_after_two (binary_kind op) o (kind_of kinds (scaled b u))) left ∙ ap (kind_after_two (binary_kind op) (Some (scaled_kind a k))) right ∙ q.1 in
-    fine_same kinds (max c d + 1) (m + n + 1) (Two op (scaled a t) (scaled b u)) q.0 p q.2 typed (omega (arith, scaled-depth a t, scaled-depth b u, f.shallow, g.shallow)) (omega (arith, scaled-nodes a t, scaled-nodes b u, f.few, g.few))
+    let typed : kind_of kinds (Two op (scaled a t) (scaled b u)) ≡ Some q.0 = ap (λ o. kind_after_two (binary_kind op) o (kind_of kinds (scaled b u))) left
+    ∙ ap (kind_after_two (binary_kind op) (Some (scaled_kind a k))) right ∙ q.1 in
+    fine_same kinds (max c d + 1) (m + n + 1) (Two op (scaled a t) (scaled b u)) q.0 p q.2 typed
+    (omega (arith, scaled-depth a t, scaled-depth b u, f.shallow, g.shallow)) (omega (arith, scaled-nodes a t, scaled-nodes b u, f.few, g.few))
 
 pub typed_fine : (vs : List Variable) (s : Source) (p : Kinded) → typed_of vs s ≡ Ok p → Fine (kinds_of vs) (depth_of s) (nodes_of s) p.tree p.kind
 typed_fine vs (Plain t) p e = leaf_fine vs t p e

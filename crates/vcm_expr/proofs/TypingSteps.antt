@@ -27,11 +27,13 @@ all_typed vs (e ∷ es) [] before now h = absurd h
 all_typed vs (e ∷ es) (o ∷ os) before now h = ((record { tree = h.1.tree; kind = o.kind }, h.1.is), all_typed vs es os before h.0 h.3)
 
 -- a leaf that is refused
-pub leaf_fails : (vs : List Variable) (t : Term) (es : List Source) (os : List OpenOperand) (before now : List Item) (code : FaultCode) → leaf_of vs t ≡ Err code → AreTyped vs es os before now → Fails vs code (Plain t ∷ es)
+pub leaf_fails : (vs : List Variable) (t : Term) (es : List Source) (os : List OpenOperand) (before now : List Item) (code : FaultCode)
+    → leaf_of vs t ≡ Err code → AreTyped vs es os before now → Fails vs code (Plain t ∷ es)
 leaf_fails vs t es os before now code e h = inl (e, all_typed vs es os before now h)
 
 -- a sign that doesn't take its operand
-front_fails : (vs : List Variable) (op : Prefix) (es : List Source) (a : OpenOperand) (os : List OpenOperand) (before now : List Item) (code : FaultCode) → ((t : Tree) → prefixed_by op t a.kind ≡ Err code) → AreTyped vs es (a ∷ os) before now → Fails vs code (with_piece (Front op) es)
+front_fails : (vs : List Variable) (op : Prefix) (es : List Source) (a : OpenOperand) (os : List OpenOperand) (before now : List Item) (code : FaultCode)
+    → ((t : Tree) → prefixed_by op t a.kind ≡ Err code) → AreTyped vs es (a ∷ os) before now → Fails vs code (with_piece (Front op) es)
 front_fails vs op [] a os before now code f h = absurd h
 front_fails vs op (e ∷ es) a os before now code f h = inl (ap (λ o. and_then o (prefixed_by op)) h.1.is ∙ f h.1.tree, all_typed vs es os before h.0 h.3)
 
@@ -43,11 +45,16 @@ front_told vs op a os left now line g e (inr h) =
     inr (h.0, λ es before t. front_fails vs op es a left before now g.code h.1 (subst (λ x. AreTyped vs es x before now) e t))
 
 -- an operator that doesn't take its operands
-between_fails : (vs : List Variable) (op : BinaryOp) (es : List Source) (a b : OpenOperand) (os : List OpenOperand) (before now : List Item) (code : FaultCode) → ((t u : Tree) → pair_by op t a.kind u b.kind ≡ Err code) → AreTyped vs es (b ∷ a ∷ os) before now → Fails vs code (with_piece (Between op) es)
+between_fails : (vs : List Variable) (op : BinaryOp) (es : List Source) (a b : OpenOperand) (os : List OpenOperand) (before now : List Item) (code : FaultCode)
+    → ((t u : Tree) → pair_by op t a.kind u b.kind ≡ Err code) → AreTyped vs es (b ∷ a ∷ os) before now → Fails vs code (with_piece (Between op) es)
 between_fails vs op [] a b os before now code f h = absurd h
 between_fails vs op (e ∷ []) a b os before now code f h = absurd h.3
 between_fails vs op (d ∷ e ∷ es) a b os before now code f h =
-    inl (ap (λ o. and_then o (λ t k. and_then (typed_of vs d) (pair_by op t k))) h.3.1.is ∙ ap (λ o. and_then o (pair_by op h.3.1.tree a.kind)) h.1.is ∙ f h.3.1.tree h.1.tree, all_typed vs es os before h.3.0 h.3.3)
+    inl (
+      ap (λ o. and_then o (λ t k. and_then (typed_of vs d) (pair_by op t k))) h.3.1.is ∙ ap (λ o. and_then o (pair_by op h.3.1.tree a.kind)) h.1.is
+          ∙ f h.3.1.tree h.1.tree,
+      all_typed vs es os before h.3.0 h.3.3,
+    )
 
 pub between_told : (vs : List Variable) (op : BinaryOp) (a b : OpenOperand) (os mid left : List OpenOperand) (now : List Item) (line : ℕ) (g : SourceFault) → os ≡ b ∷ mid → mid ≡ a ∷ left
     → NoMemoryOr (λ f. (f.line ≡ line) × ((t u : Tree) → pair_by op t a.kind u b.kind ≡ Err f.code)) g
@@ -102,11 +109,13 @@ only_fails vs code e (inl h) = h.0
 only_fails vs code e (inr h) = absurd h
 
 -- what the parts to come make of the stack is cut at the next one
-pub piece_next : (ps : List Piece) (i : ℕ) (d : Piece) (es : List Source) → i < length ps → with_pieces ps [] ≡ with_pieces (drop i ps) es → with_pieces ps [] ≡ with_pieces (drop (i + 1) ps) (with_piece (get_or ps i d) es)
+pub piece_next : (ps : List Piece) (i : ℕ) (d : Piece) (es : List Source) → i < length ps → with_pieces ps [] ≡ with_pieces (drop i ps) es
+    → with_pieces ps [] ≡ with_pieces (drop (i + 1) ps) (with_piece (get_or ps i d) es)
 piece_next ps i d es h e = e ∙ at_drop_more (λ qs. with_pieces qs es) ps i d h
 
 -- the exit where one part is refused
-pub typed_told : (vs : List Variable) (ps : List Piece) (i : ℕ) (p : Piece) (es : List Source) (os : List OpenOperand) (before now : List Item) (line : ℕ) (g : SourceFault) → i < length ps → p ≡ get_or ps i p
+pub typed_told : (vs : List Variable) (ps : List Piece) (i : ℕ) (p : Piece) (es : List Source) (os : List OpenOperand) (before now : List Item) (line : ℕ)
+    (g : SourceFault) → i < length ps → p ≡ get_or ps i p
     → with_pieces ps [] ≡ with_pieces (drop i ps) es → AreTyped vs es os before now
     → NoMemoryOr (λ f. (f.line ≡ line) × ((es : List Source) (before : List Item) → AreTyped vs es os before now → Fails vs f.code (with_piece p es))) g
     → NoMemoryOr (λ f. (f.line ≡ line) × ((e : Source) → ps ≡ parts e → typed_of vs e ≡ Err f.code)) g

@@ -199,7 +199,8 @@ flaw_in (w ∷ ws) [] back c e = part_fault c w cc
 flaw_in (w ∷ ws) (x ∷ front) back c e = flaw_in ws front back c cc
 
 -- what the parser refuses breaks the rule of that name
-refused : (ws : List Lexeme) (c : FaultCode) → reading (symbols_of ws) ≡ Err c → (c ≡ BadSyntax) ⊎ (((c ≡ TooDeep) × (NestsDeep (symbols_of ws) ⊎ HasBigPart (symbols_of ws))) ⊎ (IsValueFault c × HasFlaw c (symbols_of ws)))
+refused : (ws : List Lexeme) (c : FaultCode) → reading (symbols_of ws) ≡ Err c
+    → (c ≡ BadSyntax) ⊎ (((c ≡ TooDeep) × (NestsDeep (symbols_of ws) ⊎ HasBigPart (symbols_of ws))) ⊎ (IsValueFault c × HasFlaw c (symbols_of ws)))
 refused ws c e = by (all_caused 32 (symbols_of ws) c e)
   where
     by : Cause 32 0 c (symbols_of ws) → (c ≡ BadSyntax) ⊎ (((c ≡ TooDeep) × (NestsDeep (symbols_of ws) ⊎ HasBigPart (symbols_of ws))) ⊎ (IsValueFault c × HasFlaw c (symbols_of ws)))
@@ -211,7 +212,9 @@ refused ws c e = by (all_caused 32 (symbols_of ws) c e)
 pub fails_breaks : (ws : List Lexeme) (c : FaultCode) → reading (symbols_of ws) ≡ Err c → BreaksSymbols (symbols_of ws) c
 fails_breaks ws c e = by (refused ws c e) e
   where
-    by : {d : FaultCode} → (d ≡ BadSyntax) ⊎ (((d ≡ TooDeep) × (NestsDeep (symbols_of ws) ⊎ HasBigPart (symbols_of ws))) ⊎ (IsValueFault d × HasFlaw d (symbols_of ws))) → reading (symbols_of ws) ≡ Err d → BreaksSymbols (symbols_of ws) d
+    by : {d : FaultCode} → (d ≡ BadSyntax) ⊎
+        (((d ≡ TooDeep) × (NestsDeep (symbols_of ws) ⊎ HasBigPart (symbols_of ws))) ⊎ (IsValueFault d × HasFlaw d (symbols_of ws)))
+        → reading (symbols_of ws) ≡ Err d → BreaksSymbols (symbols_of ws) d
     by {d = d} (inl b) e = subst (BreaksSymbols (symbols_of ws)) (sym b) (no_syntax (symbols_of ws) (e ∙ ap Err b))
     by {d = d} (inr (inl t)) e = subst (BreaksSymbols (symbols_of ws)) (sym t.0) (t.1, all_deep (symbols_of ws) (e ∙ ap Err t.0))
     by {d = d} (inr (inr (inl v, f))) e = subst (BreaksSymbols (symbols_of ws)) (sym v) (subst (λ c. HasFlaw c (symbols_of ws)) v f)
@@ -286,7 +289,8 @@ read_lone : (o : Result Term FaultCode) → read_symbols (Operand o ∷ []) ≡ 
 read_lone (Ok t) = read_all (Operand (Ok t) ∷ []) (Plain t) [] refl
 read_lone (Err c) = read_fault (Operand (Err c) ∷ []) c refl
 
-pub whole_lone : (ps : List Symbol) (o : Result Term FaultCode) (line : ℕ) (r : Result Source SourceFault) → ps ≡ Operand o ∷ [] → ReadAs line (λ e. e) r (lone_of o) → ReadAs line (λ e. e) r (read_symbols ps)
+pub whole_lone : (ps : List Symbol) (o : Result Term FaultCode) (line : ℕ) (r : Result Source SourceFault) → ps ≡ Operand o ∷ []
+    → ReadAs line (λ e. e) r (lone_of o) → ReadAs line (λ e. e) r (read_symbols ps)
 whole_lone ps o line r is h = subst (ReadAs line (λ e. e) r) (sym (ap read_symbols is ∙ read_lone o)) h
 
 -- the only expression of the stack is what was read

@@ -16,4 +16,5 @@ reads_branch = reads_via (reads_both reads_signed reads_long) (λ b. record { va
 
 pub reads_branches : Reads branches_at branches FitBranches
 unfolding branches_at
-reads_branches = reads_after (reads_tested reads_short BadField (λ n. nat_le n 20000) (λ n. n ≤ 20000) (λ n lt e. grind arith) (λ n h. (omega (arith, h), grind arith))) length (reads_times reads_branch)
+reads_branches = reads_after (reads_tested reads_short BadField (λ n. nat_le n 20000) (λ n. n ≤ 20000) (λ n lt e. grind arith)
+    (λ n h. (omega (arith, h), grind arith))) length (reads_times reads_branch)

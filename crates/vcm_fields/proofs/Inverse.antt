@@ -1,5 +1,6 @@
 -- A reader and a spelling that undo each other, and how larger ones are made of smaller ones.
-use Rattle.std.proofs.Common.{◌≡◌, ℕ, zero, suc, ◌+◌, ◌<◌, Bool, true, false, cond, List, [], ◌∷◌, ◌++◌, length, get_or, take, drop, Result, Ok, Err, refl, sym, ap, subst, ◌∙◌, append_assoc, arith, inl, inr}
+use Rattle.std.proofs.Common.{◌≡◌, ℕ, zero, suc, ◌+◌, ◌<◌, Bool, true, false, cond, List, [], ◌∷◌, ◌++◌, length, get_or, take, drop, Result, Ok, Err, refl, sym}
+use Rattle.std.proofs.Common.{ap, subst, ◌∙◌, append_assoc, arith, inl, inr}
 use Rattle.std.specs.List.{flat_map, AllByRecursion}
 use Rattle.std.proofs.lemmas.Bool.{cases_lt}
 use Rattle.std.proofs.lemmas.List.{length-take, get_or-drop, get_or-take, get_or_past}
@@ -54,7 +55,8 @@ pub record Reads {A : Type 0} (at : Reader A) (spell : A → List ℕ) (P : A �
   pub takes : (bytes : List ℕ) (x : A × List ℕ) → IsBytes bytes → at bytes ≡ Ok x → Takes bytes (spell x.0) x.1 × P x.0
   pub again : (x : A) (rest : List ℕ) → P x → at (spell x ++ rest) ≡ Ok (x, rest)
 
-pub reads_both : {A B : Type 0} {a : Reader A} {b : Reader B} {sa : A → List ℕ} {sb : B → List ℕ} {P : A → Type 0} {Q : B → Type 0} → Reads a sa P → Reads b sb Q → Reads (both a b) (λ p. sa p.0 ++ sb p.1) (λ p. P p.0 × Q p.1)
+pub reads_both : {A B : Type 0} {a : Reader A} {b : Reader B} {sa : A → List ℕ} {sb : B → List ℕ} {P : A → Type 0} {Q : B → Type 0} → Reads a sa P
+    → Reads b sb Q → Reads (both a b) (λ p. sa p.0 ++ sb p.1) (λ p. P p.0 × Q p.1)
 reads_both {A} {B} {a} {b} {sa} {sb} {P} {Q} ra rb = record {
   takes = λ bytes x fits e.
       let p = bind_ok (a bytes) (λ u. b u.1 >>= λ v. Ok ((u.0, v.0), v.1)) x e in
@@ -73,7 +75,8 @@ pub via_takes : {A B : Type 0} {a : Reader A} {s : A → List ℕ} {P : A → Ty
 via_takes {A} {B} {a} {s} {P} r f front spell Q spelled fitted bytes y fits e =
     let p = bind_ok (a bytes) (λ u. Ok (f u.0, u.1)) y e in
     let t = r.takes bytes p.0 fits p.1 in
-    let whole : front ++ bytes ≡ spell (f p.0.0) ++ p.0.1 = ap (λ (r : List ℕ). front ++ r) t.0.parts ∙ sym (append_assoc front (s p.0.0) p.0.1) ∙ ap (λ (r : List ℕ). r ++ p.0.1) (sym (spelled p.0.0 t.1)) in
+    let whole : front ++ bytes ≡ spell (f p.0.0) ++ p.0.1 = ap (λ (r : List ℕ). front ++ r) t.0.parts ∙ sym (append_assoc front (s p.0.0) p.0.1)
+    ∙ ap (λ (r : List ℕ). r ++ p.0.1) (sym (spelled p.0.0 t.1)) in
     let made : B × List ℕ = (f p.0.0, p.0.1) in
     subst (λ (z : B × List ℕ). Takes (front ++ bytes) (spell z.0) z.1 × Q z.0) (ok_is made y p.2) (record { parts = whole; rest_fits = t.0.rest_fits }, fitted p.0.0 t.1)
 
@@ -91,7 +94,8 @@ reads_via {A} {B} {a} {s} {P} r f g spell Q spelled fitted back = record {
       rw b.1 (via_again r f (g y) rest b.2 ∙ ap (λ (z : B). Ok (z, rest)) b.0);
 }
 
-pub reads_as : {A : Type 0} {a : Reader A} {s : A → List ℕ} {P : A → Type 0} → Reads a s P → (t : A → List ℕ) (Q : A → Type 0) → ((x : A) → t x ≡ s x) → ((x : A) → P x → Q x) → ((x : A) → Q x → P x) → Reads a t Q
+pub reads_as : {A : Type 0} {a : Reader A} {s : A → List ℕ} {P : A → Type 0} → Reads a s P → (t : A → List ℕ) (Q : A → Type 0) → ((x : A) → t x ≡ s x)
+    → ((x : A) → P x → Q x) → ((x : A) → Q x → P x) → Reads a t Q
 reads_as {A} {a} {s} {P} r t Q same fitted back = record {
   takes = λ bytes x fits e. let u = r.takes bytes x fits e in (subst (λ (l : List ℕ). Takes bytes l x.1) (sym (same x.0)) u.0, fitted x.0 u.1);
   again = λ x rest h. ap (λ (l : List ℕ). a (l ++ rest)) (same x) ∙ r.again x rest (back x h);
@@ -108,7 +112,8 @@ reads_tested {A} {a} {s} {P} r fault test Q fitted back = record {
   again = λ x rest h. let b = back x h in rw (r.again x rest b.0, b.1) refl;
 }
 
-pub reads_after : {A B : Type 0} {a : Reader A} {f : A → Reader B} {sa : A → List ℕ} {sb : B → List ℕ} {P : A → Type 0} {Q : B → Type 0} → Reads a sa P → (len : B → A) → ((n : A) → Reads (f n) sb (λ x. (len x ≡ n) × Q x))
+pub reads_after : {A B : Type 0} {a : Reader A} {f : A → Reader B} {sa : A → List ℕ} {sb : B → List ℕ} {P : A → Type 0} {Q : B → Type 0} → Reads a sa P
+    → (len : B → A) → ((n : A) → Reads (f n) sb (λ x. (len x ≡ n) × Q x))
     → Reads (after a f) (λ x. sa (len x) ++ sb x) (λ x. P (len x) × Q x)
 reads_after {A} {B} {a} {f} {sa} {sb} {P} {Q} ra len rb = record {
   takes = λ bytes y fits e.
@@ -121,7 +126,8 @@ reads_after {A} {B} {a} {f} {sa} {sb} {P} {Q} ra len rb = record {
 }
 
 -- so many values, one after the other
-times_takes : {A : Type 0} {a : Reader A} {s : A → List ℕ} {P : A → Type 0} → Reads a s P → (n : ℕ) (bytes : List ℕ) (x : List A × List ℕ) → IsBytes bytes → times a n bytes ≡ Ok x → Takes bytes (flat_map s x.0) x.1 × ((length x.0 ≡ n) × AllByRecursion P x.0)
+times_takes : {A : Type 0} {a : Reader A} {s : A → List ℕ} {P : A → Type 0} → Reads a s P → (n : ℕ) (bytes : List ℕ) (x : List A × List ℕ) → IsBytes bytes
+    → times a n bytes ≡ Ok x → Takes bytes (flat_map s x.0) x.1 × ((length x.0 ≡ n) × AllByRecursion P x.0)
 unfolding times
 times_takes {A} {a} {s} {P} r zero bytes x fits e =
     subst (λ (y : List A × List ℕ). Takes bytes (flat_map s y.0) y.1 × ((length y.0 ≡ 0) × AllByRecursion P y.0)) (ok_is ([], bytes) x e) (record { parts = refl; rest_fits = fits }, (refl, tt))
@@ -134,7 +140,8 @@ times_takes {A} {a} {s} {P} r (suc n) bytes x fits e =
     let made : List A × List ℕ = (p.0.0 ∷ q.0.0, q.0.1) in
     subst (λ (y : List A × List ℕ). Takes bytes (flat_map s y.0) y.1 × ((length y.0 ≡ suc n) × AllByRecursion P y.0)) (ok_is made x q.2) (rw flat_map-cons both, (ap suc v.1.0, (u.1, v.1.1)))
 
-times_again : {A : Type 0} {a : Reader A} {s : A → List ℕ} {P : A → Type 0} → Reads a s P → (xs : List A) (rest : List ℕ) → AllByRecursion P xs → times a (length xs) (flat_map s xs ++ rest) ≡ Ok (xs, rest)
+times_again : {A : Type 0} {a : Reader A} {s : A → List ℕ} {P : A → Type 0} → Reads a s P → (xs : List A) (rest : List ℕ) → AllByRecursion P xs
+    → times a (length xs) (flat_map s xs ++ rest) ≡ Ok (xs, rest)
 unfolding times
 times_again r [] rest fits = refl
 times_again {A} {a} {s} {P} r (x ∷ xs) rest fits =

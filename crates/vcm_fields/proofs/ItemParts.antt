@@ -105,4 +105,5 @@ range_in low high n h = let a : nat_le low n ≡ true = grind (arith, h.0) in le
 
 pub reads_expression : Reads expression_at expression FitsExpression
 unfolding expression_at
-reads_expression = reads_after (reads_tested reads_short BadField (within 1 1024) (λ n. (1 ≤ n) × (n ≤ 1024)) (λ n lt e. in_range 1 1024 n e) (λ n h. (omega (arith, h.1), range_in 1 1024 n h))) length (reads_times reads_item)
+reads_expression = reads_after (reads_tested reads_short BadField (within 1 1024) (λ n. (1 ≤ n) × (n ≤ 1024)) (λ n lt e. in_range 1 1024 n e)
+    (λ n h. (omega (arith, h.1), range_in 1 1024 n h))) length (reads_times reads_item)

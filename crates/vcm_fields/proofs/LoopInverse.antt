@@ -9,7 +9,8 @@ use Rattle.vcm_fields.proofs.Inverse.{IsBytes, bind_ok, ok_is, Reads, reads_time
 
 -- ---- loops
 
-pub times_more : {A : Type 0} (a : Reader A) (n : ℕ) (bytes : List ℕ) (xs : List A) (r : List ℕ) (x : A) (r' : List ℕ) → times a n bytes ≡ Ok (xs, r) → a r ≡ Ok (x, r') → times a (suc n) bytes ≡ Ok (xs ++ x ∷ [], r')
+pub times_more : {A : Type 0} (a : Reader A) (n : ℕ) (bytes : List ℕ) (xs : List A) (r : List ℕ) (x : A) (r' : List ℕ) → times a n bytes ≡ Ok (xs, r)
+    → a r ≡ Ok (x, r') → times a (suc n) bytes ≡ Ok (xs ++ x ∷ [], r')
 unfolding times
 times_more {A} a zero bytes xs r x r' e h =
     let same = ok_is ([], bytes) (xs, r) e in
@@ -48,12 +49,14 @@ unfoldable pub begun : {A : Type 0} (a : Reader A) (count : ℕ) (bytes : List �
 unfolding times
 begun a count bytes = record { values = []; within = omega arith; so_far = refl }
 
-unfoldable pub goes_on : {A : Type 0} (a : Reader A) (count counter : ℕ) (bytes rest : List ℕ) (x : A) (rest' : List ℕ) → Progress a count counter bytes rest → counter < count → a rest ≡ Ok (x, rest') → Progress a count (counter + 1) bytes rest'
+unfoldable pub goes_on : {A : Type 0} (a : Reader A) (count counter : ℕ) (bytes rest : List ℕ) (x : A) (rest' : List ℕ) → Progress a count counter bytes rest
+    → counter < count → a rest ≡ Ok (x, rest') → Progress a count (counter + 1) bytes rest'
 goes_on a count counter bytes rest x rest' p lt e =
     let k : counter + 1 ≡ suc counter = omega arith in
     record { values = p.values ++ x ∷ []; within = omega arith; so_far = rw k (times_more a counter bytes p.values rest x rest' p.so_far e) }
 
-pub stops : {A : Type 0} (a : Reader A) (count counter : ℕ) (bytes rest : List ℕ) (f : ImageFault) → Progress a count counter bytes rest → counter < count → a rest ≡ Err f → times a count bytes ≡ Err f
+pub stops : {A : Type 0} (a : Reader A) (count counter : ℕ) (bytes rest : List ℕ) (f : ImageFault) → Progress a count counter bytes rest → counter < count
+    → a rest ≡ Err f → times a count bytes ≡ Err f
 stops a count counter bytes rest f p lt e =
     let k : count ≡ counter + suc (count - (counter + 1)) = omega arith in
     rw k (times_fails a counter (count - (counter + 1)) bytes p.values rest f p.so_far e)
@@ -69,7 +72,8 @@ pub record Cut {A : Type 0} (a : Reader A) (count : ℕ) (bytes rest : List ℕ)
   pub alone : times a count (take (length bytes - length rest) bytes) ≡ Ok (xs, [])
   pub left : drop (length bytes - length rest) bytes ≡ rest
 
-pub cuts : {A : Type 0} {a : Reader A} {s : A → List ℕ} {P : A → Type 0} → Reads a s P → (count : ℕ) (bytes rest : List ℕ) (xs : List A) → IsBytes bytes → times a count bytes ≡ Ok (xs, rest) → Cut a count bytes rest xs
+pub cuts : {A : Type 0} {a : Reader A} {s : A → List ℕ} {P : A → Type 0} → Reads a s P → (count : ℕ) (bytes rest : List ℕ) (xs : List A) → IsBytes bytes
+    → times a count bytes ≡ Ok (xs, rest) → Cut a count bytes rest xs
 cuts {A} {a} {s} {P} r count bytes rest xs fits e =
     let t = (reads_times r count).takes bytes (xs, rest) fits e in
     let len : length bytes ≡ length (flat_map s xs) + length rest = ap length t.0.parts ∙ length-append (flat_map s xs) rest in
@@ -80,7 +84,8 @@ cuts {A} {a} {s} {P} r count bytes rest xs fits e =
     record { shorter = omega (arith, len); alone = ap (times a count) front ∙ again; left = back }
 
 -- the first of so many values
-pub times_first : {A : Type 0} (a : Reader A) (n : ℕ) (bytes : List ℕ) (xs : List A) (r : List ℕ) → times a (suc n) bytes ≡ Ok (xs, r) → (x : A) × (after : List ℕ) × (ys : List A) × (a bytes ≡ Ok (x, after)) × (times a n after ≡ Ok (ys, r)) × (x ∷ ys ≡ xs)
+pub times_first : {A : Type 0} (a : Reader A) (n : ℕ) (bytes : List ℕ) (xs : List A) (r : List ℕ) → times a (suc n) bytes ≡ Ok (xs, r) → (x : A)
+    × (after : List ℕ) × (ys : List A) × (a bytes ≡ Ok (x, after)) × (times a n after ≡ Ok (ys, r)) × (x ∷ ys ≡ xs)
 unfolding times
 times_first {A} a n bytes xs r e =
     let p = bind_ok (a bytes) (λ u. times a n u.1 >>= λ v. Ok (u.0 ∷ v.0, v.1)) (xs, r) e in

@@ -18,8 +18,10 @@ among_takes : {A : Type 0} (byte_of : A → ℕ) (xs : List A) (k : ℕ) (bytes 
 among_takes byte_of [] k bytes x fits e = absurd cc
 among_takes {A} byte_of (y ∷ ys) k bytes x fits e = split (λ e'. among_takes byte_of ys k bytes x fits e') (eqb k (byte_of y)) refl e
   where
-    split : (among byte_of ys k bytes ≡ Ok x → Takes (k ∷ bytes) (byte (byte_of x.0)) x.1) → (b : Bool) → eqb k (byte_of y) ≡ b → cond b (Ok (y, bytes)) (among byte_of ys k bytes) ≡ Ok x → Takes (k ∷ bytes) (byte (byte_of x.0)) x.1
-    split more true t e' = subst (λ (z : A × List ℕ). Takes (k ∷ bytes) (byte (byte_of z.0)) z.1) (ok_is (y, bytes) x e') (record { parts = ap (λ (n : ℕ). n ∷ bytes) (eqb-true k (byte_of y) t); rest_fits = fits })
+    split : (among byte_of ys k bytes ≡ Ok x → Takes (k ∷ bytes) (byte (byte_of x.0)) x.1) → (b : Bool) → eqb k (byte_of y) ≡ b
+        → cond b (Ok (y, bytes)) (among byte_of ys k bytes) ≡ Ok x → Takes (k ∷ bytes) (byte (byte_of x.0)) x.1
+    split more true t e' = subst (λ (z : A × List ℕ). Takes (k ∷ bytes) (byte (byte_of z.0)) z.1) (ok_is (y, bytes) x e')
+        (record { parts = ap (λ (n : ℕ). n ∷ bytes) (eqb-true k (byte_of y) t); rest_fits = fits })
     split more false t e' = more e'
 
 one_takes : {A : Type 0} (byte_of : A → ℕ) (xs : List A) (bytes : List ℕ) (x : A × List ℕ) → IsBytes bytes → one_of byte_of xs bytes ≡ Ok x → Takes bytes (byte (byte_of x.0)) x.1
@@ -43,7 +45,8 @@ reads_byte = record {
   where
     take_byte : (bytes : List ℕ) (x : ℕ × List ℕ) → IsBytes bytes → byte_at bytes ≡ Ok x → Takes bytes (x.0 ∷ []) x.1 × (x.0 < 256)
     take_byte [] x fits e = absurd cc
-    take_byte (b ∷ rest) x fits e = subst (λ (y : ℕ × List ℕ). Takes (b ∷ rest) (y.0 ∷ []) y.1 × (y.0 < 256)) (ok_is (b, rest) x e) (record { parts = refl; rest_fits = IsBytes-rest b rest fits }, fits 0)
+    take_byte (b ∷ rest) x fits e = subst (λ (y : ℕ × List ℕ). Takes (b ∷ rest) (y.0 ∷ []) y.1 × (y.0 < 256)) (ok_is (b, rest) x e)
+        (record { parts = refl; rest_fits = IsBytes-rest b rest fits }, fits 0)
 
 pub record IsWide (w : Width) (limit : ℕ) : Type 0 where
   pub len : (n : ℕ) → length (to_le_bytes w n) ≡ byte_len w
@@ -79,9 +82,13 @@ number_takes : (w : Width) (limit : ℕ) (wide : IsWide w limit) (bytes : List �
 number_takes w limit wide bytes x fits e =
     let g = guard_short (ltb (length bytes) (byte_len w)) Short (from_le_bytes w (take (byte_len w) bytes), drop (byte_len w) bytes) x e in
     let long : byte_len w ≤ length bytes = ltb-false _ _ g.0 in
-    let front : to_le_bytes w (from_le_bytes w (take (byte_len w) bytes)) ≡ take (byte_len w) bytes = wide.back (take (byte_len w) bytes) (omega (arith, length-take (byte_len w) bytes)) (IsBytes-take (byte_len w) bytes fits) in
-    subst (λ (y : ℕ × List ℕ). Takes bytes (to_le_bytes w y.0) y.1 × (y.0 < limit)) g.1
-    (record { parts = rw front (sym (take-append-drop (byte_len w) bytes)); rest_fits = IsBytes-drop (byte_len w) bytes fits }, wide.below (take (byte_len w) bytes) (IsBytes-take (byte_len w) bytes fits))
+    let front : to_le_bytes w (from_le_bytes w (take (byte_len w) bytes)) ≡ take (byte_len w) bytes =
+    wide.back (take (byte_len w) bytes) (omega (arith, length-take (byte_len w) bytes)) (IsBytes-take (byte_len w) bytes fits) in
+    subst (λ (y : ℕ × List ℕ). Takes bytes (to_le_bytes w y.0) y.1 × (y.0 < limit)) g.1 (
+      record { parts = rw front (sym (take-append-drop (byte_len w) bytes)); rest_fits = IsBytes-drop (byte_len w) bytes fits },
+      wide.below
+          (take (byte_len w) bytes) (IsBytes-take (byte_len w) bytes fits),
+    )
 
 number_again : (w : Width) (limit : ℕ) (wide : IsWide w limit) (n : ℕ) (rest : List ℕ) → n < limit → number_at w (to_le_bytes w n ++ rest) ≡ Ok (n, rest)
 number_again w limit wide n rest lt =
@@ -116,7 +123,8 @@ reads_bytes n = record {
     take_bytes bytes x fits e =
         let g = guard_short (ltb (length bytes) n) Short (take n bytes, drop n bytes) x e in
         let long : n ≤ length bytes = ltb-false _ _ g.0 in
-        subst (λ (y : List ℕ × List ℕ). Takes bytes y.0 y.1 × (length y.0 ≡ n)) g.1 (record { parts = sym (take-append-drop n bytes); rest_fits = IsBytes-drop n bytes fits }, omega (arith, length-take n bytes))
+        subst (λ (y : List ℕ × List ℕ). Takes bytes y.0 y.1 × (length y.0 ≡ n)) g.1
+        (record { parts = sym (take-append-drop n bytes); rest_fits = IsBytes-drop n bytes fits }, omega (arith, length-take n bytes))
 
     again_bytes : (x rest : List ℕ) → length x ≡ n → bytes_at n (x ++ rest) ≡ Ok (x, rest)
     again_bytes x rest h =

@@ -15,7 +15,8 @@ use Rattle.vcm_fields.proofs.StatementParts.{reads_kind}
 
 pub reads_entry : Reads entry_at entry FitsEntry
 unfolding entry_at
-reads_entry = reads_via (reads_both reads_kind (reads_both reads_long reads_variable_name)) (λ v. record { kind = v.0; expansion = v.1.0; name = v.1.1 }) (λ v. (v.kind, (v.expansion, v.name))) entry FitsEntry
+reads_entry = reads_via (reads_both reads_kind (reads_both reads_long reads_variable_name)) (λ v. record { kind = v.0; expansion = v.1.0; name = v.1.1 })
+    (λ v. (v.kind, (v.expansion, v.name))) entry FitsEntry
     (λ v h. refl) (λ v h. h.1) (λ v h. (refl, refl, (tt, h)))
 
 -- ---- slices: so many values of a reader, one behind the other
@@ -33,7 +34,9 @@ cut_are {A} a count bytes rest front xs c e =
     let h : times a count front ≡ Ok (xs, []) = ap (times a count) e ∙ c.alone in
     h ∙ ap (λ (ys : List A). Ok (ys, [])) (sym (ap read_or_nil h))
 
-pub cut_gives : {A : Type 0} (a : Reader A) (count : ℕ) (bytes rest front back : List ℕ) (xs : List A) → Cut a count bytes rest xs → front ≡ take (length bytes - length rest) bytes → back ≡ drop (length bytes - length rest) bytes → times a count bytes ≡ Ok (xs, rest) → times a count bytes ≡ Ok (values_in a count front, back)
+pub cut_gives : {A : Type 0} (a : Reader A) (count : ℕ) (bytes rest front back : List ℕ) (xs : List A) → Cut a count bytes rest xs
+    → front ≡ take (length bytes - length rest) bytes → back ≡ drop (length bytes - length rest) bytes → times a count bytes ≡ Ok (xs, rest)
+    → times a count bytes ≡ Ok (values_in a count front, back)
 cut_gives {A} a count bytes rest front back xs c e f h =
     let g : times a count front ≡ Ok (xs, []) = ap (times a count) e ∙ c.alone in
     h ∙ ap (λ (ys : List A). Ok (ys, rest)) (sym (ap read_or_nil g)) ∙ ap (λ (r : List ℕ). Ok (values_in a count front, r)) (sym (f ∙ c.left))
@@ -57,7 +60,8 @@ slice_first {A} a (suc n) bytes h lt =
 pub slice_none : {A : Type 0} (a : Reader A) (bytes : List ℕ) → Are a 0 bytes → values_in a 0 bytes ≡ []
 slice_none a bytes h = times_none a bytes (values_in a 0 bytes) [] h
 
-pub First-read : {A : Type 0} (a : Reader A) (count : ℕ) (bytes : List ℕ) (x : A) (after : List ℕ) → First a count bytes → a bytes ≡ Ok (x, after) → Are a (count - 1) after × (values_in a count bytes ≡ x ∷ values_in a (count - 1) after)
+pub First-read : {A : Type 0} (a : Reader A) (count : ℕ) (bytes : List ℕ) (x : A) (after : List ℕ) → First a count bytes → a bytes ≡ Ok (x, after)
+    → Are a (count - 1) after × (values_in a count bytes ≡ x ∷ values_in a (count - 1) after)
 First-read {A} a count bytes x after f e =
     let same : (f.value, f.after) ≡ (x, after) = ok_is _ _ (sym f.read ∙ e) in
     subst (λ (p : A × List ℕ). Are a (count - 1) p.1 × (values_in a count bytes ≡ p.0 ∷ values_in a (count - 1) p.1)) same (f.are, f.is)

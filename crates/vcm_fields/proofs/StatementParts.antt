@@ -15,7 +15,9 @@ use Rattle.vcm_code.specs.declared.word.Word.{Word}
 use Rattle.vcm_code.specs.declared.word.Word.TheVariants as words
 use Rattle.vcm_code.specs.Code.{Op, CodeStatement}
 use Rattle.vcm_code.specs.Words.{word_of, has_word}
-use Rattle.vcm_code.specs.Shape.{Place, Filled, axes, directions, settings, sources, frame_axes, quarter_turns, feature_words, kinds, all_words, Form, form, form_of, places_in, made_in, places, op_in, Parted, parted, word_in, put_together, taken_apart, over_places, over_parted, InPlaces, InParted}
+use Rattle.vcm_code.specs.Shape.{Place, Filled, axes, directions, settings, sources, frame_axes, quarter_turns, feature_words, kinds, all_words, Form, form}
+use Rattle.vcm_code.specs.Shape.{form_of, places_in, made_in, places, op_in, Parted, parted, word_in, put_together, taken_apart, over_places, over_parted}
+use Rattle.vcm_code.specs.Shape.{InPlaces, InParted}
 use Rattle.vcm_code.specs.Shape as at
 use Rattle.vcm_fields.specs.inner.Fitting.{FitThree, FitsPlace, FitsOperation, FitsLine}
 use Rattle.vcm_fields.specs.Spelling.{byte, long, three, axis_byte, direction_byte, setting_byte, source_byte, word_byte, kind_byte, place, operands, line}
@@ -154,9 +156,11 @@ reads_operands w = record {
       ap (λ (v : Word). operands_at v (operands o ++ rest)) (sym h.0) ∙ parted_again (taken_apart o) rest h.1 ∙ ap (λ (z : Op). Ok (z, rest)) (together_apart o);
 }
 
-reads_rest : (w : Word) → Reads {A = CodeStatement} (via (λ o. record { line = o.0; op = o.1 }) (both (number_at w32) (operands_at w))) (λ s. long s.line ++ operands s.op) (λ s. (word_of s.op ≡ w) × ((s.line < 2 ^ 32) × FitsOperation s.op))
+reads_rest : (w : Word) → Reads {A = CodeStatement} (via (λ o. record { line = o.0; op = o.1 }) (both (number_at w32) (operands_at w)))
+    (λ s. long s.line ++ operands s.op) (λ s. (word_of s.op ≡ w) × ((s.line < 2 ^ 32) × FitsOperation s.op))
 unfolding Of
-reads_rest w = reads_via (reads_both reads_long (reads_operands w)) (λ o. record { line = o.0; op = o.1 }) (λ s. (s.line, s.op)) (λ s. long s.line ++ operands s.op) (λ s. (word_of s.op ≡ w) × ((s.line < 2 ^ 32) × FitsOperation s.op))
+reads_rest w = reads_via (reads_both reads_long (reads_operands w)) (λ o. record { line = o.0; op = o.1 }) (λ s. (s.line, s.op))
+    (λ s. long s.line ++ operands s.op) (λ s. (word_of s.op ≡ w) × ((s.line < 2 ^ 32) × FitsOperation s.op))
     (λ o h. refl) (λ o h. (h.1.0, (h.0, h.1.1))) (λ s h. (refl, refl, (h.1.0, (h.0, h.1.1))))
 
 pub reads_line : (v : Version) → Reads (line_at v) line (FitsLine v)

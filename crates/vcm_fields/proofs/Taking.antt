@@ -13,7 +13,8 @@ use Rattle.vcm_fields.specs.declared.items.Tag.{Tag}
 use Rattle.vcm_fields.specs.Spelling.{tag_byte}
 use Rattle.vcm_fields.specs.Readers.{within}
 use Rattle.vcm_spec.specs.Results.{◌>>=◌}
-use Rattle.vcm_fields.specs.Readers.{Reader, Gives, both, via, after, among, one_of, tested, times, byte_at, number_at, all_tags, behind_tag, bytes_at, item_at, expression_at, three_at, text_at, word_at, operands_at, line_at}
+use Rattle.vcm_fields.specs.Readers.{Reader, Gives, both, via, after, among, one_of, tested, times, byte_at, number_at, all_tags, behind_tag, bytes_at, item_at}
+use Rattle.vcm_fields.specs.Readers.{expression_at, three_at, text_at, word_at, operands_at, line_at}
 use Rattle.vcm_fields.proofs.Inverse.{bind_ok, guard_short, guard_met, ok_is}
 
 -- a call that reads what is there doesn't fail
@@ -29,7 +30,8 @@ gives_it view (Ok z) q y x g e k =
 gives_it view (Err f) q y x g e k = absurd cc
 
 -- two values, one after the other
-pub both_are : {A B : Type 0} (a : Reader A) (b : Reader B) (bytes : List ℕ) (x : A × B) (rest : List ℕ) → both a b bytes ≡ Ok (x, rest) → (middle : List ℕ) × (a bytes ≡ Ok (x.0, middle)) × (b middle ≡ Ok (x.1, rest))
+pub both_are : {A B : Type 0} (a : Reader A) (b : Reader B) (bytes : List ℕ) (x : A × B) (rest : List ℕ) → both a b bytes ≡ Ok (x, rest) → (middle : List ℕ)
+    × (a bytes ≡ Ok (x.0, middle)) × (b middle ≡ Ok (x.1, rest))
 both_are {A} {B} a b bytes x rest e =
     let p = bind_ok (a bytes) (λ u. b u.1 >>= λ v. Ok ((u.0, v.0), v.1)) (x, rest) e in
     let q = bind_ok (b p.0.1) (λ v. Ok ((p.0.0, v.0), v.1)) (x, rest) p.2 in
@@ -48,13 +50,15 @@ via_is {A} {B} f a bytes y rest e =
     (p.0.0, p.1 ∙ ap (λ (t : List ℕ). Ok (p.0.0, t)) end, ap (λ (t : B × List ℕ). t.0) same)
 
 -- what depends on the first value
-pub after_is : {A B : Type 0} (a : Reader A) (f : A → Reader B) (bytes : List ℕ) (y : B) (rest : List ℕ) → after a f bytes ≡ Ok (y, rest) → (x : A) × (middle : List ℕ) × (a bytes ≡ Ok (x, middle)) × (f x middle ≡ Ok (y, rest))
+pub after_is : {A B : Type 0} (a : Reader A) (f : A → Reader B) (bytes : List ℕ) (y : B) (rest : List ℕ) → after a f bytes ≡ Ok (y, rest) → (x : A)
+    × (middle : List ℕ) × (a bytes ≡ Ok (x, middle)) × (f x middle ≡ Ok (y, rest))
 after_is a f bytes y rest e =
     let p = bind_ok (a bytes) (λ u. f u.0 u.1) (y, rest) e in
     (p.0.0, p.0.1, p.1, p.2)
 
 -- a value that met a test
-pub tested_is : {A : Type 0} (fault : ImageFault) (test : A → Bool) (a : Reader A) (bytes : List ℕ) (x : A) (rest : List ℕ) → tested fault test a bytes ≡ Ok (x, rest) → (a bytes ≡ Ok (x, rest)) × (test x ≡ true)
+pub tested_is : {A : Type 0} (fault : ImageFault) (test : A → Bool) (a : Reader A) (bytes : List ℕ) (x : A) (rest : List ℕ)
+    → tested fault test a bytes ≡ Ok (x, rest) → (a bytes ≡ Ok (x, rest)) × (test x ≡ true)
 tested_is {A} fault test a bytes x rest e =
     let p = bind_ok (a bytes) (λ u. if test u.0 then Ok u else Err fault) (x, rest) e in
     let g = guard_met (test p.0.0) fault p.0 (x, rest) p.2 in
@@ -98,7 +102,8 @@ unfolding item_at
 item_of bytes t middle e = ap (λ r. r >>= λ x. behind_tag x.0 x.1) e
 
 -- an expression: the number of its items, and they
-pub expression_is : (bytes : List ℕ) (e : List Item) (rest : List ℕ) → expression_at bytes ≡ Ok (e, rest) → (n : ℕ) × (middle : List ℕ) × (number_at w16 bytes ≡ Ok (n, middle)) × (times item_at n middle ≡ Ok (e, rest))
+pub expression_is : (bytes : List ℕ) (e : List Item) (rest : List ℕ) → expression_at bytes ≡ Ok (e, rest) → (n : ℕ) × (middle : List ℕ)
+    × (number_at w16 bytes ≡ Ok (n, middle)) × (times item_at n middle ≡ Ok (e, rest))
 unfolding expression_at
 expression_is bytes e rest h =
     let p = after_is (tested BadField (within 1 1024) (number_at w16)) (times item_at) bytes e rest h in

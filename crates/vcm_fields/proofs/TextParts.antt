@@ -36,7 +36,8 @@ reads_name = reads_as (reads_after reads_length length (reads_tested_bytes is_na
 
 pub reads_variable_name : Reads variable_name_at name IsVariableName
 unfolding variable_name_at
-reads_variable_name = reads_as (reads_after reads_length length (reads_tested_bytes is_variable_name)) name IsVariableName (λ x. refl) (λ x h. h.1) (λ x h. (name_length x (variable_name_is_name x h), h))
+reads_variable_name = reads_as (reads_after reads_length length (reads_tested_bytes is_variable_name)) name IsVariableName (λ x. refl) (λ x h. h.1)
+    (λ x h. (name_length x (variable_name_is_name x h), h))
 
 pub most : (m n : ℕ) → nat_le n m ≡ true → n ≤ m
 most m n e = grind arith
@@ -50,5 +51,6 @@ text_length bs h = (and_parts (nat_le (length bs) 1024) (list_all is_text_byte b
 
 pub reads_text : Reads text_at text IsText
 unfolding text_at
-reads_text = reads_as (reads_after (reads_tested reads_short BadField (λ n. nat_le n 1024) (λ n. n ≤ 1024) (λ n lt e. most 1024 n e) (λ n h. (omega (arith, h), most_back 1024 n h))) length (reads_tested_bytes is_text)) text IsText
+reads_text = reads_as (reads_after (reads_tested reads_short BadField (λ n. nat_le n 1024) (λ n. n ≤ 1024) (λ n lt e. most 1024 n e)
+    (λ n h. (omega (arith, h), most_back 1024 n h))) length (reads_tested_bytes is_text)) text IsText
     (λ x. refl) (λ x h. h.1) (λ x h. (most 1024 (length x) (text_length x h), h))

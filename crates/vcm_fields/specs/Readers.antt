@@ -21,7 +21,8 @@ use Rattle.vcm_fields.specs.declared.items.Tag.TheVariants as tags
 use Rattle.vcm_code.specs.declared.word.Word.{Word}
 use Rattle.vcm_fields.specs.declared.fault.ImageFault.{ImageFault}
 use Rattle.vcm_fields.specs.declared.fault.ImageFault.TheVariants.{NoMemory, Short, BadField}
-use Rattle.vcm_code.specs.Shape.{Place, Said, Filled, axes, directions, settings, sources, frame_axes, quarter_turns, feature_words, kinds, all_words, made, Form, form, form_of}
+use Rattle.vcm_code.specs.Shape.{Place, Said, Filled, axes, directions, settings, sources, frame_axes, quarter_turns, feature_words, kinds, all_words, made}
+use Rattle.vcm_code.specs.Shape.{Form, form, form_of}
 use Rattle.vcm_code.specs.Shape as at
 use Rattle.vcm_fields.specs.Spelling.{tag_byte, axis_byte, direction_byte, setting_byte, source_byte, word_byte, kind_byte}
 use Rattle.vcm_num.specs.declared.axis.Axis.{Axis}

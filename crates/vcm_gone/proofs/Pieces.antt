@@ -53,7 +53,9 @@ module _ (part : Workpiece) (a b : Point) where
   contact_end : (n k : ℕ) → k < 3 → coordinate (contact_point part n a b) k ≡ part_of_way (contact_fraction part n a b) (coordinate a k) (coordinate b k)
   contact_end n k l = by (slice_get part.blocks (n - 1))
     where
-      by : (o : Option Block3) → coordinate (unwrap_or (option_and_then (λ block. elim (entry (coordinate a) (coordinate b) (grown part.bounds.tip block)) [ None ↦ None | Some f ↦ Some (point_on_way f (coordinate a) (coordinate b)) ]) o) a) k
+      by : (o : Option Block3) → coordinate (unwrap_or
+          (option_and_then (λ block. elim (entry (coordinate a) (coordinate b) (grown part.bounds.tip block))
+          [ None ↦ None | Some f ↦ Some (point_on_way f (coordinate a) (coordinate b)) ]) o) a) k
           ≡ part_of_way (unwrap_or (option_and_then (λ block. entry (coordinate a) (coordinate b) (grown part.bounds.tip block)) o) (fraction 0 1)) (coordinate a k) (coordinate b k)
       by None = none_of (coordinate a k) (coordinate b k)
       by (Some block) = entered (entry (coordinate a) (coordinate b) (grown part.bounds.tip block)) k l

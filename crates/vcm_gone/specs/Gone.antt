@@ -1,4 +1,5 @@
--- The ways that a step of a run goes: straight lines of the tip's centre, each with the fraction of it that was gone. Up to the contact at which a run stops that is
+-- The ways that a step of a run goes: straight lines of the tip's centre, each with the fraction of it that was gone. Up to the contact at which a
+-- run stops that is
 -- exact.
 use Rattle.std.specs.Prelude.{ℕ, ◌-◌, List, [], ◌∷◌, map, flat_map, slice_get, Option, Some, None, option_and_then, unwrap_or}
 use Rattle.vcm_num.specs.declared.point.Point.{Point}

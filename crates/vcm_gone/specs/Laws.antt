@@ -14,7 +14,8 @@ use Rattle.vcm_steps.specs.Passages.{passages}
 use Rattle.vcm_way.specs.Ways.{step_marks}
 use Rattle.vcm_gone.specs.Gone.{Gone, gone_of}
 
--- the piece is the way, as far as it was gone: it begins where the way does, and ends at the fraction of it that was gone, cut off to whole micrometres towards the
+-- the piece is the way, as far as it was gone: it begins where the way does, and ends at the fraction of it that was gone, cut off to whole
+-- micrometres towards the
 -- start
 pub record IsPiece (way : Gone) (piece : Leg) : Type 0 where
   pub going : piece.going ≡ way.going

@@ -13,7 +13,8 @@ one_image c d f g e = one_code c d (code_at (spelling c)) (code_again c f) (ap c
 
 -- ---- changes
 
-pub changed : (c : Code) (bytes : List ℕ) → ((i : ℕ) → get_or bytes i 0 < 256) → bytes ≢ spelling c → ((e : ImageFault) × (code_at bytes ≡ Err e)) ⊎ ((d : Code) × FitsImage d × (bytes ≡ spelling d) × (d ≢ c))
+pub changed : (c : Code) (bytes : List ℕ) → ((i : ℕ) → get_or bytes i 0 < 256) → bytes ≢ spelling c
+    → ((e : ImageFault) × (code_at bytes ≡ Err e)) ⊎ ((d : Code) × FitsImage d × (bytes ≡ spelling d) × (d ≢ c))
 changed c bytes b differ = split (code_at bytes) refl
   where
     split : (r : Result Code ImageFault) → code_at bytes ≡ r → ((e : ImageFault) × (code_at bytes ≡ Err e)) ⊎ ((d : Code) × FitsImage d × (bytes ≡ spelling d) × (d ≢ c))

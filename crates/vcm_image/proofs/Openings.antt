@@ -67,7 +67,8 @@ next_same o lt = counted o.left refl lt
 
     all : (k : ℕ) (s : CodeStatement) (r : List ℕ) (q : Result (List CodeStatement × List ℕ) ImageFault) → times (line_at o.code.version) k r ≡ q
         → (times (line_at o.code.version) k r >>= close (with_statements o.code (s ∷ []))) ≡ ((times (line_at o.code.version) k r >>= begin_with s) >>= close o.code)
-    all k s r (Ok (ss, r')) e = rw e (ap (λ (l : List CodeStatement). ended (record { version = o.code.version; tables = o.code.tables; statements = l }, r')) (append_assoc o.code.statements (s ∷ []) ss))
+    all k s r (Ok (ss, r')) e = rw e (ap (λ (l : List CodeStatement). ended (record { version = o.code.version; tables = o.code.tables; statements = l }, r'))
+        (append_assoc o.code.statements (s ∷ []) ss))
     all k s r (Err f) e = rw e refl
 
     first : (k : ℕ) → o.left ≡ suc k → (q : Result (CodeStatement × List ℕ) ImageFault) → line_at o.code.version o.rest ≡ q → (next_at o >>= λ x. rest_at x.1) ≡ rest_at o
@@ -211,7 +212,8 @@ module _ (o : Opened) (bytes : List ℕ) (version : Version) (vs fs ds ss : List
         let t = (reads_line o.code.version).takes o.rest (s, rest') (end_bytes bytes o.rest k.end k.fits) here in
         let counted : length (ss ++ start ∷ []) ≡ suc (length ss) = length-append ss (start ∷ []) ∙ omega arith in
         let place : start ≡ length bytes - length o.rest = at_end ∙ ap (λ (l : List ℕ). length bytes - length l) k.rest_is in
-        let found : line_at version (drop start bytes) ≡ Ok (s, rest') = ap (λ (p : ℕ). line_at version (drop p bytes)) place ∙ ap (line_at version) (end_drop bytes o.rest k.end) ∙ ap (line_at version) (sym k.rest_is) ∙ e in
+        let found : line_at version (drop start bytes) ≡ Ok (s, rest') = ap (λ (p : ℕ). line_at version (drop p bytes)) place
+        ∙ ap (line_at version) (end_drop bytes o.rest k.end) ∙ ap (line_at version) (sym k.rest_is) ∙ e in
         record {
           is = rw (counted, k.is, more_is) refl;
           whole = k.whole ∙ next_whole o s more lt more_is;

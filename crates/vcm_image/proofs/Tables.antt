@@ -1,5 +1,6 @@
 -- Tables of the places where values begin, and lists of values that were read.
-use Rattle.std.proofs.Common.{◌≡◌, ℕ, zero, suc, ◌+◌, ◌-◌, ◌<◌, ◌≤◌, List, [], ◌∷◌, ◌++◌, length, drop, slice_get, slice_index_or, false, ◌==◌, Some, Result, Ok, Err, refl, sym, ap, subst, ◌∙◌, append_assoc, arith}
+use Rattle.std.proofs.Common.{◌≡◌, ℕ, zero, suc, ◌+◌, ◌-◌, ◌<◌, ◌≤◌, List, [], ◌∷◌, ◌++◌, length, drop, slice_get, slice_index_or, false, ◌==◌, Some, Result}
+use Rattle.std.proofs.Common.{Ok, Err, refl, sym, ap, subst, ◌∙◌, append_assoc, arith}
 use Rattle.std.proofs.lemmas.List.{drop_at, length-append}
 use Rattle.std.specs.List.{AllByRecursion}
 use Rattle.vcm_fields.specs.declared.fault.ImageFault.{ImageFault}
@@ -12,7 +13,8 @@ use Rattle.vcm_image.proofs.Wholes.{reads_header}
 use Rattle.vcm_fields.proofs.Inverse.{IsBytes, Reads, ok_is}
 use Rattle.vcm_fields.proofs.LoopInverse.{Progress, begun, goes_on, stops, is_done}
 
-pub Begin-push : {A : Type 0} (a : Reader A) (whole os : List ℕ) (xs : List A) (o : ℕ) (x : A) (rest : List ℕ) → Begin a whole os xs → o ≤ length whole → a (drop o whole) ≡ Ok (x, rest) → Begin a whole (os ++ o ∷ []) (xs ++ x ∷ [])
+pub Begin-push : {A : Type 0} (a : Reader A) (whole os : List ℕ) (xs : List A) (o : ℕ) (x : A) (rest : List ℕ) → Begin a whole os xs → o ≤ length whole
+    → a (drop o whole) ≡ Ok (x, rest) → Begin a whole (os ++ o ∷ []) (xs ++ x ∷ [])
 Begin-push a whole [] [] o x rest h le e = ((le, (rest, e)), tt)
 Begin-push a whole [] (y ∷ ys) o x rest h le e = absurd h
 Begin-push a whole (p ∷ ps) [] o x rest h le e = absurd h
@@ -42,7 +44,8 @@ Begin-index a whole (p ∷ ps) (y ∷ ys) (suc i) o d h lt e =
     record { value = f.value; rest = f.rest; within = f.within; is = f.is; read = f.read }
 
 -- what was read there is that value, and no fault
-pub Found-ok : {A : Type 0} (a : Reader A) (whole : List ℕ) (xs : List A) (i o : ℕ) (bytes : List ℕ) (x : A) (r : List ℕ) → Found a whole xs i o → bytes ≡ drop o whole → a bytes ≡ Ok (x, r) → slice_get xs i ≡ Some x
+pub Found-ok : {A : Type 0} (a : Reader A) (whole : List ℕ) (xs : List A) (i o : ℕ) (bytes : List ℕ) (x : A) (r : List ℕ) → Found a whole xs i o
+    → bytes ≡ drop o whole → a bytes ≡ Ok (x, r) → slice_get xs i ≡ Some x
 Found-ok {A} a whole xs i o bytes x r f b e =
     let same : (f.value, f.rest) ≡ (x, r) = ok_is _ _ (sym f.read ∙ ap a (sym b) ∙ e) in
     f.is ∙ ap (λ (p : A × List ℕ). Some p.0) same
@@ -69,16 +72,25 @@ end_drop whole rest end =
 pub end_more : (whole rest text rest' : List ℕ) → IsEnd whole rest → rest ≡ text ++ rest' → IsEnd whole rest'
 end_more whole rest text rest' end e = (end.0 ++ text, end.1 ∙ ap (λ (l : List ℕ). end.0 ++ l) e ∙ sym (append_assoc end.0 text rest'))
 
-pub filled_more : {A : Type 0} {a : Reader A} {s : A → List ℕ} {P : A → Type 0} → Reads a s P → (count counter : ℕ) (whole bytes starts rest : List ℕ) (x : A) (rest' starts' : List ℕ) → Filling a count counter whole bytes starts rest → counter < count → a rest ≡ Ok (x, rest')
+pub filled_more : {A : Type 0} {a : Reader A} {s : A → List ℕ} {P : A → Type 0} → Reads a s P
+    → (count counter : ℕ) (whole bytes starts rest : List ℕ) (x : A) (rest' starts' : List ℕ) → Filling a count counter whole bytes starts rest
+    → counter < count → a rest ≡ Ok (x, rest')
     → starts' ≡ starts ++ (length whole - length rest) ∷ [] → Filling a count (counter + 1) whole bytes starts' rest'
 unfolding goes_on
 filled_more {A} {a} {s} {P} r count counter whole bytes starts rest x rest' starts' f lt e is =
     let t = r.takes rest (x, rest') f.fits e in
     let next = goes_on a count counter bytes rest x rest' f.progress lt e in
     let found : a (drop (length whole - length rest) whole) ≡ Ok (x, rest') = ap a (end_drop whole rest f.end) ∙ e in
-    record { progress = next; begin = rw is (Begin-push a whole starts f.progress.values (length whole - length rest) x rest' f.begin (omega arith) found); end = end_more whole rest (s x) rest' f.end t.0.parts; fits = t.0.rest_fits }
+    record {
+      progress = next;
+      begin = rw is (Begin-push a whole starts f.progress.values (length whole - length rest) x rest' f.begin (omega arith) found);
+      end
+          = end_more whole rest (s x) rest' f.end t.0.parts;
+      fits = t.0.rest_fits;
+    }
 
-pub filled : {A : Type 0} (a : Reader A) (count counter : ℕ) (whole bytes starts rest : List ℕ) → Filling a count counter whole bytes starts rest → count ≤ counter → Table a count whole bytes starts rest
+pub filled : {A : Type 0} (a : Reader A) (count counter : ℕ) (whole bytes starts rest : List ℕ) → Filling a count counter whole bytes starts rest
+    → count ≤ counter → Table a count whole bytes starts rest
 filled a count counter whole bytes starts rest f le = record { values = f.progress.values; is = is_done a count counter bytes rest f.progress le; begin = f.begin; end = f.end }
 
 -- a fault that reading gives
@@ -86,7 +98,8 @@ pub fails_so : {Y : Type 0} (f : ImageFault) (read : Result Y ImageFault) → re
 fails_so NoMemory read e = tt
 fails_so _ read e = e
 
-pub filled_fails : {A : Type 0} (a : Reader A) (count counter : ℕ) (whole bytes starts rest : List ℕ) (f : ImageFault) → Filling a count counter whole bytes starts rest → counter < count → a rest ≡ Err f → Fails f (times a count bytes)
+pub filled_fails : {A : Type 0} (a : Reader A) (count counter : ℕ) (whole bytes starts rest : List ℕ) (f : ImageFault)
+    → Filling a count counter whole bytes starts rest → counter < count → a rest ≡ Err f → Fails f (times a count bytes)
 filled_fails a count counter whole bytes starts rest f g lt e = fails_so f (times a count bytes) (stops a count counter bytes rest f g.progress lt e)
 
 -- ---- the whole

@@ -29,8 +29,10 @@ is_that m n e = eqb-true n m e
 is_itself : (m : ℕ) → is_number m m ≡ true
 is_itself m = grind arith
 
-reads_that : (w : Width) (limit : ℕ) → Reads (number_at w) (to_le_bytes w) (λ n. n < limit) → (fault : ImageFault) (m : ℕ) → m < limit → Reads (tested fault (is_number m) (number_at w)) (to_le_bytes w) (λ n. n ≡ m)
-reads_that w limit r fault m lt = reads_tested r fault (is_number m) (λ n. n ≡ m) (λ n h e. is_that m n e) (λ n h. (subst (λ (k : ℕ). k < limit) (sym h) lt, subst (λ (k : ℕ). is_number m k ≡ true) (sym h) (is_itself m)))
+reads_that : (w : Width) (limit : ℕ) → Reads (number_at w) (to_le_bytes w) (λ n. n < limit) → (fault : ImageFault) (m : ℕ) → m < limit
+    → Reads (tested fault (is_number m) (number_at w)) (to_le_bytes w) (λ n. n ≡ m)
+reads_that w limit r fault m lt = reads_tested r fault (is_number m) (λ n. n ≡ m) (λ n h e. is_that m n e)
+    (λ n h. (subst (λ (k : ℕ). k < limit) (sym h) lt, subst (λ (k : ℕ). is_number m k ≡ true) (sym h) (is_itself m)))
 
 reads_most : (w : Width) (limit : ℕ) → Reads (number_at w) (to_le_bytes w) (λ n. n < limit) → (m : ℕ) → m < limit → Reads (tested BadField (at_most m) (number_at w)) (to_le_bytes w) (λ n. n ≤ m)
 reads_most w limit r m lt = reads_tested r BadField (at_most m) (λ n. n ≤ m) (λ n h e. most m n e) (λ n h. (omega (arith, h, lt), most_back m n h))

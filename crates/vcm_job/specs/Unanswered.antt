@@ -13,7 +13,8 @@ IsUnanswered refused before after Read = ReadsAtMost most_bytes before after
 IsUnanswered refused before after TooLong = IfSome before (λ input. most_bytes < length input)
 IsUnanswered refused before after _ = ⊥
 
--- of one that writes: so, and nothing was written; or memory was refused after so many steps of a run, or a write failed, and `halted` or `cut` tells what was written
+-- of one that writes: so, and nothing was written; or memory was refused after so many steps of a run, or a write failed, and `halted` or `cut` tells
+-- what was written
 abbrev pub IsUnwritten : {R : Type 0} → (List ℕ → R → Type 0) → (halted cut : ℕ → Option (List ℕ) → Option (List ℕ) → Type 0) → Option (List ℕ)
     → Option (List ℕ) → Fault R → Option (List ℕ) → Option (List ℕ) → Type 0
 IsUnwritten refused halted cut before after (Memory done) old new = halted done old new

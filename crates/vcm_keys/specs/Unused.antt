@@ -41,7 +41,8 @@ is_used block key d = if block == 0 then is_machine_key key else is_block_key ke
 -- the keys of a table that nothing uses, as those of a block, on no line yet
 abbrev pub unused_in : ℕ → Members → List KeyPlace
 unused_in block no_members = []
-unused_in block (member key d ms) = if is_used block key d then unused_in block ms else record { line = 0; block = block; key = label_of 32 key } ∷ unused_in block ms
+unused_in block (member key d ms) = if is_used block key d then unused_in block ms else record { line = 0; block = block; key = label_of 32 key } ∷ unused_in
+    block ms
 
 -- those of a table that may be none
 abbrev pub unused_in_row : ℕ → Option Members → List KeyPlace

@@ -45,7 +45,8 @@ empty_first : (ws : List Lexeme) → with_commas ([] ∷ fields_of ws) ≡ Comma
 empty_first [] = refl
 empty_first (w ∷ ws) = some_field (cuts AtComma w) w (fields_of ws)
 
-step_joined : (b : Bool) (w : Lexeme) (ws : List Lexeme) → (b ≡ true → mark_at AtComma ≡ w) → with_commas (fields_of ws) ≡ ws → with_commas (cond b ([] ∷ fields_of ws) (onto w (fields_of ws))) ≡ w ∷ ws
+step_joined : (b : Bool) (w : Lexeme) (ws : List Lexeme) → (b ≡ true → mark_at AtComma ≡ w) → with_commas (fields_of ws) ≡ ws
+    → with_commas (cond b ([] ∷ fields_of ws) (onto w (fields_of ws))) ≡ w ∷ ws
 step_joined true w ws k e = empty_first ws ∙ ap (λ (x : Lexeme). x ∷ with_commas (fields_of ws)) (k refl) ∙ ap (λ (x : List Lexeme). w ∷ x) e
 step_joined false w ws k e = joined_onto w (fields_of ws) ∙ ap (λ (x : List Lexeme). w ∷ x) e
 

@@ -49,7 +49,8 @@ step_some : (b : Bool) (text : List ℕ) (w : Word) (ws : List Word) (n : ℕ) (
 step_some true text w ws n rest e h = refl
 step_some false text w ws n rest e h = let g : 1 + n + 1 ≡ suc (n + 1) = omega arith in rw g (e (omega (arith, h)))
 
-after_some : (text : List ℕ) (m : Cutter) (ws : List Word) → position_or_len (marked text m) ws < length ws → after m (lexemes text ws) ≡ Some (lexemes text (drop (position_or_len (marked text m) ws + 1) ws))
+after_some : (text : List ℕ) (m : Cutter) (ws : List Word) → position_or_len (marked text m) ws < length ws
+    → after m (lexemes text ws) ≡ Some (lexemes text (drop (position_or_len (marked text m) ws + 1) ws))
 after_some text m [] h = absurd (omega (arith, h))
 after_some text m (w ∷ ws) h = step_some (marked text m w) text w ws _ _ (after_some text m ws) h
 
@@ -80,7 +81,8 @@ spelled_is text [] = refl
 spelled_is text (w ∷ ws) = ap (λ (b : Bool). is_spelled (word_lexeme text w) && b) (spelled_is text ws)
 
 -- words are counted as what they say
-counted_from : (text : List ℕ) (n : ℕ) (ws : List Word) → fold (λ a w. a + cond (not (is_parenthesis (word_lexeme text w))) 1 0) n ws ≡ fold (λ a l. a + cond (not (is_parenthesis l)) 1 0) n (lexemes text ws)
+counted_from : (text : List ℕ) (n : ℕ) (ws : List Word)
+    → fold (λ a w. a + cond (not (is_parenthesis (word_lexeme text w))) 1 0) n ws ≡ fold (λ a l. a + cond (not (is_parenthesis l)) 1 0) n (lexemes text ws)
 counted_from text n [] = refl
 counted_from text n (w ∷ ws) = counted_from text (n + cond (not (is_parenthesis (word_lexeme text w))) 1 0) ws
 

@@ -37,7 +37,8 @@ unfolding has_stray_dollar
 leftmost_told [] code e = absurd cc
 leftmost_told (p ∷ ps) code e = told_more (is_open p) (is_dollar p && not (list_all is_skipped ps)) (has_bad_byte p) _ _ (has_stray_dollar ps) (leftmost_fault ps) code (leftmost_told ps code) e
 
-told_line_breaks : (line : List ℕ) (code : FaultCode) → Told (list_any has_bad_byte (segments_of line)) (list_any is_open (segments_of line) || has_stray_dollar (segments_of line)) code → BreaksLine line code
+told_line_breaks : (line : List ℕ) (code : FaultCode)
+    → Told (list_any has_bad_byte (segments_of line)) (list_any is_open (segments_of line) || has_stray_dollar (segments_of line)) code → BreaksLine line code
 told_line_breaks line code (inl p) = rw p.0 p.1
 told_line_breaks line code (inr p) = rw p.0 p.1
 
@@ -170,7 +171,8 @@ at_end ls n e within = let none : length (drop n ls) ≡ 0 = ap length e in omeg
 more_clean : (ls : List (List ℕ)) (n : ℕ) (l : List ℕ) (rest : List (List ℕ)) → drop n ls ≡ l ∷ rest → IsCleanBelow Breaks ls n → line_fault (take n ls) l ≡ None → IsCleanBelow Breaks ls (n + 1)
 more_clean ls n l rest e clean fine = let q = place_at ls n l rest e in clean_more Breaks ls n clean (λ code b. line_keeps (take n ls) l code fine (rw q.1 at b))
 
-told_first : (ls : List (List ℕ)) (n : ℕ) (rest : List (List ℕ)) (f : SourceFault) → drop n ls ≡ rest → n ≤ length ls → IsCleanBelow Breaks ls n → fault_behind (take n ls) rest ≡ Some f → FirstFault Breaks told_line ls f.code f.line
+told_first : (ls : List (List ℕ)) (n : ℕ) (rest : List (List ℕ)) (f : SourceFault) → drop n ls ≡ rest → n ≤ length ls → IsCleanBelow Breaks ls n
+    → fault_behind (take n ls) rest ≡ Some f → FirstFault Breaks told_line ls f.code f.line
 told_first ls n [] f e within clean h =
     let k = at_end ls n e within in
     let all : take n ls ≡ ls = take_all n ls (omega (arith, k)) in

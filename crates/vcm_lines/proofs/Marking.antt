@@ -52,7 +52,9 @@ resized_more ls n added line e =
 -- the lines of all bytes so far
 filled : (r : KeptLine) (rows : List KeptLine) → resized (marks_of (r ∷ rows)) (length (bytes_of (r ∷ rows))) r.line ≡ byte_lines (r ∷ rows)
 filled r [] =
-    resized_more [] (length (bytes_of (r ∷ []))) (length r.bytes) r.line (let e : length (r.bytes ++ []) ≡ length r.bytes = ap length (append-nil r.bytes) in omega (arith, e)) ∙ sym (append-nil (replicate (length r.bytes) r.line))
+    resized_more [] (length (bytes_of (r ∷ []))) (length r.bytes) r.line
+    (let e : length (r.bytes ++ []) ≡ length r.bytes = ap length (append-nil r.bytes) in omega (arith, e))
+    ∙ sym (append-nil (replicate (length r.bytes) r.line))
 filled r (s ∷ rows) =
     let e = length-byte_lines (r ∷ s ∷ rows) in
     resized_more (byte_lines (r ∷ s ∷ rows)) (length (bytes_of (r ∷ s ∷ rows))) 0 r.line (omega (arith, e)) ∙ append-nil (byte_lines (r ∷ s ∷ rows))
@@ -62,7 +64,8 @@ marks_two q [] r = refl
 marks_two q (s ∷ rows) r = refl
 
 -- One kept line more is marked.
-marked_more : (rows : List KeptLine) (r : KeptLine) (had n : ℕ) → had ≡ length (bytes_of rows) → n ≡ had + length r.bytes → marked (marks_of rows) (span_of rows) had n r.line ≡ marks_of (rows ++ r ∷ [])
+marked_more : (rows : List KeptLine) (r : KeptLine) (had n : ℕ) → had ≡ length (bytes_of rows) → n ≡ had + length r.bytes
+    → marked (marks_of rows) (span_of rows) had n r.line ≡ marks_of (rows ++ r ∷ [])
 marked_more [] r had n e f = refl
 marked_more (q ∷ rows) r had n e f =
     let all = length-byte_lines (q ∷ rows) in
@@ -70,7 +73,8 @@ marked_more (q ∷ rows) r had n e f =
     ap (λ (ls : List ℕ). resized ls n r.line) full ∙ resized_more (byte_lines (q ∷ rows)) n (length r.bytes) r.line (omega (arith, all, e, f)) ∙ sym (byte_lines_push (q ∷ rows) r)
     ∙ sym (marks_two q rows r)
 
-pub holds_more : (u v : Unfinished) (rows : List KeptLine) (r : KeptLine) (had n : ℕ) → had ≡ length u.bytes.items → n ≡ length v.bytes.items → v.bytes.items ≡ u.bytes.items ++ r.bytes → v.lines.items ≡ marked u.lines.items u.span had n r.line → v.span ≡ Some (first_or u.span r.line, r.line)
+pub holds_more : (u v : Unfinished) (rows : List KeptLine) (r : KeptLine) (had n : ℕ) → had ≡ length u.bytes.items → n ≡ length v.bytes.items
+    → v.bytes.items ≡ u.bytes.items ++ r.bytes → v.lines.items ≡ marked u.lines.items u.span had n r.line → v.span ≡ Some (first_or u.span r.line, r.line)
     → Holds u rows → Holds v (rows ++ r ∷ [])
 holds_more u v rows r had n from to bytes lines span h =
     let before : had ≡ length (bytes_of rows) = from ∙ ap length h.bytes in

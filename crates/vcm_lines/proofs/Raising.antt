@@ -18,7 +18,8 @@ raised_more (b ∷ bs) zero lt = refl
 raised_more (b ∷ bs) (suc i) lt = ap (λ (l : List ℕ). upper b ∷ l) (raised_more bs i (omega arith))
 
 -- One more byte is raised.
-pub raised_step : (o bytes : List ℕ) (i b : ℕ) → i < length o → bytes ≡ map upper (take i o) ++ drop i o → b ≡ upper (get_or bytes i 0) → slice_set bytes i b ≡ map upper (take (i + 1) o) ++ drop (i + 1) o
+pub raised_step : (o bytes : List ℕ) (i b : ℕ) → i < length o → bytes ≡ map upper (take i o) ++ drop i o → b ≡ upper (get_or bytes i 0)
+    → slice_set bytes i b ≡ map upper (take (i + 1) o) ++ drop (i + 1) o
 raised_step o bytes i b lt e f =
     let at : b ≡ upper (get_or o i 0) = rw (← raised_at o i lt, ← e) f in
     rw (e, at, add-one) (raised_more o i lt)

@@ -1,5 +1,6 @@
 -- Reading a line segment by segment.
-use Rattle.std.proofs.Common.{◌≡◌, ℕ, ◌+◌, ◌<◌, Bool, true, false, cond, eqb, List, [], ◌∷◌, ◌++◌, length, get_or, take, drop, Option, Some, None, nat_eq, inl, inr, subst, refl, sym, ap, ◌∙◌, append_assoc, arith}
+use Rattle.std.proofs.Common.{◌≡◌, ℕ, ◌+◌, ◌<◌, Bool, true, false, cond, eqb, List, [], ◌∷◌, ◌++◌, length, get_or, take, drop, Option, Some, None, nat_eq, inl}
+use Rattle.std.proofs.Common.{inr, subst, refl, sym, ap, ◌∙◌, append_assoc, arith}
 use Rattle.std.specs.Prelude.{◌||◌, ◌&&◌, not}
 use Rattle.std.specs.List.{list_any, list_all, starts_with, position}
 use Rattle.std.specs.Option.{option_or}
@@ -27,7 +28,8 @@ pub record IsScanned (line old bytes : List ℕ) (continued : Bool) (rest : List
   pub dollar : (continued || list_any is_dollar (segments_of rest)) ≡ continues line
 
 -- a segment that falls away
-pub scan_skips : (line old bytes : List ℕ) (continued : Bool) (rest after : List ℕ) (p : Segment) → segments_of rest ≡ p ∷ segments_of after → has_bad_byte p ≡ false → is_open p ≡ false → is_dollar p ≡ false → is_skipped p ≡ true → kept p ≡ []
+pub scan_skips : (line old bytes : List ℕ) (continued : Bool) (rest after : List ℕ) (p : Segment) → segments_of rest ≡ p ∷ segments_of after
+    → has_bad_byte p ≡ false → is_open p ≡ false → is_dollar p ≡ false → is_skipped p ≡ true → kept p ≡ []
     → IsScanned line old bytes continued rest → IsScanned line old bytes continued after
 scan_skips line old bytes continued rest after p e bad unclosed dollar skipped nothing s = record {
   text = rw (e, nothing) at s.text;
@@ -45,7 +47,8 @@ scan_takes line old bytes continued rest after new fresh t s = rw fresh record {
 }
 
 -- the dollar that ends the line
-pub scan_ends : (line old bytes : List ℕ) (continued : Bool) (rest after : List ℕ) (p : Segment) → continued ≡ false → segments_of rest ≡ p ∷ segments_of after → has_bad_byte p ≡ false → is_open p ≡ false → is_dollar p ≡ true → kept p ≡ []
+pub scan_ends : (line old bytes : List ℕ) (continued : Bool) (rest after : List ℕ) (p : Segment) → continued ≡ false → segments_of rest ≡ p ∷ segments_of after
+    → has_bad_byte p ≡ false → is_open p ≡ false → is_dollar p ≡ true → kept p ≡ []
     → IsScanned line old bytes continued rest → IsScanned line old bytes true after
 scan_ends line old bytes continued rest after p fresh e bad unclosed dollar nothing s = record {
   text = rw (e, nothing) at s.text;
@@ -54,11 +57,13 @@ scan_ends line old bytes continued rest after p fresh e bad unclosed dollar noth
 }
 
 -- a fault of the rest, where no dollar was read
-pub scan_breaks : (line old bytes : List ℕ) (continued : Bool) (rest : List ℕ) (code : FaultCode) → continued ≡ false → leftmost_fault (segments_of rest) ≡ Some code → IsScanned line old bytes continued rest → leftmost_fault (segments_of line) ≡ Some code
+pub scan_breaks : (line old bytes : List ℕ) (continued : Bool) (rest : List ℕ) (code : FaultCode) → continued ≡ false
+    → leftmost_fault (segments_of rest) ≡ Some code → IsScanned line old bytes continued rest → leftmost_fault (segments_of line) ≡ Some code
 scan_breaks line old bytes continued rest code fresh broken s = sym (rw fresh at s.left) ∙ broken
 
 -- something behind a dollar
-pub scan_strays : (line old bytes : List ℕ) (continued : Bool) (rest : List ℕ) (p : Segment) (ps : List Segment) → continued ≡ true → segments_of rest ≡ p ∷ ps → is_skipped p ≡ false → IsScanned line old bytes continued rest → leftmost_fault (segments_of line) ≡ Some BadSyntax
+pub scan_strays : (line old bytes : List ℕ) (continued : Bool) (rest : List ℕ) (p : Segment) (ps : List Segment) → continued ≡ true → segments_of rest ≡ p ∷ ps
+    → is_skipped p ≡ false → IsScanned line old bytes continued rest → leftmost_fault (segments_of line) ≡ Some BadSyntax
 scan_strays line old bytes continued rest p ps after_dollar e stands s = sym (rw (after_dollar, e, stands) at s.left)
 
 and_nothing : (continued : Bool) → (continued && false) ≡ false
@@ -111,52 +116,74 @@ no_comment : (bs : List ℕ) → starts_with nat_eq (36 ∷ bs) dollars ≡ fals
 no_comment [] e some at = absurd (omega arith)
 no_comment (b ∷ bs) e some at = let f : starts_with nat_eq (36 ∷ 36 ∷ bs) dollars ≡ false = rw at at e in absurd cc
 
-pub step_blank : (line old bytes : List ℕ) (continued : Bool) (rest : List ℕ) → 0 < length rest → is_blank (get_or rest 0 0) ≡ true → IsScanned line old bytes continued rest → IsScanned line old bytes continued (drop 1 rest)
+pub step_blank : (line old bytes : List ℕ) (continued : Bool) (rest : List ℕ) → 0 < length rest → is_blank (get_or rest 0 0) ≡ true
+    → IsScanned line old bytes continued rest → IsScanned line old bytes continued (drop 1 rest)
 step_blank line old bytes continued [] some blank s = absurd (omega arith)
 step_blank line old bytes continued (b ∷ bs) some blank s =
     let f = blank_facts b blank in
     scan_skips line old bytes continued (b ∷ bs) bs (Plain b) (segments_plain b bs f.0 f.1) (ap not f.2) refl (neq-eqb b 36 f.1) blank (rw blank refl) s
 
-pub step_comment : (line old bytes : List ℕ) (continued : Bool) (rest : List ℕ) → starts_with nat_eq rest dollars ≡ true → list_all is_inner (drop 2 rest) ≡ true → IsScanned line old bytes continued rest → IsScanned line old bytes continued []
+pub step_comment : (line old bytes : List ℕ) (continued : Bool) (rest : List ℕ) → starts_with nat_eq rest dollars ≡ true
+    → list_all is_inner (drop 2 rest) ≡ true → IsScanned line old bytes continued rest → IsScanned line old bytes continued []
 step_comment line old bytes continued rest comment inner s =
-    let e : segments_of rest ≡ Comment (drop 2 rest) ∷ segments_of [] = ap segments_of (comment_is rest comment) ∙ segments_comment (drop 2 rest) ∙ ap (λ (ps : List Segment). Comment (drop 2 rest) ∷ ps) (sym segments_none) in
+    let e : segments_of rest ≡ Comment (drop 2 rest) ∷ segments_of [] = ap segments_of (comment_is rest comment) ∙ segments_comment (drop 2 rest)
+    ∙ ap (λ (ps : List Segment). Comment (drop 2 rest) ∷ ps) (sym segments_none) in
     scan_skips line old bytes continued rest [] (Comment (drop 2 rest)) e (ap not inner) refl refl refl refl s
 
-pub bad_comment : (line old bytes : List ℕ) (continued : Bool) (rest : List ℕ) → starts_with nat_eq rest dollars ≡ true → list_all is_inner (drop 2 rest) ≡ false → IsScanned line old bytes continued rest → leftmost_fault (segments_of line) ≡ Some BadByte
+pub bad_comment : (line old bytes : List ℕ) (continued : Bool) (rest : List ℕ) → starts_with nat_eq rest dollars ≡ true
+    → list_all is_inner (drop 2 rest) ≡ false → IsScanned line old bytes continued rest → leftmost_fault (segments_of line) ≡ Some BadByte
 bad_comment line old bytes continued rest comment outer s =
     let e : segments_of rest ≡ Comment (drop 2 rest) ∷ [] = ap segments_of (comment_is rest comment) ∙ segments_comment (drop 2 rest) in
     sym (rw (e, and_nothing, outer) at s.left)
 
-pub step_dollar : (line old bytes : List ℕ) (continued : Bool) (rest : List ℕ) → 0 < length rest → starts_with nat_eq rest dollars ≡ false → continued ≡ false → get_or rest 0 0 ≡ 36 → IsScanned line old bytes continued rest → IsScanned line old bytes true (drop 1 rest)
+pub step_dollar : (line old bytes : List ℕ) (continued : Bool) (rest : List ℕ) → 0 < length rest → starts_with nat_eq rest dollars ≡ false → continued ≡ false
+    → get_or rest 0 0 ≡ 36 → IsScanned line old bytes continued rest → IsScanned line old bytes true (drop 1 rest)
 step_dollar line old bytes continued [] some comment fresh at s = absurd (omega arith)
 step_dollar line old bytes continued (b ∷ bs) some comment fresh at s =
     let p : segments_of (b ∷ bs) ≡ Plain 36 ∷ segments_of bs = ap (λ (d : ℕ). segments_of (d ∷ bs)) at ∙ segments_dollar bs (no_comment bs (rw at at comment)) in
     scan_ends line old bytes continued (b ∷ bs) bs (Plain 36) fresh p refl refl refl refl s
 
-pub step_text : (line old bytes : List ℕ) (continued : Bool) (rest new left : List ℕ) → 0 < length rest → continued ≡ false → get_or rest 0 0 ≡ 39 → TakesSegment (segments_from true (drop 1 rest)) bytes new left → IsScanned line old bytes continued rest → IsScanned line old new continued left
+pub step_text : (line old bytes : List ℕ) (continued : Bool) (rest new left : List ℕ) → 0 < length rest → continued ≡ false → get_or rest 0 0 ≡ 39
+    → TakesSegment (segments_from true (drop 1 rest)) bytes new left → IsScanned line old bytes continued rest → IsScanned line old new continued left
 step_text line old bytes continued [] new left some fresh at t s = absurd (omega arith)
 step_text line old bytes continued (b ∷ bs) new left some fresh at t s = scan_takes line old bytes continued (b ∷ bs) left new fresh (rw (at, segments_quote) t) s
 
-pub text_breaks : (line old bytes : List ℕ) (continued : Bool) (rest : List ℕ) (code : FaultCode) → 0 < length rest → continued ≡ false → get_or rest 0 0 ≡ 39 → leftmost_fault (segments_from true (drop 1 rest)) ≡ Some code → IsScanned line old bytes continued rest → leftmost_fault (segments_of line) ≡ Some code
+pub text_breaks : (line old bytes : List ℕ) (continued : Bool) (rest : List ℕ) (code : FaultCode) → 0 < length rest → continued ≡ false → get_or rest 0 0 ≡ 39
+    → leftmost_fault (segments_from true (drop 1 rest)) ≡ Some code → IsScanned line old bytes continued rest → leftmost_fault (segments_of line) ≡ Some code
 text_breaks line old bytes continued [] code some fresh at broken s = absurd (omega arith)
 text_breaks line old bytes continued (b ∷ bs) code some fresh at broken s = scan_breaks line old bytes continued (b ∷ bs) code fresh (rw (at, segments_quote) broken) s
 
-pub step_byte : (line old bytes : List ℕ) (continued : Bool) (rest new : List ℕ) → 0 < length rest → continued ≡ false → (get_or rest 0 0 ≡ 36 → ⊥) → (get_or rest 0 0 ≡ 39 → ⊥) → is_blank (get_or rest 0 0) ≡ false → is_plain (get_or rest 0 0) ≡ true → new ≡ bytes ++ upper (get_or rest 0 0) ∷ []
+pub step_byte : (line old bytes : List ℕ) (continued : Bool) (rest new : List ℕ) → 0 < length rest → continued ≡ false → (get_or rest 0 0 ≡ 36 → ⊥)
+    → (get_or rest 0 0 ≡ 39 → ⊥) → is_blank (get_or rest 0 0) ≡ false → is_plain (get_or rest 0 0) ≡ true → new ≡ bytes ++ upper (get_or rest 0 0) ∷ []
     → IsScanned line old bytes continued rest → IsScanned line old new continued (drop 1 rest)
 step_byte line old bytes continued [] new some fresh dollar quote solid plain added s = absurd (omega arith)
-step_byte line old bytes continued (b ∷ bs) new some fresh dollar quote solid plain added s = scan_takes line old bytes continued (b ∷ bs) bs new fresh (record { segment = Plain b; first = segments_plain b bs quote dollar; bytes = ap not plain; closed = refl; undollared = neq-eqb b 36 dollar; added = rw (solid, neq-eqb b 36 dollar) added }) s
+step_byte line old bytes continued (b ∷ bs) new some fresh dollar quote solid plain added s =
+    scan_takes line old bytes continued (b ∷ bs) bs new fresh
+    (record {
+      segment = Plain b;
+      first = segments_plain b bs quote dollar;
+      bytes = ap not plain;
+      closed = refl;
+      undollared = neq-eqb b 36 dollar;
+      added =
+          rw (solid, neq-eqb b 36 dollar) added;
+    }) s
 
-pub bad_plain : (line old bytes : List ℕ) (continued : Bool) (rest : List ℕ) → 0 < length rest → continued ≡ false → (get_or rest 0 0 ≡ 36 → ⊥) → (get_or rest 0 0 ≡ 39 → ⊥) → is_plain (get_or rest 0 0) ≡ false → IsScanned line old bytes continued rest → leftmost_fault (segments_of line) ≡ Some BadByte
+pub bad_plain : (line old bytes : List ℕ) (continued : Bool) (rest : List ℕ) → 0 < length rest → continued ≡ false → (get_or rest 0 0 ≡ 36 → ⊥)
+    → (get_or rest 0 0 ≡ 39 → ⊥) → is_plain (get_or rest 0 0) ≡ false → IsScanned line old bytes continued rest
+    → leftmost_fault (segments_of line) ≡ Some BadByte
 bad_plain line old bytes continued [] some fresh dollar quote outer s = absurd (omega arith)
 bad_plain line old bytes continued (b ∷ bs) some fresh dollar quote outer s =
     scan_breaks line old bytes continued (b ∷ bs) BadByte fresh (rw (segments_plain b bs quote dollar, neq-eqb b 36 dollar, outer) refl) s
 
-pub stands_stray : (line old bytes : List ℕ) (continued : Bool) (rest : List ℕ) → 0 < length rest → continued ≡ true → is_blank (get_or rest 0 0) ≡ false → starts_with nat_eq rest dollars ≡ false → IsScanned line old bytes continued rest → leftmost_fault (segments_of line) ≡ Some BadSyntax
+pub stands_stray : (line old bytes : List ℕ) (continued : Bool) (rest : List ℕ) → 0 < length rest → continued ≡ true → is_blank (get_or rest 0 0) ≡ false
+    → starts_with nat_eq rest dollars ≡ false → IsScanned line old bytes continued rest → leftmost_fault (segments_of line) ≡ Some BadSyntax
 stands_stray line old bytes continued [] some after_dollar solid comment s = absurd (omega arith)
 stands_stray line old bytes continued (b ∷ bs) some after_dollar solid comment s = elim (cases_eq b 39) [
   | inl e ↦ let p = first_of_text bs in scan_strays line old bytes continued (b ∷ bs) p.0 p.1 after_dollar (ap (λ (d : ℕ). segments_of (d ∷ bs)) e ∙ segments_quote bs ∙ p.2) p.3 s
   | inr quote ↦ elim (cases_eq b 36) [
-    | inl e ↦ scan_strays line old bytes continued (b ∷ bs) (Plain 36) (segments_of bs) after_dollar (ap (λ (d : ℕ). segments_of (d ∷ bs)) e ∙ segments_dollar bs (no_comment bs (rw e at comment))) refl s
+    | inl e ↦ scan_strays line old bytes continued (b ∷ bs) (Plain 36) (segments_of bs) after_dollar
+        (ap (λ (d : ℕ). segments_of (d ∷ bs)) e ∙ segments_dollar bs (no_comment bs (rw e at comment))) refl s
     | inr dollar ↦ scan_strays line old bytes continued (b ∷ bs) (Plain b) (segments_of bs) after_dollar (segments_plain b bs quote dollar) solid s
   ]
 ]
@@ -166,7 +193,9 @@ scan_done line old bytes continued [] none s = s
 scan_done line old bytes continued (b ∷ bs) none s = absurd (omega arith)
 
 -- the exit at a text that is refused
-pub text_refused : (line old bytes : List ℕ) (continued : Bool) (rest : List ℕ) (number : ℕ) (f : SourceFault) → 0 < length rest → continued ≡ false → get_or rest 0 0 ≡ 39 → IsScanned line old bytes continued rest
-    → NoMemoryOr (λ f. (f.line ≡ number) × (leftmost_fault (segments_from true (drop 1 rest)) ≡ Some f.code)) f → NoMemoryOr (λ f. (f.line ≡ number) × (leftmost_fault (segments_of line) ≡ Some f.code)) f
+pub text_refused : (line old bytes : List ℕ) (continued : Bool) (rest : List ℕ) (number : ℕ) (f : SourceFault) → 0 < length rest → continued ≡ false
+    → get_or rest 0 0 ≡ 39 → IsScanned line old bytes continued rest
+    → NoMemoryOr (λ f. (f.line ≡ number) × (leftmost_fault (segments_from true (drop 1 rest)) ≡ Some f.code)) f
+    → NoMemoryOr (λ f. (f.line ≡ number) × (leftmost_fault (segments_of line) ≡ Some f.code)) f
 text_refused line old bytes continued rest number f some fresh at s (inl e) = inl e
 text_refused line old bytes continued rest number f some fresh at s (inr p) = inr (p.0, text_breaks line old bytes continued rest f.code some fresh at p.1 s)

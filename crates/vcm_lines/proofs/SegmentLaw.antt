@@ -48,7 +48,8 @@ text_no_dollar (b ∷ bs) = choose NoDollar (eqb b 39) _ _ (λ e. refl) (λ e. o
 no_dollar : (c : ℕ) (bs : List ℕ) → eqb c 36 ≡ false → NoDollar (segments_from false (c ∷ bs))
 unfolding segments_from
 no_dollar c [] e = choose NoDollar (eqb c 39) _ _ (λ q. refl) (λ q. e)
-no_dollar c (d ∷ bs) e = choose NoDollar (eqb c 39) _ _ (λ q. text_no_dollar (d ∷ bs)) (λ q. choose NoDollar (eqb c 36 && eqb d 36) _ _ (λ p. let k = and_parts _ _ p in absurd (both _ k.0 e)) (λ p. e))
+no_dollar c (d ∷ bs) e = choose NoDollar (eqb c 39) _ _ (λ q. text_no_dollar (d ∷ bs))
+    (λ q. choose NoDollar (eqb c 36 && eqb d 36) _ _ (λ p. let k = and_parts _ _ p in absurd (both _ k.0 e)) (λ p. e))
 
 comment_cut : (b c : ℕ) (bs : List ℕ) → b ≡ 36 → c ≡ 36 → IsCutOf false (b ∷ c ∷ bs) (Comment bs ∷ [])
 comment_cut b c bs p q = (ap (λ (x : List ℕ). 36 ∷ 36 ∷ x) (append-nil bs) ∙ ap (λ (d : ℕ). d ∷ 36 ∷ bs) (sym p) ∙ ap (λ (d : ℕ). b ∷ d ∷ bs) (sym q), refl)

@@ -67,7 +67,8 @@ unclosed_at bs e =
     unclosed bs (λ k h. eqb-false _ _ (fails_before_first (λ b. eqb b 39) bs k 0 (omega arith)))
 
 -- The first segment of these is known.
-pub taken_text : (bs old new : List ℕ) (n : ℕ) → position (λ b. eqb b 39) bs ≡ Some n → list_all is_inner (take n bs) ≡ true → new ≡ old ++ (39 ∷ take n bs ++ 39 ∷ []) → TakesSegment (segments_from true bs) old new (drop (n + 1) bs)
+pub taken_text : (bs old new : List ℕ) (n : ℕ) → position (λ b. eqb b 39) bs ≡ Some n → list_all is_inner (take n bs) ≡ true
+    → new ≡ old ++ (39 ∷ take n bs ++ 39 ∷ []) → TakesSegment (segments_from true bs) old new (drop (n + 1) bs)
 taken_text bs old new n e inner added = record { segment = Quoted (take n bs); first = closed_at bs n e; bytes = ap not inner; closed = refl; undollared = refl; added = added }
 
 pub bad_text : (bs : List ℕ) (n : ℕ) → position (λ b. eqb b 39) bs ≡ Some n → list_all is_inner (take n bs) ≡ false → leftmost_fault (segments_from true bs) ≡ Some BadByte

@@ -93,7 +93,8 @@ refused_fault bytes f (inr e) = inr (inl e)
 not_valid : (c : Code) (b : Bool) → Tells b (IsValid c) → b ≡ false → IsValid c → ⊥
 not_valid c b t n v = let y = t.only v in let both : true ≡ false = sym y ∙ n in absurd cc
 
-pub invalid_only : (bytes : List ℕ) (c : Code) (b : Bool) (f : ListFault) → code_listed bytes ≡ Ok c → Tells b (IsValid c) → b ≡ false → (d : Code) → FitsImage d → IsValid d → bytes ≡ listing d → GivesOrWants (Err f) (Ok d)
+pub invalid_only : (bytes : List ℕ) (c : Code) (b : Bool) (f : ListFault) → code_listed bytes ≡ Ok c → Tells b (IsValid c) → b ≡ false → (d : Code)
+    → FitsImage d → IsValid d → bytes ≡ listing d → GivesOrWants (Err f) (Ok d)
 invalid_only bytes c b f e t n d h v l = absurd (not_valid c b t n (subst (λ (x : Code). IsValid x) (sym (listed_is bytes c d e h l)) v))
 
 pub invalid_fault : (bytes : List ℕ) (c : Code) (b : Bool) (line : ℕ) → code_listed bytes ≡ Ok c → Tells b (IsValid c) → b ≡ false → line ≡ length (rows c) → FaultOrWant bytes (told line NotValid)

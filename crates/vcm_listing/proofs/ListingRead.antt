@@ -1,5 +1,6 @@
 -- What is read of a listing is spelled so.
-use Rattle.std.proofs.Common.{◌≡◌, ℕ, suc, ◌+◌, ◌<◌, ◌≤◌, ◌==◌, ◌&&◌, nat_lt, Bool, true, false, cond, List, [], ◌∷◌, ◌++◌, length, Option, Some, None, Result, Ok, Err, refl, sym, ap, ◌∙◌, subst, arith, append_assoc}
+use Rattle.std.proofs.Common.{◌≡◌, ℕ, suc, ◌+◌, ◌<◌, ◌≤◌, ◌==◌, ◌&&◌, nat_lt, Bool, true, false, cond, List, [], ◌∷◌, ◌++◌, length, Option, Some, None, Result}
+use Rattle.std.proofs.Common.{Ok, Err, refl, sym, ap, ◌∙◌, subst, arith, append_assoc}
 use Rattle.std.specs.Prelude.{map}
 use Rattle.std.specs.List.{AllByRecursion}
 use Rattle.std.proofs.lemmas.Bool.{eqb-true, ltb-true, and_parts}
@@ -41,7 +42,8 @@ placed_takes count limit i b c d e = room (nat_lt count limit) refl e
     next true h f = let p = and_parts (i == count) b h in (eqb-true i count p.0, p.1, cc)
     next false h f = absurd cc
 
-    room : (t : Bool) → nat_lt count limit ≡ t → cond t (cond ((i == count) && b) (good {E = ListCode} c) (Err OutOfOrder)) (Err BadNumber) ≡ Ok d → (count < limit) × (i ≡ count) × (b ≡ true) × (c ≡ d)
+    room : (t : Bool) → nat_lt count limit ≡ t → cond t (cond ((i == count) && b) (good {E = ListCode} c) (Err OutOfOrder)) (Err BadNumber) ≡ Ok d
+        → (count < limit) × (i ≡ count) × (b ≡ true) × (c ≡ d)
     room true h f = let n = next ((i == count) && b) refl f in (ltb-true count limit h, n.0, n.1, n.2)
     room false h f = absurd cc
 
@@ -59,7 +61,8 @@ next_index e = omega (arith, e)
 unfoldable pub Grows : Code → ListRow → Code → Type 0
 Grows c r d = (rows d ≡ rows c ++ r ∷ []) × TablesFit d
 
-push_all : {A : Type 0} (P : A → Type 0) (limit : ℕ) (xs : List A) (x : A) → (length xs ≤ limit) × AllByRecursion P xs → length xs < limit → P x → (length (xs ++ x ∷ []) ≤ limit) × AllByRecursion P (xs ++ x ∷ [])
+push_all : {A : Type 0} (P : A → Type 0) (limit : ℕ) (xs : List A) (x : A) → (length xs ≤ limit) × AllByRecursion P xs → length xs < limit → P x
+    → (length (xs ++ x ∷ []) ≤ limit) × AllByRecursion P (xs ++ x ∷ [])
 push_all P limit xs x h l p = (omega (arith, length-append xs (x ∷ [])), all_append P xs (x ∷ []) h.1 (p, tt))
 
 -- lists in a row, the last of which grows
@@ -69,26 +72,36 @@ grown a b r b' e = ap (λ l. a ++ l) e ∙ sym (append_assoc a b (r ∷ []))
 grown_last : (b : List ListRow) (r : ListRow) (b' : List ListRow) → b' ≡ b ++ r ∷ [] → b' ++ [] ≡ (b ++ []) ++ r ∷ []
 grown_last b r b' e = append-nil b' ∙ e ∙ ap (λ l. l ++ r ∷ []) (sym (append-nil b))
 
-add_variable : (version : Version) (vs : List Entry) (fs ds : List (List ℕ)) (ss : List CodeStatement) (i : ℕ) (v : Entry) → fs ≡ [] → ds ≡ [] → ss ≡ [] → i ≡ length vs → rows (code version (vs ++ v ∷ []) fs ds ss) ≡ rows (code version vs fs ds ss) ++ Variable i v ∷ []
-add_variable version vs [] [] [] i v ef ed es ei = ap (λ l. Head version ∷ l) (grown_last (numbered Variable 0 vs) (Variable i v) (numbered Variable 0 (vs ++ v ∷ [])) (numbered-push Variable 0 vs v ∙ ap (λ k. numbered Variable 0 vs ++ Variable k v ∷ []) (next_index ei)))
+add_variable : (version : Version) (vs : List Entry) (fs ds : List (List ℕ)) (ss : List CodeStatement) (i : ℕ) (v : Entry) → fs ≡ [] → ds ≡ [] → ss ≡ []
+    → i ≡ length vs → rows (code version (vs ++ v ∷ []) fs ds ss) ≡ rows (code version vs fs ds ss) ++ Variable i v ∷ []
+add_variable version vs [] [] [] i v ef ed es ei =
+    ap (λ l. Head version ∷ l) (grown_last (numbered Variable 0 vs) (Variable i v) (numbered Variable 0 (vs ++ v ∷ []))
+    (numbered-push Variable 0 vs v ∙ ap (λ k. numbered Variable 0 vs ++ Variable k v ∷ []) (next_index ei)))
 add_variable version vs (f ∷ fs) ds ss i v ef ed es ei = absurd cc
 add_variable version vs [] (d ∷ ds) ss i v ef ed es ei = absurd cc
 add_variable version vs [] [] (s ∷ ss) i v ef ed es ei = absurd cc
 
-add_feature : (version : Version) (vs : List Entry) (fs ds : List (List ℕ)) (ss : List CodeStatement) (i : ℕ) (v : List ℕ) → ds ≡ [] → ss ≡ [] → i ≡ length fs → rows (code version vs (fs ++ v ∷ []) ds ss) ≡ rows (code version vs fs ds ss) ++ Feature i v ∷ []
+add_feature : (version : Version) (vs : List Entry) (fs ds : List (List ℕ)) (ss : List CodeStatement) (i : ℕ) (v : List ℕ) → ds ≡ [] → ss ≡ [] → i ≡ length fs
+    → rows (code version vs (fs ++ v ∷ []) ds ss) ≡ rows (code version vs fs ds ss) ++ Feature i v ∷ []
 add_feature version vs fs [] [] i v ed es ei = ap (λ l. Head version ∷ l) (grown (numbered Variable 0 vs) (numbered Feature 0 fs ++ []) (Feature i v) (numbered Feature 0 (fs ++ v ∷ []) ++ [])
     (grown_last (numbered Feature 0 fs) (Feature i v) (numbered Feature 0 (fs ++ v ∷ [])) (numbered-push Feature 0 fs v ∙ ap (λ k. numbered Feature 0 fs ++ Feature k v ∷ []) (next_index ei))))
 add_feature version vs fs (d ∷ ds) ss i v ed es ei = absurd cc
 add_feature version vs fs [] (s ∷ ss) i v ed es ei = absurd cc
 
-add_frame : (version : Version) (vs : List Entry) (fs ds : List (List ℕ)) (ss : List CodeStatement) (i : ℕ) (v : List ℕ) → ss ≡ [] → i ≡ length ds → rows (code version vs fs (ds ++ v ∷ []) ss) ≡ rows (code version vs fs ds ss) ++ Frame i v ∷ []
-add_frame version vs fs ds [] i v es ei = ap (λ l. Head version ∷ l) (grown (numbered Variable 0 vs) (numbered Feature 0 fs ++ (numbered Frame 0 ds ++ [])) (Frame i v) (numbered Feature 0 fs ++ (numbered Frame 0 (ds ++ v ∷ []) ++ []))
+add_frame : (version : Version) (vs : List Entry) (fs ds : List (List ℕ)) (ss : List CodeStatement) (i : ℕ) (v : List ℕ) → ss ≡ [] → i ≡ length ds
+    → rows (code version vs fs (ds ++ v ∷ []) ss) ≡ rows (code version vs fs ds ss) ++ Frame i v ∷ []
+add_frame version vs fs ds [] i v es ei =
+    ap (λ l. Head version ∷ l) (grown (numbered Variable 0 vs) (numbered Feature 0 fs ++ (numbered Frame 0 ds ++ [])) (Frame i v)
+    (numbered Feature 0 fs ++ (numbered Frame 0 (ds ++ v ∷ []) ++ []))
     (grown (numbered Feature 0 fs) (numbered Frame 0 ds ++ []) (Frame i v) (numbered Frame 0 (ds ++ v ∷ []) ++ [])
     (grown_last (numbered Frame 0 ds) (Frame i v) (numbered Frame 0 (ds ++ v ∷ [])) (numbered-push Frame 0 ds v ∙ ap (λ k. numbered Frame 0 ds ++ Frame k v ∷ []) (next_index ei)))))
 add_frame version vs fs ds (s ∷ ss) i v es ei = absurd cc
 
-add_line : (version : Version) (vs : List Entry) (fs ds : List (List ℕ)) (ss : List CodeStatement) (i : ℕ) (s : CodeStatement) → i ≡ length ss → rows (code version vs fs ds (ss ++ s ∷ [])) ≡ rows (code version vs fs ds ss) ++ Numbered i s ∷ []
-add_line version vs fs ds ss i s ei = ap (λ l. Head version ∷ l) (grown (numbered Variable 0 vs) (numbered Feature 0 fs ++ (numbered Frame 0 ds ++ numbered Numbered 0 ss)) (Numbered i s) (numbered Feature 0 fs ++ (numbered Frame 0 ds ++ numbered Numbered 0 (ss ++ s ∷ [])))
+add_line : (version : Version) (vs : List Entry) (fs ds : List (List ℕ)) (ss : List CodeStatement) (i : ℕ) (s : CodeStatement) → i ≡ length ss
+    → rows (code version vs fs ds (ss ++ s ∷ [])) ≡ rows (code version vs fs ds ss) ++ Numbered i s ∷ []
+add_line version vs fs ds ss i s ei = ap (λ l. Head version ∷ l)
+    (grown (numbered Variable 0 vs) (numbered Feature 0 fs ++ (numbered Frame 0 ds ++ numbered Numbered 0 ss)) (Numbered i s)
+    (numbered Feature 0 fs ++ (numbered Frame 0 ds ++ numbered Numbered 0 (ss ++ s ∷ [])))
     (grown (numbered Feature 0 fs) (numbered Frame 0 ds ++ numbered Numbered 0 ss) (Numbered i s) (numbered Frame 0 ds ++ numbered Numbered 0 (ss ++ s ∷ []))
     (grown (numbered Frame 0 ds) (numbered Numbered 0 ss) (Numbered i s) (numbered Numbered 0 (ss ++ s ∷ []))
     (numbered-push Numbered 0 ss s ∙ ap (λ k. numbered Numbered 0 ss ++ Numbered k s ∷ []) (next_index ei)))))
@@ -97,7 +110,8 @@ pub added_takes : (c : Code) (r : ListRow) (d : Code) → TablesFit c → FitsRo
 unfolding added Grows
 added_takes c (Head v) d h f e = absurd cc
 added_takes c (Variable i v) d h f e =
-    let p = placed_takes (length c.tables.variables) 4096 i (is_empty c.tables.features && (is_empty c.tables.frames && is_empty c.statements)) (code c.version (c.tables.variables ++ v ∷ []) c.tables.features c.tables.frames c.statements) d e in
+    let p = placed_takes (length c.tables.variables) 4096 i (is_empty c.tables.features && (is_empty c.tables.frames && is_empty c.statements))
+    (code c.version (c.tables.variables ++ v ∷ []) c.tables.features c.tables.frames c.statements) d e in
     let q = and_parts (is_empty c.tables.features) (is_empty c.tables.frames && is_empty c.statements) p.2 in
     let r = and_parts (is_empty c.tables.frames) (is_empty c.statements) q.1 in
     subst (λ (x : Code). (rows x ≡ rows c ++ Variable i v ∷ []) × TablesFit x) p.3 (
@@ -105,7 +119,8 @@ added_takes c (Variable i v) d h f e =
       record { variables = push_all FitsEntry 4096 c.tables.variables v h.variables p.0 f.1; features = h.features; frames = h.frames; statements = h.statements },
     )
 added_takes c (Feature i v) d h f e =
-    let p = placed_takes (length c.tables.features) 4096 i (is_empty c.tables.frames && is_empty c.statements) (code c.version c.tables.variables (c.tables.features ++ v ∷ []) c.tables.frames c.statements) d e in
+    let p = placed_takes (length c.tables.features) 4096 i (is_empty c.tables.frames && is_empty c.statements)
+    (code c.version c.tables.variables (c.tables.features ++ v ∷ []) c.tables.frames c.statements) d e in
     let r = and_parts (is_empty c.tables.frames) (is_empty c.statements) p.2 in
     subst (λ (x : Code). (rows x ≡ rows c ++ Feature i v ∷ []) × TablesFit x) p.3 (
       add_feature c.version c.tables.variables c.tables.features c.tables.frames c.statements i v (nil c.tables.frames r.0) (nil c.statements r.1) p.1,
@@ -128,10 +143,17 @@ added_takes c (Numbered i s) d h f e =
 pub added_keeps : (c : Code) (r : ListRow) (d : Code) → added c r ≡ Ok d → c.version ≡ d.version
 unfolding added
 added_keeps c (Head v) d e = absurd cc
-added_keeps c (Variable i v) d e = ap (λ (x : Code). x.version) (placed_takes (length c.tables.variables) 4096 i (is_empty c.tables.features && (is_empty c.tables.frames && is_empty c.statements)) (code c.version (c.tables.variables ++ v ∷ []) c.tables.features c.tables.frames c.statements) d e).3
-added_keeps c (Feature i v) d e = ap (λ (x : Code). x.version) (placed_takes (length c.tables.features) 4096 i (is_empty c.tables.frames && is_empty c.statements) (code c.version c.tables.variables (c.tables.features ++ v ∷ []) c.tables.frames c.statements) d e).3
-added_keeps c (Frame i v) d e = ap (λ (x : Code). x.version) (placed_takes (length c.tables.frames) 4096 i (is_empty c.statements) (code c.version c.tables.variables c.tables.features (c.tables.frames ++ v ∷ []) c.statements) d e).3
-added_keeps c (Numbered i s) d e = ap (λ (x : Code). x.version) (placed_takes (length c.statements) 20000 i true (code c.version c.tables.variables c.tables.features c.tables.frames (c.statements ++ s ∷ [])) d e).3
+added_keeps c (Variable i v) d e = ap (λ (x : Code). x.version)
+    (placed_takes (length c.tables.variables) 4096 i (is_empty c.tables.features && (is_empty c.tables.frames && is_empty c.statements))
+    (code c.version (c.tables.variables ++ v ∷ []) c.tables.features c.tables.frames c.statements) d e).3
+added_keeps c (Feature i v) d e = ap (λ (x : Code). x.version)
+    (placed_takes (length c.tables.features) 4096 i (is_empty c.tables.frames && is_empty c.statements)
+    (code c.version c.tables.variables (c.tables.features ++ v ∷ []) c.tables.frames c.statements) d e).3
+added_keeps c (Frame i v) d e = ap (λ (x : Code). x.version)
+    (placed_takes (length c.tables.frames) 4096 i (is_empty c.statements)
+    (code c.version c.tables.variables c.tables.features (c.tables.frames ++ v ∷ []) c.statements) d e).3
+added_keeps c (Numbered i s) d e = ap (λ (x : Code). x.version)
+    (placed_takes (length c.statements) 20000 i true (code c.version c.tables.variables c.tables.features c.tables.frames (c.statements ++ s ∷ [])) d e).3
 
 -- ---- all lines
 

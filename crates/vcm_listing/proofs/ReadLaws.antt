@@ -45,13 +45,15 @@ pub few_lines : (version : Version) (bytes rest : List ℕ) (c : Code) (line : �
 few_lines version bytes rest c line l = omega (arith, l.count, rows_length c, l.fits.variables.0, l.fits.features.0, l.fits.frames.0, l.fits.statements.0)
 
 -- a line that isn't the last part
-line_on : (line : ℕ) (c : Code) (rest text after : List ℕ) → split 10 rest ≡ text ∷ split 10 after → lines_read line c (split 10 rest) ≡ on line (after_line c (row_of c.version true text) text) (λ d. lines_read (suc line) d (split 10 after))
+line_on : (line : ℕ) (c : Code) (rest text after : List ℕ) → split 10 rest ≡ text ∷ split 10 after
+    → lines_read line c (split 10 rest) ≡ on line (after_line c (row_of c.version true text) text) (λ d. lines_read (suc line) d (split 10 after))
 unfolding lines_read
 line_on line c rest text after e =
     let s = split_some 10 after in
     ap (lines_read line c) e ∙ ap (λ ws. lines_read line c (text ∷ ws)) s.2 ∙ ap (λ ws. on line (after_line c (row_of c.version true text) text) (λ d. lines_read (suc line) d ws)) (sym s.2)
 
-pub line_left : (version : Version) (bytes rest : List ℕ) (c d : Code) (line : ℕ) (text after : List ℕ) → Left version bytes rest c line → split 10 rest ≡ text ∷ split 10 after → after_line c (row_of c.version true text) text ≡ Ok d → Left version bytes after d (line + 1)
+pub line_left : (version : Version) (bytes rest : List ℕ) (c d : Code) (line : ℕ) (text after : List ℕ) → Left version bytes rest c line
+    → split 10 rest ≡ text ∷ split 10 after → after_line c (row_of c.version true text) text ≡ Ok d → Left version bytes after d (line + 1)
 unfolding Grows
 line_left version bytes rest c d line text after l e h =
     let q = line_takes c (row_of c.version true text) text d h in
@@ -65,7 +67,8 @@ line_left version bytes rest c d line text after l e h =
     }
 
 -- the fault of a line
-pub line_fault : (r : Result Code ListCode) (n : ℕ) (f : Code → Result Code ListFault) (e : ListCode) (fault : ListFault) → FailsLine e r → (e ≡ NoMemory → IsWant fault) → ((e ≡ NoMemory → ⊥) → fault ≡ told n e) → IsWant fault ⊎ (on n r f ≡ Err fault)
+pub line_fault : (r : Result Code ListCode) (n : ℕ) (f : Code → Result Code ListFault) (e : ListCode) (fault : ListFault) → FailsLine e r
+    → (e ≡ NoMemory → IsWant fault) → ((e ≡ NoMemory → ⊥) → fault ≡ told n e) → IsWant fault ⊎ (on n r f ≡ Err fault)
 line_fault r n f e fault (inl h) want tell = inl (want h)
 line_fault r n f NoMemory fault (inr h) want tell = inl (want refl)
 line_fault r n f BadLine fault (inr h) want tell = inr (ap (λ o. on n o f) h ∙ ap (λ x. Err x) (sym (tell (λ k. absurd cc))))
@@ -77,7 +80,9 @@ or_same : (fault : ListFault) (r s : Result Code ListFault) → r ≡ s → IsWa
 or_same fault r s e (inl h) = inl h
 or_same fault r s e (inr h) = inr (e ∙ h)
 
-pub line_fails : (version : Version) (bytes rest : List ℕ) (c : Code) (line : ℕ) (text after : List ℕ) (e : ListCode) (fault : ListFault) → Left version bytes rest c line → split 10 rest ≡ text ∷ split 10 after → FailsLine e (after_line c (row_of c.version true text) text) → (e ≡ NoMemory → IsWant fault) → ((e ≡ NoMemory → ⊥) → fault ≡ told line e)
+pub line_fails : (version : Version) (bytes rest : List ℕ) (c : Code) (line : ℕ) (text after : List ℕ) (e : ListCode) (fault : ListFault)
+    → Left version bytes rest c line → split 10 rest ≡ text ∷ split 10 after → FailsLine e (after_line c (row_of c.version true text) text)
+    → (e ≡ NoMemory → IsWant fault) → ((e ≡ NoMemory → ⊥) → fault ≡ told line e)
     → IsWant fault ⊎ (lines_read 2 (empty version) (split 10 bytes) ≡ Err fault)
 line_fails version bytes rest c line text after e fault l s h want tell =
     or_same fault _ _ (l.same ∙ line_on line c rest text after s) (line_fault (after_line c (row_of c.version true text) text) line (λ d. lines_read (suc line) d (split 10 after)) e fault h want tell)
@@ -86,7 +91,8 @@ line_fails version bytes rest c line text after e fault l s h want tell =
 last_is : (rest text : List ℕ) → split 10 rest ≡ text ∷ [] → text ≡ rest
 last_is rest text e = sym (ap (joined 10) e) ∙ joined-split 10 rest
 
-last_read : (version : Version) (bytes rest : List ℕ) (c : Code) (line : ℕ) (text : List ℕ) → Left version bytes rest c line → split 10 rest ≡ text ∷ [] → lines_read 2 (empty version) (split 10 bytes) ≡ cond (is_empty rest) (Ok c) (Err (told line BadLine))
+last_read : (version : Version) (bytes rest : List ℕ) (c : Code) (line : ℕ) (text : List ℕ) → Left version bytes rest c line → split 10 rest ≡ text ∷ []
+    → lines_read 2 (empty version) (split 10 bytes) ≡ cond (is_empty rest) (Ok c) (Err (told line BadLine))
 unfolding lines_read
 last_read version bytes rest c line text l e =
     l.same ∙ ap (lines_read line c) e ∙ ap (λ (t : List ℕ). lines_read line c (t ∷ [])) (last_is rest text e)
@@ -99,10 +105,12 @@ some_behind : (rest : List ℕ) → (length rest ≡ 0 → ⊥) → is_empty res
 some_behind [] h = absurd (h refl)
 some_behind (b ∷ rest) h = refl
 
-pub all_read : (version : Version) (bytes rest : List ℕ) (c : Code) (line : ℕ) (text : List ℕ) → Left version bytes rest c line → split 10 rest ≡ text ∷ [] → length rest ≡ 0 → lines_read 2 (empty version) (split 10 bytes) ≡ Ok c
+pub all_read : (version : Version) (bytes rest : List ℕ) (c : Code) (line : ℕ) (text : List ℕ) → Left version bytes rest c line → split 10 rest ≡ text ∷ []
+    → length rest ≡ 0 → lines_read 2 (empty version) (split 10 bytes) ≡ Ok c
 all_read version bytes rest c line text l e h = last_read version bytes rest c line text l e ∙ ap (λ t. cond t (Ok c) (Err (told line BadLine))) (none_behind rest h)
 
-pub unended : (version : Version) (bytes rest : List ℕ) (c : Code) (line : ℕ) (text : List ℕ) → Left version bytes rest c line → split 10 rest ≡ text ∷ [] → (length rest ≡ 0 → ⊥) → lines_read 2 (empty version) (split 10 bytes) ≡ Err (told line BadLine)
+pub unended : (version : Version) (bytes rest : List ℕ) (c : Code) (line : ℕ) (text : List ℕ) → Left version bytes rest c line → split 10 rest ≡ text ∷ []
+    → (length rest ≡ 0 → ⊥) → lines_read 2 (empty version) (split 10 bytes) ≡ Err (told line BadLine)
 unended version bytes rest c line text l e h = last_read version bytes rest c line text l e ∙ ap (λ t. cond t (Ok c) (Err (told line BadLine))) (some_behind rest h)
 
 -- ---- the first line
@@ -117,11 +125,15 @@ first_on bytes text after e =
     let s = split_some 10 after in
     ap parts_read e ∙ ap (λ ws. parts_read (text ∷ ws)) s.2 ∙ ap (λ ws. on 1 (after_head (first_row true text) text) (λ c. lines_read 2 c ws)) (sym s.2)
 
-pub first_fails : (bytes text after : List ℕ) (e : ListCode) (fault : ListFault) → split 10 bytes ≡ text ∷ split 10 after → after_head (first_row true text) text ≡ Err e → (e ≡ NoMemory → IsWant fault) → ((e ≡ NoMemory → ⊥) → fault ≡ told 1 e) → IsWant fault ⊎ (code_listed bytes ≡ Err fault)
+pub first_fails : (bytes text after : List ℕ) (e : ListCode) (fault : ListFault) → split 10 bytes ≡ text ∷ split 10 after
+    → after_head (first_row true text) text ≡ Err e → (e ≡ NoMemory → IsWant fault) → ((e ≡ NoMemory → ⊥) → fault ≡ told 1 e)
+    → IsWant fault ⊎ (code_listed bytes ≡ Err fault)
 first_fails bytes text after e fault s h want tell =
     or_same fault _ _ (first_on bytes text after s) (line_fault (after_head (first_row true text) text) 1 (λ c. lines_read 2 c (split 10 after)) e fault (inr h) want tell)
 
-pub first_goes : (version : Version) (bytes text after : List ℕ) (r : Result Code ListFault) → split 10 bytes ≡ text ∷ split 10 after → after_head (first_row true text) text ≡ Ok (empty version) → GivesOrWants r (lines_read 2 (empty version) (split 10 after)) → GivesOrWants r (code_listed bytes)
+pub first_goes : (version : Version) (bytes text after : List ℕ) (r : Result Code ListFault) → split 10 bytes ≡ text ∷ split 10 after
+    → after_head (first_row true text) text ≡ Ok (empty version) → GivesOrWants r (lines_read 2 (empty version) (split 10 after))
+    → GivesOrWants r (code_listed bytes)
 first_goes version bytes text after r s h g = subst (GivesOrWants r) (sym (first_on bytes text after s ∙ ap (λ o. on 1 o (λ c. lines_read 2 c (split 10 after))) h)) g
 
 -- ---- the two laws

@@ -20,10 +20,12 @@ first_later [] ds e h g = g
 first_later (c ∷ cs) ds e h g = inl (h.0, first_later cs ds e h.1 g)
 
 -- an expression of the variable's kind
-pub assigned_ok : (kinds : List Kind) (v n : ℕ) (items : List Item) (k : Kind) → slice_get kinds v ≡ Some k → AllHold (indexes items n ∷ typed kinds items k ∷ []) → AllHold (indexes items n ∷ assigned kinds v items ∷ [])
+pub assigned_ok : (kinds : List Kind) (v n : ℕ) (items : List Item) (k : Kind) → slice_get kinds v ≡ Some k
+    → AllHold (indexes items n ∷ typed kinds items k ∷ []) → AllHold (indexes items n ∷ assigned kinds v items ∷ [])
 assigned_ok kinds v n items k e h = (h.0, ((k, e, h.1.0), tt))
 
-pub assigned_err : (kinds : List Kind) (v n : ℕ) (items : List Item) (k : Kind) (f : ImageFault) → slice_get kinds v ≡ Some k → FirstFailedCheck (indexes items n ∷ typed kinds items k ∷ []) f → FirstFailedCheck (indexes items n ∷ assigned kinds v items ∷ []) f
+pub assigned_err : (kinds : List Kind) (v n : ℕ) (items : List Item) (k : Kind) (f : ImageFault) → slice_get kinds v ≡ Some k
+    → FirstFailedCheck (indexes items n ∷ typed kinds items k ∷ []) f → FirstFailedCheck (indexes items n ∷ assigned kinds v items ∷ []) f
 assigned_err kinds v n items k f e (inl (a, inl (b, c))) = absurd c
 assigned_err kinds v n items k f e (inl (a, inr (b, c))) = inl (a, inr (λ g. let same : Some g.0 ≡ Some k = sym g.1 ∙ e in let one : g.0 ≡ k = cc in b (subst (HasKind kinds items) one g.2), c))
 assigned_err kinds v n items k f e (inr h) = inr h

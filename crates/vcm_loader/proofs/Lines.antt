@@ -29,7 +29,8 @@ held_more wanted (y ∷ xs) (suc n) x h e g =
     subst (λ k. AllHold (flat_map wanted (take k (y ∷ xs)))) (sym next) (hold_append (wanted y) (flat_map wanted (take (n + 1) xs)) front (held_more wanted xs n x back e g))
 
 -- the first fault of one of them, where all before it have what they want
-pub first_of : {A : Type 0} (wanted : A → List Check) (xs : List A) (n : ℕ) (x : A) (e : ImageFault) → HeldUpTo wanted xs n → slice_get xs n ≡ Some x → FirstFailedCheck (wanted x) e → FirstFailedCheck (flat_map wanted xs) e
+pub first_of : {A : Type 0} (wanted : A → List Check) (xs : List A) (n : ℕ) (x : A) (e : ImageFault) → HeldUpTo wanted xs n → slice_get xs n ≡ Some x
+    → FirstFailedCheck (wanted x) e → FirstFailedCheck (flat_map wanted xs) e
 first_of wanted [] n x e h i f = absurd cc
 first_of wanted (y ∷ xs) zero x e h i f =
     let same : y ≡ x = cc in
@@ -45,7 +46,8 @@ of_line t s = op_checks t s.op
 abbrev pub KindsUpTo : List Variable → ℕ → List Kind → Type 0
 KindsUpTo vs n ks = ks ≡ map (λ (v : Variable). v.kind) (take n vs)
 
-pub kinds_more : (vs : List Variable) (n : ℕ) (ks more : List Kind) (v : Variable) (k : Kind) → KindsUpTo vs n ks → slice_get vs n ≡ Some v → k ≡ v.kind → more ≡ ks ++ k ∷ [] → KindsUpTo vs (n + 1) more
+pub kinds_more : (vs : List Variable) (n : ℕ) (ks more : List Kind) (v : Variable) (k : Kind) → KindsUpTo vs n ks → slice_get vs n ≡ Some v → k ≡ v.kind
+    → more ≡ ks ++ k ∷ [] → KindsUpTo vs (n + 1) more
 kinds_more vs n ks more v k h e same m = m ∙ ap (λ (j : Kind). ks ++ j ∷ []) same ∙ ap (λ l. l ++ v.kind ∷ []) h ∙ push vs n v e
   where
     push : (us : List Variable) (k : ℕ) (u : Variable) → slice_get us k ≡ Some u → map (λ (w : Variable). w.kind) (take k us) ++ u.kind ∷ [] ≡ map (λ (w : Variable). w.kind) (take (k + 1) us)
@@ -57,5 +59,6 @@ kinds_more vs n ks more v k h e same m = m ∙ ap (λ (j : Kind). ks ++ j ∷ []
 abbrev pub judged : Code → Counts
 judged c = counts_of c.tables (length c.statements)
 
-pub counts_same : (tables : Tables) (ks : List Kind) (f d s : ℕ) → ks ≡ kinds tables → f ≡ length tables.features → d ≡ length tables.frames → record { kinds = ks; features = f; frames = d; statements = s } ≡ counts_of tables s
+pub counts_same : (tables : Tables) (ks : List Kind) (f d s : ℕ) → ks ≡ kinds tables → f ≡ length tables.features → d ≡ length tables.frames
+    → record { kinds = ks; features = f; frames = d; statements = s } ≡ counts_of tables s
 counts_same tables ks f d s e g h = rw (e, g, h) refl

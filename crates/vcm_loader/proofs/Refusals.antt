@@ -49,7 +49,8 @@ only_memory c BadTarget v f = absurd (no_refusal c BadTarget v f)
 only_memory c BadOperand v f = absurd (no_refusal c BadOperand v f)
 only_memory c RunsOff v f = absurd (no_refusal c RunsOff v f)
 
-pub is_only : {X : Type 0} (bytes : List ℕ) (r : Result X ImageFault) → IfErr r (λ e. LoadFault (code_at bytes) e) → (c : Code) → FitsImage c → IsValid c → bytes ≡ spelling c → IfErr r (λ e. e ≡ NoMemory)
+pub is_only : {X : Type 0} (bytes : List ℕ) (r : Result X ImageFault) → IfErr r (λ e. LoadFault (code_at bytes) e) → (c : Code) → FitsImage c → IsValid c
+    → bytes ≡ spelling c → IfErr r (λ e. e ≡ NoMemory)
 is_only bytes (Ok x) h c f v e = tt
 is_only bytes (Err d) h c f v e = only_memory c d v (subst (λ r. LoadFault r d) (ap code_at e ∙ code_again c f) h)
 

@@ -52,7 +52,8 @@ typed_at ks (d ∷ es) zero e h f = let same : d ≡ e = cc in subst (λ (is : L
 typed_at ks (d ∷ es) (suc i) e h f = typed_at ks es i e h.1 f
 
 -- an expression of a valid code has a kind
-pub valid_typed : (c : Code) (n place : ℕ) (s : CodeStatement) (e : List Item) → IsValid c → slice_get c.statements n ≡ Some s → slice_get (expressions s.op) place ≡ Some e → (k : Kind) × HasKind (kinds c.tables) e k
+pub valid_typed : (c : Code) (n place : ℕ) (s : CodeStatement) (e : List Item) → IsValid c → slice_get c.statements n ≡ Some s
+    → slice_get (expressions s.op) place ≡ Some e → (k : Kind) × HasKind (kinds c.tables) e k
 valid_typed c n place s e h f g =
     typed_at (kinds c.tables) (expressions s.op) place e (expressions_typed c.tables (length c.statements) s.op (fits_at c.tables (length c.statements) c.statements n s h.fit f)) g
 

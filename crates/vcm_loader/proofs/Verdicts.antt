@@ -77,7 +77,8 @@ module _ {X : Type 0} (t : Counts) (whole o : Opened) (counter : ℕ) (verdict :
         counted = omega (arith, longer, j.counted);
         left = omega (arith, f.left, j.left);
         rest = j.rest ∙ f.whole;
-        found = subst (λ cs. IsVerdict cs verdict') (flat_map_more (of_line t) [] o.code.statements s ∙ ap (flat_map (of_line t)) (sym f.statements)) (found (flat_map (of_line t) o.code.statements) j.found);
+        found = subst (λ cs. IsVerdict cs verdict') (flat_map_more (of_line t) [] o.code.statements s ∙ ap (flat_map (of_line t)) (sym f.statements))
+            (found (flat_map (of_line t) o.code.statements) j.found);
         ended_so = subst (Tells ends') (sym (ap Ends f.statements ∙ ends_last o.code.statements s)) last;
       }
 

@@ -28,7 +28,8 @@ same_fault f g c l = ap (λ (x : FaultCode). record { code = x; line = f.line })
 
 pub refusal : (ss : List Statement) (f g : SourceFault) → IsRefused ss f → IsRefused ss g → f ≡ g
 refusal ss f g (in_order t) (in_order u) =
-    same_fault f g (only_order (take t.place ss) (slice_get ss t.place) f.code t.broken ∙ sym (only_order (take u.place ss) (slice_get ss u.place) g.code u.broken)) (one_line BreaksOrder order_line ss f.code g.code f.line g.line t u)
+    same_fault f g (only_order (take t.place ss) (slice_get ss t.place) f.code t.broken
+    ∙ sym (only_order (take u.place ss) (slice_get ss u.place) g.code u.broken)) (one_line BreaksOrder order_line ss f.code g.code f.line g.line t u)
 refusal ss f g (in_macros c t) (in_macros d u) = let both : Some f ≡ Some g = sym t ∙ u in cc
 refusal ss f g (in_order t) (in_macros d u) = absurd (clean_or_fault BreaksOrder order_line ss f.code f.line d t)
 refusal ss f g (in_macros c t) (in_order u) = absurd (clean_or_fault BreaksOrder order_line ss g.code g.line c u)

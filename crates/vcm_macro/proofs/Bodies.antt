@@ -65,12 +65,15 @@ stood_told call sc depth all i start now s f d lt e other t =
     (λ w. done_told call sc depth all i start now s f d lt e (rw (stood call sc depth now.calls s.line s.form other) w)) t
 
 -- a CALL
-pub called_more : (call : Caller) (sc : Scope) (depth : ℕ) (all : List Statement) (i : ℕ) (start now next : Done) (s : Statement) (name : List ℕ) (bs written : List Argument) → IsDone call sc depth all i start now
-    → i < length all → s ≡ get_or all i s → s.form ≡ Call name bs → written ≡ bs → Walked now next (call s.line depth now.calls name (map (put_argument sc) written)) → IsDone call sc depth all (i + 1) start next
+pub called_more : (call : Caller) (sc : Scope) (depth : ℕ) (all : List Statement) (i : ℕ) (start now next : Done) (s : Statement) (name : List ℕ)
+    (bs written : List Argument) → IsDone call sc depth all i start now
+    → i < length all → s ≡ get_or all i s → s.form ≡ Call name bs → written ≡ bs
+    → Walked now next (call s.line depth now.calls name (map (put_argument sc) written)) → IsDone call sc depth all (i + 1) start next
 called_more call sc depth all i start now next s name bs written d lt e is same w =
     done_more call sc depth all i start now next s d lt e (rw is (rw same at w))
 
-pub called_told : (call : Caller) (sc : Scope) (depth : ℕ) (all : List Statement) (i : ℕ) (start now : Done) (s : Statement) (name : List ℕ) (bs written : List Argument) (f : SourceFault) → IsDone call sc depth all i start now
+pub called_told : (call : Caller) (sc : Scope) (depth : ℕ) (all : List Statement) (i : ℕ) (start now : Done) (s : Statement) (name : List ℕ)
+    (bs written : List Argument) (f : SourceFault) → IsDone call sc depth all i start now
     → i < length all → s ≡ get_or all i s → s.form ≡ Call name bs → written ≡ bs → NoMemoryOr (TellsFirst now.count (call s.line depth now.calls name (map (put_argument sc) written))) f
     → NoMemoryOr (TellsFirst start.count (body_in call sc depth start.calls all)) f
 called_told call sc depth all i start now s name bs written f d lt e is same t =

@@ -92,7 +92,8 @@ call_told_so ms name i m line depth bs start entered sc ss f a e fine counted sc
     (told_more start (record { placed = start.placed; count = suc start.count; calls = suc start.calls }) (Calls line depth (Some m) bs ∷ []) _ f (entered_is start line depth m bs fine)
     (rw (same, scope, counted, d) at t))
 
-pub call_told : {A : Type 0} (r : Result A SourceFault) (ms : List Defined) (name : List ℕ) (i : ℕ) (m : Defined) (line depth : ℕ) (bs : List Argument) (start entered : Done) (sc : Scope) (ss : List Statement)
+pub call_told : {A : Type 0} (r : Result A SourceFault) (ms : List Defined) (name : List ℕ) (i : ℕ) (m : Defined) (line depth : ℕ) (bs : List Argument)
+    (start entered : Done) (sc : Scope) (ss : List Statement)
     → IsFoundAt ms name i → m ≡ get_or ms i m → IsFine start.count (Calls line depth (Some m) bs)
     → entered ≡ record { placed = start.placed; count = suc start.count; calls = suc start.calls }
     → sc ≡ record { parameters = m.parameters; arguments = bs; expansion = entered.calls }

@@ -35,5 +35,7 @@ name_stays bs n (Some name) = refl
 pub argument_stays : (ps : List Parameter) (bs : List Argument) (n : ℕ) (a : Argument) (e : Source) → ps ≡ [] → a.value ≡ Some e → list_all (λ p. is_here n p) (parts e) ≡ true
     → put_argument (record { parameters = ps; arguments = bs; expansion = n }) a ≡ a
 argument_stays ps bs n a e none value h =
-    let v : option_map (put (record { parameters = []; arguments = bs; expansion = n })) a.value ≡ a.value = ap (option_map (put (record { parameters = []; arguments = bs; expansion = n }))) value ∙ ap (λ s. Some s) (put_stays bs n e h) ∙ sym value in
-    rw none (ap (λ x. record { name = x; value = option_map (put (record { parameters = []; arguments = bs; expansion = n })) a.value }) (name_stays bs n a.name) ∙ ap (λ x. record { name = a.name; value = x }) v)
+    let v : option_map (put (record { parameters = []; arguments = bs; expansion = n })) a.value ≡ a.value =
+    ap (option_map (put (record { parameters = []; arguments = bs; expansion = n }))) value ∙ ap (λ s. Some s) (put_stays bs n e h) ∙ sym value in
+    rw none (ap (λ x. record { name = x; value = option_map (put (record { parameters = []; arguments = bs; expansion = n })) a.value })
+    (name_stays bs n a.name) ∙ ap (λ x. record { name = a.name; value = x }) v)

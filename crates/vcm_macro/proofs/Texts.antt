@@ -157,7 +157,8 @@ any_found (m ∷ ms) name = by_name (is_same m.name name) (any_found ms name)
     by_name true ih = refl
     by_name false ih = ih
 
-pub defined_is : (o : Option ℕ) (ms : List Defined) (name : List ℕ) → MatchOption o (found (reverse ms) name ≡ None) (λ i. IsFoundAt ms name i) → is_some o ≡ list_any (λ m. is_same m.name name) (reverse ms)
+pub defined_is : (o : Option ℕ) (ms : List Defined) (name : List ℕ) → MatchOption o (found (reverse ms) name ≡ None) (λ i. IsFoundAt ms name i)
+    → is_some o ≡ list_any (λ m. is_same m.name name) (reverse ms)
 defined_is None ms name e = sym (ap is_some e) ∙ any_found (reverse ms) name
 defined_is (Some i) ms name f = sym (ap is_some f.found) ∙ any_found (reverse ms) name
 

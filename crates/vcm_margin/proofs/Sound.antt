@@ -89,7 +89,8 @@ module _ (part : Workpiece) (s : Settings) (from centre : ℕ → ℤ) (d : Axis
   back_never : (t : ℕ) → Never (go_back t)
   back_never t =
       never_after (demand (is_within part.bounds (back_of s centre d t)) (Travel Retract)) _ (demanded (is_within part.bounds (back_of s centre d t)) (Travel Retract) (λ e. cc)) (λ a.
-      never_after (free_of Retract (later_contact part (down_of s centre d t) (back_of s centre d t))) (λ _. gone_back t) (free_never Retract (later_contact part (down_of s centre d t) (back_of s centre d t)))
+      never_after (free_of Retract (later_contact part (down_of s centre d t) (back_of s centre d t))) (λ _. gone_back t)
+      (free_never Retract (later_contact part (down_of s centre d t) (back_of s centre d t)))
       (λ b. given))
 
   down_never : Never go_down
@@ -174,13 +175,15 @@ carried_out_fine n setup w (Assign v x) t = gives (variable_sound n w v x t)
 carried_out_fine n setup w (Feat i x y z d) t = gives (same refl refl refl t)
 carried_out_fine n setup w (PtMeas i x y z given) t =
     fine_after n (measured_direction w i given) _ (direction_never w i given) (λ d. fine_after n (machine_point w x y z) _ (point_never (to_machine w.frame (coordinate (point x y z)))) (λ nominal.
-    fine_after n (touch setup.part w.settings (coordinate w.position) (coordinate nominal) (direction w.frame.turn d)) _ (touch_never setup.part w.settings (coordinate w.position) (coordinate nominal) (direction w.frame.turn d)) (λ touched.
+    fine_after n (touch setup.part w.settings (coordinate w.position) (coordinate nominal) (direction w.frame.turn d)) _
+    (touch_never setup.part w.settings (coordinate w.position) (coordinate nominal) (direction w.frame.turn d)) (λ touched.
     fine_after n (point_at (to_part w.frame (coordinate touched.at))) _ (point_never (to_part w.frame (coordinate touched.at))) (λ at. gives (same refl refl (length-set w.actual i _) t)))))
 carried_out_fine n setup w (SnSet which z) t =
     fine_after n (demand (is_allowed which z) BadSetting) (λ _. Gives (record w { settings = with_setting w.settings which (unsigned_abs z) }))
     (demanded (is_allowed which z) BadSetting (λ e. cc)) (λ ok. gives (same refl refl refl t))
 carried_out_fine n setup w (Trans i x y z) t =
-    fine_after n (machine_point w x y z) _ (point_never (to_machine w.frame (coordinate (point x y z)))) (λ origin. gives (with_frame_keeps n w i (record (w.frame) { origin = origin }) t.turns.current t))
+    fine_after n (machine_point w x y z) _ (point_never (to_machine w.frame (coordinate (point x y z))))
+    (λ origin. gives (with_frame_keeps n w i (record (w.frame) { origin = origin }) t.turns.current t))
 carried_out_fine n setup w (Rotate i axis q) t =
     gives (with_frame_keeps n w i (turned_frame w.frame axis q) (quarters_turn w.frame.turn (axis_number axis) (quarters_number q) t.turns.current) t)
 carried_out_fine n setup w (Recall i) t = recall_fine n w (Undefined (missing.Frame i)) i (λ e. cc) t

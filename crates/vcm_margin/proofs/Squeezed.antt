@@ -89,7 +89,8 @@ pub move_narrower : (part : Workpiece) (h i : ℕ) → IsValid (with_tip h part)
 move_narrower part h i narrow wide le phase x s y l e = by (is_within part.bounds y) refl (contact (with_tip i part) s y) (contact_is (with_tip i part) wide s y) e
   where
     clear : IsContact (with_tip i part) s y None → contact (with_tip h part) x y ≡ None
-    clear c = sym (contact_unique (with_tip h part) narrow x y None (clear_narrower h i x y s y l (record { low = λ k b. omega (arith, ints, le); high = λ k b. omega (arith, ints, le) }) part.blocks c))
+    clear c = sym (contact_unique (with_tip h part) narrow x y None
+        (clear_narrower h i x y s y l (record { low = λ k b. omega (arith, ints, le); high = λ k b. omega (arith, ints, le) }) part.blocks c))
 
     by : (b : Bool) → is_within part.bounds y ≡ b → (o : Option Hit) → IsContact (with_tip i part) s y o
         → demand b (Travel phase) >>= (λ _. free_of phase o) ≡ Gives tt → free_move phase (with_tip h part) x y ≡ Gives tt

@@ -169,7 +169,8 @@ module _ (part : Workpiece) (valid : IsValid part) (c : Code) (ok : codes.IsVali
       let x : reached part c (suc k) ≡ code_step (setup_of part c.tables) c.statements m = reached_next part c k in
       let y : reached (with_tip h part) c (suc k) ≡ go h (moved_to b m) = reached_next (with_tip h part) c k ∙ ap (go h) f.first in
       let z : reached (with_tip i part) c (suc k) ≡ go i (moved_to d m) = reached_next (with_tip i part) c k ∙ ap (go i) (shows part (with_tip i part) c n g k (omega (arith, l))) in
-      let a = subst (IsAlike (measures c m) (code_step (setup_of part c.tables) c.statements m)) z (subst (λ p. IsAlike (measures c m) p (reached (with_tip i part) c (suc k))) x (g k (omega (arith, l)))) in
+      let a = subst (IsAlike (measures c m) (code_step (setup_of part c.tables) c.statements m)) z
+      (subst (λ p. IsAlike (measures c m) p (reached (with_tip i part) c (suc k))) x (g k (omega (arith, l)))) in
       let fair = subst (λ (p : CodeState). NoneOrEnd p.world.stop) x (comes_before part c n comes (suc k) l) in
       let s = step_follows part c.tables h i le more valid vh vi c.statements m (along_sound part c k) (rests_always (setup_of part c.tables) valid c.statements k).back
       b d f.lies (measured_there c ok m.next) a fair in

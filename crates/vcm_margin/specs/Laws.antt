@@ -26,7 +26,8 @@ ShowTheSame a b = b ≡ moved_to b.world.position a
 
 -- where a code goes alike beside two workpieces, its states there are the same but for the place of the probe, at the start and behind each step
 abbrev pub AlikeRunsShowTheSame : Type 0
-AlikeRunsShowTheSame = (part other : Workpiece) (c : Code) (n : ℕ) → GoAlike part other c n → (k : ℕ) → k ≤ n → ShowTheSame (reached part c k) (reached other c k)
+AlikeRunsShowTheSame = (part other : Workpiece) (c : Code) (n : ℕ) → GoAlike part other c n → (k : ℕ) → k ≤ n
+    → ShowTheSame (reached part c k) (reached other c k)
 
 -- there is no stop, or it is the program's end
 abbrev pub NoneOrEnd : Option StopPlace → Type 0

@@ -1,5 +1,6 @@
 -- The list of all strips, one strip after the other.
-use Rattle.std.proofs.Common.{◌≡◌, ℕ, zero, suc, ℤ, ◌+◌, ◌-◌, ◌*◌, ◌<◌, ◌≤◌, Bool, true, false, List, [], ◌∷◌, ◌++◌, length, drop, get_or, Some, None, slice_get, All, refl, sym, ap, subst, ◌∙◌, arith, inl, inr, append_assoc, map, drop-cons, length-append, add-one}
+use Rattle.std.proofs.Common.{◌≡◌, ℕ, zero, suc, ℤ, ◌+◌, ◌-◌, ◌*◌, ◌<◌, ◌≤◌, Bool, true, false, List, [], ◌∷◌, ◌++◌, length, drop, get_or, Some, None}
+use Rattle.std.proofs.Common.{slice_get, All, refl, sym, ap, subst, ◌∙◌, arith, inl, inr, append_assoc, map, drop-cons, length-append, add-one}
 use Rattle.std.proofs.Math.ListN.{get_or-append, drop_of_length-le}
 use Rattle.std.proofs.Math.Seq.{get_or-append_seam}
 use Rattle.std.proofs.lemmas.List.{get_or-append-add, append-nil, length-map}

@@ -57,7 +57,8 @@ pub judged_fault : (all reach : List Label) (b : Block) (n : Node) (rest : Block
     → NoMemoryOr (IsFirst all (node_jumps n reach)) f → NoMemoryOr (IsFirst all (jumps_in b reach)) f
 judged_fault all reach b n rest f i (inl e) = inl e
 judged_fault all reach b n rest f i (inr p) =
-    inr (subst (λ js. IsFirst all js f) (sym i.cut) (first_behind all i.before (node_jumps n reach ++ jumps_in rest reach) f i.reached (first_front all (node_jumps n reach) (jumps_in rest reach) f p)))
+    inr (subst (λ js. IsFirst all js f) (sym i.cut)
+    (first_behind all i.before (node_jumps n reach ++ jumps_in rest reach) f i.reached (first_front all (node_jumps n reach) (jumps_in rest reach) f p)))
 
 pub judged_all : (all reach : List Label) (b : Block) → IsJudged all reach b done → AllReach all (jumps_in b reach)
 judged_all all reach b i = subst (AllReach all) (sym (i.cut ∙ append-nil i.before)) i.reached
@@ -111,7 +112,8 @@ same_break all before other j UnknownName b = b
 same_break all before other j JumpInward b = b
 same_break all before other j _ b = b
 
-reach_front : (all : List Label) (js rest : List Jump) → AllReach all js → (k : ℕ) → k < length js → (before : List Jump) (code : FaultCode) → BreaksJumps all before (slice_get (js ++ rest) k) code → ⊥
+reach_front : (all : List Label) (js rest : List Jump) → AllReach all js → (k : ℕ) → k < length js → (before : List Jump) (code : FaultCode)
+    → BreaksJumps all before (slice_get (js ++ rest) k) code → ⊥
 reach_front all [] rest h k l before code b = absurd (omega (arith, l))
 reach_front all (j ∷ js) rest h zero l before code b = unbroken all before j code h.0 h.1 b
 reach_front all (j ∷ js) rest h (suc k) l before code b = reach_front all js rest h.2 k (omega (arith, l)) before code b

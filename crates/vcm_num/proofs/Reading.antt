@@ -1,5 +1,6 @@
 -- Lemmas on the texts of numbers.
-use Rattle.std.proofs.Common.{◌≡◌, ◌≢◌, ℕ, suc, ◌+◌, ◌-◌, ◌*◌, ◌^◌, ◌<◌, ◌≤◌, Bool, true, false, ◌&&◌, ◌==◌, List, [], ◌∷◌, ◌++◌, length, drop, get_or, Option, Some, None, Ok, Err, refl, sym, ap, ◌∙◌, subst, arith}
+use Rattle.std.proofs.Common.{◌≡◌, ◌≢◌, ℕ, suc, ◌+◌, ◌-◌, ◌*◌, ◌^◌, ◌<◌, ◌≤◌, Bool, true, false, ◌&&◌, ◌==◌, List, [], ◌∷◌, ◌++◌, length, drop, get_or, Option}
+use Rattle.std.proofs.Common.{Some, None, Ok, Err, refl, sym, ap, ◌∙◌, subst, arith}
 use Rattle.std.specs.List.{list_all}
 use Rattle.std.specs.Char.{is_ascii_digit}
 use Rattle.std.proofs.Math.Nat.{pow-suc}
@@ -130,7 +131,8 @@ module _ (bytes w r : List ℕ) (cut : after_sign bytes ≡ w ++ r) (digits : Al
     pub reads_large : list_all (λ d. d == 48) (drop 3 ds) ≡ true → ¬ (digits_value (w ++ three_decimals ds) < 2 ^ 63) → Reads bytes (Err TooLarge)
     reads_large h large = (record { whole = w; decimals = Some ds }, spells_decimals ds point decimals some, h, omega arith)
 
-    pub reads_thousandths : list_all (λ d. d == 48) (drop 3 ds) ≡ true → (n : ℕ) → digits_value (w ++ three_decimals ds) < 2 ^ 63 → n ≡ digits_value (w ++ three_decimals ds) → Reads bytes (Ok (Thousandths (signed (has_minus bytes) n)))
+    pub reads_thousandths : list_all (λ d. d == 48) (drop 3 ds) ≡ true → (n : ℕ) → digits_value (w ++ three_decimals ds) < 2 ^ 63
+        → n ≡ digits_value (w ++ three_decimals ds) → Reads bytes (Ok (Thousandths (signed (has_minus bytes) n)))
     reads_thousandths h n small same =
         (record { whole = w; decimals = Some ds }, spells_decimals ds point decimals some, h, small, ap (λ m. Thousandths (signed (has_minus bytes) m)) same)
 

@@ -1,4 +1,4 @@
-//! The limits of programs, of workpieces and of runs, by which definitions name them.
+//! The limits of programs, of workpieces and of runs, as definitions name them.
 
 /// The most statements of a program: as it is read, with its macros expanded, and as a code.
 pub const MOST_STATEMENTS: usize = 20_000;

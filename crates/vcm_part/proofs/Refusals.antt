@@ -10,7 +10,8 @@ use Rattle.vcm_num.specs.Point.{coordinate, is_below, is_near}
 use Rattle.vcm_part.specs.declared.fault.PartCode.TheVariants.{NoMemory, OutOfRange}
 use Rattle.vcm_part.specs.declared.fault.PartFault.{PartFault}
 use Rattle.vcm_part.specs.Faults.{fault}
-use Rattle.vcm_part.specs.PartFile.{near_point, point_at, point_of, small_length, tip_of, tip_at, are_tables, count, table_rows, rows_of, block_in, block_of, blocks_from, blocks_at, is_clear, bounds_of, part_of_table, part_of_document, part_of}
+use Rattle.vcm_part.specs.PartFile.{near_point, point_at, point_of, small_length, tip_of, tip_at, are_tables, count, table_rows, rows_of, block_in, block_of}
+use Rattle.vcm_part.specs.PartFile.{blocks_from, blocks_at, is_clear, bounds_of, part_of_table, part_of_document, part_of}
 use Rattle.vcm_part.proofs.Steps.{TakesNone, then_none, if_none, none_of}
 
 near_none : (number : ℕ) (o : Option Point) → TakesNone (near_point number o)

@@ -28,7 +28,8 @@ pub goes_on : (front : List Block3) (vs : List Value) (i : ℕ) (v : Value) (b :
 unfolding blocks_from
 goes_on front vs i v b total lt at h so_far =
     let e : items_view (drop i vs) ≡ item (view v) (items_view (drop (i + 1) vs)) = rw (items_view-drop vs i v lt, at) refl in
-    let one : with_front front (blocks_from (i + 1) (items_view (drop i vs))) ≡ with_front (front ++ b ∷ []) (blocks_from (i + 1 + 1) (items_view (drop (i + 1) vs))) = rw (e, h) (regroup front b (blocks_from (i + 1 + 1) (items_view (drop (i + 1) vs)))) in
+    let one : with_front front (blocks_from (i + 1) (items_view (drop i vs))) ≡ with_front (front ++ b ∷ [])
+    (blocks_from (i + 1 + 1) (items_view (drop (i + 1) vs))) = rw (e, h) (regroup front b (blocks_from (i + 1 + 1) (items_view (drop (i + 1) vs)))) in
     sym one ∙ so_far
 
 pub ends : (e : NotRead) (front : List Block3) (vs : List Value) (i : ℕ) (v : Value) (total : Result (List Block3) PartFault) → i < length vs → get_or vs i v ≡ v → Fails e (block_of (i + 1) (view v))
@@ -40,7 +41,8 @@ ends (not_read.Fault f) front vs i v total lt at h so_far =
     let one : with_front front (blocks_from (i + 1) (items_view (drop i vs))) ≡ Err f = rw (e, h) refl in
     sym so_far ∙ one
 
-pub is_done : (front : List Block3) (vs : List Value) (i : ℕ) (total : Result (List Block3) PartFault) → length vs ≤ i → with_front front (blocks_from (i + 1) (items_view (drop i vs))) ≡ total → total ≡ Ok front
+pub is_done : (front : List Block3) (vs : List Value) (i : ℕ) (total : Result (List Block3) PartFault) → length vs ≤ i
+    → with_front front (blocks_from (i + 1) (items_view (drop i vs))) ≡ total → total ≡ Ok front
 unfolding blocks_from
 is_done front vs i total le so_far =
     let one : with_front front (blocks_from (i + 1) (items_view (drop i vs))) ≡ Ok front = rw (drop_all i vs le) (ap Ok (append-nil front)) in

@@ -17,7 +17,8 @@ use Rattle.vcm_part.specs.declared.fault.PartCode.TheVariants.{NotToml, BadKey, 
 use Rattle.vcm_part.specs.declared.fault.PartFault.{PartFault}
 use Rattle.vcm_spec.specs.Results.{◌>>=◌}
 use Rattle.vcm_part.specs.Faults.{fault}
-use Rattle.vcm_part.specs.PartFile.{near_point, point_at, point_of, small_length, tip_of, tip_at, count, rows_of, block_in, block_of, blocks_from, blocks_at, is_clear, assembled, bounds_of, part_of_table, part_of_document, part_of}
+use Rattle.vcm_part.specs.PartFile.{near_point, point_at, point_of, small_length, tip_of, tip_at, count, rows_of, block_in, block_of, blocks_from, blocks_at}
+use Rattle.vcm_part.specs.PartFile.{is_clear, assembled, bounds_of, part_of_table, part_of_document, part_of}
 use Rattle.vcm_part.proofs.Steps.{both, kept}
 
 near_of : (number : ℕ) (o : Option Point) (p : Point) → near_point number o ≡ Ok p → is_near p ≡ true
@@ -101,7 +102,8 @@ table_valid t part e =
     let high = both (point_at (codes "high") 0 t) _ part low.second in
     let home = both (point_at (codes "home") 0 t) _ part high.second in
     let tip = both (tip_at t) _ part home.second in
-    let blocks = both_if (is_below (coordinate low.between) (coordinate high.between)) (blocks_at t >>= assembled (bounds_of low.between high.between home.between tip.between)) (fault LowAboveHigh 0) part tip.second in
+    let blocks = both_if (is_below (coordinate low.between) (coordinate high.between))
+    (blocks_at t >>= assembled (bounds_of low.between high.between home.between tip.between)) (fault LowAboveHigh 0) part tip.second in
     let some = both (blocks_at t) _ part blocks in
     let few = few_at t some.between some.first in
     let bounds = bounds_of low.between high.between home.between tip.between in

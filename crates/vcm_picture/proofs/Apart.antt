@@ -1,5 +1,6 @@
 -- Names of a view stand apart.
-use Rattle.std.proofs.Common.{◌≡◌, ◌∙◌, sym, ap, subst, refl, ℕ, ℤ, pos, ◌+ℤ◌, ◌*ℤ◌, Bool, true, false, cond, List, [], ◌∷◌, ◌++◌, map, length, decimal, find, append_assoc, append-nil, option_to_list, IfSome, Some, None, if◌then◌else◌}
+use Rattle.std.proofs.Common.{◌≡◌, ◌∙◌, sym, ap, subst, refl, ℕ, ℤ, pos, ◌+ℤ◌, ◌*ℤ◌, Bool, true, false, cond, List, [], ◌∷◌, ◌++◌, map, length, decimal, find}
+use Rattle.std.proofs.Common.{append_assoc, append-nil, option_to_list, IfSome, Some, None, if◌then◌else◌}
 use Rattle.std.specs.Prelude.{Option}
 use Rattle.vcm_num.specs.declared.point.Point.{Point}
 use Rattle.vcm_report.specs.Printed.{name_at}
@@ -14,7 +15,8 @@ use Rattle.vcm_picture.specs.declared.names.Named.{Named}
 use Rattle.vcm_picture.specs.Sights.{Scope}
 use Rattle.vcm_picture.specs.Drawing.{names_beside}
 use Rattle.vcm_picture.specs.Laws.{StandApart, NamesAreApart}
-use Rattle.vcm_picture.specs.Names.{is_free, sides, beside, some_contact_box, is_at, end_box, first_names, with_first, all_figure_boxes, is_named, feature_box, Naming, with_box, with_touched, with_mark, with_all_touched}
+use Rattle.vcm_picture.specs.Names.{is_free, sides, beside, some_contact_box, is_at, end_box, first_names, with_first, all_figure_boxes, is_named, feature_box}
+use Rattle.vcm_picture.specs.Names.{Naming, with_box, with_touched, with_mark, with_all_touched}
 use Rattle.vcm_picture.specs.View.{spot_of}
 
 -- what is known of a box that there may be

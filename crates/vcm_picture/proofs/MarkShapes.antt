@@ -1,5 +1,6 @@
 -- The marks that the shapes of a view tell.
-use Rattle.std.proofs.Common.{◌≡◌, ◌∙◌, sym, ap, ap₂, refl, ℕ, ℤ, Bool, true, false, cond, List, [], ◌∷◌, ◌++◌, ◌-◌, map, filter, flat_map, append_assoc, append-nil, option_to_list, option_map, slice_get, Some, None, if◌then◌else◌}
+use Rattle.std.proofs.Common.{◌≡◌, ◌∙◌, sym, ap, ap₂, refl, ℕ, ℤ, Bool, true, false, cond, List, [], ◌∷◌, ◌++◌, ◌-◌, map, filter, flat_map, append_assoc}
+use Rattle.std.proofs.Common.{append-nil, option_to_list, option_map, slice_get, Some, None, if◌then◌else◌}
 use Rattle.std.specs.Prelude.{Option}
 use Rattle.vcm_num.specs.declared.point.Point.{Point}
 use Rattle.vcm_spec.specs.declared.workpiece.Bounds.{Bounds}

@@ -68,5 +68,6 @@ pub named_above : beside scope (spot (pos 100) (pos 100)) (pos 3) [] ≡ Some (b
 named_above = refl
 
 -- where that is taken it stands below
-pub named_below : beside scope (spot (pos 100) (pos 100)) (pos 3) (boxed (pos 140) (pos 35) (pos 90) (pos 45) ∷ []) ≡ Some (boxed (pos 140) (pos 120) (pos 90) (pos 45))
+pub named_below : beside scope (spot (pos 100) (pos 100)) (pos 3) (boxed (pos 140) (pos 35) (pos 90) (pos 45) ∷ []) ≡ Some
+    (boxed (pos 140) (pos 120) (pos 90) (pos 45))
 named_below = refl

@@ -130,5 +130,6 @@ same_line : (o : Option CodeStatement) (s t : CodeStatement) → o ≡ Some s �
 same_line o s t e f = cc
 
 -- the line that was written is that of the statement at this place
-pub wrote_listed : {A E : Type 0} (a b : Option (List ℕ)) (n : ℕ) (t s : CodeStatement) (r : Result A E) (o : Option CodeStatement) → o ≡ Some t → o ≡ Some s → Wrote a b (statement_bytes n t) r → Wrote a b (listed (rows.Numbered n s)) r
+pub wrote_listed : {A E : Type 0} (a b : Option (List ℕ)) (n : ℕ) (t s : CodeStatement) (r : Result A E) (o : Option CodeStatement) → o ≡ Some t → o ≡ Some s
+    → Wrote a b (statement_bytes n t) r → Wrote a b (listed (rows.Numbered n s)) r
 wrote_listed a b n t s r o e f h = subst (λ l. Wrote a b l r) (ap (λ x. statement_bytes n x) (same_line o t s e f) ∙ line_is n s) h

@@ -13,7 +13,8 @@ unfolding listed
 first_line f k x xs = ap (λ m. listed (f k x) ++ lines f m xs) (let e : suc k ≡ k + 1 = omega arith in e)
 
 -- the line at a place, and those behind it
-pub lines_at : {A : Type 0} (f : ℕ → A → ListRow) (i k : ℕ) (xs : List A) → i < length xs → (x : A) × (slice_get xs i ≡ Some x) × (lines f k (drop i xs) ≡ listed (f k x) ++ lines f (k + 1) (drop (i + 1) xs))
+pub lines_at : {A : Type 0} (f : ℕ → A → ListRow) (i k : ℕ) (xs : List A) → i < length xs → (x : A) × (slice_get xs i ≡ Some x)
+    × (lines f k (drop i xs) ≡ listed (f k x) ++ lines f (k + 1) (drop (i + 1) xs))
 lines_at f i k [] l = absurd (omega arith)
 lines_at f zero k (x ∷ xs) l = (x, refl, first_line f k x xs)
 lines_at f (suc i) k (x ∷ xs) l =
@@ -28,13 +29,16 @@ bytes_at : {A : Type 0} (f : ℕ → A → ListRow) (i : ℕ) (xs : List A) (x y
 bytes_at f i xs x y bytes g h e = e ∙ ap (λ z. listed (f i z)) (same (slice_get xs i) x y g h)
 
 -- the line at a place was written
-pub line_took : {A : Type 0} (f : ℕ → A → ListRow) (i : ℕ) (xs : List A) (x : A) (bytes : List ℕ) (a b c : Option (List ℕ)) (all : List ℕ) → i < length xs → slice_get xs i ≡ Some x → bytes ≡ listed (f i x) → TookUpTo a b (lines f i (drop i xs)) all → Appends b c bytes → TookUpTo a c (lines f (i + 1) (drop (i + 1) xs)) all
+pub line_took : {A : Type 0} (f : ℕ → A → ListRow) (i : ℕ) (xs : List A) (x : A) (bytes : List ℕ) (a b c : Option (List ℕ)) (all : List ℕ) → i < length xs
+    → slice_get xs i ≡ Some x → bytes ≡ listed (f i x) → TookUpTo a b (lines f i (drop i xs)) all → Appends b c bytes
+    → TookUpTo a c (lines f (i + 1) (drop (i + 1) xs)) all
 line_took f i xs x bytes a b c all l g e t h =
     let r = lines_at f i i xs l in
     took_more a b c (listed (f i r.0)) (lines f (i + 1) (drop (i + 1) xs)) (lines f i (drop i xs)) all r.2 t (subst (λ z. Appends b c z) (bytes_at f i xs x r.0 bytes g r.1 e) h)
 
 -- the writing of the line at a place failed
-pub line_front : {A : Type 0} (f : ℕ → A → ListRow) (i : ℕ) (xs : List A) (x : A) (bytes : List ℕ) (a b c : Option (List ℕ)) (all : List ℕ) → i < length xs → slice_get xs i ≡ Some x → bytes ≡ listed (f i x) → TookUpTo a b (lines f i (drop i xs)) all → AppendsFront b c bytes → AppendsFront a c all
+pub line_front : {A : Type 0} (f : ℕ → A → ListRow) (i : ℕ) (xs : List A) (x : A) (bytes : List ℕ) (a b c : Option (List ℕ)) (all : List ℕ) → i < length xs
+    → slice_get xs i ≡ Some x → bytes ≡ listed (f i x) → TookUpTo a b (lines f i (drop i xs)) all → AppendsFront b c bytes → AppendsFront a c all
 line_front f i xs x bytes a b c all l g e t h =
     let r = lines_at f i i xs l in
     took_front a b c (listed (f i r.0)) (lines f (i + 1) (drop (i + 1) xs)) (lines f i (drop i xs)) all r.2 t (subst (λ z. AppendsFront b c z) (bytes_at f i xs x r.0 bytes g r.1 e) h)

@@ -43,20 +43,24 @@ fault_variables a b d c h v =
     front_then a b d (heading c.version) (from_variables c) (listing c) (listing_is c) h
     (front_first b d (lines Variable 0 c.tables.variables) (from_features c) (from_variables c) refl v)
 
-pub fault_features : (a b d e : Option (List ℕ)) (c : Code) → Appends a b (heading c.version) → Appends b d (lines Variable 0 c.tables.variables) → AppendsFront d e (lines Feature 0 c.tables.features) → AppendsFront a e (listing c)
+pub fault_features : (a b d e : Option (List ℕ)) (c : Code) → Appends a b (heading c.version) → Appends b d (lines Variable 0 c.tables.variables)
+    → AppendsFront d e (lines Feature 0 c.tables.features) → AppendsFront a e (listing c)
 fault_features a b d e c h v f =
     front_then a b e (heading c.version) (from_variables c) (listing c) (listing_is c) h
     (front_then b d e (lines Variable 0 c.tables.variables) (from_features c) (from_variables c) refl v
     (front_first d e (lines Feature 0 c.tables.features) (from_frames c) (from_features c) refl f))
 
-pub fault_frames : (a b d e g : Option (List ℕ)) (c : Code) → Appends a b (heading c.version) → Appends b d (lines Variable 0 c.tables.variables) → Appends d e (lines Feature 0 c.tables.features) → AppendsFront e g (lines Frame 0 c.tables.frames) → AppendsFront a g (listing c)
+pub fault_frames : (a b d e g : Option (List ℕ)) (c : Code) → Appends a b (heading c.version) → Appends b d (lines Variable 0 c.tables.variables)
+    → Appends d e (lines Feature 0 c.tables.features) → AppendsFront e g (lines Frame 0 c.tables.frames) → AppendsFront a g (listing c)
 fault_frames a b d e g c h v f m =
     front_then a b g (heading c.version) (from_variables c) (listing c) (listing_is c) h
     (front_then b d g (lines Variable 0 c.tables.variables) (from_features c) (from_variables c) refl v
     (front_then d e g (lines Feature 0 c.tables.features) (from_frames c) (from_features c) refl f
     (front_first e g (lines Frame 0 c.tables.frames) (lines Numbered 0 c.statements) (from_frames c) refl m)))
 
-pub wrote_whole : {A E : Type 0} (a b d e g k : Option (List ℕ)) (c : Code) (r : Result A E) → Appends a b (heading c.version) → Appends b d (lines Variable 0 c.tables.variables) → Appends d e (lines Feature 0 c.tables.features) → Appends e g (lines Frame 0 c.tables.frames) → Wrote g k (lines Numbered 0 c.statements) r → Wrote a k (listing c) r
+pub wrote_whole : {A E : Type 0} (a b d e g k : Option (List ℕ)) (c : Code) (r : Result A E) → Appends a b (heading c.version)
+    → Appends b d (lines Variable 0 c.tables.variables) → Appends d e (lines Feature 0 c.tables.features) → Appends e g (lines Frame 0 c.tables.frames)
+    → Wrote g k (lines Numbered 0 c.statements) r → Wrote a k (listing c) r
 wrote_whole a b d e g k c r h v f m s =
     wrote_then a b k (heading c.version) (from_variables c) (listing c) r (listing_is c) h
     (wrote_then b d k (lines Variable 0 c.tables.variables) (from_features c) (from_variables c) r refl v

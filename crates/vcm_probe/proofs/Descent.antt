@@ -1,5 +1,6 @@
 -- A touch, line by line, and the first face on the way down.
-use Rattle.std.proofs.Common.{◌≡◌, ℕ, zero, suc, ◌+◌, ◌*◌, ◌≤◌, ◌==◌, ℤ, pos, negsuc, ◌+ℤ◌, ◌*ℤ◌, Bool, true, false, ◌&&◌, cond, List, Option, Some, None, Result, Ok, Err, refl, sym, ap, ◌∙◌, arith, inl, inr}
+use Rattle.std.proofs.Common.{◌≡◌, ℕ, zero, suc, ◌+◌, ◌*◌, ◌≤◌, ◌==◌, ℤ, pos, negsuc, ◌+ℤ◌, ◌*ℤ◌, Bool, true, false, ◌&&◌, cond, List, Option, Some, None}
+use Rattle.std.proofs.Common.{Result, Ok, Err, refl, sym, ap, ◌∙◌, arith, inl, inr}
 use Rattle.std.specs.Prelude.{IsTrue, not, neg_ℤ, if◌then◌else◌}
 use Rattle.std.proofs.lemmas.Bool.{cases_order, and_from}
 use Rattle.std.proofs.lemmas.Int.{ints}
@@ -222,12 +223,15 @@ module _ (part : Workpiece) (s : Settings) (from nominal : ℕ → ℤ) (d : Axi
         pub missed : IsFirstFace part.bounds.tip part.blocks (coordinate approach) (opposite d) length None → answer ≡ Stops Missed
         missed none = on_descent ∙ ap (λ o. found o Missed >>= retreats) (none_is_first part.bounds.tip part.blocks high (opposite d) length (rw h.approach_is at none))
 
-        pub touched : (face : Face) → IsFace part.bounds.tip part.blocks (coordinate approach) (opposite d) length face → (at : Point) → at ≡ point_of (along (coordinate approach) (opposite d) face.distance) →
+        pub touched : (face : Face) → IsFace part.bounds.tip part.blocks (coordinate approach) (opposite d) length face → (at : Point)
+            → at ≡ point_of (along (coordinate approach) (opposite d) face.distance) →
             answer ≡ retreat part at d s.retract
         touched face is at here =
             let seen : IsFace part.bounds.tip part.blocks (coordinate (point_of high)) (opposite d) length face = rw h.approach_is at is in
             let there : at ≡ point_of (down_of s centre d face.distance) = rw h.approach_is at here in
-            on_descent ∙ ap (λ o. found o Missed >>= retreats) (face_is_first part.bounds.tip part.blocks high (opposite d) length face (face_at part.bounds.tip part.blocks high (opposite d) length face seen))
+            on_descent ∙ ap (λ o. found o Missed >>= retreats)
+            (face_is_first part.bounds.tip part.blocks high (opposite d) length face
+            (face_at part.bounds.tip part.blocks high (opposite d) length face seen))
             ∙ ap (λ p. retreat part p d s.retract) (sym there)
 
 -- what answers one of two equal outcomes answers the other
@@ -246,7 +250,8 @@ pub touch_is_near : (approach end at : Point) (d : Axis) (t n : ℕ) → t ≤ n
     → at ≡ point_of (along (coordinate approach) d t) → is_near at ≡ true
 touch_is_near approach end at d t n le start stop e here = rw here (way_is_near approach d t n le start (rw e at stop))
 
-module _ (part : Workpiece) (x : ℕ → ℤ) (d : Axis) (n : ℕ) (face : Face) (is : IsFace part.bounds.tip part.blocks x (opposite d) n face) (at : Point) (here : at ≡ point_of (along x (opposite d) face.distance)) where
+module _ (part : Workpiece) (x : ℕ → ℤ) (d : Axis) (n : ℕ) (face : Face) (is : IsFace part.bounds.tip part.blocks x (opposite d) n face) (at : Point)
+    (here : at ≡ point_of (along x (opposite d) face.distance)) where
   in_block : is_blocked part (along x (opposite d) face.distance) ≡ true
   in_block = some_of part.bounds.tip part.blocks (along x (opposite d) face.distance) is.index is.block is.stands is.holds
 

@@ -45,7 +45,8 @@ pub next_is_near : (p : Point) (d : Axis) (n : ℕ) → 1 ≤ n → is_near p �
 next_is_near p d n hn start end = place_near (along (coordinate p) d 1) (λ k l.
     let a = reachable p start k l in
     let b = near_place (along (coordinate p) d n) end k l in
-    let s = one_between (coordinate p) d n k (negsuc 999999999) (pos 1000000000) hn (record { from_low = a.from_below; to_high = a.from_above }) (record { from_low = b.from_below; to_high = b.from_above }) in
+    let s = one_between (coordinate p) d n k (negsuc 999999999) (pos 1000000000) hn (record { from_low = a.from_below; to_high = a.from_above })
+    (record { from_low = b.from_below; to_high = b.from_above }) in
     record { from_below = s.from_low; from_above = s.to_high })
 
 -- a place on the way from a point to another
@@ -53,5 +54,6 @@ pub way_is_near : (p : Point) (d : Axis) (t n : ℕ) → t ≤ n → is_near p �
 way_is_near p d t n le start end = place_near (along (coordinate p) d t) (λ k l.
     let a = reachable p start k l in
     let b = near_place (along (coordinate p) d n) end k l in
-    let s = way_between (coordinate p) d t n k (negsuc 999999999) (pos 1000000000) le (record { from_low = a.from_below; to_high = a.from_above }) (record { from_low = b.from_below; to_high = b.from_above }) in
+    let s = way_between (coordinate p) d t n k (negsuc 999999999) (pos 1000000000) le (record { from_low = a.from_below; to_high = a.from_above })
+    (record { from_low = b.from_below; to_high = b.from_above }) in
     record { from_below = s.from_low; from_above = s.to_high })

@@ -136,7 +136,8 @@ module _ (part : Workpiece) (valid : IsValid part) (x : ℕ → ℤ) (d : Axis) 
     pub back_hit : (hit : Hit) → hit.block ≡ face.block → IsPermille (face.distance + 1) n hit.permille → IsHit part.blocks (TipMeetsLater tip x (along x d n)) hit
     back_hit hit number permille =
         let within = is.within in
-        let there : Holds (grown tip is.block) (along x d (face.distance + 1)) = unstepped (grown tip is.block) face.distance (holds_of (grown tip is.block) (along (along x d 1) d face.distance) is.holds) in
+        let there : Holds (grown tip is.block) (along x d (face.distance + 1)) =
+        unstepped (grown tip is.block) face.distance (holds_of (grown tip is.block) (along (along x d 1) d face.distance) is.holds) in
         record {
           index = is.index;
           a = face.distance + 1;

@@ -26,8 +26,10 @@ of_statement : (text : List ℕ) (ls : List Logical) (g : SourceFault) → Reads
 of_statement text ls g r (inl e) = inl e
 of_statement text ls g r (inr h) = inr (in_statement ls r h)
 
-pub lines_told : (text : List ℕ) (g : SourceFault) (r : Result (Option SourceFault) NoMemory) → NoMemoryOr (λ f. FirstFault Breaks told_line (lines_of text) f.code f.line) g → IfOk r (Tells g) → IfOk r (IsJudged text)
+pub lines_told : (text : List ℕ) (g : SourceFault) (r : Result (Option SourceFault) NoMemory)
+    → NoMemoryOr (λ f. FirstFault Breaks told_line (lines_of text) f.code f.line) g → IfOk r (Tells g) → IfOk r (IsJudged text)
 lines_told text g r h t = told_faulty text g r (of_lines text g h) t
 
-pub statement_told : (text : List ℕ) (ls : List Logical) (g : SourceFault) (r : Result (Option SourceFault) NoMemory) → ReadsLines text ls → NoMemoryOr (BeginsFaulty ls) g → IfOk r (Tells g) → IfOk r (IsJudged text)
+pub statement_told : (text : List ℕ) (ls : List Logical) (g : SourceFault) (r : Result (Option SourceFault) NoMemory) → ReadsLines text ls
+    → NoMemoryOr (BeginsFaulty ls) g → IfOk r (Tells g) → IfOk r (IsJudged text)
 statement_told text ls g r read h t = told_faulty text g r (of_statement text ls g read h) t

@@ -134,7 +134,8 @@ touched_in h block x t =
     let high = each_of t.place (coordinate block.high) parts.1 in
     let above : (k : ℕ) → k < 3 → (coordinate block.low k -ℤ pos h) ≤ℤ x k = λ k l. (let a = low k l in let b = t.in_tip.to_high k l in omega (arith, ints)) in
     let below : (k : ℕ) → k < 3 → x k ≤ℤ (coordinate block.high k +ℤ pos h) = λ k l. (let a = high k l in let b = t.in_tip.from_low k l in omega (arith, ints)) in
-    and_from _ _ (below_of (coordinate (grown h block).low) x (above 0 (omega arith)) (above 1 (omega arith)) (above 2 (omega arith))) (below_of x (coordinate (grown h block).high) (below 0 (omega arith)) (below 1 (omega arith)) (below 2 (omega arith)))
+    and_from _ _ (below_of (coordinate (grown h block).low) x (above 0 (omega arith)) (above 1 (omega arith)) (above 2 (omega arith)))
+    (below_of x (coordinate (grown h block).high) (below 0 (omega arith)) (below 1 (omega arith)) (below 2 (omega arith)))
 
 pub met_touches : (h : ℕ) (block : Block3) (x : ℕ → ℤ) → IsInOrder block → is_met h block x ≡ true → TipTouches h block x
 met_touches h block x order e =
@@ -149,7 +150,8 @@ met_touches h block x order e =
     λ k l. (greater_is (coordinate block.low k) (x k -ℤ pos h)).under (coordinate block.high k) (order k l) (let b = below k l in omega (arith, ints)) in
     record {
       place = place;
-      in_block = and_from _ _ (below_of (coordinate block.low) place (up 0 (omega arith)) (up 1 (omega arith)) (up 2 (omega arith))) (below_of place (coordinate block.high) (down 0 (omega arith)) (down 1 (omega arith)) (down 2 (omega arith)));
+      in_block = and_from _ _ (below_of (coordinate block.low) place (up 0 (omega arith)) (up 1 (omega arith)) (up 2 (omega arith)))
+          (below_of place (coordinate block.high) (down 0 (omega arith)) (down 1 (omega arith)) (down 2 (omega arith)));
       in_tip = record {
         from_low = λ k l. (greater_is (coordinate block.low k) (x k -ℤ pos h)).second;
         to_high = λ k l. (greater_is (coordinate block.low k) (x k -ℤ pos h)).under (x k +ℤ pos h) (let a = above k l in omega (arith, ints)) (omega (arith, ints));
@@ -191,7 +193,15 @@ no_more z = omega (arith, ints)
 
 pub points_lie : PointsLieInBlocks
 points_lie block x =
-    rw (no_less (coordinate block.low 0), no_less (coordinate block.low 1), no_less (coordinate block.low 2), no_more (coordinate block.high 0), no_more (coordinate block.high 1), no_more (coordinate block.high 2)) refl
+    rw (
+      no_less (coordinate block.low 0),
+      no_less (coordinate block.low 1),
+      no_less (coordinate block.low 2),
+      no_more (coordinate block.high 0),
+      no_more
+          (coordinate block.high 1),
+      no_more (coordinate block.high 2),
+    ) refl
 
 -- no way along a direction
 along_none : (x : ℕ → ℤ) (d : Axis) (k h : ℕ) → h ≡ 0 → along x d h k ≡ x k

@@ -70,14 +70,16 @@ onto_digits zero n b acc h = h
 onto_digits (suc k) n b acc h =
     let g = glyph_digit (n % 10) (mod-lt n (omega arith)) in
     let more : is_number (digit_glyph false (n % 10) ∷ b ∷ acc) ≡ true = and_from _ _ g h in
-    either_number (n / 10 == 0) (digit_glyph false (n % 10) ∷ b ∷ acc) (digits_onto k 10 false (n / 10) (digit_glyph false (n % 10) ∷ b ∷ acc)) more (onto_digits k (n / 10) (digit_glyph false (n % 10)) (b ∷ acc) more)
+    either_number (n / 10 == 0) (digit_glyph false (n % 10) ∷ b ∷ acc) (digits_onto k 10 false (n / 10) (digit_glyph false (n % 10) ∷ b ∷ acc)) more
+    (onto_digits k (n / 10) (digit_glyph false (n % 10)) (b ∷ acc) more)
 
 pub number_digits : (n : ℕ) → is_number (decimal n) ≡ true
 unfolding digits
 number_digits n =
     let g = glyph_digit (n % 10) (mod-lt n (omega arith)) in
     let first : is_number (digit_glyph false (n % 10) ∷ []) ≡ true = and_from _ _ g refl in
-    either_number (n / 10 == 0) (digit_glyph false (n % 10) ∷ []) (digits_onto 63 10 false (n / 10) (digit_glyph false (n % 10) ∷ [])) first (onto_digits 63 (n / 10) (digit_glyph false (n % 10)) [] first)
+    either_number (n / 10 == 0) (digit_glyph false (n % 10) ∷ []) (digits_onto 63 10 false (n / 10) (digit_glyph false (n % 10) ∷ [])) first
+    (onto_digits 63 (n / 10) (digit_glyph false (n % 10)) [] first)
 
 pub number : (n : ℕ) → Inner (decimal n)
 number n = inner (inner_digits (decimal n) (some_digits (decimal n) (number_digits n)))
@@ -88,7 +90,8 @@ signed (negsuc n) = join (codes "-") (decimal (suc n)) (inner refl) (number (suc
 
 three : (n : ℕ) → n < 1000 → Inner (three_digits n)
 three n l =
-    inner (and_from _ _ (digit_inner (n / 100) (omega (arith, l))) (and_from _ _ (digit_inner ((n / 10) % 10) (mod-lt (n / 10) (omega arith))) (and_from _ _ (digit_inner (n % 10) (mod-lt n (omega arith))) refl)))
+    inner (and_from _ _ (digit_inner (n / 100) (omega (arith, l)))
+    (and_from _ _ (digit_inner ((n / 10) % 10) (mod-lt (n / 10) (omega arith))) (and_from _ _ (digit_inner (n % 10) (mod-lt n (omega arith))) refl)))
 
 size : (n : ℕ) → Inner (size_text n)
 size n = join (decimal (n / 1000)) (codes "." ++ three_digits (n % 1000)) (number (n / 1000)) (join (codes ".") (three_digits (n % 1000)) (inner refl) (three (n % 1000) (mod-lt n (omega arith))))
@@ -121,7 +124,9 @@ variable (b ∷ bs) h = name (b ∷ bs) (both _ _ h).1
 pub named_there : (vs : List Variable) → AreNamed vs → (i : ℕ) → Inner (named (slice_get vs i))
 named_there [] h i = inner refl
 named_there (v ∷ vs) h zero =
-    join v.name (number_sign v.expansion) (variable v.name h.0) (either (v.expansion == 0) [] (codes "#" ++ decimal v.expansion) (inner refl) (join (codes "#") (decimal v.expansion) (inner refl) (number v.expansion)))
+    join v.name (number_sign v.expansion) (variable v.name h.0)
+    (either (v.expansion == 0) [] (codes "#" ++ decimal v.expansion) (inner refl)
+    (join (codes "#") (decimal v.expansion) (inner refl) (number v.expansion)))
 named_there (v ∷ vs) h (suc i) = named_there vs h.1 i
 
 -- ---- values, points and features
@@ -170,7 +175,8 @@ module _ (tables : Tables) (names : AllAreNames tables.features) (source : Sourc
 
   words : (f : Option Feature) → Inner (feature_words tables source i f)
   words (Some f) = there f
-  words None = join (letters source) (name_at tables.features i ++ codes ") undefined") (source_letters source) (join (name_at tables.features i) (codes ") undefined") (at_index tables.features names i) (inner refl))
+  words None = join (letters source) (name_at tables.features i ++ codes ") undefined") (source_letters source)
+      (join (name_at tables.features i) (codes ") undefined") (at_index tables.features names i) (inner refl))
 
   pub feature : (f : Option Feature) → LineEnd (feature_text tables source i f)
   feature f = onto (feature_words tables source i f) (codes "\n") (words f) end

@@ -66,7 +66,8 @@ use Rattle.vcm_rows.specs.Marks.{going_letters, is_at, piece_row, mark_row}
 use Rattle.vcm_story.specs.State.{kind_of, variable_row, setting_row, setting_rows, there_row, feature_rows, place_row, state_rows}
 use Rattle.vcm_story.specs.Steps.{way_rows, last_printed, change_row, change_rows, step_rows}
 use Rattle.vcm_story.specs.Stories.{rows_from, passage_rows, story_text}
-use Rattle.vcm_story_laws.proofs.LineTexts.{Goes, two, Inner, inner, join, in_row, either, kept, goes_in, LineEnd, end, onto, end_either, Others, is_front, line, none, others, each_other, below, other_either}
+use Rattle.vcm_story_laws.proofs.LineTexts.{Goes, two, Inner, inner, join, in_row, either, kept, goes_in, LineEnd, end, onto, end_either, Others, is_front}
+use Rattle.vcm_story_laws.proofs.LineTexts.{line, none, others, each_other, below, other_either}
 use Rattle.vcm_story_laws.proofs.InnerTexts as texts
 
 -- ---- words
@@ -144,7 +145,9 @@ point_there (Stops why) = inner refl
 frame : (f : Frame) → LineEnd (frame_end f)
 frame f =
     onto (point_if (point_at (to_machine f (λ k. pos 0)))) (axes_end f) (point_there (point_at (to_machine f (λ k. pos 0))))
-    (onto (codes " ") _ (inner refl) (onto _ _ (axis (direction f.turn PlusX)) (onto (codes " ") _ (inner refl) (onto _ _ (axis (direction f.turn PlusY)) (onto (codes " ") _ (inner refl) (onto _ _ (axis (direction f.turn PlusZ)) end))))))
+    (onto (codes " ") _ (inner refl) (onto _ _ (axis (direction f.turn PlusX))
+    (onto (codes " ") _ (inner refl) (onto _ _ (axis (direction f.turn PlusY))
+    (onto (codes " ") _ (inner refl) (onto _ _ (axis (direction f.turn PlusZ)) end))))))
 
 kind_there : (o : Option Variable) → Inner (kind_of o)
 kind_there None = inner refl
@@ -233,8 +236,36 @@ module _ (tables : Tables) (variables : AreNamed tables.variables) (features : A
   -- a line whose first field is a number stands there whole
   told_line : (count number at_line : ℕ) (own : List ℕ) (at : Point) (rest : List ℕ) → Inner own → LineEnd rest
       → Goes None (line_front count number at_line own at ++ rest) (line_front count number at_line own at ++ rest) None
-  told_line count number at_line own at rest h e = two (texts.number_first count (in_row (codes "," ∷ decimal number ∷ codes "," ∷ decimal at_line ∷ codes "," ∷ own ∷ codes "," ∷ thousandths (coordinate at 0) ∷ codes "," ∷ thousandths (coordinate at 1) ∷ codes "," ∷ thousandths (coordinate at 2) ∷ codes "," ∷ [])
-      (inner refl, (texts.number number, (inner refl, (texts.number at_line, (inner refl, (h, (inner refl, (texts.length (coordinate at 0), (inner refl, (texts.length (coordinate at 1), (inner refl, (texts.length (coordinate at 2), (inner refl, tt))))))))))))))
+  told_line count number at_line own at rest h e =
+      two (texts.number_first count (in_row (codes "," ∷ decimal number ∷ codes "," ∷ decimal at_line ∷ codes "," ∷ own ∷ codes "," ∷ thousandths
+      (coordinate at 0) ∷ codes "," ∷ thousandths (coordinate at 1) ∷ codes "," ∷ thousandths (coordinate at 2) ∷ codes "," ∷ []) (
+        inner refl,
+        (
+          texts.number number,
+          (
+            inner refl,
+            (
+              texts.number at_line,
+              (
+                inner refl,
+                (
+                  h,
+                  (
+                    inner refl,
+                    (
+                      texts.length (coordinate at 0),
+                      (
+                        inner refl,
+                        (texts.length (coordinate at 1), (inner refl, (texts.length (coordinate at 2), (inner refl, tt)))),
+                      ),
+                    ),
+                  ),
+                ),
+              ),
+            ),
+          ),
+        ),
+      ))
       ) (e.goes true)
 
   traced : (p : Passage) → Goes None (trace_line tables p) (trace_line tables p) None
@@ -294,7 +325,8 @@ module _ (tables : Tables) (variables : AreNamed tables.variables) (features : A
 
   open_there : (count : ℕ) (m : CodeState) (o : Option CodeStatement) → Goes None (open_at count m o) (open_at count m o) None
   open_there count m None = none.goes
-  open_there count m (Some s) = told_line count m.next s.line [] m.world.position _ (inner refl) (onto (codes "no stop after ") _ (inner refl) (onto _ _ (texts.number count) (onto (codes " steps") (codes "\n") (inner refl) end)))
+  open_there count m (Some s) = told_line count m.next s.line [] m.world.position _ (inner refl)
+      (onto (codes "no stop after ") _ (inner refl) (onto _ _ (texts.number count) (onto (codes " steps") (codes "\n") (inner refl) end)))
 
 last_there : (c : Code) → IsInRange c → (count : ℕ) (m : CodeState) (o : Option StopPlace) → Goes None (last_line c count m o) (last_line c count m o) None
 last_there c r count m (Some p) = none.goes

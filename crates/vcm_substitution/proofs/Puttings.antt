@@ -64,7 +64,8 @@ pub between_puts : (sc : Scope) (op : BinaryOp) (es now new : List Source) (a b 
     → Puts sc es now sizes → Puts sc (with_piece (Between op) es) new more
 between_puts sc op es now new a b s sizes mid left more is next made m h = there es now made (subst (λ ss. Puts sc es now ss) (is ∙ ap (λ ss. b ∷ ss) next) h)
   where
-    there : (es now : List Source) → ((e f : Source) (rest : List Source) → now ≡ f ∷ e ∷ rest → IsSize a e → IsSize b f → (new ≡ Pair op e f ∷ rest) × IsSize s (Pair op e f)) → Puts sc es now (b ∷ a ∷ left) → Puts sc (with_piece (Between op) es) new more
+    there : (es now : List Source) → ((e f : Source) (rest : List Source) → now ≡ f ∷ e ∷ rest → IsSize a e → IsSize b f → (new ≡ Pair op e f ∷ rest)
+        × IsSize s (Pair op e f)) → Puts sc es now (b ∷ a ∷ left) → Puts sc (with_piece (Between op) es) new more
     there [] [] made h = absurd h
     there [] (n ∷ ns) made h = absurd h
     there (f ∷ es) [] made h = absurd h
@@ -113,7 +114,8 @@ only_big sc e (inl h) = h
 only_big sc e (inr h) = absurd h
 
 -- the exit where one part makes an expression too large
-pub put_told : (sc : Scope) (ps : List Piece) (i : ℕ) (p : Piece) (es now : List Source) (sizes : List Size) (e : Source) (line : ℕ) (g : SourceFault) → i < length ps → p ≡ get_or ps i p → ps ≡ parts e
+pub put_told : (sc : Scope) (ps : List Piece) (i : ℕ) (p : Piece) (es now : List Source) (sizes : List Size) (e : Source) (line : ℕ) (g : SourceFault)
+    → i < length ps → p ≡ get_or ps i p → ps ≡ parts e
     → with_pieces ps [] ≡ with_pieces (drop i ps) es → Puts sc es now sizes
     → NoMemoryOr (λ f. (f ≡ record { code = TooDeep; line = line }) × ((es : List Source) → Puts sc es now sizes → Big sc (with_piece p es))) g
     → NoMemoryOr (IsTooDeep line (is_small (put sc e))) g

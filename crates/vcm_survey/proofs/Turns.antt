@@ -24,7 +24,8 @@ more_edited owners edits i o out left after kept stays e d n h = record {
   whole = append_assoc out (e ∷ []) (line_edits (drop (i + 1) owners) after stays) ∙ rw (d, n (drop (i + 1) owners)) at h.whole;
 }
 
-pub all_edited : (owners : List Owner) (edits : List Edit) (i : ℕ) (out left : List Edit) (kept : Bool) → length owners ≤ i → AreEdited owners edits i out left kept → out ≡ line_edits owners edits true
+pub all_edited : (owners : List Owner) (edits : List Edit) (i : ℕ) (out left : List Edit) (kept : Bool) → length owners ≤ i
+    → AreEdited owners edits i out left kept → out ≡ line_edits owners edits true
 all_edited owners edits i out left kept e h = sym (append-nil out) ∙ rw (drop_all i owners e) at h.whole
 
 -- the next statement
@@ -53,7 +54,8 @@ pub record AreTaken (all : List Row) (taken left : List Row) (n : ℕ) (out : Li
   pub size : n ≡ length left
   pub edits : out ≡ row_edits taken
 
-pub more_taken : (all taken left after : List Row) (r : Row) (n m : ℕ) (out : List Edit) → left ≡ r ∷ after → m + 1 ≡ n → AreTaken all taken left n out → AreTaken all (taken ++ (r ∷ [])) after m (out ++ (r.edit ∷ []))
+pub more_taken : (all taken left after : List Row) (r : Row) (n m : ℕ) (out : List Edit) → left ≡ r ∷ after → m + 1 ≡ n → AreTaken all taken left n out
+    → AreTaken all (taken ++ (r ∷ [])) after m (out ++ (r.edit ∷ []))
 more_taken all taken left after r n m out l e h = record {
   whole = append_assoc taken (r ∷ []) after ∙ rw l at h.whole;
   size =

@@ -17,7 +17,8 @@ abbrev pub further : Bool → Edit
 further true = Keep
 further false = LeaveOut
 
--- what becomes of each line: one that belongs to no statement stays, the first line of a statement becomes what the statement does, and the others stay with the first or become comments
+-- what becomes of each line: one that belongs to no statement stays, the first line of a statement becomes what the statement does, and the others
+-- stay with the first or become comments
 abbrev pub line_edits : List Owner → List Edit → Bool → List Edit
 line_edits [] es k = []
 line_edits (Nobody ∷ os) es k = Keep ∷ line_edits os es k

@@ -14,7 +14,8 @@ line bytes others = bytes ++ (10 ∷ others)
 
 -- a point of a plane over two lines, a comment, and a move
 abbrev pub planes : List ℕ
-planes = line (codes "MEAS/PLANE,F(P),1") (line (codes " PTMEAS/CART,1,2,50, $") (line (codes "  0,0,1") (line (codes "ENDMES") (line (codes "$$ home") (line (codes "GOHOME") [])))))
+planes = line (codes "MEAS/PLANE,F(P),1")
+    (line (codes " PTMEAS/CART,1,2,50, $") (line (codes "  0,0,1") (line (codes "ENDMES") (line (codes "$$ home") (line (codes "GOHOME") [])))))
 
 -- MEAS and ENDMES become comments, the point is approached, and the move stays
 abbrev pub approached : List Edit
@@ -24,7 +25,9 @@ abbrev pub owners : List Owner
 owners = First ∷ First ∷ Other ∷ First ∷ Nobody ∷ First ∷ []
 
 abbrev pub moves : List ℕ
-moves = line (codes "$$- MEAS/PLANE,F(P),1") (line (codes " GOTO/1.000,2.000,54.000  $$-  PTMEAS/CART,1,2,50, $") (line (codes "$$-   0,0,1") (line (codes "$$- ENDMES") (line (codes "$$ home") (line (codes "GOHOME") [])))))
+moves = line (codes "$$- MEAS/PLANE,F(P),1")
+    (line (codes " GOTO/1.000,2.000,54.000  $$-  PTMEAS/CART,1,2,50, $")
+    (line (codes "$$-   0,0,1") (line (codes "$$- ENDMES") (line (codes "$$ home") (line (codes "GOHOME") [])))))
 
 pub planes_become_moves : adapted (line_edits owners approached true) planes ≡ moves
 unfolding whole_lines

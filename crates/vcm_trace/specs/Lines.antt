@@ -13,7 +13,8 @@ use Rattle.vcm_spec.specs.Texts.{letters}
 use Rattle.vcm_spec.specs.World.{Settings, World}
 use Rattle.vcm_spec.specs.Effect.{at_index}
 use Rattle.vcm_spec.specs.declared.simple.Simple.TheVariants.{Goto, GoHome, Assign, Feat, PtMeas, SnSet, Trans, Rotate, Recall, Obtain, Output, Text}
-use Rattle.vcm_code.specs.declared.op.Op.TheVariants.{Plain, If, Else, EndIf, Do, EndDo, Label, JumpTo, Meas, EndMes, Select, Case, EndCas, DftCas, EndSel, EndFil}
+use Rattle.vcm_code.specs.declared.op.Op.TheVariants.{Plain, If, Else, EndIf, Do, EndDo, Label, JumpTo, Meas, EndMes, Select, Case, EndCas, DftCas, EndSel}
+use Rattle.vcm_code.specs.declared.op.Op.TheVariants.{EndFil}
 use Rattle.vcm_code.specs.Code.{Op, CodeStatement}
 use Rattle.vcm_code.specs.Words.{word_of}
 use Rattle.vcm_words.specs.Operands.{word_text, setting_text}

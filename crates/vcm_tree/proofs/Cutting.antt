@@ -6,7 +6,8 @@ use Rattle.std.proofs.lemmas.Option.{slice_get_past}
 use Rattle.vcm_spec.specs.Phase.{IsClean}
 
 -- what stands before a place, and at it
-pub place : {X : Type 0} (before : List X) (x : X) (xs : List X) → (take (length before) (before ++ x ∷ xs) ≡ before) × (slice_get (before ++ x ∷ xs) (length before) ≡ Some x) × (length before < length (before ++ x ∷ xs))
+pub place : {X : Type 0} (before : List X) (x : X) (xs : List X) → (take (length before) (before ++ x ∷ xs) ≡ before)
+    × (slice_get (before ++ x ∷ xs) (length before) ≡ Some x) × (length before < length (before ++ x ∷ xs))
 place [] x xs = (refl, refl, omega arith)
 place (b ∷ before) x xs = (let r = place before x xs in (ap (λ l. b ∷ l) r.0, r.1, (let l = r.2 in omega arith)))
 

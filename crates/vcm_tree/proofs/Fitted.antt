@@ -28,7 +28,8 @@ use Rattle.vcm_tree.proofs.Written.{StepFits, SentencesFit}
 use Rattle.vcm_program.proofs.Titled.{known_below}
 use Rattle.vcm_tree.proofs.GrownTables.{Grown, all_statements_grown, twice_least, one_least, all_least, Within, outer_within}
 use Rattle.vcm_tree.proofs.Stated.{bind-Ok, Says, meant}
-use Rattle.vcm_tree.proofs.FittedSimple.{has_kind, has_place, assigned_fits, moved_fits, declared_fits, touched_fits, configured_fits, shifted_fits, rotated_fits, recalled_fits, obtained_fits, reported_fits}
+use Rattle.vcm_tree.proofs.FittedSimple.{has_kind, has_place, assigned_fits, moved_fits, declared_fits, touched_fits, configured_fits, shifted_fits}
+use Rattle.vcm_tree.proofs.FittedSimple.{rotated_fits, recalled_fits, obtained_fits, reported_fits}
 
 module _ (b : Behind) (ws : Tables) (g : Grown b.variables ws.variables) where
   whole_fits : (e : Source) (t : Tree) → typed_for b.variables wants.Int e ≡ Ok t → HasKindIn ws t kind.Int
@@ -107,7 +108,8 @@ step_within ws bs EndsSelect f h = outer_within (length ws.features) bs h
 step_within ws bs _ f h = h
 
 -- a statement of an expanded program fits, and so do the MEAS blocks that are open behind it
-one_fits : (ws : Tables) (b : Behind) (s : Placed) → Grown b.variables ws.variables → Within (length ws.features) b.blocks → length (measured_after b.measured s.statement.form).features ≤ length ws.features
+one_fits : (ws : Tables) (b : Behind) (s : Placed) → Grown b.variables ws.variables → Within (length ws.features) b.blocks
+    → length (measured_after b.measured s.statement.form).features ≤ length ws.features
     → length (measured_after b.measured s.statement.form).frames ≤ length ws.frames → length b.measured.features ≤ length ws.features
     → SentencesFit ws (sentences_by s.statement.line (resolved_here b s)) × Within (length ws.features) (behind_one b s).blocks
 one_fits ws b s g h fs ds few = by (resolved_here b s) refl

@@ -25,7 +25,8 @@ use Rattle.vcm_forms.specs.declared.statement.Coordinates.{Coordinates}
 use Rattle.vcm_forms.specs.declared.statement.Target.{Target}
 use Rattle.vcm_tree.specs.Variables.{want_of, target_of, assigned, assigned_by, assigned_to, moved}
 use Rattle.vcm_tree.specs.Blocks.{Opened}
-use Rattle.vcm_tree.specs.Features.{lengths, declared_at, touched_in, Shifts, no_shifts, with_shift, shifts_of, real_to, real_by, real_named, declared, touched, configured, shifted, rotated, recalled, obtained, reported}
+use Rattle.vcm_tree.specs.Features.{lengths, declared_at, touched_in, Shifts, no_shifts, with_shift, shifts_of, real_to, real_by, real_named, declared, touched}
+use Rattle.vcm_tree.specs.Features.{configured, shifted, rotated, recalled, obtained, reported}
 use Rattle.vcm_program.specs.Titles.{known, entered, with_name}
 use Rattle.vcm_program.proofs.Titled.{known_below, entered_below}
 use Rattle.vcm_tree.proofs.Stated.{bind-Ok}

@@ -12,11 +12,13 @@ use Rattle.vcm_tree.specs.declared.builder.Head.TheVariants.{First, Second, Body
 use Rattle.vcm_tree.specs.declared.builder.Open.{Open}
 use Rattle.vcm_tree.specs.declared.selection.Selection.{Selection}
 use Rattle.vcm_tree.specs.declared.selection.Selection.TheVariants.{Plain, Defaulted}
-use Rattle.vcm_tree.specs.Sentences.{Step, Sentence, sentence, Does, Marks, Leaps, Tests, Divides, EndsTest, Repeats, EndsRepeat, Measures, EndsMeasure, Selects, BeginsCase, BeginsDefault, EndsCase, EndsSelect, Ends, node_sentences, sentences, case_sentences}
+use Rattle.vcm_tree.specs.Sentences.{Step, Sentence, sentence, Does, Marks, Leaps, Tests, Divides, EndsTest, Repeats, EndsRepeat, Measures, EndsMeasure}
+use Rattle.vcm_tree.specs.Sentences.{Selects, BeginsCase, BeginsDefault, EndsCase, EndsSelect, Ends, node_sentences, sentences, case_sentences}
 use Rattle.vcm_tree.specs.Blocks.{Behind, Opened, InFirst, InSecond, InBody, InSelect, InCase, is_choosing}
 use Rattle.vcm_tree.specs.Resolving.{Meaning, Silent, Declares, Counts, is_measuring, blocks_after, behind_by, sentences_by}
 use Rattle.vcm_tree.specs.inner.Closing.{Closed}
-use Rattle.vcm_tree.specs.inner.Growing.{Growing, inside, turned, grown_inside, grown_between, grown_where, grown, grown_by, opened_by, kinds_of, kinds_where, kinds, head_sentences, before, waits_sentences, written}
+use Rattle.vcm_tree.specs.inner.Growing.{Growing, inside, turned, grown_inside, grown_between, grown_where, grown, grown_by, opened_by, kinds_of, kinds_where}
+use Rattle.vcm_tree.specs.inner.Growing.{kinds, head_sentences, before, waits_sentences, written}
 
 -- ---- lists
 
@@ -84,12 +86,16 @@ closed_writes o os b p n e =
 chosen_goes : (out : Block) (os : List Open) (b : Block) (line from at' : ℕ) (v : Tree) (cs : List Closed) (z : Option ℤ)
     → Goes (inside (record { outer = out; head = Case from v cs at' z } ∷ os) b) line EndsCase (turned (Case from v cs at' z) out os b line EndsCase)
 chosen_goes out os b line from at' v cs (Some z) = (
-  ap (λ l. before os ++ (sentences out ++ sentence from (Selects v) ∷ l)) (case_push cs at' z b line ∙ sym (append_assoc (case_sentences (cases_of cs None)) (sentence at' (BeginsCase z) ∷ []) (sentences b ++ sentence line EndsCase ∷ [])))
+  ap (λ l. before os ++ (sentences out ++ sentence from (Selects v) ∷ l))
+      (case_push cs at' z b line ∙ sym (append_assoc (case_sentences (cases_of cs None)) (sentence at' (BeginsCase z) ∷ [])
+      (sentences b ++ sentence line EndsCase ∷ [])))
       ∙ chosen_more (before os) (sentences out) (head_sentences (Case from v cs at' (Some z))) (sentences b) (sentence line EndsCase ∷ []),
   refl,
 )
 chosen_goes out os b line from at' v cs None = (
-  ap (λ l. before os ++ (sentences out ++ sentence from (Selects v) ∷ l)) (default_push cs at' b line ∙ sym (append_assoc (case_sentences (cases_of cs None)) (sentence at' BeginsDefault ∷ []) (sentences b ++ sentence line EndsCase ∷ [])))
+  ap (λ l. before os ++ (sentences out ++ sentence from (Selects v) ∷ l))
+      (default_push cs at' b line ∙ sym (append_assoc (case_sentences (cases_of cs None)) (sentence at' BeginsDefault ∷ [])
+      (sentences b ++ sentence line EndsCase ∷ [])))
       ∙ chosen_more (before os) (sentences out) (head_sentences (Case from v cs at' None)) (sentences b) (sentence line EndsCase ∷ []),
   refl,
 )
@@ -202,7 +208,8 @@ fits bs EndsCase = is_case bs
 fits bs EndsSelect = is_choosing bs
 fits bs s = not (is_choosing bs)
 
-head_fits : (h : Head) (out : Block) (os : List Open) (b : Block) (line : ℕ) (s : Step) (bs : List Opened) → is_some (grown_inside (record { outer = out; head = h } ∷ os) b line s) ≡ fits (opened_by h ++ bs) s
+head_fits : (h : Head) (out : Block) (os : List Open) (b : Block) (line : ℕ) (s : Step) (bs : List Opened)
+    → is_some (grown_inside (record { outer = out; head = h } ∷ os) b line s) ≡ fits (opened_by h ++ bs) s
 head_fits (First from t) out os b line (Does what) bs = refl
 head_fits (Second from t f mid) out os b line (Does what) bs = refl
 head_fits (Body from v x y z) out os b line (Does what) bs = refl

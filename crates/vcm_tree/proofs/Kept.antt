@@ -15,7 +15,8 @@ use Rattle.vcm_macro.specs.Order.{nothing_before, is_ending, is_open_behind, ord
 use Rattle.vcm_macro.specs.Rules.{is_there, kept}
 use Rattle.vcm_substitution.specs.Kept.{is_kept}
 use Rattle.vcm_substitution.specs.Substitution.{Scope, outside, is_same, put_argument}
-use Rattle.vcm_macro.specs.Walk.{Defined, Visit, Opens, Inside, Calls, calls_in, Caller, statement_in, body_in, call_in, with_statement, waits_behind, misplaced_if, Following, text_from, walk_from, outside_in}
+use Rattle.vcm_macro.specs.Walk.{Defined, Visit, Opens, Inside, Calls, calls_in, Caller, statement_in, body_in, call_in, with_statement, waits_behind}
+use Rattle.vcm_macro.specs.Walk.{misplaced_if, Following, text_from, walk_from, outside_in}
 use Rattle.std.proofs.lemmas.List.{append-nil}
 use Rattle.vcm_macro.proofs.Orders.{order_push}
 use Rattle.vcm_macro.proofs.Walks.{kept_append}
@@ -170,7 +171,8 @@ begun_behind before s = rw (order_push nothing_before before s) refl
 opened_behind : (before : List Statement) (s : Statement) → (order_after nothing_before (before ++ s ∷ [])).opened ≡ is_open_behind (order_after nothing_before before).opened s.form
 opened_behind before s = rw (order_push nothing_before before s) refl
 
-ended_behind : (before : List Statement) (s : Statement) (b : Bool) → (order_after nothing_before before).ended ≡ false → is_ending s.form ≡ b → (order_after nothing_before (before ++ s ∷ [])).ended ≡ b
+ended_behind : (before : List Statement) (s : Statement) (b : Bool) → (order_after nothing_before before).ended ≡ false → is_ending s.form ≡ b
+    → (order_after nothing_before (before ++ s ∷ [])).ended ≡ b
 ended_behind before s b e t = rw (order_push nothing_before before s) (ap (λ c. c || is_ending s.form) e ∙ t)
 
 -- how a walk goes on behind a statement: behind some places, and a macro is open or not

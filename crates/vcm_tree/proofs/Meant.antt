@@ -115,7 +115,8 @@ or_both false c e f = f
 
 among_push : (ls : List Label) (k l : Label) → is_among ls k ≡ false → is_same_label k l ≡ false → is_among (ls ++ l ∷ []) k ≡ false
 among_push [] k l e f = or_both (is_same_label k l) false f refl
-among_push (m ∷ ls) k l e f = or_both (is_same_label k m) (is_among (ls ++ l ∷ []) k) (or_left (is_same_label k m) (is_among ls k) e) (among_push ls k l (or_right (is_same_label k m) (is_among ls k) e) f)
+among_push (m ∷ ls) k l e f = or_both (is_same_label k m) (is_among (ls ++ l ∷ []) k) (or_left (is_same_label k m) (is_among ls k) e)
+    (among_push ls k l (or_right (is_same_label k m) (is_among ls k) e) f)
 
 distinct_push : (ls : List Label) (l : Label) → AreDistinct ls → is_among ls l ≡ false → AreDistinct (ls ++ l ∷ [])
 distinct_push [] l h e = (refl, tt)

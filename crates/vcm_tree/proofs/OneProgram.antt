@@ -67,7 +67,8 @@ mutual
   node_back (label line l) os b ps = refl
   node_back (jump line l) os b ps = refl
   node_back (choice line t f close) os b ps =
-      ap (grown_all (in_block (First line t) b os)) (append_assoc (sentences f) (sentence close EndsTest ∷ []) ps) ∙ block_back f (record { outer = b; head = First line t } ∷ os) done (sentence close EndsTest ∷ ps)
+      ap (grown_all (in_block (First line t) b os)) (append_assoc (sentences f) (sentence close EndsTest ∷ []) ps)
+      ∙ block_back f (record { outer = b; head = First line t } ∷ os) done (sentence close EndsTest ∷ ps)
   node_back (choice_else line t f mid g close) os b ps =
       ap (grown_all (in_block (First line t) b os)) (append_assoc (sentences f) (sentence mid Divides ∷ (sentences g ++ sentence close EndsTest ∷ [])) ps)
       ∙ block_back f (record { outer = b; head = First line t } ∷ os) done (sentence mid Divides ∷ ((sentences g ++ sentence close EndsTest ∷ []) ++ ps))

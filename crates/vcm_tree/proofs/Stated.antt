@@ -12,7 +12,9 @@ use Rattle.vcm_expr.specs.declared.typing.Want.TheVariants as wants
 use Rattle.vcm_expr.specs.Source.{Source}
 use Rattle.vcm_forms.specs.declared.statement.Rounds.{Rounds}
 use Rattle.vcm_forms.specs.declared.statement.Form.{Form}
-use Rattle.vcm_forms.specs.declared.statement.Form.TheVariants.{Opening, Measures as Units, Ignored, Declaration, Test, Otherwise, TestEnd, Repeat, RepeatEnd, Mark, Leap, Measure, MeasureEnd, Choose, Case, CaseEnd, Default, ChooseEnd, Macro, MacroEnd, Call, Ending}
+use Rattle.vcm_forms.specs.declared.statement.Form.TheVariants.{Opening, Measures as Units, Ignored, Declaration, Test, Otherwise, TestEnd, Repeat, RepeatEnd}
+use Rattle.vcm_forms.specs.declared.statement.Form.TheVariants.{Mark, Leap, Measure, MeasureEnd, Choose, Case, CaseEnd, Default, ChooseEnd, Macro, MacroEnd}
+use Rattle.vcm_forms.specs.declared.statement.Form.TheVariants.{Call, Ending}
 use Rattle.vcm_forms.specs.Statements.{is_counted}
 use Rattle.vcm_nodes.specs.Jumps.{is_among}
 use Rattle.vcm_program.specs.Titles.{known}
@@ -20,9 +22,12 @@ use Rattle.vcm_macro.specs.declared.placed.Placed.{Placed}
 use Rattle.vcm_macro.specs.Order.{is_ending}
 use Rattle.vcm_tree.specs.Sentences.{Step, Does, Marks, Leaps, Tests, Divides, EndsTest, Repeats, EndsRepeat, Measures, EndsMeasure, Selects, BeginsCase, BeginsDefault, EndsCase, EndsSelect, Ends}
 use Rattle.vcm_tree.specs.Variables.{with_all}
-use Rattle.vcm_tree.specs.Blocks.{Behind, Opened, InFirst, InSecond, InBody, InMeasure, InSelect, InCase, depth, room_by, nested, tested, selected, indexed, increment_of, repeated, divided, test_ended, repeat_ended, case_begun, case_ended, select_ended, is_choosing, ended, marked, label_of}
+use Rattle.vcm_tree.specs.Blocks.{Behind, Opened, InFirst, InSecond, InBody, InMeasure, InSelect, InCase, depth, room_by, nested, tested, selected, indexed}
+use Rattle.vcm_tree.specs.Blocks.{increment_of, repeated, divided, test_ended, repeat_ended, case_begun, case_ended, select_ended, is_choosing, ended, marked}
+use Rattle.vcm_tree.specs.Blocks.{label_of}
 use Rattle.vcm_tree.specs.Features.{opened_measure, measure_ended}
-use Rattle.vcm_tree.specs.Resolving.{Meaning, Silent, Declares, Counts, counts, does, acted, structured, stated_by, stated, is_measuring, is_barred, is_in_block, unless_barred, unless_choosing, resolved_here, labels_after, measured_after, behind_by}
+use Rattle.vcm_tree.specs.Resolving.{Meaning, Silent, Declares, Counts, counts, does, acted, structured, stated_by, stated, is_measuring, is_barred}
+use Rattle.vcm_tree.specs.Resolving.{is_in_block, unless_barred, unless_choosing, resolved_here, labels_after, measured_after, behind_by}
 use Rattle.vcm_tree.specs.inner.Taking.{declared_by, marked_by}
 use Rattle.vcm_tree.proofs.GrownBlocks.{fits}
 use Rattle.vcm_tree.proofs.Kept.{ending_is}
@@ -154,13 +159,15 @@ module _ (b : Behind) (e : ℕ) where
   silent form m same names labels counted = subst (IsStated b e form) same (record { names = names; labels = labels; counted = counted; step = tt })
 
   -- this counted statement
-  step_is : (form : Form) (was s : Step) (m : Meaning) → Counts s ≡ m → was ≡ s → declared_by b.variables e form ≡ Ok b.variables → marked_by b.labels e form ≡ labels_after b.labels was → is_counted form ≡ true
+  step_is : (form : Form) (was s : Step) (m : Meaning) → Counts s ≡ m → was ≡ s → declared_by b.variables e form ≡ Ok b.variables
+      → marked_by b.labels e form ≡ labels_after b.labels was → is_counted form ≡ true
       → StepStated b form was → IsStated b e form m
   step_is form was s m same is names labels counted step =
       subst (IsStated b e form) same (subst (λ (t : Step). IsStated b e form (Counts t)) is (record { names = names; labels = labels; counted = counted; step = step }))
 
   -- one that goes on with a block, or ends it
-  ends : (form : Form) (was s : Step) (m : Meaning) → Counts s ≡ m → (was ≡ s) × (fits b.blocks was ≡ true) → declared_by b.variables e form ≡ Ok b.variables → marked_by b.labels e form ≡ labels_after b.labels was
+  ends : (form : Form) (was s : Step) (m : Meaning) → Counts s ≡ m → (was ≡ s) × (fits b.blocks was ≡ true) → declared_by b.variables e form ≡ Ok b.variables
+      → marked_by b.labels e form ≡ labels_after b.labels was
       → is_counted form ≡ true → (opens was ≡ true → depth b.blocks < 32) → Says b form was → IsStated b e form m
   ends form was s m same q names labels counted small says = step_is form was s m same q.0 names labels counted (record { fits = q.1; small = small; says = says })
 

@@ -59,7 +59,8 @@ walk_goes all old before new waits s rest w t =
     let means = grown_means (growing old.builder before) (growing new.builder waits) line r t.grows in
     let st = meant was s means.0 means.1 in
     let on = grown_on was (growing old.builder before) (growing new.builder waits) form line r refl t.grows in
-    let names : new.names ≡ (behind_by was form r).variables = ok_is new.names (behind_by was form (Ok means.0)).variables (sym t.names ∙ st.names) ∙ ap (λ q. (behind_by was form q).variables) (sym means.1) in
+    let names : new.names ≡ (behind_by was form r).variables = ok_is new.names (behind_by was form (Ok means.0)).variables (sym t.names ∙ st.names)
+    ∙ ap (λ q. (behind_by was form q).variables) (sym means.1) in
     let labels : new.labels ≡ (behind_by was form r).labels = t.labels ∙ st.labels ∙ ap (λ q. (behind_by was form q).labels) (sym means.1) in
     let next : behind_with new waits ≡ behind_one was s =
     same_behind (behind_one was s) new.names (kinds (growing new.builder waits)) new.labels (measured_of new) names on.1 labels (t.measures ∙ measured_is was form r) in

@@ -21,7 +21,8 @@ use Rattle.vcm_tree.proofs.Written.{sentence_labels, SentencesNest, SentencesFit
 use Rattle.vcm_tree.proofs.Meant.{labels_all, counted_all, few_sentences, last_ends, distinct_all, nest_all}
 use Rattle.vcm_tree.proofs.Fitted.{fit_all}
 
-pub parsed_whole : (ss : List Statement) (all : List Placed) (p : Parsed) → IsTrue (is_ended all) → length all ≤ 20000 → IsClean BreaksNames all → IsParsed ss all p → AreNamed (behind_all start all).variables
+pub parsed_whole : (ss : List Statement) (all : List Placed) (p : Parsed) → IsTrue (is_ended all) → length all ≤ 20000 → IsClean BreaksNames all
+    → IsParsed ss all p → AreNamed (behind_all start all).variables
     → IsClean (BreaksJumps (labels_of p.program)) (jumps_of p.program) → IsWhole p.program p.tables
 parsed_whole ss all p last few clean is named jumps =
     let mean = all_mean [] all clean in

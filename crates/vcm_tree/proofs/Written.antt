@@ -6,7 +6,8 @@ use Rattle.vcm_spec.specs.Setup.{Tables}
 use Rattle.vcm_spec.specs.Program.{Label, Node, Block, Cases, simple, label, jump, choice, choice_else, do_loop, meas, select, ending, done, then, no_more, one_case, default, size, sizes, case_sizes}
 use Rattle.vcm_spec.specs.Fitting.{Fits, HasKindIn, kinds as kinds_in, NodeFits, BlockFits, CasesFit}
 use Rattle.std.specs.Prelude.{slice_get, Some}
-use Rattle.vcm_tree.specs.Sentences.{Step, Sentence, sentence, Does, Marks, Tests, Divides, EndsTest, Repeats, EndsRepeat, Measures, EndsMeasure, Selects, BeginsCase, BeginsDefault, EndsCase, EndsSelect, Ends, node_sentences, sentences, case_sentences}
+use Rattle.vcm_tree.specs.Sentences.{Step, Sentence, sentence, Does, Marks, Tests, Divides, EndsTest, Repeats, EndsRepeat, Measures, EndsMeasure, Selects}
+use Rattle.vcm_tree.specs.Sentences.{BeginsCase, BeginsDefault, EndsCase, EndsSelect, Ends, node_sentences, sentences, case_sentences}
 use Rattle.vcm_nodes.specs.Jumps.{node_labels, labels_of, labels_among}
 use Rattle.vcm_spec.specs.Whole.{is_end, is_closed}
 use Rattle.vcm_program.specs.Program.{NodeNests, BlockNests, CasesNest}

@@ -106,7 +106,8 @@ pub record IsViewed (view : RunView) (part : Workpiece) (c : Code) (n : ℕ) (st
 abbrev pub IsHaltedAfter : Workpiece → Code → ℕ → ℕ → Type 0
 IsHaltedAfter part c n done = RunEnded n (started part c) (later done (started part c)) done NoMemory
 
--- what was written of a view in a run that was refused memory after so many steps: of a trace, of points and of a clearance the lines so far, of a margin or a picture nothing
+-- what was written of a view in a run that was refused memory after so many steps: of a trace, of points and of a clearance the lines so far, of a
+-- margin or a picture nothing
 abbrev pub WrittenSoFar : RunView → Workpiece → Code → ℕ → Option (List ℕ) → Option (List ℕ) → Type 0
 WrittenSoFar views.Trace part c done old new = Appends old new (trace_front part c done)
 WrittenSoFar views.Margin part c done old new = Keeps old new

@@ -289,13 +289,18 @@ module _ (part : Workpiece) (valid : IsValid part) (s : Settings) (p : Point) (c
   leaves_points t h j block stands start c e m =
       leaves part valid s (coordinate p) centre d back t h j block stands
       (meets_same (coordinate (low t)) (down_of s centre d t) (coordinate (up t)) (back_of s centre d t) (same_point _) (same_point _) (grown part.bounds.tip block) 0 1 start) c e
-      (record { meets = meets_same (coordinate (low t)) (down_of s centre d t) (coordinate (up t)) (back_of s centre d t) (same_point _) (same_point _) (grown part.bounds.tip block) c e m.meets; later = m.later })
+      (record {
+        meets = meets_same (coordinate (low t)) (down_of s centre d t) (coordinate (up t)) (back_of s centre d t) (same_point _) (same_point _)
+            (grown part.bounds.tip block) c e m.meets;
+        later = m.later;
+      })
 
   touch_true : (o : Outcome Touch) → IsTouchAt part s (coordinate p) centre d o → (t : Touch) → o ≡ Gives t → AreTrue part (marks points None)
   touch_true (Gives x) h t e =
       by_points h.0 h.1.touched None (touched_true h.0 h.1.touched (goes going.Retract (low h.0) (up h.0) ∷ []) (
         clear_same part.blocks (TipMeetsLater part.bounds.tip (down_of s centre d h.0) (back_of s centre d h.0)) (TipMeetsLater part.bounds.tip (coordinate (low h.0)) (coordinate (up h.0)))
-            (λ block a b m. later_same part.bounds.tip (coordinate (low h.0)) (down_of s centre d h.0) (coordinate (up h.0)) (back_of s centre d h.0) (same_point _) (same_point _) block a b m) h.1.clear,
+            (λ block a b m. later_same part.bounds.tip (coordinate (low h.0)) (down_of s centre d h.0) (coordinate (up h.0)) (back_of s centre d h.0)
+            (same_point _) (same_point _) block a b m) h.1.clear,
         tt,
       ))
   touch_true (Stops why) h t e = absurd cc

@@ -94,7 +94,8 @@ module _ (part : Workpiece) (s : Settings) (centre : ℕ → ℤ) (d : Axis) (ap
   abbrev high : ℕ → ℤ
   high = approach_of s centre d
 
-  first_is : (face : Option Face) → IsFirstFace part.bounds.tip part.blocks (coordinate approach) (opposite d) length face → first_inside part s centre d ≡ elim face [ None ↦ None | Some f ↦ Some f.distance ]
+  first_is : (face : Option Face) → IsFirstFace part.bounds.tip part.blocks (coordinate approach) (opposite d) length face
+      → first_inside part s centre d ≡ elim face [ None ↦ None | Some f ↦ Some f.distance ]
   first_is None none = none_is_first part.bounds.tip part.blocks high (opposite d) length (rw aims.approach_is at none)
   first_is (Some face) is =
       let seen : IsFace part.bounds.tip part.blocks (coordinate (point_of high)) (opposite d) length face = rw aims.approach_is at is in

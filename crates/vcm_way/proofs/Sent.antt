@@ -133,7 +133,8 @@ module _ (setup : Setup) (w : World) (line n : ℕ) (ps : List Pair) where
   simple_by (Stops why) = tt
   simple_by (Gives (Goto x y z)) = by (machine_point w x y z)
     where
-      by : (m : Outcome Point) → Ends (or_nowhere (m >>= (λ t. Gives (Straight t)))) (stop_of (m >>= (λ t. free_move Move setup.part (coordinate w.position) (coordinate t) >>= (λ u. Gives (record w { position = t })))))
+      by : (m : Outcome Point) → Ends (or_nowhere (m >>= (λ t. Gives (Straight t))))
+          (stop_of (m >>= (λ t. free_move Move setup.part (coordinate w.position) (coordinate t) >>= (λ u. Gives (record w { position = t })))))
       by (Stops why) = tt
       by (Gives t) = moves_by t (free_move Move setup.part (coordinate w.position) (coordinate t)) (λ u. Gives (record w { position = t })) refl
   simple_by (Gives GoHome) = moves_by home (free_move Move setup.part (coordinate w.position) (coordinate home)) (λ u. Gives (record w { position = home })) refl

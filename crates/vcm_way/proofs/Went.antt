@@ -109,7 +109,8 @@ module _ (setup : Setup) (w : World) (running : w.stop ≡ None) (line n : ℕ) 
   simple_by (Stops why) = stays refl
   simple_by (Gives (Goto x y z)) = by (machine_point w x y z)
     where
-      by : (m : Outcome Point) → Goes (or_nowhere (m >>= (λ t. Gives (Straight t)))) (after_of (m >>= (λ t. free_move Move part (coordinate w.position) (coordinate t) >>= (λ u. Gives (record w { position = t })))))
+      by : (m : Outcome Point) → Goes (or_nowhere (m >>= (λ t. Gives (Straight t))))
+          (after_of (m >>= (λ t. free_move Move part (coordinate w.position) (coordinate t) >>= (λ u. Gives (record w { position = t })))))
       by (Stops why) = stays refl
       by (Gives t) = moves_by t (free_move Move part (coordinate w.position) (coordinate t)) refl
   simple_by (Gives GoHome) = moves_by home (free_move Move part (coordinate w.position) (coordinate home)) refl

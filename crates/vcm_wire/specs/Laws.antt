@@ -13,7 +13,8 @@ IsOutside fault = (fault ≡ Read) ⊎ (fault ≡ NoMemory)
 -- what may come of the frame of a message with this rest behind it: this message, and the rest is left; or a fault that is none of the input
 pub record IsRead (message rest : List ℕ) : Type 0 where
   pub framed : IsFramed (Some (frame message ++ rest)) (Some rest) message
-  pub alone : (new : Option (List ℕ)) (told : Option (List ℕ)) → BeginsWithFrame (Some (frame message ++ rest)) new told → (told ≡ Some message) × (new ≡ Some rest)
+  pub alone : (new : Option (List ℕ)) (told : Option (List ℕ)) → BeginsWithFrame (Some (frame message ++ rest)) new told → (told ≡ Some message)
+      × (new ≡ Some rest)
   pub no_fault : (new : Option (List ℕ)) (fault : FrameFault) → IsUnframed (Some (frame message ++ rest)) new fault → IsOutside fault
 
 -- the frame of a message is read as this message

@@ -57,7 +57,8 @@ branch_again : (b : Branch) → FitsBranch b → branch_in true (branch_text b) 
 unfolding branch_in
 branch_again b h =
     let m = means_number (2 ^ 32) (omega arith) in
-    let cut = halves_are 64 (branch_text b) (signed_decimal b.value) (decimal b.target) (split-word 64 (signed_decimal b.value) (decimal b.target) (signed_without_high 64 b.value (omega arith) h.0)) in
+    let cut = halves_are 64 (branch_text b) (signed_decimal b.value) (decimal b.target)
+    (split-word 64 (signed_decimal b.value) (decimal b.target) (signed_without_high 64 b.value (omega arith) h.0)) in
     ap (λ o. o >>= λ p. signed true p.0 >>= λ z. number true (2 ^ 32) p.1 >>= λ n. Some (record { value = z; target = n })) cut
     ∙ ap (λ o. o >>= λ z. number true (2 ^ 32) (decimal b.target) >>= λ n. Some (record { value = z; target = n })) (means_signed.again b.value h.0)
     ∙ ap (λ o. o >>= λ n. Some (record { value = b.value; target = n })) (m.again b.target h.1)
@@ -68,11 +69,13 @@ branch_word b h =
     let t = decimal_word b.target (omega (arith, h.1)) in
     (all_append _ (signed_decimal b.value) (64 ∷ decimal b.target) v.0 (refl, t.0), all_append _ (signed_decimal b.value) (64 ∷ decimal b.target) v.1 (refl, t.1))
 
-pub branch_fails : (exact : Bool) (w front behind : List ℕ) (z : ℤ) → split 64 w ≡ front ∷ split 64 behind → signed exact front ≡ Some z → number exact (2 ^ 32) behind ≡ None → branch_in exact w ≡ None
+pub branch_fails : (exact : Bool) (w front behind : List ℕ) (z : ℤ) → split 64 w ≡ front ∷ split 64 behind → signed exact front ≡ Some z
+    → number exact (2 ^ 32) behind ≡ None → branch_in exact w ≡ None
 unfolding branch_in
 branch_fails exact w front behind z e f g = rw (halves_are 64 w front behind e, f, g) refl
 
-pub branch_is : (exact : Bool) (w front behind : List ℕ) (z : ℤ) (n : ℕ) → split 64 w ≡ front ∷ split 64 behind → signed exact front ≡ Some z → number exact (2 ^ 32) behind ≡ Some n → branch_in exact w ≡ Some (record { value = z; target = n })
+pub branch_is : (exact : Bool) (w front behind : List ℕ) (z : ℤ) (n : ℕ) → split 64 w ≡ front ∷ split 64 behind → signed exact front ≡ Some z
+    → number exact (2 ^ 32) behind ≡ Some n → branch_in exact w ≡ Some (record { value = z; target = n })
 unfolding branch_in
 branch_is exact w front behind z n e f g = rw (halves_are 64 w front behind e, f, g) refl
 
@@ -80,7 +83,8 @@ means_branch : Means (branch_in true) branch_text FitsBranch
 means_branch = record { takes = branch_takes; again = branch_again; words = branch_word }
 
 branch_without : (b : Branch) → FitsBranch b → Without 125 (branch_text b)
-branch_without b h = all_append _ (signed_decimal b.value) (64 ∷ decimal b.target) (signed_without_high 125 b.value (omega arith) h.0) (refl, decimal_without_high 125 b.target (omega arith) (omega (arith, h.1)))
+branch_without b h = all_append _ (signed_decimal b.value) (64 ∷ decimal b.target) (signed_without_high 125 b.value (omega arith) h.0)
+    (refl, decimal_without_high 125 b.target (omega arith) (omega (arith, h.1)))
 
 -- ---- braces
 

@@ -96,14 +96,16 @@ both_takes {A} {B} {a} {b} {sa} {P} ra sb Q tb ws x bare e =
     let whole : ws ≡ (sa p.0.0 ++ sb q.0.0) ++ q.0.1 = s.0 ∙ ap (λ r. sa p.0.0 ++ r) t.0 ∙ sym (append_assoc (sa p.0.0) (sb q.0.0) q.0.1) in
     subst (λ (y : (A × B) × List (List ℕ)). (ws ≡ (sa y.0.0 ++ sb y.0.1) ++ y.1) × (P y.0.0 × Q y.0.1)) (some_is made x q.2) (whole, (s.1, t.1))
 
-pub reads_both : {A B : Type 0} {a : Reader A} {b : Reader B} {sa : A → List (List ℕ)} {sb : B → List (List ℕ)} {P : A → Type 0} {Q : B → Type 0} → Reads a sa P → Reads b sb Q → Reads (both a b) (λ p. sa p.0 ++ sb p.1) (λ p. P p.0 × Q p.1)
+pub reads_both : {A B : Type 0} {a : Reader A} {b : Reader B} {sa : A → List (List ℕ)} {sb : B → List (List ℕ)} {P : A → Type 0} {Q : B → Type 0} → Reads a sa P
+    → Reads b sb Q → Reads (both a b) (λ p. sa p.0 ++ sb p.1) (λ p. P p.0 × Q p.1)
 reads_both {A} {B} {a} {b} {sa} {sb} {P} {Q} ra rb = record {
   takes = both_takes ra sb Q rb.takes;
   again = λ x rest h. ap (both a b) (append_assoc (sa x.0) (sb x.1) rest) ∙ rw (ra.again x.0 (sb x.1 ++ rest) h.0, rb.again x.1 rest h.1) refl;
   words = λ x h. all_append IsWord (sa x.0) (sb x.1) (ra.words x.0 h.0) (rb.words x.1 h.1);
 }
 
-pub ends_both : {A B : Type 0} {a : Reader A} {b : Reader B} {sa : A → List (List ℕ)} {sb : B → List (List ℕ)} {P : A → Type 0} {Q : B → Type 0} → Reads a sa P → Ends b sb Q → Ends (both a b) (λ p. sa p.0 ++ sb p.1) (λ p. P p.0 × Q p.1)
+pub ends_both : {A B : Type 0} {a : Reader A} {b : Reader B} {sa : A → List (List ℕ)} {sb : B → List (List ℕ)} {P : A → Type 0} {Q : B → Type 0} → Reads a sa P
+    → Ends b sb Q → Ends (both a b) (λ p. sa p.0 ++ sb p.1) (λ p. P p.0 × Q p.1)
 ends_both {A} {B} {a} {b} {sa} {sb} {P} {Q} ra rb = record {
   takes = both_takes ra sb Q rb.takes;
   again = λ x h. ap (both a b) (append_assoc (sa x.0) (sb x.1) []) ∙ rw (ra.again x.0 (sb x.1 ++ []) h.0, rb.again x.1 h.1) refl;
@@ -149,7 +151,8 @@ reads_tested {A} {a} {s} {P} r test Q fitted back = record {
 }
 
 -- what follows a tag, which the value tells
-pub ends_tag : {A B : Type 0} {a : Reader A} {f : A → Reader B} {sa : A → List (List ℕ)} {sb : B → List (List ℕ)} {P : A → Type 0} {Q : B → Type 0} → Reads a sa P → (tag : B → A) → ((n : A) → Ends (f n) sb (λ x. (tag x ≡ n) × Q x))
+pub ends_tag : {A B : Type 0} {a : Reader A} {f : A → Reader B} {sa : A → List (List ℕ)} {sb : B → List (List ℕ)} {P : A → Type 0} {Q : B → Type 0}
+    → Reads a sa P → (tag : B → A) → ((n : A) → Ends (f n) sb (λ x. (tag x ≡ n) × Q x))
     → Ends (after a f) (λ x. sa (tag x) ++ sb x) (λ x. P (tag x) × Q x)
 ends_tag {A} {B} {a} {f} {sa} {sb} {P} {Q} ra tag rb = record {
   takes = λ ws y bare e.

@@ -1,5 +1,6 @@
 -- Numbers in decimal: what is read is spelled so, and what is spelled so is read again.
-use Rattle.std.proofs.Common.{◌≡◌, ◌*◌, ◌-◌, get_or, drop, ℕ, zero, suc, ◌+◌, ◌<◌, ◌≤◌, ◌^◌, ◌==◌, ◌&&◌, nat_lt, Bool, true, false, cond, ℤ, pos, negsuc, List, [], ◌∷◌, length, Option, Some, None, refl, sym, ap, ◌∙◌, subst, arith, rules, FitsSigned, w64}
+use Rattle.std.proofs.Common.{◌≡◌, ◌*◌, ◌-◌, get_or, drop, ℕ, zero, suc, ◌+◌, ◌<◌, ◌≤◌, ◌^◌, ◌==◌, ◌&&◌, nat_lt, Bool, true, false, cond, ℤ, pos, negsuc, List}
+use Rattle.std.proofs.Common.{[], ◌∷◌, length, Option, Some, None, refl, sym, ap, ◌∙◌, subst, arith, rules, FitsSigned, w64}
 use Rattle.std.specs.Prelude.{decimal}
 use Rattle.std.specs.Fmt.{signed_decimal}
 use Rattle.std.specs.Str.{bytes_eq}

@@ -17,7 +17,8 @@ use Rattle.vcm_code.specs.Shape.{Place, Said, Filled, axes, directions, settings
 use Rattle.vcm_code.specs.Shape as at
 use Rattle.vcm_words.specs.Numbers.{number, counted, only_if}
 use Rattle.vcm_words.specs.WordReaders.{◌>>=◌, Reader, Spelling}
-use Rattle.vcm_words.specs.Operands.{single, number_text, number_at, axis_text, direction_text, setting_text, source_text, turn_text, quarters_of, part_of, part_number, word_text, three, three_at, behind, spelling, place_words, filled_at, any_word_at, word_at}
+use Rattle.vcm_words.specs.Operands.{single, number_text, number_at, axis_text, direction_text, setting_text, source_text, turn_text, quarters_of, part_of}
+use Rattle.vcm_words.specs.Operands.{part_number, word_text, three, three_at, behind, spelling, place_words, filled_at, any_word_at, word_at}
 use Rattle.vcm_words.proofs.Inverse.{Means, Reads, Ends, ends, bind_some, some_is, only_met, reads_as, reads_one, reads_both, reads_tested, ends_both}
 use Rattle.vcm_words.proofs.NumberLaws.{means_number}
 use Rattle.vcm_words.proofs.WordLaws.{means_marked}

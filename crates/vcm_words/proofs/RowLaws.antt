@@ -115,7 +115,8 @@ ended_takes None x e = absurd cc
 ended_takes (Some (y, [])) x e = ap (λ z. Some (z, [])) (some_is _ _ e)
 ended_takes (Some (y, w ∷ ws)) x e = absurd cc
 
-whole_takes : {A B : Type 0} {a : Reader A} {s : A → List (List ℕ)} {P : A → Type 0} → Ends a s P → (f : A → B) (ws : List (List ℕ)) (y : B) → Bare ws → ended (via f a ws) ≡ Some y → (x : A) × (f x ≡ y) × (ws ≡ s x) × P x
+whole_takes : {A B : Type 0} {a : Reader A} {s : A → List (List ℕ)} {P : A → Type 0} → Ends a s P → (f : A → B) (ws : List (List ℕ)) (y : B) → Bare ws
+    → ended (via f a ws) ≡ Some y → (x : A) × (f x ≡ y) × (ws ≡ s x) × P x
 whole_takes {A} {B} {a} {s} {P} r f ws y bare e =
     let all = ended_takes (via f a ws) y e in
     let p = bind_some (a ws) (λ u. Some (f u.0, u.1)) (y, []) all in
@@ -134,7 +135,8 @@ Spelled version ws r = (ws ≡ row_words r) × FitsRow version r
 cons_is : {w v : List ℕ} {ws vs : List (List ℕ)} → w ≡ v → ws ≡ vs → w ∷ ws ≡ v ∷ vs
 cons_is {w} {v} {ws} {vs} e f = ap (λ u. u ∷ ws) e ∙ ap (λ us. v ∷ us) f
 
-after_takes : (version : Version) (o : Option Heading) (w : List ℕ) (ws : List (List ℕ)) (r : ListRow) → look_up (rows_of heading_text all_headings) w ≡ o → Bare (w ∷ ws) → row_after version true o w ws ≡ Some r → Spelled version (w ∷ ws) r
+after_takes : (version : Version) (o : Option Heading) (w : List ℕ) (ws : List (List ℕ)) (r : ListRow) → look_up (rows_of heading_text all_headings) w ≡ o
+    → Bare (w ∷ ws) → row_after version true o w ws ≡ Some r → Spelled version (w ∷ ws) r
 unfolding row_after Spelled FitsPair FitsIndexed FitsNumbered Any
 after_takes version (Some headings.Head) w ws r n bare e =
     let t = whole_takes ends_version Head ws r bare.1 e in

@@ -28,7 +28,8 @@ abbrev pub with_front : {A : Type 0} → List A → Option (List A × List (List
 with_front front None = None
 with_front front (Some x) = Some (front ++ x.0, x.1)
 
-pub more_is : {A : Type 0} (mark : ℕ) (f : List ℕ → Option A) (w : List ℕ) (ws : List (List ℕ)) (x : A) → ending mark w ≡ None → f w ≡ Some x → up_to mark f (w ∷ ws) ≡ with_front (x ∷ []) (up_to mark f ws)
+pub more_is : {A : Type 0} (mark : ℕ) (f : List ℕ → Option A) (w : List ℕ) (ws : List (List ℕ)) (x : A) → ending mark w ≡ None → f w ≡ Some x
+    → up_to mark f (w ∷ ws) ≡ with_front (x ∷ []) (up_to mark f ws)
 unfolding up_to
 more_is {A} mark f w ws x e g = rw (e, g) (by (up_to mark f ws))
   where
@@ -47,24 +48,34 @@ pub record IsRead {A : Type 0} (mark : ℕ) (f : List ℕ → Option A) (most : 
   pub counted : IsCount most count (length front)
 
 -- one more value
-pub one_read : {A : Type 0} (mark : ℕ) (f : List ℕ → Option A) (most : ℕ) (words rest : List (List ℕ)) (count next : ℕ) (w : List ℕ) (more : List (List ℕ)) (x : A) → IsRead mark f most words rest count → rest ≡ w ∷ more → ending mark w ≡ None → f w ≡ Some x → Next most count next → IsRead mark f most words more next
+pub one_read : {A : Type 0} (mark : ℕ) (f : List ℕ → Option A) (most : ℕ) (words rest : List (List ℕ)) (count next : ℕ) (w : List ℕ) (more : List (List ℕ))
+    (x : A) → IsRead mark f most words rest count → rest ≡ w ∷ more → ending mark w ≡ None → f w ≡ Some x → Next most count next
+    → IsRead mark f most words more next
 one_read mark f most words rest count next w more x r e g h n = record {
   front = r.front ++ x ∷ [];
   same = r.same ∙ ap (λ ws. with_front r.front (up_to mark f ws)) e ∙ ap (with_front r.front) (more_is mark f w more x g h) ∙ with_front-append r.front (x ∷ []) (up_to mark f more);
   counted = let len : length (r.front ++ x ∷ []) ≡ length r.front + 1 = length-append r.front (x ∷ []) in subst (IsCount most next) (sym len) (n (length r.front) r.counted);
 }
 
-pub read_fails : {A : Type 0} (mark : ℕ) (f : List ℕ → Option A) (most : ℕ) (words rest : List (List ℕ)) (count : ℕ) → IsRead mark f most words rest count → up_to mark f rest ≡ None → up_to mark f words ≡ None
+pub read_fails : {A : Type 0} (mark : ℕ) (f : List ℕ → Option A) (most : ℕ) (words rest : List (List ℕ)) (count : ℕ) → IsRead mark f most words rest count
+    → up_to mark f rest ≡ None → up_to mark f words ≡ None
 read_fails mark f most words rest count r e = r.same ∙ ap (with_front r.front) e
 
 pub nothing_left : {A : Type 0} (mark : ℕ) (f : List ℕ → Option A) (rest : List (List ℕ)) → rest ≡ [] → up_to mark f rest ≡ None
 unfolding up_to
 nothing_left mark f rest e = rw e refl
 
-pub last_read : {A : Type 0} (mark : ℕ) (f : List ℕ → Option A) (most : ℕ) (words rest : List (List ℕ)) (count next : ℕ) (w last : List ℕ) (more : List (List ℕ)) (x : A) → IsRead mark f most words rest count → rest ≡ w ∷ more → ending mark w ≡ Some last → f last ≡ Some x → Next most count next → Found mark f most words next more
+pub last_read : {A : Type 0} (mark : ℕ) (f : List ℕ → Option A) (most : ℕ) (words rest : List (List ℕ)) (count next : ℕ) (w last : List ℕ)
+    (more : List (List ℕ)) (x : A) → IsRead mark f most words rest count → rest ≡ w ∷ more → ending mark w ≡ Some last → f last ≡ Some x → Next most count next
+    → Found mark f most words next more
 last_read mark f most words rest count next w last more x r e g h n =
-    let len : length (r.front ++ x ∷ []) ≡ length r.front + 1 = length-append r.front (x ∷ []) in
-    (r.front ++ x ∷ [], r.same ∙ ap (λ ws. with_front r.front (up_to mark f ws)) e ∙ ap (with_front r.front) (last_is mark f w last more x g h), subst (IsCount most next) (sym len) (n (length r.front) r.counted), omega (arith, len))
+    let len : length (r.front ++ x ∷ []) ≡ length r.front + 1 = length-append r.front (x ∷ []) in (
+      r.front ++ x ∷ [],
+      r.same ∙ ap (λ ws. with_front r.front (up_to mark f ws)) e
+          ∙ ap (with_front r.front) (last_is mark f w last more x g h),
+      subst (IsCount most next) (sym len) (n (length r.front) r.counted),
+      omega (arith, len),
+    )
 
 -- ---- a slice
 
@@ -73,20 +84,24 @@ unfolding up_to
 some_value mark f [] h e = cc
 some_value mark f (w ∷ ws) h e = cc
 
-pub last_some : {A : Type 0} (mark : ℕ) (f : List ℕ → Option A) (ws : List (List ℕ)) (w last : List ℕ) (more : List (List ℕ)) → AreLeft mark f false ws → ws ≡ w ∷ more → ending mark w ≡ Some last → f last ≡ None → ⊥
+pub last_some : {A : Type 0} (mark : ℕ) (f : List ℕ → Option A) (ws : List (List ℕ)) (w last : List ℕ) (more : List (List ℕ)) → AreLeft mark f false ws
+    → ws ≡ w ∷ more → ending mark w ≡ Some last → f last ≡ None → ⊥
 last_some mark f ws w last more h e g i = let none = last_fails mark f w last more g i in let both = sym h.1 ∙ ap (up_to mark f) e ∙ none in cc
 
-pub more_some : {A : Type 0} (mark : ℕ) (f : List ℕ → Option A) (ws : List (List ℕ)) (w : List ℕ) (more : List (List ℕ)) → AreLeft mark f false ws → ws ≡ w ∷ more → ending mark w ≡ None → f w ≡ None → ⊥
+pub more_some : {A : Type 0} (mark : ℕ) (f : List ℕ → Option A) (ws : List (List ℕ)) (w : List ℕ) (more : List (List ℕ)) → AreLeft mark f false ws
+    → ws ≡ w ∷ more → ending mark w ≡ None → f w ≡ None → ⊥
 more_some mark f ws w more h e g i = let none = more_fails mark f w more g i in let both = sym h.1 ∙ ap (up_to mark f) e ∙ none in cc
 
-pub last_value : {A : Type 0} (mark : ℕ) (f : List ℕ → Option A) (ws : List (List ℕ)) (w last : List ℕ) (more : List (List ℕ)) (x : A) → ws ≡ w ∷ more → ending mark w ≡ Some last → f last ≡ Some x → values_left mark f false ws ≡ x ∷ []
+pub last_value : {A : Type 0} (mark : ℕ) (f : List ℕ → Option A) (ws : List (List ℕ)) (w last : List ℕ) (more : List (List ℕ)) (x : A) → ws ≡ w ∷ more
+    → ending mark w ≡ Some last → f last ≡ Some x → values_left mark f false ws ≡ x ∷ []
 last_value mark f ws w last more x e g h = ap (λ l. read_or_nil (up_to mark f l)) e ∙ ap read_or_nil (last_is mark f w last more x g h)
 
 with_some : {A : Type 0} (x : A) (o : Option (List A × List (List ℕ))) (y : List A × List (List ℕ)) → with_front (x ∷ []) o ≡ Some y → (z : List A × List (List ℕ)) × (o ≡ Some z)
 with_some x None y e = absurd cc
 with_some x (Some z) y e = (z, refl)
 
-pub more_left : {A : Type 0} (mark : ℕ) (f : List ℕ → Option A) (ws : List (List ℕ)) (w : List ℕ) (more : List (List ℕ)) (x : A) → AreLeft mark f false ws → ws ≡ w ∷ more → ending mark w ≡ None → f w ≡ Some x → AreLeft mark f false more
+pub more_left : {A : Type 0} (mark : ℕ) (f : List ℕ → Option A) (ws : List (List ℕ)) (w : List ℕ) (more : List (List ℕ)) (x : A) → AreLeft mark f false ws
+    → ws ≡ w ∷ more → ending mark w ≡ None → f w ≡ Some x → AreLeft mark f false more
 more_left mark f ws w more x h e g i =
     with_some x (up_to mark f more) h.0 (sym (more_is mark f w more x g i) ∙ ap (up_to mark f) (sym e) ∙ h.1)
 
@@ -94,7 +109,8 @@ front_nil : {A : Type 0} (x : A) (o : Option (List A × List (List ℕ))) (y : L
 front_nil x (Some z) y e = refl
 front_nil x None y e = absurd cc
 
-pub more_values : {A : Type 0} (mark : ℕ) (f : List ℕ → Option A) (ws : List (List ℕ)) (w : List ℕ) (more : List (List ℕ)) (x : A) → AreLeft mark f false ws → ws ≡ w ∷ more → ending mark w ≡ None → f w ≡ Some x → values_left mark f false ws ≡ x ∷ values_left mark f false more
+pub more_values : {A : Type 0} (mark : ℕ) (f : List ℕ → Option A) (ws : List (List ℕ)) (w : List ℕ) (more : List (List ℕ)) (x : A) → AreLeft mark f false ws
+    → ws ≡ w ∷ more → ending mark w ≡ None → f w ≡ Some x → values_left mark f false ws ≡ x ∷ values_left mark f false more
 more_values mark f ws w more x h e g i =
     let l = more_left mark f ws w more x h e g i in
     ap (λ k. read_or_nil (up_to mark f k)) e ∙ ap read_or_nil (more_is mark f w more x g i) ∙ front_nil x (up_to mark f more) l.0 l.1

@@ -54,7 +54,8 @@ text_again bs h =
     ap (text_at true) (append-nil (text bs)) ∙ text_from true (text bs) (39 ∷ bs ++ 39 ∷ []) some (joined-split 32 (39 ∷ bs ++ 39 ∷ [])) ∙ rw (quoted_again bs h) refl
 
 text_words : (bs : List ℕ) → IsText bs → AllByRecursion IsWord (text bs)
-text_words bs h = all_both (Without 32) (Without 10) (text bs) (split_without 32 (39 ∷ bs ++ 39 ∷ [])) (split_keeps 10 32 (39 ∷ bs ++ 39 ∷ []) (refl, text_plain bs (and_parts (nat_le (length bs) 1024) (list_all is_text_byte bs) h).1))
+text_words bs h = all_both (Without 32) (Without 10) (text bs) (split_without 32 (39 ∷ bs ++ 39 ∷ []))
+    (split_keeps 10 32 (39 ∷ bs ++ 39 ∷ []) (refl, text_plain bs (and_parts (nat_le (length bs) 1024) (list_all is_text_byte bs) h).1))
 
 pub ends_text : Ends (text_at true) text IsText
 ends_text = record { takes = text_takes; again = text_again; words = text_words }

@@ -23,7 +23,8 @@ marked_takes mark f (b ∷ bs) x e = split (b == mark) refl e
     split true t g = (bs, ap (λ c. c ∷ bs) (eqb-true b mark t), g)
     split false t g = absurd cc
 
-pub means_marked : {A : Type 0} {f : List ℕ → Option A} {s : A → List ℕ} {P : A → Type 0} (mark : ℕ) → (mark == 32) ≡ false → (mark == 10) ≡ false → Means f s P → Means (marked mark f) (λ x. mark ∷ s x) P
+pub means_marked : {A : Type 0} {f : List ℕ → Option A} {s : A → List ℕ} {P : A → Type 0} (mark : ℕ) → (mark == 32) ≡ false → (mark == 10) ≡ false → Means f s P
+    → Means (marked mark f) (λ x. mark ∷ s x) P
 means_marked {A} {f} {s} {P} mark h g m = record {
   takes = λ w x e. let p = marked_takes mark f w x e in let t = m.takes p.0 x p.2 in (p.1 ∙ ap (λ r. mark ∷ r) t.0, t.1);
   again = λ x q. let same : (mark == mark) ≡ true = grind arith in rw same (m.again x q);

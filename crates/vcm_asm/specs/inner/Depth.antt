@@ -1,6 +1,7 @@
 -- How deep the loops of a program nest.
 use Rattle.std.specs.Prelude.{ℕ, suc, ◌<◌}
-use Rattle.vcm_spec.specs.Program.{Node, Block, Cases, simple, label, jump, choice, choice_else, do_loop, meas, select, ending, done, then, no_more, one_case, default}
+use Rattle.vcm_spec.specs.Program.{Node, Block, Cases, simple, label, jump, choice, choice_else, do_loop, meas, select, ending, done, then, no_more, one_case}
+use Rattle.vcm_spec.specs.Program.{default}
 use Rattle.vcm_num.specs.declared.limits.TheConstants.{DEEPEST_BLOCKS}
 
 -- where d DO stand around a node, a block, or the blocks of a SELECT, at most 32 stand around each of its statements

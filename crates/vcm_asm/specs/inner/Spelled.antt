@@ -5,7 +5,8 @@ use Rattle.vcm_spec.specs.Expression.{Tree, kind_of, spelling, HasKind}
 use Rattle.vcm_spec.specs.TextBytes.{IsText}
 use Rattle.vcm_spec.specs.Simple.{Simple}
 use Rattle.vcm_spec.specs.declared.simple.Simple.TheVariants.{Goto, GoHome, Assign, Feat, PtMeas, SnSet, Trans, Rotate, Recall, Obtain, Output, Text}
-use Rattle.vcm_spec.specs.Program.{Node, Block, Cases, simple, label, jump, choice, choice_else, do_loop, meas, select, ending, done, then, no_more, one_case, default}
+use Rattle.vcm_spec.specs.Program.{Node, Block, Cases, simple, label, jump, choice, choice_else, do_loop, meas, select, ending, done, then, no_more, one_case}
+use Rattle.vcm_spec.specs.Program.{default}
 use Rattle.vcm_num.specs.declared.limits.TheConstants.{MOST_ITEMS}
 
 -- whatever the kinds of the variables are, the spelling has the kind of the tree, and at most 1,024 items if it has one

@@ -8,7 +8,8 @@ use Rattle.vcm_machine.specs.Running.{Running, started, later}
 use Rattle.vcm_margin.specs.inner.Kept.{IsKept}
 
 -- so many steps are kept, and the machine stands behind them; all of them ended without a stop, or the stop that is kept is the machine's
-pub record IsKeeping (part : Workpiece) (c : Code) (n : ℕ) (m : Running) (nexts : List ℕ) (points : List (Option Feature)) (running : ℕ) (stop : Option StopPlace) : Type 0 where
+pub record IsKeeping (part : Workpiece) (c : Code) (n : ℕ) (m : Running) (nexts : List ℕ) (points : List (Option Feature)) (running : ℕ)
+    (stop : Option StopPlace) : Type 0 where
   pub kept : IsKept part c 0 n nexts points running stop
   pub is : m ≡ later n (started part c)
   pub within : running ≤ n

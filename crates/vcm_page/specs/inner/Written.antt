@@ -62,6 +62,7 @@ pub record IsImageCut (texts : Texts) (part : Workpiece) (image : List ℕ) (sho
   pub cut : IsNotWritten part code (page_with texts part code shown is_listing notices n) n f old new
 
 -- why the page of an image was not written: the image is refused, and nothing was written; or such a fault
-abbrev pub IsImageNotPaged : Texts → Workpiece → List ℕ → (Code → List ℕ) → Bool → List Noticed → ℕ → Fault InputRefusal → Option (List ℕ) → Option (List ℕ) → Type 0
+abbrev pub IsImageNotPaged : Texts → Workpiece → List ℕ → (Code → List ℕ) → Bool → List Noticed → ℕ → Fault InputRefusal → Option (List ℕ) → Option (List ℕ)
+    → Type 0
 IsImageNotPaged texts part image shown is_listing notices n (faults.Refused (Image e)) old new = LoadFault (code_at image) e × Keeps old new
 IsImageNotPaged texts part image shown is_listing notices n f old new = IsImageCut texts part image shown is_listing notices n f old new

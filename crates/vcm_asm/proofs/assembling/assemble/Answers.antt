@@ -28,7 +28,8 @@ returns-clause-assembled c =
     ∙ ap (λ l. l ++ block_code (place_in c.mark_block.new.numbers) c.tree-tree.result.now 0 (length l)) c.in_ok-code.ensures
     ∙ ap (λ ms. block_code (place_in ms) c.tree-tree.result.now 0 0) marked
     ∙ ap flat_code tree in
-    with_code program c.args.program.now.tables c.tree-tree.ensures.whole (IsAssembled program c.args.program.now.tables) _ _ _ (c.version_for-version.ensures ∙ ap version_for c.as_slice.ensures) c.in_ok-tables.ensures.tables written
+    with_code program c.args.program.now.tables c.tree-tree.ensures.whole (IsAssembled program c.args.program.now.tables) _ _ _
+    (c.version_for-version.ensures ∙ ap version_for c.as_slice.ensures) c.in_ok-tables.ensures.tables written
     (assembled program c.args.program.now.tables c.tree-tree.ensures.whole)
 
 pub returns-clause-valid : goal.returns-clause-valid

@@ -104,7 +104,8 @@ emit_node-returns-in-None-clause-code t c =
     let to = place_in c.args.numbers.now in
     let old = c.args.code.now in
     on_ok c.put-in-None.result c.put-in-None.ensures (λ put.
-    wrote_if to c.in-Choice.first c.args.depth c.in-Choice.line c.in-Choice.test c.in-Choice.close _ old _ _ _ _ _ _ c.in_ok-postfix-in-Choice.ensures.items c.next-start.ensures c.in_ok-put-in-Choice.ensures c.in_ok-emit_block-in-Choice.ensures.code c.next-middle.ensures c.set_target.ensures.writes put
+    wrote_if to c.in-Choice.first c.args.depth c.in-Choice.line c.in-Choice.test c.in-Choice.close _ old _ _ _ _ _ _ c.in_ok-postfix-in-Choice.ensures.items
+    c.next-start.ensures c.in_ok-put-in-Choice.ensures c.in_ok-emit_block-in-Choice.ensures.code c.next-middle.ensures c.set_target.ensures.writes put
     ∙ ap (λ x. old ++ node_code to (choice_by c.in-Choice.line c.in-Choice.test c.in-Choice.first x c.in-Choice.close) c.args.depth (length old)) (sym c.in-None.is)
     ∙ ap (λ n. old ++ node_code to (node_of n) c.args.depth (length old)) (sym c.in-Choice.is))
 
@@ -122,7 +123,10 @@ emit_node-returns-in_ok-emit_block-in-Some-clause-code t c =
     let r = put_length _ _ _ c.in_ok-put-in-Some.ensures in
     let m = c.next-middle.ensures in
     on_ok c.put-in-Some-2.result c.put-in-Some-2.ensures (λ put.
-    wrote_if_else to c.in-Choice.first c.in-Some.second c.args.depth c.in-Choice.line c.in-Choice.test c.in-Some.mid c.in-Choice.close _ old _ _ _ _ _ _ _ _ _ _ _ c.in_ok-postfix-in-Choice.ensures.items c.next-start.ensures c.in_ok-put-in-Choice.ensures c.in_ok-emit_block-in-Choice.ensures.code m c.in_ok-put-in-Some.ensures (omega (arith, r, m)) c.set_target-in-Some.ensures.writes c.in_ok-emit_block-in-Some.ensures.code c.next-end.ensures c.set_target-in-Some-2.ensures.writes put
+    wrote_if_else to c.in-Choice.first c.in-Some.second c.args.depth c.in-Choice.line c.in-Choice.test c.in-Some.mid c.in-Choice.close _ old _ _ _ _ _ _ _ _ _ _
+    _ c.in_ok-postfix-in-Choice.ensures.items c.next-start.ensures c.in_ok-put-in-Choice.ensures c.in_ok-emit_block-in-Choice.ensures.code m
+    c.in_ok-put-in-Some.ensures (omega (arith, r, m)) c.set_target-in-Some.ensures.writes c.in_ok-emit_block-in-Some.ensures.code c.next-end.ensures
+    c.set_target-in-Some-2.ensures.writes put
     ∙ ap (λ x. old ++ node_code to (choice_by c.in-Choice.line c.in-Choice.test c.in-Choice.first x c.in-Choice.close) c.args.depth (length old)) (sym c.in-Some.is)
     ∙ ap (λ n. old ++ node_code to (node_of n) c.args.depth (length old)) (sym c.in-Choice.is))
 
@@ -139,7 +143,9 @@ emit_node-returns-in_ok-emit_block-in-Repeat-clause-code t c =
     let old = c.args.code.now in
     let s = c.next-start-in-Repeat.ensures in
     on_ok c.put-in-Repeat-2.result c.put-in-Repeat-2.ensures (λ put.
-    wrote_do to c.in-Repeat.body c.args.depth c.in-Repeat.line c.in-Repeat.variable c.in-Repeat.initial c.in-Repeat.limit c.in-Repeat.increment c.in-Repeat.close old _ _ _ _ _ _ c.in_ok-op-in-Repeat.op c.in_ok-op-in-Repeat.ensures.op s c.in_ok-put-in-Repeat.ensures c.in_ok-emit_block-in-Repeat.ensures.code c.next-end-in-Repeat.ensures c.set_target-in-Repeat.ensures.writes put
+    wrote_do to c.in-Repeat.body c.args.depth c.in-Repeat.line c.in-Repeat.variable c.in-Repeat.initial c.in-Repeat.limit c.in-Repeat.increment
+    c.in-Repeat.close old _ _ _ _ _ _ c.in_ok-op-in-Repeat.op c.in_ok-op-in-Repeat.ensures.op s c.in_ok-put-in-Repeat.ensures
+    c.in_ok-emit_block-in-Repeat.ensures.code c.next-end-in-Repeat.ensures c.set_target-in-Repeat.ensures.writes put
     ∙ ap (λ n. old ++ node_code to (node_of n) c.args.depth (length old)) (sym c.in-Repeat.is))
 
 pub emit_node-returns-in_ok-emit_block-in-Repeat-clause-keeps : goal.emit_node-returns-in_ok-emit_block-in-Repeat-clause-keeps

@@ -15,7 +15,8 @@ returns-in_err-at-clause-missed c =
 pub returns-then-at-gt0-clause-met : goal.returns-then-at-gt0-clause-met
 returns-then-at-gt0-clause-met c =
     let w = c.args.way.now in
-    counted_later (fraction w.gone.num w.gone.den) c.args.carried.now (coordinate w.from) (coordinate w.to) c.args.block.now (box_in_order _ _ c.requires.carried) (block_in_order _ c.requires.block) c.args.with_start _ _ (omega arith) c.in_ok-at.ensures.met
+    counted_later (fraction w.gone.num w.gone.den) c.args.carried.now (coordinate w.from) (coordinate w.to) c.args.block.now
+    (box_in_order _ _ c.requires.carried) (block_in_order _ c.requires.block) c.args.with_start _ _ (omega arith) c.in_ok-at.ensures.met
 
 pub returns-else-at-gt0-clause-missed : goal.returns-else-at-gt0-clause-missed
 returns-else-at-gt0-clause-missed c =

@@ -29,8 +29,12 @@ returns-in_err-part-clause-missed c =
     let w = c.args.way.now in
     rw c.from_residual.ensures (no_part (fraction w.gone.num w.gone.den) c.args.carried.now c.args.block.now w.from w.to c.loop-axis.axis _ _ _ _ (record {
       axis = c.loop-axis-test.true;
-      low_is = ap2 (near_read _ (low_reachable c.args.block.now c.requires.block c.loop-axis.axis c.loop-axis-test.true)) (right_read _ _ (c.requires.carried c.loop-axis.axis c.loop-axis-test.true)) ∙ sym (spread_low c.args.carried.now c.args.block.now c.loop-axis.axis c.loop-axis-test.true);
-      high_is = ap2 (near_read _ (high_reachable c.args.block.now c.requires.block c.loop-axis.axis c.loop-axis-test.true)) (left_read _ _ (c.requires.carried c.loop-axis.axis c.loop-axis-test.true)) ∙ sym (spread_high c.args.carried.now c.args.block.now c.loop-axis.axis c.loop-axis-test.true);
+      low_is = ap2 (near_read _ (low_reachable c.args.block.now c.requires.block c.loop-axis.axis c.loop-axis-test.true))
+          (right_read _ _ (c.requires.carried c.loop-axis.axis c.loop-axis-test.true))
+          ∙ sym (spread_low c.args.carried.now c.args.block.now c.loop-axis.axis c.loop-axis-test.true);
+      high_is = ap2 (near_read _ (high_reachable c.args.block.now c.requires.block c.loop-axis.axis c.loop-axis-test.true))
+          (left_read _ _ (c.requires.carried c.loop-axis.axis c.loop-axis-test.true))
+          ∙ sym (spread_high c.args.carried.now c.args.block.now c.loop-axis.axis c.loop-axis-test.true);
       from_is = near_read _ (reachable c.args.way.now.from c.args.way.now.near_from c.loop-axis.axis c.loop-axis-test.true);
       to_is = near_read _ (reachable c.args.way.now.to c.args.way.now.near_to c.loop-axis.axis c.loop-axis-test.true);
     }) c.in_err-part.ensures)
@@ -40,8 +44,12 @@ loop-axis-preserved c =
     let w = c.args.way.now in
     next_part (fraction w.gone.num w.gone.den) (spread c.args.carried.now c.args.block.now) w.from w.to c.loop-axis.axis _ _ _ _ (record {
       axis = c.loop-axis-test.true;
-      low_is = ap2 (near_read _ (low_reachable c.args.block.now c.requires.block c.loop-axis.axis c.loop-axis-test.true)) (right_read _ _ (c.requires.carried c.loop-axis.axis c.loop-axis-test.true)) ∙ sym (spread_low c.args.carried.now c.args.block.now c.loop-axis.axis c.loop-axis-test.true);
-      high_is = ap2 (near_read _ (high_reachable c.args.block.now c.requires.block c.loop-axis.axis c.loop-axis-test.true)) (left_read _ _ (c.requires.carried c.loop-axis.axis c.loop-axis-test.true)) ∙ sym (spread_high c.args.carried.now c.args.block.now c.loop-axis.axis c.loop-axis-test.true);
+      low_is = ap2 (near_read _ (low_reachable c.args.block.now c.requires.block c.loop-axis.axis c.loop-axis-test.true))
+          (right_read _ _ (c.requires.carried c.loop-axis.axis c.loop-axis-test.true))
+          ∙ sym (spread_low c.args.carried.now c.args.block.now c.loop-axis.axis c.loop-axis-test.true);
+      high_is = ap2 (near_read _ (high_reachable c.args.block.now c.requires.block c.loop-axis.axis c.loop-axis-test.true))
+          (left_read _ _ (c.requires.carried c.loop-axis.axis c.loop-axis-test.true))
+          ∙ sym (spread_high c.args.carried.now c.args.block.now c.loop-axis.axis c.loop-axis-test.true);
       from_is = near_read _ (reachable c.args.way.now.from c.args.way.now.near_from c.loop-axis.axis c.loop-axis-test.true);
       to_is = near_read _ (reachable c.args.way.now.to c.args.way.now.near_to c.loop-axis.axis c.loop-axis-test.true);
     })
@@ -55,5 +63,6 @@ returns-then-is_before-clause-missed c =
 pub returns-else-is_before-clause-met : goal.returns-else-is_before-clause-met
 returns-else-is_before-clause-met c =
     let w = c.args.way.now in
-    entered_at (fraction w.gone.num w.gone.den) c.args.carried.now c.args.block.now w.from w.to (box_in_order _ _ c.requires.carried) (block_in_order _ c.requires.block) _ c.loop-axis.stretch (omega arith)
+    entered_at (fraction w.gone.num w.gone.den) c.args.carried.now c.args.block.now w.from w.to (box_in_order _ _ c.requires.carried)
+    (block_in_order _ c.requires.block) _ c.loop-axis.stretch (omega arith)
     c.loop-axis.invariant (grind arith)

@@ -14,7 +14,8 @@ loop-index-preserved-then-not-is_touching c =
     let w = c.args.way.now in
     let gone = fraction w.gone.num w.gone.den in
     skip_next c.args.blocks.now (Counts c.args.with_start gone c.args.carried.now (coordinate w.from) (coordinate w.to)) c.loop-index.index c.loop-index-test.true
-    (untouched gone c.args.carried.now (read_at c.args.blocks.now c.loop-index.index) c.swept-area.result w.from w.to c.is_touching.result c.swept-area.ensures c.is_touching.ensures (search rules) c.args.with_start)
+    (untouched gone c.args.carried.now (read_at c.args.blocks.now c.loop-index.index) c.swept-area.result w.from w.to c.is_touching.result c.swept-area.ensures
+    c.is_touching.ensures (search rules) c.args.with_start)
     c.loop-index.first c.loop-index.invariant
 
 pub loop-index-preserved : goal.loop-index-preserved
@@ -23,7 +24,8 @@ loop-index-preserved c =
     let gone = fraction w.gone.num w.gone.den in
     elim c.match-counted.branch [
       | in-Some v ↦ rw v.first-is (add_next c.args.blocks.now (Counts c.args.with_start gone c.args.carried.now (coordinate w.from) (coordinate w.to)) c.loop-index.index c.loop-index-test.true
-          (positive c.args.with_start gone c.args.carried.now (coordinate w.from) (coordinate w.to)) _ refl v.in-Some.ensures.met c.loop-index.first c.loop-index.invariant v.sooner.result v.sooner.ensures)
+          (positive c.args.with_start gone c.args.carried.now (coordinate w.from) (coordinate w.to)) _ refl v.in-Some.ensures.met c.loop-index.first
+          c.loop-index.invariant v.sooner.result v.sooner.ensures)
       | in_default v ↦ rw v.first-is (skip_next c.args.blocks.now (Counts c.args.with_start gone c.args.carried.now (coordinate w.from) (coordinate w.to)) c.loop-index.index c.loop-index-test.true
           v.in_default.ensures.missed c.loop-index.first c.loop-index.invariant)
     ]

@@ -6,7 +6,8 @@ narrowed-clear-requires-clause-some c =
     let blocks = c.args.blocks.now.blocks in
     let box = c.args.block.now in
     let all = c.bounds-bounds.ensures.valid.each in
-    some_width blocks box c.requires.block all c.args.gone.now c.args.by c.args.met (clear_start blocks box c.requires.block all c.args.gone.now c.contact_on.result c.in-None.is c.contact_on.ensures) c.requires.met
+    some_width blocks box c.requires.block all c.args.gone.now c.args.by c.args.met
+    (clear_start blocks box c.requires.block all c.args.gone.now c.contact_on.result c.in-None.is c.contact_on.ensures) c.requires.met
 
 pub narrowed-clear-requires-clause-clear : goal.narrowed-clear-requires-clause-clear
 narrowed-clear-requires-clause-clear c =
@@ -14,7 +15,8 @@ narrowed-clear-requires-clause-clear c =
 
 pub returns-in-Some : goal.returns-in-Some
 returns-in-Some c narrow ws p placed room =
-    trial_first c.args.blocks.now.blocks c.args.block.now c.requires.block c.bounds-bounds.ensures.valid.each c.args.gone.now c.args.place ws p placed c.contact_on.result c.in-Some.field-0 c.in-Some.is
+    trial_first c.args.blocks.now.blocks c.args.block.now c.requires.block c.bounds-bounds.ensures.valid.each c.args.gone.now c.args.place ws p placed
+    c.contact_on.result c.in-Some.field-0 c.in-Some.is
     c.contact_on.ensures c.args.by narrow room
 
 pub returns-in-None : goal.returns-in-None

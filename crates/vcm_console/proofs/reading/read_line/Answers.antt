@@ -6,7 +6,8 @@ pub loop-used-preserved : goal.loop-used-preserved
 loop-used-preserved g c = record {
   within = omega (arith, c.loop-used-test.true);
   bytes =
-      one_more_read (g.R.Read.remaining c.args.reader.now) (g.R.Read.remaining c.loop-used.reader) (g.R.Read.remaining c.next_byte.new.reader) c.loop-used.kept c.push.new.self c.loop-used.used c.in-Ok-Some.byte
+      one_more_read (g.R.Read.remaining c.args.reader.now) (g.R.Read.remaining c.loop-used.reader) (g.R.Read.remaining c.next_byte.new.reader) c.loop-used.kept
+      c.push.new.self c.loop-used.used c.in-Ok-Some.byte
       c.loop-used.invariant.bytes (rw c.in-Ok-Some.field-0-is at c.in-Ok-Some.ensures) c.if-byte-eq10.false c.push.ensures;
 }
 

@@ -5,4 +5,6 @@ pub returns-in_default : goal.returns-in_default
 returns-in_default g c = grown_none _
 
 pub returns : goal.returns
-returns g c = grown_more _ _ _ _ (grown_more _ _ _ _ (grown_more _ _ _ _ (grown_more _ _ _ _ (grown_more _ _ _ _ (grown_none _) c.in_ok-begin_member.ensures) c.in_ok-text.ensures) c.in_ok-text-2.ensures) c.in_ok-end.ensures) c.in_ok-number.ensures
+returns g c = grown_more _ _ _ _ (grown_more _ _ _ _
+    (grown_more _ _ _ _ (grown_more _ _ _ _ (grown_more _ _ _ _ (grown_none _) c.in_ok-begin_member.ensures) c.in_ok-text.ensures) c.in_ok-text-2.ensures)
+    c.in_ok-end.ensures) c.in_ok-number.ensures

@@ -9,5 +9,6 @@ pub returns : goal.returns
 returns g c =
     λ d. behind_one d c.args.talk.now c.send_put.new.self c.send_put.result
     (told_grown (IsBehind d) c.args.talk.now c.send_put.new.self (event_front (next_seq c.args.talk.now.seq) (codes "stopped")) c.in_ok-message.message
-    c.put_standing-put.new.message c.put_standing-put.result c.send_put.result (λ ts. inl (next_seq c.args.talk.now.seq, ts, refl)) c.in_ok-message.ensures c.put_standing-put.ensures c.send_put.ensures.told
+    c.put_standing-put.new.message c.put_standing-put.result c.send_put.result (λ ts. inl (next_seq c.args.talk.now.seq, ts, refl)) c.in_ok-message.ensures
+    c.put_standing-put.ensures c.send_put.ensures.told
     c.send_put.ensures.untold)

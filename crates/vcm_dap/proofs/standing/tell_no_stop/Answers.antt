@@ -7,4 +7,5 @@ use Rattle.vcm_dap.proofs.standing.tell_no_stop.Goals as goal
 pub returns : goal.returns
 returns g c =
     behind_text c.args.session.now c.args.talk.now c.tell_between.new.talk (codes "stdout") (codes "no stop after " ++ (c.as_bytes-steps.result.now ++ codes " steps\n")) c.tell_between.result
-    (inr (inl (ap (λ l. codes "no stop after " ++ (l ++ codes " steps\n")) (c.as_bytes-steps.ensures.value ∙ c.format.ensures.text ∙ ap (λ (s : Standing). decimal s.steps) c.standing.ensures)))) c.tell_between.ensures
+    (inr (inl (ap (λ l. codes "no stop after " ++ (l ++ codes " steps\n"))
+    (c.as_bytes-steps.ensures.value ∙ c.format.ensures.text ∙ ap (λ (s : Standing). decimal s.steps) c.standing.ensures)))) c.tell_between.ensures

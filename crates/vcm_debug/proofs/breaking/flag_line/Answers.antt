@@ -10,6 +10,8 @@ loop-n-preserved c =
     let l : c.loop-n.n < length ss = omega (arith, c.loop-n-test.true, c.statement_count-count.ensures.count) in
     let line_is = ap line_in c.line.ensures.1 ∙ sym c.line.ensures.2 ∙ sym c.from.ensures in
     elim c.if-from-line.branch [
-      | then-from-line w ↦ flag_on c.args.line c.args.is_set c.loop-n.n ss c.args.breakpoints.now c.loop-n.breakpoints _ l c.requires c.loop-n.invariant (line_is ∙ w.if-from-line.true) w.breakpoints-is
-      | else-from-line w ↦ keep_on c.args.line c.args.is_set c.loop-n.n ss c.args.breakpoints.now c.loop-n.breakpoints _ l c.requires c.loop-n.invariant (λ e. w.if-from-line.false (sym line_is ∙ e)) w.breakpoints-is
+      | then-from-line w ↦ flag_on c.args.line c.args.is_set c.loop-n.n ss c.args.breakpoints.now c.loop-n.breakpoints _ l c.requires c.loop-n.invariant
+          (line_is ∙ w.if-from-line.true) w.breakpoints-is
+      | else-from-line w ↦ keep_on c.args.line c.args.is_set c.loop-n.n ss c.args.breakpoints.now c.loop-n.breakpoints _ l c.requires c.loop-n.invariant
+          (λ e. w.if-from-line.false (sym line_is ∙ e)) w.breakpoints-is
     ]

@@ -16,7 +16,8 @@ prefixed-requires c =
 pub returns-in_err-size-clause-fault : goal.returns-in_err-size-clause-fault
 returns-in_err-size-clause-fault c =
     let p = err_from_is_err_and c.from_residual.result c.from_residual.ensures.1 in
-    rw (p.1, p.2) (signs_told c.args.line c.args.signs.items c.signs.signs.items c.pop.new.self.items c.in-Some.sign c.args.size c.signs.size c.args.draft.now c.signs.draft _ c.in-Some.ensures.items c.signs.invariant c.in_err-size.ensures.fault)
+    rw (p.1, p.2) (signs_told c.args.line c.args.signs.items c.signs.signs.items c.pop.new.self.items c.in-Some.sign c.args.size c.signs.size c.args.draft.now
+    c.signs.draft _ c.in-Some.ensures.items c.signs.invariant c.in_err-size.ensures.fault)
 
 pub signs-preserved : goal.signs-preserved
 signs-preserved c = λ e es h z.

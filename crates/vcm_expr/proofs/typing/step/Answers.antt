@@ -16,12 +16,17 @@ pub returns-in_err-x-in-Variable-clause-fault : goal.returns-in_err-x-in-Variabl
 returns-in_err-x-in-Variable-clause-fault c =
     let p = err_from_is_err_and c.from_residual-in_err-x-in-Variable.result c.from_residual-in_err-x-in-Variable.ensures.1 in
     let f = c.in_err-x-in-Variable.ensures.fault in
-    rw (p.1, p.2, c.in-Variable.is) (inr (f.0, λ es before t. leaf_fails c.args.names.now (Variable c.in-Variable.name c.in-Variable.expansion) es c.args.open.now before c.args.items.now.items _ f.1 t))
+    rw (p.1, p.2, c.in-Variable.is) (inr (
+      f.0,
+      λ es before t. leaf_fails c.args.names.now (Variable c.in-Variable.name c.in-Variable.expansion) es
+          c.args.open.now before c.args.items.now.items _ f.1 t,
+    ))
 
 pub returns-in_err-kind-in-Front-clause-fault : goal.returns-in_err-kind-in-Front-clause-fault
 returns-in_err-kind-in-Front-clause-fault c =
     let p = err_from_is_err_and c.from_residual-in_err-kind-in-Front.result c.from_residual-in_err-kind-in-Front.ensures.1 in
-    rw (p.1, p.2, c.in-Front.is) (front_told c.args.names.now c.in-Front.prefix c.top-a.result c.args.open.now _ c.args.items.now.items c.args.line _ c.top-a.ensures c.in_err-kind-in-Front.ensures.fault)
+    rw (p.1, p.2, c.in-Front.is) (front_told c.args.names.now c.in-Front.prefix c.top-a.result c.args.open.now _ c.args.items.now.items c.args.line _
+    c.top-a.ensures c.in_err-kind-in-Front.ensures.fault)
 
 pub pair-requires : goal.pair-requires
 pair-requires c = start_within c.args.names.now c.requires.0 c.take-b.result c.args.open.now _ c.requires.1 c.args.items.now.items c.take-b.ensures.value c.requires.2
@@ -29,7 +34,8 @@ pair-requires c = start_within c.args.names.now c.requires.0 c.take-b.result c.a
 pub returns-in_err-kind-in-Between-clause-fault : goal.returns-in_err-kind-in-Between-clause-fault
 returns-in_err-kind-in-Between-clause-fault c =
     let p = err_from_is_err_and c.from_residual-in_err-kind-in-Between.result c.from_residual-in_err-kind-in-Between.ensures.1 in
-    rw (p.1, p.2, c.in-Between.is) (between_told c.args.names.now c.in-Between.op c.top-a-in-Between.result c.take-b.result c.args.open.now _ _ c.args.items.now.items c.args.line _ c.take-b.ensures.value c.top-a-in-Between.ensures c.in_err-kind-in-Between.ensures.fault)
+    rw (p.1, p.2, c.in-Between.is) (between_told c.args.names.now c.in-Between.op c.top-a-in-Between.result c.take-b.result c.args.open.now _ _
+    c.args.items.now.items c.args.line _ c.take-b.ensures.value c.top-a-in-Between.ensures c.in_err-kind-in-Between.ensures.fault)
 
 pub push_operand-requires : goal.push_operand-requires
 push_operand-requires c = leaf_room c.args.names.now (Number c.in-Number.literal) c.requires.0 _ c.requires.1 _ c.requires.2 (rw c.in-Number.is at c.requires.3)

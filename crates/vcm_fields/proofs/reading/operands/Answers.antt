@@ -1,7 +1,12 @@
 use Rattle.std.proofs.Common.{rules}
 use Rattle.vcm_fields.specs.Readers.{operands_by}
 use Rattle.vcm_fields.proofs.reading.operands.Goals as goal
-use Rattle.vcm_fields.proofs.reading.operands.Goals.{in-EndFil, in-If+in_ok-items-in-If+in_ok-target-in-If, in-Else+in_ok-target-in-Else, in-EndIf, in-Do+in_ok-variable-in-Do+in_ok-pair-in-Do+in_ok-initial-in-Do+in_ok-target-in-Do, in-EndDo+in_ok-variable-in-EndDo+in_ok-pair-in-EndDo+in_ok-target-in-EndDo, in-Label, in-JumpTo+in_ok-target-in-JumpTo, in-Meas+in_ok-feature-in-Meas, in-EndMes, in-Select+in_ok-items-in-Select+in_ok-branches-in-Select+in_ok-target-in-Select, in-Case, in-EndCas+in_ok-target-in-EndCas, in-DftCas, in-EndSel, in_default+in_ok-simple-in_default}
+use Rattle.vcm_fields.proofs.reading.operands.Goals.{in-EndFil, in-If+in_ok-items-in-If+in_ok-target-in-If, in-Else+in_ok-target-in-Else, in-EndIf}
+use Rattle.vcm_fields.proofs.reading.operands.Goals.{in-Do+in_ok-variable-in-Do+in_ok-pair-in-Do+in_ok-initial-in-Do+in_ok-target-in-Do}
+use Rattle.vcm_fields.proofs.reading.operands.Goals.{in-EndDo+in_ok-variable-in-EndDo+in_ok-pair-in-EndDo+in_ok-target-in-EndDo, in-Label}
+use Rattle.vcm_fields.proofs.reading.operands.Goals.{in-JumpTo+in_ok-target-in-JumpTo, in-Meas+in_ok-feature-in-Meas, in-EndMes}
+use Rattle.vcm_fields.proofs.reading.operands.Goals.{in-Select+in_ok-items-in-Select+in_ok-branches-in-Select+in_ok-target-in-Select, in-Case}
+use Rattle.vcm_fields.proofs.reading.operands.Goals.{in-EndCas+in_ok-target-in-EndCas, in-DftCas, in-EndSel, in_default+in_ok-simple-in_default}
 
 pub returns : goal.returns
 unfolding operands_by

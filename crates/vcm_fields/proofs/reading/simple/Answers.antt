@@ -1,7 +1,14 @@
 use Rattle.std.proofs.Common.{rules}
 use Rattle.vcm_fields.specs.Readers.{operands_by}
 use Rattle.vcm_fields.proofs.reading.simple.Goals as goal
-use Rattle.vcm_fields.proofs.reading.simple.Goals.{in-Goto+in_ok-x-in-Goto, in-GoHome, in-Assign+in_ok-variable-in-Assign, in-Feat+in_ok-feature-in-Feat+in_ok-x-in-Feat+in_ok-axis-in-Feat, in-PtMeas+in_ok-feature-in-PtMeas+in_ok-x-in-PtMeas+in_ok-direction-in-PtMeas, in-SnSet+in_ok-setting-in-SnSet+in_ok-items-in-SnSet, in-Trans+in_ok-frame-in-Trans+in_ok-x-in-Trans, in-Rotate+in_ok-frame-in-Rotate+in_ok-turn-in-Rotate+in_ok-quarters-in-Rotate, in-Recall+in_ok-frame-in-Recall, in-Obtain+in_ok-variable-in-Obtain+in_ok-source-in-Obtain+in_ok-feature-in-Obtain+in_ok-part-in-Obtain, in-Output+in_ok-source-in-Output+in_ok-feature-in-Output, in-Text+in_ok-text-in-Text}
+use Rattle.vcm_fields.proofs.reading.simple.Goals.{in-Goto+in_ok-x-in-Goto, in-GoHome, in-Assign+in_ok-variable-in-Assign}
+use Rattle.vcm_fields.proofs.reading.simple.Goals.{in-Feat+in_ok-feature-in-Feat+in_ok-x-in-Feat+in_ok-axis-in-Feat}
+use Rattle.vcm_fields.proofs.reading.simple.Goals.{in-PtMeas+in_ok-feature-in-PtMeas+in_ok-x-in-PtMeas+in_ok-direction-in-PtMeas}
+use Rattle.vcm_fields.proofs.reading.simple.Goals.{in-SnSet+in_ok-setting-in-SnSet+in_ok-items-in-SnSet, in-Trans+in_ok-frame-in-Trans+in_ok-x-in-Trans}
+use Rattle.vcm_fields.proofs.reading.simple.Goals.{in-Rotate+in_ok-frame-in-Rotate+in_ok-turn-in-Rotate+in_ok-quarters-in-Rotate}
+use Rattle.vcm_fields.proofs.reading.simple.Goals.{in-Recall+in_ok-frame-in-Recall}
+use Rattle.vcm_fields.proofs.reading.simple.Goals.{in-Obtain+in_ok-variable-in-Obtain+in_ok-source-in-Obtain+in_ok-feature-in-Obtain+in_ok-part-in-Obtain}
+use Rattle.vcm_fields.proofs.reading.simple.Goals.{in-Output+in_ok-source-in-Output+in_ok-feature-in-Output, in-Text+in_ok-text-in-Text}
 
 pub returns : goal.returns
 unfolding operands_by

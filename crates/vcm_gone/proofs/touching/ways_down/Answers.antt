@@ -50,7 +50,8 @@ returns-clause-ways g c =
       down_is = subst (λ (q : Point). IsSameWay (seen c.whole-down.result) (whole going.Search q t.touch)) c.requires.aims.approach_is
           (subst (λ (q : Point). IsSameWay (seen c.whole-down.result) (whole going.Search c.args.aims.approach q)) at c.whole-down.ensures);
       at_is = at;
-      retract_is = retract_at part c.bounds-bounds.ensures.valid c.args.settings (coordinate c.args.from) (coordinate m.nominal) m.toward c.args.stop c.requires.ends c.args.aims.approach c.args.aims.end c.requires.aims
+      retract_is = retract_at part c.bounds-bounds.ensures.valid c.args.settings (coordinate c.args.from) (coordinate m.nominal) m.toward c.args.stop
+          c.requires.ends c.args.aims.approach c.args.aims.end c.requires.aims
           c.touch_point-at.result c.moved-retract.result at (rw c.retract.ensures.value at c.moved-retract.ensures);
     }
 
@@ -65,5 +66,6 @@ returns-clause-back g c =
     let m = c.args.measuring in
     let part = c.args.blocks.now in
     let is = c.touch_point-at.ensures.is (centre_of part (coordinate m.nominal) m.toward) c.requires.aims in
-    retract_near part c.bounds-bounds.ensures.valid c.args.settings (coordinate c.args.from) (coordinate m.nominal) m.toward c.args.stop c.requires.ends c.args.aims.approach c.args.aims.end c.requires.aims
+    retract_near part c.bounds-bounds.ensures.valid c.args.settings (coordinate c.args.from) (coordinate m.nominal) m.toward c.args.stop c.requires.ends
+    c.args.aims.approach c.args.aims.end c.requires.aims
     c.touch_point-at.result c.moved-retract.result (rw c.requires.tie at is) (rw c.retract.ensures.value at c.moved-retract.ensures)

@@ -20,4 +20,5 @@ returns-then-is_empty c = all_read _ _ _ _ _ _ c.loop-text.invariant c.in_defaul
 
 pub returns-else-is_empty : goal.returns-else-is_empty
 returns-else-is_empty c =
-    inr (unended _ _ _ _ _ _ c.loop-text.invariant c.in_default.ensures.none.1 (not_zero _ (sym c.is_empty.ensures ∙ c.if-is_empty.false)) ∙ ap (λ f. Err f) (sym (c.at_line-else-is_empty.ensures.told bad_line)))
+    inr (unended _ _ _ _ _ _ c.loop-text.invariant c.in_default.ensures.none.1 (not_zero _ (sym c.is_empty.ensures ∙ c.if-is_empty.false))
+    ∙ ap (λ f. Err f) (sym (c.at_line-else-is_empty.ensures.told bad_line)))

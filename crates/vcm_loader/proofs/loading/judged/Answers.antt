@@ -25,8 +25,10 @@ returns-in_err-scanned-clause-fault c =
 pub returns-in_err-verdict-2-clause-fault : goal.returns-in_err-verdict-2-clause-fault
 returns-in_err-verdict-2-clause-fault c =
     let p = err_from_is_err_and c.from_residual-in_err-verdict-2.result c.from_residual-in_err-verdict-2.ensures.1 in
-    rw (p.1, p.2) (end_refuses _ _ _ c.in_ok-image.ensures c.in_ok-verdict.ensures.read.1 c.in_ok-verdict.ensures.read.0 _ c.in_ok-scanned.ensures _ (rw c.in_err-verdict-2.was at c.in_ok-verdict.ensures.judged))
+    rw (p.1, p.2) (end_refuses _ _ _ c.in_ok-image.ensures c.in_ok-verdict.ensures.read.1 c.in_ok-verdict.ensures.read.0 _ c.in_ok-scanned.ensures _
+    (rw c.in_err-verdict-2.was at c.in_ok-verdict.ensures.judged))
 
 pub returns-clause-found : goal.returns-clause-found
 returns-clause-found c =
-    rw c.new.ensures (end_valid _ _ _ c.in_ok-image.ensures c.in_ok-verdict.ensures.read.1 c.in_ok-verdict.ensures.read.0 _ c.in_ok-scanned.ensures (λ i. omega (arith, c.type_inv.bytes i)) (rw c.in_ok-verdict-2.was at c.in_ok-verdict.ensures.judged))
+    rw c.new.ensures (end_valid _ _ _ c.in_ok-image.ensures c.in_ok-verdict.ensures.read.1 c.in_ok-verdict.ensures.read.0 _ c.in_ok-scanned.ensures
+    (λ i. omega (arith, c.type_inv.bytes i)) (rw c.in_ok-verdict-2.was at c.in_ok-verdict.ensures.judged))

@@ -68,8 +68,12 @@ returns-in_err-limit-clause-turned c setup line =
     let q = read_first _ _ pair_at (both three_at target_at) c.known_short-variable.result.1.now o.1 rest _ c.pair.ensures c.known-pair.ensures r.1 in
     let b = both_are three_at target_at _ o.1.1 rest q.1 in
     let t = three_are _ o.1.1.0 b.0 b.1 in
-    let x = c.in_ok-initial.ensures.value o.1.1.0.0 t.0 t.2 in
-    (do_second setup c.args.world.now.state o.0 o.1.0 o.1.1.0.0 o.1.1.0.1.0 o.1.1.0.1.1 o.1.1.1 line c.args.next c.args.pairs.now _ x.0 _ (c.in_err-limit.ensures.fault o.1.1.0.1.0 t.1 (ap expression_at x.1 ∙ t.3)), refl, refl))
+    let x = c.in_ok-initial.ensures.value o.1.1.0.0 t.0 t.2 in (
+      do_second setup c.args.world.now.state o.0 o.1.0 o.1.1.0.0 o.1.1.0.1.0 o.1.1.0.1.1 o.1.1.1 line c.args.next c.args.pairs.now _ x.0 _
+          (c.in_err-limit.ensures.fault o.1.1.0.1.0 t.1 (ap expression_at x.1 ∙ t.3)),
+      refl,
+      refl,
+    ))
 
 pub returns-in_err-increment-clause-turned : goal.returns-in_err-increment-clause-turned
 returns-in_err-increment-clause-turned c setup line =
@@ -80,8 +84,12 @@ returns-in_err-increment-clause-turned c setup line =
     let b = both_are three_at target_at _ o.1.1 rest q.1 in
     let t = three_are _ o.1.1.0 b.0 b.1 in
     let x = c.in_ok-initial.ensures.value o.1.1.0.0 t.0 t.2 in
-    let y = c.in_ok-limit.ensures.value o.1.1.0.1.0 t.1 (ap expression_at x.1 ∙ t.3) in
-    (do_third setup c.args.world.now.state o.0 o.1.0 o.1.1.0.0 o.1.1.0.1.0 o.1.1.0.1.1 o.1.1.1 line c.args.next c.args.pairs.now _ x.0 _ y.0 _ (c.in_err-increment.ensures.fault o.1.1.0.1.1 b.0 (ap expression_at y.1 ∙ t.4)), refl, refl))
+    let y = c.in_ok-limit.ensures.value o.1.1.0.1.0 t.1 (ap expression_at x.1 ∙ t.3) in (
+      do_third setup c.args.world.now.state o.0 o.1.0 o.1.1.0.0 o.1.1.0.1.0 o.1.1.0.1.1 o.1.1.1 line c.args.next c.args.pairs.now _ x.0 _ y.0 _
+          (c.in_err-increment.ensures.fault o.1.1.0.1.1 b.0 (ap expression_at y.1 ∙ t.4)),
+      refl,
+      refl,
+    ))
 
 pub returns-then-is_zero-clause-turned : goal.returns-then-is_zero-clause-turned
 returns-then-is_zero-clause-turned c setup line o rest h =
@@ -113,7 +121,8 @@ returns-then-is_past-clause-turned c setup line o rest h =
     let s = rw (to_z-of_z fa, r.0) at c.set_index.ensures.state in
     let past = rw (to_z-of_z fb, to_z-of_z fc, r.0) at c.is_past.ensures in
     let kept = rw (to_z-of_z fb, to_z-of_z fc, q.0) at c.set_pair.ensures in
-    do_past setup c.args.world.now.state o.0 o.1.0 o.1.1.0.0 o.1.1.0.1.0 o.1.1.0.1.1 o.1.1.1 line c.args.next c.args.pairs.now _ x.0 _ y.0 _ z.0 (sym zero ∙ c.if-is_zero.false) c.set_index.new.world.state s (sym past ∙ c.if-is_past.true)
+    do_past setup c.args.world.now.state o.0 o.1.0 o.1.1.0.0 o.1.1.0.1.0 o.1.1.0.1.1 o.1.1.1 line c.args.next c.args.pairs.now _ x.0 _ y.0 _ z.0
+    (sym zero ∙ c.if-is_zero.false) c.set_index.new.world.state s (sym past ∙ c.if-is_past.true)
     ∙ ap (λ l. code_state c.set_index.new.world.state o.1.1.1 l) (sym kept)
     ∙ ap (λ e. code_state c.set_index.new.world.state e c.set_pair.new.pairs) (sym exit)
 
@@ -133,5 +142,6 @@ returns-else-is_past-clause-turned c setup line o rest h =
     let s = rw (to_z-of_z fa, r.0) at c.set_index.ensures.state in
     let past = rw (to_z-of_z fb, to_z-of_z fc, r.0) at c.is_past.ensures in
     let kept = rw (to_z-of_z fb, to_z-of_z fc, q.0) at c.set_pair.ensures in
-    do_enter setup c.args.world.now.state o.0 o.1.0 o.1.1.0.0 o.1.1.0.1.0 o.1.1.0.1.1 o.1.1.1 line c.args.next c.args.pairs.now _ x.0 _ y.0 _ z.0 (sym zero ∙ c.if-is_zero.false) c.set_index.new.world.state s (sym past ∙ c.if-is_past.false)
+    do_enter setup c.args.world.now.state o.0 o.1.0 o.1.1.0.0 o.1.1.0.1.0 o.1.1.0.1.1 o.1.1.1 line c.args.next c.args.pairs.now _ x.0 _ y.0 _ z.0
+    (sym zero ∙ c.if-is_zero.false) c.set_index.new.world.state s (sym past ∙ c.if-is_past.false)
     ∙ ap (λ l. code_state c.set_index.new.world.state (c.args.next + 1) l) (sym kept)

@@ -29,8 +29,11 @@ returns-in_err-nominal-clause-carried g c =
     let p = err_from_is_err_and c.from_residual.result c.from_residual.ensures.1 in
     rw (p.1, p.2) (λ o rest h.
     let r = known_first variable_at (both three_at direction_at) _ o rest _ c.known_short-feature.ensures h in
-    let t = both_are three_at direction_at _ o.1 rest r.1 in
-    (ptmeas_stops (setup_of (g.P.Part.part c.args.part.now) c.args.world.now.tables) c.args.world.now.state o.1.0.0 o.1.0.1.0 o.1.0.1.1 o.0 o.1.1 _ (c.in_err-nominal.ensures.fault o.1.0 t.0 t.1), refl))
+    let t = both_are three_at direction_at _ o.1 rest r.1 in (
+      ptmeas_stops (setup_of (g.P.Part.part c.args.part.now) c.args.world.now.tables) c.args.world.now.state o.1.0.0 o.1.0.1.0 o.1.0.1.1 o.0 o.1.1 _
+          (c.in_err-nominal.ensures.fault o.1.0 t.0 t.1),
+      refl,
+    ))
 
 pub returns-clause-carried : goal.returns-clause-carried
 returns-clause-carried g c o rest h =

@@ -25,4 +25,5 @@ returns-in_err-argument-clause-fault c =
     rw (p.1, p.2) (or_memory (TellsLeftmost c.args.line (argument_codes c.wanted_at-wanted.result put))
     (TellsLeftmost c.args.line (each_argument_codes c.args.wanted.now (map (put_argument c.args.bindings.now) c.args.written.now))) c.in_err-argument.field-0.0
     (λ t. next_wrong c.args.wanted.now c.args.bindings.now c.args.written.now c.loop-argument.argument-index c.len.result c.args.line c.loop-argument.arguments.items c.wanted_at-wanted.result
-    c.argument-item.result c.in_err-argument.field-0.0 c.loop-argument.invariant c.requires c.loop-argument-test.true (c.len.ensures ∙ c.loop-argument.arguments.ok.0) c.wanted_at-wanted.ensures c.argument-item.is t) c.in_err-argument.ensures.fault)
+    c.argument-item.result c.in_err-argument.field-0.0 c.loop-argument.invariant c.requires c.loop-argument-test.true
+    (c.len.ensures ∙ c.loop-argument.arguments.ok.0) c.wanted_at-wanted.ensures c.argument-item.is t) c.in_err-argument.ensures.fault)

@@ -25,8 +25,10 @@ returns-in_err-part-clause-missed c =
     rw c.from_residual.ensures (tip_missed c.args.tip (coordinate c.args.from) (coordinate c.args.to) c.args.block.now c.requires.block None
     (no_part (grown c.args.tip c.args.block.now) c.args.from c.args.to c.loop-axis.axis _ _ _ _ (record {
       axis = c.loop-axis-test.true;
-      low_is = ap (λ z. z -ℤ pos c.args.tip) (near_read _ (low_reachable c.args.block.now c.requires.block c.loop-axis.axis c.loop-axis-test.true)) ∙ sym (grown_low c.args.tip c.args.block.now c.loop-axis.axis c.loop-axis-test.true);
-      high_is = ap (λ z. z +ℤ pos c.args.tip) (near_read _ (high_reachable c.args.block.now c.requires.block c.loop-axis.axis c.loop-axis-test.true)) ∙ sym (grown_high c.args.tip c.args.block.now c.loop-axis.axis c.loop-axis-test.true);
+      low_is = ap (λ z. z -ℤ pos c.args.tip) (near_read _ (low_reachable c.args.block.now c.requires.block c.loop-axis.axis c.loop-axis-test.true))
+          ∙ sym (grown_low c.args.tip c.args.block.now c.loop-axis.axis c.loop-axis-test.true);
+      high_is = ap (λ z. z +ℤ pos c.args.tip) (near_read _ (high_reachable c.args.block.now c.requires.block c.loop-axis.axis c.loop-axis-test.true))
+          ∙ sym (grown_high c.args.tip c.args.block.now c.loop-axis.axis c.loop-axis-test.true);
       from_is = near_read _ (reachable c.args.from c.requires.from c.loop-axis.axis c.loop-axis-test.true);
       to_is = near_read _ (reachable c.args.to c.requires.to c.loop-axis.axis c.loop-axis-test.true);
     }) c.in_err-part.ensures))
@@ -35,11 +37,14 @@ pub loop-axis-preserved : goal.loop-axis-preserved
 loop-axis-preserved c =
     next_part (grown c.args.tip c.args.block.now) c.args.from c.args.to c.loop-axis.axis _ _ _ _ (record {
       axis = c.loop-axis-test.true;
-      low_is = ap (λ z. z -ℤ pos c.args.tip) (near_read _ (low_reachable c.args.block.now c.requires.block c.loop-axis.axis c.loop-axis-test.true)) ∙ sym (grown_low c.args.tip c.args.block.now c.loop-axis.axis c.loop-axis-test.true);
-      high_is = ap (λ z. z +ℤ pos c.args.tip) (near_read _ (high_reachable c.args.block.now c.requires.block c.loop-axis.axis c.loop-axis-test.true)) ∙ sym (grown_high c.args.tip c.args.block.now c.loop-axis.axis c.loop-axis-test.true);
+      low_is = ap (λ z. z -ℤ pos c.args.tip) (near_read _ (low_reachable c.args.block.now c.requires.block c.loop-axis.axis c.loop-axis-test.true))
+          ∙ sym (grown_low c.args.tip c.args.block.now c.loop-axis.axis c.loop-axis-test.true);
+      high_is = ap (λ z. z +ℤ pos c.args.tip) (near_read _ (high_reachable c.args.block.now c.requires.block c.loop-axis.axis c.loop-axis-test.true))
+          ∙ sym (grown_high c.args.tip c.args.block.now c.loop-axis.axis c.loop-axis-test.true);
       from_is = near_read _ (reachable c.args.from c.requires.from c.loop-axis.axis c.loop-axis-test.true);
       to_is = near_read _ (reachable c.args.to c.requires.to c.loop-axis.axis c.loop-axis-test.true);
-    }) c.loop-axis.stretch c.in_ok-part.part c.common-stretch.result c.loop-axis.invariant c.in_ok-part.ensures c.common-stretch.ensures.common (c.common-stretch.ensures.leave c.loop-axis.invariant.ends)
+    }) c.loop-axis.stretch c.in_ok-part.part c.common-stretch.result c.loop-axis.invariant c.in_ok-part.ensures c.common-stretch.ensures.common
+    (c.common-stretch.ensures.leave c.loop-axis.invariant.ends)
 
 pub returns-then-is_before-clause-missed : goal.returns-then-is_before-clause-missed
 returns-then-is_before-clause-missed c =

@@ -45,7 +45,8 @@ check_block-returns-clause-ok t c =
 pub check_node-returns-in_err-check_block-in-Some-clause-fault : goal.check_node-returns-in_err-check_block-in-Some-clause-fault
 check_node-returns-in_err-check_block-in-Some-clause-fault t c =
     let p = err_from_is_err_and c.from_residual-in_err-check_block-in-Some.result c.from_residual-in_err-check_block-in-Some.ensures.1 in
-    rw (p.1, p.2) (choice_told c.args.all.now c.args.node.now c.in-Choice.field-0 c.in-Choice.field-1 c.in-Choice.first c.in-Choice.other c.in-Choice.field-4 c.in-Some.field-0-0 c.in-Some.second c.args.reach.now
+    rw (p.1, p.2) (choice_told c.args.all.now c.args.node.now c.in-Choice.field-0 c.in-Choice.field-1 c.in-Choice.first c.in-Choice.other c.in-Choice.field-4
+    c.in-Some.field-0-0 c.in-Some.second c.args.reach.now
     c.check_block.new.reach c.in-Choice.is c.in-Some.is c.in_ok-check_block-in-Choice.ensures.same c.in_ok-check_block-in-Choice.ensures.ok _ c.in_err-check_block-in-Some.ensures.fault)
 
 pub check_node-returns-in_ok-check_block-in-Some-clause-ok : goal.check_node-returns-in_ok-check_block-in-Some-clause-ok
@@ -64,7 +65,8 @@ pub check_cases-returns-in_err-check_block-clause-fault : goal.check_cases-retur
 check_cases-returns-in_err-check_block-clause-fault t c =
     let p = err_from_is_err_and c.from_residual.result c.from_residual.ensures.1 in
     let l = c.loop-block in
-    rw (p.1, p.2) (told_case c.args.all.now c.args.reach.now c.args.cases.now l.reach c.cases-block-items.result.now (other_of c.args.cases.now) l.block-index c.loop-block-item.result _ c.loop-block-test.true c.loop-block-item.is l.invariant.same
+    rw (p.1, p.2) (told_case c.args.all.now c.args.reach.now c.args.cases.now l.reach c.cases-block-items.result.now (other_of c.args.cases.now) l.block-index
+    c.loop-block-item.result _ c.loop-block-test.true c.loop-block-item.is l.invariant.same
     l.invariant.judged c.in_err-check_block.ensures.fault)
 
 pub check_cases-loop-block-preserved : goal.check_cases-loop-block-preserved
@@ -73,7 +75,8 @@ check_cases-loop-block-preserved t c =
     record {
       same = c.in_ok-check_block.ensures.same ∙ l.invariant.same;
       judged =
-          judged_case c.args.all.now c.args.reach.now c.args.cases.now l.reach c.cases-block-items.result.now (other_of c.args.cases.now) l.block-index c.loop-block-item.result c.loop-block-test.true c.loop-block-item.is l.invariant.same
+          judged_case c.args.all.now c.args.reach.now c.args.cases.now l.reach c.cases-block-items.result.now (other_of c.args.cases.now) l.block-index
+          c.loop-block-item.result c.loop-block-test.true c.loop-block-item.is l.invariant.same
           l.invariant.judged c.in_ok-check_block.ensures.ok;
     }
 

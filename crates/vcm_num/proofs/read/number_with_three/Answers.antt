@@ -13,5 +13,7 @@ returns-in_err-number c =
 pub returns : goal.returns
 returns c =
     let w = c.args.whole.now in
-    let e : number_after c.in_ok-number.number c.first_three.result ≡ digits_value (w ++ three_decimals c.args.decimals.now) = ap (λ n. number_after n c.first_three.result) c.in_ok-number.ensures.1 ∙ ap (number_after (number_after 0 w)) c.first_three.ensures ∙ with_three w c.args.decimals.now in
+    let e : number_after c.in_ok-number.number c.first_three.result ≡ digits_value (w ++ three_decimals c.args.decimals.now) =
+    ap (λ n. number_after n c.first_three.result) c.in_ok-number.ensures.1 ∙ ap (number_after (number_after 0 w)) c.first_three.ensures
+    ∙ with_three w c.args.decimals.now in
     subst (λ n. SomeIff c.number_with-2.result (n < 2 ^ 63) n) e c.number_with-2.ensures

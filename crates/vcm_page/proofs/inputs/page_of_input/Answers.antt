@@ -5,7 +5,8 @@ use Rattle.vcm_page.proofs.inputs.page_of_input.Goals as goal
 
 pub returns-in-Err-clause-fault : goal.returns-in-Err-clause-fault
 returns-in-Err-clause-fault g c =
-    image_not_paged (texts_of c.args.texts.front.now c.args.texts.back.now) c.args.part.now c.args.input.now c.args.steps _ _ (sym c.is_image.ensures ∙ c.if-is_image.true) c.in-Err.fault c.in-Err.ensures.fault
+    image_not_paged (texts_of c.args.texts.front.now c.args.texts.back.now) c.args.part.now c.args.input.now c.args.steps _ _
+    (sym c.is_image.ensures ∙ c.if-is_image.true) c.in-Err.fault c.in-Err.ensures.fault
 
 pub returns-in-Ok-page_of_built-clause-page : goal.returns-in-Ok-page_of_built-clause-page
 returns-in-Ok-page_of_built-clause-page g c =

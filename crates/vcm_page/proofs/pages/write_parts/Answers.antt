@@ -23,4 +23,5 @@ returns-in-Err-write_behind-clause-fault g c =
 pub returns-in-Err-clause-fault : goal.returns-in-Err-clause-fault
 returns-in-Err-clause-fault g c =
     let t = texts_of c.args.texts.front.now c.args.texts.back.now in
-    story_cut t.front (story_text c.args.part.now c.args.loaded.now c.args.shown.text.now c.args.shown.is_listing c.args.shown.notices.now c.args.from c.args.steps) t.back _ _ c.in-Ok.ensures _ c.in-Err.ensures.fault
+    story_cut t.front (story_text c.args.part.now c.args.loaded.now c.args.shown.text.now c.args.shown.is_listing c.args.shown.notices.now c.args.from
+    c.args.steps) t.back _ _ c.in-Ok.ensures _ c.in-Err.ensures.fault

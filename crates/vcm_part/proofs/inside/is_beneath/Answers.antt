@@ -13,6 +13,7 @@ returns-then-is_to-2 c =
     let a1 : FitsSigned w64 (coordinate c.args.at 1) = search rules in
     let a2 : FitsSigned w64 (coordinate c.args.at 2) = search rules in
     elim c.if-is_to.branch [
-      | then-is_to w ↦ last_of _ _ _ _ _ _ w.if-is_to.true (rw (to_z-of_z l0, to_z-of_z a0) at c.is_to.ensures) (cc (w.value-is, c.if-is_to-2.true)) (rw (to_z-of_z l1, to_z-of_z a1) at w.is_to-then-is_to.ensures) (rw (to_z-of_z l2, to_z-of_z a2) at c.is_to-then-is_to-2.ensures)
+      | then-is_to w ↦ last_of _ _ _ _ _ _ w.if-is_to.true (rw (to_z-of_z l0, to_z-of_z a0) at c.is_to.ensures) (cc (w.value-is, c.if-is_to-2.true))
+          (rw (to_z-of_z l1, to_z-of_z a1) at w.is_to-then-is_to.ensures) (rw (to_z-of_z l2, to_z-of_z a2) at c.is_to-then-is_to-2.ensures)
       | else-is_to w ↦ absurd (cc (w.value-is, c.if-is_to-2.true))
     ]

@@ -7,5 +7,6 @@ pub loop-view-preserved : goal.loop-view-preserved
 loop-view-preserved c =
     let shown = scene c.args.part.now c.args.world.now c.args.stopped.now in
     record {
-      bytes = given_on (view_at c.args.window c.args.layout shown c.args.marks.now) c.args.views.now c.loop-view.view-index _ c.loop-view.out.items c.put_view_at.new.out.items _ c.loop-view-test.true c.in_ok-put_view_at.ensures c.loop-view.invariant.bytes;
+      bytes = given_on (view_at c.args.window c.args.layout shown c.args.marks.now) c.args.views.now c.loop-view.view-index _ c.loop-view.out.items
+          c.put_view_at.new.out.items _ c.loop-view-test.true c.in_ok-put_view_at.ensures c.loop-view.invariant.bytes;
     }

@@ -13,7 +13,8 @@ returns-in_err-write_head g c =
 pub returns-in_err-write_fields : goal.returns-in_err-write_fields
 returns-in_err-write_fields g c =
     let p = err_from_is_err_and c.from_residual-in_err-write_fields.result c.from_residual-in_err-write_fields.ensures.1 in
-    rw p.1 (front_then _ _ _ _ _ _ refl (rw c.word.ensures at c.in_ok-write_head.ensures) (front_first _ _ _ _ _ refl (rw (over_fields place_bytes _ _ c.fields_of.ensures) at c.in_err-write_fields.ensures)))
+    rw p.1 (front_then _ _ _ _ _ _ refl (rw c.word.ensures at c.in_ok-write_head.ensures)
+    (front_first _ _ _ _ _ refl (rw (over_fields place_bytes _ _ c.fields_of.ensures) at c.in_err-write_fields.ensures)))
 
 pub returns : goal.returns
 returns g c =

@@ -11,7 +11,8 @@ returns-in_err-write_lines g c =
 pub returns-in_err-write_stop_or_steps : goal.returns-in_err-write_stop_or_steps
 returns-in_err-write_stop_or_steps g c =
     let p = err_from_is_err_and c.from_residual-in_err-write_stop_or_steps.result c.from_residual-in_err-write_stop_or_steps.ensures.1 in
-    rw p.1 (front_then _ _ _ _ _ _ refl (rw c.lines.ensures at c.in_ok-write_lines.ensures) (front_first _ _ _ _ _ refl (rw (c.stop.ensures, c.tables.ensures) at c.in_err-write_stop_or_steps.ensures)))
+    rw p.1 (front_then _ _ _ _ _ _ refl (rw c.lines.ensures at c.in_ok-write_lines.ensures)
+    (front_first _ _ _ _ _ refl (rw (c.stop.ensures, c.tables.ensures) at c.in_err-write_stop_or_steps.ensures)))
 
 pub returns : goal.returns
 returns g c =

@@ -6,7 +6,9 @@ use Rattle.vcm_steps.proofs.following.step_on.Goals as goal
 pub returns-in-Ok-see-clause-done : goal.returns-in-Ok-see-clause-done
 returns-in-Ok-see-clause-done g c =
     let s = c.statement-statement.result in
-    let tables = c.world-in-Ok.ensures.tables ∙ tables_are c.args.done c.args.machine.now c.step.new.self c.args.loaded.now c.next-number.result s c.in-Ok.ensures.ok c.next-number.ensures.is c.requires.code c.statement-statement.ensures in
+    let tables = c.world-in-Ok.ensures.tables
+    ∙ tables_are c.args.done c.args.machine.now c.step.new.self c.args.loaded.now c.next-number.result s c.in-Ok.ensures.ok c.next-number.ensures.is
+    c.requires.code c.statement-statement.ensures in
     let is = next_is c.args.done c.args.machine.now c.step.new.self c.args.loaded.now c.next-number.result s c.in-Ok.ensures.ok c.next-number.ensures.is c.requires.code c.statement-statement.ensures
     c.world.result.now.state c.world-in-Ok.result.now.state c.next-next.result c.world.ensures.state c.world-in-Ok.ensures.state c.next-next.ensures.is in
     (λ e. (
@@ -19,7 +21,9 @@ returns-in-Ok-see-clause-done g c =
 pub returns-in-Err-see-clause-err : goal.returns-in-Err-see-clause-err
 returns-in-Err-see-clause-err g c =
     let s = c.statement-statement.result in
-    let tables = c.world-in-Ok.ensures.tables ∙ tables_are c.args.done c.args.machine.now c.step.new.self c.args.loaded.now c.next-number.result s c.in-Ok.ensures.ok c.next-number.ensures.is c.requires.code c.statement-statement.ensures in
+    let tables = c.world-in-Ok.ensures.tables
+    ∙ tables_are c.args.done c.args.machine.now c.step.new.self c.args.loaded.now c.next-number.result s c.in-Ok.ensures.ok c.next-number.ensures.is
+    c.requires.code c.statement-statement.ensures in
     let is = next_is c.args.done c.args.machine.now c.step.new.self c.args.loaded.now c.next-number.result s c.in-Ok.ensures.ok c.next-number.ensures.is c.requires.code c.statement-statement.ensures
     c.world.result.now.state c.world-in-Ok.result.now.state c.next-next.result c.world.ensures.state c.world-in-Ok.ensures.state c.next-next.ensures.is in
     let p = passage (c.args.done + 1) c.next-number.result s c.world.result.now.state c.world-in-Ok.result.now.state c.next-next.result in (

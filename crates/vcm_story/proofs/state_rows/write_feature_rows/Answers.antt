@@ -9,4 +9,5 @@ returns-in_err-write_there g c =
     rw p.1 (front_first _ _ _ _ _ refl (rw (c.tables.ensures, c.feature_at-nominal.ensures, c.nominal.ensures) at c.in_err-write_there.ensures))
 
 pub returns : goal.returns
-returns g c = wrote_then _ _ _ _ _ _ _ refl (rw (c.tables.ensures, c.feature_at-nominal.ensures, c.nominal.ensures) at c.in_ok-write_there.ensures) ((rw (c.tables-2.ensures, c.feature_at-actual.ensures, c.actual.ensures) at c.write_there-2.ensures))
+returns g c = wrote_then _ _ _ _ _ _ _ refl (rw (c.tables.ensures, c.feature_at-nominal.ensures, c.nominal.ensures) at c.in_ok-write_there.ensures)
+    ((rw (c.tables-2.ensures, c.feature_at-actual.ensures, c.actual.ensures) at c.write_there-2.ensures))

@@ -16,7 +16,11 @@ returns-in_err-write_setting-2 g c =
 pub returns-in_err-write_setting-3 : goal.returns-in_err-write_setting-3
 returns-in_err-write_setting-3 g c =
     let p = err_from_is_err_and c.from_residual-in_err-write_setting-3.result c.from_residual-in_err-write_setting-3.ensures.1 in
-    rw p.1 (front_then _ _ _ _ _ _ refl (rw c.approach.ensures.value at c.in_ok-write_setting.ensures) (front_then _ _ _ _ _ _ refl (rw c.retract.ensures.value at c.in_ok-write_setting-2.ensures) (front_first _ _ _ _ _ refl (rw c.search.ensures.value at c.in_err-write_setting-3.ensures))))
+    rw p.1 (front_then _ _ _ _ _ _ refl (rw c.approach.ensures.value at c.in_ok-write_setting.ensures)
+    (front_then _ _ _ _ _ _ refl (rw c.retract.ensures.value at c.in_ok-write_setting-2.ensures)
+    (front_first _ _ _ _ _ refl (rw c.search.ensures.value at c.in_err-write_setting-3.ensures))))
 
 pub returns : goal.returns
-returns g c = wrote_then _ _ _ _ _ _ _ refl (rw c.approach.ensures.value at c.in_ok-write_setting.ensures) (wrote_then _ _ _ _ _ _ _ refl (rw c.retract.ensures.value at c.in_ok-write_setting-2.ensures) (wrote_then _ _ _ _ _ _ _ refl (rw c.search.ensures.value at c.in_ok-write_setting-3.ensures) ((rw c.depth.ensures.value at c.write_setting-4.ensures))))
+returns g c = wrote_then _ _ _ _ _ _ _ refl (rw c.approach.ensures.value at c.in_ok-write_setting.ensures)
+    (wrote_then _ _ _ _ _ _ _ refl (rw c.retract.ensures.value at c.in_ok-write_setting-2.ensures)
+    (wrote_then _ _ _ _ _ _ _ refl (rw c.search.ensures.value at c.in_ok-write_setting-3.ensures) ((rw c.depth.ensures.value at c.write_setting-4.ensures))))

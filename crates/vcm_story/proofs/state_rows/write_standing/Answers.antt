@@ -14,4 +14,5 @@ returns-in_err-write_frame g c =
     rw p.1 (front_then _ _ _ _ _ _ refl c.in_ok-write_all.ensures (front_first _ _ _ _ _ refl (rw c.frame.ensures at c.in_err-write_frame.ensures)))
 
 pub returns : goal.returns
-returns g c = wrote_then _ _ _ _ _ _ _ refl c.in_ok-write_all.ensures (wrote_then _ _ _ _ _ _ _ refl (rw c.frame.ensures at c.in_ok-write_frame.ensures) ((rw c.position.ensures at c.write_place.ensures)))
+returns g c = wrote_then _ _ _ _ _ _ _ refl c.in_ok-write_all.ensures
+    (wrote_then _ _ _ _ _ _ _ refl (rw c.frame.ensures at c.in_ok-write_frame.ensures) ((rw c.position.ensures at c.write_place.ensures)))

@@ -19,4 +19,5 @@ returns-in_err-write_code g c =
     rw p.1 (front_then _ _ _ _ _ _ refl c.in_ok-write_text.ensures (front_then _ _ _ _ _ _ refl c.in_ok-write_listing_row.ensures (front_first _ _ _ _ _ refl c.in_err-write_code.ensures)))
 
 pub returns : goal.returns
-returns g c = wrote_then _ _ _ _ _ _ _ refl c.in_ok-write_text.ensures (wrote_then _ _ _ _ _ _ _ refl c.in_ok-write_listing_row.ensures (wrote_then _ _ _ _ _ _ _ refl c.in_ok-write_code.ensures (c.write_notices.ensures)))
+returns g c = wrote_then _ _ _ _ _ _ _ refl c.in_ok-write_text.ensures
+    (wrote_then _ _ _ _ _ _ _ refl c.in_ok-write_listing_row.ensures (wrote_then _ _ _ _ _ _ _ refl c.in_ok-write_code.ensures (c.write_notices.ensures)))

@@ -9,7 +9,8 @@ use Rattle.vcm_survey.proofs.adapting.line_edits.Goals as goal
 pub owners-preserved : goal.owners-preserved
 owners-preserved c =
     rw c.in_ok-push.ensures.items
-    (more_edited c.args.owners.now _ c.owners.owner-index _ c.owners.out.items (into_iter_items c.owners.edits) (into_iter_items c.next_edit-edit.new.edits) c.owners.is_kept c.next_edit-edit.result.1 c.next_edit-edit.result.0
+    (more_edited c.args.owners.now _ c.owners.owner-index _ c.owners.out.items (into_iter_items c.owners.edits) (into_iter_items c.next_edit-edit.new.edits)
+    c.owners.is_kept c.next_edit-edit.result.1 c.next_edit-edit.result.0
     (drop_more c.args.owners.now c.owners.owner-index _ c.owners-test.true) c.next_edit-edit.ensures c.owners.invariant)
 
 pub returns : goal.returns

@@ -9,7 +9,8 @@ rows-preserved c =
     let now = c.rows in
     let next : into_iter_items now.row-iterator ≡ c.in-Some.row ∷ into_iter_items c.next.new.self = c.in-Some.ensures.steps.0 in
     rw (c.in_ok-push.ensures.items, c.edit_of.ensures)
-    (more_taken _ now.yielded (into_iter_items now.row-iterator) (into_iter_items c.next.new.self) c.in-Some.row (into_iter_len now.row-iterator) (into_iter_len c.next.new.self) now.edits.items next c.in-Some.ensures.steps.1 now.invariant)
+    (more_taken _ now.yielded (into_iter_items now.row-iterator) (into_iter_items c.next.new.self) c.in-Some.row (into_iter_len now.row-iterator)
+    (into_iter_len c.next.new.self) now.edits.items next c.in-Some.ensures.steps.1 now.invariant)
 
 pub returns : goal.returns
 returns c =

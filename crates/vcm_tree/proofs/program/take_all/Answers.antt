@@ -30,5 +30,8 @@ pub returns-clause-ok : goal.returns-clause-ok
 returns-clause-ok c =
     let l = c.loop-placed in
     let size = l.invariant.size in
-    let none = c.in-None.ensures.steps.0 in
-    (l.selection, walked_all _ c.args.all.items (into_iter_items l.placed-iterator) l.read l.selection c.into_iter-placed-iterator.ensures.into_iter_gives.0 (nil_from_length (into_iter_items l.placed-iterator) (omega arith)) l.invariant.walked)
+    let none = c.in-None.ensures.steps.0 in (
+      l.selection,
+      walked_all _ c.args.all.items (into_iter_items l.placed-iterator) l.read l.selection c.into_iter-placed-iterator.ensures.into_iter_gives.0
+          (nil_from_length (into_iter_items l.placed-iterator) (omega arith)) l.invariant.walked,
+    )

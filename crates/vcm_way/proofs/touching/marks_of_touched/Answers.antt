@@ -25,12 +25,14 @@ pub marks_round-requires-clause-retract : goal.marks_round-requires-clause-retra
 marks_round-requires-clause-retract g c =
     let at = c.touch_point-touch.ensures.is (centre_of c.args.blocks.now (coordinate c.args.measuring.nominal) c.args.measuring.toward) c.requires.aims in
     retract_near c.args.blocks.now c.bounds-bounds.ensures.valid c.args.settings c.args.from c.args.measuring.nominal c.args.measuring.toward c.args.stop c.requires.ends
-    c.args.aims.approach c.args.aims.end c.requires.aims c.requires.touched c.touch_point-touch.result c.moved-retract.result (rw c.requires.tie at at) (rw c.retract.ensures.value at c.moved-retract.ensures)
+    c.args.aims.approach c.args.aims.end c.requires.aims c.requires.touched c.touch_point-touch.result c.moved-retract.result (rw c.requires.tie at at)
+    (rw c.retract.ensures.value at c.moved-retract.ensures)
 
 pub returns : goal.returns
 returns g c =
     let at = c.touch_point-touch.ensures.is (centre_of c.args.blocks.now (coordinate c.args.measuring.nominal) c.args.measuring.toward) c.requires.aims in
     c.marks_round.ensures
     ∙ all_marks c.args.blocks.now c.bounds-bounds.ensures.valid c.args.settings c.args.from c.args.measuring.nominal c.args.measuring.toward c.args.stop c.requires.ends
-    c.args.aims.approach c.args.aims.end c.requires.aims c.requires.touched c.touch_point-touch.result c.moved-retract.result (rw c.requires.tie at at) (rw c.retract.ensures.value at c.moved-retract.ensures)
+    c.args.aims.approach c.args.aims.end c.requires.aims c.requires.touched c.touch_point-touch.result c.moved-retract.result (rw c.requires.tie at at)
+    (rw c.retract.ensures.value at c.moved-retract.ensures)
     c.args.measuring.feature

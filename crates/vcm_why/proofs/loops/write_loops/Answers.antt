@@ -10,7 +10,8 @@ returns-in_err-write_if_round g c =
     let w = c.args.world.now in
     let i = c.loop-index.index in
     let one : i ≡ suc (i - 1) = omega (arith, c.loop-index-test.true) in
-    rw p.1 (took_front _ _ _ _ _ _ _ (loops_turn w.tables w.state c.args.rounds.now c.args.number c.args.loaded.now.statements i (i - 1) _ one c.statement-statement.ensures) c.loop-index.invariant.took c.in_err-write_if_round.ensures)
+    rw p.1 (took_front _ _ _ _ _ _ _ (loops_turn w.tables w.state c.args.rounds.now c.args.number c.args.loaded.now.statements i (i - 1) _ one
+    c.statement-statement.ensures) c.loop-index.invariant.took c.in_err-write_if_round.ensures)
 
 pub loop-index-preserved : goal.loop-index-preserved
 loop-index-preserved g c =
@@ -19,5 +20,6 @@ loop-index-preserved g c =
     let within = c.loop-index.invariant.within in
     let one : i ≡ suc (i - 1) = omega (arith, c.loop-index-test.true) in record {
       within = omega (arith, within);
-      took = took_more _ _ _ _ _ _ _ (loops_turn w.tables w.state c.args.rounds.now c.args.number c.args.loaded.now.statements i (i - 1) _ one c.statement-statement.ensures) c.loop-index.invariant.took c.in_ok-write_if_round.ensures;
+      took = took_more _ _ _ _ _ _ _ (loops_turn w.tables w.state c.args.rounds.now c.args.number c.args.loaded.now.statements i (i - 1) _ one
+          c.statement-statement.ensures) c.loop-index.invariant.took c.in_ok-write_if_round.ensures;
     }

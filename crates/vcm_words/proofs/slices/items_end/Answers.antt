@@ -7,15 +7,21 @@ use Rattle.vcm_words.proofs.slices.items_end.Goals as goal
 pub returns-in_err-item-in-Some-before_end-clause-none :
     goal.returns-in_err-item-in-Some-before_end-clause-none
 returns-in_err-item-in-Some-before_end-clause-none c =
-    rw c.from_residual.ensures (read_fails 93 (item_in c.args.exact) 1024 _ _ _ c.loop-word.invariant (ap (up_to 93 (item_in c.args.exact)) c.in-Some.ensures ∙ last_fails 93 (item_in c.args.exact) _ _ _ c.in-Some-before_end.ensures (sym c.item.ensures ∙ c.in_err-item-in-Some-before_end.was)))
+    rw c.from_residual.ensures (read_fails 93 (item_in c.args.exact) 1024 _ _ _ c.loop-word.invariant
+    (ap (up_to 93 (item_in c.args.exact)) c.in-Some.ensures
+    ∙ last_fails 93 (item_in c.args.exact) _ _ _ c.in-Some-before_end.ensures (sym c.item.ensures ∙ c.in_err-item-in-Some-before_end.was)))
 
 pub returns-in-Some-before_end-clause-some : goal.returns-in-Some-before_end-clause-some
 returns-in-Some-before_end-clause-some c =
-    last_read 93 (item_in c.args.exact) 1024 _ _ _ _ _ _ _ _ c.loop-word.invariant c.in-Some.ensures c.in-Some-before_end.ensures (sym c.item.ensures ∙ c.in_ok-item-in-Some-before_end.was) c.one_more-count.ensures
+    last_read 93 (item_in c.args.exact) 1024 _ _ _ _ _ _ _ _ c.loop-word.invariant c.in-Some.ensures c.in-Some-before_end.ensures
+    (sym c.item.ensures ∙ c.in_ok-item-in-Some-before_end.was) c.one_more-count.ensures
 
 pub returns-in_err-item-in-None-clause-none : goal.returns-in_err-item-in-None-clause-none
 returns-in_err-item-in-None-clause-none c =
-    rw c.from_residual-in_err-item-in-None.ensures (read_fails 93 (item_in c.args.exact) 1024 _ _ _ c.loop-word.invariant (ap (up_to 93 (item_in c.args.exact)) c.in-Some.ensures ∙ more_fails 93 (item_in c.args.exact) _ _ c.in-None.ensures (sym c.item-in-None.ensures ∙ c.in_err-item-in-None.was)))
+    rw c.from_residual-in_err-item-in-None.ensures
+    (read_fails 93 (item_in c.args.exact) 1024 _ _ _ c.loop-word.invariant
+    (ap (up_to 93 (item_in c.args.exact)) c.in-Some.ensures
+    ∙ more_fails 93 (item_in c.args.exact) _ _ c.in-None.ensures (sym c.item-in-None.ensures ∙ c.in_err-item-in-None.was)))
 
 pub loop-word-preserved : goal.loop-word-preserved
 loop-word-preserved c =

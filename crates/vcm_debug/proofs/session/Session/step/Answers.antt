@@ -15,7 +15,8 @@ invariant_of-self g c =
     let i = c.self.inside in
     let s = c.self.invariant.0 in
     rw c.from.ensures (
-      moved_on (g.P.Part.part i.part.now) i.loaded.now i.machine c.step_on.new.machine i.count c.in-Ok.done i.breakpoints.items i.watches.items i.before.items i.before.items s c.in-Ok.ensures.steps.0 (s.room ∙ ap (λ x. length x.code.tables.variables) (sym s.reached)),
+      moved_on (g.P.Part.part i.part.now) i.loaded.now i.machine c.step_on.new.machine i.count c.in-Ok.done i.breakpoints.items i.watches.items i.before.items
+          i.before.items s c.in-Ok.ensures.steps.0 (s.room ∙ ap (λ x. length x.code.tables.variables) (sym s.reached)),
       subst (λ m. All (λ k. k.machine ≡ begun m k.count) c.step_on.new.checkpoints.kept.items) s.reached c.in-Ok.ensures.kept,
     )
 
@@ -24,7 +25,8 @@ invariant_of-self-in-Err g c =
     let i = c.self.inside in
     let s = c.self.invariant.0 in
     rw c.from-in-Err.ensures (
-      moved_on (g.P.Part.part i.part.now) i.loaded.now i.machine c.step_on.new.machine i.count c.in-Err.done i.breakpoints.items i.watches.items i.before.items i.before.items s c.in-Err.ensures.steps.0 (s.room ∙ ap (λ x. length x.code.tables.variables) (sym s.reached)),
+      moved_on (g.P.Part.part i.part.now) i.loaded.now i.machine c.step_on.new.machine i.count c.in-Err.done i.breakpoints.items i.watches.items i.before.items
+          i.before.items s c.in-Err.ensures.steps.0 (s.room ∙ ap (λ x. length x.code.tables.variables) (sym s.reached)),
       subst (λ m. All (λ k. k.machine ≡ begun m k.count) c.step_on.new.checkpoints.kept.items) s.reached c.in-Err.ensures.kept,
     )
 

@@ -21,7 +21,8 @@ pub overflow_sub-length : goal.overflow_sub-length
 overflow_sub-length c = (cuts reads_branch _ _ _ _ (λ i. omega (arith, c.type_inv.bytes i)) (is_done branch_at _ _ _ _ c.loop.invariant c.loop-test.false)).shorter
 
 pub invariant_of-result : goal.invariant_of-result
-invariant_of-result c = cut_are branch_at _ _ _ _ _ (cuts reads_branch _ _ _ _ (λ i. omega (arith, c.type_inv.bytes i)) (is_done branch_at _ _ _ _ c.loop.invariant c.loop-test.false)) c.split_at.ensures.front
+invariant_of-result c = cut_are branch_at _ _ _ _ _
+    (cuts reads_branch _ _ _ _ (λ i. omega (arith, c.type_inv.bytes i)) (is_done branch_at _ _ _ _ c.loop.invariant c.loop-test.false)) c.split_at.ensures.front
 
 pub returns : goal.returns
 returns c =

@@ -28,7 +28,8 @@ returns-in_err-frames c =
     rw (p.1, p.2) (frames_fail _ _ _ c.in_ok-counts.ensures _ _ c.in_ok-variables.ensures.ok _ _ c.in_ok-features.ensures.ok _ c.in_err-frames.ensures.err)
 
 pub invariant_of-result : goal.invariant_of-result
-invariant_of-result c = opens _ _ _ c.in_ok-counts.ensures _ _ c.in_ok-variables.ensures.ok _ _ c.in_ok-features.ensures.ok _ _ c.in_ok-frames.ensures.ok _ c.in_ok-statements.ensures.items (λ i. omega (arith, c.type_inv.bytes i))
+invariant_of-result c = opens _ _ _ c.in_ok-counts.ensures _ _ c.in_ok-variables.ensures.ok _ _ c.in_ok-features.ensures.ok _ _ c.in_ok-frames.ensures.ok _
+    c.in_ok-statements.ensures.items (λ i. omega (arith, c.type_inv.bytes i))
 
 pub returns : goal.returns
 returns c = opens_read _ _ _ c.in_ok-counts.ensures _ _ c.in_ok-variables.ensures.ok _ _ c.in_ok-features.ensures.ok _ _ c.in_ok-frames.ensures.ok _ c.in_ok-statements.ensures.items

@@ -10,7 +10,8 @@ pub index-requires : goal.index-requires
 index-requires c = omega (arith, Begin-length entry_at _ _ _ c.self.invariant.variables_begin, (subst (λ (o : Opened). c.args.n < length o.code.tables.variables) (sym c.self.view_is) c.requires))
 
 pub after-requires : goal.after-requires
-after-requires c = (Begin-index entry_at _ _ _ _ _ _ c.self.invariant.variables_begin (subst (λ (o : Opened). c.args.n < length o.code.tables.variables) (sym c.self.view_is) c.requires) c.index.ensures).within
+after-requires c = (Begin-index entry_at _ _ _ _ _ _ c.self.invariant.variables_begin
+    (subst (λ (o : Opened). c.args.n < length o.code.tables.variables) (sym c.self.view_is) c.requires) c.index.ensures).within
 
 pub known-variable-requires : goal.known-variable-requires
 known-variable-requires c =

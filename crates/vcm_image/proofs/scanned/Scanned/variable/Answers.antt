@@ -9,13 +9,20 @@ pub index-start-requires : goal.index-start-requires
 index-start-requires c = omega (arith, Begin-length entry_at _ _ _ c.self.invariant.variables_begin, (subst (λ (d : Code). c.args.n < length d.tables.variables) (sym c.self.view_is) c.requires))
 
 pub after-requires : goal.after-requires
-after-requires c = (Begin-index entry_at _ _ _ _ _ _ c.self.invariant.variables_begin (subst (λ (d : Code). c.args.n < length d.tables.variables) (sym c.self.view_is) c.requires) c.index-start.ensures).within
+after-requires c = (Begin-index entry_at _ _ _ _ _ _ c.self.invariant.variables_begin
+    (subst (λ (d : Code). c.args.n < length d.tables.variables) (sym c.self.view_is) c.requires) c.index-start.ensures).within
 
 pub unreachable-requires : goal.unreachable-requires
-unreachable-requires c = Found-err entry_at _ _ _ _ _ _ (Begin-index entry_at _ _ _ _ _ _ c.self.invariant.variables_begin (subst (λ (d : Code). c.args.n < length d.tables.variables) (sym c.self.view_is) c.requires) c.index-start.ensures) c.after.ensures c.in-Err.ensures
+unreachable-requires c = Found-err entry_at _ _ _ _ _ _
+    (Begin-index entry_at _ _ _ _ _ _ c.self.invariant.variables_begin
+    (subst (λ (d : Code). c.args.n < length d.tables.variables) (sym c.self.view_is) c.requires) c.index-start.ensures) c.after.ensures c.in-Err.ensures
 
 pub returns-clause-is : goal.returns-clause-is
-returns-clause-is c = subst (λ (d : Code). slice_get d.tables.variables c.args.n ≡ Some c.in-Ok.variable) c.self.view_is (Found-ok entry_at _ _ _ _ _ _ _ (Begin-index entry_at _ _ _ _ _ _ c.self.invariant.variables_begin (subst (λ (d : Code). c.args.n < length d.tables.variables) (sym c.self.view_is) c.requires) c.index-start.ensures) c.after.ensures c.in-Ok.ensures)
+returns-clause-is c = subst (λ (d : Code). slice_get d.tables.variables c.args.n ≡ Some c.in-Ok.variable) c.self.view_is
+    (Found-ok entry_at _ _ _ _ _ _ _ (Begin-index entry_at _ _ _ _ _ _ c.self.invariant.variables_begin
+    (subst (λ (d : Code). c.args.n < length d.tables.variables) (sym c.self.view_is) c.requires) c.index-start.ensures) c.after.ensures c.in-Ok.ensures)
 
 pub returns-clause-name : goal.returns-clause-name
-returns-clause-name c = all_at (λ v. IsVariableName v.name) _ _ _ c.self.invariant.fits.range.variables.1 (Found-ok entry_at _ _ _ _ _ _ _ (Begin-index entry_at _ _ _ _ _ _ c.self.invariant.variables_begin (subst (λ (d : Code). c.args.n < length d.tables.variables) (sym c.self.view_is) c.requires) c.index-start.ensures) c.after.ensures c.in-Ok.ensures)
+returns-clause-name c = all_at (λ v. IsVariableName v.name) _ _ _ c.self.invariant.fits.range.variables.1
+    (Found-ok entry_at _ _ _ _ _ _ _ (Begin-index entry_at _ _ _ _ _ _ c.self.invariant.variables_begin
+    (subst (λ (d : Code). c.args.n < length d.tables.variables) (sym c.self.view_is) c.requires) c.index-start.ensures) c.after.ensures c.in-Ok.ensures)

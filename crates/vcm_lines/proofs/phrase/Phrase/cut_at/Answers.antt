@@ -13,4 +13,5 @@ pub returns-in-Some-clause-front : goal.returns-in-Some-clause-front
 returns-in-Some-clause-front c = (cut_some c.self.inside.text.now c.args.cutter c.self.inside.words.now c.args.self.now c.in-Some.place c.self.view_is (sym c.find.ensures ∙ c.in-Some.is)).0
 
 pub returns-in-Some-clause-rest : goal.returns-in-Some-clause-rest
-returns-in-Some-clause-rest c = rw take_rest (cut_some c.self.inside.text.now c.args.cutter c.self.inside.words.now c.args.self.now c.in-Some.place c.self.view_is (sym c.find.ensures ∙ c.in-Some.is)).1
+returns-in-Some-clause-rest c = rw take_rest
+    (cut_some c.self.inside.text.now c.args.cutter c.self.inside.words.now c.args.self.now c.in-Some.place c.self.view_is (sym c.find.ensures ∙ c.in-Some.is)).1

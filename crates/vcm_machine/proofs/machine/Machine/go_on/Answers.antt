@@ -38,7 +38,8 @@ invariant_of-self-in-Err-Stop g c =
     let h = rw c.in-Err-Stop.field-0-is at (c.in-Err-Stop.ensures.gone s.line s.op b.2.1 (rw b.2.3 at b.2.2)) in
     let l = c.line-line.ensures in
     let line = l.2 ∙ ap (λ (x : CodeStatement). x.line) (same_at m.loaded.now.statements m.next l.0 s l.1 b.1) in
-    let later = stops (g.P.Part.part m.part.now) m.loaded.now m.world m.next m.pairs i.0 i.1 s b.1 none c.carry_out.new.world.state c.set_stop.new.self.state c.in-Err-Stop.stop c.carry_out.new.pairs h (rw line at (ap (λ x. x.state) c.set_stop.ensures)) in
+    let later = stops (g.P.Part.part m.part.now) m.loaded.now m.world m.next m.pairs i.0 i.1 s b.1 none c.carry_out.new.world.state c.set_stop.new.self.state
+    c.in-Err-Stop.stop c.carry_out.new.pairs h (rw line at (ap (λ x. x.state) c.set_stop.ensures)) in
     (ap (λ x. x.tables) c.set_stop.ensures ∙ c.in-Err-Stop.ensures.tables ∙ i.0, i.1, i.2, later_rests 1 _ _ (g.met.P.Part.valid m.part.now) i.3 later)
 
 pub invariant_of-self-in-Err-NoMemory : goal.invariant_of-self-in-Err-NoMemory
@@ -70,7 +71,8 @@ returns-in-Err-Stop-clause-ok g c =
     let h = rw c.in-Err-Stop.field-0-is at (c.in-Err-Stop.ensures.gone s.line s.op b.2.1 (rw b.2.3 at b.2.2)) in
     let l = c.line-line.ensures in
     let line = l.2 ∙ ap (λ (x : CodeStatement). x.line) (same_at m.loaded.now.statements m.next l.0 s l.1 b.1) in
-    rw (← c.self.view_is) (stops (g.P.Part.part m.part.now) m.loaded.now m.world m.next m.pairs i.0 i.1 s b.1 none c.carry_out.new.world.state c.set_stop.new.self.state c.in-Err-Stop.stop c.carry_out.new.pairs h (rw line at (ap (λ x. x.state) c.set_stop.ensures)))
+    rw (← c.self.view_is) (stops (g.P.Part.part m.part.now) m.loaded.now m.world m.next m.pairs i.0 i.1 s b.1 none c.carry_out.new.world.state
+    c.set_stop.new.self.state c.in-Err-Stop.stop c.carry_out.new.pairs h (rw line at (ap (λ x. x.state) c.set_stop.ensures)))
 
 pub returns-in-Err-NoMemory-clause-err : goal.returns-in-Err-NoMemory-clause-err
 returns-in-Err-NoMemory-clause-err g c =
@@ -80,4 +82,5 @@ returns-in-Err-NoMemory-clause-err g c =
     let s = b.0 in
     let none : m.world.state.stop ≡ None = rw (← c.self.view_is) at c.requires in
     let h = rw c.in-Err-NoMemory.field-0-is at (c.in-Err-NoMemory.ensures.gone s.line s.op b.2.1 (rw b.2.3 at b.2.2)) in
-    rw (← c.self.view_is) (wants (g.P.Part.part m.part.now) m.loaded.now m.world m.next m.pairs i.0 i.1 s b.1 none c.carry_out.new.world.state c.carry_out.new.pairs h (c.in-Err-NoMemory.ensures.memory (ap Err c.in-Err-NoMemory.field-0-is) s.op b.2.1 (rw b.2.3 at b.2.2)))
+    rw (← c.self.view_is) (wants (g.P.Part.part m.part.now) m.loaded.now m.world m.next m.pairs i.0 i.1 s b.1 none c.carry_out.new.world.state
+    c.carry_out.new.pairs h (c.in-Err-NoMemory.ensures.memory (ap Err c.in-Err-NoMemory.field-0-is) s.op b.2.1 (rw b.2.3 at b.2.2)))

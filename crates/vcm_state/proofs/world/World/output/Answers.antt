@@ -33,5 +33,6 @@ returns c part =
     let n : length c.self.inside.lines < 100000 = omega (arith, c.len.ensures, c.if-len-ge-MOST_LINES.false) in
     let hf = rw (← c.self.view_is) at c.in-Ok.ensures in
     let name : c.as_bytes.result.now ≡ unwrap_or (slice_get c.self.inside.tables.value.features c.args.feature) [] =
-    c.as_bytes.ensures.is ∙ c.name_at-name.ensures ∙ ap (λ fs. unwrap_or (slice_get fs c.args.feature) []) c.features.ensures ∙ ap (λ t. unwrap_or (slice_get t.features c.args.feature) []) c.deref.ensures in
+    c.as_bytes.ensures.is ∙ c.name_at-name.ensures ∙ ap (λ fs. unwrap_or (slice_get fs c.args.feature) []) c.features.ensures
+    ∙ ap (λ t. unwrap_or (slice_get t.features c.args.feature) []) c.deref.ensures in
     rw (← c.self.view_is, c.in_ok-push.ensures.ok, c.as_slice.ensures, c.in_ok-line.ensures, name) (printed _ _ _ _ _ hf ∙ text_goes _ _ _ n, (refl, refl))

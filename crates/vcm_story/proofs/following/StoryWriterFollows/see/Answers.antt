@@ -25,7 +25,9 @@ returns-in-Ok-clause-ok g c = λ w from ps looked h.
     let p = passage c.args.count c.args.number c.args.statement.now w c.args.world.now.state c.args.next in
     let e = c.as_slice.ensures ∙ c.marks_of_step-marks.ensures ∙ ap (marks_of part b.position b.settings b.task) (c.reason.ensures ∙ ap reason c.stop.ensures) in
     one_step (passage_rows part tables c.args.self.now.from) _ _ _ ps p h
-    (subst (λ l. Appends (g.W.Write.contents c.args.to.now) (g.W.Write.contents c.write_passage.new.writer) l) (seen part b c.args.statement.now w c.args.world.now.state looked c.args.count c.args.number c.args.next c.args.self.now.from tables c.as_slice.result.now e) (c.in-Ok.ensures w))
+    (subst (λ l. Appends (g.W.Write.contents c.args.to.now) (g.W.Write.contents c.write_passage.new.writer) l)
+    (seen part b c.args.statement.now w c.args.world.now.state looked c.args.count c.args.number c.args.next c.args.self.now.from tables
+    c.as_slice.result.now e) (c.in-Ok.ensures w))
 
 pub returns-in-Err-clause-err : goal.returns-in-Err-clause-err
 returns-in-Err-clause-err g c = λ w from ps looked h.
@@ -35,4 +37,6 @@ returns-in-Err-clause-err g c = λ w from ps looked h.
     let p = passage c.args.count c.args.number c.args.statement.now w c.args.world.now.state c.args.next in
     let e = c.as_slice.ensures ∙ c.marks_of_step-marks.ensures ∙ ap (marks_of part b.position b.settings b.task) (c.reason.ensures ∙ ap reason c.stop.ensures) in
     part_of_step (passage_rows part tables c.args.self.now.from) _ _ _ ps p h
-    (subst (λ l. AppendsFront (g.W.Write.contents c.args.to.now) (g.W.Write.contents c.write_passage.new.writer) l) (seen part b c.args.statement.now w c.args.world.now.state looked c.args.count c.args.number c.args.next c.args.self.now.from tables c.as_slice.result.now e) (c.in-Err.ensures w))
+    (subst (λ l. AppendsFront (g.W.Write.contents c.args.to.now) (g.W.Write.contents c.write_passage.new.writer) l)
+    (seen part b c.args.statement.now w c.args.world.now.state looked c.args.count c.args.number c.args.next c.args.self.now.from tables
+    c.as_slice.result.now e) (c.in-Err.ensures w))

@@ -10,12 +10,14 @@ pub returns-in_err-put_piece-clause-fault : goal.returns-in_err-put_piece-clause
 returns-in_err-put_piece-clause-fault c =
     let p = err_from_is_err_and c.from_residual-in_err-put_piece.result c.from_residual-in_err-put_piece.ensures.1 in
     let i = c.loop-piece.invariant in
-    rw (p.1, p.2) (put_told c.args.self.now c.pieces-piece-items.result.now _ _ i.0 _ _ c.args.e.now c.args.line _ c.loop-piece-test.true c.piece-item.is c.pieces-piece-items.ensures.parts i.1 i.2 c.in_err-put_piece.ensures.fault)
+    rw (p.1, p.2) (put_told c.args.self.now c.pieces-piece-items.result.now _ _ i.0 _ _ c.args.e.now c.args.line _ c.loop-piece-test.true c.piece-item.is
+    c.pieces-piece-items.ensures.parts i.1 i.2 c.in_err-put_piece.ensures.fault)
 
 pub finish-requires : goal.finish-requires
 finish-requires c =
     let i = c.loop-piece.invariant in
-    let w = put_ends c.args.self.now c.pieces-piece-items.result.now _ i.0 _ c.in-Some-pop.size _ _ c.args.e.now c.loop-piece-test.false i.1 i.2 c.in-Some-pop.ensures.top c.pieces-piece-items.ensures.parts in
+    let w = put_ends c.args.self.now c.pieces-piece-items.result.now _ i.0 _ c.in-Some-pop.size _ _ c.args.e.now c.loop-piece-test.false i.1 i.2
+    c.in-Some-pop.ensures.top c.pieces-piece-items.ensures.parts in
     (_, w.0, w.1)
 
 pub unreachable-requires : goal.unreachable-requires
@@ -26,13 +28,15 @@ unreachable-requires c =
 pub returns-clause-ok : goal.returns-clause-ok
 returns-clause-ok c =
     let i = c.loop-piece.invariant in
-    let w = put_ends c.args.self.now c.pieces-piece-items.result.now _ i.0 _ c.in-Some-pop.size _ _ c.args.e.now c.loop-piece-test.false i.1 i.2 c.in-Some-pop.ensures.top c.pieces-piece-items.ensures.parts in
+    let w = put_ends c.args.self.now c.pieces-piece-items.result.now _ i.0 _ c.in-Some-pop.size _ _ c.args.e.now c.loop-piece-test.false i.1 i.2
+    c.in-Some-pop.ensures.top c.pieces-piece-items.ensures.parts in
     ap (λ es. top_of es) (sym c.finish.ensures ∙ w.0)
 
 pub returns-clause-small : goal.returns-clause-small
 returns-clause-small c =
     let i = c.loop-piece.invariant in
-    (put_ends c.args.self.now c.pieces-piece-items.result.now _ i.0 _ c.in-Some-pop.size _ _ c.args.e.now c.loop-piece-test.false i.1 i.2 c.in-Some-pop.ensures.top c.pieces-piece-items.ensures.parts).1.small
+    (put_ends c.args.self.now c.pieces-piece-items.result.now _ i.0 _ c.in-Some-pop.size _ _ c.args.e.now c.loop-piece-test.false i.1 i.2
+    c.in-Some-pop.ensures.top c.pieces-piece-items.ensures.parts).1.small
 
 pub returns-in-Some-clause-ok : goal.returns-in-Some-clause-ok
 returns-in-Some-clause-ok c = c.in_ok-leaf.ensures.ok ∙ put_alone c.args.self.now c.in-Some.term c.args.e.now c.in-Some.ensures

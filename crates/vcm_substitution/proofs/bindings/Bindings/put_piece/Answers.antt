@@ -11,7 +11,8 @@ joined-requires c = two_there c.args.self.now c.requires.0 _ c.in-Some-pop-2.a c
 
 pub returns-in_ok-size-in-Between-clause-ok : goal.returns-in_ok-size-in-Between-clause-ok
 returns-in_ok-size-in-Between-clause-ok c = λ es h.
-    rw c.in-Between.is (between_puts c.args.self.now c.in-Between.op es _ _ c.in-Some-pop-2.a c.in-Some-pop.b c.in_ok-size-in-Between.size _ _ _ _ c.in-Some-pop.ensures.top c.in-Some-pop-2.ensures.top c.in_ok-size-in-Between.ensures.ok c.push-in-Between.ensures h)
+    rw c.in-Between.is (between_puts c.args.self.now c.in-Between.op es _ _ c.in-Some-pop-2.a c.in-Some-pop.b c.in_ok-size-in-Between.size _ _ _ _
+    c.in-Some-pop.ensures.top c.in-Some-pop-2.ensures.top c.in_ok-size-in-Between.ensures.ok c.push-in-Between.ensures h)
 
 pub push-requires : goal.push-requires
 push-requires c = (grind arith, leaf_room c.args.self.now (Number c.in-Number.literal) c.requires.0 _ _ c.requires.1 (rw c.in-Number.is at c.requires.2))

@@ -18,4 +18,5 @@ returns-clause-ok g c =
     let b = c.args.before in
     let e = c.as_slice.ensures ∙ c.marks_of_step-marks.ensures ∙ ap (marks_of part b.position b.settings b.task) (c.reason-stop.ensures ∙ ap reason c.stop.ensures) in
     on_ok_then c.add_step.result _ _ (λ step w from ps is h.
-    one_step part b c.args.statement.now w c.args.world.now.state is c.args.count c.args.number c.args._next c.as_slice.result.now e from c.args.to.now c.add_step.new.self ps step h) c.add_step.ensures
+    one_step part b c.args.statement.now w c.args.world.now.state is c.args.count c.args.number c.args._next c.as_slice.result.now e from c.args.to.now
+    c.add_step.new.self ps step h) c.add_step.ensures

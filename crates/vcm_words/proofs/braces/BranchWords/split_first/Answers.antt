@@ -5,15 +5,18 @@ use Rattle.vcm_words.proofs.braces.BranchWords.split_first.Goals as goal
 
 pub unreachable-requires : goal.unreachable-requires
 unreachable-requires c =
-    last_some 125 (branch_in c.self.inside.exact) _ _ _ _ (left_false _ _ _ _ c.if-self.false c.self.invariant) c.in-Some.ensures c.in-Some-before_end.ensures (sym c.branch_of.ensures ∙ c.in-None-branch_of.is)
+    last_some 125 (branch_in c.self.inside.exact) _ _ _ _ (left_false _ _ _ _ c.if-self.false c.self.invariant) c.in-Some.ensures c.in-Some-before_end.ensures
+    (sym c.branch_of.ensures ∙ c.in-None-branch_of.is)
 
 pub invariant_of-result-in-Some-branch_of-2 : goal.invariant_of-result-in-Some-branch_of-2
 invariant_of-result-in-Some-branch_of-2 c =
-    more_left 125 (branch_in c.self.inside.exact) _ _ _ _ (left_false _ _ _ _ c.if-self.false c.self.invariant) c.in-Some.ensures c.in-None-before_end.ensures (sym c.branch_of-in-None-before_end.ensures ∙ c.in-Some-branch_of-2.is)
+    more_left 125 (branch_in c.self.inside.exact) _ _ _ _ (left_false _ _ _ _ c.if-self.false c.self.invariant) c.in-Some.ensures c.in-None-before_end.ensures
+    (sym c.branch_of-in-None-before_end.ensures ∙ c.in-Some-branch_of-2.is)
 
 pub unreachable-requires-in-None-branch_of-2 : goal.unreachable-requires-in-None-branch_of-2
 unreachable-requires-in-None-branch_of-2 c =
-    more_some 125 (branch_in c.self.inside.exact) _ _ _ (left_false _ _ _ _ c.if-self.false c.self.invariant) c.in-Some.ensures c.in-None-before_end.ensures (sym c.branch_of-in-None-before_end.ensures ∙ c.in-None-branch_of-2.is)
+    more_some 125 (branch_in c.self.inside.exact) _ _ _ (left_false _ _ _ _ c.if-self.false c.self.invariant) c.in-Some.ensures c.in-None-before_end.ensures
+    (sym c.branch_of-in-None-before_end.ensures ∙ c.in-None-branch_of-2.is)
 
 pub unreachable-requires-in-None : goal.unreachable-requires-in-None
 unreachable-requires-in-None c = some_value 125 (branch_in c.self.inside.exact) _ (left_false _ _ _ _ c.if-self.false c.self.invariant) c.in-None.ensures
@@ -26,4 +29,5 @@ returns-in-Some-branch_of c =
 pub returns-in-Some-branch_of-2 : goal.returns-in-Some-branch_of-2
 returns-in-Some-branch_of-2 c =
     sym c.self.view_is ∙ view_false 125 (branch_in c.self.inside.exact) _ _ c.if-self.false
-    ∙ more_values 125 (branch_in c.self.inside.exact) _ _ _ _ (left_false _ _ _ _ c.if-self.false c.self.invariant) c.in-Some.ensures c.in-None-before_end.ensures (sym c.branch_of-in-None-before_end.ensures ∙ c.in-Some-branch_of-2.is)
+    ∙ more_values 125 (branch_in c.self.inside.exact) _ _ _ _ (left_false _ _ _ _ c.if-self.false c.self.invariant) c.in-Some.ensures
+    c.in-None-before_end.ensures (sym c.branch_of-in-None-before_end.ensures ∙ c.in-Some-branch_of-2.is)

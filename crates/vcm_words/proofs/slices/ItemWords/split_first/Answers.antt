@@ -9,11 +9,13 @@ unreachable-requires c =
 
 pub invariant_of-result-in-Some-item-2 : goal.invariant_of-result-in-Some-item-2
 invariant_of-result-in-Some-item-2 c =
-    more_left 93 (item_in c.self.inside.exact) _ _ _ _ (left_false _ _ _ _ c.if-self.false c.self.invariant) c.in-Some.ensures c.in-None-before_end.ensures (sym c.item-in-None-before_end.ensures ∙ c.in-Some-item-2.is)
+    more_left 93 (item_in c.self.inside.exact) _ _ _ _ (left_false _ _ _ _ c.if-self.false c.self.invariant) c.in-Some.ensures c.in-None-before_end.ensures
+    (sym c.item-in-None-before_end.ensures ∙ c.in-Some-item-2.is)
 
 pub unreachable-requires-in-None-item-2 : goal.unreachable-requires-in-None-item-2
 unreachable-requires-in-None-item-2 c =
-    more_some 93 (item_in c.self.inside.exact) _ _ _ (left_false _ _ _ _ c.if-self.false c.self.invariant) c.in-Some.ensures c.in-None-before_end.ensures (sym c.item-in-None-before_end.ensures ∙ c.in-None-item-2.is)
+    more_some 93 (item_in c.self.inside.exact) _ _ _ (left_false _ _ _ _ c.if-self.false c.self.invariant) c.in-Some.ensures c.in-None-before_end.ensures
+    (sym c.item-in-None-before_end.ensures ∙ c.in-None-item-2.is)
 
 pub unreachable-requires-in-None : goal.unreachable-requires-in-None
 unreachable-requires-in-None c = some_value 93 (item_in c.self.inside.exact) _ (left_false _ _ _ _ c.if-self.false c.self.invariant) c.in-None.ensures
@@ -26,4 +28,5 @@ returns-in-Some-item c =
 pub returns-in-Some-item-2 : goal.returns-in-Some-item-2
 returns-in-Some-item-2 c =
     sym c.self.view_is ∙ view_false 93 (item_in c.self.inside.exact) _ _ c.if-self.false
-    ∙ more_values 93 (item_in c.self.inside.exact) _ _ _ _ (left_false _ _ _ _ c.if-self.false c.self.invariant) c.in-Some.ensures c.in-None-before_end.ensures (sym c.item-in-None-before_end.ensures ∙ c.in-Some-item-2.is)
+    ∙ more_values 93 (item_in c.self.inside.exact) _ _ _ _ (left_false _ _ _ _ c.if-self.false c.self.invariant) c.in-Some.ensures c.in-None-before_end.ensures
+    (sym c.item-in-None-before_end.ensures ∙ c.in-Some-item-2.is)
