@@ -3,7 +3,7 @@
 use crate::manner::{Manner, PLAIN, manner_of, with_manner};
 use clap::{Arg, ArgAction, ArgMatches, Command, Error};
 use std::alloc::Global;
-use vcm_usage::{More, Usage, Word, usages};
+use vcm_usage::{Behind, Choice, Rest, Spelled, Usage, Word, usages};
 use vcm_views::RunView;
 
 /// What a command line asks for.
@@ -169,104 +169,22 @@ fn programs<'a>(alloc: Global) -> Arg<'a> {
         .help("The measuring programs, DMIS texts; `-` is standard input")
 }
 
-// `--all`.
-fn all_option<'a>(alloc: Global) -> Arg<'a> {
-    Arg::new(alloc, "all")
-        .long("all")
-        .action(ArgAction::SetTrue)
-        .help("Tells all faults of lines and statements, with what stands there")
+// What is done where an option stands.
+fn action_of(behind: Behind) -> ArgAction {
+    match behind {
+        Behind::Nothing => ArgAction::SetTrue,
+        Behind::Value => ArgAction::Set,
+        Behind::Values => ArgAction::Append,
+    }
 }
 
-// `--steps N`.
-fn steps_option<'a>(alloc: Global) -> Arg<'a> {
-    Arg::new(alloc, "steps")
-        .long("steps")
-        .action(ArgAction::Set)
-        .help("The most steps, 0 to 1000000000; 1000000 if not given")
-}
-
-// `--show NAMES`.
-fn show_option<'a>(alloc: Global) -> Arg<'a> {
-    Arg::new(alloc, "show")
-        .long("show")
-        .action(ArgAction::Set)
-        .help("Variables whose values are printed at the end, with commas between them, as I,R#2")
-}
-
-// `--close`.
-fn close_option<'a>(alloc: Global) -> Arg<'a> {
-    Arg::new(alloc, "close")
-        .long("close")
-        .action(ArgAction::SetTrue)
-        .help("Shows the blocks as large as they are, and of the way what lies beside them")
-}
-
-// `--sheet`.
-fn sheet_option<'a>(alloc: Global) -> Arg<'a> {
-    Arg::new(alloc, "sheet")
-        .long("sheet")
-        .action(ArgAction::SetTrue)
-        .help("Draws a sheet to be filed, with millimetres, the numbers of the points, and tables")
-}
-
-// `--lines A-B`.
-fn stretch_option<'a>(alloc: Global) -> Arg<'a> {
-    Arg::new(alloc, "lines")
-        .long("lines")
-        .action(ArgAction::Set)
-        .help("Draws a sheet with the way of the statements on these source lines alone, as 80-115")
-}
-
-// `--probe PROBE`.
-fn probe_option<'a>(alloc: Global) -> Arg<'a> {
-    Arg::new(alloc, "probe")
-        .long("probe")
-        .action(ArgAction::Set)
-        .help(
-            "The boxes that are fixed to the tip, a TOML text; the page shows them, and where they meet a block",
-        )
-}
-
-// `--tip N`, `--part PART`, `--frame L=X,Y,Z` and `--exact`.
-fn with_producer_options<'a>(alloc: Global, command: Command<'a>) -> Result<Command<'a>, Error> {
-    let tip = Arg::new(alloc, "tip")
-        .long("tip")
-        .action(ArgAction::Set)
-        .help("Half the width of the tip, in micrometres, 0 to 50000");
-    let part = Arg::new(alloc, "part")
-        .long("part")
-        .action(ArgAction::Set)
-        .help("The workpiece whose tip is taken");
-    let frame = Arg::new(alloc, "frame")
-        .long("frame")
-        .action(ArgAction::Append)
-        .help(
-            "Where the origin of a frame by datums lies in machine coordinates: LABEL=X,Y,Z, or LABEL=X,Y,Z,Z90",
-        );
-    let exact = Arg::new(alloc, "exact")
-        .long("exact")
-        .action(ArgAction::SetTrue)
-        .help("Rounds nothing: what has digits behind the micrometre isn't tried");
-    let command = command.arg(tip)?;
-    let command = command.arg(part)?;
-    let command = command.arg(frame)?;
-    Ok(command.arg(exact)?)
-}
-
-// `--touch`.
-fn touch_option<'a>(alloc: Global) -> Arg<'a> {
-    Arg::new(alloc, "touch")
-        .long("touch")
-        .action(ArgAction::SetTrue)
-        .help("Touches each point along an axis of a feature of several, in lines of its own")
-}
-
-// `--lines`.
-fn lines_option<'a>(alloc: Global) -> Arg<'a> {
-    Arg::new(alloc, "lines")
-        .long("lines")
-        .action(ArgAction::SetTrue)
-        .help("A line for each statement that neither fits nor has a notice")
+// An option.
+fn option_of<'a>(alloc: Global, spelled: Spelled) -> Arg<'a> {
+    let Spelled { name, behind, help } = spelled;
+    Arg::new(alloc, name)
+        .long(name)
+        .action(action_of(behind))
+        .help(help)
 }
 
 // The command with the words behind it.
@@ -280,40 +198,33 @@ fn with_words<'a>(alloc: Global, usage: Usage) -> Result<Command<'a>, Error> {
     Ok(command)
 }
 
+// The command with the further words that it takes.
+fn with_rest<'a>(alloc: Global, command: Command<'a>, rest: Rest) -> Result<Command<'a>, Error> {
+    match rest {
+        Rest::Nothing => Ok(command),
+        Rest::Words => Ok(command.arg(any_words(alloc))?),
+        Rest::Programs => Ok(command.arg(programs(alloc))?),
+    }
+}
+
+// The command with these options.
+fn with_choices<'a>(
+    alloc: Global,
+    command: Command<'a>,
+    choices: &[Choice],
+) -> Result<Command<'a>, Error> {
+    let mut command = command;
+    for choice in choices {
+        command = command.arg(option_of(alloc, choice.spelled()))?;
+    }
+    Ok(command)
+}
+
 // The command, with all that it takes.
 fn subcommand_of<'a>(alloc: Global, usage: Usage) -> Result<Command<'a>, Error> {
     let command = with_manner(alloc, usage.name, with_words(alloc, usage)?)?;
-    match usage.more {
-        More::Nothing => Ok(command),
-        More::Steps => Ok(command.arg(steps_option(alloc))?),
-        More::StepsAndShow => {
-            let command = command.arg(steps_option(alloc))?;
-            Ok(command.arg(show_option(alloc))?)
-        }
-        More::StepsAndSheet => {
-            let command = command.arg(steps_option(alloc))?;
-            let command = command.arg(close_option(alloc))?;
-            let command = command.arg(sheet_option(alloc))?;
-            Ok(command.arg(stretch_option(alloc))?)
-        }
-        More::StepsAndProbe => {
-            let command = command.arg(steps_option(alloc))?;
-            Ok(command.arg(probe_option(alloc))?)
-        }
-        More::Words => Ok(command.arg(any_words(alloc))?),
-        More::Programs => {
-            let command = command.arg(programs(alloc))?;
-            Ok(command.arg(all_option(alloc))?)
-        }
-        More::Survey => {
-            let command = with_producer_options(alloc, command)?;
-            Ok(command.arg(lines_option(alloc))?)
-        }
-        More::Adapt => {
-            let command = with_producer_options(alloc, command)?;
-            Ok(command.arg(touch_option(alloc))?)
-        }
-    }
+    let command = with_rest(alloc, command, usage.rest)?;
+    with_choices(alloc, command, usage.choices)
 }
 
 // The program with its commands, one of which has to stand there where there are words.

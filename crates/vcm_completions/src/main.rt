@@ -8,22 +8,35 @@ use std::alloc::Global;
 use std::fmt::Write as _;
 use std::process::ExitCode;
 use std::rt::Files;
-use vcm_usage::usages;
+use vcm_usage::{Choice, usages};
 use vcm_viewer::{back, front, script_parts, style_parts};
 
 /// The files.
 const FILES: [&str; 4] = ["vcm.1", "vcm.bash", "_vcm", "vcm.fish"];
 
-/// The options of the command line.
-const OPTIONS: [&str; 16] = [
-    "steps", "close", "sheet", "probe", "all", "tip", "part", "frame", "exact", "lines", "touch",
-    "talk", "quiet", "show", "help", "version",
-];
+/// The options that several commands take, and those of the program itself; the others stand with the commands.
+const OPTIONS: [&str; 4] = ["talk", "quiet", "help", "version"];
 
 // Whether one of the words of a text, which are parted by anything but letters, is this.
 fn names(text: &str, word: &str) -> bool {
     text.split(|letter: char| !letter.is_ascii_alphabetic())
         .any(|found| found == word)
+}
+
+// Adds those of these options that a text doesn't name.
+fn put_missing_options(
+    found: &mut String,
+    name: &str,
+    text: &str,
+    choices: &[Choice],
+) -> Option<()> {
+    for choice in choices {
+        let option = choice.spelled().name;
+        if !names(text, option) {
+            writeln!(found, "{name} lacks {option}").ok()?;
+        }
+    }
+    Some(())
 }
 
 // The words of the command line that a text doesn't name, each behind the name of its file, unless memory runs out.
@@ -39,6 +52,7 @@ fn missing(alloc: Global, name: &str, text: &str) -> Option<String> {
             let command = usage.name;
             writeln!(found, "{name} lacks {command}").ok()?;
         }
+        put_missing_options(&mut found, name, text, usage.choices)?;
     }
     let count = usages().len();
     writeln!(found, "{name} names {count} commands").ok()?;

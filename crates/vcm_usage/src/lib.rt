@@ -2,8 +2,10 @@
 #![tactic(auto)]
 
 mod manner;
+mod options;
 
 pub use manner::{takes_quiet, takes_talk};
+pub use options::{Behind, Choice, Spelled};
 
 /// A word behind a command: its name, and what it is.
 pub type Word = (&'static str, &'static str);
@@ -22,36 +24,25 @@ const LISTING: Word = ("LISTING", "The listing of a code");
 
 const IMAGE: Word = ("IMAGE", "The file that the image is written to");
 
-/// What else a command takes.
+/// Which words a command takes besides those that all have to be there.
 #[derive(Clone, Copy)]
-pub enum More {
+pub enum Rest {
     Nothing,
-    /// `--steps N`.
-    Steps,
-    /// `--steps N` and `--show NAMES`.
-    StepsAndShow,
-    /// `--steps N`, `--close`, `--sheet` and `--lines A-B`.
-    StepsAndSheet,
-    /// `--steps N` and `--probe PROBE`.
-    StepsAndProbe,
     /// Any words.
     Words,
-    /// Programs, one at least, and `--all`.
+    /// Programs, one at least.
     Programs,
-    /// What a text is surveyed with, and `--lines`.
-    Survey,
-    /// What a text is surveyed with.
-    Adapt,
 }
 
-/// A command: its name, what it does, an example, the words behind it, which all have to be there, and what else it takes.
+/// A command: its name, what it does, an example, the words behind it, which all have to be there, further ones, and its options.
 #[derive(Clone, Copy)]
 pub struct Usage {
     pub name: &'static str,
     pub about: &'static str,
     pub example: &'static str,
     pub words: &'static [Word],
-    pub more: More,
+    pub rest: Rest,
+    pub choices: &'static [Choice],
 }
 
 // All commands.
@@ -61,133 +52,164 @@ const USAGES: &[Usage] = &[
         about: "Tells whether programs are accepted, and how many statements each has",
         example: "For example: vcm check square.dmi",
         words: &[],
-        more: More::Programs,
+        rest: Rest::Programs,
+        choices: &[Choice::All],
     },
     Usage {
         name: "survey",
         about: "Tells of a producer's text what fits, what vcm adapt puts otherwise, and what isn't tried",
         example: "For example: vcm survey camio.dmi --tip 1000",
         words: &[PRODUCED],
-        more: More::Survey,
+        rest: Rest::Nothing,
+        choices: &[
+            Choice::Tip,
+            Choice::Part,
+            Choice::Frame,
+            Choice::Exact,
+            Choice::Lines,
+        ],
     },
     Usage {
         name: "adapt",
         about: "Writes the program that a producer's text is adapted to, line by line",
         example: "For example: vcm adapt camio.dmi --tip 1000 > adapted.dmi",
         words: &[PRODUCED],
-        more: More::Adapt,
+        rest: Rest::Nothing,
+        choices: &[
+            Choice::Tip,
+            Choice::Part,
+            Choice::Frame,
+            Choice::Exact,
+            Choice::Touch,
+        ],
     },
     Usage {
         name: "build",
         about: "Writes the image of a program",
         example: "For example: vcm build grid.dmi grid.vcmi",
         words: &[PROGRAM, IMAGE],
-        more: More::Nothing,
+        rest: Rest::Nothing,
+        choices: &[],
     },
     Usage {
         name: "run",
         about: "Runs a program or an image beside a workpiece, and prints the result",
         example: "For example: vcm run above.dmi part-a.toml",
         words: &[INPUT, PART],
-        more: More::StepsAndShow,
+        rest: Rest::Nothing,
+        choices: &[Choice::Steps, Choice::Show],
     },
     Usage {
         name: "why",
         about: "Tells why a run stops where it does: the line, its calls and loops, the way, what is met, and where it would be free",
         example: "For example: vcm why above.dmi part-a.toml",
         words: &[INPUT, PART],
-        more: More::Steps,
+        rest: Rest::Nothing,
+        choices: &[Choice::Steps],
     },
     Usage {
         name: "contacts",
         about: "Tells all contacts of a run in one go: behind each the motion is taken as done, so what stands behind the first is a guess",
         example: "For example: vcm contacts into.dmi part-a.toml",
         words: &[INPUT, PART],
-        more: More::Steps,
+        rest: Rest::Nothing,
+        choices: &[Choice::Steps],
     },
     Usage {
         name: "trace",
         about: "Runs a program or an image beside a workpiece, and prints what each step did, a line of CSV for each",
         example: "For example: vcm trace touch.dmi part-a.toml",
         words: &[INPUT, PART],
-        more: More::Steps,
+        rest: Rest::Nothing,
+        choices: &[Choice::Steps],
     },
     Usage {
         name: "margin",
         about: "Tells how wide the tip of the probe may be for the run to go as it does, and what a wider one meets",
         example: "For example: vcm margin square.dmi part-a.toml",
         words: &[INPUT, PART],
-        more: More::Steps,
+        rest: Rest::Nothing,
+        choices: &[Choice::Steps],
     },
     Usage {
         name: "points",
         about: "Runs a program or an image beside a workpiece, and prints the measured points with their deviation, a line of CSV for each",
         example: "For example: vcm points grid.dmi part-a.toml",
         words: &[INPUT, PART],
-        more: More::Steps,
+        rest: Rest::Nothing,
+        choices: &[Choice::Steps],
     },
     Usage {
         name: "clearance",
         about: "Tells which boxes of the probe, its shaft or head, meet a block in a run, and how much room the others have",
         example: "For example: vcm clearance square.dmi part-a.toml stylus.toml",
         words: &[INPUT, PART, PROBE],
-        more: More::Steps,
+        rest: Rest::Nothing,
+        choices: &[Choice::Steps],
     },
     Usage {
         name: "picture",
         about: "Runs a program or an image beside a workpiece, and draws the workpiece and the way of the probe as SVG",
         example: "For example: vcm picture square.dmi part-a.toml --close > square.svg",
         words: &[INPUT, PART],
-        more: More::StepsAndSheet,
+        rest: Rest::Nothing,
+        choices: &[Choice::Steps, Choice::Close, Choice::Sheet, Choice::Stretch],
     },
     Usage {
         name: "view",
         about: "Runs a program or an image beside a workpiece, and writes a page for a browser that shows each step",
         example: "For example: vcm view square.dmi part-a.toml > square.html",
         words: &[INPUT, PART],
-        more: More::StepsAndProbe,
+        rest: Rest::Nothing,
+        choices: &[Choice::Steps, Choice::Probe],
     },
     Usage {
         name: "part",
         about: "Prints a workpiece as it was read, and tells which keys of its file nothing uses",
         example: "For example: vcm part part-a.toml",
         words: &[PART],
-        more: More::Nothing,
+        rest: Rest::Nothing,
+        choices: &[],
     },
     Usage {
         name: "debug",
         about: "Answers the commands of standard input, a line each, on a program or an image",
         example: "For example: vcm debug lines.dmi part-a.toml",
         words: &[INPUT, PART],
-        more: More::Nothing,
+        rest: Rest::Nothing,
+        choices: &[],
     },
     Usage {
         name: "dap",
         about: "Speaks the Debug Adapter Protocol on standard input and output, for editors",
         example: "For example, as the adapter of an editor: vcm dap",
         words: &[],
-        more: More::Nothing,
+        rest: Rest::Nothing,
+        choices: &[],
     },
     Usage {
         name: "list",
         about: "Prints the listing of a program or an image",
         example: "For example: vcm list above.dmi",
         words: &[INPUT],
-        more: More::Nothing,
+        rest: Rest::Nothing,
+        choices: &[],
     },
     Usage {
         name: "asm",
         about: "Writes the image of a listing",
         example: "For example: vcm asm above.lst above.vcmi",
         words: &[LISTING, IMAGE],
-        more: More::Nothing,
+        rest: Rest::Nothing,
+        choices: &[],
     },
     Usage {
         name: "explain",
         about: "Tells what a code or a message means and what to do; without words, which there are",
         example: "For example: vcm explain E14",
         words: &[],
-        more: More::Words,
+        rest: Rest::Words,
+        choices: &[],
     },
 ];
 

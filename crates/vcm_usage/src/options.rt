@@ -1,0 +1,125 @@
+//! The options of commands, but for `--talk` and `--quiet`.
+
+/// An option of a command.
+#[derive(Clone, Copy)]
+pub enum Choice {
+    /// `--all`.
+    All,
+    /// `--steps N`.
+    Steps,
+    /// `--show NAMES`.
+    Show,
+    /// `--close`.
+    Close,
+    /// `--sheet`.
+    Sheet,
+    /// `--lines A-B`.
+    Stretch,
+    /// `--probe PROBE`.
+    Probe,
+    /// `--tip N`.
+    Tip,
+    /// `--part PART`.
+    Part,
+    /// `--frame L=X,Y,Z`.
+    Frame,
+    /// `--exact`.
+    Exact,
+    /// `--lines`.
+    Lines,
+    /// `--touch`.
+    Touch,
+}
+
+/// What stands behind an option.
+#[derive(Clone, Copy)]
+pub enum Behind {
+    Nothing,
+    Value,
+    /// A value; the option may stand several times.
+    Values,
+}
+
+/// An option as it is spelled and told: its name behind two dashes, what stands behind that, and what it does.
+#[derive(Clone, Copy)]
+pub struct Spelled {
+    pub name: &'static str,
+    pub behind: Behind,
+    pub help: &'static str,
+}
+
+// One with nothing behind it.
+fn flag(name: &'static str, help: &'static str) -> Spelled {
+    Spelled {
+        name,
+        behind: Behind::Nothing,
+        help,
+    }
+}
+
+// One with a value behind it.
+fn valued(name: &'static str, help: &'static str) -> Spelled {
+    Spelled {
+        name,
+        behind: Behind::Value,
+        help,
+    }
+}
+
+impl Choice {
+    /// How it is spelled and told.
+    pub fn spelled(self) -> Spelled {
+        match self {
+            Choice::All => flag(
+                "all",
+                "Tells all faults of lines and statements, with what stands there",
+            ),
+            Choice::Steps => valued(
+                "steps",
+                "The most steps, 0 to 1000000000; 1000000 if not given",
+            ),
+            Choice::Show => valued(
+                "show",
+                "Variables whose values are printed at the end, with commas between them, as I,R#2",
+            ),
+            Choice::Close => flag(
+                "close",
+                "Shows the blocks as large as they are, and of the way what lies beside them",
+            ),
+            Choice::Sheet => flag(
+                "sheet",
+                "Draws a sheet to be filed, with millimetres, the numbers of the points, and tables",
+            ),
+            Choice::Stretch => valued(
+                "lines",
+                "Draws a sheet with the way of the statements on these source lines alone, as 80-115",
+            ),
+            Choice::Probe => valued(
+                "probe",
+                "The boxes that are fixed to the tip, a TOML text; the page shows them, and where they meet a block",
+            ),
+            Choice::Tip => valued(
+                "tip",
+                "Half the width of the tip, in micrometres, 0 to 50000",
+            ),
+            Choice::Part => valued("part", "The workpiece whose tip is taken"),
+            Choice::Frame => Spelled {
+                name: "frame",
+                behind: Behind::Values,
+                help: "Where the origin of a frame by datums lies in machine coordinates: LABEL=X,Y,Z, or LABEL=X,Y,Z,Z90",
+            },
+            Choice::Exact => flag(
+                "exact",
+                "Rounds nothing: what has digits behind the micrometre isn't tried",
+            ),
+            Choice::Lines => flag(
+                "lines",
+                "A line for each statement that neither fits nor has a notice",
+            ),
+            Choice::Touch => flag(
+                "touch",
+                "Touches each point along an axis of a feature of several, in lines of its own",
+            ),
+        }
+    }
+}
