@@ -4,7 +4,7 @@ use crate::command_line::Checks;
 use crate::producing::{bytes_of, print_bytes, tell_bytes};
 use crate::program::fails;
 use crate::talking::Voice;
-use std::alloc::Global;
+use std::alloc::{AllocError, Global};
 use std::fmt::Write as _;
 use std::rt::Files;
 use vcm_job::{CheckFault, read_all};
@@ -89,19 +89,21 @@ fn tell_notices<R: Eprint + AllocGlobal>(rt: &R, checked: Checked<'_>, notices: 
     }
 }
 
-// The line that tells how many statements a program has.
-fn count_line(alloc: Global, checked: Checked<'_>, count: usize) -> Result<String, NoMemory> {
-    let mut line = String::new(alloc);
-    let name = checked.name;
-    let done = if checked.is_named {
+// Adds the line that tells how many statements a program has.
+fn put_count(line: &mut String, checked: Checked<'_>, count: usize) -> Result<(), AllocError> {
+    if checked.is_named {
+        let name = checked.name;
         writeln!(line, "{name}: ok {count} statements")
     } else {
         writeln!(line, "ok {count} statements")
-    };
-    match done {
-        Ok(()) => Ok(line),
-        Err(_) => Err(NoMemory),
     }
+}
+
+// The line that tells how many statements a program has.
+fn count_line(alloc: Global, checked: Checked<'_>, count: usize) -> Result<String, AllocError> {
+    let mut line = String::new(alloc);
+    put_count(&mut line, checked, count)?;
+    Ok(line)
 }
 
 // Tells that a program is accepted, and gives the exit status.

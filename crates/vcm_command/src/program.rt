@@ -94,16 +94,40 @@ fn run_job<R: Input + Print + AllocGlobal>(rt: &R) -> Result<Done, Message<'stat
     written(&mut out, done)
 }
 
-// Checks the program of a file, and gives its lines that have no effect.
-fn check_file<'a, R: Files + Print + AllocGlobal>(
+/// What is printed of a file alone.
+#[derive(Clone, Copy)]
+enum Printed {
+    /// Whether its program is accepted.
+    Check,
+    /// The listing of its program or image.
+    List,
+}
+
+// Prints it of what a reader gives, and gives the program's lines that have no effect.
+fn print_input<'a, I: Read, W: Write>(
+    alloc: Global,
+    printed: Printed,
+    name: &'a str,
+    input: &mut I,
+    out: &mut W,
+) -> Result<Vec<Noticed>, Message<'a>> {
+    match printed {
+        Printed::Check => check(alloc, input, out).map_err(|fault| message_of(fault, name)),
+        Printed::List => list(alloc, input, out).map_err(|fault| message_of(fault, name)),
+    }
+}
+
+// Prints it of a file, and gives the program's lines that have no effect.
+fn print_file<'a, R: Files + Print + AllocGlobal>(
     rt: &R,
+    printed: Printed,
     name: &'a str,
 ) -> Result<Vec<Noticed>, Message<'a>> {
     let Ok(mut file) = std::fs::open(rt, name) else {
         return Err(Message::Read { name });
     };
     let mut out = output(rt)?;
-    let done = check(rt.alloc(), &mut file, &mut out).map_err(|fault| message_of(fault, name));
+    let done = print_input(rt.alloc(), printed, name, &mut file, &mut out);
     written(&mut out, done)
 }
 
@@ -144,19 +168,6 @@ fn build_file<R: Files + Eprint + AllocGlobal>(
         Ok(built) => write_image(rt, voice, image, &built.image, built.notices.as_slice()),
         Err(fault) => fails(rt, message_of(fault, name)),
     }
-}
-
-// Prints the listing of a file's program or image, and gives the program's lines that have no effect.
-fn list_file<'a, R: Files + Print + AllocGlobal>(
-    rt: &R,
-    name: &'a str,
-) -> Result<Vec<Noticed>, Message<'a>> {
-    let Ok(mut file) = std::fs::open(rt, name) else {
-        return Err(Message::Read { name });
-    };
-    let mut out = output(rt)?;
-    let done = list(rt.alloc(), &mut file, &mut out).map_err(|fault| message_of(fault, name));
-    written(&mut out, done)
 }
 
 // Writes the image of a file's listing to another file, and gives the exit status.
@@ -253,7 +264,11 @@ fn carry_out<R: Files + Input + Print + Eprint + AllocGlobal>(
 ) -> u8 {
     match request {
         Request::Job => status_after(rt, voice, run_job(rt)),
-        Request::Check { program } => status_of_notices(rt, voice, check_file(rt, program)),
+        Request::Check { program } => status_of_notices(
+            rt,
+            voice,
+            print_file(rt, Printed::Check, program),
+        ),
         Request::Checks(asked) => check_all(rt, voice, asked),
         Request::Produced(asked) => produced(rt, asked),
         Request::Build { program, image } => build_file(rt, voice, program, image),
@@ -277,7 +292,11 @@ fn carry_out<R: Files + Input + Print + Eprint + AllocGlobal>(
         }
         Request::Debug { input, part } => debug_file(rt, voice, input, part),
         Request::Dap => serve_editor(rt),
-        Request::List { input } => status_of_notices(rt, voice, list_file(rt, input)),
+        Request::List { input } => status_of_notices(
+            rt,
+            voice,
+            print_file(rt, Printed::List, input),
+        ),
         Request::Asm { listing, image } => asm_file(rt, voice, listing, image),
         Request::Part { part } => show_part(rt, voice, part),
         Request::Explain { words } => explain(rt, words),

@@ -4,11 +4,11 @@ use crate::command_line::{Asked, steps_of};
 use crate::parts::part_of;
 use crate::program::{fails, output, status_after, written};
 use crate::talking::{Told, Voice, alone, fails_in, fails_in_view, fails_twice};
-use std::alloc::Global;
-use std::fmt::{self, Write as _};
+use std::alloc::{AllocError, Global};
+use std::fmt::Write as _;
 use std::io::{Read, Write};
 use std::rt::Files;
-use vcm_boxes::{Boxes, BoxesFault, read_boxes};
+use vcm_boxes::{Boxes, BoxesFault, ProbeBox, read_boxes};
 use vcm_given::{Titles, tell_contacts, write_sheet_of, write_why};
 use vcm_job::{Done, ReadFault, RunFault, read_all, run};
 use vcm_messages::{Message, message_of, probe_message};
@@ -90,14 +90,19 @@ fn write_page<R: Read, W: Write>(
     page_of(alloc, part, texts, reader, steps, writer)
 }
 
-// The boxes as lines: Q, their names and their corners in micrometres.
-fn box_lines(alloc: Global, boxes: &Boxes) -> Result<String, fmt::Error> {
+// Adds a box as a line: Q, its name and its corners in micrometres.
+fn put_box(text: &mut String, tried: &ProbeBox) -> Result<(), AllocError> {
+    let name = std::str::from_utf8(tried.name.as_bytes()).unwrap_or("");
+    let Point([a, b, c]) = tried.block.low;
+    let Point([d, e, f]) = tried.block.high;
+    writeln!(text, "Q {name} {a} {b} {c} {d} {e} {f}")
+}
+
+// The boxes as lines.
+fn box_lines(alloc: Global, boxes: &Boxes) -> Result<String, AllocError> {
     let mut text = String::new(alloc);
     for tried in boxes.as_slice() {
-        let name = std::str::from_utf8(tried.name.as_bytes()).unwrap_or("");
-        let Point([a, b, c]) = tried.block.low;
-        let Point([d, e, f]) = tried.block.high;
-        writeln!(text, "Q {name} {a} {b} {c} {d} {e} {f}")?;
+        put_box(&mut text, tried)?;
     }
     Ok(text)
 }
