@@ -9,6 +9,6 @@ pub mod Targeted
 pub mod Emits
 pub mod ValidCode
 pub mod InRange
-pub mod Versions
+pub mod SimpleCode
 pub mod Whole
 pub mod CaseMarks

@@ -2,14 +2,12 @@
 use Rattle.std.proofs.Common.{◌≡◌, ℕ, suc, ◌+◌, ◌<◌, ◌≤◌, List, [], ◌∷◌, ◌++◌, Bool, true, false, sym, subst, arith}
 use Rattle.std.specs.Prelude.{IsTrue, length, slice_get, Some}
 use Rattle.std.proofs.lemmas.Option.{slice_get_within}
-use Rattle.vcm_num.specs.declared.number.Kind.{Kind}
 use Rattle.vcm_num.specs.declared.number.Kind.TheVariants.{Int, Bool as Truths}
 use Rattle.vcm_spec.specs.declared.expression.Item.{Item}
-use Rattle.vcm_spec.specs.Expression.{Tree, spelling}
-use Rattle.vcm_spec.specs.Simple.{Simple, with_form}
-use Rattle.vcm_spec.specs.declared.simple.Simple.TheVariants.{Goto, GoHome, Assign, Feat, PtMeas, SnSet, Trans, Rotate, Recall, Obtain, Output, Text}
+use Rattle.vcm_spec.specs.Expression.{spelling}
+use Rattle.vcm_spec.specs.Simple.{with_form}
 use Rattle.vcm_spec.specs.Setup.{Tables}
-use Rattle.vcm_spec.specs.Fitting.{kinds, Fits, HasKindIn, NodeFits, BlockFits, CasesFit}
+use Rattle.vcm_spec.specs.Fitting.{kinds, NodeFits, BlockFits, CasesFit}
 use Rattle.vcm_spec.specs.Program.{Label as Name, Node, Block, Cases, simple, label, jump, choice, choice_else, do_loop, meas, select, ending, done, then}
 use Rattle.vcm_spec.specs.Program.{no_more, one_case, default, size, sizes, case_sizes, is_same_label}
 use Rattle.vcm_spec.specs.Table.{if_true}
@@ -19,10 +17,12 @@ use Rattle.vcm_code.specs.declared.op.Op.TheVariants.{If, EndDo}
 use Rattle.vcm_code.specs.Code.{CodeStatement}
 use Rattle.vcm_code.specs.Checks.{HasItems, AllHold, targets, OpFits}
 use Rattle.vcm_code.specs.Valid.{Ends, IsValid}
+use Rattle.vcm_code.specs.Ranges.{version_for}
 use Rattle.vcm_code.proofs.Checked.{AllFit, all_hold, wants_hold, simple_holds, do_holds, select_holds}
-use Rattle.vcm_asm.specs.inner.Spelled.{Keeps, SimpleKeeps, NodeKeeps, BlockKeeps, CasesKeep}
-use Rattle.vcm_asm.specs.Assembled.{Mark, node_marks, marks, case_marks, node_code, block_code, case_code, branches_of, last_target, place_in, flat_code, version_of}
+use Rattle.vcm_asm.specs.inner.Spelled.{NodeKeeps, BlockKeeps, CasesKeep}
+use Rattle.vcm_asm.specs.Assembled.{Mark, node_marks, marks, case_marks, node_code, block_code, case_code, branches_of, last_target, place_in, flat_code}
 use Rattle.vcm_asm.proofs.Place.{block_length}
+use Rattle.vcm_asm.proofs.SimpleCode.{keeps, simple_fits}
 
 size_positive : (n : Node) → 0 < size n
 size_positive (ending line) = omega arith
@@ -81,24 +81,6 @@ last_below (one_case line v b close rest) base s lt = last_below rest (base + 1 
 last_below (default line b close) base s lt = omega arith
 
 module _ (tables : Tables) where
-  -- an expression keeps its kind
-  keeps : (t : Tree) (k : Kind) → HasKindIn tables t k → Keeps t → HasItems tables (spelling t) k
-  keeps t k h kept = (kept (kinds tables) k h).0
-
-  simple_fits : (what : Simple Tree) → Fits (HasKindIn tables) tables what → SimpleKeeps what → Fits (HasItems tables) tables (with_form spelling what)
-  simple_fits (Goto x y z) h s = (keeps x _ h.0 s.0, keeps y _ h.1 s.1, keeps z _ h.2 s.2)
-  simple_fits GoHome h s = tt
-  simple_fits (Assign v e) h s = (h.0, h.1, keeps e h.0 h.2 s)
-  simple_fits (Feat i x y z d) h s = (h.0, (keeps x _ h.1.0 s.0, keeps y _ h.1.1 s.1, keeps z _ h.1.2 s.2))
-  simple_fits (PtMeas i x y z d) h s = (h.0, (keeps x _ h.1.0 s.0, keeps y _ h.1.1 s.1, keeps z _ h.1.2 s.2))
-  simple_fits (SnSet which e) h s = keeps e _ h s
-  simple_fits (Trans i x y z) h s = (h.0, (keeps x _ h.1.0 s.0, keeps y _ h.1.1 s.1, keeps z _ h.1.2 s.2))
-  simple_fits (Rotate i axis n) h s = h
-  simple_fits (Recall i) h s = h
-  simple_fits (Obtain v source i word) h s = h
-  simple_fits (Output source i) h s = h
-  simple_fits (Text bytes) h s = tt
-
   -- an IF, whose test is BOOL
   if_holds : (s : ℕ) (e : List Item) (to : ℕ) → HasItems tables e Truths → to < s → OpFits tables s (If e to)
   if_holds s e to h below = (let k = wants_hold (kinds tables) e Truths h in (k.0, (h, (below, tt))))
@@ -114,24 +96,24 @@ module _ (tables : Tables) where
   module _ (to : Name → ℕ) (s : ℕ) (places : (l : Name) → to l < s) where
     mutual
       node_fits : (n : Node) (d base : ℕ) → base + size n < s → NodeFits tables n → NodeKeeps n → AllFit tables s (node_code to n d base)
-      node_fits (simple line what) d base lt h m = (simple_holds tables s (with_form spelling what) (simple_fits what h m), tt)
+      node_fits (simple line what) d base lt h m = (simple_holds tables s (with_form spelling what) (simple_fits tables what h m), tt)
       node_fits (label line l) d base lt h m = (tt, tt)
       node_fits (jump line l) d base lt h m = ((places l, tt), tt)
       node_fits (choice line test first close) d base lt h m =
-          (if_holds s (spelling test) _ (keeps test _ h.0 m.0) (omega arith), fits_join s (block_code to first d (base + 1)) _ (block_fits first d (base + 1) (omega arith) h.1 m.1) (tt, tt))
+          (if_holds s (spelling test) _ (keeps tables test _ h.0 m.0) (omega arith), fits_join s (block_code to first d (base + 1)) _ (block_fits first d (base + 1) (omega arith) h.1 m.1) (tt, tt))
       node_fits (choice_else line test first mid second close) d base lt h m = (
-        if_holds s (spelling test) _ (keeps test _ h.0 m.0) (omega arith),
+        if_holds s (spelling test) _ (keeps tables test _ h.0 m.0) (omega arith),
         fits_join s (block_code to first d (base + 1)) _ (block_fits first d (base + 1) (omega arith) h.1 m.1)
             ((omega arith, tt), fits_join s (block_code to second d (base + 1 + sizes first + 1)) _ (block_fits second d (base + 1 + sizes first + 1) (omega arith) h.2 m.2) (tt, tt)),
       )
       node_fits (do_loop line v a b c body close) d base lt h m = (
-        do_holds tables s v d (spelling a) (spelling b) (spelling c) _ h.0 (keeps a _ h.1 m.0) (keeps b _ h.2 m.1) (keeps c _ h.3 m.2) (omega arith, tt),
+        do_holds tables s v d (spelling a) (spelling b) (spelling c) _ h.0 (keeps tables a _ h.1 m.0) (keeps tables b _ h.2 m.1) (keeps tables c _ h.3 m.2) (omega arith, tt),
         fits_join s (block_code to body (suc d) (base + 1)) _ (block_fits body (suc d) (base + 1) (omega arith) h.4 m.3) (end_holds s v d (base + 1) h.0 (omega arith), tt),
       )
       node_fits (meas line feature body close) d base lt h m =
           ((h.0, tt), fits_join s (block_code to body d (base + 1)) _ (block_fits body d (base + 1) (omega arith) h.1 m) (tt, tt))
       node_fits (select line value cases close) d base lt h m = (
-        select_holds tables s (spelling value) (branches_of cases (base + 1)) _ (keeps value _ h.0 m.0) (branches_below cases (base + 1) s (omega arith))
+        select_holds tables s (spelling value) (branches_of cases (base + 1)) _ (keeps tables value _ h.0 m.0) (branches_below cases (base + 1) s (omega arith))
             (last_below cases (base + 1) s (omega arith), tt),
         fits_join s (case_code to cases d (base + 1) (base + 1 + case_sizes cases + 1)) _ (cases_fit cases d (base + 1) (base + 1 + case_sizes cases + 1) (omega arith) (omega arith) h.1 m.1) (tt, tt),
       )
@@ -188,7 +170,7 @@ closed_positive done c = absurd cc
 closed_positive (then n b) c = let pos = size_positive n in omega arith
 
 pub valid : (program : Block) (tables : Tables) → IsWhole program tables → BlockKeeps program
-    → IsValid (record { version = version_of program; tables = tables; statements = flat_code program })
+    → IsValid (record { version = version_for (flat_code program); tables = tables; statements = flat_code program })
 valid program tables a small =
     let to = place_in (marks program 0) in
     let len = block_length to program 0 0 in

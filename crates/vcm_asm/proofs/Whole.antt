@@ -1,5 +1,5 @@
 -- The statement code of a whole program.
-use Rattle.std.proofs.Common.{◌≡◌, ◌≤◌, List, length, refl, sym, ap, ◌∙◌, subst, arith}
+use Rattle.std.proofs.Common.{◌≡◌, ◌≤◌, Bool, true, false, List, length, refl, sym, subst, arith}
 use Rattle.vcm_spec.specs.Setup.{Tables, setup_of}
 use Rattle.vcm_spec.specs.Program.{Block}
 use Rattle.vcm_program.specs.Program.{IsWhole, AreNames as AreFewNames}
@@ -7,21 +7,30 @@ use Rattle.vcm_code.specs.declared.code.Code.{Code}
 use Rattle.vcm_code.specs.Code.{CodeStatement}
 use Rattle.vcm_code.specs.Valid.{IsValid}
 use Rattle.vcm_code.specs.declared.version.Version.{Version}
-use Rattle.vcm_code.specs.Ranges.{AllInRange, version_for, IsInRange}
+use Rattle.vcm_spec.specs.Table.{if_true}
+use Rattle.vcm_code.specs.declared.version.Version.TheVariants.{One, Two}
+use Rattle.vcm_code.specs.Ranges.{AllInRange, has_selection, version_for, IsOfVersion, IsInRange}
 use Rattle.vcm_asm.specs.inner.Spelled.{BlockKeeps}
-use Rattle.vcm_asm.specs.Assembled.{marks, place_in, flat_code, version_of}
+use Rattle.vcm_asm.specs.Assembled.{marks, place_in, flat_code}
 use Rattle.vcm_asm.specs.Simulation.{IsAssembled}
 use Rattle.vcm_asm.proofs.Structured.{structured}
 use Rattle.vcm_asm.proofs.Place.{block_length}
 use Rattle.vcm_asm.proofs.Follow.{same}
 use Rattle.vcm_asm.proofs.ValidCode.{valid}
 use Rattle.vcm_asm.proofs.InRange.{block_range}
-use Rattle.vcm_asm.proofs.Versions.{version_same, of_version}
+
+-- the first version that has some statements has them
+of_version : (ss : List CodeStatement) → IsOfVersion (version_for ss) ss
+of_version ss = by (has_selection ss) refl
+  where
+    by : (t : Bool) → has_selection ss ≡ t → IsOfVersion (if_true t Two One) ss
+    by true e = tt
+    by false e = e
 
 module _ (program : Block) (tables : Tables) (whole : IsWhole program tables) where
-  -- the code of the program's version with these tables and statements
+  -- the code with these tables and statements, of the first version that has them
   abbrev with_statements : List CodeStatement → Code
-  with_statements ss = record { version = version_of program; tables = tables; statements = ss }
+  with_statements ss = record { version = version_for ss; tables = tables; statements = ss }
 
   pub assembled : IsAssembled program tables (with_statements (flat_code program))
   assembled = record {
@@ -47,13 +56,12 @@ module _ (program : Block) (tables : Tables) (whole : IsWhole program tables) wh
     features = (features.few, features.named);
     frames = (frames.few, frames.named);
     statements = (few_statements, all_in_range kept);
-    version = of_version program;
+    version = of_version (flat_code program);
   }
 
   -- what holds of that code holds of one with these tables and statements, where they are the same and its version is theirs
   pub with_code : (P : Code → Type 0) (v : Version) (ts : Tables) (ss : List CodeStatement) → v ≡ version_for ss → ts ≡ tables → ss ≡ flat_code program
       → P (with_statements (flat_code program)) → P (record { version = v; tables = ts; statements = ss })
   with_code P v ts ss d e f h =
-      let same : v ≡ version_of program = d ∙ ap version_for f ∙ version_same program in
-      subst (λ x. P (record { version = x; tables = ts; statements = ss })) (sym same)
-      (subst (λ x. P (record { version = version_of program; tables = x; statements = ss })) (sym e) (subst (λ x. P (with_statements x)) (sym f) h))
+      subst (λ x. P (record { version = x; tables = ts; statements = ss })) (sym d)
+      (subst (λ x. P (record { version = version_for ss; tables = x; statements = ss })) (sym e) (subst (λ x. P (with_statements x)) (sym f) h))

@@ -1,13 +1,11 @@
 -- The statement code of a structured program.
-use Rattle.std.specs.Prelude.{ℕ, suc, ◌+◌, Bool, true, false, ◌||◌, List, [], ◌∷◌, ◌++◌}
+use Rattle.std.specs.Prelude.{ℕ, suc, ◌+◌, List, [], ◌∷◌, ◌++◌}
 use Rattle.vcm_spec.specs.Expression.{spelling}
 use Rattle.vcm_spec.specs.Simple.{with_form}
 use Rattle.vcm_spec.specs.Program.{Label as Name, Node, Block, Cases, simple, label, jump, choice, choice_else, do_loop, meas, select, ending, done, then}
 use Rattle.vcm_spec.specs.Program.{no_more, one_case, default, size, sizes, case_sizes, is_same_label}
 use Rattle.vcm_spec.specs.Table.{if_true}
 use Rattle.vcm_code.specs.declared.branch.Branch.{Branch}
-use Rattle.vcm_code.specs.declared.version.Version.{Version}
-use Rattle.vcm_code.specs.declared.version.Version.TheVariants.{One, Two}
 use Rattle.vcm_code.specs.declared.op.Op.TheVariants.{Plain, If, Else, EndIf, Do, EndDo, Label, JumpTo, Meas, EndMes, Select, Case, EndCas, DftCas, EndSel}
 use Rattle.vcm_code.specs.declared.op.Op.TheVariants.{EndFil}
 use Rattle.vcm_code.specs.Code.{CodeStatement, statement}
@@ -96,21 +94,3 @@ abbrev mutual
 -- the statements of a program
 abbrev pub flat_code : Block → List CodeStatement
 flat_code program = block_code (place_in (marks program 0)) program 0 0
-
--- whether a SELECT stands in a node, and in a block
-abbrev mutual
-  pub node_selects : Node → Bool
-  node_selects (choice line test first close) = selects first
-  node_selects (choice_else line test first mid second close) = selects first || selects second
-  node_selects (do_loop line v initial limit increment body close) = selects body
-  node_selects (meas line feature body close) = selects body
-  node_selects (select line value cases close) = true
-  node_selects _ = false
-
-  pub selects : Block → Bool
-  selects done = false
-  selects (then n b) = node_selects n || selects b
-
--- the version of a program's code: the second where it has a SELECT
-abbrev pub version_of : Block → Version
-version_of program = if_true (selects program) Two One

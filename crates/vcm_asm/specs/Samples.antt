@@ -14,7 +14,8 @@ use Rattle.vcm_code.specs.declared.branch.Branch.{Branch}
 use Rattle.vcm_code.specs.declared.version.Version.TheVariants.{One, Two}
 use Rattle.vcm_code.specs.declared.op.Op.TheVariants.{Plain, If, Else, EndIf, Do, EndDo, Label, JumpTo, Select, Case, EndCas, DftCas, EndSel, EndFil}
 use Rattle.vcm_code.specs.Code.{statement}
-use Rattle.vcm_asm.specs.Assembled.{flat_code, version_of}
+use Rattle.vcm_code.specs.Ranges.{version_for}
+use Rattle.vcm_asm.specs.Assembled.{flat_code}
 
 -- a whole number as an expression
 abbrev whole : ℤ → List Item
@@ -89,8 +90,8 @@ pub to_its_end : flat_code no_block ≡ statement 3 (Select (whole (pos 5)) [] 1
 to_its_end = refl
 
 -- the version of a code
-pub second_version : version_of selections ≡ Two
+pub second_version : version_for (flat_code selections) ≡ Two
 second_version = refl
 
-pub first_version : version_of again ≡ One
+pub first_version : version_for (flat_code again) ≡ One
 first_version = refl

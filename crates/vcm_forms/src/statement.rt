@@ -177,19 +177,7 @@ impl Form {
         match self {
             Form::Opening | Form::Measures | Form::Ignored(_) | Form::Declaration(_, _) => false,
             Form::Macro(_, _) | Form::MacroEnd | Form::Call(_, _) => false,
-            Form::Assignment(_, _) | Form::Move(_) | Form::Home | Form::Say(_) | Form::Ending => {
-                true
-            }
-            Form::Test(_) | Form::Otherwise | Form::TestEnd => true,
-            Form::Repeat(_) | Form::RepeatEnd | Form::Mark(_) | Form::Leap(_) => true,
-            Form::Feature(_, _, _) | Form::Measure(_) | Form::Touch(_, _) | Form::MeasureEnd => {
-                true
-            }
-            Form::Choose(_) | Form::Case(_) | Form::CaseEnd | Form::Default | Form::ChooseEnd => {
-                true
-            }
-            Form::Configure(_, _) | Form::Shift(_, _) | Form::Rotation(_, _, _) => true,
-            Form::Restore(_) | Form::Query(_, _, _, _) | Form::Report(_, _) => true,
+            _ => true,
         }
     }
 }

@@ -160,15 +160,7 @@ moving one other tables p w (PtMeas i x y z given) =
     after_one (Some i) (measured_direction w i given) _ _ (λ d. after_one (Some i) (machine_point w x y z) _ _ (λ nominal.
     touched_same w i d p (touch one w.settings (coordinate w.position) (coordinate nominal) (direction w.frame.turn d))
     (touch other w.settings (coordinate p) (coordinate nominal) (direction w.frame.turn d))))
-moving one other tables p w (Assign v x) = is_also None p _ _ (resting one other tables p w (Assign v x) tt)
-moving one other tables p w (Feat i x y z d) = is_also None p _ _ (resting one other tables p w (Feat i x y z d) tt)
-moving one other tables p w (SnSet which z) = is_also None p _ _ (resting one other tables p w (SnSet which z) tt)
-moving one other tables p w (Trans i x y z) = is_also None p _ _ (resting one other tables p w (Trans i x y z) tt)
-moving one other tables p w (Rotate i axis n) = is_also None p _ _ (resting one other tables p w (Rotate i axis n) tt)
-moving one other tables p w (Recall i) = is_also None p _ _ (resting one other tables p w (Recall i) tt)
-moving one other tables p w (Obtain v source i word) = is_also None p _ _ (resting one other tables p w (Obtain v source i word) tt)
-moving one other tables p w (Output source i) = is_also None p _ _ (resting one other tables p w (Output source i) tt)
-moving one other tables p w (Text bytes) = is_also None p _ _ (resting one other tables p w (Text bytes) tt)
+moving one other tables p w s = is_also None p _ _ (resting one other tables p w s tt)
 
 -- ---- a statement whose expressions were evaluated measures what it measured before
 

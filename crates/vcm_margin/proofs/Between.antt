@@ -17,7 +17,7 @@ use Rattle.vcm_spec.specs.Setup.{Setup, Tables, setup_of}
 use Rattle.vcm_spec.specs.World.{World}
 use Rattle.vcm_spec.specs.Outcome.{Outcome, Gives, Stops, ◌>>=◌, demand, fits_place, point_of}
 use Rattle.vcm_spec.specs.Simple.{Simple, evaluated}
-use Rattle.vcm_spec.specs.declared.simple.Simple.TheVariants.{Goto, GoHome, Assign, Feat, PtMeas, SnSet, Trans, Rotate, Recall, Obtain, Output, Text}
+use Rattle.vcm_spec.specs.declared.simple.Simple.TheVariants.{Goto, GoHome, PtMeas}
 use Rattle.vcm_spec.specs.Effect.{effect, carried_out, value_in, go, measured_direction, machine_point}
 use Rattle.vcm_spec.proofs.Entries.{below_three}
 use Rattle.vcm_spec.proofs.Frames.{back_and_there}
@@ -176,15 +176,7 @@ module _ (part : Workpiece) (tables : Tables) (g h i : ℕ) (le : g ≤ h) (more
       (touch (with_tip h part) w.settings (coordinate b) (coordinate nominal) (direction w.frame.turn d))
       (touch (with_tip i part) w.settings (coordinate c) (coordinate nominal) (direction w.frame.turn d))
       (touch_squeezed part w.settings (coordinate nominal) (direction w.frame.turn d) g h i le more vg vh vi back (coordinate w.position) (coordinate b) (coordinate c) l)))
-  between (Assign v x) k = rested (Assign v x) (λ q at. resting (with_tip g part) q tables at w (Assign v x) tt)
-  between (Feat index x y z d) k = rested (Feat index x y z d) (λ q at. resting (with_tip g part) q tables at w (Feat index x y z d) tt)
-  between (SnSet which z) k = rested (SnSet which z) (λ q at. resting (with_tip g part) q tables at w (SnSet which z) tt)
-  between (Trans index x y z) k = rested (Trans index x y z) (λ q at. resting (with_tip g part) q tables at w (Trans index x y z) tt)
-  between (Rotate index axis quarters) k = rested (Rotate index axis quarters) (λ q at. resting (with_tip g part) q tables at w (Rotate index axis quarters) tt)
-  between (Recall index) k = rested (Recall index) (λ q at. resting (with_tip g part) q tables at w (Recall index) tt)
-  between (Obtain v source index word) k = rested (Obtain v source index word) (λ q at. resting (with_tip g part) q tables at w (Obtain v source index word) tt)
-  between (Output source index) k = rested (Output source index) (λ q at. resting (with_tip g part) q tables at w (Output source index) tt)
-  between (Text bytes) k = rested (Text bytes) (λ q at. resting (with_tip g part) q tables at w (Text bytes) tt)
+  between s k = rested s (λ q at. resting (with_tip g part) q tables at w s tt)
 
   -- so effects
   pub effect_between : {E : Type 0} (value : List ℤ → E → Result ℤ Fault) (s : Simple E) → ((j : ℕ) → measured_in s ≡ Some j → j < n)

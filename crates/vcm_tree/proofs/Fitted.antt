@@ -6,9 +6,7 @@ use Rattle.vcm_num.specs.declared.number.Kind.TheVariants as kind
 use Rattle.vcm_lines.specs.declared.fault.FaultCode.{FaultCode}
 use Rattle.vcm_spec.specs.declared.expression.Operand.TheVariants.{Integer}
 use Rattle.vcm_spec.specs.Expression.{Tree, Value}
-use Rattle.vcm_spec.specs.Simple.{Simple}
-use Rattle.vcm_spec.specs.declared.simple.Simple.TheVariants.{GoHome, Text}
-use Rattle.vcm_spec.specs.Fitting.{kinds, Fits, HasKindIn}
+use Rattle.vcm_spec.specs.Fitting.{kinds, HasKindIn}
 use Rattle.vcm_expr.specs.declared.typing.Want.TheVariants as wants
 use Rattle.vcm_spec.specs.Setup.{Tables, kinds_of}
 use Rattle.vcm_expr.specs.Source.{Source}
@@ -17,19 +15,17 @@ use Rattle.vcm_expr.proofs.TypedKinds.{typed_for_fine}
 use Rattle.vcm_forms.specs.declared.statement.Target.{Target}
 use Rattle.vcm_forms.specs.declared.statement.Rounds.{Rounds}
 use Rattle.vcm_forms.specs.declared.statement.Form.{Form}
-use Rattle.vcm_forms.specs.declared.statement.Form.TheVariants.{Assignment, Move, Home, Say, Feature, Touch, Configure, Shift, Rotation, Restore, Query, Report}
 use Rattle.vcm_macro.specs.declared.placed.Placed.{Placed}
 use Rattle.vcm_tree.specs.Sentences.{Step, Sentence, Does, Tests, Divides, EndsTest, Repeats, EndsRepeat, Measures, EndsMeasure, Selects, BeginsDefault, EndsCase, EndsSelect}
 use Rattle.vcm_tree.specs.Variables.{target_of}
 use Rattle.vcm_tree.specs.Blocks.{Behind, Opened, indexed, index_by, index_to, increment_of, repeated}
-use Rattle.vcm_tree.specs.Resolving.{Meaning, Silent, Declares, Counts, measured_after, blocks_after, acted, resolved_here, behind_by, behind_one, behind_all, start, sentences_by, sentences_from}
+use Rattle.vcm_tree.specs.Resolving.{Meaning, Silent, Declares, Counts, measured_after, blocks_after, resolved_here, behind_by, behind_one, behind_all, start, sentences_by, sentences_from}
 use Rattle.vcm_tree.specs.Program.{tables_of}
 use Rattle.vcm_tree.proofs.Written.{StepFits, SentencesFit}
 use Rattle.vcm_program.proofs.Titled.{known_below}
 use Rattle.vcm_tree.proofs.GrownTables.{Grown, all_statements_grown, twice_least, one_least, all_least, Within, outer_within}
 use Rattle.vcm_tree.proofs.Stated.{bind-Ok, Says, meant}
-use Rattle.vcm_tree.proofs.FittedSimple.{has_kind, has_place, assigned_fits, moved_fits, declared_fits, touched_fits, configured_fits, shifted_fits}
-use Rattle.vcm_tree.proofs.FittedSimple.{rotated_fits, recalled_fits, obtained_fits, reported_fits}
+use Rattle.vcm_tree.proofs.FittedSimple.{has_kind, has_place, acted_fits}
 
 module _ (b : Behind) (ws : Tables) (g : Grown b.variables ws.variables) where
   whole_fits : (e : Source) (t : Tree) → typed_for b.variables wants.Int e ≡ Ok t → HasKindIn ws t kind.Int
@@ -62,29 +58,9 @@ module _ (b : Behind) (ws : Tables) (g : Grown b.variables ws.variables) where
       let same : Repeats p.0 q.0 t.0 u.0 ≡ Repeats i x y z = (let last = u.2 in cc) in
       subst (StepFits ws) same (index_fits r.variable p.0 p.1, whole_fits r.initial q.0 q.1, whole_fits r.limit t.0 t.1, increment_fits r.increment u.0 u.1)
 
-  outcome : {A : Type 0} {r s : A} → Some r ≡ Some s → r ≡ s
-  outcome e = cc
-
-  -- a simple statement fits
-  acted_fits : (form : Form) (what : Simple Tree) → acted b form ≡ Some (Ok what) → Within (length ws.features) b.blocks → length (measured_after b.measured form).features ≤ length ws.features
-      → length (measured_after b.measured form).frames ≤ length ws.frames → Fits (HasKindIn ws) ws what
-  acted_fits (Assignment n x) what h bs fs ds = assigned_fits b.variables ws g n x what (outcome h)
-  acted_fits (Move p) what h bs fs ds = moved_fits b.variables ws g p.x p.y p.z what (outcome h)
-  acted_fits Home what h bs fs ds = (let same : GoHome ≡ what = cc in subst (Fits (HasKindIn ws) ws) same tt)
-  acted_fits (Say t) what h bs fs ds = (let same : Text t ≡ what = cc in subst (Fits (HasKindIn ws) ws) same tt)
-  acted_fits (Feature l p d) what h bs fs ds = declared_fits b.variables ws g b.measured.features l p d what fs (outcome h)
-  acted_fits (Touch p given) what h bs fs ds = touched_fits b.variables ws g b.blocks b.measured.touched p given what bs (outcome h)
-  acted_fits (Configure which x) what h bs fs ds = configured_fits b.variables ws g which x what (outcome h)
-  acted_fits (Shift l os) what h bs fs ds = shifted_fits b.variables ws g b.measured.frames l os what ds (outcome h)
-  acted_fits (Rotation l axis n) what h bs fs ds = rotated_fits b.variables ws g b.measured.frames l axis n what ds (outcome h)
-  acted_fits (Restore l) what h bs fs ds = recalled_fits b.variables ws g b.measured.frames l what ds (outcome h)
-  acted_fits (Query v side l word) what h bs fs ds = obtained_fits b.variables ws g b.measured.features v side l word what fs (outcome h)
-  acted_fits (Report side l) what h bs fs ds = reported_fits b.variables ws g b.measured.features side l what fs (outcome h)
-  acted_fits _ what h bs fs ds = absurd cc
-
   step_fits : (form : Form) (s : Step) → Says b form s → Within (length ws.features) b.blocks → length (measured_after b.measured form).features ≤ length ws.features
       → length (measured_after b.measured form).frames ≤ length ws.frames → length b.measured.features ≤ length ws.features → StepFits ws s
-  step_fits form (Does what) h bs fs ds few = acted_fits form what h bs fs ds
+  step_fits form (Does what) h bs fs ds few = acted_fits b ws g form what h bs fs ds
   step_fits form (Tests t) h bs fs ds few = has_kind b.variables ws g t kind.Bool (typed_for_fine b.variables wants.Bool h.0 t h.1).typed
   step_fits form (Repeats i x y z) h bs fs ds few = repeated_fits h.0 i x y z h.1
   step_fits form (Measures i) h bs fs ds few = (let low = known_below b.measured.features h.0 i h.1 in omega (arith, few, low))

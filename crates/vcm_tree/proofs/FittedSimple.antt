@@ -6,7 +6,7 @@ use Rattle.vcm_num.specs.declared.number.Kind.TheVariants as kind
 use Rattle.vcm_lines.specs.declared.fault.FaultCode.{FaultCode}
 use Rattle.vcm_spec.specs.Expression.{Tree, kind_of}
 use Rattle.vcm_spec.specs.Simple.{Simple}
-use Rattle.vcm_spec.specs.declared.simple.Simple.TheVariants.{Goto, Assign, Feat, PtMeas, SnSet, Trans, Rotate, Recall, Obtain, Output}
+use Rattle.vcm_spec.specs.declared.simple.Simple.TheVariants.{Goto, GoHome, Text, Assign, Feat, PtMeas, SnSet, Trans, Rotate, Recall, Obtain, Output}
 use Rattle.vcm_spec.specs.declared.words.FrameAxis.{FrameAxis}
 use Rattle.vcm_spec.specs.declared.words.FrameAxis.TheVariants as axes
 use Rattle.vcm_spec.specs.declared.words.FeatureWord.{FeatureWord}
@@ -20,11 +20,14 @@ use Rattle.vcm_spec.specs.Setup.{Variable, Tables, kinds_of}
 use Rattle.vcm_expr.specs.Source.{Source}
 use Rattle.vcm_expr.specs.Typing.{typed_for, wanted_kind}
 use Rattle.vcm_expr.proofs.TypedKinds.{typed_for_fine}
+use Rattle.vcm_forms.specs.declared.statement.Form.{Form}
+use Rattle.vcm_forms.specs.declared.statement.Form.TheVariants.{Assignment, Move, Home, Say, Feature, Touch, Configure, Shift, Rotation, Restore, Query, Report}
 use Rattle.vcm_forms.specs.declared.statement.Offset.{Offset}
 use Rattle.vcm_forms.specs.declared.statement.Coordinates.{Coordinates}
 use Rattle.vcm_forms.specs.declared.statement.Target.{Target}
 use Rattle.vcm_tree.specs.Variables.{want_of, target_of, assigned, assigned_by, assigned_to, moved}
-use Rattle.vcm_tree.specs.Blocks.{Opened}
+use Rattle.vcm_tree.specs.Blocks.{Behind, Opened}
+use Rattle.vcm_tree.specs.Resolving.{acted, measured_after}
 use Rattle.vcm_tree.specs.Features.{lengths, declared_at, touched_in, Shifts, no_shifts, with_shift, shifts_of, real_to, real_by, real_named, declared, touched}
 use Rattle.vcm_tree.specs.Features.{configured, shifted, rotated, recalled, obtained, reported}
 use Rattle.vcm_program.specs.Titles.{known, entered, with_name}
@@ -189,3 +192,24 @@ module _ (vs : List Variable) (ws : Tables) (g : Grown vs ws.variables) where
       let low = known_below fs l h.0 h.1 in
       let same : Output side h.0 ≡ what = cc in
       subst FitsHere same (omega (arith, few, low))
+
+module _ (b : Behind) (ws : Tables) (g : Grown b.variables ws.variables) where
+  outcome : {A : Type 0} {r s : A} → Some r ≡ Some s → r ≡ s
+  outcome e = cc
+
+  -- a simple statement fits
+  pub acted_fits : (form : Form) (what : Simple Tree) → acted b form ≡ Some (Ok what) → Within (length ws.features) b.blocks → length (measured_after b.measured form).features ≤ length ws.features
+      → length (measured_after b.measured form).frames ≤ length ws.frames → Fits (HasKindIn ws) ws what
+  acted_fits (Assignment n x) what h bs fs ds = assigned_fits b.variables ws g n x what (outcome h)
+  acted_fits (Move p) what h bs fs ds = moved_fits b.variables ws g p.x p.y p.z what (outcome h)
+  acted_fits Home what h bs fs ds = (let same : GoHome ≡ what = cc in subst (Fits (HasKindIn ws) ws) same tt)
+  acted_fits (Say t) what h bs fs ds = (let same : Text t ≡ what = cc in subst (Fits (HasKindIn ws) ws) same tt)
+  acted_fits (Feature l p d) what h bs fs ds = declared_fits b.variables ws g b.measured.features l p d what fs (outcome h)
+  acted_fits (Touch p given) what h bs fs ds = touched_fits b.variables ws g b.blocks b.measured.touched p given what bs (outcome h)
+  acted_fits (Configure which x) what h bs fs ds = configured_fits b.variables ws g which x what (outcome h)
+  acted_fits (Shift l os) what h bs fs ds = shifted_fits b.variables ws g b.measured.frames l os what ds (outcome h)
+  acted_fits (Rotation l axis n) what h bs fs ds = rotated_fits b.variables ws g b.measured.frames l axis n what ds (outcome h)
+  acted_fits (Restore l) what h bs fs ds = recalled_fits b.variables ws g b.measured.frames l what ds (outcome h)
+  acted_fits (Query v side l word) what h bs fs ds = obtained_fits b.variables ws g b.measured.features v side l word what fs (outcome h)
+  acted_fits (Report side l) what h bs fs ds = reported_fits b.variables ws g b.measured.features side l what fs (outcome h)
+  acted_fits _ what h bs fs ds = absurd cc
