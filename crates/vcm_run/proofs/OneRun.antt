@@ -23,6 +23,7 @@ use Rattle.vcm_image.proofs.Wholes.{code_again}
 use Rattle.vcm_image.proofs.ImageLaws.{one_image}
 use Rattle.vcm_loader.specs.Loading.{RefusesCode, LoadFault}
 use Rattle.vcm_loader.proofs.Refusals.{written_loaded, one_refusal as one_refused}
+use Rattle.vcm_code.specs.Ranges.{version_for}
 use Rattle.vcm_asm.specs.Simulation.{IsAssembled}
 use Rattle.vcm_machine.specs.declared.ran.End.{End}
 use Rattle.vcm_machine.specs.declared.ran.End.TheVariants.{Count, Stopped, NoMemory}
@@ -122,10 +123,11 @@ code version tables statements = record { version = version; tables = tables; st
 -- a program is assembled to one code
 one_code : (program : Block) (tables : Tables) (c d : Code) → IsAssembled program tables c → IsAssembled program tables d → c ≡ d
 one_code program tables c d h k =
-    let version = h.version_is ∙ sym k.version_is in
+    let statements = h.statements_are ∙ sym k.statements_are in
+    let version = h.version_is ∙ ap version_for statements ∙ sym k.version_is in
     let names = h.tables_are ∙ sym k.tables_are in
     let same : code c.version c.tables c.statements ≡ code d.version d.tables d.statements =
-    ap (λ x. code x c.tables c.statements) version ∙ ap (λ x. code d.version x c.statements) names ∙ ap (code d.version d.tables) (h.statements_are ∙ sym k.statements_are) in
+    ap (λ x. code x c.tables c.statements) version ∙ ap (λ x. code d.version x c.statements) names ∙ ap (code d.version d.tables) statements in
     same
 
 pub one_build : BuildsAreOne
