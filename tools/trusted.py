@@ -20,10 +20,10 @@ of a `Turn`; of an expression and a typed one a public reader shows what they ho
 
 What is trusted besides definitions, the README says; what the page `docs/vcm.html` rests on in place of the native program's C library and processor, `docs/BROWSER.md`.
 
-The last column says for whom a file is to be read. *The theorem*: a run of a program's text is what the statement table says (`IsSummary`), on which every
-command that takes a text rests. Else the commands whose promises speak of it, whose contracts name it themselves or by way of other definitions; who doesn't use these commands need not
-believe it. *Laws* are statements that are proved of these definitions, *examples* are computed ones: no command rests on either. *Calls*: only contracts of public calls between crates
-speak of it, by which the promises of commands are proved.
+The last column says what a file is part of. *The theorem*: of what it means that a run of a program's text shows what the statement table says (`IsSummary`); which commands rest on
+it besides isn't told. Else the commands whose promises speak of it, by their contracts or by way of other definitions. *Laws* are statements that are proved of these definitions,
+*examples* are computed ones: no command rests on either. *Calls*: no promise of a command comes to it in this way; contracts of public calls between crates do, or views of types.
+The column is made from the `use` lines of whole files, so it names a command rather too often; views of types (above) aren't followed.
 
 `tools/trusted.py` writes this list from the first sentence of each file, and follows what definitions use.
 """
