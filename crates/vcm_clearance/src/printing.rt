@@ -9,11 +9,11 @@ use crate::told::Told;
 use itoa::Buffer;
 use std::io::Write;
 use vcm_boxes::ProbeBox;
+use vcm_items::Tables;
 use vcm_marks::Going;
 use vcm_num::{Point, WriteFault, thousandths_text, write_all, write_pieces};
 use vcm_report::write_stop_line;
 use vcm_spec::{Hit, StopPlace};
-use vcm_tables::Tables;
 
 // The word of a way.
 fn going_text(going: Going) -> &'static [u8]

@@ -2,8 +2,8 @@
 
 use crate::op::OwnedStatement;
 use crate::version::Version;
+use vcm_items::Tables;
 use vcm_num::Items;
-use vcm_tables::Tables;
 
 /// The statement code of a program: its version, the tables of its names, and its statements, numbered from 0.
 #[derive(Drop)]

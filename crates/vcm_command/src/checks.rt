@@ -1,21 +1,19 @@
 //! Checks of several programs, and of all faults.
 
-use crate::command_line::Checks;
-use crate::producing::{bytes_of, print_bytes, tell_bytes};
-use crate::program::fails;
-use crate::talking::Voice;
+use crate::telling::tell_bytes;
 use std::alloc::{AllocError, Global};
 use std::fmt::Write as _;
 use std::rt::Files;
+use vcm_devices::{Request, Voice, bytes_of, check_file, fails, print_bytes};
 use vcm_job::{CheckFault, read_all};
-use vcm_launch::notice_line;
 use vcm_lines::SourceFault;
-use vcm_messages::{Message, Told, message_of, status_of};
+use vcm_messages::{Message, Told, message_of, notice_line, status_of};
 use vcm_num::NoMemory;
 use vcm_program::Noticed;
 use vcm_survey::faults_of;
 use vcm_telling::summary_line;
 use vcm_tree::accept;
+use vcm_usage::Choice;
 
 // A program that is checked: its name, and what stands in front of what is told of it.
 #[derive(Clone, Copy)]
@@ -158,31 +156,36 @@ fn check_one<R: Files + Input + Print + Eprint + AllocGlobal>(rt: &R, checked: C
     }
 }
 
-// Whether a word is a program's name; behind two dashes each is.
-fn is_name(word: &str, are_all: bool) -> bool {
-    are_all || word == "-" || !word.starts_with('-')
-}
-
-/// Checks programs one after another, and gives the greatest exit status: 1 where one is refused.
-pub(crate) fn check_all<R: Files + Input + Print + Eprint + AllocGlobal>(
+// Checks programs one after another, and gives the greatest exit status: 1 where one is refused.
+fn check_each<R: Files + Input + Print + Eprint + AllocGlobal>(
     rt: &R,
     voice: Voice,
-    asked: Checks<'_>,
+    programs: &[&str],
+    is_all: bool,
 ) -> u8 {
     let mut status = 0;
-    let mut are_all = false;
-    for word in asked.words {
-        if is_name(word.as_str(), are_all) {
-            let checked = Checked {
-                name: word.as_str(),
-                is_named: asked.are_several,
-                is_all: asked.is_all,
-                voice,
-            };
-            status = check_one(rt, checked).max(status);
-        } else if word.as_str() == "--" {
-            are_all = true;
-        }
+    let is_named = programs.len() > 1;
+    for name in programs {
+        let checked = Checked {
+            name,
+            is_named,
+            is_all,
+            voice,
+        };
+        status = check_one(rt, checked).max(status);
     }
     status
+}
+
+/// Prints whether programs are accepted, with all faults of lines and statements where `--all` stands, and gives the exit status.
+pub(crate) fn check_programs<R: Files + Input + Print + Eprint + AllocGlobal>(
+    rt: &R,
+    voice: Voice,
+    request: &Request<'_, '_>,
+) -> u8 {
+    let is_all = request.has(Choice::All);
+    match request.programs() {
+        [name] if !is_all && *name != "-" => check_file(rt, voice, name),
+        programs => check_each(rt, voice, programs, is_all),
+    }
 }

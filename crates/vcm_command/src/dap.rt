@@ -1,7 +1,7 @@
 //! The debug adapter on standard input and output.
 
-use crate::program::{fails, output};
 use std::rt::Files;
+use vcm_devices::{fails, output};
 use vcm_launch::serve_dap;
 use vcm_messages::Message;
 

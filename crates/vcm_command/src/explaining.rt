@@ -1,10 +1,9 @@
 //! Explanations, on the standard devices.
 
-use crate::closing::fails_unless_closed;
-use crate::program::{fails, output, written};
 use std::alloc::Global;
 use std::fmt::Write as _;
 use std::io::Write;
+use vcm_devices::{fails, fails_unless_closed, output, written};
 use vcm_explain::{Entry, explanation, explanations};
 use vcm_messages::Message;
 use vcm_num::write_all;

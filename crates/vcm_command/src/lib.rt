@@ -1,24 +1,13 @@
-//! The commands of vcm: its command line, what each command does, and what it tells on standard error.
+//! The commands of vcm: what its command line asks for is carried out. Here stand checks of several programs, producers' texts, explanations and the
+//! debug adapter; the others stand in `vcm_devices`.
 #![tactic(auto)]
 
 mod checks;
-mod closing;
-mod command_line;
 mod dap;
 mod explaining;
-mod hand;
-mod jobs;
-mod manner;
-mod parts;
 mod producing;
 mod program;
-mod sheets;
-mod showing;
-mod talking;
-mod values;
+mod telling;
 
-pub use command_line::{Asked, Checks, Produced, Request, Wanted, request_of, steps_of};
-pub use manner::Manner;
 pub use program::status;
-pub use sheets::lines_of;
-pub use talking::Terminals;
+pub use vcm_devices::{Request, Terminals, lines_of, matches_of, steps_of};

@@ -1,18 +1,16 @@
 //! Producers' texts: what is told of them, and what they are adapted to.
 
-use crate::closing::fails_unless_closed;
-use crate::command_line::{Produced, Wanted};
-use crate::program::{fails, output, written};
+use crate::telling::tell_bytes;
 use std::alloc::Global;
-use std::io::Write;
 use std::rt::Files;
-use vcm_job::{CheckFault, read_all};
+use vcm_devices::{Request, bytes_of, fails, fails_unless_closed, print_bytes};
 use vcm_launch::part_of;
 use vcm_lines::SourceFault;
-use vcm_messages::{Message, Told, message_of};
-use vcm_num::{NoMemory, line_feed, write_all};
+use vcm_messages::{Message, Told};
+use vcm_num::NoMemory;
 use vcm_survey::{Adaptation, Findings, GivenFrame, Options, Shape, adapt, survey};
 use vcm_tree::accept;
+use vcm_usage::Choice;
 
 // The widest tip that a part file may have, in micrometres to each side.
 const WIDEST: i64 = vcm_num::WIDEST_TIP as i64;
@@ -54,29 +52,23 @@ fn add_frame(alloc: Global, frames: &mut Vec<GivenFrame>, word: &str) -> Result<
     Ok(true)
 }
 
-// The frames that the words of a command line give.
-fn frames_of(alloc: Global, words: &[String]) -> Result<Option<Vec<GivenFrame>>, NoMemory> {
+// The frames that a command line gives.
+fn frames_of(alloc: Global, given: &[&str]) -> Result<Option<Vec<GivenFrame>>, NoMemory> {
     let mut frames = Vec::new(alloc);
-    let mut is_next = false;
-    for word in words {
-        let given = match word.as_str().strip_prefix("--frame=") {
-            Some(given) => Some(given),
-            None if is_next => Some(word.as_str()),
-            None => None,
-        };
-        is_next = given.is_none() && word.as_str() == "--frame";
-        if let Some(given) = given {
-            if !add_frame(alloc, &mut frames, given)? {
-                return Ok(None);
-            }
+    for word in given {
+        if !add_frame(alloc, &mut frames, word)? {
+            return Ok(None);
         }
     }
     Ok(Some(frames))
 }
 
 // Half the width of the tip, which the command line gives or the part file.
-fn half_width<'a, R: Files + AllocGlobal>(rt: &R, asked: Produced<'a>) -> Result<i64, Message<'a>> {
-    match (asked.tip, asked.part) {
+fn half_width<'a, R: Files + AllocGlobal>(
+    rt: &R,
+    request: &Request<'a, '_>,
+) -> Result<i64, Message<'a>> {
+    match (request.value(Choice::Tip), request.value(Choice::Part)) {
         (None, None) => Ok(0),
         (Some(tip), None) => tip_of(tip).ok_or(TIP),
         (None, Some(name)) => {
@@ -92,32 +84,18 @@ fn half_width<'a, R: Files + AllocGlobal>(rt: &R, asked: Produced<'a>) -> Result
 // What the command line says of the machine and the part.
 fn options_of<'a, R: Files + AllocGlobal>(
     rt: &R,
-    asked: Produced<'a>,
+    request: &Request<'a, '_>,
 ) -> Result<Options, Message<'a>> {
-    let tip = half_width(rt, asked)?;
-    match frames_of(rt.alloc(), asked.words) {
+    let tip = half_width(rt, request)?;
+    match frames_of(rt.alloc(), request.values(Choice::Frame)) {
         Ok(Some(frames)) => Ok(Options {
             tip,
             frames,
-            is_exact: asked.is_exact,
-            is_touch: matches!(asked.wanted, Wanted::Touched),
+            is_exact: request.has(Choice::Exact),
+            is_touch: request.has(Choice::Touch),
         }),
         Ok(None) => Err(FRAME),
         Err(_) => Err(Message::NoMemory),
-    }
-}
-
-// The bytes of a file.
-pub(crate) fn bytes_of<'a, R: Files + AllocGlobal>(
-    rt: &R,
-    name: &'a str,
-) -> Result<Vec<u8>, Message<'a>> {
-    let Ok(mut file) = std::fs::open(rt, name) else {
-        return Err(Message::Read { name });
-    };
-    match read_all(rt.alloc(), &mut file) {
-        Ok(bytes) => Ok(bytes),
-        Err(fault) => Err(message_of(CheckFault::from(fault), name)),
     }
 }
 
@@ -127,65 +105,6 @@ fn last_part(name: &str) -> &[u8] {
     match bytes.iter().rposition(|byte| *byte == b'/') {
         Some(at) => &bytes[at + 1..],
         None => bytes,
-    }
-}
-
-// Prints bytes on standard output.
-pub(crate) fn print_bytes<R: Print + AllocGlobal>(
-    rt: &R,
-    bytes: &[u8],
-) -> Result<(), Message<'static>> {
-    let mut out = output(rt)?;
-    let done = write_all(&mut out, bytes).map_err(|_| Message::Write {
-        name: "standard output",
-    });
-    written(&mut out, done)
-}
-
-// A byte as a letter, a question mark where it is none of ASCII.
-fn letter_of(byte: u8) -> char {
-    if byte.is_ascii() {
-        char::from(byte)
-    } else {
-        '?'
-    }
-}
-
-// Prints a line on standard error; one that is no text with its odd bytes as question marks.
-fn tell_line<R: Eprint>(rt: &R, line: &[u8]) {
-    match std::str::from_utf8(line) {
-        Ok("") => {}
-        Ok(line) => {
-            let _ = eprintln!(rt; "{line}");
-        }
-        Err(_) => {
-            for byte in line {
-                let letter = letter_of(*byte);
-                let _ = eprint!(rt; "{letter}");
-            }
-            let _ = eprintln!(rt; "");
-        }
-    }
-}
-
-// The first line without its line feed, and what stands behind that.
-fn split_line(text: &[u8]) -> (&[u8], &[u8]) {
-    match line_feed(text) {
-        None => (text, &[]),
-        Some(end) => (&text[..end], &text[end + 1..]),
-    }
-}
-
-// Prints lines on standard error.
-pub(crate) fn tell_bytes<R: Eprint>(rt: &R, bytes: &[u8]) {
-    let mut rest = bytes;
-    for _ in 0..bytes.len() {
-        if rest.is_empty() {
-            break;
-        }
-        let (line, after) = split_line(rest);
-        tell_line(rt, line);
-        rest = after;
     }
 }
 
@@ -263,25 +182,52 @@ fn adapt_text<R: Print + Eprint + AllocGlobal>(
     }
 }
 
-// Does what is asked of a producer's text.
-fn answer<'a, R: Files + Print + Eprint + AllocGlobal>(
+// Surveys a file, and gives the exit status.
+fn survey_named<'a, R: Files + Print + Eprint + AllocGlobal>(
     rt: &R,
-    asked: Produced<'a>,
+    request: &Request<'a, '_>,
 ) -> Result<u8, Message<'a>> {
-    let options = options_of(rt, asked)?;
-    let text = bytes_of(rt, asked.program)?;
-    match asked.wanted {
-        Wanted::Groups => survey_text(rt, asked.program, &text, &options, Shape::Groups),
-        Wanted::Lines => survey_text(rt, asked.program, &text, &options, Shape::Lines),
-        Wanted::Adapted | Wanted::Touched => adapt_text(rt, &text, &options),
-    }
+    let options = options_of(rt, request)?;
+    let text = bytes_of(rt, request.input())?;
+    let shape = if request.has(Choice::Lines) {
+        Shape::Lines
+    } else {
+        Shape::Groups
+    };
+    survey_text(rt, request.input(), &text, &options, shape)
 }
 
-/// Does what is asked of a producer's text, and gives the exit status: 0 where all of it is tried and accepted, 1 where not, 2 for a wrong
-/// option, 5 and 6 for want of memory and a device.
-pub(crate) fn produced<R: Files + Print + Eprint + AllocGlobal>(rt: &R, asked: Produced<'_>) -> u8 {
-    match answer(rt, asked) {
+// Adapts a file, and gives the exit status.
+fn adapt_named<'a, R: Files + Print + Eprint + AllocGlobal>(
+    rt: &R,
+    request: &Request<'a, '_>,
+) -> Result<u8, Message<'a>> {
+    let options = options_of(rt, request)?;
+    let text = bytes_of(rt, request.input())?;
+    adapt_text(rt, &text, &options)
+}
+
+// The exit status of what was done, or told why it wasn't.
+fn status_told<R: Eprint>(rt: &R, done: Result<u8, Message<'_>>) -> u8 {
+    match done {
         Ok(status) => status,
         Err(message) => fails(rt, message),
     }
+}
+
+/// Prints what becomes of each statement of a producer's text, and gives the exit status: 0 where all of it is tried and accepted, 1 where not, 2 for a wrong
+/// option, 5 and 6 for want of memory and a device.
+pub(crate) fn survey_file<R: Files + Print + Eprint + AllocGlobal>(
+    rt: &R,
+    request: &Request<'_, '_>,
+) -> u8 {
+    status_told(rt, survey_named(rt, request))
+}
+
+/// Prints the program that a producer's text is adapted to, and gives the exit status, as of a survey.
+pub(crate) fn adapt_file<R: Files + Print + Eprint + AllocGlobal>(
+    rt: &R,
+    request: &Request<'_, '_>,
+) -> u8 {
+    status_told(rt, adapt_named(rt, request))
 }

@@ -22,7 +22,7 @@ use Rattle.vcm_code.specs.declared.code.Code.{Code}
 use Rattle.vcm_code.specs.Code.{CodeStatement}
 use Rattle.vcm_words.specs.declared.row.Row.TheVariants.{Numbered}
 use Rattle.vcm_print.specs.Listed.{listed}
-use Rattle.vcm_output.specs.Output.{output_lines}
+use Rattle.vcm_report.specs.Output.{output_lines}
 use Rattle.vcm_report.specs.Printed.{in_a_row, stopped_line, feature_text}
 
 -- the number of an expansion behind a number sign; nothing outside macros

@@ -2,7 +2,7 @@
 
 ghost use Rattle.std.specs.Prelude.{◌≡◌, ◌++◌, ◌<◌, ◌≤◌, ◌-◌, codes, slice_get, length, drop};
 ghost use Rattle.vcm_num.specs.Written.{Wrote};
-ghost use Rattle.vcm_output.specs.Output.{output_lines};
+ghost use Rattle.vcm_report.specs.Output.{output_lines};
 ghost use Rattle.vcm_report.specs.Printed.{feature_text};
 ghost use Rattle.vcm_console.specs.Replies.{number_sign, kind_value, standing_end, standing_text, refusal_text, reason_text, variable_name, value_text, lines_head, statement_line, reply_text, halt_text, ReplyFits};
 ghost use Rattle.vcm_spec.specs.declared.words.Source.TheVariants.{Nominal, Actual};
@@ -10,13 +10,12 @@ ghost use Rattle.vcm_spec.specs.declared.words.Source.TheVariants.{Nominal, Actu
 use crate::reply::{CommandRefusal, Reason, Reply, Standing};
 use itoa::Buffer;
 use std::io::Write;
+use vcm_items::{Tables, Variable};
 use vcm_loader::Loaded;
 use vcm_num::{Kind, WriteFault, int_text, thousandths_text, write_all, write_pieces};
-use vcm_output::Lines;
 use vcm_print::write_statement;
-use vcm_report::{write_feature, write_last_lines, write_stop_line};
+use vcm_report::{Lines, write_feature, write_last_lines, write_stop_line};
 use vcm_spec::{Feature, Source, StopPlace};
-use vcm_tables::{Tables, Variable};
 
 // Writes a variable's name.
 fn write_name<W: Write>(variable: &Variable, writer: &mut W) -> Result<(), WriteFault>

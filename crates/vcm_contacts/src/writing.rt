@@ -8,10 +8,10 @@ ghost use Rattle.vcm_contacts.specs.Printed.{contact_line, contacts_word, some_l
 use crate::contact::Contact;
 use itoa::Buffer;
 use std::io::Write;
+use vcm_items::Tables;
 use vcm_num::{WriteFault, write_all, write_pieces};
 use vcm_report::write_stop_line;
 use vcm_spec::{MovePhase, StopPlace};
-use vcm_tables::Tables;
 
 // The word of a part of a motion.
 fn phase_text(phase: MovePhase) -> &'static [u8]

@@ -12,7 +12,7 @@ use Rattle.std.proofs.lemmas.Grind.{flat_map-append}
 use Rattle.vcm_spec.specs.declared.stop.StopPlace.{StopPlace}
 use Rattle.vcm_report.specs.Printed.{stopped_line}
 use Rattle.vcm_debug.specs.Debugging.{Debugging, now}
-use Rattle.vcm_output.specs.Output.{output_lines}
+use Rattle.vcm_report.specs.Output.{output_lines}
 use Rattle.std.proofs.lemmas.Str.{IsUtf8-append, IsUtf8-from_ascii, utf8_lossy-IsUtf8}
 use Rattle.json.specs.Token.{Token}
 use Rattle.json.specs.Print.{print}

@@ -5,7 +5,7 @@ use Rattle.std.specs.Str.{IsUtf8}
 use Rattle.std.specs.Str.Lossy.{utf8_lossy}
 use Rattle.json.specs.Json.{Items}
 use Rattle.vcm_code.specs.Code.{CodeStatement}
-use Rattle.vcm_output.specs.Output.{output_lines}
+use Rattle.vcm_report.specs.Output.{output_lines}
 use Rattle.vcm_dap.specs.Asked.{AskLines}
 use Rattle.vcm_dap.specs.Lines.{Settles, settled}
 use Rattle.vcm_dap.specs.Telling.{AreCut}

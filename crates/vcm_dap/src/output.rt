@@ -1,7 +1,7 @@
 //! Events that tell what was printed.
 
 ghost use Rattle.std.specs.Prelude.{◌≡◌, IfOk};
-ghost use Rattle.vcm_output.specs.Output.{output_lines};
+ghost use Rattle.vcm_report.specs.Output.{output_lines};
 ghost use Rattle.vcm_dap.specs.Talking.{next_seq, Told};
 ghost use Rattle.vcm_dap.specs.inner.Growing.{Grown};
 ghost use Rattle.vcm_dap.specs.Telling.{lines_event, SaysSome, TellsText, ToldLines};
@@ -11,7 +11,7 @@ use crate::settings::Settings;
 use crate::talk::Talk;
 use std::alloc::Global;
 use std::io::Write;
-use vcm_output::Line;
+use vcm_report::Line;
 use vcm_wire::Message;
 
 /// The most output lines of a message.

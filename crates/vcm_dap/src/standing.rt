@@ -98,6 +98,14 @@ fn is_still(why: Why) -> bool {
     }
 }
 
+// Whether memory was refused.
+fn is_short(why: Why) -> bool {
+    match why {
+        Why::NoMemory => true,
+        _ => false,
+    }
+}
+
 // The words of the stop, behind `stop ` and up to the place.
 fn stop_words(text: &[u8]) -> &[u8] {
     let words = behind_stop(text);
@@ -240,7 +248,7 @@ fn stand_still<P: Part, W: Write>(
     talk.send_put(message, put)
 }
 
-/// Tells that it stands still, and why.
+/// Tells that it stands still, and why: a stop of the machine before any other reason but want of memory.
 pub(crate) fn stand<P: Part, W: Write>(
     talk: &mut Talk<W>,
     session: &Session<'_, P>,
@@ -249,6 +257,9 @@ pub(crate) fn stand<P: Part, W: Write>(
 ) -> Result<(), DapFault>
     ensures { IfOk result (λ u. SaysBehind session.now talk.old talk.new) }
 {
+    if is_short(why) {
+        return stand_still(talk, session, why);
+    }
     if let Some(place) = session.world().stop() {
         if let Some(line) = stop_line(talk.alloc(), session)? {
             return stand_stopped(talk, settings, why, place, &line);

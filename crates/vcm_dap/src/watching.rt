@@ -20,8 +20,8 @@ use std::alloc::Global;
 use std::io::Write;
 use vcm_console::{Command, Halted, Reply, VariableRef, write_variable};
 use vcm_debug::Session;
+use vcm_items::Variable;
 use vcm_motion::Part;
-use vcm_tables::Variable;
 use vcm_wire::{Message, Request};
 
 // The variable that a command shows, if it shows one.

@@ -6,10 +6,9 @@ ghost use Rattle.std.specs.Str.{bytes_eq};
 ghost use Rattle.vcm_debug.specs.Session.{is_wanted, recorded};
 
 use vcm_console::VariableRef;
-use vcm_items::Name;
+use vcm_items::{Name, Tables, Variable};
 use vcm_loader::Loaded;
 use vcm_spec::Feature;
-use vcm_tables::{Tables, Variable};
 
 /// The lowest statement of a source line.
 pub(crate) fn statement_on(loaded: &Loaded<'_>, line: u64) -> Option<u32>

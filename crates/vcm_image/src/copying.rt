@@ -7,9 +7,8 @@ use crate::scanned::Scanned;
 use std::alloc::Global;
 use vcm_code::OwnedStatement;
 use vcm_fields::{BorrowedVariable, TextSlice};
-use vcm_items::Name;
+use vcm_items::{Name, Tables, Variable};
 use vcm_num::{Items, NoMemory};
-use vcm_tables::{Tables, Variable};
 
 /// The statements of an image.
 pub(crate) fn statements(

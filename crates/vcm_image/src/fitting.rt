@@ -13,10 +13,9 @@ ghost use Rattle.vcm_image.specs.inner.Meeting.{FieldMeets};
 use crate::opening::{MOST_NAMES, MOST_STATEMENTS};
 use vcm_code::{Branch, Code, OwnedOp, OwnedStatement, Version, has_selection};
 use vcm_fields::{Field, OwnedField, fields_of};
-use vcm_items::{Name, is_name, is_variable_name};
+use vcm_items::{Name, Variable, is_name, is_variable_name};
 use vcm_num::{Items, MOST_ITEMS};
 use vcm_spec::{Item, is_text};
-use vcm_tables::Variable;
 
 // Indexes, targets and numbers have an image's widths in memory, by their types; so what answers for them always answers true.
 

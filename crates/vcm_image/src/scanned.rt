@@ -9,8 +9,8 @@ use std::alloc::Global;
 use std::marker::Model;
 use vcm_code::Version;
 use vcm_fields::{BorrowedStatement, BorrowedVariable, TextSlice, name, statement, variable};
+use vcm_items::Tables;
 use vcm_num::NoMemory;
-use vcm_tables::Tables;
 
 /// The bytes of an image whose fields are all in range, and where its variables, names and statements begin. No statement is kept decoded. Contracts
 /// see it as the code that the bytes spell.

@@ -13,9 +13,8 @@ use crate::opening::MAGIC;
 use crate::operands::{byte, long, short, statement};
 use std::alloc::Global;
 use vcm_code::{Code, OwnedStatement};
-use vcm_items::Name;
+use vcm_items::{Name, Variable};
 use vcm_num::NoMemory;
-use vcm_tables::Variable;
 
 // Appends a name.
 fn name(out: &mut Vec<u8>, name: &Name) -> Result<(), NoMemory>

@@ -1,18 +1,9 @@
-//! Part files that are opened by their names, and lines without effect as they are told.
+//! Part files that are opened by their names.
 
 use std::rt::Files;
 use vcm_job::part_from;
-use vcm_messages::{Message, NoticeLine, message_of};
+use vcm_messages::{Message, message_of};
 use vcm_part::PartData;
-use vcm_program::Noticed;
-
-/// A line that has no effect, as it is printed.
-pub fn notice_line(notice: &Noticed) -> NoticeLine<'static> {
-    NoticeLine {
-        line: notice.line,
-        word: std::str::from_utf8(notice.word.word()).unwrap_or(""),
-    }
-}
 
 /// The workpiece of a file.
 ///

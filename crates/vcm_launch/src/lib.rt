@@ -5,5 +5,5 @@ mod files;
 mod launching;
 mod serving;
 
-pub use files::{notice_line, part_of};
+pub use files::part_of;
 pub use serving::serve_dap;

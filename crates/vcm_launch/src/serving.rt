@@ -2,7 +2,7 @@
 
 ghost use Rattle.std.specs.Prelude.{◌<◌, ◌≤◌, ◌+◌, ◌^◌};
 
-use crate::files::{notice_line, part_of};
+use crate::files::part_of;
 use crate::launching::{Asked, Program, launch_of, program_of, settings_of};
 use json::{Error, Scratch, Value};
 use std::alloc::Global;
@@ -12,7 +12,7 @@ use std::rt::Files;
 use vcm_dap::{Adapter, DapFault, Served, Settings, Talk};
 use vcm_debug::Session;
 use vcm_loader::{Loaded, load};
-use vcm_messages::{Message, Told};
+use vcm_messages::{Message, Told, notice_line};
 use vcm_motion::AnyPart;
 use vcm_part::PartData;
 use vcm_program::Noticed;

@@ -8,9 +8,8 @@ ghost use Rattle.vcm_words.specs.inner.Failing.{FailsLine};
 use std::alloc::Global;
 use std::marker::Model;
 use vcm_code::{Code, OwnedStatement, Version};
-use vcm_items::Name;
+use vcm_items::{Name, Tables, Variable};
 use vcm_num::{Items, MOST_NAMES, MOST_STATEMENTS, NoMemory};
-use vcm_tables::{Tables, Variable};
 use vcm_words::{BorrowedRow, BorrowedStatement, ListCode, Row};
 
 /// The version, and the names and the statements of the lines so far. Contracts see them as a code.

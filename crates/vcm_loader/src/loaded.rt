@@ -20,8 +20,8 @@ use std::marker::Model;
 use vcm_code::{Version, Word};
 use vcm_fields::{BorrowedStatement, BorrowedVariable, TextSlice, known_long, known_word};
 use vcm_image::Scanned;
+use vcm_items::Tables;
 use vcm_num::{Fault, NoMemory};
-use vcm_tables::Tables;
 
 /// A valid image. It borrows the bytes, and keeps where each variable, name and statement begins; no statement is kept decoded. Contracts see it as
 /// its code. Names that its readers hand out live as long as the bytes, as do the items and texts of a statement.

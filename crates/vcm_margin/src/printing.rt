@@ -6,10 +6,10 @@ ghost use Rattle.vcm_margin.specs.Printed.{place_text, feature_text, difference_
 use crate::difference::{Difference, Margin, Met, Seen, StatementPlace};
 use itoa::Buffer;
 use std::io::Write;
+use vcm_items::Tables;
 use vcm_num::{Point, WriteFault, thousandths_text, write_all, write_pieces};
 use vcm_report::{write_feature_words, write_stop_line};
 use vcm_spec::{Feature, Source};
-use vcm_tables::Tables;
 
 // Writes which statement measures a point, and ends the line.
 fn write_place<W: Write>(place: StatementPlace, writer: &mut W) -> Result<(), WriteFault>

@@ -3,4 +3,4 @@
 
 mod message;
 
-pub use message::{Message, NoticeLine, Told, message_of, probe_message, status_of};
+pub use message::{Message, NoticeLine, Told, message_of, notice_line, probe_message, status_of};

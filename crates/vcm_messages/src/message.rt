@@ -8,6 +8,7 @@ use vcm_job::{Fault, InputRefusal, SessionFault};
 use vcm_lines::{FaultCode, SourceFault};
 use vcm_listing::{ListCode, ListFault};
 use vcm_part::{PartCode, PartFault};
+use vcm_program::Noticed;
 use vcm_run::Refusal;
 
 /// A fault as it is printed.
@@ -83,6 +84,14 @@ pub enum Message<'a> {
 pub struct NoticeLine<'a> {
     pub line: u32,
     pub word: &'a str,
+}
+
+/// A line of a program that has no effect, as it is printed.
+pub fn notice_line(notice: &Noticed) -> NoticeLine<'static> {
+    NoticeLine {
+        line: notice.line,
+        word: std::str::from_utf8(notice.word.word()).unwrap_or(""),
+    }
 }
 
 /// What is told of a refusal.

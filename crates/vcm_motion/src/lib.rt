@@ -23,7 +23,7 @@ pub use blocks::Blocks;
 pub use face::Face;
 pub use part::Part;
 pub use place::entry_point;
-pub use query::{contact_of, is_free};
+pub use query::contact_of;
 pub use strips::Strips;
 pub use vcm_num::{Axis, NoMemory, Point};
 pub use vcm_part::{Block3, Bounds, PartData};

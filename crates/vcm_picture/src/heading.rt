@@ -4,11 +4,11 @@ ghost use Rattle.std.specs.Prelude.{◌≡◌, IfOk};
 ghost use Rattle.vcm_picture.specs.Heading.{stop_words, step_words, first_line};
 
 use std::alloc::Global;
+use vcm_items::Tables;
 use vcm_num::NoMemory;
 use vcm_report::write_stop_line;
 use vcm_spec::StopPlace;
 use vcm_svg::{Fragment, put};
-use vcm_tables::Tables;
 
 // The line of a stop, without its end.
 fn stop_words(alloc: Global, tables: &Tables, stop: StopPlace) -> Result<Vec<u8>, NoMemory>

@@ -7,9 +7,9 @@ use std::marker::Model;
 use std::mem::forget;
 use vcm_expr::Names;
 use vcm_forms::Notice;
+use vcm_items::Tables;
 use vcm_nodes::{Block, count};
 use vcm_num::NoMemory;
-use vcm_tables::Tables;
 
 /// A line that has no effect, by its number and its major word.
 #[derive(Clone, Copy, PartialEq, Eq)]

@@ -6,9 +6,8 @@ ghost use Rattle.vcm_program.specs.Program.{AreNames};
 use crate::titles::Titles;
 use std::alloc::Global;
 use vcm_expr::Names;
-use vcm_items::Name;
+use vcm_items::{Name, Tables, Variable};
 use vcm_num::{Items, NoMemory};
-use vcm_tables::{Tables, Variable};
 
 // The variable at an index, if there is one.
 fn variable_at(names: &Names, index: usize) -> Option<Variable>

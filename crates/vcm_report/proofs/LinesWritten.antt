@@ -1,7 +1,7 @@
 -- Lines that are written one by one.
 use Rattle.std.proofs.Common.{◌≡◌, ℕ, zero, suc, ◌+◌, ◌<◌, List, [], ◌∷◌, ◌++◌, length, take, drop, refl, ap, ◌∙◌, append_assoc, get_or, arith}
 use Rattle.std.specs.Prelude.{codes}
-use Rattle.vcm_output.specs.Output.{output_lines}
+use Rattle.vcm_report.specs.Output.{output_lines}
 
 -- the lines before the i-th, that one, and those after it
 pub lines_cut : (ls : List (List ℕ)) (i : ℕ) (d : List ℕ) → i < length ls

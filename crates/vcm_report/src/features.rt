@@ -11,9 +11,9 @@ ghost use Rattle.vcm_spec.specs.Texts.{three_texts, feature_line};
 
 use crate::names::name_at;
 use std::io::Write;
+use vcm_items::Tables;
 use vcm_num::{Axis, Point, Text, WriteFault, int_text, thousandths_text, write_all, write_pieces};
 use vcm_spec::{Feature, Source};
-use vcm_tables::Tables;
 
 // A coordinate of a direction's unit vector as text.
 fn component_text(toward: Axis, axis: usize) -> Text

@@ -2,11 +2,12 @@
 
 ghost use Rattle.std.specs.Prelude.{◌≤◌, ◌-◌, length, drop};
 ghost use Rattle.vcm_num.specs.Written.{Wrote};
-ghost use Rattle.vcm_output.specs.Output.{output_lines};
+ghost use Rattle.vcm_report.specs.Output.{output_lines};
 
+use crate::output_line::Line;
+use crate::output_lines::Lines;
 use std::io::Write;
 use vcm_num::{WriteFault, write_pieces};
-use vcm_output::{Line, Lines};
 
 // Writes lines one by one, each with a line feed.
 fn write_each<W: Write>(lines: &[Line], writer: &mut W) -> Result<(), WriteFault>

@@ -7,9 +7,9 @@ ghost use Rattle.vcm_report.specs.Printed.{missing_text, phase_text, stop_text, 
 use crate::names::name_at;
 use itoa::Buffer;
 use std::io::Write;
+use vcm_items::Tables;
 use vcm_num::{WriteFault, write_pieces};
 use vcm_spec::{Missing, MovePhase, Stop, StopPlace};
-use vcm_tables::Tables;
 
 // The word of a part of a motion.
 fn phase_text(phase: MovePhase) -> &'static [u8]

@@ -7,10 +7,10 @@ ghost use Rattle.vcm_rows.specs.Marks.{going_letters, is_at, piece_row, touched_
 use crate::rows::{Rows, write_point_row, write_points_row, write_rows};
 use itoa::Buffer;
 use std::io::Write;
+use vcm_items::Tables;
 use vcm_marks::{Contact, Going, Leg, Mark, Touched};
 use vcm_num::{Point, WriteFault, int_text, write_pieces};
 use vcm_report::name_at;
-use vcm_tables::Tables;
 
 // The letter of a piece, and a blank.
 fn going_letters(going: Going) -> &'static [u8]

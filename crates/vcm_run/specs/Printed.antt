@@ -5,7 +5,7 @@ use Rattle.vcm_num.specs.Point.{coordinate}
 use Rattle.vcm_num.specs.Texts.{thousandths}
 use Rattle.vcm_spec.specs.declared.stop.StopPlace.{StopPlace}
 use Rattle.vcm_spec.specs.Setup.{Tables}
-use Rattle.vcm_output.specs.Output.{output_lines}
+use Rattle.vcm_report.specs.Output.{output_lines}
 use Rattle.vcm_report.specs.Printed.{in_a_row, stopped_line}
 use Rattle.vcm_state.specs.Held.{Held}
 

@@ -5,12 +5,12 @@ ghost use Rattle.vcm_run.specs.Printed.{stop_line, end_lines, result_text};
 
 use itoa::Buffer;
 use std::io::Write;
+use vcm_items::Tables;
 use vcm_machine::Ran;
 use vcm_num::{Point, WriteFault, thousandths_text, write_pieces};
 use vcm_report::{write_lines, write_stop_line};
 use vcm_spec::StopPlace;
 use vcm_state::World;
-use vcm_tables::Tables;
 
 // Writes the line of the stop, or of the steps that were done where there is none.
 fn write_stop_or_steps<W: Write>(

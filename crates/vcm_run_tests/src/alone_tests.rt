@@ -4,11 +4,8 @@ use std::alloc::Global;
 use vcm_code::Op;
 use vcm_image::{fits, read};
 use vcm_loader::load;
-use vcm_motion::{Blocks, is_free};
-use vcm_num::Point;
-use vcm_part::{PartData, read_part};
 use vcm_spec::Simple;
-use vcm_test_tools::{BOUNDS, MOVE, ONE_BLOCK, joined};
+use vcm_test_tools::MOVE;
 
 // Whether the code that bytes are read as fits, with two statements.
 fn is_read(alloc: Global, bytes: &[u8]) -> bool {
@@ -39,24 +36,4 @@ fn height(alloc: Global, bytes: &[u8]) -> Option<i64> {
 #[test]
 fn the_value_of_an_expression(rt: HostRuntime) {
     assert!(rt; height(rt.alloc(), &MOVE) == Some(50_000));
-}
-
-// Whether a move a micrometre above an edge of the block is free, and one through the edge isn't.
-fn is_free_above(part: &PartData) -> bool {
-    let blocks = Blocks::new(part);
-    let edge = [Point([0, 20_000, 10_000]), Point([20_000, 20_000, 30_000])];
-    let above = [Point([0, 20_000, 10_001]), Point([20_000, 20_000, 30_001])];
-    is_free(&blocks, above[0], above[1]) && !is_free(&blocks, edge[0], edge[1])
-}
-
-// The same of the block of a part file.
-fn is_free_above_one(alloc: Global) -> Option<bool> {
-    let file = joined(alloc, &[BOUNDS, ONE_BLOCK])?;
-    let part = read_part(alloc, file.as_bytes()).ok()?;
-    Some(is_free_above(&part))
-}
-
-#[test]
-fn free_moves(rt: HostRuntime) {
-    assert!(rt; is_free_above_one(rt.alloc()) == Some(true));
 }

@@ -1,7 +1,7 @@
 //! Statements in another spelling.
 
 use std::alloc::Global;
-use vcm_lines::{Logical, Word, WordKind, logical_lines};
+use vcm_lines::{FaultCode, Logical, SourceFault, Word, WordKind, logical_lines};
 use vcm_num::{NoMemory, write_thousandths};
 use vcm_sentences::{Decimal, micrometres, piece, read_decimal};
 
@@ -70,14 +70,25 @@ fn rounded_words(
     Ok(out)
 }
 
+// Nothing where a line can't be read. Want of memory is handed on: it says nothing of the line.
+fn without_memory(fault: SourceFault) -> Result<Option<Vec<u8>>, NoMemory> {
+    match fault.code {
+        FaultCode::NoMemory => Err(NoMemory),
+        _ => Ok(None),
+    }
+}
+
 /// A statement with its numbers rounded, if its line can be read.
+///
+/// Errors: want of memory.
 pub fn rounded(
     alloc: Global,
     bytes: &[u8],
     rounding: &mut Rounding,
 ) -> Result<Option<Vec<u8>>, NoMemory> {
-    let Ok(read) = logical_lines(alloc, bytes) else {
-        return Ok(None);
+    let read = match logical_lines(alloc, bytes) {
+        Ok(read) => read,
+        Err(fault) => return without_memory(fault),
     };
     match read.as_slice() {
         [logical] => Ok(Some(rounded_words(alloc, logical, rounding)?)),

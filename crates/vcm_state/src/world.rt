@@ -12,13 +12,13 @@ use std::alloc::Global;
 use std::marker::Model;
 use std::rc::Rc;
 use vcm_frame::Frame;
+use vcm_items::Tables;
 use vcm_motion::{Part, contact_of};
 use vcm_num::{Items, MOST_LINES, NoMemory, Point};
-use vcm_output::Lines;
 use vcm_part::is_within;
 use vcm_probe::Settings;
+use vcm_report::Lines;
 use vcm_spec::{Feature, MovePhase, Stop, StopPlace};
-use vcm_tables::Tables;
 
 /// The state of the machine: where the probe is, in micrometres of machine coordinates, the current frame, the settings of the probe, the values
 /// of the variables, the saved frames, the features as they were declared and as they were measured, the output lines, and the stop if there is

@@ -1,1 +1,5 @@
 mod StoryLemmas
+pub mod ReadTexts
+pub mod LineTexts
+pub mod InnerTexts
+pub mod StoryLines

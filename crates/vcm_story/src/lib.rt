@@ -3,6 +3,7 @@
 #![tactic(auto)]
 
 mod following;
+pub mod laws;
 mod state_rows;
 mod step_rows;
 mod story;

@@ -13,6 +13,7 @@ ghost use Rattle.vcm_rows.specs.Frames.{frame_end};
 use itoa::Buffer;
 use std::io::Write;
 use vcm_console::{write_variable, write_variable_value};
+use vcm_items::{Tables, Variable};
 use vcm_num::{Kind, Point, WriteFault, int_text, thousandths_text, write_all, write_pieces};
 use vcm_print::setting;
 use vcm_probe::Settings;
@@ -20,7 +21,6 @@ use vcm_report::write_feature;
 use vcm_rows::{Numbered, told_entries, write_frame, write_numbered};
 use vcm_spec::{Feature, Setting, Source};
 use vcm_state::World;
-use vcm_tables::{Tables, Variable};
 
 // The word of a kind.
 fn kind_text(kind: Kind) -> &'static [u8]

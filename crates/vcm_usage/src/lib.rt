@@ -1,10 +1,8 @@
-//! The commands of the command line, with the words that each takes.
+//! The commands of the command line: one table, by which it is read, its help printed and its completions judged.
 #![tactic(auto)]
 
-mod manner;
 mod options;
 
-pub use manner::{takes_quiet, takes_talk};
 pub use options::{Behind, Choice, Spelled};
 
 /// A word behind a command: its name, and what it is.
@@ -24,6 +22,30 @@ const LISTING: Word = ("LISTING", "The listing of a code");
 
 const IMAGE: Word = ("IMAGE", "The file that the image is written to");
 
+/// A command of the command line.
+#[derive(Clone, Copy, PartialEq, Eq)]
+pub enum Verb {
+    Check,
+    Survey,
+    Adapt,
+    Build,
+    Run,
+    Why,
+    Contacts,
+    Trace,
+    Margin,
+    Points,
+    Clearance,
+    Picture,
+    View,
+    Part,
+    Debug,
+    Dap,
+    List,
+    Asm,
+    Explain,
+}
+
 /// Which words a command takes besides those that all have to be there.
 #[derive(Clone, Copy)]
 pub enum Rest {
@@ -34,9 +56,10 @@ pub enum Rest {
     Programs,
 }
 
-/// A command: its name, what it does, an example, the words behind it, which all have to be there, further ones, and its options.
+/// A command, its name, what it does, an example, the words after it, which all have to be there, further ones, and its options.
 #[derive(Clone, Copy)]
 pub struct Usage {
+    pub verb: Verb,
     pub name: &'static str,
     pub about: &'static str,
     pub example: &'static str,
@@ -48,14 +71,16 @@ pub struct Usage {
 // All commands.
 const USAGES: &[Usage] = &[
     Usage {
+        verb: Verb::Check,
         name: "check",
         about: "Tells whether programs are accepted, and how many statements each has",
         example: "For example: vcm check square.dmi",
         words: &[],
         rest: Rest::Programs,
-        choices: &[Choice::All],
+        choices: &[Choice::Talk, Choice::Quiet, Choice::All],
     },
     Usage {
+        verb: Verb::Survey,
         name: "survey",
         about: "Tells of a producer's text what fits, what vcm adapt puts otherwise, and what isn't tried",
         example: "For example: vcm survey camio.dmi --tip 1000",
@@ -70,6 +95,7 @@ const USAGES: &[Usage] = &[
         ],
     },
     Usage {
+        verb: Verb::Adapt,
         name: "adapt",
         about: "Writes the program that a producer's text is adapted to, line by line",
         example: "For example: vcm adapt camio.dmi --tip 1000 > adapted.dmi",
@@ -84,102 +110,121 @@ const USAGES: &[Usage] = &[
         ],
     },
     Usage {
+        verb: Verb::Build,
         name: "build",
         about: "Writes the image of a program",
         example: "For example: vcm build grid.dmi grid.vcmi",
         words: &[PROGRAM, IMAGE],
         rest: Rest::Nothing,
-        choices: &[],
+        choices: &[Choice::Talk, Choice::Quiet],
     },
     Usage {
+        verb: Verb::Run,
         name: "run",
         about: "Runs a program or an image beside a workpiece, and prints the result",
         example: "For example: vcm run above.dmi part-a.toml",
         words: &[INPUT, PART],
         rest: Rest::Nothing,
-        choices: &[Choice::Steps, Choice::Show],
+        choices: &[Choice::Talk, Choice::Quiet, Choice::Steps, Choice::Show],
     },
     Usage {
+        verb: Verb::Why,
         name: "why",
         about: "Tells why a run stops where it does: the line, its calls and loops, the way, what is met, and where it would be free",
         example: "For example: vcm why above.dmi part-a.toml",
         words: &[INPUT, PART],
         rest: Rest::Nothing,
-        choices: &[Choice::Steps],
+        choices: &[Choice::Quiet, Choice::Steps],
     },
     Usage {
+        verb: Verb::Contacts,
         name: "contacts",
         about: "Tells all contacts of a run in one go: behind each the motion is taken as done, so what stands behind the first is a guess",
         example: "For example: vcm contacts into.dmi part-a.toml",
         words: &[INPUT, PART],
         rest: Rest::Nothing,
-        choices: &[Choice::Steps],
+        choices: &[Choice::Quiet, Choice::Steps],
     },
     Usage {
+        verb: Verb::Trace,
         name: "trace",
         about: "Runs a program or an image beside a workpiece, and prints what each step did, a line of CSV for each",
         example: "For example: vcm trace touch.dmi part-a.toml",
         words: &[INPUT, PART],
         rest: Rest::Nothing,
-        choices: &[Choice::Steps],
+        choices: &[Choice::Quiet, Choice::Steps],
     },
     Usage {
+        verb: Verb::Margin,
         name: "margin",
         about: "Tells how wide the tip of the probe may be for the run to go as it does, and what a wider one meets",
         example: "For example: vcm margin square.dmi part-a.toml",
         words: &[INPUT, PART],
         rest: Rest::Nothing,
-        choices: &[Choice::Steps],
+        choices: &[Choice::Quiet, Choice::Steps],
     },
     Usage {
+        verb: Verb::Points,
         name: "points",
         about: "Runs a program or an image beside a workpiece, and prints the measured points with their deviation, a line of CSV for each",
         example: "For example: vcm points grid.dmi part-a.toml",
         words: &[INPUT, PART],
         rest: Rest::Nothing,
-        choices: &[Choice::Steps],
+        choices: &[Choice::Quiet, Choice::Steps],
     },
     Usage {
+        verb: Verb::Clearance,
         name: "clearance",
         about: "Tells which boxes of the probe, its shaft or head, meet a block in a run, and how much room the others have",
         example: "For example: vcm clearance square.dmi part-a.toml stylus.toml",
         words: &[INPUT, PART, PROBE],
         rest: Rest::Nothing,
-        choices: &[Choice::Steps],
+        choices: &[Choice::Quiet, Choice::Steps],
     },
     Usage {
+        verb: Verb::Picture,
         name: "picture",
         about: "Runs a program or an image beside a workpiece, and draws the workpiece and the way of the probe as SVG",
         example: "For example: vcm picture square.dmi part-a.toml --close > square.svg",
         words: &[INPUT, PART],
         rest: Rest::Nothing,
-        choices: &[Choice::Steps, Choice::Close, Choice::Sheet, Choice::Stretch],
+        choices: &[
+            Choice::Quiet,
+            Choice::Steps,
+            Choice::Close,
+            Choice::Sheet,
+            Choice::Stretch,
+        ],
     },
     Usage {
+        verb: Verb::View,
         name: "view",
         about: "Runs a program or an image beside a workpiece, and writes a page for a browser that shows each step",
         example: "For example: vcm view square.dmi part-a.toml > square.html",
         words: &[INPUT, PART],
         rest: Rest::Nothing,
-        choices: &[Choice::Steps, Choice::Probe],
+        choices: &[Choice::Quiet, Choice::Steps, Choice::Probe],
     },
     Usage {
+        verb: Verb::Part,
         name: "part",
         about: "Prints a workpiece as it was read, and tells which keys of its file nothing uses",
         example: "For example: vcm part part-a.toml",
         words: &[PART],
         rest: Rest::Nothing,
-        choices: &[],
+        choices: &[Choice::Quiet],
     },
     Usage {
+        verb: Verb::Debug,
         name: "debug",
         about: "Answers the commands of standard input, a line each, on a program or an image",
         example: "For example: vcm debug lines.dmi part-a.toml",
         words: &[INPUT, PART],
         rest: Rest::Nothing,
-        choices: &[],
+        choices: &[Choice::Talk, Choice::Quiet],
     },
     Usage {
+        verb: Verb::Dap,
         name: "dap",
         about: "Speaks the Debug Adapter Protocol on standard input and output, for editors",
         example: "For example, as the adapter of an editor: vcm dap",
@@ -188,22 +233,25 @@ const USAGES: &[Usage] = &[
         choices: &[],
     },
     Usage {
+        verb: Verb::List,
         name: "list",
         about: "Prints the listing of a program or an image",
         example: "For example: vcm list above.dmi",
         words: &[INPUT],
         rest: Rest::Nothing,
-        choices: &[],
+        choices: &[Choice::Talk, Choice::Quiet],
     },
     Usage {
+        verb: Verb::Asm,
         name: "asm",
         about: "Writes the image of a listing",
         example: "For example: vcm asm above.lst above.vcmi",
         words: &[LISTING, IMAGE],
         rest: Rest::Nothing,
-        choices: &[],
+        choices: &[Choice::Talk],
     },
     Usage {
+        verb: Verb::Explain,
         name: "explain",
         about: "Tells what a code or a message means and what to do; without words, which there are",
         example: "For example: vcm explain E14",
@@ -216,4 +264,26 @@ const USAGES: &[Usage] = &[
 /// All commands.
 pub fn usages() -> &'static [Usage] {
     USAGES
+}
+
+/// The command of this name.
+pub fn usage_of(name: &str) -> Option<Usage> {
+    for usage in usages() {
+        if usage.name == name {
+            return Some(*usage);
+        }
+    }
+    None
+}
+
+impl Usage {
+    /// Whether the command takes this option.
+    pub fn takes(&self, choice: Choice) -> bool {
+        for taken in self.choices {
+            if *taken == choice {
+                return true;
+            }
+        }
+        false
+    }
 }

@@ -1,8 +1,12 @@
-//! The options of commands, but for `--talk` and `--quiet`.
+//! The options of commands.
 
 /// An option of a command.
-#[derive(Clone, Copy)]
+#[derive(Clone, Copy, PartialEq, Eq)]
 pub enum Choice {
+    /// `--talk`: as much is told as at a terminal. Commands that take it tell through a pipe what they always told.
+    Talk,
+    /// `--quiet`: no notices are told.
+    Quiet,
     /// `--all`.
     All,
     /// `--steps N`.
@@ -70,6 +74,11 @@ impl Choice {
     /// How it is spelled and told.
     pub fn spelled(self) -> Spelled {
         match self {
+            Choice::Talk => flag(
+                "talk",
+                "Tells on standard error what it tells at a terminal, also through a pipe",
+            ),
+            Choice::Quiet => flag("quiet", "Tells no notices"),
             Choice::All => flag(
                 "all",
                 "Tells all faults of lines and statements, with what stands there",

@@ -6,8 +6,8 @@ ghost use Rattle.vcm_values.specs.Values.{is_wanted, place_of, place_named};
 
 use std::alloc::Global;
 use vcm_console::{Command, VariableRef, parse_command};
+use vcm_items::{Tables, Variable};
 use vcm_num::NoMemory;
-use vcm_tables::{Tables, Variable};
 
 // Whether a variable has this name, and belongs to this expansion.
 fn is_wanted(wanted: &VariableRef, variable: &Variable) -> bool

@@ -6,8 +6,8 @@ ghost use Rattle.vcm_values.specs.Values.{value_at, line_with, value_line, value
 
 use std::io::Write;
 use vcm_console::{write_variable, write_variable_value};
+use vcm_items::Tables;
 use vcm_num::{WriteFault, write_all};
-use vcm_tables::Tables;
 
 // The value at an index, 0 where there is none.
 fn value_at(values: &[i64], index: u16) -> i64

@@ -8,9 +8,8 @@ ghost use Rattle.vcm_words.specs.Rows.{kind_text, name_at, variable_name_at, ent
 
 use crate::places::count;
 use crate::words::{Words, table_word};
-use vcm_items::{Name, is_name, is_variable_name};
+use vcm_items::{Name, Variable, is_name, is_variable_name};
 use vcm_num::Kind;
-use vcm_tables::Variable;
 
 // A name, and the words behind it.
 fn name<'a>(words: &Words<'a>) -> Option<(Name, Words<'a>)>

@@ -1,8 +1,7 @@
 //! The lines of a listing.
 
 use vcm_code::{CodeStatement, Version};
-use vcm_items::Name;
-use vcm_tables::Variable;
+use vcm_items::{Name, Variable};
 
 /// A line of a listing, with expressions of the form `E`, texts of the form `T` and branches of the form `B`.
 #[derive(Drop)]

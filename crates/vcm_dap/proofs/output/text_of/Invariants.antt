@@ -1,5 +1,5 @@
 use Rattle.std.proofs.Common.{◌≡◌, take}
-use Rattle.vcm_output.specs.Output.{output_lines}
+use Rattle.vcm_report.specs.Output.{output_lines}
 use Rattle.vcm_dap.proofs.output.text_of.Given as goal
 
 abbrev pub invariant-loop-line : goal.invariant-loop-line

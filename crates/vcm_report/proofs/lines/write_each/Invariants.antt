@@ -1,6 +1,6 @@
 use Rattle.std.proofs.Common.{take}
 use Rattle.std.specs.Io.KnownBytes.{Appends}
-use Rattle.vcm_output.specs.Output.{output_lines}
+use Rattle.vcm_report.specs.Output.{output_lines}
 use Rattle.vcm_report.proofs.lines.write_each.Given as goal
 
 abbrev pub invariant-loop-line : goal.invariant-loop-line

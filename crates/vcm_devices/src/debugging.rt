@@ -1,0 +1,59 @@
+//! A session of the debugger on the standard devices.
+
+use crate::hand::debug_typed;
+use crate::parts::part_of;
+use crate::printing::{output, written};
+use crate::request::Request;
+use crate::talking::{Voice, fails_in, fails_twice, tell_notices};
+use std::io::Read;
+use std::rt::Files;
+use vcm_job::debug;
+use vcm_messages::{Message, message_of};
+use vcm_part::PartData;
+use vcm_program::Noticed;
+
+// Answers the commands of standard input on the program or image of a file beside a workpiece. Each reply is handed on at once. A read of no
+// byte shows whether standard input is open: where it is closed, the file would get its number.
+fn debug_beside<'a, R: Files + Input + Print + Eprint + AllocGlobal>(
+    rt: &R,
+    voice: Voice,
+    name: &'a str,
+    part: &PartData,
+) -> Result<Vec<Noticed>, Message<'a>> {
+    let Ok(_) = rt.reader().read(&mut []) else {
+        return Err(Message::Read {
+            name: "standard input",
+        });
+    };
+    let Ok(mut file) = std::fs::open(rt, name) else {
+        return Err(Message::Read { name });
+    };
+    let mut out = output(rt)?;
+    let done = if voice.is_by_hand {
+        debug_typed(rt, part, &mut file, &mut out)
+    } else {
+        debug(rt.alloc(), part, &mut file, &mut rt.reader(), &mut out)
+    };
+    written(&mut out, done.map_err(|fault| message_of(fault, name)))
+}
+
+/// Answers the commands of standard input on the program or image of a file beside the workpiece of another one, which is judged first, and gives the
+/// exit status.
+pub fn debug_file<R: Files + Input + Print + Eprint + AllocGlobal>(
+    rt: &R,
+    voice: Voice,
+    request: &Request<'_, '_>,
+) -> u8 {
+    let part = match part_of(rt, voice, request.part()) {
+        Ok(part) => part,
+        Err(told) => return fails_twice(rt, &told),
+    };
+    let name = request.input();
+    match debug_beside(rt, voice, name, &part) {
+        Ok(notices) => {
+            tell_notices(rt, voice, notices.as_slice());
+            0
+        }
+        Err(message) => fails_in(rt, voice, message, name),
+    }
+}

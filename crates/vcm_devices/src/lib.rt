@@ -1,0 +1,28 @@
+//! The commands of vcm on the standard devices and files: the command line, what is read, printed and told, and the exit status. Commands for
+//! producers' texts and for editors stand in `vcm_command`.
+#![tactic(auto)]
+
+mod closing;
+mod debugging;
+mod files;
+mod hand;
+mod jobs;
+mod parts;
+mod printing;
+mod request;
+mod sheets;
+mod showing;
+mod talking;
+mod values;
+
+pub use closing::fails_unless_closed;
+pub use debugging::debug_file;
+pub use files::{asm_file, build_file, check_file, list_file};
+pub use jobs::run_job;
+pub use parts::show_part;
+pub use printing::{bytes_of, fails, output, print_bytes, written};
+pub use request::{Request, matches_of, steps_of};
+pub use sheets::{lines_of, show_picture};
+pub use showing::{Shown, show_clearance, show_page, show_run};
+pub use talking::{Terminals, Voice, voice_of};
+pub use values::show_result;

@@ -1,0 +1,106 @@
+//! The picture of a run, and the words of a sheet on the command line.
+
+use crate::parts::named_part_of;
+use crate::request::Request;
+use crate::showing::{Shown, show_beside, show_run};
+use crate::talking::{Voice, alone, fails_twice};
+use std::rt::Files;
+use vcm_given::Titles;
+use vcm_messages::Message;
+use vcm_sheet::{ALL_LINES, Lines};
+use vcm_usage::Choice;
+use vcm_views::RunView;
+
+const LINES: Message<'static> = Message::Option {
+    words: "--lines wants A-B, two source lines from 1 on, the first not behind the last",
+};
+
+// The number of a source line: decimal digits, from 1 on.
+fn line_of(text: &str) -> Option<u32> {
+    if !text.as_bytes().iter().all(|byte| byte.is_ascii_digit()) {
+        return None;
+    }
+    match text.parse::<u32>() {
+        Ok(line) if 1 <= line => Some(line),
+        _ => None,
+    }
+}
+
+/// The source lines that `--lines` gives: two numbers from 1 on with `-` between them, the first not above the second.
+pub fn lines_of(text: &str) -> Option<Lines> {
+    let (first, last) = text.split_once('-')?;
+    let first = line_of(first)?;
+    let last = line_of(last)?;
+    if first <= last {
+        Some(Lines { first, last })
+    } else {
+        None
+    }
+}
+
+// The same, where it may be given.
+fn lines_given(text: Option<&str>) -> Option<Lines> {
+    match text {
+        Some(text) => lines_of(text),
+        None => Some(ALL_LINES),
+    }
+}
+
+// The name of a file without its folders.
+fn base_name(path: &str) -> &[u8] {
+    match path.rsplit_once('/') {
+        Some((_, name)) => name.as_bytes(),
+        None => path.as_bytes(),
+    }
+}
+
+// Prints the sheet of a run, and gives the exit status. The steps are judged first, then the lines, then the workpiece.
+fn show_sheet<R: Files + Print + Eprint + AllocGlobal>(
+    rt: &R,
+    voice: Voice,
+    request: &Request<'_, '_>,
+) -> u8 {
+    let Some(steps) = request.steps() else {
+        return fails_twice(rt, &alone(Message::Steps));
+    };
+    let Some(lines) = lines_given(request.value(Choice::Stretch)) else {
+        return fails_twice(rt, &alone(LINES));
+    };
+    let (part, names) = match named_part_of(rt, voice, request.part()) {
+        Ok(named) => named,
+        Err(told) => return fails_twice(rt, &told),
+    };
+    let titles = Titles {
+        program_name: base_name(request.input()),
+        part_name: base_name(request.part()),
+        block_names: names.as_slice(),
+        lines,
+        is_close: request.has(Choice::Close),
+    };
+    show_beside(
+        rt,
+        voice,
+        Shown::Sheet(titles),
+        &part,
+        request.input(),
+        steps,
+    )
+}
+
+/// Prints the picture of a run, and gives the exit status. `--sheet` makes it a sheet, and so does `--lines`.
+pub fn show_picture<R: Files + Print + Eprint + AllocGlobal>(
+    rt: &R,
+    voice: Voice,
+    request: &Request<'_, '_>,
+) -> u8 {
+    if request.has(Choice::Sheet) || request.value(Choice::Stretch).is_some() {
+        return show_sheet(rt, voice, request);
+    }
+    let is_close = request.has(Choice::Close);
+    show_run(
+        rt,
+        voice,
+        Shown::View(RunView::Picture { is_close }),
+        request,
+    )
+}

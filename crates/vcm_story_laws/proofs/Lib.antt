@@ -1,4 +1,0 @@
-pub mod ReadTexts
-pub mod LineTexts
-pub mod InnerTexts
-pub mod StoryLines

@@ -1,5 +1,0 @@
-use Rattle.vcm_story_laws.proofs.ReadTexts.{texts_read}
-use Rattle.vcm_story_laws.proofs.laws.texts_are_read.Goals as goal
-
-pub returns : goal.returns
-returns c = texts_read

@@ -1,4 +1,0 @@
-//! Laws of stories, apart from what writes them.
-#![tactic(auto)]
-
-pub mod laws;
