@@ -2,12 +2,12 @@
 
 use crate::parts::tell_unused;
 use crate::printing::{fails, output, status_after, written};
-use crate::talking::{OF_JOBS, Terminals, Told, Voice, fails_twice};
+use crate::talking::{OF_JOBS, Terminals, Told, Voice, alone, fails_twice};
 use std::alloc::Global;
 use vcm_job::{Done, JobFault, job, read_all};
 use vcm_messages::{Message, message_of};
-use vcm_num::is;
-use vcm_part::PartCode;
+use vcm_num::{NoMemory, is};
+use vcm_part::{PartCode, PartFault};
 use vcm_run::Refusal;
 use vcm_telling::{is_program, second_line};
 
@@ -59,11 +59,8 @@ fn part_front(input: &[u8]) -> (&[u8], bool) {
     }
 }
 
-// What is told of a job whose part is refused.
-fn second_of(alloc: Global, input: &[u8], fault: JobFault) -> Option<String> {
-    let JobFault::Refused(Refusal::Part(fault)) = fault else {
-        return None;
-    };
+// What is told of a job whose part is refused; none where memory runs out.
+fn second_of(alloc: Global, input: &[u8], fault: PartFault) -> Option<String> {
     let (part, has_mark) = part_front(input);
     if has_mark || fault.code != PartCode::NotToml {
         return second_line(alloc, "standard input", part, fault);
@@ -74,6 +71,18 @@ fn second_of(alloc: Global, input: &[u8], fault: JobFault) -> Option<String> {
         "a job is a part file, a line %%, and a program"
     };
     format!(in alloc; "standard input has no line %%: {what}").ok()
+}
+
+// A fault of a job, with what is told of a refused part.
+fn told_of(alloc: Global, input: &[u8], fault: JobFault) -> Told<'static> {
+    let message = message_of(fault, "standard input");
+    let JobFault::Refused(Refusal::Part(fault)) = fault else {
+        return alone(message);
+    };
+    match second_of(alloc, input, fault) {
+        None => alone(Message::NoMemory),
+        second => Told { message, second },
+    }
 }
 
 /// How much is told of a job at a terminal.
@@ -92,21 +101,17 @@ fn run_input<R: Print + Eprint + AllocGlobal>(rt: &R, input: &[u8]) -> u8 {
     };
     let mut reader = input;
     match job(rt.alloc(), &mut reader, &mut out) {
-        Ok(done) => {
-            tell_unused(rt, AT_TERMINAL, "the part", part_front(input).0);
-            status_after(rt, AT_TERMINAL, written(&mut out, Ok(done)))
-        }
+        Ok(done) => match tell_unused(rt, AT_TERMINAL, "the part", part_front(input).0) {
+            Ok(()) => status_after(rt, AT_TERMINAL, written(&mut out, Ok(done))),
+            Err(NoMemory) => fails(rt, Message::NoMemory),
+        },
         Err(fault) => {
             let flushed: Result<Done, _> = written(
                 &mut out,
                 Err(message_of(fault, "standard input")),
             );
             drop(flushed);
-            let told = Told {
-                message: message_of(fault, "standard input"),
-                second: second_of(rt.alloc(), input, fault),
-            };
-            fails_twice(rt, &told)
+            fails_twice(rt, &told_of(rt.alloc(), input, fault))
         }
     }
 }

@@ -13,7 +13,7 @@ use vcm_num::NoMemory;
 use vcm_part::{PartData, PartFault, read_part};
 use vcm_telling::{part_text, second_line, unused_text};
 
-// Why a part file is refused.
+// Why a part file is refused; want of memory where there is none for the second line.
 fn refused<'a>(
     alloc: Global,
     voice: Voice,
@@ -21,14 +21,13 @@ fn refused<'a>(
     bytes: &[u8],
     fault: PartFault,
 ) -> Told<'a> {
-    let second = if voice.tells_more {
-        second_line(alloc, name, bytes, fault)
-    } else {
-        None
-    };
-    Told {
-        message: message_of(PartFileFault::Refused(fault), name),
-        second,
+    let message = message_of(PartFileFault::Refused(fault), name);
+    if !voice.tells_more {
+        return alone(message);
+    }
+    match second_line(alloc, name, bytes, fault) {
+        None => alone(Message::NoMemory),
+        second => Told { message, second },
     }
 }
 
@@ -46,17 +45,37 @@ fn part_in<'a>(
 }
 
 /// Tells the keys of a part file that nothing uses, each behind the file's name; nothing where a command tells no more than it always told.
-pub(crate) fn tell_unused<R: Eprint + AllocGlobal>(rt: &R, voice: Voice, name: &str, bytes: &[u8]) {
+///
+/// Errors: want of memory; then nothing is told.
+pub(crate) fn tell_unused<R: Eprint + AllocGlobal>(
+    rt: &R,
+    voice: Voice,
+    name: &str,
+    bytes: &[u8],
+) -> Result<(), NoMemory> {
     if !voice.tells_more || voice.is_quiet {
-        return;
+        return Ok(());
     }
-    let Ok(text) = unused_text(rt.alloc(), bytes) else {
-        return;
-    };
+    let text = unused_text(rt.alloc(), bytes)?;
     for line in text.split('\n') {
         if !line.is_empty() {
             let _ = eprintln!(rt; "{name}: {line}");
         }
+    }
+    Ok(())
+}
+
+// The workpiece of the bytes of a file, whose keys that nothing uses are told, or why it isn't read.
+fn told_part<'a, R: Eprint + AllocGlobal>(
+    rt: &R,
+    voice: Voice,
+    name: &'a str,
+    bytes: &[u8],
+) -> Result<PartData, Told<'a>> {
+    let part = part_in(rt.alloc(), voice, name, bytes)?;
+    match tell_unused(rt, voice, name, bytes) {
+        Ok(()) => Ok(part),
+        Err(_) => Err(alone(Message::NoMemory)),
     }
 }
 
@@ -70,9 +89,7 @@ pub(crate) fn part_of<'a, R: Files + Eprint + AllocGlobal>(
         Ok(bytes) => bytes,
         Err(message) => return Err(alone(message)),
     };
-    let part = part_in(rt.alloc(), voice, name, &bytes)?;
-    tell_unused(rt, voice, name, &bytes);
-    Ok(part)
+    told_part(rt, voice, name, &bytes)
 }
 
 /// The same, with the names of its blocks, each empty where a block has none.
@@ -85,8 +102,7 @@ pub(crate) fn named_part_of<'a, R: Files + Eprint + AllocGlobal>(
         Ok(bytes) => bytes,
         Err(message) => return Err(alone(message)),
     };
-    let part = part_in(rt.alloc(), voice, name, &bytes)?;
-    tell_unused(rt, voice, name, &bytes);
+    let part = told_part(rt, voice, name, &bytes)?;
     match block_names(rt.alloc(), &bytes) {
         Ok(names) => Ok((part, names)),
         Err(_) => Err(alone(Message::NoMemory)),

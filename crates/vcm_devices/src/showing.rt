@@ -176,6 +176,18 @@ fn write_page_with<R: Read, W: Write>(
     page_of(alloc, part, texts, &mut again, steps, writer)
 }
 
+// What was done of a page. Memory that is refused while a page is written is told as a failed write: where the buffer can be written all the same, it
+// was no write that failed.
+fn page_done<W: Write>(done: Result<Done, RunFault>, writer: &mut W) -> Result<Done, RunFault> {
+    match done {
+        Err(RunFault::Write { done }) => match writer.flush() {
+            Ok(()) => Err(RunFault::NoMemory),
+            Err(_) => Err(RunFault::Write { done }),
+        },
+        done => done,
+    }
+}
+
 // Writes what is shown of a run of the program or image that a reader gives.
 fn show<R: Read, W: Write>(
     alloc: Global,
@@ -191,8 +203,11 @@ fn show<R: Read, W: Write>(
         Shown::Result => run(alloc, part, reader, steps, writer),
         Shown::View(view) => view_of(alloc, view, part, reader, steps, writer),
         Shown::Sheet(titles) => write_sheet_of(alloc, titles, part, reader, steps, writer),
-        Shown::Page => write_page(alloc, part, reader, steps, writer),
-        Shown::PageWith(boxes) => write_page_with(alloc, part, boxes, reader, steps, writer),
+        Shown::Page => page_done(write_page(alloc, part, reader, steps, writer), writer),
+        Shown::PageWith(boxes) => page_done(
+            write_page_with(alloc, part, boxes, reader, steps, writer),
+            writer,
+        ),
     }
 }
 

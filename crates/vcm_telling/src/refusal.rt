@@ -90,19 +90,19 @@ fn odd_line(bytes: &[u8]) -> Option<usize> {
     }
 }
 
-// The line on which the reader of TOML stopped.
-fn stopped_line(alloc: Global, bytes: &[u8]) -> usize {
+// The line on which the reader of TOML stopped, 0 where it stopped on none.
+fn stopped_line(alloc: Global, bytes: &[u8]) -> Result<usize, NoMemory> {
     let Ok(text) = std::str::from_utf8(bytes) else {
-        return 0;
+        return Ok(0);
     };
     match toml::table_from_str(alloc, text) {
-        Ok(_) => 0,
+        Ok(_) => Ok(0),
         Err(error) => match error.span() {
             Some(span) => {
                 let front = bytes.get(..span.start).unwrap_or(bytes);
-                feeds(front).saturating_add(1)
+                Ok(feeds(front).saturating_add(1))
             }
-            None => 0,
+            None => Err(NoMemory),
         },
     }
 }
@@ -126,7 +126,7 @@ fn put_not_toml(
     }
     let line = match open_line(alloc, bytes) {
         Ok(Some(line)) => line,
-        Ok(None) => stopped_line(alloc, bytes),
+        Ok(None) => stopped_line(alloc, bytes)?,
         Err(_) => return Err(NoMemory),
     };
     if line == 0 {
@@ -440,7 +440,7 @@ fn put_table(
         return Ok(());
     };
     let Ok(table) = toml::table_from_str(alloc, document) else {
-        return Ok(());
+        return Err(NoMemory);
     };
     let Ok(places) = places_of(alloc, bytes) else {
         return Err(NoMemory);
