@@ -1,21 +1,48 @@
-//! The page of the manual and the completions for shells, which stand in `data/`: tells whether each names all commands of the command line. And the
-//! texts of the viewer: tells whether the policy of a page has the sums of its style and its script, and whether all of its bytes are ASCII.
+//! The completions for shells and the synopsis of the manual, written from the table of commands. With a file's name it prints that text (`tools/completions` puts it into
+//! `data/`); without words it tells whether the files there are as they are written, whether the manual names all commands and options, and what holds of the texts of the viewer.
 #![tactic(auto)]
 
-use base64::engine::general_purpose::STANDARD;
-use sha2::{Digest, Sha256};
+mod bash;
+mod fish;
+mod manual;
+mod viewer;
+mod writing;
+mod zsh;
+
+use crate::bash::put_bash;
+use crate::fish::put_fish;
+use crate::manual::put_synopsis;
+use crate::viewer::told_of_viewer;
+use crate::zsh::put_zsh;
 use std::alloc::Global;
 use std::fmt::Write as _;
 use std::process::ExitCode;
-use std::rt::Files;
+use std::rt::{Env, Files};
 use vcm_usage::{Choice, usages};
-use vcm_viewer::{back, front, script_parts, style_parts};
 
-/// The files.
-const FILES: [&str; 4] = ["vcm.1", "vcm.bash", "_vcm", "vcm.fish"];
+// The completions.
+const SHELLS: [&str; 3] = ["vcm.bash", "_vcm", "vcm.fish"];
 
-/// The options that several commands take, and those of the program itself; the others stand with the commands.
-const OPTIONS: [&str; 4] = ["talk", "quiet", "help", "version"];
+const MANUAL: &str = "vcm.1";
+
+// The options of the program itself; the others stand with the commands.
+const OPTIONS: [&str; 2] = ["help", "version"];
+
+// The text of a file: the completions of a shell, or the synopsis of the manual; none where it is no such file, or memory is refused.
+fn text_of(alloc: Global, name: &str) -> Option<String> {
+    let mut text = String::new(alloc);
+    let done = match name {
+        "vcm.bash" => put_bash(&mut text),
+        "_vcm" => put_zsh(&mut text),
+        "vcm.fish" => put_fish(&mut text),
+        MANUAL => put_synopsis(&mut text),
+        _ => None,
+    };
+    match done {
+        Some(()) => Some(text),
+        None => None,
+    }
+}
 
 // Whether one of the words of a text, which are parted by anything but letters, is this.
 fn names(text: &str, word: &str) -> bool {
@@ -23,94 +50,83 @@ fn names(text: &str, word: &str) -> bool {
         .any(|found| found == word)
 }
 
-// Adds those of these options that a text doesn't name.
-fn put_missing_options(
-    found: &mut String,
-    name: &str,
-    text: &str,
-    choices: &[Choice],
-) -> Option<()> {
+// Adds those of these options that the manual doesn't name.
+fn put_missing_options(found: &mut String, manual: &str, choices: &[Choice]) -> Option<()> {
     for choice in choices {
         let option = choice.spelled().name;
-        if !names(text, option) {
-            writeln!(found, "{name} lacks {option}").ok()?;
+        if !names(manual, option) {
+            writeln!(found, "{MANUAL} lacks {option}").ok()?;
         }
     }
     Some(())
 }
 
-// The words of the command line that a text doesn't name, each behind the name of its file, unless memory runs out.
-fn missing(alloc: Global, name: &str, text: &str) -> Option<String> {
-    let mut found = String::new(alloc);
+// Adds the words of the command line that the manual doesn't name.
+fn put_missing(found: &mut String, manual: &str) -> Option<()> {
     for option in OPTIONS {
-        if !names(text, option) {
-            writeln!(found, "{name} lacks {option}").ok()?;
+        if !names(manual, option) {
+            writeln!(found, "{MANUAL} lacks {option}").ok()?;
         }
     }
     for usage in usages() {
-        if !names(text, usage.name) {
+        if !names(manual, usage.name) {
             let command = usage.name;
-            writeln!(found, "{name} lacks {command}").ok()?;
+            writeln!(found, "{MANUAL} lacks {command}").ok()?;
         }
-        put_missing_options(&mut found, name, text, usage.choices)?;
+        put_missing_options(found, manual, usage.choices)?;
     }
     let count = usages().len();
-    writeln!(found, "{name} names {count} commands").ok()?;
-    Some(found)
+    writeln!(found, "{MANUAL} names {count} commands").ok()
+}
+
+// Adds what is told of the manual.
+fn put_manual<R: Files + AllocGlobal>(rt: &R, told: &mut String) -> Option<()> {
+    let manual = std::fs::read_to_string(rt, MANUAL).ok()?;
+    let synopsis = text_of(rt.alloc(), MANUAL)?;
+    put_missing(told, &manual)?;
+    let has_synopsis = manual.contains(synopsis.as_str());
+    writeln!(told, "{MANUAL} has the synopsis: {has_synopsis}").ok()
+}
+
+// Adds whether the completions of a shell are as they are written.
+fn put_shell<R: Files + AllocGlobal>(rt: &R, told: &mut String, name: &str) -> Option<()> {
+    let text = std::fs::read_to_string(rt, name).ok()?;
+    let written = text_of(rt.alloc(), name)?;
+    let is_written = text.as_str() == written.as_str();
+    writeln!(told, "{name} is as it is written: {is_written}").ok()
 }
 
 // What is told of all files, unless one can't be read or memory runs out.
 fn told<R: Files + AllocGlobal>(rt: &R) -> Option<String> {
     let mut told = String::new(rt.alloc());
-    for name in FILES {
-        let text = std::fs::read_to_string(rt, name).ok()?;
-        told.push_str(&missing(rt.alloc(), name, &text)?).ok()?;
+    put_manual(rt, &mut told)?;
+    for name in SHELLS {
+        put_shell(rt, &mut told, name)?;
     }
     told.push_str(&told_of_viewer(rt.alloc())?).ok()?;
     Some(told)
 }
 
-// The source that a policy names by the sum of a text in pieces, unless memory runs out.
-fn source_of(alloc: Global, pieces: &[&[u8]]) -> Option<String> {
-    let mut hasher = Sha256::new();
-    for piece in pieces {
-        hasher.update(*piece);
-    }
-    let sum = STANDARD.encode(alloc, &hasher.finalize()).ok()?;
-    format!(in alloc; "'sha256-{sum}'").ok()
-}
-
-// Whether all bytes of a text in pieces are ASCII.
-fn is_ascii(pieces: &[&[u8]]) -> bool {
-    pieces.iter().all(|piece| piece.is_ascii())
-}
-
-// Whether the first piece has a text.
-fn begins_with(pieces: &[&[u8]], text: &str) -> bool {
-    match pieces {
-        [first, ..] => match std::str::from_utf8(first) {
-            Ok(first) => first.contains(text),
-            Err(_) => false,
-        },
-        [] => false,
+// The file that a command line names, if it names one.
+fn asked<R: Env + AllocGlobal>(rt: &R) -> Option<String> {
+    let words: Vec<String> = std::env::args(rt).ok()?.collect(rt.alloc()).ok()?;
+    match words.as_slice() {
+        [_, name, ..] => String::from_str(rt.alloc(), name.as_str()).ok(),
+        _ => None,
     }
 }
 
-// What is told of the texts of the viewer, unless memory runs out.
-fn told_of_viewer(alloc: Global) -> Option<String> {
-    let style = source_of(alloc, &style_parts())?;
-    let script = source_of(alloc, &script_parts())?;
-    let policy = format!(in alloc; "script-src {script}; style-src {style};").ok()?;
-    let has_policy = begins_with(&front(), &policy);
-    let is_plain = is_ascii(&front()) && is_ascii(&back());
-    format!(in alloc;
-        "the policy has the sums: {has_policy}\nthe viewer is ASCII: {is_plain}\n"
-    ).ok()
+// What is printed.
+fn printed<R: Env + Files + AllocGlobal>(rt: &R) -> Option<String> {
+    match asked(rt) {
+        Some(name) => text_of(rt.alloc(), &name),
+        None => told(rt),
+    }
 }
 
 fn main(rt: HostRuntime) -> ExitCode {
-    match told(&rt) {
-        Some(told) => match print!(rt; "{told}") {
+    match printed(&rt) {
+        Some(text) => match print!(rt; "{text}") {
             Ok(()) => ExitCode::SUCCESS,
             Err(_) => ExitCode::FAILURE,
         },

@@ -32,7 +32,7 @@ impl<'a, 'm> Request<'a, 'm> {
     // The word at a place, counted from 0, among those that have to be there.
     fn word(&self, place: usize) -> &'a str {
         match self.usage.words.get(place) {
-            Some((name, _)) => self.behind.get_str(name).unwrap_or(""),
+            Some(word) => self.behind.get_str(word.name).unwrap_or(""),
             None => "",
         }
     }
@@ -102,11 +102,10 @@ pub fn steps_of(text: &str) -> Option<u64> {
 
 // A word that has to be there.
 fn required<'a>(alloc: Global, word: Word) -> Arg<'a> {
-    let (name, help) = word;
-    Arg::new(alloc, name)
+    Arg::new(alloc, word.name)
         .required(true)
         .action(ArgAction::Set)
-        .help(help)
+        .help(word.help)
 }
 
 // Any words.
@@ -137,11 +136,10 @@ fn action_of(behind: Behind) -> ArgAction {
 
 // An option.
 fn option_of<'a>(alloc: Global, spelled: Spelled) -> Arg<'a> {
-    let Spelled { name, behind, help } = spelled;
-    Arg::new(alloc, name)
-        .long(name)
-        .action(action_of(behind))
-        .help(help)
+    Arg::new(alloc, spelled.name)
+        .long(spelled.name)
+        .action(action_of(spelled.behind))
+        .help(spelled.help)
 }
 
 // The command with the words after it.

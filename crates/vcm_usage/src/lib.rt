@@ -5,22 +5,82 @@ mod options;
 
 pub use options::{Behind, Choice, Spelled};
 
-/// A word behind a command: its name, and what it is.
-pub type Word = (&'static str, &'static str);
+/// The files that a word of the command line may name, by the ends of their names.
+#[derive(Clone, Copy, PartialEq, Eq)]
+pub enum Files {
+    /// No file.
+    None,
+    /// Programs.
+    Programs,
+    /// Programs and images.
+    Inputs,
+    /// Part files and probe files.
+    Tables,
+    /// Any file.
+    Any,
+}
 
-const PROGRAM: Word = ("PROGRAM", "The measuring program, a DMIS text");
+impl Files {
+    /// The ends of their names, after the point, with blanks between them; nothing of any file, and of none.
+    pub fn ends(self) -> &'static str {
+        match self {
+            Files::None | Files::Any => "",
+            Files::Programs => "dmi dmis",
+            Files::Inputs => "dmi dmis vcmi",
+            Files::Tables => "toml",
+        }
+    }
+}
 
-const INPUT: Word = ("INPUT", "The measuring program, a DMIS text, or its image");
+/// A word after a command: its name, what it is, and which files it may be.
+#[derive(Clone, Copy)]
+pub struct Word {
+    pub name: &'static str,
+    pub help: &'static str,
+    pub files: Files,
+}
 
-const PART: Word = ("PART", "The workpiece, a TOML text");
+const PROGRAM: Word = Word {
+    name: "PROGRAM",
+    help: "The measuring program, a DMIS text",
+    files: Files::Programs,
+};
 
-const PROBE: Word = ("PROBE", "The boxes that are fixed to the tip, a TOML text");
+const INPUT: Word = Word {
+    name: "INPUT",
+    help: "The measuring program, a DMIS text, or its image",
+    files: Files::Inputs,
+};
 
-const PRODUCED: Word = ("PROGRAM", "The text of a producer, as its system writes it");
+const PART: Word = Word {
+    name: "PART",
+    help: "The workpiece, a TOML text",
+    files: Files::Tables,
+};
 
-const LISTING: Word = ("LISTING", "The listing of a code");
+const PROBE: Word = Word {
+    name: "PROBE",
+    help: "The boxes that are fixed to the tip, a TOML text",
+    files: Files::Tables,
+};
 
-const IMAGE: Word = ("IMAGE", "The file that the image is written to");
+const PRODUCED: Word = Word {
+    name: "PROGRAM",
+    help: "The text of a producer, as its system writes it",
+    files: Files::Programs,
+};
+
+const LISTING: Word = Word {
+    name: "LISTING",
+    help: "The listing of a code",
+    files: Files::Any,
+};
+
+const IMAGE: Word = Word {
+    name: "IMAGE",
+    help: "The file that the image is written to",
+    files: Files::Any,
+};
 
 /// A command of the command line.
 #[derive(Clone, Copy, PartialEq, Eq)]
@@ -47,7 +107,7 @@ pub enum Verb {
 }
 
 /// Which words a command takes besides those that all have to be there.
-#[derive(Clone, Copy)]
+#[derive(Clone, Copy, PartialEq, Eq)]
 pub enum Rest {
     Nothing,
     /// Any words.
@@ -56,11 +116,12 @@ pub enum Rest {
     Programs,
 }
 
-/// A command, its name, what it does, an example, the words after it, which all have to be there, further ones, and its options.
+/// A command, its name, what it does, in short and as a sentence, an example, the words after it, which all have to be there, further ones, and its options.
 #[derive(Clone, Copy)]
 pub struct Usage {
     pub verb: Verb,
     pub name: &'static str,
+    pub brief: &'static str,
     pub about: &'static str,
     pub example: &'static str,
     pub words: &'static [Word],
@@ -73,6 +134,7 @@ const USAGES: &[Usage] = &[
     Usage {
         verb: Verb::Check,
         name: "check",
+        brief: "tell whether a program is accepted",
         about: "Tells whether programs are accepted, and how many statements each has",
         example: "For example: vcm check square.dmi",
         words: &[],
@@ -82,6 +144,7 @@ const USAGES: &[Usage] = &[
     Usage {
         verb: Verb::Survey,
         name: "survey",
+        brief: "tell what of the text of a producer fits",
         about: "Tells of a producer's text what fits, what vcm adapt puts otherwise, and what isn't tried",
         example: "For example: vcm survey camio.dmi --tip 1000",
         words: &[PRODUCED],
@@ -97,6 +160,7 @@ const USAGES: &[Usage] = &[
     Usage {
         verb: Verb::Adapt,
         name: "adapt",
+        brief: "write the program that the text of a producer comes to",
         about: "Writes the program that a producer's text is adapted to, line by line",
         example: "For example: vcm adapt camio.dmi --tip 1000 > adapted.dmi",
         words: &[PRODUCED],
@@ -112,6 +176,7 @@ const USAGES: &[Usage] = &[
     Usage {
         verb: Verb::Build,
         name: "build",
+        brief: "write the image of a program",
         about: "Writes the image of a program",
         example: "For example: vcm build grid.dmi grid.vcmi",
         words: &[PROGRAM, IMAGE],
@@ -121,6 +186,7 @@ const USAGES: &[Usage] = &[
     Usage {
         verb: Verb::Run,
         name: "run",
+        brief: "run a program or an image beside a workpiece",
         about: "Runs a program or an image beside a workpiece, and prints the result",
         example: "For example: vcm run above.dmi part-a.toml",
         words: &[INPUT, PART],
@@ -130,6 +196,7 @@ const USAGES: &[Usage] = &[
     Usage {
         verb: Verb::Why,
         name: "why",
+        brief: "tell why a run stops where it does",
         about: "Tells why a run stops where it does: the line, its calls and loops, the way, what is met, and where it would be free",
         example: "For example: vcm why above.dmi part-a.toml",
         words: &[INPUT, PART],
@@ -139,6 +206,7 @@ const USAGES: &[Usage] = &[
     Usage {
         verb: Verb::Contacts,
         name: "contacts",
+        brief: "tell all contacts of a run in one go",
         about: "Tells all contacts of a run in one go: behind each the motion is taken as done, so what stands behind the first is a guess",
         example: "For example: vcm contacts into.dmi part-a.toml",
         words: &[INPUT, PART],
@@ -148,6 +216,7 @@ const USAGES: &[Usage] = &[
     Usage {
         verb: Verb::Trace,
         name: "trace",
+        brief: "print what each step of a run did",
         about: "Runs a program or an image beside a workpiece, and prints what each step did, a line of CSV for each",
         example: "For example: vcm trace touch.dmi part-a.toml",
         words: &[INPUT, PART],
@@ -157,6 +226,7 @@ const USAGES: &[Usage] = &[
     Usage {
         verb: Verb::Margin,
         name: "margin",
+        brief: "tell how wide the tip may be",
         about: "Tells how wide the tip of the probe may be for the run to go as it does, and what a wider one meets",
         example: "For example: vcm margin square.dmi part-a.toml",
         words: &[INPUT, PART],
@@ -166,6 +236,7 @@ const USAGES: &[Usage] = &[
     Usage {
         verb: Verb::Points,
         name: "points",
+        brief: "print the measured points",
         about: "Runs a program or an image beside a workpiece, and prints the measured points with their deviation, a line of CSV for each",
         example: "For example: vcm points grid.dmi part-a.toml",
         words: &[INPUT, PART],
@@ -175,6 +246,7 @@ const USAGES: &[Usage] = &[
     Usage {
         verb: Verb::Clearance,
         name: "clearance",
+        brief: "tell which boxes of the probe meet a block",
         about: "Tells which boxes of the probe, its shaft or head, meet a block in a run, and how much room the others have",
         example: "For example: vcm clearance square.dmi part-a.toml stylus.toml",
         words: &[INPUT, PART, PROBE],
@@ -184,6 +256,7 @@ const USAGES: &[Usage] = &[
     Usage {
         verb: Verb::Picture,
         name: "picture",
+        brief: "draw the workpiece and the way of the probe",
         about: "Runs a program or an image beside a workpiece, and draws the workpiece and the way of the probe as SVG",
         example: "For example: vcm picture square.dmi part-a.toml --close > square.svg",
         words: &[INPUT, PART],
@@ -199,6 +272,7 @@ const USAGES: &[Usage] = &[
     Usage {
         verb: Verb::View,
         name: "view",
+        brief: "write a page that shows each step",
         about: "Runs a program or an image beside a workpiece, and writes a page for a browser that shows each step",
         example: "For example: vcm view square.dmi part-a.toml > square.html",
         words: &[INPUT, PART],
@@ -208,6 +282,7 @@ const USAGES: &[Usage] = &[
     Usage {
         verb: Verb::Part,
         name: "part",
+        brief: "print a workpiece as it was read",
         about: "Prints a workpiece as it was read, and tells which keys of its file nothing uses",
         example: "For example: vcm part part-a.toml",
         words: &[PART],
@@ -217,6 +292,7 @@ const USAGES: &[Usage] = &[
     Usage {
         verb: Verb::Debug,
         name: "debug",
+        brief: "answer commands on a program or an image",
         about: "Answers the commands of standard input, a line each, on a program or an image",
         example: "For example: vcm debug lines.dmi part-a.toml",
         words: &[INPUT, PART],
@@ -226,6 +302,7 @@ const USAGES: &[Usage] = &[
     Usage {
         verb: Verb::Dap,
         name: "dap",
+        brief: "speak with an editor that debugs",
         about: "Speaks the Debug Adapter Protocol on standard input and output, for editors",
         example: "For example, as the adapter of an editor: vcm dap",
         words: &[],
@@ -235,6 +312,7 @@ const USAGES: &[Usage] = &[
     Usage {
         verb: Verb::List,
         name: "list",
+        brief: "print the listing of a program or an image",
         about: "Prints the listing of a program or an image",
         example: "For example: vcm list above.dmi",
         words: &[INPUT],
@@ -244,6 +322,7 @@ const USAGES: &[Usage] = &[
     Usage {
         verb: Verb::Asm,
         name: "asm",
+        brief: "write the image of a listing",
         about: "Writes the image of a listing",
         example: "For example: vcm asm above.lst above.vcmi",
         words: &[LISTING, IMAGE],
@@ -253,6 +332,7 @@ const USAGES: &[Usage] = &[
     Usage {
         verb: Verb::Explain,
         name: "explain",
+        brief: "tell what a code or a message means",
         about: "Tells what a code or a message means and what to do; without words, which there are",
         example: "For example: vcm explain E14",
         words: &[],

@@ -1,5 +1,7 @@
 //! The options of commands.
 
+use crate::Files;
+
 /// An option of a command.
 #[derive(Clone, Copy, PartialEq, Eq)]
 pub enum Choice {
@@ -44,28 +46,60 @@ pub enum Behind {
     Values,
 }
 
-/// An option as it is spelled and told: its name behind two dashes, what stands behind that, and what it does.
+/// An option as it is spelled and told: its name after two dashes, what stands after that, and what it does, in short and as a sentence. Its value has a name and
+/// may be one of some files; an option without a value has an empty name there.
 #[derive(Clone, Copy)]
 pub struct Spelled {
     pub name: &'static str,
     pub behind: Behind,
+    pub value: &'static str,
+    pub files: Files,
+    pub brief: &'static str,
     pub help: &'static str,
 }
 
-// One with nothing behind it.
-fn flag(name: &'static str, help: &'static str) -> Spelled {
+// One with nothing after it.
+fn flag(name: &'static str, brief: &'static str, help: &'static str) -> Spelled {
     Spelled {
         name,
         behind: Behind::Nothing,
+        value: "",
+        files: Files::None,
+        brief,
         help,
     }
 }
 
-// One with a value behind it.
-fn valued(name: &'static str, help: &'static str) -> Spelled {
+// One with a value after it that is no file.
+fn valued(
+    name: &'static str,
+    value: &'static str,
+    brief: &'static str,
+    help: &'static str,
+) -> Spelled {
     Spelled {
         name,
         behind: Behind::Value,
+        value,
+        files: Files::None,
+        brief,
+        help,
+    }
+}
+
+// One with a part file or a probe file after it.
+fn filed(
+    name: &'static str,
+    value: &'static str,
+    brief: &'static str,
+    help: &'static str,
+) -> Spelled {
+    Spelled {
+        name,
+        behind: Behind::Value,
+        value,
+        files: Files::Tables,
+        brief,
         help,
     }
 }
@@ -76,57 +110,82 @@ impl Choice {
         match self {
             Choice::Talk => flag(
                 "talk",
+                "tell more, as at a terminal",
                 "Tells on standard error what it tells at a terminal, also through a pipe",
             ),
-            Choice::Quiet => flag("quiet", "Tells no notices"),
+            Choice::Quiet => flag("quiet", "tell no notices", "Tells no notices"),
             Choice::All => flag(
                 "all",
+                "tell all faults",
                 "Tells all faults of lines and statements, with what stands there",
             ),
             Choice::Steps => valued(
                 "steps",
+                "N",
+                "the most steps",
                 "The most steps, 0 to 1000000000; 1000000 if not given",
             ),
             Choice::Show => valued(
                 "show",
+                "NAMES",
+                "show variables at the end",
                 "Variables whose values are printed at the end, with commas between them, as I,R#2",
             ),
             Choice::Close => flag(
                 "close",
+                "show the blocks large",
                 "Shows the blocks as large as they are, and of the way what lies beside them",
             ),
             Choice::Sheet => flag(
                 "sheet",
+                "draw a sheet to be filed",
                 "Draws a sheet to be filed, with millimetres, the numbers of the points, and tables",
             ),
             Choice::Stretch => valued(
                 "lines",
+                "A-B",
+                "the source lines of the way",
                 "Draws a sheet with the way of the statements on these source lines alone, as 80-115",
             ),
-            Choice::Probe => valued(
+            Choice::Probe => filed(
                 "probe",
+                "PROBE",
+                "the boxes of the probe",
                 "The boxes that are fixed to the tip, a TOML text; the page shows them, and where they meet a block",
             ),
             Choice::Tip => valued(
                 "tip",
+                "N",
+                "half the width of the tip",
                 "Half the width of the tip, in micrometres, 0 to 50000",
             ),
-            Choice::Part => valued("part", "The workpiece whose tip is taken"),
+            Choice::Part => filed(
+                "part",
+                "PART",
+                "the part file",
+                "The workpiece whose tip is taken",
+            ),
             Choice::Frame => Spelled {
                 name: "frame",
                 behind: Behind::Values,
+                value: "LABEL=X,Y,Z",
+                files: Files::None,
+                brief: "where a frame lies",
                 help: "Where the origin of a frame by datums lies in machine coordinates: LABEL=X,Y,Z, or LABEL=X,Y,Z,Z90",
             },
             Choice::Exact => flag(
                 "exact",
+                "round nothing",
                 "Rounds nothing: what has digits behind the micrometre isn't tried",
             ),
             Choice::Lines => flag(
                 "lines",
+                "a line for each statement",
                 "A line for each statement that neither fits nor has a notice",
             ),
             Choice::Touch => flag(
                 "touch",
+                "touch points one by one",
                 "Touches each point along an axis of a feature of several, in lines of its own",
             ),
         }
