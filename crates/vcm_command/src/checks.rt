@@ -5,9 +5,8 @@ use std::alloc::{AllocError, Global};
 use std::fmt::Write as _;
 use std::rt::Files;
 use vcm_devices::{Request, Voice, bytes_of, check_file, fails, print_bytes};
-use vcm_job::{CheckFault, read_all};
 use vcm_lines::SourceFault;
-use vcm_messages::{Message, Told, message_of, notice_line, status_of};
+use vcm_messages::{Message, Told, notice_line, status_of};
 use vcm_num::NoMemory;
 use vcm_program::Noticed;
 use vcm_survey::faults_of;
@@ -22,20 +21,6 @@ struct Checked<'a> {
     is_named: bool,
     is_all: bool,
     voice: Voice,
-}
-
-// The bytes of a program, or of standard input.
-fn text_of<'a, R: Files + Input + AllocGlobal>(
-    rt: &R,
-    name: &'a str,
-) -> Result<Vec<u8>, Message<'a>> {
-    if name != "-" {
-        return bytes_of(rt, name);
-    }
-    match read_all(rt.alloc(), &mut rt.reader()) {
-        Ok(bytes) => Ok(bytes),
-        Err(fault) => Err(message_of(CheckFault::from(fault), "standard input")),
-    }
 }
 
 // How many statements a program has that is accepted, and its lines that have no effect.
@@ -150,7 +135,7 @@ fn judge<R: Print + Eprint + AllocGlobal>(rt: &R, checked: Checked<'_>, text: &[
 
 // Checks a program, and gives the exit status.
 fn check_one<R: Files + Input + Print + Eprint + AllocGlobal>(rt: &R, checked: Checked<'_>) -> u8 {
-    match text_of(rt, checked.name) {
+    match bytes_of(rt, checked.name) {
         Ok(text) => judge(rt, checked, &text),
         Err(message) => tell_fault(rt, checked, message),
     }

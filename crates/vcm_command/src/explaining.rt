@@ -1,12 +1,10 @@
 //! Explanations, on the standard devices.
 
-use std::alloc::Global;
+use std::alloc::{AllocError, Global};
 use std::fmt::Write as _;
-use std::io::Write;
-use vcm_devices::{fails, fails_unless_closed, output, written};
+use vcm_devices::{fails, fails_unless_closed, print_bytes};
 use vcm_explain::{Entry, explanation, explanations};
 use vcm_messages::Message;
-use vcm_num::write_all;
 use vcm_standard::{WordClass, class_of};
 
 // Appends the titles of explanations, a line each.
@@ -28,29 +26,11 @@ fn titles(alloc: Global) -> Result<String, Message<'static>> {
     Ok(text)
 }
 
-// Prints a text and what stands behind it on standard output, both or, where memory is refused, nothing.
-fn print_text<R: Print + AllocGlobal>(
-    rt: &R,
-    text: &str,
-    behind: &str,
-) -> Result<(), Message<'static>> {
-    let mut out = output(rt)?;
-    let done = match write_all(&mut out, text.as_bytes()) {
-        Ok(()) => write_all(&mut out, behind.as_bytes()),
-        Err(fault) => Err(fault),
-    };
-    let done = done.map_err(|_| Message::Write {
-        name: "standard output",
-    });
-    written(&mut out, done)
-}
-
-// Tells on standard error that nothing is known of these words, and of what something is.
-fn tell_unknown<R: Eprint + AllocGlobal>(rt: &R, words: &str) -> Result<u8, Message<'static>> {
-    let titles = titles(rt.alloc())?;
+// Tells on standard error that nothing is known of these words, and what tells of which something is.
+fn tell_unknown<R: Eprint>(rt: &R, words: &str) -> u8 {
     let status = fails(rt, Message::Unknown { words });
-    let _ = eprint!(rt; "{titles}");
-    Ok(status)
+    let _ = eprintln!(rt; "vcm explain alone prints what is known");
+    status
 }
 
 // What becomes of the statements of a word of the standard, if it is one that is known here.
@@ -66,63 +46,74 @@ fn standard_text(word: &str) -> Option<(&'static str, &'static str)> {
     }
 }
 
-// Prints what words mean: codes and messages, or a word of the standard.
-fn explain_words<R: Print + Eprint + AllocGlobal>(
-    rt: &R,
-    words: &str,
-) -> Result<u8, Message<'static>> {
+// Appends what words mean, codes and messages or a word of the standard, and says whether something is known of them.
+fn put_meaning(alloc: Global, text: &mut String, words: &str) -> Result<bool, AllocError> {
     if let Some(entry) = explanation(words) {
-        print_text(rt, entry.text(), "\n")?;
-        return Ok(0);
+        writeln!(text, "{}", entry.text())?;
+        return Ok(true);
     }
-    let Some((what, why)) = standard_text(words) else {
-        return tell_unknown(rt, words);
-    };
-    let Ok(text) = format!(in rt.alloc(); "{words}: vcm adapt {what}: {why}") else {
-        return Err(Message::NoMemory);
-    };
-    print_text(rt, &text, "\n")?;
+    let word = words.to_ascii_uppercase(alloc)?;
+    match standard_text(&word) {
+        Some((what, why)) => {
+            writeln!(text, "{word}: vcm adapt {what}: {why}")?;
+            Ok(true)
+        }
+        None => Ok(false),
+    }
+}
+
+// What several words mean, an empty line between them, if something is known of each of them.
+fn meanings(alloc: Global, words: &[String]) -> Result<Option<String>, AllocError> {
+    let mut text = String::new(alloc);
+    for word in words {
+        if !text.is_empty() {
+            text.push_str("\n")?;
+        }
+        if !put_meaning(alloc, &mut text, word)? {
+            return Ok(None);
+        }
+    }
+    Ok(Some(text))
+}
+
+// Prints a text whole, and gives the exit status.
+fn tell_text<R: Print + AllocGlobal>(rt: &R, text: &str) -> Result<u8, Message<'static>> {
+    print_bytes(rt, text.as_bytes())?;
     Ok(0)
 }
 
-// Whether each of several words has an explanation of its own.
-fn are_apart(words: &[String]) -> bool {
-    words.len() > 1
-        && words.iter().all(|word| explanation(word).is_some() || standard_text(word).is_some())
-}
-
-// Prints what words mean one by one, an empty line between them.
-fn explain_each<R: Print + Eprint + AllocGlobal>(
+// Prints what words mean that are one message.
+fn explain_message<R: Print + Eprint + AllocGlobal>(
     rt: &R,
     words: &[String],
 ) -> Result<u8, Message<'static>> {
-    let mut is_first = true;
-    for word in words {
-        if !is_first {
-            print_text(rt, "\n", "")?;
-        }
-        is_first = false;
-        explain_words(rt, word)?;
+    let Ok(words) = words.join(rt.alloc(), " ") else {
+        return Err(Message::NoMemory);
+    };
+    let mut text = String::new(rt.alloc());
+    match put_meaning(rt.alloc(), &mut text, &words) {
+        Ok(true) => tell_text(rt, &text),
+        Ok(false) => Ok(tell_unknown(rt, &words)),
+        Err(_) => Err(Message::NoMemory),
     }
-    Ok(0)
 }
 
-// Prints what words mean, or where there are none, of what something is known.
+// Prints what words mean, or where there are none, of what something is known. Several words are explained one by one where each has a meaning of its own.
 fn explained<R: Print + Eprint + AllocGlobal>(
     rt: &R,
     words: &[String],
 ) -> Result<u8, Message<'static>> {
     if words.is_empty() {
-        print_text(rt, &titles(rt.alloc())?, "")?;
-        return Ok(0);
+        return tell_text(rt, &titles(rt.alloc())?);
     }
-    if are_apart(words) {
-        return explain_each(rt, words);
+    if words.len() > 1 {
+        match meanings(rt.alloc(), words) {
+            Ok(Some(text)) => return tell_text(rt, &text),
+            Ok(None) => {}
+            Err(_) => return Err(Message::NoMemory),
+        }
     }
-    let Ok(words) = words.join(rt.alloc(), " ") else {
-        return Err(Message::NoMemory);
-    };
-    explain_words(rt, &words)
+    explain_message(rt, words)
 }
 
 /// Prints what a code or a message means, and gives the exit status: 0, or 2 where nothing is known of it.

@@ -3,10 +3,12 @@
 use crate::telling::tell_bytes;
 use std::alloc::Global;
 use std::rt::Files;
-use vcm_devices::{Request, bytes_of, fails, fails_unless_closed, print_bytes};
-use vcm_launch::part_of;
+use vcm_devices::{
+    Request, Told, Voice, alone, bytes_of, fails, fails_twice, fails_unless_closed, part_of,
+    print_bytes,
+};
 use vcm_lines::SourceFault;
-use vcm_messages::{Message, Told};
+use vcm_messages::{Message, Told as _};
 use vcm_num::NoMemory;
 use vcm_survey::{Adaptation, Findings, GivenFrame, Options, Shape, adapt, survey};
 use vcm_tree::accept;
@@ -64,29 +66,34 @@ fn frames_of(alloc: Global, given: &[&str]) -> Result<Option<Vec<GivenFrame>>, N
 }
 
 // Half the width of the tip, which the command line gives or the part file.
-fn half_width<'a, R: Files + AllocGlobal>(
+fn half_width<'a, R: Files + Input + Eprint + AllocGlobal>(
     rt: &R,
+    voice: Voice,
     request: &Request<'a, '_>,
-) -> Result<i64, Message<'a>> {
+) -> Result<i64, Told<'a>> {
     match (request.value(Choice::Tip), request.value(Choice::Part)) {
         (None, None) => Ok(0),
-        (Some(tip), None) => tip_of(tip).ok_or(TIP),
+        (Some(tip), None) => match tip_of(tip) {
+            Some(tip) => Ok(tip),
+            None => Err(alone(TIP)),
+        },
         (None, Some(name)) => {
-            let part = part_of(rt, name)?;
+            let part = part_of(rt, voice, name)?;
             let tip = i64::from(part.bounds().tip);
             drop(part);
             Ok(tip)
         }
-        (Some(_), Some(_)) => Err(TIP),
+        (Some(_), Some(_)) => Err(alone(TIP)),
     }
 }
 
 // What the command line says of the machine and the part.
-fn options_of<'a, R: Files + AllocGlobal>(
+fn options_of<'a, R: Files + Input + Eprint + AllocGlobal>(
     rt: &R,
+    voice: Voice,
     request: &Request<'a, '_>,
-) -> Result<Options, Message<'a>> {
-    let tip = half_width(rt, request)?;
+) -> Result<Options, Told<'a>> {
+    let tip = half_width(rt, voice, request)?;
     match frames_of(rt.alloc(), request.values(Choice::Frame)) {
         Ok(Some(frames)) => Ok(Options {
             tip,
@@ -94,8 +101,8 @@ fn options_of<'a, R: Files + AllocGlobal>(
             is_exact: request.has(Choice::Exact),
             is_touch: request.has(Choice::Touch),
         }),
-        Ok(None) => Err(FRAME),
-        Err(_) => Err(Message::NoMemory),
+        Ok(None) => Err(alone(FRAME)),
+        Err(_) => Err(alone(Message::NoMemory)),
     }
 }
 
@@ -183,28 +190,28 @@ fn adapt_text<R: Print + Eprint + AllocGlobal>(
 }
 
 // Surveys a file, and gives the exit status.
-fn survey_named<'a, R: Files + Print + Eprint + AllocGlobal>(
+fn survey_with<'a, R: Files + Input + Print + Eprint + AllocGlobal>(
     rt: &R,
     request: &Request<'a, '_>,
+    options: &Options,
 ) -> Result<u8, Message<'a>> {
-    let options = options_of(rt, request)?;
     let text = bytes_of(rt, request.input())?;
     let shape = if request.has(Choice::Lines) {
         Shape::Lines
     } else {
         Shape::Groups
     };
-    survey_text(rt, request.input(), &text, &options, shape)
+    survey_text(rt, request.input(), &text, options, shape)
 }
 
 // Adapts a file, and gives the exit status.
-fn adapt_named<'a, R: Files + Print + Eprint + AllocGlobal>(
+fn adapt_with<'a, R: Files + Input + Print + Eprint + AllocGlobal>(
     rt: &R,
     request: &Request<'a, '_>,
+    options: &Options,
 ) -> Result<u8, Message<'a>> {
-    let options = options_of(rt, request)?;
     let text = bytes_of(rt, request.input())?;
-    adapt_text(rt, &text, &options)
+    adapt_text(rt, &text, options)
 }
 
 // The exit status of what was done, or told why it wasn't.
@@ -217,17 +224,25 @@ fn status_told<R: Eprint>(rt: &R, done: Result<u8, Message<'_>>) -> u8 {
 
 /// Prints what becomes of each statement of a producer's text, and gives the exit status: 0 where all of it is tried and accepted, 1 where not, 2 for a wrong
 /// option, 5 and 6 for want of memory and a device.
-pub(crate) fn survey_file<R: Files + Print + Eprint + AllocGlobal>(
+pub(crate) fn survey_file<R: Files + Input + Print + Eprint + AllocGlobal>(
     rt: &R,
+    voice: Voice,
     request: &Request<'_, '_>,
 ) -> u8 {
-    status_told(rt, survey_named(rt, request))
+    match options_of(rt, voice, request) {
+        Ok(options) => status_told(rt, survey_with(rt, request, &options)),
+        Err(told) => fails_twice(rt, &told),
+    }
 }
 
 /// Prints the program that a producer's text is adapted to, and gives the exit status, as of a survey.
-pub(crate) fn adapt_file<R: Files + Print + Eprint + AllocGlobal>(
+pub(crate) fn adapt_file<R: Files + Input + Print + Eprint + AllocGlobal>(
     rt: &R,
+    voice: Voice,
     request: &Request<'_, '_>,
 ) -> u8 {
-    status_told(rt, adapt_named(rt, request))
+    match options_of(rt, voice, request) {
+        Ok(options) => status_told(rt, adapt_with(rt, request, &options)),
+        Err(told) => fails_twice(rt, &told),
+    }
 }

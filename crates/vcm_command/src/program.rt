@@ -58,6 +58,20 @@ fn words_to_explain(words: &[String]) -> Option<&[String]> {
     }
 }
 
+// How much is told of a job where `--talk` stands: as much as at a terminal.
+const AS_AT_TERMINAL: Terminals = Terminals {
+    input: false,
+    errors: true,
+};
+
+// Whether the command line is `--talk` alone, which asks for a job.
+fn talks_alone(words: &[String]) -> bool {
+    match words {
+        [_, word] => word.as_str() == "--talk",
+        _ => false,
+    }
+}
+
 // Carries out a command, and gives the exit status.
 fn carry_out<R: Files + Input + Print + Eprint + AllocGlobal>(
     rt: &R,
@@ -66,8 +80,8 @@ fn carry_out<R: Files + Input + Print + Eprint + AllocGlobal>(
 ) -> u8 {
     match request.verb() {
         Verb::Check => check_programs(rt, voice, request),
-        Verb::Survey => survey_file(rt, request),
-        Verb::Adapt => adapt_file(rt, request),
+        Verb::Survey => survey_file(rt, voice, request),
+        Verb::Adapt => adapt_file(rt, voice, request),
         Verb::Build => build_file(rt, voice, request),
         Verb::Run => show_result(rt, voice, request),
         Verb::Why => show_run(rt, voice, Shown::Why, request),
@@ -88,6 +102,31 @@ fn carry_out<R: Files + Input + Print + Eprint + AllocGlobal>(
     }
 }
 
+const DASHES: Message<'static> = Message::Option {
+    words: "- stands for standard input once, and where no commands are read from it",
+};
+
+// How often `-` may stand for standard input: the debugger and the debug adapter read their commands from it.
+fn dashes_allowed(verb: Verb) -> usize {
+    match verb {
+        Verb::Debug | Verb::Dap => 0,
+        _ => 1,
+    }
+}
+
+// Carries out a command whose words may name standard input so often.
+fn carry_out_once<R: Files + Input + Print + Eprint + AllocGlobal>(
+    rt: &R,
+    voice: Voice,
+    request: &Request<'_, '_>,
+) -> u8 {
+    if request.dashes() > dashes_allowed(request.verb()) {
+        fails(rt, DASHES)
+    } else {
+        carry_out(rt, voice, request)
+    }
+}
+
 // Reads the command line, carries it out, and gives the exit status.
 fn status_of<R: Files + Input + Print + Eprint + AllocGlobal>(
     rt: &R,
@@ -99,7 +138,7 @@ fn status_of<R: Files + Input + Print + Eprint + AllocGlobal>(
         Err(error) => return tell_usage(rt, &error),
     };
     match Request::of(&matches) {
-        Some(request) => carry_out(rt, voice_of(&request, terminals), &request),
+        Some(request) => carry_out_once(rt, voice_of(&request, terminals), &request),
         None => run_job(rt, terminals),
     }
 }
@@ -114,8 +153,9 @@ pub fn status<R: Env + Files + Input + Print + Eprint + AllocGlobal>(
         Ok(words) => words,
         Err(message) => return fails(rt, message),
     };
-    match words_to_explain(&words) {
-        Some(words) => explain(rt, words),
-        None => status_of(rt, terminals, &words),
+    match (words_to_explain(&words), talks_alone(&words)) {
+        (Some(words), _) => explain(rt, words),
+        (None, true) => run_job(rt, AS_AT_TERMINAL),
+        (None, false) => status_of(rt, terminals, &words),
     }
 }

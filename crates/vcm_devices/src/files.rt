@@ -1,6 +1,6 @@
 //! What is made of one file alone: whether its program is accepted, its listing, its image.
 
-use crate::printing::{fails, output, status_of_notices, written};
+use crate::printing::{DASH, STANDARD_INPUT, fails, output, status_of_notices, written};
 use crate::request::Request;
 use crate::talking::{Voice, tell_notices};
 use std::alloc::Global;
@@ -48,19 +48,44 @@ fn print_file<'a, R: Files + Print + AllocGlobal>(
     written(&mut out, done)
 }
 
+// The same of standard input.
+fn print_standard<R: Input + Print + AllocGlobal>(
+    rt: &R,
+    printed: Printed,
+) -> Result<Vec<Noticed>, Message<'static>> {
+    let mut out = output(rt)?;
+    let done = print_input(
+        rt.alloc(),
+        printed,
+        STANDARD_INPUT,
+        &mut rt.reader(),
+        &mut out,
+    );
+    written(&mut out, done)
+}
+
 /// Prints whether the program of a file is accepted, and gives the exit status.
 pub fn check_file<R: Files + Print + Eprint + AllocGlobal>(rt: &R, voice: Voice, name: &str) -> u8 {
     status_of_notices(rt, voice, print_file(rt, Printed::Check, name))
 }
 
 /// Prints the listing of a file's program or image, and gives the exit status.
-pub fn list_file<R: Files + Print + Eprint + AllocGlobal>(
+pub fn list_file<R: Files + Input + Print + Eprint + AllocGlobal>(
     rt: &R,
     voice: Voice,
     request: &Request<'_, '_>,
 ) -> u8 {
-    status_of_notices(rt, voice, print_file(rt, Printed::List, request.input()))
+    let done = if request.input() == DASH {
+        print_standard(rt, Printed::List)
+    } else {
+        print_file(rt, Printed::List, request.input())
+    };
+    status_of_notices(rt, voice, done)
 }
+
+const ONE_FILE: Message<'static> = Message::Option {
+    words: "the image can't be written to the file that is read",
+};
 
 // Writes an image to a file, tells the lines that have no effect, and gives the exit status. Where the write fails, a part of the image stands
 // in the file, which is none. The file is let go before anything is told: where standard error is closed, the file may have its number.
@@ -85,42 +110,73 @@ fn write_image<R: Files + Eprint + AllocGlobal>(
     }
 }
 
-/// Writes the image of a file's program to another file, and gives the exit status.
-pub fn build_file<R: Files + Eprint + AllocGlobal>(
+// Whether the image would be written over what is read.
+fn is_one_file(request: &Request<'_, '_>) -> bool {
+    request.input() != DASH && request.input() == request.image()
+}
+
+// Writes the image of the program that a reader of this name gives, and gives the exit status.
+fn build_input<R: Files + Eprint + AllocGlobal, I: Read>(
     rt: &R,
     voice: Voice,
-    request: &Request<'_, '_>,
+    input: &mut I,
+    name: &str,
+    image: &str,
 ) -> u8 {
-    let name = request.input();
-    let Ok(mut file) = std::fs::open(rt, name) else {
-        return fails(rt, Message::Read { name });
-    };
-    match build(rt.alloc(), &mut file) {
-        Ok(built) => {
-            write_image(
-                rt,
-                voice,
-                request.image(),
-                &built.image,
-                built.notices.as_slice(),
-            )
-        }
+    match build(rt.alloc(), input) {
+        Ok(built) => write_image(rt, voice, image, &built.image, built.notices.as_slice()),
         Err(fault) => fails(rt, message_of(fault, name)),
     }
 }
 
-/// Writes the image of a file's listing to another file, and gives the exit status.
-pub fn asm_file<R: Files + Eprint + AllocGlobal>(
+/// Writes the image of a file's program to another file, and gives the exit status. Nothing is read or written where both have one name.
+pub fn build_file<R: Files + Input + Eprint + AllocGlobal>(
     rt: &R,
     voice: Voice,
     request: &Request<'_, '_>,
 ) -> u8 {
     let name = request.input();
-    let Ok(mut file) = std::fs::open(rt, name) else {
-        return fails(rt, Message::Read { name });
-    };
-    match asm(rt.alloc(), &mut file) {
-        Ok(bytes) => write_image(rt, voice, request.image(), &bytes, &[]),
+    if name == DASH {
+        return build_input(rt, voice, &mut rt.reader(), STANDARD_INPUT, request.image());
+    }
+    if name == request.image() {
+        return fails(rt, ONE_FILE);
+    }
+    match std::fs::open(rt, name) {
+        Ok(mut file) => build_input(rt, voice, &mut file, name, request.image()),
+        Err(_) => fails(rt, Message::Read { name }),
+    }
+}
+
+// Writes the image of the listing that a reader of this name gives, and gives the exit status.
+fn asm_input<R: Files + Eprint + AllocGlobal, I: Read>(
+    rt: &R,
+    voice: Voice,
+    input: &mut I,
+    name: &str,
+    image: &str,
+) -> u8 {
+    match asm(rt.alloc(), input) {
+        Ok(bytes) => write_image(rt, voice, image, &bytes, &[]),
         Err(fault) => fails(rt, message_of(fault, name)),
+    }
+}
+
+/// Writes the image of a file's listing to another file, and gives the exit status. Nothing is read or written where both have one name.
+pub fn asm_file<R: Files + Input + Eprint + AllocGlobal>(
+    rt: &R,
+    voice: Voice,
+    request: &Request<'_, '_>,
+) -> u8 {
+    let name = request.input();
+    if name == DASH {
+        return asm_input(rt, voice, &mut rt.reader(), STANDARD_INPUT, request.image());
+    }
+    if name == request.image() {
+        return fails(rt, ONE_FILE);
+    }
+    match std::fs::open(rt, name) {
+        Ok(mut file) => asm_input(rt, voice, &mut file, name, request.image()),
+        Err(_) => fails(rt, Message::Read { name }),
     }
 }

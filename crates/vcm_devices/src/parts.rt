@@ -80,7 +80,7 @@ fn told_part<'a, R: Eprint + AllocGlobal>(
 }
 
 /// The workpiece of a file, whose keys that nothing uses are told, or why it isn't read.
-pub(crate) fn part_of<'a, R: Files + Eprint + AllocGlobal>(
+pub fn part_of<'a, R: Files + Input + Eprint + AllocGlobal>(
     rt: &R,
     voice: Voice,
     name: &'a str,
@@ -93,7 +93,7 @@ pub(crate) fn part_of<'a, R: Files + Eprint + AllocGlobal>(
 }
 
 /// The same, with the names of its blocks, each empty where a block has none.
-pub(crate) fn named_part_of<'a, R: Files + Eprint + AllocGlobal>(
+pub(crate) fn named_part_of<'a, R: Files + Input + Eprint + AllocGlobal>(
     rt: &R,
     voice: Voice,
     name: &'a str,
@@ -142,7 +142,7 @@ fn show_bytes<R: Print + Eprint + AllocGlobal>(
 }
 
 /// Prints the workpiece of a file as it was read, tells the keys that nothing uses, and gives the exit status.
-pub fn show_part<R: Files + Print + Eprint + AllocGlobal>(
+pub fn show_part<R: Files + Input + Print + Eprint + AllocGlobal>(
     rt: &R,
     voice: Voice,
     request: &Request<'_, '_>,

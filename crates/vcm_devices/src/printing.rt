@@ -1,7 +1,8 @@
 //! What is read from files, printed on standard output and told on standard error.
 
 use crate::talking::{Voice, tell_notices};
-use std::io::{self, BufWriter, Printer, Write};
+use std::alloc::Global;
+use std::io::{self, BufWriter, ErrorKind, Printer, Read, Write};
 use std::rt::Files;
 use vcm_job::{CheckFault, Done, read_all};
 use vcm_messages::{Message, message_of, status_of};
@@ -17,27 +18,82 @@ pub fn fails<R: Eprint>(rt: &R, message: Message<'_>) -> u8 {
 // How many bytes of standard output are held back.
 const BUFFER: usize = 65_536;
 
+/// Standard output, which keeps in mind whether it is a pipe that nobody reads any more.
+#[derive(Drop)]
+pub struct Outlet<'a, R: Print> {
+    printer: Printer<'a, R>,
+    is_closed: bool,
+}
+
+impl<R: Print> Outlet<'_, R> {
+    // Keeps in mind what a fault says.
+    fn note(&mut self, error: &io::Error) {
+        if error.kind() == ErrorKind::BrokenPipe {
+            self.is_closed = true;
+        }
+    }
+}
+
+impl<R: Print> Write for Outlet<'_, R> {
+    fn write(&mut self, buf: &[u8]) -> io::Result<usize> {
+        match self.printer.write(buf) {
+            Ok(count) => Ok(count),
+            Err(error) => {
+                self.note(&error);
+                Err(error)
+            }
+        }
+    }
+
+    fn flush(&mut self) -> io::Result<()> {
+        self.printer.flush()
+    }
+}
+
+/// Standard output through a buffer.
+pub type Output<'a, R> = BufWriter<Outlet<'a, R>>;
+
 /// Standard output, through a buffer.
 ///
 /// Errors: want of memory.
-pub fn output<R: Print + AllocGlobal>(
-    rt: &R,
-) -> Result<BufWriter<Printer<'_, R>>, Message<'static>> {
-    BufWriter::with_capacity(rt.alloc(), BUFFER, io::writer(rt)).map_err(|_| Message::NoMemory)
+pub fn output<R: Print + AllocGlobal>(rt: &R) -> Result<Output<'_, R>, Message<'static>> {
+    let outlet = Outlet {
+        printer: io::writer(rt),
+        is_closed: false,
+    };
+    BufWriter::with_capacity(rt.alloc(), BUFFER, outlet).map_err(|_| Message::NoMemory)
+}
+
+// How it is told that standard output could not be written.
+fn unwritten<R: Print>(out: &Output<'_, R>) -> Message<'static> {
+    if out.get_ref().is_closed {
+        Message::Closed
+    } else {
+        Message::Write {
+            name: "standard output",
+        }
+    }
 }
 
 /// What was done. The buffer is written before it is told, after a fault too; where only that fails, it is the fault.
-pub fn written<'a, T: Drop, W: Write>(
-    out: &mut W,
+///
+/// Errors: the fault of what was done; or how it is told that standard output could not be written.
+pub fn written<'a, T: Drop, R: Print>(
+    out: &mut Output<'_, R>,
     done: Result<T, Message<'a>>,
 ) -> Result<T, Message<'a>> {
     let flushed = out.flush();
-    let done = done?;
-    match flushed {
-        Ok(()) => Ok(done),
-        Err(_) => Err(Message::Write {
-            name: "standard output",
-        }),
+    match done {
+        Ok(done) => match flushed {
+            Ok(()) => Ok(done),
+            Err(_) => Err(unwritten(out)),
+        },
+        Err(
+            Message::Write {
+                name: "standard output",
+            },
+        ) => Err(unwritten(out)),
+        Err(message) => Err(message),
     }
 }
 
@@ -52,14 +108,35 @@ pub fn print_bytes<R: Print + AllocGlobal>(rt: &R, bytes: &[u8]) -> Result<(), M
     written(&mut out, done)
 }
 
-/// The bytes of a file.
+/// The word that stands for standard input.
+pub const DASH: &str = "-";
+
+/// How standard input is named in what is told.
+pub const STANDARD_INPUT: &str = "standard input";
+
+/// The bytes of a file, or of standard input, for which `-` stands.
 ///
 /// Errors: how it is told that it could not be read, that it is too long, or that memory is refused.
-pub fn bytes_of<'a, R: Files + AllocGlobal>(rt: &R, name: &'a str) -> Result<Vec<u8>, Message<'a>> {
-    let Ok(mut file) = std::fs::open(rt, name) else {
-        return Err(Message::Read { name });
-    };
-    match read_all(rt.alloc(), &mut file) {
+pub fn bytes_of<'a, R: Files + Input + AllocGlobal>(
+    rt: &R,
+    name: &'a str,
+) -> Result<Vec<u8>, Message<'a>> {
+    if name == DASH {
+        return read_bytes(rt.alloc(), &mut rt.reader(), STANDARD_INPUT);
+    }
+    match std::fs::open(rt, name) {
+        Ok(mut file) => read_bytes(rt.alloc(), &mut file, name),
+        Err(_) => Err(Message::Read { name }),
+    }
+}
+
+// The bytes that a reader of this name gives.
+fn read_bytes<'a, I: Read>(
+    alloc: Global,
+    reader: &mut I,
+    name: &'a str,
+) -> Result<Vec<u8>, Message<'a>> {
+    match read_all(alloc, reader) {
         Ok(bytes) => Ok(bytes),
         Err(fault) => Err(message_of(CheckFault::from(fault), name)),
     }

@@ -1,8 +1,9 @@
 //! The command line, read once: which command it is, the words after it and its options.
 
+use crate::printing::DASH;
 use clap::{Arg, ArgAction, ArgMatches, Command, Error};
 use std::alloc::Global;
-use vcm_usage::{Behind, Choice, Rest, Spelled, Usage, Verb, Word, usage_of, usages};
+use vcm_usage::{Behind, Choice, Files, Rest, Spelled, Usage, Verb, Word, usage_of, usages};
 
 /// What a command line asks for: a command with its words and options, as they are written. Nothing of them is judged yet.
 #[derive(Clone, Copy)]
@@ -77,6 +78,35 @@ impl<'a, 'm> Request<'a, 'm> {
         self.usage.takes(choice) && self.behind.get_flag(choice.spelled().name)
     }
 
+    // Whether the word at a place is one that is read; the others name what is written.
+    fn is_read(&self, place: usize) -> bool {
+        match self.usage.words.get(place) {
+            Some(word) => word.name != "IMAGE",
+            None => false,
+        }
+    }
+
+    /// How often `-` stands for standard input among what is read.
+    pub fn dashes(&self) -> usize {
+        let mut count: usize = 0;
+        for place in 0..self.usage.words.len() {
+            if self.is_read(place) && self.word(place) == DASH {
+                count = count.saturating_add(1);
+            }
+        }
+        for name in self.programs() {
+            if *name == DASH && self.usage.rest == Rest::Programs {
+                count = count.saturating_add(1);
+            }
+        }
+        for choice in self.usage.choices {
+            if choice.spelled().files != Files::None && self.value(*choice) == Some(DASH) {
+                count = count.saturating_add(1);
+            }
+        }
+        count
+    }
+
     /// The most steps of a run; none where they are no decimal digits, or more than 1,000,000,000.
     pub fn steps(&self) -> Option<u64> {
         steps_of(self.value(Choice::Steps).unwrap_or(STEPS))
@@ -121,7 +151,7 @@ fn programs<'a>(alloc: Global) -> Arg<'a> {
     Arg::new(alloc, "PROGRAM")
         .required(true)
         .num_args(1..)
-        .action(ArgAction::Set)
+        .action(ArgAction::Append)
         .help("The measuring programs, DMIS texts; `-` is standard input")
 }
 

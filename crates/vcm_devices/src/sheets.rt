@@ -55,7 +55,7 @@ fn base_name(path: &str) -> &[u8] {
 }
 
 // Prints the sheet of a run, and gives the exit status. The steps are judged first, then the lines, then the workpiece.
-fn show_sheet<R: Files + Print + Eprint + AllocGlobal>(
+fn show_sheet<R: Files + Input + Print + Eprint + AllocGlobal>(
     rt: &R,
     voice: Voice,
     request: &Request<'_, '_>,
@@ -88,7 +88,7 @@ fn show_sheet<R: Files + Print + Eprint + AllocGlobal>(
 }
 
 /// Prints the picture of a run, and gives the exit status. `--sheet` makes it a sheet, and so does `--lines`.
-pub fn show_picture<R: Files + Print + Eprint + AllocGlobal>(
+pub fn show_picture<R: Files + Input + Print + Eprint + AllocGlobal>(
     rt: &R,
     voice: Voice,
     request: &Request<'_, '_>,

@@ -1,7 +1,7 @@
 //! What is shown of a run: its result, its views and its page, on the standard devices.
 
 use crate::parts::part_of;
-use crate::printing::{fails, output, status_after, written};
+use crate::printing::{DASH, STANDARD_INPUT, fails, output, status_after, written};
 use crate::request::Request;
 use crate::talking::{Told, Voice, alone, fails_in, fails_in_view, fails_twice};
 use std::alloc::{AllocError, Global};
@@ -42,17 +42,25 @@ pub enum Shown<'a> {
 }
 
 // The boxes of a file.
-fn boxes_of<R: Files + AllocGlobal>(rt: &R, name: &str) -> Result<Boxes, Unread> {
-    let Ok(mut file) = std::fs::open(rt, name) else {
-        return Err(Unread::Device);
-    };
-    let bytes = match read_all(rt.alloc(), &mut file) {
+fn boxes_of<R: Files + Input + AllocGlobal>(rt: &R, name: &str) -> Result<Boxes, Unread> {
+    if name == DASH {
+        return boxes_in(rt.alloc(), &mut rt.reader());
+    }
+    match std::fs::open(rt, name) {
+        Ok(mut file) => boxes_in(rt.alloc(), &mut file),
+        Err(_) => Err(Unread::Device),
+    }
+}
+
+// The boxes that a reader gives.
+fn boxes_in<I: Read>(alloc: Global, reader: &mut I) -> Result<Boxes, Unread> {
+    let bytes = match read_all(alloc, reader) {
         Ok(bytes) => bytes,
         Err(ReadFault::NoMemory) => return Err(Unread::Refused(BoxesFault::NoMemory)),
         Err(ReadFault::Device) => return Err(Unread::Device),
         Err(ReadFault::TooLong) => return Err(Unread::TooLong),
     };
-    match read_boxes(rt.alloc(), &bytes) {
+    match read_boxes(alloc, &bytes) {
         Ok(boxes) => Ok(boxes),
         Err(fault) => Err(Unread::Refused(fault)),
     }
@@ -211,14 +219,32 @@ fn show<R: Read, W: Write>(
     }
 }
 
-// Prints what is shown of a run of the program or image of a file.
-fn show_file<'a, R: Files + Print + AllocGlobal>(
+// Prints what is shown of a run of the program or image of standard input.
+fn show_standard<R: Input + Print + AllocGlobal>(
+    rt: &R,
+    shown: Shown<'_>,
+    part: &PartData,
+    steps: u64,
+) -> Result<Done, Message<'static>> {
+    let mut out = output(rt)?;
+    let done = show(rt.alloc(), shown, part, &mut rt.reader(), steps, &mut out);
+    written(
+        &mut out,
+        done.map_err(|fault| message_of(fault, STANDARD_INPUT)),
+    )
+}
+
+// Prints what is shown of a run of the program or image of a file, or of standard input.
+fn show_file<'a, R: Files + Input + Print + AllocGlobal>(
     rt: &R,
     shown: Shown<'_>,
     part: &PartData,
     input: &'a str,
     steps: u64,
 ) -> Result<Done, Message<'a>> {
+    if input == DASH {
+        return show_standard(rt, shown, part, steps);
+    }
     let Ok(mut file) = std::fs::open(rt, input) else {
         return Err(Message::Read { name: input });
     };
@@ -228,7 +254,7 @@ fn show_file<'a, R: Files + Print + AllocGlobal>(
 }
 
 /// The number of steps and the workpiece of a run, judged in this order.
-pub(crate) fn given_of<'a, R: Files + Eprint + AllocGlobal>(
+pub(crate) fn given_of<'a, R: Files + Input + Eprint + AllocGlobal>(
     rt: &R,
     voice: Voice,
     request: &Request<'a, '_>,
@@ -243,7 +269,7 @@ pub(crate) fn given_of<'a, R: Files + Eprint + AllocGlobal>(
 }
 
 // Tells why nothing is shown, and gives the exit status. A result was always told so; of another view it isn't told that nobody reads it.
-fn fails_to_show<R: Print + Eprint>(
+fn fails_to_show<R: Eprint>(
     rt: &R,
     voice: Voice,
     shown: Shown<'_>,
@@ -257,7 +283,7 @@ fn fails_to_show<R: Print + Eprint>(
 }
 
 /// Prints what is shown of a run beside a workpiece, and gives the exit status.
-pub(crate) fn show_beside<R: Files + Print + Eprint + AllocGlobal>(
+pub(crate) fn show_beside<R: Files + Input + Print + Eprint + AllocGlobal>(
     rt: &R,
     voice: Voice,
     shown: Shown<'_>,
@@ -272,7 +298,7 @@ pub(crate) fn show_beside<R: Files + Print + Eprint + AllocGlobal>(
 }
 
 /// Prints what is shown of a run, and gives the exit status.
-pub fn show_run<R: Files + Print + Eprint + AllocGlobal>(
+pub fn show_run<R: Files + Input + Print + Eprint + AllocGlobal>(
     rt: &R,
     voice: Voice,
     shown: Shown<'_>,
@@ -285,7 +311,7 @@ pub fn show_run<R: Files + Print + Eprint + AllocGlobal>(
 }
 
 // Prints what the boxes of a probe file come to in a run beside a workpiece: their clearance, or the page with them.
-fn show_boxes<R: Files + Print + Eprint + AllocGlobal>(
+fn show_boxes<R: Files + Input + Print + Eprint + AllocGlobal>(
     rt: &R,
     voice: Voice,
     request: &Request<'_, '_>,
@@ -309,7 +335,7 @@ fn show_boxes<R: Files + Print + Eprint + AllocGlobal>(
 }
 
 /// Prints which boxes of a probe meet a block in a run, and gives the exit status. The probe file is judged after the workpiece.
-pub fn show_clearance<R: Files + Print + Eprint + AllocGlobal>(
+pub fn show_clearance<R: Files + Input + Print + Eprint + AllocGlobal>(
     rt: &R,
     voice: Voice,
     request: &Request<'_, '_>,
@@ -318,7 +344,7 @@ pub fn show_clearance<R: Files + Print + Eprint + AllocGlobal>(
 }
 
 /// Prints the page of a run, with the boxes of the probe that is given, if one is, and gives the exit status.
-pub fn show_page<R: Files + Print + Eprint + AllocGlobal>(
+pub fn show_page<R: Files + Input + Print + Eprint + AllocGlobal>(
     rt: &R,
     voice: Voice,
     request: &Request<'_, '_>,

@@ -52,13 +52,13 @@ pub(crate) const OF_JOBS: Voice = Voice {
 
 /// A fault, with the second line that is told of it, if there is one.
 #[derive(Drop)]
-pub(crate) struct Told<'a> {
-    pub(crate) message: Message<'a>,
-    pub(crate) second: Option<String>,
+pub struct Told<'a> {
+    pub message: Message<'a>,
+    pub second: Option<String>,
 }
 
 /// A fault of which no second line is told.
-pub(crate) fn alone<'a>(message: Message<'a>) -> Told<'a> {
+pub fn alone<'a>(message: Message<'a>) -> Told<'a> {
     Told {
         message,
         second: None,
@@ -66,7 +66,7 @@ pub(crate) fn alone<'a>(message: Message<'a>) -> Told<'a> {
 }
 
 /// Tells a fault with its second line, and gives its exit status.
-pub(crate) fn fails_twice<R: Eprint>(rt: &R, told: &Told<'_>) -> u8 {
+pub fn fails_twice<R: Eprint>(rt: &R, told: &Told<'_>) -> u8 {
     let status = fails(rt, told.message);
     if let Some(second) = &told.second {
         let _ = eprintln!(rt; "{second}");
@@ -75,7 +75,7 @@ pub(crate) fn fails_twice<R: Eprint>(rt: &R, told: &Told<'_>) -> u8 {
 }
 
 /// Tells a fault of a view of a run, with the input's name if the fault is a refusal, and gives its exit status; nothing where standard output is closed.
-pub(crate) fn fails_in_view<R: Print + Eprint>(
+pub(crate) fn fails_in_view<R: Eprint>(
     rt: &R,
     voice: Voice,
     message: Message<'_>,

@@ -123,7 +123,7 @@ fn print_run<'a, R: Print + AllocGlobal>(
 }
 
 // Shows variables of an input beside a workpiece, and gives the exit status.
-fn show_beside<R: Files + Print + Eprint + AllocGlobal>(
+fn show_beside<R: Files + Input + Print + Eprint + AllocGlobal>(
     rt: &R,
     voice: Voice,
     part: &PartData,
@@ -157,7 +157,7 @@ fn show_beside<R: Files + Print + Eprint + AllocGlobal>(
 }
 
 // Prints the result of a run and then the values of variables, whose names are judged before the run, and gives the exit status.
-fn show_values<R: Files + Print + Eprint + AllocGlobal>(
+fn show_values<R: Files + Input + Print + Eprint + AllocGlobal>(
     rt: &R,
     voice: Voice,
     request: &Request<'_, '_>,
@@ -170,7 +170,7 @@ fn show_values<R: Files + Print + Eprint + AllocGlobal>(
 }
 
 /// Prints the result of a run, with the values of variables where `--show` names some, and gives the exit status.
-pub fn show_result<R: Files + Print + Eprint + AllocGlobal>(
+pub fn show_result<R: Files + Input + Print + Eprint + AllocGlobal>(
     rt: &R,
     voice: Voice,
     request: &Request<'_, '_>,

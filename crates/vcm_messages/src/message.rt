@@ -62,6 +62,9 @@ pub enum Message<'a> {
     Write {
         name: &'a str,
     },
+    /// Standard output is a pipe that nobody reads any more.
+    #[error("cannot write standard output")]
+    Closed,
     #[error("input too long")]
     TooLong,
     #[error("usage: a word of the command line is no text")]
@@ -335,6 +338,7 @@ pub fn status_of(message: Message<'_>) -> u8 {
         Message::Part { .. } | Message::Image { .. } => 1,
         Message::Usage | Message::Steps | Message::Option { .. } | Message::Unknown { .. } => 2,
         Message::NoMemory | Message::Halted { .. } => 5,
-        Message::Read { .. } | Message::Write { .. } | Message::TooLong => 6,
+        Message::Read { .. } | Message::TooLong => 6,
+        Message::Write { .. } | Message::Closed => 6,
     }
 }
