@@ -9,21 +9,26 @@ use vcm_part::{PartCode, PartFault};
 use vcm_run::Refusal;
 use vcm_test_tools::{BOUNDS, joined};
 
-// The refusal of the job of an empty program behind this mark, or of none behind the mark at the end.
-fn mark_refusal(alloc: Global, mark: &str) -> Option<Option<JobFault>> {
-    let program = if mark.len() > 2 {
-        "DMISMN/'T'\nUNITS/MM,ANGDEC\nENDFIL\n"
-    } else {
-        ""
-    };
-    let text = joined(alloc, &[BOUNDS, mark, program])?;
-    let mut input = text.as_bytes();
+// An empty program.
+const EMPTY: &str = "DMISMN/'T'\nUNITS/MM,ANGDEC\nENDFIL\n";
+
+// What a job of these bytes answers but for what it writes.
+fn fault_of(alloc: Global, bytes: &[u8]) -> Option<JobFault> {
+    let mut input = bytes;
     let mut out = Vec::new(alloc);
-    Some(job(alloc, &mut input, &mut out).err())
+    job(alloc, &mut input, &mut out).err()
 }
 
-#[test]
-fn marks_of_jobs(rt: HostRuntime) {
+// Whether the job of a program behind this mark is refused so, or not at all.
+fn is_refused(alloc: Global, mark: &str, program: &str, refusal: Option<JobFault>) -> bool {
+    match joined(alloc, &[BOUNDS, mark, program]) {
+        Some(text) => fault_of(alloc, text.as_bytes()) == refusal,
+        None => false,
+    }
+}
+
+// Whether a mark ends with its line, also at the end of the input, and begins with it.
+fn are_marks(alloc: Global) -> bool {
     let order = JobFault::Refused(Refusal::Source(SourceFault {
         code: FaultCode::BadOrder,
         line: 1,
@@ -32,14 +37,15 @@ fn marks_of_jobs(rt: HostRuntime) {
         code: PartCode::NotToml,
         block: 0,
     }));
-    for (mark, refusal) in [
-        ("%%\n", None),
-        ("%%\r\n", None),
-        ("%%", Some(order)),
-        (" %%\n", Some(toml)),
-    ] {
-        assert!(rt; mark_refusal(rt.alloc(), mark) == Some(refusal), "{mark}");
-    }
+    is_refused(alloc, "%%\n", EMPTY, None)
+        && is_refused(alloc, "%%\r\n", EMPTY, None)
+        && is_refused(alloc, "%%", "", Some(order))
+        && is_refused(alloc, " %%\n", EMPTY, Some(toml))
+}
+
+#[test]
+fn marks_of_jobs(rt: HostRuntime) {
+    assert!(rt; are_marks(rt.alloc()));
 }
 
 // Gives so many per cent signs, and counts its calls.
@@ -70,10 +76,15 @@ fn long_job(alloc: Global, bytes: usize) -> (Option<JobFault>, bool) {
     (fault, reader.calls <= 8_193 && out.is_empty())
 }
 
-#[test]
-fn inputs_at_the_limit(rt: HostRuntime) {
+// Whether an input at the limit is judged, and a longer one isn't.
+fn are_limited(alloc: Global) -> bool {
     let code = PartCode::NotToml;
     let refused = JobFault::Refused(Refusal::Part(PartFault { code, block: 0 }));
-    assert!(rt; long_job(rt.alloc(), 33_554_433) == (Some(JobFault::TooLong), true));
-    assert!(rt; long_job(rt.alloc(), 33_554_432) == (Some(refused), true));
+    long_job(alloc, 33_554_433) == (Some(JobFault::TooLong), true)
+        && long_job(alloc, 33_554_432) == (Some(refused), true)
+}
+
+#[test]
+fn inputs_at_the_limit(rt: HostRuntime) {
+    assert!(rt; are_limited(rt.alloc()));
 }

@@ -1,16 +1,12 @@
-//! The tests of parts, images, listings and runs: what no row of `vcm_cases` shows, as damaged images; and calls whose growths of memory are refused in turn.
+//! The tests of parts, images, listings and runs: what no row of `vcm_cases` shows, as damaged images; and calls under little memory that no command shows.
 #![tactic(auto)]
 
 #[cfg(test)]
 mod alone_tests;
 #[cfg(test)]
-mod code_growth_tests;
-#[cfg(test)]
 mod damage_tests;
 #[cfg(test)]
 mod limit_tests;
-#[cfg(test)]
-mod listing_growth_tests;
 #[cfg(test)]
 mod loader_tests;
 #[cfg(test)]
@@ -22,8 +18,6 @@ mod plain_items;
 #[cfg(test)]
 mod plain_parts;
 #[cfg(test)]
-mod program_growth_tests;
-#[cfg(test)]
-mod run_growth_tests;
+mod scarce_tests;
 #[cfg(test)]
 mod strip_tests;

@@ -13,9 +13,14 @@ fn branches(alloc: Global, count: u32) -> Option<Option<ListFault>> {
     Some(read_listing(alloc, text.as_bytes()).err())
 }
 
+// Whether 20,000 branches have an image, and one more is refused.
+fn are_limited(alloc: Global) -> bool {
+    let code = ListCode::BadNumber;
+    branches(alloc, 20_000) == Some(None)
+        && branches(alloc, 20_001) == Some(Some(ListFault { code, line: 2 }))
+}
+
 #[test]
 fn branches_in_a_listing(rt: HostRuntime) {
-    let code = ListCode::BadNumber;
-    assert!(rt; branches(rt.alloc(), 20_000) == Some(None));
-    assert!(rt; branches(rt.alloc(), 20_001) == Some(Some(ListFault { code, line: 2 })));
+    assert!(rt; are_limited(rt.alloc()));
 }

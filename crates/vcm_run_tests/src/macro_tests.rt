@@ -21,5 +21,5 @@ fn without_effect(alloc: Global, lines: u32, calls: u32) -> Option<usize> {
 
 #[test]
 fn long_bodies(rt: HostRuntime) {
-    assert_eq!(rt; without_effect(rt.alloc(), 9_900, 9_900), Some(1));
+    assert!(rt; without_effect(rt.alloc(), 9_900, 9_900) == Some(1));
 }

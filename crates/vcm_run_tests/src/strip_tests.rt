@@ -66,37 +66,52 @@ fn compared(alloc: Global, row: &Row, from: Point, to: Point) -> Option<u32>
     let (hit, count) = Strips::build(alloc, &part)
         .ok()?
         .first_hit_counted(from, to);
-    hit.is_none().then_some(count)
+    if hit.is_none() { Some(count) } else { None }
+}
+
+// Whether a move behind the last of twenty blocks is compared with few of them.
+fn is_aside(alloc: Global) -> bool {
+    let (from, to) = (
+        Point([410_000, 0, 10_000]),
+        Point([410_000, 20_000, 10_000]),
+    );
+    match compared(alloc, &TWENTY, from, to) {
+        Some(count) => count <= 10,
+        None => false,
+    }
+}
+
+// Whether a move through a gap of many blocks is compared with 78 of them.
+fn is_between(alloc: Global) -> bool {
+    let (from, to) = (
+        Point([-50_050, 0, 10_000]),
+        Point([-50_050, 40_000, 10_000]),
+    );
+    compared(alloc, &MANY, from, to) == Some(78)
 }
 
 #[test]
 fn blocks_far_away_are_not_compared(rt: HostRuntime) {
-    let aside = [
-        Point([410_000, 0, 10_000]),
-        Point([410_000, 20_000, 10_000]),
-    ];
-    let count = compared(rt.alloc(), &TWENTY, aside[0], aside[1]);
-    assert!(rt; count.is_some_and(|n| n <= 10));
-    let gap = [
-        Point([-50_050, 0, 10_000]),
-        Point([-50_050, 40_000, 10_000]),
-    ];
-    let count = compared(rt.alloc(), &MANY, gap[0], gap[1]);
-    assert!(rt; count == Some(78));
+    assert!(rt; is_aside(rt.alloc()) && is_between(rt.alloc()));
 }
 
-// Whether the blocks of a row are cut into strips where the number of blocks decides.
-fn is_cut(alloc: Global, row: &Row) -> Option<bool> {
-    let blocks = blocks_of(alloc, row)?;
+// Whether so many blocks side by side are cut into strips.
+fn is_cut(alloc: Global, count: u32) -> Option<bool> {
+    let blocks = blocks_of(alloc, &Row { count, ..TWENTY })?;
     let file = joined(alloc, &[BOUNDS, blocks.as_str()])?;
     let part = read_part(alloc, file.as_bytes()).ok()?;
     Some(matches!(AnyPart::of(alloc, &part).ok()?, AnyPart::Many(_)))
 }
 
+// Whether only more than 16 are.
+fn are_cut_from_17(alloc: Global) -> bool {
+    is_cut(alloc, 1) == Some(false)
+        && is_cut(alloc, 16) == Some(false)
+        && is_cut(alloc, 17) == Some(true)
+        && is_cut(alloc, 20) == Some(true)
+}
+
 #[test]
 fn more_than_16_blocks_are_cut_into_strips(rt: HostRuntime) {
-    for (count, cut) in [(1, false), (16, false), (17, true), (20, true)] {
-        let row = Row { count, ..TWENTY };
-        assert!(rt; is_cut(rt.alloc(), &row) == Some(cut), "{count}");
-    }
+    assert!(rt; are_cut_from_17(rt.alloc()));
 }

@@ -6,7 +6,7 @@ mod scarce;
 mod sweep;
 mod texts;
 
-pub use loaded::{beside_block, image_of, is_want};
+pub use loaded::{beside_block, image_of};
 pub use scarce::Scarce;
-pub use sweep::{Told, answer, each_line_is_refused, refusal, refusals};
+pub use sweep::{Told, answer, each_line_is_refused, is_refused, refusal, refusals};
 pub use texts::{BOUNDS, FORTY, MOVE, ONE_BLOCK, THREE, changed, joined, program_of};

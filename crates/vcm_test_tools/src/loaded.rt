@@ -1,12 +1,11 @@
-//! Programs as images, loaded beside one block; and what refuses them for want of memory.
+//! Programs as images, loaded beside one block.
 
 use crate::texts::{BOUNDS, ONE_BLOCK, joined, program_of};
 use std::alloc::Global;
-use vcm_lines::FaultCode;
 use vcm_loader::{Loaded, load};
 use vcm_motion::Blocks;
-use vcm_part::{PartCode, read_part};
-use vcm_run::{Refusal, build_image};
+use vcm_part::read_part;
+use vcm_run::build_image;
 
 /// The image of the program with these statements.
 pub fn image_of(alloc: Global, statements: &str) -> Option<Vec<u8>> {
@@ -27,13 +26,4 @@ pub fn beside_block<T: Copy, F: FnOnce(&Loaded<'_>, &Blocks<'_>) -> Option<T>>(
     let image = image_of(alloc, statements)?;
     let loaded = load(alloc, &image).ok()?;
     call(&loaded, &Blocks::new(&part))
-}
-
-/// Whether a program, or a part, is refused for want of memory.
-pub fn is_want(refusal: &Refusal) -> bool {
-    match refusal {
-        Refusal::Source(fault) => fault.code == FaultCode::NoMemory && fault.line == 0,
-        Refusal::Part(fault) => fault.code == PartCode::NoMemory,
-        Refusal::NoMemory => true,
-    }
 }

@@ -52,6 +52,14 @@ pub fn refusals<F: Fn(Global) -> Told>(alloc: Global, call: F) -> Option<u32>
     None
 }
 
+/// Whether some budgets were too small, and at last one was enough.
+pub fn is_refused(refusals: Option<u32>) -> bool {
+    match refusals {
+        Some(count) => count > 0,
+        None => false,
+    }
+}
+
 /// Whether each line of the loop of three is refused memory under one budget or another, and none under the first budget that is enough. A call
 /// runs the loop under a budget, and gives how many steps were done: 1, 3 or 5 where memory was refused to a line, 8 at the end.
 pub fn each_line_is_refused<F: Fn(&mut Scarce, usize) -> Option<u64>>(

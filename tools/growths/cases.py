@@ -1,0 +1,279 @@
+"""The command lines whose growths of memory are refused.
+
+Each command of the program, and each of its options, stands in one of them at least: `lacking` tells which doesn't. They are carried out in a folder that
+has all of `examples/`, and the files that are made here.
+"""
+import dataclasses
+import os
+import re
+import shutil
+import sys
+
+TOP = os.path.dirname(os.path.dirname(os.path.dirname(os.path.abspath(__file__))))
+sys.path.insert(0, f"{TOP}/tools/dap")
+import rows
+
+HEAD = "DMISMN/'T'\nUNITS/MM,ANGDEC\n"
+BOUNDS = "low = [-500000, -500000, -500000]\nhigh = [500000, 500000, 500000]\nhome = [0, 0, 100000]\n"
+
+# Programs, parts and texts besides the examples.
+FILES = {
+    # a part whose blocks are cut into strips
+    "twenty.toml": BOUNDS + "".join(f"[[block]]\nlow = [{20000 * i}, 10000, 0]\nhigh = [{20000 * i + 20000}, 30000, 20000]\n" for i in range(20)),
+    # keys that nothing uses, a name, and faults
+    "notes.toml": 'made = "by hand"\n' + BOUNDS + '[[block]]\nname = "vise"\nlow = [10000, 10000, 0]\nhigh = [30000, 30000, 20000]\ncolour = "red"\n',
+    "low.toml": BOUNDS + "[[block]]\nlow = [10000, 10000, 0]\nhigh = [30000, 9000, 20000]\n",
+    "torn.toml": BOUNDS + "[[block]\n",
+    # lines without effect; a loop of moves, one of lines; statements that are refused
+    "notices.dmi": HEAD + "MODE/PROG,MAN\nFEDRAT/POSVEL,MPM,4\nGOTO/20,20,50\nFINPOS/ON\nENDFIL\n",
+    "moves.dmi": HEAD + "DECL/INTGR,I\nDO/I,1,200\nGOTO/I,20,50\nENDDO\nENDFIL\n",
+    "forty.dmi": HEAD + "DECL/INTGR,I\nDO/I,1,40\nTEXT/OPER,'a line of it'\nENDDO\nENDFIL\n",
+    "called.dmi": HEAD + "M(A)=MACRO/X\nDECL/LOCAL,REAL,R\nR=ASSIGN/X+1\nGOTO/R,20,50\nTEXT/OPER,'called'\nENDMAC\nCALL/M(A),20\nCALL/M(A),30\nENDFIL\n",
+    "faults.dmi": HEAD + "GOTO/20,20\nGOTO/NOWHERE,0,50\nTEXT/OPER,'open\nGOTO/1.23456,0,50\nMOVE/1\nENDFIL\n",
+    "late.dmi": HEAD + "DECL/INTGR,I\nI=ASSIGN/J\nENDFIL\n",
+    # what a producer's system writes: digits to be rounded, exponents, long names, inches, a frame that only the command line gives
+    "fine.dmi": "DMISMN/'FINE',05.2\nUNITS/MM,ANGDEC\nSNSET/APPRCH,2.00049\nGOTO/10.12345,20.00049,30.0\nGOTO/1.5E+1,2.0E+1,30.5E0\n"
+    "F(A_VERY_LONG_NAME_OF_A_POINT)=FEAT/POINT,CART,10.00001,20.00002,20.0,0,0,1\nMEAS/POINT,F(A_VERY_LONG_NAME_OF_A_POINT),1\n"
+    "PTMEAS/CART,10.00001,20.00002,20.0,0,0,1\nENDMES\nOUTPUT/FA(A_VERY_LONG_NAME_OF_A_POINT)\nENDFIL\n",
+    "inch.dmi": "DMISMN/'INCH',05.2\nUNITS/INCH,ANGDEC\nSNSET/APPRCH,0.1\nGOTO/0.5,0.25,1.5\nGOTO/1.00003,0.5,1.5\nGOHOME\nENDFIL\n",
+    "datums.dmi": "DMISMN/'DATUMS',05.2\nUNITS/MM,ANGDEC\nD(PART)=DATSET/DAT(A),ZDIR,ZORIG,DAT(B),XDIR\nF(C1)=FEAT/CIRCLE,INNER,CART,20,20,20,0,0,1,10\n"
+    "GOTO/20,20,50\nMEAS/CIRCLE,F(C1),3\nPTMEAS/CART,25,20,20,-1,0,0\nPTMEAS/CART,20,25,20,0,-1,0\nPTMEAS/CART,15,20,20,1,0,0\nENDMES\nGOHOME\nENDFIL\n",
+    "plain.dmi": "DMISMN/'PLAIN',05.2\nUNITS/MM,ANGDEC\nGOTO/20,20,50\nGOHOME\nENDFIL\n",
+}
+
+# Images and listings of programs, which the program makes itself: what is asked for, and the name of what it writes.
+MADE = (
+    ("build grid.dmi ../image", "grid.vcmi"),
+    ("build stations.dmi ../image", "stations.vcmi"),
+    ("list grid.dmi", "grid.lst"),
+    ("list stations.dmi", "stations.lst"),
+)
+
+LINES = "break 1\nrun\nwhere\nstep 3\nwatch i\nrun\nback 2\nback 2\nshow i\nout\nlist\nrun\nrun\nreverse\nreverse\nout 2\nrun\nwhere\nquit\n"
+LONG = "step 40\nback 3\nback 3\nstep 9\nout 2\nback 17\nshow i\nline 5\nbreak 1\nrun\nrun 20\nreverse\nclear 1\nunwatch i\nwatch i\nreverse\nrun\nstep 200\nwhere\nback 60\nrun\nrun\nout\nwhere\n"
+TALKED = "b 5\nr\npos\n\ns 2\ns 2\nwa i\nr\np i\nw\nu 2\nl\nrev\nbs\ncl 5\nrun\no 2\nhelp\nnonsense\nwhere\nq\n"
+# Each number of steps back from 100, and forth again.
+BACKS = "step 100\n" + "".join(f"back {it}\nshow i\nstep {it}\n" for it in range(1, 101))
+FEATURES = "run 3\nfeat p1\nrun\nback\nfeat p1\nstep\nwhere\n"
+
+# More growths than any case has: from the first one on that is refused, memory is at its end.
+FOR_GOOD = 1_000_000
+
+PROGRAMS = ("above", "touch", "grid", "lines", "stations")
+TALKS = (
+    "Emacs grid", "Emacs collision", "Emacs moved-breakpoint", "Emacs select-and-tip", "Emacs step-limit", "Emacs without-debugging", "Emacs image",
+    "Emacs refused launches", "VS Code grid", "breakpoints that can't be", "watches that can't be", "no such rows", "a notice", "at a stop",
+)
+# Words of the table of `vcm explain`, a message, a word of the standard, and what nothing is known of.
+EXPLAINED = (["E14"], ["stop", "COLLISION", "MOVE", "block", "1", "permille", "888", "at", "0", "line", "3"], ["E14", "M01"], ["TOL"], [])
+
+
+@dataclasses.dataclass(frozen=True)
+class Case:
+    """A command line: its words, what it reads from standard input, the status that it ends with where no growth is refused, and the kind of its answer."""
+
+    words: tuple
+    given: bytes = b""
+    status: int = 0
+    kind: str = ""
+    # how many growths are refused in a row
+    in_a_row: int = 1
+    # whether its devices count as terminals
+    at_terminal: bool = False
+
+    def __str__(self):
+        line = "vcm" + "".join(f" {it}" for it in self.words) + (" < job" if not self.words else "") + (" at a terminal" if self.at_terminal else "")
+        return line + {1: "", FOR_GOOD: ", and all behind it"}.get(self.in_a_row, f", {self.in_a_row} in a row")
+
+
+def case(line, given="", status=0, kind="", in_a_row=1):
+    """The case of a line, whose words stand apart by one space."""
+    given = given if isinstance(given, bytes) else given.encode()
+    return Case(tuple(line.split(" ")) if line else (), given, status, kind, in_a_row)
+
+
+def read(name):
+    """The bytes of an example."""
+    with open(f"{TOP}/examples/{name}", "rb") as it:
+        return it.read()
+
+
+def runs():
+    """What is shown of runs."""
+    for name in PROGRAMS:
+        beside = f"{name}.dmi part-a.toml"
+        yield case(f"run {beside}")
+        yield case(f"trace {beside}", kind="lines")
+        yield case(f"points {beside}", kind="lines")
+        yield case(f"clearance {beside} stylus.toml", kind="lines", status=3 if name in ("touch", "grid") else 0)
+        yield case(f"margin {beside}")
+        yield case(f"why {beside}")
+        yield case(f"contacts {beside}", kind="lines")
+        yield case(f"picture {beside}")
+        yield case("", read(f"{name}.job"))
+    for command in ("run", "why", "contacts", "trace", "margin", "points", "picture", "view"):
+        kind = {"contacts": "lines", "trace": "lines", "points": "lines", "view": "page"}.get(command, "")
+        yield case(f"{command} into.dmi part-a.toml", status=3, kind=kind)
+        yield case(f"{command} grid.vcmi twenty.toml --steps 20 --quiet", status=4, kind=kind)
+        yield case(f"{command} notices.dmi notes.toml", kind=kind)
+    yield case("run forty.dmi part-a.toml")
+    yield case("run notices.dmi notes.toml --talk")
+    yield case("run late.dmi part-a.toml --talk", status=1)
+    yield case("run above.dmi low.toml --talk", status=1)
+    yield case("run stations.dmi part-a.toml --show STATION")
+    yield case("run bracket.dmi bracket.toml --show I,TOP,GOOD --steps 100", status=3)
+    yield case("run grid.vcmi part-a.toml --show I --quiet")
+    yield case("clearance overhang.dmi overhang.toml stylus.toml --steps 1000 --quiet", status=3, kind="lines")
+    yield case("picture bracket.dmi bracket.toml --close", status=3)
+    yield case("picture touch.dmi part-a.toml --sheet")
+    yield case("picture bracket.dmi bracket.toml --sheet --close", status=3)
+    yield case("picture plate.dmi plate.toml --lines 10-20")
+    yield case("view touch.dmi part-a.toml", kind="page")
+    yield case("view overhang.dmi overhang.toml --probe stylus.toml", kind="page")
+    yield case("view grid.dmi part-a.toml", kind="page")
+    yield case("why bracket.dmi bracket.toml", status=3)
+    yield case("contacts bracket.dmi bracket.toml", status=3, kind="lines")
+    yield case("margin plate.dmi plate.toml")
+    yield case("points turned.dmi low.toml", status=1)
+    yield case("trace turned.dmi torn.toml", status=1)
+
+
+def texts():
+    """Programs, parts and listings that are judged, built and printed."""
+    for name in PROGRAMS:
+        yield case(f"check {name}.dmi")
+        yield case(f"check --all {name}.dmi")
+        yield case(f"build {name}.dmi ../image")
+        yield case(f"list {name}.dmi")
+    yield case("check faults.dmi --talk", status=1)
+    yield case("check --all faults.dmi", status=1)
+    yield case("check --all late.dmi", status=1)
+    yield case("check --quiet notices.dmi touch.dmi late.dmi", status=1, kind="several")
+    yield case("check --talk notices.dmi called.dmi", kind="several")
+    yield case("check --all faults.dmi notices.dmi", status=1, kind="several")
+    yield case("check -", read("touch.dmi"))
+    yield case("build notices.dmi ../image --talk")
+    yield case("build called.dmi ../image --quiet")
+    yield case("list notices.dmi --talk --quiet")
+    yield case("list grid.vcmi")
+    yield case("list called.dmi")
+    yield case("asm grid.lst ../image")
+    yield case("asm stations.lst ../image --talk")
+    yield case("asm touch.dmi ../image", status=1)
+    yield case("part part-a.toml")
+    yield case("part notes.toml")
+    yield case("part notes.toml --quiet")
+    yield case("part twenty.toml")
+    yield case("part low.toml", status=1)
+    yield case("part torn.toml", status=1)
+
+
+def produced():
+    """Producers' texts."""
+    for text, options, status in (
+        ("camio.dmi", "--tip 1000", 1),
+        ("camio.dmi", "--part camio.toml --frame ROUGH=150,100,60", 1),
+        ("fine.dmi", "--tip 1000", 0),
+        ("fine.dmi", "--exact", 1),
+        ("inch.dmi", "", 0),
+        ("datums.dmi", "--frame PART=10,10,20 --tip 500", 0),
+        ("plain.dmi", "", 0),
+    ):
+        more = f" {options}" if options else ""
+        yield case(f"survey {text}{more}", status=0 if text == "plain.dmi" else 1, kind="behind")
+        yield case(f"adapt {text}{more}", status=status, kind="behind")
+    yield case("survey camio.dmi --lines --tip 1000", status=1, kind="behind")
+    yield case("survey fine.dmi --lines", status=1, kind="behind")
+    yield case("adapt datums.dmi --touch --frame=PART=10,10,20", kind="behind")
+
+
+def jobs_at_a_terminal():
+    """Jobs, of which more is told at a terminal; there is no option for it."""
+    for part, program, status in (
+        (read("part-a.toml"), read("touch.dmi"), 0),
+        (FILES["notes.toml"].encode(), FILES["notices.dmi"].encode(), 0),
+        (read("part-a.toml"), read("into.dmi"), 3),
+        (FILES["low.toml"].encode(), read("touch.dmi"), 1),
+        (FILES["torn.toml"].encode(), read("touch.dmi"), 1),
+        (read("part-a.toml"), FILES["late.dmi"].encode(), 1),
+    ):
+        yield Case((), part + b"%%\n" + program, status, "behind", at_terminal=True)
+    # no job at all
+    yield Case((), read("touch.dmi"), 1, "behind", at_terminal=True)
+    yield Case((), read("part-a.toml"), 1, "behind", at_terminal=True)
+
+
+def told():
+    """What is told of vcm itself."""
+    for words in EXPLAINED:
+        yield Case(("explain", *words), kind="front")
+    yield case("explain nothing of this", status=2)
+    yield case("--version")
+    yield case("--help")
+    yield case("help run")
+    yield case("run above.dmi", status=2)
+    yield case("no-such-command above.dmi", status=2)
+
+
+def sessions():
+    """Sessions of the debugger and of editors. Where a growth is refused, the debugger lets copies go and tries it once more, so several in a row are refused too."""
+    for in_a_row in (1, 2, FOR_GOOD):
+        for name in PROGRAMS:
+            yield case(f"debug {name}.dmi part-a.toml", LINES, kind="session", in_a_row=in_a_row)
+        yield case("debug grid.vcmi twenty.toml --quiet", FEATURES, kind="session", in_a_row=in_a_row)
+        yield case("debug forty.dmi part-a.toml", LONG, kind="session", in_a_row=in_a_row)
+        yield case("debug moves.dmi part-a.toml", LONG, kind="session", in_a_row=in_a_row)
+        yield case("debug lines.dmi part-a.toml --talk", TALKED, kind="session", in_a_row=in_a_row)
+        yield case("debug notices.dmi notes.toml --talk", "r\nq\n", kind="session", in_a_row=in_a_row)
+        for name, lines in rows.sections():
+            if name in TALKS:
+                yield Case(("dap",), rows.bytes_sent(lines), kind="adapter", in_a_row=in_a_row)
+    for in_a_row in (1, 2, 16):
+        yield case("debug moves.dmi part-a.toml", BACKS, kind="session", in_a_row=in_a_row)
+
+
+def at_its_end(found):
+    """For each command one of these cases, and each of `touch.dmi`, with no memory from one growth on."""
+    names = set()
+    for it in found:
+        if it.in_a_row == 1 and it.kind not in ("session", "adapter") and ("touch.dmi" in it.words or it.words[:1] not in names):
+            yield dataclasses.replace(it, in_a_row=FOR_GOOD)
+        names.add(it.words[:1])
+
+
+def cases(table):
+    """All cases; the help of each command of the table among them."""
+    found = [*runs(), *texts(), *produced(), *jobs_at_a_terminal(), *told(), *sessions()]
+    return [*found, *at_its_end(found), *(case(f"{name} --help") for name in table)]
+
+
+def lay_out(folder):
+    """Puts the files into a folder."""
+    shutil.copytree(rows.DATA, folder)
+    shutil.copytree(f"{TOP}/examples", folder, dirs_exist_ok=True)
+    for name, text in FILES.items():
+        with open(f"{folder}/{name}", "w", encoding="ascii") as it:
+            it.write(text)
+
+
+def commands_in(text):
+    """The commands that the program's help has."""
+    behind = text.partition("\nCommands:\n")[2].partition("\n\n")[0]
+    return [name for name in re.findall(r"(?m)^  (\S+)", behind) if name != "help"]
+
+
+def options_in(text):
+    """The options that a command's help has."""
+    behind = text.partition("\nOptions:\n")[2].partition("\n\n")[0]
+    return re.findall(r"(?m)^ +(?:-\w, )?--([\w-]+)", behind)
+
+
+def lacking(table, found):
+    """The commands and options of a table that no case has."""
+    for name, options in table.items():
+        words = [it.words[1:] for it in found if it.words[:1] == (name,) and it.status != 2]
+        if all(it == ("--help",) for it in words):
+            yield f"vcm {name}"
+        for option in options:
+            if not any(word == f"--{option}" or word.startswith(f"--{option}=") for it in words for word in it):
+                yield f"vcm {name} --{option}"
