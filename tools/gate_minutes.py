@@ -1,5 +1,5 @@
 #!/usr/bin/env python3
-"""Runs the gate and tells where its processor time goes.
+"""Runs `rt ci`, the greater part of the gate, and tells where its processor time goes.
 
 usage: tools/gate_minutes.py [LOG]     at the top of the repository
 

@@ -65,12 +65,16 @@ TALKS = (
     "Emacs refused launches", "VS Code grid", "breakpoints that can't be", "watches that can't be", "no such rows", "a notice", "at a stop",
 )
 # Words of the table of `vcm explain`, a message, a word of the standard, and what nothing is known of.
-EXPLAINED = (["E14"], ["stop", "COLLISION", "MOVE", "block", "1", "permille", "888", "at", "0", "line", "3"], ["E14", "M01"], ["TOL"], [])
+EXPLAINED = (["E14"], ["E14", "E01"], ["stop", "COLLISION", "MOVE", "block", "1", "permille", "888", "at", "0", "line", "3"], ["E14", "M01"], ["TOL"], [])
 
 
 @dataclasses.dataclass(frozen=True)
 class Case:
-    """A command line: its words, what it reads from standard input, the status that it ends with where no growth is refused, and the kind of its answer."""
+    """A command line: its words, what it reads from standard input, the status that it ends with where no growth is refused, and the kind of its answer.
+
+    The kind tells what may stand on standard output where memory runs out. With none it is nothing; with `lines` the first lines, with `page` and `front` any front; with
+    `behind` nothing, or all, since something is done behind it. `several` is told of several programs, each by itself; `session` is one of the debugger, `adapter` one of an editor.
+    """
 
     words: tuple
     given: bytes = b""
@@ -117,6 +121,11 @@ def runs():
         yield case(f"{command} grid.vcmi twenty.toml --steps 20 --quiet", status=4, kind=kind)
         yield case(f"{command} notices.dmi notes.toml", kind=kind)
     yield case("run forty.dmi part-a.toml")
+    yield case("run - part-a.toml", read("touch.dmi"))
+    yield case("run touch.dmi -", read("part-a.toml"))
+    yield case("run touch.dmi - --show I", read("part-a.toml"), status=2)
+    yield case("clearance touch.dmi part-a.toml -", read("stylus.toml"), status=3, kind="lines")
+    yield case("run - -", status=2)
     yield case("run notices.dmi notes.toml --talk")
     yield case("run late.dmi part-a.toml --talk", status=1)
     yield case("run above.dmi low.toml --talk", status=1)
@@ -152,6 +161,10 @@ def texts():
     yield case("check --talk notices.dmi called.dmi", kind="several")
     yield case("check --all faults.dmi notices.dmi", status=1, kind="several")
     yield case("check -", read("touch.dmi"))
+    yield case("list -", read("touch.dmi"))
+    yield case("build - ../image", read("touch.dmi"))
+    yield case("build touch.dmi touch.dmi", status=2)
+    yield case("asm - ../image", "VCM-LISTING 1\n0 3 GOTO [I20 SCALE] [I20 SCALE] [I50 SCALE]\n1 4 ENDFIL\n")
     yield case("build notices.dmi ../image --talk")
     yield case("build called.dmi ../image --quiet")
     yield case("list notices.dmi --talk --quiet")
@@ -184,11 +197,14 @@ def produced():
         yield case(f"adapt {text}{more}", status=status, kind="behind")
     yield case("survey camio.dmi --lines --tip 1000", status=1, kind="behind")
     yield case("survey fine.dmi --lines", status=1, kind="behind")
+    yield case("survey - --tip 1000", read("camio.dmi"), status=1, kind="behind")
+    yield case("survey camio.dmi --part notes.toml", status=1, kind="behind")
+    yield case("adapt camio.dmi --part torn.toml", status=1)
     yield case("adapt datums.dmi --touch --frame=PART=10,10,20", kind="behind")
 
 
 def jobs_at_a_terminal():
-    """Jobs, of which more is told at a terminal; there is no option for it."""
+    """Jobs, of which more is told at a terminal, and with `--talk`."""
     for part, program, status in (
         (read("part-a.toml"), read("touch.dmi"), 0),
         (FILES["notes.toml"].encode(), FILES["notices.dmi"].encode(), 0),
@@ -198,6 +214,7 @@ def jobs_at_a_terminal():
         (read("part-a.toml"), FILES["late.dmi"].encode(), 1),
     ):
         yield Case((), part + b"%%\n" + program, status, "behind", at_terminal=True)
+        yield Case(("--talk",), part + b"%%\n" + program, status, "behind")
     # no job at all
     yield Case((), read("touch.dmi"), 1, "behind", at_terminal=True)
     yield Case((), read("part-a.toml"), 1, "behind", at_terminal=True)
@@ -206,7 +223,7 @@ def jobs_at_a_terminal():
 def told():
     """What is told of vcm itself."""
     for words in EXPLAINED:
-        yield Case(("explain", *words), kind="front")
+        yield Case(("explain", *words))
     yield case("explain nothing of this", status=2)
     yield case("--version")
     yield case("--help")
@@ -269,7 +286,8 @@ def options_in(text):
 
 
 def lacking(table, found):
-    """The commands and options of a table that no case has."""
+    """The commands and options of a table that no case has, and the talks that aren't there."""
+    yield from (f"the talk {it!r}" for it in TALKS if it not in dict(rows.sections()))
     for name, options in table.items():
         words = [it.words[1:] for it in found if it.words[:1] == (name,) and it.status != 2]
         if all(it == ("--help",) for it in words):

@@ -37,17 +37,17 @@ def is_front(wanted, out, kind):
     return not out or kind == "behind" and out == wanted
 
 
-def without(name, text):
-    """The lines of a text but those on this program, with what stands under them."""
-    return re.sub(rb"(?m)^" + re.escape(name) + rb": .*\n(  .*\n)*", b"", text)
+def without(names, text):
+    """The lines of a text but those on these programs, with what stands under them."""
+    return re.sub(rb"(?m)^(" + b"|".join(map(re.escape, names)) + rb"): .*\n(  .*\n)*", b"", text)
 
 
-def are_several(wanted, found):
-    """Whether one of several programs is told to want memory, and of the others what is wanted."""
-    told = re.findall(rb"(?m)^(.+): no memory$", found.told)
-    if found.status != 5 or len(told) != 1:
+def are_several(wanted, found, most):
+    """Whether at most so many of several programs are told to want memory, each once, and of the others what is wanted."""
+    names = re.findall(rb"(?m)^(.+): no memory$", found.told)
+    if found.status != 5 or not 0 < len(set(names)) == len(names) <= most:
         return False
-    return found.out == without(told[0], wanted.out) and without(told[0], found.told) == without(told[0], wanted.told)
+    return found.out == without(names, wanted.out) and without(names, found.told) == without(names, wanted.told)
 
 
 class Sessions:
@@ -144,8 +144,8 @@ def is_right_talk(wanted, found, most):
 def one_by_one(case, wanted, ask):
     """The answer with each notice told in a line of its own."""
     def notices(summary):
-        if not case.words:
-            return ask(dataclasses.replace(case, at_terminal=False), case.given).told
+        if case.words in ((), ("--talk",)):
+            return ask(dataclasses.replace(case, words=(), at_terminal=False), case.given).told
         name = summary[1].decode() if summary[1] else case.words[1]
         told = ask(dataclasses.replace(case, words=("check", name)), b"").told
         return b"".join((summary[1] + b": " if summary[1] else b"") + it for it in told.splitlines(True))
@@ -158,7 +158,7 @@ def is_right(case, wanted, found, ask):
     if found.status == 5 and not found.image and is_told(wanted.told, found.told) and is_front(wanted.out, found.out, case.kind):
         return True
     if case.kind == "several":
-        return are_several(wanted, found)
+        return are_several(wanted, found, case.in_a_row)
     if case.kind == "adapter":
         return is_right_talk(wanted, found, case.in_a_row)
     if case.kind == "session" and (found.status, found.told) == (wanted.status, wanted.told):

@@ -180,7 +180,7 @@ def sweep(program, lanes, say):
             return 0, 1
         table = table_of(program, library, folder)
         found = cases.cases(table)
-        wrong = [f"wrong: no case has {it}: tools/growths/cases.py wants one" for it in cases.lacking(table, found)]
+        wrong = [f"wrong: tools/growths/cases.py has no case of {it}" for it in cases.lacking(table, found)]
         wrong += [] if table else ["wrong: the program's help has no commands"]
         with multiprocessing.get_context("fork").Pool(lanes, start, (program, library, folder)) as pool:
             sizes = pool.map(growths_of, found, chunksize=4)
@@ -195,7 +195,7 @@ def sweep(program, lanes, say):
             for text in wrong:
                 say(text)
             for at, more, told in pool.imap_unordered(swept, tasks):
-                name = found[at].words[0] if found[at].words and found[at].words[0] in table else "job" if not found[at].words else "help"
+                name = found[at].words[0] if found[at].words and found[at].words[0] in table else "job" if found[at].words in ((), ("--talk",)) else "help"
                 counts[name].update(more)
                 for text in told:
                     said[at] += 1

@@ -4,8 +4,8 @@ use crate::telling::tell_bytes;
 use std::alloc::Global;
 use std::rt::Files;
 use vcm_devices::{
-    Request, Told, Voice, alone, bytes_of, fails, fails_twice, fails_unless_closed, part_of,
-    print_bytes,
+    DASH, Request, STANDARD_INPUT, Told, Voice, alone, bytes_of, fails, fails_twice,
+    fails_unless_closed, part_of, print_bytes,
 };
 use vcm_lines::SourceFault;
 use vcm_messages::{Message, Told as _};
@@ -189,6 +189,11 @@ fn adapt_text<R: Print + Eprint + AllocGlobal>(
     }
 }
 
+// How an input is named.
+fn name_of(input: &str) -> &str {
+    if input == DASH { STANDARD_INPUT } else { input }
+}
+
 // Surveys a file, and gives the exit status.
 fn survey_with<'a, R: Files + Input + Print + Eprint + AllocGlobal>(
     rt: &R,
@@ -201,7 +206,7 @@ fn survey_with<'a, R: Files + Input + Print + Eprint + AllocGlobal>(
     } else {
         Shape::Groups
     };
-    survey_text(rt, request.input(), &text, options, shape)
+    survey_text(rt, name_of(request.input()), &text, options, shape)
 }
 
 // Adapts a file, and gives the exit status.

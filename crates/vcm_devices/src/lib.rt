@@ -20,7 +20,9 @@ pub use debugging::debug_file;
 pub use files::{asm_file, build_file, check_file, list_file};
 pub use jobs::run_job;
 pub use parts::{part_of, show_part};
-pub use printing::{Outlet, Output, bytes_of, fails, output, print_bytes, written};
+pub use printing::{
+    DASH, Outlet, Output, STANDARD_INPUT, bytes_of, fails, output, print_bytes, written,
+};
 pub use request::{Request, matches_of, steps_of};
 pub use sheets::{lines_of, show_picture};
 pub use showing::{Shown, show_clearance, show_page, show_run};
