@@ -7,14 +7,14 @@ pub struct Entry {
     pub(crate) text: &'static str,
 }
 
-// Whether words are these, whatever their case, or go on behind them after a blank, a colon or a full stop.
+// Whether words are these, whatever their case, or go on behind them after a blank, a colon, a comma, a semicolon or a full stop.
 fn begins(words: &[u8], key: &[u8]) -> bool {
     if words.len() < key.len() || !words[..key.len()].eq_ignore_ascii_case(key) {
         return false;
     }
     match words.get(key.len()) {
         None => true,
-        Some(byte) => byte.is_ascii_whitespace() || *byte == b':' || *byte == b'.',
+        Some(byte) => byte.is_ascii_whitespace() || matches!(*byte, b':' | b';' | b',' | b'.'),
     }
 }
 

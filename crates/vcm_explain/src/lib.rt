@@ -3,6 +3,7 @@
 
 mod entry;
 mod file_entries;
+mod line_entries;
 mod probe_entries;
 mod program_entries;
 mod run_entries;
@@ -11,6 +12,7 @@ mod session_entries;
 use crate::file_entries::{
     code_entries, image_entries, listing_entries, part_entries, placing_entries,
 };
+use crate::line_entries::{result_entries, view_entries, why_entries};
 use crate::probe_entries::{box_entries, box_name_entries, clearance_entries};
 use crate::program_entries::{
     block_entries, line_entries, name_entries, size_entries, spelling_entries, value_entries,
@@ -19,8 +21,8 @@ use crate::run_entries::{arithmetic_entries, device_entries, motion_entries, not
 use crate::session_entries::session_entries;
 pub use entry::Entry;
 
-/// All explanations: of programs, of part files, probe files, images and listings, of the debugger, of runs, and of a clearance.
-pub fn explanations() -> [&'static [Entry]; 19] {
+/// All explanations: of programs, of part files, probe files, images and listings, of the debugger, of runs, and of the lines of answers.
+pub fn explanations() -> [&'static [Entry]; 22] {
     [
         line_entries(),
         spelling_entries(),
@@ -40,6 +42,9 @@ pub fn explanations() -> [&'static [Entry]; 19] {
         arithmetic_entries(),
         notice_entries(),
         device_entries(),
+        result_entries(),
+        why_entries(),
+        view_entries(),
         clearance_entries(),
     ]
 }
@@ -85,12 +90,38 @@ fn explained(words: &[u8]) -> Option<&'static Entry> {
     None
 }
 
+// What stands behind a number at the beginning, as in a line that counts something.
+fn behind_number(words: &[u8]) -> &[u8] {
+    match words.iter().position(|byte| !byte.is_ascii_digit()) {
+        Some(0) | None => words,
+        Some(_) => behind_word(words),
+    }
+}
+
+// What stands behind the name of a box, in a line that tells of one.
+fn behind_box(words: &[u8]) -> &[u8] {
+    match words {
+        [b, o, x, b' ', ..] if [*b, *o, *x].eq_ignore_ascii_case(b"BOX") => {
+            behind_word(behind_word(words))
+        }
+        _ => words,
+    }
+}
+
 /// The explanation of a code, a name or a whole message, whatever its case: the first one whose code, name or words stand at its beginning, behind
-/// which nothing stands, or a blank, a colon or a full stop. A line that tells of a stop is explained by its stop, also where other words stand in front of it.
+/// which nothing stands, or a blank, a colon, a comma, a semicolon or a full stop. A line that tells of a box is explained by what it tells of it, one that counts something by what
+/// is counted, and one that tells of a stop by that, also where other words stand in front of it.
 pub fn explanation(words: &str) -> Option<&'static Entry> {
     let words = without_blanks(words.as_bytes());
-    match explained(words) {
-        Some(entry) => Some(entry),
-        None => explained(behind_stop(words)),
+    for line in [
+        behind_box(words),
+        words,
+        behind_number(words),
+        behind_stop(words),
+    ] {
+        if let Some(entry) = explained(line) {
+            return Some(entry);
+        }
     }
+    None
 }

@@ -1,0 +1,115 @@
+//! What a line of an answer means that is no refusal and no stop.
+
+use crate::entry::Entry;
+
+const RESULT: [Entry; 4] = [
+    Entry {
+        keys: &["position"],
+        text: "position
+A line of a result: where the centre of the tip stands at the end of the run, in machine
+coordinates, in millimetres. After a stop it is the place before the statement that
+stopped.",
+    },
+    Entry {
+        keys: &["steps"],
+        text: "steps
+A line of a result: how many statements were carried out. One that stopped the run isn't
+counted; a round of a loop counts each of its statements again.",
+    },
+    Entry {
+        keys: &["ok"],
+        text: "ok
+A line of `vcm check`: the program is accepted, and has so many counted statements, those
+of macros once for each CALL. Lines without effect, declarations and CALLs don't count.",
+    },
+    Entry {
+        keys: &["in"],
+        text: "in
+A second line, below a refusal: `in part.toml` is the file that was refused. In `vcm why`,
+`in M(GRID) from line 8: ..` is a CALL that led to the statement, the innermost first.",
+    },
+];
+
+const WHY: [Entry; 5] = [
+    Entry {
+        keys: &["contact of the tip's centre"],
+        text: "contact of the tip's centre
+A line of `vcm why`: where the centre of the tip stands as it meets the block, and the
+low and the high corner of that block, in machine coordinates, in millimetres.",
+    },
+    Entry {
+        keys: &["way"],
+        text: "way
+A line of `vcm why`: from where to where the centre of the tip was to go in the motion
+that stopped, in machine coordinates, in millimetres.",
+    },
+    Entry {
+        keys: &["free over it", "free"],
+        text: "free over it
+A line of `vcm why`: from which height, or past which coordinate, on a straight way is
+free of the block that was met. Whether another block stands there isn't asked.",
+    },
+    Entry {
+        keys: &["round"],
+        text: "round
+A line of `vcm why`: in which round of a DO the run stopped, the first being 1, and the
+value of the loop's variable there. The innermost loop is told first.",
+    },
+    Entry {
+        keys: &["line"],
+        text: "line
+A line of `vcm why`: the source line of the statement that stopped, as it is written. In
+the debugger `line 12` tells the first statement of a source line.",
+    },
+];
+
+const VIEWS: [Entry; 4] = [
+    Entry {
+        keys: &["margin"],
+        text: "margin
+A line of `vcm margin`: the greatest half width of the tip, in micrometres, with which
+the run goes as it does. The lines below tell what one micrometre more meets.",
+    },
+    Entry {
+        keys: &["contacts", "contact; behind"],
+        text: "contacts
+A line of `vcm contacts`: how many contacts were found. After each the motion is taken as
+done, so what stands after the first is a guess: the run would have ended there.",
+    },
+    Entry {
+        keys: &["break", "watch"],
+        text: "break
+A reply of the debugger: a breakpoint at a statement, or a watch of a variable, is set or
+cleared. `run` stops at a breakpoint before its statement, and where a watched variable
+has changed after the step that changed it.",
+    },
+    Entry {
+        keys: &[
+            "fit as they are",
+            "have no effect",
+            "left out",
+            "put otherwise by vcm adapt",
+            "not tried",
+        ],
+        text: "not tried
+A line of `vcm survey`: what becomes of so many statements. Some fit as they are; some
+have no effect; some move nothing and are left out; some `vcm adapt` puts otherwise; and
+some aren't tried, so what the machine does there isn't known. `--lines` tells each one
+with its reason.",
+    },
+];
+
+// Explanations of the lines of a result, and of second lines.
+pub(crate) fn result_entries() -> &'static [Entry] {
+    &RESULT
+}
+
+// Explanations of the lines of `vcm why`.
+pub(crate) fn why_entries() -> &'static [Entry] {
+    &WHY
+}
+
+// Explanations of the lines of other views, of the debugger and of a survey.
+pub(crate) fn view_entries() -> &'static [Entry] {
+    &VIEWS
+}
