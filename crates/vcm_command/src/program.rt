@@ -9,13 +9,12 @@ use clap::error::ErrorKind;
 use std::io;
 use std::rt::{Env, Files};
 use vcm_devices::{
-    Request, Shown, Terminals, Voice, asm_file, build_file, debug_file, fails, list_file,
+    Request, RunView, Shown, Terminals, Voice, asm_file, build_file, debug_file, fails, list_file,
     matches_of, run_job, show_clearance, show_page, show_part, show_picture, show_result, show_run,
     voice_of,
 };
 use vcm_messages::Message;
 use vcm_usage::Verb;
-use vcm_views::RunView;
 
 // Answers a request for help or the version on standard output, tells a wrong command line on standard error, and gives the exit status.
 fn tell_usage<R: Print + Eprint>(rt: &R, error: &Error) -> u8 {

@@ -28,3 +28,4 @@ pub use sheets::{lines_of, show_picture};
 pub use showing::{Shown, show_clearance, show_page, show_run};
 pub use talking::{Terminals, Told, Voice, alone, fails_twice, voice_of};
 pub use values::show_result;
+pub use vcm_views::RunView;
