@@ -1,147 +1,221 @@
-//! What a command line asks for, and which explanation words have.
+//! The commands of vcm, asked between devices in memory; and what a command line asks for. Nothing else here names the crate of the commands.
 
 use crate::messages::line_of;
+use crate::stage::{Heard, NO_TROUBLE, Stage, Trouble};
+use crate::texts::{Asked, copied, joined, number_text, put_all};
 use std::alloc::Global;
-use vcm_command::{Asked, Produced, Request, Wanted, lines_of, request_of, steps_of};
-use vcm_explain::explanation;
+use std::cell::RefCell;
+use std::fmt::Write as _;
+use vcm_command::{Request, Terminals, lines_of, matches_of, status, words_to_explain};
 use vcm_messages::Message;
-use vcm_views::RunView;
+use vcm_usage::{Choice, Verb};
+
+/// What a command does that is asked this, where a call goes wrong.
+pub(crate) fn ask(asked: &Asked<'_>, trouble: Trouble) -> Heard {
+    let heard = RefCell::new(Heard::new(asked.texts.alloc));
+    let stage = Stage {
+        asked: *asked,
+        trouble,
+        heard: &heard,
+    };
+    let terminals = Terminals {
+        input: asked.is_typed,
+        errors: asked.is_typed,
+    };
+    let status = status(&stage, terminals);
+    let mut heard = heard.into_inner();
+    heard.status = status;
+    heard
+}
+
+/// What a command does that is asked this, where nothing goes wrong.
+pub(crate) fn heard_of(asked: &Asked<'_>) -> Heard {
+    ask(asked, NO_TROUBLE)
+}
 
 // The words of a command line. One between apostrophes may have blanks, or nothing.
-fn words_of(alloc: Global, line: &str) -> Option<Vec<String>> {
+fn words_of(alloc: Global, line: &str) -> Vec<String> {
     let mut words = Vec::new(alloc);
     for (place, piece) in line.split('\'').enumerate() {
         if place % 2 == 1 {
-            words.push(String::from_str(alloc, piece).ok()?).ok()?;
+            let _ = words.push(copied(alloc, piece));
         } else {
-            for word in piece.split(' ').filter(|word| !word.is_empty()) {
-                words.push(String::from_str(alloc, word).ok()?).ok()?;
+            for word in piece.split(' ') {
+                if !word.is_empty() {
+                    let _ = words.push(copied(alloc, word));
+                }
             }
         }
     }
-    Some(words)
+    words
 }
 
-// A run, or a view of one, that is asked for.
-fn run_asked(alloc: Global, name: &str, asked: Asked<'_>) -> Option<String> {
-    let Asked { input, part, steps } = asked;
-    match steps_of(steps) {
-        Some(steps) => format!(in alloc; "{name} input={input} part={part} steps={steps}").ok(),
-        None => line_of(alloc, Message::Steps),
-    }
+// A run, or a view of one, that is asked for, with these pieces in front.
+fn run_asked(alloc: Global, pieces: &[&str], request: &Request<'_, '_>) -> String {
+    let Some(steps) = request.steps() else {
+        return line_of(alloc, Message::Steps);
+    };
+    let steps = number_text(alloc, steps);
+    let mut text = joined(alloc, pieces);
+    put_all(
+        &mut text,
+        &[
+            " input=",
+            request.input(),
+            " part=",
+            request.part(),
+            " steps=",
+            &steps,
+        ],
+    );
+    text
 }
 
-// What is asked for with a probe.
-fn probe_asked(alloc: Global, name: &str, asked: Asked<'_>, probe: &str) -> Option<String> {
-    let name = format!(in alloc; "{name} probe={probe}").ok()?;
-    run_asked(alloc, &name, asked)
-}
-
-// The name of a view.
-fn name_of(view: RunView<'_>) -> &'static str {
-    match view {
-        RunView::Trace => "trace",
-        RunView::Margin => "margin",
-        RunView::Points => "points",
-        RunView::Picture { is_close: false } => "picture",
-        RunView::Picture { is_close: true } => "close",
-        RunView::Clearance(_) => "clearance",
-    }
+// How it is told whether something is so.
+fn told(is_so: bool) -> &'static str {
+    if is_so { "true" } else { "false" }
 }
 
 // What is asked for of a producer's text.
-fn produced_asked(alloc: Global, produced: Produced<'_>) -> Option<String> {
-    let name = match produced.wanted {
-        Wanted::Groups => "survey",
-        Wanted::Lines => "lines",
-        Wanted::Adapted => "adapt",
-        Wanted::Touched => "touch",
-    };
-    let program = produced.program;
-    let tip = produced.tip.unwrap_or("");
-    let part = produced.part.unwrap_or("");
-    let is_exact = produced.is_exact;
-    format!(in alloc; "{name} program={program} tip={tip} part={part} exact={is_exact}").ok()
+fn produced_asked(alloc: Global, name: &str, request: &Request<'_, '_>) -> String {
+    joined(
+        alloc,
+        &[
+            name,
+            " program=",
+            request.input(),
+            " tip=",
+            request.value(Choice::Tip).unwrap_or(""),
+            " part=",
+            request.value(Choice::Part).unwrap_or(""),
+            " exact=",
+            told(request.has(Choice::Exact)),
+        ],
+    )
+}
+
+// The name of one of two, by whether an option is there.
+fn named(
+    request: &Request<'_, '_>,
+    choice: Choice,
+    with: &'static str,
+    without: &'static str,
+) -> &'static str {
+    if request.has(choice) { with } else { without }
 }
 
 // The source lines of a sheet.
 fn lines_words<'a>(lines: Option<&'a str>) -> &'a str {
     match lines {
-        Some(text) => if lines_of(text).is_some() {
-            text
-        } else {
-            "refused"
-        },
+        Some(text) if lines_of(text).is_some() => text,
+        Some(_) => "refused",
         None => "all",
     }
 }
 
+// Words with a blank between two.
+fn spaced(alloc: Global, words: &[String]) -> String {
+    words.join(alloc, " ").unwrap_or(String::new(alloc))
+}
+
+// The check of programs that is asked for.
+fn check_asked(alloc: Global, request: &Request<'_, '_>) -> String {
+    let is_all = request.has(Choice::All);
+    match request.programs() {
+        [name] if !is_all && *name != "-" => joined(alloc, &["check program=", name]),
+        programs => {
+            let programs = programs.join(alloc, " ").unwrap_or(String::new(alloc));
+            joined(alloc, &["checks words=", &programs, " all=", told(is_all)])
+        }
+    }
+}
+
+// The picture that is asked for.
+fn picture_asked(alloc: Global, request: &Request<'_, '_>) -> String {
+    let lines = request.value(Choice::Stretch);
+    if request.has(Choice::Sheet) || lines.is_some() {
+        let close = told(request.has(Choice::Close));
+        return run_asked(
+            alloc,
+            &["sheet close=", close, " lines=", lines_words(lines)],
+            request,
+        );
+    }
+    run_asked(
+        alloc,
+        &[named(request, Choice::Close, "close", "picture")],
+        request,
+    )
+}
+
+// A run that is asked for, with the value of an option in front of it, if that is there.
+fn with_option(
+    alloc: Global,
+    name: &str,
+    front: &str,
+    choice: Choice,
+    request: &Request<'_, '_>,
+) -> String {
+    match request.value(choice) {
+        Some(value) => run_asked(alloc, &[name, front, value], request),
+        None => run_asked(alloc, &[name], request),
+    }
+}
+
 // What is asked for.
-fn asked(alloc: Global, request: Request<'_>) -> Option<String> {
-    match request {
-        Request::Job => String::from_str(alloc, "job").ok(),
-        Request::Check { program } => format!(in alloc; "check program={program}").ok(),
-        Request::Checks(checks) => {
-            let words = checks.words.join(alloc, " ").ok()?;
-            let is_all = checks.is_all;
-            format!(in alloc; "checks words={words} all={is_all}").ok()
-        }
-        Request::Produced(produced) => produced_asked(alloc, produced),
-        Request::Build { program, image } => {
-            format!(in alloc; "build program={program} image={image}").ok()
-        }
-        Request::Run(asked) => run_asked(alloc, "run", asked),
-        Request::Why(asked) => run_asked(alloc, "why", asked),
-        Request::Contacts(asked) => run_asked(alloc, "contacts", asked),
-        Request::Values { asked, names } => {
-            let name = format!(in alloc; "run show={names}").ok()?;
-            run_asked(alloc, &name, asked)
-        }
-        Request::View(view, asked) => run_asked(alloc, name_of(view), asked),
-        Request::Sheet {
-            asked,
-            is_close,
-            lines,
-        } => {
-            let lines = lines_words(lines);
-            let name = format!(in alloc; "sheet close={is_close} lines={lines}").ok()?;
-            run_asked(alloc, &name, asked)
-        }
-        Request::Page { asked, probe: None } => run_asked(alloc, "view", asked),
-        Request::Page {
-            asked,
-            probe: Some(probe),
-        } => probe_asked(alloc, "view", asked, probe),
-        Request::Clearance { asked, probe } => probe_asked(alloc, "clearance", asked, probe),
-        Request::Debug { input, part } => {
-            format!(in alloc; "debug input={input} part={part}").ok()
-        }
-        Request::Dap => String::from_str(alloc, "dap").ok(),
-        Request::List { input } => format!(in alloc; "list input={input}").ok(),
-        Request::Asm { listing, image } => {
-            format!(in alloc; "asm listing={listing} image={image}").ok()
-        }
-        Request::Part { part } => format!(in alloc; "part part={part}").ok(),
-        Request::Explain { words } => {
-            let words = words.join(alloc, " ").ok()?;
-            format!(in alloc; "explain words={words}").ok()
+fn asked(alloc: Global, request: &Request<'_, '_>) -> String {
+    let (input, part) = (request.input(), request.part());
+    match request.verb() {
+        Verb::Check => check_asked(alloc, request),
+        Verb::Survey => produced_asked(
+            alloc,
+            named(request, Choice::Lines, "lines", "survey"),
+            request,
+        ),
+        Verb::Adapt => produced_asked(
+            alloc,
+            named(request, Choice::Touch, "touch", "adapt"),
+            request,
+        ),
+        Verb::Build => joined(
+            alloc,
+            &["build program=", input, " image=", request.image()],
+        ),
+        Verb::Run => with_option(alloc, "run", " show=", Choice::Show, request),
+        Verb::Picture => picture_asked(alloc, request),
+        Verb::View => with_option(alloc, "view", " probe=", Choice::Probe, request),
+        Verb::Clearance => run_asked(alloc, &["clearance probe=", request.probe()], request),
+        Verb::Debug => joined(alloc, &["debug input=", input, " part=", part]),
+        Verb::List => joined(alloc, &["list input=", input]),
+        Verb::Asm => joined(alloc, &["asm listing=", input, " image=", request.image()]),
+        Verb::Part => joined(alloc, &["part part=", input]),
+        Verb::Dap | Verb::Explain => copied(alloc, request.usage().name),
+        Verb::Why | Verb::Contacts | Verb::Trace | Verb::Margin | Verb::Points => {
+            run_asked(alloc, &[request.usage().name], request)
         }
     }
 }
 
-/// What a command line asks for, or its exit status and its fault; none where memory runs out.
-pub(crate) fn words_answer(alloc: Global, line: &str) -> Option<String> {
-    let words = words_of(alloc, line)?;
-    match request_of(alloc, words.as_slice()) {
-        Ok(request) => asked(alloc, request),
-        Err(error) => format!(in alloc; "{} {:?}", error.exit_code(), error.kind()).ok(),
+// What is asked for by words that are read.
+fn matches_answer(alloc: Global, words: &[String]) -> String {
+    match matches_of(alloc, words) {
+        Ok(matches) => match Request::of(&matches) {
+            Some(request) => asked(alloc, &request),
+            None => copied(alloc, "job"),
+        },
+        Err(error) => {
+            let mut text = String::new(alloc);
+            let _ = write!(text, "{} {:?}", error.exit_code(), error.kind());
+            text
+        }
     }
 }
 
-/// The first line of the explanation of words, or the exit status and what is told where they have none.
-pub(crate) fn explain_answer(alloc: Global, words: &str) -> Option<String> {
-    match explanation(words) {
-        Some(entry) => String::from_str(alloc, entry.title()).ok(),
-        None => line_of(alloc, Message::Unknown { words }),
+/// What a command line asks for, or its exit status and its fault.
+pub(crate) fn words_answer(alloc: Global, line: &str) -> String {
+    let words = words_of(alloc, line);
+    match words_to_explain(words.as_slice()) {
+        Some(words) => joined(alloc, &["explain words=", &spaced(alloc, words)]),
+        None => matches_answer(alloc, words.as_slice()),
     }
 }

@@ -1,317 +1,180 @@
-//! The commands that rows ask, each between devices that fail.
+//! What a command does where a call of a device goes wrong: it tells so, and has written a front of what it writes where nothing goes wrong.
 
-use crate::answers::Unseen;
-use crate::devices::{Command, Ending, Failing, Seen, Steps, ending_of, ending_told, failures};
-use std::alloc::Global;
-use std::rt::Files;
-use vcm_boxes::read_boxes;
-use vcm_given::{Titles, tell_contacts, write_sheet_of, write_why};
-use vcm_job::{asm, build, check, debug, job, list, part_from, run};
-use vcm_launch::serve_dap;
-use vcm_page::{Texts, page_of};
-use vcm_part::{PartData, read_part};
-use vcm_prompt::debug_by_hand;
-use vcm_sheet::ALL_LINES;
-use vcm_test_tools::joined;
-use vcm_views::{RunView, view_of};
+use crate::asking::{ask, heard_of};
+use crate::stage::{Device, Heard, How, Trouble};
+use crate::texts::{Asked, copied, number_text, put, word_at};
 
-// The most steps of a run between devices that fail.
-const FEW: u64 = 1_000;
+/// The devices of commands.
+pub(crate) const DEVICES: &[Device] = &[
+    Device::Open,
+    Device::Read,
+    Device::Input,
+    Device::Output,
+    Device::Make,
+    Device::Write,
+];
 
-/// A command that is given its input alone.
-#[derive(Clone, Copy)]
-pub(crate) enum Plain {
-    /// The reading of a part file.
-    Part,
-    Check,
-    Build,
-    List,
-    Asm,
-    Job,
+/// The devices of the debug adapter, which answers by a message where a file can't be read.
+pub(crate) const STREAMS: &[Device] = &[Device::Input, Device::Output];
+
+// The most writes that may come after one that failed. The buffer of standard output is tried again where a command ends, and where it is let go; then a view
+// tries whether standard output is closed.
+const TRIES: u32 = 3;
+
+// The commands that tell through a pipe what they always told. The empty word is a job's.
+const BOUND: &[&str] = &["", "check", "build", "run", "debug", "list", "asm"];
+
+// Whether a device is written to.
+fn is_writer(device: Device) -> bool {
+    device == Device::Output || device == Device::Write
 }
 
-impl Plain {
-    // Which steps it tells where its writer fails.
-    fn steps(self) -> Steps {
-        match self {
-            Plain::Check | Plain::List => Steps::None,
-            Plain::Job => Steps::Printed,
-            Plain::Part | Plain::Build | Plain::Asm => Steps::Any,
+// How the call of a number goes wrong, of so many: it fails, or a write takes no byte, by turns.
+fn how_at(device: Device, number: u32, count: u32) -> How {
+    if is_writer(device) && (number / 2).saturating_add(count / 3) % 2 == 1 {
+        How::TakesNone
+    } else {
+        How::Fails
+    }
+}
+
+// Whether a command tells through a pipe what it always told: then it tells that its output is closed, and the others don't.
+fn is_bound(line: &str) -> bool {
+    let word = word_at(line, 1).unwrap_or("");
+    BOUND.contains(&word)
+}
+
+// How a device's calls are named.
+fn name_of(device: Device) -> &'static str {
+    match device {
+        Device::Open => "open",
+        Device::Read => "read",
+        Device::Input => "read of standard input",
+        Device::Output => "write",
+        Device::Make => "file made",
+        Device::Write => "write of a file",
+    }
+}
+
+// How it is told what goes wrong.
+fn end_of(how: How) -> &'static str {
+    match how {
+        How::Fails => " fails\n",
+        How::TakesNone => " takes no byte\n",
+        How::IsClosed => " finds it closed\n",
+    }
+}
+
+// What is told where a call of a device goes wrong, in front of a name.
+fn front_of(device: Device) -> &'static str {
+    match device {
+        Device::Open | Device::Read | Device::Input => "cannot read ",
+        Device::Output | Device::Make | Device::Write => "cannot write ",
+    }
+}
+
+// The name that is told of a device, or of its file.
+fn told_name(device: Device, path: &str) -> &str {
+    match device {
+        Device::Input => "standard input",
+        Device::Output => "standard output",
+        _ => path,
+    }
+}
+
+// Whether the last that was told is that this device failed, and what was told before is a front of what else is told.
+fn is_told(asked: &Asked<'_>, whole: &Heard, heard: &Heard, device: Device) -> bool {
+    let mut line = copied(asked.texts.alloc, front_of(device));
+    put(&mut line, told_name(device, &heard.path));
+    put(&mut line, "\n");
+    match heard.told.strip_suffix(line.as_str()) {
+        Some(front) => whole.told.starts_with(front),
+        None => false,
+    }
+}
+
+// Whether no device was called again, but standard output by its buffer.
+fn is_last(heard: &Heard, device: Device) -> bool {
+    let tries = if device == Device::Output { TRIES } else { 0 };
+    heard.others == 0 && heard.tries <= tries
+}
+
+// Whether what was written is a front of the whole, and not all of it where a write failed.
+fn is_front(whole: &Heard, heard: &Heard, device: Device) -> bool {
+    let is_cut = heard.written.len() < whole.written.len() || !is_writer(device);
+    is_cut && whole.written.starts_with(&heard.written)
+}
+
+// Whether a command tells what it should where this goes wrong, with the exit status that it should have.
+fn is_ended(asked: &Asked<'_>, whole: &Heard, heard: &Heard, trouble: Trouble) -> bool {
+    match trouble.how {
+        How::IsClosed if !is_bound(asked.line) => {
+            heard.status == 0 && whole.told.starts_with(heard.told.as_str())
+        }
+        _ => heard.status == 6 && is_told(asked, whole, heard, trouble.device),
+    }
+}
+
+// Whether a command does what it should where this goes wrong.
+fn is_right(asked: &Asked<'_>, whole: &Heard, trouble: Trouble) -> bool {
+    let heard = ask(asked, trouble);
+    is_last(&heard, trouble.device)
+        && is_front(whole, &heard, trouble.device)
+        && is_ended(asked, whole, &heard, trouble)
+}
+
+// Tries a command where this goes wrong, and adds a line where it doesn't do what it should.
+fn try_trouble(asked: &Asked<'_>, whole: &Heard, trouble: Trouble, wrong: &mut String) {
+    if is_right(asked, whole, trouble) {
+        return;
+    }
+    put(wrong, asked.line);
+    put(wrong, ": ");
+    put(wrong, name_of(trouble.device));
+    put(wrong, " ");
+    put(
+        wrong,
+        &number_text(asked.texts.alloc, u64::from(trouble.number)),
+    );
+    put(wrong, end_of(trouble.how));
+}
+
+// Has the first call of a device, one in the middle and the last go wrong.
+fn try_device(asked: &Asked<'_>, whole: &Heard, device: Device, wrong: &mut String) {
+    let count = whole.count(device);
+    let mut last = 0;
+    for number in [count.min(1), count / 2, count] {
+        if number > last {
+            last = number;
+            let how = how_at(device, number, count);
+            let trouble = Trouble {
+                device,
+                number,
+                how,
+            };
+            try_trouble(asked, whole, trouble, wrong);
         }
     }
 }
 
-impl Command for Plain {
-    fn ending(&self, alloc: Global, input: &mut Failing<'_>, out: &mut Seen<'_>) -> Ending {
-        match self {
-            Plain::Part => ending_of(part_from(alloc, input)),
-            Plain::Check => ending_of(check(alloc, input, out)),
-            Plain::Build => ending_of(build(alloc, input)),
-            Plain::List => ending_of(list(alloc, input, out)),
-            Plain::Asm => ending_of(asm(alloc, input)),
-            Plain::Job => ending_of(job(alloc, input, out)),
-        }
+/// Has standard output closed in the middle.
+pub(crate) fn try_closed(asked: &Asked<'_>, whole: &Heard, wrong: &mut String) {
+    let count = whole.count(Device::Output);
+    if count > 0 {
+        let trouble = Trouble {
+            device: Device::Output,
+            number: (count / 2).saturating_add(1),
+            how: How::IsClosed,
+        };
+        try_trouble(asked, whole, trouble, wrong);
     }
 }
 
-/// What such a command does wrong.
-pub(crate) fn plain_failures(alloc: Global, plain: Plain, input: &str) -> Option<String> {
-    failures(alloc, input.as_bytes(), plain.steps(), &plain)
-}
-
-/// What a command shows of a run.
-#[derive(Clone, Copy)]
-pub(crate) enum Showing<'a> {
-    View(RunView<'a>),
-    Why,
-    Contacts,
-    /// The steps of a page.
-    Story,
-    Sheet,
-}
-
-// The page of a run without its fixed texts.
-fn show_page(
-    alloc: Global,
-    part: &PartData,
-    input: &mut Failing<'_>,
-    steps: u64,
-    out: &mut Seen<'_>,
-) -> Ending {
-    let texts = Texts {
-        front: &[],
-        back: &[],
-    };
-    ending_of(page_of(alloc, part, texts, input, steps, out))
-}
-
-// The sheet of a run.
-fn show_sheet(
-    alloc: Global,
-    part: &PartData,
-    input: &mut Failing<'_>,
-    steps: u64,
-    out: &mut Seen<'_>,
-) -> Ending {
-    let titles = Titles {
-        program_name: b"t.dmi",
-        part_name: b"t.toml",
-        block_names: &[],
-        lines: ALL_LINES,
-        is_close: false,
-    };
-    ending_of(write_sheet_of(alloc, titles, part, input, steps, out))
-}
-
-// Shows it of the run of a program, for so many steps.
-fn show(
-    alloc: Global,
-    showing: Showing<'_>,
-    part: &PartData,
-    input: &mut Failing<'_>,
-    steps: u64,
-    out: &mut Seen<'_>,
-) -> Ending {
-    match showing {
-        Showing::View(view) => ending_of(view_of(alloc, view, part, input, steps, out)),
-        Showing::Why => ending_of(write_why(alloc, part, input, steps, out)),
-        Showing::Contacts => ending_of(tell_contacts(alloc, part, input, steps, out)),
-        Showing::Story => show_page(alloc, part, input, steps, out),
-        Showing::Sheet => show_sheet(alloc, part, input, steps, out),
+/// Asks a command again where calls of these devices go wrong, adds a line for each try that isn't as it should be, and gives what it does where nothing goes wrong.
+pub(crate) fn try_devices(asked: &Asked<'_>, devices: &[Device], wrong: &mut String) -> Heard {
+    let whole = heard_of(asked);
+    for device in devices {
+        try_device(asked, &whole, *device, wrong);
     }
-}
-
-// A command beside a workpiece: what its input is, and what else it is given.
-#[derive(Clone, Copy)]
-enum Work<'a> {
-    /// A run of the input, for so many steps.
-    Run(u64),
-    /// What is shown of one.
-    Show(Showing<'a>, u64),
-    /// The debugger on this program; the input are its lines.
-    Debug(&'a str),
-    /// The same at a terminal.
-    Talk(&'a str),
-    /// The debugger on the input, with these lines.
-    DebugInput(&'a str),
-}
-
-// The same, with the workpiece.
-#[derive(Clone, Copy)]
-struct Beside<'a> {
-    part: &'a PartData,
-    work: Work<'a>,
-}
-
-// The debugger on an input, with these lines.
-fn debug_input(alloc: Global, part: &PartData, input: &mut Failing<'_>, lines: &str) -> Ending {
-    let mut lines = lines.as_bytes();
-    ending_of(debug(alloc, part, input, &mut lines, &mut Vec::new(alloc)))
-}
-
-impl Command for Beside<'_> {
-    fn ending(&self, alloc: Global, input: &mut Failing<'_>, out: &mut Seen<'_>) -> Ending {
-        let part = self.part;
-        match self.work {
-            Work::Run(steps) => ending_of(run(alloc, part, input, steps, out)),
-            Work::Show(showing, steps) => show(alloc, showing, part, input, steps, out),
-            Work::Debug(program) => {
-                ending_of(debug(alloc, part, &mut program.as_bytes(), input, out))
-            }
-            Work::Talk(program) => {
-                ending_of(debug_by_hand(alloc, part, program.as_bytes(), input, out, &Unseen))
-            }
-            Work::DebugInput(lines) => debug_input(alloc, part, input, lines),
-        }
-    }
-}
-
-// What the run of an input does wrong.
-fn input_failures(alloc: Global, part: &PartData, input: &[u8], steps: u64) -> Option<String> {
-    let work = Work::Run(steps);
-    failures(alloc, input, Steps::Printed, &Beside { part, work })
-}
-
-// What the run of a program's image does wrong; nothing where it has none.
-fn image_failures(alloc: Global, part: &PartData, program: &str, steps: u64) -> Option<String> {
-    match build(alloc, &mut program.as_bytes()) {
-        Ok(built) => input_failures(alloc, part, &built.image, steps),
-        Err(_) => Some(String::new(alloc)),
-    }
-}
-
-// Whether the run of a program goes on behind so many steps.
-fn goes_on(alloc: Global, part: &PartData, program: &str, steps: u64) -> bool {
-    match run(
-        alloc,
-        part,
-        &mut program.as_bytes(),
-        steps,
-        &mut Vec::new(alloc),
-    ) {
-        Ok(done) => done.status == 4,
-        Err(_) => false,
-    }
-}
-
-// What the job of a part file and a program does wrong; nothing is asked where it doesn't end in few steps.
-fn job_failures(alloc: Global, workpiece: &PartData, part: &str, program: &str) -> Option<String> {
-    if goes_on(alloc, workpiece, program, FEW) {
-        return Some(String::new(alloc));
-    }
-    let text = joined(alloc, &[part, "%%\n", program])?;
-    plain_failures(alloc, Plain::Job, &text)
-}
-
-// What `vcm run` does wrong: of the program, of its image and, where it ends, as a job.
-fn run_failures(
-    alloc: Global,
-    workpiece: &PartData,
-    texts: Texted<'_>,
-    steps: u64,
-) -> Option<String> {
-    let program = texts.program;
-    let mut text = input_failures(alloc, workpiece, program.as_bytes(), steps)?;
-    text.push_str(&image_failures(alloc, workpiece, program, steps)?)
-        .ok()?;
-    text.push_str(&job_failures(alloc, workpiece, texts.part, program)?)
-        .ok()?;
-    Some(text)
-}
-
-// What `vcm debug` does wrong: where its commands or its replies fail, and where the program can't be read.
-fn debug_failures(alloc: Global, part: &PartData, texts: Texted<'_>) -> Option<String> {
-    let lines = Beside {
-        part,
-        work: Work::Debug(texts.program),
-    };
-    let input = Beside {
-        part,
-        work: Work::DebugInput(texts.lines),
-    };
-    let mut text = failures(alloc, texts.lines.as_bytes(), Steps::Any, &lines)?;
-    text.push_str(&failures(alloc, texts.program.as_bytes(), Steps::Any, &input)?)
-        .ok()?;
-    Some(text)
-}
-
-/// A command that a row asks beside a workpiece.
-#[derive(Clone, Copy)]
-pub(crate) enum Asked<'a> {
-    Run(u64),
-    Show(Showing<'a>, u64),
-    Debug,
-    Talk,
-}
-
-/// The texts that a row asks it on: a part file, a program and lines of the debugger.
-#[derive(Clone, Copy)]
-pub(crate) struct Texted<'a> {
-    pub(crate) part: &'a str,
-    pub(crate) program: &'a str,
-    pub(crate) lines: &'a str,
-}
-
-// What a command does wrong beside a workpiece.
-fn failures_at(
-    alloc: Global,
-    asked: Asked<'_>,
-    part: &PartData,
-    texts: Texted<'_>,
-) -> Option<String> {
-    let (input, work) = match asked {
-        Asked::Run(steps) => return run_failures(alloc, part, texts, steps.min(FEW)),
-        Asked::Debug => return debug_failures(alloc, part, texts),
-        Asked::Show(showing, steps) => (texts.program, Work::Show(showing, steps.min(FEW))),
-        Asked::Talk => (texts.lines, Work::Talk(texts.program)),
-    };
-    failures(alloc, input.as_bytes(), Steps::Any, &Beside { part, work })
-}
-
-/// What a command does wrong beside the workpiece of a part file; where that is refused, what reading the file does wrong.
-pub(crate) fn failures_beside(
-    alloc: Global,
-    asked: Asked<'_>,
-    texts: Texted<'_>,
-) -> Option<String> {
-    match read_part(alloc, texts.part.as_bytes()) {
-        Ok(part) => failures_at(alloc, asked, &part, texts),
-        Err(_) => plain_failures(alloc, Plain::Part, texts.part),
-    }
-}
-
-/// What `vcm clearance` does wrong; nothing where the probe file is refused.
-pub(crate) fn clearance_failures(
-    alloc: Global,
-    probe: &str,
-    texts: Texted<'_>,
-    steps: u64,
-) -> Option<String> {
-    match read_boxes(alloc, probe.as_bytes()) {
-        Ok(boxes) => {
-            let showing = Showing::View(RunView::Clearance(&boxes));
-            failures_beside(alloc, Asked::Show(showing, steps), texts)
-        }
-        Err(_) => Some(String::new(alloc)),
-    }
-}
-
-// The debug adapter, which opens files.
-#[derive(Clone, Copy)]
-struct Adapter<'a, R> {
-    rt: &'a R,
-}
-
-impl<R: Files + AllocGlobal> Command for Adapter<'_, R> {
-    fn ending(&self, _alloc: Global, input: &mut Failing<'_>, out: &mut Seen<'_>) -> Ending {
-        match serve_dap(self.rt, input, &mut out.writer) {
-            Ok(()) => Ending::Whole,
-            Err(message) => ending_told(message, 0),
-        }
-    }
-}
-
-/// What `vcm dap` does wrong with these bytes.
-pub(crate) fn sent_failures<R: Files + AllocGlobal>(rt: &R, sent: &[u8]) -> Option<String> {
-    failures(rt.alloc(), sent, Steps::Any, &Adapter { rt })
+    whole
 }

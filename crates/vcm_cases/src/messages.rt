@@ -4,6 +4,7 @@ use crate::faults::{
     first_refusal, next_input, next_listing, next_refusal, next_refused_part, next_run,
     next_session, next_text, refused_listing, refused_text,
 };
+use crate::texts::put;
 use std::alloc::Global;
 use std::fmt::Write as _;
 use vcm_explain::explanation;
@@ -38,27 +39,35 @@ const RUNNING: &[JobFault] = &[
 ];
 
 /// A message behind its exit status.
-pub(crate) fn line_of(alloc: Global, message: Message<'_>) -> Option<String> {
-    format!(in alloc; "{} {message}", status_of(message)).ok()
+pub(crate) fn line_of(alloc: Global, message: Message<'_>) -> String {
+    let mut line = String::new(alloc);
+    let _ = write!(line, "{} {message}", status_of(message));
+    line
 }
 
 // Adds a line with a status and a message, and behind it the first line of its explanation.
-fn put_line(text: &mut String, line: &str) -> Option<()> {
-    let (_, words) = line.split_once(' ')?;
-    match explanation(words) {
-        Some(entry) => writeln!(text, "{line} [{}]", entry.title()).ok(),
-        None => writeln!(text, "{line}").ok(),
+fn put_line(text: &mut String, line: &str) {
+    let words = match line.split_once(' ') {
+        Some((_, words)) => words,
+        None => line,
+    };
+    put(text, line);
+    if let Some(entry) = explanation(words) {
+        put(text, " [");
+        put(text, entry.title());
+        put(text, "]");
     }
+    put(text, "\n");
 }
 
-// The lines of all refusals of a kind, from the first one on, and of the other faults of a command; none where there are too many, or memory runs out.
+// The lines of all refusals of a kind, from the first one on, and of the other faults of a command.
 fn told<R: Told + Copy, N: Fn(R) -> Option<R>>(
     alloc: Global,
     name: &str,
     first: R,
     next: N,
     others: &[JobFault],
-) -> Option<String>
+) -> String
     requires goes_on { N.IsAlwaysCallable next }
 {
     let mut text = String::new(alloc);
@@ -66,39 +75,34 @@ fn told<R: Told + Copy, N: Fn(R) -> Option<R>>(
     for _ in 0..MOST {
         put_line(
             &mut text,
-            &line_of(alloc, message_of(Fault::Refused(refusal), name))?,
-        )?;
+            &line_of(alloc, message_of(Fault::Refused(refusal), name)),
+        );
         match next(refusal) {
             Some(behind) => refusal = behind,
-            None => return with_others(alloc, text, name, others),
+            None => break,
         }
     }
-    None
-}
-
-// The same behind the lines of the refusals.
-fn with_others(alloc: Global, refusals: String, name: &str, others: &[JobFault]) -> Option<String> {
-    let mut text = refusals;
     for fault in others {
-        put_line(&mut text, &line_of(alloc, message_of(*fault, name))?)?;
+        put_line(&mut text, &line_of(alloc, message_of(*fault, name)));
     }
-    Some(text)
+    text
 }
 
 // What is told of a command line before a command is carried out.
-fn usage(alloc: Global) -> Option<String> {
+fn usage(alloc: Global) -> String {
     let mut text = String::new(alloc);
-    put_line(&mut text, &line_of(alloc, Message::Usage)?)?;
-    put_line(&mut text, &line_of(alloc, Message::Steps)?)?;
-    put_line(
-        &mut text,
-        &line_of(alloc, Message::Unknown { words: "E14x" })?,
-    )?;
-    Some(text)
+    for message in [
+        Message::Usage,
+        Message::Steps,
+        Message::Unknown { words: "E14x" },
+    ] {
+        put_line(&mut text, &line_of(alloc, message));
+    }
+    text
 }
 
 // The same of the commands that read a program.
-fn of_programs(alloc: Global, command: &str) -> Option<String> {
+fn of_programs(alloc: Global, command: &str) -> String {
     let refusal = first_refusal();
     let input = InputRefusal::Text(refusal);
     match command {
@@ -113,12 +117,12 @@ fn of_programs(alloc: Global, command: &str) -> Option<String> {
             next_session,
             GIVING,
         ),
-        _ => None,
+        _ => String::new(alloc),
     }
 }
 
-/// What a command tells of each of its faults; none where there is no such command.
-pub(crate) fn messages(alloc: Global, command: &str) -> Option<String> {
+/// What a command tells of each of its faults; nothing where there is no such command.
+pub(crate) fn messages(alloc: Global, command: &str) -> String {
     let text = refused_text(FaultCode::NoMemory);
     let listing = refused_listing(ListCode::NoMemory);
     let part = PartFault {

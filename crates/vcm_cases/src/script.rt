@@ -1,293 +1,37 @@
 //! The text of worked examples, line by line.
 
-use crate::adapter::{adapter_answer, adapter_failures, wanted_in};
-use crate::answers::{
-    adapt_answer, asm_answer, check_answer, clearance_answer, image, image_answer, listing,
-    replies, run_answer, story_answer, survey_answer, talked, view_answer,
-};
-use crate::asking::{explain_answer, words_answer};
+use crate::asking::{heard_of, words_answer};
 use crate::explained::judge_examples;
-use crate::failing::{
-    Asked, Plain, Showing, Texted, clearance_failures, failures_beside, plain_failures,
-};
+use crate::failing::{DEVICES, STREAMS, try_closed, try_devices};
+use crate::headings::{Heading, behind_word, heading_of, line_of, line_with};
 use crate::messages::messages;
-use crate::parts::{notices_answer, part_answer};
-use crate::reasons::{contacts_answer, why_answer};
-use crate::sheets::sheet_answer;
-use crate::shown::shown_answer;
+use crate::shapes::{
+    answer_of, answer_with, bytes_of, digits_of, first_line, story_in, words_of_svg,
+};
+use crate::stage::Heard;
+use crate::talks::{sent_in, talk_of, wanted_in};
 use crate::tally::{MARK, Tally};
+use crate::texts::{Asked, Texts, copied, joined, number_text, program_of, put, taken, text_of};
+use crate::ways::{Ran, asked_with, heard_with, image_of, job_of, put_ways};
 use std::alloc::Global;
-use std::fmt::Write as _;
-use std::rt::Files;
-use vcm_test_tools::program_of;
-use vcm_views::RunView;
 
-// The most steps of the run of a sheet.
-const STEPS_OF_SHEETS: u64 = 1_000_000;
-
-// The most bytes of a text whose command is asked again between devices that fail.
+// The most bytes of a text whose command is asked again where devices fail, and the most steps of its run.
 const LONG: usize = 4096;
 
-/// What stands below a heading.
-#[derive(Clone, Copy)]
-enum Heading {
-    /// Remarks, and nothing to be judged.
-    Remarks,
-    /// A part file, for all that follows.
-    Part,
-    /// A program, for all that follows.
-    Program,
-    /// The statements of a program between its head and its end, for all that follows.
-    Statements,
-    /// Commands of the debugger, for all that follows.
-    Commands,
-    /// What a run answers after so many steps at most.
-    Run(u64),
-    /// A probe file, for all that follows.
-    Probe,
-    /// What a view of a run answers after so many steps at most.
-    View(RunView<'static>, u64),
-    /// What the clearance of the probe's boxes answers after so many steps at most.
-    Clearance(u64),
-    /// Why a run stops where it does, after so many steps at most; that of the program's image, or of its text.
-    Why(u64, bool),
-    /// All contacts of a run, after so many steps at most.
-    Contacts(u64),
-    /// What stands in the page of a run between the fixed texts, after so many steps at most.
-    Story(u64),
-    /// The texts of the sheet of a run.
-    Sheet,
-    /// What a run answers that shows variables at its end.
-    Shown,
-    /// What is told of the part file.
-    PartTold,
-    /// What is told of all notices in one line.
-    Notices,
-    /// What a check answers.
-    Check,
-    /// What a survey tells.
-    Survey,
-    /// What the program is adapted to.
-    Adapt,
-    /// What the debugger answers.
-    Replies,
-    /// What the debugger answers to lines that are typed.
-    Talked,
-    /// The listing.
-    Listing,
-    /// The bytes of the image.
-    Image,
-    /// Statements, a line each, whose programs are refused with the code and name that the heading has.
-    Refused,
-    /// Images, a line each, that are refused with the code and name that the heading has.
-    Images,
-    /// A listing that is refused as the heading says.
-    Unlisted,
-    /// A listing that has an image.
-    Assembled,
-    /// Command lines, a line each, that ask for what the heading says.
-    Words,
-    /// Words, a line each, whose explanation begins with the line that the heading has.
-    Explain,
-    /// Words, a line each, of which nothing is known.
-    Unexplained,
-    /// What a command tells of each of its faults.
-    Messages,
-    /// What is sent to the debug adapter, and what comes back.
-    Adapter,
-    /// None of these.
-    Unknown,
-}
+const FEW: u64 = 1_000;
+
+// What stands behind a heading whose command is asked again where devices fail.
+const FAILING: &str = " between devices that fail";
 
 /// The text as far as it is read: what is set, what stands below the last heading, and how the answers were.
 #[derive(Drop)]
 pub(crate) struct Script {
-    part: String,
-    probe: String,
-    program: String,
-    commands: String,
+    texts: Texts,
     title: String,
     body: String,
     repeated: String,
     times: u32,
     tally: Tally,
-}
-
-// What a heading says.
-fn heading_of(title: &str) -> Heading {
-    match title.split_once(' ') {
-        Some((word, rest)) => heading_with(word, rest),
-        None => heading_word(title),
-    }
-}
-
-// What a heading says by its first word, and what stands behind that.
-fn heading_with(word: &str, rest: &str) -> Heading {
-    match word {
-        "run" => run_heading(rest),
-        "trace" => view_heading(RunView::Trace, rest),
-        "margin" => view_heading(RunView::Margin, rest),
-        "points" => view_heading(RunView::Points, rest),
-        "picture" => view_heading(RunView::Picture { is_close: false }, rest),
-        "close" => view_heading(RunView::Picture { is_close: true }, rest),
-        "clearance" => clearance_heading(rest),
-        "why" => why_heading(rest, false),
-        "why-image" => why_heading(rest, true),
-        "contacts" => contacts_heading(rest),
-        "story" => story_heading(rest),
-        "sheet" => Heading::Sheet,
-        "shown" => Heading::Shown,
-        "survey" => Heading::Survey,
-        "adapt" => Heading::Adapt,
-        "refused" => Heading::Refused,
-        "images" => Heading::Images,
-        "unlisted" => Heading::Unlisted,
-        "words" => Heading::Words,
-        "explain" => Heading::Explain,
-        "messages" => Heading::Messages,
-        "dap" => Heading::Adapter,
-        "#" => Heading::Remarks,
-        _ => Heading::Unknown,
-    }
-}
-
-// The heading of a run.
-fn run_heading(steps: &str) -> Heading {
-    match steps.parse::<u64>() {
-        Ok(steps) => Heading::Run(steps),
-        Err(_) => Heading::Unknown,
-    }
-}
-
-// The heading of a clearance.
-fn clearance_heading(steps: &str) -> Heading {
-    match steps.parse::<u64>() {
-        Ok(steps) => Heading::Clearance(steps),
-        Err(_) => Heading::Unknown,
-    }
-}
-
-// The heading of a stop that is told.
-fn why_heading(steps: &str, is_image: bool) -> Heading {
-    match steps.parse::<u64>() {
-        Ok(steps) => Heading::Why(steps, is_image),
-        Err(_) => Heading::Unknown,
-    }
-}
-
-// The heading of contacts.
-fn contacts_heading(steps: &str) -> Heading {
-    match steps.parse::<u64>() {
-        Ok(steps) => Heading::Contacts(steps),
-        Err(_) => Heading::Unknown,
-    }
-}
-
-// The heading of a view.
-fn view_heading(view: RunView<'static>, steps: &str) -> Heading {
-    match steps.parse::<u64>() {
-        Ok(steps) => Heading::View(view, steps),
-        Err(_) => Heading::Unknown,
-    }
-}
-
-// The heading of a story.
-fn story_heading(steps: &str) -> Heading {
-    match steps.parse::<u64>() {
-        Ok(steps) => Heading::Story(steps),
-        Err(_) => Heading::Unknown,
-    }
-}
-
-// What a heading of one word says.
-fn heading_word(title: &str) -> Heading {
-    match title {
-        "" => Heading::Remarks,
-        "part" => Heading::Part,
-        "probe" => Heading::Probe,
-        "program" => Heading::Program,
-        "statements" => Heading::Statements,
-        "commands" => Heading::Commands,
-        "part-told" => Heading::PartTold,
-        "notices" => Heading::Notices,
-        "check" => Heading::Check,
-        "replies" => Heading::Replies,
-        "talked" => Heading::Talked,
-        "listing" => Heading::Listing,
-        "image" => Heading::Image,
-        "assembled" => Heading::Assembled,
-        "unexplained" => Heading::Unexplained,
-        _ => Heading::Unknown,
-    }
-}
-
-// What a question that stands below a heading answers; none where that isn't a question, or memory runs out.
-fn answer(alloc: Global, script: &Script) -> Option<String> {
-    match heading_of(&script.title) {
-        Heading::Run(steps) => run_answer(alloc, &script.part, &script.program, steps),
-        Heading::View(view, steps) => {
-            view_answer(alloc, view, &script.part, &script.program, steps)
-        }
-        Heading::Clearance(steps) => {
-            clearance_answer(alloc, &script.part, &script.probe, &script.program, steps)
-        }
-        Heading::Why(steps, is_image) => {
-            why_answer(alloc, &script.part, &script.program, steps, is_image)
-        }
-        Heading::Contacts(steps) => { contacts_answer(alloc, &script.part, &script.program, steps) }
-        Heading::Story(steps) => story_answer(alloc, &script.part, &script.program, steps),
-        Heading::Sheet => sheet_answer(
-            alloc,
-            &script.part,
-            &script.program,
-            behind_word(&script.title),
-        ),
-        Heading::Shown => shown_answer(
-            alloc,
-            &script.part,
-            &script.program,
-            behind_word(&script.title),
-        ),
-        Heading::PartTold => part_answer(alloc, &script.part),
-        Heading::Notices => notices_answer(alloc, &script.program),
-        Heading::Check => check_answer(alloc, &script.program),
-        Heading::Survey => survey_answer(alloc, &script.program, behind_word(&script.title)),
-        Heading::Adapt => adapt_answer(alloc, &script.program, behind_word(&script.title)),
-        Heading::Replies => replies(alloc, &script.part, &script.program, &script.commands),
-        Heading::Talked => talked(alloc, &script.part, &script.program, &script.commands),
-        Heading::Listing => listing(alloc, &script.program),
-        Heading::Image => image(alloc, &script.program),
-        Heading::Messages => messages(alloc, behind_word(&script.title)),
-        _ => None,
-    }
-}
-
-// What the command that a heading asks does wrong between devices that fail, none inside where memory runs out; none where it has no devices.
-fn failures(alloc: Global, script: &Script) -> Option<Option<String>> {
-    let texts = Texted {
-        part: &script.part,
-        program: &script.program,
-        lines: &script.commands,
-    };
-    let asked = match heading_of(&script.title) {
-        Heading::PartTold => return Some(plain_failures(alloc, Plain::Part, texts.part)),
-        Heading::Check => return Some(plain_failures(alloc, Plain::Check, texts.program)),
-        Heading::Listing => return Some(plain_failures(alloc, Plain::List, texts.program)),
-        Heading::Image => return Some(plain_failures(alloc, Plain::Build, texts.program)),
-        Heading::Clearance(steps) => {
-            return Some(clearance_failures(alloc, &script.probe, texts, steps));
-        }
-        Heading::Run(steps) => Asked::Run(steps),
-        Heading::View(view, steps) => Asked::Show(Showing::View(view), steps),
-        Heading::Why(steps, _) => Asked::Show(Showing::Why, steps),
-        Heading::Contacts(steps) => Asked::Show(Showing::Contacts, steps),
-        Heading::Story(steps) => Asked::Show(Showing::Story, steps),
-        Heading::Sheet => Asked::Show(Showing::Sheet, STEPS_OF_SHEETS),
-        Heading::Replies => Asked::Debug,
-        Heading::Talked => Asked::Talk,
-        _ => return None,
-    };
-    Some(failures_beside(alloc, asked, texts))
 }
 
 // The steps that a line of an answer tells; nothing where it tells none.
@@ -304,48 +48,79 @@ fn steps_in(line: &str) -> &str {
 
 // Whether a line of an answer tells more than 9,999 steps.
 fn has_many_steps(answer: &str) -> bool {
-    answer.lines().any(|line| steps_in(line).len() > 4)
+    for line in answer.lines() {
+        if steps_in(line).len() > 4 {
+            return true;
+        }
+    }
+    false
+}
+
+// Whether what is told of a text that was adapted tells no fault, and nothing that isn't tried.
+fn is_whole(told: &str) -> bool {
+    for line in told.lines() {
+        if line == "fault" || line == "not tried" {
+            return false;
+        }
+    }
+    true
 }
 
 // How often the lines below a heading are to stand there; none where it says nothing of that.
 fn times_of(title: &str) -> Option<u32> {
-    title.strip_prefix("repeat ")?.parse::<u32>().ok()
+    match title.strip_prefix("repeat ") {
+        Some(times) => times.parse::<u32>().ok(),
+        None => None,
+    }
 }
 
 // A line with a number where the sign for it stands.
-fn numbered(alloc: Global, line: &str, number: u32) -> Option<String> {
+fn numbered(alloc: Global, line: &str, number: u32) -> String {
     let mut text = String::new(alloc);
     for (place, piece) in line.split('%').enumerate() {
         if place > 0 {
-            write!(text, "{number}").ok()?;
+            put(&mut text, &number_text(alloc, u64::from(number)));
         }
-        text.push_str(piece).ok()?;
+        put(&mut text, piece);
     }
-    Some(text)
+    text
 }
 
-// What a heading has behind its first word.
-fn behind_word(title: &str) -> &str {
-    match title.split_once(' ') {
-        Some((_, rest)) => rest,
-        None => "",
+// What a command does that a heading asks.
+fn answer_for(alloc: Global, heading: Heading, heard: &Heard) -> String {
+    match heading {
+        Heading::Sheet => answer_with(alloc, &words_of_svg(alloc, text_of(&heard.written)), heard),
+        Heading::Story => answer_with(alloc, story_in(text_of(&heard.written)), heard),
+        Heading::Image => digits_of(alloc, &heard.written),
+        Heading::Notices => copied(alloc, &heard.told),
+        _ => answer_of(alloc, heard),
     }
 }
 
-// The answer to what is refused as a heading says, behind its first word, at a place.
-fn refusal(alloc: Global, title: &str, place: &str) -> Option<String> {
-    let words = behind_word(title);
-    format!(in alloc; "{words}{place}\nstatus 1\n").ok()
+// Adds what a command does wrong where devices fail, with this as the file `made` and this on standard input.
+fn put_wrong<'x>(
+    texts: &'x Texts,
+    line: &'x str,
+    made: &'x [u8],
+    input: &'x [u8],
+    wrong: &mut String,
+) {
+    let asked = asked_with(texts, line, made, input);
+    let whole = try_devices(&asked, DEVICES, wrong);
+    try_closed(&asked, &whole, wrong);
+}
+
+// What the debug adapter does that is sent this; what it does wrong where its streams fail is added.
+fn heard_talking<'x>(texts: &'x Texts, sent: &'x [u8], wrong: &mut String) -> Heard {
+    let asked = asked_with(texts, "vcm dap", &[], sent);
+    try_devices(&asked, STREAMS, wrong)
 }
 
 impl Script {
     /// No text yet.
     pub(crate) fn new(alloc: Global) -> Script {
         Script {
-            part: String::new(alloc),
-            probe: String::new(alloc),
-            program: String::new(alloc),
-            commands: String::new(alloc),
+            texts: Texts::new(alloc),
             title: String::new(alloc),
             body: String::new(alloc),
             repeated: String::new(alloc),
@@ -354,181 +129,338 @@ impl Script {
         }
     }
 
-    /// Reads one more line; none where memory runs out.
-    pub(crate) fn take<R: Files + AllocGlobal>(&mut self, rt: &R, line: &str) -> Option<()> {
+    /// Adds a file that launches of the debug adapter open.
+    pub(crate) fn add_file(&mut self, name: &str, bytes: Vec<u8>) {
+        self.texts.add_file(name, bytes);
+    }
+
+    /// Reads one more line.
+    pub(crate) fn take(&mut self, line: &str) {
         match line.strip_prefix(MARK) {
-            Some(title) => self.take_heading(rt, title),
+            Some(title) => self.take_heading(title),
             None if self.times > 0 => {
-                self.repeated.push_str(line).ok()?;
-                self.repeated.push_str("\n").ok()
+                put(&mut self.repeated, line);
+                put(&mut self.repeated, "\n");
             }
-            None => self.take_line(rt.alloc(), line),
+            None => self.take_line(line),
         }
     }
 
     // Reads a heading: one that goes on with what stands below the last one, or another.
-    fn take_heading<R: Files + AllocGlobal>(&mut self, rt: &R, title: &str) -> Option<()> {
-        self.repeat(rt.alloc())?;
+    fn take_heading(&mut self, title: &str) {
+        self.repeat();
         if title == "then" {
-            return Some(());
+            return;
         }
         if let Some(times) = times_of(title) {
             self.times = times;
-            return Some(());
+            return;
         }
-        self.end(rt)?;
-        self.title = String::from_str(rt.alloc(), title).ok()?;
-        Some(())
+        self.end();
+        self.title = copied(self.texts.alloc, title);
     }
 
     // Reads the lines that stand several times, with their number.
-    fn repeat(&mut self, alloc: Global) -> Option<()> {
-        let lines = std::mem::replace(&mut self.repeated, String::new(alloc));
+    fn repeat(&mut self) {
+        let alloc = self.texts.alloc;
+        let lines = taken(alloc, &mut self.repeated);
         let times = std::mem::replace(&mut self.times, 0);
         for number in 0..times {
             for line in lines.lines() {
-                let line = numbered(alloc, line, number)?;
-                self.take_line(alloc, &line)?;
+                self.take_line(&numbered(alloc, line, number));
             }
         }
-        Some(())
     }
 
     // Reads a line that is no heading.
-    fn take_line(&mut self, alloc: Global, line: &str) -> Option<()> {
+    fn take_line(&mut self, line: &str) {
         match heading_of(&self.title) {
-            Heading::Refused => self.judge_refusal(alloc, line),
-            Heading::Images => self.judge_image(alloc, line),
-            Heading::Words => self.judge_line(line, words_answer(alloc, line)),
-            Heading::Explain => self.judge_line(line, explain_answer(alloc, line)),
-            Heading::Unexplained => self.judge_unexplained(alloc, line),
+            Heading::Refused => self.judge_refusal(line),
+            Heading::Images => self.judge_image(line),
+            Heading::Words => self.judge_words(line),
+            Heading::Explain => self.judge_explained(line),
+            Heading::Unexplained => self.judge_unexplained(line),
             _ => {
-                self.body.push_str(line).ok()?;
-                self.body.push_str("\n").ok()
+                put(&mut self.body, line);
+                put(&mut self.body, "\n");
             }
         }
     }
 
-    /// Ends the text.
-    pub(crate) fn finish<R: Files + AllocGlobal>(&mut self, rt: &R) -> Option<()> {
-        self.repeat(rt.alloc())?;
-        self.end(rt)
+    /// Ends the text, and judges the examples of explanations.
+    pub(crate) fn finish(&mut self) {
+        self.repeat();
+        self.end();
+        judge_examples(self.texts.alloc, &mut self.tally);
     }
 
     // Ends what stands below a heading: it is set, or judged.
-    fn end<R: Files + AllocGlobal>(&mut self, rt: &R) -> Option<()> {
-        let alloc = rt.alloc();
-        let body = std::mem::replace(&mut self.body, String::new(alloc));
+    fn end(&mut self) {
+        let alloc = self.texts.alloc;
+        let body = taken(alloc, &mut self.body);
         match heading_of(&self.title) {
-            Heading::Remarks | Heading::Refused | Heading::Images => Some(()),
-            Heading::Words | Heading::Explain | Heading::Unexplained => Some(()),
-            Heading::Part => {
-                self.part = body;
-                Some(())
-            }
-            Heading::Probe => {
-                self.probe = body;
-                Some(())
-            }
-            Heading::Program => {
-                self.program = body;
-                Some(())
-            }
-            Heading::Statements => {
-                self.program = program_of(alloc, &body)?;
-                Some(())
-            }
-            Heading::Commands => {
-                self.commands = body;
-                Some(())
-            }
-            Heading::Unlisted => {
-                let wanted = refusal(alloc, &self.title, "")?;
-                self.judge_listing(alloc, &body, &wanted)
-            }
-            Heading::Adapter => self.judge_adapter(rt, &body),
-            Heading::Assembled => self.judge_listing(alloc, &body, "status 0\n"),
-            _ => {
-                let found = answer(alloc, self);
-                self.tally.judge(&self.title, &self.program, &body, found)?;
-                self.judge_command(alloc, &body)
-            }
+            Heading::Remarks | Heading::Refused | Heading::Images => {}
+            Heading::Words | Heading::Explain | Heading::Unexplained => {}
+            Heading::Part => self.texts.part = body,
+            Heading::Probe => self.texts.probe = body,
+            Heading::Program => self.texts.program = body,
+            Heading::Statements => self.texts.program = program_of(alloc, &body),
+            Heading::Commands => self.texts.commands = body,
+            heading => self.judge_section(heading, &body),
         }
     }
 
-    // Judges what the command that the heading asks, of which this is wanted, does between devices that fail.
-    fn judge_command(&mut self, alloc: Global, wanted: &str) -> Option<()> {
-        if self.is_long() || has_many_steps(wanted) {
-            return Some(());
+    // Counts an answer below the heading, with what stands behind that.
+    fn judge(&mut self, more: &str, wanted: &str, found: &str) {
+        let title = joined(self.texts.alloc, &[&self.title, more]);
+        self.tally.judge(&title, &self.texts.program, wanted, found);
+    }
+
+    // Judges what stands below a heading.
+    fn judge_section(&mut self, heading: Heading, body: &str) {
+        match heading {
+            Heading::Messages => self.judge_messages(body),
+            Heading::Adapter => self.judge_talk(body),
+            Heading::Unlisted => {
+                let mut wanted = copied(self.texts.alloc, behind_word(&self.title));
+                put(&mut wanted, "\nstatus 1\n");
+                self.judge_listing(body, &wanted)
+            }
+            Heading::Assembled => self.judge_listing(body, "status 0\n"),
+            Heading::Unknown => self.judge("", body, "nothing\n"),
+            _ => self.judge_command(heading, body),
         }
-        match failures(alloc, self) {
-            Some(found) => self.judge_failures(alloc, found),
-            None => Some(()),
+    }
+
+    // Judges what a command tells of each of its faults.
+    fn judge_messages(&mut self, wanted: &str) {
+        let found = messages(self.texts.alloc, behind_word(&self.title));
+        self.judge("", wanted, &found);
+    }
+
+    // Judges what is made of a listing, which has this besides.
+    fn judge_listing(&mut self, listing: &str, wanted: &str) {
+        let alloc = self.texts.alloc;
+        let asked = asked_with(&self.texts, "vcm asm made image", listing.as_bytes(), &[]);
+        let found = answer_with(alloc, "", &heard_of(&asked));
+        self.judge("", wanted, &found);
+        if listing.len() <= LONG {
+            let wrong = self.wrong_with("vcm asm made image", listing.as_bytes(), &[]);
+            self.judge(FAILING, "", &wrong);
+        }
+    }
+
+    // What a command does wrong where devices fail, with this as the file `made` and this on standard input.
+    fn wrong_with(&self, line: &str, made: &[u8], input: &[u8]) -> String {
+        let mut wrong = String::new(self.texts.alloc);
+        put_wrong(&self.texts, line, made, input, &mut wrong);
+        wrong
+    }
+
+    // Judges what comes back of what is sent to the debug adapter.
+    fn judge_talk(&mut self, talk: &str) {
+        let alloc = self.texts.alloc;
+        let sent = sent_in(alloc, talk);
+        let mut wrong = String::new(alloc);
+        let heard = heard_talking(&self.texts, &sent, &mut wrong);
+        let found = talk_of(alloc, &heard);
+        self.judge("", &wanted_in(alloc, talk), &found);
+        self.judge(FAILING, "", &wrong);
+    }
+
+    // Judges what a command answers, and what it does where devices fail.
+    fn judge_command(&mut self, heading: Heading, wanted: &str) {
+        let found = self.found(heading);
+        self.judge("", wanted, &found);
+        if !self.is_long() && !has_many_steps(wanted) {
+            let wrong = self.wrong(heading);
+            self.judge(FAILING, "", &wrong);
         }
     }
 
     // Whether a text that is set is too long for a command to be asked again.
     fn is_long(&self) -> bool {
-        self.part.len() > LONG || self.program.len() > LONG || self.commands.len() > LONG
+        self.texts.part.len() > LONG
+            || self.texts.program.len() > LONG
+            || self.texts.commands.len() > LONG
     }
 
-    // Judges what is told to be wrong between devices that fail, which is to be nothing.
-    fn judge_failures(&mut self, alloc: Global, found: Option<String>) -> Option<()> {
-        let title = format!(in alloc; "{} between devices that fail", self.title).ok()?;
-        self.tally.judge(&title, &self.program, "", found)
+    // The file `made` that a heading asks for.
+    fn made(&self, heading: Heading) -> Vec<u8> {
+        match heading {
+            Heading::WhyImage => image_of(&self.texts),
+            _ => Vec::new(self.texts.alloc),
+        }
+    }
+
+    // What a heading asks by a command line.
+    fn asked<'a>(&'a self, heading: Heading, line: &'a str, made: &'a [u8]) -> Asked<'a> {
+        Asked {
+            texts: &self.texts,
+            line,
+            made,
+            input: self.texts.commands.as_bytes(),
+            is_typed: matches!(heading, Heading::Talked),
+        }
+    }
+
+    // What a command answers, with what differs in what else it is asked.
+    fn found(&self, heading: Heading) -> String {
+        let alloc = self.texts.alloc;
+        let made = self.made(heading);
+        let line = line_of(alloc, &self.title, u64::MAX);
+        let heard = heard_of(&self.asked(heading, &line, &made));
+        match heading {
+            Heading::Run => self.run_answer(&heard),
+            Heading::Listing => self.listing_answer(&heard),
+            Heading::Adapt => self.adapt_answer(&heard),
+            _ => answer_for(alloc, heading, &heard),
+        }
+    }
+
+    // What a run answers, and what differs by another way.
+    fn run_answer(&self, heard: &Heard) -> String {
+        let mut found = answer_of(self.texts.alloc, heard);
+        let ran = Ran {
+            texts: &self.texts,
+            steps: behind_word(&self.title),
+            heard,
+        };
+        if heard.status == 0 || heard.status == 3 || heard.status == 4 {
+            put_ways(&ran, &mut found);
+        }
+        found
+    }
+
+    // The listing, and what differs in its image or in the listing of that.
+    fn listing_answer(&self, heard: &Heard) -> String {
+        let mut found = answer_of(self.texts.alloc, heard);
+        let image = heard_with(&self.texts, "vcm asm made image", &heard.written, &[]).written;
+        if image.as_slice() != image_of(&self.texts).as_slice() {
+            put(&mut found, "another image\n");
+        }
+        let again = heard_with(&self.texts, "vcm list made", &image, &[]).written;
+        if again.as_slice() != heard.written.as_slice() {
+            put(&mut found, "another listing\n");
+        }
+        found
+    }
+
+    // An adapted text with what is told beside it, and what its check answers. Where the check refuses it, that is told beside it too. A text that is refused
+    // itself is adapted to none.
+    fn adapt_answer(&self, heard: &Heard) -> String {
+        let alloc = self.texts.alloc;
+        if heard.written.is_empty() {
+            return answer_of(alloc, heard);
+        }
+        let checked = heard_with(&self.texts, "vcm check made", &heard.written, &[]);
+        let told = if checked.status == 0 {
+            heard.told.as_str()
+        } else {
+            heard
+                .told
+                .strip_suffix(checked.told.as_str())
+                .unwrap_or("nothing of that\n")
+        };
+        let mut found = copied(alloc, text_of(&heard.written));
+        put(&mut found, told);
+        put(&mut found, &answer_of(alloc, &checked));
+        if (heard.status == 0) != (is_whole(told) && checked.status == 0) {
+            put(&mut found, "another status of vcm adapt\n");
+        }
+        found
+    }
+
+    // What a command does wrong where devices fail, a line each.
+    fn wrong(&self, heading: Heading) -> String {
+        let alloc = self.texts.alloc;
+        let mut wrong = String::new(alloc);
+        let made = self.made(heading);
+        let line = line_of(alloc, &self.title, FEW);
+        let asked = self.asked(heading, &line, &made);
+        let whole = try_devices(&asked, DEVICES, &mut wrong);
+        try_closed(&asked, &whole, &mut wrong);
+        if matches!(heading, Heading::Run) {
+            self.put_run_wrong(&whole, &mut wrong);
+        }
+        wrong
+    }
+
+    // The same of the run of the program's image and, where the run ends in few steps, of the job.
+    fn put_run_wrong(&self, whole: &Heard, wrong: &mut String) {
+        let rest = behind_word(&self.title);
+        let line = line_with(self.texts.alloc, "vcm run made t.toml", rest, "", FEW);
+        put_wrong(&self.texts, &line, &image_of(&self.texts), &[], wrong);
+        if whole.status != 4 {
+            put_wrong(
+                &self.texts,
+                "vcm",
+                &[],
+                job_of(&self.texts).as_bytes(),
+                wrong,
+            );
+        }
+    }
+
+    // What a command answers that is given this as the file `made`.
+    fn made_answer(&self, line: &str, made: &[u8]) -> String {
+        let heard = heard_with(&self.texts, line, made, &[]);
+        answer_of(self.texts.alloc, &heard)
     }
 
     // Judges a statement that is to be refused as the heading says.
-    fn judge_refusal(&mut self, alloc: Global, line: &str) -> Option<()> {
-        let statement = format!(in alloc; "{line}\n").ok()?;
-        let wanted = refusal(alloc, &self.title, " line 3")?;
-        let program = program_of(alloc, &statement)?;
-        let found = check_answer(alloc, &program);
-        self.tally.judge(&self.title, &program, &wanted, found)
+    fn judge_refusal(&mut self, line: &str) {
+        let alloc = self.texts.alloc;
+        let program = program_of(alloc, &joined(alloc, &[line, "\n"]));
+        let mut wanted = copied(alloc, behind_word(&self.title));
+        put(&mut wanted, " line 3\nstatus 1\n");
+        let found = self.made_answer("vcm check made", program.as_bytes());
+        self.judge_line(line, &wanted, &found);
     }
 
     // Judges an image that is to be refused as the heading says.
-    fn judge_image(&mut self, alloc: Global, line: &str) -> Option<()> {
-        let wanted = refusal(alloc, &self.title, "")?;
-        let found = image_answer(alloc, line);
-        self.tally.judge(&self.title, line, &wanted, found)
+    fn judge_image(&mut self, line: &str) {
+        let alloc = self.texts.alloc;
+        let mut wanted = copied(alloc, behind_word(&self.title));
+        put(&mut wanted, "\nstatus 1\n");
+        let image = bytes_of(alloc, line);
+        let found = self.made_answer("vcm list made", &image);
+        self.judge_line(line, &wanted, &found);
     }
 
-    // Judges the answer to a line, which is to be what the heading has behind its first word.
-    fn judge_line(&mut self, line: &str, found: Option<String>) -> Option<()> {
-        let wanted = behind_word(&self.title);
-        self.tally.judge(&self.title, line, wanted, found)
+    // Judges what a command line asks for.
+    fn judge_words(&mut self, line: &str) {
+        let alloc = self.texts.alloc;
+        let wanted = copied(alloc, behind_word(&self.title));
+        self.judge_line(line, &wanted, &words_answer(alloc, line));
+    }
+
+    // What `vcm explain` does with the words of a line.
+    fn heard_explained(&self, line: &str) -> Heard {
+        let line = joined(self.texts.alloc, &["vcm explain ", line]);
+        heard_with(&self.texts, &line, &[], &[])
+    }
+
+    // Judges the first line of the explanation of words.
+    fn judge_explained(&mut self, line: &str) {
+        let heard = self.heard_explained(line);
+        let wanted = copied(self.texts.alloc, behind_word(&self.title));
+        self.judge_line(line, &wanted, first_line(text_of(&heard.written)));
     }
 
     // Judges what is told where words have no explanation.
-    fn judge_unexplained(&mut self, alloc: Global, line: &str) -> Option<()> {
-        let wanted = format!(in alloc; "2 usage: nothing is known of {line}").ok()?;
-        let found = explain_answer(alloc, line);
-        self.tally.judge(&self.title, line, &wanted, found)
+    fn judge_unexplained(&mut self, line: &str) {
+        let alloc = self.texts.alloc;
+        let heard = self.heard_explained(line);
+        let wanted = joined(alloc, &["2 usage: nothing is known of ", line]);
+        let status = number_text(alloc, u64::from(heard.status));
+        let found = joined(alloc, &[&status, " ", first_line(&heard.told)]);
+        self.judge_line(line, &wanted, &found);
     }
 
-    // Judges what is made of a listing.
-    fn judge_listing(&mut self, alloc: Global, listing: &str, wanted: &str) -> Option<()> {
-        let found = asm_answer(alloc, listing);
-        self.tally.judge(&self.title, listing, wanted, found)?;
-        if listing.len() > LONG {
-            return Some(());
-        }
-        let found = plain_failures(alloc, Plain::Asm, listing);
-        self.judge_failures(alloc, found)
-    }
-
-    // Judges what comes back of what is sent to the debug adapter.
-    fn judge_adapter<R: Files + AllocGlobal>(&mut self, rt: &R, talk: &str) -> Option<()> {
-        let wanted = wanted_in(rt.alloc(), talk)?;
-        let found = adapter_answer(rt, talk);
-        self.tally.judge(&self.title, "", &wanted, found)?;
-        self.judge_failures(rt.alloc(), adapter_failures(rt, talk))
-    }
-
-    /// Judges the examples of explanations; none where memory runs out.
-    pub(crate) fn explanations(&mut self, alloc: Global) -> Option<()> {
-        judge_examples(alloc, &mut self.tally)
+    // Counts the answer to a line.
+    fn judge_line(&mut self, line: &str, wanted: &str, found: &str) {
+        self.tally.judge(&self.title, line, wanted, found);
     }
 
     /// How the answers were.

@@ -1,7 +1,7 @@
 //! How the answers were.
 
+use crate::texts::put_all;
 use std::alloc::Global;
-use std::fmt::Write as _;
 
 /// What a line begins with that names what stands below it.
 pub(crate) const MARK: &str = "=== ";
@@ -22,32 +22,25 @@ impl Tally {
         }
     }
 
-    /// Counts the answer to a program that is as it is wanted below a heading, and writes down another one; none where memory runs out.
-    pub(crate) fn judge(
-        &mut self,
-        title: &str,
-        program: &str,
-        wanted: &str,
-        found: Option<String>,
-    ) -> Option<()> {
-        match found {
-            Some(found) if found.as_str() == wanted => {
-                self.right = self.right.saturating_add(1);
-                Some(())
-            }
-            Some(found) => self.tell(title, program, wanted, &found),
-            None => self.tell(title, program, wanted, "nothing\n"),
+    /// Counts an answer that is as it is wanted below a heading, and writes down another one with its program.
+    pub(crate) fn judge(&mut self, title: &str, program: &str, wanted: &str, found: &str) {
+        if found == wanted {
+            self.right = self.right.saturating_add(1);
+            return;
         }
-    }
-
-    // Writes down an answer that is not as it is wanted, with its program.
-    fn tell(&mut self, title: &str, program: &str, wanted: &str, found: &str) -> Option<()> {
-        writeln!(self.wrong, "{MARK}{title}").ok()?;
-        writeln!(
-            self.wrong,
-            "program\n{program}wanted\n{wanted}found\n{found}"
-        )
-        .ok()
+        put_all(
+            &mut self.wrong,
+            &[
+                MARK,
+                title,
+                "\nprogram\n",
+                program,
+                "wanted\n",
+                wanted,
+                "found\n",
+                found,
+            ],
+        );
     }
 
     /// The answers that were not as they are wanted, one after another.

@@ -1,10 +1,5 @@
 //! That the box which is the tip tells of a run what the tip does: each touch and the collision that the run stops with, and nothing else.
 
-use std::alloc::Global;
-use vcm_boxes::{Boxes, read_boxes};
-use vcm_part::PartData;
-use vcm_views::{RunView, view_of};
-
 // A word of a line, or nothing where it has no so many.
 fn word(line: &str, separator: char, place: usize) -> &str {
     for (index, word) in line.split(separator).enumerate() {
@@ -94,42 +89,10 @@ fn are_of_stop(contacts: &str, from: usize, stop: &str) -> bool {
     is_stop(contact, stop) && next_contact(contacts, behind).0.is_empty()
 }
 
-// The box that is the tip of a workpiece.
-fn tip_box(alloc: Global, part: &PartData) -> Option<Boxes> {
-    let tip = part.bounds().tip;
-    let text = format!(in alloc;
-        "[[box]]\nname = \"tip\"\nlow = [-{tip}, -{tip}, -{tip}]\nhigh = [{tip}, {tip}, {tip}]\n"
-    ).ok()?;
-    read_boxes(alloc, text.as_bytes()).ok()
-}
-
-// What a view of a run writes; nothing where there is none.
-fn viewed(alloc: Global, view: RunView, part: &PartData, program: &str, steps: u64) -> Vec<u8> {
-    let mut input = program.as_bytes();
-    let mut out = Vec::new(alloc);
-    match view_of(alloc, view, part, &mut input, steps, &mut out) {
-        Ok(_) => out,
-        Err(_) => Vec::new(alloc),
-    }
-}
-
-/// Whether the box that is the tip tells of the run of a program beside a workpiece, whose output this is, what the tip does.
-pub(crate) fn is_told_by_its_box(
-    alloc: Global,
-    part: &PartData,
-    program: &str,
-    steps: u64,
-    output: &[u8],
-) -> bool {
-    let Some(boxes) = tip_box(alloc, part) else {
-        return false;
-    };
-    let points = viewed(alloc, RunView::Points, part, program, steps);
-    let contacts = viewed(alloc, RunView::Clearance(&boxes), part, program, steps);
-    let stop = stop_of(std::str::from_utf8(output).unwrap_or(""));
-    let contacts = std::str::from_utf8(&contacts).unwrap_or("");
-    match behind_points(contacts, std::str::from_utf8(&points).unwrap_or("")) {
-        Some(from) => are_of_stop(contacts, from, stop),
+/// Whether the contacts of the box that is the tip tell what the tip does in a run, which has these measured points and this output.
+pub(crate) fn are_of_the_tip(contacts: &str, points: &str, output: &str) -> bool {
+    match behind_points(contacts, points) {
+        Some(from) => are_of_stop(contacts, from, stop_of(output)),
         None => false,
     }
 }

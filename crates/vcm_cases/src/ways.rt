@@ -1,15 +1,14 @@
-//! That a run comes to the same by whatever way it is asked for: from the image of its program, in the last line of its trace, in a session of the debugger on the
-//! program and on its image, and as a job.
+//! That a run comes to the same by whatever way it is asked for: among blocks in strips, for the box that is the tip, from the image of its program, in the last line of
+//! its trace, in the debugger on the program and on its image, and as a job.
 
-use std::alloc::Global;
-use vcm_job::{build, debug, job, run};
-use vcm_part::PartData;
-use vcm_program::Noticed;
-use vcm_test_tools::joined;
-use vcm_views::{RunView, view_of};
+use crate::asking::heard_of;
+use crate::stage::Heard;
+use crate::strips::{is_printed_by_strips, tip_file};
+use crate::texts::{Asked, Texts, joined, put, text_of};
+use crate::tips::are_of_the_tip;
 
-// The most steps of a job.
-const STEPS_OF_JOBS: u64 = 1_000_000;
+// The steps of a job.
+const STEPS_OF_JOBS: &str = "1000000";
 
 // The most steps that one command of the debugger takes.
 const MOST: u64 = 1_000_000;
@@ -17,14 +16,102 @@ const MOST: u64 = 1_000_000;
 // Runs whose number of steps has more digits are not asked for again.
 const FEW_DIGITS: usize = 3;
 
-/// What a run printed at its end.
+/// A run that was asked for: the texts, the steps that it may have at most, and what it did.
 #[derive(Clone, Copy)]
-struct Ending<'a> {
-    /// The line of the stop, or of the steps that were done where there is none.
-    stop: &'a str,
-    /// The position, in millimetres, with blanks between the three.
-    position: &'a str,
-    steps: &'a str,
+pub(crate) struct Ran<'a> {
+    pub(crate) texts: &'a Texts,
+    pub(crate) steps: &'a str,
+    pub(crate) heard: &'a Heard,
+}
+
+/// Another way to ask for it.
+#[derive(Clone, Copy)]
+enum Way {
+    Strips,
+    Tip,
+    Image,
+    ImageInDebugger,
+    Trace,
+    Debugger,
+    Job,
+}
+
+const WAYS: &[Way] = &[
+    Way::Strips,
+    Way::Tip,
+    Way::Image,
+    Way::ImageInDebugger,
+    Way::Trace,
+    Way::Debugger,
+    Way::Job,
+];
+
+impl Way {
+    // How it is told.
+    fn words(self) -> &'static str {
+        match self {
+            Way::Strips => "otherwise with the blocks in strips\n",
+            Way::Tip => "otherwise for the box that is the tip\n",
+            Way::Image => "otherwise from the image\n",
+            Way::ImageInDebugger => "otherwise in the debugger on the image\n",
+            Way::Trace => "otherwise in the trace\n",
+            Way::Debugger => "otherwise in the debugger\n",
+            Way::Job => "otherwise as a job\n",
+        }
+    }
+
+    // Whether a run comes to the same by it.
+    fn holds(self, ran: &Ran<'_>) -> bool {
+        match self {
+            Way::Strips => is_printed_by_strips(ran.texts, ran.most(), &ran.heard.written),
+            Way::Tip => ran.is_told_by_the_tip(),
+            Way::Image => ran.has_many_steps() || ran.is_that_of_its_image(),
+            Way::ImageInDebugger => ran.has_many_steps()
+                || ran.is_debugged(&image_of(ran.texts), "made"),
+            Way::Trace => ran.has_many_steps() || ran.is_that_of_its_trace(),
+            Way::Debugger => ran.has_many_steps() || ran.is_debugged(&[], "t.dmi"),
+            Way::Job => ran.has_many_steps()
+                || ran.steps != STEPS_OF_JOBS
+                || ran.is_that_of_its_job(),
+        }
+    }
+}
+
+/// What is asked by a command line, with this as the file `made` and this on standard input.
+pub(crate) fn asked_with<'x>(
+    texts: &'x Texts,
+    line: &'x str,
+    made: &'x [u8],
+    input: &'x [u8],
+) -> Asked<'x> {
+    Asked {
+        texts,
+        line,
+        made,
+        input,
+        is_typed: false,
+    }
+}
+
+/// What a command does that is asked this.
+pub(crate) fn heard_with<'x>(
+    texts: &'x Texts,
+    line: &'x str,
+    made: &'x [u8],
+    input: &'x [u8],
+) -> Heard {
+    let asked = asked_with(texts, line, made, input);
+    heard_of(&asked)
+}
+
+/// The image that `vcm build` writes of the program; nothing where it writes none.
+pub(crate) fn image_of(texts: &Texts) -> Vec<u8> {
+    heard_with(texts, "vcm build t.dmi image", &[], &[]).written
+}
+
+/// The job of the part file and the program.
+pub(crate) fn job_of(texts: &Texts) -> String {
+    joined(texts.alloc, &[&texts.part, "%%\n", &texts.program])
 }
 
 // The line that stands so many lines before the end of a text, whose lines all end with a line feed.
@@ -43,153 +130,124 @@ fn behind<'a>(line: &'a str, word: &str) -> &'a str {
     line.strip_prefix(word).unwrap_or("")
 }
 
-// How a run ended, by its output.
-fn ending_of(output: &str) -> Ending<'_> {
-    Ending {
-        stop: line_from_end(output, 3),
-        position: behind(line_from_end(output, 2), "position "),
-        steps: behind(line_from_end(output, 1), "steps "),
+// The number of steps that a run printed at its end.
+fn steps_in(output: &str) -> &str {
+    behind(line_from_end(output, 1), "steps ")
+}
+
+// The line of its stop, or of the steps that were done where there is none.
+fn stop_in(output: &str) -> &str {
+    line_from_end(output, 3)
+}
+
+// Its last position, in millimetres, with blanks between the three.
+fn position_in(output: &str) -> &str {
+    behind(line_from_end(output, 2), "position ")
+}
+
+impl Ran<'_> {
+    // What it printed.
+    fn output(&self) -> &str {
+        text_of(&self.heard.written)
+    }
+
+    // The steps that it may have at most.
+    fn most(&self) -> u64 {
+        self.steps.parse::<u64>().unwrap_or(0)
+    }
+
+    // Whether it has too many steps to be asked for again.
+    fn has_many_steps(&self) -> bool {
+        steps_in(self.output()).len() > FEW_DIGITS
+    }
+
+    // What a command does, beside a file.
+    fn heard_beside(&self, front: &str, made: &[u8]) -> Heard {
+        let line = joined(self.texts.alloc, &[front, " --steps ", self.steps]);
+        heard_with(self.texts, &line, made, &[])
+    }
+
+    // Whether the box that is the tip meets what the tip does.
+    fn is_told_by_the_tip(&self) -> bool {
+        let points = self.heard_beside("vcm points t.dmi t.toml", &[]);
+        let contacts = self.heard_beside(
+            "vcm clearance t.dmi t.toml made",
+            tip_file(self.texts).as_bytes(),
+        );
+        are_of_the_tip(
+            text_of(&contacts.written),
+            text_of(&points.written),
+            self.output(),
+        )
+    }
+
+    // Whether the run of the program's image prints the same, with the same status and nothing besides.
+    fn is_that_of_its_image(&self) -> bool {
+        let again = self.heard_beside("vcm run made t.toml", &image_of(self.texts));
+        again.status == self.heard.status
+            && again.told.is_empty()
+            && again.written.as_slice() == self.heard.written.as_slice()
+    }
+
+    // Whether the last line of its trace tells its end.
+    fn is_that_of_its_trace(&self) -> bool {
+        let trace = self.heard_beside("vcm trace t.dmi t.toml", &[]);
+        self.is_told_in(line_from_end(text_of(&trace.written), 1))
+    }
+
+    // Whether a line of a trace tells its end.
+    fn is_told_in(&self, line: &str) -> bool {
+        let output = self.output();
+        let alloc = self.texts.alloc;
+        let front = joined(alloc, &[steps_in(output), ","]);
+        let mut back = joined(alloc, &[","]);
+        for coordinate in position_in(output).split(' ') {
+            put(&mut back, coordinate);
+            put(&mut back, ",");
+        }
+        put(&mut back, stop_in(output));
+        line.starts_with(front.as_str()) && line.ends_with(back.as_str())
+    }
+
+    // What the debugger's `run` has to answer first.
+    fn reply(&self) -> String {
+        let output = self.output();
+        let stop = stop_in(output);
+        let alloc = self.texts.alloc;
+        if stop.starts_with("stop ") {
+            joined(alloc, &["step ", steps_in(output), " ", stop, "\n"])
+        } else {
+            joined(alloc, &["count step ", steps_in(output), " next "])
+        }
+    }
+
+    // Whether the debugger's `run` on a file tells its end. No run of no step is asked of it, and none of more than it takes at once.
+    fn is_debugged(&self, made: &[u8], name: &str) -> bool {
+        if self.most() == 0 || self.most() > MOST {
+            return true;
+        }
+        let alloc = self.texts.alloc;
+        let line = joined(alloc, &["vcm debug ", name, " t.toml"]);
+        let commands = joined(alloc, &["run ", self.steps, "\n"]);
+        let replies = heard_with(self.texts, &line, made, commands.as_bytes());
+        text_of(&replies.written).starts_with(self.reply().as_str())
+    }
+
+    // Whether the job of the part file and the program prints and tells the same.
+    fn is_that_of_its_job(&self) -> bool {
+        let job = job_of(self.texts);
+        let again = heard_with(self.texts, "vcm", &[], job.as_bytes());
+        again.status == self.heard.status
+            && again.told.as_str() == self.heard.told.as_str()
+            && again.written.as_slice() == self.heard.written.as_slice()
     }
 }
 
-// Whether the last line of a trace tells this end.
-fn tells(alloc: Global, trace: &str, ending: Ending<'_>) -> Option<bool> {
-    let line = line_from_end(trace, 1);
-    let front = format!(in alloc; "{},", ending.steps).ok()?;
-    let place = ending.position.replace(alloc, " ", ",").ok()?;
-    let back = format!(in alloc; ",{place},{}", ending.stop).ok()?;
-    Some(line.starts_with(front.as_str()) && line.ends_with(back.as_str()))
-}
-
-// Whether the last line of the run's trace tells its end.
-fn is_that_of_its_trace(
-    alloc: Global,
-    part: &PartData,
-    program: &str,
-    steps: u64,
-    ending: Ending<'_>,
-) -> bool {
-    let mut input = program.as_bytes();
-    let mut out = Vec::new(alloc);
-    if view_of(alloc, RunView::Trace, part, &mut input, steps, &mut out).is_err() {
-        return false;
+/// Adds a line for each way by which a run doesn't come to the same.
+pub(crate) fn put_ways(ran: &Ran<'_>, found: &mut String) {
+    for way in WAYS {
+        if !way.holds(ran) {
+            put(found, way.words());
+        }
     }
-    match std::str::from_utf8(&out) {
-        Ok(trace) => tells(alloc, trace, ending).unwrap_or(false),
-        Err(_) => false,
-    }
-}
-
-// What a session of the debugger on an input answers to `run` with so many steps.
-fn replies(alloc: Global, part: &PartData, input: &[u8], steps: u64) -> Option<Vec<u8>> {
-    let mut input = input;
-    let lines = format!(in alloc; "run {steps}\n").ok()?;
-    let mut commands = lines.as_bytes();
-    let mut out = Vec::new(alloc);
-    match debug(alloc, part, &mut input, &mut commands, &mut out) {
-        Ok(_) => Some(out),
-        Err(_) => None,
-    }
-}
-
-// Whether replies tell this end.
-fn are_of(alloc: Global, replies: &str, ending: Ending<'_>) -> Option<bool> {
-    let steps = ending.steps;
-    let wanted = if ending.stop.starts_with("stop ") {
-        format!(in alloc; "step {steps} {}\n", ending.stop).ok()?
-    } else {
-        format!(in alloc; "count step {steps} next ").ok()?
-    };
-    Some(replies.starts_with(wanted.as_str()))
-}
-
-// Whether the debugger's `run` tells the end of the run of an input; no run of no step is asked of it, and none of more than it takes at once.
-fn is_that_of_the_debugger(
-    alloc: Global,
-    part: &PartData,
-    input: &[u8],
-    steps: u64,
-    ending: Ending<'_>,
-) -> bool {
-    if steps == 0 || steps > MOST {
-        return true;
-    }
-    let Some(replies) = replies(alloc, part, input, steps) else {
-        return false;
-    };
-    match std::str::from_utf8(&replies) {
-        Ok(replies) => are_of(alloc, replies, ending).unwrap_or(false),
-        Err(_) => false,
-    }
-}
-
-// Whether the run of the program's image prints the same, and the debugger on it tells its end.
-fn is_that_of_its_image(
-    alloc: Global,
-    part: &PartData,
-    program: &str,
-    steps: u64,
-    output: &[u8],
-    status: u8,
-) -> bool {
-    let mut input = program.as_bytes();
-    let Ok(built) = build(alloc, &mut input) else {
-        return false;
-    };
-    let mut image = built.image.as_slice();
-    let mut out = Vec::new(alloc);
-    let is_same = match run(alloc, part, &mut image, steps, &mut out) {
-        Ok(done) => done.status == status && done.notices.is_empty() && out.as_slice() == output,
-        Err(_) => false,
-    };
-    let ending = ending_of(std::str::from_utf8(output).unwrap_or(""));
-    is_same && is_that_of_the_debugger(alloc, part, &built.image, steps, ending)
-}
-
-/// Whether the job of a part file and of a program prints the same and tells the same lines without effect, where the run has fewer than 1,000 steps and may have as
-/// many as a job.
-pub(crate) fn is_that_of_its_job(
-    alloc: Global,
-    file: &str,
-    program: &str,
-    steps: u64,
-    output: &[u8],
-    notices: &[Noticed],
-) -> bool {
-    let ending = ending_of(std::str::from_utf8(output).unwrap_or(""));
-    if ending.steps.len() > FEW_DIGITS || steps != STEPS_OF_JOBS {
-        return true;
-    }
-    let Some(text) = joined(alloc, &[file, "%%\n", program]) else {
-        return false;
-    };
-    let mut input = text.as_bytes();
-    let mut out = Vec::new(alloc);
-    match job(alloc, &mut input, &mut out) {
-        Ok(done) => done.notices.as_slice() == notices && out.as_slice() == output,
-        Err(_) => false,
-    }
-}
-
-/// The steps that a run printed at its end.
-pub(crate) fn steps_printed(output: &[u8]) -> u64 {
-    let ending = ending_of(std::str::from_utf8(output).unwrap_or(""));
-    ending.steps.parse::<u64>().unwrap_or(0)
-}
-
-/// Whether the run of a program beside a workpiece, whose output and exit status these are, comes to the same from its image, in its trace and in the debugger, if it
-/// has fewer than 1,000 steps.
-pub(crate) fn comes_to_the_same(
-    alloc: Global,
-    part: &PartData,
-    program: &str,
-    steps: u64,
-    output: &[u8],
-    status: u8,
-) -> bool {
-    let ending = ending_of(std::str::from_utf8(output).unwrap_or(""));
-    ending.steps.len() > FEW_DIGITS
-        || is_that_of_its_image(alloc, part, program, steps, output, status)
-            && is_that_of_its_trace(alloc, part, program, steps, ending)
-            && is_that_of_the_debugger(alloc, part, program.as_bytes(), steps, ending)
 }

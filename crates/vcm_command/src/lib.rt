@@ -9,5 +9,5 @@ mod producing;
 mod program;
 mod telling;
 
-pub use program::status;
-pub use vcm_devices::{Request, Terminals, lines_of, matches_of, steps_of};
+pub use program::{status, words_to_explain};
+pub use vcm_devices::{Request, Terminals, lines_of, matches_of};

@@ -45,8 +45,8 @@ fn words_of<R: Env + AllocGlobal>(rt: &R) -> Result<Vec<String>, Message<'static
     }
 }
 
-// The words that are to be explained, as they stand, where no help is asked for. The two dashes that end options may stand before them.
-fn words_to_explain(words: &[String]) -> Option<&[String]> {
+/// The words that are to be explained, as they stand, where no help is asked for. The two dashes that end options may stand before them.
+pub fn words_to_explain(words: &[String]) -> Option<&[String]> {
     match words {
         [_, command, rest @ ..] if command.as_str() == "explain" => match rest {
             [first, ..] if first.as_str() == "--help" || first.as_str() == "-h" => None,
