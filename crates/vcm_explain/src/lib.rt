@@ -109,15 +109,15 @@ fn behind_box(words: &[u8]) -> &[u8] {
 }
 
 /// The explanation of a code, a name or a whole message, whatever its case: the first one whose code, name or words stand at its beginning, behind
-/// which nothing stands, or a blank, a colon, a comma, a semicolon or a full stop. A line that tells of a box is explained by what it tells of it, one that counts something by what
-/// is counted, and one that tells of a stop by that, also where other words stand in front of it.
+/// which nothing stands, or a blank, a colon, a comma, a semicolon or a full stop. A line that tells of a box is explained by what it tells of it, one that tells of a stop by
+/// that, also where other words stand in front of it, and one that counts something by what is counted.
 pub fn explanation(words: &str) -> Option<&'static Entry> {
     let words = without_blanks(words.as_bytes());
     for line in [
         behind_box(words),
+        behind_stop(words),
         words,
         behind_number(words),
-        behind_stop(words),
     ] {
         if let Some(entry) = explained(line) {
             return Some(entry);
