@@ -104,11 +104,16 @@ fn judge_entry(alloc: Global, entry: &Entry, tally: &mut Tally) {
     }
 }
 
+// Judges those of some explanations.
+fn judge_entries(alloc: Global, entries: &[Entry], tally: &mut Tally) {
+    for entry in entries {
+        judge_entry(alloc, entry, tally);
+    }
+}
+
 /// Judges the examples of all explanations.
 pub(crate) fn judge_examples(alloc: Global, tally: &mut Tally) {
     for entries in explanations() {
-        for entry in entries {
-            judge_entry(alloc, entry, tally);
-        }
+        judge_entries(alloc, entries, tally);
     }
 }
