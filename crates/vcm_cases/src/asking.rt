@@ -2,7 +2,7 @@
 
 use crate::messages::line_of;
 use crate::stage::{Heard, NO_TROUBLE, Stage, Trouble};
-use crate::texts::{Asked, copied, joined, number_text, put_all};
+use crate::texts::{Asked, copied, joined, number_text, put, put_all};
 use std::alloc::Global;
 use std::cell::RefCell;
 use std::fmt::Write as _;
@@ -78,20 +78,16 @@ fn told(is_so: bool) -> &'static str {
 
 // What is asked for of a producer's text.
 fn produced_asked(alloc: Global, name: &str, request: &Request<'_, '_>) -> String {
-    joined(
-        alloc,
-        &[
-            name,
-            " program=",
-            request.input(),
-            " tip=",
-            request.value(Choice::Tip).unwrap_or(""),
-            " part=",
-            request.value(Choice::Part).unwrap_or(""),
-            " exact=",
-            told(request.has(Choice::Exact)),
-        ],
-    )
+    let mut text = copied(alloc, name);
+    put(&mut text, " program=");
+    put(&mut text, request.input());
+    put(&mut text, " tip=");
+    put(&mut text, request.value(Choice::Tip).unwrap_or(""));
+    put(&mut text, " part=");
+    put(&mut text, request.value(Choice::Part).unwrap_or(""));
+    put(&mut text, " exact=");
+    put(&mut text, told(request.has(Choice::Exact)));
+    text
 }
 
 // The name of one of two, by whether an option is there.
@@ -134,12 +130,11 @@ fn check_asked(alloc: Global, request: &Request<'_, '_>) -> String {
 fn picture_asked(alloc: Global, request: &Request<'_, '_>) -> String {
     let lines = request.value(Choice::Stretch);
     if request.has(Choice::Sheet) || lines.is_some() {
-        let close = told(request.has(Choice::Close));
-        return run_asked(
-            alloc,
-            &["sheet close=", close, " lines=", lines_words(lines)],
-            request,
-        );
+        let mut name = copied(alloc, "sheet close=");
+        put(&mut name, told(request.has(Choice::Close)));
+        put(&mut name, " lines=");
+        put(&mut name, lines_words(lines));
+        return run_asked(alloc, &[&name], request);
     }
     run_asked(
         alloc,

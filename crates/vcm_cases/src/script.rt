@@ -90,7 +90,7 @@ fn numbered(alloc: Global, line: &str, number: u32) -> String {
 fn answer_for(alloc: Global, heading: Heading, heard: &Heard) -> String {
     match heading {
         Heading::Sheet => answer_with(alloc, &words_of_svg(alloc, text_of(&heard.written)), heard),
-        Heading::Story => answer_with(alloc, story_in(text_of(&heard.written)), heard),
+        Heading::Story => answer_with(alloc, text_of(story_in(&heard.written)), heard),
         Heading::Image => digits_of(alloc, &heard.written),
         Heading::Notices => copied(alloc, &heard.told),
         _ => answer_of(alloc, heard),

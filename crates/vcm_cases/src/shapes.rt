@@ -44,18 +44,24 @@ pub(crate) fn words_of_svg(alloc: Global, svg: &str) -> String {
     text
 }
 
-// What stands behind a piece.
-fn behind<'a>(text: &'a str, piece: &[u8]) -> &'a str {
-    text.strip_prefix(text_of(piece)).unwrap_or("")
+// What stands behind a piece; nothing where it doesn't stand there.
+fn behind<'a>(text: &'a [u8], piece: &[u8]) -> &'a [u8] {
+    match text.split_at_checked(piece.len()) {
+        Some((front, rest)) if front == piece => rest,
+        _ => &[],
+    }
 }
 
-// What stands in front of a piece.
-fn before<'a>(text: &'a str, piece: &[u8]) -> &'a str {
-    text.strip_suffix(text_of(piece)).unwrap_or("")
+// What stands in front of a piece; nothing where it doesn't stand there.
+fn before<'a>(text: &'a [u8], piece: &[u8]) -> &'a [u8] {
+    match text.split_at_checked(text.len().saturating_sub(piece.len())) {
+        Some((rest, end)) if end == piece => rest,
+        _ => &[],
+    }
 }
 
 /// What stands in a page between the fixed texts; nothing where one of them isn't there.
-pub(crate) fn story_in(page: &str) -> &str {
+pub(crate) fn story_in(page: &[u8]) -> &[u8] {
     let mut rest = page;
     for piece in &front() {
         rest = behind(rest, piece);

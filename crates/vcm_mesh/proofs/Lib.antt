@@ -1,0 +1,4 @@
+pub mod Rounding
+pub mod Cutting
+pub mod Facets
+pub mod TextLines
