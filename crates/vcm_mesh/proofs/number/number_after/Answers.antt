@@ -1,4 +1,4 @@
-use Rattle.std.proofs.Common.{◌+◌, ◌-◌, ◌<◌, get_or, arith}
+use Rattle.std.proofs.Common.{◌+◌, ◌<◌, get_or, arith}
 use Rattle.std.proofs.lemmas.Grind.{common_steps}
 use Rattle.vcm_mesh.proofs.Rounding.{fits_one_more, one_digit_more}
 use Rattle.vcm_mesh.proofs.number.number_after.Goals as goal
