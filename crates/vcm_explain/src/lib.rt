@@ -98,13 +98,13 @@ fn behind_number(words: &[u8]) -> &[u8] {
     }
 }
 
-// What stands behind the name of a box, in a line that tells of one.
+// What stands behind the name of a box, in a line that tells of one; nothing in any other.
 fn behind_box(words: &[u8]) -> &[u8] {
     match words {
         [b, o, x, b' ', ..] if [*b, *o, *x].eq_ignore_ascii_case(b"BOX") => {
             behind_word(behind_word(words))
         }
-        _ => words,
+        _ => &[],
     }
 }
 
