@@ -37,8 +37,8 @@ PROMISES = {
     "list": ["vcm_job/src/listing.rt"],
     "debug": ["vcm_job/src/debugging.rt"],
     "dap": ["vcm_dap/src", "vcm_wire/src"],
-    "trace": ["vcm_trace/src/tracing.rt"],
-    "points": ["vcm_points/src/pointing.rt"],
+    "trace": ["vcm_trace/src/lines.rt", "vcm_trace/src/rows.rt"],
+    "points": ["vcm_trace/src/points.rt", "vcm_trace/src/rows.rt"],
     "margin": ["vcm_margin/src/widening.rt", "vcm_margin/specs/Printed.antt"],
     "clearance": ["vcm_clearance/src/clearing.rt", "vcm_boxes/src"],
     "picture": ["vcm_picture/src", "vcm_sheet/src", "vcm_svg/src"],
@@ -51,7 +51,7 @@ PROMISES = {
 }
 
 # What speaks of several views at once, and is for each of them.
-VIEWS = {f"crates/vcm_views/specs/{name}.antt": "`trace` `points` `margin` `clearance` `picture`" for name in ("Inputs", "Views")}
+VIEWS = {f"crates/{name}.antt": "`trace` `points` `margin` `clearance` `picture` `view` `why` `contacts` `values`" for name in ("vcm_views/specs/Views", "vcm_job/specs/Views", "vcm_job/specs/Given")}
 
 
 def crates():

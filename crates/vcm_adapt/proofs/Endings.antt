@@ -8,7 +8,8 @@ use Rattle.vcm_num.proofs.LineFeeds.{ends_line}
 use Rattle.vcm_lines.proofs.SegmentLemmas.{neq-eqb}
 use Rattle.vcm_adapt.specs.declared.edit.Edit.{Edit}
 use Rattle.vcm_adapt.specs.declared.edit.Edit.TheVariants.{Keep, LeaveOut, Put}
-use Rattle.vcm_adapt.specs.Marks.{mark, whole_lines}
+use Rattle.vcm_num.specs.Lines.{whole_lines}
+use Rattle.vcm_adapt.specs.Marks.{mark}
 use Rattle.vcm_adapt.specs.Adapted.{edited, edited_lines, adapted}
 use Rattle.vcm_adapt.specs.Laws.{AreNew}
 use Rattle.vcm_adapt.proofs.Whole.{IsLine, IsLast, AreWhole, are_whole, edited_whole, lines_joined}

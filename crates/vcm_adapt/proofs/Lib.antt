@@ -1,4 +1,3 @@
-pub mod Cuts
 pub mod Whole
 pub mod Restoring
 pub mod Steps

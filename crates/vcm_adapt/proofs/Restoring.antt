@@ -6,10 +6,11 @@ use Rattle.std.proofs.lemmas.Bool.{and_right, or_parts}
 use Rattle.std.proofs.lemmas.List.{append-nil}
 use Rattle.vcm_adapt.specs.declared.edit.Edit.{Edit}
 use Rattle.vcm_adapt.specs.declared.edit.Edit.TheVariants.{Keep, LeaveOut, Put}
-use Rattle.vcm_adapt.specs.Marks.{mark, whole_lines, begins_mark, has_mark, begins_sign, has_sign, behind_mark, restored_line, restored}
+use Rattle.vcm_num.specs.Lines.{whole_lines}
+use Rattle.vcm_adapt.specs.Marks.{mark, begins_mark, has_mark, begins_sign, has_sign, behind_mark, restored_line, restored}
 use Rattle.vcm_adapt.specs.Adapted.{edited, edited_lines, adapted}
 use Rattle.vcm_adapt.specs.Laws.{IsNew, AreNew, KeepsNoMark, KeepNoMark, AreUnmarked}
-use Rattle.vcm_adapt.proofs.Cuts.{whole_nil}
+use Rattle.vcm_num.proofs.WholeLines.{whole_nil}
 use Rattle.vcm_adapt.proofs.Whole.{new_parts, lines_joined, adapted_lines}
 
 -- no mark begins where none begins without its blank

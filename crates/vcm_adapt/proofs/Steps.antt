@@ -2,10 +2,10 @@
 use Rattle.std.proofs.Common.{◌≡◌, ℕ, ◌+◌, ◌<◌, ◌≤◌, List, [], ◌∷◌, ◌++◌, length, get_or, drop, refl, sym, ap, ◌∙◌, append_assoc}
 use Rattle.std.proofs.lemmas.List.{drop_more, drop_all}
 use Rattle.vcm_adapt.specs.declared.edit.Edit.{Edit}
-use Rattle.vcm_adapt.specs.Marks.{whole_lines}
+use Rattle.vcm_num.specs.Lines.{whole_lines}
 use Rattle.vcm_adapt.specs.Adapted.{edited, adapted}
 use Rattle.vcm_adapt.specs.Laws.{IsNew, AreNew}
-use Rattle.vcm_adapt.proofs.Cuts.{whole_nil}
+use Rattle.vcm_num.proofs.WholeLines.{whole_nil}
 use Rattle.vcm_adapt.proofs.Whole.{lines_joined}
 
 -- what is known behind i edits: what is written, and what the other edits make of the rest, is the adapted text

@@ -6,10 +6,11 @@ use Rattle.std.proofs.lemmas.Bool.{and_parts, or_parts}
 use Rattle.std.proofs.lemmas.List.{append-nil}
 use Rattle.vcm_adapt.specs.declared.edit.Edit.{Edit}
 use Rattle.vcm_adapt.specs.declared.edit.Edit.TheVariants.{Keep, LeaveOut, Put}
-use Rattle.vcm_adapt.specs.Marks.{mark, whole_lines, has_sign, is_new}
+use Rattle.vcm_num.specs.Lines.{whole_lines}
+use Rattle.vcm_adapt.specs.Marks.{mark, has_sign, is_new}
 use Rattle.vcm_adapt.specs.Adapted.{edited, edited_lines, adapted}
 use Rattle.vcm_adapt.specs.Laws.{IsNew, AreNew, AllKeep}
-use Rattle.vcm_adapt.proofs.Cuts.{whole_feed, whole_other, whole_nil}
+use Rattle.vcm_num.proofs.WholeLines.{whole_feed, whole_other, whole_nil}
 
 -- a line with its line feed, which stands last alone
 abbrev pub IsLine : List ℕ → Type 0

@@ -3,7 +3,8 @@ use Rattle.std.specs.Prelude.{ℕ, List, [], ◌∷◌, ◌++◌}
 use Rattle.std.specs.List.{flat_map}
 use Rattle.vcm_adapt.specs.declared.edit.Edit.{Edit}
 use Rattle.vcm_adapt.specs.declared.edit.Edit.TheVariants.{Keep, LeaveOut, Put}
-use Rattle.vcm_adapt.specs.Marks.{mark, whole_lines}
+use Rattle.vcm_num.specs.Lines.{whole_lines}
+use Rattle.vcm_adapt.specs.Marks.{mark}
 
 -- what becomes of a line
 abbrev pub edited : Edit → List ℕ → List ℕ

@@ -1,11 +1,7 @@
 -- The lines of a text, and the mark that an old line stands behind.
 use Rattle.std.specs.Prelude.{ℕ, ◌==◌, ◌&&◌, ◌||◌, not, Bool, false, List, [], ◌∷◌, drop, if◌then◌else◌}
-use Rattle.std.specs.List.{onto_first, flat_map, list_any}
-
--- the lines of a text, each with its line feed, which the last one may lack
-unfoldable pub whole_lines : List ℕ → List (List ℕ)
-whole_lines [] = []
-whole_lines (b ∷ bs) = if b == 10 then (b ∷ []) ∷ whole_lines bs else onto_first b (whole_lines bs)
+use Rattle.std.specs.List.{flat_map, list_any}
+use Rattle.vcm_num.specs.Lines.{whole_lines}
 
 -- the mark: two dollars, a minus, a blank
 abbrev pub mark : List ℕ

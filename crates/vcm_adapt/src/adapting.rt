@@ -1,25 +1,14 @@
 //! The adapted text.
 
 ghost use Rattle.std.specs.Prelude.{◌≡◌, ◌++◌, ◌∷◌, ◌<◌, IfOk, OnOk, length};
-ghost use Rattle.vcm_adapt.specs.Marks.{whole_lines, restored};
+ghost use Rattle.vcm_num.specs.Lines.{whole_lines};
+ghost use Rattle.vcm_adapt.specs.Marks.{restored};
 ghost use Rattle.vcm_adapt.specs.Adapted.{edited, edited_lines, adapted};
 ghost use Rattle.vcm_adapt.specs.Laws.{AreNew, KeepNoMark, AreUnmarked};
 
 use crate::edit::{Edit, known};
 use std::alloc::Global;
-use vcm_num::{NoMemory, line_feed};
-
-/// The first line with its line feed, and what stands behind it.
-pub(crate) fn split_line(text: &[u8]) -> (&[u8], &[u8])
-    requires { 0 < length text.now }
-    ensures cut { whole_lines text.now ≡ result.0.now ∷ whole_lines result.1.now }
-    ensures shorter { length result.1.now < length text.now }
-{
-    match line_feed(text) {
-        None => (text, &[]),
-        Some(end) => (&text[..end + 1], &text[end + 1..]),
-    }
-}
+use vcm_num::{NoMemory, whole_line};
 
 /// Appends what becomes of a line.
 ///
@@ -51,7 +40,7 @@ fn edit_text(alloc: Global, edits: &[Edit], text: &[u8]) -> Result<Vec<u8>, NoMe
     'edits: for edit in edits {
         known(edit);
         if !rest.is_empty() {
-            let (line, after) = split_line(rest);
+            let (line, after) = whole_line(rest);
             put_line(&mut out, edit, line)?;
             rest = after;
         }

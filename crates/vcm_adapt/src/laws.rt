@@ -2,7 +2,8 @@
 
 ghost use Rattle.std.specs.Prelude.{◌≡◌, ℕ, List, length};
 ghost use Rattle.vcm_adapt.specs.declared.edit.Edit.{Edit};
-ghost use Rattle.vcm_adapt.specs.Marks.{whole_lines, restored};
+ghost use Rattle.vcm_num.specs.Lines.{whole_lines};
+ghost use Rattle.vcm_adapt.specs.Marks.{restored};
 ghost use Rattle.vcm_lines.specs.Statements.{kept_lines, grouped};
 ghost use Rattle.std.specs.Str.Lines.{lines};
 ghost use Rattle.vcm_adapt.specs.Adapted.{edited_lines, adapted};

@@ -1,30 +1,13 @@
 -- The lines of a text.
-use Rattle.std.specs.Prelude.{ℕ, zero, suc, ◌-◌, ◌==◌, List, [], drop, take, length, Option, Some, None}
-use Rattle.std.specs.List.{position, prefix_len, suffix_len}
+use Rattle.std.specs.Prelude.{ℕ, zero, suc, ◌-◌, List, drop, take, length}
+use Rattle.std.specs.List.{prefix_len, suffix_len}
 use Rattle.std.specs.Char.{is_ascii_whitespace}
-
--- the bytes before this place, all where there is none
-abbrev pub before_place : List ℕ → Option ℕ → List ℕ
-before_place text None = text
-before_place text (Some n) = take n text
-
--- the bytes behind this place
-abbrev pub behind_place : List ℕ → Option ℕ → List ℕ
-behind_place text None = []
-behind_place text (Some n) = drop (suc n) text
-
--- the first line of a text
-abbrev pub first_line : List ℕ → List ℕ
-first_line text = before_place text (position (λ b. b == 10) text)
-
--- what stands behind it
-abbrev pub behind_line : List ℕ → List ℕ
-behind_line text = behind_place text (position (λ b. b == 10) text)
+use Rattle.vcm_num.specs.Lines.{first_line, after_line}
 
 -- what stands behind so many lines
 abbrev pub behind_lines : List ℕ → ℕ → List ℕ
 behind_lines text zero = text
-behind_lines text (suc k) = behind_lines (behind_line text) k
+behind_lines text (suc k) = behind_lines (after_line text) k
 
 -- the line with this number, the first being 1
 abbrev pub line_of : List ℕ → ℕ → List ℕ

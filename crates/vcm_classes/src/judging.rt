@@ -10,7 +10,7 @@ use crate::class::Class;
 use std::alloc::Global;
 use vcm_adapt::{Edit, NewLine};
 use vcm_lines::SourceFault;
-use vcm_num::{NoMemory, line_feed, write_int};
+use vcm_num::{NoMemory, cut_line, write_int};
 use vcm_sentences::{Sentence, fault_of};
 use vcm_spelling::joined;
 use vcm_standard::Reason;
@@ -133,14 +133,6 @@ pub fn put(
     }
 }
 
-// The first statement with its line feed left away, and those behind it.
-fn split_statement(text: &[u8]) -> (&[u8], &[u8]) {
-    match line_feed(text) {
-        None => (text, &[]),
-        Some(end) => (&text[..end], &text[end + 1..]),
-    }
-}
-
 // Appends a statement in a line of its own, behind the blanks of the old one and in front of its line number; false where the readers refuse it.
 fn put_line(
     alloc: Global,
@@ -172,7 +164,7 @@ fn lines_of(
         if rest.is_empty() {
             break;
         }
-        let (statement, after) = split_statement(rest);
+        let (statement, after) = cut_line(rest);
         are_taken = put_line(alloc, sentence, statement, &mut out)? && are_taken;
         rest = after;
     }

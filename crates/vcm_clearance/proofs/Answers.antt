@@ -11,9 +11,9 @@ use Rattle.vcm_carried.specs.declared.contact.Contact.{Contact}
 use Rattle.vcm_carried.specs.Carried.{IsBox, Counts, IsFirstContact}
 use Rattle.vcm_carried.proofs.Boxes.{wider_meet, unmoved_meet}
 use Rattle.vcm_carried.proofs.Contacts.{contact_is, contact_unique}
-use Rattle.vcm_gone.specs.declared.ways.Gone.{Gone as Went}
-use Rattle.vcm_gone.specs.Gone.{Gone}
-use Rattle.vcm_gone.specs.Seen.{IsSame, IsSameWay, seen}
+use Rattle.vcm_way.specs.declared.gone.Gone.{Gone as Went}
+use Rattle.vcm_way.specs.Gone.{Gone}
+use Rattle.vcm_way.specs.Seen.{IsSame, IsSameWay, seen}
 use Rattle.vcm_clearance.specs.Contacts.{IsClearOn, contact_on}
 
 -- ---- ways of which as much was gone

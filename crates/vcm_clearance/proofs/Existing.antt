@@ -8,7 +8,7 @@ use Rattle.vcm_spec.specs.Workpiece.{grown, is_block}
 use Rattle.vcm_carried.specs.declared.contact.Contact.{Contact}
 use Rattle.vcm_carried.specs.Carried.{IsBox}
 use Rattle.vcm_boxes.specs.declared.boxes.ProbeBox.{ProbeBox}
-use Rattle.vcm_gone.specs.Gone.{PlacedWay}
+use Rattle.vcm_way.specs.Gone.{PlacedWay}
 use Rattle.vcm_clearance.specs.declared.room.Room.{Room}
 use Rattle.vcm_clearance.specs.declared.room.Room.TheVariants.{Met, Clear}
 use Rattle.vcm_clearance.specs.Contacts.{contact_on, told_at}

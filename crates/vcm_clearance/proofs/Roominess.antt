@@ -11,7 +11,7 @@ use Rattle.vcm_spec.specs.Workpiece.{grown, is_block}
 use Rattle.vcm_carried.specs.declared.contact.Contact.{Contact}
 use Rattle.vcm_carried.specs.Carried.{IsBox, AreSides}
 use Rattle.vcm_spec.proofs.Entries.{below_three}
-use Rattle.vcm_gone.specs.Gone.{Gone, PlacedWay}
+use Rattle.vcm_way.specs.Gone.{Gone, PlacedWay}
 use Rattle.vcm_clearance.specs.declared.told.Told.{Told}
 use Rattle.vcm_clearance.specs.declared.room.Room.TheVariants.{Met, Clear}
 use Rattle.vcm_clearance.specs.Contacts.{IsClearOn, contact_on, is_met_on, told_at, told_if, told_on}

@@ -1,45 +1,38 @@
 -- The ways of a run, step by step, and the clearance at its end.
 use Rattle.std.proofs.Common.{◌≡◌, ℕ, suc, ◌+◌, ◌-◌, ◌≤◌, ◌∙◌, true, false, List, [], ◌∷◌, ◌++◌, length, Option, Some, refl, sym, ap, subst, arith, append_assoc}
-use Rattle.std.specs.Prelude.{map, flat_map}
+use Rattle.std.specs.Prelude.{flat_map}
 use Rattle.std.specs.List.{list_any}
 use Rattle.std.specs.Io.KnownBytes.{Appends}
 use Rattle.std.proofs.lemmas.Grind.{flat_map-append}
 use Rattle.std.proofs.lemmas.List.{flat_map_more}
-use Rattle.vcm_num.specs.declared.point.Point.{Point}
 use Rattle.vcm_num.specs.Written.{AppendsFront}
 use Rattle.vcm_num.proofs.KnownWrites.{appends_more, front_first, front_then}
 use Rattle.vcm_spec.specs.declared.workpiece.Block3.{Block3}
 use Rattle.vcm_spec.specs.Workpiece.{Workpiece, IsValid}
 use Rattle.vcm_spec.specs.declared.stop.StopPlace.{StopPlace}
 use Rattle.vcm_spec.specs.Setup.{setup_of}
-use Rattle.vcm_spec.specs.World.{World, Settings}
-use Rattle.vcm_code.specs.Code.{CodeStatement}
 use Rattle.vcm_code.specs.declared.code.Code.{Code}
 use Rattle.vcm_code.specs.CodeTable.{code_steps}
 use Rattle.vcm_machine.specs.declared.ran.End.{End}
 use Rattle.vcm_machine.specs.declared.ran.End.TheVariants as ends
 use Rattle.vcm_machine.specs.declared.ran.Ran.{Ran}
 use Rattle.vcm_machine.specs.Running.{Running, started, later, RunEnded, HasRun}
-use Rattle.vcm_steps.specs.Passages.{Passage, passage, passages, state_after, steps_taken, IsBroken}
+use Rattle.vcm_steps.specs.Passages.{Passage, passages, state_after, steps_taken, IsBroken}
 use Rattle.vcm_steps.proofs.PassageLemmas.{rest_of, taken_most, state_stopped, passages_stopped}
-use Rattle.vcm_way.specs.declared.step.Before.{Before}
-use Rattle.vcm_way.specs.declared.task.Task.{Task}
-use Rattle.vcm_way.specs.Steps.{IsBefore}
-use Rattle.vcm_way.specs.Ways.{reason}
 use Rattle.vcm_boxes.specs.declared.boxes.ProbeBox.{ProbeBox}
 use Rattle.vcm_boxes.specs.Boxes.{AreBoxes}
-use Rattle.vcm_gone.specs.declared.ways.Gone.{Gone as Went}
-use Rattle.vcm_gone.specs.Gone.{Gone, PlacedWay, gone_in, placed_ways, ways_of}
-use Rattle.vcm_gone.specs.Seen.{AreSame}
+use Rattle.vcm_way.specs.Gone.{PlacedWay, ways_in, placed_ways, ways_of}
+use Rattle.vcm_way.specs.Ways.{step_marks}
 use Rattle.vcm_clearance.specs.declared.clearing.Cleared.{Cleared}
-use Rattle.vcm_clearance.specs.declared.clearing.ClearanceFault.{ClearanceFault}
-use Rattle.vcm_clearance.specs.declared.clearing.ClearanceFault.TheVariants as faults
+use Rattle.vcm_steps.specs.declared.fault.Unfinished.{Unfinished}
+use Rattle.vcm_steps.specs.declared.fault.Unfinished.TheVariants as faults
 use Rattle.vcm_marks.specs.declared.mark.Moment.{Moment}
 use Rattle.vcm_clearance.specs.declared.room.Room.{Room}
 use Rattle.vcm_clearance.specs.Rooms.{AreRooms, counted, is_met_room}
-use Rattle.vcm_clearance.specs.Printed.{way_lines, run_lines, ways_text, boxes_lines, end_line}
+use Rattle.vcm_report.specs.Printed.{end_line}
+use Rattle.vcm_clearance.specs.Printed.{way_lines, run_lines, ways_text, boxes_lines}
 use Rattle.vcm_clearance.specs.Clearance.{contact_lines, summary, IsClearance, IsHalted, IsCutOff, IsNotCleared}
-use Rattle.vcm_clearance.specs.inner.Following.{ArePlaced, IsDone, is_empty, ways_in, HasTried, HasBroken}
+use Rattle.vcm_clearance.specs.inner.Following.{IsDone, AreAdded, AreCut, is_empty, ways_along, HasTried, HasBroken}
 use Rattle.vcm_clearance.proofs.Existing.{rooms_exist}
 use Rattle.vcm_clearance.proofs.Sizes.{box_at}
 
@@ -60,76 +53,58 @@ module _ (blocks : List Block3) (boxes : List ProbeBox) where
 
 -- ---- a step
 
-placed_same : (step number line : ℕ) (vs : List Went) (gs : List Gone) → AreSame vs gs
-    → ArePlaced (record { step = step; number = number; line = line }) vs (map (λ way. record { way = way; step = step; number = number; line = line }) gs)
-placed_same step number line [] [] h = tt
-placed_same step number line [] (g ∷ gs) h = absurd h
-placed_same step number line (v ∷ vs) [] h = absurd h
-placed_same step number line (v ∷ vs) (g ∷ gs) h = (record { way = h.0; step = refl; number = refl; line = refl }, placed_same step number line vs gs h.1)
-
--- the ways of a step, by what was known before it
-pub step_placed : (part : Workpiece) (b : Before) (s : CodeStatement) (w after : World) → IsBefore part.bounds.home w s b → (count number next : ℕ) (vs : List Went)
-    → AreSame vs (gone_in part b.position b.settings b.task (reason after.stop))
-    → ArePlaced (record { step = count; number = number; line = s.line }) vs (placed_ways part (passage count number s w after next))
-step_placed part b s w after is count number next vs h =
-    let e =
-    ap (λ (p : Point). gone_in part p b.settings b.task (reason after.stop)) is.position
-    ∙ ap (λ (t : Settings). gone_in part w.position t b.task (reason after.stop)) is.settings
-    ∙ ap (λ (t : Task). gone_in part w.position w.settings t (reason after.stop)) is.task in
-    placed_same count number s.line vs _ (subst (AreSame vs) e h)
-
 module _ (part : Workpiece) (boxes : List ProbeBox) (rooms : List Room) (count : ℕ) (old mid : Option (List ℕ)) (between : List Room) (sum : ℕ) (ps : List Passage)
-    (tried : HasTried part boxes rooms count old between sum mid ps) (p : Passage) (place : Moment) (vs : List Went) (placed : ArePlaced place vs (placed_ways part p)) where
-  more_in : ways_in part ps ++ placed_ways part p ≡ ways_in part (ps ++ p ∷ [])
+    (tried : HasTried part boxes rooms count old between sum mid ps) (p : Passage) where
+  abbrev place : Moment
+  place = record { step = p.count; number = p.number; line = p.statement.line }
+
+  more_in : ways_along part ps ++ placed_ways part p ≡ ways_along part (ps ++ p ∷ [])
   more_in = flat_map_more (placed_ways part) [] ps p
 
-  lines_in : run_lines part.blocks boxes true (ways_in part ps) ++ run_lines part.blocks boxes (is_empty (ways_in part ps)) (placed_ways part p)
-      ≡ run_lines part.blocks boxes true (ways_in part (ps ++ p ∷ []))
-  lines_in = more_lines part.blocks boxes (ways_in part ps) (placed_ways part p) ∙ ap (run_lines part.blocks boxes true) more_in
+  lines_in : run_lines part.blocks boxes true (ways_along part ps) ++ run_lines part.blocks boxes (is_empty (ways_along part ps)) (placed_ways part p)
+      ≡ run_lines part.blocks boxes true (ways_along part (ps ++ p ∷ []))
+  lines_in = more_lines part.blocks boxes (ways_along part ps) (placed_ways part p) ∙ ap (run_lines part.blocks boxes true) more_in
 
-  pub step_tried : (after : List Room) (total : ℕ) (new : Option (List ℕ))
-      → ((ws qs : List PlacedWay) → ArePlaced place vs qs → IsDone part.blocks boxes ws between sum → IsDone part.blocks boxes (ws ++ qs) after total
-      × Appends mid new (run_lines part.blocks boxes (is_empty ws) qs))
+  pub step_tried : (after : List Room) (total : ℕ) (new : Option (List ℕ)) → AreAdded part.blocks boxes place (ways_in part (step_marks part p)) between sum mid after total new
       → HasTried part boxes rooms count old after total new (ps ++ p ∷ [])
   step_tried after total new h start =
       let so_far = tried start in
-      let now = h (ways_in part ps) (placed_ways part p) placed so_far.0 in (
+      let now = h (ways_along part ps) so_far.0 in (
         subst (λ l. IsDone part.blocks boxes l after total) more_in now.0,
         appends_more old mid new _ _ _ lines_in so_far.1 now.1,
       )
 
-  pub step_broken : (new : Option (List ℕ))
-      → ((ws qs : List PlacedWay) → ArePlaced place vs qs → IsDone part.blocks boxes ws between sum → AppendsFront mid new (run_lines part.blocks boxes (is_empty ws) qs))
-      → (n : ℕ) → n ≡ p.count → HasBroken part boxes rooms count old new ps p (faults.Write n)
+  pub step_broken : (new : Option (List ℕ)) → AreCut part.blocks boxes place (ways_in part (step_marks part p)) between sum mid new → (n : ℕ) → n ≡ p.count
+      → HasBroken part boxes rooms count old new ps p (faults.Write n)
   step_broken new h n e = (
     e,
     λ start. (let so_far = tried start in
-        front_then old mid new _ _ _ lines_in so_far.1 (h (ways_in part ps) (placed_ways part p) placed so_far.0)),
+        front_then old mid new _ _ _ lines_in so_far.1 (h (ways_along part ps) so_far.0)),
   )
 
 -- ---- the end of a run
 
 module _ (part : Workpiece) (valid : IsValid part) (boxes : List ProbeBox) (are : AreBoxes boxes) (c : Code) (n : ℕ) where
   -- the ways of a run begin with those of its first steps
-  ways_front : (k : ℕ) → k ≤ n → (rest : List PlacedWay) × (ways_in part (passages part c k) ++ rest ≡ ways_of part c n)
+  ways_front : (k : ℕ) → k ≤ n → (rest : List PlacedWay) × (ways_along part (passages part c k) ++ rest ≡ ways_of part c n)
   ways_front k l =
       let r = rest_of part c k (n - k) in
       let all : k + (n - k) ≡ n = omega (arith, l) in
-      (flat_map (placed_ways part) r.0, sym (flat_map-append (placed_ways part) (passages part c k) r.0) ∙ ap (ways_in part) r.1 ∙ ap (λ i. ways_in part (passages part c i)) all)
+      (flat_map (placed_ways part) r.0, sym (flat_map-append (placed_ways part) (passages part c k) r.0) ∙ ap (ways_along part) r.1 ∙ ap (λ i. ways_along part (passages part c i)) all)
 
   -- a line of a contact could not be written
-  pub broken_off : (rooms : List Room) (count : ℕ) (old new : Option (List ℕ)) → IsDone part.blocks boxes [] rooms count → (f : ClearanceFault)
+  pub broken_off : (rooms : List Room) (count : ℕ) (old new : Option (List ℕ)) → IsDone part.blocks boxes [] rooms count → (f : Unfinished)
       → IsBroken n part c (λ ps p. HasBroken part boxes rooms count old new ps p f) → IsNotCleared part boxes c n f old new
   broken_off rooms count old new start faults.NoMemory i = absurd i.broken
   broken_off rooms count old new start (faults.Memory done) i = absurd i.broken
   broken_off rooms count old new start (faults.Write done) i =
       let k = suc i.done in
       let r = ways_front k (let t = taken_most part c n in let u = i.taken in omega (arith, t, u)) in
-      let front : AppendsFront old new (run_lines part.blocks boxes true (ways_in part (passages part c k))) =
-      subst (λ ps. AppendsFront old new (run_lines part.blocks boxes true (ways_in part ps))) (sym i.passages_are) (i.broken.1 start) in
-      let more = run_lines part.blocks boxes (is_empty (ways_in part (passages part c k))) r.0 in
-      let lines : run_lines part.blocks boxes true (ways_in part (passages part c k)) ++ more ≡ contact_lines part boxes c n =
-      more_lines part.blocks boxes (ways_in part (passages part c k)) r.0 ∙ ap (run_lines part.blocks boxes true) r.1 in
+      let front : AppendsFront old new (run_lines part.blocks boxes true (ways_along part (passages part c k))) =
+      subst (λ ps. AppendsFront old new (run_lines part.blocks boxes true (ways_along part ps))) (sym i.passages_are) (i.broken.1 start) in
+      let more = run_lines part.blocks boxes (is_empty (ways_along part (passages part c k))) r.0 in
+      let lines : run_lines part.blocks boxes true (ways_along part (passages part c k)) ++ more ≡ contact_lines part boxes c n =
+      more_lines part.blocks boxes (ways_along part (passages part c k)) r.0 ∙ ap (run_lines part.blocks boxes true) r.1 in
       let all = rooms_exist part.blocks valid.each (ways_of part c n) boxes (box_at boxes are) in
       record {
         rooms = all.0;
@@ -150,7 +125,7 @@ module _ (part : Workpiece) (valid : IsValid part) (boxes : List ProbeBox) (are 
 
     -- a run that memory did not cut short
     record IsWhole (stop : Option StopPlace) : Type 0 where
-      ways : ways_in part (passages part c ran.done) ≡ ways_of part c n
+      ways : ways_along part (passages part c ran.done) ≡ ways_of part c n
       steps : ran.done ≡ steps_taken part c n
       stop_is : stop ≡ (state_after part c n).world.stop
 
@@ -159,12 +134,12 @@ module _ (part : Workpiece) (valid : IsValid part) (boxes : List ProbeBox) (are 
     whole_by ends.Stopped r ample stop s =
         let here : (state_after part c ran.done).world.stop ≡ Some r.1.0 = ap (λ x. x.world.stop) (sym state) ∙ r.1.1 in
         record {
-          ways = ap (ways_in part) (sym (passages_stopped part c n ran.done r.1.0 r.0 here));
+          ways = ap (ways_along part) (sym (passages_stopped part c n ran.done r.1.0 r.0 here));
           steps = r.0;
           stop_is = s ∙ ap (λ x. x.world.stop) state ∙ ap (λ x. x.world.stop) (sym (state_stopped part c n ran.done r.0));
         }
     whole_by ends.Count r ample stop s = record {
-      ways = ap (λ i. ways_in part (passages part c i)) r.0;
+      ways = ap (λ i. ways_along part (passages part c i)) r.0;
       steps = r.0 ∙ r.1;
       stop_is = s ∙ ap (λ x. x.world.stop) state ∙ ap (λ i. (state_after part c i).world.stop) r.0;
     }

@@ -5,7 +5,7 @@ use Rattle.std.proofs.lemmas.Bool.{cases_lt}
 use Rattle.vcm_spec.specs.declared.workpiece.Block3.{Block3}
 use Rattle.vcm_spec.specs.Workpiece.{grown, is_block}
 use Rattle.vcm_carried.specs.Carried.{IsBox}
-use Rattle.vcm_gone.specs.Gone.{PlacedWay}
+use Rattle.vcm_way.specs.Gone.{PlacedWay}
 use Rattle.vcm_clearance.specs.declared.told.Told.{Told}
 use Rattle.vcm_clearance.specs.declared.room.Room.{Room}
 use Rattle.vcm_clearance.specs.declared.room.Room.TheVariants.{Met, Clear}

@@ -11,7 +11,7 @@ use Rattle.vcm_spec.specs.FirstContact.{fraction}
 use Rattle.vcm_carried.specs.declared.contact.Contact.{Contact}
 use Rattle.vcm_carried.specs.Carried.{IsBox, IsCarried, BoxMeets, Counts, IsFirstContact}
 use Rattle.vcm_carried.proofs.Contacts.{contact_is}
-use Rattle.vcm_gone.specs.Gone.{Gone, PlacedWay, ways_of}
+use Rattle.vcm_way.specs.Gone.{Gone, PlacedWay, ways_of}
 use Rattle.vcm_clearance.specs.Contacts.{contact_on, is_met_on, told_at, told_if}
 use Rattle.vcm_clearance.specs.Rooms.{met_ways}
 use Rattle.vcm_clearance.specs.Laws.{IsSomeTold, WhatIsMetIsTold}

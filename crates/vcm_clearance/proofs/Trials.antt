@@ -6,9 +6,9 @@ use Rattle.vcm_spec.specs.declared.workpiece.Block3.{Block3}
 use Rattle.vcm_spec.specs.Workpiece.{grown, is_block}
 use Rattle.vcm_carried.specs.declared.contact.Contact.{Contact}
 use Rattle.vcm_carried.specs.Carried.{IsBox}
-use Rattle.vcm_gone.specs.declared.ways.Gone.{Gone as Went}
-use Rattle.vcm_gone.specs.Gone.{Gone, PlacedWay}
-use Rattle.vcm_gone.specs.Seen.{IsSameWay, seen}
+use Rattle.vcm_way.specs.declared.gone.Gone.{Gone as Went}
+use Rattle.vcm_way.specs.Gone.{Gone, PlacedWay}
+use Rattle.vcm_way.specs.Seen.{IsSameWay, seen}
 use Rattle.vcm_clearance.specs.declared.told.Told.{Told}
 use Rattle.vcm_clearance.specs.declared.room.Room.TheVariants.{Met, Clear}
 use Rattle.vcm_marks.specs.declared.mark.Moment.{Moment}

@@ -1,7 +1,7 @@
 -- Boxes that are tried on one way, and on the ways of a step.
 use Rattle.std.proofs.Common.{◌≡◌, ℕ, zero, suc, ◌+◌, ◌≤◌, ◌∙◌, Bool, false, List, [], ◌∷◌, ◌++◌, length, take, drop, slice_get, slice_set, Option, Some, None}
 use Rattle.std.proofs.Common.{Result, Ok, Err, refl, sym, ap, subst, inl, inr, arith, append_assoc}
-use Rattle.std.specs.Prelude.{flat_map, min, ◌==◌, IfOk, IfErr}
+use Rattle.std.specs.Prelude.{flat_map, min, ◌==◌, option_to_list, IfOk, IfErr}
 use Rattle.std.specs.Io.KnownBytes.{Appends}
 use Rattle.std.proofs.Math.Nat.{le-min, min-eq_left}
 use Rattle.std.proofs.Math.Seq.{take-suc}
@@ -12,16 +12,19 @@ use Rattle.std.proofs.lemmas.Option.{slice_get_within, get_or_from_slice_get}
 use Rattle.vcm_num.specs.Written.{AppendsFront}
 use Rattle.vcm_num.proofs.KnownWrites.{appends_nothing, appends_more, front_first, front_then}
 use Rattle.vcm_spec.specs.declared.workpiece.Block3.{Block3}
+use Rattle.vcm_spec.specs.Workpiece.{Workpiece}
 use Rattle.vcm_boxes.specs.declared.boxes.ProbeBox.{ProbeBox}
-use Rattle.vcm_gone.specs.declared.ways.Gone.{Gone as Went}
-use Rattle.vcm_gone.specs.Gone.{PlacedWay}
+use Rattle.vcm_way.specs.declared.gone.Gone.{Gone as Went}
+use Rattle.vcm_way.specs.Gone.{Gone, PlacedWay, first_way, ways_in, placed_at}
+use Rattle.vcm_way.specs.Seen.{IsSameWay, IsSameIfAny, seen}
+use Rattle.vcm_marks.specs.declared.mark.Mark.{Mark}
 use Rattle.vcm_marks.specs.declared.mark.Moment.{Moment}
 use Rattle.vcm_clearance.specs.declared.room.Room.{Room}
 use Rattle.vcm_clearance.specs.declared.room.Room.TheVariants.{Clear}
 use Rattle.vcm_clearance.specs.Contacts.{told_on}
 use Rattle.vcm_clearance.specs.Rooms.{most, counted, IsRoom, AreRooms}
 use Rattle.vcm_clearance.specs.Printed.{contact_line, way_lines, run_lines}
-use Rattle.vcm_clearance.specs.inner.Following.{AreTried, IsDone, IsPlaced, ArePlaced, is_empty, opening}
+use Rattle.vcm_clearance.specs.inner.Following.{AreTried, IsDone, IsPlaced, AreAdded, AreCut, is_empty, opening}
 use Rattle.vcm_clearance.proofs.Roominess.{count_more}
 
 -- ---- a room that is set
@@ -113,11 +116,19 @@ not_empty : (ws : List PlacedWay) (p : PlacedWay) → is_empty (ws ++ p ∷ []) 
 not_empty [] p = refl
 not_empty (w ∷ ws) p = refl
 
+-- the way that the code finds of the first mark is the first way
+pub first_of : (part : Workpiece) (ms behind : List Mark) (m : Mark) → ms ≡ m ∷ behind → (v : Went) → IsSameIfAny (Some v) (first_way part ms) → (P : List Gone → Type 0)
+    → ((w : Gone) → IsSameWay (seen v) w → P (w ∷ ways_in part behind)) → P (ways_in part ms)
+first_of part ms behind m e v found P h =
+    subst (λ l. P (ways_in part l)) (sym e) (by (first_way part (m ∷ behind)) (subst (λ l. IsSameIfAny (Some v) (first_way part l)) e found))
+  where
+    by : (o : Option Gone) → IsSameIfAny (Some v) o → P (option_to_list o ++ ways_in part behind)
+    by None same = absurd same
+    by (Some w) same = h w same
+
 module _ (blocks : List Block3) (boxes : List ProbeBox) (place : Moment) where
-  pub no_way : (ws ps : List PlacedWay) (rooms : List Room) (count : ℕ) (old : Option (List ℕ)) → ArePlaced place [] ps → IsDone blocks boxes ws rooms count
-      → IsDone blocks boxes (ws ++ ps) rooms count × Appends old old (run_lines blocks boxes (is_empty ws) ps)
-  no_way ws [] rooms count old h d = (subst (λ l. IsDone blocks boxes l rooms count) (sym (append-nil ws)) d, appends_nothing old)
-  no_way ws (p ∷ ps) rooms count old h d = absurd h
+  pub no_way : (rooms : List Room) (count : ℕ) (old : Option (List ℕ)) → AreAdded blocks boxes place [] rooms count old rooms count old
+  no_way rooms count old ws d = (subst (λ l. IsDone blocks boxes l rooms count) (sym (append-nil ws)) d, appends_nothing old)
 
   -- one more way was tried, and is counted
   pub one_done : (ws : List PlacedWay) (p : PlacedWay) (rooms : List Room) (count sum : ℕ) → count ≡ counted (length ws) → sum ≡ min (count + 1) most
@@ -127,49 +138,46 @@ module _ (blocks : List Block3) (boxes : List ProbeBox) (place : Moment) where
     counted_is = count_more (length ws) count sum e f ∙ ap counted (sym (length-append ws (p ∷ [])));
   }
 
-  module _ (v : Went) (vs : List Went) (count : ℕ) where
-    -- the first way, and those behind it
-    pub more_ways : (is_first : Bool) → is_first ≡ (count == 0) → (start first last : List Room) (sum total : ℕ) (old mid new : Option (List ℕ)) → sum ≡ min (count + 1) most
-        → ((ws : List PlacedWay) (p : PlacedWay) → IsPlaced place v p → AreRooms blocks boxes ws start → AreRooms blocks boxes (ws ++ p ∷ []) first
-        × Appends old mid (way_lines blocks boxes is_first p))
-        → ((ws ps : List PlacedWay) → ArePlaced place vs ps → IsDone blocks boxes ws first sum → IsDone blocks boxes (ws ++ ps) last total × Appends mid new (run_lines blocks boxes (is_empty ws) ps))
-        → (ws ps : List PlacedWay) → ArePlaced place (v ∷ vs) ps → IsDone blocks boxes ws start count → IsDone blocks boxes (ws ++ ps) last total
-        × Appends old new (run_lines blocks boxes (is_empty ws) ps)
-    more_ways is_first f start first last sum total old mid new s one rest ws [] h d = absurd h
-    more_ways is_first f start first last sum total old mid new s one rest ws (p ∷ ps) h d =
-        let flag : is_first ≡ is_empty ws = f ∙ is_first_way ws count d.counted_is in
-        let here = one ws p h.0 d.are_rooms in
-        let there = rest (ws ++ p ∷ []) ps h.1 (one_done ws p first count sum d.counted_is s here.0) in (
-          subst (λ l. IsDone blocks boxes l last total) (append_assoc ws (p ∷ []) ps) there.0,
-          appends_more old mid new (way_lines blocks boxes (is_empty ws) p) (run_lines blocks boxes false ps) _ refl
-              (subst (λ b. Appends old mid (way_lines blocks boxes b p)) flag here.1)
-              (subst (λ b. Appends mid new (run_lines blocks boxes b ps)) (not_empty ws p) there.1),
-        )
+  module _ (v : Went) (w : Gone) (same : IsSameWay (seen v) w) (gs : List Gone) (count : ℕ) (is_first : Bool) (f : is_first ≡ (count == 0)) where
+    abbrev p : PlacedWay
+    p = record { way = w; step = place.step; number = place.number; line = place.line }
+
+    placed : IsPlaced place v p
+    placed = record { way = same; step = refl; number = refl; line = refl }
+
+    flag : (ws : List PlacedWay) → count ≡ counted (length ws) → is_first ≡ is_empty ws
+    flag ws e = f ∙ is_first_way ws count e
 
     -- a line of the first could not be written
-    pub cut_first : (is_first : Bool) → is_first ≡ (count == 0) → (start : List Room) (old new : Option (List ℕ))
+    pub cut_first : (start : List Room) (old new : Option (List ℕ))
         → ((ws : List PlacedWay) (p : PlacedWay) → IsPlaced place v p → AreRooms blocks boxes ws start → AppendsFront old new (way_lines blocks boxes is_first p))
-        → (ws ps : List PlacedWay) → ArePlaced place (v ∷ vs) ps → IsDone blocks boxes ws start count → AppendsFront old new (run_lines blocks boxes (is_empty ws) ps)
-    cut_first is_first f start old new one ws [] h d = absurd h
-    cut_first is_first f start old new one ws (p ∷ ps) h d =
-        let flag : is_first ≡ is_empty ws = f ∙ is_first_way ws count d.counted_is in
-        front_first old new (way_lines blocks boxes (is_empty ws) p) (run_lines blocks boxes false ps) _ refl
-        (subst (λ b. AppendsFront old new (way_lines blocks boxes b p)) flag (one ws p h.0 d.are_rooms))
+        → AreCut blocks boxes place (w ∷ gs) start count old new
+    cut_first start old new one ws d =
+        front_first old new (way_lines blocks boxes (is_empty ws) p) (run_lines blocks boxes false (placed_at place gs)) _ refl
+        (subst (λ b. AppendsFront old new (way_lines blocks boxes b p)) (flag ws d.counted_is) (one ws p placed d.are_rooms))
 
-    -- a line of those behind it could not
-    pub cut_later : (is_first : Bool) → is_first ≡ (count == 0) → (start first : List Room) (sum : ℕ) (old mid new : Option (List ℕ)) → sum ≡ min (count + 1) most
-        → ((ws : List PlacedWay) (p : PlacedWay) → IsPlaced place v p → AreRooms blocks boxes ws start → AreRooms blocks boxes (ws ++ p ∷ []) first
-        × Appends old mid (way_lines blocks boxes is_first p))
-        → ((ws ps : List PlacedWay) → ArePlaced place vs ps → IsDone blocks boxes ws first sum → AppendsFront mid new (run_lines blocks boxes (is_empty ws) ps))
-        → (ws ps : List PlacedWay) → ArePlaced place (v ∷ vs) ps → IsDone blocks boxes ws start count → AppendsFront old new (run_lines blocks boxes (is_empty ws) ps)
-    cut_later is_first f start first sum old mid new s one rest ws [] h d = absurd h
-    cut_later is_first f start first sum old mid new s one rest ws (p ∷ ps) h d =
-        let flag : is_first ≡ is_empty ws = f ∙ is_first_way ws count d.counted_is in
-        let here = one ws p h.0 d.are_rooms in
-        let there = rest (ws ++ p ∷ []) ps h.1 (one_done ws p first count sum d.counted_is s here.0) in
-        front_then old mid new (way_lines blocks boxes (is_empty ws) p) (run_lines blocks boxes false ps) _ refl
-        (subst (λ b. Appends old mid (way_lines blocks boxes b p)) flag here.1)
-        (subst (λ b. AppendsFront mid new (run_lines blocks boxes b ps)) (not_empty ws p) there)
+    module _ (start first : List Room) (sum : ℕ) (old mid new : Option (List ℕ)) (s : sum ≡ min (count + 1) most)
+        (one : (ws : List PlacedWay) (p : PlacedWay) → IsPlaced place v p → AreRooms blocks boxes ws start
+        → AreRooms blocks boxes (ws ++ p ∷ []) first × Appends old mid (way_lines blocks boxes is_first p)) where
+      -- the first way, and those behind it
+      pub more_ways : (last : List Room) (total : ℕ) → AreAdded blocks boxes place gs first sum mid last total new → AreAdded blocks boxes place (w ∷ gs) start count old last total new
+      more_ways last total rest ws d =
+          let here = one ws p placed d.are_rooms in
+          let there = rest (ws ++ p ∷ []) (one_done ws p first count sum d.counted_is s here.0) in (
+            subst (λ l. IsDone blocks boxes l last total) (append_assoc ws (p ∷ []) (placed_at place gs)) there.0,
+            appends_more old mid new (way_lines blocks boxes (is_empty ws) p) (run_lines blocks boxes false (placed_at place gs)) _ refl
+                (subst (λ b. Appends old mid (way_lines blocks boxes b p)) (flag ws d.counted_is) here.1)
+                (subst (λ b. Appends mid new (run_lines blocks boxes b (placed_at place gs))) (not_empty ws p) there.1),
+          )
+
+      -- a line of those behind it could not be written
+      pub cut_later : AreCut blocks boxes place gs first sum mid new → AreCut blocks boxes place (w ∷ gs) start count old new
+      cut_later rest ws d =
+          let here = one ws p placed d.are_rooms in
+          let there = rest (ws ++ p ∷ []) (one_done ws p first count sum d.counted_is s here.0) in
+          front_then old mid new (way_lines blocks boxes (is_empty ws) p) (run_lines blocks boxes false (placed_at place gs)) _ refl
+          (subst (λ b. Appends old mid (way_lines blocks boxes b p)) (flag ws d.counted_is) here.1)
+          (subst (λ b. AppendsFront mid new (run_lines blocks boxes b (placed_at place gs))) (not_empty ws p) there)
 
 -- ---- before the first way
 

@@ -10,13 +10,14 @@ use Rattle.vcm_machine.specs.declared.ran.End.TheVariants.{NoMemory}
 use Rattle.vcm_machine.specs.Running.{started, later, RunEnded}
 use Rattle.vcm_steps.specs.Passages.{state_after, steps_taken}
 use Rattle.vcm_boxes.specs.declared.boxes.ProbeBox.{ProbeBox}
-use Rattle.vcm_gone.specs.Gone.{PlacedWay, ways_of}
+use Rattle.vcm_way.specs.Gone.{PlacedWay, ways_of}
 use Rattle.vcm_clearance.specs.declared.clearing.Cleared.{Cleared}
-use Rattle.vcm_clearance.specs.declared.clearing.ClearanceFault.{ClearanceFault}
-use Rattle.vcm_clearance.specs.declared.clearing.ClearanceFault.TheVariants as faults
+use Rattle.vcm_steps.specs.declared.fault.Unfinished.{Unfinished}
+use Rattle.vcm_steps.specs.declared.fault.Unfinished.TheVariants as faults
 use Rattle.vcm_clearance.specs.declared.room.Room.{Room}
 use Rattle.vcm_clearance.specs.Rooms.{counted, AreRooms, is_met_room}
-use Rattle.vcm_clearance.specs.Printed.{run_lines, ways_text, boxes_lines, end_line}
+use Rattle.vcm_report.specs.Printed.{end_line}
+use Rattle.vcm_clearance.specs.Printed.{run_lines, ways_text, boxes_lines}
 
 -- the lines of the contacts in the first so many steps
 abbrev pub contact_lines : Workpiece → List ProbeBox → Code → ℕ → List ℕ
@@ -51,7 +52,7 @@ pub record IsCutOff (part : Workpiece) (boxes : List ProbeBox) (c : Code) (n : �
   pub front : AppendsFront old new (clearance_text part boxes c n rooms)
 
 -- why no clearance was written: memory was refused before the run, and nothing was written; or in it; or a write failed
-abbrev pub IsNotCleared : Workpiece → List ProbeBox → Code → ℕ → ClearanceFault → Option (List ℕ) → Option (List ℕ) → Type 0
+abbrev pub IsNotCleared : Workpiece → List ProbeBox → Code → ℕ → Unfinished → Option (List ℕ) → Option (List ℕ) → Type 0
 IsNotCleared part boxes c n faults.NoMemory old new = Keeps old new
 IsNotCleared part boxes c n (faults.Memory done) old new = IsHalted part boxes c n done old new
 IsNotCleared part boxes c n (faults.Write done) old new = IsCutOff part boxes c n old new

@@ -6,7 +6,7 @@ use Rattle.vcm_spec.specs.Contact.{IsClear}
 use Rattle.vcm_carried.specs.declared.contact.Contact.{Contact}
 use Rattle.vcm_carried.specs.Carried.{BoxMeetsBy}
 use Rattle.vcm_carried.specs.FirstCarried.{box_contact}
-use Rattle.vcm_gone.specs.Gone.{Gone, PlacedWay}
+use Rattle.vcm_way.specs.Gone.{Gone, PlacedWay}
 use Rattle.vcm_clearance.specs.declared.told.Told.{Told}
 
 -- at which fractions the box meets a block on a way: those that were gone

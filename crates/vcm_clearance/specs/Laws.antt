@@ -5,7 +5,7 @@ use Rattle.vcm_spec.specs.declared.workpiece.Block3.{Block3}
 use Rattle.vcm_spec.specs.Workpiece.{Workpiece, IsValid, is_block}
 use Rattle.vcm_code.specs.declared.code.Code.{Code}
 use Rattle.vcm_carried.specs.Carried.{IsBox}
-use Rattle.vcm_gone.specs.Gone.{PlacedWay, ways_of}
+use Rattle.vcm_way.specs.Gone.{PlacedWay, ways_of}
 use Rattle.vcm_clearance.specs.declared.room.Room.{Room}
 use Rattle.vcm_clearance.specs.declared.told.Told.{Told}
 use Rattle.vcm_clearance.specs.Contacts.{told_on}

@@ -1,17 +1,13 @@
 -- Contacts and rooms as text.
 use Rattle.std.specs.Prelude.{ℕ, ◌+◌, Bool, false, List, [], ◌∷◌, ◌++◌, flat_map, Option, Some, None, decimal, codes}
 use Rattle.vcm_num.specs.declared.point.Point.{Point}
-use Rattle.vcm_num.specs.Point.{coordinate}
-use Rattle.vcm_num.specs.Texts.{thousandths}
-use Rattle.vcm_spec.specs.declared.stop.StopPlace.{StopPlace}
 use Rattle.vcm_spec.specs.declared.workpiece.Block3.{Block3}
 use Rattle.vcm_spec.specs.declared.workpiece.Hit.{Hit}
-use Rattle.vcm_spec.specs.Setup.{Tables}
-use Rattle.vcm_report.specs.Printed.{in_a_row, stopped_line}
+use Rattle.vcm_report.specs.Printed.{in_a_row, point_text}
 use Rattle.vcm_marks.specs.declared.mark.Going.{Going}
 use Rattle.vcm_marks.specs.declared.mark.Going.TheVariants as going
 use Rattle.vcm_boxes.specs.declared.boxes.ProbeBox.{ProbeBox}
-use Rattle.vcm_gone.specs.Gone.{PlacedWay}
+use Rattle.vcm_way.specs.Gone.{PlacedWay}
 use Rattle.vcm_clearance.specs.declared.told.Told.{Told}
 use Rattle.vcm_clearance.specs.declared.room.Room.{Room}
 use Rattle.vcm_clearance.specs.declared.room.Room.TheVariants.{Met, Clear}
@@ -27,9 +23,7 @@ going_text going.Rest = codes "REST"
 
 -- the position of a contact, in millimetres, and the end of the line
 abbrev pub position_text : Point → List ℕ
-position_text p =
-    in_a_row (codes " position " ∷ thousandths (coordinate p 0) ∷ codes " " ∷ thousandths (coordinate p 1) ∷ codes " " ∷ thousandths (coordinate p 2) ∷ codes
-    "\n" ∷ [])
+position_text p = codes " position " ++ (point_text (codes " ") p ++ codes "\n")
 
 -- where in the run a contact is
 abbrev pub place_text : Told → List ℕ
@@ -96,12 +90,3 @@ abbrev pub boxes_lines : List ProbeBox → List Room → List ℕ
 boxes_lines [] rooms = []
 boxes_lines (b ∷ bs) [] = []
 boxes_lines (b ∷ bs) (r ∷ rs) = box_lines b.name r ++ boxes_lines bs rs
-
--- that there was no stop in so many steps
-abbrev pub no_stop_text : ℕ → List ℕ
-no_stop_text done = in_a_row (codes "no stop after " ∷ decimal done ∷ codes " steps\n" ∷ [])
-
--- how the run ended: its stop, or after how many steps there was none
-abbrev pub end_line : Tables → Option StopPlace → ℕ → List ℕ
-end_line tables (Some place) done = stopped_line tables place
-end_line tables None done = no_stop_text done

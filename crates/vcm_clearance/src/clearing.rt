@@ -6,12 +6,13 @@ ghost use Rattle.vcm_num.specs.Written.{Wrote};
 ghost use Rattle.vcm_machine.specs.Running.{started, HasRun};
 ghost use Rattle.vcm_steps.specs.Passages.{passages, IsBroken};
 ghost use Rattle.vcm_clearance.specs.Clearance.{IsClearance, IsNotCleared};
-ghost use Rattle.vcm_clearance.specs.Printed.{ways_text, boxes_lines, end_line};
+ghost use Rattle.vcm_report.specs.Printed.{end_line};
+ghost use Rattle.vcm_clearance.specs.Printed.{ways_text, boxes_lines};
 ghost use Rattle.vcm_clearance.specs.Rooms.{is_met_room};
 ghost use Rattle.vcm_clearance.specs.inner.Following.{HasTried, HasBroken, opening};
 
 use crate::following::{Progress, Trier};
-use crate::printing::{write_boxes, write_end, write_ways};
+use crate::printing::{write_boxes, write_ways};
 use crate::room::Room;
 use std::alloc::Global;
 use std::io::Write;
@@ -21,26 +22,16 @@ use vcm_machine::{End, Machine, Ran};
 use vcm_motion::Part;
 use vcm_num::{MOST_ROOM, NoMemory, WriteFault};
 use vcm_part::PartData;
+use vcm_report::write_end_line;
 use vcm_spec::StopPlace;
 use vcm_state::World;
-use vcm_steps::follow_run;
+use vcm_steps::{Unfinished, follow_run};
 
 /// What a run with its boxes came to: whether a box meets a block, and the stop of the run, if it came to one.
 #[derive(Clone, Copy)]
 pub struct Cleared {
     pub is_met: bool,
     pub stop: Option<StopPlace>,
-}
-
-/// Why a clearance isn't written to its end.
-#[derive(Clone, Copy)]
-pub enum ClearanceFault {
-    /// A growth of memory was refused before the run. Nothing is written.
-    NoMemory,
-    /// A growth of memory was refused to an output line, after so many steps. The contacts in these are written.
-    Memory { done: u64 },
-    /// The writer failed, or took no byte, after so many steps. It has taken a front of the clearance that is not all.
-    Write { done: u64 },
 }
 
 // The rooms of boxes before the first way.
@@ -83,7 +74,7 @@ fn write_rest<W: Write>(
         (boxes_lines boxes.now rooms.now ++ end_line world.now.tables world.now.state.stop done) result }
 {
     write_boxes(boxes, rooms, writer)?;
-    write_end(world.tables(), world.stop(), done, writer)
+    write_end_line(world.tables(), world.stop(), done, writer)
 }
 
 // Writes what comes behind the contacts.
@@ -111,7 +102,7 @@ fn try_run<P: Part, W: Write>(
     steps: u64,
     rooms: &mut Vec<Room>,
     writer: &mut W,
-) -> Result<(Ran, u64), ClearanceFault>
+) -> Result<(Ran, u64), Unfinished>
     requires start { machine.old ≡ started machine.old.part loaded.now }
     requires tie { P.part trier.now.part.now ≡ trier.now.blocks.now }
     requires beside { machine.old.part ≡ trier.now.blocks.now }
@@ -142,7 +133,7 @@ fn clear_run<P: Part, W: Write>(
     steps: u64,
     rooms: &mut Vec<Room>,
     writer: &mut W,
-) -> Result<Cleared, ClearanceFault>
+) -> Result<Cleared, Unfinished>
     requires start { machine.old ≡ started machine.old.part loaded.now }
     requires tie { P.part trier.now.part.now ≡ trier.now.blocks.now }
     requires beside { machine.old.part ≡ trier.now.blocks.now }
@@ -159,7 +150,7 @@ fn clear_run<P: Part, W: Write>(
     };
     let done = ran.done;
     match ran.end {
-        End::NoMemory => return Err(ClearanceFault::Memory { done }),
+        End::NoMemory => return Err(Unfinished::Memory { done }),
         End::Count => {}
         End::Stopped => {}
     }
@@ -170,7 +161,7 @@ fn clear_run<P: Part, W: Write>(
             is_met: is_some_met(known),
             stop: world.stop(),
         }),
-        Err(_) => Err(ClearanceFault::Write { done }),
+        Err(_) => Err(Unfinished::Write { done }),
     }
 }
 
@@ -179,7 +170,7 @@ fn clear_run<P: Part, W: Write>(
 /// where that is narrowest; and how the run ended. The tip alone decides the run. Fractions and contacts are exact; lengths are whole micrometres; ways are counted up to
 /// 18,446,744,073,709,551,615.
 ///
-/// Errors: see `ClearanceFault`.
+/// Errors: see `Unfinished`.
 pub fn clearance<P: Part, W: Write>(
     alloc: Global,
     loaded: &Loaded<'_>,
@@ -188,13 +179,13 @@ pub fn clearance<P: Part, W: Write>(
     boxes: &Boxes,
     steps: u64,
     writer: &mut W,
-) -> Result<Cleared, ClearanceFault>
+) -> Result<Cleared, Unfinished>
     requires { P.part part.now ≡ blocks.now }
     ensures cleared { IfOk result (λ t. IsClearance (P.part part.now) boxes.now loaded.now steps t (W.contents writer.old) (W.contents writer.new)) }
     ensures fault { IfErr result (λ f. IsNotCleared (P.part part.now) boxes.now loaded.now steps f (W.contents writer.old) (W.contents writer.new)) }
 {
     let Ok(mut rooms) = opening_rooms(alloc, boxes.as_slice()) else {
-        return Err(ClearanceFault::NoMemory);
+        return Err(Unfinished::NoMemory);
     };
     let trier = Trier {
         part,
@@ -203,7 +194,7 @@ pub fn clearance<P: Part, W: Write>(
     };
     let mut machine = match Machine::new(alloc, loaded, part) {
         Ok(machine) => machine,
-        Err(_) => return Err(ClearanceFault::NoMemory),
+        Err(_) => return Err(Unfinished::NoMemory),
     };
     clear_run(
         alloc,

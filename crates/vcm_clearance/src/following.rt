@@ -8,19 +8,17 @@ ghost use Rattle.vcm_code.specs.Valid.{IsValid};
 ghost use Rattle.vcm_way.specs.Steps.{IsBefore};
 ghost use Rattle.vcm_clearance.specs.inner.Following.{HasTried, HasBroken};
 
-use crate::clearing::ClearanceFault;
 use crate::room::Room;
 use crate::trying::try_ways;
 use std::io::Write;
 use vcm_boxes::Boxes;
 use vcm_fields::BorrowedStatement;
-use vcm_gone::ways_of_step;
 use vcm_marks::Moment;
 use vcm_motion::Part;
 use vcm_part::PartData;
 use vcm_state::World;
-use vcm_steps::Follows;
-use vcm_way::{Before, look, reason};
+use vcm_steps::{Follows, Unfinished};
+use vcm_way::{Before, look, marks_of_step, reason};
 
 /// What is known so far: the rooms of the boxes, and how many ways there were; and where contacts are written.
 #[derive(Drop)]
@@ -41,7 +39,7 @@ pub(crate) struct Trier<'a, P: Part> {
 impl<'a, P: Part, W: Write> Follows<Progress<'a, W>> for Trier<'_, P> {
     type Before = Before;
 
-    type Fault = ClearanceFault;
+    type Fault = Unfinished;
 
     ghost Fits = { λ s part c. (P.part s.part.now ≡ s.blocks.now) × (part ≡ s.blocks.now) × IsValid c };
 
@@ -68,8 +66,10 @@ impl<'a, P: Part, W: Write> Follows<Progress<'a, W>> for Trier<'_, P> {
         world: &World,
         _next: u32,
         to: &mut Progress<'a, W>,
-    ) -> Result<(), ClearanceFault> {
-        let ways = ways_of_step(self.part, self.blocks, &before, reason(world.stop()));
+    ) -> Result<(), Unfinished> {
+        // It is called for what it tells of the limits: that they are valid.
+        let _bounds = self.blocks.bounds();
+        let marks = marks_of_step(self.part, self.blocks, &before, reason(world.stop()));
         let place = Moment {
             step: count,
             number,
@@ -79,7 +79,7 @@ impl<'a, P: Part, W: Write> Follows<Progress<'a, W>> for Trier<'_, P> {
             self.blocks,
             self.boxes.as_slice(),
             place,
-            ways.as_slice(),
+            marks.as_slice(),
             to.count,
             to.rooms,
             to.writer,
@@ -88,7 +88,7 @@ impl<'a, P: Part, W: Write> Follows<Progress<'a, W>> for Trier<'_, P> {
                 to.count = sum;
                 Ok(())
             }
-            Err(_) => Err(ClearanceFault::Write { done: count }),
+            Err(_) => Err(Unfinished::Write { done: count }),
         }
     }
 }

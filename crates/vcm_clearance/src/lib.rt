@@ -11,6 +11,6 @@ mod rooms;
 mod told;
 mod trying;
 
-pub use clearing::{ClearanceFault, Cleared, clearance};
+pub use clearing::{Cleared, clearance};
 pub use room::Room;
 pub use told::Told;

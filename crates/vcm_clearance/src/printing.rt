@@ -2,18 +2,17 @@
 
 ghost use Rattle.std.specs.Prelude.{◌≡◌, ◌++◌, codes};
 ghost use Rattle.vcm_num.specs.Written.{Wrote};
-ghost use Rattle.vcm_clearance.specs.Printed.{going_text, position_text, place_text, hit_text, met_text, where_text, told_text, contact_line, ways_text, met_line, clear_line, more_text, narrow_line, box_lines, boxes_lines, no_stop_text, end_line};
+ghost use Rattle.vcm_clearance.specs.Printed.{going_text, position_text, place_text, hit_text, met_text, where_text, told_text, contact_line, ways_text, met_line, clear_line, more_text, narrow_line, box_lines, boxes_lines};
 
 use crate::room::Room;
 use crate::told::Told;
 use itoa::Buffer;
 use std::io::Write;
 use vcm_boxes::ProbeBox;
-use vcm_items::Tables;
 use vcm_marks::Going;
-use vcm_num::{Point, WriteFault, thousandths_text, write_all, write_pieces};
-use vcm_report::write_stop_line;
-use vcm_spec::{Hit, StopPlace};
+use vcm_num::{Point, WriteFault, write_all, write_pieces};
+use vcm_report::write_point;
+use vcm_spec::Hit;
 
 // The word of a way.
 fn going_text(going: Going) -> &'static [u8]
@@ -67,22 +66,9 @@ fn write_place<W: Write>(told: &Told, writer: &mut W) -> Result<(), WriteFault>
 fn write_position<W: Write>(at: Point, writer: &mut W) -> Result<(), WriteFault>
     ensures { Wrote (W.contents writer.old) (W.contents writer.new) (position_text at) result }
 {
-    let Point([x, y, z]) = at;
-    let x = thousandths_text(x);
-    let y = thousandths_text(y);
-    let z = thousandths_text(z);
-    write_pieces(
-        writer,
-        &[
-            b" position ",
-            x.as_slice(),
-            b" ",
-            y.as_slice(),
-            b" ",
-            z.as_slice(),
-            b"\n",
-        ],
-    )
+    write_all(writer, b" position ")?;
+    write_point(at, b" ", writer)?;
+    write_all(writer, b"\n")
 }
 
 // Writes where a contact is, and ends the line.
@@ -232,31 +218,5 @@ pub(crate) fn write_boxes<W: Write>(
                 Err(fault) => Err(fault),
             },
         },
-    }
-}
-
-// Writes that there was no stop.
-fn write_no_stop<W: Write>(done: u64, writer: &mut W) -> Result<(), WriteFault>
-    ensures { Wrote (W.contents writer.old) (W.contents writer.new) (no_stop_text done) result }
-{
-    let mut steps = Buffer::new();
-    let steps = steps.format(done).as_bytes();
-    write_pieces(writer, &[b"no stop after ", steps, b" steps\n"])
-}
-
-/// Writes how a run ended: its stop, or after how many steps there was none.
-///
-/// Errors: the writer failed, or took no byte; then it has taken a front of the line, and not all of it.
-pub(crate) fn write_end<W: Write>(
-    tables: &Tables,
-    stop: Option<StopPlace>,
-    done: u64,
-    writer: &mut W,
-) -> Result<(), WriteFault>
-    ensures { Wrote (W.contents writer.old) (W.contents writer.new) (end_line tables.now stop done) result }
-{
-    match stop {
-        Some(place) => write_stop_line(tables, place, writer),
-        None => write_no_stop(done, writer),
     }
 }

@@ -4,8 +4,8 @@ ghost use Rattle.std.specs.Prelude.{◌≡◌, ◌+◌, ◌≤◌, ◌<◌, pos,
 ghost use Rattle.vcm_num.specs.Point.{point, coordinate, IsReachable};
 ghost use Rattle.vcm_spec.specs.Workpiece.{grown};
 ghost use Rattle.vcm_carried.specs.Carried.{IsBox};
-ghost use Rattle.vcm_gone.specs.Gone.{Gone as Went, PlacedWay};
-ghost use Rattle.vcm_gone.specs.Seen.{IsSameWay, seen};
+ghost use Rattle.vcm_way.specs.Gone.{Gone as Went, PlacedWay};
+ghost use Rattle.vcm_way.specs.Seen.{IsSameWay, seen};
 ghost use Rattle.vcm_clearance.specs.declared.told.Told.{Told as TheTold};
 ghost use Rattle.vcm_clearance.specs.declared.room.Room.TheVariants.{Clear};
 ghost use Rattle.vcm_clearance.specs.Contacts.{contact_on, told_on, told_at};
@@ -16,11 +16,11 @@ use crate::room::Room;
 use crate::told::Told;
 use crate::trying::one_more;
 use vcm_carried::{Contact, first_met};
-use vcm_gone::Gone;
 use vcm_marks::Moment;
 use vcm_num::{MOST_ROOM, Point};
 use vcm_part::PartData;
 use vcm_spec::Block3;
+use vcm_way::Gone;
 
 // The point that lies lower by a length on each axis.
 fn lowered(at: Point, by: u32) -> Point

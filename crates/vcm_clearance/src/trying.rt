@@ -2,22 +2,24 @@
 
 ghost use Rattle.std.specs.Prelude.{◌≡◌, ◌+◌, min, List, [], ◌∷◌, ◌++◌, IfOk, IfErr};
 ghost use Rattle.std.specs.Io.KnownBytes.{Appends};
+ghost use Rattle.std.specs.List.{AllByRecursion};
 ghost use Rattle.vcm_num.specs.Written.{AppendsFront};
 ghost use Rattle.vcm_boxes.specs.Boxes.{AreBoxes};
-ghost use Rattle.vcm_gone.specs.Gone.{PlacedWay};
+ghost use Rattle.vcm_way.specs.Gone.{PlacedWay, ways_in};
+ghost use Rattle.vcm_way.specs.Seen.{IsNearWay};
 ghost use Rattle.vcm_clearance.specs.Rooms.{most, AreRooms};
-ghost use Rattle.vcm_clearance.specs.Printed.{way_lines, run_lines};
-ghost use Rattle.vcm_clearance.specs.inner.Following.{IsPlaced, ArePlaced, IsDone, is_empty};
+ghost use Rattle.vcm_clearance.specs.Printed.{way_lines};
+ghost use Rattle.vcm_clearance.specs.inner.Following.{IsPlaced, AreAdded, AreCut};
 
 use crate::printing::write_contact;
 use crate::room::Room;
 use crate::rooms::{next_room, told_on};
 use std::io::Write;
 use vcm_boxes::ProbeBox;
-use vcm_gone::Gone;
-use vcm_marks::Moment;
+use vcm_marks::{Mark, Moment};
 use vcm_num::WriteFault;
 use vcm_part::PartData;
+use vcm_way::{Gone, first_way};
 
 // A count and one more; 64 bits count no more than they count.
 pub(crate) fn one_more(count: u64) -> u64
@@ -56,33 +58,38 @@ fn try_way<W: Write>(
     Ok(())
 }
 
-/// Tries all boxes on the ways of a step, behind so many ways of the run, and writes what is told of them. It answers how many ways there are with these.
+/// Tries all boxes on the ways among the marks of a step, behind so many ways of the run, and writes what is told of them. It answers how many ways there are with these.
 ///
 /// Errors: the writer failed, or took no byte; then it has taken a front of the lines, and not all of them.
 pub(crate) fn try_ways<W: Write>(
     blocks: &PartData,
     boxes: &[ProbeBox],
     place: Moment,
-    ways: &[Gone],
+    marks: &[Mark],
     count: u64,
     rooms: &mut Vec<Room>,
     writer: &mut W,
 ) -> Result<u64, WriteFault>
-    requires { AreBoxes boxes.now }
-    ensures ok { IfOk result (λ n. (ws ps : List PlacedWay) → ArePlaced place ways.now ps → IsDone blocks.now.blocks boxes.now ws rooms.old.items count
-        → IsDone blocks.now.blocks boxes.now (ws ++ ps) rooms.new.items n
-        × Appends (W.contents writer.old) (W.contents writer.new) (run_lines blocks.now.blocks boxes.now (is_empty ws) ps)) }
-    ensures err { IfErr result (λ f. (ws ps : List PlacedWay) → ArePlaced place ways.now ps → IsDone blocks.now.blocks boxes.now ws rooms.old.items count
-        → AppendsFront (W.contents writer.old) (W.contents writer.new) (run_lines blocks.now.blocks boxes.now (is_empty ws) ps)) }
+    requires boxes { AreBoxes boxes.now }
+    requires near { AllByRecursion IsNearWay (ways_in blocks.now marks.now) }
+    ensures ok { IfOk result (λ n. AreAdded blocks.now.blocks boxes.now place (ways_in blocks.now marks.now)
+        rooms.old.items count (W.contents writer.old) rooms.new.items n (W.contents writer.new)) }
+    ensures err { IfErr result (λ f. AreCut blocks.now.blocks boxes.now place (ways_in blocks.now marks.now)
+        rooms.old.items count (W.contents writer.old) (W.contents writer.new)) }
 {
-    match ways.split_first() {
+    match marks.split_first() {
         None => Ok(count),
-        Some((first, behind)) => {
-            let is_first = count == 0;
-            match try_way(blocks, boxes, place, first, is_first, rooms, writer) {
-                Ok(()) => try_ways(blocks, boxes, place, behind, one_more(count), rooms, writer),
-                Err(fault) => Err(fault),
+        Some((_, behind)) => match first_way(blocks, marks) {
+            None => try_ways(blocks, boxes, place, behind, count, rooms, writer),
+            Some(way) => {
+                let is_first = count == 0;
+                match try_way(blocks, boxes, place, &way, is_first, rooms, writer) {
+                    Ok(()) => {
+                        try_ways(blocks, boxes, place, behind, one_more(count), rooms, writer)
+                    }
+                    Err(fault) => Err(fault),
+                }
             }
-        }
+        },
     }
 }

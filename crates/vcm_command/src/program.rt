@@ -9,9 +9,9 @@ use clap::error::ErrorKind;
 use std::io;
 use std::rt::{Env, Files};
 use vcm_devices::{
-    Request, RunView, Shown, Terminals, Voice, asm_file, build_file, debug_file, fails, list_file,
-    matches_of, run_job, show_clearance, show_page, show_part, show_picture, show_result, show_run,
-    voice_of,
+    Request, Terminals, View, Voice, asm_file, build_file, debug_file, fails, list_file,
+    matches_of, run_job, show_clearance, show_page, show_part, show_picture, show_result,
+    show_view, voice_of,
 };
 use vcm_messages::Message;
 use vcm_usage::Verb;
@@ -83,11 +83,11 @@ fn carry_out<R: Files + Input + Print + Eprint + AllocGlobal>(
         Verb::Adapt => adapt_file(rt, voice, request),
         Verb::Build => build_file(rt, voice, request),
         Verb::Run => show_result(rt, voice, request),
-        Verb::Why => show_run(rt, voice, Shown::Why, request),
-        Verb::Contacts => show_run(rt, voice, Shown::Contacts, request),
-        Verb::Trace => show_run(rt, voice, Shown::View(RunView::Trace), request),
-        Verb::Margin => show_run(rt, voice, Shown::View(RunView::Margin), request),
-        Verb::Points => show_run(rt, voice, Shown::View(RunView::Points), request),
+        Verb::Why => show_view(rt, voice, &View::Why, request),
+        Verb::Contacts => show_view(rt, voice, &View::Contacts, request),
+        Verb::Trace => show_view(rt, voice, &View::Trace, request),
+        Verb::Margin => show_view(rt, voice, &View::Margin, request),
+        Verb::Points => show_view(rt, voice, &View::Points, request),
         Verb::Clearance => show_clearance(rt, voice, request),
         Verb::Picture => show_picture(rt, voice, request),
         Verb::View => show_page(rt, voice, request),

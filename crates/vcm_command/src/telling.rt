@@ -1,6 +1,6 @@
 //! Lines that are told on standard error, whatever bytes they have.
 
-use vcm_num::line_feed;
+use vcm_num::cut_line;
 
 // A byte as a letter, a question mark where it is none of ASCII.
 fn letter_of(byte: u8) -> char {
@@ -28,14 +28,6 @@ fn tell_line<R: Eprint>(rt: &R, line: &[u8]) {
     }
 }
 
-// The first line without its line feed, and what stands behind that.
-fn split_line(text: &[u8]) -> (&[u8], &[u8]) {
-    match line_feed(text) {
-        None => (text, &[]),
-        Some(end) => (&text[..end], &text[end + 1..]),
-    }
-}
-
 // Prints lines on standard error.
 pub(crate) fn tell_bytes<R: Eprint>(rt: &R, bytes: &[u8]) {
     let mut rest = bytes;
@@ -43,7 +35,7 @@ pub(crate) fn tell_bytes<R: Eprint>(rt: &R, bytes: &[u8]) {
         if rest.is_empty() {
             break;
         }
-        let (line, after) = split_line(rest);
+        let (line, after) = cut_line(rest);
         tell_line(rt, line);
         rest = after;
     }

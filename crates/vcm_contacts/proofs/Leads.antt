@@ -75,7 +75,7 @@ module _ (part : Workpiece) (w : World) (tables : Tables) (count : ℕ) where
     task_sound : (phase : MovePhase) (task : Task) → task_of part.bounds.home w op ≡ task → TaskEnds part w.position w.settings task (Some (Collision phase hit)) → led_by phase task
     task_sound phase Nowhere e ends = tt
     task_sound Move (Straight to) e ends =
-        to_sound op to (within_is_near part valid to (aim_within part (coordinate w.position) (coordinate to) hit ends)) (not_last part.bounds.home w op (λ n. cc (n, e))) fits None
+        to_sound op to (within_is_near part valid to (aim_within part (coordinate w.position) (coordinate to) (Some (Collision Move hit)) ends tt)) (not_last part.bounds.home w op (λ n. cc (n, e))) fits None
     task_sound Approach (Straight to) e ends = tt
     task_sound Search (Straight to) e ends = tt
     task_sound Retract (Straight to) e ends = tt

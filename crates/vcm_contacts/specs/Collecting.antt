@@ -5,8 +5,8 @@ use Rattle.vcm_spec.specs.Workpiece.{Workpiece}
 use Rattle.vcm_code.specs.declared.code.Code.{Code}
 use Rattle.vcm_code.specs.CodeTable.{next_prints}
 use Rattle.vcm_contacts.specs.declared.contact.Contact.{Contact}
-use Rattle.vcm_contacts.specs.declared.collecting.ContactsFault.{ContactsFault}
-use Rattle.vcm_contacts.specs.declared.collecting.ContactsFault.TheVariants.{NoMemory, Memory}
+use Rattle.vcm_steps.specs.declared.fault.Unfinished.{Unfinished}
+use Rattle.vcm_steps.specs.declared.fault.Unfinished.TheVariants.{NoMemory, Memory, Write}
 use Rattle.vcm_contacts.specs.Passing.{passed_after}
 
 -- these are the contacts of a run for n steps that goes on behind each, and this is how it ended
@@ -15,7 +15,8 @@ pub record AreContacts (part : Workpiece) (c : Code) (n : ℕ) (contacts : List 
   pub stop_is : stop ≡ (passed_after part c n).state.world.stop
 
 -- memory was refused before such a run or for its contacts; or behind so many of its steps, to a statement that makes an output line
-abbrev pub AreNoContacts : Workpiece → Code → ℕ → ContactsFault → Type 0
+abbrev pub AreNoContacts : Workpiece → Code → ℕ → Unfinished → Type 0
 AreNoContacts part c n NoMemory = Unit {0}
 AreNoContacts part c n (Memory done) =
     (done < n) × ((passed_after part c done).state.world.stop ≡ None) × (next_prints (slice_get c.statements (passed_after part c done).state.next) ≡ true)
+AreNoContacts part c n (Write done) = ⊥

@@ -1,8 +1,8 @@
 -- Contacts as text.
-use Rattle.std.specs.Prelude.{ℕ, nat_eq, if◌then◌else◌, List, [], ◌∷◌, ◌++◌, length, flat_map, Option, Some, None, decimal, codes}
+use Rattle.std.specs.Prelude.{ℕ, nat_eq, if◌then◌else◌, List, [], ◌∷◌, ◌++◌, length, flat_map, Option, decimal, codes}
 use Rattle.vcm_spec.specs.declared.stop.StopPlace.{StopPlace}
 use Rattle.vcm_spec.specs.Setup.{Tables}
-use Rattle.vcm_report.specs.Printed.{in_a_row, phase_text, stopped_line}
+use Rattle.vcm_report.specs.Printed.{in_a_row, phase_text, end_line}
 use Rattle.vcm_contacts.specs.declared.contact.Contact.{Contact}
 
 -- what a statement meets, and where it stands: as a stop tells it
@@ -22,15 +22,6 @@ some_line n line = in_a_row (decimal n ∷ contacts_word n ∷ codes "; behind l
 abbrev pub count_line : List Contact → List ℕ
 count_line [] = codes "0 contacts\n"
 count_line (c ∷ cs) = some_line (length (c ∷ cs)) c.line
-
--- that there was no stop in so many steps
-abbrev pub no_stop_line : ℕ → List ℕ
-no_stop_line n = in_a_row (codes "no stop after " ∷ decimal n ∷ codes " steps\n" ∷ [])
-
--- how it ended: its stop, or after how many steps there was none
-abbrev pub end_line : Tables → Option StopPlace → ℕ → List ℕ
-end_line tables (Some place) n = stopped_line tables place
-end_line tables None n = no_stop_line n
 
 -- the contacts of a run for n steps, which ended so
 abbrev pub contacts_text : Tables → List Contact → Option StopPlace → ℕ → List ℕ

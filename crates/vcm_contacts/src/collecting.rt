@@ -13,21 +13,13 @@ use vcm_motion::Part;
 use vcm_num::NoMemory;
 use vcm_part::PartData;
 use vcm_spec::StopPlace;
+use vcm_steps::Unfinished;
 
 /// The contacts of a run in their order, and its stop, if it came to one.
 #[derive(Drop)]
 pub struct Contacts {
     pub contacts: Vec<Contact>,
     pub stop: Option<StopPlace>,
-}
-
-/// Why the contacts aren't told.
-#[derive(Clone, Copy)]
-pub enum ContactsFault {
-    /// A growth of memory was refused before the run, or for a contact.
-    NoMemory,
-    /// A growth of memory was refused to an output line, after so many steps.
-    Memory { done: u64 },
 }
 
 // Notes a contact, if there is one.
@@ -49,7 +41,7 @@ fn run_on<P: Part>(
     machine: &mut Passing<'_, P>,
     steps: u64,
     contacts: &mut Vec<Contact>,
-) -> Result<Option<StopPlace>, ContactsFault>
+) -> Result<Option<StopPlace>, Unfinished>
     requires start { machine.old ≡ started machine.old.part machine.old.code }
     requires empty { contacts.old.items ≡ [] }
     ensures contacts { IfOk result (AreContacts machine.old.part machine.old.code steps contacts.new.items) }
@@ -62,9 +54,9 @@ fn run_on<P: Part>(
             None => match machine.step(alloc) {
                 Ok(met) => match note(contacts, met) {
                     Ok(()) => done += 1,
-                    Err(_) => return Err(ContactsFault::NoMemory),
+                    Err(_) => return Err(Unfinished::NoMemory),
                 },
-                Err(_) => return Err(ContactsFault::Memory { done }),
+                Err(_) => return Err(Unfinished::Memory { done }),
             },
         }
     }
@@ -74,14 +66,14 @@ fn run_on<P: Part>(
 /// Runs a loaded code for at most so many steps beside a workpiece, whose blocks are given too, and goes on behind each contact: the motion that met a block is
 /// taken as done. A measurement whose approach met one is begun once more from its approach point, which is a step of its own; where that point lies in a block, it is left out.
 ///
-/// Errors: see `ContactsFault`.
+/// Errors: see `Unfinished`; nothing is written here.
 pub fn collect_contacts<P: Part>(
     alloc: Global,
     loaded: &Loaded<'_>,
     part: &P,
     blocks: &PartData,
     steps: u64,
-) -> Result<Contacts, ContactsFault>
+) -> Result<Contacts, Unfinished>
     requires { P.part part.now ≡ blocks.now }
     ensures contacts { IfOk result (λ x. AreContacts blocks.now loaded.now steps x.contacts.items x.stop) }
     ensures fault { IfErr result (AreNoContacts blocks.now loaded.now steps) }
@@ -89,7 +81,7 @@ pub fn collect_contacts<P: Part>(
     let mut contacts = Vec::new(alloc);
     let mut machine = match Passing::new(alloc, loaded, part, blocks) {
         Ok(machine) => machine,
-        Err(_) => return Err(ContactsFault::NoMemory),
+        Err(_) => return Err(Unfinished::NoMemory),
     };
     match run_on(alloc, &mut machine, steps, &mut contacts) {
         Ok(stop) => Ok(Contacts { contacts, stop }),

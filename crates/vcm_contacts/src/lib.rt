@@ -9,6 +9,6 @@ mod leading;
 mod passing;
 mod writing;
 
-pub use collecting::{Contacts, ContactsFault, collect_contacts};
+pub use collecting::{Contacts, collect_contacts};
 pub use contact::Contact;
 pub use writing::write_contacts;

@@ -2,28 +2,16 @@
 
 ghost use Rattle.std.specs.Prelude.{◌≡◌, ◌++◌, flat_map};
 ghost use Rattle.vcm_num.specs.Written.{Wrote};
-ghost use Rattle.vcm_report.specs.Printed.{phase_text};
-ghost use Rattle.vcm_contacts.specs.Printed.{contact_line, contacts_word, some_line, count_line, no_stop_line, end_line, contacts_text};
+ghost use Rattle.vcm_report.specs.Printed.{end_line};
+ghost use Rattle.vcm_contacts.specs.Printed.{contact_line, contacts_word, some_line, count_line, contacts_text};
 
 use crate::contact::Contact;
 use itoa::Buffer;
 use std::io::Write;
 use vcm_items::Tables;
 use vcm_num::{WriteFault, write_all, write_pieces};
-use vcm_report::write_stop_line;
-use vcm_spec::{MovePhase, StopPlace};
-
-// The word of a part of a motion.
-fn phase_text(phase: MovePhase) -> &'static [u8]
-    ensures { result.now ≡ phase_text phase }
-{
-    match phase {
-        MovePhase::Move => b"MOVE",
-        MovePhase::Approach => b"APPROACH",
-        MovePhase::Search => b"SEARCH",
-        MovePhase::Retract => b"RETRACT",
-    }
-}
+use vcm_report::{phase_text, write_end_line};
+use vcm_spec::StopPlace;
 
 // Writes a contact.
 fn write_contact<W: Write>(contact: &Contact, writer: &mut W) -> Result<(), WriteFault>
@@ -108,30 +96,6 @@ fn write_count<W: Write>(contacts: &[Contact], writer: &mut W) -> Result<(), Wri
     }
 }
 
-// Writes that there was no stop in so many steps.
-fn write_no_stop<W: Write>(steps: u64, writer: &mut W) -> Result<(), WriteFault>
-    ensures { Wrote (W.contents writer.old) (W.contents writer.new) (no_stop_line steps) result }
-{
-    let mut text = Buffer::new();
-    let steps = text.format(steps).as_bytes();
-    write_pieces(writer, &[b"no stop after ", steps, b" steps\n"])
-}
-
-// Writes how a run ended.
-fn write_end<W: Write>(
-    tables: &Tables,
-    stop: Option<StopPlace>,
-    steps: u64,
-    writer: &mut W,
-) -> Result<(), WriteFault>
-    ensures { Wrote (W.contents writer.old) (W.contents writer.new) (end_line tables.now stop steps) result }
-{
-    match stop {
-        Some(place) => write_stop_line(tables, place, writer),
-        None => write_no_stop(steps, writer),
-    }
-}
-
 // Writes how many contacts there are, and how the run ended.
 fn write_rest<W: Write>(
     tables: &Tables,
@@ -143,7 +107,7 @@ fn write_rest<W: Write>(
     ensures { Wrote (W.contents writer.old) (W.contents writer.new) (count_line contacts.now ++ end_line tables.now stop steps) result }
 {
     write_count(contacts, writer)?;
-    write_end(tables, stop, steps, writer)
+    write_end_line(tables, stop, steps, writer)
 }
 
 /// Writes the contacts of a run for so many steps, a line for each, how many they are, that what stands behind the first is a guess, and how the run ended.

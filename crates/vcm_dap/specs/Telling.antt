@@ -6,11 +6,8 @@ use Rattle.json.specs.Token.{Token}
 use Rattle.json.specs.Print.{print}
 use Rattle.vcm_wire.specs.Frames.{frame, Sent}
 use Rattle.vcm_report.specs.Output.{output_lines}
-use Rattle.vcm_num.specs.declared.point.Point.{Point}
-use Rattle.vcm_num.specs.Point.{coordinate}
-use Rattle.vcm_num.specs.Texts.{thousandths}
 use Rattle.vcm_spec.specs.declared.stop.StopPlace.{StopPlace}
-use Rattle.vcm_report.specs.Printed.{stopped_line}
+use Rattle.vcm_report.specs.Printed.{stopped_line, no_stop_line, position_line, steps_line}
 use Rattle.vcm_debug.specs.Debugging.{Debugging, now}
 use Rattle.vcm_dap.specs.declared.asking.Ask.{Ask}
 use Rattle.vcm_dap.specs.declared.asking.Ask.TheVariants as a
@@ -96,21 +93,6 @@ IsOutput category text m = (seq : ℕ) × (ts : List Token) × (m ≡ ended (out
 -- one such event was written behind what was there
 abbrev pub TellsText : Talking → Talking → List ℕ → List ℕ → Type 0
 TellsText old new category text = (m : List Token) × IsOutput category text m × Says old new (m ∷ [])
-
--- the lines of the result of a run, as `vcm run` prints them: how many steps were taken where there is no stop, where the probe is, and how many steps
--- were taken
-abbrev pub no_stop_line : ℕ → List ℕ
-no_stop_line steps = codes "no stop after " ++ (decimal steps ++ codes " steps\n")
-
-abbrev pub point_words : Point → List ℕ
-point_words at =
-    (((thousandths (coordinate at 0) ++ codes " ") ++ thousandths (coordinate at 1)) ++ codes " ") ++ thousandths (coordinate at 2)
-
-abbrev pub position_line : Point → List ℕ
-position_line at = codes "position " ++ (point_words at ++ codes "\n")
-
-abbrev pub steps_line : ℕ → List ℕ
-steps_line steps = codes "steps " ++ (decimal steps ++ codes "\n")
 
 -- a text is the line of the stop that a session stands at, or one of those
 abbrev pub IsResult : Debugging → List ℕ → Type 0

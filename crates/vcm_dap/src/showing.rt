@@ -1,27 +1,49 @@
 //! What the rows and events say of where a session stands.
 
-ghost use Rattle.std.specs.Prelude.{◌≡◌, option_map, IfOk};
-ghost use Rattle.vcm_report.specs.Printed.{stopped_line};
+ghost use Rattle.std.specs.Prelude.{◌≡◌, option_map, codes, IfOk};
+ghost use Rattle.vcm_report.specs.Printed.{point_text, position_line, steps_line, no_stop_line, stopped_line};
 ghost use Rattle.vcm_debug.specs.Debugging.{now};
-ghost use Rattle.vcm_dap.specs.Telling.{point_words};
 
 use crate::fault::DapFault;
 use std::alloc::Global;
 use vcm_debug::Session;
 use vcm_motion::Part;
-use vcm_num::{Point, thousandths_text};
-use vcm_report::write_stop_line;
+use vcm_num::Point;
+use vcm_report::{write_no_stop, write_point, write_position, write_steps, write_stop_line};
 
 /// A point in millimetres.
 pub(crate) fn point_text(alloc: Global, at: Point) -> Result<Vec<u8>, DapFault>
-    ensures { IfOk result (λ text. text.items ≡ point_words at) }
+    ensures { IfOk result (λ text. text.items ≡ point_text (codes " ") at) }
 {
-    let Point([x, y, z]) = at;
-    let mut text = Vec::from_slice(alloc, thousandths_text(x).as_slice())?;
-    text.extend_from_slice(b" ")?;
-    text.extend_from_slice(thousandths_text(y).as_slice())?;
-    text.extend_from_slice(b" ")?;
-    text.extend_from_slice(thousandths_text(z).as_slice())?;
+    let mut text = Vec::new(alloc);
+    write_point(at, b" ", &mut text)?;
+    Ok(text)
+}
+
+/// The line that tells after how many steps there was no stop.
+pub(crate) fn no_stop_text(alloc: Global, done: u64) -> Result<Vec<u8>, DapFault>
+    ensures { IfOk result (λ text. text.items ≡ no_stop_line done) }
+{
+    let mut text = Vec::new(alloc);
+    write_no_stop(done, &mut text)?;
+    Ok(text)
+}
+
+/// The line that tells where the probe is.
+pub(crate) fn position_text(alloc: Global, at: Point) -> Result<Vec<u8>, DapFault>
+    ensures { IfOk result (λ text. text.items ≡ position_line at) }
+{
+    let mut text = Vec::new(alloc);
+    write_position(at, &mut text)?;
+    Ok(text)
+}
+
+/// The line that tells how many steps were done.
+pub(crate) fn steps_text(alloc: Global, done: u64) -> Result<Vec<u8>, DapFault>
+    ensures { IfOk result (λ text. text.items ≡ steps_line done) }
+{
+    let mut text = Vec::new(alloc);
+    write_steps(done, &mut text)?;
     Ok(text)
 }
 

@@ -1,16 +1,16 @@
 //! What is told where a motion has come to its end.
 
-ghost use Rattle.std.specs.Prelude.{◌≡◌, ◌++◌, codes, IfOk};
+ghost use Rattle.std.specs.Prelude.{◌≡◌, IfOk};
 ghost use Rattle.vcm_dap.specs.inner.Growing.{Grown};
 ghost use Rattle.vcm_debug.specs.Debugging.{Debugging};
-ghost use Rattle.vcm_dap.specs.Telling.{IsResult, TellsText, SaysBehind};
+ghost use Rattle.vcm_dap.specs.Telling.{IsResult, SaysBehind};
 
 use crate::asking::Motion;
 use crate::fault::DapFault;
 use crate::looking::without_feed;
 use crate::output::tell_placed;
 use crate::settings::Settings;
-use crate::showing::{behind_stop, point_text, stop_line};
+use crate::showing::{behind_stop, no_stop_text, position_text, steps_text, stop_line};
 use crate::talk::Talk;
 use std::alloc::Global;
 use std::io::Write;
@@ -305,29 +305,6 @@ pub(crate) fn finish<P: Part, W: Write>(
     talk.tell("terminated")
 }
 
-// A text with words before it, and a line feed or words behind it.
-fn between(alloc: Global, before: &[u8], text: &[u8], behind: &[u8]) -> Result<Vec<u8>, DapFault>
-    ensures { IfOk result (λ all. all.items ≡ before.now ++ (text.now ++ behind.now)) }
-{
-    let mut all = Vec::from_slice(alloc, before)?;
-    all.extend_from_slice(text)?;
-    all.extend_from_slice(behind)?;
-    Ok(all)
-}
-
-// Tells a text with words before it, and a line feed or words behind it.
-fn tell_between<W: Write>(
-    talk: &mut Talk<W>,
-    before: &[u8],
-    text: &[u8],
-    behind: &[u8],
-) -> Result<(), DapFault>
-    ensures { IfOk result (λ u. TellsText talk.old talk.new (codes "stdout") (before.now ++ (text.now ++ behind.now))) }
-{
-    let text = between(talk.alloc(), before, text, behind)?;
-    talk.tell_text("stdout", &text)
-}
-
 // Tells that there is no stop.
 fn tell_no_stop<P: Part, W: Write>(
     talk: &mut Talk<W>,
@@ -335,9 +312,8 @@ fn tell_no_stop<P: Part, W: Write>(
 ) -> Result<(), DapFault>
     ensures { IfOk result (λ u. SaysBehind session.now talk.old talk.new) }
 {
-    let mut digits = itoa::Buffer::new();
-    let steps = digits.format(session.standing().steps).as_bytes();
-    tell_between(talk, b"no stop after ", steps, b" steps\n")
+    let text = no_stop_text(talk.alloc(), session.standing().steps)?;
+    talk.tell_text("stdout", &text)
 }
 
 // Tells the stop of a run that came to its end, or that there is none.
@@ -363,8 +339,8 @@ fn tell_position<P: Part, W: Write>(
 ) -> Result<(), DapFault>
     ensures { IfOk result (λ u. SaysBehind session.now talk.old talk.new) }
 {
-    let point = point_text(talk.alloc(), session.world().position())?;
-    tell_between(talk, b"position ", &point, b"\n")
+    let text = position_text(talk.alloc(), session.world().position())?;
+    talk.tell_text("stdout", &text)
 }
 
 // Tells how many steps were taken.
@@ -374,9 +350,8 @@ fn tell_steps<P: Part, W: Write>(
 ) -> Result<(), DapFault>
     ensures { IfOk result (λ u. SaysBehind session.now talk.old talk.new) }
 {
-    let mut digits = itoa::Buffer::new();
-    let steps = digits.format(session.standing().steps).as_bytes();
-    tell_between(talk, b"steps ", steps, b"\n")
+    let text = steps_text(talk.alloc(), session.standing().steps)?;
+    talk.tell_text("stdout", &text)
 }
 
 /// Tells the result of a run to the end, as `vcm run` prints it, and that the session ends.

@@ -26,12 +26,5 @@ pub(crate) fn debug_typed<R: Input + Eprint + AllocGlobal, I: Read, W: Write>(
     out: &mut W,
 ) -> Result<Vec<Noticed>, DebugFault> {
     let input = read_all(rt.alloc(), reader)?;
-    debug_by_hand(
-        rt.alloc(),
-        part,
-        &input,
-        &mut rt.reader(),
-        out,
-        &Hand { rt },
-    )
+    debug_by_hand(rt.alloc(), part, input, &mut rt.reader(), out, &Hand { rt })
 }

@@ -6,7 +6,7 @@ use crate::talking::{OF_JOBS, Terminals, Told, Voice, alone, fails_twice};
 use std::alloc::Global;
 use vcm_job::{Done, JobFault, job, read_all};
 use vcm_messages::{Message, message_of};
-use vcm_num::{NoMemory, is};
+use vcm_num::{NoMemory, cut_line, is};
 use vcm_part::{PartCode, PartFault};
 use vcm_run::Refusal;
 use vcm_telling::{is_program, second_line};
@@ -14,19 +14,6 @@ use vcm_telling::{is_program, second_line};
 // Whether a line is the mark between the two texts of a job.
 fn is_mark(line: &[u8]) -> bool {
     is(line, b"%%") || is(line, b"%%\r")
-}
-
-// The first line of a text, and what stands behind its line feed; all of it where there is none.
-fn cut_line(text: &[u8]) -> (&[u8], &[u8]) {
-    let end = text.iter().take_while(|byte| **byte != b'\n').count();
-    if end >= text.len() {
-        return (text, b"");
-    }
-    let (line, behind) = text.split_at(end);
-    match behind {
-        [_, rest @ ..] => (line, rest),
-        [] => (line, behind),
-    }
 }
 
 // How many bytes stand in front of the first mark, if there is one.

@@ -14,6 +14,7 @@ mod sheets;
 mod showing;
 mod talking;
 mod values;
+mod view;
 
 pub use closing::fails_unless_closed;
 pub use debugging::debug_file;
@@ -25,7 +26,7 @@ pub use printing::{
 };
 pub use request::{Request, matches_of, steps_of};
 pub use sheets::{lines_of, show_picture};
-pub use showing::{Shown, show_clearance, show_page, show_run};
+pub use showing::{show_clearance, show_page, show_view};
 pub use talking::{Terminals, Told, Voice, alone, fails_twice, voice_of};
 pub use values::show_result;
-pub use vcm_views::RunView;
+pub use view::View;

@@ -2,14 +2,14 @@
 
 use crate::parts::named_part_of;
 use crate::request::Request;
-use crate::showing::{Shown, show_beside, show_run};
+use crate::showing::{show_beside, show_view};
 use crate::talking::{Voice, alone, fails_twice};
+use crate::view::View;
 use std::rt::Files;
-use vcm_given::Titles;
 use vcm_messages::Message;
 use vcm_sheet::{ALL_LINES, Lines};
 use vcm_usage::Choice;
-use vcm_views::RunView;
+use vcm_views::{Picture, SheetView, Titles};
 
 const LINES: Message<'static> = Message::Option {
     words: "--lines wants A-B, two source lines from 1 on, the first not behind the last",
@@ -77,14 +77,8 @@ fn show_sheet<R: Files + Input + Print + Eprint + AllocGlobal>(
         lines,
         is_close: request.has(Choice::Close),
     };
-    show_beside(
-        rt,
-        voice,
-        Shown::Sheet(titles),
-        &part,
-        request.input(),
-        steps,
-    )
+    let view = View::Sheet(SheetView { titles });
+    show_beside(rt, voice, &view, &part, request.input(), steps)
 }
 
 /// Prints the picture of a run, and gives the exit status. `--sheet` makes it a sheet, and so does `--lines`.
@@ -97,10 +91,5 @@ pub fn show_picture<R: Files + Input + Print + Eprint + AllocGlobal>(
         return show_sheet(rt, voice, request);
     }
     let is_close = request.has(Choice::Close);
-    show_run(
-        rt,
-        voice,
-        Shown::View(RunView::Picture { is_close }),
-        request,
-    )
+    show_view(rt, voice, &View::Picture(Picture { is_close }), request)
 }

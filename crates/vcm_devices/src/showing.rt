@@ -1,23 +1,23 @@
-//! What is shown of a run: its result, its views and its page, on the standard devices.
+//! What is shown of a run: its views and its page, on the standard devices.
 
 use crate::parts::part_of;
 use crate::printing::{DASH, STANDARD_INPUT, fails, output, status_after, written};
 use crate::request::Request;
 use crate::talking::{Told, Voice, alone, fails_in, fails_in_view, fails_twice};
+use crate::view::{View, write_view};
 use std::alloc::{AllocError, Global};
 use std::fmt::Write as _;
 use std::io::{Read, Write};
 use std::rt::Files;
 use vcm_boxes::{Boxes, BoxesFault, ProbeBox, read_boxes};
-use vcm_given::{Titles, tell_contacts, write_sheet_of, write_why};
-use vcm_job::{Done, ReadFault, RunFault, read_all, run};
+use vcm_job::{Done, Given, ReadFault, RunFault, given_of, read_all, show, show_given};
 use vcm_messages::{Message, message_of, probe_message};
 use vcm_num::{Point, write_all};
-use vcm_page::{Texts, page_of};
+use vcm_page::{Page, Texts};
 use vcm_part::PartData;
 use vcm_usage::Choice;
 use vcm_viewer::{back, front};
-use vcm_views::{RunView, view_of};
+use vcm_views::Clearance;
 
 // Why the boxes of a file aren't read.
 #[derive(Drop)]
@@ -25,20 +25,6 @@ enum Unread {
     Refused(BoxesFault),
     Device,
     TooLong,
-}
-
-/// What is shown of a run.
-#[derive(Clone, Copy)]
-pub enum Shown<'a> {
-    Result,
-    Why,
-    Contacts,
-    View(RunView<'a>),
-    /// The picture as a sheet.
-    Sheet(Titles<'a>),
-    Page,
-    /// The page, with boxes that are fixed to the tip.
-    PageWith(&'a Boxes),
 }
 
 // The boxes of a file.
@@ -75,23 +61,6 @@ fn tell_unread<R: Eprint>(rt: &R, voice: Voice, unread: &Unread, name: &str) -> 
     }
 }
 
-// Writes the page of a run of the program or image that a reader gives.
-fn write_page<R: Read, W: Write>(
-    alloc: Global,
-    part: &PartData,
-    reader: &mut R,
-    steps: u64,
-    writer: &mut W,
-) -> Result<Done, RunFault> {
-    let front = front();
-    let back = back();
-    let texts = Texts {
-        front: &front,
-        back: &back,
-    };
-    page_of(alloc, part, texts, reader, steps, writer)
-}
-
 // Adds a box as a line: Q, its name and its corners in micrometres.
 fn put_box(text: &mut String, tried: &ProbeBox) -> Result<(), AllocError> {
     let name = std::str::from_utf8(tried.name.as_bytes()).unwrap_or("");
@@ -117,12 +86,12 @@ fn put(out: &mut Vec<u8>, bytes: &[u8]) -> Result<(), RunFault> {
     }
 }
 
-// The element of a page that tells of boxes: their lines, and their clearance in the run of an input.
+// The element of a page that tells of boxes: their lines, and their clearance in the run of what was read.
 fn boxes_element(
     alloc: Global,
     part: &PartData,
     boxes: &Boxes,
-    input: &[u8],
+    given: &Given,
     steps: u64,
 ) -> Result<Vec<u8>, RunFault> {
     let Ok(lines) = box_lines(alloc, boxes) else {
@@ -134,15 +103,7 @@ fn boxes_element(
         b"<script type=\"text/plain\" id=\"probe-boxes\">\n",
     )?;
     put(&mut out, lines.as_bytes())?;
-    let mut reader = input;
-    match view_of(
-        alloc,
-        RunView::Clearance(boxes),
-        part,
-        &mut reader,
-        steps,
-        &mut out,
-    ) {
+    match show(alloc, &Clearance { boxes }, given, part, steps, &mut out) {
         Ok(_) => {}
         Err(RunFault::Write { .. }) => return Err(RunFault::NoMemory),
         Err(fault) => return Err(fault),
@@ -151,7 +112,21 @@ fn boxes_element(
     Ok(out)
 }
 
-// What stands behind the story of a page with boxes: their element, and then what always does.
+// What a page tells of boxes that are fixed to the tip; nothing where none are given.
+fn element_of(
+    alloc: Global,
+    part: &PartData,
+    boxes: Option<&Boxes>,
+    given: &Given,
+    steps: u64,
+) -> Result<Vec<u8>, RunFault> {
+    match boxes {
+        Some(boxes) => boxes_element(alloc, part, boxes, given, steps),
+        None => Ok(Vec::new(alloc)),
+    }
+}
+
+// What stands after the story of a page: the element of its boxes, and then what always does.
 fn back_with<'a>(alloc: Global, element: &'a [u8]) -> Result<Vec<&'a [u8]>, RunFault> {
     let mut pieces = Vec::new(alloc);
     let Ok(()) = pieces.push(element) else {
@@ -161,27 +136,6 @@ fn back_with<'a>(alloc: Global, element: &'a [u8]) -> Result<Vec<&'a [u8]>, RunF
         Ok(()) => Ok(pieces),
         Err(_) => Err(RunFault::NoMemory),
     }
-}
-
-// Writes the page of a run, with boxes that are fixed to the tip. The input is read once, and its run is made three times: for the boxes, to count its steps, and for the page.
-fn write_page_with<R: Read, W: Write>(
-    alloc: Global,
-    part: &PartData,
-    boxes: &Boxes,
-    reader: &mut R,
-    steps: u64,
-    writer: &mut W,
-) -> Result<Done, RunFault> {
-    let input = read_all(alloc, reader)?;
-    let element = boxes_element(alloc, part, boxes, &input, steps)?;
-    let back = back_with(alloc, &element)?;
-    let front = front();
-    let texts = Texts {
-        front: &front,
-        back: &back,
-    };
-    let mut again = input.as_slice();
-    page_of(alloc, part, texts, &mut again, steps, writer)
 }
 
 // What was done of a page. Memory that is refused while a page is written is told as a failed write: where the buffer can be written all the same, it
@@ -196,65 +150,106 @@ fn page_done<W: Write>(done: Result<Done, RunFault>, writer: &mut W) -> Result<D
     }
 }
 
-// Writes what is shown of a run of the program or image that a reader gives.
-fn show<R: Read, W: Write>(
+// Writes the page of a run of the program or image that a reader gives, with boxes that are fixed to the tip, if some are given. The input is read once, and its
+// run is made twice: to count its steps, and for the page; with boxes once more, for these.
+fn write_page<I: Read, W: Write>(
     alloc: Global,
-    shown: Shown<'_>,
+    boxes: Option<&Boxes>,
     part: &PartData,
-    reader: &mut R,
+    reader: &mut I,
     steps: u64,
     writer: &mut W,
 ) -> Result<Done, RunFault> {
-    match shown {
-        Shown::Why => write_why(alloc, part, reader, steps, writer),
-        Shown::Contacts => tell_contacts(alloc, part, reader, steps, writer),
-        Shown::Result => run(alloc, part, reader, steps, writer),
-        Shown::View(view) => view_of(alloc, view, part, reader, steps, writer),
-        Shown::Sheet(titles) => write_sheet_of(alloc, titles, part, reader, steps, writer),
-        Shown::Page => page_done(write_page(alloc, part, reader, steps, writer), writer),
-        Shown::PageWith(boxes) => page_done(
-            write_page_with(alloc, part, boxes, reader, steps, writer),
-            writer,
-        ),
-    }
+    let input = read_all(alloc, reader)?;
+    let given = given_of(alloc, input)?;
+    let element = element_of(alloc, part, boxes, &given, steps)?;
+    let back = back_with(alloc, &element)?;
+    let front = front();
+    let texts = Texts {
+        front: &front,
+        back: &back,
+    };
+    let done = show_given(alloc, &Page { texts }, given, part, steps, writer);
+    page_done(done, writer)
 }
 
-// Prints what is shown of a run of the program or image of standard input.
-fn show_standard<R: Input + Print + AllocGlobal>(
+// Prints a view of a run of the program or image that a reader of this name gives.
+fn print_view<'a, R: Print + AllocGlobal, I: Read>(
     rt: &R,
-    shown: Shown<'_>,
+    view: &View<'_>,
     part: &PartData,
+    reader: &mut I,
+    name: &'a str,
     steps: u64,
-) -> Result<Done, Message<'static>> {
+) -> Result<Done, Message<'a>> {
     let mut out = output(rt)?;
-    let done = show(rt.alloc(), shown, part, &mut rt.reader(), steps, &mut out);
-    written(
-        &mut out,
-        done.map_err(|fault| message_of(fault, STANDARD_INPUT)),
-    )
+    let done = write_view(rt.alloc(), view, part, reader, steps, &mut out);
+    written(&mut out, done.map_err(|fault| message_of(fault, name)))
 }
 
-// Prints what is shown of a run of the program or image of a file, or of standard input.
-fn show_file<'a, R: Files + Input + Print + AllocGlobal>(
+// Prints a view of a run of the program or image of a file, or of standard input.
+fn print_view_of<'a, R: Files + Input + Print + AllocGlobal>(
     rt: &R,
-    shown: Shown<'_>,
+    view: &View<'_>,
     part: &PartData,
     input: &'a str,
     steps: u64,
 ) -> Result<Done, Message<'a>> {
     if input == DASH {
-        return show_standard(rt, shown, part, steps);
+        return print_view(rt, view, part, &mut rt.reader(), STANDARD_INPUT, steps);
     }
-    let Ok(mut file) = std::fs::open(rt, input) else {
-        return Err(Message::Read { name: input });
-    };
+    match std::fs::open(rt, input) {
+        Ok(mut file) => print_view(rt, view, part, &mut file, input, steps),
+        Err(_) => Err(Message::Read { name: input }),
+    }
+}
+
+// Prints the page of a run of the program or image that a reader of this name gives.
+fn print_page<'a, R: Print + AllocGlobal, I: Read>(
+    rt: &R,
+    boxes: Option<&Boxes>,
+    part: &PartData,
+    reader: &mut I,
+    name: &'a str,
+    steps: u64,
+) -> Result<Done, Message<'a>> {
     let mut out = output(rt)?;
-    let done = show(rt.alloc(), shown, part, &mut file, steps, &mut out);
-    written(&mut out, done.map_err(|fault| message_of(fault, input)))
+    let done = write_page(rt.alloc(), boxes, part, reader, steps, &mut out);
+    written(&mut out, done.map_err(|fault| message_of(fault, name)))
+}
+
+// Prints the page of a run of the program or image of a file, or of standard input.
+fn print_page_of<'a, R: Files + Input + Print + AllocGlobal>(
+    rt: &R,
+    boxes: Option<&Boxes>,
+    part: &PartData,
+    input: &'a str,
+    steps: u64,
+) -> Result<Done, Message<'a>> {
+    if input == DASH {
+        return print_page(rt, boxes, part, &mut rt.reader(), STANDARD_INPUT, steps);
+    }
+    match std::fs::open(rt, input) {
+        Ok(mut file) => print_page(rt, boxes, part, &mut file, input, steps),
+        Err(_) => Err(Message::Read { name: input }),
+    }
+}
+
+// The exit status of what was shown. Where it wasn't, it is told why, but not that nobody reads it.
+fn status_shown<R: Eprint + AllocGlobal>(
+    rt: &R,
+    voice: Voice,
+    shown: Result<Done, Message<'_>>,
+    input: &str,
+) -> u8 {
+    match shown {
+        Ok(done) => status_after(rt, voice, Ok(done)),
+        Err(message) => fails_in_view(rt, voice, message, input),
+    }
 }
 
 /// The number of steps and the workpiece of a run, judged in this order.
-pub(crate) fn given_of<'a, R: Files + Input + Eprint + AllocGlobal>(
+pub(crate) fn setting_of<'a, R: Files + Input + Eprint + AllocGlobal>(
     rt: &R,
     voice: Voice,
     request: &Request<'a, '_>,
@@ -268,70 +263,30 @@ pub(crate) fn given_of<'a, R: Files + Input + Eprint + AllocGlobal>(
     }
 }
 
-// Tells why nothing is shown, and gives the exit status. A result was always told so; of another view it isn't told that nobody reads it.
-fn fails_to_show<R: Eprint>(
-    rt: &R,
-    voice: Voice,
-    shown: Shown<'_>,
-    message: Message<'_>,
-    input: &str,
-) -> u8 {
-    match shown {
-        Shown::Result => fails_in(rt, voice, message, input),
-        _ => fails_in_view(rt, voice, message, input),
-    }
-}
-
-/// Prints what is shown of a run beside a workpiece, and gives the exit status.
+/// Prints a view of a run beside a workpiece, and gives the exit status.
 pub(crate) fn show_beside<R: Files + Input + Print + Eprint + AllocGlobal>(
     rt: &R,
     voice: Voice,
-    shown: Shown<'_>,
+    view: &View<'_>,
     part: &PartData,
     input: &str,
     steps: u64,
 ) -> u8 {
-    match show_file(rt, shown, part, input, steps) {
-        Ok(done) => status_after(rt, voice, Ok(done)),
-        Err(message) => fails_to_show(rt, voice, shown, message, input),
-    }
+    let shown = print_view_of(rt, view, part, input, steps);
+    status_shown(rt, voice, shown, input)
 }
 
-/// Prints what is shown of a run, and gives the exit status.
-pub fn show_run<R: Files + Input + Print + Eprint + AllocGlobal>(
+/// Prints a view of a run, and gives the exit status.
+pub fn show_view<R: Files + Input + Print + Eprint + AllocGlobal>(
     rt: &R,
     voice: Voice,
-    shown: Shown<'_>,
+    view: &View<'_>,
     request: &Request<'_, '_>,
 ) -> u8 {
-    match given_of(rt, voice, request) {
-        Ok((steps, part)) => show_beside(rt, voice, shown, &part, request.input(), steps),
+    match setting_of(rt, voice, request) {
+        Ok((steps, part)) => show_beside(rt, voice, view, &part, request.input(), steps),
         Err(told) => fails_twice(rt, &told),
     }
-}
-
-// Prints what the boxes of a probe file come to in a run beside a workpiece: their clearance, or the page with them.
-fn show_boxes<R: Files + Input + Print + Eprint + AllocGlobal>(
-    rt: &R,
-    voice: Voice,
-    request: &Request<'_, '_>,
-    probe: &str,
-    is_page: bool,
-) -> u8 {
-    let (steps, part) = match given_of(rt, voice, request) {
-        Ok(given) => given,
-        Err(told) => return fails_twice(rt, &told),
-    };
-    let boxes = match boxes_of(rt, probe) {
-        Ok(boxes) => boxes,
-        Err(unread) => return tell_unread(rt, voice, &unread, probe),
-    };
-    let shown = if is_page {
-        Shown::PageWith(&boxes)
-    } else {
-        Shown::View(RunView::Clearance(&boxes))
-    };
-    show_beside(rt, voice, shown, &part, request.input(), steps)
 }
 
 /// Prints which boxes of a probe meet a block in a run, and gives the exit status. The probe file is judged after the workpiece.
@@ -340,7 +295,35 @@ pub fn show_clearance<R: Files + Input + Print + Eprint + AllocGlobal>(
     voice: Voice,
     request: &Request<'_, '_>,
 ) -> u8 {
-    show_boxes(rt, voice, request, request.probe(), false)
+    let (steps, part) = match setting_of(rt, voice, request) {
+        Ok(setting) => setting,
+        Err(told) => return fails_twice(rt, &told),
+    };
+    match boxes_of(rt, request.probe()) {
+        Ok(boxes) => {
+            let view = View::Clearance(Clearance { boxes: &boxes });
+            show_beside(rt, voice, &view, &part, request.input(), steps)
+        }
+        Err(unread) => tell_unread(rt, voice, &unread, request.probe()),
+    }
+}
+
+// Prints the page of a run with the boxes of a probe.
+fn show_page_with<R: Files + Input + Print + Eprint + AllocGlobal>(
+    rt: &R,
+    voice: Voice,
+    probe: &str,
+    part: &PartData,
+    input: &str,
+    steps: u64,
+) -> u8 {
+    match boxes_of(rt, probe) {
+        Ok(boxes) => {
+            let shown = print_page_of(rt, Some(&boxes), part, input, steps);
+            status_shown(rt, voice, shown, input)
+        }
+        Err(unread) => tell_unread(rt, voice, &unread, probe),
+    }
 }
 
 /// Prints the page of a run, with the boxes of the probe that is given, if one is, and gives the exit status.
@@ -349,8 +332,16 @@ pub fn show_page<R: Files + Input + Print + Eprint + AllocGlobal>(
     voice: Voice,
     request: &Request<'_, '_>,
 ) -> u8 {
+    let (steps, part) = match setting_of(rt, voice, request) {
+        Ok(setting) => setting,
+        Err(told) => return fails_twice(rt, &told),
+    };
+    let input = request.input();
     match request.value(Choice::Probe) {
-        Some(probe) => show_boxes(rt, voice, request, probe, true),
-        None => show_run(rt, voice, Shown::Page, request),
+        Some(probe) => show_page_with(rt, voice, probe, &part, input, steps),
+        None => {
+            let shown = print_page_of(rt, None, &part, input, steps);
+            status_shown(rt, voice, shown, input)
+        }
     }
 }

@@ -10,3 +10,5 @@ pub mod Told
 pub mod RunAnswers
 pub mod FileAnswers
 pub mod ListAnswers
+pub mod ViewLemmas
+pub mod OneView

@@ -19,6 +19,7 @@ use Rattle.vcm_job.specs.Reading.{most_bytes, IsReadFault}
 use Rattle.vcm_job.specs.Unread.{AnswersUnread}
 use Rattle.vcm_job.specs.Results.{IsDone, IsNotDone}
 use Rattle.vcm_job.specs.Inputs.{IsWritten, IsNotWritten}
+use Rattle.vcm_job.specs.Views.{RunView, IsShown, IsNoView}
 use Rattle.vcm_job.specs.Files.{IsPartIn, IsNoPart, IsNotBuilt}
 use Rattle.vcm_job.specs.Checks.{IsChecked, IsNotChecked}
 use Rattle.vcm_job.specs.Listings.{IsPrinted, IsWrittenOut, IsNotListed, IsNotAssembled}
@@ -39,6 +40,11 @@ IsJobAnswer input r rest old new =
 abbrev pub IsRunAnswer : Workpiece → ℕ → List ℕ → Result Done (Fault InputRefusal) → Option (List ℕ) → Option (List ℕ) → Option (List ℕ) → Type 0
 IsRunAnswer part n input r rest old new =
     IsAnswer (λ d. IsWritten part input n d.status d.notices.items old new) (λ f. IsNotWritten part n (Some input) rest f old new) input r
+
+-- a view of a run of an input beside a workpiece, for at most n steps
+abbrev pub IsViewAnswer : RunView → Workpiece → ℕ → List ℕ → Result Done (Fault InputRefusal) → Option (List ℕ) → Option (List ℕ) → Option (List ℕ) → Type 0
+IsViewAnswer view part n input r rest old new =
+    IsAnswer (λ d. IsShown view part input n d.status d.notices.items old new) (λ f. IsNoView view part n (Some input) rest f old new) input r
 
 -- the image of a program
 abbrev pub IsBuildAnswer : List ℕ → Result Built (Fault Refusal) → Option (List ℕ) → Type 0

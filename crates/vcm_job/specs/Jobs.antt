@@ -1,7 +1,8 @@
 -- Jobs: a part text and a program text in one input.
 use Rattle.std.specs.Prelude.{◌≡◌, ℕ, ◌==◌, Bool, List, [], ◌∷◌, ◌++◌, if◌then◌else◌, ◌||◌, codes, Option, Some, None, Ok}
-use Rattle.std.specs.List.{onto_first, flat_map}
+use Rattle.std.specs.List.{flat_map}
 use Rattle.std.specs.Str.{bytes_eq}
+use Rattle.vcm_num.specs.Lines.{whole_lines}
 use Rattle.vcm_part.specs.PartFile.{part_of}
 use Rattle.vcm_spec.specs.declared.stop.Stop.TheVariants.{Ended}
 use Rattle.vcm_spec.specs.declared.stop.StopPlace.{StopPlace}
@@ -13,11 +14,6 @@ use Rattle.vcm_state.specs.Carried.{setup_of}
 use Rattle.vcm_program.specs.Program.{Parsed}
 use Rattle.vcm_tree.specs.Acceptance.{IsAccepted}
 use Rattle.vcm_run.specs.Printed.{result_text}
-
--- the lines of an input, each with its line feed, which the last one may lack
-abbrev pub raw_lines : List ℕ → List (List ℕ)
-raw_lines [] = []
-raw_lines (b ∷ bs) = if b == 10 then (b ∷ []) ∷ raw_lines bs else onto_first b (raw_lines bs)
 
 -- whether a line is exactly two per cent signs, ended by a line feed, by a carriage return and a line feed, or by the input's end
 abbrev pub is_mark : List ℕ → Bool
@@ -35,11 +31,11 @@ behind_mark (l ∷ ls) = if is_mark l then flat_map (λ k. k) ls else behind_mar
 
 -- the part text of an input: what stands before its first mark
 abbrev pub part_text : List ℕ → List ℕ
-part_text input = before_mark (raw_lines input)
+part_text input = before_mark (whole_lines input)
 
 -- the program text of an input: what stands behind its first mark
 abbrev pub program_text : List ℕ → List ℕ
-program_text input = behind_mark (raw_lines input)
+program_text input = behind_mark (whole_lines input)
 
 -- the exit status that a stop gives: 0 at the program's end, 3 at another stop, 4 where there is none
 abbrev pub status_of : Option StopPlace → ℕ

@@ -4,7 +4,8 @@ use Rattle.std.specs.Prelude.{◌≡◌, ℕ, List, Option, Some, Result}
 use Rattle.std.specs.Io.KnownBytes.{Appends}
 use Rattle.vcm_spec.specs.Workpiece.{Workpiece}
 use Rattle.vcm_job.specs.Causes.{Cause}
-use Rattle.vcm_job.specs.Answers.{IsJobAnswer, IsRunAnswer, IsBuildAnswer, IsCheckAnswer, IsListAnswer, IsAsmAnswer, IsPartAnswer, IsReadAnswer}
+use Rattle.vcm_job.specs.Views.{RunView}
+use Rattle.vcm_job.specs.Answers.{IsJobAnswer, IsRunAnswer, IsViewAnswer, IsBuildAnswer, IsCheckAnswer, IsListAnswer, IsAsmAnswer, IsPartAnswer, IsReadAnswer}
 use Rattle.vcm_job.specs.Answers.{job_told, run_told, build_told, check_told, list_told, asm_told, part_told, read_told}
 
 -- two writers took the same bytes, and nothing else
@@ -31,6 +32,10 @@ JobAnswersAreOne = (input : List ℕ) → AreOne (IsJobAnswer input) job_told
 -- runs of one input beside one workpiece, for as many steps
 abbrev pub RunAnswersAreOne : Type 0
 RunAnswersAreOne = (part : Workpiece) (n : ℕ) (input : List ℕ) → AreOne (IsRunAnswer part n input) run_told
+
+-- views of one input beside one workpiece, for as many steps
+abbrev pub ViewAnswersAreOne : RunView → Workpiece → Type 0
+ViewAnswersAreOne view part = (n : ℕ) (input : List ℕ) → AreOne (IsViewAnswer view part n input) run_told
 
 -- images of one text
 abbrev pub BuildAnswersAreOne : Type 0

@@ -5,6 +5,8 @@ pub mod Jobs
 pub mod Results
 pub mod Files
 pub mod Inputs
+pub mod Given
+pub mod Views
 pub mod Listings
 pub mod Checks
 pub mod Debugged

@@ -4,3 +4,4 @@ pub mod Judged
 pub mod Sessions
 pub mod Printing
 pub mod Running
+pub mod Viewing

@@ -1,22 +1,9 @@
 //! The two texts of a job.
 
 ghost use Rattle.std.specs.Prelude.{◌≡◌, ◌<◌, ◌∷◌, ◌++◌, length, ◌==◌};
-ghost use Rattle.vcm_job.specs.Jobs.{raw_lines, is_mark, part_text, program_text};
+ghost use Rattle.vcm_job.specs.Jobs.{is_mark, part_text, program_text};
 
-use vcm_num::{is, line_feed};
-
-// The first line with its line feed, and what stands behind it.
-fn raw_line(text: &[u8]) -> (&[u8], &[u8])
-    requires { 0 < length text.now }
-    ensures lines { raw_lines text.now ≡ result.0.now ∷ raw_lines result.1.now }
-    ensures cut { text.now ≡ result.0.now ++ result.1.now }
-    ensures shorter { length result.1.now < length text.now }
-{
-    match line_feed(text) {
-        None => (text, &[]),
-        Some(end) => (&text[..end + 1], &text[end + 1..]),
-    }
-}
+use vcm_num::{is, whole_line};
 
 // Whether a line is the mark between the two texts.
 fn is_mark(line: &[u8]) -> bool
@@ -32,7 +19,7 @@ pub(crate) fn texts_of(input: &[u8]) -> (&[u8], &[u8])
 {
     let mut rest = input;
     while !rest.is_empty() {
-        let (line, after) = raw_line(rest);
+        let (line, after) = whole_line(rest);
         if is_mark(line) {
             return (&input[..input.len() - rest.len()], after);
         }

@@ -7,7 +7,7 @@ ghost use Rattle.vcm_job.specs.Debugged.{IsSession, IsServedOn, IsDebugged, IsIn
 ghost use Rattle.vcm_job.specs.inner.Sessions.{IsNoSession, IsNotServed};
 
 use crate::fault::{DebugFault, SessionFault};
-use crate::inputs::is_image;
+use crate::given::is_image;
 use crate::reading::read_all;
 use std::alloc::Global;
 use std::io::{Read, Write};

@@ -1,5 +1,8 @@
 //! Why a command came to no whole answer.
 
+ghost use Rattle.std.specs.Prelude.{◌≡◌};
+ghost use Rattle.vcm_job.specs.Unread.{session_fault};
+
 use crate::reading::ReadFault;
 use vcm_debug::ServeFault;
 use vcm_fields::ImageFault;
@@ -77,5 +80,20 @@ impl<R> From<ReadFault> for Fault<R> {
             ReadFault::Device => Fault::Read,
             ReadFault::TooLong => Fault::TooLong,
         }
+    }
+}
+
+/// Why a session didn't come to its end, where its input is refused as a run's.
+pub fn session_fault(fault: RunFault) -> DebugFault
+    ensures { result ≡ session_fault fault }
+{
+    match fault {
+        Fault::Refused(InputRefusal::Text(refusal)) => Fault::Refused(SessionFault::Text(refusal)),
+        Fault::Refused(InputRefusal::Image(fault)) => Fault::Refused(SessionFault::Image(fault)),
+        Fault::NoMemory => Fault::NoMemory,
+        Fault::Memory { done } => Fault::Memory { done },
+        Fault::Read => Fault::Read,
+        Fault::Write { done } => Fault::Write { done },
+        Fault::TooLong => Fault::TooLong,
     }
 }

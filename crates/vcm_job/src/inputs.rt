@@ -1,14 +1,14 @@
 //! Runs of programs and images from an input, beside a workpiece.
 
-ghost use Rattle.std.specs.Prelude.{◌≡◌, ◌≢◌, take, IfOk, IfErr, IfSome, codes};
-ghost use Rattle.std.specs.Str.{bytes_eq};
+ghost use Rattle.std.specs.Prelude.{◌≡◌, ◌≢◌, IfOk, IfErr, IfSome};
 ghost use Rattle.vcm_job.specs.Reading.{ReadsLittle};
 ghost use Rattle.vcm_job.specs.Unread.{AnswersUnread};
-ghost use Rattle.vcm_job.specs.Inputs.{is_image, IsInputRun, IsInputRefusal, IsWritten, IsNotWritten};
+ghost use Rattle.vcm_job.specs.Inputs.{IsInputRun, IsInputRefusal, IsWritten, IsNotWritten};
 ghost use Rattle.vcm_job.specs.inner.Judged.{IsRefusedAs};
 ghost use Rattle.vcm_job.specs.inner.Running.{IsNotRun};
 
 use crate::fault::{InputRefusal, RunFault};
+use crate::given::is_image;
 use crate::reading::read_all;
 use crate::running::{Done, Unwritten, finish};
 use std::alloc::Global;
@@ -16,13 +16,6 @@ use std::io::{Read, Write};
 use vcm_motion::{AnyPart, Part};
 use vcm_part::PartData;
 use vcm_run::{Summary, run_image, run_text};
-
-/// Whether an input is an image: its first four bytes are `VCMI`.
-pub fn is_image(input: &[u8]) -> bool
-    ensures { result ≡ is_image input.now }
-{
-    input.starts_with(b"VCMI")
-}
 
 // The run of an input beside a workpiece, for at most so many steps.
 fn run_either<P: Part>(

@@ -11,7 +11,7 @@ ghost use Rattle.vcm_words.specs.Outcomes.{FaultOrWant};
 ghost use Rattle.vcm_image.specs.Whole.{FitsImage, spelling};
 
 use crate::fault::{AsmFault, Fault, InputRefusal, PrintFault};
-use crate::inputs::is_image;
+use crate::given::is_image;
 use crate::reading::read_all;
 use std::alloc::Global;
 use std::io::{Read, Write};

@@ -2,7 +2,7 @@
 use Rattle.std.specs.Prelude.{ℕ, ◌+◌, ◌-◌, ◌==◌, ◌&&◌, ◌||◌, nat_le, nat_lt, Bool, false, List, [], ◌∷◌, ◌++◌, codes, Option, Some, None, if◌then◌else◌}
 use Rattle.std.specs.List.{fold}
 use Rattle.std.specs.Str.{bytes_eq}
-use Rattle.vcm_adapt.specs.Marks.{whole_lines}
+use Rattle.vcm_num.specs.Lines.{whole_lines}
 use Rattle.vcm_boxes.specs.Labels.{label_of}
 use Rattle.vcm_keys.specs.declared.place.KeyPlace.{KeyPlace}
 use Rattle.vcm_keys.specs.declared.statement.PartStatement.{PartStatement}

@@ -2,7 +2,7 @@
 
 ghost use Rattle.std.specs.Prelude.{◌≡◌, ◌<◌, ◌≤◌, ◌∷◌, IfOk, OnOk, Some, length};
 ghost use Rattle.std.specs.List.{fold};
-ghost use Rattle.vcm_adapt.specs.Marks.{whole_lines};
+ghost use Rattle.vcm_num.specs.Lines.{whole_lines};
 ghost use Rattle.vcm_keys.specs.Places.{start, is_lost, put, places_with, begun, ended, with_line, places_of, open_line, is_key, block_lines, line_of};
 
 use crate::place::KeyPlace;
@@ -10,7 +10,7 @@ use crate::statement::{PartStatement, statement_alone};
 use std::alloc::Global;
 use std::marker::Model;
 use vcm_boxes::ShortName;
-use vcm_num::{MOST_BLOCKS, NoMemory, is, line_feed};
+use vcm_num::{MOST_BLOCKS, NoMemory, is, whole_line};
 
 /// The most bytes of a key that is told.
 const LONGEST: usize = 32;
@@ -156,18 +156,6 @@ impl Reader {
     }
 }
 
-// The first line with its line feed, and what stands behind it.
-fn split_line(text: &[u8]) -> (&[u8], &[u8])
-    requires { 0 < length text.now }
-    ensures cut { whole_lines text.now ≡ result.0.now ∷ whole_lines result.1.now }
-    ensures shorter { length result.1.now < length text.now }
-{
-    match line_feed(text) {
-        None => (text, &[]),
-        Some(end) => (&text[..end + 1], &text[end + 1..]),
-    }
-}
-
 // What was read of a text.
 fn read_text(alloc: Global, text: &[u8]) -> Result<Reader, NoMemory>
     ensures { IfOk result (λ r. r ≡ fold with_line start (whole_lines text.now)) }
@@ -175,7 +163,7 @@ fn read_text(alloc: Global, text: &[u8]) -> Result<Reader, NoMemory>
     let mut reader = Reader::new(alloc);
     let mut rest = text;
     while !rest.is_empty() {
-        let (line, after) = split_line(rest);
+        let (line, after) = whole_line(rest);
         reader.read_line(alloc, line)?;
         rest = after;
     }

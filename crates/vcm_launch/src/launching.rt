@@ -1,14 +1,11 @@
 //! What a launch asks for, and the program that it names.
 
 use json::Value;
-use std::alloc::Global;
 use std::rt::Files;
 use vcm_dap::Settings;
 use vcm_debug::Count;
-use vcm_job::{DebugFault, is_image, read_all};
-use vcm_messages::{Message, Told, message_of};
-use vcm_program::Noticed;
-use vcm_run::{Built, build_image};
+use vcm_job::{DebugFault, Given, given_of, read_all};
+use vcm_messages::{Message, message_of};
 use vcm_wire::Request;
 
 // The most steps of a motion, where `steps` isn't given.
@@ -80,43 +77,17 @@ pub(crate) fn settings_of<'v>(asked: Asked<'v>, tip: u32, is_image: bool) -> Set
     }
 }
 
-/// A program that was read: its image, its lines that have no effect, and whether the file was an image.
-#[derive(Drop)]
-pub(crate) struct Program {
-    pub image: Vec<u8>,
-    pub notices: Vec<Noticed>,
-    pub is_image: bool,
-}
-
-// The program of these bytes.
-fn program_in(alloc: Global, bytes: Vec<u8>) -> Result<Program, Message<'static>> {
-    if is_image(&bytes) {
-        return Ok(Program {
-            image: bytes,
-            notices: Vec::new(alloc),
-            is_image: true,
-        });
-    }
-    match build_image(alloc, &bytes) {
-        Ok(Built { image, notices }) => Ok(Program {
-            image,
-            notices,
-            is_image: false,
-        }),
-        Err(refusal) => Err(refusal.told()),
-    }
-}
-
 /// The program or image of a file.
 pub(crate) fn program_of<'a, R: Files + AllocGlobal>(
     rt: &R,
     name: &'a str,
-) -> Result<Program, Message<'a>> {
+) -> Result<Given, Message<'a>> {
     let Ok(mut file) = std::fs::open(rt, name) else {
         return Err(Message::Read { name });
     };
-    match read_all(rt.alloc(), &mut file) {
-        Ok(bytes) => program_in(rt.alloc(), bytes),
-        Err(fault) => Err(message_of(DebugFault::from(fault), name)),
-    }
+    let bytes = match read_all(rt.alloc(), &mut file) {
+        Ok(bytes) => bytes,
+        Err(fault) => return Err(message_of(DebugFault::from(fault), name)),
+    };
+    given_of(rt.alloc(), bytes).map_err(|fault| message_of(fault, name))
 }

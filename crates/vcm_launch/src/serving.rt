@@ -3,7 +3,7 @@
 ghost use Rattle.std.specs.Prelude.{◌<◌, ◌≤◌, ◌+◌, ◌^◌};
 
 use crate::files::part_of;
-use crate::launching::{Asked, Program, launch_of, program_of, settings_of};
+use crate::launching::{Asked, launch_of, program_of, settings_of};
 use json::{Error, Scratch, Value};
 use std::alloc::Global;
 use std::fmt::Write as _;
@@ -11,6 +11,7 @@ use std::io::{Read, Write};
 use std::rt::Files;
 use vcm_dap::{Adapter, DapFault, Served, Settings, Talk};
 use vcm_debug::Session;
+use vcm_job::Given;
 use vcm_loader::{Loaded, load};
 use vcm_messages::{Message, Told, notice_line};
 use vcm_motion::AnyPart;
@@ -174,7 +175,7 @@ fn open_program<R: Read, W: Write>(
     talk: &mut Talk<W>,
     request: &Request<'_, '_>,
     asked: Asked<'_>,
-    program: &Program,
+    program: &Given,
     part: &PartData,
     input: &mut R,
 ) -> Result<bool, Message<'static>> {
@@ -183,7 +184,7 @@ fn open_program<R: Read, W: Write>(
         Ok(loaded) => loaded,
         Err(fault) => return refuse(alloc, talk, request, fault.told()),
     };
-    let settings = settings_of(asked, part.bounds().tip, program.is_image);
+    let settings = settings_of(asked, part.bounds().tip, program.text.is_none());
     open_session(
         talk,
         request,

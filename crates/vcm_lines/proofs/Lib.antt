@@ -2,7 +2,6 @@ pub mod SegmentLemmas
 pub mod Scanning
 pub mod Raising
 pub mod WordLemmas
-pub mod Cutting
 pub mod Joining
 pub mod Marking
 pub mod Reading

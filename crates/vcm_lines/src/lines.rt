@@ -2,7 +2,7 @@
 
 ghost use Rattle.std.specs.Prelude.{◌≡◌, ◌<◌, ◌∷◌, length, IfOk, OnOk, IfErr, Some, None};
 ghost use Rattle.std.specs.Option.{option_map_or};
-ghost use Rattle.std.specs.Str.Lines.{lines, strip_carriage_return};
+ghost use Rattle.std.specs.Str.Lines.{lines};
 ghost use Rattle.vcm_lines.specs.Fault.{NoMemoryOr};
 ghost use Rattle.vcm_spec.specs.Phase.{IsClean, FirstFault};
 ghost use Rattle.vcm_lines.specs.Statements.{lines_of, kept_lines, grouped, AreLogical, Breaks, told_line};
@@ -14,32 +14,10 @@ use crate::fault::{FaultCode, SourceFault};
 use crate::logical::{Logical, LogicalLines, OwnedBytes, Word};
 use crate::words::words_of;
 use std::alloc::{AllocError, Global};
-use vcm_num::{LONGEST_LINE, LONGEST_STATEMENT, line_feed};
+use vcm_num::{LONGEST_LINE, LONGEST_STATEMENT, split_line};
 
 /// The most lines of a text.
 const MAX_LINES: u16 = vcm_num::MOST_STATEMENTS as u16;
-
-/// A line without the carriage return of its ending.
-fn without_return(line: &[u8]) -> &[u8]
-    ensures { result.now ≡ strip_carriage_return line.now }
-{
-    match line {
-        [front @ .., b'\r'] => front,
-        _ => line,
-    }
-}
-
-/// The first line, and what stands behind its ending.
-fn split_line(text: &[u8]) -> (&[u8], &[u8])
-    requires { 0 < length text.now }
-    ensures cut { lines text.now ≡ result.0.now ∷ lines result.1.now }
-    ensures shorter { length result.1.now < length text.now }
-{
-    match line_feed(text) {
-        None => (text, &[]),
-        Some(end) => (without_return(&text[..end]), &text[end + 1..]),
-    }
-}
 
 /// A text without its byte order mark.
 fn without_mark(text: &[u8]) -> &[u8]

@@ -1,12 +1,11 @@
 -- A margin as text.
 use Rattle.std.specs.Prelude.{ℕ, ◌+◌, List, [], ◌∷◌, ◌++◌, Option, Some, None, decimal, codes}
 use Rattle.vcm_num.specs.declared.point.Point.{Point}
-use Rattle.vcm_num.specs.Point.{coordinate}
 use Rattle.vcm_num.specs.Texts.{thousandths}
 use Rattle.vcm_spec.specs.declared.feature.Feature.{Feature}
 use Rattle.vcm_spec.specs.declared.words.Source.TheVariants.{Actual}
 use Rattle.vcm_spec.specs.Setup.{Tables}
-use Rattle.vcm_report.specs.Printed.{in_a_row, feature_words, stopped_line}
+use Rattle.vcm_report.specs.Printed.{in_a_row, position_line, steps_line, feature_words, stopped_line}
 use Rattle.vcm_margin.specs.declared.difference.Difference.{Difference}
 use Rattle.vcm_margin.specs.declared.difference.Difference.TheVariants.{Stop, Next, Feature as Measured}
 use Rattle.vcm_margin.specs.declared.difference.Margin.{Margin}
@@ -33,15 +32,6 @@ difference_text tables (Stop (Some place)) = stopped_line tables place
 difference_text tables (Stop None) = codes "no stop\n"
 difference_text tables (Next n) = next_text n
 difference_text tables (Measured i f place) = feature_text tables i f place
-
--- where the probe is
-abbrev pub position_line : Point → List ℕ
-position_line p = in_a_row (codes "position " ∷ thousandths (coordinate p 0) ∷ codes " " ∷ thousandths (coordinate p 1) ∷ codes " "
-    ∷ thousandths (coordinate p 2) ∷ codes "\n" ∷ [])
-
--- how many steps were taken
-abbrev pub steps_line : ℕ → List ℕ
-steps_line n = in_a_row (codes "steps " ∷ decimal n ∷ codes "\n" ∷ [])
 
 -- both
 abbrev pub state_lines : Point → ℕ → List ℕ

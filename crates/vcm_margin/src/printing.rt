@@ -1,14 +1,14 @@
 //! A margin as text. Nothing here takes memory.
 
 ghost use Rattle.vcm_num.specs.Written.{Wrote};
-ghost use Rattle.vcm_margin.specs.Printed.{place_text, feature_text, difference_text, next_text, position_line, steps_line, state_lines, seen_text, difference_or_home, width_text, wider_text, met_text, margin_text};
+ghost use Rattle.vcm_margin.specs.Printed.{place_text, feature_text, difference_text, next_text, state_lines, seen_text, difference_or_home, width_text, wider_text, met_text, margin_text};
 
 use crate::difference::{Difference, Margin, Met, Seen, StatementPlace};
 use itoa::Buffer;
 use std::io::Write;
 use vcm_items::Tables;
-use vcm_num::{Point, WriteFault, thousandths_text, write_all, write_pieces};
-use vcm_report::{write_feature_words, write_stop_line};
+use vcm_num::{Point, WriteFault, write_all, write_pieces};
+use vcm_report::{write_feature_words, write_position, write_steps, write_stop_line};
 use vcm_spec::{Feature, Source};
 
 // Writes which statement measures a point, and ends the line.
@@ -60,36 +60,6 @@ fn write_difference<W: Write>(
             write_measured(tables, index, feature, place, writer)
         }
     }
-}
-
-// Writes where the probe is.
-fn write_position<W: Write>(at: Point, writer: &mut W) -> Result<(), WriteFault>
-    ensures { Wrote (W.contents writer.old) (W.contents writer.new) (position_line at) result }
-{
-    let Point([x, y, z]) = at;
-    let x = thousandths_text(x);
-    let y = thousandths_text(y);
-    let z = thousandths_text(z);
-    write_pieces(
-        writer,
-        &[
-            b"position ",
-            x.as_slice(),
-            b" ",
-            y.as_slice(),
-            b" ",
-            z.as_slice(),
-            b"\n",
-        ],
-    )
-}
-
-// Writes how many steps were taken.
-fn write_steps<W: Write>(steps: u64, writer: &mut W) -> Result<(), WriteFault>
-    ensures { Wrote (W.contents writer.old) (W.contents writer.new) (steps_line steps) result }
-{
-    let mut text = Buffer::new();
-    write_pieces(writer, &[b"steps ", text.format(steps).as_bytes(), b"\n"])
 }
 
 // Writes where the probe is, and how many steps were taken.

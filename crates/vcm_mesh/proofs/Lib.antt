@@ -1,4 +1,3 @@
 pub mod Rounding
-pub mod Cutting
 pub mod Facets
 pub mod TextLines

@@ -1,7 +1,7 @@
 //! Mesh files that are texts, line by line.
 
 ghost use Rattle.std.specs.Prelude.{◌≡◌, ◌≤◌, ◌<◌, ◌+◌, ◌∷◌, ◌++◌, [], length, Some};
-ghost use Rattle.std.specs.Str.Lines.{lines, strip_carriage_return};
+ghost use Rattle.std.specs.Str.Lines.{lines};
 ghost use Rattle.vcm_mesh.specs.Meshes.{Gives, corner_of, vertex_of, next_place, added, read_known, read_line, read_end, text_mesh};
 ghost use Rattle.vcm_mesh.specs.inner.Reads.{TookTriangle, TookLine, read_so_far};
 
@@ -13,7 +13,7 @@ use crate::placing::{Placing, placed};
 use crate::triangle::Triangle;
 use crate::words::{keyword_of, split_word, three_words};
 use std::alloc::Global;
-use vcm_num::{Point, line_feed};
+use vcm_num::{Point, split_line};
 
 /// A word that begins a line.
 #[derive(Clone, Copy, PartialEq, Eq)]
@@ -166,28 +166,6 @@ fn read_line(
     match keyword_of(word) {
         Some(keyword) => read_known(placing, line, place, keyword, rest, triangles),
         None => Err(MeshFault::Refused(Refusal::BadText(line))),
-    }
-}
-
-// A line without the carriage return of its ending.
-fn without_return(line: &[u8]) -> &[u8]
-    ensures { result.now ≡ strip_carriage_return line.now }
-{
-    match line {
-        [front @ .., b'\r'] => front,
-        _ => line,
-    }
-}
-
-// The first line, and what stands after its ending.
-fn split_line(text: &[u8]) -> (&[u8], &[u8])
-    requires { 0 < length text.now }
-    ensures cut { lines text.now ≡ result.0.now ∷ lines result.1.now }
-    ensures shorter { length result.1.now < length text.now }
-{
-    match line_feed(text) {
-        None => (text, &[]),
-        Some(end) => (without_return(&text[..end]), &text[end + 1..]),
     }
 }
 

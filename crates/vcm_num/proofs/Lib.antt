@@ -4,3 +4,5 @@ pub mod DirectionLemmas
 pub mod Ring
 pub mod KnownWrites
 pub mod LineFeeds
+pub mod FirstLine
+pub mod WholeLines

@@ -4,5 +4,6 @@ pub mod Texts
 pub mod Point
 pub mod Axis
 pub mod Words
+pub mod Lines
 pub mod Written
 pub mod inner

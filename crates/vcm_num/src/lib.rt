@@ -5,6 +5,7 @@ mod arith;
 mod axis;
 mod bytes;
 mod limits;
+mod lines;
 mod memory;
 mod number;
 mod point;
@@ -20,6 +21,7 @@ pub use limits::{
     LONGEST_STATEMENT, LONGEST_TEXT, MOST_BLOCKS, MOST_BRANCHES, MOST_ITEMS, MOST_LINES,
     MOST_NAMES, MOST_NODES, MOST_PARAMETERS, MOST_ROOM, MOST_STATEMENTS, WIDEST_TIP,
 };
+pub use lines::{cut_line, split_line, whole_line};
 pub use memory::{NoMemory, WriteFault};
 pub use number::{Fault, Kind, Literal};
 pub use point::Point;

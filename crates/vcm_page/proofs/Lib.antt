@@ -1,2 +1,2 @@
-mod PageLemmas
-mod InputPages
+pub mod PageLemmas
+pub mod PageViews

@@ -18,7 +18,7 @@ use Rattle.vcm_job.specs.Jobs.{status_of}
 use Rattle.vcm_job.specs.declared.fault.Fault.{Fault}
 use Rattle.vcm_job.specs.declared.fault.InputRefusal.{InputRefusal}
 use Rattle.vcm_job.specs.declared.fault.Fault.TheVariants as faults
-use Rattle.vcm_page.specs.Inputs.{IsHaltedAfter}
+use Rattle.vcm_page.specs.Views.{IsHaltedAfter}
 use Rattle.vcm_story.specs.Stories.{TookFront, IsStory, story_text}
 use Rattle.vcm_page.specs.Pages.{not_shown, page_text, story_of}
 use Rattle.vcm_page.specs.inner.Written.{IsWritten, IsNotWritten, IsNotCounted}

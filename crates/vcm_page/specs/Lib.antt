@@ -1,3 +1,3 @@
 pub mod Pages
-pub mod Inputs
+pub mod Views
 pub mod inner

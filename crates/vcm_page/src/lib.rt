@@ -1,8 +1,9 @@
-//! The page of a run of an input: fixed texts, and between them the story of the run.
+//! The page of a run: fixed texts, and between them the story of the run.
 #![tactic(auto)]
 
-mod inputs;
+pub mod laws;
 mod pages;
+mod views;
 
-pub use inputs::page_of;
 pub use pages::Texts;
+pub use views::Page;

@@ -5,7 +5,7 @@ ghost use Rattle.vcm_num.specs.Written.{Wrote, AppendsFront};
 ghost use Rattle.vcm_machine.specs.Running.{started};
 ghost use Rattle.vcm_steps.specs.Passages.{steps_taken};
 ghost use Rattle.vcm_story.specs.Stories.{story_text, IsStory};
-ghost use Rattle.vcm_page.specs.Inputs.{texts_of};
+ghost use Rattle.vcm_page.specs.Views.{texts_of};
 ghost use Rattle.vcm_page.specs.Pages.{not_shown, page_text, story_of};
 ghost use Rattle.vcm_page.specs.inner.Written.{IsWritten, IsNotWritten, IsNotCounted};
 

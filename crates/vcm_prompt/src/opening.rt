@@ -5,12 +5,11 @@ use crate::talking::{Prompts, talk};
 use std::alloc::Global;
 use std::io::{Read, Write};
 use vcm_debug::Session;
-use vcm_job::{DebugFault, SessionFault, is_image};
+use vcm_job::{DebugFault, SessionFault, given_of, session_fault};
 use vcm_loader::load;
 use vcm_motion::AnyPart;
 use vcm_part::PartData;
 use vcm_program::Noticed;
-use vcm_run::{Built, build_image};
 
 // Opens a session on an image, and talks about it.
 fn talk_of<R: Read, W: Write, E: Prompts>(
@@ -48,24 +47,25 @@ fn talk_of<R: Read, W: Write, E: Prompts>(
 pub fn debug_by_hand<R: Read, W: Write, E: Prompts>(
     alloc: Global,
     part: &PartData,
-    input: &[u8],
+    input: Vec<u8>,
     reader: &mut R,
     replies: &mut W,
     prompts: &E,
 ) -> Result<Vec<Noticed>, DebugFault> {
-    if is_image(input) {
-        talk_of(alloc, part, input, None, reader, replies, prompts)?;
-        return Ok(Vec::new(alloc));
-    }
-    let Built { image, notices } = match build_image(alloc, input) {
-        Ok(built) => built,
-        Err(refusal) => return Err(DebugFault::Refused(SessionFault::Text(refusal))),
+    let given = match given_of(alloc, input) {
+        Ok(given) => given,
+        Err(fault) => return Err(session_fault(fault)),
     };
-    match talk_of(alloc, part, &image, Some(input), reader, replies, prompts) {
-        Ok(()) => Ok(notices),
-        Err(DebugFault::Refused(SessionFault::Serve(fault))) => Err(DebugFault::Refused(
-            SessionFault::Serve(fault),
-        )),
-        Err(_) => Err(DebugFault::NoMemory),
+    let source = match &given.text {
+        Some(text) => Some(text.as_slice()),
+        None => None,
+    };
+    match talk_of(alloc, part, &given.image, source, reader, replies, prompts) {
+        Ok(()) => Ok(given.notices),
+        // An image that was built is refused for want of memory alone.
+        Err(DebugFault::Refused(SessionFault::Image(_))) if given.text.is_some() => Err(
+            DebugFault::NoMemory,
+        ),
+        Err(fault) => Err(fault),
     }
 }

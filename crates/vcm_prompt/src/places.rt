@@ -3,7 +3,8 @@
 use itoa::Buffer;
 use std::io::Write;
 use vcm_calls::source_line;
-use vcm_num::{Point, WriteFault, thousandths_text, write_all, write_pieces};
+use vcm_num::{WriteFault, thousandths_text, write_all, write_pieces};
+use vcm_report::write_point;
 use vcm_state::World;
 
 /// Writes a source line with its number.
@@ -17,21 +18,6 @@ pub(crate) fn write_source<W: Write>(
     write_pieces(writer, &[number, b"   ", source_line(text, line), b"\n"])
 }
 
-// Writes a place in millimetres.
-fn write_place<W: Write>(at: Point, writer: &mut W) -> Result<(), WriteFault> {
-    let Point([x, y, z]) = at;
-    write_pieces(
-        writer,
-        &[
-            thousandths_text(x).as_slice(),
-            b" ",
-            thousandths_text(y).as_slice(),
-            b" ",
-            thousandths_text(z).as_slice(),
-        ],
-    )
-}
-
 // Writes a setting in millimetres.
 fn write_setting<W: Write>(name: &[u8], length: u32, writer: &mut W) -> Result<(), WriteFault> {
     let length = thousandths_text(i64::from(length));
@@ -42,10 +28,10 @@ fn write_setting<W: Write>(name: &[u8], length: u32, writer: &mut W) -> Result<(
 pub(crate) fn write_position<W: Write>(world: &World, writer: &mut W) -> Result<(), WriteFault> {
     let at = world.position();
     let settings = world.settings();
-    write_place(at, writer)?;
+    write_point(at, b" ", writer)?;
     if let Ok(at) = world.frame().invert(at) {
         write_all(writer, b"   part ")?;
-        write_place(at, writer)?;
+        write_point(at, b" ", writer)?;
     }
     write_all(writer, b"  ")?;
     write_setting(b"APPRCH", settings.approach(), writer)?;

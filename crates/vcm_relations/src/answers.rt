@@ -1,13 +1,13 @@
 //! The commands that are no session, each with all that its contract says of a known input as one answer: so the law `answers_are_one` speaks of these contracts.
 
 ghost use Rattle.std.specs.Prelude.{IfSome};
-ghost use Rattle.vcm_job.specs.Answers.{IsJobAnswer, IsRunAnswer, IsBuildAnswer, IsCheckAnswer, IsListAnswer, IsAsmAnswer, IsPartAnswer, IsReadAnswer};
+ghost use Rattle.vcm_job.specs.Answers.{IsJobAnswer, IsRunAnswer, IsViewAnswer, IsBuildAnswer, IsCheckAnswer, IsListAnswer, IsAsmAnswer, IsPartAnswer, IsReadAnswer};
 
 use std::alloc::Global;
 use std::io::{Read, Write};
 use vcm_job::{
     AsmFault, BuildFault, CheckFault, Done, JobFault, PartFileFault, PrintFault, ReadFault,
-    RunFault, asm, build, check, job, list, part_from, read_all, run,
+    RunFault, Shows, asm, build, check, job, list, part_from, read_all, run, view_of,
 };
 use vcm_part::PartData;
 use vcm_program::Noticed;
@@ -35,6 +35,20 @@ pub fn called_run<R: Read, W: Write>(
     ensures { IfSome (R.remaining reader.old) (λ input. IsRunAnswer part.now steps input result (R.remaining reader.new) (W.contents writer.old) (W.contents writer.new)) }
 {
     run(alloc, part, reader, steps, writer)
+}
+
+/// A view of a run of an input.
+pub fn called_view<R: Read, W: Write, S: Shows<W>>(
+    alloc: Global,
+    view: &S,
+    part: &PartData,
+    reader: &mut R,
+    steps: u64,
+    writer: &mut W,
+) -> Result<Done, RunFault>
+    ensures { IfSome (R.remaining reader.old) (λ input. IsViewAnswer (S.RunView view.now) part.now steps input result (R.remaining reader.new) (W.contents writer.old) (W.contents writer.new)) }
+{
+    view_of(alloc, view, part, reader, steps, writer)
 }
 
 /// The image of a program.

@@ -4,11 +4,13 @@
 
 mod answers;
 mod margins;
+mod models;
 mod sessions;
 
 pub use answers::{
     called_asm, called_build, called_check, called_job, called_list, called_part_from,
-    called_read_all, called_run,
+    called_read_all, called_run, called_view,
 };
 pub use margins::called_margin;
+pub use models::{called_blocks, called_cover};
 pub use sessions::{called_debug, called_serve};

@@ -7,7 +7,7 @@ use Rattle.vcm_num.specs.Axis.{unit}
 use Rattle.vcm_spec.specs.declared.feature.Feature.{Feature}
 use Rattle.vcm_spec.specs.declared.words.Source.{Source}
 use Rattle.vcm_spec.specs.Texts.{three_texts, letters, feature_line}
-use Rattle.vcm_report.specs.Printed.{in_a_row}
+use Rattle.vcm_report.specs.Printed.{in_a_row, point_text}
 use Rattle.std.proofs.Common.{◌≡◌, ℕ, List, [], ◌∷◌, ◌++◌, sym, ◌∙◌, ap, append_assoc}
 use Rattle.std.proofs.lemmas.List.{append-nil}
 
@@ -25,7 +25,10 @@ parts_are a b c x d y =
     sym (append_assoc a b _) ∙ sym (append_assoc (a ++ b) c _) ∙ sym (append_assoc (a ++ b ++ c) x _) ∙ sym (append_assoc (a ++ b ++ c ++ x) d y)
 
 pub line_is : (source : Source) (name : List ℕ) (f : Feature)
-    → letters source ++ (name ++ (codes ")=FEAT/POINT,CART," ++ (three_texts (λ k. thousandths (coordinate f.at k)) ++ (codes "," ++ three_texts (λ k. signed_decimal (unit f.toward k))))))
+    → letters source ++ (name ++ (codes ")=FEAT/POINT,CART," ++ (point_text (codes ",") f.at ++ (codes "," ++ three_texts (λ k. signed_decimal (unit f.toward k))))))
     ≡ feature_line source name f
 line_is source name f =
-    parts_are (letters source) name (codes ")=FEAT/POINT,CART,") (three_texts (λ k. thousandths (coordinate f.at k))) (codes ",") (three_texts (λ k. signed_decimal (unit f.toward k)))
+    let behind = three_texts (λ k. signed_decimal (unit f.toward k)) in
+    ap (λ l. letters source ++ (name ++ (codes ")=FEAT/POINT,CART," ++ (l ++ (codes "," ++ behind)))))
+    (row_is (thousandths (coordinate f.at 0)) (thousandths (coordinate f.at 1)) (thousandths (coordinate f.at 2)))
+    ∙ parts_are (letters source) name (codes ")=FEAT/POINT,CART,") (three_texts (λ k. thousandths (coordinate f.at k))) (codes ",") behind

@@ -1,6 +1,9 @@
 -- Printed texts of stops and features.
 use Rattle.std.specs.Prelude.{ℕ, Bool, true, false, if◌then◌else◌, List, [], ◌∷◌, ◌++◌, flat_map}
 use Rattle.std.specs.Prelude.{unwrap_or, slice_get, Option, Some, None, decimal, codes}
+use Rattle.vcm_num.specs.declared.point.Point.{Point}
+use Rattle.vcm_num.specs.Point.{coordinate}
+use Rattle.vcm_num.specs.Texts.{thousandths}
 use Rattle.vcm_spec.specs.declared.feature.Feature.{Feature}
 use Rattle.vcm_spec.specs.declared.stop.Missing.{Missing}
 use Rattle.vcm_spec.specs.declared.stop.Missing.TheVariants as missing
@@ -17,6 +20,23 @@ use Rattle.vcm_spec.specs.Texts.{letters, feature_line}
 -- texts one after another
 abbrev pub in_a_row : List (List ℕ) → List ℕ
 in_a_row texts = flat_map (λ t. t) texts
+
+-- a point in millimetres, with this text between its coordinates
+abbrev pub point_text : List ℕ → Point → List ℕ
+point_text between at =
+    in_a_row (thousandths (coordinate at 0) ∷ between ∷ thousandths (coordinate at 1) ∷ between ∷ thousandths (coordinate at 2) ∷ [])
+
+-- where the probe is
+abbrev pub position_line : Point → List ℕ
+position_line at = codes "position " ++ (point_text (codes " ") at ++ codes "\n")
+
+-- how many steps were done
+abbrev pub steps_line : ℕ → List ℕ
+steps_line done = in_a_row (codes "steps " ∷ decimal done ∷ codes "\n" ∷ [])
+
+-- that there was no stop in so many steps
+abbrev pub no_stop_line : ℕ → List ℕ
+no_stop_line done = in_a_row (codes "no stop after " ∷ decimal done ∷ codes " steps\n" ∷ [])
 
 -- the word of a part of a motion
 abbrev pub phase_text : MovePhase → List ℕ
@@ -63,6 +83,11 @@ place_text p =
 -- the line of a stop
 abbrev pub stopped_line : Tables → StopPlace → List ℕ
 stopped_line tables p = stop_text tables p.stop ++ place_text p
+
+-- how a run ended: its stop, or after how many steps there was none
+abbrev pub end_line : Tables → Option StopPlace → ℕ → List ℕ
+end_line tables (Some p) done = stopped_line tables p
+end_line tables None done = no_stop_line done
 
 -- the feature of this index: as OUTPUT prints it, or that it has none
 abbrev pub feature_words : Tables → Source → ℕ → Option Feature → List ℕ

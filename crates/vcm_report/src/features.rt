@@ -3,16 +3,15 @@
 ghost use Rattle.std.specs.Prelude.{◌≡◌, [], ◌∷◌, codes};
 ghost use Rattle.std.specs.Fmt.{signed_decimal};
 ghost use Rattle.vcm_num.specs.Axis.{unit};
-ghost use Rattle.vcm_num.specs.Point.{coordinate};
-ghost use Rattle.vcm_num.specs.Texts.{thousandths};
 ghost use Rattle.vcm_num.specs.Written.{Wrote};
 ghost use Rattle.vcm_report.specs.Printed.{in_a_row, feature_words, feature_text};
 ghost use Rattle.vcm_spec.specs.Texts.{three_texts, feature_line};
 
 use crate::names::name_at;
+use crate::places::write_point;
 use std::io::Write;
 use vcm_items::Tables;
-use vcm_num::{Axis, Point, Text, WriteFault, int_text, thousandths_text, write_all, write_pieces};
+use vcm_num::{Axis, Text, WriteFault, int_text, write_all, write_pieces};
 use vcm_spec::{Feature, Source};
 
 // A coordinate of a direction's unit vector as text.
@@ -29,19 +28,6 @@ fn write_three<W: Write>(x: &Text, y: &Text, z: &Text, writer: &mut W) -> Result
     write_pieces(
         writer,
         &[x.as_slice(), b",", y.as_slice(), b",", z.as_slice()],
-    )
-}
-
-// Writes a point in millimetres.
-fn write_point<W: Write>(at: Point, writer: &mut W) -> Result<(), WriteFault>
-    ensures { Wrote (W.contents writer.old) (W.contents writer.new) (three_texts (λ k. thousandths (coordinate at k))) result }
-{
-    let Point([x, y, z]) = at;
-    write_three(
-        &thousandths_text(x),
-        &thousandths_text(y),
-        &thousandths_text(z),
-        writer,
     )
 }
 
@@ -69,7 +55,7 @@ fn write_feature_line<W: Write>(
     write_all(writer, source.letters())?;
     write_all(writer, name)?;
     write_all(writer, b")=FEAT/POINT,CART,")?;
-    write_point(feature.at, writer)?;
+    write_point(feature.at, b",", writer)?;
     write_all(writer, b",")?;
     write_direction(feature.toward, writer)
 }

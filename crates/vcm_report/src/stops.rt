@@ -2,7 +2,7 @@
 
 ghost use Rattle.std.specs.Prelude.{◌≡◌};
 ghost use Rattle.vcm_num.specs.Written.{Wrote};
-ghost use Rattle.vcm_report.specs.Printed.{missing_text, phase_text, stop_text, has_place, place_text, stopped_line};
+ghost use Rattle.vcm_report.specs.Printed.{missing_text, phase_text, stop_text, has_place, place_text, stopped_line, no_stop_line, end_line};
 
 use crate::names::name_at;
 use itoa::Buffer;
@@ -11,8 +11,8 @@ use vcm_items::Tables;
 use vcm_num::{WriteFault, write_pieces};
 use vcm_spec::{Missing, MovePhase, Stop, StopPlace};
 
-// The word of a part of a motion.
-fn phase_text(phase: MovePhase) -> &'static [u8]
+/// The word of a part of a motion.
+pub fn phase_text(phase: MovePhase) -> &'static [u8]
     ensures { result.now ≡ phase_text phase }
 {
     match phase {
@@ -114,4 +114,32 @@ pub fn write_stop_line<W: Write>(
 {
     write_stop(tables, place.stop, writer)?;
     write_place(place, writer)
+}
+
+/// Writes the line that tells after how many steps there was no stop.
+///
+/// Errors: the writer failed, or took no byte; then it has taken a front of the line, and not all of it.
+pub fn write_no_stop<W: Write>(done: u64, writer: &mut W) -> Result<(), WriteFault>
+    ensures { Wrote (W.contents writer.old) (W.contents writer.new) (no_stop_line done) result }
+{
+    let mut steps = Buffer::new();
+    let steps = steps.format(done).as_bytes();
+    write_pieces(writer, &[b"no stop after ", steps, b" steps\n"])
+}
+
+/// Writes how a run ended: the line of its stop, or after how many steps there was none.
+///
+/// Errors: the writer failed, or took no byte; then it has taken a front of the line, and not all of it.
+pub fn write_end_line<W: Write>(
+    tables: &Tables,
+    stop: Option<StopPlace>,
+    done: u64,
+    writer: &mut W,
+) -> Result<(), WriteFault>
+    ensures { Wrote (W.contents writer.old) (W.contents writer.new) (end_line tables.now stop done) result }
+{
+    match stop {
+        Some(place) => write_stop_line(tables, place, writer),
+        None => write_no_stop(done, writer),
+    }
 }

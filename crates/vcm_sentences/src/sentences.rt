@@ -11,7 +11,7 @@ use crate::cleaning::Cleaner;
 use std::alloc::Global;
 use std::mem::replace;
 use vcm_lines::{FaultCode, Logical, LogicalLines, SourceFault, logical_lines};
-use vcm_num::{NoMemory, line_feed};
+use vcm_num::{NoMemory, whole_line};
 use vcm_syntax::parse_statement;
 
 /// A statement of a text. Its fault is what the readers of lines and of statements say of its lines, no more and no less.
@@ -46,14 +46,6 @@ pub enum Owner {
 pub struct Sentences {
     pub items: Vec<Sentence>,
     pub owners: Vec<Owner>,
-}
-
-// The first line with its line feed, and what stands behind it.
-fn split_line(text: &[u8]) -> (&[u8], &[u8]) {
-    match line_feed(text) {
-        None => (text, &[]),
-        Some(end) => (&text[..end + 1], &text[end + 1..]),
-    }
 }
 
 // The front of a text, up to where the rest begins.
@@ -264,7 +256,7 @@ pub fn sentences_of(alloc: Global, text: &[u8]) -> Result<Sentences, NoMemory> {
         if rest.is_empty() {
             break;
         }
-        let (line, after) = split_line(rest);
+        let (line, after) = whole_line(rest);
         number = number.saturating_add(1);
         gathering.line(rest, line, after, number)?;
         rest = after;

@@ -5,4 +5,5 @@ pub mod Numbers
 pub mod Sight
 pub mod Legend
 pub mod Views
+pub mod Filed
 pub mod Laws

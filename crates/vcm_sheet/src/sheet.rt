@@ -1,5 +1,7 @@
 //! The whole sheet.
 
+ghost use Rattle.vcm_sheet.specs.Filed.{IsFiled};
+
 use crate::frames::{AxisTicks, has_origin, put_axes, put_ticks, put_words, ticks_in};
 use crate::heading::{Told, put_heading};
 use crate::legend::{NONE, Used, used_in};
@@ -414,7 +416,9 @@ pub fn write_sheet<W: Write>(
     alloc: Global,
     sheet: &Sheet<'_>,
     writer: &mut W,
-) -> Result<(), PictureFault> {
+) -> Result<(), PictureFault>
+    ensures { IsFiled (W.contents writer.old) (W.contents writer.new) result }
+{
     let Ok(bytes) = sheet_bytes(alloc, sheet) else {
         return Err(PictureFault::NoMemory);
     };

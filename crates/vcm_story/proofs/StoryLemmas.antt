@@ -12,7 +12,7 @@ use Rattle.vcm_spec.specs.Setup.{Tables, setup_of}
 use Rattle.vcm_spec.specs.World.{World}
 use Rattle.vcm_code.specs.declared.code.Code.{Code}
 use Rattle.vcm_code.specs.Code.{CodeStatement}
-use Rattle.vcm_code.specs.CodeTable.{code_steps}
+use Rattle.vcm_code.specs.CodeTable.{CodeState, code_steps}
 use Rattle.vcm_machine.specs.declared.ran.End.TheVariants as ends
 use Rattle.vcm_machine.specs.declared.ran.Ran.{Ran}
 use Rattle.vcm_machine.specs.Running.{Running, started, RunEnded, HasRun}
@@ -24,10 +24,17 @@ use Rattle.vcm_way.specs.Ways.{reason}
 use Rattle.vcm_way.proofs.Stepped.{marks_are}
 use Rattle.vcm_steps.specs.Passages.{Passage, passage, state_after, steps_taken, passages, IsBroken}
 use Rattle.vcm_steps.proofs.PassageLemmas.{rest_of, taken_most, state_stopped, passages_stopped}
+use Rattle.vcm_trace.specs.Lines.{open_line}
 use Rattle.vcm_trace.specs.Traces.{open_at, last_line}
 use Rattle.vcm_story.specs.Steps.{step_rows}
 use Rattle.vcm_story.specs.Stories.{rows_from, passage_rows, TookFront, IsStory}
 use Rattle.vcm_story.specs.inner.Going.{HasRows, HasBegun}
+
+-- the line of a state before a statement is that of the statement's line
+pub open_is : (count : ℕ) (m : CodeState) (ss : List CodeStatement) (s : CodeStatement) (next line : ℕ) → next ≡ m.next → slice_get ss next ≡ Some s → line ≡ s.line
+    → open_line count next line m.world ≡ open_at count m (slice_get ss m.next)
+open_is count m ss s next line n stands l =
+    ap (λ k. open_line count next k m.world) l ∙ ap (λ k. open_line count k s.line m.world) n ∙ ap (open_at count m) (sym (subst (λ k. slice_get ss k ≡ Some s) n stands))
 
 -- ---- fronts
 

@@ -50,7 +50,7 @@ use Rattle.vcm_marks.specs.declared.mark.Mark.TheVariants as marks
 use Rattle.vcm_marks.specs.declared.mark.Leg.{Leg}
 use Rattle.vcm_words.specs.Operands.{axis_text, setting_text, word_text}
 use Rattle.vcm_words.specs.Rows.{kind_text}
-use Rattle.vcm_report.specs.Printed.{in_a_row, name_at, phase_text, missing_text, stop_text, has_place, place_text, stopped_line}
+use Rattle.vcm_report.specs.Printed.{in_a_row, name_at, phase_text, missing_text, stop_text, has_place, place_text, stopped_line, point_text}
 use Rattle.vcm_steps.specs.Passages.{Passage, passage_at, passage_from, passages, setup_with, state_after, steps_taken}
 use Rattle.vcm_trace.specs.declared.told.Told.{Told}
 use Rattle.vcm_trace.specs.declared.told.Told.TheVariants as told
@@ -237,36 +237,16 @@ module _ (tables : Tables) (variables : AreNamed tables.variables) (features : A
   told_line : (count number at_line : ℕ) (own : List ℕ) (at : Point) (rest : List ℕ) → Inner own → LineEnd rest
       → Goes None (line_front count number at_line own at ++ rest) (line_front count number at_line own at ++ rest) None
   told_line count number at_line own at rest h e =
-      two (texts.number_first count (in_row (codes "," ∷ decimal number ∷ codes "," ∷ decimal at_line ∷ codes "," ∷ own ∷ codes "," ∷ thousandths
-      (coordinate at 0) ∷ codes "," ∷ thousandths (coordinate at 1) ∷ codes "," ∷ thousandths (coordinate at 2) ∷ codes "," ∷ []) (
-        inner refl,
-        (
-          texts.number number,
-          (
-            inner refl,
-            (
-              texts.number at_line,
-              (
-                inner refl,
-                (
-                  h,
-                  (
-                    inner refl,
-                    (
-                      texts.length (coordinate at 0),
-                      (
-                        inner refl,
-                        (texts.length (coordinate at 1), (inner refl, (texts.length (coordinate at 2), (inner refl, tt)))),
-                      ),
-                    ),
-                  ),
-                ),
-              ),
-            ),
-          ),
-        ),
-      ))
-      ) (e.goes true)
+      let numbers = in_a_row (codes "," ∷ decimal number ∷ codes "," ∷ decimal at_line ∷ codes "," ∷ own ∷ codes "," ∷ []) in
+      let place = point_text (codes ",") at ++ codes "," in
+      let first : Inner numbers =
+      in_row (codes "," ∷ decimal number ∷ codes "," ∷ decimal at_line ∷ codes "," ∷ own ∷ codes "," ∷ [])
+      (inner refl, (texts.number number, (inner refl, (texts.number at_line, (inner refl, (h, (inner refl, tt))))))) in
+      let after : Inner place =
+      join (point_text (codes ",") at) (codes ",")
+      (in_row (thousandths (coordinate at 0) ∷ codes "," ∷ thousandths (coordinate at 1) ∷ codes "," ∷ thousandths (coordinate at 2) ∷ [])
+      (texts.length (coordinate at 0), (inner refl, (texts.length (coordinate at 1), (inner refl, (texts.length (coordinate at 2), tt)))))) (inner refl) in
+      two (subst (λ l. Goes None l l (Some true)) (sym (append_assoc (decimal count) numbers place)) (texts.number_first count (join numbers place first after))) (e.goes true)
 
   traced : (p : Passage) → Goes None (trace_line tables p) (trace_line tables p) None
   traced p =

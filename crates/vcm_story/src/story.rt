@@ -92,10 +92,7 @@ fn write_rest<P: Part, W: Write>(
 {
     let next = machine.next();
     let line = loaded.line(next as usize);
-    match write_open(done, next, line, machine.world(), writer) {
-        Ok(()) => Ok(()),
-        Err(fault) => Err(fault),
-    }
+    write_open(done, next, line, machine.world(), writer)
 }
 
 // Writes what stands before the steps.

@@ -2,7 +2,8 @@
 use Rattle.std.specs.Prelude.{◌≡◌, refl, ℕ, List, [], ◌∷◌, ◌++◌, codes, true}
 use Rattle.vcm_adapt.specs.declared.edit.Edit.{Edit}
 use Rattle.vcm_adapt.specs.declared.edit.Edit.TheVariants.{Keep, LeaveOut, Put}
-use Rattle.vcm_adapt.specs.Marks.{whole_lines, begins_mark, behind_mark, restored}
+use Rattle.vcm_num.specs.Lines.{whole_lines}
+use Rattle.vcm_adapt.specs.Marks.{begins_mark, behind_mark, restored}
 use Rattle.vcm_adapt.specs.Adapted.{adapted}
 use Rattle.vcm_sentences.specs.declared.sentences.Owner.{Owner}
 use Rattle.vcm_sentences.specs.declared.sentences.Owner.TheVariants.{Nobody, First, Other}

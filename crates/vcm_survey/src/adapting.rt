@@ -2,7 +2,8 @@
 
 ghost use Rattle.std.specs.Prelude.{◌≡◌, ◌∷◌, IfOk, List, Bool, length, true, false};
 ghost use Rattle.std.specs.Vec.Iter.{into_iter_items};
-ghost use Rattle.vcm_adapt.specs.Marks.{whole_lines, restored};
+ghost use Rattle.vcm_num.specs.Lines.{whole_lines};
+ghost use Rattle.vcm_adapt.specs.Marks.{restored};
 ghost use Rattle.vcm_adapt.specs.Laws.{AreUnmarked};
 ghost use Rattle.vcm_sentences.specs.declared.sentences.Owner.{Owner};
 ghost use Rattle.vcm_survey.specs.Edits.{keeps, further, line_edits, row_edits, adapted_by};

@@ -3,17 +3,9 @@
 use crate::groups::reason_words;
 use crate::words::class_words;
 use std::alloc::Global;
-use vcm_num::{NoMemory, line_feed, write_int};
+use vcm_num::{NoMemory, whole_line, write_int};
 use vcm_rules::{Class, Row};
 use vcm_sentences::trimmed;
-
-// The first line with its line feed, and what stands behind it.
-fn split_line(text: &[u8]) -> (&[u8], &[u8]) {
-    match line_feed(text) {
-        None => (text, &[]),
-        Some(end) => (&text[..end + 1], &text[end + 1..]),
-    }
-}
 
 /// The lines of a text, each with its line feed.
 pub(crate) fn whole_lines(alloc: Global, text: &[u8]) -> Result<Vec<&[u8]>, NoMemory> {
@@ -23,7 +15,7 @@ pub(crate) fn whole_lines(alloc: Global, text: &[u8]) -> Result<Vec<&[u8]>, NoMe
         if rest.is_empty() {
             break;
         }
-        let (line, after) = split_line(rest);
+        let (line, after) = whole_line(rest);
         lines.push(line)?;
         rest = after;
     }

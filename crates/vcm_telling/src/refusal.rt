@@ -5,7 +5,7 @@ use std::alloc::Global;
 use std::fmt::Write as _;
 use toml::{Table, Value};
 use vcm_keys::{block_lines, line_of, open_line, places_of};
-use vcm_num::{NoMemory, Point, WIDEST_TIP, line_feed};
+use vcm_num::{NoMemory, Point, WIDEST_TIP, cut_line};
 use vcm_part::{PartCode, PartFault, is_met};
 use vcm_spec::Block3;
 
@@ -20,22 +20,14 @@ struct FilePlace<'a> {
     block: u32,
 }
 
-// The first line without its end, and what stands behind it.
-fn split_line(text: &[u8]) -> (&[u8], &[u8]) {
-    match line_feed(text) {
-        None => (text, &[]),
-        Some(end) => (&text[..end], &text[end + 1..]),
-    }
-}
-
 // A line of a text, without its end.
 fn line_at(text: &[u8], number: usize) -> &[u8] {
     let mut rest = text;
     for _ in 1..number {
-        let (_, behind) = split_line(rest);
+        let (_, behind) = cut_line(rest);
         rest = behind;
     }
-    let (line, _) = split_line(rest);
+    let (line, _) = cut_line(rest);
     line
 }
 

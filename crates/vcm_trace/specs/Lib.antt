@@ -1,4 +1,6 @@
 pub mod Lines
+pub mod Rows
 pub mod Traces
+pub mod Points
 pub mod Samples
 pub mod inner

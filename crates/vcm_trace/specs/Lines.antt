@@ -1,7 +1,6 @@
 -- The lines of a trace: fields with commas between them.
 use Rattle.std.specs.Prelude.{ℕ, pos, List, [], ◌∷◌, ◌++◌, length, slice_get, unwrap_or, Option, Some, None, decimal, codes}
 use Rattle.vcm_num.specs.declared.point.Point.{Point}
-use Rattle.vcm_num.specs.Point.{coordinate}
 use Rattle.vcm_num.specs.Texts.{thousandths}
 use Rattle.vcm_spec.specs.declared.feature.Feature.{Feature}
 use Rattle.vcm_spec.specs.declared.stop.StopPlace.{StopPlace}
@@ -18,7 +17,7 @@ use Rattle.vcm_code.specs.declared.op.Op.TheVariants.{EndFil}
 use Rattle.vcm_code.specs.Code.{Op, CodeStatement}
 use Rattle.vcm_code.specs.Words.{word_of}
 use Rattle.vcm_words.specs.Operands.{word_text, setting_text}
-use Rattle.vcm_report.specs.Printed.{in_a_row, name_at, stopped_line}
+use Rattle.vcm_report.specs.Printed.{in_a_row, point_text, no_stop_line, name_at, stopped_line}
 use Rattle.vcm_console.specs.Replies.{variable_name, value_text}
 use Rattle.vcm_trace.specs.declared.told.Told.{Told}
 use Rattle.vcm_trace.specs.declared.told.Told.TheVariants as told
@@ -27,13 +26,14 @@ use Rattle.vcm_trace.specs.declared.told.Told.TheVariants as told
 abbrev pub heading : List ℕ
 heading = codes "step,statement,line,word,x,y,z,done\n"
 
--- a line but for its last field: how many steps were taken, the statement's number, its source line, its word, and the position in
--- millimetres with three decimals
+-- how many steps were taken, the statement's number, its source line and its word
+abbrev pub line_numbers : (count number line : ℕ) → List ℕ → List ℕ
+line_numbers count number line word =
+    in_a_row (decimal count ∷ codes "," ∷ decimal number ∷ codes "," ∷ decimal line ∷ codes "," ∷ word ∷ codes "," ∷ [])
+
+-- a line but for its last field: these, and the position in millimetres with three decimals
 abbrev pub line_front : (count number line : ℕ) → List ℕ → Point → List ℕ
-line_front count number line word at =
-    in_a_row (decimal count ∷ codes "," ∷ decimal number ∷ codes "," ∷ decimal line ∷ codes "," ∷ word ∷ codes ","
-    ∷ thousandths (coordinate at 0) ∷ codes "," ∷ thousandths (coordinate at 1) ∷ codes "," ∷ thousandths (coordinate at 2) ∷ codes ","
-    ∷ [])
+line_front count number line word at = line_numbers count number line word ++ (point_text (codes ",") at ++ codes ",")
 
 -- ---- what is told of a statement that did not stop
 
@@ -86,9 +86,7 @@ bracketed front name = in_a_row (front ∷ name ∷ codes ")" ∷ [])
 
 -- a point in millimetres, with a blank in front of each coordinate
 abbrev pub point_shown : Point → List ℕ
-point_shown at =
-    in_a_row (codes " " ∷ thousandths (coordinate at 0) ∷ codes " " ∷ thousandths (coordinate at 1) ∷ codes " "
-    ∷ thousandths (coordinate at 2) ∷ [])
+point_shown at = codes " " ++ point_text (codes " ") at
 
 -- where a feature was touched, if it was
 abbrev pub touched_at : Option Feature → List ℕ
@@ -144,11 +142,7 @@ abbrev pub step_line : Tables → (count number : ℕ) → CodeStatement → Wor
 step_line tables count number s w next =
     line_front count number s.line (word_text (word_of s.op)) w.position ++ step_end tables w next s.op w.stop
 
--- the last field of the line of a run that has not stopped, and its end
-abbrev pub open_end : ℕ → List ℕ
-open_end count = in_a_row (codes "no stop after " ∷ decimal count ∷ codes " steps\n" ∷ [])
-
 -- the line of a run that has not stopped: how many steps were taken, the next statement's number and its source line, no word, and where
 -- the probe is
 abbrev pub open_line : (count next line : ℕ) → World → List ℕ
-open_line count next line w = line_front count next line [] w.position ++ open_end count
+open_line count next line w = line_front count next line [] w.position ++ no_stop_line count

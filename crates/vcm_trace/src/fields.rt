@@ -3,7 +3,7 @@
 ghost use Rattle.std.specs.Prelude.{◌≡◌, unwrap_or, slice_get, pos};
 ghost use Rattle.vcm_num.specs.Written.{Wrote};
 ghost use Rattle.vcm_spec.specs.Effect.{at_index};
-ghost use Rattle.vcm_trace.specs.Lines.{line_front, next_text, value_shown, index_shown, bracketed, point_shown, touched_at, measured, setting_length, length_shown, count_shown, told_text};
+ghost use Rattle.vcm_trace.specs.Lines.{line_numbers, line_front, next_text, value_shown, index_shown, bracketed, point_shown, touched_at, measured, setting_length, length_shown, count_shown, told_text};
 
 use crate::told::Told;
 use itoa::Buffer;
@@ -12,11 +12,39 @@ use vcm_console::{write_variable, write_variable_value};
 use vcm_num::{Point, WriteFault, thousandths_text, write_all, write_pieces};
 use vcm_print::setting;
 use vcm_probe::Settings;
-use vcm_report::name_at;
+use vcm_report::{name_at, write_point};
 use vcm_spec::{Feature, Setting, Source};
 use vcm_state::World;
 
-/// Writes the fields of a line but for the last one, each with a comma behind it: the count of steps, the statement's number, its source
+// Writes how many steps were taken, the statement's number, its source line and its word.
+fn write_numbers<W: Write>(
+    count: u64,
+    number: u32,
+    line: u32,
+    word: &[u8],
+    writer: &mut W,
+) -> Result<(), WriteFault>
+    ensures { Wrote (W.contents writer.old) (W.contents writer.new) (line_numbers count number line word.now) result }
+{
+    let mut count_digits = Buffer::new();
+    let mut number_digits = Buffer::new();
+    let mut line_digits = Buffer::new();
+    write_pieces(
+        writer,
+        &[
+            count_digits.format(count).as_bytes(),
+            b",",
+            number_digits.format(number).as_bytes(),
+            b",",
+            line_digits.format(line).as_bytes(),
+            b",",
+            word,
+            b",",
+        ],
+    )
+}
+
+/// Writes the fields of a line but for the last one, each with a comma after it: the count of steps, the statement's number, its source
 /// line and its word, and the position in millimetres.
 ///
 /// Errors: the writer failed, or took no byte; then it has taken a front of the fields, and not all of them.
@@ -30,29 +58,9 @@ pub(crate) fn write_front<W: Write>(
 ) -> Result<(), WriteFault>
     ensures { Wrote (W.contents writer.old) (W.contents writer.new) (line_front count number line word.now at) result }
 {
-    let mut count_digits = Buffer::new();
-    let mut number_digits = Buffer::new();
-    let mut line_digits = Buffer::new();
-    let Point([x, y, z]) = at;
-    write_pieces(
-        writer,
-        &[
-            count_digits.format(count).as_bytes(),
-            b",",
-            number_digits.format(number).as_bytes(),
-            b",",
-            line_digits.format(line).as_bytes(),
-            b",",
-            word,
-            b",",
-            thousandths_text(x).as_slice(),
-            b",",
-            thousandths_text(y).as_slice(),
-            b",",
-            thousandths_text(z).as_slice(),
-            b",",
-        ],
-    )
+    write_numbers(count, number, line, word, writer)?;
+    write_point(at, b",", writer)?;
+    write_all(writer, b",")
 }
 
 // Writes the next statement.
@@ -104,24 +112,6 @@ fn write_bracketed<W: Write>(letters: &[u8], name: &[u8], writer: &mut W) -> Res
     write_pieces(writer, &[letters, name, b")"])
 }
 
-// Writes a point in millimetres, with a blank in front of each coordinate.
-fn write_point<W: Write>(at: Point, writer: &mut W) -> Result<(), WriteFault>
-    ensures { Wrote (W.contents writer.old) (W.contents writer.new) (point_shown at) result }
-{
-    let Point([x, y, z]) = at;
-    write_pieces(
-        writer,
-        &[
-            b" ",
-            thousandths_text(x).as_slice(),
-            b" ",
-            thousandths_text(y).as_slice(),
-            b" ",
-            thousandths_text(z).as_slice(),
-        ],
-    )
-}
-
 // The feature that stands at an index, if there is one.
 fn feature_at(features: &[Option<Feature>], index: u16) -> Option<Feature>
     ensures { result ≡ at_index features.now index }
@@ -137,7 +127,10 @@ fn write_touched<W: Write>(feature: Option<Feature>, writer: &mut W) -> Result<(
     ensures { Wrote (W.contents writer.old) (W.contents writer.new) (touched_at feature) result }
 {
     match feature {
-        Some(feature) => write_point(feature.at, writer),
+        Some(feature) => {
+            write_all(writer, b" ")?;
+            write_point(feature.at, b" ", writer)
+        }
         None => Ok(()),
     }
 }

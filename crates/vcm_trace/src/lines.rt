@@ -2,16 +2,15 @@
 
 ghost use Rattle.std.specs.Prelude.{◌≡◌, ◌<◌, ◌++◌, codes, length, slice_get};
 ghost use Rattle.vcm_num.specs.Written.{Wrote};
-ghost use Rattle.vcm_trace.specs.Lines.{done_end, step_end, step_line, open_end, open_line};
+ghost use Rattle.vcm_trace.specs.Lines.{done_end, step_end, step_line, open_line};
 
 use crate::fields::{write_front, write_told};
 use crate::told::told_of;
-use itoa::Buffer;
 use std::io::Write;
 use vcm_fields::{BorrowedOp, BorrowedStatement};
-use vcm_num::{WriteFault, write_all, write_pieces};
+use vcm_num::{WriteFault, write_all};
 use vcm_print::word;
-use vcm_report::write_stop_line;
+use vcm_report::{write_no_stop, write_stop_line};
 use vcm_state::World;
 
 // Writes what is told of a statement, and ends the line.
@@ -67,21 +66,6 @@ pub fn write_step<W: Write>(
     write_step_end(world, next, &statement.op, writer)
 }
 
-// Writes that a run has not stopped, and ends the line.
-fn write_open_end<W: Write>(count: u64, writer: &mut W) -> Result<(), WriteFault>
-    ensures { Wrote (W.contents writer.old) (W.contents writer.new) (open_end count) result }
-{
-    let mut digits = Buffer::new();
-    write_pieces(
-        writer,
-        &[
-            b"no stop after ",
-            digits.format(count).as_bytes(),
-            b" steps\n",
-        ],
-    )
-}
-
 /// Writes the line of a run that has not stopped: how many steps were taken, the next statement's number, and its source line.
 ///
 /// Errors: the writer failed, or took no byte; then it has taken a front of the line, and not all of it.
@@ -95,5 +79,5 @@ pub fn write_open<W: Write>(
     ensures { Wrote (W.contents writer.old) (W.contents writer.new) (open_line count next line world.now.state) result }
 {
     write_front(count, next, line, b"", world.position(), writer)?;
-    write_open_end(count, writer)
+    write_no_stop(count, writer)
 }

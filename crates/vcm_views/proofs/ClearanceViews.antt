@@ -1,33 +1,35 @@
 -- Clearances as views.
 use Rattle.std.specs.Prelude.{ℕ, true, List, Option}
-use Rattle.std.specs.Borrow.{Bor}
 use Rattle.std.specs.List.{list_any, list_all}
 use Rattle.std.proofs.Common.{◌≡◌, suc, [], ◌∷◌, slice_get, Some, refl, sym, ap, ◌∙◌, subst, arith}
 use Rattle.vcm_spec.specs.declared.workpiece.Block3.{Block3}
 use Rattle.vcm_spec.specs.Workpiece.{Workpiece, IsValid, is_block}
+use Rattle.vcm_program.specs.declared.accepted.Noticed.{Noticed}
 use Rattle.vcm_code.specs.declared.code.Code.{Code}
-use Rattle.vcm_job.specs.declared.fault.Fault.TheVariants as faults
+use Rattle.vcm_job.specs.Views.{IsViewed, IsCutShort}
+use Rattle.vcm_steps.specs.declared.fault.Unfinished.{Unfinished}
+use Rattle.vcm_steps.specs.declared.fault.Unfinished.TheVariants as faults
 use Rattle.vcm_steps.specs.Passages.{state_after}
 use Rattle.vcm_boxes.specs.declared.boxes.ProbeBox.{ProbeBox}
 use Rattle.vcm_boxes.specs.Boxes.{AreBoxes}
 use Rattle.vcm_carried.specs.Carried.{IsBox}
-use Rattle.vcm_gone.specs.Gone.{PlacedWay, ways_of}
+use Rattle.vcm_way.specs.Gone.{PlacedWay, ways_of}
 use Rattle.vcm_clearance.specs.declared.clearing.Cleared.{Cleared}
 use Rattle.vcm_clearance.specs.declared.room.Room.{Room}
 use Rattle.vcm_clearance.specs.Rooms.{AreRooms, is_met_room}
-use Rattle.vcm_clearance.specs.Clearance.{clearance_text, IsClearance, IsHalted, IsCutOff}
+use Rattle.vcm_clearance.specs.Clearance.{clearance_text, IsClearance, IsNotCleared}
 use Rattle.vcm_clearance.proofs.Single.{rooms_one}
 use Rattle.vcm_clearance.proofs.Sizes.{box_at}
-use Rattle.vcm_views.specs.declared.view.RunView.TheVariants as views
-use Rattle.vcm_views.specs.Views.{clearance_status, IsViewed, IsCutShort, IsClearanceOf}
+use Rattle.vcm_views.specs.Views.{clearance_status, clearance_view, IsClearanceOf}
+use Rattle.vcm_views.specs.inner.Cuts.{cut_short}
 
-module _ (w part : Workpiece) (same : w ≡ part) (boxes : Bor (List ProbeBox)) (c : Code) (n : ℕ) (old new : Option (List ℕ)) where
-  pub clearance_viewed : (status : ℕ) (told : Cleared) → IsClearance w boxes.now c n told old new → status ≡ clearance_status told.is_met told.stop
-      → IsViewed (views.Clearance boxes) part c n status old new
+module _ (boxes : List ProbeBox) (program : Option (List ℕ)) (notices : List Noticed) (w part : Workpiece) (same : w ≡ part) (c : Code) (n : ℕ) (old new : Option (List ℕ)) where
+  pub clearance_viewed : (status : ℕ) (told : Cleared) → IsClearance w boxes c n told old new → status ≡ clearance_status told.is_met told.stop
+      → IsViewed (clearance_view boxes) program notices part c n status old new
   clearance_viewed status told t s =
-      subst (λ p. IsViewed (views.Clearance boxes) p c n status old new) same
+      subst (λ p. IsViewed (clearance_view boxes) program notices p c n status old new) same
       (record {
-        text = clearance_text w boxes.now c n t.rooms;
+        text = clearance_text w boxes c n t.rooms;
         tells = record {
           rooms = t.rooms;
           are_rooms = t.are_rooms;
@@ -37,18 +39,18 @@ module _ (w part : Workpiece) (same : w ≡ part) (boxes : Bor (List ProbeBox)) 
         written = t.written;
       })
 
-  pub clearance_halted : (done : ℕ) → IsHalted w boxes.now c n done old new → IsCutShort (views.Clearance boxes) part c n (faults.Memory done) old new
-  clearance_halted done t = subst (λ p. IsCutShort (views.Clearance boxes) p c n (faults.Memory done) old new) same (t.halted, t.written)
+  clearance_cut : (f : Unfinished) → IsNotCleared w boxes c n f old new → IsCutShort (clearance_view boxes) program notices w c n (cut_short f) old new
+  clearance_cut faults.NoMemory t = t
+  clearance_cut (faults.Memory done) t = (t.halted, t.written)
+  clearance_cut (faults.Write done) t = record {
+    text = clearance_text w boxes c n t.rooms;
+    status = clearance_status (list_any is_met_room t.rooms) (state_after w c n).world.stop;
+    tells = record { rooms = t.rooms; are_rooms = t.are_rooms; text_is = refl; status_is = refl };
+    front = t.front;
+  }
 
-  pub clearance_cut_off : (done : ℕ) → IsCutOff w boxes.now c n old new → IsCutShort (views.Clearance boxes) part c n (faults.Write done) old new
-  clearance_cut_off done t =
-      subst (λ p. IsCutShort (views.Clearance boxes) p c n (faults.Write done) old new) same
-      (record {
-        text = clearance_text w boxes.now c n t.rooms;
-        status = clearance_status (list_any is_met_room t.rooms) (state_after w c n).world.stop;
-        tells = record { rooms = t.rooms; are_rooms = t.are_rooms; text_is = refl; status_is = refl };
-        front = t.front;
-      })
+  pub clearance_cut_short : (f : Unfinished) → IsNotCleared w boxes c n f old new → IsCutShort (clearance_view boxes) program notices part c n (cut_short f) old new
+  clearance_cut_short f t = subst (λ p. IsCutShort (clearance_view boxes) program notices p c n (cut_short f) old new) same (clearance_cut f t)
 
 -- ---- boxes have one list of rooms
 
@@ -68,10 +70,10 @@ module _ (blocks : List Block3) (all : list_all is_block blocks ≡ true) (ways 
       behind : (b : ProbeBox) (r : Room) (bs : List ProbeBox) (rs : List Room) → AreRooms blocks (b ∷ bs) ways (r ∷ rs) → AreRooms blocks bs ways rs
       behind b r bs rs h = record { count = (let same = h.count in omega (arith, same)); each = λ i c q at is. h.each (suc i) c q at is }
 
-pub same_clearance : (part : Workpiece) (boxes : Bor (List ProbeBox)) (c : Code) (n : ℕ) → IsValid part → AreBoxes boxes.now → (text other : List ℕ) (status more : ℕ)
-    → IsClearanceOf part boxes.now c n text status → IsClearanceOf part boxes.now c n other more → (text ≡ other) × (status ≡ more)
+pub same_clearance : (part : Workpiece) (boxes : List ProbeBox) (c : Code) (n : ℕ) → IsValid part → AreBoxes boxes → (text other : List ℕ) (status more : ℕ)
+    → IsClearanceOf part boxes c n text status → IsClearanceOf part boxes c n other more → (text ≡ other) × (status ≡ more)
 same_clearance part boxes c n valid are text other status more h k =
-    let same : h.rooms ≡ k.rooms = same_rooms part.blocks valid.each (ways_of part c n) boxes.now h.rooms k.rooms (box_at boxes.now are) h.are_rooms k.are_rooms in (
-      h.text_is ∙ ap (clearance_text part boxes.now c n) same ∙ sym k.text_is,
+    let same : h.rooms ≡ k.rooms = same_rooms part.blocks valid.each (ways_of part c n) boxes h.rooms k.rooms (box_at boxes are) h.are_rooms k.are_rooms in (
+      h.text_is ∙ ap (clearance_text part boxes c n) same ∙ sym k.text_is,
       h.status_is ∙ ap (λ rooms. clearance_status (list_any is_met_room rooms) (state_after part c n).world.stop) same ∙ sym k.status_is,
     )

@@ -1,6 +1,5 @@
 -- Two views of one input are one.
-use Rattle.std.proofs.Common.{◌≡◌, ◌≢◌, ℕ, Bool, true, false, List, Option, Some, None, refl, sym, ap, ◌∙◌, subst, arith}
-use Rattle.std.specs.Io.KnownBytes.{Appends}
+use Rattle.std.proofs.Common.{◌≡◌, ◌≢◌, ℕ, Bool, true, false, List, [], ◌∷◌, ◌++◌, Option, Some, None, refl, sym, ap, ◌∙◌, subst, arith}
 use Rattle.std.specs.Prelude.{nat_eq}
 use Rattle.std.proofs.lemmas.Bool.{eqb-true}
 use Rattle.vcm_spec.specs.declared.stop.Stop.{Stop}
@@ -9,34 +8,38 @@ use Rattle.vcm_spec.specs.declared.stop.StopPlace.{StopPlace}
 use Rattle.vcm_spec.specs.Workpiece.{Workpiece, IsValid}
 use Rattle.vcm_spec.specs.Setup.{Tables}
 use Rattle.vcm_spec.specs.World.{World}
-use Rattle.vcm_program.specs.declared.accepted.Noticed.{Noticed}
+use Rattle.vcm_lines.specs.declared.logical.Logical.{Logical}
+use Rattle.vcm_lines.specs.Statements.{lines_of, kept_lines, grouped}
+use Rattle.vcm_lines.proofs.OneReading.{one_statements}
+use Rattle.vcm_forms.specs.declared.statement.Form.{Form}
+use Rattle.vcm_forms.specs.declared.statement.Statement.{Statement}
+use Rattle.vcm_calls.specs.Chains.{chain_of}
 use Rattle.vcm_code.specs.declared.code.Code.{Code}
 use Rattle.vcm_code.specs.Valid as codes
-use Rattle.vcm_image.proofs.ImageLaws.{one_image}
 use Rattle.vcm_machine.specs.declared.ran.End.TheVariants.{NoMemory}
 use Rattle.vcm_machine.specs.declared.ran.Ran.{Ran}
 use Rattle.vcm_machine.specs.Running.{Running, started}
 use Rattle.vcm_machine.proofs.LawLemmas.{one_run}
 use Rattle.vcm_state.specs.Held.{Held}
+use Rattle.vcm_run.specs.Printed.{result_text}
 use Rattle.vcm_margin.specs.Alike.{reached}
 use Rattle.vcm_margin.specs.Laws.{NoneOrEnd, ComesThrough}
 use Rattle.vcm_margin.specs.Printed.{margin_text}
 use Rattle.vcm_margin.proofs.OneMargin.{one_margin}
 use Rattle.vcm_way.specs.Following.{way_after}
-use Rattle.vcm_run.proofs.OneRun.{one_build}
-use Rattle.vcm_job.specs.declared.running.Done.{Done}
+use Rattle.vcm_cause.specs.Behind.{Behind, behind_run}
+use Rattle.vcm_cause.specs.Watched.{seen}
+use Rattle.vcm_why.specs.Origins.{IsReadAs, AreReadAs, Traced, IsOrigin}
+use Rattle.vcm_why.specs.Reasons.{why_lines}
+use Rattle.vcm_why.specs.Telling.{IsTraced, IsReason}
+use Rattle.vcm_contacts.specs.Printed.{contacts_text}
+use Rattle.vcm_values.specs.Values.{values_text}
+use Rattle.vcm_trace.specs.Rows.{RunRows}
 use Rattle.vcm_job.specs.Jobs.{status_of}
-use Rattle.vcm_job.specs.Inputs.{is_image, IsInputRefusal}
-use Rattle.vcm_job.specs.Causes.{Cause, input_cause}
-use Rattle.vcm_job.specs.Answers.{status_and_notices}
-use Rattle.vcm_job.proofs.Answering.{written_once}
-use Rattle.vcm_job.proofs.Told.{never_text, never_bad_image, RefusedAs, InputRefused, one_input}
-use Rattle.vcm_job.proofs.RunAnswers.{input_told}
-use Rattle.vcm_views.specs.declared.view.RunView.{RunView}
-use Rattle.vcm_views.specs.declared.view.RunView.TheVariants as views
-use Rattle.vcm_views.specs.Views.{Tells, TellsMargin, HasRunTo, picture_of}
-use Rattle.vcm_views.specs.Inputs.{IsImageOf, CodeAs, IsCodeOf, IsShown}
-use Rattle.vcm_views.specs.Laws.{IsFair, ViewsAreOne}
+use Rattle.vcm_job.proofs.OneView.{one_view}
+use Rattle.vcm_views.specs.Views.{AreRows, TellsMargin, HasRunTo, picture_of, IsMarginOrResult, IsPicture, IsResultWith, IsWhyOf, AreContactsOf, contacts_status}
+use Rattle.vcm_views.specs.Views.{trace_view, points_view, margin_view, clearance_view, picture_view, why_view, contacts_view, values_view}
+use Rattle.vcm_views.specs.Laws.{ViewsAreOne}
 use Rattle.vcm_views.proofs.ClearanceViews.{same_clearance}
 
 abbrev held : Tables → World → Held
@@ -76,7 +79,7 @@ one_text part valid c ok done h true comes text other x y =
 one_text part valid c ok done h false comes text other x y = x ∙ sym y
 
 module _ (part : Workpiece) (valid : IsValid part) (c : Code) (ok : codes.IsValid c) (n : ℕ) (text other : List ℕ) (status more : ℕ) where
-  one_margin_told : Tells views.Margin part c n text status → Tells views.Margin part c n other more → (text ≡ other) × (status ≡ more)
+  one_margin_told : IsMarginOrResult part c n text status → IsMarginOrResult part c n other more → (text ≡ other) × (status ≡ more)
   one_margin_told h k =
       let same = one_run_to part c n h.held k.held h.ran k.ran h.run k.run h.ample k.ample in
       let given : status ≡ more = h.status_is ∙ ap (λ (x : Held). status_of x.state.stop) same.0 ∙ sym k.status_is in
@@ -88,64 +91,113 @@ module _ (part : Workpiece) (valid : IsValid part) (c : Code) (ok : codes.IsVali
       λ e. came_through part c n h.held h.ran h.run (sym h.status_is ∙ eqb-true status 0 e) in
       (one_text part valid c ok h.ran.done h.held (nat_eq status 0) comes text other h.told told, given)
 
-one_told : (view : RunView) (part : Workpiece) (c : Code) (n : ℕ) (text other : List ℕ) (status more : ℕ) → IsFair view part → codes.IsValid c
-    → Tells view part c n text status → Tells view part c n other more → (text ≡ other) × (status ≡ more)
-one_told views.Trace part c n text other status more v ok h k = (h.text_is ∙ sym k.text_is, h.status_is ∙ sym k.status_is)
-one_told views.Points part c n text other status more v ok h k = (h.text_is ∙ sym k.text_is, h.status_is ∙ sym k.status_is)
-one_told views.Margin part c n text other status more v ok h k = one_margin_told part v c ok n text other status more h k
-one_told (views.Clearance boxes) part c n text other status more v ok h k = same_clearance part boxes c n v.0 v.1 text other status more h k
-one_told (views.Picture is_close) part c n text other status more v ok h k =
-    let same = one_run_to part c n h.held k.held h.ran k.ran h.run k.run h.ample k.ample in
-    let drawn : picture_of part h.held h.ran.done (way_after part c h.ran.done) is_close ≡ picture_of part k.held k.ran.done (way_after part c k.ran.done) is_close =
-    ap (λ x. picture_of part x h.ran.done (way_after part c h.ran.done) is_close) same.0 ∙ ap (λ (r : Ran). picture_of part k.held r.done (way_after part c r.done) is_close) same.1 in
-    (h.text_is ∙ drawn ∙ sym k.text_is, h.status_is ∙ ap (λ (x : Held). status_of x.state.stop) same.0 ∙ sym k.status_is)
+module _ (part : Workpiece) (c : Code) (n : ℕ) (text other : List ℕ) (status more : ℕ) where
+  same_rows : (t : RunRows) → AreRows t part c n text status → AreRows t part c n other more → (text ≡ other) × (status ≡ more)
+  same_rows t h k = (h.text_is ∙ sym k.text_is, h.status_is ∙ sym k.status_is)
 
--- ---- the code of an input
+  same_picture : (is_close : Bool) → IsPicture part c n is_close text status → IsPicture part c n is_close other more → (text ≡ other) × (status ≡ more)
+  same_picture is_close h k =
+      let same = one_run_to part c n h.held k.held h.ran k.ran h.run k.run h.ample k.ample in
+      let drawn : picture_of part h.held h.ran.done (way_after part c h.ran.done) is_close ≡ picture_of part k.held k.ran.done (way_after part c k.ran.done) is_close =
+      ap (λ x. picture_of part x h.ran.done (way_after part c h.ran.done) is_close) same.0 ∙ ap (λ (r : Ran). picture_of part k.held r.done (way_after part c r.done) is_close) same.1 in
+      (h.text_is ∙ drawn ∙ sym k.text_is, h.status_is ∙ ap (λ (x : Held). status_of x.state.stop) same.0 ∙ sym k.status_is)
 
-one_code_of : (image : List ℕ) (c d : Code) → IsImageOf image c → IsImageOf image d → c ≡ d
-one_code_of image c d h k = one_image c d h.fits k.fits (sym h.spelled ∙ k.spelled)
+  same_values : (places : List ℕ) → IsResultWith places part c n text status → IsResultWith places part c n other more → (text ≡ other) × (status ≡ more)
+  same_values places h k =
+      let same = one_run_to part c n h.held k.held h.ran k.ran h.run k.run h.ample k.ample in
+      let shown : result_text h.held h.ran.done ++ values_text h.held.tables h.held.state.variables places ≡ result_text k.held k.ran.done ++ values_text k.held.tables k.held.state.variables places =
+      ap (λ (x : Held). result_text x h.ran.done ++ values_text x.tables x.state.variables places) same.0
+      ∙ ap (λ (r : Ran). result_text k.held r.done ++ values_text k.held.tables k.held.state.variables places) same.1 in
+      (h.text_is ∙ shown ∙ sym k.text_is, h.status_is ∙ ap (λ (x : Held). status_of x.state.stop) same.0 ∙ sym k.status_is)
 
-one_code_as : (image : Bool) (input : List ℕ) (c d : Code) (a b : List Noticed) → CodeAs image input c a → CodeAs image input d b → (c ≡ d) × (a ≡ b)
-one_code_as true input c d a b h k = (one_code_of input c d h.0 k.0, h.1 ∙ sym k.1)
-one_code_as false input c d a b h k =
-    let same = one_build input h.0 k.0 a b h.1.0 k.1.0 in
-    (one_code_of k.0 c d (subst (λ (l : List ℕ). IsImageOf l c) same.0 h.1.1) k.1.1, same.1)
+  same_contacts : AreContactsOf part c n text status → AreContactsOf part c n other more → (text ≡ other) × (status ≡ more)
+  same_contacts h k =
+      let contacts : h.contacts ≡ k.contacts = h.are.contacts_are ∙ sym k.are.contacts_are in
+      let stop : h.stop ≡ k.stop = h.are.stop_is ∙ sym k.are.stop_is in (
+        h.text_is ∙ ap (λ x. contacts_text c.tables x h.stop n) contacts ∙ ap (λ s. contacts_text c.tables k.contacts s n) stop ∙ sym k.text_is,
+        h.status_is ∙ ap (λ x. contacts_status x h.stop) contacts ∙ ap (contacts_status k.contacts) stop ∙ sym k.status_is,
+      )
 
-valid_code : (image : Bool) (input : List ℕ) (c : Code) (a : List Noticed) → CodeAs image input c a → codes.IsValid c
-valid_code true input c a h = h.0.valid
-valid_code false input c a h = h.1.1.valid
+-- ---- where a statement comes from
 
-never_code_as : (image : Bool) (input : List ℕ) (code : Code) (a : List Noticed) (c : Cause) → CodeAs image input code a → RefusedAs image input c → ⊥
-never_code_as true input code a c h k = never_bad_image input code c h.0.valid h.0.fits h.0.spelled k
-never_code_as false input code a c h k = never_text input h.1.0.parsed c h.1.0.accepted k
+abbrev statement : ℕ → Form → Statement
+statement line form = record { line = line; form = form }
 
--- ---- views of an input
+one_statement : (l : Logical) (s t : Statement) → IsReadAs l s → IsReadAs l t → s ≡ t
+one_statement l s t h k =
+    let form : s.form ≡ t.form = (let p = h.form in let q = k.form in cc) in
+    ap (λ x. statement x s.form) (h.line ∙ sym k.line) ∙ ap (statement t.line) form
 
-abbrev pair : ℕ → List Noticed → ℕ × List Noticed
-pair status notices = (status, notices)
+one_list : (ls : List Logical) (ss ts : List Statement) → AreReadAs ls ss → AreReadAs ls ts → ss ≡ ts
+one_list [] ss ts h k = h ∙ sym k
+one_list (l ∷ ls) [] ts h k = absurd h
+one_list (l ∷ ls) (s ∷ ss) [] h k = absurd k
+one_list (l ∷ ls) (s ∷ ss) (t ∷ ts) h k = ap (λ x. x ∷ ss) (one_statement l s t h.0 k.0) ∙ ap (λ xs. t ∷ xs) (one_list ls ss ts h.1 k.1)
 
--- what a view gives and writes
-pub record ViewGives (view : RunView) (part : Workpiece) (n : ℕ) (input : List ℕ) (b : ℕ × List Noticed) (bytes : List ℕ) : Type 0 where
-  pub code : Code
-  pub is_code : IsCodeOf input code b.1
-  pub tells : Tells view part code n bytes b.0
+abbrev traced : List ℕ → List Statement → List ℕ → Traced
+traced text statements chain = record { text = text; statements = statements; chain = chain }
 
-module _ (view : RunView) (part : Workpiece) (fair : IsFair view part) (n : ℕ) (input : List ℕ) where
-  one_given : (a b : ℕ × List Noticed) (xs ys : List ℕ) → ViewGives view part n input a xs → ViewGives view part n input b ys → (a ≡ b) × (xs ≡ ys)
-  one_given a b xs ys h k =
-      let same = one_code_as (is_image input) input h.code k.code a.1 b.1 h.is_code k.is_code in
-      let told = one_told view part k.code n xs ys a.0 b.0 fair (valid_code (is_image input) input k.code b.1 k.is_code) (subst (λ (c : Code). Tells view part c n xs a.0) same.0 h.tells) k.tells in
-      let given : pair a.0 a.1 ≡ pair b.0 b.1 = ap (λ x. pair x a.1) told.1 ∙ ap (pair b.0) same.1 in
-      (given, told.0)
+one_origin : (text : List ℕ) (number : ℕ) (t u : Traced) → IsOrigin text number t → IsOrigin text number u → t ≡ u
+one_origin text number t u h k =
+    let lines : h.lines ≡ k.lines = one_statements (grouped (kept_lines (lines_of text))) h.lines k.lines h.logical k.logical in
+    let statements : t.statements ≡ u.statements = one_list k.lines t.statements u.statements (subst (λ ls. AreReadAs ls t.statements) lines h.read) k.read in
+    let chain : t.chain ≡ u.chain = h.chain ∙ ap (λ ss. chain_of ss number) statements ∙ sym k.chain in
+    ap (λ x. traced x t.statements t.chain) (h.same ∙ sym k.same) ∙ ap (λ x. traced u.text x t.chain) statements ∙ ap (traced u.text u.statements) chain
 
-  never_given : (b : ℕ × List Noticed) (xs : List ℕ) (c : Cause) → ViewGives view part n input b xs → InputRefused input c → ⊥
-  never_given b xs c h k = never_code_as (is_image input) input h.code b.1 c h.is_code k
+one_traced : (program : Option (List ℕ)) (number : ℕ) (t u : Option Traced) → IsTraced program number t → IsTraced program number u → t ≡ u
+one_traced (Some text) number (Some t) (Some u) h k = ap Some (one_origin text number t u h k)
+one_traced (Some text) number (Some t) None h k = absurd k
+one_traced (Some text) number None u h k = absurd h
+one_traced None number (Some t) u h k = absurd h
+one_traced None number None (Some u) h k = absurd k
+one_traced None number None None h k = refl
 
-  view_gives : (d : Done) (old new : Option (List ℕ)) → IsShown view part input n d.status d.notices.items old new
-      → (bytes : List ℕ) × (ViewGives view part n input (status_and_notices d) bytes × Appends old new bytes)
-  view_gives d old new h = (h.viewed.text, (record { code = h.code; is_code = h.is_code; tells = h.viewed.tells }, h.viewed.written))
+module _ (program : Option (List ℕ)) (part : Workpiece) (c : Code) (n : ℕ) (text other : List ℕ) (stop left : Option StopPlace)
+    (h : IsReason program part c n stop (λ t. t ≡ text)) (k : IsReason program part c n left (λ t. t ≡ other)) where
+  same_run : (h.held ≡ k.held) × (h.number ≡ k.number) × (h.ran ≡ k.ran)
+  same_run =
+      let a = h.watched in
+      let b = k.watched in
+      let same = one_run n (started part c) a.new b.new h.ran k.ran a.has_run b.has_run h.ample k.ample in
+      let tables : h.held.tables ≡ k.held.tables = a.tables ∙ sym b.tables in
+      let state : h.held.state ≡ k.held.state = a.state ∙ ap (λ m. m.state.world) same.0 ∙ sym b.state in
+      let number : h.number ≡ k.number = a.next_is ∙ ap (λ m. m.state.next) same.0 ∙ sym b.next_is in
+      (ap (λ x. held x h.held.state) tables ∙ ap (held k.held.tables) state, number, same.1)
 
-pub one_view : ViewsAreOne
-one_view view part n input fair =
-    written_once status_and_notices input_cause IsInputRefusal input (ViewGives view part n input) (InputRefused input) (input_told input) (one_given view part fair n input)
-    (one_input input) (never_given view part fair n input) (λ d old new. IsShown view part input n d.status d.notices.items old new) _ _ (view_gives view part fair n input)
+  same_behind : seen h.progress ≡ seen k.progress
+  same_behind = h.watched.behind ∙ ap (λ (r : Ran). behind_run part c r.done) same_run.2 ∙ sym k.watched.behind
+
+  same_traced : h.traced ≡ k.traced
+  same_traced = one_traced program k.number h.traced k.traced (subst (λ i. IsTraced program i h.traced) same_run.1 h.is_traced) k.is_traced
+
+  same_why : (text ≡ other) × (stop ≡ left)
+  same_why = (
+    sym h.written
+        ∙ ap (λ t. why_lines t part c.statements h.held h.number (seen h.progress) h.ran.done) same_traced
+        ∙ ap (λ x. why_lines k.traced part c.statements x h.number (seen h.progress) h.ran.done) same_run.0
+        ∙ ap (λ i. why_lines k.traced part c.statements k.held i (seen h.progress) h.ran.done) same_run.1
+        ∙ ap (λ (b : Behind). why_lines k.traced part c.statements k.held k.number b h.ran.done) same_behind
+        ∙ ap (λ (r : Ran). why_lines k.traced part c.statements k.held k.number (seen k.progress) r.done) same_run.2
+        ∙ k.written,
+    h.stop_is ∙ ap (λ (x : Held). x.state.stop) same_run.0 ∙ sym k.stop_is,
+  )
+
+same_reason : (program : Option (List ℕ)) (part : Workpiece) (c : Code) (n : ℕ) (text other : List ℕ) (status more : ℕ) → IsWhyOf program part c n text status
+    → IsWhyOf program part c n other more → (text ≡ other) × (status ≡ more)
+same_reason program part c n text other status more h k =
+    let same = same_why program part c n text other h.stop k.stop h.told k.told in
+    (same.0, h.status_is ∙ ap status_of same.1 ∙ sym k.status_is)
+
+-- ---- the views
+
+pub one_views : ViewsAreOne
+one_views = record {
+  traces = λ part. one_view trace_view part (λ p l c n t u s m ok h k. same_rows part c n t u s m _ h k);
+  points = λ part. one_view points_view part (λ p l c n t u s m ok h k. same_rows part c n t u s m _ h k);
+  margins = λ part valid. one_view margin_view part (λ p l c n t u s m ok h k. one_margin_told part valid c ok n t u s m h k);
+  clearances = λ part boxes valid are. one_view (clearance_view boxes) part (λ p l c n t u s m ok h k. same_clearance part boxes c n valid are t u s m h k);
+  pictures = λ part is_close. one_view (picture_view is_close) part (λ p l c n t u s m ok h k. same_picture part c n t u s m is_close h k);
+  reasons = λ part. one_view why_view part (λ p l c n t u s m ok h k. same_reason p part c n t u s m h k);
+  contacts = λ part. one_view contacts_view part (λ p l c n t u s m ok h k. same_contacts part c n t u s m h k);
+  values = λ part places. one_view (values_view places) part (λ p l c n t u s m ok h k. same_values part c n t u s m places h k);
+}

@@ -6,12 +6,14 @@ use Rattle.std.specs.Io.KnownBytes.{Appends}
 use Rattle.vcm_num.specs.Written.{AppendsFront}
 use Rattle.vcm_spec.specs.declared.stop.StopPlace.{StopPlace}
 use Rattle.vcm_spec.specs.Workpiece.{Workpiece}
+use Rattle.vcm_program.specs.declared.accepted.Noticed.{Noticed}
 use Rattle.vcm_code.specs.declared.code.Code.{Code}
 use Rattle.vcm_machine.specs.declared.ran.End.TheVariants.{NoMemory}
 use Rattle.vcm_machine.specs.declared.ran.Ran.{Ran}
 use Rattle.vcm_machine.specs.Running.{started, RunEnded}
 use Rattle.vcm_state.specs.Held.{Held}
 use Rattle.vcm_job.specs.Jobs.{status_of}
+use Rattle.vcm_job.specs.Views.{IsViewed, IsCutShort}
 use Rattle.vcm_job.specs.declared.fault.Fault.{Fault}
 use Rattle.vcm_job.specs.declared.fault.InputRefusal.{InputRefusal}
 use Rattle.vcm_job.specs.declared.fault.Fault.TheVariants as faults
@@ -19,12 +21,11 @@ use Rattle.vcm_marks.specs.declared.mark.PlacedMark.{PlacedMark}
 use Rattle.vcm_way.specs.Ways.{Kept}
 use Rattle.vcm_way.specs.Following.{HasFollowed}
 use Rattle.vcm_picture.specs.Picture.{sheet, picture_text}
-use Rattle.vcm_views.specs.declared.view.RunView.TheVariants as views
-use Rattle.vcm_views.specs.Views.{HasRunTo, picture_of, IsViewed, IsCutShort}
-use Rattle.vcm_views.specs.inner.Drawn.{IsDrawn, IsNotDrawn}
+use Rattle.vcm_views.specs.Views.{HasRunTo, WroteNothing, picture_of, picture_view, sheet_view}
+use Rattle.vcm_views.specs.inner.Drawn.{IsDrawn, IsNotDrawn, IsFiled, IsNotFiled}
 
-module _ (w part : Workpiece) (same : w ≡ part) (c : Code) (n : ℕ) (held : Held) (ran : Ran) (way : Kept)
-    (followed : HasFollowed w c n held ran way) (is_close : Bool) where
+-- what became of a run that was followed
+module _ (w part : Workpiece) (same : w ≡ part) (c : Code) (n : ℕ) (held : Held) (ran : Ran) (way : Kept) (followed : HasFollowed w c n held ran way) where
   beside : HasFollowed part c n held ran way
   beside = subst (λ p. HasFollowed p c n held ran way) same followed
 
@@ -36,24 +37,31 @@ module _ (w part : Workpiece) (same : w ≡ part) (c : Code) (n : ℕ) (held : H
     tables = beside.tables ∙ sym (ap (λ m. m.code.tables) beside.has_run.new_is);
   }
 
+  wrote_nothing : ran.end ≡ NoMemory → (old : Option (List ℕ)) → WroteNothing part c n ran.done old old
+  wrote_nothing e old =
+      let ended : RunEnded n (started part c) beside.new ran.done NoMemory = subst (λ x. RunEnded n (started part c) beside.new ran.done x) e beside.has_run.ended in
+      (subst (λ m. RunEnded n (started part c) m ran.done NoMemory) beside.has_run.new_is ended, Keeps-refl old)
+
+module _ (program : Option (List ℕ)) (notices : List Noticed) (w part : Workpiece) (same : w ≡ part) (c : Code) (n : ℕ) (held : Held) (ran : Ran) (way : Kept)
+    (followed : HasFollowed w c n held ran way) (is_close : Bool) where
   module _ (ample : ran.end ≡ NoMemory → ⊥) where
     drawn_viewed : (status : ℕ) (old after : Option (List ℕ)) → IsDrawn part held ran.done way is_close status old after
-        → IsViewed (views.Picture is_close) part c n status old after
+        → IsViewed (picture_view is_close) program notices part c n status old after
     drawn_viewed status old after d = record {
       text = picture_of part held ran.done way is_close;
       tells = record {
         held = held;
         ran = ran;
-        run = run_to;
+        run = run_to w part same c n held ran way followed;
         ample = ample;
-        text_is = ap (λ k. picture_of part held ran.done k is_close) beside.kept;
+        text_is = ap (λ k. picture_of part held ran.done k is_close) (beside w part same c n held ran way followed).kept;
         status_is = d.status_is;
       };
       written = d.written;
     }
 
     drawn_cut_short : (f : Fault InputRefusal) (old after : Option (List ℕ)) → IsNotDrawn part held ran.done way is_close f old after
-        → IsCutShort (views.Picture is_close) part c n f old after
+        → IsCutShort (picture_view is_close) program notices part c n f old after
     drawn_cut_short faults.NoMemory old after k = k
     drawn_cut_short (faults.Write d) old after front = record {
       text = picture_of part held ran.done way is_close;
@@ -61,9 +69,9 @@ module _ (w part : Workpiece) (same : w ≡ part) (c : Code) (n : ℕ) (held : H
       tells = record {
         held = held;
         ran = ran;
-        run = run_to;
+        run = run_to w part same c n held ran way followed;
         ample = ample;
-        text_is = ap (λ k. picture_of part held ran.done k is_close) beside.kept;
+        text_is = ap (λ k. picture_of part held ran.done k is_close) (beside w part same c n held ran way followed).kept;
         status_is = refl;
       };
       front = front;
@@ -74,19 +82,54 @@ module _ (w part : Workpiece) (same : w ≡ part) (c : Code) (n : ℕ) (held : H
     drawn_cut_short faults.TooLong old after t = absurd t
 
     pub picture_viewed : (r : Result ℕ (Fault InputRefusal)) (old after : Option (List ℕ)) → IfOk r (λ status. IsDrawn part held ran.done way is_close status old after)
-        → IfOk r (λ status. IsViewed (views.Picture is_close) part c n status old after)
+        → IfOk r (λ status. IsViewed (picture_view is_close) program notices part c n status old after)
     picture_viewed (Ok status) old after t = drawn_viewed status old after t
     picture_viewed (Err f) old after t = tt
 
     pub picture_cut_short : (r : Result ℕ (Fault InputRefusal)) (old after : Option (List ℕ)) → IfErr r (λ f. IsNotDrawn part held ran.done way is_close f old after)
-        → IfErr r (λ f. IsCutShort (views.Picture is_close) part c n f old after)
+        → IfErr r (λ f. IsCutShort (picture_view is_close) program notices part c n f old after)
     picture_cut_short (Ok status) old after t = tt
     picture_cut_short (Err f) old after t = drawn_cut_short f old after t
 
-  pub picture_halted : ran.end ≡ NoMemory → (old : Option (List ℕ)) → IsCutShort (views.Picture is_close) part c n (faults.Memory ran.done) old old
-  picture_halted e old =
-      let ended : RunEnded n (started part c) beside.new ran.done NoMemory = subst (λ x. RunEnded n (started part c) beside.new ran.done x) e beside.has_run.ended in
-      (subst (λ m. RunEnded n (started part c) m ran.done NoMemory) beside.has_run.new_is ended, Keeps-refl old)
+  pub picture_halted : ran.end ≡ NoMemory → (old : Option (List ℕ)) → IsCutShort (picture_view is_close) program notices part c n (faults.Memory ran.done) old old
+  picture_halted e old = wrote_nothing w part same c n held ran way followed e old
+
+-- the sheet
+module _ (program : Option (List ℕ)) (notices : List Noticed) (w part : Workpiece) (same : w ≡ part) (c : Code) (n : ℕ) (held : Held) (ran : Ran) (way : Kept)
+    (followed : HasFollowed w c n held ran way) where
+  module _ (ample : ran.end ≡ NoMemory → ⊥) where
+    filed_viewed : (status : ℕ) (old after : Option (List ℕ)) → IsFiled held status old after → IsViewed sheet_view program notices part c n status old after
+    filed_viewed status old after d = record {
+      text = d.text;
+      tells = record { held = held; ran = ran; run = run_to w part same c n held ran way followed; ample = ample; status_is = d.status_is };
+      written = d.written;
+    }
+
+    filed_cut_short : (f : Fault InputRefusal) (old after : Option (List ℕ)) → IsNotFiled f old after → IsCutShort sheet_view program notices part c n f old after
+    filed_cut_short faults.NoMemory old after k = k
+    filed_cut_short (faults.Write d) old after t = record {
+      text = t.0;
+      status = status_of held.state.stop;
+      tells = record { held = held; ran = ran; run = run_to w part same c n held ran way followed; ample = ample; status_is = refl };
+      front = t.1;
+    }
+    filed_cut_short (faults.Memory d) old after t = absurd t
+    filed_cut_short (faults.Refused r) old after t = absurd t
+    filed_cut_short faults.Read old after t = absurd t
+    filed_cut_short faults.TooLong old after t = absurd t
+
+    pub sheet_viewed : (r : Result ℕ (Fault InputRefusal)) (old after : Option (List ℕ)) → IfOk r (λ status. IsFiled held status old after)
+        → IfOk r (λ status. IsViewed sheet_view program notices part c n status old after)
+    sheet_viewed (Ok status) old after t = filed_viewed status old after t
+    sheet_viewed (Err f) old after t = tt
+
+    pub sheet_cut_short : (r : Result ℕ (Fault InputRefusal)) (old after : Option (List ℕ)) → IfErr r (λ f. IsNotFiled f old after)
+        → IfErr r (λ f. IsCutShort sheet_view program notices part c n f old after)
+    sheet_cut_short (Ok status) old after t = tt
+    sheet_cut_short (Err f) old after t = filed_cut_short f old after t
+
+  pub sheet_halted : ran.end ≡ NoMemory → (old : Option (List ℕ)) → IsCutShort sheet_view program notices part c n (faults.Memory ran.done) old old
+  sheet_halted e old = wrote_nothing w part same c n held ran way followed e old
 
 -- what was written of the marks that a way keeps
 module _ (part : Workpiece) (held : Held) (done : ℕ) (way : Kept) (is_close : Bool) (marks : List PlacedMark) (left_out : ℕ)

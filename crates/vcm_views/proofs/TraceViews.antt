@@ -1,32 +1,39 @@
--- Traces as views.
+-- Runs that are told row by row, as views.
 use Rattle.std.specs.Prelude.{ℕ, List, Option}
 use Rattle.std.proofs.Common.{◌≡◌, refl, ap, ◌∙◌, subst}
 use Rattle.vcm_spec.specs.declared.stop.StopPlace.{StopPlace}
 use Rattle.vcm_spec.specs.Workpiece.{Workpiece}
+use Rattle.vcm_program.specs.declared.accepted.Noticed.{Noticed}
 use Rattle.vcm_code.specs.declared.code.Code.{Code}
 use Rattle.vcm_job.specs.Jobs.{status_of}
-use Rattle.vcm_job.specs.declared.fault.Fault.TheVariants as faults
+use Rattle.vcm_job.specs.Views.{RunView, IsViewed, IsCutShort}
 use Rattle.vcm_steps.specs.Passages.{state_after}
-use Rattle.vcm_trace.specs.Traces.{trace_text, IsTraced, IsHalted, IsCutOff as IsTraceCutOff}
-use Rattle.vcm_views.specs.declared.view.RunView.TheVariants as views
-use Rattle.vcm_views.specs.Views.{IsViewed, IsCutShort}
+use Rattle.vcm_steps.specs.declared.fault.Unfinished.{Unfinished}
+use Rattle.vcm_steps.specs.declared.fault.Unfinished.TheVariants as faults
+use Rattle.vcm_trace.specs.Rows.{RunRows, rows_text, IsWritten, IsHalted, IsNotWritten}
+use Rattle.vcm_views.specs.Views.{AreRows}
+use Rattle.vcm_views.specs.inner.Cuts.{cut_short}
 
-module _ (w part : Workpiece) (same : w ≡ part) (c : Code) (n : ℕ) (old new : Option (List ℕ)) where
-  pub trace_viewed : (status : ℕ) (stop : Option StopPlace) → IsTraced w c n stop old new → status ≡ status_of stop
-      → IsViewed views.Trace part c n status old new
-  trace_viewed status stop t s =
-      subst (λ p. IsViewed views.Trace p c n status old new) same
-      (record { text = trace_text w c n; tells = record { text_is = refl; status_is = s ∙ ap status_of t.stop_is }; written = t.written })
+-- what is told row by row, as a view
+abbrev pub rows_view : RunRows → RunView
+rows_view t = record { tells = λ program notices. AreRows t; halted = IsHalted t }
 
-  pub trace_halted : (done : ℕ) → IsHalted w c n done old new → IsCutShort views.Trace part c n (faults.Memory done) old new
-  trace_halted done t = subst (λ p. IsCutShort views.Trace p c n (faults.Memory done) old new) same (t.halted, t.written)
+module _ (t : RunRows) (program : Option (List ℕ)) (notices : List Noticed) (w part : Workpiece) (same : w ≡ part) (c : Code) (n : ℕ) (old new : Option (List ℕ)) where
+  pub rows_viewed : (status : ℕ) (stop : Option StopPlace) → IsWritten t w c n stop old new → status ≡ status_of stop
+      → IsViewed (rows_view t) program notices part c n status old new
+  rows_viewed status stop h s =
+      subst (λ p. IsViewed (rows_view t) program notices p c n status old new) same
+      (record { text = rows_text t w c n; tells = record { text_is = refl; status_is = s ∙ ap status_of h.stop_is }; written = h.written })
 
-  pub trace_cut_off : (done : ℕ) → IsTraceCutOff w c n done old new → IsCutShort views.Trace part c n (faults.Write done) old new
-  trace_cut_off done t =
-      subst (λ p. IsCutShort views.Trace p c n (faults.Write done) old new) same
-      (record {
-        text = trace_text w c n;
-        status = status_of (state_after w c n).world.stop;
-        tells = record { text_is = refl; status_is = refl };
-        front = t.front;
-      })
+  rows_cut : (f : Unfinished) → IsNotWritten t w c n f old new → IsCutShort (rows_view t) program notices w c n (cut_short f) old new
+  rows_cut faults.NoMemory h = h
+  rows_cut (faults.Memory done) h = h
+  rows_cut (faults.Write done) h = record {
+    text = rows_text t w c n;
+    status = status_of (state_after w c n).world.stop;
+    tells = record { text_is = refl; status_is = refl };
+    front = h.front;
+  }
+
+  pub rows_cut_short : (f : Unfinished) → IsNotWritten t w c n f old new → IsCutShort (rows_view t) program notices part c n (cut_short f) old new
+  rows_cut_short f h = subst (λ p. IsCutShort (rows_view t) program notices p c n (cut_short f) old new) same (rows_cut f h)

@@ -1,4 +1,3 @@
 pub mod Views
-pub mod Inputs
 pub mod Laws
 pub mod inner

@@ -1,8 +1,7 @@
 -- What the views of a run show of a code beside a workpiece: their text, and the exit status.
-use Rattle.std.specs.Prelude.{◌≡◌, ℕ, Bool, true, false, nat_eq, List, Option}
+use Rattle.std.specs.Prelude.{◌≡◌, ℕ, Bool, true, false, nat_eq, List, [], ◌∷◌, ◌++◌, Option}
 use Rattle.std.specs.List.{list_any}
 use Rattle.std.specs.Io.KnownBytes.{Appends, Keeps}
-use Rattle.vcm_num.specs.Written.{AppendsFront}
 use Rattle.vcm_spec.specs.declared.stop.StopPlace.{StopPlace}
 use Rattle.vcm_spec.specs.Workpiece.{Workpiece}
 use Rattle.vcm_code.specs.declared.code.Code.{Code}
@@ -12,29 +11,32 @@ use Rattle.vcm_machine.specs.Running.{Running, started, later, RunEnded, HasRun}
 use Rattle.vcm_state.specs.Held.{Held}
 use Rattle.vcm_run.specs.Printed.{result_text}
 use Rattle.vcm_job.specs.Jobs.{status_of}
-use Rattle.vcm_job.specs.declared.fault.Fault.{Fault}
-use Rattle.vcm_job.specs.declared.fault.InputRefusal.{InputRefusal}
-use Rattle.vcm_job.specs.declared.fault.Fault.TheVariants as faults
+use Rattle.vcm_job.specs.Views.{RunView}
 use Rattle.vcm_steps.specs.Passages.{state_after}
-use Rattle.vcm_trace.specs.Traces.{trace_front, trace_text}
+use Rattle.vcm_steps.specs.declared.fault.Unfinished.TheVariants.{Memory}
+use Rattle.vcm_trace.specs.Rows.{RunRows, rows_text, IsHalted}
+use Rattle.vcm_trace.specs.Traces.{trace_rows}
+use Rattle.vcm_trace.specs.Points.{point_rows}
 use Rattle.vcm_margin.specs.declared.difference.Margin.{Margin}
 use Rattle.vcm_margin.specs.Margin.{IsMargin}
 use Rattle.vcm_margin.specs.Printed.{margin_text}
 use Rattle.vcm_way.specs.Ways.{Kept}
 use Rattle.vcm_way.specs.Following.{way_after}
 use Rattle.vcm_picture.specs.Picture.{sheet, picture_text}
-use Rattle.vcm_points.specs.Points.{points_text}
 use Rattle.vcm_boxes.specs.declared.boxes.ProbeBox.{ProbeBox}
-use Rattle.vcm_gone.specs.Gone.{ways_of}
+use Rattle.vcm_way.specs.Gone.{ways_of}
 use Rattle.vcm_clearance.specs.declared.room.Room.{Room}
 use Rattle.vcm_clearance.specs.Rooms.{AreRooms, is_met_room}
 use Rattle.vcm_clearance.specs.Clearance.{contact_lines, clearance_text}
-use Rattle.vcm_views.specs.declared.view.RunView.{RunView}
-use Rattle.vcm_views.specs.declared.view.RunView.TheVariants as views
+use Rattle.vcm_values.specs.Values.{values_text}
+use Rattle.vcm_why.specs.Telling.{IsReason}
+use Rattle.vcm_contacts.specs.declared.contact.Contact.{Contact}
+use Rattle.vcm_contacts.specs.Collecting.{AreContacts, AreNoContacts}
+use Rattle.vcm_contacts.specs.Printed.{contacts_text}
 
--- the trace of a run for at most n steps
-pub record IsTrace (part : Workpiece) (c : Code) (n : ℕ) (text : List ℕ) (status : ℕ) : Type 0 where
-  pub text_is : text ≡ trace_text part c n
+-- a text that is written row by row in a run for at most n steps
+pub record AreRows (t : RunRows) (part : Workpiece) (c : Code) (n : ℕ) (text : List ℕ) (status : ℕ) : Type 0 where
+  pub text_is : text ≡ rows_text t part c n
   pub status_is : status ≡ status_of (state_after part c n).world.stop
 
 -- what is told of a run that came to the program's end: its margin; of any other run its result
@@ -71,11 +73,6 @@ pub record IsPicture (part : Workpiece) (c : Code) (n : ℕ) (is_close : Bool) (
   pub text_is : text ≡ picture_of part held ran.done (way_after part c ran.done) is_close
   pub status_is : status ≡ status_of held.state.stop
 
--- the measured points of a run for at most n steps
-pub record ArePointsOf (part : Workpiece) (c : Code) (n : ℕ) (text : List ℕ) (status : ℕ) : Type 0 where
-  pub text_is : text ≡ points_text part c n
-  pub status_is : status ≡ status_of (state_after part c n).world.stop
-
 -- the exit status of a clearance: 3 where a box is met, else that of the run
 abbrev pub clearance_status : Bool → Option StopPlace → ℕ
 clearance_status true stop = 3
@@ -88,44 +85,91 @@ pub record IsClearanceOf (part : Workpiece) (boxes : List ProbeBox) (c : Code) (
   pub text_is : text ≡ clearance_text part boxes c n rooms
   pub status_is : status ≡ clearance_status (list_any is_met_room rooms) (state_after part c n).world.stop
 
--- a view of a code beside a workpiece, in a run for at most n steps
-abbrev pub Tells : RunView → Workpiece → Code → ℕ → List ℕ → ℕ → Type 0
-Tells views.Trace part c n text status = IsTrace part c n text status
-Tells views.Margin part c n text status = IsMarginOrResult part c n text status
-Tells views.Points part c n text status = ArePointsOf part c n text status
-Tells (views.Clearance boxes) part c n text status = IsClearanceOf part boxes.now c n text status
-Tells (views.Picture is_close) part c n text status = IsPicture part c n is_close text status
-
--- it was written and nothing else, and this is the exit status
-pub record IsViewed (view : RunView) (part : Workpiece) (c : Code) (n : ℕ) (status : ℕ) (old new : Option (List ℕ)) : Type 0 where
-  pub text : List ℕ
-  pub tells : Tells view part c n text status
-  pub written : Appends old new text
-
 -- a run for at most n steps was refused memory after so many of them
 abbrev pub IsHaltedAfter : Workpiece → Code → ℕ → ℕ → Type 0
 IsHaltedAfter part c n done = RunEnded n (started part c) (later done (started part c)) done NoMemory
 
--- what was written of a view in a run that was refused memory after so many steps: of a trace, of points and of a clearance the lines so far, of a
--- margin or a picture nothing
-abbrev pub WrittenSoFar : RunView → Workpiece → Code → ℕ → Option (List ℕ) → Option (List ℕ) → Type 0
-WrittenSoFar views.Trace part c done old new = Appends old new (trace_front part c done)
-WrittenSoFar views.Margin part c done old new = Keeps old new
-WrittenSoFar views.Points part c done old new = Appends old new (points_text part c done)
-WrittenSoFar (views.Clearance boxes) part c done old new = Appends old new (contact_lines part boxes.now c done)
-WrittenSoFar (views.Picture is_close) part c done old new = Keeps old new
+-- and nothing was written
+abbrev pub WroteNothing : Workpiece → Code → ℕ → ℕ → Option (List ℕ) → Option (List ℕ) → Type 0
+WroteNothing part c n done old new = IsHaltedAfter part c n done × Keeps old new
 
--- a front of a view was written, and not all of it
-pub record IsCutOff (view : RunView) (part : Workpiece) (c : Code) (n : ℕ) (old new : Option (List ℕ)) : Type 0 where
-  pub text : List ℕ
-  pub status : ℕ
-  pub tells : Tells view part c n text status
-  pub front : AppendsFront old new text
+-- a sheet of a run that memory did not cut short, with the run's exit status; which marks, points and numbers stand on it is said in vcm_sheet, and how it is
+-- painted isn't said
+pub record IsSheet (part : Workpiece) (c : Code) (n : ℕ) (text : List ℕ) (status : ℕ) : Type 0 where
+  pub held : Held
+  pub ran : Ran
+  pub run : HasRunTo part c n held ran
+  pub ample : ran.end ≡ NoMemory → ⊥
+  pub status_is : status ≡ status_of held.state.stop
 
--- why no whole view was written: memory was refused in the run, after so many steps; or before it or for the view itself, and nothing was written; or a
--- write failed
-abbrev pub IsCutShort : RunView → Workpiece → Code → ℕ → Fault InputRefusal → Option (List ℕ) → Option (List ℕ) → Type 0
-IsCutShort view part c n (faults.Memory done) old new = IsHaltedAfter part c n done × WrittenSoFar view part c done old new
-IsCutShort view part c n faults.NoMemory old new = Keeps old new
-IsCutShort view part c n (faults.Write done) old new = IsCutOff view part c n old new
-IsCutShort view part c n _ old new = ⊥
+-- the result of a run that memory did not cut short, and the values of variables behind it
+pub record IsResultWith (places : List ℕ) (part : Workpiece) (c : Code) (n : ℕ) (text : List ℕ) (status : ℕ) : Type 0 where
+  pub held : Held
+  pub ran : Ran
+  pub run : HasRunTo part c n held ran
+  pub ample : ran.end ≡ NoMemory → ⊥
+  pub text_is : text ≡ result_text held ran.done ++ values_text held.tables held.state.variables places
+  pub status_is : status ≡ status_of held.state.stop
+
+-- why a run of a code with this text stops
+pub record IsWhyOf (program : Option (List ℕ)) (part : Workpiece) (c : Code) (n : ℕ) (text : List ℕ) (status : ℕ) : Type 0 where
+  pub stop : Option StopPlace
+  pub told : IsReason program part c n stop (λ t. t ≡ text)
+  pub status_is : status ≡ status_of stop
+
+-- the exit status of contacts: 3 where there is one, else that of the run
+abbrev pub contacts_status : List Contact → Option StopPlace → ℕ
+contacts_status [] stop = status_of stop
+contacts_status (c ∷ cs) stop = 3
+
+-- the contacts of a run for at most n steps
+pub record AreContactsOf (part : Workpiece) (c : Code) (n : ℕ) (text : List ℕ) (status : ℕ) : Type 0 where
+  pub contacts : List Contact
+  pub stop : Option StopPlace
+  pub are : AreContacts part c n contacts stop
+  pub text_is : text ≡ contacts_text c.tables contacts stop n
+  pub status_is : status ≡ contacts_status contacts stop
+
+-- ---- the views
+
+-- the trace; where memory was refused, the header and the lines of the steps before were written
+abbrev pub trace_view : RunView
+trace_view = record { tells = λ program notices. AreRows trace_rows; halted = IsHalted trace_rows }
+
+-- the measured points, likewise
+abbrev pub points_view : RunView
+points_view = record { tells = λ program notices. AreRows point_rows; halted = IsHalted point_rows }
+
+-- the margin, or the result
+abbrev pub margin_view : RunView
+margin_view = record { tells = λ program notices. IsMarginOrResult; halted = WroteNothing }
+
+-- the clearance of boxes; where memory was refused, the contacts in the steps before were written
+abbrev pub clearance_view : List ProbeBox → RunView
+clearance_view boxes = record {
+  tells = λ program notices part c n. IsClearanceOf part boxes c n;
+  halted = λ part c n done old new. IsHaltedAfter part c n done × Appends old new (contact_lines part boxes c done);
+}
+
+-- the picture
+abbrev pub picture_view : Bool → RunView
+picture_view is_close = record { tells = λ program notices part c n. IsPicture part c n is_close; halted = WroteNothing }
+
+-- the sheet
+abbrev pub sheet_view : RunView
+sheet_view = record { tells = λ program notices. IsSheet; halted = WroteNothing }
+
+-- why it stops
+abbrev pub why_view : RunView
+why_view = record { tells = λ program notices. IsWhyOf program; halted = WroteNothing }
+
+-- the contacts; where memory was refused to the run that goes on after each, nothing was written
+abbrev pub contacts_view : RunView
+contacts_view = record {
+  tells = λ program notices. AreContactsOf;
+  halted = λ part c n done old new. AreNoContacts part c n (Memory done) × Keeps old new;
+}
+
+-- the result with the values of the variables at these places
+abbrev pub values_view : List ℕ → RunView
+values_view places = record { tells = λ program notices. IsResultWith places; halted = WroteNothing }

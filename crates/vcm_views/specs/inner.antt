@@ -1,4 +1,5 @@
 -- What only private contracts and proofs of this crate speak of.
+pub mod Cuts
 pub mod Told
 pub mod Drawn
-pub mod Images
+pub mod Shown

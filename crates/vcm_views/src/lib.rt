@@ -1,16 +1,23 @@
-//! Views of runs, from the bytes of an input to those of the view: the trace, the margin of the tip, the measured points, the clearance of the probe, and
-//! the picture.
+//! Views of runs: the trace, the measured points, the margin of the tip, the clearance of the probe, the picture, why a run stops, all its contacts, and its
+//! result with the values of variables.
 #![tactic(auto)]
 
 mod clearances;
-mod inputs;
+mod contacts;
 pub mod laws;
 mod margins;
 mod pictures;
-mod points;
-mod showing;
+mod reasons;
+mod sheets;
 mod traces;
-mod view;
+mod unfinished;
+mod values;
 
-pub use inputs::view_of;
-pub use view::RunView;
+pub use clearances::Clearance;
+pub use contacts::AllContacts;
+pub use margins::TipMargin;
+pub use pictures::Picture;
+pub use reasons::Why;
+pub use sheets::{SheetView, Titles};
+pub use traces::{Points, Trace};
+pub use values::Values;

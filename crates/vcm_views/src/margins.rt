@@ -1,13 +1,12 @@
 //! The margin of the tip in a run of a loaded code.
 
 ghost use Rattle.std.specs.Prelude.{◌≡◌, IfOk, IfErr};
-ghost use Rattle.vcm_views.specs.declared.view.RunView.TheVariants.{Margin as MarginOf};
-ghost use Rattle.vcm_views.specs.Views.{IsViewed, IsCutShort};
+ghost use Rattle.vcm_views.specs.Views.{margin_view};
 ghost use Rattle.vcm_views.specs.inner.Told.{IsMarginTold, IsMarginNotTold, IsTold, IsNotTold};
 
 use std::alloc::Global;
 use std::io::Write;
-use vcm_job::{RunFault, is_halted, status_of};
+use vcm_job::{Given, RunFault, Shows, is_halted, status_of};
 use vcm_loader::Loaded;
 use vcm_machine::{Machine, Ran};
 use vcm_margin::{margin, write_margin};
@@ -68,28 +67,33 @@ fn tell<W: Write>(
     }
 }
 
-/// Writes the margin of the tip for a loaded code that comes to its end in at most so many steps, and else the result of its run; and gives the exit
-/// status.
-pub(crate) fn show_margin<W: Write>(
-    alloc: Global,
-    loaded: &Loaded<'_>,
-    part: &PartData,
-    steps: u64,
-    writer: &mut W,
-) -> Result<u8, RunFault>
-    ensures shown { IfOk result (λ status. IsViewed MarginOf part.now loaded.now steps status (W.contents writer.old) (W.contents writer.new)) }
-    ensures fault { IfErr result (λ f. IsCutShort MarginOf part.now loaded.now steps f (W.contents writer.old) (W.contents writer.new)) }
-{
-    let Ok(workpiece) = AnyPart::of(alloc, part) else {
-        return Err(RunFault::NoMemory);
-    };
-    let Ok(mut machine) = Machine::new(alloc, &*loaded, &workpiece) else {
-        return Err(RunFault::NoMemory);
-    };
-    let ran = machine.run(alloc, steps);
-    let world = machine.into_world();
-    if is_halted(ran) {
-        return Err(RunFault::Memory { done: ran.done });
+/// How wide the tip may be, where the run comes to the program's end; else its result.
+#[derive(Clone, Copy)]
+pub struct TipMargin;
+
+impl<W: Write> Shows<W> for TipMargin {
+    ghost RunView = { λ s. margin_view };
+
+    fn show(
+        &self,
+        alloc: Global,
+        loaded: &Loaded<'_>,
+        _given: &Given,
+        part: &PartData,
+        steps: u64,
+        writer: &mut W,
+    ) -> Result<u8, RunFault> {
+        let Ok(workpiece) = AnyPart::of(alloc, part) else {
+            return Err(RunFault::NoMemory);
+        };
+        let Ok(mut machine) = Machine::new(alloc, &*loaded, &workpiece) else {
+            return Err(RunFault::NoMemory);
+        };
+        let ran = machine.run(alloc, steps);
+        let world = machine.into_world();
+        if is_halted(ran) {
+            return Err(RunFault::Memory { done: ran.done });
+        }
+        tell(alloc, loaded, part, world, ran, writer)
     }
-    tell(alloc, loaded, part, world, ran, writer)
 }

@@ -1,13 +1,12 @@
 //! The picture of a run of a loaded code.
 
 ghost use Rattle.std.specs.Prelude.{IfOk, IfErr};
-ghost use Rattle.vcm_views.specs.declared.view.RunView.TheVariants.{Picture};
-ghost use Rattle.vcm_views.specs.Views.{IsViewed, IsCutShort};
+ghost use Rattle.vcm_views.specs.Views.{picture_view};
 ghost use Rattle.vcm_views.specs.inner.Drawn.{IsDrawn, IsNotDrawn};
 
 use std::alloc::Global;
 use std::io::Write;
-use vcm_job::{RunFault, is_halted, status_of};
+use vcm_job::{Given, RunFault, Shows, is_halted, status_of};
 use vcm_loader::Loaded;
 use vcm_motion::AnyPart;
 use vcm_part::PartData;
@@ -46,35 +45,42 @@ fn draw<W: Write>(
     }
 }
 
-/// Writes the picture of a loaded code in a run for at most so many steps, and gives the exit status.
-pub(crate) fn show_picture<W: Write>(
-    alloc: Global,
-    loaded: &Loaded<'_>,
-    part: &PartData,
-    steps: u64,
-    is_close: bool,
-    writer: &mut W,
-) -> Result<u8, RunFault>
-    ensures shown { IfOk result (λ status. IsViewed (Picture is_close) part.now loaded.now steps status (W.contents writer.old) (W.contents writer.new)) }
-    ensures fault { IfErr result (λ f. IsCutShort (Picture is_close) part.now loaded.now steps f (W.contents writer.old) (W.contents writer.new)) }
-{
-    let Ok(workpiece) = AnyPart::of(alloc, part) else {
-        return Err(RunFault::NoMemory);
-    };
-    let Ok(followed) = follow(alloc, &*loaded, &workpiece, part, steps) else {
-        return Err(RunFault::NoMemory);
-    };
-    let ran = followed.ran;
-    if is_halted(ran) {
-        return Err(RunFault::Memory { done: ran.done });
+/// Three views of the workpiece and of the way of the probe, as SVG; a close one shows the blocks as large as they are.
+#[derive(Clone, Copy)]
+pub struct Picture {
+    pub is_close: bool,
+}
+
+impl<W: Write> Shows<W> for Picture {
+    ghost RunView = { λ s. picture_view s.is_close };
+
+    fn show(
+        &self,
+        alloc: Global,
+        loaded: &Loaded<'_>,
+        _given: &Given,
+        part: &PartData,
+        steps: u64,
+        writer: &mut W,
+    ) -> Result<u8, RunFault> {
+        let Ok(workpiece) = AnyPart::of(alloc, part) else {
+            return Err(RunFault::NoMemory);
+        };
+        let Ok(followed) = follow(alloc, &*loaded, &workpiece, part, steps) else {
+            return Err(RunFault::NoMemory);
+        };
+        let ran = followed.ran;
+        if is_halted(ran) {
+            return Err(RunFault::Memory { done: ran.done });
+        }
+        draw(
+            alloc,
+            part,
+            &followed.world,
+            ran.done,
+            &followed.way,
+            self.is_close,
+            writer,
+        )
     }
-    draw(
-        alloc,
-        part,
-        &followed.world,
-        ran.done,
-        &followed.way,
-        is_close,
-        writer,
-    )
 }

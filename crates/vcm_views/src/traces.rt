@@ -1,35 +1,64 @@
-//! The trace of a loaded code.
+//! The trace and the measured points as views.
 
-ghost use Rattle.std.specs.Prelude.{IfOk, IfErr};
-ghost use Rattle.vcm_views.specs.declared.view.RunView.TheVariants as views;
-ghost use Rattle.vcm_views.specs.Views.{IsViewed, IsCutShort};
+ghost use Rattle.vcm_views.specs.Views.{trace_view, points_view};
 
+use crate::unfinished::cut_short;
 use std::alloc::Global;
 use std::io::Write;
-use vcm_job::{RunFault, status_of};
+use vcm_job::{Given, RunFault, Shows, status_of};
 use vcm_loader::Loaded;
 use vcm_motion::AnyPart;
 use vcm_part::PartData;
-use vcm_trace::{TraceFault, trace};
+use vcm_trace::{PointRows, TraceRows, write_rows};
 
-/// Writes the trace of a loaded code in a run for at most so many steps, and gives the exit status.
-pub(crate) fn show_trace<W: Write>(
-    alloc: Global,
-    loaded: &Loaded<'_>,
-    part: &PartData,
-    steps: u64,
-    writer: &mut W,
-) -> Result<u8, RunFault>
-    ensures shown { IfOk result (λ status. IsViewed views.Trace part.now loaded.now steps status (W.contents writer.old) (W.contents writer.new)) }
-    ensures fault { IfErr result (λ f. IsCutShort views.Trace part.now loaded.now steps f (W.contents writer.old) (W.contents writer.new)) }
-{
-    let Ok(workpiece) = AnyPart::of(alloc, part) else {
-        return Err(RunFault::NoMemory);
-    };
-    match trace(alloc, loaded, &workpiece, steps, writer) {
-        Ok(stop) => Ok(status_of(stop)),
-        Err(TraceFault::NoMemory) => Err(RunFault::NoMemory),
-        Err(TraceFault::Memory { done }) => Err(RunFault::Memory { done }),
-        Err(TraceFault::Write { done }) => Err(RunFault::Write { done }),
+/// What each step did, a line for each.
+#[derive(Clone, Copy)]
+pub struct Trace;
+
+impl<W: Write> Shows<W> for Trace {
+    ghost RunView = { λ s. trace_view };
+
+    fn show(
+        &self,
+        alloc: Global,
+        loaded: &Loaded<'_>,
+        _given: &Given,
+        part: &PartData,
+        steps: u64,
+        writer: &mut W,
+    ) -> Result<u8, RunFault> {
+        let Ok(workpiece) = AnyPart::of(alloc, part) else {
+            return Err(RunFault::NoMemory);
+        };
+        match write_rows(alloc, loaded, &workpiece, steps, &TraceRows, writer) {
+            Ok(stop) => Ok(status_of(stop)),
+            Err(fault) => Err(cut_short(fault)),
+        }
+    }
+}
+
+/// The points that are measured, a line for each.
+#[derive(Clone, Copy)]
+pub struct Points;
+
+impl<W: Write> Shows<W> for Points {
+    ghost RunView = { λ s. points_view };
+
+    fn show(
+        &self,
+        alloc: Global,
+        loaded: &Loaded<'_>,
+        _given: &Given,
+        part: &PartData,
+        steps: u64,
+        writer: &mut W,
+    ) -> Result<u8, RunFault> {
+        let Ok(workpiece) = AnyPart::of(alloc, part) else {
+            return Err(RunFault::NoMemory);
+        };
+        match write_rows(alloc, loaded, &workpiece, steps, &PointRows, writer) {
+            Ok(stop) => Ok(status_of(stop)),
+            Err(fault) => Err(cut_short(fault)),
+        }
     }
 }

@@ -1,7 +1,7 @@
 -- The marks of a way are what they show.
 use Rattle.std.specs.Prelude.{◌<◌, ◌-◌, ◌*◌, IsTrue, unwrap_or, option_and_then, option_map}
 use Rattle.std.specs.List.{AllByRecursion}
-use Rattle.std.proofs.Common.{◌≡◌, ℕ, zero, suc, ◌+◌, ◌≤◌, ℤ, Bool, true, false, List, [], ◌∷◌, ◌++◌, Option, Some, None, slice_get, refl, sym, ap, ◌∙◌, subst, arith}
+use Rattle.std.proofs.Common.{◌≡◌, ℕ, zero, suc, ◌+◌, ◌≤◌, ℤ, Bool, true, false, List, [], ◌∷◌, ◌++◌, Option, Some, None, slice_get, refl, sym, ap, ◌∙◌, subst, inl, inr, arith}
 use Rattle.std.proofs.lemmas.Int.{ints}
 use Rattle.vcm_num.specs.declared.axis.Axis.{Axis}
 use Rattle.vcm_num.specs.declared.point.Point.{Point}
@@ -10,7 +10,6 @@ use Rattle.vcm_num.specs.Point.{coordinate}
 use Rattle.vcm_spec.specs.declared.feature.Touch.{Touch}
 use Rattle.vcm_spec.specs.declared.stop.Stop.{Stop}
 use Rattle.vcm_spec.specs.declared.stop.Stop.TheVariants.{Ended, Overflow, DivZero, ZeroStep, Undefined, BadSetting, OutputFull, Travel, Collision, Missed}
-use Rattle.vcm_spec.specs.declared.stop.StopPlace.{StopPlace}
 use Rattle.vcm_spec.specs.declared.words.MovePhase.TheVariants.{Move, Approach, Search, Retract}
 use Rattle.vcm_spec.specs.declared.workpiece.Block3.{Block3}
 use Rattle.vcm_spec.specs.declared.workpiece.Hit.{Hit}
@@ -19,7 +18,6 @@ use Rattle.vcm_spec.specs.FirstContact.{Fraction, contact, entry}
 use Rattle.vcm_spec.specs.FirstTouch.{free_of, free_move, touch}
 use Rattle.vcm_spec.specs.Outcome.{Outcome, Gives, Stops, ◌>>=◌, demand, point_of}
 use Rattle.vcm_spec.specs.Rests.{Rests}
-use Rattle.vcm_spec.specs.Stepping.{unless_stopped}
 use Rattle.vcm_spec.specs.Touch.{centre_of, approach_of, end_of, down_of, back_of, past, IsAimed, IsApproached, IsTouched, IsTouchAt, IsTouch}
 use Rattle.vcm_spec.specs.Workpiece.{Workpiece, IsValid, grown, is_within, is_blocked}
 use Rattle.vcm_spec.specs.World.{Settings, World}
@@ -29,23 +27,21 @@ use Rattle.vcm_spec.proofs.FirstOf.{IsEntry}
 use Rattle.vcm_spec.proofs.Fractions.{not_after_trans, before_after}
 use Rattle.vcm_spec.proofs.Tips.{in_order, tip_meets, meets_tip}
 use Rattle.vcm_spec.proofs.Touches.{leaves, touch_is}
-use Rattle.vcm_code.specs.Code.{CodeStatement}
 use Rattle.vcm_code.specs.declared.code.Code.{Code}
-use Rattle.vcm_code.specs.CodeTable.{CodeState, code_step}
 use Rattle.vcm_machine.proofs.RestsAlong.{rests_always}
 use Rattle.vcm_motion.specs.Places.{point_on_way, entry_point}
 use Rattle.vcm_probe.proofs.Descent.{end_back}
 use Rattle.vcm_marks.specs.declared.mark.Going.{Going}
 use Rattle.vcm_marks.specs.declared.mark.Going.TheVariants as going
 use Rattle.vcm_marks.specs.declared.mark.Mark.{Mark}
-use Rattle.vcm_steps.specs.Passages.{Passage, passage, passage_at, passages, setup_with, state_after}
+use Rattle.vcm_steps.specs.Passages.{Passage, passages, setup_with, state_after}
 use Rattle.vcm_way.specs.declared.task.Measuring.{Measuring}
 use Rattle.vcm_way.specs.Laws.{WaysAreClear}
 use Rattle.vcm_way.specs.Marks.{contact_point, meets_block, falls_short, goes, marks_of_move, marks_of_touch, touching, touching_at, touched_then, Touching}
 use Rattle.vcm_way.specs.Meaning.{met_on, IsSearch, IsClearPiece, IsTouched as HasTouchedAt, AreTrue}
 use Rattle.vcm_way.specs.Ways.{step_marks}
 use Rattle.vcm_way.proofs.Depth.{points_are}
-use Rattle.vcm_way.proofs.Hanging.{next_state, step_went}
+use Rattle.vcm_way.proofs.Hanging.{IsNext, next_step}
 use Rattle.vcm_way.proofs.Went.{Went, stays, moves, halts, touches, misses}
 
 -- ---- places that are the same on three axes
@@ -395,20 +391,15 @@ module _ (part : Workpiece) (valid : IsValid part) (c : Code) where
   abbrev after : ℕ → World
   after n = (state_after part c n).world
 
-  step_true : (k : ℕ) (o : Option StopPlace) → (after k).stop ≡ o → (s : Option CodeStatement) → slice_get c.statements (state_after part c k).next ≡ s
-      → AllByRecursion IsTrueStep (unless_stopped o [] (passage_at (suc k) (state_after part c k) (code_step (setup_with part c) c.statements (state_after part c k)) s))
-  step_true k (Some p) e s got = tt
-  step_true k None e None got = tt
-  step_true k None e (Some s) got =
-      let m = state_after part c k in
-      let next = code_step (setup_with part c) c.statements m in
-      let went = went_true part valid m.world (rests_always (setup_with part c) valid c.statements k) (step_marks part (passage (suc k) m.next s m.world (after (suc k)) next.next)) (after (suc k))
-      (step_went part valid c k s e got next.next) in
-      (subst (λ (w : World). IsTrueStep (passage (suc k) m.next s m.world w next.next)) (ap (λ (x : CodeState). x.world) (next_state part valid c k)) went, tt)
+  next_true : (k : ℕ) → AllByRecursion IsTrueStep (passages part c k) → IsNext part valid c k → AllByRecursion IsTrueStep (passages part c (suc k))
+  next_true k h (inl none) = subst (AllByRecursion IsTrueStep) (sym none.0) h
+  next_true k h (inr (p, is)) =
+      let went = went_true part valid (after k) (rests_always (setup_with part c) valid c.statements k) (step_marks part p) (after (suc k)) is.went in
+      subst (AllByRecursion IsTrueStep) (sym is.passages_are) (all_more IsTrueStep (passages part c k) (p ∷ []) h (went, tt))
 
   all_true : (n : ℕ) → AllByRecursion IsTrueStep (passages part c n)
   all_true zero = tt
-  all_true (suc k) = all_more IsTrueStep (passages part c k) _ (all_true k) (step_true k (after k).stop refl (slice_get c.statements (state_after part c k).next) refl)
+  all_true (suc k) = next_true k (all_true k) (next_step part valid c k)
 
 pub are_clear : WaysAreClear
 are_clear part valid c n = all_true part valid c n

@@ -25,16 +25,16 @@ use Rattle.vcm_marks.specs.declared.mark.Going.TheVariants as going
 use Rattle.vcm_way.specs.Marks.{goes, touches, Touching, touching, touched_then, marks_of_touch}
 use Rattle.vcm_way.specs.Steps.{EndsAs}
 use Rattle.vcm_way.specs.inner.Endings.{HasTouched, IsNearAtHit, behind, distance_of}
-use Rattle.vcm_way.proofs.Ends.{HasAimed, HasReturned, approach_within, end_within, back_within}
+use Rattle.vcm_way.proofs.Ends.{HasAimed, HasSearched, HasReturned, approach_within, end_within, back_within}
 
 -- the retract point is near where the way to it meets a block
 pub near_at_hit : (retract : Point) (stop : Option Stop) (hit : Hit) → stop ≡ Some (Collision Retract hit) → IsNearAtHit retract stop → is_near retract ≡ true
 near_at_hit retract stop hit e h = subst (λ (o : Option Stop). IsNearAtHit retract o) e h
 
-aimed_too : (stop : Option Stop) → HasTouched stop → HasAimed stop
-aimed_too None h = tt
-aimed_too (Some (Travel Retract)) h = tt
-aimed_too (Some (Collision Retract hit)) h = tt
+aimed_too : (stop : Option Stop) → HasTouched stop → HasAimed stop × HasSearched stop
+aimed_too None h = (tt, tt)
+aimed_too (Some (Travel Retract)) h = (tt, tt)
+aimed_too (Some (Collision Retract hit)) h = (tt, tt)
 aimed_too (Some (Travel Move)) h = absurd h
 aimed_too (Some (Travel Approach)) h = absurd h
 aimed_too (Some (Travel Search)) h = absurd h
@@ -136,12 +136,12 @@ module _ (part : Workpiece) (valid : IsValid part) (s : Settings) (from nominal 
 
     module _ (has : HasTouched stop) where
       pub start_near : is_near approach ≡ true
-      start_near = approach_near (aimed_too stop has)
+      start_near = approach_near (aimed_too stop has).0
 
       pub end_near : is_near end ≡ true
       end_near =
           within_is_near part valid end
-          (ap (λ (q : Point). is_within part.bounds (coordinate q)) aims.end_is ∙ end_within part s (coordinate from) (coordinate nominal) d stop ends has)
+          (ap (λ (q : Point). is_within part.bounds (coordinate q)) aims.end_is ∙ end_within part s (coordinate from) (coordinate nominal) d stop ends (aimed_too stop has).1)
 
       abbrev depth : ℕ
       depth = unwrap_or (first_inside part s middle d) 0

@@ -14,17 +14,26 @@ use Rattle.vcm_spec.specs.Touch.{centre_of, approach_of, end_of, down_of, back_o
 use Rattle.vcm_spec.specs.FirstTouch.{free_of, free_move, first_inside, touch}
 use Rattle.vcm_spec.specs.Outcome.{Outcome, Gives, ◌>>=◌, demand, found, fits_place, point_of}
 use Rattle.vcm_way.specs.Steps.{EndsAs}
-use Rattle.vcm_way.specs.inner.Endings.{HasTouched}
+
+module _ (P : Option Stop → Type 0) (stop : Option Stop) (h : P stop) where
+  -- a stop that the motion has not
+  other : (why : Stop) → (P (Some why) → ⊥) → stop ≡ Some why → ⊥
+  other why never e = never (subst P e h)
 
 -- ---- a straight move
 
-within_of : (w : Bool) (o : Option Hit) (hit : Hit) → EndsAs (demand w (Travel Move) >>= (λ _. free_of Move o)) (Some (Collision Move hit)) → w ≡ true
-within_of true o hit e = refl
-within_of false o hit e = absurd cc
+-- the aim lies within the limits where it stops so
+abbrev pub HasMoved : Option Stop → Type 0
+HasMoved None = Unit {0}
+HasMoved (Some (Collision Move hit)) = Unit {0}
+HasMoved (Some _) = ⊥
 
--- a move that meets a block has its aim within the limits
-pub aim_within : (part : Workpiece) (x y : ℕ → ℤ) (hit : Hit) → EndsAs (free_move Move part x y) (Some (Collision Move hit)) → is_within part.bounds y ≡ true
-aim_within part x y hit e = within_of (is_within part.bounds y) (contact part x y) hit e
+moved_by : (stop : Option Stop) (w : Bool) (o : Option Hit) → EndsAs (demand w (Travel Move) >>= (λ _. free_of Move o)) stop → HasMoved stop → w ≡ true
+moved_by stop true o e h = refl
+moved_by stop false o e h = absurd (other HasMoved stop h (Travel Move) (λ x. x) e)
+
+pub aim_within : (part : Workpiece) (x y : ℕ → ℤ) (stop : Option Stop) → EndsAs (free_move Move part x y) stop → HasMoved stop → is_within part.bounds y ≡ true
+aim_within part x y stop e h = moved_by stop (is_within part.bounds y) (contact part x y) e h
 
 -- ---- a measurement
 
@@ -42,19 +51,25 @@ chain fits approach hit end t back later made = do
 abbrev pub HasAimed : Option Stop → Type 0
 HasAimed None = Unit {0}
 HasAimed (Some (Collision Approach hit)) = Unit {0}
+HasAimed (Some (Travel Search)) = Unit {0}
+HasAimed (Some Missed) = Unit {0}
 HasAimed (Some (Travel Retract)) = Unit {0}
 HasAimed (Some (Collision Retract hit)) = Unit {0}
 HasAimed (Some _) = ⊥
 
+-- so does the end of the search where it stops so
+abbrev pub HasSearched : Option Stop → Type 0
+HasSearched None = Unit {0}
+HasSearched (Some Missed) = Unit {0}
+HasSearched (Some (Travel Retract)) = Unit {0}
+HasSearched (Some (Collision Retract hit)) = Unit {0}
+HasSearched (Some _) = ⊥
+
 -- so does the retract point where it stops so
 abbrev pub HasReturned : Option Stop → Type 0
+HasReturned None = Unit {0}
 HasReturned (Some (Collision Retract hit)) = Unit {0}
-HasReturned _ = ⊥
-
-module _ (P : Option Stop → Type 0) (stop : Option Stop) (h : P stop) where
-  -- a stop that the motion has not
-  other : (why : Stop) → (P (Some why) → ⊥) → stop ≡ Some why → ⊥
-  other why never e = never (subst P e h)
+HasReturned (Some _) = ⊥
 
 module _ (back : ℕ → Bool) (later : ℕ → Option Hit) (made : ℕ → Touch) (stop : Option Stop) where
   approach_by : (f a : Bool) (hit : Option Hit) (e : Bool) (t : Option ℕ) → EndsAs (chain f a hit e t back later made) stop → HasAimed stop → a ≡ true
@@ -62,11 +77,15 @@ module _ (back : ℕ → Bool) (later : ℕ → Option Hit) (made : ℕ → Touc
   approach_by true false hit e t h p = absurd (other HasAimed stop p (Travel Approach) (λ x. x) h)
   approach_by true true hit e t h p = refl
 
-  end_by : (f a : Bool) (hit : Option Hit) (e : Bool) (t : Option ℕ) → EndsAs (chain f a hit e t back later made) stop → HasTouched stop → e ≡ true
-  end_by false a hit e t h p = absurd (other HasTouched stop p Overflow (λ x. x) h)
-  end_by true false hit e t h p = absurd (other HasTouched stop p (Travel Approach) (λ x. x) h)
-  end_by true true (Some hit) e t h p = absurd (other HasTouched stop p (Collision Approach hit) (λ x. x) h)
-  end_by true true None false t h p = absurd (other HasTouched stop p (Travel Search) (λ x. x) h)
+  fits_by : (f a : Bool) (hit : Option Hit) (e : Bool) (t : Option ℕ) → EndsAs (chain f a hit e t back later made) stop → HasAimed stop → f ≡ true
+  fits_by false a hit e t h p = absurd (other HasAimed stop p Overflow (λ x. x) h)
+  fits_by true a hit e t h p = refl
+
+  end_by : (f a : Bool) (hit : Option Hit) (e : Bool) (t : Option ℕ) → EndsAs (chain f a hit e t back later made) stop → HasSearched stop → e ≡ true
+  end_by false a hit e t h p = absurd (other HasSearched stop p Overflow (λ x. x) h)
+  end_by true false hit e t h p = absurd (other HasSearched stop p (Travel Approach) (λ x. x) h)
+  end_by true true (Some hit) e t h p = absurd (other HasSearched stop p (Collision Approach hit) (λ x. x) h)
+  end_by true true None false t h p = absurd (other HasSearched stop p (Travel Search) (λ x. x) h)
   end_by true true None true t h p = refl
 
   back_by : (f a : Bool) (hit : Option Hit) (e : Bool) (t : Option ℕ) → EndsAs (chain f a hit e t back later made) stop → HasReturned stop → back (unwrap_or t 0) ≡ true
@@ -102,7 +121,10 @@ module _ (part : Workpiece) (s : Settings) (from nominal : ℕ → ℤ) (d : Axi
   pub approach_within : HasAimed stop → is_within part.bounds (approach_of s centre d) ≡ true
   approach_within p = approach_by back later made stop _ _ _ _ _ chained p
 
-  pub end_within : HasTouched stop → is_within part.bounds (end_of s centre d) ≡ true
+  pub points_fit : HasAimed stop → (fits_place (approach_of s centre d) && fits_place (end_of s centre d)) ≡ true
+  points_fit p = fits_by back later made stop _ _ _ _ _ chained p
+
+  pub end_within : HasSearched stop → is_within part.bounds (end_of s centre d) ≡ true
   end_within p = end_by back later made stop _ _ _ _ _ chained p
 
   pub back_within : HasReturned stop → is_within part.bounds (back_of s centre d (unwrap_or (first_inside part s centre d) 0)) ≡ true

@@ -1,6 +1,6 @@
 -- The pieces of a way hang together.
-use Rattle.std.specs.Prelude.{map, flat_map}
-use Rattle.std.proofs.Common.{◌≡◌, ℕ, zero, suc, ◌+◌, List, [], ◌∷◌, ◌++◌, Option, Some, None, slice_get, refl, sym, ap, ◌∙◌, subst, arith}
+use Rattle.std.specs.Prelude.{◌⊎◌, map, flat_map}
+use Rattle.std.proofs.Common.{◌≡◌, ℕ, zero, suc, ◌+◌, List, [], ◌∷◌, ◌++◌, Option, Some, None, slice_get, refl, sym, ap, ◌∙◌, subst, inl, inr, arith}
 use Rattle.std.proofs.lemmas.List.{append-nil, flat_map_more}
 use Rattle.vcm_num.specs.declared.point.Point.{Point}
 use Rattle.vcm_num.specs.Point.{coordinate}
@@ -20,7 +20,7 @@ use Rattle.vcm_machine.proofs.RestsAlong.{rests_always}
 use Rattle.vcm_marks.specs.declared.mark.Mark.{Mark}
 use Rattle.vcm_marks.specs.declared.mark.Mark.TheVariants.{Goes, Touches, Meets}
 use Rattle.vcm_marks.specs.declared.mark.PlacedMark.{PlacedMark}
-use Rattle.vcm_steps.specs.Passages.{passage, passage_at, passages, setup_with, state_after}
+use Rattle.vcm_steps.specs.Passages.{Passage, passage, passage_at, passages, setup_with, state_after}
 use Rattle.vcm_way.specs.Marks.{marks_of_move, marks_of_touch, Touching}
 use Rattle.vcm_way.specs.Laws.{WaysHangTogether}
 use Rattle.vcm_way.specs.Meaning.{Hang, IsNoMotion}
@@ -133,24 +133,18 @@ module _ (part : Workpiece) (valid : IsValid part) (c : Code) where
       subst (λ (w : World). Went part m.world (step_marks part (passage (suc k) m.next s m.world w n)) w)
       (sym (ap (λ (x : CodeState). x.world) (next_state k ∙ step))) (op_goes (setup_with part c) m.world running s.line m.next m.pairs s.op)
 
-  -- the way of so many steps leads to where the probe is
-  abbrev Reached : ℕ → Type 0
-  Reached n = Leads part.bounds.home (marks_in (whole_way part c n)) (after n)
+  -- a step that is taken: what it adds to the run, and what it does
+  pub record IsTaken (k : ℕ) (p : Passage) : Type 0 where
+    pub running : (after k).stop ≡ None
+    pub passages_are : passages part c (suc k) ≡ passages part c k ++ p ∷ []
+    pub went : Went part (after k) (step_marks part p) (after (suc k))
 
-  next_reached : (k : ℕ) → Reached k → (o : Option StopPlace) → (after k).stop ≡ o → Reached (suc k)
-  next_reached k h (Some p) e =
-      let m = state_after part c k in
-      let none : passages part c (suc k) ≡ passages part c k =
-      ap (λ x. passages part c k ++ unless_stopped x [] (passage_at (suc k) m (code_step (setup_with part c) c.statements m) (slice_get c.statements m.next))) e
-      ∙ append-nil (passages part c k) in
-      let same : state_after part c (suc k) ≡ m =
-      next_state k ∙ ap (λ x. unless_stopped x m (fetched (setup_with part c) (slice_get c.statements m.next) m.world m.next m.pairs)) e in
-      record {
-        end = h.end;
-        hang = subst (λ ps. Hang part.bounds.home (marks_in (flat_map (placed_marks part) ps)) h.end) (sym none) h.hang;
-        ends = λ no. h.ends (subst (λ (x : CodeState). IsNoMotion (reason x.world.stop)) same no) ∙ sym (ap (λ (x : CodeState). x.world.position) same);
-      }
-  next_reached k h None e = by (slice_get c.statements (state_after part c k).next) refl
+  -- there is no further step, or one is taken
+  abbrev pub IsNext : ℕ → Type 0
+  IsNext k = ((passages part c (suc k) ≡ passages part c k) × (state_after part c (suc k) ≡ state_after part c k)) ⊎ ((p : Passage) × IsTaken k p)
+
+  pub next_step : (k : ℕ) → IsNext k
+  next_step k = by (after k).stop refl (slice_get c.statements m.next) refl
     where
       m : CodeState
       m = state_after part c k
@@ -158,44 +152,58 @@ module _ (part : Workpiece) (valid : IsValid part) (c : Code) where
       step : CodeState
       step = code_step (setup_with part c) c.statements m
 
-      here : h.end ≡ m.world.position
-      here = h.ends (subst (λ x. IsNoMotion (reason x)) (sym e) tt)
+      none_more : (o : Option StopPlace) → (after k).stop ≡ o → passages part c (suc k) ≡ passages part c k ++ unless_stopped o [] (passage_at (suc k) m step (slice_get c.statements m.next))
+      none_more o e = ap (λ x. passages part c k ++ unless_stopped x [] (passage_at (suc k) m step (slice_get c.statements m.next))) e
 
-      by : (o : Option CodeStatement) → slice_get c.statements m.next ≡ o → Reached (suc k)
-      by None got =
-          let none : passages part c (suc k) ≡ passages part c k =
-          ap (λ x. passages part c k ++ unless_stopped x [] (passage_at (suc k) m step (slice_get c.statements m.next))) e
-          ∙ ap (λ x. passages part c k ++ passage_at (suc k) m step x) got ∙ append-nil (passages part c k) in
-          let same : state_after part c (suc k) ≡ m =
-          next_state k ∙ ap (λ x. unless_stopped x m (fetched (setup_with part c) (slice_get c.statements m.next) m.world m.next m.pairs)) e
-          ∙ ap (λ x. fetched (setup_with part c) x m.world m.next m.pairs) got in
-          record {
-            end = h.end;
-            hang = subst (λ ps. Hang part.bounds.home (marks_in (flat_map (placed_marks part) ps)) h.end) (sym none) h.hang;
-            ends = λ no. h.ends (subst (λ (x : CodeState). IsNoMotion (reason x.world.stop)) same no) ∙ sym (ap (λ (x : CodeState). x.world.position) same);
-          }
-      by (Some s) got =
-          let p = passage (suc k) m.next s m.world (after (suc k)) step.next in
-          let one : passages part c (suc k) ≡ passages part c k ++ p ∷ [] =
-          ap (λ x. passages part c k ++ unless_stopped x [] (passage_at (suc k) m step (slice_get c.statements m.next))) e
-          ∙ ap (λ x. passages part c k ++ passage_at (suc k) m step x) got
-          ∙ ap (λ (w : World). passages part c k ++ passage (suc k) m.next s m.world w step.next ∷ []) (sym (ap (λ (x : CodeState). x.world) (next_state k))) in
-          let more = went_leads part valid m.world (rests_always (setup_with part c) valid c.statements k) (step_marks part p) (after (suc k)) (step_went k s e got step.next) in
-          let way : marks_in (whole_way part c (suc k)) ≡ marks_in (whole_way part c k) ++ step_marks part p =
-          ap (λ ps. marks_in (flat_map (placed_marks part) ps)) one
-          ∙ ap marks_in (sym (flat_map_more (placed_marks part) [] (passages part c k) p))
-          ∙ marks_more (whole_way part c k) (placed_marks part p)
-          ∙ ap (λ ms. marks_in (whole_way part c k) ++ ms) (marks_placed (suc k) m.next s.line (step_marks part p)) in
-          record {
-            end = more.end;
-            hang = subst (λ ms. Hang part.bounds.home ms more.end) (sym way)
-                (hang_more part.bounds.home h.end more.end (marks_in (whole_way part c k)) (step_marks part p) h.hang (subst (λ x. Hang x (step_marks part p) more.end) (sym here) more.hang));
-            ends = more.ends;
-          }
+      state_is : (o : Option StopPlace) → (after k).stop ≡ o → state_after part c (suc k) ≡ unless_stopped o m (fetched (setup_with part c) (slice_get c.statements m.next) m.world m.next m.pairs)
+      state_is o e = next_state k ∙ ap (λ x. unless_stopped x m (fetched (setup_with part c) (slice_get c.statements m.next) m.world m.next m.pairs)) e
+
+      by : (o : Option StopPlace) → (after k).stop ≡ o → (s : Option CodeStatement) → slice_get c.statements m.next ≡ s → IsNext k
+      by (Some p) e s got = inl (none_more (Some p) e ∙ append-nil (passages part c k), state_is (Some p) e)
+      by None e None got =
+          inl (
+            none_more None e ∙ ap (λ x. passages part c k ++ passage_at (suc k) m step x) got ∙ append-nil (passages part c k),
+            state_is None e ∙ ap (λ x. fetched (setup_with part c) x m.world m.next m.pairs) got,
+          )
+      by None e (Some s) got =
+          inr (
+            passage (suc k) m.next s m.world (after (suc k)) step.next,
+            record {
+              running = e;
+              passages_are = none_more None e ∙ ap (λ x. passages part c k ++ passage_at (suc k) m step x) got
+                  ∙ ap (λ (w : World). passages part c k ++ passage (suc k) m.next s m.world w step.next ∷ []) (sym (ap (λ (x : CodeState). x.world) (next_state k)));
+              went = step_went k s e got step.next;
+            },
+          )
+
+  -- the way of so many steps leads to where the probe is
+  abbrev Reached : ℕ → Type 0
+  Reached n = Leads part.bounds.home (marks_in (whole_way part c n)) (after n)
+
+  next_reached : (k : ℕ) → Reached k → IsNext k → Reached (suc k)
+  next_reached k h (inl none) = record {
+    end = h.end;
+    hang = subst (λ ps. Hang part.bounds.home (marks_in (flat_map (placed_marks part) ps)) h.end) (sym none.0) h.hang;
+    ends = λ no. h.ends (subst (λ (x : CodeState). IsNoMotion (reason x.world.stop)) none.1 no) ∙ sym (ap (λ (x : CodeState). x.world.position) none.1);
+  }
+  next_reached k h (inr (p, is)) =
+      let here : h.end ≡ (after k).position = h.ends (subst (λ x. IsNoMotion (reason x)) (sym is.running) tt) in
+      let more = went_leads part valid (after k) (rests_always (setup_with part c) valid c.statements k) (step_marks part p) (after (suc k)) is.went in
+      let way : marks_in (whole_way part c (suc k)) ≡ marks_in (whole_way part c k) ++ step_marks part p =
+      ap (λ ps. marks_in (flat_map (placed_marks part) ps)) is.passages_are
+      ∙ ap marks_in (sym (flat_map_more (placed_marks part) [] (passages part c k) p))
+      ∙ marks_more (whole_way part c k) (placed_marks part p)
+      ∙ ap (λ ms. marks_in (whole_way part c k) ++ ms) (marks_placed p.count p.number p.statement.line (step_marks part p)) in
+      record {
+        end = more.end;
+        hang = subst (λ ms. Hang part.bounds.home ms more.end) (sym way)
+            (hang_more part.bounds.home h.end more.end (marks_in (whole_way part c k)) (step_marks part p) h.hang (subst (λ x. Hang x (step_marks part p) more.end) (sym here) more.hang));
+        ends = more.ends;
+      }
 
   reached : (n : ℕ) → Reached n
   reached zero = record { end = part.bounds.home; hang = refl; ends = λ no. refl }
-  reached (suc k) = next_reached k (reached k) (after k).stop refl
+  reached (suc k) = next_reached k (reached k) (next_step k)
 
 pub hang_together : WaysHangTogether
 hang_together part valid c n = let r = reached part valid c n in (r.end, r.hang, r.ends)

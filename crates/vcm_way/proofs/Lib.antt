@@ -8,3 +8,6 @@ pub mod Went
 pub mod Depth
 pub mod Hanging
 pub mod Clearing
+pub mod Near
+pub mod Fractions
+pub mod ContactEnds

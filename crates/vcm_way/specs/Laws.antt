@@ -1,13 +1,17 @@
 -- Statements about ways. Each is the contract of a law in src/laws.rt.
-use Rattle.std.specs.Prelude.{◌≡◌, ◌≢◌, ℕ, map}
+use Rattle.std.specs.Prelude.{◌≡◌, ◌≢◌, ℕ, ◌<◌, map}
 use Rattle.std.specs.List.{AllByRecursion}
 use Rattle.vcm_num.specs.declared.point.Point.{Point}
+use Rattle.vcm_num.specs.Point.{coordinate}
 use Rattle.vcm_spec.specs.Workpiece.{Workpiece, IsValid}
 use Rattle.vcm_code.specs.declared.code.Code.{Code}
 use Rattle.vcm_machine.specs.declared.ran.End.TheVariants.{NoMemory}
 use Rattle.vcm_machine.specs.declared.ran.Ran.{Ran}
+use Rattle.vcm_motion.specs.Places.{part_of_way}
 use Rattle.vcm_state.specs.Held.{Held}
 use Rattle.vcm_steps.specs.Passages.{state_after, passages}
+use Rattle.vcm_way.specs.Gone.{contact_fraction}
+use Rattle.vcm_way.specs.Marks.{contact_point}
 use Rattle.vcm_way.specs.Meaning.{Hang, IsNoMotion, AreTrue}
 use Rattle.vcm_way.specs.Ways.{Kept, reason, step_marks, whole_way}
 use Rattle.vcm_way.specs.Following.{HasFollowed}
@@ -30,3 +34,9 @@ WaysHangTogether =
 -- one, and a contact is where it first meets the block
 abbrev pub WaysAreClear : Type 0
 WaysAreClear = (part : Workpiece) → IsValid part → (c : Code) (n : ℕ) → AllByRecursion (λ p. AreTrue part (step_marks part p)) (passages part c n)
+
+-- the mark of a contact with the block n stands at the fraction of the way from a to b that was gone, cut off to whole micrometres towards a
+abbrev pub ContactsEndWays : Type 0
+ContactsEndWays =
+    (part : Workpiece) (a b : Point) (n k : ℕ) → k < 3
+    → coordinate (contact_point part n a b) k ≡ part_of_way (contact_fraction part n a b) (coordinate a k) (coordinate b k)

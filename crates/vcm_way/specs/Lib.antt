@@ -4,6 +4,8 @@ pub mod Meaning
 pub mod Tasks
 pub mod Ways
 pub mod Following
+pub mod Gone
+pub mod Seen
 pub mod Laws
 pub mod Samples
 pub mod inner

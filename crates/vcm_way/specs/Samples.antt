@@ -5,6 +5,7 @@ use Rattle.vcm_num.specs.declared.point.Point.{Point}
 use Rattle.vcm_num.specs.Point.{coordinate}
 use Rattle.vcm_spec.specs.declared.stop.Stop.TheVariants.{Collision, Travel, Missed, Overflow}
 use Rattle.vcm_spec.specs.declared.words.MovePhase.TheVariants.{Move}
+use Rattle.vcm_spec.specs.FirstContact.{fraction}
 use Rattle.vcm_spec.specs.Touch.{centre_of}
 use Rattle.vcm_spec.specs.World.{opening_settings}
 use Rattle.vcm_spec.specs.Samples.Parts.{one_block, at, hit}
@@ -13,6 +14,7 @@ use Rattle.vcm_marks.specs.declared.mark.Mark.{Mark}
 use Rattle.vcm_marks.specs.declared.mark.Mark.TheVariants.{Goes, Meets}
 use Rattle.vcm_marks.specs.declared.mark.PlacedMark.{PlacedMark}
 use Rattle.vcm_way.specs.Marks.{Touching, goes, touches, touching, marks_of_move, marks_of_touch}
+use Rattle.vcm_way.specs.Gone.{whole, ways_in}
 use Rattle.vcm_way.specs.Ways.{last_pieces}
 
 -- where the probe begins
@@ -52,6 +54,21 @@ touched = refl
 pub missed : marks_of_touch one_block home middle (Some Missed) ≡
     goes going.Approach home (at 20000 20000 22500) ∷ goes going.Search (at 20000 20000 22500) (at 20000 20000 18500) ∷ []
 missed = refl
+
+-- the way into the block is gone up to 8/9
+pub way_into : ways_in one_block (marks_of_move one_block home (at 20000 20000 10000) (Some (Collision Move (hit 1 888)))) ≡
+    record { going = going.Move; from = home; to = at 20000 20000 10000; gone = fraction 80000 90000 } ∷ []
+way_into = refl
+
+-- none is gone beyond the limits
+pub way_beyond : ways_in one_block (marks_of_move one_block home (at 600000 0 20000) (Some (Travel Move))) ≡ []
+way_beyond = refl
+
+-- those of a touch are gone whole
+pub ways_touched : ways_in one_block (marks_of_touch one_block home middle None) ≡
+    whole going.Approach home (at 20000 20000 22500) ∷ whole going.Search (at 20000 20000 22500) (at 20000 20000 20000)
+    ∷ whole going.Retract (at 20000 20000 20000) (at 20000 20000 22000) ∷ []
+ways_touched = refl
 
 -- marks of the steps 1, 2 and 2
 abbrev placed : ℕ → Mark → PlacedMark

@@ -1,6 +1,6 @@
 //! The laws of ways, each the contract of a function without a body.
 
-ghost use Rattle.vcm_way.specs.Laws.{WaysAreOne, WaysHangTogether, WaysAreClear};
+ghost use Rattle.vcm_way.specs.Laws.{WaysAreOne, WaysHangTogether, WaysAreClear, ContactsEndWays};
 
 /// Runs of one code for as many steps have one way, and come to one state, unless memory is refused.
 pub fn ways_are_one()
@@ -18,4 +18,10 @@ pub fn ways_hang_together()
 /// way to the aim, first meets the block with its number.
 pub fn ways_are_clear()
     ensures { WaysAreClear }
+{}
+
+/// A way that was gone up to a contact ends where the mark of the contact stands: at the exact fraction of it that was gone, cut off to whole micrometres
+/// towards its start.
+pub fn contacts_end_ways()
+    ensures { ContactsEndWays }
 {}

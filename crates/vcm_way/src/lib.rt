@@ -1,8 +1,9 @@
 //! The way of the probe in a run, as marks: the pieces that it goes, the points that it touches, and where it meets a block. Each step adds
-//! what its statement and its stop say. Lengths are whole micrometres.
+//! what its statement and its stop say. And the straight ways that were gone, read off the marks, exact up to a contact. Lengths are whole micrometres.
 #![tactic(auto)]
 
 mod following;
+mod gone;
 pub mod laws;
 mod limits;
 mod moving;
@@ -13,6 +14,7 @@ mod touching;
 mod way;
 
 pub use following::{Followed, follow};
+pub use gone::{Gone, first_way};
 pub use step::{Before, StepMarks, look, marks_of_step, reason};
 pub use task::{Measuring, Task};
 pub use vcm_machine::{End, Ran};

@@ -1,9 +1,8 @@
 -- The lines of a motion that stopped.
 use Rattle.std.specs.Prelude.{ℕ, ℤ, List, [], ◌∷◌, ◌++◌, Option, Some, None, decimal, codes}
 use Rattle.vcm_num.specs.declared.point.Point.{Point}
-use Rattle.vcm_num.specs.Point.{coordinate}
 use Rattle.vcm_num.specs.Texts.{thousandths}
-use Rattle.vcm_report.specs.Printed.{in_a_row}
+use Rattle.vcm_report.specs.Printed.{in_a_row, point_text}
 use Rattle.vcm_cause.specs.declared.sides.Side.{Side}
 use Rattle.vcm_cause.specs.declared.sides.Side.TheVariants.{LowX, HighX, LowY, HighY}
 use Rattle.vcm_cause.specs.declared.sides.FreeSide.{FreeSide}
@@ -12,17 +11,16 @@ use Rattle.vcm_cause.specs.declared.cause.Cause.{Cause}
 use Rattle.vcm_cause.specs.declared.cause.Cause.TheVariants.{Elsewhere, Way, Met}
 
 -- a point in millimetres between two texts
-abbrev pub point_text : List ℕ → Point → List ℕ → List ℕ
-point_text before at behind =
-    in_a_row (before ∷ thousandths (coordinate at 0) ∷ codes " " ∷ thousandths (coordinate at 1) ∷ codes " " ∷ thousandths (coordinate at 2) ∷ behind ∷ [])
+abbrev pub point_between : List ℕ → Point → List ℕ → List ℕ
+point_between before at after = before ++ (point_text (codes " ") at ++ after)
 
 -- a way
 abbrev pub way_line : Point → Point → List ℕ
-way_line from to = point_text (codes "way ") from (codes " to ") ++ point_text [] to (codes "\n")
+way_line from to = point_between (codes "way ") from (codes " to ") ++ point_between [] to (codes "\n")
 
 -- the corners of a block
 abbrev pub corners_text : Point → Point → List ℕ
-corners_text low high = point_text [] low (codes " to ") ++ point_text [] high (codes "\n")
+corners_text low high = point_between [] low (codes " to ") ++ point_between [] high (codes "\n")
 
 -- the number of a block
 abbrev pub block_text : ℕ → List ℕ
@@ -34,7 +32,7 @@ block_line met = block_text met.contact.block ++ corners_text met.block.low met.
 
 -- a contact, and the block that is met
 abbrev pub contact_line : Obstacle → List ℕ
-contact_line met = point_text (codes "contact of the tip's centre at ") met.contact.at (codes " with ") ++ block_line met
+contact_line met = point_between (codes "contact of the tip's centre at ") met.contact.at (codes " with ") ++ block_line met
 
 -- the words before the edge of a side
 abbrev pub side_text : Side → List ℕ

@@ -5,7 +5,7 @@ use Rattle.vcm_spec.specs.declared.stop.Stop.TheVariants.{Ended}
 use Rattle.vcm_spec.specs.declared.stop.StopPlace.{StopPlace}
 use Rattle.vcm_spec.specs.Workpiece.{Workpiece}
 use Rattle.vcm_code.specs.Code.{CodeStatement}
-use Rattle.vcm_report.specs.Printed.{in_a_row, stopped_line}
+use Rattle.vcm_report.specs.Printed.{stopped_line, no_stop_line}
 use Rattle.vcm_state.specs.Held.{Held}
 use Rattle.vcm_cause.specs.Behind.{Behind}
 use Rattle.vcm_cause.specs.Cause.{cause_of}
@@ -13,10 +13,6 @@ use Rattle.vcm_why.specs.Causes.{cause_lines}
 use Rattle.vcm_why.specs.Loops.{loop_lines}
 use Rattle.vcm_why.specs.Origins.{Traced}
 use Rattle.vcm_why.specs.Sources.{origin_lines}
-
--- how many steps were done without a stop
-abbrev pub steps_line : ℕ → List ℕ
-steps_line done = in_a_row (codes "no stop after " ∷ decimal done ∷ codes " steps\n" ∷ [])
 
 -- where the statement with this number comes from in a text: its line, the CALLs, and the loops round it
 abbrev pub text_lines : Traced → List CodeStatement → Held → (rounds : List ℕ) → (number line : ℕ) → List ℕ
@@ -45,7 +41,7 @@ placed_lines false t part ss held number b place = stop_lines t part ss held num
 
 -- what is told of a stop, or of so many steps without one
 abbrev pub lines_at : Option StopPlace → Option Traced → Workpiece → List CodeStatement → Held → (number : ℕ) → Behind → (done : ℕ) → List ℕ
-lines_at None t part ss held number b done = steps_line done
+lines_at None t part ss held number b done = no_stop_line done
 lines_at (Some place) t part ss held number b done = placed_lines (is_ended place.stop) t part ss held number b place
 
 -- what is told of a run that came to this state

@@ -11,8 +11,8 @@ use Rattle.vcm_machine.specs.Running.{started, later, RunEnded}
 use Rattle.vcm_state.specs.Held.{Held}
 use Rattle.vcm_cause.specs.declared.watching.Progress.{Progress}
 use Rattle.vcm_cause.specs.Watched.{seen, HasWatched}
-use Rattle.vcm_why.specs.declared.telling.WhyFault.{WhyFault}
-use Rattle.vcm_why.specs.declared.telling.WhyFault.TheVariants as faults
+use Rattle.vcm_steps.specs.declared.fault.Unfinished.{Unfinished}
+use Rattle.vcm_steps.specs.declared.fault.Unfinished.TheVariants as faults
 use Rattle.vcm_why.specs.Origins.{Traced, IsOrigin}
 use Rattle.vcm_why.specs.Reasons.{why_lines}
 
@@ -44,10 +44,9 @@ IsWhy text part c n stop old new = IsReason text part c n stop (Appends old new)
 abbrev pub IsHaltedAfter : Workpiece → Code → ℕ → ℕ → Type 0
 IsHaltedAfter part c n done = RunEnded n (started part c) (later done (started part c)) done NoMemory
 
--- why it wasn't written to the end: memory was refused before the run or in it, or the text was, and nothing was written; or a write failed, and a front of it
+-- why it wasn't written to the end: memory was refused before the run, in it or for the text, and nothing was written; or a write failed, and a front of it
 -- was written that is not all
-abbrev pub IsNoWhy : Option (List ℕ) → Workpiece → Code → ℕ → WhyFault → Option (List ℕ) → Option (List ℕ) → Type 0
+abbrev pub IsNoWhy : Option (List ℕ) → Workpiece → Code → ℕ → Unfinished → Option (List ℕ) → Option (List ℕ) → Type 0
 IsNoWhy text part c n faults.NoMemory old new = Keeps old new
 IsNoWhy text part c n (faults.Memory done) old new = IsHaltedAfter part c n done × Keeps old new
-IsNoWhy text part c n (faults.Text f) old new = Keeps old new
 IsNoWhy text part c n (faults.Write done) old new = (stop : Option StopPlace) × IsReason text part c n stop (AppendsFront old new)

@@ -3,51 +3,42 @@
 ghost use Rattle.std.specs.Prelude.{◌≡◌};
 ghost use Rattle.vcm_num.specs.Texts.{thousandths};
 ghost use Rattle.vcm_num.specs.Written.{Wrote};
-ghost use Rattle.vcm_why.specs.Causes.{point_text, way_line, corners_text, block_text, block_line, contact_line, side_text, edge_text, side_line, beside_text, height_text, over_line, alone_line, free_line, block_lines, met_lines, cause_lines};
+ghost use Rattle.vcm_why.specs.Causes.{point_between, way_line, corners_text, block_text, block_line, contact_line, side_text, edge_text, side_line, beside_text, height_text, over_line, alone_line, free_line, block_lines, met_lines, cause_lines};
 
 use itoa::Buffer;
 use std::io::Write;
 use vcm_cause::{Cause, FreeSide, Obstacle, Side};
 use vcm_num::{Point, WriteFault, thousandths_text, write_all, write_pieces};
+use vcm_report::write_point;
 
 // Writes a point in millimetres between two texts.
-fn write_point<W: Write>(
+fn write_between<W: Write>(
     before: &[u8],
     at: Point,
-    behind: &[u8],
+    after: &[u8],
     writer: &mut W,
 ) -> Result<(), WriteFault>
-    ensures { Wrote (W.contents writer.old) (W.contents writer.new) (point_text before.now at behind.now) result }
+    ensures { Wrote (W.contents writer.old) (W.contents writer.new) (point_between before.now at after.now) result }
 {
-    let Point([x, y, z]) = at;
-    write_pieces(
-        writer,
-        &[
-            before,
-            thousandths_text(x).as_slice(),
-            b" ",
-            thousandths_text(y).as_slice(),
-            b" ",
-            thousandths_text(z).as_slice(),
-            behind,
-        ],
-    )
+    write_all(writer, before)?;
+    write_point(at, b" ", writer)?;
+    write_all(writer, after)
 }
 
 // Writes a way.
 fn write_way<W: Write>(from: Point, to: Point, writer: &mut W) -> Result<(), WriteFault>
     ensures { Wrote (W.contents writer.old) (W.contents writer.new) (way_line from to) result }
 {
-    write_point(b"way ", from, b" to ", writer)?;
-    write_point(b"", to, b"\n", writer)
+    write_between(b"way ", from, b" to ", writer)?;
+    write_between(b"", to, b"\n", writer)
 }
 
 // Writes the corners of a block.
 fn write_corners<W: Write>(low: Point, high: Point, writer: &mut W) -> Result<(), WriteFault>
     ensures { Wrote (W.contents writer.old) (W.contents writer.new) (corners_text low high) result }
 {
-    write_point(b"", low, b" to ", writer)?;
-    write_point(b"", high, b"\n", writer)
+    write_between(b"", low, b" to ", writer)?;
+    write_between(b"", high, b"\n", writer)
 }
 
 // Writes the number of a block.
@@ -70,7 +61,7 @@ fn write_block_line<W: Write>(met: &Obstacle, writer: &mut W) -> Result<(), Writ
 fn write_contact<W: Write>(met: &Obstacle, writer: &mut W) -> Result<(), WriteFault>
     ensures { Wrote (W.contents writer.old) (W.contents writer.new) (contact_line met.now) result }
 {
-    write_point(
+    write_between(
         b"contact of the tip's centre at ",
         met.contact.at,
         b" with ",

@@ -8,4 +8,4 @@ mod source;
 mod stops;
 mod telling;
 
-pub use telling::{WhyFault, why_image, why_text};
+pub use telling::{why_image, why_text};

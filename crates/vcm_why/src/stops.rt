@@ -3,30 +3,20 @@
 ghost use Rattle.std.specs.Prelude.{◌≡◌, ◌<◌, length};
 ghost use Rattle.vcm_num.specs.Written.{Wrote};
 ghost use Rattle.vcm_cause.specs.Watched.{seen};
-ghost use Rattle.vcm_why.specs.Reasons.{steps_line, text_lines, where_lines, stop_lines, is_ended, why_lines};
+ghost use Rattle.vcm_why.specs.Reasons.{text_lines, where_lines, stop_lines, is_ended, why_lines};
 
 use crate::causes::write_cause;
 use crate::loops::write_loops;
 use crate::origin::Origin;
 use crate::source::write_origin;
-use itoa::Buffer;
 use std::io::Write;
 use vcm_cause::{Progress, Rounds, cause_of};
 use vcm_loader::Loaded;
-use vcm_num::{WriteFault, write_all, write_pieces};
+use vcm_num::{WriteFault, write_all};
 use vcm_part::PartData;
-use vcm_report::write_stop_line;
+use vcm_report::{write_no_stop, write_stop_line};
 use vcm_spec::{Stop, StopPlace};
 use vcm_state::World;
-
-// Writes how many steps were done without a stop.
-fn write_steps<W: Write>(done: u64, writer: &mut W) -> Result<(), WriteFault>
-    ensures { Wrote (W.contents writer.old) (W.contents writer.new) (steps_line done) result }
-{
-    let mut steps = Buffer::new();
-    let steps = steps.format(done).as_bytes();
-    write_pieces(writer, &[b"no stop after ", steps, b" steps\n"])
-}
 
 // Writes the line of the text and the CALLs that a statement comes from, and the loops round it.
 fn write_text<W: Write>(
@@ -118,7 +108,7 @@ pub(crate) fn write_why<W: Write>(
     ensures { Wrote (W.contents writer.old) (W.contents writer.new) (why_lines origin.now part.now loaded.now.statements world.now number (seen progress.now) done) result }
 {
     match world.stop() {
-        None => write_steps(done, writer),
+        None => write_no_stop(done, writer),
         Some(place) => {
             if is_ended(place.stop) {
                 return write_stop_line(world.tables(), place, writer);

@@ -9,25 +9,12 @@ use crate::stops::write_why;
 use std::alloc::Global;
 use std::io::Write;
 use vcm_cause::{Watched, watch};
-use vcm_lines::SourceFault;
 use vcm_loader::Loaded;
 use vcm_machine::End;
 use vcm_motion::Part;
 use vcm_part::PartData;
 use vcm_spec::StopPlace;
-
-/// Why it isn't told to its end.
-#[derive(Clone, Copy)]
-pub enum WhyFault {
-    /// A growth of memory was refused before the run. Nothing is written.
-    NoMemory,
-    /// A growth of memory was refused to an output line, after so many steps. Nothing is written.
-    Memory { done: u64 },
-    /// The text is refused, or memory was refused to its statements. Nothing is written.
-    Text(SourceFault),
-    /// The writer failed, or took no byte, after so many steps. It has taken a front of the text that is not all.
-    Write { done: u64 },
-}
+use vcm_steps::Unfinished;
 
 // Writes what is told of a run that was watched, and gives its stop.
 fn tell<W: Write>(
@@ -36,7 +23,7 @@ fn tell<W: Write>(
     part: &PartData,
     watched: &Watched,
     writer: &mut W,
-) -> Result<Option<StopPlace>, WhyFault>
+) -> Result<Option<StopPlace>, Unfinished>
     requires { watched.now.next < length loaded.now.statements }
     ensures told { IfOk result (λ stop. IsTold origin.now part.now loaded.now watched.now stop (W.contents writer.old) (W.contents writer.new)) }
     ensures fault { IfErr result (λ f. IsNotTold origin.now part.now loaded.now watched.now f (W.contents writer.old) (W.contents writer.new)) }
@@ -54,7 +41,7 @@ fn tell<W: Write>(
         writer,
     ) {
         Ok(()) => Ok(world.stop()),
-        Err(_) => Err(WhyFault::Write { done }),
+        Err(_) => Err(Unfinished::Write { done }),
     }
 }
 
@@ -65,7 +52,7 @@ fn run_watched<P: Part>(
     part: &P,
     blocks: &PartData,
     steps: u64,
-) -> Result<Watched, WhyFault>
+) -> Result<Watched, Unfinished>
     requires { P.part part.now ≡ blocks.now }
     ensures watched { IfOk result (IsAmple blocks.now loaded.now steps) }
     ensures within { IfOk result (λ w. w.next < length loaded.now.statements) }
@@ -73,11 +60,11 @@ fn run_watched<P: Part>(
 {
     let watched = match watch(alloc, loaded, part, blocks, steps) {
         Ok(watched) => watched,
-        Err(_) => return Err(WhyFault::NoMemory),
+        Err(_) => return Err(Unfinished::NoMemory),
     };
     let done = watched.ran.done;
     match watched.ran.end {
-        End::NoMemory => Err(WhyFault::Memory { done }),
+        End::NoMemory => Err(Unfinished::Memory { done }),
         _ => Ok(watched),
     }
 }
@@ -85,7 +72,7 @@ fn run_watched<P: Part>(
 /// Runs the code of a program's text for at most so many steps beside a workpiece, whose blocks are given too, and writes why the run stopped where it did.
 /// It answers the stop, if it came to one.
 ///
-/// Errors: see `WhyFault`.
+/// Errors: see `Unfinished`. Nothing is written where memory is refused.
 pub fn why_text<P: Part, W: Write>(
     alloc: Global,
     loaded: &Loaded<'_>,
@@ -94,7 +81,7 @@ pub fn why_text<P: Part, W: Write>(
     text: &[u8],
     steps: u64,
     writer: &mut W,
-) -> Result<Option<StopPlace>, WhyFault>
+) -> Result<Option<StopPlace>, Unfinished>
     requires { P.part part.now ≡ blocks.now }
     ensures why { IfOk result (λ stop. IsWhy (Some text.now) blocks.now loaded.now steps stop (W.contents writer.old) (W.contents writer.new)) }
     ensures fault { IfErr result (λ f. IsNoWhy (Some text.now) blocks.now loaded.now steps f (W.contents writer.old) (W.contents writer.new)) }
@@ -108,13 +95,14 @@ pub fn why_text<P: Part, W: Write>(
             let origin = Some(origin);
             tell(&origin, loaded, blocks, &watched, writer)
         }
-        Err(fault) => Err(WhyFault::Text(fault)),
+        // The text of a program that was built is refused for want of memory alone.
+        Err(_) => Err(Unfinished::NoMemory),
     }
 }
 
 /// The same of the code of an image, which has no text.
 ///
-/// Errors: see `WhyFault`.
+/// Errors: see `Unfinished`. Nothing is written where memory is refused.
 pub fn why_image<P: Part, W: Write>(
     alloc: Global,
     loaded: &Loaded<'_>,
@@ -122,7 +110,7 @@ pub fn why_image<P: Part, W: Write>(
     blocks: &PartData,
     steps: u64,
     writer: &mut W,
-) -> Result<Option<StopPlace>, WhyFault>
+) -> Result<Option<StopPlace>, Unfinished>
     requires { P.part part.now ≡ blocks.now }
     ensures why { IfOk result (λ stop. IsWhy None blocks.now loaded.now steps stop (W.contents writer.old) (W.contents writer.new)) }
     ensures fault { IfErr result (λ f. IsNoWhy None blocks.now loaded.now steps f (W.contents writer.old) (W.contents writer.new)) }

@@ -7,11 +7,11 @@ use Rattle.vcm_spec.specs.Workpiece.{Workpiece, grown}
 use Rattle.vcm_carried.specs.declared.contact.Contact.{Contact}
 use Rattle.vcm_boxes.specs.declared.boxes.ProbeBox.{ProbeBox}
 use Rattle.vcm_steps.specs.Passages.{Passage}
-use Rattle.vcm_gone.specs.declared.ways.Gone.{Gone as Went}
-use Rattle.vcm_gone.specs.Gone.{Gone, PlacedWay, placed_ways}
-use Rattle.vcm_gone.specs.Seen.{IsSameWay, seen}
-use Rattle.vcm_clearance.specs.declared.clearing.ClearanceFault.{ClearanceFault}
-use Rattle.vcm_clearance.specs.declared.clearing.ClearanceFault.TheVariants as faults
+use Rattle.vcm_way.specs.declared.gone.Gone.{Gone as Went}
+use Rattle.vcm_way.specs.Gone.{Gone, PlacedWay, placed_at, placed_ways}
+use Rattle.vcm_way.specs.Seen.{IsSameWay, seen}
+use Rattle.vcm_steps.specs.declared.fault.Unfinished.{Unfinished}
+use Rattle.vcm_steps.specs.declared.fault.Unfinished.TheVariants as faults
 use Rattle.vcm_marks.specs.declared.mark.Moment.{Moment}
 use Rattle.vcm_clearance.specs.declared.room.Room.{Room}
 use Rattle.vcm_clearance.specs.declared.room.Room.TheVariants.{Clear}
@@ -25,13 +25,6 @@ pub record IsPlaced (place : Moment) (v : Went) (p : PlacedWay) : Type 0 where
   pub step : p.step ≡ place.step
   pub number : p.number ≡ place.number
   pub line : p.line ≡ place.line
-
--- the ways of the code at a place are these ways of the run
-abbrev pub ArePlaced : Moment → List Went → List PlacedWay → Type 0
-ArePlaced place [] [] = Unit {0}
-ArePlaced place [] (p ∷ ps) = ⊥
-ArePlaced place (v ∷ vs) [] = ⊥
-ArePlaced place (v ∷ vs) (p ∷ ps) = IsPlaced place v p × ArePlaced place vs ps
 
 -- with its sides moved out by g, the box meets no block on the way of the code
 abbrev pub IsClearWith : List Block3 → Block3 → Went → ℕ → Type 0
@@ -59,20 +52,31 @@ pub record IsDone (blocks : List Block3) (boxes : List ProbeBox) (ws : List Plac
   pub are_rooms : AreRooms blocks boxes ws rooms
   pub counted_is : count ≡ counted (length ws)
 
+-- behind any ways that were tried, these ways of one step were tried too, and their lines were written
+abbrev pub AreAdded : List Block3 → List ProbeBox → Moment → List Gone → List Room → ℕ → Option (List ℕ) → List Room → ℕ → Option (List ℕ) → Type 0
+AreAdded blocks boxes place gs rooms count old after sum new =
+    (ws : List PlacedWay) → IsDone blocks boxes ws rooms count → IsDone blocks boxes (ws ++ placed_at place gs) after sum
+    × Appends old new (run_lines blocks boxes (is_empty ws) (placed_at place gs))
+
+-- or one of these lines could not be written
+abbrev pub AreCut : List Block3 → List ProbeBox → Moment → List Gone → List Room → ℕ → Option (List ℕ) → Option (List ℕ) → Type 0
+AreCut blocks boxes place gs rooms count old new =
+    (ws : List PlacedWay) → IsDone blocks boxes ws rooms count → AppendsFront old new (run_lines blocks boxes (is_empty ws) (placed_at place gs))
+
 -- the ways of a run's steps
-abbrev pub ways_in : Workpiece → List Passage → List PlacedWay
-ways_in part ps = flat_map (placed_ways part) ps
+abbrev pub ways_along : Workpiece → List Passage → List PlacedWay
+ways_along part ps = flat_map (placed_ways part) ps
 
 -- beside a run that begins with nothing known, the ways of these steps were tried
 abbrev pub HasTried : Workpiece → List ProbeBox → List Room → ℕ → Option (List ℕ) → List Room → ℕ → Option (List ℕ) → List Passage → Type 0
 HasTried part boxes rooms count old after sum new ps =
     IsDone part.blocks boxes [] rooms count
-    → IsDone part.blocks boxes (ways_in part ps) after sum × Appends old new (run_lines part.blocks boxes true (ways_in part ps))
+    → IsDone part.blocks boxes (ways_along part ps) after sum × Appends old new (run_lines part.blocks boxes true (ways_along part ps))
 
 -- and a write failed in the step behind them
-abbrev pub HasBroken : Workpiece → List ProbeBox → List Room → ℕ → Option (List ℕ) → Option (List ℕ) → List Passage → Passage → ClearanceFault → Type 0
+abbrev pub HasBroken : Workpiece → List ProbeBox → List Room → ℕ → Option (List ℕ) → Option (List ℕ) → List Passage → Passage → Unfinished → Type 0
 HasBroken part boxes rooms count old new ps p (faults.Write n) =
-    (n ≡ p.count) × (IsDone part.blocks boxes [] rooms count → AppendsFront old new (run_lines part.blocks boxes true (ways_in part (ps ++ p ∷ []))))
+    (n ≡ p.count) × (IsDone part.blocks boxes [] rooms count → AppendsFront old new (run_lines part.blocks boxes true (ways_along part (ps ++ p ∷ []))))
 HasBroken part boxes rooms count old new ps p f = ⊥
 
 -- the rooms of boxes before the first way

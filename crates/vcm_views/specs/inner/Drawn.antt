@@ -21,3 +21,15 @@ abbrev pub IsNotDrawn : Workpiece → Held → ℕ → Kept → Bool → Fault I
 IsNotDrawn part held done way is_close faults.NoMemory old new = Keeps old new
 IsNotDrawn part held done way is_close (faults.Write d) old new = AppendsFront old new (picture_of part held done way is_close)
 IsNotDrawn part held done way is_close _ old new = ⊥
+
+-- some sheet was written and nothing else, with this exit status
+pub record IsFiled (held : Held) (status : ℕ) (old new : Option (List ℕ)) : Type 0 where
+  pub status_is : status ≡ status_of held.state.stop
+  pub text : List ℕ
+  pub written : Appends old new text
+
+-- why it wasn't: memory was refused, and nothing was written; or a write failed, and a front of some sheet was, and not all of it
+abbrev pub IsNotFiled : Fault InputRefusal → Option (List ℕ) → Option (List ℕ) → Type 0
+IsNotFiled faults.NoMemory old new = Keeps old new
+IsNotFiled (faults.Write d) old new = (text : List ℕ) × AppendsFront old new text
+IsNotFiled _ old new = ⊥

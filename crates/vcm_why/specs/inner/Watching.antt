@@ -8,8 +8,8 @@ use Rattle.vcm_code.specs.declared.code.Code.{Code}
 use Rattle.vcm_machine.specs.declared.ran.End.TheVariants.{NoMemory}
 use Rattle.vcm_cause.specs.declared.watching.Watched.{Watched}
 use Rattle.vcm_cause.specs.Watched.{seen, HasWatched}
-use Rattle.vcm_why.specs.declared.telling.WhyFault.{WhyFault}
-use Rattle.vcm_why.specs.declared.telling.WhyFault.TheVariants as faults
+use Rattle.vcm_steps.specs.declared.fault.Unfinished.{Unfinished}
+use Rattle.vcm_steps.specs.declared.fault.Unfinished.TheVariants as faults
 use Rattle.vcm_why.specs.Origins.{Traced}
 use Rattle.vcm_why.specs.Reasons.{why_lines}
 use Rattle.vcm_why.specs.Telling.{IsHaltedAfter}
@@ -20,7 +20,7 @@ pub record IsAmple (part : Workpiece) (c : Code) (n : ℕ) (w : Watched) : Type 
   pub ample : w.ran.end ≡ NoMemory → ⊥
 
 -- memory was refused before it or in it
-abbrev pub IsHalted : Workpiece → Code → ℕ → WhyFault → Type 0
+abbrev pub IsHalted : Workpiece → Code → ℕ → Unfinished → Type 0
 IsHalted part c n faults.NoMemory = Unit {0}
 IsHalted part c n (faults.Memory done) = IsHaltedAfter part c n done
 IsHalted part c n f = ⊥
@@ -35,6 +35,6 @@ pub record IsTold (t : Option Traced) (part : Workpiece) (c : Code) (w : Watched
   pub written : Appends old new (lines_of t part c w)
 
 -- a write failed
-abbrev pub IsNotTold : Option Traced → Workpiece → Code → Watched → WhyFault → Option (List ℕ) → Option (List ℕ) → Type 0
+abbrev pub IsNotTold : Option Traced → Workpiece → Code → Watched → Unfinished → Option (List ℕ) → Option (List ℕ) → Type 0
 IsNotTold t part c w (faults.Write done) old new = AppendsFront old new (lines_of t part c w)
 IsNotTold t part c w f old new = ⊥

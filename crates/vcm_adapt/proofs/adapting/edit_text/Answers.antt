@@ -10,8 +10,8 @@ edits-preserved c =
     elim c.if-not-is_empty.branch [
       | then-not-is_empty+in_ok-put_line w ↦
           rw (w.out-is, w.rest-is, w.in_ok-put_line.ensures)
-          (step_line c.args.edits.now c.args.text.now c.edits.edit-index c.edit-item.result c.edits.out.items c.edits.rest.now w.split_line.result.0.now
-          w.split_line.result.1.now next c.known.ensures w.split_line.ensures.cut c.edits.invariant)
+          (step_line c.args.edits.now c.args.text.now c.edits.edit-index c.edit-item.result c.edits.out.items c.edits.rest.now w.whole_line.result.0.now
+          w.whole_line.result.1.now next c.known.ensures w.whole_line.ensures.cut c.edits.invariant)
       | else-not-is_empty w ↦
           rw (w.out-is, w.rest-is)
           (step_none c.args.edits.now c.args.text.now c.edits.edit-index c.edit-item.result c.edits.out.items c.edits.rest.now next c.known.ensures

@@ -9,4 +9,4 @@ returns-in_err-write_boxes g c =
     rw p.1 (front_first _ _ _ _ _ refl c.in_err-write_boxes.ensures)
 
 pub returns : goal.returns
-returns g c = wrote_then _ _ _ _ _ _ _ refl c.in_ok-write_boxes.ensures (rw (c.stop.ensures, c.tables.ensures) at c.write_end.ensures)
+returns g c = wrote_then _ _ _ _ _ _ _ refl c.in_ok-write_boxes.ensures (rw (c.stop.ensures, c.tables.ensures) at c.write_end_line.ensures)

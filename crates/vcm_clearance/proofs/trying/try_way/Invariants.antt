@@ -1,5 +1,5 @@
 use Rattle.std.proofs.Common.{List}
-use Rattle.vcm_gone.specs.Gone.{PlacedWay}
+use Rattle.vcm_way.specs.Gone.{PlacedWay}
 use Rattle.vcm_clearance.specs.Rooms.{AreRooms}
 use Rattle.vcm_clearance.specs.inner.Following.{IsPlaced, AreTried}
 use Rattle.vcm_clearance.proofs.trying.try_way.Given as goal

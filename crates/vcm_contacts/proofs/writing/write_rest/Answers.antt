@@ -3,4 +3,4 @@ use Rattle.vcm_num.proofs.KnownWrites.{wrote_then}
 use Rattle.vcm_contacts.proofs.writing.write_rest.Goals as goal
 
 pub returns : goal.returns
-returns g c = wrote_then _ _ _ _ _ _ _ refl c.in_ok-write_count.ensures c.write_end.ensures
+returns g c = wrote_then _ _ _ _ _ _ _ refl c.in_ok-write_count.ensures c.write_end_line.ensures

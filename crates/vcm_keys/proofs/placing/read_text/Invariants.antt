@@ -1,6 +1,6 @@
 use Rattle.std.proofs.Common.{◌≡◌, length}
 use Rattle.std.specs.List.{fold}
-use Rattle.vcm_adapt.specs.Marks.{whole_lines}
+use Rattle.vcm_num.specs.Lines.{whole_lines}
 use Rattle.vcm_keys.specs.Places.{start, with_line}
 use Rattle.vcm_keys.proofs.placing.read_text.Given as goal
 

@@ -1,6 +1,6 @@
 use Rattle.std.proofs.Common.{ap, ◌∙◌}
 use Rattle.vcm_machine.specs.Running.{started}
-use Rattle.vcm_page.specs.Inputs.{texts_of}
+use Rattle.vcm_page.specs.Views.{texts_of}
 use Rattle.vcm_page.proofs.PageLemmas.{page_written, page_cut}
 use Rattle.vcm_page.proofs.pages.write_counted.Goals as goal
 

@@ -1,5 +1,5 @@
 use Rattle.vcm_story.specs.Stories.{story_text}
-use Rattle.vcm_page.specs.Inputs.{texts_of}
+use Rattle.vcm_page.specs.Views.{texts_of}
 use Rattle.vcm_page.proofs.PageLemmas.{front_cut, story_cut, back_cut, all_written}
 use Rattle.vcm_page.proofs.pages.write_parts.Goals as goal
 

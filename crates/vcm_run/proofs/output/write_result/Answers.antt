@@ -8,13 +8,21 @@ returns-in_err-write_lines g c =
     let p = err_from_is_err_and c.from_residual.result c.from_residual.ensures.1 in
     rw p.1 (front_first _ _ _ _ _ refl (rw c.lines.ensures at c.in_err-write_lines.ensures))
 
-pub returns-in_err-write_stop_or_steps : goal.returns-in_err-write_stop_or_steps
-returns-in_err-write_stop_or_steps g c =
-    let p = err_from_is_err_and c.from_residual-in_err-write_stop_or_steps.result c.from_residual-in_err-write_stop_or_steps.ensures.1 in
+pub returns-in_err-write_end_line : goal.returns-in_err-write_end_line
+returns-in_err-write_end_line g c =
+    let p = err_from_is_err_and c.from_residual-in_err-write_end_line.result c.from_residual-in_err-write_end_line.ensures.1 in
     rw p.1 (front_then _ _ _ _ _ _ refl (rw c.lines.ensures at c.in_ok-write_lines.ensures)
-    (front_first _ _ _ _ _ refl (rw (c.stop.ensures, c.tables.ensures) at c.in_err-write_stop_or_steps.ensures)))
+    (front_first _ _ _ _ _ refl (rw (c.stop.ensures, c.tables.ensures) at c.in_err-write_end_line.ensures)))
+
+pub returns-in_err-write_position : goal.returns-in_err-write_position
+returns-in_err-write_position g c =
+    let p = err_from_is_err_and c.from_residual-in_err-write_position.result c.from_residual-in_err-write_position.ensures.1 in
+    rw p.1 (front_then _ _ _ _ _ _ refl (rw c.lines.ensures at c.in_ok-write_lines.ensures)
+    (front_then _ _ _ _ _ _ refl (rw (c.stop.ensures, c.tables.ensures) at c.in_ok-write_end_line.ensures)
+    (front_first _ _ _ _ _ refl (rw c.position.ensures at c.in_err-write_position.ensures))))
 
 pub returns : goal.returns
 returns g c =
     wrote_then _ _ _ _ _ _ _ refl (rw c.lines.ensures at c.in_ok-write_lines.ensures)
-    (wrote_then _ _ _ _ _ _ _ refl (rw (c.stop.ensures, c.tables.ensures) at c.in_ok-write_stop_or_steps.ensures) (rw c.position.ensures at c.write_end.ensures))
+    (wrote_then _ _ _ _ _ _ _ refl (rw (c.stop.ensures, c.tables.ensures) at c.in_ok-write_end_line.ensures)
+    (wrote_then _ _ _ _ _ _ _ refl (rw c.position.ensures at c.in_ok-write_position.ensures) c.write_steps.ensures))

@@ -3,9 +3,9 @@ use Rattle.std.proofs.lemmas.Result.{err_from_is_err_and}
 use Rattle.vcm_num.proofs.KnownWrites.{front_first, wrote_then}
 use Rattle.vcm_why.proofs.causes.write_way.Goals as goal
 
-pub returns-in_err-write_point : goal.returns-in_err-write_point
-returns-in_err-write_point g c =
-    let p = err_from_is_err_and c.from_residual.result c.from_residual.ensures.1 in rw p.1 (front_first _ _ _ _ _ refl c.in_err-write_point.ensures)
+pub returns-in_err-write_between : goal.returns-in_err-write_between
+returns-in_err-write_between g c =
+    let p = err_from_is_err_and c.from_residual.result c.from_residual.ensures.1 in rw p.1 (front_first _ _ _ _ _ refl c.in_err-write_between.ensures)
 
 pub returns : goal.returns
-returns g c = wrote_then _ _ _ _ _ _ _ refl c.in_ok-write_point.ensures c.write_point-2.ensures
+returns g c = wrote_then _ _ _ _ _ _ _ refl c.in_ok-write_between.ensures c.write_between-2.ensures

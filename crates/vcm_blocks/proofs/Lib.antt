@@ -1,0 +1,5 @@
+mod Cuts
+mod Turning
+mod Same
+mod Joins
+mod Numbers

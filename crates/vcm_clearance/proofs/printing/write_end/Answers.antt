@@ -1,4 +1,0 @@
-use Rattle.vcm_clearance.proofs.printing.write_end.Goals as goal
-
-pub returns-in-None : goal.returns-in-None
-returns-in-None g c = rw c.in-None.is c.write_no_stop.ensures

@@ -1,5 +1,0 @@
-use Rattle.std.proofs.Common.{sym, ◌∙◌}
-use Rattle.vcm_clearance.proofs.printing.write_no_stop.Goals as goal
-
-pub returns : goal.returns
-returns g c = rw (sym (c.as_bytes-steps.ensures.value ∙ c.format.ensures.text)) c.write_pieces.ensures

@@ -1,0 +1,8 @@
+pub mod Sums
+pub mod Missing
+pub mod Inside
+pub mod Wholes
+pub mod Ways
+pub mod Settled
+pub mod Straight
+pub mod Rooms

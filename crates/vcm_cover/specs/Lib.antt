@@ -1,0 +1,4 @@
+pub mod Hollows
+pub mod Models
+pub mod inner
+pub mod Samples

@@ -1,2 +1,0 @@
--- What only private contracts and proofs of this crate speak of.
-pub mod Stops

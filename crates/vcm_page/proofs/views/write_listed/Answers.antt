@@ -1,0 +1,14 @@
+use Rattle.std.proofs.Common.{None, refl}
+use Rattle.vcm_page.specs.Views.{texts_of}
+use Rattle.vcm_page.proofs.PageViews.{viewed_of, cut_short_of}
+use Rattle.vcm_page.proofs.views.write_listed.Goals as goal
+
+pub returns-clause-shown : goal.returns-clause-shown
+returns-clause-shown g c =
+    viewed_of (texts_of c.args.texts.front.now c.args.texts.back.now) None c.args.notices.now c.args.part.now c.args.loaded.now c.args.steps _ refl _ _ c.write_page.result
+    (rw (c.deref.ensures.value, c.in-Ok.ensures) at c.write_page.ensures.written)
+
+pub returns-clause-fault : goal.returns-clause-fault
+returns-clause-fault g c =
+    cut_short_of (texts_of c.args.texts.front.now c.args.texts.back.now) None c.args.notices.now c.args.part.now c.args.loaded.now c.args.steps _ refl _ _ c.write_page.result
+    (rw (c.deref.ensures.value, c.in-Ok.ensures) at c.write_page.ensures.fault)

@@ -1,0 +1,58 @@
+//! All contacts of a run in one go, as a view.
+
+ghost use Rattle.std.specs.Prelude.{◌≡◌};
+ghost use Rattle.vcm_views.specs.Views.{contacts_status, contacts_view};
+
+use crate::unfinished::cut_short;
+use std::alloc::Global;
+use std::io::Write;
+use vcm_contacts::{Contact, collect_contacts, write_contacts};
+use vcm_job::{Given, RunFault, Shows, status_of};
+use vcm_loader::Loaded;
+use vcm_motion::AnyPart;
+use vcm_part::PartData;
+use vcm_spec::StopPlace;
+
+// The exit status: that of a collision where there is a contact, else that of the run.
+fn status_with(contacts: &[Contact], stop: Option<StopPlace>) -> u8
+    ensures { result ≡ contacts_status contacts.now stop }
+{
+    if contacts.is_empty() {
+        status_of(stop)
+    } else {
+        3
+    }
+}
+
+/// The contacts of a run that goes on after each: the motion that met a block is taken as done.
+#[derive(Clone, Copy)]
+pub struct AllContacts;
+
+impl<W: Write> Shows<W> for AllContacts {
+    ghost RunView = { λ s. contacts_view };
+
+    fn show(
+        &self,
+        alloc: Global,
+        loaded: &Loaded<'_>,
+        _given: &Given,
+        part: &PartData,
+        steps: u64,
+        writer: &mut W,
+    ) -> Result<u8, RunFault> {
+        let Ok(workpiece) = AnyPart::of(alloc, part) else {
+            return Err(RunFault::NoMemory);
+        };
+        let found = match collect_contacts(alloc, loaded, &workpiece, part, steps) {
+            Ok(found) => found,
+            Err(fault) => return Err(cut_short(fault)),
+        };
+        let Ok(tables) = loaded.tables(alloc) else {
+            return Err(RunFault::NoMemory);
+        };
+        match write_contacts(&tables, &found.contacts, found.stop, steps, writer) {
+            Ok(()) => Ok(status_with(&found.contacts, found.stop)),
+            Err(_) => Err(RunFault::Write { done: steps }),
+        }
+    }
+}

@@ -1,0 +1,97 @@
+//! The sheet of a run, as a view.
+
+ghost use Rattle.std.specs.Prelude.{IfOk, IfErr};
+ghost use Rattle.vcm_views.specs.Views.{sheet_view};
+ghost use Rattle.vcm_views.specs.inner.Drawn.{IsFiled, IsNotFiled};
+
+use std::alloc::Global;
+use std::io::Write;
+use vcm_job::{Given, RunFault, Shows, is_halted, status_of};
+use vcm_loader::Loaded;
+use vcm_motion::AnyPart;
+use vcm_part::PartData;
+use vcm_sheet::{Lines, PictureFault, Sheet, write_sheet};
+use vcm_state::World;
+use vcm_way::{Way, follow};
+
+/// What a sheet shows besides the run: the names of the files and of the blocks, the source lines, and whether it is close.
+#[derive(Clone, Copy)]
+pub struct Titles<'a> {
+    pub program_name: &'a [u8],
+    pub part_name: &'a [u8],
+    pub block_names: &'a [Vec<u8>],
+    pub lines: Lines,
+    pub is_close: bool,
+}
+
+// Writes the sheet of a run that came to a state behind so many steps, and gives the exit status.
+fn file<W: Write>(
+    alloc: Global,
+    titles: Titles<'_>,
+    part: &PartData,
+    world: &World,
+    done: u64,
+    way: &Way,
+    writer: &mut W,
+) -> Result<u8, RunFault>
+    ensures filed { IfOk result (λ status. IsFiled world.now status (W.contents writer.old) (W.contents writer.new)) }
+    ensures fault { IfErr result (λ f. IsNotFiled f (W.contents writer.old) (W.contents writer.new)) }
+{
+    let sheet = Sheet {
+        part,
+        world,
+        done,
+        marks: way.marks(),
+        left_out: way.left_out(),
+        is_close: titles.is_close,
+        lines: titles.lines,
+        program_name: titles.program_name,
+        part_name: titles.part_name,
+        block_names: titles.block_names,
+    };
+    match write_sheet(alloc, &sheet, writer) {
+        Ok(()) => Ok(status_of(world.stop())),
+        Err(PictureFault::NoMemory) => Err(RunFault::NoMemory),
+        Err(PictureFault::Write) => Err(RunFault::Write { done }),
+    }
+}
+
+/// The picture with millimetres, numbers and tables, so that it can be filed.
+#[derive(Clone, Copy)]
+pub struct SheetView<'a> {
+    pub titles: Titles<'a>,
+}
+
+impl<W: Write> Shows<W> for SheetView<'_> {
+    ghost RunView = { λ s. sheet_view };
+
+    fn show(
+        &self,
+        alloc: Global,
+        loaded: &Loaded<'_>,
+        _given: &Given,
+        part: &PartData,
+        steps: u64,
+        writer: &mut W,
+    ) -> Result<u8, RunFault> {
+        let Ok(workpiece) = AnyPart::of(alloc, part) else {
+            return Err(RunFault::NoMemory);
+        };
+        let Ok(followed) = follow(alloc, &*loaded, &workpiece, part, steps) else {
+            return Err(RunFault::NoMemory);
+        };
+        let ran = followed.ran;
+        if is_halted(ran) {
+            return Err(RunFault::Memory { done: ran.done });
+        }
+        file(
+            alloc,
+            self.titles,
+            part,
+            &followed.world,
+            ran.done,
+            &followed.way,
+            writer,
+        )
+    }
+}
