@@ -19,6 +19,8 @@ const endings = { run: ".txt", trace: ".csv", margin: ".txt", points: ".csv", pi
 const MOST_SHOWN = 200000;
 // The most bytes of a text that vcm reads.
 const MOST_BYTES = 33554432;
+// The most bytes of a triangle mesh: a million triangles.
+const MOST_MODEL_BYTES = 50000084;
 // How long the page waits behind a key before it judges, and before it shows the steps anew, in milliseconds.
 const PAUSE = 200, LONG_PAUSE = 900;
 
@@ -270,8 +272,31 @@ class Page {
     this.run = null;
     this.judge();
   }
+  // A triangle mesh becomes the text of the part, by `vcm blocks`.
+  async openModel(file) {
+    if (file.size > MOST_MODEL_BYTES) {
+      note(`${file.name} has more than ${MOST_MODEL_BYTES} bytes: vcm reads no more of a model.`);
+      return;
+    }
+    const name = file.name.replace(/^-+/, "") || "model.stl", turn = ++this.turn;
+    this.vcm.end();
+    this.began = performance.now();
+    this.busy(true);
+    const made = await this.vcm.call(["blocks", name], { [name]: new Uint8Array(await file.arrayBuffer()) });
+    if (made.isEnded || turn !== this.turn) return;
+    this.busy(false);
+    if (this.isBroken(made)) return;
+    const told = decoder.decode(made.err).trim().split("\n").join("; ");
+    if (made.status === 0) {
+      this.part.take(decoder.decode(made.out), name.replace(/\.\w+$/, "") + ".toml");
+      $("example").selectedIndex = -1;
+      this.afresh();
+    }
+    note(shown(`${file.name}: ${told}`));
+  }
   async open(which, file) {
     if (!file) return;
+    if (/\.stl$/i.test(file.name)) return this.openModel(file);
     if (file.size > MOST_BYTES) {
       note(`${file.name} has more than ${MOST_BYTES} bytes: vcm reads no more.`);
       return;

@@ -88,7 +88,7 @@ const isMachine = (frame) => frame.origin.every((x) => x === 0) && frame.axes.jo
 // The run of a data block.
 function readRun(text) {
   const run = {
-    low: null, high: null, home: null, tip: 0, blocks: [], lines: [], code: [], notices: [], from: 0, listed: null, aims: new Map(),
+    low: null, high: null, home: null, tip: 0, blocks: [], names: new Map(), lines: [], code: [], notices: [], from: 0, listed: null, aims: new Map(),
     variables: new Map(), settings: new Map(), nominal: new Map(), actual: new Map(), frame: new Changes(null),
     output: new Changes(null), touches: [], contact: null, stop: null, open: null, counts: new Map(), boxes: [],
   };
@@ -205,7 +205,18 @@ function readBoxes(run, text) {
   }
 }
 
+// The names of blocks, from lines `K NUMBER NAME`.
+function readNames(run, text) {
+  for (const row of text.split("\n")) {
+    const words = row.split(" ");
+    if (words[0] === "K") run.names.set(Number(words[1]), shownText(words.slice(2).join(" ")));
+  }
+}
+
 // ---- what is asked of a run
+
+// a block by its number, and its name where it has one
+const blockText = (run, number) => "block " + number + (run.names.has(number) ? ` "${run.names.get(number)}"` : "");
 
 // the line of the shown text that a statement stands on: of a program its source line, of a listing its own
 const rowOf = (run, statement) => run.listed === null ? (run.code[statement] ? run.code[statement].line : 0) : run.listed + statement + 1;

@@ -5,6 +5,7 @@
   let run;
   try {
     run = readRun($("run").textContent);
+    if ($("block-names")) readNames(run, $("block-names").textContent);
     if ($("probe-boxes")) readBoxes(run, $("probe-boxes").textContent);
   } catch (fault) {
     $("fault").hidden = false;
@@ -32,7 +33,7 @@
     let text, kind = "bad";
     if (word === "ENDED") [kind, text] = ["ok", "Came to its end, no collision"];
     else if (!run.stop) [kind, text] = ["warn", "Not at its end: " + line];
-    else if (hit) text = `Collision with block ${hit[1]} on line ${place[2]}, after ${hit[2]} thousandths of the ${line.split(" ")[1].toLowerCase()}`;
+    else if (hit) text = `Collision with ${blockText(run, Number(hit[1]))} on line ${place[2]}, after ${hit[2]} thousandths of the ${line.split(" ")[1].toLowerCase()}`;
     else text = (stopWords[word] || "Stopped: " + word) + (word === "TRAVEL" ? " (" + line.split(" ")[1].toLowerCase() + ")" : "") + (place ? " on line " + place[2] : "");
     return { kind, text, line };
   }
@@ -40,7 +41,7 @@
   function withBoxes(told) {
     const first = run.firstMet, more = run.boxes.filter((it) => it.contacts.length).length - 1;
     if (!first) return told;
-    const text = `${told.text.replace(", no collision", "")}; ${first.name} meets block ${first.block} on line ${first.line}`;
+    const text = `${told.text.replace(", no collision", "")}; ${first.name} meets ${blockText(run, first.block)} on line ${first.line}`;
     return { ...told, kind: "bad", text: text + (more > 0 ? `, and ${more} more of the boxes meet blocks` : "") };
   }
   const told = withBoxes(verdict());
@@ -278,6 +279,7 @@
     for (let i = k ? run.pieceFrom[k] : 0; i < (k ? run.pieceFrom[k + 1] : 0); i++) if (run.kinds[i] === "x") entry(list, "Aim", run.aims.get(i) || pointText([...run.ends.subarray(6 * i + 3, 6 * i + 6)]), "mono");
     if (touches) {
       const block = run.blocks[run.contact.block - 1];
+      if (run.names.has(run.contact.block)) entry(list, "Name", run.names.get(run.contact.block));
       entry(list, "Block " + run.contact.block, pointText(block.slice(0, 3)) + "\n" + pointText(block.slice(3)), "mono");
     }
     const next = nextAt(run, k);
@@ -339,7 +341,7 @@
     $("boxes-section").hidden = run.boxes.length === 0;
     for (const box of run.boxes) {
       if (box.contacts.length === 0) rows.push(boxRow(box.name, `clear by ${millimetres(box.room)} mm${box.room < 50000 ? "" : " or more"}`, null, k));
-      box.contacts.slice(0, 50).forEach((contact, i) => rows.push(boxRow(i ? "" : box.name, `${contact.kind} block ${contact.block} at ${pointText(contact.at)}`, contact, k)));
+      box.contacts.slice(0, 50).forEach((contact, i) => rows.push(boxRow(i ? "" : box.name, `${contact.kind} ${blockText(run, contact.block)} at ${pointText(contact.at)}`, contact, k)));
     }
     $("boxes").tBodies[0].replaceChildren(...rows);
   }
@@ -559,7 +561,7 @@
       return `step ${k + run.from}, line ${run.line[k]}: ${kindNames[run.kinds[i]]} ${[e[6 * i], e[6 * i + 1], e[6 * i + 2]].map(millimetres).join(" ")} to ${[e[6 * i + 3], e[6 * i + 4], e[6 * i + 5]].map(millimetres).join(" ")}`;
     }
     const b = run.blocks[found.block - 1];
-    return `block ${found.block}: ${b.slice(0, 3).map(millimetres).join(" ")} to ${b.slice(3).map(millimetres).join(" ")}`;
+    return `${blockText(run, found.block)}: ${b.slice(0, 3).map(millimetres).join(" ")} to ${b.slice(3).map(millimetres).join(" ")}`;
   }
   for (const sheet of [...flat, ...(solid ? [solid] : [])]) {
     const canvas = sheet.sheet ? sheet.canvas : sheet.over, tip = $("tip");

@@ -39,6 +39,10 @@ FILES = {
     "datums.dmi": "DMISMN/'DATUMS',05.2\nUNITS/MM,ANGDEC\nD(PART)=DATSET/DAT(A),ZDIR,ZORIG,DAT(B),XDIR\nF(C1)=FEAT/CIRCLE,INNER,CART,20,20,20,0,0,1,10\n"
     "GOTO/20,20,50\nMEAS/CIRCLE,F(C1),3\nPTMEAS/CART,25,20,20,-1,0,0\nPTMEAS/CART,20,25,20,0,-1,0\nPTMEAS/CART,15,20,20,1,0,0\nENDMES\nGOHOME\nENDFIL\n",
     "plain.dmi": "DMISMN/'PLAIN',05.2\nUNITS/MM,ANGDEC\nGOTO/20,20,50\nGOHOME\nENDFIL\n",
+    # points that are measured on the models of the rows; a part file to which no block can be added; a model that ends too soon
+    "points.csv": "mx,my,mz,mi,mj,mk\n120.000,115.000,10.000,1,0,0\n110.000,110.000,12.000,0,0,1\n",
+    "inline.toml": BOUNDS + "block = [{low = [10000, 10000, 0], high = [30000, 30000, 20000]}]\n",
+    "torn.stl": "solid part\nfacet normal 0 0 1\nouter loop\nvertex 0 0 0\nvertex 20 0\n",
 }
 
 # Images and listings of programs, which the program makes itself: what is asked for, and the name of what it writes.
@@ -65,7 +69,7 @@ TALKS = (
     "Emacs refused launches", "VS Code grid", "breakpoints that can't be", "watches that can't be", "no such rows", "a notice", "at a stop",
 )
 # Words of the table of `vcm explain`, a message, a word of the standard, and what nothing is known of.
-EXPLAINED = (["E14"], ["E14", "E01"], ["stop", "COLLISION", "MOVE", "block", "1", "permille", "888", "at", "0", "line", "3"], ["E14", "M01"], ["TOL"], [])
+EXPLAINED = (["E14"], ["E14", "E01"], ["stop", "COLLISION", "MOVE", "block", "1", "permille", "888", "at", "0", "line", "3"], ["E14", "Z01"], ["TOL"], [])
 
 
 @dataclasses.dataclass(frozen=True)
@@ -99,6 +103,12 @@ def case(line, given="", status=0, kind="", in_a_row=1):
 def read(name):
     """The bytes of an example."""
     with open(f"{TOP}/examples/{name}", "rb") as it:
+        return it.read()
+
+
+def read_row(name):
+    """The bytes of a file of the rows."""
+    with open(f"{rows.DATA}/{name}", "rb") as it:
         return it.read()
 
 
@@ -144,6 +154,7 @@ def runs():
     yield case("contacts bracket.dmi bracket.toml", status=3, kind="lines")
     yield case("margin plate.dmi plate.toml")
     yield case("points turned.dmi low.toml", status=1)
+    yield case("points turned.dmi part-a.toml --machine", kind="lines")
     yield case("trace turned.dmi torn.toml", status=1)
 
 
@@ -203,6 +214,24 @@ def produced():
     yield case("adapt datums.dmi --touch --frame=PART=10,10,20", kind="behind")
 
 
+def models():
+    """Part files whose blocks cover models."""
+    yield case("blocks cube.stl")
+    yield case("blocks flat.stl --talk")
+    yield case("blocks inch.stl --unit inch --quiet")
+    yield case("blocks wedge.stl --within 8 --turn z90,x-90 --at=-10,20,30.5 --most 40 --name left")
+    yield case("blocks wedge.stl --into notes.toml --within 4 --at 100,100,0 --near points.csv")
+    yield case("blocks - --within 8", read_row("wedge.stl"))
+    yield case("blocks cube.stl --into - --at 100,100,0", read("part-a.toml"))
+    yield case("blocks torn.stl", status=1)
+    yield case("blocks bad_short.stl --into twenty.toml", status=1)
+    yield case("blocks wedge.stl --within 0.5 --most 4", status=1)
+    yield case("blocks cube.stl --into inline.toml --at 100,100,0", status=1)
+    yield case("blocks cube.stl --into low.toml", status=1)
+    yield case("blocks cube.stl --near low.toml", status=1)
+    yield case("blocks cube.stl --at 1,2", status=2)
+
+
 def jobs_at_a_terminal():
     """Jobs, of which more is told at a terminal, and with `--talk`."""
     for part, program, status in (
@@ -260,7 +289,7 @@ def at_its_end(found):
 
 def cases(table):
     """All cases; the help of each command of the table among them."""
-    found = [*runs(), *texts(), *produced(), *jobs_at_a_terminal(), *told(), *sessions()]
+    found = [*runs(), *texts(), *produced(), *models(), *jobs_at_a_terminal(), *told(), *sessions()]
     return [*found, *at_its_end(found), *(case(f"{name} --help") for name in table)]
 
 

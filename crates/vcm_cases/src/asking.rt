@@ -71,6 +71,17 @@ fn run_asked(alloc: Global, pieces: &[&str], request: &Request<'_, '_>) -> Strin
     text
 }
 
+// The blocks of a model that are asked for.
+fn blocks_asked(alloc: Global, request: &Request<'_, '_>) -> String {
+    let mut text = copied(alloc, "blocks model=");
+    put(&mut text, request.input());
+    put(&mut text, " into=");
+    put(&mut text, request.value(Choice::Into).unwrap_or(""));
+    put(&mut text, " near=");
+    put(&mut text, request.value(Choice::Near).unwrap_or(""));
+    text
+}
+
 // How it is told whether something is so.
 fn told(is_so: bool) -> &'static str {
     if is_so { "true" } else { "false" }
@@ -184,8 +195,14 @@ fn asked(alloc: Global, request: &Request<'_, '_>) -> String {
         Verb::List => joined(alloc, &["list input=", input]),
         Verb::Asm => joined(alloc, &["asm listing=", input, " image=", request.image()]),
         Verb::Part => joined(alloc, &["part part=", input]),
+        Verb::Blocks => blocks_asked(alloc, request),
+        Verb::Points => run_asked(
+            alloc,
+            &[named(request, Choice::Machine, "machine", "points")],
+            request,
+        ),
         Verb::Dap | Verb::Explain => copied(alloc, request.usage().name),
-        Verb::Why | Verb::Contacts | Verb::Trace | Verb::Margin | Verb::Points => {
+        Verb::Why | Verb::Contacts | Verb::Trace | Verb::Margin => {
             run_asked(alloc, &[request.usage().name], request)
         }
     }

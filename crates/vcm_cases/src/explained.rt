@@ -24,6 +24,7 @@ fn line_for(kind: &str) -> &'static str {
         "a part file" => "vcm run t.dmi made",
         "a probe file" => "vcm clearance t.dmi t.toml made",
         "a listing" => "vcm asm made image",
+        "a model" => "vcm blocks made",
         "in a session on lines.dmi of the examples" => "vcm debug made t.toml",
         _ => "vcm no-such-kind",
     }

@@ -71,9 +71,11 @@ const HEADINGS: &[(&[u8], Heading)] = &[
     (b"commands", Heading::Commands),
     (b"check", Heading::Plain),
     (b"part-told", Heading::Plain),
+    (b"blocks", Heading::Plain),
     (b"trace", Heading::Plain),
     (b"margin", Heading::Plain),
     (b"points", Heading::Plain),
+    (b"points-machine", Heading::Plain),
     (b"why", Heading::Plain),
     (b"contacts", Heading::Plain),
     (b"clearance", Heading::Plain),
@@ -114,6 +116,8 @@ enum Rest {
     Names,
     /// The width of the tip to each side, and further options.
     Options,
+    /// Words as they stand.
+    Words,
 }
 
 /// The front of a command line, and what it has behind that.
@@ -139,6 +143,13 @@ const FRONTS: &[(&[u8], Front)] = &[
         },
     ),
     (
+        b"blocks",
+        Front {
+            words: "vcm blocks ",
+            rest: Rest::Words,
+        },
+    ),
+    (
         b"trace",
         Front {
             words: "vcm trace t.dmi t.toml",
@@ -156,6 +167,13 @@ const FRONTS: &[(&[u8], Front)] = &[
         b"points",
         Front {
             words: "vcm points t.dmi t.toml",
+            rest: Rest::Steps,
+        },
+    ),
+    (
+        b"points-machine",
+        Front {
+            words: "vcm points t.dmi t.toml --machine",
             rest: Rest::Steps,
         },
     ),
@@ -353,6 +371,13 @@ fn line_of_options(alloc: Global, front: &str, words: &str) -> String {
     line
 }
 
+// A command line with words as they stand in a heading.
+fn line_of_words(alloc: Global, front: &str, words: &str) -> String {
+    let mut line = joined(alloc, &[front]);
+    put(&mut line, words);
+    line
+}
+
 /// The command line that a heading stands for, with at most so many steps; no words where it stands for none.
 pub(crate) fn line_of(alloc: Global, title: &str, most: u64) -> String {
     let Some(front) = look_up(FRONTS, word_of(title).as_bytes()) else {
@@ -365,5 +390,6 @@ pub(crate) fn line_of(alloc: Global, title: &str, most: u64) -> String {
         Rest::Lines => line_with(alloc, front.words, rest, " --lines ", most),
         Rest::Names => line_with(alloc, front.words, rest, " --show ", most),
         Rest::Options => line_of_options(alloc, front.words, rest),
+        Rest::Words => line_of_words(alloc, front.words, rest),
     }
 }

@@ -2,11 +2,11 @@
 use Rattle.std.proofs.Common.{◌≡◌, ℕ, suc, ◌+◌, ◌-◌, ◌≤◌, ◌∙◌, true, false, List, [], ◌∷◌, ◌++◌, length, Option, Some, refl, sym, ap, subst, arith, append_assoc}
 use Rattle.std.specs.Prelude.{flat_map}
 use Rattle.std.specs.List.{list_any}
-use Rattle.std.specs.Io.KnownBytes.{Appends}
 use Rattle.std.proofs.lemmas.Grind.{flat_map-append}
 use Rattle.std.proofs.lemmas.List.{flat_map_more}
-use Rattle.vcm_num.specs.Written.{AppendsFront}
-use Rattle.vcm_num.proofs.KnownWrites.{appends_more, front_first, front_then}
+use Rattle.vcm_naming.specs.Naming.{Line, plain, last_line}
+use Rattle.vcm_naming.specs.Pages.{Page, Adds, AddsFront}
+use Rattle.vcm_naming.proofs.Pages.{adds_more, adds_front_first, adds_front_then}
 use Rattle.vcm_spec.specs.declared.workpiece.Block3.{Block3}
 use Rattle.vcm_spec.specs.Workpiece.{Workpiece, IsValid}
 use Rattle.vcm_spec.specs.declared.stop.StopPlace.{StopPlace}
@@ -29,9 +29,8 @@ use Rattle.vcm_steps.specs.declared.fault.Unfinished.TheVariants as faults
 use Rattle.vcm_marks.specs.declared.mark.Moment.{Moment}
 use Rattle.vcm_clearance.specs.declared.room.Room.{Room}
 use Rattle.vcm_clearance.specs.Rooms.{AreRooms, counted, is_met_room}
-use Rattle.vcm_report.specs.Printed.{end_line}
 use Rattle.vcm_clearance.specs.Printed.{way_lines, run_lines, ways_text, boxes_lines}
-use Rattle.vcm_clearance.specs.Clearance.{contact_lines, summary, IsClearance, IsHalted, IsCutOff, IsNotCleared}
+use Rattle.vcm_clearance.specs.Clearance.{contact_lines, summary, clearance_lines, IsClearance, IsHalted, IsCutOff, IsNotCleared}
 use Rattle.vcm_clearance.specs.inner.Following.{IsDone, AreAdded, AreCut, is_empty, ways_along, HasTried, HasBroken}
 use Rattle.vcm_clearance.proofs.Existing.{rooms_exist}
 use Rattle.vcm_clearance.proofs.Sizes.{box_at}
@@ -53,7 +52,7 @@ module _ (blocks : List Block3) (boxes : List ProbeBox) where
 
 -- ---- a step
 
-module _ (part : Workpiece) (boxes : List ProbeBox) (rooms : List Room) (count : ℕ) (old mid : Option (List ℕ)) (between : List Room) (sum : ℕ) (ps : List Passage)
+module _ (part : Workpiece) (boxes : List ProbeBox) (rooms : List Room) (count : ℕ) (old mid : Page) (between : List Room) (sum : ℕ) (ps : List Passage)
     (tried : HasTried part boxes rooms count old between sum mid ps) (p : Passage) where
   abbrev place : Moment
   place = record { step = p.count; number = p.number; line = p.statement.line }
@@ -65,21 +64,21 @@ module _ (part : Workpiece) (boxes : List ProbeBox) (rooms : List Room) (count :
       ≡ run_lines part.blocks boxes true (ways_along part (ps ++ p ∷ []))
   lines_in = more_lines part.blocks boxes (ways_along part ps) (placed_ways part p) ∙ ap (run_lines part.blocks boxes true) more_in
 
-  pub step_tried : (after : List Room) (total : ℕ) (new : Option (List ℕ)) → AreAdded part.blocks boxes place (ways_in part (step_marks part p)) between sum mid after total new
+  pub step_tried : (after : List Room) (total : ℕ) (new : Page) → AreAdded part.blocks boxes place (ways_in part (step_marks part p)) between sum mid after total new
       → HasTried part boxes rooms count old after total new (ps ++ p ∷ [])
   step_tried after total new h start =
       let so_far = tried start in
       let now = h (ways_along part ps) so_far.0 in (
         subst (λ l. IsDone part.blocks boxes l after total) more_in now.0,
-        appends_more old mid new _ _ _ lines_in so_far.1 now.1,
+        adds_more old mid new _ _ _ lines_in so_far.1 now.1,
       )
 
-  pub step_broken : (new : Option (List ℕ)) → AreCut part.blocks boxes place (ways_in part (step_marks part p)) between sum mid new → (n : ℕ) → n ≡ p.count
+  pub step_broken : (new : Page) → AreCut part.blocks boxes place (ways_in part (step_marks part p)) between sum mid new → (n : ℕ) → n ≡ p.count
       → HasBroken part boxes rooms count old new ps p (faults.Write n)
   step_broken new h n e = (
     e,
     λ start. (let so_far = tried start in
-        front_then old mid new _ _ _ lines_in so_far.1 (h (ways_along part ps) so_far.0)),
+        adds_front_then old mid new _ _ _ lines_in so_far.1 (h (ways_along part ps) so_far.0)),
   )
 
 -- ---- the end of a run
@@ -93,15 +92,15 @@ module _ (part : Workpiece) (valid : IsValid part) (boxes : List ProbeBox) (are 
       (flat_map (placed_ways part) r.0, sym (flat_map-append (placed_ways part) (passages part c k) r.0) ∙ ap (ways_along part) r.1 ∙ ap (λ i. ways_along part (passages part c i)) all)
 
   -- a line of a contact could not be written
-  pub broken_off : (rooms : List Room) (count : ℕ) (old new : Option (List ℕ)) → IsDone part.blocks boxes [] rooms count → (f : Unfinished)
-      → IsBroken n part c (λ ps p. HasBroken part boxes rooms count old new ps p f) → IsNotCleared part boxes c n f old new
+  pub broken_off : (rooms : List Room) (count : ℕ) (old new : Page) → IsDone part.blocks boxes [] rooms count → (f : Unfinished)
+      → IsBroken n part c (λ ps p. HasBroken part boxes rooms count old new ps p f) → IsNotCleared old.names part boxes c n f old.contents new.contents
   broken_off rooms count old new start faults.NoMemory i = absurd i.broken
   broken_off rooms count old new start (faults.Memory done) i = absurd i.broken
   broken_off rooms count old new start (faults.Write done) i =
       let k = suc i.done in
       let r = ways_front k (let t = taken_most part c n in let u = i.taken in omega (arith, t, u)) in
-      let front : AppendsFront old new (run_lines part.blocks boxes true (ways_along part (passages part c k))) =
-      subst (λ ps. AppendsFront old new (run_lines part.blocks boxes true (ways_along part ps))) (sym i.passages_are) (i.broken.1 start) in
+      let front : AddsFront old new (run_lines part.blocks boxes true (ways_along part (passages part c k))) =
+      subst (λ ps. AddsFront old new (run_lines part.blocks boxes true (ways_along part ps))) (sym i.passages_are) (i.broken.1 start) in
       let more = run_lines part.blocks boxes (is_empty (ways_along part (passages part c k))) r.0 in
       let lines : run_lines part.blocks boxes true (ways_along part (passages part c k)) ++ more ≡ contact_lines part boxes c n =
       more_lines part.blocks boxes (ways_along part (passages part c k)) r.0 ∙ ap (run_lines part.blocks boxes true) r.1 in
@@ -109,7 +108,8 @@ module _ (part : Workpiece) (valid : IsValid part) (boxes : List ProbeBox) (are 
       record {
         rooms = all.0;
         are_rooms = all.1;
-        front = front_first old new (contact_lines part boxes c n) _ _ refl (front_first old new _ more _ lines front);
+        front = (adds_front_first old new (contact_lines part boxes c n) (summary boxes c (ways_of part c n) all.0 (state_after part c n).world.stop (steps_taken part c n))
+            (clearance_lines part boxes c n all.0) refl (adds_front_first old new _ more _ lines front)).front;
       }
 
   module _ (first m : Running) (ran : Ran) (is : first ≡ started part c) (run : HasRun n first m ran) where
@@ -144,14 +144,14 @@ module _ (part : Workpiece) (valid : IsValid part) (boxes : List ProbeBox) (are 
       stop_is = s ∙ ap (λ x. x.world.stop) state ∙ ap (λ i. (state_after part c i).world.stop) r.0;
     }
 
-    module _ (rooms after : List Room) (sum : ℕ) (old mid : Option (List ℕ)) (start : IsDone part.blocks boxes [] rooms 0)
+    module _ (rooms after : List Room) (sum : ℕ) (old mid : Page) (start : IsDone part.blocks boxes [] rooms 0)
         (tried : HasTried part boxes rooms 0 old after sum mid (passages part c ran.done)) where
       -- memory was refused to a step
-      pub halted : ran.end ≡ ends.NoMemory → IsHalted part boxes c n ran.done old mid
+      pub halted : ran.end ≡ ends.NoMemory → IsHalted old.names part boxes c n ran.done old.contents mid.contents
       halted e = record {
         halted = subst (λ o. RunEnded n (started part c) (later ran.done o) ran.done ends.NoMemory) is
             (subst (λ r. RunEnded n (started part c) r ran.done ends.NoMemory) run.new_is (subst (λ x. RunEnded n (started part c) m ran.done x) e ended));
-        written = (tried start).1;
+        written = (tried start).1.written;
       }
 
       module _ (ample : ran.end ≡ ends.NoMemory → ⊥) (stop : Option StopPlace) (stop_is : stop ≡ m.state.world.stop) where
@@ -161,8 +161,8 @@ module _ (part : Workpiece) (valid : IsValid part) (boxes : List ProbeBox) (are 
         are_rooms : AreRooms part.blocks boxes (ways_of part c n) after
         are_rooms = subst (λ l. AreRooms part.blocks boxes l after) whole.ways (tried start).0.are_rooms
 
-        lines : Appends old mid (contact_lines part boxes c n)
-        lines = subst (λ l. Appends old mid (run_lines part.blocks boxes true l)) whole.ways (tried start).1
+        lines : Adds old mid (contact_lines part boxes c n)
+        lines = subst (λ l. Adds old mid (run_lines part.blocks boxes true l)) whole.ways (tried start).1
 
         summary_is : summary boxes c (ways_of part c n) after stop ran.done ≡ summary boxes c (ways_of part c n) after (state_after part c n).world.stop (steps_taken part c n)
         summary_is =
@@ -172,26 +172,27 @@ module _ (part : Workpiece) (valid : IsValid part) (boxes : List ProbeBox) (are 
         count_is : sum ≡ counted (length (ways_of part c n))
         count_is = (tried start).0.counted_is ∙ ap (λ l. counted (length l)) whole.ways
 
-        abbrev end_text : List ℕ
-        end_text = ways_text sum ++ (boxes_lines boxes after ++ end_line c.tables stop ran.done)
+        abbrev end_lines : List Line
+        end_lines = plain (ways_text sum) ∷ boxes_lines boxes after ++ last_line c.tables stop ran.done ∷ []
 
-        end_is : end_text ≡ summary boxes c (ways_of part c n) after (state_after part c n).world.stop (steps_taken part c n)
-        end_is = ap (λ k. ways_text k ++ (boxes_lines boxes after ++ end_line c.tables stop ran.done)) count_is ∙ summary_is
+        end_is : end_lines ≡ summary boxes c (ways_of part c n) after (state_after part c n).world.stop (steps_taken part c n)
+        end_is = ap (λ k. plain (ways_text k) ∷ boxes_lines boxes after ++ last_line c.tables stop ran.done ∷ []) count_is ∙ summary_is
 
         -- all was written
-        pub cleared : (told : Cleared) (new : Option (List ℕ)) → told.is_met ≡ list_any is_met_room after → told.stop ≡ stop → Appends mid new end_text → IsClearance part boxes c n told old new
+        pub cleared : (told : Cleared) (new : Page) → told.is_met ≡ list_any is_met_room after → told.stop ≡ stop → Adds mid new end_lines
+            → IsClearance old.names part boxes c n told old.contents new.contents
         cleared told new met same w = record {
           rooms = after;
           are_rooms = are_rooms;
           is_met = met;
           stop = same ∙ whole.stop_is;
-          written = appends_more old mid new _ _ _ (ap (λ l. contact_lines part boxes c n ++ l) end_is) lines w;
+          written = (adds_more old mid new _ _ _ (ap (λ l. contact_lines part boxes c n ++ l) end_is) lines w).written;
         }
 
         -- what comes behind the contacts could not be written
-        pub cut_off : (new : Option (List ℕ)) → AppendsFront mid new end_text → IsCutOff part boxes c n old new
+        pub cut_off : (new : Page) → AddsFront mid new end_lines → IsCutOff old.names part boxes c n old.contents new.contents
         cut_off new w = record {
           rooms = after;
           are_rooms = are_rooms;
-          front = front_then old mid new _ _ _ (ap (λ l. contact_lines part boxes c n ++ l) end_is) lines w;
+          front = (adds_front_then old mid new _ _ _ (ap (λ l. contact_lines part boxes c n ++ l) end_is) lines w).front;
         }

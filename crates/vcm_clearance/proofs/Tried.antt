@@ -2,15 +2,15 @@
 use Rattle.std.proofs.Common.{◌≡◌, ℕ, zero, suc, ◌+◌, ◌≤◌, ◌∙◌, Bool, false, List, [], ◌∷◌, ◌++◌, length, take, drop, slice_get, slice_set, Option, Some, None}
 use Rattle.std.proofs.Common.{Result, Ok, Err, refl, sym, ap, subst, inl, inr, arith, append_assoc}
 use Rattle.std.specs.Prelude.{flat_map, min, ◌==◌, option_to_list, IfOk, IfErr}
-use Rattle.std.specs.Io.KnownBytes.{Appends}
 use Rattle.std.proofs.Math.Nat.{le-min, min-eq_left}
 use Rattle.std.proofs.Math.Seq.{take-suc}
 use Rattle.std.proofs.lemmas.Bool.{cases_lt}
 use Rattle.std.proofs.lemmas.Grind.{flat_map-append}
 use Rattle.std.proofs.lemmas.List.{append-nil, flat_map_more, length-set, length-append, take_all, take-append-drop}
 use Rattle.std.proofs.lemmas.Option.{slice_get_within, get_or_from_slice_get}
-use Rattle.vcm_num.specs.Written.{AppendsFront}
-use Rattle.vcm_num.proofs.KnownWrites.{appends_nothing, appends_more, front_first, front_then}
+use Rattle.vcm_naming.specs.Naming.{Line}
+use Rattle.vcm_naming.specs.Pages.{Page, Adds, AddsFront}
+use Rattle.vcm_naming.proofs.Pages.{adds_nothing, adds_more, adds_front_first, adds_front_then}
 use Rattle.vcm_spec.specs.declared.workpiece.Block3.{Block3}
 use Rattle.vcm_spec.specs.Workpiece.{Workpiece}
 use Rattle.vcm_boxes.specs.declared.boxes.ProbeBox.{ProbeBox}
@@ -44,18 +44,18 @@ set_elsewhere (x ∷ xs) (suc n) (suc i) v h = set_elsewhere xs n i v (λ e. h (
 -- ---- one way
 
 module _ (blocks : List Block3) (boxes : List ProbeBox) (is_first : Bool) (ws : List PlacedWay) (p : PlacedWay) where
-  abbrev line : ProbeBox → List ℕ
+  abbrev line : ProbeBox → List Line
   line b = contact_line b.name (told_on blocks is_first b.block p)
 
-  pub begun : (rooms : List Room) (old : Option (List ℕ)) → AreRooms blocks boxes ws rooms → AreTried blocks boxes is_first ws p 0 rooms old old
+  pub begun : (rooms : List Room) (old : Page) → AreRooms blocks boxes ws rooms → AreTried blocks boxes is_first ws p 0 rooms old old
   begun rooms old h = record {
     count = h.count;
     before = λ i b r l at stands. h.each i b r at stands;
     behind = λ i b r l. absurd (omega arith);
-    written = appends_nothing old;
+    written = adds_nothing old;
   }
 
-  module _ (n : ℕ) (rooms : List Room) (old mid : Option (List ℕ)) (h : AreTried blocks boxes is_first ws p n rooms old mid) (b : ProbeBox) (at : slice_get boxes n ≡ Some b) where
+  module _ (n : ℕ) (rooms : List Room) (old mid : Page) (h : AreTried blocks boxes is_first ws p n rooms old mid) (b : ProbeBox) (at : slice_get boxes n ≡ Some b) where
     -- its room is that before the way
     pub room_before : (r : Room) → slice_get rooms n ≡ Some r → IsRoom blocks b.block ws r
     room_before r stands = h.before n b r (omega arith) at stands
@@ -67,7 +67,7 @@ module _ (blocks : List Block3) (boxes : List ProbeBox) (is_first : Bool) (ws : 
         flat_map_more line [] (take n boxes) b ∙ ap (flat_map line) (sym more) ∙ ap (λ k. flat_map line (take k boxes)) (let e : suc n ≡ n + 1 = omega arith in e)
 
     -- one more is tried
-    pub next : (r : Room) → IsRoom blocks b.block (ws ++ p ∷ []) r → (new : Option (List ℕ)) → Appends mid new (line b)
+    pub next : (r : Room) → IsRoom blocks b.block (ws ++ p ∷ []) r → (new : Page) → Adds mid new (line b)
         → AreTried blocks boxes is_first ws p (n + 1) (slice_set rooms n r) old new
     next r room new w = record {
       count = length-set rooms n r ∙ h.count;
@@ -80,23 +80,23 @@ module _ (blocks : List Block3) (boxes : List ProbeBox) (is_first : Bool) (ws : 
             let box : b ≡ c = cc in
             subst (λ (x : ProbeBox). IsRoom blocks x.block (ws ++ p ∷ []) s) box (subst (IsRoom blocks b.block (ws ++ p ∷ [])) (sym same) room))
       ];
-      written = appends_more old mid new _ _ _ front_is h.written w;
+      written = adds_more old mid new _ _ _ front_is h.written w;
     }
 
     -- its line could not be written
-    pub cut : (new : Option (List ℕ)) → AppendsFront mid new (line b) → AppendsFront old new (way_lines blocks boxes is_first p)
+    pub cut : (new : Page) → AddsFront mid new (line b) → AddsFront old new (way_lines blocks boxes is_first p)
     cut new f =
         let rest = flat_map line (drop (n + 1) boxes) in
         let all : flat_map line (take (n + 1) boxes) ++ rest ≡ flat_map line boxes =
         sym (flat_map-append line (take (n + 1) boxes) (drop (n + 1) boxes)) ∙ ap (flat_map line) (take-append-drop (n + 1) boxes) in
-        front_first old new (flat_map line (take (n + 1) boxes)) rest _ all (front_then old mid new _ _ _ front_is h.written f)
+        adds_front_first old new (flat_map line (take (n + 1) boxes)) rest _ all (adds_front_then old mid new _ _ _ front_is h.written f)
 
   -- all are tried
-  pub ended : (n : ℕ) (rooms : List Room) (old new : Option (List ℕ)) → AreTried blocks boxes is_first ws p n rooms old new → length boxes ≤ n
-      → AreRooms blocks boxes (ws ++ p ∷ []) rooms × Appends old new (way_lines blocks boxes is_first p)
+  pub ended : (n : ℕ) (rooms : List Room) (old new : Page) → AreTried blocks boxes is_first ws p n rooms old new → length boxes ≤ n
+      → AreRooms blocks boxes (ws ++ p ∷ []) rooms × Adds old new (way_lines blocks boxes is_first p)
   ended n rooms old new h all = (
     record { count = h.count; each = λ i b r at stands. h.behind i b r (let l = slice_get_within boxes i b at in omega (arith, l, all)) at stands },
-    subst (Appends old new) (ap (flat_map line) (take_all n boxes all)) h.written,
+    subst (Adds old new) (ap (flat_map line) (take_all n boxes all)) h.written,
   )
 
 -- ---- the ways of a step
@@ -127,8 +127,8 @@ first_of part ms behind m e v found P h =
     by (Some w) same = h w same
 
 module _ (blocks : List Block3) (boxes : List ProbeBox) (place : Moment) where
-  pub no_way : (rooms : List Room) (count : ℕ) (old : Option (List ℕ)) → AreAdded blocks boxes place [] rooms count old rooms count old
-  no_way rooms count old ws d = (subst (λ l. IsDone blocks boxes l rooms count) (sym (append-nil ws)) d, appends_nothing old)
+  pub no_way : (rooms : List Room) (count : ℕ) (old : Page) → AreAdded blocks boxes place [] rooms count old rooms count old
+  no_way rooms count old ws d = (subst (λ l. IsDone blocks boxes l rooms count) (sym (append-nil ws)) d, adds_nothing old)
 
   -- one more way was tried, and is counted
   pub one_done : (ws : List PlacedWay) (p : PlacedWay) (rooms : List Room) (count sum : ℕ) → count ≡ counted (length ws) → sum ≡ min (count + 1) most
@@ -149,25 +149,25 @@ module _ (blocks : List Block3) (boxes : List ProbeBox) (place : Moment) where
     flag ws e = f ∙ is_first_way ws count e
 
     -- a line of the first could not be written
-    pub cut_first : (start : List Room) (old new : Option (List ℕ))
-        → ((ws : List PlacedWay) (p : PlacedWay) → IsPlaced place v p → AreRooms blocks boxes ws start → AppendsFront old new (way_lines blocks boxes is_first p))
+    pub cut_first : (start : List Room) (old new : Page)
+        → ((ws : List PlacedWay) (p : PlacedWay) → IsPlaced place v p → AreRooms blocks boxes ws start → AddsFront old new (way_lines blocks boxes is_first p))
         → AreCut blocks boxes place (w ∷ gs) start count old new
     cut_first start old new one ws d =
-        front_first old new (way_lines blocks boxes (is_empty ws) p) (run_lines blocks boxes false (placed_at place gs)) _ refl
-        (subst (λ b. AppendsFront old new (way_lines blocks boxes b p)) (flag ws d.counted_is) (one ws p placed d.are_rooms))
+        adds_front_first old new (way_lines blocks boxes (is_empty ws) p) (run_lines blocks boxes false (placed_at place gs)) _ refl
+        (subst (λ b. AddsFront old new (way_lines blocks boxes b p)) (flag ws d.counted_is) (one ws p placed d.are_rooms))
 
-    module _ (start first : List Room) (sum : ℕ) (old mid new : Option (List ℕ)) (s : sum ≡ min (count + 1) most)
+    module _ (start first : List Room) (sum : ℕ) (old mid new : Page) (s : sum ≡ min (count + 1) most)
         (one : (ws : List PlacedWay) (p : PlacedWay) → IsPlaced place v p → AreRooms blocks boxes ws start
-        → AreRooms blocks boxes (ws ++ p ∷ []) first × Appends old mid (way_lines blocks boxes is_first p)) where
+        → AreRooms blocks boxes (ws ++ p ∷ []) first × Adds old mid (way_lines blocks boxes is_first p)) where
       -- the first way, and those behind it
       pub more_ways : (last : List Room) (total : ℕ) → AreAdded blocks boxes place gs first sum mid last total new → AreAdded blocks boxes place (w ∷ gs) start count old last total new
       more_ways last total rest ws d =
           let here = one ws p placed d.are_rooms in
           let there = rest (ws ++ p ∷ []) (one_done ws p first count sum d.counted_is s here.0) in (
             subst (λ l. IsDone blocks boxes l last total) (append_assoc ws (p ∷ []) (placed_at place gs)) there.0,
-            appends_more old mid new (way_lines blocks boxes (is_empty ws) p) (run_lines blocks boxes false (placed_at place gs)) _ refl
-                (subst (λ b. Appends old mid (way_lines blocks boxes b p)) (flag ws d.counted_is) here.1)
-                (subst (λ b. Appends mid new (run_lines blocks boxes b (placed_at place gs))) (not_empty ws p) there.1),
+            adds_more old mid new (way_lines blocks boxes (is_empty ws) p) (run_lines blocks boxes false (placed_at place gs)) _ refl
+                (subst (λ b. Adds old mid (way_lines blocks boxes b p)) (flag ws d.counted_is) here.1)
+                (subst (λ b. Adds mid new (run_lines blocks boxes b (placed_at place gs))) (not_empty ws p) there.1),
           )
 
       -- a line of those behind it could not be written
@@ -175,9 +175,9 @@ module _ (blocks : List Block3) (boxes : List ProbeBox) (place : Moment) where
       cut_later rest ws d =
           let here = one ws p placed d.are_rooms in
           let there = rest (ws ++ p ∷ []) (one_done ws p first count sum d.counted_is s here.0) in
-          front_then old mid new (way_lines blocks boxes (is_empty ws) p) (run_lines blocks boxes false (placed_at place gs)) _ refl
-          (subst (λ b. Appends old mid (way_lines blocks boxes b p)) (flag ws d.counted_is) here.1)
-          (subst (λ b. AppendsFront mid new (run_lines blocks boxes b (placed_at place gs))) (not_empty ws p) there)
+          adds_front_then old mid new (way_lines blocks boxes (is_empty ws) p) (run_lines blocks boxes false (placed_at place gs)) _ refl
+          (subst (λ b. Adds old mid (way_lines blocks boxes b p)) (flag ws d.counted_is) here.1)
+          (subst (λ b. AddsFront mid new (run_lines blocks boxes b (placed_at place gs))) (not_empty ws p) there)
 
 -- ---- before the first way
 

@@ -3,6 +3,7 @@ use Rattle.std.specs.Prelude.{ℕ, ◌+◌, Bool, false, List, [], ◌∷◌, �
 use Rattle.vcm_num.specs.declared.point.Point.{Point}
 use Rattle.vcm_spec.specs.declared.workpiece.Block3.{Block3}
 use Rattle.vcm_spec.specs.declared.workpiece.Hit.{Hit}
+use Rattle.vcm_naming.specs.Naming.{Line, plain, about}
 use Rattle.vcm_report.specs.Printed.{in_a_row, point_text}
 use Rattle.vcm_marks.specs.declared.mark.Going.{Going}
 use Rattle.vcm_marks.specs.declared.mark.Going.TheVariants as going
@@ -45,17 +46,21 @@ where_text t = place_text t ++ position_text t.contact.at
 abbrev pub told_text : List ℕ → Told → List ℕ
 told_text name t = met_text name t ++ where_text t
 
+-- the text of its line
+abbrev pub contact_text : List ℕ → Told → List ℕ
+contact_text name t = codes "contact " ++ told_text name t
+
 -- the line of a contact, if there is one
-abbrev pub contact_line : List ℕ → Option Told → List ℕ
+abbrev pub contact_line : List ℕ → Option Told → List Line
 contact_line name None = []
-contact_line name (Some t) = codes "contact " ++ told_text name t
+contact_line name (Some t) = about t.contact.hit.block (contact_text name t) ∷ []
 
 -- the lines of a way, box by box
-abbrev pub way_lines : List Block3 → List ProbeBox → Bool → PlacedWay → List ℕ
+abbrev pub way_lines : List Block3 → List ProbeBox → Bool → PlacedWay → List Line
 way_lines blocks boxes is_first p = flat_map (λ b. contact_line b.name (told_on blocks is_first b.block p)) boxes
 
 -- the lines of ways, of which the first is that of the run, or not
-abbrev pub run_lines : List Block3 → List ProbeBox → Bool → List PlacedWay → List ℕ
+abbrev pub run_lines : List Block3 → List ProbeBox → Bool → List PlacedWay → List Line
 run_lines blocks boxes is_first [] = []
 run_lines blocks boxes is_first (p ∷ ps) = way_lines blocks boxes is_first p ++ run_lines blocks boxes false ps
 
@@ -75,18 +80,22 @@ clear_line name g = in_a_row (codes "box " ∷ name ∷ codes " clear " ∷ deci
 abbrev pub more_text : ℕ → List ℕ
 more_text g = in_a_row (codes "at " ∷ decimal (g + 1) ∷ codes " " ∷ [])
 
--- what it then meets, if there is so much room
-abbrev pub narrow_line : List ℕ → ℕ → Option Told → List ℕ
+-- what it then meets
+abbrev pub narrow_text : List ℕ → ℕ → Told → List ℕ
+narrow_text name g t = more_text g ++ told_text name t
+
+-- its line, if there is so much room
+abbrev pub narrow_line : List ℕ → ℕ → Option Told → List Line
 narrow_line name g None = []
-narrow_line name g (Some t) = more_text g ++ told_text name t
+narrow_line name g (Some t) = about t.contact.hit.block (narrow_text name g t) ∷ []
 
 -- the lines of a box
-abbrev pub box_lines : List ℕ → Room → List ℕ
-box_lines name (Met k) = met_line name k
-box_lines name (Clear g told) = clear_line name g ++ narrow_line name g told
+abbrev pub box_lines : List ℕ → Room → List Line
+box_lines name (Met k) = plain (met_line name k) ∷ []
+box_lines name (Clear g told) = plain (clear_line name g) ∷ narrow_line name g told
 
 -- the lines of all boxes
-abbrev pub boxes_lines : List ProbeBox → List Room → List ℕ
+abbrev pub boxes_lines : List ProbeBox → List Room → List Line
 boxes_lines [] rooms = []
 boxes_lines (b ∷ bs) [] = []
 boxes_lines (b ∷ bs) (r ∷ rs) = box_lines b.name r ++ boxes_lines bs rs

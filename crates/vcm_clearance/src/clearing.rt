@@ -1,12 +1,12 @@
 //! The clearance of a run.
 
-ghost use Rattle.std.specs.Prelude.{◌≡◌, ◌++◌, IfOk, IfErr};
+ghost use Rattle.std.specs.Prelude.{◌≡◌, [], ◌∷◌, ◌++◌, IfOk, IfErr};
 ghost use Rattle.std.specs.List.{list_any};
-ghost use Rattle.vcm_num.specs.Written.{Wrote};
 ghost use Rattle.vcm_machine.specs.Running.{started, HasRun};
 ghost use Rattle.vcm_steps.specs.Passages.{passages, IsBroken};
 ghost use Rattle.vcm_clearance.specs.Clearance.{IsClearance, IsNotCleared};
-ghost use Rattle.vcm_report.specs.Printed.{end_line};
+ghost use Rattle.vcm_naming.specs.Naming.{plain, last_line};
+ghost use Rattle.vcm_naming.specs.Pages.{page, Added};
 ghost use Rattle.vcm_clearance.specs.Printed.{ways_text, boxes_lines};
 ghost use Rattle.vcm_clearance.specs.Rooms.{is_met_room};
 ghost use Rattle.vcm_clearance.specs.inner.Following.{HasTried, HasBroken, opening};
@@ -20,6 +20,7 @@ use vcm_boxes::{Boxes, ProbeBox};
 use vcm_loader::Loaded;
 use vcm_machine::{End, Machine, Ran};
 use vcm_motion::Part;
+use vcm_naming::{BlockNames, block_at_end};
 use vcm_num::{MOST_ROOM, NoMemory, WriteFault};
 use vcm_part::PartData;
 use vcm_report::write_end_line;
@@ -62,19 +63,34 @@ fn is_some_met(rooms: &[Room]) -> bool
     rooms.iter().any(|room| is_met(room))
 }
 
+// Writes how the run ended, and the name of the block that its stop names, if it is left.
+fn write_end<W: Write>(
+    world: &World,
+    done: u64,
+    names: &mut BlockNames,
+    writer: &mut W,
+) -> Result<(), WriteFault>
+    ensures { Added (page (W.contents writer.old) names.old) (page (W.contents writer.new) names.new) (last_line world.now.tables world.now.state.stop done ∷ []) result }
+{
+    let stop = world.stop();
+    write_end_line(world.tables(), stop, done, writer)?;
+    names.write_once(block_at_end(stop), writer)
+}
+
 // Writes the rooms, and how the run ended.
 fn write_rest<W: Write>(
     boxes: &[ProbeBox],
     rooms: &[Room],
     world: &World,
     done: u64,
+    names: &mut BlockNames,
     writer: &mut W,
 ) -> Result<(), WriteFault>
-    ensures { Wrote (W.contents writer.old) (W.contents writer.new)
-        (boxes_lines boxes.now rooms.now ++ end_line world.now.tables world.now.state.stop done) result }
+    ensures { Added (page (W.contents writer.old) names.old) (page (W.contents writer.new) names.new)
+        (boxes_lines boxes.now rooms.now ++ last_line world.now.tables world.now.state.stop done ∷ []) result }
 {
-    write_boxes(boxes, rooms, writer)?;
-    write_end_line(world.tables(), world.stop(), done, writer)
+    write_boxes(boxes, rooms, names, writer)?;
+    write_end(world, done, names, writer)
 }
 
 // Writes what comes behind the contacts.
@@ -84,13 +100,14 @@ fn write_summary<W: Write>(
     count: u64,
     world: &World,
     done: u64,
+    names: &mut BlockNames,
     writer: &mut W,
 ) -> Result<(), WriteFault>
-    ensures { Wrote (W.contents writer.old) (W.contents writer.new)
-        (ways_text count ++ (boxes_lines boxes.now rooms.now ++ end_line world.now.tables world.now.state.stop done)) result }
+    ensures { Added (page (W.contents writer.old) names.old) (page (W.contents writer.new) names.new)
+        (plain (ways_text count) ∷ boxes_lines boxes.now rooms.now ++ last_line world.now.tables world.now.state.stop done ∷ []) result }
 {
     write_ways(count, writer)?;
-    write_rest(boxes, rooms, world, done, writer)
+    write_rest(boxes, rooms, world, done, names, writer)
 }
 
 // Follows a run with its boxes: how it went, and how many ways there were.
@@ -101,21 +118,23 @@ fn try_run<P: Part, W: Write>(
     trier: &Trier<'_, P>,
     steps: u64,
     rooms: &mut Vec<Room>,
+    names: &mut BlockNames,
     writer: &mut W,
 ) -> Result<(Ran, u64), Unfinished>
     requires start { machine.old ≡ started machine.old.part loaded.now }
     requires tie { P.part trier.now.part.now ≡ trier.now.blocks.now }
     requires beside { machine.old.part ≡ trier.now.blocks.now }
     ensures run { IfOk result (λ r. HasRun steps machine.old machine.new r.0) }
-    ensures has { IfOk result (λ r. HasTried trier.now.blocks.now trier.now.boxes.now rooms.old.items 0 (W.contents writer.old)
-        rooms.new.items r.1 (W.contents writer.new) (passages machine.old.part loaded.now r.0.done)) }
+    ensures has { IfOk result (λ r. HasTried trier.now.blocks.now trier.now.boxes.now rooms.old.items 0 (page (W.contents writer.old) names.old)
+        rooms.new.items r.1 (page (W.contents writer.new) names.new) (passages machine.old.part loaded.now r.0.done)) }
     ensures err { IfErr result (λ f. IsBroken steps machine.old.part loaded.now
-        (λ ps p. HasBroken trier.now.blocks.now trier.now.boxes.now rooms.old.items 0 (W.contents writer.old) (W.contents writer.new) ps p f)) }
+        (λ ps p. HasBroken trier.now.blocks.now trier.now.boxes.now rooms.old.items 0 (page (W.contents writer.old) names.old) (page (W.contents writer.new) names.new) ps p f)) }
 {
     loaded.known_valid();
     let mut progress = Progress {
         writer,
         rooms,
+        names,
         count: 0,
     };
     match follow_run(alloc, loaded, machine, steps, trier, &mut progress) {
@@ -132,19 +151,20 @@ fn clear_run<P: Part, W: Write>(
     trier: &Trier<'_, P>,
     steps: u64,
     rooms: &mut Vec<Room>,
+    names: &mut BlockNames,
     writer: &mut W,
 ) -> Result<Cleared, Unfinished>
     requires start { machine.old ≡ started machine.old.part loaded.now }
     requires tie { P.part trier.now.part.now ≡ trier.now.blocks.now }
     requires beside { machine.old.part ≡ trier.now.blocks.now }
     requires rooms { rooms.old.items ≡ opening trier.now.boxes.now }
-    ensures cleared { IfOk result (λ t. IsClearance trier.now.blocks.now trier.now.boxes.now loaded.now steps t (W.contents writer.old) (W.contents writer.new)) }
-    ensures fault { IfErr result (λ f. IsNotCleared trier.now.blocks.now trier.now.boxes.now loaded.now steps f (W.contents writer.old) (W.contents writer.new)) }
+    ensures cleared { IfOk result (λ t. IsClearance names.old trier.now.blocks.now trier.now.boxes.now loaded.now steps t (W.contents writer.old) (W.contents writer.new)) }
+    ensures fault { IfErr result (λ f. IsNotCleared names.old trier.now.blocks.now trier.now.boxes.now loaded.now steps f (W.contents writer.old) (W.contents writer.new)) }
 {
     // It is called for what it tells of the workpiece: that it is valid.
     let _bounds = trier.blocks.bounds();
     let boxes = trier.boxes.as_slice();
-    let (ran, count) = match try_run(alloc, loaded, machine, trier, steps, rooms, writer) {
+    let (ran, count) = match try_run(alloc, loaded, machine, trier, steps, rooms, names, writer) {
         Ok(tried) => tried,
         Err(fault) => return Err(fault),
     };
@@ -156,7 +176,7 @@ fn clear_run<P: Part, W: Write>(
     }
     let world = machine.world();
     let known = rooms.as_slice();
-    match write_summary(boxes, known, count, world, done, writer) {
+    match write_summary(boxes, known, count, world, done, names, writer) {
         Ok(()) => Ok(Cleared {
             is_met: is_some_met(known),
             stop: world.stop(),
@@ -167,7 +187,7 @@ fn clear_run<P: Part, W: Write>(
 
 /// Runs a loaded code for at most so many steps beside a workpiece, whose blocks are given too, tries boxes that are fixed to the tip on each way of the run, and writes
 /// as the steps are taken where a box enters a block; behind that how many ways there were, for each box on how many it meets a block, or how much room is left round it and
-/// where that is narrowest; and how the run ended. The tip alone decides the run. Fractions and contacts are exact; lengths are whole micrometres; ways are counted up to
+/// where that is narrowest; and how the run ended; below the first line that names a block the block's name, if it is among these. The tip alone decides the run. Fractions and contacts are exact; lengths are whole micrometres; ways are counted up to
 /// 18,446,744,073,709,551,615.
 ///
 /// Errors: see `Unfinished`.
@@ -178,11 +198,12 @@ pub fn clearance<P: Part, W: Write>(
     blocks: &PartData,
     boxes: &Boxes,
     steps: u64,
+    names: &mut BlockNames,
     writer: &mut W,
 ) -> Result<Cleared, Unfinished>
     requires { P.part part.now ≡ blocks.now }
-    ensures cleared { IfOk result (λ t. IsClearance (P.part part.now) boxes.now loaded.now steps t (W.contents writer.old) (W.contents writer.new)) }
-    ensures fault { IfErr result (λ f. IsNotCleared (P.part part.now) boxes.now loaded.now steps f (W.contents writer.old) (W.contents writer.new)) }
+    ensures cleared { IfOk result (λ t. IsClearance names.old (P.part part.now) boxes.now loaded.now steps t (W.contents writer.old) (W.contents writer.new)) }
+    ensures fault { IfErr result (λ f. IsNotCleared names.old (P.part part.now) boxes.now loaded.now steps f (W.contents writer.old) (W.contents writer.new)) }
 {
     let Ok(mut rooms) = opening_rooms(alloc, boxes.as_slice()) else {
         return Err(Unfinished::NoMemory);
@@ -203,6 +224,7 @@ pub fn clearance<P: Part, W: Write>(
         &trier,
         steps,
         &mut rooms,
+        names,
         writer,
     )
 }

@@ -1,9 +1,8 @@
 //! What tries boxes on the ways of a run.
 
 ghost use Rattle.std.specs.Prelude.{◌≡◌, refl, [], ◌∷◌, ◌++◌};
-ghost use Rattle.std.specs.Io.KnownBytes.{Appends};
-ghost use Rattle.vcm_num.specs.Written.{AppendsFront};
-ghost use Rattle.vcm_num.proofs.KnownWrites.{appends_nothing};
+ghost use Rattle.vcm_naming.specs.Pages.{page, Adds, AddsFront};
+ghost use Rattle.vcm_naming.proofs.Pages.{adds_nothing};
 ghost use Rattle.vcm_code.specs.Valid.{IsValid};
 ghost use Rattle.vcm_way.specs.Steps.{IsBefore};
 ghost use Rattle.vcm_clearance.specs.inner.Following.{HasTried, HasBroken};
@@ -15,16 +14,18 @@ use vcm_boxes::Boxes;
 use vcm_fields::BorrowedStatement;
 use vcm_marks::Moment;
 use vcm_motion::Part;
+use vcm_naming::BlockNames;
 use vcm_part::PartData;
 use vcm_state::World;
 use vcm_steps::{Follows, Unfinished};
 use vcm_way::{Before, look, marks_of_step, reason};
 
-/// What is known so far: the rooms of the boxes, and how many ways there were; and where contacts are written.
+/// What is known so far: the rooms of the boxes, and how many ways there were; and where contacts are written, with the names of blocks that are left.
 #[derive(Drop)]
 pub(crate) struct Progress<'a, W: Write> {
     pub(crate) writer: &'a mut W,
     pub(crate) rooms: &'a mut Vec<Room>,
+    pub(crate) names: &'a mut BlockNames,
     pub(crate) count: u64,
 }
 
@@ -45,13 +46,15 @@ impl<'a, P: Part, W: Write> Follows<Progress<'a, W>> for Trier<'_, P> {
 
     ghost Looked = { λ s b w statement. IsBefore s.blocks.now.bounds.home w statement b };
 
-    ghost Has = { λ s tables from to ps. (to.writer.ghost_name ≡ from.writer.ghost_name) × (to.rooms.ghost_name ≡ from.rooms.ghost_name)
-        × HasTried s.blocks.now s.boxes.now from.rooms.now.items from.count (W.contents from.writer.now) to.rooms.now.items to.count (W.contents to.writer.now) ps };
+    ghost Has = { λ s tables from to ps. (to.writer.ghost_name ≡ from.writer.ghost_name) × (to.rooms.ghost_name ≡ from.rooms.ghost_name) × (to.names.ghost_name ≡ from.names.ghost_name)
+        × HasTried s.blocks.now s.boxes.now from.rooms.now.items from.count (page (W.contents from.writer.now) from.names.now)
+        to.rooms.now.items to.count (page (W.contents to.writer.now) to.names.now) ps };
 
-    ghost Broke = { λ s tables from to ps p f. (to.writer.ghost_name ≡ from.writer.ghost_name) × (to.rooms.ghost_name ≡ from.rooms.ghost_name)
-        × HasBroken s.blocks.now s.boxes.now from.rooms.now.items from.count (W.contents from.writer.now) (W.contents to.writer.now) ps p f };
+    ghost Broke = { λ s tables from to ps p f. (to.writer.ghost_name ≡ from.writer.ghost_name) × (to.rooms.ghost_name ≡ from.rooms.ghost_name) × (to.names.ghost_name ≡ from.names.ghost_name)
+        × HasBroken s.blocks.now s.boxes.now from.rooms.now.items from.count (page (W.contents from.writer.now) from.names.now)
+        (page (W.contents to.writer.now) to.names.now) ps p f };
 
-    ghost nothing = { λ s tables x. (refl, refl, λ h. (h, appends_nothing (W.contents x.writer.now))) };
+    ghost nothing = { λ s tables x. (refl, refl, refl, λ h. (h, adds_nothing (page (W.contents x.writer.now) x.names.now))) };
 
     fn look(&self, world: &World, statement: &BorrowedStatement<'_>) -> Before {
         look(world, self.blocks.bounds().home, statement)
@@ -82,6 +85,7 @@ impl<'a, P: Part, W: Write> Follows<Progress<'a, W>> for Trier<'_, P> {
             marks.as_slice(),
             to.count,
             to.rooms,
+            to.names,
             to.writer,
         ) {
             Ok(sum) => {

@@ -1,8 +1,10 @@
 //! Contacts and rooms as text. Nothing here takes memory.
 
-ghost use Rattle.std.specs.Prelude.{◌≡◌, ◌++◌, codes};
+ghost use Rattle.std.specs.Prelude.{◌≡◌, [], ◌∷◌};
 ghost use Rattle.vcm_num.specs.Written.{Wrote};
-ghost use Rattle.vcm_clearance.specs.Printed.{going_text, position_text, place_text, hit_text, met_text, where_text, told_text, contact_line, ways_text, met_line, clear_line, more_text, narrow_line, box_lines, boxes_lines};
+ghost use Rattle.vcm_naming.specs.Naming.{plain, about};
+ghost use Rattle.vcm_naming.specs.Pages.{page, Added};
+ghost use Rattle.vcm_clearance.specs.Printed.{going_text, position_text, place_text, hit_text, met_text, where_text, told_text, contact_text, contact_line, ways_text, met_line, clear_line, more_text, narrow_text, narrow_line, box_lines, boxes_lines};
 
 use crate::room::Room;
 use crate::told::Told;
@@ -10,6 +12,7 @@ use itoa::Buffer;
 use std::io::Write;
 use vcm_boxes::ProbeBox;
 use vcm_marks::Going;
+use vcm_naming::BlockNames;
 use vcm_num::{Point, WriteFault, write_all, write_pieces};
 use vcm_report::write_point;
 use vcm_spec::Hit;
@@ -87,27 +90,41 @@ fn write_told<W: Write>(name: &[u8], told: &Told, writer: &mut W) -> Result<(), 
     write_where(told, writer)
 }
 
-// Writes the line of a contact.
+// Writes the text of the line of a contact.
 fn write_contact_line<W: Write>(name: &[u8], told: &Told, writer: &mut W) -> Result<(), WriteFault>
-    ensures { Wrote (W.contents writer.old) (W.contents writer.new) (codes "contact " ++ told_text name.now told.now) result }
+    ensures { Wrote (W.contents writer.old) (W.contents writer.new) (contact_text name.now told.now) result }
 {
     write_all(writer, b"contact ")?;
     write_told(name, told, writer)
 }
 
-/// Writes the line of a contact of a box with this name, if there is one.
+// Writes the line of a contact, and the name of its block, if it is left.
+fn write_named_contact<W: Write>(
+    name: &[u8],
+    told: &Told,
+    names: &mut BlockNames,
+    writer: &mut W,
+) -> Result<(), WriteFault>
+    ensures { Added (page (W.contents writer.old) names.old) (page (W.contents writer.new) names.new) (about told.now.contact.hit.block (contact_text name.now told.now) ∷ []) result }
+{
+    write_contact_line(name, told, writer)?;
+    names.write_once(Some(told.contact.hit.block), writer)
+}
+
+/// Writes the line of a contact of a box with this name, if there is one, and the name of its block, if it is left.
 ///
-/// Errors: the writer failed, or took no byte; then it has taken a front of the line, and not all of it.
+/// Errors: the writer failed, or took no byte; then it has taken a front of that, and not all of it.
 pub(crate) fn write_contact<W: Write>(
     name: &[u8],
     told: Option<Told>,
+    names: &mut BlockNames,
     writer: &mut W,
 ) -> Result<(), WriteFault>
-    ensures { Wrote (W.contents writer.old) (W.contents writer.new) (contact_line name.now told) result }
+    ensures { Added (page (W.contents writer.old) names.old) (page (W.contents writer.new) names.new) (contact_line name.now told) result }
 {
     match told {
         None => Ok(()),
-        Some(told) => write_contact_line(name, &told, writer),
+        Some(told) => write_named_contact(name, &told, names, writer),
     }
 }
 
@@ -155,10 +172,24 @@ fn write_narrow_line<W: Write>(
     told: &Told,
     writer: &mut W,
 ) -> Result<(), WriteFault>
-    ensures { Wrote (W.contents writer.old) (W.contents writer.new) (more_text by ++ told_text name.now told.now) result }
+    ensures { Wrote (W.contents writer.old) (W.contents writer.new) (narrow_text name.now by told.now) result }
 {
     write_more(by, writer)?;
     write_told(name, told, writer)
+}
+
+// The same, and the name of the block, if it is left.
+fn write_named_narrow<W: Write>(
+    name: &[u8],
+    by: u32,
+    told: &Told,
+    names: &mut BlockNames,
+    writer: &mut W,
+) -> Result<(), WriteFault>
+    ensures { Added (page (W.contents writer.old) names.old) (page (W.contents writer.new) names.new) (about told.now.contact.hit.block (narrow_text name.now by told.now) ∷ []) result }
+{
+    write_narrow_line(name, by, told, writer)?;
+    names.write_once(Some(told.contact.hit.block), writer)
 }
 
 // The same, if it meets a block.
@@ -166,13 +197,14 @@ fn write_narrow<W: Write>(
     name: &[u8],
     by: u32,
     told: Option<Told>,
+    names: &mut BlockNames,
     writer: &mut W,
 ) -> Result<(), WriteFault>
-    ensures { Wrote (W.contents writer.old) (W.contents writer.new) (narrow_line name.now by told) result }
+    ensures { Added (page (W.contents writer.old) names.old) (page (W.contents writer.new) names.new) (narrow_line name.now by told) result }
 {
     match told {
         None => Ok(()),
-        Some(told) => write_narrow_line(name, by, &told, writer),
+        Some(told) => write_named_narrow(name, by, &told, names, writer),
     }
 }
 
@@ -181,40 +213,47 @@ fn write_clear<W: Write>(
     name: &[u8],
     by: u32,
     told: Option<Told>,
+    names: &mut BlockNames,
     writer: &mut W,
 ) -> Result<(), WriteFault>
-    ensures { Wrote (W.contents writer.old) (W.contents writer.new) (clear_line name.now by ++ narrow_line name.now by told) result }
+    ensures { Added (page (W.contents writer.old) names.old) (page (W.contents writer.new) names.new) (plain (clear_line name.now by) ∷ narrow_line name.now by told) result }
 {
     write_clear_line(name, by, writer)?;
-    write_narrow(name, by, told, writer)
+    write_narrow(name, by, told, names, writer)
 }
 
 // Writes the lines of a box.
-fn write_box<W: Write>(name: &[u8], room: Room, writer: &mut W) -> Result<(), WriteFault>
-    ensures { Wrote (W.contents writer.old) (W.contents writer.new) (box_lines name.now room) result }
+fn write_box<W: Write>(
+    name: &[u8],
+    room: Room,
+    names: &mut BlockNames,
+    writer: &mut W,
+) -> Result<(), WriteFault>
+    ensures { Added (page (W.contents writer.old) names.old) (page (W.contents writer.new) names.new) (box_lines name.now room) result }
 {
     match room {
         Room::Met(count) => write_met_line(name, count, writer),
-        Room::Clear(by, told) => write_clear(name, by, told, writer),
+        Room::Clear(by, told) => write_clear(name, by, told, names, writer),
     }
 }
 
-/// Writes the lines of boxes with their rooms.
+/// Writes the lines of boxes with their rooms, and the names of blocks that are left.
 ///
 /// Errors: the writer failed, or took no byte; then it has taken a front of the lines, and not all of them.
 pub(crate) fn write_boxes<W: Write>(
     boxes: &[ProbeBox],
     rooms: &[Room],
+    names: &mut BlockNames,
     writer: &mut W,
 ) -> Result<(), WriteFault>
-    ensures { Wrote (W.contents writer.old) (W.contents writer.new) (boxes_lines boxes.now rooms.now) result }
+    ensures { Added (page (W.contents writer.old) names.old) (page (W.contents writer.new) names.new) (boxes_lines boxes.now rooms.now) result }
 {
     match boxes.split_first() {
         None => Ok(()),
         Some((first, boxes)) => match rooms.split_first() {
             None => Ok(()),
-            Some((room, rooms)) => match write_box(first.name.as_bytes(), *room, writer) {
-                Ok(()) => write_boxes(boxes, rooms, writer),
+            Some((room, rooms)) => match write_box(first.name.as_bytes(), *room, names, writer) {
+                Ok(()) => write_boxes(boxes, rooms, names, writer),
                 Err(fault) => Err(fault),
             },
         },

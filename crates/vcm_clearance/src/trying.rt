@@ -1,9 +1,8 @@
 //! Boxes, tried on the ways of one step.
 
 ghost use Rattle.std.specs.Prelude.{◌≡◌, ◌+◌, min, List, [], ◌∷◌, ◌++◌, IfOk, IfErr};
-ghost use Rattle.std.specs.Io.KnownBytes.{Appends};
 ghost use Rattle.std.specs.List.{AllByRecursion};
-ghost use Rattle.vcm_num.specs.Written.{AppendsFront};
+ghost use Rattle.vcm_naming.specs.Pages.{page, Adds, AddsFront};
 ghost use Rattle.vcm_boxes.specs.Boxes.{AreBoxes};
 ghost use Rattle.vcm_way.specs.Gone.{PlacedWay, ways_in};
 ghost use Rattle.vcm_way.specs.Seen.{IsNearWay};
@@ -17,6 +16,7 @@ use crate::rooms::{next_room, told_on};
 use std::io::Write;
 use vcm_boxes::ProbeBox;
 use vcm_marks::{Mark, Moment};
+use vcm_naming::BlockNames;
 use vcm_num::WriteFault;
 use vcm_part::PartData;
 use vcm_way::{Gone, first_way};
@@ -36,14 +36,15 @@ fn try_way<W: Write>(
     gone: &Gone,
     is_first: bool,
     rooms: &mut Vec<Room>,
+    names: &mut BlockNames,
     writer: &mut W,
 ) -> Result<(), WriteFault>
     requires { AreBoxes boxes.now }
     ensures ok { IfOk result (λ u. (ws : List PlacedWay) (p : PlacedWay) → IsPlaced place gone.now p → AreRooms blocks.now.blocks boxes.now ws rooms.old.items
         → AreRooms blocks.now.blocks boxes.now (ws ++ p ∷ []) rooms.new.items
-        × Appends (W.contents writer.old) (W.contents writer.new) (way_lines blocks.now.blocks boxes.now is_first p)) }
+        × Adds (page (W.contents writer.old) names.old) (page (W.contents writer.new) names.new) (way_lines blocks.now.blocks boxes.now is_first p)) }
     ensures err { IfErr result (λ f. (ws : List PlacedWay) (p : PlacedWay) → IsPlaced place gone.now p → AreRooms blocks.now.blocks boxes.now ws rooms.old.items
-        → AppendsFront (W.contents writer.old) (W.contents writer.new) (way_lines blocks.now.blocks boxes.now is_first p)) }
+        → AddsFront (page (W.contents writer.old) names.old) (page (W.contents writer.new) names.new) (way_lines blocks.now.blocks boxes.now is_first p)) }
 {
     for (index, tried) in boxes.iter().enumerate() {
         // Each box has a room.
@@ -53,7 +54,7 @@ fn try_way<W: Write>(
         let room = next_room(blocks, &tried.block, *room, place, gone);
         let told = told_on(blocks, &tried.block, room, place, gone, is_first);
         rooms[index] = room;
-        write_contact(tried.name.as_bytes(), told, writer)?;
+        write_contact(tried.name.as_bytes(), told, names, writer)?;
     }
     Ok(())
 }
@@ -68,24 +69,26 @@ pub(crate) fn try_ways<W: Write>(
     marks: &[Mark],
     count: u64,
     rooms: &mut Vec<Room>,
+    names: &mut BlockNames,
     writer: &mut W,
 ) -> Result<u64, WriteFault>
     requires boxes { AreBoxes boxes.now }
     requires near { AllByRecursion IsNearWay (ways_in blocks.now marks.now) }
     ensures ok { IfOk result (λ n. AreAdded blocks.now.blocks boxes.now place (ways_in blocks.now marks.now)
-        rooms.old.items count (W.contents writer.old) rooms.new.items n (W.contents writer.new)) }
+        rooms.old.items count (page (W.contents writer.old) names.old) rooms.new.items n (page (W.contents writer.new) names.new)) }
     ensures err { IfErr result (λ f. AreCut blocks.now.blocks boxes.now place (ways_in blocks.now marks.now)
-        rooms.old.items count (W.contents writer.old) (W.contents writer.new)) }
+        rooms.old.items count (page (W.contents writer.old) names.old) (page (W.contents writer.new) names.new)) }
 {
     match marks.split_first() {
         None => Ok(count),
         Some((_, behind)) => match first_way(blocks, marks) {
-            None => try_ways(blocks, boxes, place, behind, count, rooms, writer),
+            None => try_ways(blocks, boxes, place, behind, count, rooms, names, writer),
             Some(way) => {
                 let is_first = count == 0;
-                match try_way(blocks, boxes, place, &way, is_first, rooms, writer) {
+                match try_way(blocks, boxes, place, &way, is_first, rooms, names, writer) {
                     Ok(()) => {
-                        try_ways(blocks, boxes, place, behind, one_more(count), rooms, writer)
+                        let count = one_more(count);
+                        try_ways(blocks, boxes, place, behind, count, rooms, names, writer)
                     }
                     Err(fault) => Err(fault),
                 }

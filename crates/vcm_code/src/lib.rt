@@ -15,4 +15,4 @@ pub use copying::{Branches, Expression, OutputLine};
 pub use op::{CodeStatement, Op, OwnedOp, OwnedSimple, OwnedStatement};
 pub use pair::Pair;
 pub use version::{Version, has_selection, version_for};
-pub use word::{Word, has_word};
+pub use word::{Word, has_word, word_rows, word_with};

@@ -1,6 +1,15 @@
 //! The statements of a code.
 
+ghost use Rattle.std.specs.Prelude.{◌≡◌, ℕ, List};
+ghost use Rattle.vcm_spec.specs.declared.expression.Item.{Item as Postfix};
+ghost use Rattle.vcm_code.specs.declared.branch.Branch.{Branch as Way};
+ghost use Rattle.vcm_spec.specs.Simple.{with_forms};
+ghost use Rattle.vcm_code.specs.declared.op.Op.TheVariants.{Plain};
+ghost use Rattle.vcm_code.specs.Copies.{listed};
+ghost use Rattle.vcm_code.specs.Words.{word_of};
+
 use crate::branch::Branch;
+use crate::word::Word;
 use vcm_num::Items;
 use vcm_spec::{Item, Simple};
 
@@ -40,6 +49,52 @@ pub enum Op<E, T, B> {
     EndSel,
     /// `ENDFIL`.
     EndFil,
+}
+
+// The word of a simple statement.
+fn simple_word<E, T>(what: &Simple<E, T>) -> Word
+    ensures { (items : E → List Postfix) (bytes : T → List ℕ) → result ≡ word_of (Plain (with_forms items bytes what.now)) }
+{
+    match what {
+        Simple::Goto(_, _, _) => Word::Goto,
+        Simple::GoHome => Word::GoHome,
+        Simple::Assign(_, _) => Word::Assign,
+        Simple::Feat(_, _, _, _, _) => Word::Feat,
+        Simple::PtMeas(_, _, _, _, _) => Word::PtMeas,
+        Simple::SnSet(_, _) => Word::SnSet,
+        Simple::Trans(_, _, _, _) => Word::Trans,
+        Simple::Rotate(_, _, _) => Word::Rotate,
+        Simple::Recall(_) => Word::Recall,
+        Simple::Obtain(_, _, _, _) => Word::Obtain,
+        Simple::Output(_, _) => Word::Output,
+        Simple::Text(_) => Word::Text,
+    }
+}
+
+impl<E, T, B> Op<E, T, B> {
+    /// The word that the statement goes by, however its expressions, texts and branches are kept.
+    pub fn word(&self) -> Word
+        ensures { (items : E → List Postfix) (bytes : T → List ℕ) (branches : B → List Way) → result ≡ word_of (listed items bytes branches self.now) }
+    {
+        match self {
+            Op::Plain(what) => simple_word(what),
+            Op::If(_, _) => Word::If,
+            Op::Else(_) => Word::Else,
+            Op::EndIf => Word::EndIf,
+            Op::Do(_, _, _, _, _, _) => Word::Do,
+            Op::EndDo(_, _, _) => Word::EndDo,
+            Op::Label => Word::Label,
+            Op::JumpTo(_) => Word::JumpTo,
+            Op::Meas(_) => Word::Meas,
+            Op::EndMes => Word::EndMes,
+            Op::Select(_, _, _) => Word::Select,
+            Op::Case => Word::Case,
+            Op::EndCas(_) => Word::EndCas,
+            Op::DftCas => Word::DftCas,
+            Op::EndSel => Word::EndSel,
+            Op::EndFil => Word::EndFil,
+        }
+    }
 }
 
 /// A statement with the source line that it begins on, the first being 1.

@@ -1,7 +1,9 @@
-//! The commands of vcm: what its command line asks for is carried out. Here stand checks of several programs, producers' texts, explanations and the
-//! debug adapter; the others stand in `vcm_devices`.
+//! The commands of vcm: what its command line asks for is carried out. Here stand checks of several programs, producers' texts, blocks of
+//! models, explanations and the debug adapter; the others stand in `vcm_devices`.
 #![tactic(auto)]
 
+mod blocks;
+mod blocks_words;
 mod checks;
 mod dap;
 mod explaining;

@@ -3,6 +3,7 @@
 use crate::telling::tell_bytes;
 use std::alloc::Global;
 use std::rt::Files;
+use vcm_blocks::file_name;
 use vcm_devices::{
     DASH, Request, STANDARD_INPUT, Told, Voice, alone, bytes_of, fails, fails_twice,
     fails_unless_closed, part_of, print_bytes,
@@ -106,15 +107,6 @@ fn options_of<'a, R: Files + Input + Eprint + AllocGlobal>(
     }
 }
 
-// The last part of a path.
-fn last_part(name: &str) -> &[u8] {
-    let bytes = name.as_bytes();
-    match bytes.iter().rposition(|byte| *byte == b'/') {
-        Some(at) => &bytes[at + 1..],
-        None => bytes,
-    }
-}
-
 // Whether a text is accepted.
 fn refusal_of(alloc: Global, text: &[u8]) -> Option<SourceFault> {
     match accept(alloc, text) {
@@ -169,7 +161,7 @@ fn survey_text<R: Print + Eprint + AllocGlobal>(
     options: &Options,
     shape: Shape,
 ) -> Result<u8, Message<'static>> {
-    match survey(rt.alloc(), last_part(name), text, options, shape) {
+    match survey(rt.alloc(), file_name(name).as_bytes(), text, options, shape) {
         Ok(Ok(findings)) => Ok(tell_findings(rt, &findings, text)),
         Ok(Err(fault)) => Err(fault.told()),
         Err(_) => Err(Message::NoMemory),

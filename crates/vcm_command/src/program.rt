@@ -1,5 +1,6 @@
 //! The program: its words are read, and the command is carried out on the standard devices and files.
 
+use crate::blocks::blocks_file;
 use crate::checks::check_programs;
 use crate::dap::serve_editor;
 use crate::explaining::explain;
@@ -9,9 +10,9 @@ use clap::error::ErrorKind;
 use std::io;
 use std::rt::{Env, Files};
 use vcm_devices::{
-    Request, Terminals, View, Voice, asm_file, build_file, debug_file, fails, list_file,
-    matches_of, run_job, show_clearance, show_page, show_part, show_picture, show_result,
-    show_view, voice_of,
+    NamedView, Request, Terminals, View, Voice, asm_file, build_file, debug_file, fails, list_file,
+    matches_of, run_job, show_clearance, show_named, show_page, show_part, show_picture,
+    show_points, show_result, show_view, voice_of,
 };
 use vcm_messages::Message;
 use vcm_usage::Verb;
@@ -71,11 +72,12 @@ fn talks_alone(words: &[String]) -> bool {
     }
 }
 
-// Carries out a command, and gives the exit status.
+// Carries out a command, which has these words after it, and gives the exit status.
 fn carry_out<R: Files + Input + Print + Eprint + AllocGlobal>(
     rt: &R,
     voice: Voice,
     request: &Request<'_, '_>,
+    words: &[String],
 ) -> u8 {
     match request.verb() {
         Verb::Check => check_programs(rt, voice, request),
@@ -83,15 +85,16 @@ fn carry_out<R: Files + Input + Print + Eprint + AllocGlobal>(
         Verb::Adapt => adapt_file(rt, voice, request),
         Verb::Build => build_file(rt, voice, request),
         Verb::Run => show_result(rt, voice, request),
-        Verb::Why => show_view(rt, voice, &View::Why, request),
-        Verb::Contacts => show_view(rt, voice, &View::Contacts, request),
+        Verb::Why => show_named(rt, voice, NamedView::Why, request),
+        Verb::Contacts => show_named(rt, voice, NamedView::Contacts, request),
         Verb::Trace => show_view(rt, voice, &View::Trace, request),
         Verb::Margin => show_view(rt, voice, &View::Margin, request),
-        Verb::Points => show_view(rt, voice, &View::Points, request),
+        Verb::Points => show_points(rt, voice, request),
         Verb::Clearance => show_clearance(rt, voice, request),
         Verb::Picture => show_picture(rt, voice, request),
         Verb::View => show_page(rt, voice, request),
         Verb::Part => show_part(rt, voice, request),
+        Verb::Blocks => blocks_file(rt, voice, request, words),
         Verb::Debug => debug_file(rt, voice, request),
         Verb::Dap => serve_editor(rt),
         Verb::List => list_file(rt, voice, request),
@@ -118,11 +121,20 @@ fn carry_out_once<R: Files + Input + Print + Eprint + AllocGlobal>(
     rt: &R,
     voice: Voice,
     request: &Request<'_, '_>,
+    words: &[String],
 ) -> u8 {
     if request.dashes() > dashes_allowed(request.verb()) {
         fails(rt, DASHES)
     } else {
-        carry_out(rt, voice, request)
+        carry_out(rt, voice, request, words)
+    }
+}
+
+// The words after the command, which stands after the program's name.
+fn words_behind(words: &[String]) -> &[String] {
+    match words {
+        [_, _, behind @ ..] => behind,
+        _ => &[],
     }
 }
 
@@ -137,7 +149,10 @@ fn status_of<R: Files + Input + Print + Eprint + AllocGlobal>(
         Err(error) => return tell_usage(rt, &error),
     };
     match Request::of(&matches) {
-        Some(request) => carry_out_once(rt, voice_of(&request, terminals), &request),
+        Some(request) => {
+            let voice = voice_of(&request, terminals);
+            carry_out_once(rt, voice, &request, words_behind(words))
+        }
         None => run_job(rt, terminals),
     }
 }

@@ -25,11 +25,12 @@ _vcm_takes() {
     contacts) options="--quiet --steps" valued="--steps:." files=("dmi dmis vcmi" "toml") ;;
     trace) options="--quiet --steps" valued="--steps:." files=("dmi dmis vcmi" "toml") ;;
     margin) options="--quiet --steps" valued="--steps:." files=("dmi dmis vcmi" "toml") ;;
-    points) options="--quiet --steps" valued="--steps:." files=("dmi dmis vcmi" "toml") ;;
+    points) options="--quiet --steps --machine" valued="--steps:." files=("dmi dmis vcmi" "toml") ;;
     clearance) options="--quiet --steps" valued="--steps:." files=("dmi dmis vcmi" "toml" "toml") ;;
     picture) options="--quiet --steps --close --sheet --lines" valued="--steps:. --lines:." files=("dmi dmis vcmi" "toml") ;;
     view) options="--quiet --steps --probe" valued="--steps:. --probe:toml" files=("dmi dmis vcmi" "toml") ;;
     part) options="--quiet" valued="" files=("toml") ;;
+    blocks) options="--talk --quiet --unit --turn --at --within --most --near --into --name" valued="--unit:. --turn:. --at:. --within:. --most:. --near:csv --into:toml --name:." files=("stl") ;;
     debug) options="--talk --quiet" valued="" files=("dmi dmis vcmi" "toml") ;;
     dap) options="" valued="" files=() ;;
     list) options="--talk --quiet" valued="" files=("dmi dmis vcmi") ;;
@@ -39,7 +40,7 @@ _vcm_takes() {
 }
 _vcm() {
   local word=${COMP_WORDS[COMP_CWORD]} before=${COMP_WORDS[COMP_CWORD-1]} options valued files is_many i place=0
-  local commands="check survey adapt build run why contacts trace margin points clearance picture view part debug dap list asm explain"
+  local commands="check survey adapt build run why contacts trace margin points clearance picture view part blocks debug dap list asm explain"
   COMPREPLY=()
   if [ "$COMP_CWORD" -eq 1 ]; then
     COMPREPLY=($(compgen -W "$commands help --help --version" -- "$word"))

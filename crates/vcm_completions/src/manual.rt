@@ -25,7 +25,7 @@ fn put_option(text: &mut String, choice: Choice) -> Option<()> {
     put(text, &[".RB [ \\-\\-", spelled.name])?;
     match spelled.behind {
         Behind::Nothing => put(text, &[" ]\n"]),
-        Behind::Value => put(text, &["\n.IR ", spelled.value, " ]\n"]),
+        Behind::Value | Behind::Signed => put(text, &["\n.IR ", spelled.value, " ]\n"]),
         Behind::Values => put(text, &["\n.IR ", spelled.value, " ]...\n"]),
     }
 }

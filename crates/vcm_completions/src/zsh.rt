@@ -32,6 +32,8 @@ fn completer(files: Files) -> &'static str {
         Files::Programs => ":_files -g \"*.(dmi|dmis)(-.)\"",
         Files::Inputs => ":_files -g \"*.(dmi|dmis|vcmi)(-.)\"",
         Files::Tables => ":_files -g \"*.toml(-.)\"",
+        Files::Models => ":_files -g \"*.(stl|STL)(-.)\"",
+        Files::Points => ":_files -g \"*.csv(-.)\"",
     }
 }
 

@@ -1,6 +1,7 @@
 pub mod Leading
 pub mod Passing
 pub mod Printed
+pub mod Samples
 pub mod Collecting
 pub mod Laws
 pub mod inner

@@ -1,14 +1,19 @@
 -- Contacts as text.
-use Rattle.std.specs.Prelude.{ℕ, nat_eq, if◌then◌else◌, List, [], ◌∷◌, ◌++◌, length, flat_map, Option, decimal, codes}
+use Rattle.std.specs.Prelude.{ℕ, nat_eq, if◌then◌else◌, List, [], ◌∷◌, ◌++◌, length, map, Option, decimal, codes}
 use Rattle.vcm_spec.specs.declared.stop.StopPlace.{StopPlace}
 use Rattle.vcm_spec.specs.Setup.{Tables}
 use Rattle.vcm_report.specs.Printed.{in_a_row, phase_text, end_line}
+use Rattle.vcm_naming.specs.Naming.{Line, about, named_text}
 use Rattle.vcm_contacts.specs.declared.contact.Contact.{Contact}
 
 -- what a statement meets, and where it stands: as a stop tells it
-abbrev pub contact_line : Contact → List ℕ
-contact_line c = in_a_row (codes "COLLISION " ∷ phase_text c.phase ∷ codes " block " ∷ decimal c.hit.block ∷ codes " permille " ∷ decimal c.hit.permille
+abbrev pub contact_text : Contact → List ℕ
+contact_text c = in_a_row (codes "COLLISION " ∷ phase_text c.phase ∷ codes " block " ∷ decimal c.hit.block ∷ codes " permille " ∷ decimal c.hit.permille
     ∷ codes " at " ∷ decimal c.number ∷ codes " line " ∷ decimal c.line ∷ codes "\n" ∷ [])
+
+-- its line
+abbrev pub contact_line : Contact → Line
+contact_line c = about c.hit.block (contact_text c)
 
 -- one contact, or several
 abbrev pub contacts_word : ℕ → List ℕ
@@ -23,6 +28,10 @@ abbrev pub count_line : List Contact → List ℕ
 count_line [] = codes "0 contacts\n"
 count_line (c ∷ cs) = some_line (length (c ∷ cs)) c.line
 
--- the contacts of a run for n steps, which ended so
-abbrev pub contacts_text : Tables → List Contact → Option StopPlace → ℕ → List ℕ
-contacts_text tables contacts stop n = flat_map contact_line contacts ++ (count_line contacts ++ end_line tables stop n)
+-- the contacts, with the name of each block that has one among these
+abbrev pub contact_lines : List (List ℕ) → List Contact → List ℕ
+contact_lines names contacts = named_text names (map contact_line contacts)
+
+-- the contacts of a run for n steps beside blocks with these names, which ended so
+abbrev pub contacts_text : List (List ℕ) → Tables → List Contact → Option StopPlace → ℕ → List ℕ
+contacts_text names tables contacts stop n = contact_lines names contacts ++ (count_line contacts ++ end_line tables stop n)

@@ -1,21 +1,23 @@
 //! Contacts as text. Nothing here takes memory.
 
-ghost use Rattle.std.specs.Prelude.{◌≡◌, ◌++◌, flat_map};
+ghost use Rattle.std.specs.Prelude.{◌≡◌, ◌++◌, [], ◌∷◌, map};
 ghost use Rattle.vcm_num.specs.Written.{Wrote};
+ghost use Rattle.vcm_naming.specs.Pages.{page, Added};
 ghost use Rattle.vcm_report.specs.Printed.{end_line};
-ghost use Rattle.vcm_contacts.specs.Printed.{contact_line, contacts_word, some_line, count_line, contacts_text};
+ghost use Rattle.vcm_contacts.specs.Printed.{contact_text, contact_line, contacts_word, some_line, count_line, contacts_text};
 
 use crate::contact::Contact;
 use itoa::Buffer;
 use std::io::Write;
 use vcm_items::Tables;
+use vcm_naming::BlockNames;
 use vcm_num::{WriteFault, write_all, write_pieces};
 use vcm_report::{phase_text, write_end_line};
 use vcm_spec::StopPlace;
 
 // Writes a contact.
 fn write_contact<W: Write>(contact: &Contact, writer: &mut W) -> Result<(), WriteFault>
-    ensures { Wrote (W.contents writer.old) (W.contents writer.new) (contact_line contact.now) result }
+    ensures { Wrote (W.contents writer.old) (W.contents writer.new) (contact_text contact.now) result }
 {
     let mut block = Buffer::new();
     let mut permille = Buffer::new();
@@ -44,12 +46,28 @@ fn write_contact<W: Write>(contact: &Contact, writer: &mut W) -> Result<(), Writ
     )
 }
 
-// Writes contacts.
-fn write_each<W: Write>(contacts: &[Contact], writer: &mut W) -> Result<(), WriteFault>
-    ensures { Wrote (W.contents writer.old) (W.contents writer.new) (flat_map contact_line contacts.now) result }
+// Writes a contact, and the name of its block, if it is left.
+fn write_named<W: Write>(
+    contact: &Contact,
+    names: &mut BlockNames,
+    writer: &mut W,
+) -> Result<(), WriteFault>
+    ensures { Added (page (W.contents writer.old) names.old) (page (W.contents writer.new) names.new) (contact_line contact.now ∷ []) result }
+{
+    write_contact(contact, writer)?;
+    names.write_once(Some(contact.hit.block), writer)
+}
+
+// Writes contacts, and the names of their blocks that are left.
+fn write_each<W: Write>(
+    contacts: &[Contact],
+    names: &mut BlockNames,
+    writer: &mut W,
+) -> Result<(), WriteFault>
+    ensures { Added (page (W.contents writer.old) names.old) (page (W.contents writer.new) names.new) (map contact_line contacts.now) result }
 {
     for contact in contacts {
-        write_contact(contact, writer)?;
+        write_named(contact, names, writer)?;
     }
     Ok(())
 }
@@ -110,7 +128,8 @@ fn write_rest<W: Write>(
     write_end_line(tables, stop, steps, writer)
 }
 
-/// Writes the contacts of a run for so many steps, a line for each, how many they are, that what stands behind the first is a guess, and how the run ended.
+/// Writes the contacts of a run for so many steps, a line for each, below the first of a block the block's name, if it has one; how many they are, that what
+/// stands after the first is a guess, and how the run ended.
 ///
 /// Errors: the writer failed, or took no byte; then it has taken a front of the text, and not all of it.
 pub fn write_contacts<W: Write>(
@@ -118,10 +137,11 @@ pub fn write_contacts<W: Write>(
     contacts: &[Contact],
     stop: Option<StopPlace>,
     steps: u64,
+    names: &mut BlockNames,
     writer: &mut W,
 ) -> Result<(), WriteFault>
-    ensures { Wrote (W.contents writer.old) (W.contents writer.new) (contacts_text tables.now contacts.now stop steps) result }
+    ensures { Wrote (W.contents writer.old) (W.contents writer.new) (contacts_text names.old tables.now contacts.now stop steps) result }
 {
-    write_each(contacts, writer)?;
+    write_each(contacts, names, writer)?;
     write_rest(tables, contacts, stop, steps, writer)
 }

@@ -1,6 +1,3 @@
-pub mod Sums
-pub mod Missing
-pub mod Inside
 pub mod Wholes
 pub mod Ways
 pub mod Settled

@@ -10,7 +10,7 @@ use Rattle.vcm_covering.specs.Covering.{IsCovered, LiesIn}
 use Rattle.vcm_covering.proofs.Apart.{up_scaled}
 use Rattle.vcm_cover.specs.Hollows.{LiesBelow, LiesAbove, IsPast, both_below, both_above, IsFreeWay, IsOutside, below_all, above_all, LeadsOut, is_out, onward}
 use Rattle.vcm_cover.specs.Samples.{block, walls, RoomIsHollow}
-use Rattle.vcm_cover.proofs.Inside.{each_axis}
+use Rattle.vcm_boxing.proofs.Inside.{each_axis}
 use Rattle.vcm_cover.proofs.Ways.{all_at}
 
 -- the place lies in the room, off its walls

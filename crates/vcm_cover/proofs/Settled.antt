@@ -1,5 +1,5 @@
 -- Places that lie in blocks or in regions.
-use Rattle.std.proofs.Common.{◌≡◌, ℕ, ℤ, pos, ◌<◌, ◌*ℤ◌, ◌+ℤ◌, ◌≤ℤ◌, true, false, List, [], ◌∷◌, ◌⊎◌, inl, inr, arith}
+use Rattle.std.proofs.Common.{◌≡◌, ℕ, ℤ, pos, ◌<◌, ◌*ℤ◌, ◌+ℤ◌, ◌≤ℤ◌, false, List, [], ◌∷◌, ◌⊎◌, inl, inr, arith}
 use Rattle.std.specs.List.{All}
 use Rattle.std.proofs.lemmas.Int.{ints, by_lt_z}
 use lib.Signed.{◌<ℤ◌}
@@ -7,13 +7,14 @@ use Rattle.vcm_spec.specs.declared.workpiece.Block3.{Block3}
 use Rattle.vcm_covering.specs.Parting.{Corners}
 use Rattle.vcm_covering.specs.Covering.{IsCovered}
 use Rattle.vcm_covering.proofs.Apart.{up_scaled, spread}
-use Rattle.vcm_cover.specs.declared.range.Range.{Range}
-use Rattle.vcm_cover.specs.declared.range.Stretch.{Stretch}
+use Rattle.vcm_boxing.specs.declared.range.Range.{Range}
+use Rattle.vcm_boxing.specs.declared.range.Stretch.{Stretch}
 use Rattle.vcm_cover.specs.declared.region.Region.{Region}
 use Rattle.vcm_cover.specs.Hollows.{LeavesNoHollow, LeadsOut, is_out}
-use Rattle.vcm_cover.specs.inner.Ranges.{IsIn, IsOn, IsFilled, IsHeldIn, IsNowhere, numbers, stretch}
+use Rattle.vcm_boxing.specs.Ranges.{IsIn, IsOn, IsNowhere, numbers, stretch}
+use Rattle.vcm_cover.specs.inner.Held.{IsFilled, IsHeldIn}
 use Rattle.vcm_cover.specs.inner.Regions.{IsInSome, IsFree, IsSettled, IsWayOut, AreWithin}
-use Rattle.vcm_cover.proofs.Inside.{by_side, each_axis}
+use Rattle.vcm_boxing.proofs.Inside.{each_axis}
 use Rattle.vcm_cover.proofs.Ways.{all_at, out_below, out_above}
 
 pub strict : (s : ℕ) (a b : ℤ) → 0 < s → a <ℤ b → (pos s *ℤ a) <ℤ (pos s *ℤ b)
@@ -32,6 +33,20 @@ filled blocks regions r f = record { settled = λ s x some i. inl (f.filled s x 
 -- a range that lies in a region
 pub freed : (blocks : List Block3) (regions : List Region) (r : Range) → IsFree regions r → IsSettled blocks regions r
 freed blocks regions r f = record { settled = λ s x some i. inr (f.free s x some i) }
+
+-- a place lies below a coordinate, at it, or above it
+pub by_side : {P : Type 0} (z m : ℤ) → (z <ℤ m → P) → (z ≡ m → P) → (m <ℤ z → P) → P
+by_side z m lower same upper = by_lt_z z m lower (λ ge. by_lt_z m z upper (λ le. same (omega (arith, ints))))
+
+-- what holds in the three parts of a range, holds in all of it
+pub joined : (t : Corners) (blocks : List Block3) (r lower on upper : Range) (axis : ℕ) (at : ℤ)
+    → ((s : ℕ) (x : ℕ → ℤ) → IsIn r s x → x axis <ℤ (pos s *ℤ at) → IsIn lower s x)
+    → ((s : ℕ) (x : ℕ → ℤ) → IsIn r s x → x axis ≡ pos s *ℤ at → IsIn on s x)
+    → ((s : ℕ) (x : ℕ → ℤ) → IsIn r s x → (pos s *ℤ at) <ℤ x axis → IsIn upper s x)
+    → IsHeldIn t blocks lower → IsHeldIn t blocks on → IsHeldIn t blocks upper → IsHeldIn t blocks r
+joined t blocks r lower on upper axis at f g h a b c = record {
+  held = λ s x p i. by_side (x axis) (pos s *ℤ at) (λ lt. a.held s x p (f s x i lt)) (λ e. b.held s x p (g s x i e)) (λ gt. c.held s x p (h s x i gt));
+}
 
 -- a range by its three parts
 pub joined_space : (blocks : List Block3) (regions : List Region) (r lower on upper : Range) (axis : ℕ) (at : ℤ)
@@ -87,10 +102,3 @@ nowhere_held t blocks r n = record { held = λ s x p i. absurd (n.empty s x i) }
 
 pub nowhere_settled : (blocks : List Block3) (regions : List Region) (r : Range) → IsNowhere r → IsSettled blocks regions r
 nowhere_settled blocks regions r n = record { settled = λ s x some i. absurd (n.empty s x i) }
-
--- a stretch without length that is open at an end
-pub void_low : (w : Stretch) (s : ℕ) (z : ℤ) → w.high ≤ℤ w.low → w.open_low ≡ true → IsOn w s z → ⊥
-void_low w s z le e on = omega (arith, ints, up_scaled s w.high w.low le, on.off_low e, on.to_high)
-
-pub void_high : (w : Stretch) (s : ℕ) (z : ℤ) → w.high ≤ℤ w.low → w.open_high ≡ true → IsOn w s z → ⊥
-void_high w s z le e on = omega (arith, ints, up_scaled s w.high w.low le, on.off_high e, on.from_low)

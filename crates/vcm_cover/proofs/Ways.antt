@@ -12,7 +12,7 @@ use Rattle.vcm_spec.specs.declared.workpiece.Block3.{Block3}
 use Rattle.vcm_covering.proofs.Apart.{up_scaled}
 use Rattle.vcm_cover.specs.declared.region.Region.{Region}
 use Rattle.vcm_cover.specs.Hollows.{IsPast, IsOutside, both_below, both_above, below_all, above_all, is_out, onward}
-use Rattle.vcm_cover.specs.inner.Ranges.{numbers}
+use Rattle.vcm_boxing.specs.Ranges.{numbers}
 use Rattle.vcm_cover.specs.inner.Regions.{IsWithin, IsAside, after, before, IsOff, ends_before, begins_after, AreFrom, AreUpTo, AreAside, all_after, all_before, IsSharedOn, IsOverlap, IsWayOut}
 
 -- the element at a place of a list

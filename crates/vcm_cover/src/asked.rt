@@ -1,6 +1,6 @@
 //! What is asked of a cover, and what is answered.
 
-use crate::planes::NearPoint;
+use vcm_boxing::NearPoint;
 use vcm_spec::Block3;
 
 /// What is asked of a cover: how far a block may reach beyond the model on each axis, in micrometres, the most blocks, the points near which it is finer,

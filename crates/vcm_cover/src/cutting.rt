@@ -2,7 +2,7 @@
 
 ghost use Rattle.std.specs.Prelude.{◌<◌, IfSome};
 
-use crate::range::{Range, Stretch};
+use vcm_boxing::range::{Range, Stretch};
 use vcm_spec::Block3;
 
 /// A plane that divides a range: its axis, and its coordinate there.

@@ -2,14 +2,14 @@
 
 ghost use Rattle.std.specs.Prelude.{◌≤◌, length, IsTrue};
 ghost use Rattle.vcm_covering.specs.Covering.{Covers};
+ghost use Rattle.vcm_boxing.specs.Ranges.{facet_corners};
 ghost use Rattle.vcm_cover.specs.Models.{corners};
-ghost use Rattle.vcm_cover.specs.inner.Facets.{IsHeldWhole};
-ghost use Rattle.vcm_cover.specs.inner.Ranges.{facet_corners, IsFilled, IsHeldIn};
+ghost use Rattle.vcm_cover.specs.inner.Held.{IsFilled, IsHeldIn, IsHeldWhole};
 
 use crate::cutting::{Cut, choose_cut, meets};
-use crate::facet::{Facet, facet_of, facet_range};
-use crate::parting::is_missed;
-use crate::range::{Range, above, below, holds_range, is_nowhere, level};
+use vcm_boxing::facet::{Facet, facet_of, facet_range};
+use vcm_boxing::parting::is_missed;
+use vcm_boxing::range::{Range, above, below, holds_range, is_nowhere, level};
 use vcm_mesh::Triangle;
 use vcm_spec::Block3;
 

@@ -9,15 +9,13 @@ ghost use Rattle.vcm_cover.specs.Hollows.{LeavesNoHollow};
 ghost use Rattle.vcm_cover.specs.Models.{corners};
 
 use crate::asked::{Asked, Cover};
-use crate::building::blocks_on;
-use crate::facet::{Facet, facet_of};
-use crate::fault::CoverFault;
 use crate::held::all_held;
-use crate::parting::normal;
-use crate::planes::Laying;
 use crate::regions::{Ways, block_of, ways_of};
 use crate::space::has_no_hollow;
 use std::alloc::Global;
+use vcm_boxing::facet::{Facet, facet_of};
+use vcm_boxing::parting::normal;
+use vcm_boxing::{CoverFault, Laying, blocks_on};
 use vcm_mesh::Triangle;
 use vcm_num::Point;
 use vcm_spec::Block3;

@@ -1,13 +1,12 @@
 //! Regions round the blocks of a cover: open boxes that together hold all places which lie in no block, each of them behind one that it overlaps.
 
 use crate::cutting::{Cut, choose_cut};
-use crate::fault::CoverFault;
-use crate::grid::divided;
 use crate::held::{DEEPEST, gather, some_holds};
-use crate::range::{Range, Stretch, above, below, is_nowhere, level};
 use crate::region::{Region, overlaps};
 use crate::space::{closed, is_around};
 use std::alloc::Global;
+use vcm_boxing::range::{Range, Stretch, above, below, is_nowhere, level};
+use vcm_boxing::{CoverFault, divided};
 use vcm_num::Point;
 use vcm_spec::Block3;
 

@@ -3,13 +3,13 @@
 ghost use Rattle.std.specs.Prelude.{◌≡◌, ℕ, ℤ, pos, ◌<◌, ◌*ℤ◌, ◌≤ℤ◌, IsTrue};
 ghost use lib.Signed.{◌<ℤ◌};
 ghost use Rattle.vcm_cover.specs.Hollows.{LeavesNoHollow};
-ghost use Rattle.vcm_cover.specs.inner.Ranges.{numbers, IsIn, IsOn};
+ghost use Rattle.vcm_boxing.specs.Ranges.{numbers, IsIn, IsOn};
 ghost use Rattle.vcm_cover.specs.inner.Regions.{AreWithin, IsFree, IsSettled, IsWithin};
 
 use crate::cutting::{Cut, choose_cut};
 use crate::held::{DEEPEST, gather, some_holds};
-use crate::range::{Range, Stretch, above, below, is_nowhere, level};
 use crate::region::{Region, all_lead_out, are_from, are_up_to};
+use vcm_boxing::range::{Range, Stretch, above, below, is_nowhere, level};
 use vcm_spec::Block3;
 
 // Whether a stretch lies above a coordinate.

@@ -10,6 +10,7 @@ use vcm_job::{asm, build, check, list};
 use vcm_messages::{Message, message_of};
 use vcm_num::write_all;
 use vcm_program::Noticed;
+use vcm_run::Built;
 
 /// What is printed of a file alone.
 #[derive(Clone, Copy)]
@@ -34,39 +35,40 @@ fn print_input<'a, I: Read, W: Write>(
     }
 }
 
-// Prints it of a file, and gives the program's lines that have no effect.
-fn print_file<'a, R: Files + Print + AllocGlobal>(
+// Prints it of what a reader of this name gives, on standard output.
+fn print_from<'a, R: Print + AllocGlobal, I: Read>(
+    rt: &R,
+    printed: Printed,
+    name: &'a str,
+    input: &mut I,
+) -> Result<Vec<Noticed>, Message<'a>> {
+    let mut out = output(rt)?;
+    let done = print_input(rt.alloc(), printed, name, input, &mut out);
+    written(&mut out, done)
+}
+
+// The same of a file, or of standard input.
+fn print_of<'a, R: Files + Input + Print + AllocGlobal>(
     rt: &R,
     printed: Printed,
     name: &'a str,
 ) -> Result<Vec<Noticed>, Message<'a>> {
-    let Ok(mut file) = std::fs::open(rt, name) else {
-        return Err(Message::Read { name });
-    };
-    let mut out = output(rt)?;
-    let done = print_input(rt.alloc(), printed, name, &mut file, &mut out);
-    written(&mut out, done)
-}
-
-// The same of standard input.
-fn print_standard<R: Input + Print + AllocGlobal>(
-    rt: &R,
-    printed: Printed,
-) -> Result<Vec<Noticed>, Message<'static>> {
-    let mut out = output(rt)?;
-    let done = print_input(
-        rt.alloc(),
-        printed,
-        STANDARD_INPUT,
-        &mut rt.reader(),
-        &mut out,
-    );
-    written(&mut out, done)
+    if name == DASH {
+        return print_from(rt, printed, STANDARD_INPUT, &mut rt.reader());
+    }
+    match std::fs::open(rt, name) {
+        Ok(mut file) => print_from(rt, printed, name, &mut file),
+        Err(_) => Err(Message::Read { name }),
+    }
 }
 
 /// Prints whether the program of a file is accepted, and gives the exit status.
-pub fn check_file<R: Files + Print + Eprint + AllocGlobal>(rt: &R, voice: Voice, name: &str) -> u8 {
-    status_of_notices(rt, voice, print_file(rt, Printed::Check, name))
+pub fn check_file<R: Files + Input + Print + Eprint + AllocGlobal>(
+    rt: &R,
+    voice: Voice,
+    name: &str,
+) -> u8 {
+    status_of_notices(rt, voice, print_of(rt, Printed::Check, name))
 }
 
 /// Prints the listing of a file's program or image, and gives the exit status.
@@ -75,11 +77,7 @@ pub fn list_file<R: Files + Input + Print + Eprint + AllocGlobal>(
     voice: Voice,
     request: &Request<'_, '_>,
 ) -> u8 {
-    let done = if request.input() == DASH {
-        print_standard(rt, Printed::List)
-    } else {
-        print_file(rt, Printed::List, request.input())
-    };
+    let done = print_of(rt, Printed::List, request.input());
     status_of_notices(rt, voice, done)
 }
 
@@ -110,73 +108,84 @@ fn write_image<R: Files + Eprint + AllocGlobal>(
     }
 }
 
-// Whether the image would be written over what is read.
-fn is_one_file(request: &Request<'_, '_>) -> bool {
-    request.input() != DASH && request.input() == request.image()
+/// What an image is made of.
+#[derive(Clone, Copy)]
+enum Source {
+    Program,
+    Listing,
 }
 
-// Writes the image of the program that a reader of this name gives, and gives the exit status.
-fn build_input<R: Files + Eprint + AllocGlobal, I: Read>(
+// The image of what a reader gives, and the program's lines that have no effect.
+fn image_in<'a, I: Read>(
+    alloc: Global,
+    source: Source,
+    input: &mut I,
+    name: &'a str,
+) -> Result<Built, Message<'a>> {
+    match source {
+        Source::Program => match build(alloc, input) {
+            Ok(built) => Ok(built),
+            Err(fault) => Err(message_of(fault, name)),
+        },
+        Source::Listing => match asm(alloc, input) {
+            Ok(image) => Ok(Built {
+                image,
+                notices: Vec::new(alloc),
+            }),
+            Err(fault) => Err(message_of(fault, name)),
+        },
+    }
+}
+
+// Writes the image of what a reader of this name gives, and gives the exit status.
+fn make_from<R: Files + Eprint + AllocGlobal, I: Read>(
     rt: &R,
     voice: Voice,
+    source: Source,
     input: &mut I,
     name: &str,
     image: &str,
 ) -> u8 {
-    match build(rt.alloc(), input) {
+    match image_in(rt.alloc(), source, input, name) {
         Ok(built) => write_image(rt, voice, image, &built.image, built.notices.as_slice()),
-        Err(fault) => fails(rt, message_of(fault, name)),
+        Err(message) => fails(rt, message),
     }
 }
 
-/// Writes the image of a file's program to another file, and gives the exit status. Nothing is read or written where both have one name.
+// Writes the image of a file, or of standard input, to another file, and gives the exit status. Nothing is read or written where both have one name.
+fn make_image<R: Files + Input + Eprint + AllocGlobal>(
+    rt: &R,
+    voice: Voice,
+    source: Source,
+    request: &Request<'_, '_>,
+) -> u8 {
+    let (name, image) = (request.input(), request.image());
+    if name == DASH {
+        return make_from(rt, voice, source, &mut rt.reader(), STANDARD_INPUT, image);
+    }
+    if name == image {
+        return fails(rt, ONE_FILE);
+    }
+    match std::fs::open(rt, name) {
+        Ok(mut file) => make_from(rt, voice, source, &mut file, name, image),
+        Err(_) => fails(rt, Message::Read { name }),
+    }
+}
+
+/// Writes the image of a file's program to another file, and gives the exit status.
 pub fn build_file<R: Files + Input + Eprint + AllocGlobal>(
     rt: &R,
     voice: Voice,
     request: &Request<'_, '_>,
 ) -> u8 {
-    let name = request.input();
-    if name == DASH {
-        return build_input(rt, voice, &mut rt.reader(), STANDARD_INPUT, request.image());
-    }
-    if name == request.image() {
-        return fails(rt, ONE_FILE);
-    }
-    match std::fs::open(rt, name) {
-        Ok(mut file) => build_input(rt, voice, &mut file, name, request.image()),
-        Err(_) => fails(rt, Message::Read { name }),
-    }
+    make_image(rt, voice, Source::Program, request)
 }
 
-// Writes the image of the listing that a reader of this name gives, and gives the exit status.
-fn asm_input<R: Files + Eprint + AllocGlobal, I: Read>(
-    rt: &R,
-    voice: Voice,
-    input: &mut I,
-    name: &str,
-    image: &str,
-) -> u8 {
-    match asm(rt.alloc(), input) {
-        Ok(bytes) => write_image(rt, voice, image, &bytes, &[]),
-        Err(fault) => fails(rt, message_of(fault, name)),
-    }
-}
-
-/// Writes the image of a file's listing to another file, and gives the exit status. Nothing is read or written where both have one name.
+/// Writes the image of a file's listing to another file, and gives the exit status.
 pub fn asm_file<R: Files + Input + Eprint + AllocGlobal>(
     rt: &R,
     voice: Voice,
     request: &Request<'_, '_>,
 ) -> u8 {
-    let name = request.input();
-    if name == DASH {
-        return asm_input(rt, voice, &mut rt.reader(), STANDARD_INPUT, request.image());
-    }
-    if name == request.image() {
-        return fails(rt, ONE_FILE);
-    }
-    match std::fs::open(rt, name) {
-        Ok(mut file) => asm_input(rt, voice, &mut file, name, request.image()),
-        Err(_) => fails(rt, Message::Read { name }),
-    }
+    make_image(rt, voice, Source::Listing, request)
 }

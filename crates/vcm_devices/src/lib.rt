@@ -7,6 +7,7 @@ mod debugging;
 mod files;
 mod hand;
 mod jobs;
+mod pages;
 mod parts;
 mod printing;
 mod request;
@@ -20,13 +21,14 @@ pub use closing::fails_unless_closed;
 pub use debugging::debug_file;
 pub use files::{asm_file, build_file, check_file, list_file};
 pub use jobs::run_job;
-pub use parts::{part_of, show_part};
+pub use pages::show_page;
+pub use parts::{PartFile, part_file_of, part_of, show_part};
 pub use printing::{
     DASH, Outlet, Output, STANDARD_INPUT, bytes_of, fails, output, print_bytes, written,
 };
 pub use request::{Request, matches_of, steps_of};
 pub use sheets::{lines_of, show_picture};
-pub use showing::{show_clearance, show_page, show_view};
+pub use showing::{NamedView, show_clearance, show_named, show_points, show_view};
 pub use talking::{Terminals, Told, Voice, alone, fails_twice, voice_of};
 pub use values::show_result;
 pub use view::View;

@@ -79,17 +79,39 @@ fn told_part<'a, R: Eprint + AllocGlobal>(
     }
 }
 
+/// A part file that was read: its bytes, and the workpiece.
+#[derive(Drop)]
+pub struct PartFile {
+    pub bytes: Vec<u8>,
+    pub part: PartData,
+}
+
+/// A part file, whose keys that nothing uses are told, or why it isn't read.
+pub fn part_file_of<'a, R: Files + Input + Eprint + AllocGlobal>(
+    rt: &R,
+    voice: Voice,
+    name: &'a str,
+) -> Result<PartFile, Told<'a>> {
+    let bytes = match bytes_of(rt, name) {
+        Ok(bytes) => bytes,
+        Err(message) => return Err(alone(message)),
+    };
+    match told_part(rt, voice, name, &bytes) {
+        Ok(part) => Ok(PartFile { bytes, part }),
+        Err(told) => Err(told),
+    }
+}
+
 /// The workpiece of a file, whose keys that nothing uses are told, or why it isn't read.
 pub fn part_of<'a, R: Files + Input + Eprint + AllocGlobal>(
     rt: &R,
     voice: Voice,
     name: &'a str,
 ) -> Result<PartData, Told<'a>> {
-    let bytes = match bytes_of(rt, name) {
-        Ok(bytes) => bytes,
-        Err(message) => return Err(alone(message)),
-    };
-    told_part(rt, voice, name, &bytes)
+    match part_file_of(rt, voice, name) {
+        Ok(file) => Ok(file.part),
+        Err(told) => Err(told),
+    }
 }
 
 /// The same, with the names of its blocks, each empty where a block has none.
@@ -98,13 +120,9 @@ pub(crate) fn named_part_of<'a, R: Files + Input + Eprint + AllocGlobal>(
     voice: Voice,
     name: &'a str,
 ) -> Result<(PartData, Vec<Vec<u8>>), Told<'a>> {
-    let bytes = match bytes_of(rt, name) {
-        Ok(bytes) => bytes,
-        Err(message) => return Err(alone(message)),
-    };
-    let part = told_part(rt, voice, name, &bytes)?;
-    match block_names(rt.alloc(), &bytes) {
-        Ok(names) => Ok((part, names)),
+    let file = part_file_of(rt, voice, name)?;
+    match block_names(rt.alloc(), &file.bytes) {
+        Ok(names) => Ok((file.part, names)),
         Err(_) => Err(alone(Message::NoMemory)),
     }
 }

@@ -159,8 +159,16 @@ fn programs<'a>(alloc: Global) -> Arg<'a> {
 fn action_of(behind: Behind) -> ArgAction {
     match behind {
         Behind::Nothing => ArgAction::SetTrue,
-        Behind::Value => ArgAction::Set,
+        Behind::Value | Behind::Signed => ArgAction::Set,
         Behind::Values => ArgAction::Append,
+    }
+}
+
+// Whether what stands behind an option may begin with a minus.
+fn is_signed(behind: Behind) -> bool {
+    match behind {
+        Behind::Signed => true,
+        _ => false,
     }
 }
 
@@ -169,6 +177,7 @@ fn option_of<'a>(alloc: Global, spelled: Spelled) -> Arg<'a> {
     Arg::new(alloc, spelled.name)
         .long(spelled.name)
         .action(action_of(spelled.behind))
+        .allow_hyphen_values(is_signed(spelled.behind))
         .help(spelled.help)
 }
 

@@ -9,11 +9,11 @@ use vcm_views::{AllContacts, Clearance, Picture, Points, SheetView, TipMargin, T
 /// A view of a run that a command prints.
 #[derive(Clone, Copy)]
 pub enum View<'a> {
-    Why,
-    Contacts,
+    Why(Why<'a>),
+    Contacts(AllContacts<'a>),
     Trace,
     Margin,
-    Points,
+    Points(Points),
     Clearance(Clearance<'a>),
     Picture(Picture),
     Sheet(SheetView<'a>),
@@ -29,11 +29,11 @@ pub(crate) fn write_view<I: Read, W: Write>(
     writer: &mut W,
 ) -> Result<Done, RunFault> {
     match view {
-        View::Why => view_of(alloc, &Why, part, reader, steps, writer),
-        View::Contacts => view_of(alloc, &AllContacts, part, reader, steps, writer),
+        View::Why(view) => view_of(alloc, view, part, reader, steps, writer),
+        View::Contacts(view) => view_of(alloc, view, part, reader, steps, writer),
         View::Trace => view_of(alloc, &Trace, part, reader, steps, writer),
         View::Margin => view_of(alloc, &TipMargin, part, reader, steps, writer),
-        View::Points => view_of(alloc, &Points, part, reader, steps, writer),
+        View::Points(view) => view_of(alloc, view, part, reader, steps, writer),
         View::Clearance(view) => view_of(alloc, view, part, reader, steps, writer),
         View::Picture(view) => view_of(alloc, view, part, reader, steps, writer),
         View::Sheet(view) => view_of(alloc, view, part, reader, steps, writer),

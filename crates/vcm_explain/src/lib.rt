@@ -4,6 +4,7 @@
 mod entry;
 mod file_entries;
 mod line_entries;
+mod model_entries;
 mod probe_entries;
 mod program_entries;
 mod run_entries;
@@ -13,6 +14,10 @@ use crate::file_entries::{
     code_entries, image_entries, listing_entries, part_entries, placing_entries,
 };
 use crate::line_entries::{result_entries, view_entries, why_entries};
+use crate::model_entries::{
+    model_entries, model_line_entries, model_notice_entries, model_size_entries,
+    model_writing_entries,
+};
 use crate::probe_entries::{box_entries, box_name_entries, clearance_entries};
 use crate::program_entries::{
     block_entries, line_entries, name_entries, size_entries, spelling_entries, value_entries,
@@ -21,8 +26,8 @@ use crate::run_entries::{arithmetic_entries, device_entries, motion_entries, not
 use crate::session_entries::session_entries;
 pub use entry::Entry;
 
-/// All explanations: of programs, of part files, probe files, images and listings, of the debugger, of runs, and of the lines of answers.
-pub fn explanations() -> [&'static [Entry]; 22] {
+/// All explanations: of programs, of part files, probe files, models, images and listings, of the debugger, of runs, and of the lines of answers.
+pub fn explanations() -> [&'static [Entry]; 27] {
     [
         line_entries(),
         spelling_entries(),
@@ -34,6 +39,11 @@ pub fn explanations() -> [&'static [Entry]; 22] {
         placing_entries(),
         box_entries(),
         box_name_entries(),
+        model_entries(),
+        model_size_entries(),
+        model_writing_entries(),
+        model_line_entries(),
+        model_notice_entries(),
         image_entries(),
         code_entries(),
         listing_entries(),
@@ -98,6 +108,18 @@ fn behind_number(words: &[u8]) -> &[u8] {
     }
 }
 
+// What is counted in a notice that counts something; nothing in any other line.
+fn noticed(words: &[u8]) -> &[u8] {
+    match words {
+        [n, o, t, i, c, e, b' ', count @ ..]
+            if [*n, *o, *t, *i, *c, *e].eq_ignore_ascii_case(b"NOTICE") => match count {
+            [b'0'..=b'9', ..] => behind_word(count),
+            _ => &[],
+        },
+        _ => &[],
+    }
+}
+
 // What stands behind the name of a box, in a line that tells of one; nothing in any other.
 fn behind_box(words: &[u8]) -> &[u8] {
     match words {
@@ -110,11 +132,12 @@ fn behind_box(words: &[u8]) -> &[u8] {
 
 /// The explanation of a code, a name or a whole message, whatever its case: the first one whose code, name or words stand at its beginning, behind
 /// which nothing stands, or a blank, a colon, a comma, a semicolon or a full stop. A line that tells of a box is explained by what it tells of it, one that tells of a stop by
-/// that, also where other words stand in front of it, and one that counts something by what is counted.
+/// that, also where other words stand in front of it, and one that counts something, with or without the word `notice`, by what is counted.
 pub fn explanation(words: &str) -> Option<&'static Entry> {
     let words = without_blanks(words.as_bytes());
     for line in [
         behind_box(words),
+        noticed(words),
         behind_stop(words),
         words,
         behind_number(words),

@@ -164,8 +164,9 @@ closed pipe. Status 6. An image that was begun may be incomplete.",
     Entry {
         keys: &["input too long"],
         text: "input too long
-A file has more than 33,554,432 bytes, a session of the debugger more than 10,000 lines
-or 1,048,576 bytes of commands, or a message of an editor more than 1,048,576. Status 6.
+A file has more than 33,554,432 bytes, a model more than 50,000,084, a session of the
+debugger more than 10,000 lines or 1,048,576 bytes of commands, or a message of an editor
+more than 1,048,576. Status 6.
 Do: for a session, begin a new one; `run K` and breakpoints need fewer lines than single
 steps.",
     },

@@ -8,3 +8,4 @@ pub mod FieldPlaces
 pub mod StatementParts
 pub mod Parts
 pub mod Taking
+pub mod WordBytes

@@ -14,13 +14,13 @@ use Rattle.vcm_fields.specs.declared.fault.ImageFault.TheVariants.{BadField}
 use Rattle.vcm_code.specs.declared.word.Word.{Word}
 use Rattle.vcm_code.specs.declared.word.Word.TheVariants as words
 use Rattle.vcm_code.specs.Code.{Op, CodeStatement}
-use Rattle.vcm_code.specs.Words.{word_of, has_word}
+use Rattle.vcm_code.specs.Words.{word_of, has_word, word_byte}
 use Rattle.vcm_code.specs.Shape.{Place, Filled, axes, directions, settings, sources, frame_axes, quarter_turns, feature_words, kinds, all_words, Form, form}
 use Rattle.vcm_code.specs.Shape.{form_of, places_in, made_in, places, op_in, Parted, parted, word_in, put_together, taken_apart, over_places, over_parted}
 use Rattle.vcm_code.specs.Shape.{InPlaces, InParted}
 use Rattle.vcm_code.specs.Shape as at
 use Rattle.vcm_fields.specs.inner.Fitting.{FitThree, FitsPlace, FitsOperation, FitsLine}
-use Rattle.vcm_fields.specs.Spelling.{byte, long, three, axis_byte, direction_byte, setting_byte, source_byte, word_byte, kind_byte, place, operands, line}
+use Rattle.vcm_fields.specs.Spelling.{byte, long, three, axis_byte, direction_byte, setting_byte, source_byte, kind_byte, place, operands, line}
 use Rattle.vcm_fields.specs.Readers.{Reader, both, via, number_at, byte_below_at, kind_at, any_word_at, word_at, three_at, place_at, filled_at, form_by, operands_by, operands_at, line_at}
 use Rattle.vcm_fields.proofs.Inverse.{Takes, Reads, ok_is, reads_as, reads_both, via_takes, via_again, reads_via, reads_tested, reads_after}
 use Rattle.vcm_fields.proofs.NumberInverse.{Found, reads_one_of, reads_byte, reads_short, reads_long}

@@ -10,7 +10,7 @@ use Rattle.vcm_spec.specs.declared.expression.Item.{Item}
 use Rattle.vcm_spec.specs.declared.expression.Item.TheVariants.{Push, Apply, Combine}
 use Rattle.vcm_code.specs.declared.branch.Branch.{Branch}
 use Rattle.vcm_code.specs.declared.version.Version.{Version}
-use Rattle.vcm_code.specs.Words.{has_word}
+use Rattle.vcm_code.specs.Words.{has_word, word_byte}
 use Rattle.vcm_spec.specs.Setup.{Variable as Entry}
 use Rattle.vcm_spec.specs.TextBytes.{is_text}
 use Rattle.vcm_spec.specs.Results.{◌>>=◌}
@@ -24,7 +24,7 @@ use Rattle.vcm_fields.specs.declared.fault.ImageFault.TheVariants.{NoMemory, Sho
 use Rattle.vcm_code.specs.Shape.{Place, Said, Filled, axes, directions, settings, sources, frame_axes, quarter_turns, feature_words, kinds, all_words, made}
 use Rattle.vcm_code.specs.Shape.{Form, form, form_of}
 use Rattle.vcm_code.specs.Shape as at
-use Rattle.vcm_fields.specs.Spelling.{tag_byte, axis_byte, direction_byte, setting_byte, source_byte, word_byte, kind_byte}
+use Rattle.vcm_fields.specs.Spelling.{tag_byte, axis_byte, direction_byte, setting_byte, source_byte, kind_byte}
 use Rattle.vcm_num.specs.declared.axis.Axis.{Axis}
 use Rattle.vcm_spec.specs.declared.words.Setting.{Setting}
 use Rattle.vcm_spec.specs.declared.words.Source.{Source}

@@ -17,10 +17,8 @@ use Rattle.vcm_code.specs.declared.branch.Branch.{Branch}
 use Rattle.vcm_spec.specs.Setup.{Variable as Entry}
 use Rattle.vcm_fields.specs.declared.items.Tag.{Tag}
 use Rattle.vcm_fields.specs.declared.items.Tag.TheVariants as tags
-use Rattle.vcm_code.specs.declared.word.Word.{Word}
-use Rattle.vcm_code.specs.declared.word.Word.TheVariants as words
 use Rattle.vcm_code.specs.Code.{Op, CodeStatement}
-use Rattle.vcm_code.specs.Words.{word_of}
+use Rattle.vcm_code.specs.Words.{word_of, word_byte}
 use Rattle.vcm_code.specs.Shape.{Place, Said, over_operands}
 use Rattle.vcm_code.specs.Shape as at
 use Rattle.vcm_num.specs.declared.axis.Axis.{Axis}
@@ -148,36 +146,6 @@ setting_byte Depth = 3
 abbrev pub source_byte : Source → ℕ
 source_byte Nominal = 0
 source_byte Actual = 1
-
--- the byte of the word of a statement
-abbrev pub word_byte : Word → ℕ
-word_byte words.EndFil = 0
-word_byte words.Goto = 1
-word_byte words.GoHome = 2
-word_byte words.Assign = 3
-word_byte words.If = 4
-word_byte words.Else = 5
-word_byte words.EndIf = 6
-word_byte words.Do = 7
-word_byte words.EndDo = 8
-word_byte words.Label = 9
-word_byte words.JumpTo = 10
-word_byte words.Feat = 11
-word_byte words.Meas = 12
-word_byte words.PtMeas = 13
-word_byte words.EndMes = 14
-word_byte words.SnSet = 15
-word_byte words.Trans = 16
-word_byte words.Rotate = 17
-word_byte words.Recall = 18
-word_byte words.Obtain = 19
-word_byte words.Output = 20
-word_byte words.Text = 21
-word_byte words.Select = 22
-word_byte words.Case = 23
-word_byte words.EndCas = 24
-word_byte words.DftCas = 25
-word_byte words.EndSel = 26
 
 -- three expressions
 abbrev pub three : List Item → List Item → List Item → List ℕ

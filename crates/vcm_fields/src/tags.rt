@@ -2,7 +2,7 @@
 
 ghost use Rattle.std.specs.Prelude.{◌≡◌, Ok, List, ℕ};
 ghost use Rattle.vcm_code.specs.Shape.{all_words};
-ghost use Rattle.vcm_fields.specs.Spelling.{word_byte};
+ghost use Rattle.vcm_code.specs.Words.{word_byte};
 ghost use Rattle.vcm_fields.specs.Readers.{Gives, Begins, among, any_word_at, word_at, kind_at, axis_at, direction_at, setting_at, source_at, turn_at, quarters_at, part_at};
 
 use crate::fault::ImageFault;
@@ -17,35 +17,9 @@ use vcm_spec::{FeatureWord, FrameAxis, Quarters, Setting, Source};
 fn word_with(number: u8) -> Result<Word, ImageFault>
     ensures { (rest : List ℕ) → Gives (λ w. (w, rest)) result (among word_byte all_words number rest) }
 {
-    match number {
-        0 => Ok(Word::EndFil),
-        1 => Ok(Word::Goto),
-        2 => Ok(Word::GoHome),
-        3 => Ok(Word::Assign),
-        4 => Ok(Word::If),
-        5 => Ok(Word::Else),
-        6 => Ok(Word::EndIf),
-        7 => Ok(Word::Do),
-        8 => Ok(Word::EndDo),
-        9 => Ok(Word::Label),
-        10 => Ok(Word::JumpTo),
-        11 => Ok(Word::Feat),
-        12 => Ok(Word::Meas),
-        13 => Ok(Word::PtMeas),
-        14 => Ok(Word::EndMes),
-        15 => Ok(Word::SnSet),
-        16 => Ok(Word::Trans),
-        17 => Ok(Word::Rotate),
-        18 => Ok(Word::Recall),
-        19 => Ok(Word::Obtain),
-        20 => Ok(Word::Output),
-        21 => Ok(Word::Text),
-        22 => Ok(Word::Select),
-        23 => Ok(Word::Case),
-        24 => Ok(Word::EndCas),
-        25 => Ok(Word::DftCas),
-        26 => Ok(Word::EndSel),
-        _ => Err(ImageFault::BadField),
+    match vcm_code::word_with(number) {
+        Some(word) => Ok(word),
+        None => Err(ImageFault::BadField),
     }
 }
 

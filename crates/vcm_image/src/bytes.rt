@@ -1,13 +1,13 @@
 //! The bytes that stand for words of the language.
 
 ghost use Rattle.std.specs.Prelude.{◌≡◌};
-ghost use Rattle.vcm_code.specs.Words.{word_of};
-ghost use Rattle.vcm_fields.specs.Spelling.{unary, binary, axis_byte, direction_byte, setting_byte, source_byte, word_byte, kind_byte};
+ghost use Rattle.vcm_code.specs.Words.{word_of, word_byte};
+ghost use Rattle.vcm_fields.specs.Spelling.{unary, binary, axis_byte, direction_byte, setting_byte, source_byte, kind_byte};
 ghost use Rattle.vcm_image.specs.Whole.{version_number};
 
-use vcm_code::{Op, OwnedOp, Version};
+use vcm_code::{OwnedOp, Version};
 use vcm_num::{Axis, Kind};
-use vcm_spec::{BinaryOp, Relation, Setting, Simple, Source, UnaryOp};
+use vcm_spec::{BinaryOp, Relation, Setting, Source, UnaryOp};
 
 /// The number of a version.
 pub(crate) fn version_number(version: Version) -> u16
@@ -111,33 +111,5 @@ pub(crate) fn kind_byte(kind: Kind) -> u8
 pub(crate) fn word_byte(op: &OwnedOp) -> u8
     ensures { result ≡ word_byte (word_of op.now) }
 {
-    match op {
-        Op::EndFil => 0,
-        Op::Plain(Simple::Goto(_, _, _)) => 1,
-        Op::Plain(Simple::GoHome) => 2,
-        Op::Plain(Simple::Assign(_, _)) => 3,
-        Op::If(_, _) => 4,
-        Op::Else(_) => 5,
-        Op::EndIf => 6,
-        Op::Do(_, _, _, _, _, _) => 7,
-        Op::EndDo(_, _, _) => 8,
-        Op::Label => 9,
-        Op::JumpTo(_) => 10,
-        Op::Plain(Simple::Feat(_, _, _, _, _)) => 11,
-        Op::Meas(_) => 12,
-        Op::Plain(Simple::PtMeas(_, _, _, _, _)) => 13,
-        Op::EndMes => 14,
-        Op::Plain(Simple::SnSet(_, _)) => 15,
-        Op::Plain(Simple::Trans(_, _, _, _)) => 16,
-        Op::Plain(Simple::Rotate(_, _, _)) => 17,
-        Op::Plain(Simple::Recall(_)) => 18,
-        Op::Plain(Simple::Obtain(_, _, _, _)) => 19,
-        Op::Plain(Simple::Output(_, _)) => 20,
-        Op::Plain(Simple::Text(_)) => 21,
-        Op::Select(_, _, _) => 22,
-        Op::Case => 23,
-        Op::EndCas(_) => 24,
-        Op::DftCas => 25,
-        Op::EndSel => 26,
-    }
+    op.word().byte()
 }

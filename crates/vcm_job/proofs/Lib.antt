@@ -12,3 +12,4 @@ pub mod FileAnswers
 pub mod ListAnswers
 pub mod ViewLemmas
 pub mod OneView
+mod GivenLemmas

@@ -12,7 +12,7 @@ use Rattle.vcm_job.specs.Inputs.{is_image, IsInputRefusal}
 use Rattle.vcm_job.specs.Given.{IsImageOf, CodeAs, IsCodeOf, text_of}
 use Rattle.vcm_job.specs.Views.{RunView, IsShown}
 use Rattle.vcm_job.specs.Causes.{Cause, input_cause}
-use Rattle.vcm_job.specs.Answers.{IsViewAnswer, status_and_notices}
+use Rattle.vcm_job.specs.Answers.{status_and_notices}
 use Rattle.vcm_job.specs.Laws.{ViewAnswersAreOne}
 use Rattle.vcm_job.proofs.Answering.{written_once}
 use Rattle.vcm_job.proofs.Told.{never_text, never_bad_image, RefusedAs, InputRefused, one_input}

@@ -1,6 +1,6 @@
 -- From the view of an image to that of the input that was read.
 use Rattle.std.proofs.Common.{◌≡◌, ℕ, Bool, true, false, List, Option, Some, None, refl, sym, subst}
-use Rattle.std.specs.Prelude.{not, is_some, IfSome, IfOk, IfErr, Result, Ok, Err}
+use Rattle.std.specs.Prelude.{not, is_some, IfSome, IfErr, Result}
 use Rattle.std.specs.Option.{option_map}
 use Rattle.std.specs.Global.{Vec}
 use Rattle.vcm_spec.specs.Workpiece.{Workpiece}
@@ -24,7 +24,7 @@ code_given true input image c notices h k = (subst (λ l. IsImageOf l c) h.0 k, 
 code_given false input image c notices h k = (image, (h, k))
 
 -- a text was given where the input is one
-text_there : (b : Bool) (input : List ℕ) (o : Option (Vec ℕ)) → option_map (λ t. t.items) o ≡ text_as b input → is_some o ≡ not b
+pub text_there : (b : Bool) (input : List ℕ) (o : Option (Vec ℕ)) → option_map (λ t. t.items) o ≡ text_as b input → is_some o ≡ not b
 text_there true input None e = refl
 text_there true input (Some t) e = absurd cc
 text_there false input None e = absurd cc

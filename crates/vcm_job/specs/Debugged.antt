@@ -1,5 +1,5 @@
 -- Sessions of the debugger on inputs.
-use Rattle.std.specs.Prelude.{◌≡◌, ℕ, Bool, true, false, List, [], Option, IfSome, Result, Ok, Err}
+use Rattle.std.specs.Prelude.{◌≡◌, ℕ, List, Option, IfSome, Result, Ok, Err}
 use Rattle.std.specs.Io.KnownBytes.{Keeps}
 use Rattle.vcm_spec.specs.Workpiece.{Workpiece}
 use Rattle.vcm_program.specs.declared.accepted.Noticed.{Noticed}
@@ -9,23 +9,18 @@ use Rattle.vcm_image.specs.Whole.{FitsImage, spelling}
 use Rattle.vcm_console.specs.declared.reply.ServeFault.{ServeFault}
 use Rattle.vcm_debug.specs.Debugging.{Debugging, opened}
 use Rattle.vcm_debug.specs.Serving.{Served}
-use Rattle.vcm_run.specs.Built.{IsBuilt}
 use Rattle.vcm_job.specs.declared.fault.Fault.{Fault}
 use Rattle.vcm_job.specs.declared.fault.Fault.TheVariants.{Refused, NoMemory}
 use Rattle.vcm_job.specs.declared.fault.SessionFault.{SessionFault}
 use Rattle.vcm_job.specs.declared.fault.SessionFault.TheVariants.{Text, Image, Serve}
 use Rattle.vcm_job.specs.declared.fault.InputRefusal.TheVariants as refusals
+use Rattle.vcm_job.specs.Given.{ImageAs}
 use Rattle.vcm_job.specs.Unanswered.{IsUnanswered}
 use Rattle.vcm_job.specs.Inputs.{is_image, IsInputRefusal}
 
--- the image of an input: of an image it is the input, without notices; of any other input that of the program that its text is
-abbrev pub ImageAs : Bool → List ℕ → List ℕ → List Noticed → Type 0
-ImageAs true input image notices = (image ≡ input) × (notices ≡ [])
-ImageAs false input image notices = IsBuilt input image notices
-
--- the same, of any input
-abbrev pub IsImageOf : List ℕ → List ℕ → List Noticed → Type 0
-IsImageOf input image notices = ImageAs (is_image input) input image notices
+-- these are the image of an input and its notices: of an image it is the input, without notices; of any other input that of the program that its text is
+abbrev pub IsInputImage : List ℕ → List ℕ → List Noticed → Type 0
+IsInputImage input image notices = ImageAs (is_image input) input image notices
 
 -- a session at the start of a code served these lines, and ended so
 abbrev pub IsSession : Workpiece → Code → List ℕ → Option (List ℕ) → Option (List ℕ) → Option (List ℕ) → Result (Unit {0}) ServeFault
@@ -45,7 +40,7 @@ pub record IsServedOn (part : Workpiece) (image lines : List ℕ) (after old new
 pub record IsDebugged (part : Workpiece) (input lines : List ℕ) (after : Option (List ℕ)) (notices : List Noticed)
     (old new : Option (List ℕ)) : Type 0 where
   pub image : List ℕ
-  pub image_is : IsImageOf input image notices
+  pub image_is : IsInputImage input image notices
   pub served : IsServedOn part image lines after old new (Ok tt)
 
 -- a session on the input ended with a fault
@@ -53,7 +48,7 @@ pub record IsCutShort (part : Workpiece) (input lines : List ℕ) (after : Optio
     : Type 0 where
   pub image : List ℕ
   pub notices : List Noticed
-  pub image_is : IsImageOf input image notices
+  pub image_is : IsInputImage input image notices
   pub served : IsServedOn part image lines after old new (Err fault)
 
 -- why a session on the input didn't come to its end, and what was written: the input is refused, or memory was, and nothing was written; or

@@ -1,13 +1,14 @@
 //! Sessions of the debugger on programs and images.
 
-ghost use Rattle.std.specs.Prelude.{◌≡◌, IfOk, IfErr, IfSome};
+ghost use Rattle.std.specs.Prelude.{◌≡◌, ℕ, List, option_map, IfOk, IfErr, IfSome};
+ghost use Rattle.vcm_job.specs.Given.{IsGiven};
 ghost use Rattle.vcm_job.specs.Reading.{ReadsLittle};
 ghost use Rattle.vcm_job.specs.Unread.{AnswersUnread};
 ghost use Rattle.vcm_job.specs.Debugged.{IsSession, IsServedOn, IsDebugged, IsInputFault, IsNotDebugged};
-ghost use Rattle.vcm_job.specs.inner.Sessions.{IsNoSession, IsNotServed};
+ghost use Rattle.vcm_job.specs.inner.Sessions.{IsNoSession, IsNotServed, built_fault};
 
-use crate::fault::{DebugFault, SessionFault};
-use crate::given::is_image;
+use crate::fault::{DebugFault, SessionFault, session_fault};
+use crate::given::{Given, given_of};
 use crate::reading::read_all;
 use std::alloc::Global;
 use std::io::{Read, Write};
@@ -16,7 +17,6 @@ use vcm_loader::{Loaded, load};
 use vcm_motion::{AnyPart, Part};
 use vcm_part::PartData;
 use vcm_program::Noticed;
-use vcm_run::{Built, build_image};
 
 // Serves a session on what was loaded.
 fn serve_loaded<'a, P: Part, R: Read, W: Write>(
@@ -76,31 +76,60 @@ fn serve_image<R: Read, W: Write>(
     }
 }
 
+// Why a session on an image that was built came to no end: such an image is refused for want of memory alone.
+fn built_fault(fault: DebugFault) -> DebugFault
+    ensures { result ≡ built_fault fault }
+{
+    match fault {
+        DebugFault::Refused(SessionFault::Serve(fault)) => DebugFault::Refused(SessionFault::Serve(
+            fault,
+        )),
+        _ => DebugFault::NoMemory,
+    }
+}
+
+// Serves a session on what was read.
+fn serve_given<R: Read, W: Write>(
+    alloc: Global,
+    part: &PartData,
+    given: Given,
+    commands: &mut R,
+    writer: &mut W,
+) -> Result<Vec<Noticed>, DebugFault>
+    ensures done { (input : List ℕ) → IsGiven input given.image.items (option_map (λ t. t.items) given.text) given.notices.items
+        → IfOk result (λ v. IfSome (R.remaining commands.old) (λ lines. IsDebugged part.now input lines (R.remaining commands.new) v.items (W.contents writer.old) (W.contents writer.new))) }
+    ensures fault { (input : List ℕ) → IsGiven input given.image.items (option_map (λ t. t.items) given.text) given.notices.items
+        → IfErr result (λ f. IsInputFault part.now input (R.remaining commands.old) (R.remaining commands.new) f (W.contents writer.old) (W.contents writer.new)) }
+{
+    let Given {
+        image,
+        text,
+        notices,
+    } = given;
+    match serve_image(alloc, part, &image, commands, writer) {
+        Ok(()) => Ok(notices),
+        Err(fault) => if text.is_some() {
+            Err(built_fault(fault))
+        } else {
+            Err(fault)
+        },
+    }
+}
+
 // Serves a session on an input.
 fn serve_input<R: Read, W: Write>(
     alloc: Global,
     part: &PartData,
-    input: &[u8],
+    input: Vec<u8>,
     commands: &mut R,
     writer: &mut W,
 ) -> Result<Vec<Noticed>, DebugFault>
-    ensures done { IfOk result (λ v. IfSome (R.remaining commands.old) (λ lines. IsDebugged part.now input.now lines (R.remaining commands.new) v.items (W.contents writer.old) (W.contents writer.new))) }
-    ensures fault { IfErr result (λ f. IsInputFault part.now input.now (R.remaining commands.old) (R.remaining commands.new) f (W.contents writer.old) (W.contents writer.new)) }
+    ensures done { IfOk result (λ v. IfSome (R.remaining commands.old) (λ lines. IsDebugged part.now input.items lines (R.remaining commands.new) v.items (W.contents writer.old) (W.contents writer.new))) }
+    ensures fault { IfErr result (λ f. IsInputFault part.now input.items (R.remaining commands.old) (R.remaining commands.new) f (W.contents writer.old) (W.contents writer.new)) }
 {
-    if is_image(input) {
-        serve_image(alloc, part, input, commands, writer)?;
-        return Ok(Vec::new(alloc));
-    }
-    let Built { image, notices } = match build_image(alloc, input) {
-        Ok(built) => built,
-        Err(refusal) => return Err(DebugFault::Refused(SessionFault::Text(refusal))),
-    };
-    match serve_image(alloc, part, &image, commands, writer) {
-        Ok(()) => Ok(notices),
-        Err(DebugFault::Refused(SessionFault::Serve(fault))) => Err(DebugFault::Refused(
-            SessionFault::Serve(fault),
-        )),
-        Err(_) => Err(DebugFault::NoMemory),
+    match given_of(alloc, input) {
+        Ok(given) => serve_given(alloc, part, given, commands, writer),
+        Err(fault) => Err(session_fault(fault)),
     }
 }
 
@@ -122,5 +151,5 @@ pub fn debug<I: Read, R: Read, W: Write>(
     ensures little { ReadsLittle (I.remaining reader.old) (I.remaining reader.new) }
 {
     let input = read_all(alloc, reader)?;
-    serve_input(alloc, part, &input, commands, writer)
+    serve_input(alloc, part, input, commands, writer)
 }

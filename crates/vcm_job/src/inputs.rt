@@ -1,6 +1,7 @@
 //! Runs of programs and images from an input, beside a workpiece.
 
-ghost use Rattle.std.specs.Prelude.{◌≡◌, ◌≢◌, IfOk, IfErr, IfSome};
+ghost use Rattle.std.specs.Prelude.{◌≡◌, ◌≢◌, ℕ, List, option_map, IfOk, IfErr, IfSome};
+ghost use Rattle.vcm_job.specs.Given.{IsGiven};
 ghost use Rattle.vcm_job.specs.Reading.{ReadsLittle};
 ghost use Rattle.vcm_job.specs.Unread.{AnswersUnread};
 ghost use Rattle.vcm_job.specs.Inputs.{IsInputRun, IsInputRefusal, IsWritten, IsNotWritten};
@@ -8,35 +9,48 @@ ghost use Rattle.vcm_job.specs.inner.Judged.{IsRefusedAs};
 ghost use Rattle.vcm_job.specs.inner.Running.{IsNotRun};
 
 use crate::fault::{InputRefusal, RunFault};
-use crate::given::is_image;
+use crate::given::{Given, given_of};
 use crate::reading::read_all;
 use crate::running::{Done, Unwritten, finish};
+use crate::views::judged;
 use std::alloc::Global;
 use std::io::{Read, Write};
 use vcm_motion::{AnyPart, Part};
 use vcm_part::PartData;
-use vcm_run::{Summary, run_image, run_text};
+use vcm_run::{Summary, run_noticed};
 
-// The run of an input beside a workpiece, for at most so many steps.
-fn run_either<P: Part>(
+// The run of what was read beside a workpiece, for at most so many steps.
+fn run_given<P: Part>(
     alloc: Global,
     part: &P,
-    input: &[u8],
+    given: Given,
     steps: u64,
 ) -> Result<Summary, RunFault>
-    ensures run { IfOk result (IsInputRun (P.part part.now) input.now steps) }
-    ensures refused { IfErr result (IsRefusedAs (IsInputRefusal input.now)) }
+    ensures run { (input : List ℕ) → IsGiven input given.image.items (option_map (λ t. t.items) given.text) given.notices.items → IfOk result (IsInputRun (P.part part.now) input steps) }
+    ensures refused { (input : List ℕ) → IsGiven input given.image.items (option_map (λ t. t.items) given.text) given.notices.items → IfErr result (IsRefusedAs (IsInputRefusal input)) }
 {
-    if is_image(input) {
-        match run_image(alloc, part, input, steps) {
-            Ok(summary) => Ok(summary),
-            Err(fault) => Err(RunFault::Refused(InputRefusal::Image(fault))),
+    let Given {
+        image,
+        text,
+        notices,
+    } = given;
+    match run_noticed(alloc, part, &image, steps, notices) {
+        Ok(summary) => Ok(summary),
+        Err(fault) => {
+            let fault = RunFault::Refused(InputRefusal::Image(fault));
+            Err(judged(text.is_some(), fault))
         }
-    } else {
-        match run_text(alloc, part, input, steps) {
-            Ok(summary) => Ok(summary),
-            Err(refusal) => Err(RunFault::Refused(InputRefusal::Text(refusal))),
-        }
+    }
+}
+
+// The run of what was read beside the workpiece of a part file.
+fn run_beside(alloc: Global, part: &PartData, given: Given, steps: u64) -> Result<Summary, RunFault>
+    ensures run { (input : List ℕ) → IsGiven input given.image.items (option_map (λ t. t.items) given.text) given.notices.items → IfOk result (IsInputRun part.now input steps) }
+    ensures refused { (input : List ℕ) → IsGiven input given.image.items (option_map (λ t. t.items) given.text) given.notices.items → IfErr result (IsRefusedAs (IsInputRefusal input)) }
+{
+    match AnyPart::of(alloc, part) {
+        Ok(workpiece) => run_given(alloc, &workpiece, given, steps),
+        Err(_) => Err(RunFault::NoMemory),
     }
 }
 
@@ -44,15 +58,15 @@ fn run_either<P: Part>(
 fn summary_of_input(
     alloc: Global,
     part: &PartData,
-    input: &[u8],
+    input: Vec<u8>,
     steps: u64,
 ) -> Result<Summary, RunFault>
-    ensures run { IfOk result (IsInputRun part.now input.now steps) }
-    ensures refused { IfErr result (IsRefusedAs (IsInputRefusal input.now)) }
+    ensures run { IfOk result (IsInputRun part.now input.items steps) }
+    ensures refused { IfErr result (IsRefusedAs (IsInputRefusal input.items)) }
 {
-    match AnyPart::of(alloc, part) {
-        Ok(workpiece) => run_either(alloc, &workpiece, input, steps),
-        Err(_) => Err(RunFault::NoMemory),
+    match given_of(alloc, input) {
+        Ok(given) => run_beside(alloc, part, given, steps),
+        Err(fault) => Err(fault),
     }
 }
 
@@ -60,12 +74,12 @@ fn summary_of_input(
 fn run_input<W: Write>(
     alloc: Global,
     part: &PartData,
-    input: &[u8],
+    input: Vec<u8>,
     steps: u64,
     writer: &mut W,
 ) -> Result<Done, RunFault>
-    ensures done { IfOk result (λ d. IsWritten part.now input.now steps d.status d.notices.items (W.contents writer.old) (W.contents writer.new)) }
-    ensures fault { IfErr result (λ f. IsNotRun part.now input.now steps f (W.contents writer.old) (W.contents writer.new)) }
+    ensures done { IfOk result (λ d. IsWritten part.now input.items steps d.status d.notices.items (W.contents writer.old) (W.contents writer.new)) }
+    ensures fault { IfErr result (λ f. IsNotRun part.now input.items steps f (W.contents writer.old) (W.contents writer.new)) }
 {
     // A fault is handed on by a match, since `?` on a value as big as a summary costs the prover far more.
     let summary = match summary_of_input(alloc, part, input, steps) {
@@ -96,5 +110,5 @@ pub fn run<R: Read, W: Write>(
     ensures little { ReadsLittle (R.remaining reader.old) (R.remaining reader.new) }
 {
     let input = read_all(alloc, reader)?;
-    run_input(alloc, part, &input, steps, writer)
+    run_input(alloc, part, input, steps, writer)
 }

@@ -1,6 +1,7 @@
 //! Listings of programs and images, and images of listings.
 
-ghost use Rattle.std.specs.Prelude.{◌≡◌, IfOk, IfErr, IfSome};
+ghost use Rattle.std.specs.Prelude.{◌≡◌, ℕ, List, option_map, IfOk, IfErr, IfSome};
+ghost use Rattle.vcm_job.specs.Given.{IsGiven};
 ghost use Rattle.vcm_job.specs.Reading.{ReadsLittle};
 ghost use Rattle.vcm_job.specs.Unread.{AnswersUnread};
 ghost use Rattle.vcm_job.specs.Listings.{IsPrinted, IsListed, IsWrittenOut, IsNotListed, IsNotAssembled};
@@ -11,8 +12,9 @@ ghost use Rattle.vcm_words.specs.Outcomes.{FaultOrWant};
 ghost use Rattle.vcm_image.specs.Whole.{FitsImage, spelling};
 
 use crate::fault::{AsmFault, Fault, InputRefusal, PrintFault};
-use crate::given::is_image;
+use crate::given::{Given, given_of};
 use crate::reading::read_all;
+use crate::views::judged;
 use std::alloc::Global;
 use std::io::{Read, Write};
 use vcm_code::Code;
@@ -21,7 +23,6 @@ use vcm_listing::{print, read_listing};
 use vcm_loader::load;
 use vcm_num::write_all;
 use vcm_program::Noticed;
-use vcm_run::{Built, build_image};
 
 /// A listing, and the lines without effect of the program that it is of.
 #[derive(Drop)]
@@ -45,23 +46,33 @@ fn printed(alloc: Global, image: &[u8]) -> Result<Vec<u8>, PrintFault>
     }
 }
 
-// The listing of an input.
-fn listing_of(alloc: Global, input: &[u8]) -> Result<Listed, PrintFault>
-    ensures listed { IfOk result (λ l. IsListed input.now l.text.items l.notices.items) }
-    ensures refused { IfErr result (IsRefusedAs (IsInputRefusal input.now)) }
+// The listing of what was read.
+fn listing_of(alloc: Global, given: Given) -> Result<Listed, PrintFault>
+    ensures listed { (input : List ℕ) → IsGiven input given.image.items (option_map (λ t. t.items) given.text) given.notices.items → IfOk result (λ l. IsListed input l.text.items l.notices.items) }
+    ensures refused { (input : List ℕ) → IsGiven input given.image.items (option_map (λ t. t.items) given.text) given.notices.items → IfErr result (IsRefusedAs (IsInputRefusal input)) }
 {
-    if is_image(input) {
-        let text = printed(alloc, input)?;
-        let notices = Vec::new(alloc);
-        return Ok(Listed { text, notices });
-    }
-    let Built { image, notices } = match build_image(alloc, input) {
-        Ok(built) => built,
-        Err(refusal) => return Err(PrintFault::Refused(InputRefusal::Text(refusal))),
-    };
+    let Given {
+        image,
+        text,
+        notices,
+    } = given;
     match printed(alloc, &image) {
-        Ok(text) => Ok(Listed { text, notices }),
-        Err(_) => Err(PrintFault::NoMemory),
+        Ok(listing) => Ok(Listed {
+            text: listing,
+            notices,
+        }),
+        Err(fault) => Err(judged(text.is_some(), fault)),
+    }
+}
+
+// The listing of an input.
+fn listing_of_input(alloc: Global, input: Vec<u8>) -> Result<Listed, PrintFault>
+    ensures listed { IfOk result (λ l. IsListed input.items l.text.items l.notices.items) }
+    ensures refused { IfErr result (IsRefusedAs (IsInputRefusal input.items)) }
+{
+    match given_of(alloc, input) {
+        Ok(given) => listing_of(alloc, given),
+        Err(fault) => Err(fault),
     }
 }
 
@@ -80,7 +91,7 @@ pub fn list<R: Read, W: Write>(
     ensures little { ReadsLittle (R.remaining reader.old) (R.remaining reader.new) }
 {
     let input = read_all(alloc, reader)?;
-    let Listed { text, notices } = listing_of(alloc, &input)?;
+    let Listed { text, notices } = listing_of_input(alloc, input)?;
     match write_all(writer, &text) {
         Ok(()) => Ok(notices),
         Err(_) => Err(PrintFault::Write { done: 0 }),

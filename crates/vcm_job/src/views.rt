@@ -61,8 +61,8 @@ pub fn show<W: Write, S: Shows<W>>(
     }
 }
 
-// Why no whole view was written of an image that was read, or of one that was built, which is refused for want of memory alone.
-fn judged(is_built: bool, fault: RunFault) -> RunFault
+/// Why no whole answer came of an image that was read, or of one that was built, which is refused for want of memory alone.
+pub(crate) fn judged(is_built: bool, fault: RunFault) -> RunFault
     ensures { result ≡ judged is_built fault }
 {
     match fault {

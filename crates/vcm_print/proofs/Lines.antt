@@ -12,13 +12,13 @@ use Rattle.vcm_code.specs.Code.{CodeStatement}
 use Rattle.vcm_code.specs.Shape.{Place, Said, Filled, Parted, parted, places, taken_apart, over_places, over_parted, over_operands}
 use Rattle.vcm_code.specs.Shape as at
 use Rattle.vcm_spec.specs.Words.{quarters_number, word_number}
-use Rattle.vcm_code.specs.Words.{word_of}
+use Rattle.vcm_code.specs.Words.{word_of, word_text}
 use Rattle.vcm_fields.specs.Fields.{PlainField, in_plain}
 use Rattle.vcm_words.specs.declared.row.Row.TheVariants as rows
 use Rattle.vcm_words.specs.Enclosed.{closed, opened}
 use Rattle.vcm_words.specs.Items.{item_text, expression}
 use Rattle.vcm_words.specs.Branches.{branch_text, branches}
-use Rattle.vcm_words.specs.Operands.{operands, place_words, single, lettered, axis_text, direction_text, setting_text, source_text, turn_text, word_text}
+use Rattle.vcm_words.specs.Operands.{operands, place_words, single, lettered, axis_text, direction_text, setting_text, source_text, turn_text}
 use Rattle.vcm_words.specs.Rows.{row_text, kind_text}
 use Rattle.vcm_print.specs.inner.Written.{heading, items_bytes, branches_bytes, place_bytes, statement_bytes, variable_bytes, name_bytes}
 use Rattle.vcm_print.specs.Listed.{listed}

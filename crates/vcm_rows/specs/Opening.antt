@@ -9,8 +9,7 @@ use Rattle.vcm_forms.specs.Statements.{notice_word}
 use Rattle.vcm_program.specs.declared.accepted.Noticed.{Noticed}
 use Rattle.vcm_code.specs.declared.code.Code.{Code}
 use Rattle.vcm_code.specs.Code.{CodeStatement}
-use Rattle.vcm_code.specs.Words.{word_of}
-use Rattle.vcm_words.specs.Operands.{word_text}
+use Rattle.vcm_code.specs.Words.{word_of, word_text}
 use Rattle.vcm_report.specs.Printed.{in_a_row}
 use Rattle.vcm_rows.specs.Spelled.{spelled}
 use Rattle.vcm_rows.specs.Rows.{rows_below, point_row, points_row}

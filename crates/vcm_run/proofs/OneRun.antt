@@ -1,25 +1,21 @@
 -- Runs, images and refusals of one input are one.
-use Rattle.std.proofs.Common.{◌≡◌, ◌≢◌, inl, inr, ℕ, List, [], Some, None, Result, Ok, Err, refl, sym, ap, ◌∙◌, subst}
-use Rattle.vcm_lines.specs.declared.fault.SourceFault.{SourceFault}
-use Rattle.vcm_lines.specs.Fault.{no_memory}
+use Rattle.std.proofs.Common.{◌≡◌, ◌≢◌, inl, inr, ℕ, List, Result, Ok, Err, refl, sym, ap, ◌∙◌, subst}
 use Rattle.vcm_spec.specs.Workpiece.{Workpiece}
 use Rattle.vcm_spec.specs.World.{World}
 use Rattle.vcm_spec.specs.Setup.{Setup, Tables, setup_of}
 use Rattle.vcm_spec.specs.Program.{Block}
 use Rattle.vcm_spec.specs.Table.{State, next_number, steps, effective, opening}
 use Rattle.vcm_state.specs.Held.{Held}
-use Rattle.vcm_tree.specs.Acceptance.{IsAccepted, IsRefused}
+use Rattle.vcm_tree.specs.Acceptance.{IsAccepted}
 use Rattle.vcm_program.specs.Program.{Parsed}
 use Rattle.vcm_program.specs.declared.accepted.Noticed.{Noticed}
 use Rattle.vcm_tree.proofs.AcceptanceLaws.{one_program, not_refused, one_refusal}
 use Rattle.vcm_code.specs.declared.code.Code.{Code}
 use Rattle.vcm_code.specs.declared.version.Version.{Version}
 use Rattle.vcm_code.specs.Code.{CodeStatement}
-use Rattle.vcm_code.specs.Valid.{IsValid}
 use Rattle.vcm_fields.specs.declared.fault.ImageFault.{ImageFault}
 use Rattle.vcm_fields.specs.declared.fault.ImageFault.TheVariants as image_faults
-use Rattle.vcm_image.specs.Whole.{FitsImage, spelling, code_at}
-use Rattle.vcm_image.proofs.Wholes.{code_again}
+use Rattle.vcm_image.specs.Whole.{spelling, code_at}
 use Rattle.vcm_image.proofs.ImageLaws.{one_image}
 use Rattle.vcm_loader.specs.Loading.{RefusesCode, LoadFault}
 use Rattle.vcm_loader.proofs.Refusals.{written_loaded, one_refusal as one_refused}
@@ -32,11 +28,10 @@ use Rattle.vcm_machine.specs.Running.{started}
 use Rattle.vcm_machine.proofs.LawLemmas.{one_run}
 use Rattle.vcm_run.specs.declared.run.Refusal.{Refusal}
 use Rattle.vcm_run.specs.declared.run.Refusal.TheVariants as refusals
-use Rattle.vcm_run.specs.Images.{IsCodeRun, IsImageRun, IsImageRefusal}
+use Rattle.vcm_run.specs.Images.{IsCodeRun}
 use Rattle.vcm_run.specs.Run.{Ended, IsRun}
 use Rattle.vcm_run.specs.Summaries.{Shown}
-use Rattle.vcm_run.specs.Programs.{IsSummary, IsRefusal}
-use Rattle.vcm_run.specs.Built.{IsBuilt}
+use Rattle.vcm_run.specs.Programs.{IsRefusal}
 use Rattle.vcm_run.specs.Laws.{SummariesAreOne, ImageRunsAreOne, BuildsAreOne, IsWant, RefusedIsNotBuilt, RefusedIsNotRun, RefusedImageIsNotRun, RefusedAtOneLine, ImageRefusalsAreOne}
 
 abbrev ran : ℕ → End → Ran

@@ -1,5 +1,5 @@
 -- A run of an assembled code is a run of its program.
-use Rattle.std.specs.Prelude.{slice_get, Result, Ok, Err, IfOk}
+use Rattle.std.specs.Prelude.{slice_get}
 use Rattle.std.proofs.Common.{◌≡◌, ℕ, zero, suc, ◌+◌, ◌<◌, List, length, true, None, refl, sym, ap, ◌∙◌, subst, arith}
 use Rattle.vcm_spec.specs.Workpiece.{Workpiece}
 use Rattle.vcm_spec.specs.Rests.{Rests}
@@ -22,7 +22,6 @@ use Rattle.vcm_machine.specs.declared.ran.Ran.{Ran}
 use Rattle.vcm_machine.specs.Running.{Running, setup, started, later, WantsMemory, RunEnded, HasRun}
 use Rattle.vcm_machine.proofs.LawLemmas.{follow}
 use Rattle.vcm_machine.proofs.ProgramRests.{programs_rest}
-use Rattle.vcm_num.specs.declared.memory.NoMemory.{NoMemory}
 use Rattle.vcm_program.specs.Program.{Parsed}
 use Rattle.vcm_program.specs.declared.accepted.Noticed.{Noticed}
 use Rattle.vcm_image.specs.Whole.{FitsImage, spelling}
@@ -130,12 +129,6 @@ text_run part text bytes notices n s l b f e r ns =
           (subst (λ k. IsRun (setup_of part b.parsed.tables) b.parsed.program n r.machine.state.world k s.ran) (sym r.next_is) run);
     }
 
--- the same of what a call returned
-pub built_runs : (part : Workpiece) (bytes : List ℕ) (notices : List Noticed) (n : ℕ) (l : Code) (r : Result Shown NoMemory) → FitsImage l → bytes ≡ spelling l
-    → IfOk r (IsCodeRun part l n) → IfOk r (λ s. s.notices ≡ notices) → IfOk r (λ s. (text : List ℕ) → IsBuilt text bytes notices → IsSummary part text n s)
-built_runs part bytes notices n l (Ok s) f e h k = λ text b. text_run part text bytes notices n s l b f e h k
-built_runs part bytes notices n l (Err x) f e h k = tt
-
 -- the next statement is one of the program's
 pub text_next : (text bytes : List ℕ) (notices : List Noticed) (s : Shown) (l : Code) → IsBuilt text bytes notices → FitsImage l → bytes ≡ spelling l
     → s.next < length l.statements → NextIsThere text s
@@ -145,9 +138,3 @@ text_next text bytes notices s l b f e within p ok =
     let as_many = ap length a.statements_are ∙ block_length (place_in (marks program 0)) program 0 0 in
     let same : sizes program ≡ sizes p.program = ap (λ q. sizes q.program) (one_program text b.parsed p b.accepted ok) in
     omega (arith, within, as_many, same)
-
--- the same of what a call returned
-pub built_next : (bytes : List ℕ) (notices : List Noticed) (l : Code) (part : Workpiece) (n : ℕ) (r : Result Shown NoMemory) → FitsImage l → bytes ≡ spelling l
-    → IfOk r (IsCodeRun part l n) → IfOk r (λ s. (text : List ℕ) → IsBuilt text bytes notices → NextIsThere text s)
-built_next bytes notices l part n (Ok s) f e h = λ text b. text_next text bytes notices s l b f e h.within
-built_next bytes notices l part n (Err x) f e h = tt

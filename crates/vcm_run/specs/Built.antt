@@ -1,6 +1,7 @@
 -- The image of a program's text.
 use Rattle.std.specs.Prelude.{◌≡◌, ℕ, List}
-use Rattle.vcm_tree.specs.Acceptance.{IsAccepted}
+use Rattle.vcm_forms.specs.declared.statement.Statement.{Statement}
+use Rattle.vcm_tree.specs.Acceptance.{IsAcceptedFrom, IsAccepted}
 use Rattle.vcm_program.specs.Program.{Parsed}
 use Rattle.vcm_program.specs.declared.accepted.Noticed.{Noticed}
 use Rattle.vcm_code.specs.declared.code.Code.{Code}
@@ -15,6 +16,13 @@ pub record IsImageOf (parsed : Parsed) (bytes : List ℕ) : Type 0 where
   pub valid : IsValid code
   pub fits : FitsImage code
   pub spelled : bytes ≡ spelling code
+
+-- the statements are accepted as a program, whose image the bytes are, and these are its notices
+pub record IsBuiltFrom (ss : List Statement) (bytes : List ℕ) (notices : List Noticed) : Type 0 where
+  pub parsed : Parsed
+  pub accepted : IsAcceptedFrom ss parsed
+  pub image : IsImageOf parsed bytes
+  pub notices_are : notices ≡ parsed.notices
 
 -- the text is accepted as a program, whose image the bytes are, and these are its notices
 pub record IsBuilt (text bytes : List ℕ) (notices : List Noticed) : Type 0 where

@@ -4,7 +4,8 @@ use Rattle.vcm_lines.specs.Fault.{NoMemoryOr}
 use Rattle.vcm_spec.specs.Workpiece.{Workpiece}
 use Rattle.vcm_spec.specs.Program.{sizes}
 use Rattle.vcm_state.specs.Carried.{setup_of}
-use Rattle.vcm_tree.specs.Acceptance.{IsAccepted, IsRefused}
+use Rattle.vcm_forms.specs.declared.statement.Statement.{Statement}
+use Rattle.vcm_tree.specs.Acceptance.{IsAcceptedFrom, IsRefusedFrom, IsAccepted, IsRefused}
 use Rattle.vcm_program.specs.Program.{Parsed}
 use Rattle.vcm_run.specs.declared.run.Refusal.{Refusal}
 use Rattle.vcm_run.specs.declared.run.Refusal.TheVariants.{Source, Part, NoMemory}
@@ -29,3 +30,9 @@ abbrev pub IsRefusal : List ℕ → Refusal → Type 0
 IsRefusal text (Source f) = NoMemoryOr (IsRefused text) f
 IsRefusal text (Part f) = ⊥
 IsRefusal text NoMemory = (p : Parsed) × IsAccepted text p
+
+-- so it is told of statements that aren't built
+abbrev pub IsRefusalFrom : List Statement → Refusal → Type 0
+IsRefusalFrom ss (Source f) = NoMemoryOr (IsRefusedFrom ss) f
+IsRefusalFrom ss (Part f) = ⊥
+IsRefusalFrom ss NoMemory = (p : Parsed) × IsAcceptedFrom ss p

@@ -7,8 +7,8 @@ mod output;
 mod program;
 mod run;
 
-pub use image::run_image;
+pub use image::{run_image, run_noticed};
 pub use output::write_result;
-pub use program::{Built, build_image, run_text};
+pub use program::{Built, build_image, build_statements, run_text};
 pub use run::{Refusal, Summary};
 pub use vcm_machine::{End, Ran};

@@ -1,18 +1,20 @@
 //! Programs, from their text to their image and to a run of it.
 
-ghost use Rattle.std.specs.Prelude.{ℕ, List, IfOk, IfErr};
-ghost use Rattle.vcm_run.specs.Programs.{IsSummary, NextIsThere, IsRefusal};
-ghost use Rattle.vcm_run.specs.Built.{IsImageOf, IsBuilt};
+ghost use Rattle.std.specs.Prelude.{IfOk, IfErr};
+ghost use Rattle.vcm_tree.specs.Declaring.{DeclareVariables};
+ghost use Rattle.vcm_run.specs.Programs.{IsSummary, NextIsThere, IsRefusal, IsRefusalFrom};
+ghost use Rattle.vcm_run.specs.Built.{IsImageOf, IsBuilt, IsBuiltFrom};
 
-use crate::run::{Refusal, Summary, run_loaded};
+use crate::image::run_noticed;
+use crate::run::{Refusal, Summary};
 use std::alloc::Global;
 use vcm_asm::assemble;
+use vcm_forms::Statement;
 use vcm_image::write;
-use vcm_loader::load;
 use vcm_motion::Part;
 use vcm_num::NoMemory;
 use vcm_program::{Accepted, Noticed};
-use vcm_tree::accept;
+use vcm_tree::{accept_statements, statements_of};
 
 /// The image of a program, and the lines of its text that have no effect.
 #[derive(Drop)]
@@ -29,15 +31,16 @@ fn image_of(alloc: Global, accepted: &Accepted) -> Result<Vec<u8>, NoMemory>
     write(alloc, &code)
 }
 
-/// The image of the program that a text is.
+/// The image of the program that statements are, wherever they come from.
 ///
-/// Errors: `Source` where the text is refused (its first fault, or want of memory at line 0); want of memory where memory is refused behind
-/// acceptance. It never gives `Part`.
-pub fn build_image(alloc: Global, program: &[u8]) -> Result<Built, Refusal>
-    ensures built { IfOk result (λ b. IsBuilt program.now b.image.items b.notices.items) }
-    ensures refused { IfErr result (IsRefusal program.now) }
+/// Errors: `Source` where they are refused (their first fault, or want of memory at line 0); want of memory where memory is refused after acceptance. It
+/// never gives `Part`.
+pub fn build_statements(alloc: Global, read: Vec<Statement>) -> Result<Built, Refusal>
+    requires { DeclareVariables read.items }
+    ensures built { IfOk result (λ b. IsBuiltFrom read.items b.image.items b.notices.items) }
+    ensures refused { IfErr result (IsRefusalFrom read.items) }
 {
-    let accepted = match accept(alloc, program) {
+    let accepted = match accept_statements(alloc, read) {
         Ok(accepted) => accepted,
         Err(fault) => return Err(Refusal::Source(fault)),
     };
@@ -50,21 +53,17 @@ pub fn build_image(alloc: Global, program: &[u8]) -> Result<Built, Refusal>
     }
 }
 
-// Runs the image of a program, whose text has these lines without effect.
-fn run_built<P: Part>(
-    alloc: Global,
-    part: &P,
-    image: &[u8],
-    n: u64,
-    notices: Vec<Noticed>,
-) -> Result<Summary, NoMemory>
-    requires { (text : List ℕ) × IsBuilt text image.now notices.items }
-    ensures run { IfOk result (λ s. (text : List ℕ) → IsBuilt text image.now notices.items → IsSummary (P.part part.now) text n s) }
-    ensures next { IfOk result (λ s. (text : List ℕ) → IsBuilt text image.now notices.items → NextIsThere text s) }
+/// The image of the program that a text is.
+///
+/// Errors: `Source` where the text is refused (its first fault, or want of memory at line 0); want of memory where memory is refused behind
+/// acceptance. It never gives `Part`.
+pub fn build_image(alloc: Global, program: &[u8]) -> Result<Built, Refusal>
+    ensures built { IfOk result (λ b. IsBuilt program.now b.image.items b.notices.items) }
+    ensures refused { IfErr result (IsRefusal program.now) }
 {
-    match load(alloc, image) {
-        Ok(loaded) => run_loaded(alloc, part, &loaded, n, notices),
-        Err(_) => Err(NoMemory),
+    match statements_of(alloc, program) {
+        Ok(read) => build_statements(alloc, read),
+        Err(fault) => Err(Refusal::Source(fault)),
     }
 }
 
@@ -84,7 +83,7 @@ pub fn run_text<P: Part>(
     ensures refused { IfErr result (IsRefusal program.now) }
 {
     let Built { image, notices } = build_image(alloc, program)?;
-    match run_built(alloc, part, &image, n, notices) {
+    match run_noticed(alloc, part, &image, n, notices) {
         Ok(summary) => Ok(summary),
         Err(_) => Err(Refusal::NoMemory),
     }

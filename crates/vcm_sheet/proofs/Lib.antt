@@ -1,4 +1,9 @@
 pub mod Apart
 pub mod Counted
 pub mod Listed
+pub mod Mute
+pub mod Saying
+pub mod Signed
+pub mod Tabled
 pub mod Ticking
+pub mod Whole

@@ -1,9 +1,16 @@
 pub mod Lines
 pub mod Points
+pub mod Sayings
+pub mod Written
+pub mod Painted
 pub mod Ticks
 pub mod Numbers
 pub mod Sight
 pub mod Legend
 pub mod Views
+pub mod Heading
+pub mod Tables
+pub mod Content
 pub mod Filed
 pub mod Laws
+pub mod Samples

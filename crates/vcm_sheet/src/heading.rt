@@ -1,49 +1,41 @@
 //! The heading of a sheet.
 
+ghost use Rattle.std.specs.Prelude.{[], ◌∷◌, map, IfOk};
+ghost use Rattle.vcm_svg.specs.Pieces.{texts};
+ghost use Rattle.vcm_sheet.specs.Content.{filing, heading};
+ghost use Rattle.vcm_sheet.specs.Heading.{files_line, position_line, lines_line, contact_words, contact_line, left_out_line};
+ghost use Rattle.vcm_sheet.specs.Sayings.{Adds, Words};
+
 use crate::lines::Lines;
+use crate::names::{gap_before, name_of, written};
 use crate::places::units;
-use crate::rows::put_name;
+use crate::subject::Sheet;
 use std::alloc::Global;
 use vcm_marks::Contact;
 use vcm_num::{NoMemory, Point};
 use vcm_svg::{Fragment, Lettering, Placement, Spot, Unit, put_text};
 
-/// What a heading tells besides the stop.
-#[derive(Clone, Copy)]
-pub(crate) struct Told<'a> {
-    pub program_name: &'a [u8],
-    pub part_name: &'a [u8],
-    pub block_names: &'a [Vec<u8>],
-    pub tip: u32,
-    pub lines: Lines,
-    pub position: Point,
-    pub done: u64,
-    pub left_out: u64,
-    pub contact: Option<Contact>,
-}
-
 /// How many units a line of the heading is high.
 const PITCH: i64 = 18;
 
-// Appends a line of the heading, so many units from the top, and gives where the next one stands.
-fn put_line(out: &mut Vec<u8>, unit: Unit, down: i64, words: &[Fragment]) -> Result<i64, NoMemory> {
-    let label = Placement {
+// Where a line of the heading is, so many units from the top.
+fn line_label(unit: Unit, down: i64) -> Placement {
+    Placement {
         at: Spot {
             x: units(20, unit),
             y: units(down, unit),
         },
         size: unit.get(),
         class: Lettering::Heading,
-    };
-    put_text(out, label, words)?;
-    Ok(down.saturating_add(PITCH))
+    }
 }
 
-// A name as it is written.
-fn written(alloc: Global, name: &[u8]) -> Result<Vec<u8>, NoMemory> {
-    let mut out = Vec::new(alloc);
-    put_name(&mut out, name)?;
-    Ok(out)
+// Appends a line of the heading, so many units from the top, and gives where the next one stands.
+fn put_line(out: &mut Vec<u8>, unit: Unit, down: i64, words: &[Fragment]) -> Result<i64, NoMemory>
+    ensures { IfOk result (λ next. Adds (Words (texts words.now) ∷ []) out.old.items out.new.items) }
+{
+    put_text(out, line_label(unit, down), words)?;
+    Ok(down.saturating_add(PITCH))
 }
 
 // Appends the line of the files and of the tip.
@@ -52,10 +44,13 @@ fn put_files(
     out: &mut Vec<u8>,
     unit: Unit,
     down: i64,
-    told: Told<'_>,
-) -> Result<i64, NoMemory> {
-    let program = written(alloc, told.program_name)?;
-    let part = written(alloc, told.part_name)?;
+    sheet: &Sheet<'_>,
+) -> Result<i64, NoMemory>
+    ensures { IfOk result (λ next. Adds (files_line sheet.now.program_name.now sheet.now.part_name.now sheet.now.part.now.bounds.tip) out.old.items out.new.items) }
+{
+    let program = written(alloc, sheet.program_name)?;
+    let part = written(alloc, sheet.part_name)?;
+    let tip = sheet.part.bounds().tip;
     put_line(
         out,
         unit,
@@ -66,28 +61,38 @@ fn put_files(
             Fragment::Text(b"  part "),
             Fragment::Text(&part),
             Fragment::Text(b"  tip "),
-            Fragment::Length(i64::from(told.tip)),
+            Fragment::Length(i64::from(tip)),
         ],
     )
 }
 
 // Appends the line of the position and the steps.
-fn put_position(out: &mut Vec<u8>, unit: Unit, down: i64, told: Told<'_>) -> Result<i64, NoMemory> {
+fn put_position(
+    out: &mut Vec<u8>,
+    unit: Unit,
+    down: i64,
+    position: Point,
+    done: u64,
+) -> Result<i64, NoMemory>
+    ensures { IfOk result (λ next. Adds (position_line position done) out.old.items out.new.items) }
+{
     put_line(
         out,
         unit,
         down,
         &[
             Fragment::Text(b"position "),
-            Fragment::At(told.position),
+            Fragment::At(position),
             Fragment::Text(b"  steps "),
-            Fragment::Count(told.done),
+            Fragment::Count(done),
         ],
     )
 }
 
 // Appends the line of the source lines, if not all are shown.
-fn put_lines(out: &mut Vec<u8>, unit: Unit, down: i64, lines: Lines) -> Result<i64, NoMemory> {
+fn put_lines(out: &mut Vec<u8>, unit: Unit, down: i64, lines: Lines) -> Result<i64, NoMemory>
+    ensures { IfOk result (λ next. Adds (lines_line lines) out.old.items out.new.items) }
+{
     if lines.first == 0 {
         return Ok(down);
     }
@@ -104,27 +109,16 @@ fn put_lines(out: &mut Vec<u8>, unit: Unit, down: i64, lines: Lines) -> Result<i
     )
 }
 
-// The name of a block.
-fn name_of(names: &[Vec<u8>], block: u32) -> &[u8] {
-    match names.get((block as usize).saturating_sub(1)) {
-        Some(name) => name.as_slice(),
-        None => &[],
-    }
-}
-
-// Appends the line of the contact, if there is one.
-fn put_contact(
-    alloc: Global,
+// Appends the line of a contact with a block of this name.
+fn put_named_contact(
     out: &mut Vec<u8>,
     unit: Unit,
     down: i64,
-    told: Told<'_>,
-) -> Result<i64, NoMemory> {
-    let Some(contact) = told.contact else {
-        return Ok(down);
-    };
-    let name = written(alloc, name_of(told.block_names, contact.block))?;
-    let gap: &[u8] = if name.is_empty() { b"" } else { b" " };
+    contact: Contact,
+    name: &[u8],
+) -> Result<i64, NoMemory>
+    ensures { IfOk result (λ next. Adds (contact_words contact name.now ∷ []) out.old.items out.new.items) }
+{
     put_line(
         out,
         unit,
@@ -134,14 +128,36 @@ fn put_contact(
             Fragment::At(contact.at),
             Fragment::Text(b" with block "),
             Fragment::Count(u64::from(contact.block)),
-            Fragment::Text(gap),
-            Fragment::Text(&name),
+            Fragment::Text(gap_before(name)),
+            Fragment::Text(name),
         ],
     )
 }
 
+// Appends the line of the contact, if there is one.
+fn put_contact(
+    alloc: Global,
+    out: &mut Vec<u8>,
+    unit: Unit,
+    down: i64,
+    names: &[Vec<u8>],
+    contact: Option<Contact>,
+) -> Result<i64, NoMemory>
+    ensures { IfOk result (λ next. Adds (contact_line (map (λ n. n.items) names.now) contact) out.old.items out.new.items) }
+{
+    match contact {
+        Some(contact) => {
+            let name = written(alloc, name_of(names, contact.block as usize))?;
+            put_named_contact(out, unit, down, contact, name.as_slice())
+        }
+        None => Ok(down),
+    }
+}
+
 // Appends the line of the pieces that are left out, if there are any.
-fn put_left_out(out: &mut Vec<u8>, unit: Unit, down: i64, left_out: u64) -> Result<i64, NoMemory> {
+fn put_left_out(out: &mut Vec<u8>, unit: Unit, down: i64, left_out: u64) -> Result<i64, NoMemory>
+    ensures { IfOk result (λ next. Adds (left_out_line left_out) out.old.items out.new.items) }
+{
     if left_out == 0 {
         return Ok(down);
     }
@@ -163,12 +179,16 @@ pub(crate) fn put_heading(
     out: &mut Vec<u8>,
     unit: Unit,
     first: &[u8],
-    told: Told<'_>,
-) -> Result<i64, NoMemory> {
+    sheet: &Sheet<'_>,
+    contact: Option<Contact>,
+) -> Result<i64, NoMemory>
+    ensures { IfOk result (λ next. Adds (heading (filing sheet.now) first.now contact) out.old.items out.new.items) }
+{
+    let position = sheet.world.position();
     let down = put_line(out, unit, 20, &[Fragment::Text(first)])?;
-    let down = put_files(alloc, out, unit, down, told)?;
-    let down = put_position(out, unit, down, told)?;
-    let down = put_lines(out, unit, down, told.lines)?;
-    let down = put_contact(alloc, out, unit, down, told)?;
-    put_left_out(out, unit, down, told.left_out)
+    let down = put_files(alloc, out, unit, down, sheet)?;
+    let down = put_position(out, unit, down, position, sheet.done)?;
+    let down = put_lines(out, unit, down, sheet.lines)?;
+    let down = put_contact(alloc, out, unit, down, sheet.block_names, contact)?;
+    put_left_out(out, unit, down, sheet.left_out)
 }

@@ -1,11 +1,15 @@
 //! Arithmetic on places of a sheet that never leaves 64 bits.
 
+ghost use Rattle.std.specs.Prelude.{◌≡◌, ◌*ℤ◌};
 ghost use Rattle.vcm_svg.specs.Ranges.{IsSmall};
+ghost use Rattle.vcm_sheet.specs.Ticks.{kept};
 
 use vcm_svg::{BoundedSpot, Spot, Unit};
 
 /// So many units.
-pub(crate) fn units(count: i64, unit: Unit) -> i64 {
+pub(crate) fn units(count: i64, unit: Unit) -> i64
+    ensures { result ≡ kept (count *ℤ unit) }
+{
     count.saturating_mul(unit.get())
 }
 

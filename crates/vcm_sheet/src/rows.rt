@@ -1,6 +1,13 @@
 //! The tables of a sheet: the legend, the touched points and the blocks with names.
 
+ghost use Rattle.std.specs.Prelude.{◌≡◌, [], ◌∷◌, ◌++◌, codes, map, flat_map, length, OnOk, IfOk};
+ghost use Rattle.vcm_svg.specs.Pieces.{piece_text};
+ghost use Rattle.vcm_sheet.specs.Sayings.{Adds, say};
+ghost use Rattle.vcm_sheet.specs.Tables.{sign_row, way_signs, mark_signs, legend, first_rows, more_rows, point_row, points_head, points_table, number_if, named_before, block_row, blocks_head, table_of, blocks_table};
+ghost use Rattle.vcm_sheet.specs.Written.{name_of};
+
 use crate::legend::Used;
+use crate::names::{name_of, written};
 use crate::places::{corner, moved, units};
 use crate::points::Pointed;
 use std::alloc::Global;
@@ -20,19 +27,6 @@ fn below(at: Spot, unit: Unit) -> Spot {
     moved(at, 0, units(PITCH, unit))
 }
 
-/// Appends a name: what isn't printable becomes a question mark, and what an SVG reads otherwise is spelled out.
-pub(crate) fn put_name(out: &mut Vec<u8>, name: &[u8]) -> Result<(), NoMemory> {
-    for byte in name {
-        match *byte {
-            b'<' => out.extend_from_slice(b"&lt;")?,
-            b'&' => out.extend_from_slice(b"&amp;")?,
-            b' '..=b'~' => out.push(*byte)?,
-            _ => out.push(b'?')?,
-        }
-    }
-    Ok(())
-}
-
 // Where words of a row stand, so many units to the right.
 fn cell(at: Spot, unit: Unit, right: i64) -> Placement {
     Placement {
@@ -49,7 +43,9 @@ fn put_cell(
     unit: Unit,
     right: i64,
     words: Fragment<'_>,
-) -> Result<(), NoMemory> {
+) -> Result<(), NoMemory>
+    ensures { OnOk result (Adds (say (piece_text words.entry ∷ []) ∷ []) out.old.items out.new.items) }
+{
     put_text(out, cell(at, unit, right), &[words])
 }
 
@@ -62,7 +58,9 @@ fn put_sign(
     class: Class,
     sign: Sign,
     words: &[u8],
-) -> Result<Spot, NoMemory> {
+) -> Result<Spot, NoMemory>
+    ensures { IfOk result (λ next. Adds (sign_row is_drawn words.now) out.old.items out.new.items) }
+{
     if !is_drawn {
         return Ok(at);
     }
@@ -71,7 +69,9 @@ fn put_sign(
 }
 
 // Appends the rows of pieces of the way that are drawn.
-fn put_ways(out: &mut Vec<u8>, at: Spot, unit: Unit, used: Used) -> Result<Spot, NoMemory> {
+fn put_ways(out: &mut Vec<u8>, at: Spot, unit: Unit, used: Used) -> Result<Spot, NoMemory>
+    ensures { IfOk result (λ next. Adds (way_signs used) out.old.items out.new.items) }
+{
     let line = Sign::Line;
     let at = put_sign(out, at, unit, used.moves, Class::Move, line, b"move")?;
     let at = put_sign(
@@ -97,7 +97,9 @@ fn put_ways(out: &mut Vec<u8>, at: Spot, unit: Unit, used: Used) -> Result<Spot,
 }
 
 // Appends the rows of the other marks that are drawn.
-fn put_marks(out: &mut Vec<u8>, at: Spot, unit: Unit, used: Used) -> Result<Spot, NoMemory> {
+fn put_marks(out: &mut Vec<u8>, at: Spot, unit: Unit, used: Used) -> Result<Spot, NoMemory>
+    ensures { IfOk result (λ next. Adds (mark_signs used) out.old.items out.new.items) }
+{
     let at = put_sign(
         out,
         at,
@@ -147,7 +149,9 @@ fn put_marks(out: &mut Vec<u8>, at: Spot, unit: Unit, used: Used) -> Result<Spot
 }
 
 // Appends the row of the lines through the origin, if there are any.
-fn put_origin(out: &mut Vec<u8>, at: Spot, unit: Unit, has_origin: bool) -> Result<Spot, NoMemory> {
+fn put_origin(out: &mut Vec<u8>, at: Spot, unit: Unit, has_origin: bool) -> Result<Spot, NoMemory>
+    ensures { IfOk result (λ next. Adds (sign_row has_origin (codes "X, Y or Z is 0")) out.old.items out.new.items) }
+{
     if !has_origin {
         return Ok(at);
     }
@@ -174,20 +178,24 @@ pub(crate) fn put_signs(
     unit: Unit,
     used: Used,
     has_origin: bool,
-) -> Result<Spot, NoMemory> {
+) -> Result<Spot, NoMemory>
+    ensures { IfOk result (λ next. Adds (legend used has_origin) out.old.items out.new.items) }
+{
     let at = put_ways(out, at, unit, used)?;
     let at = put_marks(out, at, unit, used)?;
     put_origin(out, at, unit, has_origin)
 }
 
-// Appends the row of a point.
+// Appends the row of a point, and gives the place below it.
 fn put_point(
     out: &mut Vec<u8>,
     at: Spot,
     unit: Unit,
     features: &[Name],
     point: &Pointed,
-) -> Result<Spot, NoMemory> {
+) -> Result<Spot, NoMemory>
+    ensures { IfOk result (λ next. Adds (point_row features.now point.now) out.old.items out.new.items) }
+{
     let line = u64::from(point.step.line);
     let name = name_at(features, point.touched.feature);
     put_cell(out, at, unit, 0, Fragment::Number(point.number))?;
@@ -204,7 +212,9 @@ fn put_more(
     unit: Unit,
     all: usize,
     words: &[u8],
-) -> Result<Spot, NoMemory> {
+) -> Result<Spot, NoMemory>
+    ensures { IfOk result (λ next. Adds (more_rows all words.now) out.old.items out.new.items) }
+{
     let more = all.saturating_sub(MOST_ROWS);
     if more == 0 {
         return Ok(at);
@@ -221,6 +231,42 @@ fn put_more(
     Ok(below(at, unit))
 }
 
+// The first rows of a table.
+fn first_rows<T>(rows: &[T]) -> &[T]
+    ensures { result.now ≡ first_rows rows.now }
+{
+    &rows[..rows.len().min(MOST_ROWS)]
+}
+
+// Appends the head of the table of points, and gives the place below it.
+fn put_points_head(out: &mut Vec<u8>, at: Spot, unit: Unit) -> Result<Spot, NoMemory>
+    ensures { IfOk result (λ next. Adds points_head out.old.items out.new.items) }
+{
+    let at = moved(at, 0, units(8, unit));
+    put_cell(out, at, unit, 0, Fragment::Text(b"point"))?;
+    put_cell(out, at, unit, 36, Fragment::Text(b"line"))?;
+    put_cell(out, at, unit, 78, Fragment::Text(b"feature"))?;
+    put_cell(out, at, unit, 184, Fragment::Text(b"touched at, mm"))?;
+    Ok(below(at, unit))
+}
+
+// Appends the rows of points, and gives the place below them.
+fn put_point_rows(
+    out: &mut Vec<u8>,
+    at: Spot,
+    unit: Unit,
+    features: &[Name],
+    points: &[Pointed],
+) -> Result<Spot, NoMemory>
+    ensures { IfOk result (λ next. Adds (flat_map (point_row features.now) points.now) out.old.items out.new.items) }
+{
+    let mut at = at;
+    for point in points {
+        at = put_point(out, at, unit, features, point)?;
+    }
+    Ok(at)
+}
+
 /// Appends the table of points, if there are any, and gives the place below it.
 pub(crate) fn put_points(
     out: &mut Vec<u8>,
@@ -228,56 +274,101 @@ pub(crate) fn put_points(
     unit: Unit,
     features: &[Name],
     points: &[Pointed],
-) -> Result<Spot, NoMemory> {
+) -> Result<Spot, NoMemory>
+    ensures { IfOk result (λ next. Adds (points_table features.now points.now) out.old.items out.new.items) }
+{
     if points.is_empty() {
         return Ok(at);
     }
-    let mut at = moved(at, 0, units(8, unit));
-    put_cell(out, at, unit, 0, Fragment::Text(b"point"))?;
-    put_cell(out, at, unit, 36, Fragment::Text(b"line"))?;
-    put_cell(out, at, unit, 78, Fragment::Text(b"feature"))?;
-    put_cell(out, at, unit, 184, Fragment::Text(b"touched at, mm"))?;
-    at = below(at, unit);
-    let mut shown = 0;
-    for point in points {
-        if shown < MOST_ROWS {
-            shown += 1;
-            at = put_point(out, at, unit, features, point)?;
-        }
-    }
+    let at = put_points_head(out, at, unit)?;
+    let at = put_point_rows(out, at, unit, features, first_rows(points))?;
     put_more(out, at, unit, points.len(), b" more points")
 }
 
-// Appends the row of a block with this name as it is written.
-fn put_named(
-    out: &mut Vec<u8>,
-    at: Spot,
-    unit: Unit,
-    number: u64,
-    name: &[u8],
-) -> Result<Spot, NoMemory> {
-    put_cell(out, at, unit, 0, Fragment::Count(number))?;
-    put_cell(out, at, unit, 36, Fragment::Text(name))?;
-    Ok(below(at, unit))
+// Appends the number of a block, if it has a name.
+fn push_named(blocks: &mut Vec<usize>, names: &[Vec<u8>], block: usize) -> Result<(), NoMemory>
+    ensures { OnOk result (blocks.new.items ≡ blocks.old.items ++ number_if block (name_of (map (λ n. n.items) names.now) block)) }
+{
+    if name_of(names, block).is_empty() {
+        return Ok(());
+    }
+    blocks.push(block)?;
+    Ok(())
 }
 
-// Appends the row of a block.
+// The numbers of the blocks that have names.
+fn named_blocks(alloc: Global, names: &[Vec<u8>]) -> Result<Vec<usize>, NoMemory>
+    ensures { IfOk result (λ v. v.items ≡ named_before (map (λ n. n.items) names.now) (length names.now)) }
+{
+    let mut blocks = Vec::new(alloc);
+    for index in 0..names.len() {
+        push_named(&mut blocks, names, index + 1)?;
+    }
+    Ok(blocks)
+}
+
+// Appends the row of a block with this name, and gives the place below it.
 fn put_block(
     alloc: Global,
     out: &mut Vec<u8>,
     at: Spot,
     unit: Unit,
-    number: u64,
-    name: &[u8],
-) -> Result<Spot, NoMemory> {
-    let mut shown = Vec::new(alloc);
-    put_name(&mut shown, name)?;
-    put_named(out, at, unit, number, shown.as_slice())
+    names: &[Vec<u8>],
+    block: usize,
+) -> Result<Spot, NoMemory>
+    ensures { IfOk result (λ next. Adds (block_row (map (λ n. n.items) names.now) block) out.old.items out.new.items) }
+{
+    let name = written(alloc, name_of(names, block))?;
+    put_cell(out, at, unit, 0, Fragment::Count(block as u64))?;
+    put_cell(out, at, unit, 36, Fragment::Text(name.as_slice()))?;
+    Ok(below(at, unit))
 }
 
-// Whether a name is one.
-fn is_one(name: &Vec<u8>) -> bool {
-    !name.is_empty()
+// Appends the head of the table of blocks, and gives the place below it.
+fn put_blocks_head(out: &mut Vec<u8>, at: Spot, unit: Unit) -> Result<Spot, NoMemory>
+    ensures { IfOk result (λ next. Adds blocks_head out.old.items out.new.items) }
+{
+    let at = moved(at, 0, units(8, unit));
+    put_cell(out, at, unit, 0, Fragment::Text(b"block"))?;
+    put_cell(out, at, unit, 36, Fragment::Text(b"name"))?;
+    Ok(below(at, unit))
+}
+
+// Appends the rows of blocks, and gives the place below them.
+fn put_block_rows(
+    alloc: Global,
+    out: &mut Vec<u8>,
+    at: Spot,
+    unit: Unit,
+    names: &[Vec<u8>],
+    blocks: &[usize],
+) -> Result<Spot, NoMemory>
+    ensures { IfOk result (λ next. Adds (flat_map (block_row (map (λ n. n.items) names.now)) blocks.now) out.old.items out.new.items) }
+{
+    let mut at = at;
+    for block in blocks {
+        at = put_block(alloc, out, at, unit, names, *block)?;
+    }
+    Ok(at)
+}
+
+// Appends the table of these blocks, if there are any, and gives the place below it.
+fn put_table(
+    alloc: Global,
+    out: &mut Vec<u8>,
+    at: Spot,
+    unit: Unit,
+    names: &[Vec<u8>],
+    blocks: &[usize],
+) -> Result<Spot, NoMemory>
+    ensures { IfOk result (λ next. Adds (table_of (map (λ n. n.items) names.now) blocks.now) out.old.items out.new.items) }
+{
+    if blocks.is_empty() {
+        return Ok(at);
+    }
+    let at = put_blocks_head(out, at, unit)?;
+    let at = put_block_rows(alloc, out, at, unit, names, first_rows(blocks))?;
+    put_more(out, at, unit, blocks.len(), b" more blocks")
 }
 
 /// Appends the table of the blocks that have names, if there are any, and gives the place below it.
@@ -287,23 +378,9 @@ pub(crate) fn put_blocks(
     at: Spot,
     unit: Unit,
     names: &[Vec<u8>],
-) -> Result<Spot, NoMemory> {
-    let all = names.iter().filter(|name| is_one(name)).count();
-    if all == 0 {
-        return Ok(at);
-    }
-    let mut at = moved(at, 0, units(8, unit));
-    put_cell(out, at, unit, 0, Fragment::Text(b"block"))?;
-    put_cell(out, at, unit, 36, Fragment::Text(b"name"))?;
-    at = below(at, unit);
-    let mut number = 0u64;
-    let mut shown = 0usize;
-    for name in names {
-        number = number.saturating_add(1);
-        if is_one(name) && shown < MOST_ROWS {
-            shown += 1;
-            at = put_block(alloc, out, at, unit, number, name)?;
-        }
-    }
-    put_more(out, at, unit, all, b" more blocks")
+) -> Result<Spot, NoMemory>
+    ensures { IfOk result (λ next. Adds (blocks_table (map (λ n. n.items) names.now)) out.old.items out.new.items) }
+{
+    let blocks = named_blocks(alloc, names)?;
+    put_table(alloc, out, at, unit, names, blocks.as_slice())
 }

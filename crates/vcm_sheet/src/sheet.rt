@@ -1,47 +1,38 @@
 //! The whole sheet.
 
+ghost use Rattle.std.specs.Prelude.{◌≡◌, ◌++◌, ◌∷◌, [], flat_map, IfOk, OnOk};
+ghost use Rattle.vcm_picture.specs.Marks.{contact_of};
+ghost use Rattle.vcm_picture.specs.View.{scope_of};
+ghost use Rattle.vcm_picture.specs.declared.view.View.TheVariants.{Top, Front, Side};
+ghost use Rattle.vcm_sheet.specs.Content.{filing, shown_in, title_said, used_of, tables, bar_said, whole, content};
 ghost use Rattle.vcm_sheet.specs.Filed.{IsFiled};
+ghost use Rattle.vcm_sheet.specs.Sayings.{Adds, Says};
+ghost use Rattle.vcm_sheet.specs.Views.{drawn_at, number_said, missing_line, view_said};
 
 use crate::frames::{AxisTicks, has_origin, put_axes, put_ticks, put_words, ticks_in};
-use crate::heading::{Told, put_heading};
+use crate::heading::put_heading;
 use crate::legend::{NONE, Used, used_in};
-use crate::lines::{Lines, marks_on};
+use crate::lines::marks_on;
+use crate::names::put_name;
 use crate::numbers::Numbered;
 use crate::places::{corner, moved, units};
 use crate::points::{Pointed, all_points, points_on};
-use crate::rows::{put_blocks, put_name, put_points, put_signs};
+use crate::rows::{put_blocks, put_points, put_signs};
+use crate::subject::Sheet;
 use crate::views::{Drawing, drawing_of};
 use std::alloc::Global;
 use std::io::Write;
 use vcm_items::Name;
 use vcm_marks::PlacedMark;
 use vcm_num::{NoMemory, write_all};
-use vcm_part::PartData;
 use vcm_picture::{
     PictureFault, Scope, View, Window, are_few, begin_view, contact_of, first_line, put_clips,
     put_shapes, scope_of, window_shown,
 };
-use vcm_state::World;
 use vcm_svg::{
     BoundedSpot, Class, Fragment, Lettering, Outline, Placement, Spot, Unit, put, put_bar,
     put_path, put_style, put_text, quotient,
 };
-
-/// What a sheet shows: a workpiece, with the names of its blocks; the state at the end of a run of so many steps; the marks of its way, before which so
-/// many pieces are left out; and of these what comes from some source lines. It names the files of the program and of the part.
-#[derive(Clone, Copy)]
-pub struct Sheet<'a> {
-    pub part: &'a PartData,
-    pub world: &'a World,
-    pub done: u64,
-    pub marks: &'a [PlacedMark],
-    pub left_out: u64,
-    pub is_close: bool,
-    pub lines: Lines,
-    pub program_name: &'a [u8],
-    pub part_name: &'a [u8],
-    pub block_names: &'a [Vec<u8>],
-}
 
 /// The views, in the order in which they are drawn.
 const VIEWS: [View; 3] = [View::Top, View::Front, View::Side];
@@ -73,7 +64,9 @@ fn drawn(
     sheet: &Sheet<'_>,
     marks: &[PlacedMark],
     points: &[Pointed],
-) -> Result<Drawing, NoMemory> {
+) -> Result<Drawing, NoMemory>
+    ensures { IfOk result (λ d. shown_in d ≡ drawn_at (scope_of window view) sheet.now.part.now sheet.now.world.now marks.now points.now) }
+{
     let scope = scope_of(window, view);
     drawing_of(alloc, scope, sheet.part, sheet.world, marks, points)
 }
@@ -85,7 +78,11 @@ fn drawings_of(
     sheet: &Sheet<'_>,
     marks: &[PlacedMark],
     points: &[Pointed],
-) -> Result<Drawings, NoMemory> {
+) -> Result<Drawings, NoMemory>
+    ensures top { IfOk result (λ d. shown_in d.top ≡ drawn_at (scope_of window Top) sheet.now.part.now sheet.now.world.now marks.now points.now) }
+    ensures front { IfOk result (λ d. shown_in d.front ≡ drawn_at (scope_of window Front) sheet.now.part.now sheet.now.world.now marks.now points.now) }
+    ensures side { IfOk result (λ d. shown_in d.side ≡ drawn_at (scope_of window Side) sheet.now.part.now sheet.now.world.now marks.now points.now) }
+{
     let top = drawn(alloc, window, View::Top, sheet, marks, points)?;
     let front = drawn(alloc, window, View::Front, sheet, marks, points)?;
     let side = drawn(alloc, window, View::Side, sheet, marks, points)?;
@@ -93,7 +90,9 @@ fn drawings_of(
 }
 
 // Which marks stand in the three views.
-fn used_of(window: Window, drawings: &Drawings) -> Used {
+fn used_of(window: Window, drawings: &Drawings) -> Used
+    ensures { result ≡ used_of window (shown_in drawings.now.top) (shown_in drawings.now.front) (shown_in drawings.now.side) }
+{
     let top = scope_of(window, View::Top);
     let front = scope_of(window, View::Front);
     let side = scope_of(window, View::Side);
@@ -137,14 +136,38 @@ fn places_of(window: Window, tables: Spot, below: Spot) -> Places {
     }
 }
 
+// Appends the number of a point in its box.
+fn put_number(out: &mut Vec<u8>, unit: Unit, number: &Numbered) -> Result<(), NoMemory>
+    ensures { OnOk result (Adds (number_said unit number.now) out.old.items out.new.items) }
+{
+    let at = number.area.first_letter(unit.times(8));
+    put_words(
+        out,
+        b" class=\"p c\"",
+        unit,
+        at,
+        &[Fragment::Number(number.point.number)],
+    )
+}
+
 // Appends the numbers of points, each in its box.
-fn put_numbers(out: &mut Vec<u8>, unit: Unit, numbers: &[Numbered]) -> Result<(), NoMemory> {
+fn put_numbers(out: &mut Vec<u8>, unit: Unit, numbers: &[Numbered]) -> Result<(), NoMemory>
+    ensures { OnOk result (Adds (flat_map (number_said unit) numbers.now) out.old.items out.new.items) }
+{
     for number in numbers {
-        let at = number.area.first_letter(unit.times(8));
-        let words = Fragment::Number(number.point.number);
-        put_words(out, b"p c", unit, at, words)?;
+        put_number(out, unit, number)?;
     }
     Ok(())
+}
+
+// Where the words are that say how many numbers found no room in a view.
+fn missing_label(scope: Scope, at: Spot) -> Placement {
+    let unit = scope.unit();
+    Placement {
+        at: moved(at, units(200, unit), units(-6, unit)),
+        size: unit.get(),
+        class: Lettering::Plain,
+    }
 }
 
 // Appends how many numbers found no room in a view, if there are any.
@@ -154,19 +177,16 @@ fn put_missing(
     at: Spot,
     points: usize,
     numbers: usize,
-) -> Result<(), NoMemory> {
+) -> Result<(), NoMemory>
+    ensures { OnOk result (Adds (missing_line points numbers) out.old.items out.new.items) }
+{
     let missing = points.saturating_sub(numbers);
     if missing == 0 {
         return Ok(());
     }
-    let label = Placement {
-        at: moved(at, units(200, scope.unit()), units(-6, scope.unit())),
-        size: scope.unit().get(),
-        class: Lettering::Plain,
-    };
     put_text(
         out,
-        label,
+        missing_label(scope, at),
         &[
             Fragment::Count(missing as u64),
             Fragment::Text(b" numbers have no room here"),
@@ -184,12 +204,15 @@ fn put_drawing(
     features: &[Name],
     stopped: &[u8],
     points: usize,
-) -> Result<(), NoMemory> {
-    put_missing(out, scope, at.spot(), points, drawing.numbers.len())?;
+) -> Result<(), NoMemory>
+    ensures { OnOk result (Adds (view_said features.now stopped.now scope ticks.now (shown_in drawing.now) points) out.old.items out.new.items) }
+{
+    let numbers = drawing.numbers.as_slice();
+    put_missing(out, scope, at.spot(), points, numbers.len())?;
     begin_view(out, scope, at)?;
     put_axes(out, scope, ticks)?;
     put_shapes(out, features, stopped, drawing.shapes.as_slice())?;
-    put_numbers(out, scope.unit(), drawing.numbers.as_slice())?;
+    put_numbers(out, scope.unit(), numbers)?;
     put(out, &[Fragment::Text(b"</g>\n")])?;
     put_ticks(out, scope, at.spot(), ticks)
 }
@@ -204,7 +227,11 @@ fn put_drawings(
     features: &[Name],
     stopped: &[u8],
     points: usize,
-) -> Result<(), NoMemory> {
+) -> Result<(), NoMemory>
+    ensures { OnOk result (Adds (view_said features.now stopped.now (scope_of window Top) ticks.now (shown_in drawings.now.top) points
+        ++ (view_said features.now stopped.now (scope_of window Front) ticks.now (shown_in drawings.now.front) points
+        ++ view_said features.now stopped.now (scope_of window Side) ticks.now (shown_in drawings.now.side) points)) out.old.items out.new.items) }
+{
     let top = scope_of(window, View::Top);
     let front = scope_of(window, View::Front);
     let side = scope_of(window, View::Side);
@@ -250,21 +277,19 @@ fn put_tables(
     ticks: &AxisTicks,
     sheet: &Sheet<'_>,
     points: &[Pointed],
-) -> Result<Spot, NoMemory> {
+) -> Result<Spot, NoMemory>
+    ensures { IfOk result (λ next. Adds (tables (filing sheet.now) used ticks.now points.now) out.old.items out.new.items) }
+{
     let features = sheet.world.tables().features();
     let at = put_signs(out, at, unit, used, has_origin(ticks))?;
     let at = put_points(out, at, unit, features, points)?;
     put_blocks(alloc, out, at, unit, sheet.block_names)
 }
 
-// Appends the head: the size of the sheet, and its title.
-fn put_head(
-    out: &mut Vec<u8>,
-    unit: Unit,
-    places: &Places,
-    sheet: &Sheet<'_>,
-    first: &[u8],
-) -> Result<(), NoMemory> {
+// Appends the beginning of the sheet, with its size.
+fn put_size(out: &mut Vec<u8>, unit: Unit, places: &Places) -> Result<(), NoMemory>
+    ensures { OnOk result (Adds [] out.old.items out.new.items) }
+{
     put(
         out,
         &[
@@ -276,22 +301,39 @@ fn put_head(
             Fragment::Number(quotient(places.wide, unit.get())),
             Fragment::Text(b"\" height=\""),
             Fragment::Number(quotient(places.high, unit.get())),
-            Fragment::Text(b"\">\n<title>"),
-        ],
-    )?;
-    put_name(out, sheet.program_name)?;
-    put(
-        out,
-        &[
-            Fragment::Text(b": "),
-            Fragment::Text(first),
-            Fragment::Text(b"</title>\n"),
+            Fragment::Text(b"\">\n"),
         ],
     )
 }
 
+// Appends the title: the file of the program, and the first line of the heading.
+fn put_title(out: &mut Vec<u8>, sheet: &Sheet<'_>, first: &[u8]) -> Result<(), NoMemory>
+    ensures { OnOk result (Adds (title_said (filing sheet.now) first.now ∷ []) out.old.items out.new.items) }
+{
+    put(out, &[Fragment::Text(b"<title>")])?;
+    put_name(out, sheet.program_name)?;
+    put(out, &[Fragment::Text(b": "), Fragment::Text(first)])?;
+    put(out, &[Fragment::Text(b"</title>\n")])
+}
+
+// Appends the head: the size of the sheet, and its title.
+fn put_head(
+    out: &mut Vec<u8>,
+    unit: Unit,
+    places: &Places,
+    sheet: &Sheet<'_>,
+    first: &[u8],
+) -> Result<(), NoMemory>
+    ensures { OnOk result (Adds (title_said (filing sheet.now) first.now ∷ []) out.old.items out.new.items) }
+{
+    put_size(out, unit, places)?;
+    put_title(out, sheet, first)
+}
+
 // Appends what the style of a sheet has beside that of a picture.
-fn put_sheet_style(out: &mut Vec<u8>, unit: Unit) -> Result<(), NoMemory> {
+fn put_sheet_style(out: &mut Vec<u8>, unit: Unit) -> Result<(), NoMemory>
+    ensures { OnOk result (Adds [] out.old.items out.new.items) }
+{
     put(
         out,
         &[
@@ -310,6 +352,11 @@ fn put_sheet_style(out: &mut Vec<u8>, unit: Unit) -> Result<(), NoMemory> {
     )
 }
 
+// The background of a sheet.
+fn ground_of(places: &Places) -> Outline {
+    Outline::Rectangle(Spot { x: 0, y: 0 }, places.wide, places.high)
+}
+
 // Appends the style, the clip paths and the background.
 fn put_ground(
     out: &mut Vec<u8>,
@@ -317,35 +364,23 @@ fn put_ground(
     places: &Places,
     blocks: usize,
     marks: &[PlacedMark],
-) -> Result<(), NoMemory> {
+) -> Result<(), NoMemory>
+    ensures { OnOk result (Adds [] out.old.items out.new.items) }
+{
     put_style(out, window.unit(), blocks, are_few(marks))?;
     put_sheet_style(out, window.unit())?;
     put_clips(out, &VIEWS, window)?;
-    let ground = Outline::Rectangle(Spot { x: 0, y: 0 }, places.wide, places.high);
-    put_path(out, Class::Sheet, ground)
+    put_path(out, Class::Sheet, ground_of(places))
 }
 
 // Appends the bar that shows a length, and ends the sheet.
-fn put_foot(out: &mut Vec<u8>, window: Window, places: &Places) -> Result<(), NoMemory> {
+fn put_foot(out: &mut Vec<u8>, window: Window, places: &Places) -> Result<(), NoMemory>
+    ensures { OnOk result (Adds (bar_said window) out.old.items out.new.items) }
+{
     let scope = scope_of(window, View::Top);
     let wide = scope.wide().get();
     put_bar(out, places.bar, window.unit(), window.grain(), wide)?;
     put(out, &[Fragment::Text(b"</svg>\n")])
-}
-
-// What the heading tells.
-fn told_of<'a>(sheet: &Sheet<'a>, marks: &[PlacedMark]) -> Told<'a> {
-    Told {
-        program_name: sheet.program_name,
-        part_name: sheet.part_name,
-        block_names: sheet.block_names,
-        tip: sheet.part.bounds().tip,
-        lines: sheet.lines,
-        position: sheet.world.position(),
-        done: sheet.done,
-        left_out: sheet.left_out,
-        contact: contact_of(marks),
-    }
 }
 
 // Puts a sheet together of its views, its heading, which ends so many units below the upper edge, and its points.
@@ -357,11 +392,13 @@ fn put_whole(
     marks: &[PlacedMark],
     points: &[Pointed],
     first: &[u8],
-) -> Result<Vec<u8>, NoMemory> {
+) -> Result<Vec<u8>, NoMemory>
+    ensures { IfOk result (λ v. Says (whole (filing sheet.now) first.now window (shown_in drawings.now.top) (shown_in drawings.now.front) (shown_in drawings.now.side) (contact_of marks.now) points.now) v.items) }
+{
     let unit = window.unit();
     let ticks = ticks_in(alloc, window)?;
     let mut heading = Vec::new(alloc);
-    let down = put_heading(alloc, &mut heading, unit, first, told_of(sheet, marks))?;
+    let down = put_heading(alloc, &mut heading, unit, first, sheet, contact_of(marks))?;
     let mut tables = Vec::new(alloc);
     let place = tables_place(window, down);
     let used = used_of(window, drawings);
@@ -388,25 +425,23 @@ fn put_whole(
 }
 
 // The bytes of a sheet.
-fn sheet_bytes(alloc: Global, sheet: &Sheet<'_>) -> Result<Vec<u8>, NoMemory> {
-    let marks = marks_on(alloc, sheet.lines, sheet.marks)?;
-    let points = points_on(all_points(alloc, sheet.marks)?, sheet.lines);
+fn sheet_bytes(alloc: Global, sheet: &Sheet<'_>) -> Result<Vec<u8>, NoMemory>
+    ensures { IfOk result (λ v. Says (content (filing sheet.now)) v.items) }
+{
+    let shown = marks_on(alloc, sheet.lines, sheet.marks)?;
+    let marks = shown.as_slice();
+    let numbered = points_on(all_points(alloc, sheet.marks)?, sheet.lines);
+    let points = numbered.as_slice();
     let world = sheet.world;
-    let window = window_shown(sheet.part, world, marks.as_slice(), sheet.is_close);
-    let drawings = drawings_of(alloc, window, sheet, marks.as_slice(), points.as_slice())?;
-    let first = first_line(alloc, world.tables(), world.stop(), sheet.done)?;
-    put_whole(
-        alloc,
-        sheet,
-        window,
-        &drawings,
-        marks.as_slice(),
-        points.as_slice(),
-        first.as_slice(),
-    )
+    let window = window_shown(sheet.part, world, marks, sheet.is_close);
+    let drawings = drawings_of(alloc, window, sheet, marks, points)?;
+    let line = first_line(alloc, world.tables(), world.stop(), sheet.done)?;
+    let first = line.as_slice();
+    put_whole(alloc, sheet, window, &drawings, marks, points, first)
 }
 
-/// Writes a sheet as SVG.
+/// Writes a sheet as SVG. It says what `content` in `specs/Content.antt` says of what is filed: the stop, the files, the touched points with their numbers, the
+/// tables and the ticks.
 ///
 /// # Errors
 ///
@@ -417,7 +452,7 @@ pub fn write_sheet<W: Write>(
     sheet: &Sheet<'_>,
     writer: &mut W,
 ) -> Result<(), PictureFault>
-    ensures { IsFiled (W.contents writer.old) (W.contents writer.new) result }
+    ensures { IsFiled (content (filing sheet.now)) (W.contents writer.old) (W.contents writer.new) result }
 {
     let Ok(bytes) = sheet_bytes(alloc, sheet) else {
         return Err(PictureFault::NoMemory);

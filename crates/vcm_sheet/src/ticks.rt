@@ -1,8 +1,8 @@
 //! Where the ticks at the frames of views stand.
 
-ghost use Rattle.std.specs.Prelude.{◌≡◌, ◌++◌, true, IfOk, OnOk};
+ghost use Rattle.std.specs.Prelude.{◌≡◌, ◌++◌, ◌<◌, true, IfOk, OnOk};
 ghost use Rattle.std.specs.List.{AllByRecursion};
-ghost use Rattle.vcm_sheet.specs.Ticks.{is_tick, tick_at, IsStep};
+ghost use Rattle.vcm_sheet.specs.Ticks.{is_tick, tick_at, first_from, tick_step, first_multiple, multiple_after, ticks_of, IsStep};
 
 use std::alloc::Global;
 use vcm_num::NoMemory;
@@ -18,7 +18,9 @@ const STEPS: [i64; 24] = [
 ];
 
 // The first of some distances that is at least so great, or else the last distance.
-fn first_from(least: i64, steps: &[i64]) -> i64 {
+fn first_from(least: i64, steps: &[i64]) -> i64
+    ensures { result ≡ first_from least steps.now }
+{
     for step in steps {
         if least <= *step {
             return *step;
@@ -29,7 +31,8 @@ fn first_from(least: i64, steps: &[i64]) -> i64 {
 
 /// The distance of ticks that are at least so far apart, in micrometres: 50, 100, 200, 500 and so on.
 pub(crate) fn tick_step(least: i64) -> i64
-    ensures { IsStep result }
+    ensures step { result ≡ tick_step least }
+    ensures range { IsStep result }
 {
     first_from(least, &STEPS).max(1)
 }
@@ -61,6 +64,23 @@ fn push_tick(ticks: &mut Vec<i64>, ruler: Ruler, at: i64) -> Result<(), NoMemory
     Ok(())
 }
 
+// The multiple of the step at the low number or next below it.
+fn first_multiple(ruler: Ruler) -> i64
+    requires { IsStep ruler.step }
+    ensures { result ≡ first_multiple ruler }
+{
+    ruler.low.saturating_sub(ruler.low.rem_euclid(ruler.step))
+}
+
+// The multiple that is so many steps further.
+fn multiple_after(ruler: Ruler, turn: usize) -> i64
+    requires step { IsStep ruler.step }
+    requires turn { turn < 64 }
+    ensures { result ≡ multiple_after ruler turn }
+{
+    first_multiple(ruler).saturating_add(ruler.step.saturating_mul(turn as i64))
+}
+
 /// The multiples of a step from one number to another one, in micrometres, 64 at most: where the ticks of an axis stand.
 ///
 /// # Errors
@@ -68,13 +88,12 @@ fn push_tick(ticks: &mut Vec<i64>, ruler: Ruler, at: i64) -> Result<(), NoMemory
 /// Out of memory.
 pub(crate) fn ticks_of(alloc: Global, ruler: Ruler) -> Result<Vec<i64>, NoMemory>
     requires { IsStep ruler.step }
-    ensures { IfOk result (λ v. AllByRecursion (λ z. is_tick ruler z ≡ true) v.items) }
+    ensures ticks { IfOk result (λ v. v.items ≡ ticks_of ruler) }
+    ensures all { IfOk result (λ v. AllByRecursion (λ z. is_tick ruler z ≡ true) v.items) }
 {
     let mut ticks = Vec::new(alloc);
-    let first = ruler.low.saturating_sub(ruler.low.rem_euclid(ruler.step));
     for turn in 0..MOST_TICKS {
-        let at = first.saturating_add(ruler.step.saturating_mul(turn as i64));
-        push_tick(&mut ticks, ruler, at)?;
+        push_tick(&mut ticks, ruler, multiple_after(ruler, turn))?;
     }
     Ok(ticks)
 }

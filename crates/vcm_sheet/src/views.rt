@@ -1,8 +1,10 @@
 //! The views of a sheet: the shapes of a picture without the names of features, and the numbers of points.
 
-ghost use Rattle.std.specs.Prelude.{◌≡◌, [], IfOk};
+ghost use Rattle.std.specs.Prelude.{◌≡◌, ◌++◌, [], pos, length, decimal, option_to_list, IfOk, OnOk};
 ghost use Rattle.vcm_picture.specs.Drawing.{scene, scene_shapes};
-ghost use Rattle.vcm_sheet.specs.Views.{is_feature, is_name, without_names};
+ghost use Rattle.vcm_picture.specs.Ranges.{IsLetters};
+ghost use Rattle.vcm_sheet.specs.Content.{shown_in};
+ghost use Rattle.vcm_sheet.specs.Views.{is_feature, is_name, without_names, letters_in, text_box, circle_box, point_box, box_of, boxes_of, drawn_at};
 
 use crate::numbers::{Numbered, numbers_of};
 use crate::points::Pointed;
@@ -54,16 +56,21 @@ fn without_names(mut shapes: Vec<Shape>) -> Vec<Shape>
     shapes
 }
 
-// How many letters a number has.
-fn letters_in(number: u32) -> i64 {
+// How many digits a number has.
+fn digits_in(number: u32) -> i64
+    ensures digits { result ≡ pos (length (decimal number)) }
+    ensures few { IsLetters result }
+{
     int_text(i64::from(number)).as_slice().len() as i64
 }
 
 // How many letters words have.
-fn letters_of(words: Words) -> i64 {
+fn letters_in(words: Words) -> i64
+    ensures { result ≡ letters_in words }
+{
     match words {
-        Words::Number(number) => letters_in(number),
-        Words::Block(number) => letters_in(number).saturating_add(6),
+        Words::Number(number) => digits_in(number),
+        Words::Block(number) => digits_in(number) + 6,
         Words::End => 3,
         Words::Home => 4,
         Words::Feature(_) => 0,
@@ -71,10 +78,12 @@ fn letters_of(words: Words) -> i64 {
 }
 
 // The box of a text.
-fn text_box(label: Placement, words: Words) -> Rect {
+fn text_box(label: Placement, words: Words) -> Rect
+    ensures { result ≡ text_box label words }
+{
     let wide = label
         .size
-        .saturating_mul(letters_of(words).saturating_mul(6));
+        .saturating_mul(letters_in(words).saturating_mul(6));
     Rect {
         left: label.at.x,
         top: label.at.y.saturating_sub(label.size.saturating_mul(8)),
@@ -84,7 +93,9 @@ fn text_box(label: Placement, words: Words) -> Rect {
 }
 
 // The box of a touched point.
-fn point_box(tip: Tip, outline: Outline) -> Option<Rect> {
+fn point_box(tip: Tip, outline: Outline) -> Option<Rect>
+    ensures { result ≡ point_box tip outline }
+{
     match tip {
         Tip::Touched(_, _) => circle_box(outline),
         _ => None,
@@ -92,7 +103,9 @@ fn point_box(tip: Tip, outline: Outline) -> Option<Rect> {
 }
 
 // The box of a circle.
-fn circle_box(outline: Outline) -> Option<Rect> {
+fn circle_box(outline: Outline) -> Option<Rect>
+    ensures { result ≡ circle_box outline }
+{
     match outline {
         Outline::Circle(at, radius, wide) => Some(Rect {
             left: at.x,
@@ -105,7 +118,9 @@ fn circle_box(outline: Outline) -> Option<Rect> {
 }
 
 // The box of a shape beside which numbers stand, if it is a text or a touched point.
-fn box_of(shape: &Shape) -> Option<Rect> {
+fn box_of(shape: &Shape) -> Option<Rect>
+    ensures { result ≡ box_of shape.now }
+{
     match shape {
         Shape::Text(label, words) => Some(text_box(*label, *words)),
         Shape::Told(_, outline, tip) => point_box(*tip, *outline),
@@ -113,13 +128,26 @@ fn box_of(shape: &Shape) -> Option<Rect> {
     }
 }
 
+// Appends a box, if there is one.
+fn push_box(boxes: &mut Vec<Rect>, area: Option<Rect>) -> Result<(), NoMemory>
+    ensures { OnOk result (boxes.new.items ≡ boxes.old.items ++ option_to_list area) }
+{
+    match area {
+        Some(area) => {
+            boxes.push(area)?;
+            Ok(())
+        }
+        None => Ok(()),
+    }
+}
+
 // The boxes beside which numbers stand.
-fn boxes_of(alloc: Global, shapes: &[Shape]) -> Result<Vec<Rect>, NoMemory> {
+fn boxes_of(alloc: Global, shapes: &[Shape]) -> Result<Vec<Rect>, NoMemory>
+    ensures { IfOk result (λ v. v.items ≡ boxes_of shapes.now) }
+{
     let mut boxes = Vec::new(alloc);
     for shape in shapes {
-        if let Some(area) = box_of(shape) {
-            boxes.push(area)?;
-        }
+        push_box(&mut boxes, box_of(shape))?;
     }
     Ok(boxes)
 }
@@ -129,6 +157,7 @@ fn boxes_of(alloc: Global, shapes: &[Shape]) -> Result<Vec<Rect>, NoMemory> {
 /// # Errors
 ///
 /// Out of memory.
+#[tactic(auto, unfolding(crate::specs::Views::drawn_at))]
 pub(crate) fn drawing_of(
     alloc: Global,
     scope: Scope,
@@ -139,6 +168,7 @@ pub(crate) fn drawing_of(
 ) -> Result<Drawing, NoMemory>
     ensures scope { IfOk result (λ d. d.scope ≡ scope) }
     ensures shapes { IfOk result (λ d. d.shapes.items ≡ without_names (scene_shapes scope (scene part.now world.now []) marks.now)) }
+    ensures drawn { IfOk result (λ d. shown_in d ≡ drawn_at scope part.now world.now marks.now points.now) }
 {
     let all = scene_shapes(alloc, scope, part, world, marks)?;
     let shapes = without_names(all);

@@ -41,14 +41,14 @@ use Rattle.vcm_code.specs.declared.word.Word.TheVariants as words
 use Rattle.vcm_code.specs.Code.{Op, CodeStatement}
 use Rattle.vcm_code.specs.CodeTable.{CodeState, code_step}
 use Rattle.vcm_code.specs.Ranges.{AllAreNames, IsInRange}
-use Rattle.vcm_code.specs.Words.{word_of}
+use Rattle.vcm_code.specs.Words.{word_of, word_text}
 use Rattle.vcm_items.specs.Names.{AreNamed}
 use Rattle.vcm_marks.specs.declared.mark.Going.{Going}
 use Rattle.vcm_marks.specs.declared.mark.Going.TheVariants as going
 use Rattle.vcm_marks.specs.declared.mark.Mark.{Mark}
 use Rattle.vcm_marks.specs.declared.mark.Mark.TheVariants as marks
 use Rattle.vcm_marks.specs.declared.mark.Leg.{Leg}
-use Rattle.vcm_words.specs.Operands.{axis_text, setting_text, word_text}
+use Rattle.vcm_words.specs.Operands.{axis_text, setting_text}
 use Rattle.vcm_words.specs.Rows.{kind_text}
 use Rattle.vcm_report.specs.Printed.{in_a_row, name_at, phase_text, missing_text, stop_text, has_place, place_text, stopped_line, point_text}
 use Rattle.vcm_steps.specs.Passages.{Passage, passage_at, passage_from, passages, setup_with, state_after, steps_taken}

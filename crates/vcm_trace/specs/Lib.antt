@@ -3,4 +3,5 @@ pub mod Rows
 pub mod Traces
 pub mod Points
 pub mod Samples
+pub mod PointSamples
 pub mod inner

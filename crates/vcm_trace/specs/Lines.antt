@@ -15,8 +15,8 @@ use Rattle.vcm_spec.specs.declared.simple.Simple.TheVariants.{Goto, GoHome, Assi
 use Rattle.vcm_code.specs.declared.op.Op.TheVariants.{Plain, If, Else, EndIf, Do, EndDo, Label, JumpTo, Meas, EndMes, Select, Case, EndCas, DftCas, EndSel}
 use Rattle.vcm_code.specs.declared.op.Op.TheVariants.{EndFil}
 use Rattle.vcm_code.specs.Code.{Op, CodeStatement}
-use Rattle.vcm_code.specs.Words.{word_of}
-use Rattle.vcm_words.specs.Operands.{word_text, setting_text}
+use Rattle.vcm_code.specs.Words.{word_of, word_text}
+use Rattle.vcm_words.specs.Operands.{setting_text}
 use Rattle.vcm_report.specs.Printed.{in_a_row, point_text, no_stop_line, name_at, stopped_line}
 use Rattle.vcm_console.specs.Replies.{variable_name, value_text}
 use Rattle.vcm_trace.specs.declared.told.Told.{Told}

@@ -4,7 +4,7 @@ ghost use Rattle.vcm_trace.specs.Traces.{trace_rows};
 ghost use Rattle.vcm_trace.specs.Points.{point_rows};
 
 use crate::lines::{write_open, write_step};
-use crate::points::write_point_row;
+use crate::points::{point_heading, write_point_row};
 use crate::rows::WritesRows;
 use std::io::Write;
 use vcm_fields::BorrowedStatement;
@@ -47,18 +47,17 @@ impl<W: Write> WritesRows<W> for TraceRows {
 }
 
 /// The points that a run measures: a header, and a row for each as it is touched, with its nominal and its actual place and its direction in part
-/// coordinates, in millimetres.
+/// coordinates, in millimetres; where it is wanted, with its place and its direction in machine coordinates too.
 #[derive(Clone, Copy)]
-pub struct PointRows;
+pub struct PointRows {
+    pub is_machine: bool,
+}
 
 impl<W: Write> WritesRows<W> for PointRows {
-    ghost Rows = { λ s. point_rows };
+    ghost Rows = { λ s. point_rows s.is_machine };
 
     fn write_before(&self, writer: &mut W) -> Result<(), WriteFault> {
-        write_all(
-            writer,
-            b"step,line,feature,nx,ny,nz,ax,ay,az,i,j,k,deviation\n",
-        )
+        write_all(writer, point_heading(self.is_machine))
     }
 
     fn write_row(
@@ -70,7 +69,7 @@ impl<W: Write> WritesRows<W> for PointRows {
         _next: u32,
         writer: &mut W,
     ) -> Result<(), WriteFault> {
-        write_point_row(count, statement, world, writer)
+        write_point_row(self.is_machine, count, statement, world, writer)
     }
 
     fn write_open(

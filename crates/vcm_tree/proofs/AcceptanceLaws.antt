@@ -11,7 +11,7 @@ use Rattle.vcm_forms.specs.declared.statement.Statement.{Statement}
 use Rattle.vcm_syntax.proofs.Answering.{statement_once}
 use Rattle.vcm_tree.specs.Statements.{IsSpelled, AreSpelled, BreaksStatements, statement_line}
 use Rattle.vcm_macro.specs.declared.placed.Placed.{Placed}
-use Rattle.vcm_macro.specs.Expansion.{IsExpanded, IsRefused as IsUnexpanded}
+use Rattle.vcm_macro.specs.Expansion.{IsExpanded}
 use Rattle.vcm_macro.proofs.Answered.{either as no_refusal, refusal as one_refused, expansion as one_expanded}
 use Rattle.vcm_tree.specs.Resolving.{BreaksNames, names_line}
 use Rattle.vcm_nodes.specs.Jumps.{labels_of, jumps_of, BreaksJumps, jumps_line}
@@ -21,7 +21,8 @@ use Rattle.vcm_tree.specs.Program.{IsParsed}
 use Rattle.vcm_spec.specs.Program.{Block}
 use Rattle.vcm_program.specs.declared.accepted.Noticed.{Noticed}
 use Rattle.vcm_tree.proofs.OneProgram.{one_writing}
-use Rattle.vcm_tree.specs.Acceptance.{ReadsLines, ReadsStatements, ReadsText, ReadsProgram, IsAccepted, IsRefused, in_lines, in_statements, in_expansion, in_names, in_jumps}
+use Rattle.vcm_tree.specs.Acceptance.{ReadsLines, ReadsAs, ReadsProgram, IsAccepted, IsAcceptedFrom, IsUnread, IsRefused, IsRefusedFrom}
+use Rattle.vcm_tree.specs.Acceptance.{in_lines, in_statements, in_expansion, in_names, in_jumps, unread, in_program}
 
 abbrev stated : ℕ → Form → Statement
 stated n form = record { line = n; form = form }
@@ -45,18 +46,11 @@ one_reading : (text : List ℕ) (ls ms : List Logical) → ReadsLines text ls �
 one_reading text ls ms p q = one_statements (grouped (kept_lines (lines_of text))) ls ms p.lines q.lines
 
 -- and one of those that are read
-one_list : (text : List ℕ) (ls ms : List Logical) (ss ts : List Statement) → ReadsLines text ls → ReadsLines text ms → ReadsStatements ls ss → ReadsStatements ms ts → ss ≡ ts
-one_list text ls ms ss ts p q r s =
-    one_spelling ms ss ts (subst (λ l. AreSpelled l ss) (one_reading text ls ms p q) r.statements) s.statements
+one_list : (text : List ℕ) (ss ts : List Statement) → ReadsAs text ss → ReadsAs text ts → ss ≡ ts
+one_list text ss ts p q =
+    one_spelling q.lines ss ts (subst (λ l. AreSpelled l ss) (one_reading text p.lines q.lines p.read q.read) p.spelled.statements) q.spelled.statements
 
--- the same of all that was read
-one_text : (text : List ℕ) (ls ms : List Logical) (ss ts : List Statement) (all more : List Placed) → ReadsText text ls ss all → ReadsText text ms ts more → ss ≡ ts
-one_text text ls ms ss ts all more p q = one_list text ls ms ss ts p.read q.read p.spelled q.spelled
-
--- and one program that they expand to
-one_expansion : (text : List ℕ) (ls ms : List Logical) (ss ts : List Statement) (all more : List Placed) → ReadsText text ls ss all → ReadsText text ms ts more → all ≡ more
-one_expansion text ls ms ss ts all more p q =
-    one_expanded ts all more (subst (λ l. IsExpanded l all) (one_text text ls ms ss ts all more p q) p.expanded) q.expanded
+-- ---- statements, wherever they come from
 
 abbrev parsed : Block → Tables → List Noticed → Parsed
 parsed b ts ns = record { program = b; tables = ts; notices = ns }
@@ -69,84 +63,78 @@ one_parsed ss all p q a b =
     ap (λ x. parsed x p.tables p.notices) program ∙ ap (λ x. parsed q.program x p.notices) (a.tables ∙ sym b.tables) ∙ ap (parsed q.program q.tables) (a.notices ∙ sym b.notices) in
     e
 
--- the same of all that was read
-one_read : (text : List ℕ) (ls ms : List Logical) (ss ts : List Statement) (all more : List Placed) (p q : Parsed) → ReadsText text ls ss all → ReadsText text ms ts more
-    → ReadsProgram ss all p → ReadsProgram ts more q → p ≡ q
-one_read text ls ms ss ts all more p q r s a b =
-    one_parsed ts more p q
-    (subst (λ l. IsParsed ts l p) (one_expansion text ls ms ss ts all more r s) (subst (λ l. IsParsed l all p) (one_text text ls ms ss ts all more r s) a.is)) b.is
+-- the same of what they expand to
+one_read : (ss : List Statement) (all more : List Placed) (p q : Parsed) → IsExpanded ss all → IsExpanded ss more → ReadsProgram ss all p → ReadsProgram ss more q → p ≡ q
+one_read ss all more p q x y a b = one_parsed ss more p q (subst (λ l. IsParsed ss l p) (one_expanded ss all more x y) a.is) b.is
+
+pub one_from : (ss : List Statement) (p q : Parsed) → IsAcceptedFrom ss p → IsAcceptedFrom ss q → p ≡ q
+one_from ss p q a b = one_read ss a.expanded b.expanded p q a.is_expanded b.is_expanded a.program b.program
+
+-- statements that expand to some whose names break no rule aren't refused for those
+not_names : (ss : List Statement) (all more : List Placed) (p : Parsed) (f : SourceFault) → IsExpanded ss all → ReadsProgram ss all p → IsExpanded ss more
+    → FirstFault BreaksNames names_line more f.code f.line
+    → ⊥
+not_names ss all more p f x program y fault =
+    clean_or_fault BreaksNames names_line all f.code f.line program.clean
+    (subst (λ l. FirstFault BreaksNames names_line l f.code f.line) (one_expanded ss more all y x) fault)
+
+abbrev JumpsFault : Parsed → SourceFault → Type 0
+JumpsFault p f = FirstFault (BreaksJumps (labels_of p.program)) jumps_line (jumps_of p.program) f.code f.line
+
+pub not_refused_from : (ss : List Statement) (p : Parsed) (f : SourceFault) → IsAcceptedFrom ss p → IsRefusedFrom ss f → ⊥
+not_refused_from ss p f a (in_expansion fault) = no_refusal ss a.expanded f a.is_expanded fault
+not_refused_from ss p f a (in_names all x fault) = not_names ss a.expanded all p f a.is_expanded a.program x fault
+not_refused_from ss p f a (in_jumps all q x program fault) =
+    clean_or_fault (BreaksJumps (labels_of p.program)) jumps_line (jumps_of p.program) f.code f.line a.jumps
+    (subst (λ z. JumpsFault z f) (one_read ss all a.expanded q p x a.is_expanded program a.program) fault)
+
+pub one_refusal_from : (ss : List Statement) (f g : SourceFault) → IsRefusedFrom ss f → IsRefusedFrom ss g → f.line ≡ g.line
+one_refusal_from ss f g (in_expansion p) (in_expansion q) = ap (λ (x : SourceFault). x.line) (one_refused ss f g p q)
+one_refusal_from ss f g (in_expansion p) (in_names more y q) = absurd (no_refusal ss more f y p)
+one_refusal_from ss f g (in_expansion p) (in_jumps more b y program q) = absurd (no_refusal ss more f y p)
+one_refusal_from ss f g (in_names all x p) (in_expansion q) = absurd (no_refusal ss all g x q)
+one_refusal_from ss f g (in_names all x p) (in_names more y q) =
+    one_line BreaksNames names_line more f.code g.code f.line g.line
+    (subst (λ l. FirstFault BreaksNames names_line l f.code f.line) (one_expanded ss all more x y) p) q
+one_refusal_from ss f g (in_names all x p) (in_jumps more b y program q) = absurd (not_names ss more all b f y program x p)
+one_refusal_from ss f g (in_jumps all a x program p) (in_expansion q) = absurd (no_refusal ss all g x q)
+one_refusal_from ss f g (in_jumps all a x program p) (in_names more y q) = absurd (not_names ss all more a g x program y q)
+one_refusal_from ss f g (in_jumps all a x program p) (in_jumps more b y other q) =
+    one_line (BreaksJumps (labels_of b.program)) jumps_line (jumps_of b.program) f.code g.code f.line g.line
+    (subst (λ z. JumpsFault z f) (one_read ss all more a b x y program other) p) q
+
+-- ---- texts
 
 pub one_program : (text : List ℕ) (p q : Parsed) → IsAccepted text p → IsAccepted text q → p ≡ q
-one_program text p q a b = one_read text a.lines b.lines a.statements b.statements a.expanded b.expanded p q a.read b.read a.program b.program
-
--- ---- refusals
+one_program text p q a b = one_from b.statements p q (subst (λ l. IsAcceptedFrom l p) (one_list text a.statements b.statements a.read b.read) a.accepted) b.accepted
 
 -- a text whose lines break no rule isn't refused for its lines
 not_lines : (text : List ℕ) (ls : List Logical) (f : SourceFault) → ReadsLines text ls → FirstFault Breaks told_line (lines_of text) f.code f.line → ⊥
 not_lines text ls f read fault = clean_or_fault Breaks told_line (lines_of text) f.code f.line read.clean fault
 
--- one whose statements break none isn't refused for its statements
-not_statements : (text : List ℕ) (ls ms : List Logical) (ss : List Statement) (f : SourceFault) → ReadsLines text ls → ReadsStatements ls ss → ReadsLines text ms
-    → FirstFault BreaksStatements statement_line ms f.code f.line → ⊥
-not_statements text ls ms ss f read spelled other fault =
-    clean_or_fault BreaksStatements statement_line ls f.code f.line spelled.clean
-    (subst (λ l. FirstFault BreaksStatements statement_line l f.code f.line) (one_reading text ms ls other read) fault)
+-- a text that reads as statements isn't unread
+not_unread : (text : List ℕ) (ss : List Statement) (f : SourceFault) → ReadsAs text ss → IsUnread text f → ⊥
+not_unread text ss f a (in_lines fault) = not_lines text a.lines f a.read fault
+not_unread text ss f a (in_statements ms other fault) =
+    clean_or_fault BreaksStatements statement_line a.lines f.code f.line a.spelled.clean
+    (subst (λ l. FirstFault BreaksStatements statement_line l f.code f.line) (one_reading text ms a.lines other a.read) fault)
 
--- a text that expands to a program isn't refused for its order or macros
-not_expansion : (text : List ℕ) (ls ms : List Logical) (ss ts : List Statement) (all : List Placed) (f : SourceFault) → ReadsText text ls ss all → ReadsLines text ms → ReadsStatements ms ts
-    → IsUnexpanded ts f → ⊥
-not_expansion text ls ms ss ts all f read other spelled fault =
-    no_refusal ss all f read.expanded (subst (λ l. IsUnexpanded l f) (one_list text ms ls ts ss other read.read spelled read.spelled) fault)
-
--- one whose names break none isn't refused for its names
-not_names : (text : List ℕ) (ls ms : List Logical) (ss ts : List Statement) (all more : List Placed) (p : Parsed) (f : SourceFault) → ReadsText text ls ss all → ReadsProgram ss all p
-    → ReadsText text ms ts more → FirstFault BreaksNames names_line more f.code f.line → ⊥
-not_names text ls ms ss ts all more p f read program other fault =
-    clean_or_fault BreaksNames names_line all f.code f.line program.clean
-    (subst (λ l. FirstFault BreaksNames names_line l f.code f.line) (one_expansion text ms ls ts ss more all other read) fault)
-
-abbrev JumpsFault : Parsed → SourceFault → Type 0
-JumpsFault p f = FirstFault (BreaksJumps (labels_of p.program)) jumps_line (jumps_of p.program) f.code f.line
-
-pub not_refused : (text : List ℕ) (p : Parsed) (f : SourceFault) → IsAccepted text p → IsRefused text f → ⊥
-not_refused text p f a (in_lines fault) = not_lines text a.lines f a.read.read fault
-not_refused text p f a (in_statements ls read fault) = not_statements text a.lines ls a.statements f a.read.read a.read.spelled read fault
-not_refused text p f a (in_expansion ls ss read spelled fault) = not_expansion text a.lines ls a.statements ss a.expanded f a.read read spelled fault
-not_refused text p f a (in_names ls ss all read fault) = not_names text a.lines ls a.statements ss a.expanded all p f a.read a.program read fault
-not_refused text p f a (in_jumps ls ss all q read program fault) =
-    clean_or_fault (BreaksJumps (labels_of p.program)) jumps_line (jumps_of p.program) f.code f.line a.jumps
-    (subst (λ x. JumpsFault x f) (one_read text ls a.lines ss a.statements all a.expanded q p read a.read program a.program) fault)
-
-pub one_refusal : (text : List ℕ) (f g : SourceFault) → IsRefused text f → IsRefused text g → f.line ≡ g.line
-one_refusal text f g (in_lines p) (in_lines q) = one_line Breaks told_line (lines_of text) f.code g.code f.line g.line p q
-one_refusal text f g (in_lines p) (in_statements ms read q) = absurd (not_lines text ms f read p)
-one_refusal text f g (in_lines p) (in_expansion ms ts read spelled q) = absurd (not_lines text ms f read p)
-one_refusal text f g (in_lines p) (in_names ms ts more read q) = absurd (not_lines text ms f read.read p)
-one_refusal text f g (in_lines p) (in_jumps ms ts more b read program q) = absurd (not_lines text ms f read.read p)
-one_refusal text f g (in_statements ls read p) (in_lines q) = absurd (not_lines text ls g read q)
-one_refusal text f g (in_statements ls read p) (in_statements ms other q) =
+one_unread : (text : List ℕ) (f g : SourceFault) → IsUnread text f → IsUnread text g → f.line ≡ g.line
+one_unread text f g (in_lines p) (in_lines q) = one_line Breaks told_line (lines_of text) f.code g.code f.line g.line p q
+one_unread text f g (in_lines p) (in_statements ms read q) = absurd (not_lines text ms f read p)
+one_unread text f g (in_statements ls read p) (in_lines q) = absurd (not_lines text ls g read q)
+one_unread text f g (in_statements ls read p) (in_statements ms other q) =
     one_line BreaksStatements statement_line ms f.code g.code f.line g.line
     (subst (λ l. FirstFault BreaksStatements statement_line l f.code f.line) (one_reading text ls ms read other) p) q
-one_refusal text f g (in_statements ls read p) (in_expansion ms ts other spelled q) = absurd (not_statements text ms ls ts f other spelled read p)
-one_refusal text f g (in_statements ls read p) (in_names ms ts more other q) = absurd (not_statements text ms ls ts f other.read other.spelled read p)
-one_refusal text f g (in_statements ls read p) (in_jumps ms ts more b other program q) = absurd (not_statements text ms ls ts f other.read other.spelled read p)
-one_refusal text f g (in_expansion ls ss read spelled p) (in_lines q) = absurd (not_lines text ls g read q)
-one_refusal text f g (in_expansion ls ss read spelled p) (in_statements ms other q) = absurd (not_statements text ls ms ss g read spelled other q)
-one_refusal text f g (in_expansion ls ss read spelled p) (in_expansion ms ts other spelt q) =
-    ap (λ (x : SourceFault). x.line) (one_refused ts f g (subst (λ l. IsUnexpanded l f) (one_list text ls ms ss ts read other spelled spelt) p) q)
-one_refusal text f g (in_expansion ls ss read spelled p) (in_names ms ts more other q) = absurd (not_expansion text ms ls ts ss more f other read spelled p)
-one_refusal text f g (in_expansion ls ss read spelled p) (in_jumps ms ts more b other program q) = absurd (not_expansion text ms ls ts ss more f other read spelled p)
-one_refusal text f g (in_names ls ss all read p) (in_lines q) = absurd (not_lines text ls g read.read q)
-one_refusal text f g (in_names ls ss all read p) (in_statements ms other q) = absurd (not_statements text ls ms ss g read.read read.spelled other q)
-one_refusal text f g (in_names ls ss all read p) (in_expansion ms ts other spelled q) = absurd (not_expansion text ls ms ss ts all g read other spelled q)
-one_refusal text f g (in_names ls ss all read p) (in_names ms ts more other q) =
-    one_line BreaksNames names_line more f.code g.code f.line g.line
-    (subst (λ l. FirstFault BreaksNames names_line l f.code f.line) (one_expansion text ls ms ss ts all more read other) p) q
-one_refusal text f g (in_names ls ss all read p) (in_jumps ms ts more b other program q) = absurd (not_names text ms ls ts ss more all b f other program read p)
-one_refusal text f g (in_jumps ls ss all a read program p) (in_lines q) = absurd (not_lines text ls g read.read q)
-one_refusal text f g (in_jumps ls ss all a read program p) (in_statements ms other q) = absurd (not_statements text ls ms ss g read.read read.spelled other q)
-one_refusal text f g (in_jumps ls ss all a read program p) (in_expansion ms ts other spelled q) = absurd (not_expansion text ls ms ss ts all g read other spelled q)
-one_refusal text f g (in_jumps ls ss all a read program p) (in_names ms ts more other q) = absurd (not_names text ls ms ss ts all more a g read program other q)
-one_refusal text f g (in_jumps ls ss all a read program p) (in_jumps ms ts more b other parsed_too q) =
-    one_line (BreaksJumps (labels_of b.program)) jumps_line (jumps_of b.program) f.code g.code f.line g.line
-    (subst (λ x. JumpsFault x f) (one_read text ls ms ss ts all more a b read other program parsed_too) p) q
+
+pub not_refused : (text : List ℕ) (p : Parsed) (f : SourceFault) → IsAccepted text p → IsRefused text f → ⊥
+not_refused text p f a (unread fault) = not_unread text a.statements f a.read fault
+not_refused text p f a (in_program ss read fault) =
+    not_refused_from a.statements p f a.accepted (subst (λ l. IsRefusedFrom l f) (one_list text ss a.statements read a.read) fault)
+
+pub one_refusal : (text : List ℕ) (f g : SourceFault) → IsRefused text f → IsRefused text g → f.line ≡ g.line
+one_refusal text f g (unread p) (unread q) = one_unread text f g p q
+one_refusal text f g (unread p) (in_program ts read q) = absurd (not_unread text ts f read p)
+one_refusal text f g (in_program ss read p) (unread q) = absurd (not_unread text ss g read q)
+one_refusal text f g (in_program ss read p) (in_program ts other q) =
+    one_refusal_from ts f g (subst (λ l. IsRefusedFrom l f) (one_list text ss ts read other) p) q

@@ -6,43 +6,61 @@ use Rattle.vcm_lines.specs.Fault.{NoMemoryOr}
 use Rattle.vcm_spec.specs.Phase.{IsClean, FirstFault}
 use Rattle.vcm_forms.specs.declared.statement.Statement.{Statement}
 use Rattle.vcm_macro.specs.declared.placed.Placed.{Placed}
-use Rattle.vcm_macro.specs.Expansion.{IsRefused as IsUnexpanded}
+use Rattle.vcm_macro.specs.Expansion.{IsExpanded, IsRefused as IsUnexpanded}
 use Rattle.vcm_tree.specs.Statements.{BreaksStatements, statement_line}
 use Rattle.vcm_tree.specs.Resolving.{start, BreaksNames, names_line}
 use Rattle.vcm_nodes.specs.Jumps.{labels_of, jumps_of, BreaksJumps, jumps_line}
 use Rattle.vcm_program.specs.Program.{Parsed, IsWhole}
-use Rattle.vcm_tree.specs.Acceptance.{ReadsLines, ReadsStatements, ReadsText, ReadsProgram, IsAccepted, IsRefused, in_statements, in_expansion, in_names, in_jumps}
+use Rattle.vcm_tree.specs.Acceptance.{ReadsLines, ReadsAs, ReadsProgram, IsAccepted, IsUnread, IsRefused, IsRefusedFrom, in_statements, in_expansion, in_names, in_jumps, unread, in_program}
+use Rattle.vcm_tree.specs.Declaring.{DeclareVariables}
 use Rattle.vcm_tree.proofs.Kept.{ended_all, lettered_all}
 use Rattle.vcm_tree.proofs.FewKept.{few_all}
 use Rattle.vcm_tree.proofs.NamedVariables.{all_spelled, all_behind_named}
 use Rattle.vcm_tree.proofs.Wholeness.{parsed_whole}
 
-pub statements_refused : (text : List ℕ) (ls : List Logical) (f : SourceFault) → ReadsLines text ls
-    → NoMemoryOr (λ f. FirstFault BreaksStatements statement_line ls f.code f.line) f → NoMemoryOr (IsRefused text) f
-statements_refused text ls f read (inl e) = inl e
-statements_refused text ls f read (inr p) = inr (in_statements ls read p)
+pub statements_unread : (text : List ℕ) (ls : List Logical) (f : SourceFault) → ReadsLines text ls
+    → NoMemoryOr (λ f. FirstFault BreaksStatements statement_line ls f.code f.line) f
+    → NoMemoryOr (IsUnread text) f
+statements_unread text ls f read (inl e) = inl e
+statements_unread text ls f read (inr p) = inr (in_statements ls read p)
 
-pub expansion_refused : (text : List ℕ) (ls : List Logical) (ss : List Statement) (f : SourceFault) → ReadsLines text ls → ReadsStatements ls ss
-    → NoMemoryOr (IsUnexpanded ss) f → NoMemoryOr (IsRefused text) f
-expansion_refused text ls ss f read spelled (inl e) = inl e
-expansion_refused text ls ss f read spelled (inr p) = inr (in_expansion ls ss read spelled p)
+pub expansion_refused : (ss : List Statement) (f : SourceFault) → NoMemoryOr (IsUnexpanded ss) f → NoMemoryOr (IsRefusedFrom ss) f
+expansion_refused ss f (inl e) = inl e
+expansion_refused ss f (inr p) = inr (in_expansion p)
 
-pub names_refused : (text : List ℕ) (ls : List Logical) (ss : List Statement) (all : List Placed) (f : SourceFault) → ReadsText text ls ss all
-    → NoMemoryOr (λ f. FirstFault BreaksNames names_line all f.code f.line) f → NoMemoryOr (IsRefused text) f
-names_refused text ls ss all f read (inl e) = inl e
-names_refused text ls ss all f read (inr p) = inr (in_names ls ss all read p)
+pub names_refused : (ss : List Statement) (all : List Placed) (f : SourceFault) → IsExpanded ss all
+    → NoMemoryOr (λ f. FirstFault BreaksNames names_line all f.code f.line) f
+    → NoMemoryOr (IsRefusedFrom ss) f
+names_refused ss all f x (inl e) = inl e
+names_refused ss all f x (inr p) = inr (in_names all x p)
 
-pub jumps_refused : (text : List ℕ) (ls : List Logical) (ss : List Statement) (all : List Placed) (p : Parsed) (f : SourceFault) → ReadsText text ls ss all → ReadsProgram ss all p
-    → NoMemoryOr (λ f. FirstFault (BreaksJumps (labels_of p.program)) jumps_line (jumps_of p.program) f.code f.line) f → NoMemoryOr (IsRefused text) f
-jumps_refused text ls ss all p f read program (inl e) = inl e
-jumps_refused text ls ss all p f read program (inr q) = inr (in_jumps ls ss all p read program q)
+pub jumps_refused : (ss : List Statement) (all : List Placed) (p : Parsed) (f : SourceFault) → IsExpanded ss all → ReadsProgram ss all p
+    → NoMemoryOr (λ f. FirstFault (BreaksJumps (labels_of p.program)) jumps_line (jumps_of p.program) f.code f.line) f
+    → NoMemoryOr (IsRefusedFrom ss) f
+jumps_refused ss all p f x program (inl e) = inl e
+jumps_refused ss all p f x program (inr q) = inr (in_jumps all p x program q)
 
--- a program that is read as the text says is whole
-pub read_whole : (text : List ℕ) (ls : List Logical) (ss : List Statement) (all : List Placed) (p : Parsed) → ReadsText text ls ss all → ReadsProgram ss all p
-    → IsClean (BreaksJumps (labels_of p.program)) (jumps_of p.program) → IsWhole p.program p.tables
-read_whole text ls ss all p read program jumps =
-    let named = all_behind_named start all (lettered_all ss all read.expanded (all_spelled ls ss read.spelled.statements)) tt in
-    parsed_whole ss all p (ended_all ss all read.expanded) (few_all ss all read.expanded) program.clean program.is named jumps
+pub text_unread : (text : List ℕ) (f : SourceFault) → NoMemoryOr (IsUnread text) f → NoMemoryOr (IsRefused text) f
+text_unread text f (inl e) = inl e
+text_unread text f (inr p) = inr (unread p)
+
+pub text_refused : (text : List ℕ) (ss : List Statement) (f : SourceFault) → ReadsAs text ss → NoMemoryOr (IsRefusedFrom ss) f → NoMemoryOr (IsRefused text) f
+text_refused text ss f read (inl e) = inl e
+text_refused text ss f read (inr p) = inr (in_program ss read p)
+
+-- what a text reads as declares names that variables may have
+pub names_read : (text : List ℕ) (ss : List Statement) → ReadsAs text ss → DeclareVariables ss
+names_read text ss read = all_spelled read.lines ss read.spelled.statements
+
+-- a program that statements are is whole
+pub read_whole : (ss : List Statement) (all : List Placed) (p : Parsed) → DeclareVariables ss → IsExpanded ss all → ReadsProgram ss all p
+    → IsClean (BreaksJumps (labels_of p.program)) (jumps_of p.program)
+    → IsWhole p.program p.tables
+read_whole ss all p lettered x program jumps =
+    let named = all_behind_named start all (lettered_all ss all x lettered) tt in
+    parsed_whole ss all p (ended_all ss all x) (few_all ss all x) program.clean program.is named jumps
 
 pub accepted_whole : (text : List ℕ) (p : Parsed) → IsAccepted text p → IsWhole p.program p.tables
-accepted_whole text p a = read_whole text a.lines a.statements a.expanded p a.read a.program a.jumps
+accepted_whole text p a =
+    let from = a.accepted in
+    read_whole a.statements from.expanded p (names_read text a.statements a.read) from.is_expanded from.program from.jumps

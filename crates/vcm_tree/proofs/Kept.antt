@@ -21,6 +21,7 @@ use Rattle.std.proofs.lemmas.List.{append-nil}
 use Rattle.vcm_macro.proofs.Orders.{order_push}
 use Rattle.vcm_macro.proofs.Walks.{kept_append}
 use Rattle.vcm_tree.specs.Ended.{is_ended}
+use Rattle.vcm_tree.specs.Declaring.{DeclaresVariables, DeclareVariables}
 use Rattle.vcm_tree.proofs.Cutting.{place, clean_end}
 
 -- ---- names that are declared
@@ -29,20 +30,10 @@ use Rattle.vcm_tree.proofs.Cutting.{place, clean_end}
 abbrev pub Letters : List (List ℕ) → Type 0
 Letters names = AllByRecursion IsVariableName names
 
--- what a statement declares has the names of variables
-abbrev pub DeclaresLettered : Form → Type 0
-DeclaresLettered (Declaration k names) = Letters names
-DeclaresLettered _ = Unit {0}
-
--- so does what each of these declares
-abbrev pub AreLettered : List Statement → Type 0
-AreLettered [] = Unit {0}
-AreLettered (s ∷ ss) = DeclaresLettered s.form × AreLettered ss
-
 -- and what each of an expanded program does
 abbrev pub AllLettered : List Placed → Type 0
 AllLettered [] = Unit {0}
-AllLettered (p ∷ ps) = DeclaresLettered p.statement.form × AllLettered ps
+AllLettered (p ∷ ps) = DeclaresVariables p.statement.form × AllLettered ps
 
 -- and what is left of places
 abbrev LeavesLettered : List Visit → Type 0
@@ -51,12 +42,12 @@ LeavesLettered ps = AllLettered (kept ps)
 -- the bodies of macros
 abbrev BodiesLettered : List Defined → Type 0
 BodiesLettered [] = Unit {0}
-BodiesLettered (m ∷ ms) = AreLettered m.body × BodiesLettered ms
+BodiesLettered (m ∷ ms) = DeclareVariables m.body × BodiesLettered ms
 
 -- what is written so far of the macro that is open
 abbrev OpenLettered : Option Defined → Type 0
 OpenLettered None = Unit {0}
-OpenLettered (Some m) = AreLettered m.body
+OpenLettered (Some m) = DeclareVariables m.body
 
 -- a CALL, wherever it stands
 abbrev CallsLettered : Caller → Type 0
@@ -69,12 +60,12 @@ all_append (p ∷ ps) qs g h = (g.0, all_append ps qs g.1 h)
 left_append : (ps qs : List Visit) → LeavesLettered ps → LeavesLettered qs → LeavesLettered (ps ++ qs)
 left_append ps qs g h = subst AllLettered (sym (kept_append ps qs)) (all_append (kept ps) (kept qs) g h)
 
-one_more : (ss : List Statement) (s : Statement) → AreLettered ss → DeclaresLettered s.form → AreLettered (ss ++ s ∷ [])
+one_more : (ss : List Statement) (s : Statement) → DeclareVariables ss → DeclaresVariables s.form → DeclareVariables (ss ++ s ∷ [])
 one_more [] s g h = (h, tt)
 one_more (t ∷ ss) s g h = (g.0, one_more ss s g.1 h)
 
 -- substitution leaves a declaration as it is
-statement_lettered : (call : Caller) (sc : Scope) (depth done line : ℕ) (form : Form) → CallsLettered call → DeclaresLettered form → LeavesLettered (statement_in call sc depth done line form)
+statement_lettered : (call : Caller) (sc : Scope) (depth done line : ℕ) (form : Form) → CallsLettered call → DeclaresVariables form → LeavesLettered (statement_in call sc depth done line form)
 statement_lettered call sc depth done line (Call name args) c h = c line depth done name (map (put_argument sc) args)
 statement_lettered call sc depth done line (Declaration k names) c h = (h, tt)
 statement_lettered call sc depth done line Opening c h = tt
@@ -84,7 +75,7 @@ statement_lettered call sc depth done line (Macro name ps) c h = tt
 statement_lettered call sc depth done line MacroEnd c h = tt
 statement_lettered call sc depth done line _ c h = (tt, tt)
 
-body_lettered : (call : Caller) (sc : Scope) (depth done : ℕ) (ss : List Statement) → CallsLettered call → AreLettered ss → LeavesLettered (body_in call sc depth done ss)
+body_lettered : (call : Caller) (sc : Scope) (depth done : ℕ) (ss : List Statement) → CallsLettered call → DeclareVariables ss → LeavesLettered (body_in call sc depth done ss)
 body_lettered call sc depth done [] c h = tt
 body_lettered call sc depth done (s ∷ ss) c h =
     let here = statement_in call sc depth done s.line s.form in
@@ -94,7 +85,7 @@ call_lettered : (ms : List Defined) → BodiesLettered ms → CallsLettered (cal
 call_lettered [] h line depth done name args = tt
 call_lettered (m ∷ ms) h line depth done name args = by_name (is_same m.name name) h.0 (call_lettered ms h.1)
   where
-    by_name : (b : Bool) → AreLettered m.body → CallsLettered (call_in ms)
+    by_name : (b : Bool) → DeclareVariables m.body → CallsLettered (call_in ms)
         → LeavesLettered (elim b [
           | true ↦ Calls line depth (Some m) args
               ∷ body_in (call_in ms) (record { parameters = m.parameters; arguments = args; expansion = suc done }) (suc depth) (suc done) m.body
@@ -104,7 +95,7 @@ call_lettered (m ∷ ms) h line depth done name args = by_name (is_same m.name n
     by_name false g c = c line depth done name args
 
 -- a statement outside macros stays as it is
-stands_lettered : (s : Statement) (b : Bool) → DeclaresLettered s.form → AllLettered ((if b then record { statement = s; expansion = 0 } ∷ [] else []) ++ [])
+stands_lettered : (s : Statement) (b : Bool) → DeclaresVariables s.form → AllLettered ((if b then record { statement = s; expansion = 0 } ∷ [] else []) ++ [])
 stands_lettered s true h = (h, tt)
 stands_lettered s false h = tt
 
@@ -113,14 +104,14 @@ misplaced_lettered : (waits : Bool) (line : ℕ) → LeavesLettered (misplaced_i
 misplaced_lettered true line = tt
 misplaced_lettered false line = tt
 
-outside_lettered : (call : Caller) (waits : Bool) (done : ℕ) (s : Statement) (form : Form) → CallsLettered call → DeclaresLettered s.form → LeavesLettered (outside_in call waits done s form)
+outside_lettered : (call : Caller) (waits : Bool) (done : ℕ) (s : Statement) (form : Form) → CallsLettered call → DeclaresVariables s.form → LeavesLettered (outside_in call waits done s form)
 outside_lettered call waits done s (Call name args) c h =
     let called = call s.line 1 done name (map (put_argument outside) args) in
     left_append (misplaced_if waits s.line) called (misplaced_lettered waits s.line) (c s.line 1 done name (map (put_argument outside) args))
 outside_lettered call waits done s _ c h = stands_lettered s (is_kept s.form) h
 
 text_lettered : (ms : List Defined) (current : Option Defined) (waits : Bool) (done : ℕ) (s : Statement) (form : Form) (on : Following) → BodiesLettered ms
-    → OpenLettered current → DeclaresLettered s.form
+    → OpenLettered current → DeclaresVariables s.form
     → ((ns : List Defined) (m : Option Defined) (w : Bool) (n : ℕ) → BodiesLettered ns → OpenLettered m → LeavesLettered (on ns m w n)) → LeavesLettered (text_from ms current waits done s form on)
 text_lettered ms None waits done s (Macro name ps) on h o e go = go ms (Some (record { name = name; parameters = ps; body = [] })) waits done h tt
 text_lettered ms None waits done s form on h o e go =
@@ -130,14 +121,14 @@ text_lettered ms None waits done s form on h o e go =
 text_lettered ms (Some m) waits done s MacroEnd on h o e go = go (m ∷ ms) None waits done (o, h) tt
 text_lettered ms (Some m) waits done s form on h o e go = go ms (Some (with_statement m s)) waits done h (one_more m.body s o e)
 
-walk_lettered : (ms : List Defined) (current : Option Defined) (waits : Bool) (done : ℕ) (ss : List Statement) → BodiesLettered ms → OpenLettered current → AreLettered ss
+walk_lettered : (ms : List Defined) (current : Option Defined) (waits : Bool) (done : ℕ) (ss : List Statement) → BodiesLettered ms → OpenLettered current → DeclareVariables ss
     → LeavesLettered (walk_from ms current waits done ss)
 walk_lettered ms current waits done [] h o l = tt
 walk_lettered ms current waits done (s ∷ ss) h o l =
     text_lettered ms current waits done s s.form (λ ns m w n. walk_from ns m w n ss) h o l.0 (λ ns m w n g p. walk_lettered ns m w n ss g p l.1)
 
 -- what the written statements declare has the names of variables, so what the expanded ones declare has them
-pub lettered_all : (ss : List Statement) (all : List Placed) → IsExpanded ss all → AreLettered ss → AllLettered all
+pub lettered_all : (ss : List Statement) (all : List Placed) → IsExpanded ss all → DeclareVariables ss → AllLettered all
 lettered_all ss all x l = subst AllLettered (sym x.is) (walk_lettered [] None false 0 ss tt tt l)
 
 -- ---- ENDFIL

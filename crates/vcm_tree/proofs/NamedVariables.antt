@@ -24,7 +24,8 @@ use Rattle.vcm_tree.specs.Resolving.{Meaning, resolved_here, behind_by, behind_o
 use Rattle.vcm_tree.specs.inner.Taking.{declared_by}
 use Rattle.vcm_tree.proofs.Stated.{bind-Ok, meant}
 use Rattle.vcm_tree.proofs.GrownTables.{tabled}
-use Rattle.vcm_tree.proofs.Kept.{Letters, DeclaresLettered, AreLettered, AllLettered}
+use Rattle.vcm_tree.specs.Declaring.{DeclaresVariables, DeclareVariables}
+use Rattle.vcm_tree.proofs.Kept.{Letters, AllLettered}
 use Rattle.vcm_spec.specs.Results.{◌>>=◌}
 
 -- ---- words that declare
@@ -46,7 +47,7 @@ all_lettered (f ∷ fs) names h =
     let same : p.0 ∷ q.0 ≡ names = cc in
     subst Letters same (one_lettered f p.0 p.1, all_lettered fs q.0 q.1)
 
-declares_lettered : (form : Form) → DeclaresNames form → DeclaresLettered form
+declares_lettered : (form : Form) → DeclaresNames form → DeclaresVariables form
 declares_lettered (Declaration k names) h = all_lettered h.0 names h.1
 declares_lettered _ h = tt
 
@@ -66,11 +67,11 @@ all_named vs ex k (name ∷ names) ws e h n =
     let q = bind-Ok (with_one vs ex k name) (λ xs. with_all xs ex k names) ws e in
     all_named q.0 ex k names ws q.2 (one_named vs ex k name q.0 q.1 h n.0) n.1
 
-declared_named : (vs : List Variable) (ex : ℕ) (form : Form) (ws : List Variable) → declared_by vs ex form ≡ Ok ws → AreNamed vs → DeclaresLettered form → AreNamed ws
+declared_named : (vs : List Variable) (ex : ℕ) (form : Form) (ws : List Variable) → declared_by vs ex form ≡ Ok ws → AreNamed vs → DeclaresVariables form → AreNamed ws
 declared_named vs ex (Declaration k names) ws e h n = all_named vs ex k names ws e h n
 declared_named vs ex _ ws e h n = (let same : vs ≡ ws = cc in subst AreNamed same h)
 
-form_named : (b : Behind) (s : Placed) → AreNamed b.variables → DeclaresLettered s.statement.form → AreNamed (behind_one b s).variables
+form_named : (b : Behind) (s : Placed) → AreNamed b.variables → DeclaresVariables s.statement.form → AreNamed (behind_one b s).variables
 form_named b s h n = by (resolved_here b s) refl
   where
     by : (r : Result Meaning FaultCode) → resolved_here b s ≡ r → AreNamed (behind_by b s.statement.form r).variables
@@ -78,7 +79,7 @@ form_named b s h n = by (resolved_here b s) refl
     by (Err c) e = h
 
 -- what lines spell declares names of variables
-pub all_spelled : (ls : List Logical) (ss : List Statement) → AreSpelled ls ss → AreLettered ss
+pub all_spelled : (ls : List Logical) (ss : List Statement) → AreSpelled ls ss → DeclareVariables ss
 all_spelled [] [] e = tt
 all_spelled [] (s ∷ ss) e = absurd cc
 all_spelled (l ∷ ls) [] e = tt

@@ -23,34 +23,44 @@ pub record ReadsStatements (ls : List Logical) (ss : List Statement) : Type 0 wh
   pub clean : IsClean BreaksStatements ls
   pub statements : AreSpelled ls ss
 
--- these are the statements of the text and the program that they expand to, and no rule of lines, statements, order and macros is broken
-pub record ReadsText (text : List ℕ) (ls : List Logical) (ss : List Statement) (all : List Placed) : Type 0 where
-  pub read : ReadsLines text ls
-  pub spelled : ReadsStatements ls ss
-  pub expanded : IsExpanded ss all
+-- the text reads as these statements, and no rule of lines and of statements is broken
+pub record ReadsAs (text : List ℕ) (ss : List Statement) : Type 0 where
+  pub lines : List Logical
+  pub read : ReadsLines text lines
+  pub spelled : ReadsStatements lines ss
 
 -- the expanded statements are this program with these variables, the written ones have these notices, no rule of names and blocks is broken
 pub record ReadsProgram (ss : List Statement) (all : List Placed) (p : Parsed) : Type 0 where
   pub clean : IsClean BreaksNames all
   pub is : IsParsed ss all p
 
--- no rule is broken, and the text is this program with these tables and notices
-pub record IsAccepted (text : List ℕ) (p : Parsed) : Type 0 where
-  pub lines : List Logical
-  pub statements : List Statement
+-- no rule of order and macros, of names and blocks, and of jumps is broken, and the statements are this program with these tables and notices
+pub record IsAcceptedFrom (ss : List Statement) (p : Parsed) : Type 0 where
   pub expanded : List Placed
-  pub read : ReadsText text lines statements expanded
-  pub program : ReadsProgram statements expanded p
+  pub is_expanded : IsExpanded ss expanded
+  pub program : ReadsProgram ss expanded p
   pub jumps : IsClean (BreaksJumps (labels_of p.program)) (jumps_of p.program)
 
--- the first phase with a fault has its first fault here: lines, statements, order, macros, names and blocks of the expanded program, jumps
+-- no rule is broken, and the text is this program with these tables and notices
+pub record IsAccepted (text : List ℕ) (p : Parsed) : Type 0 where
+  pub statements : List Statement
+  pub read : ReadsAs text statements
+  pub accepted : IsAcceptedFrom statements p
+
+-- the text doesn't read as statements: its lines have their first fault here, or else its statements
+pub data IsUnread (text : List ℕ) (f : SourceFault) : Type 0 where
+  in_lines : FirstFault Breaks told_line (lines_of text) f.code f.line → IsUnread text f
+  in_statements : (ls : List Logical) → ReadsLines text ls → FirstFault BreaksStatements statement_line ls f.code f.line → IsUnread text f
+
+-- the first phase with a fault has its first fault here: order and macros, names and blocks of the expanded program, jumps
+pub data IsRefusedFrom (ss : List Statement) (f : SourceFault) : Type 0 where
+  in_expansion : IsUnexpanded ss f → IsRefusedFrom ss f
+  in_names : (all : List Placed) → IsExpanded ss all → FirstFault BreaksNames names_line all f.code f.line → IsRefusedFrom ss f
+  in_jumps : (all : List Placed) (p : Parsed) → IsExpanded ss all → ReadsProgram ss all p
+      → FirstFault (BreaksJumps (labels_of p.program)) jumps_line (jumps_of p.program) f.code f.line
+      → IsRefusedFrom ss f
+
+-- the text doesn't read as statements, or those that it reads as are refused
 pub data IsRefused (text : List ℕ) (f : SourceFault) : Type 0 where
-  in_lines : FirstFault Breaks told_line (lines_of text) f.code f.line → IsRefused text f
-  in_statements : (ls : List Logical) → ReadsLines text ls → FirstFault BreaksStatements statement_line ls f.code f.line → IsRefused text f
-  in_expansion : (ls : List Logical) (ss : List Statement) → ReadsLines text ls → ReadsStatements ls ss → IsUnexpanded ss f
-      → IsRefused text f
-  in_names : (ls : List Logical) (ss : List Statement) (all : List Placed) → ReadsText text ls ss all
-      → FirstFault BreaksNames names_line all f.code f.line
-      → IsRefused text f
-  in_jumps : (ls : List Logical) (ss : List Statement) (all : List Placed) (p : Parsed) → ReadsText text ls ss all → ReadsProgram ss all p
-      → FirstFault (BreaksJumps (labels_of p.program)) jumps_line (jumps_of p.program) f.code f.line → IsRefused text f
+  unread : IsUnread text f → IsRefused text f
+  in_program : (ss : List Statement) → ReadsAs text ss → IsRefusedFrom ss f → IsRefused text f

@@ -1,11 +1,11 @@
 -- What the statements of features and frames mean once their names are looked up. The features stand in the order of their first FEAT, the
 -- frames in that of their first TRANS or ROTATE.
-use Rattle.std.specs.Prelude.{ℕ, pos, nat_lt, Bool, true, false, if◌then◌else◌, List, [], ◌∷◌, ◌++◌, length, slice_get, Option, Some, None, Result, Ok, Err}
+use Rattle.std.specs.Prelude.{ℕ, pos, Bool, true, false, List, [], ◌∷◌, slice_get, Option, Some, None, Result, Ok, Err}
 use Rattle.vcm_num.specs.declared.axis.Axis.{Axis}
 use Rattle.vcm_num.specs.declared.number.Kind.{Kind}
 use Rattle.vcm_num.specs.declared.number.Kind.TheVariants as kinds
 use Rattle.vcm_lines.specs.declared.fault.FaultCode.{FaultCode}
-use Rattle.vcm_lines.specs.declared.fault.FaultCode.TheVariants.{UnknownName, BadType, Unbalanced, MeasBody, TooManyNames}
+use Rattle.vcm_lines.specs.declared.fault.FaultCode.TheVariants.{UnknownName, BadType, Unbalanced, MeasBody}
 use Rattle.vcm_spec.specs.Expression.{Tree, Value}
 use Rattle.vcm_spec.specs.declared.expression.Operand.TheVariants.{Thousandths}
 use Rattle.vcm_spec.specs.declared.words.FrameAxis.{FrameAxis}
@@ -16,7 +16,6 @@ use Rattle.vcm_spec.specs.declared.words.Setting.{Setting}
 use Rattle.vcm_spec.specs.declared.words.Source.{Source as Side}
 use Rattle.vcm_spec.specs.Simple.{Simple}
 use Rattle.vcm_spec.specs.declared.simple.Simple.TheVariants.{Feat, PtMeas, SnSet, Trans, Rotate, Recall, Obtain, Output}
-use Rattle.vcm_spec.specs.Program.{is_same_name}
 use Rattle.vcm_expr.specs.declared.typing.Want.TheVariants as wants
 use Rattle.vcm_spec.specs.Setup.{Variable, kinds_of}
 use Rattle.vcm_expr.specs.Source.{Source}
@@ -24,7 +23,6 @@ use Rattle.vcm_expr.specs.Typing.{typed_for}
 use Rattle.vcm_forms.specs.declared.statement.Offset.{Offset}
 use Rattle.vcm_forms.specs.declared.statement.Coordinates.{Coordinates}
 use Rattle.vcm_forms.specs.declared.statement.Target.{Target}
-use Rattle.vcm_lines.specs.Fault.{or_fault}
 use Rattle.vcm_tree.specs.Sentences.{Step, Measures, EndsMeasure}
 use Rattle.vcm_tree.specs.Variables.{target_of}
 use Rattle.vcm_tree.specs.Blocks.{Opened, InMeasure}

@@ -12,11 +12,23 @@ use Rattle.vcm_macro.specs.declared.placed.Placed.{Placed}
 use Rattle.vcm_tree.specs.Resolving.{BreaksNames}
 use Rattle.vcm_program.specs.Program.{Parsed, IsWhole}
 use Rattle.vcm_tree.specs.Program.{IsParsed}
-use Rattle.vcm_tree.specs.Acceptance.{IsAccepted, IsRefused}
+use Rattle.vcm_tree.specs.Acceptance.{IsAccepted, IsAcceptedFrom, IsRefused, IsRefusedFrom}
 
 -- a text that is accepted isn't refused
 abbrev pub AcceptedIsNotRefused : Type 0
 AcceptedIsNotRefused = (text : List ℕ) (p : Parsed) (f : SourceFault) → IsAccepted text p → IsRefused text f → ⊥
+
+-- so it is with statements, wherever they come from
+abbrev pub AcceptedFromIsNotRefused : Type 0
+AcceptedFromIsNotRefused = (ss : List Statement) (p : Parsed) (f : SourceFault) → IsAcceptedFrom ss p → IsRefusedFrom ss f → ⊥
+
+-- statements that are accepted are one program
+abbrev pub StatementsAreOneProgram : Type 0
+StatementsAreOneProgram = (ss : List Statement) (p q : Parsed) → IsAcceptedFrom ss p → IsAcceptedFrom ss q → p ≡ q
+
+-- all refusals of statements are told at one line
+abbrev pub StatementsAreRefusedAtOneLine : Type 0
+StatementsAreRefusedAtOneLine = (ss : List Statement) (f g : SourceFault) → IsRefusedFrom ss f → IsRefusedFrom ss g → f.line ≡ g.line
 
 -- an accepted text is one program, with one table of each kind of names and one list of notices
 abbrev pub IsOneProgram : Type 0

@@ -1,4 +1,5 @@
 pub mod Statements
+pub mod Declaring
 pub mod Ended
 pub mod Sentences
 pub mod Variables

@@ -14,7 +14,6 @@ use Rattle.vcm_forms.specs.declared.statement.Form.TheVariants.{Shift, Rotation,
 use Rattle.vcm_forms.specs.declared.statement.Form.TheVariants.{Choose, Case, CaseEnd, Default, ChooseEnd}
 use Rattle.vcm_forms.specs.Statements.{is_counted}
 use Rattle.vcm_macro.specs.declared.placed.Placed.{Placed}
-use Rattle.vcm_lines.specs.Fault.{or_fault}
 use Rattle.vcm_tree.specs.Sentences.{Step, Sentence, sentence, Does, Marks, Leaps, Tests, Divides, EndsTest, Repeats, EndsRepeat, Measures}
 use Rattle.vcm_tree.specs.Sentences.{EndsMeasure, Selects, BeginsCase, BeginsDefault, EndsCase, EndsSelect}
 use Rattle.vcm_tree.specs.Variables.{with_all, assigned, moved}

@@ -12,5 +12,5 @@ mod selection;
 mod statements;
 mod taking;
 
-pub use phases::accept;
+pub use phases::{accept, accept_statements, statements_of};
 pub use vcm_program::{Accepted, Noticed};

@@ -16,6 +16,10 @@ pub enum Files {
     Inputs,
     /// Part files and probe files.
     Tables,
+    /// Triangle meshes.
+    Models,
+    /// Tables of measured points.
+    Points,
     /// Any file.
     Any,
 }
@@ -28,6 +32,8 @@ impl Files {
             Files::Programs => "dmi dmis",
             Files::Inputs => "dmi dmis vcmi",
             Files::Tables => "toml",
+            Files::Models => "stl",
+            Files::Points => "csv",
         }
     }
 }
@@ -76,6 +82,12 @@ const LISTING: Word = Word {
     files: Files::Any,
 };
 
+const MODEL: Word = Word {
+    name: "MODEL",
+    help: "The model, a triangle mesh in STL",
+    files: Files::Models,
+};
+
 const IMAGE: Word = Word {
     name: "IMAGE",
     help: "The file that the image is written to",
@@ -99,6 +111,7 @@ pub enum Verb {
     Picture,
     View,
     Part,
+    Blocks,
     Debug,
     Dap,
     List,
@@ -241,7 +254,7 @@ const USAGES: &[Usage] = &[
         example: "For example: vcm points grid.dmi part-a.toml",
         words: &[INPUT, PART],
         rest: Rest::Nothing,
-        choices: &[Choice::Quiet, Choice::Steps],
+        choices: &[Choice::Quiet, Choice::Steps, Choice::Machine],
     },
     Usage {
         verb: Verb::Clearance,
@@ -288,6 +301,27 @@ const USAGES: &[Usage] = &[
         words: &[PART],
         rest: Rest::Nothing,
         choices: &[Choice::Quiet],
+    },
+    Usage {
+        verb: Verb::Blocks,
+        name: "blocks",
+        brief: "write a part file whose blocks cover a model",
+        about: "Writes a part file whose blocks cover a model from CAD: what is free of the blocks is free of the model",
+        example: "For example: vcm blocks housing.stl --into machine.toml --at 40,25,60 > part.toml",
+        words: &[MODEL],
+        rest: Rest::Nothing,
+        choices: &[
+            Choice::Talk,
+            Choice::Quiet,
+            Choice::Unit,
+            Choice::Turn,
+            Choice::At,
+            Choice::Within,
+            Choice::Most,
+            Choice::Near,
+            Choice::Into,
+            Choice::Name,
+        ],
     },
     Usage {
         verb: Verb::Debug,
@@ -365,5 +399,15 @@ impl Usage {
             }
         }
         false
+    }
+
+    /// The option of the command that has this name after its two dashes.
+    pub fn choice_of(&self, name: &str) -> Option<Choice> {
+        for choice in self.choices {
+            if choice.spelled().name == name {
+                return Some(*choice);
+            }
+        }
+        None
     }
 }

@@ -35,6 +35,24 @@ pub enum Choice {
     Lines,
     /// `--touch`.
     Touch,
+    /// `--machine`.
+    Machine,
+    /// `--unit UNIT`.
+    Unit,
+    /// `--turn TURNS`.
+    Turn,
+    /// `--at X,Y,Z`.
+    At,
+    /// `--within MM`.
+    Within,
+    /// `--most N`.
+    Most,
+    /// `--near POINTS`.
+    Near,
+    /// `--into PART`.
+    Into,
+    /// `--name NAME`.
+    Name,
 }
 
 /// What stands behind an option.
@@ -42,6 +60,8 @@ pub enum Choice {
 pub enum Behind {
     Nothing,
     Value,
+    /// A value that may begin with a minus.
+    Signed,
     /// A value; the option may stand several times.
     Values,
 }
@@ -87,10 +107,11 @@ fn valued(
     }
 }
 
-// One with a part file or a probe file after it.
+// One with a file after it.
 fn filed(
     name: &'static str,
     value: &'static str,
+    files: Files,
     brief: &'static str,
     help: &'static str,
 ) -> Spelled {
@@ -98,7 +119,7 @@ fn filed(
         name,
         behind: Behind::Value,
         value,
-        files: Files::Tables,
+        files,
         brief,
         help,
     }
@@ -150,6 +171,7 @@ impl Choice {
             Choice::Probe => filed(
                 "probe",
                 "PROBE",
+                Files::Tables,
                 "the boxes of the probe",
                 "The boxes that are fixed to the tip, a TOML text; the page shows them, and where they meet a block",
             ),
@@ -162,6 +184,7 @@ impl Choice {
             Choice::Part => filed(
                 "part",
                 "PART",
+                Files::Tables,
                 "the part file",
                 "The workpiece whose tip is taken",
             ),
@@ -187,6 +210,63 @@ impl Choice {
                 "touch",
                 "touch points one by one",
                 "Touches each point along an axis of a feature of several, in lines of its own",
+            ),
+            Choice::Machine => flag(
+                "machine",
+                "machine coordinates",
+                "Prints the points in machine coordinates, as vcm blocks --near reads them",
+            ),
+            Choice::Unit => valued(
+                "unit",
+                "UNIT",
+                "the unit of the model",
+                "What a length of the model is, mm or inch; mm if not given",
+            ),
+            Choice::Turn => valued(
+                "turn",
+                "TURNS",
+                "how the model is turned",
+                "Quarter turns of the model about axes of the machine, from left to right, as x90,z-90",
+            ),
+            Choice::At => Spelled {
+                name: "at",
+                behind: Behind::Signed,
+                value: "X,Y,Z",
+                files: Files::None,
+                brief: "where the model lies",
+                help: "Where the origin of the turned model lies on the machine, in millimetres; 0,0,0 if not given",
+            },
+            Choice::Within => valued(
+                "within",
+                "MM",
+                "how far blocks reach beyond the model",
+                "How far a block may reach beyond the model on each axis, in millimetres; the finest of round lengths that fits if not given",
+            ),
+            Choice::Most => valued(
+                "most",
+                "N",
+                "the most blocks of the model",
+                "The most blocks of the model, 1 to 4096; with those of the part file never more than 4096",
+            ),
+            Choice::Near => filed(
+                "near",
+                "POINTS",
+                Files::Points,
+                "finer where these points are measured",
+                "Points that are measured, as vcm points --machine prints them; near them the blocks are finer",
+            ),
+            Choice::Into => filed(
+                "into",
+                "PART",
+                Files::Tables,
+                "the part file that the blocks are added to",
+                "The part file that the blocks are added to; without it the limits and home lie round the model, and there is no tip",
+            ),
+            Choice::Name => valued(
+                "name",
+                "NAME",
+                "the name of the blocks",
+                "The name of each block, 1 to 32 printable characters; the name of the model's file if not given",
             ),
         }
     }

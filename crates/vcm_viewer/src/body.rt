@@ -6,7 +6,7 @@ pub(crate) fn head_1() -> &'static [u8] {
 <html lang=\"en\">
 <head>
 <meta charset=\"utf-8\">
-<meta http-equiv=\"Content-Security-Policy\" content=\"default-src 'none'; script-src 'sha256-4Un6zbT5WS+eunPqBHgUfJK2LYUsAy5mSj7g+pbcHc8='; style-src 'sha256-tZAYo0hNMEcehlRa48FhV2BSLA/THZsWiqOfYxc+Ifw='; base-uri 'none'; form-action 'none'\">
+<meta http-equiv=\"Content-Security-Policy\" content=\"default-src 'none'; script-src 'sha256-IfUNypvcbOZi5yiIqxiWE59oMlLSUuNsAQM7fVSUzi4='; style-src 'sha256-tZAYo0hNMEcehlRa48FhV2BSLA/THZsWiqOfYxc+Ifw='; base-uri 'none'; form-action 'none'\">
 <meta name=\"viewport\" content=\"width=device-width, initial-scale=1\">
 <meta name=\"color-scheme\" content=\"light dark\">
 <title>vcm view</title>

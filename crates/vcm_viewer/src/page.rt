@@ -6,7 +6,7 @@ use crate::script::{
     script_10, script_11, script_12, script_13, script_14, script_15, script_16, script_17,
     script_18, script_19, script_20, script_21, script_22, script_23, script_24, script_25,
     script_26, script_27, script_28, script_29, script_30, script_31, script_32, script_33,
-    script_34, script_35, script_36, script_37, script_38,
+    script_34, script_35, script_36, script_37, script_38, script_39,
 };
 use crate::style::{style_1, style_2, style_3, style_4, style_5, style_6, style_7, style_8};
 
@@ -30,7 +30,7 @@ pub fn front() -> [&'static [u8]; 13] {
 }
 
 /// What stands behind the story and the end of its element, in order.
-pub fn back() -> [&'static [u8]; 40] {
+pub fn back() -> [&'static [u8]; 41] {
     [
         between_1(),
         script_1(),
@@ -71,6 +71,7 @@ pub fn back() -> [&'static [u8]; 40] {
         script_36(),
         script_37(),
         script_38(),
+        script_39(),
         end_1(),
     ]
 }
@@ -90,7 +91,7 @@ pub fn style_parts() -> [&'static [u8]; 8] {
 }
 
 /// The script, in order.
-pub fn script_parts() -> [&'static [u8]; 38] {
+pub fn script_parts() -> [&'static [u8]; 39] {
     [
         script_1(),
         script_2(),
@@ -130,5 +131,6 @@ pub fn script_parts() -> [&'static [u8]; 38] {
         script_36(),
         script_37(),
         script_38(),
+        script_39(),
     ]
 }

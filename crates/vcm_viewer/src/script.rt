@@ -98,7 +98,7 @@ const isMachine = (frame) => frame.origin.every((x) => x === 0) && frame.axes.jo
 // The run of a data block.
 function readRun(text) {
   const run = {
-    low: null, high: null, home: null, tip: 0, blocks: [], lines: [], code: [], notices: [], from: 0, listed: null, aims: new Map(),
+    low: null, high: null, home: null, tip: 0, blocks: [], names: new Map(), lines: [], code: [], notices: [], from: 0, listed: null, aims: new Map(),
     variables: new Map(), settings: new Map(), nominal: new Map(), actual: new Map(), frame: new Changes(null),
     output: new Changes(null), touches: [], contact: null, stop: null, open: null, counts: new Map(), boxes: [],
   };
@@ -114,13 +114,13 @@ function readRun(text) {
     last = to;
   };
   const rows = text.split(\"\\n\");
-  if (rows[0] !== \"\" || rows[1] !== \"vcm-view 1\") throw new Error(\"the data is not of this version\");
 "
 }
 
 /// Part 3 of the script.
 pub(crate) fn script_3() -> &'static [u8] {
-    b"  for (let i = 2; i < rows.length; i++) {
+    b"  if (rows[0] !== \"\" || rows[1] !== \"vcm-view 1\") throw new Error(\"the data is not of this version\");
+  for (let i = 2; i < rows.length; i++) {
     const row = rows[i];
     const key = row.charCodeAt(0);
     if (key >= 48 && key <= 57) {
@@ -163,14 +163,14 @@ pub(crate) fn script_3() -> &'static [u8] {
       case \"V\": run.variables.set(words[0], { kind: words[1], changes: new Changes(words[2]) }); break;
       case \"S\": run.settings.set(words[0], { changes: new Changes(words[1]) }); break;
       case \"N\": run.notices.push({ line: Number(words[0]), word: words[1] }); break;
-      case \"D\": run.frame.first = frameOf(null, words); break;
-      case \"F\": case \"f\": {
 "
 }
 
 /// Part 4 of the script.
 pub(crate) fn script_4() -> &'static [u8] {
-    b"        const found = /^(FA?)\\((\\w+)\\)=FEAT\\/POINT,CART,(.*)$/.exec(rest);
+    b"      case \"D\": run.frame.first = frameOf(null, words); break;
+      case \"F\": case \"f\": {
+        const found = /^(FA?)\\((\\w+)\\)=FEAT\\/POINT,CART,(.*)$/.exec(rest);
         const map = found[1] === \"F\" ? run.nominal : run.actual;
         const value = found[3].split(\",\");
         if (!map.has(found[2])) map.set(found[2], new Changes(null));
@@ -207,15 +207,15 @@ pub(crate) fn script_4() -> &'static [u8] {
   }
   const title = run.lines.map((it) => /^\\s*DMISMN\\s*\\/\\s*'([^']*)'/i.exec(it)).find((it) => it);
   run.title = title ? title[1] : \"Run of an image\";
-  return run;
-}
-
 "
 }
 
 /// Part 5 of the script.
 pub(crate) fn script_5() -> &'static [u8] {
-    b"// The boxes of a probe, from lines `Q NAME LOW HIGH`, each with its contacts in the run and with how much room is left round it, from the lines of its clearance.
+    b"  return run;
+}
+
+// The boxes of a probe, from lines `Q NAME LOW HIGH`, each with its contacts in the run and with how much room is left round it, from the lines of its clearance.
 function readBoxes(run, text) {
   const named = (name) => run.boxes.find((it) => it.name === name);
   for (const row of text.split(\"\\n\")) {
@@ -230,7 +230,18 @@ function readBoxes(run, text) {
   }
 }
 
+// The names of blocks, from lines `K NUMBER NAME`.
+function readNames(run, text) {
+  for (const row of text.split(\"\\n\")) {
+    const words = row.split(\" \");
+    if (words[0] === \"K\") run.names.set(Number(words[1]), shownText(words.slice(2).join(\" \")));
+  }
+}
+
 // ---- what is asked of a run
+
+// a block by its number, and its name where it has one
+const blockText = (run, number) => \"block \" + number + (run.names.has(number) ? ` \"${run.names.get(number)}\"` : \"\");
 
 // the line of the shown text that a statement stands on: of a program its source line, of a listing its own
 const rowOf = (run, statement) => run.listed === null ? (run.code[statement] ? run.code[statement].line : 0) : run.listed + statement + 1;
@@ -240,7 +251,12 @@ const positionAt = (run, k) => [run.position[3 * k], run.position[3 * k + 1], ru
 
 // the statement that is next behind a step, or null behind the last one
 function nextAt(run, k) {
-  if (k < run.length) return { statement: run.statement[k + 1], line: run.line[k + 1] };
+"
+}
+
+/// Part 6 of the script.
+pub(crate) fn script_6() -> &'static [u8] {
+    b"  if (k < run.length) return { statement: run.statement[k + 1], line: run.line[k + 1] };
   return run.open;
 }
 
@@ -256,12 +272,7 @@ function inFrame(frame, at) {
 // micrometres as millimetres with three decimals
 function millimetres(x) {
   const size = Math.abs(x);
-"
-}
-
-/// Part 6 of the script.
-pub(crate) fn script_6() -> &'static [u8] {
-    b"  return (x < 0 ? \"-\" : \"\") + Math.floor(size / 1000) + \".\" + String(size % 1000).padStart(3, \"0\");
+  return (x < 0 ? \"-\" : \"\") + Math.floor(size / 1000) + \".\" + String(size % 1000).padStart(3, \"0\");
 }
 const pointText = (at) => at.map(millimetres).join(\"  \");
 
@@ -289,7 +300,12 @@ const widths = { m: 1.6, a: 1.6, s: 2.6, r: 1.8, x: 1.2 };
 function readColours() {
   const style = getComputedStyle(document.documentElement);
   const get = (name) => style.getPropertyValue(\"--\" + name).trim();
-  const names = [\"paper\", \"ink\", \"muted\", \"grid\", \"block\", \"block-high\", \"block-line\", \"hit\", \"hit-line\", \"m\", \"a\", \"s\", \"r\", \"x\", \"probe\", \"accent\", \"danger\"];
+"
+}
+
+/// Part 7 of the script.
+pub(crate) fn script_7() -> &'static [u8] {
+    b"  const names = [\"paper\", \"ink\", \"muted\", \"grid\", \"block\", \"block-high\", \"block-line\", \"hit\", \"hit-line\", \"m\", \"a\", \"s\", \"r\", \"x\", \"probe\", \"accent\", \"danger\"];
   return Object.fromEntries(names.map((name) => [name, get(name)]));
 }
 
@@ -299,12 +315,7 @@ function between(one, two, t) {
   return \"#\" + [0, 1, 2].map((i) => Math.round(of(one, i) + t * (of(two, i) - of(one, i))).toString(16).padStart(2, \"0\")).join(\"\");
 }
 
-"
-}
-
-/// Part 7 of the script.
-pub(crate) fn script_7() -> &'static [u8] {
-    b"// A step of 1, 2 or 5 times a power of ten micrometres that is at least so long.
+// A step of 1, 2 or 5 times a power of ten micrometres that is at least so long.
 function niceStep(least) {
   const power = 10 ** Math.floor(Math.log10(Math.max(least, 1)));
   return [1, 2, 5, 10].map((x) => x * power).find((x) => x >= least);
@@ -340,7 +351,12 @@ class Labels {
     this.points.push([text, x, y]);
     g.font = \"600 11px system-ui, sans-serif\";
     const w = g.measureText(text).width;
-    for (const [left, top] of [[x + away, y - 17], [x + away, y + 4], [x - away - w, y - 17], [x - away - w, y + 4]]) {
+"
+}
+
+/// Part 8 of the script.
+pub(crate) fn script_8() -> &'static [u8] {
+    b"    for (const [left, top] of [[x + away, y - 17], [x + away, y + 4], [x - away - w, y - 17], [x - away - w, y + 4]]) {
       const box = [left - 2, top, left + w + 2, top + 14];
       const inside = left >= 2 && left + w <= this.width - 2 && top >= 2 && top + 14 <= this.height - 2;
       const free = this.taken.every((it) => box[0] > it[2] || box[2] < it[0] || box[1] > it[3] || box[3] < it[1]);
@@ -349,12 +365,7 @@ class Labels {
       this.taken.push(box);
       g.lineJoin = \"round\";
       g.strokeStyle = this.colours.paper;
-"
-}
-
-/// Part 8 of the script.
-pub(crate) fn script_8() -> &'static [u8] {
-    b"      g.lineWidth = 3.5;
+      g.lineWidth = 3.5;
       g.strokeText(text, left, top + 11);
       g.fillStyle = colour;
       g.fillText(text, left, top + 11);
@@ -394,7 +405,12 @@ class Sheet {
   }
 
   x(p) { return this.width / 2 + (p - this.camera.centre[this.sheet.right]) * this.camera.scale; }
-  y(p) { return this.height / 2 - (p - this.camera.centre[this.sheet.up]) * this.camera.scale; }
+"
+}
+
+/// Part 9 of the script.
+pub(crate) fn script_9() -> &'static [u8] {
+    b"  y(p) { return this.height / 2 - (p - this.camera.centre[this.sheet.up]) * this.camera.scale; }
   place(at) { return [this.x(at[this.sheet.right]), this.y(at[this.sheet.up])]; }
 
   // Lines, blocks and, faintly, the whole way (of a very long run each of so many pieces): what stays from step to step.
@@ -406,12 +422,7 @@ class Sheet {
     this.fixed.width = this.canvas.width;
     this.fixed.height = this.canvas.height;
     const g = this.fixed.getContext(\"2d\");
-"
-}
-
-/// Part 9 of the script.
-pub(crate) fn script_9() -> &'static [u8] {
-    b"    g.scale(this.ratio, this.ratio);
+    g.scale(this.ratio, this.ratio);
     g.fillStyle = colours.paper;
     g.fillRect(0, 0, this.width, this.height);
     this.drawGrid(g, colours);
@@ -440,7 +451,12 @@ pub(crate) fn script_9() -> &'static [u8] {
   }
 
   drawScale(g, colours) {
-    const step = niceStep(44 / this.camera.scale), long = step * this.camera.scale, text = step < 1000 ? step + \" \\u00b5m\" : step / 1000 + \" mm\";
+"
+}
+
+/// Part 10 of the script.
+pub(crate) fn script_10() -> &'static [u8] {
+    b"    const step = niceStep(44 / this.camera.scale), long = step * this.camera.scale, text = step < 1000 ? step + \" \\u00b5m\" : step / 1000 + \" mm\";
     g.font = \"11px system-ui, sans-serif\";
     for (const [colour, wide] of [[colours.paper, 4], [colours.ink, 1]]) {
       g.strokeStyle = colour;
@@ -456,12 +472,7 @@ pub(crate) fn script_9() -> &'static [u8] {
 
   drawBlocks(g, colours, hit) {
     const { right, up, near } = this.sheet, scale = this.camera.scale;
-"
-}
-
-/// Part 10 of the script.
-pub(crate) fn script_10() -> &'static [u8] {
-    b"    const many = this.sorted.length > 500;
+    const many = this.sorted.length > 500;
     const span = this.most - this.least;
     for (const { b, number } of this.sorted) {
       const x = this.x(b[right]), y = this.y(b[up + 3]), w = (b[right + 3] - b[right]) * scale, h = (b[up + 3] - b[up]) * scale;
@@ -486,7 +497,12 @@ pub(crate) fn script_10() -> &'static [u8] {
     const thin = this.run.kinds.length > 2000 ? 0.6 : 1;
     for (const kind of \"maxrs\") {
       g.strokeStyle = colours[kind];
-      g.lineWidth = widths[kind] * wide * thin;
+"
+}
+
+/// Part 11 of the script.
+pub(crate) fn script_11() -> &'static [u8] {
+    b"      g.lineWidth = widths[kind] * wide * thin;
       g.setLineDash(to - from > 20000 ? [] : dashes[kind]);
       // a stroke of very many pieces that lie over each other is slow: so few in one go, and none that would not be seen
       let held = 0, lastX = NaN, lastY = NaN;
@@ -496,12 +512,7 @@ pub(crate) fn script_10() -> &'static [u8] {
         const x = this.x(ends[6 * i + right]), y = this.y(ends[6 * i + up]), p = this.x(ends[6 * i + 3 + right]), q = this.y(ends[6 * i + 3 + up]);
         if (Math.max(x, p) < 0 || Math.min(x, p) > this.width || Math.max(y, q) < 0 || Math.min(y, q) > this.height) continue;
         if (to - from > 5000 && Math.abs(p - x) + Math.abs(q - y) < 0.4) continue;
-"
-}
-
-/// Part 11 of the script.
-pub(crate) fn script_11() -> &'static [u8] {
-    b"        if (x !== lastX || y !== lastY) g.moveTo(x, y);
+        if (x !== lastX || y !== lastY) g.moveTo(x, y);
         g.lineTo(p, q);
         lastX = p;
         lastY = q;
@@ -529,7 +540,12 @@ pub(crate) fn script_11() -> &'static [u8] {
     for (let i = Math.max(0, touched - 2500); i < touched; i++) this.dot(g, colours, run.touches[i].at, colours.s, many ? 2 : 3.5);
     this.labels = new Labels(g, colours, this.width, this.height);
     this.labels.keep(...this.place(probe), 7);
-    if (run.contact && run.contact.step === k) this.labels.put(\"block \" + run.contact.block, ...this.place(run.contact.at), colours.danger, true, Math.max(10, run.tip * this.camera.scale + 5));
+"
+}
+
+/// Part 12 of the script.
+pub(crate) fn script_12() -> &'static [u8] {
+    b"    if (run.contact && run.contact.step === k) this.labels.put(blockText(run, run.contact.block), ...this.place(run.contact.at), colours.danger, true, Math.max(10, run.tip * this.camera.scale + 5));
     this.mark(g, colours, run.home, \"home\", colours.muted);
     this.drawBoxes(g, colours, k, probe);
     this.drawProbe(g, colours, probe);
@@ -541,12 +557,7 @@ pub(crate) fn script_11() -> &'static [u8] {
     const { right, up } = this.sheet, ends = this.run.ends, kind = this.run.kinds[i];
     const x = this.x(ends[6 * i + right]), y = this.y(ends[6 * i + up]), p = this.x(ends[6 * i + 3 + right]), q = this.y(ends[6 * i + 3 + up]);
     g.strokeStyle = colours.paper;
-"
-}
-
-/// Part 12 of the script.
-pub(crate) fn script_12() -> &'static [u8] {
-    b"    g.lineWidth = widths[kind] * 2.2 + 3;
+    g.lineWidth = widths[kind] * 2.2 + 3;
     g.beginPath(); g.moveTo(x, y); g.lineTo(p, q); g.stroke();
     g.strokeStyle = colours[kind];
     g.lineWidth = widths[kind] * 2.2;
@@ -577,7 +588,12 @@ pub(crate) fn script_12() -> &'static [u8] {
   }
 
   names(touched, colour) {
-    for (let i = touched - 1; i >= 0; i--) this.labels.put(this.run.touches[i].name, ...this.place(this.run.touches[i].at), colour);
+"
+}
+
+/// Part 13 of the script.
+pub(crate) fn script_13() -> &'static [u8] {
+    b"    for (let i = touched - 1; i >= 0; i--) this.labels.put(this.run.touches[i].name, ...this.place(this.run.touches[i].at), colour);
   }
 
   drawProbe(g, colours, at) {
@@ -599,14 +615,9 @@ pub(crate) fn script_12() -> &'static [u8] {
   // The boxes that are fixed to the tip; one that enters a block in this step stands there too.
   drawBoxes(g, colours, k, probe) {
     for (const box of this.run.boxes) this.outline(g, box, probe, colours.probe, 1);
-"
-}
-
-/// Part 13 of the script.
-pub(crate) fn script_13() -> &'static [u8] {
-    b"    for (const { box, contact } of contactsIn(this.run, k)) {
+    for (const { box, contact } of contactsIn(this.run, k)) {
       this.outline(g, box, contact.at, colours.danger, 2);
-      this.labels.put(box.name + \", block \" + contact.block, ...this.place(contact.at), colours.danger);
+      this.labels.put(box.name + \", \" + blockText(this.run, contact.block), ...this.place(contact.at), colours.danger);
     }
   }
 
@@ -632,7 +643,12 @@ pub(crate) fn script_13() -> &'static [u8] {
     const { right, up } = this.sheet, ends = this.run.ends;
     let best = 8, found = -1;
     for (let i = 0; i < this.run.kinds.length; i++) {
-      const away = distance(x, y, this.x(ends[6 * i + right]), this.y(ends[6 * i + up]), this.x(ends[6 * i + 3 + right]), this.y(ends[6 * i + 3 + up]));
+"
+}
+
+/// Part 14 of the script.
+pub(crate) fn script_14() -> &'static [u8] {
+    b"      const away = distance(x, y, this.x(ends[6 * i + right]), this.y(ends[6 * i + up]), this.x(ends[6 * i + 3 + right]), this.y(ends[6 * i + 3 + up]));
       if (away < best) { best = away; found = i; }
     }
     if (found >= 0) return { piece: found };
@@ -653,12 +669,7 @@ function distance(x, y, a, b, c, d) {
 
 // The view in space, by WebGL: blocks with their depths, the way in front of and, faintly, behind them.
 
-"
-}
-
-/// Part 14 of the script.
-pub(crate) fn script_14() -> &'static [u8] {
-    b"const blockShader = [
+const blockShader = [
   `attribute vec3 at; attribute vec3 face; attribute float hit; uniform mat4 look; uniform vec3 tone, high, struck; varying vec3 shown;
    void main() { gl_Position = look * vec4(at, 1.0); float light = face.z > 0.5 ? 1.0 : face.z < -0.5 ? 0.35 : abs(face.x) > 0.5 ? 0.62 : 0.8;
      shown = (hit > 0.5 ? struck : mix(tone, high, light)) * (0.72 + 0.28 * light); }`,
@@ -671,19 +682,19 @@ const lineShader = [
 // A piece is two triangles that are as wide on the screen as they should; those behind this step are faint, those of it are wider.
 const wayShader = [
   `attribute vec3 from, to; attribute vec2 corner; attribute vec2 piece; uniform mat4 look; uniform vec2 size; uniform float now; uniform vec4 colours[5]; uniform float faint, wide;
-   varying vec4 shown; varying float along; varying float kind;
+"
+}
+
+/// Part 15 of the script.
+pub(crate) fn script_15() -> &'static [u8] {
+    b"   varying vec4 shown; varying float along; varying float kind;
    void main() { vec4 a = look * vec4(from, 1.0), b = look * vec4(to, 1.0); vec2 way = (b.xy - a.xy) * size; float len = max(length(way), 0.001);
      vec2 across = vec2(-way.y, way.x) / len; float w = (piece.x == now ? 2.2 : 1.0) * wide * (piece.y > 2.5 && piece.y < 3.5 ? 1.5 : 1.0);
      vec4 p = mix(a, b, corner.x); p.xy += across * corner.y * w / size; p.z -= 0.0006; gl_Position = p;
      int n = int(piece.y + 0.5); shown = n == 0 ? colours[0] : n == 1 ? colours[1] : n == 2 ? colours[2] : n == 3 ? colours[3] : colours[4];
      shown.a *= faint * (piece.x > now ? 0.22 : 1.0); along = corner.x * len; kind = piece.y; }`,
   `precision mediump float; varying vec4 shown; varying float along, kind;
-"
-}
-
-/// Part 15 of the script.
-pub(crate) fn script_15() -> &'static [u8] {
-    b"   void main() { float n = floor(kind + 0.5); if ((n == 1.0 || n == 4.0) && mod(along, 11.0) > 7.0) discard; if (n == 2.0 && mod(along, 6.0) > 2.5) discard; gl_FragColor = vec4(shown.rgb * shown.a, shown.a); }`,
+   void main() { float n = floor(kind + 0.5); if ((n == 1.0 || n == 4.0) && mod(along, 11.0) > 7.0) discard; if (n == 2.0 && mod(along, 6.0) > 2.5) discard; gl_FragColor = vec4(shown.rgb * shown.a, shown.a); }`,
 ];
 const wayKinds = \"marsx\";
 
@@ -713,7 +724,12 @@ class Solid {
     this.makeFloor();
   }
 
-  program([vertex, fragment]) {
+"
+}
+
+/// Part 16 of the script.
+pub(crate) fn script_16() -> &'static [u8] {
+    b"  program([vertex, fragment]) {
     const gl = this.gl, program = gl.createProgram();
     for (const [kind, text] of [[gl.VERTEX_SHADER, vertex], [gl.FRAGMENT_SHADER, fragment]]) {
       const shader = gl.createShader(kind);
@@ -733,12 +749,7 @@ class Solid {
     return buffer;
   }
 
-"
-}
-
-/// Part 16 of the script.
-pub(crate) fn script_16() -> &'static [u8] {
-    b"  local(p) { return [(p[0] - this.middle[0]) / 1000, (p[1] - this.middle[1]) / 1000, (p[2] - this.middle[2]) / 1000]; }
+  local(p) { return [(p[0] - this.middle[0]) / 1000, (p[1] - this.middle[1]) / 1000, (p[2] - this.middle[2]) / 1000]; }
 
   makeBlocks() {
     const n = this.run.blocks.length, faces = new Float32Array(n * 36 * 7), lines = new Float32Array(n * 24 * 3), hit = this.run.contact && this.run.contact.block;
@@ -760,7 +771,12 @@ pub(crate) fn script_16() -> &'static [u8] {
   }
 
   makeWay() {
-    const run = this.run, n = run.kinds.length, numbers = new Float32Array(n * 6 * 10);
+"
+}
+
+/// Part 17 of the script.
+pub(crate) fn script_17() -> &'static [u8] {
+    b"    const run = this.run, n = run.kinds.length, numbers = new Float32Array(n * 6 * 10);
     let o = 0;
     for (let i = 0; i < n; i++) {
       const a = this.local(run.ends.subarray(6 * i, 6 * i + 3)), b = this.local(run.ends.subarray(6 * i + 3, 6 * i + 6));
@@ -774,12 +790,7 @@ pub(crate) fn script_16() -> &'static [u8] {
   }
 
   makeFloor() {
-"
-}
-
-/// Part 17 of the script.
-pub(crate) fn script_17() -> &'static [u8] {
-    b"    const { low, high } = this.box, span = Math.max(high[0] - low[0], high[1] - low[1], 1000), step = niceStep(span / 9), lines = [];
+    const { low, high } = this.box, span = Math.max(high[0] - low[0], high[1] - low[1], 1000), step = niceStep(span / 9), lines = [];
     const from = [0, 1].map((k) => Math.floor((low[k] - step / 2) / step) * step), to = [0, 1].map((k) => Math.ceil((high[k] + step / 2) / step) * step);
     for (let x = from[0]; x <= to[0]; x += step) lines.push(...this.local([x, from[1], this.floor]), ...this.local([x, to[1], this.floor]));
     for (let y = from[1]; y <= to[1]; y += step) lines.push(...this.local([from[0], y, this.floor]), ...this.local([to[0], y, this.floor]));
@@ -798,7 +809,12 @@ pub(crate) fn script_17() -> &'static [u8] {
 
   centre() { return this.camera.centre.map((x, k) => x + this.offset[k]); }
 
-  // The greatest scale with which points are in view, in the middle of which the view is put.
+"
+}
+
+/// Part 18 of the script.
+pub(crate) fn script_18() -> &'static [u8] {
+    b"  // The greatest scale with which points are in view, in the middle of which the view is put.
   fit(points, width, height) {
     const sa = Math.sin(this.azimuth), ca = Math.cos(this.azimuth), se = Math.sin(this.elevation), ce = Math.cos(this.elevation), c = this.camera.centre;
     let left = Infinity, right = -Infinity, low = Infinity, high = -Infinity;
@@ -806,12 +822,7 @@ pub(crate) fn script_17() -> &'static [u8] {
       const x = p[0] - c[0], y = p[1] - c[1], z = p[2] - c[2], u = ca * x + sa * y, v = (ca * y - sa * x) * se + z * ce;
       left = Math.min(left, u); right = Math.max(right, u); low = Math.min(low, v); high = Math.max(high, v);
     }
-"
-}
-
-/// Part 18 of the script.
-pub(crate) fn script_18() -> &'static [u8] {
-    b"    const u = (left + right) / 2, v = (low + high) / 2;
+    const u = (left + right) / 2, v = (low + high) / 2;
     this.offset = [ca * u - sa * se * v, sa * u + ca * se * v, ce * v];
     return Math.min(width / Math.max(right - left, 2000), height / Math.max(high - low, 2000));
   }
@@ -841,7 +852,12 @@ pub(crate) fn script_18() -> &'static [u8] {
       if (canvas.width !== w || canvas.height !== h) { canvas.width = w; canvas.height = h; }
     }
     const { low, high } = this.box, c = this.centre();
-    this.depth = (Math.hypot(...low.map((x, i) => Math.max(high[i] - c[i], c[i] - x, 1))) * 1.5) / 1000 + 1;
+"
+}
+
+/// Part 19 of the script.
+pub(crate) fn script_19() -> &'static [u8] {
+    b"    this.depth = (Math.hypot(...low.map((x, i) => Math.max(high[i] - c[i], c[i] - x, 1))) * 1.5) / 1000 + 1;
     const gl = this.gl, look = this.matrix(), rgb = (name) => [0, 1, 2].map((i) => parseInt(colours[name].slice(1 + 2 * i, 3 + 2 * i), 16) / 255);
     gl.viewport(0, 0, this.canvas.width, this.canvas.height);
     gl.clearColor(...rgb(\"paper\"), 1);
@@ -850,12 +866,7 @@ pub(crate) fn script_18() -> &'static [u8] {
     gl.enable(gl.BLEND);
     gl.blendFunc(gl.ONE, gl.ONE_MINUS_SRC_ALPHA);
     const begin = (program) => { gl.useProgram(program); gl.uniformMatrix4fv(gl.getUniformLocation(program, \"look\"), false, look); };
-"
-}
-
-/// Part 19 of the script.
-pub(crate) fn script_19() -> &'static [u8] {
-    b"    const attribute = (program, name, size, stride, offset) => {
+    const attribute = (program, name, size, stride, offset) => {
       const at = gl.getAttribLocation(program, name);
       gl.enableVertexAttribArray(at);
       gl.vertexAttribPointer(at, size, gl.FLOAT, false, 4 * stride, 4 * offset);
@@ -877,7 +888,12 @@ pub(crate) fn script_19() -> &'static [u8] {
     for (const [name, colour] of [[\"tone\", \"block\"], [\"high\", \"block-high\"], [\"struck\", this.run.contact && this.run.contact.step === k ? \"hit\" : \"block-high\"]]) gl.uniform3f(gl.getUniformLocation(this.blockProgram, name), ...rgb(colour));
     gl.drawArrays(gl.TRIANGLES, 0, this.faces.count);
     if (!this.isSlow || this.run.blocks.length <= 500) lines(this.edges, \"block-line\", this.run.blocks.length > 500 ? 0.45 : 1, 0.0004);
-    const way = this.wayProgram;
+"
+}
+
+/// Part 20 of the script.
+pub(crate) fn script_20() -> &'static [u8] {
+    b"    const way = this.wayProgram;
     begin(way);
     gl.bindBuffer(gl.ARRAY_BUFFER, this.way.buffer);
     attribute(way, \"from\", 3, 10, 0);
@@ -889,12 +905,7 @@ pub(crate) fn script_19() -> &'static [u8] {
     gl.uniform1f(gl.getUniformLocation(way, \"wide\"), this.run.kinds.length > 2000 ? 0.6 : 1);
     gl.uniform4fv(gl.getUniformLocation(way, \"colours\"), [...wayKinds].flatMap((kind) => [...rgb(kind), 1]));
     // where a frame takes long, of the way what is near this step
-"
-}
-
-/// Part 20 of the script.
-pub(crate) fn script_20() -> &'static [u8] {
-    b"    const pieces = this.run.kinds.length, at = this.run.pieceFrom[k], from = this.isSlow ? Math.max(0, at - 2500) : 0, to = this.isSlow ? Math.min(pieces, at + 2500) : pieces;
+    const pieces = this.run.kinds.length, at = this.run.pieceFrom[k], from = this.isSlow ? Math.max(0, at - 2500) : 0, to = this.isSlow ? Math.min(pieces, at + 2500) : pieces;
     gl.depthMask(false);
     gl.uniform1f(gl.getUniformLocation(way, \"faint\"), 1);
     gl.drawArrays(gl.TRIANGLES, 6 * from, 6 * (to - from));
@@ -920,7 +931,12 @@ pub(crate) fn script_20() -> &'static [u8] {
     g.clearRect(0, 0, this.width, this.height);
     const touched = run.touchSteps.count(k), many = run.touches.length > 300, labels = new Labels(g, colours, this.width, this.height);
     if (!many) for (let i = 0; i < touched; i++) {
-      const [x, y] = this.place(run.touches[i].at);
+"
+}
+
+/// Part 21 of the script.
+pub(crate) fn script_21() -> &'static [u8] {
+    b"      const [x, y] = this.place(run.touches[i].at);
       g.fillStyle = colours.s; g.strokeStyle = colours.paper; g.lineWidth = 1;
       g.beginPath(); g.arc(x, y, 3.5, 0, 7); g.fill(); g.stroke();
     }
@@ -930,12 +946,7 @@ pub(crate) fn script_20() -> &'static [u8] {
     const [x, y] = this.place(probe), [fx, fy] = this.place([probe[0], probe[1], this.floor]);
     g.strokeStyle = colours.muted; g.lineWidth = 1; g.setLineDash([3, 3]);
     g.beginPath(); g.moveTo(x, y); g.lineTo(fx, fy); g.stroke(); g.setLineDash([]);
-"
-}
-
-/// Part 21 of the script.
-pub(crate) fn script_21() -> &'static [u8] {
-    b"    g.beginPath(); g.ellipse(fx, fy, 5, 5 * Math.max(0.15, Math.sin(this.elevation)), 0, 0, 7); g.stroke();
+    g.beginPath(); g.ellipse(fx, fy, 5, 5 * Math.max(0.15, Math.sin(this.elevation)), 0, 0, 7); g.stroke();
     g.strokeStyle = colours.probe; g.fillStyle = colours.probe; g.lineWidth = 2;
     if (run.tip * this.scale() > 4) this.wire(g, probe.map((p) => p - run.tip), probe.map((p) => p + run.tip), 1.5); else { g.beginPath(); g.arc(x, y, 7, 0, 7); g.stroke(); }
     g.beginPath(); g.arc(x, y, 2, 0, 7); g.fill();
@@ -952,21 +963,21 @@ pub(crate) fn script_21() -> &'static [u8] {
       this.wire(g, box.low.map((low, i) => contact.at[i] + low), box.high.map((high, i) => contact.at[i] + high), 2);
     }
     labels.keep(x, y, 7);
-    if (run.contact && run.contact.step === k) labels.put(\"block \" + run.contact.block, ...this.place(run.contact.at), colours.danger, true, Math.max(10, 1.4 * run.tip * this.scale() + 5));
+    if (run.contact && run.contact.step === k) labels.put(blockText(run, run.contact.block), ...this.place(run.contact.at), colours.danger, true, Math.max(10, 1.4 * run.tip * this.scale() + 5));
     labels.put(\"home\", hx, hy, colours.muted);
-    if (run.touches.length <= 200) for (let i = touched - 1; i >= 0; i--) labels.put(run.touches[i].name, ...this.place(run.touches[i].at), colours.ink);
+"
+}
+
+/// Part 22 of the script.
+pub(crate) fn script_22() -> &'static [u8] {
+    b"    if (run.touches.length <= 200) for (let i = touched - 1; i >= 0; i--) labels.put(run.touches[i].name, ...this.place(run.touches[i].at), colours.ink);
     const ox = 26, oy = this.height - 30;
     g.font = \"600 10px system-ui, sans-serif\";
     [\"X\", \"Y\", \"Z\"].forEach((name, i) => {
       const unit = [0, 0, 0]; unit[i] = 1;
       const c = this.centre(), [u, v] = this.seen([c[0] + unit[0], c[1] + unit[1], c[2] + unit[2]]), long = 18 / this.scale();
       g.strokeStyle = colours.ink; g.fillStyle = colours.ink; g.lineWidth = 1.5;
-"
-}
-
-/// Part 22 of the script.
-pub(crate) fn script_22() -> &'static [u8] {
-    b"      g.beginPath(); g.moveTo(ox, oy); g.lineTo(ox + u * long, oy - v * long); g.stroke();
+      g.beginPath(); g.moveTo(ox, oy); g.lineTo(ox + u * long, oy - v * long); g.stroke();
       g.fillText(name, ox + u * long * 1.45 - 3, oy - v * long * 1.45 + 4);
     });
   }
@@ -1004,7 +1015,13 @@ pub(crate) fn script_22() -> &'static [u8] {
   let run;
   try {
     run = readRun($(\"run\").textContent);
-    if ($(\"probe-boxes\")) readBoxes(run, $(\"probe-boxes\").textContent);
+    if ($(\"block-names\")) readNames(run, $(\"block-names\").textContent);
+"
+}
+
+/// Part 23 of the script.
+pub(crate) fn script_23() -> &'static [u8] {
+    b"    if ($(\"probe-boxes\")) readBoxes(run, $(\"probe-boxes\").textContent);
   } catch (fault) {
     $(\"fault\").hidden = false;
     $(\"fault\").textContent = \"The run in this page cannot be read: \" + fault.message + \".\";
@@ -1022,12 +1039,7 @@ pub(crate) fn script_22() -> &'static [u8] {
 
   // ---- the head
 
-"
-}
-
-/// Part 23 of the script.
-pub(crate) fn script_23() -> &'static [u8] {
-    b"  const stopWords = { TRAVEL: \"Outside the limits\", MISSED: \"Touched nothing\" };
+  const stopWords = { TRAVEL: \"Outside the limits\", MISSED: \"Touched nothing\" };
   function verdict() {
     const line = run.stop ? run.stop.text.slice(5) : run.open ? run.open.text : \"\";
     const word = line.split(\" \")[0];
@@ -1036,7 +1048,7 @@ pub(crate) fn script_23() -> &'static [u8] {
     let text, kind = \"bad\";
     if (word === \"ENDED\") [kind, text] = [\"ok\", \"Came to its end, no collision\"];
     else if (!run.stop) [kind, text] = [\"warn\", \"Not at its end: \" + line];
-    else if (hit) text = `Collision with block ${hit[1]} on line ${place[2]}, after ${hit[2]} thousandths of the ${line.split(\" \")[1].toLowerCase()}`;
+    else if (hit) text = `Collision with ${blockText(run, Number(hit[1]))} on line ${place[2]}, after ${hit[2]} thousandths of the ${line.split(\" \")[1].toLowerCase()}`;
     else text = (stopWords[word] || \"Stopped: \" + word) + (word === \"TRAVEL\" ? \" (\" + line.split(\" \")[1].toLowerCase() + \")\" : \"\") + (place ? \" on line \" + place[2] : \"\");
     return { kind, text, line };
   }
@@ -1044,10 +1056,15 @@ pub(crate) fn script_23() -> &'static [u8] {
   function withBoxes(told) {
     const first = run.firstMet, more = run.boxes.filter((it) => it.contacts.length).length - 1;
     if (!first) return told;
-    const text = `${told.text.replace(\", no collision\", \"\")}; ${first.name} meets block ${first.block} on line ${first.line}`;
+    const text = `${told.text.replace(\", no collision\", \"\")}; ${first.name} meets ${blockText(run, first.block)} on line ${first.line}`;
     return { ...told, kind: \"bad\", text: text + (more > 0 ? `, and ${more} more of the boxes meet blocks` : \"\") };
   }
-  const told = withBoxes(verdict());
+"
+}
+
+/// Part 24 of the script.
+pub(crate) fn script_24() -> &'static [u8] {
+    b"  const told = withBoxes(verdict());
   $(\"title\").textContent = run.title;
   document.title = run.title + \" \\u2013 \" + told.text;
   $(\"verdict\").className = \"verdict \" + told.kind;
@@ -1055,12 +1072,7 @@ pub(crate) fn script_23() -> &'static [u8] {
   $(\"verdict\").title = run.stop ? run.stop.text : told.line;
   const counted = (n, one, more) => n.toLocaleString(\"en\") + \" \" + (n === 1 ? one : more);
   const facts = [counted(run.length + run.from, \"step\", \"steps\"), counted(run.blocks.length, \"block\", \"blocks\"), run.tip ? `tip ${millimetres(2 * run.tip)} mm` : \"tip a point\"];
-"
-}
-
-/// Part 24 of the script.
-pub(crate) fn script_24() -> &'static [u8] {
-    b"  if (run.touches.length) facts.push(counted(run.touches.length, \"measured point\", \"measured points\"));
+  if (run.touches.length) facts.push(counted(run.touches.length, \"measured point\", \"measured points\"));
   if (run.boxes.length) facts.push(counted(run.boxes.length, \"box of the probe\", \"boxes of the probe\"));
   if (run.notices.length) facts.push(counted(run.notices.length, \"notice\", \"notices\"));
   $(\"facts\").textContent = facts.join(\" \\u00b7 \") + (run.from ? ` \\u00b7 shown: the last ${run.length.toLocaleString(\"en\")} steps` : \"\");
@@ -1086,7 +1098,12 @@ pub(crate) fn script_24() -> &'static [u8] {
     const all = document.createDocumentFragment();
     run.lines.forEach((text, i) => {
       if (i % 100 === 0) { chunk = element(\"div\", undefined, \"chunk\"); all.append(chunk); }
-      const n = i + 1, row = element(\"div\", undefined, \"line\"), times = run.counts.get(n);
+"
+}
+
+/// Part 25 of the script.
+pub(crate) fn script_25() -> &'static [u8] {
+    b"      const n = i + 1, row = element(\"div\", undefined, \"line\"), times = run.counts.get(n);
       row.dataset.line = n;
       const number = element(\"span\", String(n), \"number\");
       const sign = element(\"span\", n === stopLine ? \"\\u2715\" : touchLines.has(n) ? \"\\u25cf\" : noticed.has(n) ? \"!\" : \"\", \"sign\" + (n === stopLine ? \" stop\" : touchLines.has(n) ? \" touch\" : noticed.has(n) ? \" notice\" : \"\"));
@@ -1094,12 +1111,7 @@ pub(crate) fn script_24() -> &'static [u8] {
       else if (touchLines.has(n)) sign.title = \"measures\";
       else if (noticed.has(n)) sign.title = noticed.get(n) + \" has no effect\";
       if (times) row.classList.add(\"ran\");
-"
-}
-
-/// Part 25 of the script.
-pub(crate) fn script_25() -> &'static [u8] {
-    b"      else if (stated.has(n)) { row.classList.add(\"idle\"); row.title = \"not carried out in this run\"; }
+      else if (stated.has(n)) { row.classList.add(\"idle\"); row.title = \"not carried out in this run\"; }
       row.append(number, sign, coloured(text));
       if (times && times.length > 1) { const count = element(\"span\", \"\\u00d7\" + times.length.toLocaleString(\"en\"), \"times\"); count.title = \"carried out \" + times.length + \" times\"; row.append(count); }
       row.append(element(\"span\", \"\", \"done\"));
@@ -1130,7 +1142,12 @@ pub(crate) fn script_25() -> &'static [u8] {
   }
   function fitNow() {
     if (!fitting) return;
-    let box = boxes[fitting];
+"
+}
+
+/// Part 26 of the script.
+pub(crate) fn script_26() -> &'static [u8] {
+    b"    let box = boxes[fitting];
     if (fitting === \"probe\") {
       const reach = Math.max(8000, 6 * run.tip);
       box = { low: probe.map((x) => x - reach), high: probe.map((x) => x + reach) };
@@ -1144,12 +1161,7 @@ pub(crate) fn script_25() -> &'static [u8] {
       scale = Math.min(scale, (0.8 * w) / size[sheet.sheet.right], (0.74 * h) / size[sheet.sheet.up]);
     }
     const over = canvasOf(\"solid\");
-"
-}
-
-/// Part 26 of the script.
-pub(crate) fn script_26() -> &'static [u8] {
-    b"    if (solid && over.clientWidth) {
+    if (solid && over.clientWidth) {
       const corners = [0, 1, 2, 3, 4, 5, 6, 7].map((n) => camera.centre.map((x, k) => x + (n & (1 << k) ? 0.5 : -0.5) * size[k]));
       const own = solid.fit(fitting === \"all\" ? pointsOfWhole(run) : fitting === \"part\" ? pointsOfPart(run) : corners, 0.84 * over.clientWidth, 0.76 * over.clientHeight);
       if (scale === Infinity) scale = own;
@@ -1185,7 +1197,12 @@ pub(crate) fn script_26() -> &'static [u8] {
     if (solid) drawSolid(ratio);
     drawProfile(ratio);
   }
-  // Where a frame in space takes long, it is drawn once nothing has changed for a while.
+"
+}
+
+/// Part 27 of the script.
+pub(crate) fn script_27() -> &'static [u8] {
+    b"  // Where a frame in space takes long, it is drawn once nothing has changed for a while.
   let waits = 0;
   function drawSolid(ratio) {
     clearTimeout(waits);
@@ -1198,12 +1215,7 @@ pub(crate) fn script_26() -> &'static [u8] {
   if (run.touches.length) legend.append(element(\"span\", \"touched\", \"key dot\"), \" \");
   legend.append(element(\"span\", \"probe\", \"key ring\"));
 
-"
-}
-
-/// Part 27 of the script.
-pub(crate) fn script_27() -> &'static [u8] {
-    b"  // ---- the time line: how high the probe is behind each step, with what happens
+  // ---- the time line: how high the probe is behind each step, with what happens
 
   function drawProfile(ratio) {
     const canvas = $(\"profile\"), w = canvas.clientWidth, h = canvas.clientHeight, n = run.length;
@@ -1228,7 +1240,12 @@ pub(crate) fn script_27() -> &'static [u8] {
         if (step > 1) { g.lineTo(x(a), y(most)); g.lineTo(x(a), y(least)); } else g.lineTo(x(a), y(run.position[3 * a + 2]));
       }
       g.lineTo(x(to), y(run.position[3 * to + 2]));
-      g.lineTo(x(to), h - 4);
+"
+}
+
+/// Part 28 of the script.
+pub(crate) fn script_28() -> &'static [u8] {
+    b"      g.lineTo(x(to), h - 4);
       g.closePath();
       g.fillStyle = colour;
       g.fill();
@@ -1242,12 +1259,7 @@ pub(crate) fn script_27() -> &'static [u8] {
     const many = run.touches.length > 400;
     for (const touch of run.touches) if (many) { g.fillStyle = colours.s; g.fillRect(x(touch.step) - 0.5, 1, 1, 3); } else dot(touch.step, 4, colours.s, 2.5);
     g.fillStyle = colours.ink;
-"
-}
-
-/// Part 28 of the script.
-pub(crate) fn script_28() -> &'static [u8] {
-    b"    for (const k of run.output.steps) g.fillRect(x(k) - 0.5, h - 4, 1, 4);
+    for (const k of run.output.steps) g.fillRect(x(k) - 0.5, h - 4, 1, 4);
     g.fillStyle = colours.danger;
     for (const box of run.boxes) for (const contact of box.contacts) if (contact.step > 0) g.fillRect(x(contact.step) - 2, 0, 4, 5);
     if (stopLine) { const sx = x(run.stop.step); g.strokeStyle = colours.danger; g.lineWidth = 2.4; g.beginPath(); g.moveTo(sx - 4, 3); g.lineTo(sx + 4, 11); g.moveTo(sx + 4, 3); g.lineTo(sx - 4, 11); g.stroke(); }
@@ -1271,7 +1283,12 @@ pub(crate) fn script_28() -> &'static [u8] {
     if (said.includes(\"=\")) return said.split(\" \")[0].replace(\"=\", \" = \") + (where ? \", \" + where : \"\");
     return where;
   }
-  const frameText = (frame) => (frame.name ? frame.name + \": \" : \"\") + \"origin \" + frame.origin.map(millimetres).join(\" \") + \", X \" + frame.axes[0] + \", Y \" + frame.axes[1] + \", Z \" + frame.axes[2];
+"
+}
+
+/// Part 29 of the script.
+pub(crate) fn script_29() -> &'static [u8] {
+    b"  const frameText = (frame) => (frame.name ? frame.name + \": \" : \"\") + \"origin \" + frame.origin.map(millimetres).join(\" \") + \", X \" + frame.axes[0] + \", Y \" + frame.axes[1] + \", Z \" + frame.axes[2];
 
   function jump(step, text) {
     const it = element(\"button\", text || String(step + run.from), \"jump\");
@@ -1281,12 +1298,7 @@ pub(crate) fn script_28() -> &'static [u8] {
     return it;
   }
   const cell = (text, className) => element(\"td\", text, className);
-"
-}
-
-/// Part 29 of the script.
-pub(crate) fn script_29() -> &'static [u8] {
-    b"  const entry = (list, name, value, className) => { list.append(element(\"dt\", name), element(\"dd\", value, className)); };
+  const entry = (list, name, value, className) => { list.append(element(\"dt\", name), element(\"dd\", value, className)); };
 
   function showState() {
     const k = now, title = $(\"step-title\");
@@ -1307,18 +1319,19 @@ pub(crate) fn script_29() -> &'static [u8] {
       entry(list, \"Origin\", pointText(frame.origin), \"mono\");
       if (frame.axes.join() !== \"+X,+Y,+Z\") entry(list, \"Axes\", \"X along \" + frame.axes[0] + \", Y \" + frame.axes[1] + \", Z \" + frame.axes[2]);
     }
-    const touches = run.contact !== null && run.contact.step === k;
-    if (touches) entry(list, \"Contact\", pointText(run.contact.at), \"mono bad\");
-    for (let i = k ? run.pieceFrom[k] : 0; i < (k ? run.pieceFrom[k + 1] : 0); i++) if (run.kinds[i] === \"x\") entry(list, \"Aim\", run.aims.get(i) || pointText([...run.ends.subarray(6 * i + 3, 6 * i + 6)]), \"mono\");
-    if (touches) {
-      const block = run.blocks[run.contact.block - 1];
-      entry(list, \"Block \" + run.contact.block, pointText(block.slice(0, 3)) + \"\\n\" + pointText(block.slice(3)), \"mono\");
 "
 }
 
 /// Part 30 of the script.
 pub(crate) fn script_30() -> &'static [u8] {
-    b"    }
+    b"    const touches = run.contact !== null && run.contact.step === k;
+    if (touches) entry(list, \"Contact\", pointText(run.contact.at), \"mono bad\");
+    for (let i = k ? run.pieceFrom[k] : 0; i < (k ? run.pieceFrom[k + 1] : 0); i++) if (run.kinds[i] === \"x\") entry(list, \"Aim\", run.aims.get(i) || pointText([...run.ends.subarray(6 * i + 3, 6 * i + 6)]), \"mono\");
+    if (touches) {
+      const block = run.blocks[run.contact.block - 1];
+      if (run.names.has(run.contact.block)) entry(list, \"Name\", run.names.get(run.contact.block));
+      entry(list, \"Block \" + run.contact.block, pointText(block.slice(0, 3)) + \"\\n\" + pointText(block.slice(3)), \"mono\");
+    }
     const next = nextAt(run, k);
     entry(list, \"Next\", next ? \"line \" + next.line + \" \" + (run.code[next.statement] ? run.code[next.statement].word : \"\") : \"nothing: the run has stopped\");
 
@@ -1342,7 +1355,12 @@ pub(crate) fn script_30() -> &'static [u8] {
     $(\"points-section\").hidden = run.touches.length === 0;
     for (let i = touched - 1; i >= 0 && points.length < 50; i--) {
       const touch = run.touches[i], actual = run.actual.get(touch.name), value = actual && actual.setAt(touch.step) === touch.step ? actual.at(touch.step) : null;
-      const row = element(\"tr\", undefined, touch.step === k ? \"changed\" : \"\"), head = element(\"th\", touch.name);
+"
+}
+
+/// Part 31 of the script.
+pub(crate) fn script_31() -> &'static [u8] {
+    b"      const row = element(\"tr\", undefined, touch.step === k ? \"changed\" : \"\"), head = element(\"th\", touch.name);
       head.scope = \"row\";
       const off = value ? deviation(touch.name, touch.step) : null, step = cell(\"\", \"n\");
       step.append(jump(touch.step));
@@ -1353,12 +1371,7 @@ pub(crate) fn script_30() -> &'static [u8] {
     $(\"points\").hidden = points.length === 0;
     $(\"points-count\").textContent = touched + \" of \" + run.touches.length;
 
-"
-}
-
-/// Part 31 of the script.
-pub(crate) fn script_31() -> &'static [u8] {
-    b"    showBoxes(k);
+    showBoxes(k);
 
     const printed = run.output.count(k), lines = [];
     $(\"output-section\").hidden = run.output.steps.length === 0;
@@ -1383,7 +1396,12 @@ pub(crate) fn script_31() -> &'static [u8] {
     $(\"boxes-section\").hidden = run.boxes.length === 0;
     for (const box of run.boxes) {
       if (box.contacts.length === 0) rows.push(boxRow(box.name, `clear by ${millimetres(box.room)} mm${box.room < 50000 ? \"\" : \" or more\"}`, null, k));
-      box.contacts.slice(0, 50).forEach((contact, i) => rows.push(boxRow(i ? \"\" : box.name, `${contact.kind} block ${contact.block} at ${pointText(contact.at)}`, contact, k)));
+"
+}
+
+/// Part 32 of the script.
+pub(crate) fn script_32() -> &'static [u8] {
+    b"      box.contacts.slice(0, 50).forEach((contact, i) => rows.push(boxRow(i ? \"\" : box.name, `${contact.kind} ${blockText(run, contact.block)} at ${pointText(contact.at)}`, contact, k)));
     }
     $(\"boxes\").tBodies[0].replaceChildren(...rows);
   }
@@ -1396,12 +1414,7 @@ pub(crate) fn script_31() -> &'static [u8] {
   }
 
   // How far an actual point lies from its nominal one along its direction, in micrometres.
-"
-}
-
-/// Part 32 of the script.
-pub(crate) fn script_32() -> &'static [u8] {
-    b"  function deviation(name, step) {
+  function deviation(name, step) {
     const nominal = run.nominal.get(name), actual = run.actual.get(name);
     const n = nominal && nominal.at(step), a = actual && actual.at(step);
     if (!n || !a) return null;
@@ -1428,7 +1441,12 @@ pub(crate) fn script_32() -> &'static [u8] {
       rows[line].classList.add(\"now\");
       if (now === (run.stop && run.stop.step) && stopLine) rows[line].classList.add(\"bad\");
       rows[line].setAttribute(\"aria-current\", \"step\");
-      rows[line].lastChild.textContent = doneText(now).replace(/^stop (.*?)( at \\d+ line \\d+)?$/, \"$1\").replace(/ permille \\d+$/, \"\");
+"
+}
+
+/// Part 33 of the script.
+pub(crate) fn script_33() -> &'static [u8] {
+    b"      rows[line].lastChild.textContent = doneText(now).replace(/^stop (.*?)( at \\d+ line \\d+)?$/, \"$1\").replace(/ permille \\d+$/, \"\");
       marked.push(rows[line]);
     }
     if (row) into(row);
@@ -1446,12 +1464,7 @@ pub(crate) fn script_32() -> &'static [u8] {
     probe = positionAt(run, k);
     // where a step met a block, the tip is shown at the contact that stopped it
     if (run.contact && run.contact.step === k) probe = run.contact.at;
-"
-}
-
-/// Part 33 of the script.
-pub(crate) fn script_33() -> &'static [u8] {
-    b"    const slider = $(\"slider\");
+    const slider = $(\"slider\");
     slider.value = k;
     slider.setAttribute(\"aria-valuetext\", k ? `step ${k + run.from}, line ${run.line[k]}, ${run.code[run.statement[k]].word} ${doneText(k)}` : \"the start\");
     $(\"number\").value = k + run.from;
@@ -1475,7 +1488,12 @@ pub(crate) fn script_33() -> &'static [u8] {
   let began = 0, ended = 0, stepFrom = 0;
   function play(on) {
     playing = on;
-    $(\"play\").textContent = on ? \"\\u275a\\u275a\" : \"\\u25b6\";
+"
+}
+
+/// Part 34 of the script.
+pub(crate) fn script_34() -> &'static [u8] {
+    b"    $(\"play\").textContent = on ? \"\\u275a\\u275a\" : \"\\u25b6\";
     $(\"play\").setAttribute(\"aria-label\", on ? \"Stop playing\" : \"Play\");
     if (!on) { probe = run.contact && run.contact.step === now ? run.contact.at : positionAt(run, now); draw(); return; }
     if (now === run.length) goTo(0);
@@ -1490,12 +1508,7 @@ pub(crate) fn script_33() -> &'static [u8] {
     return places;
   }
   function time(k) {
-"
-}
-
-/// Part 34 of the script.
-pub(crate) fn script_34() -> &'static [u8] {
-    b"    const long = wayOf(k).reduce((sum, [a, b]) => sum + Math.hypot(b[0] - a[0], b[1] - a[1], b[2] - a[2]), 0);
+    const long = wayOf(k).reduce((sum, [a, b]) => sum + Math.hypot(b[0] - a[0], b[1] - a[1], b[2] - a[2]), 0);
     return Math.max(140, Math.min(1600, (2200 * long) / whole)) / Number($(\"speed\").value);
   }
   function frame(t) {
@@ -1526,7 +1539,12 @@ pub(crate) fn script_34() -> &'static [u8] {
         if (fitting === \"probe\") fitNow(); else draw();
       }
     }
-    requestAnimationFrame(frame);
+"
+}
+
+/// Part 35 of the script.
+pub(crate) fn script_35() -> &'static [u8] {
+    b"    requestAnimationFrame(frame);
   }
   function stepTo(k) { if (playing) play(false); goTo(k); }
   function toEvent(by) {
@@ -1545,12 +1563,7 @@ pub(crate) fn script_34() -> &'static [u8] {
   $(\"to-end\").onclick = () => stepTo(run.length);
   $(\"step-back\").onclick = () => stepTo(now - 1);
   $(\"step-on\").onclick = () => stepTo(now + 1);
-"
-}
-
-/// Part 35 of the script.
-pub(crate) fn script_35() -> &'static [u8] {
-    b"  $(\"play\").onclick = () => play(!playing);
+  $(\"play\").onclick = () => play(!playing);
   $(\"slider\").oninput = () => stepTo(Number($(\"slider\").value));
   $(\"number\").onchange = () => stepTo(Number($(\"number\").value) - run.from);
   $(\"variables-filter\").oninput = showState;
@@ -1575,7 +1588,12 @@ pub(crate) fn script_35() -> &'static [u8] {
     draw();
   }
   for (const it of document.getElementsByName(\"view\")) it.onchange = () => setView(it.value);
-  for (const it of document.getElementsByName(\"fit\")) it.onchange = () => fit(it.value);
+"
+}
+
+/// Part 36 of the script.
+pub(crate) fn script_36() -> &'static [u8] {
+    b"  for (const it of document.getElementsByName(\"fit\")) it.onchange = () => fit(it.value);
   for (const it of document.querySelectorAll(\".tabs button\")) it.onclick = () => {
     document.body.dataset.panel = it.dataset.panel;
     for (const other of document.querySelectorAll(\".tabs button\")) other.setAttribute(\"aria-pressed\", String(other === it));
@@ -1589,12 +1607,7 @@ pub(crate) fn script_35() -> &'static [u8] {
 
   $(\"keys-open\").onclick = () => $(\"keys\").showModal();
   $(\"letters\").onchange = () => { lettersWork = $(\"letters\").checked; };
-"
-}
-
-/// Part 36 of the script.
-pub(crate) fn script_36() -> &'static [u8] {
-    b"  const views = [\"all\", \"solid\", \"top\", \"front\", \"side\"];
+  const views = [\"all\", \"solid\", \"top\", \"front\", \"side\"];
   document.addEventListener(\"keydown\", (event) => {
     const on = event.target, tag = on.tagName;
     if (event.ctrlKey || event.metaKey || event.altKey || $(\"keys\").open) return;
@@ -1617,7 +1630,12 @@ pub(crate) fn script_36() -> &'static [u8] {
     else if (event.key === \"?\") $(\"keys\").showModal();
     else if (event.key >= \"1\" && event.key <= \"5\") setView(views[Number(event.key) - 1]);
     else used = false;
-    if (used) event.preventDefault();
+"
+}
+
+/// Part 37 of the script.
+pub(crate) fn script_37() -> &'static [u8] {
+    b"    if (used) event.preventDefault();
   });
 
   // ---- pointers on the views
@@ -1628,15 +1646,10 @@ pub(crate) fn script_36() -> &'static [u8] {
       return `step ${k + run.from}, line ${run.line[k]}: ${kindNames[run.kinds[i]]} ${[e[6 * i], e[6 * i + 1], e[6 * i + 2]].map(millimetres).join(\" \")} to ${[e[6 * i + 3], e[6 * i + 4], e[6 * i + 5]].map(millimetres).join(\" \")}`;
     }
     const b = run.blocks[found.block - 1];
-    return `block ${found.block}: ${b.slice(0, 3).map(millimetres).join(\" \")} to ${b.slice(3).map(millimetres).join(\" \")}`;
+    return `${blockText(run, found.block)}: ${b.slice(0, 3).map(millimetres).join(\" \")} to ${b.slice(3).map(millimetres).join(\" \")}`;
   }
   for (const sheet of [...flat, ...(solid ? [solid] : [])]) {
-"
-}
-
-/// Part 37 of the script.
-pub(crate) fn script_37() -> &'static [u8] {
-    b"    const canvas = sheet.sheet ? sheet.canvas : sheet.over, tip = $(\"tip\");
+    const canvas = sheet.sheet ? sheet.canvas : sheet.over, tip = $(\"tip\");
     const pointers = new Map();
     let travelled = 0, apart = 0;
     canvas.addEventListener(\"pointerdown\", (event) => {
@@ -1663,7 +1676,12 @@ pub(crate) fn script_37() -> &'static [u8] {
           } else solid.turn(-dx * 0.01, dy * 0.008);
           draw();
         }
-        tip.hidden = true;
+"
+}
+
+/// Part 38 of the script.
+pub(crate) fn script_38() -> &'static [u8] {
+    b"        tip.hidden = true;
         return;
       }
       const found = sheet.find(x, y);
@@ -1679,12 +1697,7 @@ pub(crate) fn script_37() -> &'static [u8] {
     const end = (event) => { pointers.delete(event.pointerId); };
     canvas.addEventListener(\"pointerup\", (event) => {
       if (pointers.size === 1 && travelled < 5) {
-"
-}
-
-/// Part 38 of the script.
-pub(crate) fn script_38() -> &'static [u8] {
-    b"        const box = canvas.getBoundingClientRect(), found = sheet.find(event.clientX - box.left, event.clientY - box.top);
+        const box = canvas.getBoundingClientRect(), found = sheet.find(event.clientX - box.left, event.clientY - box.top);
         if (found && found.piece !== undefined) stepTo(run.pieceStep[found.piece]);
       }
       end(event);
@@ -1716,7 +1729,12 @@ pub(crate) fn script_38() -> &'static [u8] {
   addEventListener(\"afterprint\", () => {
     document.documentElement.classList.remove(\"paper\");
     again();
-    setView(viewBefore);
+"
+}
+
+/// Part 39 of the script.
+pub(crate) fn script_39() -> &'static [u8] {
+    b"    setView(viewBefore);
   });
 
   const narrow = matchMedia(\"(max-width: 900px)\");

@@ -39,7 +39,10 @@ use Rattle.vcm_job.specs.Jobs.{status_of}
 use Rattle.vcm_job.proofs.OneView.{one_view}
 use Rattle.vcm_views.specs.Views.{AreRows, TellsMargin, HasRunTo, picture_of, IsMarginOrResult, IsPicture, IsResultWith, IsWhyOf, AreContactsOf, contacts_status}
 use Rattle.vcm_views.specs.Views.{trace_view, points_view, margin_view, clearance_view, picture_view, why_view, contacts_view, values_view}
-use Rattle.vcm_views.specs.Laws.{ViewsAreOne}
+use Rattle.vcm_sheet.specs.Sayings.{Says}
+use Rattle.vcm_views.specs.declared.sheets.Titles.{Titles}
+use Rattle.vcm_views.specs.Views.{sheet_said}
+use Rattle.vcm_views.specs.Laws.{SheetsSayOne, ViewsAreOne}
 use Rattle.vcm_views.proofs.ClearanceViews.{same_clearance}
 
 abbrev held : Tables → World → Held
@@ -110,11 +113,11 @@ module _ (part : Workpiece) (c : Code) (n : ℕ) (text other : List ℕ) (status
       ∙ ap (λ (r : Ran). result_text k.held r.done ++ values_text k.held.tables k.held.state.variables places) same.1 in
       (h.text_is ∙ shown ∙ sym k.text_is, h.status_is ∙ ap (λ (x : Held). status_of x.state.stop) same.0 ∙ sym k.status_is)
 
-  same_contacts : AreContactsOf part c n text status → AreContactsOf part c n other more → (text ≡ other) × (status ≡ more)
-  same_contacts h k =
+  same_contacts : (names : List (List ℕ)) → AreContactsOf names part c n text status → AreContactsOf names part c n other more → (text ≡ other) × (status ≡ more)
+  same_contacts names h k =
       let contacts : h.contacts ≡ k.contacts = h.are.contacts_are ∙ sym k.are.contacts_are in
       let stop : h.stop ≡ k.stop = h.are.stop_is ∙ sym k.are.stop_is in (
-        h.text_is ∙ ap (λ x. contacts_text c.tables x h.stop n) contacts ∙ ap (λ s. contacts_text c.tables k.contacts s n) stop ∙ sym k.text_is,
+        h.text_is ∙ ap (λ x. contacts_text names c.tables x h.stop n) contacts ∙ ap (λ s. contacts_text names c.tables k.contacts s n) stop ∙ sym k.text_is,
         h.status_is ∙ ap (λ x. contacts_status x h.stop) contacts ∙ ap (contacts_status k.contacts) stop ∙ sym k.status_is,
       )
 
@@ -152,8 +155,8 @@ one_traced None number (Some t) u h k = absurd h
 one_traced None number None (Some u) h k = absurd k
 one_traced None number None None h k = refl
 
-module _ (program : Option (List ℕ)) (part : Workpiece) (c : Code) (n : ℕ) (text other : List ℕ) (stop left : Option StopPlace)
-    (h : IsReason program part c n stop (λ t. t ≡ text)) (k : IsReason program part c n left (λ t. t ≡ other)) where
+module _ (names : List (List ℕ)) (program : Option (List ℕ)) (part : Workpiece) (c : Code) (n : ℕ) (text other : List ℕ) (stop left : Option StopPlace)
+    (h : IsReason names program part c n stop (λ t. t ≡ text)) (k : IsReason names program part c n left (λ t. t ≡ other)) where
   same_run : (h.held ≡ k.held) × (h.number ≡ k.number) × (h.ran ≡ k.ran)
   same_run =
       let a = h.watched in
@@ -173,31 +176,43 @@ module _ (program : Option (List ℕ)) (part : Workpiece) (c : Code) (n : ℕ) (
   same_why : (text ≡ other) × (stop ≡ left)
   same_why = (
     sym h.written
-        ∙ ap (λ t. why_lines t part c.statements h.held h.number (seen h.progress) h.ran.done) same_traced
-        ∙ ap (λ x. why_lines k.traced part c.statements x h.number (seen h.progress) h.ran.done) same_run.0
-        ∙ ap (λ i. why_lines k.traced part c.statements k.held i (seen h.progress) h.ran.done) same_run.1
-        ∙ ap (λ (b : Behind). why_lines k.traced part c.statements k.held k.number b h.ran.done) same_behind
-        ∙ ap (λ (r : Ran). why_lines k.traced part c.statements k.held k.number (seen k.progress) r.done) same_run.2
+        ∙ ap (λ t. why_lines names t part c.statements h.held h.number (seen h.progress) h.ran.done) same_traced
+        ∙ ap (λ x. why_lines names k.traced part c.statements x h.number (seen h.progress) h.ran.done) same_run.0
+        ∙ ap (λ i. why_lines names k.traced part c.statements k.held i (seen h.progress) h.ran.done) same_run.1
+        ∙ ap (λ (b : Behind). why_lines names k.traced part c.statements k.held k.number b h.ran.done) same_behind
+        ∙ ap (λ (r : Ran). why_lines names k.traced part c.statements k.held k.number (seen k.progress) r.done) same_run.2
         ∙ k.written,
     h.stop_is ∙ ap (λ (x : Held). x.state.stop) same_run.0 ∙ sym k.stop_is,
   )
 
-same_reason : (program : Option (List ℕ)) (part : Workpiece) (c : Code) (n : ℕ) (text other : List ℕ) (status more : ℕ) → IsWhyOf program part c n text status
-    → IsWhyOf program part c n other more → (text ≡ other) × (status ≡ more)
-same_reason program part c n text other status more h k =
-    let same = same_why program part c n text other h.stop k.stop h.told k.told in
+same_reason : (names : List (List ℕ)) (program : Option (List ℕ)) (part : Workpiece) (c : Code) (n : ℕ) (text other : List ℕ) (status more : ℕ)
+    → IsWhyOf names program part c n text status → IsWhyOf names program part c n other more → (text ≡ other) × (status ≡ more)
+same_reason names program part c n text other status more h k =
+    let same = same_why names program part c n text other h.stop k.stop h.told k.told in
     (same.0, h.status_is ∙ ap status_of same.1 ∙ sym k.status_is)
+
+-- ---- sheets
+
+same_sheet : (t : Titles) (part : Workpiece) → SheetsSayOne t part
+same_sheet t part c n text other status more h k =
+    let same = one_run_to part c n h.held k.held h.ran k.ran h.run k.run h.ample k.ample in
+    let said = sheet_said t part k.held k.ran.done (way_after part c k.ran.done) in
+    let told : Says (sheet_said t part k.held h.ran.done (way_after part c h.ran.done)) text =
+    subst (λ (x : Held). Says (sheet_said t part x h.ran.done (way_after part c h.ran.done)) text) same.0 h.says in
+    let says : Says said text = subst (λ (r : Ran). Says (sheet_said t part k.held r.done (way_after part c r.done)) text) same.1 told in
+    (said, (says, k.says, h.status_is ∙ ap (λ (x : Held). status_of x.state.stop) same.0 ∙ sym k.status_is))
 
 -- ---- the views
 
 pub one_views : ViewsAreOne
 one_views = record {
   traces = λ part. one_view trace_view part (λ p l c n t u s m ok h k. same_rows part c n t u s m _ h k);
-  points = λ part. one_view points_view part (λ p l c n t u s m ok h k. same_rows part c n t u s m _ h k);
+  points = λ part is_machine. one_view (points_view is_machine) part (λ p l c n t u s m ok h k. same_rows part c n t u s m _ h k);
   margins = λ part valid. one_view margin_view part (λ p l c n t u s m ok h k. one_margin_told part valid c ok n t u s m h k);
-  clearances = λ part boxes valid are. one_view (clearance_view boxes) part (λ p l c n t u s m ok h k. same_clearance part boxes c n valid are t u s m h k);
+  clearances = λ part names boxes valid are. one_view (clearance_view names boxes) part (λ p l c n t u s m ok h k. same_clearance names part boxes c n valid are t u s m h k);
   pictures = λ part is_close. one_view (picture_view is_close) part (λ p l c n t u s m ok h k. same_picture part c n t u s m is_close h k);
-  reasons = λ part. one_view why_view part (λ p l c n t u s m ok h k. same_reason p part c n t u s m h k);
-  contacts = λ part. one_view contacts_view part (λ p l c n t u s m ok h k. same_contacts part c n t u s m h k);
+  reasons = λ part names. one_view (why_view names) part (λ p l c n t u s m ok h k. same_reason names p part c n t u s m h k);
+  contacts = λ part names. one_view (contacts_view names) part (λ p l c n t u s m ok h k. same_contacts part c n t u s m names h k);
   values = λ part places. one_view (values_view places) part (λ p l c n t u s m ok h k. same_values part c n t u s m places h k);
+  sheets = λ part t. same_sheet t part;
 }

@@ -21,7 +21,11 @@ use Rattle.vcm_marks.specs.declared.mark.PlacedMark.{PlacedMark}
 use Rattle.vcm_way.specs.Ways.{Kept}
 use Rattle.vcm_way.specs.Following.{HasFollowed}
 use Rattle.vcm_picture.specs.Picture.{sheet, picture_text}
-use Rattle.vcm_views.specs.Views.{HasRunTo, WroteNothing, picture_of, picture_view, sheet_view}
+use Rattle.vcm_sheet.specs.Content.{content}
+use Rattle.vcm_sheet.specs.Filed.{SaidIn}
+use Rattle.vcm_sheet.specs.Sayings.{Says}
+use Rattle.vcm_views.specs.declared.sheets.Titles.{Titles}
+use Rattle.vcm_views.specs.Views.{HasRunTo, WroteNothing, IsSheet, picture_of, filed_with, sheet_said, picture_view, sheet_view}
 use Rattle.vcm_views.specs.inner.Drawn.{IsDrawn, IsNotDrawn, IsFiled, IsNotFiled}
 
 -- what became of a run that was followed
@@ -96,40 +100,64 @@ module _ (program : Option (List ℕ)) (notices : List Noticed) (w part : Workpi
 
 -- the sheet
 module _ (program : Option (List ℕ)) (notices : List Noticed) (w part : Workpiece) (same : w ≡ part) (c : Code) (n : ℕ) (held : Held) (ran : Ran) (way : Kept)
-    (followed : HasFollowed w c n held ran way) where
+    (followed : HasFollowed w c n held ran way) (t : Titles) where
   module _ (ample : ran.end ≡ NoMemory → ⊥) where
-    filed_viewed : (status : ℕ) (old after : Option (List ℕ)) → IsFiled held status old after → IsViewed sheet_view program notices part c n status old after
-    filed_viewed status old after d = record {
-      text = d.text;
-      tells = record { held = held; ran = ran; run = run_to w part same c n held ran way followed; ample = ample; status_is = d.status_is };
-      written = d.written;
+    -- a text that says what such a sheet says, with the run's status
+    is_sheet : (text : List ℕ) (status : ℕ) → Says (sheet_said t part held ran.done way) text → status ≡ status_of held.state.stop
+        → IsSheet t part c n text status
+    is_sheet text status said e = record {
+      held = held;
+      ran = ran;
+      run = run_to w part same c n held ran way followed;
+      ample = ample;
+      says = subst (λ k. Says (sheet_said t part held ran.done k) text) (beside w part same c n held ran way followed).kept said;
+      status_is = e;
     }
 
-    filed_cut_short : (f : Fault InputRefusal) (old after : Option (List ℕ)) → IsNotFiled f old after → IsCutShort sheet_view program notices part c n f old after
+    filed_viewed : (status : ℕ) (old after : Option (List ℕ)) → IsFiled t part held ran.done way status old after
+        → IsViewed (sheet_view t) program notices part c n status old after
+    filed_viewed status old after d = record { text = d.sheet.text; tells = is_sheet d.sheet.text status d.sheet.says d.status_is; written = d.sheet.holds }
+
+    filed_cut_short : (f : Fault InputRefusal) (old after : Option (List ℕ)) → IsNotFiled t part held ran.done way f old after
+        → IsCutShort (sheet_view t) program notices part c n f old after
     filed_cut_short faults.NoMemory old after k = k
-    filed_cut_short (faults.Write d) old after t = record {
-      text = t.0;
+    filed_cut_short (faults.Write d) old after s = record {
+      text = s.text;
       status = status_of held.state.stop;
-      tells = record { held = held; ran = ran; run = run_to w part same c n held ran way followed; ample = ample; status_is = refl };
-      front = t.1;
+      tells = is_sheet s.text (status_of held.state.stop) s.says refl;
+      front = s.holds;
     }
-    filed_cut_short (faults.Memory d) old after t = absurd t
-    filed_cut_short (faults.Refused r) old after t = absurd t
-    filed_cut_short faults.Read old after t = absurd t
-    filed_cut_short faults.TooLong old after t = absurd t
+    filed_cut_short (faults.Memory d) old after s = absurd s
+    filed_cut_short (faults.Refused r) old after s = absurd s
+    filed_cut_short faults.Read old after s = absurd s
+    filed_cut_short faults.TooLong old after s = absurd s
 
-    pub sheet_viewed : (r : Result ℕ (Fault InputRefusal)) (old after : Option (List ℕ)) → IfOk r (λ status. IsFiled held status old after)
-        → IfOk r (λ status. IsViewed sheet_view program notices part c n status old after)
-    sheet_viewed (Ok status) old after t = filed_viewed status old after t
-    sheet_viewed (Err f) old after t = tt
+    pub sheet_viewed : (r : Result ℕ (Fault InputRefusal)) (old after : Option (List ℕ)) → IfOk r (λ status. IsFiled t part held ran.done way status old after)
+        → IfOk r (λ status. IsViewed (sheet_view t) program notices part c n status old after)
+    sheet_viewed (Ok status) old after d = filed_viewed status old after d
+    sheet_viewed (Err f) old after d = tt
 
-    pub sheet_cut_short : (r : Result ℕ (Fault InputRefusal)) (old after : Option (List ℕ)) → IfErr r (λ f. IsNotFiled f old after)
-        → IfErr r (λ f. IsCutShort sheet_view program notices part c n f old after)
-    sheet_cut_short (Ok status) old after t = tt
-    sheet_cut_short (Err f) old after t = filed_cut_short f old after t
+    pub sheet_cut_short : (r : Result ℕ (Fault InputRefusal)) (old after : Option (List ℕ)) → IfErr r (λ f. IsNotFiled t part held ran.done way f old after)
+        → IfErr r (λ f. IsCutShort (sheet_view t) program notices part c n f old after)
+    sheet_cut_short (Ok status) old after d = tt
+    sheet_cut_short (Err f) old after d = filed_cut_short f old after d
 
-  pub sheet_halted : ran.end ≡ NoMemory → (old : Option (List ℕ)) → IsCutShort sheet_view program notices part c n (faults.Memory ran.done) old old
+  pub sheet_halted : ran.end ≡ NoMemory → (old : Option (List ℕ)) → IsCutShort (sheet_view t) program notices part c n (faults.Memory ran.done) old old
   sheet_halted e old = wrote_nothing w part same c n held ran way followed e old
+
+-- what a sheet says of the marks that a way keeps
+module _ (t : Titles) (part : Workpiece) (held : Held) (done : ℕ) (way : Kept) (marks : List PlacedMark) (left_out : ℕ) (same : marks ≡ way.marks)
+    (as_many : left_out ≡ way.left_out) where
+  same_said : content (filed_with t part held done marks left_out) ≡ sheet_said t part held done way
+  same_said =
+      ap (λ m. content (filed_with t part held done m left_out)) same ∙ ap (λ k. content (filed_with t part held done way.marks k)) as_many
+
+  pub said_of : (P : List ℕ → Type 0) → SaidIn (content (filed_with t part held done marks left_out)) P → SaidIn (sheet_said t part held done way) P
+  said_of P h = subst (λ s. SaidIn s P) same_said h
+
+  pub filed_of : (status : ℕ) (stop : Option StopPlace) (old new : Option (List ℕ)) → status ≡ status_of stop → stop ≡ held.state.stop
+      → SaidIn (content (filed_with t part held done marks left_out)) (Appends old new) → IsFiled t part held done way status old new
+  filed_of status stop old new e f h = record { status_is = e ∙ ap status_of f; sheet = said_of (Appends old new) h }
 
 -- what was written of the marks that a way keeps
 module _ (part : Workpiece) (held : Held) (done : ℕ) (way : Kept) (is_close : Bool) (marks : List PlacedMark) (left_out : ℕ)

@@ -23,11 +23,12 @@ use Rattle.vcm_views.specs.Views.{why_view, contacts_status, contacts_view}
 use Rattle.vcm_views.specs.inner.Cuts.{cut_short}
 
 -- what is told, apart from what became of it
-module _ (program : Option (List ℕ)) (part : Workpiece) (c : Code) (n : ℕ) (stop : Option StopPlace) (W : List ℕ → Type 0) (h : IsReason program part c n stop W) where
+module _ (names : List (List ℕ)) (program : Option (List ℕ)) (part : Workpiece) (c : Code) (n : ℕ) (stop : Option StopPlace) (W : List ℕ → Type 0)
+    (h : IsReason names program part c n stop W) where
   abbrev lines : List ℕ
-  lines = why_lines h.traced part c.statements h.held h.number (seen h.progress) h.ran.done
+  lines = why_lines names h.traced part c.statements h.held h.number (seen h.progress) h.ran.done
 
-  reason : IsReason program part c n stop (λ t. t ≡ lines)
+  reason : IsReason names program part c n stop (λ t. t ≡ lines)
   reason = record {
     held = h.held;
     number = h.number;
@@ -41,43 +42,43 @@ module _ (program : Option (List ℕ)) (part : Workpiece) (c : Code) (n : ℕ) (
     written = refl;
   }
 
-module _ (program : Option (List ℕ)) (notices : List Noticed) (part : Workpiece) (c : Code) (n : ℕ) (old new : Option (List ℕ)) where
-  pub why_viewed : (status : ℕ) (stop : Option StopPlace) → IsWhy program part c n stop old new → status ≡ status_of stop
-      → IsViewed why_view program notices part c n status old new
+module _ (names : List (List ℕ)) (program : Option (List ℕ)) (notices : List Noticed) (part : Workpiece) (c : Code) (n : ℕ) (old new : Option (List ℕ)) where
+  pub why_viewed : (status : ℕ) (stop : Option StopPlace) → IsWhy names program part c n stop old new → status ≡ status_of stop
+      → IsViewed (why_view names) program notices part c n status old new
   why_viewed status stop h s = record {
-    text = lines program part c n stop (Appends old new) h;
-    tells = record { stop = stop; told = reason program part c n stop (Appends old new) h; status_is = s };
+    text = lines names program part c n stop (Appends old new) h;
+    tells = record { stop = stop; told = reason names program part c n stop (Appends old new) h; status_is = s };
     written = h.written;
   }
 
-  pub why_cut_short : (f : Unfinished) → IsNoWhy program part c n f old new → IsCutShort why_view program notices part c n (cut_short f) old new
+  pub why_cut_short : (f : Unfinished) → IsNoWhy names program part c n f old new → IsCutShort (why_view names) program notices part c n (cut_short f) old new
   why_cut_short faults.NoMemory h = h
   why_cut_short (faults.Memory done) h = h
   why_cut_short (faults.Write done) h = record {
-    text = lines program part c n h.0 (AppendsFront old new) h.1;
+    text = lines names program part c n h.0 (AppendsFront old new) h.1;
     status = status_of h.0;
-    tells = record { stop = h.0; told = reason program part c n h.0 (AppendsFront old new) h.1; status_is = refl };
+    tells = record { stop = h.0; told = reason names program part c n h.0 (AppendsFront old new) h.1; status_is = refl };
     front = h.1.written;
   }
 
   pub contacts_viewed : (tables : Tables) (contacts : List Contact) (stop : Option StopPlace) (status : ℕ) → tables ≡ c.tables → AreContacts part c n contacts stop
-      → Appends old new (contacts_text tables contacts stop n) → status ≡ contacts_status contacts stop → IsViewed contacts_view program notices part c n status old new
+      → Appends old new (contacts_text names tables contacts stop n) → status ≡ contacts_status contacts stop → IsViewed (contacts_view names) program notices part c n status old new
   contacts_viewed tables contacts stop status e are w s = record {
-    text = contacts_text c.tables contacts stop n;
+    text = contacts_text names c.tables contacts stop n;
     tells = record { contacts = contacts; stop = stop; are = are; text_is = refl; status_is = s };
-    written = subst (λ t. Appends old new (contacts_text t contacts stop n)) e w;
+    written = subst (λ t. Appends old new (contacts_text names t contacts stop n)) e w;
   }
 
   pub contacts_cut_off : (tables : Tables) (contacts : List Contact) (stop : Option StopPlace) → tables ≡ c.tables → AreContacts part c n contacts stop
-      → AppendsFront old new (contacts_text tables contacts stop n) → IsCutShort contacts_view program notices part c n (Write n) old new
+      → AppendsFront old new (contacts_text names tables contacts stop n) → IsCutShort (contacts_view names) program notices part c n (Write n) old new
   contacts_cut_off tables contacts stop e are w = record {
-    text = contacts_text c.tables contacts stop n;
+    text = contacts_text names c.tables contacts stop n;
     status = contacts_status contacts stop;
     tells = record { contacts = contacts; stop = stop; are = are; text_is = refl; status_is = refl };
-    front = subst (λ t. AppendsFront old new (contacts_text t contacts stop n)) e w;
+    front = subst (λ t. AppendsFront old new (contacts_text names t contacts stop n)) e w;
   }
 
-  pub contacts_halted : (f : Unfinished) → AreNoContacts part c n f → Keeps old new → IsCutShort contacts_view program notices part c n (cut_short f) old new
+  pub contacts_halted : (f : Unfinished) → AreNoContacts part c n f → Keeps old new → IsCutShort (contacts_view names) program notices part c n (cut_short f) old new
   contacts_halted faults.NoMemory h k = k
   contacts_halted (faults.Memory done) h k = (h, k)
   contacts_halted (faults.Write done) h k = absurd h

@@ -1,5 +1,5 @@
 -- What the views of a run show of a code beside a workpiece: their text, and the exit status.
-use Rattle.std.specs.Prelude.{◌≡◌, ℕ, Bool, true, false, nat_eq, List, [], ◌∷◌, ◌++◌, Option}
+use Rattle.std.specs.Prelude.{◌≡◌, ℕ, Bool, true, false, nat_eq, List, [], ◌∷◌, ◌++◌, map, Option}
 use Rattle.std.specs.List.{list_any}
 use Rattle.std.specs.Io.KnownBytes.{Appends, Keeps}
 use Rattle.vcm_spec.specs.declared.stop.StopPlace.{StopPlace}
@@ -23,11 +23,15 @@ use Rattle.vcm_margin.specs.Printed.{margin_text}
 use Rattle.vcm_way.specs.Ways.{Kept}
 use Rattle.vcm_way.specs.Following.{way_after}
 use Rattle.vcm_picture.specs.Picture.{sheet, picture_text}
+use Rattle.vcm_marks.specs.declared.mark.PlacedMark.{PlacedMark}
+use Rattle.vcm_sheet.specs.Content.{Filing, content}
+use Rattle.vcm_sheet.specs.Sayings.{Saying, Says}
+use Rattle.vcm_views.specs.declared.sheets.Titles.{Titles}
 use Rattle.vcm_boxes.specs.declared.boxes.ProbeBox.{ProbeBox}
 use Rattle.vcm_way.specs.Gone.{ways_of}
 use Rattle.vcm_clearance.specs.declared.room.Room.{Room}
 use Rattle.vcm_clearance.specs.Rooms.{AreRooms, is_met_room}
-use Rattle.vcm_clearance.specs.Clearance.{contact_lines, clearance_text}
+use Rattle.vcm_clearance.specs.Clearance.{contacts_front, clearance_text}
 use Rattle.vcm_values.specs.Values.{values_text}
 use Rattle.vcm_why.specs.Telling.{IsReason}
 use Rattle.vcm_contacts.specs.declared.contact.Contact.{Contact}
@@ -78,11 +82,11 @@ abbrev pub clearance_status : Bool → Option StopPlace → ℕ
 clearance_status true stop = 3
 clearance_status false stop = status_of stop
 
--- the clearance of boxes in a run for at most n steps
-pub record IsClearanceOf (part : Workpiece) (boxes : List ProbeBox) (c : Code) (n : ℕ) (text : List ℕ) (status : ℕ) : Type 0 where
+-- the clearance of boxes in a run for at most n steps, beside blocks with these names
+pub record IsClearanceOf (names : List (List ℕ)) (part : Workpiece) (boxes : List ProbeBox) (c : Code) (n : ℕ) (text : List ℕ) (status : ℕ) : Type 0 where
   pub rooms : List Room
   pub are_rooms : AreRooms part.blocks boxes (ways_of part c n) rooms
-  pub text_is : text ≡ clearance_text part boxes c n rooms
+  pub text_is : text ≡ clearance_text names part boxes c n rooms
   pub status_is : status ≡ clearance_status (list_any is_met_room rooms) (state_after part c n).world.stop
 
 -- a run for at most n steps was refused memory after so many of them
@@ -93,13 +97,32 @@ IsHaltedAfter part c n done = RunEnded n (started part c) (later done (started p
 abbrev pub WroteNothing : Workpiece → Code → ℕ → ℕ → Option (List ℕ) → Option (List ℕ) → Type 0
 WroteNothing part c n done old new = IsHaltedAfter part c n done × Keeps old new
 
--- a sheet of a run that memory did not cut short, with the run's exit status; which marks, points and numbers stand on it is said in vcm_sheet, and how it is
--- painted isn't said
-pub record IsSheet (part : Workpiece) (c : Code) (n : ℕ) (text : List ℕ) (status : ℕ) : Type 0 where
+-- what is filed of a run that came to this state after so many steps, with these marks, before which so many pieces are left out
+abbrev pub filed_with : Titles → Workpiece → Held → ℕ → List PlacedMark → ℕ → Filing
+filed_with t part held done marks left_out = record {
+  part = part;
+  held = held;
+  done = done;
+  marks = marks;
+  left_out = left_out;
+  is_close = t.is_close;
+  lines = t.lines;
+  program_name = t.program_name.now;
+  part_name = t.part_name.now;
+  block_names = map (λ n. n.items) t.block_names.now;
+}
+
+-- what the sheet of such a run says, with what is kept of its way
+abbrev pub sheet_said : Titles → Workpiece → Held → ℕ → Kept → List Saying
+sheet_said t part held done way = content (filed_with t part held done way.marks way.left_out)
+
+-- a sheet of a run that memory did not cut short, with the run's exit status: what it says is said, how it is painted isn't
+pub record IsSheet (t : Titles) (part : Workpiece) (c : Code) (n : ℕ) (text : List ℕ) (status : ℕ) : Type 0 where
   pub held : Held
   pub ran : Ran
   pub run : HasRunTo part c n held ran
   pub ample : ran.end ≡ NoMemory → ⊥
+  pub says : Says (sheet_said t part held ran.done (way_after part c ran.done)) text
   pub status_is : status ≡ status_of held.state.stop
 
 -- the result of a run that memory did not cut short, and the values of variables behind it
@@ -111,10 +134,10 @@ pub record IsResultWith (places : List ℕ) (part : Workpiece) (c : Code) (n : �
   pub text_is : text ≡ result_text held ran.done ++ values_text held.tables held.state.variables places
   pub status_is : status ≡ status_of held.state.stop
 
--- why a run of a code with this text stops
-pub record IsWhyOf (program : Option (List ℕ)) (part : Workpiece) (c : Code) (n : ℕ) (text : List ℕ) (status : ℕ) : Type 0 where
+-- why a run of a code with this text stops, beside blocks with these names
+pub record IsWhyOf (names : List (List ℕ)) (program : Option (List ℕ)) (part : Workpiece) (c : Code) (n : ℕ) (text : List ℕ) (status : ℕ) : Type 0 where
   pub stop : Option StopPlace
-  pub told : IsReason program part c n stop (λ t. t ≡ text)
+  pub told : IsReason names program part c n stop (λ t. t ≡ text)
   pub status_is : status ≡ status_of stop
 
 -- the exit status of contacts: 3 where there is one, else that of the run
@@ -122,12 +145,12 @@ abbrev pub contacts_status : List Contact → Option StopPlace → ℕ
 contacts_status [] stop = status_of stop
 contacts_status (c ∷ cs) stop = 3
 
--- the contacts of a run for at most n steps
-pub record AreContactsOf (part : Workpiece) (c : Code) (n : ℕ) (text : List ℕ) (status : ℕ) : Type 0 where
+-- the contacts of a run for at most n steps, beside blocks with these names
+pub record AreContactsOf (names : List (List ℕ)) (part : Workpiece) (c : Code) (n : ℕ) (text : List ℕ) (status : ℕ) : Type 0 where
   pub contacts : List Contact
   pub stop : Option StopPlace
   pub are : AreContacts part c n contacts stop
-  pub text_is : text ≡ contacts_text c.tables contacts stop n
+  pub text_is : text ≡ contacts_text names c.tables contacts stop n
   pub status_is : status ≡ contacts_status contacts stop
 
 -- ---- the views
@@ -136,19 +159,19 @@ pub record AreContactsOf (part : Workpiece) (c : Code) (n : ℕ) (text : List �
 abbrev pub trace_view : RunView
 trace_view = record { tells = λ program notices. AreRows trace_rows; halted = IsHalted trace_rows }
 
--- the measured points, likewise
-abbrev pub points_view : RunView
-points_view = record { tells = λ program notices. AreRows point_rows; halted = IsHalted point_rows }
+-- the measured points, likewise, without machine coordinates or with them
+abbrev pub points_view : Bool → RunView
+points_view is_machine = record { tells = λ program notices. AreRows (point_rows is_machine); halted = IsHalted (point_rows is_machine) }
 
 -- the margin, or the result
 abbrev pub margin_view : RunView
 margin_view = record { tells = λ program notices. IsMarginOrResult; halted = WroteNothing }
 
 -- the clearance of boxes; where memory was refused, the contacts in the steps before were written
-abbrev pub clearance_view : List ProbeBox → RunView
-clearance_view boxes = record {
-  tells = λ program notices part c n. IsClearanceOf part boxes c n;
-  halted = λ part c n done old new. IsHaltedAfter part c n done × Appends old new (contact_lines part boxes c done);
+abbrev pub clearance_view : List (List ℕ) → List ProbeBox → RunView
+clearance_view names boxes = record {
+  tells = λ program notices part c n. IsClearanceOf names part boxes c n;
+  halted = λ part c n done old new. IsHaltedAfter part c n done × Appends old new (contacts_front names part boxes c done);
 }
 
 -- the picture
@@ -156,17 +179,17 @@ abbrev pub picture_view : Bool → RunView
 picture_view is_close = record { tells = λ program notices part c n. IsPicture part c n is_close; halted = WroteNothing }
 
 -- the sheet
-abbrev pub sheet_view : RunView
-sheet_view = record { tells = λ program notices. IsSheet; halted = WroteNothing }
+abbrev pub sheet_view : Titles → RunView
+sheet_view t = record { tells = λ program notices. IsSheet t; halted = WroteNothing }
 
 -- why it stops
-abbrev pub why_view : RunView
-why_view = record { tells = λ program notices. IsWhyOf program; halted = WroteNothing }
+abbrev pub why_view : List (List ℕ) → RunView
+why_view names = record { tells = λ program notices. IsWhyOf names program; halted = WroteNothing }
 
 -- the contacts; where memory was refused to the run that goes on after each, nothing was written
-abbrev pub contacts_view : RunView
-contacts_view = record {
-  tells = λ program notices. AreContactsOf;
+abbrev pub contacts_view : List (List ℕ) → RunView
+contacts_view names = record {
+  tells = λ program notices. AreContactsOf names;
   halted = λ part c n done old new. AreNoContacts part c n (Memory done) × Keeps old new;
 }
 

@@ -1,6 +1,6 @@
 //! The clearance of a probe in a run of a loaded code.
 
-ghost use Rattle.std.specs.Prelude.{◌≡◌};
+ghost use Rattle.std.specs.Prelude.{◌≡◌, map};
 ghost use Rattle.vcm_views.specs.Views.{clearance_status, clearance_view};
 
 use crate::unfinished::cut_short;
@@ -11,6 +11,7 @@ use vcm_clearance::{Cleared, clearance};
 use vcm_job::{Given, RunFault, Shows, status_of};
 use vcm_loader::Loaded;
 use vcm_motion::AnyPart;
+use vcm_naming::BlockNames;
 use vcm_part::PartData;
 
 // The exit status of a clearance.
@@ -24,14 +25,16 @@ fn status_with(cleared: Cleared) -> u8
     }
 }
 
-/// Which of these boxes, which are fixed to the tip, meet a block, and how much room the others have.
+/// Which of these boxes, which are fixed to the tip, meet a block, and how much room the others have. The names of the part's blocks, each of which may be
+/// empty, are told with the blocks.
 #[derive(Clone, Copy)]
 pub struct Clearance<'a> {
     pub boxes: &'a Boxes,
+    pub block_names: &'a [Vec<u8>],
 }
 
 impl<W: Write> Shows<W> for Clearance<'_> {
-    ghost RunView = { λ s. clearance_view s.boxes.now };
+    ghost RunView = { λ s. clearance_view (map (λ name. name.items) s.block_names.now) s.boxes.now };
 
     fn show(
         &self,
@@ -45,7 +48,12 @@ impl<W: Write> Shows<W> for Clearance<'_> {
         let Ok(workpiece) = AnyPart::of(alloc, part) else {
             return Err(RunFault::NoMemory);
         };
-        match clearance(alloc, loaded, &workpiece, part, self.boxes, steps, writer) {
+        let Ok(mut names) = BlockNames::new(alloc, self.block_names) else {
+            return Err(RunFault::NoMemory);
+        };
+        match clearance(
+            alloc, loaded, &workpiece, part, self.boxes, steps, &mut names, writer,
+        ) {
             Ok(cleared) => Ok(status_with(cleared)),
             Err(fault) => Err(cut_short(fault)),
         }

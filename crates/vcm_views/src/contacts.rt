@@ -1,6 +1,6 @@
 //! All contacts of a run in one go, as a view.
 
-ghost use Rattle.std.specs.Prelude.{◌≡◌};
+ghost use Rattle.std.specs.Prelude.{◌≡◌, map};
 ghost use Rattle.vcm_views.specs.Views.{contacts_status, contacts_view};
 
 use crate::unfinished::cut_short;
@@ -10,6 +10,7 @@ use vcm_contacts::{Contact, collect_contacts, write_contacts};
 use vcm_job::{Given, RunFault, Shows, status_of};
 use vcm_loader::Loaded;
 use vcm_motion::AnyPart;
+use vcm_naming::BlockNames;
 use vcm_part::PartData;
 use vcm_spec::StopPlace;
 
@@ -24,12 +25,15 @@ fn status_with(contacts: &[Contact], stop: Option<StopPlace>) -> u8
     }
 }
 
-/// The contacts of a run that goes on after each: the motion that met a block is taken as done.
+/// The contacts of a run that goes on after each: the motion that met a block is taken as done. The names of the part's blocks, each of which may be empty,
+/// are told with the blocks.
 #[derive(Clone, Copy)]
-pub struct AllContacts;
+pub struct AllContacts<'a> {
+    pub block_names: &'a [Vec<u8>],
+}
 
-impl<W: Write> Shows<W> for AllContacts {
-    ghost RunView = { λ s. contacts_view };
+impl<W: Write> Shows<W> for AllContacts<'_> {
+    ghost RunView = { λ s. contacts_view (map (λ name. name.items) s.block_names.now) };
 
     fn show(
         &self,
@@ -50,7 +54,17 @@ impl<W: Write> Shows<W> for AllContacts {
         let Ok(tables) = loaded.tables(alloc) else {
             return Err(RunFault::NoMemory);
         };
-        match write_contacts(&tables, &found.contacts, found.stop, steps, writer) {
+        let Ok(mut names) = BlockNames::new(alloc, self.block_names) else {
+            return Err(RunFault::NoMemory);
+        };
+        match write_contacts(
+            &tables,
+            &found.contacts,
+            found.stop,
+            steps,
+            &mut names,
+            writer,
+        ) {
             Ok(()) => Ok(status_with(&found.contacts, found.stop)),
             Err(_) => Err(RunFault::Write { done: steps }),
         }

@@ -1,6 +1,6 @@
 //! Why a run stops where it does, as a view.
 
-ghost use Rattle.std.specs.Prelude.{◌≡◌, IfOk, IfErr, option_map};
+ghost use Rattle.std.specs.Prelude.{◌≡◌, IfOk, IfErr, map, option_map};
 ghost use Rattle.vcm_why.specs.Telling.{IsWhy, IsNoWhy};
 ghost use Rattle.vcm_views.specs.Views.{why_view};
 
@@ -10,6 +10,7 @@ use std::io::Write;
 use vcm_job::{Given, RunFault, Shows, status_of};
 use vcm_loader::Loaded;
 use vcm_motion::{AnyPart, Part};
+use vcm_naming::BlockNames;
 use vcm_part::PartData;
 use vcm_spec::StopPlace;
 use vcm_steps::Unfinished;
@@ -23,24 +24,28 @@ fn tell<P: Part, W: Write>(
     given: &Given,
     part: &PartData,
     steps: u64,
+    names: &BlockNames,
     writer: &mut W,
 ) -> Result<Option<StopPlace>, Unfinished>
     requires { P.part workpiece.now ≡ part.now }
-    ensures why { IfOk result (λ stop. IsWhy (option_map (λ t. t.items) given.now.text) part.now loaded.now steps stop (W.contents writer.old) (W.contents writer.new)) }
-    ensures fault { IfErr result (λ f. IsNoWhy (option_map (λ t. t.items) given.now.text) part.now loaded.now steps f (W.contents writer.old) (W.contents writer.new)) }
+    ensures why { IfOk result (λ stop. IsWhy names.now (option_map (λ t. t.items) given.now.text) part.now loaded.now steps stop (W.contents writer.old) (W.contents writer.new)) }
+    ensures fault { IfErr result (λ f. IsNoWhy names.now (option_map (λ t. t.items) given.now.text) part.now loaded.now steps f (W.contents writer.old) (W.contents writer.new)) }
 {
     match &given.text {
-        Some(text) => why_text(alloc, loaded, workpiece, part, text, steps, writer),
-        None => why_image(alloc, loaded, workpiece, part, steps, writer),
+        Some(text) => why_text(alloc, loaded, workpiece, part, text, steps, names, writer),
+        None => why_image(alloc, loaded, workpiece, part, steps, names, writer),
     }
 }
 
-/// Why a run stops where it does: its stop, where its statement stands in the text, and the way on which it stopped.
+/// Why a run stops where it does: its stop, where its statement stands in the text, and the way on which it stopped. The names of the part's blocks, each of
+/// which may be empty, are told with the blocks.
 #[derive(Clone, Copy)]
-pub struct Why;
+pub struct Why<'a> {
+    pub block_names: &'a [Vec<u8>],
+}
 
-impl<W: Write> Shows<W> for Why {
-    ghost RunView = { λ s. why_view };
+impl<W: Write> Shows<W> for Why<'_> {
+    ghost RunView = { λ s. why_view (map (λ name. name.items) s.block_names.now) };
 
     fn show(
         &self,
@@ -54,7 +59,12 @@ impl<W: Write> Shows<W> for Why {
         let Ok(workpiece) = AnyPart::of(alloc, part) else {
             return Err(RunFault::NoMemory);
         };
-        match tell(alloc, loaded, &workpiece, given, part, steps, writer) {
+        let Ok(names) = BlockNames::new(alloc, self.block_names) else {
+            return Err(RunFault::NoMemory);
+        };
+        match tell(
+            alloc, loaded, &workpiece, given, part, steps, &names, writer,
+        ) {
             Ok(stop) => Ok(status_of(stop)),
             Err(fault) => Err(cut_short(fault)),
         }

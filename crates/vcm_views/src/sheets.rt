@@ -27,21 +27,23 @@ pub struct Titles<'a> {
 // Writes the sheet of a run that came to a state behind so many steps, and gives the exit status.
 fn file<W: Write>(
     alloc: Global,
-    titles: Titles<'_>,
+    titles: &Titles<'_>,
     part: &PartData,
     world: &World,
     done: u64,
     way: &Way,
     writer: &mut W,
 ) -> Result<u8, RunFault>
-    ensures filed { IfOk result (λ status. IsFiled world.now status (W.contents writer.old) (W.contents writer.new)) }
-    ensures fault { IfErr result (λ f. IsNotFiled f (W.contents writer.old) (W.contents writer.new)) }
+    ensures filed { IfOk result (λ status. IsFiled titles.now part.now world.now done way.now status (W.contents writer.old) (W.contents writer.new)) }
+    ensures fault { IfErr result (λ f. IsNotFiled titles.now part.now world.now done way.now f (W.contents writer.old) (W.contents writer.new)) }
 {
+    let status = status_of(world.stop());
+    let marks = way.marks();
     let sheet = Sheet {
         part,
         world,
         done,
-        marks: way.marks(),
+        marks,
         left_out: way.left_out(),
         is_close: titles.is_close,
         lines: titles.lines,
@@ -50,7 +52,7 @@ fn file<W: Write>(
         block_names: titles.block_names,
     };
     match write_sheet(alloc, &sheet, writer) {
-        Ok(()) => Ok(status_of(world.stop())),
+        Ok(()) => Ok(status),
         Err(PictureFault::NoMemory) => Err(RunFault::NoMemory),
         Err(PictureFault::Write) => Err(RunFault::Write { done }),
     }
@@ -63,7 +65,7 @@ pub struct SheetView<'a> {
 }
 
 impl<W: Write> Shows<W> for SheetView<'_> {
-    ghost RunView = { λ s. sheet_view };
+    ghost RunView = { λ s. sheet_view s.titles };
 
     fn show(
         &self,
@@ -86,7 +88,7 @@ impl<W: Write> Shows<W> for SheetView<'_> {
         }
         file(
             alloc,
-            self.titles,
+            &self.titles,
             part,
             &followed.world,
             ran.done,

@@ -37,12 +37,14 @@ impl<W: Write> Shows<W> for Trace {
     }
 }
 
-/// The points that are measured, a line for each.
+/// The points that are measured, a line for each, without machine coordinates or with them.
 #[derive(Clone, Copy)]
-pub struct Points;
+pub struct Points {
+    pub is_machine: bool,
+}
 
 impl<W: Write> Shows<W> for Points {
-    ghost RunView = { λ s. points_view };
+    ghost RunView = { λ s. points_view s.is_machine };
 
     fn show(
         &self,
@@ -56,7 +58,10 @@ impl<W: Write> Shows<W> for Points {
         let Ok(workpiece) = AnyPart::of(alloc, part) else {
             return Err(RunFault::NoMemory);
         };
-        match write_rows(alloc, loaded, &workpiece, steps, &PointRows, writer) {
+        let rows = PointRows {
+            is_machine: self.is_machine,
+        };
+        match write_rows(alloc, loaded, &workpiece, steps, &rows, writer) {
             Ok(stop) => Ok(status_of(stop)),
             Err(fault) => Err(cut_short(fault)),
         }

@@ -10,9 +10,9 @@ use Rattle.vcm_why.specs.Origins.{Traced}
 use Rattle.vcm_why.specs.Telling.{IsTraced, IsNoWhy}
 use Rattle.vcm_why.specs.inner.Watching.{IsAmple, IsNotTold}
 
-module _ (text : Option (List ℕ)) (traced : Option Traced) (part : Workpiece) (c : Code) (n : ℕ) (w : Watched) (old new : Option (List ℕ)) (h : IsAmple part c n w)
+module _ (names : List (List ℕ)) (text : Option (List ℕ)) (traced : Option Traced) (part : Workpiece) (c : Code) (n : ℕ) (w : Watched) (old new : Option (List ℕ)) (h : IsAmple part c n w)
     (t : IsTraced text w.next traced) where
-  fault_told : (f : Unfinished) → IsNotTold traced part c w f old new → IsNoWhy text part c n f old new
+  fault_told : (f : Unfinished) → IsNotTold names traced part c w f old new → IsNoWhy names text part c n f old new
   fault_told faults.NoMemory k = absurd k
   fault_told (faults.Memory done) k = absurd k
   fault_told (faults.Write done) k = (
@@ -31,6 +31,6 @@ module _ (text : Option (List ℕ)) (traced : Option Traced) (part : Workpiece) 
     },
   )
 
-  pub not_told : {A : Type 0} (r : Result A Unfinished) → IfErr r (λ f. IsNotTold traced part c w f old new) → IfErr r (λ f. IsNoWhy text part c n f old new)
+  pub not_told : {A : Type 0} (r : Result A Unfinished) → IfErr r (λ f. IsNotTold names traced part c w f old new) → IfErr r (λ f. IsNoWhy names text part c n f old new)
   not_told (Ok x) k = tt
   not_told (Err f) k = fault_told f k

@@ -3,9 +3,11 @@ use Rattle.std.specs.Prelude.{ℕ, Bool, true, false, List, [], ◌∷◌, ◌++
 use Rattle.vcm_spec.specs.declared.stop.Stop.{Stop}
 use Rattle.vcm_spec.specs.declared.stop.Stop.TheVariants.{Ended}
 use Rattle.vcm_spec.specs.declared.stop.StopPlace.{StopPlace}
+use Rattle.vcm_spec.specs.Setup.{Tables}
 use Rattle.vcm_spec.specs.Workpiece.{Workpiece}
 use Rattle.vcm_code.specs.Code.{CodeStatement}
 use Rattle.vcm_report.specs.Printed.{stopped_line, no_stop_line}
+use Rattle.vcm_naming.specs.Naming.{name_below, stop_block}
 use Rattle.vcm_state.specs.Held.{Held}
 use Rattle.vcm_cause.specs.Behind.{Behind}
 use Rattle.vcm_cause.specs.Cause.{cause_of}
@@ -24,10 +26,14 @@ where_lines (Some t) ss held rounds number line = text_lines t ss held rounds nu
 where_lines None ss held rounds number line =
     codes "the source line, the calls and the loops stand in the program's text; an image has none\n"
 
--- a stop that isn't the program's end: its line, where its statement comes from, and what is told of its motion
-abbrev pub stop_lines : Option Traced → Workpiece → List CodeStatement → Held → (number : ℕ) → Behind → StopPlace → List ℕ
-stop_lines t part ss held number b place =
-    stopped_line held.tables place ++ (where_lines t ss held b.rounds number place.line ++ cause_lines (cause_of part b.marks))
+-- the line of a stop, and the name of the block that it names, if that is among these
+abbrev pub stop_front : List (List ℕ) → Tables → StopPlace → List ℕ
+stop_front names tables place = stopped_line tables place ++ name_below names (stop_block place.stop)
+
+-- a stop that isn't the program's end: its line with the name of its block, where its statement comes from, and what is told of its motion
+abbrev pub stop_lines : List (List ℕ) → Option Traced → Workpiece → List CodeStatement → Held → (number : ℕ) → Behind → StopPlace → List ℕ
+stop_lines names t part ss held number b place =
+    stop_front names held.tables place ++ (where_lines t ss held b.rounds number place.line ++ cause_lines (cause_of part b.marks))
 
 -- whether a stop is the program's end
 abbrev pub is_ended : Stop → Bool
@@ -35,15 +41,15 @@ is_ended Ended = true
 is_ended why = false
 
 -- the program's end alone, or what is told of any other stop
-abbrev pub placed_lines : Bool → Option Traced → Workpiece → List CodeStatement → Held → (number : ℕ) → Behind → StopPlace → List ℕ
-placed_lines true t part ss held number b place = stopped_line held.tables place
-placed_lines false t part ss held number b place = stop_lines t part ss held number b place
+abbrev pub placed_lines : Bool → List (List ℕ) → Option Traced → Workpiece → List CodeStatement → Held → (number : ℕ) → Behind → StopPlace → List ℕ
+placed_lines true names t part ss held number b place = stopped_line held.tables place
+placed_lines false names t part ss held number b place = stop_lines names t part ss held number b place
 
 -- what is told of a stop, or of so many steps without one
-abbrev pub lines_at : Option StopPlace → Option Traced → Workpiece → List CodeStatement → Held → (number : ℕ) → Behind → (done : ℕ) → List ℕ
-lines_at None t part ss held number b done = no_stop_line done
-lines_at (Some place) t part ss held number b done = placed_lines (is_ended place.stop) t part ss held number b place
+abbrev pub lines_at : Option StopPlace → List (List ℕ) → Option Traced → Workpiece → List CodeStatement → Held → (number : ℕ) → Behind → (done : ℕ) → List ℕ
+lines_at None names t part ss held number b done = no_stop_line done
+lines_at (Some place) names t part ss held number b done = placed_lines (is_ended place.stop) names t part ss held number b place
 
--- what is told of a run that came to this state
-abbrev pub why_lines : Option Traced → Workpiece → List CodeStatement → Held → (number : ℕ) → Behind → (done : ℕ) → List ℕ
-why_lines t part ss held number b done = lines_at held.state.stop t part ss held number b done
+-- what is told of a run that came to this state, beside blocks with these names
+abbrev pub why_lines : List (List ℕ) → Option Traced → Workpiece → List CodeStatement → Held → (number : ℕ) → Behind → (done : ℕ) → List ℕ
+why_lines names t part ss held number b done = lines_at held.state.stop names t part ss held number b done

@@ -23,8 +23,9 @@ IsTraced (Some text) number None = ⊥
 IsTraced None number (Some t) = ⊥
 IsTraced None number None = Unit {0}
 
--- what is told of a run for at most n steps that memory didn't cut short, of a code from this text or from none; W is what became of it
-pub record IsReason (text : Option (List ℕ)) (part : Workpiece) (c : Code) (n : ℕ) (stop : Option StopPlace) (W : List ℕ → Type 0) : Type 0 where
+-- what is told of a run for at most n steps that memory didn't cut short, of a code from this text or from none, beside blocks with these names; W is what
+-- became of it
+pub record IsReason (names : List (List ℕ)) (text : Option (List ℕ)) (part : Workpiece) (c : Code) (n : ℕ) (stop : Option StopPlace) (W : List ℕ → Type 0) : Type 0 where
   pub held : Held
   pub number : ℕ
   pub ran : Ran
@@ -34,11 +35,11 @@ pub record IsReason (text : Option (List ℕ)) (part : Workpiece) (c : Code) (n 
   pub traced : Option Traced
   pub is_traced : IsTraced text number traced
   pub stop_is : stop ≡ held.state.stop
-  pub written : W (why_lines traced part c.statements held number (seen progress) ran.done)
+  pub written : W (why_lines names traced part c.statements held number (seen progress) ran.done)
 
 -- it was written and nothing else, and this is the stop of the run, if it came to one
-abbrev pub IsWhy : Option (List ℕ) → Workpiece → Code → ℕ → Option StopPlace → Option (List ℕ) → Option (List ℕ) → Type 0
-IsWhy text part c n stop old new = IsReason text part c n stop (Appends old new)
+abbrev pub IsWhy : List (List ℕ) → Option (List ℕ) → Workpiece → Code → ℕ → Option StopPlace → Option (List ℕ) → Option (List ℕ) → Type 0
+IsWhy names text part c n stop old new = IsReason names text part c n stop (Appends old new)
 
 -- a run for at most n steps was refused memory after so many of them
 abbrev pub IsHaltedAfter : Workpiece → Code → ℕ → ℕ → Type 0
@@ -46,7 +47,7 @@ IsHaltedAfter part c n done = RunEnded n (started part c) (later done (started p
 
 -- why it wasn't written to the end: memory was refused before the run, in it or for the text, and nothing was written; or a write failed, and a front of it
 -- was written that is not all
-abbrev pub IsNoWhy : Option (List ℕ) → Workpiece → Code → ℕ → Unfinished → Option (List ℕ) → Option (List ℕ) → Type 0
-IsNoWhy text part c n faults.NoMemory old new = Keeps old new
-IsNoWhy text part c n (faults.Memory done) old new = IsHaltedAfter part c n done × Keeps old new
-IsNoWhy text part c n (faults.Write done) old new = (stop : Option StopPlace) × IsReason text part c n stop (AppendsFront old new)
+abbrev pub IsNoWhy : List (List ℕ) → Option (List ℕ) → Workpiece → Code → ℕ → Unfinished → Option (List ℕ) → Option (List ℕ) → Type 0
+IsNoWhy names text part c n faults.NoMemory old new = Keeps old new
+IsNoWhy names text part c n (faults.Memory done) old new = IsHaltedAfter part c n done × Keeps old new
+IsNoWhy names text part c n (faults.Write done) old new = (stop : Option StopPlace) × IsReason names text part c n stop (AppendsFront old new)

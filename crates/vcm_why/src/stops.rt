@@ -3,7 +3,7 @@
 ghost use Rattle.std.specs.Prelude.{◌≡◌, ◌<◌, length};
 ghost use Rattle.vcm_num.specs.Written.{Wrote};
 ghost use Rattle.vcm_cause.specs.Watched.{seen};
-ghost use Rattle.vcm_why.specs.Reasons.{text_lines, where_lines, stop_lines, is_ended, why_lines};
+ghost use Rattle.vcm_why.specs.Reasons.{text_lines, where_lines, stop_front, stop_lines, is_ended, why_lines};
 
 use crate::causes::write_cause;
 use crate::loops::write_loops;
@@ -11,7 +11,9 @@ use crate::origin::Origin;
 use crate::source::write_origin;
 use std::io::Write;
 use vcm_cause::{Progress, Rounds, cause_of};
+use vcm_items::Tables;
 use vcm_loader::Loaded;
+use vcm_naming::{BlockNames, stop_block};
 use vcm_num::{WriteFault, write_all};
 use vcm_part::PartData;
 use vcm_report::{write_no_stop, write_stop_line};
@@ -64,6 +66,19 @@ fn is_ended(stop: Stop) -> bool
     matches!(stop, Stop::Ended)
 }
 
+// Writes the line of a stop, and the name of the block that it names, if that has one.
+fn write_named_stop<W: Write>(
+    tables: &Tables,
+    place: StopPlace,
+    names: &BlockNames,
+    writer: &mut W,
+) -> Result<(), WriteFault>
+    ensures { Wrote (W.contents writer.old) (W.contents writer.new) (stop_front names.now tables.now place) result }
+{
+    write_stop_line(tables, place, writer)?;
+    names.write_name(stop_block(place.stop), writer)
+}
+
 // Writes a stop that isn't the program's end.
 fn write_stop<W: Write>(
     origin: &Option<Origin<'_>>,
@@ -73,12 +88,13 @@ fn write_stop<W: Write>(
     progress: &Progress,
     number: u32,
     place: StopPlace,
+    names: &BlockNames,
     writer: &mut W,
 ) -> Result<(), WriteFault>
     requires { number < length loaded.now.statements }
-    ensures { Wrote (W.contents writer.old) (W.contents writer.new) (stop_lines origin.now part.now loaded.now.statements world.now number (seen progress.now) place) result }
+    ensures { Wrote (W.contents writer.old) (W.contents writer.new) (stop_lines names.now origin.now part.now loaded.now.statements world.now number (seen progress.now) place) result }
 {
-    write_stop_line(world.tables(), place, writer)?;
+    write_named_stop(world.tables(), place, names, writer)?;
     write_where(
         origin,
         loaded,
@@ -91,7 +107,7 @@ fn write_stop<W: Write>(
     write_cause(&cause_of(part, progress.marks.as_slice()), writer)
 }
 
-/// Writes what is told of a run that came to a state with this number of the next statement behind so many steps.
+/// Writes what is told of a run that came to a state with this number of the next statement after so many steps, beside blocks with these names.
 ///
 /// Errors: the writer failed, or took no byte; then it has taken a front of the text, and not all of it.
 pub(crate) fn write_why<W: Write>(
@@ -102,10 +118,11 @@ pub(crate) fn write_why<W: Write>(
     progress: &Progress,
     number: u32,
     done: u64,
+    names: &BlockNames,
     writer: &mut W,
 ) -> Result<(), WriteFault>
     requires { number < length loaded.now.statements }
-    ensures { Wrote (W.contents writer.old) (W.contents writer.new) (why_lines origin.now part.now loaded.now.statements world.now number (seen progress.now) done) result }
+    ensures { Wrote (W.contents writer.old) (W.contents writer.new) (why_lines names.now origin.now part.now loaded.now.statements world.now number (seen progress.now) done) result }
 {
     match world.stop() {
         None => write_no_stop(done, writer),
@@ -113,7 +130,9 @@ pub(crate) fn write_why<W: Write>(
             if is_ended(place.stop) {
                 return write_stop_line(world.tables(), place, writer);
             }
-            write_stop(origin, loaded, part, world, progress, number, place, writer)
+            write_stop(
+                origin, loaded, part, world, progress, number, place, names, writer,
+            )
         }
     }
 }

@@ -12,6 +12,7 @@ use vcm_cause::{Watched, watch};
 use vcm_loader::Loaded;
 use vcm_machine::End;
 use vcm_motion::Part;
+use vcm_naming::BlockNames;
 use vcm_part::PartData;
 use vcm_spec::StopPlace;
 use vcm_steps::Unfinished;
@@ -22,11 +23,12 @@ fn tell<W: Write>(
     loaded: &Loaded<'_>,
     part: &PartData,
     watched: &Watched,
+    names: &BlockNames,
     writer: &mut W,
 ) -> Result<Option<StopPlace>, Unfinished>
     requires { watched.now.next < length loaded.now.statements }
-    ensures told { IfOk result (λ stop. IsTold origin.now part.now loaded.now watched.now stop (W.contents writer.old) (W.contents writer.new)) }
-    ensures fault { IfErr result (λ f. IsNotTold origin.now part.now loaded.now watched.now f (W.contents writer.old) (W.contents writer.new)) }
+    ensures told { IfOk result (λ stop. IsTold names.now origin.now part.now loaded.now watched.now stop (W.contents writer.old) (W.contents writer.new)) }
+    ensures fault { IfErr result (λ f. IsNotTold names.now origin.now part.now loaded.now watched.now f (W.contents writer.old) (W.contents writer.new)) }
 {
     let world = &watched.world;
     let done = watched.ran.done;
@@ -38,6 +40,7 @@ fn tell<W: Write>(
         &watched.progress,
         watched.next,
         done,
+        names,
         writer,
     ) {
         Ok(()) => Ok(world.stop()),
@@ -69,8 +72,8 @@ fn run_watched<P: Part>(
     }
 }
 
-/// Runs the code of a program's text for at most so many steps beside a workpiece, whose blocks are given too, and writes why the run stopped where it did.
-/// It answers the stop, if it came to one.
+/// Runs the code of a program's text for at most so many steps beside a workpiece, whose blocks are given too, and writes why the run stopped where it did,
+/// below the line of a stop that names a block the block's name, if it is among these. It answers the stop, if it came to one.
 ///
 /// Errors: see `Unfinished`. Nothing is written where memory is refused.
 pub fn why_text<P: Part, W: Write>(
@@ -80,11 +83,12 @@ pub fn why_text<P: Part, W: Write>(
     blocks: &PartData,
     text: &[u8],
     steps: u64,
+    names: &BlockNames,
     writer: &mut W,
 ) -> Result<Option<StopPlace>, Unfinished>
     requires { P.part part.now ≡ blocks.now }
-    ensures why { IfOk result (λ stop. IsWhy (Some text.now) blocks.now loaded.now steps stop (W.contents writer.old) (W.contents writer.new)) }
-    ensures fault { IfErr result (λ f. IsNoWhy (Some text.now) blocks.now loaded.now steps f (W.contents writer.old) (W.contents writer.new)) }
+    ensures why { IfOk result (λ stop. IsWhy names.now (Some text.now) blocks.now loaded.now steps stop (W.contents writer.old) (W.contents writer.new)) }
+    ensures fault { IfErr result (λ f. IsNoWhy names.now (Some text.now) blocks.now loaded.now steps f (W.contents writer.old) (W.contents writer.new)) }
 {
     let watched = match run_watched(alloc, loaded, part, blocks, steps) {
         Ok(watched) => watched,
@@ -93,7 +97,7 @@ pub fn why_text<P: Part, W: Write>(
     match origin_of(alloc, text, watched.next) {
         Ok(origin) => {
             let origin = Some(origin);
-            tell(&origin, loaded, blocks, &watched, writer)
+            tell(&origin, loaded, blocks, &watched, names, writer)
         }
         // The text of a program that was built is refused for want of memory alone.
         Err(_) => Err(Unfinished::NoMemory),
@@ -109,15 +113,16 @@ pub fn why_image<P: Part, W: Write>(
     part: &P,
     blocks: &PartData,
     steps: u64,
+    names: &BlockNames,
     writer: &mut W,
 ) -> Result<Option<StopPlace>, Unfinished>
     requires { P.part part.now ≡ blocks.now }
-    ensures why { IfOk result (λ stop. IsWhy None blocks.now loaded.now steps stop (W.contents writer.old) (W.contents writer.new)) }
-    ensures fault { IfErr result (λ f. IsNoWhy None blocks.now loaded.now steps f (W.contents writer.old) (W.contents writer.new)) }
+    ensures why { IfOk result (λ stop. IsWhy names.now None blocks.now loaded.now steps stop (W.contents writer.old) (W.contents writer.new)) }
+    ensures fault { IfErr result (λ f. IsNoWhy names.now None blocks.now loaded.now steps f (W.contents writer.old) (W.contents writer.new)) }
 {
     let watched = match run_watched(alloc, loaded, part, blocks, steps) {
         Ok(watched) => watched,
         Err(fault) => return Err(fault),
     };
-    tell(&None, loaded, blocks, &watched, writer)
+    tell(&None, loaded, blocks, &watched, names, writer)
 }

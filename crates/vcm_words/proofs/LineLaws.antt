@@ -11,13 +11,13 @@ use Rattle.vcm_code.specs.declared.word.Word.TheVariants as words
 use Rattle.vcm_spec.specs.declared.simple.Simple.TheVariants.{SnSet}
 use Rattle.vcm_code.specs.declared.op.Op.TheVariants.{Plain}
 use Rattle.vcm_code.specs.Code.{Op}
-use Rattle.vcm_code.specs.Words.{word_of}
+use Rattle.vcm_code.specs.Words.{word_of, word_text}
 use Rattle.vcm_fields.specs.inner.Fitting.{FitsPlace, FitsOperation, FitsLine}
 use Rattle.vcm_code.specs.Shape.{Filled, Form, form, form_of, places_in, made_in, places, op_in, Parted, parted, word_in, put_together, taken_apart, over_places, over_parted, InPlaces, InParted}
 use Rattle.vcm_code.proofs.Shapes.{apart_made, together_apart}
 use Rattle.vcm_words.specs.inner.Marks.{IsWord}
 use Rattle.vcm_words.specs.WordReaders.{via}
-use Rattle.vcm_words.specs.Operands.{single, word_text, place_words, filled_at, operands, form_at, operands_at, line, op_at, line_at}
+use Rattle.vcm_words.specs.Operands.{single, place_words, filled_at, operands, form_at, operands_at, line, op_at, line_at}
 use Rattle.vcm_words.proofs.Inverse.{Ends, Bare, via_takes, via_again, ends_via, ends_both, ends_tag}
 use Rattle.vcm_words.proofs.PlaceLaws.{in_order, ends_filled, Has, reads_number, reads_word}
 

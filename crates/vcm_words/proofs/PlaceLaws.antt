@@ -10,7 +10,7 @@ use Rattle.vcm_spec.specs.declared.words.FeatureWord.TheVariants as feature_word
 use Rattle.vcm_spec.specs.Words.{quarters_number, word_number}
 use Rattle.vcm_code.specs.declared.version.Version.{Version}
 use Rattle.vcm_code.specs.declared.word.Word.{Word}
-use Rattle.vcm_code.specs.Words.{has_word}
+use Rattle.vcm_code.specs.Words.{has_word, word_text}
 use Rattle.vcm_fields.specs.inner.Fitting.{FitThree, FitsPlace}
 use Rattle.vcm_fields.proofs.ItemParts.{in_range}
 use Rattle.vcm_code.specs.Shape.{Place, Said, Filled, axes, directions, settings, sources, frame_axes, all_words, over_places, InPlaces}
@@ -18,7 +18,7 @@ use Rattle.vcm_code.specs.Shape as at
 use Rattle.vcm_words.specs.Numbers.{number, counted, only_if}
 use Rattle.vcm_words.specs.WordReaders.{◌>>=◌, Reader, Spelling}
 use Rattle.vcm_words.specs.Operands.{single, number_text, number_at, axis_text, direction_text, setting_text, source_text, turn_text, quarters_of, part_of}
-use Rattle.vcm_words.specs.Operands.{part_number, word_text, three, three_at, behind, spelling, place_words, filled_at, any_word_at, word_at}
+use Rattle.vcm_words.specs.Operands.{part_number, three, three_at, behind, spelling, place_words, filled_at, any_word_at, word_at}
 use Rattle.vcm_words.proofs.Inverse.{Means, Reads, Ends, ends, bind_some, some_is, only_met, reads_as, reads_one, reads_both, reads_tested, ends_both}
 use Rattle.vcm_words.proofs.NumberLaws.{means_number}
 use Rattle.vcm_words.proofs.WordLaws.{means_marked}

@@ -24,7 +24,8 @@ use Rattle.vcm_words.specs.declared.row.Heading.TheVariants as headings
 use Rattle.vcm_words.specs.inner.Marks.{Without, IsWord}
 use Rattle.vcm_words.specs.WordReaders.{rows_of}
 use Rattle.vcm_code.specs.Shape.{axes, directions, settings, sources, frame_axes, kinds, all_words}
-use Rattle.vcm_words.specs.Operands.{axis_text, direction_text, setting_text, source_text, turn_text, word_text}
+use Rattle.vcm_code.specs.Words.{word_text}
+use Rattle.vcm_words.specs.Operands.{axis_text, direction_text, setting_text, source_text, turn_text}
 use Rattle.vcm_words.specs.Rows.{kind_text, version_text, versions, heading_text, all_headings}
 use Rattle.vcm_words.proofs.Inverse.{Means, some_is}
 

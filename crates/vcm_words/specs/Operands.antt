@@ -16,18 +16,17 @@ use Rattle.vcm_spec.specs.declared.words.FeatureWord.{FeatureWord}
 use Rattle.vcm_spec.specs.declared.words.FeatureWord.TheVariants as feature_word
 use Rattle.vcm_spec.specs.Words.{quarters_number, word_number}
 use Rattle.vcm_code.specs.declared.word.Word.{Word}
-use Rattle.vcm_code.specs.declared.word.Word.TheVariants as words
 use Rattle.vcm_code.specs.declared.version.Version.{Version}
 use Rattle.vcm_code.specs.Code.{Op, CodeStatement}
-use Rattle.vcm_code.specs.Words.{word_of, has_word}
-use Rattle.vcm_code.specs.Shape.{Place, Said, Filled, axes, directions, settings, sources, frame_axes, all_words, made, Form, form, form_of, over_operands}
+use Rattle.vcm_code.specs.Words.{word_of, has_word, word_text, word_rows}
+use Rattle.vcm_code.specs.Shape.{Place, Said, Filled, axes, directions, settings, sources, frame_axes, made, Form, form, form_of, over_operands}
 use Rattle.vcm_code.specs.Shape as at
 use Rattle.vcm_spec.specs.TextBytes.{is_text_byte}
 use Rattle.vcm_spec.specs.declared.expression.Item.{Item}
 use Rattle.vcm_words.specs.Cutting.{split, joined}
 use Rattle.vcm_words.specs.Numbers.{number, counted, only_if}
 use Rattle.vcm_num.specs.Words.{look_up}
-use Rattle.vcm_words.specs.WordReaders.{◌>>=◌, Reader, now, one, both, via, after, tested, marked, ending, rows_of, Spelling, named}
+use Rattle.vcm_words.specs.WordReaders.{◌>>=◌, Reader, now, one, both, via, after, tested, marked, ending, Spelling, named}
 use Rattle.vcm_words.specs.Items.{expression, expression_at}
 use Rattle.vcm_words.specs.Branches.{branches, branches_at}
 use Rattle.vcm_num.specs.declared.limits.TheConstants.{DEEPEST_BLOCKS, LONGEST_TEXT}
@@ -126,38 +125,6 @@ unfoldable pub text_at : Bool → Reader (List ℕ)
 text_at exact [] = None
 text_at exact (w ∷ ws) = quoted_in exact (joined 32 (w ∷ ws)) >>= λ bs. Some (bs, [])
 
--- ---- the words of statements
-
--- the word of each statement
-abbrev pub word_text : Word → List ℕ
-word_text words.EndFil = codes "ENDFIL"
-word_text words.Goto = codes "GOTO"
-word_text words.GoHome = codes "GOHOME"
-word_text words.Assign = codes "ASSIGN"
-word_text words.If = codes "IF"
-word_text words.Else = codes "ELSE"
-word_text words.EndIf = codes "ENDIF"
-word_text words.Do = codes "DO"
-word_text words.EndDo = codes "ENDDO"
-word_text words.Label = codes "LABEL"
-word_text words.JumpTo = codes "JUMPTO"
-word_text words.Feat = codes "FEAT"
-word_text words.Meas = codes "MEAS"
-word_text words.PtMeas = codes "PTMEAS"
-word_text words.EndMes = codes "ENDMES"
-word_text words.SnSet = codes "SNSET"
-word_text words.Trans = codes "TRANS"
-word_text words.Rotate = codes "ROTATE"
-word_text words.Recall = codes "RECALL"
-word_text words.Obtain = codes "OBTAIN"
-word_text words.Output = codes "OUTPUT"
-word_text words.Text = codes "TEXT"
-word_text words.Select = codes "SELECT"
-word_text words.Case = codes "CASE"
-word_text words.EndCas = codes "ENDCAS"
-word_text words.DftCas = codes "DFTCAS"
-word_text words.EndSel = codes "ENDSEL"
-
 -- ---- places
 
 -- three expressions
@@ -218,7 +185,7 @@ operands_at exact w = form_at exact (form_of w)
 
 -- reading the word of a statement, of any version
 abbrev pub any_word_at : Reader Word
-any_word_at = one (look_up (rows_of word_text all_words))
+any_word_at = one (look_up word_rows)
 
 -- reading the word of a statement that the version has
 abbrev pub word_at : Version → Reader Word

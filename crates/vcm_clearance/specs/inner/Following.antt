@@ -1,10 +1,9 @@
 -- What is known while the ways of a run are tried.
 use Rattle.std.specs.Prelude.{◌≡◌, ℕ, ◌+◌, ◌<◌, Bool, true, false, List, [], ◌∷◌, ◌++◌, length, map, take, flat_map, slice_get, Option, Some, None}
-use Rattle.std.specs.Io.KnownBytes.{Appends}
-use Rattle.vcm_num.specs.Written.{AppendsFront}
 use Rattle.vcm_spec.specs.declared.workpiece.Block3.{Block3}
 use Rattle.vcm_spec.specs.Workpiece.{Workpiece, grown}
 use Rattle.vcm_carried.specs.declared.contact.Contact.{Contact}
+use Rattle.vcm_naming.specs.Pages.{Page, Adds, AddsFront}
 use Rattle.vcm_boxes.specs.declared.boxes.ProbeBox.{ProbeBox}
 use Rattle.vcm_steps.specs.Passages.{Passage}
 use Rattle.vcm_way.specs.declared.gone.Gone.{Gone as Went}
@@ -41,11 +40,11 @@ is_empty (x ∷ xs) = false
 
 -- the first n boxes were tried on one more way, and their lines were written
 pub record AreTried (blocks : List Block3) (boxes : List ProbeBox) (is_first : Bool) (ws : List PlacedWay) (p : PlacedWay) (n : ℕ) (rooms : List Room)
-    (old new : Option (List ℕ)) : Type 0 where
+    (old new : Page) : Type 0 where
   pub count : length rooms ≡ length boxes
   pub before : (i : ℕ) (b : ProbeBox) (r : Room) → n < i + 1 → slice_get boxes i ≡ Some b → slice_get rooms i ≡ Some r → IsRoom blocks b.block ws r
   pub behind : (i : ℕ) (b : ProbeBox) (r : Room) → i < n → slice_get boxes i ≡ Some b → slice_get rooms i ≡ Some r → IsRoom blocks b.block (ws ++ p ∷ []) r
-  pub written : Appends old new (flat_map (λ b. contact_line b.name (told_on blocks is_first b.block p)) (take n boxes))
+  pub written : Adds old new (flat_map (λ b. contact_line b.name (told_on blocks is_first b.block p)) (take n boxes))
 
 -- these ways were tried, and so many were counted
 pub record IsDone (blocks : List Block3) (boxes : List ProbeBox) (ws : List PlacedWay) (rooms : List Room) (count : ℕ) : Type 0 where
@@ -53,30 +52,30 @@ pub record IsDone (blocks : List Block3) (boxes : List ProbeBox) (ws : List Plac
   pub counted_is : count ≡ counted (length ws)
 
 -- behind any ways that were tried, these ways of one step were tried too, and their lines were written
-abbrev pub AreAdded : List Block3 → List ProbeBox → Moment → List Gone → List Room → ℕ → Option (List ℕ) → List Room → ℕ → Option (List ℕ) → Type 0
+abbrev pub AreAdded : List Block3 → List ProbeBox → Moment → List Gone → List Room → ℕ → Page → List Room → ℕ → Page → Type 0
 AreAdded blocks boxes place gs rooms count old after sum new =
     (ws : List PlacedWay) → IsDone blocks boxes ws rooms count → IsDone blocks boxes (ws ++ placed_at place gs) after sum
-    × Appends old new (run_lines blocks boxes (is_empty ws) (placed_at place gs))
+    × Adds old new (run_lines blocks boxes (is_empty ws) (placed_at place gs))
 
 -- or one of these lines could not be written
-abbrev pub AreCut : List Block3 → List ProbeBox → Moment → List Gone → List Room → ℕ → Option (List ℕ) → Option (List ℕ) → Type 0
+abbrev pub AreCut : List Block3 → List ProbeBox → Moment → List Gone → List Room → ℕ → Page → Page → Type 0
 AreCut blocks boxes place gs rooms count old new =
-    (ws : List PlacedWay) → IsDone blocks boxes ws rooms count → AppendsFront old new (run_lines blocks boxes (is_empty ws) (placed_at place gs))
+    (ws : List PlacedWay) → IsDone blocks boxes ws rooms count → AddsFront old new (run_lines blocks boxes (is_empty ws) (placed_at place gs))
 
 -- the ways of a run's steps
 abbrev pub ways_along : Workpiece → List Passage → List PlacedWay
 ways_along part ps = flat_map (placed_ways part) ps
 
 -- beside a run that begins with nothing known, the ways of these steps were tried
-abbrev pub HasTried : Workpiece → List ProbeBox → List Room → ℕ → Option (List ℕ) → List Room → ℕ → Option (List ℕ) → List Passage → Type 0
+abbrev pub HasTried : Workpiece → List ProbeBox → List Room → ℕ → Page → List Room → ℕ → Page → List Passage → Type 0
 HasTried part boxes rooms count old after sum new ps =
     IsDone part.blocks boxes [] rooms count
-    → IsDone part.blocks boxes (ways_along part ps) after sum × Appends old new (run_lines part.blocks boxes true (ways_along part ps))
+    → IsDone part.blocks boxes (ways_along part ps) after sum × Adds old new (run_lines part.blocks boxes true (ways_along part ps))
 
 -- and a write failed in the step behind them
-abbrev pub HasBroken : Workpiece → List ProbeBox → List Room → ℕ → Option (List ℕ) → Option (List ℕ) → List Passage → Passage → Unfinished → Type 0
+abbrev pub HasBroken : Workpiece → List ProbeBox → List Room → ℕ → Page → Page → List Passage → Passage → Unfinished → Type 0
 HasBroken part boxes rooms count old new ps p (faults.Write n) =
-    (n ≡ p.count) × (IsDone part.blocks boxes [] rooms count → AppendsFront old new (run_lines part.blocks boxes true (ways_along part (ps ++ p ∷ []))))
+    (n ≡ p.count) × (IsDone part.blocks boxes [] rooms count → AddsFront old new (run_lines part.blocks boxes true (ways_along part (ps ++ p ∷ []))))
 HasBroken part boxes rooms count old new ps p f = ⊥
 
 -- the rooms of boxes before the first way

@@ -5,10 +5,10 @@ use lib.Signed.{◌<ℤ◌}
 use Rattle.vcm_num.specs.Point.{coordinate}
 use Rattle.vcm_spec.specs.declared.workpiece.Block3.{Block3}
 use Rattle.vcm_covering.specs.Covering.{IsCovered}
-use Rattle.vcm_cover.specs.declared.range.Range.{Range}
-use Rattle.vcm_cover.specs.declared.range.Stretch.{Stretch}
+use Rattle.vcm_boxing.specs.declared.range.Range.{Range}
+use Rattle.vcm_boxing.specs.declared.range.Stretch.{Stretch}
 use Rattle.vcm_cover.specs.declared.region.Region.{Region}
-use Rattle.vcm_cover.specs.inner.Ranges.{IsIn, IsOn, numbers}
+use Rattle.vcm_boxing.specs.Ranges.{IsIn, IsOn, numbers}
 use Rattle.vcm_cover.specs.Hollows.{LeadsOut}
 
 -- the place, counted in s-ths of a micrometre, lies in an open box

@@ -17,6 +17,11 @@ IsNoSession part code known after NoMemory old new = Keeps old new
 IsNoSession part code known after (Refused (Serve e)) old new = IfSome known (λ lines. IsSession part code lines after old new (Err e))
 IsNoSession part code known after _ old new = ⊥
 
+-- the fault of a session on an image that was built: such an image is refused for want of memory alone
+abbrev pub built_fault : Fault SessionFault → Fault SessionFault
+built_fault (Refused (Serve e)) = Refused (Serve e)
+built_fault _ = NoMemory
+
 -- the image is refused, or memory was, and nothing was written; or the session ended with a fault. `known` are the lines, and `after` what
 -- of them wasn't read
 abbrev pub IsNotServed : Workpiece → List ℕ → Option (List ℕ) → Option (List ℕ) → Fault SessionFault → Option (List ℕ) → Option (List ℕ) → Type 0

@@ -9,10 +9,10 @@ use Rattle.vcm_code.specs.Code.{CodeStatement}
 use Rattle.vcm_code.specs.Shape.{Place, Said, over_operands}
 use Rattle.vcm_code.specs.Shape as at
 use Rattle.vcm_spec.specs.Words.{quarters_number, word_number}
-use Rattle.vcm_code.specs.Words.{word_of}
+use Rattle.vcm_code.specs.Words.{word_of, word_text}
 use Rattle.vcm_words.specs.Branches.{branch_text}
 use Rattle.vcm_words.specs.Items.{item_text}
-use Rattle.vcm_words.specs.Operands.{axis_text, direction_text, setting_text, source_text, turn_text, word_text}
+use Rattle.vcm_words.specs.Operands.{axis_text, direction_text, setting_text, source_text, turn_text}
 use Rattle.vcm_words.specs.Rows.{ListRow, text_of, numbered, kind_text}
 
 -- items behind the first one, with a blank in front of each

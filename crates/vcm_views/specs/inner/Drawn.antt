@@ -9,7 +9,9 @@ use Rattle.vcm_job.specs.declared.fault.Fault.{Fault}
 use Rattle.vcm_job.specs.declared.fault.InputRefusal.{InputRefusal}
 use Rattle.vcm_job.specs.declared.fault.Fault.TheVariants as faults
 use Rattle.vcm_way.specs.Ways.{Kept}
-use Rattle.vcm_views.specs.Views.{picture_of}
+use Rattle.vcm_sheet.specs.Filed.{SaidIn}
+use Rattle.vcm_views.specs.declared.sheets.Titles.{Titles}
+use Rattle.vcm_views.specs.Views.{picture_of, sheet_said}
 
 -- the picture of a run was written and nothing else, with this exit status
 pub record IsDrawn (part : Workpiece) (held : Held) (done : ℕ) (way : Kept) (is_close : Bool) (status : ℕ) (old new : Option (List ℕ)) : Type 0 where
@@ -22,14 +24,13 @@ IsNotDrawn part held done way is_close faults.NoMemory old new = Keeps old new
 IsNotDrawn part held done way is_close (faults.Write d) old new = AppendsFront old new (picture_of part held done way is_close)
 IsNotDrawn part held done way is_close _ old new = ⊥
 
--- some sheet was written and nothing else, with this exit status
-pub record IsFiled (held : Held) (status : ℕ) (old new : Option (List ℕ)) : Type 0 where
+-- a sheet of a run was written and nothing else, with this exit status
+pub record IsFiled (t : Titles) (part : Workpiece) (held : Held) (done : ℕ) (way : Kept) (status : ℕ) (old new : Option (List ℕ)) : Type 0 where
   pub status_is : status ≡ status_of held.state.stop
-  pub text : List ℕ
-  pub written : Appends old new text
+  pub sheet : SaidIn (sheet_said t part held done way) (Appends old new)
 
--- why it wasn't: memory was refused, and nothing was written; or a write failed, and a front of some sheet was, and not all of it
-abbrev pub IsNotFiled : Fault InputRefusal → Option (List ℕ) → Option (List ℕ) → Type 0
-IsNotFiled faults.NoMemory old new = Keeps old new
-IsNotFiled (faults.Write d) old new = (text : List ℕ) × AppendsFront old new text
-IsNotFiled _ old new = ⊥
+-- why it wasn't: memory was refused, and nothing was written; or a write failed, and a front of such a sheet was, and not all of it
+abbrev pub IsNotFiled : Titles → Workpiece → Held → ℕ → Kept → Fault InputRefusal → Option (List ℕ) → Option (List ℕ) → Type 0
+IsNotFiled t part held done way faults.NoMemory old new = Keeps old new
+IsNotFiled t part held done way (faults.Write d) old new = SaidIn (sheet_said t part held done way) (AppendsFront old new)
+IsNotFiled t part held done way _ old new = ⊥

@@ -1,7 +1,13 @@
 use Rattle.std.proofs.Common.{refl}
-use Rattle.vcm_num.proofs.KnownWrites.{wrote_then}
+use Rattle.vcm_naming.proofs.Pages.{adds_nothing, added_then, adds_front_first}
+use Rattle.vcm_clearance.specs.Printed.{boxes_lines}
 use Rattle.vcm_clearance.proofs.printing.+write_boxes.Goals as goal
 
 pub returns-in-Ok : goal.returns-in-Ok
 returns-in-Ok g depth c =
-    rw (c.in-Some.ensures.cases.0, c.in-Some-split_first.ensures.cases.0) (wrote_then _ _ _ _ _ _ _ refl (rw c.as_bytes.ensures.is at c.in-Ok.ensures) c.write_boxes.ensures)
+    rw (c.in-Some.ensures.cases.0, c.in-Some-split_first.ensures.cases.0) (added_then _ _ _ _ _ _ _ refl (rw c.as_bytes.ensures.is at c.in-Ok.ensures) c.write_boxes.ensures)
+
+pub returns-in-Err : goal.returns-in-Err
+returns-in-Err g depth c =
+    rw (c.in-Some.ensures.cases.0, c.in-Some-split_first.ensures.cases.0) (adds_front_first _ _ _ (boxes_lines c.in-Some.boxes.now c.in-Some-split_first.rooms.now) _ refl
+    (rw c.as_bytes.ensures.is at c.in-Err.ensures))

@@ -1,5 +1,6 @@
 use Rattle.std.proofs.Common.{refl, rules}
 use Rattle.std.specs.Prelude.{IfOk, IfErr}
+use Rattle.vcm_naming.specs.Pages.{page}
 use Rattle.vcm_way.proofs.Near.{behind_near}
 use Rattle.vcm_clearance.specs.inner.Following.{AreAdded, AreCut}
 use Rattle.vcm_clearance.proofs.Tried.{if_ok, if_err, first_of, more_ways, cut_first, cut_later}
@@ -20,30 +21,30 @@ returns-in-Ok-clause-ok g depth c =
     let part = c.args.blocks.now in
     let v = c.in-Some-first_way.way in
     let r = c.try_ways-in-Ok.result in
-    let old = g.W.Write.contents c.args.writer.now in
+    let old = page (g.W.Write.contents c.args.writer.now) c.args.names.now in
     first_of part c.args.marks.now c.in-Some.behind.now _ c.in-Some.ensures.cases.0 v c.in-Some-first_way.ensures
     (λ gs. IfOk r (λ n. AreAdded part.blocks c.args.boxes.now c.args.place gs c.args.rooms.now.items c.args.count old c.try_ways-in-Ok.new.rooms.items n
-    (g.W.Write.contents c.try_ways-in-Ok.new.writer)))
+    (page (g.W.Write.contents c.try_ways-in-Ok.new.writer) c.try_ways-in-Ok.new.names)))
     (λ w same. if_ok r _ _ (λ n rest. more_ways part.blocks c.args.boxes.now c.args.place v w same _ c.args.count _ refl c.args.rooms.now.items c.try_way.new.rooms.items
-    c.one_more.result old _ _ c.one_more.ensures c.in-Ok.ensures.ok c.try_ways-in-Ok.new.rooms.items n rest) c.try_ways-in-Ok.ensures.ok)
+    c.one_more-count.result old _ _ c.one_more-count.ensures c.in-Ok.ensures.ok c.try_ways-in-Ok.new.rooms.items n rest) c.try_ways-in-Ok.ensures.ok)
 
 pub returns-in-Ok-clause-err : goal.returns-in-Ok-clause-err
 returns-in-Ok-clause-err g depth c =
     let part = c.args.blocks.now in
     let v = c.in-Some-first_way.way in
     let r = c.try_ways-in-Ok.result in
-    let old = g.W.Write.contents c.args.writer.now in
+    let old = page (g.W.Write.contents c.args.writer.now) c.args.names.now in
     first_of part c.args.marks.now c.in-Some.behind.now _ c.in-Some.ensures.cases.0 v c.in-Some-first_way.ensures
-    (λ gs. IfErr r (λ f. AreCut part.blocks c.args.boxes.now c.args.place gs c.args.rooms.now.items c.args.count old (g.W.Write.contents c.try_ways-in-Ok.new.writer)))
+    (λ gs. IfErr r (λ f. AreCut part.blocks c.args.boxes.now c.args.place gs c.args.rooms.now.items c.args.count old (page (g.W.Write.contents c.try_ways-in-Ok.new.writer) c.try_ways-in-Ok.new.names)))
     (λ w same. if_err r _ _ (λ f rest. cut_later part.blocks c.args.boxes.now c.args.place v w same _ c.args.count _ refl c.args.rooms.now.items c.try_way.new.rooms.items
-    c.one_more.result old _ _ c.one_more.ensures c.in-Ok.ensures.ok rest) c.try_ways-in-Ok.ensures.err)
+    c.one_more-count.result old _ _ c.one_more-count.ensures c.in-Ok.ensures.ok rest) c.try_ways-in-Ok.ensures.err)
 
 pub returns-in-Err-clause-err : goal.returns-in-Err-clause-err
 returns-in-Err-clause-err g depth c =
     let part = c.args.blocks.now in
     let v = c.in-Some-first_way.way in
-    let old = g.W.Write.contents c.args.writer.now in
-    let new = g.W.Write.contents c.try_way.new.writer in
+    let old = page (g.W.Write.contents c.args.writer.now) c.args.names.now in
+    let new = page (g.W.Write.contents c.try_way.new.writer) c.try_way.new.names in
     first_of part c.args.marks.now c.in-Some.behind.now _ c.in-Some.ensures.cases.0 v c.in-Some-first_way.ensures
     (λ gs. AreCut part.blocks c.args.boxes.now c.args.place gs c.args.rooms.now.items c.args.count old new)
     (λ w same. cut_first part.blocks c.args.boxes.now c.args.place v w same _ c.args.count _ refl c.args.rooms.now.items old new c.in-Err.ensures.err)

@@ -1,6 +1,5 @@
-use Rattle.vcm_cover.specs.inner.Ranges.{facet_corners}
-use Rattle.vcm_cover.proofs.Inside.{joined}
-use Rattle.vcm_cover.proofs.Settled.{nowhere_held}
+use Rattle.vcm_boxing.specs.Ranges.{facet_corners}
+use Rattle.vcm_cover.proofs.Settled.{joined, nowhere_held}
 use Rattle.vcm_cover.proofs.held.+is_held.Goals as goal
 
 pub returns-else-not-is_held-2 : goal.returns-else-not-is_held-2

@@ -2,7 +2,7 @@ use Rattle.std.proofs.Common.{subst}
 use Rattle.std.specs.List.{All}
 use Rattle.std.proofs.lemmas.List.{take_all}
 use Rattle.std.proofs.lemmas.List.Elements.{All-more}
-use Rattle.vcm_cover.specs.inner.Facets.{IsHeldWhole}
+use Rattle.vcm_cover.specs.inner.Held.{IsHeldWhole}
 use Rattle.vcm_cover.proofs.Wholes.{covers}
 use Rattle.vcm_cover.proofs.held.all_held.Goals as goal
 

@@ -1,6 +1,6 @@
 use Rattle.std.proofs.Common.{take}
 use Rattle.std.specs.List.{All}
-use Rattle.vcm_cover.specs.inner.Facets.{IsHeldWhole}
+use Rattle.vcm_cover.specs.inner.Held.{IsHeldWhole}
 use Rattle.vcm_cover.proofs.held.all_held.Given as goal
 
 abbrev pub invariant-loop-triangle : goal.invariant-loop-triangle

@@ -2,9 +2,9 @@ use Rattle.std.proofs.Common.{ℕ, pos, get_or, rules}
 use Rattle.std.proofs.lemmas.Int.{to_z-of_z}
 use mir.Syntax.{w32}
 use mir.Val.{SFits}
-use Rattle.vcm_cover.specs.inner.Ranges.{numbers}
+use Rattle.vcm_boxing.specs.Ranges.{numbers}
 use Rattle.vcm_cover.specs.inner.Regions.{AreFrom, AreUpTo}
-use Rattle.vcm_cover.proofs.Inside.{each_axis}
+use Rattle.vcm_boxing.proofs.Inside.{each_axis}
 use Rattle.vcm_cover.proofs.space.are_within.Goals as goal
 
 pub returns : goal.returns

@@ -3,8 +3,8 @@ use Rattle.std.proofs.lemmas.Int.{to_z-of_z}
 use mir.Syntax.{w32}
 use mir.Val.{SFits}
 use lib.Signed.{◌<ℤ◌}
-use Rattle.vcm_cover.specs.inner.Ranges.{numbers}
-use Rattle.vcm_cover.proofs.Inside.{each_axis}
+use Rattle.vcm_boxing.specs.Ranges.{numbers}
+use Rattle.vcm_boxing.proofs.Inside.{each_axis}
 use Rattle.vcm_cover.proofs.space.is_around.Goals as goal
 
 pub returns : goal.returns

@@ -1,6 +1,6 @@
 use Rattle.std.proofs.Common.{Ok, sym, ap, ◌∙◌}
 use Rattle.vcm_code.specs.Shape.{all_words}
-use Rattle.vcm_fields.specs.Spelling.{word_byte}
+use Rattle.vcm_code.specs.Words.{word_byte}
 use Rattle.vcm_fields.specs.Readers.{any_word_at}
 use Rattle.vcm_fields.proofs.Taking.{never_fails, gives_it, byte_there, one_is, one_there}
 use Rattle.vcm_fields.proofs.tags.known_word.Goals as goal

@@ -7,10 +7,10 @@ use Rattle.vcm_job.proofs.inputs.run.Goals as goal
 
 pub returns-clause-done : goal.returns-clause-done
 returns-clause-done g c =
-    given_of (λ input d. IsWritten _ input _ d.status d.notices.items _ _) _ _ c.run_input.result c.in_ok-input.ensures.all (rw c.deref.ensures.value at c.run_input.ensures.done)
+    given_of (λ input d. IsWritten _ input _ d.status d.notices.items _ _) _ _ c.run_input.result c.in_ok-input.ensures.all c.run_input.ensures.done
 
 pub returns-clause-fault : goal.returns-clause-fault
-returns-clause-fault g c = not_written_of _ _ _ _ _ c.run_input.result _ _ c.in_ok-input.ensures.all (rw c.deref.ensures.value at c.run_input.ensures.fault)
+returns-clause-fault g c = not_written_of _ _ _ _ _ c.run_input.result _ _ c.in_ok-input.ensures.all c.run_input.ensures.fault
 
 pub returns-clause-long : goal.returns-clause-long
 returns-clause-long g c = read_whole _ _ c.run_input.result c.in_ok-input.ensures.all c.in_ok-input.ensures.short

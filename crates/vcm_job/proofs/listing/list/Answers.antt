@@ -6,8 +6,8 @@ use Rattle.vcm_job.proofs.listing.list.Goals as goal
 
 pub returns-clause-fault : goal.returns-clause-fault
 returns-clause-fault g c =
-    let listed = rw c.deref.ensures.value at c.in_ok-text.ensures.listed in
-    let front = rw c.deref-2.ensures.value at c.in-Err.ensures in
+    let listed = c.in_ok-text.ensures.listed in
+    let front = rw c.deref.ensures.value at c.in-Err.ensures in
     list_cut_off _ _ c.in_ok-input.ensures.all _ _ listed _ _ front
 
 pub returns-in_err-input-clause-fault : goal.returns-in_err-input-clause-fault
@@ -19,5 +19,5 @@ returns-in_err-input-clause-long g c = let p = err_from_is_err_and c.from_residu
 pub returns-in_err-text-clause-fault : goal.returns-in_err-text-clause-fault
 returns-in_err-text-clause-fault g c =
     let p = err_from_is_err_and c.from_residual-in_err-text.result c.from_residual-in_err-text.ensures.1 in
-    let refused = rw c.deref.ensures.value at c.in_err-text.ensures.refused in
+    let refused = c.in_err-text.ensures.refused in
     rw (p.1, p.2) (not_listed _ _ _ _ _ c.in_ok-input.ensures.all refused)

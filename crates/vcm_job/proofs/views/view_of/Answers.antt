@@ -1,6 +1,6 @@
 use Rattle.std.proofs.Common.{◌∙◌, ap, Err}
 use Rattle.std.proofs.lemmas.Result.{err_from_is_err_and}
-use Rattle.vcm_job.proofs.UnreadLemmas.{none_written, given_of, read_whole, unread}
+use Rattle.vcm_job.proofs.UnreadLemmas.{none_written, given_of, unread}
 use Rattle.vcm_job.specs.Views.{IsShown}
 use Rattle.vcm_job.proofs.ViewLemmas.{no_view_of}
 use Rattle.vcm_job.proofs.views.view_of.Goals as goal

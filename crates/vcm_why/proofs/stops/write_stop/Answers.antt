@@ -7,9 +7,9 @@ use Rattle.vcm_why.proofs.stops.write_stop.Goals as goal
 pub returns-in_err-write_where : goal.returns-in_err-write_where
 returns-in_err-write_where g c =
     let p = err_from_is_err_and c.from_residual-in_err-write_where.result c.from_residual-in_err-write_where.ensures.1 in
-    rw p.1 (front_then _ _ _ _ _ _ refl (rw c.tables.ensures at c.in_ok-write_stop_line.ensures) (front_first _ _ _ _ _ refl c.in_err-write_where.ensures))
+    rw p.1 (front_then _ _ _ _ _ _ refl (rw c.tables.ensures at c.in_ok-write_named_stop.ensures) (front_first _ _ _ _ _ refl c.in_err-write_where.ensures))
 
 pub returns : goal.returns
 returns g c =
     let cause = c.cause_of.ensures ∙ ap (cause_of c.args.part.now) c.as_slice.ensures in
-    wrote_then _ _ _ _ _ _ _ refl (rw c.tables.ensures at c.in_ok-write_stop_line.ensures) (wrote_then _ _ _ _ _ _ _ refl c.in_ok-write_where.ensures (rw cause at c.write_cause.ensures))
+    wrote_then _ _ _ _ _ _ _ refl (rw c.tables.ensures at c.in_ok-write_named_stop.ensures) (wrote_then _ _ _ _ _ _ _ refl c.in_ok-write_where.ensures (rw cause at c.write_cause.ensures))

@@ -39,7 +39,8 @@ returns-in-Ok-clause-ok g c = λ w from ps looked has.
     ∙ marks_are part b s w after looked c.args.count c.args.number c.args._next in (
       has.0,
       has.1,
-      step_tried part c.args.self.now.boxes.now from.rooms.now.items from.count _ _ c.args.to.now.rooms.now.items c.args.to.now.count ps has.2
+      has.2,
+      step_tried part c.args.self.now.boxes.now from.rooms.now.items from.count _ _ c.args.to.now.rooms.now.items c.args.to.now.count ps has.3
           (passage c.args.count c.args.number s w after c.args._next) c.try_ways.new.rooms.items c.in-Ok.sum _ (rw (c.as_slice.ensures.boxes, marks) at c.in-Ok.ensures.ok),
     )
 
@@ -54,6 +55,7 @@ returns-in-Err-clause-err g c = λ w from ps looked has.
     ∙ marks_are part b s w after looked c.args.count c.args.number c.args._next in (
       has.0,
       has.1,
-      step_broken part c.args.self.now.boxes.now from.rooms.now.items from.count _ _ c.args.to.now.rooms.now.items c.args.to.now.count ps has.2
+      has.2,
+      step_broken part c.args.self.now.boxes.now from.rooms.now.items from.count _ _ c.args.to.now.rooms.now.items c.args.to.now.count ps has.3
           (passage c.args.count c.args.number s w after c.args._next) _ (rw (c.as_slice.ensures.boxes, marks) at c.in-Err.ensures.err) c.args.count refl,
     )

@@ -4,15 +4,15 @@ use Rattle.vcm_views.proofs.sheets.SheetViewShows.show.Goals as goal
 
 pub returns-then-is_halted-clause-fault : goal.returns-then-is_halted-clause-fault
 returns-then-is_halted-clause-fault g c =
-    sheet_halted None [] _ _ c.in-Ok.ensures.meaning c.args.loaded.now c.args.steps _ _ _ c.in-Ok-follow.ensures
+    sheet_halted None [] _ _ c.in-Ok.ensures.meaning c.args.loaded.now c.args.steps _ _ _ c.in-Ok-follow.ensures c.args.self.now.titles
     (c.is_halted.ensures.halted c.if-is_halted.true) _
 
 pub returns-clause-shown : goal.returns-clause-shown
 returns-clause-shown g c =
-    sheet_viewed _ _ _ _ c.in-Ok.ensures.meaning c.args.loaded.now c.args.steps _ _ _ c.in-Ok-follow.ensures
+    sheet_viewed _ _ _ _ c.in-Ok.ensures.meaning c.args.loaded.now c.args.steps _ _ _ c.in-Ok-follow.ensures c.args.self.now.titles
     (c.is_halted.ensures.ample c.if-is_halted.false) c.file.result _ _ c.file.ensures.filed
 
 pub returns-clause-fault : goal.returns-clause-fault
 returns-clause-fault g c =
-    sheet_cut_short _ _ _ _ c.in-Ok.ensures.meaning c.args.loaded.now c.args.steps _ _ _ c.in-Ok-follow.ensures
+    sheet_cut_short _ _ _ _ c.in-Ok.ensures.meaning c.args.loaded.now c.args.steps _ _ _ c.in-Ok-follow.ensures c.args.self.now.titles
     (c.is_halted.ensures.ample c.if-is_halted.false) c.file.result _ _ c.file.ensures.fault

@@ -1,5 +1,0 @@
-//! The tests of part files with the blocks of a model.
-#![tactic(auto)]
-
-#[cfg(test)]
-mod adding_tests;

@@ -1,0 +1,4 @@
+pub mod Sums
+pub mod Missing
+pub mod Inside
+pub mod Spans

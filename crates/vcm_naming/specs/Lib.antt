@@ -1,0 +1,4 @@
+pub mod Naming
+pub mod Pages
+pub mod Samples
+pub mod Laws

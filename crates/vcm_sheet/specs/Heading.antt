@@ -1,0 +1,38 @@
+-- What the heading of a sheet says, a line after another.
+use Rattle.std.specs.Prelude.{ℕ, pos, nat_eq, if◌then◌else◌, List, [], ◌∷◌, Option, Some, None, decimal, codes}
+use Rattle.vcm_num.specs.declared.point.Point.{Point}
+use Rattle.vcm_num.specs.Texts.{thousandths}
+use Rattle.vcm_marks.specs.declared.mark.Contact.{Contact}
+use Rattle.vcm_svg.specs.Pieces.{point_text}
+use Rattle.vcm_sheet.specs.declared.lines.Lines.{Lines}
+use Rattle.vcm_sheet.specs.Sayings.{Saying, say}
+use Rattle.vcm_sheet.specs.Written.{gap_before, name_of, written}
+
+-- the files of the program and of the part, and the tip
+abbrev pub files_line : List ℕ → List ℕ → ℕ → List Saying
+files_line program part tip =
+    say (codes "program " ∷ written program ∷ codes "  part " ∷ written part ∷ codes "  tip " ∷ thousandths (pos tip) ∷ []) ∷ []
+
+-- the position and the steps
+abbrev pub position_line : Point → ℕ → List Saying
+position_line position done = say (codes "position " ∷ point_text position ∷ codes "  steps " ∷ decimal done ∷ []) ∷ []
+
+-- the source lines, if not all are shown
+abbrev pub lines_line : Lines → List Saying
+lines_line l =
+    if nat_eq l.first 0 then [] else say (codes "the way of lines " ∷ decimal l.first ∷ codes " to " ∷ decimal l.last ∷ []) ∷ []
+
+-- where the contact is, and with which block
+abbrev pub contact_words : Contact → List ℕ → Saying
+contact_words c name =
+    say (codes "contact of the tip's centre at " ∷ point_text c.at ∷ codes " with block " ∷ decimal c.block ∷ gap_before name ∷ name ∷ [])
+
+-- the contact, if there is one
+abbrev pub contact_line : List (List ℕ) → Option Contact → List Saying
+contact_line names None = []
+contact_line names (Some c) = contact_words c (written (name_of names c.block)) ∷ []
+
+-- the pieces that are left out, if there are any
+abbrev pub left_out_line : ℕ → List Saying
+left_out_line n =
+    if nat_eq n 0 then [] else say (codes "the first " ∷ decimal n ∷ codes " pieces of the way are left out" ∷ []) ∷ []

@@ -1,0 +1,74 @@
+-- Worked examples.
+use Rattle.std.specs.Prelude.{◌≡◌, refl, ℕ, ℤ, pos, negsuc, [], ◌∷◌, codes}
+use Rattle.std.specs.Fmt.{digits}
+use Rattle.vcm_num.specs.Point.{point}
+use Rattle.vcm_marks.specs.declared.mark.Mark.TheVariants.{Touches}
+use Rattle.vcm_marks.specs.declared.mark.PlacedMark.{PlacedMark}
+use Rattle.vcm_svg.specs.Rect.{spot}
+use Rattle.vcm_sheet.specs.Points.{points_on}
+use Rattle.vcm_sheet.specs.Sayings.{say, Says, text_with}
+use Rattle.vcm_sheet.specs.Tables.{point_row, blocks_table}
+use Rattle.vcm_sheet.specs.Ticks.{ticks_of, tick_words}
+
+-- ---- points and lines
+
+-- a point that was touched in this step, by a statement on this line, at a place so far to the right
+abbrev touch : ℕ → ℕ → ℤ → PlacedMark
+touch step line x = record { mark = Touches (record { at = point x (pos 20000) (pos 500); feature = 1 }); step = step; number = step; line = line }
+
+-- of two touched points on the lines 7 and 11, one comes from the lines 10 to 12: the second
+pub second_point : points_on (record { first = 10; last = 12 }) (touch 4 7 (pos 20000) ∷ touch 8 11 (pos 80000) ∷ [])
+    ≡ record { number = pos 2; step = record { step = 8; number = 8; line = 11 }; touched = record { at = point (pos 80000) (pos 20000) (pos 500); feature = 1 } } ∷ []
+second_point = refl
+
+-- the row of such a point, whose feature is the second of these
+pub second_row :
+    point_row (codes "P" ∷ codes "Q" ∷ [])
+    (record { number = pos 2; step = record { step = 8; number = 8; line = 11 }; touched = record { at = point (pos 80000) (pos 20000) (pos 500); feature = 1 } })
+    ≡ say (codes "2" ∷ []) ∷ say (codes "11" ∷ []) ∷ say (codes "Q" ∷ []) ∷ say (codes "80.000 20.000 0.500" ∷ []) ∷ []
+unfolding digits
+second_row = refl
+
+-- ---- names of blocks
+
+-- the second of three blocks has a name, which ends in a line feed
+pub named_block :
+    blocks_table ([] ∷ codes "plate <A>\n" ∷ [] ∷ [])
+    ≡ say (codes "block" ∷ []) ∷ say (codes "name" ∷ []) ∷ say (codes "2" ∷ []) ∷ say (codes "plate &lt;A>?" ∷ []) ∷ []
+unfolding digits
+named_block = refl
+
+-- ---- ticks
+
+-- from 3 cm before 0 to 5 cm after it, 2 cm apart
+pub four_ticks :
+    ticks_of (record { low = negsuc 29999; high = pos 50000; step = pos 20000 }) ≡ negsuc 19999 ∷ pos 0 ∷ pos 20000 ∷ pos 40000 ∷ []
+unfolding ticks_of
+four_ticks = refl
+
+-- 2 cm, and half a tenth of a millimetre before 0
+pub whole_words : tick_words (pos 20000) ≡ codes "20"
+unfolding digits
+whole_words = refl
+
+pub fine_words : tick_words (negsuc 49) ≡ codes "-0.050"
+unfolding digits
+fine_words = refl
+
+-- ---- what a text says
+
+-- a group of a path and one text says this text
+pub one_text : Says (say (codes "end" ∷ []) ∷ []) (codes "<g>\n<path d=\"M0 0\"/>\n<text transform=\"matrix(5 0 0 5 20 -30)\" class=\"p\">end</text>\n</g>\n")
+unfolding digits text_with
+one_text = record {
+  gap = codes "<g>\n<path d=\"M0 0\"/>\n";
+  first = codes "<text transform=\"matrix(5 0 0 5 20 -30)\" class=\"p\">end</text>\n";
+  rest = codes "</g>\n";
+  mute = record { opens_none = λ rest. refl };
+  says_first = record {
+    at = spot (pos 20) (negsuc 29);
+    is_text = record { size = pos 5; attributes = codes " class=\"p\""; in_tag = refl; bytes_are = refl };
+  };
+  says_rest = record { opens_none = λ rest. refl };
+  bytes_are = refl;
+}

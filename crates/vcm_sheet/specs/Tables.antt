@@ -1,0 +1,81 @@
+-- What the tables of a sheet say, row by row.
+use Rattle.std.specs.Prelude.{ℕ, zero, suc, ◌-◌, nat_eq, Bool, if◌then◌else◌, List, [], ◌∷◌, ◌++◌, length, take, flat_map, decimal, codes}
+use Rattle.std.specs.Fmt.{signed_decimal}
+use Rattle.vcm_report.specs.Printed.{name_at}
+use Rattle.vcm_svg.specs.Pieces.{point_text}
+use Rattle.vcm_sheet.specs.declared.legend.Used.{Used}
+use Rattle.vcm_sheet.specs.declared.points.Pointed.{Pointed}
+use Rattle.vcm_sheet.specs.Sayings.{Saying, say}
+use Rattle.vcm_sheet.specs.Written.{name_of, written}
+
+-- a row of the legend, if its mark is drawn
+abbrev pub sign_row : Bool → List ℕ → List Saying
+sign_row is_drawn words = if is_drawn then say (words ∷ []) ∷ [] else []
+
+-- the rows of pieces of the way
+abbrev pub way_signs : Used → List Saying
+way_signs u =
+    sign_row u.moves (codes "move") ++ (sign_row u.approach (codes "approach") ++ (sign_row u.search (codes "search") ++ (sign_row u.retract (codes "retract")
+    ++ sign_row u.rest (codes "not reached"))))
+
+-- the rows of the other marks
+abbrev pub mark_signs : Used → List Saying
+mark_signs u =
+    sign_row u.touched (codes "point touched, with its number") ++ (sign_row u.end (codes "end") ++ (sign_row u.home (codes "home")
+    ++ (sign_row u.contact (codes "contact") ++ (sign_row u.limits (codes "limits") ++ sign_row u.hidden (codes "hidden block")))))
+
+-- the legend: the rows whose marks are drawn, and whether a line through the origin is
+abbrev pub legend : Used → Bool → List Saying
+legend u has_origin = way_signs u ++ (mark_signs u ++ sign_row has_origin (codes "X, Y or Z is 0"))
+
+-- the first 40 rows of a table
+abbrev pub first_rows : {A : Type 0} → List A → List A
+first_rows rows = take 40 rows
+
+-- how many more there are, if there are any
+abbrev pub more_rows : ℕ → List ℕ → List Saying
+more_rows count words = if nat_eq (count - 40) 0 then [] else say (codes "and " ∷ decimal (count - 40) ∷ words ∷ []) ∷ []
+
+-- the row of a point: its number, its source line, its feature and its place
+abbrev pub point_row : List (List ℕ) → Pointed → List Saying
+point_row features p =
+    say (signed_decimal p.number ∷ []) ∷ say (decimal p.step.line ∷ []) ∷ say (name_at features p.touched.feature ∷ [])
+    ∷ say (point_text p.touched.at ∷ []) ∷ []
+
+-- the head of the table of points
+abbrev pub points_head : List Saying
+points_head =
+    say (codes "point" ∷ []) ∷ say (codes "line" ∷ []) ∷ say (codes "feature" ∷ []) ∷ say (codes "touched at, mm" ∷ []) ∷ []
+
+-- the table of points, if there are any
+abbrev pub points_table : List (List ℕ) → List Pointed → List Saying
+points_table features points =
+    if nat_eq (length points) 0 then [] else
+    points_head ++ (flat_map (point_row features) (first_rows points) ++ more_rows (length points) (codes " more points"))
+
+-- the number of a block, if it has this name
+abbrev pub number_if : ℕ → List ℕ → List ℕ
+number_if number name = if nat_eq (length name) 0 then [] else number ∷ []
+
+-- of the first so many blocks the numbers of those that have names
+abbrev pub named_before : List (List ℕ) → ℕ → List ℕ
+named_before names zero = []
+named_before names (suc n) = named_before names n ++ number_if (suc n) (name_of names (suc n))
+
+-- the row of a block: its number and its name
+abbrev pub block_row : List (List ℕ) → ℕ → List Saying
+block_row names block = say (decimal block ∷ []) ∷ say (written (name_of names block) ∷ []) ∷ []
+
+-- the head of the table of blocks
+abbrev pub blocks_head : List Saying
+blocks_head = say (codes "block" ∷ []) ∷ say (codes "name" ∷ []) ∷ []
+
+-- the table of these blocks, if there are any
+abbrev pub table_of : List (List ℕ) → List ℕ → List Saying
+table_of names blocks =
+    if nat_eq (length blocks) 0 then [] else
+    blocks_head ++ (flat_map (block_row names) (first_rows blocks) ++ more_rows (length blocks) (codes " more blocks"))
+
+-- the table of the blocks that have names
+abbrev pub blocks_table : List (List ℕ) → List Saying
+blocks_table names = table_of names (named_before names (length names))

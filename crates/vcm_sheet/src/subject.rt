@@ -1,0 +1,22 @@
+//! What a sheet shows.
+
+use crate::lines::Lines;
+use vcm_marks::PlacedMark;
+use vcm_part::PartData;
+use vcm_state::World;
+
+/// What a sheet shows: a workpiece, with the names of its blocks; the state at the end of a run of so many steps; the marks of its way, before which so
+/// many pieces are left out; and of these what comes from some source lines. It names the files of the program and of the part.
+#[derive(Clone, Copy)]
+pub struct Sheet<'a> {
+    pub part: &'a PartData,
+    pub world: &'a World,
+    pub done: u64,
+    pub marks: &'a [PlacedMark],
+    pub left_out: u64,
+    pub is_close: bool,
+    pub lines: Lines,
+    pub program_name: &'a [u8],
+    pub part_name: &'a [u8],
+    pub block_names: &'a [Vec<u8>],
+}
