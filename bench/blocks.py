@@ -50,7 +50,7 @@ def save(path, triangles):
 def once(words, room):
     """The part file without its comments, seconds and megabytes of one run."""
     with open(f"{room}/part", "wb") as out, open(f"{room}/told", "wb") as told:
-        subprocess.run(["/usr/bin/time", "-f", "%U %S %M", "-o", f"{room}/spent", *words], stdout=out, stderr=told)
+        subprocess.run(["/usr/bin/time", "-f", "%U %S %M", "-o", f"{room}/spent", *words], stdout=out, stderr=told, check=True)
     user, system, peak = open(f"{room}/spent", encoding="ascii").read().split()[-3:]
     with open(f"{room}/part", "rb") as file:
         text = b"".join(line for line in file if not line.startswith(b"#"))
@@ -86,9 +86,9 @@ def main():
             made.append((f"{room}/{name}.stl", within))
         print("| Model | Triangles | Within | Blocks | Seconds | of the plain program's | MB | of the plain program's |\n| --- | --- | --- | --- | --- | --- | --- | --- |")
         for path, within in made + args.model:
-            with open(path, "rb") as file:
-                count = struct.unpack("<I", file.read(84)[80:])[0]
             best, blocks = measured(args, path, within, room)
+            told = subprocess.run([args.vcm, "blocks", path, "--within", within], stdout=subprocess.DEVNULL, stderr=subprocess.PIPE, text=True, check=True).stderr
+            count = told.split()[1]
             (mine, peak), (other, less) = best["vcm"], best["plain"]
             print(f"| `{os.path.basename(path)}` | {count} | {within} | {blocks} | {mine:.2f} | {mine / other:.2f} | {peak:.0f} | {peak / less:.2f} |", flush=True)
 

@@ -1,6 +1,7 @@
 // Arithmetic on whole numbers of 128 bits, which LLVM calls by these names where the target has no instructions for it. Each works on halves of 64 bits.
 typedef unsigned long half;
 typedef __int128 wide;
+typedef unsigned __int128 natural;
 typedef union {
   wide all;
   struct { half low, high; };
@@ -43,4 +44,18 @@ wide __lshrti3(wide value, int by) {
     shifted.high = v.high >> by;
   }
   return shifted.all;
+}
+
+// The quotient of numbers without a sign, bit by bit from the highest on. The divisor is never 0: that is proved of each division.
+natural __udivti3(natural dividend, natural divisor) {
+  natural quotient = 0, rest = 0;
+  for (int bit = 127; bit >= 0; bit--) {
+    half is_beyond = (half)(rest >> 127);
+    rest = (rest << 1) | ((dividend >> bit) & 1);
+    if (is_beyond || rest >= divisor) {
+      rest -= divisor;
+      quotient |= (natural)1 << bit;
+    }
+  }
+  return quotient;
 }

@@ -18,7 +18,7 @@ use std::alloc::Global;
 use std::fmt::Write as _;
 use std::process::ExitCode;
 use std::rt::{Env, Files};
-use vcm_usage::{Choice, usages};
+use vcm_usage::{Choice, VERSION, usages};
 
 // The completions.
 const SHELLS: [&str; 3] = ["vcm.bash", "_vcm", "vcm.fish"];
@@ -85,7 +85,9 @@ fn put_manual<R: Files + AllocGlobal>(rt: &R, told: &mut String) -> Option<()> {
     let synopsis = text_of(rt.alloc(), MANUAL)?;
     put_missing(told, &manual)?;
     let has_synopsis = manual.contains(synopsis.as_str());
-    writeln!(told, "{MANUAL} has the synopsis: {has_synopsis}").ok()
+    writeln!(told, "{MANUAL} has the synopsis: {has_synopsis}").ok()?;
+    let has_version = manual.contains(VERSION);
+    writeln!(told, "{MANUAL} has the version: {has_version}").ok()
 }
 
 // Adds whether the completions of a shell are as they are written.

@@ -3,7 +3,9 @@
 use crate::printing::DASH;
 use clap::{Arg, ArgAction, ArgMatches, Command, Error};
 use std::alloc::Global;
-use vcm_usage::{Behind, Choice, Files, Rest, Spelled, Usage, Verb, Word, usage_of, usages};
+use vcm_usage::{
+    Behind, Choice, Files, Rest, Spelled, Usage, VERSION, Verb, Word, usage_of, usages,
+};
 
 /// What a command line asks for: a command with its words and options, as they are written. Nothing of them is judged yet.
 #[derive(Clone, Copy)]
@@ -223,7 +225,7 @@ fn subcommand_of<'a>(alloc: Global, usage: Usage) -> Result<Command<'a>, Error> 
 // The program with its commands, one of which has to stand there where there are words.
 fn command_of<'a>(alloc: Global, has_words: bool) -> Result<Command<'a>, Error> {
     let mut vcm = Command::new(alloc, "vcm")
-        .version("0.1.0")
+        .version(VERSION)
         .about(
             "A virtual coordinate measuring machine. Without words it reads a job from standard input",
         )

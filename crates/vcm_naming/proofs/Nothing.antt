@@ -1,6 +1,6 @@
 -- Without names nothing is added.
-use Rattle.std.proofs.Common.{◌≡◌, ℕ, zero, suc, List, [], ◌∷◌, ◌++◌, slice_set, Option, Some, None, refl, ap, ◌∙◌}
-use Rattle.vcm_naming.specs.Naming.{Line, name_below, left_below, named_text}
+use Rattle.std.proofs.Common.{◌≡◌, ℕ, [], ◌∷◌, ◌++◌, Option, Some, None, refl, ap, ◌∙◌}
+use Rattle.vcm_naming.specs.Naming.{name_below, left_below, named_text}
 use Rattle.vcm_naming.specs.Laws.{NothingIsAdded}
 
 no_name : (o : Option ℕ) → name_below [] o ≡ []

@@ -38,6 +38,14 @@ pub named_block :
 unfolding digits
 named_block = refl
 
+-- blocks one after another with one name have one row
+pub named_blocks :
+    blocks_table ([] ∷ codes "bore" ∷ codes "bore" ∷ codes "rib" ∷ codes "bore" ∷ [])
+    ≡ say (codes "block" ∷ []) ∷ say (codes "name" ∷ []) ∷ say (codes "2-3" ∷ []) ∷ say (codes "bore" ∷ []) ∷ say (codes "4" ∷ []) ∷ say (codes "rib" ∷ [])
+    ∷ say (codes "5" ∷ []) ∷ say (codes "bore" ∷ []) ∷ []
+unfolding digits
+named_blocks = refl
+
 -- ---- ticks
 
 -- from 3 cm before 0 to 5 cm after it, 2 cm apart

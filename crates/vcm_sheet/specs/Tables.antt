@@ -1,5 +1,7 @@
 -- What the tables of a sheet say, row by row.
-use Rattle.std.specs.Prelude.{ℕ, zero, suc, ◌-◌, nat_eq, Bool, if◌then◌else◌, List, [], ◌∷◌, ◌++◌, length, take, flat_map, decimal, codes}
+use Rattle.std.specs.Prelude.{ℕ, zero, suc, ◌+◌, ◌-◌, nat_eq, nat_lt, Bool, ◌&&◌, ◌||◌, if◌then◌else◌, List, [], ◌∷◌, ◌++◌, length, take, drop, flat_map, decimal, codes}
+use Rattle.std.specs.List.{take_while}
+use Rattle.std.specs.Str.{bytes_eq}
 use Rattle.std.specs.Fmt.{signed_decimal}
 use Rattle.vcm_report.specs.Printed.{name_at}
 use Rattle.vcm_svg.specs.Pieces.{point_text}
@@ -53,29 +55,41 @@ points_table features points =
     if nat_eq (length points) 0 then [] else
     points_head ++ (flat_map (point_row features) (first_rows points) ++ more_rows (length points) (codes " more points"))
 
--- the number of a block, if it has this name
-abbrev pub number_if : ℕ → List ℕ → List ℕ
-number_if number name = if nat_eq (length name) 0 then [] else number ∷ []
+-- a block has the name of the block before it
+abbrev pub goes_on : List (List ℕ) → ℕ → Bool
+goes_on names block = nat_lt 1 block && bytes_eq (name_of names (block - 1)) (name_of names block)
 
--- of the first so many blocks the numbers of those that have names
+-- the number of a block, if a name begins with it: it has one, and the block before it has another one or none
+abbrev pub number_if : List (List ℕ) → ℕ → List ℕ
+number_if names block = if nat_eq (length (name_of names block)) 0 || goes_on names block then [] else block ∷ []
+
+-- of the first so many blocks the numbers of those with which a name begins
 abbrev pub named_before : List (List ℕ) → ℕ → List ℕ
 named_before names zero = []
-named_before names (suc n) = named_before names n ++ number_if (suc n) (name_of names (suc n))
+named_before names (suc n) = named_before names n ++ number_if names (suc n)
 
--- the row of a block: its number and its name
+-- the last one of the blocks from this one on that have its name, one after another
+abbrev pub last_named : List (List ℕ) → ℕ → ℕ
+last_named names block = block + length (take_while (bytes_eq (name_of names block)) (drop block names))
+
+-- the number of a block, or those of the first and the last of several
+abbrev pub numbers : ℕ → ℕ → List (List ℕ)
+numbers first last = if nat_eq first last then decimal first ∷ [] else decimal first ∷ codes "-" ∷ decimal last ∷ []
+
+-- the row of a name that begins with this block: the numbers of its blocks and the name
 abbrev pub block_row : List (List ℕ) → ℕ → List Saying
-block_row names block = say (decimal block ∷ []) ∷ say (written (name_of names block) ∷ []) ∷ []
+block_row names block = say (numbers block (last_named names block)) ∷ say (written (name_of names block) ∷ []) ∷ []
 
 -- the head of the table of blocks
 abbrev pub blocks_head : List Saying
 blocks_head = say (codes "block" ∷ []) ∷ say (codes "name" ∷ []) ∷ []
 
--- the table of these blocks, if there are any
+-- the table of the names that begin with these blocks, if there are any
 abbrev pub table_of : List (List ℕ) → List ℕ → List Saying
 table_of names blocks =
     if nat_eq (length blocks) 0 then [] else
-    blocks_head ++ (flat_map (block_row names) (first_rows blocks) ++ more_rows (length blocks) (codes " more blocks"))
+    blocks_head ++ (flat_map (block_row names) (first_rows blocks) ++ more_rows (length blocks) (codes " more names"))
 
--- the table of the blocks that have names
+-- the table of the names of blocks
 abbrev pub blocks_table : List (List ℕ) → List Saying
 blocks_table names = table_of names (named_before names (length names))

@@ -1,9 +1,11 @@
-//! The tables of a sheet: the legend, the touched points and the blocks with names.
+//! The tables of a sheet: the legend, the touched points and the names of blocks.
 
-ghost use Rattle.std.specs.Prelude.{◌≡◌, [], ◌∷◌, ◌++◌, codes, map, flat_map, length, OnOk, IfOk};
+ghost use Rattle.std.specs.Prelude.{◌≡◌, ◌≤◌, [], ◌∷◌, ◌++◌, codes, map, flat_map, length, OnOk, IfOk};
+ghost use Rattle.std.specs.List.{take_while};
+ghost use Rattle.std.specs.Str.{bytes_eq};
 ghost use Rattle.vcm_svg.specs.Pieces.{piece_text};
 ghost use Rattle.vcm_sheet.specs.Sayings.{Adds, say};
-ghost use Rattle.vcm_sheet.specs.Tables.{sign_row, way_signs, mark_signs, legend, first_rows, more_rows, point_row, points_head, points_table, number_if, named_before, block_row, blocks_head, table_of, blocks_table};
+ghost use Rattle.vcm_sheet.specs.Tables.{sign_row, way_signs, mark_signs, legend, first_rows, more_rows, point_row, points_head, points_table, goes_on, number_if, named_before, last_named, numbers, block_row, blocks_head, table_of, blocks_table};
 ghost use Rattle.vcm_sheet.specs.Written.{name_of};
 
 use crate::legend::Used;
@@ -12,7 +14,7 @@ use crate::places::{corner, moved, units};
 use crate::points::Pointed;
 use std::alloc::Global;
 use vcm_items::Name;
-use vcm_num::NoMemory;
+use vcm_num::{NoMemory, is};
 use vcm_picture::name_at;
 use vcm_svg::{Class, Fragment, Lettering, Placement, Sign, Spot, Unit, put, put_row, put_text};
 
@@ -285,18 +287,29 @@ pub(crate) fn put_points(
     put_more(out, at, unit, points.len(), b" more points")
 }
 
-// Appends the number of a block, if it has a name.
-fn push_named(blocks: &mut Vec<usize>, names: &[Vec<u8>], block: usize) -> Result<(), NoMemory>
-    ensures { OnOk result (blocks.new.items ≡ blocks.old.items ++ number_if block (name_of (map (λ n. n.items) names.now) block)) }
+// Whether a block has the name of the block before it.
+fn goes_on(names: &[Vec<u8>], block: usize) -> bool
+    ensures { result ≡ goes_on (map (λ n. n.items) names.now) block }
 {
-    if name_of(names, block).is_empty() {
+    block > 1
+        && is(
+            name_of(names, block.saturating_sub(1)),
+            name_of(names, block),
+        )
+}
+
+// Appends the number of a block, if a name begins with it.
+fn push_named(blocks: &mut Vec<usize>, names: &[Vec<u8>], block: usize) -> Result<(), NoMemory>
+    ensures { OnOk result (blocks.new.items ≡ blocks.old.items ++ number_if (map (λ n. n.items) names.now) block) }
+{
+    if name_of(names, block).is_empty() || goes_on(names, block) {
         return Ok(());
     }
     blocks.push(block)?;
     Ok(())
 }
 
-// The numbers of the blocks that have names.
+// The numbers of the blocks with which a name begins.
 fn named_blocks(alloc: Global, names: &[Vec<u8>]) -> Result<Vec<usize>, NoMemory>
     ensures { IfOk result (λ v. v.items ≡ named_before (map (λ n. n.items) names.now) (length names.now)) }
 {
@@ -307,7 +320,52 @@ fn named_blocks(alloc: Global, names: &[Vec<u8>]) -> Result<Vec<usize>, NoMemory
     Ok(blocks)
 }
 
-// Appends the row of a block with this name, and gives the place below it.
+// How many names at the front are this one.
+fn same_names(names: &[Vec<u8>], name: &[u8]) -> usize
+    ensures same { result ≡ length (take_while (λ n. bytes_eq name.now n.items) names.now) }
+    ensures within { result ≤ length names.now }
+{
+    names
+        .iter()
+        .take_while(|next| is(name, next.as_slice()))
+        .count()
+}
+
+// The last one of the blocks from this one on that have its name, one after another.
+fn last_named(names: &[Vec<u8>], block: usize) -> usize
+    ensures { result ≡ last_named (map (λ n. n.items) names.now) block }
+{
+    if block >= names.len() {
+        return block;
+    }
+    block + same_names(&names[block..], name_of(names, block))
+}
+
+// Appends the number of a block, or those of the first and the last of several.
+fn put_range(
+    out: &mut Vec<u8>,
+    at: Spot,
+    unit: Unit,
+    first: usize,
+    last: usize,
+) -> Result<(), NoMemory>
+    ensures { OnOk result (Adds (say (numbers first last) ∷ []) out.old.items out.new.items) }
+{
+    if first == last {
+        return put_cell(out, at, unit, 0, Fragment::Count(first as u64));
+    }
+    put_text(
+        out,
+        cell(at, unit, 0),
+        &[
+            Fragment::Count(first as u64),
+            Fragment::Text(b"-"),
+            Fragment::Count(last as u64),
+        ],
+    )
+}
+
+// Appends the row of a name that begins with this block, and gives the place below it.
 fn put_block(
     alloc: Global,
     out: &mut Vec<u8>,
@@ -319,8 +377,8 @@ fn put_block(
     ensures { IfOk result (λ next. Adds (block_row (map (λ n. n.items) names.now) block) out.old.items out.new.items) }
 {
     let name = written(alloc, name_of(names, block))?;
-    put_cell(out, at, unit, 0, Fragment::Count(block as u64))?;
-    put_cell(out, at, unit, 36, Fragment::Text(name.as_slice()))?;
+    put_range(out, at, unit, block, last_named(names, block))?;
+    put_cell(out, at, unit, 78, Fragment::Text(name.as_slice()))?;
     Ok(below(at, unit))
 }
 
@@ -330,11 +388,11 @@ fn put_blocks_head(out: &mut Vec<u8>, at: Spot, unit: Unit) -> Result<Spot, NoMe
 {
     let at = moved(at, 0, units(8, unit));
     put_cell(out, at, unit, 0, Fragment::Text(b"block"))?;
-    put_cell(out, at, unit, 36, Fragment::Text(b"name"))?;
+    put_cell(out, at, unit, 78, Fragment::Text(b"name"))?;
     Ok(below(at, unit))
 }
 
-// Appends the rows of blocks, and gives the place below them.
+// Appends the rows of the names that begin with these blocks, and gives the place below them.
 fn put_block_rows(
     alloc: Global,
     out: &mut Vec<u8>,
@@ -352,7 +410,7 @@ fn put_block_rows(
     Ok(at)
 }
 
-// Appends the table of these blocks, if there are any, and gives the place below it.
+// Appends the table of the names that begin with these blocks, if there are any, and gives the place below it.
 fn put_table(
     alloc: Global,
     out: &mut Vec<u8>,
@@ -368,10 +426,10 @@ fn put_table(
     }
     let at = put_blocks_head(out, at, unit)?;
     let at = put_block_rows(alloc, out, at, unit, names, first_rows(blocks))?;
-    put_more(out, at, unit, blocks.len(), b" more blocks")
+    put_more(out, at, unit, blocks.len(), b" more names")
 }
 
-/// Appends the table of the blocks that have names, if there are any, and gives the place below it.
+/// Appends the table of the names of blocks, if there are any, and gives the place below it.
 pub(crate) fn put_blocks(
     alloc: Global,
     out: &mut Vec<u8>,

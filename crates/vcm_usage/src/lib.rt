@@ -5,6 +5,9 @@ mod options;
 
 pub use options::{Behind, Choice, Spelled};
 
+/// The version that `vcm --version` prints. What a version promises stands in `docs/VERSIONS.md`.
+pub const VERSION: &str = "0.5.0";
+
 /// The files that a word of the command line may name, by the ends of their names.
 #[derive(Clone, Copy, PartialEq, Eq)]
 pub enum Files {

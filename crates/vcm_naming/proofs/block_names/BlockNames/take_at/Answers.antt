@@ -1,4 +1,4 @@
-use Rattle.std.proofs.Common.{◌-◌, ap, ◌∙◌, [], slice_set, Vec, ℕ, Global}
+use Rattle.std.proofs.Common.{ap, ◌∙◌, [], slice_set, Vec, ℕ, Global}
 use Rattle.vcm_naming.proofs.Texts.{map_set}
 use Rattle.vcm_naming.proofs.block_names.BlockNames.take_at.Goals as goal
 

@@ -1,4 +1,4 @@
-use Rattle.std.proofs.Common.{◌≡◌, ◌-◌, Some, None, slice_get, map, refl, sym, ap, ◌∙◌, [], Vec, ℕ, Global}
+use Rattle.std.proofs.Common.{◌≡◌, ◌-◌, Some, None, map, refl, sym, ap, ◌∙◌, [], Vec, ℕ, Global}
 use Rattle.std.proofs.lemmas.Option.{slice_get_read, slice_get_past}
 use Rattle.vcm_num.proofs.KnownWrites.{appends_nothing}
 use Rattle.vcm_report.specs.Printed.{name_at}
