@@ -42,6 +42,9 @@ pub fn some_holds(blocks: &[Block3], near: &[u32], range: &Range) -> bool
     false
 }
 
+// So many blocks are asked before all are: those that the triangle before met stand in front.
+const FIRST: usize = 16;
+
 /// Whether blocks hold all points of a triangle that lie in a range; the answer no may be wrong. It looks at the blocks with the numbers in `near`,
 /// whose order may change, and divides the range at most `fuel` times, one part within another.
 pub fn is_held(facet: &Facet, blocks: &[Block3], near: &mut [u32], range: &Range, fuel: u32) -> bool
@@ -51,6 +54,9 @@ pub fn is_held(facet: &Facet, blocks: &[Block3], near: &mut [u32], range: &Range
         return false;
     }
     if is_nowhere(range) {
+        return true;
+    }
+    if some_holds(blocks, &near[..near.len().min(FIRST)], range) {
         return true;
     }
     let count = gather(blocks, near, range);
