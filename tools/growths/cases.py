@@ -155,6 +155,10 @@ def runs():
     yield case("margin plate.dmi plate.toml")
     yield case("points turned.dmi low.toml", status=1)
     yield case("points turned.dmi part-a.toml --machine", kind="lines")
+    yield case("run square.dmi part-a.toml --whole")
+    yield case("trace rounds.dmi part-a.toml --whole", kind="lines")
+    yield case("points touch.dmi part-a.toml --whole", kind="lines", status=7)
+    yield case("why bracket.dmi bracket.toml --whole", status=7)
     yield case("trace turned.dmi torn.toml", status=1)
 
 

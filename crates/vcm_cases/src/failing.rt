@@ -38,10 +38,21 @@ fn how_at(device: Device, number: u32, count: u32) -> How {
     }
 }
 
-// Whether a command tells through a pipe what it always told: then it tells that its output is closed, and the others don't.
+// Whether a command line has this word.
+fn has_word(line: &str, wanted: &str) -> bool {
+    for word in line.split(' ') {
+        if word == wanted {
+            return true;
+        }
+    }
+    false
+}
+
+// Whether a command tells through a pipe what it always told: then it tells that its output is closed, and the others don't. A producer's text as it stands is
+// none of what was always told.
 fn is_bound(line: &str) -> bool {
     let word = word_at(line, 1).unwrap_or("");
-    BOUND.contains(&word)
+    BOUND.contains(&word) && !has_word(line, "--whole")
 }
 
 // How a device's calls are named.

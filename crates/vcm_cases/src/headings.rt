@@ -76,6 +76,10 @@ const HEADINGS: &[(&[u8], Heading)] = &[
     (b"margin", Heading::Plain),
     (b"points", Heading::Plain),
     (b"points-machine", Heading::Plain),
+    (b"whole", Heading::Plain),
+    (b"whole-trace", Heading::Plain),
+    (b"whole-points", Heading::Plain),
+    (b"whole-why", Heading::Plain),
     (b"why", Heading::Plain),
     (b"contacts", Heading::Plain),
     (b"clearance", Heading::Plain),
@@ -174,6 +178,34 @@ const FRONTS: &[(&[u8], Front)] = &[
         b"points-machine",
         Front {
             words: "vcm points t.dmi t.toml --machine",
+            rest: Rest::Steps,
+        },
+    ),
+    (
+        b"whole",
+        Front {
+            words: "vcm run t.dmi t.toml --whole",
+            rest: Rest::Steps,
+        },
+    ),
+    (
+        b"whole-trace",
+        Front {
+            words: "vcm trace t.dmi t.toml --whole",
+            rest: Rest::Steps,
+        },
+    ),
+    (
+        b"whole-points",
+        Front {
+            words: "vcm points t.dmi t.toml --whole",
+            rest: Rest::Steps,
+        },
+    ),
+    (
+        b"whole-why",
+        Front {
+            words: "vcm why t.dmi t.toml --whole",
             rest: Rest::Steps,
         },
     ),

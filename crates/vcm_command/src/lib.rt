@@ -10,6 +10,7 @@ mod explaining;
 mod producing;
 mod program;
 mod telling;
+mod whole;
 
 pub use program::{status, words_to_explain};
 pub use vcm_devices::{Request, Terminals, lines_of, matches_of};

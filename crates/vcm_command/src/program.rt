@@ -5,6 +5,7 @@ use crate::checks::check_programs;
 use crate::dap::serve_editor;
 use crate::explaining::explain;
 use crate::producing::{adapt_file, survey_file};
+use crate::whole::show_whole;
 use clap::Error;
 use clap::error::ErrorKind;
 use std::io;
@@ -15,7 +16,7 @@ use vcm_devices::{
     show_points, show_result, show_view, voice_of,
 };
 use vcm_messages::Message;
-use vcm_usage::Verb;
+use vcm_usage::{Choice, Verb};
 
 // Answers a request for help or the version on standard output, tells a wrong command line on standard error, and gives the exit status.
 fn tell_usage<R: Print + Eprint>(rt: &R, error: &Error) -> u8 {
@@ -79,6 +80,9 @@ fn carry_out<R: Files + Input + Print + Eprint + AllocGlobal>(
     request: &Request<'_, '_>,
     words: &[String],
 ) -> u8 {
+    if request.has(Choice::Whole) {
+        return show_whole(rt, voice, request);
+    }
     match request.verb() {
         Verb::Check => check_programs(rt, voice, request),
         Verb::Survey => survey_file(rt, voice, request),

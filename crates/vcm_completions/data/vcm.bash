@@ -20,12 +20,12 @@ _vcm_takes() {
     survey) options="--tip --part --frame --exact --lines" valued="--tip:. --part:toml --frame:." files=("dmi dmis") ;;
     adapt) options="--tip --part --frame --exact --touch" valued="--tip:. --part:toml --frame:." files=("dmi dmis") ;;
     build) options="--talk --quiet" valued="" files=("dmi dmis" "") ;;
-    run) options="--talk --quiet --steps --show" valued="--steps:. --show:." files=("dmi dmis vcmi" "toml") ;;
-    why) options="--quiet --steps" valued="--steps:." files=("dmi dmis vcmi" "toml") ;;
+    run) options="--talk --quiet --steps --show --whole" valued="--steps:. --show:." files=("dmi dmis vcmi" "toml") ;;
+    why) options="--quiet --steps --whole" valued="--steps:." files=("dmi dmis vcmi" "toml") ;;
     contacts) options="--quiet --steps" valued="--steps:." files=("dmi dmis vcmi" "toml") ;;
-    trace) options="--quiet --steps" valued="--steps:." files=("dmi dmis vcmi" "toml") ;;
+    trace) options="--quiet --steps --whole" valued="--steps:." files=("dmi dmis vcmi" "toml") ;;
     margin) options="--quiet --steps" valued="--steps:." files=("dmi dmis vcmi" "toml") ;;
-    points) options="--quiet --steps --machine" valued="--steps:." files=("dmi dmis vcmi" "toml") ;;
+    points) options="--quiet --steps --machine --whole" valued="--steps:." files=("dmi dmis vcmi" "toml") ;;
     clearance) options="--quiet --steps" valued="--steps:." files=("dmi dmis vcmi" "toml" "toml") ;;
     picture) options="--quiet --steps --close --sheet --lines" valued="--steps:. --lines:." files=("dmi dmis vcmi" "toml") ;;
     view) options="--quiet --steps --probe" valued="--steps:. --probe:toml" files=("dmi dmis vcmi" "toml") ;;

@@ -24,11 +24,14 @@ pub use jobs::run_job;
 pub use pages::show_page;
 pub use parts::{PartFile, part_file_of, part_of, show_part};
 pub use printing::{
-    DASH, Outlet, Output, STANDARD_INPUT, bytes_of, fails, output, print_bytes, written,
+    DASH, Outlet, Output, STANDARD_INPUT, bytes_of, fails, output, print_bytes, status_after,
+    written,
 };
 pub use request::{Request, matches_of, steps_of};
 pub use sheets::{lines_of, show_picture};
-pub use showing::{NamedView, show_clearance, show_named, show_points, show_view};
-pub use talking::{Terminals, Told, Voice, alone, fails_twice, voice_of};
+pub use showing::{
+    NamedSetting, NamedView, named_setting_of, show_clearance, show_named, show_points, show_view,
+};
+pub use talking::{Terminals, Told, Voice, alone, fails_in_view, fails_twice, voice_of};
 pub use values::show_result;
-pub use view::View;
+pub use view::{View, write_given};

@@ -143,7 +143,7 @@ fn read_bytes<'a, I: Read>(
 }
 
 /// The exit status of a run that was done, whose lines without effect are told.
-pub(crate) fn status_after<R: Eprint + AllocGlobal>(
+pub fn status_after<R: Eprint + AllocGlobal>(
     rt: &R,
     voice: Voice,
     done: Result<Done, Message<'_>>,

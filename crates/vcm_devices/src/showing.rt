@@ -106,7 +106,7 @@ pub(crate) fn status_shown<R: Eprint + AllocGlobal>(
 
 /// The number of steps and the workpiece of a run, and the names of its blocks.
 #[derive(Drop)]
-pub(crate) struct NamedSetting {
+pub struct NamedSetting {
     pub steps: u64,
     pub part: PartData,
     pub block_names: Vec<Vec<u8>>,
@@ -128,7 +128,7 @@ pub(crate) fn setting_of<'a, R: Files + Input + Eprint + AllocGlobal>(
 }
 
 /// The same, with the names of the workpiece's blocks.
-pub(crate) fn named_setting_of<'a, R: Files + Input + Eprint + AllocGlobal>(
+pub fn named_setting_of<'a, R: Files + Input + Eprint + AllocGlobal>(
     rt: &R,
     voice: Voice,
     request: &Request<'a, '_>,

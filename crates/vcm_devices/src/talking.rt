@@ -75,12 +75,7 @@ pub fn fails_twice<R: Eprint>(rt: &R, told: &Told<'_>) -> u8 {
 }
 
 /// Tells a fault of a view of a run, with the input's name if the fault is a refusal, and gives its exit status; nothing where standard output is closed.
-pub(crate) fn fails_in_view<R: Eprint>(
-    rt: &R,
-    voice: Voice,
-    message: Message<'_>,
-    name: &str,
-) -> u8 {
+pub fn fails_in_view<R: Eprint>(rt: &R, voice: Voice, message: Message<'_>, name: &str) -> u8 {
     let status = fails_unless_closed(rt, message);
     if voice.tells_more && status == 1 {
         let _ = eprintln!(rt; "in {name}");

@@ -2,13 +2,16 @@
 
 use std::alloc::Global;
 use std::io::{Read, Write};
-use vcm_job::{Done, RunFault, view_of};
+use vcm_job::{Done, Given, RunFault, given_of, read_all, show_given};
 use vcm_part::PartData;
-use vcm_views::{AllContacts, Clearance, Picture, Points, SheetView, TipMargin, Trace, Why};
+use vcm_views::{
+    AllContacts, Clearance, Picture, Points, SheetView, TipMargin, Trace, Values, Why,
+};
 
 /// A view of a run that a command prints.
 #[derive(Clone, Copy)]
 pub enum View<'a> {
+    Result,
     Why(Why<'a>),
     Contacts(AllContacts<'a>),
     Trace,
@@ -17,6 +20,28 @@ pub enum View<'a> {
     Clearance(Clearance<'a>),
     Picture(Picture),
     Sheet(SheetView<'a>),
+}
+
+/// Writes a view of a run of what was given.
+pub fn write_given<W: Write>(
+    alloc: Global,
+    view: &View<'_>,
+    given: Given,
+    part: &PartData,
+    steps: u64,
+    writer: &mut W,
+) -> Result<Done, RunFault> {
+    match view {
+        View::Result => show_given(alloc, &Values { places: &[] }, given, part, steps, writer),
+        View::Why(view) => show_given(alloc, view, given, part, steps, writer),
+        View::Contacts(view) => show_given(alloc, view, given, part, steps, writer),
+        View::Trace => show_given(alloc, &Trace, given, part, steps, writer),
+        View::Margin => show_given(alloc, &TipMargin, given, part, steps, writer),
+        View::Points(view) => show_given(alloc, view, given, part, steps, writer),
+        View::Clearance(view) => show_given(alloc, view, given, part, steps, writer),
+        View::Picture(view) => show_given(alloc, view, given, part, steps, writer),
+        View::Sheet(view) => show_given(alloc, view, given, part, steps, writer),
+    }
 }
 
 /// Writes a view of a run of the program or image that a reader gives.
@@ -28,14 +53,9 @@ pub(crate) fn write_view<I: Read, W: Write>(
     steps: u64,
     writer: &mut W,
 ) -> Result<Done, RunFault> {
-    match view {
-        View::Why(view) => view_of(alloc, view, part, reader, steps, writer),
-        View::Contacts(view) => view_of(alloc, view, part, reader, steps, writer),
-        View::Trace => view_of(alloc, &Trace, part, reader, steps, writer),
-        View::Margin => view_of(alloc, &TipMargin, part, reader, steps, writer),
-        View::Points(view) => view_of(alloc, view, part, reader, steps, writer),
-        View::Clearance(view) => view_of(alloc, view, part, reader, steps, writer),
-        View::Picture(view) => view_of(alloc, view, part, reader, steps, writer),
-        View::Sheet(view) => view_of(alloc, view, part, reader, steps, writer),
+    let input = read_all(alloc, reader)?;
+    match given_of(alloc, input) {
+        Ok(given) => write_given(alloc, view, given, part, steps, writer),
+        Err(fault) => Err(fault),
     }
 }

@@ -63,7 +63,7 @@ the debugger `line 12` tells the first statement of a source line.",
     },
 ];
 
-const VIEWS: [Entry; 4] = [
+const VIEWS: [Entry; 6] = [
     Entry {
         keys: &["margin"],
         text: "margin
@@ -95,7 +95,22 @@ has changed after the step that changed it.",
 A line of `vcm survey`: what becomes of so many statements. Some fit as they are; some
 have no effect; some move nothing and are left out; some `vcm adapt` puts otherwise; and
 some aren't tried, so what the machine does there isn't known. `--lines` tells each one
-with its reason.",
+with its reason. After a run with `--whole`: so many motions of these lines weren't tried,
+for this cause, since the line that it came about at; `30(3)` is line 30 three times.",
+    },
+    Entry {
+        keys: &["begins elsewhere"],
+        text: "begins elsewhere
+After a run with `--whole`: these ways were tried, but from where the probe stands in vcm,
+since a motion before them wasn't tried or the sensor changed. The machine comes from
+elsewhere, and may meet a block on its way there.",
+    },
+    Entry {
+        keys: &["a value isn't known"],
+        text: "a value isn't known
+After a run with `--whole`: the motions hang on an answer, on a value of a feature in
+another frame, on a quotient, or on what another program or statement may have done. Of an
+IF, DO or SELECT the line is that which opens it: none of its blocks was tried.",
     },
 ];
 

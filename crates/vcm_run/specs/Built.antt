@@ -1,7 +1,8 @@
 -- The image of a program's text.
 use Rattle.std.specs.Prelude.{◌≡◌, ℕ, List}
 use Rattle.vcm_forms.specs.declared.statement.Statement.{Statement}
-use Rattle.vcm_tree.specs.Acceptance.{IsAcceptedFrom, IsAccepted}
+use Rattle.vcm_macro.specs.declared.placed.Placed.{Placed}
+use Rattle.vcm_tree.specs.Acceptance.{IsAcceptedPlaced, IsAcceptedFrom, IsAccepted}
 use Rattle.vcm_program.specs.Program.{Parsed}
 use Rattle.vcm_program.specs.declared.accepted.Noticed.{Noticed}
 use Rattle.vcm_code.specs.declared.code.Code.{Code}
@@ -21,6 +22,13 @@ pub record IsImageOf (parsed : Parsed) (bytes : List ℕ) : Type 0 where
 pub record IsBuiltFrom (ss : List Statement) (bytes : List ℕ) (notices : List Noticed) : Type 0 where
   pub parsed : Parsed
   pub accepted : IsAcceptedFrom ss parsed
+  pub image : IsImageOf parsed bytes
+  pub notices_are : notices ≡ parsed.notices
+
+-- the expanded statements are accepted as a program, whose image the bytes are, and these are its notices, those of the written statements
+pub record IsBuiltPlaced (ss : List Statement) (all : List Placed) (bytes : List ℕ) (notices : List Noticed) : Type 0 where
+  pub parsed : Parsed
+  pub accepted : IsAcceptedPlaced ss all parsed
   pub image : IsImageOf parsed bytes
   pub notices_are : notices ≡ parsed.notices
 

@@ -5,7 +5,8 @@ use Rattle.vcm_spec.specs.Workpiece.{Workpiece}
 use Rattle.vcm_spec.specs.Program.{sizes}
 use Rattle.vcm_state.specs.Carried.{setup_of}
 use Rattle.vcm_forms.specs.declared.statement.Statement.{Statement}
-use Rattle.vcm_tree.specs.Acceptance.{IsAcceptedFrom, IsRefusedFrom, IsAccepted, IsRefused}
+use Rattle.vcm_macro.specs.declared.placed.Placed.{Placed}
+use Rattle.vcm_tree.specs.Acceptance.{IsAcceptedPlaced, IsRefusedPlaced, IsAcceptedFrom, IsRefusedFrom, IsAccepted, IsRefused}
 use Rattle.vcm_program.specs.Program.{Parsed}
 use Rattle.vcm_run.specs.declared.run.Refusal.{Refusal}
 use Rattle.vcm_run.specs.declared.run.Refusal.TheVariants.{Source, Part, NoMemory}
@@ -36,3 +37,9 @@ abbrev pub IsRefusalFrom : List Statement → Refusal → Type 0
 IsRefusalFrom ss (Source f) = NoMemoryOr (IsRefusedFrom ss) f
 IsRefusalFrom ss (Part f) = ⊥
 IsRefusalFrom ss NoMemory = (p : Parsed) × IsAcceptedFrom ss p
+
+-- and of expanded statements
+abbrev pub IsRefusalPlaced : List Statement → List Placed → Refusal → Type 0
+IsRefusalPlaced ss all (Source f) = NoMemoryOr (IsRefusedPlaced ss all) f
+IsRefusalPlaced ss all (Part f) = ⊥
+IsRefusalPlaced ss all NoMemory = (p : Parsed) × IsAcceptedPlaced ss all p

@@ -9,6 +9,6 @@ mod run;
 
 pub use image::{run_image, run_noticed};
 pub use output::write_result;
-pub use program::{Built, build_image, build_statements, run_text};
+pub use program::{Built, build_image, build_placed, build_statements, run_text};
 pub use run::{Refusal, Summary};
 pub use vcm_machine::{End, Ran};

@@ -1,9 +1,12 @@
 //! Programs, from their text to their image and to a run of it.
 
-ghost use Rattle.std.specs.Prelude.{IfOk, IfErr};
-ghost use Rattle.vcm_tree.specs.Declaring.{DeclareVariables};
-ghost use Rattle.vcm_run.specs.Programs.{IsSummary, NextIsThere, IsRefusal, IsRefusalFrom};
-ghost use Rattle.vcm_run.specs.Built.{IsImageOf, IsBuilt, IsBuiltFrom};
+ghost use Rattle.std.specs.Prelude.{◌≡◌, ◌≤◌, length, List, IsTrue, IfOk, IfErr};
+ghost use Rattle.vcm_forms.specs.declared.statement.Statement.{Statement as Said};
+ghost use Rattle.vcm_tree.specs.Declaring.{DeclareVariables, PlacedDeclareVariables};
+ghost use Rattle.vcm_tree.specs.Ended.{is_ended};
+ghost use Rattle.vcm_tree.specs.Program.{notices_of};
+ghost use Rattle.vcm_run.specs.Programs.{IsSummary, NextIsThere, IsRefusal, IsRefusalFrom, IsRefusalPlaced};
+ghost use Rattle.vcm_run.specs.Built.{IsImageOf, IsBuilt, IsBuiltFrom, IsBuiltPlaced};
 
 use crate::image::run_noticed;
 use crate::run::{Refusal, Summary};
@@ -11,10 +14,11 @@ use std::alloc::Global;
 use vcm_asm::assemble;
 use vcm_forms::Statement;
 use vcm_image::write;
+use vcm_macro::Placed;
 use vcm_motion::Part;
 use vcm_num::NoMemory;
 use vcm_program::{Accepted, Noticed};
-use vcm_tree::{accept_statements, statements_of};
+use vcm_tree::{accept_placed, accept_statements, statements_of};
 
 /// The image of a program, and the lines of its text that have no effect.
 #[derive(Drop)]
@@ -41,6 +45,36 @@ pub fn build_statements(alloc: Global, read: Vec<Statement>) -> Result<Built, Re
     ensures refused { IfErr result (IsRefusalFrom read.items) }
 {
     let accepted = match accept_statements(alloc, read) {
+        Ok(accepted) => accepted,
+        Err(fault) => return Err(Refusal::Source(fault)),
+    };
+    match image_of(alloc, &accepted) {
+        Ok(image) => {
+            let notices = accepted.into_notices();
+            Ok(Built { image, notices })
+        }
+        Err(_) => Err(Refusal::NoMemory),
+    }
+}
+
+/// The image of the program that expanded statements are, wherever they come from: at most 20,000, the last of them ENDFIL. The notices are those of written
+/// ones.
+///
+/// Errors: `Source` where they are refused (their first fault, or want of memory at line 0); want of memory where memory is refused after acceptance. It
+/// never gives `Part`.
+pub fn build_placed(
+    alloc: Global,
+    notices: Vec<Noticed>,
+    all: Vec<Placed>,
+) -> Result<Built, Refusal>
+    requires lettered { PlacedDeclareVariables all.items }
+    requires ended { IsTrue (is_ended all.items) }
+    requires few { length all.items ≤ 20000 }
+    requires written { (ss : List Said) × (notices.items ≡ notices_of ss) }
+    ensures built { IfOk result (λ b. (ss : List Said) → notices.items ≡ notices_of ss → IsBuiltPlaced ss all.items b.image.items b.notices.items) }
+    ensures refused { IfErr result (λ r. (ss : List Said) → notices.items ≡ notices_of ss → IsRefusalPlaced ss all.items r) }
+{
+    let accepted = match accept_placed(alloc, notices, all) {
         Ok(accepted) => accepted,
         Err(fault) => return Err(Refusal::Source(fault)),
     };

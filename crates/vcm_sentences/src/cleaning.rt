@@ -1,84 +1,73 @@
 //! What lines give their statements.
 
-use vcm_num::NoMemory;
+ghost use Rattle.std.specs.Prelude.{◌≡◌, ◌<◌, ◌≤◌, ◌++◌, [], ◌∷◌, true, false, length, if◌then◌else◌, IfOk, OnOk};
+ghost use Rattle.vcm_lines.specs.Bytes.{is_blank, upper};
+ghost use Rattle.vcm_lines.specs.Segments.{text_of, continues, segments_from, segments_of};
+ghost use Rattle.vcm_sentences.specs.inner.Putting.{PutsSegment};
 
-// The part of a line that the next byte stands in.
-#[derive(Clone, Copy)]
-enum LinePart {
-    Plain,
-    Text,
-    // What stands behind a dollar.
-    BehindDollar,
-    Comment,
+use vcm_lines::upper;
+use vcm_num::{NoMemory, apostrophe};
+
+// Adds a byte that stands outside texts and comments and is no dollar, if it is no blank.
+fn put_plain(byte: u8, out: &mut Vec<u8>) -> Result<(), NoMemory>
+    ensures { OnOk result (out.new.items ≡ out.old.items ++ (if is_blank byte then [] else upper byte ∷ [])) }
+{
+    if byte == b' ' || byte == b'\t' {
+        return Ok(());
+    }
+    out.push(upper(byte))?;
+    Ok(())
 }
 
-/// Gathers the bytes of a statement: without blanks and comments, in upper case outside texts.
-#[derive(Drop)]
-pub struct Cleaner {
-    part: LinePart,
-    goes_on: bool,
+// Adds the text that stands before `after`'s first apostrophe, with its apostrophes, and gives what stands behind it. One that isn't closed falls away.
+fn put_text<'a>(after: &'a [u8], out: &mut Vec<u8>) -> Result<&'a [u8], NoMemory>
+    ensures shorter { IfOk result (λ left. length left.now ≤ length after.now) }
+    ensures put { IfOk result (λ left. PutsSegment (segments_from true after.now) false out.old.items out.new.items left.now) }
+{
+    let Some(end) = apostrophe(after) else {
+        return Ok(&[]);
+    };
+    out.push(b'\'')?;
+    out.extend_from_slice(&after[..end])?;
+    out.push(b'\'')?;
+    Ok(&after[end + 1..])
 }
 
-impl Cleaner {
-    /// Nothing yet.
-    pub fn new() -> Cleaner {
-        Cleaner {
-            part: LinePart::Plain,
-            goes_on: false,
-        }
+// Adds what the first segment of a line leaves, and gives what stands behind it, and whether it is a dollar.
+fn put_segment<'a>(line: &'a [u8], out: &mut Vec<u8>) -> Result<(&'a [u8], bool), NoMemory>
+    requires { 0 < length line.now }
+    ensures shorter { IfOk result (λ r. length r.0.now < length line.now) }
+    ensures put { IfOk result (λ r. PutsSegment (segments_of line.now) r.1 out.old.items out.new.items r.0.now) }
+{
+    let byte = line[0];
+    let after = &line[1..];
+    if byte == b'\'' {
+        let rest = put_text(after, out)?;
+        return Ok((rest, false));
     }
+    if byte != b'$' {
+        put_plain(byte, out)?;
+        return Ok((after, false));
+    }
+    if after.starts_with(b"$") {
+        return Ok((&[], false));
+    }
+    Ok((after, true))
+}
 
-    // A byte outside texts and comments.
-    fn plain(&mut self, byte: u8, out: &mut Vec<u8>) -> Result<(), NoMemory> {
-        match byte {
-            b' ' | b'\t' | b'\r' | b'\n' => {}
-            b'$' => self.part = LinePart::BehindDollar,
-            b'\'' => {
-                self.part = LinePart::Text;
-                out.push(byte)?;
-            }
-            _ => out.push(byte.to_ascii_uppercase())?,
-        }
-        Ok(())
+/// Adds the bytes that a line gives its statement, whatever faults it has, and says whether the line goes on.
+pub(crate) fn put_line(line: &[u8], out: &mut Vec<u8>) -> Result<bool, NoMemory>
+    ensures text { OnOk result (out.new.items ≡ out.old.items ++ text_of line.now) }
+    ensures goes_on { IfOk result (λ c. c ≡ continues line.now) }
+{
+    let mut goes_on = false;
+    let mut rest = line;
+    'segments: while !rest.is_empty() {
+        let (after, is_dollar) = put_segment(rest, out)?;
+        goes_on = goes_on || is_dollar;
+        rest = after;
     }
-
-    // A byte in a text.
-    fn quoted(&mut self, byte: u8, out: &mut Vec<u8>) -> Result<(), NoMemory> {
-        if byte == b'\'' {
-            self.part = LinePart::Plain;
-        }
-        if byte != b'\n' {
-            out.push(byte)?;
-        }
-        Ok(())
-    }
-
-    fn byte(&mut self, byte: u8, out: &mut Vec<u8>) -> Result<(), NoMemory> {
-        match self.part {
-            LinePart::Plain => self.plain(byte, out),
-            LinePart::Text => self.quoted(byte, out),
-            LinePart::BehindDollar if byte == b'$' => {
-                self.part = LinePart::Comment;
-                Ok(())
-            }
-            LinePart::BehindDollar => {
-                self.goes_on = true;
-                self.part = LinePart::Plain;
-                self.plain(byte, out)
-            }
-            LinePart::Comment => Ok(()),
-        }
-    }
-
-    /// Adds the bytes of a line, and says whether the statement goes on behind it.
-    pub fn line(&mut self, line: &[u8], out: &mut Vec<u8>) -> Result<bool, NoMemory> {
-        self.part = LinePart::Plain;
-        self.goes_on = false;
-        for byte in line {
-            self.byte(*byte, out)?;
-        }
-        Ok(self.goes_on || matches!(self.part, LinePart::BehindDollar))
-    }
+    Ok(goes_on)
 }
 
 // Whether a byte stands at an end of a line for nothing.

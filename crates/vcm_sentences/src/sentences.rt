@@ -1,17 +1,18 @@
 //! The statements of a text, behind faults too.
 
-ghost use Rattle.std.specs.Prelude.{◌≡◌, ◌∷◌, [], IfOk, Ok, MatchOption};
+ghost use Rattle.std.specs.Prelude.{◌≡◌, ◌∷◌, [], IfOk, Ok, MatchOption, Some};
+ghost use Rattle.std.specs.Option.{is_some};
 ghost use Rattle.vcm_lines.specs.Fault.{NoMemoryOr};
 ghost use Rattle.vcm_lines.specs.Lexemes.{lexemes};
+ghost use Rattle.vcm_lines.specs.Statements.{lines_of};
+ghost use Rattle.vcm_lines.specs.Leftmost.{first_fault};
 ghost use Rattle.vcm_syntax.specs.Statements.{statement_of};
 ghost use Rattle.vcm_forms.specs.declared.statement.Form.{Form};
 ghost use Rattle.vcm_sentences.specs.Judged.{BeginsSpelled, BeginsFaulty, IsJudged, Tells};
 
-use crate::cleaning::Cleaner;
 use std::alloc::Global;
-use std::mem::replace;
 use vcm_lines::{FaultCode, Logical, LogicalLines, SourceFault, logical_lines};
-use vcm_num::{NoMemory, whole_line};
+use vcm_num::NoMemory;
 use vcm_syntax::parse_statement;
 
 /// A statement of a text. Its fault is what the readers of lines and of statements say of its lines, no more and no less.
@@ -27,7 +28,7 @@ pub struct Sentence {
     pub bytes: Vec<u8>,
     /// What the readers of lines and of statements say of it.
     pub fault: Option<SourceFault>,
-    ghost judged: { ∥ IsJudged lines.items fault ∥₁ },
+    ghost judged: { ∥ IsJudged line lines.items fault ∥₁ },
 }
 
 /// What a line is to the statements.
@@ -46,31 +47,6 @@ pub enum Owner {
 pub struct Sentences {
     pub items: Vec<Sentence>,
     pub owners: Vec<Owner>,
-}
-
-// The front of a text, up to where the rest begins.
-fn front<'a>(text: &'a [u8], rest: &[u8]) -> &'a [u8] {
-    if rest.len() <= text.len() {
-        &text[..text.len() - rest.len()]
-    } else {
-        text
-    }
-}
-
-// A text without its byte order mark.
-fn without_mark(text: &[u8]) -> &[u8] {
-    match text {
-        [0xEF, 0xBB, 0xBF, rest @ ..] => rest,
-        _ => text,
-    }
-}
-
-// The blanks in front of a line.
-fn indent_of(line: &[u8]) -> &[u8] {
-    match line.iter().position(|byte| !matches!(*byte, b' ' | b'\t')) {
-        Some(end) => &line[..end],
-        None => line,
-    }
 }
 
 // The fault of a statement, if it has one.
@@ -99,7 +75,7 @@ fn first_fault(alloc: Global, read: &LogicalLines) -> Option<SourceFault>
 
 // A fault at its line in the text, or want of memory.
 fn placed(fault: SourceFault, line: u32) -> Result<Option<SourceFault>, NoMemory>
-    ensures { IfOk result (Tells fault) }
+    ensures { IfOk result (Tells line fault) }
 {
     match fault.code {
         FaultCode::NoMemory => Err(NoMemory),
@@ -116,7 +92,7 @@ fn placed(fault: SourceFault, line: u32) -> Result<Option<SourceFault>, NoMemory
 ///
 /// Out of memory.
 pub fn fault_of(alloc: Global, lines: &[u8], line: u32) -> Result<Option<SourceFault>, NoMemory>
-    ensures { IfOk result (IsJudged lines.now) }
+    ensures { IfOk result (IsJudged line lines.now) }
 {
     let read = match logical_lines(alloc, lines) {
         Ok(read) => read,
@@ -130,137 +106,24 @@ pub fn fault_of(alloc: Global, lines: &[u8], line: u32) -> Result<Option<SourceF
     }
 }
 
-// A copy of the lines of one statement, and what the readers say of them.
-fn judged(
-    alloc: Global,
-    lines: &[u8],
-    line: u32,
-) -> Result<(Vec<u8>, Option<SourceFault>), NoMemory>
-    ensures { IfOk result (λ r. IsJudged r.0.items r.1) }
-{
-    let fault = fault_of(alloc, lines, line)?;
-    let mut copy = Vec::with_capacity(alloc, lines.len())?;
-    copy.extend_from_slice(lines)?;
-    Ok((copy, fault))
-}
-
-// Gathers statements.
-#[derive(Drop)]
-struct Gathering<'a> {
-    alloc: Global,
-    found: Sentences,
-    cleaner: Cleaner,
-    bytes: Vec<u8>,
-    indent: Vec<u8>,
-    // The text from the first line of the statement that isn't finished, and that line.
-    begun: Option<(&'a [u8], u32)>,
-}
-
-impl<'a> Gathering<'a> {
-    fn new(alloc: Global) -> Gathering<'a> {
-        Gathering {
-            alloc,
-            found: Sentences {
-                items: Vec::new(alloc),
-                owners: Vec::new(alloc),
-            },
-            cleaner: Cleaner::new(),
-            bytes: Vec::new(alloc),
-            indent: Vec::new(alloc),
-            begun: None,
-        }
-    }
-
-    // Ends the statement that was begun, in front of this rest of the text.
-    fn finish(&mut self, rest: &[u8]) -> Result<(), NoMemory> {
-        let Some((text, line)) = self.begun else {
-            return Ok(());
-        };
-        let (lines, fault) = judged(self.alloc, front(text, rest), line)?;
-        let bytes = replace(&mut self.bytes, Vec::new(self.alloc));
-        let indent = replace(&mut self.indent, Vec::new(self.alloc));
-        self.found.items.push(Sentence {
-            line,
-            lines,
-            indent,
-            bytes,
-            fault,
-        })?;
-        self.begun = None;
-        Ok(())
-    }
-
-    // A line with nothing for a statement: it may have a fault all the same.
-    fn empty(&mut self, line: &[u8], number: u32) -> Result<(), NoMemory> {
-        let owner = if self.begun.is_some() {
-            Owner::Nobody
-        } else {
-            self.alone(line, number)?
-        };
-        self.found.owners.push(owner)?;
-        Ok(())
-    }
-
-    // A line with nothing for a statement, outside of one.
-    fn alone(&mut self, line: &[u8], number: u32) -> Result<Owner, NoMemory> {
-        let (lines, fault) = judged(self.alloc, line, number)?;
-        if fault.is_none() {
-            return Ok(Owner::Nobody);
-        }
-        self.found.items.push(Sentence {
-            line: number,
-            lines,
-            indent: Vec::new(self.alloc),
-            bytes: Vec::new(self.alloc),
-            fault,
-        })?;
-        Ok(Owner::First)
-    }
-
-    // The next line: `text` begins with it, and `rest` stands behind it.
-    fn line(
-        &mut self,
-        text: &'a [u8],
-        line: &[u8],
-        rest: &[u8],
-        number: u32,
-    ) -> Result<(), NoMemory> {
-        let had = self.bytes.len();
-        let goes_on = self.cleaner.line(without_mark(line), &mut self.bytes)?;
-        if !goes_on && self.bytes.len() == had {
-            return self.empty(line, number);
-        }
-        let owner = match self.begun {
-            Some(_) => Owner::Other,
-            None => {
-                self.begun = Some((text, number));
-                self.indent.extend_from_slice(indent_of(line))?;
-                Owner::First
-            }
-        };
-        self.found.owners.push(owner)?;
-        if goes_on { Ok(()) } else { self.finish(rest) }
-    }
-}
-
-/// The statements of a text, each with the fault that its lines or it itself have.
+/// The fault of lines that hold no statement, the first of which has this number, if they break a rule of lines.
 ///
 /// # Errors
 ///
 /// Out of memory.
-pub fn sentences_of(alloc: Global, text: &[u8]) -> Result<Sentences, NoMemory> {
-    let mut gathering = Gathering::new(alloc);
-    let mut rest = text;
-    let mut number = 0u32;
-    for _ in 0..text.len() {
-        if rest.is_empty() {
-            break;
+pub(crate) fn lines_fault(
+    alloc: Global,
+    lines: &[u8],
+    line: u32,
+) -> Result<Option<SourceFault>, NoMemory>
+    ensures found { IfOk result (λ f. is_some f ≡ is_some (first_fault (lines_of lines.now))) }
+    ensures told { IfOk result (λ f. MatchOption f (Unit {0}) (λ g. IsJudged line lines.now (Some g))) }
+{
+    match logical_lines(alloc, lines) {
+        Ok(read) => {
+            drop(read);
+            Ok(None)
         }
-        let (line, after) = whole_line(rest);
-        number = number.saturating_add(1);
-        gathering.line(rest, line, after, number)?;
-        rest = after;
+        Err(fault) => placed(fault, line),
     }
-    gathering.finish(&[])?;
-    Ok(gathering.found)
 }

@@ -1,5 +1,8 @@
 //! The words that statements go by, as far as rules tell them apart.
 
+ghost use Rattle.std.specs.Prelude.{◌≡◌};
+ghost use Rattle.vcm_sentences.specs.Parted.{word_in};
+
 use vcm_num::look_up;
 
 /// The word that a statement goes by.
@@ -201,6 +204,8 @@ impl MajorWord {
 }
 
 /// The word that these bytes spell.
-pub(crate) fn word_of(bytes: &[u8]) -> MajorWord {
+pub(crate) fn word_of(bytes: &[u8]) -> MajorWord
+    ensures { result ≡ word_in bytes.now }
+{
     look_up(WORDS, bytes).unwrap_or(MajorWord::Other)
 }

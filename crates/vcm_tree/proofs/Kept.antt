@@ -21,7 +21,7 @@ use Rattle.std.proofs.lemmas.List.{append-nil}
 use Rattle.vcm_macro.proofs.Orders.{order_push}
 use Rattle.vcm_macro.proofs.Walks.{kept_append}
 use Rattle.vcm_tree.specs.Ended.{is_ended}
-use Rattle.vcm_tree.specs.Declaring.{DeclaresVariables, DeclareVariables}
+use Rattle.vcm_tree.specs.Declaring.{DeclaresVariables, DeclareVariables, PlacedDeclareVariables}
 use Rattle.vcm_tree.proofs.Cutting.{place, clean_end}
 
 -- ---- names that are declared
@@ -32,8 +32,7 @@ Letters names = AllByRecursion IsVariableName names
 
 -- and what each of an expanded program does
 abbrev pub AllLettered : List Placed → Type 0
-AllLettered [] = Unit {0}
-AllLettered (p ∷ ps) = DeclaresVariables p.statement.form × AllLettered ps
+AllLettered all = PlacedDeclareVariables all
 
 -- and what is left of places
 abbrev LeavesLettered : List Visit → Type 0

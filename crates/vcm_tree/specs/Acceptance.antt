@@ -41,6 +41,11 @@ pub record IsAcceptedFrom (ss : List Statement) (p : Parsed) : Type 0 where
   pub program : ReadsProgram ss expanded p
   pub jumps : IsClean (BreaksJumps (labels_of p.program)) (jumps_of p.program)
 
+-- no rule of names and blocks, and of jumps is broken, and the expanded statements are this program, with the notices of the written ones
+pub record IsAcceptedPlaced (ss : List Statement) (all : List Placed) (p : Parsed) : Type 0 where
+  pub program : ReadsProgram ss all p
+  pub jumps : IsClean (BreaksJumps (labels_of p.program)) (jumps_of p.program)
+
 -- no rule is broken, and the text is this program with these tables and notices
 pub record IsAccepted (text : List ℕ) (p : Parsed) : Type 0 where
   pub statements : List Statement
@@ -51,6 +56,12 @@ pub record IsAccepted (text : List ℕ) (p : Parsed) : Type 0 where
 pub data IsUnread (text : List ℕ) (f : SourceFault) : Type 0 where
   in_lines : FirstFault Breaks told_line (lines_of text) f.code f.line → IsUnread text f
   in_statements : (ls : List Logical) → ReadsLines text ls → FirstFault BreaksStatements statement_line ls f.code f.line → IsUnread text f
+
+-- the first phase with a fault has its first fault here: names and blocks of expanded statements, jumps
+pub data IsRefusedPlaced (ss : List Statement) (all : List Placed) (f : SourceFault) : Type 0 where
+  among_names : FirstFault BreaksNames names_line all f.code f.line → IsRefusedPlaced ss all f
+  among_jumps : (p : Parsed) → ReadsProgram ss all p → FirstFault (BreaksJumps (labels_of p.program)) jumps_line (jumps_of p.program) f.code f.line
+      → IsRefusedPlaced ss all f
 
 -- the first phase with a fault has its first fault here: order and macros, names and blocks of the expanded program, jumps
 pub data IsRefusedFrom (ss : List Statement) (f : SourceFault) : Type 0 where

@@ -12,5 +12,6 @@ mod selection;
 mod statements;
 mod taking;
 
-pub use phases::{accept, accept_statements, statements_of};
+pub use phases::{accept, accept_placed, accept_statements, statements_of};
+pub use program::noted;
 pub use vcm_program::{Accepted, Noticed};

@@ -46,7 +46,11 @@ fn note(notices: &mut Vec<Noticed>, statement: &Statement) -> Result<(), AllocEr
 }
 
 /// The notices of the statements that are written.
-pub(crate) fn noted(alloc: Global, written: &[Statement]) -> Result<Vec<Noticed>, AllocError>
+///
+/// # Errors
+///
+/// Out of memory.
+pub fn noted(alloc: Global, written: &[Statement]) -> Result<Vec<Noticed>, AllocError>
     ensures { IfOk result (λ notices. notices.items ≡ notices_of written.now) }
 {
     let mut notices = Vec::new(alloc);

@@ -207,7 +207,13 @@ const USAGES: &[Usage] = &[
         example: "For example: vcm run above.dmi part-a.toml",
         words: &[INPUT, PART],
         rest: Rest::Nothing,
-        choices: &[Choice::Talk, Choice::Quiet, Choice::Steps, Choice::Show],
+        choices: &[
+            Choice::Talk,
+            Choice::Quiet,
+            Choice::Steps,
+            Choice::Show,
+            Choice::Whole,
+        ],
     },
     Usage {
         verb: Verb::Why,
@@ -217,7 +223,7 @@ const USAGES: &[Usage] = &[
         example: "For example: vcm why above.dmi part-a.toml",
         words: &[INPUT, PART],
         rest: Rest::Nothing,
-        choices: &[Choice::Quiet, Choice::Steps],
+        choices: &[Choice::Quiet, Choice::Steps, Choice::Whole],
     },
     Usage {
         verb: Verb::Contacts,
@@ -237,7 +243,7 @@ const USAGES: &[Usage] = &[
         example: "For example: vcm trace touch.dmi part-a.toml",
         words: &[INPUT, PART],
         rest: Rest::Nothing,
-        choices: &[Choice::Quiet, Choice::Steps],
+        choices: &[Choice::Quiet, Choice::Steps, Choice::Whole],
     },
     Usage {
         verb: Verb::Margin,
@@ -257,7 +263,7 @@ const USAGES: &[Usage] = &[
         example: "For example: vcm points grid.dmi part-a.toml",
         words: &[INPUT, PART],
         rest: Rest::Nothing,
-        choices: &[Choice::Quiet, Choice::Steps, Choice::Machine],
+        choices: &[Choice::Quiet, Choice::Steps, Choice::Machine, Choice::Whole],
     },
     Usage {
         verb: Verb::Clearance,

@@ -37,6 +37,8 @@ pub enum Choice {
     Touch,
     /// `--machine`.
     Machine,
+    /// `--whole`.
+    Whole,
     /// `--unit UNIT`.
     Unit,
     /// `--turn TURNS`.
@@ -215,6 +217,11 @@ impl Choice {
                 "machine",
                 "machine coordinates",
                 "Prints the points in machine coordinates, as vcm blocks --near reads them",
+            ),
+            Choice::Whole => flag(
+                "whole",
+                "a producer's text as it stands",
+                "Runs a producer's text as it stands: what isn't followed isn't tried, and is reported with status 7",
             ),
             Choice::Unit => valued(
                 "unit",

@@ -1,0 +1,226 @@
+//! What events do to what is known.
+
+ghost use Rattle.std.specs.Prelude.{◌≡◌, ◌++◌, ◌∷◌, [], pos, ℤ, Some, None, true, OnOk, IfOk, List, codes};
+ghost use Rattle.vcm_expr.specs.Source.{Plain, leaf_in};
+ghost use Rattle.vcm_events.specs.Events.{event_named};
+ghost use Rattle.vcm_kept.specs.Expressions.{number};
+ghost use Rattle.vcm_kept.specs.declared.carried.Carried.TheVariants as carried;
+ghost use Rattle.vcm_kept.specs.Templates.{elsewhere, ends, set, untried, lose_all};
+ghost use Rattle.vcm_kept.specs.Guarding.{is_nothing, turns_machine, turns_state, selects, selects_by, wants_points, machine_name, recalls_machine, happens, assigns_or};
+
+use crate::carried::{Carried, FEATURES_STEP};
+use crate::expressions::{has_form, number, pair, truth};
+use crate::guarded::Guarded;
+use crate::templates::{
+    ask, ask_all, elsewhere, end, go_to_end, know, lose, lose_all, lose_frame, new_frame, raise,
+    set, set_number, stand, untried, untried_point, where_known,
+};
+use crate::variables::assign;
+use std::alloc::Global;
+use vcm_events::Event;
+use vcm_expr::{BinaryOp, Expr, Names, Relation, Term, Want};
+use vcm_forms::{Form, Target};
+use vcm_items::Name;
+use vcm_num::{Literal, NoMemory};
+use vcm_remarks::Cause;
+
+/// The name of the machine's frame.
+pub(crate) fn machine_name() -> Name
+    ensures { result ≡ machine_name }
+{
+    Name::new(b"________________")
+}
+
+// Whether a number is 0; what is no number counts as that.
+fn is_nothing(value: &Expr) -> bool
+    ensures { result ≡ is_nothing (leaf_in value.now) }
+{
+    match value.as_leaf() {
+        Some(Term::Number(Literal::Int(number))) => number == 0,
+        _ => true,
+    }
+}
+
+// Something is lost, with the place of the probe, or known again.
+fn turn_machine(
+    out: &mut Vec<Guarded>,
+    line: u32,
+    carried: Carried,
+    cause: Cause,
+    value: &Expr,
+) -> Result<(), NoMemory>
+    ensures { OnOk result (out.new.items ≡ out.old.items ++ turns_machine line carried cause (is_nothing (leaf_in value.now))) }
+{
+    if is_nothing(value) {
+        lose(out, line, carried, cause)?;
+        set_number(out, line, Carried::Place, 0)
+    } else {
+        know(out, line, carried)
+    }
+}
+
+// Something is lost, or known again.
+fn turn_state(
+    out: &mut Vec<Guarded>,
+    line: u32,
+    carried: Carried,
+    cause: Cause,
+    value: &Expr,
+) -> Result<(), NoMemory>
+    ensures { OnOk result (out.new.items ≡ out.old.items ++ turns_state line carried cause (is_nothing (leaf_in value.now))) }
+{
+    if is_nothing(value) {
+        lose(out, line, carried, cause)
+    } else {
+        know(out, line, carried)
+    }
+}
+
+// Another sensor than the one that is selected.
+#[tactic(auto, unfolding(crate::specs::Guarding::selects))]
+fn select(out: &mut Vec<Guarded>, line: u32, test: Expr, sensor: Expr) -> Result<(), NoMemory>
+    ensures { OnOk result (out.new.items ≡ out.old.items ++ selects line test sensor) }
+{
+    stand(out, line, 0, Form::Test(test))?;
+    set_number(out, line, Carried::Place, 0)?;
+    set(out, line, Carried::Sensor, sensor)?;
+    end(out, line)
+}
+
+// The sensor of a number.
+fn select_by(alloc: Global, out: &mut Vec<Guarded>, line: u32, value: &Expr) -> Result<(), NoMemory>
+    ensures { OnOk result (out.new.items ≡ out.old.items ++ selects_by line (leaf_in value.now)) }
+{
+    let Some(sensor) = value.as_leaf() else {
+        return Ok(());
+    };
+    let Some(again) = value.as_leaf() else {
+        return Ok(());
+    };
+    let op = BinaryOp::Compare(Relation::NotEqual);
+    let test = pair(alloc, op, Carried::Sensor.term(), sensor)?;
+    select(out, line, test, Expr::leaf(again))
+}
+
+// Where it isn't known how many points are wanted, none are, which no measurement has.
+fn want_none(out: &mut Vec<Guarded>, line: u32) -> Result<(), NoMemory>
+    ensures { OnOk result (out.new.items ≡ out.old.items ++ elsewhere line ∷ set line carried.Wanted (Plain (number (pos 0))) ∷ ends line ∷ []) }
+{
+    elsewhere(out, line)?;
+    set_number(out, line, Carried::Wanted, 0)?;
+    end(out, line)
+}
+
+// How many points are wanted.
+#[tactic(auto, unfolding(crate::specs::Guarding::wants_points))]
+fn want_points(
+    alloc: Global,
+    out: &mut Vec<Guarded>,
+    line: u32,
+    names: &Names,
+    value: Expr,
+) -> Result<(), NoMemory>
+    ensures { OnOk result (out.new.items ≡ out.old.items ++ wants_points line names.now value) }
+{
+    set_number(out, line, Carried::Single, 0)?;
+    if !has_form(alloc, names, Want::Int, &value)? {
+        return set_number(out, line, Carried::Wanted, 0);
+    }
+    ask(out, line, truth(true))?;
+    ask_all(alloc, out, line, names, &value)?;
+    where_known(out, line)?;
+    set(out, line, Carried::Wanted, value)?;
+    want_none(out, line)
+}
+
+// The current frame is the machine's.
+#[tactic(auto, unfolding(crate::specs::Guarding::recalls_machine))]
+fn recall_machine(
+    alloc: Global,
+    out: &mut Vec<Guarded>,
+    line: u32,
+    machine: bool,
+) -> Result<(), NoMemory>
+    ensures { OnOk result (out.new.items ≡ out.old.items ++ recalls_machine machine line) }
+{
+    if machine {
+        stand(out, line, 0, Form::Restore(machine_name()))?;
+        new_frame(alloc, out, line)
+    } else {
+        lose_frame(out, line)
+    }
+}
+
+// What a statement does isn't known, nor anything behind it.
+fn lose_everything(alloc: Global, out: &mut Vec<Guarded>, line: u32) -> Result<(), NoMemory>
+    ensures { OnOk result (out.new.items ≡ out.old.items ++ untried line ∷ lose_all line) }
+{
+    untried(out, line)?;
+    lose_all(alloc, out, line)
+}
+
+// What an event does.
+fn happen(
+    alloc: Global,
+    out: &mut Vec<Guarded>,
+    line: u32,
+    machine: bool,
+    names: &Names,
+    event: Event,
+    value: Expr,
+) -> Result<(), NoMemory>
+    ensures { OnOk result (out.new.items ≡ out.old.items ++ happens machine line names.now event value) }
+{
+    let v = &value;
+    match event {
+        Event::Mode => turn_machine(out, line, Carried::Mode, Cause::Mode, v),
+        Event::Table => turn_machine(out, line, Carried::Table, Cause::Table, v),
+        Event::Scanning => turn_machine(out, line, Carried::Scanning, Cause::Scanning, v),
+        Event::Unit => turn_state(out, line, Carried::Unit, Cause::Unit, v),
+        Event::OwnPoints => turn_state(out, line, Carried::OwnPoints, Cause::Mode, v),
+        Event::Approach => turn_state(out, line, Carried::Approach, Cause::Setting, v),
+        Event::Search => turn_state(out, line, Carried::Search, Cause::Setting, v),
+        Event::Retract => turn_state(out, line, Carried::Retract, Cause::Setting, v),
+        Event::Clearance => turn_state(out, line, Carried::Clearance, Cause::Setting, v),
+        Event::Compensation => turn_state(out, line, Carried::Compensation, Cause::Setting, v),
+        Event::Qualification => turn_state(out, line, Carried::Qualification, Cause::Setting, v),
+        Event::Home => turn_state(out, line, Carried::Home, Cause::Value, v),
+        Event::Place => set_number(out, line, Carried::Place, 0),
+        Event::Untried => untried(out, line),
+        Event::UntriedPoint => untried_point(alloc, out, line),
+        Event::Values => raise(alloc, out, line, Carried::Values, 1),
+        Event::Features => raise(alloc, out, line, Carried::Features, FEATURES_STEP),
+        Event::Frames => set(
+            out,
+            line,
+            Carried::Floor,
+            Expr::leaf(Carried::Latest.term()),
+        ),
+        Event::Frame => lose_frame(out, line),
+        Event::Saving => set_number(out, line, Carried::Saving, 0),
+        Event::Machine => recall_machine(alloc, out, line, machine),
+        Event::Points => want_points(alloc, out, line, names, value),
+        Event::Sensor => select_by(alloc, out, line, v),
+        Event::Ends => go_to_end(out, line),
+        Event::All => lose_everything(alloc, out, line),
+    }
+}
+
+/// An assignment: an event, or one to a variable of the text.
+pub(crate) fn assign_or(
+    alloc: Global,
+    out: &mut Vec<Guarded>,
+    line: u32,
+    expansion: u32,
+    machine: bool,
+    names: &Names,
+    target: Target,
+    value: Expr,
+) -> Result<(), NoMemory>
+    ensures { OnOk result (out.new.items ≡ out.old.items ++ assigns_or machine line expansion names.now target value (event_named target.name)) }
+{
+    match Event::named(target.name.as_bytes()) {
+        Some(event) => happen(alloc, out, line, machine, names, event, value),
+        None => assign(alloc, out, line, expansion, names, target, value),
+    }
+}

@@ -1,0 +1,171 @@
+//! Expressions over what is carried.
+
+ghost use Rattle.std.specs.Prelude.{◌≡◌, true, false, IfOk};
+ghost use Rattle.std.specs.List.{list_any};
+ghost use Rattle.vcm_expr.specs.Source.{Pair, Plain};
+ghost use Rattle.vcm_spec.specs.declared.expression.BinaryOp.TheVariants.{Compare};
+ghost use Rattle.vcm_spec.specs.declared.expression.Relation.TheVariants.{Equal};
+ghost use Rattle.vcm_kept.specs.Expressions.{number, truth, pair, both, is_current, are_current, knows_frame, is_known, in_frame, is_quotient, has_form};
+
+use crate::carried::{Carried, Item};
+use std::alloc::Global;
+use vcm_expr::{BinaryOp, Draft, Expr, Names, Piece, Relation, Term, Want, type_expr};
+use vcm_lines::FaultCode;
+use vcm_num::{Literal, NoMemory};
+
+/// A whole number.
+pub(crate) fn number(value: i64) -> Term
+    ensures { result ≡ number value }
+{
+    Term::Number(Literal::Int(value))
+}
+
+/// A truth value.
+pub(crate) fn truth(value: bool) -> Expr
+    ensures { result ≡ truth value }
+{
+    Expr::leaf(Term::Truth(value))
+}
+
+/// An operator on two leaves.
+pub(crate) fn pair(alloc: Global, op: BinaryOp, a: Term, b: Term) -> Result<Expr, NoMemory>
+    ensures { IfOk result (λ e. e ≡ pair op a b) }
+{
+    let Ok(mut draft) = Draft::new(alloc, 3) else {
+        return Err(NoMemory);
+    };
+    let Ok(first) = draft.leaf(a) else {
+        return Err(NoMemory);
+    };
+    let Ok(second) = draft.leaf(b) else {
+        return Err(NoMemory);
+    };
+    match draft.joined(1, op, first, second) {
+        Ok(size) => Ok(draft.finish(size)),
+        Err(_) => Err(NoMemory),
+    }
+}
+
+/// Both of two truth values; what gets too large is false.
+pub(crate) fn both(alloc: Global, a: &Expr, b: &Expr) -> Result<Expr, NoMemory>
+    ensures { IfOk result (λ e. e ≡ both a.now b.now) }
+{
+    let Ok(mut draft) = Draft::new(alloc, 8) else {
+        return Err(NoMemory);
+    };
+    let Ok(first) = draft.append(a) else {
+        return Err(NoMemory);
+    };
+    let Ok(second) = draft.append(b) else {
+        return Err(NoMemory);
+    };
+    match draft.joined(1, BinaryOp::And, first, second) {
+        Ok(size) => Ok(draft.finish(size)),
+        Err(fault) => match fault.code {
+            FaultCode::NoMemory => Err(NoMemory),
+            _ => Ok(truth(false)),
+        },
+    }
+}
+
+/// What is carried is known.
+pub(crate) fn is_current(alloc: Global, carried: Carried) -> Result<Expr, NoMemory>
+    ensures { IfOk result (λ e. e ≡ is_current carried) }
+{
+    let op = BinaryOp::Compare(Relation::Equal);
+    pair(alloc, op, carried.term(), Carried::Epoch.term())
+}
+
+/// All of these are known.
+pub(crate) fn are_current(alloc: Global, all: &[Carried]) -> Result<Expr, NoMemory>
+    ensures { IfOk result (λ e. e ≡ are_current all.now) }
+{
+    match all {
+        [] => Ok(truth(true)),
+        [first, rest @ ..] => {
+            let others = are_current(alloc, rest)?;
+            both(alloc, &is_current(alloc, *first)?, &others)
+        }
+    }
+}
+
+/// The current frame is known.
+pub(crate) fn knows_frame(alloc: Global) -> Result<Expr, NoMemory>
+    ensures { IfOk result (λ e. e ≡ knows_frame) }
+{
+    let op = BinaryOp::Compare(Relation::NotEqual);
+    pair(alloc, op, Carried::Frame.term(), number(0))
+}
+
+/// A variable at an index is known.
+pub(crate) fn is_known(alloc: Global, index: u16) -> Result<Expr, NoMemory>
+    ensures { IfOk result (λ e. e ≡ is_known index) }
+{
+    let op = BinaryOp::Compare(Relation::Equal);
+    pair(alloc, op, Item::Known.term(index), Carried::Values.term())
+}
+
+/// What is carried of a feature in the current frame.
+pub(crate) fn in_frame(alloc: Global) -> Result<Expr, NoMemory>
+    ensures { IfOk result (λ e. e ≡ in_frame) }
+{
+    let op = BinaryOp::Add;
+    pair(alloc, op, Carried::Frame.term(), Carried::Features.term())
+}
+
+/// What is carried of a feature is that of the current frame.
+pub(crate) fn same_as(alloc: Global, of: Term) -> Result<Expr, NoMemory>
+    ensures { IfOk result (λ e. e ≡ Pair (Compare Equal) (Plain of) in_frame) }
+{
+    let Ok(mut draft) = Draft::new(alloc, 5) else {
+        return Err(NoMemory);
+    };
+    let Ok(first) = draft.leaf(of) else {
+        return Err(NoMemory);
+    };
+    let Ok(second) = draft.append(&in_frame(alloc)?) else {
+        return Err(NoMemory);
+    };
+    match draft.joined(1, BinaryOp::Compare(Relation::Equal), first, second) {
+        Ok(size) => Ok(draft.finish(size)),
+        Err(_) => Err(NoMemory),
+    }
+}
+
+// Whether a part is a quotient.
+fn is_quotient(piece: &Piece) -> bool
+    ensures { result ≡ is_quotient piece.now }
+{
+    matches!(piece, Piece::Between(BinaryOp::Div))
+}
+
+// Whether one of the parts is.
+fn has_quotient(pieces: &[Piece]) -> bool
+    ensures { result ≡ list_any is_quotient pieces.now }
+{
+    pieces.iter().any(|piece| is_quotient(piece))
+}
+
+/// Whether an expression has a value at this place that is the machine's.
+pub(crate) fn has_form(
+    alloc: Global,
+    names: &Names,
+    want: Want,
+    value: &Expr,
+) -> Result<bool, NoMemory>
+    ensures { IfOk result (λ b. b ≡ has_form names.now want value.now) }
+{
+    if has_quotient(value.pieces()) {
+        return Ok(false);
+    }
+    match type_expr(alloc, value, 1, names, want) {
+        Ok(typed) => {
+            drop(typed);
+            Ok(true)
+        }
+        Err(fault) => match fault.code {
+            FaultCode::NoMemory => Err(NoMemory),
+            _ => Ok(false),
+        },
+    }
+}

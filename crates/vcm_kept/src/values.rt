@@ -1,0 +1,101 @@
+//! Values of features.
+
+ghost use Rattle.std.specs.Prelude.{◌≡◌, ◌++◌, ◌∷◌, [], Some, None, OnOk, IfOk, List};
+ghost use Rattle.vcm_items.specs.Names.{variable_of};
+ghost use Rattle.vcm_program.specs.Titles.{index_of};
+ghost use Rattle.vcm_kept.specs.Guarding.{is_here, obtains_by, obtains_here, reports_at};
+
+use crate::carried::Carried;
+use crate::expressions::{are_current, both};
+use crate::guarded::Guarded;
+use crate::motions::{index_among, is_measured, is_nominal};
+use crate::templates::{ask, end, stand, where_known};
+use crate::variables::{lose_variable, otherwise_lose};
+use std::alloc::Global;
+use vcm_expr::{Expr, Names};
+use vcm_forms::{Form, Target};
+use vcm_items::Name;
+use vcm_num::{Kind, NoMemory};
+use vcm_program::Titles;
+use vcm_spec::{FeatureWord, Source};
+
+// The frame in which a feature's value is known is the current one.
+fn is_here(alloc: Global, side: Source, index: u16) -> Result<Expr, NoMemory>
+    ensures { IfOk result (λ e. e ≡ is_here side index) }
+{
+    match side {
+        Source::Nominal => is_nominal(alloc, index),
+        Source::Actual => is_measured(alloc, index),
+    }
+}
+
+// OBTAIN for the REAL at an index, of the feature at an index.
+#[tactic(auto, unfolding(crate::specs::Guarding::obtains_here))]
+fn obtain_here(
+    alloc: Global,
+    out: &mut Vec<Guarded>,
+    line: u32,
+    expansion: u32,
+    target: Target,
+    side: Source,
+    label: Name,
+    word: FeatureWord,
+    index: u16,
+    feature: u16,
+) -> Result<(), NoMemory>
+    ensures { OnOk result (out.new.items ≡ out.old.items ++ obtains_here line expansion target side label word index feature) }
+{
+    let here = is_here(alloc, side, feature)?;
+    let unit = are_current(alloc, &[Carried::Unit])?;
+    ask(out, line, both(alloc, &here, &unit)?)?;
+    where_known(out, line)?;
+    stand(out, line, expansion, Form::Query(target, side, label, word))?;
+    otherwise_lose(out, line, index)
+}
+
+/// OBTAIN.
+pub(crate) fn obtain(
+    alloc: Global,
+    out: &mut Vec<Guarded>,
+    line: u32,
+    expansion: u32,
+    names: &Names,
+    declared: &Titles,
+    target: Target,
+    side: Source,
+    label: Name,
+    word: FeatureWord,
+) -> Result<(), NoMemory>
+    ensures { OnOk result (out.new.items ≡ out.old.items ++ obtains_by line expansion names.now declared.now target side label word (variable_of names.now target.expansion target.name)) }
+{
+    let Some((index, kind)) = names.find(target.expansion, &target.name) else {
+        return Ok(());
+    };
+    match (kind, index_among(declared, &label)) {
+        (Kind::Real, Some(feature)) => obtain_here(
+            alloc, out, line, expansion, target, side, label, word, index, feature,
+        ),
+        _ => lose_variable(out, line, index),
+    }
+}
+
+/// OUTPUT.
+pub(crate) fn report(
+    alloc: Global,
+    out: &mut Vec<Guarded>,
+    line: u32,
+    expansion: u32,
+    declared: &Titles,
+    side: Source,
+    label: Name,
+) -> Result<(), NoMemory>
+    ensures { OnOk result (out.new.items ≡ out.old.items ++ reports_at line expansion side label (index_of declared.now label)) }
+{
+    let Some(index) = index_among(declared, &label) else {
+        return Ok(());
+    };
+    ask(out, line, is_here(alloc, side, index)?)?;
+    where_known(out, line)?;
+    stand(out, line, expansion, Form::Report(side, label))?;
+    end(out, line)
+}

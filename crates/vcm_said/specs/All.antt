@@ -1,0 +1,48 @@
+-- What a producer's text says, statement by statement, and which text is refused.
+use Rattle.std.specs.Prelude.{ℕ, Bool, true, false, codes, if◌then◌else◌, List, [], ◌∷◌, ◌++◌, map, Option, Some, None, Result, Err}
+use Rattle.vcm_lines.specs.declared.fault.FaultCode.{FaultCode}
+use Rattle.vcm_lines.specs.declared.fault.SourceFault.{SourceFault}
+use Rattle.vcm_lines.specs.declared.logical.Logical.{Logical}
+use Rattle.vcm_syntax.specs.Statements.{statement_of}
+use Rattle.vcm_forms.specs.declared.statement.Form.{Form}
+use Rattle.vcm_forms.specs.declared.statement.Form.TheVariants.{Opening, Measures}
+use Rattle.vcm_forms.specs.declared.statement.Statement.{Statement}
+use Rattle.vcm_heads.specs.declared.rows.Row.{Row}
+use Rattle.vcm_heads.specs.declared.rows.Row.TheVariants.{Shape}
+use Rattle.vcm_heads.specs.Rows.{row_in, words_of, own_behind}
+use Rattle.vcm_said.specs.Said.{said}
+
+-- forms as statements of a line
+abbrev pub on_line : ℕ → List Form → List Statement
+on_line line fs = map (λ f. record { line = line; form = f }) fs
+
+-- what a statement says, where the machine's own statements say nothing
+abbrev pub said_unless : Bool → Logical → List Statement
+said_unless true l = []
+said_unless false l = on_line l.line (said l.line (words_of l))
+
+-- what statements say, one behind the other
+abbrev pub said_from : Bool → List Logical → List Statement
+said_from own [] = []
+said_from own (l ∷ ls) = said_unless own l ++ said_from (own_behind own (words_of l)) ls
+
+-- what a text says: it begins as a program does, with lengths in millimetres, whatever it begins with
+abbrev pub said_all : List Logical → List Statement
+said_all ls = on_line 1 (Opening ∷ Measures ∷ []) ++ said_from false ls
+
+-- the fault of a statement that shapes the program and is none of the language
+abbrev pub shape_fault : ℕ → Row → Result Form FaultCode → Option SourceFault
+shape_fault line Shape (Err c) = Some (record { code = c; line = line })
+shape_fault line row r = None
+
+-- a fault that was found, or else what is found behind it
+abbrev pub fault_or : Option SourceFault → Option SourceFault → Option SourceFault
+fault_or None behind = behind
+fault_or (Some f) behind = Some f
+
+-- the first statement that shapes the program and is none of the language
+abbrev pub refused_from : Bool → List Logical → Option SourceFault
+refused_from own [] = None
+refused_from own (l ∷ ls) =
+    fault_or (if own then None else shape_fault l.line (row_in (words_of l)) (statement_of (words_of l)))
+    (refused_from (own_behind own (words_of l)) ls)

@@ -1,0 +1,275 @@
+-- What each statement of a producer's text says.
+use Rattle.std.specs.Prelude.{ℕ, pos, codes, Bool, true, false, if◌then◌else◌, List, [], ◌∷◌, Option, Some, None, Result, Ok, Err}
+use Rattle.std.specs.List.{list_any}
+use Rattle.std.specs.Str.{bytes_eq}
+use Rattle.vcm_num.specs.declared.axis.Axis.TheVariants.{PlusZ}
+use Rattle.vcm_num.specs.declared.number.Literal.TheVariants.{Int}
+use Rattle.vcm_spec.specs.declared.words.FrameAxis.TheVariants as axes
+use Rattle.vcm_spec.specs.declared.words.Setting.TheVariants.{Depth}
+use Rattle.vcm_items.specs.NameBytes.{is_name, is_variable_name}
+use Rattle.vcm_lines.specs.declared.fault.FaultCode.{FaultCode}
+use Rattle.vcm_lines.specs.Lexemes.{Lexeme}
+use Rattle.vcm_expr.specs.declared.expression.Term.TheVariants.{Number, Variable as Named}
+use Rattle.vcm_expr.specs.declared.expression.Piece.{Piece}
+use Rattle.vcm_expr.specs.declared.expression.Piece.TheVariants.{Variable as NamedPiece}
+use Rattle.vcm_expr.specs.Source.{Source, Plain, parts}
+use Rattle.vcm_expr.specs.Parsing.{expr_of}
+use Rattle.vcm_syntax.specs.Statements.{statement_of}
+use Rattle.vcm_forms.specs.Statements.{as_read}
+use Rattle.vcm_forms.specs.declared.statement.Argument.{Argument}
+use Rattle.vcm_forms.specs.declared.statement.Coordinates.{Coordinates}
+use Rattle.vcm_forms.specs.declared.statement.Rounds.{Rounds}
+use Rattle.vcm_forms.specs.declared.statement.Form.{Form}
+use Rattle.vcm_forms.specs.declared.statement.Form.TheVariants.{Assignment, Test, Repeat, Choose, Call, Feature, Measure, MeasureEnd, Configure, Shift, Restore}
+use Rattle.vcm_events.specs.declared.event.Event.{Event}
+use Rattle.vcm_events.specs.declared.event.Event.TheVariants as events
+use Rattle.vcm_heads.specs.declared.heads.Mark.TheVariants as marks
+use Rattle.vcm_heads.specs.declared.rows.Row.{Row}
+use Rattle.vcm_heads.specs.declared.rows.Row.TheVariants as row
+use Rattle.vcm_heads.specs.Steps.{◌>>=◌}
+use Rattle.vcm_events.specs.Events.{valued, event_form, lost, gained}
+use Rattle.vcm_events.specs.Unknown.{unknown, unknown_place, unknown_rounds}
+use Rattle.vcm_heads.specs.Heads.{past, run_at, past_word, label_at, title_at, assigned_at, major_of, behind_of, first_field, is_label}
+use Rattle.vcm_heads.specs.Rows.{row_in}
+
+-- ---- what isn't known
+
+-- an expression that was read, or else one whose value isn't known
+abbrev pub known_or : Result Source FaultCode → Source
+known_or (Ok e) = e
+known_or (Err c) = unknown
+
+-- ---- what is said
+
+-- one statement
+abbrev pub one : Form → List Form
+one f = f ∷ []
+
+-- the statement of the language that words spell, if they spell one
+abbrev pub spelled_in : Result Form FaultCode → Option Form
+spelled_in (Ok f) = Some f
+spelled_in (Err c) = None
+
+-- a statement that was found, nothing where there is none
+abbrev pub stated : Option Form → List Form
+stated None = []
+stated (Some f) = f ∷ []
+
+-- a statement that was found, or else these
+abbrev pub or_said : Option Form → List Form → List Form
+or_said None fs = fs
+or_said (Some f) fs = f ∷ []
+
+-- something is lost, or known again
+abbrev pub turns : Event → Bool → Form
+turns e true = gained e
+turns e false = lost e
+
+-- ---- where the words are none of the language
+
+-- the variable of an assignment isn't known, if it is one of the language
+abbrev pub value_lost : Option (List ℕ × List Lexeme) → List Form
+value_lost None = []
+value_lost (Some v) = if is_variable_name v.0 then one (Assignment (as_read v.0) unknown) else []
+
+-- an answer of the operator isn't known
+abbrev pub answer_lost : Option (List ℕ × List Lexeme) → List Form
+answer_lost None = one (lost events.Values)
+answer_lost (Some v) = if is_variable_name v.0 then one (Assignment (as_read v.0) unknown) else one (lost events.Values)
+
+-- the variable of a question: the label behind QUERY
+abbrev pub asked_at : List Lexeme → Option (List ℕ × List Lexeme)
+asked_at ws = do
+  fields ← past marks.Slash ws
+  r ← past_word (codes "QUERY") fields
+  v ← past marks.Comma r
+  label_at v
+
+-- TEXT that isn't shown: a question, something that the operator does, or nothing
+abbrev pub text_lost : List ℕ → List Lexeme → List Form
+text_lost word ws =
+    if bytes_eq word (codes "QUERY") then answer_lost (asked_at ws)
+    else if bytes_eq word (codes "MAN") then one (lost events.Place)
+    else []
+
+-- whether a part of an argument is a variable
+abbrev pub is_named : Piece → Bool
+is_named (NamedPiece name e) = true
+is_named p = false
+
+-- whether a value that an argument may be names a variable
+abbrev pub names_variable : Option Source → Bool
+names_variable None = false
+names_variable (Some e) = list_any is_named (parts e)
+
+-- whether an argument may be such a value: by name it is another one than by value
+abbrev pub is_doubtful : Argument → Bool
+is_doubtful a = names_variable a.value
+
+-- whether it is a CALL that is read in two ways
+abbrev pub is_doubtful_call : Form → Bool
+is_doubtful_call (Call name args) = list_any is_doubtful args
+is_doubtful_call f = false
+
+-- a CALL; of one that isn't of the language, or is read in two ways, it isn't known what it does
+abbrev pub call_said : Option Form → List Form
+call_said None = one (lost events.All)
+call_said (Some f) = if is_doubtful_call f then one (lost events.All) else one f
+
+-- a feature of another kind than points along an axis
+abbrev pub feature_lost : Option (List ℕ × List Lexeme) → List Form
+feature_lost None = one (lost events.Features)
+feature_lost (Some l) = if is_name l.0 then one (Feature l.0 unknown_place PlusZ) else one (lost events.Features)
+
+-- the feature of a measurement, and the words behind it: MEAS/kind,F(l)
+abbrev pub measured_at : List Lexeme → Option (List ℕ × List Lexeme)
+measured_at ws = do
+  fields ← past marks.Slash ws
+  kind ← run_at fields
+  r ← past marks.Comma kind.1
+  title_at (codes "F") r
+
+-- how many points are wanted: the expression behind the feature, which may not be known
+abbrev pub wanted_in : Option (List Lexeme) → Source
+wanted_in None = unknown
+wanted_in (Some ws) = known_or (expr_of ws)
+
+-- a measurement of another kind than a point
+abbrev pub measure_lost : Option (List ℕ × List Lexeme) → List Form
+measure_lost None = one (lost events.Qualification)
+measure_lost (Some l) =
+    if is_name l.0 then Measure l.0 ∷ valued events.Points (wanted_in (past marks.Comma l.1)) ∷ []
+    else one (lost events.Qualification)
+
+-- a measurement whose points aren't tried; that of a table turns it
+abbrev pub qualified : List ℕ → List Form
+qualified word =
+    gained events.Untried ∷ lost events.Qualification ∷ lost events.Features
+    ∷ (if bytes_eq word (codes "RTAB") then one (lost events.Table) else [])
+
+-- a setting of the probe; DEPTH is about points of the machine's own
+abbrev pub setting_said : Form → List Form
+setting_said (Configure Depth e) = []
+setting_said f = one f
+
+-- settings that aren't known: those of a clearance surface, or all
+abbrev pub settings_lost : List ℕ → List Form
+settings_lost word =
+    if bytes_eq word (codes "CLRSRF") then one (lost events.Clearance)
+    else lost events.Approach ∷ lost events.Search ∷ lost events.Retract ∷ lost events.Clearance ∷ []
+
+-- the fields of SNSET/CLRSRF,OFF
+abbrev pub is_clearance_off : List Lexeme → Option (List Lexeme)
+is_clearance_off ws = do
+  fields ← past marks.Slash ws
+  r ← past_word (codes "CLRSRF") fields
+  c ← past marks.Comma r
+  past_word (codes "OFF") c
+
+-- settings that aren't one of the language
+abbrev pub settings_otherwise : Option (List Lexeme) → List ℕ → List Form
+settings_otherwise (Some ws) word = one (gained events.Clearance)
+settings_otherwise None word = settings_lost word
+
+-- SNSET
+abbrev pub settings_said : Option Form → List Lexeme → List Form
+settings_said (Some f) ws = setting_said f
+settings_said None ws = settings_otherwise (is_clearance_off ws) (first_field ws)
+
+-- the machine's frame, under a name
+abbrev pub machine_frame : List ℕ → List Form
+machine_frame l = gained events.Machine ∷ Shift l (record { axis = axes.X; length = Plain (Number (Int (pos 0))) } ∷ []) ∷ []
+
+-- a frame that isn't known, under a name: a shift along no axis
+abbrev pub frame_lost : List ℕ → List Form
+frame_lost l = one (Shift l [])
+
+-- a frame of another kind than shifts and quarter turns
+abbrev pub frame_otherwise : List ℕ → Option (List ℕ × List Lexeme) → List Form
+frame_otherwise word None = lost events.Frame ∷ lost events.Frames ∷ []
+frame_otherwise word (Some l) =
+    if is_name l.0 then (if bytes_eq word (codes "MCS") then machine_frame l.0 else frame_lost l.0)
+    else lost events.Frame ∷ lost events.Frames ∷ []
+
+-- the frame of RECALL/DA(l)
+abbrev pub datum_at : List Lexeme → Option (List ℕ × List Lexeme)
+datum_at ws = do
+  fields ← past marks.Slash ws
+  title_at (codes "DA") fields
+
+-- what RECALL of another thing than a frame does
+abbrev pub recall_lost : List ℕ → List Form
+recall_lost word =
+    if bytes_eq word (codes "S") then []
+    else if bytes_eq word (codes "SA") then []
+    else if bytes_eq word (codes "F") then one (lost events.Features)
+    else if bytes_eq word (codes "FA") then one (lost events.Features)
+    else if bytes_eq word (codes "D") then one (lost events.Frame)
+    else one (lost events.All)
+
+-- RECALL/DA(l) with nothing behind it is RECALL/D(l)
+abbrev pub recall_otherwise : Option (List ℕ × List Lexeme) → List ℕ → List Form
+recall_otherwise (Some (l, [])) word = if is_name l then one (Restore l) else one (lost events.Frame)
+recall_otherwise (Some l) word = one (lost events.Frame)
+recall_otherwise None word = recall_lost word
+
+-- a programmed mode, or one in which the machine may take points of its own, or another one
+abbrev pub mode_said : List ℕ → List Form
+mode_said word =
+    if bytes_eq word (codes "PROG") then gained events.Mode ∷ gained events.OwnPoints ∷ []
+    else if bytes_eq word (codes "AUTO") then gained events.Mode ∷ lost events.OwnPoints ∷ []
+    else one (lost events.Mode)
+
+-- units: those of the language, or others
+abbrev pub units_said : Option Form → List Form
+units_said None = one (lost events.Unit)
+units_said (Some f) = one (gained events.Unit)
+
+-- a frame that is saved on a device
+abbrev pub saved : List ℕ → List Form
+saved word =
+    if bytes_eq word (codes "D") then one (gained events.Saving)
+    else if bytes_eq word (codes "DA") then one (gained events.Saving)
+    else []
+
+-- ---- each statement
+
+-- what a statement says by its row: the statement of the language that it is, if it is one, its line, all its words, and those behind the major word
+abbrev pub row_said : Row → Option Form → ℕ → (ws behind : List Lexeme) → List Form
+row_said row.Shape f line ws behind = stated f
+row_said row.Stated f line ws behind = stated f
+row_said row.Value f line ws behind = or_said f (value_lost (assigned_at ws))
+row_said row.Motion f line ws behind = or_said f (one (gained events.Untried))
+row_said row.Target f line ws behind = one (gained events.Untried)
+row_said row.Touch f line ws behind = or_said f (one (gained events.UntriedPoint))
+row_said row.Scan f line ws behind = one (gained events.UntriedPoint)
+row_said row.Text f line ws behind = or_said f (text_lost (first_field behind) behind)
+row_said row.Test f line ws behind = or_said f (one (Test unknown))
+row_said row.Loop f line ws behind = or_said f (one (Repeat unknown_rounds))
+row_said row.Choice f line ws behind = or_said f (one (Choose unknown))
+row_said row.Call f line ws behind = call_said f
+row_said row.Feature f line ws behind = or_said f (feature_lost (title_at (codes "F") ws))
+row_said row.Measure f line ws behind = or_said f (measure_lost (measured_at behind))
+row_said row.MeasureEnd f line ws behind = one MeasureEnd
+row_said row.Qualification f line ws behind = qualified (first_field behind)
+row_said row.Settings f line ws behind = settings_said f behind
+row_said row.Frame f line ws behind = or_said f (frame_otherwise (first_field behind) (title_at (codes "D") ws))
+row_said row.Fit f line ws behind = one (lost events.All)
+row_said row.Recall f line ws behind = or_said f (recall_otherwise (datum_at behind) (first_field behind))
+row_said row.Save f line ws behind = saved (first_field behind)
+row_said row.Delete f line ws behind = lost events.Frames ∷ lost events.Features ∷ []
+row_said row.Mode f line ws behind = mode_said (first_field behind)
+row_said row.Units f line ws behind = units_said f
+row_said row.Scanning f line ws behind = one (turns events.Scanning (bytes_eq (first_field behind) (codes "OFF")))
+row_said row.Table f line ws behind = one (lost events.Table)
+row_said row.Compensation f line ws behind = one (turns events.Compensation (bytes_eq (first_field behind) (codes "ON")))
+row_said row.Sensor f line ws behind = one (event_form events.Sensor (pos line))
+row_said row.From f line ws behind = one (lost events.Home)
+row_said row.Values f line ws behind = lost events.Values ∷ lost events.Features ∷ []
+row_said row.Features f line ws behind = one (lost events.Features)
+row_said row.Silent f line ws behind = []
+row_said row.Other f line ws behind = one (lost events.All)
+
+-- what a statement on this line says
+abbrev pub said : ℕ → List Lexeme → List Form
+said line ws = row_said (row_in ws) (spelled_in (statement_of ws)) line ws (behind_of ws)

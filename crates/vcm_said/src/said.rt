@@ -1,0 +1,607 @@
+//! What each statement of a producer's text says.
+
+ghost use Rattle.std.specs.Prelude.{◌≡◌, ◌++◌, ◌∷◌, [], map, ℤ, pos, Some, None, IfOk, OnOk, option_map};
+ghost use Rattle.std.specs.Prelude.{codes, true, false, List};
+ghost use Rattle.std.specs.List.{list_any};
+ghost use Rattle.vcm_lines.specs.Lexemes.{Lexeme};
+ghost use Rattle.vcm_syntax.specs.Statements.{statement_of};
+ghost use Rattle.vcm_items.specs.NameBytes.{IsName};
+ghost use Rattle.vcm_forms.specs.Statements.{as_read};
+ghost use Rattle.vcm_forms.specs.declared.statement.Form.TheVariants.{Assignment, Measure, Shift, Restore};
+ghost use Rattle.vcm_events.specs.declared.event.Event.TheVariants as events;
+ghost use Rattle.vcm_events.specs.Events.{valued, event_form, lost, gained};
+ghost use Rattle.vcm_events.specs.Unknown.{unknown};
+ghost use Rattle.vcm_heads.specs.declared.heads.Mark.TheVariants as marks;
+ghost use Rattle.vcm_heads.specs.Heads.{past, first_field, assigned_at, title_at, major_of};
+ghost use Rattle.vcm_heads.specs.Rows.{row_in, words_of, own_behind};
+ghost use Rattle.vcm_said.specs.Said.{wanted_in, spelled_in, stated, or_said, turns, value_lost, answer_lost, asked_at, text_lost, is_named, is_doubtful, is_doubtful_call, call_said, feature_lost, measured_at, measure_lost, qualified, setting_said, settings_lost, is_clearance_off, settings_otherwise, settings_said, machine_frame, frame_lost, frame_otherwise, datum_at, recall_lost, recall_otherwise, mode_said, units_said, saved, row_said, said};
+ghost use Rattle.vcm_said.specs.All.{on_line, said_unless, said_from, said_all, shape_fault, refused_from};
+
+use crate::wanted::wanted;
+use std::alloc::Global;
+use vcm_events::{Event, gained, lost, numbered, unknown, unknown_place, unknown_rounds, valued};
+use vcm_expr::{Expr, Piece, Term};
+use vcm_forms::{Argument, Form, Offset, Statement, Target};
+use vcm_heads::{
+    Mark, Row, assigned_at, first_field, label_at, major_at, own_behind, past, past_word, row_in,
+    row_of_statement, run_at, title_at,
+};
+use vcm_items::{Name, is_name, is_variable_name};
+use vcm_lines::{FaultCode, Logical, Phrase, SourceFault};
+use vcm_num::{Axis, Items, Literal, NoMemory, is};
+use vcm_spec::{FrameAxis, Setting};
+use vcm_syntax::parse_statement;
+
+// One statement more.
+fn add(out: &mut Vec<Statement>, line: u32, form: Form) -> Result<(), NoMemory>
+    ensures { OnOk result (out.new.items ≡ out.old.items ++ on_line line (form ∷ [])) }
+{
+    out.push(Statement { line, form })?;
+    Ok(())
+}
+
+// Something is lost.
+fn loses(out: &mut Vec<Statement>, line: u32, event: Event) -> Result<(), NoMemory>
+    ensures { OnOk result (out.new.items ≡ out.old.items ++ on_line line (lost event ∷ [])) }
+{
+    add(out, line, lost(event))
+}
+
+// Something is known again, or happens.
+fn gains(out: &mut Vec<Statement>, line: u32, event: Event) -> Result<(), NoMemory>
+    ensures { OnOk result (out.new.items ≡ out.old.items ++ on_line line (gained event ∷ [])) }
+{
+    add(out, line, gained(event))
+}
+
+// Something is lost, or known again.
+fn turns(out: &mut Vec<Statement>, line: u32, event: Event, known: bool) -> Result<(), NoMemory>
+    ensures { OnOk result (out.new.items ≡ out.old.items ++ on_line line (turns event known ∷ [])) }
+{
+    if known {
+        gains(out, line, event)
+    } else {
+        loses(out, line, event)
+    }
+}
+
+// A variable whose value isn't known.
+fn lose_variable(out: &mut Vec<Statement>, line: u32, name: &[u8]) -> Result<(), NoMemory>
+    requires { IsName name.now }
+    ensures { OnOk result (out.new.items ≡ out.old.items ++ on_line line (Assignment (as_read name.now) unknown ∷ [])) }
+{
+    let target = Target {
+        name: Name::new(name),
+        expansion: 0,
+    };
+    add(out, line, Form::Assignment(target, unknown()))
+}
+
+// ASSIGN and OBTAIN of another kind.
+fn lose_value(out: &mut Vec<Statement>, line: u32, words: &Phrase<'_>) -> Result<(), NoMemory>
+    ensures { OnOk result (out.new.items ≡ out.old.items ++ on_line line (value_lost (assigned_at words.now))) }
+{
+    match assigned_at(words) {
+        Some((name, _)) => {
+            if is_variable_name(name) {
+                lose_variable(out, line, name)
+            } else {
+                Ok(())
+            }
+        }
+        None => Ok(()),
+    }
+}
+
+// The variable of a question.
+fn asked_at<'a>(behind: &Phrase<'a>) -> Option<(&'a [u8], Phrase<'a>)>
+    ensures { option_map (λ r. (r.0.now, r.1)) result ≡ asked_at behind.now }
+{
+    let fields = past(Mark::Slash, behind)?;
+    let rest = past_word(b"QUERY", &fields)?;
+    let variable = past(Mark::Comma, &rest)?;
+    label_at(&variable)
+}
+
+// An answer of the operator.
+fn lose_answer(out: &mut Vec<Statement>, line: u32, behind: &Phrase<'_>) -> Result<(), NoMemory>
+    ensures { OnOk result (out.new.items ≡ out.old.items ++ on_line line (answer_lost (asked_at behind.now))) }
+{
+    match asked_at(behind) {
+        Some((name, _)) => {
+            if is_variable_name(name) {
+                lose_variable(out, line, name)
+            } else {
+                loses(out, line, Event::Values)
+            }
+        }
+        None => loses(out, line, Event::Values),
+    }
+}
+
+// TEXT that isn't shown.
+fn lose_text(out: &mut Vec<Statement>, line: u32, behind: &Phrase<'_>) -> Result<(), NoMemory>
+    ensures { OnOk result (out.new.items ≡ out.old.items ++ on_line line (text_lost (first_field behind.now) behind.now)) }
+{
+    let word = first_field(behind);
+    if is(word, b"QUERY") {
+        lose_answer(out, line, behind)
+    } else if is(word, b"MAN") {
+        loses(out, line, Event::Place)
+    } else {
+        Ok(())
+    }
+}
+
+// A feature of another kind than points along an axis.
+fn lose_feature(out: &mut Vec<Statement>, line: u32, words: &Phrase<'_>) -> Result<(), NoMemory>
+    ensures { OnOk result (out.new.items ≡ out.old.items ++ on_line line (feature_lost (title_at (codes "F") words.now))) }
+{
+    match title_at(b"F", words) {
+        Some((label, _)) if is_name(label) => {
+            let form = Form::Feature(Name::new(label), unknown_place(), Axis::PlusZ);
+            add(out, line, form)
+        }
+        _ => loses(out, line, Event::Features),
+    }
+}
+
+// The feature of a measurement, and the words behind it.
+fn measured_at<'a>(behind: &Phrase<'a>) -> Option<(&'a [u8], Phrase<'a>)>
+    ensures { option_map (λ r. (r.0.now, r.1)) result ≡ measured_at behind.now }
+{
+    let fields = past(Mark::Slash, behind)?;
+    let (_, rest) = run_at(&fields)?;
+    let feature = past(Mark::Comma, &rest)?;
+    title_at(b"F", &feature)
+}
+
+// A measurement of another kind than a point, of the feature with this name.
+fn say_measure(
+    alloc: Global,
+    out: &mut Vec<Statement>,
+    line: u32,
+    label: &[u8],
+    behind: &Phrase<'_>,
+) -> Result<(), NoMemory>
+    requires { IsName label.now }
+    ensures { OnOk result (out.new.items ≡ out.old.items ++ on_line line (Measure label.now ∷ valued events.Points (wanted_in (past marks.Comma behind.now)) ∷ [])) }
+{
+    let count = wanted(alloc, past(Mark::Comma, behind))?;
+    add(out, line, Form::Measure(Name::new(label)))?;
+    add(out, line, valued(Event::Points, count))
+}
+
+// A measurement of another kind than a point.
+fn lose_measure(
+    alloc: Global,
+    out: &mut Vec<Statement>,
+    line: u32,
+    behind: &Phrase<'_>,
+) -> Result<(), NoMemory>
+    ensures { OnOk result (out.new.items ≡ out.old.items ++ on_line line (measure_lost (measured_at behind.now))) }
+{
+    match measured_at(behind) {
+        Some((label, rest)) => {
+            if is_name(label) {
+                say_measure(alloc, out, line, label, &rest)
+            } else {
+                loses(out, line, Event::Qualification)
+            }
+        }
+        None => loses(out, line, Event::Qualification),
+    }
+}
+
+// A measurement whose points aren't tried.
+fn say_qualification(
+    out: &mut Vec<Statement>,
+    line: u32,
+    behind: &Phrase<'_>,
+) -> Result<(), NoMemory>
+    ensures { OnOk result (out.new.items ≡ out.old.items ++ on_line line (qualified (first_field behind.now))) }
+{
+    gains(out, line, Event::Untried)?;
+    loses(out, line, Event::Qualification)?;
+    loses(out, line, Event::Features)?;
+    if is(first_field(behind), b"RTAB") {
+        loses(out, line, Event::Table)
+    } else {
+        Ok(())
+    }
+}
+
+// The fields of SNSET/CLRSRF,OFF.
+fn clearance_off<'a>(behind: &Phrase<'a>) -> Option<Phrase<'a>>
+    ensures { result ≡ is_clearance_off behind.now }
+{
+    let fields = past(Mark::Slash, behind)?;
+    let rest = past_word(b"CLRSRF", &fields)?;
+    let last = past(Mark::Comma, &rest)?;
+    past_word(b"OFF", &last)
+}
+
+// Settings that aren't known.
+fn lose_settings(out: &mut Vec<Statement>, line: u32, word: &[u8]) -> Result<(), NoMemory>
+    ensures { OnOk result (out.new.items ≡ out.old.items ++ on_line line (settings_lost word.now)) }
+{
+    if is(word, b"CLRSRF") {
+        return loses(out, line, Event::Clearance);
+    }
+    loses(out, line, Event::Approach)?;
+    loses(out, line, Event::Search)?;
+    loses(out, line, Event::Retract)?;
+    loses(out, line, Event::Clearance)
+}
+
+// SNSET.
+fn say_settings(
+    out: &mut Vec<Statement>,
+    line: u32,
+    form: Option<Form>,
+    behind: &Phrase<'_>,
+) -> Result<(), NoMemory>
+    ensures { OnOk result (out.new.items ≡ out.old.items ++ on_line line (settings_said form behind.now)) }
+{
+    match form {
+        Some(Form::Configure(Setting::Depth, _)) => Ok(()),
+        Some(form) => add(out, line, form),
+        None => match clearance_off(behind) {
+            Some(_) => gains(out, line, Event::Clearance),
+            None => lose_settings(out, line, first_field(behind)),
+        },
+    }
+}
+
+// The machine's frame, under a name.
+fn say_machine(
+    alloc: Global,
+    out: &mut Vec<Statement>,
+    line: u32,
+    label: &[u8],
+) -> Result<(), NoMemory>
+    requires { IsName label.now }
+    ensures { OnOk result (out.new.items ≡ out.old.items ++ on_line line (machine_frame label.now)) }
+{
+    let mut offsets = Items::new(alloc);
+    offsets.push(Offset {
+        axis: FrameAxis::X,
+        length: Expr::leaf(Term::Number(Literal::Int(0))),
+    })?;
+    gains(out, line, Event::Machine)?;
+    add(out, line, Form::Shift(Name::new(label), offsets))
+}
+
+// A frame that isn't known, under a name.
+fn lose_frame(
+    alloc: Global,
+    out: &mut Vec<Statement>,
+    line: u32,
+    label: &[u8],
+) -> Result<(), NoMemory>
+    requires { IsName label.now }
+    ensures { OnOk result (out.new.items ≡ out.old.items ++ on_line line (frame_lost label.now)) }
+{
+    add(out, line, Form::Shift(Name::new(label), Items::new(alloc)))
+}
+
+// A frame of another kind than shifts and quarter turns.
+fn say_frame(
+    alloc: Global,
+    out: &mut Vec<Statement>,
+    line: u32,
+    words: &Phrase<'_>,
+    word: &[u8],
+) -> Result<(), NoMemory>
+    ensures { OnOk result (out.new.items ≡ out.old.items ++ on_line line (frame_otherwise word.now (title_at (codes "D") words.now))) }
+{
+    match title_at(b"D", words) {
+        Some((label, _)) if is_name(label) => {
+            if is(word, b"MCS") {
+                say_machine(alloc, out, line, label)
+            } else {
+                lose_frame(alloc, out, line, label)
+            }
+        }
+        _ => {
+            loses(out, line, Event::Frame)?;
+            loses(out, line, Event::Frames)
+        }
+    }
+}
+
+// The frame of RECALL/DA(l), and the words behind it.
+fn datum_at<'a>(behind: &Phrase<'a>) -> Option<(&'a [u8], Phrase<'a>)>
+    ensures { option_map (λ r. (r.0.now, r.1)) result ≡ datum_at behind.now }
+{
+    let fields = past(Mark::Slash, behind)?;
+    title_at(b"DA", &fields)
+}
+
+// RECALL of another thing than a frame.
+fn lose_recalled(out: &mut Vec<Statement>, line: u32, word: &[u8]) -> Result<(), NoMemory>
+    ensures { OnOk result (out.new.items ≡ out.old.items ++ on_line line (recall_lost word.now)) }
+{
+    if is(word, b"S") || is(word, b"SA") {
+        Ok(())
+    } else if is(word, b"F") || is(word, b"FA") {
+        loses(out, line, Event::Features)
+    } else if is(word, b"D") {
+        loses(out, line, Event::Frame)
+    } else {
+        loses(out, line, Event::All)
+    }
+}
+
+// RECALL that is none of the language.
+fn say_recall(out: &mut Vec<Statement>, line: u32, behind: &Phrase<'_>) -> Result<(), NoMemory>
+    ensures { OnOk result (out.new.items ≡ out.old.items ++ on_line line (recall_otherwise (datum_at behind.now) (first_field behind.now))) }
+{
+    match datum_at(behind) {
+        None => lose_recalled(out, line, first_field(behind)),
+        Some((label, rest)) => match rest.split_first() {
+            None => {
+                if is_name(label) {
+                    add(out, line, Form::Restore(Name::new(label)))
+                } else {
+                    loses(out, line, Event::Frame)
+                }
+            }
+            Some(_) => loses(out, line, Event::Frame),
+        },
+    }
+}
+
+// MODE.
+fn say_mode(out: &mut Vec<Statement>, line: u32, word: &[u8]) -> Result<(), NoMemory>
+    ensures { OnOk result (out.new.items ≡ out.old.items ++ on_line line (mode_said word.now)) }
+{
+    if is(word, b"PROG") {
+        gains(out, line, Event::Mode)?;
+        gains(out, line, Event::OwnPoints)
+    } else if is(word, b"AUTO") {
+        gains(out, line, Event::Mode)?;
+        loses(out, line, Event::OwnPoints)
+    } else {
+        loses(out, line, Event::Mode)
+    }
+}
+
+// SAVE.
+fn say_saved(out: &mut Vec<Statement>, line: u32, word: &[u8]) -> Result<(), NoMemory>
+    ensures { OnOk result (out.new.items ≡ out.old.items ++ on_line line (saved word.now)) }
+{
+    if is(word, b"D") || is(word, b"DA") {
+        gains(out, line, Event::Saving)
+    } else {
+        Ok(())
+    }
+}
+
+// Two things are lost.
+fn lose_both(
+    out: &mut Vec<Statement>,
+    line: u32,
+    first: Event,
+    second: Event,
+) -> Result<(), NoMemory>
+    ensures { OnOk result (out.new.items ≡ out.old.items ++ on_line line (lost first ∷ lost second ∷ [])) }
+{
+    loses(out, line, first)?;
+    loses(out, line, second)
+}
+
+// Whether a part of an argument is a variable.
+fn is_named(piece: &Piece) -> bool
+    ensures { result ≡ is_named piece.now }
+{
+    matches!(piece, Piece::Variable(_, _))
+}
+
+// Whether one of the parts is.
+fn names_one(pieces: &[Piece]) -> bool
+    ensures { result ≡ list_any is_named pieces.now }
+{
+    pieces.iter().any(|piece| is_named(piece))
+}
+
+// Whether an argument may be a value that names a variable.
+fn is_doubtful(argument: &Argument) -> bool
+    ensures { result ≡ is_doubtful argument.now }
+{
+    match &argument.value {
+        Some(value) => names_one(value.pieces()),
+        None => false,
+    }
+}
+
+// Whether one of them may be.
+fn are_doubtful(arguments: &[Argument]) -> bool
+    ensures { result ≡ list_any is_doubtful arguments.now }
+{
+    arguments.iter().any(|argument| is_doubtful(argument))
+}
+
+// Whether it is a CALL that is read in two ways.
+fn is_doubtful_call(form: &Form) -> bool
+    ensures { result ≡ is_doubtful_call form.now }
+{
+    match form {
+        Form::Call(_, arguments) => are_doubtful(arguments.as_slice()),
+        _ => false,
+    }
+}
+
+// A CALL.
+fn say_call(out: &mut Vec<Statement>, line: u32, form: Form) -> Result<(), NoMemory>
+    ensures { OnOk result (out.new.items ≡ out.old.items ++ on_line line (call_said (Some form))) }
+{
+    if is_doubtful_call(&form) {
+        drop(form);
+        loses(out, line, Event::All)
+    } else {
+        add(out, line, form)
+    }
+}
+
+// A statement that is none of the language, by its row.
+fn say_otherwise(
+    alloc: Global,
+    out: &mut Vec<Statement>,
+    line: u32,
+    row: Row,
+    words: &Phrase<'_>,
+    behind: &Phrase<'_>,
+) -> Result<(), NoMemory>
+    ensures { OnOk result (out.new.items ≡ out.old.items ++ on_line line (row_said row None line words.now behind.now)) }
+{
+    match row {
+        Row::Shape | Row::Stated | Row::Silent => Ok(()),
+        Row::Value => lose_value(out, line, words),
+        Row::Motion | Row::Target => gains(out, line, Event::Untried),
+        Row::Touch | Row::Scan => gains(out, line, Event::UntriedPoint),
+        Row::Text => lose_text(out, line, behind),
+        Row::Test => add(out, line, Form::Test(unknown())),
+        Row::Loop => add(out, line, Form::Repeat(unknown_rounds())),
+        Row::Choice => add(out, line, Form::Choose(unknown())),
+        Row::Feature => lose_feature(out, line, words),
+        Row::Measure => lose_measure(alloc, out, line, behind),
+        Row::MeasureEnd => add(out, line, Form::MeasureEnd),
+        Row::Qualification => say_qualification(out, line, behind),
+        Row::Settings => say_settings(out, line, None, behind),
+        Row::Frame => say_frame(alloc, out, line, words, first_field(behind)),
+        Row::Recall => say_recall(out, line, behind),
+        Row::Save => say_saved(out, line, first_field(behind)),
+        Row::Delete => lose_both(out, line, Event::Frames, Event::Features),
+        Row::Mode => say_mode(out, line, first_field(behind)),
+        Row::Units => loses(out, line, Event::Unit),
+        Row::Scanning => turns(out, line, Event::Scanning, is(first_field(behind), b"OFF")),
+        Row::Table => loses(out, line, Event::Table),
+        Row::Compensation => turns(
+            out,
+            line,
+            Event::Compensation,
+            is(first_field(behind), b"ON"),
+        ),
+        Row::Sensor => add(out, line, numbered(Event::Sensor, i64::from(line))),
+        Row::From => loses(out, line, Event::Home),
+        Row::Values => lose_both(out, line, Event::Values, Event::Features),
+        Row::Features => loses(out, line, Event::Features),
+        Row::Call | Row::Fit | Row::Other => loses(out, line, Event::All),
+    }
+}
+
+// A statement that is one of the language, by its row.
+fn say_spelled(
+    out: &mut Vec<Statement>,
+    line: u32,
+    row: Row,
+    form: Form,
+    behind: &Phrase<'_>,
+) -> Result<bool, NoMemory>
+    ensures said { IfOk result (λ done. done ≡ true → (ws : List Lexeme) → out.new.items ≡ out.old.items ++ on_line line (row_said row (Some form) line ws behind.now)) }
+    ensures left { IfOk result (λ done. done ≡ false → (out.new.items ≡ out.old.items) × ((ws : List Lexeme) → row_said row (Some form) line ws behind.now ≡ row_said row None line ws behind.now)) }
+{
+    match row {
+        Row::Call => say_call(out, line, form)?,
+        Row::Settings => say_settings(out, line, Some(form), behind)?,
+        Row::Units => gains(out, line, Event::Unit)?,
+        Row::Shape | Row::Stated | Row::Value | Row::Motion | Row::Touch => add(out, line, form)?,
+        Row::Text | Row::Test | Row::Loop | Row::Choice | Row::Feature => add(out, line, form)?,
+        Row::Measure | Row::Frame | Row::Recall => add(out, line, form)?,
+        _ => return Ok(false),
+    }
+    Ok(true)
+}
+
+// What the words of a statement spell, if they spell one of the language.
+fn spelled(alloc: Global, logical: &Logical) -> Result<Option<Form>, NoMemory>
+    ensures { IfOk result (λ f. f ≡ spelled_in (statement_of (words_of logical.now))) }
+{
+    match parse_statement(alloc, logical) {
+        Ok(statement) => Ok(Some(statement.form)),
+        Err(fault) => match fault.code {
+            FaultCode::NoMemory => Err(NoMemory),
+            _ => Ok(None),
+        },
+    }
+}
+
+// What a statement says.
+fn say(alloc: Global, out: &mut Vec<Statement>, logical: &Logical) -> Result<(), NoMemory>
+    ensures { OnOk result (out.new.items ≡ out.old.items ++ on_line logical.now.line (said logical.now.line (words_of logical.now))) }
+{
+    let line = logical.line;
+    let words = Phrase::of(logical);
+    let (major, behind) = major_at(&words);
+    let row = row_in(&words, major);
+    if let Some(form) = spelled(alloc, logical)? {
+        if say_spelled(out, line, row, form, &behind)? {
+            return Ok(());
+        }
+    }
+    say_otherwise(alloc, out, line, row, &words, &behind)
+}
+
+/// What the statements of a text say, one behind the other; it begins as a program does. Those of the machine's own, from DMIS/OFF up to DMIS/ON, say nothing.
+///
+/// # Errors
+///
+/// Out of memory.
+pub fn say_all(alloc: Global, lines: &[Logical]) -> Result<Vec<Statement>, NoMemory>
+    ensures { IfOk result (λ ss. ss.items ≡ said_all lines.now) }
+{
+    let mut out = Vec::new(alloc);
+    add(&mut out, 1, Form::Opening)?;
+    add(&mut out, 1, Form::Measures)?;
+    let mut own = false;
+    for logical in lines {
+        if !own {
+            say(alloc, &mut out, logical)?;
+        }
+        own = own_behind(own, logical);
+    }
+    Ok(out)
+}
+
+// The fault of a statement that shapes the program and is none of the language.
+fn shape_fault(alloc: Global, logical: &Logical) -> Result<Option<SourceFault>, NoMemory>
+    ensures { IfOk result (λ f. f ≡ shape_fault logical.now.line (row_in (words_of logical.now)) (statement_of (words_of logical.now))) }
+{
+    match row_of_statement(logical) {
+        Row::Shape => match parse_statement(alloc, logical) {
+            Ok(statement) => {
+                drop(statement);
+                Ok(None)
+            }
+            Err(fault) => match fault.code {
+                FaultCode::NoMemory => Err(NoMemory),
+                code => Ok(Some(SourceFault {
+                    code,
+                    line: logical.line,
+                })),
+            },
+        },
+        _ => Ok(None),
+    }
+}
+
+/// The first statement that shapes the program and is none of the language, with its fault: a text that has one isn't followed.
+///
+/// # Errors
+///
+/// Out of memory.
+pub fn first_refusal(alloc: Global, lines: &[Logical]) -> Result<Option<SourceFault>, NoMemory>
+    ensures { IfOk result (λ f. f ≡ refused_from false lines.now) }
+{
+    let mut own = false;
+    for logical in lines {
+        if !own {
+            if let Some(fault) = shape_fault(alloc, logical)? {
+                return Ok(Some(fault));
+            }
+        }
+        own = own_behind(own, logical);
+    }
+    Ok(None)
+}

@@ -1,0 +1,4 @@
+-- What only private contracts and proofs of this crate speak of.
+pub mod Putting
+pub mod Gathering
+pub mod Parting

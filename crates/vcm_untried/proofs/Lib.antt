@@ -1,0 +1,16 @@
+pub mod Walks
+pub mod Adding
+pub mod Totals
+pub mod Spanning
+pub mod Tables
+pub mod Short
+pub mod Kept
+pub mod Ended
+pub mod Same
+pub mod Asked
+pub mod Summed
+pub mod Listed
+pub mod Tried
+pub mod Ordered
+pub mod Sorted
+pub mod Agreed

@@ -1,0 +1,48 @@
+-- What is reported is the same only where it is equal.
+use Rattle.std.proofs.Common.{◌≡◌, ℕ, Bool, true, false, ◌&&◌, nat_eq, List, [], ◌∷◌, slice_get, Some, None, refl, sym, ap, ◌∙◌, arith}
+use Rattle.vcm_remarks.specs.declared.remark.Cause.{Cause}
+use Rattle.vcm_remarks.specs.declared.remark.Cause.TheVariants.{Table, Mode, Scanning, Unit as UnitLost, Frame, Setting, Value, All}
+use Rattle.vcm_untried.specs.declared.about.About.{About}
+use Rattle.vcm_untried.specs.declared.about.About.TheVariants.{NotTried, BeginsElsewhere}
+use Rattle.vcm_untried.specs.About.{place_of, rank, since_of, same}
+
+-- the causes in their order
+abbrev causes : List Cause
+causes = Table ∷ Mode ∷ Scanning ∷ UnitLost ∷ Frame ∷ Setting ∷ Value ∷ All ∷ []
+
+at_place : (c : Cause) → slice_get causes (place_of c) ≡ Some c
+at_place Table = refl
+at_place Mode = refl
+at_place Scanning = refl
+at_place UnitLost = refl
+at_place Frame = refl
+at_place Setting = refl
+at_place Value = refl
+at_place All = refl
+
+no_place : (c : Cause) → place_of c ≡ 8 → ⊥
+no_place c e = (let f : slice_get causes 8 ≡ Some c = ap (slice_get causes) (sym e) ∙ at_place c in let g : None ≡ Some c = f in absurd cc)
+
+same_cause : (b c : Cause) → place_of b ≡ place_of c → b ≡ c
+same_cause b c e = (let f : Some b ≡ Some c = sym (at_place b) ∙ ap (slice_get causes) e ∙ at_place c in cc)
+
+by_parts : (a b : About) → rank a ≡ rank b → since_of a ≡ since_of b → a ≡ b
+by_parts (NotTried c m) (NotTried d n) r s = ap (λ x. NotTried x m) (same_cause c d r) ∙ ap (NotTried d) s
+by_parts (NotTried c m) BeginsElsewhere r s = absurd (no_place c r)
+by_parts BeginsElsewhere (NotTried d n) r s = absurd (no_place d (sym r))
+by_parts BeginsElsewhere BeginsElsewhere r s = refl
+
+both_true : (x y : Bool) → (x && y) ≡ true → (x ≡ true) × (y ≡ true)
+both_true true y e = (refl, e)
+both_true false y e = (let f : false ≡ true = e in absurd cc)
+
+pub same_is : (a b : About) → same a b ≡ true → a ≡ b
+same_is a b e =
+    let p = both_true (nat_eq (rank a) (rank b)) (nat_eq (since_of a) (since_of b)) e in
+    let r = p.0 in
+    let s = p.1 in
+    by_parts a b (grind (arith, r)) (grind (arith, s))
+
+-- a row that reports something of a line
+pub told_is : (x a : ℕ) (b c : About) → (nat_eq x a && same b c) ≡ true → (x ≡ a) × (b ≡ c)
+told_is x a b c e = let p = both_true (nat_eq x a) (same b c) e in let l = p.0 in (grind (arith, l), same_is b c p.1)

@@ -1,0 +1,12 @@
+pub mod Times
+pub mod About
+pub mod Causes
+pub mod Rows
+pub mod Telling
+pub mod Counted
+pub mod Groups
+pub mod Spans
+pub mod Lines
+pub mod Laws
+pub mod Samples
+pub mod inner

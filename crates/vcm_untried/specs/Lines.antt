@@ -1,0 +1,104 @@
+-- What wasn't tried, in lines.
+use Rattle.std.specs.Prelude.{ℕ, Bool, true, false, ◌&&◌, not, nat_eq, if◌then◌else◌, List, [], ◌∷◌, ◌++◌, flat_map, decimal, codes, Option, Some, None}
+use Rattle.vcm_remarks.specs.declared.remark.Cause.{Cause}
+use Rattle.vcm_remarks.specs.declared.remark.Cause.TheVariants.{Table, Mode, Scanning, Unit as UnitLost, Frame, Setting, Value, All}
+use Rattle.vcm_untried.specs.declared.about.About.{About}
+use Rattle.vcm_untried.specs.declared.about.About.TheVariants.{NotTried, BeginsElsewhere}
+use Rattle.vcm_untried.specs.declared.rows.Row.{Row}
+use Rattle.vcm_untried.specs.declared.groups.Group.{Group}
+use Rattle.vcm_untried.specs.declared.spans.Span.{Span}
+use Rattle.vcm_untried.specs.Telling.{Telling}
+use Rattle.vcm_untried.specs.Groups.{groups_of}
+use Rattle.vcm_untried.specs.Spans.{spans_of}
+
+-- what a line begins with
+abbrev pub head_text : About → List ℕ
+head_text (NotTried cause since) = codes "not tried "
+head_text BeginsElsewhere = codes "begins elsewhere "
+
+-- a span is one line
+abbrev pub is_alone : Span → Bool
+is_alone s = nat_eq s.first s.last
+
+-- one line, or several
+abbrev pub lines_word : List Span → List ℕ
+lines_word (s ∷ []) = if is_alone s then codes ": line" else codes ": lines"
+lines_word spans = codes ": lines"
+
+-- what stands after the first line of a span: the last one, or how often it counts, if that isn't once
+abbrev pub rest_text : Span → List ℕ
+rest_text s =
+    if not (is_alone s) then codes "-" ++ decimal s.last
+    else if not (nat_eq s.count 1) then codes "(" ++ (decimal s.count ++ codes ")")
+    else []
+
+-- a span
+abbrev pub span_text : Span → List ℕ
+span_text s = codes " " ++ (decimal s.first ++ rest_text s)
+
+-- spans
+abbrev pub spans_text : List Span → List ℕ
+spans_text spans = flat_map span_text spans
+
+-- the words of a cause that came about at a line, which stands after them
+abbrev pub since_text : Cause → List ℕ
+since_text Table = codes ", a table may be turned since line "
+since_text Mode = codes ", the mode isn't programmed since line "
+since_text Scanning = codes ", the machine scans since line "
+since_text UnitLost = codes ", the unit isn't followed since line "
+since_text Frame = codes ", the frame isn't known since line "
+since_text Setting = codes ", the approach, search or way back isn't known since line "
+since_text Value = codes ", a value isn't known since line "
+since_text All = codes ", nothing is known since line "
+
+-- the words of a cause that came about at no line
+abbrev pub given_text : Cause → List ℕ
+given_text Table = codes ", a table may be turned"
+given_text Mode = codes ", no MODE gives the programmed mode"
+given_text Scanning = codes ", the machine scans"
+given_text UnitLost = codes ", no UNITS gives a unit that is followed"
+given_text Frame = codes ", the frame isn't given"
+given_text Setting = codes ", no SNSET gives the approach, the search and the way back"
+given_text Value = codes ", a value isn't known"
+given_text All = codes ", nothing is known"
+
+-- why, and since which line
+abbrev pub cause_text : Cause → ℕ → List ℕ
+cause_text cause since = if nat_eq since 0 then given_text cause else since_text cause ++ decimal since
+
+-- why a line isn't tried, if it isn't
+abbrev pub about_text : About → List ℕ
+about_text (NotTried cause since) = cause_text cause since
+about_text BeginsElsewhere = []
+
+-- the line of a group
+abbrev pub group_text : List Row → Group → List ℕ
+group_text rows g =
+    head_text g.about ++ (decimal g.total ++ (lines_word (spans_of g.about rows) ++ (spans_text (spans_of g.about rows) ++ (about_text g.about ++ codes "\n"))))
+
+-- the lines of groups
+abbrev pub groups_text : List Row → List Group → List ℕ
+groups_text rows groups = flat_map (group_text rows) groups
+
+-- from which line on nothing is tried, if there is one
+abbrev pub end_text : Option ℕ → List ℕ
+end_text (Some line) = codes "not tried from line " ++ (decimal line ++ codes " on\n")
+end_text None = []
+
+-- what wasn't tried, in lines
+abbrev pub untried_text : Telling → List ℕ
+untried_text t = groups_text t.rows (groups_of t.rows) ++ end_text t.end
+
+-- there is none
+abbrev pub is_none : {A : Type 0} → List A → Bool
+is_none [] = true
+is_none (x ∷ xs) = false
+
+-- there is no such line
+abbrev pub no_end : Option ℕ → Bool
+no_end None = true
+no_end (Some line) = false
+
+-- nothing was reported
+abbrev pub all_tried : Telling → Bool
+all_tried t = is_none t.rows && no_end t.end

@@ -1,0 +1,2 @@
+-- What only private contracts and proofs speak of.
+pub mod Ending
