@@ -38,6 +38,9 @@ FILES = {
     "inch.dmi": "DMISMN/'INCH',05.2\nUNITS/INCH,ANGDEC\nSNSET/APPRCH,0.1\nGOTO/0.5,0.25,1.5\nGOTO/1.00003,0.5,1.5\nGOHOME\nENDFIL\n",
     "datums.dmi": "DMISMN/'DATUMS',05.2\nUNITS/MM,ANGDEC\nD(PART)=DATSET/DAT(A),ZDIR,ZORIG,DAT(B),XDIR\nF(C1)=FEAT/CIRCLE,INNER,CART,20,20,20,0,0,1,10\n"
     "GOTO/20,20,50\nMEAS/CIRCLE,F(C1),3\nPTMEAS/CART,25,20,20,-1,0,0\nPTMEAS/CART,20,25,20,0,-1,0\nPTMEAS/CART,15,20,20,1,0,0\nENDMES\nGOHOME\nENDFIL\n",
+    # inches, a question, and a frame by datums
+    "asked.dmi": "DMISMN/'ASKED',05.2\nUNITS/INCH,ANGDEC\nDECL/INTGR,V\nTEXT/QUERY,(V),5,N,L,'HOW MANY'\nD(A)=DATSET/DAT(P),ZDIR\nGOTO/1,1,2.5\n"
+    "IF/(V.EQ.10)\nGOTO/1,2,2.5\nENDIF\nENDFIL\n",
     "plain.dmi": "DMISMN/'PLAIN',05.2\nUNITS/MM,ANGDEC\nGOTO/20,20,50\nGOHOME\nENDFIL\n",
     # points that are measured on the models of the rows; a part file to which no block can be added; a model that ends too soon
     "points.csv": "mx,my,mz,mi,mj,mk\n120.000,115.000,10.000,1,0,0\n110.000,110.000,12.000,0,0,1\n",
@@ -159,6 +162,10 @@ def runs():
     yield case("trace rounds.dmi part-a.toml --whole", kind="lines")
     yield case("points touch.dmi part-a.toml --whole", kind="lines", status=7)
     yield case("why bracket.dmi bracket.toml --whole", status=7)
+    yield case("run touch.dmi part-a.toml --whole --apprch 2 --retrct 2 --search 5 --auto")
+    yield case("run asked.dmi part-a.toml --whole --frame A=10,20,0,Z90 --given V=10")
+    yield case("check touch.dmi --whole --apprch 2 --retrct 2 --search 5")
+    yield case("check touch.dmi square.dmi --whole", kind="several")
     yield case("trace turned.dmi torn.toml", status=1)
 
 

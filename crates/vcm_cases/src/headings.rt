@@ -70,6 +70,7 @@ const HEADINGS: &[(&[u8], Heading)] = &[
     (b"statements", Heading::Statements),
     (b"commands", Heading::Commands),
     (b"check", Heading::Plain),
+    (b"line", Heading::Plain),
     (b"part-told", Heading::Plain),
     (b"blocks", Heading::Plain),
     (b"trace", Heading::Plain),
@@ -144,6 +145,13 @@ const FRONTS: &[(&[u8], Front)] = &[
         Front {
             words: "vcm part part.toml",
             rest: Rest::Nothing,
+        },
+    ),
+    (
+        b"line",
+        Front {
+            words: "vcm ",
+            rest: Rest::Words,
         },
     ),
     (

@@ -1,10 +1,13 @@
 //! Checks of several programs, and of all faults.
 
+use crate::choices::choices_of;
 use crate::telling::tell_bytes;
+use crate::whole::{built, status_of_unused, tell_lengths};
 use std::alloc::{AllocError, Global};
 use std::fmt::Write as _;
 use std::rt::Files;
 use vcm_devices::{Request, Voice, bytes_of, check_file, fails, print_bytes};
+use vcm_given::Choices;
 use vcm_lines::SourceFault;
 use vcm_messages::{Message, Told, notice_line, status_of};
 use vcm_num::NoMemory;
@@ -13,15 +16,21 @@ use vcm_survey::faults_of;
 use vcm_telling::summary_line;
 use vcm_tree::accept;
 use vcm_usage::Choice;
+use vcm_whole::Facts;
 
-// A program that is checked: its name, and what stands in front of what is told of it.
+// A program that is checked: its name, what stands in front of what is told of it, and what the command line says of it where it is a producer's text.
 #[derive(Clone, Copy)]
 struct Checked<'a> {
     name: &'a str,
     is_named: bool,
     is_all: bool,
+    choices: Option<&'a Choices>,
     voice: Voice,
 }
+
+const ALL: Message<'static> = Message::Option {
+    words: "--all and --whole don't go together",
+};
 
 // How many statements a program has that is accepted, and its lines that have no effect.
 fn counted(alloc: Global, text: &[u8]) -> Result<(usize, Vec<Noticed>), SourceFault> {
@@ -118,8 +127,92 @@ fn tell_all<R: Eprint + AllocGlobal>(
     Ok(told.count != 0)
 }
 
+// Adds lines as they are listed, adjacent ones as their first and their last.
+fn put_lines(text: &mut String, lines: &[u32]) -> Result<(), AllocError> {
+    let mut first = 0;
+    let mut last = 0;
+    for line in lines {
+        if first != 0 && last + 1 == *line {
+            last = *line;
+            continue;
+        }
+        put_stretch(text, first, last)?;
+        first = *line;
+        last = *line;
+    }
+    put_stretch(text, first, last)
+}
+
+// Adds the lines from one to another, nothing where there is none.
+fn put_stretch(text: &mut String, first: u32, last: u32) -> Result<(), AllocError> {
+    if first == 0 {
+        Ok(())
+    } else if first == last {
+        write!(text, " {first}")
+    } else {
+        write!(text, " {first}-{last}")
+    }
+}
+
+// What is printed of a producer's text that is put as a program: how many statements it has, and the lines by which something may be lost.
+fn whole_text(alloc: Global, checked: Checked<'_>, facts: &Facts) -> Result<String, AllocError> {
+    let mut text = String::new(alloc);
+    put_count(&mut text, checked, facts.statements)?;
+    let losses = facts.losses.as_slice();
+    if losses.is_empty() {
+        return Ok(text);
+    }
+    if checked.is_named {
+        let name = checked.name;
+        write!(text, "{name}: ")?;
+    }
+    text.push_str("may be lost or isn't tried: lines")?;
+    put_lines(&mut text, losses)?;
+    text.push('\n')?;
+    Ok(text)
+}
+
+// Prints what a producer's text is put as, and gives the exit status.
+fn tell_whole<R: Print + Eprint + AllocGlobal>(
+    rt: &R,
+    checked: Checked<'_>,
+    notices: &[Noticed],
+    facts: &Facts,
+) -> u8 {
+    let Ok(text) = whole_text(rt.alloc(), checked, facts) else {
+        return tell_fault(rt, checked, Message::NoMemory);
+    };
+    match print_bytes(rt, text.as_bytes()) {
+        Ok(()) => {}
+        Err(Message::Closed) => return 0,
+        Err(message) => return tell_fault(rt, checked, message),
+    }
+    tell_notices(rt, checked, notices);
+    tell_lengths(rt, checked.voice, facts);
+    0
+}
+
+// Judges a producer's text as it stands, and gives the exit status.
+fn judge_whole<R: Print + Eprint + AllocGlobal>(
+    rt: &R,
+    checked: Checked<'_>,
+    choices: &Choices,
+    text: &[u8],
+) -> u8 {
+    match built(rt.alloc(), choices, checked.name, text) {
+        Ok(whole) => match status_of_unused(rt, &whole.facts) {
+            Some(status) => status,
+            None => tell_whole(rt, checked, whole.notices.as_slice(), &whole.facts),
+        },
+        Err(message) => tell_fault(rt, checked, message),
+    }
+}
+
 // Judges the text of a program, and gives the exit status.
 fn judge<R: Print + Eprint + AllocGlobal>(rt: &R, checked: Checked<'_>, text: &[u8]) -> u8 {
+    if let Some(choices) = checked.choices {
+        return judge_whole(rt, checked, choices, text);
+    }
     if checked.is_all {
         match tell_all(rt, checked, text) {
             Ok(false) => {}
@@ -147,6 +240,7 @@ fn check_each<R: Files + Input + Print + Eprint + AllocGlobal>(
     voice: Voice,
     programs: &[&str],
     is_all: bool,
+    choices: Option<&Choices>,
 ) -> u8 {
     let mut status = 0;
     let is_named = programs.len() > 1;
@@ -155,6 +249,7 @@ fn check_each<R: Files + Input + Print + Eprint + AllocGlobal>(
             name,
             is_named,
             is_all,
+            choices,
             voice,
         };
         status = check_one(rt, checked).max(status);
@@ -162,15 +257,34 @@ fn check_each<R: Files + Input + Print + Eprint + AllocGlobal>(
     status
 }
 
-/// Prints whether programs are accepted, with all faults of lines and statements where `--all` stands, and gives the exit status.
+// Prints what producers' texts are put as, and gives the exit status.
+fn check_whole<R: Files + Input + Print + Eprint + AllocGlobal>(
+    rt: &R,
+    voice: Voice,
+    request: &Request<'_, '_>,
+) -> u8 {
+    if request.has(Choice::All) {
+        return fails(rt, ALL);
+    }
+    match choices_of(rt.alloc(), request) {
+        Ok(choices) => check_each(rt, voice, request.programs(), false, Some(&choices)),
+        Err(message) => fails(rt, message),
+    }
+}
+
+/// Prints whether programs are accepted, with all faults of lines and statements where `--all` stands, or what they are put as where `--whole` does, and gives
+/// the exit status.
 pub(crate) fn check_programs<R: Files + Input + Print + Eprint + AllocGlobal>(
     rt: &R,
     voice: Voice,
     request: &Request<'_, '_>,
 ) -> u8 {
+    if request.has(Choice::Whole) {
+        return check_whole(rt, voice, request);
+    }
     let is_all = request.has(Choice::All);
     match request.programs() {
         [name] if !is_all && *name != "-" => check_file(rt, voice, name),
-        programs => check_each(rt, voice, programs, is_all),
+        programs => check_each(rt, voice, programs, is_all, None),
     }
 }

@@ -5,6 +5,7 @@
 mod blocks;
 mod blocks_words;
 mod checks;
+mod choices;
 mod dap;
 mod explaining;
 mod producing;

@@ -2,6 +2,7 @@
 
 use crate::blocks::blocks_file;
 use crate::checks::check_programs;
+use crate::choices::says_of_whole;
 use crate::dap::serve_editor;
 use crate::explaining::explain;
 use crate::producing::{adapt_file, survey_file};
@@ -59,6 +60,10 @@ pub fn words_to_explain(words: &[String]) -> Option<&[String]> {
     }
 }
 
+const WANTS_WHOLE: Message<'static> = Message::Option {
+    words: "--frame, --given, --apprch, --retrct, --search and --auto want --whole beside them",
+};
+
 // How much is told of a job where `--talk` stands: as much as at a terminal.
 const AS_AT_TERMINAL: Terminals = Terminals {
     input: false,
@@ -80,8 +85,13 @@ fn carry_out<R: Files + Input + Print + Eprint + AllocGlobal>(
     request: &Request<'_, '_>,
     words: &[String],
 ) -> u8 {
-    if request.has(Choice::Whole) {
-        return show_whole(rt, voice, request);
+    if request.usage().takes(Choice::Whole) {
+        if request.has(Choice::Whole) && request.verb() != Verb::Check {
+            return show_whole(rt, voice, request);
+        }
+        if !request.has(Choice::Whole) && says_of_whole(request) {
+            return fails(rt, WANTS_WHOLE);
+        }
     }
     match request.verb() {
         Verb::Check => check_programs(rt, voice, request),

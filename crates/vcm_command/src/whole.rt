@@ -1,21 +1,24 @@
 //! A producer's text as it stands, in views of its run; what of it wasn't tried is reported behind them.
 
+use crate::choices::choices_of;
 use std::alloc::Global;
 use std::rt::Files;
 use vcm_devices::{
     NamedSetting, Request, View, Voice, bytes_of, fails, fails_in_view, fails_twice,
     named_setting_of, output, status_after, write_given, written,
 };
+use vcm_given::Choices;
 use vcm_job::{Done, Given, InputRefusal, RunFault, is_image};
 use vcm_loader::load;
 use vcm_messages::{Message, message_of};
 use vcm_motion::AnyPart;
 use vcm_part::PartData;
+use vcm_plain::Unit;
 use vcm_remarks::NumberedRemark;
 use vcm_untried::{Counts, count_remarks, untried_text, was_all_tried};
 use vcm_usage::{Choice, Verb};
 use vcm_views::{Points, Why};
-use vcm_whole::{Whole, build_whole};
+use vcm_whole::{Facts, Whole, build_whole};
 
 const IMAGE: Message<'static> = Message::Option {
     words: "--whole takes the text of a program, and no image",
@@ -24,36 +27,93 @@ const IMAGE: Message<'static> = Message::Option {
 /// The exit status of a run that came to the end of its text, where something of it wasn't tried.
 const NOT_ALL_TRIED: u8 = 7;
 
-// The program that a text is put as, and the remarks on its statements.
-fn whole_of<'a, R: Files + Input + AllocGlobal>(
-    rt: &R,
+/// A producer's text that is put as a program, or what is told where it isn't.
+pub(crate) fn built<'a>(
+    alloc: Global,
+    choices: &Choices,
     input: &'a str,
-) -> Result<(Given, Vec<NumberedRemark>), Message<'a>> {
-    let text = bytes_of(rt, input)?;
-    if is_image(&text) {
+    text: &[u8],
+) -> Result<Whole, Message<'a>> {
+    if is_image(text) {
         return Err(IMAGE);
     }
-    match build_whole(rt.alloc(), &text) {
-        Ok(
-            Whole {
-                image,
-                notices,
-                remarks,
-                ..
-            },
-        ) => {
-            let given = Given {
-                image,
-                text: None,
-                notices,
-            };
-            Ok((given, remarks))
-        }
+    match build_whole(alloc, choices, text) {
+        Ok(whole) => Ok(whole),
         Err(refusal) => {
             let fault = RunFault::Refused(InputRefusal::Text(refusal));
             Err(message_of(fault, input))
         }
     }
+}
+
+// A program as it is run, with what is told of it.
+#[derive(Drop)]
+struct Running {
+    given: Given,
+    remarks: Vec<NumberedRemark>,
+    facts: Facts,
+}
+
+// The program that a text is put as.
+fn whole_of<'a, R: Files + Input + AllocGlobal>(
+    rt: &R,
+    choices: &Choices,
+    input: &'a str,
+) -> Result<Running, Message<'a>> {
+    let text = bytes_of(rt, input)?;
+    let Whole {
+        image,
+        notices,
+        remarks,
+        facts,
+    } = built(rt.alloc(), choices, input, &text)?;
+    let given = Given {
+        image,
+        text: None,
+        notices,
+    };
+    Ok(Running {
+        given,
+        remarks,
+        facts,
+    })
+}
+
+// The name of a unit, as UNITS has it.
+fn unit_name(unit: Unit) -> &'static str {
+    match unit {
+        Unit::Millimetre => "MM",
+        Unit::Centimetre => "CM",
+        Unit::Metre => "M",
+        Unit::Inch => "INCH",
+        Unit::Foot => "FEET",
+    }
+}
+
+/// Tells of a name that the command line gives and the text never uses, and gives the exit status, if there is one.
+pub(crate) fn status_of_unused<R: Eprint>(rt: &R, facts: &Facts) -> Option<u8> {
+    let name = facts.unused.as_ref()?;
+    let name = std::str::from_utf8(name.as_bytes()).unwrap_or("?");
+    let _ = eprintln!(rt; "usage: the text never uses {name}");
+    Some(2)
+}
+
+/// Tells that lengths of a text are read otherwise than they are written.
+pub(crate) fn tell_lengths<R: Eprint>(rt: &R, voice: Voice, facts: &Facts) {
+    if voice.is_quiet || !facts.is_rewritten {
+        return;
+    }
+    let _ = match facts.unit {
+        Unit::Millimetre => {
+            eprintln!(rt;
+                "notice: lengths with more than three decimals are taken as whole micrometres"
+            )
+        }
+        unit => {
+            let name = unit_name(unit);
+            eprintln!(rt; "notice: lengths in {name} are taken as whole micrometres")
+        }
+    };
 }
 
 // What is reported of a run, and whether all of it was tried.
@@ -123,19 +183,28 @@ fn show_beside<R: Files + Input + Print + Eprint + AllocGlobal>(
     voice: Voice,
     view: &View<'_>,
     setting: &NamedSetting,
+    choices: &Choices,
     input: &str,
 ) -> u8 {
     let (part, steps) = (&setting.part, setting.steps);
-    let (given, remarks) = match whole_of(rt, input) {
-        Ok(whole) => whole,
+    let Running {
+        given,
+        remarks,
+        facts,
+    } = match whole_of(rt, choices, input) {
+        Ok(running) => running,
         Err(message) => return fails_in_view(rt, voice, message, input),
     };
+    if let Some(status) = status_of_unused(rt, &facts) {
+        return status;
+    }
     let Some(report) = counted(rt.alloc(), part, &given, &remarks, steps) else {
         return fails(rt, Message::NoMemory);
     };
     match print_given(rt, view, part, given, steps, input) {
         Ok(done) => {
             let status = status_after(rt, voice, Ok(done));
+            tell_lengths(rt, voice, &facts);
             tell_untried(rt, &report, status)
         }
         Err(message) => fails_in_view(rt, voice, message, input),
@@ -158,6 +227,22 @@ const SHOWN: Message<'static> = Message::Option {
     words: "--show and --whole don't go together",
 };
 
+// The same, with what the command line says of the text.
+fn show_chosen<R: Files + Input + Print + Eprint + AllocGlobal>(
+    rt: &R,
+    voice: Voice,
+    request: &Request<'_, '_>,
+    choices: &Choices,
+) -> u8 {
+    match named_setting_of(rt, voice, request) {
+        Ok(setting) => {
+            let view = view_of(request, &setting.block_names);
+            show_beside(rt, voice, &view, &setting, choices, request.input())
+        }
+        Err(told) => fails_twice(rt, &told),
+    }
+}
+
 /// Prints a view of a run of a producer's text as it stands, reports what of it wasn't tried, and gives the exit status.
 pub(crate) fn show_whole<R: Files + Input + Print + Eprint + AllocGlobal>(
     rt: &R,
@@ -167,11 +252,8 @@ pub(crate) fn show_whole<R: Files + Input + Print + Eprint + AllocGlobal>(
     if request.usage().takes(Choice::Show) && request.value(Choice::Show).is_some() {
         return fails(rt, SHOWN);
     }
-    match named_setting_of(rt, voice, request) {
-        Ok(setting) => {
-            let view = view_of(request, &setting.block_names);
-            show_beside(rt, voice, &view, &setting, request.input())
-        }
-        Err(told) => fails_twice(rt, &told),
+    match choices_of(rt.alloc(), request) {
+        Ok(choices) => show_chosen(rt, voice, request, &choices),
+        Err(message) => fails(rt, message),
     }
 }

@@ -2,7 +2,7 @@
 
 use crate::printing::{DASH, STANDARD_INPUT, fails, output, status_of_notices, written};
 use crate::request::Request;
-use crate::talking::{Voice, tell_notices};
+use crate::talking::{Voice, tell_notices, tell_of_whole};
 use std::alloc::Global;
 use std::io::{Read, Write};
 use std::rt::Files;
@@ -68,7 +68,16 @@ pub fn check_file<R: Files + Input + Print + Eprint + AllocGlobal>(
     voice: Voice,
     name: &str,
 ) -> u8 {
-    status_of_notices(rt, voice, print_of(rt, Printed::Check, name))
+    let done = print_of(rt, Printed::Check, name);
+    let refusal = match &done {
+        Ok(_) => None,
+        Err(message) => Some(*message),
+    };
+    let status = status_of_notices(rt, voice, done);
+    if let Some(message) = refusal {
+        tell_of_whole(rt, voice, message);
+    }
+    status
 }
 
 /// Prints the listing of a file's program or image, and gives the exit status.

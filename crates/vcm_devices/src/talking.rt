@@ -28,6 +28,8 @@ pub struct Voice {
     pub is_quiet: bool,
     /// Whether the debugger is talked to by hand.
     pub is_by_hand: bool,
+    /// Whether the command takes a producer's text as it stands, and wasn't asked to.
+    pub may_be_whole: bool,
 }
 
 /// How much is told of what was asked for. A command that takes `--talk` tells through a pipe what it always told.
@@ -39,6 +41,7 @@ pub fn voice_of(request: &Request<'_, '_>, terminals: Terminals) -> Voice {
         is_summary,
         is_quiet: request.has(Choice::Quiet),
         is_by_hand: terminals.input && terminals.errors || talks,
+        may_be_whole: request.usage().takes(Choice::Whole) && !request.has(Choice::Whole),
     }
 }
 
@@ -48,6 +51,7 @@ pub(crate) const OF_JOBS: Voice = Voice {
     is_summary: false,
     is_quiet: false,
     is_by_hand: false,
+    may_be_whole: false,
 };
 
 /// A fault, with the second line that is told of it, if there is one.
@@ -74,21 +78,49 @@ pub fn fails_twice<R: Eprint>(rt: &R, told: &Told<'_>) -> u8 {
     status
 }
 
+// Whether a text is refused for words that may be another system's.
+fn has_other_words(message: Message<'_>) -> bool {
+    match message {
+        Message::Source { words, .. } => words.starts_with("E05") || words.starts_with("E22"),
+        _ => false,
+    }
+}
+
+// Whether it is told of a refusal that --whole may take the text.
+fn is_whole_told(voice: Voice, message: Message<'_>) -> bool {
+    voice.tells_more && voice.may_be_whole && has_other_words(message)
+}
+
+/// Tells, of a text that is refused for words that may be another system's, what takes it.
+pub(crate) fn tell_of_whole<R: Eprint>(rt: &R, voice: Voice, message: Message<'_>) {
+    if is_whole_told(voice, message) {
+        let _ = eprintln!(rt; "--whole takes a producer's text as it stands");
+    }
+}
+
+// Tells in which file a fault is, if it is a refusal.
+fn tell_file<R: Eprint>(rt: &R, voice: Voice, message: Message<'_>, name: &str, status: u8) {
+    if !voice.tells_more || status != 1 {
+        return;
+    }
+    let _ = if is_whole_told(voice, message) {
+        eprintln!(rt; "in {name}; --whole takes a producer's text as it stands")
+    } else {
+        eprintln!(rt; "in {name}")
+    };
+}
+
 /// Tells a fault of a view of a run, with the input's name if the fault is a refusal, and gives its exit status; nothing where standard output is closed.
 pub fn fails_in_view<R: Eprint>(rt: &R, voice: Voice, message: Message<'_>, name: &str) -> u8 {
     let status = fails_unless_closed(rt, message);
-    if voice.tells_more && status == 1 {
-        let _ = eprintln!(rt; "in {name}");
-    }
+    tell_file(rt, voice, message, name, status);
     status
 }
 
 /// Tells a fault of one of several files, with the file's name if the fault is a refusal, and gives its exit status.
 pub(crate) fn fails_in<R: Eprint>(rt: &R, voice: Voice, message: Message<'_>, name: &str) -> u8 {
     let status = fails(rt, message);
-    if voice.tells_more && status == 1 {
-        let _ = eprintln!(rt; "in {name}");
-    }
+    tell_file(rt, voice, message, name, status);
     status
 }
 

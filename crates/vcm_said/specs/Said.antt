@@ -92,29 +92,10 @@ text_lost word ws =
     else if bytes_eq word (codes "MAN") then one (lost events.Place)
     else []
 
--- whether a part of an argument is a variable
-abbrev pub is_named : Piece → Bool
-is_named (NamedPiece name e) = true
-is_named p = false
-
--- whether a value that an argument may be names a variable
-abbrev pub names_variable : Option Source → Bool
-names_variable None = false
-names_variable (Some e) = list_any is_named (parts e)
-
--- whether an argument may be such a value: by name it is another one than by value
-abbrev pub is_doubtful : Argument → Bool
-is_doubtful a = names_variable a.value
-
--- whether it is a CALL that is read in two ways
-abbrev pub is_doubtful_call : Form → Bool
-is_doubtful_call (Call name args) = list_any is_doubtful args
-is_doubtful_call f = false
-
--- a CALL; of one that isn't of the language, or is read in two ways, it isn't known what it does
+-- a CALL; of one that isn't of the language it isn't known what it does
 abbrev pub call_said : Option Form → List Form
 call_said None = one (lost events.All)
-call_said (Some f) = if is_doubtful_call f then one (lost events.All) else one f
+call_said (Some f) = one f
 
 -- a feature of another kind than points along an axis
 abbrev pub feature_lost : Option (List ℕ × List Lexeme) → List Form
@@ -204,13 +185,13 @@ recall_lost word =
     else if bytes_eq word (codes "SA") then []
     else if bytes_eq word (codes "F") then one (lost events.Features)
     else if bytes_eq word (codes "FA") then one (lost events.Features)
-    else if bytes_eq word (codes "D") then one (lost events.Frame)
+    else if bytes_eq word (codes "D") then lost events.Frame ∷ lost events.Frames ∷ []
     else one (lost events.All)
 
 -- RECALL/DA(l) with nothing behind it is RECALL/D(l)
 abbrev pub recall_otherwise : Option (List ℕ × List Lexeme) → List ℕ → List Form
 recall_otherwise (Some (l, [])) word = if is_name l then one (Restore l) else one (lost events.Frame)
-recall_otherwise (Some l) word = one (lost events.Frame)
+recall_otherwise (Some l) word = lost events.Frame ∷ lost events.Frames ∷ []
 recall_otherwise None word = recall_lost word
 
 -- a programmed mode, or one in which the machine may take points of its own, or another one

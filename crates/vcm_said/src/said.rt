@@ -2,7 +2,6 @@
 
 ghost use Rattle.std.specs.Prelude.{◌≡◌, ◌++◌, ◌∷◌, [], map, ℤ, pos, Some, None, IfOk, OnOk, option_map};
 ghost use Rattle.std.specs.Prelude.{codes, true, false, List};
-ghost use Rattle.std.specs.List.{list_any};
 ghost use Rattle.vcm_lines.specs.Lexemes.{Lexeme};
 ghost use Rattle.vcm_syntax.specs.Statements.{statement_of};
 ghost use Rattle.vcm_items.specs.NameBytes.{IsName};
@@ -14,14 +13,14 @@ ghost use Rattle.vcm_events.specs.Unknown.{unknown};
 ghost use Rattle.vcm_heads.specs.declared.heads.Mark.TheVariants as marks;
 ghost use Rattle.vcm_heads.specs.Heads.{past, first_field, assigned_at, title_at, major_of};
 ghost use Rattle.vcm_heads.specs.Rows.{row_in, words_of, own_behind};
-ghost use Rattle.vcm_said.specs.Said.{wanted_in, spelled_in, stated, or_said, turns, value_lost, answer_lost, asked_at, text_lost, is_named, is_doubtful, is_doubtful_call, call_said, feature_lost, measured_at, measure_lost, qualified, setting_said, settings_lost, is_clearance_off, settings_otherwise, settings_said, machine_frame, frame_lost, frame_otherwise, datum_at, recall_lost, recall_otherwise, mode_said, units_said, saved, row_said, said};
+ghost use Rattle.vcm_said.specs.Said.{wanted_in, spelled_in, stated, or_said, turns, value_lost, answer_lost, asked_at, text_lost, call_said, feature_lost, measured_at, measure_lost, qualified, setting_said, settings_lost, is_clearance_off, settings_otherwise, settings_said, machine_frame, frame_lost, frame_otherwise, datum_at, recall_lost, recall_otherwise, mode_said, units_said, saved, row_said, said};
 ghost use Rattle.vcm_said.specs.All.{on_line, said_unless, said_from, said_all, shape_fault, refused_from};
 
 use crate::wanted::wanted;
 use std::alloc::Global;
 use vcm_events::{Event, gained, lost, numbered, unknown, unknown_place, unknown_rounds, valued};
-use vcm_expr::{Expr, Piece, Term};
-use vcm_forms::{Argument, Form, Offset, Statement, Target};
+use vcm_expr::{Expr, Term};
+use vcm_forms::{Form, Offset, Statement, Target};
 use vcm_heads::{
     Mark, Row, assigned_at, first_field, label_at, major_at, own_behind, past, past_word, row_in,
     row_of_statement, run_at, title_at,
@@ -327,7 +326,7 @@ fn lose_recalled(out: &mut Vec<Statement>, line: u32, word: &[u8]) -> Result<(),
     } else if is(word, b"F") || is(word, b"FA") {
         loses(out, line, Event::Features)
     } else if is(word, b"D") {
-        loses(out, line, Event::Frame)
+        lose_both(out, line, Event::Frame, Event::Frames)
     } else {
         loses(out, line, Event::All)
     }
@@ -347,7 +346,7 @@ fn say_recall(out: &mut Vec<Statement>, line: u32, behind: &Phrase<'_>) -> Resul
                     loses(out, line, Event::Frame)
                 }
             }
-            Some(_) => loses(out, line, Event::Frame),
+            Some(_) => lose_both(out, line, Event::Frame, Event::Frames),
         },
     }
 }
@@ -389,59 +388,6 @@ fn lose_both(
 {
     loses(out, line, first)?;
     loses(out, line, second)
-}
-
-// Whether a part of an argument is a variable.
-fn is_named(piece: &Piece) -> bool
-    ensures { result ≡ is_named piece.now }
-{
-    matches!(piece, Piece::Variable(_, _))
-}
-
-// Whether one of the parts is.
-fn names_one(pieces: &[Piece]) -> bool
-    ensures { result ≡ list_any is_named pieces.now }
-{
-    pieces.iter().any(|piece| is_named(piece))
-}
-
-// Whether an argument may be a value that names a variable.
-fn is_doubtful(argument: &Argument) -> bool
-    ensures { result ≡ is_doubtful argument.now }
-{
-    match &argument.value {
-        Some(value) => names_one(value.pieces()),
-        None => false,
-    }
-}
-
-// Whether one of them may be.
-fn are_doubtful(arguments: &[Argument]) -> bool
-    ensures { result ≡ list_any is_doubtful arguments.now }
-{
-    arguments.iter().any(|argument| is_doubtful(argument))
-}
-
-// Whether it is a CALL that is read in two ways.
-fn is_doubtful_call(form: &Form) -> bool
-    ensures { result ≡ is_doubtful_call form.now }
-{
-    match form {
-        Form::Call(_, arguments) => are_doubtful(arguments.as_slice()),
-        _ => false,
-    }
-}
-
-// A CALL.
-fn say_call(out: &mut Vec<Statement>, line: u32, form: Form) -> Result<(), NoMemory>
-    ensures { OnOk result (out.new.items ≡ out.old.items ++ on_line line (call_said (Some form))) }
-{
-    if is_doubtful_call(&form) {
-        drop(form);
-        loses(out, line, Event::All)
-    } else {
-        add(out, line, form)
-    }
 }
 
 // A statement that is none of the language, by its row.
@@ -503,7 +449,7 @@ fn say_spelled(
     ensures left { IfOk result (λ done. done ≡ false → (out.new.items ≡ out.old.items) × ((ws : List Lexeme) → row_said row (Some form) line ws behind.now ≡ row_said row None line ws behind.now)) }
 {
     match row {
-        Row::Call => say_call(out, line, form)?,
+        Row::Call => add(out, line, form)?,
         Row::Settings => say_settings(out, line, Some(form), behind)?,
         Row::Units => gains(out, line, Event::Unit)?,
         Row::Shape | Row::Stated | Row::Value | Row::Motion | Row::Touch => add(out, line, form)?,

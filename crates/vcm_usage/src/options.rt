@@ -39,6 +39,16 @@ pub enum Choice {
     Machine,
     /// `--whole`.
     Whole,
+    /// `--given V=VALUE`.
+    Given,
+    /// `--apprch MM`.
+    Approach,
+    /// `--retrct MM`.
+    Retract,
+    /// `--search MM`.
+    Search,
+    /// `--auto`.
+    Auto,
     /// `--unit UNIT`.
     Unit,
     /// `--turn TURNS`.
@@ -196,7 +206,7 @@ impl Choice {
                 value: "LABEL=X,Y,Z",
                 files: Files::None,
                 brief: "where a frame lies",
-                help: "Where the origin of a frame by datums lies in machine coordinates: LABEL=X,Y,Z, or LABEL=X,Y,Z,Z90",
+                help: "Where the origin of a frame that the text doesn't tell the place of lies in machine coordinates: LABEL=X,Y,Z, or LABEL=X,Y,Z,Z90",
             },
             Choice::Exact => flag(
                 "exact",
@@ -222,6 +232,37 @@ impl Choice {
                 "whole",
                 "a producer's text as it stands",
                 "Runs a producer's text as it stands: what isn't followed isn't tried, and is reported with status 7",
+            ),
+            Choice::Given => Spelled {
+                name: "given",
+                behind: Behind::Values,
+                value: "V=VALUE",
+                files: Files::None,
+                brief: "what the operator answers",
+                help: "What the operator answers where the text asks for a variable: V=5, V=2.5 or V=.TRUE.",
+            },
+            Choice::Approach => valued(
+                "apprch",
+                "MM",
+                "the approach of points",
+                "The approach of points in millimetres, where no SNSET above a point says it",
+            ),
+            Choice::Retract => valued(
+                "retrct",
+                "MM",
+                "the way back from points",
+                "The way back from points in millimetres, where no SNSET above a point says it",
+            ),
+            Choice::Search => valued(
+                "search",
+                "MM",
+                "the search behind points",
+                "How far a point is searched for in millimetres, where no SNSET above it says it",
+            ),
+            Choice::Auto => flag(
+                "auto",
+                "no points of the machine's own",
+                "Takes it that the machine takes no points of its own under MODE/AUTO",
             ),
             Choice::Unit => valued(
                 "unit",

@@ -1,6 +1,7 @@
 -- What the image of a producer's text is, and which texts have none.
-use Rattle.std.specs.Prelude.{◌≡◌, ◌<◌, ℕ, Bool, true, false, if◌then◌else◌, List, length, slice_get, Option, Some, None}
+use Rattle.std.specs.Prelude.{◌≡◌, ◌<◌, ℕ, Bool, true, false, not, if◌then◌else◌, List, length, slice_get, Option, Some, None}
 use Rattle.std.specs.List.{list_all}
+use Rattle.std.specs.Str.{bytes_eq}
 use Rattle.vcm_lines.specs.declared.fault.FaultCode.TheVariants.{TooLong, BadOrder}
 use Rattle.vcm_lines.specs.declared.fault.SourceFault.{SourceFault}
 use Rattle.vcm_lines.specs.declared.logical.Logical.{Logical}
@@ -9,6 +10,7 @@ use Rattle.vcm_lines.specs.Statements.{lines_of, Breaks, told_line}
 use Rattle.vcm_spec.specs.Phase.{FirstFault}
 use Rattle.vcm_items.specs.NameBytes.{is_variable_name}
 use Rattle.vcm_forms.specs.declared.statement.Form.{Form}
+use Rattle.vcm_forms.specs.declared.statement.Statement.{Statement}
 use Rattle.vcm_forms.specs.declared.statement.Form.TheVariants.{Declaration}
 use Rattle.vcm_macro.specs.declared.placed.Placed.{Placed}
 use Rattle.vcm_macro.specs.Expansion.{IsExpanded, IsRefused as IsUnexpanded}
@@ -19,25 +21,53 @@ use Rattle.vcm_run.specs.Built.{IsBuiltPlaced}
 use Rattle.vcm_run.specs.declared.run.Refusal.{Refusal}
 use Rattle.vcm_run.specs.declared.run.Refusal.TheVariants.{Source, Part, NoMemory}
 use Rattle.vcm_remarks.specs.declared.remark.NumberedRemark.{NumberedRemark}
+use Rattle.vcm_plain.specs.declared.unit.Unit.{Unit as LengthUnit}
+use Rattle.vcm_plain.specs.declared.unit.Unit.TheVariants.{Millimetre}
+use Rattle.vcm_plain.specs.Plain.{plain}
+use Rattle.vcm_plain.specs.Units.{single_unit}
 use Rattle.vcm_said.specs.All.{said_all, refused_from}
+use Rattle.vcm_given.specs.declared.choices.Choices.{Choices}
+use Rattle.vcm_given.specs.Chosen.{chosen}
+use Rattle.vcm_given.specs.Unused.{unused}
+use Rattle.vcm_doubts.specs.Settled.{settled}
+use Rattle.vcm_whole.specs.declared.whole.Facts.{Facts}
+use Rattle.vcm_whole.specs.Losses.{lossy_lines}
 use Rattle.vcm_kept.specs.Guarding.{guarded}
 use Rattle.vcm_kept.specs.Put.{placed_in, remarks_in}
 use Rattle.vcm_num.specs.declared.limits.TheConstants.{MOST_STATEMENTS}
 
--- the text reads as these statements, none of those that shape the program is faulty, and what they say expands to these
-pub record Expands (text : List ℕ) (lines : List Logical) (expanded : List Placed) : Type 0 where
-  pub read : ReadsLines text lines
-  pub shaped : refused_from false lines ≡ None
-  pub is_expanded : IsExpanded (said_all lines) expanded
+-- the lines of a text with its lengths in whole micrometres: the unit is that of its lines as they are written, with numbers rounded
+pub record ReadsPlain (text : List ℕ) (unit : LengthUnit) (lines : List Logical) : Type 0 where
+  pub written : List Logical
+  pub as_written : ReadsLines (plain Millimetre text) written
+  pub unit_is : unit ≡ single_unit written
+  pub read : ReadsLines (plain unit text) lines
 
--- the text is put as a program whose image the bytes are, with these notices and remarks; it has so many statements
-pub record IsWholeBuilt (text bytes : List ℕ) (notices : List Noticed) (remarks : List NumberedRemark) (count : ℕ) : Type 0 where
+-- what the statements of a text say, with what a command line says of them; where something is read in two ways it isn't known
+abbrev pub statements_of : Choices → List ℕ → List Logical → List Statement
+statements_of c text ls = settled text ls (chosen c ls (said_all ls))
+
+-- the text reads as these statements, none of those that shape the program is faulty, and what they say expands to these
+pub record Expands (c : Choices) (text : List ℕ) (unit : LengthUnit) (lines : List Logical) (expanded : List Placed) : Type 0 where
+  pub read : ReadsPlain text unit lines
+  pub shaped : refused_from false lines ≡ None
+  pub is_expanded : IsExpanded (statements_of c text lines) expanded
+
+-- whether lengths of a text are written otherwise than they are read
+abbrev pub is_rewritten : List ℕ → LengthUnit → Bool
+is_rewritten text unit = not (bytes_eq (plain unit text) text)
+
+-- the text is put as a program whose image the bytes are, with these notices and remarks, and this is told of it
+pub record IsWholeBuilt (c : Choices) (text bytes : List ℕ) (notices : List Noticed) (remarks : List NumberedRemark) (facts : Facts) : Type 0 where
   pub lines : List Logical
   pub expanded : List Placed
-  pub expands : Expands text lines expanded
-  pub built : IsBuiltPlaced (said_all lines) (placed_in (guarded expanded)) bytes notices
+  pub expands : Expands c text facts.unit lines expanded
+  pub built : IsBuiltPlaced (statements_of c text lines) (placed_in (guarded expanded)) bytes notices
   pub remarks_are : remarks ≡ remarks_in (guarded expanded)
-  pub count_is : count ≡ length lines
+  pub rewritten_is : facts.is_rewritten ≡ is_rewritten text facts.unit
+  pub losses_are : facts.losses ≡ lossy_lines (statements_of c text lines)
+  pub unused_is : facts.unused ≡ unused c lines (said_all lines)
+  pub count_is : facts.statements ≡ length lines
 
 -- whether a declaration declares names of variables
 abbrev pub is_lettered : Form → Bool
@@ -59,18 +89,21 @@ line_beyond (Some p) = p.statement.line
 
 -- why a text isn't put as a program: its lines, a statement that shapes it, the order of its statements or its macros, more statements than a program may
 -- have, or the names and blocks of what it is put as
-pub data IsWholeRefused (text : List ℕ) (f : SourceFault) : Type 0 where
-  in_lines : FirstFault Breaks told_line (lines_of text) f.code f.line → IsWholeRefused text f
-  in_shape : (ls : List Logical) → ReadsLines text ls → refused_from false ls ≡ Some f → IsWholeRefused text f
-  in_expansion : (ls : List Logical) → ReadsLines text ls → IsUnexpanded (said_all ls) f → IsWholeRefused text f
-  too_long : (ls : List Logical) (ps : List Placed) → Expands text ls ps → MOST_STATEMENTS < length (placed_in (guarded ps))
-      → f ≡ record { code = TooLong; line = line_beyond (slice_get (placed_in (guarded ps)) MOST_STATEMENTS) } → IsWholeRefused text f
-  no_program : (ls : List Logical) (ps : List Placed) → Expands text ls ps → is_program (placed_in (guarded ps)) ≡ false
-      → f ≡ record { code = BadOrder; line = 1 } → IsWholeRefused text f
-  in_program : (ls : List Logical) (ps : List Placed) → Expands text ls ps → IsRefusedPlaced (said_all ls) (placed_in (guarded ps)) f → IsWholeRefused text f
+pub data IsWholeRefused (c : Choices) (text : List ℕ) (f : SourceFault) : Type 0 where
+  in_lines : FirstFault Breaks told_line (lines_of (plain Millimetre text)) f.code f.line → IsWholeRefused c text f
+  in_converted : (ls : List Logical) → ReadsLines (plain Millimetre text) ls → FirstFault Breaks told_line (lines_of (plain (single_unit ls) text)) f.code f.line
+      → IsWholeRefused c text f
+  in_shape : (u : LengthUnit) (ls : List Logical) → ReadsPlain text u ls → refused_from false ls ≡ Some f → IsWholeRefused c text f
+  in_expansion : (u : LengthUnit) (ls : List Logical) → ReadsPlain text u ls → IsUnexpanded (statements_of c text ls) f → IsWholeRefused c text f
+  too_long : (u : LengthUnit) (ls : List Logical) (ps : List Placed) → Expands c text u ls ps → MOST_STATEMENTS < length (placed_in (guarded ps))
+      → f ≡ record { code = TooLong; line = line_beyond (slice_get (placed_in (guarded ps)) MOST_STATEMENTS) } → IsWholeRefused c text f
+  no_program : (u : LengthUnit) (ls : List Logical) (ps : List Placed) → Expands c text u ls ps → is_program (placed_in (guarded ps)) ≡ false
+      → f ≡ record { code = BadOrder; line = 1 } → IsWholeRefused c text f
+  in_program : (u : LengthUnit) (ls : List Logical) (ps : List Placed) → Expands c text u ls ps → IsRefusedPlaced (statements_of c text ls) (placed_in (guarded ps)) f
+      → IsWholeRefused c text f
 
 -- what is told of a text that isn't put as a program; of want of memory behind acceptance nothing is said
-abbrev pub IsWholeRefusal : List ℕ → Refusal → Type 0
-IsWholeRefusal text (Source f) = NoMemoryOr (IsWholeRefused text) f
-IsWholeRefusal text (Part f) = ⊥
-IsWholeRefusal text NoMemory = Unit {0}
+abbrev pub IsWholeRefusal : Choices → List ℕ → Refusal → Type 0
+IsWholeRefusal c text (Source f) = NoMemoryOr (IsWholeRefused c text) f
+IsWholeRefusal c text (Part f) = ⊥
+IsWholeRefusal c text NoMemory = Unit {0}

@@ -2,7 +2,8 @@
 
 ghost use Rattle.std.specs.Prelude.{◌≡◌, ◌≤◌, length, true, None, IfOk, IfErr, IsTrue};
 ghost use Rattle.std.specs.List.{list_all};
-ghost use Rattle.std.specs.Prelude.{slice_get, false, Some};
+ghost use Rattle.std.specs.Prelude.{slice_get, false, not, Some};
+ghost use Rattle.std.specs.Str.{bytes_eq};
 ghost use Rattle.vcm_lines.specs.declared.fault.FaultCode.{FaultCode};
 ghost use Rattle.vcm_num.specs.declared.limits.TheConstants.{MOST_STATEMENTS};
 ghost use Rattle.vcm_items.specs.NameBytes.{is_variable_name};
@@ -14,22 +15,47 @@ ghost use Rattle.vcm_tree.specs.Declaring.{PlacedDeclareVariables};
 ghost use Rattle.vcm_tree.specs.Ended.{is_ended};
 ghost use Rattle.vcm_tree.specs.Acceptance.{ReadsLines};
 ghost use Rattle.vcm_said.specs.All.{said_all, refused_from};
+ghost use Rattle.vcm_given.specs.declared.choices.Choices.{Choices as Given};
+ghost use Rattle.vcm_plain.specs.declared.unit.Unit.{Unit as LengthUnit};
+ghost use Rattle.vcm_plain.specs.declared.unit.Unit.TheVariants.{Millimetre};
+ghost use Rattle.vcm_run.specs.Built.{IsBuiltPlaced};
+ghost use Rattle.vcm_plain.specs.Plain.{plain};
+ghost use Rattle.vcm_plain.specs.Units.{single_unit};
 ghost use Rattle.vcm_kept.specs.Guarding.{guarded};
 ghost use Rattle.vcm_kept.specs.Put.{placed_in, remarks_in};
-ghost use Rattle.vcm_whole.specs.Whole.{Expands, IsWholeBuilt, is_lettered, is_lettered_placed, is_program, line_beyond, IsWholeRefusal};
+ghost use Rattle.vcm_whole.specs.Whole.{ReadsPlain, statements_of, is_rewritten as rewrites, Expands, IsWholeBuilt, is_lettered, is_lettered_placed, is_program, line_beyond, IsWholeRefusal};
 
+use crate::losses::lossy_lines;
 use std::alloc::Global;
-use vcm_forms::Form;
-use vcm_items::{VariableName, is_variable_name};
+use vcm_doubts::settle;
+use vcm_forms::{Form, Statement};
+use vcm_given::{Choices, choose, first_unused};
+use vcm_items::{Name, VariableName, is_variable_name};
 use vcm_kept::{Put, put_text};
 use vcm_lines::{FaultCode, Logical, SourceFault, logical_lines};
 use vcm_macro::{Placed, expand};
-use vcm_num::MOST_STATEMENTS;
+use vcm_num::{Items, MOST_STATEMENTS, NoMemory};
+use vcm_plain::{Unit, plain_text, single_unit};
 use vcm_program::Noticed;
 use vcm_remarks::NumberedRemark;
 use vcm_run::{Built, Refusal, build_placed};
 use vcm_said::{first_refusal, say_all};
 use vcm_tree::noted;
+
+/// What is told of a text beside its program.
+#[derive(Drop)]
+pub struct Facts {
+    /// The unit of its lengths.
+    pub unit: Unit,
+    /// Whether some of them are written otherwise than they are read, which is in whole micrometres.
+    pub is_rewritten: bool,
+    /// The lines by whose statements something may be lost or isn't followed, in order, each once.
+    pub losses: Items<u32>,
+    /// The first name that is given and that the text never uses.
+    pub unused: Option<Name>,
+    /// How many statements it has.
+    pub statements: usize,
+}
 
 /// The image of the program that a producer's text is put as.
 #[derive(Drop)]
@@ -39,8 +65,15 @@ pub struct Whole {
     pub notices: Vec<Noticed>,
     /// What is said of its statements where they are carried out, in order.
     pub remarks: Vec<NumberedRemark>,
-    /// How many statements the text has.
-    pub statements: usize,
+    pub facts: Facts,
+}
+
+// A program as an image, with the remarks on its statements.
+#[derive(Drop)]
+struct Program {
+    image: Vec<u8>,
+    notices: Vec<Noticed>,
+    remarks: Vec<NumberedRemark>,
 }
 
 // Whether a name is one of variables.
@@ -107,17 +140,17 @@ fn too_long(all: &[Placed]) -> SourceFault
     }
 }
 
-// The image of what an expanded text is put as, which has so many statements.
+// The image of what an expanded text is put as.
 fn build_put(
     alloc: Global,
     notices: Vec<Noticed>,
     expanded: Vec<Placed>,
-    statements: usize,
-) -> Result<Whole, Refusal>
+) -> Result<Program, Refusal>
     requires { (ss : List Said) × (notices.items ≡ notices_of ss) }
-    ensures built { IfOk result (λ w. (text : List ℕ) (ls : List Read) → Expands text ls expanded.items → notices.items ≡ notices_of (said_all ls) → statements ≡ length ls
-        → IsWholeBuilt text w.image.items w.notices.items w.remarks.items w.statements) }
-    ensures refused { IfErr result (λ r. (text : List ℕ) (ls : List Read) → Expands text ls expanded.items → notices.items ≡ notices_of (said_all ls) → IsWholeRefusal text r) }
+    ensures built { IfOk result (λ p. (ss : List Said) → notices.items ≡ notices_of ss → IsBuiltPlaced ss (placed_in (guarded expanded.items)) p.image.items p.notices.items) }
+    ensures remarks { IfOk result (λ p. p.remarks.items ≡ remarks_in (guarded expanded.items)) }
+    ensures refused { IfErr result (λ r. (c : Given) (text : List ℕ) (u : LengthUnit) (ls : List Read) → Expands c text u ls expanded.items
+        → notices.items ≡ notices_of (statements_of c text ls) → IsWholeRefusal c text r) }
 {
     let (all, remarks) = match put_text(alloc, expanded) {
         Ok(Put { all, remarks }) => (all, remarks),
@@ -133,60 +166,153 @@ fn build_put(
         }));
     }
     match build_placed(alloc, notices, all) {
-        Ok(Built { image, notices }) => Ok(Whole {
+        Ok(Built { image, notices }) => Ok(Program {
             image,
             notices,
             remarks,
-            statements,
         }),
         Err(refusal) => Err(refusal),
     }
 }
 
+// What the statements of a text say, with what a command line says of them, where they say this of themselves.
+fn statements_of(
+    alloc: Global,
+    choices: &Choices,
+    text: &[u8],
+    lines: &[Logical],
+    said: Vec<Statement>,
+) -> Result<Vec<Statement>, NoMemory>
+    requires { said.items ≡ said_all lines.now }
+    ensures { IfOk result (λ ss. ss.items ≡ statements_of choices.now text.now lines.now) }
+{
+    let chosen = choose(alloc, choices, lines, said)?;
+    settle(alloc, text, lines, chosen)
+}
+
 // The image of what statements are put as, none of which is faulty where it shapes the program.
-fn build_said(alloc: Global, lines: &[Logical]) -> Result<Whole, Refusal>
+fn build_said(
+    alloc: Global,
+    choices: &Choices,
+    text: &[u8],
+    unit: Unit,
+    is_rewritten: bool,
+    lines: &[Logical],
+) -> Result<Whole, Refusal>
     requires { refused_from false lines.now ≡ None }
-    ensures built { IfOk result (λ w. (text : List ℕ) → ReadsLines text lines.now → IsWholeBuilt text w.image.items w.notices.items w.remarks.items w.statements) }
-    ensures refused { IfErr result (λ r. (text : List ℕ) → ReadsLines text lines.now → IsWholeRefusal text r) }
+    ensures built { IfOk result (λ w. ReadsPlain text.now unit lines.now → is_rewritten ≡ rewrites text.now unit
+        → IsWholeBuilt choices.now text.now w.image.items w.notices.items w.remarks.items w.facts) }
+    ensures refused { IfErr result (λ r. ReadsPlain text.now unit lines.now → IsWholeRefusal choices.now text.now r) }
 {
     let Ok(said) = say_all(alloc, lines) else {
         return Err(Refusal::NoMemory);
     };
-    let Ok(notices) = noted(alloc, &said) else {
+    let Ok(unused) = first_unused(alloc, choices, lines, &said) else {
         return Err(Refusal::NoMemory);
     };
-    match expand(alloc, said) {
-        Ok(expanded) => build_put(alloc, notices, expanded, lines.len()),
-        Err(fault) => Err(Refusal::Source(fault)),
+    let Ok(statements) = statements_of(alloc, choices, text, lines, said) else {
+        return Err(Refusal::NoMemory);
+    };
+    let Ok(losses) = lossy_lines(alloc, &statements) else {
+        return Err(Refusal::NoMemory);
+    };
+    let Ok(notices) = noted(alloc, &statements) else {
+        return Err(Refusal::NoMemory);
+    };
+    let expanded = match expand(alloc, statements) {
+        Ok(expanded) => expanded,
+        Err(fault) => return Err(Refusal::Source(fault)),
+    };
+    match build_put(alloc, notices, expanded) {
+        Ok(
+            Program {
+                image,
+                notices,
+                remarks,
+            },
+        ) => Ok(Whole {
+            image,
+            notices,
+            remarks,
+            facts: Facts {
+                unit,
+                is_rewritten,
+                losses,
+                unused,
+                statements: lines.len(),
+            },
+        }),
+        Err(refusal) => Err(refusal),
     }
 }
 
 // The image of what statements are put as.
-fn build_lines(alloc: Global, lines: &[Logical]) -> Result<Whole, Refusal>
-    ensures built { IfOk result (λ w. (text : List ℕ) → ReadsLines text lines.now → IsWholeBuilt text w.image.items w.notices.items w.remarks.items w.statements) }
-    ensures refused { IfErr result (λ r. (text : List ℕ) → ReadsLines text lines.now → IsWholeRefusal text r) }
+fn build_lines(
+    alloc: Global,
+    choices: &Choices,
+    text: &[u8],
+    unit: Unit,
+    is_rewritten: bool,
+    lines: &[Logical],
+) -> Result<Whole, Refusal>
+    ensures built { IfOk result (λ w. ReadsPlain text.now unit lines.now → is_rewritten ≡ rewrites text.now unit
+        → IsWholeBuilt choices.now text.now w.image.items w.notices.items w.remarks.items w.facts) }
+    ensures refused { IfErr result (λ r. ReadsPlain text.now unit lines.now → IsWholeRefusal choices.now text.now r) }
 {
     match first_refusal(alloc, lines) {
-        Ok(None) => build_said(alloc, lines),
+        Ok(None) => build_said(alloc, choices, text, unit, is_rewritten, lines),
         Ok(Some(fault)) => Err(Refusal::Source(fault)),
         Err(_) => Err(Refusal::NoMemory),
     }
 }
 
+// Whether a text is written otherwise than it is read.
+fn rewrites(read: &[u8], text: &[u8]) -> bool
+    ensures { result ≡ not (bytes_eq read.now text.now) }
+{
+    read != text
+}
+
+// The image of what a text is put as whose lengths are of this unit.
+fn build_converted(
+    alloc: Global,
+    choices: &Choices,
+    text: &[u8],
+    unit: Unit,
+) -> Result<Whole, Refusal>
+    ensures built { IfOk result (λ w. (ls : List Read) → ReadsLines (plain Millimetre text.now) ls → unit ≡ single_unit ls
+        → IsWholeBuilt choices.now text.now w.image.items w.notices.items w.remarks.items w.facts) }
+    ensures refused { IfErr result (λ r. (ls : List Read) → ReadsLines (plain Millimetre text.now) ls → unit ≡ single_unit ls → IsWholeRefusal choices.now text.now r) }
+{
+    let Ok(read) = plain_text(alloc, unit, text) else {
+        return Err(Refusal::NoMemory);
+    };
+    match logical_lines(alloc, &read) {
+        Ok(lines) => {
+            let is_rewritten = rewrites(&read, text);
+            build_lines(alloc, choices, text, unit, is_rewritten, lines.as_slice())
+        }
+        Err(fault) => Err(Refusal::Source(fault)),
+    }
+}
+
 /// The image of the program that a producer's text is put as, with the remarks on its statements. Each statement of the text is put by itself, with its line; what
-/// isn't followed is a remark. Lengths are in micrometres where the text says millimetres or nothing.
+/// isn't followed is a remark. Numbers of places and lengths are rounded to whole micrometres, and converted where all of the text is in one other unit.
 ///
 /// # Errors
 ///
 /// `Source`: the first fault of the text's lines, of a statement that shapes the program (a block, a label, a jump, a macro, the end) and is none of the
 /// language, of the order of statements or of macros; more than 20,000 statements when put; the first fault of names and blocks, or of jumps. Want of memory.
 /// It never gives `Part`.
-pub fn build_whole(alloc: Global, text: &[u8]) -> Result<Whole, Refusal>
-    ensures built { IfOk result (λ w. IsWholeBuilt text.now w.image.items w.notices.items w.remarks.items w.statements) }
-    ensures refused { IfErr result (IsWholeRefusal text.now) }
+pub fn build_whole(alloc: Global, choices: &Choices, text: &[u8]) -> Result<Whole, Refusal>
+    ensures built { IfOk result (λ w. IsWholeBuilt choices.now text.now w.image.items w.notices.items w.remarks.items w.facts) }
+    ensures refused { IfErr result (IsWholeRefusal choices.now text.now) }
 {
-    match logical_lines(alloc, text) {
-        Ok(lines) => build_lines(alloc, lines.as_slice()),
+    let Ok(written) = plain_text(alloc, Unit::Millimetre, text) else {
+        return Err(Refusal::NoMemory);
+    };
+    match logical_lines(alloc, &written) {
+        Ok(lines) => build_converted(alloc, choices, text, single_unit(lines.as_slice())),
         Err(fault) => Err(Refusal::Source(fault)),
     }
 }

@@ -1,0 +1,3 @@
+pub mod Raised
+pub mod Reversed
+pub mod Settles

@@ -1,0 +1,4 @@
+pub mod Spellings
+pub mod Doubts
+pub mod Settled
+pub mod inner

@@ -1,0 +1,133 @@
+-- What becomes of statements that are read in two ways: they are put as something that isn't known.
+use Rattle.std.specs.Prelude.{ℕ, ◌&&◌, ◌||◌, not, nat_eq, codes, Bool, true, false, if◌then◌else◌, List, [], ◌∷◌, ◌++◌, map, length, Option, Some, None}
+use Rattle.std.specs.List.{list_any}
+use Rattle.std.specs.Str.{bytes_eq}
+use Rattle.vcm_lines.specs.declared.logical.Logical.{Logical}
+use Rattle.vcm_expr.specs.declared.expression.Piece.{Piece}
+use Rattle.vcm_expr.specs.declared.expression.Piece.TheVariants.{Variable}
+use Rattle.vcm_expr.specs.Source.{Source, parts}
+use Rattle.vcm_spec.specs.declared.words.FeatureWord.{FeatureWord}
+use Rattle.vcm_spec.specs.declared.words.Source.{Source as Side}
+use Rattle.vcm_forms.specs.declared.statement.Argument.{Argument}
+use Rattle.vcm_forms.specs.declared.statement.Coordinates.{Coordinates}
+use Rattle.vcm_forms.specs.declared.statement.Target.{Target}
+use Rattle.vcm_forms.specs.declared.statement.Rounds.{Rounds}
+use Rattle.vcm_forms.specs.declared.statement.Form.{Form}
+use Rattle.vcm_forms.specs.declared.statement.Form.TheVariants as form
+use Rattle.vcm_forms.specs.declared.statement.Statement.{Statement}
+use Rattle.vcm_events.specs.declared.event.Event.TheVariants as events
+use Rattle.vcm_events.specs.Events.{lost, gained}
+use Rattle.vcm_events.specs.Unknown.{unknown, unknown_rounds}
+use Rattle.vcm_doubts.specs.Doubts.{Doubts, is_among, doubts_of}
+
+-- ---- calls
+
+-- a macro: its name, and how many parameters it has
+pub record Known : Type 0 where
+  pub name : List ℕ
+  pub count : ℕ
+
+-- the macros that end above, and the one that is open
+pub record Macros : Type 0 where
+  pub above : List Known
+  pub current : Option Known
+
+-- no macro stands above
+abbrev pub no_macros : Macros
+no_macros = record { above = []; current = None }
+
+-- a macro that ends
+abbrev pub ended : List Known → Option Known → List Known
+ended ms None = ms
+ended ms (Some m) = m ∷ ms
+
+-- the macros behind a statement
+abbrev pub macros_behind : Macros → Form → Macros
+macros_behind ms (form.Macro name ps) = record ms { current = Some (record { name = name; count = length ps }) }
+macros_behind ms form.MacroEnd = record { above = ended ms.above ms.current; current = None }
+macros_behind ms f = ms
+
+-- whether a macro may be called by this name with so many arguments
+abbrev pub is_called : List ℕ → ℕ → Known → Bool
+is_called name n m = bytes_eq m.name name && nat_eq m.count n
+
+-- whether the value of a variable isn't followed: its name is spelled in two ways, or macros share it
+abbrev pub is_unfollowed : Doubts → List ℕ → Bool
+is_unfollowed d name = is_among d.spelled name || is_among d.shared name
+
+-- whether a part of an argument is a variable that has another value by name than by value, or isn't followed
+abbrev pub is_doubtful_piece : Doubts → Piece → Bool
+is_doubtful_piece d (Variable name e) = d.parameters || (is_among d.set name || is_unfollowed d name)
+is_doubtful_piece d p = false
+
+-- whether a value that an argument may be is doubtful
+abbrev pub is_doubtful_value : Doubts → Option Source → Bool
+is_doubtful_value d None = false
+is_doubtful_value d (Some e) = list_any (is_doubtful_piece d) (parts e)
+
+-- whether a name that an argument may be is spelled in two ways
+abbrev pub is_doubtful_name : Doubts → Option (List ℕ) → Bool
+is_doubtful_name d None = false
+is_doubtful_name d (Some name) = is_among d.spelled name
+
+-- whether an argument is read in two ways
+abbrev pub is_doubtful : Doubts → Argument → Bool
+is_doubtful d a = is_doubtful_name d a.name || is_doubtful_value d a.value
+
+-- whether it isn't known what a CALL does: a parameter is spelled in two ways, no macro above takes so many arguments, the macro's name is spelled in two ways, or
+-- an argument is read in two ways
+abbrev pub is_doubtful_call : Doubts → List Known → List ℕ → List Argument → Bool
+is_doubtful_call d ms name args =
+    d.twofold || (not (list_any (is_called name (length args)) ms) || (is_among d.spelled name || list_any (is_doubtful d) args))
+
+-- ---- each statement
+
+-- an expression, where nothing is in doubt
+abbrev pub unless : Bool → Source → Source
+unless true e = unknown
+unless false e = e
+
+-- rounds, where nothing is in doubt
+abbrev pub rounds_unless : Bool → Rounds → Rounds
+rounds_unless true r = unknown_rounds
+rounds_unless false r = r
+
+-- a statement, or else another, where something is in doubt
+abbrev pub either : Bool → Form → Form → Form
+either true f g = g
+either false f g = f
+
+-- a statement that is left out where something is in doubt
+abbrev pub left_out : Bool → Form → List Form
+left_out true f = []
+left_out false f = f ∷ []
+
+-- a point by the direction of its feature: it isn't tried where a name is spelled in two ways
+abbrev pub settled_point : List (List ℕ) → Coordinates → Form
+settled_point [] p = form.Touch p None
+settled_point (name ∷ names) p = gained events.UntriedPoint
+
+-- what becomes of a statement
+abbrev pub settled_form : Doubts → List Known → Form → List Form
+settled_form d ms (form.Assignment t value) = form.Assignment t (unless (is_unfollowed d t.name) value) ∷ []
+settled_form d ms (form.Query t side l word) =
+    either (is_unfollowed d t.name || is_among d.spelled l) (form.Query t side l word) (form.Assignment t unknown) ∷ []
+settled_form d ms (form.Test c) = form.Test (unless d.splits c) ∷ []
+settled_form d ms (form.Choose c) = form.Choose (unless d.splits c) ∷ []
+settled_form d ms (form.Repeat r) = form.Repeat (rounds_unless (d.splits || is_unfollowed d r.variable.name) r) ∷ []
+settled_form d ms (form.Restore l) = either (is_among d.spelled l) (form.Restore l) (lost events.Frame) ∷ []
+settled_form d ms (form.Report side l) = left_out (is_among d.spelled l) (form.Report side l)
+settled_form d ms (form.Touch p None) = settled_point d.spelled p ∷ []
+settled_form d ms (form.Leap name) = either (not (is_among d.labels name) || is_among d.spelled name) (form.Leap name) (gained events.Ends) ∷ []
+settled_form d ms (form.Call name args) = either (is_doubtful_call d ms name args) (form.Call name args) (lost events.All) ∷ []
+settled_form d ms f = f ∷ []
+
+-- what becomes of statements, one behind the other
+abbrev pub settled_from : Doubts → Macros → List Statement → List Statement
+settled_from d ms [] = []
+settled_from d ms (s ∷ ss) =
+    map (λ f. record { line = s.line; form = f }) (settled_form d ms.above s.form) ++ settled_from d (macros_behind ms s.form) ss
+
+-- what becomes of the statements that the lines of a text say
+abbrev pub settled : List ℕ → List Logical → List Statement → List Statement
+settled text ls ss = settled_from (doubts_of text ls ss) no_macros ss

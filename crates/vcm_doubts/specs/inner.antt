@@ -1,0 +1,3 @@
+-- Definitions that private contracts name.
+pub mod Readers
+pub mod Instead

@@ -1,0 +1,16 @@
+//! What of a producer's text is read in two ways: names that differ in case alone, arguments that are handed over by name or by value, variables that macros share,
+//! words that may split a block, calls and jumps to what stands nowhere. Statements that hang on it are put as something that isn't known.
+#![tactic(auto)]
+
+mod doubts;
+mod macros;
+mod names;
+mod respelled;
+mod settling;
+mod spellings;
+mod splitting;
+
+pub use settling::settle;
+
+#[cfg(test)]
+mod tests;

@@ -1,0 +1,150 @@
+-- What a command line says of a text, as statements of it.
+use Rattle.std.specs.Prelude.{ℕ, ℤ, ◌&&◌, ◌||◌, not, nat_eq, codes, Bool, true, false, if◌then◌else◌, List, [], ◌∷◌, ◌++◌, map, take, drop, Option, Some, None}
+use Rattle.std.specs.List.{list_any, flat_map}
+use Rattle.std.specs.Str.{bytes_eq}
+use Rattle.vcm_lines.specs.declared.logical.Logical.{Logical}
+use Rattle.vcm_lines.specs.Lexemes.{Lexeme}
+use Rattle.vcm_spec.specs.declared.words.FrameAxis.{FrameAxis}
+use Rattle.vcm_spec.specs.declared.words.FrameAxis.TheVariants as axes
+use Rattle.vcm_spec.specs.declared.words.Quarters.{Quarters}
+use Rattle.vcm_spec.specs.declared.words.Setting.{Setting}
+use Rattle.vcm_spec.specs.declared.words.Setting.TheVariants as settings
+use Rattle.vcm_expr.specs.Source.{Source}
+use Rattle.vcm_forms.specs.declared.statement.Offset.{Offset}
+use Rattle.vcm_forms.specs.declared.statement.Form.{Form}
+use Rattle.vcm_forms.specs.declared.statement.Form.TheVariants as form
+use Rattle.vcm_forms.specs.declared.statement.Statement.{Statement}
+use Rattle.vcm_forms.specs.Statements.{as_read}
+use Rattle.vcm_events.specs.declared.event.Event.TheVariants as events
+use Rattle.vcm_events.specs.Events.{event_name, gained}
+use Rattle.vcm_heads.specs.declared.rows.Row.{Row}
+use Rattle.vcm_heads.specs.declared.rows.Row.TheVariants.{Text, Values}
+use Rattle.vcm_heads.specs.declared.heads.Mark.TheVariants as marks
+use Rattle.vcm_heads.specs.Steps.{◌>>=◌}
+use Rattle.vcm_heads.specs.Heads.{past, past_word, label_at, assigned_at, behind_of, major_of, first_field, word_in}
+use Rattle.vcm_heads.specs.Rows.{row_in, words_of, own_behind}
+use Rattle.vcm_given.specs.declared.choices.GivenFrame.{GivenFrame}
+use Rattle.vcm_given.specs.declared.choices.Answer.{Answer}
+use Rattle.vcm_given.specs.declared.choices.Choices.{Choices}
+use Rattle.vcm_given.specs.declared.answers.Asked.{Asked}
+use Rattle.vcm_given.specs.Values.{given_value, length_of}
+
+-- choices that leave everything as the text says it
+abbrev pub no_choices : Choices
+no_choices = record { approach = None; retract = None; search = None; frames = []; answers = []; is_auto = false }
+
+-- ---- frames
+
+-- a shift along an axis
+abbrev pub offset : FrameAxis → ℤ → Offset
+offset axis n = record { axis = axis; length = length_of n }
+
+-- the turn of a frame, under its name
+abbrev pub turned : List ℕ → Option (FrameAxis × Quarters) → List Form
+turned name None = []
+turned name (Some t) = form.Rotation name t.0 t.1 ∷ []
+
+-- a frame that is given: the machine's, shifted and turned
+abbrev pub placed : GivenFrame → List Form
+placed f =
+    gained events.Machine ∷ form.Shift f.name (offset axes.X f.x ∷ offset axes.Y f.y ∷ offset axes.Z f.z ∷ []) ∷ turned f.name f.turn
+
+-- the frame with this name, if it is given
+abbrev pub frame_named : List ℕ → List GivenFrame → Option GivenFrame
+frame_named name [] = None
+frame_named name (f ∷ fs) = if bytes_eq f.name name then Some f else frame_named name fs
+
+-- a frame that the text makes of something that isn't known: where it is given it is placed
+abbrev pub placed_or : List ℕ → Option GivenFrame → List Form
+placed_or name None = form.Shift name [] ∷ []
+placed_or name (Some f) = placed f
+
+-- ---- answers
+
+-- the variable of a question: the label behind QUERY
+abbrev pub queried : List Lexeme → Option (List ℕ × List Lexeme)
+queried ws = do
+  fields ← past marks.Slash ws
+  r ← past_word (codes "QUERY") fields
+  v ← past marks.Comma r
+  label_at v
+
+-- the variable that a statement with this row asks the operator for, no bytes where it asks for none
+abbrev pub asked : Row → List Lexeme → List ℕ
+asked Text ws = word_in (queried (behind_of ws))
+asked Values ws = if bytes_eq (major_of ws) (codes "PROMPT") then word_in (assigned_at ws) else []
+asked row ws = []
+
+-- the answer for a variable, if it is given
+abbrev pub answer_for : List ℕ → List Answer → Option Answer
+answer_for name [] = None
+answer_for name (a ∷ rest) = if bytes_eq a.variable name then Some a else answer_for name rest
+
+-- the answer on a line, if there is one
+abbrev pub asked_on : ℕ → Option Answer → List Asked
+asked_on line None = []
+asked_on line (Some a) = record { line = line; answer = a } ∷ []
+
+-- the answers to a text's questions, in order; the machine's own statements ask nothing
+abbrev pub asked_from : List Answer → Bool → List Logical → List Asked
+asked_from answers own [] = []
+asked_from answers own (l ∷ ls) =
+    (if own then [] else asked_on l.line (answer_for (asked (row_in (words_of l)) (words_of l)) answers)) ++ asked_from answers (own_behind own (words_of l)) ls
+
+-- the answer to the question on a line
+abbrev pub asked_at : ℕ → List Asked → Option Answer
+asked_at line [] = None
+asked_at line (q ∷ qs) = if nat_eq q.line line then Some q.answer else asked_at line qs
+
+-- the assignment of an answer behind a statement that sets this variable: that of the question itself, or behind PROMPT that of the last event of its line
+abbrev pub answered : List ℕ → Option Answer → List Form
+answered name None = []
+answered name (Some a) =
+    if bytes_eq name a.variable || bytes_eq name (event_name events.Features) then form.Assignment (as_read a.variable) (given_value a.value) ∷ [] else []
+
+-- ---- each statement
+
+-- an assignment, with the answer behind it; where MODE/AUTO takes no points of the machine's own, all points are the text's
+abbrev pub assigned : Bool → List ℕ → Form → List Form → List Form
+assigned auto name f answers =
+    if auto && bytes_eq name (event_name events.OwnPoints) then gained events.OwnPoints ∷ [] else f ∷ answers
+
+-- a frame that the text makes: of something that isn't known it is made as it is given
+abbrev pub shifted : List GivenFrame → List ℕ → List Offset → List Form
+shifted fs name [] = placed_or name (frame_named name fs)
+shifted fs name (o ∷ os) = form.Shift name (o ∷ os) ∷ []
+
+-- what a statement on a line is, with what is given
+abbrev pub chosen_form : Choices → List Asked → ℕ → Form → List Form
+chosen_form c qs line (form.Assignment t value) = assigned c.is_auto t.name (form.Assignment t value) (answered t.name (asked_at line qs))
+chosen_form c qs line (form.Shift name os) = shifted c.frames name os
+chosen_form c qs line f = f ∷ []
+
+-- a setting that is given
+abbrev pub setting : Setting → Option ℤ → List Form
+setting which None = []
+setting which (Some n) = form.Configure which (length_of n) ∷ []
+
+-- the machine's frame again, behind frames that are given
+abbrev pub machine_again : List GivenFrame → List Form
+machine_again [] = []
+machine_again (f ∷ fs) = gained events.Machine ∷ []
+
+-- what is said before the first statement: the settings, and where the frames lie
+abbrev pub chosen_first : Choices → List Form
+chosen_first c =
+    setting settings.Approach c.approach ++ (setting settings.Retract c.retract ++ (setting settings.Search c.search
+    ++ (flat_map placed c.frames ++ machine_again c.frames)))
+
+-- forms as statements of a line
+abbrev pub on_line : ℕ → List Form → List Statement
+on_line line fs = map (λ f. record { line = line; form = f }) fs
+
+-- a statement, with what is given
+abbrev pub chosen_statement : Choices → List Asked → Statement → List Statement
+chosen_statement c qs s = on_line s.line (chosen_form c qs s.line s.form)
+
+-- the statements that the lines of a text say, of which the first two open it, with what is given
+abbrev pub chosen : Choices → List Logical → List Statement → List Statement
+chosen c ls ss =
+    take 2 ss ++ (on_line 1 (chosen_first c) ++ flat_map (chosen_statement c (asked_from c.answers false ls)) (drop 2 ss))

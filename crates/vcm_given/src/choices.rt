@@ -1,0 +1,68 @@
+//! What a command line says of the machine and of the course of a run.
+
+ghost use Rattle.std.specs.Prelude.{◌≡◌};
+ghost use Rattle.vcm_given.specs.Chosen.{no_choices};
+
+use std::alloc::Global;
+use vcm_items::{Name, VariableName};
+use vcm_num::Items;
+use vcm_spec::{FrameAxis, Quarters};
+
+/// A value that is given.
+#[derive(Clone, Copy)]
+pub enum Value {
+    /// A whole number.
+    Int(i32),
+    /// A number with digits behind its point, in thousandths.
+    Real(i32),
+    /// A truth value.
+    Truth(bool),
+}
+
+/// Where a frame lies: the machine coordinates of its origin, in micrometres, and how it is turned about an axis of the machine.
+#[derive(Drop)]
+pub struct GivenFrame {
+    pub name: Name,
+    pub x: i32,
+    pub y: i32,
+    pub z: i32,
+    pub turn: Option<(FrameAxis, Quarters)>,
+}
+
+/// What the operator answers wherever the text asks for a variable.
+#[derive(Drop)]
+pub struct Answer {
+    pub variable: VariableName,
+    pub value: Value,
+}
+
+/// What a command line says. Lengths are in micrometres.
+#[derive(Drop)]
+pub struct Choices {
+    /// The approach, the way back and the search, where the text says nothing of them.
+    pub approach: Option<i32>,
+    pub retract: Option<i32>,
+    pub search: Option<i32>,
+    /// Frames that the text doesn't make of its own.
+    pub frames: Items<GivenFrame>,
+    /// Answers.
+    pub answers: Items<Answer>,
+    /// Whether MODE/AUTO is a programmed mode, in which the machine takes no points of its own.
+    pub is_auto: bool,
+}
+
+impl Choices {
+    /// Choices that leave everything as the text says it.
+    pub fn none(alloc: Global) -> Choices
+        ensures { result ≡ no_choices }
+    {
+        Choices {
+            approach: None,
+            retract: None,
+            search: None,
+            frames: Items::new(alloc),
+            answers: Items::new(alloc),
+            is_auto: false,
+        }
+    }
+}

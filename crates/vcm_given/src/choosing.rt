@@ -1,0 +1,208 @@
+//! The statements of a text, with what is given.
+
+ghost use Rattle.std.specs.Prelude.{◌≡◌, ◌++◌, ◌∷◌, [], take, drop, List, IfOk, OnOk};
+ghost use Rattle.std.specs.List.{flat_map};
+ghost use Rattle.std.specs.Option.{option_copied};
+ghost use Rattle.std.specs.Vec.Iter.{into_iter_items};
+ghost use Rattle.vcm_forms.specs.declared.statement.Form.TheVariants as form;
+ghost use Rattle.vcm_forms.specs.Statements.{as_read};
+ghost use Rattle.vcm_given.specs.Values.{given_value};
+ghost use Rattle.vcm_given.specs.Chosen.{setting, chosen_first, assigned, answered, shifted, chosen_statement, chosen, on_line};
+
+use crate::answers::{Asked, ask_all, asked_at, assignment_of, stands_behind};
+use crate::choices::{Answer, Choices};
+use crate::frames::{frame_named, place, place_all};
+use crate::statements::add;
+use crate::values::thousandths;
+use std::alloc::Global;
+use std::vec::IntoIter;
+use vcm_events::{Event, gained};
+use vcm_expr::Expr;
+use vcm_forms::{Form, Offset, Statement, Target};
+use vcm_items::Name;
+use vcm_lines::Logical;
+use vcm_num::{Items, NoMemory, is};
+use vcm_spec::Setting;
+
+// A setting that is given.
+fn set(
+    alloc: Global,
+    out: &mut Vec<Statement>,
+    which: Setting,
+    length: Option<i32>,
+) -> Result<(), NoMemory>
+    ensures { OnOk result (out.new.items ≡ out.old.items ++ on_line 1 (setting which length)) }
+{
+    match length {
+        Some(length) => {
+            let length = thousandths(alloc, length)?;
+            add(out, 1, Form::Configure(which, length))
+        }
+        None => Ok(()),
+    }
+}
+
+// What is said before the first statement: the settings, and where the frames lie.
+fn put_first(alloc: Global, out: &mut Vec<Statement>, choices: &Choices) -> Result<(), NoMemory>
+    ensures { OnOk result (out.new.items ≡ out.old.items ++ on_line 1 (chosen_first choices.now)) }
+{
+    set(alloc, out, Setting::Approach, choices.approach)?;
+    set(alloc, out, Setting::Retract, choices.retract)?;
+    set(alloc, out, Setting::Search, choices.search)?;
+    place_all(alloc, out, 1, choices.frames.as_slice())
+}
+
+// An assignment, and the one of an answer.
+fn put_both(
+    alloc: Global,
+    out: &mut Vec<Statement>,
+    line: u32,
+    first: Form,
+    answer: &Answer,
+) -> Result<(), NoMemory>
+    ensures { OnOk result (out.new.items ≡ out.old.items ++ on_line line (first ∷ form.Assignment (as_read answer.now.variable) (given_value answer.now.value) ∷ [])) }
+{
+    add(out, line, first)?;
+    let second = assignment_of(alloc, answer)?;
+    add(out, line, second)
+}
+
+// An assignment, with the answer behind it.
+fn put_answered(
+    alloc: Global,
+    out: &mut Vec<Statement>,
+    line: u32,
+    target: Target,
+    value: Expr,
+    answer: Option<&Answer>,
+) -> Result<(), NoMemory>
+    ensures { OnOk result (out.new.items ≡ out.old.items ++ on_line line (form.Assignment target value ∷ answered target.name (option_copied answer.entry))) }
+{
+    match answer {
+        Some(answer) => {
+            if stands_behind(&target.name, answer) {
+                put_both(alloc, out, line, Form::Assignment(target, value), answer)
+            } else {
+                add(out, line, Form::Assignment(target, value))
+            }
+        }
+        None => add(out, line, Form::Assignment(target, value)),
+    }
+}
+
+// An assignment, with the answer behind it; where MODE/AUTO takes no points of the machine's own, all points are the text's.
+fn put_assignment(
+    alloc: Global,
+    out: &mut Vec<Statement>,
+    line: u32,
+    is_auto: bool,
+    target: Target,
+    value: Expr,
+    answer: Option<&Answer>,
+) -> Result<(), NoMemory>
+    ensures { OnOk result (out.new.items ≡ out.old.items ++ on_line line (assigned is_auto target.name (form.Assignment target value) (answered target.name (option_copied answer.entry)))) }
+{
+    if is_auto && is(target.name.as_bytes(), Event::OwnPoints.name()) {
+        add(out, line, gained(Event::OwnPoints))
+    } else {
+        put_answered(alloc, out, line, target, value, answer)
+    }
+}
+
+// A frame that the text makes; of something that isn't known it is made as it is given.
+fn put_shift(
+    alloc: Global,
+    out: &mut Vec<Statement>,
+    line: u32,
+    choices: &Choices,
+    name: Name,
+    offsets: Items<Offset>,
+) -> Result<(), NoMemory>
+    ensures { OnOk result (out.new.items ≡ out.old.items ++ on_line line (shifted choices.now.frames name offsets)) }
+{
+    if offsets.is_empty() {
+        if let Some(frame) = frame_named(&name, choices.frames.as_slice()) {
+            return place(alloc, out, line, frame);
+        }
+    }
+    add(out, line, Form::Shift(name, offsets))
+}
+
+// A statement, with what is given.
+fn put(
+    alloc: Global,
+    out: &mut Vec<Statement>,
+    choices: &Choices,
+    asked: &[Asked],
+    statement: Statement,
+) -> Result<(), NoMemory>
+    ensures { OnOk result (out.new.items ≡ out.old.items ++ chosen_statement choices.now asked.now statement) }
+{
+    let line = statement.line;
+    match statement.form {
+        Form::Assignment(target, value) => {
+            let answer = asked_at(line, asked);
+            put_assignment(alloc, out, line, choices.is_auto, target, value, answer)
+        }
+        Form::Shift(name, offsets) => put_shift(alloc, out, line, choices, name, offsets),
+        form => add(out, line, form),
+    }
+}
+
+// Statements, one behind the other, with what is given.
+fn put_all(
+    alloc: Global,
+    out: &mut Vec<Statement>,
+    choices: &Choices,
+    asked: &[Asked],
+    said: IntoIter<Statement>,
+) -> Result<(), NoMemory>
+    ensures { OnOk result (out.new.items ≡ out.old.items ++ flat_map (chosen_statement choices.now asked.now) (into_iter_items said)) }
+{
+    for statement in said {
+        put(alloc, out, choices, asked, statement)?;
+    }
+    Ok(())
+}
+
+// The next statement, if there is one.
+fn put_next(out: &mut Vec<Statement>, said: &mut IntoIter<Statement>) -> Result<(), NoMemory>
+    ensures put { OnOk result (out.new.items ≡ out.old.items ++ take 1 (into_iter_items said.old)) }
+    ensures left { OnOk result (into_iter_items said.new ≡ drop 1 (into_iter_items said.old)) }
+{
+    if let Some(statement) = said.next() {
+        out.push(statement)?;
+    }
+    Ok(())
+}
+
+// The first two statements, which open a text.
+fn put_opening(out: &mut Vec<Statement>, said: &mut IntoIter<Statement>) -> Result<(), NoMemory>
+    ensures put { OnOk result (out.new.items ≡ out.old.items ++ take 2 (into_iter_items said.old)) }
+    ensures left { OnOk result (into_iter_items said.new ≡ drop 2 (into_iter_items said.old)) }
+{
+    put_next(out, said)?;
+    put_next(out, said)
+}
+
+/// The statements that the lines of a text say, of which the first two open it, with what is given on the command line.
+///
+/// # Errors
+///
+/// Out of memory.
+pub fn choose(
+    alloc: Global,
+    choices: &Choices,
+    lines: &[Logical],
+    said: Vec<Statement>,
+) -> Result<Vec<Statement>, NoMemory>
+    ensures { IfOk result (λ ss. ss.items ≡ chosen choices.now lines.now said.items) }
+{
+    let asked = ask_all(alloc, choices.answers.as_slice(), lines)?;
+    let mut out = Vec::new(alloc);
+    let mut said = said.into_iter();
+    put_opening(&mut out, &mut said)?;
+    put_first(alloc, &mut out, choices)?;
+    put_all(alloc, &mut out, choices, &asked, said)?;
+    Ok(out)
+}

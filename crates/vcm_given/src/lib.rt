@@ -1,0 +1,17 @@
+//! What a command line says of a producer's text, as statements of it: settings that the text is silent of, frames that lie elsewhere, answers to its questions.
+#![tactic(auto)]
+
+mod answers;
+mod choices;
+mod choosing;
+mod frames;
+mod statements;
+mod unused;
+mod values;
+
+pub use choices::{Answer, Choices, GivenFrame, Value};
+pub use choosing::choose;
+pub use unused::first_unused;
+
+#[cfg(test)]
+mod tests;

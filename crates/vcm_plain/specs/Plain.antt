@@ -1,0 +1,240 @@
+-- A text with its lengths as whole micrometres.
+use Rattle.std.specs.Prelude.{ℕ, suc, codes, ◌==◌, Bool, true, false, not, ◌&&◌, ◌||◌, nat_lt, if◌then◌else◌, List, [], ◌∷◌, ◌++◌, map, Option, Some, None}
+use Rattle.std.specs.List.{list_any, list_all, filter}
+use Rattle.std.specs.Str.{bytes_eq}
+use Rattle.vcm_num.specs.Words.{look_up}
+use Rattle.vcm_lines.specs.Bytes.{upper}
+use Rattle.vcm_heads.specs.Heads.{found_or}
+use Rattle.vcm_plain.specs.declared.unit.Unit.{Unit}
+use Rattle.vcm_plain.specs.declared.unit.Unit.TheVariants.{Millimetre}
+use Rattle.vcm_plain.specs.declared.lone.Lone.{Lone}
+use Rattle.vcm_plain.specs.declared.plain.Mode.{Mode}
+use Rattle.vcm_plain.specs.declared.plain.Mode.TheVariants as mode
+use Rattle.vcm_plain.specs.declared.plain.Kind.{Kind}
+use Rattle.vcm_plain.specs.declared.plain.Kind.TheVariants as kind
+use Rattle.vcm_plain.specs.declared.plain.Place.{Place}
+use Rattle.vcm_plain.specs.Numbers.{unread, lone_from, is_lone, is_space, rounded, written_or}
+use Rattle.vcm_plain.specs.Units.{micrometres, is_same_unit}
+
+-- ---- where the reading of a text stands
+
+-- what is read: the place, the bytes that are open (of the head, or of a field), and those that are written
+pub record Reading : Type 0 where
+  pub place : Place
+  pub field : List ℕ
+  pub out : List ℕ
+
+-- a statement begins
+abbrev pub start : Place
+start = record { mode = mode.Head; kind = kind.Other; first = true; numbers = 0; broken = false }
+
+-- ---- heads
+
+-- the word that bytes are: without blanks, in upper case
+abbrev pub word_of : List ℕ → List ℕ
+word_of bs = map upper (filter (λ b. not (is_space b)) bs)
+
+-- what a statement's numbers are, by its major word
+abbrev pub kind_of : List ℕ → Kind
+kind_of word = found_or kind.Other (look_up
+    ((codes "GOTO", kind.Places)
+    ∷ (codes "PTMEAS", kind.Places)
+    ∷ (codes "FEAT", kind.Places)
+    ∷ (codes "GOTARG", kind.Places)
+    ∷ (codes "FROM", kind.Places)
+    ∷ (codes "TRANS", kind.Lengths)
+    ∷ (codes "SNSET", kind.Lengths)
+    ∷ (codes "UNITS", kind.Units)
+    ∷ []) word)
+
+-- whether a text's lengths are micrometres as they are, rounded at most
+abbrev pub is_plain_unit : Unit → Bool
+is_plain_unit u = is_same_unit u Millimetre
+
+-- a major word: in another unit than the language's the values of features aren't its own, so OBTAIN gives none
+abbrev pub head_out : Unit → List ℕ → List ℕ
+head_out u bs = if not (is_plain_unit u) && bytes_eq (word_of bs) (codes "OBTAIN") then codes "ASSIGN" else bs
+
+-- ---- fields
+
+-- whether a word says of what kind a place or a shift is
+abbrev pub is_kind_word : List ℕ → Bool
+is_kind_word word = found_or false (look_up
+    ((codes "CART", true)
+    ∷ (codes "POL", true)
+    ∷ (codes "INCR", true)
+    ∷ (codes "POINT", true)
+    ∷ (codes "XORIG", true)
+    ∷ (codes "YORIG", true)
+    ∷ (codes "ZORIG", true)
+    ∷ []) word)
+
+-- whether a word says which setting it is
+abbrev pub is_setting_word : List ℕ → Bool
+is_setting_word word = found_or false (look_up
+    ((codes "APPRCH", true)
+    ∷ (codes "RETRCT", true)
+    ∷ (codes "SEARCH", true)
+    ∷ (codes "DEPTH", true)
+    ∷ (codes "CLRSRF", true)
+    ∷ (codes "OFF", true)
+    ∷ []) word)
+
+-- whether a word is one of fields that are no lengths
+abbrev pub is_kept : List ℕ → Bool
+is_kept word = is_kind_word word || is_setting_word word
+
+-- whether a field is such a word
+abbrev pub is_kept_word : List ℕ → Bool
+is_kept_word bs = is_kept (word_of bs)
+
+-- a field that is no number: in another unit than the language's it is put as something that isn't known
+abbrev pub other_field : Unit → List ℕ → List ℕ
+other_field u bs = if is_plain_unit u || is_kept_word bs then bs else 42 ∷ bs
+
+-- how many micrometres one of a statement's numbers has, behind so many of them: the first three of a place are lengths, those behind are a direction
+abbrev pub unit_at : Kind → ℕ → Unit → ℕ
+unit_at kind.Places n u = if nat_lt n 3 then micrometres u else 1000
+unit_at k n u = micrometres u
+
+-- a field that is a number: in the language's unit it stays where it has three decimals at most
+abbrev pub number_field : Unit → Kind → ℕ → List ℕ → Lone → List ℕ
+number_field u k n bs l = if is_plain_unit u && not l.fine then bs else written_or bs l.negative (rounded (unit_at k n u) l)
+
+-- a field of lengths
+abbrev pub length_field : Unit → Kind → ℕ → List ℕ → Lone → List ℕ
+length_field u k n bs l = if is_lone l then number_field u k n bs l else other_field u bs
+
+-- the first field of UNITS: the unit is the language's
+abbrev pub units_field : Bool → Unit → List ℕ → List ℕ
+units_field first u bs = if first && not (is_plain_unit u) then codes "MM" else bs
+
+-- a field of a statement of some kind
+abbrev pub field_by : Kind → Place → Unit → List ℕ → List ℕ
+field_by kind.Other p u bs = bs
+field_by kind.Units p u bs = units_field p.first u bs
+field_by k p u bs = if p.broken then other_field u bs else length_field u k p.numbers bs (lone_from unread bs)
+
+-- the field that is open, as it is written
+abbrev pub field_out : Unit → Place → List ℕ → List ℕ
+field_out u p bs = field_by p.kind p u bs
+
+-- one more number, of which the first three count
+abbrev pub counted : Bool → ℕ → ℕ
+counted true n = if nat_lt n 3 then suc n else n
+counted false n = n
+
+-- the next field
+abbrev pub next_field : Place → List ℕ → Place
+next_field p bs = record p { first = false; numbers = counted (is_lone (lone_from unread bs)) p.numbers; broken = false }
+
+-- whether a field has nothing but blanks
+abbrev pub is_blank_field : List ℕ → Bool
+is_blank_field bs = list_all is_space bs
+
+-- ---- each byte
+
+-- the reading goes on with an open field, and nothing written
+abbrev pub onto : Reading → Mode → ℕ → Reading
+onto r m b = record { place = record r.place { mode = m }; field = r.field ++ b ∷ []; out = r.out }
+
+-- the reading goes on with these bytes written, and no open field
+abbrev pub wrote : Reading → Place → List ℕ → Reading
+wrote r p bs = record { place = p; field = []; out = r.out ++ bs }
+
+-- in a head
+abbrev pub head_behind : Unit → Reading → ℕ → Reading
+head_behind u r b =
+    if b == 47 then wrote r (record start { mode = mode.Fields; kind = kind_of (word_of r.field) }) (head_out u r.field ++ 47 ∷ [])
+    else if b == 36 then record r { place = record r.place { mode = mode.HeadDollar } }
+    else if b == 39 then wrote r (record r.place { mode = mode.HeadText }) (r.field ++ 39 ∷ [])
+    else if b == 10 then wrote r start (r.field ++ 10 ∷ [])
+    else if b == 61 || (b == 40 || (b == 41 || b == 44)) then wrote r r.place (r.field ++ b ∷ [])
+    else onto r mode.Head b
+
+-- behind a dollar, in a head
+abbrev pub head_dollar_behind : Reading → ℕ → Reading
+head_dollar_behind r b =
+    if b == 36 then wrote r (record r.place { mode = mode.Comment }) (r.field ++ 36 ∷ 36 ∷ [])
+    else if b == 10 then wrote r (record r.place { mode = mode.Head }) (r.field ++ 36 ∷ 10 ∷ [])
+    else wrote r (record r.place { mode = mode.HeadBroken }) (r.field ++ 36 ∷ b ∷ [])
+
+-- in fields
+abbrev pub fields_behind : Unit → Reading → ℕ → Reading
+fields_behind u r b =
+    if b == 44 then wrote r (next_field r.place r.field) (field_out u r.place r.field ++ 44 ∷ [])
+    else if b == 10 then wrote r start (field_out u r.place r.field ++ 10 ∷ [])
+    else if b == 36 then record r { place = record r.place { mode = mode.FieldsDollar } }
+    else if b == 39 then onto r mode.FieldText b
+    else onto r mode.Fields b
+
+-- a field that goes on in the line below
+abbrev pub broken_place : Reading → Mode → Place
+broken_place r m = record r.place { mode = m; broken = r.place.broken || not (is_blank_field r.field) }
+
+-- and as it is written: as a field that is no number
+abbrev pub broken_out : Unit → Reading → List ℕ
+broken_out u r = if is_blank_field r.field then r.field else field_by r.place.kind (record r.place { broken = true }) u r.field
+
+-- behind a dollar, in fields
+abbrev pub fields_dollar_behind : Unit → Reading → ℕ → Reading
+fields_dollar_behind u r b =
+    if b == 36 then wrote r (record r.place { mode = mode.Comment }) (field_out u r.place r.field ++ 36 ∷ 36 ∷ [])
+    else if b == 10 then wrote r (broken_place r mode.Fields) (broken_out u r ++ 36 ∷ 10 ∷ [])
+    else wrote r (broken_place r mode.FieldsBroken) (broken_out u r ++ 36 ∷ b ∷ [])
+
+-- in a text of a head, in a comment, and between a dollar and the end of its line
+abbrev pub text_behind : Reading → ℕ → Reading
+text_behind r b =
+    if b == 39 then wrote r (record r.place { mode = mode.Head }) (39 ∷ [])
+    else if b == 10 then wrote r start (10 ∷ [])
+    else wrote r r.place (b ∷ [])
+
+abbrev pub comment_behind : Reading → ℕ → Reading
+comment_behind r b = if b == 10 then wrote r start (10 ∷ []) else wrote r r.place (b ∷ [])
+
+abbrev pub broken_behind : Mode → Reading → ℕ → Reading
+broken_behind m r b = if b == 10 then wrote r (record r.place { mode = m }) (10 ∷ []) else wrote r r.place (b ∷ [])
+
+-- in a text of a field
+abbrev pub field_text_behind : Reading → ℕ → Reading
+field_text_behind r b =
+    if b == 39 then onto r mode.Fields b
+    else if b == 10 then wrote r start (r.field ++ 10 ∷ [])
+    else onto r mode.FieldText b
+
+-- one more byte
+abbrev pub read_behind : Unit → Mode → Reading → ℕ → Reading
+read_behind u mode.Head r b = head_behind u r b
+read_behind u mode.HeadDollar r b = head_dollar_behind r b
+read_behind u mode.HeadText r b = text_behind r b
+read_behind u mode.HeadBroken r b = broken_behind mode.Head r b
+read_behind u mode.Fields r b = fields_behind u r b
+read_behind u mode.FieldsDollar r b = fields_dollar_behind u r b
+read_behind u mode.FieldText r b = field_text_behind r b
+read_behind u mode.FieldsBroken r b = broken_behind mode.Fields r b
+read_behind u mode.Comment r b = comment_behind r b
+
+-- all bytes
+abbrev pub read_from : Unit → Reading → List ℕ → Reading
+read_from u r [] = r
+read_from u r (b ∷ bs) = read_from u (read_behind u r.place.mode r b) bs
+
+-- nothing is read
+abbrev pub nothing_read : Reading
+nothing_read = record { place = start; field = []; out = [] }
+
+-- what is open at the end, as it is written
+abbrev pub last_out : Unit → Mode → Place → List ℕ → List ℕ
+last_out u mode.Fields p bs = field_out u p bs
+last_out u mode.HeadDollar p bs = bs ++ 36 ∷ []
+last_out u mode.FieldsDollar p bs = bs ++ 36 ∷ []
+last_out u m p bs = bs
+
+-- all that is written
+abbrev pub written_out : Unit → Reading → List ℕ
+written_out u r = r.out ++ last_out u r.place.mode r.place r.field
+
+-- a text of this unit with its lengths as whole micrometres
+abbrev pub plain : Unit → List ℕ → List ℕ
+plain u text = written_out u (read_from u nothing_read text)

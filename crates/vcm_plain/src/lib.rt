@@ -1,0 +1,9 @@
+//! A producer's text with its lengths as whole micrometres: numbers with more digits are rounded, those of a text in another unit are converted.
+#![tactic(auto)]
+
+mod lone;
+mod plain;
+mod unit;
+
+pub use plain::{Kind, Mode, Place, plain_text};
+pub use unit::{Unit, single_unit};

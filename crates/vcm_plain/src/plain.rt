@@ -1,0 +1,574 @@
+//! A text with its lengths as whole micrometres.
+
+ghost use Rattle.std.specs.Prelude.{◌≡◌, ◌++◌, ◌∷◌, [], ◌≤◌, ◌<◌, ℕ, List, true, OnOk, IfOk, drop};
+ghost use Rattle.vcm_plain.specs.Numbers.{unread, lone_from, is_lone, is_space};
+ghost use Rattle.vcm_plain.specs.Plain.{Reading, start, word_of, kind_of, is_plain_unit, head_out, is_kind_word, is_setting_word, is_kept, is_kept_word, other_field, unit_at, number_field, length_field, units_field, field_by, field_out, counted, next_field, is_blank_field, onto, wrote, head_behind, head_dollar_behind, fields_behind, broken_place, broken_out, fields_dollar_behind, text_behind, comment_behind, broken_behind, field_text_behind, read_behind, read_from, nothing_read, last_out, written_out, plain};
+
+use crate::lone::{Lone, is_lone, lone_of, put_lone};
+use crate::unit::Unit;
+use std::alloc::Global;
+use std::marker::Model;
+use vcm_num::{NoMemory, is, look_up};
+
+/// Where the reading of a text stands.
+#[derive(Clone, Copy)]
+pub enum Mode {
+    /// Before the slash of a statement.
+    Head,
+    /// Behind a dollar there.
+    HeadDollar,
+    /// In a quoted text there.
+    HeadText,
+    /// Behind a dollar that ends a line.
+    HeadBroken,
+    /// Behind the slash.
+    Fields,
+    /// Behind a dollar there.
+    FieldsDollar,
+    /// In a quoted text there.
+    FieldText,
+    /// Behind a dollar that ends a line.
+    FieldsBroken,
+    /// In a comment.
+    Comment,
+}
+
+/// What the numbers of a statement are.
+#[derive(Clone, Copy)]
+pub enum Kind {
+    /// No lengths.
+    Other,
+    /// It is UNITS.
+    Units,
+    /// A place, and a direction behind it.
+    Places,
+    /// Lengths, all of them.
+    Lengths,
+}
+
+/// Where a byte of a text stands.
+#[derive(Clone, Copy)]
+pub struct Place {
+    pub mode: Mode,
+    pub kind: Kind,
+    /// Whether no field of the statement ends above.
+    pub first: bool,
+    /// How many numbers stand in its fields above; the fourth isn't counted.
+    pub numbers: u8,
+    /// Whether the field begins in a line above.
+    pub broken: bool,
+}
+
+/// A text as it is read: the place, the bytes that are open, and those that are written.
+#[derive(Drop)]
+struct Reader {
+    place: Place,
+    field: Vec<u8>,
+    out: Vec<u8>,
+}
+
+// A statement begins.
+fn start() -> Place
+    ensures { result ≡ start }
+{
+    Place {
+        mode: Mode::Head,
+        kind: Kind::Other,
+        first: true,
+        numbers: 0,
+        broken: false,
+    }
+}
+
+// Whether a byte stands for nothing.
+fn is_space(byte: u8) -> bool
+    ensures { result ≡ is_space byte }
+{
+    byte == b' ' || byte == b'\t' || byte == b'\r'
+}
+
+// The word that bytes are: without blanks, in upper case.
+fn word_of(alloc: Global, bytes: &[u8]) -> Result<Vec<u8>, NoMemory>
+    ensures { IfOk result (λ w. w.items ≡ word_of bytes.now) }
+{
+    let mut word = Vec::new(alloc);
+    for byte in bytes {
+        if !is_space(*byte) {
+            word.push(byte.to_ascii_uppercase())?;
+        }
+    }
+    Ok(word)
+}
+
+// What a statement's numbers are, by its major word.
+fn kind_of(word: &[u8]) -> Kind
+    ensures { result ≡ kind_of word.now }
+{
+    look_up(
+        &[
+            (b"GOTO", Kind::Places),
+            (b"PTMEAS", Kind::Places),
+            (b"FEAT", Kind::Places),
+            (b"GOTARG", Kind::Places),
+            (b"FROM", Kind::Places),
+            (b"TRANS", Kind::Lengths),
+            (b"SNSET", Kind::Lengths),
+            (b"UNITS", Kind::Units),
+        ],
+        word,
+    )
+    .unwrap_or(Kind::Other)
+}
+
+// Whether a text's lengths are micrometres as they are, rounded at most.
+fn is_plain_unit(unit: Unit) -> bool
+    ensures { result ≡ is_plain_unit unit }
+{
+    unit == Unit::Millimetre
+}
+
+// Appends a major word.
+fn put_head(unit: Unit, bytes: &[u8], word: &[u8], out: &mut Vec<u8>) -> Result<(), NoMemory>
+    requires { word.now ≡ word_of bytes.now }
+    ensures { OnOk result (out.new.items ≡ out.old.items ++ head_out unit bytes.now) }
+{
+    if !is_plain_unit(unit) && is(word, b"OBTAIN") {
+        out.extend_from_slice(b"ASSIGN")?;
+    } else {
+        out.extend_from_slice(bytes)?;
+    }
+    Ok(())
+}
+
+// Whether a word says of what kind a place or a shift is.
+fn is_kind_word(word: &[u8]) -> bool
+    ensures { result ≡ is_kind_word word.now }
+{
+    look_up(
+        &[
+            (b"CART", true),
+            (b"POL", true),
+            (b"INCR", true),
+            (b"POINT", true),
+            (b"XORIG", true),
+            (b"YORIG", true),
+            (b"ZORIG", true),
+        ],
+        word,
+    )
+    .unwrap_or(false)
+}
+
+// Whether a word says which setting it is.
+fn is_setting_word(word: &[u8]) -> bool
+    ensures { result ≡ is_setting_word word.now }
+{
+    look_up(
+        &[
+            (b"APPRCH", true),
+            (b"RETRCT", true),
+            (b"SEARCH", true),
+            (b"DEPTH", true),
+            (b"CLRSRF", true),
+            (b"OFF", true),
+        ],
+        word,
+    )
+    .unwrap_or(false)
+}
+
+// Whether a word is one of fields that are no lengths.
+fn is_kept(word: &[u8]) -> bool
+    ensures { result ≡ is_kept word.now }
+{
+    is_kind_word(word) || is_setting_word(word)
+}
+
+// Whether a field is such a word.
+fn is_kept_word(alloc: Global, bytes: &[u8]) -> Result<bool, NoMemory>
+    ensures { IfOk result (λ kept. kept ≡ is_kept_word bytes.now) }
+{
+    let word = word_of(alloc, bytes)?;
+    Ok(is_kept(&word))
+}
+
+// Appends a field that is no number.
+fn put_other(alloc: Global, unit: Unit, bytes: &[u8], out: &mut Vec<u8>) -> Result<(), NoMemory>
+    ensures { OnOk result (out.new.items ≡ out.old.items ++ other_field unit bytes.now) }
+{
+    if !is_plain_unit(unit) && !is_kept_word(alloc, bytes)? {
+        out.push(b'*')?;
+    }
+    out.extend_from_slice(bytes)?;
+    Ok(())
+}
+
+// How many micrometres one of a statement's numbers has, behind so many of them.
+fn unit_at(kind: Kind, numbers: u8, unit: Unit) -> u64
+    ensures is { result ≡ unit_at kind numbers unit }
+    ensures most { result ≤ 1000000 }
+{
+    match kind {
+        Kind::Places if numbers >= 3 => 1_000,
+        _ => unit.micrometres(),
+    }
+}
+
+// Appends a field that is a number.
+fn put_number(
+    unit: Unit,
+    kind: Kind,
+    numbers: u8,
+    bytes: &[u8],
+    lone: Lone,
+    out: &mut Vec<u8>,
+) -> Result<(), NoMemory>
+    requires { lone.value < 1000000000000 }
+    ensures { OnOk result (out.new.items ≡ out.old.items ++ number_field unit kind numbers bytes.now lone) }
+{
+    if is_plain_unit(unit) && !lone.fine {
+        out.extend_from_slice(bytes)?;
+        Ok(())
+    } else {
+        put_lone(bytes, unit_at(kind, numbers, unit), lone, out)
+    }
+}
+
+// Appends a field of lengths.
+fn put_lengths(
+    alloc: Global,
+    unit: Unit,
+    place: Place,
+    bytes: &[u8],
+    out: &mut Vec<u8>,
+) -> Result<(), NoMemory>
+    ensures { OnOk result (out.new.items ≡ out.old.items ++ length_field unit place.kind place.numbers bytes.now (lone_from unread bytes.now)) }
+{
+    let lone = lone_of(bytes);
+    if is_lone(lone) {
+        put_number(unit, place.kind, place.numbers, bytes, lone, out)
+    } else {
+        put_other(alloc, unit, bytes, out)
+    }
+}
+
+// Appends the first field of UNITS.
+fn put_units(unit: Unit, first: bool, bytes: &[u8], out: &mut Vec<u8>) -> Result<(), NoMemory>
+    ensures { OnOk result (out.new.items ≡ out.old.items ++ units_field first unit bytes.now) }
+{
+    if first && !is_plain_unit(unit) {
+        out.extend_from_slice(b"MM")?;
+    } else {
+        out.extend_from_slice(bytes)?;
+    }
+    Ok(())
+}
+
+// Appends a field that is open.
+fn put_field(
+    alloc: Global,
+    unit: Unit,
+    place: Place,
+    bytes: &[u8],
+    out: &mut Vec<u8>,
+) -> Result<(), NoMemory>
+    ensures { OnOk result (out.new.items ≡ out.old.items ++ field_out unit place bytes.now) }
+{
+    match place.kind {
+        Kind::Other => {
+            out.extend_from_slice(bytes)?;
+            Ok(())
+        }
+        Kind::Units => put_units(unit, place.first, bytes, out),
+        Kind::Places | Kind::Lengths => {
+            if place.broken {
+                put_other(alloc, unit, bytes, out)
+            } else {
+                put_lengths(alloc, unit, place, bytes, out)
+            }
+        }
+    }
+}
+
+// The next field.
+fn next_field(place: Place, bytes: &[u8]) -> Place
+    ensures { result ≡ next_field place bytes.now }
+{
+    let numbers = if is_lone(lone_of(bytes)) && place.numbers < 3 {
+        place.numbers + 1
+    } else {
+        place.numbers
+    };
+    Place {
+        first: false,
+        numbers,
+        broken: false,
+        ..place
+    }
+}
+
+// Whether a field has nothing but blanks.
+fn is_blank_field(bytes: &[u8]) -> bool
+    ensures { result ≡ is_blank_field bytes.now }
+{
+    bytes.iter().all(|byte| is_space(*byte))
+}
+
+impl Model for Reader {
+    ghost use Rattle.vcm_plain.specs.Plain.{Reading};
+
+    ghost Value = { Reading };
+
+    ghost view = { λ r. record { place = r.place; field = r.field.items; out = r.out.items } };
+}
+
+impl Reader {
+    ghost use Rattle.std.specs.Prelude.{◌≡◌, ◌++◌, ◌∷◌, [], OnOk};
+    ghost use Rattle.vcm_plain.specs.Plain.{start, word_of, kind_of, head_out, field_out, next_field, onto, wrote, head_behind, head_dollar_behind, fields_behind, broken_place, broken_out, fields_dollar_behind, text_behind, comment_behind, broken_behind, field_text_behind, read_behind, written_out};
+
+    // One more byte is open.
+    fn push(&mut self, mode: Mode, byte: u8) -> Result<(), NoMemory>
+        ensures { OnOk result (self.new ≡ onto self.old mode byte) }
+    {
+        self.place.mode = mode;
+        self.field.push(byte)?;
+        Ok(())
+    }
+
+    // These bytes are written.
+    fn write(&mut self, place: Place, bytes: &[u8]) -> Result<(), NoMemory>
+        ensures { OnOk result (self.new ≡ wrote self.old place bytes.now) }
+    {
+        self.place = place;
+        self.field.clear();
+        self.out.extend_from_slice(bytes)?;
+        Ok(())
+    }
+
+    // What is open is written as it is, and these bytes behind it.
+    fn write_open(&mut self, place: Place, bytes: &[u8]) -> Result<(), NoMemory>
+        ensures { OnOk result (self.new ≡ wrote self.old place (self.old.field ++ bytes.now)) }
+    {
+        self.out.extend_from_slice(&self.field)?;
+        self.write(place, bytes)
+    }
+
+    // The field that is open is written, and these bytes behind it.
+    fn write_field(
+        &mut self,
+        alloc: Global,
+        unit: Unit,
+        place: Place,
+        bytes: &[u8],
+    ) -> Result<(), NoMemory>
+        ensures { OnOk result (self.new ≡ wrote self.old place (field_out unit self.old.place self.old.field ++ bytes.now)) }
+    {
+        put_field(alloc, unit, self.place, &self.field, &mut self.out)?;
+        self.write(place, bytes)
+    }
+
+    // A field that goes on in the line below is written, and these bytes behind it.
+    fn write_broken(
+        &mut self,
+        alloc: Global,
+        unit: Unit,
+        mode: Mode,
+        bytes: &[u8],
+    ) -> Result<(), NoMemory>
+        ensures { OnOk result (self.new ≡ wrote self.old (broken_place self.old mode) (broken_out unit self.old ++ bytes.now)) }
+    {
+        let blank = is_blank_field(&self.field);
+        let place = self.place;
+        let broken = Place {
+            mode,
+            broken: place.broken || !blank,
+            ..place
+        };
+        if blank {
+            return self.write_open(broken, bytes);
+        }
+        let open = Place {
+            broken: true,
+            ..place
+        };
+        put_field(alloc, unit, open, &self.field, &mut self.out)?;
+        self.write(broken, bytes)
+    }
+
+    // The fields of a statement begin.
+    fn begin_fields(&mut self, alloc: Global, unit: Unit) -> Result<(), NoMemory>
+        ensures { OnOk result (self.new ≡ head_behind unit self.old 47) }
+    {
+        let word = word_of(alloc, &self.field)?;
+        put_head(unit, &self.field, &word, &mut self.out)?;
+        let place = Place {
+            mode: Mode::Fields,
+            kind: kind_of(&word),
+            ..start()
+        };
+        self.write(place, b"/")
+    }
+
+    // The reading goes on in this mode.
+    fn go_on(&mut self, mode: Mode)
+        ensures { self.new ≡ record self.old { place = record self.old.place { mode = mode } } }
+    {
+        self.place.mode = mode;
+    }
+
+    // The place, in another mode.
+    fn in_mode(&self, mode: Mode) -> Place
+        ensures { result ≡ record self.now.place { mode = mode } }
+    {
+        Place { mode, ..self.place }
+    }
+
+    // In a head.
+    fn read_head(&mut self, alloc: Global, unit: Unit, byte: u8) -> Result<(), NoMemory>
+        ensures { OnOk result (self.new ≡ head_behind unit self.old byte) }
+    {
+        match byte {
+            b'/' => self.begin_fields(alloc, unit),
+            b'$' => {
+                self.go_on(Mode::HeadDollar);
+                Ok(())
+            }
+            b'\'' => self.write_open(self.in_mode(Mode::HeadText), b"'"),
+            b'\n' => self.write_open(start(), b"\n"),
+            b'=' | b'(' | b')' | b',' => self.write_open(self.place, &[byte]),
+            _ => self.push(Mode::Head, byte),
+        }
+    }
+
+    // Behind a dollar, in a head.
+    fn read_head_dollar(&mut self, byte: u8) -> Result<(), NoMemory>
+        ensures { OnOk result (self.new ≡ head_dollar_behind self.old byte) }
+    {
+        match byte {
+            b'$' => self.write_open(self.in_mode(Mode::Comment), b"$$"),
+            b'\n' => self.write_open(self.in_mode(Mode::Head), b"$\n"),
+            _ => self.write_open(self.in_mode(Mode::HeadBroken), &[b'$', byte]),
+        }
+    }
+
+    // In fields.
+    fn read_fields(&mut self, alloc: Global, unit: Unit, byte: u8) -> Result<(), NoMemory>
+        ensures { OnOk result (self.new ≡ fields_behind unit self.old byte) }
+    {
+        match byte {
+            b',' => {
+                let place = next_field(self.place, &self.field);
+                self.write_field(alloc, unit, place, b",")
+            }
+            b'\n' => self.write_field(alloc, unit, start(), b"\n"),
+            b'$' => {
+                self.go_on(Mode::FieldsDollar);
+                Ok(())
+            }
+            b'\'' => self.push(Mode::FieldText, byte),
+            _ => self.push(Mode::Fields, byte),
+        }
+    }
+
+    // Behind a dollar, in fields.
+    fn read_fields_dollar(&mut self, alloc: Global, unit: Unit, byte: u8) -> Result<(), NoMemory>
+        ensures { OnOk result (self.new ≡ fields_dollar_behind unit self.old byte) }
+    {
+        match byte {
+            b'$' => self.write_field(alloc, unit, self.in_mode(Mode::Comment), b"$$"),
+            b'\n' => self.write_broken(alloc, unit, Mode::Fields, b"$\n"),
+            _ => self.write_broken(alloc, unit, Mode::FieldsBroken, &[b'$', byte]),
+        }
+    }
+
+    // In a text of a head.
+    fn read_text(&mut self, byte: u8) -> Result<(), NoMemory>
+        ensures { OnOk result (self.new ≡ text_behind self.old byte) }
+    {
+        match byte {
+            b'\'' => self.write(self.in_mode(Mode::Head), b"'"),
+            b'\n' => self.write(start(), b"\n"),
+            _ => self.write(self.place, &[byte]),
+        }
+    }
+
+    // In a comment.
+    fn read_comment(&mut self, byte: u8) -> Result<(), NoMemory>
+        ensures { OnOk result (self.new ≡ comment_behind self.old byte) }
+    {
+        match byte {
+            b'\n' => self.write(start(), b"\n"),
+            _ => self.write(self.place, &[byte]),
+        }
+    }
+
+    // Between a dollar and the end of its line.
+    fn read_broken(&mut self, mode: Mode, byte: u8) -> Result<(), NoMemory>
+        ensures { OnOk result (self.new ≡ broken_behind mode self.old byte) }
+    {
+        match byte {
+            b'\n' => self.write(self.in_mode(mode), b"\n"),
+            _ => self.write(self.place, &[byte]),
+        }
+    }
+
+    // In a text of a field.
+    fn read_field_text(&mut self, byte: u8) -> Result<(), NoMemory>
+        ensures { OnOk result (self.new ≡ field_text_behind self.old byte) }
+    {
+        match byte {
+            b'\'' => self.push(Mode::Fields, byte),
+            b'\n' => self.write_open(start(), b"\n"),
+            _ => self.push(Mode::FieldText, byte),
+        }
+    }
+
+    // One more byte.
+    fn read(&mut self, alloc: Global, unit: Unit, byte: u8) -> Result<(), NoMemory>
+        ensures { OnOk result (self.new ≡ read_behind unit self.old.place.mode self.old byte) }
+    {
+        match self.place.mode {
+            Mode::Head => self.read_head(alloc, unit, byte),
+            Mode::HeadDollar => self.read_head_dollar(byte),
+            Mode::HeadText => self.read_text(byte),
+            Mode::HeadBroken => self.read_broken(Mode::Head, byte),
+            Mode::Fields => self.read_fields(alloc, unit, byte),
+            Mode::FieldsDollar => self.read_fields_dollar(alloc, unit, byte),
+            Mode::FieldText => self.read_field_text(byte),
+            Mode::FieldsBroken => self.read_broken(Mode::Fields, byte),
+            Mode::Comment => self.read_comment(byte),
+        }
+    }
+
+    // What is open at the end is written.
+    fn end(&mut self, alloc: Global, unit: Unit) -> Result<(), NoMemory>
+        ensures { OnOk result (self.new.out ≡ written_out unit self.old) }
+    {
+        match self.place.mode {
+            Mode::Fields => self.write_field(alloc, unit, self.place, b""),
+            Mode::HeadDollar | Mode::FieldsDollar => self.write_open(self.place, b"$"),
+            _ => self.write_open(self.place, b""),
+        }
+    }
+}
+
+/// A text of this unit with its lengths as whole micrometres, line by line: in fields of places, lengths and settings a number with more than three decimals is rounded, and in
+/// another unit than millimetres each is converted; there a field that is no number is put as one that isn't known.
+///
+/// # Errors
+///
+/// Out of memory.
+pub fn plain_text(alloc: Global, unit: Unit, text: &[u8]) -> Result<Vec<u8>, NoMemory>
+    ensures { IfOk result (λ written. written.items ≡ plain unit text.now) }
+{
+    let mut reader = Reader {
+        place: start(),
+        field: Vec::new(alloc),
+        out: Vec::new(alloc),
+    };
+    for byte in text {
+        reader.read(alloc, unit, *byte)?;
+    }
+    reader.end(alloc, unit)?;
+    Ok(reader.out)
+}

@@ -1,0 +1,249 @@
+-- Worked examples: what statements say, row by row of the table, computed.
+use Rattle.std.specs.Prelude.{◌≡◌, refl, ℕ, pos, List, [], ◌∷◌, codes}
+use Rattle.vcm_num.specs.declared.axis.Axis.TheVariants.{PlusZ}
+use Rattle.vcm_num.specs.declared.number.Literal.TheVariants.{Int, Thousandths}
+use Rattle.vcm_spec.specs.declared.words.FrameAxis.TheVariants as axes
+use Rattle.vcm_spec.specs.declared.words.Setting.TheVariants.{Approach}
+use Rattle.vcm_lines.specs.Lexemes.{Lexeme, Run, Number as Digits, Slash, Comma, Equals, Open, Close, Quoted}
+use Rattle.vcm_expr.specs.declared.expression.Term.TheVariants.{Number}
+use Rattle.vcm_expr.specs.Source.{Source, Plain}
+use Rattle.vcm_expr.specs.Parsing.{read_symbols}
+use Rattle.vcm_expr.specs.Digits.{read_of}
+use Rattle.vcm_syntax.specs.Statements.{statement_of}
+use Rattle.vcm_forms.specs.Statements.{as_read}
+use Rattle.vcm_forms.specs.declared.statement.Form.{Form}
+use Rattle.vcm_forms.specs.declared.statement.Form.TheVariants.{Assignment, Test, Repeat, Choose, Feature, Measure, MeasureEnd, Configure, Shift, Restore, Move, Home}
+use Rattle.vcm_events.specs.declared.event.Event.TheVariants as events
+use Rattle.vcm_events.specs.Events.{valued, event_form, lost, gained}
+use Rattle.vcm_events.specs.Unknown.{unknown, unknown_place, unknown_rounds}
+use Rattle.vcm_said.specs.Said.{said}
+
+-- what words say on line 9
+abbrev pub says : List Lexeme → List Form
+says ws = said 9 ws
+
+-- letters and digits
+abbrev pub word : List ℕ → Lexeme
+word bs = Run bs
+
+-- a word, a slash and a word
+abbrev pub pair : List ℕ → List ℕ → List Lexeme
+pair major minor = word major ∷ Slash ∷ word minor ∷ []
+
+-- a name behind letters, as D(A)
+abbrev pub titled : List ℕ → List Lexeme → List Lexeme
+titled letters ws = word letters ∷ Open ∷ word (codes "A") ∷ Close ∷ ws
+
+-- a length of so many micrometres
+abbrev pub micrometres : ℕ → Source
+micrometres n = Plain (Number (Thousandths (pos n)))
+
+-- a whole number
+abbrev pub whole : ℕ → Source
+whole n = Plain (Number (Int (pos n)))
+
+-- ---- what moves nothing and chooses nothing says nothing
+
+pub tolerance : says (titled (codes "T") (Equals ∷ pair (codes "TOL") (codes "POS"))) ≡ []
+tolerance = refl
+
+pub sensor_definition : says (titled (codes "S") (Equals ∷ pair (codes "SNSDEF") (codes "PROBE"))) ≡ []
+sensor_definition = refl
+
+pub feed : says (pair (codes "FEDRAT") (codes "POSVEL")) ≡ []
+feed = refl
+
+-- ---- modes, units, scanning, tables
+
+pub programmed : says (pair (codes "MODE") (codes "PROG")) ≡ gained events.Mode ∷ gained events.OwnPoints ∷ []
+programmed = refl
+
+pub automatic : says (pair (codes "MODE") (codes "AUTO")) ≡ gained events.Mode ∷ lost events.OwnPoints ∷ []
+automatic = refl
+
+pub by_hand : says (pair (codes "MODE") (codes "MAN")) ≡ lost events.Mode ∷ []
+by_hand = refl
+
+pub millimetres : says (word (codes "UNITS") ∷ Slash ∷ word (codes "MM") ∷ Comma ∷ word (codes "ANGDEC") ∷ []) ≡ gained events.Unit ∷ []
+unfolding statement_of read_symbols read_of
+millimetres = refl
+
+pub inches : says (word (codes "UNITS") ∷ Slash ∷ word (codes "INCH") ∷ Comma ∷ word (codes "ANGDEC") ∷ []) ≡ lost events.Unit ∷ []
+unfolding statement_of read_symbols read_of
+inches = refl
+
+pub scanning : says (pair (codes "SCNMOD") (codes "ON")) ≡ lost events.Scanning ∷ []
+scanning = refl
+
+pub no_scanning : says (pair (codes "SCNMOD") (codes "OFF")) ≡ gained events.Scanning ∷ []
+no_scanning = refl
+
+pub table : says (word (codes "ROTAB") ∷ Slash ∷ word (codes "RT") ∷ Open ∷ word (codes "A") ∷ Close ∷ []) ≡ lost events.Table ∷ []
+table = refl
+
+pub compensated : says (pair (codes "PRCOMP") (codes "ON")) ≡ gained events.Compensation ∷ []
+compensated = refl
+
+pub not_compensated : says (pair (codes "PRCOMP") (codes "OFF")) ≡ lost events.Compensation ∷ []
+not_compensated = refl
+
+-- ---- motions and points
+
+pub motion :
+    says (word (codes "GOTO") ∷ Slash ∷ word (codes "1") ∷ Comma ∷ word (codes "2") ∷ Comma ∷ Digits (codes "3.5") ∷ [])
+    ≡ Move (record { x = whole 1; y = whole 2; z = micrometres 3500 }) ∷ []
+unfolding statement_of read_symbols read_of
+motion = refl
+
+pub polar : says (word (codes "GOTO") ∷ Slash ∷ word (codes "POL") ∷ Comma ∷ word (codes "2") ∷ Comma ∷ word (codes "9") ∷ Comma ∷ word (codes "3") ∷ [])
+    ≡ gained events.Untried ∷ []
+unfolding statement_of read_symbols read_of
+polar = refl
+
+pub home : says (word (codes "GOHOME") ∷ []) ≡ Home ∷ []
+unfolding statement_of read_symbols read_of
+home = refl
+
+pub end_of_target : says (word (codes "ENDGO") ∷ []) ≡ gained events.Untried ∷ []
+end_of_target = refl
+
+pub path : says (titled (codes "P") (Equals ∷ pair (codes "PAMEAS") (codes "DISTANCE"))) ≡ gained events.UntriedPoint ∷ []
+path = refl
+
+pub start : says (word (codes "FROM") ∷ Slash ∷ word (codes "CART") ∷ Comma ∷ word (codes "0") ∷ Comma ∷ word (codes "0") ∷ Comma ∷ word (codes "9") ∷ [])
+    ≡ lost events.Home ∷ []
+start = refl
+
+-- ---- features
+
+pub circle : says (titled (codes "F") (Equals ∷ pair (codes "FEAT") (codes "CIRCLE"))) ≡ Feature (codes "A") unknown_place PlusZ ∷ []
+unfolding statement_of read_symbols read_of
+circle = refl
+
+pub circle_measured :
+    says (word (codes "MEAS") ∷ Slash ∷ word (codes "CIRCLE") ∷ Comma ∷ titled (codes "F") (Comma ∷ word (codes "4") ∷ []))
+    ≡ Measure (codes "A") ∷ valued events.Points (whole 4) ∷ []
+unfolding statement_of read_symbols read_of
+circle_measured = refl
+
+pub end_of_measurement : says (word (codes "ENDMES") ∷ []) ≡ MeasureEnd ∷ []
+end_of_measurement = refl
+
+pub qualification : says (word (codes "CALIB") ∷ Slash ∷ word (codes "SENS") ∷ Comma ∷ titled (codes "S") [])
+    ≡ gained events.Untried ∷ lost events.Qualification ∷ lost events.Features ∷ []
+qualification = refl
+
+pub table_qualified : says (word (codes "CALIB") ∷ Slash ∷ word (codes "RTAB") ∷ Comma ∷ titled (codes "RT") [])
+    ≡ gained events.Untried ∷ lost events.Qualification ∷ lost events.Features ∷ lost events.Table ∷ []
+table_qualified = refl
+
+pub constructed : says (pair (codes "CONST") (codes "CIRCLE")) ≡ lost events.Features ∷ []
+constructed = refl
+
+-- ---- settings and sensors
+
+pub approach : says (word (codes "SNSET") ∷ Slash ∷ word (codes "APPRCH") ∷ Comma ∷ word (codes "2") ∷ []) ≡ Configure Approach (whole 2) ∷ []
+unfolding statement_of read_symbols read_of
+approach = refl
+
+pub depth : says (word (codes "SNSET") ∷ Slash ∷ word (codes "DEPTH") ∷ Comma ∷ word (codes "2") ∷ []) ≡ []
+unfolding statement_of read_symbols read_of
+depth = refl
+
+pub clearance : says (word (codes "SNSET") ∷ Slash ∷ word (codes "CLRSRF") ∷ Comma ∷ titled (codes "DAT") []) ≡ lost events.Clearance ∷ []
+unfolding statement_of read_symbols read_of
+clearance = refl
+
+pub no_clearance : says (word (codes "SNSET") ∷ Slash ∷ word (codes "CLRSRF") ∷ Comma ∷ word (codes "OFF") ∷ []) ≡ gained events.Clearance ∷ []
+unfolding statement_of read_symbols read_of
+no_clearance = refl
+
+pub other_setting : says (word (codes "SNSET") ∷ Slash ∷ word (codes "FOCUSN") ∷ [])
+    ≡ lost events.Approach ∷ lost events.Search ∷ lost events.Retract ∷ lost events.Clearance ∷ []
+unfolding statement_of read_symbols read_of
+other_setting = refl
+
+pub selected : says (word (codes "SNSLCT") ∷ Slash ∷ titled (codes "S") []) ≡ event_form events.Sensor (pos 9) ∷ []
+selected = refl
+
+-- ---- frames
+
+pub machine : says (titled (codes "D") (Equals ∷ pair (codes "DATSET") (codes "MCS")))
+    ≡ gained events.Machine ∷ Shift (codes "A") (record { axis = axes.X; length = whole 0 } ∷ []) ∷ []
+unfolding statement_of read_symbols read_of
+machine = refl
+
+pub datums : says (titled (codes "D") (Equals ∷ word (codes "DATSET") ∷ Slash ∷ titled (codes "DAT") (Comma ∷ word (codes "ZDIR") ∷ [])))
+    ≡ Shift (codes "A") [] ∷ []
+unfolding statement_of read_symbols read_of
+datums = refl
+
+pub recalled : says (word (codes "RECALL") ∷ Slash ∷ titled (codes "D") []) ≡ Restore (codes "A") ∷ []
+unfolding statement_of read_symbols read_of
+recalled = refl
+
+pub datum_recalled : says (word (codes "RECALL") ∷ Slash ∷ titled (codes "DA") []) ≡ Restore (codes "A") ∷ []
+unfolding statement_of read_symbols read_of
+datum_recalled = refl
+
+pub features_recalled : says (word (codes "RECALL") ∷ Slash ∷ titled (codes "F") []) ≡ lost events.Features ∷ []
+unfolding statement_of read_symbols read_of
+features_recalled = refl
+
+pub sensor_recalled : says (word (codes "RECALL") ∷ Slash ∷ titled (codes "S") []) ≡ []
+unfolding statement_of read_symbols read_of
+sensor_recalled = refl
+
+pub saved : says (word (codes "SAVE") ∷ Slash ∷ titled (codes "D") []) ≡ gained events.Saving ∷ []
+saved = refl
+
+pub deleted : says (word (codes "DELETE") ∷ Slash ∷ titled (codes "D") []) ≡ lost events.Frames ∷ lost events.Features ∷ []
+deleted = refl
+
+-- ---- values and choices that aren't known
+
+pub function :
+    says (word (codes "V") ∷ Equals ∷ word (codes "ASSIGN") ∷ Slash ∷ word (codes "SQRT") ∷ Open ∷ word (codes "2") ∷ Close ∷ [])
+    ≡ Assignment (as_read (codes "V")) unknown ∷ []
+unfolding statement_of read_symbols read_of
+function = refl
+
+pub question :
+    says (word (codes "TEXT") ∷ Slash ∷ word (codes "QUERY") ∷ Comma ∷ Open ∷ word (codes "V") ∷ Close ∷ Comma ∷ word (codes "1") ∷ [])
+    ≡ Assignment (as_read (codes "V")) unknown ∷ []
+unfolding statement_of read_symbols read_of
+question = refl
+
+pub done_by_hand : says (word (codes "TEXT") ∷ Slash ∷ word (codes "MAN") ∷ Comma ∷ Quoted (codes "TURN THE PART") ∷ []) ≡ lost events.Place ∷ []
+unfolding statement_of read_symbols read_of
+done_by_hand = refl
+
+pub values_read : says (word (codes "READ") ∷ Slash ∷ titled (codes "DID") (Comma ∷ word (codes "V") ∷ [])) ≡ lost events.Values ∷ lost events.Features ∷ []
+values_read = refl
+
+pub unknown_test : says (word (codes "IF") ∷ Slash ∷ Open ∷ word (codes "SIN") ∷ Open ∷ word (codes "V") ∷ Close ∷ Close ∷ []) ≡ Test unknown ∷ []
+unfolding statement_of read_symbols read_of
+unknown_test = refl
+
+pub unknown_loop : says (word (codes "DO") ∷ Slash ∷ word (codes "V") ∷ []) ≡ Repeat unknown_rounds ∷ []
+unfolding statement_of read_symbols read_of
+unknown_loop = refl
+
+pub unknown_choice : says (word (codes "SELECT") ∷ Slash ∷ Quoted (codes "A") ∷ []) ≡ Choose unknown ∷ []
+unfolding statement_of read_symbols read_of
+unknown_choice = refl
+
+-- ---- what may do anything
+
+pub other_program : says (word (codes "CALL") ∷ Slash ∷ word (codes "EXTERN") ∷ Comma ∷ word (codes "DMIS") ∷ []) ≡ lost events.All ∷ []
+unfolding statement_of read_symbols read_of
+other_program = refl
+
+pub fitted : says (pair (codes "ITERAT") (codes "A")) ≡ lost events.All ∷ []
+fitted = refl
+
+pub included : says (word (codes "INCLUD") ∷ Slash ∷ word (codes "DMIS") ∷ []) ≡ lost events.All ∷ []
+included = refl
+
+pub no_word : says (pair (codes "SPIN") (codes "FAST")) ≡ lost events.All ∷ []
+no_word = refl
