@@ -161,10 +161,17 @@ def runs():
     yield case("run square.dmi part-a.toml --whole")
     yield case("trace rounds.dmi part-a.toml --whole", kind="lines")
     yield case("points touch.dmi part-a.toml --whole", kind="lines", status=7)
-    yield case("why bracket.dmi bracket.toml --whole", status=7)
+    yield case("why bracket.dmi bracket.toml --whole", status=3)
     yield case("run touch.dmi part-a.toml --whole --apprch 2 --retrct 2 --search 5 --auto")
     yield case("run asked.dmi part-a.toml --whole --frame A=10,20,0,Z90 --given V=10")
+    yield case("run touch.dmi part-a.toml --whole --apprch 2 --retrct 2 --search 5 --approach", status=7)
+    yield case("run stations.dmi part-a.toml --whole --show STATION")
     yield case("check touch.dmi --whole --apprch 2 --retrct 2 --search 5")
+    yield case("check asked.dmi --whole --frame A=10,20,0,Z90 --given V=10 --auto --approach")
+    given = "--frame A=10,20,0,Z90 --given V=10 --apprch 2 --retrct 2 --search 5 --auto --approach"
+    yield case(f"why asked.dmi part-a.toml --whole {given}")
+    yield case(f"trace asked.dmi part-a.toml --whole {given}", kind="lines")
+    yield case(f"points asked.dmi part-a.toml --whole {given}", kind="lines")
     yield case("check touch.dmi square.dmi --whole", kind="several")
     yield case("trace turned.dmi torn.toml", status=1)
 

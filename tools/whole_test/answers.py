@@ -11,14 +11,17 @@ from dataclasses import dataclass, field
 
 from visits import Visits
 
-TOLD = re.compile(r"(?P<label>[a-z][a-z ]*?) (?P<count>\d+): lines? (?P<lines>\d[\d() -]*)(?:, (?P<cause>.*))?$")
+TOLD = re.compile(r"(?P<label>[a-z][a-z, ]*?) (?P<count>\d+): lines? (?P<lines>\d[\d() -]*)(?:, (?P<cause>.*))?$")
 FROM_ON = re.compile(r"not tried from line (\d+) on")
 LINES = re.compile(r"(\d+)(?:-(\d+))?(?:\((\d+)\))?")
-NOT_TRIED = {"not tried"}
+APPROACHED = "approached, not touched"
+NOT_TRIED = {"not tried", APPROACHED}
 ELSEWHERE = {"begins elsewhere", "begin elsewhere"}
 OTHERWISE = {"may go otherwise"}
 WITHIN = re.compile(r"to 0\.(\d+)")
 MOST_SECONDS = 60
+# A point that is approached has a direction in thousandths: with distances of 20 mm at most its places lie so far beside the machine's at most, in millimetres.
+BESIDE = 0.02
 
 
 @dataclass
@@ -69,6 +72,8 @@ def tell(answer, text):
         label, lines = found["label"].strip(), counted(found["lines"])
         if found["cause"] and WITHIN.search(found["cause"]):
             answer.within.update({it: float("0." + WITHIN.search(found["cause"])[1]) for it in lines})
+        if label == APPROACHED:
+            answer.within.update({it: BESIDE for it in lines})
         for labels, store in ((NOT_TRIED, answer.told), (ELSEWHERE, answer.elsewhere), (OTHERWISE, answer.otherwise)):
             if label in labels:
                 store.update({it: store.get(it, 0) + number for it, number in lines.items()})

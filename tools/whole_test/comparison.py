@@ -28,6 +28,7 @@ class Comparison:
 
     def __init__(self, machine, answer, within=WITHIN):
         self.machine, self.answer, self.within = machine, answer, within
+        self.behind = within  # how exact the way before is
         self.order = {visit: number for number, visit in enumerate(machine.passed)}
         self.ways = {}
         for number, way in enumerate(machine.ways):
@@ -121,7 +122,7 @@ class Comparison:
     def begins(self, arrival, way):
         """Whether a tried way begins where the machine's does, or on the way of a touch that wasn't tried, or is told to begin elsewhere."""
         line = arrival.visit[0]
-        within = self.exactness(line)
+        within, self.behind = max(self.exactness(line), self.behind), self.exactness(line)
         touches = [it for it in self.machine.ways if it.visit == arrival.visit and it.what == "touch"] if way.what == "retract" else []
         if apart(way.start, arrival.start) <= within or any(lies_on(arrival.start, it.start, it.end, within) for it in touches):
             return

@@ -54,9 +54,9 @@ EXAMPLES = [
 ]
 
 
-# What a run tells at its end, and what is to be read of it: not tried, begins elsewhere, from which line on nothing is tried.
-TOLD = "not tried 5: lines 24-26 30(3), by hand since line 11\nbegins elsewhere 4: lines 44 85(3)\nnot tried from line 76 on\n"
-READ = {24: 1, 25: 1, 26: 1, 30: 3}, {44: 1, 85: 3}, 76
+# What a run tells at its end, and what is to be read of it: not tried or not touched, begins elsewhere, from which line on nothing is tried.
+TOLD = "not tried 5: lines 24-26 30(3), by hand since line 11\nbegins elsewhere 4: lines 44 85(3)\napproached, not touched 2: lines 90(2)\nnot tried from line 76 on\n"
+READ = {24: 1, 25: 1, 26: 1, 30: 3, 90: 2}, {44: 1, 85: 3}, 76
 
 
 def failures():

@@ -2,12 +2,11 @@
 
 use crate::choices::choices_of;
 use crate::telling::tell_bytes;
-use crate::whole::{built, status_of_unused, tell_lengths};
+use crate::whole::{Built, put_whole, status_of_unused, tell_reading};
 use std::alloc::{AllocError, Global};
 use std::fmt::Write as _;
 use std::rt::Files;
 use vcm_devices::{Request, Voice, bytes_of, check_file, fails, print_bytes};
-use vcm_given::Choices;
 use vcm_lines::SourceFault;
 use vcm_messages::{Message, Told, notice_line, status_of};
 use vcm_num::NoMemory;
@@ -18,13 +17,13 @@ use vcm_tree::accept;
 use vcm_usage::Choice;
 use vcm_whole::Facts;
 
-// A program that is checked: its name, what stands in front of what is told of it, and what the command line says of it where it is a producer's text.
+// A program that is checked: its name, what stands in front of what is told of it, and whether it is a producer's text as it stands.
 #[derive(Clone, Copy)]
 struct Checked<'a> {
     name: &'a str,
     is_named: bool,
     is_all: bool,
-    choices: Option<&'a Choices>,
+    is_whole: bool,
     voice: Voice,
 }
 
@@ -129,10 +128,10 @@ fn tell_all<R: Eprint + AllocGlobal>(
 
 // Adds lines as they are listed, adjacent ones as their first and their last.
 fn put_lines(text: &mut String, lines: &[u32]) -> Result<(), AllocError> {
-    let mut first = 0;
-    let mut last = 0;
+    let mut first: u32 = 0;
+    let mut last: u32 = 0;
     for line in lines {
-        if first != 0 && last + 1 == *line {
+        if first != 0 && last.wrapping_add(1) == *line {
             last = *line;
             continue;
         }
@@ -173,12 +172,8 @@ fn whole_text(alloc: Global, checked: Checked<'_>, facts: &Facts) -> Result<Stri
 }
 
 // Prints what a producer's text is put as, and gives the exit status.
-fn tell_whole<R: Print + Eprint + AllocGlobal>(
-    rt: &R,
-    checked: Checked<'_>,
-    notices: &[Noticed],
-    facts: &Facts,
-) -> u8 {
+fn tell_whole<R: Print + Eprint + AllocGlobal>(rt: &R, checked: Checked<'_>, built: &Built) -> u8 {
+    let facts = &built.whole.facts;
     let Ok(text) = whole_text(rt.alloc(), checked, facts) else {
         return tell_fault(rt, checked, Message::NoMemory);
     };
@@ -187,8 +182,9 @@ fn tell_whole<R: Print + Eprint + AllocGlobal>(
         Err(Message::Closed) => return 0,
         Err(message) => return tell_fault(rt, checked, message),
     }
-    tell_notices(rt, checked, notices);
-    tell_lengths(rt, checked.voice, facts);
+    tell_notices(rt, checked, built.whole.notices.as_slice());
+    let front = if checked.is_named { checked.name } else { "" };
+    tell_reading(rt, checked.voice, front, facts, built.names.as_slice());
     0
 }
 
@@ -196,22 +192,27 @@ fn tell_whole<R: Print + Eprint + AllocGlobal>(
 fn judge_whole<R: Print + Eprint + AllocGlobal>(
     rt: &R,
     checked: Checked<'_>,
-    choices: &Choices,
+    request: &Request<'_, '_>,
     text: &[u8],
 ) -> u8 {
-    match built(rt.alloc(), choices, checked.name, text) {
-        Ok(whole) => match status_of_unused(rt, &whole.facts) {
+    match put_whole(rt.alloc(), request, 0, checked.name, text) {
+        Ok(built) => match status_of_unused(rt, &built.whole.facts) {
             Some(status) => status,
-            None => tell_whole(rt, checked, whole.notices.as_slice(), &whole.facts),
+            None => tell_whole(rt, checked, &built),
         },
         Err(message) => tell_fault(rt, checked, message),
     }
 }
 
 // Judges the text of a program, and gives the exit status.
-fn judge<R: Print + Eprint + AllocGlobal>(rt: &R, checked: Checked<'_>, text: &[u8]) -> u8 {
-    if let Some(choices) = checked.choices {
-        return judge_whole(rt, checked, choices, text);
+fn judge<R: Print + Eprint + AllocGlobal>(
+    rt: &R,
+    checked: Checked<'_>,
+    request: &Request<'_, '_>,
+    text: &[u8],
+) -> u8 {
+    if checked.is_whole {
+        return judge_whole(rt, checked, request, text);
     }
     if checked.is_all {
         match tell_all(rt, checked, text) {
@@ -227,9 +228,13 @@ fn judge<R: Print + Eprint + AllocGlobal>(rt: &R, checked: Checked<'_>, text: &[
 }
 
 // Checks a program, and gives the exit status.
-fn check_one<R: Files + Input + Print + Eprint + AllocGlobal>(rt: &R, checked: Checked<'_>) -> u8 {
+fn check_one<R: Files + Input + Print + Eprint + AllocGlobal>(
+    rt: &R,
+    checked: Checked<'_>,
+    request: &Request<'_, '_>,
+) -> u8 {
     match bytes_of(rt, checked.name) {
-        Ok(text) => judge(rt, checked, &text),
+        Ok(text) => judge(rt, checked, request, &text),
         Err(message) => tell_fault(rt, checked, message),
     }
 }
@@ -238,21 +243,21 @@ fn check_one<R: Files + Input + Print + Eprint + AllocGlobal>(rt: &R, checked: C
 fn check_each<R: Files + Input + Print + Eprint + AllocGlobal>(
     rt: &R,
     voice: Voice,
-    programs: &[&str],
-    is_all: bool,
-    choices: Option<&Choices>,
+    request: &Request<'_, '_>,
 ) -> u8 {
     let mut status = 0;
-    let is_named = programs.len() > 1;
-    for name in programs {
+    let is_named = request.programs().len() > 1;
+    let is_all = request.has(Choice::All);
+    let is_whole = request.has(Choice::Whole);
+    for name in request.programs() {
         let checked = Checked {
             name,
             is_named,
             is_all,
-            choices,
+            is_whole,
             voice,
         };
-        status = check_one(rt, checked).max(status);
+        status = check_one(rt, checked, request).max(status);
     }
     status
 }
@@ -266,8 +271,11 @@ fn check_whole<R: Files + Input + Print + Eprint + AllocGlobal>(
     if request.has(Choice::All) {
         return fails(rt, ALL);
     }
-    match choices_of(rt.alloc(), request) {
-        Ok(choices) => check_each(rt, voice, request.programs(), false, Some(&choices)),
+    match choices_of(rt.alloc(), request, &[], 0) {
+        Ok(choices) => {
+            drop(choices);
+            check_each(rt, voice, request)
+        }
         Err(message) => fails(rt, message),
     }
 }
@@ -285,6 +293,6 @@ pub(crate) fn check_programs<R: Files + Input + Print + Eprint + AllocGlobal>(
     let is_all = request.has(Choice::All);
     match request.programs() {
         [name] if !is_all && *name != "-" => check_file(rt, voice, name),
-        programs => check_each(rt, voice, programs, is_all, None),
+        _ => check_each(rt, voice, request),
     }
 }

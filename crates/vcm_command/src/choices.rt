@@ -7,6 +7,7 @@ use vcm_items::{Name, VariableName, is_name, is_variable_name};
 use vcm_messages::Message;
 use vcm_num::{Items, NoMemory};
 use vcm_sentences::read_decimal;
+use vcm_short_names::ShortName;
 use vcm_spec::{FrameAxis, Quarters};
 use vcm_survey::{GivenFrame as Placed, Position, Stand, Turn};
 use vcm_usage::Choice;
@@ -24,13 +25,14 @@ const LENGTH: Message<'static> = Message::Option {
 };
 
 /// The options that are about a producer's text as it stands.
-pub(crate) const ABOUT_WHOLE: [Choice; 6] = [
+pub(crate) const ABOUT_WHOLE: [Choice; 7] = [
     Choice::Frame,
     Choice::Given,
     Choice::Approach,
     Choice::Retract,
     Choice::Search,
     Choice::Auto,
+    Choice::Approached,
 ];
 
 // The greatest length of a setting, in micrometres.
@@ -93,14 +95,29 @@ fn turn_of(turn: Option<Turn>) -> Option<(FrameAxis, Quarters)> {
     }
 }
 
-// The frame with this label, which stands here.
-fn frame_of(label: &[u8], stand: Stand) -> Option<GivenFrame> {
-    if !is_name(label) {
-        return None;
+// A label as the text has it: a long one is that of its short name, or what it would begin with.
+fn label_of(alloc: Global, label: &[u8], names: &[ShortName]) -> Result<Option<Name>, NoMemory> {
+    if is_name(label) {
+        return Ok(Some(Name::new(label)));
     }
+    let mut short = Vec::from_slice(alloc, label)?;
+    short.truncate(16);
+    if label.len() <= 16 || !is_name(&short) {
+        return Ok(None);
+    }
+    for one in names {
+        if one.long.as_slice() == label && is_name(one.short.as_slice()) {
+            return Ok(Some(Name::new(one.short.as_slice())));
+        }
+    }
+    Ok(Some(Name::new(&short)))
+}
+
+// The frame with this name, which stands here.
+fn frame_of(name: Name, stand: Stand) -> Option<GivenFrame> {
     let Position { x, y, z } = stand.origin;
     Some(GivenFrame {
-        name: Name::new(label),
+        name,
         x: coordinate_of(x)?,
         y: coordinate_of(y)?,
         z: coordinate_of(z)?,
@@ -109,12 +126,19 @@ fn frame_of(label: &[u8], stand: Stand) -> Option<GivenFrame> {
 }
 
 // The frame that a word gives.
-fn read_frame(alloc: Global, word: &str) -> Result<Option<GivenFrame>, NoMemory> {
+fn read_frame(
+    alloc: Global,
+    word: &str,
+    names: &[ShortName],
+) -> Result<Option<GivenFrame>, NoMemory> {
     let Some((name, place)) = word.split_once('=') else {
         return Ok(None);
     };
     match Placed::read(alloc, name.as_bytes(), place.as_bytes())? {
-        Some(placed) => Ok(frame_of(placed.label.as_slice(), placed.stand)),
+        Some(placed) => match label_of(alloc, placed.label.as_slice(), names)? {
+            Some(name) => Ok(frame_of(name, placed.stand)),
+            None => Ok(None),
+        },
         None => Ok(None),
     }
 }
@@ -130,10 +154,14 @@ fn has_frame(frames: &[GivenFrame], name: &Name) -> bool {
 }
 
 // The frames that words give; none where one of them is no frame.
-fn frames_of(alloc: Global, words: &[&str]) -> Result<Option<Items<GivenFrame>>, NoMemory> {
+fn frames_of(
+    alloc: Global,
+    words: &[&str],
+    names: &[ShortName],
+) -> Result<Option<Items<GivenFrame>>, NoMemory> {
     let mut frames = Items::new(alloc);
     for word in words {
-        let Some(frame) = read_frame(alloc, word)? else {
+        let Some(frame) = read_frame(alloc, word, names)? else {
             return Ok(None);
         };
         if has_frame(frames.as_slice(), &frame.name) {
@@ -166,7 +194,7 @@ fn value_of(text: &str) -> Option<Value> {
 }
 
 // The answer that a word gives.
-fn read_answer(alloc: Global, word: &str) -> Result<Option<Answer>, NoMemory> {
+fn read_answer(alloc: Global, word: &str, names: &[ShortName]) -> Result<Option<Answer>, NoMemory> {
     let Some((name, text)) = word.split_once('=') else {
         return Ok(None);
     };
@@ -174,6 +202,9 @@ fn read_answer(alloc: Global, word: &str) -> Result<Option<Answer>, NoMemory> {
         return Ok(None);
     };
     let name = name.to_ascii_uppercase(alloc)?;
+    let Some(name) = label_of(alloc, name.as_bytes(), names)? else {
+        return Ok(None);
+    };
     if !is_variable_name(name.as_bytes()) {
         return Ok(None);
     }
@@ -194,10 +225,14 @@ fn has_answer(answers: &[Answer], variable: &Name) -> bool {
 }
 
 // The answers that words give; none where one of them is no answer.
-fn answers_of(alloc: Global, words: &[&str]) -> Result<Option<Items<Answer>>, NoMemory> {
+fn answers_of(
+    alloc: Global,
+    words: &[&str],
+    names: &[ShortName],
+) -> Result<Option<Items<Answer>>, NoMemory> {
     let mut answers = Items::new(alloc);
     for word in words {
-        let Some(answer) = read_answer(alloc, word)? else {
+        let Some(answer) = read_answer(alloc, word, names)? else {
             return Ok(None);
         };
         if has_answer(answers.as_slice(), answer.variable.name()) {
@@ -220,13 +255,18 @@ fn told<T>(
     }
 }
 
-/// What a command line says of a producer's text, or what is told of a wrong option.
+/// What a command line says of a producer's text whose long names are written short so, beside a tip of this half width in micrometres; or what is told of a wrong
+/// option.
 pub(crate) fn choices_of(
     alloc: Global,
     request: &Request<'_, '_>,
+    names: &[ShortName],
+    tip: u32,
 ) -> Result<Choices, Message<'static>> {
-    let frames = told(frames_of(alloc, request.values(Choice::Frame)), FRAME)?;
-    let answers = told(answers_of(alloc, request.values(Choice::Given)), GIVEN)?;
+    let frames = frames_of(alloc, request.values(Choice::Frame), names);
+    let frames = told(frames, FRAME)?;
+    let answers = answers_of(alloc, request.values(Choice::Given), names);
+    let answers = told(answers, GIVEN)?;
     Ok(Choices {
         approach: setting_of(request, Choice::Approach)?,
         retract: setting_of(request, Choice::Retract)?,
@@ -234,6 +274,8 @@ pub(crate) fn choices_of(
         frames,
         answers,
         is_auto: request.has(Choice::Auto),
+        is_approached: request.has(Choice::Approached),
+        tip: i32::try_from(tip).unwrap_or(0),
     })
 }
 
@@ -242,7 +284,7 @@ pub(crate) fn says_of_whole(request: &Request<'_, '_>) -> bool {
     for choice in &ABOUT_WHOLE {
         let is_there = match choice {
             Choice::Frame | Choice::Given => !request.values(*choice).is_empty(),
-            Choice::Auto => request.has(*choice),
+            Choice::Auto | Choice::Approached => request.has(*choice),
             _ => request.value(*choice).is_some(),
         };
         if is_there {

@@ -7,17 +7,19 @@ use vcm_devices::{
     NamedSetting, Request, View, Voice, bytes_of, fails, fails_in_view, fails_twice,
     named_setting_of, output, status_after, write_given, written,
 };
-use vcm_given::Choices;
-use vcm_job::{Done, Given, InputRefusal, RunFault, is_image};
+use vcm_job::{Done, Given, InputRefusal, RunFault, is_image, show_given};
 use vcm_loader::load;
 use vcm_messages::{Message, message_of};
 use vcm_motion::AnyPart;
+use vcm_num::{Items, NoMemory};
 use vcm_part::PartData;
 use vcm_plain::Unit;
 use vcm_remarks::NumberedRemark;
+use vcm_short_names::{ShortName, Shortened, shorten_names};
 use vcm_untried::{Counts, count_remarks, untried_text, was_all_tried};
 use vcm_usage::{Choice, Verb};
-use vcm_views::{Points, Why};
+use vcm_values::variable_named;
+use vcm_views::{Points, Values, Why};
 use vcm_whole::{Facts, Whole, build_whole};
 
 const IMAGE: Message<'static> = Message::Option {
@@ -27,18 +29,31 @@ const IMAGE: Message<'static> = Message::Option {
 /// The exit status of a run that came to the end of its text, where something of it wasn't tried.
 const NOT_ALL_TRIED: u8 = 7;
 
-/// A producer's text that is put as a program, or what is told where it isn't.
-pub(crate) fn built<'a>(
+/// A producer's text that is put as a program, the text with its long names written short, and these names.
+#[derive(Drop)]
+pub(crate) struct Built {
+    pub(crate) whole: Whole,
+    pub(crate) text: Vec<u8>,
+    pub(crate) names: Items<ShortName>,
+}
+
+/// A producer's text that is put as a program, beside a tip of this half width, or what is told where it isn't.
+pub(crate) fn put_whole<'a>(
     alloc: Global,
-    choices: &Choices,
+    request: &Request<'_, '_>,
+    tip: u32,
     input: &'a str,
     text: &[u8],
-) -> Result<Whole, Message<'a>> {
+) -> Result<Built, Message<'a>> {
     if is_image(text) {
         return Err(IMAGE);
     }
-    match build_whole(alloc, choices, text) {
-        Ok(whole) => Ok(whole),
+    let Ok(Shortened { text, names }) = shorten_names(alloc, text) else {
+        return Err(Message::NoMemory);
+    };
+    let choices = choices_of(alloc, request, names.as_slice(), tip)?;
+    match build_whole(alloc, &choices, &text) {
+        Ok(whole) => Ok(Built { whole, text, names }),
         Err(refusal) => {
             let fault = RunFault::Refused(InputRefusal::Text(refusal));
             Err(message_of(fault, input))
@@ -52,30 +67,39 @@ struct Running {
     given: Given,
     remarks: Vec<NumberedRemark>,
     facts: Facts,
+    names: Items<ShortName>,
 }
 
-// The program that a text is put as.
+// The program that a text is put as; as it is written it has its text beside it, from which its calls are told.
 fn whole_of<'a, R: Files + Input + AllocGlobal>(
     rt: &R,
-    choices: &Choices,
+    request: &Request<'_, '_>,
+    tip: u32,
     input: &'a str,
 ) -> Result<Running, Message<'a>> {
     let text = bytes_of(rt, input)?;
+    let Built { whole, text, names } = put_whole(rt.alloc(), request, tip, input, &text)?;
     let Whole {
         image,
         notices,
         remarks,
         facts,
-    } = built(rt.alloc(), choices, input, &text)?;
+    } = whole;
+    let text = if facts.is_as_written {
+        Some(text)
+    } else {
+        None
+    };
     let given = Given {
         image,
-        text: None,
+        text,
         notices,
     };
     Ok(Running {
         given,
         remarks,
         facts,
+        names,
     })
 }
 
@@ -98,11 +122,68 @@ pub(crate) fn status_of_unused<R: Eprint>(rt: &R, facts: &Facts) -> Option<u8> {
     Some(2)
 }
 
-/// Tells that lengths of a text are read otherwise than they are written.
-pub(crate) fn tell_lengths<R: Eprint>(rt: &R, voice: Voice, facts: &Facts) {
-    if voice.is_quiet || !facts.is_rewritten {
+// Tells before a line which program it is about, where there are several.
+fn tell_front<R: Eprint>(rt: &R, front: &str) {
+    if !front.is_empty() {
+        let _ = eprint!(rt; "{front}: ");
+    }
+}
+
+// Tells which long names of a text are written short.
+fn tell_names<R: Eprint>(rt: &R, front: &str, names: &[ShortName]) {
+    if names.is_empty() {
         return;
     }
+    tell_front(rt, front);
+    let count = names.len();
+    let _ = eprint!(rt; "notice: names shortened {count}:");
+    let mut mark = "";
+    for name in names {
+        let short = std::str::from_utf8(name.short.as_slice()).unwrap_or("?");
+        let long = std::str::from_utf8(name.long.as_slice()).unwrap_or("?");
+        let _ = eprint!(rt; "{mark} {short} for {long}");
+        mark = ",";
+    }
+    let _ = eprintln!(rt; "");
+}
+
+// Tells what is taken of a text because it doesn't say it.
+fn tell_taken<R: Eprint>(rt: &R, front: &str, facts: &Facts) {
+    if !facts.says_unit {
+        tell_front(rt, front);
+        let _ = eprintln!(rt; "notice: no UNITS: lengths are taken as millimetres");
+    }
+    if !facts.says_mode {
+        tell_front(rt, front);
+        let _ = eprintln!(rt; "notice: no MODE: the text is taken as programmed");
+    }
+}
+
+/// Tells how the names of a text are read and, where it isn't run as it is written, its lengths and what it doesn't say; each line with the program's name before
+/// it, if there is one.
+pub(crate) fn tell_reading<R: Eprint>(
+    rt: &R,
+    voice: Voice,
+    front: &str,
+    facts: &Facts,
+    names: &[ShortName],
+) {
+    if voice.is_quiet {
+        return;
+    }
+    tell_names(rt, front, names);
+    if !facts.is_as_written {
+        tell_taken(rt, front, facts);
+        tell_lengths(rt, front, facts);
+    }
+}
+
+// Tells that lengths of a text are read otherwise than they are written.
+fn tell_lengths<R: Eprint>(rt: &R, front: &str, facts: &Facts) {
+    if !facts.is_rewritten {
+        return;
+    }
+    tell_front(rt, front);
     let _ = match facts.unit {
         Unit::Millimetre => {
             eprintln!(rt;
@@ -177,37 +258,113 @@ fn tell_untried<R: Eprint>(rt: &R, report: &Report, status: u8) -> u8 {
     }
 }
 
-// Prints a view of a run of a producer's text as it stands, reports what of it wasn't tried, and gives the exit status.
-fn show_beside<R: Files + Input + Print + Eprint + AllocGlobal>(
+// Prints what was asked for of a run: a view, or the values of variables.
+fn print_asked<'a, R: Print + AllocGlobal>(
+    rt: &R,
+    request: &Request<'_, '_>,
+    setting: &NamedSetting,
+    given: Given,
+    input: &'a str,
+) -> Result<Done, Message<'a>> {
+    let (part, steps) = (&setting.part, setting.steps);
+    match names_shown(request) {
+        Some(names) => print_values(rt, part, given, names, steps, input),
+        None => {
+            let view = view_of(request, &setting.block_names);
+            print_given(rt, &view, part, given, steps, input)
+        }
+    }
+}
+
+// The variables that are to be shown, where the command takes that.
+fn names_shown<'a>(request: &Request<'a, '_>) -> Option<&'a str> {
+    if request.usage().takes(Choice::Show) {
+        request.value(Choice::Show)
+    } else {
+        None
+    }
+}
+
+// Where the variables of a program stand that have these names; none where one isn't there.
+fn places_of(alloc: Global, image: &[u8], names: &str) -> Result<Option<Vec<u16>>, NoMemory> {
+    let Ok(loaded) = load(alloc, image) else {
+        return Err(NoMemory);
+    };
+    let Ok(tables) = loaded.tables(alloc) else {
+        return Err(NoMemory);
+    };
+    let mut places = Vec::new(alloc);
+    for name in names.split(',') {
+        match variable_named(alloc, &tables, name.as_bytes())? {
+            Some(place) => places.push(place)?,
+            None => return Ok(None),
+        }
+    }
+    Ok(Some(places))
+}
+
+// Prints the values of variables at the end of a run of what was given.
+fn print_values<'a, R: Print + AllocGlobal>(
+    rt: &R,
+    part: &PartData,
+    given: Given,
+    names: &str,
+    steps: u64,
+    input: &'a str,
+) -> Result<Done, Message<'a>> {
+    let places = match places_of(rt.alloc(), &given.image, names) {
+        Ok(Some(places)) => places,
+        Ok(None) => return Err(NAMES),
+        Err(_) => return Err(Message::NoMemory),
+    };
+    let mut out = output(rt)?;
+    let view = Values { places: &places };
+    let done = show_given(rt.alloc(), &view, given, part, steps, &mut out);
+    written(&mut out, done.map_err(|fault| message_of(fault, input)))
+}
+
+// Prints what was asked for of a run of a program, reports what of it wasn't tried, and gives the exit status.
+fn show_running<R: Print + Eprint + AllocGlobal>(
     rt: &R,
     voice: Voice,
-    view: &View<'_>,
+    request: &Request<'_, '_>,
     setting: &NamedSetting,
-    choices: &Choices,
-    input: &str,
+    running: Running,
 ) -> u8 {
-    let (part, steps) = (&setting.part, setting.steps);
     let Running {
         given,
         remarks,
         facts,
-    } = match whole_of(rt, choices, input) {
-        Ok(running) => running,
-        Err(message) => return fails_in_view(rt, voice, message, input),
-    };
-    if let Some(status) = status_of_unused(rt, &facts) {
-        return status;
-    }
+        names,
+    } = running;
+    let (part, steps) = (&setting.part, setting.steps);
     let Some(report) = counted(rt.alloc(), part, &given, &remarks, steps) else {
         return fails(rt, Message::NoMemory);
     };
-    match print_given(rt, view, part, given, steps, input) {
+    match print_asked(rt, request, setting, given, request.input()) {
         Ok(done) => {
             let status = status_after(rt, voice, Ok(done));
-            tell_lengths(rt, voice, &facts);
+            tell_reading(rt, voice, "", &facts, names.as_slice());
             tell_untried(rt, &report, status)
         }
-        Err(message) => fails_in_view(rt, voice, message, input),
+        Err(message) => fails_in_view(rt, voice, message, request.input()),
+    }
+}
+
+// The same of a producer's text as it stands.
+fn show_beside<R: Files + Input + Print + Eprint + AllocGlobal>(
+    rt: &R,
+    voice: Voice,
+    request: &Request<'_, '_>,
+    setting: &NamedSetting,
+) -> u8 {
+    let tip = setting.part.bounds().tip;
+    match whole_of(rt, request, tip, request.input()) {
+        Ok(running) => match status_of_unused(rt, &running.facts) {
+            Some(status) => status,
+            None => show_running(rt, voice, request, setting, running),
+        },
+        Err(message) => fails_in_view(rt, voice, message, request.input()),
     }
 }
 
@@ -223,25 +380,9 @@ fn view_of<'a>(request: &Request<'_, '_>, block_names: &'a [Vec<u8>]) -> View<'a
     }
 }
 
-const SHOWN: Message<'static> = Message::Option {
-    words: "--show and --whole don't go together",
+const NAMES: Message<'static> = Message::Option {
+    words: "--show wants names of variables of the program, with commas between them, as I or R#2",
 };
-
-// The same, with what the command line says of the text.
-fn show_chosen<R: Files + Input + Print + Eprint + AllocGlobal>(
-    rt: &R,
-    voice: Voice,
-    request: &Request<'_, '_>,
-    choices: &Choices,
-) -> u8 {
-    match named_setting_of(rt, voice, request) {
-        Ok(setting) => {
-            let view = view_of(request, &setting.block_names);
-            show_beside(rt, voice, &view, &setting, choices, request.input())
-        }
-        Err(told) => fails_twice(rt, &told),
-    }
-}
 
 /// Prints a view of a run of a producer's text as it stands, reports what of it wasn't tried, and gives the exit status.
 pub(crate) fn show_whole<R: Files + Input + Print + Eprint + AllocGlobal>(
@@ -249,11 +390,11 @@ pub(crate) fn show_whole<R: Files + Input + Print + Eprint + AllocGlobal>(
     voice: Voice,
     request: &Request<'_, '_>,
 ) -> u8 {
-    if request.usage().takes(Choice::Show) && request.value(Choice::Show).is_some() {
-        return fails(rt, SHOWN);
+    if let Err(message) = choices_of(rt.alloc(), request, &[], 0) {
+        return fails(rt, message);
     }
-    match choices_of(rt.alloc(), request) {
-        Ok(choices) => show_chosen(rt, voice, request, &choices),
-        Err(message) => fails(rt, message),
+    match named_setting_of(rt, voice, request) {
+        Ok(setting) => show_beside(rt, voice, request, &setting),
+        Err(told) => fails_twice(rt, &told),
     }
 }

@@ -16,16 +16,16 @@ _vcm_files() {
 _vcm_takes() {
   options= valued= files=() is_many=
   case $1 in
-    check) options="--talk --quiet --all --whole --frame --given --apprch --retrct --search --auto" valued="--frame:. --given:. --apprch:. --retrct:. --search:." files=("dmi dmis") is_many=1 ;;
+    check) options="--talk --quiet --all --whole --frame --given --apprch --retrct --search --auto --approach" valued="--frame:. --given:. --apprch:. --retrct:. --search:." files=("dmi dmis") is_many=1 ;;
     survey) options="--tip --part --frame --exact --lines" valued="--tip:. --part:toml --frame:." files=("dmi dmis") ;;
     adapt) options="--tip --part --frame --exact --touch" valued="--tip:. --part:toml --frame:." files=("dmi dmis") ;;
     build) options="--talk --quiet" valued="" files=("dmi dmis" "") ;;
-    run) options="--talk --quiet --steps --show --whole --frame --given --apprch --retrct --search --auto" valued="--steps:. --show:. --frame:. --given:. --apprch:. --retrct:. --search:." files=("dmi dmis vcmi" "toml") ;;
-    why) options="--quiet --steps --whole --frame --given --apprch --retrct --search --auto" valued="--steps:. --frame:. --given:. --apprch:. --retrct:. --search:." files=("dmi dmis vcmi" "toml") ;;
+    run) options="--talk --quiet --steps --show --whole --frame --given --apprch --retrct --search --auto --approach" valued="--steps:. --show:. --frame:. --given:. --apprch:. --retrct:. --search:." files=("dmi dmis vcmi" "toml") ;;
+    why) options="--quiet --steps --whole --frame --given --apprch --retrct --search --auto --approach" valued="--steps:. --frame:. --given:. --apprch:. --retrct:. --search:." files=("dmi dmis vcmi" "toml") ;;
     contacts) options="--quiet --steps" valued="--steps:." files=("dmi dmis vcmi" "toml") ;;
-    trace) options="--quiet --steps --whole --frame --given --apprch --retrct --search --auto" valued="--steps:. --frame:. --given:. --apprch:. --retrct:. --search:." files=("dmi dmis vcmi" "toml") ;;
+    trace) options="--quiet --steps --whole --frame --given --apprch --retrct --search --auto --approach" valued="--steps:. --frame:. --given:. --apprch:. --retrct:. --search:." files=("dmi dmis vcmi" "toml") ;;
     margin) options="--quiet --steps" valued="--steps:." files=("dmi dmis vcmi" "toml") ;;
-    points) options="--quiet --steps --machine --whole --frame --given --apprch --retrct --search --auto" valued="--steps:. --frame:. --given:. --apprch:. --retrct:. --search:." files=("dmi dmis vcmi" "toml") ;;
+    points) options="--quiet --steps --machine --whole --frame --given --apprch --retrct --search --auto --approach" valued="--steps:. --frame:. --given:. --apprch:. --retrct:. --search:." files=("dmi dmis vcmi" "toml") ;;
     clearance) options="--quiet --steps" valued="--steps:." files=("dmi dmis vcmi" "toml" "toml") ;;
     picture) options="--quiet --steps --close --sheet --lines" valued="--steps:. --lines:." files=("dmi dmis vcmi" "toml") ;;
     view) options="--quiet --steps --probe" valued="--steps:. --probe:toml" files=("dmi dmis vcmi" "toml") ;;

@@ -8,7 +8,7 @@ use Rattle.vcm_forms.specs.declared.statement.Form.{Form}
 use Rattle.vcm_forms.specs.declared.statement.Form.TheVariants.{Assignment}
 use Rattle.vcm_forms.specs.Statements.{as_read}
 use Rattle.vcm_events.specs.declared.event.Event.{Event}
-use Rattle.vcm_events.specs.declared.event.Event.TheVariants.{Mode, OwnPoints, Table, Scanning, Unit, Approach, Search, Retract, Clearance, Compensation, Qualification, Home, Place, Untried, UntriedPoint, Values, Features, Frames, Frame, Saving, Machine, Points, Sensor, Ends, All}
+use Rattle.vcm_events.specs.declared.event.Event.TheVariants.{Mode, OwnPoints, Table, Scanning, Unit, Approach, Search, Retract, Clearance, Compensation, Qualification, Target, Place, Untried, UntriedPoint, Values, Features, Frames, Frame, Saving, Machine, Points, Sensor, Ends, All}
 
 -- the names of the variables of events: no text can write them, since a variable of a text begins with a letter
 abbrev pub event_name : Event → List ℕ
@@ -23,7 +23,7 @@ event_name Retract = codes "0RETRACT"
 event_name Clearance = codes "0CLEARANCE"
 event_name Compensation = codes "0COMPENSATION"
 event_name Qualification = codes "0QUALIFICATION"
-event_name Home = codes "0HOME"
+event_name Target = codes "0TARGET"
 event_name Place = codes "0PLACE"
 event_name Untried = codes "0UNTRIED"
 event_name UntriedPoint = codes "0UNTRIEDPOINT"
@@ -52,7 +52,7 @@ event_named name = look_up
     ∷ (codes "0CLEARANCE", Clearance)
     ∷ (codes "0COMPENSATION", Compensation)
     ∷ (codes "0QUALIFICATION", Qualification)
-    ∷ (codes "0HOME", Home)
+    ∷ (codes "0TARGET", Target)
     ∷ (codes "0PLACE", Place)
     ∷ (codes "0UNTRIED", Untried)
     ∷ (codes "0UNTRIEDPOINT", UntriedPoint)

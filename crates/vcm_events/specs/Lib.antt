@@ -1,2 +1,4 @@
 pub mod Events
+pub mod Joined
+pub mod Spots
 pub mod Unknown

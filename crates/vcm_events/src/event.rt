@@ -35,8 +35,8 @@ pub enum Event {
     Compensation,
     /// Points of a qualification, or of another feature.
     Qualification,
-    /// Where GOHOME goes.
-    Home,
+    /// The way to the target of GOTARG.
+    Target,
     /// Where the probe stands.
     Place,
     /// A motion that isn't tried.
@@ -82,7 +82,7 @@ impl Event {
             Event::Clearance => b"0CLEARANCE",
             Event::Compensation => b"0COMPENSATION",
             Event::Qualification => b"0QUALIFICATION",
-            Event::Home => b"0HOME",
+            Event::Target => b"0TARGET",
             Event::Place => b"0PLACE",
             Event::Untried => b"0UNTRIED",
             Event::UntriedPoint => b"0UNTRIEDPOINT",
@@ -116,7 +116,7 @@ impl Event {
                 (b"0CLEARANCE", Event::Clearance),
                 (b"0COMPENSATION", Event::Compensation),
                 (b"0QUALIFICATION", Event::Qualification),
-                (b"0HOME", Event::Home),
+                (b"0TARGET", Event::Target),
                 (b"0PLACE", Event::Place),
                 (b"0UNTRIED", Event::Untried),
                 (b"0UNTRIEDPOINT", Event::UntriedPoint),

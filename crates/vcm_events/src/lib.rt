@@ -2,7 +2,11 @@
 #![tactic(auto)]
 
 mod event;
+mod joined;
 mod not_known;
+mod spots;
 
 pub use event::{Event, gained, lost, numbered, valued};
+pub use joined::{joined as join, length, pair, whole};
 pub use not_known::{unknown, unknown_place, unknown_rounds};
+pub use spots::{Spot, slanted, slanted_name, spotted, tip_said};

@@ -1,5 +1,5 @@
 -- What a command line says of a text, as statements of it.
-use Rattle.std.specs.Prelude.{ℕ, ℤ, ◌&&◌, ◌||◌, not, nat_eq, codes, Bool, true, false, if◌then◌else◌, List, [], ◌∷◌, ◌++◌, map, take, drop, Option, Some, None}
+use Rattle.std.specs.Prelude.{ℕ, ℤ, pos, negsuc, ◌&&◌, ◌||◌, not, nat_eq, codes, Bool, true, false, if◌then◌else◌, List, [], ◌∷◌, ◌++◌, map, take, drop, Option, Some, None}
 use Rattle.std.specs.List.{list_any, flat_map}
 use Rattle.std.specs.Str.{bytes_eq}
 use Rattle.vcm_lines.specs.declared.logical.Logical.{Logical}
@@ -17,6 +17,11 @@ use Rattle.vcm_forms.specs.declared.statement.Statement.{Statement}
 use Rattle.vcm_forms.specs.Statements.{as_read}
 use Rattle.vcm_events.specs.declared.event.Event.TheVariants as events
 use Rattle.vcm_events.specs.Events.{event_name, gained}
+use Rattle.vcm_events.specs.Joined.{length_of}
+use Rattle.vcm_events.specs.Spots.{leg, slanted, tip_said}
+use Rattle.vcm_num.specs.declared.axis.Axis.{Axis}
+use Rattle.vcm_num.specs.declared.axis.Axis.TheVariants.{PlusX, MinusX, PlusY, MinusY, PlusZ, MinusZ}
+use Rattle.vcm_forms.specs.declared.statement.Coordinates.{Coordinates}
 use Rattle.vcm_heads.specs.declared.rows.Row.{Row}
 use Rattle.vcm_heads.specs.declared.rows.Row.TheVariants.{Text, Values}
 use Rattle.vcm_heads.specs.declared.heads.Mark.TheVariants as marks
@@ -27,17 +32,32 @@ use Rattle.vcm_given.specs.declared.choices.GivenFrame.{GivenFrame}
 use Rattle.vcm_given.specs.declared.choices.Answer.{Answer}
 use Rattle.vcm_given.specs.declared.choices.Choices.{Choices}
 use Rattle.vcm_given.specs.declared.answers.Asked.{Asked}
-use Rattle.vcm_given.specs.Values.{given_value, length_of}
+use Rattle.vcm_given.specs.Values.{given_value}
 
--- choices that leave everything as the text says it
+-- choices that leave everything as the text says it, for a tip that is a point
 abbrev pub no_choices : Choices
-no_choices = record { approach = None; retract = None; search = None; frames = []; answers = []; is_auto = false }
+no_choices = record { approach = None; retract = None; search = None; frames = []; answers = []; is_auto = false; is_approached = false; tip = pos 0 }
+
+-- whether a length is left to the text
+abbrev pub is_left : Option ℤ → Bool
+is_left None = true
+is_left (Some n) = false
+
+-- whether there is none
+abbrev pub is_empty : {A : Type 0} → List A → Bool
+is_empty [] = true
+is_empty (x ∷ xs) = false
+
+-- whether choices say nothing of a text that is read in one way; how MODE/AUTO is read and how wide the tip is changes none
+abbrev pub is_silent : Choices → Bool
+is_silent c =
+    is_left c.approach && (is_left c.retract && (is_left c.search && (is_empty c.frames && (is_empty c.answers && not c.is_approached))))
 
 -- ---- frames
 
 -- a shift along an axis
 abbrev pub offset : FrameAxis → ℤ → Offset
-offset axis n = record { axis = axis; length = length_of n }
+offset axis n = leg axis (length_of n)
 
 -- the turn of a frame, under its name
 abbrev pub turned : List ℕ → Option (FrameAxis × Quarters) → List Form
@@ -114,10 +134,30 @@ abbrev pub shifted : List GivenFrame → List ℕ → List Offset → List Form
 shifted fs name [] = placed_or name (frame_named name fs)
 shifted fs name (o ∷ os) = form.Shift name (o ∷ os) ∷ []
 
+-- the direction of an axis, in thousandths
+abbrev pub direction_of : Axis → ℤ × ℤ × ℤ
+direction_of PlusX = (pos 1000, pos 0, pos 0)
+direction_of MinusX = (negsuc 999, pos 0, pos 0)
+direction_of PlusY = (pos 0, pos 1000, pos 0)
+direction_of MinusY = (pos 0, negsuc 999, pos 0)
+direction_of PlusZ = (pos 0, pos 0, pos 1000)
+direction_of MinusZ = (pos 0, pos 0, negsuc 999)
+
+-- a point that is approached and left, in this direction
+abbrev pub approached_by : Coordinates → ℤ × ℤ × ℤ → Form
+approached_by p d = slanted p d.0 d.1 d.2
+
+-- a point, which is approached and left where this is asked for
+abbrev pub touched : Bool → Coordinates → Option Axis → Form
+touched false p d = form.Touch p d
+touched true p (Some axis) = approached_by p (direction_of axis)
+touched true p None = gained events.UntriedPoint
+
 -- what a statement on a line is, with what is given
 abbrev pub chosen_form : Choices → List Asked → ℕ → Form → List Form
 chosen_form c qs line (form.Assignment t value) = assigned c.is_auto t.name (form.Assignment t value) (answered t.name (asked_at line qs))
 chosen_form c qs line (form.Shift name os) = shifted c.frames name os
+chosen_form c qs line (form.Touch p d) = touched c.is_approached p d ∷ []
 chosen_form c qs line f = f ∷ []
 
 -- a setting that is given
@@ -130,11 +170,13 @@ abbrev pub machine_again : List GivenFrame → List Form
 machine_again [] = []
 machine_again (f ∷ fs) = gained events.Machine ∷ []
 
--- what is said before the first statement: the settings, and where the frames lie
+-- the settings that are given
+unfoldable pub chosen_settings : Choices → List Form
+chosen_settings c = setting settings.Approach c.approach ++ (setting settings.Retract c.retract ++ setting settings.Search c.search)
+
+-- what is said before the first statement: how wide the tip is, the settings, and where the frames lie
 abbrev pub chosen_first : Choices → List Form
-chosen_first c =
-    setting settings.Approach c.approach ++ (setting settings.Retract c.retract ++ (setting settings.Search c.search
-    ++ (flat_map placed c.frames ++ machine_again c.frames)))
+chosen_first c = tip_said c.tip ∷ (chosen_settings c ++ (flat_map placed c.frames ++ machine_again c.frames))
 
 -- forms as statements of a line
 abbrev pub on_line : ℕ → List Form → List Statement

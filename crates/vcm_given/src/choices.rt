@@ -1,7 +1,7 @@
 //! What a command line says of the machine and of the course of a run.
 
 ghost use Rattle.std.specs.Prelude.{◌≡◌};
-ghost use Rattle.vcm_given.specs.Chosen.{no_choices};
+ghost use Rattle.vcm_given.specs.Chosen.{no_choices, is_silent};
 
 use std::alloc::Global;
 use vcm_items::{Name, VariableName};
@@ -49,10 +49,26 @@ pub struct Choices {
     pub answers: Items<Answer>,
     /// Whether MODE/AUTO is a programmed mode, in which the machine takes no points of its own.
     pub is_auto: bool,
+    /// Whether points along an axis are approached and left, and not touched.
+    pub is_approached: bool,
+    /// Half the width of the tip.
+    pub tip: i32,
 }
 
 impl Choices {
-    /// Choices that leave everything as the text says it.
+    /// Whether they say nothing of a text that is read in one way.
+    pub fn is_silent(&self) -> bool
+        ensures { result ≡ is_silent self.now }
+    {
+        self.approach.is_none()
+            && self.retract.is_none()
+            && self.search.is_none()
+            && self.frames.as_slice().is_empty()
+            && self.answers.as_slice().is_empty()
+            && !self.is_approached
+    }
+
+    /// Choices that leave everything as the text says it, for a tip that is a point.
     pub fn none(alloc: Global) -> Choices
         ensures { result ≡ no_choices }
     {
@@ -63,6 +79,8 @@ impl Choices {
             frames: Items::new(alloc),
             answers: Items::new(alloc),
             is_auto: false,
+            is_approached: false,
+            tip: 0,
         }
     }
 }

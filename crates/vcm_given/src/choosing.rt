@@ -7,21 +7,20 @@ ghost use Rattle.std.specs.Vec.Iter.{into_iter_items};
 ghost use Rattle.vcm_forms.specs.declared.statement.Form.TheVariants as form;
 ghost use Rattle.vcm_forms.specs.Statements.{as_read};
 ghost use Rattle.vcm_given.specs.Values.{given_value};
-ghost use Rattle.vcm_given.specs.Chosen.{setting, chosen_first, assigned, answered, shifted, chosen_statement, chosen, on_line};
+ghost use Rattle.vcm_given.specs.Chosen.{setting, direction_of, touched, chosen_settings, chosen_first, assigned, answered, shifted, chosen_statement, chosen, on_line};
 
 use crate::answers::{Asked, ask_all, asked_at, assignment_of, stands_behind};
 use crate::choices::{Answer, Choices};
 use crate::frames::{frame_named, place, place_all};
 use crate::statements::add;
-use crate::values::thousandths;
 use std::alloc::Global;
 use std::vec::IntoIter;
-use vcm_events::{Event, gained};
+use vcm_events::{Event, gained, length as length_of, slanted, tip_said};
 use vcm_expr::Expr;
-use vcm_forms::{Form, Offset, Statement, Target};
+use vcm_forms::{Coordinates, Form, Offset, Statement, Target};
 use vcm_items::Name;
 use vcm_lines::Logical;
-use vcm_num::{Items, NoMemory, is};
+use vcm_num::{Axis, Items, NoMemory, is};
 use vcm_spec::Setting;
 
 // A setting that is given.
@@ -35,20 +34,29 @@ fn set(
 {
     match length {
         Some(length) => {
-            let length = thousandths(alloc, length)?;
+            let length = length_of(alloc, length)?;
             add(out, 1, Form::Configure(which, length))
         }
         None => Ok(()),
     }
 }
 
-// What is said before the first statement: the settings, and where the frames lie.
-fn put_first(alloc: Global, out: &mut Vec<Statement>, choices: &Choices) -> Result<(), NoMemory>
-    ensures { OnOk result (out.new.items ≡ out.old.items ++ on_line 1 (chosen_first choices.now)) }
+// The settings that are given.
+#[tactic(auto, unfolding(crate::specs::Chosen::chosen_settings))]
+fn put_settings(alloc: Global, out: &mut Vec<Statement>, choices: &Choices) -> Result<(), NoMemory>
+    ensures { OnOk result (out.new.items ≡ out.old.items ++ on_line 1 (chosen_settings choices.now)) }
 {
     set(alloc, out, Setting::Approach, choices.approach)?;
     set(alloc, out, Setting::Retract, choices.retract)?;
-    set(alloc, out, Setting::Search, choices.search)?;
+    set(alloc, out, Setting::Search, choices.search)
+}
+
+// What is said before the first statement: how wide the tip is, the settings, and where the frames lie.
+fn put_first(alloc: Global, out: &mut Vec<Statement>, choices: &Choices) -> Result<(), NoMemory>
+    ensures { OnOk result (out.new.items ≡ out.old.items ++ on_line 1 (chosen_first choices.now)) }
+{
+    add(out, 1, tip_said(alloc, choices.tip)?)?;
+    put_settings(alloc, out, choices)?;
     place_all(alloc, out, 1, choices.frames.as_slice())
 }
 
@@ -128,6 +136,43 @@ fn put_shift(
     add(out, line, Form::Shift(name, offsets))
 }
 
+// The direction of an axis, in thousandths.
+fn direction_of(axis: Axis) -> (i32, i32, i32)
+    ensures { result ≡ direction_of axis }
+{
+    match axis {
+        Axis::PlusX => (1000, 0, 0),
+        Axis::MinusX => (-1000, 0, 0),
+        Axis::PlusY => (0, 1000, 0),
+        Axis::MinusY => (0, -1000, 0),
+        Axis::PlusZ => (0, 0, 1000),
+        Axis::MinusZ => (0, 0, -1000),
+    }
+}
+
+// A point, which is approached and left where this is asked for.
+fn put_touch(
+    alloc: Global,
+    out: &mut Vec<Statement>,
+    line: u32,
+    is_approached: bool,
+    place: Coordinates,
+    given: Option<Axis>,
+) -> Result<(), NoMemory>
+    ensures { OnOk result (out.new.items ≡ out.old.items ++ on_line line (touched is_approached place given ∷ [])) }
+{
+    if !is_approached {
+        return add(out, line, Form::Touch(place, given));
+    }
+    match given {
+        Some(axis) => {
+            let form = slanted(alloc, place, direction_of(axis))?;
+            add(out, line, form)
+        }
+        None => add(out, line, gained(Event::UntriedPoint)),
+    }
+}
+
 // A statement, with what is given.
 fn put(
     alloc: Global,
@@ -145,6 +190,9 @@ fn put(
             put_assignment(alloc, out, line, choices.is_auto, target, value, answer)
         }
         Form::Shift(name, offsets) => put_shift(alloc, out, line, choices, name, offsets),
+        Form::Touch(place, given) => {
+            put_touch(alloc, out, line, choices.is_approached, place, given)
+        }
         form => add(out, line, form),
     }
 }

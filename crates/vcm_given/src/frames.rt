@@ -8,19 +8,18 @@ ghost use Rattle.vcm_given.specs.Chosen.{offset, turned, placed, frame_named, ma
 
 use crate::choices::GivenFrame;
 use crate::statements::add;
-use crate::values::thousandths;
 use std::alloc::Global;
-use vcm_events::{Event, gained};
+use vcm_events::{Event, gained, length};
 use vcm_forms::{Form, Offset, Statement};
 use vcm_items::Name;
 use vcm_num::{Items, NoMemory, is};
 use vcm_spec::{FrameAxis, Quarters};
 
 // A shift along an axis.
-fn offset(alloc: Global, axis: FrameAxis, length: i32) -> Result<Offset, NoMemory>
-    ensures { IfOk result (λ o. o ≡ offset axis length) }
+fn offset(alloc: Global, axis: FrameAxis, micrometres: i32) -> Result<Offset, NoMemory>
+    ensures { IfOk result (λ o. o ≡ offset axis micrometres) }
 {
-    let length = thousandths(alloc, length)?;
+    let length = length(alloc, micrometres)?;
     Ok(Offset { axis, length })
 }
 

@@ -6,7 +6,7 @@ use Rattle.vcm_lines.specs.declared.logical.Logical.{Logical}
 use Rattle.vcm_lines.specs.Lexemes.{Lexeme, lexemes}
 use Rattle.vcm_heads.specs.Heads.{found_or, major_of, behind_of, first_field, is_label}
 use Rattle.vcm_heads.specs.declared.rows.Row.{Row}
-use Rattle.vcm_heads.specs.declared.rows.Row.TheVariants.{Shape, Value, Motion, Target, Touch, Scan, Text, Test, Loop, Choice, Call, Stated, Feature, Measure, MeasureEnd, Qualification, Settings, Frame, Fit, Recall, Save, Delete, Mode, Units, Scanning, Table, Compensation, Sensor, From, Values, Features, Silent, Other}
+use Rattle.vcm_heads.specs.declared.rows.Row.TheVariants.{Shape, Value, Motion, Aim, Target, Touch, Scan, Text, Test, Loop, Choice, Call, Stated, Output, Feature, Measure, MeasureEnd, Qualification, Settings, Frame, Fit, Recall, Save, Delete, Mode, Units, Scanning, Table, Compensation, Sensor, From, Values, Features, Silent, Other}
 
 -- the words of statements, each with what becomes of them
 abbrev pub rows : List (List ℕ × Row)
@@ -36,7 +36,7 @@ rows =
     ∷ (codes "SELECT", Choice)
     ∷ (codes "CALL", Call)
     ∷ (codes "DECL", Stated)
-    ∷ (codes "OUTPUT", Stated)
+    ∷ (codes "OUTPUT", Output)
     ∷ (codes "FEAT", Feature)
     ∷ (codes "MEAS", Measure)
     ∷ (codes "ENDMES", MeasureEnd)
@@ -66,7 +66,7 @@ rows =
     ∷ (codes "CONST", Features)
     ∷ (codes "GROUP", Features)
     ∷ (codes "DMISMN", Silent)
-    ∷ (codes "GOTARG", Silent)
+    ∷ (codes "GOTARG", Aim)
     ∷ (codes "DATDEF", Silent)
     ∷ (codes "FEDRAT", Silent)
     ∷ (codes "ACLRAT", Silent)

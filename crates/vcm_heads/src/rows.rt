@@ -17,6 +17,8 @@ pub enum Row {
     Value,
     /// A motion.
     Motion,
+    /// Where a motion below goes to.
+    Aim,
     /// A motion to a place that was given above.
     Target,
     /// A point of a measurement.
@@ -35,6 +37,8 @@ pub enum Row {
     Call,
     /// What is followed where it is one of the language, and does nothing to motions elsewhere.
     Stated,
+    /// OUTPUT.
+    Output,
     /// FEAT.
     Feature,
     /// MEAS.
@@ -106,7 +110,7 @@ const ROWS: &[(&[u8], Row)] = &[
     (b"SELECT", Row::Choice),
     (b"CALL", Row::Call),
     (b"DECL", Row::Stated),
-    (b"OUTPUT", Row::Stated),
+    (b"OUTPUT", Row::Output),
     (b"FEAT", Row::Feature),
     (b"MEAS", Row::Measure),
     (b"ENDMES", Row::MeasureEnd),
@@ -136,7 +140,7 @@ const ROWS: &[(&[u8], Row)] = &[
     (b"CONST", Row::Features),
     (b"GROUP", Row::Features),
     (b"DMISMN", Row::Silent),
-    (b"GOTARG", Row::Silent),
+    (b"GOTARG", Row::Aim),
     (b"DATDEF", Row::Silent),
     (b"FEDRAT", Row::Silent),
     (b"ACLRAT", Row::Silent),

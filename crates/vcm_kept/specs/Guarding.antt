@@ -1,12 +1,12 @@
 -- What each statement of an expanded text is put as, behind those above it.
-use Rattle.std.specs.Prelude.{ℕ, ℤ, pos, codes, Bool, true, false, ◌&&◌, not, nat_lt, if◌then◌else◌, List, [], ◌∷◌, ◌++◌, length, slice_get, map, Option, Some, None, Result, Ok, Err}
+use Rattle.std.specs.Prelude.{ℕ, ℤ, pos, codes, Bool, true, false, ◌&&◌, not, nat_lt, nat_eq, if◌then◌else◌, List, [], ◌∷◌, ◌++◌, length, slice_get, map, Option, Some, None, is_some, Result, Ok, Err}
 use Rattle.std.specs.List.{flat_map, list_all, list_any}
 use Rattle.std.specs.Str.{bytes_eq}
 use Rattle.vcm_num.specs.declared.number.Kind.{Kind}
 use Rattle.vcm_num.specs.declared.number.Kind.TheVariants as kinds
 use Rattle.vcm_num.specs.declared.axis.Axis.{Axis}
 use Rattle.vcm_num.specs.declared.limits.TheConstants.{MOST_NAMES, DEEPEST_BLOCKS}
-use Rattle.vcm_spec.specs.declared.expression.BinaryOp.TheVariants.{Compare}
+use Rattle.vcm_spec.specs.declared.expression.BinaryOp.TheVariants.{Add, Sub, Compare}
 use Rattle.vcm_spec.specs.declared.expression.Relation.TheVariants.{Equal, NotEqual, Greater}
 use Rattle.vcm_spec.specs.declared.words.FrameAxis.{FrameAxis}
 use Rattle.vcm_spec.specs.declared.words.FrameAxis.TheVariants as axes
@@ -41,31 +41,42 @@ use Rattle.vcm_remarks.specs.declared.remark.Cause.{Cause}
 use Rattle.vcm_remarks.specs.declared.remark.Cause.TheVariants as causes
 use Rattle.vcm_events.specs.declared.event.Event.{Event}
 use Rattle.vcm_events.specs.declared.event.Event.TheVariants as events
-use Rattle.vcm_kept.specs.declared.guarded.Guarded.{Guarded}
-use Rattle.vcm_kept.specs.declared.guarding.Text.{Text}
+use Rattle.vcm_templates.specs.declared.guarded.Guarded.{Guarded}
+use Rattle.vcm_kept.specs.declared.text.Text.{Text}
+use Rattle.vcm_events.specs.declared.spots.Spot.{Spot}
+use Rattle.vcm_events.specs.declared.spots.Spot.TheVariants as spots
+use Rattle.vcm_events.specs.Spots.{spot_named, slanted_name}
+use Rattle.vcm_templates.specs.declared.lengths.Kept.TheVariants as kept
+use Rattle.vcm_kept.specs.declared.effects.Effects.{Effects}
+use Rattle.vcm_kept.specs.Effects.{no_effects, either_effects, effects_of, set_by, lose_block}
+use Rattle.vcm_remarks.specs.declared.remark.Remark.TheVariants.{NotReported}
+use Rattle.vcm_kept.specs.Places.{has_place, asks_place, motion_asks, length_asks, point_asks, asks_point, moves, homes, keeps, loses_track, reaches_target, steps_by, slants, keeps_setting, declares_kept, declares_slanted}
 use Rattle.vcm_kept.specs.declared.reached.OpenBlock.{OpenBlock}
-use Rattle.vcm_kept.specs.declared.carried.Carried.{Carried}
-use Rattle.vcm_kept.specs.declared.carried.Carried.TheVariants as carried
-use Rattle.vcm_kept.specs.declared.carried.Item.TheVariants as items
-use Rattle.vcm_kept.specs.declared.carried.TheConstants.{IMPLICIT, FEATURES_STEP}
-use Rattle.vcm_kept.specs.Carried.{carried_name, first_carried, last_carried, known_first, carried_term, item_term}
-use Rattle.vcm_kept.specs.Expressions.{number, truth, pair, both, are_current, knows_frame, in_frame, has_form, is_found}
-use Rattle.vcm_kept.specs.Templates.{stands, set, set_item, lose, know, raise, declare_item, untried, asks, asks_all, where_known, elsewhere, ends, goes, gone, untried_point, touched, lose_all, to_the_end, closes, lose_frame, saves_frame, new_frame, frame_gone}
+use Rattle.vcm_templates.specs.declared.carried.Carried.{Carried}
+use Rattle.vcm_templates.specs.declared.carried.Carried.TheVariants as carried
+use Rattle.vcm_templates.specs.declared.carried.Item.TheVariants as items
+use Rattle.vcm_templates.specs.declared.carried.TheConstants.{IMPLICIT, FEATURES_STEP}
+use Rattle.vcm_templates.specs.Carried.{carried_target, carried_name, first_carried, last_carried, known_first, carried_term, item_term}
+use Rattle.vcm_templates.specs.Expressions.{number, truth, both, are_current, knows_frame, in_frame, has_form, is_found}
+use Rattle.vcm_events.specs.Joined.{pair}
+use Rattle.vcm_templates.specs.Templates.{stands, remarks, set, set_item, lose, know, raise, declare_item, untried, asks, asks_all, where_known, elsewhere, ends, goes, gone, untried_point, touched, lose_all, to_the_end, lose_frame, saves_frame, new_frame, frame_gone}
 
 -- ---- what stands above
 
--- what statements leave behind them in writing: the variables, frames and features that are declared, the feature that is measured, and the blocks that
--- are open, the innermost first
+-- what statements leave behind them in writing: the variables, frames and features that are declared, the feature that is measured, whether a GOTARG is open,
+-- the variables that are set, in order, and the blocks that are open, the innermost first
 pub record Reached : Type 0 where
   pub variables : List Variable
   pub frames : List (List ℕ)
   pub features : List (List ℕ)
   pub measuring : Option (List ℕ)
+  pub aiming : Bool
+  pub assigned : List ℕ
   pub blocks : List OpenBlock
 
 -- nothing stands above
 abbrev pub begun : Reached
-begun = record { variables = []; frames = []; features = []; measuring = None; blocks = [] }
+begun = record { variables = []; frames = []; features = []; measuring = None; aiming = false; assigned = []; blocks = [] }
 
 -- ---- variables
 
@@ -150,10 +161,22 @@ unfoldable pub selects : ℕ → Source → Source → List Guarded
 selects line test n =
     stands line 0 (form.Test test) ∷ set line carried.Place (Plain (number (pos 0))) ∷ set line carried.Sensor n ∷ ends line ∷ []
 
+-- a sensor that isn't known: the probe stands elsewhere
+unfoldable pub unselected : ℕ → List Guarded
+unselected line = set line carried.Place (Plain (number (pos 0))) ∷ set line carried.Sensor (Plain (number (pos 0))) ∷ []
+
+-- whether a sensor is known by its number: that isn't 0, and the statement stands in no macro, where its words may be those of a parameter
+abbrev pub is_selected : ℕ → Option Term → Bool
+is_selected e n = nat_eq e 0 && not (is_nothing n)
+
 -- the sensor of a number
-abbrev pub selects_by : ℕ → Option Term → List Guarded
-selects_by line None = []
-selects_by line (Some n) = selects line (pair (Compare NotEqual) (carried_term carried.Sensor) n) (Plain n)
+abbrev pub selects_number : ℕ → Option Term → List Guarded
+selects_number line None = []
+selects_number line (Some n) = selects line (pair (Compare NotEqual) (carried_term carried.Sensor) n) (Plain n)
+
+-- a sensor, in an expansion
+abbrev pub selects_by : ℕ → ℕ → Option Term → List Guarded
+selects_by line e n = if is_selected e n then selects_number line n else unselected line
 
 -- how many points are wanted: a whole number that is known, else none, which no measurement has
 unfoldable pub wants_points : ℕ → List Variable → Source → List Guarded
@@ -174,73 +197,39 @@ recalls_machine true line = stands line 0 (form.Restore machine_name) ∷ new_fr
 recalls_machine false line = lose_frame line ∷ []
 
 -- what an event does
-abbrev pub happens : Bool → ℕ → List Variable → Event → Source → List Guarded
-happens machine line vs events.Mode e = turns_machine line carried.Mode causes.Mode (is_nothing (leaf_in e))
-happens machine line vs events.Table e = turns_machine line carried.Table causes.Table (is_nothing (leaf_in e))
-happens machine line vs events.Scanning e = turns_machine line carried.Scanning causes.Scanning (is_nothing (leaf_in e))
-happens machine line vs events.Unit e = turns_state line carried.Unit causes.Unit (is_nothing (leaf_in e))
-happens machine line vs events.OwnPoints e = turns_state line carried.OwnPoints causes.Mode (is_nothing (leaf_in e))
-happens machine line vs events.Approach e = turns_state line carried.Approach causes.Setting (is_nothing (leaf_in e))
-happens machine line vs events.Search e = turns_state line carried.Search causes.Setting (is_nothing (leaf_in e))
-happens machine line vs events.Retract e = turns_state line carried.Retract causes.Setting (is_nothing (leaf_in e))
-happens machine line vs events.Clearance e = turns_state line carried.Clearance causes.Setting (is_nothing (leaf_in e))
-happens machine line vs events.Compensation e = turns_state line carried.Compensation causes.Setting (is_nothing (leaf_in e))
-happens machine line vs events.Qualification e = turns_state line carried.Qualification causes.Setting (is_nothing (leaf_in e))
-happens machine line vs events.Home e = turns_state line carried.Home causes.Value (is_nothing (leaf_in e))
-happens machine line vs events.Place e = set line carried.Place (Plain (number (pos 0))) ∷ []
-happens machine line vs events.Untried e = untried line ∷ []
-happens machine line vs events.UntriedPoint e = untried_point line
-happens machine line vs events.Values e = raise line carried.Values (pos 1) ∷ []
-happens machine line vs events.Features e = raise line carried.Features FEATURES_STEP ∷ []
-happens machine line vs events.Frames e = set line carried.Floor (Plain (carried_term carried.Latest)) ∷ []
-happens machine line vs events.Frame e = lose_frame line ∷ []
-happens machine line vs events.Saving e = set line carried.Saving (Plain (number (pos 0))) ∷ []
-happens machine line vs events.Machine e = recalls_machine machine line
-happens machine line vs events.Points e = wants_points line vs e
-happens machine line vs events.Sensor e = selects_by line (leaf_in e)
-happens machine line vs events.Ends e = to_the_end line ∷ []
-happens machine line vs events.All e = untried line ∷ lose_all line
+abbrev pub happens : Text → ℕ → ℕ → List Variable → Event → Source → List Guarded
+happens text line e vs events.Mode v = turns_machine line carried.Mode causes.Mode (is_nothing (leaf_in v))
+happens text line e vs events.Table v = turns_machine line carried.Table causes.Table (is_nothing (leaf_in v))
+happens text line e vs events.Scanning v = turns_machine line carried.Scanning causes.Scanning (is_nothing (leaf_in v))
+happens text line e vs events.Unit v = turns_state line carried.Unit causes.Unit (is_nothing (leaf_in v))
+happens text line e vs events.OwnPoints v = turns_state line carried.OwnPoints causes.Mode (is_nothing (leaf_in v))
+happens text line e vs events.Approach v = turns_state line carried.Approach causes.Setting (is_nothing (leaf_in v))
+happens text line e vs events.Search v = turns_state line carried.Search causes.Setting (is_nothing (leaf_in v))
+happens text line e vs events.Retract v = turns_state line carried.Retract causes.Setting (is_nothing (leaf_in v))
+happens text line e vs events.Clearance v = turns_state line carried.Clearance causes.Setting (is_nothing (leaf_in v))
+happens text line e vs events.Compensation v = turns_state line carried.Compensation causes.Setting (is_nothing (leaf_in v))
+happens text line e vs events.Qualification v = turns_state line carried.Qualification causes.Setting (is_nothing (leaf_in v))
+happens text line e vs events.Target v = reaches_target text.spots text.steps line
+happens text line e vs events.Place v = set line carried.Place (Plain (number (pos 0))) ∷ []
+happens text line e vs events.Untried v = untried line ∷ []
+happens text line e vs events.UntriedPoint v = untried_point line
+happens text line e vs events.Values v = raise line carried.Values (pos 1) ∷ []
+happens text line e vs events.Features v = raise line carried.Features FEATURES_STEP ∷ []
+happens text line e vs events.Frames v = set line carried.Floor (Plain (carried_term carried.Latest)) ∷ []
+happens text line e vs events.Frame v = lose_frame line ∷ []
+happens text line e vs events.Saving v = set line carried.Saving (Plain (number (pos 0))) ∷ []
+happens text line e vs events.Machine v = recalls_machine text.machine line
+happens text line e vs events.Points v = wants_points line vs v
+happens text line e vs events.Sensor v = selects_by line e (leaf_in v)
+happens text line e vs events.Ends v = to_the_end line ∷ []
+happens text line e vs events.All v = untried line ∷ lose_all line
 
 -- an assignment: an event, or one to a variable of the text
-abbrev pub assigns_or : Bool → ℕ → ℕ → List Variable → Target → Source → Option Event → List Guarded
-assigns_or machine line e vs t value None = assigned line e vs t value
-assigns_or machine line e vs t value (Some event) = happens machine line vs event value
+abbrev pub assigns_or : Text → ℕ → ℕ → List Variable → Target → Source → Option Event → List Guarded
+assigns_or text line e vs t value None = assigned line e vs t value
+assigns_or text line e vs t value (Some event) = happens text line e vs event value
 
--- ---- motions and points
-
--- a place whose three lengths have forms
-abbrev pub has_place : List Variable → Coordinates → Bool
-has_place vs p = has_form vs wants.Length p.x && (has_form vs wants.Length p.y && has_form vs wants.Length p.z)
-
--- what has to be known of the variables of a place
-unfoldable pub asks_place : ℕ → List Variable → Coordinates → List Guarded
-asks_place line vs p = asks_all line vs p.x ++ (asks_all line vs p.y ++ asks_all line vs p.z)
-
--- what has to be known for a motion: a programmed mode, no table, no scan, millimetres, the frame
-unfoldable pub motion_asks : Source
-motion_asks = both knows_frame (are_current (carried.Mode ∷ carried.Table ∷ carried.Scanning ∷ carried.Unit ∷ []))
-
--- and for the way home
-unfoldable pub home_asks : Source
-home_asks = are_current (carried.Mode ∷ carried.Table ∷ carried.Scanning ∷ carried.Home ∷ [])
-
--- and for a point
-unfoldable pub point_asks : Source
-point_asks = both motion_asks (are_current
-    (carried.OwnPoints ∷ carried.Approach ∷ carried.Search ∷ carried.Retract ∷ carried.Clearance ∷ carried.Compensation ∷ carried.Qualification ∷ []))
-
--- what has to be known of a point: this, and the variables of its place
-unfoldable pub asks_point : ℕ → List Variable → Source → Coordinates → List Guarded
-asks_point line vs known p = asks line known ∷ (asks_place line vs p ++ goes line)
-
--- GOTO
-abbrev pub moves : ℕ → ℕ → List Variable → Coordinates → List Guarded
-moves line e vs p =
-    if has_place vs p then asks_point line vs motion_asks p ++ stands line e (form.Move p) ∷ gone line else untried line ∷ []
-
--- GOHOME
-abbrev pub goes_home : ℕ → ℕ → List Guarded
-goes_home line e = asks line home_asks ∷ (goes line ++ stands line e form.Home ∷ gone line)
+-- ---- points
 
 -- the feature's own nominal is known here at all
 abbrev pub is_declared : ℕ → Source
@@ -259,12 +248,13 @@ unfoldable pub point : ℕ → ℕ → List ℕ → Coordinates → Option Axis 
 point line e l p d = stands line e (form.Measure l) ∷ stands line e (form.Touch p d) ∷ stands line e form.MeasureEnd ∷ []
 
 -- and behind it
-unfoldable pub point_goes : ℕ → ℕ → List ℕ → Coordinates → Option Axis → List Guarded
-point_goes line e l p d = point line e l p d ++ touched line
+unfoldable pub point_goes : Bool → ℕ → ℕ → List ℕ → Coordinates → Option Axis → List Guarded
+point_goes steps line e l p d =
+    point line e l p d ++ set line carried.Touched (Plain (carried_term carried.Frame)) ∷ (loses_track steps line ++ touched line)
 
 -- a point of a feature that is declared by this place and direction alone
-unfoldable pub own_point : ℕ → ℕ → List ℕ → Coordinates → Axis → List Guarded
-own_point line e l p d = stands line e (form.Feature l p d) ∷ point_goes line e l p (Some d)
+unfoldable pub own_point : Bool → ℕ → ℕ → List ℕ → Coordinates → Axis → List Guarded
+own_point steps line e l p d = stands line e (form.Feature l p d) ∷ point_goes steps line e l p (Some d)
 
 -- what has to be known of the direction of a point: that of the feature in this frame, where none is written
 unfoldable pub direction_asks : ℕ → Option Axis → Source
@@ -272,36 +262,44 @@ direction_asks i None = both point_asks (is_nominal i)
 direction_asks i (Some d) = both point_asks (is_declared i)
 
 -- a point of a feature that is declared
-unfoldable pub touches_declared : ℕ → ℕ → List Variable → List ℕ → ℕ → Coordinates → Option Axis → List Guarded
-touches_declared line e vs l i p d =
-    asks_point line vs (direction_asks i d) p ++ point_goes line e l p d
+unfoldable pub touches_declared : Bool → ℕ → ℕ → List Variable → List ℕ → ℕ → Coordinates → Option Axis → List Guarded
+touches_declared steps line e vs l i p d =
+    asks_point line vs (direction_asks i d) p ++ point_goes steps line e l p d
 
 -- a point of another feature stands for itself: it is declared by its own place and direction
-unfoldable pub touches_itself : ℕ → ℕ → List Variable → List ℕ → Coordinates → Option Axis → List Guarded
-touches_itself line e vs l p None = untried_point line
-touches_itself line e vs l p (Some d) =
-    asks_point line vs point_asks p ++ own_point line e l p d
+unfoldable pub touches_itself : Bool → ℕ → ℕ → List Variable → List ℕ → Coordinates → Option Axis → List Guarded
+touches_itself steps line e vs l p None = untried_point line
+touches_itself steps line e vs l p (Some d) =
+    asks_point line vs point_asks p ++ own_point steps line e l p d
 
 -- a point of the feature that is measured, at its index if it is declared
-abbrev pub touches_at : ℕ → ℕ → List Variable → List ℕ → Coordinates → Option Axis → Option ℕ → List Guarded
-touches_at line e vs l p d None = touches_itself line e vs l p d
-touches_at line e vs l p d (Some i) = touches_declared line e vs l i p d
+abbrev pub touches_at : Bool → ℕ → ℕ → List Variable → List ℕ → Coordinates → Option Axis → Option ℕ → List Guarded
+touches_at steps line e vs l p d None = touches_itself steps line e vs l p d
+touches_at steps line e vs l p d (Some i) = touches_declared steps line e vs l i p d
 
 -- PTMEAS
-abbrev pub touches : ℕ → ℕ → List Variable → List (List ℕ) → Coordinates → Option Axis → Option (List ℕ) → List Guarded
-touches line e vs fs p d None = untried_point line
-touches line e vs fs p d (Some l) = if has_place vs p then touches_at line e vs l p d (index_of fs l) else untried_point line
+abbrev pub touches : Bool → ℕ → ℕ → List Variable → List (List ℕ) → Coordinates → Option Axis → Option (List ℕ) → List Guarded
+touches steps line e vs fs p d None = untried_point line
+touches steps line e vs fs p d (Some l) = if has_place vs p then touches_at steps line e vs l p d (index_of fs l) else untried_point line
 
 -- MEAS: so far it has no points, and one is wanted
 unfoldable pub measures : ℕ → List Guarded
 measures line =
     set line carried.Points (Plain (number (pos 0))) ∷ set line carried.Wanted (Plain (number (pos 1))) ∷ set line carried.Single (Plain (number (pos 1))) ∷ []
 
--- the feature at an index was measured by a single point, or it has no value that is known
+-- whether a measurement is the one touch of a single point
+unfoldable pub touched_once : Source
+touched_once = both (pair (Compare Equal) (carried_term carried.Single) (number (pos 1))) (pair (Compare Equal) (carried_term carried.Points) (number (pos 1)))
+
+-- and in the frame that is the current one still
+abbrev pub touched_here : Source
+touched_here = both touched_once (pair (Compare Equal) (carried_term carried.Touched) (carried_term carried.Frame))
+
+-- the feature at an index was measured by a single point, in the frame that is the current one still, or it has no value that is known
 unfoldable pub keeps_point : ℕ → Option ℕ → List Guarded
 keeps_point line None = []
 keeps_point line (Some i) =
-    stands line 0 (form.Test (both (pair (Compare Equal) (carried_term carried.Single) (number (pos 1))) (pair (Compare Equal) (carried_term carried.Points) (number (pos 1)))))
+    stands line 0 (form.Test touched_here)
     ∷ set_item line items.Measured i in_frame ∷ elsewhere line ∷ set_item line items.Measured i (Plain (number (pos 0))) ∷ ends line ∷ []
 
 -- the index of the feature that is measured, if it is declared
@@ -334,8 +332,7 @@ nominal_where line i =
 -- FEAT of a point along an axis, at its index
 unfoldable pub features_at : ℕ → ℕ → List Variable → List ℕ → Coordinates → Axis → ℕ → List Guarded
 features_at line e vs l p d i =
-    asks line (both knows_frame (are_current (carried.Unit ∷ [])))
-    ∷ (asks_place line vs p ++ where_known line ∷ stands line e (form.Feature l p d) ∷ nominal_where line i)
+    asks line length_asks ∷ (asks_place line vs p ++ where_known line ∷ stands line e (form.Feature l p d) ∷ nominal_where line i)
 
 -- what is carried of a feature is declared with it
 abbrev pub declares_feature : ℕ → ℕ → Option ℕ → List Guarded
@@ -374,11 +371,11 @@ unfoldable pub setting_where : ℕ → Carried → List Guarded
 setting_where line c = know line c ∷ elsewhere line ∷ lose line c causes.Setting ∷ ends line ∷ []
 
 -- SNSET
-abbrev pub configures : ℕ → ℕ → List Variable → Setting → Source → List Guarded
-configures line e vs which value =
+abbrev pub configures : Bool → ℕ → ℕ → List Variable → Setting → Source → List Guarded
+configures slanted line e vs which value =
     if has_form vs wants.Length value
     then asks line (are_current (carried.Unit ∷ []))
-    ∷ (asks_all line vs value ++ where_known line ∷ stands line e (form.Configure which value) ∷ setting_where line (carried_setting which))
+    ∷ (asks_all line vs value ++ where_known line ∷ stands line e (form.Configure which value) ∷ (keeps_setting slanted line which value ++ setting_where line (carried_setting which)))
     else lose line (carried_setting which) causes.Setting ∷ []
 
 -- what is carried of a frame is declared with it
@@ -412,7 +409,7 @@ asks_shifts line vs o = asks_all line vs o.length
 abbrev pub shifts_at : ℕ → ℕ → List Variable → List ℕ → List Offset → Option ℕ → Option ℕ → List Guarded
 shifts_at line e vs l os was None = stands line e (form.Shift l os) ∷ []
 shifts_at line e vs l os was (Some i) =
-    declares_frame line i was ++ asks line (both knows_frame (are_current (carried.Unit ∷ [])))
+    declares_frame line i was ++ asks line length_asks
     ∷ (flat_map (asks_shifts line vs) os ++ where_known line ∷ stands line e (form.Shift l os) ∷ made_where line i)
 
 -- TRANS whose shifts have forms
@@ -427,7 +424,7 @@ shifts line e vs ds l os = if has_shifts vs os then shifts_in line e vs ds l os 
 abbrev pub turns_at : ℕ → ℕ → List ℕ → FrameAxis → Quarters → Option ℕ → Option ℕ → List Guarded
 turns_at line e l axis n was None = stands line e (form.Rotation l axis n) ∷ []
 turns_at line e l axis n was (Some i) =
-    declares_frame line i was ++ asks line knows_frame ∷ where_known line ∷ stands line e (form.Rotation l axis n) ∷ made_where line i
+    declares_frame line i was ++ asks line length_asks ∷ where_known line ∷ stands line e (form.Rotation l axis n) ∷ made_where line i
 
 -- ROTATE
 abbrev pub turns_in : ℕ → ℕ → List (List ℕ) → List ℕ → FrameAxis → Quarters → List Guarded
@@ -454,7 +451,7 @@ is_here Actual i = is_measured i
 -- OBTAIN for the REAL at an index, of the feature at an index
 unfoldable pub obtains_here : ℕ → ℕ → Target → Side → List ℕ → FeatureWord → ℕ → ℕ → List Guarded
 obtains_here line e t side l word i j =
-    asks line (both (is_here side j) (are_current (carried.Unit ∷ []))) ∷ where_known line ∷ stands line e (form.Query t side l word)
+    asks line (both (is_here side j) length_asks) ∷ where_known line ∷ stands line e (form.Query t side l word)
     ∷ know_variable line i ∷ elsewhere line ∷ lose_variable line i ∷ ends line ∷ []
 
 -- OBTAIN for the variable at an index, of this kind, of the feature at an index
@@ -468,16 +465,21 @@ abbrev pub obtains_by : ℕ → ℕ → List Variable → List (List ℕ) → Ta
 obtains_by line e vs fs t side l word None = []
 obtains_by line e vs fs t side l word (Some i) = obtains_at line e t side l word i (slice_get (kinds_of vs) i) (index_of fs l)
 
+-- an output line isn't written
+abbrev pub unreported : ℕ → Guarded
+unreported line = remarks line 0 (form.Assignment (carried_target carried.Asked) (truth false)) NotReported
+
 -- OUTPUT of the feature at an index, where its value is known
 abbrev pub reports_at : ℕ → ℕ → Side → List ℕ → Option ℕ → List Guarded
 reports_at line e side l None = []
-reports_at line e side l (Some i) = asks line (is_here side i) ∷ where_known line ∷ stands line e (form.Report side l) ∷ ends line ∷ []
+reports_at line e side l (Some i) =
+    asks line (both knows_frame (is_here side i)) ∷ where_known line ∷ stands line e (form.Report side l) ∷ elsewhere line ∷ unreported line ∷ ends line ∷ []
 
 -- ---- blocks
 
--- a block that a line opens: that of a choice, or the body of a loop whose variable stands at an index
-abbrev pub block : ℕ → Option ℕ → OpenBlock
-block line index = record { line = line; index = index }
+-- a block that a line opens: that of a choice, or the body of a loop whose variable stands at an index; behind so many variables that were set
+abbrev pub block : ℕ → Option ℕ → List ℕ → OpenBlock
+block line index assigned = record { line = line; index = index; since = length assigned; effects = no_effects }
 
 -- one more block is open; deeper ones are refused
 abbrev pub opened : OpenBlock → List OpenBlock → List OpenBlock
@@ -488,10 +490,34 @@ abbrev pub first_block : List OpenBlock → Option OpenBlock
 first_block [] = None
 first_block (o ∷ os) = Some o
 
+-- what the statements of a block may do
+abbrev pub effects_in : Option OpenBlock → Effects
+effects_in None = no_effects
+effects_in (Some b) = b.effects
+
+-- the variables that they set, of all that were set
+abbrev pub set_in : Option OpenBlock → List ℕ → List ℕ
+set_in None assigned = []
+set_in (Some b) assigned = drop b.since assigned
+
+-- what may be done in the innermost block
+abbrev pub with_effects : Effects → List OpenBlock → List OpenBlock
+with_effects e [] = []
+with_effects e (o ∷ os) = record o { effects = either_effects o.effects e } ∷ os
+
+-- the blocks that are open behind the innermost one: what may be done in that may be done in the one around it
+abbrev pub closed : List OpenBlock → List OpenBlock
+closed [] = []
+closed (o ∷ os) = with_effects o.effects os
+
 -- the line that opened a block, or else this one
 abbrev pub line_of : ℕ → Option OpenBlock → ℕ
 line_of line None = line
 line_of line (Some b) = b.line
+
+-- the end of blocks that hang on something that may not be known: elsewhere it isn't known what they did, told at the line that opens them
+unfoldable pub closes : ℕ → Effects → List ℕ → List Guarded
+closes line e is = elsewhere line ∷ (lose_block line e is ++ ends line ∷ [])
 
 -- a choice by something that isn't known
 unfoldable pub unknown_asks : ℕ → List Guarded
@@ -554,9 +580,13 @@ loop_ends line e (Some i) = stands line e form.RepeatEnd ∷ lose_variable line 
 loop_ends line e None = stands line e form.TestEnd ∷ []
 
 -- ENDDO, by the block that is open
-abbrev pub repeats_end : Bool → ℕ → ℕ → Option OpenBlock → List Guarded
-repeats_end jumps line e (Some b) = loop_ends line e b.index ++ closes jumps b.line
-repeats_end jumps line e None = stands line e form.RepeatEnd ∷ []
+abbrev pub repeats_end : ℕ → ℕ → Option OpenBlock → List ℕ → List Guarded
+repeats_end line e (Some b) assigned = loop_ends line e b.index ++ closes b.line b.effects (drop b.since assigned)
+repeats_end line e None assigned = stands line e form.RepeatEnd ∷ []
+
+-- ENDIF and ENDSEL, by the block that is open
+abbrev pub chooses_end : ℕ → ℕ → Form → Option OpenBlock → List ℕ → List Guarded
+chooses_end line e f b assigned = stands line e f ∷ closes (line_of line b) (effects_in b) (set_in b assigned)
 
 -- ENDFIL, behind the label that leads here
 abbrev pub ending : Bool → ℕ → ℕ → List Guarded
@@ -565,24 +595,41 @@ ending false line e = stands line e form.Ending ∷ []
 
 -- ---- each statement
 
+-- a place that is none to go to at once: it is kept, or a step
+abbrev pub spots_by : ℕ → List Variable → Coordinates → Spot → List Guarded
+spots_by line vs p spots.Home = keeps line vs kept.Home p ++ lose line carried.Home causes.Value ∷ []
+spots_by line vs p spots.Target = keeps line vs kept.Target p
+spots_by line vs p spots.Step = steps_by line vs Add p
+spots_by line vs p spots.Back = steps_by line vs Sub p
+
+-- FEAT, or such a place
+abbrev pub features_or : Reached → ℕ → ℕ → List ℕ → Coordinates → Axis → Option Spot → List Guarded
+features_or r line e l p d None = features line e r.variables r.features l p d
+features_or r line e l p d (Some s) = spots_by line r.variables p s
+
+-- TRANS, or a slanted point
+abbrev pub shifts_or : Text → Reached → ℕ → ℕ → List ℕ → List Offset → Bool → List Guarded
+shifts_or text r line e l os true = slants text.slants text.steps line r.variables os
+shifts_or text r line e l os false = shifts line e r.variables r.frames l os
+
 -- what a statement is put as
 abbrev pub guards : Text → Reached → ℕ → ℕ → Form → List Guarded
 guards text r line e (form.Declaration k names) = declares_all line r.variables e k names ++ stands line e (form.Declaration k names) ∷ []
-guards text r line e (form.Assignment t value) = assigns_or text.machine line e r.variables t value (event_named t.name)
-guards text r line e (form.Move p) = moves line e r.variables p
-guards text r line e form.Home = goes_home line e
+guards text r line e (form.Assignment t value) = assigns_or text line e r.variables t value (event_named t.name)
+guards text r line e (form.Move p) = moves text.steps line e r.variables r.aiming p
+guards text r line e form.Home = homes text.from text.steps line e
 guards text r line e (form.Test c) = tests line e r.variables c
-guards text r line e form.TestEnd = stands line e form.TestEnd ∷ closes text.jumps (line_of line (first_block r.blocks))
+guards text r line e form.TestEnd = chooses_end line e form.TestEnd (first_block r.blocks) r.assigned
 guards text r line e (form.Repeat rounds) = repeats line e r.variables rounds (loops_by r.variables rounds)
-guards text r line e form.RepeatEnd = repeats_end text.jumps line e (first_block r.blocks)
+guards text r line e form.RepeatEnd = repeats_end line e (first_block r.blocks) r.assigned
 guards text r line e (form.Choose c) = chooses line e r.variables c
-guards text r line e form.ChooseEnd = stands line e form.ChooseEnd ∷ closes text.jumps (line_of line (first_block r.blocks))
-guards text r line e (form.Feature l p d) = features line e r.variables r.features l p d
+guards text r line e form.ChooseEnd = chooses_end line e form.ChooseEnd (first_block r.blocks) r.assigned
+guards text r line e (form.Feature l p d) = features_or r line e l p d (spot_named l)
 guards text r line e (form.Measure l) = measures line
-guards text r line e (form.Touch p d) = touches line e r.variables r.features p d r.measuring
+guards text r line e (form.Touch p d) = touches text.steps line e r.variables r.features p d r.measuring
 guards text r line e form.MeasureEnd = measured line r.features r.measuring
-guards text r line e (form.Configure which value) = configures line e r.variables which value
-guards text r line e (form.Shift l os) = shifts line e r.variables r.frames l os
+guards text r line e (form.Configure which value) = configures text.slants line e r.variables which value
+guards text r line e (form.Shift l os) = shifts_or text r line e l os (is_same_name slanted_name l)
 guards text r line e (form.Rotation l axis n) = turns_in line e r.frames l axis n
 guards text r line e (form.Restore l) = recalls_at line e l (index_of r.frames l)
 guards text r line e (form.Query t side l word) = obtains_by line e r.variables r.features t side l word (variable_of r.variables t.expansion t.name)
@@ -590,21 +637,45 @@ guards text r line e (form.Report side l) = reports_at line e side l (index_of r
 guards text r line e form.Ending = ending text.jumps line e
 guards text r line e f = stands line e f ∷ []
 
+-- what stands above behind a place that is none to go to at once
+abbrev pub reaches_spot : Reached → Spot → Reached
+reaches_spot r spots.Target = record r { aiming = true }
+reaches_spot r s = r
+
+-- and behind a FEAT, or such a place
+abbrev pub reaches_feature : Reached → List ℕ → Coordinates → Option Spot → Reached
+reaches_feature r l p None = if has_place r.variables p then record r { features = with_known r.features l } else r
+reaches_feature r l p (Some s) = reaches_spot r s
+
+-- and behind a TRANS, or a slanted point
+abbrev pub reaches_shift : Reached → List ℕ → List Offset → Bool → Reached
+reaches_shift r l os true = r
+reaches_shift r l os false = if has_shifts r.variables os then record r { frames = with_known r.frames l } else r
+
+-- what stands above behind a statement, beside what it may do
+abbrev pub reaches_form : Reached → ℕ → ℕ → Form → Reached
+reaches_form r line e (form.Declaration k names) = record r { variables = with_variables r.variables e k names }
+reaches_form r line e (form.Test c) = record r { blocks = opened (block line None r.assigned) r.blocks }
+reaches_form r line e (form.Choose c) = record r { blocks = opened (block line None r.assigned) r.blocks }
+reaches_form r line e (form.Repeat rounds) = record r { blocks = opened (block line (loops_by r.variables rounds) r.assigned) r.blocks }
+reaches_form r line e form.TestEnd = record r { blocks = closed r.blocks }
+reaches_form r line e form.ChooseEnd = record r { blocks = closed r.blocks }
+reaches_form r line e form.RepeatEnd = record r { blocks = closed r.blocks }
+reaches_form r line e (form.Assignment t value) = if bytes_eq t.name (event_name events.Target) then record r { aiming = false } else r
+reaches_form r line e (form.Feature l p d) = reaches_feature r l p (spot_named l)
+reaches_form r line e (form.Measure l) = record r { measuring = Some l }
+reaches_form r line e form.MeasureEnd = record r { measuring = None }
+reaches_form r line e (form.Shift l os) = reaches_shift r l os (is_same_name slanted_name l)
+reaches_form r line e (form.Rotation l axis n) = record r { frames = with_known r.frames l }
+reaches_form r line e f = r
+
+-- what a statement may do, and the variable that it sets, are noted
+abbrev pub noted : Reached → Effects → List ℕ → Reached
+noted r e is = record r { blocks = with_effects e r.blocks; assigned = r.assigned ++ is }
+
 -- what stands above behind a statement
 abbrev pub reaches : Reached → ℕ → ℕ → Form → Reached
-reaches r line e (form.Declaration k names) = record r { variables = with_variables r.variables e k names }
-reaches r line e (form.Test c) = record r { blocks = opened (block line None) r.blocks }
-reaches r line e (form.Choose c) = record r { blocks = opened (block line None) r.blocks }
-reaches r line e (form.Repeat rounds) = record r { blocks = opened (block line (loops_by r.variables rounds)) r.blocks }
-reaches r line e form.TestEnd = record r { blocks = drop 1 r.blocks }
-reaches r line e form.ChooseEnd = record r { blocks = drop 1 r.blocks }
-reaches r line e form.RepeatEnd = record r { blocks = drop 1 r.blocks }
-reaches r line e (form.Feature l p d) = if has_place r.variables p then record r { features = with_known r.features l } else r
-reaches r line e (form.Measure l) = record r { measuring = Some l }
-reaches r line e form.MeasureEnd = record r { measuring = None }
-reaches r line e (form.Shift l os) = if has_shifts r.variables os then record r { frames = with_known r.frames l } else r
-reaches r line e (form.Rotation l axis n) = record r { frames = with_known r.frames l }
-reaches r line e f = r
+reaches r line e f = noted (reaches_form r line e f) (effects_of f) (set_by r.variables f)
 
 -- what statements are put as, one behind the other
 abbrev pub guards_from : Text → Reached → List Placed → List Guarded
@@ -635,11 +706,55 @@ is_jump_placed p = is_jump p.statement.form
 abbrev pub names_machine_placed : Placed → Bool
 names_machine_placed p = names_machine p.statement.form
 
--- what holds of a text: whether it has jumps, and whether the machine's frame has a name of its own
+-- the place that a statement is, if it is none to go to at once
+abbrev pub spot_in : Form → Option Spot
+spot_in (form.Feature l p d) = spot_named l
+spot_in f = None
+
+-- whether a statement is a place that is kept, or a step
+abbrev pub is_spotted : Placed → Bool
+is_spotted p = is_some (spot_in p.statement.form)
+
+-- whether it is a FROM
+abbrev pub is_start : Option Spot → Bool
+is_start (Some spots.Home) = true
+is_start s = false
+
+abbrev pub is_from : Placed → Bool
+is_from p = is_start (spot_in p.statement.form)
+
+-- whether it is a step
+abbrev pub is_going : Option Spot → Bool
+is_going (Some spots.Step) = true
+is_going (Some spots.Back) = true
+is_going s = false
+
+abbrev pub is_step : Placed → Bool
+is_step p = is_going (spot_in p.statement.form)
+
+-- whether there are two lengths or more
+abbrev pub has_several : List Offset → Bool
+has_several (x ∷ y ∷ os) = true
+has_several os = false
+
+-- whether it is a slanted point, or one that is approached and left
+abbrev pub is_slanted : Form → Bool
+is_slanted (form.Shift l os) = has_several os && is_same_name slanted_name l
+is_slanted f = false
+
+abbrev pub is_slanted_placed : Placed → Bool
+is_slanted_placed p = is_slanted p.statement.form
+
+-- what holds of a text: whether it has jumps, whether the machine's frame has a name of its own, whether it has places that are kept or steps, a FROM, steps, and
+-- points that are approached and left
 abbrev pub text_of : List Placed → Text
 text_of ps = record {
   jumps = list_any is_jump_placed ps;
   machine = not (list_any names_machine_placed ps);
+  spots = list_any is_spotted ps;
+  from = list_any is_from ps;
+  steps = list_any is_step ps;
+  slants = list_any is_slanted_placed ps;
 }
 
 -- a value at the start
@@ -672,4 +787,6 @@ opening = map (λ c. opens c (pos 1)) known_first ++ opens carried.Place (pos 2)
 
 -- what a text is put as
 abbrev pub guarded : List Placed → List Guarded
-guarded ps = declares_carried ++ (keeps_machine (text_of ps).machine ++ (opening ++ guards_from (text_of ps) begun ps))
+guarded ps =
+    declares_carried ++ (declares_kept (text_of ps).spots ++ (declares_slanted (text_of ps).slants ++ (keeps_machine (text_of ps).machine
+    ++ (opening ++ guards_from (text_of ps) begun ps))))

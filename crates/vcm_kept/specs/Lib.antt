@@ -1,6 +1,5 @@
-pub mod Carried
-pub mod Expressions
-pub mod Templates
+pub mod Places
+pub mod Effects
 pub mod Guarding
 pub mod inner
 pub mod Put

@@ -4,7 +4,7 @@ use Rattle.vcm_forms.specs.Statements.{is_counted}
 use Rattle.vcm_macro.specs.declared.placed.Placed.{Placed}
 use Rattle.vcm_remarks.specs.declared.remark.Remark.{Remark}
 use Rattle.vcm_remarks.specs.declared.remark.NumberedRemark.{NumberedRemark}
-use Rattle.vcm_kept.specs.declared.guarded.Guarded.{Guarded}
+use Rattle.vcm_templates.specs.declared.guarded.Guarded.{Guarded}
 
 -- the statement alone
 abbrev pub placed_of : Guarded → Placed

@@ -2,20 +2,20 @@
 
 ghost use Rattle.std.specs.Prelude.{◌≡◌, ◌++◌, ◌∷◌, [], pos, Some, None, true, false, OnOk, IfOk, List, drop};
 ghost use Rattle.vcm_expr.specs.Source.{Plain};
-ghost use Rattle.vcm_kept.specs.Guarding.{unknown_asks, tests, chooses, has_increment, asks_increment, loop_index, loops_by, asks_rounds, repeats, first_block, line_of, loop_ends, repeats_end, ending};
-ghost use Rattle.vcm_kept.specs.Templates.{stands, closes};
+ghost use Rattle.vcm_kept.specs.Guarding.{unknown_asks, tests, chooses, has_increment, asks_increment, loop_index, loops_by, asks_rounds, repeats, first_block, closed, closes, loop_ends, repeats_end, chooses_end, ending};
+ghost use Rattle.vcm_templates.specs.Templates.{stands};
 
-use crate::carried::IMPLICIT;
-use crate::expressions::{has_form, number, truth};
-use crate::guarded::Guarded;
-use crate::reached::OpenBlock;
-use crate::templates::{ask, ask_all, close, stand, where_known};
+use crate::effects::{Effects, lose_block};
+use crate::reached::{OpenBlock, note_effects};
 use crate::variables::{know_variable, lose_variable};
 use std::alloc::Global;
 use vcm_expr::{Expr, Names, Want};
 use vcm_forms::{Form, Rounds};
 use vcm_items::{BoundedStack, Name};
 use vcm_num::{Kind, NoMemory};
+use vcm_templates::{
+    Guarded, IMPLICIT, ask, ask_all, elsewhere, end, has_form, number, stand, truth, where_known,
+};
 
 // A choice by something that isn't known.
 #[tactic(auto, unfolding(crate::specs::Guarding::unknown_asks))]
@@ -174,21 +174,45 @@ fn end_loop(
     }
 }
 
+// The end of blocks that hang on something that may not be known.
+#[tactic(auto, unfolding(crate::specs::Guarding::closes))]
+fn close(
+    alloc: Global,
+    out: &mut Vec<Guarded>,
+    line: u32,
+    effects: Effects,
+    indices: &[u16],
+) -> Result<(), NoMemory>
+    ensures { OnOk result (out.new.items ≡ out.old.items ++ closes line effects indices.now) }
+{
+    elsewhere(out, line)?;
+    lose_block(alloc, out, line, effects, indices)?;
+    end(out, line)
+}
+
+// The variables that are set behind so many.
+fn set_since(assigned: &[u16], since: usize) -> &[u16]
+    ensures { result.now ≡ drop since assigned.now }
+{
+    assigned.get(since..).unwrap_or(&[])
+}
+
 /// ENDDO, by the block that is open, if one is.
 pub(crate) fn end_repeat(
     alloc: Global,
     out: &mut Vec<Guarded>,
     line: u32,
     expansion: u32,
-    jumps: bool,
     block: Option<OpenBlock>,
+    assigned: &[u16],
 ) -> Result<(), NoMemory>
-    ensures { OnOk result (out.new.items ≡ out.old.items ++ repeats_end jumps line expansion block) }
+    ensures { OnOk result (out.new.items ≡ out.old.items ++ repeats_end line expansion block assigned.now) }
 {
     match block {
         Some(block) => {
             end_loop(out, line, expansion, block.index)?;
-            close(alloc, out, block.line, jumps)
+            let set = set_since(assigned, block.since);
+            close(alloc, out, block.line, block.effects, set)
         }
         None => stand(out, line, expansion, Form::RepeatEnd),
     }
@@ -200,16 +224,19 @@ pub(crate) fn end_choice(
     out: &mut Vec<Guarded>,
     line: u32,
     expansion: u32,
-    jumps: bool,
     block: Option<OpenBlock>,
+    assigned: &[u16],
     form: Form,
 ) -> Result<(), NoMemory>
-    ensures { OnOk result (out.new.items ≡ out.old.items ++ stands line expansion form ∷ closes jumps (line_of line block)) }
+    ensures { OnOk result (out.new.items ≡ out.old.items ++ chooses_end line expansion form block assigned.now) }
 {
     stand(out, line, expansion, form)?;
     match block {
-        Some(block) => close(alloc, out, block.line, jumps),
-        None => close(alloc, out, line, jumps),
+        Some(block) => {
+            let set = set_since(assigned, block.since);
+            close(alloc, out, block.line, block.effects, set)
+        }
+        None => close(alloc, out, line, Effects::none(), &[]),
     }
 }
 
@@ -228,10 +255,16 @@ pub(crate) fn end_program(
     stand(out, line, expansion, Form::Ending)
 }
 
-/// The innermost block that is open, which is open no more.
+/// The innermost block that is open, which is open no more: what may be done in it may be done in the one around it.
 pub(crate) fn end_block(blocks: &mut BoundedStack<OpenBlock>) -> Option<OpenBlock>
     ensures top { result ≡ first_block blocks.old }
-    ensures rest { blocks.new ≡ drop 1 blocks.old }
+    ensures rest { blocks.new ≡ closed blocks.old }
 {
-    blocks.pop()
+    match blocks.pop() {
+        Some(block) => {
+            note_effects(blocks, block.effects);
+            Some(block)
+        }
+        None => None,
+    }
 }

@@ -3,26 +3,26 @@
 ghost use Rattle.std.specs.Prelude.{◌≡◌, ◌++◌, ◌∷◌, [], pos, ℤ, Some, None, true, OnOk, IfOk, List, codes};
 ghost use Rattle.vcm_expr.specs.Source.{Plain, leaf_in};
 ghost use Rattle.vcm_events.specs.Events.{event_named};
-ghost use Rattle.vcm_kept.specs.Expressions.{number};
-ghost use Rattle.vcm_kept.specs.declared.carried.Carried.TheVariants as carried;
-ghost use Rattle.vcm_kept.specs.Templates.{elsewhere, ends, set, untried, lose_all};
-ghost use Rattle.vcm_kept.specs.Guarding.{is_nothing, turns_machine, turns_state, selects, selects_by, wants_points, machine_name, recalls_machine, happens, assigns_or};
+ghost use Rattle.vcm_templates.specs.Expressions.{number};
+ghost use Rattle.vcm_templates.specs.declared.carried.Carried.TheVariants as carried;
+ghost use Rattle.vcm_templates.specs.Templates.{elsewhere, ends, set, untried, lose_all};
+ghost use Rattle.vcm_kept.specs.Guarding.{is_nothing, turns_machine, turns_state, selects, unselected, selects_number, selects_by, wants_points, machine_name, recalls_machine, happens, assigns_or};
 
-use crate::carried::{Carried, FEATURES_STEP};
-use crate::expressions::{has_form, number, pair, truth};
-use crate::guarded::Guarded;
-use crate::templates::{
-    ask, ask_all, elsewhere, end, go_to_end, know, lose, lose_all, lose_frame, new_frame, raise,
-    set, set_number, stand, untried, untried_point, where_known,
-};
+use crate::places::go_to_target;
+use crate::text::Text;
 use crate::variables::assign;
 use std::alloc::Global;
-use vcm_events::Event;
+use vcm_events::{Event, pair};
 use vcm_expr::{BinaryOp, Expr, Names, Relation, Term, Want};
 use vcm_forms::{Form, Target};
 use vcm_items::Name;
 use vcm_num::{Literal, NoMemory};
 use vcm_remarks::Cause;
+use vcm_templates::{
+    Carried, FEATURES_STEP, Guarded, ask, ask_all, elsewhere, end, go_to_end, has_form, know, lose,
+    lose_all, lose_frame, new_frame, number, raise, set, set_number, stand, truth, untried,
+    untried_point, where_known,
+};
 
 /// The name of the machine's frame.
 pub(crate) fn machine_name() -> Name
@@ -87,9 +87,23 @@ fn select(out: &mut Vec<Guarded>, line: u32, test: Expr, sensor: Expr) -> Result
     end(out, line)
 }
 
+// A sensor that isn't known.
+#[tactic(auto, unfolding(crate::specs::Guarding::unselected))]
+fn unselect(out: &mut Vec<Guarded>, line: u32) -> Result<(), NoMemory>
+    ensures { OnOk result (out.new.items ≡ out.old.items ++ unselected line) }
+{
+    set_number(out, line, Carried::Place, 0)?;
+    set_number(out, line, Carried::Sensor, 0)
+}
+
 // The sensor of a number.
-fn select_by(alloc: Global, out: &mut Vec<Guarded>, line: u32, value: &Expr) -> Result<(), NoMemory>
-    ensures { OnOk result (out.new.items ≡ out.old.items ++ selects_by line (leaf_in value.now)) }
+fn select_number(
+    alloc: Global,
+    out: &mut Vec<Guarded>,
+    line: u32,
+    value: &Expr,
+) -> Result<(), NoMemory>
+    ensures { OnOk result (out.new.items ≡ out.old.items ++ selects_number line (leaf_in value.now)) }
 {
     let Some(sensor) = value.as_leaf() else {
         return Ok(());
@@ -100,6 +114,23 @@ fn select_by(alloc: Global, out: &mut Vec<Guarded>, line: u32, value: &Expr) -> 
     let op = BinaryOp::Compare(Relation::NotEqual);
     let test = pair(alloc, op, Carried::Sensor.term(), sensor)?;
     select(out, line, test, Expr::leaf(again))
+}
+
+// A sensor, in an expansion.
+fn select_by(
+    alloc: Global,
+    out: &mut Vec<Guarded>,
+    line: u32,
+    expansion: u32,
+    value: &Expr,
+) -> Result<(), NoMemory>
+    ensures { OnOk result (out.new.items ≡ out.old.items ++ selects_by line expansion (leaf_in value.now)) }
+{
+    if expansion == 0 && !is_nothing(value) {
+        select_number(alloc, out, line, value)
+    } else {
+        unselect(out, line)
+    }
 }
 
 // Where it isn't known how many points are wanted, none are, which no measurement has.
@@ -164,12 +195,13 @@ fn happen(
     alloc: Global,
     out: &mut Vec<Guarded>,
     line: u32,
-    machine: bool,
+    expansion: u32,
+    text: Text,
     names: &Names,
     event: Event,
     value: Expr,
 ) -> Result<(), NoMemory>
-    ensures { OnOk result (out.new.items ≡ out.old.items ++ happens machine line names.now event value) }
+    ensures { OnOk result (out.new.items ≡ out.old.items ++ happens text line expansion names.now event value) }
 {
     let v = &value;
     match event {
@@ -184,7 +216,7 @@ fn happen(
         Event::Clearance => turn_state(out, line, Carried::Clearance, Cause::Setting, v),
         Event::Compensation => turn_state(out, line, Carried::Compensation, Cause::Setting, v),
         Event::Qualification => turn_state(out, line, Carried::Qualification, Cause::Setting, v),
-        Event::Home => turn_state(out, line, Carried::Home, Cause::Value, v),
+        Event::Target => go_to_target(alloc, out, text.spots, text.steps, line),
         Event::Place => set_number(out, line, Carried::Place, 0),
         Event::Untried => untried(out, line),
         Event::UntriedPoint => untried_point(alloc, out, line),
@@ -198,9 +230,9 @@ fn happen(
         ),
         Event::Frame => lose_frame(out, line),
         Event::Saving => set_number(out, line, Carried::Saving, 0),
-        Event::Machine => recall_machine(alloc, out, line, machine),
+        Event::Machine => recall_machine(alloc, out, line, text.machine),
         Event::Points => want_points(alloc, out, line, names, value),
-        Event::Sensor => select_by(alloc, out, line, v),
+        Event::Sensor => select_by(alloc, out, line, expansion, v),
         Event::Ends => go_to_end(out, line),
         Event::All => lose_everything(alloc, out, line),
     }
@@ -212,15 +244,15 @@ pub(crate) fn assign_or(
     out: &mut Vec<Guarded>,
     line: u32,
     expansion: u32,
-    machine: bool,
+    text: Text,
     names: &Names,
     target: Target,
     value: Expr,
 ) -> Result<(), NoMemory>
-    ensures { OnOk result (out.new.items ≡ out.old.items ++ assigns_or machine line expansion names.now target value (event_named target.name)) }
+    ensures { OnOk result (out.new.items ≡ out.old.items ++ assigns_or text line expansion names.now target value (event_named target.name)) }
 {
     match Event::named(target.name.as_bytes()) {
-        Some(event) => happen(alloc, out, line, machine, names, event, value),
+        Some(event) => happen(alloc, out, line, expansion, text, names, event, value),
         None => assign(alloc, out, line, expansion, names, target, value),
     }
 }

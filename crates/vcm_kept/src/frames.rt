@@ -6,18 +6,14 @@ ghost use Rattle.vcm_program.specs.Titles.{index_of, entered};
 ghost use Rattle.vcm_expr.specs.declared.typing.Want.TheVariants as wants;
 ghost use Rattle.vcm_forms.specs.declared.statement.Form.TheVariants as form;
 ghost use Rattle.vcm_remarks.specs.declared.remark.Cause.TheVariants as causes;
-ghost use Rattle.vcm_kept.specs.Templates.{asks, asks_all, where_known, stands, elsewhere, lose, know, ends, frame_gone};
+ghost use Rattle.vcm_templates.specs.Templates.{asks, asks_all, where_known, stands, elsewhere, lose, know, ends, frame_gone};
 ghost use Rattle.vcm_kept.specs.Guarding.{carried_setting, configures, setting_where, declares_frame, made_where, found_in, has_shifts, has_shift, asks_shifts, shifts_in, shifts, turns_in, recalls_at, recalled_where, with_known};
 
-use crate::carried::{Carried, Item};
-use crate::expressions::{are_current, has_form, knows_frame, pair};
-use crate::guarded::Guarded;
-use crate::motions::{index_among, length_asks};
-use crate::templates::{
-    ask, ask_all, declare_item, elsewhere, end, frame_gone, know, lose, lose_frame, save_frame,
-    set, stand, where_known,
-};
+use crate::approaches::keep_setting;
+use crate::places::{copied, length_asks};
+use crate::points::index_among;
 use std::alloc::Global;
+use vcm_events::pair;
 use vcm_expr::{BinaryOp, Expr, Names, Relation, Want};
 use vcm_forms::{Form, Offset};
 use vcm_items::Name;
@@ -25,6 +21,10 @@ use vcm_num::{Items, MOST_NAMES, NoMemory};
 use vcm_program::Titles;
 use vcm_remarks::Cause;
 use vcm_spec::{FrameAxis, Quarters, Setting};
+use vcm_templates::{
+    Carried, Guarded, Item, are_current, ask, ask_all, declare_item, elsewhere, end, frame_gone,
+    has_form, know, knows_frame, lose, lose_frame, save_frame, set, stand, where_known,
+};
 
 // The variable of a setting.
 fn carried_setting(which: Setting) -> Carried
@@ -52,13 +52,14 @@ fn setting_where(out: &mut Vec<Guarded>, line: u32, carried: Carried) -> Result<
 pub(crate) fn configure(
     alloc: Global,
     out: &mut Vec<Guarded>,
+    slanted: bool,
     line: u32,
     expansion: u32,
     names: &Names,
     which: Setting,
     value: Expr,
 ) -> Result<(), NoMemory>
-    ensures { OnOk result (out.new.items ≡ out.old.items ++ configures line expansion names.now which value) }
+    ensures { OnOk result (out.new.items ≡ out.old.items ++ configures slanted line expansion names.now which value) }
 {
     let carried = carried_setting(which);
     if !has_form(alloc, names, Want::Length, &value)? {
@@ -67,7 +68,9 @@ pub(crate) fn configure(
     ask(out, line, are_current(alloc, &[Carried::Unit])?)?;
     ask_all(alloc, out, line, names, &value)?;
     where_known(out, line)?;
+    let length = copied(alloc, &value)?;
     stand(out, line, expansion, Form::Configure(which, value))?;
+    keep_setting(alloc, out, slanted, line, which, &length)?;
     setting_where(out, line, carried)
 }
 
@@ -219,7 +222,7 @@ pub(crate) fn rotate(
         return stand(out, line, expansion, Form::Rotation(label, axis, turns));
     };
     declare_carried(alloc, out, line, index, was)?;
-    ask(out, line, knows_frame(alloc)?)?;
+    ask(out, line, length_asks(alloc)?)?;
     where_known(out, line)?;
     stand(out, line, expansion, Form::Rotation(label, axis, turns))?;
     made_where(alloc, out, line, index)

@@ -2,41 +2,41 @@
 
 ghost use Rattle.std.specs.Prelude.{◌≡◌, ◌++◌, ◌∷◌, [], map, pos, Some, None, true, not, OnOk, IfOk, List};
 ghost use Rattle.std.specs.List.{list_any};
-ghost use Rattle.vcm_kept.specs.Carried.{carried_name};
-ghost use Rattle.vcm_kept.specs.Guarding.{begun, guards, reaches, guards_from, is_jump_placed, names_machine_placed, first_names, last_names, text_of, opens, declares_carried, keeps_machine, opening, guarded, measures, measured};
+ghost use Rattle.vcm_templates.specs.Carried.{carried_name};
+ghost use Rattle.std.specs.Prelude.{ℕ};
+ghost use Rattle.vcm_spec.specs.Program.{is_same_name};
+ghost use Rattle.vcm_forms.specs.declared.statement.Coordinates.{Coordinates as Place};
+ghost use Rattle.vcm_forms.specs.declared.statement.Form.TheVariants as form;
+ghost use Rattle.vcm_events.specs.Spots.{spot_named, slanted_name};
+ghost use Rattle.vcm_kept.specs.Effects.{listed_index};
+ghost use Rattle.vcm_kept.specs.Guarding.{spots_by, features_or, shifts_or, reaches_spot, reaches_feature, reaches_shift, spot_in, is_spotted, is_from, is_step, is_slanted_placed, has_several, block, opened, noted, reaches_form, begun, guards, reaches, guards_from, is_jump_placed, names_machine_placed, first_names, last_names, text_of, opens, declares_carried, keeps_machine, opening, guarded, measures, measured};
 ghost use Rattle.vcm_kept.specs.inner.Reaching.{reached, is_block, is_other, is_state};
 
+use crate::approaches::{declare_kept, declare_slanted, slant};
 use crate::blocks::{
     choose, end_block, end_choice, end_program, end_repeat, loops_by, repeat, test,
 };
-use crate::carried::{Carried, IMPLICIT};
+use crate::effects::{Effects, set_by};
 use crate::events::{assign_or, machine_name};
 use crate::frames::{configure, recall, rotate, shift};
-use crate::guarded::Guarded;
-use crate::motions::{declare, end_measure, go_home, go_to, measure, touch};
-use crate::reached::{OpenBlock, begin_block};
-use crate::templates::{set_number, stand};
+use crate::places::{go_home, go_to, keep, step_by};
+use crate::points::{declare, end_measure, measure, touch};
+use crate::reached::{OpenBlock, begin_block, note_effects};
+use crate::text::Text;
 use crate::values::{obtain, report};
 use crate::variables::declare_all;
 use std::alloc::Global;
 use std::mem::replace;
-use vcm_events::Event;
-use vcm_expr::{Expr, Names, Term};
-use vcm_forms::{Form, Offset};
+use vcm_events::{Event, Spot, slanted_name};
+use vcm_expr::{BinaryOp, Expr, Names, Term};
+use vcm_forms::{Coordinates, Form, Offset, Target};
 use vcm_items::{BoundedStack, Name, VariableName};
 use vcm_macro::Placed;
-use vcm_num::{Items, Kind, Literal, NoMemory, is};
+use vcm_num::{Axis, Items, Kind, Literal, NoMemory, is};
 use vcm_program::Titles;
+use vcm_remarks::Cause;
 use vcm_spec::FrameAxis;
-
-/// What holds of a whole text.
-#[derive(Clone, Copy)]
-pub struct Text {
-    /// It has labels or jumps.
-    pub jumps: bool,
-    /// The machine's frame has a name of its own.
-    pub machine: bool,
-}
+use vcm_templates::{Carried, Guarded, IMPLICIT, Kept, lose, set_number, stand};
 
 /// What statements leave behind them in writing.
 #[derive(Drop)]
@@ -45,7 +45,22 @@ pub(crate) struct Above {
     pub(crate) frames: Titles,
     pub(crate) features: Titles,
     pub(crate) measuring: Option<Name>,
+    pub(crate) aiming: bool,
+    pub(crate) assigned: Vec<u16>,
     pub(crate) blocks: BoundedStack<OpenBlock>,
+}
+
+// One more block is open.
+fn open_block(above: &mut Above, line: u32, index: Option<u16>)
+    ensures { reached above.new ≡ record (reached above.old) { blocks = opened (block line index above.old.assigned.items) above.old.blocks } }
+{
+    let block = OpenBlock {
+        line,
+        index,
+        since: above.assigned.len(),
+        effects: Effects::none(),
+    };
+    begin_block(&mut above.blocks, block);
 }
 
 // A statement that opens a block, goes on with one or closes one.
@@ -60,32 +75,32 @@ fn guard_block(
 ) -> Result<(), NoMemory>
     requires { is_block form ≡ true }
     ensures put { OnOk result (out.new.items ≡ out.old.items ++ guards text (reached above.old) line expansion form) }
-    ensures above { OnOk result (reached above.new ≡ reaches (reached above.old) line expansion form) }
+    ensures above { OnOk result (reached above.new ≡ reaches_form (reached above.old) line expansion form) }
 {
     match form {
         Form::Test(condition) => {
             test(alloc, out, line, expansion, &above.names, condition)?;
-            begin_block(&mut above.blocks, OpenBlock { line, index: None });
+            open_block(above, line, None);
             Ok(())
         }
         Form::Choose(value) => {
             choose(alloc, out, line, expansion, &above.names, value)?;
-            begin_block(&mut above.blocks, OpenBlock { line, index: None });
+            open_block(above, line, None);
             Ok(())
         }
         Form::Repeat(rounds) => {
             let index = loops_by(alloc, &above.names, &rounds)?;
             repeat(alloc, out, line, expansion, &above.names, rounds, index)?;
-            begin_block(&mut above.blocks, OpenBlock { line, index });
+            open_block(above, line, index);
             Ok(())
         }
         Form::RepeatEnd => {
             let block = end_block(&mut above.blocks);
-            end_repeat(alloc, out, line, expansion, text.jumps, block)
+            end_repeat(alloc, out, line, expansion, block, &above.assigned)
         }
         form => {
             let block = end_block(&mut above.blocks);
-            end_choice(alloc, out, line, expansion, text.jumps, block, form)
+            end_choice(alloc, out, line, expansion, block, &above.assigned, form)
         }
     }
 }
@@ -113,7 +128,7 @@ fn guard_other(
 ) -> Result<(), NoMemory>
     requires { is_other form ≡ true }
     ensures put { OnOk result (out.new.items ≡ out.old.items ++ guards text (reached above.old) line expansion form) }
-    ensures above { OnOk result (reached above.new ≡ reaches (reached above.old) line expansion form) }
+    ensures above { OnOk result (reached above.new ≡ reaches_form (reached above.old) line expansion form) }
 {
     if is_block(&form) {
         return guard_block(alloc, out, text, above, line, expansion, form);
@@ -122,6 +137,45 @@ fn guard_other(
         Form::Ending => end_program(out, line, expansion, text.jumps),
         form => stand(out, line, expansion, form),
     }
+}
+
+// TRANS, or a slanted point.
+fn guard_shift(
+    alloc: Global,
+    out: &mut Vec<Guarded>,
+    text: Text,
+    above: &mut Above,
+    line: u32,
+    expansion: u32,
+    label: Name,
+    offsets: Items<Offset>,
+) -> Result<(), NoMemory>
+    ensures put { OnOk result (out.new.items ≡ out.old.items ++ shifts_or text (reached above.old) line expansion label offsets (is_same_name slanted_name label)) }
+    ensures above { OnOk result (reached above.new ≡ reaches_shift (reached above.old) label offsets (is_same_name slanted_name label)) }
+{
+    if slanted_name() == label {
+        let legs = offsets.as_slice();
+        return slant(
+            alloc,
+            out,
+            text.slants,
+            text.steps,
+            line,
+            &above.names,
+            legs,
+        );
+    }
+    let names = &above.names;
+    shift(
+        alloc,
+        out,
+        line,
+        expansion,
+        names,
+        &mut above.frames,
+        label,
+        offsets,
+    )
 }
 
 // A frame, a setting or a value of a feature.
@@ -136,25 +190,15 @@ fn guard_state(
 ) -> Result<(), NoMemory>
     requires { is_state form ≡ true }
     ensures put { OnOk result (out.new.items ≡ out.old.items ++ guards text (reached above.old) line expansion form) }
-    ensures above { OnOk result (reached above.new ≡ reaches (reached above.old) line expansion form) }
+    ensures above { OnOk result (reached above.new ≡ reaches_form (reached above.old) line expansion form) }
 {
     let e = expansion;
     match form {
         Form::Configure(which, value) => {
-            configure(alloc, out, line, e, &above.names, which, value)
+            configure(alloc, out, text.slants, line, e, &above.names, which, value)
         }
         Form::Shift(label, offsets) => {
-            let names = &above.names;
-            shift(
-                alloc,
-                out,
-                line,
-                e,
-                names,
-                &mut above.frames,
-                label,
-                offsets,
-            )
+            guard_shift(alloc, out, text, above, line, e, label, offsets)
         }
         Form::Rotation(label, axis, turns) => {
             rotate(alloc, out, line, e, &mut above.frames, label, axis, turns)
@@ -201,6 +245,102 @@ fn finish_measure(
     Ok(())
 }
 
+// An assignment, or an event; behind the last way to a target none is open.
+fn guard_assignment(
+    alloc: Global,
+    out: &mut Vec<Guarded>,
+    text: Text,
+    above: &mut Above,
+    line: u32,
+    expansion: u32,
+    target: Target,
+    value: Expr,
+) -> Result<(), NoMemory>
+    ensures put { OnOk result (out.new.items ≡ out.old.items ++ guards text (reached above.old) line expansion (form.Assignment target value)) }
+    ensures above { OnOk result (reached above.new ≡ reaches_form (reached above.old) line expansion (form.Assignment target value)) }
+{
+    let is_target = is(target.name.as_bytes(), Event::Target.name());
+    assign_or(
+        alloc,
+        out,
+        line,
+        expansion,
+        text,
+        &above.names,
+        target,
+        value,
+    )?;
+    if is_target {
+        above.aiming = false;
+    }
+    Ok(())
+}
+
+// A place that is none to go to at once.
+fn guard_spot(
+    alloc: Global,
+    out: &mut Vec<Guarded>,
+    line: u32,
+    names: &Names,
+    place: &Coordinates,
+    spot: Spot,
+) -> Result<(), NoMemory>
+    ensures { OnOk result (out.new.items ≡ out.old.items ++ spots_by line names.now place.now spot) }
+{
+    match spot {
+        Spot::Home => {
+            keep(alloc, out, line, names, Kept::Home, place)?;
+            lose(out, line, Carried::Home, Cause::Value)
+        }
+        Spot::Target => keep(alloc, out, line, names, Kept::Target, place),
+        Spot::Step => step_by(alloc, out, line, names, BinaryOp::Add, place),
+        Spot::Back => step_by(alloc, out, line, names, BinaryOp::Sub, place),
+    }
+}
+
+// Behind a GOTARG one is open.
+fn aim(above: &mut Above, spot: Spot)
+    ensures { reached above.new ≡ reaches_spot (reached above.old) spot }
+{
+    match spot {
+        Spot::Target => above.aiming = true,
+        Spot::Home | Spot::Step | Spot::Back => {}
+    }
+}
+
+// FEAT, or such a place.
+fn guard_feature(
+    alloc: Global,
+    out: &mut Vec<Guarded>,
+    above: &mut Above,
+    line: u32,
+    expansion: u32,
+    label: Name,
+    place: Coordinates,
+    axis: Axis,
+) -> Result<(), NoMemory>
+    ensures put { OnOk result (out.new.items ≡ out.old.items ++ features_or (reached above.old) line expansion label place axis (spot_named label)) }
+    ensures above { OnOk result (reached above.new ≡ reaches_feature (reached above.old) label place (spot_named label)) }
+{
+    if let Some(spot) = Spot::named(label.as_bytes()) {
+        guard_spot(alloc, out, line, &above.names, &place, spot)?;
+        aim(above, spot);
+        return Ok(());
+    }
+    let names = &above.names;
+    declare(
+        alloc,
+        out,
+        line,
+        expansion,
+        names,
+        &mut above.features,
+        label,
+        place,
+        axis,
+    )
+}
+
 // A statement that a text is put as.
 fn guard(
     alloc: Global,
@@ -212,7 +352,7 @@ fn guard(
     form: Form,
 ) -> Result<(), NoMemory>
     ensures put { OnOk result (out.new.items ≡ out.old.items ++ guards text (reached above.old) line expansion form) }
-    ensures above { OnOk result (reached above.new ≡ reaches (reached above.old) line expansion form) }
+    ensures above { OnOk result (reached above.new ≡ reaches_form (reached above.old) line expansion form) }
 {
     let e = expansion;
     match form {
@@ -222,24 +362,15 @@ fn guard(
             stand(out, line, e, Form::Declaration(kind, names))
         }
         Form::Assignment(target, value) => {
-            let machine = text.machine;
-            assign_or(alloc, out, line, e, machine, &above.names, target, value)
+            guard_assignment(alloc, out, text, above, line, e, target, value)
         }
-        Form::Move(place) => go_to(alloc, out, line, e, &above.names, place),
-        Form::Home => go_home(alloc, out, line, e),
+        Form::Move(place) => {
+            let (steps, aiming) = (text.steps, above.aiming);
+            go_to(alloc, out, steps, line, e, &above.names, aiming, place)
+        }
+        Form::Home => go_home(alloc, out, text.from, text.steps, line, e),
         Form::Feature(label, place, axis) => {
-            let names = &above.names;
-            declare(
-                alloc,
-                out,
-                line,
-                e,
-                names,
-                &mut above.features,
-                label,
-                place,
-                axis,
-            )
+            guard_feature(alloc, out, above, line, e, label, place, axis)
         }
         Form::Measure(label) => begin_measure(out, line, above, label),
         Form::Touch(place, given) => {
@@ -247,6 +378,7 @@ fn guard(
             touch(
                 alloc,
                 out,
+                text.steps,
                 line,
                 e,
                 names,
@@ -259,6 +391,17 @@ fn guard(
         Form::MeasureEnd => finish_measure(alloc, out, line, above),
         form => guard_state(alloc, out, text, above, line, expansion, form),
     }
+}
+
+// What a statement may do, and the variable that it sets, are noted.
+fn note(above: &mut Above, effects: Effects, index: Option<u16>) -> Result<(), NoMemory>
+    ensures { OnOk result (reached above.new ≡ noted (reached above.old) effects (listed_index index)) }
+{
+    note_effects(&mut above.blocks, effects);
+    if let Some(index) = index {
+        above.assigned.push(index)?;
+    }
+    Ok(())
 }
 
 // One statement more.
@@ -274,15 +417,11 @@ fn guard_placed(
 {
     let line = placed.statement.line;
     let expansion = placed.expansion;
-    guard(
-        alloc,
-        out,
-        text,
-        above,
-        line,
-        expansion,
-        placed.statement.form,
-    )
+    let form = placed.statement.form;
+    let effects = Effects::of(&form);
+    let index = set_by(&above.names, &form);
+    guard(alloc, out, text, above, line, expansion, form)?;
+    note(above, effects, index)
 }
 
 // All statements, one behind the other.
@@ -337,6 +476,86 @@ fn has_machine(all: &[Placed]) -> bool
     all.iter().any(|placed| names_machine(placed))
 }
 
+// The place that a statement is, if it is none to go to at once.
+fn spot_in(placed: &Placed) -> Option<Spot>
+    ensures { result ≡ spot_in placed.now.statement.form }
+{
+    match &placed.statement.form {
+        Form::Feature(label, _, _) => Spot::named(label.as_bytes()),
+        _ => None,
+    }
+}
+
+// Whether a statement is one.
+fn is_spotted(placed: &Placed) -> bool
+    ensures { result ≡ is_spotted placed.now }
+{
+    spot_in(placed).is_some()
+}
+
+// Whether it is a FROM.
+fn is_from(placed: &Placed) -> bool
+    ensures { result ≡ is_from placed.now }
+{
+    matches!(spot_in(placed), Some(Spot::Home))
+}
+
+// Whether it is a step.
+fn is_step(placed: &Placed) -> bool
+    ensures { result ≡ is_step placed.now }
+{
+    match spot_in(placed) {
+        Some(Spot::Step) => true,
+        Some(Spot::Back) => true,
+        _ => false,
+    }
+}
+
+// Whether a statement is a point that is approached and left.
+fn is_slanted(placed: &Placed) -> bool
+    ensures { result ≡ is_slanted_placed placed.now }
+{
+    match &placed.statement.form {
+        Form::Shift(label, offsets) => has_several(offsets.as_slice()) && slanted_name() == *label,
+        _ => false,
+    }
+}
+
+// Whether there are two lengths or more.
+fn has_several(offsets: &[Offset]) -> bool
+    ensures { result ≡ has_several offsets.now }
+{
+    offsets.len() >= 2
+}
+
+// Whether one of the statements is a place that is kept, or a step.
+fn has_spots(all: &[Placed]) -> bool
+    ensures { result ≡ list_any is_spotted all.now }
+{
+    all.iter().any(|placed| is_spotted(placed))
+}
+
+// Whether one is a FROM.
+fn has_from(all: &[Placed]) -> bool
+    ensures { result ≡ list_any is_from all.now }
+{
+    all.iter().any(|placed| is_from(placed))
+}
+
+// Whether one is a step.
+fn has_steps(all: &[Placed]) -> bool
+    ensures { result ≡ list_any is_step all.now }
+{
+    all.iter().any(|placed| is_step(placed))
+}
+
+// Whether one is a point that is approached and left.
+fn has_slants(all: &[Placed]) -> bool
+    ensures { result ≡ list_any is_slanted_placed all.now }
+{
+    all.iter().any(|placed| is_slanted(placed))
+}
+
 // What holds of a text.
 fn text_of(all: &[Placed]) -> Text
     ensures { result ≡ text_of all.now }
@@ -344,6 +563,10 @@ fn text_of(all: &[Placed]) -> Text
     Text {
         jumps: has_jumps(all),
         machine: !has_machine(all),
+        spots: has_spots(all),
+        from: has_from(all),
+        steps: has_steps(all),
+        slants: has_slants(all),
     }
 }
 
@@ -402,6 +625,7 @@ fn last_carried(alloc: Global) -> Result<Items<VariableName>, NoMemory>
             Carried::Wanted,
             Carried::Single,
             Carried::Sensor,
+            Carried::Touched,
         ],
     )
 }
@@ -479,6 +703,8 @@ fn nothing_above(alloc: Global) -> Above
         frames: Titles::new(alloc),
         features: Titles::new(alloc),
         measuring: None,
+        aiming: false,
+        assigned: Vec::new(alloc),
         blocks: BoundedStack::new(),
     }
 }
@@ -494,6 +720,8 @@ pub(crate) fn guarded(alloc: Global, all: Vec<Placed>) -> Result<Vec<Guarded>, N
     let text = text_of(&all);
     let mut out = Vec::new(alloc);
     declare_carried(alloc, &mut out)?;
+    declare_kept(alloc, &mut out, text.spots)?;
+    declare_slanted(alloc, &mut out, text.slants)?;
     keep_machine(alloc, &mut out, text.machine)?;
     open(&mut out)?;
     let mut above = nothing_above(alloc);

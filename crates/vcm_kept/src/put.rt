@@ -4,12 +4,12 @@ ghost use Rattle.std.specs.Prelude.{◌≡◌, ◌++◌, ◌+◌, ◌<◌, ◌�
 ghost use Rattle.vcm_kept.specs.Guarding.{guarded};
 ghost use Rattle.vcm_kept.specs.Put.{placed_in, remark_at, remarks_from, remarks_in, number_behind};
 
-use crate::guarded::Guarded;
 use crate::guarding::guarded;
 use std::alloc::Global;
 use vcm_macro::Placed;
 use vcm_num::NoMemory;
 use vcm_remarks::{NumberedRemark, Remark};
+use vcm_templates::Guarded;
 
 /// A program that a text is put as, and the remarks on its statements, in order.
 #[derive(Drop)]

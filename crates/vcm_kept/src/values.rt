@@ -3,13 +3,10 @@
 ghost use Rattle.std.specs.Prelude.{◌≡◌, ◌++◌, ◌∷◌, [], Some, None, OnOk, IfOk, List};
 ghost use Rattle.vcm_items.specs.Names.{variable_of};
 ghost use Rattle.vcm_program.specs.Titles.{index_of};
-ghost use Rattle.vcm_kept.specs.Guarding.{is_here, obtains_by, obtains_here, reports_at};
+ghost use Rattle.vcm_kept.specs.Guarding.{is_here, obtains_by, obtains_here, unreported, reports_at};
 
-use crate::carried::Carried;
-use crate::expressions::{are_current, both};
-use crate::guarded::Guarded;
-use crate::motions::{index_among, is_measured, is_nominal};
-use crate::templates::{ask, end, stand, where_known};
+use crate::places::length_asks;
+use crate::points::{index_among, is_measured, is_nominal};
 use crate::variables::{lose_variable, otherwise_lose};
 use std::alloc::Global;
 use vcm_expr::{Expr, Names};
@@ -17,7 +14,11 @@ use vcm_forms::{Form, Target};
 use vcm_items::Name;
 use vcm_num::{Kind, NoMemory};
 use vcm_program::Titles;
+use vcm_remarks::Remark;
 use vcm_spec::{FeatureWord, Source};
+use vcm_templates::{
+    Carried, Guarded, ask, both, elsewhere, end, knows_frame, remark, stand, truth, where_known,
+};
 
 // The frame in which a feature's value is known is the current one.
 fn is_here(alloc: Global, side: Source, index: u16) -> Result<Expr, NoMemory>
@@ -46,8 +47,7 @@ fn obtain_here(
     ensures { OnOk result (out.new.items ≡ out.old.items ++ obtains_here line expansion target side label word index feature) }
 {
     let here = is_here(alloc, side, feature)?;
-    let unit = are_current(alloc, &[Carried::Unit])?;
-    ask(out, line, both(alloc, &here, &unit)?)?;
+    ask(out, line, both(alloc, &here, &length_asks(alloc)?)?)?;
     where_known(out, line)?;
     stand(out, line, expansion, Form::Query(target, side, label, word))?;
     otherwise_lose(out, line, index)
@@ -79,6 +79,14 @@ pub(crate) fn obtain(
     }
 }
 
+// An output line isn't written.
+fn leave_out(out: &mut Vec<Guarded>, line: u32) -> Result<(), NoMemory>
+    ensures { OnOk result (out.new.items ≡ out.old.items ++ unreported line ∷ []) }
+{
+    let asked = Form::Assignment(Carried::Asked.target(), truth(false));
+    remark(out, line, 0, asked, Remark::NotReported)
+}
+
 /// OUTPUT.
 pub(crate) fn report(
     alloc: Global,
@@ -94,8 +102,11 @@ pub(crate) fn report(
     let Some(index) = index_among(declared, &label) else {
         return Ok(());
     };
-    ask(out, line, is_here(alloc, side, index)?)?;
+    let here = is_here(alloc, side, index)?;
+    ask(out, line, both(alloc, &knows_frame(alloc)?, &here)?)?;
     where_known(out, line)?;
     stand(out, line, expansion, Form::Report(side, label))?;
+    elsewhere(out, line)?;
+    leave_out(out, line)?;
     end(out, line)
 }

@@ -4,21 +4,19 @@ ghost use Rattle.std.specs.Prelude.{◌≡◌, ◌++◌, ◌∷◌, [], pos, Som
 ghost use Rattle.vcm_expr.specs.Source.{Plain};
 ghost use Rattle.vcm_spec.specs.Setup.{kinds_of};
 ghost use Rattle.vcm_items.specs.Names.{variable_of};
-ghost use Rattle.vcm_kept.specs.Expressions.{number};
-ghost use Rattle.vcm_kept.specs.Templates.{elsewhere, ends};
+ghost use Rattle.vcm_templates.specs.Expressions.{number};
+ghost use Rattle.vcm_templates.specs.Templates.{elsewhere, ends};
 ghost use Rattle.vcm_kept.specs.Guarding.{with_variable, with_variables, declares_one, declares_all, want_of, know_variable, lose_variable, assigned_where, assigned};
 
-use crate::carried::{Carried, Item};
-use crate::expressions::{has_form, truth};
-use crate::guarded::Guarded;
-use crate::templates::{
-    ask, ask_all, declare_item, elsewhere, end, lose_item, set_item, stand, where_known,
-};
 use std::alloc::Global;
 use vcm_expr::{Expr, Names, Want};
 use vcm_forms::{Form, Target};
 use vcm_items::VariableName;
 use vcm_num::{Kind, MOST_NAMES, NoMemory};
+use vcm_templates::{
+    Carried, Guarded, Item, ask, ask_all, declare_item, elsewhere, end, has_form, lose_item,
+    set_item, stand, truth, where_known,
+};
 
 // A variable that is declared.
 fn declare_one(

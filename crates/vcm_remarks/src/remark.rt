@@ -28,6 +28,10 @@ pub enum Remark {
     NotTried,
     /// The next way begins elsewhere than on the machine: something before it wasn't tried.
     BeginsElsewhere,
+    /// A point of the text was approached and left here, and not touched.
+    Approached,
+    /// An output line of the text isn't written here: its feature was measured in another frame, or not.
+    NotReported,
     /// From here on this isn't known.
     Loses(Cause),
     /// Nothing is tried from here on: the run goes to its end.

@@ -1,11 +1,13 @@
 -- What each statement of a producer's text says.
-use Rattle.std.specs.Prelude.{ℕ, pos, codes, Bool, true, false, if◌then◌else◌, List, [], ◌∷◌, Option, Some, None, Result, Ok, Err}
+use Rattle.std.specs.Prelude.{ℕ, pos, codes, Bool, true, false, if◌then◌else◌, List, [], ◌∷◌, Option, Some, None, Result, Ok, Err, ◌++◌, ◌||◌}
 use Rattle.std.specs.List.{list_any}
 use Rattle.std.specs.Str.{bytes_eq}
 use Rattle.vcm_num.specs.declared.axis.Axis.TheVariants.{PlusZ}
 use Rattle.vcm_num.specs.declared.number.Literal.TheVariants.{Int}
 use Rattle.vcm_spec.specs.declared.words.FrameAxis.TheVariants as axes
 use Rattle.vcm_spec.specs.declared.words.Setting.TheVariants.{Depth}
+use Rattle.vcm_spec.specs.declared.words.Source.{Source as Side}
+use Rattle.vcm_spec.specs.declared.words.Source.TheVariants.{Nominal, Actual}
 use Rattle.vcm_items.specs.NameBytes.{is_name, is_variable_name}
 use Rattle.vcm_lines.specs.declared.fault.FaultCode.{FaultCode}
 use Rattle.vcm_lines.specs.Lexemes.{Lexeme}
@@ -20,7 +22,7 @@ use Rattle.vcm_forms.specs.declared.statement.Argument.{Argument}
 use Rattle.vcm_forms.specs.declared.statement.Coordinates.{Coordinates}
 use Rattle.vcm_forms.specs.declared.statement.Rounds.{Rounds}
 use Rattle.vcm_forms.specs.declared.statement.Form.{Form}
-use Rattle.vcm_forms.specs.declared.statement.Form.TheVariants.{Assignment, Test, Repeat, Choose, Call, Feature, Measure, MeasureEnd, Configure, Shift, Restore}
+use Rattle.vcm_forms.specs.declared.statement.Form.TheVariants.{Assignment, Test, Repeat, Choose, Call, Feature, Measure, MeasureEnd, Configure, Shift, Restore, Report}
 use Rattle.vcm_events.specs.declared.event.Event.{Event}
 use Rattle.vcm_events.specs.declared.event.Event.TheVariants as events
 use Rattle.vcm_heads.specs.declared.heads.Mark.TheVariants as marks
@@ -31,6 +33,9 @@ use Rattle.vcm_events.specs.Events.{valued, event_form, lost, gained}
 use Rattle.vcm_events.specs.Unknown.{unknown, unknown_place, unknown_rounds}
 use Rattle.vcm_heads.specs.Heads.{past, run_at, past_word, label_at, title_at, assigned_at, major_of, behind_of, first_field, is_label}
 use Rattle.vcm_heads.specs.Rows.{row_in}
+use Rattle.vcm_events.specs.declared.spots.Spot.TheVariants as spots
+use Rattle.vcm_events.specs.Spots.{spotted}
+use Rattle.vcm_said.specs.Places.{place_given, step_at, slant_at, names_table, names_head}
 
 -- ---- what isn't known
 
@@ -194,6 +199,45 @@ recall_otherwise (Some (l, [])) word = if is_name l then one (Restore l) else on
 recall_otherwise (Some l) word = lost events.Frame ∷ lost events.Frames ∷ []
 recall_otherwise None word = recall_lost word
 
+-- what the words of a motion that isn't tried may do besides: turn a table, or the head
+abbrev pub turning : List Lexeme → List Form
+turning ws = (if names_table ws then one (lost events.Table) else []) ++ (if names_head ws then one (lost events.Sensor) else [])
+
+-- a motion of another form: a step from the probe's place, or one that isn't tried
+abbrev pub motion_otherwise : Option Form → List Lexeme → List Form
+motion_otherwise (Some f) ws = one f
+motion_otherwise None ws = gained events.Untried ∷ turning ws
+
+-- a point of another form: a slanted one, or one that isn't tried
+abbrev pub touch_otherwise : Option Form → List Lexeme → List Form
+touch_otherwise (Some f) ws = one f
+touch_otherwise None ws = gained events.UntriedPoint ∷ turning ws
+
+-- whether nothing stands behind a label
+abbrev pub is_lone_label : Option (List ℕ × List Lexeme) → Bool
+is_lone_label (Some (l, [])) = true
+is_lone_label l = false
+
+-- whether SNSLCT has one sensor by its name alone, S(l) or SA(l)
+abbrev pub is_plain_sensor : Option (List Lexeme) → Bool
+is_plain_sensor None = false
+is_plain_sensor (Some fields) = is_lone_label (title_at (codes "S") fields) || is_lone_label (title_at (codes "SA") fields)
+
+-- SNSLCT: the sensor is known by the line of its statement, where that has one by its name alone
+abbrev pub sensor_said : Bool → ℕ → List Form
+sensor_said true line = one (event_form events.Sensor (pos line))
+sensor_said false line = one (lost events.Sensor)
+
+-- the output of a feature, if it is one
+abbrev pub reported : Side → Option (List ℕ × List Lexeme) → List Form
+reported side None = []
+reported side (Some l) = if is_name l.0 then one (Report side l.0) else []
+
+-- OUTPUT of a feature with other words behind it, of which it is reported
+abbrev pub report_at : Option (List Lexeme) → List Form
+report_at None = []
+report_at (Some fields) = reported Actual (title_at (codes "FA") fields) ++ reported Nominal (title_at (codes "F") fields)
+
 -- a programmed mode, or one in which the machine may take points of its own, or another one
 abbrev pub mode_said : List ℕ → List Form
 mode_said word =
@@ -219,10 +263,12 @@ saved word =
 abbrev pub row_said : Row → Option Form → ℕ → (ws behind : List Lexeme) → List Form
 row_said row.Shape f line ws behind = stated f
 row_said row.Stated f line ws behind = stated f
+row_said row.Output f line ws behind = or_said f (report_at (past marks.Slash behind))
 row_said row.Value f line ws behind = or_said f (value_lost (assigned_at ws))
-row_said row.Motion f line ws behind = or_said f (one (gained events.Untried))
-row_said row.Target f line ws behind = one (gained events.Untried)
-row_said row.Touch f line ws behind = or_said f (one (gained events.UntriedPoint))
+row_said row.Motion f line ws behind = or_said f (motion_otherwise (step_at behind) behind)
+row_said row.Aim f line ws behind = one (spotted spots.Target (place_given behind))
+row_said row.Target f line ws behind = one (gained events.Target)
+row_said row.Touch f line ws behind = or_said f (touch_otherwise (slant_at behind) behind)
 row_said row.Scan f line ws behind = one (gained events.UntriedPoint)
 row_said row.Text f line ws behind = or_said f (text_lost (first_field behind) behind)
 row_said row.Test f line ws behind = or_said f (one (Test unknown))
@@ -244,8 +290,8 @@ row_said row.Units f line ws behind = units_said f
 row_said row.Scanning f line ws behind = one (turns events.Scanning (bytes_eq (first_field behind) (codes "OFF")))
 row_said row.Table f line ws behind = one (lost events.Table)
 row_said row.Compensation f line ws behind = one (turns events.Compensation (bytes_eq (first_field behind) (codes "ON")))
-row_said row.Sensor f line ws behind = one (event_form events.Sensor (pos line))
-row_said row.From f line ws behind = one (lost events.Home)
+row_said row.Sensor f line ws behind = sensor_said (is_plain_sensor (past marks.Slash behind)) line
+row_said row.From f line ws behind = one (spotted spots.Home (place_given behind))
 row_said row.Values f line ws behind = lost events.Values ∷ lost events.Features ∷ []
 row_said row.Features f line ws behind = one (lost events.Features)
 row_said row.Silent f line ws behind = []

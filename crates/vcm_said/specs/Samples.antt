@@ -1,10 +1,11 @@
 -- Worked examples: what statements say, row by row of the table, computed.
-use Rattle.std.specs.Prelude.{◌≡◌, refl, ℕ, pos, List, [], ◌∷◌, codes}
+use Rattle.std.specs.Prelude.{◌≡◌, refl, ℕ, pos, List, [], ◌∷◌, ◌++◌, codes}
 use Rattle.vcm_num.specs.declared.axis.Axis.TheVariants.{PlusZ}
 use Rattle.vcm_num.specs.declared.number.Literal.TheVariants.{Int, Thousandths}
 use Rattle.vcm_spec.specs.declared.words.FrameAxis.TheVariants as axes
 use Rattle.vcm_spec.specs.declared.words.Setting.TheVariants.{Approach}
-use Rattle.vcm_lines.specs.Lexemes.{Lexeme, Run, Number as Digits, Slash, Comma, Equals, Open, Close, Quoted}
+use Rattle.vcm_spec.specs.declared.words.Source.TheVariants.{Actual}
+use Rattle.vcm_lines.specs.Lexemes.{Lexeme, Run, Number as Digits, Slash, Comma, Equals, Open, Close, Minus, Quoted}
 use Rattle.vcm_expr.specs.declared.expression.Term.TheVariants.{Number}
 use Rattle.vcm_expr.specs.Source.{Source, Plain}
 use Rattle.vcm_expr.specs.Parsing.{read_symbols}
@@ -12,10 +13,12 @@ use Rattle.vcm_expr.specs.Digits.{read_of}
 use Rattle.vcm_syntax.specs.Statements.{statement_of}
 use Rattle.vcm_forms.specs.Statements.{as_read}
 use Rattle.vcm_forms.specs.declared.statement.Form.{Form}
-use Rattle.vcm_forms.specs.declared.statement.Form.TheVariants.{Assignment, Test, Repeat, Choose, Feature, Measure, MeasureEnd, Configure, Shift, Restore, Move, Home}
+use Rattle.vcm_forms.specs.declared.statement.Form.TheVariants.{Assignment, Test, Repeat, Choose, Feature, Measure, MeasureEnd, Configure, Shift, Restore, Move, Home, Report}
 use Rattle.vcm_events.specs.declared.event.Event.TheVariants as events
 use Rattle.vcm_events.specs.Events.{valued, event_form, lost, gained}
 use Rattle.vcm_events.specs.Unknown.{unknown, unknown_place, unknown_rounds}
+use Rattle.vcm_events.specs.declared.spots.Spot.TheVariants as spots
+use Rattle.vcm_events.specs.Spots.{spotted, slanted}
 use Rattle.vcm_said.specs.Said.{said}
 
 -- what words say on line 9
@@ -104,15 +107,53 @@ pub home : says (word (codes "GOHOME") ∷ []) ≡ Home ∷ []
 unfolding statement_of read_symbols read_of
 home = refl
 
-pub end_of_target : says (word (codes "ENDGO") ∷ []) ≡ gained events.Untried ∷ []
+pub end_of_target : says (word (codes "ENDGO") ∷ []) ≡ gained events.Target ∷ []
 end_of_target = refl
+
+-- three words behind a comma each
+abbrev pub fields : (a b c : List ℕ) → List Lexeme
+fields a b c = Comma ∷ word a ∷ Comma ∷ word b ∷ Comma ∷ word c ∷ []
+
+pub aim : says (word (codes "GOTARG") ∷ Slash ∷ word (codes "CART") ∷ fields (codes "1") (codes "2") (codes "3"))
+    ≡ spotted spots.Target (record { x = whole 1; y = whole 2; z = whole 3 }) ∷ []
+unfolding statement_of read_symbols read_of
+aim = refl
+
+pub step : says (word (codes "GOTO") ∷ Slash ∷ word (codes "INCR") ∷ Comma ∷ word (codes "5") ∷ fields (codes "0") (codes "0") (codes "1"))
+    ≡ spotted spots.Step (record { x = whole 0; y = whole 0; z = whole 5 }) ∷ []
+unfolding statement_of read_symbols read_of
+step = refl
+
+pub step_back : says (word (codes "GOTO") ∷ Slash ∷ word (codes "INCR") ∷ Comma ∷ word (codes "5") ∷ Comma ∷ Minus ∷ word (codes "1") ∷ Comma ∷ word (codes "0") ∷ Comma ∷ word (codes "0") ∷ [])
+    ≡ spotted spots.Back (record { x = whole 5; y = whole 0; z = whole 0 }) ∷ []
+unfolding statement_of read_symbols read_of
+step_back = refl
+
+pub slanted_step : says (word (codes "GOTO") ∷ Slash ∷ word (codes "INCR") ∷ Comma ∷ word (codes "5") ∷ fields (codes "1") (codes "0") (codes "1")) ≡ gained events.Untried ∷ []
+unfolding statement_of read_symbols read_of
+slanted_step = refl
+
+pub slanted_point : says (word (codes "PTMEAS") ∷ Slash ∷ word (codes "CART") ∷ (fields (codes "1") (codes "2") (codes "3") ++ Comma ∷ Digits (codes "0.6") ∷ Comma ∷ word (codes "0") ∷ Comma ∷ Digits (codes "0.8") ∷ []))
+    ≡ slanted (record { x = whole 1; y = whole 2; z = whole 3 }) (pos 600) (pos 0) (pos 800) ∷ []
+unfolding statement_of read_symbols read_of
+slanted_point = refl
+
+pub turning_table : says (word (codes "GOTO") ∷ Slash ∷ word (codes "CART") ∷ (fields (codes "1") (codes "2") (codes "3") ++ Comma ∷ word (codes "ROTAB") ∷ []))
+    ≡ gained events.Untried ∷ lost events.Table ∷ []
+unfolding statement_of read_symbols read_of
+turning_table = refl
 
 pub path : says (titled (codes "P") (Equals ∷ pair (codes "PAMEAS") (codes "DISTANCE"))) ≡ gained events.UntriedPoint ∷ []
 path = refl
 
 pub start : says (word (codes "FROM") ∷ Slash ∷ word (codes "CART") ∷ Comma ∷ word (codes "0") ∷ Comma ∷ word (codes "0") ∷ Comma ∷ word (codes "9") ∷ [])
-    ≡ lost events.Home ∷ []
+    ≡ spotted spots.Home (record { x = whole 0; y = whole 0; z = whole 9 }) ∷ []
+unfolding statement_of read_symbols read_of
 start = refl
+
+pub unknown_start : says (word (codes "FROM") ∷ Slash ∷ word (codes "POL") ∷ []) ≡ spotted spots.Home unknown_place ∷ []
+unfolding statement_of read_symbols read_of
+unknown_start = refl
 
 -- ---- features
 
@@ -165,6 +206,18 @@ other_setting = refl
 
 pub selected : says (word (codes "SNSLCT") ∷ Slash ∷ titled (codes "S") []) ≡ event_form events.Sensor (pos 9) ∷ []
 selected = refl
+
+pub selected_otherwise : says (word (codes "SNSLCT") ∷ Slash ∷ titled (codes "S") (Comma ∷ titled (codes "W") [])) ≡ lost events.Sensor ∷ []
+selected_otherwise = refl
+
+pub turning_head : says (word (codes "GOTO") ∷ Slash ∷ word (codes "CART") ∷ (fields (codes "1") (codes "2") (codes "3") ++ Comma ∷ word (codes "HEADCS") ∷ []))
+    ≡ gained events.Untried ∷ lost events.Sensor ∷ []
+unfolding statement_of read_symbols read_of
+turning_head = refl
+
+pub toleranced : says (word (codes "OUTPUT") ∷ Slash ∷ titled (codes "FA") (Comma ∷ titled (codes "TA") [])) ≡ Report Actual (codes "A") ∷ []
+unfolding statement_of read_symbols read_of
+toleranced = refl
 
 -- ---- frames
 

@@ -2,6 +2,7 @@
 //! Each is looked at by itself.
 #![tactic(auto)]
 
+mod places;
 mod said;
 mod wanted;
 

@@ -1,7 +1,9 @@
 //! What each statement of a producer's text says.
 
 ghost use Rattle.std.specs.Prelude.{◌≡◌, ◌++◌, ◌∷◌, [], map, ℤ, pos, Some, None, IfOk, OnOk, option_map};
-ghost use Rattle.std.specs.Prelude.{codes, true, false, List};
+ghost use Rattle.std.specs.Prelude.{codes, true, false, List, if◌then◌else◌};
+ghost use Rattle.vcm_events.specs.Spots.{spotted};
+ghost use Rattle.vcm_said.specs.Places.{place_given, step_at, slant_at, names_table, names_head};
 ghost use Rattle.vcm_lines.specs.Lexemes.{Lexeme};
 ghost use Rattle.vcm_syntax.specs.Statements.{statement_of};
 ghost use Rattle.vcm_items.specs.NameBytes.{IsName};
@@ -13,12 +15,15 @@ ghost use Rattle.vcm_events.specs.Unknown.{unknown};
 ghost use Rattle.vcm_heads.specs.declared.heads.Mark.TheVariants as marks;
 ghost use Rattle.vcm_heads.specs.Heads.{past, first_field, assigned_at, title_at, major_of};
 ghost use Rattle.vcm_heads.specs.Rows.{row_in, words_of, own_behind};
-ghost use Rattle.vcm_said.specs.Said.{wanted_in, spelled_in, stated, or_said, turns, value_lost, answer_lost, asked_at, text_lost, call_said, feature_lost, measured_at, measure_lost, qualified, setting_said, settings_lost, is_clearance_off, settings_otherwise, settings_said, machine_frame, frame_lost, frame_otherwise, datum_at, recall_lost, recall_otherwise, mode_said, units_said, saved, row_said, said};
+ghost use Rattle.vcm_said.specs.Said.{wanted_in, spelled_in, stated, or_said, turns, value_lost, answer_lost, asked_at, text_lost, call_said, feature_lost, measured_at, measure_lost, qualified, setting_said, settings_lost, is_clearance_off, settings_otherwise, settings_said, machine_frame, frame_lost, frame_otherwise, datum_at, recall_lost, recall_otherwise, turning, motion_otherwise, touch_otherwise, is_lone_label, is_plain_sensor, sensor_said, reported, report_at, mode_said, units_said, saved, row_said, said};
 ghost use Rattle.vcm_said.specs.All.{on_line, said_unless, said_from, said_all, shape_fault, refused_from};
 
+use crate::places::{names_head, names_table, place_given, slant_at, step_at};
 use crate::wanted::wanted;
 use std::alloc::Global;
-use vcm_events::{Event, gained, lost, numbered, unknown, unknown_place, unknown_rounds, valued};
+use vcm_events::{
+    Event, Spot, gained, lost, numbered, spotted, unknown, unknown_place, unknown_rounds, valued,
+};
 use vcm_expr::{Expr, Term};
 use vcm_forms::{Form, Offset, Statement, Target};
 use vcm_heads::{
@@ -28,7 +33,7 @@ use vcm_heads::{
 use vcm_items::{Name, is_name, is_variable_name};
 use vcm_lines::{FaultCode, Logical, Phrase, SourceFault};
 use vcm_num::{Axis, Items, Literal, NoMemory, is};
-use vcm_spec::{FrameAxis, Setting};
+use vcm_spec::{FrameAxis, Setting, Source};
 use vcm_syntax::parse_statement;
 
 // One statement more.
@@ -390,6 +395,148 @@ fn lose_both(
     loses(out, line, second)
 }
 
+// A motion of another form.
+fn say_motion(
+    alloc: Global,
+    out: &mut Vec<Statement>,
+    line: u32,
+    behind: &Phrase<'_>,
+) -> Result<(), NoMemory>
+    ensures { OnOk result (out.new.items ≡ out.old.items ++ on_line line (motion_otherwise (step_at behind.now) behind.now)) }
+{
+    if let Some(form) = step_at(alloc, behind)? {
+        return add(out, line, form);
+    }
+    gains(out, line, Event::Untried)?;
+    say_turning(out, line, behind)
+}
+
+// A point of another form.
+fn say_touch(
+    alloc: Global,
+    out: &mut Vec<Statement>,
+    line: u32,
+    behind: &Phrase<'_>,
+) -> Result<(), NoMemory>
+    ensures { OnOk result (out.new.items ≡ out.old.items ++ on_line line (touch_otherwise (slant_at behind.now) behind.now)) }
+{
+    if let Some(form) = slant_at(alloc, behind)? {
+        return add(out, line, form);
+    }
+    gains(out, line, Event::UntriedPoint)?;
+    say_turning(out, line, behind)
+}
+
+// The table, where words speak of it.
+fn lose_table(out: &mut Vec<Statement>, line: u32, behind: &Phrase<'_>) -> Result<(), NoMemory>
+    ensures { OnOk result (out.new.items ≡ out.old.items ++ on_line line (if names_table behind.now then lost events.Table ∷ [] else [])) }
+{
+    if names_table(behind) {
+        loses(out, line, Event::Table)
+    } else {
+        Ok(())
+    }
+}
+
+// The sensor, where words speak of the head.
+fn lose_sensor(out: &mut Vec<Statement>, line: u32, behind: &Phrase<'_>) -> Result<(), NoMemory>
+    ensures { OnOk result (out.new.items ≡ out.old.items ++ on_line line (if names_head behind.now then lost events.Sensor ∷ [] else [])) }
+{
+    if names_head(behind) {
+        loses(out, line, Event::Sensor)
+    } else {
+        Ok(())
+    }
+}
+
+// What the words of a motion that isn't tried may do besides.
+fn say_turning(out: &mut Vec<Statement>, line: u32, behind: &Phrase<'_>) -> Result<(), NoMemory>
+    ensures { OnOk result (out.new.items ≡ out.old.items ++ on_line line (turning behind.now)) }
+{
+    lose_table(out, line, behind)?;
+    lose_sensor(out, line, behind)
+}
+
+// Whether nothing stands behind a label.
+fn is_lone_label(label: Option<(&[u8], Phrase<'_>)>) -> bool
+    ensures { result ≡ is_lone_label (option_map (λ r. (r.0.now, r.1)) label.entry) }
+{
+    match label {
+        Some((_, rest)) => rest.split_first().is_none(),
+        None => false,
+    }
+}
+
+// Whether SNSLCT has one sensor by its name alone.
+fn is_plain_sensor(fields: Option<Phrase<'_>>) -> bool
+    ensures { result ≡ is_plain_sensor fields.entry }
+{
+    match fields {
+        Some(fields) => {
+            is_lone_label(title_at(b"S", &fields)) || is_lone_label(title_at(b"SA", &fields))
+        }
+        None => false,
+    }
+}
+
+// SNSLCT.
+fn say_sensor(out: &mut Vec<Statement>, line: u32, behind: &Phrase<'_>) -> Result<(), NoMemory>
+    ensures { OnOk result (out.new.items ≡ out.old.items ++ on_line line (sensor_said (is_plain_sensor (past marks.Slash behind.now)) line)) }
+{
+    if is_plain_sensor(past(Mark::Slash, behind)) {
+        add(out, line, numbered(Event::Sensor, i64::from(line)))
+    } else {
+        loses(out, line, Event::Sensor)
+    }
+}
+
+// The output of a feature, if it is one.
+fn say_reported(
+    out: &mut Vec<Statement>,
+    line: u32,
+    side: Source,
+    label: Option<(&[u8], Phrase<'_>)>,
+) -> Result<(), NoMemory>
+    ensures { OnOk result (out.new.items ≡ out.old.items ++ on_line line (reported side (option_map (λ r. (r.0.now, r.1)) label.entry))) }
+{
+    match label {
+        Some((name, _)) => {
+            if is_name(name) {
+                add(out, line, Form::Report(side, Name::new(name)))
+            } else {
+                Ok(())
+            }
+        }
+        None => Ok(()),
+    }
+}
+
+// OUTPUT of a feature with other words behind it.
+fn say_report(out: &mut Vec<Statement>, line: u32, behind: &Phrase<'_>) -> Result<(), NoMemory>
+    ensures { OnOk result (out.new.items ≡ out.old.items ++ on_line line (report_at (past marks.Slash behind.now))) }
+{
+    match past(Mark::Slash, behind) {
+        Some(fields) => {
+            say_reported(out, line, Source::Actual, title_at(b"FA", &fields))?;
+            say_reported(out, line, Source::Nominal, title_at(b"F", &fields))
+        }
+        None => Ok(()),
+    }
+}
+
+// A place that is kept for later.
+fn say_spot(
+    alloc: Global,
+    out: &mut Vec<Statement>,
+    line: u32,
+    spot: Spot,
+    behind: &Phrase<'_>,
+) -> Result<(), NoMemory>
+    ensures { OnOk result (out.new.items ≡ out.old.items ++ on_line line (spotted spot (place_given behind.now) ∷ [])) }
+{
+    add(out, line, spotted(spot, place_given(alloc, behind)?))
+}
+
 // A statement that is none of the language, by its row.
 fn say_otherwise(
     alloc: Global,
@@ -403,9 +550,13 @@ fn say_otherwise(
 {
     match row {
         Row::Shape | Row::Stated | Row::Silent => Ok(()),
+        Row::Output => say_report(out, line, behind),
         Row::Value => lose_value(out, line, words),
-        Row::Motion | Row::Target => gains(out, line, Event::Untried),
-        Row::Touch | Row::Scan => gains(out, line, Event::UntriedPoint),
+        Row::Motion => say_motion(alloc, out, line, behind),
+        Row::Aim => say_spot(alloc, out, line, Spot::Target, behind),
+        Row::Target => gains(out, line, Event::Target),
+        Row::Touch => say_touch(alloc, out, line, behind),
+        Row::Scan => gains(out, line, Event::UntriedPoint),
         Row::Text => lose_text(out, line, behind),
         Row::Test => add(out, line, Form::Test(unknown())),
         Row::Loop => add(out, line, Form::Repeat(unknown_rounds())),
@@ -429,8 +580,8 @@ fn say_otherwise(
             Event::Compensation,
             is(first_field(behind), b"ON"),
         ),
-        Row::Sensor => add(out, line, numbered(Event::Sensor, i64::from(line))),
-        Row::From => loses(out, line, Event::Home),
+        Row::Sensor => say_sensor(out, line, behind),
+        Row::From => say_spot(alloc, out, line, Spot::Home, behind),
         Row::Values => lose_both(out, line, Event::Values, Event::Features),
         Row::Features => loses(out, line, Event::Features),
         Row::Call | Row::Fit | Row::Other => loses(out, line, Event::All),
@@ -452,7 +603,8 @@ fn say_spelled(
         Row::Call => add(out, line, form)?,
         Row::Settings => say_settings(out, line, Some(form), behind)?,
         Row::Units => gains(out, line, Event::Unit)?,
-        Row::Shape | Row::Stated | Row::Value | Row::Motion | Row::Touch => add(out, line, form)?,
+        Row::Shape | Row::Stated | Row::Output | Row::Value => add(out, line, form)?,
+        Row::Motion | Row::Touch => add(out, line, form)?,
         Row::Text | Row::Test | Row::Loop | Row::Choice | Row::Feature => add(out, line, form)?,
         Row::Measure | Row::Frame | Row::Recall => add(out, line, form)?,
         _ => return Ok(false),

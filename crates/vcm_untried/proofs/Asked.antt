@@ -3,13 +3,13 @@ use Rattle.std.proofs.Common.{◌≡◌, ℕ, ◌+◌, ◌≤◌, Bool, true, fa
 use Rattle.std.specs.Prelude.{if◌then◌else◌}
 use Rattle.vcm_remarks.specs.declared.remark.Cause.{Cause}
 use Rattle.vcm_remarks.specs.declared.remark.Remark.{Remark}
-use Rattle.vcm_remarks.specs.declared.remark.Remark.TheVariants.{NotTried, BeginsElsewhere, Loses, Ends}
+use Rattle.vcm_remarks.specs.declared.remark.Remark.TheVariants.{NotTried, Approached, BeginsElsewhere, NotReported, Loses, Ends}
 use Rattle.vcm_remarks.specs.declared.remark.NumberedRemark.{NumberedRemark}
 use Rattle.vcm_steps.specs.Passages.{Passage}
 use Rattle.vcm_untried.specs.declared.about.About.{About}
 use Rattle.vcm_untried.specs.declared.about.About.TheVariants as about
 use Rattle.vcm_untried.specs.declared.rows.Row.{Row}
-use Rattle.vcm_untried.specs.Causes.{cause_in, line_of}
+use Rattle.vcm_untried.specs.Causes.{cause_in, line_of, named}
 use Rattle.vcm_untried.specs.Rows.{is_before, tells, row, add}
 use Rattle.vcm_untried.specs.Telling.{Telling, told_as, told_if, told_one, told_behind, told_of, remark_on, nothing_told}
 use Rattle.vcm_untried.specs.Laws.{told_now, once_if, asked_on, asked_behind, asked_in, EachStepIsTold}
@@ -42,8 +42,10 @@ module _ (asked : About → ℕ → Bool) where
 
   as_asked : (t : Telling) (what : Remark) (line : ℕ) (cause : Cause)
       → asked_in asked (told_as t what line cause).rows ≡ once_if asked (told_now t.lost what cause) line + asked_in asked t.rows
-  as_asked t NotTried line cause = add_asked (about.NotTried cause (line_of t.lost cause)) line t.rows
+  as_asked t NotTried line cause = add_asked (about.NotTried (named t.lost cause) (line_of t.lost cause)) line t.rows
   as_asked t BeginsElsewhere line cause = add_asked about.BeginsElsewhere line t.rows
+  as_asked t Approached line cause = add_asked about.Approached line t.rows
+  as_asked t NotReported line cause = add_asked about.NotReported line t.rows
   as_asked t (Loses what) line cause = omega arith
   as_asked t Ends line cause = omega arith
 

@@ -3,12 +3,12 @@ use Rattle.std.proofs.Common.{◌≡◌, ℕ, Bool, true, false, ◌&&◌, nat_e
 use Rattle.vcm_remarks.specs.declared.remark.Cause.{Cause}
 use Rattle.vcm_remarks.specs.declared.remark.Cause.TheVariants.{Table, Mode, Scanning, Unit as UnitLost, Frame, Setting, Value, All}
 use Rattle.vcm_untried.specs.declared.about.About.{About}
-use Rattle.vcm_untried.specs.declared.about.About.TheVariants.{NotTried, BeginsElsewhere}
+use Rattle.vcm_untried.specs.declared.about.About.TheVariants.{NotTried, Approached, BeginsElsewhere, NotReported}
 use Rattle.vcm_untried.specs.About.{place_of, rank, since_of, same}
 
 -- the causes in their order
 abbrev causes : List Cause
-causes = Table ∷ Mode ∷ Scanning ∷ UnitLost ∷ Frame ∷ Setting ∷ Value ∷ All ∷ []
+causes = Table ∷ Mode ∷ Scanning ∷ UnitLost ∷ Frame ∷ Setting ∷ All ∷ Value ∷ []
 
 at_place : (c : Cause) → slice_get causes (place_of c) ≡ Some c
 at_place Table = refl
@@ -20,17 +20,32 @@ at_place Setting = refl
 at_place Value = refl
 at_place All = refl
 
-no_place : (c : Cause) → place_of c ≡ 8 → ⊥
-no_place c e = (let f : slice_get causes 8 ≡ Some c = ap (slice_get causes) (sym e) ∙ at_place c in let g : None ≡ Some c = f in absurd cc)
+no_place : (c : Cause) (n : ℕ) → slice_get causes n ≡ None → place_of c ≡ n → ⊥
+no_place c n none e = (let f : slice_get causes n ≡ Some c = ap (slice_get causes) (sym e) ∙ at_place c in let g : None ≡ Some c = sym none ∙ f in absurd cc)
+
+apart : (m n : ℕ) → m ≡ n → nat_eq m n ≡ false → ⊥
+apart m n e f = (let g : nat_eq m n ≡ true = grind (arith, e) in let h : false ≡ true = sym f ∙ g in absurd cc)
 
 same_cause : (b c : Cause) → place_of b ≡ place_of c → b ≡ c
 same_cause b c e = (let f : Some b ≡ Some c = sym (at_place b) ∙ ap (slice_get causes) e ∙ at_place c in cc)
 
 by_parts : (a b : About) → rank a ≡ rank b → since_of a ≡ since_of b → a ≡ b
 by_parts (NotTried c m) (NotTried d n) r s = ap (λ x. NotTried x m) (same_cause c d r) ∙ ap (NotTried d) s
-by_parts (NotTried c m) BeginsElsewhere r s = absurd (no_place c r)
-by_parts BeginsElsewhere (NotTried d n) r s = absurd (no_place d (sym r))
+by_parts (NotTried c m) Approached r s = absurd (no_place c 8 refl r)
+by_parts Approached (NotTried d n) r s = absurd (no_place d 8 refl (sym r))
+by_parts (NotTried c m) BeginsElsewhere r s = absurd (no_place c 9 refl r)
+by_parts BeginsElsewhere (NotTried d n) r s = absurd (no_place d 9 refl (sym r))
+by_parts (NotTried c m) NotReported r s = absurd (no_place c 10 refl r)
+by_parts NotReported (NotTried d n) r s = absurd (no_place d 10 refl (sym r))
+by_parts Approached Approached r s = refl
+by_parts Approached BeginsElsewhere r s = absurd (apart 8 9 r refl)
+by_parts Approached NotReported r s = absurd (apart 8 10 r refl)
+by_parts BeginsElsewhere Approached r s = absurd (apart 9 8 r refl)
 by_parts BeginsElsewhere BeginsElsewhere r s = refl
+by_parts BeginsElsewhere NotReported r s = absurd (apart 9 10 r refl)
+by_parts NotReported Approached r s = absurd (apart 10 8 r refl)
+by_parts NotReported BeginsElsewhere r s = absurd (apart 10 9 r refl)
+by_parts NotReported NotReported r s = refl
 
 both_true : (x y : Bool) → (x && y) ≡ true → (x ≡ true) × (y ≡ true)
 both_true true y e = (refl, e)

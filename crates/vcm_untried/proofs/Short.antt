@@ -3,13 +3,13 @@ use Rattle.std.proofs.Common.{◌≡◌, ℕ, suc, ◌+◌, ◌≤◌, Bool, tru
 use Rattle.std.specs.Prelude.{if◌then◌else◌}
 use Rattle.vcm_remarks.specs.declared.remark.Cause.{Cause}
 use Rattle.vcm_remarks.specs.declared.remark.Remark.{Remark}
-use Rattle.vcm_remarks.specs.declared.remark.Remark.TheVariants.{NotTried, BeginsElsewhere, Loses, Ends}
+use Rattle.vcm_remarks.specs.declared.remark.Remark.TheVariants.{NotTried, Approached, BeginsElsewhere, NotReported, Loses, Ends}
 use Rattle.vcm_remarks.specs.declared.remark.NumberedRemark.{NumberedRemark}
 use Rattle.vcm_steps.specs.Passages.{Passage}
 use Rattle.vcm_untried.specs.declared.about.About.{About}
 use Rattle.vcm_untried.specs.declared.about.About.TheVariants as about
 use Rattle.vcm_untried.specs.declared.rows.Row.{Row}
-use Rattle.vcm_untried.specs.Causes.{cause_in, line_of}
+use Rattle.vcm_untried.specs.Causes.{cause_in, line_of, named}
 use Rattle.vcm_untried.specs.Rows.{is_before, tells, row, add}
 use Rattle.vcm_untried.specs.Telling.{Telling, told_as, told_if, told_one, told_behind, told_of, remark_on, nothing_told}
 use Rattle.vcm_untried.specs.inner.Short.{AreAtMost}
@@ -30,8 +30,10 @@ add_at_most about line n (r ∷ rows) h = by (is_before r about line) (tells r a
     by false false next = (omega arith, (let a = h.0 in omega (arith, a), at_more n (suc n) rows (omega arith) h.1))
 
 as_at_most : (n : ℕ) (t : Telling) (what : Remark) (line : ℕ) (cause : Cause) → AreAtMost n t.rows → AreAtMost (suc n) (told_as t what line cause).rows
-as_at_most n t NotTried line cause h = add_at_most (about.NotTried cause (line_of t.lost cause)) line n t.rows h
+as_at_most n t NotTried line cause h = add_at_most (about.NotTried (named t.lost cause) (line_of t.lost cause)) line n t.rows h
 as_at_most n t BeginsElsewhere line cause h = add_at_most about.BeginsElsewhere line n t.rows h
+as_at_most n t Approached line cause h = add_at_most about.Approached line n t.rows h
+as_at_most n t NotReported line cause h = add_at_most about.NotReported line n t.rows h
 as_at_most n t (Loses what) line cause h = at_more n (suc n) t.rows (omega arith) h
 as_at_most n t Ends line cause h = at_more n (suc n) t.rows (omega arith) h
 

@@ -3,7 +3,7 @@ use Rattle.std.proofs.Common.{◌≡◌, ℕ, ◌+◌, ◌<◌, ◌^◌, Bool, t
 use Rattle.std.specs.Prelude.{if◌then◌else◌}
 use Rattle.vcm_remarks.specs.declared.remark.Cause.{Cause}
 use Rattle.vcm_remarks.specs.declared.remark.Remark.{Remark}
-use Rattle.vcm_remarks.specs.declared.remark.Remark.TheVariants.{NotTried, BeginsElsewhere, Loses, Ends}
+use Rattle.vcm_remarks.specs.declared.remark.Remark.TheVariants.{NotTried, Approached, BeginsElsewhere, NotReported, Loses, Ends}
 use Rattle.vcm_remarks.specs.declared.remark.NumberedRemark.{NumberedRemark}
 use Rattle.vcm_steps.specs.Passages.{Passage}
 use Rattle.vcm_untried.specs.declared.about.About.{About}
@@ -104,6 +104,8 @@ asks what line = is_untried what
 now_untried : (lost : List ℕ) (what : Remark) (line : ℕ) (cause : Cause) → once_if asks (told_now lost what cause) line ≡ (if says_untried what then 1 else 0)
 now_untried lost NotTried line cause = refl
 now_untried lost BeginsElsewhere line cause = refl
+now_untried lost Approached line cause = refl
+now_untried lost NotReported line cause = refl
 now_untried lost (Loses what) line cause = refl
 now_untried lost Ends line cause = refl
 

@@ -3,13 +3,13 @@ use Rattle.std.proofs.Common.{◌≡◌, ℕ, ◌+◌, Bool, true, false, ◌&&�
 use Rattle.std.specs.Prelude.{if◌then◌else◌}
 use Rattle.vcm_remarks.specs.declared.remark.Cause.{Cause}
 use Rattle.vcm_remarks.specs.declared.remark.Remark.{Remark}
-use Rattle.vcm_remarks.specs.declared.remark.Remark.TheVariants.{NotTried, BeginsElsewhere, Loses, Ends}
+use Rattle.vcm_remarks.specs.declared.remark.Remark.TheVariants.{NotTried, Approached, BeginsElsewhere, NotReported, Loses, Ends}
 use Rattle.vcm_remarks.specs.declared.remark.NumberedRemark.{NumberedRemark}
 use Rattle.vcm_steps.specs.Passages.{Passage}
 use Rattle.vcm_untried.specs.declared.about.About.{About}
 use Rattle.vcm_untried.specs.declared.about.About.TheVariants as about
 use Rattle.vcm_untried.specs.declared.rows.Row.{Row}
-use Rattle.vcm_untried.specs.Causes.{cause_in, line_of}
+use Rattle.vcm_untried.specs.Causes.{cause_in, line_of, named}
 use Rattle.vcm_untried.specs.Rows.{is_before, tells, row, add}
 use Rattle.vcm_untried.specs.Telling.{Telling, first_line, told_as, told_if, told_one, told_behind, remark_on, nothing_told}
 use Rattle.vcm_untried.specs.Lines.{is_none, no_end, all_tried}
@@ -34,8 +34,10 @@ not_end false end line = refl
 
 as_tried : (t : Telling) (what : Remark) (line : ℕ) (cause : Cause) → all_tried (told_as t what line cause) ≡ (if says_nothing what then all_tried t else false)
 as_tried t NotTried line cause =
-    not_rows (add (about.NotTried cause (line_of t.lost cause)) line t.rows) t.end (some_added (about.NotTried cause (line_of t.lost cause)) line t.rows)
+    not_rows (add (about.NotTried (named t.lost cause) (line_of t.lost cause)) line t.rows) t.end (some_added (about.NotTried (named t.lost cause) (line_of t.lost cause)) line t.rows)
 as_tried t BeginsElsewhere line cause = not_rows (add about.BeginsElsewhere line t.rows) t.end (some_added about.BeginsElsewhere line t.rows)
+as_tried t Approached line cause = not_rows (add about.Approached line t.rows) t.end (some_added about.Approached line t.rows)
+as_tried t NotReported line cause = not_rows (add about.NotReported line t.rows) t.end (some_added about.NotReported line t.rows)
 as_tried t (Loses what) line cause = refl
 as_tried t Ends line cause = not_end (is_none t.rows) t.end line
 

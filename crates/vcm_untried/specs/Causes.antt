@@ -1,8 +1,8 @@
 -- Why a motion isn't tried, and since which line.
-use Rattle.std.specs.Prelude.{ℕ, ℤ, pos, Bool, false, not, ◌||◌, nat_lt, if◌then◌else◌, List, slice_get, slice_set, replicate, unwrap_or, Option, Some, None}
+use Rattle.std.specs.Prelude.{ℕ, ℤ, pos, Bool, false, not, ◌&&◌, ◌||◌, nat_eq, nat_lt, if◌then◌else◌, List, slice_get, slice_set, replicate, unwrap_or, Option, Some, None}
 use Rattle.std.specs.Ordering.{int_eq}
 use Rattle.vcm_remarks.specs.declared.remark.Cause.{Cause}
-use Rattle.vcm_remarks.specs.declared.remark.Cause.TheVariants.{Table, Mode, Scanning, Unit as UnitLost, Frame, Setting, Value}
+use Rattle.vcm_remarks.specs.declared.remark.Cause.TheVariants.{Table, Mode, Scanning, Unit as UnitLost, Frame, Setting, Value, All}
 use Rattle.vcm_untried.specs.About.{place_of}
 
 -- a value is there, and 0
@@ -50,9 +50,14 @@ cause_in vs =
 abbrev pub line_of : List ℕ → Cause → ℕ
 line_of lost cause = unwrap_or (slice_get lost (place_of cause)) 0
 
+-- a cause, or else that anything may have changed, where the cause came about at the line at which all did last
+abbrev pub named : List ℕ → Cause → Cause
+named lost cause =
+    if not (nat_eq (line_of lost cause) 0) && nat_eq (line_of lost cause) (line_of lost All) then All else cause
+
 -- a cause comes about at a line, or all do
 abbrev pub lost_at : List ℕ → Cause → ℕ → List ℕ
 lost_at lost cause line =
     if nat_lt (place_of cause) 6 then slice_set lost (place_of cause) line
-    else if nat_lt 6 (place_of cause) then replicate 6 line
+    else if nat_eq (place_of cause) 6 then replicate 7 line
     else lost

@@ -4,7 +4,7 @@ use Rattle.vcm_spec.specs.Workpiece.{Workpiece}
 use Rattle.vcm_code.specs.declared.code.Code.{Code}
 use Rattle.vcm_remarks.specs.declared.remark.Cause.{Cause}
 use Rattle.vcm_remarks.specs.declared.remark.Remark.{Remark}
-use Rattle.vcm_remarks.specs.declared.remark.Remark.TheVariants.{NotTried, BeginsElsewhere, Loses, Ends}
+use Rattle.vcm_remarks.specs.declared.remark.Remark.TheVariants.{NotTried, Approached, BeginsElsewhere, NotReported, Loses, Ends}
 use Rattle.vcm_remarks.specs.declared.remark.NumberedRemark.{NumberedRemark}
 use Rattle.vcm_steps.specs.Passages.{Passage, passages}
 use Rattle.vcm_untried.specs.declared.about.About.{About}
@@ -13,7 +13,7 @@ use Rattle.vcm_untried.specs.declared.rows.Row.{Row}
 use Rattle.vcm_untried.specs.declared.groups.Group.{Group}
 use Rattle.vcm_untried.specs.declared.spans.Span.{Span}
 use Rattle.vcm_untried.specs.About.{same}
-use Rattle.vcm_untried.specs.Causes.{cause_in, line_of}
+use Rattle.vcm_untried.specs.Causes.{cause_in, line_of, named}
 use Rattle.vcm_untried.specs.Rows.{is_before}
 use Rattle.vcm_untried.specs.Times.{times}
 use Rattle.vcm_untried.specs.Telling.{Telling, nothing_told, remark_on, told_one, told_of}
@@ -29,8 +29,10 @@ RunsAreShort = (part : Workpiece) (c : Code) (n : ℕ) → length (passages part
 
 -- what a statement with this remark reports of its line, if anything, where the causes came about at these lines, and a motion that isn't tried isn't for this one
 abbrev pub told_now : List ℕ → Remark → Cause → Option About
-told_now lost NotTried cause = Some (about.NotTried cause (line_of lost cause))
+told_now lost NotTried cause = Some (about.NotTried (named lost cause) (line_of lost cause))
+told_now lost Approached cause = Some about.Approached
 told_now lost BeginsElsewhere cause = Some about.BeginsElsewhere
+told_now lost NotReported cause = Some about.NotReported
 told_now lost (Loses what) cause = None
 told_now lost Ends cause = None
 
@@ -66,12 +68,16 @@ EachStepIsTold =
 -- a motion isn't tried
 abbrev pub is_untried : About → Bool
 is_untried (about.NotTried cause since) = true
+is_untried about.Approached = false
 is_untried about.BeginsElsewhere = false
+is_untried about.NotReported = false
 
 -- the remark on a statement says so
 abbrev pub says_untried : Remark → Bool
 says_untried NotTried = true
+says_untried Approached = false
 says_untried BeginsElsewhere = false
+says_untried NotReported = false
 says_untried (Loses what) = false
 says_untried Ends = false
 
@@ -146,7 +152,9 @@ SpansAreLines = (what : About) (rows : List Row) → all_lines (spans_of what ro
 -- a remark reports nothing that isn't tried
 abbrev pub says_nothing : Remark → Bool
 says_nothing NotTried = false
+says_nothing Approached = false
 says_nothing BeginsElsewhere = false
+says_nothing NotReported = false
 says_nothing (Loses what) = true
 says_nothing Ends = false
 

@@ -3,7 +3,7 @@ use Rattle.std.specs.Prelude.{ℕ, Bool, true, false, ◌&&◌, not, nat_eq, if�
 use Rattle.vcm_remarks.specs.declared.remark.Cause.{Cause}
 use Rattle.vcm_remarks.specs.declared.remark.Cause.TheVariants.{Table, Mode, Scanning, Unit as UnitLost, Frame, Setting, Value, All}
 use Rattle.vcm_untried.specs.declared.about.About.{About}
-use Rattle.vcm_untried.specs.declared.about.About.TheVariants.{NotTried, BeginsElsewhere}
+use Rattle.vcm_untried.specs.declared.about.About.TheVariants.{NotTried, Approached, BeginsElsewhere, NotReported}
 use Rattle.vcm_untried.specs.declared.rows.Row.{Row}
 use Rattle.vcm_untried.specs.declared.groups.Group.{Group}
 use Rattle.vcm_untried.specs.declared.spans.Span.{Span}
@@ -14,7 +14,9 @@ use Rattle.vcm_untried.specs.Spans.{spans_of}
 -- what a line begins with
 abbrev pub head_text : About → List ℕ
 head_text (NotTried cause since) = codes "not tried "
+head_text Approached = codes "approached, not touched "
 head_text BeginsElsewhere = codes "begins elsewhere "
+head_text NotReported = codes "not reported "
 
 -- a span is one line
 abbrev pub is_alone : Span → Bool
@@ -49,7 +51,7 @@ since_text UnitLost = codes ", the unit isn't followed since line "
 since_text Frame = codes ", the frame isn't known since line "
 since_text Setting = codes ", the approach, search or way back isn't known since line "
 since_text Value = codes ", a value isn't known since line "
-since_text All = codes ", nothing is known since line "
+since_text All = codes ", anything may have changed since line "
 
 -- the words of a cause that came about at no line
 abbrev pub given_text : Cause → List ℕ
@@ -60,7 +62,7 @@ given_text UnitLost = codes ", no UNITS gives a unit that is followed"
 given_text Frame = codes ", the frame isn't given"
 given_text Setting = codes ", no SNSET gives the approach, the search and the way back"
 given_text Value = codes ", a value isn't known"
-given_text All = codes ", nothing is known"
+given_text All = codes ", anything may have changed"
 
 -- why, and since which line
 abbrev pub cause_text : Cause → ℕ → List ℕ
@@ -69,7 +71,9 @@ cause_text cause since = if nat_eq since 0 then given_text cause else since_text
 -- why a line isn't tried, if it isn't
 abbrev pub about_text : About → List ℕ
 about_text (NotTried cause since) = cause_text cause since
+about_text Approached = []
 about_text BeginsElsewhere = []
+about_text NotReported = []
 
 -- the line of a group
 abbrev pub group_text : List Row → Group → List ℕ

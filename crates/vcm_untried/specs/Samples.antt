@@ -54,7 +54,7 @@ are_taken = refl
 -- what is reported of them
 abbrev told : Telling
 told = record {
-  lost = 0 ∷ 11 ∷ 0 ∷ 0 ∷ 107 ∷ 0 ∷ [];
+  lost = 0 ∷ 11 ∷ 0 ∷ 0 ∷ 107 ∷ 0 ∷ 0 ∷ [];
   rows =
       row (about.NotTried Mode 11) 24 1 ∷ row (about.NotTried Mode 11) 25 1 ∷ row (about.NotTried Mode 11) 26 1 ∷ row (about.NotTried Mode 11) 30 2
       ∷ row about.BeginsElsewhere 44 1 ∷ row (about.NotTried Frame 107) 108 1 ∷ [];

@@ -2,13 +2,13 @@
 use Rattle.std.specs.Prelude.{ℕ, nat_eq, if◌then◌else◌, List, [], ◌∷◌, replicate, Option, Some, None}
 use Rattle.vcm_remarks.specs.declared.remark.Cause.{Cause}
 use Rattle.vcm_remarks.specs.declared.remark.Remark.{Remark}
-use Rattle.vcm_remarks.specs.declared.remark.Remark.TheVariants.{NotTried, BeginsElsewhere, Loses, Ends}
+use Rattle.vcm_remarks.specs.declared.remark.Remark.TheVariants.{NotTried, Approached, BeginsElsewhere, NotReported, Loses, Ends}
 use Rattle.vcm_remarks.specs.declared.remark.NumberedRemark.{NumberedRemark}
 use Rattle.vcm_steps.specs.Passages.{Passage}
 use Rattle.vcm_untried.specs.declared.about.About.TheVariants as about
 use Rattle.vcm_untried.specs.declared.rows.Row.{Row}
 use Rattle.vcm_untried.specs.declared.telling.Told.{Told}
-use Rattle.vcm_untried.specs.Causes.{cause_in, line_of, lost_at}
+use Rattle.vcm_untried.specs.Causes.{cause_in, line_of, named, lost_at}
 use Rattle.vcm_untried.specs.Rows.{add}
 
 -- what is reported: the line at which each cause came about last, how often each thing is reported of each line, and the line from which on nothing is tried
@@ -23,7 +23,7 @@ shown t = record { lost = t.lost; rows = t.rows.items; end = t.end }
 
 -- before the first step
 abbrev pub nothing_told : Telling
-nothing_told = record { lost = replicate 6 0; rows = []; end = None }
+nothing_told = record { lost = replicate 7 0; rows = []; end = None }
 
 -- the first of two lines
 abbrev pub first_line : Option ℕ → ℕ → Option ℕ
@@ -32,7 +32,9 @@ first_line None line = Some line
 
 -- what is reported after a statement with this remark at this line, where a motion that isn't tried isn't for this cause
 abbrev pub told_as : Telling → Remark → ℕ → Cause → Telling
-told_as t NotTried line cause = record t { rows = add (about.NotTried cause (line_of t.lost cause)) line t.rows }
+told_as t NotTried line cause = record t { rows = add (about.NotTried (named t.lost cause) (line_of t.lost cause)) line t.rows }
+told_as t Approached line cause = record t { rows = add about.Approached line t.rows }
+told_as t NotReported line cause = record t { rows = add about.NotReported line t.rows }
 told_as t BeginsElsewhere line cause = record t { rows = add about.BeginsElsewhere line t.rows }
 told_as t (Loses what) line cause = record t { lost = lost_at t.lost what line }
 told_as t Ends line cause = record t { end = first_line t.end line }

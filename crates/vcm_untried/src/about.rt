@@ -10,8 +10,12 @@ use vcm_remarks::Cause;
 pub enum About {
     /// Its motion wasn't tried: for this cause, since this line, or 0 where it has none.
     NotTried(Cause, u32),
+    /// Its point was approached and left, and not touched.
+    Approached,
     /// Its way begins elsewhere than on the machine.
     BeginsElsewhere,
+    /// Its output line wasn't written.
+    NotReported,
 }
 
 /// The place of a cause.
@@ -25,8 +29,8 @@ pub(crate) fn place_of(cause: Cause) -> usize
         Cause::Unit => 3,
         Cause::Frame => 4,
         Cause::Setting => 5,
-        Cause::Value => 6,
-        Cause::All => 7,
+        Cause::All => 6,
+        Cause::Value => 7,
     }
 }
 
@@ -36,7 +40,9 @@ fn rank(about: About) -> usize
 {
     match about {
         About::NotTried(cause, _) => place_of(cause),
-        About::BeginsElsewhere => 8,
+        About::Approached => 8,
+        About::BeginsElsewhere => 9,
+        About::NotReported => 10,
     }
 }
 
@@ -46,7 +52,7 @@ pub(crate) fn since_of(about: About) -> u32
 {
     match about {
         About::NotTried(_, since) => since,
-        About::BeginsElsewhere => 0,
+        About::Approached | About::BeginsElsewhere | About::NotReported => 0,
     }
 }
 

@@ -1,13 +1,16 @@
 //! Why a motion isn't tried.
 
 ghost use Rattle.std.specs.Prelude.{◌≡◌};
-ghost use Rattle.vcm_untried.specs.Causes.{is_nought, epoch_in, is_lost, lacks_setting, cause_in, line_of, lost_at};
+ghost use Rattle.vcm_untried.specs.Causes.{is_nought, epoch_in, is_lost, lacks_setting, cause_in, line_of, named, lost_at};
 
 use crate::about::place_of;
 use vcm_remarks::Cause;
 
 /// How many causes have a line.
-pub(crate) const CAUSES: usize = 6;
+pub(crate) const CAUSES: usize = 7;
+
+// The place of the cause that is all of them.
+const ALL: usize = 6;
 
 /// The line at which each cause came about last, at the place of the cause: 0 where there was none. That a value isn't known has no line, since nothing shows which value
 /// it is.
@@ -116,14 +119,26 @@ pub(crate) fn line_of(lost: &Losses, cause: Cause) -> u32
     }
 }
 
+/// A cause, or else that anything may have changed, where the cause came about at the line at which all did last.
+pub(crate) fn named(lost: &Losses, cause: Cause) -> Cause
+    ensures { result ≡ named lost.now cause }
+{
+    let line = line_of(lost, cause);
+    if line != 0 && line == line_of(lost, Cause::All) {
+        Cause::All
+    } else {
+        cause
+    }
+}
+
 /// A cause comes about at a line, or all do.
 pub(crate) fn lose(lost: &mut Losses, cause: Cause, line: u32)
     ensures { lost.new ≡ lost_at lost.old cause line }
 {
     let place = place_of(cause);
-    if place < CAUSES {
+    if place < ALL {
         lost[place] = line;
-    } else if place > CAUSES {
+    } else if place == ALL {
         *lost = [line; CAUSES];
     }
 }

@@ -44,7 +44,9 @@ fn head_text(about: About) -> &'static [u8]
 {
     match about {
         About::NotTried(_, _) => b"not tried ",
+        About::Approached => b"approached, not touched ",
         About::BeginsElsewhere => b"begins elsewhere ",
+        About::NotReported => b"not reported ",
     }
 }
 
@@ -102,7 +104,7 @@ fn since_text(cause: Cause) -> &'static [u8]
         Cause::Frame => b", the frame isn't known since line ",
         Cause::Setting => b", the approach, search or way back isn't known since line ",
         Cause::Value => b", a value isn't known since line ",
-        Cause::All => b", nothing is known since line ",
+        Cause::All => b", anything may have changed since line ",
     }
 }
 
@@ -118,7 +120,7 @@ fn given_text(cause: Cause) -> &'static [u8]
         Cause::Frame => b", the frame isn't given",
         Cause::Setting => b", no SNSET gives the approach, the search and the way back",
         Cause::Value => b", a value isn't known",
-        Cause::All => b", nothing is known",
+        Cause::All => b", anything may have changed",
     }
 }
 
@@ -139,7 +141,7 @@ fn put_about(out: &mut Vec<u8>, about: About) -> Result<(), NoMemory>
 {
     match about {
         About::NotTried(cause, since) => put_cause(out, cause, since),
-        About::BeginsElsewhere => Ok(()),
+        About::Approached | About::BeginsElsewhere | About::NotReported => Ok(()),
     }
 }
 

@@ -5,7 +5,7 @@ ghost use Rattle.vcm_untried.specs.Telling.{shown, told_by, first_line};
 ghost use Rattle.vcm_untried.specs.inner.Short.{AreBelow};
 
 use crate::about::About;
-use crate::causes::{Losses, line_of, lose};
+use crate::causes::{Losses, line_of, lose, named};
 use crate::rows::{Row, add};
 use vcm_num::NoMemory;
 use vcm_remarks::{Cause, NumberedRemark, Remark};
@@ -41,9 +41,15 @@ pub(crate) fn tell(told: &mut Told, remark: &NumberedRemark, cause: Cause) -> Re
     match remark.remark {
         Remark::NotTried => {
             let since = line_of(&told.lost, cause);
-            add(&mut told.rows, About::NotTried(cause, since), line)
+            add(
+                &mut told.rows,
+                About::NotTried(named(&told.lost, cause), since),
+                line,
+            )
         }
+        Remark::Approached => add(&mut told.rows, About::Approached, line),
         Remark::BeginsElsewhere => add(&mut told.rows, About::BeginsElsewhere, line),
+        Remark::NotReported => add(&mut told.rows, About::NotReported, line),
         Remark::Loses(cause) => {
             lose(&mut told.lost, cause, line);
             Ok(())

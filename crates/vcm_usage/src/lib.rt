@@ -166,6 +166,7 @@ const USAGES: &[Usage] = &[
             Choice::Retract,
             Choice::Search,
             Choice::Auto,
+            Choice::Approached,
         ],
     },
     Usage {
@@ -230,6 +231,7 @@ const USAGES: &[Usage] = &[
             Choice::Retract,
             Choice::Search,
             Choice::Auto,
+            Choice::Approached,
         ],
     },
     Usage {
@@ -250,6 +252,7 @@ const USAGES: &[Usage] = &[
             Choice::Retract,
             Choice::Search,
             Choice::Auto,
+            Choice::Approached,
         ],
     },
     Usage {
@@ -280,6 +283,7 @@ const USAGES: &[Usage] = &[
             Choice::Retract,
             Choice::Search,
             Choice::Auto,
+            Choice::Approached,
         ],
     },
     Usage {
@@ -311,6 +315,7 @@ const USAGES: &[Usage] = &[
             Choice::Retract,
             Choice::Search,
             Choice::Auto,
+            Choice::Approached,
         ],
     },
     Usage {

@@ -49,6 +49,8 @@ pub enum Choice {
     Search,
     /// `--auto`.
     Auto,
+    /// `--approach`.
+    Approached,
     /// `--unit UNIT`.
     Unit,
     /// `--turn TURNS`.
@@ -263,6 +265,11 @@ impl Choice {
                 "auto",
                 "no points of the machine's own",
                 "Takes it that the machine takes no points of its own under MODE/AUTO",
+            ),
+            Choice::Approached => flag(
+                "approach",
+                "points are approached and left, and not touched",
+                "Approaches points and leaves them without a touch, for parts whose blocks are coarser than their features",
             ),
             Choice::Unit => valued(
                 "unit",

@@ -8,10 +8,18 @@ use Rattle.vcm_expr.specs.declared.expression.Term.TheVariants.{Number, Variable
 use Rattle.vcm_expr.specs.Source.{leaf_in}
 use Rattle.vcm_forms.specs.declared.statement.Form.{Form}
 use Rattle.vcm_forms.specs.declared.statement.Form.TheVariants.{Assignment, Test, Choose, Repeat, Feature, Shift}
+use Rattle.vcm_forms.specs.declared.statement.Offset.{Offset}
 use Rattle.vcm_forms.specs.declared.statement.Statement.{Statement}
 use Rattle.vcm_events.specs.declared.event.Event.{Event}
 use Rattle.vcm_events.specs.declared.event.Event.TheVariants as events
+use Rattle.std.specs.List.{list_any}
+use Rattle.vcm_lines.specs.declared.logical.Logical.{Logical}
+use Rattle.vcm_heads.specs.declared.rows.Row.{Row}
+use Rattle.vcm_heads.specs.declared.rows.Row.TheVariants as rows
+use Rattle.vcm_heads.specs.Rows.{row_in, words_of}
+use Rattle.vcm_spec.specs.Program.{is_same_name}
 use Rattle.vcm_events.specs.Events.{event_named}
+use Rattle.vcm_events.specs.Spots.{slanted_name}
 
 -- whether an expression is the one whose value isn't known
 abbrev pub is_unknown : Option Term → Bool
@@ -36,6 +44,12 @@ abbrev pub assignment_loses : Option Event → Option Term → Bool
 assignment_loses None t = is_unknown t
 assignment_loses (Some e) t = event_loses e t
 
+-- whether by a shift: one that isn't known loses, and a slanted point, several lengths, is approached and not touched
+abbrev pub shift_loses : List ℕ → List Offset → Bool
+shift_loses l [] = true
+shift_loses l (x ∷ []) = false
+shift_loses l (x ∷ y ∷ os) = is_same_name slanted_name l
+
 -- whether by a statement
 abbrev pub loses : Form → Bool
 loses (Assignment t value) = assignment_loses (event_named t.name) (leaf_in value)
@@ -43,8 +57,24 @@ loses (Test c) = is_unknown (leaf_in c)
 loses (Choose c) = is_unknown (leaf_in c)
 loses (Repeat r) = is_unknown (leaf_in r.limit)
 loses (Feature l p axis) = is_unknown (leaf_in p.x)
-loses (Shift l []) = true
+loses (Shift l os) = shift_loses l os
 loses f = false
+
+-- whether a row is that of UNITS, or of MODE
+abbrev pub is_unit_row : Row → Bool
+is_unit_row rows.Units = true
+is_unit_row r = false
+
+abbrev pub is_mode_row : Row → Bool
+is_mode_row rows.Mode = true
+is_mode_row r = false
+
+-- whether a text says its unit, or its mode, anywhere
+abbrev pub says_unit : List Logical → Bool
+says_unit ls = list_any (λ l. is_unit_row (row_in (words_of l))) ls
+
+abbrev pub says_mode : List Logical → Bool
+says_mode ls = list_any (λ l. is_mode_row (row_in (words_of l))) ls
 
 -- the lines of such statements behind this line, each once
 abbrev pub lossy_from : ℕ → List Statement → List ℕ

@@ -1,5 +1,5 @@
 -- What the image of a producer's text is, and which texts have none.
-use Rattle.std.specs.Prelude.{◌≡◌, ◌<◌, ℕ, Bool, true, false, not, if◌then◌else◌, List, length, slice_get, Option, Some, None}
+use Rattle.std.specs.Prelude.{◌≡◌, ◌<◌, ◌⊎◌, ◌&&◌, ℕ, Bool, true, false, not, if◌then◌else◌, List, [], length, slice_get, Option, Some, None}
 use Rattle.std.specs.List.{list_all}
 use Rattle.std.specs.Str.{bytes_eq}
 use Rattle.vcm_lines.specs.declared.fault.FaultCode.TheVariants.{TooLong, BadOrder}
@@ -14,10 +14,10 @@ use Rattle.vcm_forms.specs.declared.statement.Statement.{Statement}
 use Rattle.vcm_forms.specs.declared.statement.Form.TheVariants.{Declaration}
 use Rattle.vcm_macro.specs.declared.placed.Placed.{Placed}
 use Rattle.vcm_macro.specs.Expansion.{IsExpanded, IsRefused as IsUnexpanded}
-use Rattle.vcm_tree.specs.Acceptance.{ReadsLines, IsRefusedPlaced}
+use Rattle.vcm_tree.specs.Acceptance.{ReadsLines, IsRefused, IsRefusedPlaced}
 use Rattle.vcm_tree.specs.Ended.{is_ended}
 use Rattle.vcm_program.specs.declared.accepted.Noticed.{Noticed}
-use Rattle.vcm_run.specs.Built.{IsBuiltPlaced}
+use Rattle.vcm_run.specs.Built.{IsBuilt, IsBuiltPlaced}
 use Rattle.vcm_run.specs.declared.run.Refusal.{Refusal}
 use Rattle.vcm_run.specs.declared.run.Refusal.TheVariants.{Source, Part, NoMemory}
 use Rattle.vcm_remarks.specs.declared.remark.NumberedRemark.{NumberedRemark}
@@ -27,11 +27,12 @@ use Rattle.vcm_plain.specs.Plain.{plain}
 use Rattle.vcm_plain.specs.Units.{single_unit}
 use Rattle.vcm_said.specs.All.{said_all, refused_from}
 use Rattle.vcm_given.specs.declared.choices.Choices.{Choices}
-use Rattle.vcm_given.specs.Chosen.{chosen}
+use Rattle.vcm_given.specs.Chosen.{is_silent, chosen}
+use Rattle.vcm_certain.specs.Certain.{is_certain}
 use Rattle.vcm_given.specs.Unused.{unused}
 use Rattle.vcm_doubts.specs.Settled.{settled}
 use Rattle.vcm_whole.specs.declared.whole.Facts.{Facts}
-use Rattle.vcm_whole.specs.Losses.{lossy_lines}
+use Rattle.vcm_whole.specs.Losses.{lossy_lines, says_unit, says_mode}
 use Rattle.vcm_kept.specs.Guarding.{guarded}
 use Rattle.vcm_kept.specs.Put.{placed_in, remarks_in}
 use Rattle.vcm_num.specs.declared.limits.TheConstants.{MOST_STATEMENTS}
@@ -53,6 +54,20 @@ pub record Expands (c : Choices) (text : List ℕ) (unit : LengthUnit) (lines : 
   pub shaped : refused_from false lines ≡ None
   pub is_expanded : IsExpanded (statements_of c text lines) expanded
 
+-- whether a text stays as it is written: the command line says nothing of it, it is read in one way and loses nothing
+abbrev pub stays : Choices → List Placed → Bool
+stays c ps = is_silent c && is_certain ps
+
+-- what is known has to be carried: the text doesn't stay as it is written, or is no program of the language
+abbrev pub HasToBeCarried : Choices → List ℕ → List Placed → Type 0
+HasToBeCarried c text ps = (stays c ps ≡ false) ⊎ ((f : SourceFault) × IsRefused text f)
+
+-- the text is put as a program whose image the bytes are: as it is written where it stays so and is a program of the language, else with what is known carried
+pub data IsPut (c : Choices) (text : List ℕ) (ss : List Statement) (ps : List Placed) (bytes : List ℕ) (notices : List Noticed) (remarks : List NumberedRemark) (written : Bool) : Type 0 where
+  as_written : stays c ps ≡ true → IsBuilt text bytes notices → remarks ≡ [] → written ≡ true → IsPut c text ss ps bytes notices remarks written
+  as_carried : HasToBeCarried c text ps → IsBuiltPlaced ss (placed_in (guarded ps)) bytes notices → remarks ≡ remarks_in (guarded ps) → written ≡ false
+      → IsPut c text ss ps bytes notices remarks written
+
 -- whether lengths of a text are written otherwise than they are read
 abbrev pub is_rewritten : List ℕ → LengthUnit → Bool
 is_rewritten text unit = not (bytes_eq (plain unit text) text)
@@ -62,12 +77,13 @@ pub record IsWholeBuilt (c : Choices) (text bytes : List ℕ) (notices : List No
   pub lines : List Logical
   pub expanded : List Placed
   pub expands : Expands c text facts.unit lines expanded
-  pub built : IsBuiltPlaced (statements_of c text lines) (placed_in (guarded expanded)) bytes notices
-  pub remarks_are : remarks ≡ remarks_in (guarded expanded)
+  pub put : IsPut c text (statements_of c text lines) expanded bytes notices remarks facts.is_as_written
   pub rewritten_is : facts.is_rewritten ≡ is_rewritten text facts.unit
   pub losses_are : facts.losses ≡ lossy_lines (statements_of c text lines)
   pub unused_is : facts.unused ≡ unused c lines (said_all lines)
   pub count_is : facts.statements ≡ length lines
+  pub unit_said : facts.says_unit ≡ says_unit lines
+  pub mode_said : facts.says_mode ≡ says_mode lines
 
 -- whether a declaration declares names of variables
 abbrev pub is_lettered : Form → Bool
@@ -87,6 +103,11 @@ abbrev pub line_beyond : Option Placed → ℕ
 line_beyond None = 0
 line_beyond (Some p) = p.statement.line
 
+-- the text reads as these statements, which expand to these, and what is known has to be carried
+pub record Carries (c : Choices) (text : List ℕ) (unit : LengthUnit) (lines : List Logical) (expanded : List Placed) : Type 0 where
+  pub expands : Expands c text unit lines expanded
+  pub has_to : HasToBeCarried c text expanded
+
 -- why a text isn't put as a program: its lines, a statement that shapes it, the order of its statements or its macros, more statements than a program may
 -- have, or the names and blocks of what it is put as
 pub data IsWholeRefused (c : Choices) (text : List ℕ) (f : SourceFault) : Type 0 where
@@ -95,11 +116,11 @@ pub data IsWholeRefused (c : Choices) (text : List ℕ) (f : SourceFault) : Type
       → IsWholeRefused c text f
   in_shape : (u : LengthUnit) (ls : List Logical) → ReadsPlain text u ls → refused_from false ls ≡ Some f → IsWholeRefused c text f
   in_expansion : (u : LengthUnit) (ls : List Logical) → ReadsPlain text u ls → IsUnexpanded (statements_of c text ls) f → IsWholeRefused c text f
-  too_long : (u : LengthUnit) (ls : List Logical) (ps : List Placed) → Expands c text u ls ps → MOST_STATEMENTS < length (placed_in (guarded ps))
+  too_long : (u : LengthUnit) (ls : List Logical) (ps : List Placed) → Carries c text u ls ps → MOST_STATEMENTS < length (placed_in (guarded ps))
       → f ≡ record { code = TooLong; line = line_beyond (slice_get (placed_in (guarded ps)) MOST_STATEMENTS) } → IsWholeRefused c text f
-  no_program : (u : LengthUnit) (ls : List Logical) (ps : List Placed) → Expands c text u ls ps → is_program (placed_in (guarded ps)) ≡ false
+  no_program : (u : LengthUnit) (ls : List Logical) (ps : List Placed) → Carries c text u ls ps → is_program (placed_in (guarded ps)) ≡ false
       → f ≡ record { code = BadOrder; line = 1 } → IsWholeRefused c text f
-  in_program : (u : LengthUnit) (ls : List Logical) (ps : List Placed) → Expands c text u ls ps → IsRefusedPlaced (statements_of c text ls) (placed_in (guarded ps)) f
+  in_program : (u : LengthUnit) (ls : List Logical) (ps : List Placed) → Carries c text u ls ps → IsRefusedPlaced (statements_of c text ls) (placed_in (guarded ps)) f
       → IsWholeRefused c text f
 
 -- what is told of a text that isn't put as a program; of want of memory behind acceptance nothing is said

@@ -1,2 +1,3 @@
 -- What only private contracts and proofs speak of.
 pub mod Ending
+pub mod Memory

@@ -18,15 +18,18 @@ ghost use Rattle.vcm_said.specs.All.{said_all, refused_from};
 ghost use Rattle.vcm_given.specs.declared.choices.Choices.{Choices as Given};
 ghost use Rattle.vcm_plain.specs.declared.unit.Unit.{Unit as LengthUnit};
 ghost use Rattle.vcm_plain.specs.declared.unit.Unit.TheVariants.{Millimetre};
-ghost use Rattle.vcm_run.specs.Built.{IsBuiltPlaced};
+ghost use Rattle.std.specs.Prelude.{MatchOption};
+ghost use Rattle.vcm_run.specs.Built.{IsBuilt, IsBuiltPlaced};
+ghost use Rattle.vcm_whole.specs.inner.Memory.{is_memory};
 ghost use Rattle.vcm_plain.specs.Plain.{plain};
 ghost use Rattle.vcm_plain.specs.Units.{single_unit};
 ghost use Rattle.vcm_kept.specs.Guarding.{guarded};
 ghost use Rattle.vcm_kept.specs.Put.{placed_in, remarks_in};
-ghost use Rattle.vcm_whole.specs.Whole.{ReadsPlain, statements_of, is_rewritten as rewrites, Expands, IsWholeBuilt, is_lettered, is_lettered_placed, is_program, line_beyond, IsWholeRefusal};
+ghost use Rattle.vcm_whole.specs.Whole.{ReadsPlain, statements_of, is_rewritten as rewrites, stays, HasToBeCarried, Carries, Expands, IsPut, IsWholeBuilt, is_lettered, is_lettered_placed, is_program, line_beyond, IsWholeRefusal};
 
-use crate::losses::lossy_lines;
+use crate::losses::{lossy_lines, says_mode, says_unit};
 use std::alloc::Global;
+use vcm_certain::is_certain;
 use vcm_doubts::settle;
 use vcm_forms::{Form, Statement};
 use vcm_given::{Choices, choose, first_unused};
@@ -38,7 +41,7 @@ use vcm_num::{Items, MOST_STATEMENTS, NoMemory};
 use vcm_plain::{Unit, plain_text, single_unit};
 use vcm_program::Noticed;
 use vcm_remarks::NumberedRemark;
-use vcm_run::{Built, Refusal, build_placed};
+use vcm_run::{Built, Refusal, build_image, build_placed};
 use vcm_said::{first_refusal, say_all};
 use vcm_tree::noted;
 
@@ -55,6 +58,12 @@ pub struct Facts {
     pub unused: Option<Name>,
     /// How many statements it has.
     pub statements: usize,
+    /// Whether the program is the text as it is written: that is read in one way and loses nothing.
+    pub is_as_written: bool,
+    /// Whether the text says its unit anywhere.
+    pub says_unit: bool,
+    /// Whether it says its mode.
+    pub says_mode: bool,
 }
 
 /// The image of the program that a producer's text is put as.
@@ -74,6 +83,7 @@ struct Program {
     image: Vec<u8>,
     notices: Vec<Noticed>,
     remarks: Vec<NumberedRemark>,
+    is_as_written: bool,
 }
 
 // Whether a name is one of variables.
@@ -149,7 +159,8 @@ fn build_put(
     requires { (ss : List Said) × (notices.items ≡ notices_of ss) }
     ensures built { IfOk result (λ p. (ss : List Said) → notices.items ≡ notices_of ss → IsBuiltPlaced ss (placed_in (guarded expanded.items)) p.image.items p.notices.items) }
     ensures remarks { IfOk result (λ p. p.remarks.items ≡ remarks_in (guarded expanded.items)) }
-    ensures refused { IfErr result (λ r. (c : Given) (text : List ℕ) (u : LengthUnit) (ls : List Read) → Expands c text u ls expanded.items
+    ensures carried { IfOk result (λ p. p.is_as_written ≡ false) }
+    ensures refused { IfErr result (λ r. (c : Given) (text : List ℕ) (u : LengthUnit) (ls : List Read) → Carries c text u ls expanded.items
         → notices.items ≡ notices_of (statements_of c text ls) → IsWholeRefusal c text r) }
 {
     let (all, remarks) = match put_text(alloc, expanded) {
@@ -170,8 +181,68 @@ fn build_put(
             image,
             notices,
             remarks,
+            is_as_written: false,
         }),
         Err(refusal) => Err(refusal),
+    }
+}
+
+// Whether a fault is want of memory.
+fn is_memory(code: FaultCode) -> bool
+    ensures { result ≡ is_memory code }
+{
+    matches!(code, FaultCode::NoMemory)
+}
+
+// The image of a text as it is written, where it stays so and is a program of the language.
+fn build_written(
+    alloc: Global,
+    choices: &Choices,
+    text: &[u8],
+    expanded: &[Placed],
+) -> Result<Option<Built>, NoMemory>
+    ensures { IfOk result (λ b. MatchOption b (HasToBeCarried choices.now text.now expanded.now)
+        (λ x. (stays choices.now expanded.now ≡ true) × IsBuilt text.now x.image.items x.notices.items)) }
+{
+    if !choices.is_silent() || !is_certain(alloc, expanded)? {
+        return Ok(None);
+    }
+    match build_image(alloc, text) {
+        Ok(built) => Ok(Some(built)),
+        Err(Refusal::Source(fault)) => {
+            if is_memory(fault.code) {
+                Err(NoMemory)
+            } else {
+                Ok(None)
+            }
+        }
+        Err(_) => Err(NoMemory),
+    }
+}
+
+// The image of what an expanded text is put as: as it is written where it stays so, else with what is known carried.
+fn build_program(
+    alloc: Global,
+    choices: &Choices,
+    text: &[u8],
+    notices: Vec<Noticed>,
+    expanded: Vec<Placed>,
+) -> Result<Program, Refusal>
+    requires { (ss : List Said) × (notices.items ≡ notices_of ss) }
+    ensures built { IfOk result (λ p. (ss : List Said) → notices.items ≡ notices_of ss
+        → IsPut choices.now text.now ss expanded.items p.image.items p.notices.items p.remarks.items p.is_as_written) }
+    ensures refused { IfErr result (λ r. (u : LengthUnit) (ls : List Read) → Expands choices.now text.now u ls expanded.items
+        → notices.items ≡ notices_of (statements_of choices.now text.now ls) → IsWholeRefusal choices.now text.now r) }
+{
+    match build_written(alloc, choices, text, &expanded) {
+        Ok(Some(Built { image, notices })) => Ok(Program {
+            image,
+            notices,
+            remarks: Vec::new(alloc),
+            is_as_written: true,
+        }),
+        Ok(None) => build_put(alloc, notices, expanded),
+        Err(_) => Err(Refusal::NoMemory),
     }
 }
 
@@ -223,12 +294,13 @@ fn build_said(
         Ok(expanded) => expanded,
         Err(fault) => return Err(Refusal::Source(fault)),
     };
-    match build_put(alloc, notices, expanded) {
+    match build_program(alloc, choices, text, notices, expanded) {
         Ok(
             Program {
                 image,
                 notices,
                 remarks,
+                is_as_written,
             },
         ) => Ok(Whole {
             image,
@@ -240,6 +312,9 @@ fn build_said(
                 losses,
                 unused,
                 statements: lines.len(),
+                is_as_written,
+                says_unit: says_unit(lines),
+                says_mode: says_mode(lines),
             },
         }),
         Err(refusal) => Err(refusal),

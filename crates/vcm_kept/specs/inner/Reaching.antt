@@ -7,7 +7,7 @@ use Rattle.vcm_kept.specs.Guarding.{Reached}
 
 -- what the code keeps says this
 abbrev pub reached : Above → Reached
-reached a = record { variables = a.names; frames = a.frames; features = a.features; measuring = a.measuring; blocks = a.blocks }
+reached a = record { variables = a.names; frames = a.frames; features = a.features; measuring = a.measuring; aiming = a.aiming; assigned = a.assigned.items; blocks = a.blocks }
 
 -- whether a statement opens a block of a choice or a loop, or closes one
 abbrev pub is_block : Form → Bool

@@ -1,5 +1,5 @@
 use Rattle.std.proofs.Common.{◌≡◌, ◌++◌, drop, map}
-use Rattle.vcm_kept.specs.Carried.{carried_name}
+use Rattle.vcm_templates.specs.Carried.{carried_name}
 use Rattle.vcm_kept.proofs.guarding.names_of.Given as goal
 
 abbrev pub invariant-loop-one : goal.invariant-loop-one

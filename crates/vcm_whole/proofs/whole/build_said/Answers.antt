@@ -5,7 +5,7 @@ pub returns-in-Err-clause-refused : goal.returns-in-Err-clause-refused
 returns-in-Err-clause-refused c = λ read. expansion_refused c.args.choices.now c.args.text.now c.args.unit c.args.lines.now c.in-Ok-statements_of.statements.items
     c.in-Err.fault c.in-Ok-statements_of.ensures c.in-Err.ensures.fault read
 
-pub returns-in-Err-build_put-clause-refused : goal.returns-in-Err-build_put-clause-refused
-returns-in-Err-build_put-clause-refused c = λ read. put_refused c.args.choices.now c.args.text.now c.args.unit c.args.lines.now c.in-Ok-statements_of.statements.items
-    c.deref-3.result.now c.in-Ok-expand.expanded.items c.in-Ok-noted.notices.items c.in-Err-build_put.refusal c.in-Ok-statements_of.ensures c.deref-3.ensures.value
-    c.in-Ok-noted.ensures c.in-Ok-expand.ensures.ok c.requires c.in-Err-build_put.ensures.refused read
+pub returns-in-Err-build_program-clause-refused : goal.returns-in-Err-build_program-clause-refused
+returns-in-Err-build_program-clause-refused c = λ read. put_refused c.args.choices.now c.args.text.now c.args.unit c.args.lines.now c.in-Ok-statements_of.statements.items
+    c.deref-3.result.now c.in-Ok-expand.expanded.items c.in-Ok-noted.notices.items c.in-Err-build_program.refusal c.in-Ok-statements_of.ensures c.deref-3.ensures.value
+    c.in-Ok-noted.ensures c.in-Ok-expand.ensures.ok c.requires c.in-Err-build_program.ensures.refused read

@@ -1,0 +1,2 @@
+pub mod Certain
+pub mod inner

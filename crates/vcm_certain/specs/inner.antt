@@ -1,0 +1,2 @@
+-- Definitions that private contracts name.
+pub mod Knowing

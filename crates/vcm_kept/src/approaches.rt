@@ -1,0 +1,290 @@
+//! Points that are approached and left.
+
+ghost use Rattle.std.specs.Prelude.{◌≡◌, ◌++◌, ◌∷◌, [], map, pos, OnOk, IfOk, List};
+ghost use Rattle.vcm_forms.specs.declared.statement.Form.TheVariants as form;
+ghost use Rattle.vcm_templates.specs.Templates.{stands, elsewhere, ends, untried_point};
+ghost use Rattle.vcm_templates.specs.Carried.{carried_name};
+ghost use Rattle.vcm_kept.specs.Places.{kept_frames, has_place, along, ahead, added, before, left_behind, approaches_known, approaches_by, approaches, slants, keeps_setting, length_names, declares_kept, declares_slanted};
+
+use crate::places::{ask_point, copied, has_place, lose_track, point_asks, set_length, step_at};
+use std::alloc::Global;
+use vcm_events::{join, pair};
+use vcm_expr::{BinaryOp, Expr, Names};
+use vcm_forms::{Coordinates, Form, Offset};
+use vcm_items::VariableName;
+use vcm_num::{Items, Kind, NoMemory};
+use vcm_remarks::Remark;
+use vcm_spec::Setting;
+use vcm_templates::{
+    Carried, Guarded, IMPLICIT, Length, elsewhere, end, number, raise, remark, set_number, stand,
+    untried_point,
+};
+
+// So many thousandths of a length.
+fn along(alloc: Global, length: Option<Expr>) -> Result<Option<Expr>, NoMemory>
+    ensures { IfOk result (λ e. e ≡ along length) }
+{
+    match length {
+        Some(length) => join(alloc, BinaryOp::Div, &length, &Expr::leaf(number(1000))),
+        None => Ok(None),
+    }
+}
+
+// How far the tip's centre lies before a point on one axis.
+fn ahead(alloc: Global, length: Length, component: &Expr) -> Result<Option<Expr>, NoMemory>
+    ensures { IfOk result (λ e. e ≡ ahead length component.now) }
+{
+    let distance = pair(alloc, BinaryOp::Add, length.term(), Length::Tip.term())?;
+    let product = join(alloc, BinaryOp::Mul, &distance, component)?;
+    along(alloc, product)
+}
+
+// A coordinate with this added.
+fn added(alloc: Global, first: &Expr, second: Option<Expr>) -> Result<Option<Expr>, NoMemory>
+    ensures { IfOk result (λ e. e ≡ added first.now second) }
+{
+    match second {
+        Some(second) => join(alloc, BinaryOp::Add, first, &second),
+        None => Ok(None),
+    }
+}
+
+// The place before a point.
+fn before(
+    alloc: Global,
+    length: Length,
+    place: &Coordinates,
+    direction: &Coordinates,
+) -> Result<Option<Coordinates>, NoMemory>
+    ensures { IfOk result (λ p. p ≡ before length place.now direction.now) }
+{
+    let x = added(alloc, &place.x, ahead(alloc, length, &direction.x)?)?;
+    let y = added(alloc, &place.y, ahead(alloc, length, &direction.y)?)?;
+    let z = added(alloc, &place.z, ahead(alloc, length, &direction.z)?)?;
+    Ok(step_at(x, y, z))
+}
+
+// Behind a point that is approached and left.
+#[tactic(auto, unfolding(crate::specs::Places::left_behind))]
+fn leave_behind(
+    alloc: Global,
+    out: &mut Vec<Guarded>,
+    steps: bool,
+    line: u32,
+) -> Result<(), NoMemory>
+    ensures { OnOk result (out.new.items ≡ out.old.items ++ left_behind steps line) }
+{
+    raise(alloc, out, line, Carried::Points, 1)?;
+    set_number(out, line, Carried::Single, 0)?;
+    lose_track(out, steps, line)?;
+    let stands = Form::Assignment(Carried::Place.target(), Expr::leaf(number(1)));
+    remark(out, line, 0, stands, Remark::Approached)?;
+    elsewhere(out, line)?;
+    untried_point(alloc, out, line)?;
+    end(out, line)
+}
+
+// A point that is approached from one place and left to another.
+#[tactic(auto, unfolding(crate::specs::Places::approaches_known))]
+fn approach_known(
+    alloc: Global,
+    out: &mut Vec<Guarded>,
+    steps: bool,
+    line: u32,
+    names: &Names,
+    place: &Coordinates,
+    first: Coordinates,
+    second: Coordinates,
+) -> Result<(), NoMemory>
+    ensures { OnOk result (out.new.items ≡ out.old.items ++ approaches_known steps line names.now place.now first second) }
+{
+    ask_point(alloc, out, line, names, point_asks(alloc)?, place)?;
+    stand(out, line, 0, Form::Move(first))?;
+    stand(out, line, 0, Form::Move(second))?;
+    leave_behind(alloc, out, steps, line)
+}
+
+// The same, if there are such places.
+fn approach_by(
+    alloc: Global,
+    out: &mut Vec<Guarded>,
+    steps: bool,
+    line: u32,
+    names: &Names,
+    place: &Coordinates,
+    first: Option<Coordinates>,
+    second: Option<Coordinates>,
+) -> Result<(), NoMemory>
+    ensures { OnOk result (out.new.items ≡ out.old.items ++ approaches_by steps line names.now place.now first second) }
+{
+    match (first, second) {
+        (Some(first), Some(second)) => {
+            approach_known(alloc, out, steps, line, names, place, first, second)
+        }
+        _ => untried_point(alloc, out, line),
+    }
+}
+
+// A point with its direction.
+fn approach(
+    alloc: Global,
+    out: &mut Vec<Guarded>,
+    steps: bool,
+    line: u32,
+    names: &Names,
+    place: &Coordinates,
+    direction: &Coordinates,
+) -> Result<(), NoMemory>
+    ensures { OnOk result (out.new.items ≡ out.old.items ++ approaches steps line names.now place.now direction.now) }
+{
+    if !has_place(alloc, names, place)? {
+        return untried_point(alloc, out, line);
+    }
+    let first = before(alloc, Length::Approach, place, direction)?;
+    let second = before(alloc, Length::Retract, place, direction)?;
+    approach_by(alloc, out, steps, line, names, place, first, second)
+}
+
+// Three lengths as a place.
+fn place_of(alloc: Global, x: &Offset, y: &Offset, z: &Offset) -> Result<Coordinates, NoMemory>
+    ensures { IfOk result (λ p. p ≡ record { x = x.now.length; y = y.now.length; z = z.now.length }) }
+{
+    let x = copied(alloc, &x.length)?;
+    let y = copied(alloc, &y.length)?;
+    let z = copied(alloc, &z.length)?;
+    Ok(Coordinates { x, y, z })
+}
+
+// Six lengths as a place and a direction.
+fn directed(
+    alloc: Global,
+    x: &Offset,
+    y: &Offset,
+    z: &Offset,
+    i: &Offset,
+    j: &Offset,
+    k: &Offset,
+) -> Result<(Coordinates, Coordinates), NoMemory>
+    ensures { IfOk result (λ p. p ≡ (record { x = x.now.length; y = y.now.length; z = z.now.length }, record { x = i.now.length; y = j.now.length; z = k.now.length })) }
+{
+    let place = place_of(alloc, x, y, z)?;
+    let direction = place_of(alloc, i, j, k)?;
+    Ok((place, direction))
+}
+
+/// A slanted point, by its three coordinates and the three components of its direction; what has one length alone says how wide the tip is.
+pub(crate) fn slant(
+    alloc: Global,
+    out: &mut Vec<Guarded>,
+    slanted: bool,
+    steps: bool,
+    line: u32,
+    names: &Names,
+    legs: &[Offset],
+) -> Result<(), NoMemory>
+    ensures { OnOk result (out.new.items ≡ out.old.items ++ slants slanted steps line names.now legs.now) }
+{
+    if !slanted {
+        return Ok(());
+    }
+    match legs {
+        [width] => set_length(out, line, Length::Tip, copied(alloc, &width.length)?),
+        [x, y, z, i, j, k] => {
+            let directed = directed(alloc, x, y, z, i, j, k)?;
+            approach(alloc, out, steps, line, names, &directed.0, &directed.1)
+        }
+        _ => Ok(()),
+    }
+}
+
+/// The length of a setting, where a text has points that are approached and left.
+pub(crate) fn keep_setting(
+    alloc: Global,
+    out: &mut Vec<Guarded>,
+    slanted: bool,
+    line: u32,
+    which: Setting,
+    value: &Expr,
+) -> Result<(), NoMemory>
+    ensures { OnOk result (out.new.items ≡ out.old.items ++ keeps_setting slanted line which value.now) }
+{
+    if !slanted {
+        return Ok(());
+    }
+    match which {
+        Setting::Approach => set_length(out, line, Length::Approach, copied(alloc, value)?),
+        Setting::Retract => set_length(out, line, Length::Retract, copied(alloc, value)?),
+        Setting::Search | Setting::Depth => Ok(()),
+    }
+}
+
+// ---- declarations
+
+// The names of lengths.
+#[tactic(auto, unfolding(crate::specs::Places::length_names))]
+fn length_names(alloc: Global, lengths: &[Length]) -> Result<Items<VariableName>, NoMemory>
+    ensures { IfOk result (λ names. names ≡ length_names lengths.now) }
+{
+    let mut names = Items::new(alloc);
+    for one in lengths {
+        names.push(one.variable())?;
+    }
+    Ok(names)
+}
+
+// The numbers of the frames of places that are kept.
+fn frame_names(alloc: Global) -> Result<Items<VariableName>, NoMemory>
+    ensures { IfOk result (λ names. names ≡ map carried_name kept_frames) }
+{
+    let mut names = Items::new(alloc);
+    names.push(Carried::HomeFrame.variable())?;
+    names.push(Carried::TargetFrame.variable())?;
+    names.push(Carried::ProbeFrame.variable())?;
+    Ok(names)
+}
+
+/// The variables of places that are kept are declared.
+#[tactic(auto, unfolding(crate::specs::Places::declares_kept))]
+pub(crate) fn declare_kept(
+    alloc: Global,
+    out: &mut Vec<Guarded>,
+    spots: bool,
+) -> Result<(), NoMemory>
+    ensures { OnOk result (out.new.items ≡ out.old.items ++ declares_kept spots) }
+{
+    if !spots {
+        return Ok(());
+    }
+    let all = [
+        Length::HomeX,
+        Length::HomeY,
+        Length::HomeZ,
+        Length::TargetX,
+        Length::TargetY,
+        Length::TargetZ,
+        Length::ProbeX,
+        Length::ProbeY,
+        Length::ProbeZ,
+    ];
+    let names = length_names(alloc, &all)?;
+    stand(out, 1, IMPLICIT, Form::Declaration(Kind::Real, names))?;
+    let frames = frame_names(alloc)?;
+    stand(out, 1, IMPLICIT, Form::Declaration(Kind::Int, frames))
+}
+
+/// Those of points that are approached and left are.
+#[tactic(auto, unfolding(crate::specs::Places::declares_slanted))]
+pub(crate) fn declare_slanted(
+    alloc: Global,
+    out: &mut Vec<Guarded>,
+    slanted: bool,
+) -> Result<(), NoMemory>
+    ensures { OnOk result (out.new.items ≡ out.old.items ++ declares_slanted slanted) }
+{
+    if !slanted {
+        return Ok(());
+    }
+    let all = [Length::Approach, Length::Retract, Length::Tip];
+    let names = length_names(alloc, &all)?;
+    stand(out, 1, IMPLICIT, Form::Declaration(Kind::Real, names))
+}

@@ -1,0 +1,18 @@
+//! What holds of a whole text.
+
+/// What holds of a whole text.
+#[derive(Clone, Copy)]
+pub struct Text {
+    /// It has labels or jumps.
+    pub jumps: bool,
+    /// The machine's frame has a name of its own.
+    pub machine: bool,
+    /// It has places that are kept for later, or steps from the probe's place.
+    pub spots: bool,
+    /// It has a FROM.
+    pub from: bool,
+    /// It has steps from the probe's place.
+    pub steps: bool,
+    /// It has points that are approached and left.
+    pub slants: bool,
+}

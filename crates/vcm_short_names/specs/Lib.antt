@@ -1,0 +1,5 @@
+pub mod Pieces
+pub mod Short
+pub mod Laws
+pub mod Samples
+pub mod inner
