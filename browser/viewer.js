@@ -1,5 +1,5 @@
-// The page of a run, as `vcm view` writes it, in a frame of its own. A new one is made behind the old one and takes its place once it is there, with what was chosen
-// in the old one: the step, unless that was the last one, the view, what is in view, and the panel.
+// The page of a run, as `vcm view` writes it, in a frame of its own, where it leaves out its head and its program. A new one is made behind the old one and takes its
+// place once it is there, with what was chosen in the old one: the step, unless that was the one it had opened at, the view, what is in view, and whether the state is shown.
 
 class Viewer {
   constructor(box, whenStepped) {
@@ -8,23 +8,29 @@ class Viewer {
     this.frame = null;
     this.coming = null;
     this.watch = new MutationObserver(() => this.stepped());
+    // what is dragged over the frame is the page's
+    this.whenDragged = () => {};
   }
-  show(page) {
+  // Shows the page of a run; `isBare` where it has the part alone, and no run.
+  show(page, isBare = false) {
     if (this.coming) this.coming.remove();
     const frame = document.createElement("iframe");
-    frame.title = "The run, step by step";
+    frame.title = isBare ? "The part" : "The run, step by step";
     frame.className = "coming";
-    frame.srcdoc = page;
-    frame.onload = () => this.come(frame);
+    frame.srcdoc = page.replace('<html lang="en">', `<html lang="en" class="framed${isBare ? " bare" : ""}">`);
+    frame.onload = () => this.come(frame, isBare);
     this.coming = frame;
     this.box.append(frame);
     this.setOld(false);
   }
-  come(frame) {
-    choose(frame.contentDocument, this.frame ? chosen(this.frame.contentDocument) : { panel: "state" });
+  come(frame, isBare) {
+    const before = this.frame && chosen(this.frame.contentDocument);
+    choose(frame.contentDocument, before && this.isBare === isBare ? before : { ...(before || { view: "solid", fit: "part", panel: "program" }), step: null });
     if (this.frame) this.frame.remove();
     this.frame = frame;
+    this.isBare = isBare;
     this.coming = null;
+    for (const kind of ["dragover", "drop"]) frame.contentWindow.addEventListener(kind, (event) => this.whenDragged(event));
     frame.className = "";
     this.watch.disconnect();
     this.watch.observe(frame.contentDocument.documentElement, { attributeFilter: ["data-step"] });
@@ -42,19 +48,28 @@ class Viewer {
   }
   // Tells the line of the step that is shown, or 0 at the start.
   stepped() {
-    const row = this.frame.contentDocument.querySelector('[aria-current="step"]');
-    this.whenStepped(row ? Number(row.dataset.line) : 0);
+    this.whenStepped(this.isBare ? 0 : Number(this.frame.contentDocument.documentElement.dataset.line) || 0);
+  }
+  // Goes to the first contact, closely.
+  seeContact() {
+    if (!this.frame) return;
+    const page = this.frame.contentDocument;
+    page.getElementById("to-met").click();
+    page.querySelector('input[name="fit"][value="probe"]').click();
+    this.focus();
   }
   focus() {
-    if (this.frame) this.frame.contentDocument.getElementById("slider").focus();
+    if (!this.frame) return;
+    this.frame.focus();
+    this.frame.contentDocument.getElementById("slider").focus();
   }
 }
 
 // What is chosen in a page of a run.
 function chosen(page) {
   const slider = page.getElementById("slider"), radio = (name) => page.querySelector(`input[name="${name}"]:checked`);
-  const isLast = slider.value === slider.max;
-  return { step: isLast ? null : slider.value, view: radio("view").value, fit: radio("fit") && radio("fit").value, panel: page.body.dataset.panel };
+  const isFirst = slider.value === page.documentElement.dataset.first;
+  return { step: isFirst ? null : slider.value, view: radio("view").value, fit: radio("fit") && radio("fit").value, panel: page.body.dataset.panel };
 }
 
 // Chooses the same in another one.

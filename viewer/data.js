@@ -159,7 +159,7 @@ function readRun(text) {
       }
       case "K": run.from = Number(words[0]); before = words.slice(1, 4).map(Number); for (const x of before) position.push(x); statement.push(0); line.push(0); pieceFrom.push(0); break;
       case "m": case "a": case "s": case "r": case "x":
-        if (words.length > 3) run.aims.set(kinds.length, words.slice(3).map(millimetresOf).join("  "));
+        if (words.length > 3) run.aims.set(kinds.length, words.slice(3).map(millimetresOf));
         piece(row[0], words.slice(0, 3).map(Number));
         break;
       case "t": run.touches.push({ step, at: words.slice(0, 3).map(Number), name: words[3] }); break;
@@ -201,7 +201,7 @@ function readBoxes(run, text) {
     const [, name, kind, , block, , permille, , , , line, , step, , x, y, z] = words;
     const contact = { name, kind, block: Number(block), permille: Number(permille), line: Number(line), step: Number(step) - run.from, at: [x, y, z].map(micrometres) };
     named(name).contacts.push(contact);
-    run.firstMet = run.firstMet || contact;
+    if (!run.firstMet || contact.step < run.firstMet.step) run.firstMet = contact;
   }
 }
 
@@ -244,10 +244,18 @@ function millimetres(x) {
   const size = Math.abs(x);
   return (x < 0 ? "-" : "") + Math.floor(size / 1000) + "." + String(size % 1000).padStart(3, "0");
 }
-const pointText = (at) => at.map(millimetres).join("  ");
 
 // the contacts of the probe's boxes in a step, each with its box
 const contactsIn = (run, k) => run.boxes.flatMap((box) => box.contacts.filter((it) => it.step === k).map((contact) => ({ box, contact })));
+
+// the blocks that are met in a step, by the tip or by a box of the probe
+const metIn = (run, k) => [...new Set([...(run.contact && run.contact.step === k ? [run.contact.block] : []), ...contactsIn(run, k).map((it) => it.contact.block)])];
+
+// where the tip is shown behind a step: where it, or a box that is fixed to it, met a block first
+function shownAt(run, k) {
+  const met = contactsIn(run, k)[0];
+  return met ? met.contact.at : run.contact && run.contact.step === k ? run.contact.at : positionAt(run, k);
+}
 
 // steps that move the probe or print
 function isEvent(run, k) {

@@ -6,7 +6,7 @@ pub(crate) fn head_1() -> &'static [u8] {
 <html lang=\"en\">
 <head>
 <meta charset=\"utf-8\">
-<meta http-equiv=\"Content-Security-Policy\" content=\"default-src 'none'; script-src 'sha256-IfUNypvcbOZi5yiIqxiWE59oMlLSUuNsAQM7fVSUzi4='; style-src 'sha256-tZAYo0hNMEcehlRa48FhV2BSLA/THZsWiqOfYxc+Ifw='; base-uri 'none'; form-action 'none'\">
+<meta http-equiv=\"Content-Security-Policy\" content=\"default-src 'none'; script-src 'sha256-lozTjraVM3lbhkbKTeVcuiO4LFZSQqqbmbcsrE5FYq0='; style-src 'sha256-g95snF2E+HSE0d6MerNicJqoIPLN6pxSxc7wMN+VCVY='; base-uri 'none'; form-action 'none'\">
 <meta name=\"viewport\" content=\"width=device-width, initial-scale=1\">
 <meta name=\"color-scheme\" content=\"light dark\">
 <title>vcm view</title>
@@ -41,6 +41,7 @@ pub(crate) fn middle_1() -> &'static [u8] {
         <label title=\"the blocks\"><input type=\"radio\" name=\"fit\" value=\"part\"><span>Part</span></label>
         <label title=\"follows the probe closely\"><input type=\"radio\" name=\"fit\" value=\"probe\"><span>Probe</span></label>
       </div>
+      <button type=\"button\" id=\"state-open\" aria-pressed=\"false\" title=\"Variables, points, output and settings behind this step\">State</button>
     </div>
     <div class=\"sheets\">
       <figure data-sheet=\"top\"><figcaption>Top <small>X right, Y up</small></figcaption><canvas role=\"img\"></canvas></figure>
@@ -54,6 +55,7 @@ pub(crate) fn middle_2() -> &'static [u8] {
       <figure data-sheet=\"front\"><figcaption>Front <small>X right, Z up</small></figcaption><canvas role=\"img\"></canvas></figure>
       <figure data-sheet=\"side\"><figcaption>Right side <small>Y right, Z up</small></figcaption><canvas role=\"img\"></canvas></figure>
     </div>
+    <p class=\"here\" id=\"here\" aria-hidden=\"true\"></p>
     <p class=\"legend\" id=\"legend\"></p>
     <p class=\"tip\" id=\"tip\" hidden></p>
   </section>
@@ -64,15 +66,15 @@ pub(crate) fn middle_2() -> &'static [u8] {
   <section id=\"program\" aria-label=\"Program text\" tabindex=\"0\"></section>
   <aside id=\"state\" aria-label=\"State behind this step\" tabindex=\"0\">
     <section class=\"step\"><h2 id=\"step-title\"></h2><p id=\"step-done\" class=\"done\"></p><p id=\"step-line\" class=\"raw\"></p></section>
-    <section><h2>Probe</h2><dl id=\"probe\" class=\"rows\"></dl></section>
+    <section><h2>Probe</h2><table id=\"places\"><thead><tr><td></td><th scope=\"col\" class=\"n\">X</th><th scope=\"col\" class=\"n\">Y</th><th scope=\"col\" class=\"n\">Z</th></tr></thead><tbody></tbody></table><dl id=\"probe\" class=\"rows\"></dl></section>
     <section id=\"variables-section\"><h2>Variables</h2><input type=\"search\" id=\"variables-filter\" placeholder=\"Find a variable\" aria-label=\"Find a variable\" hidden><table id=\"variables\"><thead><tr><th scope=\"col\">Name</th><th scope=\"col\" class=\"n\">Value</th><th scope=\"col\" class=\"n\">Set at step</th></tr></thead><tbody></tbody></table></section>
-    <section id=\"points-section\"><h2>Measured points <span id=\"points-count\" class=\"count\"></span></h2><table id=\"points\"><thead><tr><th scope=\"col\">Name</th><th scope=\"col\" class=\"n\">X</th><th scope=\"col\" class=\"n\">Y</th><th scope=\"col\" class=\"n\">Z</th><th scope=\"col\" class=\"n\">Deviation</th><th scope=\"col\" class=\"n\">Step</th></tr></thead><tbody></tbody></table></section>
 "
 }
 
 /// Part 3 of what stands between the style and the story.
 pub(crate) fn middle_3() -> &'static [u8] {
-    b"    <section id=\"boxes-section\"><h2>Boxes of the probe</h2><table id=\"boxes\"><thead><tr><th scope=\"col\">Name</th><th scope=\"col\">Contact, or room</th><th scope=\"col\" class=\"n\">Step</th></tr></thead><tbody></tbody></table></section>
+    b"    <section id=\"points-section\"><h2>Measured points <span id=\"points-count\" class=\"count\"></span></h2><table id=\"points\"><thead><tr><th scope=\"col\">Name</th><th scope=\"col\" class=\"n\">X</th><th scope=\"col\" class=\"n\">Y</th><th scope=\"col\" class=\"n\">Z</th><th scope=\"col\" class=\"n\">Deviation</th><th scope=\"col\" class=\"n\">Step</th></tr></thead><tbody></tbody></table></section>
+    <section id=\"boxes-section\"><h2>Boxes of the probe</h2><table id=\"boxes\"><thead><tr><th scope=\"col\">Name</th><th scope=\"col\">Contact, or room</th><th scope=\"col\" class=\"n\">Step</th></tr></thead><tbody></tbody></table></section>
     <section id=\"output-section\"><h2>Output <span id=\"output-count\" class=\"count\"></span></h2><ol id=\"output\"></ol></section>
     <section><h2>Settings</h2><dl id=\"settings\" class=\"rows\"></dl></section>
     <section id=\"notices-section\"><h2>Notices</h2><ul id=\"notices\"></ul></section>
@@ -85,11 +87,17 @@ pub(crate) fn middle_3() -> &'static [u8] {
     <button type=\"button\" id=\"play\" aria-label=\"Play\" title=\"Play (space)\">&#9654;</button>
     <button type=\"button\" id=\"step-on\" aria-label=\"One step on\" title=\"One step on (right arrow)\">&#9654;&#124;</button>
     <button type=\"button\" id=\"to-end\" aria-label=\"To the end\" title=\"To the end (End)\">&#9654;&#9654;</button>
+    <button type=\"button\" id=\"to-met\" hidden></button>
     <label class=\"speed\">Speed <select id=\"speed\"><option value=\"0.25\">&#188;</option><option value=\"1\" selected>1</option><option value=\"4\">4</option><option value=\"16\">16</option><option value=\"64\">64</option></select></label>
   </div>
   <div class=\"time\">
     <canvas id=\"profile\" aria-hidden=\"true\" title=\"How high the probe is behind each step; dots are measured points, ticks are output lines\"></canvas>
-    <input type=\"range\" id=\"slider\" min=\"0\" max=\"1\" value=\"0\" aria-label=\"Step\">
+"
+}
+
+/// Part 4 of what stands between the style and the story.
+pub(crate) fn middle_4() -> &'static [u8] {
+    b"    <input type=\"range\" id=\"slider\" min=\"0\" max=\"1\" value=\"0\" aria-label=\"Step\">
   </div>
   <p class=\"where\"><label>Step <input type=\"number\" id=\"number\" min=\"0\" value=\"0\"></label> <span id=\"of\"></span></p>
 </footer>
@@ -98,12 +106,7 @@ pub(crate) fn middle_3() -> &'static [u8] {
   <h2 id=\"keys-title\">Keys</h2>
   <table>
     <tr><td><kbd>&#8592;</kbd> <kbd>&#8594;</kbd></td><td>one step back, one step on</td></tr>
-"
-}
-
-/// Part 4 of what stands between the style and the story.
-pub(crate) fn middle_4() -> &'static [u8] {
-    b"    <tr><td><kbd>Shift</kbd> <kbd>&#8592;</kbd> <kbd>&#8594;</kbd></td><td>to the step before or behind that moves the probe or prints</td></tr>
+    <tr><td><kbd>Shift</kbd> <kbd>&#8592;</kbd> <kbd>&#8594;</kbd></td><td>to the step before or behind that moves the probe or prints</td></tr>
     <tr><td><kbd>Home</kbd> <kbd>End</kbd></td><td>to the start, to the end</td></tr>
     <tr><td><kbd>Space</kbd></td><td>play, and stop playing</td></tr>
     <tr><td><kbd>[</kbd> <kbd>]</kbd></td><td>to the time before or behind at which this line is carried out</td></tr>

@@ -6,12 +6,15 @@ use crate::script::{
     script_10, script_11, script_12, script_13, script_14, script_15, script_16, script_17,
     script_18, script_19, script_20, script_21, script_22, script_23, script_24, script_25,
     script_26, script_27, script_28, script_29, script_30, script_31, script_32, script_33,
-    script_34, script_35, script_36, script_37, script_38, script_39,
+    script_34, script_35, script_36, script_37, script_38, script_39, script_40, script_41,
+    script_42, script_43, script_44, script_45,
 };
-use crate::style::{style_1, style_2, style_3, style_4, style_5, style_6, style_7, style_8};
+use crate::style::{
+    style_1, style_2, style_3, style_4, style_5, style_6, style_7, style_8, style_9, style_10,
+};
 
 /// What stands before the story, in order.
-pub fn front() -> [&'static [u8]; 13] {
+pub fn front() -> [&'static [u8]; 15] {
     [
         head_1(),
         style_1(),
@@ -22,6 +25,8 @@ pub fn front() -> [&'static [u8]; 13] {
         style_6(),
         style_7(),
         style_8(),
+        style_9(),
+        style_10(),
         middle_1(),
         middle_2(),
         middle_3(),
@@ -30,7 +35,7 @@ pub fn front() -> [&'static [u8]; 13] {
 }
 
 /// What stands behind the story and the end of its element, in order.
-pub fn back() -> [&'static [u8]; 41] {
+pub fn back() -> [&'static [u8]; 47] {
     [
         between_1(),
         script_1(),
@@ -72,12 +77,18 @@ pub fn back() -> [&'static [u8]; 41] {
         script_37(),
         script_38(),
         script_39(),
+        script_40(),
+        script_41(),
+        script_42(),
+        script_43(),
+        script_44(),
+        script_45(),
         end_1(),
     ]
 }
 
 /// The style, in order.
-pub fn style_parts() -> [&'static [u8]; 8] {
+pub fn style_parts() -> [&'static [u8]; 10] {
     [
         style_1(),
         style_2(),
@@ -87,11 +98,13 @@ pub fn style_parts() -> [&'static [u8]; 8] {
         style_6(),
         style_7(),
         style_8(),
+        style_9(),
+        style_10(),
     ]
 }
 
 /// The script, in order.
-pub fn script_parts() -> [&'static [u8]; 39] {
+pub fn script_parts() -> [&'static [u8]; 45] {
     [
         script_1(),
         script_2(),
@@ -132,5 +145,11 @@ pub fn script_parts() -> [&'static [u8]; 39] {
         script_37(),
         script_38(),
         script_39(),
+        script_40(),
+        script_41(),
+        script_42(),
+        script_43(),
+        script_44(),
+        script_45(),
     ]
 }

@@ -179,7 +179,7 @@ pub(crate) fn script_4() -> &'static [u8] {
       }
       case \"K\": run.from = Number(words[0]); before = words.slice(1, 4).map(Number); for (const x of before) position.push(x); statement.push(0); line.push(0); pieceFrom.push(0); break;
       case \"m\": case \"a\": case \"s\": case \"r\": case \"x\":
-        if (words.length > 3) run.aims.set(kinds.length, words.slice(3).map(millimetresOf).join(\"  \"));
+        if (words.length > 3) run.aims.set(kinds.length, words.slice(3).map(millimetresOf));
         piece(row[0], words.slice(0, 3).map(Number));
         break;
       case \"t\": run.touches.push({ step, at: words.slice(0, 3).map(Number), name: words[3] }); break;
@@ -207,15 +207,15 @@ pub(crate) fn script_4() -> &'static [u8] {
   }
   const title = run.lines.map((it) => /^\\s*DMISMN\\s*\\/\\s*'([^']*)'/i.exec(it)).find((it) => it);
   run.title = title ? title[1] : \"Run of an image\";
+  return run;
+}
+
 "
 }
 
 /// Part 5 of the script.
 pub(crate) fn script_5() -> &'static [u8] {
-    b"  return run;
-}
-
-// The boxes of a probe, from lines `Q NAME LOW HIGH`, each with its contacts in the run and with how much room is left round it, from the lines of its clearance.
+    b"// The boxes of a probe, from lines `Q NAME LOW HIGH`, each with its contacts in the run and with how much room is left round it, from the lines of its clearance.
 function readBoxes(run, text) {
   const named = (name) => run.boxes.find((it) => it.name === name);
   for (const row of text.split(\"\\n\")) {
@@ -226,7 +226,7 @@ function readBoxes(run, text) {
     const [, name, kind, , block, , permille, , , , line, , step, , x, y, z] = words;
     const contact = { name, kind, block: Number(block), permille: Number(permille), line: Number(line), step: Number(step) - run.from, at: [x, y, z].map(micrometres) };
     named(name).contacts.push(contact);
-    run.firstMet = run.firstMet || contact;
+    if (!run.firstMet || contact.step < run.firstMet.step) run.firstMet = contact;
   }
 }
 
@@ -274,17 +274,170 @@ function millimetres(x) {
   const size = Math.abs(x);
   return (x < 0 ? \"-\" : \"\") + Math.floor(size / 1000) + \".\" + String(size % 1000).padStart(3, \"0\");
 }
-const pointText = (at) => at.map(millimetres).join(\"  \");
 
 // the contacts of the probe's boxes in a step, each with its box
 const contactsIn = (run, k) => run.boxes.flatMap((box) => box.contacts.filter((it) => it.step === k).map((contact) => ({ box, contact })));
+
+// the blocks that are met in a step, by the tip or by a box of the probe
+const metIn = (run, k) => [...new Set([...(run.contact && run.contact.step === k ? [run.contact.block] : []), ...contactsIn(run, k).map((it) => it.contact.block)])];
+
+// where the tip is shown behind a step: where it, or a box that is fixed to it, met a block first
+function shownAt(run, k) {
+  const met = contactsIn(run, k)[0];
+  return met ? met.contact.at : run.contact && run.contact.step === k ? run.contact.at : positionAt(run, k);
+}
 
 // steps that move the probe or print
 function isEvent(run, k) {
   return run.pieceFrom[k + 1] > run.pieceFrom[k] || /^(output|stop) /.test(run.done[k]);
 }
 
-// The three views, on plain canvases: blocks, the way, touched points, home, the tip and the contact. All three have one centre and one
+// What is said of a run in words: how it ended, what a step did, how wide the tip is, how far a point is off.
+
+const stopWords = { TRAVEL: \"Outside the limits\", MISSED: \"Touched nothing\" };
+const countText = (n, one, more) => n.toLocaleString(\"en\") + \" \" + (n === 1 ? one : more);
+const tipText = (run) => (run.tip ? `tip \\u2300 ${millimetres(2 * run.tip)} mm` : \"tip a point\");
+const frameText = (frame) => (frame.name ? frame.name + \": \" : \"\") + \"origin \" + frame.origin.map(millimetres).join(\" \") + \", X \" + frame.axes[0] + \", Y \" + frame.axes[1] + \", Z \" + frame.axes[2];
+"
+}
+
+/// Part 7 of the script.
+pub(crate) fn script_7() -> &'static [u8] {
+    b"const metText = (run, box, contact) => `${box.name} meets ${blockText(run, contact.block)}`;
+
+// The line on which the run stopped before its end, or 0.
+const stopLineOf = (run) => (run.stop && !run.stop.text.startsWith(\"stop ENDED\") ? rowAt(run, run.stop.step) : 0);
+
+// How the run ended, which hangs on the tip alone.
+function endingOf(run) {
+  const line = run.stop ? run.stop.text.slice(5) : run.open ? run.open.text : \"\";
+  const word = line.split(\" \")[0];
+  const place = /at (\\d+) line (\\d+)$/.exec(line);
+  const hit = /block (\\d+) permille (\\d+)/.exec(line);
+  let text, kind = \"bad\";
+  if (word === \"ENDED\") [kind, text] = [\"ok\", \"Came to its end, no collision\"];
+  else if (!run.stop) [kind, text] = [\"warn\", \"Not at its end: \" + line];
+  else if (hit) text = `Collision with ${blockText(run, Number(hit[1]))} on line ${place[2]}, ${wayText(run, line.split(\" \")[1].toLowerCase(), hit[2])}`;
+  else text = (stopWords[word] || \"Stopped: \" + word) + (word === \"TRAVEL\" ? \" (\" + line.split(\" \")[1].toLowerCase() + \")\" : \"\") + (place ? \" on line \" + place[2] : \"\");
+  return { kind, text, line };
+}
+
+// How far the probe came on the way to a contact, in millimetres; in thousandths where the way isn't in the page.
+function wayText(run, kind, permille) {
+  const i = run.kinds.lastIndexOf(\"x\"), { contact } = run;
+  if (i < 0 || !contact || run.pieceStep[i] !== contact.step) return `after ${permille} thousandths of the ${kind}`;
+  // of the way that is stopped the piece up to the contact stands before that which isn't reached
+  const before = run.ends.subarray(i > run.pieceFrom[contact.step] ? 6 * (i - 1) : 6 * i);
+  const aim = run.aims.has(i) ? run.aims.get(i).map((it) => 1000 * Number(it)) : run.ends.subarray(6 * i + 3);
+  const far = (to) => (Math.hypot(...contact.at.map((_, k) => to[k] - before[k])) / 1000).toFixed(1);
+  return `${far(contact.at)} mm into ${kind === \"approach\" ? \"an\" : \"a\"} ${kind} of ${far(aim)} mm`;
+}
+
+"
+}
+
+/// Part 8 of the script.
+pub(crate) fn script_8() -> &'static [u8] {
+    b"// The verdict of the page: what the boxes of the probe meet is told first, and then how the run ended.
+function verdictOf(run) {
+  const told = endingOf(run), first = run.firstMet, more = run.boxes.filter((it) => it.contacts.length).length - 1;
+  if (!first) return told;
+  const text = `${first.name} meets ${blockText(run, first.block)} on line ${first.line}` + (more > 0 ? `, and ${more} more of the boxes meet blocks` : \"\");
+  return { ...told, kind: \"bad\", text: told.kind === \"ok\" ? `${text}; the tip itself meets nothing` : `${text}; ${told.text}` };
+}
+
+// What a page is about, in numbers.
+function factsOf(run) {
+  const facts = [countText(run.length + run.from, \"step\", \"steps\"), countText(run.blocks.length, \"block\", \"blocks\"), tipText(run)];
+  if (run.touches.length) facts.push(countText(run.touches.length, \"measured point\", \"measured points\"));
+  if (run.boxes.length) facts.push(countText(run.boxes.length, \"box of the probe\", \"boxes of the probe\"));
+  if (run.notices.length) facts.push(countText(run.notices.length, \"notice\", \"notices\"));
+  return facts.join(\" \\u00b7 \") + (run.from ? ` \\u00b7 shown: the last ${run.length.toLocaleString(\"en\")} steps` : \"\");
+}
+
+// What a step did, for a reader.
+function doneText(run, k) {
+  if (k === 0) return run.from ? \"the steps before this are not in this page\" : \"the start\";
+  const said = run.done[k], next = /(?:^| )next (\\d+)$/.exec(said);
+  const where = next && run.code[Number(next[1])] ? \"on to line \" + run.code[Number(next[1])].line : \"\";
+  if (said === \"moved\") return \"to \" + positionAt(run, k).map(millimetres).join(\" \");
+  if (said.startsWith(\"stop \")) return said;
+  if (said.startsWith(\"FA(\")) return said.replace(/^FA\\((\\w+)\\) /, \"$1 touched at \");
+  if (/^output /.test(said)) return run.output.at(k);
+  if (/^F\\(/.test(said)) return \"declares \" + said;
+  if (/^D\\(/.test(said)) return frameText(run.frame.at(k));
+  if (said.includes(\"=\")) return said.split(\" \")[0].replace(\"=\", \" = \") + (where ? \", \" + where : \"\");
+  return where;
+}
+
+"
+}
+
+/// Part 9 of the script.
+pub(crate) fn script_9() -> &'static [u8] {
+    b"// How far an actual point lies from its nominal one along its direction, in micrometres.
+function deviationOf(run, name, step) {
+  const nominal = run.nominal.get(name), actual = run.actual.get(name);
+  const n = nominal && nominal.at(step), a = actual && actual.at(step);
+  if (!n || !a) return null;
+  return [0, 1, 2].reduce((sum, k) => sum + (micrometres(a[k]) - micrometres(n[k])) * Number(n[3 + k]), 0);
+}
+
+// Elements of the page: made with texts as texts, and lists of which only what changes is made anew.
+
+const $ = (id) => document.getElementById(id);
+
+function element(tag, text, className) {
+  const it = document.createElement(tag);
+  if (text !== undefined) it.textContent = text;
+  if (className) it.className = className;
+  return it;
+}
+const cell = (text, className) => element(\"td\", text, className);
+function rowHead(name) {
+  const head = element(\"th\", name);
+  head.scope = \"row\";
+  return head;
+}
+
+// A list whose entries are made once, by their keys, and put in place where another choice of them is shown.
+class Entries {
+  constructor(box, make) {
+    this.box = box;
+    this.make = make;
+    this.made = new Map();
+    this.shown = \"\";
+  }
+  // Shows the entries of these keys in this order; answers them.
+  show(keys) {
+    const entries = keys.map((key) => this.made.get(key) || this.add(key)), shown = keys.join();
+    if (shown !== this.shown) this.box.replaceChildren(...entries);
+    this.shown = shown;
+    return entries;
+  }
+  add(key) {
+    const entry = this.make(key);
+    // entries that went by are forgotten, once there are many
+    if (this.made.size > 1000) this.made.clear();
+    this.made.set(key, entry);
+    return entry;
+  }
+}
+
+// Sets a text or a class where it is another one than stands there.
+function setText(it, text) {
+  if (it.textContent !== text) it.textContent = text;
+}
+function setClass(it, className) {
+  if (it.className !== className) it.className = className;
+}
+
+"
+}
+
+/// Part 10 of the script.
+pub(crate) fn script_10() -> &'static [u8] {
+    b"// The three views, on plain canvases: blocks, the way, touched points, home, the tip and the contact. All three have one centre and one
 // scale, so that they stay in line with each other.
 
 const sheets = {
@@ -300,12 +453,7 @@ const widths = { m: 1.6, a: 1.6, s: 2.6, r: 1.8, x: 1.2 };
 function readColours() {
   const style = getComputedStyle(document.documentElement);
   const get = (name) => style.getPropertyValue(\"--\" + name).trim();
-"
-}
-
-/// Part 7 of the script.
-pub(crate) fn script_7() -> &'static [u8] {
-    b"  const names = [\"paper\", \"ink\", \"muted\", \"grid\", \"block\", \"block-high\", \"block-line\", \"hit\", \"hit-line\", \"m\", \"a\", \"s\", \"r\", \"x\", \"probe\", \"accent\", \"danger\"];
+  const names = [\"paper\", \"ink\", \"muted\", \"grid\", \"block\", \"block-high\", \"block-line\", \"hit\", \"hit-line\", \"m\", \"a\", \"s\", \"r\", \"x\", \"probe\", \"accent\", \"danger\"];
   return Object.fromEntries(names.map((name) => [name, get(name)]));
 }
 
@@ -332,7 +480,12 @@ function boxOf(points) {
 }
 
 function* pointsOfPart(run) {
-  for (const b of run.blocks) for (let n = 0; n < 8; n++) yield [b[n & 1 ? 3 : 0], b[n & 2 ? 4 : 1], b[n & 4 ? 5 : 2]];
+"
+}
+
+/// Part 11 of the script.
+pub(crate) fn script_11() -> &'static [u8] {
+    b"  for (const b of run.blocks) for (let n = 0; n < 8; n++) yield [b[n & 1 ? 3 : 0], b[n & 2 ? 4 : 1], b[n & 4 ? 5 : 2]];
 }
 function* pointsOfWhole(run) {
   yield run.home;
@@ -351,12 +504,7 @@ class Labels {
     this.points.push([text, x, y]);
     g.font = \"600 11px system-ui, sans-serif\";
     const w = g.measureText(text).width;
-"
-}
-
-/// Part 8 of the script.
-pub(crate) fn script_8() -> &'static [u8] {
-    b"    for (const [left, top] of [[x + away, y - 17], [x + away, y + 4], [x - away - w, y - 17], [x - away - w, y + 4]]) {
+    for (const [left, top] of [[x + away, y - 17], [x + away, y + 4], [x - away - w, y - 17], [x - away - w, y + 4]]) {
       const box = [left - 2, top, left + w + 2, top + 14];
       const inside = left >= 2 && left + w <= this.width - 2 && top >= 2 && top + 14 <= this.height - 2;
       const free = this.taken.every((it) => box[0] > it[2] || box[2] < it[0] || box[1] > it[3] || box[3] < it[1]);
@@ -385,7 +533,12 @@ class Sheet {
     this.camera = camera;
     this.fixed = document.createElement(\"canvas\");
     this.fixedFor = \"\";
-    this.sorted = run.blocks.map((b, i) => ({ b, number: i + 1 })).sort((p, q) => this.sheet.order(p.b, q.b) || q.number - p.number);
+"
+}
+
+/// Part 12 of the script.
+pub(crate) fn script_12() -> &'static [u8] {
+    b"    this.sorted = run.blocks.map((b, i) => ({ b, number: i + 1 })).sort((p, q) => this.sheet.order(p.b, q.b) || q.number - p.number);
     const nears = run.blocks.map(this.sheet.near);
     this.least = nears.reduce((a, b) => Math.min(a, b), Infinity);
     this.most = nears.reduce((a, b) => Math.max(a, b), -Infinity);
@@ -405,18 +558,13 @@ class Sheet {
   }
 
   x(p) { return this.width / 2 + (p - this.camera.centre[this.sheet.right]) * this.camera.scale; }
-"
-}
-
-/// Part 9 of the script.
-pub(crate) fn script_9() -> &'static [u8] {
-    b"  y(p) { return this.height / 2 - (p - this.camera.centre[this.sheet.up]) * this.camera.scale; }
+  y(p) { return this.height / 2 - (p - this.camera.centre[this.sheet.up]) * this.camera.scale; }
   place(at) { return [this.x(at[this.sheet.right]), this.y(at[this.sheet.up])]; }
 
   // Lines, blocks and, faintly, the whole way (of a very long run each of so many pieces): what stays from step to step.
-  drawFixed(colours, hit) {
+  drawFixed(colours, met) {
     const c = this.camera;
-    const wanted = [hit, c.centre.join(), c.scale, this.canvas.width, this.canvas.height, colours.paper].join(\";\");
+    const wanted = [met.join(), c.centre.join(), c.scale, this.canvas.width, this.canvas.height, colours.paper].join(\";\");
     if (this.fixedFor === wanted) return;
     this.fixedFor = wanted;
     this.fixed.width = this.canvas.width;
@@ -426,7 +574,7 @@ pub(crate) fn script_9() -> &'static [u8] {
     g.fillStyle = colours.paper;
     g.fillRect(0, 0, this.width, this.height);
     this.drawGrid(g, colours);
-    this.drawBlocks(g, colours, hit);
+    this.drawBlocks(g, colours, met);
     g.globalAlpha = 0.28;
     this.drawPieces(g, colours, 0, this.run.kinds.length, 0.8);
     g.globalAlpha = 1;
@@ -439,7 +587,12 @@ pub(crate) fn script_9() -> &'static [u8] {
     g.strokeStyle = colours.grid;
     g.lineWidth = 1;
     g.beginPath();
-    const half = this.width / 2 / scale, high = this.height / 2 / scale;
+"
+}
+
+/// Part 13 of the script.
+pub(crate) fn script_13() -> &'static [u8] {
+    b"    const half = this.width / 2 / scale, high = this.height / 2 / scale;
     for (let x = Math.ceil((centre[right] - half) / step) * step; x <= centre[right] + half; x += step) { g.moveTo(this.x(x), 0); g.lineTo(this.x(x), this.height); }
     for (let y = Math.ceil((centre[up] - high) / step) * step; y <= centre[up] + high; y += step) { g.moveTo(0, this.y(y)); g.lineTo(this.width, this.y(y)); }
     g.stroke();
@@ -451,12 +604,7 @@ pub(crate) fn script_9() -> &'static [u8] {
   }
 
   drawScale(g, colours) {
-"
-}
-
-/// Part 10 of the script.
-pub(crate) fn script_10() -> &'static [u8] {
-    b"    const step = niceStep(44 / this.camera.scale), long = step * this.camera.scale, text = step < 1000 ? step + \" \\u00b5m\" : step / 1000 + \" mm\";
+    const step = niceStep(44 / this.camera.scale), long = step * this.camera.scale, text = step < 1000 ? step + \" \\u00b5m\" : step / 1000 + \" mm\";
     g.font = \"11px system-ui, sans-serif\";
     for (const [colour, wide] of [[colours.paper, 4], [colours.ink, 1]]) {
       g.strokeStyle = colour;
@@ -470,22 +618,28 @@ pub(crate) fn script_10() -> &'static [u8] {
     g.fillText(text, 14, this.height - 14);
   }
 
-  drawBlocks(g, colours, hit) {
+  drawBlocks(g, colours, met) {
     const { right, up, near } = this.sheet, scale = this.camera.scale;
     const many = this.sorted.length > 500;
     const span = this.most - this.least;
     for (const { b, number } of this.sorted) {
       const x = this.x(b[right]), y = this.y(b[up + 3]), w = (b[right + 3] - b[right]) * scale, h = (b[up + 3] - b[up]) * scale;
       if (x > this.width || y > this.height || x + w < 0 || y + h < 0) continue;
-      g.fillStyle = number === hit ? colours.hit : between(colours.block, colours[\"block-high\"], span ? (near(b) - this.least) / span : 1);
+      const isHit = met.includes(number);
+      g.fillStyle = isHit ? colours.hit : between(colours.block, colours[\"block-high\"], span ? (near(b) - this.least) / span : 1);
       g.fillRect(x, y, w, h);
-      g.strokeStyle = number === hit ? colours[\"hit-line\"] : colours[\"block-line\"];
-      g.lineWidth = number === hit ? 2 : many ? 0.5 : 1;
+"
+}
+
+/// Part 14 of the script.
+pub(crate) fn script_14() -> &'static [u8] {
+    b"      g.strokeStyle = isHit ? colours[\"hit-line\"] : colours[\"block-line\"];
+      g.lineWidth = isHit ? 2 : many ? 0.5 : 1;
       g.strokeRect(x, y, w, h);
       const text = String(number);
       if (w > 8 + 7 * text.length && h > 16) {
         g.font = \"11px system-ui, sans-serif\";
-        g.fillStyle = number === hit ? colours[\"hit-line\"] : colours.muted;
+        g.fillStyle = isHit ? colours[\"hit-line\"] : colours.muted;
         g.fillText(text, x + 4, y + 12);
       }
     }
@@ -497,12 +651,7 @@ pub(crate) fn script_10() -> &'static [u8] {
     const thin = this.run.kinds.length > 2000 ? 0.6 : 1;
     for (const kind of \"maxrs\") {
       g.strokeStyle = colours[kind];
-"
-}
-
-/// Part 11 of the script.
-pub(crate) fn script_11() -> &'static [u8] {
-    b"      g.lineWidth = widths[kind] * wide * thin;
+      g.lineWidth = widths[kind] * wide * thin;
       g.setLineDash(to - from > 20000 ? [] : dashes[kind]);
       // a stroke of very many pieces that lie over each other is slow: so few in one go, and none that would not be seen
       let held = 0, lastX = NaN, lastY = NaN;
@@ -525,13 +674,18 @@ pub(crate) fn script_11() -> &'static [u8] {
 
   draw(colours, k, probe) {
     const run = this.run;
-    this.drawFixed(colours, run.contact && run.contact.step === k ? run.contact.block : 0);
+    this.drawFixed(colours, metIn(run, k));
     const g = this.canvas.getContext(\"2d\");
     g.setTransform(1, 0, 0, 1, 0, 0);
     g.drawImage(this.fixed, 0, 0);
     g.setTransform(this.ratio, 0, 0, this.ratio, 0, 0);
     g.lineCap = \"round\";
-    const now = run.pieceFrom[k], end = k ? run.pieceFrom[k + 1] : 0;
+"
+}
+
+/// Part 15 of the script.
+pub(crate) fn script_15() -> &'static [u8] {
+    b"    const now = run.pieceFrom[k], end = k ? run.pieceFrom[k + 1] : 0;
     // of a long run the last part alone is drawn strongly
     this.drawPieces(g, colours, Math.max(0, now - 2500), now, 1);
     for (let i = now; i < end; i++) this.drawCurrent(g, colours, i);
@@ -540,12 +694,7 @@ pub(crate) fn script_11() -> &'static [u8] {
     for (let i = Math.max(0, touched - 2500); i < touched; i++) this.dot(g, colours, run.touches[i].at, colours.s, many ? 2 : 3.5);
     this.labels = new Labels(g, colours, this.width, this.height);
     this.labels.keep(...this.place(probe), 7);
-"
-}
-
-/// Part 12 of the script.
-pub(crate) fn script_12() -> &'static [u8] {
-    b"    if (run.contact && run.contact.step === k) this.labels.put(blockText(run, run.contact.block), ...this.place(run.contact.at), colours.danger, true, Math.max(10, run.tip * this.camera.scale + 5));
+    if (run.contact && run.contact.step === k) this.labels.put(blockText(run, run.contact.block), ...this.place(run.contact.at), colours.danger, true, Math.max(10, run.tip * this.camera.scale + 5));
     this.mark(g, colours, run.home, \"home\", colours.muted);
     this.drawBoxes(g, colours, k, probe);
     this.drawProbe(g, colours, probe);
@@ -568,7 +717,12 @@ pub(crate) fn script_12() -> &'static [u8] {
     if (long < 26 || kind === \"x\") return;
     const u = (p - x) / long, v = (q - y) / long, m = x + (p - x) * 0.6, n = y + (q - y) * 0.6;
     g.fillStyle = colours[kind];
-    g.beginPath(); g.moveTo(m + 8 * u, n + 8 * v); g.lineTo(m - 5 * u - 5 * v, n - 5 * v + 5 * u); g.lineTo(m - 5 * u + 5 * v, n - 5 * v - 5 * u); g.fill();
+"
+}
+
+/// Part 16 of the script.
+pub(crate) fn script_16() -> &'static [u8] {
+    b"    g.beginPath(); g.moveTo(m + 8 * u, n + 8 * v); g.lineTo(m - 5 * u - 5 * v, n - 5 * v + 5 * u); g.lineTo(m - 5 * u + 5 * v, n - 5 * v - 5 * u); g.fill();
   }
 
   dot(g, colours, at, colour, size) {
@@ -588,12 +742,7 @@ pub(crate) fn script_12() -> &'static [u8] {
   }
 
   names(touched, colour) {
-"
-}
-
-/// Part 13 of the script.
-pub(crate) fn script_13() -> &'static [u8] {
-    b"    for (let i = touched - 1; i >= 0; i--) this.labels.put(this.run.touches[i].name, ...this.place(this.run.touches[i].at), colour);
+    for (let i = touched - 1; i >= 0; i--) this.labels.put(this.run.touches[i].name, ...this.place(this.run.touches[i].at), colour);
   }
 
   drawProbe(g, colours, at) {
@@ -626,7 +775,12 @@ pub(crate) fn script_13() -> &'static [u8] {
     const x = this.x(at[right] + box.low[right]), y = this.y(at[up] + box.high[up]);
     g.strokeStyle = colour;
     g.lineWidth = width;
-    g.strokeRect(x, y, this.x(at[right] + box.high[right]) - x, this.y(at[up] + box.low[up]) - y);
+"
+}
+
+/// Part 17 of the script.
+pub(crate) fn script_17() -> &'static [u8] {
+    b"    g.strokeRect(x, y, this.x(at[right] + box.high[right]) - x, this.y(at[up] + box.low[up]) - y);
   }
 
   drawContact(g, colours, contact) {
@@ -643,12 +797,7 @@ pub(crate) fn script_13() -> &'static [u8] {
     const { right, up } = this.sheet, ends = this.run.ends;
     let best = 8, found = -1;
     for (let i = 0; i < this.run.kinds.length; i++) {
-"
-}
-
-/// Part 14 of the script.
-pub(crate) fn script_14() -> &'static [u8] {
-    b"      const away = distance(x, y, this.x(ends[6 * i + right]), this.y(ends[6 * i + up]), this.x(ends[6 * i + 3 + right]), this.y(ends[6 * i + 3 + up]));
+      const away = distance(x, y, this.x(ends[6 * i + right]), this.y(ends[6 * i + up]), this.x(ends[6 * i + 3 + right]), this.y(ends[6 * i + 3 + up]));
       if (away < best) { best = away; found = i; }
     }
     if (found >= 0) return { piece: found };
@@ -670,24 +819,24 @@ function distance(x, y, a, b, c, d) {
 // The view in space, by WebGL: blocks with their depths, the way in front of and, faintly, behind them.
 
 const blockShader = [
-  `attribute vec3 at; attribute vec3 face; attribute float hit; uniform mat4 look; uniform vec3 tone, high, struck; varying vec3 shown;
+  `attribute vec3 at; attribute vec3 face; uniform mat4 look; uniform vec3 tone, high; varying vec3 shown;
    void main() { gl_Position = look * vec4(at, 1.0); float light = face.z > 0.5 ? 1.0 : face.z < -0.5 ? 0.35 : abs(face.x) > 0.5 ? 0.62 : 0.8;
-     shown = (hit > 0.5 ? struck : mix(tone, high, light)) * (0.72 + 0.28 * light); }`,
+     shown = mix(tone, high, light) * (0.72 + 0.28 * light); }`,
   `precision mediump float; varying vec3 shown; void main() { gl_FragColor = vec4(shown, 1.0); }`,
 ];
-const lineShader = [
+"
+}
+
+/// Part 18 of the script.
+pub(crate) fn script_18() -> &'static [u8] {
+    b"const lineShader = [
   `attribute vec3 at; uniform mat4 look; uniform float lift; void main() { gl_Position = look * vec4(at, 1.0); gl_Position.z -= lift; }`,
   `precision mediump float; uniform vec4 colour; void main() { gl_FragColor = colour; }`,
 ];
 // A piece is two triangles that are as wide on the screen as they should; those behind this step are faint, those of it are wider.
 const wayShader = [
   `attribute vec3 from, to; attribute vec2 corner; attribute vec2 piece; uniform mat4 look; uniform vec2 size; uniform float now; uniform vec4 colours[5]; uniform float faint, wide;
-"
-}
-
-/// Part 15 of the script.
-pub(crate) fn script_15() -> &'static [u8] {
-    b"   varying vec4 shown; varying float along; varying float kind;
+   varying vec4 shown; varying float along; varying float kind;
    void main() { vec4 a = look * vec4(from, 1.0), b = look * vec4(to, 1.0); vec2 way = (b.xy - a.xy) * size; float len = max(length(way), 0.001);
      vec2 across = vec2(-way.y, way.x) / len; float w = (piece.x == now ? 2.2 : 1.0) * wide * (piece.y > 2.5 && piece.y < 3.5 ? 1.5 : 1.0);
      vec4 p = mix(a, b, corner.x); p.xy += across * corner.y * w / size; p.z -= 0.0006; gl_Position = p;
@@ -710,7 +859,12 @@ class Solid {
     this.frames = 0;
     this.isSlow = false;
     this.gl = canvas.getContext(\"webgl\", { antialias: run.blocks.length < 1000 && run.kinds.length < 5000, alpha: false, preserveDrawingBuffer: true });
-    if (!this.gl) return;
+"
+}
+
+/// Part 19 of the script.
+pub(crate) fn script_19() -> &'static [u8] {
+    b"    if (!this.gl) return;
     this.blockProgram = this.program(blockShader);
     this.lineProgram = this.program(lineShader);
     this.wayProgram = this.program(wayShader);
@@ -724,12 +878,7 @@ class Solid {
     this.makeFloor();
   }
 
-"
-}
-
-/// Part 16 of the script.
-pub(crate) fn script_16() -> &'static [u8] {
-    b"  program([vertex, fragment]) {
+  program([vertex, fragment]) {
     const gl = this.gl, program = gl.createProgram();
     for (const [kind, text] of [[gl.VERTEX_SHADER, vertex], [gl.FRAGMENT_SHADER, fragment]]) {
       const shader = gl.createShader(kind);
@@ -752,17 +901,22 @@ pub(crate) fn script_16() -> &'static [u8] {
   local(p) { return [(p[0] - this.middle[0]) / 1000, (p[1] - this.middle[1]) / 1000, (p[2] - this.middle[2]) / 1000]; }
 
   makeBlocks() {
-    const n = this.run.blocks.length, faces = new Float32Array(n * 36 * 7), lines = new Float32Array(n * 24 * 3), hit = this.run.contact && this.run.contact.block;
+    const n = this.run.blocks.length, faces = new Float32Array(n * 36 * 6), lines = new Float32Array(n * 24 * 3);
     const sides = [[0, 2, 6, 4, -1, 0, 0], [1, 3, 7, 5, 1, 0, 0], [0, 1, 5, 4, 0, -1, 0], [2, 3, 7, 6, 0, 1, 0], [0, 1, 3, 2, 0, 0, -1], [4, 5, 7, 6, 0, 0, 1]];
     const edges = [0, 1, 0, 2, 0, 4, 1, 3, 1, 5, 2, 3, 2, 6, 3, 7, 4, 5, 4, 6, 5, 7, 6, 7];
     let f = 0, e = 0;
-    this.run.blocks.forEach((b, i) => {
-      const low = this.local(b), high = this.local(b.slice(3)), struck = i + 1 === hit ? 1 : 0;
-      const corner = (list, at, c) => { list[at] = c & 1 ? high[0] : low[0]; list[at + 1] = c & 2 ? high[1] : low[1]; list[at + 2] = c & 4 ? high[2] : low[2]; };
+    this.run.blocks.forEach((b) => {
+      const low = this.local(b), high = this.local(b.slice(3));
+"
+}
+
+/// Part 20 of the script.
+pub(crate) fn script_20() -> &'static [u8] {
+    b"      const corner = (list, at, c) => { list[at] = c & 1 ? high[0] : low[0]; list[at + 1] = c & 2 ? high[1] : low[1]; list[at + 2] = c & 4 ? high[2] : low[2]; };
       for (const [p, q, r, t, x, y, z] of sides) for (const c of [p, q, r, p, r, t]) {
         corner(faces, f, c);
-        faces[f + 3] = x; faces[f + 4] = y; faces[f + 5] = z; faces[f + 6] = struck;
-        f += 7;
+        faces[f + 3] = x; faces[f + 4] = y; faces[f + 5] = z;
+        f += 6;
       }
       for (const c of edges) { corner(lines, e, c); e += 3; }
     });
@@ -771,12 +925,7 @@ pub(crate) fn script_16() -> &'static [u8] {
   }
 
   makeWay() {
-"
-}
-
-/// Part 17 of the script.
-pub(crate) fn script_17() -> &'static [u8] {
-    b"    const run = this.run, n = run.kinds.length, numbers = new Float32Array(n * 6 * 10);
+    const run = this.run, n = run.kinds.length, numbers = new Float32Array(n * 6 * 10);
     let o = 0;
     for (let i = 0; i < n; i++) {
       const a = this.local(run.ends.subarray(6 * i, 6 * i + 3)), b = this.local(run.ends.subarray(6 * i + 3, 6 * i + 6));
@@ -799,7 +948,12 @@ pub(crate) fn script_17() -> &'static [u8] {
 
   // Where a point stands on the screen: right, up and depth, as pixels from the middle.
   seen(p) {
-    const c = this.centre(), sa = Math.sin(this.azimuth), ca = Math.cos(this.azimuth), se = Math.sin(this.elevation), ce = Math.cos(this.elevation);
+"
+}
+
+/// Part 21 of the script.
+pub(crate) fn script_21() -> &'static [u8] {
+    b"    const c = this.centre(), sa = Math.sin(this.azimuth), ca = Math.cos(this.azimuth), se = Math.sin(this.elevation), ce = Math.cos(this.elevation);
     const x = p[0] - c[0], y = p[1] - c[1], z = p[2] - c[2], s = this.scale();
     const right = ca * x + sa * y, away = -sa * x + ca * y;
     return [right * s, (away * se + z * ce) * s, (away * ce - z * se) * s];
@@ -809,12 +963,7 @@ pub(crate) fn script_17() -> &'static [u8] {
 
   centre() { return this.camera.centre.map((x, k) => x + this.offset[k]); }
 
-"
-}
-
-/// Part 18 of the script.
-pub(crate) fn script_18() -> &'static [u8] {
-    b"  // The greatest scale with which points are in view, in the middle of which the view is put.
+  // The greatest scale with which points are in view, in the middle of which the view is put.
   fit(points, width, height) {
     const sa = Math.sin(this.azimuth), ca = Math.cos(this.azimuth), se = Math.sin(this.elevation), ce = Math.cos(this.elevation), c = this.camera.centre;
     let left = Infinity, right = -Infinity, low = Infinity, high = -Infinity;
@@ -835,7 +984,12 @@ pub(crate) fn script_18() -> &'static [u8] {
     const m = new Float32Array(16);
     rows.forEach((row, r) => {
       for (let k = 0; k < 3; k++) m[4 * k + r] = row[k];
-      m[12 + r] = -(row[0] * c[0] + row[1] * c[1] + row[2] * c[2]);
+"
+}
+
+/// Part 22 of the script.
+pub(crate) fn script_22() -> &'static [u8] {
+    b"      m[12 + r] = -(row[0] * c[0] + row[1] * c[1] + row[2] * c[2]);
     });
     m[15] = 1;
     return m;
@@ -852,12 +1006,7 @@ pub(crate) fn script_18() -> &'static [u8] {
       if (canvas.width !== w || canvas.height !== h) { canvas.width = w; canvas.height = h; }
     }
     const { low, high } = this.box, c = this.centre();
-"
-}
-
-/// Part 19 of the script.
-pub(crate) fn script_19() -> &'static [u8] {
-    b"    this.depth = (Math.hypot(...low.map((x, i) => Math.max(high[i] - c[i], c[i] - x, 1))) * 1.5) / 1000 + 1;
+    this.depth = (Math.hypot(...low.map((x, i) => Math.max(high[i] - c[i], c[i] - x, 1))) * 1.5) / 1000 + 1;
     const gl = this.gl, look = this.matrix(), rgb = (name) => [0, 1, 2].map((i) => parseInt(colours[name].slice(1 + 2 * i, 3 + 2 * i), 16) / 255);
     gl.viewport(0, 0, this.canvas.width, this.canvas.height);
     gl.clearColor(...rgb(\"paper\"), 1);
@@ -881,19 +1030,23 @@ pub(crate) fn script_19() -> &'static [u8] {
     };
     lines(this.ground, \"grid\", 1, 0);
     begin(this.blockProgram);
-    gl.bindBuffer(gl.ARRAY_BUFFER, this.faces.buffer);
-    attribute(this.blockProgram, \"at\", 3, 7, 0);
-    attribute(this.blockProgram, \"face\", 3, 7, 3);
-    attribute(this.blockProgram, \"hit\", 1, 7, 6);
-    for (const [name, colour] of [[\"tone\", \"block\"], [\"high\", \"block-high\"], [\"struck\", this.run.contact && this.run.contact.step === k ? \"hit\" : \"block-high\"]]) gl.uniform3f(gl.getUniformLocation(this.blockProgram, name), ...rgb(colour));
-    gl.drawArrays(gl.TRIANGLES, 0, this.faces.count);
-    if (!this.isSlow || this.run.blocks.length <= 500) lines(this.edges, \"block-line\", this.run.blocks.length > 500 ? 0.45 : 1, 0.0004);
 "
 }
 
-/// Part 20 of the script.
-pub(crate) fn script_20() -> &'static [u8] {
-    b"    const way = this.wayProgram;
+/// Part 23 of the script.
+pub(crate) fn script_23() -> &'static [u8] {
+    b"    gl.bindBuffer(gl.ARRAY_BUFFER, this.faces.buffer);
+    attribute(this.blockProgram, \"at\", 3, 6, 0);
+    attribute(this.blockProgram, \"face\", 3, 6, 3);
+    const tones = (low, high) => { for (const [name, colour] of [[\"tone\", low], [\"high\", high]]) gl.uniform3f(gl.getUniformLocation(this.blockProgram, name), ...rgb(colour)); };
+    tones(\"block\", \"block-high\");
+    gl.drawArrays(gl.TRIANGLES, 0, this.faces.count);
+    // a block that is met in this step is drawn once more, over itself
+    gl.depthFunc(gl.LEQUAL);
+    tones(\"hit\", \"hit\");
+    for (const number of metIn(this.run, k)) gl.drawArrays(gl.TRIANGLES, 36 * (number - 1), 36);
+    if (!this.isSlow || this.run.blocks.length <= 500) lines(this.edges, \"block-line\", this.run.blocks.length > 500 ? 0.45 : 1, 0.0004);
+    const way = this.wayProgram;
     begin(way);
     gl.bindBuffer(gl.ARRAY_BUFFER, this.way.buffer);
     attribute(way, \"from\", 3, 10, 0);
@@ -916,7 +1069,12 @@ pub(crate) fn script_20() -> &'static [u8] {
     }
     gl.depthMask(true);
     this.drawOver(colours, k, probe, ratio);
-    // how long a frame takes, waited for at the first ones: without a graphics processor it may be long
+"
+}
+
+/// Part 24 of the script.
+pub(crate) fn script_24() -> &'static [u8] {
+    b"    // how long a frame takes, waited for at the first ones: without a graphics processor it may be long
     if (this.frames < 3) {
       gl.readPixels(0, 0, 1, 1, gl.RGBA, gl.UNSIGNED_BYTE, new Uint8Array(4));
       if (this.frames > 0) this.isSlow = performance.now() - began > 60;
@@ -931,12 +1089,7 @@ pub(crate) fn script_20() -> &'static [u8] {
     g.clearRect(0, 0, this.width, this.height);
     const touched = run.touchSteps.count(k), many = run.touches.length > 300, labels = new Labels(g, colours, this.width, this.height);
     if (!many) for (let i = 0; i < touched; i++) {
-"
-}
-
-/// Part 21 of the script.
-pub(crate) fn script_21() -> &'static [u8] {
-    b"      const [x, y] = this.place(run.touches[i].at);
+      const [x, y] = this.place(run.touches[i].at);
       g.fillStyle = colours.s; g.strokeStyle = colours.paper; g.lineWidth = 1;
       g.beginPath(); g.arc(x, y, 3.5, 0, 7); g.fill(); g.stroke();
     }
@@ -954,7 +1107,12 @@ pub(crate) fn script_21() -> &'static [u8] {
       const [cx, cy] = this.place(run.contact.at);
       for (const [colour, width] of [[colours.paper, 6], [colours.danger, 2.6]]) {
         g.strokeStyle = colour; g.lineWidth = width;
-        g.beginPath(); g.moveTo(cx - 7, cy - 7); g.lineTo(cx + 7, cy + 7); g.moveTo(cx + 7, cy - 7); g.lineTo(cx - 7, cy + 7); g.stroke();
+"
+}
+
+/// Part 25 of the script.
+pub(crate) fn script_25() -> &'static [u8] {
+    b"        g.beginPath(); g.moveTo(cx - 7, cy - 7); g.lineTo(cx + 7, cy + 7); g.moveTo(cx + 7, cy - 7); g.lineTo(cx - 7, cy + 7); g.stroke();
       }
     }
     for (const box of run.boxes) this.wire(g, box.low.map((low, i) => probe[i] + low), box.high.map((high, i) => probe[i] + high), 1);
@@ -965,12 +1123,7 @@ pub(crate) fn script_21() -> &'static [u8] {
     labels.keep(x, y, 7);
     if (run.contact && run.contact.step === k) labels.put(blockText(run, run.contact.block), ...this.place(run.contact.at), colours.danger, true, Math.max(10, 1.4 * run.tip * this.scale() + 5));
     labels.put(\"home\", hx, hy, colours.muted);
-"
-}
-
-/// Part 22 of the script.
-pub(crate) fn script_22() -> &'static [u8] {
-    b"    if (run.touches.length <= 200) for (let i = touched - 1; i >= 0; i--) labels.put(run.touches[i].name, ...this.place(run.touches[i].at), colours.ink);
+    if (run.touches.length <= 200) for (let i = touched - 1; i >= 0; i--) labels.put(run.touches[i].name, ...this.place(run.touches[i].at), colours.ink);
     const ox = 26, oy = this.height - 30;
     g.font = \"600 10px system-ui, sans-serif\";
     [\"X\", \"Y\", \"Z\"].forEach((name, i) => {
@@ -993,7 +1146,12 @@ pub(crate) fn script_22() -> &'static [u8] {
 
   turn(x, y) {
     this.azimuth -= x;
-    this.elevation = Math.max(0.02, Math.min(Math.PI / 2, this.elevation + y));
+"
+}
+
+/// Part 26 of the script.
+pub(crate) fn script_26() -> &'static [u8] {
+    b"    this.elevation = Math.max(0.02, Math.min(Math.PI / 2, this.elevation + y));
   }
 
   find(x, y) {
@@ -1008,475 +1166,736 @@ pub(crate) fn script_22() -> &'static [u8] {
   }
 }
 
-// The page: what is shown behind a step, and how one gets from step to step. Texts of the run go into the page as text alone.
+// The time line: how high the probe is behind each step, with what happens. What stays is drawn once; a step draws how far it has come, and its mark.
 
-(() => {
-  const $ = (id) => document.getElementById(id);
-  let run;
-  try {
-    run = readRun($(\"run\").textContent);
-    if ($(\"block-names\")) readNames(run, $(\"block-names\").textContent);
-"
-}
-
-/// Part 23 of the script.
-pub(crate) fn script_23() -> &'static [u8] {
-    b"    if ($(\"probe-boxes\")) readBoxes(run, $(\"probe-boxes\").textContent);
-  } catch (fault) {
-    $(\"fault\").hidden = false;
-    $(\"fault\").textContent = \"The run in this page cannot be read: \" + fault.message + \".\";
-    return;
+class Profile {
+  constructor(run, canvas) {
+    this.run = run;
+    this.canvas = canvas;
+    this.drawnFor = \"\";
+    this.layers = [\"all\", \"past\"].map(() => document.createElement(\"canvas\"));
   }
-
-  const element = (tag, text, className) => {
-    const it = document.createElement(tag);
-    if (text !== undefined) it.textContent = text;
-    if (className) it.className = className;
-    return it;
-  };
-  const calm = matchMedia(\"(prefers-reduced-motion: reduce)\");
-  let now = 0, playing = false, colours = readColours(), fitting = \"all\", probe = run.home, lettersWork = true;
-
-  // ---- the head
-
-  const stopWords = { TRAVEL: \"Outside the limits\", MISSED: \"Touched nothing\" };
-  function verdict() {
-    const line = run.stop ? run.stop.text.slice(5) : run.open ? run.open.text : \"\";
-    const word = line.split(\" \")[0];
-    const place = /at (\\d+) line (\\d+)$/.exec(line);
-    const hit = /block (\\d+) permille (\\d+)/.exec(line);
-    let text, kind = \"bad\";
-    if (word === \"ENDED\") [kind, text] = [\"ok\", \"Came to its end, no collision\"];
-    else if (!run.stop) [kind, text] = [\"warn\", \"Not at its end: \" + line];
-    else if (hit) text = `Collision with ${blockText(run, Number(hit[1]))} on line ${place[2]}, after ${hit[2]} thousandths of the ${line.split(\" \")[1].toLowerCase()}`;
-    else text = (stopWords[word] || \"Stopped: \" + word) + (word === \"TRAVEL\" ? \" (\" + line.split(\" \")[1].toLowerCase() + \")\" : \"\") + (place ? \" on line \" + place[2] : \"\");
-    return { kind, text, line };
+  x(k) {
+    const pad = 8;
+    return pad + (this.run.length ? ((this.width - 2 * pad) * k) / this.run.length : 0);
   }
-  // What the boxes of the probe meet is told behind how the run ended, which hangs on the tip alone.
-  function withBoxes(told) {
-    const first = run.firstMet, more = run.boxes.filter((it) => it.contacts.length).length - 1;
-    if (!first) return told;
-    const text = `${told.text.replace(\", no collision\", \"\")}; ${first.name} meets ${blockText(run, first.block)} on line ${first.line}`;
-    return { ...told, kind: \"bad\", text: text + (more > 0 ? `, and ${more} more of the boxes meet blocks` : \"\") };
+  drawFixed(colours, ratio) {
+    const wanted = [this.width, this.height, ratio, colours.paper].join();
+    if (this.drawnFor === wanted) return;
+    this.drawnFor = wanted;
+    this.layers.forEach((layer, i) => {
+      layer.width = this.canvas.width = Math.round(this.width * ratio);
+      layer.height = this.canvas.height = Math.round(this.height * ratio);
+      const g = layer.getContext(\"2d\");
+      g.scale(ratio, ratio);
+      g.globalAlpha = i ? 0.75 : 0.28;
+      this.drawHeights(g, i ? colours.m : colours.muted);
+    });
+    const marks = (this.marks = document.createElement(\"canvas\"));
+    [marks.width, marks.height] = [this.canvas.width, this.canvas.height];
+    const g = marks.getContext(\"2d\");
+    g.scale(ratio, ratio);
+    this.drawMarks(g, colours);
   }
-"
-}
-
-/// Part 24 of the script.
-pub(crate) fn script_24() -> &'static [u8] {
-    b"  const told = withBoxes(verdict());
-  $(\"title\").textContent = run.title;
-  document.title = run.title + \" \\u2013 \" + told.text;
-  $(\"verdict\").className = \"verdict \" + told.kind;
-  $(\"verdict\").append(element(\"span\", { ok: \"\\u2713\", bad: \"\\u2715\", warn: \"\\u2026\" }[told.kind], \"sign\"), \" \" + told.text);
-  $(\"verdict\").title = run.stop ? run.stop.text : told.line;
-  const counted = (n, one, more) => n.toLocaleString(\"en\") + \" \" + (n === 1 ? one : more);
-  const facts = [counted(run.length + run.from, \"step\", \"steps\"), counted(run.blocks.length, \"block\", \"blocks\"), run.tip ? `tip ${millimetres(2 * run.tip)} mm` : \"tip a point\"];
-  if (run.touches.length) facts.push(counted(run.touches.length, \"measured point\", \"measured points\"));
-  if (run.boxes.length) facts.push(counted(run.boxes.length, \"box of the probe\", \"boxes of the probe\"));
-  if (run.notices.length) facts.push(counted(run.notices.length, \"notice\", \"notices\"));
-  $(\"facts\").textContent = facts.join(\" \\u00b7 \") + (run.from ? ` \\u00b7 shown: the last ${run.length.toLocaleString(\"en\")} steps` : \"\");
-
-  // ---- the program
-
-  const stated = new Set(run.code.map((it, i) => rowOf(run, i))), noticed = new Map(run.notices.map((it) => [it.line, it.word]));
-  const stopLine = run.stop && !run.stop.text.startsWith(\"stop ENDED\") ? rowAt(run, run.stop.step) : 0;
-  const touchLines = new Set(run.touches.map((it) => rowAt(run, it.step)));
-  function coloured(text) {
-    const row = element(\"code\");
-    const comment = /^\\s*\\$\\$/.test(text);
-    if (comment) { row.append(element(\"i\", text)); return row; }
-    for (const piece of text.split(/('[^']*')/)) {
-      if (piece[0] === \"'\") row.append(element(\"q\", piece));
-      else row.append(piece);
+  drawHeights(g, colour) {
+    const { run, width: w, height: h } = this, n = run.length, inner = w - 16;
+    let low = Infinity, high = -Infinity;
+    for (let k = 0; k <= n; k++) {
+      const z = run.position[3 * k + 2];
+      if (z < low) low = z;
+      if (z > high) high = z;
     }
+"
+}
+
+/// Part 27 of the script.
+pub(crate) fn script_27() -> &'static [u8] {
+    b"    const y = (z) => h - 7 - (high > low ? ((z - low) / (high - low)) * (h - 16) : (h - 16) / 2), step = Math.max(1, n / (2 * inner));
+    g.beginPath();
+    g.moveTo(this.x(0), h - 4);
+    for (let k = 0; k < n; k += step) {
+      const a = Math.round(k), b = Math.min(n, Math.round(k + step));
+      let least = Infinity, most = -Infinity;
+      for (let i = a; i < Math.max(b, a + 1); i++) {
+        const z = run.position[3 * i + 2];
+        if (z < least) least = z;
+        if (z > most) most = z;
+      }
+      g.lineTo(this.x(a), y(most));
+      if (step > 1) g.lineTo(this.x(a), y(least));
+    }
+    g.lineTo(this.x(n), y(run.position[3 * n + 2]));
+    g.lineTo(this.x(n), h - 4);
+    g.closePath();
+    g.fillStyle = colour;
+    g.fill();
+  }
+  drawMarks(g, colours) {
+    const { run, height: h } = this, many = run.touches.length > 400, stopLine = stopLineOf(run);
+    g.fillStyle = colours.s;
+    for (const touch of run.touches) {
+      if (many) g.fillRect(this.x(touch.step) - 0.5, 1, 1, 3);
+      else {
+        g.beginPath();
+        g.arc(this.x(touch.step), 4, 2.5, 0, 7);
+        g.fill();
+      }
+    }
+    g.fillStyle = colours.ink;
+    for (const k of run.output.steps) g.fillRect(this.x(k) - 0.5, h - 4, 1, 4);
+    g.strokeStyle = g.fillStyle = colours.danger;
+    for (const box of run.boxes) for (const contact of box.contacts) if (contact.step > 0) g.fillRect(this.x(contact.step) - 2, 0, 4, 5);
+    if (stopLine) {
+      const x = this.x(run.stop.step);
+      g.lineWidth = 2.4;
+      g.beginPath(); g.moveTo(x - 4, 3); g.lineTo(x + 4, 11); g.moveTo(x + 4, 3); g.lineTo(x - 4, 11); g.stroke();
+    }
+  }
+  draw(colours, k, ratio) {
+    this.width = this.canvas.clientWidth;
+    this.height = this.canvas.clientHeight;
+    if (!this.width || !this.height) return;
+    this.drawFixed(colours, ratio);
+    const g = this.canvas.getContext(\"2d\"), { width: w, height: h } = this.canvas, to = Math.round(this.x(k) * ratio);
+    g.setTransform(1, 0, 0, 1, 0, 0);
+    g.clearRect(0, 0, w, h);
+"
+}
+
+/// Part 28 of the script.
+pub(crate) fn script_28() -> &'static [u8] {
+    b"    g.drawImage(this.layers[0], 0, 0);
+    if (to > 0) g.drawImage(this.layers[1], 0, 0, to, h, 0, 0, to, h);
+    g.drawImage(this.marks, 0, 0);
+    g.setTransform(ratio, 0, 0, ratio, 0, 0);
+    g.fillStyle = colours.ink;
+    g.fillRect(this.x(k) - 0.75, 0, 1.5, this.height);
+  }
+}
+
+// The text of the program: a hundred lines in one piece, plain where they are out of view, and with their signs and counts where they are in view.
+
+const LINES_OF_PIECE = 100;
+
+class Listing {
+  constructor(run, box) {
+    this.run = run;
+    this.box = box;
+    this.stopLine = stopLineOf(run);
+    this.stated = new Set(run.code.map((_, i) => rowOf(run, i)));
+    this.noticed = new Map(run.notices.map((it) => [it.line, it.word]));
+    this.touching = new Set(run.touches.map((it) => rowAt(run, it.step)));
+    // lines in which a box of the probe meets a block, each with what it meets
+    this.meeting = new Map(run.boxes.flatMap((own) => own.contacts.filter((it) => it.step > 0).map((it) => [rowAt(run, it.step), metText(run, own, it)])).reverse());
+    this.rows = new Map();
+    this.marked = [];
+    this.pieces = [];
+    const longest = run.lines.reduce((most, it) => Math.max(most, it.length), 0), all = document.createDocumentFragment();
+    for (let from = 0; from < run.lines.length; from += LINES_OF_PIECE) {
+      const piece = element(\"div\", undefined, \"piece\"), lines = Math.min(LINES_OF_PIECE, run.lines.length - from);
+      piece.style.setProperty(\"--lines\", lines);
+      piece.style.setProperty(\"--longest\", Math.min(longest, 2000) + 30);
+      piece.dataset.from = from;
+      this.pieces.push(piece);
+      all.append(piece);
+      this.plain(piece);
+    }
+    box.append(all);
+    this.inView = new Set();
+    this.watch = new IntersectionObserver((seen) => { for (const it of seen) this.seen(it.target, it.isIntersecting); }, { root: box, rootMargin: \"400px\" });
+    for (const it of this.pieces) this.watch.observe(it);
+  }
+  seen(piece, isInView) {
+    if (isInView) {
+      this.inView.add(piece);
+      this.full(piece);
+"
+}
+
+/// Part 29 of the script.
+pub(crate) fn script_29() -> &'static [u8] {
+    b"    } else {
+      this.inView.delete(piece);
+      this.plain(piece);
+    }
+  }
+  linesOf(piece) {
+    const from = Number(piece.dataset.from);
+    return [from, Math.min(from + LINES_OF_PIECE, this.run.lines.length)];
+  }
+  // A piece as a text alone; the one with a line that is marked stays.
+  plain(piece) {
+    const [from, to] = this.linesOf(piece);
+    if (piece.dataset.is === \"plain\" || this.marked.some((it) => it.parentElement === piece)) return;
+    for (let i = from; i < to; i++) this.rows.delete(i + 1);
+    piece.dataset.is = \"plain\";
+    piece.replaceChildren(element(\"pre\", this.run.lines.slice(from, to).join(\"\\n\"), \"plain\"));
+  }
+  full(piece) {
+    if (piece.dataset.is === \"full\") return;
+    const [from, to] = this.linesOf(piece), rows = [];
+    for (let i = from; i < to; i++) {
+      const row = this.row(i + 1);
+      this.rows.set(i + 1, row);
+      rows.push(row);
+    }
+    piece.dataset.is = \"full\";
+    piece.replaceChildren(...rows);
+  }
+  row(n) {
+    const { run } = this, row = element(\"div\", undefined, \"line\"), times = run.counts.get(n), isStop = n === this.stopLine || this.meeting.has(n);
+    row.dataset.line = n;
+    const [text, kind, title] = isStop ? [\"\\u2715\", \" stop\", n === this.stopLine ? run.stop.text : this.meeting.get(n)] : this.touching.has(n) ? [\"\\u25cf\", \" touch\", \"measures\"] : this.noticed.has(n) ? [\"!\", \" notice\", this.noticed.get(n) + \" has no effect\"] : [\"\", \"\", \"\"];
+    const sign = element(\"span\", text, \"sign\" + kind);
+    if (title) sign.title = title;
+    if (times) row.classList.add(\"ran\");
+    else if (this.stated.has(n)) {
+      row.classList.add(\"idle\");
+      row.title = \"not carried out in this run\";
+    }
+    row.append(element(\"span\", String(n), \"number\"), sign, this.coloured(run.lines[n - 1]));
+    if (times && times.length > 1) {
+      const count = element(\"span\", \"\\u00d7\" + times.length.toLocaleString(\"en\"), \"times\");
+      count.title = \"carried out \" + times.length + \" times\";
+      row.append(count);
+    }
+    row.append(element(\"span\", \"\", \"done\"));
+"
+}
+
+/// Part 30 of the script.
+pub(crate) fn script_30() -> &'static [u8] {
+    b"    return row;
+  }
+  coloured(text) {
+    const row = element(\"code\");
+    if (/^\\s*\\$\\$/.test(text)) {
+      row.append(element(\"i\", text));
+      return row;
+    }
+    for (const piece of text.split(/('[^']*')/)) row.append(piece[0] === \"'\" ? element(\"q\", piece) : piece);
     return row;
   }
-  const rows = [];
-  function fillProgram() {
-    let chunk = null;
-    const all = document.createDocumentFragment();
-    run.lines.forEach((text, i) => {
-      if (i % 100 === 0) { chunk = element(\"div\", undefined, \"chunk\"); all.append(chunk); }
+  rowOfLine(n) {
+    const piece = this.pieces[Math.floor((n - 1) / LINES_OF_PIECE)];
+    if (!piece || n < 1) return undefined;
+    this.full(piece);
+    return this.rows.get(n);
+  }
+  // Marks the line of a step, and that of the next one.
+  show(k) {
+    const { run } = this, next = nextAt(run, k), line = k ? rowAt(run, k) : 0, after = next ? rowOf(run, next.statement) : 0;
+    const before = new Set(this.marked.map((it) => it.parentElement));
+    for (const row of this.marked) {
+      row.classList.remove(\"now\", \"next\", \"bad\");
+      row.removeAttribute(\"aria-current\");
+      setText(row.lastChild, \"\");
+    }
+    this.marked = [];
+    const now = line ? this.rowOfLine(line) : undefined, then = after && after !== line ? this.rowOfLine(after) : undefined;
+    if (then) {
+      then.classList.add(\"next\");
+      this.marked.push(then);
+    }
+    if (now) {
+      const met = contactsIn(run, k);
+      now.classList.add(\"now\");
+      if ((run.stop && k === run.stop.step && this.stopLine) || met.length) now.classList.add(\"bad\");
+      now.setAttribute(\"aria-current\", \"step\");
+      now.lastChild.textContent = met.map(({ box, contact }) => metText(run, box, contact) + \", then \").join(\"\") + doneText(run, k).replace(/^stop (.*?)( at \\d+ line \\d+)?$/, \"$1\").replace(/ permille \\d+$/, \"\");
+      this.marked.push(now);
+    }
+    for (const piece of before) if (piece && !this.inView.has(piece)) this.plain(piece);
+    if (now || then) this.intoView(now ? line : after);
+  }
+  // Lines are equally high, so where one stands is known without asking for it.
+  intoView(n) {
+    const high = this.box.clientHeight, top = 6 + 20.5 * (n - 1);
+    if (high === 0) return;
+    const at = this.box.scrollTop;
 "
 }
 
-/// Part 25 of the script.
-pub(crate) fn script_25() -> &'static [u8] {
-    b"      const n = i + 1, row = element(\"div\", undefined, \"line\"), times = run.counts.get(n);
-      row.dataset.line = n;
-      const number = element(\"span\", String(n), \"number\");
-      const sign = element(\"span\", n === stopLine ? \"\\u2715\" : touchLines.has(n) ? \"\\u25cf\" : noticed.has(n) ? \"!\" : \"\", \"sign\" + (n === stopLine ? \" stop\" : touchLines.has(n) ? \" touch\" : noticed.has(n) ? \" notice\" : \"\"));
-      if (n === stopLine) sign.title = run.stop.text;
-      else if (touchLines.has(n)) sign.title = \"measures\";
-      else if (noticed.has(n)) sign.title = noticed.get(n) + \" has no effect\";
-      if (times) row.classList.add(\"ran\");
-      else if (stated.has(n)) { row.classList.add(\"idle\"); row.title = \"not carried out in this run\"; }
-      row.append(number, sign, coloured(text));
-      if (times && times.length > 1) { const count = element(\"span\", \"\\u00d7\" + times.length.toLocaleString(\"en\"), \"times\"); count.title = \"carried out \" + times.length + \" times\"; row.append(count); }
-      row.append(element(\"span\", \"\", \"done\"));
-      rows[n] = row;
-      chunk.append(row);
+/// Part 31 of the script.
+pub(crate) fn script_31() -> &'static [u8] {
+    b"    if (top - at < 24 || top - at > high - 60) this.box.scrollTop = top - high / 2.4;
+  }
+  // On paper stand all lines.
+  forPaper(is) {
+    for (const it of this.pieces) if (is) this.full(it); else if (!this.inView.has(it)) this.plain(it);
+  }
+}
+
+// The state behind a step: what the step did, where the probe is, variables, measured points, boxes, output and settings. Only what changes is made anew.
+
+// The most variables, points and output lines that are shown.
+const MOST_VARIABLES = 200, MOST_POINTS = 50, MOST_OUTPUT = 50, MOST_CONTACTS = 50;
+
+class Panel {
+  constructor(run) {
+    this.run = run;
+    this.ending = endingOf(run);
+    this.stopLine = stopLineOf(run);
+    this.variables = new Entries($(\"variables\").tBodies[0], (name) => this.variableRow(name));
+    this.points = new Entries($(\"points\").tBodies[0], (i) => this.pointRow(run.touches[i]));
+    this.output = new Entries($(\"output\"), (i) => this.outputRow(i));
+    this.settings = [...run.settings].map(([name, it]) => {
+      const value = element(\"dd\", \"\", \"mono\");
+      $(\"settings\").append(element(\"dt\", name), value);
+      return { it, value };
     });
-    $(\"program\").append(all);
+    this.boxes = run.boxes.flatMap((box) => (box.contacts.length ? box.contacts.slice(0, MOST_CONTACTS).map((contact, i) => this.boxRow(i ? \"\" : box.name, `${contact.kind} ${blockText(run, contact.block)} at ${contact.at.map(millimetres).join(\" \")}`, contact)) : [this.boxRow(box.name, `clear by ${millimetres(box.room)} mm${box.room < 50000 ? \"\" : \" or more\"}`, null)]));
+    $(\"boxes\").tBodies[0].replaceChildren(...this.boxes.map((it) => it.row));
+    for (const [id, has] of [[\"variables-section\", run.variables.size], [\"points-section\", run.touches.length], [\"boxes-section\", run.boxes.length], [\"output-section\", run.output.steps.length], [\"notices-section\", run.notices.length]]) $(id).hidden = has === 0;
+    $(\"variables-filter\").hidden = run.variables.size <= 20;
+    for (const it of run.notices.slice(0, 200)) $(\"notices\").append(element(\"li\", `line ${it.line}: ${it.word} has no effect`));
   }
-  fillProgram();
-
-  // ---- the views
-
-  const camera = { centre: [0, 0, 0], scale: 0.001, solid: 1 };
-  const canvasOf = (key) => document.querySelector(`[data-sheet=${key}] canvas:not(.gl)`);
-  const flat = [\"top\", \"front\", \"side\"].map((key) => new Sheet(run, canvasOf(key), key, camera));
-  let solid = null;
-  try {
-    solid = new Solid(run, document.querySelector(\"canvas.gl\"), document.querySelector(\"canvas.over\"), camera);
-    if (!solid.gl) solid = null;
-  } catch (fault) { solid = null; }
-  if (!solid) document.querySelector(\"[data-sheet=solid]\").classList.add(\"none\");
-
-  const boxes = { all: boxOf(pointsOfWhole(run)), part: run.blocks.length ? boxOf(pointsOfPart(run)) : boxOf(pointsOfWhole(run)) };
-  function fit(what) {
-    fitting = what;
-    for (const it of document.getElementsByName(\"fit\")) it.checked = it.value === what;
-    fitNow();
-  }
-  function fitNow() {
-    if (!fitting) return;
 "
 }
 
-/// Part 26 of the script.
-pub(crate) fn script_26() -> &'static [u8] {
-    b"    let box = boxes[fitting];
+/// Part 32 of the script.
+pub(crate) fn script_32() -> &'static [u8] {
+    b"  jump(step, text) {
+    const it = element(\"button\", text || String(step + this.run.from), \"jump\");
+    it.type = \"button\";
+    it.dataset.step = step;
+    it.title = \"to step \" + (step + this.run.from);
+    return it;
+  }
+
+  show(k) {
+    this.showStep(k);
+    this.showProbe(k);
+    this.showVariables(k);
+    this.showPoints(k);
+    for (const { row, contact } of this.boxes) setClass(row, contact && contact.step === k && k ? \"changed\" : \"\");
+    this.showOutput(k);
+    for (const { it, value } of this.settings) {
+      setText(value, it.changes.at(k) + \" mm\");
+      setClass(value, \"mono\" + (it.changes.setAt(k) === k && k ? \" changed\" : \"\"));
+    }
+  }
+  showStep(k) {
+    const { run } = this, stops = k > 0 && run.stop !== null && k === run.stop.step, fails = stops && this.stopLine > 0;
+    const met = contactsIn(run, k).map(({ box, contact }) => `${metText(run, box, contact)} at ${contact.at.map(millimetres).join(\" \")}, in its ${contact.kind.toLowerCase()}`);
+    const ended = fails ? this.ending.text + \". The probe stays where it was.\" : stops ? \"the run has come to its end\" : doneText(run, k);
+    setText($(\"step-title\"), k === 0 ? (run.from ? \"Behind step \" + run.from : \"Start\") : \"Step \" + (k + run.from) + \" \\u00b7 line \" + run.line[k] + \" \\u00b7 \" + run.code[run.statement[k]].word);
+    setText($(\"step-done\"), [...met, ...(met.length && ended ? [\"then \" + ended] : [ended])].join(\"; \"));
+    setText($(\"step-line\"), fails ? run.done[k] : \"\");
+    setClass($(\"step-done\"), \"done\" + (fails || met.length ? \" bad\" : stops && !run.firstMet ? \" ok\" : \"\"));
+  }
+  showProbe(k) {
+    const { run } = this, at = positionAt(run, k), frame = run.frame.at(k), next = nextAt(run, k), places = [[\"Machine\", at]], entries = [], add = (name, value) => entries.push(element(\"dt\", name), typeof value === \"string\" ? element(\"dd\", value) : value);
+    if (!isMachine(frame)) {
+      const set = run.frame.setAt(k), value = element(\"dd\", frame.name ? frame.name + \" \" : \"from before the first step shown\");
+"
+}
+
+/// Part 33 of the script.
+pub(crate) fn script_33() -> &'static [u8] {
+    b"      places.push([\"Part\", inFrame(frame, at)], [\"Origin\", frame.origin]);
+      if (set !== null) value.append(this.jump(set, \"set at step \" + (set + run.from)));
+      add(\"Frame\", value);
+      if (frame.axes.join() !== \"+X,+Y,+Z\") add(\"Axes\", \"X along \" + frame.axes[0] + \", Y \" + frame.axes[1] + \", Z \" + frame.axes[2]);
+    }
+    if (run.contact !== null && run.contact.step === k) places.push([\"Contact\", run.contact.at, \"bad\"]);
+    for (const { box, contact } of contactsIn(run, k)) places.push([box.name, contact.at, \"bad\"]);
+    for (let i = k ? run.pieceFrom[k] : 0; i < (k ? run.pieceFrom[k + 1] : 0); i++) if (run.kinds[i] === \"x\") places.push([\"Aim\", run.aims.get(i) || [...run.ends.subarray(6 * i + 3, 6 * i + 6)]]);
+    for (const number of metIn(run, k)) {
+      const block = run.blocks[number - 1];
+      if (run.names.has(number)) add(\"Block \" + number, run.names.get(number));
+      places.push([\"Block \" + number, block.slice(0, 3)], [\"\", block.slice(3)]);
+    }
+    add(\"Next\", next ? \"line \" + next.line + \" \" + (run.code[next.statement] ? run.code[next.statement].word : \"\") : \"nothing: the run has stopped\");
+    $(\"probe\").replaceChildren(...entries);
+    this.showPlaces(places);
+  }
+  // Points as rows of three numbers, below each other. Where numbers are wide the name stands above them, and where they are very wide each has a line of its own.
+  showPlaces(places) {
+    let longest = 0;
+    const rows = places.map(([name, at, className]) => {
+      const row = element(\"tr\", undefined, className);
+      row.append(rowHead(name), ...at.map((x, i) => {
+        const it = cell(typeof x === \"string\" ? x : millimetres(x), \"n\");
+        it.dataset.axis = \"XYZ\"[i];
+        longest = Math.max(longest, it.textContent.length);
+        return it;
+      }));
+      return row;
+    });
+    $(\"places\").tBodies[0].replaceChildren(...rows);
+    setClass($(\"places\"), longest > 12 ? \"tall\" : longest > 8 ? \"wide\" : \"\");
+  }
+  variableRow(name) {
+"
+}
+
+/// Part 34 of the script.
+pub(crate) fn script_34() -> &'static [u8] {
+    b"    const row = element(\"tr\"), value = cell(\"\", \"n mono\"), set = cell(\"\", \"n\");
+    row.append(rowHead(name), value, set);
+    return row;
+  }
+  showVariables(k) {
+    const { run } = this, wanted = $(\"variables-filter\").value.trim().toUpperCase(), names = [];
+    for (const name of run.variables.keys()) {
+      if (wanted && !name.includes(wanted)) continue;
+      if (names.push(name) === MOST_VARIABLES) break;
+    }
+    this.variables.show(names).forEach((row, i) => {
+      const { changes } = run.variables.get(names[i]), set = changes.setAt(k);
+      setText(row.children[1], changes.at(k));
+      setClass(row, set === k && k ? \"changed\" : \"\");
+      if (row.dataset.set === String(set)) return;
+      row.dataset.set = String(set);
+      row.lastChild.replaceChildren(set === null ? element(\"span\", \"\\u2013\", \"quietly\") : this.jump(set));
+    });
+  }
+  pointRow(touch) {
+    const { run } = this, actual = run.actual.get(touch.name), value = actual && actual.setAt(touch.step) === touch.step ? actual.at(touch.step) : null;
+    const row = element(\"tr\"), off = value ? deviationOf(run, touch.name, touch.step) : null, step = cell(\"\", \"n\");
+    step.append(this.jump(touch.step));
+    row.append(rowHead(touch.name), ...(value ? value.slice(0, 3) : touch.at.map(millimetres)).map((x) => cell(x, \"n mono\")), cell(off === null ? \"\" : (off > 0 ? \"+\" : \"\") + millimetres(off), \"n mono off\"), step);
+    return row;
+  }
+  showPoints(k) {
+    const { run } = this, touched = run.touchSteps.count(k), keys = [];
+    for (let i = touched - 1; i >= 0 && keys.length < MOST_POINTS; i--) keys.push(i);
+    this.points.show(keys).forEach((row, i) => setClass(row, run.touches[keys[i]].step === k ? \"changed\" : \"\"));
+    if ($(\"points\").hidden !== (keys.length === 0)) $(\"points\").hidden = keys.length === 0;
+    setText($(\"points-count\"), touched + \" of \" + run.touches.length);
+  }
+  boxRow(name, text, contact) {
+    const row = element(\"tr\"), step = cell(\"\", \"n\");
+    if (contact && contact.step > 0) step.append(this.jump(contact.step));
+"
+}
+
+/// Part 35 of the script.
+pub(crate) fn script_35() -> &'static [u8] {
+    b"    row.append(rowHead(name), cell(text, contact ? \"bad\" : \"\"), step);
+    return { row, contact };
+  }
+  outputRow(i) {
+    const { run } = this, item = element(\"li\"), text = this.jump(run.output.steps[i], \" \");
+    text.replaceChildren(...run.output.values[i].split(/(?<=,)/).flatMap((it) => [it, document.createElement(\"wbr\")]));
+    item.append(element(\"span\", String(i + 1), \"quietly\"), text);
+    return item;
+  }
+  showOutput(k) {
+    const { run } = this, printed = run.output.count(k), from = Math.max(0, printed - MOST_OUTPUT), keys = Array.from({ length: printed - from }, (_, i) => from + i);
+    this.output.show(keys).forEach((item, i) => setClass(item, run.output.steps[keys[i]] === k ? \"changed\" : \"\"));
+    setText($(\"output-count\"), printed + \" of \" + run.output.steps.length);
+  }
+}
+
+// The four views beside each other: what is in view, how near, and what a pointer does on them.
+
+class Stage {
+  // `whenStepped` is called with the step of a piece that is clicked.
+  constructor(run, whenStepped) {
+    this.run = run;
+    this.whenStepped = whenStepped;
+    this.camera = { centre: [0, 0, 0], scale: 0.001, solid: 1 };
+    this.colours = readColours();
+    this.fitting = \"all\";
+    this.step = 0;
+    this.probe = run.home;
+    this.isWaiting = false;
+    this.later = 0;
+    this.flat = [\"top\", \"front\", \"side\"].map((key) => new Sheet(run, this.canvasOf(key), key, this.camera));
+    this.profile = new Profile(run, $(\"profile\"));
+    this.solid = null;
+    try {
+      const solid = new Solid(run, document.querySelector(\"canvas.gl\"), document.querySelector(\"canvas.over\"), this.camera);
+      if (solid.gl) this.solid = solid;
+    } catch (fault) { /* the other three views show the same */ }
+    if (!this.solid) document.querySelector(\"[data-sheet=solid]\").classList.add(\"none\");
+    const whole = boxOf(pointsOfWhole(run));
+    this.boxes = { all: whole, part: run.blocks.length ? boxOf(pointsOfPart(run)) : whole };
+    this.makeLegend();
+"
+}
+
+/// Part 36 of the script.
+pub(crate) fn script_36() -> &'static [u8] {
+    b"    for (const sheet of [...this.flat, ...(this.solid ? [this.solid] : [])]) this.listenTo(sheet);
+    for (const it of document.getElementsByName(\"view\")) it.onchange = () => this.setView(it.value);
+    for (const it of document.getElementsByName(\"fit\")) it.onchange = () => this.fit(it.value);
+    for (const it of document.querySelectorAll(\"[data-turn]\")) it.onclick = () => {
+      const [x, y] = { left: [-0.2, 0], right: [0.2, 0], up: [0, 0.15], down: [0, -0.15] }[it.dataset.turn];
+      if (this.solid) this.solid.turn(x, y);
+      this.draw();
+    };
+    new ResizeObserver(() => this.fitting ? this.fitNow() : this.draw()).observe(document.querySelector(\".sheets\"));
+    new ResizeObserver(() => this.draw()).observe($(\"profile\"));
+    matchMedia(\"(prefers-color-scheme: dark)\").addEventListener(\"change\", () => this.recolour());
+  }
+  canvasOf(key) {
+    return document.querySelector(`[data-sheet=${key}] canvas:not(.gl)`);
+  }
+  makeLegend() {
+    const { run } = this, legend = $(\"legend\"), kinds = new Set(run.kinds);
+    for (const kind of \"masrx\") if (kinds.has(kind)) legend.append(element(\"span\", kindNames[kind], \"key \" + kind), \" \");
+    if (run.touches.length) legend.append(element(\"span\", \"touched\", \"key dot\"), \" \");
+    legend.append(element(\"span\", \"probe\", \"key ring\"));
+  }
+
+  // ---- what is in view
+
+  setView(view) {
+    $(\"views\").dataset.view = view;
+    for (const it of document.getElementsByName(\"view\")) it.checked = it.value === view;
+    this.fitNow();
+    this.draw();
+  }
+  fit(what) {
+    this.fitting = what;
+    for (const it of document.getElementsByName(\"fit\")) it.checked = it.value === what;
+    this.fitNow();
+  }
+  fitNow() {
+    const { camera, fitting, run, solid } = this;
+    if (!fitting) return;
+    let box = this.boxes[fitting];
     if (fitting === \"probe\") {
       const reach = Math.max(8000, 6 * run.tip);
-      box = { low: probe.map((x) => x - reach), high: probe.map((x) => x + reach) };
+      box = { low: this.probe.map((x) => x - reach), high: this.probe.map((x) => x + reach) };
     }
     camera.centre = box.low.map((x, k) => (x + box.high[k]) / 2);
-    const size = box.high.map((x, k) => Math.max(x - box.low[k], 2000));
+"
+}
+
+/// Part 37 of the script.
+pub(crate) fn script_37() -> &'static [u8] {
+    b"    const size = box.high.map((x, k) => Math.max(x - box.low[k], 2000));
     let scale = Infinity;
-    for (const sheet of flat) {
+    for (const sheet of this.flat) {
       const w = sheet.canvas.clientWidth, h = sheet.canvas.clientHeight;
       if (!w || !h) continue;
       scale = Math.min(scale, (0.8 * w) / size[sheet.sheet.right], (0.74 * h) / size[sheet.sheet.up]);
     }
-    const over = canvasOf(\"solid\");
+    const over = this.canvasOf(\"solid\");
     if (solid && over.clientWidth) {
       const corners = [0, 1, 2, 3, 4, 5, 6, 7].map((n) => camera.centre.map((x, k) => x + (n & (1 << k) ? 0.5 : -0.5) * size[k]));
-      const own = solid.fit(fitting === \"all\" ? pointsOfWhole(run) : fitting === \"part\" ? pointsOfPart(run) : corners, 0.84 * over.clientWidth, 0.76 * over.clientHeight);
+      const own = solid.fit(fitting === \"all\" ? pointsOfWhole(run) : fitting === \"part\" && run.blocks.length ? pointsOfPart(run) : corners, 0.84 * over.clientWidth, 0.76 * over.clientHeight);
       if (scale === Infinity) scale = own;
       camera.solid = own / scale;
     }
     if (scale < Infinity) camera.scale = scale;
-    draw();
+    this.draw();
   }
-  function zoom(by, sheet, x, y) {
-    const most = 0.5, least = 1e-7, scale = Math.max(least, Math.min(most, camera.scale * by));
+  zoom(by, sheet, x, y) {
+    const most = 0.5, least = 1e-7, { camera } = this, scale = Math.max(least, Math.min(most, camera.scale * by));
     if (sheet && sheet.sheet) {
       const { right, up } = sheet.sheet, grown = 1 / camera.scale - 1 / scale;
       camera.centre[right] += (x - sheet.width / 2) * grown;
       camera.centre[up] -= (y - sheet.height / 2) * grown;
     }
     camera.scale = scale;
-    loose();
-    draw();
+    this.loose();
+    this.draw();
   }
-  function loose() {
-    fitting = null;
+  loose() {
+    this.fitting = null;
     for (const it of document.getElementsByName(\"fit\")) it.checked = false;
   }
 
-  let wanted = false;
-  function draw() {
-    if (wanted) return;
-    wanted = true;
-    requestAnimationFrame(() => { wanted = false; drawNow(devicePixelRatio || 1); });
+  // ---- drawing
+
+  show(k, probe) {
+    this.step = k;
+    this.probe = probe;
+    if (this.fitting === \"probe\") this.fitNow(); else this.draw();
   }
-  function drawNow(ratio) {
-    for (const sheet of flat) if (sheet.size(ratio)) sheet.draw(colours, now, probe);
-    if (solid) drawSolid(ratio);
-    drawProfile(ratio);
+  recolour() {
+    this.colours = readColours();
+    this.draw();
   }
+  draw() {
+    if (this.isWaiting) return;
+    this.isWaiting = true;
+    requestAnimationFrame(() => {
+      this.isWaiting = false;
+      this.drawNow(devicePixelRatio || 1);
+    });
+  }
+  drawNow(ratio) {
+    for (const sheet of this.flat) if (sheet.size(ratio)) sheet.draw(this.colours, this.step, this.probe);
+    if (this.solid) this.drawSolid(ratio);
 "
 }
 
-/// Part 27 of the script.
-pub(crate) fn script_27() -> &'static [u8] {
-    b"  // Where a frame in space takes long, it is drawn once nothing has changed for a while.
-  let waits = 0;
-  function drawSolid(ratio) {
-    clearTimeout(waits);
-    if (solid.isSlow) waits = setTimeout(() => solid.draw(colours, now, probe, ratio), 250);
-    else solid.draw(colours, now, probe, ratio);
+/// Part 38 of the script.
+pub(crate) fn script_38() -> &'static [u8] {
+    b"    this.profile.draw(this.colours, this.step, ratio);
+  }
+  // Where a frame in space takes long, it is drawn once nothing has changed for a while.
+  drawSolid(ratio) {
+    clearTimeout(this.later);
+    const now = () => this.solid.draw(this.colours, this.step, this.probe, ratio);
+    if (this.solid.isSlow) this.later = setTimeout(now, 250); else now();
+  }
+  forPaper(is) {
+    document.documentElement.classList.toggle(\"paper\", is);
+    this.colours = readColours();
+    if (is) {
+      this.before = $(\"views\").dataset.view;
+      this.setView(\"all\");
+      if (this.solid) this.solid.draw(this.colours, this.step, this.probe, 3);
+      this.drawNow(3);
+    } else this.setView(this.before);
   }
 
-  const legend = $(\"legend\"), seenKinds = new Set(run.kinds);
-  for (const kind of \"masrx\") if (seenKinds.has(kind)) legend.append(element(\"span\", kindNames[kind], \"key \" + kind), \" \");
-  if (run.touches.length) legend.append(element(\"span\", \"touched\", \"key dot\"), \" \");
-  legend.append(element(\"span\", \"probe\", \"key ring\"));
+  // ---- pointers
 
-  // ---- the time line: how high the probe is behind each step, with what happens
+  tipOf(found) {
+    const { run } = this, text = (from) => [from, from + 1, from + 2].map((i) => millimetres(run.ends[i])).join(\" \");
+    if (found.piece !== undefined) {
+      const i = found.piece, k = run.pieceStep[i];
+      return `step ${k + run.from}, line ${run.line[k]}: ${kindNames[run.kinds[i]]} ${text(6 * i)} to ${text(6 * i + 3)}`;
+    }
+    const b = run.blocks[found.block - 1];
+    return `${blockText(run, found.block)}: ${b.slice(0, 3).map(millimetres).join(\" \")} to ${b.slice(3).map(millimetres).join(\" \")}`;
+  }
+  point(sheet, canvas, event) {
+    const box = canvas.getBoundingClientRect(), found = sheet.find(event.clientX - box.left, event.clientY - box.top), tip = $(\"tip\");
+    canvas.classList.toggle(\"found\", !!(found && found.piece !== undefined));
+    tip.hidden = !found;
+    if (!found) return;
+    const own = $(\"views\").getBoundingClientRect();
+    tip.textContent = this.tipOf(found);
+    tip.style.left = Math.min(event.clientX - own.left + 12, own.width - tip.offsetWidth - 4) + \"px\";
+    tip.style.top = event.clientY - own.top + 16 + \"px\";
+  }
+  drag(sheet, dx, dy) {
+    if (sheet.sheet) {
+      this.camera.centre[sheet.sheet.right] -= dx / this.camera.scale;
+      this.camera.centre[sheet.sheet.up] += dy / this.camera.scale;
+      this.loose();
+"
+}
 
-  function drawProfile(ratio) {
-    const canvas = $(\"profile\"), w = canvas.clientWidth, h = canvas.clientHeight, n = run.length;
-    if (!w || !h) return;
-    canvas.width = Math.round(w * ratio);
-    canvas.height = Math.round(h * ratio);
-    const g = canvas.getContext(\"2d\");
-    g.scale(ratio, ratio);
-    const pad = 8, inner = w - 2 * pad, x = (k) => pad + (n ? (inner * k) / n : 0);
-    let low = Infinity, high = -Infinity;
-    for (let k = 0; k <= n; k++) { const z = run.position[3 * k + 2]; if (z < low) low = z; if (z > high) high = z; }
-    const y = (z) => h - 7 - (high > low ? ((z - low) / (high - low)) * (h - 16) : (h - 16) / 2);
-    const shape = (from, to, colour) => {
-      if (to < from) return;
-      g.beginPath();
-      g.moveTo(x(from), h - 4);
-      const step = Math.max(1, (to - from) / (2 * inner));
-      for (let k = from; k < to; k += step) {
-        const a = Math.round(k), b = Math.min(to, Math.round(k + step));
-        let least = Infinity, most = -Infinity;
-        for (let i = a; i < Math.max(b, a + 1); i++) { const z = run.position[3 * i + 2]; if (z < least) least = z; if (z > most) most = z; }
-        if (step > 1) { g.lineTo(x(a), y(most)); g.lineTo(x(a), y(least)); } else g.lineTo(x(a), y(run.position[3 * a + 2]));
+/// Part 39 of the script.
+pub(crate) fn script_39() -> &'static [u8] {
+    b"    } else this.solid.turn(-dx * 0.01, dy * 0.008);
+    this.draw();
+  }
+  listenTo(sheet) {
+    const canvas = sheet.sheet ? sheet.canvas : sheet.over, pointers = new Map();
+    let travelled = 0, apart = 0;
+    canvas.addEventListener(\"pointerdown\", (event) => {
+      pointers.set(event.pointerId, [event.clientX, event.clientY]);
+      if (pointers.size === 1) travelled = 0;
+      apart = 0;
+      canvas.setPointerCapture(event.pointerId);
+    });
+    canvas.addEventListener(\"pointermove\", (event) => {
+      const old = pointers.get(event.pointerId);
+      if (!old) return this.point(sheet, canvas, event);
+      const dx = event.clientX - old[0], dy = event.clientY - old[1], box = canvas.getBoundingClientRect();
+      travelled += Math.abs(dx) + Math.abs(dy);
+      pointers.set(event.pointerId, [event.clientX, event.clientY]);
+      $(\"tip\").hidden = true;
+      if (pointers.size === 2) {
+        const [[a, b], [c, d]] = [...pointers.values()], long = Math.hypot(c - a, d - b);
+        if (apart) this.zoom(long / apart, sheet, (a + c) / 2 - box.left, (b + d) / 2 - box.top);
+        apart = long;
+      } else if (travelled > 4) this.drag(sheet, dx, dy);
+    });
+    const end = (event) => { pointers.delete(event.pointerId); };
+    canvas.addEventListener(\"pointerup\", (event) => {
+      if (pointers.size === 1 && travelled < 5) {
+        const box = canvas.getBoundingClientRect(), found = sheet.find(event.clientX - box.left, event.clientY - box.top);
+        if (found && found.piece !== undefined) this.whenStepped(this.run.pieceStep[found.piece]);
       }
-      g.lineTo(x(to), y(run.position[3 * to + 2]));
+      end(event);
+    });
+    canvas.addEventListener(\"pointercancel\", end);
+    canvas.addEventListener(\"pointerleave\", () => { $(\"tip\").hidden = true; });
+    canvas.addEventListener(\"wheel\", (event) => {
+      event.preventDefault();
+      const box = canvas.getBoundingClientRect();
+      this.zoom(Math.exp(-event.deltaY * 0.0015), sheet, event.clientX - box.left, event.clientY - box.top);
+    }, { passive: false });
+  }
+}
+
 "
 }
 
-/// Part 28 of the script.
-pub(crate) fn script_28() -> &'static [u8] {
-    b"      g.lineTo(x(to), h - 4);
-      g.closePath();
-      g.fillStyle = colour;
-      g.fill();
-    };
-    g.globalAlpha = 0.28;
-    shape(0, n, colours.muted);
-    g.globalAlpha = 0.75;
-    shape(0, now, colours.m);
-    g.globalAlpha = 1;
-    const dot = (k, yy, colour, size) => { g.fillStyle = colour; g.beginPath(); g.arc(x(k), yy, size, 0, 7); g.fill(); };
-    const many = run.touches.length > 400;
-    for (const touch of run.touches) if (many) { g.fillStyle = colours.s; g.fillRect(x(touch.step) - 0.5, 1, 1, 3); } else dot(touch.step, 4, colours.s, 2.5);
-    g.fillStyle = colours.ink;
-    for (const k of run.output.steps) g.fillRect(x(k) - 0.5, h - 4, 1, 4);
-    g.fillStyle = colours.danger;
-    for (const box of run.boxes) for (const contact of box.contacts) if (contact.step > 0) g.fillRect(x(contact.step) - 2, 0, 4, 5);
-    if (stopLine) { const sx = x(run.stop.step); g.strokeStyle = colours.danger; g.lineWidth = 2.4; g.beginPath(); g.moveTo(sx - 4, 3); g.lineTo(sx + 4, 11); g.moveTo(sx + 4, 3); g.lineTo(sx - 4, 11); g.stroke(); }
-    g.fillStyle = colours.ink;
-    g.fillRect(x(now) - 0.75, 0, 1.5, h);
+/// Part 40 of the script.
+pub(crate) fn script_40() -> &'static [u8] {
+    b"// The page: from step to step by keys, buttons, lines and playing. Texts of the run go into the page as text alone.
+
+(() => {
+  let run;
+  try {
+    run = readRun($(\"run\").textContent);
+    if ($(\"block-names\")) readNames(run, $(\"block-names\").textContent);
+    if ($(\"probe-boxes\")) readBoxes(run, $(\"probe-boxes\").textContent);
+  } catch (fault) {
+    $(\"fault\").hidden = false;
+    $(\"fault\").textContent = \"The run in this page cannot be read: \" + fault.message + \".\";
+    return;
   }
 
-  // ---- the state
+  const calm = matchMedia(\"(prefers-reduced-motion: reduce)\");
+  // in the page for browsers, whose editor has the program and whose head has the verdict, the page of a run has the steps alone
+  const isFramed = document.documentElement.classList.contains(\"framed\");
+  let now = 0, playing = false, lettersWork = true;
 
-  // What a step did, for a reader.
-  function doneText(k) {
-    if (k === 0) return run.from ? \"the steps before this are not in this page\" : \"the start\";
-    const said = run.done[k], word = run.code[run.statement[k]].word, next = /(?:^| )next (\\d+)$/.exec(said);
-    const where = next && run.code[Number(next[1])] ? \"on to line \" + run.code[Number(next[1])].line : \"\";
-    if (said === \"moved\") return \"to \" + positionAt(run, k).map(millimetres).join(\" \");
-    if (said.startsWith(\"stop \")) return said;
-    if (said.startsWith(\"FA(\")) return said.replace(/^FA\\((\\w+)\\) /, \"$1 touched at \");
-    if (/^output /.test(said)) return run.output.at(k);
-    if (/^F\\(/.test(said)) return \"declares \" + said;
-    if (/^D\\(/.test(said)) return frameText(run.frame.at(k));
-    if (said.includes(\"=\")) return said.split(\" \")[0].replace(\"=\", \" = \") + (where ? \", \" + where : \"\");
-    return where;
-  }
-"
-}
+  // ---- the head
 
-/// Part 29 of the script.
-pub(crate) fn script_29() -> &'static [u8] {
-    b"  const frameText = (frame) => (frame.name ? frame.name + \": \" : \"\") + \"origin \" + frame.origin.map(millimetres).join(\" \") + \", X \" + frame.axes[0] + \", Y \" + frame.axes[1] + \", Z \" + frame.axes[2];
+  const told = verdictOf(run);
+  $(\"title\").textContent = run.title;
+  document.title = run.title + \" \\u2013 \" + told.text;
+  $(\"verdict\").className = \"verdict \" + told.kind;
+  $(\"verdict\").append(element(\"span\", { ok: \"\\u2713\", bad: \"\\u2715\", warn: \"\\u2026\" }[told.kind], \"sign\"), \" \" + told.text);
+  $(\"verdict\").title = run.stop ? run.stop.text : told.line;
+  $(\"facts\").textContent = factsOf(run);
 
-  function jump(step, text) {
-    const it = element(\"button\", text || String(step + run.from), \"jump\");
-    it.type = \"button\";
-    it.dataset.step = step;
-    it.title = \"to step \" + (step + run.from);
-    return it;
-  }
-  const cell = (text, className) => element(\"td\", text, className);
-  const entry = (list, name, value, className) => { list.append(element(\"dt\", name), element(\"dd\", value, className)); };
-
-  function showState() {
-    const k = now, title = $(\"step-title\");
-    title.textContent = k === 0 ? (run.from ? \"Behind step \" + run.from : \"Start\") : \"Step \" + (k + run.from) + \" \\u00b7 line \" + run.line[k] + \" \\u00b7 \" + run.code[run.statement[k]].word;
-    const stops = k > 0 && run.stop !== null && k === run.stop.step, fails = stops && stopLine > 0;
-    $(\"step-done\").textContent = fails ? told.text + \". The probe stays where it was.\" : stops ? \"the run has come to its end\" : doneText(k);
-    $(\"step-line\").textContent = fails ? run.done[k] : \"\";
-    $(\"step-done\").className = \"done\" + (fails ? \" bad\" : stops ? \" ok\" : \"\");
-
-    const at = positionAt(run, k), frame = run.frame.at(k), list = $(\"probe\");
-    list.replaceChildren();
-    entry(list, \"Machine\", pointText(at), \"mono\");
-    if (!isMachine(frame)) {
-      entry(list, \"Part\", pointText(inFrame(frame, at)), \"mono\");
-      const set = run.frame.setAt(k), value = element(\"dd\", frame.name ? frame.name + \" \" : \"from before the first step shown\");
-      if (set !== null) value.append(jump(set, \"set at step \" + (set + run.from)));
-      list.append(element(\"dt\", \"Frame\"), value);
-      entry(list, \"Origin\", pointText(frame.origin), \"mono\");
-      if (frame.axes.join() !== \"+X,+Y,+Z\") entry(list, \"Axes\", \"X along \" + frame.axes[0] + \", Y \" + frame.axes[1] + \", Z \" + frame.axes[2]);
-    }
-"
-}
-
-/// Part 30 of the script.
-pub(crate) fn script_30() -> &'static [u8] {
-    b"    const touches = run.contact !== null && run.contact.step === k;
-    if (touches) entry(list, \"Contact\", pointText(run.contact.at), \"mono bad\");
-    for (let i = k ? run.pieceFrom[k] : 0; i < (k ? run.pieceFrom[k + 1] : 0); i++) if (run.kinds[i] === \"x\") entry(list, \"Aim\", run.aims.get(i) || pointText([...run.ends.subarray(6 * i + 3, 6 * i + 6)]), \"mono\");
-    if (touches) {
-      const block = run.blocks[run.contact.block - 1];
-      if (run.names.has(run.contact.block)) entry(list, \"Name\", run.names.get(run.contact.block));
-      entry(list, \"Block \" + run.contact.block, pointText(block.slice(0, 3)) + \"\\n\" + pointText(block.slice(3)), \"mono\");
-    }
-    const next = nextAt(run, k);
-    entry(list, \"Next\", next ? \"line \" + next.line + \" \" + (run.code[next.statement] ? run.code[next.statement].word : \"\") : \"nothing: the run has stopped\");
-
-    $(\"variables-section\").hidden = run.variables.size === 0;
-    $(\"variables-filter\").hidden = run.variables.size <= 20;
-    const wantedName = $(\"variables-filter\").value.trim().toUpperCase(), body = $(\"variables\").tBodies[0], shown = [];
-    for (const [name, it] of run.variables) {
-      if (wantedName && !name.includes(wantedName)) continue;
-      if (shown.length === 200) break;
-      const set = it.changes.setAt(k), row = element(\"tr\", undefined, set === k && k ? \"changed\" : \"\");
-      const last = cell(\"\", \"n\");
-      if (set !== null) last.append(jump(set)); else last.append(element(\"span\", \"\\u2013\", \"quietly\"));
-      const head = element(\"th\", name);
-      head.scope = \"row\";
-      row.append(head, cell(it.changes.at(k), \"n mono\"), last);
-      shown.push(row);
-    }
-    body.replaceChildren(...shown);
-
-    const touched = run.touchSteps.count(k), points = [];
-    $(\"points-section\").hidden = run.touches.length === 0;
-    for (let i = touched - 1; i >= 0 && points.length < 50; i--) {
-      const touch = run.touches[i], actual = run.actual.get(touch.name), value = actual && actual.setAt(touch.step) === touch.step ? actual.at(touch.step) : null;
-"
-}
-
-/// Part 31 of the script.
-pub(crate) fn script_31() -> &'static [u8] {
-    b"      const row = element(\"tr\", undefined, touch.step === k ? \"changed\" : \"\"), head = element(\"th\", touch.name);
-      head.scope = \"row\";
-      const off = value ? deviation(touch.name, touch.step) : null, step = cell(\"\", \"n\");
-      step.append(jump(touch.step));
-      row.append(head, ...(value ? value.slice(0, 3) : touch.at.map(millimetres)).map((x) => cell(x, \"n mono\")), cell(off === null ? \"\" : (off > 0 ? \"+\" : \"\") + millimetres(off), \"n mono\"), step);
-      points.push(row);
-    }
-    $(\"points\").tBodies[0].replaceChildren(...points);
-    $(\"points\").hidden = points.length === 0;
-    $(\"points-count\").textContent = touched + \" of \" + run.touches.length;
-
-    showBoxes(k);
-
-    const printed = run.output.count(k), lines = [];
-    $(\"output-section\").hidden = run.output.steps.length === 0;
-    for (let i = Math.max(0, printed - 50); i < printed; i++) {
-      const item = element(\"li\", undefined, run.output.steps[i] === k ? \"changed\" : \"\");
-      const text = jump(run.output.steps[i], \" \");
-      text.replaceChildren(...run.output.values[i].split(/(?<=,)/).flatMap((it) => [it, document.createElement(\"wbr\")]));
-      item.append(element(\"span\", String(i + 1), \"quietly\"), text);
-      lines.push(item);
-    }
-    $(\"output\").replaceChildren(...lines);
-    $(\"output-count\").textContent = printed + \" of \" + run.output.steps.length;
-
-    const settings = $(\"settings\");
-    settings.replaceChildren();
-    for (const [name, it] of run.settings) entry(settings, name, it.changes.at(k) + \" mm\", \"mono\" + (it.changes.setAt(k) === k && k ? \" changed\" : \"\"));
-  }
-
-  // The boxes that are fixed to the tip, each with where it enters a block, the first time first, or with how much room is left round it.
-  function showBoxes(k) {
-    const rows = [];
-    $(\"boxes-section\").hidden = run.boxes.length === 0;
-    for (const box of run.boxes) {
-      if (box.contacts.length === 0) rows.push(boxRow(box.name, `clear by ${millimetres(box.room)} mm${box.room < 50000 ? \"\" : \" or more\"}`, null, k));
-"
-}
-
-/// Part 32 of the script.
-pub(crate) fn script_32() -> &'static [u8] {
-    b"      box.contacts.slice(0, 50).forEach((contact, i) => rows.push(boxRow(i ? \"\" : box.name, `${contact.kind} ${blockText(run, contact.block)} at ${pointText(contact.at)}`, contact, k)));
-    }
-    $(\"boxes\").tBodies[0].replaceChildren(...rows);
-  }
-  function boxRow(name, text, contact, k) {
-    const row = element(\"tr\", undefined, contact && contact.step === k && k ? \"changed\" : \"\"), head = element(\"th\", name), step = cell(\"\", \"n\");
-    head.scope = \"row\";
-    if (contact && contact.step > 0) step.append(jump(contact.step));
-    row.append(head, cell(text, contact ? \"bad\" : \"\"), step);
-    return row;
-  }
-
-  // How far an actual point lies from its nominal one along its direction, in micrometres.
-  function deviation(name, step) {
-    const nominal = run.nominal.get(name), actual = run.actual.get(name);
-    const n = nominal && nominal.at(step), a = actual && actual.at(step);
-    if (!n || !a) return null;
-    return [0, 1, 2].reduce((sum, k) => sum + (micrometres(a[k]) - micrometres(n[k])) * Number(n[3 + k]), 0);
-  }
-
-  $(\"notices-section\").hidden = run.notices.length === 0;
-  for (const it of run.notices.slice(0, 200)) $(\"notices\").append(element(\"li\", `line ${it.line}: ${it.word} has no effect`));
+  const listing = isFramed ? null : new Listing(run, $(\"program\"));
+  const panel = new Panel(run);
+  const stage = new Stage(run, (k) => stepTo(k));
+  // whether the state is in view: where it isn't, it is made once it is
+  const isStateShown = () => $(\"state\").clientHeight > 0;
 
   // ---- from step to step
 
-  let marked = [], count = null;
-  function showProgram() {
-    for (const row of marked) {
-      row.classList.remove(\"now\", \"next\", \"bad\");
-      row.removeAttribute(\"aria-current\");
-      row.lastChild.textContent = \"\";
-    }
-    marked = [];
-    const line = now ? rowAt(run, now) : 0, next = nextAt(run, now), after = next ? rowOf(run, next.statement) : 0;
-    if (rows[after] && after !== line) { rows[after].classList.add(\"next\"); marked.push(rows[after]); }
-    const row = rows[line] || rows[after];
-    if (rows[line]) {
-      rows[line].classList.add(\"now\");
-      if (now === (run.stop && run.stop.step) && stopLine) rows[line].classList.add(\"bad\");
-      rows[line].setAttribute(\"aria-current\", \"step\");
+  // The first contact, of a box or of the tip, or else the stop before the end: the page opens there, or at the end.
+  const met = run.firstMet && run.firstMet.step > 0 ? run.firstMet.step : stopLineOf(run) ? run.stop.step : 0, first = met || run.length;
+  $(\"to-met\").hidden = met === 0;
+  $(\"to-met\").textContent = \"\\u2715 \" + (run.firstMet || run.contact ? \"First contact\" : \"Stop\");
+  document.documentElement.dataset.first = first;
+
+  function goTo(k, speaks = true) {
 "
 }
 
-/// Part 33 of the script.
-pub(crate) fn script_33() -> &'static [u8] {
-    b"      rows[line].lastChild.textContent = doneText(now).replace(/^stop (.*?)( at \\d+ line \\d+)?$/, \"$1\").replace(/ permille \\d+$/, \"\");
-      marked.push(rows[line]);
-    }
-    if (row) into(row);
-  }
-  function into(row) {
-    const box = $(\"program\");
-    if (!box.clientHeight) return;
-    const top = row.getBoundingClientRect().top - box.getBoundingClientRect().top, h = box.clientHeight;
-    if (top < 24 || top > h - 60) box.scrollTop += top - h / 2.4;
-  }
-
-  function goTo(k, speaks = true) {
-    k = Math.max(0, Math.min(run.length, Math.round(k) || 0));
+/// Part 41 of the script.
+pub(crate) fn script_41() -> &'static [u8] {
+    b"    k = Math.max(0, Math.min(run.length, Math.round(k) || 0));
     now = k;
-    probe = positionAt(run, k);
-    // where a step met a block, the tip is shown at the contact that stopped it
-    if (run.contact && run.contact.step === k) probe = run.contact.at;
-    const slider = $(\"slider\");
+    const probe = shownAt(run, k), slider = $(\"slider\");
     slider.value = k;
-    slider.setAttribute(\"aria-valuetext\", k ? `step ${k + run.from}, line ${run.line[k]}, ${run.code[run.statement[k]].word} ${doneText(k)}` : \"the start\");
+    slider.setAttribute(\"aria-valuetext\", k ? `step ${k + run.from}, line ${run.line[k]}, ${run.code[run.statement[k]].word} ${doneText(run, k)}` : \"the start\");
     $(\"number\").value = k + run.from;
+    document.documentElement.dataset.line = k ? rowAt(run, k) : 0;
     document.documentElement.dataset.step = k;
-    showProgram();
-    showState();
+    if (listing) listing.show(k);
+    if (isStateShown()) panel.show(k);
+    if (isFramed) showHere(k, probe);
     for (const id of [\"to-start\", \"step-back\"]) $(id).disabled = k === 0;
     for (const id of [\"to-end\", \"step-on\"]) $(id).disabled = k === run.length;
-    for (const sheet of flat) sheet.canvas.setAttribute(\"aria-label\", `${sheet.sheet.name}: the probe is at ${positionAt(run, k).map(millimetres).join(\" \")}`);
-    canvasOf(\"solid\").setAttribute(\"aria-label\", \"View in space\");
+    for (const sheet of stage.flat) sheet.canvas.setAttribute(\"aria-label\", `${sheet.sheet.name}: the probe is at ${probe.map(millimetres).join(\" \")}`);
+    stage.canvasOf(\"solid\").setAttribute(\"aria-label\", \"View in space\");
     if (speaks && !playing) $(\"said\").textContent = slider.getAttribute(\"aria-valuetext\");
-    if (fitting === \"probe\") fitNow(); else draw();
+    stage.show(k, probe);
+  }
+  function showHere(k, probe) {
+    const count = (n) => n.toLocaleString(\"en\"), where = element(\"b\", k ? `Step ${count(k + run.from)} of ${count(run.length + run.from)}` : \"Start\", metIn(run, k).length ? \"bad\" : \"\");
+    $(\"here\").replaceChildren(where, ` \\u00b7 ${tipText(run)} \\u00b7 line ${k ? run.line[k] : \"\\u2013\"}`, element(\"br\"), element(\"span\", probe.map(millimetres).join(\"  \"), \"mono\"));
   }
 
   $(\"slider\").max = run.length;
@@ -1485,31 +1904,33 @@ pub(crate) fn script_33() -> &'static [u8] {
   $(\"of\").textContent = \"of \" + (run.length + run.from).toLocaleString(\"en\");
 
   // Playing: a step takes the time of its way, so that the probe goes evenly; with reduced motion it goes from step to step.
-  let began = 0, ended = 0, stepFrom = 0;
+  let began = 0;
   function play(on) {
     playing = on;
+    $(\"play\").textContent = on ? \"\\u275a\\u275a\" : \"\\u25b6\";
+    $(\"play\").setAttribute(\"aria-label\", on ? \"Stop playing\" : \"Play\");
+    if (!on) {
+      stage.show(now, shownAt(run, now));
 "
 }
 
-/// Part 34 of the script.
-pub(crate) fn script_34() -> &'static [u8] {
-    b"    $(\"play\").textContent = on ? \"\\u275a\\u275a\" : \"\\u25b6\";
-    $(\"play\").setAttribute(\"aria-label\", on ? \"Stop playing\" : \"Play\");
-    if (!on) { probe = run.contact && run.contact.step === now ? run.contact.at : positionAt(run, now); draw(); return; }
+/// Part 42 of the script.
+pub(crate) fn script_42() -> &'static [u8] {
+    b"      return;
+    }
     if (now === run.length) goTo(0);
     began = performance.now();
-    stepFrom = now;
     requestAnimationFrame(frame);
   }
-  const whole = Math.hypot(...boxes.all.low.map((x, k) => boxes.all.high[k] - x)) || 1;
+  const whole = Math.hypot(...stage.boxes.all.low.map((x, k) => stage.boxes.all.high[k] - x)) || 1;
+  const long = ([a, b]) => Math.hypot(b[0] - a[0], b[1] - a[1], b[2] - a[2]);
   function wayOf(k) {
     const places = [];
     for (let i = run.pieceFrom[k]; i < run.pieceFrom[k + 1]; i++) if (run.kinds[i] !== \"x\") places.push([run.ends.subarray(6 * i, 6 * i + 3), run.ends.subarray(6 * i + 3, 6 * i + 6)]);
     return places;
   }
   function time(k) {
-    const long = wayOf(k).reduce((sum, [a, b]) => sum + Math.hypot(b[0] - a[0], b[1] - a[1], b[2] - a[2]), 0);
-    return Math.max(140, Math.min(1600, (2200 * long) / whole)) / Number($(\"speed\").value);
+    return Math.max(140, Math.min(1600, (2200 * wayOf(k).reduce((sum, it) => sum + long(it), 0)) / whole)) / Number($(\"speed\").value);
   }
   function frame(t) {
     if (!playing) return;
@@ -1522,31 +1943,30 @@ pub(crate) fn script_34() -> &'static [u8] {
       moved = true;
     }
     if (moved) goTo(now, false);
-    if (now >= run.length) { play(false); return; }
-    if (!calm.matches) {
-      const pieces = wayOf(now + 1);
-      if (pieces.length) {
-        const longs = pieces.map(([a, b]) => Math.hypot(b[0] - a[0], b[1] - a[1], b[2] - a[2])), sum = longs.reduce((a, b) => a + b, 0);
-        let left = Math.min(1, (t - began) / time(now + 1)) * sum;
-        for (let i = 0; i < pieces.length; i++) {
-          if (left <= longs[i] || i === pieces.length - 1) {
-            const part = longs[i] ? Math.min(1, left / longs[i]) : 1;
-            probe = [0, 1, 2].map((c) => pieces[i][0][c] + part * (pieces[i][1][c] - pieces[i][0][c]));
-            break;
-          }
-          left -= longs[i];
-        }
-        if (fitting === \"probe\") fitNow(); else draw();
-      }
+    if (now >= run.length) {
+      play(false);
+      return;
     }
-"
-}
-
-/// Part 35 of the script.
-pub(crate) fn script_35() -> &'static [u8] {
-    b"    requestAnimationFrame(frame);
+    if (!calm.matches) glide(wayOf(now + 1), Math.min(1, (t - began) / time(now + 1)));
+    requestAnimationFrame(frame);
   }
-  function stepTo(k) { if (playing) play(false); goTo(k); }
+  // The probe on its way, so far along pieces.
+  function glide(pieces, share) {
+    let left = share * pieces.reduce((sum, it) => sum + long(it), 0);
+    for (let i = 0; i < pieces.length; i++) {
+      const [a, b] = pieces[i], own = long(pieces[i]);
+      if (left <= own || i === pieces.length - 1) {
+        const part = own ? Math.min(1, left / own) : 1;
+        stage.show(now, [0, 1, 2].map((c) => a[c] + part * (b[c] - a[c])));
+        return;
+      }
+      left -= own;
+    }
+  }
+  function stepTo(k) {
+    if (playing) play(false);
+    goTo(k);
+  }
   function toEvent(by) {
     let k = now + by;
     while (k > 0 && k < run.length && !isEvent(run, k)) k += by;
@@ -1555,18 +1975,24 @@ pub(crate) fn script_35() -> &'static [u8] {
   function toSame(by, line = rowAt(run, now)) {
     const list = run.counts.get(line);
     if (!list) return;
-    const k = by > 0 ? list.find((it) => it > now) : list.filter((it) => it < now).pop();
+"
+}
+
+/// Part 43 of the script.
+pub(crate) fn script_43() -> &'static [u8] {
+    b"    const k = by > 0 ? list.find((it) => it > now) : list.filter((it) => it < now).pop();
     stepTo(k !== undefined ? k : by > 0 ? list[0] : list[list.length - 1]);
   }
 
   $(\"to-start\").onclick = () => stepTo(0);
   $(\"to-end\").onclick = () => stepTo(run.length);
+  $(\"to-met\").onclick = () => stepTo(met);
   $(\"step-back\").onclick = () => stepTo(now - 1);
   $(\"step-on\").onclick = () => stepTo(now + 1);
   $(\"play\").onclick = () => play(!playing);
   $(\"slider\").oninput = () => stepTo(Number($(\"slider\").value));
   $(\"number\").onchange = () => stepTo(Number($(\"number\").value) - run.from);
-  $(\"variables-filter\").oninput = showState;
+  $(\"variables-filter\").oninput = () => panel.showVariables(now);
   document.addEventListener(\"click\", (event) => {
     const to = event.target.closest(\"[data-step]\");
     if (to && to.tagName === \"BUTTON\") stepTo(Number(to.dataset.step));
@@ -1574,40 +2000,44 @@ pub(crate) fn script_35() -> &'static [u8] {
     if (row && !String(getSelection())) toSame(event.shiftKey ? -1 : 1, Number(row.dataset.line));
   });
   $(\"profile\").addEventListener(\"pointerdown\", (event) => {
-    const to = (e) => { const box = $(\"profile\").getBoundingClientRect(); stepTo(((e.clientX - box.left - 8) / (box.width - 16)) * run.length); };
+    const to = (e) => {
+      const box = $(\"profile\").getBoundingClientRect();
+      stepTo(((e.clientX - box.left - 8) / (box.width - 16)) * run.length);
+    };
     to(event);
     $(\"profile\").setPointerCapture(event.pointerId);
     $(\"profile\").onpointermove = to;
     $(\"profile\").onpointerup = $(\"profile\").onpointercancel = () => { $(\"profile\").onpointermove = null; };
   });
-
-  function setView(view) {
-    $(\"views\").dataset.view = view;
-    for (const it of document.getElementsByName(\"view\")) it.checked = it.value === view;
-    fitNow();
-    draw();
-  }
-  for (const it of document.getElementsByName(\"view\")) it.onchange = () => setView(it.value);
-"
-}
-
-/// Part 36 of the script.
-pub(crate) fn script_36() -> &'static [u8] {
-    b"  for (const it of document.getElementsByName(\"fit\")) it.onchange = () => fit(it.value);
   for (const it of document.querySelectorAll(\".tabs button\")) it.onclick = () => {
     document.body.dataset.panel = it.dataset.panel;
     for (const other of document.querySelectorAll(\".tabs button\")) other.setAttribute(\"aria-pressed\", String(other === it));
-    showProgram();
+    $(\"state-open\").setAttribute(\"aria-pressed\", String(it.dataset.panel === \"state\"));
+    if (listing) listing.show(now);
+    if (isStateShown()) panel.show(now);
   };
-  for (const it of document.querySelectorAll(\"[data-turn]\")) it.onclick = () => {
-    const [x, y] = { left: [-0.2, 0], right: [0.2, 0], up: [0, 0.15], down: [0, -0.15] }[it.dataset.turn];
-    if (solid) solid.turn(x, y);
-    draw();
-  };
+  $(\"state-open\").onclick = () => document.querySelector(`.tabs [data-panel=\"${document.body.dataset.panel === \"state\" ? \"program\" : \"state\"}\"]`).click();
+  let stateWasShown = isStateShown();
+"
+}
+
+/// Part 44 of the script.
+pub(crate) fn script_44() -> &'static [u8] {
+    b"  new ResizeObserver(() => {
+    if (isStateShown() && !stateWasShown) panel.show(now);
+    stateWasShown = isStateShown();
+  }).observe($(\"state\"));
+
+  // ---- keys
 
   $(\"keys-open\").onclick = () => $(\"keys\").showModal();
   $(\"letters\").onchange = () => { lettersWork = $(\"letters\").checked; };
   const views = [\"all\", \"solid\", \"top\", \"front\", \"side\"];
+  const letters = {
+    \"[\": () => toSame(-1), \"]\": () => toSame(1), w: () => stage.fit(\"all\"), p: () => stage.fit(\"part\"), f: () => stage.fit(\"probe\"),
+    \"+\": () => stage.zoom(1.3), \"-\": () => stage.zoom(1 / 1.3), \"?\": () => $(\"keys\").showModal(),
+    ...Object.fromEntries(views.map((it, i) => [i + 1, () => stage.setView(it)])),
+  };
   document.addEventListener(\"keydown\", (event) => {
     const on = event.target, tag = on.tagName;
     if (event.ctrlKey || event.metaKey || event.altKey || $(\"keys\").open) return;
@@ -1619,130 +2049,33 @@ pub(crate) fn script_36() -> &'static [u8] {
     else if (event.key === \"Home\") stepTo(0);
     else if (event.key === \"End\") stepTo(run.length);
     else if (event.key === \" \" && tag !== \"BUTTON\") play(!playing);
-    else if (!lettersWork) used = false;
-    else if (event.key === \"[\") toSame(-1);
-    else if (event.key === \"]\") toSame(1);
-    else if (event.key === \"w\") fit(\"all\");
-    else if (event.key === \"p\") fit(\"part\");
-    else if (event.key === \"f\") fit(\"probe\");
-    else if (event.key === \"+\") zoom(1.3);
-    else if (event.key === \"-\") zoom(1 / 1.3);
-    else if (event.key === \"?\") $(\"keys\").showModal();
-    else if (event.key >= \"1\" && event.key <= \"5\") setView(views[Number(event.key) - 1]);
+    else if (lettersWork && Object.hasOwn(letters, event.key)) letters[event.key]();
     else used = false;
-"
-}
-
-/// Part 37 of the script.
-pub(crate) fn script_37() -> &'static [u8] {
-    b"    if (used) event.preventDefault();
+    if (used) event.preventDefault();
   });
 
-  // ---- pointers on the views
+  // ---- paper, and the step to begin with
 
-  function tipText(found) {
-    if (found.piece !== undefined) {
-      const i = found.piece, k = run.pieceStep[i], e = run.ends;
-      return `step ${k + run.from}, line ${run.line[k]}: ${kindNames[run.kinds[i]]} ${[e[6 * i], e[6 * i + 1], e[6 * i + 2]].map(millimetres).join(\" \")} to ${[e[6 * i + 3], e[6 * i + 4], e[6 * i + 5]].map(millimetres).join(\" \")}`;
-    }
-    const b = run.blocks[found.block - 1];
-    return `${blockText(run, found.block)}: ${b.slice(0, 3).map(millimetres).join(\" \")} to ${b.slice(3).map(millimetres).join(\" \")}`;
-  }
-  for (const sheet of [...flat, ...(solid ? [solid] : [])]) {
-    const canvas = sheet.sheet ? sheet.canvas : sheet.over, tip = $(\"tip\");
-    const pointers = new Map();
-    let travelled = 0, apart = 0;
-    canvas.addEventListener(\"pointerdown\", (event) => {
-      pointers.set(event.pointerId, [event.clientX, event.clientY]);
-      if (pointers.size === 1) travelled = 0;
-      apart = 0;
-      canvas.setPointerCapture(event.pointerId);
-    });
-    canvas.addEventListener(\"pointermove\", (event) => {
-      const old = pointers.get(event.pointerId), box = canvas.getBoundingClientRect(), x = event.clientX - box.left, y = event.clientY - box.top;
-      if (old) {
-        const dx = event.clientX - old[0], dy = event.clientY - old[1];
-        travelled += Math.abs(dx) + Math.abs(dy);
-        pointers.set(event.pointerId, [event.clientX, event.clientY]);
-        if (pointers.size === 2) {
-          const [[a, b], [c, d]] = [...pointers.values()], long = Math.hypot(c - a, d - b);
-          if (apart) zoom(long / apart, sheet, (a + c) / 2 - box.left, (b + d) / 2 - box.top);
-          apart = long;
-        } else if (travelled > 4) {
-          if (sheet.sheet) {
-            camera.centre[sheet.sheet.right] -= dx / camera.scale;
-            camera.centre[sheet.sheet.up] += dy / camera.scale;
-            loose();
-          } else solid.turn(-dx * 0.01, dy * 0.008);
-          draw();
-        }
-"
-}
-
-/// Part 38 of the script.
-pub(crate) fn script_38() -> &'static [u8] {
-    b"        tip.hidden = true;
-        return;
-      }
-      const found = sheet.find(x, y);
-      canvas.classList.toggle(\"found\", !!(found && found.piece !== undefined));
-      tip.hidden = !found;
-      if (found) {
-        tip.textContent = tipText(found);
-        const own = $(\"views\").getBoundingClientRect();
-        tip.style.left = Math.min(event.clientX - own.left + 12, own.width - tip.offsetWidth - 4) + \"px\";
-        tip.style.top = event.clientY - own.top + 16 + \"px\";
-      }
-    });
-    const end = (event) => { pointers.delete(event.pointerId); };
-    canvas.addEventListener(\"pointerup\", (event) => {
-      if (pointers.size === 1 && travelled < 5) {
-        const box = canvas.getBoundingClientRect(), found = sheet.find(event.clientX - box.left, event.clientY - box.top);
-        if (found && found.piece !== undefined) stepTo(run.pieceStep[found.piece]);
-      }
-      end(event);
-    });
-    canvas.addEventListener(\"pointercancel\", end);
-    canvas.addEventListener(\"pointerleave\", () => { tip.hidden = true; });
-    canvas.addEventListener(\"wheel\", (event) => {
-      event.preventDefault();
-      const box = canvas.getBoundingClientRect();
-      zoom(Math.exp(-event.deltaY * 0.0015), sheet, event.clientX - box.left, event.clientY - box.top);
-    }, { passive: false });
-  }
-
-  // ---- schemes, sizes, paper
-
-  const again = () => { colours = readColours(); draw(); };
-  matchMedia(\"(prefers-color-scheme: dark)\").addEventListener(\"change\", again);
-  new ResizeObserver(() => { if (fitting) fitNow(); else draw(); }).observe(document.querySelector(\".sheets\"));
-  new ResizeObserver(draw).observe($(\"profile\"));
-  let viewBefore = \"all\";
   addEventListener(\"beforeprint\", () => {
-    document.documentElement.classList.add(\"paper\");
-    colours = readColours();
-    viewBefore = $(\"views\").dataset.view;
-    setView(\"all\");
-    if (solid) solid.draw(colours, now, probe, 3);
-    drawNow(3);
+    if (listing) listing.forPaper(true);
+    panel.show(now);
+    stage.forPaper(true);
   });
   addEventListener(\"afterprint\", () => {
-    document.documentElement.classList.remove(\"paper\");
-    again();
+    if (listing) listing.forPaper(false);
+    stage.forPaper(false);
+  });
+  const narrow = matchMedia(\"(max-width: 900px)\");
+  if (narrow.matches || isFramed) stage.setView(stage.solid ? \"solid\" : \"top\");
 "
 }
 
-/// Part 39 of the script.
-pub(crate) fn script_39() -> &'static [u8] {
-    b"    setView(viewBefore);
-  });
-
-  const narrow = matchMedia(\"(max-width: 900px)\");
-  if (narrow.matches) setView(solid ? \"solid\" : \"top\");
-  const asked = /^#step=(\\d+)$/.exec(location.hash);
-  addEventListener(\"hashchange\", () => { const to = /^#step=(\\d+)$/.exec(location.hash); if (to) stepTo(Number(to[1]) - run.from); });
-  goTo(asked ? Number(asked[1]) - run.from : run.length, false);
-  fitNow();
+/// Part 45 of the script.
+pub(crate) fn script_45() -> &'static [u8] {
+    b"  const asked = () => /^#step=(\\d+)$/.exec(location.hash);
+  addEventListener(\"hashchange\", () => { if (asked()) stepTo(Number(asked()[1]) - run.from); });
+  goTo(asked() ? Number(asked()[1]) - run.from : first, false);
+  stage.fitNow();
 })();
 "
 }
