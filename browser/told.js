@@ -90,11 +90,12 @@ const linesOfList = (text) => text.split(" ").flatMap((it) => {
   return from === undefined ? [] : Array.from({ length: Math.min(Number(to || from) - Number(from) + 1, 100000) }, (_, i) => Number(from) + i);
 });
 
-// What a run of a whole text reports at its end: motions that weren't tried, ways that begin elsewhere, and where nothing is known any more.
+// What a run of a whole text reports at its end: motions that weren't tried, points that weren't touched, ways that begin elsewhere, output that isn't written, and where nothing is
+// known any more.
 function readUntried(text) {
   const found = [];
   for (const line of text.split("\n")) {
-    const it = /^(not tried|begins elsewhere) (\d+): lines ([\d() -]+)(?:, (.*))?$/.exec(line), on = /^not tried from line (\d+) on/.exec(line);
+    const it = /^(not tried|approached, not touched|begins elsewhere|not reported) (\d+): lines? ([\d() -]+)(?:, (.*))?$/.exec(line), on = /^not tried from line (\d+) on/.exec(line);
     if (it) found.push({ text: line, kind: it[1], count: Number(it[2]), lines: linesOfList(it[3]), cause: it[4] || "" });
     else if (on) found.push({ text: line, kind: "from", count: 0, lines: [Number(on[1])], cause: "it isn't known how the program goes on" });
   }

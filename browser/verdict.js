@@ -9,10 +9,12 @@ const capitals = (free) => free.replace(/\b[xyz](?= -?\d)/g, (c) => c.toUpperCas
 // What wasn't tried, as sentences without their ends.
 function untriedText(untried) {
   const of = (kind) => untried.filter((it) => it.kind === kind), count = (them) => them.reduce((sum, it) => sum + it.count, 0), parts = [];
-  const not = of("not tried"), elsewhere = of("begins elsewhere"), on = of("from");
+  const not = of("not tried"), approached = of("approached, not touched"), elsewhere = of("begins elsewhere"), reported = of("not reported"), on = of("from");
   if (not.length) parts.push(`${counted(count(not), "motion wasn't", "motions weren't")} tried: ${linesText(not.flatMap((it) => it.lines))}`);
   if (on.length) parts.push(`nothing is tried from line ${on[0].lines[0]} on`);
+  if (approached.length) parts.push(`${counted(count(approached), "point is", "points are")} approached and not touched: ${linesText(approached.flatMap((it) => it.lines))}`);
   if (elsewhere.length) parts.push(`${counted(count(elsewhere), "way begins", "ways begin")} elsewhere: ${linesText(elsewhere.flatMap((it) => it.lines))}`);
+  if (reported.length) parts.push(`${counted(count(reported), "output isn't", "outputs aren't")} written: ${linesText(reported.flatMap((it) => it.lines))}`);
   return parts;
 }
 
@@ -43,7 +45,7 @@ function verdictOf({ faults, ran, stop, why, untried, unused, met, metName, mean
     const first = faults[0], of = { program: "the program", part: "the part", probe: "the probe" }[first.which];
     return { kind: "bad", sign: "\u2715", headline: counted(faults.length, "fault", "faults") + (first.line ? `: line ${first.line} of ${of}` : ` in ${of}`), detail: [[first.text, first.statement].filter(Boolean).join(": ")], line: first.line, which: first.which };
   }
-  const end = untriedText(untried), told = { detail: [], which: "program", line: 0 };
+  const all = untriedText(untried), end = ran.status === 7 && all.length === 0 ? ["not all of it was tried"] : all, told = { detail: [], which: "program", line: 0 };
   const measured = ran.measured ? [counted(ran.measured, "point", "points") + " measured"] : [];
   const left = unused.map((it) => `line ${it.line} of the part: ${it.text}`);
   if (met) {
@@ -55,7 +57,7 @@ function verdictOf({ faults, ran, stop, why, untried, unused, met, metName, mean
     Object.assign(told, { kind: "warn", sign: "\u2026", headline: `Not at its end after ${Number(steps).toLocaleString("en")} steps`, detail: [...measured, ...end, ...left] });
   } else if (end.length) {
     const [first, ...rest] = end;
-    Object.assign(told, { kind: "warn", sign: "?", headline: `Comes to its end, but ${first}`, line: untried[0].lines[0], detail: [...rest, ...measured, ...left] });
+    Object.assign(told, { kind: "warn", sign: "?", headline: `Comes to its end, but ${first}`, line: untried.length ? untried[0].lines[0] : 0, detail: [...rest, ...measured, ...left] });
   } else if (left.length) {
     Object.assign(told, { kind: "warn", sign: "!", headline: `Comes to its end without a collision, but ${left[0]}`, which: "part", line: unused[0].line, detail: [...left.slice(1), ...measured] });
   } else {

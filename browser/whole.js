@@ -9,11 +9,17 @@ const wholeFields = [
   ["search", "Search", "in millimetres, where no SNSET says it", "5"],
 ];
 
+// The boxes: their names as options, what they say, and why.
+const wholeBoxes = [
+  ["auto", "no points by AUTO", "the machine takes no points of its own under MODE/AUTO"],
+  ["approach", "points are approached only", "points are approached and left, and not touched"],
+];
+
 // The options of a whole text: each word of the first two fields is an option of its own.
 function wholeWords(whole) {
   const words = ["--whole"];
   for (const [name] of wholeFields) for (const it of (whole[name] || "").trim().split(/\s+/).filter(Boolean)) words.push("--" + name, it);
-  return whole.auto ? [...words, "--auto"] : words;
+  return [...words, ...wholeBoxes.filter(([name]) => whole[name]).map(([name]) => "--" + name)];
 }
 
 class WholeForm {
@@ -26,26 +32,30 @@ class WholeForm {
       label.append(input);
       return label;
     });
-    const auto = element("label"), box = document.createElement("input"), leave = element("button", "Leave");
-    Object.assign(box, { type: "checkbox", name: "auto" });
-    auto.title = "the machine takes no points of its own under MODE/AUTO";
-    auto.append(box, " no points by AUTO");
+    const boxes = wholeBoxes.map(([name, title, about]) => {
+      const label = element("label"), box = document.createElement("input");
+      Object.assign(box, { type: "checkbox", name });
+      label.title = about;
+      label.append(box, " " + title);
+      return label;
+    });
+    const leave = element("button", "Leave");
     leave.type = "button";
     leave.title = "take the text as a program of the subset again";
     leave.onclick = whenLeft;
-    form.append(element("p", "A producer's text, run as it stands: what isn't known where a motion stands isn't tried. What the text doesn't say may be said here.", "about"), ...fields, auto, leave);
+    form.append(element("p", "A producer's text, run as it stands: what isn't known where a motion stands isn't tried. What the text doesn't say may be said here.", "about"), ...fields, ...boxes, leave);
     form.oninput = () => whenChanged(this.values);
     form.onsubmit = (event) => event.preventDefault();
   }
   get values() {
     const given = Object.fromEntries(wholeFields.map(([name]) => [name, this.form.elements[name].value]));
-    return { ...given, auto: this.form.elements.auto.checked ? "on" : "" };
+    return { ...given, ...Object.fromEntries(wholeBoxes.map(([name]) => [name, this.form.elements[name].checked ? "on" : ""])) };
   }
   show(whole) {
     this.form.hidden = !whole;
     if (!whole) return;
     for (const [name] of wholeFields) if (this.form.elements[name].value !== (whole[name] || "")) this.form.elements[name].value = whole[name] || "";
-    this.form.elements.auto.checked = Boolean(whole.auto);
+    for (const [name] of wholeBoxes) this.form.elements[name].checked = Boolean(whole[name]);
   }
   // What is tried of the text and what isn't, each cause with its lines, which are links.
   tell(tried, untried) {
